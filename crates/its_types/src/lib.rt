@@ -6,9 +6,11 @@ mod fields;
 mod gate;
 mod ids;
 mod machine;
+mod translation;
 
 pub use bits::{bit_of, field, fits_bits};
 pub use fields::{le_u32, le_u64, put_le_u64};
 pub use gate::{Gate, Open, Point};
 pub use ids::{Addr, DeviceId, EventId, Icid, Intid, Target, Vcpu};
 pub use machine::{Limits, Part, Placed, Profile, Shape, Word};
+pub use translation::{Bases, Device, Event};
