@@ -5,6 +5,7 @@ mod bits;
 mod fields;
 mod gate;
 mod ids;
+mod listed;
 mod machine;
 mod translation;
 
@@ -12,5 +13,6 @@ pub use bits::{bit_of, field, fits_bits};
 pub use fields::{le_u32, le_u64, put_le_u64};
 pub use gate::{Gate, Open, Point};
 pub use ids::{Addr, DeviceId, EventId, Icid, Intid, Target, Vcpu};
+pub use listed::Listed;
 pub use machine::{Limits, Part, Placed, Profile, Shape, Word};
 pub use translation::{Bases, Device, Event};
