@@ -1,0 +1,65 @@
+ghost use Rattle.std.specs.Prelude.{◌+◌, ◌≤◌, ◌^◌};
+ghost use Rattle.std.specs.Vec.{vec_len};
+
+use crate::errors::NoMemory;
+use its_types::Addr;
+use std::alloc::Global;
+
+/// A window: its bytes, and the address of the first.
+#[derive(Drop)]
+pub struct Frame {
+    pub base: u64,
+    pub bytes: Vec<u8>,
+    ghost ends: { base + vec_len bytes ≤ 2 ^ 52 },
+}
+
+impl Frame {
+    ghost use Rattle.std.specs.Prelude.{◌≡◌, ◌+◌, ◌≤◌, ◌^◌, true, length, IfOk};
+    ghost use Rattle.guest_windows.specs.Windows.{has, piece, put, zeros};
+    ghost use Rattle.guest_windows.specs.Fields.{window};
+
+    pub fn new(alloc: Global, base: Addr, len: u64) -> Result<Frame, NoMemory>
+        requires { base.0 + len ≤ 2 ^ 52 }
+        ensures { IfOk result (λ f. window f ≡ zeros (base.0, len)) }
+    {
+        Ok(Frame {
+            base: base.0,
+            bytes: vec![in alloc; 0; len as usize]?,
+        })
+    }
+
+    pub fn copy(&self, alloc: Global) -> Result<Frame, NoMemory>
+        ensures { IfOk result (λ f. window f ≡ window self.now) }
+    {
+        Ok(Frame {
+            base: self.base,
+            bytes: Vec::from_slice(alloc, &self.bytes)?,
+        })
+    }
+
+    pub fn has(&self, addr: Addr, len: u64) -> bool
+        ensures { result ≡ has (window self.now) addr.0 len }
+    {
+        let size = self.bytes.len() as u64;
+        self.base <= addr.0 && addr.0 - self.base <= size && len <= size - (addr.0 - self.base)
+    }
+
+    pub fn bytes_at(&self, addr: Addr, len: usize) -> &[u8]
+        requires { has (window self.now) addr.0 len ≡ true }
+        ensures bytes { result.now ≡ piece (window self.now) addr.0 len }
+        ensures length { length result.now ≡ len }
+        ensures low { addr.0 + len ≤ 2 ^ 52 }
+    {
+        let start = (addr.0 - self.base) as usize;
+        &self.bytes[start..start + len]
+    }
+
+    pub fn write(&mut self, addr: Addr, bytes: &[u8])
+        requires { has (window self.old) addr.0 (length bytes.now) ≡ true }
+        ensures written { window self.new ≡ put (window self.old) addr.0 bytes.now }
+        ensures low { addr.0 + length bytes.now ≤ 2 ^ 52 }
+    {
+        let start = (addr.0 - self.base) as usize;
+        self.bytes[start..start + bytes.len()].copy_from_slice(bytes);
+    }
+}

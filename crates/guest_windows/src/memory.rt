@@ -1,0 +1,146 @@
+ghost use Rattle.std.specs.Prelude.{◌≡◌, ◌+◌, ◌≤◌, ◌^◌, true, false, MatchOption, IfOk, OnOk, IsErrOf, IsTrue, Ok, Err, length, map};
+ghost use Rattle.std.specs.Option.{ok_or};
+ghost use Rattle.std.specs.List.{list_all};
+ghost use Rattle.byteorder.specs.Endian.{little_bytes};
+ghost use Rattle.guest_windows.specs.Windows.{read_at, write_at, byte_at, number_at, are_windows, in_range};
+ghost use Rattle.guest_windows.specs.Windows as spec;
+ghost use Rattle.guest_windows.specs.Fields.{windows, pairs, place_from};
+
+use crate::errors::{NewError, NoMemory, Outside};
+use crate::extents::are_windows;
+use crate::frame::Frame;
+use its_types::{Addr, le_u64};
+use std::alloc::Global;
+use std::marker::Model;
+
+/// Guest memory. A stretch of bytes can be read and written where it lies in one window whole, even where windows touch.
+#[derive(Drop)]
+pub struct Memory {
+    frames: Vec<Frame>,
+}
+
+impl Model for Memory {
+    ghost use Rattle.std.specs.Prelude.{List};
+    ghost use Rattle.guest_windows.specs.Windows.{Window};
+
+    ghost Value = { List Window };
+
+    ghost use Rattle.guest_windows.specs.Fields.{windows};
+
+    ghost view = { λ m. windows m.frames.items };
+}
+
+impl Memory {
+    /// Memory with windows of these bases and lengths, all bytes zero.
+    pub fn new(alloc: Global, list: &[(Addr, u64)]) -> Result<Memory, NewError>
+        ensures ok { IfOk result (λ m. m ≡ map spec.zeros (pairs list.now)) }
+        ensures fits { OnOk result (are_windows (pairs list.now) ≡ true) }
+        ensures bad { IsErrOf result NewError.BadWindows → are_windows (pairs list.now) ≡ false }
+        ensures short { IsErrOf result NewError.NoMemory → are_windows (pairs list.now) ≡ true }
+    {
+        if !are_windows(list) {
+            return Err(NewError::BadWindows);
+        }
+        Ok(Memory {
+            frames: zeros(alloc, list)?,
+        })
+    }
+
+    /// A memory of its own with the same windows and bytes.
+    pub fn copy(&self, alloc: Global) -> Result<Memory, NoMemory>
+        ensures { IfOk result (λ m. m ≡ self.now) }
+    {
+        let mut frames = Vec::new(alloc);
+        for frame in &self.frames {
+            frames.push(frame.copy(alloc)?)?;
+        }
+        Ok(Memory { frames })
+    }
+
+    /// Whether the bytes all lie in one window.
+    pub fn inside(&self, addr: Addr, len: u64) -> bool
+        ensures inside { result ≡ spec.inside self.now addr.0 len }
+        ensures low { IsTrue result → addr.0 + len ≤ 2 ^ 52 }
+    {
+        place(&self.frames, addr, len).is_some()
+    }
+
+    /// Reads as many bytes as the buffer has.
+    pub fn read(&self, addr: Addr, buf: &mut [u8]) -> Result<(), Outside>
+        ensures bytes { MatchOption (read_at self.now addr.0 (length buf.old))
+            ((result ≡ Err (record { 0 = addr })) × (buf.new ≡ buf.old))
+            (λ bytes. (result ≡ Ok tt) × (buf.new ≡ bytes)) }
+        ensures low { OnOk result (addr.0 + length buf.old ≤ 2 ^ 52) }
+    {
+        let Some(at) = place(&self.frames, addr, buf.len() as u64) else {
+            return Err(Outside(addr));
+        };
+        buf.copy_from_slice(self.frames[at].bytes_at(addr, buf.len()));
+        Ok(())
+    }
+
+    /// Writes all the bytes.
+    pub fn write(&mut self, addr: Addr, bytes: &[u8]) -> Result<(), Outside>
+        ensures written { MatchOption (write_at self.old addr.0 bytes.now)
+            ((result ≡ Err (record { 0 = addr })) × (self.new ≡ self.old))
+            (λ memory. (result ≡ Ok tt) × (self.new ≡ memory)) }
+        ensures low { OnOk result (addr.0 + length bytes.now ≤ 2 ^ 52) }
+    {
+        let Some(at) = place(&self.frames, addr, bytes.len() as u64) else {
+            return Err(Outside(addr));
+        };
+        self.frames[at].write(addr, bytes);
+        Ok(())
+    }
+
+    /// The byte at an address.
+    pub fn read_u8(&self, addr: Addr) -> Result<u8, Outside>
+        ensures { result ≡ ok_or (byte_at self.now addr.0) (record { 0 = addr }) }
+    {
+        let mut bytes = [0u8];
+        self.read(addr, &mut bytes)?;
+        Ok(bytes[0])
+    }
+
+    /// The eight bytes from an address on as a number, least significant byte first.
+    pub fn read_u64(&self, addr: Addr) -> Result<u64, Outside>
+        ensures { result ≡ ok_or (number_at self.now addr.0) (record { 0 = addr }) }
+    {
+        let mut bytes = [0u8; 8];
+        self.read(addr, &mut bytes)?;
+        Ok(le_u64(&bytes, 0))
+    }
+
+    /// Writes a number as eight bytes, least significant byte first.
+    pub fn write_u64(&mut self, addr: Addr, value: u64) -> Result<(), Outside>
+        ensures written { MatchOption (write_at self.old addr.0 (little_bytes 8 value))
+            ((result ≡ Err (record { 0 = addr })) × (self.new ≡ self.old))
+            (λ memory. (result ≡ Ok tt) × (self.new ≡ memory)) }
+        ensures low { OnOk result (addr.0 + 8 ≤ 2 ^ 52) }
+    {
+        self.write(addr, &value.to_le_bytes())
+    }
+}
+
+// Which window has the bytes.
+fn place(frames: &[Frame], addr: Addr, len: u64) -> Option<usize>
+    ensures { result ≡ place_from 0 (windows frames.now) addr.0 len }
+{
+    for (at, frame) in frames.iter().enumerate() {
+        if frame.has(addr, len) {
+            return Some(at);
+        }
+    }
+    None
+}
+
+fn zeros(alloc: Global, list: &[(Addr, u64)]) -> Result<Vec<Frame>, NoMemory>
+    requires { list_all in_range (pairs list.now) ≡ true }
+    ensures { IfOk result (λ v. windows v.items ≡ map spec.zeros (pairs list.now)) }
+{
+    let mut frames = Vec::new(alloc);
+    for &(base, len) in list {
+        frames.push(Frame::new(alloc, base, len)?)?;
+    }
+    Ok(frames)
+}
