@@ -1,4 +1,5 @@
-ghost use Rattle.std.specs.Prelude.{◌≡◌, ◌+◌, ◌≤◌, ◌^◌, true, false, MatchOption, IfOk, OnOk, IsErrOf, IsTrue, Ok, Err, length, map};
+ghost use Rattle.std.specs.Prelude.{◌≡◌, ◌+◌, ◌≤◌, ◌^◌, true, false, MatchOption, IfOk, OnOk, IsErrOf, Ok, Err, length, map};
+ghost use Rattle.std.specs.Bool.{OnTrue};
 ghost use Rattle.std.specs.Option.{ok_or};
 ghost use Rattle.std.specs.List.{list_all};
 ghost use Rattle.byteorder.specs.Endian.{little_bytes};
@@ -60,7 +61,7 @@ impl Memory {
     /// Whether the bytes all lie in one window.
     pub fn inside(&self, addr: Addr, len: u64) -> bool
         ensures inside { result ≡ spec.inside self.now addr.0 len }
-        ensures low { IsTrue result → addr.0 + len ≤ 2 ^ 52 }
+        ensures low { OnTrue result (addr.0 + len ≤ 2 ^ 52) }
     {
         place(&self.frames, addr, len).is_some()
     }
