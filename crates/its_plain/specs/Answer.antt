@@ -1,0 +1,142 @@
+-- What each call is answered, and the state that it leaves.
+use Rattle.std.specs.Prelude.{ℕ, ◌+◌, Bool, not, ◌||◌, ◌==◌, if◌then◌else◌, Option, Some, None, Result, Ok, Err, List, unwrap_or}
+use Rattle.guest_windows.specs.Windows.{Window, read_at, write_at}
+use Rattle.gits_regs.specs.Registers.{Written, read_reg, write_reg, queue_place, is_queue_empty, advanced}
+use Rattle.gits_regs.specs.declared.change.RegChange.{RegChange}
+use Rattle.gits_regs.specs.declared.change.RegChange.TheVariants as change
+use Rattle.its_command.specs.Commands.{decoded, op_of}
+use Rattle.its_command.specs.declared.command.Command.{Command}
+use Rattle.its_command.specs.declared.command.Op.{Op}
+use Rattle.its_types.specs.Lpis.{first_enabled, priority_of, without_lpi}
+use Rattle.its_types.specs.Maps.{Maps, devices_emptied, collections_emptied}
+use Rattle.its_types.specs.declared.ids.Target.{Target}
+use Rattle.its_plain.specs.Plain.{Plain, Redistributor, translator, redistributor, regs_of, maps_of, with_translator, with_regs, with_redistributor}
+use Rattle.its_plain.specs.Translation.{translated}
+use Rattle.its_plain.specs.Commands.{ran, lpi_set}
+use Rattle.its_plain.specs.declared.call.Ack.{Ack}
+use Rattle.its_plain.specs.declared.call.Ack.TheVariants as ack
+use Rattle.its_plain.specs.declared.call.Call.{Call}
+use Rattle.its_plain.specs.declared.call.Call.TheVariants as call
+use Rattle.its_plain.specs.declared.call.Cause.{Cause}
+use Rattle.its_plain.specs.declared.call.Reason.{Reason}
+use Rattle.its_plain.specs.declared.call.Reply.{Reply}
+use Rattle.its_plain.specs.declared.call.Reply.TheVariants as reply
+use Rattle.its_plain.specs.declared.call.Signal.{Signal}
+use Rattle.its_plain.specs.declared.call.Signal.TheVariants.{Delivered, Dropped}
+use Rattle.its_plain.specs.declared.call.StepReply.{StepReply}
+use Rattle.its_plain.specs.declared.call.StepReply.TheVariants.{Idle, Ran, Refused, QueueFault}
+
+-- ---- signals
+
+abbrev pub signal_reply : Result Target Cause → Signal
+signal_reply (Ok target) = Delivered target.vcpu target.intid
+signal_reply (Err cause) = Dropped cause
+
+-- what a signal leaves that was answered so: it changes the target's pending set alone
+abbrev pub signal_left : Plain → Signal → Plain
+signal_left u (Delivered vcpu intid) = lpi_set intid.0 vcpu.0 u
+signal_left u (Dropped cause) = u
+
+-- ---- acknowledgements
+
+-- the lowest LPI that is pending and enabled at a redistributor
+abbrev pub lowest : Redistributor → Option ℕ
+lowest r = first_enabled r.config r.pending
+
+abbrev pub ack_of : Redistributor → Option ℕ → Ack
+ack_of r None = ack.None
+ack_of r (Some intid) = ack.Some (record { 0 = intid }) (priority_of r.config intid)
+
+abbrev pub taken : Redistributor → Option ℕ → Redistributor
+taken r None = r
+taken r (Some intid) = record r { pending = without_lpi intid r.pending }
+
+-- ---- guest memory
+
+abbrev pub poke_reply : Option (List Window) → Reply
+poke_reply None = reply.Outside
+poke_reply (Some memory) = reply.Ok
+
+abbrev pub peek_reply : Option (List ℕ) → Reply
+peek_reply None = reply.Outside
+peek_reply (Some bytes) = reply.Bytes bytes
+
+-- ---- registers
+
+-- the maps after a write of a register
+abbrev pub emptied : RegChange → Maps → Maps
+emptied change.DevicesEmptied m = devices_emptied m
+emptied change.CollectionsEmptied m = collections_emptied m
+emptied _ m = m
+
+abbrev pub with_written : Plain → ℕ → Written → Plain
+with_written u i w = with_translator u i (record { regs = w.regs; maps = emptied w.change (maps_of u i) })
+
+unfoldable pub written : Plain → ℕ → ℕ → ℕ → ℕ → Plain
+written u i off size value = with_written u i (write_reg (regs_of u i) off size value)
+
+-- ---- steps
+
+abbrev pub went_on : ℕ → Plain → Plain
+went_on i u = with_regs u i (advanced (regs_of u i))
+
+abbrev pub command_reply : Op → Result Plain Reason → StepReply
+command_reply op (Ok after) = Ran op
+command_reply op (Err reason) = Refused op reason
+
+-- a refused command changes nothing but CREADR
+abbrev pub command_left : Plain → Result Plain Reason → Plain
+command_left u (Ok after) = after
+command_left u (Err reason) = u
+
+-- whether a translator has no command to take
+abbrev pub is_idle : Plain → ℕ → Bool
+is_idle u i = not (regs_of u i).enabled || is_queue_empty (regs_of u i)
+
+-- the bytes of the next command, where one window has them
+abbrev pub next_bytes : Plain → ℕ → Option (List ℕ)
+next_bytes u i = read_at u.memory (queue_place (regs_of u i)) 32
+
+abbrev pub met_reply : Plain → ℕ → Option (List ℕ) → StepReply
+met_reply u i None = QueueFault (record { 0 = queue_place (regs_of u i) })
+met_reply u i (Some bytes) = command_reply (op_of (decoded bytes)) (ran u i (decoded bytes))
+
+abbrev pub met_left : Plain → ℕ → Option (List ℕ) → Plain
+met_left u i None = u
+met_left u i (Some bytes) = went_on i (command_left u (ran u i (decoded bytes)))
+
+unfoldable pub step_reply : Plain → ℕ → StepReply
+step_reply u i = if is_idle u i then Idle else met_reply u i (next_bytes u i)
+
+unfoldable pub step_left : Plain → ℕ → Plain
+step_left u i = if is_idle u i then u else met_left u i (next_bytes u i)
+
+-- ---- all calls
+
+unfoldable pub reply_of : Plain → Call → Reply
+reply_of u (call.Signal its dev ev) = reply.Signal (signal_reply (translated u its dev.0 ev.0))
+reply_of u (call.Take vcpu) = reply.Ack (ack_of (redistributor u vcpu.0) (lowest (redistributor u vcpu.0)))
+reply_of u (call.Show vcpu) = reply.Ack (ack_of (redistributor u vcpu.0) (lowest (redistributor u vcpu.0)))
+reply_of u (call.Poke addr bytes) = poke_reply (write_at u.memory addr.0 bytes)
+reply_of u (call.Peek addr count) = peek_reply (read_at u.memory addr.0 count)
+reply_of u (call.ReadReg its off size) = reply.Value (read_reg (regs_of u its) off size)
+reply_of u (call.WriteReg its off size value) = reply.Ok
+reply_of u (call.Step its) = reply.Step (step_reply u its)
+
+abbrev replied : Plain → Reply → Plain
+replied u (reply.Signal s) = signal_left u s
+replied u _ = u
+
+-- what a call leaves that was answered so
+unfoldable pub left : Plain → Call → Reply → Plain
+left u (call.Signal its dev ev) r = replied u r
+left u (call.Take vcpu) r = with_redistributor u vcpu.0 (taken (redistributor u vcpu.0) (lowest (redistributor u vcpu.0)))
+left u (call.Show vcpu) r = u
+left u (call.Poke addr bytes) r = record u { memory = unwrap_or (write_at u.memory addr.0 bytes) u.memory }
+left u (call.Peek addr count) r = u
+left u (call.ReadReg its off size) r = u
+left u (call.WriteReg its off size value) r = written u its off size value
+left u (call.Step its) r = step_left u its
+
+abbrev pub answer : Plain → Call → Reply × Plain
+answer u c = (reply_of u c, left u c (reply_of u c))
