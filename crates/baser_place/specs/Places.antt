@@ -1,12 +1,12 @@
 -- Where a device's table entry stands in memory (IHI 0069, section 12.19.1: flat and two-level tables of GITS_BASER).
-use Rattle.std.specs.Prelude.{ℕ, ◌+◌, ◌-◌, ◌*◌, ◌/◌, ◌%◌, ◌^◌, Bool, nat_lt, if◌then◌else◌, List, Option, Some, None}
+use Rattle.std.specs.Prelude.{ℕ, ◌<◌, ◌+◌, ◌-◌, ◌*◌, ◌/◌, ◌%◌, ◌^◌, Bool, nat_lt, if◌then◌else◌, List, Option, Some, None}
 use Rattle.its_types.specs.Bits.{field, bit_of}
 use Rattle.its_types.specs.Ranges.{is_device_id}
 use Rattle.its_types.specs.declared.ids.Addr.{Addr}
 use Rattle.guest_windows.specs.Windows.{Window, inside, number_at}
 use Rattle.gits_regs.specs.Registers.{Registers, is_valid, is_indirect, pages, table_base}
-use Rattle.baser_place.specs.declared.level1.Level1.{Level1}
-use Rattle.baser_place.specs.declared.level1.Level1.TheVariants.{Outside, Empty, Page}
+use Rattle.baser_place.specs.declared.entry.Level1.{Level1}
+use Rattle.baser_place.specs.declared.entry.Level1.TheVariants.{Outside, Empty, Page}
 
 infixl 10 ◌>>=◌
 abbrev pub ◌>>=◌ : {A B : Type 0} → Option A → (A → Option B) → Option B
@@ -50,6 +50,12 @@ level1_word address (Some word) = if bit_of word 63 then Page (record { 0 = page
 
 unfoldable pub level1_of : Registers → List Window → ℕ → Level1
 level1_of r memory k = level1_word (level1_address r k) (number_at memory (level1_address r k))
+
+-- a page lies below 2 ^ 52
+abbrev pub HasLowPage : Level1 → Type 0
+HasLowPage (Page address) = address.0 < 2 ^ 52
+HasLowPage Empty = Unit {0}
+HasLowPage (Outside address) = Unit {0}
 
 abbrev pub page_of : Level1 → Option ℕ
 page_of (Page address) = Some address.0

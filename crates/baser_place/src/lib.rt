@@ -1,6 +1,8 @@
 //! Where the entries of the device table stand in guest memory.
 #![tactic(auto)]
 
-mod level1;
+mod entry;
+mod places;
 
-pub use level1::Level1;
+pub use entry::Level1;
+pub use places::{collection_places, device_place, level1};

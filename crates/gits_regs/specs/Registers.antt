@@ -1,7 +1,7 @@
 -- The registers of a translator (IHI 0069, section 12.19): how each reads, and what a write leaves.
 use Rattle.std.specs.Prelude.{◌≡◌, ◌<◌, ◌≤◌, ℕ, ◌+◌, ◌-◌, ◌*◌, ◌/◌, ◌%◌, ◌^◌, Bool, true, false, not, ◌&&◌, ◌||◌, ◌==◌, nat_lt, if◌then◌else◌, min, bit_and, bit_or, Result, Ok, Err, refl}
 use Rattle.std.specs.Coded.{Coded, code_by, coded×, coded_ℕ, coded_bool}
-use Rattle.its_types.specs.Bits.{field, bit_of, bit}
+use Rattle.its_types.specs.Bits.{field, bit_of}
 use Rattle.gits_regs.specs.declared.change.RegChange.{RegChange}
 use Rattle.gits_regs.specs.declared.change.RegChange.TheVariants as change
 use Rattle.gits_regs.specs.declared.values.NotValid.{NotValid}
@@ -47,9 +47,12 @@ is_valid base = bit_of base 63
 abbrev pub queue_base : Registers → ℕ
 queue_base r = field r.cbaser 16 36 * 2 ^ 16
 
--- how many bytes the command queue has
+-- how many bytes the command queue of a CBASER has
+abbrev pub size_of : ℕ → ℕ
+size_of cbaser = (field cbaser 0 8 + 1) * 4096
+
 abbrev pub queue_size : Registers → ℕ
-queue_size r = (field r.cbaser 0 8 + 1) * 4096
+queue_size r = size_of r.cbaser
 
 -- where the next command stands
 abbrev pub queue_place : Registers → ℕ
@@ -253,12 +256,12 @@ advanced r = record r { creadr = if r.creadr + 32 == queue_size r then 0 else r.
 -- ---- restore
 
 infixl 10 ◌>>=◌
-abbrev ◌>>=◌ : {A B : Type 0} → Result A NotValid → (A → Result B NotValid) → Result B NotValid
+abbrev pub ◌>>=◌ : {A B : Type 0} → Result A NotValid → (A → Result B NotValid) → Result B NotValid
 (Ok x) >>= f = f x
 (Err e) >>= f = Err e
 
 -- the register at fault, unless the test holds
-abbrev ensure : Bool → Register → Result (Unit {0}) NotValid
+abbrev pub ensure : Bool → Register → Result (Unit {0}) NotValid
 ensure test r = if test then Ok tt else Err (record { 0 = r })
 
 -- the values as writes leave them, with Enabled as bit 0 of CTLR says

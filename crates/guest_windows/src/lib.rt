@@ -5,6 +5,8 @@ mod errors;
 mod extents;
 mod frame;
 mod memory;
+#[cfg(test)]
+mod tests;
 
 pub use errors::{NewError, NoMemory, Outside};
 pub use extents::are_windows;

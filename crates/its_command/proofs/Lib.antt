@@ -1,0 +1,3 @@
+pub mod Words
+pub mod Meaning
+pub mod Encoded

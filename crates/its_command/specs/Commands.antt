@@ -1,5 +1,5 @@
 -- Commands as 32 bytes (IHI 0069, section 5.3): four doublewords of 8 bytes, least significant byte first.
-use Rattle.std.specs.Prelude.{◌≡◌, ◌<◌, ◌≤◌, ℕ, ◌+◌, ◌-◌, ◌*◌, ◌/◌, ◌%◌, ◌^◌, Bool, false, ◌==◌, if◌then◌else◌, List, ◌++◌, drop, length}
+use Rattle.std.specs.Prelude.{◌≡◌, ◌<◌, ◌≤◌, ℕ, ◌+◌, ◌-◌, ◌*◌, ◌%◌, ◌^◌, Bool, false, ◌==◌, if◌then◌else◌, List, ◌++◌, drop}
 use Rattle.byteorder.specs.Endian.{little_number, little_bytes}
 use Rattle.its_types.specs.Bits.{field, bit}
 use Rattle.its_types.specs.declared.ids.DeviceId.{DeviceId}
@@ -44,17 +44,17 @@ target_of bytes = dw bytes 2 51 16
 abbrev pub second_target_of : List ℕ → ℕ
 second_target_of bytes = dw bytes 3 51 16
 
--- Size, which is the EventID bits minus one
-abbrev pub size_of : List ℕ → ℕ
-size_of bytes = dw bytes 1 4 0
+-- EventID bits: Size, in DW1[4:0], is one less
+abbrev pub event_id_bits_of : List ℕ → ℕ
+event_id_bits_of bytes = dw bytes 1 4 0 + 1
 
--- bits 51 to 8 of the address of an interrupt translation table
+-- the address of an interrupt translation table: its bits 51 to 8 stand where they are
 abbrev pub itt_of : List ℕ → ℕ
-itt_of bytes = dw bytes 2 51 8
+itt_of bytes = dw bytes 2 51 8 * 2 ^ 8
 
 -- V
-abbrev pub valid_of : List ℕ → ℕ
-valid_of bytes = dw bytes 2 63 63
+abbrev pub is_valid : List ℕ → Bool
+is_valid bytes = dw bytes 2 63 63 == 1
 
 -- ---- what a command is
 
@@ -64,8 +64,8 @@ IsCommand b (Movi dev ev icid) = (opcode_of b ≡ 0x01) × (device_of b ≡ dev.
 IsCommand b (Int dev ev) = (opcode_of b ≡ 0x03) × (device_of b ≡ dev.0) × (event_of b ≡ ev.0)
 IsCommand b (Clear dev ev) = (opcode_of b ≡ 0x04) × (device_of b ≡ dev.0) × (event_of b ≡ ev.0)
 IsCommand b (Sync target) = (opcode_of b ≡ 0x05) × (target_of b ≡ target)
-IsCommand b (Mapd dev bits itt valid) = (opcode_of b ≡ 0x08) × (device_of b ≡ dev.0) × (size_of b + 1 ≡ bits) × (itt_of b * 2 ^ 8 ≡ itt) × (valid_of b ≡ bit valid)
-IsCommand b (Mapc icid target valid) = (opcode_of b ≡ 0x09) × (icid_of b ≡ icid.0) × (target_of b ≡ target) × (valid_of b ≡ bit valid)
+IsCommand b (Mapd dev bits itt valid) = (opcode_of b ≡ 0x08) × (device_of b ≡ dev.0) × (event_id_bits_of b ≡ bits) × (itt_of b ≡ itt) × (is_valid b ≡ valid)
+IsCommand b (Mapc icid target valid) = (opcode_of b ≡ 0x09) × (icid_of b ≡ icid.0) × (target_of b ≡ target) × (is_valid b ≡ valid)
 IsCommand b (Mapti dev ev intid icid) = (opcode_of b ≡ 0x0A) × (device_of b ≡ dev.0) × (event_of b ≡ ev.0) × (intid_of b ≡ intid.0) × (icid_of b ≡ icid.0)
 IsCommand b (Mapi dev ev icid) = (opcode_of b ≡ 0x0B) × (device_of b ≡ dev.0) × (event_of b ≡ ev.0) × (icid_of b ≡ icid.0)
 IsCommand b (Inv dev ev) = (opcode_of b ≡ 0x0C) × (device_of b ≡ dev.0) × (event_of b ≡ ev.0)
@@ -85,8 +85,8 @@ decoded b =
     else (if opcode == 0x03 then Int dev ev
     else (if opcode == 0x04 then Clear dev ev
     else (if opcode == 0x05 then Sync (target_of b)
-    else (if opcode == 0x08 then Mapd dev (size_of b + 1) (itt_of b * 2 ^ 8) (valid_of b == 1)
-    else (if opcode == 0x09 then Mapc icid (target_of b) (valid_of b == 1)
+    else (if opcode == 0x08 then Mapd dev (event_id_bits_of b) (itt_of b) (is_valid b)
+    else (if opcode == 0x09 then Mapc icid (target_of b) (is_valid b)
     else (if opcode == 0x0A then Mapti dev ev (record { 0 = intid_of b }) icid
     else (if opcode == 0x0B then Mapi dev ev icid
     else (if opcode == 0x0C then Inv dev ev

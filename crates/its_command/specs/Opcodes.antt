@@ -1,5 +1,5 @@
 -- The opcodes of commands (IHI 0069, section 5.3).
-use Rattle.std.specs.Prelude.{ℕ, Bool, ◌||◌, ◌&&◌, ◌==◌, nat_lt, nat_le}
+use Rattle.std.specs.Prelude.{ℕ, Bool, ◌||◌, ◌==◌}
 
 -- the twelve that a translator of physical LPIs knows
 abbrev pub is_known : ℕ → Bool

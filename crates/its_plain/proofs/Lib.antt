@@ -1,0 +1,4 @@
+pub mod Rising
+pub mod Entries
+pub mod Pending
+pub mod Mapped

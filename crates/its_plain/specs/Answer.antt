@@ -1,5 +1,5 @@
 -- What each call is answered, and the state that it leaves.
-use Rattle.std.specs.Prelude.{ℕ, ◌+◌, Bool, not, ◌||◌, ◌==◌, if◌then◌else◌, Option, Some, None, Result, Ok, Err, List, unwrap_or}
+use Rattle.std.specs.Prelude.{ℕ, ◌+◌, Bool, not, ◌&&◌, ◌||◌, ◌==◌, nat_lt, nat_le, if◌then◌else◌, Option, Some, None, Result, Ok, Err, List, unwrap_or}
 use Rattle.guest_windows.specs.Windows.{Window, read_at, write_at}
 use Rattle.gits_regs.specs.Registers.{Written, read_reg, write_reg, queue_place, is_queue_empty, advanced}
 use Rattle.gits_regs.specs.declared.change.RegChange.{RegChange}
@@ -10,7 +10,7 @@ use Rattle.its_command.specs.declared.command.Op.{Op}
 use Rattle.its_types.specs.Lpis.{first_enabled, priority_of, without_lpi}
 use Rattle.its_types.specs.Maps.{Maps, devices_emptied, collections_emptied}
 use Rattle.its_types.specs.declared.ids.Target.{Target}
-use Rattle.its_plain.specs.Plain.{Plain, Redistributor, translator, redistributor, regs_of, maps_of, with_translator, with_regs, with_redistributor}
+use Rattle.its_plain.specs.Plain.{Plain, Translator, Redistributor, translator, redistributor, regs_of, maps_of, with_translator, with_regs, with_redistributor}
 use Rattle.its_plain.specs.Translation.{translated}
 use Rattle.its_plain.specs.Commands.{ran, lpi_set}
 use Rattle.its_plain.specs.declared.call.Ack.{Ack}
@@ -57,6 +57,13 @@ abbrev pub poke_reply : Option (List Window) → Reply
 poke_reply None = reply.Outside
 poke_reply (Some memory) = reply.Ok
 
+abbrev pub poked : Plain → ℕ → List ℕ → Plain
+poked u address bytes = record u { memory = unwrap_or (write_at u.memory address bytes) u.memory }
+
+-- 1 to 64 bytes, where one window has them
+abbrev pub peeked : Plain → ℕ → ℕ → Option (List ℕ)
+peeked u address count = if nat_lt 0 count && nat_le count 64 then read_at u.memory address count else None
+
 abbrev pub peek_reply : Option (List ℕ) → Reply
 peek_reply None = reply.Outside
 peek_reply (Some bytes) = reply.Bytes bytes
@@ -69,11 +76,11 @@ emptied change.DevicesEmptied m = devices_emptied m
 emptied change.CollectionsEmptied m = collections_emptied m
 emptied _ m = m
 
-abbrev pub with_written : Plain → ℕ → Written → Plain
-with_written u i w = with_translator u i (record { regs = w.regs; maps = emptied w.change (maps_of u i) })
+abbrev pub translator_written : Translator → Written → Translator
+translator_written t w = record { regs = w.regs; maps = emptied w.change t.maps }
 
 unfoldable pub written : Plain → ℕ → ℕ → ℕ → ℕ → Plain
-written u i off size value = with_written u i (write_reg (regs_of u i) off size value)
+written u i off size value = with_translator u i (translator_written (translator u i) (write_reg (regs_of u i) off size value))
 
 -- ---- steps
 
@@ -118,7 +125,7 @@ reply_of u (call.Signal its dev ev) = reply.Signal (signal_reply (translated u i
 reply_of u (call.Take vcpu) = reply.Ack (ack_of (redistributor u vcpu.0) (lowest (redistributor u vcpu.0)))
 reply_of u (call.Show vcpu) = reply.Ack (ack_of (redistributor u vcpu.0) (lowest (redistributor u vcpu.0)))
 reply_of u (call.Poke addr bytes) = poke_reply (write_at u.memory addr.0 bytes)
-reply_of u (call.Peek addr count) = peek_reply (read_at u.memory addr.0 count)
+reply_of u (call.Peek addr count) = peek_reply (peeked u addr.0 count)
 reply_of u (call.ReadReg its off size) = reply.Value (read_reg (regs_of u its) off size)
 reply_of u (call.WriteReg its off size value) = reply.Ok
 reply_of u (call.Step its) = reply.Step (step_reply u its)
@@ -132,7 +139,7 @@ unfoldable pub left : Plain → Call → Reply → Plain
 left u (call.Signal its dev ev) r = replied u r
 left u (call.Take vcpu) r = with_redistributor u vcpu.0 (taken (redistributor u vcpu.0) (lowest (redistributor u vcpu.0)))
 left u (call.Show vcpu) r = u
-left u (call.Poke addr bytes) r = record u { memory = unwrap_or (write_at u.memory addr.0 bytes) u.memory }
+left u (call.Poke addr bytes) r = poked u addr.0 bytes
 left u (call.Peek addr count) r = u
 left u (call.ReadReg its off size) r = u
 left u (call.WriteReg its off size value) r = written u its off size value

@@ -1,8 +1,8 @@
 -- What each command does (IHI 0069, section 5.3): its first refusal, or what it leaves.
-use Rattle.std.specs.Prelude.{ℕ, ◌+◌, ◌-◌, ◌^◌, Bool, not, ◌&&◌, ◌==◌, nat_lt, nat_le, if◌then◌else◌, Option, Some, None, is_some, Result, Ok, Err, List, [], ◌∷◌, map, filter, slice_index}
+use Rattle.std.specs.Prelude.{ℕ, ◌+◌, ◌-◌, ◌^◌, Bool, not, ◌&&◌, ◌==◌, nat_lt, nat_le, if◌then◌else◌, Option, Some, None, is_some, Result, Ok, Err, List, [], ◌∷◌, map, filter}
 use Rattle.std.specs.Option.{ok_or}
 use Rattle.std.specs.FinMap.{entries}
-use Rattle.guest_windows.specs.Windows.{Window, read_at}
+use Rattle.guest_windows.specs.Windows.{Window, byte_at}
 use Rattle.gits_regs.specs.Registers.{collection_places}
 use Rattle.baser_place.specs.Places.{device_place}
 use Rattle.its_command.specs.declared.command.Command.{Command}
@@ -10,6 +10,7 @@ use Rattle.its_command.specs.declared.command.Command.TheVariants as command
 use Rattle.its_types.specs.Ranges.{is_device_id, is_lpi}
 use Rattle.its_types.specs.Lpis.{is_pending, with_lpi, with_lpis, without_lpi, with_config_byte}
 use Rattle.its_types.specs.Maps.{Maps, device_of, event_of, collection_of, device_mapped, device_unmapped, event_mapped, event_unmapped, collection_mapped, collection_unmapped}
+use Rattle.its_types.specs.declared.ids.Intid.{Intid}
 use Rattle.its_types.specs.declared.ids.Vcpu.{Vcpu}
 use Rattle.its_types.specs.declared.machine.Profile.{Profile}
 use Rattle.its_types.specs.declared.machine.Profile.TheVariants.{One, Two}
@@ -47,17 +48,17 @@ lpis_moved (intid ∷ intids) from to u = lpis_moved intids from to (lpi_moved i
 
 -- all that are pending at one are pending at the other, and none at the one
 unfoldable pub all_moved : ℕ → ℕ → Plain → Plain
-all_moved from to u = if from == to then u else with_pending (with_pending u to (with_lpis (pending_of u from) (pending_of u to))) from []
+all_moved from to u = if from == to then u else with_pending (with_pending u from []) to (with_lpis (pending_of u from) (pending_of u to))
 
 -- ---- configurations
 
-abbrev reread_byte : ℕ → Redistributor → Option (List ℕ) → Redistributor
+abbrev reread_byte : ℕ → Redistributor → Option ℕ → Redistributor
 reread_byte intid r None = r
-reread_byte intid r (Some bytes) = record r { config = with_config_byte r.config intid (slice_index bytes 0) }
+reread_byte intid r (Some byte) = record r { config = with_config_byte r.config intid byte }
 
 -- a redistributor whose LPIs are on reads an LPI's byte again, from its own table
 unfoldable pub reread_at : List Window → ℕ → Redistributor → Redistributor
-reread_at memory intid r = if r.bases.on then reread_byte intid r (read_at memory (r.bases.config.0 + (intid - 8192)) 1) else r
+reread_at memory intid r = if r.bases.on then reread_byte intid r (byte_at memory (r.bases.config.0 + (intid - 8192))) else r
 
 abbrev pub all_reread_at : List Window → List ℕ → Redistributor → Redistributor
 all_reread_at memory [] r = r
@@ -107,11 +108,14 @@ followed_in One u i icid before to = u
 followed_in Two u i icid None to = u
 followed_in Two u i icid (Some from) to = if from.0 == to then u else followed u i icid from.0 to
 
+abbrev pub with_collection : Plain → ℕ → ℕ → ℕ → Plain
+with_collection u i icid target = with_maps u i (collection_mapped (maps_of u i) icid (record { 0 = target }))
+
 unfoldable pub mapc : Plain → ℕ → ℕ → ℕ → Result Plain Reason
 mapc u i icid target = do
   _ ← ensure (nat_lt target u.layout.shape.vcpus) TargetRange
   _ ← ensure (nat_lt icid (collection_places (regs_of u i))) CollectionRange
-  Ok (with_maps (followed_in u.layout.shape.profile u i icid (collection_of (maps_of u i) icid) target) i (collection_mapped (maps_of u i) icid (record { 0 = target })))
+  Ok (with_collection (followed_in u.layout.shape.profile u i icid (collection_of (maps_of u i) icid) target) i icid target)
 
 abbrev pub unmapc : Plain → ℕ → ℕ → Plain
 unmapc u i icid = with_maps u i (collection_unmapped (maps_of u i) icid)
@@ -141,22 +145,22 @@ movi u i dev ev icid = do
   Ok (lpi_moved event.intid.0 from.0 to.0 (with_maps u i (event_mapped (maps_of u i) dev ev (record event { icid = record { 0 = icid } }))))
 
 -- the LPI of an event, and its target, whose LPIs are on
-unfoldable pub lpi_at : Plain → ℕ → ℕ → ℕ → Result (ℕ × ℕ) Reason
+unfoldable pub lpi_at : Plain → ℕ → ℕ → ℕ → Result (Intid × Vcpu) Reason
 lpi_at u i dev ev = do
   event ← event_at (maps_of u i) dev ev
   vcpu ← target_at (maps_of u i) event.icid.0
   _ ← ensure (is_on u vcpu.0) LpisOff
-  Ok (event.intid.0, vcpu.0)
+  Ok (event.intid, vcpu)
 
 unfoldable pub int : Plain → ℕ → ℕ → ℕ → Result Plain Reason
 int u i dev ev = do
   lpi ← lpi_at u i dev ev
-  Ok (lpi_set lpi.0 lpi.1 u)
+  Ok (lpi_set lpi.0.0 lpi.1.0 u)
 
 unfoldable pub clear : Plain → ℕ → ℕ → ℕ → Result Plain Reason
 clear u i dev ev = do
   lpi ← lpi_at u i dev ev
-  Ok (lpi_cleared lpi.0 lpi.1 u)
+  Ok (lpi_cleared lpi.0.0 lpi.1.0 u)
 
 -- cleared at its target, if its collection is mapped
 abbrev pub cleared_at : ℕ → Option Vcpu → Plain → Plain

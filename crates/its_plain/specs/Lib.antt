@@ -6,3 +6,11 @@ pub mod Answer
 pub mod Sound
 pub mod Parts
 pub mod History
+pub mod Regions
+pub mod Saved
+pub mod Runs
+pub mod Machine
+pub mod MapLists
+pub mod Slots
+pub mod Outcome
+pub mod Made

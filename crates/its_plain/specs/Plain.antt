@@ -109,11 +109,11 @@ coded_shape =
 abbrev coded_window : Coded Window
 coded_window = code_by (ℕ × List ℕ) (coded× coded_ℕ (coded_list coded_ℕ)) (λ w. (w.base, w.bytes)) (λ p. record { base = p.0; bytes = p.1 }) (λ _. refl)
 
-abbrev coded_translator : Coded Translator
-coded_translator = code_by (Registers × Maps) (coded× registers_code maps_code) (λ t. (t.regs, t.maps)) (λ p. record { regs = p.0; maps = p.1 }) (λ _. refl)
+abbrev pub translator_code : Coded Translator
+translator_code = code_by (Registers × Maps) (coded× registers_code maps_code) (λ t. (t.regs, t.maps)) (λ p. record { regs = p.0; maps = p.1 }) (λ _. refl)
 
-abbrev coded_redistributor : Coded Redistributor
-coded_redistributor =
+abbrev pub redistributor_code : Coded Redistributor
+redistributor_code =
     code_by (Bases × (List ℕ × List ℕ)) (coded× bases_code (coded× (coded_list coded_ℕ) (coded_list coded_ℕ))) (λ r. (r.bases, (r.pending, r.config)))
     (λ p. record { bases = p.0; pending = p.1.0; config = p.1.1 }) (λ _. refl)
 
@@ -124,7 +124,7 @@ coded_layout =
 
 abbrev pub plain_code : Coded Plain
 plain_code =
-    code_by ((Layout × List Translator) × (List Redistributor × List Window)) (coded× (coded× coded_layout (coded_list coded_translator)) (coded× (coded_list coded_redistributor) (coded_list coded_window)))
+    code_by ((Layout × List Translator) × (List Redistributor × List Window)) (coded× (coded× coded_layout (coded_list translator_code)) (coded× (coded_list redistributor_code) (coded_list coded_window)))
     (λ u. ((u.layout, u.translators), (u.redistributors, u.memory)))
     (λ p. record { layout = p.0.0; translators = p.0.1; redistributors = p.1.0; memory = p.1.1 })
     (λ _. refl)

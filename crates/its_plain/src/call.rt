@@ -20,7 +20,7 @@ pub enum Call {
         addr: Addr,
         bytes: Bytes64,
     },
-    /// A read of 1 to 64 bytes of guest memory.
+    /// A read of 1 to 64 bytes of guest memory; any other count is answered `Outside`.
     Peek {
         addr: Addr,
         count: u8,

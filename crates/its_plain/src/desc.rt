@@ -1,5 +1,5 @@
 use gits_regs::RegValues;
-use its_types::{Addr, Limits, Listed, Shape};
+use its_types::{Addr, Limits, Listed, Shape, Vcpu};
 
 /// Bytes that a description puts into guest memory, with the number of the line that says so.
 #[derive(Debug, Drop)]
@@ -25,4 +25,17 @@ pub struct Desc {
     pub fills: Listed<Fill>,
     /// The registers that the machine is restored with, if it is.
     pub restore: Option<RegValues>,
+}
+
+/// Why a description makes no machine: the first that applies.
+#[derive(Clone, Copy, Debug, PartialEq, Eq)]
+pub enum DescFault {
+    /// The windows of guest memory can't be so.
+    Windows,
+    /// The configuration table doesn't lie in one window.
+    Config,
+    /// The virtual processor's pending table doesn't lie in one window.
+    Pending(Vcpu),
+    /// The bytes of this line don't lie in one window.
+    Bytes(u64),
 }

@@ -1,10 +1,24 @@
 //! The plain machine: what each call answers, and what it leaves.
 #![tactic(auto)]
 
+mod answer;
 mod bytes64;
 mod call;
+mod commands;
 mod desc;
+mod fault;
+mod make;
+mod maps;
+mod redist;
+mod refusal;
+mod state;
+mod tables;
+mod translator;
 
 pub use bytes64::Bytes64;
 pub use call::{Ack, Call, Cause, CmdReply, Entry, Reason, Reply, Signal, StepReply};
-pub use desc::{Desc, Fill};
+pub use desc::{Desc, DescFault, Fill};
+pub use fault::{Region, RestoreFault, SaveFault, Table};
+pub use guest_windows::NoMemory;
+pub use make::MakeError;
+pub use state::State;

@@ -55,3 +55,30 @@ pub struct Shape {
     pub lpi_bits: u8,
     pub profile: Profile,
 }
+
+impl Shape {
+    ghost use Rattle.std.specs.Prelude.{◌≡◌, ◌<◌, ◌≤◌};
+    ghost use Rattle.its_types.specs.Ranges as spec;
+
+    /// How many LPIs there are, which is how many bytes a configuration table has.
+    pub fn lpi_count(&self) -> u64
+        requires least { 14 ≤ self.now.lpi_bits }
+        requires most { self.now.lpi_bits ≤ 20 }
+        ensures count { result ≡ spec.lpi_count self.now.lpi_bits }
+        ensures at_least { 8192 ≤ result }
+        ensures below { result < 1048576 }
+    {
+        2u64.pow(u32::from(self.lpi_bits)) - 8192
+    }
+
+    /// How many bytes a pending table has.
+    pub fn pending_bytes(&self) -> u64
+        requires least { 14 ≤ self.now.lpi_bits }
+        requires most { self.now.lpi_bits ≤ 20 }
+        ensures bytes { result ≡ spec.pending_bytes self.now.lpi_bits }
+        ensures at_least { 2048 ≤ result }
+        ensures at_most { result ≤ 131072 }
+    {
+        2u64.pow(u32::from(self.lpi_bits) - 3)
+    }
+}

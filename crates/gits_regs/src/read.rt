@@ -1,0 +1,80 @@
+ghost use Rattle.std.specs.Prelude.{◌≡◌, ◌<◌, ◌^◌};
+ghost use Rattle.gits_regs.specs.Registers as spec;
+
+use crate::regs::Regs;
+
+impl Regs {
+    /// A read of `size` bytes at an offset of the control frame: of 8 bytes a 64-bit register, of 4 a 32-bit one or half of
+    /// a 64-bit one. Everything else reads zero.
+    #[tactic(auto, unfolding(crate::specs::Registers::read_reg))]
+    pub fn read(&self, off: u32, size: u8) -> u64
+        ensures { result ≡ spec.read_reg self.now off size }
+    {
+        match size {
+            8 => self.read_64(off),
+            4 => u64::from(self.read_word(off)),
+            _ => 0,
+        }
+    }
+
+    #[tactic(auto, unfolding(crate::specs::Registers::read_word, crate::specs::Registers::read_64))]
+    fn read_word(&self, off: u32) -> u32
+        ensures { result ≡ spec.read_word self.now off }
+    {
+        if is_32(off) {
+            self.read_32(off)
+        } else if off % 8 == 0 {
+            low_half(self.read_64(off))
+        } else if off % 8 == 4 {
+            high_half(self.read_64(off - 4))
+        } else {
+            0
+        }
+    }
+
+    #[tactic(auto, unfolding(crate::specs::Registers::read_32))]
+    fn read_32(&self, off: u32) -> u32
+        ensures { result ≡ spec.read_32 self.now off }
+    {
+        match off {
+            0x0 => { if self.enabled { 1 } else { 0x8000_0000 } }
+            0x4 => 0x4B00_043B,
+            0xFFE8 => 0x30,
+            _ => 0,
+        }
+    }
+
+    #[tactic(auto, unfolding(crate::specs::Registers::read_64))]
+    pub(crate) fn read_64(&self, off: u32) -> u64
+        ensures { result ≡ spec.read_64 self.now off }
+    {
+        match off {
+            0x8 => (u64::from(self.dev_bits) - 1) * 8192 + 0xF71,
+            0x80 => self.cbaser,
+            0x88 => self.cwriter,
+            0x90 => self.creadr,
+            0x100 => self.baser0,
+            0x108 => self.baser1,
+            _ => 0,
+        }
+    }
+}
+
+/// Whether a 32-bit register stands at an offset.
+pub fn is_32(off: u32) -> bool
+    ensures { result ≡ spec.is_32 off }
+{
+    off == 0x0 || off == 0x4 || off == 0xFFE8
+}
+
+pub fn low_half(whole: u64) -> u32
+    ensures { result ≡ spec.low_half whole }
+{
+    (whole % (1 << 32)) as u32
+}
+
+pub fn high_half(whole: u64) -> u32
+    ensures { result ≡ spec.high_half whole }
+{
+    (whole >> 32) as u32
+}

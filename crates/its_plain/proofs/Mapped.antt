@@ -1,0 +1,13 @@
+-- A loop that changes each element in turn.
+use Rattle.std.proofs.Common.{◌≡◌, ℕ, zero, suc, ◌+◌, ◌<◌, List, [], ◌∷◌, ◌++◌, length, map, get_or, set, take, drop, refl, sym, ap, ◌∙◌, arith, add-one}
+
+step : {X : Type 0} (f : X → X) (xs : List X) (i : ℕ) (x y : X) → i < length xs → x ≡ get_or (map f (take i xs) ++ drop i xs) i x → y ≡ f x
+    → set (map f (take i xs) ++ drop i xs) i y ≡ map f (take (suc i) xs) ++ drop (suc i) xs
+step f [] i x y lt at is = absurd (omega arith)
+step f (z ∷ zs) zero x y lt at is = ap (λ v. v ∷ zs) (is ∙ ap f at)
+step f (z ∷ zs) (suc i) x y lt at is = ap (λ l. f z ∷ l) (step f zs i x y (omega arith) at is)
+
+-- the first i are changed, and now one more is
+pub mapped_more : {X : Type 0} (f : X → X) (xs all : List X) (i : ℕ) (x y : X) → i < length xs → all ≡ map f (take i xs) ++ drop i xs → x ≡ get_or all i x → y ≡ f x
+    → set all i y ≡ map f (take (i + 1) xs) ++ drop (i + 1) xs
+mapped_more f xs all i x y lt same at is = rw (same, add-one i) (step f xs i x y lt (rw same at at) is)

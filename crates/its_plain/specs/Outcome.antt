@@ -1,0 +1,15 @@
+-- What a command of the plain machine came to, against its definition.
+use Rattle.std.specs.Prelude.{◌≡◌, Result, Ok, Err}
+use Rattle.its_plain.specs.Plain.{Plain}
+use Rattle.its_plain.specs.declared.call.Reason.{Reason}
+use Rattle.its_plain.specs.declared.refusal.CommandError.{CommandError}
+use Rattle.its_plain.specs.declared.refusal.CommandError.TheVariants as errors
+
+-- a refused command left the state as it was
+abbrev pub Fails : Plain → Plain → CommandError → Result Plain Reason → Type 0
+Fails old new errors.Memory ran = Unit {0}
+Fails old new (errors.Refused reason) ran = (ran ≡ Err reason) × (new ≡ old)
+
+abbrev pub Runs : Plain → Plain → Result (Unit {0}) CommandError → Result Plain Reason → Type 0
+Runs old new (Ok done) ran = ran ≡ Ok new
+Runs old new (Err e) ran = Fails old new e ran

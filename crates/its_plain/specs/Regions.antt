@@ -1,0 +1,159 @@
+-- Whether a state can be saved (KVM document arm-vgic-its, "ITS Table ABI REV0"): the stretches of memory that its tables
+-- stand in, and the first refusal.
+use Rattle.std.specs.Prelude.{ℕ, zero, suc, ◌+◌, ◌-◌, ◌*◌, ◌/◌, ◌^◌, Bool, true, false, not, ◌&&◌, ◌||◌, ◌==◌, nat_lt, if◌then◌else◌, min, List, [], ◌∷◌, ◌++◌, find, Option, Some, None, is_some, Result, Ok, Err}
+use Rattle.std.specs.List.{flat_map}
+use Rattle.std.specs.FinMap.{entries}
+use Rattle.guest_windows.specs.Windows.{Window, inside}
+use Rattle.gits_regs.specs.Registers.{Registers, is_valid, is_indirect, pages, table_base, queue_base, queue_size}
+use Rattle.baser_place.specs.Places.{level1_entries, level1_of, level1_address, page_of}
+use Rattle.its_types.specs.Ranges.{lpi_count, pending_bytes}
+use Rattle.its_types.specs.Maps.{Maps}
+use Rattle.its_types.specs.declared.machine.Shape.{Shape}
+use Rattle.its_types.specs.declared.translation.Device.{Device}
+use Rattle.its_plain.specs.Plain.{Plain, Layout, Translator, Redistributor, redistributor}
+use Rattle.its_plain.specs.declared.fault.Region.{Region}
+use Rattle.its_plain.specs.declared.fault.Region.TheVariants.{Devices, Level1, Page, Collections, Itt, Pending, Config, ConfigOf, Queue}
+use Rattle.its_plain.specs.declared.fault.SaveFault.{SaveFault}
+use Rattle.its_plain.specs.declared.fault.SaveFault.TheVariants.{NoPlace, Outside, Overlap}
+
+infixl 10 ◌>>=◌
+abbrev pub ◌>>=◌ : {A B : Type 0} → Result A SaveFault → (A → Result B SaveFault) → Result B SaveFault
+(Ok x) >>= f = f x
+(Err e) >>= f = Err e
+
+-- a stretch of memory, and whether a save writes it
+pub record Area : Type 0 where
+  pub region : Region
+  pub base : ℕ
+  pub size : ℕ
+  pub is_written : Bool
+
+abbrev written_area : Region → ℕ → ℕ → Area
+written_area region base size = record { region = region; base = base; size = size; is_written = true }
+
+abbrev read_area : Region → ℕ → ℕ → Area
+read_area region base size = record { region = region; base = base; size = size; is_written = false }
+
+-- ---- the areas of a translator
+
+-- a page of 64 KiB
+abbrev pub page_size : ℕ
+page_size = 65536
+
+-- the pages of a flat device table that a DeviceID can have a place in
+abbrev pub device_pages : Registers → ℕ
+device_pages r = min (pages r.baser0) (level1_entries r.dev_bits)
+
+-- the pages of the collection table that an ICID can have a place in
+abbrev pub collection_pages : Registers → ℕ
+collection_pages r = min (pages r.baser1) 8
+
+abbrev page_area : ℕ → Option ℕ → List Area
+page_area k None = []
+page_area k (Some base) = written_area (Page k) base page_size ∷ []
+
+-- the pages of the first n level-1 entries
+abbrev pub pages_below : Registers → List Window → ℕ → List Area
+pages_below r memory zero = []
+pages_below r memory (suc n) = pages_below r memory n ++ page_area n (page_of (level1_of r memory n))
+
+abbrev level1_size : Registers → ℕ
+level1_size r = 8 * level1_entries r.dev_bits
+
+abbrev level1_areas : Registers → List Window → List Area
+level1_areas r memory =
+    read_area Level1 (table_base r.baser0) (level1_size r)
+    ∷ (if inside memory (table_base r.baser0) (level1_size r) then pages_below r memory (level1_entries r.dev_bits) else [])
+
+unfoldable pub device_areas : Registers → List Window → List Area
+device_areas r memory =
+    if not (is_valid r.baser0) then []
+    else (if is_indirect r.baser0 then level1_areas r memory else written_area Devices (table_base r.baser0) (page_size * device_pages r) ∷ [])
+
+abbrev pub collection_areas : Registers → List Area
+collection_areas r = if is_valid r.baser1 then written_area Collections (table_base r.baser1) (page_size * collection_pages r) ∷ [] else []
+
+abbrev pub itt_area : ℕ × Device → Area
+itt_area d = written_area (Itt (record { 0 = d.0 })) d.1.itt.0 (8 * 2 ^ d.1.bits)
+
+abbrev pub itt_areas : Maps → List Area
+itt_areas m = flat_map (λ d. itt_area d ∷ []) (entries m.devices)
+
+-- the tables of a translator, which have to lie in one window each
+unfoldable pub table_areas : List Window → Translator → List Area
+table_areas memory t = device_areas t.regs memory ++ collection_areas t.regs ++ itt_areas t.maps
+
+abbrev pub queue_areas : Translator → List Area
+queue_areas t = if is_valid t.regs.cbaser then read_area Queue (queue_base t.regs) (queue_size t.regs) ∷ [] else []
+
+-- ---- the areas of the redistributors
+
+-- a pending table but for the 1024 bytes that belong to no LPI
+abbrev pub pending_area : Shape → ℕ → Redistributor → List Area
+pending_area s vcpu r =
+    if r.bases.on then written_area (Pending (record { 0 = vcpu })) (r.bases.pending.0 + 1024) (pending_bytes s.lpi_bits - 1024) ∷ [] else []
+
+abbrev pub config_area : Shape → ℕ → Redistributor → List Area
+config_area s vcpu r = if r.bases.on then read_area (ConfigOf (record { 0 = vcpu })) r.bases.config.0 (lpi_count s.lpi_bits) ∷ [] else []
+
+-- those of each virtual processor, from one on
+abbrev pub areas_from : (ℕ → Redistributor → List Area) → ℕ → List Redistributor → List Area
+areas_from areas vcpu [] = []
+areas_from areas vcpu (r ∷ rs) = areas vcpu r ++ areas_from areas (suc vcpu) rs
+
+-- one table for all, unless each virtual processor has its own
+abbrev pub config_areas : Plain → List Area
+config_areas u =
+    if u.layout.gicr then areas_from (config_area u.layout.shape) 0 u.redistributors
+    else read_area Config (redistributor u 0).bases.config.0 (lpi_count u.layout.shape.lpi_bits) ∷ []
+
+-- ---- refusals
+
+abbrev pub tables_of : Plain → List Area
+tables_of u = flat_map (table_areas u.memory) u.translators
+
+unfoldable pub areas_of : Plain → List Area
+areas_of u = tables_of u ++ areas_from (pending_area u.layout.shape) 0 u.redistributors ++ config_areas u ++ flat_map queue_areas u.translators
+
+abbrev pub is_outside : List Window → Area → Bool
+is_outside memory a = not (inside memory a.base a.size)
+
+abbrev outside_fault : Option Area → Result (Unit {0}) SaveFault
+outside_fault None = Ok tt
+outside_fault (Some a) = Err (Outside a.region)
+
+-- a device whose level-1 entry isn't valid
+abbrev pub has_no_place : Registers → List Window → ℕ × Device → Bool
+has_no_place r memory d = is_indirect r.baser0 && not (is_some (page_of (level1_of r memory (d.0 / 8192))))
+
+-- the first of a translator's devices that has no place
+abbrev pub first_unplaced : List Window → Translator → Option (ℕ × Device)
+first_unplaced memory t = find (has_no_place t.regs memory) (entries t.maps.devices)
+
+abbrev placed_or : Option (ℕ × Device) → Result (Unit {0}) SaveFault → Result (Unit {0}) SaveFault
+placed_or None rest = rest
+placed_or (Some d) rest = Err (NoPlace (record { 0 = d.0 }))
+
+abbrev pub all_placed : List Window → List Translator → Result (Unit {0}) SaveFault
+all_placed memory [] = Ok tt
+all_placed memory (t ∷ ts) = placed_or (first_unplaced memory t) (all_placed memory ts)
+
+-- two areas share a byte, and one of them is written
+abbrev pub clash : Area → Area → Bool
+clash a b = (a.is_written || b.is_written) && nat_lt a.base (b.base + b.size) && nat_lt b.base (a.base + a.size)
+
+abbrev overlap_or : Area → Option Area → Result (Unit {0}) SaveFault → Result (Unit {0}) SaveFault
+overlap_or a None rest = rest
+overlap_or a (Some b) rest = Err (Overlap a.region b.region)
+
+-- the first pair that clashes, by the first area and then by the second
+abbrev pub none_overlap : List Area → Result (Unit {0}) SaveFault
+none_overlap [] = Ok tt
+none_overlap (a ∷ areas) = overlap_or a (find (clash a) areas) (none_overlap areas)
+
+-- Ok where the state can be saved, else the first refusal
+unfoldable pub savable : Plain → Result (Unit {0}) SaveFault
+savable u = do
+  _ ← outside_fault (find (is_outside u.memory) (tables_of u))
+  _ ← all_placed u.memory u.translators
+  none_overlap (areas_of u)

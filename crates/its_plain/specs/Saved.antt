@@ -1,0 +1,148 @@
+-- What a save writes (KVM document arm-vgic-its, "ITS Table ABI REV0"), and the machine that a migration goes on with.
+use Rattle.std.specs.Prelude.{◌≡◌, ℕ, suc, zero, ◌+◌, ◌-◌, ◌*◌, ◌/◌, ◌^◌, Bool, not, ◌&&◌, ◌==◌, nat_lt, if◌then◌else◌, min, List, [], ◌∷◌, ◌++◌, map, find, Option, Some, None, unwrap_or, slice_get, Ok}
+use Rattle.std.specs.Option.{option_map}
+use Rattle.std.specs.List.{flat_map}
+use Rattle.std.specs.FinMap.{entries, keys}
+use Rattle.byteorder.specs.Endian.{little_number, little_bytes}
+use Rattle.guest_windows.specs.Windows.{Window, read_at, write_at}
+use Rattle.gits_regs.specs.Registers.{Registers, is_valid, is_indirect, table_base}
+use Rattle.baser_place.specs.Places.{level1_entries, level1_of, page_of, entry_address}
+use Rattle.table_entries.specs.Words.{packed_device, packed_collection, packed_event}
+use Rattle.its_types.specs.Lpis.{pending_byte}
+use Rattle.its_types.specs.Maps.{Maps, device_of, event_of}
+use Rattle.its_types.specs.Ranges.{lpi_count, pending_bytes}
+use Rattle.its_types.specs.declared.ids.Vcpu.{Vcpu}
+use Rattle.its_types.specs.declared.machine.Shape.{Shape}
+use Rattle.its_types.specs.declared.translation.Bases.{Bases}
+use Rattle.its_types.specs.declared.translation.Device.{Device}
+use Rattle.its_types.specs.declared.translation.Event.{Event}
+use Rattle.its_plain.specs.Plain.{Plain, Translator, Redistributor}
+use Rattle.its_plain.specs.Regions.{device_pages, collection_pages, savable}
+
+-- ---- words
+
+-- a table to write: so many words of eight bytes from an address on
+pub record Words : Type 0 where
+  pub base : ℕ
+  pub count : ℕ
+  pub word : ℕ → ℕ
+
+abbrev pub put_word : List Window → ℕ → ℕ → List Window
+put_word memory address word = unwrap_or (write_at memory address (little_bytes 8 word)) memory
+
+-- the first n words of a table
+abbrev pub put_words : List Window → ℕ → (ℕ → ℕ) → ℕ → List Window
+put_words memory base word zero = memory
+put_words memory base word (suc n) = put_word (put_words memory base word n) (entry_address base n) (word n)
+
+abbrev pub put_tables : List Window → List Words → List Window
+put_tables memory [] = memory
+put_tables memory (t ∷ ts) = put_tables (put_words memory t.base t.word t.count) ts
+
+-- ---- entries
+
+-- how far the next one is, at most the cap; 0 where there is none
+abbrev pub distance : ℕ → ℕ → Option ℕ → ℕ
+distance cap id None = 0
+distance cap id (Some next) = min (next - id) cap
+
+-- the next mapped device
+abbrev pub device_after : Maps → ℕ → Option ℕ
+device_after m dev = find (λ d. nat_lt dev d) (keys m.devices)
+
+abbrev device_entry : Maps → ℕ → Option Device → ℕ
+device_entry m dev None = 0
+device_entry m dev (Some d) = packed_device (record { next = distance 16383 dev (device_after m dev); itt = d.itt.0; bits = d.bits })
+
+-- the entry of a mapped device, or zero
+unfoldable pub device_word : Maps → ℕ → ℕ
+device_word m dev = device_entry m dev (device_of m dev)
+
+abbrev pub collection_entry : Option (ℕ × Vcpu) → ℕ
+collection_entry None = 0
+collection_entry (Some c) = packed_collection (record { vcpu_number = c.1.0; icid = c.0 })
+
+-- the collections in rising order, then zeros
+unfoldable pub collection_word : Maps → ℕ → ℕ
+collection_word m i = collection_entry (slice_get (entries m.collections) i)
+
+-- the next mapped event of a device
+abbrev pub event_after : Maps → ℕ → ℕ → Option ℕ
+event_after m dev ev = option_map (λ k. k.1) (find (λ k. k.0 == dev && nat_lt ev k.1) (keys m.events))
+
+abbrev event_entry : Maps → ℕ → ℕ → Option Event → ℕ
+event_entry m dev ev None = 0
+event_entry m dev ev (Some e) = packed_event (record { next = distance 65535 ev (event_after m dev ev); intid = e.intid.0; icid = e.icid.0 })
+
+-- the entry of a mapped event, or zero
+unfoldable pub event_word : Maps → ℕ → ℕ → ℕ
+event_word m dev ev = event_entry m dev ev (event_of m dev ev)
+
+-- eight bytes of a pending table, the first of which is byte n
+unfoldable pub pending_word : List ℕ → ℕ → ℕ
+pending_word pending n =
+    little_number 8 (pending_byte n pending ∷ pending_byte (n + 1) pending ∷ pending_byte (n + 2) pending ∷ pending_byte (n + 3) pending
+    ∷ pending_byte (n + 4) pending ∷ pending_byte (n + 5) pending ∷ pending_byte (n + 6) pending ∷ pending_byte (n + 7) pending ∷ [])
+
+-- ---- tables
+
+abbrev pub page_words : Maps → ℕ → Option ℕ → List Words
+page_words m k None = []
+page_words m k (Some base) = record { base = base; count = 8192; word = λ i. device_word m (8192 * k + i) } ∷ []
+
+-- the pages of the first n level-1 entries
+abbrev pub pages_words : Translator → List Window → ℕ → List Words
+pages_words t memory zero = []
+pages_words t memory (suc n) = pages_words t memory n ++ page_words t.maps n (page_of (level1_of t.regs memory n))
+
+unfoldable pub device_words : Translator → List Window → List Words
+device_words t memory =
+    if not (is_valid t.regs.baser0) then []
+    else (if is_indirect t.regs.baser0 then pages_words t memory (level1_entries t.regs.dev_bits)
+    else record { base = table_base t.regs.baser0; count = 8192 * device_pages t.regs; word = device_word t.maps } ∷ [])
+
+abbrev pub collection_words : Translator → List Words
+collection_words t =
+    if is_valid t.regs.baser1 then record { base = table_base t.regs.baser1; count = 8192 * collection_pages t.regs; word = collection_word t.maps } ∷ []
+    else []
+
+abbrev pub itt_words : Maps → List Words
+itt_words m = flat_map (λ d. record { base = d.1.itt.0; count = 2 ^ d.1.bits; word = event_word m d.0 } ∷ []) (entries m.devices)
+
+unfoldable pub translator_words : List Window → Translator → List Words
+translator_words memory t = device_words t memory ++ collection_words t ++ itt_words t.maps
+
+-- a pending table but for the 1024 bytes that belong to no LPI, of each redistributor whose LPIs are on
+abbrev pub pending_words : Shape → Redistributor → List Words
+pending_words s r =
+    if r.bases.on then record { base = r.bases.pending.0 + 1024; count = (pending_bytes s.lpi_bits - 1024) / 8; word = λ i. pending_word r.pending (1024 + 8 * i) } ∷ []
+    else []
+
+unfoldable pub words_of : Plain → List Words
+words_of u = flat_map (translator_words u.memory) u.translators ++ flat_map (pending_words u.layout.shape) u.redistributors
+
+-- memory with every entry of every table that is written, and no other byte changed
+abbrev pub saved : Plain → List Window
+saved u = put_tables u.memory (words_of u)
+
+-- ---- migrations
+
+abbrev pub IsSavable : Plain → Type 0
+IsSavable u = savable u ≡ Ok tt
+
+-- with LPIs on, the configuration as memory has it
+abbrev pub reloaded : Shape → List Window → Redistributor → Redistributor
+reloaded s memory r = if r.bases.on then record r { config = unwrap_or (read_at memory r.bases.config.0 (lpi_count s.lpi_bits)) r.config } else r
+
+-- the state that a migration goes on from
+unfoldable pub moved : Plain → Plain
+moved u = record u { memory = saved u; redistributors = map (reloaded u.layout.shape (saved u)) u.redistributors }
+
+abbrev pub bases_and_pending : Redistributor → Bases × List ℕ
+bases_and_pending r = (r.bases, r.pending)
+
+-- two machines that answer alike from then on, but for what memory and configurations have
+pub record AreEqual (u w : Plain) : Type 0 where
+  pub layout : u.layout ≡ w.layout
+  pub translators : u.translators ≡ w.translators
+  pub redistributors : map bases_and_pending u.redistributors ≡ map bases_and_pending w.redistributors

@@ -1,0 +1,64 @@
+use gits_regs::Register;
+use its_types::{Addr, DeviceId, EventId, Icid, Intid, Vcpu};
+
+/// A stretch of guest memory that a save looks at.
+#[derive(Clone, Copy, Debug, PartialEq, Eq)]
+pub enum Region {
+    /// A flat device table.
+    Devices,
+    /// The first level of a device table of two levels.
+    Level1,
+    /// The page of a valid level-1 entry.
+    Page(u32),
+    Collections,
+    /// A device's interrupt translation table.
+    Itt(DeviceId),
+    /// A pending table, from the first LPI's byte on.
+    Pending(Vcpu),
+    /// The configuration table that all virtual processors share.
+    Config,
+    /// A virtual processor's own configuration table.
+    ConfigOf(Vcpu),
+    /// The command queue.
+    Queue,
+}
+
+/// Why a state can't be saved: the first that applies.
+#[derive(Clone, Copy, Debug, PartialEq, Eq)]
+pub enum SaveFault {
+    /// The level-1 entry of the device isn't valid.
+    NoPlace(DeviceId),
+    /// The region doesn't lie in one window.
+    Outside(Region),
+    /// The two regions share a byte, and one of them is written.
+    Overlap(Region, Region),
+}
+
+/// A table that is walked from entry to entry.
+#[derive(Clone, Copy, Debug, PartialEq, Eq)]
+pub enum Table {
+    Devices,
+    Itt(DeviceId),
+}
+
+/// Why memory and registers stand for no state: the first offence.
+#[derive(Clone, Copy, Debug, PartialEq, Eq)]
+pub enum RestoreFault {
+    /// The entry at this address doesn't lie in one window.
+    OutsideTable(Addr),
+    /// The device has more than 16 EventID bits.
+    BadSize(DeviceId),
+    /// The event's interrupt is no LPI.
+    BadIntid(DeviceId, EventId, Intid),
+    /// An entry, by its number, leads so far that it leaves the table.
+    PastEnd(Table, u32, u32),
+    /// The collection's processor number is no virtual processor.
+    BadTarget(Icid, u64),
+    /// The collection has two entries.
+    DoubleCollection(Icid),
+    NotValid(Register),
+    /// The collection has no place in the table.
+    BadCollection(Icid),
+    /// A table of the virtual processor's redistributor doesn't lie in one window.
+    BadRedist(Vcpu),
+}

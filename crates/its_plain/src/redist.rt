@@ -1,0 +1,300 @@
+//! What a redistributor knows of LPIs, as plain lists.
+ghost use Rattle.std.specs.Prelude.{◌≡◌, ◌<◌, ◌≤◌, ◌^◌, ◌==◌, OnOk, OnErr, [], slice_set, map};
+ghost use Rattle.its_types.specs.Lpis as lpis;
+ghost use Rattle.its_plain.specs.Answer as plain;
+ghost use Rattle.its_plain.specs.Commands as commands;
+ghost use Rattle.its_plain.specs.Slots.{redistributor_in, pending_set};
+
+use crate::call::Ack;
+use guest_windows::Memory;
+use its_types::{Addr, Bases, Intid};
+use std::alloc::{AllocError, Global};
+use std::marker::Model;
+
+/// A pending set as a rising list, and a copy of the configuration.
+#[derive(Drop)]
+pub struct RedistLists {
+    bases: Bases,
+    pending: Vec<u32>,
+    config: Vec<u8>,
+}
+
+impl Model for RedistLists {
+    ghost use Rattle.std.specs.Prelude.{◌<◌, ◌^◌};
+    ghost use Rattle.its_plain.specs.Plain.{Redistributor, redistributor_code};
+
+    ghost Value = { Redistributor };
+
+    ghost coded = { redistributor_code };
+
+    ghost view = { λ r. record { bases = r.bases; pending = r.pending.items; config = r.config.items } };
+
+    ghost invariant = { λ r. r.bases.config.0 < 2 ^ 52 };
+}
+
+impl RedistLists {
+    /// Nothing is pending.
+    pub fn new(alloc: Global, bases: Bases, config: Vec<u8>) -> RedistLists
+        requires { bases.config.0 < 2 ^ 52 }
+        ensures { result ≡ record { bases = bases; pending = []; config = config.items } }
+    {
+        RedistLists {
+            bases,
+            pending: Vec::new(alloc),
+            config,
+        }
+    }
+
+    pub fn is_on(&self) -> bool
+        ensures { result ≡ self.now.bases.on }
+    {
+        self.bases.on
+    }
+
+    pub fn pending(&self) -> &[u32]
+        ensures { result.now ≡ self.now.pending }
+    {
+        &self.pending
+    }
+
+    pub fn is_pending(&self, intid: u32) -> bool
+        ensures { result ≡ lpis.is_pending intid self.now.pending }
+    {
+        self.pending.iter().any(|x| *x == intid)
+    }
+
+    pub fn set(&mut self, intid: u32) -> Result<(), AllocError>
+        ensures { OnOk result (self.new ≡ record self.old { pending = lpis.with_lpi intid self.old.pending }) }
+    {
+        add_rising(&mut self.pending, intid)?;
+        Ok(())
+    }
+
+    pub fn clear(&mut self, intid: u32)
+        ensures { self.new ≡ record self.old { pending = lpis.without_lpi intid self.old.pending } }
+    {
+        remove_number(&mut self.pending, intid);
+    }
+
+    /// Hands the pending set out, so that nothing is pending.
+    pub fn take_all(&mut self, alloc: Global) -> Vec<u32>
+        ensures taken { result.items ≡ self.old.pending }
+        ensures none { self.new ≡ record self.old { pending = [] } }
+    {
+        std::mem::replace(&mut self.pending, Vec::new(alloc))
+    }
+
+    /// Makes all of some LPIs pending.
+    pub fn set_all(&mut self, intids: Vec<u32>) -> Result<(), AllocError>
+        ensures { OnOk result (self.new ≡ record self.old { pending = lpis.with_lpis intids.items self.old.pending }) }
+    {
+        add_all_rising(&mut self.pending, intids)?;
+        Ok(())
+    }
+
+    /// The LPI that would be acknowledged.
+    pub fn lowest(&self) -> Option<u32>
+        ensures { result ≡ plain.lowest self.now }
+    {
+        first_enabled(&self.config, &self.pending)
+    }
+
+    pub fn show(&self) -> Ack
+        ensures { result ≡ plain.ack_of self.now (plain.lowest self.now) }
+    {
+        match self.lowest() {
+            Some(intid) => Ack::Some {
+                intid: Intid(intid),
+                priority: config_byte(&self.config, intid) & 0xfc,
+            },
+            None => Ack::None,
+        }
+    }
+
+    pub fn take(&mut self) -> Ack
+        ensures ack { result ≡ plain.ack_of self.old (plain.lowest self.old) }
+        ensures taken { self.new ≡ plain.taken self.old (plain.lowest self.old) }
+    {
+        let ack = self.show();
+        if let Ack::Some { intid, .. } = ack {
+            self.clear(intid.0);
+        }
+        ack
+    }
+
+    /// Reads an LPI's configuration byte again, if LPIs are on.
+    #[tactic(auto, unfolding(crate::specs::Commands::reread_at))]
+    pub fn reread(&mut self, memory: &Memory, intid: u32)
+        ensures { self.new ≡ commands.reread_at memory.now intid self.old }
+    {
+        if !self.bases.on {
+            return;
+        }
+        let place = intid.saturating_sub(8192);
+        if let Ok(byte) = memory.read_u8(Addr(self.bases.config.0 + u64::from(place))) {
+            set_byte(&mut self.config, place as usize, byte);
+        }
+    }
+
+    pub fn reread_all(&mut self, memory: &Memory, intids: &[u32])
+        ensures { self.new ≡ commands.all_reread_at memory.now intids.now self.old }
+    {
+        for intid in intids {
+            self.reread(memory, *intid);
+        }
+    }
+}
+
+// ---- one of several redistributors, where it is there
+
+pub fn set_at(all: &mut [RedistLists], vcpu: u64, intid: u32) -> Result<(), AllocError>
+    ensures { OnOk result (all.new ≡ pending_set all.old vcpu (lpis.with_lpi intid (redistributor_in all.old vcpu).pending)) }
+{
+    let at = vcpu as usize;
+    if at < all.len() {
+        all[at].set(intid)?;
+    }
+    Ok(())
+}
+
+pub fn clear_at(all: &mut [RedistLists], vcpu: u64, intid: u32)
+    ensures { all.new ≡ pending_set all.old vcpu (lpis.without_lpi intid (redistributor_in all.old vcpu).pending) }
+{
+    let at = vcpu as usize;
+    if at < all.len() {
+        all[at].clear(intid);
+    }
+}
+
+pub fn take_all_at(alloc: Global, all: &mut [RedistLists], vcpu: u64) -> Vec<u32>
+    ensures taken { result.items ≡ (redistributor_in all.old vcpu).pending }
+    ensures none { all.new ≡ pending_set all.old vcpu [] }
+{
+    let at = vcpu as usize;
+    if at < all.len() {
+        all[at].take_all(alloc)
+    } else {
+        Vec::new(alloc)
+    }
+}
+
+pub fn set_all_at(all: &mut [RedistLists], vcpu: u64, intids: Vec<u32>) -> Result<(), AllocError>
+    ensures { OnOk result (all.new ≡ pending_set all.old vcpu (lpis.with_lpis intids.items (redistributor_in all.old vcpu).pending)) }
+{
+    let at = vcpu as usize;
+    if at < all.len() {
+        all[at].set_all(intids)?;
+    }
+    Ok(())
+}
+
+pub fn take_at(all: &mut [RedistLists], vcpu: u64) -> Ack
+    ensures ack { result ≡ plain.ack_of (redistributor_in all.old vcpu) (plain.lowest (redistributor_in all.old vcpu)) }
+    ensures taken { all.new ≡ slice_set all.old vcpu (plain.taken (redistributor_in all.old vcpu) (plain.lowest (redistributor_in all.old vcpu))) }
+{
+    let at = vcpu as usize;
+    if at < all.len() {
+        all[at].take()
+    } else {
+        Ack::None
+    }
+}
+
+pub fn show_at(all: &[RedistLists], vcpu: u64) -> Ack
+    ensures { result ≡ plain.ack_of (redistributor_in all.now vcpu) (plain.lowest (redistributor_in all.now vcpu)) }
+{
+    match all.get(vcpu as usize) {
+        Some(redist) => redist.show(),
+        None => Ack::None,
+    }
+}
+
+pub fn is_on_at(all: &[RedistLists], vcpu: u64) -> bool
+    ensures { result ≡ (redistributor_in all.now vcpu).bases.on }
+{
+    match all.get(vcpu as usize) {
+        Some(redist) => redist.is_on(),
+        None => false,
+    }
+}
+
+pub fn is_pending_at(all: &[RedistLists], vcpu: u64, intid: u32) -> bool
+    ensures { result ≡ lpis.is_pending intid (redistributor_in all.now vcpu).pending }
+{
+    match all.get(vcpu as usize) {
+        Some(redist) => redist.is_pending(intid),
+        None => false,
+    }
+}
+
+/// Every redistributor reads the configuration bytes of these LPIs again.
+pub fn reread_each(all: &mut [RedistLists], memory: &Memory, intids: &[u32])
+    ensures { all.new ≡ map (commands.all_reread_at memory.now intids.now) all.old }
+{
+    for redist in all.iter_mut() {
+        redist.reread_all(memory, intids);
+    }
+}
+
+// ---- lists
+
+// Adds a number to a rising list.
+fn add_rising(list: &mut Vec<u32>, number: u32) -> Result<(), AllocError>
+    ensures ok { OnOk result (list.new.items ≡ lpis.with_lpi number list.old.items) }
+    ensures err { OnErr result (list.new.items ≡ list.old.items) }
+{
+    for at in 0..list.len() {
+        if list[at] == number {
+            return Ok(());
+        }
+        if list[at] > number {
+            list.insert(at, number)?;
+            return Ok(());
+        }
+    }
+    list.push(number)?;
+    Ok(())
+}
+
+#[tactic(auto, using(crate::proofs::Pending::with_lpis_push))]
+fn add_all_rising(list: &mut Vec<u32>, mut numbers: Vec<u32>) -> Result<(), AllocError>
+    ensures { OnOk result (list.new.items ≡ lpis.with_lpis numbers.items list.old.items) }
+{
+    while let Some(number) = numbers.pop() {
+        add_rising(list, number)?;
+    }
+    Ok(())
+}
+
+fn remove_number(list: &mut Vec<u32>, number: u32)
+    ensures { list.new.items ≡ lpis.without_lpi number list.old.items }
+{
+    list.retain(|x| *x != number);
+}
+
+// Writes a byte, where it is there.
+fn set_byte(bytes: &mut [u8], at: usize, byte: u8)
+    ensures { bytes.new ≡ slice_set bytes.old at byte }
+{
+    if at < bytes.len() {
+        bytes[at] = byte;
+    }
+}
+
+fn config_byte(config: &[u8], intid: u32) -> u8
+    ensures { result ≡ lpis.config_byte config.now intid }
+{
+    config
+        .get(intid.saturating_sub(8192) as usize)
+        .copied()
+        .unwrap_or(0)
+}
+
+fn first_enabled(config: &[u8], pending: &[u32]) -> Option<u32>
+    ensures { result ≡ lpis.first_enabled config.now pending.now }
+{
+    pending
+        .iter()
+        .copied()
+        .find(|intid| config_byte(config, *intid) % 2 == 1)
+}
