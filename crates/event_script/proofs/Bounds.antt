@@ -1,0 +1,122 @@
+-- The script that good drafts end in is within its limits.
+use Rattle.std.proofs.Common.{◌≡◌, ℕ, ◌+◌, Bool, true, false, ◌&&◌, nat_lt, nat_le, nat_eq, if◌then◌else◌, List, [], ◌∷◌, length, filter_map, Option, Some, None, is_some, ok_or, Result, Ok, Err, IfOk, refl, arith}
+use Rattle.std.specs.List.{list_all}
+use Rattle.std.specs.Option.{unwrap_or}
+use Rattle.std.proofs.lemmas.Bool.{ltb-true}
+use Rattle.its_types.specs.declared.ids.Addr.{Addr}
+use Rattle.its_types.specs.declared.machine.Limits.{Limits}
+use Rattle.its_plain.specs.declared.desc.Desc.{Desc}
+use Rattle.event_script.specs.Text.{parts, fields, is_text}
+use Rattle.event_script.specs.Fields.{arg}
+use Rattle.event_script.specs.Words.{keyword_of}
+use Rattle.event_script.specs.Description.{empty, at_start, is_ended, is_shard_count}
+use Rattle.event_script.specs.Body.{is_described}
+use Rattle.event_script.specs.Limits.{IsWithinLimits, is_phase, is_leg, are_limits}
+use Rattle.event_script.specs.Script.{is_skipped, words_line, line, default_limits, desc_of, script_from, finished, at_line, ◌then◌, parts_from, script_of}
+use Rattle.event_script.specs.declared.fault.Kind.{Kind}
+use Rattle.event_script.specs.declared.fault.Kind.TheVariants as kind
+use Rattle.event_script.specs.declared.fault.ScriptFault.{ScriptFault}
+use Rattle.event_script.specs.declared.draft.Draft.{Draft}
+use Rattle.event_script.specs.declared.draft.Stage.{Stage}
+use Rattle.event_script.specs.declared.draft.Stage.TheVariants as stage
+use Rattle.event_script.specs.declared.draft.TheConstants.{MOST_PHASES}
+use Rattle.event_script.proofs.Steps.{left_true, right_true, both_true, below, bound, bound_by, ensured, chosen}
+use Rattle.event_script.proofs.Good.{IsGood, given_shards, given_limits, in_body, empty_is_good, keyword_good}
+
+words_good : (d : Draft) (n : ℕ) (fs : List (List ℕ)) → IsGood d → IfOk (words_line d n fs) IsGood
+unfolding words_line
+words_good d n fs h = bound IsGood (keyword_of (arg fs 0)) _ (λ k. keyword_good d n k fs h)
+
+line_good : (d : Draft) (n : ℕ) (text : List ℕ) → IsGood d → IfOk (line d n text) IsGood
+unfolding line
+line_good d n text h =
+    ensured IsGood (is_text text) kind.Text _ (λ _.
+    chosen {A = Result Draft Kind} (λ r. IfOk r IsGood) (is_skipped (fields text)) _ _ (λ _. h) (λ _. words_good d n (fields text) h))
+
+-- ---- the end
+
+shards_known : (o : Option ℕ) → given_shards o ≡ true → IfOk (ok_or o kind.Missing) (λ n. is_shard_count n ≡ true)
+shards_known None e = tt
+shards_known (Some n) e = e
+
+limits_known : (o : Option Limits) → given_limits o ≡ true → are_limits (unwrap_or o default_limits) ≡ true
+limits_known None e = refl
+limits_known (Some l) e = e
+
+all_there : (tables : List (Option Addr)) → list_all is_some tables ≡ true → length (filter_map (λ table. table) tables) ≡ length tables
+all_there [] e = refl
+all_there (None ∷ tables) e = absurd (cc)
+all_there (Some table ∷ tables) e = omega (arith, all_there tables e)
+
+ended : (s : Stage) → is_ended s ≡ true → (in_body s ≡ true) × (at_start s ≡ false)
+ended stage.Start e = absurd (cc)
+ended stage.Description e = absurd (cc)
+ended stage.Phase e = absurd (cc)
+ended stage.Thread e = absurd (cc)
+ended stage.Ended e = (refl, refl)
+
+abbrev IsFit : Draft → Desc → Type 0
+IsFit d desc = IsWithinLimits (record { desc = desc; legs = d.phases ∷ [] })
+
+desc_fits : (d : Draft) → IsGood d → is_ended d.stage ≡ true → IfOk (desc_of d) (IsFit d)
+unfolding desc_of
+desc_fits d h over =
+    let is : is_described d ≡ true = h.described (ended d.stage over).0 in
+    let tables : Bool = list_all is_some d.pending in
+    let windows : Bool = nat_lt 0 (length d.windows) in
+    let before : (is_some d.shards && windows && is_some d.config) ≡ true = left_true (is_some d.shards && windows && is_some d.config) tables is in
+    let some_windows : windows ≡ true = right_true (is_some d.shards) windows (left_true (is_some d.shards && windows) (is_some d.config) before) in
+    let count : ℕ = length d.pending in
+    bound_by (IsFit d) (ok_or d.shards kind.Missing) (λ n. is_shard_count n ≡ true) _ (shards_known d.shards h.fair.shards) (λ shards known.
+    bound (IsFit d) (ok_or d.config kind.Missing) _ (λ config.
+    record {
+      description = record {
+        shape = record {
+          some_vcpus = h.fair.some (ended d.stage over).1;
+          most_vcpus = h.fair.few;
+          least_dev_bits = omega arith;
+          most_dev_bits = omega arith;
+          least_lpi_bits = omega arith;
+          most_lpi_bits = omega arith;
+        };
+        tables = all_there d.pending (right_true (is_some d.shards && windows && is_some d.config) tables is);
+      };
+      shards = known;
+      limits = limits_known d.limits h.fair.limits;
+      some_windows = ltb-true 0 (length d.windows) some_windows;
+      most_windows = h.fair.windows;
+      fills = h.fair.fills;
+      some_legs = omega arith;
+      most_legs = omega arith;
+      legs = both_true (is_leg count d.phases) true
+          (both_true (nat_le (length d.phases) MOST_PHASES) (list_all (is_phase count) d.phases) (below (length d.phases) MOST_PHASES (omega (arith, h.body.phase_room))) h.body.phases) refl;
+    }))
+
+script_fits : (d : Draft) → IsGood d → IfOk (script_from d) IsWithinLimits
+unfolding script_from
+script_fits d h =
+    ensured IsWithinLimits (is_ended d.stage) kind.Missing _ (λ over. bound_by IsWithinLimits (desc_of d) (IsFit d) _ (desc_fits d h over) (λ desc fit. fit))
+
+finished_fits : (d : Draft) (last : List ℕ) → IsGood d → IfOk (finished d last) IsWithinLimits
+unfolding finished
+finished_fits d last h = ensured IsWithinLimits (nat_eq (length last) 0) kind.Cut _ (λ _. script_fits d h)
+
+-- ---- all lines
+
+numbered : {A : Type 0} (P : A → Type 0) (n : ℕ) (r : Result A Kind) → IfOk r P → IfOk (at_line n r) P
+numbered P n (Ok x) h = h
+numbered P n (Err k) h = tt
+
+followed : {A B : Type 0} (P : A → Type 0) (Q : B → Type 0) (n : ℕ) (r : Result A Kind) (f : A → Result B ScriptFault) → IfOk r P → ((x : A) → P x → IfOk (f x) Q) → IfOk (at_line n r then f) Q
+followed P Q n (Ok x) f p q = q x p
+followed P Q n (Err k) f p q = tt
+
+parts_fit : (n : ℕ) (d : Draft) (ps : List (List ℕ)) → IsGood d → IfOk (parts_from n d ps) IsWithinLimits
+parts_fit n d [] h = numbered IsWithinLimits n (script_from d) (script_fits d h)
+parts_fit n d (last ∷ []) h = numbered IsWithinLimits n (finished d last) (finished_fits d last h)
+parts_fit n d (text ∷ (next ∷ rest)) h =
+    followed IsGood IsWithinLimits n (line d n text) (λ e. parts_from (n + 1) e (next ∷ rest)) (line_good d n text h) (λ e good. parts_fit (n + 1) e (next ∷ rest) good)
+
+pub scripts_fit : (bytes : List ℕ) → IfOk (script_of bytes) IsWithinLimits
+unfolding script_of
+scripts_fit bytes = parts_fit 1 empty (parts bytes) empty_is_good

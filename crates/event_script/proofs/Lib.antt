@@ -1,0 +1,7 @@
+pub mod Numbers
+pub mod Hex
+pub mod Lines
+pub mod Steps
+pub mod Calling
+pub mod Good
+pub mod Bounds

@@ -1,0 +1,126 @@
+-- The lines of a description. Each gives the draft with what it says, or the kind of its first fault.
+use Rattle.std.specs.Prelude.{ℕ, ◌-◌, ◌^◌, Bool, true, false, not, ◌&&◌, ◌||◌, ◌==◌, nat_lt, List, [], ◌∷◌, ◌++◌, length, replicate, slice_index_or, slice_set, Option, Some, None, is_some, is_none, Result, Ok}
+use Rattle.byteorder.specs.Endian.{little_bytes}
+use Rattle.its_types.specs.declared.ids.Addr.{Addr}
+use Rattle.event_script.specs.Text.{number}
+use Rattle.event_script.specs.Outcome.{◌>>=◌, ensure}
+use Rattle.event_script.specs.Fields.{arg, number_within, any_number, address, processor, bytes_within}
+use Rattle.event_script.specs.declared.fault.Kind.{Kind}
+use Rattle.event_script.specs.declared.fault.Kind.TheVariants as kind
+use Rattle.event_script.specs.declared.draft.Draft.{Draft}
+use Rattle.event_script.specs.declared.draft.Stage.{Stage}
+use Rattle.event_script.specs.declared.draft.Stage.TheVariants as stage
+
+-- ---- how far a script has come
+
+abbrev pub at_start : Stage → Bool
+at_start stage.Start = true
+at_start s = false
+
+abbrev pub in_description : Stage → Bool
+in_description stage.Description = true
+in_description s = false
+
+abbrev pub in_phase : Stage → Bool
+in_phase stage.Phase = true
+in_phase s = false
+
+abbrev pub in_thread : Stage → Bool
+in_thread stage.Thread = true
+in_thread s = false
+
+abbrev pub is_ended : Stage → Bool
+is_ended stage.Ended = true
+is_ended s = false
+
+-- nothing was read
+abbrev pub empty : Draft
+empty = record {
+  stage = stage.Start;
+  shards = None;
+  limits = None;
+  windows = [];
+  config = None;
+  pending = [];
+  fills = [];
+  phases = [];
+  threads = [];
+  calls = [];
+}
+
+-- ---- lines
+
+unfoldable pub vcpus_line : Draft → List (List ℕ) → Result Draft Kind
+vcpus_line d fs = do
+  _ ← ensure (at_start d.stage) kind.Order
+  _ ← ensure (length fs == 2) kind.Fields
+  n ← number_within 1 16 (arg fs 1)
+  Ok (record d { stage = stage.Description; pending = replicate n None })
+
+abbrev pub is_shard_count : ℕ → Bool
+is_shard_count n = n == 1 || n == 2 || n == 4 || n == 8 || n == 16 || n == 32 || n == 64
+
+unfoldable pub shards_line : Draft → List (List ℕ) → Result Draft Kind
+shards_line d fs = do
+  _ ← ensure (in_description d.stage && is_none d.shards) kind.Order
+  _ ← ensure (length fs == 2) kind.Fields
+  n ← number_within 1 64 (arg fs 1)
+  _ ← ensure (is_shard_count n) kind.Number
+  Ok (record d { shards = Some n })
+
+unfoldable pub limits_line : Draft → List (List ℕ) → Result Draft Kind
+limits_line d fs = do
+  _ ← ensure (in_description d.stage && is_none d.limits) kind.Order
+  _ ← ensure (length fs == 3) kind.Fields
+  stamp ← number_within 1 (2 ^ 24 - 1) (arg fs 1)
+  place ← number_within 1 (2 ^ 40 - 1) (arg fs 2)
+  Ok (record d { limits = Some (record { stamp_last = stamp; place_last = place }) })
+
+unfoldable pub window_line : Draft → List (List ℕ) → Result Draft Kind
+window_line d fs = do
+  _ ← ensure (in_description d.stage) kind.Order
+  _ ← ensure (length fs == 3) kind.Fields
+  base ← address (arg fs 1)
+  len ← any_number (arg fs 2)
+  _ ← ensure (nat_lt (length d.windows) 16) kind.Many
+  Ok (record d { windows = d.windows ++ (base, len) ∷ [] })
+
+unfoldable pub config_line : Draft → List (List ℕ) → Result Draft Kind
+config_line d fs = do
+  _ ← ensure (in_description d.stage && is_none d.config) kind.Order
+  _ ← ensure (length fs == 2) kind.Fields
+  base ← address (arg fs 1)
+  Ok (record d { config = Some base })
+
+-- a pending table that was given already, where the number is that of a processor
+abbrev pub is_given : List (Option Addr) → Option ℕ → Bool
+is_given tables None = false
+is_given tables (Some vcpu) = is_some (slice_index_or tables vcpu None)
+
+unfoldable pub pending_line : Draft → List (List ℕ) → Result Draft Kind
+pending_line d fs = do
+  _ ← ensure (in_description d.stage && not (is_given d.pending (number (arg fs 1)))) kind.Order
+  _ ← ensure (length fs == 3) kind.Fields
+  vcpu ← processor (length d.pending) (arg fs 1)
+  base ← address (arg fs 2)
+  Ok (record d { pending = slice_set d.pending vcpu.0 (Some base) })
+
+-- with bytes for the memory, from the n-th line
+abbrev pub with_fill : Draft → ℕ → Addr → List ℕ → Draft
+with_fill d n addr bytes = record d { fills = d.fills ++ record { line = n; addr = addr; bytes = bytes } ∷ [] }
+
+unfoldable pub bytes_line : Draft → ℕ → List (List ℕ) → Result Draft Kind
+bytes_line d n fs = do
+  _ ← ensure (in_description d.stage) kind.Order
+  _ ← ensure (length fs == 3) kind.Fields
+  addr ← address (arg fs 1)
+  bytes ← bytes_within 4096 (arg fs 2)
+  Ok (with_fill d n addr bytes)
+
+-- a `word` line of the description
+unfoldable pub word_fill_line : Draft → ℕ → List (List ℕ) → Result Draft Kind
+word_fill_line d n fs = do
+  _ ← ensure (length fs == 3) kind.Fields
+  addr ← address (arg fs 1)
+  value ← any_number (arg fs 2)
+  Ok (with_fill d n addr (little_bytes 8 value))

@@ -1,0 +1,10 @@
+pub mod Text
+pub mod Outcome
+pub mod Fields
+pub mod Words
+pub mod Description
+pub mod Commands
+pub mod Calls
+pub mod Body
+pub mod Script
+pub mod Limits

@@ -1,0 +1,104 @@
+-- Scripts: what the bytes of one say, or its first faulty line with that line's first kind.
+use Rattle.std.specs.Prelude.{◌≡◌, ℕ, ◌+◌, ◌-◌, ◌^◌, Bool, ◌||◌, ◌==◌, if◌then◌else◌, List, [], ◌∷◌, length, slice_index, filter_map, None, Result, Ok, Err}
+use Rattle.std.specs.Option.{ok_or, unwrap_or}
+use Rattle.its_types.specs.declared.machine.Limits.{Limits}
+use Rattle.its_types.specs.declared.machine.Profile.TheVariants.{One}
+use Rattle.its_plain.specs.declared.desc.Desc.{Desc}
+use Rattle.event_script.specs.Text.{parts, fields, is_text}
+use Rattle.event_script.specs.Outcome.{◌>>=◌, ensure}
+use Rattle.event_script.specs.Fields.{arg}
+use Rattle.event_script.specs.Words.{keyword_of}
+use Rattle.event_script.specs.Description.{empty, is_ended}
+use Rattle.event_script.specs.Body.{keyword_line}
+use Rattle.event_script.specs.declared.fault.Kind.{Kind}
+use Rattle.event_script.specs.declared.fault.Kind.TheVariants as kind
+use Rattle.event_script.specs.declared.fault.ScriptFault.{ScriptFault}
+use Rattle.event_script.specs.declared.fault.ParseError.{ParseError}
+use Rattle.event_script.specs.declared.fault.ParseError.TheVariants as error
+use Rattle.event_script.specs.declared.draft.Draft.{Draft}
+use Rattle.event_script.specs.declared.script.Script.{Script}
+
+-- ---- one line
+
+-- blank, or a remark
+abbrev pub is_skipped : List (List ℕ) → Bool
+is_skipped fs = length fs == 0 || slice_index (arg fs 0) 0 == 35
+
+unfoldable pub words_line : Draft → ℕ → List (List ℕ) → Result Draft Kind
+words_line d n fs = do
+  k ← keyword_of (arg fs 0)
+  keyword_line d n k fs
+
+-- the n-th line, without its line end
+unfoldable pub line : Draft → ℕ → List ℕ → Result Draft Kind
+line d n text = do
+  _ ← ensure (is_text text) kind.Text
+  if is_skipped (fields text) then Ok d else words_line d n (fields text)
+
+-- ---- what a draft says
+
+abbrev pub default_limits : Limits
+default_limits = record { stamp_last = 2 ^ 24 - 1; place_last = 2 ^ 40 - 1 }
+
+-- the description, where all of it is there
+unfoldable pub desc_of : Draft → Result Desc Kind
+desc_of d = do
+  shards ← ok_or d.shards kind.Missing
+  config ← ok_or d.config kind.Missing
+  Ok (record {
+    shape = record { vcpus = length d.pending; dev_bits = 16; lpi_bits = 16; profile = One };
+    shards = shards;
+    limits = unwrap_or d.limits default_limits;
+    windows = d.windows;
+    config = config;
+    pending = filter_map (λ table. table) d.pending;
+    fills = d.fills;
+    restore = None;
+  })
+
+-- the script of a draft that ended, which has one leg
+unfoldable pub script_from : Draft → Result Script Kind
+script_from d = do
+  _ ← ensure (is_ended d.stage) kind.Missing
+  desc ← desc_of d
+  Ok (record { desc = desc; legs = d.phases ∷ [] })
+
+-- no line ends a leg but the last one, so there is one
+abbrev pub HasOneLeg : Script → Type 0
+HasOneLeg script = length script.legs ≡ 1
+
+-- what stands behind the last line end is no line
+unfoldable pub finished : Draft → List ℕ → Result Script Kind
+finished d last = do
+  _ ← ensure (length last == 0) kind.Cut
+  script_from d
+
+-- ---- the whole of it
+
+-- a fault has the number of its line
+abbrev pub at_line : {A : Type 0} → ℕ → Result A Kind → Result A ScriptFault
+at_line n (Ok x) = Ok x
+at_line n (Err k) = Err (record { line = n; kind = k })
+
+infixl 10 ◌then◌
+abbrev pub ◌then◌ : {A B : Type 0} → Result A ScriptFault → (A → Result B ScriptFault) → Result B ScriptFault
+(Ok x) then f = f x
+(Err e) then f = Err e
+
+-- the parts from the n-th on: all but the last are lines
+abbrev pub parts_from : ℕ → Draft → List (List ℕ) → Result Script ScriptFault
+parts_from n d [] = at_line n (script_from d)
+parts_from n d (last ∷ []) = at_line n (finished d last)
+parts_from n d (text ∷ (next ∷ rest)) = at_line n (line d n text) then λ e. parts_from (n + 1) e (next ∷ rest)
+
+unfoldable pub script_of : List ℕ → Result Script ScriptFault
+script_of bytes = parts_from 1 empty (parts bytes)
+
+-- the answer to some bytes: their script or its first fault, unless memory ran out
+abbrev pub FailsAs : ParseError → Result Script ScriptFault → Type 0
+FailsAs error.NoMemory read = Unit {0}
+FailsAs (error.Fault fault) read = read ≡ Err fault
+
+abbrev pub IsAnswer : Result Script ParseError → Result Script ScriptFault → Type 0
+IsAnswer (Ok script) read = read ≡ Ok script
+IsAnswer (Err e) read = FailsAs e read

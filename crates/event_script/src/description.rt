@@ -1,0 +1,165 @@
+//! The lines of a description.
+ghost use Rattle.std.specs.Prelude.{◌≡◌, map};
+ghost use Rattle.event_script.specs.Outcome.{Gives};
+ghost use Rattle.event_script.specs.Description as spec;
+ghost use Rattle.event_script.specs.Text.{number};
+
+use crate::draft::{Draft, Stage};
+use crate::fault::{Kind, LineError, ensure};
+use crate::fields::{address, any_number, arg, bytes_within, number_within, processor};
+use crate::places::PendingTables;
+use crate::text;
+use its_plain::Fill;
+use its_types::{Limits, Listed};
+use std::alloc::Global;
+
+impl Draft {
+    /// Whether the description is open.
+    pub fn describes(&self) -> bool
+        ensures { result ≡ spec.in_description self.now.stage }
+    {
+        self.stage == Stage::Description
+    }
+
+    #[tactic(auto, unfolding(crate::specs::Description::vcpus_line))]
+    pub fn vcpus_line(&mut self, alloc: Global, fields: &[&[u8]]) -> Result<(), LineError>
+        ensures { Gives (λ _. self.new) result (spec.vcpus_line self.old (map (λ f. f.now) fields.now)) }
+    {
+        ensure(self.stage == Stage::Start, Kind::Order)?;
+        ensure(fields.len() == 2, Kind::Fields)?;
+        let count = number_within(1, 16, arg(fields, 1))?;
+        self.pending = PendingTables::of(alloc, count as u8)?;
+        self.stage = Stage::Description;
+        Ok(())
+    }
+
+    #[tactic(auto, unfolding(crate::specs::Description::shards_line))]
+    pub fn shards_line(&mut self, fields: &[&[u8]]) -> Result<(), LineError>
+        ensures { Gives (λ _. self.new) result (spec.shards_line self.old (map (λ f. f.now) fields.now)) }
+    {
+        let first = self.describes() && self.shards.is_none();
+        ensure(first, Kind::Order)?;
+        ensure(fields.len() == 2, Kind::Fields)?;
+        let count = number_within(1, 64, arg(fields, 1))?;
+        ensure(is_shard_count(count), Kind::Number)?;
+        self.shards = Some(count as u32);
+        Ok(())
+    }
+
+    #[tactic(auto, unfolding(crate::specs::Description::limits_line))]
+    pub fn limits_line(&mut self, fields: &[&[u8]]) -> Result<(), LineError>
+        ensures { Gives (λ _. self.new) result (spec.limits_line self.old (map (λ f. f.now) fields.now)) }
+    {
+        let first = self.describes() && self.limits.is_none();
+        ensure(first, Kind::Order)?;
+        ensure(fields.len() == 3, Kind::Fields)?;
+        let stamp = number_within(1, (1 << 24) - 1, arg(fields, 1))?;
+        let place = number_within(1, (1 << 40) - 1, arg(fields, 2))?;
+        self.limits = Some(Limits {
+            stamp_last: stamp as u32,
+            place_last: place,
+        });
+        Ok(())
+    }
+
+    #[tactic(auto, unfolding(crate::specs::Description::window_line))]
+    pub fn window_line(&mut self, fields: &[&[u8]]) -> Result<(), LineError>
+        ensures { Gives (λ _. self.new) result (spec.window_line self.old (map (λ f. f.now) fields.now)) }
+    {
+        ensure(self.describes(), Kind::Order)?;
+        ensure(fields.len() == 3, Kind::Fields)?;
+        let base = address(arg(fields, 1))?;
+        let len = any_number(arg(fields, 2))?;
+        ensure(self.windows.len() < 16, Kind::Many)?;
+        self.windows.push((base, len))?;
+        Ok(())
+    }
+
+    #[tactic(auto, unfolding(crate::specs::Description::config_line))]
+    pub fn config_line(&mut self, fields: &[&[u8]]) -> Result<(), LineError>
+        ensures { Gives (λ _. self.new) result (spec.config_line self.old (map (λ f. f.now) fields.now)) }
+    {
+        let first = self.describes() && self.config.is_none();
+        ensure(first, Kind::Order)?;
+        ensure(fields.len() == 2, Kind::Fields)?;
+        self.config = Some(address(arg(fields, 1))?);
+        Ok(())
+    }
+
+    #[tactic(auto, unfolding(crate::specs::Description::pending_line))]
+    pub fn pending_line(&mut self, fields: &[&[u8]]) -> Result<(), LineError>
+        ensures { Gives (λ _. self.new) result (spec.pending_line self.old (map (λ f. f.now) fields.now)) }
+    {
+        let again = is_given(&self.pending, arg(fields, 1));
+        ensure(self.describes() && !again, Kind::Order)?;
+        ensure(fields.len() == 3, Kind::Fields)?;
+        let vcpu = processor(self.pending.count(), arg(fields, 1))?;
+        let table = address(arg(fields, 2))?;
+        self.pending.give(vcpu.0, table);
+        Ok(())
+    }
+
+    #[tactic(auto, unfolding(crate::specs::Description::bytes_line))]
+    pub fn bytes_line(
+        &mut self,
+        alloc: Global,
+        number: u64,
+        fields: &[&[u8]],
+    ) -> Result<(), LineError>
+        ensures { Gives (λ _. self.new) result (spec.bytes_line self.old number (map (λ f. f.now) fields.now)) }
+    {
+        ensure(self.describes(), Kind::Order)?;
+        ensure(fields.len() == 3, Kind::Fields)?;
+        let addr = address(arg(fields, 1))?;
+        let bytes = bytes_within(alloc, 4096, arg(fields, 2))?;
+        self.fills.push(Fill {
+            line: number,
+            addr,
+            bytes,
+        })?;
+        Ok(())
+    }
+
+    #[tactic(auto, unfolding(crate::specs::Description::word_fill_line))]
+    pub fn word_fill_line(
+        &mut self,
+        alloc: Global,
+        number: u64,
+        fields: &[&[u8]],
+    ) -> Result<(), LineError>
+        ensures { Gives (λ _. self.new) result (spec.word_fill_line self.old number (map (λ f. f.now) fields.now)) }
+    {
+        ensure(fields.len() == 3, Kind::Fields)?;
+        let addr = address(arg(fields, 1))?;
+        let value = any_number(arg(fields, 2))?;
+        let bytes = Listed::from_vec(value.to_le_bytes().to_vec(alloc)?);
+        self.fills.push(Fill {
+            line: number,
+            addr,
+            bytes,
+        })?;
+        Ok(())
+    }
+}
+
+fn is_shard_count(count: u64) -> bool
+    ensures { result ≡ spec.is_shard_count count }
+{
+    count == 1
+        || count == 2
+        || count == 4
+        || count == 8
+        || count == 16
+        || count == 32
+        || count == 64
+}
+
+/// Whether a field is the number of a processor whose table was given.
+fn is_given(tables: &PendingTables, field: &[u8]) -> bool
+    ensures { result ≡ spec.is_given tables.now (number field.now) }
+{
+    match text::number(field) {
+        Some(vcpu) => tables.is_given(vcpu),
+        None => false,
+    }
+}

@@ -1,0 +1,23 @@
+//! Scripts: a description of a machine, and the calls that threads make on it.
+#![tactic(auto)]
+
+mod body;
+mod calls;
+mod commands;
+mod description;
+mod draft;
+mod fault;
+mod fields;
+mod laws;
+mod places;
+mod reading;
+mod script;
+#[cfg(test)]
+mod tests;
+mod text;
+mod words;
+
+pub use fault::{Kind, ParseError, ScriptFault};
+pub use laws::scripts_are_within_limits;
+pub use reading::parse;
+pub use script::{Leg, Phase, Script, Thread};

@@ -1,0 +1,173 @@
+//! A whole script, line by line.
+ghost use Rattle.std.specs.Prelude.{◌≡◌, ◌<◌, ◌+◌, ◌∷◌, [], ◌==◌, map, position, drop, length, IfNone, IfSome, IfOk};
+ghost use Rattle.event_script.specs.Outcome.{Gives};
+ghost use Rattle.event_script.specs.Description as description;
+ghost use Rattle.event_script.specs.Script as spec;
+ghost use Rattle.event_script.specs.Text.{parts};
+
+use crate::draft::{Draft, Stage};
+use crate::fault::{Kind, LineError, ParseError, ensure};
+use crate::fields::arg;
+use crate::places::PendingTables;
+use crate::script::Script;
+use crate::text;
+use crate::words::keyword_of;
+use its_plain::Desc;
+use its_types::{Limits, Listed, Profile, Shape};
+use std::alloc::Global;
+
+/// The limits where no line gives others.
+const DEFAULT_LIMITS: Limits = Limits {
+    stamp_last: 16_777_215,
+    place_last: 1_099_511_627_775,
+};
+
+/// The script that the bytes are, or their first faulty line and what is wrong with it.
+#[tactic(auto, unfolding(crate::specs::Script::script_of))]
+pub fn parse(alloc: Global, bytes: &[u8]) -> Result<Script, ParseError>
+    ensures answer { spec.IsAnswer result (spec.script_of bytes.now) }
+    ensures one_leg { IfOk result spec.HasOneLeg }
+{
+    let mut draft = Draft::new(alloc);
+    let mut rest = bytes;
+    let mut fields = Vec::new(alloc);
+    let mut number = 1;
+    while let Some((line, more)) = split_line(rest) {
+        if let Err(error) = draft.line(alloc, number, line, &mut fields) {
+            return Err(error.at(number));
+        }
+        rest = more;
+        number += 1;
+    }
+    finish(alloc, number, draft, rest)
+}
+
+/// The first line, without its end, and what follows it.
+fn split_line(text: &[u8]) -> Option<(&[u8], &[u8])>
+    ensures last { IfNone result (parts text.now ≡ text.now ∷ []) }
+    ensures first { IfSome result (λ p. parts text.now ≡ p.0.now ∷ parts p.1.now) }
+    ensures shorter { IfSome result (λ p. length p.1.now < length text.now) }
+{
+    let end = line_end(text)?;
+    Some((&text[..end], after(text, end)))
+}
+
+/// What follows a place.
+fn after(text: &[u8], end: usize) -> &[u8]
+    requires { end < length text.now }
+    ensures rest { result.now ≡ drop (end + 1) text.now }
+    ensures shorter { length result.now < length text.now }
+{
+    &text[end + 1..]
+}
+
+/// Where the first line ends.
+fn line_end(text: &[u8]) -> Option<usize>
+    ensures place { result ≡ position (λ b. b == 10) text.now }
+    ensures inside { IfSome result (λ end. end < length text.now) }
+{
+    text.iter().position(|b| *b == b'\n')
+}
+
+/// The script of a draft, if it ended and nothing stands behind its last line end.
+fn finish(alloc: Global, number: u64, draft: Draft, last: &[u8]) -> Result<Script, ParseError>
+    ensures answer { spec.IsAnswer result (spec.at_line number (spec.finished draft last.now)) }
+    ensures one_leg { IfOk result spec.HasOneLeg }
+{
+    match finished(alloc, draft, last) {
+        Ok(script) => Ok(script),
+        Err(error) => Err(error.at(number)),
+    }
+}
+
+#[tactic(auto, unfolding(crate::specs::Script::finished))]
+fn finished(alloc: Global, draft: Draft, last: &[u8]) -> Result<Script, LineError>
+    ensures script { Gives (λ script. script) result (spec.finished draft last.now) }
+    ensures one_leg { IfOk result spec.HasOneLeg }
+{
+    ensure(last.is_empty(), Kind::Cut)?;
+    script_from(alloc, draft)
+}
+
+#[tactic(auto, unfolding(crate::specs::Script::script_from, crate::specs::Script::desc_of))]
+fn script_from(alloc: Global, draft: Draft) -> Result<Script, LineError>
+    ensures script { Gives (λ script. script) result (spec.script_from draft) }
+    ensures one_leg { IfOk result spec.HasOneLeg }
+{
+    ensure(draft.stage == Stage::Ended, Kind::Missing)?;
+    let shards = draft.shards.ok_or(Kind::Missing)?;
+    let config = draft.config.ok_or(Kind::Missing)?;
+    let vcpus = draft.pending.count();
+    let pending = draft.pending.tables(alloc)?;
+    let mut legs = Listed::new(alloc);
+    legs.push(draft.phases)?;
+    let desc = Desc {
+        shape: Shape {
+            vcpus,
+            dev_bits: 16,
+            lpi_bits: 16,
+            profile: Profile::One,
+        },
+        shards,
+        limits: draft.limits.unwrap_or(DEFAULT_LIMITS),
+        windows: draft.windows,
+        config,
+        pending,
+        fills: draft.fills,
+        restore: None,
+    };
+    Ok(Script { desc, legs })
+}
+
+impl Draft {
+    fn new(alloc: Global) -> Draft
+        ensures { result ≡ description.empty }
+    {
+        Draft {
+            stage: Stage::Start,
+            shards: None,
+            limits: None,
+            windows: Listed::new(alloc),
+            config: None,
+            pending: PendingTables::none(alloc),
+            fills: Listed::new(alloc),
+            phases: Listed::new(alloc),
+            threads: Listed::new(alloc),
+            calls: Listed::new(alloc),
+        }
+    }
+
+    /// Reads the line with a number, without its line end. The list is for its fields.
+    #[tactic(auto, unfolding(crate::specs::Script::line))]
+    fn line<'a>(
+        &mut self,
+        alloc: Global,
+        number: u64,
+        line: &'a [u8],
+        fields: &mut Vec<&'a [u8]>,
+    ) -> Result<(), LineError>
+        ensures { Gives (λ _. self.new) result (spec.line self.old number line.now) }
+    {
+        ensure(text::is_text(line), Kind::Text)?;
+        text::split_fields(fields, line)?;
+        if is_skipped(fields) {
+            return Ok(());
+        }
+        self.words_line(alloc, number, fields)
+    }
+
+    #[tactic(auto, unfolding(crate::specs::Script::words_line))]
+    fn words_line(&mut self, alloc: Global, number: u64, fields: &[&[u8]]) -> Result<(), LineError>
+        ensures { Gives (λ _. self.new) result (spec.words_line self.old number (map (λ f. f.now) fields.now)) }
+    {
+        let keyword = keyword_of(arg(fields, 0))?;
+        self.keyword_line(alloc, number, keyword, fields)
+    }
+}
+
+/// Blank, or a remark.
+fn is_skipped(fields: &[&[u8]]) -> bool
+    ensures { result ≡ spec.is_skipped (map (λ f. f.now) fields.now) }
+{
+    fields.is_empty() || arg(fields, 0).first() == Some(&b'#')
+}

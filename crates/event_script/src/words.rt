@@ -1,0 +1,138 @@
+//! The words that lines begin with, and those of commands.
+ghost use Rattle.std.specs.Prelude.{◌≡◌};
+ghost use Rattle.event_script.specs.Words as spec;
+ghost use Rattle.event_script.specs.Commands as commands;
+
+use crate::fault::Kind;
+
+/// The first word of a line.
+#[derive(Clone, Copy, Debug, PartialEq, Eq)]
+pub enum Keyword {
+    Vcpus,
+    Shards,
+    Limits,
+    Window,
+    Config,
+    Pending,
+    Bytes,
+    Word,
+    Phase,
+    Thread,
+    End,
+    Signal,
+    Take,
+    Show,
+    Poke,
+    Peek,
+    Command,
+    Read,
+    Write,
+    Step,
+}
+
+/// The word of a command.
+#[derive(Clone, Copy, Debug, PartialEq, Eq)]
+pub enum CommandWord {
+    Mapd,
+    Unmapd,
+    Mapc,
+    Unmapc,
+    Mapti,
+    Mapi,
+    Movi,
+    Movall,
+    Int,
+    Clear,
+    Discard,
+    Inv,
+    Invall,
+    Sync,
+}
+
+/// The first word of a line; those of calls are tried first.
+#[tactic(auto, unfolding(crate::specs::Words::keyword_of))]
+pub fn keyword_of(word: &[u8]) -> Result<Keyword, Kind>
+    ensures { result ≡ spec.keyword_of word.now }
+{
+    if word == b"signal".as_slice() {
+        Ok(Keyword::Signal)
+    } else if word == b"take".as_slice() {
+        Ok(Keyword::Take)
+    } else if word == b"show".as_slice() {
+        Ok(Keyword::Show)
+    } else if word == b"step".as_slice() {
+        Ok(Keyword::Step)
+    } else if word == b"command".as_slice() {
+        Ok(Keyword::Command)
+    } else if word == b"write".as_slice() {
+        Ok(Keyword::Write)
+    } else if word == b"read".as_slice() {
+        Ok(Keyword::Read)
+    } else if word == b"poke".as_slice() {
+        Ok(Keyword::Poke)
+    } else if word == b"peek".as_slice() {
+        Ok(Keyword::Peek)
+    } else if word == b"word".as_slice() {
+        Ok(Keyword::Word)
+    } else if word == b"bytes".as_slice() {
+        Ok(Keyword::Bytes)
+    } else if word == b"thread".as_slice() {
+        Ok(Keyword::Thread)
+    } else if word == b"phase".as_slice() {
+        Ok(Keyword::Phase)
+    } else if word == b"vcpus".as_slice() {
+        Ok(Keyword::Vcpus)
+    } else if word == b"shards".as_slice() {
+        Ok(Keyword::Shards)
+    } else if word == b"limits".as_slice() {
+        Ok(Keyword::Limits)
+    } else if word == b"window".as_slice() {
+        Ok(Keyword::Window)
+    } else if word == b"config".as_slice() {
+        Ok(Keyword::Config)
+    } else if word == b"pending".as_slice() {
+        Ok(Keyword::Pending)
+    } else if word == b"end".as_slice() {
+        Ok(Keyword::End)
+    } else {
+        Err(Kind::Word)
+    }
+}
+
+/// The word of a command.
+#[tactic(auto, unfolding(crate::specs::Commands::command_word_of))]
+pub fn command_word_of(word: &[u8]) -> Result<CommandWord, Kind>
+    ensures { result ≡ commands.command_word_of word.now }
+{
+    if word == b"mapti".as_slice() {
+        Ok(CommandWord::Mapti)
+    } else if word == b"mapi".as_slice() {
+        Ok(CommandWord::Mapi)
+    } else if word == b"mapd".as_slice() {
+        Ok(CommandWord::Mapd)
+    } else if word == b"unmapd".as_slice() {
+        Ok(CommandWord::Unmapd)
+    } else if word == b"mapc".as_slice() {
+        Ok(CommandWord::Mapc)
+    } else if word == b"unmapc".as_slice() {
+        Ok(CommandWord::Unmapc)
+    } else if word == b"movi".as_slice() {
+        Ok(CommandWord::Movi)
+    } else if word == b"movall".as_slice() {
+        Ok(CommandWord::Movall)
+    } else if word == b"int".as_slice() {
+        Ok(CommandWord::Int)
+    } else if word == b"clear".as_slice() {
+        Ok(CommandWord::Clear)
+    } else if word == b"discard".as_slice() {
+        Ok(CommandWord::Discard)
+    } else if word == b"inv".as_slice() {
+        Ok(CommandWord::Inv)
+    } else if word == b"invall".as_slice() {
+        Ok(CommandWord::Invall)
+    } else if word == b"sync".as_slice() {
+        Ok(CommandWord::Sync)
+    } else {
+        Err(Kind::Fields)
+    }
+}

@@ -1,0 +1,3 @@
+pub mod ThreadLines
+pub mod Unique
+pub mod Merges

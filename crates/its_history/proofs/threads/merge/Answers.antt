@@ -1,0 +1,13 @@
+use Rattle.std.proofs.Common.{◌≡◌, ℕ, List, rules, subst, sym}
+use Rattle.std.specs.List.Sorted.{IsNonDecreasingBy}
+use Rattle.std.proofs.lemmas.List.Sorted.{IsNonDecreasingBy-from_sort_by_key}
+use Rattle.its_history.specs.Merged.{first_entries}
+use Rattle.its_history.specs.declared.trace.EntryLine.{EntryLine}
+use Rattle.its_history.proofs.threads.merge.Goals as goal
+
+pub returns-clause-rises : goal.returns-clause-rises
+returns-clause-rises c =
+    let by_place : EntryLine → ℕ = λ l. l.place in
+    let rising : IsNonDecreasingBy by_place c.sort_by_key.new.self.items = IsNonDecreasingBy-from_sort_by_key by_place _ c.in_ok-sort_by_key.ensures.sorted (λ a r q k. search rules) in
+    let same : first_entries c.push.new.self ≡ c.sort_by_key.new.self.items = search rules in
+    subst (λ (ls : List EntryLine). IsNonDecreasingBy by_place ls) (sym same) rising

@@ -1,0 +1,4 @@
+pub mod Texts
+pub mod Report
+pub mod Merged
+pub mod Histories

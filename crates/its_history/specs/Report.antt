@@ -1,0 +1,51 @@
+-- The report of a run: legs from 1; in each the entries by place, a line for each virtual processor, and how it ended.
+use Rattle.std.specs.Prelude.{ℕ, ◌+◌, List, [], ◌∷◌, ◌++◌, codes, Option, Some, None}
+use Rattle.std.specs.List.{flat_map}
+use Rattle.std.specs.Fmt.{decimal}
+use Rattle.its_plain.specs.declared.call.Call.{Call}
+use Rattle.its_plain.specs.declared.call.Reply.{Reply}
+use Rattle.its_history.specs.Texts.{answered_text}
+use Rattle.its_history.specs.declared.trace.End.{End}
+use Rattle.its_history.specs.declared.trace.End.TheVariants.{Migrated, Done}
+use Rattle.its_history.specs.declared.trace.EntryLine.{EntryLine}
+use Rattle.its_history.specs.declared.trace.Leg.{Leg}
+
+-- the line of an entry, without its end: its place, its phase and thread, its text
+unfoldable pub line_text : EntryLine → List ℕ
+line_text l = decimal l.place ++ codes " " ++ decimal l.phase ++ codes "." ++ decimal l.thread ++ codes " " ++ l.text
+
+abbrev pub line_of : ℕ → ℕ → ℕ → Call → Reply → EntryLine
+line_of place phase thread c r = record { place = place; phase = phase; thread = thread; text = answered_text c r }
+
+abbrev pub entry_text : ℕ → ℕ → ℕ → Call → Reply → List ℕ
+entry_text place phase thread c r = line_text (line_of place phase thread c r)
+
+-- the interrupts that are pending, with a space between each two, or none
+abbrev pub pending_text : List ℕ → List ℕ
+pending_text [] = codes "none"
+pending_text (n ∷ ns) = decimal n ++ flat_map (λ m. codes " " ++ decimal m) ns
+
+unfoldable pub vcpu_line : ℕ → List ℕ → List ℕ
+vcpu_line vcpu pending = codes "vcpu " ++ decimal vcpu ++ codes " pending " ++ pending ++ codes "\n"
+
+abbrev pub vcpu_lines_from : ℕ → List (List ℕ) → List ℕ
+vcpu_lines_from vcpu [] = []
+vcpu_lines_from vcpu (pending ∷ others) = vcpu_line vcpu pending ++ vcpu_lines_from (vcpu + 1) others
+
+abbrev pub entry_lines : List EntryLine → List ℕ
+entry_lines lines = flat_map (λ l. line_text l ++ codes "\n") lines
+
+unfoldable pub end_text : Option End → List ℕ
+end_text None = []
+end_text (Some Migrated) = codes "migrated\n"
+end_text (Some Done) = codes "done\n"
+
+unfoldable pub leg_text : ℕ → Leg → List ℕ
+leg_text number leg = codes "leg " ++ decimal number ++ codes "\n" ++ entry_lines leg.entries ++ vcpu_lines_from 0 leg.pending ++ end_text leg.end
+
+abbrev pub legs_from : ℕ → List Leg → List ℕ
+legs_from number [] = []
+legs_from number (leg ∷ legs) = leg_text number leg ++ legs_from (number + 1) legs
+
+abbrev pub report_text : List Leg → List ℕ
+report_text legs = legs_from 1 legs

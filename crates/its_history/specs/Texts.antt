@@ -1,0 +1,96 @@
+-- How calls and replies are printed: addresses, register offsets and values, priorities and opcodes without a name as 0x and
+-- hexadecimal digits, bytes as hexadecimal digits, all other numbers in decimal.
+use Rattle.std.specs.Prelude.{ℕ, false, List, ◌++◌, codes}
+use Rattle.std.specs.Fmt.{decimal, digits}
+use Rattle.hex.specs.Hex.{encode_lower}
+use Rattle.its_command.specs.declared.command.Op.{Op}
+use Rattle.its_command.specs.declared.command.Op.TheVariants as op
+use Rattle.its_plain.specs.declared.call.Ack.{Ack}
+use Rattle.its_plain.specs.declared.call.Ack.TheVariants as ack
+use Rattle.its_plain.specs.declared.call.Call.{Call}
+use Rattle.its_plain.specs.declared.call.Call.TheVariants as call
+use Rattle.its_plain.specs.declared.call.Cause.{Cause}
+use Rattle.its_plain.specs.declared.call.Cause.TheVariants as cause
+use Rattle.its_plain.specs.declared.call.Reason.{Reason}
+use Rattle.its_plain.specs.declared.call.Reason.TheVariants as reason
+use Rattle.its_plain.specs.declared.call.Reply.{Reply}
+use Rattle.its_plain.specs.declared.call.Reply.TheVariants as reply
+use Rattle.its_plain.specs.declared.call.Signal.{Signal}
+use Rattle.its_plain.specs.declared.call.Signal.TheVariants as signal
+use Rattle.its_plain.specs.declared.call.StepReply.{StepReply}
+use Rattle.its_plain.specs.declared.call.StepReply.TheVariants as step
+
+abbrev pub hexadecimal : ℕ → List ℕ
+hexadecimal n = codes "0x" ++ digits 16 false n
+
+unfoldable pub call_text : Call → List ℕ
+call_text (call.Signal its dev ev) = codes "signal " ++ decimal dev.0 ++ codes " " ++ decimal ev.0
+call_text (call.Take vcpu) = codes "take " ++ decimal vcpu.0
+call_text (call.Show vcpu) = codes "show " ++ decimal vcpu.0
+call_text (call.Poke addr bytes) = codes "poke " ++ hexadecimal addr.0 ++ codes " " ++ encode_lower bytes
+call_text (call.Peek addr count) = codes "peek " ++ hexadecimal addr.0 ++ codes " " ++ decimal count
+call_text (call.ReadReg its off size) = codes "read " ++ hexadecimal off ++ codes " " ++ decimal size
+call_text (call.WriteReg its off size value) = codes "write " ++ hexadecimal off ++ codes " " ++ decimal size ++ codes " " ++ hexadecimal value
+call_text (call.Step its) = codes "step"
+
+unfoldable pub op_text : Op → List ℕ
+op_text op.Movi = codes "movi"
+op_text op.Int = codes "int"
+op_text op.Clear = codes "clear"
+op_text op.Sync = codes "sync"
+op_text op.Mapd = codes "mapd"
+op_text op.Mapc = codes "mapc"
+op_text op.Mapti = codes "mapti"
+op_text op.Mapi = codes "mapi"
+op_text op.Inv = codes "inv"
+op_text op.Invall = codes "invall"
+op_text op.Movall = codes "movall"
+op_text op.Discard = codes "discard"
+op_text (op.Unknown opcode) = hexadecimal opcode
+
+unfoldable pub cause_text : Cause → List ℕ
+cause_text cause.Disabled = codes "disabled"
+cause_text cause.NoDevice = codes "no-device"
+cause_text cause.NoEvent = codes "no-event"
+cause_text cause.NoCollection = codes "no-collection"
+cause_text cause.LpisOff = codes "lpis-off"
+
+unfoldable pub reason_text : Reason → List ℕ
+reason_text reason.UnknownCommand = codes "unknown-command"
+reason_text reason.DeviceRange = codes "device-range"
+reason_text reason.SizeRange = codes "size-range"
+reason_text reason.TargetRange = codes "target-range"
+reason_text reason.CollectionRange = codes "collection-range"
+reason_text reason.NoDevice = codes "no-device"
+reason_text reason.EventRange = codes "event-range"
+reason_text reason.IntidRange = codes "intid-range"
+reason_text reason.NoEvent = codes "no-event"
+reason_text reason.NoCollection = codes "no-collection"
+reason_text reason.LpisOff = codes "lpis-off"
+
+unfoldable pub signal_text : Signal → List ℕ
+signal_text (signal.Delivered vcpu intid) = codes "delivered " ++ decimal vcpu.0 ++ codes " " ++ decimal intid.0
+signal_text (signal.Dropped why) = codes "dropped " ++ cause_text why
+
+unfoldable pub ack_text : Ack → List ℕ
+ack_text (ack.Some intid priority) = codes "lpi " ++ decimal intid.0 ++ codes " " ++ hexadecimal priority
+ack_text ack.None = codes "none"
+
+unfoldable pub step_text : StepReply → List ℕ
+step_text step.Idle = codes "idle"
+step_text (step.Ran name) = codes "ran " ++ op_text name
+step_text (step.Refused name why) = codes "refused " ++ op_text name ++ codes " " ++ reason_text why
+step_text (step.QueueFault addr) = codes "queue-fault " ++ hexadecimal addr.0
+
+unfoldable pub reply_text : Reply → List ℕ
+reply_text (reply.Signal s) = signal_text s
+reply_text (reply.Ack a) = ack_text a
+reply_text reply.Ok = codes "ok"
+reply_text reply.Outside = codes "outside"
+reply_text (reply.Bytes bytes) = codes "bytes " ++ encode_lower bytes
+reply_text (reply.Value value) = codes "value " ++ hexadecimal value
+reply_text (reply.Step s) = step_text s
+
+-- a call and what it was answered
+unfoldable pub answered_text : Call → Reply → List ℕ
+answered_text c r = call_text c ++ codes " -> " ++ reply_text r

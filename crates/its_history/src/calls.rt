@@ -1,0 +1,64 @@
+ghost use Rattle.std.specs.Prelude.{◌≡◌, ◌++◌, OnOk, codes};
+ghost use Rattle.std.specs.Fmt.{decimal};
+ghost use Rattle.std.specs.String.{string_bytes};
+ghost use Rattle.its_history.specs.Texts.{call_text, hexadecimal};
+
+use crate::numbers::{push_bytes, push_decimal, push_hexadecimal};
+use its_plain::Call;
+use std::alloc::{AllocError, Global};
+
+#[tactic(auto, unfolding(crate::specs::Texts::call_text))]
+pub fn push_call(alloc: Global, out: &mut String, call: &Call) -> Result<(), AllocError>
+    ensures { OnOk result (string_bytes out.new ≡ string_bytes out.old ++ call_text call.now) }
+{
+    match call {
+        Call::Signal { its: _, dev, ev } => {
+            out.push_str("signal ")?;
+            push_decimal(out, dev.0.into())?;
+            out.push_str(" ")?;
+            push_decimal(out, ev.0.into())
+        }
+        Call::Take(vcpu) => {
+            out.push_str("take ")?;
+            push_decimal(out, vcpu.0.into())
+        }
+        Call::Show(vcpu) => {
+            out.push_str("show ")?;
+            push_decimal(out, vcpu.0.into())
+        }
+        Call::Poke { addr, bytes } => {
+            out.push_str("poke ")?;
+            push_hexadecimal(out, addr.0)?;
+            out.push_str(" ")?;
+            push_bytes(alloc, out, bytes.as_slice())
+        }
+        Call::Peek { addr, count } => {
+            out.push_str("peek ")?;
+            push_hexadecimal(out, addr.0)?;
+            out.push_str(" ")?;
+            push_decimal(out, (*count).into())
+        }
+        Call::ReadReg { its: _, off, size } => push_access(out, "read ", *off, *size),
+        Call::WriteReg {
+            its: _,
+            off,
+            size,
+            value,
+        } => {
+            push_access(out, "write ", *off, *size)?;
+            out.push_str(" ")?;
+            push_hexadecimal(out, *value)
+        }
+        Call::Step { its: _ } => out.push_str("step"),
+    }
+}
+
+// A register's offset and how many bytes of it, after a word.
+fn push_access(out: &mut String, word: &str, off: u32, size: u8) -> Result<(), AllocError>
+    ensures { OnOk result (string_bytes out.new ≡ string_bytes out.old ++ word.now ++ hexadecimal off ++ codes " " ++ decimal size) }
+{
+    out.push_str(word)?;
+    push_hexadecimal(out, off.into())?;
+    out.push_str(" ")?;
+    push_decimal(out, size.into())
+}

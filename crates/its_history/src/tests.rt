@@ -1,0 +1,189 @@
+use crate::{End, Leg, NoMemory, ThreadList, Trace, entry_text, merge, pending_text, report_text};
+use its_command::Op;
+use its_plain::{Ack, Bytes64, Call, Cause, Reason, Reply, Signal, StepReply};
+use its_types::{Addr, DeviceId, EventId, Intid, Listed, Placed, Vcpu};
+use std::alloc::Global;
+use std::test::Fail;
+
+const SIGNAL: Call = Call::Signal {
+    its: 0,
+    dev: DeviceId(16),
+    ev: EventId(3),
+};
+
+const STEP: Call = Call::Step { its: 0 };
+
+const TAKE: Call = Call::Take(Vcpu(2));
+
+#[test]
+fn entries_as_they_are_printed(rt: HostRuntime) -> Result<(), Fail> {
+    let eight = Bytes64::new(&[4, 0x80, 1, 0x10, 0, 0, 0, 0x80]);
+    let off = 0x100;
+    let value = 0x8107_0000_8000_0200;
+    for (call, reply, want) in [
+        (SIGNAL, delivered(), "7 2.1 signal 16 3 -> delivered 2 8200"),
+        (
+            SIGNAL,
+            Reply::Signal(Signal::Dropped(Cause::LpisOff)),
+            "7 2.1 signal 16 3 -> dropped lpis-off",
+        ),
+        (TAKE, lpi(), "7 2.1 take 2 -> lpi 8200 0xa0"),
+        (
+            Call::Show(Vcpu(2)),
+            Reply::Ack(Ack::None),
+            "7 2.1 show 2 -> none",
+        ),
+        (
+            Call::Poke {
+                addr: Addr(0x8003_0008),
+                bytes: Bytes64::new(&[0x4a]),
+            },
+            Reply::Ok,
+            "7 2.1 poke 0x80030008 4a -> ok",
+        ),
+        (
+            Call::Peek {
+                addr: Addr(0x801f_ffff),
+                count: 2,
+            },
+            Reply::Outside,
+            "7 2.1 peek 0x801fffff 2 -> outside",
+        ),
+        (
+            Call::Peek {
+                addr: Addr(0x8000_0080),
+                count: 8,
+            },
+            Reply::Bytes(eight),
+            "7 2.1 peek 0x80000080 8 -> bytes 0480011000000080",
+        ),
+        (
+            Call::ReadReg {
+                its: 0,
+                off: 8,
+                size: 8,
+            },
+            Reply::Value(0x1ef71),
+            "7 2.1 read 0x8 8 -> value 0x1ef71",
+        ),
+        (
+            Call::WriteReg {
+                its: 0,
+                off,
+                size: 8,
+                value,
+            },
+            Reply::Ok,
+            "7 2.1 write 0x100 8 0x8107000080000200 -> ok",
+        ),
+        (STEP, Reply::Step(StepReply::Idle), "7 2.1 step -> idle"),
+        (
+            STEP,
+            Reply::Step(StepReply::Ran(Op::Mapti)),
+            "7 2.1 step -> ran mapti",
+        ),
+        (
+            STEP,
+            Reply::Step(StepReply::Refused(Op::Unknown(0), Reason::UnknownCommand)),
+            "7 2.1 step -> refused 0x0 unknown-command",
+        ),
+        (
+            STEP,
+            Reply::Step(StepReply::QueueFault(Addr(0x9000_0000))),
+            "7 2.1 step -> queue-fault 0x90000000",
+        ),
+    ] {
+        assert_eq!(rt;
+            entry_text(rt.alloc(), 7, 2, 1, &call, &reply)?.as_str(),
+            want
+        );
+    }
+    Ok(())
+}
+
+fn delivered() -> Reply {
+    Reply::Signal(Signal::Delivered {
+        vcpu: Vcpu(2),
+        intid: Intid(8200),
+    })
+}
+
+fn lpi() -> Reply {
+    Reply::Ack(Ack::Some {
+        intid: Intid(8200),
+        priority: 0xa0,
+    })
+}
+
+fn at(place: u64, reply: Reply) -> Placed<Reply> {
+    Placed { place, reply }
+}
+
+fn lists<'a>(
+    alloc: Global,
+    signals: &'a [Call],
+    takes: &'a [Call],
+) -> Result<Vec<ThreadList<'a>>, NoMemory> {
+    let mut first = Listed::new(alloc);
+    first.push(at(1, delivered()))?;
+    first.push(at(2, delivered()))?;
+    let mut second = Listed::new(alloc);
+    second.push(at(0, Reply::Ack(Ack::None)))?;
+    second.push(at(3, lpi()))?;
+    let mut lists = Vec::new(alloc);
+    lists.push(ThreadList {
+        phase: 1,
+        thread: 1,
+        calls: signals,
+        replies: first,
+    })?;
+    lists.push(ThreadList {
+        phase: 1,
+        thread: 2,
+        calls: takes,
+        replies: second,
+    })?;
+    Ok(lists)
+}
+
+#[test]
+fn report_of_two_legs(rt: HostRuntime) -> Result<(), Fail> {
+    let alloc = rt.alloc();
+    let mut trace = merge(
+        alloc,
+        &lists(alloc, &[SIGNAL, SIGNAL], &[TAKE, TAKE, TAKE])?,
+    )?;
+    trace.legs.push(last_leg(alloc)?)?;
+    let want = "leg 1
+0 1.2 take 2 -> none
+1 1.1 signal 16 3 -> delivered 2 8200
+2 1.1 signal 16 3 -> delivered 2 8200
+3 1.2 take 2 -> lpi 8200 0xa0
+leg 2
+vcpu 0 pending none
+vcpu 1 pending 8200 8201
+done
+";
+    assert_eq!(rt; report_text(alloc, &trace)?.as_str(), want);
+    Ok(())
+}
+
+fn last_leg(alloc: Global) -> Result<Leg, NoMemory> {
+    let mut pending = Listed::new(alloc);
+    pending.push(pending_text(alloc, &[])?)?;
+    pending.push(pending_text(alloc, &[Intid(8200), Intid(8201)])?)?;
+    Ok(Leg {
+        entries: Listed::new(alloc),
+        pending,
+        end: Some(End::Done),
+    })
+}
+
+#[test]
+fn report_of_nothing_is_empty(rt: HostRuntime) -> Result<(), Fail> {
+    let trace = Trace {
+        legs: Listed::new(rt.alloc()),
+    };
+    assert_eq!(rt; report_text(rt.alloc(), &trace)?.as_str(), "");
+    Ok(())
+}

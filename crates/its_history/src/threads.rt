@@ -1,0 +1,76 @@
+ghost use Rattle.std.specs.Prelude.{◌≡◌, ◌++◌, ◌∷◌, [], IfOk, OnOk};
+ghost use Rattle.std.specs.List.Sorted.{IsPermutation, IsNonDecreasingBy};
+ghost use Rattle.its_history.specs.Report.{line_of};
+ghost use Rattle.its_history.specs.Merged.{list_lines, all_lines, first_entries, open_leg};
+ghost use Rattle.its_history.specs.Histories.{ThreadGives, MergeGives};
+
+use crate::errors::NoMemory;
+use crate::report::answered_text;
+use crate::trace::{EntryLine, Leg, Trace};
+use its_plain::{Call, Reply};
+use its_types::{Listed, Placed};
+use std::alloc::Global;
+
+/// The entries of a thread: its first calls, each with its reply and its place. Calls without a reply weren't made.
+#[derive(Drop)]
+pub struct ThreadList<'a> {
+    /// Counted from 1 in each leg.
+    pub phase: u32,
+    /// Counted from 1 in each phase.
+    pub thread: u32,
+    pub calls: &'a [Call],
+    pub replies: Listed<Placed<Reply>>,
+}
+
+/// A leg of the entries of all lists, by place. Nothing is pending in it, and it has no end.
+pub fn merge(alloc: Global, lists: &[ThreadList]) -> Result<Trace, NoMemory>
+    ensures leg { IfOk result (λ t. t.legs ≡ open_leg (first_entries t.legs) ∷ []) }
+    ensures same { IfOk result (λ t. IsPermutation (all_lines lists.now) (first_entries t.legs)) }
+    ensures rises { IfOk result (λ t. IsNonDecreasingBy (λ l. l.place) (first_entries t.legs)) }
+{
+    let mut lines = Vec::with_capacity(alloc, count_replies(lists))?;
+    for list in lists {
+        push_list(alloc, &mut lines, list)?;
+    }
+    lines.sort_by_key(|line| line.place)?;
+    let mut legs = Listed::new(alloc);
+    legs.push(Leg {
+        entries: Listed::from_vec(lines),
+        pending: Listed::new(alloc),
+        end: None,
+    })?;
+    Ok(Trace { legs })
+}
+
+// How many entries there are at most, so that their list needs not grow.
+fn count_replies(lists: &[ThreadList]) -> usize {
+    let mut count = 0usize;
+    for list in lists {
+        count = count.saturating_add(list.replies.len());
+    }
+    count
+}
+
+fn push_list(alloc: Global, lines: &mut Vec<EntryLine>, list: &ThreadList) -> Result<(), NoMemory>
+    ensures { OnOk result (lines.new.items ≡ lines.old.items ++ list_lines list.now) }
+{
+    for (call, placed) in list.calls.iter().zip(list.replies.as_slice()) {
+        lines.push(EntryLine {
+            place: placed.place,
+            phase: list.phase,
+            thread: list.thread,
+            text: answered_text(alloc, call, &placed.reply)?,
+        })?;
+    }
+    Ok(())
+}
+
+/// The lines of a thread whose calls and replies are those of a pass are the pass's.
+pub fn thread_gives()
+    ensures { ThreadGives }
+{}
+
+/// The lines of all passes of a history, put together by place, are the history's.
+pub fn merge_gives()
+    ensures { MergeGives }
+{}

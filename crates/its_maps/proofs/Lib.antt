@@ -1,0 +1,10 @@
+pub mod Rising
+pub mod Places
+pub mod Shown
+pub mod PairOrder
+pub mod Values
+pub mod Events
+pub mod Changes
+pub mod Picked
+pub mod Fits
+pub mod Calls

@@ -1,0 +1,97 @@
+//! Iterators over what is mapped, in rising order.
+
+ghost use Rattle.std.specs.Iterator.{YieldsFirstBy, item_count};
+
+use crate::device_record::DeviceRecord;
+use its_types::{Device, DeviceId, Event, EventId, Icid, Vcpu};
+use std::marker::Model;
+
+/// The mapped devices.
+#[derive(Drop)]
+pub struct DeviceWalk<'a> {
+    pub(crate) rest: &'a [(u32, DeviceRecord)],
+}
+
+impl<'a> Model for DeviceWalk<'a> {
+    ghost use Rattle.std.specs.Prelude.{ℕ, List, map};
+    ghost use Rattle.its_types.specs.declared.translation.Device.{Device};
+
+    ghost Value = { List (ℕ × Device) };
+
+    ghost view = { λ w. map (λ d. (d.0, d.1.device)) w.rest.now };
+}
+
+impl<'a> Iterator for DeviceWalk<'a> {
+    type Item = (DeviceId, Device);
+
+    ghost next_gives = { YieldsFirstBy (λ d. (d.0.0, d.1)) (λ w. w) };
+
+    ghost remaining = { item_count (λ w. w) };
+
+    fn next(&mut self) -> Option<(DeviceId, Device)> {
+        let (first, rest) = self.rest.split_first()?;
+        self.rest = rest;
+        Some((DeviceId(first.0), first.1.device))
+    }
+}
+
+/// The mapped events of a device.
+#[derive(Drop)]
+pub struct EventWalk<'a> {
+    pub(crate) rest: &'a [(u32, Event)],
+}
+
+impl<'a> Model for EventWalk<'a> {
+    ghost use Rattle.std.specs.Prelude.{ℕ, List};
+    ghost use Rattle.its_types.specs.declared.translation.Event.{Event};
+
+    ghost Value = { List (ℕ × Event) };
+
+    ghost view = { λ w. w.rest.now };
+}
+
+impl<'a> Iterator for EventWalk<'a> {
+    type Item = (EventId, Event);
+
+    ghost next_gives = { YieldsFirstBy (λ e. (e.0.0, e.1)) (λ w. w) };
+
+    ghost remaining = { item_count (λ w. w) };
+
+    fn next(&mut self) -> Option<(EventId, Event)> {
+        let (first, rest) = self.rest.split_first()?;
+        self.rest = rest;
+        Some((EventId(first.0), first.1))
+    }
+}
+
+/// The mapped collections.
+#[derive(Drop)]
+pub struct CollectionWalk<'a> {
+    pub(crate) rest: &'a [(u32, Vcpu)],
+}
+
+impl<'a> Model for CollectionWalk<'a> {
+    ghost use Rattle.std.specs.Prelude.{ℕ, List};
+    ghost use Rattle.its_types.specs.declared.ids.Vcpu.{Vcpu};
+    ghost use Rattle.its_maps.specs.MapsRoom.{EachFits};
+
+    ghost Value = { List (ℕ × Vcpu) };
+
+    ghost view = { λ w. w.rest.now };
+
+    ghost invariant = { λ w. EachFits w.rest.now };
+}
+
+impl<'a> Iterator for CollectionWalk<'a> {
+    type Item = (Icid, Vcpu);
+
+    ghost next_gives = { YieldsFirstBy (λ c. (c.0.0, c.1)) (λ w. w) };
+
+    ghost remaining = { item_count (λ w. w) };
+
+    fn next(&mut self) -> Option<(Icid, Vcpu)> {
+        let (first, rest) = self.rest.split_first()?;
+        self.rest = rest;
+        Some((Icid(first.0 as u16), first.1))
+    }
+}

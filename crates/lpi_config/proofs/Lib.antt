@@ -1,0 +1,4 @@
+pub mod Words
+pub mod Sizes
+pub mod Chunks
+pub mod Inside

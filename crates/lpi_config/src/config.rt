@@ -1,0 +1,121 @@
+ghost use Rattle.std.specs.Prelude.{◌≡◌, ◌+◌, ◌*◌, ◌/◌, ◌<◌, ◌≤◌, ℕ, true, Some, IfOk, length};
+ghost use Rattle.its_types.specs.Bits.{bit_of};
+ghost use Rattle.its_types.specs.Ranges.{is_lpi, lpi_count};
+ghost use Rattle.its_types.specs.Lpis.{config_byte, with_config_byte, is_enabled};
+ghost use Rattle.guest_windows.specs.Windows.{inside, read_at};
+ghost use Rattle.lpi_config.specs.Configurations as spec;
+
+use crate::bitmap::put_bit;
+use crate::enabled::enabled_bits;
+use guest_windows::{Memory, NoMemory};
+use its_types::{Addr, Intid};
+use std::alloc::Global;
+use std::marker::Model;
+
+/// The LPI configuration that a redistributor has read (IHI 0069, section 5.1.1), seen as its bytes.
+#[derive(Drop)]
+pub struct Config {
+    lpi_bits: u8,
+    bytes: Vec<u8>,
+    // Bit 0 of each byte, 64 to a word.
+    enabled: Vec<u64>,
+}
+
+impl Model for Config {
+    ghost use Rattle.lpi_config.specs.Configurations.{Configuration, configuration_code, IsKept};
+
+    ghost Value = { Configuration };
+
+    ghost coded = { configuration_code };
+
+    ghost view = { λ c. record { lpi_bits = c.lpi_bits; bytes = c.bytes.items } };
+
+    ghost invariant = { λ c. IsKept c.lpi_bits c.bytes.items c.enabled.items };
+}
+
+impl Config {
+    /// Reads the configuration table that begins at an address: the bytes of all LPIs. An LPI's INTID has 14 to 20 bits.
+    pub fn load(
+        alloc: Global,
+        memory: &Memory,
+        base: Addr,
+        lpi_bits: u8,
+    ) -> Result<Config, NoMemory>
+        requires low { 14 ≤ lpi_bits }
+        requires high { lpi_bits ≤ 20 }
+        requires inside { inside memory.now base.0 (lpi_count lpi_bits) ≡ true }
+        ensures bits { IfOk result (λ c. c.lpi_bits ≡ lpi_bits) }
+        ensures bytes { IfOk result (λ c. read_at memory.now base.0 (lpi_count lpi_bits) ≡ Some c.bytes) }
+    {
+        let mut bytes = vec![in alloc; 0; lpi_count(lpi_bits)]?;
+        let Ok(()) = memory.read(base, &mut bytes) else {
+            unreachable!()
+        };
+        let enabled = enabled_bits(alloc, &bytes)?;
+        Ok(Config {
+            lpi_bits,
+            bytes,
+            enabled,
+        })
+    }
+
+    /// The configuration of a redistributor whose LPIs are off: all bytes zero. An LPI's INTID has 14 to 20 bits.
+    pub fn zeros(alloc: Global, lpi_bits: u8) -> Result<Config, NoMemory>
+        requires low { 14 ≤ lpi_bits }
+        requires high { lpi_bits ≤ 20 }
+        ensures { IfOk result (λ c. c ≡ spec.zeros lpi_bits) }
+    {
+        let count = lpi_count(lpi_bits);
+        Ok(Config {
+            lpi_bits,
+            bytes: vec![in alloc; 0; count]?,
+            enabled: vec![in alloc; 0; count / 64]?,
+        })
+    }
+
+    /// How many bits the INTID of an LPI has, which says how many bytes there are.
+    pub fn lpi_bits(&self) -> u8
+        ensures bits { result ≡ self.now.lpi_bits }
+        ensures low { 14 ≤ result }
+        ensures high { result ≤ 20 }
+        ensures size { length self.now.bytes ≡ lpi_count result }
+    {
+        self.lpi_bits
+    }
+
+    /// An LPI's byte: bit 0 enables it, and bits 7 to 2 are its priority.
+    pub fn byte(&self, intid: Intid) -> u8
+        requires { is_lpi self.now.lpi_bits intid.0 ≡ true }
+        ensures { result ≡ config_byte self.now.bytes intid.0 }
+    {
+        self.bytes[(intid.0 - 8192) as usize]
+    }
+
+    /// Puts a byte that was read anew in the place of an LPI's.
+    pub fn reload(&mut self, intid: Intid, byte: u8)
+        requires { is_lpi self.old.lpi_bits intid.0 ≡ true }
+        ensures { self.new ≡ record self.old { bytes = with_config_byte self.old.bytes intid.0 byte } }
+    {
+        let at = (intid.0 - 8192) as usize;
+        self.bytes[at] = byte;
+        put_bit(&mut self.enabled, at, byte & 1 == 1);
+    }
+
+    /// Which of 64 LPIs are enabled, the lowest at bit 0: those from INTID 8192 + 64 * `at` on.
+    pub fn enabled_word(&self, at: usize) -> u64
+        requires { 64 * at < lpi_count self.now.lpi_bits }
+        ensures { (k : ℕ) → k < 64 → bit_of result k ≡ is_enabled self.now.bytes (8192 + 64 * at + k) }
+    {
+        self.enabled[at]
+    }
+}
+
+// How many LPIs there are.
+fn lpi_count(lpi_bits: u8) -> usize
+    requires low { 14 ≤ lpi_bits }
+    requires high { lpi_bits ≤ 20 }
+    ensures count { result ≡ lpi_count lpi_bits }
+    ensures words { 64 * (result / 64) ≡ result }
+{
+    (1 << lpi_bits) - 8192
+}

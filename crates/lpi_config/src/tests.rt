@@ -1,0 +1,46 @@
+use crate::{Config, has_bit, put_bit};
+use guest_windows::Memory;
+use its_types::{Addr, Intid};
+use std::test::Fail;
+
+const BASE: Addr = Addr(0x8003_0000);
+
+#[test]
+fn bytes_and_enable_bits_of_a_table(rt: HostRuntime) -> Result<(), Fail> {
+    let mut memory = Memory::new(rt.alloc(), &[(BASE, 8192)])?;
+    assert_eq!(rt;
+        memory.write(Addr(0x8003_0008), &[0xa1, 0xa2, 0x03]),
+        Ok(())
+    );
+    assert_eq!(rt; memory.write(Addr(0x8003_1fff), &[0x01]), Ok(()));
+    assert!(rt; memory.inside(BASE, 8192));
+    let mut config = Config::load(rt.alloc(), &memory, BASE, 14)?;
+    assert_eq!(rt; config.byte(Intid(8200)), 0xa1);
+    assert_eq!(rt; config.byte(Intid(8201)), 0xa2);
+    assert_eq!(rt; config.enabled_word(0), 0x500);
+    assert_eq!(rt; config.enabled_word(127), 1 << 63);
+    config.reload(Intid(8200), 0xa0);
+    config.reload(Intid(8255), 0x05);
+    assert_eq!(rt; config.byte(Intid(8255)), 0x05);
+    assert_eq!(rt; config.enabled_word(0), 0x8000_0000_0000_0400);
+    Ok(())
+}
+
+#[test]
+fn off_is_all_zeros(rt: HostRuntime) -> Result<(), Fail> {
+    let config = Config::zeros(rt.alloc(), 16)?;
+    assert_eq!(rt; config.lpi_bits(), 16);
+    assert_eq!(rt; config.byte(Intid(65535)), 0);
+    assert_eq!(rt; config.enabled_word(895), 0);
+    Ok(())
+}
+
+#[test]
+fn bits_in_words(rt: HostRuntime) {
+    let mut words = [0, 0];
+    put_bit(&mut words, 64, true);
+    put_bit(&mut words, 127, true);
+    put_bit(&mut words, 127, false);
+    assert_eq!(rt; words, [0, 1]);
+    assert!(rt; has_bit(&words, 64) && !has_bit(&words, 0) && !has_bit(&words, 127));
+}

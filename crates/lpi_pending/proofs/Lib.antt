@@ -1,0 +1,9 @@
+pub mod Sets
+pub mod Counts
+pub mod Bits
+pub mod Bitmaps
+pub mod Masks
+pub mod Searching
+pub mod Bytes
+pub mod Firsts
+pub mod Moves

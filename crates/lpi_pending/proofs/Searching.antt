@@ -1,0 +1,253 @@
+-- The search through a bitmap: a word, the 64 words of a group, all groups.
+use Rattle.std.proofs.Common.{◌≡◌, ◌≢◌, ℕ, ◌+◌, ◌-◌, ◌*◌, ◌/◌, ◌%◌, ◌^◌, ◌<◌, ◌≤◌, Bool, false, List, length, get_or, take, drop, Some, None, bit_and, refl, sym, ap, subst, ◌∙◌, inl, inr, arith}
+use Rattle.std.specs.Prelude.{position}
+use Rattle.std.specs.Int.{w64, trailing_zeros}
+use Rattle.std.proofs.lemmas.List.{get_or-drop, length-drop, take_rest}
+use Rattle.std.proofs.lemmas.List.Quantifiers.{position-Some}
+use Rattle.std.proofs.lemmas.Bool.{cases_lt, cases_eq, and_left}
+use Rattle.its_types.specs.Bits.{bit_of}
+use Rattle.its_types.specs.Lpis.{is_enabled}
+use Rattle.lpi_config.specs.Bitmap.{word_bit}
+use Rattle.lpi_pending.specs.Searches.{NoneIn, IsFirstIn, count_in}
+use Rattle.lpi_pending.specs.Summaries.{is_nonzero, is_used, is_ready, IsSummary}
+use Rattle.lpi_pending.proofs.Bits.{bit_of-zero, bit_of-and, IsLowest, lowest, is_nonzero-false}
+use Rattle.lpi_pending.proofs.Masks.{position-None}
+use Rattle.lpi_pending.proofs.Counts.{count_in-same, count_in-less, count_in-some, count_in-add, count_in-shift}
+
+-- ---- ranges
+
+pub none_nowhere : (test : ℕ → Bool) (a : ℕ) → NoneIn test a a
+none_nowhere test a y from below = absurd (omega arith)
+
+pub none_and : (test : ℕ → Bool) (a b c : ℕ) → NoneIn test a b → NoneIn test b c → NoneIn test a c
+none_and test a b c first second y from below =
+    elim (cases_lt y b) [ inl lt ↦ first y from lt | inr le ↦ second y le below ]
+
+-- none in each of n pieces of 64
+pub none_pieces : (test : ℕ → Bool) (a n : ℕ) → ((i : ℕ) → i < n → NoneIn test (64 * (a + i)) (64 * (a + i) + 64)) → NoneIn test (64 * a) (64 * a + 64 * n)
+none_pieces test a n each y from below =
+    let i : ℕ = y / 64 - a in
+    each i (omega arith) y (omega arith) (omega arith)
+
+-- ---- a word
+
+ready_bit :
+    (words config : List ℕ) (j enabled i : ℕ) → i < 64 → bit_of enabled i ≡ is_enabled config (8192 + 64 * j + i)
+    → is_ready words config (64 * j + i) ≡ bit_of (bit_and (get_or words j 0) enabled) i
+ready_bit words config j enabled i lt is =
+    let word : (64 * j + i) / 64 ≡ j = omega arith in
+    let bit : (64 * j + i) % 64 ≡ i = omega arith in
+    let place : 8192 + (64 * j + i) ≡ 8192 + 64 * j + i = omega arith in
+    rw (word, bit, place, bit_of-and (get_or words j 0) enabled i, is) refl
+
+pub first_in_word :
+    (words config : List ℕ) (j enabled : ℕ) → ((i : ℕ) → i < 64 → bit_of enabled i ≡ is_enabled config (8192 + 64 * j + i))
+    → bit_and (get_or words j 0) enabled ≢ 0 → bit_and (get_or words j 0) enabled < 2 ^ 64
+    → IsFirstIn (is_ready words config) (64 * j) (64 * j + 64) (64 * j + trailing_zeros w64 (bit_and (get_or words j 0) enabled))
+first_in_word words config j enabled bits some small =
+    let low = lowest (bit_and (get_or words j 0) enabled) some small in
+    record {
+      from = omega arith;
+      below = omega (arith, low.below);
+      met = ready_bit words config j enabled _ low.below (bits _ low.below) ∙ low.met;
+      before = λ y from below.
+          let split : 64 * j + (y - 64 * j) ≡ y = omega arith in
+          let within : y - 64 * j < 64 = omega (arith, low.below) in
+          ap (is_ready words config) (sym split) ∙ ready_bit words config j enabled (y - 64 * j) within (bits _ within) ∙ low.before (y - 64 * j) (omega arith);
+    }
+
+pub none_in_word :
+    (words config : List ℕ) (j enabled : ℕ) → ((i : ℕ) → i < 64 → bit_of enabled i ≡ is_enabled config (8192 + 64 * j + i))
+    → bit_and (get_or words j 0) enabled ≡ 0 → NoneIn (is_ready words config) (64 * j) (64 * j + 64)
+none_in_word words config j enabled bits none y from below =
+    let split : 64 * j + (y - 64 * j) ≡ y = omega arith in
+    let within : y - 64 * j < 64 = omega arith in
+    ap (is_ready words config) (sym split) ∙ ready_bit words config j enabled (y - 64 * j) within (bits _ within)
+    ∙ ap (λ n. bit_of n (y - 64 * j)) none ∙ bit_of-zero (y - 64 * j)
+
+pub none_in_unused : (words config : List ℕ) (j : ℕ) → is_used words j ≡ false → NoneIn (is_ready words config) (64 * j) (64 * j + 64)
+none_in_unused words config j unused y from below =
+    let word : y / 64 ≡ j = omega arith in
+    and_left (word_bit words y) (is_enabled config (8192 + y))
+    (ap (λ k. bit_of (get_or words k 0) (y % 64)) word ∙ ap (λ n. bit_of n (y % 64)) (is_nonzero-false (get_or words j 0) unused) ∙ bit_of-zero (y % 64))
+
+-- ---- the 64 words of a group
+
+-- the words that aren't left have been searched
+pub record Searched (words config : List ℕ) (group left : ℕ) : Type 0 where
+  pub none : (i : ℕ) → i < 64 → bit_of left i ≡ false → NoneIn (is_ready words config) (64 * (64 * group + i)) (64 * (64 * group + i) + 64)
+
+pub searched_first :
+    (words config : List ℕ) (group used : ℕ) → ((k : ℕ) → k < 64 → bit_of used k ≡ is_used words (64 * group + k)) → Searched words config group used
+searched_first words config group used bits =
+    record { none = λ i lt unused. none_in_unused words config (64 * group + i) (sym (bits i lt) ∙ unused) }
+
+-- one word more, which is no longer left
+pub searched_next :
+    (words config : List ℕ) (group left next place : ℕ) → Searched words config group left → place < 64
+    → NoneIn (is_ready words config) (64 * (64 * group + place)) (64 * (64 * group + place) + 64)
+    → ((i : ℕ) → i < 64 → i ≢ place → bit_of next i ≡ bit_of left i) → Searched words config group next
+searched_next words config group left next place s within here others =
+    record {
+      none = λ i lt unused. elim (cases_eq i place) [
+        | inl e ↦ subst (λ (k : ℕ). NoneIn (is_ready words config) (64 * (64 * group + k)) (64 * (64 * group + k) + 64)) (sym e) here
+        | inr ne ↦ s.none i lt (sym (others i lt ne) ∙ unused)
+      ];
+    }
+
+pub searched_all :
+    (words config : List ℕ) (group left : ℕ) → Searched words config group left → left ≡ 0
+    → NoneIn (is_ready words config) (4096 * group) (4096 * group + 4096)
+searched_all words config group left s done y from below =
+    none_pieces (is_ready words config) (64 * group) 64 (λ i lt. s.none i lt (ap (λ n. bit_of n i) done ∙ bit_of-zero i)) y (omega arith) (omega arith)
+
+pub found_in_group :
+    (words config : List ℕ) (group left place x : ℕ) → Searched words config group left → IsLowest left place
+    → IsFirstIn (is_ready words config) (64 * (64 * group + place)) (64 * (64 * group + place) + 64) x
+    → IsFirstIn (is_ready words config) (4096 * group) (4096 * group + 4096) x
+found_in_group words config group left place x s low first =
+    record {
+      from = omega (arith, first.from);
+      below = omega (arith, first.below, low.below);
+      met = first.met;
+      before =
+          none_and (is_ready words config) (4096 * group) (64 * (64 * group + place)) x
+          (λ y from below. none_pieces (is_ready words config) (64 * group) place (λ i lt. s.none i (omega (arith, low.below)) (low.before i lt)) y (omega arith) (omega arith))
+          first.before;
+    }
+
+-- one word less to look at
+pub one_less :
+    (left next place : ℕ) → IsLowest left place → bit_of next place ≡ false → ((i : ℕ) → i < 64 → i ≢ place → bit_of next i ≡ bit_of left i)
+    → count_in (bit_of next) 0 64 + 1 ≡ count_in (bit_of left) 0 64
+one_less left next place low gone others =
+    count_in-less (bit_of left) (bit_of next) 0 64 place (record { from = omega arith; below = omega (arith, low.below) }) low.met gone
+    (λ y w ne. others y (omega (arith, w.below)) ne)
+
+pub some_left : (left place : ℕ) → IsLowest left place → 0 < count_in (bit_of left) 0 64
+some_left left place low = count_in-some (bit_of left) 0 64 place (record { from = omega arith; below = omega (arith, low.below) }) low.met
+
+-- ---- all groups
+
+-- the word of a summary says which of its 64 words are used
+pub summary_word :
+    (summary words : List ℕ) (group : ℕ) → IsSummary summary words → (k : ℕ) → k < 64
+    → bit_of (get_or summary group 0) k ≡ is_used words (64 * group + k)
+summary_word summary words group s k lt =
+    let word : (64 * group + k) / 64 ≡ group = omega arith in
+    let bit : (64 * group + k) % 64 ≡ k = omega arith in
+    sym (ap (λ j. bit_of (get_or summary j 0) ((64 * group + k) % 64)) word ∙ ap (bit_of (get_or summary group 0)) bit) ∙ s.bits (64 * group + k)
+
+-- groups whose words of the summary are zero
+pub unused_groups :
+    (summary words config : List ℕ) (a n : ℕ) → IsSummary summary words → ((k : ℕ) → k < n → is_nonzero (get_or (drop a summary) k 0) ≡ false)
+    → NoneIn (is_ready words config) (4096 * a) (4096 * (a + n))
+unused_groups summary words config a n s zeros y from below =
+    let group : a + (y / 64 / 64 - a) ≡ y / 64 / 64 = omega arith in
+    let none : get_or summary (y / 64 / 64) 0 ≡ 0 =
+    ap (λ k. get_or summary k 0) (sym group) ∙ sym (get_or-drop a summary (y / 64 / 64 - a) 0)
+    ∙ is_nonzero-false (get_or (drop a summary) (y / 64 / 64 - a) 0) (zeros (y / 64 / 64 - a) (omega arith))
+    in
+    let unused : is_used words (y / 64) ≡ false = sym (s.bits (y / 64)) ∙ ap (λ word. bit_of word (y / 64 % 64)) none ∙ bit_of-zero (y / 64 % 64) in
+    none_in_unused words config (y / 64) unused y (omega arith) (omega arith)
+
+-- what is before a group, and in it
+pub found_in_all :
+    (words config : List ℕ) (a group x last : ℕ) → NoneIn (is_ready words config) 0 (4096 * a) → NoneIn (is_ready words config) (4096 * a) (4096 * group)
+    → IsFirstIn (is_ready words config) (4096 * group) (4096 * group + 4096) x → 4096 * group + 4096 ≤ last
+    → IsFirstIn (is_ready words config) 0 last x
+found_in_all words config a group x last before skipped first within = record {
+  from = omega arith;
+  below = omega (arith, first.below);
+  met = first.met;
+  before =
+      none_and (is_ready words config) 0 (4096 * a) x before
+      (none_and (is_ready words config) (4096 * a) (4096 * group) x skipped first.before);
+}
+
+-- ---- how many words are looked at
+
+pub used_so_far : (p : ℕ → Bool) (a b : ℕ) → a ≤ b → count_in p 0 a ≤ count_in p 0 b
+used_so_far p a b le =
+    let split : a + (b - a) ≡ b = omega arith in
+    let add : count_in p 0 b ≡ count_in p 0 a + count_in p (0 + a) (b - a) = ap (count_in p 0) (sym split) ∙ count_in-add p 0 a (b - a) in
+    omega (arith, add)
+
+pub used_with_group :
+    (summary words : List ℕ) (a group : ℕ) → IsSummary summary words → a ≤ group
+    → count_in (is_used words) 0 (64 * a) + count_in (bit_of (get_or summary group 0)) 0 64 ≤ count_in (is_used words) 0 (64 * (group + 1))
+used_with_group summary words a group s le =
+    let here : count_in (bit_of (get_or summary group 0)) 0 64 ≡ count_in (is_used words) (64 * group + 0) 64 =
+    count_in-same (bit_of (get_or summary group 0)) (λ k. is_used words (64 * group + k)) 0 64 (λ k w. summary_word summary words group s k (omega (arith, w.below)))
+    ∙ count_in-shift (is_used words) (64 * group) 0 64
+    in
+    let place : 64 * group + 0 ≡ 0 + 64 * group = omega arith in
+    let all : count_in (is_used words) 0 (64 * group + 64) ≡ count_in (is_used words) 0 (64 * group) + count_in (is_used words) (0 + 64 * group) 64 = count_in-add (is_used words) 0 (64 * group) 64 in
+    let end : count_in (is_used words) 0 (64 * (group + 1)) ≡ count_in (is_used words) 0 (64 * group + 64) = let e : 64 * (group + 1) ≡ 64 * group + 64 = omega arith in ap (count_in (is_used words) 0) e in
+    let moved : count_in (is_used words) (64 * group + 0) 64 ≡ count_in (is_used words) (0 + 64 * group) 64 = ap (λ k. count_in (is_used words) k 64) place in
+    omega (arith, used_so_far (is_used words) (64 * a) (64 * group) (omega arith), here, all, end, moved)
+
+-- ---- one turn of the search, and its end
+
+pub next_group :
+    (summary slice : List ℕ) (a skipped : ℕ) → slice ≡ summary → Some skipped ≡ position is_nonzero (take (length slice - a) (drop a slice))
+    → (a + skipped < length summary) × ((k : ℕ) → k < skipped → is_nonzero (get_or (drop a summary) k 0) ≡ false)
+next_group summary slice a skipped same e =
+    let rest : take (length slice - a) (drop a slice) ≡ drop a summary = take_rest slice a ∙ ap (drop a) same in
+    let parts = position-Some is_nonzero (drop a summary) skipped 0 (sym (e ∙ ap (position is_nonzero) rest)) in
+    (omega (arith, parts.0, length-drop a summary), parts.2)
+
+pub no_group :
+    (summary slice : List ℕ) (a : ℕ) → slice ≡ summary → None ≡ position is_nonzero (take (length slice - a) (drop a slice))
+    → (k : ℕ) → k < length summary - a → is_nonzero (get_or (drop a summary) k 0) ≡ false
+no_group summary slice a same e k lt =
+    let rest : take (length slice - a) (drop a slice) ≡ drop a summary = take_rest slice a ∙ ap (drop a) same in
+    position-None is_nonzero (drop a summary) (e ∙ ap (position is_nonzero) rest) k (omega (arith, length-drop a summary))
+
+pub found_first :
+    (summary words group_words config : List ℕ) (a skipped x : ℕ) → IsSummary summary words → group_words ≡ words → a + skipped < length summary
+    → ((k : ℕ) → k < skipped → is_nonzero (get_or (drop a summary) k 0) ≡ false) → NoneIn (is_ready words config) 0 (4096 * a)
+    → IsFirstIn (is_ready group_words config) (4096 * (a + skipped)) (4096 * (a + skipped) + 4096) x
+    → IsFirstIn (is_ready words config) 0 (64 * length words) x
+found_first summary words group_words config a skipped x s same lt zeros before first =
+    let first' : IsFirstIn (is_ready words config) (4096 * (a + skipped)) (4096 * (a + skipped) + 4096) x =
+    subst (λ (ws : List ℕ). IsFirstIn (is_ready ws config) (4096 * (a + skipped)) (4096 * (a + skipped) + 4096) x) same first
+    in
+    found_in_all words config a (a + skipped) x (64 * length words) before (unused_groups summary words config a skipped s zeros) first' (omega (arith, s.size))
+
+pub none_so_far :
+    (summary words group_words config : List ℕ) (a skipped : ℕ) → IsSummary summary words → group_words ≡ words
+    → ((k : ℕ) → k < skipped → is_nonzero (get_or (drop a summary) k 0) ≡ false) → NoneIn (is_ready words config) 0 (4096 * a)
+    → NoneIn (is_ready group_words config) (4096 * (a + skipped)) (4096 * (a + skipped) + 4096)
+    → NoneIn (is_ready words config) 0 (4096 * (a + skipped + 1))
+none_so_far summary words group_words config a skipped s same zeros before none y from below =
+    let none' : NoneIn (is_ready words config) (4096 * (a + skipped)) (4096 * (a + skipped) + 4096) =
+    subst (λ (ws : List ℕ). NoneIn (is_ready ws config) (4096 * (a + skipped)) (4096 * (a + skipped) + 4096)) same none
+    in
+    none_and (is_ready words config) 0 (4096 * a) (4096 * (a + skipped) + 4096) before
+    (none_and (is_ready words config) (4096 * a) (4096 * (a + skipped)) (4096 * (a + skipped) + 4096) (unused_groups summary words config a skipped s zeros) none')
+    y from (omega arith)
+
+pub none_at_all :
+    (summary words config : List ℕ) (a : ℕ) → IsSummary summary words → a ≤ length summary
+    → ((k : ℕ) → k < length summary - a → is_nonzero (get_or (drop a summary) k 0) ≡ false) → NoneIn (is_ready words config) 0 (4096 * a)
+    → NoneIn (is_ready words config) 0 (64 * length words)
+none_at_all summary words config a s le zeros before y from below =
+    none_and (is_ready words config) 0 (4096 * a) (4096 * (a + (length summary - a))) before (unused_groups summary words config a (length summary - a) s zeros)
+    y from (omega (arith, s.size))
+
+-- what a turn costs: the words of the summary up to the next group, and the used words of that
+pub cost_so_far :
+    (summary words : List ℕ) (a skipped used start steps last : ℕ) → IsSummary summary words → used ≡ get_or summary (a + skipped) 0
+    → steps ≤ start + a + count_in (is_used words) 0 (64 * a) → last ≤ steps + (skipped + 1) + count_in (bit_of used) 0 64
+    → last ≤ start + (a + skipped + 1) + count_in (is_used words) 0 (64 * (a + skipped + 1))
+cost_so_far summary words a skipped used start steps last s is so_far turn =
+    let here : count_in (bit_of used) 0 64 ≡ count_in (bit_of (get_or summary (a + skipped) 0)) 0 64 = ap (λ w. count_in (bit_of w) 0 64) is in
+    omega (arith, used_with_group summary words a (a + skipped) s (omega arith), here, so_far, turn)
+
+-- no turn goes past the last group
+pub cost_in_all :
+    (summary words : List ℕ) (a start last : ℕ) → IsSummary summary words → a ≤ length summary
+    → last ≤ start + a + count_in (is_used words) 0 (64 * a)
+    → last ≤ start + length words / 64 + count_in (is_used words) 0 (length words)
+cost_in_all summary words a start last s le so_far = omega (arith, used_so_far (is_used words) (64 * a) (length words) (omega (arith, s.size)), so_far, s.size)

@@ -1,0 +1,148 @@
+ghost use Rattle.std.specs.Prelude.{◌≡◌, ◌+◌, ◌*◌, ◌/◌, ◌<◌, ◌≤◌, ◌^◌, ℕ, List, ◌||◌, IfOk, MatchOption, length, replicate, slice_index, slice_set, bit_or};
+ghost use Rattle.its_types.specs.Ranges.{lpi_count};
+ghost use Rattle.its_types.specs.Bits.{bit_of};
+ghost use Rattle.lpi_config.specs.Bitmap.{word_bit};
+ghost use Rattle.lpi_pending.specs.Searches.{FirstIn, count_in};
+ghost use Rattle.lpi_pending.specs.Summaries.{is_used, is_ready};
+
+use crate::lanes::first_nonzero;
+use crate::steps::Steps;
+use guest_windows::NoMemory;
+use lpi_config::{Config, put_bit, with_bit};
+use std::alloc::Global;
+use std::marker::Model;
+use std::sync::ledger::Ledger;
+
+// A bit for each LPI, the first LPI's at bit 0 of the first word, and a summary of the words. It is seen as the words.
+#[derive(Drop)]
+pub struct Bitmap {
+    words: Vec<u64>,
+    // A bit for each word: 1 where it isn't zero.
+    summary: Vec<u64>,
+}
+
+impl Model for Bitmap {
+    ghost use Rattle.std.specs.Prelude.{List, ℕ};
+    ghost use Rattle.lpi_pending.specs.Summaries.{IsSummary};
+
+    ghost Value = { List ℕ };
+
+    ghost view = { λ b. b.words.items };
+
+    ghost invariant = { λ b. IsSummary b.summary.items b.words.items };
+}
+
+impl Bitmap {
+    // All bits zero: 64 words for each word of the summary.
+    pub fn new(alloc: Global, groups: usize) -> Result<Bitmap, NoMemory>
+        requires { groups ≤ 1024 }
+        ensures { IfOk result (λ b. b ≡ replicate (64 * groups) 0) }
+    {
+        Ok(Bitmap {
+            words: vec![in alloc; 0; 64 * groups]?,
+            summary: vec![in alloc; 0; groups]?,
+        })
+    }
+
+    pub fn word(&self, at: usize) -> u64
+        requires { at < length self.now }
+        ensures { result ≡ slice_index self.now at }
+    {
+        self.words[at]
+    }
+
+    pub fn put_word(&mut self, at: usize, word: u64)
+        requires { at < length self.old }
+        ensures { self.new ≡ slice_set self.old at word }
+    {
+        self.words[at] = word;
+        put_bit(&mut self.summary, at, word != 0);
+    }
+
+    // Makes each bit 1 there that is 1 here, and 0 here.
+    pub fn move_to(&mut self, to: &mut Bitmap)
+        requires { length self.old ≡ length to.old }
+        ensures left { self.new ≡ replicate (length self.old) 0 }
+        ensures size { length to.new ≡ length to.old }
+        ensures bits { (k : ℕ) → word_bit to.new k ≡ (word_bit to.old k || word_bit self.old k) }
+    {
+        move_words(&mut self.words, &mut to.words);
+        move_words(&mut self.summary, &mut to.summary);
+    }
+
+    // The first bit that is 1 and whose LPI is enabled. A step is a word looked at: each word of the summary counts once,
+    // though four of them are loaded at a time, and each word that the summary leads to.
+    pub fn first_ready<L: Ledger>(&self, config: &Config, steps: &mut Steps<L>) -> Option<usize>
+        requires { 64 * length self.now ≡ lpi_count config.now.lpi_bits }
+        ensures found { FirstIn (is_ready self.now config.now.bytes) 0 (64 * length self.now) result }
+        ensures cost { steps.new ≤ steps.old + length self.now / 64 + count_in (is_used self.now) 0 (length self.now) }
+        ensures words { (k : ℕ) → slice_index self.now k < 2 ^ 64 }
+    {
+        let words: &[u64] = &self.words;
+        let mut at = 0;
+        while let Some(skipped) = first_nonzero(&self.summary[at..]) {
+            let group = at + skipped;
+            steps.add(skipped as u64 + 1);
+            let used = self.summary[group];
+            if let Some(first) = first_in_group(words, config, group, used, steps) {
+                return Some(first);
+            }
+            at = group + 1;
+        }
+        steps.add((self.summary.len() - at) as u64);
+        None
+    }
+}
+
+// Of the 64 words that one word of the summary stands for.
+fn first_in_group<L: Ledger>(
+    words: &[u64],
+    config: &Config,
+    group: usize,
+    used: u64,
+    steps: &mut Steps<L>,
+) -> Option<usize>
+    requires within { 64 * group + 64 ≤ length words.now }
+    requires small { length words.now ≤ 65536 }
+    requires size { 64 * length words.now ≡ lpi_count config.now.lpi_bits }
+    requires used { (k : ℕ) → k < 64 → bit_of used k ≡ is_used words.now (64 * group + k) }
+    ensures found { FirstIn (is_ready words.now config.now.bytes) (4096 * group) (4096 * group + 4096) result }
+    ensures cost { steps.new ≤ steps.old + count_in (bit_of used) 0 64 }
+{
+    let mut left = used;
+    while left != 0 {
+        let place = left.trailing_zeros();
+        let at = 64 * group + place as usize;
+        steps.add(1);
+        if let Some(first) = first_in_word(words[at], config, at) {
+            return Some(first);
+        }
+        left = with_bit(left, place, false);
+    }
+    None
+}
+
+fn first_in_word(word: u64, config: &Config, at: usize) -> Option<usize>
+    requires within { 64 * at < lpi_count config.now.lpi_bits }
+    requires small { at < 65536 }
+    ensures { (words : List ℕ) → slice_index words at ≡ word → FirstIn (is_ready words config.now.bytes) (64 * at) (64 * at + 64) result }
+{
+    let ready = word & config.enabled_word(at);
+    if ready == 0 {
+        None
+    } else {
+        Some(64 * at + ready.trailing_zeros() as usize)
+    }
+}
+
+fn move_words(from: &mut [u64], to: &mut [u64])
+    requires { length from.old ≡ length to.old }
+    ensures left { from.new ≡ replicate (length from.old) 0 }
+    ensures size { length to.new ≡ length to.old }
+    ensures words { (k : ℕ) → slice_index to.new k ≡ bit_or (slice_index to.old k) (slice_index from.old k) }
+{
+    for at in 0..from.len() {
+        to[at] |= from[at];
+        from[at] = 0;
+    }
+}

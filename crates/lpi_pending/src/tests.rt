@@ -1,0 +1,87 @@
+use crate::{Pending, Redist, Redists, first_nonzero};
+use its_types::{Addr, Bases, Intid, Vcpu};
+use lpi_config::Config;
+use std::test::Fail;
+
+#[test]
+fn first_words_that_are_not_zero(rt: HostRuntime) {
+    assert_eq!(rt; first_nonzero(&[]), None);
+    assert_eq!(rt; first_nonzero(&[0]), None);
+    assert_eq!(rt; first_nonzero(&[1 << 63]), Some(0));
+    assert_eq!(rt; first_nonzero(&[0, 0, 0]), None);
+    assert_eq!(rt; first_nonzero(&[0, 0, 7]), Some(2));
+    assert_eq!(rt; first_nonzero(&[0, 0, 0, 0]), None);
+    assert_eq!(rt; first_nonzero(&[0, 1 << 32, 0, 1]), Some(1));
+    assert_eq!(rt; first_nonzero(&[0, 0, 0, 1]), Some(3));
+    assert_eq!(rt; first_nonzero(&[0, 0, 0, 0, 0]), None);
+    assert_eq!(rt; first_nonzero(&[0, 0, 0, 0, 2]), Some(4));
+    let mut words = [0; 14];
+    assert_eq!(rt; first_nonzero(&words), None);
+    for at in [13, 12, 11, 8, 7, 6, 5, 4, 0] {
+        words[at] = 1 << at;
+        assert_eq!(rt; first_nonzero(&words), Some(at), "at {at}");
+    }
+}
+
+#[test]
+fn pending_lpis(rt: HostRuntime) -> Result<(), Fail> {
+    let mut config = Config::zeros(rt.alloc(), 14)?;
+    let mut pending = Pending::new(rt.alloc(), 14)?;
+    assert_eq!(rt; pending.first_enabled(&config), None);
+    pending.set(Intid(8200));
+    pending.set(Intid(16383));
+    assert!(rt; pending.has(Intid(8200)) && !pending.has(Intid(8201)));
+    assert_eq!(rt; pending.first_enabled(&config), None);
+    config.reload(Intid(16383), 0xa1);
+    assert_eq!(rt; pending.first_enabled(&config), Some(Intid(16383)));
+    config.reload(Intid(8200), 0xa1);
+    assert_eq!(rt; pending.first_enabled(&config), Some(Intid(8200)));
+    pending.clear(Intid(8200));
+    assert!(rt; !pending.has(Intid(8200)));
+    assert_eq!(rt; pending.first_enabled(&config), Some(Intid(16383)));
+    Ok(())
+}
+
+#[test]
+fn bytes_of_a_pending_table(rt: HostRuntime) -> Result<(), Fail> {
+    let mut pending = Pending::new(rt.alloc(), 14)?;
+    pending.set(Intid(8200));
+    pending.set(Intid(8207));
+    assert_eq!(rt; pending.byte(1024), 0);
+    assert_eq!(rt; pending.byte(1025), 0x81);
+    pending.set_byte(1025, 0x02);
+    pending.set_byte(2047, 0x80);
+    assert_eq!(rt; pending.byte(1025), 0x02);
+    assert!(rt; pending.has(Intid(8201)) && !pending.has(Intid(8200)) && pending.has(Intid(16383)));
+    let mut other = Pending::new(rt.alloc(), 14)?;
+    other.set(Intid(8200));
+    pending.move_all(&mut other);
+    assert!(rt; !pending.has(Intid(8201)) && !pending.has(Intid(16383)));
+    assert_eq!(rt; other.byte(1025), 0x03);
+    assert_eq!(rt; other.byte(2047), 0x80);
+    assert_eq!(rt; other.lpi_bits(), 14);
+    Ok(())
+}
+
+#[test]
+fn redistributors_in_hand(rt: HostRuntime) -> Result<(), Fail> {
+    let redist = Redist {
+        pending: Pending::new(rt.alloc(), 14)?,
+        config: Config::zeros(rt.alloc(), 14)?,
+        bases: Bases {
+            on: false,
+            config: Addr(0),
+            pending: Addr(0),
+        },
+    };
+    let redist = Box::new(rt.alloc(), redist)?;
+    let mut redists = Redists::new(rt.alloc())?;
+    redists.place(Vcpu(15), redist);
+    redists.redist_mut(Vcpu(15)).bases.on = true;
+    assert!(rt; redists.redist(Vcpu(15)).bases.on);
+    let mut taken = redists.take_out(Vcpu(15));
+    taken.bases.pending = Addr(0x8004_0000);
+    redists.place(Vcpu(15), taken);
+    assert_eq!(rt; redists.redist(Vcpu(15)).bases.pending, Addr(0x8004_0000));
+    Ok(())
+}

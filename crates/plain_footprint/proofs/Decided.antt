@@ -1,0 +1,150 @@
+-- A call's footprint decides what is answered, and what is left in it.
+use Rattle.std.proofs.Common.{◌≡◌, ℕ, Bool, true, false, not, ◌||◌, ◌&&◌, nat_lt, nat_le, List, [], ◌∷◌, Option, Some, None, Result, Ok, Err, refl, ap, subst, unwrap_or, if◌then◌else◌}
+use Rattle.std.specs.Option.{option_map}
+use Rattle.std.specs.Result.{result_ok}
+use Rattle.guest_windows.specs.Windows.{Window, read_at, write_at}
+use Rattle.gits_regs.specs.Registers.{queue_place, is_queue_empty, read_reg, write_reg, advanced}
+use Rattle.its_command.specs.Commands.{decoded, op_of}
+use Rattle.its_command.specs.declared.command.Op.{Op}
+use Rattle.its_types.specs.declared.ids.Target.{Target}
+use Rattle.its_types.specs.declared.machine.Part.{Part}
+use Rattle.its_types.specs.declared.machine.Part.TheVariants.{Maps as MapsOf, Mem, Redist}
+use Rattle.its_plain.specs.Plain.{Plain, Translator, Redistributor, translator, redistributor, regs_of, is_on}
+use Rattle.its_plain.specs.Translation.{◌>>=◌, ensure, located, translated}
+use Rattle.its_plain.specs.Commands.{ran}
+use Rattle.its_plain.specs.Answer.{signal_reply, signal_left, ack_of, lowest, taken, poke_reply, peek_reply, translator_written, written, command_reply, command_left, is_idle, next_bytes, met_reply, met_left, step_reply, step_left, reply_of, left, answer}
+use Rattle.its_plain.specs.Parts.{SamePart, IsIn, AgreesOn, redist_of, needed, footprint}
+use Rattle.its_plain.specs.declared.call.Call.{Call}
+use Rattle.its_plain.specs.declared.call.Call.TheVariants as call
+use Rattle.its_plain.specs.declared.call.Cause.{Cause}
+use Rattle.its_plain.specs.declared.call.Cause.TheVariants.{LpisOff}
+use Rattle.its_plain.specs.declared.call.Reason.{Reason}
+use Rattle.its_plain.specs.declared.call.Reply.TheVariants as reply
+use Rattle.its_plain.specs.declared.call.Signal.{Signal}
+use Rattle.its_plain.specs.declared.call.StepReply.{StepReply}
+use Rattle.its_plain.specs.declared.call.StepReply.TheVariants.{Idle, QueueFault}
+use Rattle.plain_footprint.proofs.Footprints.{parts_of_signal, parts_of_step, needed_at}
+use Rattle.plain_footprint.proofs.Listed.{in_head, in_tail}
+use Rattle.plain_footprint.proofs.Alike.{translator_same, redist_same, agree_translator, agree_redist, agree_memory, agree_set}
+use Rattle.plain_footprint.proofs.AlikeRan.{Alike, ran_alike}
+
+-- the same answer, and the same left in the parts
+abbrev Decided : {R : Type 0} → List Part → R → R → Plain → Plain → Type 0
+Decided ps r s u w = (r ≡ s) × ((p : Part) → IsIn p ps → SamePart u w p)
+
+-- ---- signals
+
+abbrev signalled : Plain → Result Target Cause → Signal
+signalled u found = signal_reply (found >>= λ t. ensure (is_on u t.vcpu.0) LpisOff >>= λ _. Ok t)
+
+module _ (u w : Plain) (its : ℕ) where
+  abbrev sent : Target → Bool → Signal
+  sent t on = signal_reply (ensure on LpisOff >>= λ _. Ok t)
+
+  sent_decided : (t : Target) (on on' : Bool) → on ≡ on' → AgreesOn u w (MapsOf its ∷ Redist t.vcpu ∷ [])
+      → Decided (MapsOf its ∷ Redist t.vcpu ∷ []) (sent t on) (sent t on') (signal_left u (sent t on)) (signal_left w (sent t on'))
+  sent_decided t true true e a =
+      let after = agree_set (MapsOf its ∷ Redist t.vcpu ∷ []) u w t.intid.0 t.vcpu.0 (in_tail (Redist t.vcpu) (MapsOf its) (Redist t.vcpu ∷ []) (in_head (Redist t.vcpu) [])) a in
+      (refl, after.parts)
+  sent_decided t true false e a = absurd cc
+  sent_decided t false true e a = absurd cc
+  sent_decided t false false e a = (refl, a.parts)
+
+  found_decided : (found : Result Target Cause) → AgreesOn u w (parts_of_signal its found)
+      → Decided (parts_of_signal its found) (signalled u found) (signalled w found) (signal_left u (signalled u found)) (signal_left w (signalled w found))
+  found_decided (Ok t) a =
+      let listed : IsIn (Redist t.vcpu) (MapsOf its ∷ Redist t.vcpu ∷ []) = in_tail (Redist t.vcpu) (MapsOf its) (Redist t.vcpu ∷ []) (in_head (Redist t.vcpu) []) in
+      sent_decided t (is_on u t.vcpu.0) (is_on w t.vcpu.0) (ap (λ (r : Redistributor). r.bases.on) (redist_same u w (MapsOf its ∷ Redist t.vcpu ∷ []) t.vcpu.0 listed a)) a
+  found_decided (Err cause) a = (refl, a.parts)
+
+  signal_decided : (dev ev : ℕ) → AgreesOn u w (parts_of_signal its (located (translator u its) dev ev))
+      → Decided (parts_of_signal its (located (translator u its) dev ev)) (signal_reply (translated u its dev ev)) (signal_reply (translated w its dev ev))
+      (signal_left u (signal_reply (translated u its dev ev))) (signal_left w (signal_reply (translated w its dev ev)))
+  unfolding translated
+  signal_decided dev ev a =
+      let ps : List Part = parts_of_signal its (located (translator u its) dev ev) in
+      let here : IsIn (MapsOf its) ps = in_head (MapsOf its) (redist_of (option_map (λ t. t.vcpu) (result_ok (located (translator u its) dev ev)))) in
+      subst (λ (t : Translator). Decided ps (signalled u (located (translator u its) dev ev)) (signalled w (located t dev ev)) (signal_left u (signalled u (located (translator u its) dev ev))) (signal_left w (signalled w (located t dev ev))))
+      (translator_same u w ps its here a) (found_decided (located (translator u its) dev ev) a)
+
+-- ---- steps
+
+same_reply : (ps : List Part) (op : Op) (r s : Result Plain Reason) → Alike ps r s → command_reply op r ≡ command_reply op s
+same_reply ps op (Ok u) (Ok w) a = refl
+same_reply ps op (Ok u) (Err s) a = absurd a
+same_reply ps op (Err r) (Ok w) a = absurd a
+same_reply ps op (Err r) (Err s) a = ap (λ (reason : Reason). command_reply op (Err reason)) a
+
+left_alike : (ps : List Part) (u w : Plain) (r s : Result Plain Reason) → AgreesOn u w ps → Alike ps r s → AgreesOn (command_left u r) (command_left w s) ps
+left_alike ps u w (Ok v) (Ok x) a b = b
+left_alike ps u w (Ok v) (Err s) a b = absurd b
+left_alike ps u w (Err r) (Ok x) a b = absurd b
+left_alike ps u w (Err r) (Err s) a b = a
+
+module _ (u w : Plain) (i : ℕ) where
+  abbrev stepped : Plain → Bool → Option (List ℕ) → StepReply
+  stepped v idle bytes = if idle then Idle else met_reply v i bytes
+
+  abbrev step_leaves : Plain → Bool → Option (List ℕ) → Plain
+  step_leaves v idle bytes = if idle then v else met_left v i bytes
+
+  met_decided : (idle : Bool) (bytes : Option (List ℕ)) → AgreesOn u w (parts_of_step u i idle bytes)
+      → Decided (parts_of_step u i idle bytes) (stepped u idle bytes) (stepped w idle bytes) (step_leaves u idle bytes) (step_leaves w idle bytes)
+  met_decided true bytes a = (refl, a.parts)
+  met_decided false None a =
+      (ap (λ (t : Translator). QueueFault (record { 0 = queue_place t.regs })) (translator_same u w (parts_of_step u i false None) i (in_head (MapsOf i) (Mem ∷ [])) a), a.parts)
+  met_decided false (Some bytes) a =
+      let rest : List Part = needed u i (decoded bytes) in
+      let ps : List Part = MapsOf i ∷ Mem ∷ rest in
+      let here : IsIn (MapsOf i) ps = in_head (MapsOf i) (Mem ∷ rest) in
+      let memory : u.memory ≡ w.memory = a.parts Mem (in_tail Mem (MapsOf i) (Mem ∷ rest) (in_head Mem rest)) in
+      let both : Alike ps (ran u i (decoded bytes)) (ran w i (decoded bytes)) =
+      ran_alike ps i here u w a memory (decoded bytes) (λ p at. in_tail p (MapsOf i) (Mem ∷ rest) (in_tail p Mem rest at)) in
+      let v : Plain = command_left u (ran u i (decoded bytes)) in
+      let x : Plain = command_left w (ran w i (decoded bytes)) in
+      let after : AgreesOn v x ps = left_alike ps u w (ran u i (decoded bytes)) (ran w i (decoded bytes)) a both in
+      let went = agree_translator v x ps i (record (translator v i) { regs = advanced (regs_of v i) }) (record (translator x i) { regs = advanced (regs_of x i) })
+      (ap (λ (t : Translator). (let next : Translator = record t { regs = advanced t.regs } in next)) (translator_same v x ps i here after)) after in
+      (same_reply ps (op_of (decoded bytes)) (ran u i (decoded bytes)) (ran w i (decoded bytes)) both, went.parts)
+
+  step_decided : AgreesOn u w (parts_of_step u i (is_idle u i) (next_bytes u i)) → Decided (parts_of_step u i (is_idle u i) (next_bytes u i)) (step_reply u i) (step_reply w i) (step_left u i) (step_left w i)
+  unfolding step_reply step_left
+  step_decided a =
+      let ps : List Part = parts_of_step u i (is_idle u i) (next_bytes u i) in
+      let rest : List Part = (if is_idle u i then [] else needed_at u i (next_bytes u i)) in
+      let same : translator u i ≡ translator w i = translator_same u w ps i (in_head (MapsOf i) (Mem ∷ rest)) a in
+      let memory : u.memory ≡ w.memory = a.parts Mem (in_tail Mem (MapsOf i) (Mem ∷ rest) (in_head Mem rest)) in
+      let idle : is_idle u i ≡ is_idle w i = ap (λ (t : Translator). not t.regs.enabled || is_queue_empty t.regs) same in
+      let bytes : next_bytes u i ≡ next_bytes w i = (λ d. read_at (memory d) (queue_place (same d).regs) 32) in
+      subst (λ (b : Bool). Decided ps (stepped u (is_idle u i) (next_bytes u i)) (stepped w b (next_bytes w i)) (step_leaves u (is_idle u i) (next_bytes u i)) (step_leaves w b (next_bytes w i))) idle
+      (subst (λ (o : Option (List ℕ)). Decided ps (stepped u (is_idle u i) (next_bytes u i)) (stepped w (is_idle u i) o) (step_leaves u (is_idle u i) (next_bytes u i)) (step_leaves w (is_idle u i) o)) bytes
+      (met_decided (is_idle u i) (next_bytes u i) a))
+
+-- ---- all calls
+
+pub decides : (u w : Plain) (c : Call) → AgreesOn u w (footprint u c) → (reply_of u c ≡ reply_of w c) × ((p : Part) → IsIn p (footprint u c) → SamePart (answer u c).1 (answer w c).1 p)
+unfolding footprint reply_of left written
+decides u w (call.Signal its dev ev) a = let d = signal_decided u w its dev.0 ev.0 a in (ap (λ (s : Signal). reply.Signal s) d.0, d.1)
+decides u w (call.Take vcpu) a =
+    let same : redistributor u vcpu.0 ≡ redistributor w vcpu.0 = redist_same u w (Redist vcpu ∷ []) vcpu.0 (in_head (Redist vcpu) []) a in
+    let after = agree_redist u w (Redist vcpu ∷ []) vcpu.0 (taken (redistributor u vcpu.0) (lowest (redistributor u vcpu.0))) (taken (redistributor w vcpu.0) (lowest (redistributor w vcpu.0)))
+    (ap (λ (r : Redistributor). taken r (lowest r)) same) a in
+    (ap (λ (r : Redistributor). reply.Ack (ack_of r (lowest r))) same, after.parts)
+decides u w (call.Show vcpu) a =
+    let same : redistributor u vcpu.0 ≡ redistributor w vcpu.0 = redist_same u w (Redist vcpu ∷ []) vcpu.0 (in_head (Redist vcpu) []) a in
+    (ap (λ (r : Redistributor). reply.Ack (ack_of r (lowest r))) same, a.parts)
+decides u w (call.Poke addr bytes) a =
+    let same : u.memory ≡ w.memory = a.parts Mem (in_head Mem []) in
+    let after = agree_memory u w (Mem ∷ []) (unwrap_or (write_at u.memory addr.0 bytes) u.memory) (unwrap_or (write_at w.memory addr.0 bytes) w.memory)
+    (ap (λ (m : List Window). unwrap_or (write_at m addr.0 bytes) m) same) a in
+    (ap (λ (m : List Window). poke_reply (write_at m addr.0 bytes)) same, after.parts)
+decides u w (call.Peek addr count) a =
+    let same : u.memory ≡ w.memory = a.parts Mem (in_head Mem []) in
+    (ap (λ (m : List Window). peek_reply (if nat_lt 0 count && nat_le count 64 then read_at m addr.0 count else None)) same, a.parts)
+decides u w (call.ReadReg its off size) a =
+    (ap (λ (t : Translator). reply.Value (read_reg t.regs off size)) (translator_same u w (MapsOf its ∷ []) its (in_head (MapsOf its) []) a), a.parts)
+decides u w (call.WriteReg its off size value) a =
+    let after = agree_translator u w (MapsOf its ∷ []) its (translator_written (translator u its) (write_reg (regs_of u its) off size value)) (translator_written (translator w its) (write_reg (regs_of w its) off size value))
+    (ap (λ (t : Translator). translator_written t (write_reg t.regs off size value)) (translator_same u w (MapsOf its ∷ []) its (in_head (MapsOf its) []) a)) a in
+    (refl, after.parts)
+decides u w (call.Step its) a = let d = step_decided u w its a in (ap (λ (s : StepReply). reply.Step s) d.0, d.1)

@@ -1,0 +1,9 @@
+pub mod Listed
+pub mod Stays
+pub mod Chains
+pub mod StaysRan
+pub mod Footprints
+pub mod OtherParts
+pub mod Alike
+pub mod AlikeRan
+pub mod Decided

@@ -1,0 +1,67 @@
+-- Elements of lists: what a write changes, and which parts a list names.
+use Rattle.std.proofs.Common.{◌≡◌, ◌≢◌, ℕ, zero, suc, ◌≤◌, List, [], ◌∷◌, ◌++◌, get_or, set, slice_get, Option, Some, None, refl, ap, subst, arith}
+use Rattle.its_types.specs.declared.ids.Vcpu.{Vcpu}
+use Rattle.its_types.specs.declared.machine.Part.{Part}
+use Rattle.its_types.specs.declared.machine.Part.TheVariants.{Redist}
+use Rattle.its_plain.specs.Parts.{IsIn, redist, redist_of, redists_below}
+
+-- a write changes no other element
+pub set_else : {A : Type 0} (xs : List A) (i j : ℕ) (y : A) → j ≢ i → slice_get (set xs i y) j ≡ slice_get xs j
+set_else [] i j y ne = refl
+set_else (x ∷ xs) zero zero y ne = absurd (ne refl)
+set_else (x ∷ xs) zero (suc j) y ne = refl
+set_else (x ∷ xs) (suc i) zero y ne = refl
+set_else (x ∷ xs) (suc i) (suc j) y ne = set_else xs i j y (λ e. ne (ap suc e))
+
+-- the same write to both leaves the same element, wherever it is
+pub set_alike : {A : Type 0} (xs ys : List A) (i j : ℕ) (a b : A) → slice_get xs j ≡ slice_get ys j → a ≡ b → slice_get (set xs i a) j ≡ slice_get (set ys i b) j
+set_alike [] [] i j a b e s = refl
+set_alike [] (y ∷ ys) zero zero a b e s = absurd cc
+set_alike [] (y ∷ ys) zero (suc j) a b e s = e
+set_alike [] (y ∷ ys) (suc i) zero a b e s = e
+set_alike [] (y ∷ ys) (suc i) (suc j) a b e s = set_alike [] ys i j a b e s
+set_alike (x ∷ xs) [] zero zero a b e s = absurd cc
+set_alike (x ∷ xs) [] zero (suc j) a b e s = e
+set_alike (x ∷ xs) [] (suc i) zero a b e s = e
+set_alike (x ∷ xs) [] (suc i) (suc j) a b e s = set_alike xs [] i j a b e s
+set_alike (x ∷ xs) (y ∷ ys) zero zero a b e s = ap (λ z. Some z) s
+set_alike (x ∷ xs) (y ∷ ys) zero (suc j) a b e s = e
+set_alike (x ∷ xs) (y ∷ ys) (suc i) zero a b e s = e
+set_alike (x ∷ xs) (y ∷ ys) (suc i) (suc j) a b e s = set_alike xs ys i j a b e s
+
+pub same_or : {A : Type 0} (xs ys : List A) (i : ℕ) (d : A) → slice_get xs i ≡ slice_get ys i → get_or xs i d ≡ get_or ys i d
+same_or [] [] i d e = refl
+same_or [] (y ∷ ys) zero d e = absurd cc
+same_or [] (y ∷ ys) (suc i) d e = same_or [] ys i d e
+same_or (x ∷ xs) [] zero d e = absurd cc
+same_or (x ∷ xs) [] (suc i) d e = same_or xs [] i d e
+same_or (x ∷ xs) (y ∷ ys) zero d e = cc
+same_or (x ∷ xs) (y ∷ ys) (suc i) d e = same_or xs ys i d e
+
+-- ---- lists of parts
+
+pub in_head : (p : Part) (ps : List Part) → IsIn p (p ∷ ps)
+in_head p ps = (0, refl)
+
+pub in_tail : (p q : Part) (ps : List Part) → IsIn p ps → IsIn p (q ∷ ps)
+in_tail p q ps (n, e) = (suc n, e)
+
+pub in_left : (p : Part) (ps qs : List Part) → IsIn p ps → IsIn p (ps ++ qs)
+in_left p [] qs (n, e) = absurd cc
+in_left p (q ∷ ps) qs (zero, e) = (0, e)
+in_left p (q ∷ ps) qs (suc n, e) = in_tail p q (ps ++ qs) (in_left p ps qs (n, e))
+
+pub in_right : (p : Part) (ps qs : List Part) → IsIn p qs → IsIn p (ps ++ qs)
+in_right p [] qs h = h
+in_right p (q ∷ ps) qs h = in_tail p q (ps ++ qs) (in_right p ps qs h)
+
+pub in_redist_of : (o : Option Vcpu) (v : Vcpu) → o ≡ Some v → IsIn (Redist v) (redist_of o)
+in_redist_of None v e = absurd cc
+in_redist_of (Some x) v e = (let same : x ≡ v = cc in (0, ap (λ (z : Vcpu). Some (Redist z)) same))
+
+-- who is not among the first n has no lower number
+pub not_below : (n v : ℕ) → ¬ IsIn (redist v) (redists_below n) → n ≤ v
+not_below zero v out = omega arith
+not_below (suc n) v out =
+    let least : n ≤ v = not_below n v (λ h. out (in_left (redist v) (redists_below n) (redist n ∷ []) h)) in
+    let other : v ≢ n = (λ e. out (subst (λ (k : ℕ). IsIn (redist v) (redists_below n ++ redist k ∷ [])) e (in_right (redist v) (redists_below n) (redist v ∷ []) (in_head (redist v) [])))) in omega arith

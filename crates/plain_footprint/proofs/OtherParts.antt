@@ -1,0 +1,90 @@
+-- A call changes no part outside its footprint.
+use Rattle.std.proofs.Common.{◌≡◌, ℕ, ◌≤◌, Bool, true, false, List, [], ◌∷◌, Option, Some, None, Result, Ok, Err, sym, subst, unwrap_or, if◌then◌else◌}
+use Rattle.std.proofs.lemmas.Option.{slice_get_past}
+use Rattle.guest_windows.specs.Windows.{write_at}
+use Rattle.gits_regs.specs.Registers.{write_reg, advanced}
+use Rattle.its_command.specs.Commands.{decoded}
+use Rattle.its_types.specs.Lpis.{with_lpi}
+use Rattle.its_types.specs.declared.ids.Target.{Target}
+use Rattle.its_types.specs.declared.machine.Part.{Part}
+use Rattle.its_types.specs.declared.machine.Part.TheVariants.{Maps as MapsOf, Mem, Redist}
+use Rattle.its_plain.specs.Plain.{Plain, translator, redistributor, regs_of, pending_of, is_on}
+use Rattle.its_plain.specs.Sound.{IsSound}
+use Rattle.its_plain.specs.Translation.{◌>>=◌, ensure, located, translated}
+use Rattle.its_plain.specs.Commands.{ran}
+use Rattle.its_plain.specs.Answer.{signal_reply, signal_left, lowest, taken, translator_written, written, command_left, is_idle, next_bytes, met_left, step_left, reply_of, left, answer}
+use Rattle.its_plain.specs.Parts.{SamePart, IsIn, every_redist, needed, footprint}
+use Rattle.its_plain.specs.declared.call.Call.{Call}
+use Rattle.its_plain.specs.declared.call.Call.TheVariants as call
+use Rattle.its_plain.specs.declared.call.Cause.{Cause}
+use Rattle.its_plain.specs.declared.call.Cause.TheVariants.{LpisOff}
+use Rattle.its_plain.specs.declared.call.Reason.{Reason}
+use Rattle.plain_footprint.proofs.Footprints.{parts_of_signal, parts_of_step}
+use Rattle.plain_footprint.proofs.Listed.{in_head, in_tail, not_below}
+use Rattle.plain_footprint.proofs.Stays.{Stay, HasAll, stay, stay_translator, stay_redist, stay_memory}
+use Rattle.plain_footprint.proofs.StaysRan.{Kept, ran_stays}
+
+-- ---- signals
+
+module _ (u : Plain) (its : ℕ) where
+  sent : (t : Target) (on : Bool) → Stay u (MapsOf its ∷ Redist t.vcpu ∷ []) (signal_left u (signal_reply (ensure on LpisOff >>= λ _. Ok t)))
+  sent t true =
+      stay_redist u u (MapsOf its ∷ Redist t.vcpu ∷ []) t.vcpu.0 (record (redistributor u t.vcpu.0) { pending = with_lpi t.intid.0 (pending_of u t.vcpu.0) })
+      (in_tail (Redist t.vcpu) (MapsOf its) (Redist t.vcpu ∷ []) (in_head (Redist t.vcpu) [])) (stay u (MapsOf its ∷ Redist t.vcpu ∷ []))
+  sent t false = stay u (MapsOf its ∷ Redist t.vcpu ∷ [])
+
+  delivered : (found : Result Target Cause) → Stay u (parts_of_signal its found) (signal_left u (signal_reply (found >>= λ t. ensure (is_on u t.vcpu.0) LpisOff >>= λ _. Ok t)))
+  delivered (Ok t) = sent t (is_on u t.vcpu.0)
+  delivered (Err cause) = stay u (parts_of_signal its (Err cause))
+
+  signal_stays : (dev ev : ℕ) → Stay u (parts_of_signal its (located (translator u its) dev ev)) (signal_left u (signal_reply (translated u its dev ev)))
+  unfolding translated
+  signal_stays dev ev = delivered (located (translator u its) dev ev)
+
+-- ---- steps
+
+has_all : (u : Plain) (ps : List Part) → IsSound u → ((p : Part) → IsIn p (every_redist u) → IsIn p ps) → HasAll u ps
+has_all u ps sound every v out =
+    let past : u.layout.shape.vcpus ≤ v.0 = not_below u.layout.shape.vcpus v.0 (λ here. out (every (Redist v) here)) in
+    slice_get_past u.redistributors v.0 (subst (λ (n : ℕ). n ≤ v.0) (sym sound.vcpus) past)
+
+left_stays : (u : Plain) (ps : List Part) (r : Result Plain Reason) → Kept u ps r → Stay u ps (command_left u r)
+left_stays u ps (Ok w) k = k
+left_stays u ps (Err reason) k = stay u ps
+
+module _ (u : Plain) (i : ℕ) (sound : IsSound u) where
+  met_stays : (idle : Bool) (bytes : Option (List ℕ)) → Stay u (parts_of_step u i idle bytes) (if idle then u else met_left u i bytes)
+  met_stays true bytes = stay u (parts_of_step u i true bytes)
+  met_stays false None = stay u (parts_of_step u i false None)
+  met_stays false (Some bytes) =
+      let ps : List Part = parts_of_step u i false (Some bytes) in
+      let here : IsIn (MapsOf i) ps = in_head (MapsOf i) (Mem ∷ needed u i (decoded bytes)) in
+      let w : Plain = command_left u (ran u i (decoded bytes)) in
+      stay_translator u w ps i (record (translator w i) { regs = advanced (regs_of w i) }) here
+      (left_stays u ps (ran u i (decoded bytes))
+      (ran_stays u ps i (decoded bytes) here (λ p at. in_tail p (MapsOf i) (Mem ∷ needed u i (decoded bytes)) (in_tail p Mem (needed u i (decoded bytes)) at)) (has_all u ps sound)))
+
+  step_stays : Stay u (parts_of_step u i (is_idle u i) (next_bytes u i)) (step_left u i)
+  unfolding step_left
+  step_stays = met_stays (is_idle u i) (next_bytes u i)
+
+-- ---- all calls
+
+others_stay : (u : Plain) (c : Call) → IsSound u → Stay u (footprint u c) (answer u c).1
+unfolding footprint reply_of left written
+others_stay u (call.Signal its dev ev) sound = signal_stays u its dev.0 ev.0
+others_stay u (call.Take vcpu) sound =
+    stay_redist u u (Redist vcpu ∷ []) vcpu.0 (taken (redistributor u vcpu.0) (lowest (redistributor u vcpu.0))) (in_head (Redist vcpu) []) (stay u (Redist vcpu ∷ []))
+others_stay u (call.Show vcpu) sound = stay u (Redist vcpu ∷ [])
+others_stay u (call.Poke addr bytes) sound = stay_memory u u (Mem ∷ []) (unwrap_or (write_at u.memory addr.0 bytes) u.memory) (in_head Mem []) (stay u (Mem ∷ []))
+others_stay u (call.Peek addr count) sound = stay u (Mem ∷ [])
+others_stay u (call.ReadReg its off size) sound = stay u (MapsOf its ∷ [])
+others_stay u (call.WriteReg its off size value) sound =
+    stay_translator u u (MapsOf its ∷ []) its (translator_written (translator u its) (write_reg (regs_of u its) off size value)) (in_head (MapsOf its) []) (stay u (MapsOf its ∷ []))
+others_stay u (call.Step its) sound = step_stays u its sound
+
+pub other_parts : (u : Plain) (c : Call) (p : Part) → IsSound u → ¬ IsIn p (footprint u c) → SamePart u (answer u c).1 p
+other_parts u c p sound out = (others_stay u c sound).parts p out
+
+pub layout_is : (u : Plain) (c : Call) → IsSound u → u.layout ≡ (answer u c).1.layout
+layout_is u c sound = (others_stay u c sound).layout

@@ -1,0 +1,22 @@
+-- What the parts of a machine owe: those outside a call's footprint stay, and those within it decide the answer.
+use Rattle.std.specs.Prelude.{◌≡◌}
+use Rattle.its_types.specs.declared.machine.Part.{Part}
+use Rattle.its_plain.specs.Plain.{Plain}
+use Rattle.its_plain.specs.Sound.{IsSound}
+use Rattle.its_plain.specs.Answer.{answer, reply_of}
+use Rattle.its_plain.specs.Parts.{SamePart, IsIn, AgreesOn, footprint}
+use Rattle.its_plain.specs.declared.call.Call.{Call}
+
+-- a call changes no part outside its footprint; a sound state has just the redistributors that its layout says
+abbrev pub OtherPartsStay : Type 0
+OtherPartsStay = (u : Plain) (c : Call) (p : Part) → IsSound u → ¬ IsIn p (footprint u c) → SamePart u (answer u c).1 p
+
+-- two states of one machine that have a call's footprint in common answer it alike, and have those parts in common afterwards
+abbrev pub FootprintDecides : Type 0
+FootprintDecides =
+    (u w : Plain) (c : Call) → AgreesOn u w (footprint u c)
+    → (reply_of u c ≡ reply_of w c) × ((p : Part) → IsIn p (footprint u c) → SamePart (answer u c).1 (answer w c).1 p)
+
+-- no call changes the layout
+abbrev pub LayoutStays : Type 0
+LayoutStays = (u : Plain) (c : Call) → IsSound u → u.layout ≡ (answer u c).1.layout

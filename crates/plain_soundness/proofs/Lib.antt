@@ -1,0 +1,13 @@
+pub mod Lists
+pub mod FiniteMaps
+pub mod Mapped
+pub mod Written
+pub mod States
+pub mod Pending
+pub mod Translated
+pub mod Places
+pub mod Reread
+pub mod Run
+pub mod Answers
+pub mod First
+pub mod Migrated

@@ -1,0 +1,52 @@
+//! What each kind of call keeps.
+ghost use Rattle.plain_soundness.specs.Laws as laws;
+
+/// The LPI that would be acknowledged is only read.
+pub fn show_keeps_soundness()
+    ensures { laws.ShowKeepsSound }
+{}
+
+/// Guest memory is only read.
+pub fn peek_keeps_soundness()
+    ensures { laws.PeekKeepsSound }
+{}
+
+/// A register is only read.
+pub fn register_read_keeps_soundness()
+    ensures { laws.RegisterReadKeepsSound }
+{}
+
+/// An acknowledged LPI leaves a pending set that is still in order.
+pub fn take_keeps_soundness()
+    ensures { laws.TakeKeepsSound }
+{}
+
+/// A write of guest memory leaves every table in one window.
+pub fn poke_keeps_soundness()
+    ensures { laws.PokeKeepsSound }
+{}
+
+/// A new device or collection table is empty, and every other write leaves the tables as they are.
+pub fn register_write_keeps_soundness()
+    ensures { laws.RegisterWriteKeepsSound }
+{}
+
+/// A message makes an LPI pending where LPIs are on.
+pub fn signal_keeps_soundness()
+    ensures { laws.SignalKeepsSound }
+{}
+
+/// A step is idle, or takes a command and goes on in the queue.
+pub fn step_keeps_soundness()
+    ensures { laws.StepKeepsSound }
+{}
+
+/// Every call leaves a sound state sound.
+pub fn calls_keep_soundness()
+    ensures { laws.CallsKeepSound }
+{}
+
+/// So the state after any calls from a sound state on is sound.
+pub fn histories_keep_soundness()
+    ensures { laws.HistoriesKeepSound }
+{}

@@ -1,0 +1,4 @@
+pub mod Founds
+pub mod Choices
+pub mod Sets
+pub mod Lawful
