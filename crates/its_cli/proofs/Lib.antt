@@ -1,0 +1,6 @@
+pub mod Pieces
+pub mod Playing
+pub mod Turns
+pub mod Playeds
+pub mod Runs
+pub mod Causes

@@ -1,0 +1,4 @@
+pub mod Streams
+pub mod Solo
+pub mod Its
+pub mod Answered

@@ -1,0 +1,26 @@
+//! The command `its`.
+#![tactic(auto)]
+
+mod its;
+mod said;
+mod solo;
+mod status;
+mod streams;
+#[cfg(test)]
+mod tests;
+
+use its::its;
+use its_io::{StdSink, StdSource};
+use std::process::ExitCode;
+use std::{env, io};
+
+fn main(rt: HostRuntime) -> io::Result<ExitCode> {
+    let mut words = Vec::new(rt.alloc());
+    for word in env::args(&rt)? {
+        words.push(word)?;
+    }
+    let mut source = StdSource::new(rt.stdin());
+    let mut sink = StdSink::new(rt.stdout());
+    let status = its(rt.alloc(), &words, &mut source, &mut sink);
+    Ok(ExitCode::from(status as u8))
+}

@@ -1,0 +1,22 @@
+/// How the command ends, as the process's exit status.
+#[derive(Clone, Copy, Debug, PartialEq, Eq)]
+pub enum Status {
+    /// The report was printed.
+    Ok = 0,
+    /// The input is no script.
+    ScriptRefused = 1,
+    /// The words are no command.
+    WordsRefused = 2,
+    /// A read failed.
+    ReadFault = 3,
+    /// A write failed.
+    WriteFault = 4,
+    /// Memory ran out.
+    Memory = 5,
+    /// The description makes no machine.
+    MachineRefused = 6,
+    /// A leg has more calls than places.
+    Spent = 8,
+    /// The input is too long.
+    TooLong = 9,
+}
