@@ -1,7 +1,11 @@
 //! The command `its`.
 #![tactic(auto)]
 
+#[cfg(test)]
+mod examples;
 mod its;
+#[cfg(test)]
+mod registers_examples;
 mod said;
 mod solo;
 mod status;

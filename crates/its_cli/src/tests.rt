@@ -34,7 +34,8 @@ fn ends_so(alloc: Global, body: &str, status: Status, text: &str) -> Option<bool
 fn scripts_are_answered(rt: HostRuntime) {
     let alloc = rt.alloc();
     for (body, status, text) in [
-        ("end\n", Status::ScriptRefused, "refused script 6 missing\n"),
+        ("", Status::ScriptRefused, "refused script 6 missing\n"),
+        ("end\n", Status::Ok, "leg 1\nvcpu 0 pending none\ndone\n"),
         (
             "phase\nthread\nshow 0\nend",
             Status::ScriptRefused,
