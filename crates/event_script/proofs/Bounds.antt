@@ -21,7 +21,8 @@ use Rattle.event_script.specs.declared.draft.Stage.{Stage}
 use Rattle.event_script.specs.declared.draft.Stage.TheVariants as stage
 use Rattle.event_script.specs.declared.draft.TheConstants.{MOST_PHASES}
 use Rattle.event_script.proofs.Steps.{left_true, right_true, both_true, below, bound, bound_by, ensured, chosen}
-use Rattle.event_script.proofs.Good.{IsGood, given_shards, given_limits, in_body, empty_is_good, keyword_good}
+use Rattle.event_script.proofs.Good.{IsGood, given_shards, given_limits, in_body, empty_is_good}
+use Rattle.event_script.proofs.GoodBody.{keyword_good}
 
 words_good : (d : Draft) (n : ℕ) (fs : List (List ℕ)) → IsGood d → IfOk (words_line d n fs) IsGood
 unfolding words_line

@@ -4,4 +4,5 @@ pub mod Lines
 pub mod Steps
 pub mod Calling
 pub mod Good
+pub mod GoodBody
 pub mod Bounds

@@ -1,0 +1,207 @@
+-- What each draft keeps while lines of the body are read.
+use Rattle.std.proofs.Common.{◌≡◌, ℕ, ◌+◌, ◌≤◌, true, false, not, ◌&&◌, ◌||◌, nat_lt, nat_le, nat_eq, List, [], ◌∷◌, ◌++◌, length, Result, IfOk, refl, arith}
+use Rattle.std.specs.List.{list_all}
+use Rattle.std.proofs.lemmas.Bool.{ltb-true, lt-ltb}
+use Rattle.std.proofs.lemmas.List.{length-append}
+use Rattle.its_plain.specs.declared.call.Call.{Call}
+use Rattle.event_script.specs.Description.{at_start, in_description, in_phase, in_thread, is_ended}
+use Rattle.event_script.specs.Calls.{signal_of, take_of, show_of, poke_of, word_of, command_call_of, peek_of, read_of, write_of, step_of}
+use Rattle.event_script.specs.Body.{is_described, is_whole, may_go_on, threads_so_far, phases_so_far, phase_line, thread_line, end_line, call_line, word_line, keyword_line}
+use Rattle.event_script.specs.Limits.{is_call, is_thread, is_phase}
+use Rattle.event_script.specs.declared.fault.Kind.{Kind}
+use Rattle.event_script.specs.declared.fault.Kind.TheVariants as kind
+use Rattle.event_script.specs.declared.words.Keyword.{Keyword}
+use Rattle.event_script.specs.declared.words.Keyword.TheVariants as on
+use Rattle.event_script.specs.declared.draft.Draft.{Draft}
+use Rattle.event_script.specs.declared.draft.Stage.{Stage}
+use Rattle.event_script.specs.declared.draft.Stage.TheVariants as stage
+use Rattle.event_script.specs.declared.draft.TheConstants.{MOST_PHASES, MOST_THREADS, MOST_CALLS}
+use Rattle.event_script.proofs.Steps.{left_true, right_true, both_true, below, all_pushed, bound_by, ensured, chosen}
+use Rattle.event_script.proofs.Calling.{signal_is_call, take_is_call, show_is_call, poke_is_call, word_is_call, command_is_call, peek_is_call, read_is_call, write_is_call, step_is_call}
+use Rattle.event_script.proofs.Good.{in_body, open_phases, open_threads, clash, IsFair, HasCalls, IsGood, shards_good, vcpus_good, limits_good, window_good, config_good, pending_good, bytes_good, word_fill_good}
+
+one_open : (s : Stage) → in_thread s ≡ true → (open_phases s ≡ 1) × (open_threads s ≡ 1)
+one_open stage.Start e = absurd (cc)
+one_open stage.Description e = absurd (cc)
+one_open stage.Phase e = absurd (cc)
+one_open stage.Thread e = (refl, refl)
+one_open stage.Ended e = absurd (cc)
+
+thread_in_body : (s : Stage) → in_thread s ≡ true → in_body s ≡ true
+thread_in_body stage.Start e = absurd (cc)
+thread_in_body stage.Description e = absurd (cc)
+thread_in_body stage.Phase e = absurd (cc)
+thread_in_body stage.Thread e = refl
+thread_in_body stage.Ended e = absurd (cc)
+
+pub record IsOpen (s : Stage) : Type 0 where
+  pub phase : open_phases s ≡ 1
+  pub body : in_body s ≡ true
+  pub started : at_start s ≡ false
+
+phase_open : (s : Stage) → (in_phase s || in_thread s) ≡ true → IsOpen s
+phase_open stage.Start e = absurd (cc)
+phase_open stage.Description e = absurd (cc)
+phase_open stage.Phase e = record { phase = refl; body = refl; started = refl }
+phase_open stage.Thread e = record { phase = refl; body = refl; started = refl }
+phase_open stage.Ended e = absurd (cc)
+
+started : (s : Stage) → (not (at_start s) && not (is_ended s)) ≡ true → at_start s ≡ false
+started stage.Start e = absurd (cc)
+started stage.Description e = refl
+started stage.Phase e = refl
+started stage.Thread e = refl
+started stage.Ended e = refl
+
+-- the open phase is one when it is closed
+closed_phase : (d : Draft) → HasCalls d → in_thread d.stage ≡ true → is_phase (length d.pending) (d.threads ++ d.calls ∷ []) ≡ true
+closed_phase d h e =
+    let n : ℕ = length d.pending in
+    let ts : List (List Call) = d.threads ++ d.calls ∷ [] in
+    let count : length ts ≡ length d.threads + 1 = length-append d.threads (d.calls ∷ []) in
+    let room : length ts ≤ MOST_THREADS = omega (arith, count, h.thread_room, (one_open d.stage e).1) in
+    both_true (nat_lt 0 (length ts) && nat_le (length ts) MOST_THREADS) (list_all (is_thread n) ts)
+    (both_true (nat_lt 0 (length ts)) (nat_le (length ts) MOST_THREADS) (lt-ltb 0 (length ts) (omega (arith, count))) (below (length ts) MOST_THREADS room))
+    (all_pushed (is_thread n) d.threads d.calls h.threads h.calls)
+
+phases_all : (d : Draft) → HasCalls d → list_all (is_phase (length d.pending)) (phases_so_far d) ≡ true
+phases_all d h =
+    chosen (λ ps. list_all (is_phase (length d.pending)) ps ≡ true) (in_thread d.stage) _ _
+    (λ e. all_pushed (is_phase (length d.pending)) d.phases (d.threads ++ d.calls ∷ []) h.phases (closed_phase d h e))
+    (λ _. h.phases)
+
+phases_fit : (d : Draft) → HasCalls d → length (phases_so_far d) ≤ MOST_PHASES
+phases_fit d h =
+    chosen (λ ps. length ps ≤ MOST_PHASES) (in_thread d.stage) _ _
+    (λ e. omega (arith, length-append d.phases ((d.threads ++ d.calls ∷ []) ∷ []), h.phase_room, (one_open d.stage e).0))
+    (λ _. omega (arith, h.phase_room))
+
+threads_all : (d : Draft) → HasCalls d → list_all (is_thread (length d.pending)) (threads_so_far d) ≡ true
+threads_all d h =
+    chosen (λ ts. list_all (is_thread (length d.pending)) ts ≡ true) (in_thread d.stage) _ _
+    (λ _. all_pushed (is_thread (length d.pending)) d.threads d.calls h.threads h.calls)
+    (λ _. h.threads)
+
+-- what the description has is the same at a later stage
+later : (d e : Draft) → IsFair d → at_start d.stage ≡ false → e.pending ≡ d.pending → e.shards ≡ d.shards → e.limits ≡ d.limits → e.windows ≡ d.windows → e.fills ≡ d.fills → IsFair e
+later d e h s p sh l w f = record {
+  few = rw p h.few;
+  some = λ _. rw p (h.some s);
+  shards = rw sh h.shards;
+  limits = rw l h.limits;
+  windows = rw w h.windows;
+  fills = rw f h.fills;
+}
+
+phase_good : (d : Draft) (fs : List (List ℕ)) → IsGood d → IfOk (phase_line d fs) IsGood
+unfolding phase_line
+phase_good d fs h =
+    ensured IsGood (may_go_on d) kind.Order _ (λ on.
+    ensured IsGood (is_whole d) kind.Missing _ (λ whole.
+    ensured IsGood (nat_eq (length fs) 1) kind.Fields _ (λ _.
+    ensured IsGood (nat_lt (length (phases_so_far d)) MOST_PHASES) kind.Many _ (λ room.
+    record {
+      fair = later d (record d { stage = stage.Phase; phases = phases_so_far d; threads = []; calls = [] }) h.fair (started d.stage on) refl refl refl refl refl;
+      described = λ _. left_true (is_described d) (not (in_phase d.stage)) whole;
+      early = λ off. clash off refl;
+      body = record {
+        phases = phases_all d h.body;
+        phase_room = omega (arith, ltb-true (length (phases_so_far d)) MOST_PHASES room);
+        threads = refl;
+        thread_room = omega arith;
+        calls = refl;
+      };
+    }))))
+
+end_good : (d : Draft) (fs : List (List ℕ)) → IsGood d → IfOk (end_line d fs) IsGood
+unfolding end_line
+end_good d fs h =
+    ensured IsGood (may_go_on d) kind.Order _ (λ on.
+    ensured IsGood (is_whole d) kind.Missing _ (λ whole.
+    ensured IsGood (nat_eq (length fs) 1) kind.Fields _ (λ _.
+    record {
+      fair = later d (record d { stage = stage.Ended; phases = phases_so_far d; threads = []; calls = [] }) h.fair (started d.stage on) refl refl refl refl refl;
+      described = λ _. left_true (is_described d) (not (in_phase d.stage)) whole;
+      early = λ off. clash off refl;
+      body = record {
+        phases = phases_all d h.body;
+        phase_room = omega (arith, phases_fit d h.body);
+        threads = refl;
+        thread_room = omega arith;
+        calls = refl;
+      };
+    })))
+
+thread_good : (d : Draft) (fs : List (List ℕ)) → IsGood d → IfOk (thread_line d fs) IsGood
+unfolding thread_line
+thread_good d fs h =
+    ensured IsGood (in_phase d.stage || in_thread d.stage) kind.Order _ (λ on.
+    let open_now : IsOpen d.stage = phase_open d.stage on in
+    ensured IsGood (nat_eq (length fs) 1) kind.Fields _ (λ _.
+    ensured IsGood (nat_lt (length (threads_so_far d)) MOST_THREADS) kind.Many _ (λ room.
+    record {
+      fair = later d (record d { stage = stage.Thread; threads = threads_so_far d; calls = [] }) h.fair open_now.started refl refl refl refl refl;
+      described = λ _. h.described open_now.body;
+      early = λ off. clash off refl;
+      body = record {
+        phases = h.body.phases;
+        phase_room = omega (arith, h.body.phase_room, open_now.phase);
+        threads = threads_all d h.body;
+        thread_room = omega (arith, ltb-true (length (threads_so_far d)) MOST_THREADS room);
+        calls = refl;
+      };
+    })))
+
+abbrev IsCallOf : Draft → Call → Type 0
+IsCallOf d c = is_call (length d.pending) c ≡ true
+
+call_good : (d : Draft) (read : Result Call Kind) → IsGood d → IfOk read (IsCallOf d) → IfOk (call_line d read) IsGood
+unfolding call_line
+call_good d read h reads =
+    ensured IsGood (in_thread d.stage) kind.Order _ (λ here.
+    bound_by IsGood read (IsCallOf d) _ reads (λ c is.
+    ensured IsGood (nat_lt (length d.calls) MOST_CALLS) kind.Many _ (λ room.
+    let n : ℕ = length d.pending in
+    let cs : List Call = d.calls ++ c ∷ [] in
+    let more : length cs ≤ MOST_CALLS = omega (arith, length-append d.calls (c ∷ []), ltb-true (length d.calls) MOST_CALLS room) in
+    record {
+      fair = record { few = h.fair.few; some = h.fair.some; shards = h.fair.shards; limits = h.fair.limits; windows = h.fair.windows; fills = h.fair.fills };
+      described = h.described;
+      early = λ off. clash off (thread_in_body d.stage here);
+      body = record {
+        phases = h.body.phases;
+        phase_room = h.body.phase_room;
+        threads = h.body.threads;
+        thread_room = h.body.thread_room;
+        calls = both_true (nat_le (length cs) MOST_CALLS) (list_all (is_call n) cs) (below (length cs) MOST_CALLS more)
+            (all_pushed (is_call n) d.calls c (right_true (nat_le (length d.calls) MOST_CALLS) (list_all (is_call n) d.calls) h.body.calls) is);
+      };
+    })))
+
+word_good : (d : Draft) (n : ℕ) (fs : List (List ℕ)) → IsGood d → IfOk (word_line d n fs) IsGood
+unfolding word_line
+word_good d n fs h =
+    chosen {A = Result Draft Kind} (λ r. IfOk r IsGood) (in_description d.stage) _ _ (word_fill_good d n fs h) (λ _. call_good d (word_of fs) h (word_is_call (length d.pending) fs))
+
+pub keyword_good : (d : Draft) (n : ℕ) (k : Keyword) (fs : List (List ℕ)) → IsGood d → IfOk (keyword_line d n k fs) IsGood
+unfolding keyword_line
+keyword_good d n on.Vcpus fs h = vcpus_good d fs h
+keyword_good d n on.Shards fs h = shards_good d fs h
+keyword_good d n on.Limits fs h = limits_good d fs h
+keyword_good d n on.Window fs h = window_good d fs h
+keyword_good d n on.Config fs h = config_good d fs h
+keyword_good d n on.Pending fs h = pending_good d fs h
+keyword_good d n on.Bytes fs h = bytes_good d n fs h
+keyword_good d n on.Word fs h = word_good d n fs h
+keyword_good d n on.Phase fs h = phase_good d fs h
+keyword_good d n on.Thread fs h = thread_good d fs h
+keyword_good d n on.End fs h = end_good d fs h
+keyword_good d n on.Signal fs h = call_good d (signal_of fs) h (signal_is_call (length d.pending) fs)
+keyword_good d n on.Take fs h = call_good d (take_of (length d.pending) fs) h (take_is_call (length d.pending) fs)
+keyword_good d n on.Show fs h = call_good d (show_of (length d.pending) fs) h (show_is_call (length d.pending) fs)
+keyword_good d n on.Poke fs h = call_good d (poke_of fs) h (poke_is_call (length d.pending) fs)
+keyword_good d n on.Peek fs h = call_good d (peek_of fs) h (peek_is_call (length d.pending) fs)
+keyword_good d n on.Command fs h = call_good d (command_call_of fs) h (command_is_call (length d.pending) fs)
+keyword_good d n on.Read fs h = call_good d (read_of fs) h (read_is_call (length d.pending) fs)
+keyword_good d n on.Write fs h = call_good d (write_of fs) h (write_is_call (length d.pending) fs)
+keyword_good d n on.Step fs h = call_good d (step_of fs) h (step_is_call (length d.pending) fs)
