@@ -1,0 +1,64 @@
+-- The state of the plain translators that parts in hand stand for.
+use Rattle.std.specs.Prelude.{◌≡◌, ◌<◌, ℕ, false, List, [], ◌∷◌, map, take, slice_get, Option, Some, None}
+use Rattle.gits_regs.specs.Registers.{Registers}
+use Rattle.guest_windows.specs.Windows.{Window}
+use Rattle.its_types.specs.Maps.{Maps}
+use Rattle.its_types.specs.declared.machine.Shape.{Shape}
+use Rattle.its_plain.specs.Machine.{described_bases}
+use Rattle.its_plain.specs.Plain.{Plain, Layout, Redistributor, no_redistributor}
+use Rattle.its_plain.specs.Sound.{IsSound}
+use Rattle.its_plain.specs.declared.desc.Desc.{Desc}
+use Rattle.lpi_pending.specs.InHand.{in_hand}
+use Rattle.lpi_pending.specs.declared.redist.Redist.{Redist}
+
+-- a redistributor in hand, as the plain machine has it
+abbrev pub redistributor_of : Redist → Redistributor
+redistributor_of r = record { bases = r.bases; pending = r.pending.lpis; config = r.config.bytes }
+
+-- its pending set and its configuration are those of a machine's LPIs
+pub record HasLpisOf (shape : Shape) (r : Redist) : Type 0 where
+  pub pending_bits : r.pending.lpi_bits ≡ shape.lpi_bits
+  pub config_bits : r.config.lpi_bits ≡ shape.lpi_bits
+
+-- ---- some parts of a state
+
+-- the redistributor in hand is the one that the state has for the virtual processor
+pub record IsRedistributorOf (u : Plain) (vcpu : ℕ) (r : Redist) : Type 0 where
+  pub lpis : HasLpisOf u.layout.shape r
+  pub same : slice_get u.redistributors vcpu ≡ Some (redistributor_of r)
+
+abbrev pub AreRedistributorsOf : Plain → List (Option Redist) → Type 0
+AreRedistributorsOf u redists = (vcpu : ℕ) (r : Redist) → in_hand redists vcpu ≡ Some r → IsRedistributorOf u vcpu r
+
+-- what is in hand is what the state has: translator number i, guest memory, and some redistributors
+pub record ArePartsOf (u : Plain) (i : ℕ) (shape : Shape) (regs : Registers) (maps : Maps) (memory : List Window) (redists : List (Option Redist)) : Type 0 where
+  pub shape_is : u.layout.shape ≡ shape
+  pub translator_is : slice_get u.translators i ≡ Some (record { regs = regs; maps = maps })
+  pub memory_is : u.memory ≡ memory
+  pub redistributors_are : AreRedistributorsOf u redists
+
+-- it is what some sound state has
+abbrev pub ArePartsOfSound : Shape → Registers → Maps → List Window → List (Option Redist) → Type 0
+ArePartsOfSound shape regs maps memory redists = (u : Plain) × (i : ℕ) × IsSound u × ArePartsOf u i shape regs maps memory redists
+
+-- ---- all parts of a state with one translator
+
+-- the redistributor of each virtual processor is in hand
+abbrev pub AreAllInHand : Shape → List (Option Redist) → Type 0
+AreAllInHand shape redists = (vcpu : ℕ) → vcpu < shape.vcpus → (r : Redist) × (in_hand redists vcpu ≡ Some r) × HasLpisOf shape r
+
+abbrev pub redistributor_or : Option Redist → Redistributor
+redistributor_or None = no_redistributor
+redistributor_or (Some r) = redistributor_of r
+
+abbrev pub state_of : Layout → Registers → Maps → List Window → List (Option Redist) → Plain
+state_of layout regs maps memory redists = record {
+  layout = layout;
+  translators = record { regs = regs; maps = maps } ∷ [];
+  redistributors = map redistributor_or (take layout.shape.vcpus redists);
+  memory = memory;
+}
+
+-- what a description fixes for good
+abbrev pub layout_of : Desc → Layout
+layout_of d = record { shape = d.shape; gicr = false; described = map (described_bases d.config) d.pending }
