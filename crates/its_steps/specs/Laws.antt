@@ -1,0 +1,98 @@
+-- Each kind of step leads from a good world to a good world.
+use Rattle.std.specs.Prelude.{◌≡◌, ◌≢◌, ◌⊎◌, ℕ, suc, ◌<◌, ◌≤◌, List, [], ◌∷◌, ◌++◌, length, slice_set}
+use Rattle.std.specs.List.{AllByRecursion}
+use mathlib.Core.Option.{some, none}
+use lib.ListN.{get_elem?}
+use Rattle.its_types.specs.declared.machine.Part.{Part}
+use Rattle.its_types.specs.declared.machine.Word.{Word}
+use Rattle.its_plain.specs.Sound.{IsSound}
+use Rattle.its_plain.specs.declared.call.Call.{Call}
+use Rattle.its_plain.specs.declared.call.Entry.{Entry}
+use Rattle.its_plain.specs.declared.call.Reply.{Reply}
+use Rattle.its_steps.specs.Parts.{Setup, Content, Stands, index_of}
+use Rattle.its_steps.specs.World.{Held, Pass, Note, View, World, first_world, loaded, missed, got, kept, out, entry, committed, has_split, split_off, note_of, has_joined, has_met, spent}
+use Rattle.its_steps.specs.Good.{turn_of, IsEnded, IsWhole, Good}
+use Rattle.its_steps.specs.MayCommit.{MayCommit}
+use Rattle.its_steps.specs.declared.change.ShardChange.{ShardChange}
+
+-- before any step
+abbrev pub FirstIsGood : Type 0
+FirstIsGood = (s : Setup) → IsSound s.start → Good s [] (first_world s)
+
+-- from each good world, at each pass
+abbrev pub AtPass : (Setup → List Entry → World → ℕ → View → Type 0) → Type 0
+AtPass F = (s : Setup) (h : List Entry) (w : World) → Good s h w → (i : ℕ) (v : View) → get_elem? w.views i ≡ some v → v.standing ≡ Pass → F s h w i v
+
+-- at the root
+abbrev pub AtRoot : (Setup → List Entry → World → ℕ → View → Type 0) → Type 0
+AtRoot F = AtPass (λ s h w i v. v.number ≡ 0 → F s h w i v)
+
+-- ---- the word
+
+abbrev pub LoadKeeps : Type 0
+LoadKeeps = AtPass (λ s h w i v. Good s h record w { views = slice_set w.views i (loaded v w.word h) })
+
+-- a commit that found the word as expected; one that found another is a load
+abbrev pub CommitKeeps : Type 0
+CommitKeeps = AtPass (λ s h w i v. (expected to : Word) (call : Call) (reply : Reply) (change : ShardChange) (owed : List Held) → w.word ≡ expected → MayCommit s expected to call reply v.held owed
+    → Good s (h ++ entry v.number call reply ∷ []) record w { word = to; views = slice_set w.views i (committed v h expected to call reply change owed) })
+
+-- ---- parts
+
+abbrev pub TryKeeps : Type 0
+TryKeeps = AtPass (λ s h w i v. (p : Part) (c : Content) → Stands s p → turn_of s w.turns p ≡ 0 → get_elem? w.slots (index_of s p) ≡ some (some c)
+    → Good s h record w { turns = slice_set w.turns (index_of s p) (suc v.number); views = slice_set w.views i (got v p c) })
+
+-- the turn was another's
+abbrev pub MissKeeps : Type 0
+MissKeeps = AtPass (λ s h w i v. (p : Part) (found : ℕ) → Good s h record w { views = slice_set w.views i (missed v p found) })
+
+abbrev pub TakeOutKeeps : Type 0
+TakeOutKeeps = AtPass (λ s h w i v. (p : Part) (c : Content) (before behind : List Held) → v.held ≡ before ++ kept p c ∷ behind
+    → Good s h record w { slots = slice_set w.slots (index_of s p) none; views = slice_set w.views i (record v { held = before ++ out p c ∷ behind }) })
+
+abbrev pub PutHomeKeeps : Type 0
+PutHomeKeeps = AtPass (λ s h w i v. (p : Part) (c : Content) (before behind : List Held) → v.held ≡ before ++ out p c ∷ behind
+    → Good s h record w { slots = slice_set w.slots (index_of s p) (some c); views = slice_set w.views i (record v { held = before ++ kept p c ∷ behind }) })
+
+abbrev pub ReleaseKeeps : Type 0
+ReleaseKeeps = AtPass (λ s h w i v. (p : Part) (c : Content) (before behind : List Held) → v.held ≡ before ++ kept p c ∷ behind
+    → Good s h record w { turns = slice_set w.turns (index_of s p) 0; views = slice_set w.views i (record v { held = before ++ behind }) })
+
+-- ---- passes and notes
+
+abbrev pub SplitKeeps : Type 0
+SplitKeeps = AtRoot (λ s h w i v. Good s h record w { views = slice_set w.views i (has_split v) ++ split_off v ∷ [] })
+
+-- a pass that holds nothing is joined
+abbrev pub JoinKeeps : Type 0
+JoinKeeps = AtRoot (λ s h w i v. (j : ℕ) (u : View) → j ≢ i → get_elem? w.views j ≡ some u → u.standing ≡ Pass → u.held ≡ []
+    → Good s h record w { views = slice_set (slice_set w.views i (has_joined v u)) j spent })
+
+abbrev pub NoteKeeps : Type 0
+NoteKeeps = AtPass (λ s h w i v. Good s h record w { views = w.views ++ note_of v ∷ [] })
+
+abbrev pub MeetKeeps : Type 0
+MeetKeeps = AtPass (λ s h w i v. (j : ℕ) (note : View) → get_elem? w.views j ≡ some note → note.standing ≡ Note
+    → Good s h record w { views = slice_set (slice_set w.views i (has_met v note)) j spent })
+
+-- ---- what a good world tells
+
+-- a pass that has read the word as it is has seen the whole history
+abbrev pub ReaderHasSeen : Type 0
+ReaderHasSeen = AtPass (λ s h w i v. v.last.place ≡ w.word.place → (v.last ≡ w.word) × (v.seen ≡ h))
+
+-- no pass but the root is out
+abbrev pub IsAlone : View → Type 0
+IsAlone v = (n : ℕ) → 0 < n → n < v.made → IsEnded n v.ended
+
+-- The root knows which entries there can be, and all that the passes did that were joined. Alone it has read the word, has seen the whole history, and no other pass has a turn
+pub record RootKnows (s : Setup) (h : List Entry) (w : World) (v : View) : Type 0 where
+  pub given : AllByRecursion (λ e. e.pass < v.made) h
+  pub whole : AllByRecursion (IsWhole h v.made) v.ended
+  pub last : IsAlone v → v.last ≡ w.word
+  pub seen : IsAlone v → v.seen ≡ h
+  pub turns : IsAlone v → (p : Part) (n : ℕ) → Stands s p → turn_of s w.turns p ≡ suc n → n ≡ 0
+
+abbrev pub RootKnowsAll : Type 0
+RootKnowsAll = AtRoot (λ s h w i v. RootKnows s h w v)

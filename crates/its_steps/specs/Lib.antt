@@ -1,0 +1,5 @@
+pub mod Parts
+pub mod World
+pub mod Good
+pub mod MayCommit
+pub mod Laws
