@@ -13,6 +13,8 @@ use Rattle.its_steps.specs.Parts.{Setup, Content, Stands, index_of}
 use Rattle.its_steps.specs.World.{Held, Pass, Note, View, World, first_world, loaded, missed, got, kept, out, entry, committed, has_split, split_off, note_of, has_joined, has_met, spent}
 use Rattle.its_steps.specs.Good.{turn_of, IsEnded, IsWhole, Good}
 use Rattle.its_steps.specs.MayCommit.{MayCommit}
+use Rattle.its_steps.specs.MayCall.{MayCall}
+use Rattle.its_steps.specs.Renewal.{renewal}
 use Rattle.its_steps.specs.declared.change.ShardChange.{ShardChange}
 
 -- before any step
@@ -36,6 +38,11 @@ LoadKeeps = AtPass (λ s h w i v. Good s h record w { views = slice_set w.views 
 abbrev pub CommitKeeps : Type 0
 CommitKeeps = AtPass (λ s h w i v. (expected to : Word) (call : Call) (reply : Reply) (change : ShardChange) (owed : List Held) → w.word ≡ expected → MayCommit s expected to call reply v.held owed
     → Good s (h ++ entry v.number call reply ∷ []) record w { word = to; views = slice_set w.views i (committed v h expected to call reply change owed) })
+
+-- a pass that holds the parts of a call may commit it
+abbrev pub HoldersMayCommit : Type 0
+HoldersMayCommit = (s : Setup) (expected to : Word) (call : Call) (reply : Reply) (change : ShardChange) (held : List Held) → MayCall s expected to call reply change held
+    → MayCommit s expected to call reply held (renewal s to call reply change held)
 
 -- ---- parts
 

@@ -30,6 +30,7 @@ pub record IsOfMachine (s : Setup) (u : Plain) : Type 0 where
   pub sound : IsSound u
   pub layout : s.start.layout ≡ u.layout
   pub translators : length s.start.translators ≡ length u.translators
+  pub redistributors : length s.start.redistributors ≡ length u.redistributors
 
 -- ---- which parts there are
 

@@ -19,6 +19,7 @@ use Rattle.its_plain.specs.declared.call.Call.TheVariants as call
 use Rattle.its_plain.specs.declared.call.Cause.{Cause}
 use Rattle.its_plain.specs.declared.call.Cause.TheVariants.{LpisOff}
 use Rattle.its_plain.specs.declared.call.Reason.{Reason}
+use Rattle.plain_footprint.specs.Laws.{HasRedistributors, LeavesOthers}
 use Rattle.plain_footprint.proofs.Footprints.{parts_of_signal, parts_of_step}
 use Rattle.plain_footprint.proofs.Listed.{in_head, in_tail, not_below}
 use Rattle.plain_footprint.proofs.Stays.{Stay, HasAll, stay, stay_translator, stay_redist, stay_memory}
@@ -43,7 +44,7 @@ module _ (u : Plain) (its : ℕ) where
 
 -- ---- steps
 
-has_all : (u : Plain) (ps : List Part) → IsSound u → ((p : Part) → IsIn p (every_redist u) → IsIn p ps) → HasAll u ps
+has_all : (u : Plain) (ps : List Part) → HasRedistributors u → ((p : Part) → IsIn p (every_redist u) → IsIn p ps) → HasAll u ps
 has_all u ps sound every v out =
     let past : u.layout.shape.vcpus ≤ v.0 = not_below u.layout.shape.vcpus v.0 (λ here. out (every (Redist v) here)) in
     slice_get_past u.redistributors v.0 (subst (λ (n : ℕ). n ≤ v.0) (sym sound.vcpus) past)
@@ -52,7 +53,7 @@ left_stays : (u : Plain) (ps : List Part) (r : Result Plain Reason) → Kept u p
 left_stays u ps (Ok w) k = k
 left_stays u ps (Err reason) k = stay u ps
 
-module _ (u : Plain) (i : ℕ) (sound : IsSound u) where
+module _ (u : Plain) (i : ℕ) (sound : HasRedistributors u) where
   met_stays : (idle : Bool) (bytes : Option (List ℕ)) → Stay u (parts_of_step u i idle bytes) (if idle then u else met_left u i bytes)
   met_stays true bytes = stay u (parts_of_step u i true bytes)
   met_stays false None = stay u (parts_of_step u i false None)
@@ -70,7 +71,7 @@ module _ (u : Plain) (i : ℕ) (sound : IsSound u) where
 
 -- ---- all calls
 
-others_stay : (u : Plain) (c : Call) → IsSound u → Stay u (footprint u c) (answer u c).1
+others_stay : (u : Plain) (c : Call) → HasRedistributors u → Stay u (footprint u c) (answer u c).1
 unfolding footprint reply_of left written
 others_stay u (call.Signal its dev ev) sound = signal_stays u its dev.0 ev.0
 others_stay u (call.Take vcpu) sound =
@@ -84,7 +85,10 @@ others_stay u (call.WriteReg its off size value) sound =
 others_stay u (call.Step its) sound = step_stays u its sound
 
 pub other_parts : (u : Plain) (c : Call) (p : Part) → IsSound u → ¬ IsIn p (footprint u c) → SamePart u (answer u c).1 p
-other_parts u c p sound out = (others_stay u c sound).parts p out
+other_parts u c p sound out = (others_stay u c record { vcpus = sound.vcpus }).parts p out
 
 pub layout_is : (u : Plain) (c : Call) → IsSound u → u.layout ≡ (answer u c).1.layout
-layout_is u c sound = (others_stay u c sound).layout
+layout_is u c sound = (others_stay u c record { vcpus = sound.vcpus }).layout
+
+pub leaves : (u : Plain) (c : Call) → HasRedistributors u → LeavesOthers u c
+leaves u c has = let s = others_stay u c has in record { layout = s.layout; translators = s.translators; parts = s.parts }

@@ -1,5 +1,5 @@
 -- States that differ from one in some parts alone.
-use Rattle.std.proofs.Common.{◌≡◌, ℕ, Bool, true, false, List, map, slice_get, Option, None, refl, ap, sym, ◌∙◌, subst, if◌then◌else◌}
+use Rattle.std.proofs.Common.{◌≡◌, ℕ, Bool, true, false, List, length, length-set, map, slice_get, Option, None, refl, ap, sym, ◌∙◌, subst, if◌then◌else◌}
 use Rattle.std.specs.Option.{option_map}
 use Rattle.std.proofs.lemmas.Option.{slice_get-map}
 use Rattle.guest_windows.specs.Windows.{Window}
@@ -10,9 +10,10 @@ use Rattle.its_plain.specs.Plain.{Plain, Translator, Redistributor, with_transla
 use Rattle.its_plain.specs.Parts.{SamePart, IsIn, redist}
 use Rattle.plain_footprint.proofs.Listed.{set_else}
 
--- all parts but these are the same, and the layout
+-- all parts but these are the same, and the layout, and how many translators there are
 pub record Stay (u : Plain) (ps : List Part) (w : Plain) : Type 0 where
   pub layout : u.layout ≡ w.layout
+  pub translators : length u.translators ≡ length w.translators
   pub parts : (p : Part) → ¬ IsIn p ps → SamePart u w p
 
 same_part : (u : Plain) (p : Part) → SamePart u u p
@@ -22,7 +23,7 @@ same_part u (Shard its n) = tt
 same_part u (Redist vcpu) = refl
 
 pub stay : (u : Plain) (ps : List Part) → Stay u ps u
-stay u ps = record { layout = refl; parts = λ p out. same_part u p }
+stay u ps = record { layout = refl; translators = refl; parts = λ p out. same_part u p }
 
 translator_else : (u w : Plain) (i : ℕ) (t : Translator) (p : Part) → ¬ (p ≡ MapsOf i) → SamePart u w p → SamePart u (with_translator w i t) p
 translator_else u w i t (MapsOf j) other s = s ∙ sym (set_else w.translators i j t (λ e. other (ap (λ (k : ℕ). MapsOf k) e)))
@@ -33,6 +34,7 @@ translator_else u w i t (Redist v) other s = s
 pub stay_translator : (u w : Plain) (ps : List Part) (i : ℕ) (t : Translator) → IsIn (MapsOf i) ps → Stay u ps w → Stay u ps (with_translator w i t)
 stay_translator u w ps i t here s = record {
   layout = s.layout;
+  translators = s.translators ∙ sym (length-set w.translators i t);
   parts = λ p out. translator_else u w i t p (λ e. out (subst (λ (q : Part). IsIn q ps) (sym e) here)) (s.parts p out);
 }
 
@@ -45,6 +47,7 @@ redist_else u w v r (Redist x) other s = s ∙ sym (set_else w.redistributors v 
 pub stay_redist : (u w : Plain) (ps : List Part) (v : ℕ) (r : Redistributor) → IsIn (redist v) ps → Stay u ps w → Stay u ps (with_redistributor w v r)
 stay_redist u w ps v r here s = record {
   layout = s.layout;
+  translators = s.translators;
   parts = λ p out. redist_else u w v r p (λ e. out (subst (λ (q : Part). IsIn q ps) (sym e) here)) (s.parts p out);
 }
 
@@ -57,6 +60,7 @@ memory_else u w memory (Redist x) other s = s
 pub stay_memory : (u w : Plain) (ps : List Part) (memory : List Window) → IsIn Mem ps → Stay u ps w → Stay u ps (record w { memory = memory })
 stay_memory u w ps memory here s = record {
   layout = s.layout;
+  translators = s.translators;
   parts = λ p out. memory_else u w memory p (λ e. out (subst (λ (q : Part). IsIn q ps) (sym e) here)) (s.parts p out);
 }
 
@@ -74,7 +78,7 @@ module _ (u w : Plain) (ps : List Part) (f : Redistributor → Redistributor) (a
       all v out ∙ sym (slice_get-map f w.redistributors v.0 ∙ ap (λ (o : Option Redistributor). option_map f o) left)
 
   pub stay_mapped : Stay u ps (record w { redistributors = map f w.redistributors })
-  stay_mapped = record { layout = s.layout; parts = mapped_else }
+  stay_mapped = record { layout = s.layout; translators = s.translators; parts = mapped_else }
 
 pub stay_if : (u a b : Plain) (ps : List Part) (test : Bool) → Stay u ps a → Stay u ps b → Stay u ps (if test then a else b)
 stay_if u a b ps true s t = s

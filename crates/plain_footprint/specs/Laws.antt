@@ -1,5 +1,5 @@
 -- What the parts of a machine owe: those outside a call's footprint stay, and those within it decide the answer.
-use Rattle.std.specs.Prelude.{◌≡◌}
+use Rattle.std.specs.Prelude.{◌≡◌, length}
 use Rattle.its_types.specs.declared.machine.Part.{Part}
 use Rattle.its_plain.specs.Plain.{Plain}
 use Rattle.its_plain.specs.Sound.{IsSound}
@@ -20,3 +20,17 @@ FootprintDecides =
 -- no call changes the layout
 abbrev pub LayoutStays : Type 0
 LayoutStays = (u : Plain) (c : Call) → IsSound u → u.layout ≡ (answer u c).1.layout
+
+-- there are just the redistributors that the layout says
+pub record HasRedistributors (u : Plain) : Type 0 where
+  pub vcpus : length u.redistributors ≡ u.layout.shape.vcpus
+
+-- a call changes neither the layout nor how many translators there are, and no part outside its footprint
+pub record LeavesOthers (u : Plain) (c : Call) : Type 0 where
+  pub layout : u.layout ≡ (answer u c).1.layout
+  pub translators : length u.translators ≡ length (answer u c).1.translators
+  pub parts : (p : Part) → ¬ IsIn p (footprint u c) → SamePart u (answer u c).1 p
+
+-- so it is of every state with its redistributors, sound or not
+abbrev pub CallsLeaveOthers : Type 0
+CallsLeaveOthers = (u : Plain) (c : Call) → HasRedistributors u → LeavesOthers u c

@@ -1,0 +1,130 @@
+-- When a pass may commit a call, told by what it holds.
+use Rattle.std.specs.Prelude.{◌≡◌, ◌⊎◌, ℕ, ◌+◌, ◌<◌, ◌≤◌, true, false, Option, Some, None, Ok, List, [], ◌∷◌, slice_index_or}
+use Rattle.std.specs.List.{AllByRecursion}
+use Rattle.its_types.specs.declared.ids.DeviceId.{DeviceId}
+use Rattle.its_types.specs.declared.ids.EventId.{EventId}
+use Rattle.its_types.specs.declared.ids.Intid.{Intid}
+use Rattle.its_types.specs.declared.ids.Target.{Target}
+use Rattle.its_types.specs.declared.ids.Vcpu.{Vcpu}
+use Rattle.its_types.specs.declared.machine.Part.{Part}
+use Rattle.its_types.specs.declared.machine.Part.TheVariants as part
+use Rattle.its_types.specs.declared.machine.Word.{Word}
+use Rattle.its_plain.specs.Answer.{reply_of, left}
+use Rattle.its_plain.specs.Parts.{footprint}
+use Rattle.its_plain.specs.Plain.{Plain}
+use Rattle.its_plain.specs.Translation.{located, translated}
+use Rattle.its_plain.specs.declared.call.Call.{Call}
+use Rattle.its_plain.specs.declared.call.Call.TheVariants as call
+use Rattle.its_plain.specs.declared.call.Reply.{Reply}
+use Rattle.its_plain.specs.declared.call.Reply.TheVariants as reply
+use Rattle.its_plain.specs.declared.call.Signal.TheVariants.{Delivered}
+use Rattle.xlate_cache.specs.Pairs.{shard_number}
+use Rattle.xlate_cache.specs.Ways.{is_of, entry}
+use Rattle.xlate_cache.specs.declared.entry.Entry.{Entry as Translation}
+use Rattle.its_steps.specs.Parts.{Setup, Content, Maps, Shard, Redist, Stands, translator_count, stamp_of}
+use Rattle.its_steps.specs.World.{Held}
+use Rattle.its_steps.specs.Good.{Holds, Apart}
+use Rattle.its_steps.specs.MayCommit.{IsOut}
+use Rattle.its_steps.specs.Renewal.{assembled, its_of, shard_of, renewal}
+use Rattle.its_steps.specs.declared.change.ShardChange.{ShardChange}
+use Rattle.its_steps.specs.declared.change.ShardChange.TheVariants as change
+
+-- the part is held and owes this
+abbrev pub Owes : Part → Content → List Held → Type 0
+Owes p c [] = ⊥
+Owes p c (x ∷ xs) = ((x.part ≡ p) × (x.owed ≡ c)) ⊎ Owes p c xs
+
+-- ---- the reply
+
+-- every part that the call reads or changes is held, and on what they owe this is the reply
+pub record IsAnswered (s : Setup) (call : Call) (reply : Reply) (held : List Held) : Type 0 where
+  pub covers : AllByRecursion (λ p. Holds p held) (footprint (assembled s held) call)
+  pub reply_is : reply ≡ reply_of (assembled s held) call
+
+-- the pair's shard has its translation under the stamp expected, and the target's redistributor is held; no maps need be
+pub record HasTranslation (s : Setup) (expected : Word) (its : ℕ) (dev : DeviceId) (ev : EventId) (target : Target) (held : List Held) : Type 0 where
+  pub ways : List (Option Translation)
+  pub owes : Owes (part.Shard its (shard_number dev.0 ev.0 s.shards)) (Shard ways) held
+  pub way : ℕ
+  pub there : slice_index_or ways way None ≡ Some (entry dev ev (stamp_of expected its) target)
+  pub redist : Holds (part.Redist target.vcpu) held
+
+-- a signal that is found in the cache
+abbrev pub IsHit : Setup → Word → Call → Reply → List Held → Type 0
+IsHit s expected (call.Signal its dev ev) (reply.Signal (Delivered vcpu intid)) held = HasTranslation s expected its dev ev (record { vcpu = vcpu; intid = intid }) held
+IsHit s expected c r held = ⊥
+
+-- ---- the change of the shards, where the call leaves this state
+
+pub record MayFill (s : Setup) (call : Call) (after : Plain) (held : List Held) (dev : DeviceId) (ev : EventId) (target : Target) : Type 0 where
+  pub maps : Holds (part.Maps (its_of call)) held
+  pub shard : Holds (shard_of s call dev ev) held
+  pub redist : Holds (part.Redist target.vcpu) held
+  pub agrees : translated after (its_of call) dev.0 ev.0 ≡ Ok target
+
+abbrev pub MayChange : Setup → Call → ShardChange → Plain → List Held → Type 0
+MayChange s call (change.Fill dev ev target) after held = MayFill s call after held dev ev target
+MayChange s call (change.Drop dev ev) after held = Holds (shard_of s call dev ev) held
+MayChange s call change after held = Unit {0}
+
+-- ---- the stamp
+
+-- the pair's shard is held, and has no entry of the pair from then on
+pub record IsWithout (s : Setup) (its dev ev : ℕ) (owed : List Held) : Type 0 where
+  pub ways : List (Option Translation)
+  pub owes : Owes (part.Shard its (shard_number dev ev s.shards)) (Shard ways) owed
+  pub none : (i : ℕ) → is_of dev ev (slice_index_or ways i None) ≡ false
+
+-- Each pair that the translator delivered is delivered as before, unless its translation is in no shard any more: the maps send it where they did, and no redistributor is turned off
+abbrev pub IsSteady : Setup → ℕ → List Held → Part → Content → Content → Type 0
+IsSteady s its owed (part.Maps i) (Maps t) (Maps t') = i ≡ its → (dev ev : ℕ) (target : Target) → located t dev ev ≡ Ok target → (located t' dev ev ≡ Ok target) ⊎ IsWithout s its dev ev owed
+IsSteady s its owed (part.Redist vcpu) (Redist r) (Redist r') = r.bases.on ≡ true → r'.bases.on ≡ true
+IsSteady s its owed p c c' = Unit {0}
+
+abbrev pub AreSteady : Setup → ℕ → List Held → List Held → List Held → Type 0
+AreSteady s its owed (x ∷ xs) (y ∷ ys) = IsSteady s its owed x.part x.owed y.owed × AreSteady s its owed xs ys
+AreSteady s its owed [] ys = Unit {0}
+AreSteady s its owed (x ∷ xs) [] = Unit {0}
+
+-- the entry is what the change puts in
+abbrev pub IsFill : Word → Call → ShardChange → ℕ → Translation → Type 0
+IsFill to call (change.Fill dev ev target) its e = (its ≡ its_of call) × (e ≡ entry dev ev (stamp_of to its) target)
+IsFill to call change its e = ⊥
+
+-- no entry was in the translator's shard before
+abbrev pub HasFillsAlone : Word → Call → ShardChange → ℕ → Part → Content → Type 0
+HasFillsAlone to call change its (part.Shard i n) (Shard ways) = i ≡ its → (k : ℕ) (e : Translation) → slice_index_or ways k None ≡ Some e → IsFill to call change its e
+HasFillsAlone to call change its p c = Unit {0}
+
+-- The stamp of a translator stays, where no current translation ends
+pub record StampStays (s : Setup) (expected to : Word) (its : ℕ) (held owed : List Held) : Type 0 where
+  pub same : stamp_of to its ≡ stamp_of expected its
+  pub steady : AreSteady s its owed held owed
+
+-- or rises by one, with its maps held, so that none is current any more
+pub record StampRises (s : Setup) (expected to : Word) (its : ℕ) (held : List Held) : Type 0 where
+  pub maps : Holds (part.Maps its) held
+  pub next : stamp_of to its ≡ stamp_of expected its + 1
+  pub most : stamp_of to its ≤ s.limits.stamp_last
+
+-- or is 0 again, with its maps and all its shards held, none of which keeps an entry
+pub record StampRenews (s : Setup) (to : Word) (call : Call) (change : ShardChange) (its : ℕ) (held owed : List Held) : Type 0 where
+  pub maps : Holds (part.Maps its) held
+  pub shards : (n : ℕ) → n < s.shards → Holds (part.Shard its n) held
+  pub zero : stamp_of to its ≡ 0
+  pub fills : AllByRecursion (λ x. HasFillsAlone to call change its x.part x.owed) owed
+
+abbrev pub MayStamp : Setup → Word → Word → Call → ShardChange → List Held → List Held → ℕ → Type 0
+MayStamp s expected to call change held owed its = StampStays s expected to its held owed ⊎ (StampRises s expected to its held ⊎ StampRenews s to call change its held owed)
+
+-- ---- the commit
+
+pub record MayCall (s : Setup) (expected to : Word) (call : Call) (reply : Reply) (change : ShardChange) (held : List Held) : Type 0 where
+  pub room : expected.place < s.limits.place_last
+  pub next : to.place ≡ expected.place + 1
+  pub stands : AllByRecursion (λ x. Stands s x.part) held
+  pub apart : Apart held
+  pub out : AllByRecursion IsOut held
+  pub answered : IsAnswered s call reply held ⊎ IsHit s expected call reply held
+  pub may_change : MayChange s call change (left (assembled s held) call reply) held
+  pub stamps : (its : ℕ) → its < translator_count s → MayStamp s expected to call change held (renewal s to call reply change held) its
