@@ -8,7 +8,7 @@ use Rattle.its_types.specs.declared.machine.Part.TheVariants as part
 use Rattle.its_steps.specs.Parts.{Setup, Stands, index_of, part_count, translator_count, vcpu_count}
 
 -- a row of a table ends before the next one
-row_below : (rows width i n : ℕ) → i < rows → n < width → i * width + n < rows * width
+pub row_below : (rows width i n : ℕ) → i < rows → n < width → i * width + n < rows * width
 row_below rows width i n lt ln = let m : suc i * width ≤ rows * width = mul-le-mul_right width lt in omega (arith, suc-mul i width, ln)
 
 row_before : (width i j n m : ℕ) → i < j → n < width → i * width + n ≢ j * width + m

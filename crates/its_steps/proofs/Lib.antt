@@ -5,3 +5,5 @@ pub mod Helds
 pub mod Steps
 pub mod Words
 pub mod Turns
+pub mod Passes
+pub mod First

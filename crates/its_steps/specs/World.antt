@@ -111,8 +111,8 @@ first_view s = fresh s 0 1 [] first_word
 -- each part at home as the first state has it, and every shard empty
 abbrev pub first_slots : Setup → List (Option Content)
 first_slots s =
-    map (λ t. some (Maps t)) s.start.translators ++ some (Mem s.start.memory) ∷ replicate (translator_count s * s.shards) (some (Shard no_entries))
-    ++ map (λ r. some (Redist r)) s.start.redistributors
+    map (λ t. some (Maps t)) s.start.translators
+    ++ (some (Mem s.start.memory) ∷ (replicate (translator_count s * s.shards) (some (Shard no_entries)) ++ map (λ r. some (Redist r)) s.start.redistributors))
 
 abbrev pub first_world : Setup → World
 first_world s = record { word = first_word; turns = replicate (part_count s) 0; slots = first_slots s; views = first_view s ∷ [] }
@@ -185,10 +185,10 @@ has_split v = record v { made = v.made + 1 }
 abbrev pub note_of : View → View
 note_of v = record (fresh v.setup 0 0 v.seen first_word) { standing = Note }
 
-abbrev later : View → View → View
+abbrev pub later : View → View → View
 later v w = if nat_lt v.last.place w.last.place then w else v
 
-abbrev earlier : View → View → View
+abbrev pub earlier : View → View → View
 earlier v w = if nat_lt v.last.place w.last.place then v else w
 
 -- the root after a join with the pass w
