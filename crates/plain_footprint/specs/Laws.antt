@@ -34,3 +34,7 @@ pub record LeavesOthers (u : Plain) (c : Call) : Type 0 where
 -- so it is of every state with its redistributors, sound or not
 abbrev pub CallsLeaveOthers : Type 0
 CallsLeaveOthers = (u : Plain) (c : Call) → HasRedistributors u → LeavesOthers u c
+
+-- two states of one machine that have a call's footprint in common have the same footprint of it
+abbrev pub FootprintsAreAlike : Type 0
+FootprintsAreAlike = (u w : Plain) (c : Call) → AgreesOn u w (footprint u c) → footprint u c ≡ footprint w c

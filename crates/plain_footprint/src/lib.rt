@@ -1,7 +1,7 @@
 //! What a call of the plain machine reads and changes: the laws of its parts. Nothing here runs.
 #![tactic(auto)]
 
-ghost use Rattle.plain_footprint.specs.Laws.{CallsLeaveOthers, FootprintDecides, LayoutStays, OtherPartsStay};
+ghost use Rattle.plain_footprint.specs.Laws.{CallsLeaveOthers, FootprintDecides, FootprintsAreAlike, LayoutStays, OtherPartsStay};
 
 /// A call changes no part of the machine outside its footprint.
 pub fn other_parts_stay()
@@ -21,4 +21,9 @@ pub fn layout_stays()
 /// A call leaves all else alone, also where the state is not sound, as one that is put together of parts in hand.
 pub fn calls_leave_others()
     ensures { CallsLeaveOthers }
+{}
+
+/// Who has a call's footprint in hand knows that it is the footprint.
+pub fn footprints_are_alike()
+    ensures { FootprintsAreAlike }
 {}
