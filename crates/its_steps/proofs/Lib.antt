@@ -7,3 +7,5 @@ pub mod Words
 pub mod Turns
 pub mod Passes
 pub mod First
+pub mod Assembled
+pub mod Facts

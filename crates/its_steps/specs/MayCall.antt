@@ -41,18 +41,19 @@ pub record IsAnswered (s : Setup) (call : Call) (reply : Reply) (held : List Hel
   pub covers : AllByRecursion (λ p. Holds p held) (footprint (assembled s held) call)
   pub reply_is : reply ≡ reply_of (assembled s held) call
 
--- the pair's shard has its translation under the stamp expected, and the target's redistributor is held; no maps need be
-pub record HasTranslation (s : Setup) (expected : Word) (its : ℕ) (dev : DeviceId) (ev : EventId) (target : Target) (held : List Held) : Type 0 where
+-- A signal that is found in the cache: its pair's shard has the translation under the stamp expected, and the target's redistributor is held. No maps need be
+pub record IsHit (s : Setup) (expected : Word) (c : Call) (r : Reply) (held : List Held) : Type 0 where
+  pub its : ℕ
+  pub dev : DeviceId
+  pub ev : EventId
+  pub target : Target
+  pub call_is : c ≡ call.Signal its dev ev
+  pub reply_is : r ≡ reply.Signal (Delivered target.vcpu target.intid)
   pub ways : List (Option Translation)
   pub owes : Owes (part.Shard its (shard_number dev.0 ev.0 s.shards)) (Shard ways) held
   pub way : ℕ
   pub there : slice_index_or ways way None ≡ Some (entry dev ev (stamp_of expected its) target)
   pub redist : Holds (part.Redist target.vcpu) held
-
--- a signal that is found in the cache
-abbrev pub IsHit : Setup → Word → Call → Reply → List Held → Type 0
-IsHit s expected (call.Signal its dev ev) (reply.Signal (Delivered vcpu intid)) held = HasTranslation s expected its dev ev (record { vcpu = vcpu; intid = intid }) held
-IsHit s expected c r held = ⊥
 
 -- ---- the change of the shards, where the call leaves this state
 
