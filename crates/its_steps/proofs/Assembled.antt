@@ -1,5 +1,5 @@
 -- The state that the parts held stand for agrees with the machine's on them.
-use Rattle.std.proofs.Common.{◌≡◌, ◌≢◌, ◌⊎◌, ℕ, zero, suc, ◌+◌, ◌<◌, List, [], ◌∷◌, length, set, slice_get, Some, refl, ap, sym, ◌∙◌, subst, inl, inr, ⊎_elim, arith, length-set}
+use Rattle.std.proofs.Common.{◌≡◌, ◌≢◌, ◌⊎◌, ℕ, zero, suc, ◌<◌, List, [], ◌∷◌, length, set, slice_get, Some, refl, ap, sym, ◌∙◌, subst, inl, inr, ⊎_elim, arith, length-set}
 use Rattle.std.specs.List.{AllByRecursion}
 use Rattle.std.proofs.lemmas.Option.{same_Some}
 use mathlib.Core.Logic.{dite}
@@ -7,7 +7,7 @@ use native.Mathlib.Decide.{ℕ_discrete}
 use Rattle.its_types.specs.declared.machine.Part.{Part}
 use Rattle.its_types.specs.declared.machine.Part.TheVariants as part
 use Rattle.its_types.specs.declared.machine.Word.{Word}
-use Rattle.its_plain.specs.Parts.{SamePart, IsIn, AgreesOn}
+use Rattle.its_plain.specs.Parts.{SamePart, IsIn}
 use Rattle.its_plain.specs.Plain.{Plain, Layout}
 use Rattle.plain_footprint.proofs.Listed.{in_head, in_tail}
 use Rattle.plain_footprint.proofs.Stays.{Stay, stay, stay_translator, stay_redist, stay_memory}

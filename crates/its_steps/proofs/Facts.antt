@@ -1,7 +1,6 @@
 -- What a call does that a pass may commit: in every state of the machine that has what the pass holds.
-use Rattle.std.proofs.Common.{◌≡◌, ◌⊎◌, ℕ, List, [], ◌∷◌, slice_get, get_or, Some, None, Ok, Result, refl, ap, sym, ◌∙◌, subst, inl, inr, ⊎_elim}
+use Rattle.std.proofs.Common.{◌≡◌, ◌⊎◌, ℕ, List, [], ◌∷◌, Ok, Result, refl, ap, sym, ◌∙◌, subst, ⊎_elim}
 use Rattle.std.specs.List.{AllByRecursion}
-use Rattle.std.proofs.lemmas.Option.{same_Some}
 use Rattle.its_types.specs.declared.ids.DeviceId.{DeviceId}
 use Rattle.its_types.specs.declared.ids.EventId.{EventId}
 use Rattle.its_types.specs.declared.ids.Target.{Target}
@@ -19,7 +18,6 @@ use Rattle.its_plain.specs.declared.call.Call.TheVariants as call
 use Rattle.its_plain.specs.declared.call.Cause.{Cause}
 use Rattle.its_plain.specs.declared.call.Reply.{Reply}
 use Rattle.its_plain.specs.declared.call.Reply.TheVariants as reply
-use Rattle.its_plain.specs.declared.call.Signal.{Signal}
 use Rattle.its_plain.specs.declared.call.Signal.TheVariants.{Delivered}
 use Rattle.plain_footprint.proofs.Alike.{agree_set}
 use Rattle.plain_footprint.proofs.Decided.{decides}
@@ -27,7 +25,7 @@ use Rattle.plain_footprint.proofs.Listed.{in_head}
 use Rattle.plain_footprint.proofs.OtherParts.{leaves}
 use Rattle.plain_footprint.proofs.SameParts.{same_parts}
 use Rattle.plain_footprint.proofs.Stays.{stay, stay_redist}
-use Rattle.its_steps.specs.Parts.{Setup, Content, Shard, Stands, IsOfMachine, vcpu_count, Right}
+use Rattle.its_steps.specs.Parts.{Setup, Content, Stands, IsOfMachine, Right}
 use Rattle.its_steps.specs.World.{Held, parts_of}
 use Rattle.its_steps.specs.Good.{Holds, Apart}
 use Rattle.its_steps.specs.MayCommit.{IsRight}

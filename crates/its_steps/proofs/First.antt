@@ -1,21 +1,21 @@
 -- The first world is good.
-use Rattle.std.proofs.Common.{◌≡◌, ℕ, zero, suc, ◌+◌, ◌*◌, ◌<◌, ◌≤◌, List, [], ◌∷◌, ◌++◌, length, map, get_or, replicate, slice_get, Some, None, refl, ap, sym, ◌∙◌, subst, inl, inr, arith, length-append}
+use Rattle.std.proofs.Common.{◌≡◌, ℕ, zero, suc, ◌+◌, ◌*◌, ◌<◌, List, [], ◌∷◌, ◌++◌, length, map, get_or, replicate, Some, None, refl, ap, sym, ◌∙◌, subst, inl, inr, arith, length-append}
 use Rattle.std.proofs.lemmas.List.{length-map, length-replicate, get_or-replicate, get_or_past}
 use Rattle.std.proofs.lemmas.Bool.{cases_lt}
 use Rattle.std.proofs.lemmas.Option.{slice_get-get_or, get_or_from_slice_get}
-use mathlib.Core.Option.{Option, none, some, some-injective, some-ne-none}
+use mathlib.Core.Option.{Option, some, some-injective, some-ne-none}
 use lib.ListN.{get_elem?}
 use Rattle.atomic_table.proofs.Lists.{at_index, at_map, at_longer}
 use Rattle.its_types.specs.declared.machine.Part.{Part}
 use Rattle.its_types.specs.declared.machine.Part.TheVariants as part
-use Rattle.its_plain.specs.Plain.{Plain, Translator, Redistributor, translator, redistributor, no_translator, no_redistributor}
+use Rattle.its_plain.specs.Plain.{translator, redistributor, no_translator, no_redistributor}
 use Rattle.its_plain.specs.Sound.{IsSound}
 use Rattle.xlate_cache.specs.Ways.{no_entries}
 use Rattle.xlate_cache.specs.declared.entry.Entry.{Entry as Translation}
 use Rattle.xlate_cache.proofs.Sets.{none_at, empty_shard}
-use Rattle.its_steps.specs.Parts.{Setup, Content, Maps, Mem, Shard, Redist, Stands, index_of, part_count, translator_count, vcpu_count, IsCache, Right}
-use Rattle.its_steps.specs.World.{Pass, Note, View, World, first_word, first_view, first_slots, first_world}
-use Rattle.its_steps.specs.Good.{turn_of, IsHome, IsPass, IsNote, Good}
+use Rattle.its_steps.specs.Parts.{Setup, Content, Maps, Mem, Shard, Redist, Stands, index_of, part_count, translator_count, vcpu_count}
+use Rattle.its_steps.specs.World.{View, first_word, first_view, first_slots, first_world}
+use Rattle.its_steps.specs.Good.{IsHome, IsPass, Good}
 use Rattle.its_steps.specs.Laws.{FirstIsGood}
 use Rattle.its_steps.proofs.Indexes.{row_below}
 use Rattle.its_steps.proofs.Steps.{no_pass}

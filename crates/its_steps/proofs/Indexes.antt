@@ -1,11 +1,10 @@
 -- Each part has an index of its own.
-use Rattle.std.proofs.Common.{◌≡◌, ◌≢◌, ◌⊎◌, ℕ, zero, suc, ◌+◌, ◌*◌, ◌<◌, ◌≤◌, refl, ap, sym, ◌∙◌, inl, inr, ⊎_elim, arith, mul-le-mul_right, suc-mul}
+use Rattle.std.proofs.Common.{◌≡◌, ◌≢◌, ℕ, suc, ◌+◌, ◌*◌, ◌<◌, ◌≤◌, refl, ap, sym, arith, mul-le-mul_right, suc-mul}
 use mathlib.Core.Logic.{dite}
-use native.Mathlib.Decide.{dec_le, ℕ_discrete}
-use Rattle.its_types.specs.declared.ids.Vcpu.{Vcpu}
+use native.Mathlib.Decide.{dec_le}
 use Rattle.its_types.specs.declared.machine.Part.{Part}
 use Rattle.its_types.specs.declared.machine.Part.TheVariants as part
-use Rattle.its_steps.specs.Parts.{Setup, Stands, index_of, part_count, translator_count, vcpu_count}
+use Rattle.its_steps.specs.Parts.{Setup, Stands, index_of, part_count, translator_count}
 
 -- a row of a table ends before the next one
 pub row_below : (rows width i n : ℕ) → i < rows → n < width → i * width + n < rows * width

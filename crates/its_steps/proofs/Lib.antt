@@ -9,3 +9,7 @@ pub mod Passes
 pub mod First
 pub mod Assembled
 pub mod Facts
+pub mod Translations
+pub mod Owed
+pub mod Caches
+pub mod Holders

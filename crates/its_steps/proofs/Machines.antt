@@ -1,12 +1,11 @@
 -- Every history of a machine leaves a state of it.
-use Rattle.std.proofs.Common.{◌≡◌, ℕ, List, [], ◌∷◌, length, refl, ap, sym, ◌∙◌}
+use Rattle.std.proofs.Common.{List, [], ◌∷◌, refl, ap, sym, ◌∙◌}
 use Rattle.its_plain.specs.Answer.{answer}
 use Rattle.its_plain.specs.History.{after}
 use Rattle.its_plain.specs.Plain.{Plain, Layout}
 use Rattle.its_plain.specs.Sound.{IsSound}
 use Rattle.its_plain.specs.declared.call.Call.{Call}
 use Rattle.its_plain.specs.declared.call.Entry.{Entry}
-use Rattle.plain_footprint.specs.Laws.{CallsLeaveOthers}
 use Rattle.plain_footprint.proofs.OtherParts.{leaves}
 use Rattle.plain_soundness.proofs.Answers.{calls_keep}
 use Rattle.its_steps.specs.Parts.{Setup, IsOfMachine}

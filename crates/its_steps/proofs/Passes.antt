@@ -1,5 +1,5 @@
 -- Passes that are split off and joined, notes that are made and met, and what the root knows.
-use Rattle.std.proofs.Common.{◌≡◌, ◌≢◌, ◌⊎◌, ℕ, zero, suc, ◌+◌, ◌<◌, ◌≤◌, eqb, cond, nat_lt, Bool, true, false, List, [], ◌∷◌, ◌++◌, length, set, get_or, refl, ap, sym, ◌∙◌, subst, inl, inr, ⊎_elim, arith, length-set, eq-eqb, ne_eqb}
+use Rattle.std.proofs.Common.{◌≡◌, ◌≢◌, ◌⊎◌, ℕ, suc, ◌+◌, ◌<◌, ◌≤◌, eqb, cond, nat_lt, Bool, true, false, List, [], ◌∷◌, ◌++◌, length, set, refl, ap, sym, ◌∙◌, subst, inl, inr, ⊎_elim, arith, length-set, eq-eqb, ne_eqb}
 use borrow.Author.Tests.{ltb-true, ltb-false}
 use Rattle.std.specs.List.{AllByRecursion}
 use mathlib.Core.Option.{some, some-injective}
@@ -10,13 +10,13 @@ use lib.ListN.{get_elem?}
 use Rattle.atomic_table.proofs.Lists.{at_set, set_here, set_else, at_longer, at_last}
 use Rattle.its_types.specs.declared.machine.Part.{Part}
 use Rattle.its_types.specs.declared.machine.Word.{Word}
-use Rattle.its_plain.specs.History.{after, placed}
+use Rattle.its_plain.specs.History.{placed}
 use Rattle.its_plain.specs.declared.call.Entry.{Entry}
 use Rattle.its_steps.specs.Parts.{Setup, Stands}
-use Rattle.its_steps.specs.World.{Held, Standing, Pass, Note, Spent, View, World, has_split, split_off, note_of, later, earlier, has_joined, has_met, spent}
+use Rattle.its_steps.specs.World.{Pass, Note, Spent, View, World, has_split, split_off, note_of, later, has_joined, has_met, spent}
 use Rattle.its_steps.specs.Good.{Holds, turn_of, Ended, IsEnded, IsWhole, IsPass, IsNote, Seated, IsNumber, IsOwner, HasRead, IsRoot, Good}
 use Rattle.its_steps.specs.Laws.{SplitKeeps, JoinKeeps, NoteKeeps, MeetKeeps, IsAlone, RootKnowsAll}
-use Rattle.its_steps.proofs.Lists.{prefix_self, prefix_length, prefix_whole, at_below, at_end, placed_none, all_weaker}
+use Rattle.its_steps.proofs.Lists.{prefix_length, prefix_whole, at_below, at_end, placed_none, all_weaker}
 use Rattle.its_steps.proofs.Steps.{pass, another, moves, no_pass}
 
 spent_no_pass : (v : View) → spent ≡ v → v.standing ≡ Pass → ⊥

@@ -1,7 +1,7 @@
 -- Only one pass changes what it knows.
-use Rattle.std.proofs.Common.{◌≡◌, ◌≢◌, ◌⊎◌, ℕ, suc, ◌+◌, ◌<◌, ◌≤◌, List, [], ◌∷◌, ◌++◌, length, set, get_or, refl, ap, sym, ◌∙◌, subst, inl, inr, ⊎_elim, arith}
+use Rattle.std.proofs.Common.{◌≡◌, ◌≢◌, ◌⊎◌, ℕ, suc, ◌<◌, List, length, set, refl, ap, sym, ◌∙◌, subst, inl, inr, ⊎_elim}
 use Rattle.std.specs.List.{AllByRecursion}
-use mathlib.Core.Option.{Option, none, some, some-injective}
+use mathlib.Core.Option.{Option, some, some-injective}
 use mathlib.Core.List.{IsPrefix}
 use mathlib.Core.Logic.{dite}
 use native.Mathlib.Decide.{ℕ_discrete}
@@ -9,14 +9,13 @@ use lib.ListN.{get_elem?}
 use Rattle.atomic_table.proofs.Lists.{at_set, set_here, set_else}
 use Rattle.its_types.specs.declared.machine.Part.{Part}
 use Rattle.its_types.specs.declared.machine.Word.{Word}
-use Rattle.its_plain.specs.History.{IsLegal, after, placed}
-use Rattle.its_plain.specs.Plain.{Plain}
+use Rattle.its_plain.specs.History.{IsLegal, after}
 use Rattle.its_plain.specs.declared.call.Entry.{Entry}
-use Rattle.its_steps.specs.Parts.{Setup, Content, Stands, index_of, part_count, Right}
-use Rattle.its_steps.specs.World.{Held, Standing, Pass, Note, View, World}
-use Rattle.its_steps.specs.Good.{Holds, Apart, turn_of, slot_of, IsHeld, IsHome, Ended, IsEnded, IsWhole, IsPass, IsNote, Seated, IsNumber, IsOwner, HasRead, IsRoot, IsWithin, AreWide, Good}
+use Rattle.its_steps.specs.Parts.{Setup, Content, Stands}
+use Rattle.its_steps.specs.World.{Pass, Note, View, World}
+use Rattle.its_steps.specs.Good.{Holds, turn_of, IsHeld, IsHome, IsEnded, IsWhole, IsPass, Seated, IsNumber, IsOwner, HasRead, IsRoot, IsWithin, AreWide, Good}
 use Rattle.its_steps.proofs.Lists.{prefix_through, at_below}
-use Rattle.its_steps.proofs.Helds.{all_held, all_change}
+use Rattle.its_steps.proofs.Helds.{all_held}
 
 -- no note is a pass
 pub no_pass : (v : View) → v.standing ≡ Note → v.standing ≡ Pass → ⊥

@@ -1,7 +1,7 @@
 -- Turns that are got and given back, and values that leave their slots and come home.
-use Rattle.std.proofs.Common.{◌≡◌, ◌≢◌, ◌⊎◌, ℕ, suc, ◌+◌, ◌<◌, ◌≤◌, List, [], ◌∷◌, ◌++◌, length, set, get_or, refl, ap, sym, ◌∙◌, subst, inl, inr, ⊎_elim, arith, length-set, get_or-set_other, get_or-set_same}
+use Rattle.std.proofs.Common.{◌≡◌, ◌≢◌, ℕ, suc, ◌<◌, List, ◌∷◌, ◌++◌, length, set, get_or, refl, ap, sym, ◌∙◌, subst, inl, inr, ⊎_elim, arith, length-set, get_or-set_other, get_or-set_same}
 use Rattle.std.specs.List.{AllByRecursion}
-use mathlib.Core.Option.{Option, none, some, some-injective}
+use mathlib.Core.Option.{Option, some, some-injective}
 use mathlib.Core.Logic.{dite}
 use native.Mathlib.Decide.{ℕ_discrete}
 use lib.ListN.{get_elem?}
@@ -11,14 +11,14 @@ use Rattle.its_types.specs.declared.machine.Word.{Word}
 use Rattle.its_plain.specs.History.{after}
 use Rattle.its_plain.specs.Plain.{Plain}
 use Rattle.its_plain.specs.declared.call.Entry.{Entry}
-use Rattle.its_steps.specs.Parts.{Setup, Content, Stands, index_of, part_count, Right}
+use Rattle.its_steps.specs.Parts.{Setup, Content, Stands, index_of, Right}
 use Rattle.its_steps.specs.World.{Held, Pass, View, World, got, kept, out}
-use Rattle.its_steps.specs.Good.{Holds, Apart, turn_of, slot_of, IsHeld, IsHome, Ended, IsPass, AreWide, Good}
+use Rattle.its_steps.specs.Good.{Holds, Apart, turn_of, slot_of, IsHeld, IsHome, IsPass, AreWide, Good}
 use Rattle.its_steps.specs.Laws.{TryKeeps, TakeOutKeeps, PutHomeKeeps, ReleaseKeeps}
 use Rattle.its_steps.proofs.Lists.{prefix_self, all_here, all_but, all_with}
 use Rattle.its_steps.proofs.Indexes.{index_below, index_injective}
-use Rattle.its_steps.proofs.Helds.{all_held, all_change, holds_but, holds_with, holds_as, apart_but, apart_as, lone}
-use Rattle.its_steps.proofs.Steps.{pass, changed, held_here, held_turn, same_turn}
+use Rattle.its_steps.proofs.Helds.{all_change, holds_but, holds_as, apart_but, apart_as, lone}
+use Rattle.its_steps.proofs.Steps.{pass, changed, held_turn, same_turn}
 
 -- turns and slots are as they were but at one index
 record Elsewhere (k : ℕ) (turns turns' : List ℕ) (slots slots' : List (Option Content)) : Type 0 where

@@ -1,28 +1,23 @@
 -- Loads of the word, lost tries, and commits.
-use Rattle.std.proofs.Common.{◌≡◌, ◌≢◌, ◌⊎◌, ℕ, suc, ◌+◌, ◌<◌, ◌≤◌, List, [], ◌∷◌, ◌++◌, length, set, refl, ap, sym, ◌∙◌, subst, inl, inr, ⊎_elim, arith, length-append}
+use Rattle.std.proofs.Common.{◌≡◌, ◌≢◌, ℕ, suc, ◌+◌, ◌<◌, ◌≤◌, List, [], ◌∷◌, ◌++◌, length, refl, ap, sym, ◌∙◌, subst, inl, inr, ⊎_elim, arith, length-append}
 use Rattle.std.specs.List.{AllByRecursion}
-use mathlib.Core.Option.{Option, none, some}
-use mathlib.Core.List.{IsPrefix}
+use mathlib.Core.Option.{Option, some}
 use lib.ListN.{get_elem?}
 use Rattle.its_types.specs.declared.machine.Part.{Part}
 use Rattle.its_types.specs.declared.machine.Word.{Word}
 use Rattle.its_plain.specs.Answer.{answer}
-use Rattle.its_plain.specs.History.{IsLegal, after, placed}
+use Rattle.its_plain.specs.History.{after}
 use Rattle.its_plain.specs.Plain.{Plain}
-use Rattle.its_plain.specs.Sound.{IsSound}
-use Rattle.its_plain.specs.declared.call.Call.{Call}
 use Rattle.its_plain.specs.declared.call.Entry.{Entry}
-use Rattle.its_plain.specs.declared.call.Reply.{Reply}
-use Rattle.its_steps.specs.Parts.{Setup, Content, Stands, IsOfMachine, index_of, Right}
-use Rattle.its_steps.specs.World.{Held, Pass, View, World, loaded, missed, entry, committed}
-use Rattle.its_steps.specs.Good.{Holds, Apart, turn_of, slot_of, IsHeld, IsEnded, IsWhole, IsPass, Good}
-use Rattle.its_steps.specs.MayCommit.{IsRight, IsOut, AreSameParts, Answers, MayCommit}
+use Rattle.its_steps.specs.Parts.{Setup, Content, Stands, index_of, Right}
+use Rattle.its_steps.specs.World.{Held, loaded, missed, entry, committed}
+use Rattle.its_steps.specs.Good.{Holds, turn_of, slot_of, IsHeld, IsEnded, IsWhole}
+use Rattle.its_steps.specs.MayCommit.{IsRight, IsOut, AreSameParts, Answers}
 use Rattle.its_steps.specs.Laws.{LoadKeeps, MissKeeps, CommitKeeps, ReaderHasSeen}
-use Rattle.its_steps.specs.declared.change.ShardChange.{ShardChange}
 use Rattle.its_steps.proofs.Lists.{prefix_self, prefix_more, prefix_whole, prefix_length, after_snoc, legal_snoc, placed_mine, placed_other, all_weaker, all_snoc}
 use Rattle.its_steps.proofs.Helds.{all_change, same_holds, same_apart}
 use Rattle.its_steps.proofs.Machines.{of_machine}
-use Rattle.its_steps.proofs.Steps.{pass, changed, held_here, held_turn, same_turn}
+use Rattle.its_steps.proofs.Steps.{pass, changed, held_turn, same_turn}
 
 pub keeps_load : LoadKeeps
 keeps_load s h w good i v at passes =
@@ -53,13 +48,15 @@ owed_held s word to u u' turns slots n [] [] same out right hs = tt
 owed_held s word to u u' turns slots n [] (y ∷ ys) same out right hs = absurd same
 owed_held s word to u u' turns slots n (x ∷ xs) [] same out right hs = absurd same
 owed_held s word to u u' turns slots n (x ∷ xs) (y ∷ ys) same out right hs =
-    let a = hs.0 in
-    (record {
-      stands = subst (Stands s) same.0 a.stands;
-      turn = subst (λ (p : Part). turn_of s turns p ≡ suc n) same.0 a.turn;
-      slot = ap (λ (p : Part). get_elem? slots (index_of s p)) (sym same.0) ∙ (a.slot ∙ ap some (ap (λ b. slot_of b x.owed) out.0 ∙ ap (λ b. slot_of b y.owed) (sym same.1)));
-      right = right.0;
-    }, owed_held s word to u u' turns slots n xs ys same.2 out.1 right.1 hs.1)
+    let a = hs.0 in (
+      record {
+        stands = subst (Stands s) same.0 a.stands;
+        turn = subst (λ (p : Part). turn_of s turns p ≡ suc n) same.0 a.turn;
+        slot = ap (λ (p : Part). get_elem? slots (index_of s p)) (sym same.0) ∙ (a.slot ∙ ap some (ap (λ b. slot_of b x.owed) out.0 ∙ ap (λ b. slot_of b y.owed) (sym same.1)));
+        right = right.0;
+      },
+      owed_held s word to u u' turns slots n xs ys same.2 out.1 right.1 hs.1,
+    )
 
 right_held : (s : Setup) (word : Word) (u : Plain) (turns : List ℕ) (slots : List (Option Content)) (n : ℕ) (held : List Held) → AllByRecursion (IsHeld s word u turns slots n) held → AllByRecursion (IsRight s word u) held
 right_held s word u turns slots n held hs = all_weaker (IsHeld s word u turns slots n) (IsRight s word u) held (λ x t. t.right) hs

@@ -1,11 +1,10 @@
 -- A world: the word that commits exchange, the turns and slots of the parts, and what each pass knows. Each step of a pass changes its view as said here.
 use Rattle.std.specs.Prelude.{ℕ, ◌+◌, ◌*◌, Bool, true, false, ◌==◌, ◌&&◌, nat_lt, if◌then◌else◌, List, [], ◌∷◌, ◌++◌, map, replicate}
 use Rattle.std.specs.Prelude as std
-use mathlib.Core.Option.{Option, none, some}
+use mathlib.Core.Option.{Option, some}
 use Rattle.its_types.specs.declared.machine.Part.{Part}
 use Rattle.its_types.specs.declared.machine.Part.TheVariants as part
 use Rattle.its_types.specs.declared.machine.Word.{Word}
-use Rattle.its_plain.specs.Plain.{Plain, Translator, Redistributor}
 use Rattle.its_types.specs.declared.machine.Profile.TheVariants.{One}
 use Rattle.its_plain.specs.declared.call.Call.{Call}
 use Rattle.its_plain.specs.declared.call.Entry.{Entry}
