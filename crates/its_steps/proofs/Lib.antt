@@ -13,3 +13,4 @@ pub mod Translations
 pub mod Owed
 pub mod Caches
 pub mod Holders
+pub mod Together

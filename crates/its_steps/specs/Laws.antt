@@ -10,7 +10,7 @@ use Rattle.its_plain.specs.declared.call.Call.{Call}
 use Rattle.its_plain.specs.declared.call.Entry.{Entry}
 use Rattle.its_plain.specs.declared.call.Reply.{Reply}
 use Rattle.its_steps.specs.Parts.{Setup, Content, Stands, index_of}
-use Rattle.its_steps.specs.World.{Held, Pass, Note, View, World, first_world, loaded, missed, got, kept, out, entry, committed, has_split, split_off, note_of, has_joined, has_met, spent}
+use Rattle.its_steps.specs.World.{Held, Pass, Note, View, World, first_world, loaded, missed, got, took, kept, out, entry, committed, has_split, split_off, note_of, has_joined, has_met, spent}
 use Rattle.its_steps.specs.Good.{turn_of, IsEnded, IsWhole, Good}
 use Rattle.its_steps.specs.MayCommit.{MayCommit}
 use Rattle.its_steps.specs.MayCall.{MayCall}
@@ -65,6 +65,22 @@ PutHomeKeeps = AtPass (λ s h w i v. (p : Part) (c : Content) (before behind : L
 abbrev pub ReleaseKeeps : Type 0
 ReleaseKeeps = AtPass (λ s h w i v. (p : Part) (c : Content) (before behind : List Held) → v.held ≡ before ++ kept p c ∷ behind
     → Good s h record w { turns = slice_set w.turns (index_of s p) 0; views = slice_set w.views i (record v { held = before ++ behind }) })
+
+-- ---- parts, two steps in one: nobody sees a part between its turn and its slot
+
+-- the turn is got and the value taken out
+abbrev pub TakeKeeps : Type 0
+TakeKeeps = AtPass (λ s h w i v. (p : Part) (c : Content) → Stands s p → turn_of s w.turns p ≡ 0 → get_elem? w.slots (index_of s p) ≡ some (some c)
+    → Good s h record w { turns = slice_set w.turns (index_of s p) (suc v.number); slots = slice_set w.slots (index_of s p) none; views = slice_set w.views i (took v p c) })
+
+-- the value is put home and the turn given back
+abbrev pub GiveKeeps : Type 0
+GiveKeeps = AtPass (λ s h w i v. (p : Part) (c : Content) (before behind : List Held) → v.held ≡ before ++ out p c ∷ behind
+    → Good s h record w { turns = slice_set w.turns (index_of s p) 0; slots = slice_set w.slots (index_of s p) (some c); views = slice_set w.views i (record v { held = before ++ behind }) })
+
+-- the order in which parts are held is of no account
+abbrev pub BringKeeps : Type 0
+BringKeeps = AtPass (λ s h w i v. (x : Held) (before behind : List Held) → v.held ≡ before ++ x ∷ behind → Good s h record w { views = slice_set w.views i (record v { held = x ∷ (before ++ behind) }) })
 
 -- ---- passes and notes
 

@@ -145,6 +145,10 @@ out p c = record { part = p; owed = c; out = true }
 abbrev pub got : View → Part → Content → View
 got v p c = record v { held = kept p c ∷ v.held; looked = looked_of p c v.looked; early = early_of p (v.looked, v.last) v.early; won = p ∷ v.won }
 
+-- and out of its slot at once
+abbrev pub took : View → Part → Content → View
+took v p c = record (got v p c) { held = out p c ∷ v.held }
+
 -- ---- a commit
 
 abbrev pub entry : ℕ → Call → Reply → Entry

@@ -42,6 +42,21 @@ pub fn release_keeps()
     ensures { laws.ReleaseKeeps }
 {}
 
+/// A pass gets the turn of a part and takes the value out, in one step.
+pub fn take_keeps()
+    ensures { laws.TakeKeeps }
+{}
+
+/// A pass puts what it owes home and gives the turn back, in one step.
+pub fn give_keeps()
+    ensures { laws.GiveKeeps }
+{}
+
+/// A pass holds its parts in another order.
+pub fn bring_keeps()
+    ensures { laws.BringKeeps }
+{}
+
 /// The root splits a pass off.
 pub fn split_keeps()
     ensures { laws.SplitKeeps }

@@ -6,7 +6,7 @@ mod laws;
 
 pub use change::ShardChange;
 pub use laws::{
-    commit_keeps, first_is_good, holders_may_commit, join_keeps, load_keeps, meet_keeps,
-    miss_keeps, note_keeps, put_home_keeps, reader_has_seen, release_keeps, root_knows_all,
-    split_keeps, take_out_keeps, try_keeps,
+    bring_keeps, commit_keeps, first_is_good, give_keeps, holders_may_commit, join_keeps,
+    load_keeps, meet_keeps, miss_keeps, note_keeps, put_home_keeps, reader_has_seen, release_keeps,
+    root_knows_all, split_keeps, take_keeps, take_out_keeps, try_keeps,
 };

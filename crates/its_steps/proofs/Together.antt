@@ -1,0 +1,61 @@
+-- Two steps in one, and parts held in another order.
+use Rattle.std.proofs.Common.{◌≡◌, ◌⊎◌, ℕ, zero, suc, List, [], ◌∷◌, ◌++◌, length, set, refl, ap, sym, ◌∙◌, subst, inl, inr, ⊎_elim}
+use Rattle.std.specs.List.{AllByRecursion}
+use mathlib.Core.Option.{none, some}
+use lib.ListN.{get_elem?}
+use Rattle.atomic_table.proofs.Lists.{set_here}
+use Rattle.its_types.specs.declared.machine.Part.{Part}
+use Rattle.its_plain.specs.History.{after}
+use Rattle.its_plain.specs.declared.call.Entry.{Entry}
+use Rattle.its_steps.specs.Parts.{Setup, Content, Stands, index_of}
+use Rattle.its_steps.specs.World.{Held, Pass, View, World, got, took, kept, out}
+use Rattle.its_steps.specs.Good.{Holds, Apart, turn_of, IsHeld, Good}
+use Rattle.its_steps.specs.Laws.{TakeKeeps, GiveKeeps, BringKeeps}
+use Rattle.its_steps.proofs.Helds.{holds_but, holds_with, apart_but, lone}
+use Rattle.its_steps.proofs.Lists.{prefix_self, at_below, all_but, all_here}
+use Rattle.its_steps.proofs.Steps.{pass, changed, same_turn}
+use Rattle.its_steps.proofs.Turns.{tries, takes_out, puts_home, releases}
+
+pub set_over : {A : Type 0} (xs : List A) (i : ℕ) (a b : A) → set (set xs i a) i b ≡ set xs i b
+set_over [] i a b = refl
+set_over (x ∷ xs) zero a b = refl
+set_over (x ∷ xs) (suc i) a b = ap (λ ys. x ∷ ys) (set_over xs i a b)
+
+pub takes : TakeKeeps
+takes s h w good i v at passes p c st free there =
+    let k : ℕ = index_of s p in
+    let one = tries s h w good i v at passes p c st free there in
+    let two = takes_out s h _ one i (got v p c) (set_here w.views i (got v p c) (at_below w.views i v at)) passes p c [] v.held refl in
+    subst (λ (vs : List View). Good s h record w { turns = set w.turns (index_of s p) (suc v.number); slots = set w.slots (index_of s p) none; views = vs }) (set_over w.views i (got v p c) (took v p c)) two
+
+pub gives : GiveKeeps
+gives s h w good i v at passes p c before behind e =
+    let v1 : View = record v { held = before ++ kept p c ∷ behind } in
+    let one = puts_home s h w good i v at passes p c before behind e in
+    let two = releases s h _ one i v1 (set_here w.views i v1 (at_below w.views i v at)) passes p c before behind refl in
+    subst (λ (vs : List View). Good s h record w { turns = set w.turns (index_of s p) 0; slots = set w.slots (index_of s p) (some c); views = vs }) (set_over w.views i v1 (record v { held = before ++ behind })) two
+
+pub brings : BringKeeps
+brings s h w good i v at passes x before behind e =
+    let f = pass s h w good i v at passes in
+    let hs : AllByRecursion (IsHeld s w.word (after s.start h) w.turns w.slots v.number) (before ++ x ∷ behind) = subst (AllByRecursion (IsHeld s w.word (after s.start h) w.turns w.slots v.number)) e f.held in
+    let apart : Apart (before ++ x ∷ behind) = subst Apart e f.apart in
+    changed s h w good i v at passes h w.word w.turns w.slots (record v { held = x ∷ (before ++ behind) }) passes refl refl refl (inr (refl, refl)) (prefix_self h) good.whole good.passes good.legal good.place good.within good.wide
+    record {
+      setup = f.setup;
+      seat_is = f.seat_is;
+      given = f.given;
+      present = f.present;
+      seen = f.seen;
+      told = f.told;
+      mine = f.mine;
+      place = f.place;
+      last = f.last;
+      apart = (lone before x behind apart, apart_but before x behind apart);
+      held = (
+        all_here (IsHeld s w.word (after s.start h) w.turns w.slots v.number) before x behind hs,
+        all_but (IsHeld s w.word (after s.start h) w.turns w.slots v.number) before x behind hs,
+      );
+    }
+    (λ j u ne g. g) good.home
+    (λ p n st t. ⊎_elim (λ (z : (n ≡ v.number) × Holds p v.held). inl (z.0, holds_but p before x behind (subst (Holds p) e z.1))) (λ z. inr z) (same_turn s h w good i v at passes p n st t))
