@@ -14,3 +14,4 @@ pub mod Owed
 pub mod Caches
 pub mod Holders
 pub mod Together
+pub mod Cores

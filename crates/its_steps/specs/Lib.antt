@@ -5,3 +5,4 @@ pub mod MayCommit
 pub mod Renewal
 pub mod MayCall
 pub mod Laws
+pub mod Steps

@@ -1,6 +1,7 @@
 //! What each kind of step keeps, and what a good world tells. Nothing here runs.
 
 ghost use Rattle.its_steps.specs.Laws as laws;
+ghost use Rattle.its_steps.specs.Steps as steps;
 
 /// The world before any step is good, where the first state is sound.
 pub fn first_is_good()
@@ -91,4 +92,14 @@ pub fn reader_has_seen()
 /// What the root knows of all passes, and what it knows alone.
 pub fn root_knows_all()
     ensures { laws.RootKnowsAll }
+{}
+
+/// Every event keeps the good world, whether or not it is allowed.
+pub fn steps_keep()
+    ensures { steps.StepsKeep }
+{}
+
+/// From every good world every schedule of events ends in a good world.
+pub fn runs_keep()
+    ensures { steps.RunsKeep }
 {}

@@ -1,0 +1,43 @@
+use crate::change::ShardChange;
+use its_plain::{Call, Reply};
+use its_types::{Part, Word};
+
+/// One step of one pass.
+#[derive(Clone, Copy, Debug, PartialEq, Eq)]
+pub struct Event {
+    /// The number of the pass.
+    pub pass: u32,
+    pub kind: Kind,
+}
+
+/// What a pass does in one step. Split and Note, Join and Meet are two forms of one kind each.
+#[derive(Clone, Copy, Debug, PartialEq, Eq)]
+pub enum Kind {
+    /// It reads the word.
+    Load,
+    /// It tries the turn of a part that it doesn't hold.
+    Try(Part),
+    /// It takes the value of a part that it holds out of the slot.
+    TakeOut(Part),
+    /// It exchanges the word, if that is the one expected, and so makes a call with its reply.
+    Commit {
+        expected: Word,
+        /// That of the word that it leaves; the place is the next one.
+        stamp: u32,
+        call: Call,
+        reply: Reply,
+        change: ShardChange,
+    },
+    /// It puts what a part owes into the slot.
+    PutHome(Part),
+    /// It gives the turn of a part back that is at home.
+    Release(Part),
+    /// The root makes a pass of the next number.
+    Split,
+    /// It makes a note of what it has seen.
+    Note,
+    /// The root takes back the pass of a number, which holds nothing.
+    Join(u32),
+    /// It meets the note that was made as the so manieth, counted from 0.
+    Meet(u32),
+}
