@@ -1,5 +1,5 @@
 -- Every event and every schedule keeps the good world.
-use Rattle.std.proofs.Common.{◌≡◌, ◌≢◌, ◌⊎◌, ℕ, zero, suc, ◌+◌, List, [], ◌∷◌, ◌++◌, length, set, refl, ap, sym, ◌∙◌, subst, inl, inr, ⊎_elim}
+use Rattle.std.proofs.Common.{◌≡◌, ◌≢◌, ℕ, zero, suc, List, [], ◌∷◌, ◌++◌, set, refl, ap, sym, ◌∙◌, subst, ⊎_elim}
 use mathlib.Core.Logic.{dite}
 use native.Mathlib.Decide.{ℕ_discrete}
 use mathlib.Core.Option.{some, some-injective}
@@ -11,12 +11,11 @@ use Rattle.its_plain.specs.declared.call.Call.{Call}
 use Rattle.its_plain.specs.declared.call.Entry.{Entry}
 use Rattle.its_plain.specs.declared.call.Reply.{Reply}
 use Rattle.its_steps.specs.Parts.{Setup}
-use Rattle.its_steps.specs.World.{Pass, Note, View, World, loaded, has_split, split_off, has_joined, has_met, spent}
+use Rattle.its_steps.specs.World.{Pass, View, World, loaded, has_split, split_off, has_joined, has_met, spent}
 use Rattle.its_steps.specs.Good.{Good}
 use Rattle.its_steps.specs.Renewal.{renewal}
-use Rattle.its_steps.specs.Steps.{Core, IsGoodCore, IsAt, Tries, Gets, Misses, TakesOut, PutsHome, Releases, loads, commits, next_word, Commits, Splits, Joins, Meets, Moves, Does, IsStep, IsRun, StepsKeep, RunsKeep}
+use Rattle.its_steps.specs.Steps.{Core, IsGoodCore, Tries, Gets, Misses, loads, next_word, Commits, Splits, Joins, Meets, Moves, Does, StepsKeep, RunsKeep}
 use Rattle.its_steps.specs.declared.change.ShardChange.{ShardChange}
-use Rattle.its_steps.specs.declared.event.Event.{Event}
 use Rattle.its_steps.specs.declared.event.Kind.{Kind}
 use Rattle.its_steps.specs.declared.event.Kind.TheVariants as kind
 use Rattle.its_steps.proofs.Holders.{holders}

@@ -1,17 +1,14 @@
 -- Two steps in one, and parts held in another order.
-use Rattle.std.proofs.Common.{◌≡◌, ◌⊎◌, ℕ, zero, suc, List, [], ◌∷◌, ◌++◌, length, set, refl, ap, sym, ◌∙◌, subst, inl, inr, ⊎_elim}
+use Rattle.std.proofs.Common.{◌≡◌, ℕ, zero, suc, List, [], ◌∷◌, ◌++◌, set, refl, ap, subst, inl, inr, ⊎_elim}
 use Rattle.std.specs.List.{AllByRecursion}
 use mathlib.Core.Option.{none, some}
-use lib.ListN.{get_elem?}
 use Rattle.atomic_table.proofs.Lists.{set_here}
-use Rattle.its_types.specs.declared.machine.Part.{Part}
 use Rattle.its_plain.specs.History.{after}
-use Rattle.its_plain.specs.declared.call.Entry.{Entry}
-use Rattle.its_steps.specs.Parts.{Setup, Content, Stands, index_of}
-use Rattle.its_steps.specs.World.{Held, Pass, View, World, got, took, kept, out}
-use Rattle.its_steps.specs.Good.{Holds, Apart, turn_of, IsHeld, Good}
+use Rattle.its_steps.specs.Parts.{index_of}
+use Rattle.its_steps.specs.World.{View, got, took, kept}
+use Rattle.its_steps.specs.Good.{Holds, Apart, IsHeld, Good}
 use Rattle.its_steps.specs.Laws.{TakeKeeps, GiveKeeps, BringKeeps}
-use Rattle.its_steps.proofs.Helds.{holds_but, holds_with, apart_but, lone}
+use Rattle.its_steps.proofs.Helds.{holds_but, apart_but, lone}
 use Rattle.its_steps.proofs.Lists.{prefix_self, at_below, all_but, all_here}
 use Rattle.its_steps.proofs.Steps.{pass, changed, same_turn}
 use Rattle.its_steps.proofs.Turns.{tries, takes_out, puts_home, releases}
