@@ -66,14 +66,14 @@ in_or_not s p st (q ∷ ps) all = dite (ℕ_discrete (index_of s q) (index_of s 
 
 -- ---- one part put in
 
-record IsPut (b : Plain) (p : Part) (z : Plain) : Type 0 where
-  stays : Stay b (p ∷ []) z
-  long : length z.redistributors ≡ length b.redistributors
+pub record IsPut (b : Plain) (p : Part) (z : Plain) : Type 0 where
+  pub stays : Stay b (p ∷ []) z
+  pub long : length z.redistributors ≡ length b.redistributors
 
 no_part : (b : Plain) (p : Part) → IsPut b p b
 no_part b p = record { stays = stay b (p ∷ []); long = refl }
 
-is_put : (p : Part) (c : Content) (b : Plain) → IsPut b p (with_part p c b)
+pub is_put : (p : Part) (c : Content) (b : Plain) → IsPut b p (with_part p c b)
 is_put (part.Maps its) (Maps t) b = record { stays = stay_translator b b (part.Maps its ∷ []) its t (in_head (part.Maps its) []) (stay b (part.Maps its ∷ [])); long = refl }
 is_put (part.Maps its) (Mem memory) b = no_part b (part.Maps its)
 is_put (part.Maps its) (Shard ways) b = no_part b (part.Maps its)
@@ -92,7 +92,7 @@ is_put (part.Redist vcpu) (Shard ways) b = no_part b (part.Redist vcpu)
 is_put (part.Redist vcpu) (Redist r) b =
     record { stays = stay_redist b b (part.Redist vcpu ∷ []) vcpu.0 r (in_head (part.Redist vcpu) []) (stay b (part.Redist vcpu ∷ [])); long = length-set b.redistributors vcpu.0 r }
 
-get_set_here : {A : Type 0} (xs : List A) (i : ℕ) (y : A) → i < length xs → slice_get (set xs i y) i ≡ Some y
+pub get_set_here : {A : Type 0} (xs : List A) (i : ℕ) (y : A) → i < length xs → slice_get (set xs i y) i ≡ Some y
 get_set_here [] i y lt = absurd (omega arith)
 get_set_here (x ∷ xs) zero y lt = refl
 get_set_here (x ∷ xs) (suc i) y lt = get_set_here xs i y (omega arith)
@@ -112,6 +112,10 @@ put_here s word u (part.Redist vcpu) (Maps t) b ts rs st r = absurd r
 put_here s word u (part.Redist vcpu) (Mem memory) b ts rs st r = absurd r
 put_here s word u (part.Redist vcpu) (Shard ways) b ts rs st r = absurd r
 put_here s word u (part.Redist vcpu) (Redist x) b ts rs st r = get_set_here b.redistributors vcpu.0 x (omega (arith, st, rs)) ∙ sym r
+
+pub not_only : (q p : Part) → ¬ (q ≡ p) → ¬ IsIn p (q ∷ [])
+not_only q p ne (zero, e) = ne (same_Some q p e)
+not_only q p ne (suc n, e) = cc
 
 -- ---- all parts held
 
@@ -142,7 +146,3 @@ module _ (s : Setup) (word : Word) (u : Plain) (m : IsOfMachine s u) where
       same_through (assembled s (x ∷ xs)) (assembled s xs) u p
       (same_back (assembled s xs) (assembled s (x ∷ xs)) p ((is_put x.part x.owed (assembled s xs)).stays.parts p other)) (agree_held xs apart.1 st.1 right.1 p t))
       h
-    where
-      not_only : (q p : Part) → ¬ (q ≡ p) → ¬ IsIn p (q ∷ [])
-      not_only q p ne (zero, e) = ne (same_Some q p e)
-      not_only q p ne (suc n, e) = cc

@@ -15,3 +15,5 @@ pub mod Caches
 pub mod Holders
 pub mod Together
 pub mod Cores
+pub mod Calm
+pub mod Ports

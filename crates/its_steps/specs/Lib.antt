@@ -6,3 +6,4 @@ pub mod Renewal
 pub mod MayCall
 pub mod Laws
 pub mod Steps
+pub mod Calls

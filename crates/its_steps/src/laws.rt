@@ -1,5 +1,6 @@
 //! What each kind of step keeps, and what a good world tells. Nothing here runs.
 
+ghost use Rattle.its_steps.specs.Calls as calls;
 ghost use Rattle.its_steps.specs.Laws as laws;
 ghost use Rattle.its_steps.specs.Steps as steps;
 
@@ -82,6 +83,21 @@ pub fn meet_keeps()
 /// the call, whatever the other parts have.
 pub fn holders_may_commit()
     ensures { laws.HoldersMayCommit }
+{}
+
+/// A call that writes no register and takes no command leaves where messages go as it was.
+pub fn calm_calls_are_steady()
+    ensures { calls.CalmCallsAreSteady }
+{}
+
+/// An acknowledgement needs its redistributor alone, and this is what it leaves there.
+pub fn take_may_commit()
+    ensures { calls.TakeMayCommit }
+{}
+
+/// A signal that is found in the cache needs no maps, and this is what it leaves.
+pub fn hit_may_commit()
+    ensures { calls.HitMayCommit }
 {}
 
 /// A pass that has read the word as it is has seen the whole history.
