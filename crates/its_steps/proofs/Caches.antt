@@ -35,14 +35,11 @@ use Rattle.its_steps.specs.declared.change.ShardChange.{ShardChange}
 use Rattle.its_steps.specs.declared.change.ShardChange.TheVariants as change
 use Rattle.its_steps.proofs.Assembled.{holds_or_not}
 use Rattle.its_steps.proofs.Facts.{Does, does}
+use Rattle.its_steps.proofs.Found.{both_of}
 use Rattle.its_steps.proofs.Helds.{holds_same, same_apart}
 use Rattle.its_steps.proofs.Machines.{next_of}
 use Rattle.its_steps.proofs.Owed.{owes_holds, owes_once, owes_all, same_renewed, owes_renewed, steady_at}
 use Rattle.its_steps.proofs.Translations.{translated_is, translated_from, on_within}
-
-both_of : (a b : Bool) → (a && b) ≡ true → (a ≡ true) × (b ≡ true)
-both_of true b e = (refl, e)
-both_of false b e = absurd cc
 
 abbrev ways_in : Content → List (Option Translation)
 ways_in (Shard ways) = ways

@@ -25,13 +25,16 @@ use Rattle.plain_footprint.proofs.Listed.{in_head}
 use Rattle.plain_footprint.proofs.OtherParts.{leaves}
 use Rattle.plain_footprint.proofs.SameParts.{same_parts}
 use Rattle.plain_footprint.proofs.Stays.{stay, stay_redist}
-use Rattle.its_steps.specs.Parts.{Setup, Content, Stands, IsOfMachine, Right}
+use Rattle.xlate_cache.specs.Pairs.{shard_number}
+use Rattle.xlate_cache.specs.Ways.{entry}
+use Rattle.its_steps.specs.Parts.{Setup, Content, Stands, IsOfMachine, Right, stamp_of, Shard}
 use Rattle.its_steps.specs.World.{Held, parts_of}
 use Rattle.its_steps.specs.Good.{Holds, Apart}
 use Rattle.its_steps.specs.MayCommit.{IsRight}
 use Rattle.its_steps.specs.MayCall.{Owes, IsAnswered, IsHit}
 use Rattle.its_steps.specs.Renewal.{assembled}
 use Rattle.its_steps.proofs.Assembled.{same_back, same_through, in_holds, holds_in, all_in, in_or_not, IsAssembled, is_assembled, agree_held}
+use Rattle.its_steps.proofs.Found.{found_at}
 use Rattle.its_steps.proofs.Helds.{all_held}
 use Rattle.its_steps.proofs.Lists.{all_weaker}
 
@@ -138,7 +141,9 @@ module _ (s : Setup) (expected : Word) (held : List Held) (stands : AllByRecursi
 
   -- the translation found is current, so it is what the maps give
   hit_is : (c : Call) (r : Reply) (hit : IsHit s expected c r held) → translated u hit.its hit.dev.0 hit.ev.0 ≡ Ok hit.target
-  hit_is c r hit = ((owes_right s expected u _ _ held hit.owes right).entries hit.way _ hit.there).current refl
+  hit_is c r hit =
+      let at = found_at hit.dev hit.ev (stamp_of expected hit.its) hit.target hit.ways hit.is_found in
+      ((owes_right s expected u (part.Shard hit.its (shard_number hit.dev.0 hit.ev.0 s.shards)) (Shard hit.ways) held hit.owes right).entries at.0 (entry hit.dev hit.ev (stamp_of expected hit.its) hit.target) at.1).current refl
 
   any_hit_does : (c : Call) (r : Reply) → IsHit s expected c r held → Does s c r held u
   any_hit_does c r hit = subst (λ (q : Reply). Does s c q held u) (sym hit.reply_is)

@@ -8,6 +8,7 @@ pub mod Turns
 pub mod Passes
 pub mod First
 pub mod Assembled
+pub mod Found
 pub mod Facts
 pub mod Translations
 pub mod Owed

@@ -74,31 +74,6 @@ takes s last vcpu r vcpus st room = (take_may s last vcpu r vcpus st room, take_
 
 -- ---- hits
 
-both_of : (a b : Bool) → (a && b) ≡ true → (a ≡ true) × (b ≡ true)
-both_of true b e = (refl, e)
-both_of false b e = absurd cc
-
-way_is : (dev : DeviceId) (ev : EventId) (stamp : ℕ) (t : Target) (way : Option Translation) → holds dev.0 ev.0 stamp way ≡ true → target_in way ≡ Some t → way ≡ Some (entry dev ev stamp t)
-way_is dev ev stamp t None h e = absurd cc
-way_is dev ev stamp t (Some x) h e =
-    let tests = both_of (is_of dev.0 ev.0 (Some x)) (has_stamp stamp (Some x)) h in
-    let pair = both_of (eqb x.dev.0 dev.0) (eqb x.ev.0 ev.0) tests.0 in
-    let d : x.dev.0 ≡ dev.0 = eqb-true x.dev.0 dev.0 pair.0 in
-    let v : x.ev.0 ≡ ev.0 = eqb-true x.ev.0 ev.0 pair.1 in
-    let n : x.stamp ≡ stamp = eqb-true x.stamp stamp tests.1 in
-    let same : x.target ≡ t = cc in
-    (λ i. Some (record { dev = record { 0 = d i }; ev = record { 0 = v i }; stamp = n i; target = same i }))
-
--- where what is found stands
-found_at : (dev : DeviceId) (ev : EventId) (stamp : ℕ) (t : Target) (ways : List (Option Translation)) → found ways dev.0 ev.0 stamp ≡ Some t → (i : ℕ) × (get_or ways i None ≡ Some (entry dev ev stamp t))
-found_at dev ev stamp t [] e = absurd cc
-found_at dev ev stamp t (way ∷ ways) e = at (found_at dev ev stamp t ways) (holds dev.0 ev.0 stamp way) refl e
-  where
-    at : (found ways dev.0 ev.0 stamp ≡ Some t → (i : ℕ) × (get_or ways i None ≡ Some (entry dev ev stamp t))) → (b : Bool) → holds dev.0 ev.0 stamp way ≡ b → cond b (target_in way) (found ways dev.0 ev.0 stamp) ≡ Some t
-        → (i : ℕ) × (get_or (way ∷ ways) i None ≡ Some (entry dev ev stamp t))
-    at more true h e = (0, way_is dev ev stamp t way h e)
-    at more false h e = let rest = more e in (suc rest.0, rest.1)
-
 module _ (s : Setup) (last : Word) (its : ℕ) (dev : DeviceId) (ev : EventId) (target : Target) (ways : List (Option Translation)) (r : Redistributor) (vcpus : HasVcpus s) (it : its < translator_count s) (st : target.vcpu.0 < vcpu_count s)
   (sh : shard_number dev.0 ev.0 s.shards < s.shards) (room : last.place < s.limits.place_last) (has : found ways dev.0 ev.0 (stamp_of last its) ≡ Some target) where
   abbrev two : List Held
@@ -126,7 +101,7 @@ module _ (s : Setup) (last : Word) (its : ℕ) (dev : DeviceId) (ev : EventId) (
       ∙ ap (λ (x : Redistributor). record x { pending = with_lpi target.intid.0 x.pending }) has_one)
 
   hit_may : MayCall s last (next_word last last.stamp) (call.Signal its dev ev) sent change.Keep two
-  hit_may = let f = found_at dev ev (stamp_of last its) target ways has in record {
+  hit_may = record {
     room = room;
     next = refl;
     stands = (st, ((it, sh), tt));
@@ -141,8 +116,7 @@ module _ (s : Setup) (last : Word) (its : ℕ) (dev : DeviceId) (ev : EventId) (
       reply_is = refl;
       ways = ways;
       owes = inr (inl (refl, refl));
-      way = f.0;
-      there = f.1;
+      is_found = has;
       redist = inl refl;
     };
     may_change = tt;

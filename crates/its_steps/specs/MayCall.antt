@@ -17,7 +17,7 @@ use Rattle.its_plain.specs.declared.call.Reply.{Reply}
 use Rattle.its_plain.specs.declared.call.Reply.TheVariants as reply
 use Rattle.its_plain.specs.declared.call.Signal.TheVariants.{Delivered}
 use Rattle.xlate_cache.specs.Pairs.{shard_number}
-use Rattle.xlate_cache.specs.Ways.{is_of, entry}
+use Rattle.xlate_cache.specs.Ways.{is_of, entry, found}
 use Rattle.xlate_cache.specs.declared.entry.Entry.{Entry as Translation}
 use Rattle.its_steps.specs.Parts.{Setup, Content, Maps, Shard, Redist, Stands, translator_count, stamp_of}
 use Rattle.its_steps.specs.World.{Held}
@@ -49,8 +49,7 @@ pub record IsHit (s : Setup) (expected : Word) (c : Call) (r : Reply) (held : Li
   pub reply_is : r ≡ reply.Signal (Delivered target.vcpu target.intid)
   pub ways : List (Option Translation)
   pub owes : Owes (part.Shard its (shard_number dev.0 ev.0 s.shards)) (Shard ways) held
-  pub way : ℕ
-  pub there : slice_index_or ways way None ≡ Some (entry dev ev (stamp_of expected its) target)
+  pub is_found : found ways dev.0 ev.0 (stamp_of expected its) ≡ Some target
   pub redist : Holds (part.Redist target.vcpu) held
 
 -- ---- the change of the shards, where the call leaves this state
