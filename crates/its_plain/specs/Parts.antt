@@ -33,9 +33,6 @@ abbrev pub translators_below : ℕ → List Part
 translators_below zero = []
 translators_below (suc n) = translators_below n ++ MapsOf n ∷ []
 
-abbrev pub every_translator : Plain → List Part
-every_translator u = translators_below (length u.translators)
-
 -- the redistributors of n virtual processors
 abbrev pub redists_below : ℕ → List Part
 redists_below zero = []
@@ -99,7 +96,7 @@ footprint u (call.Peek addr count) = Mem ∷ []
 footprint u (call.ReadReg its off size) = MapsOf its ∷ []
 footprint u (call.WriteReg its off size value) = MapsOf its ∷ []
 footprint u (call.Step its) = MapsOf its ∷ Mem ∷ needed_next u its
-footprint u call.Save = Mem ∷ every_translator u ++ every_redist u
+footprint u call.Save = Mem ∷ translators_below (length u.translators) ++ redists_below (length u.redistributors)
 
 -- ---- agreement
 

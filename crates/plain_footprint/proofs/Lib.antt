@@ -7,3 +7,4 @@ pub mod OtherParts
 pub mod Alike
 pub mod AlikeRan
 pub mod Decided
+pub mod Refused

@@ -1,11 +1,14 @@
 -- What the parts of a machine owe: those outside a call's footprint stay, and those within it decide the answer.
-use Rattle.std.specs.Prelude.{◌≡◌}
+use Rattle.std.specs.Prelude.{◌≡◌, ℕ}
 use Rattle.its_types.specs.declared.machine.Part.{Part}
 use Rattle.its_plain.specs.Plain.{Plain}
 use Rattle.its_plain.specs.Sound.{IsSound}
-use Rattle.its_plain.specs.Answer.{answer, reply_of}
+use Rattle.its_plain.specs.Answer.{answer, reply_of, step_reply, step_left, went_on}
 use Rattle.its_plain.specs.Parts.{SamePart, IsIn, AgreesOn, footprint}
+use Rattle.its_command.specs.declared.command.Op.{Op}
 use Rattle.its_plain.specs.declared.call.Call.{Call}
+use Rattle.its_plain.specs.declared.call.Reason.{Reason}
+use Rattle.its_plain.specs.declared.call.StepReply.TheVariants.{Refused}
 
 -- a call changes no part outside its footprint; a sound state has just the redistributors that its layout says
 abbrev pub OtherPartsStay : Type 0
@@ -20,3 +23,7 @@ FootprintDecides =
 -- no call changes the layout
 abbrev pub LayoutStays : Type 0
 LayoutStays = (u : Plain) (c : Call) → IsSound u → u.layout ≡ (answer u c).1.layout
+
+-- a refused command changes nothing but CREADR, which goes on
+abbrev pub RefusedChangesNothing : Type 0
+RefusedChangesNothing = (u : Plain) (its : ℕ) (op : Op) (reason : Reason) → step_reply u its ≡ Refused op reason → step_left u its ≡ went_on its u
