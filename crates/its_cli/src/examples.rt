@@ -34,7 +34,8 @@ phase
 thread
 ";
 
-fn script(alloc: Global, parts: [&str; 4]) -> Result<String, AllocError> {
+/// The parts of a script, one after another.
+pub fn script(alloc: Global, parts: [&str; 4]) -> Result<String, AllocError> {
     let mut text = String::new(alloc);
     for part in parts {
         text.push_str(part)?;
@@ -42,17 +43,23 @@ fn script(alloc: Global, parts: [&str; 4]) -> Result<String, AllocError> {
     Ok(text)
 }
 
-// Whether the run of a script ends with status 0, and its report with these lines.
-pub fn reports(alloc: Global, parts: [&str; 4], lines: &str) -> Option<bool> {
+/// How the run of a script ends, and the sink with what it printed.
+pub fn run(alloc: Global, input: &[u8]) -> Option<(Status, SureSink)> {
     let mut words = Vec::new(alloc);
     words.push(String::from_str(alloc, "its").ok()?).ok()?;
     words.push(String::from_str(alloc, "run").ok()?).ok()?;
-    let input = script(alloc, parts).ok()?;
-    let mut source = SureSource::new(alloc, input.as_bytes()).ok()?;
+    let mut source = SureSource::new(alloc, input).ok()?;
     let mut sink = SureSink::new(alloc, 8192).ok()?;
-    let ended = its(alloc, &words, &mut source, &mut sink);
+    let status = its(alloc, &words, &mut source, &mut sink);
+    Some((status, sink))
+}
+
+/// Whether the run of a script ends with status 0, and its report with these lines.
+pub fn reports(alloc: Global, parts: [&str; 4], lines: &str) -> Option<bool> {
+    let input = script(alloc, parts).ok()?;
+    let (status, sink) = run(alloc, input.as_bytes())?;
     let report = sink.bytes()?;
-    Some(ended == Status::Ok && report.ends_with(lines.as_bytes()))
+    Some(status == Status::Ok && report.ends_with(lines.as_bytes()))
 }
 
 #[test]

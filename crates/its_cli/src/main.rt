@@ -2,6 +2,8 @@
 #![tactic(auto)]
 
 #[cfg(test)]
+mod cut_short;
+#[cfg(test)]
 mod examples;
 mod its;
 #[cfg(test)]

@@ -85,36 +85,52 @@ done
 
 #[test]
 fn a_device_without_a_level_1_entry_has_no_place(rt: HostRuntime) {
-    let body = "word 0x80000000 0x8000000080080000
-word 0x80000010 0x8000000080090000
-phase
+    let alloc = rt.alloc();
+    let body = "phase
 thread
 write 0x100 8 0xc107000080000200
 write 0x108 8 0x8407000080010200
 write 0x80 8 0x8000000080020000
 write 0 4 1
 command 0x80020000 mapd 0 5 0x800c0000
-command 0x80020020 mapd 8192 5 0x800c0100
-command 0x80020040 mapd 16384 5 0x800c0100
-write 0x88 8 0x60
-step
+command 0x80020020 mapd 16384 5 0x800c0100
+write 0x88 8 0x40
 step
 step
 ";
-    let lines = "7 1.1 write 0x88 8 0x60 -> ok
+    for (words, lines) in [
+        (
+            "word 0x80000000 0x8000000080080000
+word 0x80000010 0x8000000080090000
+",
+            "7 1.1 step -> ran mapd
 8 1.1 step -> ran mapd
-9 1.1 step -> refused mapd device-range
-10 1.1 step -> ran mapd
 vcpu 0 pending none
 vcpu 1 pending none
 vcpu 2 pending none
 vcpu 3 pending none
 done
-";
-    assert_eq!(rt;
-        reports(rt.alloc(), [MACHINE, body, "end\n", ""], lines),
-        Some(true)
-    );
+",
+        ),
+        (
+            "word 0x80000000 0x8000000080080000
+",
+            "7 1.1 step -> ran mapd
+8 1.1 step -> refused mapd device-range
+vcpu 0 pending none
+vcpu 1 pending none
+vcpu 2 pending none
+vcpu 3 pending none
+done
+",
+        ),
+    ] {
+        assert_eq!(rt;
+            reports(alloc, [MACHINE, words, body, "end\n"], lines),
+            Some(true),
+            "{words}"
+        );
+    }
 }
 
 #[test]

@@ -1,10 +1,10 @@
 -- Lists of entries whose keys rise, and the finite maps that they stand for.
-use Rattle.std.proofs.Common.{◌≡◌, ℕ, Bool, List, [], Option, None, cond, sym, ap, ◌∙◌}
+use Rattle.std.proofs.Common.{◌≡◌, ℕ, Bool, List, [], None, cond, sym, ap, ◌∙◌}
 use Rattle.std.specs.declared.cmp.Ordering.{Ordering}
 use Rattle.std.specs.declared.cmp.Ordering.TheVariants.{Equal}
 use Rattle.std.specs.Ordering.{nat_cmp}
 use Rattle.std.specs.Cmp.{IsTotalOrder, nat_cmp_total}
-use Rattle.std.specs.FinMap.{FinMap, find, put, is_sorted, get, empty, entries, insert, retain_keys, from_sorted, get-empty, get-from_sorted, entries-from_sorted, entries-insert, get-retain_keys, same_entries_map, same_map, IsAntisymmetric, nat_cmp-IsAntisymmetric}
+use Rattle.std.specs.FinMap.{find, put, is_sorted, get, empty, entries, insert, retain_keys, from_sorted, get-empty, get-from_sorted, entries-from_sorted, entries-insert, get-retain_keys, same_entries_map, same_map, IsAntisymmetric}
 use Rattle.std.specs.FinMap.Entries.{where_key, find-where_key, is_sorted-put, is_sorted-where_key}
 use Rattle.std.proofs.lemmas.Cmp.{on_total, then_total}
 use Rattle.std.proofs.lemmas.Map.Lookups.{exact_pairs, exact_unsigned}
@@ -13,6 +13,8 @@ use Rattle.std.specs.Prelude.{map, filter, ◌==◌}
 use Rattle.its_types.specs.Maps.{pair_cmp, no_maps, device_of, event_of, collection_of}
 use Rattle.its_types.specs.declared.translation.Event.{Event}
 use Rattle.its_plain.specs.Commands.{intids_of}
+use Rattle.its_plain.specs.MapLists.{Rise, maps_of_lists}
+use Rattle.its_plain.specs.declared.maps.MapLists.TheInside.{Inside}
 
 pub pair_total : IsTotalOrder pair_cmp
 pair_total = then_total (on_total (λ p. p.0) nat_cmp_total) (on_total (λ p. p.1) nat_cmp_total)
@@ -66,3 +68,14 @@ no_entries {K} {X} R total exact = ap entries (sym (none_is {K = K} {X = X} R to
 
 pub no_intids : (icid : ℕ) → intids_of no_maps icid ≡ []
 no_intids icid = ap (λ (es : List ((ℕ × ℕ) × Event)). map (λ e. e.1.intid.0) (filter (λ e. e.1.icid.0 == icid) es)) (no_entries pair_cmp pair_total pair_exact)
+
+-- ---- the entries that lists of entries stand for
+
+pub listed_devices : (m : Inside) → Rise m → entries (maps_of_lists m).devices ≡ m.devices.items
+listed_devices m r = entries-from_sorted nat_cmp m.devices.items r.devices
+
+pub listed_events : (m : Inside) → Rise m → entries (maps_of_lists m).events ≡ m.events.items
+listed_events m r = entries-from_sorted pair_cmp m.events.items r.events
+
+pub listed_collections : (m : Inside) → Rise m → entries (maps_of_lists m).collections ≡ m.collections.items
+listed_collections m r = entries-from_sorted nat_cmp m.collections.items r.collections

@@ -2,3 +2,4 @@ pub mod Rising
 pub mod Entries
 pub mod Pending
 pub mod Mapped
+mod SavedTables

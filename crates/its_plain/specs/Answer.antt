@@ -1,18 +1,19 @@
 -- What each call is answered, and the state that it leaves.
-use Rattle.std.specs.Prelude.{ℕ, ◌+◌, Bool, not, ◌&&◌, ◌||◌, ◌==◌, nat_lt, nat_le, if◌then◌else◌, Option, Some, None, Result, Ok, Err, List, unwrap_or}
+use Rattle.std.specs.Prelude.{ℕ, Bool, not, ◌&&◌, ◌||◌, nat_lt, nat_le, if◌then◌else◌, Option, Some, None, Result, Ok, Err, List, unwrap_or}
 use Rattle.guest_windows.specs.Windows.{Window, read_at, write_at}
 use Rattle.gits_regs.specs.Registers.{Written, read_reg, write_reg, queue_place, is_queue_empty, advanced}
 use Rattle.gits_regs.specs.declared.change.RegChange.{RegChange}
 use Rattle.gits_regs.specs.declared.change.RegChange.TheVariants as change
 use Rattle.its_command.specs.Commands.{decoded, op_of}
-use Rattle.its_command.specs.declared.command.Command.{Command}
 use Rattle.its_command.specs.declared.command.Op.{Op}
 use Rattle.its_types.specs.Lpis.{first_enabled, priority_of, without_lpi}
 use Rattle.its_types.specs.Maps.{Maps, devices_emptied, collections_emptied}
 use Rattle.its_types.specs.declared.ids.Target.{Target}
-use Rattle.its_plain.specs.Plain.{Plain, Translator, Redistributor, translator, redistributor, regs_of, maps_of, with_translator, with_regs, with_redistributor}
+use Rattle.its_plain.specs.Plain.{Plain, Translator, Redistributor, translator, redistributor, regs_of, with_translator, with_regs, with_redistributor}
 use Rattle.its_plain.specs.Translation.{translated}
 use Rattle.its_plain.specs.Commands.{ran, lpi_set}
+use Rattle.its_plain.specs.Regions.{savable}
+use Rattle.its_plain.specs.Saved.{saved}
 use Rattle.its_plain.specs.declared.call.Ack.{Ack}
 use Rattle.its_plain.specs.declared.call.Ack.TheVariants as ack
 use Rattle.its_plain.specs.declared.call.Call.{Call}
@@ -25,6 +26,7 @@ use Rattle.its_plain.specs.declared.call.Signal.{Signal}
 use Rattle.its_plain.specs.declared.call.Signal.TheVariants.{Delivered, Dropped}
 use Rattle.its_plain.specs.declared.call.StepReply.{StepReply}
 use Rattle.its_plain.specs.declared.call.StepReply.TheVariants.{Idle, Ran, Refused, QueueFault}
+use Rattle.its_plain.specs.declared.fault.SaveFault.{SaveFault}
 
 -- ---- signals
 
@@ -118,6 +120,17 @@ step_reply u i = if is_idle u i then Idle else met_reply u i (next_bytes u i)
 unfoldable pub step_left : Plain → ℕ → Plain
 step_left u i = if is_idle u i then u else met_left u i (next_bytes u i)
 
+-- ---- saves
+
+abbrev pub save_reply : Result (Unit {0}) SaveFault → Reply
+save_reply (Ok done) = reply.Saved
+save_reply (Err fault) = reply.SaveFault fault
+
+-- a refused save changes nothing
+abbrev pub save_left : Plain → Result (Unit {0}) SaveFault → Plain
+save_left u (Ok done) = record u { memory = saved u }
+save_left u (Err fault) = u
+
 -- ---- all calls
 
 unfoldable pub reply_of : Plain → Call → Reply
@@ -129,6 +142,7 @@ reply_of u (call.Peek addr count) = peek_reply (peeked u addr.0 count)
 reply_of u (call.ReadReg its off size) = reply.Value (read_reg (regs_of u its) off size)
 reply_of u (call.WriteReg its off size value) = reply.Ok
 reply_of u (call.Step its) = reply.Step (step_reply u its)
+reply_of u call.Save = save_reply (savable u)
 
 abbrev replied : Plain → Reply → Plain
 replied u (reply.Signal s) = signal_left u s
@@ -144,6 +158,7 @@ left u (call.Peek addr count) r = u
 left u (call.ReadReg its off size) r = u
 left u (call.WriteReg its off size value) r = written u its off size value
 left u (call.Step its) r = step_left u its
+left u call.Save r = save_left u (savable u)
 
 abbrev pub answer : Plain → Call → Reply × Plain
 answer u c = (reply_of u c, left u c (reply_of u c))

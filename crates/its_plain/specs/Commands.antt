@@ -1,5 +1,5 @@
 -- What each command does (IHI 0069, section 5.3): its first refusal, or what it leaves.
-use Rattle.std.specs.Prelude.{ℕ, ◌+◌, ◌-◌, ◌^◌, Bool, not, ◌&&◌, ◌==◌, nat_lt, nat_le, if◌then◌else◌, Option, Some, None, is_some, Result, Ok, Err, List, [], ◌∷◌, map, filter}
+use Rattle.std.specs.Prelude.{ℕ, ◌+◌, ◌-◌, ◌^◌, Bool, ◌&&◌, ◌==◌, nat_lt, nat_le, if◌then◌else◌, Option, Some, None, is_some, Result, Ok, Err, List, [], ◌∷◌, map, filter}
 use Rattle.std.specs.Option.{ok_or}
 use Rattle.std.specs.FinMap.{entries}
 use Rattle.guest_windows.specs.Windows.{Window, byte_at}
@@ -15,7 +15,7 @@ use Rattle.its_types.specs.declared.ids.Vcpu.{Vcpu}
 use Rattle.its_types.specs.declared.machine.Profile.{Profile}
 use Rattle.its_types.specs.declared.machine.Profile.TheVariants.{One, Two}
 use Rattle.its_types.specs.declared.translation.Event.{Event}
-use Rattle.its_plain.specs.Plain.{Plain, Redistributor, translator, redistributor, regs_of, maps_of, pending_of, is_on, with_maps, with_pending}
+use Rattle.its_plain.specs.Plain.{Plain, Redistributor, regs_of, maps_of, pending_of, is_on, with_maps, with_pending}
 use Rattle.its_plain.specs.declared.call.Reason.{Reason}
 use Rattle.its_plain.specs.declared.call.Reason.TheVariants.{UnknownCommand, DeviceRange, SizeRange, TargetRange, CollectionRange, NoDevice, EventRange, IntidRange, NoEvent, NoCollection, LpisOff}
 

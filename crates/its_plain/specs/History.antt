@@ -1,7 +1,7 @@
 -- Histories of calls and replies.
 use Rattle.std.specs.Prelude.{◌≡◌, ℕ, suc, ◌==◌, if◌then◌else◌, List, [], ◌∷◌}
 use Rattle.its_plain.specs.Plain.{Plain}
-use Rattle.its_plain.specs.Answer.{reply_of, left, answer}
+use Rattle.its_plain.specs.Answer.{answer}
 use Rattle.its_plain.specs.declared.call.Call.{Call}
 use Rattle.its_plain.specs.declared.call.Entry.{Entry}
 

@@ -10,6 +10,7 @@ pub mod Regions
 pub mod Saved
 pub mod Runs
 pub mod Machine
+pub mod Mapped
 pub mod MapLists
 pub mod Slots
 pub mod Outcome

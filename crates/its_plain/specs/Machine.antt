@@ -1,5 +1,5 @@
 -- The machine that a description makes, or why it makes none.
-use Rattle.std.specs.Prelude.{ℕ, ◌+◌, Bool, true, false, not, if◌then◌else◌, List, [], ◌∷◌, ◌++◌, length, map, replicate, Option, Some, None, Result, Ok, Err}
+use Rattle.std.specs.Prelude.{ℕ, ◌+◌, Bool, true, false, if◌then◌else◌, List, [], ◌∷◌, map, Result, Ok, Err}
 use Rattle.std.specs.Option.{ok_or}
 use Rattle.guest_windows.specs.Windows.{Window, are_windows, zeros, inside, read_at, write_at}
 use Rattle.guest_windows.specs.Fields.{pairs}
@@ -7,7 +7,6 @@ use Rattle.gits_regs.specs.Registers.{reset}
 use Rattle.its_types.specs.Maps.{no_maps}
 use Rattle.its_types.specs.Ranges.{lpi_count, pending_bytes}
 use Rattle.its_types.specs.declared.ids.Addr.{Addr}
-use Rattle.its_types.specs.declared.machine.Shape.{Shape}
 use Rattle.its_types.specs.declared.translation.Bases.{Bases}
 use Rattle.its_plain.specs.Plain.{Plain, Redistributor}
 use Rattle.its_plain.specs.declared.desc.Desc.{Desc}

@@ -1,6 +1,6 @@
 -- What making a machine came to, against its definition.
 use Rattle.std.specs.Prelude.{◌≡◌, ℕ, length, Bool, false, List, Option, Some, None, Result, Ok, Err}
-use Rattle.std.specs.Global.{Vec, Global}
+use Rattle.std.specs.Global.{Vec}
 use Rattle.guest_windows.specs.Windows.{Window}
 use Rattle.its_plain.specs.Plain.{Plain}
 use Rattle.its_plain.specs.Sound.{IsShape}

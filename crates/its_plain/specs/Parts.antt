@@ -1,20 +1,17 @@
 -- The parts of a machine, and those that a call reads or changes.
-use Rattle.std.specs.Prelude.{◌≡◌, ℕ, zero, suc, ◌+◌, Bool, not, ◌&&◌, ◌||◌, ◌==◌, nat_lt, if◌then◌else◌, List, [], ◌∷◌, ◌++◌, slice_get, Option, Some, None, Result, Ok, Err}
-use Rattle.std.specs.Result.{result_ok}
+use Rattle.std.specs.Prelude.{◌≡◌, ℕ, zero, suc, ◌&&◌, ◌==◌, nat_lt, if◌then◌else◌, List, [], ◌∷◌, ◌++◌, length, slice_get, Option, Some, None}
 use Rattle.std.specs.Option.{option_map}
 use Rattle.its_command.specs.Commands.{decoded}
 use Rattle.its_command.specs.declared.command.Command.{Command}
 use Rattle.its_command.specs.declared.command.Command.TheVariants as command
 use Rattle.its_types.specs.Maps.{Maps, event_of, collection_of}
 use Rattle.its_types.specs.declared.ids.Vcpu.{Vcpu}
-use Rattle.its_types.specs.declared.ids.Target.{Target}
 use Rattle.its_types.specs.declared.machine.Part.{Part}
 use Rattle.its_types.specs.declared.machine.Part.TheVariants.{Maps as MapsOf, Mem, Shard, Redist}
 use Rattle.its_types.specs.declared.machine.Profile.{Profile}
 use Rattle.its_types.specs.declared.machine.Profile.TheVariants.{One, Two}
-use Rattle.its_plain.specs.Plain.{Plain, Translator, Redistributor, maps_of}
+use Rattle.its_plain.specs.Plain.{Plain, maps_of}
 use Rattle.its_plain.specs.Translation.{located_target}
-use Rattle.its_plain.specs.Commands.{event_at, target_at}
 use Rattle.its_plain.specs.Answer.{is_idle, next_bytes}
 use Rattle.its_plain.specs.declared.call.Call.{Call}
 use Rattle.its_plain.specs.declared.call.Call.TheVariants as call
@@ -30,6 +27,11 @@ SamePart u w (Redist vcpu) = slice_get u.redistributors vcpu.0 ≡ slice_get w.r
 
 abbrev pub redist : ℕ → Part
 redist vcpu = Redist (record { 0 = vcpu })
+
+-- n translators
+abbrev pub translators_below : ℕ → List Part
+translators_below zero = []
+translators_below (suc n) = translators_below n ++ MapsOf n ∷ []
 
 -- the redistributors of n virtual processors
 abbrev pub redists_below : ℕ → List Part
@@ -94,6 +96,7 @@ footprint u (call.Peek addr count) = Mem ∷ []
 footprint u (call.ReadReg its off size) = MapsOf its ∷ []
 footprint u (call.WriteReg its off size value) = MapsOf its ∷ []
 footprint u (call.Step its) = MapsOf its ∷ Mem ∷ needed_next u its
+footprint u call.Save = Mem ∷ translators_below (length u.translators) ++ redists_below (length u.redistributors)
 
 -- ---- agreement
 
@@ -103,4 +106,6 @@ IsIn p ps = (n : ℕ) × (slice_get ps n ≡ Some p)
 -- two states of one machine that have these parts in common
 pub record AgreesOn (u w : Plain) (ps : List Part) : Type 0 where
   pub layout : u.layout ≡ w.layout
+  pub translators : length u.translators ≡ length w.translators
+  pub redistributors : length u.redistributors ≡ length w.redistributors
   pub parts : (p : Part) → IsIn p ps → SamePart u w p

@@ -1,16 +1,17 @@
 -- Whether a state can be saved (KVM document arm-vgic-its, "ITS Table ABI REV0"): the stretches of memory that its tables
 -- stand in, and the first refusal.
-use Rattle.std.specs.Prelude.{ℕ, zero, suc, ◌+◌, ◌-◌, ◌*◌, ◌/◌, ◌^◌, Bool, true, false, not, ◌&&◌, ◌||◌, ◌==◌, nat_lt, if◌then◌else◌, min, List, [], ◌∷◌, ◌++◌, find, Option, Some, None, is_some, Result, Ok, Err}
+use Rattle.std.specs.Prelude.{ℕ, zero, suc, ◌+◌, ◌-◌, ◌*◌, ◌/◌, ◌^◌, Bool, true, false, not, ◌&&◌, ◌||◌, nat_lt, if◌then◌else◌, min, List, [], ◌∷◌, ◌++◌, find, Option, Some, None, is_some, Result, Ok, Err}
 use Rattle.std.specs.List.{flat_map}
 use Rattle.std.specs.FinMap.{entries}
 use Rattle.guest_windows.specs.Windows.{Window, inside}
 use Rattle.gits_regs.specs.Registers.{Registers, is_valid, is_indirect, pages, table_base, queue_base, queue_size}
-use Rattle.baser_place.specs.Places.{level1_entries, level1_of, level1_address, page_of}
+use Rattle.baser_place.specs.Places.{level1_entries, level1_of, page_of}
 use Rattle.its_types.specs.Ranges.{lpi_count, pending_bytes}
 use Rattle.its_types.specs.Maps.{Maps}
 use Rattle.its_types.specs.declared.machine.Shape.{Shape}
 use Rattle.its_types.specs.declared.translation.Device.{Device}
-use Rattle.its_plain.specs.Plain.{Plain, Layout, Translator, Redistributor, redistributor}
+use Rattle.its_plain.specs.Plain.{Plain, Translator, Redistributor, redistributor}
+use Rattle.its_plain.specs.declared.area.Area.{Area}
 use Rattle.its_plain.specs.declared.fault.Region.{Region}
 use Rattle.its_plain.specs.declared.fault.Region.TheVariants.{Devices, Level1, Page, Collections, Itt, Pending, Config, ConfigOf, Queue}
 use Rattle.its_plain.specs.declared.fault.SaveFault.{SaveFault}
@@ -20,13 +21,6 @@ infixl 10 ◌>>=◌
 abbrev pub ◌>>=◌ : {A B : Type 0} → Result A SaveFault → (A → Result B SaveFault) → Result B SaveFault
 (Ok x) >>= f = f x
 (Err e) >>= f = Err e
-
--- a stretch of memory, and whether a save writes it
-pub record Area : Type 0 where
-  pub region : Region
-  pub base : ℕ
-  pub size : ℕ
-  pub is_written : Bool
 
 abbrev written_area : Region → ℕ → ℕ → Area
 written_area region base size = record { region = region; base = base; size = size; is_written = true }
@@ -48,7 +42,7 @@ device_pages r = min (pages r.baser0) (level1_entries r.dev_bits)
 abbrev pub collection_pages : Registers → ℕ
 collection_pages r = min (pages r.baser1) 8
 
-abbrev page_area : ℕ → Option ℕ → List Area
+abbrev pub page_area : ℕ → Option ℕ → List Area
 page_area k None = []
 page_area k (Some base) = written_area (Page k) base page_size ∷ []
 
@@ -60,7 +54,7 @@ pages_below r memory (suc n) = pages_below r memory n ++ page_area n (page_of (l
 abbrev level1_size : Registers → ℕ
 level1_size r = 8 * level1_entries r.dev_bits
 
-abbrev level1_areas : Registers → List Window → List Area
+abbrev pub level1_areas : Registers → List Window → List Area
 level1_areas r memory =
     read_area Level1 (table_base r.baser0) (level1_size r)
     ∷ (if inside memory (table_base r.baser0) (level1_size r) then pages_below r memory (level1_entries r.dev_bits) else [])
@@ -83,8 +77,11 @@ itt_areas m = flat_map (λ d. itt_area d ∷ []) (entries m.devices)
 unfoldable pub table_areas : List Window → Translator → List Area
 table_areas memory t = device_areas t.regs memory ++ collection_areas t.regs ++ itt_areas t.maps
 
+abbrev pub queue_area : Registers → List Area
+queue_area r = if is_valid r.cbaser then read_area Queue (queue_base r) (queue_size r) ∷ [] else []
+
 abbrev pub queue_areas : Translator → List Area
-queue_areas t = if is_valid t.regs.cbaser then read_area Queue (queue_base t.regs) (queue_size t.regs) ∷ [] else []
+queue_areas t = queue_area t.regs
 
 -- ---- the areas of the redistributors
 

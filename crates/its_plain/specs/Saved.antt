@@ -1,11 +1,11 @@
 -- What a save writes (KVM document arm-vgic-its, "ITS Table ABI REV0"), and the machine that a migration goes on with.
-use Rattle.std.specs.Prelude.{◌≡◌, ℕ, suc, zero, ◌+◌, ◌-◌, ◌*◌, ◌/◌, ◌^◌, Bool, not, ◌&&◌, ◌==◌, nat_lt, if◌then◌else◌, min, List, [], ◌∷◌, ◌++◌, map, find, Option, Some, None, unwrap_or, slice_get, Ok}
+use Rattle.std.specs.Prelude.{◌≡◌, ℕ, suc, zero, ◌+◌, ◌-◌, ◌*◌, ◌/◌, ◌^◌, not, ◌&&◌, ◌==◌, nat_lt, if◌then◌else◌, min, List, [], ◌∷◌, ◌++◌, map, find, Option, Some, None, unwrap_or, slice_get, Ok}
 use Rattle.std.specs.Option.{option_map}
 use Rattle.std.specs.List.{flat_map}
 use Rattle.std.specs.FinMap.{entries, keys}
 use Rattle.byteorder.specs.Endian.{little_number, little_bytes}
 use Rattle.guest_windows.specs.Windows.{Window, read_at, write_at}
-use Rattle.gits_regs.specs.Registers.{Registers, is_valid, is_indirect, table_base}
+use Rattle.gits_regs.specs.Registers.{is_valid, is_indirect, table_base}
 use Rattle.baser_place.specs.Places.{level1_entries, level1_of, page_of, entry_address}
 use Rattle.table_entries.specs.Words.{packed_device, packed_collection, packed_event}
 use Rattle.its_types.specs.Lpis.{pending_byte}
@@ -50,13 +50,13 @@ distance cap id (Some next) = min (next - id) cap
 abbrev pub device_after : Maps → ℕ → Option ℕ
 device_after m dev = find (λ d. nat_lt dev d) (keys m.devices)
 
-abbrev device_entry : Maps → ℕ → Option Device → ℕ
-device_entry m dev None = 0
-device_entry m dev (Some d) = packed_device (record { next = distance 16383 dev (device_after m dev); itt = d.itt.0; bits = d.bits })
+-- the entry of a device, if it is mapped, where this one is mapped next; or zero
+abbrev pub device_entry : ℕ → Option Device → Option ℕ → ℕ
+device_entry dev None next = 0
+device_entry dev (Some d) next = packed_device (record { next = distance 16383 dev next; itt = d.itt.0; bits = d.bits })
 
--- the entry of a mapped device, or zero
 unfoldable pub device_word : Maps → ℕ → ℕ
-device_word m dev = device_entry m dev (device_of m dev)
+device_word m dev = device_entry dev (device_of m dev) (device_after m dev)
 
 abbrev pub collection_entry : Option (ℕ × Vcpu) → ℕ
 collection_entry None = 0
@@ -70,13 +70,13 @@ collection_word m i = collection_entry (slice_get (entries m.collections) i)
 abbrev pub event_after : Maps → ℕ → ℕ → Option ℕ
 event_after m dev ev = option_map (λ k. k.1) (find (λ k. k.0 == dev && nat_lt ev k.1) (keys m.events))
 
-abbrev event_entry : Maps → ℕ → ℕ → Option Event → ℕ
-event_entry m dev ev None = 0
-event_entry m dev ev (Some e) = packed_event (record { next = distance 65535 ev (event_after m dev ev); intid = e.intid.0; icid = e.icid.0 })
+-- the entry of an event, if it is mapped, where this one is mapped next of the device's; or zero
+abbrev pub event_entry : ℕ → Option Event → Option ℕ → ℕ
+event_entry ev None next = 0
+event_entry ev (Some e) next = packed_event (record { next = distance 65535 ev next; intid = e.intid.0; icid = e.icid.0 })
 
--- the entry of a mapped event, or zero
 unfoldable pub event_word : Maps → ℕ → ℕ → ℕ
-event_word m dev ev = event_entry m dev ev (event_of m dev ev)
+event_word m dev ev = event_entry ev (event_of m dev ev) (event_after m dev ev)
 
 -- eight bytes of a pending table, the first of which is byte n
 unfoldable pub pending_word : List ℕ → ℕ → ℕ
@@ -86,9 +86,13 @@ pending_word pending n =
 
 -- ---- tables
 
+-- a page of so many entries
+abbrev pub words_of_page : ℕ → Maps → ℕ → Option ℕ → List Words
+words_of_page count m k None = []
+words_of_page count m k (Some base) = record { base = base; count = count; word = λ i. device_word m (8192 * k + i) } ∷ []
+
 abbrev pub page_words : Maps → ℕ → Option ℕ → List Words
-page_words m k None = []
-page_words m k (Some base) = record { base = base; count = 8192; word = λ i. device_word m (8192 * k + i) } ∷ []
+page_words = words_of_page 8192
 
 -- the pages of the first n level-1 entries
 abbrev pub pages_words : Translator → List Window → ℕ → List Words

@@ -1,8 +1,8 @@
 -- Where a message goes (IHI 0069, section 5.1 and 5.2).
-use Rattle.std.specs.Prelude.{ℕ, Bool, if◌then◌else◌, Option, Some, None, Result, Ok, Err}
+use Rattle.std.specs.Prelude.{ℕ, Bool, if◌then◌else◌, Option, Result, Ok, Err}
 use Rattle.std.specs.Option.{ok_or}
 use Rattle.std.specs.Result.{result_ok}
-use Rattle.its_types.specs.Maps.{Maps, device_of, event_of, collection_of}
+use Rattle.its_types.specs.Maps.{device_of, event_of, collection_of}
 use Rattle.its_types.specs.declared.ids.Target.{Target}
 use Rattle.its_plain.specs.Plain.{Plain, Translator, translator, is_on}
 use Rattle.its_plain.specs.declared.call.Cause.{Cause}

@@ -113,6 +113,7 @@ impl State {
                 Ok(Reply::Ok)
             }
             Call::Step { its } => Ok(Reply::Step(self.step(alloc, its)?)),
+            Call::Save => self.save(alloc),
         }
     }
 }

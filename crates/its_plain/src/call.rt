@@ -1,4 +1,5 @@
 use crate::bytes64::Bytes64;
+use crate::fault::SaveFault;
 use its_command::Op;
 use its_types::{Addr, DeviceId, EventId, Intid, Vcpu};
 
@@ -42,6 +43,8 @@ pub enum Call {
     Step {
         its: u8,
     },
+    /// The tables of every translator and redistributor are written to guest memory.
+    Save,
 }
 
 /// Why a signal went nowhere: the first that applies.
@@ -120,6 +123,9 @@ pub enum Reply {
     Bytes(Bytes64),
     Value(u64),
     Step(StepReply),
+    Saved,
+    /// Nothing was written.
+    SaveFault(SaveFault),
 }
 
 /// A call of a pass, and what it was answered.

@@ -1,5 +1,10 @@
 //! What each command does.
+ghost use Rattle.std.specs.Prelude.{◌≡◌, ◌^◌, nat_lt};
+ghost use Rattle.its_plain.specs.Commands as commands;
+ghost use Rattle.its_plain.specs.declared.call.Reason.TheVariants as reasons;
+
 use crate::call::Reason;
+use crate::mapped_entries::{MappedDevice, MappedEvent};
 use crate::refusal::{CommandError, ensure};
 use crate::state::State;
 use crate::{redist, translator};
@@ -8,8 +13,15 @@ use its_command::{Command, EventIdBits, IttAddr, RdBase};
 use its_types::{Addr, Device, DeviceId, Event, EventId, Icid, Intid, Profile, Vcpu, fits_bits};
 use std::alloc::{AllocError, Global};
 
+// An EventID of as many bits as the device's have.
+fn ensure_has_event(device: MappedDevice, ev: EventId) -> Result<(), Reason>
+    ensures { result ≡ commands.ensure (nat_lt ev.0 (2 ^ device.bits)) reasons.EventRange }
+{
+    ensure(fits_bits(ev.0, device.get().bits), Reason::EventRange)
+}
+
 impl State {
-    ghost use Rattle.std.specs.Prelude.{◌≡◌, IfOk, OnOk};
+    ghost use Rattle.std.specs.Prelude.{◌≡◌, ◌≤◌, IfOk, OnOk};
     ghost use Rattle.its_types.specs.Maps as maps;
     ghost use Rattle.its_plain.specs.Plain as plain;
     ghost use Rattle.its_plain.specs.Commands as commands;
@@ -18,7 +30,7 @@ impl State {
     // ---- look-ups
 
     #[tactic(auto, using(crate::proofs::Entries::no_device))]
-    fn device(&self, its: u8, dev: DeviceId) -> Option<Device>
+    fn device(&self, its: u8, dev: DeviceId) -> Option<MappedDevice>
         ensures { result ≡ maps.device_of (plain.maps_of self.now its) dev.0 }
     {
         match self.translators.get(usize::from(its)) {
@@ -28,7 +40,7 @@ impl State {
     }
 
     #[tactic(auto, using(crate::proofs::Entries::no_event))]
-    fn event(&self, its: u8, dev: DeviceId, ev: EventId) -> Option<Event>
+    fn event(&self, its: u8, dev: DeviceId, ev: EventId) -> Option<MappedEvent>
         ensures { result ≡ maps.event_of (plain.maps_of self.now its) dev.0 ev.0 }
     {
         match self.translators.get(usize::from(its)) {
@@ -55,12 +67,21 @@ impl State {
 
     // An event of a mapped device.
     #[tactic(auto, unfolding(crate::specs::Commands::event_at))]
-    fn event_at(&self, its: u8, dev: DeviceId, ev: EventId) -> Result<Event, Reason>
+    fn mapped_event_at(&self, its: u8, dev: DeviceId, ev: EventId) -> Result<MappedEvent, Reason>
         ensures { result ≡ commands.event_at (plain.maps_of self.now its) dev.0 ev.0 }
     {
         let device = self.device(its, dev).ok_or(Reason::NoDevice)?;
-        ensure(fits_bits(ev.0, device.bits), Reason::EventRange)?;
+        ensure_has_event(device, ev)?;
         self.event(its, dev, ev).ok_or(Reason::NoEvent)
+    }
+
+    fn event_at(&self, its: u8, dev: DeviceId, ev: EventId) -> Result<Event, Reason>
+        ensures { result ≡ commands.event_at (plain.maps_of self.now its) dev.0 ev.0 }
+    {
+        match self.mapped_event_at(its, dev, ev) {
+            Ok(event) => Ok(event.get()),
+            Err(reason) => Err(reason),
+        }
     }
 
     // The target of a collection.
@@ -171,7 +192,7 @@ impl State {
         ensures { Runs self.old self.new result (commands.mapti self.old its dev.0 ev.0 intid.0 icid.0) }
     {
         let device = self.device(its, dev).ok_or(Reason::NoDevice)?;
-        ensure(fits_bits(ev.0, device.bits), Reason::EventRange)?;
+        ensure_has_event(device, ev)?;
         ensure(intid.in_range(self.shape.lpi_bits), Reason::IntidRange)?;
         ensure(
             u32::from(icid.0) < self.regs(its).collection_places(),
@@ -189,6 +210,7 @@ impl State {
         ev: EventId,
         event: Event,
     ) -> Result<(), AllocError>
+        requires { 1 ≤ event.intid.0 }
         ensures { OnOk result (self.new ≡ commands.with_event self.old its dev.0 ev.0 event) }
     {
         if self.event(its, dev, ev).is_some() {
@@ -203,7 +225,7 @@ impl State {
     fn movi(&mut self, its: u8, dev: DeviceId, ev: EventId, icid: Icid) -> Result<(), CommandError>
         ensures { Runs self.old self.new result (commands.movi self.old its dev.0 ev.0 icid.0) }
     {
-        let event = self.event_at(its, dev, ev)?;
+        let event = self.mapped_event_at(its, dev, ev)?.get();
         let from = u64::from(self.target_at(its, event.icid)?.0);
         let to = u64::from(self.target_at(its, icid)?.0);
         ensure(self.is_on(from) && self.is_on(to), Reason::LpisOff)?;

@@ -2,19 +2,26 @@
 #![tactic(auto)]
 
 mod answer;
+mod area;
 mod bytes64;
 mod call;
 mod commands;
 mod desc;
 mod fault;
 mod make;
+mod mapped_entries;
 mod maps;
 mod redist;
 mod refusal;
+mod save;
+mod saved_lists;
+mod saved_tables;
+mod saved_words;
 mod state;
 mod tables;
 mod translator;
 
+pub use area::Area;
 pub use bytes64::Bytes64;
 pub use call::{Ack, Call, Cause, CmdReply, Entry, Reason, Reply, Signal, StepReply};
 pub use desc::{Desc, DescFault, Fill};

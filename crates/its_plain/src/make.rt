@@ -1,5 +1,6 @@
 //! The machine that a description makes.
-ghost use Rattle.std.specs.Prelude.{◌≡◌, ◌≤◌, ◌<◌, ◌+◌, ◌^◌, true, IfOk, IfErr, OnOk, map, length};
+ghost use Rattle.std.specs.Prelude.{◌≡◌, ◌≤◌, ◌<◌, ◌+◌, ◌^◌, true, All, IfOk, IfErr, OnOk, map, length};
+ghost use Rattle.its_types.specs.declared.ids.Addr.{Addr as Address};
 ghost use Rattle.guest_windows.specs.Windows.{read_at, zeros, are_windows};
 ghost use Rattle.guest_windows.specs.Fields.{pairs};
 ghost use Rattle.its_plain.specs.Machine as spec;
@@ -83,8 +84,10 @@ fn memory_of(alloc: Global, windows: &[(Addr, u64)]) -> Result<Memory, MakeError
 
 // Each pending table lies in one window, or the first virtual processor whose table doesn't.
 fn pending_inside(memory: &Memory, size: u64, bases: &[Addr]) -> Result<(), DescFault>
-    requires { length bases.now ≤ 16 }
-    ensures { result ≡ spec.pending_inside memory.now size 0 bases.now }
+    requires few { length bases.now ≤ 16 }
+    requires some { 0 < size }
+    ensures inside { result ≡ spec.pending_inside memory.now size 0 bases.now }
+    ensures low { OnOk result (All (λ (a : Address). a.0 < 2 ^ 52) bases.now) }
 {
     for (vcpu, base) in bases.iter().enumerate() {
         if !memory.inside(*base, size) {
@@ -121,6 +124,7 @@ fn config_of(alloc: Global, memory: &Memory, base: Addr, size: u64) -> Result<Ve
 // Registers at reset, nothing mapped, nothing pending.
 fn started(alloc: Global, desc: &Desc, memory: Memory, config: &[u8]) -> Result<State, MakeError>
     requires config { desc.now.config.0 < 2 ^ 52 }
+    requires pending { All (λ (a : Address). a.0 < 2 ^ 52) desc.now.pending }
     requires described { IsDescription desc.now }
     ensures { IsStarted result (spec.started desc.now memory config.now) }
 {
@@ -165,7 +169,8 @@ fn redistributors(
     pending: &[Addr],
     config: &[u8],
 ) -> Result<Vec<RedistLists>, AllocError>
-    requires { config_base.0 < 2 ^ 52 }
+    requires config { config_base.0 < 2 ^ 52 }
+    requires pending { All (λ (a : Address). a.0 < 2 ^ 52) pending.now }
     ensures { IfOk result (λ v. v.items ≡ map (spec.idle_redistributor config.now) (map (spec.described_bases config_base) pending.now)) }
 {
     let mut redistributors = Vec::new(alloc);

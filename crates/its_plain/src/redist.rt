@@ -1,13 +1,18 @@
 //! What a redistributor knows of LPIs, as plain lists.
-ghost use Rattle.std.specs.Prelude.{◌≡◌, ◌<◌, ◌≤◌, ◌^◌, ◌==◌, OnOk, OnErr, [], slice_set, map};
+ghost use Rattle.std.specs.Prelude.{◌≡◌, ◌<◌, ◌≤◌, ◌^◌, ◌==◌, ◌++◌, OnOk, OnErr, [], slice_set, map};
 ghost use Rattle.its_types.specs.Lpis as lpis;
 ghost use Rattle.its_plain.specs.Answer as plain;
+ghost use Rattle.its_plain.specs.Regions as regions;
+ghost use Rattle.its_plain.specs.Saved as saved;
 ghost use Rattle.its_plain.specs.Commands as commands;
 ghost use Rattle.its_plain.specs.Slots.{redistributor_in, pending_set};
 
+use crate::area::Area;
 use crate::call::Ack;
+use crate::fault::Region;
+use crate::saved_tables;
 use guest_windows::Memory;
-use its_types::{Addr, Bases, Intid};
+use its_types::{Addr, Bases, Intid, Shape, Vcpu};
 use std::alloc::{AllocError, Global};
 use std::marker::Model;
 
@@ -29,13 +34,14 @@ impl Model for RedistLists {
 
     ghost view = { λ r. record { bases = r.bases; pending = r.pending.items; config = r.config.items } };
 
-    ghost invariant = { λ r. r.bases.config.0 < 2 ^ 52 };
+    ghost invariant = { λ r. (r.bases.config.0 < 2 ^ 52) × (r.bases.pending.0 < 2 ^ 52) };
 }
 
 impl RedistLists {
     /// Nothing is pending.
     pub fn new(alloc: Global, bases: Bases, config: Vec<u8>) -> RedistLists
-        requires { bases.config.0 < 2 ^ 52 }
+        requires config { bases.config.0 < 2 ^ 52 }
+        requires pending { bases.pending.0 < 2 ^ 52 }
         ensures { result ≡ record { bases = bases; pending = []; config = config.items } }
     {
         RedistLists {
@@ -74,6 +80,91 @@ impl RedistLists {
         ensures { self.new ≡ record self.old { pending = lpis.without_lpi intid self.old.pending } }
     {
         remove_number(&mut self.pending, intid);
+    }
+
+    /// A byte of the pending table.
+    pub fn pending_byte(&self, n: u32) -> u8
+        requires { n < 2 ^ 29 }
+        ensures { result ≡ lpis.pending_byte n self.now.pending }
+    {
+        let first = 8 * n;
+        self.pending_bit(first)
+            + 2 * self.pending_bit(first + 1)
+            + 4 * self.pending_bit(first + 2)
+            + 8 * self.pending_bit(first + 3)
+            + 16 * self.pending_bit(first + 4)
+            + 32 * self.pending_bit(first + 5)
+            + 64 * self.pending_bit(first + 6)
+            + 128 * self.pending_bit(first + 7)
+    }
+
+    fn pending_bit(&self, intid: u32) -> u8
+        ensures bit { result ≡ lpis.pending_bit intid self.now.pending }
+        ensures most { result ≤ 1 }
+    {
+        u8::from(self.is_pending(intid))
+    }
+
+    /// Where the configuration table stands.
+    pub fn config_base(&self) -> u64
+        ensures { result ≡ self.now.bases.config.0 }
+    {
+        self.bases.config.0
+    }
+
+    /// Adds the area of the pending table, where LPIs are on.
+    pub fn add_pending_area(
+        &self,
+        areas: &mut Vec<Area>,
+        shape: &Shape,
+        vcpu: Vcpu,
+    ) -> Result<(), AllocError>
+        requires least { 14 ≤ shape.now.lpi_bits }
+        requires most { shape.now.lpi_bits ≤ 20 }
+        ensures { OnOk result (areas.new.items ≡ areas.old.items ++ regions.pending_area shape.now vcpu.0 self.now) }
+    {
+        if self.bases.on {
+            areas.push(Area {
+                region: Region::Pending(vcpu),
+                base: self.bases.pending.0 + 1024,
+                size: shape.pending_bytes() - 1024,
+                is_written: true,
+            })?;
+        }
+        Ok(())
+    }
+
+    /// Adds the area of the configuration table, where LPIs are on.
+    pub fn add_config_area(
+        &self,
+        areas: &mut Vec<Area>,
+        shape: &Shape,
+        vcpu: Vcpu,
+    ) -> Result<(), AllocError>
+        requires least { 14 ≤ shape.now.lpi_bits }
+        requires most { shape.now.lpi_bits ≤ 20 }
+        ensures { OnOk result (areas.new.items ≡ areas.old.items ++ regions.config_area shape.now vcpu.0 self.now) }
+    {
+        if self.bases.on {
+            areas.push(Area {
+                region: Region::ConfigOf(vcpu),
+                base: self.bases.config.0,
+                size: shape.lpi_count(),
+                is_written: false,
+            })?;
+        }
+        Ok(())
+    }
+
+    /// Writes the pending table, where LPIs are on.
+    pub fn write_pending(&self, memory: &mut Memory, shape: &Shape)
+        requires least { 14 ≤ shape.now.lpi_bits }
+        requires most { shape.now.lpi_bits ≤ 20 }
+        ensures { memory.new ≡ saved.put_tables memory.old (saved.pending_words shape.now self.now) }
+    {
+        if self.bases.on {
+            saved_tables::write_pending(memory, self.bases.pending, shape.pending_bytes(), self);
+        }
     }
 
     /// Hands the pending set out, so that nothing is pending.

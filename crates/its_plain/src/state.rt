@@ -32,6 +32,11 @@ impl Model for State {
       redistributors = s.redistributors.items;
       memory = s.memory;
     } };
+
+    ghost use Rattle.std.specs.Prelude.{◌≤◌, length};
+    ghost use Rattle.its_plain.specs.Sound.{IsShape};
+
+    ghost invariant = { λ s. IsShape s.shape × (length s.redistributors.items ≤ 16) };
 }
 
 impl State {

@@ -5,7 +5,8 @@ ghost use Rattle.std.specs.FinMap.{find, put};
 ghost use Rattle.std.specs.FinMap.Entries.{where_key};
 ghost use Rattle.its_types.specs.Maps.{pair_cmp, is_pair};
 
-use its_types::{Event, Icid};
+use crate::mapped_entries::MappedEvent;
+use its_types::Icid;
 use std::alloc::{AllocError, Global};
 use std::cmp::Ordering;
 
@@ -79,14 +80,14 @@ pub fn remove_event<V: Drop>(entries: &mut Vec<((u32, u32), V)>, dev: u32, ev: u
 /// The INTIDs of the events of a collection.
 pub fn intids(
     alloc: Global,
-    entries: &[((u32, u32), Event)],
+    entries: &[((u32, u32), MappedEvent)],
     icid: Icid,
 ) -> Result<Vec<u32>, AllocError>
     ensures { IfOk result (λ v. v.items ≡ map (λ e. e.1.intid.0) (filter (λ e. e.1.icid.0 == icid.0) entries.now)) }
 {
     entries
         .iter()
-        .filter(|entry| entry.1.icid.0 == icid.0)
-        .map(|entry| entry.1.intid.0)
+        .filter(|entry| entry.1.get().icid.0 == icid.0)
+        .map(|entry| entry.1.get().intid.0)
         .collect(alloc)
 }

@@ -1,15 +1,22 @@
 //! A translator as registers and plain lists.
-ghost use Rattle.std.specs.Prelude.{◌≡◌, ◌≤◌, OnOk, IfOk, slice_set};
+ghost use Rattle.std.specs.Prelude.{◌≡◌, ◌≤◌, ◌++◌, OnOk, IfOk, slice_set};
+ghost use Rattle.std.specs.Option.{option_map};
 ghost use Rattle.gits_regs.specs.Registers as registers;
 ghost use Rattle.its_types.specs.Maps as maps;
 ghost use Rattle.its_plain.specs.Plain as plain;
 ghost use Rattle.its_plain.specs.Translation as translation;
 ghost use Rattle.its_plain.specs.Answer as answers;
+ghost use Rattle.its_plain.specs.Regions as regions;
+ghost use Rattle.its_plain.specs.Saved as saved;
+ghost use Rattle.its_plain.specs.Mapped.{HasTable};
 ghost use Rattle.its_plain.specs.Slots.{maps_set, regs_set, translator_in};
 
+use crate::area::{self, Area};
 use crate::call::Cause;
 use crate::maps::MapLists;
+use crate::saved_tables;
 use gits_regs::{RegChange, Regs};
+use guest_windows::Memory;
 use its_types::{Device, DeviceId, Event, EventId, Icid, Target, Vcpu};
 use std::alloc::{AllocError, Global};
 use std::marker::Model;
@@ -65,12 +72,39 @@ impl TranslatorLists {
             return Err(Cause::Disabled);
         }
         self.maps.device(dev).ok_or(Cause::NoDevice)?;
-        let event = self.maps.event(dev, ev).ok_or(Cause::NoEvent)?;
+        let event = self.maps.event(dev, ev).ok_or(Cause::NoEvent)?.get();
         let vcpu = self.maps.collection(event.icid).ok_or(Cause::NoCollection)?;
         Ok(Target {
             vcpu,
             intid: event.intid,
         })
+    }
+
+    /// Adds the areas of the tables.
+    #[tactic(auto, unfolding(crate::specs::Regions::table_areas))]
+    pub fn add_tables(&self, areas: &mut Vec<Area>, memory: &Memory) -> Result<(), AllocError>
+        ensures { OnOk result (areas.new.items ≡ areas.old.items ++ regions.table_areas memory.now self.now) }
+    {
+        area::add_devices(areas, &self.regs, memory)?;
+        area::add_collections(areas, &self.regs)?;
+        self.maps.add_itts(areas)
+    }
+
+    /// The first device whose level-1 entry isn't valid.
+    pub fn first_unplaced(&self, memory: &Memory) -> Option<DeviceId>
+        ensures { option_map (λ d. d.0) result ≡ option_map (λ d. d.0) (regions.first_unplaced memory.now self.now) }
+    {
+        self.maps.first_unplaced(&self.regs, memory)
+    }
+
+    /// Writes the tables. `before` is memory as it was before any table was written.
+    #[tactic(auto, using(crate::proofs::SavedTables::put_more), unfolding(crate::specs::Saved::translator_words))]
+    pub fn write_tables(&self, memory: &mut Memory, before: &Memory)
+        ensures { memory.new ≡ saved.put_tables memory.old (saved.translator_words before.now self.now) }
+    {
+        saved_tables::write_devices(memory, before, &self.regs, &self.maps);
+        saved_tables::write_collections(memory, &self.regs, &self.maps);
+        self.maps.write_itts(memory);
     }
 
     fn write(&mut self, off: u32, size: u8, value: u64)
@@ -90,6 +124,7 @@ impl TranslatorLists {
     }
 
     fn map_device(&mut self, dev: DeviceId, device: Device) -> Result<(), AllocError>
+        requires { HasTable device }
         ensures { OnOk result (self.new ≡ record self.old { maps = maps.device_mapped self.old.maps dev.0 device }) }
     {
         self.maps.map_device(dev, device)
@@ -102,6 +137,7 @@ impl TranslatorLists {
     }
 
     fn map_event(&mut self, dev: DeviceId, ev: EventId, event: Event) -> Result<(), AllocError>
+        requires { 1 ≤ event.intid.0 }
         ensures { OnOk result (self.new ≡ record self.old { maps = maps.event_mapped self.old.maps dev.0 ev.0 event }) }
     {
         self.maps.map_event(dev, ev, event)
@@ -152,6 +188,7 @@ pub fn map_device(
     dev: DeviceId,
     device: Device,
 ) -> Result<(), AllocError>
+    requires { HasTable device }
     ensures { OnOk result (all.new ≡ maps_set all.old its (maps.device_mapped (translator_in all.old its).maps dev.0 device)) }
 {
     let at = usize::from(its);
@@ -177,6 +214,7 @@ pub fn map_event(
     ev: EventId,
     event: Event,
 ) -> Result<(), AllocError>
+    requires { 1 ≤ event.intid.0 }
     ensures { OnOk result (all.new ≡ maps_set all.old its (maps.event_mapped (translator_in all.old its).maps dev.0 ev.0 event)) }
 {
     let at = usize::from(its);

@@ -1,5 +1,5 @@
 -- Calls that end no current translation.
-use Rattle.std.proofs.Common.{◌≡◌, ◌⊎◌, ℕ, zero, suc, ◌+◌, ◌<◌, true, List, [], ◌∷◌, length, set, get_or, slice_get, Option, Some, None, Ok, refl, ap, sym, ◌∙◌, subst, inl, inr, ⊎_elim, arith}
+use Rattle.std.proofs.Common.{◌≡◌, ◌⊎◌, ℕ, zero, suc, ◌+◌, ◌<◌, true, List, [], ◌∷◌, length, set, get_or, slice_get, Option, Some, None, Result, Ok, Err, refl, ap, sym, ◌∙◌, subst, inl, inr, ⊎_elim, arith}
 use Rattle.std.specs.List.{AllByRecursion}
 use Rattle.std.proofs.lemmas.Option.{get_or_from_slice_get}
 use Rattle.its_types.specs.Lpis.{with_lpi}
@@ -10,7 +10,9 @@ use Rattle.its_types.specs.declared.machine.Part.{Part}
 use Rattle.its_types.specs.declared.machine.Part.TheVariants as part
 use Rattle.its_types.specs.declared.machine.Word.{Word}
 use Rattle.its_types.specs.declared.translation.Bases.{Bases}
-use Rattle.its_plain.specs.Answer.{lowest, taken, left}
+use Rattle.its_plain.specs.Answer.{lowest, taken, save_left, left}
+use Rattle.its_plain.specs.Regions.{savable}
+use Rattle.its_plain.specs.declared.fault.SaveFault.{SaveFault}
 use Rattle.its_plain.specs.Parts.{SamePart, IsIn}
 use Rattle.its_plain.specs.Plain.{Plain, Translator, Redistributor, translator, redistributor, no_translator, no_redistributor, pending_of, with_redistributor}
 use Rattle.its_plain.specs.Translation.{located}
@@ -113,6 +115,12 @@ signal_leaves a its reply.Outside dev ev = all_left a
 signal_leaves a its (reply.Bytes x) dev ev = all_left a
 signal_leaves a its (reply.Value x) dev ev = all_left a
 signal_leaves a its (reply.Step x) dev ev = all_left a
+signal_leaves a its reply.Saved dev ev = all_left a
+signal_leaves a its (reply.SaveFault x) dev ev = all_left a
+
+save_leaves : (a : Plain) (r : Result (Unit {0}) SaveFault) → Leaves a (save_left a r)
+save_leaves a (Ok done) = record { maps = λ i. refl; bases = λ v. refl }
+save_leaves a (Err fault) = all_left a
 
 calm_leaves : (a : Plain) (c : Call) (r : Reply) → IsCalm c → Leaves a (left a c r)
 unfolding left
@@ -124,6 +132,7 @@ calm_leaves a (call.Peek addr count) r calm = all_left a
 calm_leaves a (call.ReadReg its off size) r calm = all_left a
 calm_leaves a (call.WriteReg its off size value) r calm = absurd calm
 calm_leaves a (call.Step its) r calm = absurd calm
+calm_leaves a call.Save r calm = save_leaves a (savable a)
 
 -- ---- so all is steady
 

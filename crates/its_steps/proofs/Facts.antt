@@ -62,7 +62,7 @@ module _ (s : Setup) (expected : Word) (held : List Held) (stands : AllByRecursi
   agree = agree_held s expected u m held apart stands right
 
   agrees : (ps : List Part) → ((p : Part) → IsIn p ps → Holds p held) → AgreesOn a u ps
-  agrees ps all = record { layout = sym known.layout ∙ m.layout; parts = λ p at. agree p (all p at) }
+  agrees ps all = record { layout = sym known.layout ∙ m.layout; translators = sym known.translators ∙ m.translators; redistributors = sym known.redistributors ∙ m.redistributors; parts = λ p at. agree p (all p at) }
 
   -- ---- all parts of the call are held
 

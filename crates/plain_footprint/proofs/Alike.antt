@@ -1,6 +1,7 @@
 -- States that have some parts in common, and what the same change of both leaves of that.
 use Rattle.std.proofs.Common.{◌≡◌, ℕ, Bool, true, false, List, [], ◌∷◌, map, slice_get, Option, Some, None, refl, ap, sym, ◌∙◌, if◌then◌else◌}
 use Rattle.std.specs.Option.{option_map}
+use Rattle.std.proofs.lemmas.List.{length-set, length-map}
 use Rattle.std.proofs.lemmas.Option.{slice_get-map}
 use Rattle.guest_windows.specs.Windows.{Window}
 use Rattle.its_types.specs.Lpis.{is_pending, with_lpi, without_lpi}
@@ -30,7 +31,7 @@ translators_alike u w i t s (Shard its n) e a = tt
 translators_alike u w i t s (Redist v) e a = a
 
 pub agree_translator : (u w : Plain) (ps : List Part) (i : ℕ) (t s : Translator) → t ≡ s → AgreesOn u w ps → AgreesOn (with_translator u i t) (with_translator w i s) ps
-agree_translator u w ps i t s e a = record { layout = a.layout; parts = λ p here. translators_alike u w i t s p e (a.parts p here) }
+agree_translator u w ps i t s e a = record { layout = a.layout; translators = length-set u.translators i t ∙ a.translators ∙ sym (length-set w.translators i s); redistributors = a.redistributors; parts = λ p here. translators_alike u w i t s p e (a.parts p here) }
 
 redists_alike : (u w : Plain) (v : ℕ) (r s : Redistributor) (p : Part) → r ≡ s → SamePart u w p → SamePart (with_redistributor u v r) (with_redistributor w v s) p
 redists_alike u w v r s (MapsOf j) e a = a
@@ -39,7 +40,7 @@ redists_alike u w v r s (Shard its n) e a = tt
 redists_alike u w v r s (Redist x) e a = set_alike u.redistributors w.redistributors v x.0 r s a e
 
 pub agree_redist : (u w : Plain) (ps : List Part) (v : ℕ) (r s : Redistributor) → r ≡ s → AgreesOn u w ps → AgreesOn (with_redistributor u v r) (with_redistributor w v s) ps
-agree_redist u w ps v r s e a = record { layout = a.layout; parts = λ p here. redists_alike u w v r s p e (a.parts p here) }
+agree_redist u w ps v r s e a = record { layout = a.layout; translators = a.translators; redistributors = length-set u.redistributors v r ∙ a.redistributors ∙ sym (length-set w.redistributors v s); parts = λ p here. redists_alike u w v r s p e (a.parts p here) }
 
 memories_alike : (u w : Plain) (m n : List Window) (p : Part) → m ≡ n → SamePart u w p → SamePart (record u { memory = m }) (record w { memory = n }) p
 memories_alike u w m n (MapsOf j) e a = a
@@ -48,7 +49,7 @@ memories_alike u w m n (Shard its k) e a = tt
 memories_alike u w m n (Redist v) e a = a
 
 pub agree_memory : (u w : Plain) (ps : List Part) (m n : List Window) → m ≡ n → AgreesOn u w ps → AgreesOn (record u { memory = m }) (record w { memory = n }) ps
-agree_memory u w ps m n e a = record { layout = a.layout; parts = λ p here. memories_alike u w m n p e (a.parts p here) }
+agree_memory u w ps m n e a = record { layout = a.layout; translators = a.translators; redistributors = a.redistributors; parts = λ p here. memories_alike u w m n p e (a.parts p here) }
 
 -- ---- every redistributor changed
 
@@ -62,7 +63,7 @@ mapped_alike u w f g (Redist v) e a =
 
 pub agree_mapped : (u w : Plain) (ps : List Part) (f g : Redistributor → Redistributor) → f ≡ g → AgreesOn u w ps
     → AgreesOn (record u { redistributors = map f u.redistributors }) (record w { redistributors = map g w.redistributors }) ps
-agree_mapped u w ps f g e a = record { layout = a.layout; parts = λ p here. mapped_alike u w f g p e (a.parts p here) }
+agree_mapped u w ps f g e a = record { layout = a.layout; translators = a.translators; redistributors = length-map u.redistributors f ∙ a.redistributors ∙ sym (length-map w.redistributors g); parts = λ p here. mapped_alike u w f g p e (a.parts p here) }
 
 pub agree_if : (u w v x : Plain) (ps : List Part) (s t : Bool) → s ≡ t → AgreesOn u w ps → AgreesOn v x ps → AgreesOn (if s then u else v) (if t then w else x) ps
 agree_if u w v x ps true true e a b = a

@@ -1,5 +1,5 @@
 -- A call's footprint decides what is answered, and what is left in it.
-use Rattle.std.proofs.Common.{◌≡◌, ℕ, Bool, true, false, not, ◌||◌, ◌&&◌, nat_lt, nat_le, List, [], ◌∷◌, Option, Some, None, Result, Ok, Err, refl, ap, subst, unwrap_or, if◌then◌else◌}
+use Rattle.std.proofs.Common.{◌≡◌, ℕ, Bool, true, false, not, ◌||◌, ◌&&◌, nat_lt, nat_le, List, [], ◌∷◌, ◌++◌, length, Option, Some, None, Result, Ok, Err, refl, ap, subst, unwrap_or, if◌then◌else◌}
 use Rattle.std.specs.Option.{option_map}
 use Rattle.std.specs.Result.{result_ok}
 use Rattle.guest_windows.specs.Windows.{Window, read_at, write_at}
@@ -12,8 +12,9 @@ use Rattle.its_types.specs.declared.machine.Part.TheVariants.{Maps as MapsOf, Me
 use Rattle.its_plain.specs.Plain.{Plain, Translator, Redistributor, translator, redistributor, regs_of, is_on}
 use Rattle.its_plain.specs.Translation.{◌>>=◌, ensure, located, translated}
 use Rattle.its_plain.specs.Commands.{ran}
-use Rattle.its_plain.specs.Answer.{signal_reply, signal_left, ack_of, lowest, taken, poke_reply, peek_reply, translator_written, written, command_reply, command_left, is_idle, next_bytes, met_reply, met_left, step_reply, step_left, reply_of, left, answer}
-use Rattle.its_plain.specs.Parts.{SamePart, IsIn, AgreesOn, redist_of, needed, footprint}
+use Rattle.its_plain.specs.Answer.{signal_reply, signal_left, ack_of, lowest, taken, poke_reply, peek_reply, translator_written, written, command_reply, command_left, save_reply, save_left, is_idle, next_bytes, met_reply, met_left, step_reply, step_left, reply_of, left, answer}
+use Rattle.its_plain.specs.Regions.{savable}
+use Rattle.its_plain.specs.Parts.{SamePart, IsIn, AgreesOn, redist, redist_of, translators_below, redists_below, needed, footprint}
 use Rattle.its_plain.specs.declared.call.Call.{Call}
 use Rattle.its_plain.specs.declared.call.Call.TheVariants as call
 use Rattle.its_plain.specs.declared.call.Cause.{Cause}
@@ -24,7 +25,9 @@ use Rattle.its_plain.specs.declared.call.Signal.{Signal}
 use Rattle.its_plain.specs.declared.call.StepReply.{StepReply}
 use Rattle.its_plain.specs.declared.call.StepReply.TheVariants.{Idle, QueueFault}
 use Rattle.plain_footprint.proofs.Footprints.{parts_of_signal, parts_of_step, needed_at}
-use Rattle.plain_footprint.proofs.Listed.{in_head, in_tail}
+use Rattle.plain_footprint.proofs.Listed.{same_or, in_head, in_tail, in_left, in_right, redist_below, translator_below}
+use Rattle.plain_footprint.proofs.Stays.{same_part}
+use Rattle.std.proofs.lemmas.List.{same_lists}
 use Rattle.plain_footprint.proofs.Alike.{translator_same, redist_same, agree_translator, agree_redist, agree_memory, agree_set}
 use Rattle.plain_footprint.proofs.AlikeRan.{Alike, ran_alike}
 
@@ -120,6 +123,26 @@ module _ (u w : Plain) (i : ℕ) where
       (subst (λ (o : Option (List ℕ)). Decided ps (stepped u (is_idle u i) (next_bytes u i)) (stepped w (is_idle u i) o) (step_leaves u (is_idle u i) (next_bytes u i)) (step_leaves w (is_idle u i) o)) bytes
       (met_decided (is_idle u i) (next_bytes u i) a))
 
+-- ---- saves
+
+-- two states that have every part in common are the same
+whole : (u w : Plain) → AgreesOn u w (footprint u call.Save) → u ≡ w
+unfolding footprint
+whole u w a =
+    let ts : List Part = translators_below (length u.translators) in
+    let rs : List Part = redists_below (length u.redistributors) in
+    let translators : u.translators ≡ w.translators =
+        same_lists u.translators w.translators a.translators (λ i d low. same_or u.translators w.translators i d (a.parts (MapsOf i) (in_tail (MapsOf i) Mem (ts ++ rs) (in_left (MapsOf i) ts rs (translator_below (length u.translators) i low))))) in
+    let redistributors : u.redistributors ≡ w.redistributors =
+        same_lists u.redistributors w.redistributors a.redistributors (λ v d low. same_or u.redistributors w.redistributors v d (a.parts (redist v) (in_tail (redist v) Mem (ts ++ rs) (in_right (redist v) ts rs (redist_below (length u.redistributors) v low))))) in
+    let memory : u.memory ≡ w.memory = a.parts Mem (in_head Mem (ts ++ rs)) in
+    λ d. record { layout = a.layout d; translators = translators d; redistributors = redistributors d; memory = memory d }
+
+save_decided : (u w : Plain) → u ≡ w → Decided (footprint u call.Save) (save_reply (savable u)) (save_reply (savable w)) (save_left u (savable u)) (save_left w (savable w))
+save_decided u w e =
+    subst (λ (v : Plain). Decided (footprint u call.Save) (save_reply (savable u)) (save_reply (savable v)) (save_left u (savable u)) (save_left v (savable v))) e
+    (refl, λ p here. same_part (save_left u (savable u)) p)
+
 -- ---- all calls
 
 pub decides : (u w : Plain) (c : Call) → AgreesOn u w (footprint u c) → (reply_of u c ≡ reply_of w c) × ((p : Part) → IsIn p (footprint u c) → SamePart (answer u c).1 (answer w c).1 p)
@@ -148,3 +171,4 @@ decides u w (call.WriteReg its off size value) a =
     (ap (λ (t : Translator). translator_written t (write_reg t.regs off size value)) (translator_same u w (MapsOf its ∷ []) its (in_head (MapsOf its) []) a)) a in
     (refl, after.parts)
 decides u w (call.Step its) a = let d = step_decided u w its a in (ap (λ (s : StepReply). reply.Step s) d.0, d.1)
+decides u w call.Save a = save_decided u w (whole u w a)

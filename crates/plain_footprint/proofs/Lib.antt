@@ -8,3 +8,4 @@ pub mod Alike
 pub mod AlikeRan
 pub mod Decided
 pub mod SameParts
+pub mod Refused

@@ -1,9 +1,10 @@
 -- Elements of lists: what a write changes, and which parts a list names.
-use Rattle.std.proofs.Common.{◌≡◌, ◌≢◌, ℕ, zero, suc, ◌≤◌, List, [], ◌∷◌, ◌++◌, get_or, set, slice_get, Option, Some, None, refl, ap, subst, arith}
+use Rattle.std.proofs.Common.{◌≡◌, ◌≢◌, ◌⊎◌, ℕ, zero, suc, ◌<◌, ◌≤◌, List, [], ◌∷◌, ◌++◌, get_or, set, slice_get, Option, Some, None, refl, ap, sym, subst, arith, inl, inr}
+use Rattle.std.proofs.lemmas.Bool.{cases_lt}
 use Rattle.its_types.specs.declared.ids.Vcpu.{Vcpu}
 use Rattle.its_types.specs.declared.machine.Part.{Part}
-use Rattle.its_types.specs.declared.machine.Part.TheVariants.{Redist}
-use Rattle.its_plain.specs.Parts.{IsIn, redist, redist_of, redists_below}
+use Rattle.its_types.specs.declared.machine.Part.TheVariants.{Maps as MapsOf, Redist}
+use Rattle.its_plain.specs.Parts.{IsIn, redist, redist_of, redists_below, translators_below}
 
 -- a write changes no other element
 pub set_else : {A : Type 0} (xs : List A) (i j : ℕ) (y : A) → j ≢ i → slice_get (set xs i y) j ≡ slice_get xs j
@@ -54,6 +55,24 @@ in_left p (q ∷ ps) qs (suc n, e) = in_tail p q (ps ++ qs) (in_left p ps qs (n,
 pub in_right : (p : Part) (ps qs : List Part) → IsIn p qs → IsIn p (ps ++ qs)
 in_right p [] qs h = h
 in_right p (q ∷ ps) qs h = in_tail p q (ps ++ qs) (in_right p ps qs h)
+
+-- what has a list of one element more than before has each element
+module _ (part : ℕ → Part) (below : ℕ → List Part) (more : (n : ℕ) → below (suc n) ≡ below n ++ part n ∷ []) where
+  last_or_before : (n v : ℕ) → v < suc n → (v < n) ⊎ (n ≤ v) → (v < n → IsIn (part v) (below n)) → IsIn (part v) (below (suc n))
+  last_or_before n v low (inl before) h = subst (λ (ps : List Part). IsIn (part v) ps) (sym (more n)) (in_left (part v) (below n) (part n ∷ []) (h before))
+  last_or_before n v low (inr last) h =
+      let same : v ≡ n = omega (arith, low, last) in
+      subst (λ (k : ℕ). IsIn (part k) (below (suc n))) (sym same) (subst (λ (ps : List Part). IsIn (part n) ps) (sym (more n)) (in_right (part n) (below n) (part n ∷ []) (in_head (part n) [])))
+
+  pub each_below : (n v : ℕ) → v < n → IsIn (part v) (below n)
+  each_below zero v low = absurd (omega (arith, low))
+  each_below (suc n) v low = last_or_before n v low (cases_lt v n) (each_below n v)
+
+pub redist_below : (n v : ℕ) → v < n → IsIn (redist v) (redists_below n)
+redist_below = each_below redist redists_below (λ n. refl)
+
+pub translator_below : (n i : ℕ) → i < n → IsIn (MapsOf i) (translators_below n)
+translator_below = each_below (λ i. MapsOf i) translators_below (λ n. refl)
 
 pub in_redist_of : (o : Option Vcpu) (v : Vcpu) → o ≡ Some v → IsIn (Redist v) (redist_of o)
 in_redist_of None v e = absurd cc

@@ -1,5 +1,5 @@
 -- A call changes no part outside its footprint.
-use Rattle.std.proofs.Common.{◌≡◌, ℕ, ◌≤◌, Bool, true, false, List, [], ◌∷◌, Option, Some, None, Result, Ok, Err, sym, subst, unwrap_or, if◌then◌else◌}
+use Rattle.std.proofs.Common.{◌≡◌, ℕ, ◌≤◌, Bool, true, false, List, [], ◌∷◌, ◌++◌, length, Option, Some, None, Result, Ok, Err, sym, subst, unwrap_or, if◌then◌else◌}
 use Rattle.std.proofs.lemmas.Option.{slice_get_past}
 use Rattle.guest_windows.specs.Windows.{write_at}
 use Rattle.gits_regs.specs.Registers.{write_reg, advanced}
@@ -12,8 +12,11 @@ use Rattle.its_plain.specs.Plain.{Plain, translator, redistributor, regs_of, pen
 use Rattle.its_plain.specs.Sound.{IsSound}
 use Rattle.its_plain.specs.Translation.{◌>>=◌, ensure, located, translated}
 use Rattle.its_plain.specs.Commands.{ran}
-use Rattle.its_plain.specs.Answer.{signal_reply, signal_left, lowest, taken, translator_written, written, command_left, is_idle, next_bytes, met_left, step_left, reply_of, left, answer}
-use Rattle.its_plain.specs.Parts.{SamePart, IsIn, every_redist, needed, footprint}
+use Rattle.its_plain.specs.Answer.{signal_reply, signal_left, lowest, taken, translator_written, written, command_left, save_left, is_idle, next_bytes, met_left, step_left, reply_of, left, answer}
+use Rattle.its_plain.specs.Regions.{savable}
+use Rattle.its_plain.specs.Saved.{saved}
+use Rattle.its_plain.specs.declared.fault.SaveFault.{SaveFault}
+use Rattle.its_plain.specs.Parts.{SamePart, IsIn, every_redist, translators_below, redists_below, needed, footprint}
 use Rattle.its_plain.specs.declared.call.Call.{Call}
 use Rattle.its_plain.specs.declared.call.Call.TheVariants as call
 use Rattle.its_plain.specs.declared.call.Cause.{Cause}
@@ -69,6 +72,15 @@ module _ (u : Plain) (i : ℕ) (sound : HasRedistributors u) where
   unfolding step_left
   step_stays = met_stays (is_idle u i) (next_bytes u i)
 
+-- ---- saves
+
+save_stays : (u : Plain) (r : Result (Unit {0}) SaveFault) → Stay u (footprint u call.Save) (save_left u r)
+unfolding footprint
+save_stays u (Ok done) =
+    let ps : List Part = translators_below (length u.translators) ++ redists_below (length u.redistributors) in
+    stay_memory u u (Mem ∷ ps) (saved u) (in_head Mem ps) (stay u (Mem ∷ ps))
+save_stays u (Err fault) = stay u (Mem ∷ translators_below (length u.translators) ++ redists_below (length u.redistributors))
+
 -- ---- all calls
 
 others_stay : (u : Plain) (c : Call) → HasRedistributors u → Stay u (footprint u c) (answer u c).1
@@ -83,6 +95,7 @@ others_stay u (call.ReadReg its off size) sound = stay u (MapsOf its ∷ [])
 others_stay u (call.WriteReg its off size value) sound =
     stay_translator u u (MapsOf its ∷ []) its (translator_written (translator u its) (write_reg (regs_of u its) off size value)) (in_head (MapsOf its) []) (stay u (MapsOf its ∷ []))
 others_stay u (call.Step its) sound = step_stays u its sound
+others_stay u call.Save sound = save_stays u (savable u)
 
 pub other_parts : (u : Plain) (c : Call) (p : Part) → IsSound u → ¬ IsIn p (footprint u c) → SamePart u (answer u c).1 p
 other_parts u c p sound out = (others_stay u c record { vcpus = sound.vcpus }).parts p out

@@ -13,7 +13,7 @@ use Rattle.its_types.specs.declared.machine.Part.TheVariants.{Maps as MapsOf, Me
 use Rattle.its_plain.specs.Plain.{Plain, Layout, Translator, translator, maps_of}
 use Rattle.its_plain.specs.Translation.{located}
 use Rattle.its_plain.specs.Answer.{is_idle, next_bytes}
-use Rattle.its_plain.specs.Parts.{AgreesOn, redists_below, redist_of, target_of_event, moved_targets, both_targets, needed, footprint}
+use Rattle.its_plain.specs.Parts.{AgreesOn, translators_below, redists_below, redist_of, target_of_event, moved_targets, both_targets, needed, footprint}
 use Rattle.its_plain.specs.declared.call.Call.{Call}
 use Rattle.its_plain.specs.declared.call.Call.TheVariants as call
 use Rattle.plain_footprint.proofs.Footprints.{needed_at}
@@ -69,3 +69,4 @@ same_parts u w (call.Step its) a =
     let more : needed_at u its (next_bytes u its) ≡ needed_at w its (next_bytes w its) =
     needed_at_alike u w its a.layout (ap (λ (t : Translator). t.maps) same) (next_bytes u its) ∙ ap (needed_at w its) bytes in
     (λ d. MapsOf its ∷ Mem ∷ (if idle d then [] else more d))
+same_parts u w call.Save a = (λ d. Mem ∷ translators_below (a.translators d) ++ redists_below (a.redistributors d))

@@ -16,7 +16,7 @@ pub record Stay (u : Plain) (ps : List Part) (w : Plain) : Type 0 where
   pub translators : length u.translators ≡ length w.translators
   pub parts : (p : Part) → ¬ IsIn p ps → SamePart u w p
 
-same_part : (u : Plain) (p : Part) → SamePart u u p
+pub same_part : (u : Plain) (p : Part) → SamePart u u p
 same_part u (MapsOf its) = refl
 same_part u Mem = refl
 same_part u (Shard its n) = tt

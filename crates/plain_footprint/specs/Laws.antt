@@ -1,11 +1,14 @@
 -- What the parts of a machine owe: those outside a call's footprint stay, and those within it decide the answer.
-use Rattle.std.specs.Prelude.{◌≡◌, length}
+use Rattle.std.specs.Prelude.{◌≡◌, ℕ, length}
 use Rattle.its_types.specs.declared.machine.Part.{Part}
 use Rattle.its_plain.specs.Plain.{Plain}
 use Rattle.its_plain.specs.Sound.{IsSound}
-use Rattle.its_plain.specs.Answer.{answer, reply_of}
+use Rattle.its_plain.specs.Answer.{answer, reply_of, step_reply, step_left, went_on}
 use Rattle.its_plain.specs.Parts.{SamePart, IsIn, AgreesOn, footprint}
+use Rattle.its_command.specs.declared.command.Op.{Op}
 use Rattle.its_plain.specs.declared.call.Call.{Call}
+use Rattle.its_plain.specs.declared.call.Reason.{Reason}
+use Rattle.its_plain.specs.declared.call.StepReply.TheVariants.{Refused}
 
 -- a call changes no part outside its footprint; a sound state has just the redistributors that its layout says
 abbrev pub OtherPartsStay : Type 0
@@ -38,3 +41,7 @@ CallsLeaveOthers = (u : Plain) (c : Call) → HasRedistributors u → LeavesOthe
 -- two states of one machine that have a call's footprint in common have the same footprint of it
 abbrev pub FootprintsAreAlike : Type 0
 FootprintsAreAlike = (u w : Plain) (c : Call) → AgreesOn u w (footprint u c) → footprint u c ≡ footprint w c
+
+-- a refused command changes nothing but CREADR, which goes on
+abbrev pub RefusedChangesNothing : Type 0
+RefusedChangesNothing = (u : Plain) (its : ℕ) (op : Op) (reason : Reason) → step_reply u its ≡ Refused op reason → step_left u its ≡ went_on its u

@@ -1,7 +1,7 @@
 //! What a call of the plain machine reads and changes: the laws of its parts. Nothing here runs.
 #![tactic(auto)]
 
-ghost use Rattle.plain_footprint.specs.Laws.{CallsLeaveOthers, FootprintDecides, FootprintsAreAlike, LayoutStays, OtherPartsStay};
+ghost use Rattle.plain_footprint.specs.Laws.{CallsLeaveOthers, FootprintDecides, FootprintsAreAlike, LayoutStays, OtherPartsStay, RefusedChangesNothing};
 
 /// A call changes no part of the machine outside its footprint.
 pub fn other_parts_stay()
@@ -26,4 +26,9 @@ pub fn calls_leave_others()
 /// Who has a call's footprint in hand knows that it is the footprint.
 pub fn footprints_are_alike()
     ensures { FootprintsAreAlike }
+{}
+
+/// A refused command changes nothing but CREADR.
+pub fn refused_changes_nothing()
+    ensures { RefusedChangesNothing }
 {}

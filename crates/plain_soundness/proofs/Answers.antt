@@ -1,4 +1,5 @@
 -- What each kind of call keeps.
+use Rattle.plain_soundness.proofs.Migrated.{saves_keep}
 use Rattle.std.proofs.Common.{◌≡◌, ℕ, true, List, [], ◌∷◌, Option, Some, None, not, Result, Ok, Err, IfOk, ◌∙◌, refl, map}
 use Rattle.std.specs.Prelude.{unwrap_or}
 use Rattle.std.proofs.lemmas.Bool.{cond_both, not-false, or_parts}
@@ -104,6 +105,7 @@ calls_keep u (call.Peek addr count) h = peek_keeps u addr count h
 calls_keep u (call.ReadReg its off size) h = register_read_keeps u its off size h
 calls_keep u (call.WriteReg its off size value) h = register_write_keeps u its off size value h
 calls_keep u (call.Step its) h = step_keeps u its h
+calls_keep u call.Save h = saves_keep u h
 
 pub histories_keep : HistoriesKeepSound
 histories_keep u [] sound = sound

@@ -1,5 +1,5 @@
 -- A migration goes on from a sound state.
-use Rattle.std.proofs.Common.{◌≡◌, ℕ, zero, suc, List, [], ◌∷◌, length, map, Option, Some, None, refl, ◌∙◌}
+use Rattle.std.proofs.Common.{◌≡◌, ℕ, zero, suc, List, [], ◌∷◌, length, map, Option, Some, None, Result, Ok, Err, refl, ◌∙◌}
 use Rattle.std.specs.Prelude.{unwrap_or}
 use Rattle.std.proofs.lemmas.Bool.{both_ways, cond_both}
 use Rattle.byteorder.specs.Endian.{little_bytes}
@@ -8,9 +8,12 @@ use Rattle.guest_windows.proofs.Laws.{extents-write_at, length-read_at}
 use Rattle.baser_place.specs.Places.{entry_address}
 use Rattle.its_types.specs.Ranges.{lpi_count}
 use Rattle.its_plain.specs.Plain.{Plain, Layout, Redistributor}
-use Rattle.its_plain.specs.Sound.{IsRedistributor}
+use Rattle.its_plain.specs.Sound.{IsSound, IsRedistributor}
+use Rattle.its_plain.specs.Answer.{save_left, left}
+use Rattle.its_plain.specs.Regions.{savable}
+use Rattle.its_plain.specs.declared.fault.SaveFault.{SaveFault}
 use Rattle.its_plain.specs.Saved.{Words, put_word, put_words, put_tables, words_of, saved, reloaded, moved}
-use Rattle.plain_soundness.specs.Laws.{MigrationsKeepSound}
+use Rattle.plain_soundness.specs.Laws.{MigrationsKeepSound, SaveKeepsSound}
 use Rattle.plain_soundness.proofs.States.{memory_replaced, redistributors_mapped}
 
 -- ---- a save leaves the windows where they are
@@ -51,6 +54,16 @@ reloaded_sound l memory v r h =
       described = h.described;
       always_on = h.always_on;
     }) (λ _. h)
+
+-- ---- saves
+
+saves_sound : (u : Plain) (r : Result (Unit {0}) SaveFault) → IsSound u → IsSound (save_left u r)
+saves_sound u (Ok done) h = memory_replaced u (saved u) (tables_kept u.memory (words_of u)) h
+saves_sound u (Err fault) h = h
+
+pub saves_keep : SaveKeepsSound
+unfolding left
+saves_keep u h = saves_sound u (savable u) h
 
 pub migrations_keep : MigrationsKeepSound
 unfolding moved

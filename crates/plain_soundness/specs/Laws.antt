@@ -46,6 +46,9 @@ RegisterWriteKeepsSound = (u : Plain) (its off size value : ℕ) → KeepsSound 
 abbrev pub SignalKeepsSound : Type 0
 SignalKeepsSound = (u : Plain) (its : ℕ) (dev : DeviceId) (ev : EventId) → KeepsSound u (call.Signal its dev ev)
 
+abbrev pub SaveKeepsSound : Type 0
+SaveKeepsSound = (u : Plain) → KeepsSound u call.Save
+
 -- ---- commands: each is refused, or leaves a sound state
 
 -- its fields within their bits

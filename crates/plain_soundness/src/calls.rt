@@ -41,6 +41,11 @@ pub fn step_keeps_soundness()
     ensures { laws.StepKeepsSound }
 {}
 
+/// A save leaves every table in one window, and nothing else changed.
+pub fn save_keeps_soundness()
+    ensures { laws.SaveKeepsSound }
+{}
+
 /// Every call leaves a sound state sound.
 pub fn calls_keep_soundness()
     ensures { laws.CallsKeepSound }

@@ -1,4 +1,4 @@
-use Rattle.std.proofs.Common.{rules, tests, ◌==◌}
+use Rattle.std.proofs.Common.{rules, tests}
 use Rattle.std.specs.Prelude.{not}
 use Rattle.its_types.specs.Maps.{is_pair}
 use Rattle.its_plain.proofs.Rising.{filtered}

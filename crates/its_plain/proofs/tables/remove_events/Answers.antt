@@ -1,6 +1,5 @@
 use Rattle.std.proofs.Common.{rules, tests, ◌==◌}
 use Rattle.std.specs.Prelude.{not}
-use Rattle.its_types.specs.Maps.{is_pair}
 use Rattle.its_plain.proofs.Rising.{filtered}
 use Rattle.its_plain.proofs.tables.remove_events.Goals as goal
 

@@ -3,7 +3,6 @@ use Rattle.std.specs.Prelude.{filter, IfOk, ◌==◌}
 use Rattle.std.specs.FinMap.{entries, entries-from_sorted}
 use Rattle.its_types.specs.Maps.{Maps, pair_cmp}
 use Rattle.its_types.specs.declared.translation.Event.{Event}
-use Rattle.its_plain.specs.Commands.{intids_of}
 use Rattle.its_plain.proofs.maps.MapLists.intids.Goals as goal
 
 abbrev entries_of : Maps → List ((ℕ × ℕ) × Event)

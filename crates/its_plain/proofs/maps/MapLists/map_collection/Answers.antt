@@ -1,10 +1,8 @@
-use Rattle.std.proofs.Common.{refl, ap, ◌∙◌}
-use Rattle.std.specs.Prelude.{not, ◌==◌}
+use Rattle.std.proofs.Common.{refl}
 use Rattle.std.specs.Ordering.{nat_cmp}
 use Rattle.std.specs.Cmp.{nat_cmp_total}
-use Rattle.std.specs.FinMap.{nat_cmp-IsAntisymmetric, find}
-use Rattle.its_types.specs.Maps.{Maps, pair_cmp, is_pair, device_of, event_of, collection_of}
-use Rattle.its_plain.proofs.Entries.{got, put_is, kept_is, none_is, put_rises, kept_rise, pair_total, pair_exact}
+use Rattle.std.specs.FinMap.{nat_cmp-IsAntisymmetric}
+use Rattle.its_plain.proofs.Entries.{put_is, put_rises}
 use Rattle.its_plain.proofs.maps.MapLists.map_collection.Goals as goal
 
 pub invariant_of-self-2 : goal.invariant_of-self-2

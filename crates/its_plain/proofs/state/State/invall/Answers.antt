@@ -1,5 +1,5 @@
-use Rattle.std.proofs.Common.{◌≡◌, List, ℕ, ap, refl, sym, ◌∙◌}
-use Rattle.its_plain.specs.Plain.{maps_of, Plain}
+use Rattle.std.proofs.Common.{◌≡◌, List, ℕ, ap, refl, ◌∙◌}
+use Rattle.its_plain.specs.Plain.{maps_of}
 use Rattle.its_plain.specs.Commands.{invall, reread, intids_of}
 use Rattle.its_plain.proofs.state.State.invall.Goals as goal
 
