@@ -22,7 +22,8 @@ use Rattle.its_plain.specs.declared.call.Reply.{Reply}
 use Rattle.its_plain.specs.declared.call.Reply.TheVariants as reply
 use Rattle.its_plain.specs.declared.call.Signal.TheVariants.{Delivered, Dropped}
 use Rattle.plain_soundness.proofs.Lists.{same_after_set}
-use Rattle.its_steps.specs.Calls.{IsCalm, HasVcpus, CalmCallsAreSteady}
+use Rattle.its_steps.specs.Calls.{IsCalm, HasVcpus, CalmCallsAreSteady, CalmCallsMayCommit}
+use Rattle.its_steps.specs.Steps.{next_word}
 use Rattle.its_steps.specs.Parts.{Setup, Content, Maps, Mem, Shard, Redist, Stands, translator_count, vcpu_count}
 use Rattle.its_steps.specs.World.{Held}
 use Rattle.its_steps.specs.Good.{Holds, Apart}
@@ -163,3 +164,15 @@ steady_all s to c ch its owed a z l (x ∷ xs) has = (steady_one s to c ch its o
 pub calm : CalmCallsAreSteady
 calm s to c r ch its owed held vcpus is apart st =
     steady_all s to c ch its owed (assembled s held) (left (assembled s held) c r) (calm_leaves (assembled s held) c r is) held (assembled_has s vcpus held apart st)
+
+pub calm_may : CalmCallsMayCommit
+calm_may s last c r ch held vcpus is room apart st outs answered may = record {
+  room = room;
+  next = refl;
+  stands = st;
+  apart = apart;
+  out = outs;
+  answered = answered;
+  may_change = may;
+  stamps = λ its lt. inl record { same = refl; steady = calm s (next_word last last.stamp) c r ch its (renewal s (next_word last last.stamp) c r ch held) held vcpus is apart st };
+}

@@ -28,7 +28,7 @@ use Rattle.its_steps.specs.MayCall.{IsAnswered, MayCall}
 use Rattle.its_steps.specs.Renewal.{assembled, changed, renewal}
 use Rattle.its_steps.specs.Steps.{next_word}
 use Rattle.its_steps.specs.declared.change.ShardChange.TheVariants as change
-use Rattle.its_steps.proofs.Calm.{calm}
+use Rattle.its_steps.proofs.Calm.{calm_may}
 
 -- ---- one redistributor
 
@@ -58,16 +58,7 @@ module _ (s : Setup) (last : Word) (vcpu : Vcpu) (r : Redistributor) (vcpus : Ha
       (here_is a.redistributors vcpu.0 (taken (redistributor a vcpu.0) (lowest (redistributor a vcpu.0))) inside ∙ ap (λ (x : Redistributor). taken x (lowest x)) has_one)
 
   take_may : MayCall s last (next_word last last.stamp) (call.Take vcpu) ack change.Keep one
-  take_may = record {
-    room = room;
-    next = refl;
-    stands = (st, tt);
-    apart = ((λ h. h), tt);
-    out = (refl, tt);
-    answered = inl take_answered;
-    may_change = tt;
-    stamps = λ its lt. inl record { same = refl; steady = calm s (next_word last last.stamp) (call.Take vcpu) ack change.Keep its (renewal s (next_word last last.stamp) (call.Take vcpu) ack change.Keep one) one vcpus tt ((λ h. h), tt) (st, tt) };
-  }
+  take_may = calm_may s last (call.Take vcpu) ack change.Keep one vcpus tt room ((λ h. h), tt) (st, tt) (refl, tt) (inl take_answered) tt
 
 pub takes : TakeMayCommit
 takes s last vcpu r vcpus st room = (take_may s last vcpu r vcpus st room, take_leaves s last vcpu r vcpus st room)
@@ -101,30 +92,8 @@ module _ (s : Setup) (last : Word) (its : ℕ) (dev : DeviceId) (ev : EventId) (
       ∙ ap (λ (x : Redistributor). record x { pending = with_lpi target.intid.0 x.pending }) has_one)
 
   hit_may : MayCall s last (next_word last last.stamp) (call.Signal its dev ev) sent change.Keep two
-  hit_may = record {
-    room = room;
-    next = refl;
-    stands = (st, ((it, sh), tt));
-    apart = two_apart;
-    out = (refl, (refl, tt));
-    answered = inr record {
-      its = its;
-      dev = dev;
-      ev = ev;
-      target = target;
-      call_is = refl;
-      reply_is = refl;
-      ways = ways;
-      owes = inr (inl (refl, refl));
-      is_found = has;
-      redist = inl refl;
-    };
-    may_change = tt;
-    stamps = λ i lt. inl record {
-      same = refl;
-      steady = calm s (next_word last last.stamp) (call.Signal its dev ev) sent change.Keep i (renewal s (next_word last last.stamp) (call.Signal its dev ev) sent change.Keep two) two vcpus tt two_apart (st, ((it, sh), tt));
-    };
-  }
+  hit_may = calm_may s last (call.Signal its dev ev) sent change.Keep two vcpus tt room two_apart (st, ((it, sh), tt)) (refl, (refl, tt))
+      (inr record { its = its; dev = dev; ev = ev; target = target; call_is = refl; reply_is = refl; ways = ways; owes = inr (inl (refl, refl)); is_found = has; redist = inl refl }) tt
 
 pub hits : HitMayCommit
 hits s last its dev ev target ways r vcpus it st sh room has =

@@ -1,5 +1,5 @@
 -- Calls that end no current translation, so that the stamp may stay.
-use Rattle.std.specs.Prelude.{◌≡◌, ℕ, ◌+◌, ◌<◌, ◌≤◌, Option, Some, None, Ok, List, [], ◌∷◌, length}
+use Rattle.std.specs.Prelude.{◌≡◌, ◌⊎◌, ℕ, ◌+◌, ◌<◌, ◌≤◌, Option, Some, None, Ok, List, [], ◌∷◌, length}
 use Rattle.std.specs.List.{AllByRecursion}
 use Rattle.its_types.specs.declared.ids.DeviceId.{DeviceId}
 use Rattle.its_types.specs.declared.ids.EventId.{EventId}
@@ -7,7 +7,7 @@ use Rattle.its_types.specs.declared.ids.Target.{Target}
 use Rattle.its_types.specs.declared.ids.Vcpu.{Vcpu}
 use Rattle.its_types.specs.declared.machine.Part.TheVariants as part
 use Rattle.its_types.specs.declared.machine.Word.{Word}
-use Rattle.its_plain.specs.Answer.{ack_of, lowest, taken}
+use Rattle.its_plain.specs.Answer.{ack_of, lowest, taken, left}
 use Rattle.its_plain.specs.Plain.{Redistributor}
 use Rattle.its_plain.specs.declared.call.Call.{Call}
 use Rattle.its_plain.specs.declared.call.Call.TheVariants as call
@@ -21,8 +21,9 @@ use Rattle.xlate_cache.specs.declared.entry.Entry.{Entry as Translation}
 use Rattle.its_steps.specs.Parts.{Setup, Shard, Redist, Stands, translator_count, vcpu_count, stamp_of}
 use Rattle.its_steps.specs.World.{Held, out}
 use Rattle.its_steps.specs.Good.{Apart}
-use Rattle.its_steps.specs.MayCall.{AreSteady, MayCall}
-use Rattle.its_steps.specs.Renewal.{renewal}
+use Rattle.its_steps.specs.MayCommit.{IsOut}
+use Rattle.its_steps.specs.MayCall.{AreSteady, IsAnswered, IsHit, MayChange, MayCall}
+use Rattle.its_steps.specs.Renewal.{assembled, renewal}
 use Rattle.its_steps.specs.Steps.{next_word}
 use Rattle.its_steps.specs.declared.change.ShardChange.{ShardChange}
 use Rattle.its_steps.specs.declared.change.ShardChange.TheVariants as change
@@ -41,6 +42,11 @@ HasVcpus s = length s.start.redistributors ≡ vcpu_count s
 abbrev pub CalmCallsAreSteady : Type 0
 CalmCallsAreSteady = (s : Setup) (to : Word) (c : Call) (r : Reply) (ch : ShardChange) (its : ℕ) (owed held : List Held) → HasVcpus s → IsCalm c → Apart held → AllByRecursion (λ x. Stands s x.part) held
     → AreSteady s its owed held (renewal s to c r ch held)
+
+-- so whoever holds its parts may commit it with the stamp as it is, and fill the pair's shard with what the maps say
+abbrev pub CalmCallsMayCommit : Type 0
+CalmCallsMayCommit = (s : Setup) (last : Word) (c : Call) (r : Reply) (ch : ShardChange) (held : List Held) → HasVcpus s → IsCalm c → last.place < s.limits.place_last → Apart held → AllByRecursion (λ x. Stands s x.part) held
+    → AllByRecursion IsOut held → IsAnswered s c r held ⊎ IsHit s last c r held → MayChange s c ch (left (assembled s held) c r) held → MayCall s last (next_word last last.stamp) c r ch held
 
 -- a redistributor alone is enough for an acknowledgement
 abbrev pub TakeMayCommit : Type 0

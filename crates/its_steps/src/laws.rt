@@ -90,6 +90,11 @@ pub fn calm_calls_are_steady()
     ensures { calls.CalmCallsAreSteady }
 {}
 
+/// Such a call may be committed with the stamp as it is by whoever holds its parts.
+pub fn calm_calls_may_commit()
+    ensures { calls.CalmCallsMayCommit }
+{}
+
 /// An acknowledgement needs its redistributor alone, and this is what it leaves there.
 pub fn take_may_commit()
     ensures { calls.TakeMayCommit }
