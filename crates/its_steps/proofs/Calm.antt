@@ -36,7 +36,7 @@ use Rattle.its_steps.proofs.Owed.{owes_holds}
 -- ---- what the assembled state has
 
 -- the state has this in the part
-abbrev Has : Plain → Part → Content → Type 0
+abbrev pub Has : Plain → Part → Content → Type 0
 Has u (part.Maps its) (Maps t) = slice_get u.translators its ≡ Some t
 Has u part.Mem (Mem memory) = u.memory ≡ memory
 Has u (part.Redist vcpu) (Redist r) = slice_get u.redistributors vcpu.0 ≡ Some r
@@ -92,14 +92,14 @@ assembled_has s vcpus (x ∷ xs) apart st p c o =
 
 -- ---- what calm calls leave
 
-record Leaves (a z : Plain) : Type 0 where
-  maps : (i : ℕ) → translator a i ≡ translator z i
-  bases : (v : ℕ) → (redistributor a v).bases ≡ (redistributor z v).bases
+pub record Leaves (a z : Plain) : Type 0 where
+  pub maps : (i : ℕ) → translator a i ≡ translator z i
+  pub bases : (v : ℕ) → (redistributor a v).bases ≡ (redistributor z v).bases
 
-all_left : (a : Plain) → Leaves a a
+pub all_left : (a : Plain) → Leaves a a
 all_left a = record { maps = λ i. refl; bases = λ v. refl }
 
-one_redist : (a : Plain) (v : ℕ) (r : Redistributor) → r.bases ≡ (redistributor a v).bases → Leaves a (with_redistributor a v r)
+pub one_redist : (a : Plain) (v : ℕ) (r : Redistributor) → r.bases ≡ (redistributor a v).bases → Leaves a (with_redistributor a v r)
 one_redist a v r e = record { maps = λ i. refl; bases = λ j. sym (same_after_set (λ (x : Redistributor). x.bases) a.redistributors v j r no_redistributor e) }
 
 taken_bases : (r : Redistributor) (o : Option ℕ) → (taken r o).bases ≡ r.bases
@@ -123,7 +123,7 @@ save_leaves : (a : Plain) (r : Result (Unit {0}) SaveFault) → Leaves a (save_l
 save_leaves a (Ok done) = record { maps = λ i. refl; bases = λ v. refl }
 save_leaves a (Err fault) = all_left a
 
-calm_leaves : (a : Plain) (c : Call) (r : Reply) → IsCalm c → Leaves a (left a c r)
+pub calm_leaves : (a : Plain) (c : Call) (r : Reply) → IsCalm c → Leaves a (left a c r)
 unfolding left
 calm_leaves a (call.Signal its dev ev) r calm = signal_leaves a its r dev ev
 calm_leaves a (call.Take vcpu) r calm = one_redist a vcpu.0 (taken (redistributor a vcpu.0) (lowest (redistributor a vcpu.0))) (taken_bases (redistributor a vcpu.0) (lowest (redistributor a vcpu.0)))

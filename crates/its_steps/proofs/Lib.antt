@@ -18,3 +18,6 @@ pub mod Together
 pub mod Cores
 pub mod Calm
 pub mod Ports
+pub mod Routes
+pub mod Lasting
+pub mod Endings

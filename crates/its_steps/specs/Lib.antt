@@ -7,3 +7,4 @@ pub mod MayCall
 pub mod Laws
 pub mod Steps
 pub mod Calls
+pub mod Endings

@@ -1,6 +1,7 @@
 //! What each kind of step keeps, and what a good world tells. Nothing here runs.
 
 ghost use Rattle.its_steps.specs.Calls as calls;
+ghost use Rattle.its_steps.specs.Endings as endings;
 ghost use Rattle.its_steps.specs.Laws as laws;
 ghost use Rattle.its_steps.specs.Steps as steps;
 
@@ -93,6 +94,16 @@ pub fn calm_calls_are_steady()
 /// Such a call may be committed with the stamp as it is by whoever holds its parts.
 pub fn calm_calls_may_commit()
     ensures { calls.CalmCallsMayCommit }
+{}
+
+/// Which translations a call may end, in any state.
+pub fn endings_are_all()
+    ensures { endings.EndingsAreAll }
+{}
+
+/// Where each translation that ends has left its shard, the stamp may stay.
+pub fn endings_are_dropped()
+    ensures { endings.EndingsAreDropped }
 {}
 
 /// An acknowledgement needs its redistributor alone, and this is what it leaves there.

@@ -1,0 +1,172 @@
+-- A call ends no more translations than its ending says.
+use Rattle.std.proofs.Common.{◌≡◌, ◌≢◌, ◌⊎◌, ℕ, Bool, true, false, not, ◌&&◌, eqb, nat_lt, nat_eq, ◌%◌, ◌-◌, List, [], ◌∷◌, get_or, Option, Some, None, Result, Ok, Err, refl, ap, sym, ◌∙◌, subst, inl, inr, if◌then◌else◌}
+use Rattle.std.proofs.lemmas.Bool.{cond_both, both_ways}
+use Rattle.std.proofs.lemmas.Option.{get_or_from_slice_get}
+use Rattle.std.specs.List.{AllByRecursion}
+use mathlib.Core.Logic.{dite}
+use native.Mathlib.Decide.{ℕ_discrete}
+use Rattle.gits_regs.specs.Registers.{Registers, Written, unchanged, write_ctlr, write_cbaser, write_cwriter, write_baser0, write_baser1, write_64, write_word, write_reg, is_32, is_same_queue, kept_cbaser, kept_offset, queue_size, has_bases, low_half, high_half, read_64, with_low_half, with_high_half}
+use Rattle.its_types.specs.Bits.{bit_of}
+use Rattle.its_command.specs.Commands.{decoded}
+use Rattle.its_command.specs.declared.command.Command.{Command}
+use Rattle.its_types.specs.Maps.{Maps as MapsOf}
+use Rattle.its_types.specs.declared.ids.Target.{Target}
+use Rattle.its_types.specs.declared.machine.Part.{Part}
+use Rattle.its_types.specs.declared.machine.Part.TheVariants as part
+use Rattle.its_types.specs.declared.machine.Word.{Word}
+use Rattle.its_types.specs.declared.translation.Bases.{Bases}
+use Rattle.its_plain.specs.Answer.{emptied, translator_written, written, command_left, is_idle, next_bytes, met_left, step_left, went_on, left}
+use Rattle.its_plain.specs.Commands.{ran}
+use Rattle.its_plain.specs.Plain.{Plain, Translator, Redistributor, translator, redistributor, no_translator, no_redistributor, regs_of, maps_of, with_translator}
+use Rattle.its_plain.specs.Translation.{located}
+use Rattle.its_plain.specs.declared.call.Call.{Call}
+use Rattle.its_plain.specs.declared.call.Call.TheVariants as call
+use Rattle.its_plain.specs.declared.call.Reason.{Reason}
+use Rattle.its_plain.specs.declared.call.Reply.{Reply}
+use Rattle.its_steps.specs.Calls.{HasVcpus}
+use Rattle.its_steps.specs.Endings.{Ending, Nothing, Pair, All, ending_in, ending_ran, ending_met, ending_of, Ends, Lasts, EndingsAreAll, EndingsAreDropped}
+use Rattle.its_steps.specs.Good.{Apart}
+use Rattle.its_steps.specs.MayCall.{Owes, IsWithout, IsSteady, AreSteady}
+use Rattle.its_steps.specs.Parts.{Setup, Content, Maps, Mem, Shard, Redist, Stands}
+use Rattle.its_steps.specs.Renewal.{assembled, its_of, content_in, renewed, renewal}
+use Rattle.its_steps.specs.World.{Held}
+use Rattle.its_steps.specs.declared.change.ShardChange.{ShardChange}
+use Rattle.its_steps.proofs.Calm.{Leaves, Has, assembled_has, calm_leaves}
+use Rattle.its_steps.proofs.Lasting.{LastsOk, lasts_self, lasts_then, lasts_translator, lasts_advanced, ran_lasts}
+use Rattle.its_steps.proofs.Routes.{Route}
+
+-- ---- writes of an enabled translator's registers leave its maps
+
+record Empties (w : Written) : Type 0 where
+  none : (m : MapsOf) → emptied w.change m ≡ m
+
+module _ (r : Registers) (on : r.enabled ≡ true) where
+  ctlr : (value : ℕ) → Empties (write_ctlr r value)
+  unfolding write_ctlr
+  ctlr value = cond_both (bit_of value 0) _ _ Empties (λ _. cond_both (not r.enabled && has_bases r) _ _ Empties (λ _. record { none = λ m. refl }) (λ _. record { none = λ m. refl })) (λ _. cond_both r.enabled _ _ Empties (λ _. record { none = λ m. refl }) (λ _. record { none = λ m. refl }))
+
+  cbaser : (value : ℕ) → Empties (write_cbaser r value)
+  unfolding write_cbaser
+  cbaser value = cond_both r.enabled _ _ Empties (λ _. record { none = λ m. refl }) (λ off. absurd (both_ways r.enabled off on))
+
+  cwriter : (value : ℕ) → Empties (write_cwriter r value)
+  unfolding write_cwriter
+  cwriter value = cond_both (nat_lt (kept_offset value) (queue_size r) && not (eqb r.cwriter (kept_offset value))) _ _ Empties (λ _. record { none = λ m. refl }) (λ _. record { none = λ m. refl })
+
+  baser0 : (value : ℕ) → Empties (write_baser0 r value)
+  unfolding write_baser0
+  baser0 value = cond_both r.enabled _ _ Empties (λ _. record { none = λ m. refl }) (λ off. absurd (both_ways r.enabled off on))
+
+  baser1 : (value : ℕ) → Empties (write_baser1 r value)
+  unfolding write_baser1
+  baser1 value = cond_both r.enabled _ _ Empties (λ _. record { none = λ m. refl }) (λ off. absurd (both_ways r.enabled off on))
+
+  sixty_four : (off value : ℕ) → Empties (write_64 r off value)
+  unfolding write_64
+  sixty_four off value =
+      cond_both (nat_eq off 0x80) _ _ Empties (λ _. cbaser value) (λ _.
+      cond_both (nat_eq off 0x88) _ _ Empties (λ _. cwriter value) (λ _.
+      cond_both (nat_eq off 0x100) _ _ Empties (λ _. baser0 value) (λ _.
+      cond_both (nat_eq off 0x108) _ _ Empties (λ _. baser1 value) (λ _. record { none = λ m. refl }))))
+
+  word : (off value : ℕ) → Empties (write_word r off value)
+  unfolding write_word
+  word off value =
+      cond_both (is_32 off) _ _ Empties (λ _. cond_both (nat_eq off 0x0) _ _ Empties (λ _. ctlr value) (λ _. record { none = λ m. refl })) (λ _.
+      cond_both (nat_eq (off % 8) 0) _ _ Empties (λ _. sixty_four off (with_low_half (read_64 r off) value)) (λ _.
+      cond_both (nat_eq (off % 8) 4) _ _ Empties (λ _. sixty_four (off - 4) (with_high_half (read_64 r (off - 4)) value)) (λ _. record { none = λ m. refl })))
+
+  keeps_maps : (off size value : ℕ) → Empties (write_reg r off size value)
+  unfolding write_reg
+  keeps_maps off size value = cond_both (nat_eq size 8) _ _ Empties (λ _. sixty_four off value) (λ _. cond_both (nat_eq size 4) _ _ Empties (λ _. word off (low_half value)) (λ _. record { none = λ m. refl }))
+
+-- ---- calls
+
+turned_off : (a b : Bool) (dev ev : ℕ) → a ≡ true → ¬ Ends (if a && not b then All else Nothing) dev ev → b ≡ true
+turned_off true true dev ev on n = refl
+turned_off true false dev ev on n = absurd (n tt)
+turned_off false b dev ev on n = absurd cc
+
+module _ (u : Plain) (i : ℕ) where
+  written_lasts : (off size value : ℕ) → Lasts u (written u i off size value) i (if (regs_of u i).enabled && not (write_reg (regs_of u i) off size value).regs.enabled then All else Nothing)
+  unfolding written
+  written_lasts off size value =
+      let w : Written = write_reg (regs_of u i) off size value in
+      let e : Ending = (if (regs_of u i).enabled && not w.regs.enabled then All else Nothing) in
+      lasts_translator u u i e (translator_written (translator u i) w) (lasts_self u i e)
+      (λ dev ev t n r.
+      subst (λ (m : MapsOf). Route w.regs.enabled m dev ev t) (sym ((keeps_maps (regs_of u i) r.on off size value).none (maps_of u i)))
+      record { on = turned_off (regs_of u i).enabled w.regs.enabled dev ev r.on n; device = r.device; device_is = r.device_is; event = r.event; event_is = r.event_is; vcpu = r.vcpu; vcpu_is = r.vcpu_is; target_is = r.target_is })
+
+  took : (c : Command) (r : Result Plain Reason) → LastsOk u i (ending_in (maps_of u i) c) r → Lasts u (went_on i (command_left u r)) i (ending_ran (maps_of u i) c r)
+  took c (Ok w) l = lasts_advanced u w i (ending_in (maps_of u i) c) l
+  took c (Err reason) l = lasts_advanced u u i Nothing (lasts_self u i Nothing)
+
+  met : (idle : Bool) (bytes : Option (List ℕ)) → Lasts u (if idle then u else met_left u i bytes) i (if idle then Nothing else ending_met u i bytes)
+  met true bytes = lasts_self u i Nothing
+  met false None = lasts_self u i Nothing
+  met false (Some bytes) = took (decoded bytes) (ran u i (decoded bytes)) (ran_lasts u i (decoded bytes))
+
+  step_lasts : Lasts u (step_left u i) i (if is_idle u i then Nothing else ending_met u i (next_bytes u i))
+  unfolding step_left
+  step_lasts = met (is_idle u i) (next_bytes u i)
+
+calm_lasts : (u w : Plain) (i : ℕ) → Leaves u w → Lasts u w i Nothing
+calm_lasts u w i k = lasts_then u u w i Nothing (lasts_self u i Nothing) k
+
+pub all_endings : EndingsAreAll
+unfolding left ending_of
+all_endings u (call.Signal its dev ev) r = calm_lasts u _ its (calm_leaves u (call.Signal its dev ev) r tt)
+all_endings u (call.Take vcpu) r = calm_lasts u _ 0 (calm_leaves u (call.Take vcpu) r tt)
+all_endings u (call.Show vcpu) r = lasts_self u 0 Nothing
+all_endings u (call.Poke addr bytes) r = calm_lasts u _ 0 (calm_leaves u (call.Poke addr bytes) r tt)
+all_endings u (call.Peek addr count) r = lasts_self u 0 Nothing
+all_endings u (call.ReadReg its off size) r = lasts_self u its Nothing
+all_endings u (call.WriteReg its off size value) r = written_lasts u its off size value
+all_endings u (call.Step its) r = step_lasts u its
+all_endings u call.Save r = calm_lasts u _ 0 (calm_leaves u call.Save r tt)
+
+-- ---- what the parts held owe
+
+ends_or_not : (e : Ending) (dev ev : ℕ) → Ends e dev ev ⊎ (¬ Ends e dev ev)
+ends_or_not Nothing dev ev = inr (λ x. x)
+ends_or_not All dev ev = inl tt
+ends_or_not (Pair d v) dev ev = dite (ℕ_discrete dev d) (λ a. dite (ℕ_discrete ev v) (λ b. inl (a, b)) (λ ne. inr (λ x. ne x.1))) (λ ne. inr (λ x. ne x.0))
+
+module _ (s : Setup) (to : Word) (c : Call) (ch : ShardChange) (its : ℕ) (owed : List Held) (a z : Plain) (l : Lasts a z (its_of c) (ending_of a c)) (gone : (dev ev : ℕ) → its ≡ its_of c → Ends (ending_of a c) dev ev → IsWithout s its dev ev owed) where
+  maps_steady : (dev ev : ℕ) (t : Target) → located (translator a its) dev ev ≡ Ok t → (located (translator z its) dev ev ≡ Ok t) ⊎ IsWithout s its dev ev owed
+  maps_steady dev ev t e = dite (ℕ_discrete its (its_of c))
+      (λ own. elim (ends_or_not (ending_of a c) dev ev) [
+        | inl ends ↦ inr (gone dev ev own ends)
+        | inr lasts ↦ inl (subst (λ (i : ℕ). located (translator z i) dev ev ≡ Ok t) (sym own) (l.own dev ev t lasts (subst (λ (i : ℕ). located (translator a i) dev ev ≡ Ok t) own e)))
+      ])
+      (λ ne. inl (subst (λ (x : Translator). located x dev ev ≡ Ok t) (l.others its ne) e))
+
+  steady_one : (p : Part) (x : Content) → Has a p x → IsSteady s its owed p x (content_in s to c ch z p x)
+  steady_one (part.Maps i) (Maps t) h = λ is dev ev target e.
+      subst (λ (j : ℕ). (located (translator z j) dev ev ≡ Ok target) ⊎ IsWithout s its dev ev owed) (sym is)
+      (maps_steady dev ev target (subst (λ (y : Translator). located y dev ev ≡ Ok target) (sym (get_or_from_slice_get a.translators i t no_translator h) ∙ ap (translator a) is) e))
+  steady_one (part.Maps i) (Mem x) h = tt
+  steady_one (part.Maps i) (Shard x) h = tt
+  steady_one (part.Maps i) (Redist x) h = tt
+  steady_one part.Mem (Maps x) h = tt
+  steady_one part.Mem (Mem x) h = tt
+  steady_one part.Mem (Shard x) h = tt
+  steady_one part.Mem (Redist x) h = tt
+  steady_one (part.Shard i n) (Maps x) h = tt
+  steady_one (part.Shard i n) (Mem x) h = tt
+  steady_one (part.Shard i n) (Shard x) h = tt
+  steady_one (part.Shard i n) (Redist x) h = tt
+  steady_one (part.Redist vcpu) (Maps x) h = tt
+  steady_one (part.Redist vcpu) (Mem x) h = tt
+  steady_one (part.Redist vcpu) (Shard x) h = tt
+  steady_one (part.Redist vcpu) (Redist r) h = λ on.
+      ap (λ (b : Bases). b.on) (sym (l.bases vcpu.0)) ∙ (ap (λ (y : Redistributor). y.bases.on) (get_or_from_slice_get a.redistributors vcpu.0 r no_redistributor h) ∙ on)
+
+  steady_all : (held : List Held) → ((p : Part) (x : Content) → Owes p x held → Has a p x) → AreSteady s its owed held (renewed s to c ch z held)
+  steady_all [] has = tt
+  steady_all (x ∷ xs) has = (steady_one x.part x.owed (has x.part x.owed (inl (refl, refl))), steady_all xs (λ p y o. has p y (inr o)))
+
+pub dropped_endings : EndingsAreDropped
+dropped_endings s to c r ch its owed held vcpus apart st gone =
+    let a : Plain = assembled s held in steady_all s to c ch its owed a (left a c r) (all_endings a c r) gone held (assembled_has s vcpus held apart st)

@@ -1,0 +1,77 @@
+-- Which calls end translations that were current. With these the stamp rises or is renewed, or the pair's translation leaves its shard.
+use Rattle.std.specs.Prelude.{◌≡◌, ◌≢◌, ◌⊎◌, ℕ, Bool, not, ◌&&◌, if◌then◌else◌, Option, Some, None, is_some, Result, Ok, Err, List}
+use Rattle.std.specs.List.{AllByRecursion}
+use Rattle.gits_regs.specs.Registers.{write_reg}
+use Rattle.its_command.specs.Commands.{decoded}
+use Rattle.its_command.specs.declared.command.Command.{Command}
+use Rattle.its_command.specs.declared.command.Command.TheVariants as command
+use Rattle.its_types.specs.Maps.{Maps, device_of, collection_of}
+use Rattle.its_types.specs.declared.ids.Target.{Target}
+use Rattle.its_types.specs.declared.machine.Word.{Word}
+use Rattle.its_types.specs.declared.translation.Bases.{Bases}
+use Rattle.its_plain.specs.Answer.{left, is_idle, next_bytes}
+use Rattle.its_plain.specs.Commands.{ran}
+use Rattle.its_plain.specs.Plain.{Plain, Redistributor, translator, redistributor, regs_of, maps_of}
+use Rattle.its_plain.specs.Translation.{located}
+use Rattle.its_plain.specs.declared.call.Call.{Call}
+use Rattle.its_plain.specs.declared.call.Call.TheVariants as call
+use Rattle.its_plain.specs.declared.call.Reason.{Reason}
+use Rattle.its_plain.specs.declared.call.Reply.{Reply}
+use Rattle.its_steps.specs.Calls.{HasVcpus}
+use Rattle.its_steps.specs.Good.{Apart}
+use Rattle.its_steps.specs.MayCall.{IsWithout, AreSteady}
+use Rattle.its_steps.specs.Parts.{Setup, Stands}
+use Rattle.its_steps.specs.Renewal.{assembled, its_of, renewal}
+use Rattle.its_steps.specs.World.{Held}
+use Rattle.its_steps.specs.declared.change.ShardChange.{ShardChange}
+
+pub data Ending : Type 0 where
+  -- none
+  Nothing : Ending
+  -- that of one pair
+  Pair : ℕ → ℕ → Ending
+  -- any of the translator's
+  All : Ending
+
+-- a command that runs
+abbrev pub ending_in : Maps → Command → Ending
+ending_in m (command.Mapd dev bits itt valid) = if is_some (device_of m dev.0) then All else Nothing
+ending_in m (command.Mapc icid target valid) = if is_some (collection_of m icid.0) then All else Nothing
+ending_in m (command.Movi dev ev icid) = Pair dev.0 ev.0
+ending_in m (command.Discard dev ev) = Pair dev.0 ev.0
+ending_in m c = Nothing
+
+-- one that is refused ends none
+abbrev pub ending_ran : Maps → Command → Result Plain Reason → Ending
+ending_ran m c (Ok after) = ending_in m c
+ending_ran m c (Err reason) = Nothing
+
+abbrev pub ending_met : Plain → ℕ → Option (List ℕ) → Ending
+ending_met u i None = Nothing
+ending_met u i (Some bytes) = ending_ran (maps_of u i) (decoded bytes) (ran u i (decoded bytes))
+
+-- a write does that turns the translator off
+unfoldable pub ending_of : Plain → Call → Ending
+ending_of u (call.WriteReg its off size value) = if (regs_of u its).enabled && not (write_reg (regs_of u its) off size value).regs.enabled then All else Nothing
+ending_of u (call.Step its) = if is_idle u its then Nothing else ending_met u its (next_bytes u its)
+ending_of u c = Nothing
+
+abbrev pub Ends : Ending → ℕ → ℕ → Type 0
+Ends Nothing dev ev = ⊥
+Ends (Pair d e) dev ev = (dev ≡ d) × (ev ≡ e)
+Ends All dev ev = Unit {0}
+
+-- where the translator's maps sent an event they send it after, but for the ending; the others and all bases are the same
+pub record Lasts (u w : Plain) (its : ℕ) (ending : Ending) : Type 0 where
+  pub own : (dev ev : ℕ) (t : Target) → ¬ Ends ending dev ev → located (translator u its) dev ev ≡ Ok t → located (translator w its) dev ev ≡ Ok t
+  pub others : (i : ℕ) → i ≢ its → translator u i ≡ translator w i
+  pub bases : (v : ℕ) → (redistributor u v).bases ≡ (redistributor w v).bases
+
+-- a call ends no more than this, in any state
+abbrev pub EndingsAreAll : Type 0
+EndingsAreAll = (u : Plain) (c : Call) (r : Reply) → Lasts u (left u c r) (its_of c) (ending_of u c)
+
+-- what a commit needs with the stamp as it was: each translation that ends has left its shard
+abbrev pub EndingsAreDropped : Type 0
+EndingsAreDropped = (s : Setup) (to : Word) (c : Call) (r : Reply) (ch : ShardChange) (its : ℕ) (owed held : List Held) → HasVcpus s → Apart held → AllByRecursion (λ x. Stands s x.part) held
+    → ((dev ev : ℕ) → its ≡ its_of c → Ends (ending_of (assembled s held) c) dev ev → IsWithout s its dev ev owed) → AreSteady s its owed held (renewal s to c r ch held)
