@@ -1,11 +1,10 @@
 -- Calls that end no current translation.
-use Rattle.std.proofs.Common.{◌≡◌, ◌⊎◌, ℕ, zero, suc, ◌+◌, ◌<◌, true, List, [], ◌∷◌, length, set, get_or, slice_get, Option, Some, None, Result, Ok, Err, refl, ap, sym, ◌∙◌, subst, inl, inr, ⊎_elim, arith}
+use Rattle.std.proofs.Common.{◌≡◌, ℕ, List, [], ◌∷◌, length, slice_get, Option, Some, None, Result, Ok, Err, refl, ap, sym, ◌∙◌, subst, inl, inr, ⊎_elim, arith}
 use Rattle.std.specs.List.{AllByRecursion}
 use Rattle.std.proofs.lemmas.Option.{get_or_from_slice_get}
 use Rattle.its_types.specs.Lpis.{with_lpi}
 use Rattle.its_types.specs.declared.ids.DeviceId.{DeviceId}
 use Rattle.its_types.specs.declared.ids.EventId.{EventId}
-use Rattle.its_types.specs.declared.ids.Target.{Target}
 use Rattle.its_types.specs.declared.machine.Part.{Part}
 use Rattle.its_types.specs.declared.machine.Part.TheVariants as part
 use Rattle.its_types.specs.declared.machine.Word.{Word}
@@ -27,7 +26,7 @@ use Rattle.its_steps.specs.Steps.{next_word}
 use Rattle.its_steps.specs.Parts.{Setup, Content, Maps, Mem, Shard, Redist, Stands, translator_count, vcpu_count}
 use Rattle.its_steps.specs.World.{Held}
 use Rattle.its_steps.specs.Good.{Holds, Apart}
-use Rattle.its_steps.specs.MayCall.{Owes, IsWithout, IsSteady, AreSteady}
+use Rattle.its_steps.specs.MayCall.{Owes, IsSteady, AreSteady}
 use Rattle.its_steps.specs.Renewal.{with_part, assembled, content_in, renewed, renewal}
 use Rattle.its_steps.specs.declared.change.ShardChange.{ShardChange}
 use Rattle.its_steps.proofs.Assembled.{get_set_here, is_put, is_assembled, not_only}

@@ -1,11 +1,10 @@
 -- A call ends no more translations than its ending says.
-use Rattle.std.proofs.Common.{◌≡◌, ◌≢◌, ◌⊎◌, ℕ, Bool, true, false, not, ◌&&◌, eqb, nat_lt, nat_eq, ◌%◌, ◌-◌, List, [], ◌∷◌, get_or, Option, Some, None, Result, Ok, Err, refl, ap, sym, ◌∙◌, subst, inl, inr, if◌then◌else◌}
+use Rattle.std.proofs.Common.{◌≡◌, ◌⊎◌, ℕ, Bool, true, false, not, ◌&&◌, eqb, nat_lt, nat_eq, ◌%◌, ◌-◌, List, [], ◌∷◌, Option, Some, None, Result, Ok, Err, refl, ap, sym, ◌∙◌, subst, inl, inr, if◌then◌else◌}
 use Rattle.std.proofs.lemmas.Bool.{cond_both, both_ways}
 use Rattle.std.proofs.lemmas.Option.{get_or_from_slice_get}
-use Rattle.std.specs.List.{AllByRecursion}
 use mathlib.Core.Logic.{dite}
 use native.Mathlib.Decide.{ℕ_discrete}
-use Rattle.gits_regs.specs.Registers.{Registers, Written, unchanged, write_ctlr, write_cbaser, write_cwriter, write_baser0, write_baser1, write_64, write_word, write_reg, is_32, is_same_queue, kept_cbaser, kept_offset, queue_size, has_bases, low_half, high_half, read_64, with_low_half, with_high_half}
+use Rattle.gits_regs.specs.Registers.{Registers, Written, write_ctlr, write_cbaser, write_cwriter, write_baser0, write_baser1, write_64, write_word, write_reg, is_32, kept_offset, queue_size, has_bases, low_half, read_64, with_low_half, with_high_half}
 use Rattle.its_types.specs.Bits.{bit_of}
 use Rattle.its_command.specs.Commands.{decoded}
 use Rattle.its_command.specs.declared.command.Command.{Command}
@@ -17,18 +16,15 @@ use Rattle.its_types.specs.declared.machine.Word.{Word}
 use Rattle.its_types.specs.declared.translation.Bases.{Bases}
 use Rattle.its_plain.specs.Answer.{emptied, translator_written, written, command_left, is_idle, next_bytes, met_left, step_left, went_on, left}
 use Rattle.its_plain.specs.Commands.{ran}
-use Rattle.its_plain.specs.Plain.{Plain, Translator, Redistributor, translator, redistributor, no_translator, no_redistributor, regs_of, maps_of, with_translator}
+use Rattle.its_plain.specs.Plain.{Plain, Translator, Redistributor, translator, no_translator, no_redistributor, regs_of, maps_of}
 use Rattle.its_plain.specs.Translation.{located}
 use Rattle.its_plain.specs.declared.call.Call.{Call}
 use Rattle.its_plain.specs.declared.call.Call.TheVariants as call
 use Rattle.its_plain.specs.declared.call.Reason.{Reason}
-use Rattle.its_plain.specs.declared.call.Reply.{Reply}
-use Rattle.its_steps.specs.Calls.{HasVcpus}
 use Rattle.its_steps.specs.Endings.{Ending, Nothing, Pair, All, ending_in, ending_ran, ending_met, ending_of, Ends, Lasts, EndingsAreAll, EndingsAreDropped}
-use Rattle.its_steps.specs.Good.{Apart}
 use Rattle.its_steps.specs.MayCall.{Owes, IsWithout, IsSteady, AreSteady}
-use Rattle.its_steps.specs.Parts.{Setup, Content, Maps, Mem, Shard, Redist, Stands}
-use Rattle.its_steps.specs.Renewal.{assembled, its_of, content_in, renewed, renewal}
+use Rattle.its_steps.specs.Parts.{Setup, Content, Maps, Mem, Shard, Redist}
+use Rattle.its_steps.specs.Renewal.{assembled, its_of, content_in, renewed}
 use Rattle.its_steps.specs.World.{Held}
 use Rattle.its_steps.specs.declared.change.ShardChange.{ShardChange}
 use Rattle.its_steps.proofs.Calm.{Leaves, Has, assembled_has, calm_leaves}

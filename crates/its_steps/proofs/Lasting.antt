@@ -1,7 +1,7 @@
 -- What each command leaves of where messages go.
-use Rattle.std.proofs.Common.{◌≡◌, ◌≢◌, ℕ, zero, suc, Bool, true, false, not, ◌&&◌, nat_lt, nat_le, eqb, ◌^◌, List, [], ◌∷◌, map, length, set, get_or, Option, Some, None, is_some, Result, Ok, Err, refl, ap, sym, ◌∙◌, subst, if◌then◌else◌, get_or-set_same, get_or-set_other}
+use Rattle.std.proofs.Common.{◌≡◌, ℕ, zero, suc, Bool, true, false, ◌&&◌, nat_lt, nat_le, eqb, ◌^◌, List, [], ◌∷◌, map, get_or, Option, Some, None, is_some, Result, Ok, Err, refl, ap, sym, ◌∙◌, subst, if◌then◌else◌, get_or-set_same, get_or-set_other}
 use Rattle.std.specs.Option.{ok_or}
-use Rattle.std.proofs.lemmas.Bool.{cond_both, both_ways}
+use Rattle.std.proofs.lemmas.Bool.{cond_both}
 use Rattle.guest_windows.specs.Windows.{Window, byte_at}
 use Rattle.gits_regs.specs.Registers.{collection_places, advanced}
 use Rattle.baser_place.specs.Places.{device_place}

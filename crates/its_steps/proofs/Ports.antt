@@ -1,27 +1,24 @@
 -- Calls that need few parts.
-use Rattle.std.proofs.Common.{◌≡◌, ◌⊎◌, ℕ, zero, suc, ◌+◌, ◌<◌, Bool, true, false, ◌&&◌, cond, eqb, List, [], ◌∷◌, length, set, get_or, Option, Some, None, refl, ap, sym, ◌∙◌, subst, inl, inr, arith, length-set, get_or-set_same}
-use Rattle.std.proofs.lemmas.Bool.{eqb-true}
+use Rattle.std.proofs.Common.{◌≡◌, ℕ, ◌<◌, List, [], ◌∷◌, length, set, get_or, Option, Some, refl, ap, sym, ◌∙◌, inl, inr, arith, length-set, get_or-set_same}
 use Rattle.its_types.specs.Lpis.{with_lpi}
 use Rattle.its_types.specs.declared.ids.DeviceId.{DeviceId}
 use Rattle.its_types.specs.declared.ids.EventId.{EventId}
 use Rattle.its_types.specs.declared.ids.Target.{Target}
 use Rattle.its_types.specs.declared.ids.Vcpu.{Vcpu}
-use Rattle.its_types.specs.declared.machine.Part.{Part}
 use Rattle.its_types.specs.declared.machine.Part.TheVariants as part
 use Rattle.its_types.specs.declared.machine.Word.{Word}
 use Rattle.its_plain.specs.Answer.{ack_of, lowest, taken, reply_of, left}
 use Rattle.its_plain.specs.Parts.{footprint}
-use Rattle.its_plain.specs.Plain.{Plain, Redistributor, redistributor, no_redistributor, pending_of, with_redistributor}
-use Rattle.its_plain.specs.declared.call.Call.{Call}
+use Rattle.its_plain.specs.Plain.{Plain, Redistributor, redistributor, no_redistributor, pending_of}
 use Rattle.its_plain.specs.declared.call.Call.TheVariants as call
 use Rattle.its_plain.specs.declared.call.Reply.{Reply}
 use Rattle.its_plain.specs.declared.call.Reply.TheVariants as reply
 use Rattle.its_plain.specs.declared.call.Signal.TheVariants.{Delivered}
 use Rattle.xlate_cache.specs.Pairs.{shard_number}
-use Rattle.xlate_cache.specs.Ways.{entry, is_of, has_stamp, holds, target_in, found}
+use Rattle.xlate_cache.specs.Ways.{found}
 use Rattle.xlate_cache.specs.declared.entry.Entry.{Entry as Translation}
 use Rattle.its_steps.specs.Calls.{HasVcpus, TakeMayCommit, HitMayCommit}
-use Rattle.its_steps.specs.Parts.{Setup, Content, Shard, Redist, Stands, translator_count, vcpu_count, stamp_of}
+use Rattle.its_steps.specs.Parts.{Setup, Shard, Redist, translator_count, vcpu_count, stamp_of}
 use Rattle.its_steps.specs.World.{Held, out}
 use Rattle.its_steps.specs.Good.{Holds, Apart}
 use Rattle.its_steps.specs.MayCall.{IsAnswered, MayCall}
@@ -66,7 +63,7 @@ takes s last vcpu r vcpus st room = (take_may s last vcpu r vcpus st room, take_
 -- ---- hits
 
 module _ (s : Setup) (last : Word) (its : ℕ) (dev : DeviceId) (ev : EventId) (target : Target) (ways : List (Option Translation)) (r : Redistributor) (vcpus : HasVcpus s) (it : its < translator_count s) (st : target.vcpu.0 < vcpu_count s)
-  (sh : shard_number dev.0 ev.0 s.shards < s.shards) (room : last.place < s.limits.place_last) (has : found ways dev.0 ev.0 (stamp_of last its) ≡ Some target) where
+    (sh : shard_number dev.0 ev.0 s.shards < s.shards) (room : last.place < s.limits.place_last) (has : found ways dev.0 ev.0 (stamp_of last its) ≡ Some target) where
   abbrev two : List Held
   two = out (part.Redist target.vcpu) (Redist r) ∷ out (part.Shard its (shard_number dev.0 ev.0 s.shards)) (Shard ways) ∷ []
 

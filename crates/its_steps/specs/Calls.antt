@@ -1,5 +1,5 @@
 -- Calls that end no current translation, so that the stamp may stay.
-use Rattle.std.specs.Prelude.{◌≡◌, ◌⊎◌, ℕ, ◌+◌, ◌<◌, ◌≤◌, Option, Some, None, Ok, List, [], ◌∷◌, length}
+use Rattle.std.specs.Prelude.{◌≡◌, ◌⊎◌, ℕ, ◌<◌, Option, Some, List, [], ◌∷◌, length}
 use Rattle.std.specs.List.{AllByRecursion}
 use Rattle.its_types.specs.declared.ids.DeviceId.{DeviceId}
 use Rattle.its_types.specs.declared.ids.EventId.{EventId}

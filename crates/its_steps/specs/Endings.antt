@@ -1,5 +1,5 @@
 -- Which calls end translations that were current. With these the stamp rises or is renewed, or the pair's translation leaves its shard.
-use Rattle.std.specs.Prelude.{◌≡◌, ◌≢◌, ◌⊎◌, ℕ, Bool, not, ◌&&◌, if◌then◌else◌, Option, Some, None, is_some, Result, Ok, Err, List}
+use Rattle.std.specs.Prelude.{◌≡◌, ◌≢◌, ℕ, not, ◌&&◌, if◌then◌else◌, Option, Some, None, is_some, Result, Ok, Err, List}
 use Rattle.std.specs.List.{AllByRecursion}
 use Rattle.gits_regs.specs.Registers.{write_reg}
 use Rattle.its_command.specs.Commands.{decoded}
@@ -8,10 +8,9 @@ use Rattle.its_command.specs.declared.command.Command.TheVariants as command
 use Rattle.its_types.specs.Maps.{Maps, device_of, collection_of}
 use Rattle.its_types.specs.declared.ids.Target.{Target}
 use Rattle.its_types.specs.declared.machine.Word.{Word}
-use Rattle.its_types.specs.declared.translation.Bases.{Bases}
 use Rattle.its_plain.specs.Answer.{left, is_idle, next_bytes}
 use Rattle.its_plain.specs.Commands.{ran}
-use Rattle.its_plain.specs.Plain.{Plain, Redistributor, translator, redistributor, regs_of, maps_of}
+use Rattle.its_plain.specs.Plain.{Plain, translator, redistributor, regs_of, maps_of}
 use Rattle.its_plain.specs.Translation.{located}
 use Rattle.its_plain.specs.declared.call.Call.{Call}
 use Rattle.its_plain.specs.declared.call.Call.TheVariants as call

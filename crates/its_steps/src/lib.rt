@@ -8,8 +8,9 @@ mod laws;
 pub use change::ShardChange;
 pub use event::{Event, Kind};
 pub use laws::{
-    bring_keeps, calm_calls_are_steady, calm_calls_may_commit, commit_keeps, endings_are_all, endings_are_dropped, first_is_good, give_keeps, hit_may_commit,
-    holders_may_commit, join_keeps, load_keeps, meet_keeps, miss_keeps, note_keeps, put_home_keeps,
-    reader_has_seen, release_keeps, root_knows_all, runs_keep, split_keeps, steps_keep, take_keeps,
-    take_may_commit, take_out_keeps, try_keeps,
+    bring_keeps, calm_calls_are_steady, calm_calls_may_commit, commit_keeps, endings_are_all,
+    endings_are_dropped, first_is_good, give_keeps, hit_may_commit, holders_may_commit, join_keeps,
+    load_keeps, meet_keeps, miss_keeps, note_keeps, put_home_keeps, reader_has_seen, release_keeps,
+    root_knows_all, runs_keep, split_keeps, steps_keep, take_keeps, take_may_commit,
+    take_out_keeps, try_keeps,
 };
