@@ -6,7 +6,7 @@ use Rattle.its_command.specs.Commands.{encoded}
 use Rattle.its_plain.specs.declared.call.Call.{Call}
 use Rattle.event_script.specs.Fields.{arg, number_within, any_number, address, device, event, processor, bytes_within}
 use Rattle.event_script.specs.Commands.{command_word_of, command_fields, command_of}
-use Rattle.event_script.specs.Calls.{signal_of, take_of, show_of, poke_of, word_of, command_call_of, peek_of, read_of, write_of, step_of, access_size}
+use Rattle.event_script.specs.Calls.{signal_of, take_of, show_of, poke_of, word_of, command_call_of, peek_of, read_of, write_of, step_of, save_of, access_size}
 use Rattle.event_script.specs.Limits.{is_call, is_access_size}
 use Rattle.event_script.specs.declared.fault.Kind.TheVariants as kind
 use Rattle.event_script.proofs.Steps.{both_true, below, bound, bound_by, ensured, number_in_range, processor_below, are_bytes, bytes_in_range, length-encoded}
@@ -79,6 +79,10 @@ write_is_call vcpus fs =
     bound_by (IsCall vcpus) (access_size (arg fs 2)) (λ n. is_access_size n ≡ true) _ (size_is_known (arg fs 2)) (λ size e.
     bound_by (IsCall vcpus) (number_within 0 (2 ^ (8 * size) - 1) (arg fs 3)) (λ n. (0 ≤ n) × (n ≤ 2 ^ (8 * size) - 1)) _ (number_in_range 0 (2 ^ (8 * size) - 1) (arg fs 3)) (λ value r.
     both_true (is_access_size size) (nat_lt value (2 ^ (8 * size))) e (fits (8 * size) value r.1)))))
+
+pub save_is_call : (vcpus : ℕ) (fs : List (List ℕ)) → IfOk (save_of fs) (IsCall vcpus)
+unfolding save_of
+save_is_call vcpus fs = ensured (IsCall vcpus) (nat_eq (length fs) 1) kind.Fields _ (λ _. refl)
 
 pub step_is_call : (vcpus : ℕ) (fs : List (List ℕ)) → IfOk (step_of fs) (IsCall vcpus)
 unfolding step_of

@@ -5,7 +5,7 @@ use Rattle.std.proofs.lemmas.Bool.{ltb-true, lt-ltb}
 use Rattle.std.proofs.lemmas.List.{length-append}
 use Rattle.its_plain.specs.declared.call.Call.{Call}
 use Rattle.event_script.specs.Description.{at_start, in_description, in_phase, in_thread, is_ended}
-use Rattle.event_script.specs.Calls.{signal_of, take_of, show_of, poke_of, word_of, command_call_of, peek_of, read_of, write_of, step_of}
+use Rattle.event_script.specs.Calls.{signal_of, take_of, show_of, poke_of, word_of, command_call_of, peek_of, read_of, write_of, step_of, save_of}
 use Rattle.event_script.specs.Body.{is_described, is_whole, may_go_on, threads_so_far, phases_so_far, phase_line, thread_line, end_line, call_line, word_line, keyword_line}
 use Rattle.event_script.specs.Limits.{is_call, is_thread, is_phase}
 use Rattle.event_script.specs.declared.fault.Kind.{Kind}
@@ -17,7 +17,7 @@ use Rattle.event_script.specs.declared.draft.Stage.{Stage}
 use Rattle.event_script.specs.declared.draft.Stage.TheVariants as stage
 use Rattle.event_script.specs.declared.draft.TheConstants.{MOST_PHASES, MOST_THREADS, MOST_CALLS}
 use Rattle.event_script.proofs.Steps.{left_true, right_true, both_true, below, all_pushed, bound_by, ensured, chosen}
-use Rattle.event_script.proofs.Calling.{signal_is_call, take_is_call, show_is_call, poke_is_call, word_is_call, command_is_call, peek_is_call, read_is_call, write_is_call, step_is_call}
+use Rattle.event_script.proofs.Calling.{signal_is_call, take_is_call, show_is_call, poke_is_call, word_is_call, command_is_call, peek_is_call, read_is_call, write_is_call, step_is_call, save_is_call}
 use Rattle.event_script.proofs.Good.{in_body, open_phases, open_threads, clash, IsFair, HasCalls, IsGood, shards_good, vcpus_good, limits_good, window_good, config_good, pending_good, bytes_good, word_fill_good}
 
 one_open : (s : Stage) → in_thread s ≡ true → (open_phases s ≡ 1) × (open_threads s ≡ 1)
@@ -205,3 +205,4 @@ keyword_good d n on.Command fs h = call_good d (command_call_of fs) h (command_i
 keyword_good d n on.Read fs h = call_good d (read_of fs) h (read_is_call (length d.pending) fs)
 keyword_good d n on.Write fs h = call_good d (write_of fs) h (write_is_call (length d.pending) fs)
 keyword_good d n on.Step fs h = call_good d (step_of fs) h (step_is_call (length d.pending) fs)
+keyword_good d n on.Save fs h = call_good d (save_of fs) h (save_is_call (length d.pending) fs)

@@ -4,7 +4,7 @@ use Rattle.std.specs.List.{list_all}
 use Rattle.its_plain.specs.declared.call.Call.{Call}
 use Rattle.event_script.specs.Outcome.{◌>>=◌, ensure}
 use Rattle.event_script.specs.Description.{at_start, in_description, in_phase, in_thread, is_ended, vcpus_line, shards_line, limits_line, window_line, config_line, pending_line, bytes_line, word_fill_line}
-use Rattle.event_script.specs.Calls.{signal_of, take_of, show_of, poke_of, word_of, command_call_of, peek_of, read_of, write_of, step_of}
+use Rattle.event_script.specs.Calls.{signal_of, take_of, show_of, poke_of, word_of, command_call_of, peek_of, read_of, write_of, step_of, save_of}
 use Rattle.event_script.specs.declared.fault.Kind.{Kind}
 use Rattle.event_script.specs.declared.fault.Kind.TheVariants as kind
 use Rattle.event_script.specs.declared.words.Keyword.{Keyword}
@@ -89,3 +89,4 @@ keyword_line d n on.Command fs = call_line d (command_call_of fs)
 keyword_line d n on.Read fs = call_line d (read_of fs)
 keyword_line d n on.Write fs = call_line d (write_of fs)
 keyword_line d n on.Step fs = call_line d (step_of fs)
+keyword_line d n on.Save fs = call_line d (save_of fs)

@@ -86,3 +86,8 @@ unfoldable pub step_of : List (List ℕ) → Result Call Kind
 step_of fs = do
   _ ← ensure (length fs == 1) kind.Fields
   Ok (call.Step 0)
+
+unfoldable pub save_of : List (List ℕ) → Result Call Kind
+save_of fs = do
+  _ ← ensure (length fs == 1) kind.Fields
+  Ok call.Save

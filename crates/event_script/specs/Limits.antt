@@ -26,6 +26,7 @@ is_call vcpus (call.Peek addr count) = nat_le 1 count && nat_le count 64
 is_call vcpus (call.ReadReg its off size) = its == 0 && is_access_size size
 is_call vcpus (call.WriteReg its off size value) = its == 0 && is_access_size size && nat_lt value (2 ^ (8 * size))
 is_call vcpus (call.Step its) = its == 0
+is_call vcpus call.Save = true
 
 abbrev pub is_thread : ℕ → List Call → Bool
 is_thread vcpus calls = nat_le (length calls) MOST_CALLS && list_all (is_call vcpus) calls

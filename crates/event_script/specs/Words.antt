@@ -28,4 +28,5 @@ keyword_of word =
     else (if bytes_eq word (codes "config") then Ok on.Config
     else (if bytes_eq word (codes "pending") then Ok on.Pending
     else (if bytes_eq word (codes "end") then Ok on.End
-    else Err kind.Word)))))))))))))))))))
+    else (if bytes_eq word (codes "save") then Ok on.Save
+    else Err kind.Word))))))))))))))))))))

@@ -4,8 +4,8 @@ ghost use Rattle.event_script.specs.Outcome.{Gives};
 ghost use Rattle.event_script.specs.Body as spec;
 
 use crate::calls::{
-    command_call_of, peek_of, poke_of, read_of, show_of, signal_of, step_of, take_of, word_of,
-    write_of,
+    command_call_of, peek_of, poke_of, read_of, save_of, show_of, signal_of, step_of, take_of,
+    word_of, write_of,
 };
 use crate::draft::{Draft, MOST_CALLS, MOST_PHASES, MOST_THREADS, Stage};
 use crate::fault::{Kind, LineError, ensure};
@@ -153,6 +153,7 @@ impl Draft {
             Keyword::Read => self.call_line(read_of(fields)),
             Keyword::Write => self.call_line(write_of(fields)),
             Keyword::Step => self.call_line(step_of(fields)),
+            Keyword::Save => self.call_line(save_of(fields)),
         }
     }
 }

@@ -148,3 +148,11 @@ pub fn step_of(fields: &[&[u8]]) -> Result<Call, Kind>
     ensure(fields.len() == 1, Kind::Fields)?;
     Ok(Call::Step { its: 0 })
 }
+
+#[tactic(auto, unfolding(crate::specs::Calls::save_of))]
+pub fn save_of(fields: &[&[u8]]) -> Result<Call, Kind>
+    ensures { result ≡ spec.save_of (map (λ f. f.now) fields.now) }
+{
+    ensure(fields.len() == 1, Kind::Fields)?;
+    Ok(Call::Save)
+}

@@ -28,6 +28,7 @@ pub enum Keyword {
     Read,
     Write,
     Step,
+    Save,
 }
 
 /// The word of a command.
@@ -94,6 +95,8 @@ pub fn keyword_of(word: &[u8]) -> Result<Keyword, Kind>
         Ok(Keyword::Pending)
     } else if word == b"end".as_slice() {
         Ok(Keyword::End)
+    } else if word == b"save".as_slice() {
+        Ok(Keyword::Save)
     } else {
         Err(Kind::Word)
     }

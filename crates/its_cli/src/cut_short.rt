@@ -40,18 +40,8 @@ fn report(alloc: Global, calls: usize, rest: &str) -> Result<String, AllocError>
 fn places_run_out(rt: HostRuntime) -> Result<(), Fail> {
     let alloc = rt.alloc();
     for (limits, calls, status, rest) in [
-        (
-            "limits 16777215 1\n",
-            1,
-            Status::Spent,
-            "refused spent 1\n",
-        ),
-        (
-            "limits 16777215 3\n",
-            3,
-            Status::Spent,
-            "refused spent 1\n",
-        ),
+        ("limits 16777215 1\n", 1, Status::Spent, "refused spent 1\n"),
+        ("limits 16777215 3\n", 3, Status::Spent, "refused spent 1\n"),
         (
             "limits 16777215 10\n",
             10,

@@ -9,6 +9,8 @@ mod its;
 #[cfg(test)]
 mod registers_examples;
 mod said;
+#[cfg(test)]
+mod saved_examples;
 mod solo;
 mod status;
 mod streams;

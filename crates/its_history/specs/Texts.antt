@@ -19,6 +19,10 @@ use Rattle.its_plain.specs.declared.call.Signal.{Signal}
 use Rattle.its_plain.specs.declared.call.Signal.TheVariants as signal
 use Rattle.its_plain.specs.declared.call.StepReply.{StepReply}
 use Rattle.its_plain.specs.declared.call.StepReply.TheVariants as step
+use Rattle.its_plain.specs.declared.fault.Region.{Region}
+use Rattle.its_plain.specs.declared.fault.Region.TheVariants as region
+use Rattle.its_plain.specs.declared.fault.SaveFault.{SaveFault}
+use Rattle.its_plain.specs.declared.fault.SaveFault.TheVariants as save
 
 abbrev pub hexadecimal : ℕ → List ℕ
 hexadecimal n = codes "0x" ++ digits 16 false n
@@ -32,6 +36,7 @@ call_text (call.Peek addr count) = codes "peek " ++ hexadecimal addr.0 ++ codes 
 call_text (call.ReadReg its off size) = codes "read " ++ hexadecimal off ++ codes " " ++ decimal size
 call_text (call.WriteReg its off size value) = codes "write " ++ hexadecimal off ++ codes " " ++ decimal size ++ codes " " ++ hexadecimal value
 call_text (call.Step its) = codes "step"
+call_text call.Save = codes "save"
 
 unfoldable pub op_text : Op → List ℕ
 op_text op.Movi = codes "movi"
@@ -82,6 +87,22 @@ step_text (step.Ran name) = codes "ran " ++ op_text name
 step_text (step.Refused name why) = codes "refused " ++ op_text name ++ codes " " ++ reason_text why
 step_text (step.QueueFault addr) = codes "queue-fault " ++ hexadecimal addr.0
 
+unfoldable pub region_text : Region → List ℕ
+region_text region.Devices = codes "devices"
+region_text region.Level1 = codes "level1"
+region_text (region.Page k) = codes "page " ++ decimal k
+region_text region.Collections = codes "collections"
+region_text (region.Itt dev) = codes "itt " ++ decimal dev.0
+region_text (region.Pending vcpu) = codes "pending " ++ decimal vcpu.0
+region_text region.Config = codes "config"
+region_text (region.ConfigOf vcpu) = codes "config " ++ decimal vcpu.0
+region_text region.Queue = codes "queue"
+
+unfoldable pub save_fault_text : SaveFault → List ℕ
+save_fault_text (save.NoPlace dev) = codes "no-place " ++ decimal dev.0
+save_fault_text (save.Outside r) = codes "outside " ++ region_text r
+save_fault_text (save.Overlap r s) = codes "overlap " ++ region_text r ++ codes " " ++ region_text s
+
 unfoldable pub reply_text : Reply → List ℕ
 reply_text (reply.Signal s) = signal_text s
 reply_text (reply.Ack a) = ack_text a
@@ -90,6 +111,8 @@ reply_text reply.Outside = codes "outside"
 reply_text (reply.Bytes bytes) = codes "bytes " ++ encode_lower bytes
 reply_text (reply.Value value) = codes "value " ++ hexadecimal value
 reply_text (reply.Step s) = step_text s
+reply_text reply.Saved = codes "saved"
+reply_text (reply.SaveFault fault) = codes "save-fault " ++ save_fault_text fault
 
 -- a call and what it was answered
 unfoldable pub answered_text : Call → Reply → List ℕ

@@ -50,6 +50,7 @@ pub fn push_call(alloc: Global, out: &mut String, call: &Call) -> Result<(), All
             push_hexadecimal(out, *value)
         }
         Call::Step { its: _ } => out.push_str("step"),
+        Call::Save => out.push_str("save"),
     }
 }
 

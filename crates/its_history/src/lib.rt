@@ -3,6 +3,7 @@
 
 mod calls;
 mod errors;
+mod faults;
 mod numbers;
 mod replies;
 mod report;

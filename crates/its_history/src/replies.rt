@@ -2,6 +2,7 @@ ghost use Rattle.std.specs.Prelude.{◌≡◌, ◌++◌, OnOk};
 ghost use Rattle.std.specs.String.{string_bytes};
 ghost use Rattle.its_history.specs.Texts.{op_text, cause_text, reason_text, signal_text, ack_text, step_text, reply_text};
 
+use crate::faults::push_refused_save;
 use crate::numbers::{push_bytes, push_decimal, push_hexadecimal};
 use its_command::Op;
 use its_plain::{Ack, Cause, Reason, Reply, Signal, StepReply};
@@ -26,6 +27,8 @@ pub fn push_reply(alloc: Global, out: &mut String, reply: &Reply) -> Result<(), 
             push_hexadecimal(out, *value)
         }
         Reply::Step(step) => push_step(out, *step),
+        Reply::Saved => out.push_str("saved"),
+        Reply::SaveFault(fault) => push_refused_save(out, *fault),
     }
 }
 
