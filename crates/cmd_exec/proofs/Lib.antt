@@ -3,3 +3,9 @@ pub mod InHand
 pub mod Targets
 pub mod Walks
 pub mod Order
+pub mod Steps
+pub mod Lifted
+pub mod Planned
+pub mod Workable
+pub mod Readied
+pub mod Executed

@@ -1,5 +1,5 @@
 -- The LPIs of a collection, device by device and event by event.
-use Rattle.std.proofs.Common.{◌≡◌, ℕ, ◌+◌, ◌-◌, ◌^◌, ◌<◌, Bool, true, false, cond, ◌&&◌, eqb, List, [], ◌∷◌, ◌++◌, map, filter, Option, Some, None, inl, inr, refl, sym, ap, subst, ◌∙◌, append_assoc, append-nil}
+use Rattle.std.proofs.Common.{◌≡◌, ℕ, ◌+◌, ◌-◌, ◌^◌, ◌≤◌, Bool, true, false, cond, ◌&&◌, eqb, List, [], ◌∷◌, ◌++◌, map, filter, Option, Some, None, inl, inr, refl, sym, ap, subst, ◌∙◌, append_assoc, append-nil}
 use Rattle.std.specs.Prelude.{is_some}
 use Rattle.std.specs.List.{flat_map}
 use Rattle.std.proofs.lemmas.Bool.{cond-true, cond_both}
@@ -41,7 +41,7 @@ can_kept : (xs : List ℕ) (r r' : Redist) → r'.config.lpi_bits ≡ r.config.l
 can_kept [] r r' bits bases h = tt
 can_kept (x ∷ xs) r r' bits bases h = (record {
   lpi = ap (λ (n : ℕ). is_lpi n x) bits ∙ h.0.lpi;
-  low = subst (λ (b : Bases). b.on ≡ true → b.config.0 < 2 ^ 52) (sym bases) h.0.low;
+  low = subst (λ (b : Bases). b.on ≡ true → b.config.0 ≤ 2 ^ 52) (sym bases) h.0.low;
 }, can_kept xs r r' bits bases h.1)
 
 read_append : (memory : List Window) (xs ys : List ℕ) (r : Redistributor) → all_reread_at memory (xs ++ ys) r ≡ all_reread_at memory ys (all_reread_at memory xs r)
@@ -67,7 +67,7 @@ can_more memory xs ys r r' is h =
 
 -- ---- LPIs that move
 
-moved_takes : (x from to v y : ℕ) (rs : List (Option Redist)) → takes_lpi (lpi_moved_in x from to rs) v y ≡ takes_lpi rs v y
+pub moved_takes : (x from to v y : ℕ) (rs : List (Option Redist)) → takes_lpi (lpi_moved_in x from to rs) v y ≡ takes_lpi rs v y
 moved_takes x from to v y rs =
     cond_both (is_pending x (lpis_in rs from)) (changed to (with_set x) (changed from (with_cleared x) rs)) rs (λ (xs : List (Option Redist)). takes_lpi xs v y ≡ takes_lpi rs v y)
     (λ _. changed_takes to v y (with_set x) (changed from (with_cleared x) rs) ∙ changed_takes from v y (with_cleared x) rs) (λ _. refl)
@@ -76,7 +76,7 @@ all_moved_takes : (xs : List ℕ) (from to v y : ℕ) (rs : List (Option Redist)
 all_moved_takes [] from to v y rs = refl
 all_moved_takes (x ∷ xs) from to v y rs = all_moved_takes xs from to v y (lpi_moved_in x from to rs) ∙ moved_takes x from to v y rs
 
-takes_kept : (ys : List ℕ) (v : ℕ) (rs now : List (Option Redist)) → ((y : ℕ) → takes_lpi now v y ≡ takes_lpi rs v y) → TakesAll rs v ys → TakesAll now v ys
+pub takes_kept : (ys : List ℕ) (v : ℕ) (rs now : List (Option Redist)) → ((y : ℕ) → takes_lpi now v y ≡ takes_lpi rs v y) → TakesAll rs v ys → TakesAll now v ys
 takes_kept [] v rs now same h = tt
 takes_kept (y ∷ ys) v rs now same h = (same y ∙ h.0, takes_kept ys v rs now same h.1)
 

@@ -6,7 +6,6 @@ use Rattle.gits_regs.specs.Registers.{Registers, collection_places}
 use Rattle.baser_place.specs.Places.{device_place}
 use Rattle.its_command.specs.declared.command.Command.{Command}
 use Rattle.its_command.specs.declared.command.Command.TheVariants as command
-use Rattle.its_command.specs.declared.command.Op.{Op}
 use Rattle.its_types.specs.Ranges.{is_device_id, is_lpi}
 use Rattle.its_types.specs.Maps.{Maps, device_of, event_of, collection_of, device_mapped, device_unmapped, event_mapped, event_unmapped, collection_mapped, collection_unmapped}
 use Rattle.its_types.specs.declared.ids.DeviceId.{DeviceId}
@@ -18,23 +17,13 @@ use Rattle.its_types.specs.declared.machine.Profile.{Profile}
 use Rattle.its_types.specs.declared.machine.Profile.TheVariants.{One, Two}
 use Rattle.its_types.specs.declared.machine.Shape.{Shape}
 use Rattle.its_types.specs.declared.translation.Event.{Event}
-use Rattle.its_plain.specs.Plain.{Plain}
 use Rattle.its_plain.specs.Commands.{◌>>=◌, ensure, event_at, target_at, intids_of, all_reread_at}
-use Rattle.its_plain.specs.declared.call.CmdReply.{CmdReply}
-use Rattle.its_plain.specs.declared.call.CmdReply.TheVariants.{Ran, Refused}
 use Rattle.its_plain.specs.declared.call.Reason.{Reason}
 use Rattle.its_plain.specs.declared.call.Reason.TheVariants.{UnknownCommand, DeviceRange, SizeRange, TargetRange, CollectionRange, NoDevice, EventRange, IntidRange, LpisOff}
 use Rattle.lpi_pending.specs.declared.redist.Redist.{Redist}
 use Rattle.cmd_exec.specs.declared.effect.Effect.{Effect}
 use Rattle.cmd_exec.specs.declared.effect.Effect.TheVariants as effect
 use Rattle.cmd_exec.specs.InHand.{changed, changed_below, is_on_in, with_set, with_cleared, lpi_moved_in, lpis_moved_in, all_moved_in}
-
--- ---- replies
-
--- the reply to a command of this name that came to this
-abbrev pub reply_to : {A : Type 0} → Op → Result A Reason → CmdReply
-reply_to op (Ok after) = Ran op
-reply_to op (Err reason) = Refused op reason
 
 -- ---- devices and collections
 

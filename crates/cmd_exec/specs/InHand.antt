@@ -1,5 +1,5 @@
 -- What becomes of the redistributors in hand: their pending LPIs and their configurations (IHI 0069, section 5.1).
-use Rattle.std.specs.Prelude.{◌≡◌, ◌<◌, ℕ, zero, suc, ◌^◌, Bool, true, false, ◌==◌, if◌then◌else◌, List, [], ◌∷◌, slice_set, Option, Some, None}
+use Rattle.std.specs.Prelude.{◌≡◌, ◌≤◌, ℕ, zero, suc, ◌^◌, Bool, true, false, ◌==◌, if◌then◌else◌, List, [], ◌∷◌, slice_set, Option, Some, None}
 use Rattle.std.specs.Option.{option_map}
 use Rattle.guest_windows.specs.Windows.{Window}
 use Rattle.its_types.specs.Lpis.{is_pending, with_lpi, with_lpis, without_lpi}
@@ -88,7 +88,7 @@ takes_lpi redists vcpu intid = has_lpi intid (in_hand redists vcpu)
 -- the INTID is one of its LPIs, and its configuration table stands where memory can be
 pub record CanReread (r : Redist) (intid : ℕ) : Type 0 where
   pub lpi : is_lpi r.config.lpi_bits intid ≡ true
-  pub low : r.bases.on ≡ true → r.bases.config.0 < 2 ^ 52
+  pub low : r.bases.on ≡ true → r.bases.config.0 ≤ 2 ^ 52
 
 abbrev pub CanRereadAll : Redist → List ℕ → Type 0
 CanRereadAll r [] = Unit {0}

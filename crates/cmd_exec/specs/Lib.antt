@@ -4,3 +4,4 @@ pub mod Needs
 pub mod Room
 pub mod Ready
 pub mod Walked
+pub mod Executed

@@ -12,6 +12,7 @@ mod plan;
 mod registers;
 mod room;
 
+pub use execute::{answer, apply};
 pub use part_set::PartSet;
 pub use registers::access;
 pub use room::prepare;
