@@ -88,7 +88,7 @@ module _ (s : Shape) (r : Registers) (mr : MapsRoom) (memory : List Window) (rs 
   ran_is u i are =
       let maps_is : maps_of u i ≡ m = maps_are i s r memory u m rs are in
       let here : AreNeededInHand u.layout.shape (maps_of u i) c rs =
-          subst (λ (x : Maps). AreNeededInHand u.layout.shape x c rs) (sym maps_is) (subst (λ (x : Shape). AreNeededInHand x m c rs) (sym are.shape_is) needed) in
+      subst (λ (x : Maps). AreNeededInHand u.layout.shape x c rs) (sym maps_is) (subst (λ (x : Shape). AreNeededInHand x m c rs) (sym are.shape_is) needed) in
       planned_same u i rs are.redistributors_are c here
       ∙ ap (λ (x : Shape). by (left u i (maps_of u i)) (planned x (regs_of u i) (maps_of u i) u.memory rs c)) are.shape_is
       ∙ ap (λ (x : Registers). by (left u i (maps_of u i)) (planned s x (maps_of u i) u.memory rs c)) (regs_are i s r memory u m rs are)

@@ -83,7 +83,7 @@ moved_all rs taken left from to s t s' t' other has_s taken_is has_t s_is t_is l
     let once : List (Option Redist) = changed from with_none rs in
     let lpis : lpis_in rs from ≡ s.pending.lpis = ap held_lpis has_s in
     let at_to : in_hand once to ≡ Some t =
-        changed_there from to with_none rs other' ∙ sym (get_or-set_other rs from to None None other') ∙ ap (λ (xs : List (Option Redist)). in_hand xs to) (sym taken_is) ∙ has_t in
+    changed_there from to with_none rs other' ∙ sym (get_or-set_other rs from to None None other') ∙ ap (λ (xs : List (Option Redist)). in_hand xs to) (sym taken_is) ∙ has_t in
     left_is
     ∙ ap (λ (xs : List (Option Redist)). set (set xs to (Some t')) from (Some s')) taken_is
     ∙ set_comm (set rs from None) to from (Some t') (Some s') other'

@@ -9,3 +9,4 @@ pub mod Planned
 pub mod Workable
 pub mod Readied
 pub mod Executed
+pub mod Sets

@@ -97,9 +97,9 @@ changed_are u rs v f h = λ w r is.
           subst (λ (k : ℕ). IsRedistributorOf now k r) (sym here) (record {
             lpis = lpis_by u.layout.shape f x.0 r x.2 at.lpis;
             same =
-              set_get u.redistributors v (redistributor_of x.0) (f (redistributor u v)) at.same
-              ∙ ap (λ (y : Redistributor). Some (f y)) (redistributor_is u rs v x.0 h x.1)
-              ∙ ap (λ (y : Redist). Some (redistributor_of y)) x.2;
+                set_get u.redistributors v (redistributor_of x.0) (f (redistributor u v)) at.same
+                ∙ ap (λ (y : Redistributor). Some (f y)) (redistributor_is u rs v x.0 h x.1)
+                ∙ ap (λ (y : Redist). Some (redistributor_of y)) x.2;
           })
       | inr other ↦
           let at : IsRedistributorOf u w r = h w r (sym (changed_there v w f rs other) ∙ is) in
@@ -177,7 +177,7 @@ module _ (i : ℕ) (s : Shape) (r : Registers) (memory : List Window) where
       let t = is_pending x (lpis_in rs from) in
       let once : Are (lpi_cleared x from u) m (changed from (with_cleared x) rs) = one_are u m rs from (with_cleared x) h in
       let twice : Are (lpi_set x to (lpi_cleared x from u)) m (changed to (with_set x) (changed from (with_cleared x) rs)) =
-          one_are (lpi_cleared x from u) m (changed from (with_cleared x) rs) to (with_set x) once in
+      one_are (lpi_cleared x from u) m (changed from (with_cleared x) rs) to (with_set x) once in
       subst (λ (b : Bool). Are (cond b (lpi_set x to (lpi_cleared x from u)) u) m (cond t (changed to (with_set x) (changed from (with_cleared x) rs)) rs))
       (sym (ap (is_pending x) (lpis_same u rs from h.redistributors_are held))) (by_test t twice)
     where
@@ -207,7 +207,7 @@ module _ (i : ℕ) (s : Shape) (r : Registers) (memory : List Window) where
       let other : to ≡ from → ⊥ = λ (e : to ≡ from). eqb-false from to off (sym e) in
       let there : redistributor emptied to ≡ redistributor u to = get_or-set_other u.redistributors from to (with_none (redistributor u from)) no_redistributor other in
       let same : with_lpis lpis (pending_of emptied to) ≡ with_lpis (pending_of u from) (pending_of u to) =
-          ap (λ (x : Redistributor). with_lpis lpis x.pending) there ∙ ap (λ (xs : List ℕ). with_lpis xs (pending_of u to)) (sym (lpis_same u rs from h.redistributors_are held)) in
+      ap (λ (x : Redistributor). with_lpis lpis x.pending) there ∙ ap (λ (xs : List ℕ). with_lpis xs (pending_of u to)) (sym (lpis_same u rs from h.redistributors_are held)) in
       subst (λ (p : List ℕ). Are (with_pending emptied to p) m (changed to (with_all lpis) taken)) same filled)
     where
       by_test : (b : Bool) (x : Plain) (y : Hand) → (b ≡ false → Are x m y) → Are (cond b u x) m (cond b rs y)
@@ -262,8 +262,8 @@ went_on_are u i s r m memory rs h =
     record {
       shape_is = h.shape_is;
       translator_is =
-        set_get u.translators i (record { regs = r; maps = m }) (record (translator u i) { regs = advanced (regs_of u i) }) h.translator_is
-        ∙ ap made (get_or_from_slice_get u.translators i (record { regs = r; maps = m }) no_translator h.translator_is);
+          set_get u.translators i (record { regs = r; maps = m }) (record (translator u i) { regs = advanced (regs_of u i) }) h.translator_is
+          ∙ ap made (get_or_from_slice_get u.translators i (record { regs = r; maps = m }) no_translator h.translator_is);
       memory_is = h.memory_is;
       redistributors_are = same_redistributors u (set u.translators i (record (translator u i) { regs = advanced (regs_of u i) })) rs h.redistributors_are;
     }

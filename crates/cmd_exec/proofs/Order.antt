@@ -159,9 +159,10 @@ has_found n (d ∷ ds) e =
 -- and what holds of all that are found holds of each entry
 all_found : (P : ℕ → Type 0) (xs : Entries) → ((q : ℕ × ℕ) → is_some (find pair_cmp q xs) ≡ true → P q.0) → AllByRecursion (λ e. P e.0.0) xs
 all_found P [] h = tt
-all_found P (x ∷ xs) h =
-    (h x.0 (ap (λ (o : Ordering). is_some (cond (is_eq o) (Some x.1) (find pair_cmp x.0 xs))) (tied_itself pair_total x.0)),
-    all_found P xs (λ q found. h q (cond_both (eq_by_cmp pair_cmp q x.0) (Some x.1) (find pair_cmp q xs) (λ (o : Option Event). is_some o ≡ true) (λ _. refl) (λ _. found))))
+all_found P (x ∷ xs) h = (
+  h x.0 (ap (λ (o : Ordering). is_some (cond (is_eq o) (Some x.1) (find pair_cmp x.0 xs))) (tied_itself pair_total x.0)),
+  all_found P xs (λ q found. h q (cond_both (eq_by_cmp pair_cmp q x.0) (Some x.1) (find pair_cmp q xs) (λ (o : Option Event). is_some o ≡ true) (λ _. refl) (λ _. found))),
+)
 
 all_have : (m : Maps) → EventsHaveDevices m → AllHave (entries m.devices) (entries m.events)
 all_have m h =

@@ -81,9 +81,10 @@ later_found q x xs e t is =
 
 each_event : (P : Event → Type 0) (xs : Entries) → T (is_sorted pair_cmp xs) → ((q : ℕ × ℕ) (e : Event) → find pair_cmp q xs ≡ Some e → P e) → AllByRecursion (λ x. P x.1) xs
 each_event P [] t h = tt
-each_event P (x ∷ xs) t h =
-    (h x.0 x.1 (ap (λ (o : Ordering). cond (is_eq o) (Some x.1) (find pair_cmp x.0 xs)) (tied_itself pair_total x.0)),
-    each_event P xs (second _ _ t) (λ q e is. h q e (later_found q x xs e (first _ _ t) is)))
+each_event P (x ∷ xs) t h = (
+  h x.0 x.1 (ap (λ (o : Ordering). cond (is_eq o) (Some x.1) (find pair_cmp x.0 xs)) (tied_itself pair_total x.0)),
+  each_event P xs (second _ _ t) (λ q e is. h q e (later_found q x xs e (first _ _ t) is)),
+)
 
 each_picked : (P : ℕ → Type 0) (icid : ℕ) (xs : Entries) → AllByRecursion (λ x. P x.1.intid.0) xs → AllByRecursion P (map (λ x. x.1.intid.0) (filter (λ x. eqb x.1.icid.0 icid) xs))
 each_picked P icid [] h = tt
@@ -201,11 +202,12 @@ module _ (s : Shape) (mr : MapsRoom) (rs : List (Option Redist)) (can : IsWorkab
       found (IsReady s mr rs) (collection_of m icid.0) NoCollection _ (λ to is_to.
       passed (IsReady s mr rs) (is_on_in rs from.0 && is_on_in rs to.0) LpisOff _ (λ _.
       let is = event_is m dev.0 ev.0 event at in
-      let lpi = can.events dev.0 ev.0 event is in
-      (subst (λ (o : Option Event). IfSome o (λ e. e.intid ≡ event.intid)) (sym is) refl,
-      ap is_some is,
-      takes from.0 event.intid.0 (subst (IsTargetInHand rs) (target_is m dev.0 ev.0 event at ∙ is_from) old) lpi,
-      takes to.0 event.intid.0 (subst (IsTargetInHand rs) is_to new) lpi)))))
+      let lpi = can.events dev.0 ev.0 event is in (
+        subst (λ (o : Option Event). IfSome o (λ e. e.intid ≡ event.intid)) (sym is) refl,
+        ap is_some is,
+        takes from.0 event.intid.0 (subst (IsTargetInHand rs) (target_is m dev.0 ev.0 event at ∙ is_from) old) lpi,
+        takes to.0 event.intid.0 (subst (IsTargetInHand rs) is_to new) lpi,
+      )))))
 
   lpi_ready : (dev : DeviceId) (ev : EventId) → IsTargetInHand rs (target_of_event m dev.0 ev.0) → IfOk (parts.lpi_at m rs dev ev) (λ lpi. takes_lpi rs lpi.1.0 lpi.0.0 ≡ true)
   unfolding parts.lpi_at

@@ -56,7 +56,7 @@ moved_held Two rs None to h = tt
 moved_held Two rs (Some from) to h = λ other.
     both_held rs from.0 to (subst (AreHeld rs) (cond-false (eqb from.0 to) [] (redist from.0 ∷ redist to ∷ []) other) h)
 
-has_append : (v : ℕ) (ps qs : List Part) → has_redist v (ps ++ qs) ≡ (has_redist v ps || has_redist v qs)
+pub has_append : (v : ℕ) (ps qs : List Part) → has_redist v (ps ++ qs) ≡ (has_redist v ps || has_redist v qs)
 has_append v [] qs = refl
 has_append v (p ∷ ps) qs = ap (λ (b : Bool). is_redist v p || b) (has_append v ps qs) ∙ sym (or_assoc (is_redist v p) (has_redist v ps) (has_redist v qs))
   where

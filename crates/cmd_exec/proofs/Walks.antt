@@ -39,10 +39,13 @@ bases_all_read memory (x ∷ xs) r = bases_all_read memory xs (reread_at memory 
 
 can_kept : (xs : List ℕ) (r r' : Redist) → r'.config.lpi_bits ≡ r.config.lpi_bits → r'.bases ≡ r.bases → CanRereadAll r xs → CanRereadAll r' xs
 can_kept [] r r' bits bases h = tt
-can_kept (x ∷ xs) r r' bits bases h = (record {
-  lpi = ap (λ (n : ℕ). is_lpi n x) bits ∙ h.0.lpi;
-  low = subst (λ (b : Bases). b.on ≡ true → b.config.0 ≤ 2 ^ 52) (sym bases) h.0.low;
-}, can_kept xs r r' bits bases h.1)
+can_kept (x ∷ xs) r r' bits bases h = (
+  record {
+    lpi = ap (λ (n : ℕ). is_lpi n x) bits ∙ h.0.lpi;
+    low = subst (λ (b : Bases). b.on ≡ true → b.config.0 ≤ 2 ^ 52) (sym bases) h.0.low;
+  },
+  can_kept xs r r' bits bases h.1,
+)
 
 read_append : (memory : List Window) (xs ys : List ℕ) (r : Redistributor) → all_reread_at memory (xs ++ ys) r ≡ all_reread_at memory ys (all_reread_at memory xs r)
 read_append memory [] ys r = refl

@@ -64,17 +64,16 @@ workable_by s r m memory rs u i same sound are =
       vcpus = sound.layout.shape.most_vcpus;
       events = λ dev ev e is. (t.events dev ev e is).lpi;
       devices = λ dev ev is.
-        let e = some_event (event_of m dev ev) is in
-        let at : IsEvent u.layout.shape m dev ev e.0 = t.events dev ev e.0 e.1 in
-        some_device (device_of m dev) at.device at.device_is;
+          let e = some_event (event_of m dev ev) is in
+          let at : IsEvent u.layout.shape m dev ev e.0 = t.events dev ev e.0 e.1 in
+          some_device (device_of m dev) at.device at.device_is;
       below = λ v x is. omega (arith, slice_get_within u.redistributors v (redistributor_of x) (are.redistributors_are v x is).same, sound.vcpus);
       lpis = λ v x is. (are.redistributors_are v x is).lpis;
       low = λ v x is on.
-        let at : IsRedistributor u.layout u.memory v (redistributor_of x) = sound.redistributors v (redistributor_of x) (are.redistributors_are v x is).same in
-
-        let end : x.bases.config.0 + lpi_count u.layout.shape.lpi_bits ≤ 2 ^ 52 =
-            stretch_is_low u.memory x.bases.config.0 (lpi_count u.layout.shape.lpi_bits) (ranges u.memory sound.memory) (at.tables on).config in
-        omega (arith, end);
+          let at : IsRedistributor u.layout u.memory v (redistributor_of x) = sound.redistributors v (redistributor_of x) (are.redistributors_are v x is).same in
+          let end : x.bases.config.0 + lpi_count u.layout.shape.lpi_bits ≤ 2 ^ 52 =
+          stretch_is_low u.memory x.bases.config.0 (lpi_count u.layout.shape.lpi_bits) (ranges u.memory sound.memory) (at.tables on).config in
+          omega (arith, end);
     })
 
 pub workable : (s : Shape) (r : Registers) (m : Maps) (memory : List Window) (rs : List (Option Redist)) → ArePartsOfSound s r m memory rs → IsWorkable s m rs

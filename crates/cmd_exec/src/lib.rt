@@ -11,8 +11,11 @@ mod part_set;
 mod plan;
 mod registers;
 mod room;
+mod walk;
 
 pub use execute::{answer, apply};
+pub use needed::needs;
 pub use part_set::PartSet;
 pub use registers::access;
 pub use room::prepare;
+pub use walk::RedistWalk;

@@ -52,8 +52,8 @@ impl<'a> InHand<'a> {
         ensures value { result ≡ commands.event_at self.now.maps.now.maps dev.0 ev.0 }
         ensures target { IfOk result (λ e. target_of_event self.now.maps.now.maps dev.0 ev.0 ≡ maps.collection_of self.now.maps.now.maps e.icid.0) }
     {
-        let (_, bits) = self.maps.device(dev).ok_or(Reason::NoDevice)?;
-        ensure(fits_bits(ev.0, bits), Reason::EventRange)?;
+        let (_, id_bits) = self.maps.device(dev).ok_or(Reason::NoDevice)?;
+        ensure(fits_bits(ev.0, id_bits), Reason::EventRange)?;
         let (intid, icid) = self.maps.event(dev, ev).ok_or(Reason::NoEvent)?;
         Ok(Event { intid, icid })
     }

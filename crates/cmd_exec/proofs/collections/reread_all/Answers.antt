@@ -34,7 +34,7 @@ loop-dev-preserved c =
     let here = lpis_of (events_at m c.in-Some.dev.0) icid in let rest = lpis_of_all m c.next.new.self icid in
     let is : lpis_of_all m c.loop-dev.dev-iterator icid ≡ here ++ rest = ap (λ (ds : List (ℕ × Device)). lpis_of_all m ds icid) c.in-Some.ensures.steps in
     let read : now ≡ redist_by (all_reread_at memory here) r =
-        c.reread_all_of.ensures ∙ ap (λ (es : List (ℕ × Event)). redist_by (all_reread_at memory (lpis_of es icid)) r) c.events.ensures in
+    c.reread_all_of.ensures ∙ ap (λ (es : List (ℕ × Event)). redist_by (all_reread_at memory (lpis_of es icid)) r) c.events.ensures in
     record {
       rest = read_some memory here rest r now read ∙ ap (λ (xs : List ℕ). redist_by (all_reread_at memory xs) r) (sym is) ∙ c.loop-dev.invariant.rest;
       can = can_more memory here rest r now read (subst (CanRereadAll r) is c.loop-dev.invariant.can);

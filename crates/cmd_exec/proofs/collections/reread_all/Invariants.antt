@@ -8,6 +8,6 @@ use Rattle.cmd_exec.proofs.collections.reread_all.Given as goal
 abbrev pub invariant-loop-dev : goal.invariant-loop-dev
 invariant-loop-dev l = record {
   rest : redist_by (all_reread_at l.memory (lpis_of_all l.maps.maps l.dev-iterator l.icid.0)) l.redist
-  ≡ redist_by (all_reread_at l.memory (lpis_of_all l.maps.maps (entries l.maps.maps.devices) l.icid.0)) l.initial.redist;
+      ≡ redist_by (all_reread_at l.memory (lpis_of_all l.maps.maps (entries l.maps.maps.devices) l.icid.0)) l.initial.redist;
   can : CanRereadAll l.redist (lpis_of_all l.maps.maps l.dev-iterator l.icid.0);
 }
