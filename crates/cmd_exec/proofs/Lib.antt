@@ -1,0 +1,12 @@
+pub mod Opened
+pub mod InHand
+pub mod Targets
+pub mod Walks
+pub mod Order
+pub mod Steps
+pub mod Lifted
+pub mod Planned
+pub mod Workable
+pub mod Readied
+pub mod Executed
+pub mod Sets

@@ -1,0 +1,283 @@
+-- A command that isn't refused has an effect that can be had on the parts of a sound state.
+use Rattle.std.proofs.Common.{◌≡◌, ℕ, ◌^◌, ◌<◌, ◌≤◌, Bool, true, false, ◌&&◌, not, cond, eqb, nat_lt, nat_le, List, [], ◌∷◌, map, filter, Option, Some, None, Result, Ok, Err, IfOk, refl, sym, ap, subst, ◌∙◌, arith}
+use Rattle.std.specs.Prelude.{is_some, IsSome, IfSome}
+use Rattle.std.specs.Option.{ok_or}
+use Rattle.std.specs.List.{AllByRecursion}
+use Rattle.std.specs.Ordering.{is_lt, is_eq, eq_by_cmp}
+use Rattle.std.specs.declared.cmp.Ordering.{Ordering}
+use Rattle.std.specs.declared.cmp.Ordering.TheVariants.{Less, Equal, Greater}
+use Rattle.std.specs.Cmp.{tied_itself}
+use Rattle.std.specs.FinMap.{find, entries, is_sorted, entries_sorted, get-entries}
+use Rattle.std.specs.FinMap.Entries.{below_all}
+use Rattle.std.proofs.lemmas.Bool.{ltb-true, and_parts, both_ways, cond-true, cond-false, cond_both, eqb-true, cases_Bool}
+use lib.Dec.{T}
+use Rattle.baser_place.specs.Places.{device_place}
+use Rattle.gits_regs.specs.Registers.{Registers, collection_places}
+use Rattle.guest_windows.specs.Windows.{Window}
+use Rattle.its_command.specs.declared.command.Command.{Command}
+use Rattle.its_command.specs.declared.command.Command.TheVariants as command
+use Rattle.its_types.specs.Ranges.{is_device_id, is_lpi}
+use Rattle.its_types.specs.Maps.{Maps, pair_cmp, device_of, event_of, collection_of}
+use Rattle.its_types.specs.declared.ids.DeviceId.{DeviceId}
+use Rattle.its_types.specs.declared.ids.EventId.{EventId}
+use Rattle.its_types.specs.declared.ids.Icid.{Icid}
+use Rattle.its_types.specs.declared.ids.Intid.{Intid}
+use Rattle.its_types.specs.declared.ids.Vcpu.{Vcpu}
+use Rattle.its_types.specs.declared.machine.Profile.{Profile}
+use Rattle.its_types.specs.declared.machine.Profile.TheVariants.{One, Two}
+use Rattle.its_types.specs.declared.machine.Shape.{Shape}
+use Rattle.its_types.specs.declared.translation.Event.{Event}
+use Rattle.its_maps.specs.MapsRoom.{MapsRoom, event_room}
+use Rattle.its_maps.proofs.Rising.{first, second}
+use Rattle.its_maps.proofs.PairOrder.{pair_total, pair_tied}
+use Rattle.its_plain.specs.Parts.{target_of_event}
+use Rattle.its_plain.specs.Commands.{◌>>=◌, event_at, intids_of}
+use Rattle.its_plain.specs.declared.call.Reason.{Reason}
+use Rattle.its_plain.specs.declared.call.Reason.TheVariants.{DeviceRange, SizeRange, TargetRange, CollectionRange, NoDevice, EventRange, IntidRange, NoCollection, LpisOff}
+use Rattle.lpi_pending.specs.InHand.{in_hand}
+use Rattle.lpi_pending.specs.declared.redist.Redist.{Redist}
+use Rattle.owned_parts.specs.Owned.{HasLpisOf}
+use Rattle.cmd_exec.specs.declared.effect.Effect.{Effect}
+use Rattle.cmd_exec.specs.declared.effect.Effect.TheVariants as effect
+use Rattle.cmd_exec.specs.InHand.{is_on_in, takes_lpi, CanReread, CanRereadAll}
+use Rattle.cmd_exec.specs.Effects as parts
+use Rattle.cmd_exec.specs.Effects.{targeted, moved, added}
+use Rattle.cmd_exec.specs.Needs.{AreNeededInHand}
+use Rattle.cmd_exec.specs.Ready.{IsReady, IsTargetInHand, AreBothInHand, AreTargetsInHand, TakesAll, TakesIfMapped, HaveSameLpis, HeldCanReread, CanEachReread}
+use Rattle.cmd_exec.specs.Room.{grows, room_for, adds_event, IsPrepared}
+use Rattle.cmd_exec.proofs.Steps.{passed, found, ran, event_is, target_is}
+use Rattle.cmd_exec.proofs.Lifted.{held_by}
+use Rattle.cmd_exec.proofs.Targets.{movi_old, movi_new, int_target, clear_target, discard_target, mapc_targets, movall_targets, mapti_each, mapi_each, inv_each, invall_each}
+use Rattle.cmd_exec.proofs.Workable.{IsWorkable}
+
+-- ---- what holds of each event holds of each entry
+
+not_eq : (o : Ordering) → T (is_lt o) → is_eq o ≡ false
+not_eq Less t = refl
+not_eq Equal t = absurd t
+not_eq Greater t = absurd t
+
+abbrev Entries : Type 0
+Entries = List ((ℕ × ℕ) × Event)
+
+none_below : (x : ℕ × ℕ) (xs : Entries) → T (below_all pair_cmp x xs) → find pair_cmp x xs ≡ None
+none_below x [] t = refl
+none_below x (y ∷ ys) t =
+    cond-false (eq_by_cmp pair_cmp x y.0) (Some y.1) (find pair_cmp x ys) (not_eq (pair_cmp x y.0) (first _ _ t)) ∙ none_below x ys (second _ _ t)
+
+-- a key found among later ones isn't the first
+later_found : (q : ℕ × ℕ) (x : (ℕ × ℕ) × Event) (xs : Entries) (e : Event) → T (below_all pair_cmp x.0 xs) → find pair_cmp q xs ≡ Some e → find pair_cmp q (x ∷ xs) ≡ Some e
+later_found q x xs e t is =
+    cond_both (eq_by_cmp pair_cmp q x.0) (Some x.1) (find pair_cmp q xs) (λ (o : Option Event). o ≡ Some e)
+    (λ tied.
+    let same = and_parts (eqb q.0 x.0.0) (eqb q.1 x.0.1) (sym (pair_tied q x.0) ∙ tied) in
+    let key : q ≡ x.0 = ap (λ (a : ℕ). (a, q.1)) (eqb-true q.0 x.0.0 same.0) ∙ ap (λ (b : ℕ). (x.0.0, b)) (eqb-true q.1 x.0.1 same.1) in
+    let none : find pair_cmp q xs ≡ None = ap (λ (k : ℕ × ℕ). find pair_cmp k xs) key ∙ none_below x.0 xs t in
+    absurd (not_some (find pair_cmp q xs) e none is))
+    (λ _. is)
+  where
+    not_some : (o : Option Event) (e : Event) → o ≡ None → o ≡ Some e → ⊥
+    not_some o e a b = cc
+
+each_event : (P : Event → Type 0) (xs : Entries) → T (is_sorted pair_cmp xs) → ((q : ℕ × ℕ) (e : Event) → find pair_cmp q xs ≡ Some e → P e) → AllByRecursion (λ x. P x.1) xs
+each_event P [] t h = tt
+each_event P (x ∷ xs) t h = (
+  h x.0 x.1 (ap (λ (o : Ordering). cond (is_eq o) (Some x.1) (find pair_cmp x.0 xs)) (tied_itself pair_total x.0)),
+  each_event P xs (second _ _ t) (λ q e is. h q e (later_found q x xs e (first _ _ t) is)),
+)
+
+each_picked : (P : ℕ → Type 0) (icid : ℕ) (xs : Entries) → AllByRecursion (λ x. P x.1.intid.0) xs → AllByRecursion P (map (λ x. x.1.intid.0) (filter (λ x. eqb x.1.icid.0 icid) xs))
+each_picked P icid [] h = tt
+each_picked P icid (x ∷ xs) h = by_test (each_picked P icid xs h.1) (eqb x.1.icid.0 icid)
+  where
+    by_test : AllByRecursion P (map (λ (y : (ℕ × ℕ) × Event). y.1.intid.0) (filter (λ (y : (ℕ × ℕ) × Event). eqb y.1.icid.0 icid) xs)) → (b : Bool)
+        → AllByRecursion P (map (λ (y : (ℕ × ℕ) × Event). y.1.intid.0) (cond b (x ∷ filter (λ (y : (ℕ × ℕ) × Event). eqb y.1.icid.0 icid) xs) (filter (λ (y : (ℕ × ℕ) × Event). eqb y.1.icid.0 icid) xs)))
+    by_test rest true = (h.0, rest)
+    by_test rest false = rest
+
+module _ (s : Shape) (mr : MapsRoom) (rs : List (Option Redist)) (can : IsWorkable s mr.maps rs) where
+  abbrev m : Maps
+  m = mr.maps
+
+  abbrev IsLpi : ℕ → Type 0
+  IsLpi x = is_lpi s.lpi_bits x ≡ true
+
+  lpis_of_collection : (icid : ℕ) → AllByRecursion IsLpi (intids_of m icid)
+  lpis_of_collection icid =
+      each_picked IsLpi icid (entries m.events) (each_event (λ e. IsLpi e.intid.0) (entries m.events) (entries_sorted m.events) (λ q e is. can.events q.0 q.1 e (get-entries m.events q ∙ is)))
+
+  -- ---- redistributors in hand
+
+  takes : (v x : ℕ) → is_some (in_hand rs v) ≡ true → IsLpi x → takes_lpi rs v x ≡ true
+  takes v x held lpi =
+      let r = held_by (in_hand rs v) held in
+      ap (λ (o : Option Redist). takes_lpi (o ∷ []) 0 x) r.1 ∙ ap (λ (n : ℕ). is_lpi n x) (can.lpis v r.0 r.1).pending_bits ∙ lpi
+
+  takes_all : (v : ℕ) (xs : List ℕ) → is_some (in_hand rs v) ≡ true → AllByRecursion IsLpi xs → TakesAll rs v xs
+  takes_all v [] held lpis = tt
+  takes_all v (x ∷ xs) held lpis = (takes v x held lpis.0, takes_all v xs held lpis.1)
+
+  takes_target : (o : Option Vcpu) (x : ℕ) → IsTargetInHand rs o → IsLpi x → TakesIfMapped rs o x
+  takes_target None x held lpi = tt
+  takes_target (Some v) x held lpi = takes v.0 x held lpi
+
+  can_all : (v : ℕ) (r : Redist) (xs : List ℕ) → in_hand rs v ≡ Some r → AllByRecursion IsLpi xs → CanRereadAll r xs
+  can_all v r [] is lpis = tt
+  can_all v r (x ∷ xs) is lpis = (record { lpi = ap (λ (n : ℕ). is_lpi n x) (can.lpis v r is).config_bits ∙ lpis.0; low = can.low v r is }, can_all v r xs is lpis.1)
+
+  can_each : (xs : List ℕ) → ((v : ℕ) → v < s.vcpus → is_some (in_hand rs v) ≡ true) → AllByRecursion IsLpi xs → CanEachReread s.vcpus rs xs
+  can_each xs held lpis = λ v lt.
+      let r = held_by (in_hand rs v) (held v lt) in
+      subst (λ (o : Option Redist). HeldCanReread o xs) (sym r.1) (can_all v r.0 xs r.1 lpis)
+
+  -- ---- commands
+
+  abbrev Readies : Result Effect Reason → Type 0
+  Readies x = IfOk x (IsReady s mr rs)
+
+  not_there : {A : Type 0} (o : Option A) → o ≡ None → not (is_some o) ≡ true
+  not_there None e = refl
+  not_there (Some x) e = absurd cc
+
+  mapd_ready : (r : Registers) (memory : List Window) (dev : DeviceId) (bits itt : ℕ) → IsPrepared mr (command.Mapd dev bits itt true) → Readies (parts.mapd r memory dev bits itt)
+  unfolding parts.mapd IsReady grows room_for
+  mapd_ready r memory dev bits itt prepared =
+      passed (IsReady s mr rs) (is_some (device_place r memory dev.0)) DeviceRange _ (λ _.
+      passed (IsReady s mr rs) (nat_le bits 16) SizeRange _ (λ _ none. prepared (not_there (device_of m dev.0) none)))
+
+  unmapd_ready : (dev : DeviceId) → Readies (parts.unmapd s dev)
+  unfolding parts.unmapd IsReady
+  unmapd_ready dev = passed (IsReady s mr rs) (is_device_id s.dev_bits dev.0) DeviceRange _ (λ _. tt)
+
+  abbrev HasRoom : Icid → Type 0
+  HasRoom icid = collection_of m icid.0 ≡ None → 1 ≤ mr.room.collections
+
+  targeted_ready : (p : Profile) (icid : Icid) (o : Option Vcpu) (to : Vcpu) → HasRoom icid → AreTargetsInHand rs p o to.0 → IsReady s mr rs (targeted p rs icid o to)
+  unfolding IsReady
+  targeted_ready One icid o to room held = room
+  targeted_ready Two icid None to room held = room
+  targeted_ready Two icid (Some from) to room held = by_same (eqb from.0 to.0) held
+    where
+      by_on : (b : Bool) → (is_some (in_hand rs from.0) ≡ true) × (is_some (in_hand rs to.0) ≡ true) → IsReady s mr rs (cond b (effect.MoveCollection icid from to) (effect.MapCollection icid to))
+      by_on true h = (room, can.devices, takes_all from.0 (intids_of m icid.0) h.0 (lpis_of_collection icid.0), takes_all to.0 (intids_of m icid.0) h.1 (lpis_of_collection icid.0))
+      by_on false h = room
+
+      by_same : (t : Bool) → (t ≡ false → (is_some (in_hand rs from.0) ≡ true) × (is_some (in_hand rs to.0) ≡ true))
+          → IsReady s mr rs (cond t (effect.MapCollection icid to) (moved rs icid from to))
+      by_same true g = room
+      by_same false g = by_on (is_on_in rs from.0 && is_on_in rs to.0) (g refl)
+
+  mapc_ready : (r : Registers) (icid : Icid) (target : ℕ) → IsPrepared mr (command.Mapc icid target true)
+      → (target < s.vcpus → AreTargetsInHand rs s.profile (collection_of m icid.0) target) → Readies (parts.mapc s r m rs icid target)
+  unfolding parts.mapc grows room_for
+  mapc_ready r icid target prepared held =
+      passed (IsReady s mr rs) (nat_lt target s.vcpus) TargetRange _ (λ below.
+      passed (IsReady s mr rs) (nat_lt icid.0 (collection_places r)) CollectionRange _ (λ _.
+      targeted_ready s.profile icid (collection_of m icid.0) (record { 0 = target }) (λ none. prepared (not_there (collection_of m icid.0) none)) (held (ltb-true target s.vcpus below))))
+
+  added_ready : (dev : DeviceId) (ev : EventId) (event : Event) → IsSome (device_of m dev.0) → (event_of m dev.0 ev.0 ≡ None → 1 ≤ event_room mr.room dev.0)
+      → CanEachReread s.vcpus rs (event.intid.0 ∷ []) → IsReady s mr rs (added m dev ev event)
+  unfolding IsReady
+  added_ready dev ev event mapped room each =
+      cond_both (is_some (event_of m dev.0 ev.0)) effect.Nothing (effect.MapEvent dev ev event) (IsReady s mr rs) (λ _. tt) (λ _. (mapped, room, each))
+
+  mapti_ready : (r : Registers) (dev : DeviceId) (ev : EventId) (intid : Intid) (icid : Icid) → (adds_event m dev.0 ev.0 ≡ true → 1 ≤ event_room mr.room dev.0)
+      → ((v : ℕ) → v < s.vcpus → is_some (in_hand rs v) ≡ true) → Readies (parts.mapti s r m dev ev intid icid)
+  unfolding parts.mapti
+  mapti_ready r dev ev intid icid room held =
+      found (IsReady s mr rs) (device_of m dev.0) NoDevice _ (λ device is.
+      passed (IsReady s mr rs) (nat_lt ev.0 (2 ^ device.bits)) EventRange _ (λ _.
+      passed (IsReady s mr rs) (is_lpi s.lpi_bits intid.0) IntidRange _ (λ lpi.
+      passed (IsReady s mr rs) (nat_lt icid.0 (collection_places r)) CollectionRange _ (λ _.
+      let mapped : is_some (device_of m dev.0) ≡ true = ap is_some is in
+      added_ready dev ev (record { intid = intid; icid = icid }) mapped
+      (λ none. room (ap (λ (b : Bool). b && not (is_some (event_of m dev.0 ev.0))) mapped ∙ not_there (event_of m dev.0 ev.0) none))
+      (can_each (intid.0 ∷ []) held (lpi, tt))))))
+
+  movi_ready : (dev : DeviceId) (ev : EventId) (icid : Icid) → IsTargetInHand rs (target_of_event m dev.0 ev.0) → IsTargetInHand rs (collection_of m icid.0) → Readies (parts.movi m rs dev ev icid)
+  unfolding parts.movi IsReady
+  movi_ready dev ev icid old new =
+      ran (IsReady s mr rs) (event_at m dev.0 ev.0) _ (λ event at.
+      found (IsReady s mr rs) (collection_of m event.icid.0) NoCollection _ (λ from is_from.
+      found (IsReady s mr rs) (collection_of m icid.0) NoCollection _ (λ to is_to.
+      passed (IsReady s mr rs) (is_on_in rs from.0 && is_on_in rs to.0) LpisOff _ (λ _.
+      let is = event_is m dev.0 ev.0 event at in
+      let lpi = can.events dev.0 ev.0 event is in (
+        subst (λ (o : Option Event). IfSome o (λ e. e.intid ≡ event.intid)) (sym is) refl,
+        ap is_some is,
+        takes from.0 event.intid.0 (subst (IsTargetInHand rs) (target_is m dev.0 ev.0 event at ∙ is_from) old) lpi,
+        takes to.0 event.intid.0 (subst (IsTargetInHand rs) is_to new) lpi,
+      )))))
+
+  lpi_ready : (dev : DeviceId) (ev : EventId) → IsTargetInHand rs (target_of_event m dev.0 ev.0) → IfOk (parts.lpi_at m rs dev ev) (λ lpi. takes_lpi rs lpi.1.0 lpi.0.0 ≡ true)
+  unfolding parts.lpi_at
+  lpi_ready dev ev target =
+      let P : Intid × Vcpu → Type 0 = λ (lpi : Intid × Vcpu). takes_lpi rs lpi.1.0 lpi.0.0 ≡ true in
+      ran P (event_at m dev.0 ev.0) _ (λ event at.
+      found P (collection_of m event.icid.0) NoCollection _ (λ vcpu is.
+      passed P (is_on_in rs vcpu.0) LpisOff _ (λ _.
+      takes vcpu.0 event.intid.0 (subst (IsTargetInHand rs) (target_is m dev.0 ev.0 event at ∙ is) target) (can.events dev.0 ev.0 event (event_is m dev.0 ev.0 event at)))))
+
+  with_lpi : (x : Result (Intid × Vcpu) Reason) (f : Intid × Vcpu → Effect) → IfOk x (λ lpi. IsReady s mr rs (f lpi)) → Readies (x >>= λ lpi. Ok (f lpi))
+  with_lpi (Ok lpi) f h = h
+  with_lpi (Err e) f h = tt
+
+  int_ready : (dev : DeviceId) (ev : EventId) → IsTargetInHand rs (target_of_event m dev.0 ev.0) → Readies (parts.int m rs dev ev)
+  unfolding parts.int IsReady
+  int_ready dev ev target = with_lpi (parts.lpi_at m rs dev ev) (λ (lpi : Intid × Vcpu). effect.SetLpi lpi.0 lpi.1) (lpi_ready dev ev target)
+
+  clear_ready : (dev : DeviceId) (ev : EventId) → IsTargetInHand rs (target_of_event m dev.0 ev.0) → Readies (parts.clear m rs dev ev)
+  unfolding parts.clear IsReady
+  clear_ready dev ev target = with_lpi (parts.lpi_at m rs dev ev) (λ (lpi : Intid × Vcpu). effect.ClearLpi lpi.0 lpi.1) (lpi_ready dev ev target)
+
+  discard_ready : (dev : DeviceId) (ev : EventId) → IsTargetInHand rs (target_of_event m dev.0 ev.0) → Readies (parts.discard m dev ev)
+  unfolding parts.discard IsReady
+  discard_ready dev ev target =
+      ran (IsReady s mr rs) (event_at m dev.0 ev.0) _ (λ event at.
+      takes_target (collection_of m event.icid.0) event.intid.0 (subst (IsTargetInHand rs) (target_is m dev.0 ev.0 event at) target) (can.events dev.0 ev.0 event (event_is m dev.0 ev.0 event at)))
+
+  inv_ready : (dev : DeviceId) (ev : EventId) → ((v : ℕ) → v < s.vcpus → is_some (in_hand rs v) ≡ true) → Readies (parts.inv m dev ev)
+  unfolding parts.inv IsReady
+  inv_ready dev ev held =
+      ran (IsReady s mr rs) (event_at m dev.0 ev.0) _ (λ event at. can_each (event.intid.0 ∷ []) held (can.events dev.0 ev.0 event (event_is m dev.0 ev.0 event at), tt))
+
+  invall_ready : (icid : Icid) → ((v : ℕ) → v < s.vcpus → is_some (in_hand rs v) ≡ true) → Readies (parts.invall m icid)
+  unfolding parts.invall IsReady
+  invall_ready icid held =
+      found (IsReady s mr rs) (collection_of m icid.0) NoCollection _ (λ _ _. (can.devices, can_each (intids_of m icid.0) held (lpis_of_collection icid.0)))
+
+  same_lpis : (a b : Option Redist) (x y : Redist) → a ≡ Some x → b ≡ Some y → x.pending.lpi_bits ≡ y.pending.lpi_bits → HaveSameLpis a b
+  same_lpis a b x y ax bx same = subst (λ (o : Option Redist). HaveSameLpis o b) (sym ax) (subst (HaveSameLpis (Some x)) (sym bx) same)
+
+  movall_ready : (from to : ℕ) → (from < s.vcpus → to < s.vcpus → AreBothInHand rs from to) → Readies (parts.movall s rs from to)
+  unfolding parts.movall IsReady
+  movall_ready from to h =
+      passed (IsReady s mr rs) (nat_lt from s.vcpus && nat_lt to s.vcpus) TargetRange _ (λ below.
+      passed (IsReady s mr rs) (is_on_in rs from && is_on_in rs to) LpisOff _ (λ _.
+      let both = and_parts (nat_lt from s.vcpus) (nat_lt to s.vcpus) below in
+      let lt = ltb-true from s.vcpus both.0 in
+      let held = h lt (ltb-true to s.vcpus both.1) in
+      let x = held_by (in_hand rs from) held.0 in
+      let y = held_by (in_hand rs to) held.1 in
+      let small : from < 16 = omega (arith, lt, can.vcpus) in
+      (small, same_lpis (in_hand rs from) (in_hand rs to) x.0 y.0 x.1 y.1 ((can.lpis from x.0 x.1).pending_bits ∙ sym (can.lpis to y.0 y.1).pending_bits))))
+
+  -- ---- all commands
+
+  pub planned_ready : (r : Registers) (memory : List Window) (c : Command) → AreNeededInHand s m c rs → IsPrepared mr c → IfOk (parts.planned s r mr.maps memory rs c) (IsReady s mr rs)
+  unfolding parts.planned IsReady grows room_for
+  planned_ready r memory (command.Movi dev ev icid) h p = movi_ready dev ev icid (movi_old s m rs dev ev icid h) (movi_new s m rs dev ev icid h)
+  planned_ready r memory (command.Int dev ev) h p = int_ready dev ev (int_target s m rs dev ev h)
+  planned_ready r memory (command.Clear dev ev) h p = clear_ready dev ev (clear_target s m rs dev ev h)
+  planned_ready r memory (command.Sync target) h p = tt
+  planned_ready r memory (command.Mapd dev bits itt true) h p = mapd_ready r memory dev bits itt p
+  planned_ready r memory (command.Mapd dev bits itt false) h p = unmapd_ready dev
+  planned_ready r memory (command.Mapc icid target true) h p = mapc_ready r icid target p (mapc_targets s m rs icid target h)
+  planned_ready r memory (command.Mapc icid target false) h p = tt
+  planned_ready r memory (command.Mapti dev ev intid icid) h p = mapti_ready r dev ev intid icid p (mapti_each s m rs dev ev intid icid h)
+  planned_ready r memory (command.Mapi dev ev icid) h p = mapti_ready r dev ev (record { 0 = ev.0 }) icid p (mapi_each s m rs dev ev icid h)
+  planned_ready r memory (command.Inv dev ev) h p = inv_ready dev ev (inv_each s m rs dev ev h)
+  planned_ready r memory (command.Invall icid) h p = invall_ready icid (invall_each s m rs icid h)
+  planned_ready r memory (command.Movall from to) h p = movall_ready from to (movall_targets s m rs from to h)
+  planned_ready r memory (command.Discard dev ev) h p = discard_ready dev ev (discard_target s m rs dev ev h)
+  planned_ready r memory (command.Unknown opcode) h p = tt

@@ -1,0 +1,11 @@
+use Rattle.std.proofs.Common.{◌∙◌}
+use Rattle.cmd_exec.proofs.Sets.{needs_same, parts_same}
+use Rattle.cmd_exec.proofs.needed.needs.Goals as goal
+
+pub returns-clause-redists : goal.returns-clause-redists
+returns-clause-redists c = λ v. c.redists_of.ensures v ∙ needs_same c.args.shape.now c.args.maps.now.maps c.args.command.now v
+
+pub returns-clause-parts : goal.returns-clause-parts
+returns-clause-parts c =
+    let s = c.args.shape.now in let m = c.args.maps.now.maps in let command = c.args.command.now in
+    parts_same s m command c.redists_of.result (λ v. c.redists_of.ensures v ∙ needs_same s m command v)

@@ -1,0 +1,35 @@
+-- What is promised of a command that is executed on parts in hand: in each state that has them, it comes to what the plain
+-- machine says.
+use Rattle.std.specs.Prelude.{◌≡◌, ℕ, List, Option}
+use Rattle.guest_windows.specs.Windows.{Window}
+use Rattle.gits_regs.specs.Registers.{Registers}
+use Rattle.its_command.specs.Commands.{op_of}
+use Rattle.its_command.specs.declared.command.Command.{Command}
+use Rattle.its_types.specs.Maps.{Maps}
+use Rattle.its_types.specs.declared.machine.Shape.{Shape}
+use Rattle.its_plain.specs.Plain.{Plain}
+use Rattle.its_plain.specs.Commands.{ran}
+use Rattle.its_plain.specs.Answer.{command_reply, command_left, went_on}
+use Rattle.its_plain.specs.declared.call.CmdReply.{CmdReply}
+use Rattle.its_plain.specs.declared.call.CmdReply.TheVariants as reply
+use Rattle.its_plain.specs.declared.call.StepReply.{StepReply}
+use Rattle.its_plain.specs.declared.call.StepReply.TheVariants.{Ran, Refused}
+use Rattle.lpi_pending.specs.declared.redist.Redist.{Redist}
+use Rattle.owned_parts.specs.Owned.{ArePartsOf}
+
+-- the reply of a step that met the command
+abbrev pub as_step : CmdReply → StepReply
+as_step (reply.Ran op) = Ran op
+as_step (reply.Refused op reason) = Refused op reason
+
+-- it is the reply in each state that has these parts
+abbrev pub IsReplyTo : Command → Shape → Registers → Maps → List Window → List (Option Redist) → CmdReply → Type 0
+IsReplyTo c s r m memory redists answer = (u : Plain) (i : ℕ) → ArePartsOf u i s r m memory redists → as_step answer ≡ command_reply (op_of c) (ran u i c)
+
+-- the state that the command leaves, with CREADR at the next
+abbrev pub left_by : Command → Plain → ℕ → Plain
+left_by c u i = went_on i (command_left u (ran u i c))
+
+-- the new registers, maps and redistributors are what each state that had the old ones then has
+abbrev pub AreLeftBy : Command → Shape → List Window → Registers × Maps × List (Option Redist) → Registers × Maps × List (Option Redist) → Type 0
+AreLeftBy c s memory old new = (u : Plain) (i : ℕ) → ArePartsOf u i s old.0 old.1 memory old.2 → ArePartsOf (left_by c u i) i s new.0 new.1 memory new.2

@@ -1,0 +1,72 @@
+//! The events of a collection: what happens to the LPIs of all of them.
+ghost use Rattle.std.specs.Prelude.{◌≡◌, ◌<◌, ℕ, true, List};
+ghost use Rattle.its_maps.specs.MapsRoom.{EventsHaveDevices};
+ghost use Rattle.its_plain.specs.Commands.{intids_of, all_reread_at};
+ghost use Rattle.cmd_exec.specs.InHand.{redist_by, changed_below, lpis_moved_in, CanRereadAll};
+ghost use Rattle.cmd_exec.specs.Ready.{TakesAll, CanEachReread};
+ghost use Rattle.cmd_exec.specs.Walked.{lpis_of};
+
+use crate::lpis::{move_lpi, reread};
+use guest_windows::Memory;
+use its_maps::{EventWalk, Maps};
+use its_types::{Icid, Vcpu};
+use lpi_pending::{Redist, Redists};
+
+/// The pending LPIs of its events go from one virtual processor to another.
+pub fn move_lpis(redists: &mut Redists, maps: &Maps, icid: Icid, from: Vcpu, to: Vcpu)
+    requires devices { EventsHaveDevices maps.now.maps }
+    requires from { TakesAll redists.old from.0 (intids_of maps.now.maps icid.0) }
+    requires to { TakesAll redists.old to.0 (intids_of maps.now.maps icid.0) }
+    ensures { redists.new ≡ lpis_moved_in (intids_of maps.now.maps icid.0) from.0 to.0 redists.old }
+{
+    for (dev, _) in maps.devices() {
+        move_lpis_of(redists, maps.events(dev), icid, from, to);
+    }
+}
+
+// Those of one device.
+fn move_lpis_of(redists: &mut Redists, events: EventWalk, icid: Icid, from: Vcpu, to: Vcpu)
+    requires from { TakesAll redists.old from.0 (lpis_of events icid.0) }
+    requires to { TakesAll redists.old to.0 (lpis_of events icid.0) }
+    ensures { redists.new ≡ lpis_moved_in (lpis_of events.entry icid.0) from.0 to.0 redists.old }
+{
+    for (_, event) in events {
+        if event.icid == icid {
+            move_lpi(redists, from, to, event.intid);
+        }
+    }
+}
+
+/// Each of the first virtual processors reads the configuration of the LPIs of its events again.
+pub fn reread_collection(redists: &mut Redists, vcpus: u8, memory: &Memory, maps: &Maps, icid: Icid)
+    requires devices { EventsHaveDevices maps.now.maps }
+    requires each { CanEachReread vcpus redists.old (intids_of maps.now.maps icid.0) }
+    ensures { redists.new ≡ changed_below vcpus (all_reread_at memory.now (intids_of maps.now.maps icid.0)) redists.old }
+{
+    for vcpu in 0..vcpus {
+        let redist = redists.redist_mut(Vcpu(vcpu));
+        reread_all(redist, memory, maps, icid);
+    }
+}
+
+fn reread_all(redist: &mut Redist, memory: &Memory, maps: &Maps, icid: Icid)
+    requires devices { EventsHaveDevices maps.now.maps }
+    requires can { CanRereadAll redist.old (intids_of maps.now.maps icid.0) }
+    ensures { redist.new ≡ redist_by (all_reread_at memory.now (intids_of maps.now.maps icid.0)) redist.old }
+{
+    for (dev, _) in maps.devices() {
+        reread_all_of(redist, memory, maps.events(dev), icid);
+    }
+}
+
+// Those of one device.
+fn reread_all_of(redist: &mut Redist, memory: &Memory, events: EventWalk, icid: Icid)
+    requires { CanRereadAll redist.old (lpis_of events icid.0) }
+    ensures { redist.new ≡ redist_by (all_reread_at memory.now (lpis_of events.entry icid.0)) redist.old }
+{
+    for (_, event) in events {
+        if event.icid == icid {
+            reread(redist, memory, event.intid);
+        }
+    }
+}

@@ -1,0 +1,67 @@
+use its_types::{Device, DeviceId, Event, EventId, Icid, Intid, Vcpu};
+
+/// What a command does that isn't refused.
+#[derive(Clone, Copy)]
+pub enum Effect {
+    Nothing,
+    MapDevice {
+        dev: DeviceId,
+        device: Device,
+    },
+    UnmapDevice {
+        dev: DeviceId,
+    },
+    MapCollection {
+        icid: Icid,
+        vcpu: Vcpu,
+    },
+    /// The pending LPIs of its events go with it.
+    MoveCollection {
+        icid: Icid,
+        from: Vcpu,
+        to: Vcpu,
+    },
+    UnmapCollection {
+        icid: Icid,
+    },
+    /// The configuration of its LPI is read again.
+    MapEvent {
+        dev: DeviceId,
+        ev: EventId,
+        event: Event,
+    },
+    /// Its LPI goes with it, if it is pending.
+    MoveEvent {
+        dev: DeviceId,
+        ev: EventId,
+        intid: Intid,
+        icid: Icid,
+        from: Vcpu,
+        to: Vcpu,
+    },
+    /// Its LPI is not pending at the target any more, if there is one.
+    UnmapEvent {
+        dev: DeviceId,
+        ev: EventId,
+        intid: Intid,
+        target: Option<Vcpu>,
+    },
+    SetLpi {
+        intid: Intid,
+        vcpu: Vcpu,
+    },
+    ClearLpi {
+        intid: Intid,
+        vcpu: Vcpu,
+    },
+    Reread {
+        intid: Intid,
+    },
+    RereadCollection {
+        icid: Icid,
+    },
+    MoveAll {
+        from: Vcpu,
+        to: Vcpu,
+    },
+}

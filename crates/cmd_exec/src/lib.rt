@@ -1,0 +1,21 @@
+//! Commands and register accesses of a translator on parts in hand.
+#![tactic(auto)]
+
+mod carry_out;
+mod collections;
+mod effect;
+mod execute;
+mod lpis;
+mod needed;
+mod part_set;
+mod plan;
+mod registers;
+mod room;
+mod walk;
+
+pub use execute::{answer, apply};
+pub use needed::needs;
+pub use part_set::PartSet;
+pub use registers::access;
+pub use room::prepare;
+pub use walk::RedistWalk;
