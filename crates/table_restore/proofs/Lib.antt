@@ -1,0 +1,6 @@
+pub mod Walks
+pub mod Filled
+pub mod EventsWalked
+pub mod CollectionsWalked
+pub mod DevicesWalked
+pub mod Standing

@@ -1,0 +1,3 @@
+pub mod Walked
+pub mod Found
+pub mod Outcome
