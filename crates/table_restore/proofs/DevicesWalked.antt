@@ -8,7 +8,6 @@ use Rattle.its_types.specs.declared.ids.Addr.{Addr}
 use Rattle.guest_windows.specs.Windows.{Window, number_at}
 use Rattle.std.proofs.Math.Pow.{pow_mono}
 use Rattle.std.proofs.lemmas.Nat.{pow_pos}
-use Rattle.gits_regs.specs.Registers as regs
 use Rattle.gits_regs.specs.Registers.{Registers, is_indirect, table_base}
 use Rattle.baser_place.specs.Places.{level1_entries, level1_address, page_address, level1_word, level1_of, HasLowPage}
 use Rattle.baser_place.specs.declared.entry.Level1.{Level1}
@@ -46,10 +45,9 @@ pub record IsSmall (r : Registers) : Type 0 where
   pub some_places : 1 ≤ flat_size r
   pub most_places : flat_size r ≤ 1048576
 
-pub small : (r : Registers) → regs.IsSound r → IsSmall r
+pub small : (r : Registers) → 16 ≤ r.dev_bits → r.dev_bits ≤ 20 → IsSmall r
 unfolding flat_size
-small r sound =
-    let least = sound.least_bits in let most = sound.most_bits in
+small r least most =
     let below : 2 ^ (r.dev_bits - 13) ≤ 2 ^ 7 = pow_mono {i = r.dev_bits - 13} {j = 7} (omega arith) in
     let some : 0 < 2 ^ (r.dev_bits - 13) = pow_pos (r.dev_bits - 13) in
     record { some_entries = omega arith; most_entries = omega arith; some_places = omega arith; most_places = omega arith }

@@ -4,3 +4,7 @@ pub mod EventsWalked
 pub mod CollectionsWalked
 pub mod DevicesWalked
 pub mod Standing
+pub mod Contents
+pub mod PendingRead
+pub mod Restored
+pub mod Whole

@@ -6,6 +6,9 @@ mod collections;
 mod devices;
 mod error;
 mod events;
+mod parts;
 mod place;
+mod redists;
 
 pub use error::RestoreError;
+pub use parts::restore;
