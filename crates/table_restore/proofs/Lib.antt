@@ -8,3 +8,4 @@ pub mod Contents
 pub mod PendingRead
 pub mod Restored
 pub mod Whole
+pub mod Once

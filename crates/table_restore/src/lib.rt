@@ -6,9 +6,11 @@ mod collections;
 mod devices;
 mod error;
 mod events;
+mod laws;
 mod parts;
 mod place;
 mod redists;
 
 pub use error::RestoreError;
+pub use laws::at_most_one_state_stands;
 pub use parts::restore;
