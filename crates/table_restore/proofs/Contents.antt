@@ -126,8 +126,8 @@ module _ (memory : List Window) (n : ℕ) (r : Registers) (cs : List (ℕ × Vcp
       | inr old ↦ absurd (let two : None ≡ Some v = sym (no_collection icid) ∙ old in cc)
     ],
     λ h. stays_put collection_of put_collection (λ c. c.0) (λ c. Some c.1) (λ m c q. collection-mapped m c.0 c.1 q) no_maps cs icid v
-      (λ c a same. ap Some (collection_once icid c.1 v (subst (λ (k : ℕ). HasCollection memory r k c.1) (sym same) (collection_from c a)) h))
-      (inl ((icid, v), collection_among icid v h, refl)),
+        (λ c a same. ap Some (collection_once icid c.1 v (subst (λ (k : ℕ). HasCollection memory r k c.1) (sym same) (collection_from c a)) h))
+        (inl ((icid, v), collection_among icid v h, refl)),
   )
 
 -- ---- devices
@@ -192,8 +192,8 @@ module _ (memory : List Window) (n : ℕ) (r : Registers) (small : IsSmall r) (f
       | inr old ↦ absurd (let two : None ≡ Some e = sym (no_event x.dev ev) ∙ old in cc)
     ],
     λ h. stays_put (λ m q. event_of m x.dev q) (put_event x.dev) (λ y. y.0) (λ y. Some y.1) (event-put x.dev) no_maps x.events ev e
-      (λ y b same. ap Some (event_once x ev y.1 e ((events_of x a ev y.1).0 (subst (λ (k : ℕ). Among (k, y.1) x.events) (sym same) b)) h))
-      (inl ((ev, e), (events_of x a ev e).1 h, refl)),
+        (λ y b same. ap Some (event_once x ev y.1 e ((events_of x a ev y.1).0 (subst (λ (k : ℕ). Among (k, y.1) x.events) (sym same) b)) h))
+        (inl ((ev, e), (events_of x a ev e).1 h, refl)),
   )
 
   -- whatever was found of a device has its events
@@ -224,19 +224,21 @@ collection_facts : (memory : List Window) (n : ℕ) (r : Registers) (cs : List (
     → AreCollectionsClear memory n r × ((icid : ℕ) (v : Vcpu) → (collection_of (after_all put_collection no_maps cs) icid ≡ Some v) ↔ HasCollection memory r icid v)
 collection_facts memory n r cs true is e = (collections_clear memory n r cs is e, collections_are memory n r cs is e)
 collection_facts memory n r cs false is e =
-    let none : [] ≡ cs = cc in
-    (λ yes. none_of (is_valid r.baser1) is yes,
-    λ icid v. (λ s. absurd (let two : None ≡ Some v = sym (no_collection icid) ∙ subst (λ (xs : List (ℕ × Vcpu)). collection_of (after_all put_collection no_maps xs) icid ≡ Some v) (sym none) s in cc), λ h. none_of (is_valid r.baser1) is h.0))
+    let none : [] ≡ cs = cc in (
+      λ yes. none_of (is_valid r.baser1) is yes,
+      λ icid v. (λ s. absurd (let two : None ≡ Some v = sym (no_collection icid) ∙ subst (λ (xs : List (ℕ × Vcpu)). collection_of (after_all put_collection no_maps xs) icid ≡ Some v) (sym none) s in cc), λ h. none_of (is_valid r.baser1) is h.0),
+    )
 
 device_facts : (memory : List Window) (n : ℕ) (r : Registers) (small : IsSmall r) (fs : List Found) (m : Maps) (b : Bool) → is_valid r.baser0 ≡ b → cond b (devices_from memory n r (first_device r)) (Ok []) ≡ Ok fs → m.devices ≡ map.empty → m.events ≡ map.empty
     → AreDevicesClear memory n r × ((dev : ℕ) (d : Device) → (device_of (after_all put_found m fs) dev ≡ Some d) ↔ HasDevice memory r dev d)
     × ((dev ev : ℕ) (e : Event) → (event_of (after_all put_found m fs) dev ev ≡ Some e) ↔ HasEventOf memory r dev ev e)
 device_facts memory n r small fs m true is e no_devices no_events = (devices_clear memory n r small fs is e, devices_are memory n r small fs is e m no_devices, events_are memory n r small fs is e m no_events)
 device_facts memory n r small fs m false is e no_devices no_events =
-    let none : [] ≡ fs = cc in
-    (λ yes. none_of (is_valid r.baser0) is yes,
-    (λ dev d. (λ s. absurd (let two : None ≡ Some d = sym (ap (λ (ds : FinMap nat_cmp Device). map.get ds dev) no_devices ∙ no_device dev) ∙ subst (λ (xs : List Found). device_of (after_all put_found m xs) dev ≡ Some d) (sym none) s in cc), λ h. none_of (is_valid r.baser0) is h.0)),
-    (λ dev ev d. (λ s. absurd (let two : None ≡ Some d = sym (ap (λ (es : FinMap pair_cmp Event). map.get es (dev, ev)) no_events ∙ no_event dev ev) ∙ subst (λ (xs : List Found). event_of (after_all put_found m xs) dev ev ≡ Some d) (sym none) s in cc), λ h. none_of (is_valid r.baser0) is h.1.0)))
+    let none : [] ≡ fs = cc in (
+      λ yes. none_of (is_valid r.baser0) is yes,
+      (λ dev d. (λ s. absurd (let two : None ≡ Some d = sym (ap (λ (ds : FinMap nat_cmp Device). map.get ds dev) no_devices ∙ no_device dev) ∙ subst (λ (xs : List Found). device_of (after_all put_found m xs) dev ≡ Some d) (sym none) s in cc), λ h. none_of (is_valid r.baser0) is h.0)),
+      (λ dev ev d. (λ s. absurd (let two : None ≡ Some d = sym (ap (λ (es : FinMap pair_cmp Event). map.get es (dev, ev)) no_events ∙ no_event dev ev) ∙ subst (λ (xs : List Found). event_of (after_all put_found m xs) dev ev ≡ Some d) (sym none) s in cc), λ h. none_of (is_valid r.baser0) is h.1.0)),
+    )
 
 -- ---- all maps
 
@@ -266,14 +268,18 @@ maps_stand s memory r m small e =
 -- ---- the first offence
 
 collections_offend : (memory : List Window) (n : ℕ) (r : Registers) (f : RestoreFault) (b : Bool) → is_valid r.baser1 ≡ b → cond b (collections_from memory n r 0) (Ok []) ≡ Err f → CollectionsOffend memory n r f
-collections_offend memory n r f true is e = (is,
-    walk_err (look_collection memory n r) (next_collection memory r) (λ i. collection_check memory n r i ≡ Ok tt) (λ i g. collection_check memory n r i ≡ Err g)
-    (λ i xs ok. (checked (collection_check memory n r i) (one_collection (collection_entry memory r i)) xs ok).0) (λ i g wrong. checked_err (collection_check memory n r i) (one_collection (collection_entry memory r i)) g wrong) (collection_places r - 0) 0 f e)
+collections_offend memory n r f true is e = (
+  is,
+  walk_err (look_collection memory n r) (next_collection memory r) (λ i. collection_check memory n r i ≡ Ok tt) (λ i g. collection_check memory n r i ≡ Err g)
+      (λ i xs ok. (checked (collection_check memory n r i) (one_collection (collection_entry memory r i)) xs ok).0) (λ i g wrong. checked_err (collection_check memory n r i) (one_collection (collection_entry memory r i)) g wrong) (collection_places r - 0) 0 f e,
+)
 collections_offend memory n r f false is e = absurd cc
 
 devices_offend : (memory : List Window) (n : ℕ) (r : Registers) (f : RestoreFault) (b : Bool) → is_valid r.baser0 ≡ b → cond b (devices_from memory n r (first_device r)) (Ok []) ≡ Err f → DevicesOffend memory n r f
-devices_offend memory n r f true is e = (is,
-    walk_err (look_device memory n r) (next_device memory r) (IsDeviceClear memory n r) (DeviceFaults memory n r) (place_clear memory n r) (place_faults memory n r) (reach r - rank (first_device r)) (first_device r) f e)
+devices_offend memory n r f true is e = (
+  is,
+  walk_err (look_device memory n r) (next_device memory r) (IsDeviceClear memory n r) (DeviceFaults memory n r) (place_clear memory n r) (place_faults memory n r) (reach r - rank (first_device r)) (first_device r) f e,
+)
 devices_offend memory n r f false is e = absurd cc
 
 pub maps_offend : (s : Shape) (memory : List Window) (r : Registers) (f : RestoreFault) → maps_read s memory r ≡ Err f

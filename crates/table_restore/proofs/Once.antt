@@ -139,5 +139,5 @@ stands_once memory values layout bases u v a b =
     let one : a.translator ≡ b.translator = translators_alike layout.shape memory values a.translator b.translator a.stands b.stands in
     let translators : u.translators ≡ v.translators = a.translator_is ∙ ap (λ (t : Translator). t ∷ []) one ∙ sym b.translator_is in
     let redistributors : u.redistributors ≡ v.redistributors = same_each bases u.redistributors v.redistributors a.vcpus b.vcpus
-        (λ w c x y at ex ey. redistributors_alike layout.shape memory c x y (a.redistributors w c x at ex) (b.redistributors w c y at ey)) in
+    (λ w c x y at ex ey. redistributors_alike layout.shape memory c x y (a.redistributors w c x at ex) (b.redistributors w c y at ey)) in
     λ i. record { layout = layouts i; translators = translators i; redistributors = redistributors i; memory = memories i }

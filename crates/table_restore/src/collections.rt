@@ -55,12 +55,7 @@ fn map_one(maps: &mut Maps, icid: Icid, vcpu: Vcpu) -> Result<(), AllocError>
     Ok(())
 }
 
-fn walk(
-    regs: &Regs,
-    memory: &Memory,
-    vcpus: u8,
-    maps: &mut Maps,
-) -> Result<(), RestoreError>
+fn walk(regs: &Regs, memory: &Memory, vcpus: u8, maps: &mut Maps) -> Result<(), RestoreError>
     requires { maps.old.maps ≡ no_maps }
     ensures { Took put_collection maps.old.maps maps.new.maps result (collections_from memory.now vcpus regs.now 0) }
 {

@@ -183,12 +183,7 @@ fn look(
     }
 }
 
-fn walk(
-    regs: &Regs,
-    memory: &Memory,
-    lpi_bits: u8,
-    maps: &mut Maps,
-) -> Result<(), RestoreError>
+fn walk(regs: &Regs, memory: &Memory, lpi_bits: u8, maps: &mut Maps) -> Result<(), RestoreError>
     ensures { Took put_found maps.old.maps maps.new.maps result (devices_from memory.now lpi_bits regs.now (spec.first_device regs.now)) }
 {
     regs.keeps_rules();

@@ -14,3 +14,6 @@ mod redists;
 pub use error::RestoreError;
 pub use laws::at_most_one_state_stands;
 pub use parts::restore;
+
+#[cfg(test)]
+mod tests;

@@ -17,12 +17,7 @@ use lpi_pending::{Pending, Redist, Redists};
 use std::alloc::Global;
 
 // The LPIs that a pending table has.
-fn pending_of(
-    alloc: Global,
-    memory: &Memory,
-    base: Addr,
-    shape: Shape,
-) -> Result<Pending, NoMemory>
+fn pending_of(alloc: Global, memory: &Memory, base: Addr, shape: Shape) -> Result<Pending, NoMemory>
     requires shape { IsShape shape }
     requires inside { inside memory.now base.0 (pending_bytes shape.lpi_bits) ≡ true }
     requires low { base.0 < 2 ^ 53 }

@@ -1,4 +1,3 @@
-
 use Rattle.table_restore.proofs.Filled.{is_mapped}
 use Rattle.table_restore.proofs.devices.map_device.Goals as goal
 
