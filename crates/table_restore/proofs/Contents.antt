@@ -49,7 +49,7 @@ number_of None = record { 0 = 0 }
 number_of (Some c) = record { 0 = c.vcpu_number }
 
 module _ (memory : List Window) (n : ℕ) (r : Registers) where
-  entry_of_word : (j : ℕ) (c : CollectionFields) (f : RestoreFault) (o : Option ℕ) → (ok_or o f >>= λ w. collection_entry_check memory n r j (unpacked_collection w)) ≡ Ok tt → option_and_then unpacked_collection o ≡ Some c → collection_entry_check memory n r j (Some c) ≡ Ok tt
+  pub entry_of_word : (j : ℕ) (c : CollectionFields) (f : RestoreFault) (o : Option ℕ) → (ok_or o f >>= λ w. collection_entry_check memory n r j (unpacked_collection w)) ≡ Ok tt → option_and_then unpacked_collection o ≡ Some c → collection_entry_check memory n r j (Some c) ≡ Ok tt
   entry_of_word j c f None h e = absurd cc
   entry_of_word j c f (Some w) h e = ap (collection_entry_check memory n r j) (sym e) ∙ h
 

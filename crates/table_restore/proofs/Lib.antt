@@ -9,3 +9,4 @@ pub mod PendingRead
 pub mod Restored
 pub mod Whole
 pub mod Once
+pub mod Soundness

@@ -164,7 +164,7 @@ module _ (memory : List Window) (n : ℕ) (r : Registers) (p : DevicePlace) wher
 
 -- ---- one device of each id
 
-good_along : (memory : List Window) (r : Registers) → IsSmall r → (p : DevicePlace) (rs : List DevicePlace) (q : DevicePlace) → IsPlace r p → Path (next_device memory r) p rs q → IsPlace r q
+pub good_along : (memory : List Window) (r : Registers) → IsSmall r → (p : DevicePlace) (rs : List DevicePlace) (q : DevicePlace) → IsPlace r p → Path (next_device memory r) p rs q → IsPlace r q
 good_along memory r small p [] q g a = subst (IsPlace r) a g
 good_along memory r small p (t ∷ rs) q g a = good_along memory r small t rs q ((devices_rise memory r small).good p t g a.0) a.1
 

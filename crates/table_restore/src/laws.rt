@@ -4,3 +4,9 @@ ghost use Rattle.table_restore.specs.Laws as laws;
 pub fn at_most_one_state_stands()
     ensures { laws.AtMostOneStands }
 {}
+
+/// A state that memory and register values stand for is sound, where the machine's layout and the bases of its
+/// redistributors are.
+pub fn standing_is_sound()
+    ensures { laws.StandingIsSound }
+{}

@@ -12,7 +12,7 @@ mod place;
 mod redists;
 
 pub use error::RestoreError;
-pub use laws::at_most_one_state_stands;
+pub use laws::{at_most_one_state_stands, standing_is_sound};
 pub use parts::restore;
 
 #[cfg(test)]
