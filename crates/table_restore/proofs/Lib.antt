@@ -10,3 +10,4 @@ pub mod Restored
 pub mod Whole
 pub mod Once
 pub mod Soundness
+pub mod Offences

@@ -2,10 +2,12 @@
 use Rattle.std.specs.Prelude.{◌≡◌, ℕ, true, false, List, length, map, slice_get, Some}
 use Rattle.guest_windows.specs.Windows.{Window, extent, are_windows}
 use Rattle.gits_regs.specs.declared.values.RegValues.{RegValues}
+use Rattle.its_types.specs.declared.machine.Shape.{Shape}
 use Rattle.its_types.specs.declared.translation.Bases.{Bases}
 use Rattle.its_plain.specs.Plain.{Plain, Layout}
 use Rattle.its_plain.specs.Sound.{IsLayout, IsSound, AreKeptBases}
-use Rattle.its_plain.specs.Stands.{Stands}
+use Rattle.its_plain.specs.Stands.{Stands, IsFirstFault}
+use Rattle.its_plain.specs.declared.fault.RestoreFault.{RestoreFault}
 
 -- one memory and one set of registers stand for at most one state
 abbrev pub AtMostOneStands : Type 0
@@ -21,3 +23,8 @@ pub record AreBasesOf (layout : Layout) (bases : List Bases) : Type 0 where
 abbrev pub StandingIsSound : Type 0
 StandingIsSound = (memory : List Window) (values : RegValues) (layout : Layout) (bases : List Bases) (u : Plain) → IsLayout layout → AreBasesOf layout bases → are_windows (map extent memory) ≡ true
     → Stands memory values layout bases u → IsSound u
+
+-- there is at most one first offence, and none where a state stands
+pub record OffencesAreDecided : Type 0 where
+  pub one : (memory : List Window) (values : RegValues) (s : Shape) (bases : List Bases) (f g : RestoreFault) → IsFirstFault memory values s bases f → IsFirstFault memory values s bases g → f ≡ g
+  pub apart : (memory : List Window) (values : RegValues) (layout : Layout) (bases : List Bases) (u : Plain) (f : RestoreFault) → Stands memory values layout bases u → IsFirstFault memory values layout.shape bases f → ⊥

@@ -10,3 +10,8 @@ pub fn at_most_one_state_stands()
 pub fn standing_is_sound()
     ensures { laws.StandingIsSound }
 {}
+
+/// One memory and one set of register values have at most one first offence, and none where they stand for a state.
+pub fn offences_are_decided()
+    ensures { laws.OffencesAreDecided }
+{}

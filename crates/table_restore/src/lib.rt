@@ -12,7 +12,7 @@ mod place;
 mod redists;
 
 pub use error::RestoreError;
-pub use laws::{at_most_one_state_stands, standing_is_sound};
+pub use laws::{at_most_one_state_stands, offences_are_decided, standing_is_sound};
 pub use parts::restore;
 
 #[cfg(test)]
