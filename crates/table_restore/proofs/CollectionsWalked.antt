@@ -1,6 +1,6 @@
 -- The walk over the collection table.
-use Rattle.std.proofs.Common.{◌≡◌, ℕ, suc, ◌+◌, ◌-◌, ◌<◌, Bool, true, false, cond, nat_lt, eqb, List, [], ◌∷◌, Option, Some, None, Result, Ok, Err, is_some, refl, sym, subst, ap, ◌∙◌, inl, inr, arith, ◌↔◌, add-one}
-use Rattle.std.specs.Prelude.{◌==◌, ◌||◌}
+use Rattle.std.proofs.Common.{◌≡◌, ℕ, ◌+◌, ◌<◌, Bool, true, false, cond, eqb, List, Option, Some, None, Ok, Err, is_some, refl, sym, subst, ap, ◌∙◌, arith, add-one}
+use Rattle.std.specs.Prelude.{◌||◌}
 use Rattle.std.specs.Option.{option_and_then, option_map}
 use Rattle.std.proofs.lemmas.Bool.{eqb-true, eq-eqb, ne_eqb}
 use Rattle.guest_windows.specs.Windows.{Window, number_at}
@@ -10,7 +10,7 @@ use Rattle.table_entries.specs.Words.{unpacked_collection}
 use Rattle.its_types.specs.Maps.{Maps, collection_of, no_maps}
 use Rattle.its_types.specs.declared.ids.Icid.{Icid}
 use Rattle.its_types.specs.declared.ids.Vcpu.{Vcpu}
-use Rattle.its_plain.specs.Walks.{within, ◌>>=◌}
+use Rattle.its_plain.specs.Walks.{within}
 use Rattle.its_plain.specs.CollectionTables.{collection_address, collection_entry, collection_leads, next_collection, collection_check, is_of, stands_before}
 use Rattle.its_plain.specs.declared.fault.RestoreFault.{RestoreFault}
 use Rattle.table_restore.specs.Walked.{after_all, after}

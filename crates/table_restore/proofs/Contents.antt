@@ -1,11 +1,11 @@
 -- The maps of what the walks find are those that memory stands for.
-use Rattle.std.proofs.Common.{◌≡◌, ◌⊎◌, ℕ, zero, suc, ◌+◌, ◌-◌, ◌^◌, ◌<◌, Bool, true, false, not, cond, eqb, nat_lt, List, [], ◌∷◌, Option, Some, None, Result, Ok, Err, refl, sym, subst, ap, ◌∙◌, inl, inr, arith, ◌↔◌}
+use Rattle.std.proofs.Common.{◌≡◌, ◌⊎◌, ℕ, zero, suc, ◌-◌, ◌<◌, Bool, true, false, not, cond, nat_lt, List, [], Option, Some, None, Result, Ok, Err, refl, sym, subst, ap, ◌∙◌, inl, inr, arith, ◌↔◌}
 use Rattle.std.specs.Prelude.{◌||◌}
 use Rattle.std.specs.Option.{option_and_then, ok_or}
 use Rattle.std.specs.Ordering.{nat_cmp}
 use Rattle.std.specs.FinMap as map
 use Rattle.std.specs.FinMap.{FinMap}
-use Rattle.std.proofs.lemmas.Bool.{eqb-true, eq-eqb, cases_lt, cases_eq}
+use Rattle.std.proofs.lemmas.Bool.{eq-eqb, cases_lt, cases_eq}
 use Rattle.guest_windows.specs.Windows.{Window, number_at}
 use Rattle.gits_regs.specs.Registers.{Registers, is_valid, collection_places}
 use Rattle.table_entries.specs.Fields.{CollectionFields}
@@ -15,15 +15,15 @@ use Rattle.its_types.specs.declared.ids.Vcpu.{Vcpu}
 use Rattle.its_types.specs.declared.machine.Shape.{Shape}
 use Rattle.its_types.specs.declared.translation.Device.{Device}
 use Rattle.its_types.specs.declared.translation.Event.{Event}
-use Rattle.its_plain.specs.Walks.{Reached, ensure, ◌>>=◌}
+use Rattle.its_plain.specs.Walks.{ensure, ◌>>=◌}
 use Rattle.its_plain.specs.EventTables.{itt_of, HasEvent}
 use Rattle.its_plain.specs.CollectionTables.{collection_address, collection_entry, collection_check, collection_entry_check, next_collection, is_of, stands_before, CollectionReached, AreCollectionsClear, CollectionsOffend, HasCollection}
-use Rattle.its_plain.specs.DeviceTables.{DevicePlace, first_device, next_device, device_in, id_of, DeviceReached, IsDeviceClear, DeviceFaults, AreDevicesClear, DevicesOffend, HasDevice, HasEventOf}
+use Rattle.its_plain.specs.DeviceTables.{DevicePlace, first_device, next_device, DeviceReached, IsDeviceClear, DeviceFaults, AreDevicesClear, DevicesOffend, HasDevice, HasEventOf}
 use Rattle.its_plain.specs.Stands.{AreMapsIn}
 use Rattle.its_plain.specs.declared.fault.RestoreFault.{RestoreFault}
 use Rattle.its_plain.specs.declared.fault.RestoreFault.TheVariants.{OutsideTable}
-use Rattle.table_restore.specs.Walked.{Among, HasAt, after_all, after}
-use Rattle.table_restore.specs.Found.{Found, put_event, put_found, put_collection, one_collection, look_collection, collections_from, collections_read, look_device, devices_from, devices_read, events_read, rank, reach, maps_read}
+use Rattle.table_restore.specs.Walked.{Among, after_all, after}
+use Rattle.table_restore.specs.Found.{Found, put_event, put_found, put_collection, one_collection, look_collection, collections_from, collections_read, look_device, devices_from, devices_read, rank, reach, maps_read}
 use Rattle.table_restore.specs.Outcome.{IsPlace}
 use Rattle.table_restore.proofs.Walks.{walk_found, walk_clear, walk_has, walk_err, after-ok, after-err}
 use Rattle.table_restore.proofs.Filled.{no_device, no_event, no_collection, collection-mapped, device-put, events-put, event-put, event_found, put_before, stays_put, collections-devices, devices-collections, events-collections}

@@ -1,22 +1,19 @@
 -- The walk over the device table: it only goes up, and each place is looked at as the definitions say.
-use Rattle.std.proofs.Common.{◌≡◌, ℕ, ◌+◌, ◌-◌, ◌*◌, ◌^◌, ◌<◌, ◌≤◌, true, false, cond, nat_lt, List, [], ◌∷◌, Option, Some, None, Result, Ok, Err, refl, sym, subst, ap, ◌∙◌, arith}
+use Rattle.std.proofs.Common.{◌≡◌, ℕ, ◌+◌, ◌-◌, ◌*◌, ◌^◌, ◌<◌, ◌≤◌, true, false, cond, nat_lt, List, Option, Some, None, Ok, Err, refl, sym, subst, ap, ◌∙◌, arith}
 use Rattle.std.specs.Prelude.{◌==◌, ◌&&◌, IsSome}
-use Rattle.std.specs.Option.{option_and_then, option_map, ok_or}
+use Rattle.std.specs.Option.{option_and_then, option_map}
 use Rattle.std.proofs.lemmas.Bool.{ltb-true, eqb-false, and_parts}
 use Rattle.its_types.specs.Bits.{bit_of}
-use Rattle.its_types.specs.declared.ids.Addr.{Addr}
 use Rattle.guest_windows.specs.Windows.{Window, number_at}
 use Rattle.std.proofs.Math.Pow.{pow_mono}
 use Rattle.std.proofs.lemmas.Nat.{pow_pos}
 use Rattle.gits_regs.specs.Registers.{Registers, is_indirect, table_base}
-use Rattle.baser_place.specs.Places.{level1_entries, level1_address, page_address, level1_word, level1_of, HasLowPage}
+use Rattle.baser_place.specs.Places.{level1_entries, level1_address, page_address, level1_word, level1_of}
 use Rattle.baser_place.specs.declared.entry.Level1.{Level1}
 use Rattle.baser_place.specs.declared.entry.Level1.TheVariants as level1
 use Rattle.table_entries.specs.Fields.{DeviceFields}
 use Rattle.table_entries.specs.Words.{unpacked_device}
-use Rattle.its_plain.specs.Walks.{◌>>=◌}
 use Rattle.its_plain.specs.DeviceTables.{DevicePlace, at_level1, at_entry, first_device, flat_size, page_places, following, level1_leads, goes_to, device_leads, word_leads, next_device, device_address}
-use Rattle.its_plain.specs.declared.fault.RestoreFault.{RestoreFault}
 use Rattle.its_types.specs.Maps.{Maps}
 use Rattle.table_restore.specs.Walked.{after}
 use Rattle.table_restore.specs.Found.{rank, reach, look_device, devices_from, put_found}

@@ -1,6 +1,5 @@
 -- There is at most one first offence, and none where a state stands.
 use Rattle.std.proofs.Common.{◌≡◌, ℕ, ◌<◌, ◌≤◌, true, false, List, Option, Some, None, Result, Ok, Err, refl, sym, subst, ap, ◌∙◌, inl, inr, arith}
-use Rattle.std.specs.Prelude.{slice_get}
 use Rattle.std.specs.Option.{option_and_then, IsSome}
 use Rattle.std.specs.Result.{IsOk}
 use Rattle.std.proofs.lemmas.Bool.{cases_lt}
@@ -15,8 +14,8 @@ use Rattle.its_types.specs.declared.translation.Bases.{Bases}
 use Rattle.its_plain.specs.Plain.{Plain, Layout}
 use Rattle.its_plain.specs.EventTables.{Itt, itt_of, event_check, next_event, IsIttClear, IttOffends}
 use Rattle.its_plain.specs.CollectionTables.{collection_check, next_collection, AreCollectionsClear, CollectionsOffend}
-use Rattle.its_plain.specs.DeviceTables.{DevicePlace, at_level1, at_entry, first_device, id_of, index_of, device_address, device_entry, device_of_fields, next_device, ends_well, IsDeviceClear, DeviceFaults, is_outside, has_bad_size, has_bad_itt, leads_past, AreDevicesClear, DevicesOffend}
-use Rattle.its_plain.specs.Stands.{Stands, IsFirstFault, of_redistributor, of_register, of_collection, of_device, AreRedistributorsClear, RedistributorOffends, lacks_tables}
+use Rattle.its_plain.specs.DeviceTables.{DevicePlace, at_level1, at_entry, first_device, id_of, device_address, device_entry, device_of_fields, next_device, IsDeviceClear, DeviceFaults, is_outside, has_bad_size, has_bad_itt, leads_past, AreDevicesClear, DevicesOffend}
+use Rattle.its_plain.specs.Stands.{Stands, IsFirstFault, of_redistributor, of_register, of_collection, of_device, AreRedistributorsClear, RedistributorOffends}
 use Rattle.its_plain.specs.declared.fault.Table.TheVariants.{Devices}
 use Rattle.its_plain.specs.declared.fault.RestoreFault.{RestoreFault}
 use Rattle.its_plain.specs.declared.fault.RestoreFault.TheVariants.{BadRedist, PastEnd}

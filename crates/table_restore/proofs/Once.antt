@@ -1,18 +1,17 @@
 -- One memory and one set of register values stand for at most one state.
-use Rattle.std.proofs.Common.{◌≡◌, ℕ, zero, suc, ◌+◌, ◌<◌, ◌≤◌, Bool, true, false, eqb, List, [], ◌∷◌, length, Option, Some, None, refl, sym, subst, ap, ◌∙◌, inl, inr, arith, ◌↔◌}
+use Rattle.std.proofs.Common.{◌≡◌, ℕ, suc, ◌+◌, ◌<◌, true, false, eqb, List, [], ◌∷◌, length, Option, Some, None, refl, sym, subst, ap, ◌∙◌, inl, inr, arith, ◌↔◌}
 use Rattle.std.specs.Prelude.{◌||◌, slice_get, slice_index}
 use Rattle.std.specs.List.Sorted.{IsStrictlyIncreasing}
 use Rattle.std.specs.Cmp.{nat_cmp_total}
 use Rattle.std.specs.FinMap as map
-use Rattle.std.specs.FinMap.{FinMap, nat_cmp-IsAntisymmetric, same_map}
+use Rattle.std.specs.FinMap.{nat_cmp-IsAntisymmetric, same_map}
 use Rattle.std.proofs.lemmas.Bool.{cases_eq, cases_lt, eqb-true, eq-eqb, ne_eqb, or_cases}
-use Rattle.guest_windows.specs.Windows.{Window, read_at}
+use Rattle.guest_windows.specs.Windows.{Window}
 use Rattle.gits_regs.specs.declared.values.RegValues.{RegValues}
 use Rattle.its_types.specs.Lpis.{is_pending}
-use Rattle.its_types.specs.Maps.{Maps, device_of, event_of, collection_of}
+use Rattle.its_types.specs.Maps.{Maps}
 use Rattle.its_types.specs.declared.machine.Shape.{Shape}
 use Rattle.its_types.specs.declared.translation.Bases.{Bases}
-use Rattle.its_types.specs.Ranges.{lpi_count}
 use Rattle.its_maps.proofs.PairOrder.{pair_total, pair_same}
 use Rattle.its_plain.specs.Plain.{Plain, Layout, Translator, Redistributor}
 use Rattle.its_plain.specs.Stands.{Stands, IsTranslatorIn, AreMapsIn, IsRedistributorIn}

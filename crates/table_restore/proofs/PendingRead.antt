@@ -1,15 +1,14 @@
 -- The LPIs of a pending table, byte by byte.
-use Rattle.std.proofs.Common.{◌≡◌, ℕ, Result, Ok, Err, ◌+◌, ◌-◌, ◌*◌, ◌/◌, ◌%◌, ◌^◌, ◌<◌, ◌≤◌, Bool, true, false, not, cond, eqb, ltb, nat_lt, nat_le, List, [], ◌∷◌, Option, Some, None, is_some, refl, sym, subst, ap, ◌∙◌, inl, inr, arith}
+use Rattle.std.proofs.Common.{◌≡◌, ℕ, Result, Ok, Err, ◌+◌, ◌-◌, ◌*◌, ◌/◌, ◌%◌, ◌^◌, ◌<◌, ◌≤◌, Bool, true, false, not, cond, eqb, nat_lt, nat_le, List, [], ◌∷◌, Option, Some, None, is_some, refl, sym, ap, ◌∙◌, inl, inr, arith}
 use Rattle.std.specs.Prelude.{◌||◌, ◌&&◌, filter, unwrap_or, slice_index}
 use Rattle.std.specs.Option.{option_map, ok_or}
-use Rattle.std.specs.List.{list_any}
-use Rattle.std.proofs.lemmas.Bool.{eqb-true, eq-eqb, ne_eqb, cases_eq, cases_lt, lt-ltb, le-ltb, ltb-true, cases_Bool}
+use Rattle.std.proofs.lemmas.Bool.{eqb-true, eq-eqb, ne_eqb, cases_eq, cases_lt, lt-ltb, le-ltb}
 use Rattle.std.proofs.lemmas.Nat.{pow-add}
 use Rattle.its_types.specs.Bits.{bit_of}
 use Rattle.its_types.specs.Lpis.{is_pending, with_lpi, with_lpis, lpis_of_byte, with_byte}
 use Rattle.its_types.specs.Ranges.{is_lpi, pending_bytes}
 use Rattle.guest_windows.specs.Windows.{Window, has, inside, read_at, byte_at}
-use Rattle.guest_windows.proofs.Laws.{Fits, has-fits, is_some-read_at}
+use Rattle.guest_windows.proofs.Laws.{has-fits, is_some-read_at}
 use Rattle.its_plain.specs.Stands.{is_set}
 use Rattle.lpi_pending.proofs.Bytes.{is_pending-byte_in, is_pending-byte_out}
 

@@ -1,21 +1,16 @@
 -- The redistributors, one after another.
-use Rattle.std.proofs.Common.{◌≡◌, ℕ, zero, suc, ◌+◌, ◌<◌, ◌≤◌, Bool, true, false, List, [], ◌∷◌, length, map, get_or, set, Option, Some, None, Result, Ok, Err, refl, sym, subst, ap, ◌∙◌, inl, inr, arith}
+use Rattle.std.proofs.Common.{◌≡◌, ℕ, zero, suc, ◌+◌, ◌<◌, ◌≤◌, false, List, [], ◌∷◌, length, map, get_or, Option, Some, None, refl, sym, subst, ap, ◌∙◌, inl, inr, arith}
 use Rattle.std.specs.Prelude.{slice_get, slice_set}
-use Rattle.std.proofs.lemmas.Bool.{cases_lt, cases_eq}
-use Rattle.std.proofs.lemmas.List.{length-set, get_or-set_same, get_or-set_other}
+use Rattle.std.proofs.lemmas.Bool.{cases_eq}
+use Rattle.std.proofs.lemmas.List.{get_or-set_same, get_or-set_other}
 use Rattle.guest_windows.specs.Windows.{Window}
 use Rattle.its_types.specs.declared.ids.Addr.{Addr}
 use Rattle.its_types.specs.declared.machine.Shape.{Shape}
 use Rattle.its_types.specs.declared.translation.Bases.{Bases}
-use Rattle.its_plain.specs.Machine.{described_bases}
-use Rattle.its_plain.specs.Stands.{lacks_tables, AreRedistributorsClear, RedistributorOffends}
-use Rattle.its_plain.specs.declared.fault.RestoreFault.{RestoreFault}
-use Rattle.its_plain.specs.declared.fault.RestoreFault.TheVariants.{BadRedist}
+use Rattle.its_plain.specs.Stands.{lacks_tables}
 use Rattle.lpi_pending.specs.InHand.{in_hand}
 use Rattle.lpi_pending.specs.declared.redist.Redist.{Redist}
-use Rattle.table_restore.specs.Outcome.{IsRestoredRedist, RestoredRedist, RestoredRedists, AreRestoredRedists}
-use Rattle.table_restore.specs.declared.error.RestoreError.{RestoreError}
-use Rattle.table_restore.specs.declared.error.RestoreError.TheVariants as errors
+use Rattle.table_restore.specs.Outcome.{IsRestoredRedist, AreRestoredRedists}
 
 -- the redistributors below n are in hand, and no other
 pub record AreRestoredBelow (s : Shape) (memory : List Window) (bases : List Bases) (redists : List (Option Redist)) (n : ℕ) : Type 0 where

@@ -1,5 +1,5 @@
 -- A state that memory stands for is sound.
-use Rattle.std.proofs.Common.{◌≡◌, ℕ, zero, suc, ◌+◌, ◌-◌, ◌*◌, ◌/◌, ◌%◌, ◌^◌, ◌<◌, ◌≤◌, Bool, true, false, not, cond, eqb, nat_lt, List, [], ◌∷◌, length, map, replicate, Option, Some, None, Result, Ok, Err, refl, sym, subst, ap, ◌∙◌, inl, inr, arith, pow_pos}
+use Rattle.std.proofs.Common.{◌≡◌, ℕ, zero, suc, ◌+◌, ◌-◌, ◌*◌, ◌%◌, ◌^◌, ◌<◌, ◌≤◌, Bool, true, false, not, cond, eqb, nat_lt, List, [], ◌∷◌, length, map, Option, Some, None, Result, Ok, Err, refl, sym, subst, ap, ◌∙◌, arith, pow_pos}
 use Rattle.std.specs.Prelude.{◌||◌, ◌&&◌, slice_get}
 use Rattle.std.specs.Option.{option_and_then, option_map, ok_or}
 use Rattle.std.specs.Result.{IsOk, IfOk}
@@ -10,27 +10,26 @@ use Rattle.std.proofs.lemmas.List.{length-replicate}
 use Rattle.std.proofs.lemmas.Nat.{pow-add}
 use Rattle.its_types.specs.Bits.{field, bit_of}
 use Rattle.its_types.specs.Lpis.{is_pending}
-use Rattle.its_types.specs.Maps.{Maps, device_of, event_of, collection_of}
-use Rattle.its_types.specs.Ranges.{is_lpi, is_device_id, lpi_count, pending_bytes}
+use Rattle.its_types.specs.Maps.{Maps, device_of}
+use Rattle.its_types.specs.Ranges.{is_lpi, lpi_count, pending_bytes}
 use Rattle.its_types.specs.declared.ids.Vcpu.{Vcpu}
 use Rattle.its_types.specs.declared.machine.Shape.{Shape}
 use Rattle.its_types.specs.declared.translation.Bases.{Bases}
 use Rattle.its_types.specs.declared.translation.Device.{Device}
 use Rattle.its_types.specs.declared.translation.Event.{Event}
-use Rattle.guest_windows.specs.Windows.{Window, inside, read_at, number_at, extent, are_windows}
+use Rattle.guest_windows.specs.Windows.{Window, inside, number_at, extent, are_windows}
 use Rattle.guest_windows.proofs.Laws.{length-read_at}
 use Rattle.gits_regs.specs.Registers as regs
 use Rattle.gits_regs.specs.Registers.{Registers, is_valid, is_indirect, collection_places, masked, restored}
 use Rattle.gits_regs.specs.declared.values.RegValues.{RegValues}
-use Rattle.gits_regs.specs.declared.values.NotValid.{NotValid}
 use Rattle.gits_regs.proofs.Kept.{restored_keeps}
 use Rattle.baser_place.specs.Places.{level1_entries, flat_places, entry_address}
 use Rattle.table_entries.specs.Fields.{DeviceFields, EventFields, CollectionFields}
 use Rattle.table_entries.specs.Words.{unpacked_device, unpacked_event}
-use Rattle.its_plain.specs.Walks.{Path, Reached, ensure, ◌>>=◌}
-use Rattle.its_plain.specs.EventTables.{Itt, itt_of, event_address, event_entry, event_of_fields, event_in, event_check, event_entry_check, next_event, IsIttClear, HasEvent}
-use Rattle.its_plain.specs.CollectionTables.{collection_address, collection_entry, collection_check, collection_entry_check, AreCollectionsClear, HasCollection, stands_before}
-use Rattle.its_plain.specs.DeviceTables.{DevicePlace, at_level1, at_entry, first_device, flat_size, page_places, id_of, device_entry, device_of_fields, device_in, next_device, DeviceReached, AreDevicesClear, IsDeviceClear, HasDevice, HasEventOf}
+use Rattle.its_plain.specs.Walks.{Path, ensure, ◌>>=◌}
+use Rattle.its_plain.specs.EventTables.{Itt, itt_of, event_address, event_entry, event_of_fields, event_check, event_entry_check, next_event, IsIttClear, HasEvent}
+use Rattle.its_plain.specs.CollectionTables.{collection_address, AreCollectionsClear, HasCollection}
+use Rattle.its_plain.specs.DeviceTables.{DevicePlace, at_level1, at_entry, first_device, flat_size, id_of, device_entry, device_of_fields, device_in, AreDevicesClear, HasDevice}
 use Rattle.its_plain.specs.Plain.{Plain, Layout, Translator, Redistributor}
 use Rattle.its_plain.specs.Sound.{IsShape, IsLayout, IsDevice, IsEvent, IsCollection, IsTranslator, HasTables, IsRedistributor, IsSound, AreKeptBases}
 use Rattle.its_plain.specs.Stands.{Stands, IsTranslatorIn, AreMapsIn, IsRedistributorIn, AreRedistributorsClear, lacks_tables, is_set}
@@ -39,7 +38,7 @@ use Rattle.its_plain.specs.declared.fault.RestoreFault.TheVariants.{OutsideTable
 use Rattle.table_restore.specs.Laws.{AreBasesOf}
 use Rattle.table_restore.specs.Outcome.{IsPlace}
 use Rattle.table_restore.proofs.Contents.{entry_of_word}
-use Rattle.table_restore.proofs.DevicesWalked.{IsSmall, small, device_starts, page_of_two, page_of_flat}
+use Rattle.table_restore.proofs.DevicesWalked.{small, device_starts, page_of_two, page_of_flat}
 use Rattle.table_restore.proofs.EventsWalked.{events_rise}
 use Rattle.table_restore.proofs.Standing.{good_along}
 use Rattle.table_restore.proofs.Whole.{are_masked}

@@ -1,5 +1,5 @@
 -- What a look at a place of the device table tells: that it is clear and what it has, or its first offence.
-use Rattle.std.proofs.Common.{◌≡◌, ℕ, ◌+◌, ◌-◌, ◌*◌, ◌^◌, ◌<◌, ◌≤◌, Bool, true, false, cond, nat_le, List, [], ◌∷◌, Option, Some, None, Result, Ok, Err, refl, sym, subst, ap, ◌∙◌, inl, inr, arith, pow_pos}
+use Rattle.std.proofs.Common.{◌≡◌, ℕ, ◌+◌, ◌*◌, ◌^◌, ◌<◌, ◌≤◌, Bool, true, false, nat_le, List, [], ◌∷◌, Option, Some, None, Result, Ok, Err, refl, sym, subst, ap, ◌∙◌, inl, inr, arith, pow_pos}
 use Rattle.std.specs.Option.{option_map, ok_or, IsSome}
 use Rattle.std.proofs.lemmas.Bool.{leb-true, leb-false}
 use Rattle.guest_windows.specs.Windows.{Window, number_at}

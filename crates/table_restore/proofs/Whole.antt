@@ -1,26 +1,22 @@
 -- What a restore answers: the state that memory and register values stand for, or their first offence.
-use Rattle.std.proofs.Common.{◌≡◌, ℕ, zero, suc, ◌+◌, ◌<◌, ◌≤◌, Bool, true, false, nat_lt, List, [], ◌∷◌, length, map, take, get_or, Option, Some, None, Result, Ok, Err, refl, sym, subst, ap, ◌∙◌, inl, inr, arith}
+use Rattle.std.proofs.Common.{◌≡◌, ℕ, zero, suc, ◌<◌, ◌≤◌, Bool, true, false, nat_lt, List, [], ◌∷◌, length, map, take, get_or, Option, Some, Result, Ok, Err, refl, sym, subst, ap, ◌∙◌, inl, inr, arith}
 use Rattle.std.specs.Prelude.{slice_get}
 use Rattle.std.specs.Result.{IsOk, IsErrAnd}
 use Rattle.std.proofs.lemmas.List.{length-map}
 use Rattle.guest_windows.specs.Windows.{Window}
 use Rattle.gits_regs.specs.Registers.{Registers, masked, restored, base_allowed, queue_size}
 use Rattle.gits_regs.specs.Registers as registers
-use Rattle.gits_regs.specs.declared.values.NotValid.{NotValid}
 use Rattle.gits_regs.specs.declared.values.Register.{Register}
 use Rattle.gits_regs.specs.declared.values.RegValues.{RegValues}
 use Rattle.its_types.specs.Maps.{Maps}
 use Rattle.its_types.specs.declared.ids.Addr.{Addr}
-use Rattle.its_types.specs.declared.machine.Shape.{Shape}
 use Rattle.its_types.specs.declared.translation.Bases.{Bases}
 use Rattle.its_plain.specs.Made.{IsDescription}
 use Rattle.its_plain.specs.Machine.{described_bases}
 use Rattle.its_plain.specs.Plain.{Redistributor}
-use Rattle.its_plain.specs.Stands.{Stands, IsFirstFault, of_redistributor, of_register, of_collection, of_device, AreRedistributorsClear, IsRedistributorIn}
+use Rattle.its_plain.specs.Stands.{Stands, IsFirstFault, of_redistributor, of_register, of_collection, of_device, IsRedistributorIn}
 use Rattle.its_plain.specs.declared.desc.Desc.{Desc}
 use Rattle.its_plain.specs.declared.fault.RestoreFault.{RestoreFault}
-use Rattle.its_plain.specs.declared.fault.RestoreFault.TheVariants as fault
-use Rattle.its_maps.specs.MapsRoom.{MapsRoom}
 use Rattle.lpi_pending.specs.InHand.{in_hand}
 use Rattle.lpi_pending.specs.declared.redist.Redist.{Redist}
 use Rattle.owned_parts.specs.Owned.{AreAllInHand, layout_of, state_of, redistributor_of, redistributor_or}

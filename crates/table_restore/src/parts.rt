@@ -43,7 +43,8 @@ fn maps_of(alloc: Global, regs: &Regs, memory: &Memory, shape: Shape) -> Result<
 }
 
 /// The machine that memory and the values of a translator's registers stand for, with a copy of the memory, or their first
-/// offence. LPIs are on at the tables that the description gives.
+/// offence. LPIs are on at the tables that the description gives, and a table of these that doesn't lie in one window is an
+/// offence before all others. Registers come next, then collections, and then devices with their events.
 pub fn restore(
     alloc: Global,
     values: RegValues,

@@ -1,8 +1,7 @@
 use Rattle.std.proofs.Common.{ℕ, ◌+◌, ◌<◌, refl, subst, sym, ap, ◌∙◌, arith}
 use Rattle.gits_regs.specs.Registers.{collection_places}
 use Rattle.its_plain.specs.Walks.{within}
-use Rattle.its_plain.specs.CollectionTables.{next_collection, stands_before}
-use Rattle.its_types.specs.Maps.{collection_of}
+use Rattle.its_plain.specs.CollectionTables.{next_collection}
 use Rattle.table_restore.specs.Walked.{after}
 use Rattle.table_restore.specs.Found.{put_collection, look_collection, collections_from, AreThoseBefore}
 use Rattle.table_restore.proofs.Walks.{goes_on, ends_here}

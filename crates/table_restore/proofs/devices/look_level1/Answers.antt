@@ -1,5 +1,4 @@
 use Rattle.std.proofs.Common.{ap, sym, ◌∙◌}
-use Rattle.its_types.specs.declared.ids.Addr.{Addr}
 use Rattle.its_plain.specs.declared.fault.RestoreFault.TheVariants.{OutsideTable}
 use Rattle.table_restore.proofs.DevicesWalked.{level1_is}
 use Rattle.table_restore.proofs.devices.look_level1.Goals as goal

@@ -6,7 +6,7 @@ use Rattle.its_types.specs.declared.translation.Device.{Device}
 use Rattle.its_plain.specs.EventTables.{itt_of, next_event}
 use Rattle.table_restore.specs.Walked.{after}
 use Rattle.table_restore.specs.Found.{put_event, look_event, events_read}
-use Rattle.table_restore.proofs.Walks.{goes_on, ends_here, goes_wrong, after-err, is_smaller}
+use Rattle.table_restore.proofs.Walks.{goes_on, ends_here, goes_wrong, after-err}
 use Rattle.table_restore.proofs.EventsWalked.{events_rise, event_put, event_wrong}
 use Rattle.table_restore.proofs.events.map_events.Goals as goal
 

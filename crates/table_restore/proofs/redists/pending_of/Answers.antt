@@ -1,4 +1,4 @@
-use Rattle.std.proofs.Common.{◌≡◌, ℕ, List, Option, is_some, true, sym, subst, ap, ◌∙◌, ◌+◌, ◌<◌, arith}
+use Rattle.std.proofs.Common.{◌≡◌, ℕ, Option, is_some, true, sym, subst, ap, ◌∙◌, ◌+◌, arith}
 use Rattle.guest_windows.specs.Windows.{byte_at}
 use Rattle.its_types.specs.Lpis.{is_pending}
 use Rattle.its_types.specs.Ranges.{pending_bytes}
