@@ -58,16 +58,24 @@ fn put(memory: &mut Memory, words: &[(u64, u64)]) -> Result<(), Outside> {
     Ok(())
 }
 
-// The first offence of these register values with zeros in memory but for these words.
+// What these register values stand for, with zeros in memory but for these words.
+fn restored(
+    rt: &HostRuntime,
+    values: RegValues,
+    words: &[(u64, u64)],
+) -> Result<Result<Parts, RestoreError>, Fail> {
+    let mut memory = Memory::new(rt.alloc(), &[(Addr(0x8000_0000), 0x20_0000)])?;
+    put(&mut memory, words)?;
+    let desc = desc(rt.alloc())?;
+    Ok(restore(rt.alloc(), values, &memory, &desc))
+}
+
 fn first_fault(
     rt: &HostRuntime,
     values: RegValues,
     words: &[(u64, u64)],
 ) -> Result<Option<RestoreFault>, Fail> {
-    let mut memory = Memory::new(rt.alloc(), &[(Addr(0x8000_0000), 0x20_0000)])?;
-    put(&mut memory, words)?;
-    let desc = desc(rt.alloc())?;
-    match restore(rt.alloc(), values, &memory, &desc) {
+    match restored(rt, values, words)? {
         Ok(_) => Ok(None),
         Err(RestoreError::Fault(fault)) => Ok(Some(fault)),
         Err(RestoreError::NoMemory) => Err(AllocError)?,
@@ -176,5 +184,25 @@ fn old_entries_are_not_read(rt: HostRuntime) -> Result<(), Fail> {
         Some(Intid(8200))
     );
     assert_eq!(rt; first_pending(&parts, desc.shape, Vcpu(0)), None);
+    Ok(())
+}
+
+// Device 0 leads past its page, to the next level-1 entry, whose page is the same.
+#[test]
+fn one_page_of_two_entries(rt: HostRuntime) -> Result<(), Fail> {
+    let mut values = VALUES;
+    values.baser0 = 0xc107_0000_8000_0200;
+    let words = [
+        (0x8000_0000, 0x8000_0000_8008_0000),
+        (0x8000_0008, 0x8000_0000_8008_0000),
+        (0x8008_0000, 0xfffe_0000_1001_8004),
+    ];
+    let Ok(parts) = restored(&rt, values, &words)? else {
+        return Err(AllocError)?;
+    };
+    let mapped = Some((Addr(0x800c_0000), 5));
+    assert_eq!(rt; parts.maps.device(DeviceId(0)), mapped);
+    assert_eq!(rt; parts.maps.device(DeviceId(1)), None);
+    assert_eq!(rt; parts.maps.device(DeviceId(8192)), mapped);
     Ok(())
 }
