@@ -15,3 +15,8 @@ pub mod MapLists
 pub mod Slots
 pub mod Outcome
 pub mod Made
+pub mod Walks
+pub mod EventTables
+pub mod CollectionTables
+pub mod DeviceTables
+pub mod Stands

@@ -1,0 +1,96 @@
+-- Which state guest memory and register values stand for, and what their first offence is where they stand for none (KVM
+-- document arm-vgic-its, "ITS Restore Sequence").
+use Rattle.std.specs.Prelude.{◌≡◌, ◌<◌, ℕ, ◌+◌, ◌/◌, ◌%◌, Bool, true, false, not, ◌&&◌, List, [], ◌∷◌, length, replicate, slice_get, Some, unwrap_or, Err, ◌↔◌}
+use Rattle.std.specs.Result.{IsOk}
+use Rattle.std.specs.List.Sorted.{IsStrictlyIncreasing}
+use Rattle.its_types.specs.Bits.{bit_of}
+use Rattle.guest_windows.specs.Windows.{Window, inside, read_at, byte_at}
+use Rattle.gits_regs.specs.Registers.{Registers, masked, restored}
+use Rattle.gits_regs.specs.declared.values.NotValid.{NotValid}
+use Rattle.gits_regs.specs.declared.values.RegValues.{RegValues}
+use Rattle.its_types.specs.Lpis.{is_pending}
+use Rattle.its_types.specs.Maps.{Maps, device_of, event_of, collection_of}
+use Rattle.its_types.specs.Ranges.{is_lpi, lpi_count, pending_bytes}
+use Rattle.its_types.specs.declared.ids.Vcpu.{Vcpu}
+use Rattle.its_types.specs.declared.machine.Shape.{Shape}
+use Rattle.its_types.specs.declared.translation.Bases.{Bases}
+use Rattle.its_types.specs.declared.translation.Device.{Device}
+use Rattle.its_types.specs.declared.translation.Event.{Event}
+use Rattle.its_plain.specs.Plain.{Plain, Layout, Translator, Redistributor}
+use Rattle.its_plain.specs.CollectionTables.{AreCollectionsClear, CollectionsOffend, HasCollection}
+use Rattle.its_plain.specs.DeviceTables.{AreDevicesClear, DevicesOffend, HasDevice, HasEventOf}
+use Rattle.its_plain.specs.declared.fault.RestoreFault.{RestoreFault}
+use Rattle.its_plain.specs.declared.fault.RestoreFault.TheVariants as fault
+
+-- ---- redistributors
+
+-- LPIs are on, and one of the two tables doesn't lie in one window
+abbrev pub lacks_tables : Shape → List Window → Bases → Bool
+lacks_tables s memory b = b.on && not (inside memory b.config.0 (lpi_count s.lpi_bits) && inside memory b.pending.0 (pending_bytes s.lpi_bits))
+
+abbrev pub AreRedistributorsClear : Shape → List Window → List Bases → Type 0
+AreRedistributorsClear s memory bases = (vcpu : ℕ) (b : Bases) → slice_get bases vcpu ≡ Some b → lacks_tables s memory b ≡ false
+
+-- the first virtual processor of which it is so
+pub record RedistributorOffends (s : Shape) (memory : List Window) (bases : List Bases) (vcpu : ℕ) : Type 0 where
+  pub base : Bases
+  pub base_is : slice_get bases vcpu ≡ Some base
+  pub lacks : lacks_tables s memory base ≡ true
+  pub first : (w : ℕ) (b : Bases) → w < vcpu → slice_get bases w ≡ Some b → lacks_tables s memory b ≡ false
+
+-- the bit of an LPI in a pending table
+abbrev pub is_set : List Window → ℕ → ℕ → Bool
+is_set memory base intid = bit_of (unwrap_or (byte_at memory (base + intid / 8)) 0) (intid % 8)
+
+-- the LPIs whose bits are set, rising: the first 1024 bytes of the table belong to none
+pub record ArePendingIn (lpi_bits : ℕ) (memory : List Window) (base : ℕ) (pending : List ℕ) : Type 0 where
+  pub rising : IsStrictlyIncreasing pending
+  pub are : (intid : ℕ) → is_pending intid pending ≡ is_lpi lpi_bits intid && is_set memory base intid
+
+-- what memory says of a redistributor with these bases
+pub record IsRedistributorIn (s : Shape) (memory : List Window) (b : Bases) (r : Redistributor) : Type 0 where
+  pub bases : r.bases ≡ b
+  pub config : b.on ≡ true → read_at memory b.config.0 (lpi_count s.lpi_bits) ≡ Some r.config
+  pub pending : b.on ≡ true → ArePendingIn s.lpi_bits memory b.pending.0 r.pending
+  pub off_config : b.on ≡ false → r.config ≡ replicate (lpi_count s.lpi_bits) 0
+  pub off_pending : b.on ≡ false → r.pending ≡ []
+
+-- ---- a translator
+
+-- nothing that is read has an offence, and the maps are just the valid entries at places that are reached
+pub record AreMapsIn (s : Shape) (memory : List Window) (r : Registers) (m : Maps) : Type 0 where
+  pub collections_clear : AreCollectionsClear memory s.vcpus r
+  pub devices_clear : AreDevicesClear memory s.lpi_bits r
+  pub collections : (icid : ℕ) (vcpu : Vcpu) → (collection_of m icid ≡ Some vcpu) ↔ HasCollection memory r icid vcpu
+  pub devices : (dev : ℕ) (d : Device) → (device_of m dev ≡ Some d) ↔ HasDevice memory r dev d
+  pub events : (dev ev : ℕ) (e : Event) → (event_of m dev ev ≡ Some e) ↔ HasEventOf memory r dev ev e
+
+pub record IsTranslatorIn (s : Shape) (memory : List Window) (values : RegValues) (t : Translator) : Type 0 where
+  pub allowed : IsOk (restored values s.dev_bits)
+  pub regs : t.regs ≡ masked values s.dev_bits
+  pub maps : AreMapsIn s memory t.regs t.maps
+
+-- ---- the machine
+
+-- memory and the values of a translator's registers stand for this state, where the redistributors have these bases
+pub record Stands (memory : List Window) (values : RegValues) (layout : Layout) (bases : List Bases) (u : Plain) : Type 0 where
+  pub clear : AreRedistributorsClear layout.shape memory bases
+  pub layout_is : u.layout ≡ layout
+  pub memory_is : u.memory ≡ memory
+  pub translator : Translator
+  pub translator_is : u.translators ≡ translator ∷ []
+  pub stands : IsTranslatorIn layout.shape memory values translator
+  pub vcpus : length u.redistributors ≡ length bases
+  pub redistributors : (vcpu : ℕ) (b : Bases) (r : Redistributor) → slice_get bases vcpu ≡ Some b → slice_get u.redistributors vcpu ≡ Some r
+    → IsRedistributorIn layout.shape memory b r
+
+-- the first offence: of the redistributors, of the registers, of the collections, and then of the devices with their events
+pub data IsFirstFault (memory : List Window) (values : RegValues) (s : Shape) (bases : List Bases) : RestoreFault → Type 0 where
+  of_redistributor : (vcpu : ℕ) → RedistributorOffends s memory bases vcpu → IsFirstFault memory values s bases (fault.BadRedist (record { 0 = vcpu }))
+  of_register : (e : NotValid) → AreRedistributorsClear s memory bases → restored values s.dev_bits ≡ Err e
+    → IsFirstFault memory values s bases (fault.NotValid e.0)
+  of_collection : (f : RestoreFault) → AreRedistributorsClear s memory bases → IsOk (restored values s.dev_bits)
+    → CollectionsOffend memory s.vcpus (masked values s.dev_bits) f → IsFirstFault memory values s bases f
+  of_device : (f : RestoreFault) → AreRedistributorsClear s memory bases → IsOk (restored values s.dev_bits)
+    → AreCollectionsClear memory s.vcpus (masked values s.dev_bits) → DevicesOffend memory s.lpi_bits (masked values s.dev_bits) f
+    → IsFirstFault memory values s bases f

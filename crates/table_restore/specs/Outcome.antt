@@ -1,0 +1,110 @@
+-- What the functions of a restore answer.
+use Rattle.std.specs.Prelude.{◌≡◌, ◌<◌, ℕ, ◌^◌, true, false, IsSome, length, slice_get, List, Option, Some, None, Result, Ok, Err}
+use Rattle.std.specs.Option.{option_map}
+use Rattle.guest_windows.specs.Windows.{Window, number_at}
+use Rattle.gits_regs.specs.Registers.{Registers, is_indirect}
+use Rattle.baser_place.specs.Places.{level1_entries, level1_address}
+use Rattle.table_entries.specs.Fields.{CollectionFields}
+use Rattle.its_types.specs.Maps.{Maps}
+use Rattle.its_types.specs.declared.ids.Icid.{Icid}
+use Rattle.its_types.specs.declared.ids.Vcpu.{Vcpu}
+use Rattle.its_types.specs.declared.translation.Event.{Event}
+use Rattle.its_plain.specs.EventTables.{Itt, event_check, event_in, next_event}
+use Rattle.its_plain.specs.CollectionTables.{collection_check, collection_entry}
+use Rattle.its_plain.specs.DeviceTables as spec
+use Rattle.its_plain.specs.DeviceTables.{next_device}
+use Rattle.its_plain.specs.declared.fault.RestoreFault.{RestoreFault}
+use Rattle.its_plain.specs.declared.fault.RestoreFault.TheVariants as fault
+use Rattle.its_plain.specs.declared.fault.RestoreFault.TheVariants.{OutsideTable, BadRedist}
+use Rattle.its_plain.specs.Stands.{AreRedistributorsClear, RedistributorOffends, IsRedistributorIn, lacks_tables}
+use Rattle.gits_regs.specs.declared.values.NotValid.{NotValid}
+use Rattle.its_maps.specs.MapsRoom.{MapsRoom}
+use Rattle.its_types.specs.declared.machine.Shape.{Shape}
+use Rattle.its_types.specs.declared.translation.Bases.{Bases}
+use Rattle.lpi_pending.specs.InHand.{in_hand}
+use Rattle.lpi_pending.specs.declared.redist.Redist.{Redist}
+use Rattle.owned_parts.specs.Owned.{HasLpisOf, redistributor_of}
+use Rattle.table_restore.specs.Walked.{after}
+use Rattle.table_restore.specs.Found.{look_device, put_found}
+use Rattle.table_restore.specs.declared.error.RestoreError.{RestoreError}
+use Rattle.table_restore.specs.declared.error.RestoreError.TheVariants as errors
+use Rattle.table_restore.specs.declared.place.DevicePlace.{DevicePlace}
+use Rattle.table_restore.specs.declared.place.DevicePlace.TheVariants.{Level1, Entry}
+
+abbrev pub LookedEvent : List Window → ℕ → Itt → ℕ → Result (Option Event × Option ℕ) RestoreFault → Type 0
+LookedEvent memory lpi_bits t ev (Ok seen) = (event_check memory lpi_bits t ev ≡ Ok tt) × (event_in memory t ev ≡ seen.0) × (next_event memory t ev ≡ seen.1)
+LookedEvent memory lpi_bits t ev (Err f) = event_check memory lpi_bits t ev ≡ Err f
+
+abbrev pub fields_of : Icid × Vcpu → CollectionFields
+fields_of c = record { vcpu_number = c.1.0; icid = c.0.0 }
+
+abbrev pub LookedCollection : List Window → ℕ → Registers → ℕ → Result (Option (Icid × Vcpu)) RestoreFault → Type 0
+LookedCollection memory vcpus r i (Ok seen) = (collection_check memory vcpus r i ≡ Ok tt) × (collection_entry memory r i ≡ option_map fields_of seen)
+LookedCollection memory vcpus r i (Err f) = collection_check memory vcpus r i ≡ Err f
+
+-- what was to be read is in the maps, but for want of memory
+abbrev pub Took : {X : Type 0} → (Maps → X → Maps) → Maps → Maps → Result (Unit {0}) RestoreError → Result (List X) RestoreFault → Type 0
+Took put old new (Ok done) read = after put old read ≡ Ok new
+Took put old new (Err (errors.Fault f)) read = read ≡ Err f
+Took put old new (Err errors.NoMemory) read = Unit {0}
+
+-- ---- places of the device table
+
+abbrev pub place_of : DevicePlace → spec.DevicePlace
+place_of (Level1 k) = spec.at_level1 k
+place_of (Entry k page index) = spec.at_entry k page.0 index
+
+-- a place that the table has
+abbrev pub IsPlace : Registers → spec.DevicePlace → Type 0
+IsPlace r (spec.at_level1 k) = (is_indirect r.baser0 ≡ true) × (k < level1_entries r.dev_bits) × (k < 128)
+IsPlace r (spec.at_entry k page index) =
+    (page < 2 ^ 52) × (index < spec.page_places r) × (is_indirect r.baser0 ≡ true → k < level1_entries r.dev_bits) × (is_indirect r.baser0 ≡ false → k ≡ 0) × (k < 128) × (index < 1048576)
+
+-- the maps have what the place has, and it leads there
+abbrev pub LookedDevice : List Window → ℕ → Registers → spec.DevicePlace → Maps → Maps → Result (Option DevicePlace) RestoreError → Type 0
+LookedDevice memory lpi_bits r p old new (Ok to) = (after put_found old (look_device memory lpi_bits r p) ≡ Ok new) × (next_device memory r p ≡ option_map place_of to)
+LookedDevice memory lpi_bits r p old new (Err (errors.Fault f)) = look_device memory lpi_bits r p ≡ Err f
+LookedDevice memory lpi_bits r p old new (Err errors.NoMemory) = Unit {0}
+
+abbrev pub LookedLevel1 : List Window → Registers → ℕ → Result (Option DevicePlace) RestoreFault → Type 0
+LookedLevel1 memory r k (Ok to) = IsSome (number_at memory (level1_address r k)) × (next_device memory r (spec.at_level1 k) ≡ option_map place_of to)
+LookedLevel1 memory r k (Err f) = (number_at memory (level1_address r k) ≡ None) × (f ≡ OutsideTable (record { 0 = level1_address r k }))
+
+-- ---- redistributors
+
+-- a redistributor in hand is the one that memory has
+pub record IsRestoredRedist (s : Shape) (memory : List Window) (b : Bases) (r : Redist) : Type 0 where
+  pub lpis : HasLpisOf s r
+  pub stands : IsRedistributorIn s memory b (redistributor_of r)
+
+abbrev pub RestoredRedist : Shape → List Window → ℕ → Bases → Result Redist RestoreError → Type 0
+RestoredRedist s memory vcpu b (Ok r) = IsRestoredRedist s memory b r × (lacks_tables s memory b ≡ false)
+RestoredRedist s memory vcpu b (Err (errors.Fault f)) = (lacks_tables s memory b ≡ true) × (f ≡ BadRedist (record { 0 = vcpu }))
+RestoredRedist s memory vcpu b (Err errors.NoMemory) = Unit {0}
+
+-- each redistributor with bases is in hand
+pub record AreRestoredRedists (s : Shape) (memory : List Window) (bases : List Bases) (redists : List (Option Redist)) : Type 0 where
+  pub clear : AreRedistributorsClear s memory bases
+  pub places : length redists ≡ 16
+  pub each : (vcpu : ℕ) (b : Bases) → slice_get bases vcpu ≡ Some b → (r : Redist) × (in_hand redists vcpu ≡ Some r) × IsRestoredRedist s memory b r
+
+abbrev pub RestoredRedists : Shape → List Window → List Bases → Result (List (Option Redist)) RestoreError → Type 0
+RestoredRedists s memory bases (Ok redists) = AreRestoredRedists s memory bases redists
+RestoredRedists s memory bases (Err (errors.Fault f)) = (vcpu : ℕ) × RedistributorOffends s memory bases vcpu × (f ≡ BadRedist (record { 0 = vcpu }))
+RestoredRedists s memory bases (Err errors.NoMemory) = Unit {0}
+
+-- ---- the whole
+
+abbrev pub RestoredRegs : Result Registers RestoreFault → Result Registers NotValid → Type 0
+RestoredRegs (Ok r) restored = restored ≡ Ok r
+RestoredRegs (Err f) restored = (e : NotValid) × (restored ≡ Err e) × (f ≡ fault.NotValid e.0)
+
+abbrev pub RestoredMaps : Result MapsRoom RestoreError → Result Maps RestoreFault → Type 0
+RestoredMaps (Ok m) read = read ≡ Ok m.maps
+RestoredMaps (Err (errors.Fault f)) read = read ≡ Err f
+RestoredMaps (Err errors.NoMemory) read = Unit {0}
+
+abbrev pub IfFault : {X : Type 0} → Result X RestoreError → (RestoreFault → Type 0) → Type 0
+IfFault (Ok x) P = Unit {0}
+IfFault (Err (errors.Fault f)) P = P f
+IfFault (Err errors.NoMemory) P = Unit {0}
