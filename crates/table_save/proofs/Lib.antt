@@ -1,0 +1,3 @@
+pub mod Redistributors
+pub mod Rises
+pub mod Written

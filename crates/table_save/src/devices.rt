@@ -1,0 +1,119 @@
+//! The device table.
+
+ghost use Rattle.std.specs.Prelude.{◌≡◌, ◌+◌, ◌*◌, ◌<◌, ◌≤◌, ◌^◌};
+ghost use Rattle.its_plain.specs.Saved.{put_words};
+ghost use Rattle.std.specs.List.{AllByRecursion};
+ghost use Rattle.table_save.specs.Pass.{RisesFrom, FitsDevice, device_entry_word, PassedDevices};
+
+use crate::words::put_word;
+use guest_windows::Memory;
+use its_maps::{DeviceWalk, Maps};
+use its_types::{Device, DeviceId};
+use std::marker::Model;
+use table_entries::Dte;
+
+/// The devices that are not written yet, by rising DeviceID.
+#[derive(Drop)]
+pub struct DeviceFront<'a> {
+    first: Option<(DeviceId, Device)>,
+    rest: DeviceWalk<'a>,
+}
+
+impl<'a> Model for DeviceFront<'a> {
+    ghost use Rattle.std.specs.Prelude.{ℕ, List};
+    ghost use Rattle.its_types.specs.declared.translation.Device.{Device};
+    ghost use Rattle.table_save.specs.Pass.{devices_with};
+
+    ghost Value = { List (ℕ × Device) };
+
+    ghost view = { λ f. devices_with f.first f.rest };
+}
+
+impl<'a> DeviceFront<'a> {
+    ghost use Rattle.std.specs.Prelude.{◌≡◌, ◌+◌, ◌<◌, ◌^◌, drop};
+    ghost use Rattle.std.specs.List.{AllByRecursion};
+    ghost use Rattle.std.specs.FinMap.{entries};
+    ghost use Rattle.its_plain.specs.Saved as saved;
+    ghost use Rattle.table_save.specs.Pass.{RisesFrom, FitsDevice, PassedDevices, device_entry_word, begins_below, first_key, past};
+
+    pub fn new(maps: &'a Maps) -> DeviceFront<'a>
+        ensures { result ≡ entries maps.now.maps.devices }
+    {
+        let mut rest = maps.devices();
+        let first = rest.next();
+        DeviceFront { first, rest }
+    }
+
+    /// The word of a place, at which the devices begin at the earliest; the device there is then written.
+    pub fn word_at(&mut self, id: u32) -> u64
+        requires rises { RisesFrom id self.old }
+        requires fit { AllByRecursion FitsDevice self.old }
+        ensures word { result ≡ device_entry_word self.old id }
+        ensures rest { self.new ≡ past id self.old }
+    {
+        match self.first {
+            Some((dev, device)) if dev.0 == id => {
+                self.first = self.rest.next();
+                let entry = Dte {
+                    next: self.distance(id),
+                    itt: device.itt,
+                    bits: device.bits,
+                };
+                entry.pack()
+            }
+            _ => 0,
+        }
+    }
+
+    /// Passes over the devices before a place.
+    pub fn skip_below(&mut self, id: u32)
+        requires rises { RisesFrom 0 self.old }
+        requires fit { AllByRecursion FitsDevice self.old }
+        ensures { PassedDevices id self.old self.new }
+    {
+        while self.begins_below(id) {
+            self.pass_first();
+        }
+    }
+
+    fn begins_below(&self, id: u32) -> bool
+        ensures { result ≡ begins_below id self.now }
+    {
+        matches!(self.first, Some((dev, _)) if dev.0 < id)
+    }
+
+    fn pass_first(&mut self)
+        ensures { self.new ≡ drop 1 self.old }
+    {
+        if self.first.is_some() {
+            self.first = self.rest.next();
+        }
+    }
+
+    // How far the first one is, at most 16383, or 0 where there is none.
+    fn distance(&self, id: u32) -> u16
+        requires { RisesFrom (id + 1) self.now }
+        ensures distance { result ≡ saved.distance 16383 id (first_key self.now) }
+        ensures fits { result < 2 ^ 14 }
+    {
+        match self.first {
+            Some((dev, _)) => (dev.0 - id).min(16383) as u16,
+            None => 0,
+        }
+    }
+}
+
+/// Writes so many places of a device table, of which the first is that of a DeviceID and stands at an address.
+pub fn put_places(memory: &mut Memory, base: u64, first: u32, count: u32, front: &mut DeviceFront)
+    requires low { base < 2 ^ 53 }
+    requires few { first + count < 2 ^ 32 }
+    requires rises { RisesFrom first front.old }
+    requires fit { AllByRecursion FitsDevice front.old }
+    ensures memory { memory.new ≡ put_words memory.old base (λ i. device_entry_word front.old (first + i)) count }
+    ensures rest { PassedDevices (first + count) front.old front.new }
+{
+    for i in 0..count {
+        let word = front.word_at(first + i);
+        put_word(memory, base + 8 * u64::from(i), word);
+    }
+}

@@ -1,0 +1,12 @@
+//! Saving a translator and the pending LPIs to guest memory (KVM document arm-vgic-its, ITS table ABI revision 0).
+#![tactic(auto)]
+
+mod area;
+mod areas;
+mod checks;
+mod devices;
+mod error;
+mod overlap;
+mod words;
+
+pub use error::SaveError;
