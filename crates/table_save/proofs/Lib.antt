@@ -1,3 +1,4 @@
+pub mod Pages
 pub mod Redistributors
 pub mod Rises
 pub mod Written

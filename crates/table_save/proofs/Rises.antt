@@ -5,6 +5,10 @@ use Rattle.std.specs.List.{AllByRecursion}
 use Rattle.std.specs.Ordering.{nat_cmp, eq_by_cmp}
 use Rattle.std.specs.Cmp.{unsigned_tied}
 use Rattle.std.specs.FinMap as finmap
+use Rattle.std.specs.FinMap.{FinMap}
+use Rattle.std.specs.FinMap.Entries.{below_all}
+use lib.Dec.{T}
+use Rattle.its_maps.proofs.Rising.{first, second, below}
 use Rattle.std.proofs.lemmas.Bool.{le-ltb, ltb-true, ltb-false, eqb-true, eqb-false, ne_eqb}
 use Rattle.its_plain.specs.Saved.{distance}
 use Rattle.table_save.specs.Pass.{RisesFrom, past, begins_below, key_after, packed_if, entry_word, Passed}
@@ -120,3 +124,17 @@ module _ {X : Type 0} where
     pub shorter : (id : ℕ) (rest : List (ℕ × X)) → begins_below id rest ≡ true → length (drop 1 rest) < length rest
     shorter id [] below = absurd cc
     shorter id (e ∷ es) below = omega arith
+
+-- ---- the entries of a map rise
+
+module _ {X : Type 0} where
+  rises_above : (x : ℕ) (es : List (ℕ × X)) → T (below_all nat_cmp x es) → T (finmap.is_sorted nat_cmp es) → RisesFrom (x + 1) es
+  rises_above x [] low sorted = tt
+  rises_above x (e ∷ es) low sorted = let lt = below x e.0 (first _ _ low) in (omega arith, rises_above e.0 es (first _ _ sorted) (second _ _ sorted))
+
+  pub sorted_rises : (es : List (ℕ × X)) → T (finmap.is_sorted nat_cmp es) → RisesFrom 0 es
+  sorted_rises [] sorted = tt
+  sorted_rises (e ∷ es) sorted = (omega arith, rises_above e.0 es (first _ _ sorted) (second _ _ sorted))
+
+  pub map_rises : (m : FinMap nat_cmp X) → RisesFrom 0 (finmap.entries m)
+  map_rises m = sorted_rises (finmap.entries m) (finmap.entries_sorted m)

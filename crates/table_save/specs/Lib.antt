@@ -1,3 +1,4 @@
 pub mod Areas
 pub mod Checked
 pub mod Pass
+pub mod Tables

@@ -1,14 +1,16 @@
 //! The device table.
 
-ghost use Rattle.std.specs.Prelude.{◌≡◌, ◌+◌, ◌*◌, ◌<◌, ◌≤◌, ◌^◌};
-ghost use Rattle.its_plain.specs.Saved.{put_words};
+ghost use Rattle.std.specs.Prelude.{◌≡◌, ◌+◌, ◌*◌, ◌<◌, ◌≤◌, ◌^◌, length, IfSome};
+ghost use Rattle.std.specs.FinMap.{entries};
+ghost use Rattle.its_plain.specs.Saved.{put_words, put_tables};
+ghost use Rattle.table_save.specs.Tables.{AreLowPages, page_table, page_tables};
 ghost use Rattle.std.specs.List.{AllByRecursion};
 ghost use Rattle.table_save.specs.Pass.{RisesFrom, FitsDevice, device_entry_word, PassedDevices};
 
 use crate::words::put_word;
 use guest_windows::Memory;
 use its_maps::{DeviceWalk, Maps};
-use its_types::{Device, DeviceId};
+use its_types::{Addr, Device, DeviceId};
 use std::marker::Model;
 use table_entries::Dte;
 
@@ -115,5 +117,40 @@ pub fn put_places(memory: &mut Memory, base: u64, first: u32, count: u32, front:
     for i in 0..count {
         let word = front.word_at(first + i);
         put_word(memory, base + 8 * u64::from(i), word);
+    }
+}
+
+/// Writes the pages of a device table of two levels, which have so many places each.
+pub fn put_pages(memory: &mut Memory, pages: &[Option<Addr>], per_page: u32, maps: &Maps)
+    requires few { length pages.now ≤ 128 }
+    requires short { per_page ≤ 8192 }
+    requires low { AreLowPages pages.now }
+    requires fit { AllByRecursion FitsDevice (entries maps.now.maps.devices) }
+    ensures { memory.new ≡ put_tables memory.old (page_tables (entries maps.now.maps.devices) per_page pages.now (length pages.now)) }
+{
+    let mut front = DeviceFront::new(maps);
+    for (k, page) in pages.iter().enumerate() {
+        put_page(memory, *page, per_page * k as u32, per_page, &mut front);
+    }
+}
+
+// Writes a page, if there is one, and passes over its places.
+fn put_page(
+    memory: &mut Memory,
+    page: Option<Addr>,
+    first: u32,
+    count: u32,
+    front: &mut DeviceFront,
+)
+    requires few { first + count < 2 ^ 24 }
+    requires low { IfSome page (λ a. a.0 < 2 ^ 52) }
+    requires rises { RisesFrom first front.old }
+    requires fit { AllByRecursion FitsDevice front.old }
+    ensures memory { memory.new ≡ put_tables memory.old (page_table front.old first count page) }
+    ensures rest { PassedDevices (first + count) front.old front.new }
+{
+    match page {
+        Some(base) => put_places(memory, base.0, first, count, front),
+        None => front.skip_below(first + count),
     }
 }

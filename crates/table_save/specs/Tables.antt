@@ -1,0 +1,39 @@
+-- The tables that a save writes, each kind from what decides it.
+use Rattle.std.specs.Prelude.{◌≡◌, ℕ, zero, suc, ◌+◌, ◌-◌, ◌*◌, ◌/◌, ◌^◌, ◌<◌, List, [], ◌∷◌, ◌++◌, length, slice_index_or, slice_get, Option, Some, None, if◌then◌else◌}
+use Rattle.std.specs.List.{flat_map}
+use Rattle.std.specs.Option.{option_map}
+use Rattle.guest_windows.specs.Windows.{Window}
+use Rattle.gits_regs.specs.Registers.{Registers}
+use Rattle.baser_place.specs.Places.{level1_of, level1_entries, page_of}
+use Rattle.its_types.specs.declared.ids.Addr.{Addr}
+use Rattle.its_types.specs.declared.translation.Device.{Device}
+use Rattle.its_plain.specs.Saved.{Words}
+use Rattle.table_save.specs.Pass.{device_entry_word}
+
+-- ---- a device table of two levels
+
+abbrev pub page_at : List (Option Addr) → ℕ → Option Addr
+page_at pages k = slice_index_or pages k None
+
+abbrev pub address_of : Addr → ℕ
+address_of a = a.0
+
+-- each page lies below 2 ^ 52
+abbrev pub AreLowPages : List (Option Addr) → Type 0
+AreLowPages pages = (k : ℕ) (a : Addr) → page_at pages k ≡ Some a → a.0 < 2 ^ 52
+
+-- the pages of all level-1 entries
+pub record ArePages (r : Registers) (memory : List Window) (pages : List (Option Addr)) : Type 0 where
+  pub count : length pages ≡ level1_entries r.dev_bits
+  pub each : (k : ℕ) → k < length pages → option_map address_of (page_at pages k) ≡ page_of (level1_of r memory k)
+  pub low : AreLowPages pages
+
+-- a page of n places, of which the first is that of a DeviceID
+abbrev pub page_table : List (ℕ × Device) → ℕ → ℕ → Option Addr → List Words
+page_table devices first n None = []
+page_table devices first n (Some base) = record { base = base.0; count = n; word = λ i. device_entry_word devices (first + i) } ∷ []
+
+-- the first k pages, of n places each
+abbrev pub page_tables : List (ℕ × Device) → ℕ → List (Option Addr) → ℕ → List Words
+page_tables devices n pages zero = []
+page_tables devices n pages (suc k) = page_tables devices n pages k ++ page_table devices (n * k) n (page_at pages k)
