@@ -1,3 +1,5 @@
+pub mod CollectionWalks
+pub mod EventsOf
 pub mod Pages
 pub mod Redistributors
 pub mod Rises

@@ -8,7 +8,12 @@ use Rattle.baser_place.specs.Places.{level1_of, level1_entries, page_of}
 use Rattle.its_types.specs.declared.ids.Addr.{Addr}
 use Rattle.its_types.specs.declared.translation.Device.{Device}
 use Rattle.its_plain.specs.Saved.{Words}
-use Rattle.table_save.specs.Pass.{device_entry_word}
+use Rattle.table_save.specs.Pass.{device_entry_word, event_entry_word}
+use Rattle.table_entries.specs.Words.{packed_collection}
+use Rattle.its_maps.specs.MapsRoom.{events_at}
+use Rattle.its_types.specs.Maps.{Maps}
+use Rattle.its_types.specs.declared.ids.Icid.{Icid}
+use Rattle.its_types.specs.declared.ids.Vcpu.{Vcpu}
 
 -- ---- a device table of two levels
 
@@ -37,3 +42,15 @@ page_table devices first n (Some base) = record { base = base.0; count = n; word
 abbrev pub page_tables : List (ℕ × Device) → ℕ → List (Option Addr) → ℕ → List Words
 page_tables devices n pages zero = []
 page_tables devices n pages (suc k) = page_tables devices n pages k ++ page_table devices (n * k) n (page_at pages k)
+
+-- ---- interrupt translation tables
+
+-- those of some devices
+abbrev pub itt_tables : Maps → List (ℕ × Device) → List Words
+itt_tables m devices = flat_map (λ d. record { base = d.1.itt.0; count = 2 ^ d.1.bits; word = event_entry_word (events_at m d.0) } ∷ []) devices
+
+-- ---- collections
+
+abbrev pub collection_entry : Option (Icid × Vcpu) → ℕ
+collection_entry None = 0
+collection_entry (Some c) = packed_collection (record { vcpu_number = c.1.0; icid = c.0.0 })

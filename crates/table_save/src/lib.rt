@@ -4,9 +4,12 @@
 mod area;
 mod areas;
 mod checks;
+mod collections;
 mod devices;
 mod error;
+mod events;
 mod overlap;
+mod pending;
 mod words;
 
 pub use error::SaveError;
