@@ -1,6 +1,9 @@
 pub mod CollectionWalks
 pub mod EventsOf
-pub mod Pages
+pub mod PageTables
 pub mod Redistributors
 pub mod Rises
 pub mod Written
+pub mod Entries
+pub mod SoundParts
+pub mod Tested

@@ -1,16 +1,19 @@
 -- The areas that a save looks at, each kind from what decides it.
-use Rattle.std.specs.Prelude.{◌≡◌, ℕ, ◌+◌, ◌-◌, ◌*◌, ◌^◌, ◌<◌, ◌≤◌, Bool, true, false, if◌then◌else◌, List, [], ◌∷◌, map, take, Option, Some, None, slice_index_or}
+use Rattle.std.specs.Prelude.{◌≡◌, ℕ, ◌+◌, ◌-◌, ◌*◌, ◌^◌, ◌<◌, ◌≤◌, true, false, if◌then◌else◌, List, [], ◌∷◌, ◌++◌, map, take, Option, Some, None, slice_index_or}
 use Rattle.std.specs.List.{flat_map}
 use Rattle.guest_windows.specs.Windows.{Window, inside}
 use Rattle.gits_regs.specs.Registers.{Registers, is_valid, table_base, queue_base, queue_size}
 use Rattle.baser_place.specs.Places.{level1_entries}
+use Rattle.std.specs.FinMap.{entries}
+use Rattle.its_types.specs.Maps.{Maps}
 use Rattle.its_types.specs.Ranges.{lpi_count, pending_bytes}
 use Rattle.its_types.specs.declared.ids.Vcpu.{Vcpu}
 use Rattle.its_types.specs.declared.machine.Shape.{Shape}
 use Rattle.its_types.specs.declared.translation.Bases.{Bases}
 use Rattle.its_types.specs.declared.translation.Device.{Device}
 use Rattle.its_plain.specs.Plain.{Redistributor, no_redistributor}
-use Rattle.its_plain.specs.Regions.{Area, page_size, pages_below, itt_area}
+use Rattle.its_plain.specs.Regions as regions
+use Rattle.its_plain.specs.Regions.{Area, page_size, pages_below, device_areas, collection_areas, itt_area, areas_from}
 use Rattle.its_plain.specs.declared.fault.Region.TheVariants.{Level1, Page, Pending, Config, Queue}
 use Rattle.lpi_pending.specs.InHand.{in_hand}
 use Rattle.lpi_pending.specs.declared.redist.Redist.{Redist}
@@ -62,3 +65,14 @@ pub record AreLow (shape : Shape) (b : Bases) : Type 0 where
 
 abbrev pub HaveLowTables : Shape → List (Option Redist) → Type 0
 HaveLowTables shape redists = (vcpu : ℕ) (r : Redist) → in_hand redists vcpu ≡ Some r → vcpu < shape.vcpus → AreLow shape r.bases
+
+-- ---- all of them
+
+-- the tables of a translator, which have to lie in one window each
+abbrev pub tables_in : List Window → Registers → Maps → List Area
+tables_in memory r m = device_areas r memory ++ collection_areas r ++ itt_areas (entries m.devices)
+
+-- with the others behind them
+abbrev pub all_areas : List Area → Shape → Registers → List (Option Redist) → List Area
+all_areas tables shape r redists =
+    tables ++ areas_from (regions.pending_area shape) 0 (redistributors_of shape redists) ++ config_area shape (redistributors_of shape redists) ++ queue_areas r

@@ -1,5 +1,6 @@
 -- What the tests before a save find.
-use Rattle.std.specs.Prelude.{◌≡◌, ℕ, Option, Some, None, Result, Ok, Err}
+use Rattle.std.specs.Prelude.{◌≡◌, ℕ, Option, Some, None, Result, Ok, Err, List}
+use Rattle.guest_windows.specs.Windows.{Window}
 use Rattle.its_types.specs.declared.translation.Device.{Device}
 use Rattle.its_plain.specs.Regions.{Area}
 use Rattle.its_plain.specs.declared.fault.SaveFault.{SaveFault}
@@ -27,3 +28,8 @@ abbrev pub Answers : Result (Unit {0}) SaveError → Result (Unit {0}) SaveFault
 Answers (Ok done) tested = tested ≡ Ok tt
 Answers (Err (errors.Fault f)) tested = tested ≡ Err f
 Answers (Err errors.NoMemory) tested = Unit {0}
+
+-- memory once all is written, or as it was
+abbrev pub Leaves : Result (Unit {0}) SaveError → List Window → List Window → List Window → Type 0
+Leaves (Ok done) old new saved = new ≡ saved
+Leaves (Err e) old new saved = new ≡ old

@@ -1,5 +1,5 @@
 -- The tables that a save writes, each kind from what decides it.
-use Rattle.std.specs.Prelude.{◌≡◌, ℕ, zero, suc, ◌+◌, ◌-◌, ◌*◌, ◌/◌, ◌^◌, ◌<◌, List, [], ◌∷◌, ◌++◌, length, slice_index_or, slice_get, Option, Some, None, if◌then◌else◌}
+use Rattle.std.specs.Prelude.{◌≡◌, ℕ, zero, suc, ◌+◌, ◌*◌, ◌^◌, ◌<◌, ◌≤◌, List, [], ◌∷◌, ◌++◌, length, slice_index_or, Option, Some, None}
 use Rattle.std.specs.List.{flat_map}
 use Rattle.std.specs.Option.{option_map}
 use Rattle.guest_windows.specs.Windows.{Window}
@@ -7,7 +7,10 @@ use Rattle.gits_regs.specs.Registers.{Registers}
 use Rattle.baser_place.specs.Places.{level1_of, level1_entries, page_of}
 use Rattle.its_types.specs.declared.ids.Addr.{Addr}
 use Rattle.its_types.specs.declared.translation.Device.{Device}
-use Rattle.its_plain.specs.Saved.{Words}
+use Rattle.std.specs.FinMap.{entries}
+use Rattle.its_types.specs.declared.machine.Shape.{Shape}
+use Rattle.its_plain.specs.Plain.{Redistributor}
+use Rattle.its_plain.specs.Saved.{Words, device_words, collection_words, pending_words}
 use Rattle.table_save.specs.Pass.{device_entry_word, event_entry_word}
 use Rattle.table_entries.specs.Words.{packed_collection}
 use Rattle.its_maps.specs.MapsRoom.{events_at}
@@ -30,6 +33,7 @@ AreLowPages pages = (k : ℕ) (a : Addr) → page_at pages k ≡ Some a → a.0 
 -- the pages of all level-1 entries
 pub record ArePages (r : Registers) (memory : List Window) (pages : List (Option Addr)) : Type 0 where
   pub count : length pages ≡ level1_entries r.dev_bits
+  pub few : length pages ≤ 128
   pub each : (k : ℕ) → k < length pages → option_map address_of (page_at pages k) ≡ page_of (level1_of r memory k)
   pub low : AreLowPages pages
 
@@ -54,3 +58,10 @@ itt_tables m devices = flat_map (λ d. record { base = d.1.itt.0; count = 2 ^ d.
 abbrev pub collection_entry : Option (Icid × Vcpu) → ℕ
 collection_entry None = 0
 collection_entry (Some c) = packed_collection (record { vcpu_number = c.1.0; icid = c.0.0 })
+
+-- ---- all of them
+
+abbrev pub all_tables : List Window → Registers → Maps → List Redistributor → Shape → List Words
+all_tables memory r m rs shape =
+    device_words (record { regs = r; maps = m }) memory ++ collection_words (record { regs = r; maps = m }) ++ itt_tables m (entries m.devices)
+    ++ flat_map (pending_words shape) rs

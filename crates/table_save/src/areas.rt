@@ -119,7 +119,12 @@ pub fn add_pending(areas: &mut Vec<Area>, redists: &Redists, shape: Shape) -> Re
     Ok(())
 }
 
-fn add_pending_of(areas: &mut Vec<Area>, vcpu: Vcpu, bases: Bases, shape: Shape) -> Result<(), NoMemory>
+fn add_pending_of(
+    areas: &mut Vec<Area>,
+    vcpu: Vcpu,
+    bases: Bases,
+    shape: Shape,
+) -> Result<(), NoMemory>
     requires shape { IsShape shape }
     requires low { AreLow shape bases }
     ensures { OnOk result (areas.new.items ≡ areas.old.items ++ pending_area shape vcpu bases) }

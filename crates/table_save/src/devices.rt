@@ -1,13 +1,16 @@
 //! The device table.
 
-ghost use Rattle.std.specs.Prelude.{◌≡◌, ◌+◌, ◌*◌, ◌<◌, ◌≤◌, ◌^◌, length, IfSome};
+ghost use Rattle.std.specs.Prelude.{◌≡◌, ◌+◌, ◌*◌, ◌<◌, ◌≤◌, ◌^◌, true, length, IfSome};
 ghost use Rattle.std.specs.FinMap.{entries};
-ghost use Rattle.its_plain.specs.Saved.{put_words, put_tables};
-ghost use Rattle.table_save.specs.Tables.{AreLowPages, page_table, page_tables};
+ghost use Rattle.gits_regs.specs.Registers.{is_indirect};
+ghost use Rattle.its_plain.specs.Saved.{put_words, put_tables, device_words};
+ghost use Rattle.table_save.specs.Tables.{AreLowPages, ArePages, page_table, page_tables};
 ghost use Rattle.std.specs.List.{AllByRecursion};
 ghost use Rattle.table_save.specs.Pass.{RisesFrom, FitsDevice, device_entry_word, PassedDevices};
 
+use crate::areas::level1_entries;
 use crate::words::put_word;
+use gits_regs::Regs;
 use guest_windows::Memory;
 use its_maps::{DeviceWalk, Maps};
 use its_types::{Addr, Device, DeviceId};
@@ -153,4 +156,23 @@ fn put_page(
         Some(base) => put_places(memory, base.0, first, count, front),
         None => front.skip_below(first + count),
     }
+}
+
+/// Writes the device table: a flat one, or the pages of one of two levels.
+#[tactic(auto, unfolding(its_plain::specs::Saved::device_words))]
+pub fn put_devices(memory: &mut Memory, regs: &Regs, pages: &[Option<Addr>], maps: &Maps)
+    requires pages { is_indirect regs.now.baser0 ≡ true → ArePages regs.now memory.old pages.now }
+    requires fit { AllByRecursion FitsDevice (entries maps.now.maps.devices) }
+    ensures { memory.new ≡ put_tables memory.old (device_words (record { regs = regs.now; maps = maps.now.maps }) memory.old) }
+{
+    if !regs.table_valid(0) {
+        return;
+    }
+    if regs.indirect() {
+        put_pages(memory, pages, 8192, maps);
+        return;
+    }
+    let count = 8192 * regs.pages(0).min(level1_entries(regs));
+    let mut front = DeviceFront::new(maps);
+    put_places(memory, regs.table_base(0).0, 0, count, &mut front);
 }

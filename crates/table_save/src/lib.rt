@@ -9,7 +9,10 @@ mod devices;
 mod error;
 mod events;
 mod overlap;
+mod pages;
 mod pending;
+mod saving;
 mod words;
 
 pub use error::SaveError;
+pub use saving::{savable, save};

@@ -34,7 +34,12 @@ fn put_table(memory: &mut Memory, redist: &Redist, shape: Shape)
 {
     if redist.bases.on {
         let count = (shape.pending_bytes() - 1024) / 8;
-        put_words_of(memory, redist.bases.pending.0 + 1024, count as u32, &redist.pending);
+        put_words_of(
+            memory,
+            redist.bases.pending.0 + 1024,
+            count as u32,
+            &redist.pending,
+        );
     }
 }
 

@@ -1,5 +1,5 @@
 use Rattle.std.proofs.Common.{arith}
-use Rattle.table_save.proofs.Pages.{this_page}
+use Rattle.table_save.proofs.PageTables.{this_page}
 use Rattle.table_save.proofs.Rises.{later_rises}
 use Rattle.table_save.proofs.devices.put_page.Goals as goal
 

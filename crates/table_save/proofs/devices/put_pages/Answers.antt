@@ -1,6 +1,6 @@
 use Rattle.std.proofs.Common.{refl}
 use Rattle.std.specs.FinMap.{entries}
-use Rattle.table_save.proofs.Pages.{no_pages, page_more, past_page}
+use Rattle.table_save.proofs.PageTables.{no_pages, page_more, past_page}
 use Rattle.table_save.proofs.Rises.{map_rises}
 use Rattle.table_save.proofs.devices.put_pages.Goals as goal
 

@@ -1,4 +1,4 @@
-use Rattle.std.proofs.Common.{ap, sym, ◌∙◌}
+use Rattle.std.proofs.Common.{ap}
 use Rattle.std.specs.Prelude.{is_some}
 use Rattle.owned_parts.specs.Owned.{HasLpisOf}
 use Rattle.table_save.proofs.Redistributors.{table_more, lent_too}
