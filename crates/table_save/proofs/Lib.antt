@@ -1,3 +1,4 @@
+pub mod Disjoint
 pub mod CollectionWalks
 pub mod EventsOf
 pub mod PageTables

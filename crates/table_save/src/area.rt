@@ -26,6 +26,7 @@ impl Model for Area {
 impl Area {
     ghost use Rattle.std.specs.Prelude.{◌≡◌, ◌+◌, ◌<◌, ◌^◌, true, false};
     ghost use Rattle.its_plain.specs.Regions as spec;
+    ghost use Rattle.table_save.specs.Spans.{span};
 
     /// One that a save writes.
     pub fn written(region: Region, base: u64, size: u64) -> Area
@@ -57,6 +58,13 @@ impl Area {
         ensures { result ≡ self.now.region }
     {
         self.region
+    }
+
+    /// Its base and its end.
+    pub fn span(&self) -> (u64, u64)
+        ensures { result ≡ span self.now }
+    {
+        (self.base, self.base + self.size)
     }
 
     /// Whether it doesn't lie in one window.

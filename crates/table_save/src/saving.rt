@@ -49,8 +49,7 @@ pub fn savable(
     all_inside(memory, &tables)?;
     all_placed(regs, memory, maps)?;
     let areas = with_others(tables, regs, redists, desc.shape)?;
-    none_overlap(&areas)?;
-    Ok(())
+    none_overlap(alloc, &areas)
 }
 
 // The areas that have to lie in one window each.

@@ -1,8 +1,8 @@
-use Rattle.std.proofs.Common.{ap, sym, ◌∙◌}
+use Rattle.std.proofs.Common.{ap, sym, subst, ◌∙◌}
 use Rattle.std.specs.Prelude.{find}
 use Rattle.its_plain.specs.Regions.{is_outside, none_overlap}
 use Rattle.table_save.specs.Areas.{all_areas}
-use Rattle.table_save.specs.Checked.{outside_fault}
+use Rattle.table_save.specs.Checked.{outside_fault, Answers}
 use Rattle.table_save.proofs.SoundParts.{tables_low, redistributors_low}
 use Rattle.table_save.proofs.Tested.{when_outside, when_unplaced, when_placed, answered}
 use Rattle.table_save.proofs.saving.savable.Goals as goal
@@ -26,18 +26,10 @@ returns-in_err-all_placed c =
 pub with_others-requires-clause-low : goal.with_others-requires-clause-low
 with_others-requires-clause-low c = redistributors_low c.args.desc.now c.args.regs.now c.args.maps.now.maps c.args.memory.now c.args.redists.now c.requires.sound
 
-pub returns-in_err-none_overlap : goal.returns-in_err-none_overlap
-returns-in_err-none_overlap c =
-    let inside = ap (λ ts. outside_fault (find (is_outside c.args.memory.now) ts)) (sym (c.deref.ensures.value ∙ c.in_ok-tables.ensures)) ∙ sym c.all_inside.ensures ∙ c.in_ok-all_inside.was in
-    let placed = sym c.all_placed.ensures ∙ c.in_ok-all_placed.was in
-    let areas = c.deref-2.ensures.value ∙ c.in_ok-areas.ensures ∙ ap (λ ts. all_areas ts c.args.desc.now.shape c.args.regs.now c.args.redists.now) c.in_ok-tables.ensures in
-    answered c.from_residual-in_err-none_overlap.result c.in_err-none_overlap.field-0.0 _ c.from_residual-in_err-none_overlap.ensures.1
-    (when_placed c.args.desc.now c.args.regs.now c.args.maps.now.maps c.args.memory.now c.args.redists.now inside placed
-    ∙ ap none_overlap (sym areas) ∙ sym c.none_overlap.ensures ∙ c.in_err-none_overlap.was)
-
 pub returns : goal.returns
 returns c =
     let inside = ap (λ ts. outside_fault (find (is_outside c.args.memory.now) ts)) (sym (c.deref.ensures.value ∙ c.in_ok-tables.ensures)) ∙ sym c.all_inside.ensures ∙ c.in_ok-all_inside.was in
     let placed = sym c.all_placed.ensures ∙ c.in_ok-all_placed.was in
     let areas = c.deref-2.ensures.value ∙ c.in_ok-areas.ensures ∙ ap (λ ts. all_areas ts c.args.desc.now.shape c.args.regs.now c.args.redists.now) c.in_ok-tables.ensures in
-    when_placed c.args.desc.now c.args.regs.now c.args.maps.now.maps c.args.memory.now c.args.redists.now inside placed ∙ ap none_overlap (sym areas) ∙ sym c.none_overlap.ensures ∙ c.in_ok-none_overlap.was
+    let same = ap none_overlap areas ∙ sym (when_placed c.args.desc.now c.args.regs.now c.args.maps.now.maps c.args.memory.now c.args.redists.now inside placed) in
+    subst (Answers c.none_overlap.result) same c.none_overlap.ensures
