@@ -6,5 +6,5 @@ pub mod Redistributors
 pub mod Rises
 pub mod Written
 pub mod Entries
-pub mod SoundParts
+pub mod SoundState
 pub mod Tested

@@ -3,7 +3,7 @@ use Rattle.std.specs.Prelude.{find}
 use Rattle.its_plain.specs.Regions.{is_outside, none_overlap}
 use Rattle.table_save.specs.Areas.{all_areas}
 use Rattle.table_save.specs.Checked.{outside_fault, Answers}
-use Rattle.table_save.proofs.SoundParts.{tables_low, redistributors_low}
+use Rattle.table_save.proofs.SoundState.{tables_low, redistributors_low}
 use Rattle.table_save.proofs.Tested.{when_outside, when_unplaced, when_placed, answered}
 use Rattle.table_save.proofs.saving.savable.Goals as goal
 

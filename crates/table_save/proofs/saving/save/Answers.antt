@@ -1,7 +1,7 @@
 use Rattle.std.proofs.Common.{◌∙◌, ap}
 use Rattle.its_plain.specs.Saved.{put_tables}
 use Rattle.table_save.proofs.Entries.{words_are}
-use Rattle.table_save.proofs.SoundParts.{devices_fit, events_fit, redistributors_low}
+use Rattle.table_save.proofs.SoundState.{devices_fit, events_fit, redistributors_low}
 use Rattle.table_save.proofs.saving.save.Goals as goal
 
 pub put_all-requires-clause-low : goal.put_all-requires-clause-low
