@@ -1,0 +1,10 @@
+pub mod Disjoint
+pub mod CollectionWalks
+pub mod EventsOf
+pub mod PageTables
+pub mod Redistributors
+pub mod Rises
+pub mod Written
+pub mod Entries
+pub mod SoundState
+pub mod Tested

@@ -1,0 +1,88 @@
+-- What a sound state says of the parts in hand.
+use Rattle.std.proofs.Common.{◌≡◌, ℕ, zero, suc, ◌+◌, ◌<◌, ◌≤◌, ◌^◌, true, List, [], ◌∷◌, map, take, Option, Some, None, inl, inr, refl, sym, ap, ◌∙◌, arith}
+use Rattle.std.specs.Prelude.{◌&&◌, nat_lt, nat_le, length, slice_get}
+use Rattle.std.specs.List.{AllByRecursion, list_all}
+use Rattle.std.specs.Ordering.{nat_cmp}
+use Rattle.std.specs.FinMap as finmap
+use Rattle.std.specs.FinMap.{get-entries}
+use Rattle.std.proofs.lemmas.Bool.{and_parts, or_cases, leb-true, cases_lt}
+use Rattle.guest_windows.specs.Windows.{Window, has, inside, are_windows, in_range, share_no_byte, total, extent}
+use Rattle.guest_windows.proofs.Laws.{has-fits}
+use Rattle.gits_regs.specs.Registers.{Registers}
+use Rattle.its_types.specs.Maps.{Maps}
+use Rattle.its_maps.specs.MapsRoom.{events_at}
+use Rattle.its_plain.specs.Sound.{IsSound, IsTranslator}
+use Rattle.its_plain.specs.declared.desc.Desc.{Desc}
+use Rattle.lpi_pending.specs.InHand.{in_hand}
+use Rattle.lpi_pending.specs.declared.redist.Redist.{Redist}
+use Rattle.owned_parts.specs.Owned.{state_of, layout_of, redistributor_of, redistributor_or}
+use Rattle.table_save.specs.Areas.{HasLowTable, HaveLowTables}
+use Rattle.table_save.specs.Pass.{RisesFrom, FitsDevice, FitsEvent}
+use Rattle.table_save.proofs.EventsOf.{events_rise, find_of_device}
+use Rattle.table_save.proofs.Rises.{find_here, find_skips, rises_none, map_rises}
+
+-- ---- each entry of a list that rises
+
+each_found : {X : Type 0} (P : ℕ × X → Type 0) (i : ℕ) (es : List (ℕ × X)) → RisesFrom i es → ((k : ℕ) (x : X) → finmap.find nat_cmp k es ≡ Some x → P (k, x)) → AllByRecursion P es
+each_found P i [] r h = tt
+each_found {X} P i (e ∷ es) r h = (
+  h e.0 e.1 (find_here e.0 e es refl),
+  each_found P (e.0 + 1) es r.1 (λ k x is. elim (cases_lt k (e.0 + 1)) [
+    | inl lt ↦ absurd (let none : finmap.find nat_cmp k es ≡ None = rises_none k (e.0 + 1) es r.1 lt in cc)
+    | inr le ↦ h k x (find_skips k e es (λ same. omega arith) ∙ is)
+  ]),
+)
+
+-- ---- where memory is
+
+window_low : (ws : List Window) (a n : ℕ) → list_all in_range (map extent ws) ≡ true → inside ws a n ≡ true → a + n ≤ 2 ^ 52
+window_low [] a n windows is = absurd cc
+window_low (w ∷ ws) a n windows is =
+    let here = and_parts (in_range (extent w)) (list_all in_range (map extent ws)) windows in
+    elim (or_cases (has w a n) (inside ws a n) is) [
+      | inl it ↦
+          let fits = has-fits w a n it in
+          let top = leb-true (w.base + length w.bytes) (2 ^ 52) (and_parts (nat_lt 0 (length w.bytes)) (nat_le (w.base + length w.bytes) (2 ^ 52)) here.0).1 in
+          omega (arith, fits.below, top)
+      | inr later ↦ window_low ws a n here.1 later
+    ]
+
+are_in_range : (ws : List (ℕ × ℕ)) → are_windows ws ≡ true → list_all in_range ws ≡ true
+are_in_range ws h =
+    let few = nat_lt 0 (length ws) && nat_le (length ws) 16 in
+    let apart = and_parts (few && list_all in_range ws && share_no_byte ws) (nat_le (total ws) 67108864) h in
+    let ranges = and_parts (few && list_all in_range ws) (share_no_byte ws) apart.0 in
+    (and_parts few (list_all in_range ws) ranges.0).1
+
+-- ---- the parts
+
+in_hand_here : (n v : ℕ) (redists : List (Option Redist)) (r : Redist) → v < n → in_hand redists v ≡ Some r → slice_get (map redistributor_or (take n redists)) v ≡ Some (redistributor_of r)
+in_hand_here n v [] r lt is = absurd cc
+in_hand_here zero v (x ∷ xs) r lt is = absurd (omega arith)
+in_hand_here (suc n) zero (x ∷ xs) r lt is = ap (λ (o : Option Redist). Some (redistributor_or o)) is
+in_hand_here (suc n) (suc v) (x ∷ xs) r lt is = in_hand_here n v xs r (omega arith) is
+
+module _ (d : Desc) (r : Registers) (m : Maps) (memory : List Window) (redists : List (Option Redist)) (sound : IsSound (state_of (layout_of d) r m memory redists)) where
+  translator : IsTranslator d.shape (record { regs = r; maps = m })
+  translator = sound.translators 0 (record { regs = r; maps = m }) refl
+
+  pub devices_fit : AllByRecursion FitsDevice (finmap.entries m.devices)
+  devices_fit = each_found FitsDevice 0 (finmap.entries m.devices) (map_rises m.devices) (λ k x is.
+      let h = translator.devices k x (get-entries m.devices k ∙ is) in (h.itt_low, h.itt_whole, h.least_bits, h.most_bits))
+
+  pub tables_low : AllByRecursion HasLowTable (finmap.entries m.devices)
+  tables_low = each_found HasLowTable 0 (finmap.entries m.devices) (map_rises m.devices) (λ k x is.
+      let h = translator.devices k x (get-entries m.devices k ∙ is) in (h.itt_low, h.most_bits))
+
+  pub events_fit : (dev : ℕ) → AllByRecursion FitsEvent (events_at m dev)
+  events_fit dev = each_found FitsEvent 0 (events_at m dev) (events_rise m dev) (λ k x is.
+      let h = translator.events dev k x (get-entries m.events (dev, k) ∙ sym (find_of_device dev k (finmap.entries m.events)) ∙ is) in
+      let low = leb-true 8192 x.intid.0 (and_parts (nat_le 8192 x.intid.0) (nat_lt x.intid.0 (2 ^ d.shape.lpi_bits)) h.lpi).0 in
+      omega (arith, low))
+
+  pub redistributors_low : HaveLowTables d.shape redists
+  redistributors_low = λ v q is lt.
+      let h = sound.redistributors v (redistributor_of q) (in_hand_here d.shape.vcpus v redists q lt is) in
+      let both = h.tables (h.always_on refl) in
+      let windows = are_in_range (map extent memory) sound.memory in
+      record { config = window_low memory _ _ windows both.config; pending = window_low memory _ _ windows both.pending }

@@ -1,0 +1,82 @@
+-- The tests of the code are those of the definition.
+use Rattle.std.proofs.Common.{◌≡◌, ℕ, List, [], ◌∷◌, ◌++◌, Option, Some, None, Result, Ok, Err, refl, sym, ap, ◌∙◌, append-nil}
+use Rattle.std.specs.Prelude.{find, IsErrAnd}
+use Rattle.std.specs.FinMap.{entries}
+use Rattle.guest_windows.specs.Windows.{Window}
+use Rattle.gits_regs.specs.Registers.{Registers}
+use Rattle.its_types.specs.Maps.{Maps}
+use Rattle.its_types.specs.declared.translation.Device.{Device}
+use Rattle.its_plain.specs.Plain.{Plain, Translator}
+use Rattle.its_plain.specs.Regions.{Area, areas_from, pending_area, ◌>>=◌, is_outside, has_no_place, all_placed, none_overlap, table_areas, areas_of, savable}
+use Rattle.its_plain.specs.declared.desc.Desc.{Desc}
+use Rattle.its_plain.specs.declared.fault.SaveFault.{SaveFault}
+use Rattle.its_plain.specs.declared.fault.SaveFault.TheVariants.{NoPlace}
+use Rattle.lpi_pending.specs.declared.redist.Redist.{Redist}
+use Rattle.owned_parts.specs.Owned.{state_of, layout_of}
+use Rattle.table_save.specs.Areas.{tables_in, all_areas, redistributors_of, config_area, queue_areas}
+use Rattle.table_save.specs.Checked.{outside_fault, unplaced_fault, Answers}
+use Rattle.table_save.specs.declared.error.SaveError.{SaveError}
+use Rattle.table_save.specs.declared.error.SaveError.TheVariants as errors
+
+abbrev placed_or : Option (ℕ × Device) → Result (Unit {0}) SaveFault → Result (Unit {0}) SaveFault
+placed_or None rest = rest
+placed_or (Some d) rest = Err (NoPlace (record { 0 = d.0 }))
+
+placed_cases : (o : Option (ℕ × Device)) → placed_or o (Ok tt) ≡ unplaced_fault o
+placed_cases None = refl
+placed_cases (Some d) = refl
+
+placed_is : (memory : List Window) (t : Translator) → all_placed memory (t ∷ []) ≡ unplaced_fault (find (has_no_place t.regs memory) (entries t.maps.devices))
+placed_is memory t = placed_cases (find (has_no_place t.regs memory) (entries t.maps.devices))
+
+module _ (d : Desc) (r : Registers) (m : Maps) (memory : List Window) (redists : List (Option Redist)) where
+  abbrev state : Plain
+  state = state_of (layout_of d) r m memory redists
+
+  abbrev tables : List Area
+  tables = tables_in memory r m
+
+  abbrev all : List Area
+  all = all_areas tables d.shape r redists
+
+  abbrev inside_test : Result (Unit {0}) SaveFault
+  inside_test = outside_fault (find (is_outside memory) tables)
+
+  abbrev placed_test : Result (Unit {0}) SaveFault
+  placed_test = unplaced_fault (find (has_no_place r memory) (entries m.devices))
+
+  all_is : areas_of state ≡ all
+  unfolding areas_of table_areas
+  all_is =
+      let pending = areas_from (pending_area d.shape) 0 (redistributors_of d.shape redists) in
+      let config = config_area d.shape (redistributors_of d.shape redists) in
+      ap (λ ts. ts ++ pending ++ config ++ (queue_areas r ++ [])) (append-nil tables) ∙ ap (λ q. tables ++ pending ++ config ++ q) (append-nil (queue_areas r))
+
+  savable_is : savable state ≡ (inside_test >>= λ _. placed_test >>= λ _. none_overlap all)
+  unfolding savable table_areas
+  savable_is =
+      let t : Translator = record { regs = r; maps = m } in
+      ap (λ (ts : List Area). outside_fault (find (is_outside memory) ts) >>= λ _. all_placed memory (t ∷ []) >>= λ _. none_overlap (areas_of state)) (append-nil tables)
+      ∙ ap (λ (p : Result (Unit {0}) SaveFault). inside_test >>= λ _. p >>= λ _. none_overlap (areas_of state)) (placed_is memory t)
+      ∙ ap (λ (areas : List Area). inside_test >>= λ _. placed_test >>= λ _. none_overlap areas) all_is
+
+  -- ---- what each test of the code says
+
+  pub when_outside : (f : SaveFault) → inside_test ≡ Err f → savable state ≡ Err f
+  when_outside f e = savable_is ∙ ap (λ (p : Result (Unit {0}) SaveFault). p >>= λ _. placed_test >>= λ _. none_overlap all) e
+
+  pub when_unplaced : (f : SaveFault) → inside_test ≡ Ok tt → placed_test ≡ Err f → savable state ≡ Err f
+  when_unplaced f inside e =
+      savable_is ∙ ap (λ (p : Result (Unit {0}) SaveFault). p >>= λ _. placed_test >>= λ _. none_overlap all) inside
+      ∙ ap (λ (p : Result (Unit {0}) SaveFault). p >>= λ _. none_overlap all) e
+
+  pub when_placed : inside_test ≡ Ok tt → placed_test ≡ Ok tt → savable state ≡ none_overlap all
+  when_placed inside placed =
+      savable_is ∙ ap (λ (p : Result (Unit {0}) SaveFault). p >>= λ _. placed_test >>= λ _. none_overlap all) inside
+      ∙ ap (λ (p : Result (Unit {0}) SaveFault). p >>= λ _. none_overlap all) placed
+
+-- a fault that was met is the answer
+pub answered : (result : Result (Unit {0}) SaveError) (f : SaveFault) (s : Result (Unit {0}) SaveFault) → IsErrAnd result (λ e. e ≡ errors.Fault f) → s ≡ Err f → Answers result s
+answered (Ok done) f s is e = absurd is
+answered (Err errors.NoMemory) f s is e = tt
+answered (Err (errors.Fault g)) f s is e = let same : g ≡ f = cc in e ∙ ap Err (sym same)

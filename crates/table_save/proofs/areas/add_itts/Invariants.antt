@@ -1,0 +1,13 @@
+use Rattle.std.proofs.Common.{◌≡◌, ◌++◌}
+use Rattle.std.specs.FinMap.{entries}
+use Rattle.std.specs.List.{AllByRecursion}
+use Rattle.table_save.specs.Areas.{itt_areas, HasLowTable}
+use Rattle.table_save.proofs.areas.add_itts.Given as goal
+
+abbrev pub invariant-loop-dev : goal.invariant-loop-dev
+invariant-loop-dev l = record {
+  can_next : (goal.iterator-loop-dev).can_next l.dev-iterator;
+  is_finite : (goal.iterator-loop-dev).is_finite l.dev-iterator;
+  low : AllByRecursion HasLowTable l.dev-iterator;
+  areas : l.areas.items ++ itt_areas l.dev-iterator ≡ l.fn.areas.items ++ itt_areas (entries l.fn.maps.maps.devices);
+}

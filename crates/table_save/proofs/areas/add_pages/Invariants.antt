@@ -1,0 +1,6 @@
+use Rattle.std.proofs.Common.{◌≡◌, ◌++◌}
+use Rattle.its_plain.specs.Regions.{pages_below}
+use Rattle.table_save.proofs.areas.add_pages.Given as goal
+
+abbrev pub invariant-loop-k : goal.invariant-loop-k
+invariant-loop-k l = l.areas.items ≡ l.fn.areas.items ++ pages_below l.regs l.memory l.k

@@ -1,0 +1,35 @@
+-- What the tests before a save find.
+use Rattle.std.specs.Prelude.{◌≡◌, ℕ, Option, Some, None, Result, Ok, Err, List}
+use Rattle.guest_windows.specs.Windows.{Window}
+use Rattle.its_types.specs.declared.translation.Device.{Device}
+use Rattle.its_plain.specs.Regions.{Area}
+use Rattle.its_plain.specs.declared.fault.SaveFault.{SaveFault}
+use Rattle.its_plain.specs.declared.fault.SaveFault.TheVariants.{Outside, NoPlace, Overlap}
+use Rattle.table_save.specs.declared.error.SaveError.{SaveError}
+use Rattle.table_save.specs.declared.error.SaveError.TheVariants as errors
+
+-- the first area that isn't in one window
+abbrev pub outside_fault : Option Area → Result (Unit {0}) SaveFault
+outside_fault None = Ok tt
+outside_fault (Some area) = Err (Outside area.region)
+
+-- the first device without a place
+abbrev pub unplaced_fault : Option (ℕ × Device) → Result (Unit {0}) SaveFault
+unplaced_fault None = Ok tt
+unplaced_fault (Some d) = Err (NoPlace (record { 0 = d.0 }))
+
+-- the first area that clashes with one
+abbrev pub clash_fault : Area → Option Area → Result (Unit {0}) SaveFault
+clash_fault one None = Ok tt
+clash_fault one (Some other) = Err (Overlap one.region other.region)
+
+-- what was answered, unless memory of the host ran out
+abbrev pub Answers : Result (Unit {0}) SaveError → Result (Unit {0}) SaveFault → Type 0
+Answers (Ok done) tested = tested ≡ Ok tt
+Answers (Err (errors.Fault f)) tested = tested ≡ Err f
+Answers (Err errors.NoMemory) tested = Unit {0}
+
+-- memory once all is written, or as it was
+abbrev pub Leaves : Result (Unit {0}) SaveError → List Window → List Window → List Window → Type 0
+Leaves (Ok done) old new saved = new ≡ saved
+Leaves (Err e) old new saved = new ≡ old

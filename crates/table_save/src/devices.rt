@@ -1,0 +1,178 @@
+//! The device table.
+
+ghost use Rattle.std.specs.Prelude.{◌≡◌, ◌+◌, ◌*◌, ◌<◌, ◌≤◌, ◌^◌, true, length, IfSome};
+ghost use Rattle.std.specs.FinMap.{entries};
+ghost use Rattle.gits_regs.specs.Registers.{is_indirect};
+ghost use Rattle.its_plain.specs.Saved.{put_words, put_tables, device_words};
+ghost use Rattle.table_save.specs.Tables.{AreLowPages, ArePages, page_table, page_tables};
+ghost use Rattle.std.specs.List.{AllByRecursion};
+ghost use Rattle.table_save.specs.Pass.{RisesFrom, FitsDevice, device_entry_word, PassedDevices};
+
+use crate::areas::level1_entries;
+use crate::words::put_word;
+use gits_regs::Regs;
+use guest_windows::Memory;
+use its_maps::{DeviceWalk, Maps};
+use its_types::{Addr, Device, DeviceId};
+use std::marker::Model;
+use table_entries::Dte;
+
+/// The devices that are not written yet, by rising DeviceID.
+#[derive(Drop)]
+pub struct DeviceFront<'a> {
+    first: Option<(DeviceId, Device)>,
+    rest: DeviceWalk<'a>,
+}
+
+impl<'a> Model for DeviceFront<'a> {
+    ghost use Rattle.std.specs.Prelude.{ℕ, List};
+    ghost use Rattle.its_types.specs.declared.translation.Device.{Device};
+    ghost use Rattle.table_save.specs.Pass.{devices_with};
+
+    ghost Value = { List (ℕ × Device) };
+
+    ghost view = { λ f. devices_with f.first f.rest };
+}
+
+impl<'a> DeviceFront<'a> {
+    ghost use Rattle.std.specs.Prelude.{◌≡◌, ◌+◌, ◌<◌, ◌^◌, drop};
+    ghost use Rattle.std.specs.List.{AllByRecursion};
+    ghost use Rattle.std.specs.FinMap.{entries};
+    ghost use Rattle.its_plain.specs.Saved as saved;
+    ghost use Rattle.table_save.specs.Pass.{RisesFrom, FitsDevice, PassedDevices, device_entry_word, begins_below, first_key, past};
+
+    pub fn new(maps: &'a Maps) -> DeviceFront<'a>
+        ensures { result ≡ entries maps.now.maps.devices }
+    {
+        let mut rest = maps.devices();
+        let first = rest.next();
+        DeviceFront { first, rest }
+    }
+
+    /// The word of a place, at which the devices begin at the earliest; the device there is then written.
+    pub fn word_at(&mut self, id: u32) -> u64
+        requires rises { RisesFrom id self.old }
+        requires fit { AllByRecursion FitsDevice self.old }
+        ensures word { result ≡ device_entry_word self.old id }
+        ensures rest { self.new ≡ past id self.old }
+    {
+        match self.first {
+            Some((dev, device)) if dev.0 == id => {
+                self.first = self.rest.next();
+                let entry = Dte {
+                    next: self.distance(id),
+                    itt: device.itt,
+                    bits: device.bits,
+                };
+                entry.pack()
+            }
+            _ => 0,
+        }
+    }
+
+    /// Passes over the devices before a place.
+    pub fn skip_below(&mut self, id: u32)
+        requires rises { RisesFrom 0 self.old }
+        requires fit { AllByRecursion FitsDevice self.old }
+        ensures { PassedDevices id self.old self.new }
+    {
+        while self.begins_below(id) {
+            self.pass_first();
+        }
+    }
+
+    fn begins_below(&self, id: u32) -> bool
+        ensures { result ≡ begins_below id self.now }
+    {
+        matches!(self.first, Some((dev, _)) if dev.0 < id)
+    }
+
+    fn pass_first(&mut self)
+        ensures { self.new ≡ drop 1 self.old }
+    {
+        if self.first.is_some() {
+            self.first = self.rest.next();
+        }
+    }
+
+    // How far the first one is, at most 16383, or 0 where there is none.
+    fn distance(&self, id: u32) -> u16
+        requires { RisesFrom (id + 1) self.now }
+        ensures distance { result ≡ saved.distance 16383 id (first_key self.now) }
+        ensures fits { result < 2 ^ 14 }
+    {
+        match self.first {
+            Some((dev, _)) => (dev.0 - id).min(16383) as u16,
+            None => 0,
+        }
+    }
+}
+
+/// Writes so many places of a device table, of which the first is that of a DeviceID and stands at an address.
+pub fn put_places(memory: &mut Memory, base: u64, first: u32, count: u32, front: &mut DeviceFront)
+    requires low { base < 2 ^ 53 }
+    requires few { first + count < 2 ^ 32 }
+    requires rises { RisesFrom first front.old }
+    requires fit { AllByRecursion FitsDevice front.old }
+    ensures memory { memory.new ≡ put_words memory.old base (λ i. device_entry_word front.old (first + i)) count }
+    ensures rest { PassedDevices (first + count) front.old front.new }
+{
+    for i in 0..count {
+        let word = front.word_at(first + i);
+        put_word(memory, base + 8 * u64::from(i), word);
+    }
+}
+
+/// Writes the pages of a device table of two levels, which have so many places each.
+pub fn put_pages(memory: &mut Memory, pages: &[Option<Addr>], per_page: u32, maps: &Maps)
+    requires few { length pages.now ≤ 128 }
+    requires short { per_page ≤ 8192 }
+    requires low { AreLowPages pages.now }
+    requires fit { AllByRecursion FitsDevice (entries maps.now.maps.devices) }
+    ensures { memory.new ≡ put_tables memory.old (page_tables (entries maps.now.maps.devices) per_page pages.now (length pages.now)) }
+{
+    let mut front = DeviceFront::new(maps);
+    for (k, page) in pages.iter().enumerate() {
+        put_page(memory, *page, per_page * k as u32, per_page, &mut front);
+    }
+}
+
+// Writes a page, if there is one, and passes over its places.
+fn put_page(
+    memory: &mut Memory,
+    page: Option<Addr>,
+    first: u32,
+    count: u32,
+    front: &mut DeviceFront,
+)
+    requires few { first + count < 2 ^ 24 }
+    requires low { IfSome page (λ a. a.0 < 2 ^ 52) }
+    requires rises { RisesFrom first front.old }
+    requires fit { AllByRecursion FitsDevice front.old }
+    ensures memory { memory.new ≡ put_tables memory.old (page_table front.old first count page) }
+    ensures rest { PassedDevices (first + count) front.old front.new }
+{
+    match page {
+        Some(base) => put_places(memory, base.0, first, count, front),
+        None => front.skip_below(first + count),
+    }
+}
+
+/// Writes the device table: a flat one, or the pages of one of two levels.
+#[tactic(auto, unfolding(its_plain::specs::Saved::device_words))]
+pub fn put_devices(memory: &mut Memory, regs: &Regs, pages: &[Option<Addr>], maps: &Maps)
+    requires pages { is_indirect regs.now.baser0 ≡ true → ArePages regs.now memory.old pages.now }
+    requires fit { AllByRecursion FitsDevice (entries maps.now.maps.devices) }
+    ensures { memory.new ≡ put_tables memory.old (device_words (record { regs = regs.now; maps = maps.now.maps }) memory.old) }
+{
+    if !regs.table_valid(0) {
+        return;
+    }
+    if regs.indirect() {
+        put_pages(memory, pages, 8192, maps);
+        return;
+    }
+    let count = 8192 * regs.pages(0).min(level1_entries(regs));
+    let mut front = DeviceFront::new(maps);
+    put_places(memory, regs.table_base(0).0, 0, count, &mut front);
+}

@@ -1,0 +1,18 @@
+//! Saving a translator and the pending LPIs to guest memory (KVM document arm-vgic-its, ITS table ABI revision 0).
+#![tactic(auto)]
+
+mod area;
+mod areas;
+mod checks;
+mod collections;
+mod devices;
+mod error;
+mod events;
+mod overlap;
+mod pages;
+mod pending;
+mod saving;
+mod words;
+
+pub use error::SaveError;
+pub use saving::{savable, save};

@@ -1,0 +1,49 @@
+//! The pages of a device table of two levels.
+
+ghost use Rattle.std.specs.Prelude.{◌≡◌, ◌<◌, ◌^◌, true, IfOk, IfSome};
+ghost use Rattle.std.specs.Option.{option_map};
+ghost use Rattle.gits_regs.specs.Registers.{is_indirect};
+ghost use Rattle.baser_place.specs.Places as places;
+ghost use Rattle.table_save.specs.Tables.{ArePages, address_of};
+
+use crate::areas::level1_entries;
+use baser_place::{Level1, level1};
+use gits_regs::Regs;
+use guest_windows::{Memory, NoMemory};
+use its_types::Addr;
+use std::alloc::Global;
+
+/// Where the page of each level-1 entry stands, if the entry is valid; of a flat table none.
+pub fn read_pages(
+    alloc: Global,
+    regs: &Regs,
+    memory: &Memory,
+) -> Result<Vec<Option<Addr>>, NoMemory>
+    ensures { IfOk result (λ v. is_indirect regs.now.baser0 ≡ true → ArePages regs.now memory.now v.items) }
+{
+    if regs.indirect() {
+        return read_level1(alloc, regs, memory);
+    }
+    Ok(Vec::new(alloc))
+}
+
+fn read_level1(alloc: Global, regs: &Regs, memory: &Memory) -> Result<Vec<Option<Addr>>, NoMemory>
+    ensures { IfOk result (λ v. ArePages regs.now memory.now v.items) }
+{
+    let mut pages = Vec::new(alloc);
+    for k in 0..level1_entries(regs) {
+        pages.push(page_of(level1(regs, memory, k)))?;
+    }
+    Ok(pages)
+}
+
+fn page_of(entry: Level1) -> Option<Addr>
+    requires { places.HasLowPage entry }
+    ensures page { option_map address_of result ≡ places.page_of entry }
+    ensures low { IfSome result (λ a. a.0 < 2 ^ 52) }
+{
+    match entry {
+        Level1::Page(page) => Some(page),
+        Level1::Empty | Level1::Outside(_) => None,
+    }
+}
