@@ -9,7 +9,8 @@ use Rattle.std.proofs.lemmas.List.Elements.{All-from_recursion, recursion_from_A
 use Rattle.std.specs.List.{AllByRecursion}
 use Rattle.its_plain.specs.declared.fault.SaveFault.{SaveFault}
 use Rattle.its_plain.specs.declared.fault.SaveFault.TheVariants.{Overlap}
-use Rattle.its_plain.specs.Regions.{Area, clash, none_overlap}
+use Rattle.its_plain.specs.declared.area.Area.{Area}
+use Rattle.its_plain.specs.Regions.{clash, none_overlap}
 use Rattle.table_save.specs.Spans.{span, Follow}
 
 -- 1 where the stretch has the byte

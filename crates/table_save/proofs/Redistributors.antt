@@ -8,7 +8,8 @@ use Rattle.guest_windows.specs.Windows.{Window}
 use Rattle.its_plain.specs.Saved.{Words, put_tables, pending_words}
 use Rattle.table_save.proofs.Written.{tables_append}
 use Rattle.its_plain.specs.Regions as regions
-use Rattle.its_plain.specs.Regions.{Area, areas_from}
+use Rattle.its_plain.specs.declared.area.Area.{Area}
+use Rattle.its_plain.specs.Regions.{areas_from}
 use Rattle.table_save.specs.Areas.{pending_area, redistributors_of}
 use Rattle.lpi_pending.specs.InHand.{in_hand}
 use Rattle.lpi_pending.specs.declared.redist.Redist.{Redist}

@@ -7,7 +7,8 @@ use Rattle.gits_regs.specs.Registers.{Registers}
 use Rattle.its_types.specs.Maps.{Maps}
 use Rattle.its_types.specs.declared.translation.Device.{Device}
 use Rattle.its_plain.specs.Plain.{Plain, Translator}
-use Rattle.its_plain.specs.Regions.{Area, areas_from, pending_area, ◌>>=◌, is_outside, has_no_place, all_placed, none_overlap, table_areas, areas_of, savable}
+use Rattle.its_plain.specs.declared.area.Area.{Area}
+use Rattle.its_plain.specs.Regions.{areas_from, pending_area, ◌>>=◌, is_outside, has_no_place, all_placed, none_overlap, table_areas, areas_of, savable}
 use Rattle.its_plain.specs.declared.desc.Desc.{Desc}
 use Rattle.its_plain.specs.declared.fault.SaveFault.{SaveFault}
 use Rattle.its_plain.specs.declared.fault.SaveFault.TheVariants.{NoPlace}

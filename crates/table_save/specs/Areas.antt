@@ -13,7 +13,8 @@ use Rattle.its_types.specs.declared.translation.Bases.{Bases}
 use Rattle.its_types.specs.declared.translation.Device.{Device}
 use Rattle.its_plain.specs.Plain.{Redistributor, no_redistributor}
 use Rattle.its_plain.specs.Regions as regions
-use Rattle.its_plain.specs.Regions.{Area, page_size, pages_below, device_areas, collection_areas, itt_area, areas_from}
+use Rattle.its_plain.specs.declared.area.Area.{Area}
+use Rattle.its_plain.specs.Regions.{page_size, pages_below, device_areas, collection_areas, itt_area, areas_from}
 use Rattle.its_plain.specs.declared.fault.Region.TheVariants.{Level1, Page, Pending, Config, Queue}
 use Rattle.lpi_pending.specs.InHand.{in_hand}
 use Rattle.lpi_pending.specs.declared.redist.Redist.{Redist}

@@ -2,7 +2,7 @@
 use Rattle.std.specs.Prelude.{◌≡◌, ℕ, Option, Some, None, Result, Ok, Err, List}
 use Rattle.guest_windows.specs.Windows.{Window}
 use Rattle.its_types.specs.declared.translation.Device.{Device}
-use Rattle.its_plain.specs.Regions.{Area}
+use Rattle.its_plain.specs.declared.area.Area.{Area}
 use Rattle.its_plain.specs.declared.fault.SaveFault.{SaveFault}
 use Rattle.its_plain.specs.declared.fault.SaveFault.TheVariants.{Outside, NoPlace, Overlap}
 use Rattle.table_save.specs.declared.error.SaveError.{SaveError}

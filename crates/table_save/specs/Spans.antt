@@ -1,6 +1,6 @@
 -- Stretches of memory as their base and their end.
 use Rattle.std.specs.Prelude.{◌≤◌, ◌<◌, ℕ, ◌+◌, List, [], ◌∷◌}
-use Rattle.its_plain.specs.Regions.{Area}
+use Rattle.its_plain.specs.declared.area.Area.{Area}
 
 abbrev pub span : Area → ℕ × ℕ
 span a = (a.base, a.base + a.size)

@@ -14,9 +14,9 @@ pub struct Area {
 
 impl Model for Area {
     ghost use Rattle.std.specs.Prelude.{◌+◌, ◌<◌, ◌^◌};
-    ghost use Rattle.its_plain.specs.Regions as regions;
+    ghost use Rattle.its_plain.specs.declared.area.Area as plain;
 
-    ghost Value = { regions.Area };
+    ghost Value = { plain.Area };
 
     ghost view = { λ a. record { region = a.region; base = a.base; size = a.size; is_written = a.is_written } };
 
