@@ -113,9 +113,9 @@ pub data DeviceFaults (memory : List Window) (lpi_bits : ℕ) (r : Registers) (p
   is_outside : number_at memory (device_address r p) ≡ None → DeviceFaults memory lpi_bits r p (OutsideTable (record { 0 = device_address r p }))
   has_bad_size : (e : DeviceFields) → device_entry memory p ≡ Some e → 16 < e.bits → DeviceFaults memory lpi_bits r p (BadSize (record { 0 = id_of p }))
   has_bad_itt : (e : DeviceFields) (f : RestoreFault) → device_entry memory p ≡ Some e → e.bits ≤ 16
-    → IttOffends memory lpi_bits (itt_of (id_of p) (device_of_fields e)) f → DeviceFaults memory lpi_bits r p f
+      → IttOffends memory lpi_bits (itt_of (id_of p) (device_of_fields e)) f → DeviceFaults memory lpi_bits r p f
   leads_past : (e : DeviceFields) → device_entry memory p ≡ Some e → e.bits ≤ 16 → IsIttClear memory lpi_bits (itt_of (id_of p) (device_of_fields e))
-    → ends_well r (index_of p) e.next ≡ false → DeviceFaults memory lpi_bits r p (PastEnd Devices (id_of p) e.next)
+      → ends_well r (index_of p) e.next ≡ false → DeviceFaults memory lpi_bits r p (PastEnd Devices (id_of p) e.next)
 
 -- a table that isn't valid isn't read
 abbrev pub AreDevicesClear : List Window → ℕ → Registers → Type 0

@@ -82,15 +82,15 @@ pub record Stands (memory : List Window) (values : RegValues) (layout : Layout) 
   pub stands : IsTranslatorIn layout.shape memory values translator
   pub vcpus : length u.redistributors ≡ length bases
   pub redistributors : (vcpu : ℕ) (b : Bases) (r : Redistributor) → slice_get bases vcpu ≡ Some b → slice_get u.redistributors vcpu ≡ Some r
-    → IsRedistributorIn layout.shape memory b r
+      → IsRedistributorIn layout.shape memory b r
 
 -- the first offence: of the redistributors, of the registers, of the collections, and then of the devices with their events
 pub data IsFirstFault (memory : List Window) (values : RegValues) (s : Shape) (bases : List Bases) : RestoreFault → Type 0 where
   of_redistributor : (vcpu : ℕ) → RedistributorOffends s memory bases vcpu → IsFirstFault memory values s bases (fault.BadRedist (record { 0 = vcpu }))
   of_register : (e : NotValid) → AreRedistributorsClear s memory bases → restored values s.dev_bits ≡ Err e
-    → IsFirstFault memory values s bases (fault.NotValid e.0)
+      → IsFirstFault memory values s bases (fault.NotValid e.0)
   of_collection : (f : RestoreFault) → AreRedistributorsClear s memory bases → IsOk (restored values s.dev_bits)
-    → CollectionsOffend memory s.vcpus (masked values s.dev_bits) f → IsFirstFault memory values s bases f
+      → CollectionsOffend memory s.vcpus (masked values s.dev_bits) f → IsFirstFault memory values s bases f
   of_device : (f : RestoreFault) → AreRedistributorsClear s memory bases → IsOk (restored values s.dev_bits)
-    → AreCollectionsClear memory s.vcpus (masked values s.dev_bits) → DevicesOffend memory s.lpi_bits (masked values s.dev_bits) f
-    → IsFirstFault memory values s bases f
+      → AreCollectionsClear memory s.vcpus (masked values s.dev_bits) → DevicesOffend memory s.lpi_bits (masked values s.dev_bits) f
+      → IsFirstFault memory values s bases f
