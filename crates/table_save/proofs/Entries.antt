@@ -14,7 +14,7 @@ use Rattle.its_types.specs.declared.translation.Event.{Event}
 use Rattle.its_maps.specs.MapsRoom.{events_at}
 use Rattle.table_entries.specs.Words.{packed_device, packed_event}
 use Rattle.its_plain.specs.Plain.{Translator}
-use Rattle.its_plain.specs.Saved.{Words, put_words, put_tables, device_words, collection_words, pending_words, translator_words, words_of, distance, device_after, event_after, device_word, event_word, itt_words, pages_words}
+use Rattle.its_plain.specs.Saved.{Words, put_words, put_tables, device_words, collection_words, pending_words, translator_words, words_of, distance, device_after, event_after, device_entry, event_entry, page_words, device_word, event_word, itt_words, pages_words}
 use Rattle.table_save.specs.Pass.{packed_if, pack_device, pack_event, key_after, device_entry_word, event_entry_word}
 use Rattle.table_save.specs.Tables.{all_tables, ArePages, address_of, page_at, page_table, page_tables, itt_tables}
 use Rattle.its_plain.specs.declared.desc.Desc.{Desc}
@@ -27,11 +27,7 @@ use Rattle.table_save.proofs.EventsOf.{find_of_device, after_of_device}
 
 -- ---- devices
 
-abbrev device_entry : Maps → ℕ → Option Device → ℕ
-device_entry m dev None = 0
-device_entry m dev (Some d) = packed_device (record { next = distance 16383 dev (device_after m dev); itt = d.itt.0; bits = d.bits })
-
-same_device : (m : Maps) (dev : ℕ) (o : Option Device) → packed_if pack_device o (distance 16383 dev (key_after dev (finmap.entries m.devices))) ≡ device_entry m dev o
+same_device : (m : Maps) (dev : ℕ) (o : Option Device) → packed_if pack_device o (distance 16383 dev (key_after dev (finmap.entries m.devices))) ≡ device_entry dev o (device_after m dev)
 same_device m dev None = refl
 same_device m dev (Some d) = refl
 
@@ -43,11 +39,7 @@ device_is m dev =
 
 -- ---- events
 
-abbrev event_entry : Maps → ℕ → ℕ → Option Event → ℕ
-event_entry m dev ev None = 0
-event_entry m dev ev (Some e) = packed_event (record { next = distance 65535 ev (event_after m dev ev); intid = e.intid.0; icid = e.icid.0 })
-
-same_event : (m : Maps) (dev ev : ℕ) (o : Option Event) → packed_if pack_event o (distance 65535 ev (event_after m dev ev)) ≡ event_entry m dev ev o
+same_event : (m : Maps) (dev ev : ℕ) (o : Option Event) → packed_if pack_event o (distance 65535 ev (event_after m dev ev)) ≡ event_entry ev o (event_after m dev ev)
 same_event m dev ev None = refl
 same_event m dev ev (Some e) = refl
 
@@ -62,10 +54,6 @@ pub itts_are : (m : Maps) → itt_tables m (finmap.entries m.devices) ≡ itt_wo
 itts_are m = λ p. flat_map (λ d. record { base = d.1.itt.0; count = 2 ^ d.1.bits; word = λ ev. event_is m d.0 ev p } ∷ []) (finmap.entries m.devices)
 
 -- ---- pages
-
-abbrev page_words : Maps → ℕ → Option ℕ → List Words
-page_words m k None = []
-page_words m k (Some base) = record { base = base; count = 8192; word = λ i. device_word m (8192 * k + i) } ∷ []
 
 page_is : (m : Maps) (k : ℕ) (page : Option Addr) → page_table (finmap.entries m.devices) (8192 * k) 8192 page ≡ page_words m k (option_map address_of page)
 page_is m k None = refl
