@@ -1,5 +1,5 @@
 -- The parts that a translator starts with are those of a sound state.
-use Rattle.std.proofs.Common.{◌≡◌, ℕ, zero, suc, ◌<◌, ◌≤◌, true, false, cond, nat_lt, List, [], ◌∷◌, length, map, replicate, Option, Some, None, IfSome, refl, sym, ap, subst, ◌∙◌, arith, lit<}
+use Rattle.std.proofs.Common.{◌≡◌, ℕ, zero, suc, true, false, cond, nat_lt, List, [], ◌∷◌, map, replicate, Option, Some, None, refl, sym, ap, subst, ◌∙◌, arith, lit<}
 use Rattle.std.proofs.lemmas.List.{length-replicate}
 use Rattle.std.specs.Prelude.{slice_get}
 use Rattle.std.specs.FinMap.{get-empty}
@@ -125,6 +125,6 @@ unfolding needed
 mapc_needs_none s m rs c icid target one is =
     subst (λ (x : Command). AreNeededInHand s m x rs) (sym is) (λ v e.
     let none : has_redist v (needed (bare s m) 0 (command.Mapc icid target true)) ≡ false =
-        ap (λ (p : Profile). has_redist v (cond (nat_lt target s.vcpus) (moved_targets p (collection_of m icid.0) target) [])) one
-        ∙ cond_both (nat_lt target s.vcpus) [] [] (λ (ps : List Part). has_redist v ps ≡ false) (λ _. refl) (λ _. refl) in
+    ap (λ (p : Profile). has_redist v (cond (nat_lt target s.vcpus) (moved_targets p (collection_of m icid.0) target) [])) one
+    ∙ cond_both (nat_lt target s.vcpus) [] [] (λ (ps : List Part). has_redist v ps ≡ false) (λ _. refl) (λ _. refl) in
     absurd (both_ways (has_redist v (needed (bare s m) 0 (command.Mapc icid target true))) none e))
