@@ -1,5 +1,5 @@
 -- What a command comes to on parts in hand, from its plan.
-use Rattle.std.proofs.Common.{◌≡◌, ℕ, Bool, true, false, cond, eqb, List, [], ◌∷◌, Option, Some, None, Result, Ok, Err, IfOk, refl, sym, ap, subst, ◌∙◌}
+use Rattle.std.proofs.Common.{◌≡◌, ℕ, eqb, List, [], ◌∷◌, Option, Some, None, Result, Ok, Err, IfOk, refl, sym, ap, subst, ◌∙◌}
 use Rattle.std.specs.Prelude.{is_some}
 use Rattle.std.proofs.lemmas.Bool.{cond_both}
 use Rattle.guest_windows.specs.Windows.{Window}
@@ -16,13 +16,12 @@ use Rattle.its_plain.specs.Commands.{ran, intids_of, all_reread_at}
 use Rattle.its_plain.specs.Answer.{command_reply, command_left, went_on}
 use Rattle.its_plain.specs.declared.call.CmdReply.TheVariants as reply
 use Rattle.its_plain.specs.declared.call.Reason.{Reason}
-use Rattle.its_plain.specs.declared.call.StepReply.{StepReply}
 use Rattle.lpi_pending.specs.InHand.{in_hand}
 use Rattle.lpi_pending.specs.declared.redist.Redist.{Redist}
 use Rattle.owned_parts.specs.Owned.{ArePartsOf, ArePartsOfSound}
 use Rattle.cmd_exec.specs.declared.effect.Effect.{Effect}
 use Rattle.cmd_exec.specs.declared.effect.Effect.TheVariants as effect
-use Rattle.cmd_exec.specs.InHand.{changed, changed_below, with_set, with_cleared, with_none, with_all, lpis_in, lpi_moved_in, lpis_moved_in, all_moved_in}
+use Rattle.cmd_exec.specs.InHand.{changed, with_set, with_cleared, with_none, with_all, lpis_in, lpi_moved_in, lpis_moved_in, all_moved_in}
 use Rattle.cmd_exec.specs.Effects.{planned, maps_after, redists_after, cleared_in}
 use Rattle.cmd_exec.specs.Executed.{IsReplyTo, AreLeftBy}
 use Rattle.cmd_exec.specs.Needs.{AreNeededInHand}

@@ -10,3 +10,4 @@ pub mod Workable
 pub mod Readied
 pub mod Executed
 pub mod Sets
+pub mod Start

@@ -1,17 +1,15 @@
 -- Definitions of the plain machine, opened.
-use Rattle.std.proofs.Common.{◌≡◌, ℕ, ◌+◌, ◌-◌, ◌^◌, Bool, true, false, cond, nat_lt, Option, Some, None, Result, Ok, Err, List, refl, sym, ap, ◌∙◌}
+use Rattle.std.proofs.Common.{◌≡◌, ℕ, ◌+◌, ◌-◌, ◌^◌, true, false, cond, nat_lt, Option, Some, None, Ok, Err, List, refl, sym, ap, ◌∙◌}
 use Rattle.std.specs.Option.{ok_or}
 use Rattle.std.proofs.lemmas.Bool.{cond-true, cond-false}
 use Rattle.guest_windows.specs.Windows.{Window, byte_at}
 use Rattle.its_types.specs.Maps.{Maps, device_of, event_of}
-use Rattle.its_types.specs.declared.translation.Event.{Event}
 use Rattle.its_types.specs.Lpis.{with_config_byte}
 use Rattle.its_plain.specs.Plain.{Redistributor}
 use Rattle.its_plain.specs.Commands.{◌>>=◌, ensure, event_at, reread_at}
 use Rattle.lpi_pending.specs.declared.redist.Redist.{Redist}
 use Rattle.owned_parts.specs.Owned.{redistributor_of}
 use Rattle.cmd_exec.specs.InHand.{redist_as, redist_by}
-use Rattle.its_plain.specs.declared.call.Reason.{Reason}
 use Rattle.its_plain.specs.declared.call.Reason.TheVariants.{NoDevice, EventRange, NoEvent}
 
 pub event_at_is : (m : Maps) (dev ev : ℕ) → event_at m dev ev ≡ (ok_or (device_of m dev) NoDevice >>= λ device. ensure (nat_lt ev (2 ^ device.bits)) EventRange >>= λ _. ok_or (event_of m dev ev) NoEvent)

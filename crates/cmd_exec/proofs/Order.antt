@@ -1,5 +1,5 @@
 -- All events, by device and then by event, are those of the first device, those of the next, and so on.
-use Rattle.std.proofs.Common.{◌≡◌, ℕ, ◌<◌, ◌≤◌, Bool, true, false, cond, ◌&&◌, ◌||◌, eqb, List, [], ◌∷◌, ◌++◌, map, filter, Option, Some, None, inl, inr, refl, sym, ap, subst, ◌∙◌, arith, ◌⊎◌}
+use Rattle.std.proofs.Common.{◌≡◌, ℕ, ◌<◌, ◌≤◌, Bool, true, false, cond, eqb, List, [], ◌∷◌, ◌++◌, map, filter, Option, Some, inl, inr, refl, sym, ap, subst, ◌∙◌, arith, ◌⊎◌}
 use Rattle.std.specs.Prelude.{is_some}
 use Rattle.std.specs.List.{flat_map, list_any, AllByRecursion}
 use Rattle.std.specs.Ordering.{nat_cmp, ordering_then, is_lt, is_eq, eq_by_cmp}
@@ -8,13 +8,12 @@ use Rattle.std.specs.declared.cmp.Ordering.TheVariants.{Less, Equal, Greater}
 use Rattle.std.specs.Cmp.{unsigned_tied, tied_itself}
 use Rattle.std.specs.FinMap.{find, entries, is_sorted, entries_sorted, get-entries}
 use Rattle.std.specs.FinMap.Entries.{below_all}
-use Rattle.std.proofs.lemmas.Bool.{cases_eq, cases_Bool, cond-true, cond-false, cond_both, eq-eqb, ne_eqb, eqb-true, or_cases, or_left, or_right, both_ways}
-use Rattle.std.proofs.lemmas.Cmp.{ranked}
+use Rattle.std.proofs.lemmas.Bool.{cases_eq, cond-true, cond-false, cond_both, eq-eqb, ne_eqb, eqb-true, or_cases, or_left, or_right, both_ways}
 use lib.Dec.{T}
-use Rattle.its_types.specs.Maps.{Maps, pair_cmp, device_of, event_of}
+use Rattle.its_types.specs.Maps.{Maps, pair_cmp}
 use Rattle.its_types.specs.declared.translation.Device.{Device}
 use Rattle.its_types.specs.declared.translation.Event.{Event}
-use Rattle.its_maps.specs.MapsRoom.{EventsHaveDevices, events_at}
+use Rattle.its_maps.specs.MapsRoom.{EventsHaveDevices}
 use Rattle.its_maps.proofs.Rising.{first, second, below}
 use Rattle.its_maps.proofs.PairOrder.{pair_total}
 use Rattle.its_plain.specs.Commands.{intids_of}

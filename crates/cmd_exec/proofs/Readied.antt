@@ -1,7 +1,6 @@
 -- A command that isn't refused has an effect that can be had on the parts of a sound state.
 use Rattle.std.proofs.Common.{◌≡◌, ℕ, ◌^◌, ◌<◌, ◌≤◌, Bool, true, false, ◌&&◌, not, cond, eqb, nat_lt, nat_le, List, [], ◌∷◌, map, filter, Option, Some, None, Result, Ok, Err, IfOk, refl, sym, ap, subst, ◌∙◌, arith}
 use Rattle.std.specs.Prelude.{is_some, IsSome, IfSome}
-use Rattle.std.specs.Option.{ok_or}
 use Rattle.std.specs.List.{AllByRecursion}
 use Rattle.std.specs.Ordering.{is_lt, is_eq, eq_by_cmp}
 use Rattle.std.specs.declared.cmp.Ordering.{Ordering}
@@ -9,7 +8,7 @@ use Rattle.std.specs.declared.cmp.Ordering.TheVariants.{Less, Equal, Greater}
 use Rattle.std.specs.Cmp.{tied_itself}
 use Rattle.std.specs.FinMap.{find, entries, is_sorted, entries_sorted, get-entries}
 use Rattle.std.specs.FinMap.Entries.{below_all}
-use Rattle.std.proofs.lemmas.Bool.{ltb-true, and_parts, both_ways, cond-true, cond-false, cond_both, eqb-true, cases_Bool}
+use Rattle.std.proofs.lemmas.Bool.{ltb-true, and_parts, cond-false, cond_both, eqb-true}
 use lib.Dec.{T}
 use Rattle.baser_place.specs.Places.{device_place}
 use Rattle.gits_regs.specs.Registers.{Registers, collection_places}
@@ -36,10 +35,9 @@ use Rattle.its_plain.specs.declared.call.Reason.{Reason}
 use Rattle.its_plain.specs.declared.call.Reason.TheVariants.{DeviceRange, SizeRange, TargetRange, CollectionRange, NoDevice, EventRange, IntidRange, NoCollection, LpisOff}
 use Rattle.lpi_pending.specs.InHand.{in_hand}
 use Rattle.lpi_pending.specs.declared.redist.Redist.{Redist}
-use Rattle.owned_parts.specs.Owned.{HasLpisOf}
 use Rattle.cmd_exec.specs.declared.effect.Effect.{Effect}
 use Rattle.cmd_exec.specs.declared.effect.Effect.TheVariants as effect
-use Rattle.cmd_exec.specs.InHand.{is_on_in, takes_lpi, CanReread, CanRereadAll}
+use Rattle.cmd_exec.specs.InHand.{is_on_in, takes_lpi, CanRereadAll}
 use Rattle.cmd_exec.specs.Effects as parts
 use Rattle.cmd_exec.specs.Effects.{targeted, moved, added}
 use Rattle.cmd_exec.specs.Needs.{AreNeededInHand}

@@ -182,7 +182,7 @@ pub parts_same : (s : Shape) (m : Maps) (c : Command) (set : ℕ) → ((v : ℕ)
 parts_same s m c set h = λ u its same_shape same_maps.
     let ps = needed (bare s m) 0 c in
     let is : needed u its c ≡ ps =
-        needed_is u its c ∙ ap (λ (x : Shape). needed (bare x (maps_of u its)) 0 c) same_shape ∙ ap (λ (x : Maps). needed (bare s x) 0 c) same_maps in
+    needed_is u its c ∙ ap (λ (x : Shape). needed (bare x (maps_of u its)) 0 c) same_shape ∙ ap (λ (x : Maps). needed (bare s x) 0 c) same_maps in
     subst (λ (qs : List Part). (p : Part) → IsIn p (MapsOf its ∷ Mem ∷ qs) ↔ IsPartOf its set p) (sym is)
     (λ p. (λ there. is_part its (needed_redists s m c) there.0 p there.1, λ part. has_it its p part))
   where

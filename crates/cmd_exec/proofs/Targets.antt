@@ -2,7 +2,6 @@
 use Rattle.std.proofs.Common.{◌≡◌, ℕ, zero, suc, ◌<◌, Bool, true, false, cond, ◌&&◌, ◌||◌, eqb, ltb, nat_lt, inl, inr, arith, List, [], ◌∷◌, ◌++◌, Option, Some, None, refl, ap, ◌∙◌, sym, subst}
 use Rattle.std.specs.Prelude.{is_some}
 use Rattle.std.proofs.lemmas.Bool.{eq-eqb, ne_eqb, lt-ltb, le-ltb, or_left, or_right, or_from, cond-true, cond-false, cases_order}
-use Rattle.its_command.specs.declared.command.Command.{Command}
 use Rattle.its_command.specs.declared.command.Command.TheVariants as command
 use Rattle.its_types.specs.Maps.{Maps, collection_of}
 use Rattle.its_types.specs.declared.ids.DeviceId.{DeviceId}
@@ -11,14 +10,13 @@ use Rattle.its_types.specs.declared.ids.Icid.{Icid}
 use Rattle.its_types.specs.declared.ids.Intid.{Intid}
 use Rattle.its_types.specs.declared.ids.Vcpu.{Vcpu}
 use Rattle.its_types.specs.declared.machine.Part.{Part}
-use Rattle.its_types.specs.declared.machine.Part.TheVariants.{Redist as RedistOf}
 use Rattle.its_types.specs.declared.machine.Profile.{Profile}
 use Rattle.its_types.specs.declared.machine.Profile.TheVariants.{One, Two}
 use Rattle.its_types.specs.declared.machine.Shape.{Shape}
-use Rattle.its_plain.specs.Parts.{redist, redist_of, target_of_event, moved_targets, both_targets, redists_below, every_redist, needed}
+use Rattle.its_plain.specs.Parts.{redist, redist_of, target_of_event, moved_targets, redists_below, needed}
 use Rattle.lpi_pending.specs.InHand.{in_hand}
 use Rattle.lpi_pending.specs.declared.redist.Redist.{Redist}
-use Rattle.cmd_exec.specs.Needs.{is_redist, has_redist, is_needed, AreNeededInHand}
+use Rattle.cmd_exec.specs.Needs.{is_redist, has_redist, AreNeededInHand}
 use Rattle.cmd_exec.specs.Ready.{IsTargetInHand, AreBothInHand, AreTargetsInHand}
 
 -- ---- lists of parts

@@ -1,7 +1,5 @@
 -- The LPIs of a collection, device by device and event by event.
-use Rattle.std.proofs.Common.{◌≡◌, ℕ, ◌+◌, ◌-◌, ◌^◌, ◌≤◌, Bool, true, false, cond, ◌&&◌, eqb, List, [], ◌∷◌, ◌++◌, map, filter, Option, Some, None, inl, inr, refl, sym, ap, subst, ◌∙◌, append_assoc, append-nil}
-use Rattle.std.specs.Prelude.{is_some}
-use Rattle.std.specs.List.{flat_map}
+use Rattle.std.proofs.Common.{◌≡◌, ℕ, ◌+◌, ◌-◌, ◌^◌, ◌≤◌, true, eqb, List, [], ◌∷◌, ◌++◌, map, filter, Option, Some, None, refl, sym, ap, subst, ◌∙◌}
 use Rattle.std.proofs.lemmas.Bool.{cond-true, cond_both}
 use Rattle.guest_windows.specs.Windows.{Window, byte_at}
 use Rattle.its_types.specs.Lpis.{is_pending}
@@ -12,7 +10,7 @@ use Rattle.its_plain.specs.Plain.{Redistributor}
 use Rattle.its_plain.specs.Commands.{reread_at, all_reread_at}
 use Rattle.lpi_pending.specs.declared.redist.Redist.{Redist}
 use Rattle.owned_parts.specs.Owned.{redistributor_of}
-use Rattle.cmd_exec.specs.InHand.{redist_as, redist_by, changed, with_set, with_cleared, lpis_in, lpi_moved_in, lpis_moved_in, takes_lpi, CanReread, CanRereadAll}
+use Rattle.cmd_exec.specs.InHand.{redist_as, redist_by, changed, with_set, with_cleared, lpis_in, lpi_moved_in, lpis_moved_in, takes_lpi, CanRereadAll}
 use Rattle.cmd_exec.specs.Ready.{TakesAll}
 use Rattle.cmd_exec.specs.Walked.{lpis_of}
 use Rattle.cmd_exec.proofs.InHand.{changed_takes}

@@ -1,5 +1,5 @@
 -- What the parts of a sound state have.
-use Rattle.std.proofs.Common.{◌≡◌, ℕ, ◌+◌, ◌<◌, ◌≤◌, ◌^◌, Bool, true, false, ◌&&◌, List, [], ◌∷◌, length, map, Option, Some, None, inl, inr, refl, sym, ap, subst, ◌∙◌, arith}
+use Rattle.std.proofs.Common.{◌≡◌, ℕ, ◌+◌, ◌<◌, ◌≤◌, ◌^◌, true, List, [], ◌∷◌, length, map, Option, Some, None, inl, inr, refl, subst, arith}
 use Rattle.std.specs.Prelude.{is_some, nat_lt, nat_le}
 use Rattle.std.specs.List.{list_all}
 use Rattle.std.proofs.lemmas.Bool.{and_parts, or_cases, leb-true}
@@ -8,12 +8,11 @@ use Rattle.guest_windows.specs.Windows.{Window, has, inside, extent, are_windows
 use Rattle.guest_windows.proofs.Laws.{Fits, has-fits}
 use Rattle.gits_regs.specs.Registers.{Registers}
 use Rattle.its_types.specs.Ranges.{is_lpi, lpi_count}
-use Rattle.its_types.specs.Maps.{Maps, device_of, event_of, collection_of}
+use Rattle.its_types.specs.Maps.{Maps, device_of, event_of}
 use Rattle.its_types.specs.declared.machine.Shape.{Shape}
-use Rattle.its_types.specs.declared.translation.Bases.{Bases}
 use Rattle.its_types.specs.declared.translation.Event.{Event}
 use Rattle.its_maps.specs.MapsRoom.{EventsHaveDevices}
-use Rattle.its_plain.specs.Plain.{Plain, Redistributor}
+use Rattle.its_plain.specs.Plain.{Plain}
 use Rattle.its_plain.specs.Sound.{IsSound, IsTranslator, IsEvent, IsRedistributor}
 use Rattle.lpi_pending.specs.InHand.{in_hand}
 use Rattle.lpi_pending.specs.declared.redist.Redist.{Redist}

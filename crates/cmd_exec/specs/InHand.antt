@@ -1,11 +1,9 @@
 -- What becomes of the redistributors in hand: their pending LPIs and their configurations (IHI 0069, section 5.1).
 use Rattle.std.specs.Prelude.{◌≡◌, ◌≤◌, ℕ, zero, suc, ◌^◌, Bool, true, false, ◌==◌, if◌then◌else◌, List, [], ◌∷◌, slice_set, Option, Some, None}
 use Rattle.std.specs.Option.{option_map}
-use Rattle.guest_windows.specs.Windows.{Window}
 use Rattle.its_types.specs.Lpis.{is_pending, with_lpi, with_lpis, without_lpi}
 use Rattle.its_types.specs.Ranges.{is_lpi}
 use Rattle.its_plain.specs.Plain.{Redistributor}
-use Rattle.its_plain.specs.Commands.{all_reread_at}
 use Rattle.lpi_pending.specs.InHand.{in_hand}
 use Rattle.lpi_pending.specs.declared.redist.Redist.{Redist}
 use Rattle.owned_parts.specs.Owned.{redistributor_of}

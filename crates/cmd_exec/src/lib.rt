@@ -11,6 +11,8 @@ mod part_set;
 mod plan;
 mod registers;
 mod room;
+#[cfg(test)]
+mod tests;
 mod walk;
 
 pub use execute::{answer, apply};

@@ -1,7 +1,6 @@
 use Rattle.std.proofs.Common.{sym, subst, ◌∙◌}
 use Rattle.its_command.specs.declared.command.Op.{Op}
 use Rattle.its_plain.specs.declared.call.CmdReply.TheVariants.{Ran, Refused}
-use Rattle.its_maps.specs.MapsRoom.{MapsRoom}
 use Rattle.cmd_exec.specs.Executed.{IsReplyTo}
 use Rattle.cmd_exec.proofs.Executed.{ran_reply, refused_reply}
 use Rattle.cmd_exec.proofs.execute.answer.Goals as goal

@@ -1,4 +1,4 @@
-use Rattle.std.proofs.Common.{◌≡◌, Some, sym, ap, ◌∙◌}
+use Rattle.std.proofs.Common.{Some, sym, ap, ◌∙◌}
 use Rattle.std.proofs.lemmas.Bool.{eqb-false}
 use Rattle.lpi_pending.specs.PendingSets.{PendingSet}
 use Rattle.lpi_pending.specs.declared.redist.Redist.{Redist}
