@@ -22,8 +22,8 @@ pub struct Area {
 /// How many bytes a page of a table has.
 const PAGE_SIZE: u64 = 65536;
 
-// How many entries the first level of a device table needs.
-fn level1_entries(regs: &Regs) -> u32
+/// How many entries the first level of a device table needs.
+pub fn level1_entries(regs: &Regs) -> u32
     ensures entries { result ≡ places.level1_entries regs.now.dev_bits }
     ensures most { result ≤ 128 }
 {

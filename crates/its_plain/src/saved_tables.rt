@@ -4,6 +4,7 @@ ghost use Rattle.baser_place.specs.Places as places;
 ghost use Rattle.its_types.specs.Lpis as lpis;
 ghost use Rattle.its_plain.specs.Saved as spec;
 
+use crate::area::level1_entries;
 use crate::maps::MapLists;
 use crate::redist::RedistLists;
 use baser_place::{Level1, level1};
@@ -43,15 +44,6 @@ fn write_pages(memory: &mut Memory, before: &Memory, regs: &Regs, maps: &MapList
     for k in 0..level1_entries(regs) {
         write_page(memory, k, level1(regs, before, k), 8192, maps);
     }
-}
-
-// How many entries the first level of a device table needs.
-fn level1_entries(regs: &Regs) -> u32
-    ensures entries { result ≡ places.level1_entries regs.now.dev_bits }
-    ensures most { result ≤ 128 }
-{
-    regs.keeps_rules();
-    1 << (regs.dev_bits() - 13)
 }
 
 // Writes the page of a level-1 entry, of so many entries.
