@@ -16,6 +16,7 @@ use Rattle.its_plain.specs.Plain.{Plain}
 use Rattle.its_plain.specs.Sound.{IsSound, IsTranslator, IsEvent, IsRedistributor}
 use Rattle.lpi_pending.specs.InHand.{in_hand}
 use Rattle.lpi_pending.specs.declared.redist.Redist.{Redist}
+use Rattle.cmd_exec.specs.Needs.{AreTargets}
 use Rattle.owned_parts.specs.Owned.{ArePartsOf, ArePartsOfSound, HasLpisOf, redistributor_of}
 
 pub record IsWorkable (s : Shape) (m : Maps) (rs : List (Option Redist)) : Type 0 where
@@ -77,3 +78,9 @@ workable_by s r m memory rs u i same sound are =
 
 pub workable : (s : Shape) (r : Registers) (m : Maps) (memory : List Window) (rs : List (Option Redist)) → ArePartsOfSound s r m memory rs → IsWorkable s m rs
 workable s r m memory rs h = workable_by s r m memory rs h.0 h.1 h.3.shape_is h.2 h.3
+
+-- what `needs` wants of the maps
+pub targets : (s : Shape) (r : Registers) (m : Maps) (memory : List Window) (rs : List (Option Redist)) → ArePartsOfSound s r m memory rs → AreTargets s m
+targets s r m memory rs h = λ icid vcpu e.
+    let t : IsTranslator h.0.layout.shape (record { regs = r; maps = m }) = h.2.translators h.1 (record { regs = r; maps = m }) h.3.translator_is in
+    subst (λ (x : Shape). vcpu.0 < x.vcpus) h.3.shape_is (t.collections icid vcpu e).target

@@ -1,5 +1,5 @@
--- What is promised of a command that is executed on parts in hand: in each state that has them, it comes to what the plain
--- machine says.
+-- What is promised of a command (IHI 0069, section 5.3) that is executed on parts in hand: in each state that has them, it
+-- comes to what the plain machine says.
 use Rattle.std.specs.Prelude.{◌≡◌, ℕ, List, Option}
 use Rattle.guest_windows.specs.Windows.{Window}
 use Rattle.gits_regs.specs.Registers.{Registers}

@@ -1,4 +1,4 @@
--- The redistributors that a command reads or changes, as a set.
+-- The redistributors that a command reads or changes (IHI 0069, section 5.3), as a set.
 use Rattle.std.specs.Prelude.{◌≡◌, ◌↔◌, ◌<◌, ℕ, Bool, true, false, not, ◌&&◌, ◌||◌, ◌==◌, nat_lt, List, [], ◌∷◌, filter, Option, Some, None, is_some}
 use Rattle.std.specs.List.{range_with_len}
 use Rattle.its_command.specs.declared.command.Command.{Command}

@@ -1,4 +1,4 @@
--- When an effect can be had on the parts in hand.
+-- When an effect of a command (IHI 0069, section 5.3) can be had on the parts in hand.
 use Rattle.std.specs.Prelude.{◌≡◌, ◌≤◌, ◌<◌, ℕ, true, false, ◌==◌, List, [], ◌∷◌, Option, Some, None, IsSome, IfSome, is_some}
 use Rattle.its_types.specs.Maps.{device_of, event_of, collection_of}
 use Rattle.its_types.specs.declared.ids.Vcpu.{Vcpu}

@@ -1,4 +1,4 @@
--- What room a command needs in the maps.
+-- What room a command needs in the maps, whose tables it adds to (IHI 0069, section 5.2).
 use Rattle.std.specs.Prelude.{◌≡◌, ◌≤◌, ℕ, Bool, true, false, not, ◌&&◌, is_some}
 use Rattle.its_command.specs.declared.command.Command.{Command}
 use Rattle.its_command.specs.declared.command.Command.TheVariants as command

@@ -1,4 +1,4 @@
--- The LPIs of a collection, device by device.
+-- The LPIs of a collection (IHI 0069, section 5.2.5), device by device.
 use Rattle.std.specs.Prelude.{ℕ, ◌==◌, List, map, filter}
 use Rattle.std.specs.List.{flat_map}
 use Rattle.its_types.specs.Maps.{Maps}
