@@ -2,9 +2,11 @@ pub mod Disjoint
 pub mod CollectionWalks
 pub mod EventsOf
 pub mod PageTables
+pub mod ReadBack
 pub mod Redistributors
 pub mod Rises
 pub mod Written
 pub mod Entries
 pub mod SoundState
 pub mod Tested
+pub mod SoundTried
