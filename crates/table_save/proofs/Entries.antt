@@ -63,7 +63,7 @@ itts_are m = λ p. flat_map (λ d. record { base = d.1.itt.0; count = 2 ^ d.1.bi
 
 -- ---- pages
 
-abbrev page_words : Maps → ℕ → Option ℕ → List Words
+abbrev pub page_words : Maps → ℕ → Option ℕ → List Words
 page_words m k None = []
 page_words m k (Some base) = record { base = base; count = 8192; word = λ i. device_word m (8192 * k + i) } ∷ []
 

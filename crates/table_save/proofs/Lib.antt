@@ -7,6 +7,7 @@ pub mod Redistributors
 pub mod Rises
 pub mod Written
 pub mod Entries
+pub mod SavedPlaces
 pub mod SavedTables
 pub mod SoundState
 pub mod Tested
