@@ -8,6 +8,7 @@ pub mod Rises
 pub mod Written
 pub mod Entries
 pub mod SavedPlaces
+pub mod SavedState
 pub mod SavedTables
 pub mod SoundState
 pub mod Tested

@@ -97,7 +97,7 @@ queue_unwritten : (r : Registers) → written_in (queue_areas r) ≡ []
 queue_unwritten r = elim (is_valid r.cbaser) as (λ v. written_in (cond v (record { region = Queue; base = queue_base r; size = queue_size r; is_written = false } ∷ []) []) ≡ []) [ true ↦ refl | false ↦ refl ]
 
 module _ (s : Shape) (r : Registers) (m : Maps) (memory : List Window) (redists : List (Option Redist)) where
-  tables_same : (is_valid r.baser0 ≡ true → is_indirect r.baser0 ≡ true → inside memory (table_base r.baser0) (8 * level1_entries r.dev_bits) ≡ true)
+  pub tables_same : (is_valid r.baser0 ≡ true → is_indirect r.baser0 ≡ true → inside memory (table_base r.baser0) (8 * level1_entries r.dev_bits) ≡ true)
       → pending_bytes s.lpi_bits - 1024 ≡ 8 * ((pending_bytes s.lpi_bits - 1024) / 8)
       → written_in (all_areas (tables_in memory r m) s r redists) ≡ map stretch_of (all_tables memory r m (redistributors_of s redists) s)
   unfolding Same
