@@ -1,12 +1,10 @@
 -- In the memory that a save leaves each place of each table reads as it was written, and the first level of a device table as
 -- before. For the crates that read saved tables.
-use Rattle.std.proofs.Common.{◌≡◌, ◌⊎◌, ℕ, zero, suc, ◌+◌, ◌-◌, ◌*◌, ◌/◌, ◌<◌, ◌≤◌, ◌^◌, Bool, true, false, cond, not, min, List, [], ◌∷◌, ◌++◌, map, Option, Some, None, Result, Ok, Err, inl, inr, refl, sym, ap, ◌∙◌, subst, arith, append-nil}
-use Rattle.std.specs.Prelude.{find}
-use Rattle.std.specs.List.{AllByRecursion, flat_map}
+use Rattle.std.proofs.Common.{◌≡◌, ℕ, zero, suc, ◌-◌, ◌*◌, ◌/◌, ◌^◌, Bool, true, false, cond, not, List, [], ◌∷◌, ◌++◌, map, Option, Some, None, refl, sym, ap, ◌∙◌, arith, append-nil}
+use Rattle.std.specs.List.{flat_map}
 use Rattle.std.specs.FinMap.{entries}
 use Rattle.std.proofs.lemmas.List.{map-append}
-use Rattle.byteorder.specs.Endian.{little_bytes}
-use Rattle.guest_windows.specs.Windows.{Window, inside, read_at}
+use Rattle.guest_windows.specs.Windows.{Window, inside}
 use Rattle.gits_regs.specs.Registers.{Registers, is_valid, is_indirect, table_base, queue_base, queue_size}
 use Rattle.baser_place.specs.Places.{level1_entries, level1_of, page_of}
 use Rattle.its_types.specs.Maps.{Maps}
@@ -109,7 +107,7 @@ module _ (s : Shape) (r : Registers) (m : Maps) (memory : List Window) (redists 
       let front = tables_in memory r m ++ pend in
       let tables = device_words t memory ++ collection_words t ++ itt_tables m ds ++ flat_map (pending_words s) rs in
       let same = same_append (tables_in memory r m) pend (device_words t memory ++ collection_words t ++ itt_tables m ds) (flat_map (pending_words s) rs)
-        (same_append (device_areas r memory ++ collection_areas r) (itt_areas ds) (device_words t memory ++ collection_words t) (itt_tables m ds)
-        (same_append (device_areas r memory) (collection_areas r) (device_words t memory) (collection_words t) (same_devices t memory level1) (same_collections t)) (same_itts m ds)) (same_pending s 0 rs whole) in
+      (same_append (device_areas r memory ++ collection_areas r) (itt_areas ds) (device_words t memory ++ collection_words t) (itt_tables m ds)
+      (same_append (device_areas r memory) (collection_areas r) (device_words t memory) (collection_words t) (same_devices t memory level1) (same_collections t)) (same_itts m ds)) (same_pending s 0 rs whole) in
       written_append (front ++ config_area s rs) (queue_areas r) ∙ ap (λ ss. written_in (front ++ config_area s rs) ++ ss) (queue_unwritten r) ∙ append-nil (written_in (front ++ config_area s rs))
       ∙ written_append front (config_area s rs) ∙ append-nil (written_in front) ∙ same

@@ -1,8 +1,8 @@
 -- Where no two areas clash, each table that is written reads as it was written. For the crates that read saved tables.
-use Rattle.std.proofs.Common.{◌≡◌, ◌⊎◌, ℕ, zero, suc, ◌+◌, ◌-◌, ◌*◌, ◌/◌, ◌<◌, ◌≤◌, ◌^◌, Bool, true, false, cond, not, min, List, [], ◌∷◌, ◌++◌, length, map, Option, Some, None, Result, Ok, Err, inl, inr, refl, sym, ap, ◌∙◌, subst, arith, append-nil}
-use Rattle.std.specs.Prelude.{◌&&◌, ◌||◌, nat_lt, nat_le, find}
+use Rattle.std.proofs.Common.{◌≡◌, ℕ, ◌+◌, ◌*◌, ◌<◌, ◌≤◌, Bool, true, false, cond, List, [], ◌∷◌, ◌++◌, length, map, Option, Some, None, Result, Ok, Err, inl, inr, refl, ap, ◌∙◌, arith}
+use Rattle.std.specs.Prelude.{◌&&◌, ◌||◌, nat_le, find}
 use Rattle.std.specs.List.{AllByRecursion}
-use Rattle.std.proofs.lemmas.Bool.{both_ways, cases_Bool, or_cases, le-leb, leb-true}
+use Rattle.std.proofs.lemmas.Bool.{or_cases, le-leb}
 use Rattle.byteorder.specs.Endian.{little_bytes}
 use Rattle.guest_windows.specs.Windows.{Window, has, inside, read_at}
 use Rattle.guest_windows.proofs.Laws.{Apart, has-fits}
@@ -109,7 +109,7 @@ inside_part (w ∷ ws) a n b m low high is =
       | inl it ↦
           let fits = has-fits w a n it in
           let here : has w b m ≡ true =
-              ap (λ t. t && nat_le (b + m) (w.base + length w.bytes)) (le-leb w.base b (omega (arith, low, fits.above))) ∙ le-leb (b + m) (w.base + length w.bytes) (omega (arith, high, fits.below)) in
+          ap (λ t. t && nat_le (b + m) (w.base + length w.bytes)) (le-leb w.base b (omega (arith, low, fits.above))) ∙ le-leb (b + m) (w.base + length w.bytes) (omega (arith, high, fits.below)) in
           ap (λ t. t || inside ws b m) here
       | inr later ↦ with_true (has w b m) (inside ws b m) (inside_part ws a n b m low high later)
     ]
