@@ -56,7 +56,7 @@ are_in_range ws h =
 
 -- ---- the parts
 
-in_hand_here : (n v : ℕ) (redists : List (Option Redist)) (r : Redist) → v < n → in_hand redists v ≡ Some r → slice_get (map redistributor_or (take n redists)) v ≡ Some (redistributor_of r)
+pub in_hand_here : (n v : ℕ) (redists : List (Option Redist)) (r : Redist) → v < n → in_hand redists v ≡ Some r → slice_get (map redistributor_or (take n redists)) v ≡ Some (redistributor_of r)
 in_hand_here n v [] r lt is = absurd cc
 in_hand_here zero v (x ∷ xs) r lt is = absurd (omega arith)
 in_hand_here (suc n) zero (x ∷ xs) r lt is = ap (λ (o : Option Redist). Some (redistributor_or o)) is

@@ -31,19 +31,19 @@ placed_is : (memory : List Window) (t : Translator) → all_placed memory (t ∷
 placed_is memory t = placed_cases (find (has_no_place t.regs memory) (entries t.maps.devices))
 
 module _ (d : Desc) (r : Registers) (m : Maps) (memory : List Window) (redists : List (Option Redist)) where
-  abbrev state : Plain
+  abbrev pub state : Plain
   state = state_of (layout_of d) r m memory redists
 
-  abbrev tables : List Area
+  abbrev pub tables : List Area
   tables = tables_in memory r m
 
-  abbrev all : List Area
+  abbrev pub all : List Area
   all = all_areas tables d.shape r redists
 
-  abbrev inside_test : Result (Unit {0}) SaveFault
+  abbrev pub inside_test : Result (Unit {0}) SaveFault
   inside_test = outside_fault (find (is_outside memory) tables)
 
-  abbrev placed_test : Result (Unit {0}) SaveFault
+  abbrev pub placed_test : Result (Unit {0}) SaveFault
   placed_test = unplaced_fault (find (has_no_place r memory) (entries m.devices))
 
   all_is : areas_of state ≡ all
@@ -53,7 +53,7 @@ module _ (d : Desc) (r : Registers) (m : Maps) (memory : List Window) (redists :
       let config = config_area d.shape (redistributors_of d.shape redists) in
       ap (λ ts. ts ++ pending ++ config ++ (queue_areas r ++ [])) (append-nil tables) ∙ ap (λ q. tables ++ pending ++ config ++ q) (append-nil (queue_areas r))
 
-  savable_is : savable state ≡ (inside_test >>= λ _. placed_test >>= λ _. none_overlap all)
+  pub savable_is : savable state ≡ (inside_test >>= λ _. placed_test >>= λ _. none_overlap all)
   unfolding savable table_areas
   savable_is =
       let t : Translator = record { regs = r; maps = m } in

@@ -1,5 +1,6 @@
 pub mod Areas
 pub mod Checked
 pub mod Pass
+pub mod SoundParts
 pub mod Spans
 pub mod Tables

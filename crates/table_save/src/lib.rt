@@ -16,3 +16,8 @@ mod words;
 
 pub use error::SaveError;
 pub use saving::{savable, save};
+
+#[cfg(test)]
+mod sound_parts;
+#[cfg(test)]
+mod tests;

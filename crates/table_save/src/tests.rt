@@ -1,0 +1,214 @@
+ghost use Rattle.std.specs.Prelude.{◌≡◌, true, map, IfOk};
+ghost use Rattle.guest_windows.specs.Windows.{are_windows, extent};
+ghost use Rattle.owned_parts.specs.Owned.{AreAllInHand, HasLpisOf};
+
+use crate::sound_parts::are_sound;
+use crate::{SaveError, savable, save};
+use gits_regs::Regs;
+use guest_windows::Memory;
+use its_maps::Maps;
+use its_plain::{Desc, Region, SaveFault};
+use its_types::{
+    Addr, Bases, DeviceId, EventId, Icid, Intid, Limits, Listed, Profile, Shape, Vcpu,
+};
+use lpi_config::Config;
+use lpi_pending::{Pending, Redist, Redists};
+use std::alloc::Global;
+use std::test::Fail;
+
+const SHAPE: Shape = Shape {
+    vcpus: 4,
+    dev_bits: 16,
+    lpi_bits: 16,
+    profile: Profile::One,
+};
+
+const CONFIG: Addr = Addr(0x8003_0000);
+
+// Four virtual processors, and 2 MiB of memory.
+fn description(alloc: Global) -> Result<Desc, SaveError>
+    ensures { IfOk result (λ d. d.shape ≡ SHAPE) }
+{
+    let mut pending = Listed::new(alloc);
+    for vcpu in 0..4u8 {
+        pending.push(pending_base(vcpu))?;
+    }
+    Ok(Desc {
+        shape: SHAPE,
+        shards: 4,
+        limits: Limits {
+            stamp_last: 0xff_ffff,
+            place_last: 0xff_ffff_ffff,
+        },
+        windows: Listed::new(alloc),
+        config: CONFIG,
+        pending,
+        fills: Listed::new(alloc),
+        restore: None,
+    })
+}
+
+fn pending_base(vcpu: u8) -> Addr {
+    Addr(0x8004_0000 + 0x1_0000 * u64::from(vcpu))
+}
+
+// LPI 8200 is pending at virtual processor 2.
+fn redistributors(alloc: Global) -> Result<Redists, SaveError>
+    ensures { IfOk result (λ r. AreAllInHand SHAPE r) }
+{
+    let mut redists = Redists::new(alloc)?;
+    for vcpu in 0..SHAPE.vcpus {
+        let redist = redistributor(alloc, vcpu)?;
+        redists.place(Vcpu(vcpu), Box::new(alloc, redist)?);
+    }
+    Ok(redists)
+}
+
+fn redistributor(alloc: Global, vcpu: u8) -> Result<Redist, SaveError>
+    ensures { IfOk result (HasLpisOf SHAPE) }
+{
+    Ok(Redist {
+        pending: pending_at(alloc, vcpu)?,
+        config: Config::zeros(alloc, 16)?,
+        bases: Bases {
+            on: true,
+            config: CONFIG,
+            pending: pending_base(vcpu),
+        },
+    })
+}
+
+fn pending_at(alloc: Global, vcpu: u8) -> Result<Pending, SaveError>
+    ensures { IfOk result (λ p. p.lpi_bits ≡ 16) }
+{
+    let mut pending = Pending::new(alloc, 16)?;
+    if vcpu != 2 {
+        return Ok(pending);
+    }
+    pending.set(Intid(8200));
+    Ok(pending)
+}
+
+// The translator is enabled, its queue stands at 0x80020000, and its collection table at 0x80010000.
+fn registers(baser0: u64) -> Regs {
+    let mut regs = Regs::reset(16);
+    regs.write(0x100, 8, baser0);
+    regs.write(0x108, 8, 0x8407_0000_8001_0200);
+    regs.write(0x80, 8, 0x8000_0000_8002_0000);
+    regs.write(0, 4, 1);
+    regs
+}
+
+fn put_device(maps: &mut Maps, dev: u32, bits: u8, itt: u64) -> Result<(), SaveError> {
+    maps.room_for_device()?;
+    maps.map_device(DeviceId(dev), Addr(itt), bits);
+    Ok(())
+}
+
+// Maps an event by collection 1, where its device is mapped.
+fn put_event(maps: &mut Maps, dev: u32, ev: u32, intid: u32) -> Result<(), SaveError> {
+    if maps.device(DeviceId(dev)).is_some() {
+        maps.room_for_event(DeviceId(dev))?;
+        maps.map_event(DeviceId(dev), EventId(ev), Intid(intid), Icid(1));
+    }
+    Ok(())
+}
+
+// Device 16 of 5 bits with event 3, which is LPI 8200, and collection 1 at virtual processor 2.
+fn one_event(alloc: Global) -> Result<Maps, SaveError> {
+    let mut maps = Maps::new(alloc);
+    put_device(&mut maps, 16, 5, 0x800c_0000)?;
+    put_event(&mut maps, 16, 3, 8200)?;
+    maps.room_for_collection()?;
+    maps.map_collection(Icid(1), Vcpu(2));
+    Ok(maps)
+}
+
+// One window of zeros.
+fn empty_memory(alloc: Global, base: Addr, len: u64) -> Result<Memory, SaveError>
+    ensures { IfOk result (λ m. are_windows (map extent m) ≡ true) }
+{
+    match Memory::new(alloc, &[(base, len)]) {
+        Ok(memory) => Ok(memory),
+        Err(_) => Err(SaveError::NoMemory),
+    }
+}
+
+// Memory after a save, and what the save and the test before it answered.
+fn saved(alloc: Global, regs: &Regs, maps: &Maps) -> Result<Memory, SaveError> {
+    let desc = description(alloc)?;
+    let redists = redistributors(alloc)?;
+    let mut memory = empty_memory(alloc, Addr(0x8000_0000), 0x20_0000)?;
+    if !are_sound(regs, maps, &memory, &redists, &desc) {
+        return Err(SaveError::NoMemory);
+    }
+    savable(alloc, regs, maps, &redists, &desc, &memory)?;
+    save(alloc, regs, maps, &redists, &desc, &mut memory)?;
+    Ok(memory)
+}
+
+#[test]
+fn tables_after_one_signal(rt: HostRuntime) -> Result<(), Fail> {
+    let maps = one_event(rt.alloc())?;
+    let memory = saved(rt.alloc(), &registers(0x8107_0000_8000_0200), &maps)?;
+    assert_eq!(rt;
+        memory.read_u64(Addr(0x8000_0080)),
+        Ok(0x8000_0000_1001_8004)
+    );
+    assert_eq!(rt;
+        memory.read_u64(Addr(0x8001_0000)),
+        Ok(0x8000_0000_0002_0001)
+    );
+    assert_eq!(rt;
+        memory.read_u64(Addr(0x800c_0018)),
+        Ok(0x0000_0000_2008_0001)
+    );
+    assert_eq!(rt; memory.read_u8(Addr(0x8006_0401)), Ok(1));
+    Ok(())
+}
+
+#[test]
+fn an_event_as_far_as_can_be(rt: HostRuntime) -> Result<(), Fail> {
+    let mut maps = one_event(rt.alloc())?;
+    put_device(&mut maps, 17, 16, 0x8010_0000)?;
+    put_event(&mut maps, 17, 0, 8192)?;
+    put_event(&mut maps, 17, 65535, 8193)?;
+    let memory = saved(rt.alloc(), &registers(0x8107_0000_8000_0200), &maps)?;
+    assert_eq!(rt;
+        memory.read_u64(Addr(0x8010_0000)),
+        Ok(0xffff_0000_2000_0001)
+    );
+    assert_eq!(rt;
+        memory.read_u64(Addr(0x8017_fff8)),
+        Ok(0x0000_0000_2001_0001)
+    );
+    Ok(())
+}
+
+// The next device is 16384 on, which is told as 16383.
+#[test]
+fn a_device_further_than_can_be_told(rt: HostRuntime) -> Result<(), Fail> {
+    let mut maps = Maps::new(rt.alloc());
+    put_device(&mut maps, 0, 5, 0x800c_0000)?;
+    put_device(&mut maps, 16384, 5, 0x800c_0100)?;
+    let memory = saved(rt.alloc(), &registers(0x8107_0000_8010_0203), &maps)?;
+    assert_eq!(rt;
+        memory.read_u64(Addr(0x8010_0000)),
+        Ok(0xfffe_0000_1001_8004)
+    );
+    assert_eq!(rt;
+        memory.read_u64(Addr(0x8012_0000)),
+        Ok(0x8000_0000_1001_8024)
+    );
+    Ok(())
+}
+
+#[test]
+fn two_devices_with_one_table(rt: HostRuntime) -> Result<(), Fail> {
+    let mut maps = one_event(rt.alloc())?;
+    put_device(&mut maps, 17, 5, 0x800c_0000)?;
+    let answer = saved(rt.alloc(), &registers(0x8107_0000_8000_0200), &maps);
+    let fault = SaveFault::Overlap(Region::Itt(DeviceId(16)), Region::Itt(DeviceId(17)));
+    assert!(rt; matches!(answer, Err(SaveError::Fault(found)) if found == fault));
+    Ok(())
+}
