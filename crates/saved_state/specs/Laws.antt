@@ -1,0 +1,29 @@
+-- What is claimed of a state that was saved: a restore reads it back.
+use Rattle.std.specs.Prelude.{◌≡◌, ◌⊎◌, ◌<◌, ◌≤◌, ℕ, ◌+◌, true, false, slice_get, Some}
+use Rattle.guest_windows.specs.Windows.{read_at, number_at}
+use Rattle.baser_place.specs.Places.{entry_address}
+use Rattle.its_plain.specs.Plain.{Plain}
+use Rattle.its_plain.specs.Sound.{IsSound}
+use Rattle.its_plain.specs.declared.area.Area.{Area}
+use Rattle.its_plain.specs.Regions.{areas_of}
+use Rattle.its_plain.specs.Saved.{Words, words_of, saved, IsSavable}
+
+-- ---- memory
+
+-- the m bytes from a on and the n bytes from b on have none in common
+abbrev pub Apart : ℕ → ℕ → ℕ → ℕ → Type 0
+Apart a m b n = (a + m ≤ b) ⊎ (b + n ≤ a)
+
+-- each word of each table is read at its place
+abbrev pub WordsReadBack : Type 0
+WordsReadBack = (u : Plain) (k i : ℕ) (t : Words) → IsSound u → IsSavable u → slice_get (words_of u) k ≡ Some t → i < t.count → number_at (saved u) (entry_address t.base i) ≡ Some (t.word i)
+
+-- a stretch that shares no byte with an area that is written reads as before
+abbrev pub OtherBytesStay : Type 0
+OtherBytesStay = (u : Plain) (address n : ℕ) → IsSound u → IsSavable u → ((k : ℕ) (a : Area) → slice_get (areas_of u) k ≡ Some a → a.is_written ≡ true → Apart a.base a.size address n)
+    → read_at (saved u) address n ≡ read_at u.memory address n
+
+-- and so does every stretch of an area that is not written
+abbrev pub ReadAreasStay : Type 0
+ReadAreasStay = (u : Plain) (k : ℕ) (a : Area) (address n : ℕ) → IsSound u → IsSavable u → slice_get (areas_of u) k ≡ Some a → a.is_written ≡ false → a.base ≤ address → address + n ≤ a.base + a.size
+    → read_at (saved u) address n ≡ read_at u.memory address n

@@ -1,0 +1,6 @@
+//! What a save wrote is read back by a restore.
+#![tactic(auto)]
+
+mod memory;
+
+pub use memory::{other_bytes_stay, read_areas_stay, words_read_back};
