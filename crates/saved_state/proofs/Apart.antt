@@ -16,7 +16,7 @@ use Rattle.its_plain.specs.Regions.{areas_of, tables_of, table_areas, areas_from
 use Rattle.its_plain.specs.Saved.{Words, words_of, translator_words, pending_words, IsSavable}
 use Rattle.saved_state.specs.Laws.{Apart, WordsReadBack, OtherBytesStay, ReadAreasStay}
 use Rattle.saved_state.proofs.Tests.{Tested, tested, AllInside, written_spans, span, Avoids, AllAvoid, all_avoid, read_avoid, others_avoid}
-use Rattle.saved_state.proofs.Tables.{stretch, stretches, written_append, translators_alike, redistributors_alike, all_both}
+use Rattle.saved_state.proofs.Areas.{stretch, stretches, written_append, translators_alike, redistributors_alike, all_both}
 use Rattle.saved_state.proofs.Small.{AreSmall, all_small}
 use Rattle.saved_state.proofs.Written.{Spares, CanStand, AreApart, spares_part, tables_stay, tables_there, inside_part}
 

@@ -1,5 +1,5 @@
 -- Entries in the order of their keys: one that stands in the list is found by its key, and the other way round.
-use Rattle.std.proofs.Common.{◌≡◌, ℕ, zero, suc, ◌+◌, ◌<◌, true, false, cond, eqb, List, [], ◌∷◌, Option, Some, None, refl, sym, ap, ◌∙◌, arith}
+use Rattle.std.proofs.Common.{◌≡◌, ℕ, zero, suc, ◌+◌, ◌<◌, ◌≤◌, true, false, cond, eqb, List, [], ◌∷◌, Option, Some, None, refl, sym, ap, ◌∙◌, arith}
 use Rattle.std.specs.Prelude.{slice_get}
 use Rattle.std.specs.Ordering.{nat_cmp, eq_by_cmp}
 use Rattle.std.specs.Cmp.{unsigned_tied}
@@ -38,3 +38,29 @@ module _ {V : Type 0} where
   pub found_listed : (es : List (ℕ × V)) (k : ℕ) (v : V) → finmap.find nat_cmp k es ≡ Some v → (i : ℕ) × (slice_get es i ≡ Some (k, v))
   found_listed [] k v h = absurd cc
   found_listed (e ∷ es) k v h = found_by k e es v (λ p. (suc p.0, p.1)) (found_listed es k v) h
+
+  -- a later key is greater
+  pub rising : (es : List (ℕ × V)) → T (finmap.is_sorted nat_cmp es) → (i j : ℕ) (c d : ℕ × V) → i < j → slice_get es i ≡ Some c → slice_get es j ≡ Some d → c.0 < d.0
+  rising [] sorted i j c d lt at to = absurd cc
+  rising (e ∷ es) sorted i zero c d lt at to = absurd (omega arith)
+  rising (e ∷ es) sorted zero (suc j) c d lt at to = let up = above e.0 es (first _ _ sorted) j d to in let same : e.0 ≡ c.0 = ap (λ (y : ℕ × V). y.0) (same_Some e c at) in omega arith
+  rising (e ∷ es) sorted (suc i) (suc j) c d lt at to = rising es (second _ _ sorted) i j c d (omega arith) at to
+
+  from_first : (e : ℕ × V) (es : List (ℕ × V)) → T (finmap.is_sorted nat_cmp (e ∷ es)) → (i : ℕ) (c : ℕ × V) → slice_get (e ∷ es) i ≡ Some c → e.0 + i ≤ c.0
+  from_first e es sorted zero c at = let same : e.0 ≡ c.0 = ap (λ (y : ℕ × V). y.0) (same_Some e c at) in omega arith
+  from_first e [] sorted (suc i) c at = absurd cc
+  from_first e (f ∷ es) sorted (suc i) c at =
+      let up = above e.0 (f ∷ es) (first _ _ sorted) 0 f refl in
+      let more = from_first f es (second _ _ sorted) i c at in omega arith
+
+  -- no place is greater than the key that stands there
+  pub place_low : (es : List (ℕ × V)) → T (finmap.is_sorted nat_cmp es) → (i : ℕ) (c : ℕ × V) → slice_get es i ≡ Some c → i ≤ c.0
+  place_low [] sorted i c at = absurd cc
+  place_low (e ∷ es) sorted i c at = let up = from_first e es sorted i c at in omega arith
+
+  -- before a place that is taken all are
+  pub taken_before : (es : List (ℕ × V)) (i j : ℕ) (d : ℕ × V) → i < j → slice_get es j ≡ Some d → (c : ℕ × V) × (slice_get es i ≡ Some c)
+  taken_before [] i j d lt at = absurd cc
+  taken_before (e ∷ es) i zero d lt at = absurd (omega arith)
+  taken_before (e ∷ es) zero (suc j) d lt at = (e, refl)
+  taken_before (e ∷ es) (suc i) (suc j) d lt at = taken_before es i j d (omega arith) at

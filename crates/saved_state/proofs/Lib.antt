@@ -1,6 +1,10 @@
 pub mod Written
 pub mod Tests
-pub mod Tables
+pub mod Areas
 pub mod Keyed
 pub mod Small
 pub mod Apart
+pub mod Paths
+pub mod Found
+pub mod Collections
+pub mod Maps

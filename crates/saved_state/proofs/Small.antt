@@ -21,7 +21,7 @@ use Rattle.its_plain.specs.Plain.{Plain, Translator, Redistributor}
 use Rattle.its_plain.specs.Sound.{IsShape, IsSound, IsTranslator}
 use Rattle.its_plain.specs.Regions.{device_pages, collection_pages}
 use Rattle.its_plain.specs.Saved.{Words, distance, device_after, device_entry, device_word, collection_entry, collection_word, event_after, event_entry, event_word, pending_word, page_words, pages_words, device_words, collection_words, itt_words, translator_words, pending_words, words_of}
-use Rattle.saved_state.proofs.Tables.{all_both}
+use Rattle.saved_state.proofs.Areas.{all_both}
 use Rattle.saved_state.proofs.Keyed.{listed_found}
 
 -- ---- entries

@@ -1,8 +1,11 @@
 -- What is claimed of a state that was saved: a restore reads it back.
-use Rattle.std.specs.Prelude.{◌≡◌, ◌⊎◌, ◌<◌, ◌≤◌, ℕ, ◌+◌, true, false, slice_get, Some}
+use Rattle.std.specs.Prelude.{◌≡◌, ◌⊎◌, ◌<◌, ◌≤◌, ℕ, ◌+◌, true, false, slice_get, Some, ◌↔◌}
 use Rattle.guest_windows.specs.Windows.{read_at, number_at}
 use Rattle.baser_place.specs.Places.{entry_address}
-use Rattle.its_plain.specs.Plain.{Plain}
+use Rattle.its_types.specs.Maps.{collection_of}
+use Rattle.its_types.specs.declared.ids.Vcpu.{Vcpu}
+use Rattle.its_plain.specs.Plain.{Plain, Translator}
+use Rattle.its_plain.specs.CollectionTables.{AreCollectionsClear, HasCollection}
 use Rattle.its_plain.specs.Sound.{IsSound}
 use Rattle.its_plain.specs.declared.area.Area.{Area}
 use Rattle.its_plain.specs.Regions.{areas_of}
@@ -27,3 +30,13 @@ OtherBytesStay = (u : Plain) (address n : ℕ) → IsSound u → IsSavable u →
 abbrev pub ReadAreasStay : Type 0
 ReadAreasStay = (u : Plain) (k : ℕ) (a : Area) (address n : ℕ) → IsSound u → IsSavable u → slice_get (areas_of u) k ≡ Some a → a.is_written ≡ false → a.base ≤ address → address + n ≤ a.base + a.size
     → read_at (saved u) address n ≡ read_at u.memory address n
+
+-- ---- collections
+
+-- the collection table of saved memory has no offence, and just the collections that are mapped
+pub record AreCollectionsSaved (u : Plain) (t : Translator) : Type 0 where
+  pub clear : AreCollectionsClear (saved u) u.layout.shape.vcpus t.regs
+  pub are : (icid : ℕ) (vcpu : Vcpu) → (collection_of t.maps icid ≡ Some vcpu) ↔ HasCollection (saved u) t.regs icid vcpu
+
+abbrev pub CollectionsStand : Type 0
+CollectionsStand = (u : Plain) (k : ℕ) (t : Translator) → IsSound u → IsSavable u → slice_get u.translators k ≡ Some t → AreCollectionsSaved u t

@@ -2,5 +2,7 @@
 #![tactic(auto)]
 
 mod memory;
+mod tables;
 
 pub use memory::{other_bytes_stay, read_areas_stay, words_read_back};
+pub use tables::collections_stand;

@@ -1,0 +1,7 @@
+//! The tables that a save leaves.
+ghost use Rattle.saved_state.specs.Laws as laws;
+
+/// The collection table holds the collections that are mapped, and nothing that a restore would refuse.
+pub fn collections_stand()
+    ensures { laws.CollectionsStand }
+{}
