@@ -4,7 +4,10 @@ use Rattle.std.specs.Prelude.{slice_get}
 use Rattle.std.specs.List.{AllByRecursion, flat_map}
 use Rattle.std.proofs.Math.Pow.{pow_mono}
 use Rattle.std.proofs.lemmas.List.{map-append}
-use Rattle.guest_windows.specs.Windows.{Window, inside}
+use Rattle.std.proofs.lemmas.Option.{same_Some}
+use Rattle.byteorder.specs.Endian.{little_bytes}
+use Rattle.baser_place.specs.Places.{entry_address}
+use Rattle.guest_windows.specs.Windows.{Window, inside, read_at}
 use Rattle.gits_regs.specs.Registers.{Registers, is_valid, queue_base, queue_size}
 use Rattle.its_types.specs.Ranges.{lpi_count, pending_bytes}
 use Rattle.its_types.specs.declared.machine.Shape.{Shape}
@@ -13,12 +16,12 @@ use Rattle.its_plain.specs.Sound.{IsShape, IsSound, HasTables}
 use Rattle.its_plain.specs.declared.area.Area.{Area}
 use Rattle.its_plain.specs.declared.fault.Region.TheVariants.{Pending, Config, ConfigOf, Queue}
 use Rattle.its_plain.specs.Regions.{areas_of, tables_of, table_areas, areas_from, pending_area, config_area, config_areas, queue_area, queue_areas}
-use Rattle.its_plain.specs.Saved.{Words, words_of, translator_words, pending_words, IsSavable}
+use Rattle.its_plain.specs.Saved.{Words, words_of, translator_words, pending_words, saved, IsSavable}
 use Rattle.saved_state.specs.Laws.{Apart, WordsReadBack, OtherBytesStay, ReadAreasStay}
 use Rattle.saved_state.proofs.Tests.{Tested, tested, AllInside, written_spans, span, Avoids, AllAvoid, all_avoid, read_avoid, others_avoid}
 use Rattle.saved_state.proofs.Areas.{stretch, stretches, written_append, translators_alike, redistributors_alike, all_both}
 use Rattle.saved_state.proofs.Small.{AreSmall, all_small}
-use Rattle.saved_state.proofs.Written.{Spares, CanStand, AreApart, spares_part, tables_stay, tables_there, inside_part}
+use Rattle.saved_state.proofs.Written.{Spares, CanStand, AreApart, spares_part, tables_stay, tables_read, number_read, inside_part}
 
 -- ---- areas that are only read
 
@@ -115,9 +118,9 @@ all_inside u sound inside =
     (subst (AllByRecursion (IsIn u.memory)) (redistributors_alike s 0 u.redistributors least)
     (spans_inside u.memory pending (pending_inside u.memory s 0 u.redistributors least (λ k r at on. (sound.redistributors k r at).tables on)))))
 
-can_stand : (memory : List Window) (ts : List Words) → AllByRecursion (IsIn memory) (stretches ts) → AllByRecursion AreSmall ts → AllByRecursion (CanStand memory) ts
-can_stand memory [] inside small = tt
-can_stand memory (t ∷ ts) inside small = (record { inside = inside.0; small = λ i lt. small.0 i }, can_stand memory ts inside.1 small.1)
+can_stand : (memory : List Window) (ts : List Words) → AllByRecursion (IsIn memory) (stretches ts) → AllByRecursion (CanStand memory) ts
+can_stand memory [] inside = tt
+can_stand memory (t ∷ ts) inside = (inside.0, can_stand memory ts inside.1)
 
 -- ---- they share no byte
 
@@ -138,11 +141,21 @@ module _ (u : Plain) (sound : IsSound u) (savable : IsSavable u) where
   stays : (b n : ℕ) → AllByRecursion (Avoids (b, n)) (written_spans (areas_of u)) → AllByRecursion (Spares b n) (words_of u)
   stays b n all = spared b n (words_of u) (subst (AllByRecursion (Avoids (b, n))) alike all)
 
+-- the bytes of each word
+pub bytes_back : (u : Plain) (k i : ℕ) (t : Words) → IsSound u → IsSavable u → slice_get (words_of u) k ≡ Some t → i < t.count → read_at (saved u) (entry_address t.base i) 8 ≡ Some (little_bytes 8 (t.word i))
+bytes_back u k i t sound savable at lt =
+    let tests = tested u savable in
+    tables_read u.memory (words_of u) (can_stand u.memory (words_of u) (all_inside u sound tests.inside))
+    (apart (words_of u) (subst AllAvoid (alike u sound savable) (all_avoid (areas_of u) tests.apart))) k i t at lt
+
 pub words_back : WordsReadBack
 words_back u k i t sound savable at lt =
-    let tests = tested u savable in
-    tables_there u.memory (words_of u) (can_stand u.memory (words_of u) (all_inside u sound tests.inside) (all_small u sound))
-    (apart (words_of u) (subst AllAvoid (alike u sound savable) (all_avoid (areas_of u) tests.apart))) k i t at lt
+    number_read (saved u) (entry_address t.base i) (t.word i) (each_small (words_of u) (all_small u sound) k t at i) (bytes_back u k i t sound savable at lt)
+  where
+    each_small : (ts : List Words) → AllByRecursion AreSmall ts → (j : ℕ) (s : Words) → slice_get ts j ≡ Some s → AreSmall s
+    each_small [] all j s e = absurd cc
+    each_small (x ∷ ts) all zero s e = subst AreSmall (same_Some x s e) all.0
+    each_small (x ∷ ts) all (suc j) s e = each_small ts all.1 j s e
 
 pub others_stay : OtherBytesStay
 others_stay u address n sound savable h = tables_stay u.memory (words_of u) address n (stays u sound savable address n (others_avoid address n (areas_of u) h))

@@ -3,17 +3,22 @@ use Rattle.std.proofs.Common.{◌≡◌, ℕ, zero, suc, ◌<◌, List, [], ◌�
 use Rattle.std.specs.Prelude.{slice_get}
 use Rattle.std.specs.List.{AllByRecursion, flat_map}
 use Rattle.std.proofs.lemmas.Option.{same_Some}
-use Rattle.guest_windows.specs.Windows.{Window, number_at}
+use Rattle.byteorder.specs.Endian.{little_bytes}
+use Rattle.guest_windows.specs.Windows.{Window, number_at, read_at}
 use Rattle.baser_place.specs.Places.{entry_address}
 use Rattle.its_plain.specs.Plain.{Plain, Translator, Redistributor}
 use Rattle.its_plain.specs.Sound.{IsSound}
 use Rattle.its_plain.specs.Saved.{Words, words_of, saved, translator_words, pending_words, IsSavable}
 use Rattle.saved_state.proofs.Areas.{all_left, all_right}
-use Rattle.saved_state.proofs.Apart.{words_back}
+use Rattle.saved_state.proofs.Apart.{words_back, bytes_back}
 
 -- each of its words is at its place
 abbrev pub IsFound : List Window → Words → Type 0
 IsFound memory t = (i : ℕ) → i < t.count → number_at memory (entry_address t.base i) ≡ Some (t.word i)
+
+-- and so are its bytes
+abbrev pub HasBytes : List Window → Words → Type 0
+HasBytes memory t = (i : ℕ) → i < t.count → read_at memory (entry_address t.base i) 8 ≡ Some (little_bytes 8 (t.word i))
 
 all_by_place : {X : Type 0} (P : X → Type 0) (xs : List X) → ((k : ℕ) (x : X) → slice_get xs k ≡ Some x → P x) → AllByRecursion P xs
 all_by_place P [] h = tt
@@ -33,8 +38,9 @@ translator_found u k t sound savable at =
     of_flat (IsFound (saved u)) (translator_words u.memory) u.translators
     (all_left (IsFound (saved u)) (flat_map (translator_words u.memory) u.translators) (flat_map (pending_words u.layout.shape) u.redistributors) (all_found u sound savable)) k t at
 
-pub pending_found : (u : Plain) (k : ℕ) (r : Redistributor) → IsSound u → IsSavable u → slice_get u.redistributors k ≡ Some r → AllByRecursion (IsFound (saved u)) (pending_words u.layout.shape r)
+pub pending_found : (u : Plain) (k : ℕ) (r : Redistributor) → IsSound u → IsSavable u → slice_get u.redistributors k ≡ Some r → AllByRecursion (HasBytes (saved u)) (pending_words u.layout.shape r)
 unfolding words_of
 pending_found u k r sound savable at =
-    of_flat (IsFound (saved u)) (pending_words u.layout.shape) u.redistributors
-    (all_right (IsFound (saved u)) (flat_map (translator_words u.memory) u.translators) (flat_map (pending_words u.layout.shape) u.redistributors) (all_found u sound savable)) k r at
+    of_flat (HasBytes (saved u)) (pending_words u.layout.shape) u.redistributors
+    (all_right (HasBytes (saved u)) (flat_map (translator_words u.memory) u.translators) (flat_map (pending_words u.layout.shape) u.redistributors)
+    (all_by_place (HasBytes (saved u)) (words_of u) (λ j t there i lt. bytes_back u j i t sound savable there lt))) k r at

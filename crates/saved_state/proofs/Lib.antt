@@ -7,4 +7,6 @@ pub mod Apart
 pub mod Paths
 pub mod Found
 pub mod Collections
+pub mod Bytes
 pub mod Maps
+pub mod Redistributors

@@ -56,16 +56,18 @@ word_inside : (memory : List Window) (address word b n : ℕ) → inside (put_wo
 word_inside memory address word b n =
     maybe (λ m. inside m b n ≡ inside memory b n) memory (write_at memory address (little_bytes 8 word)) refl (λ now e. inside-write_at memory address (little_bytes 8 word) now b n e)
 
-word_there : (memory : List Window) (address word : ℕ) → inside memory address 8 ≡ true → word < 2 ^ 64 → number_at (put_word memory address word) address ≡ Some word
-word_there memory address word h small =
+word_there : (memory : List Window) (address word : ℕ) → inside memory address 8 ≡ true → read_at (put_word memory address word) address 8 ≡ Some (little_bytes 8 word)
+word_there memory address word h =
     let bytes = little_bytes 8 word in
     let same : read_at (put_word memory address word) address (length bytes) ≡ Some bytes = read_at-write_at_same memory address bytes (put_word memory address word) (written memory address word h) in
-    let read : read_at (put_word memory address word) address 8 ≡ Some bytes = ap (read_at (put_word memory address word) address) (sym (eight word)) ∙ same in
+    ap (read_at (put_word memory address word) address) (sym (eight word)) ∙ same
+
+-- the bytes of a word are its number
+pub number_read : (memory : List Window) (address word : ℕ) → word < 2 ^ 64 → read_at memory address 8 ≡ Some (little_bytes 8 word) → number_at memory address ≡ Some word
+number_read memory address word small read =
+    let bytes = little_bytes 8 word in
     let number : little_number 8 bytes ≡ word = ap (little_number 8) (sym (append-nil bytes)) ∙ little_number-reads_back 8 word [] small in
     ap (option_map (λ bs. little_number 8 bs)) read ∙ ap Some number
-
-number_stays : (memory now : List Window) (b : ℕ) → read_at now b 8 ≡ read_at memory b 8 → number_at now b ≡ number_at memory b
-number_stays memory now b e = ap (option_map (λ bs. little_number 8 bs)) e
 
 -- ---- a table
 
@@ -80,19 +82,19 @@ words_inside : (memory : List Window) (base : ℕ) (word : ℕ → ℕ) (n b m :
 words_inside memory base word zero b m = refl
 words_inside memory base word (suc n) b m = word_inside (put_words memory base word n) (entry_address base n) (word n) b m ∙ words_inside memory base word n b m
 
-words_there : (memory : List Window) (base : ℕ) (word : ℕ → ℕ) (n i : ℕ) → inside memory base (8 * n) ≡ true → ((k : ℕ) → k < n → word k < 2 ^ 64) → i < n
-    → number_at (put_words memory base word n) (entry_address base i) ≡ Some (word i)
-words_there memory base word zero i h small lt = absurd (omega arith)
-words_there memory base word (suc n) i h small lt =
+words_there : (memory : List Window) (base : ℕ) (word : ℕ → ℕ) (n i : ℕ) → inside memory base (8 * n) ≡ true → i < n
+    → read_at (put_words memory base word n) (entry_address base i) 8 ≡ Some (little_bytes 8 (word i))
+words_there memory base word zero i h lt = absurd (omega arith)
+words_there memory base word (suc n) i h lt =
     let before = put_words memory base word n in
     elim (cases_eq i n) [
       | inl same ↦
           let here : inside before (entry_address base n) 8 ≡ true = words_inside memory base word n (entry_address base n) 8 ∙ inside_part memory base (8 * suc n) (entry_address base n) 8 (omega arith) (omega arith) h in
-          subst (λ (k : ℕ). number_at (put_words memory base word (suc n)) (entry_address base k) ≡ Some (word k)) (sym same) (word_there before (entry_address base n) (word n) here (small n (omega arith)))
+          subst (λ (k : ℕ). read_at (put_words memory base word (suc n)) (entry_address base k) 8 ≡ Some (little_bytes 8 (word k))) (sym same) (word_there before (entry_address base n) (word n) here)
       | inr other ↦
           let below : i < n = omega (arith, other) in
-          number_stays before (put_words memory base word (suc n)) (entry_address base i) (word_stays before (entry_address base n) (word n) (entry_address base i) 8 (inr (omega arith)))
-          ∙ words_there memory base word n i (inside_part memory base (8 * suc n) base (8 * n) (omega arith) (omega arith) h) (λ k l. small k (omega arith)) below
+          word_stays before (entry_address base n) (word n) (entry_address base i) 8 (inr (omega arith))
+          ∙ words_there memory base word n i (inside_part memory base (8 * suc n) base (8 * n) (omega arith) (omega arith) h) below
     ]
 
 -- ---- tables after tables
@@ -105,10 +107,9 @@ pub tables_stay : (memory : List Window) (ts : List Words) (b n : ℕ) → AllBy
 tables_stay memory [] b n spared = refl
 tables_stay memory (t ∷ ts) b n spared = tables_stay (put_words memory t.base t.word t.count) ts b n spared.1 ∙ words_stay memory t.base t.word t.count b n spared.0
 
--- it lies in memory, and its words have 64 bits
-pub record CanStand (memory : List Window) (t : Words) : Type 0 where
-  pub inside : inside memory t.base (8 * t.count) ≡ true
-  pub small : (i : ℕ) → i < t.count → t.word i < 2 ^ 64
+-- it lies in memory
+abbrev pub CanStand : List Window → Words → Type 0
+CanStand memory t = inside memory t.base (8 * t.count) ≡ true
 
 -- the tables share no byte
 abbrev pub AreApart : List Words → Type 0
@@ -121,19 +122,23 @@ spares_part a n b m (t ∷ ts) low high all = ((elim all.0 [ inl e ↦ inl (omeg
 
 -- memory as it is now has the windows of the memory before
 there_now : (old memory : List Window) (ts : List Words) → ((b n : ℕ) → inside memory b n ≡ inside old b n) → AllByRecursion (CanStand old) ts → AreApart ts
-    → (k i : ℕ) (t : Words) → slice_get ts k ≡ Some t → i < t.count → number_at (put_tables memory ts) (entry_address t.base i) ≡ Some (t.word i)
+    → (k i : ℕ) (t : Words) → slice_get ts k ≡ Some t → i < t.count → read_at (put_tables memory ts) (entry_address t.base i) 8 ≡ Some (little_bytes 8 (t.word i))
 there_now old memory [] same can apart k i t at lt = absurd cc
 there_now old memory (s ∷ ts) same can apart zero i t at lt =
     let now = put_words memory s.base s.word s.count in
     let is : s ≡ t = same_Some s t at in
     let below : i < s.count = subst (λ (r : Words). i < r.count) (sym is) lt in
     let others = spares_part s.base (8 * s.count) (entry_address s.base i) 8 ts (omega arith) (omega (arith, below)) apart.0 in
-    subst (λ (r : Words). number_at (put_tables now ts) (entry_address r.base i) ≡ Some (r.word i)) is
-    (number_stays now (put_tables now ts) (entry_address s.base i) (tables_stay now ts (entry_address s.base i) 8 others)
-    ∙ words_there memory s.base s.word s.count i (same s.base (8 * s.count) ∙ can.0.inside) can.0.small below)
+    subst (λ (r : Words). read_at (put_tables now ts) (entry_address r.base i) 8 ≡ Some (little_bytes 8 (r.word i))) is
+    (tables_stay now ts (entry_address s.base i) 8 others
+    ∙ words_there memory s.base s.word s.count i (same s.base (8 * s.count) ∙ can.0) below)
 there_now old memory (s ∷ ts) same can apart (suc k) i t at lt =
     there_now old (put_words memory s.base s.word s.count) ts (λ b n. words_inside memory s.base s.word s.count b n ∙ same b n) can.1 apart.1 k i t at lt
 
-pub tables_there : (memory : List Window) (ts : List Words) → AllByRecursion (CanStand memory) ts → AreApart ts
-    → (k i : ℕ) (t : Words) → slice_get ts k ≡ Some t → i < t.count → number_at (put_tables memory ts) (entry_address t.base i) ≡ Some (t.word i)
-tables_there memory ts can apart = there_now memory memory ts (λ b n. refl) can apart
+pub tables_read : (memory : List Window) (ts : List Words) → AllByRecursion (CanStand memory) ts → AreApart ts
+    → (k i : ℕ) (t : Words) → slice_get ts k ≡ Some t → i < t.count → read_at (put_tables memory ts) (entry_address t.base i) 8 ≡ Some (little_bytes 8 (t.word i))
+tables_read memory ts can apart = there_now memory memory ts (λ b n. refl) can apart
+
+pub tables_inside : (memory : List Window) (ts : List Words) (b n : ℕ) → inside (put_tables memory ts) b n ≡ inside memory b n
+tables_inside memory [] b n = refl
+tables_inside memory (t ∷ ts) b n = tables_inside (put_words memory t.base t.word t.count) ts b n ∙ words_inside memory t.base t.word t.count b n

@@ -4,12 +4,13 @@ use Rattle.guest_windows.specs.Windows.{read_at, number_at}
 use Rattle.baser_place.specs.Places.{entry_address}
 use Rattle.its_types.specs.Maps.{collection_of}
 use Rattle.its_types.specs.declared.ids.Vcpu.{Vcpu}
-use Rattle.its_plain.specs.Plain.{Plain, Translator}
+use Rattle.its_plain.specs.Plain.{Plain, Translator, Redistributor}
 use Rattle.its_plain.specs.CollectionTables.{AreCollectionsClear, HasCollection}
 use Rattle.its_plain.specs.Sound.{IsSound}
 use Rattle.its_plain.specs.declared.area.Area.{Area}
 use Rattle.its_plain.specs.Regions.{areas_of}
-use Rattle.its_plain.specs.Saved.{Words, words_of, saved, IsSavable}
+use Rattle.its_plain.specs.Saved.{Words, words_of, saved, reloaded, IsSavable}
+use Rattle.its_plain.specs.Stands.{IsRedistributorIn}
 
 -- ---- memory
 
@@ -40,3 +41,10 @@ pub record AreCollectionsSaved (u : Plain) (t : Translator) : Type 0 where
 
 abbrev pub CollectionsStand : Type 0
 CollectionsStand = (u : Plain) (k : ℕ) (t : Translator) → IsSound u → IsSavable u → slice_get u.translators k ≡ Some t → AreCollectionsSaved u t
+
+-- ---- redistributors
+
+-- memory says of each redistributor what it goes on with: its pending LPIs, and the configuration that is read again
+abbrev pub RedistributorsStand : Type 0
+RedistributorsStand = (u : Plain) (vcpu : ℕ) (r : Redistributor) → IsSound u → IsSavable u → slice_get u.redistributors vcpu ≡ Some r
+    → IsRedistributorIn u.layout.shape (saved u) r.bases (reloaded u.layout.shape (saved u) r)

@@ -5,3 +5,8 @@ ghost use Rattle.saved_state.specs.Laws as laws;
 pub fn collections_stand()
     ensures { laws.CollectionsStand }
 {}
+
+/// A pending table holds the LPIs that are pending, where LPIs are on, and the configuration is the one that is read again.
+pub fn redistributors_stand()
+    ensures { laws.RedistributorsStand }
+{}
