@@ -43,10 +43,10 @@ entry_is : (o : Option (ℕ × Vcpu)) → ((c : ℕ × Vcpu) → o ≡ Some c �
 entry_is None fits = refl
 entry_is (Some c) fits = let f = fits c refl in unpacks c.1.0 c.0 f.0 f.1
 
-within_some : (n i : ℕ) → i < n → within n i ≡ Some i
+pub within_some : (n i : ℕ) → i < n → within n i ≡ Some i
 within_some n i lt = ap (λ (b : Bool). cond b (Some i) None) (lt-ltb i n lt)
 
-within_is : (n i q : ℕ) → within n i ≡ Some q → (q ≡ i) × (i < n)
+pub within_is : (n i q : ℕ) → within n i ≡ Some q → (q ≡ i) × (i < n)
 within_is n i q e =
     elim (nat_lt i n) as (λ b. nat_lt i n ≡ b → cond b (Some i) None ≡ Some q → (q ≡ i) × (i < n)) [
       | true ↦ λ lt s. (let k : q ≡ i = cc in k, ltb-true i n lt)

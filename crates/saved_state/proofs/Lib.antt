@@ -8,5 +8,7 @@ pub mod Paths
 pub mod Found
 pub mod Collections
 pub mod Bytes
+pub mod Chains
+pub mod Events
 pub mod Maps
 pub mod Redistributors

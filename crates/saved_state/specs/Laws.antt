@@ -2,8 +2,11 @@
 use Rattle.std.specs.Prelude.{◌≡◌, ◌⊎◌, ◌<◌, ◌≤◌, ℕ, ◌+◌, true, false, slice_get, Some, ◌↔◌}
 use Rattle.guest_windows.specs.Windows.{read_at, number_at}
 use Rattle.baser_place.specs.Places.{entry_address}
-use Rattle.its_types.specs.Maps.{collection_of}
+use Rattle.its_types.specs.Maps.{device_of, event_of, collection_of}
 use Rattle.its_types.specs.declared.ids.Vcpu.{Vcpu}
+use Rattle.its_types.specs.declared.translation.Device.{Device}
+use Rattle.its_types.specs.declared.translation.Event.{Event}
+use Rattle.its_plain.specs.EventTables.{itt_of, IsIttClear, HasEvent}
 use Rattle.its_plain.specs.Plain.{Plain, Translator, Redistributor}
 use Rattle.its_plain.specs.CollectionTables.{AreCollectionsClear, HasCollection}
 use Rattle.its_plain.specs.Sound.{IsSound}
@@ -48,3 +51,13 @@ CollectionsStand = (u : Plain) (k : ℕ) (t : Translator) → IsSound u → IsSa
 abbrev pub RedistributorsStand : Type 0
 RedistributorsStand = (u : Plain) (vcpu : ℕ) (r : Redistributor) → IsSound u → IsSavable u → slice_get u.redistributors vcpu ≡ Some r
     → IsRedistributorIn u.layout.shape (saved u) r.bases (reloaded u.layout.shape (saved u) r)
+
+-- ---- events
+
+-- the interrupt translation table of a device has no offence, and just the events that are mapped
+pub record AreEventsSaved (u : Plain) (t : Translator) (dev : ℕ) (d : Device) : Type 0 where
+  pub clear : IsIttClear (saved u) u.layout.shape.lpi_bits (itt_of dev d)
+  pub are : (ev : ℕ) (e : Event) → (event_of t.maps dev ev ≡ Some e) ↔ HasEvent (saved u) (itt_of dev d) ev e
+
+abbrev pub EventsStand : Type 0
+EventsStand = (u : Plain) (k : ℕ) (t : Translator) (dev : ℕ) (d : Device) → IsSound u → IsSavable u → slice_get u.translators k ≡ Some t → device_of t.maps dev ≡ Some d → AreEventsSaved u t dev d

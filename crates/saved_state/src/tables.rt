@@ -10,3 +10,8 @@ pub fn collections_stand()
 pub fn redistributors_stand()
     ensures { laws.RedistributorsStand }
 {}
+
+/// The interrupt translation table of each device holds the events that are mapped, and nothing that a restore would refuse.
+pub fn events_stand()
+    ensures { laws.EventsStand }
+{}
