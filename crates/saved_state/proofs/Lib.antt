@@ -10,5 +10,6 @@ pub mod Collections
 pub mod Bytes
 pub mod Chains
 pub mod Events
+pub mod Devices
 pub mod Maps
 pub mod Redistributors

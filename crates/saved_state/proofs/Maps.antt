@@ -24,6 +24,7 @@ use Rattle.table_save.proofs.EventsOf.{events_rise, find_of_device, after_of_dev
 use Rattle.saved_state.specs.Laws.{CollectionsStand, EventsStand}
 use Rattle.saved_state.proofs.Chains.{IsChain, chain_of}
 use Rattle.saved_state.proofs.Events.{Fits, itt_clear, events_are}
+use Rattle.saved_state.proofs.Devices as devices
 use Rattle.saved_state.proofs.Small as small
 use Rattle.saved_state.proofs.Small.{FitsEvent}
 use Rattle.saved_state.proofs.Areas.{all_left, all_right}
