@@ -54,10 +54,10 @@ abbrev pub rank : DevicePlace → ℕ
 rank (at_level1 k) = 8193 * k
 rank (at_entry k page i) = 8193 * k + 1 + i
 
-page_two : (r : Registers) → is_indirect r.baser0 ≡ true → page_places r ≡ 8192
+pub page_two : (r : Registers) → is_indirect r.baser0 ≡ true → page_places r ≡ 8192
 page_two r e = ap (λ b. cond b 8192 (flat_size r)) e
 
-page_flat : (r : Registers) → is_indirect r.baser0 ≡ false → page_places r ≡ flat_size r
+pub page_flat : (r : Registers) → is_indirect r.baser0 ≡ false → page_places r ≡ flat_size r
 page_flat r e = ap (λ b. cond b 8192 (flat_size r)) e
 
 follows : (r : Registers) (k : ℕ) → is_indirect r.baser0 ≡ true → k + 1 < level1_entries r.dev_bits → following r k ≡ Some (at_level1 (k + 1))

@@ -20,7 +20,7 @@ IsFound memory t = (i : ℕ) → i < t.count → number_at memory (entry_address
 abbrev pub HasBytes : List Window → Words → Type 0
 HasBytes memory t = (i : ℕ) → i < t.count → read_at memory (entry_address t.base i) 8 ≡ Some (little_bytes 8 (t.word i))
 
-all_by_place : {X : Type 0} (P : X → Type 0) (xs : List X) → ((k : ℕ) (x : X) → slice_get xs k ≡ Some x → P x) → AllByRecursion P xs
+pub all_by_place : {X : Type 0} (P : X → Type 0) (xs : List X) → ((k : ℕ) (x : X) → slice_get xs k ≡ Some x → P x) → AllByRecursion P xs
 all_by_place P [] h = tt
 all_by_place P (x ∷ xs) h = (h 0 x refl, all_by_place P xs (λ k y at. h (suc k) y at))
 

@@ -13,3 +13,4 @@ pub mod Events
 pub mod Devices
 pub mod Maps
 pub mod Redistributors
+pub mod DeviceTables

@@ -24,7 +24,6 @@ use Rattle.table_save.proofs.EventsOf.{events_rise, find_of_device, after_of_dev
 use Rattle.saved_state.specs.Laws.{CollectionsStand, EventsStand}
 use Rattle.saved_state.proofs.Chains.{IsChain, chain_of}
 use Rattle.saved_state.proofs.Events.{Fits, itt_clear, events_are}
-use Rattle.saved_state.proofs.Devices as devices
 use Rattle.saved_state.proofs.Small as small
 use Rattle.saved_state.proofs.Small.{FitsEvent}
 use Rattle.saved_state.proofs.Areas.{all_left, all_right}
@@ -99,11 +98,11 @@ module _ (u : Plain) (k : ℕ) (t : Translator) (sound : IsSound u) (savable : I
   some_events : 0 < 2 ^ d.bits
   some_events = pow_pos d.bits
 
-  itt_is_clear : IsIttClear (saved u) u.layout.shape.lpi_bits (itt_of dev d)
+  pub itt_is_clear : IsIttClear (saved u) u.layout.shape.lpi_bits (itt_of dev d)
   itt_is_clear =
       itt_clear (saved u) u.layout.shape.lpi_bits t.maps dev (itt_of dev d) some_events (itt_in t.maps (saved u) itts_in_memory dev d is) events_fit (events_linked t.maps dev)
 
-  itt_has : (ev : ℕ) (e : Event) → (event_of t.maps dev ev ≡ Some e) ↔ HasEvent (saved u) (itt_of dev d) ev e
+  pub itt_has : (ev : ℕ) (e : Event) → (event_of t.maps dev ev ≡ Some e) ↔ HasEvent (saved u) (itt_of dev d) ev e
   itt_has =
       events_are (saved u) u.layout.shape.lpi_bits t.maps dev (itt_of dev d) some_events (itt_in t.maps (saved u) itts_in_memory dev d is) events_fit (events_linked t.maps dev)
 

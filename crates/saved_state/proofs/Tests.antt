@@ -164,7 +164,7 @@ all_avoid (a ∷ areas) none =
       | false ↦ λ e. all_avoid areas none.1
     ] refl
 
-at_place : {X : Type 0} (P : X → Type 0) (xs : List X) (k : ℕ) (x : X) → AllByRecursion P xs → slice_get xs k ≡ Some x → P x
+pub at_place : {X : Type 0} (P : X → Type 0) (xs : List X) (k : ℕ) (x : X) → AllByRecursion P xs → slice_get xs k ≡ Some x → P x
 at_place P [] k x all e = absurd cc
 at_place P (y ∷ xs) zero x all e = subst P (same_Some y x e) all.0
 at_place P (y ∷ xs) (suc k) x all e = at_place P xs k x all.1 e

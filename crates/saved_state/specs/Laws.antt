@@ -7,6 +7,7 @@ use Rattle.its_types.specs.declared.ids.Vcpu.{Vcpu}
 use Rattle.its_types.specs.declared.translation.Device.{Device}
 use Rattle.its_types.specs.declared.translation.Event.{Event}
 use Rattle.its_plain.specs.EventTables.{itt_of, IsIttClear, HasEvent}
+use Rattle.its_plain.specs.DeviceTables.{AreDevicesClear, HasDevice}
 use Rattle.its_plain.specs.Plain.{Plain, Translator, Redistributor}
 use Rattle.its_plain.specs.CollectionTables.{AreCollectionsClear, HasCollection}
 use Rattle.its_plain.specs.Sound.{IsSound}
@@ -61,3 +62,13 @@ pub record AreEventsSaved (u : Plain) (t : Translator) (dev : ℕ) (d : Device) 
 
 abbrev pub EventsStand : Type 0
 EventsStand = (u : Plain) (k : ℕ) (t : Translator) (dev : ℕ) (d : Device) → IsSound u → IsSavable u → slice_get u.translators k ≡ Some t → device_of t.maps dev ≡ Some d → AreEventsSaved u t dev d
+
+-- ---- devices
+
+-- the device table has no offence, and just the devices that are mapped
+pub record AreDevicesSaved (u : Plain) (t : Translator) : Type 0 where
+  pub clear : AreDevicesClear (saved u) u.layout.shape.lpi_bits t.regs
+  pub are : (dev : ℕ) (d : Device) → (device_of t.maps dev ≡ Some d) ↔ HasDevice (saved u) t.regs dev d
+
+abbrev pub DevicesStand : Type 0
+DevicesStand = (u : Plain) (k : ℕ) (t : Translator) → IsSound u → IsSavable u → slice_get u.translators k ≡ Some t → AreDevicesSaved u t

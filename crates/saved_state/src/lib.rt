@@ -5,4 +5,4 @@ mod memory;
 mod tables;
 
 pub use memory::{other_bytes_stay, read_areas_stay, words_read_back};
-pub use tables::{collections_stand, events_stand, redistributors_stand};
+pub use tables::{collections_stand, devices_stand, events_stand, redistributors_stand};

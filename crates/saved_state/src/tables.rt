@@ -15,3 +15,8 @@ pub fn redistributors_stand()
 pub fn events_stand()
     ensures { laws.EventsStand }
 {}
+
+/// The device table, flat or of two levels, holds the devices that are mapped, and nothing that a restore would refuse.
+pub fn devices_stand()
+    ensures { laws.DevicesStand }
+{}
