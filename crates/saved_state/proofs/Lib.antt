@@ -14,3 +14,4 @@ pub mod Devices
 pub mod Maps
 pub mod Redistributors
 pub mod DeviceTables
+pub mod Whole

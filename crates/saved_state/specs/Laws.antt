@@ -1,6 +1,9 @@
 -- What is claimed of a state that was saved: a restore reads it back.
-use Rattle.std.specs.Prelude.{◌≡◌, ◌⊎◌, ◌<◌, ◌≤◌, ℕ, ◌+◌, true, false, slice_get, Some, ◌↔◌}
+use Rattle.std.specs.Prelude.{◌≡◌, ◌⊎◌, ◌<◌, ◌≤◌, ℕ, ◌+◌, true, false, List, [], ◌∷◌, map, slice_get, Some, ◌↔◌}
 use Rattle.guest_windows.specs.Windows.{read_at, number_at}
+use Rattle.gits_regs.specs.Registers.{masked}
+use Rattle.gits_regs.specs.declared.values.RegValues.{RegValues}
+use Rattle.its_types.specs.declared.translation.Bases.{Bases}
 use Rattle.baser_place.specs.Places.{entry_address}
 use Rattle.its_types.specs.Maps.{device_of, event_of, collection_of}
 use Rattle.its_types.specs.declared.ids.Vcpu.{Vcpu}
@@ -13,8 +16,8 @@ use Rattle.its_plain.specs.CollectionTables.{AreCollectionsClear, HasCollection}
 use Rattle.its_plain.specs.Sound.{IsSound}
 use Rattle.its_plain.specs.declared.area.Area.{Area}
 use Rattle.its_plain.specs.Regions.{areas_of}
-use Rattle.its_plain.specs.Saved.{Words, words_of, saved, reloaded, IsSavable}
-use Rattle.its_plain.specs.Stands.{IsRedistributorIn}
+use Rattle.its_plain.specs.Saved.{Words, words_of, saved, reloaded, moved, IsSavable}
+use Rattle.its_plain.specs.Stands.{IsRedistributorIn, Stands}
 
 -- ---- memory
 
@@ -72,3 +75,14 @@ pub record AreDevicesSaved (u : Plain) (t : Translator) : Type 0 where
 
 abbrev pub DevicesStand : Type 0
 DevicesStand = (u : Plain) (k : ℕ) (t : Translator) → IsSound u → IsSavable u → slice_get u.translators k ≡ Some t → AreDevicesSaved u t
+
+-- ---- the whole
+
+abbrev pub bases_of : Plain → List Bases
+bases_of u = map (λ r. r.bases) u.redistributors
+
+-- saved memory, and values that the registers of the translator can be restored from, stand for the state that a migration
+-- goes on from
+abbrev pub SavedStands : Type 0
+SavedStands = (u : Plain) (t : Translator) (values : RegValues) → IsSound u → IsSavable u → u.translators ≡ t ∷ [] → masked values u.layout.shape.dev_bits ≡ t.regs
+    → Stands (saved u) values u.layout (bases_of u) (moved u)

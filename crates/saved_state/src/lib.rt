@@ -2,7 +2,9 @@
 #![tactic(auto)]
 
 mod memory;
+mod state;
 mod tables;
 
 pub use memory::{other_bytes_stay, read_areas_stay, words_read_back};
+pub use state::saved_stands;
 pub use tables::{collections_stand, devices_stand, events_stand, redistributors_stand};
