@@ -15,3 +15,4 @@ pub mod Maps
 pub mod Redistributors
 pub mod DeviceTables
 pub mod Whole
+pub mod Values

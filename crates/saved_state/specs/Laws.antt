@@ -1,7 +1,8 @@
 -- What is claimed of a state that was saved: a restore reads it back.
 use Rattle.std.specs.Prelude.{◌≡◌, ◌⊎◌, ◌<◌, ◌≤◌, ℕ, ◌+◌, true, false, List, [], ◌∷◌, map, slice_get, Some, ◌↔◌}
 use Rattle.guest_windows.specs.Windows.{read_at, number_at}
-use Rattle.gits_regs.specs.Registers.{masked}
+use Rattle.gits_regs.specs.Registers as regs
+use Rattle.gits_regs.specs.Registers.{Registers, masked, read_32, read_64}
 use Rattle.gits_regs.specs.declared.values.RegValues.{RegValues}
 use Rattle.its_types.specs.declared.translation.Bases.{Bases}
 use Rattle.baser_place.specs.Places.{entry_address}
@@ -86,3 +87,22 @@ bases_of u = map (λ r. r.bases) u.redistributors
 abbrev pub SavedStands : Type 0
 SavedStands = (u : Plain) (t : Translator) (values : RegValues) → IsSound u → IsSavable u → u.translators ≡ t ∷ [] → masked values u.layout.shape.dev_bits ≡ t.regs
     → Stands (saved u) values u.layout (bases_of u) (moved u)
+
+-- what is read of the registers (KVM document arm-vgic-its, "ITS Restore Sequence")
+unfoldable pub values_read : Registers → RegValues
+values_read r = record {
+  ctlr = read_32 r 0x0;
+  cbaser = read_64 r 0x80;
+  creadr = read_64 r 0x90;
+  cwriter = read_64 r 0x88;
+  baser0 = read_64 r 0x100;
+  baser1 = read_64 r 0x108;
+}
+
+-- the registers can be restored from what is read of them
+abbrev pub ReadValuesMask : Type 0
+ReadValuesMask = (r : Registers) → regs.IsSound r → masked (values_read r) r.dev_bits ≡ r
+
+-- so saved memory and what is read of the registers stand for that state
+abbrev pub SavedReadsStand : Type 0
+SavedReadsStand = (u : Plain) (t : Translator) → IsSound u → IsSavable u → u.translators ≡ t ∷ [] → Stands (saved u) (values_read t.regs) u.layout (bases_of u) (moved u)

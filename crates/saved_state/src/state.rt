@@ -5,3 +5,13 @@ ghost use Rattle.saved_state.specs.Laws as laws;
 pub fn saved_stands()
     ensures { laws.SavedStands }
 {}
+
+/// What is read of the registers is what they are restored from.
+pub fn read_values_mask()
+    ensures { laws.ReadValuesMask }
+{}
+
+/// So a save, with the registers as they read, is restored to the state that was saved.
+pub fn saved_reads_stand()
+    ensures { laws.SavedReadsStand }
+{}
