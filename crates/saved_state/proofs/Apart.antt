@@ -1,5 +1,5 @@
 -- The tables that a save writes lie in memory and share no byte: what it wrote is read again.
-use Rattle.std.proofs.Common.{◌≡◌, ℕ, zero, suc, ◌+◌, ◌-◌, ◌*◌, ◌^◌, ◌<◌, ◌≤◌, Bool, true, false, cond, List, [], ◌∷◌, ◌++◌, append-nil, Some, refl, sym, subst, ap, ◌∙◌, inl, inr, arith}
+use Rattle.std.proofs.Common.{◌≡◌, ℕ, zero, suc, ◌+◌, ◌-◌, ◌*◌, ◌^◌, ◌<◌, ◌≤◌, true, false, cond, List, [], ◌∷◌, ◌++◌, append-nil, Some, refl, sym, subst, ap, ◌∙◌, arith}
 use Rattle.std.specs.Prelude.{slice_get}
 use Rattle.std.specs.List.{AllByRecursion, flat_map}
 use Rattle.std.proofs.Math.Pow.{pow_mono}
@@ -12,13 +12,13 @@ use Rattle.gits_regs.specs.Registers.{Registers, is_valid, queue_base, queue_siz
 use Rattle.its_types.specs.Ranges.{lpi_count, pending_bytes}
 use Rattle.its_types.specs.declared.machine.Shape.{Shape}
 use Rattle.its_plain.specs.Plain.{Plain, Translator, Redistributor, redistributor}
-use Rattle.its_plain.specs.Sound.{IsShape, IsSound, HasTables}
+use Rattle.its_plain.specs.Sound.{IsSound, HasTables}
 use Rattle.its_plain.specs.declared.area.Area.{Area}
 use Rattle.its_plain.specs.declared.fault.Region.TheVariants.{Pending, Config, ConfigOf, Queue}
-use Rattle.its_plain.specs.Regions.{areas_of, tables_of, table_areas, areas_from, pending_area, config_area, config_areas, queue_area, queue_areas}
+use Rattle.its_plain.specs.Regions.{areas_of, tables_of, areas_from, pending_area, config_area, config_areas, queue_area, queue_areas}
 use Rattle.its_plain.specs.Saved.{Words, words_of, translator_words, pending_words, saved, IsSavable}
-use Rattle.saved_state.specs.Laws.{Apart, WordsReadBack, OtherBytesStay, ReadAreasStay}
-use Rattle.saved_state.proofs.Tests.{Tested, tested, AllInside, written_spans, span, Avoids, AllAvoid, all_avoid, read_avoid, others_avoid}
+use Rattle.saved_state.specs.Laws.{WordsReadBack, OtherBytesStay, ReadAreasStay}
+use Rattle.saved_state.proofs.Tests.{tested, AllInside, written_spans, span, Avoids, AllAvoid, all_avoid, read_avoid, others_avoid}
 use Rattle.saved_state.proofs.Areas.{stretch, stretches, written_append, translators_alike, redistributors_alike, all_both}
 use Rattle.saved_state.proofs.Small.{AreSmall, all_small}
 use Rattle.saved_state.proofs.Written.{Spares, CanStand, AreApart, spares_part, tables_stay, tables_read, number_read, inside_part}
@@ -28,7 +28,7 @@ use Rattle.saved_state.proofs.Written.{Spares, CanStand, AreApart, spares_part, 
 no_config : (s : Shape) (v : ℕ) (rs : List Redistributor) → written_spans (areas_from (config_area s) v rs) ≡ []
 no_config s v [] = refl
 no_config s v (r ∷ rs) = written_append (config_area s v r) (areas_from (config_area s) (suc v) rs) ∙ (elim r.bases.on as (λ on.
-  written_spans (cond on (record { region = ConfigOf (record { 0 = v }); base = r.bases.config.0; size = lpi_count s.lpi_bits; is_written = false } ∷ []) []) ++ written_spans (areas_from (config_area s) (suc v) rs) ≡ []) [
+    written_spans (cond on (record { region = ConfigOf (record { 0 = v }); base = r.bases.config.0; size = lpi_count s.lpi_bits; is_written = false } ∷ []) []) ++ written_spans (areas_from (config_area s) (suc v) rs) ≡ []) [
       | true ↦ no_config s (suc v) rs
       | false ↦ no_config s (suc v) rs
     ])

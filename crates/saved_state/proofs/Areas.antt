@@ -1,6 +1,5 @@
 -- The tables that a save writes are the areas that it tests.
-use Rattle.std.proofs.Common.{◌≡◌, ℕ, zero, suc, ◌+◌, ◌-◌, ◌*◌, ◌/◌, ◌^◌, ◌<◌, ◌≤◌, Bool, true, false, not, cond, List, [], ◌∷◌, ◌++◌, map, Option, Some, None, refl, sym, subst, ap, ◌∙◌, arith}
-use Rattle.std.specs.Prelude.{slice_get}
+use Rattle.std.proofs.Common.{◌≡◌, ℕ, zero, suc, ◌+◌, ◌-◌, ◌*◌, ◌/◌, ◌^◌, ◌≤◌, Bool, true, false, not, cond, List, [], ◌∷◌, ◌++◌, map, Option, Some, None, refl, sym, ap, ◌∙◌, arith}
 use Rattle.std.specs.List.{AllByRecursion, flat_map}
 use Rattle.std.specs.FinMap.{entries}
 use Rattle.std.proofs.lemmas.List.{map-append}
@@ -12,7 +11,7 @@ use Rattle.its_types.specs.Maps.{Maps}
 use Rattle.its_types.specs.Ranges.{pending_bytes}
 use Rattle.its_types.specs.declared.machine.Shape.{Shape}
 use Rattle.its_types.specs.declared.translation.Device.{Device}
-use Rattle.its_plain.specs.Plain.{Plain, Translator, Redistributor}
+use Rattle.its_plain.specs.Plain.{Translator, Redistributor}
 use Rattle.its_plain.specs.declared.area.Area.{Area}
 use Rattle.its_plain.specs.declared.fault.Region.TheVariants.{Devices, Collections, Pending}
 use Rattle.its_plain.specs.Regions.{device_pages, collection_pages, page_area, pages_below, level1_areas, device_areas, collection_areas, itt_area, itt_areas, table_areas, pending_area, areas_from}
@@ -79,22 +78,23 @@ devices_alike : (t : Translator) (memory : List Window) → AllInside memory (de
 unfolding device_areas device_words
 devices_alike t memory =
     elim (is_valid t.regs.baser0) as (λ v.
-      AllInside memory (cond (not v) [] (cond (is_indirect t.regs.baser0) (level1_areas t.regs memory) (flat_area t.regs ∷ [])))
-      → written_spans (cond (not v) [] (cond (is_indirect t.regs.baser0) (level1_areas t.regs memory) (flat_area t.regs ∷ [])))
-      ≡ stretches (cond (not v) [] (cond (is_indirect t.regs.baser0) (pages_words t memory (level1_entries t.regs.dev_bits)) (flat_words t ∷ [])))) [
+    AllInside memory (cond (not v) [] (cond (is_indirect t.regs.baser0) (level1_areas t.regs memory) (flat_area t.regs ∷ [])))
+    → written_spans (cond (not v) [] (cond (is_indirect t.regs.baser0) (level1_areas t.regs memory) (flat_area t.regs ∷ [])))
+    ≡ stretches (cond (not v) [] (cond (is_indirect t.regs.baser0) (pages_words t memory (level1_entries t.regs.dev_bits)) (flat_words t ∷ [])))) [
       | true ↦ elim (is_indirect t.regs.baser0) as (λ i.
           AllInside memory (cond i (level1_areas t.regs memory) (flat_area t.regs ∷ []))
           → written_spans (cond i (level1_areas t.regs memory) (flat_area t.regs ∷ [])) ≡ stretches (cond i (pages_words t memory (level1_entries t.regs.dev_bits)) (flat_words t ∷ []))) [
-        | true ↦ λ all. level1_alike t memory all.0
-        | false ↦ λ all. ap (λ (n : ℕ). (table_base t.regs.baser0, n) ∷ []) (flat_size (device_pages t.regs))
-      ]
+            | true ↦ λ all. level1_alike t memory all.0
+            | false ↦ λ all. ap (λ (n : ℕ). (table_base t.regs.baser0, n) ∷ []) (flat_size (device_pages t.regs))
+          ]
       | false ↦ λ all. refl
     ]
+
 collections_alike : (t : Translator) → written_spans (collection_areas t.regs) ≡ stretches (collection_words t)
 collections_alike t =
     elim (is_valid t.regs.baser1) as (λ v.
-      written_spans (cond v (record { region = Collections; base = table_base t.regs.baser1; size = 65536 * collection_pages t.regs; is_written = true } ∷ []) [])
-      ≡ stretches (cond v (record { base = table_base t.regs.baser1; count = 8192 * collection_pages t.regs; word = collection_word t.maps } ∷ []) [])) [
+    written_spans (cond v (record { region = Collections; base = table_base t.regs.baser1; size = 65536 * collection_pages t.regs; is_written = true } ∷ []) [])
+    ≡ stretches (cond v (record { base = table_base t.regs.baser1; count = 8192 * collection_pages t.regs; word = collection_word t.maps } ∷ []) [])) [
       | true ↦ ap (λ (n : ℕ). (table_base t.regs.baser1, n) ∷ []) (flat_size (collection_pages t.regs))
       | false ↦ refl
     ]
@@ -135,8 +135,8 @@ whole_words bits least =
 redistributor_alike : (s : Shape) (v : ℕ) (r : Redistributor) → 14 ≤ s.lpi_bits → written_spans (pending_area s v r) ≡ stretches (pending_words s r)
 redistributor_alike s v r least =
     elim r.bases.on as (λ on.
-      written_spans (cond on (record { region = Pending (record { 0 = v }); base = r.bases.pending.0 + 1024; size = pending_bytes s.lpi_bits - 1024; is_written = true } ∷ []) [])
-      ≡ stretches (cond on (record { base = r.bases.pending.0 + 1024; count = (pending_bytes s.lpi_bits - 1024) / 8; word = λ i. pending_word r.pending (1024 + 8 * i) } ∷ []) [])) [
+    written_spans (cond on (record { region = Pending (record { 0 = v }); base = r.bases.pending.0 + 1024; size = pending_bytes s.lpi_bits - 1024; is_written = true } ∷ []) [])
+    ≡ stretches (cond on (record { base = r.bases.pending.0 + 1024; count = (pending_bytes s.lpi_bits - 1024) / 8; word = λ i. pending_word r.pending (1024 + 8 * i) } ∷ []) [])) [
       | true ↦ ap (λ (n : ℕ). (r.bases.pending.0 + 1024, n) ∷ []) (whole_words s.lpi_bits least)
       | false ↦ refl
     ]

@@ -1,16 +1,16 @@
 -- Entries that lead to one another: the next one that is mapped, and walks that arrive at each.
-use Rattle.std.proofs.Common.{◌≡◌, ℕ, zero, suc, ◌+◌, ◌-◌, ◌<◌, ◌≤◌, Bool, true, false, cond, nat_lt, List, [], ◌∷◌, Option, Some, None, refl, sym, subst, ap, ◌∙◌, inl, inr, arith}
+use Rattle.std.proofs.Common.{◌≡◌, ℕ, zero, suc, ◌+◌, ◌<◌, ◌≤◌, true, false, cond, nat_lt, List, [], ◌∷◌, Option, Some, None, refl, sym, ◌∙◌, inl, inr, arith}
 use Rattle.std.specs.Ordering.{nat_cmp}
 use Rattle.std.specs.FinMap as finmap
 use Rattle.std.proofs.lemmas.Bool.{ltb-true, ltb-false, cases_eq, cases_lt}
 use Rattle.std.proofs.lemmas.Option.{same_Some}
 use Rattle.its_plain.specs.Walks.{Reached}
 use Rattle.table_save.specs.Pass.{RisesFrom, key_after}
-use Rattle.table_save.proofs.Rises.{find_skips, find_here, rises_none, later_rises}
+use Rattle.table_save.proofs.Rises.{find_skips, find_here, rises_none}
 
 -- where each good place before q leads to one that is no further than q
 module _ {P : Type 0} (next : P → Option P) (rank : P → ℕ) (Good : P → Type 0) (q : P) (same : (p : P) → Good p → rank p ≡ rank q → p ≡ q)
-  (step : (p : P) → Good p → rank p < rank q → (s : P) × (next p ≡ Some s) × Good s × (rank p < rank s) × (rank s ≤ rank q)) where
+    (step : (p : P) → Good p → rank p < rank q → (s : P) × (next p ≡ Some s) × Good s × (rank p < rank s) × (rank s ≤ rank q)) where
   pub arrives : (n : ℕ) (p : P) → Good p → rank p ≤ rank q → rank q ≤ rank p + n → Reached next p q
   arrives zero p good le enough = ([], same p good (omega arith))
   arrives (suc n) p good le enough =

@@ -1,9 +1,9 @@
 -- A collection table that was saved holds just the collections that are mapped.
-use Rattle.std.proofs.Common.{◌≡◌, ◌⊎◌, ℕ, zero, suc, ◌+◌, ◌*◌, ◌/◌, ◌%◌, ◌^◌, ◌<◌, ◌≤◌, Bool, true, false, not, cond, nat_lt, List, [], ◌∷◌, Option, Some, None, Result, Ok, Err, refl, sym, subst, ap, ◌∙◌, inl, inr, arith, ◌↔◌, add-one}
-use Rattle.std.specs.Prelude.{◌||◌, ◌==◌, slice_get}
+use Rattle.std.proofs.Common.{◌≡◌, ℕ, zero, suc, ◌+◌, ◌*◌, ◌^◌, ◌<◌, ◌≤◌, Bool, true, false, not, cond, nat_lt, List, Option, Some, None, Ok, refl, sym, subst, ap, ◌∙◌, arith, ◌↔◌, add-one}
+use Rattle.std.specs.Prelude.{◌||◌, slice_get}
 use Rattle.std.specs.Option.{option_and_then, option_map, ok_or}
 use Rattle.std.specs.FinMap.{entries, entries_sorted, get-entries}
-use Rattle.std.proofs.lemmas.Bool.{eq-eqb, ne_eqb, lt-ltb, ltb-true, cases_eq}
+use Rattle.std.proofs.lemmas.Bool.{eq-eqb, ne_eqb, lt-ltb, ltb-true}
 use Rattle.std.proofs.lemmas.Option.{same_Some}
 use Rattle.its_types.specs.Bits.{field, bit_of}
 use Rattle.guest_windows.specs.Windows.{Window, number_at}
@@ -12,7 +12,7 @@ use Rattle.table_entries.specs.Fields.{CollectionFields}
 use Rattle.table_entries.specs.Words.{packed_collection, unpacked_collection}
 use Rattle.its_types.specs.Maps.{Maps, collection_of}
 use Rattle.its_types.specs.declared.ids.Vcpu.{Vcpu}
-use Rattle.its_plain.specs.Walks.{Reached, within, ensure, ◌>>=◌}
+use Rattle.its_plain.specs.Walks.{within, ensure, ◌>>=◌}
 use Rattle.its_plain.specs.CollectionTables.{collection_address, collection_entry, collection_leads, next_collection, is_of, stands_before, collection_entry_check, collection_check, CollectionReached, AreCollectionsClear, HasCollection}
 use Rattle.its_plain.specs.declared.fault.RestoreFault.{RestoreFault}
 use Rattle.its_plain.specs.declared.fault.RestoreFault.TheVariants.{OutsideTable}
@@ -60,8 +60,8 @@ pub record Stands (vcpus places : ℕ) (c : ℕ × Vcpu) : Type 0 where
   pub target : c.1.0 < vcpus
 
 module _ (memory : List Window) (vcpus : ℕ) (r : Registers) (m : Maps) (valid : is_valid r.baser1 ≡ true) (few : vcpus ≤ 16)
-  (found : (i : ℕ) → i < collection_places r → number_at memory (collection_address r i) ≡ Some (collection_word m i))
-  (stand : (i : ℕ) (c : ℕ × Vcpu) → slice_get (entries m.collections) i ≡ Some c → Stands vcpus (collection_places r) c) where
+    (found : (i : ℕ) → i < collection_places r → number_at memory (collection_address r i) ≡ Some (collection_word m i))
+    (stand : (i : ℕ) (c : ℕ × Vcpu) → slice_get (entries m.collections) i ≡ Some c → Stands vcpus (collection_places r) c) where
   abbrev es : List (ℕ × Vcpu)
   es = entries m.collections
 

@@ -1,6 +1,6 @@
 -- The device table of a translator, as saved memory has it.
-use Rattle.std.proofs.Common.{◌≡◌, ℕ, zero, suc, ◌+◌, ◌-◌, ◌*◌, ◌/◌, ◌%◌, ◌^◌, ◌<◌, ◌≤◌, Bool, true, false, not, cond, nat_lt, List, [], ◌∷◌, ◌++◌, Option, Some, None, is_some, refl, sym, subst, ap, ◌∙◌, inl, inr, arith, ◌↔◌}
-use Rattle.std.specs.Prelude.{◌&&◌, IsSome, slice_get, min}
+use Rattle.std.proofs.Common.{◌≡◌, ℕ, zero, suc, ◌+◌, ◌-◌, ◌*◌, ◌/◌, ◌^◌, ◌<◌, ◌≤◌, Bool, true, false, not, cond, List, [], ◌∷◌, ◌++◌, Option, Some, None, is_some, refl, sym, subst, ap, ◌∙◌, inl, inr, arith, ◌↔◌}
+use Rattle.std.specs.Prelude.{◌&&◌, IsSome, slice_get}
 use Rattle.std.specs.Option.{option_map}
 use Rattle.std.specs.List.{AllByRecursion, flat_map}
 use Rattle.std.specs.FinMap.{entries, entries_sorted, get-entries}
@@ -9,21 +9,21 @@ use Rattle.std.proofs.lemmas.Nat.{pow-add, pow_pos}
 use Rattle.byteorder.specs.Endian.{little_number}
 use Rattle.guest_windows.specs.Windows.{Window, inside, read_at, number_at}
 use Rattle.guest_windows.proofs.Laws.{is_some-read_at}
-use Rattle.gits_regs.specs.Registers.{Registers, is_valid, is_indirect, pages, table_base}
-use Rattle.baser_place.specs.Places.{entry_address, flat_places, level1_entries, level1_address, level1_of, page_of}
+use Rattle.gits_regs.specs.Registers.{Registers, is_valid, is_indirect, table_base}
+use Rattle.baser_place.specs.Places.{entry_address, level1_entries, level1_address, level1_of, page_of}
 use Rattle.its_types.specs.Maps.{Maps, device_of}
 use Rattle.its_types.specs.declared.translation.Device.{Device}
 use Rattle.its_plain.specs.Plain.{Plain, Translator}
 use Rattle.its_plain.specs.Sound.{IsSound, IsTranslator}
 use Rattle.its_plain.specs.declared.area.Area.{Area}
 use Rattle.its_plain.specs.declared.fault.Region.TheVariants.{Devices, Level1}
-use Rattle.its_plain.specs.Regions.{device_pages, pages_below, level1_areas, device_areas, collection_areas, itt_areas, table_areas, tables_of, areas_of, areas_from, pending_area, config_areas, queue_areas, has_no_place}
-use Rattle.its_plain.specs.Saved.{Words, saved, device_word, device_after, words_of_page, page_words, pages_words, device_words, collection_words, itt_words, translator_words, IsSavable}
+use Rattle.its_plain.specs.Regions.{device_pages, pages_below, device_areas, collection_areas, itt_areas, table_areas, tables_of, areas_of, areas_from, pending_area, config_areas, queue_areas, has_no_place}
+use Rattle.its_plain.specs.Saved.{Words, saved, device_word, device_after, page_words, pages_words, device_words, collection_words, itt_words, translator_words, IsSavable}
 use Rattle.its_plain.specs.DeviceTables.{flat_size, page_places, HasDevice, AreDevicesClear}
 use Rattle.table_save.proofs.Rises.{sorted_rises}
 use Rattle.saved_state.specs.Laws.{DevicesStand}
 use Rattle.saved_state.proofs.Areas.{all_left, all_right}
-use Rattle.saved_state.proofs.Tests.{Tested, tested, AllPlaced, at_place}
+use Rattle.saved_state.proofs.Tests.{tested, AllPlaced, at_place}
 use Rattle.saved_state.proofs.Written.{inside_part}
 use Rattle.saved_state.proofs.Apart.{read_stays}
 use Rattle.saved_state.proofs.Keyed.{found_listed}
@@ -147,11 +147,10 @@ module _ (u : Plain) (k : ℕ) (t : Translator) (sound : IsSound u) (savable : I
   level1_kept : is_valid t.regs.baser0 ≡ true → is_indirect t.regs.baser0 ≡ true → (i : ℕ) → i < level1_entries t.regs.dev_bits
       → (number_at (saved u) (level1_address t.regs i) ≡ number_at u.memory (level1_address t.regs i)) × IsSome (number_at u.memory (level1_address t.regs i))
   level1_kept valid two i lt =
-      let place = level1_inside valid two in
-      (
+      let place = level1_inside valid two in (
         ap (option_map (λ bytes. little_number 8 bytes)) (stays valid two refl (level1_address t.regs i) 8 (omega arith) (omega (arith, lt))),
         some_number (read_at u.memory (level1_address t.regs i) 8)
-        (is_some-read_at u.memory (level1_address t.regs i) 8 ∙ inside_part u.memory (table_base t.regs.baser0) (8 * level1_entries t.regs.dev_bits) (level1_address t.regs i) 8 (omega arith) (omega (arith, lt)) place),
+            (is_some-read_at u.memory (level1_address t.regs i) 8 ∙ inside_part u.memory (table_base t.regs.baser0) (8 * level1_entries t.regs.dev_bits) (level1_address t.regs i) 8 (omega arith) (omega (arith, lt)) place),
       )
 
   entries_found : is_valid t.regs.baser0 ≡ true → (l page i : ℕ) → IsPage u.memory t.regs l page → i < page_places t.regs → number_at (saved u) (entry_address page i) ≡ Some (device_word t.maps (8192 * l + i))
@@ -214,7 +213,7 @@ module _ (u : Plain) (k : ℕ) (t : Translator) (sound : IsSound u) (savable : I
   are : (dev : ℕ) (d : Device) → (device_of t.maps dev ≡ Some d) ↔ HasDevice (saved u) t.regs dev d
   are dev d =
       let both : is_valid t.regs.baser0 ≡ true → (device_of t.maps dev ≡ Some d) ↔ HasDevice (saved u) t.regs dev d =
-            λ valid. devices_are u.memory (saved u) u.layout.shape.lpi_bits t.regs t.maps valid (stored valid) dev d in
+      λ valid. devices_are u.memory (saved u) u.layout.shape.lpi_bits t.regs t.maps valid (stored valid) dev d in
       (λ e. (both (own.devices dev d e).table).0 e, λ h. (both h.0).1 h)
 
 pub devices_stand : DevicesStand

@@ -1,5 +1,5 @@
 -- A device table that was saved, flat or of two levels, holds just the devices that are mapped.
-use Rattle.std.proofs.Common.{◌≡◌, ◌⊎◌, ℕ, zero, suc, ◌+◌, ◌-◌, ◌*◌, ◌/◌, ◌%◌, ◌^◌, ◌<◌, ◌≤◌, Bool, true, false, not, cond, nat_lt, List, [], ◌∷◌, Option, Some, None, refl, sym, subst, ap, ◌∙◌, inl, inr, arith, ◌↔◌}
+use Rattle.std.proofs.Common.{◌≡◌, ◌⊎◌, ℕ, ◌+◌, ◌-◌, ◌*◌, ◌/◌, ◌%◌, ◌^◌, ◌<◌, ◌≤◌, Bool, true, false, cond, nat_lt, List, Option, Some, None, refl, sym, subst, ap, ◌∙◌, inl, inr, arith, ◌↔◌}
 use Rattle.std.specs.Prelude.{◌==◌, ◌&&◌, ◌||◌, IsSome}
 use Rattle.std.specs.Option.{option_and_then, option_map}
 use Rattle.std.proofs.lemmas.Bool.{eq-eqb, ne_eqb, lt-ltb, le-ltb, ltb-true, cases_lt, cases_eq, cases_Bool, and_parts}
@@ -13,9 +13,8 @@ use Rattle.table_entries.specs.Fields.{DeviceFields}
 use Rattle.table_entries.specs.Words.{packed_device, unpacked_device}
 use Rattle.its_types.specs.Maps.{Maps, device_of}
 use Rattle.its_types.specs.declared.translation.Device.{Device}
-use Rattle.its_plain.specs.Walks.{Reached}
 use Rattle.its_plain.specs.EventTables.{itt_of, IsIttClear}
-use Rattle.its_plain.specs.DeviceTables.{DevicePlace, at_level1, at_entry, first_device, flat_size, page_places, id_of, index_of, device_address, following, level1_leads, goes_to, device_leads, word_leads, next_device, DeviceReached, device_entry, device_of_fields, device_in, ends_well, IsDeviceClear, AreDevicesClear, HasDevice}
+use Rattle.its_plain.specs.DeviceTables.{DevicePlace, at_level1, at_entry, first_device, flat_size, page_places, id_of, following, goes_to, device_leads, word_leads, next_device, DeviceReached, device_entry, device_of_fields, device_in, ends_well, IsDeviceClear, AreDevicesClear, HasDevice}
 use Rattle.its_plain.specs.Saved as saved
 use Rattle.its_plain.specs.Saved.{device_word, device_after, distance}
 use Rattle.saved_state.proofs.Small.{distance_most}
@@ -139,8 +138,7 @@ goes_towards old r k page i d l other j p q some most =
       | inr le ↦ elim (cases_Bool (is_indirect r.baser0)) [
         | inl two ↦
             let size = page_two r two in
-            let last = (q.0.two two).0 in
-            (
+            let last = (q.0.two two).0 in (
               at_level1 (k + 1),
               ap (λ b. cond b (Some (at_entry k page (i + d))) (following r k)) (le-ltb (i + d) (page_places r) le) ∙ follows r k two (omega arith),
               (two, omega arith),

@@ -1,10 +1,9 @@
 -- An interrupt translation table that was saved holds just the events that are mapped.
-use Rattle.std.proofs.Common.{◌≡◌, ◌⊎◌, ℕ, zero, suc, ◌+◌, ◌-◌, ◌*◌, ◌/◌, ◌%◌, ◌^◌, ◌<◌, ◌≤◌, Bool, true, false, not, cond, nat_lt, nat_le, List, [], ◌∷◌, Option, Some, None, Result, Ok, Err, refl, sym, subst, ap, ◌∙◌, inl, inr, arith, ◌↔◌}
-use Rattle.std.specs.Prelude.{◌==◌, ◌&&◌, min}
+use Rattle.std.proofs.Common.{◌≡◌, ℕ, ◌+◌, ◌*◌, ◌^◌, ◌<◌, ◌≤◌, Bool, true, false, cond, nat_lt, nat_le, List, Option, Some, None, Ok, refl, sym, subst, ap, ◌∙◌, arith, ◌↔◌}
+use Rattle.std.specs.Prelude.{◌==◌}
 use Rattle.std.specs.Option.{option_and_then, option_map, ok_or}
-use Rattle.std.proofs.lemmas.Bool.{eq-eqb, ne_eqb, lt-ltb, ltb-true, leb-true, and_parts}
-use Rattle.std.proofs.lemmas.Option.{same_Some}
-use Rattle.its_types.specs.Bits.{field, bit_of}
+use Rattle.std.proofs.lemmas.Bool.{ne_eqb, lt-ltb, leb-true, and_parts}
+use Rattle.its_types.specs.Bits.{field}
 use Rattle.guest_windows.specs.Windows.{Window, number_at}
 use Rattle.table_entries.specs.Fields.{EventFields}
 use Rattle.table_entries.specs.Words.{packed_event, unpacked_event}
@@ -49,8 +48,8 @@ pub record Fits (lpi_bits : ℕ) (t : Itt) (ev : ℕ) (e : Event) : Type 0 where
   pub icid : e.icid.0 < 65536
 
 module _ (memory : List Window) (lpi_bits : ℕ) (m : Maps) (dev : ℕ) (t : Itt) (some_places : 0 < t.places)
-  (found : (ev : ℕ) → ev < t.places → number_at memory (event_address t ev) ≡ Some (event_word m dev ev))
-  (fits : (ev : ℕ) (e : Event) → event_of m dev ev ≡ Some e → Fits lpi_bits t ev e) (linked : IsChain (event_of m dev) (event_after m dev)) where
+    (found : (ev : ℕ) → ev < t.places → number_at memory (event_address t ev) ≡ Some (event_word m dev ev))
+    (fits : (ev : ℕ) (e : Event) → event_of m dev ev ≡ Some e → Fits lpi_bits t ev e) (linked : IsChain (event_of m dev) (event_after m dev)) where
   fields : ℕ → Event → EventFields
   fields ev e = record { next = distance 65535 ev (event_after m dev ev); intid = e.intid.0; icid = e.icid.0 }
 

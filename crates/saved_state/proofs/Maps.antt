@@ -1,5 +1,5 @@
 -- The tables of a translator, as saved memory has them.
-use Rattle.std.proofs.Common.{◌≡◌, ℕ, ◌*◌, ◌^◌, ◌<◌, Bool, true, false, not, cond, List, [], ◌∷◌, ◌++◌, Some, refl, sym, subst, ap, ◌∙◌, ◌↔◌, arith}
+use Rattle.std.proofs.Common.{◌≡◌, ℕ, ◌*◌, ◌^◌, ◌<◌, Bool, true, cond, List, [], ◌∷◌, ◌++◌, Some, sym, subst, ◌∙◌, ◌↔◌, arith}
 use Rattle.std.specs.Prelude.{slice_get}
 use Rattle.std.specs.List.{AllByRecursion}
 use Rattle.std.specs.FinMap.{entries, entries_sorted, get-entries}
@@ -13,12 +13,11 @@ use Rattle.its_types.specs.declared.translation.Device.{Device}
 use Rattle.its_types.specs.declared.translation.Event.{Event}
 use Rattle.its_plain.specs.EventTables.{itt_of, IsIttClear, HasEvent}
 use Rattle.its_types.specs.declared.ids.Vcpu.{Vcpu}
-use Rattle.its_types.specs.declared.machine.Shape.{Shape}
 use Rattle.its_plain.specs.Plain.{Plain, Translator}
 use Rattle.its_plain.specs.Sound.{IsSound, IsTranslator}
 use Rattle.its_plain.specs.Regions.{collection_pages}
 use Rattle.its_plain.specs.CollectionTables.{collection_address, HasCollection, AreCollectionsClear}
-use Rattle.its_plain.specs.Saved.{Words, saved, translator_words, device_words, collection_words, itt_words, collection_word, event_word, event_after, IsSavable}
+use Rattle.its_plain.specs.Saved.{saved, translator_words, device_words, collection_words, itt_words, collection_word, event_word, event_after, IsSavable}
 use Rattle.its_maps.specs.MapsRoom.{events_at}
 use Rattle.table_save.proofs.EventsOf.{events_rise, find_of_device, after_of_device}
 use Rattle.saved_state.specs.Laws.{CollectionsStand, EventsStand}
@@ -62,7 +61,7 @@ module _ (u : Plain) (k : ℕ) (t : Translator) (sound : IsSound u) (savable : I
   are : (icid : ℕ) (v : Vcpu) → (collection_of t.maps icid ≡ Some v) ↔ HasCollection (saved u) t.regs icid v
   are icid v =
       let both : is_valid t.regs.baser1 ≡ true → (collection_of t.maps icid ≡ Some v) ↔ HasCollection (saved u) t.regs icid v =
-            λ valid. collections_are (saved u) u.layout.shape.vcpus t.regs t.maps valid sound.layout.shape.most_vcpus (collections_found (saved u) t valid in_memory) stand icid v in
+      λ valid. collections_are (saved u) u.layout.shape.vcpus t.regs t.maps valid sound.layout.shape.most_vcpus (collections_found (saved u) t valid in_memory) stand icid v in
       (λ e. (both (fits.collections icid v e).table).0 e, λ h. (both h.0).1 h)
 
 pub collections_stand : CollectionsStand

@@ -1,5 +1,5 @@
 -- Places that are reached, one from another.
-use Rattle.std.proofs.Common.{◌≡◌, ℕ, zero, suc, ◌+◌, ◌<◌, List, [], ◌∷◌, ◌++◌, Option, Some, refl, sym, subst, ap, ◌∙◌}
+use Rattle.std.proofs.Common.{◌≡◌, List, [], ◌∷◌, ◌++◌, Option, Some, refl, sym, subst, ap, ◌∙◌}
 use Rattle.its_plain.specs.Walks.{Path, Reached}
 
 module _ {P : Type 0} (next : P → Option P) where

@@ -1,20 +1,19 @@
 -- The pending tables and the configurations of redistributors, as saved memory has them.
-use Rattle.std.proofs.Common.{◌≡◌, ℕ, zero, suc, ◌+◌, ◌-◌, ◌*◌, ◌/◌, ◌%◌, ◌^◌, ◌<◌, ◌≤◌, Bool, true, false, not, cond, eqb, nat_lt, nat_le, List, [], ◌∷◌, map, length, Option, Some, None, is_some, refl, sym, subst, ap, ◌∙◌, inl, inr, arith}
-use Rattle.std.specs.Prelude.{◌&&◌, ◌||◌, slice_get, unwrap_or, slice_index, replicate}
+use Rattle.std.proofs.Common.{◌≡◌, ℕ, ◌+◌, ◌-◌, ◌*◌, ◌/◌, ◌%◌, ◌^◌, ◌<◌, ◌≤◌, Bool, true, false, cond, nat_lt, nat_le, List, [], ◌∷◌, map, length, Option, Some, None, is_some, refl, sym, subst, ap, ◌∙◌, inl, inr, arith}
+use Rattle.std.specs.Prelude.{◌&&◌, slice_get, unwrap_or}
 use Rattle.std.specs.List.{AllByRecursion, list_all}
-use Rattle.std.proofs.lemmas.Bool.{and_parts, or_cases, eqb-true, ltb-true, leb-true, cases_Bool, cond_both}
+use Rattle.std.proofs.lemmas.Bool.{and_parts, ltb-true, leb-true, cases_Bool, cond_both}
 use Rattle.std.proofs.lemmas.Nat.{pow-add}
 use Rattle.byteorder.specs.Endian.{little_bytes}
-use Rattle.guest_windows.specs.Windows.{Window, inside, read_at, byte_at, extent, in_range, are_windows, share_no_byte, total}
+use Rattle.guest_windows.specs.Windows.{Window, inside, read_at, byte_at, extent, in_range, share_no_byte, total}
 use Rattle.guest_windows.proofs.Laws.{is_some-read_at}
 use Rattle.baser_place.specs.Places.{entry_address}
 use Rattle.its_types.specs.Bits.{bit_of}
 use Rattle.its_types.specs.Lpis.{is_pending, pending_byte}
 use Rattle.its_types.specs.Ranges.{is_lpi, lpi_count, pending_bytes}
-use Rattle.its_types.specs.declared.machine.Shape.{Shape}
 use Rattle.its_plain.specs.Plain.{Plain, Redistributor}
 use Rattle.its_plain.specs.Sound.{IsSound, IsRedistributor}
-use Rattle.its_plain.specs.Saved.{Words, words_of, saved, pending_word, pending_words, reloaded, moved, IsSavable}
+use Rattle.its_plain.specs.Saved.{words_of, saved, pending_word, reloaded, moved, IsSavable}
 use Rattle.its_plain.specs.Stands.{is_set, ArePendingIn, IsRedistributorIn}
 use Rattle.plain_soundness.proofs.Lists.{set_has}
 use Rattle.plain_soundness.proofs.Migrated.{migrations_keep}
@@ -32,7 +31,7 @@ eights : (bits : ℕ) → 14 ≤ bits → pending_bytes bits ≡ 8 * 2 ^ (bits -
 eights bits least = let split : bits - 3 ≡ 3 + (bits - 6) = omega arith in ap (λ k. 2 ^ k) split ∙ pow-add 2 3 (bits - 6)
 
 module _ (memory : List Window) (base bits : ℕ) (pending : List ℕ) (least : 14 ≤ bits) (apart : share_no_byte (map extent memory) ≡ true)
-  (found : (i : ℕ) → i < (pending_bytes bits - 1024) / 8 → read_at memory (entry_address (base + 1024) i) 8 ≡ Some (little_bytes 8 (pending_word pending (1024 + 8 * i)))) where
+    (found : (i : ℕ) → i < (pending_bytes bits - 1024) / 8 → read_at memory (entry_address (base + 1024) i) 8 ≡ Some (little_bytes 8 (pending_word pending (1024 + 8 * i)))) where
   bit_there : (n i k : ℕ) → 1024 ≤ n → n < pending_bytes bits → i ≡ (n - 1024) / 8 → k ≡ (n - 1024) % 8 → byte_at memory (base + n) ≡ Some (pending_byte n pending)
   bit_there n i k low high row at =
       let multiple = eights bits least in

@@ -1,18 +1,18 @@
 -- What a save writes of a sound state are words of 64 bits.
-use Rattle.std.proofs.Common.{◌≡◌, ℕ, zero, suc, ◌+◌, ◌-◌, ◌*◌, ◌/◌, ◌^◌, ◌<◌, ◌≤◌, Bool, true, false, not, cond, nat_lt, nat_le, List, [], ◌∷◌, ◌++◌, Option, Some, None, refl, sym, subst, ap, ◌∙◌, arith}
-use Rattle.std.specs.Prelude.{◌&&◌, slice_get, min}
+use Rattle.std.proofs.Common.{◌≡◌, ℕ, zero, suc, ◌+◌, ◌-◌, ◌*◌, ◌/◌, ◌^◌, ◌<◌, ◌≤◌, Bool, true, false, not, cond, nat_lt, nat_le, List, [], ◌∷◌, ◌++◌, Option, Some, None, refl, ◌∙◌, arith}
+use Rattle.std.specs.Prelude.{slice_get}
 use Rattle.std.specs.List.{AllByRecursion, flat_map}
 use Rattle.std.specs.FinMap.{entries, entries_sorted, get-entries}
-use Rattle.std.proofs.lemmas.Bool.{and_parts, ltb-true, leb-true}
+use Rattle.std.proofs.lemmas.Bool.{and_parts, ltb-true}
 use Rattle.std.proofs.Math.Pow.{pow_mono}
 use Rattle.byteorder.specs.Endian.{little_number}
 use Rattle.guest_windows.specs.Windows.{Window}
-use Rattle.gits_regs.specs.Registers.{is_valid, is_indirect, table_base, collection_places}
+use Rattle.gits_regs.specs.Registers.{is_valid, is_indirect, table_base}
 use Rattle.baser_place.specs.Places.{level1_entries, level1_of, page_of}
 use Rattle.its_types.specs.Bits.{bit}
 use Rattle.its_types.specs.Lpis.{is_pending, pending_bit, pending_byte}
-use Rattle.its_types.specs.Maps.{Maps, device_of, event_of, collection_of}
-use Rattle.its_types.specs.Ranges.{is_lpi, pending_bytes}
+use Rattle.its_types.specs.Maps.{Maps, device_of, event_of}
+use Rattle.its_types.specs.Ranges.{pending_bytes}
 use Rattle.its_types.specs.declared.ids.Vcpu.{Vcpu}
 use Rattle.its_types.specs.declared.machine.Shape.{Shape}
 use Rattle.its_types.specs.declared.translation.Device.{Device}
@@ -134,10 +134,10 @@ module _ (s : Shape) (shape : IsShape s) (t : Translator) (sound : IsTranslator 
       elim (is_valid t.regs.baser0) as (λ v. AllByRecursion AreSmall (cond (not v) [] (cond (is_indirect t.regs.baser0) (pages_words t memory (level1_entries t.regs.dev_bits))
       (record { base = table_base t.regs.baser0; count = 8192 * device_pages t.regs; word = device_word t.maps } ∷ [])))) [
         | true ↦ elim (is_indirect t.regs.baser0) as (λ i. AllByRecursion AreSmall (cond i (pages_words t memory (level1_entries t.regs.dev_bits))
-          (record { base = table_base t.regs.baser0; count = 8192 * device_pages t.regs; word = device_word t.maps } ∷ []))) [
-          | true ↦ pages_small memory (level1_entries t.regs.dev_bits)
-          | false ↦ ((λ i. device_small t.maps i (devices_fit i)), tt)
-        ]
+            (record { base = table_base t.regs.baser0; count = 8192 * device_pages t.regs; word = device_word t.maps } ∷ []))) [
+              | true ↦ pages_small memory (level1_entries t.regs.dev_bits)
+              | false ↦ ((λ i. device_small t.maps i (devices_fit i)), tt)
+            ]
         | false ↦ tt
       ]
 

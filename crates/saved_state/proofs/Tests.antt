@@ -1,9 +1,9 @@
 -- What the tests of a save say of its areas.
-use Rattle.std.proofs.Common.{◌≡◌, ◌⊎◌, ℕ, zero, suc, ◌+◌, ◌<◌, ◌≤◌, Bool, true, false, not, cond, List, [], ◌∷◌, ◌++◌, Option, Some, None, Result, Ok, Err, refl, sym, subst, ap, ◌∙◌, inl, inr, arith}
+use Rattle.std.proofs.Common.{◌≡◌, ◌⊎◌, ℕ, zero, suc, ◌+◌, Bool, true, false, not, cond, List, [], ◌∷◌, Option, Some, None, Result, Ok, Err, refl, sym, subst, ap, ◌∙◌, inl, inr}
 use Rattle.std.specs.Prelude.{◌&&◌, ◌||◌, nat_lt, find, slice_get}
-use Rattle.std.specs.List.{AllByRecursion, flat_map}
+use Rattle.std.specs.List.{AllByRecursion}
 use Rattle.std.specs.FinMap.{entries}
-use Rattle.std.proofs.lemmas.Bool.{lt-ltb, cases_lt, cases_Bool}
+use Rattle.std.proofs.lemmas.Bool.{lt-ltb, cases_lt}
 use Rattle.std.proofs.lemmas.Option.{same_Some}
 use Rattle.guest_windows.specs.Windows.{Window, inside}
 use Rattle.its_types.specs.declared.translation.Device.{Device}
@@ -127,7 +127,7 @@ and_false false b e = inl refl
 pub no_clash : (a b : Area) → (a.is_written || b.is_written) ≡ true → clash a b ≡ false → Apart a.base a.size b.base b.size
 no_clash a b some e =
     let tests : (nat_lt a.base (b.base + b.size) && nat_lt b.base (a.base + a.size)) ≡ false =
-          sym (ap (λ (t : Bool). t && nat_lt a.base (b.base + b.size) && nat_lt b.base (a.base + a.size)) some) ∙ e in
+    sym (ap (λ (t : Bool). t && nat_lt a.base (b.base + b.size) && nat_lt b.base (a.base + a.size)) some) ∙ e in
     elim (cases_lt a.base (b.base + b.size)) [
       | inl one ↦ elim (cases_lt b.base (a.base + a.size)) [
         | inl two ↦ absurd (let both : true ≡ false = sym (ap (λ (t : Bool). t && nat_lt b.base (a.base + a.size)) (lt-ltb a.base (b.base + b.size) one) ∙ lt-ltb b.base (a.base + a.size) two) ∙ tests in cc)

@@ -1,11 +1,10 @@
 -- The values that sound registers read mask to the registers.
-use Rattle.std.proofs.Common.{◌≡◌, ℕ, ◌*◌, ◌/◌, ◌%◌, ◌^◌, ◌<◌, ◌≤◌, Bool, true, false, cond, List, refl, sym, ap, ◌∙◌, arith}
+use Rattle.std.proofs.Common.{◌≡◌, ℕ, ◌*◌, ◌/◌, ◌^◌, ◌<◌, true, false, cond, List, refl, sym, ap, ◌∙◌, arith}
 use Rattle.std.specs.Prelude.{slice_get}
 use Rattle.std.proofs.lemmas.Nat.Bits.{and_high_mask}
 use Rattle.its_types.specs.Bits.{bit_of}
-use Rattle.gits_regs.specs.Registers.{Registers, IsSound, IsOffset, ctlr, queue_size, kept_cbaser, kept_offset, kept_baser0, kept_baser1, masked, read_32, read_64}
-use Rattle.gits_regs.specs.declared.values.RegValues.{RegValues}
-use Rattle.its_plain.specs.Plain.{Plain, Translator}
+use Rattle.gits_regs.specs.Registers.{Registers, IsOffset, ctlr, kept_offset, masked, read_32, read_64}
+use Rattle.its_plain.specs.Plain.{Translator}
 use Rattle.saved_state.specs.Laws.{values_read, ReadValuesMask, SavedReadsStand}
 use Rattle.saved_state.proofs.Whole.{saved_stands}
 

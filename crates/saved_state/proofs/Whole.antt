@@ -1,27 +1,26 @@
 -- Saved memory and the values of the registers stand for the state that a migration goes on from.
-use Rattle.std.proofs.Common.{◌≡◌, ℕ, zero, suc, ◌+◌, ◌<◌, Bool, true, false, not, cond, nat_lt, List, [], ◌∷◌, length, map, Option, Some, None, Result, Ok, Err, refl, sym, subst, ap, ◌∙◌, inl, inr, arith, ◌↔◌}
+use Rattle.std.proofs.Common.{◌≡◌, ℕ, zero, suc, Bool, true, false, not, nat_lt, List, [], ◌∷◌, map, Some, Result, Ok, refl, sym, subst, ap, ◌∙◌, ◌↔◌}
 use Rattle.std.specs.Prelude.{◌&&◌, ◌||◌, slice_get}
 use Rattle.std.specs.Result.{IsOk}
-use Rattle.std.proofs.lemmas.Bool.{and_parts, lt-ltb, cases_Bool}
+use Rattle.std.proofs.lemmas.Bool.{and_parts, lt-ltb}
 use Rattle.std.proofs.lemmas.List.{length-map}
 use Rattle.std.proofs.lemmas.Option.{same_Some}
-use Rattle.guest_windows.specs.Windows.{Window, inside}
+use Rattle.guest_windows.specs.Windows.{inside}
 use Rattle.gits_regs.specs.Registers.{Registers, is_valid, queue_size, has_bases, ◌>>=◌, ensure, base_allowed, masked, restored}
 use Rattle.gits_regs.specs.Registers as regs
 use Rattle.gits_regs.specs.declared.values.NotValid.{NotValid}
 use Rattle.gits_regs.specs.declared.values.RegValues.{RegValues}
 use Rattle.gits_regs.specs.declared.values.Register.{Register}
 use Rattle.gits_regs.specs.declared.values.Register.TheVariants as register
-use Rattle.its_types.specs.Maps.{event_of, device_of}
+use Rattle.its_types.specs.Maps.{event_of}
 use Rattle.its_types.specs.Ranges.{lpi_count, pending_bytes}
 use Rattle.its_types.specs.declared.translation.Bases.{Bases}
-use Rattle.its_types.specs.declared.translation.Device.{Device}
 use Rattle.its_types.specs.declared.translation.Event.{Event}
 use Rattle.its_plain.specs.Plain.{Plain, Translator, Redistributor}
-use Rattle.its_plain.specs.Sound.{IsSound, IsRedistributor}
+use Rattle.its_plain.specs.Sound.{IsSound}
 use Rattle.its_plain.specs.Saved.{saved, moved, reloaded, IsSavable}
 use Rattle.its_plain.specs.DeviceTables.{HasEventOf}
-use Rattle.its_plain.specs.Stands.{lacks_tables, AreRedistributorsClear, IsRedistributorIn, AreMapsIn, IsTranslatorIn, Stands}
+use Rattle.its_plain.specs.Stands.{lacks_tables, AreRedistributorsClear, IsRedistributorIn, AreMapsIn}
 use Rattle.plain_soundness.proofs.Lists.{at_each_map}
 use Rattle.saved_state.specs.Laws.{bases_of, SavedStands}
 use Rattle.saved_state.proofs.Redistributors.{saved_inside, redistributors_stand}

@@ -1,5 +1,4 @@
 use Rattle.saved_state.proofs.memory.words_read_back.Goals as goal
-use Rattle.saved_state.proofs.Written as written
 use Rattle.saved_state.proofs.Apart as apart
 
 pub returns : goal.returns
