@@ -16,3 +16,4 @@ pub mod Redistributors
 pub mod DeviceTables
 pub mod Whole
 pub mod Values
+pub mod Restored

@@ -18,7 +18,8 @@ use Rattle.its_plain.specs.Sound.{IsSound}
 use Rattle.its_plain.specs.declared.area.Area.{Area}
 use Rattle.its_plain.specs.Regions.{areas_of}
 use Rattle.its_plain.specs.Saved.{Words, words_of, saved, reloaded, moved, IsSavable}
-use Rattle.its_plain.specs.Stands.{IsRedistributorIn, Stands}
+use Rattle.its_plain.specs.Stands.{IsRedistributorIn, Stands, IsFirstFault}
+use Rattle.its_plain.specs.declared.fault.RestoreFault.{RestoreFault}
 
 -- ---- memory
 
@@ -106,3 +107,11 @@ ReadValuesMask = (r : Registers) → regs.IsSound r → masked (values_read r) r
 -- so saved memory and what is read of the registers stand for that state
 abbrev pub SavedReadsStand : Type 0
 SavedReadsStand = (u : Plain) (t : Translator) → IsSound u → IsSavable u → u.translators ≡ t ∷ [] → Stands (saved u) (values_read t.regs) u.layout (bases_of u) (moved u)
+
+-- no other state stands there
+abbrev pub OnlyThatStands : Type 0
+OnlyThatStands = (u : Plain) (t : Translator) (w : Plain) → IsSound u → IsSavable u → u.translators ≡ t ∷ [] → Stands (saved u) (values_read t.regs) u.layout (bases_of u) w → w ≡ moved u
+
+-- and there is nothing that a restore would refuse
+abbrev pub NoOffenceIsFirst : Type 0
+NoOffenceIsFirst = (u : Plain) (t : Translator) (f : RestoreFault) → IsSound u → IsSavable u → u.translators ≡ t ∷ [] → IsFirstFault (saved u) (values_read t.regs) u.layout.shape (bases_of u) f → ⊥

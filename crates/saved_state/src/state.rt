@@ -15,3 +15,13 @@ pub fn read_values_mask()
 pub fn saved_reads_stand()
     ensures { laws.SavedReadsStand }
 {}
+
+/// No other state is restored from it.
+pub fn only_that_state_stands()
+    ensures { laws.OnlyThatStands }
+{}
+
+/// A restore from it never has an offence.
+pub fn no_offence_is_first()
+    ensures { laws.NoOffenceIsFirst }
+{}
