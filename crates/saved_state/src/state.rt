@@ -1,7 +1,7 @@
 //! The state that a restore finds.
 ghost use Rattle.saved_state.specs.Laws as laws;
 
-/// What a save left stands for the state that a migration goes on from: a restore has no offence, and gives that state.
+/// What a save left, and values that mask to the registers, stand for the state that a migration goes on from.
 pub fn saved_stands()
     ensures { laws.SavedStands }
 {}
@@ -11,17 +11,17 @@ pub fn read_values_mask()
     ensures { laws.ReadValuesMask }
 {}
 
-/// So a save, with the registers as they read, is restored to the state that was saved.
+/// So what a save left, and the registers as they read, stand for that state.
 pub fn saved_reads_stand()
     ensures { laws.SavedReadsStand }
 {}
 
-/// No other state is restored from it.
+/// They stand for no other state.
 pub fn only_that_state_stands()
     ensures { laws.OnlyThatStands }
 {}
 
-/// A restore from it never has an offence.
+/// And a restore finds no offence in them.
 pub fn no_offence_is_first()
     ensures { laws.NoOffenceIsFirst }
 {}
