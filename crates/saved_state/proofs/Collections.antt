@@ -1,0 +1,152 @@
+-- A collection table that was saved holds just the collections that are mapped.
+use Rattle.std.proofs.Common.{◌≡◌, ℕ, zero, suc, ◌+◌, ◌*◌, ◌^◌, ◌<◌, ◌≤◌, Bool, true, false, not, cond, nat_lt, List, Option, Some, None, Ok, refl, sym, subst, ap, ◌∙◌, arith, ◌↔◌, add-one}
+use Rattle.std.specs.Prelude.{◌||◌, slice_get}
+use Rattle.std.specs.Option.{option_and_then, option_map, ok_or}
+use Rattle.std.specs.FinMap.{entries, entries_sorted, get-entries}
+use Rattle.std.proofs.lemmas.Bool.{eq-eqb, ne_eqb, lt-ltb, ltb-true}
+use Rattle.std.proofs.lemmas.Option.{same_Some}
+use Rattle.its_types.specs.Bits.{field, bit_of}
+use Rattle.guest_windows.specs.Windows.{Window, number_at}
+use Rattle.gits_regs.specs.Registers.{Registers, is_valid, collection_places}
+use Rattle.table_entries.specs.Fields.{CollectionFields}
+use Rattle.table_entries.specs.Words.{packed_collection, unpacked_collection}
+use Rattle.its_types.specs.Maps.{Maps, collection_of}
+use Rattle.its_types.specs.declared.ids.Vcpu.{Vcpu}
+use Rattle.its_plain.specs.Walks.{within, ensure, ◌>>=◌}
+use Rattle.its_plain.specs.CollectionTables.{collection_address, collection_entry, collection_leads, next_collection, is_of, stands_before, collection_entry_check, collection_check, CollectionReached, AreCollectionsClear, HasCollection}
+use Rattle.its_plain.specs.declared.fault.RestoreFault.{RestoreFault}
+use Rattle.its_plain.specs.declared.fault.RestoreFault.TheVariants.{OutsideTable}
+use Rattle.its_plain.specs.Saved as saved
+use Rattle.its_plain.specs.Saved.{collection_word}
+use Rattle.saved_state.proofs.Keyed.{listed_found, found_listed, rising, place_low, taken_before}
+use Rattle.saved_state.proofs.Paths.{further, at_start, stays_good}
+
+-- ---- an entry
+
+abbrev fields_of : ℕ × Vcpu → CollectionFields
+fields_of c = record { vcpu_number = c.1.0; icid = c.0 }
+
+abbrev seen : Option (ℕ × Vcpu) → Option CollectionFields
+seen o = option_map fields_of o
+
+pub unpacks : (v icid : ℕ) → v < 2 ^ 36 → icid < 2 ^ 16 → unpacked_collection (packed_collection (record { vcpu_number = v; icid = icid })) ≡ Some (record { vcpu_number = v; icid = icid })
+unpacks v icid low small =
+    let word : ℕ = 2 ^ 63 + v * 2 ^ 16 + icid in
+    let valid : bit_of word 63 ≡ true = eq-eqb (field word 63 1) 1 (omega arith) in
+    let number : field word 16 36 ≡ v = omega arith in
+    let name : field word 0 16 ≡ icid = omega arith in
+    ap (λ (b : Bool). cond b (Some (record { vcpu_number = field word 16 36; icid = field word 0 16 })) None) valid
+    ∙ ap (λ (n : ℕ). Some (record { vcpu_number = n; icid = field word 0 16 })) number
+    ∙ ap (λ (n : ℕ). Some (record { vcpu_number = v; icid = n })) name
+
+entry_is : (o : Option (ℕ × Vcpu)) → ((c : ℕ × Vcpu) → o ≡ Some c → (c.1.0 < 2 ^ 36) × (c.0 < 2 ^ 16)) → unpacked_collection (saved.collection_entry o) ≡ seen o
+entry_is None fits = refl
+entry_is (Some c) fits = let f = fits c refl in unpacks c.1.0 c.0 f.0 f.1
+
+pub within_some : (n i : ℕ) → i < n → within n i ≡ Some i
+within_some n i lt = ap (λ (b : Bool). cond b (Some i) None) (lt-ltb i n lt)
+
+pub within_is : (n i q : ℕ) → within n i ≡ Some q → (q ≡ i) × (i < n)
+within_is n i q e =
+    elim (nat_lt i n) as (λ b. nat_lt i n ≡ b → cond b (Some i) None ≡ Some q → (q ≡ i) × (i < n)) [
+      | true ↦ λ lt s. (let k : q ≡ i = cc in k, ltb-true i n lt)
+      | false ↦ λ ge s. absurd cc
+    ] refl e
+
+-- what is asked of a collection that is mapped
+pub record Stands (vcpus places : ℕ) (c : ℕ × Vcpu) : Type 0 where
+  pub icid : c.0 < 65536
+  pub in_table : c.0 < places
+  pub target : c.1.0 < vcpus
+
+module _ (memory : List Window) (vcpus : ℕ) (r : Registers) (m : Maps) (valid : is_valid r.baser1 ≡ true) (few : vcpus ≤ 16)
+    (found : (i : ℕ) → i < collection_places r → number_at memory (collection_address r i) ≡ Some (collection_word m i))
+    (stand : (i : ℕ) (c : ℕ × Vcpu) → slice_get (entries m.collections) i ≡ Some c → Stands vcpus (collection_places r) c) where
+  abbrev es : List (ℕ × Vcpu)
+  es = entries m.collections
+
+  some_places : 0 < collection_places r
+  some_places = omega arith
+
+  word_is : (i : ℕ) → unpacked_collection (collection_word m i) ≡ seen (slice_get es i)
+  unfolding collection_word
+  word_is i = entry_is (slice_get es i) (λ c at. let s = stand i c at in let icid = s.icid in let target = s.target in (omega arith, omega arith))
+
+  entry_at : (i : ℕ) → i < collection_places r → collection_entry memory r i ≡ seen (slice_get es i)
+  entry_at i lt = ap (option_and_then unpacked_collection) (found i lt) ∙ word_is i
+
+  next_at : (i : ℕ) → i < collection_places r → next_collection memory r i ≡ collection_leads r i (seen (slice_get es i))
+  next_at i lt = ap (option_and_then (λ word. collection_leads r i (unpacked_collection word))) (found i lt) ∙ ap (collection_leads r i) (word_is i)
+
+  -- ---- places
+
+  leads_within : (i q : ℕ) (o : Option CollectionFields) → collection_leads r i o ≡ Some q → q < collection_places r
+  leads_within i q None e = absurd cc
+  leads_within i q (Some c) e = let w = within_is (collection_places r) (i + 1) q e in subst (λ (k : ℕ). k < collection_places r) (sym w.0) w.1
+
+  reached_low : (i : ℕ) → CollectionReached memory r i → i < collection_places r
+  reached_low i h =
+      stays_good (next_collection memory r) (λ k. k < collection_places r) (λ p q low e. leads_within p q (seen (slice_get es p)) (sym (next_at p low) ∙ e)) 0 i some_places h
+
+  reached_taken : (i : ℕ) (c : ℕ × Vcpu) → slice_get es i ≡ Some c → CollectionReached memory r i
+  reached_taken zero c at = at_start (next_collection memory r) 0
+  reached_taken (suc i) c at =
+      let before = taken_before es i (suc i) c (omega arith) at in
+      let low = place_low es (entries_sorted m.collections) (suc i) c at in
+      let in_table = (stand (suc i) c at).in_table in
+      further (next_collection memory r) 0 i (suc i) (reached_taken i before.0 before.1)
+      (next_at i (omega arith) ∙ ap (λ (o : Option (ℕ × Vcpu)). collection_leads r i (seen o)) before.1 ∙ ap (within (collection_places r)) (add-one i) ∙ within_some (collection_places r) (suc i) (omega arith))
+
+  -- ---- each collection has one entry
+
+  none_before : (n icid : ℕ) → n ≤ collection_places r → ((j : ℕ) (d : ℕ × Vcpu) → j < n → slice_get es j ≡ Some d → d.0 ≡ icid → ⊥) → stands_before memory r n icid ≡ false
+  none_before zero icid le apart = refl
+  none_before (suc n) icid le apart =
+      ap (λ (o : Option CollectionFields). is_of icid o || stands_before memory r n icid) (entry_at n (omega arith))
+      ∙ ap (λ (b : Bool). b || stands_before memory r n icid) (other (slice_get es n) (λ d at. apart n d (omega arith) at))
+      ∙ none_before n icid (omega arith) (λ j d lt at. apart j d (omega arith) at)
+    where
+      other : (o : Option (ℕ × Vcpu)) → ((d : ℕ × Vcpu) → o ≡ Some d → d.0 ≡ icid → ⊥) → is_of icid (seen o) ≡ false
+      other None ne = refl
+      other (Some d) ne = ne_eqb d.0 icid (ne d refl)
+
+  all_tests : (a b d : Bool) (f g h : RestoreFault) → a ≡ true → b ≡ true → d ≡ false → (ensure a f >>= λ _. ensure b g >>= λ _. ensure (not d) h) ≡ Ok tt
+  all_tests a b d f g h pa pb pd =
+      ap (λ (x : Bool). ensure x f >>= λ _. ensure b g >>= λ _. ensure (not d) h) pa ∙ ap (λ (x : Bool). ensure x g >>= λ _. ensure (not d) h) pb ∙ ap (λ (x : Bool). ensure (not x) h) pd
+
+  check_at : (i : ℕ) (o : Option (ℕ × Vcpu)) → i < collection_places r → slice_get es i ≡ o → collection_entry_check memory vcpus r i (seen o) ≡ Ok tt
+  check_at i None lt at = refl
+  check_at i (Some c) lt at =
+      let s = stand i c at in
+      all_tests (nat_lt c.0 (collection_places r)) (nat_lt c.1.0 vcpus) (stands_before memory r i c.0) _ _ _
+      (lt-ltb c.0 (collection_places r) s.in_table) (lt-ltb c.1.0 vcpus s.target)
+      (none_before i c.0 (omega arith) (λ j d below there same. let up = rising es (entries_sorted m.collections) j i d c below there at in omega arith))
+
+  clear_at : (i : ℕ) → i < collection_places r → collection_check memory vcpus r i ≡ Ok tt
+  clear_at i lt =
+      ap (λ (o : Option ℕ). ok_or o (OutsideTable (record { 0 = collection_address r i })) >>= λ word. collection_entry_check memory vcpus r i (unpacked_collection word)) (found i lt)
+      ∙ ap (collection_entry_check memory vcpus r i) (word_is i)
+      ∙ check_at i (slice_get es i) lt refl
+
+  pub collections_clear : AreCollectionsClear memory vcpus r
+  collections_clear is i h = clear_at i (reached_low i h)
+
+  -- ---- content
+
+  seen_some : (o : Option (ℕ × Vcpu)) (icid : ℕ) (v : Vcpu) → seen o ≡ Some (record { vcpu_number = v.0; icid = icid }) → o ≡ Some (icid, v)
+  seen_some None icid v e = absurd cc
+  seen_some (Some c) icid v e =
+      let same : fields_of c ≡ record { vcpu_number = v.0; icid = icid } = same_Some (fields_of c) (record { vcpu_number = v.0; icid = icid }) e in
+      ap (λ (f : CollectionFields). Some (f.icid, record { 0 = f.vcpu_number })) same
+
+  pub collections_are : (icid : ℕ) (v : Vcpu) → (collection_of m icid ≡ Some v) ↔ HasCollection memory r icid v
+  collections_are icid v = (
+    λ e.
+        let at = found_listed es icid v (sym (get-entries m.collections icid) ∙ e) in
+        let low = place_low es (entries_sorted m.collections) at.0 (icid, v) at.1 in
+        let in_table = (stand at.0 (icid, v) at.1).in_table in
+        (valid, at.0, reached_taken at.0 (icid, v) at.1, entry_at at.0 (omega arith) ∙ ap seen at.1),
+    λ h.
+        let at = seen_some (slice_get es h.1) icid v (sym (entry_at h.1 (reached_low h.1 h.2)) ∙ h.3) in
+        get-entries m.collections icid ∙ listed_found es (entries_sorted m.collections) h.1 (icid, v) at,
+  )

@@ -1,0 +1,117 @@
+-- What is claimed of a state that was saved: a restore reads it back.
+use Rattle.std.specs.Prelude.{◌≡◌, ◌⊎◌, ◌<◌, ◌≤◌, ℕ, ◌+◌, true, false, List, [], ◌∷◌, map, slice_get, Some, ◌↔◌}
+use Rattle.guest_windows.specs.Windows.{read_at, number_at}
+use Rattle.gits_regs.specs.Registers as regs
+use Rattle.gits_regs.specs.Registers.{Registers, masked, read_32, read_64}
+use Rattle.gits_regs.specs.declared.values.RegValues.{RegValues}
+use Rattle.its_types.specs.declared.translation.Bases.{Bases}
+use Rattle.baser_place.specs.Places.{entry_address}
+use Rattle.its_types.specs.Maps.{device_of, event_of, collection_of}
+use Rattle.its_types.specs.declared.ids.Vcpu.{Vcpu}
+use Rattle.its_types.specs.declared.translation.Device.{Device}
+use Rattle.its_types.specs.declared.translation.Event.{Event}
+use Rattle.its_plain.specs.EventTables.{itt_of, IsIttClear, HasEvent}
+use Rattle.its_plain.specs.DeviceTables.{AreDevicesClear, HasDevice}
+use Rattle.its_plain.specs.Plain.{Plain, Translator, Redistributor}
+use Rattle.its_plain.specs.CollectionTables.{AreCollectionsClear, HasCollection}
+use Rattle.its_plain.specs.Sound.{IsSound}
+use Rattle.its_plain.specs.declared.area.Area.{Area}
+use Rattle.its_plain.specs.Regions.{areas_of}
+use Rattle.its_plain.specs.Saved.{Words, words_of, saved, reloaded, moved, IsSavable}
+use Rattle.its_plain.specs.Stands.{IsRedistributorIn, Stands, IsFirstFault}
+use Rattle.its_plain.specs.declared.fault.RestoreFault.{RestoreFault}
+
+-- ---- memory
+
+-- the m bytes from a on and the n bytes from b on have none in common
+abbrev pub Apart : ℕ → ℕ → ℕ → ℕ → Type 0
+Apart a m b n = (a + m ≤ b) ⊎ (b + n ≤ a)
+
+-- each word of each table is read at its place
+abbrev pub WordsReadBack : Type 0
+WordsReadBack = (u : Plain) (k i : ℕ) (t : Words) → IsSound u → IsSavable u → slice_get (words_of u) k ≡ Some t → i < t.count → number_at (saved u) (entry_address t.base i) ≡ Some (t.word i)
+
+-- a stretch that shares no byte with an area that is written reads as before
+abbrev pub OtherBytesStay : Type 0
+OtherBytesStay = (u : Plain) (address n : ℕ) → IsSound u → IsSavable u → ((k : ℕ) (a : Area) → slice_get (areas_of u) k ≡ Some a → a.is_written ≡ true → Apart a.base a.size address n)
+    → read_at (saved u) address n ≡ read_at u.memory address n
+
+-- and so does every stretch of an area that is not written
+abbrev pub ReadAreasStay : Type 0
+ReadAreasStay = (u : Plain) (k : ℕ) (a : Area) (address n : ℕ) → IsSound u → IsSavable u → slice_get (areas_of u) k ≡ Some a → a.is_written ≡ false → a.base ≤ address → address + n ≤ a.base + a.size
+    → read_at (saved u) address n ≡ read_at u.memory address n
+
+-- ---- collections
+
+-- the collection table of saved memory has no offence, and just the collections that are mapped
+pub record AreCollectionsSaved (u : Plain) (t : Translator) : Type 0 where
+  pub clear : AreCollectionsClear (saved u) u.layout.shape.vcpus t.regs
+  pub are : (icid : ℕ) (vcpu : Vcpu) → (collection_of t.maps icid ≡ Some vcpu) ↔ HasCollection (saved u) t.regs icid vcpu
+
+abbrev pub CollectionsStand : Type 0
+CollectionsStand = (u : Plain) (k : ℕ) (t : Translator) → IsSound u → IsSavable u → slice_get u.translators k ≡ Some t → AreCollectionsSaved u t
+
+-- ---- redistributors
+
+-- memory says of each redistributor what it goes on with: its pending LPIs, and the configuration that is read again
+abbrev pub RedistributorsStand : Type 0
+RedistributorsStand = (u : Plain) (vcpu : ℕ) (r : Redistributor) → IsSound u → IsSavable u → slice_get u.redistributors vcpu ≡ Some r
+    → IsRedistributorIn u.layout.shape (saved u) r.bases (reloaded u.layout.shape (saved u) r)
+
+-- ---- events
+
+-- the interrupt translation table of a device has no offence, and just the events that are mapped
+pub record AreEventsSaved (u : Plain) (t : Translator) (dev : ℕ) (d : Device) : Type 0 where
+  pub clear : IsIttClear (saved u) u.layout.shape.lpi_bits (itt_of dev d)
+  pub are : (ev : ℕ) (e : Event) → (event_of t.maps dev ev ≡ Some e) ↔ HasEvent (saved u) (itt_of dev d) ev e
+
+abbrev pub EventsStand : Type 0
+EventsStand = (u : Plain) (k : ℕ) (t : Translator) (dev : ℕ) (d : Device) → IsSound u → IsSavable u → slice_get u.translators k ≡ Some t → device_of t.maps dev ≡ Some d → AreEventsSaved u t dev d
+
+-- ---- devices
+
+-- the device table has no offence, and just the devices that are mapped
+pub record AreDevicesSaved (u : Plain) (t : Translator) : Type 0 where
+  pub clear : AreDevicesClear (saved u) u.layout.shape.lpi_bits t.regs
+  pub are : (dev : ℕ) (d : Device) → (device_of t.maps dev ≡ Some d) ↔ HasDevice (saved u) t.regs dev d
+
+abbrev pub DevicesStand : Type 0
+DevicesStand = (u : Plain) (k : ℕ) (t : Translator) → IsSound u → IsSavable u → slice_get u.translators k ≡ Some t → AreDevicesSaved u t
+
+-- ---- the whole
+
+abbrev pub bases_of : Plain → List Bases
+bases_of u = map (λ r. r.bases) u.redistributors
+
+-- saved memory, and values that the registers of the translator can be restored from, stand for the state that a migration
+-- goes on from
+abbrev pub SavedStands : Type 0
+SavedStands = (u : Plain) (t : Translator) (values : RegValues) → IsSound u → IsSavable u → u.translators ≡ t ∷ [] → masked values u.layout.shape.dev_bits ≡ t.regs
+    → Stands (saved u) values u.layout (bases_of u) (moved u)
+
+-- what is read of the registers (KVM document arm-vgic-its, "ITS Restore Sequence")
+unfoldable pub values_read : Registers → RegValues
+values_read r = record {
+  ctlr = read_32 r 0x0;
+  cbaser = read_64 r 0x80;
+  creadr = read_64 r 0x90;
+  cwriter = read_64 r 0x88;
+  baser0 = read_64 r 0x100;
+  baser1 = read_64 r 0x108;
+}
+
+-- the registers can be restored from what is read of them
+abbrev pub ReadValuesMask : Type 0
+ReadValuesMask = (r : Registers) → regs.IsSound r → masked (values_read r) r.dev_bits ≡ r
+
+-- so saved memory and what is read of the registers stand for that state
+abbrev pub SavedReadsStand : Type 0
+SavedReadsStand = (u : Plain) (t : Translator) → IsSound u → IsSavable u → u.translators ≡ t ∷ [] → Stands (saved u) (values_read t.regs) u.layout (bases_of u) (moved u)
+
+-- no other state stands there
+abbrev pub OnlyThatStands : Type 0
+OnlyThatStands = (u : Plain) (t : Translator) (w : Plain) → IsSound u → IsSavable u → u.translators ≡ t ∷ [] → Stands (saved u) (values_read t.regs) u.layout (bases_of u) w → w ≡ moved u
+
+-- and there is nothing that a restore would refuse
+abbrev pub NoOffenceIsFirst : Type 0
+NoOffenceIsFirst = (u : Plain) (t : Translator) (f : RestoreFault) → IsSound u → IsSavable u → u.translators ≡ t ∷ [] → IsFirstFault (saved u) (values_read t.regs) u.layout.shape (bases_of u) f → ⊥
