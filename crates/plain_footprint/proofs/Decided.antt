@@ -132,9 +132,9 @@ whole u w a =
     let ts : List Part = translators_below (length u.translators) in
     let rs : List Part = redists_below (length u.redistributors) in
     let translators : u.translators ≡ w.translators =
-        same_lists u.translators w.translators a.translators (λ i d low. same_or u.translators w.translators i d (a.parts (MapsOf i) (in_tail (MapsOf i) Mem (ts ++ rs) (in_left (MapsOf i) ts rs (translator_below (length u.translators) i low))))) in
+    same_lists u.translators w.translators a.translators (λ i d low. same_or u.translators w.translators i d (a.parts (MapsOf i) (in_tail (MapsOf i) Mem (ts ++ rs) (in_left (MapsOf i) ts rs (translator_below (length u.translators) i low))))) in
     let redistributors : u.redistributors ≡ w.redistributors =
-        same_lists u.redistributors w.redistributors a.redistributors (λ v d low. same_or u.redistributors w.redistributors v d (a.parts (redist v) (in_tail (redist v) Mem (ts ++ rs) (in_right (redist v) ts rs (redist_below (length u.redistributors) v low))))) in
+    same_lists u.redistributors w.redistributors a.redistributors (λ v d low. same_or u.redistributors w.redistributors v d (a.parts (redist v) (in_tail (redist v) Mem (ts ++ rs) (in_right (redist v) ts rs (redist_below (length u.redistributors) v low))))) in
     let memory : u.memory ≡ w.memory = a.parts Mem (in_head Mem (ts ++ rs)) in
     λ d. record { layout = a.layout d; translators = translators d; redistributors = redistributors d; memory = memory d }
 
