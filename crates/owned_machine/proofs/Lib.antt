@@ -2,3 +2,4 @@ mod Lists
 mod Kept
 mod Needed
 mod Answered
+mod Started

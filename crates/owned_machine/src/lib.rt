@@ -5,6 +5,7 @@
 mod acks;
 mod calls;
 mod machine;
+mod make;
 mod memory;
 mod registers;
 mod saves;

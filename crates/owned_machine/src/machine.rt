@@ -1,6 +1,7 @@
 use crate::calls::answered;
+use crate::make::{bare, start};
 use guest_windows::NoMemory;
-use its_plain::{Call, Desc, Reply};
+use its_plain::{Call, Desc, MakeError, Reply};
 use owned_parts::Parts;
 use std::alloc::Global;
 use std::marker::Model;
@@ -30,7 +31,19 @@ impl Model for Machine {
 impl Machine {
     ghost use Rattle.std.specs.Prelude.{◌≡◌, true, IfOk, OnErr};
     ghost use Rattle.its_plain.specs.Answer as plain;
+    ghost use Rattle.its_plain.specs.Machine.{made};
+    ghost use Rattle.its_plain.specs.Made.{IsDescription, IsMade};
     ghost use Rattle.owned_machine.specs.Whole.{may_want_memory};
+
+    /// The machine that a description makes without a restore, or the first thing that is wrong with the description.
+    pub fn new(alloc: Global, desc: &Desc) -> Result<Machine, MakeError>
+        requires { IsDescription desc.now }
+        ensures { IsMade result (made desc.now) }
+    {
+        let parts = start(alloc, desc)?;
+        let desc = bare(alloc, desc)?;
+        Ok(Machine { desc, parts })
+    }
 
     /// Answers a call, and leaves the state that the plain machine's definition says. For want of memory, which only a step
     /// or a save can have, the state stays as it was.
