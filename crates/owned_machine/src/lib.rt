@@ -11,5 +11,7 @@ mod registers;
 mod saves;
 mod signals;
 mod steps;
+#[cfg(test)]
+mod tests;
 
 pub use machine::Machine;
