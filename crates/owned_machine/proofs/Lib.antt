@@ -1,0 +1,5 @@
+mod Lists
+mod Kept
+mod Needed
+mod Answered
+mod Started

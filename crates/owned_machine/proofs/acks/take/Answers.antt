@@ -1,0 +1,18 @@
+use Rattle.std.proofs.Common.{sym, subst, ◌∙◌, ◌≡◌, List, Option, true}
+use Rattle.its_plain.specs.declared.call.Ack.{Ack}
+use Rattle.lpi_pending.specs.declared.redist.Redist.{Redist}
+use Rattle.its_plain.specs.Plain.{redistributor, with_redistributor}
+use Rattle.its_plain.specs.Answer.{taken, lowest}
+use Rattle.cmd_exec.specs.InHand.{takes_lpi}
+use Rattle.owned_machine.specs.Whole.{machine_of, GoesOn, IfAcked}
+use Rattle.owned_machine.proofs.Answered.{take_goes}
+use Rattle.owned_machine.proofs.acks.take.Goals as goal
+
+pub clear_lpi-requires : goal.clear_lpi-requires
+clear_lpi-requires c = subst (λ (a : Ack). IfAcked a (λ intid. takes_lpi c.args.parts.now.redists c.args.vcpu.0 intid ≡ true)) c.in-Some.is c.show-ack.ensures.takes
+
+pub returns-in-Some-clause-left : goal.returns-in-Some-clause-left
+returns-in-Some-clause-left c =
+    let d = c.args.desc.now in let p = c.args.parts.now in let r = redistributor (machine_of d p) c.args.vcpu.0 in
+    subst (λ (rs : List (Option Redist)). GoesOn d (record p { redists = rs }) (with_redistributor (machine_of d p) c.args.vcpu.0 (taken r (lowest r)))) (sym c.clear_lpi.ensures)
+    (take_goes d p c.args.vcpu c.in-Some.intid _ c.requires (sym c.show-ack.ensures.ack ∙ c.in-Some.is))

@@ -1,0 +1,10 @@
+use Rattle.owned_machine.proofs.Answered.{write_goes, no_write_goes}
+use Rattle.owned_machine.proofs.registers.write.Goals as goal
+
+pub returns-then-its-eq0 : goal.returns-then-its-eq0
+returns-then-its-eq0 c =
+    write_goes c.args.desc.now c.args.parts.now c.args.its c.args.off c.args.size c.args.value c.access.new.regs c.access.new.maps c.requires
+    c.if-its-eq0.true c.access.ensures.1 c.access.ensures.2
+
+pub returns-else-its-eq0 : goal.returns-else-its-eq0
+returns-else-its-eq0 c = no_write_goes c.args.desc.now c.args.parts.now c.args.its c.args.off c.args.size c.args.value c.requires c.if-its-eq0.false

@@ -1,0 +1,55 @@
+-- What it is to have a whole machine of one translator in hand: the parts are those of a sound state of the plain machine
+-- (IHI 0069, chapter 5), all of them, and a call goes from one such to the next.
+use Rattle.std.specs.Prelude.{◌≡◌, ℕ, ◌≤◌, Bool, true, false, List, Some, None}
+use Rattle.its_plain.specs.Plain.{Plain}
+use Rattle.its_plain.specs.Sound.{IsSound}
+use Rattle.its_plain.specs.Answer.{is_idle, next_bytes}
+use Rattle.its_plain.specs.declared.call.Ack.{Ack}
+use Rattle.its_plain.specs.declared.call.Ack.TheVariants as ack
+use Rattle.its_plain.specs.declared.call.Call.{Call}
+use Rattle.its_plain.specs.declared.call.Call.TheVariants as call
+use Rattle.its_plain.specs.declared.desc.Desc.{Desc}
+use Rattle.its_command.specs.Commands.{decoded}
+use Rattle.its_command.specs.declared.command.Command.{Command}
+use Rattle.lpi_pending.specs.InHand.{in_hand}
+use Rattle.owned_parts.specs.Owned.{state_of, layout_of, AreAllInHand}
+use Rattle.owned_parts.specs.declared.parts.Parts.{Parts}
+
+-- the state that the parts of a described machine stand for
+abbrev pub machine_of : Desc → Parts → Plain
+machine_of d p = state_of (layout_of d) p.regs p.maps.maps p.memory p.redists
+
+-- it is sound, and just the redistributors of its virtual processors are in hand
+pub record IsMachine (d : Desc) (p : Parts) : Type 0 where
+  pub sound : IsSound (machine_of d p)
+  pub all_in_hand : AreAllInHand d.shape p.redists
+  pub no_others : (vcpu : ℕ) → d.shape.vcpus ≤ vcpu → in_hand p.redists vcpu ≡ None
+
+-- the parts after a state of the plain machine was gone on to
+pub record GoesOn (d : Desc) (p : Parts) (u : Plain) : Type 0 where
+  pub state : machine_of d p ≡ u
+  pub whole : IsMachine d p
+
+-- the LPI that was acknowledged, if any
+abbrev pub IfAcked : Ack → (ℕ → Type 0) → Type 0
+IfAcked ack.None P = Unit {0}
+IfAcked (ack.Some intid priority) P = P intid.0
+
+-- the calls that may want memory of the host
+abbrev pub may_want_memory : Call → Bool
+may_want_memory (call.Step its) = true
+may_want_memory call.Save = true
+may_want_memory (call.Signal its dev ev) = false
+may_want_memory (call.Take vcpu) = false
+may_want_memory (call.Show vcpu) = false
+may_want_memory (call.Poke addr bytes) = false
+may_want_memory (call.Peek addr count) = false
+may_want_memory (call.ReadReg its off size) = false
+may_want_memory (call.WriteReg its off size value) = false
+
+-- the command is the one that the translator meets next
+pub record IsMet (u : Plain) (c : Command) : Type 0 where
+  pub busy : is_idle u 0 ≡ false
+  pub bytes : List ℕ
+  pub bytes_are : next_bytes u 0 ≡ Some bytes
+  pub command : decoded bytes ≡ c

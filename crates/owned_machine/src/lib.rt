@@ -1,0 +1,17 @@
+//! A machine of one translator that one caller has alone, on tables that are fast. It answers every call as the plain
+//! machine does.
+#![tactic(auto)]
+
+mod acks;
+mod calls;
+mod machine;
+mod make;
+mod memory;
+mod registers;
+mod saves;
+mod signals;
+mod steps;
+#[cfg(test)]
+mod tests;
+
+pub use machine::Machine;

@@ -1,0 +1,74 @@
+//! Where a message goes (IHI 0069, sections 5.1 and 5.2).
+ghost use Rattle.std.specs.Prelude.{◌≡◌, true, IfOk};
+ghost use Rattle.its_plain.specs.Translation as translation;
+ghost use Rattle.its_plain.specs.Answer as plain;
+ghost use Rattle.cmd_exec.specs.InHand.{changed, with_set, takes_lpi};
+ghost use Rattle.owned_machine.specs.Whole.{machine_of, IsMachine, GoesOn};
+
+use gits_regs::Regs;
+use its_maps::Maps;
+use its_plain::{Cause, Desc, Signal};
+use its_types::{DeviceId, EventId, Intid, Target, Vcpu};
+use lpi_pending::Redists;
+use owned_parts::Parts;
+
+/// A device's message.
+pub fn signal(parts: &mut Parts, desc: &Desc, its: u8, dev: DeviceId, ev: EventId) -> Signal
+    requires { IsMachine desc.now parts.old }
+    ensures reply { result ≡ plain.signal_reply (translation.translated (machine_of desc.now parts.old) its dev.0 ev.0) }
+    ensures left { GoesOn desc.now parts.new (plain.signal_left (machine_of desc.now parts.old) result) }
+{
+    match translate(parts, desc, its, dev, ev) {
+        Ok(Target { vcpu, intid }) => {
+            set_lpi(&mut parts.redists, vcpu, intid);
+            Signal::Delivered { vcpu, intid }
+        }
+        Err(cause) => Signal::Dropped(cause),
+    }
+}
+
+// The target whose LPIs are on. There is only translator 0.
+#[tactic(auto, unfolding(its_plain::specs::Translation::translated))]
+fn translate(
+    parts: &Parts,
+    desc: &Desc,
+    its: u8,
+    dev: DeviceId,
+    ev: EventId,
+) -> Result<Target, Cause>
+    requires { IsMachine desc.now parts.now }
+    ensures target { result ≡ translation.translated (machine_of desc.now parts.now) its dev.0 ev.0 }
+    ensures takes { IfOk result (λ t. takes_lpi parts.now.redists t.vcpu.0 t.intid.0 ≡ true) }
+{
+    let _ = desc;
+    if its != 0 {
+        return Err(Cause::Disabled);
+    }
+    let target = locate(&parts.regs, &parts.maps, dev, ev)?;
+    if !parts.redists.redist(target.vcpu).bases.on {
+        return Err(Cause::LpisOff);
+    }
+    Ok(target)
+}
+
+#[tactic(auto, unfolding(its_plain::specs::Translation::located))]
+fn locate(regs: &Regs, maps: &Maps, dev: DeviceId, ev: EventId) -> Result<Target, Cause>
+    ensures { result ≡ translation.located (record { regs = regs.now; maps = maps.now.maps }) dev.0 ev.0 }
+{
+    if !regs.enabled() {
+        return Err(Cause::Disabled);
+    }
+    maps.device(dev).ok_or(Cause::NoDevice)?;
+    let (intid, icid) = maps.event(dev, ev).ok_or(Cause::NoEvent)?;
+    let vcpu = maps.collection(icid).ok_or(Cause::NoCollection)?;
+    Ok(Target { vcpu, intid })
+}
+
+#[tactic(auto, unfolding(cmd_exec::specs::InHand::changed))]
+fn set_lpi(redists: &mut Redists, vcpu: Vcpu, intid: Intid)
+    requires { takes_lpi redists.old vcpu.0 intid.0 ≡ true }
+    ensures { redists.new ≡ changed vcpu.0 (with_set intid.0) redists.old }
+{
+    let redist = redists.redist_mut(vcpu);
+    redist.pending.set(intid);
+}
