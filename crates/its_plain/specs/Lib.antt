@@ -20,3 +20,4 @@ pub mod EventTables
 pub mod CollectionTables
 pub mod DeviceTables
 pub mod Stands
+pub mod Described

@@ -1,3 +1,4 @@
+use crate::fault::RestoreFault;
 use gits_regs::RegValues;
 use its_types::{Addr, Limits, Listed, Shape, Vcpu};
 
@@ -38,4 +39,6 @@ pub enum DescFault {
     Pending(Vcpu),
     /// The bytes of this line don't lie in one window.
     Bytes(u64),
+    /// Memory and the registers to restore stand for no state: their first offence.
+    Restore(RestoreFault),
 }
