@@ -45,7 +45,8 @@ impl PartSet {
         }
     }
 
-    /// Whether a part is in it.
+    /// Whether a part is in it: the maps of the translator that runs the command, whatever number it is given here, and guest
+    /// memory always are.
     pub fn contains(&self, part: Part) -> bool
         ensures { result ≡ has_part self.now part }
     {

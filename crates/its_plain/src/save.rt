@@ -20,7 +20,9 @@ use std::alloc::{AllocError, AllocFailed, Global};
 /// Why nothing was saved.
 #[derive(Clone, Copy, Debug, PartialEq, Eq)]
 pub enum SaveError {
+    /// The state can't be saved: the first that applies.
     Fault(SaveFault),
+    /// The host had no memory for the list of areas.
     NoMemory,
 }
 
