@@ -55,6 +55,7 @@ impl State {
     }
 
     // The virtual processor that a message would go to.
+    #[tactic(auto, unfolding(crate::specs::Translation::located))]
     fn located_vcpu(&self, its: u8, dev: DeviceId, ev: EventId) -> Option<Vcpu>
         ensures { result ≡ option_map (λ t. t.vcpu) (translation.located_target self.now its dev.0 ev.0) }
     {
