@@ -29,4 +29,6 @@ keyword_of word =
     else (if bytes_eq word (codes "pending") then Ok on.Pending
     else (if bytes_eq word (codes "end") then Ok on.End
     else (if bytes_eq word (codes "save") then Ok on.Save
-    else Err kind.Word))))))))))))))))))))
+    else (if bytes_eq word (codes "migrate") then Ok on.Migrate
+    else (if bytes_eq word (codes "restore") then Ok on.Restore
+    else Err kind.Word))))))))))))))))))))))

@@ -16,8 +16,10 @@ pub enum Keyword {
     Pending,
     Bytes,
     Word,
+    Restore,
     Phase,
     Thread,
+    Migrate,
     End,
     Signal,
     Take,
@@ -97,6 +99,10 @@ pub fn keyword_of(word: &[u8]) -> Result<Keyword, Kind>
         Ok(Keyword::End)
     } else if word == b"save".as_slice() {
         Ok(Keyword::Save)
+    } else if word == b"migrate".as_slice() {
+        Ok(Keyword::Migrate)
+    } else if word == b"restore".as_slice() {
+        Ok(Keyword::Restore)
     } else {
         Err(Kind::Word)
     }
