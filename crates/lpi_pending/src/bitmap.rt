@@ -71,7 +71,9 @@ impl Bitmap {
         if let Some(bit) = bit_from(self.words[at], (from % 64) as u32) {
             return Some(64 * at + bit as usize);
         }
-        let used = self.next_used(at + 1)?;
+        let Some(used) = self.next_used(at + 1) else {
+            return None;
+        };
         Some(64 * used + self.words[used].trailing_zeros() as usize)
     }
 
@@ -87,7 +89,9 @@ impl Bitmap {
         if let Some(bit) = bit_from(self.summary[group], (from % 64) as u32) {
             return Some(64 * group + bit as usize);
         }
-        let skipped = first_nonzero(&self.summary[group + 1..])?;
+        let Some(skipped) = first_nonzero(&self.summary[group + 1..]) else {
+            return None;
+        };
         let next = group + 1 + skipped;
         Some(64 * next + self.summary[next].trailing_zeros() as usize)
     }
@@ -173,11 +177,11 @@ fn bit_from(word: u64, from: u32) -> Option<u32>
     requires { from < 64 }
     ensures { FirstIn (bit_of word) from 64 result }
 {
-    let left = word >> from << from;
+    let left = word >> from;
     if left == 0 {
         None
     } else {
-        Some(left.trailing_zeros())
+        Some(from + left.trailing_zeros())
     }
 }
 
