@@ -10,6 +10,8 @@ mod memory;
 mod migrations;
 mod registers;
 mod saves;
+#[cfg(test)]
+mod scripts;
 mod signals;
 mod steps;
 #[cfg(test)]
