@@ -7,6 +7,8 @@ mod calls;
 mod machine;
 mod make;
 mod memory;
+#[cfg(test)]
+mod migration_tests;
 mod migrations;
 mod registers;
 mod saves;
