@@ -1,50 +1,19 @@
-ghost use Rattle.std.specs.Prelude.{◌≡◌, ◌<◌, ◌≤◌, length, IfOk};
-ghost use Rattle.its_plain.specs.Made.{IsDescription};
-
+//! The machine and the plain one answer alike: every refusal and every effect of each command, and the other calls.
 use crate::Machine;
+use crate::scripts::{
+    CONFIG, Line, clear, delivered, desc, discard, enabling, int, inv, lpi, mapc, mapd, mapi,
+    mapti, movall, movi, pokes, queueing, ran, refused, shows, signals, takes,
+};
 use guest_windows::NoMemory;
-use its_command::{Command, EventIdBits, IttAddr, Op, RdBase, UnknownOp, encode};
-use its_plain::{Bytes64, Call, Desc, Reason, Reply, State, StepReply};
-use its_types::{Addr, DeviceId, EventId, Icid, Intid, Limits, Listed, Profile, Shape, Vcpu};
-use std::alloc::{AllocError, Global};
+use its_command::{Command, Op, RdBase, UnknownOp};
+use its_plain::{Ack, Call, Cause, Reason, Reply, Signal, State, StepReply};
+use its_types::{Addr, DeviceId, EventId, Icid, Profile, Vcpu};
+use std::alloc::Global;
 use std::test::Fail;
-
-const QUEUE: u64 = 0x8002_0000;
-
-const CONFIG: Addr = Addr(0x8003_0000);
 
 const DEVICE: DeviceId = DeviceId(16);
 
-// Four virtual processors, and two MiB of memory.
-fn desc(alloc: Global, profile: Profile) -> Result<Desc, AllocError>
-    ensures { IfOk result IsDescription }
-{
-    let mut windows = Listed::new(alloc);
-    windows.push((Addr(0x8000_0000), 0x20_0000))?;
-    let mut pending = Listed::new(alloc);
-    pending.push(Addr(0x8004_0000))?;
-    pending.push(Addr(0x8005_0000))?;
-    pending.push(Addr(0x8006_0000))?;
-    pending.push(Addr(0x8007_0000))?;
-    Ok(Desc {
-        shape: Shape {
-            vcpus: 4,
-            dev_bits: 16,
-            lpi_bits: 16,
-            profile,
-        },
-        shards: 4,
-        limits: Limits {
-            stamp_last: 16_777_215,
-            place_last: 1_099_511_627_775,
-        },
-        windows,
-        config: CONFIG,
-        pending,
-        fills: Listed::new(alloc),
-        restore: None,
-    })
-}
+const ITT: u64 = 0x800c_0000;
 
 // What both machines answer, if they answer the same.
 fn ask(
@@ -79,70 +48,49 @@ fn ask_each(
     Ok((state, same))
 }
 
-fn poke(addr: u64, bytes: &[u8]) -> Call
-    requires some { 0 < length bytes.now }
-    requires few { length bytes.now ≤ 64 }
-{
-    Call::Poke {
-        addr: Addr(addr),
-        bytes: Bytes64::new(bytes),
-    }
-}
-
-fn write(off: u32, size: u8, value: u64) -> Call {
-    Call::WriteReg {
-        its: 0,
-        off,
-        size,
-        value,
-    }
-}
-
 // Both take a command from the queue. Whether they answer it so, and are then the same otherwise.
 fn take_command(
     alloc: Global,
     machine: &mut Machine,
     state: State,
-    at: usize,
-    line: &(Command, StepReply),
-) -> Result<(State, bool), NoMemory>
-    requires { at < 100 }
-{
-    let (command, expected) = line;
-    let place = 32 * at as u64;
-    let calls = [
-        poke(QUEUE + place, &encode(command)),
-        write(0x88, 8, place + 32),
-    ];
+    command: &Command,
+    expected: StepReply,
+) -> Result<(State, bool), NoMemory> {
+    let calls = queueing(alloc, machine, command)?;
     let (state, ready) = ask_each(alloc, machine, state, &calls)?;
     let (state, reply) = ask(alloc, machine, state, &Call::Step { its: 0 })?;
     let (state, same) = ask_each(alloc, machine, state, &AFTER_EACH)?;
-    let good = ready && same && reply == Some(Reply::Step(*expected));
+    let good = ready && same && reply == Some(Reply::Step(expected));
     Ok((state, good))
 }
 
-// How many of the commands both take and answer so, and are then the same otherwise.
-fn take_commands(
+// Whether both answer a line as it says.
+fn take_line(
     alloc: Global,
-    profile: Profile,
-    lines: &[(Command, StepReply)],
-) -> Result<usize, Fail>
-    requires { length lines.now ≤ 100 }
-{
-    let desc = desc(alloc, profile)?;
+    machine: &mut Machine,
+    state: State,
+    line: &Line,
+) -> Result<(State, bool), NoMemory> {
+    match line {
+        Line::Run(command, expected) => take_command(alloc, machine, state, command, *expected),
+        Line::Ask(call, expected) => {
+            let (state, reply) = ask(alloc, machine, state, call)?;
+            Ok((state, reply == Some(*expected)))
+        }
+    }
+}
+
+// How many of the lines both answer as they say, up to the first that they don't. All other calls come last.
+fn take_lines(alloc: Global, profile: Profile, lines: &[Line]) -> Result<usize, Fail> {
+    let words = [(0x8003_0008, 0x00c1_b1a1)];
+    let desc = desc(alloc, profile, &words)?;
     let mut machine = Machine::new(alloc, &desc)?;
     let state = State::new(alloc, &desc)?;
-    let start = [
-        poke(0x8003_0008, &[0xa1, 0xb1]),
-        write(0x80, 8, 0x8000_0000_8002_0000),
-        write(0x100, 8, 0x8107_0000_8000_0200),
-        write(0x108, 8, 0x8407_0000_8001_0200),
-        write(0x0, 4, 1),
-    ];
+    let start = enabling(0x8107_0000_8000_0200);
     let (mut state, _) = ask_each(alloc, &mut machine, state, &start)?;
     let mut count = 0;
     for (at, line) in lines.iter().enumerate() {
-        let (next, good) = take_command(alloc, &mut machine, state, at, line)?;
+        let (next, good) = take_line(alloc, &mut machine, state, line)?;
         state = next;
         if !good {
             return Ok(count);
@@ -225,160 +173,182 @@ const AT_LAST: [Call; 16] = [
     Call::Step { its: 0 },
 ];
 
-fn mapd(dev: u32, bits: u8, valid: bool) -> Command
-    requires least { 1 ≤ bits }
-    requires most { bits ≤ 32 }
-{
-    Command::Mapd {
-        dev: DeviceId(dev),
-        bits: EventIdBits::new(bits),
-        itt: IttAddr::new(0x800c_0000),
-        valid,
-    }
-}
-
-fn mapc(icid: u16, target: u8, valid: bool) -> Command {
-    Command::Mapc {
-        icid: Icid(icid),
-        target: RdBase::new(u64::from(target)),
-        valid,
-    }
-}
-
-fn mapti(dev: u32, ev: u32, intid: u32, icid: u16) -> Command {
-    Command::Mapti {
-        dev: DeviceId(dev),
-        ev: EventId(ev),
-        intid: Intid(intid),
-        icid: Icid(icid),
-    }
-}
-
-fn movall(from: u8, to: u8) -> Command {
-    Command::Movall {
-        from: RdBase::new(u64::from(from)),
-        to: RdBase::new(u64::from(to)),
-    }
+#[test]
+fn maps_that_are_refused(rt: HostRuntime) -> Result<(), Fail> {
+    let unknown = UnknownOp::new(0);
+    let lines = [
+        Line::Run(
+            Command::Unknown(unknown),
+            StepReply::Refused(Op::Unknown(0), Reason::UnknownCommand),
+        ),
+        refused(mapd(0x2000, 5, ITT, true), Op::Mapd, Reason::DeviceRange),
+        refused(mapd(0x10000, 5, ITT, true), Op::Mapd, Reason::DeviceRange),
+        refused(mapd(0x10000, 5, ITT, false), Op::Mapd, Reason::DeviceRange),
+        refused(mapd(16, 17, ITT, true), Op::Mapd, Reason::SizeRange),
+        refused(mapc(1, 4, true), Op::Mapc, Reason::TargetRange),
+        refused(mapc(0x2000, 1, true), Op::Mapc, Reason::CollectionRange),
+        refused(mapti(16, 1, 8200, 1), Op::Mapti, Reason::NoDevice),
+        refused(mapi(17, 8202, 1), Op::Mapi, Reason::NoDevice),
+        ran(mapd(16, 5, ITT, true), Op::Mapd),
+        ran(mapd(17, 14, 0x8010_0000, true), Op::Mapd),
+        refused(mapti(16, 32, 8200, 1), Op::Mapti, Reason::EventRange),
+        refused(mapti(16, 1, 8191, 1), Op::Mapti, Reason::IntidRange),
+        refused(mapti(16, 1, 65536, 1), Op::Mapti, Reason::IntidRange),
+        refused(
+            mapti(16, 1, 8200, 0x2000),
+            Op::Mapti,
+            Reason::CollectionRange,
+        ),
+        refused(mapi(17, 16384, 1), Op::Mapi, Reason::EventRange),
+        refused(mapi(17, 8191, 1), Op::Mapi, Reason::IntidRange),
+        refused(mapi(17, 8202, 0x2000), Op::Mapi, Reason::CollectionRange),
+    ];
+    assert_eq!(rt; take_lines(rt.alloc(), Profile::One, &lines)?, lines.len());
+    Ok(())
 }
 
 #[test]
 fn commands_that_are_refused(rt: HostRuntime) -> Result<(), Fail> {
-    let refused = StepReply::Refused;
     let lines = [
-        (
-            Command::Unknown(UnknownOp::new(0)),
-            refused(Op::Unknown(0), Reason::UnknownCommand),
-        ),
-        (
-            mapd(0x2000, 5, true),
-            refused(Op::Mapd, Reason::DeviceRange),
-        ),
-        (mapd(16, 17, true), refused(Op::Mapd, Reason::SizeRange)),
-        (mapc(1, 4, true), refused(Op::Mapc, Reason::TargetRange)),
-        (
-            mapc(0x2000, 1, true),
-            refused(Op::Mapc, Reason::CollectionRange),
-        ),
-        (mapti(16, 1, 8200, 1), refused(Op::Mapti, Reason::NoDevice)),
-        (mapd(16, 5, true), StepReply::Ran(Op::Mapd)),
-        (
-            mapti(16, 32, 8200, 1),
-            refused(Op::Mapti, Reason::EventRange),
-        ),
-        (
-            mapti(16, 1, 8191, 1),
-            refused(Op::Mapti, Reason::IntidRange),
-        ),
-        (
-            mapti(16, 1, 8200, 0x2000),
-            refused(Op::Mapti, Reason::CollectionRange),
-        ),
-        (
-            Command::Int {
-                dev: DEVICE,
-                ev: EventId(1),
-            },
-            refused(Op::Int, Reason::NoEvent),
-        ),
-        (mapti(16, 1, 8200, 1), StepReply::Ran(Op::Mapti)),
-        (
-            Command::Int {
-                dev: DEVICE,
-                ev: EventId(1),
-            },
-            refused(Op::Int, Reason::NoCollection),
-        ),
-        (
+        refused(movi(16, 1, 1), Op::Movi, Reason::NoDevice),
+        refused(int(16, 1), Op::Int, Reason::NoDevice),
+        refused(clear(16, 1), Op::Clear, Reason::NoDevice),
+        refused(discard(16, 1), Op::Discard, Reason::NoDevice),
+        refused(inv(16, 1), Op::Inv, Reason::NoDevice),
+        ran(mapd(16, 5, ITT, true), Op::Mapd),
+        refused(movi(16, 32, 1), Op::Movi, Reason::EventRange),
+        refused(int(16, 32), Op::Int, Reason::EventRange),
+        refused(clear(16, 32), Op::Clear, Reason::EventRange),
+        refused(discard(16, 32), Op::Discard, Reason::EventRange),
+        refused(inv(16, 32), Op::Inv, Reason::EventRange),
+        refused(movi(16, 1, 1), Op::Movi, Reason::NoEvent),
+        refused(int(16, 1), Op::Int, Reason::NoEvent),
+        refused(clear(16, 1), Op::Clear, Reason::NoEvent),
+        refused(discard(16, 1), Op::Discard, Reason::NoEvent),
+        refused(inv(16, 1), Op::Inv, Reason::NoEvent),
+        ran(mapti(16, 1, 8200, 1), Op::Mapti),
+        ran(mapc(2, 1, true), Op::Mapc),
+        refused(movi(16, 1, 2), Op::Movi, Reason::NoCollection),
+        refused(int(16, 1), Op::Int, Reason::NoCollection),
+        refused(clear(16, 1), Op::Clear, Reason::NoCollection),
+        refused(
             Command::Invall { icid: Icid(1) },
-            refused(Op::Invall, Reason::NoCollection),
+            Op::Invall,
+            Reason::NoCollection,
         ),
-        (movall(0, 4), refused(Op::Movall, Reason::TargetRange)),
+        ran(mapc(1, 0, true), Op::Mapc),
+        refused(movi(16, 1, 3), Op::Movi, Reason::NoCollection),
+        refused(movall(0, 4), Op::Movall, Reason::TargetRange),
+        refused(movall(4, 0), Op::Movall, Reason::TargetRange),
     ];
-    assert_eq!(rt; take_commands(rt.alloc(), Profile::One, &lines)?, 15);
+    assert_eq!(rt; take_lines(rt.alloc(), Profile::One, &lines)?, lines.len());
     Ok(())
 }
 
 #[test]
 fn commands_that_run(rt: HostRuntime) -> Result<(), Fail> {
-    let one = EventId(1);
-    let ran = StepReply::Ran;
     let lines = [
-        (mapd(16, 5, true), ran(Op::Mapd)),
-        (mapc(1, 2, true), ran(Op::Mapc)),
-        (mapc(2, 0, true), ran(Op::Mapc)),
-        (mapti(16, 1, 8200, 1), ran(Op::Mapti)),
-        (mapti(16, 2, 8201, 2), ran(Op::Mapti)),
-        (mapti(16, 1, 8201, 2), ran(Op::Mapti)),
-        (
-            Command::Movi {
-                dev: DEVICE,
-                ev: one,
-                icid: Icid(2),
-            },
-            ran(Op::Movi),
-        ),
-        (movall(0, 3), ran(Op::Movall)),
-        (
-            Command::Int {
-                dev: DEVICE,
-                ev: one,
-            },
-            ran(Op::Int),
-        ),
-        (
-            Command::Clear {
-                dev: DEVICE,
-                ev: one,
-            },
-            ran(Op::Clear),
-        ),
-        (mapc(2, 1, true), ran(Op::Mapc)),
-        (
-            Command::Inv {
-                dev: DEVICE,
-                ev: one,
-            },
-            ran(Op::Inv),
-        ),
-        (Command::Invall { icid: Icid(2) }, ran(Op::Invall)),
-        (
-            Command::Discard {
-                dev: DEVICE,
-                ev: one,
-            },
-            ran(Op::Discard),
-        ),
-        (mapc(1, 0, false), ran(Op::Mapc)),
-        (
+        ran(mapd(16, 5, ITT, true), Op::Mapd),
+        ran(mapc(1, 2, true), Op::Mapc),
+        ran(mapc(2, 0, true), Op::Mapc),
+        ran(mapti(16, 1, 8200, 1), Op::Mapti),
+        ran(mapti(16, 2, 8201, 2), Op::Mapti),
+        ran(mapti(16, 1, 8201, 2), Op::Mapti),
+        signals(16, 1, delivered(2, 8200)),
+        ran(movi(16, 1, 2), Op::Movi),
+        shows(0, lpi(8200, 0xa0)),
+        ran(movall(0, 0), Op::Movall),
+        ran(movall(0, 3), Op::Movall),
+        shows(3, lpi(8200, 0xa0)),
+        ran(int(16, 1), Op::Int),
+        ran(clear(16, 1), Op::Clear),
+        ran(mapc(2, 1, true), Op::Mapc),
+        signals(16, 1, delivered(1, 8200)),
+        ran(mapc(2, 1, true), Op::Mapc),
+        shows(1, lpi(8200, 0xa0)),
+        ran(discard(16, 1), Op::Discard),
+        shows(1, lpi(8201, 0xb0)),
+        signals(16, 1, Signal::Dropped(Cause::NoEvent)),
+        ran(mapc(2, 1, false), Op::Mapc),
+        signals(16, 2, Signal::Dropped(Cause::NoCollection)),
+        ran(discard(16, 2), Op::Discard),
+        shows(1, lpi(8201, 0xb0)),
+        ran(mapc(5, 0, false), Op::Mapc),
+        ran(
             Command::Sync {
                 target: RdBase::new(1),
             },
-            ran(Op::Sync),
+            Op::Sync,
         ),
-        (mapd(16, 6, true), ran(Op::Mapd)),
-        (mapd(16, 6, false), ran(Op::Mapd)),
+        ran(mapti(16, 1, 8200, 1), Op::Mapti),
+        ran(mapd(16, 6, ITT, true), Op::Mapd),
+        signals(16, 1, Signal::Dropped(Cause::NoEvent)),
+        ran(mapti(16, 33, 8200, 1), Op::Mapti),
+        signals(16, 33, delivered(2, 8200)),
+        ran(mapd(16, 6, ITT, false), Op::Mapd),
+        signals(16, 33, Signal::Dropped(Cause::NoDevice)),
+        takes(2, lpi(8200, 0xa0)),
+        ran(mapd(16, 6, ITT, false), Op::Mapd),
     ];
-    assert_eq!(rt; take_commands(rt.alloc(), Profile::One, &lines)?, 18);
-    assert_eq!(rt; take_commands(rt.alloc(), Profile::Two, &lines)?, 18);
+    assert_eq!(rt; take_lines(rt.alloc(), Profile::One, &lines)?, lines.len());
+    assert_eq!(rt; take_lines(rt.alloc(), Profile::Two, &lines)?, lines.len());
+    Ok(())
+}
+
+// An interrupt is known by its configuration byte as it was read last.
+#[test]
+fn configurations_read_again(rt: HostRuntime) -> Result<(), Fail> {
+    let lines = [
+        ran(mapd(16, 5, ITT, true), Op::Mapd),
+        ran(mapd(17, 14, 0x8010_0000, true), Op::Mapd),
+        ran(mapc(1, 2, true), Op::Mapc),
+        ran(mapc(3, 1, true), Op::Mapc),
+        ran(mapti(16, 1, 8200, 1), Op::Mapti),
+        shows(2, lpi(8200, 0xa0)),
+        pokes(0x8003_0008, 0x40),
+        shows(2, lpi(8200, 0xa0)),
+        ran(inv(16, 1), Op::Inv),
+        shows(2, Ack::None),
+        takes(2, Ack::None),
+        pokes(0x8003_0008, 0xd1),
+        shows(2, Ack::None),
+        ran(Command::Invall { icid: Icid(3) }, Op::Invall),
+        shows(2, Ack::None),
+        ran(Command::Invall { icid: Icid(1) }, Op::Invall),
+        shows(2, lpi(8200, 0xd0)),
+        takes(2, lpi(8200, 0xd0)),
+        pokes(0x8003_000a, 0xe1),
+        ran(mapi(17, 8202, 3), Op::Mapi),
+        signals(17, 8202, delivered(1, 8202)),
+        shows(1, lpi(8202, 0xe0)),
+        ran(mapi(17, 8202, 1), Op::Mapi),
+        signals(17, 8202, delivered(1, 8202)),
+        takes(1, lpi(8202, 0xe0)),
+    ];
+    assert_eq!(rt; take_lines(rt.alloc(), Profile::One, &lines)?, lines.len());
+    assert_eq!(rt; take_lines(rt.alloc(), Profile::Two, &lines)?, lines.len());
+    Ok(())
+}
+
+// A collection goes to another target: its pending interrupts stay, or go with it.
+#[test]
+fn collections_moved(rt: HostRuntime) -> Result<(), Fail> {
+    let stay = [
+        ran(mapd(16, 5, ITT, true), Op::Mapd),
+        ran(mapc(1, 2, true), Op::Mapc),
+        ran(mapti(16, 1, 8200, 1), Op::Mapti),
+        ran(mapc(1, 3, true), Op::Mapc),
+        shows(2, lpi(8200, 0xa0)),
+    ];
+    assert_eq!(rt; take_lines(rt.alloc(), Profile::One, &stay)?, stay.len());
+    let go = [
+        ran(mapd(16, 5, ITT, true), Op::Mapd),
+        ran(mapc(1, 2, true), Op::Mapc),
+        ran(mapti(16, 1, 8200, 1), Op::Mapti),
+        ran(mapc(1, 3, true), Op::Mapc),
+        shows(2, Ack::None),
+        shows(3, lpi(8200, 0xa0)),
+    ];
+    assert_eq!(rt; take_lines(rt.alloc(), Profile::Two, &go)?, go.len());
     Ok(())
 }
