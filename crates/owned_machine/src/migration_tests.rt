@@ -1,16 +1,11 @@
 //! Machines that are saved, moved and restored. The words are those of the table format (KVM document arm-vgic-its, "ITS
 //! Table ABI REV0").
 use crate::Machine;
-use crate::scripts::{
-    Line, delivered, desc, enabling, inv, lpi, mapc, mapd, mapti, peeks, poke, pokes, queueing,
-    ran, refused, shows, signals, takes,
-};
+use crate::scripts::{Asked, Given, Line, desc, enabling, queueing};
 use gits_regs::RegValues;
 use guest_windows::NoMemory;
-use its_command::Op;
 use its_plain::{
-    Ack, Call, Cause, DescFault, MakeError, Reason, Region, Reply, RestoreFault, SaveFault, Signal,
-    Table,
+    Call, Cause, DescFault, MakeError, Reason, Region, Reply, RestoreFault, SaveFault, Table,
 };
 use its_types::{DeviceId, Intid, Profile};
 use std::alloc::{AllocError, Global};
@@ -30,15 +25,15 @@ const PENDING_EMPTY: [Intid; 0] = [];
 
 // Whether the machine answers a line as it says.
 fn answers(alloc: Global, machine: &mut Machine, line: &Line) -> Result<bool, NoMemory> {
-    match line {
-        Line::Run(command, expected) => {
-            for call in &queueing(alloc, machine, command)? {
+    match line.asked() {
+        Asked::Command(command, expected) => {
+            for call in &queueing(alloc, machine, &command)? {
                 machine.answer(alloc, call)?;
             }
             let reply = machine.answer(alloc, &Call::Step { its: 0 })?;
-            Ok(reply == Reply::Step(*expected))
+            Ok(reply == Reply::Step(expected))
         }
-        Line::Ask(call, expected) => Ok(machine.answer(alloc, call)? == *expected),
+        Asked::Call(call, expected) => Ok(machine.answer(alloc, &call)? == expected),
     }
 }
 
@@ -68,9 +63,9 @@ fn enabled(alloc: Global, words: &[(u64, u64)], baser0: u64) -> Result<Machine, 
 fn one_event(alloc: Global) -> Result<Machine, Fail> {
     let mut machine = enabled(alloc, &[ENABLED], FLAT)?;
     let lines = [
-        ran(mapd(16, 5, ITT, true), Op::Mapd),
-        ran(mapc(1, 2, true), Op::Mapc),
-        ran(mapti(16, 3, 8200, 1), Op::Mapti),
+        Line::Runs(Given::Mapd(16, 5, ITT)),
+        Line::Runs(Given::Mapc(1, 2)),
+        Line::Runs(Given::Mapti(16, 3, 8200, 1)),
     ];
     follow(alloc, &mut machine, &lines)?;
     Ok(machine)
@@ -92,19 +87,19 @@ fn are_pending(
 #[test]
 fn one_interrupt_is_moved(rt: HostRuntime) -> Result<(), Fail> {
     let mut machine = one_event(rt.alloc())?;
-    let before = [signals(16, 3, delivered(2, 8200))];
+    let before = [Line::Delivers(16, 3, 2, 8200)];
     assert_eq!(rt; follow(rt.alloc(), &mut machine, &before)?, before.len());
     assert_eq!(rt; machine.migrate(rt.alloc()), Ok(()));
     assert!(rt; are_pending(rt.alloc(), &machine, 2, &[Intid(8200)])?);
     let after = [
-        peeks(0x8000_0080, 0x8000_0000_1001_8004),
-        peeks(0x8001_0000, 0x8000_0000_0002_0001),
-        peeks(0x800c_0018, 0x0000_0000_2008_0001),
-        peeks(0x8006_0400, 0x0100),
-        takes(2, lpi(8200, 0xa0)),
-        takes(2, Ack::None),
-        signals(16, 3, delivered(2, 8200)),
-        ran(inv(16, 3), Op::Inv),
+        Line::Peeks(0x8000_0080, 0x8000_0000_1001_8004),
+        Line::Peeks(0x8001_0000, 0x8000_0000_0002_0001),
+        Line::Peeks(0x800c_0018, 0x0000_0000_2008_0001),
+        Line::Peeks(0x8006_0400, 0x0100),
+        Line::Takes(2, Some((8200, 0xa0))),
+        Line::Takes(2, None),
+        Line::Delivers(16, 3, 2, 8200),
+        Line::Runs(Given::Inv(16, 3)),
     ];
     assert_eq!(rt; follow(rt.alloc(), &mut machine, &after)?, after.len());
     Ok(())
@@ -126,8 +121,8 @@ fn an_empty_machine_is_moved(rt: HostRuntime) -> Result<(), Fail> {
 fn two_devices(alloc: Global, words: &[(u64, u64)], baser0: u64) -> Result<Machine, Fail> {
     let mut machine = enabled(alloc, words, baser0)?;
     let lines = [
-        ran(mapd(0, 5, ITT, true), Op::Mapd),
-        ran(mapd(16384, 5, ITT + 0x100, true), Op::Mapd),
+        Line::Runs(Given::Mapd(0, 5, ITT)),
+        Line::Runs(Given::Mapd(16384, 5, ITT + 0x100)),
     ];
     follow(alloc, &mut machine, &lines)?;
     Ok(machine)
@@ -136,12 +131,12 @@ fn two_devices(alloc: Global, words: &[(u64, u64)], baser0: u64) -> Result<Machi
 // There are just those devices, and their entries stand here.
 fn are_two(alloc: Global, machine: &mut Machine, at: [u64; 2]) -> Result<bool, NoMemory> {
     let lines = [
-        signals(0, 0, Signal::Dropped(Cause::NoEvent)),
-        signals(16384, 0, Signal::Dropped(Cause::NoEvent)),
-        signals(1, 0, Signal::Dropped(Cause::NoDevice)),
-        signals(16383, 0, Signal::Dropped(Cause::NoDevice)),
-        peeks(at[0], 0xfffe_0000_1001_8004),
-        peeks(at[1], 0x8000_0000_1001_8024),
+        Line::Drops(0, 0, Cause::NoEvent),
+        Line::Drops(16384, 0, Cause::NoEvent),
+        Line::Drops(1, 0, Cause::NoDevice),
+        Line::Drops(16383, 0, Cause::NoDevice),
+        Line::Peeks(at[0], 0xfffe_0000_1001_8004),
+        Line::Peeks(at[1], 0x8000_0000_1001_8024),
     ];
     Ok(follow(alloc, machine, &lines)? == 6)
 }
@@ -156,7 +151,7 @@ fn devices_far_apart_in_two_levels(rt: HostRuntime) -> Result<(), Fail> {
     assert_eq!(rt; machine.migrate(rt.alloc()), Ok(()));
     assert!(rt; are_two(rt.alloc(), &mut machine, [0x8008_0000, 0x8009_0000])?);
     // the entry of the second page is taken away
-    let away = [Line::Ask(poke(0x8000_0010, &[0; 8]), Reply::Ok)];
+    let away = [Line::Pokes(0x8000_0010, 0)];
     assert_eq!(rt; follow(rt.alloc(), &mut machine, &away)?, 1);
     assert_eq!(rt;
         machine.migrate(rt.alloc()),
@@ -164,7 +159,7 @@ fn devices_far_apart_in_two_levels(rt: HostRuntime) -> Result<(), Fail> {
     );
     assert!(rt; are_two(rt.alloc(), &mut machine, [0x8008_0000, 0x8009_0000])?);
     let mut other = enabled(rt.alloc(), &[words[0]], TWO_LEVELS)?;
-    let lines = [refused(mapd(16384, 5, ITT, true), Op::Mapd, Reason::DeviceRange)];
+    let lines = [Line::Refused(Given::Mapd(16384, 5, ITT), Reason::DeviceRange)];
     assert_eq!(rt; follow(rt.alloc(), &mut other, &lines)?, 1);
     Ok(())
 }
@@ -181,18 +176,18 @@ fn devices_far_apart_in_a_flat_table(rt: HostRuntime) -> Result<(), Fail> {
 fn events_far_apart(rt: HostRuntime) -> Result<(), Fail> {
     let mut machine = one_event(rt.alloc())?;
     let before = [
-        ran(mapd(17, 16, 0x8010_0000, true), Op::Mapd),
-        ran(mapti(17, 0, 8192, 1), Op::Mapti),
-        ran(mapti(17, 65535, 8193, 1), Op::Mapti),
+        Line::Runs(Given::Mapd(17, 16, 0x8010_0000)),
+        Line::Runs(Given::Mapti(17, 0, 8192, 1)),
+        Line::Runs(Given::Mapti(17, 65535, 8193, 1)),
     ];
     assert_eq!(rt; follow(rt.alloc(), &mut machine, &before)?, before.len());
     assert_eq!(rt; machine.migrate(rt.alloc()), Ok(()));
     let after = [
-        peeks(0x8010_0000, 0xffff_0000_2000_0001),
-        peeks(0x8017_fff8, 0x0000_0000_2001_0001),
-        signals(17, 0, delivered(2, 8192)),
-        signals(17, 1, Signal::Dropped(Cause::NoEvent)),
-        signals(17, 65535, delivered(2, 8193)),
+        Line::Peeks(0x8010_0000, 0xffff_0000_2000_0001),
+        Line::Peeks(0x8017_fff8, 0x0000_0000_2001_0001),
+        Line::Delivers(17, 0, 2, 8192),
+        Line::Drops(17, 1, Cause::NoEvent),
+        Line::Delivers(17, 65535, 2, 8193),
     ];
     assert_eq!(rt; follow(rt.alloc(), &mut machine, &after)?, after.len());
     Ok(())
@@ -203,21 +198,21 @@ fn events_far_apart(rt: HostRuntime) -> Result<(), Fail> {
 fn tables_that_overlap(rt: HostRuntime) -> Result<(), Fail> {
     let mut machine = one_event(rt.alloc())?;
     let before = [
-        ran(mapd(17, 5, ITT, true), Op::Mapd),
-        signals(16, 3, delivered(2, 8200)),
-        pokes(0x8003_0008, 0x40),
+        Line::Runs(Given::Mapd(17, 5, ITT)),
+        Line::Delivers(16, 3, 2, 8200),
+        Line::Byte(0x8003_0008, 0x40),
     ];
     assert_eq!(rt; follow(rt.alloc(), &mut machine, &before)?, before.len());
     let overlap = SaveFault::Overlap(Region::Itt(DeviceId(16)), Region::Itt(DeviceId(17)));
     assert_eq!(rt; machine.migrate(rt.alloc()), Err(SaveError::Fault(overlap)));
     assert!(rt; are_pending(rt.alloc(), &machine, 2, &[Intid(8200)])?);
     let after = [
-        peeks(0x8000_0080, 0),
-        peeks(0x800c_0018, 0),
-        peeks(0x8006_0400, 0),
-        takes(2, lpi(8200, 0xa0)),
-        signals(17, 3, Signal::Dropped(Cause::NoEvent)),
-        ran(mapti(17, 3, 8201, 1), Op::Mapti),
+        Line::Peeks(0x8000_0080, 0),
+        Line::Peeks(0x800c_0018, 0),
+        Line::Peeks(0x8006_0400, 0),
+        Line::Takes(2, Some((8200, 0xa0))),
+        Line::Drops(17, 3, Cause::NoEvent),
+        Line::Runs(Given::Mapti(17, 3, 8201, 1)),
     ];
     assert_eq!(rt; follow(rt.alloc(), &mut machine, &after)?, after.len());
     Ok(())
@@ -228,13 +223,13 @@ fn tables_that_overlap(rt: HostRuntime) -> Result<(), Fail> {
 fn configurations_are_read_again(rt: HostRuntime) -> Result<(), Fail> {
     let mut machine = one_event(rt.alloc())?;
     let before = [
-        signals(16, 3, delivered(2, 8200)),
-        pokes(0x8003_0008, 0x40),
-        shows(2, lpi(8200, 0xa0)),
+        Line::Delivers(16, 3, 2, 8200),
+        Line::Byte(0x8003_0008, 0x40),
+        Line::Shows(2, Some((8200, 0xa0))),
     ];
     assert_eq!(rt; follow(rt.alloc(), &mut machine, &before)?, before.len());
     assert_eq!(rt; machine.migrate(rt.alloc()), Ok(()));
-    let after = [shows(2, Ack::None), takes(2, Ack::None)];
+    let after = [Line::Shows(2, None), Line::Takes(2, None)];
     assert_eq!(rt; follow(rt.alloc(), &mut machine, &after)?, after.len());
     assert!(rt; are_pending(rt.alloc(), &machine, 2, &[Intid(8200)])?);
     Ok(())
@@ -273,17 +268,17 @@ fn a_machine_is_restored(rt: HostRuntime) -> Result<(), Fail> {
     desc.restore = Some(VALUES);
     let mut machine = Machine::new(rt.alloc(), &desc)?;
     let lines = [
-        takes(2, lpi(8200, 0xa0)),
-        signals(16, 3, delivered(2, 8200)),
-        signals(16, 5, Signal::Dropped(Cause::NoEvent)),
-        signals(16, 7, delivered(2, 8201)),
-        signals(32, 0, Signal::Dropped(Cause::NoDevice)),
-        peeks(0x8000_0100, 0x8000_0000_1001_80ff),
-        peeks(0x800c_0028, 0xffff_ffff_ffff_ffff),
-        Line::Ask(Call::Save, Reply::Saved),
-        peeks(0x8000_0100, 0),
-        peeks(0x800c_0018, 0x0004_0000_2008_0001),
-        peeks(0x800c_0028, 0),
+        Line::Takes(2, Some((8200, 0xa0))),
+        Line::Delivers(16, 3, 2, 8200),
+        Line::Drops(16, 5, Cause::NoEvent),
+        Line::Delivers(16, 7, 2, 8201),
+        Line::Drops(32, 0, Cause::NoDevice),
+        Line::Peeks(0x8000_0100, 0x8000_0000_1001_80ff),
+        Line::Peeks(0x800c_0028, 0xffff_ffff_ffff_ffff),
+        Line::Saves,
+        Line::Peeks(0x8000_0100, 0),
+        Line::Peeks(0x800c_0018, 0x0004_0000_2008_0001),
+        Line::Peeks(0x800c_0028, 0),
     ];
     assert_eq!(rt; follow(rt.alloc(), &mut machine, &lines)?, lines.len());
     assert!(rt; are_pending(rt.alloc(), &machine, 2, &[Intid(8200), Intid(8201)])?);
