@@ -293,7 +293,7 @@ fn commands_that_run(rt: HostRuntime) -> Result<(), Fail> {
 }
 
 // An interrupt is known by its configuration byte as it was read last.
-const CONFIGURATIONS: [Line; 25] = [
+const CONFIGURATIONS: [Line; 28] = [
     Line::Runs(Given::Mapd(16, 5, ITT)),
     Line::Runs(Given::Mapd(17, 14, 0x8010_0000)),
     Line::Runs(Given::Mapc(1, 2)),
@@ -319,6 +319,9 @@ const CONFIGURATIONS: [Line; 25] = [
     Line::Runs(Given::Mapi(17, 8202, 1)),
     Line::Delivers(17, 8202, 1, 8202),
     Line::Takes(1, Some((8202, 0xe0))),
+    Line::Byte(0x8003_0009, 0x91),
+    Line::Runs(Given::Mapti(16, 2, 8201, 3)),
+    Line::Takes(1, Some((8201, 0x90))),
 ];
 
 #[test]
