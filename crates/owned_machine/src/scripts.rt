@@ -1,11 +1,11 @@
 //! What the tests are written in: descriptions, and lines of commands and calls.
-ghost use Rattle.std.specs.Prelude.{◌≡◌, ◌<◌, ◌≤◌, ◌^◌, ◌%◌, length, IfOk};
+ghost use Rattle.std.specs.Prelude.{◌<◌, ◌≤◌, length, IfOk};
 ghost use Rattle.its_plain.specs.Made.{IsDescription};
 
 use crate::Machine;
 use guest_windows::NoMemory;
-use its_command::{Command, EventIdBits, IttAddr, Op, RdBase, encode};
-use its_plain::{Ack, Bytes64, Call, Desc, Fill, Reason, Reply, Signal, StepReply};
+use its_command::{Command, EventIdBits, IttAddr, Op, RdBase, UnknownOp, encode};
+use its_plain::{Ack, Bytes64, Call, Cause, Desc, Fill, Reason, Reply, Signal, StepReply};
 use its_types::{Addr, DeviceId, EventId, Icid, Intid, Limits, Listed, Profile, Shape, Vcpu};
 use std::alloc::{AllocError, Global};
 
@@ -70,69 +70,182 @@ pub fn enabling(baser0: u64) -> [Call; 4] {
 
 // ---- lines
 
+/// A command, as the numbers that it is made of.
+#[derive(Clone, Copy)]
+pub enum Given {
+    Mapd(u32, u8, u64),
+    Unmapd(u32),
+    Mapc(u16, u8),
+    Unmapc(u16),
+    Mapti(u32, u32, u32, u16),
+    Mapi(u32, u32, u16),
+    Movi(u32, u32, u16),
+    Int(u32, u32),
+    Clear(u32, u32),
+    Discard(u32, u32),
+    Inv(u32, u32),
+    Invall(u16),
+    Movall(u8, u8),
+    Sync(u8),
+    Unknown,
+}
+
 /// A command, or another call, with the answer.
-#[derive(Drop)]
+#[derive(Clone, Copy)]
 pub enum Line {
-    Run(Command, StepReply),
-    Ask(Call, Reply),
+    Runs(Given),
+    Refused(Given, Reason),
+    /// A virtual processor, and the interrupt with its priority.
+    Shows(u8, Option<(u32, u8)>),
+    Takes(u8, Option<(u32, u8)>),
+    /// A device and its event, and the virtual processor and the interrupt.
+    Delivers(u32, u32, u8, u32),
+    Drops(u32, u32, Cause),
+    /// Eight bytes of memory.
+    Peeks(u64, u64),
+    Pokes(u64, u64),
+    /// The first byte there.
+    Byte(u64, u8),
+    Saves,
 }
 
-pub fn ran(command: Command, op: Op) -> Line {
-    Line::Run(command, StepReply::Ran(op))
+/// What a line asks for.
+#[derive(Drop)]
+pub enum Asked {
+    Command(Command, StepReply),
+    Call(Call, Reply),
 }
 
-pub fn refused(command: Command, op: Op, reason: Reason) -> Line {
-    Line::Run(command, StepReply::Refused(op, reason))
-}
-
-pub fn shows(vcpu: u8, ack: Ack) -> Line {
-    Line::Ask(Call::Show(Vcpu(vcpu)), Reply::Ack(ack))
-}
-
-pub fn takes(vcpu: u8, ack: Ack) -> Line {
-    Line::Ask(Call::Take(Vcpu(vcpu)), Reply::Ack(ack))
-}
-
-pub fn signals(dev: u32, ev: u32, signal: Signal) -> Line {
-    let call = Call::Signal {
-        its: 0,
-        dev: DeviceId(dev),
-        ev: EventId(ev),
-    };
-    Line::Ask(call, Reply::Signal(signal))
-}
-
-/// A byte is written to memory.
-pub fn pokes(addr: u64, byte: u8) -> Line {
-    Line::Ask(poke(addr, &[byte]), Reply::Ok)
-}
-
-/// Eight bytes of memory are this word.
-pub fn peeks(addr: u64, word: u64) -> Line {
-    let call = Call::Peek {
-        addr: Addr(addr),
-        count: 8,
-    };
-    Line::Ask(call, Reply::Bytes(Bytes64::new(&word.to_le_bytes())))
-}
-
-pub fn lpi(intid: u32, priority: u8) -> Ack {
-    Ack::Some {
-        intid: Intid(intid),
-        priority,
+impl Line {
+    pub fn asked(&self) -> Asked {
+        match *self {
+            Line::Runs(given) => Asked::Command(command(given), StepReply::Ran(op(given))),
+            Line::Refused(given, reason) => {
+                Asked::Command(command(given), StepReply::Refused(op(given), reason))
+            }
+            Line::Shows(vcpu, lpi) => Asked::Call(Call::Show(Vcpu(vcpu)), Reply::Ack(ack(lpi))),
+            Line::Takes(vcpu, lpi) => Asked::Call(Call::Take(Vcpu(vcpu)), Reply::Ack(ack(lpi))),
+            Line::Delivers(dev, ev, vcpu, intid) => {
+                let vcpu = Vcpu(vcpu);
+                let intid = Intid(intid);
+                Asked::Call(
+                    signal(dev, ev),
+                    Reply::Signal(Signal::Delivered { vcpu, intid }),
+                )
+            }
+            Line::Drops(dev, ev, cause) => {
+                Asked::Call(signal(dev, ev), Reply::Signal(Signal::Dropped(cause)))
+            }
+            Line::Peeks(addr, word) => Asked::Call(
+                peek(addr),
+                Reply::Bytes(Bytes64::new(&word.to_le_bytes())),
+            ),
+            Line::Pokes(addr, word) => Asked::Call(poke(addr, &word.to_le_bytes()), Reply::Ok),
+            Line::Byte(addr, byte) => Asked::Call(poke(addr, &[byte]), Reply::Ok),
+            Line::Saves => Asked::Call(Call::Save, Reply::Saved),
+        }
     }
 }
 
-pub fn delivered(vcpu: u8, intid: u32) -> Signal {
-    Signal::Delivered {
-        vcpu: Vcpu(vcpu),
-        intid: Intid(intid),
+fn ack(lpi: Option<(u32, u8)>) -> Ack {
+    match lpi {
+        Some((intid, priority)) => Ack::Some {
+            intid: Intid(intid),
+            priority,
+        },
+        None => Ack::None,
+    }
+}
+
+fn op(given: Given) -> Op {
+    match given {
+        Given::Mapd(..) | Given::Unmapd(_) => Op::Mapd,
+        Given::Mapc(..) | Given::Unmapc(_) => Op::Mapc,
+        Given::Mapti(..) => Op::Mapti,
+        Given::Mapi(..) => Op::Mapi,
+        Given::Movi(..) => Op::Movi,
+        Given::Int(..) => Op::Int,
+        Given::Clear(..) => Op::Clear,
+        Given::Discard(..) => Op::Discard,
+        Given::Inv(..) => Op::Inv,
+        Given::Invall(_) => Op::Invall,
+        Given::Movall(..) => Op::Movall,
+        Given::Sync(_) => Op::Sync,
+        Given::Unknown => Op::Unknown(0),
+    }
+}
+
+fn command(given: Given) -> Command {
+    match given {
+        Given::Mapd(dev, bits, itt) => mapd(dev, bits, itt, true),
+        Given::Unmapd(dev) => mapd(dev, 1, 0, false),
+        Given::Mapc(icid, target) => mapc(icid, target, true),
+        Given::Unmapc(icid) => mapc(icid, 0, false),
+        Given::Mapti(dev, ev, intid, icid) => Command::Mapti {
+            dev: DeviceId(dev),
+            ev: EventId(ev),
+            intid: Intid(intid),
+            icid: Icid(icid),
+        },
+        Given::Mapi(dev, ev, icid) => Command::Mapi {
+            dev: DeviceId(dev),
+            ev: EventId(ev),
+            icid: Icid(icid),
+        },
+        Given::Movi(dev, ev, icid) => Command::Movi {
+            dev: DeviceId(dev),
+            ev: EventId(ev),
+            icid: Icid(icid),
+        },
+        Given::Int(dev, ev) => Command::Int {
+            dev: DeviceId(dev),
+            ev: EventId(ev),
+        },
+        Given::Clear(dev, ev) => Command::Clear {
+            dev: DeviceId(dev),
+            ev: EventId(ev),
+        },
+        Given::Discard(dev, ev) => Command::Discard {
+            dev: DeviceId(dev),
+            ev: EventId(ev),
+        },
+        Given::Inv(dev, ev) => Command::Inv {
+            dev: DeviceId(dev),
+            ev: EventId(ev),
+        },
+        Given::Invall(icid) => Command::Invall { icid: Icid(icid) },
+        Given::Movall(from, to) => Command::Movall {
+            from: RdBase::new(u64::from(from)),
+            to: RdBase::new(u64::from(to)),
+        },
+        Given::Sync(target) => Command::Sync {
+            target: RdBase::new(u64::from(target)),
+        },
+        Given::Unknown => Command::Unknown(UnknownOp::new(0)),
+    }
+}
+
+// An address keeps the bits that a command has for it.
+fn mapd(dev: u32, bits: u8, itt: u64, valid: bool) -> Command {
+    Command::Mapd {
+        dev: DeviceId(dev),
+        bits: EventIdBits::new(1 + (bits.wrapping_sub(1)) % 32),
+        itt: IttAddr::new(itt % (1 << 52) / 256 * 256),
+        valid,
+    }
+}
+
+fn mapc(icid: u16, target: u8, valid: bool) -> Command {
+    Command::Mapc {
+        icid: Icid(icid),
+        target: RdBase::new(u64::from(target)),
+        valid,
     }
 }
 
 // ---- calls
 
-pub fn poke(addr: u64, bytes: &[u8]) -> Call
+fn poke(addr: u64, bytes: &[u8]) -> Call
     requires some { 0 < length bytes.now }
     requires few { length bytes.now ≤ 64 }
 {
@@ -142,12 +255,27 @@ pub fn poke(addr: u64, bytes: &[u8]) -> Call
     }
 }
 
-pub fn write(off: u32, size: u8, value: u64) -> Call {
+fn write(off: u32, size: u8, value: u64) -> Call {
     Call::WriteReg {
         its: 0,
         off,
         size,
         value,
+    }
+}
+
+fn signal(dev: u32, ev: u32) -> Call {
+    Call::Signal {
+        its: 0,
+        dev: DeviceId(dev),
+        ev: EventId(ev),
+    }
+}
+
+fn peek(addr: u64) -> Call {
+    Call::Peek {
+        addr: Addr(addr),
+        count: 8,
     }
 }
 
@@ -170,88 +298,4 @@ pub fn queueing(
         poke(QUEUE + place, &encode(command)),
         write(0x88, 8, (place + 32) % 0x1000),
     ])
-}
-
-// ---- commands
-
-pub fn mapd(dev: u32, bits: u8, itt: u64, valid: bool) -> Command
-    requires least { 1 ≤ bits }
-    requires most { bits ≤ 32 }
-    requires whole { itt % 256 ≡ 0 }
-    requires low { itt < 2 ^ 52 }
-{
-    Command::Mapd {
-        dev: DeviceId(dev),
-        bits: EventIdBits::new(bits),
-        itt: IttAddr::new(itt),
-        valid,
-    }
-}
-
-pub fn mapc(icid: u16, target: u8, valid: bool) -> Command {
-    Command::Mapc {
-        icid: Icid(icid),
-        target: RdBase::new(u64::from(target)),
-        valid,
-    }
-}
-
-pub fn mapti(dev: u32, ev: u32, intid: u32, icid: u16) -> Command {
-    Command::Mapti {
-        dev: DeviceId(dev),
-        ev: EventId(ev),
-        intid: Intid(intid),
-        icid: Icid(icid),
-    }
-}
-
-pub fn mapi(dev: u32, ev: u32, icid: u16) -> Command {
-    Command::Mapi {
-        dev: DeviceId(dev),
-        ev: EventId(ev),
-        icid: Icid(icid),
-    }
-}
-
-pub fn movi(dev: u32, ev: u32, icid: u16) -> Command {
-    Command::Movi {
-        dev: DeviceId(dev),
-        ev: EventId(ev),
-        icid: Icid(icid),
-    }
-}
-
-pub fn int(dev: u32, ev: u32) -> Command {
-    Command::Int {
-        dev: DeviceId(dev),
-        ev: EventId(ev),
-    }
-}
-
-pub fn clear(dev: u32, ev: u32) -> Command {
-    Command::Clear {
-        dev: DeviceId(dev),
-        ev: EventId(ev),
-    }
-}
-
-pub fn discard(dev: u32, ev: u32) -> Command {
-    Command::Discard {
-        dev: DeviceId(dev),
-        ev: EventId(ev),
-    }
-}
-
-pub fn inv(dev: u32, ev: u32) -> Command {
-    Command::Inv {
-        dev: DeviceId(dev),
-        ev: EventId(ev),
-    }
-}
-
-pub fn movall(from: u8, to: u8) -> Command {
-    Command::Movall {
-        from: RdBase::new(u64::from(from)),
-        to: RdBase::new(u64::from(to)),
-    }
 }

@@ -1,13 +1,10 @@
 //! The machine and the plain one answer alike: every refusal and every effect of each command, and the other calls.
 use crate::Machine;
-use crate::scripts::{
-    CONFIG, Line, clear, delivered, desc, discard, enabling, int, inv, lpi, mapc, mapd, mapi,
-    mapti, movall, movi, pokes, queueing, ran, refused, shows, signals, takes,
-};
+use crate::scripts::{Asked, CONFIG, Given, Line, desc, enabling, queueing};
 use guest_windows::NoMemory;
-use its_command::{Command, Op, RdBase, UnknownOp};
-use its_plain::{Ack, Call, Cause, Reason, Reply, Signal, State, StepReply};
-use its_types::{Addr, DeviceId, EventId, Icid, Profile, Vcpu};
+use its_command::Command;
+use its_plain::{Call, Cause, Reason, Reply, State, StepReply};
+use its_types::{Addr, DeviceId, EventId, Profile, Vcpu};
 use std::alloc::Global;
 use std::test::Fail;
 
@@ -71,11 +68,13 @@ fn take_line(
     state: State,
     line: &Line,
 ) -> Result<(State, bool), NoMemory> {
-    match line {
-        Line::Run(command, expected) => take_command(alloc, machine, state, command, *expected),
-        Line::Ask(call, expected) => {
-            let (state, reply) = ask(alloc, machine, state, call)?;
-            Ok((state, reply == Some(*expected)))
+    match line.asked() {
+        Asked::Command(command, expected) => {
+            take_command(alloc, machine, state, &command, expected)
+        }
+        Asked::Call(call, expected) => {
+            let (state, reply) = ask(alloc, machine, state, &call)?;
+            Ok((state, reply == Some(expected)))
         }
     }
 }
@@ -173,182 +172,195 @@ const AT_LAST: [Call; 16] = [
     Call::Step { its: 0 },
 ];
 
+const REFUSED_MAPS: [Line; 18] = [
+    Line::Refused(Given::Unknown, Reason::UnknownCommand),
+    Line::Refused(Given::Mapd(0x2000, 5, ITT), Reason::DeviceRange),
+    Line::Refused(Given::Mapd(0x10000, 5, ITT), Reason::DeviceRange),
+    Line::Refused(Given::Unmapd(0x10000), Reason::DeviceRange),
+    Line::Refused(Given::Mapd(16, 17, ITT), Reason::SizeRange),
+    Line::Refused(Given::Mapc(1, 4), Reason::TargetRange),
+    Line::Refused(Given::Mapc(0x2000, 1), Reason::CollectionRange),
+    Line::Refused(Given::Mapti(16, 1, 8200, 1), Reason::NoDevice),
+    Line::Refused(Given::Mapi(17, 8202, 1), Reason::NoDevice),
+    Line::Runs(Given::Mapd(16, 5, ITT)),
+    Line::Runs(Given::Mapd(17, 14, 0x8010_0000)),
+    Line::Refused(Given::Mapti(16, 32, 8200, 1), Reason::EventRange),
+    Line::Refused(Given::Mapti(16, 1, 8191, 1), Reason::IntidRange),
+    Line::Refused(Given::Mapti(16, 1, 65536, 1), Reason::IntidRange),
+    Line::Refused(Given::Mapti(16, 1, 8200, 0x2000), Reason::CollectionRange),
+    Line::Refused(Given::Mapi(17, 16384, 1), Reason::EventRange),
+    Line::Refused(Given::Mapi(17, 8191, 1), Reason::IntidRange),
+    Line::Refused(Given::Mapi(17, 8202, 0x2000), Reason::CollectionRange),
+];
+
 #[test]
 fn maps_that_are_refused(rt: HostRuntime) -> Result<(), Fail> {
-    let unknown = UnknownOp::new(0);
-    let lines = [
-        Line::Run(
-            Command::Unknown(unknown),
-            StepReply::Refused(Op::Unknown(0), Reason::UnknownCommand),
-        ),
-        refused(mapd(0x2000, 5, ITT, true), Op::Mapd, Reason::DeviceRange),
-        refused(mapd(0x10000, 5, ITT, true), Op::Mapd, Reason::DeviceRange),
-        refused(mapd(0x10000, 5, ITT, false), Op::Mapd, Reason::DeviceRange),
-        refused(mapd(16, 17, ITT, true), Op::Mapd, Reason::SizeRange),
-        refused(mapc(1, 4, true), Op::Mapc, Reason::TargetRange),
-        refused(mapc(0x2000, 1, true), Op::Mapc, Reason::CollectionRange),
-        refused(mapti(16, 1, 8200, 1), Op::Mapti, Reason::NoDevice),
-        refused(mapi(17, 8202, 1), Op::Mapi, Reason::NoDevice),
-        ran(mapd(16, 5, ITT, true), Op::Mapd),
-        ran(mapd(17, 14, 0x8010_0000, true), Op::Mapd),
-        refused(mapti(16, 32, 8200, 1), Op::Mapti, Reason::EventRange),
-        refused(mapti(16, 1, 8191, 1), Op::Mapti, Reason::IntidRange),
-        refused(mapti(16, 1, 65536, 1), Op::Mapti, Reason::IntidRange),
-        refused(
-            mapti(16, 1, 8200, 0x2000),
-            Op::Mapti,
-            Reason::CollectionRange,
-        ),
-        refused(mapi(17, 16384, 1), Op::Mapi, Reason::EventRange),
-        refused(mapi(17, 8191, 1), Op::Mapi, Reason::IntidRange),
-        refused(mapi(17, 8202, 0x2000), Op::Mapi, Reason::CollectionRange),
-    ];
-    assert_eq!(rt; take_lines(rt.alloc(), Profile::One, &lines)?, lines.len());
+    assert_eq!(rt;
+        take_lines(rt.alloc(), Profile::One, &REFUSED_MAPS)?,
+        REFUSED_MAPS.len()
+    );
     Ok(())
 }
+
+const REFUSED_COMMANDS: [Line; 26] = [
+    Line::Refused(Given::Movi(16, 1, 1), Reason::NoDevice),
+    Line::Refused(Given::Int(16, 1), Reason::NoDevice),
+    Line::Refused(Given::Clear(16, 1), Reason::NoDevice),
+    Line::Refused(Given::Discard(16, 1), Reason::NoDevice),
+    Line::Refused(Given::Inv(16, 1), Reason::NoDevice),
+    Line::Runs(Given::Mapd(16, 5, ITT)),
+    Line::Refused(Given::Movi(16, 32, 1), Reason::EventRange),
+    Line::Refused(Given::Int(16, 32), Reason::EventRange),
+    Line::Refused(Given::Clear(16, 32), Reason::EventRange),
+    Line::Refused(Given::Discard(16, 32), Reason::EventRange),
+    Line::Refused(Given::Inv(16, 32), Reason::EventRange),
+    Line::Refused(Given::Movi(16, 1, 1), Reason::NoEvent),
+    Line::Refused(Given::Int(16, 1), Reason::NoEvent),
+    Line::Refused(Given::Clear(16, 1), Reason::NoEvent),
+    Line::Refused(Given::Discard(16, 1), Reason::NoEvent),
+    Line::Refused(Given::Inv(16, 1), Reason::NoEvent),
+    Line::Runs(Given::Mapti(16, 1, 8200, 1)),
+    Line::Runs(Given::Mapc(2, 1)),
+    Line::Refused(Given::Movi(16, 1, 2), Reason::NoCollection),
+    Line::Refused(Given::Int(16, 1), Reason::NoCollection),
+    Line::Refused(Given::Clear(16, 1), Reason::NoCollection),
+    Line::Refused(Given::Invall(1), Reason::NoCollection),
+    Line::Runs(Given::Mapc(1, 0)),
+    Line::Refused(Given::Movi(16, 1, 3), Reason::NoCollection),
+    Line::Refused(Given::Movall(0, 4), Reason::TargetRange),
+    Line::Refused(Given::Movall(4, 0), Reason::TargetRange),
+];
 
 #[test]
 fn commands_that_are_refused(rt: HostRuntime) -> Result<(), Fail> {
-    let lines = [
-        refused(movi(16, 1, 1), Op::Movi, Reason::NoDevice),
-        refused(int(16, 1), Op::Int, Reason::NoDevice),
-        refused(clear(16, 1), Op::Clear, Reason::NoDevice),
-        refused(discard(16, 1), Op::Discard, Reason::NoDevice),
-        refused(inv(16, 1), Op::Inv, Reason::NoDevice),
-        ran(mapd(16, 5, ITT, true), Op::Mapd),
-        refused(movi(16, 32, 1), Op::Movi, Reason::EventRange),
-        refused(int(16, 32), Op::Int, Reason::EventRange),
-        refused(clear(16, 32), Op::Clear, Reason::EventRange),
-        refused(discard(16, 32), Op::Discard, Reason::EventRange),
-        refused(inv(16, 32), Op::Inv, Reason::EventRange),
-        refused(movi(16, 1, 1), Op::Movi, Reason::NoEvent),
-        refused(int(16, 1), Op::Int, Reason::NoEvent),
-        refused(clear(16, 1), Op::Clear, Reason::NoEvent),
-        refused(discard(16, 1), Op::Discard, Reason::NoEvent),
-        refused(inv(16, 1), Op::Inv, Reason::NoEvent),
-        ran(mapti(16, 1, 8200, 1), Op::Mapti),
-        ran(mapc(2, 1, true), Op::Mapc),
-        refused(movi(16, 1, 2), Op::Movi, Reason::NoCollection),
-        refused(int(16, 1), Op::Int, Reason::NoCollection),
-        refused(clear(16, 1), Op::Clear, Reason::NoCollection),
-        refused(
-            Command::Invall { icid: Icid(1) },
-            Op::Invall,
-            Reason::NoCollection,
-        ),
-        ran(mapc(1, 0, true), Op::Mapc),
-        refused(movi(16, 1, 3), Op::Movi, Reason::NoCollection),
-        refused(movall(0, 4), Op::Movall, Reason::TargetRange),
-        refused(movall(4, 0), Op::Movall, Reason::TargetRange),
-    ];
-    assert_eq!(rt; take_lines(rt.alloc(), Profile::One, &lines)?, lines.len());
+    assert_eq!(rt;
+        take_lines(rt.alloc(), Profile::One, &REFUSED_COMMANDS)?,
+        REFUSED_COMMANDS.len()
+    );
     Ok(())
 }
 
+const COMMANDS: [Line; 36] = [
+    Line::Runs(Given::Mapd(16, 5, ITT)),
+    Line::Runs(Given::Mapc(1, 2)),
+    Line::Runs(Given::Mapc(2, 0)),
+    Line::Runs(Given::Mapti(16, 1, 8200, 1)),
+    Line::Runs(Given::Mapti(16, 2, 8201, 2)),
+    Line::Runs(Given::Mapti(16, 1, 8201, 2)),
+    Line::Delivers(16, 1, 2, 8200),
+    Line::Runs(Given::Movi(16, 1, 2)),
+    Line::Shows(0, Some((8200, 0xa0))),
+    Line::Runs(Given::Movall(0, 0)),
+    Line::Runs(Given::Movall(0, 3)),
+    Line::Shows(3, Some((8200, 0xa0))),
+    Line::Runs(Given::Int(16, 1)),
+    Line::Runs(Given::Clear(16, 1)),
+    Line::Runs(Given::Mapc(2, 1)),
+    Line::Delivers(16, 1, 1, 8200),
+    Line::Runs(Given::Mapc(2, 1)),
+    Line::Shows(1, Some((8200, 0xa0))),
+    Line::Runs(Given::Discard(16, 1)),
+    Line::Shows(1, Some((8201, 0xb0))),
+    Line::Drops(16, 1, Cause::NoEvent),
+    Line::Runs(Given::Unmapc(2)),
+    Line::Drops(16, 2, Cause::NoCollection),
+    Line::Runs(Given::Discard(16, 2)),
+    Line::Shows(1, Some((8201, 0xb0))),
+    Line::Runs(Given::Unmapc(5)),
+    Line::Runs(Given::Sync(1)),
+    Line::Runs(Given::Mapti(16, 1, 8200, 1)),
+    Line::Runs(Given::Mapd(16, 6, ITT)),
+    Line::Drops(16, 1, Cause::NoEvent),
+    Line::Runs(Given::Mapti(16, 33, 8200, 1)),
+    Line::Delivers(16, 33, 2, 8200),
+    Line::Runs(Given::Unmapd(16)),
+    Line::Drops(16, 33, Cause::NoDevice),
+    Line::Takes(2, Some((8200, 0xa0))),
+    Line::Runs(Given::Unmapd(16)),
+];
+
 #[test]
 fn commands_that_run(rt: HostRuntime) -> Result<(), Fail> {
-    let lines = [
-        ran(mapd(16, 5, ITT, true), Op::Mapd),
-        ran(mapc(1, 2, true), Op::Mapc),
-        ran(mapc(2, 0, true), Op::Mapc),
-        ran(mapti(16, 1, 8200, 1), Op::Mapti),
-        ran(mapti(16, 2, 8201, 2), Op::Mapti),
-        ran(mapti(16, 1, 8201, 2), Op::Mapti),
-        signals(16, 1, delivered(2, 8200)),
-        ran(movi(16, 1, 2), Op::Movi),
-        shows(0, lpi(8200, 0xa0)),
-        ran(movall(0, 0), Op::Movall),
-        ran(movall(0, 3), Op::Movall),
-        shows(3, lpi(8200, 0xa0)),
-        ran(int(16, 1), Op::Int),
-        ran(clear(16, 1), Op::Clear),
-        ran(mapc(2, 1, true), Op::Mapc),
-        signals(16, 1, delivered(1, 8200)),
-        ran(mapc(2, 1, true), Op::Mapc),
-        shows(1, lpi(8200, 0xa0)),
-        ran(discard(16, 1), Op::Discard),
-        shows(1, lpi(8201, 0xb0)),
-        signals(16, 1, Signal::Dropped(Cause::NoEvent)),
-        ran(mapc(2, 1, false), Op::Mapc),
-        signals(16, 2, Signal::Dropped(Cause::NoCollection)),
-        ran(discard(16, 2), Op::Discard),
-        shows(1, lpi(8201, 0xb0)),
-        ran(mapc(5, 0, false), Op::Mapc),
-        ran(
-            Command::Sync {
-                target: RdBase::new(1),
-            },
-            Op::Sync,
-        ),
-        ran(mapti(16, 1, 8200, 1), Op::Mapti),
-        ran(mapd(16, 6, ITT, true), Op::Mapd),
-        signals(16, 1, Signal::Dropped(Cause::NoEvent)),
-        ran(mapti(16, 33, 8200, 1), Op::Mapti),
-        signals(16, 33, delivered(2, 8200)),
-        ran(mapd(16, 6, ITT, false), Op::Mapd),
-        signals(16, 33, Signal::Dropped(Cause::NoDevice)),
-        takes(2, lpi(8200, 0xa0)),
-        ran(mapd(16, 6, ITT, false), Op::Mapd),
-    ];
-    assert_eq!(rt; take_lines(rt.alloc(), Profile::One, &lines)?, lines.len());
-    assert_eq!(rt; take_lines(rt.alloc(), Profile::Two, &lines)?, lines.len());
+    assert_eq!(rt;
+        take_lines(rt.alloc(), Profile::One, &COMMANDS)?,
+        COMMANDS.len()
+    );
+    assert_eq!(rt;
+        take_lines(rt.alloc(), Profile::Two, &COMMANDS)?,
+        COMMANDS.len()
+    );
     Ok(())
 }
 
 // An interrupt is known by its configuration byte as it was read last.
+const CONFIGURATIONS: [Line; 28] = [
+    Line::Runs(Given::Mapd(16, 5, ITT)),
+    Line::Runs(Given::Mapd(17, 14, 0x8010_0000)),
+    Line::Runs(Given::Mapc(1, 2)),
+    Line::Runs(Given::Mapc(3, 1)),
+    Line::Runs(Given::Mapti(16, 1, 8200, 1)),
+    Line::Shows(2, Some((8200, 0xa0))),
+    Line::Byte(0x8003_0008, 0x40),
+    Line::Shows(2, Some((8200, 0xa0))),
+    Line::Runs(Given::Inv(16, 1)),
+    Line::Shows(2, None),
+    Line::Takes(2, None),
+    Line::Byte(0x8003_0008, 0xd1),
+    Line::Shows(2, None),
+    Line::Runs(Given::Invall(3)),
+    Line::Shows(2, None),
+    Line::Runs(Given::Invall(1)),
+    Line::Shows(2, Some((8200, 0xd0))),
+    Line::Takes(2, Some((8200, 0xd0))),
+    Line::Byte(0x8003_000a, 0xe1),
+    Line::Runs(Given::Mapi(17, 8202, 3)),
+    Line::Delivers(17, 8202, 1, 8202),
+    Line::Shows(1, Some((8202, 0xe0))),
+    Line::Runs(Given::Mapi(17, 8202, 1)),
+    Line::Delivers(17, 8202, 1, 8202),
+    Line::Takes(1, Some((8202, 0xe0))),
+    Line::Byte(0x8003_0009, 0x91),
+    Line::Runs(Given::Mapti(16, 2, 8201, 3)),
+    Line::Takes(1, Some((8201, 0x90))),
+];
+
 #[test]
 fn configurations_read_again(rt: HostRuntime) -> Result<(), Fail> {
-    let lines = [
-        ran(mapd(16, 5, ITT, true), Op::Mapd),
-        ran(mapd(17, 14, 0x8010_0000, true), Op::Mapd),
-        ran(mapc(1, 2, true), Op::Mapc),
-        ran(mapc(3, 1, true), Op::Mapc),
-        ran(mapti(16, 1, 8200, 1), Op::Mapti),
-        shows(2, lpi(8200, 0xa0)),
-        pokes(0x8003_0008, 0x40),
-        shows(2, lpi(8200, 0xa0)),
-        ran(inv(16, 1), Op::Inv),
-        shows(2, Ack::None),
-        takes(2, Ack::None),
-        pokes(0x8003_0008, 0xd1),
-        shows(2, Ack::None),
-        ran(Command::Invall { icid: Icid(3) }, Op::Invall),
-        shows(2, Ack::None),
-        ran(Command::Invall { icid: Icid(1) }, Op::Invall),
-        shows(2, lpi(8200, 0xd0)),
-        takes(2, lpi(8200, 0xd0)),
-        pokes(0x8003_000a, 0xe1),
-        ran(mapi(17, 8202, 3), Op::Mapi),
-        signals(17, 8202, delivered(1, 8202)),
-        shows(1, lpi(8202, 0xe0)),
-        ran(mapi(17, 8202, 1), Op::Mapi),
-        signals(17, 8202, delivered(1, 8202)),
-        takes(1, lpi(8202, 0xe0)),
-    ];
-    assert_eq!(rt; take_lines(rt.alloc(), Profile::One, &lines)?, lines.len());
-    assert_eq!(rt; take_lines(rt.alloc(), Profile::Two, &lines)?, lines.len());
+    assert_eq!(rt;
+        take_lines(rt.alloc(), Profile::One, &CONFIGURATIONS)?,
+        CONFIGURATIONS.len()
+    );
+    assert_eq!(rt;
+        take_lines(rt.alloc(), Profile::Two, &CONFIGURATIONS)?,
+        CONFIGURATIONS.len()
+    );
     Ok(())
 }
 
 // A collection goes to another target: its pending interrupts stay, or go with it.
+const STAYING: [Line; 5] = [
+    Line::Runs(Given::Mapd(16, 5, ITT)),
+    Line::Runs(Given::Mapc(1, 2)),
+    Line::Runs(Given::Mapti(16, 1, 8200, 1)),
+    Line::Runs(Given::Mapc(1, 3)),
+    Line::Shows(2, Some((8200, 0xa0))),
+];
+
+const GOING: [Line; 6] = [
+    Line::Runs(Given::Mapd(16, 5, ITT)),
+    Line::Runs(Given::Mapc(1, 2)),
+    Line::Runs(Given::Mapti(16, 1, 8200, 1)),
+    Line::Runs(Given::Mapc(1, 3)),
+    Line::Shows(2, None),
+    Line::Shows(3, Some((8200, 0xa0))),
+];
+
 #[test]
 fn collections_moved(rt: HostRuntime) -> Result<(), Fail> {
-    let stay = [
-        ran(mapd(16, 5, ITT, true), Op::Mapd),
-        ran(mapc(1, 2, true), Op::Mapc),
-        ran(mapti(16, 1, 8200, 1), Op::Mapti),
-        ran(mapc(1, 3, true), Op::Mapc),
-        shows(2, lpi(8200, 0xa0)),
-    ];
-    assert_eq!(rt; take_lines(rt.alloc(), Profile::One, &stay)?, stay.len());
-    let go = [
-        ran(mapd(16, 5, ITT, true), Op::Mapd),
-        ran(mapc(1, 2, true), Op::Mapc),
-        ran(mapti(16, 1, 8200, 1), Op::Mapti),
-        ran(mapc(1, 3, true), Op::Mapc),
-        shows(2, Ack::None),
-        shows(3, lpi(8200, 0xa0)),
-    ];
-    assert_eq!(rt; take_lines(rt.alloc(), Profile::Two, &go)?, go.len());
+    assert_eq!(rt;
+        take_lines(rt.alloc(), Profile::One, &STAYING)?,
+        STAYING.len()
+    );
+    assert_eq!(rt; take_lines(rt.alloc(), Profile::Two, &GOING)?, GOING.len());
     Ok(())
 }
