@@ -68,9 +68,12 @@ fn lists_of_pending_lpis(rt: HostRuntime) -> Result<(), Fail> {
     let mut pending = Pending::new(rt.alloc(), 14)?;
     assert_eq!(rt; pending.lpis(rt.alloc())?.len(), 0);
     let intids = [8192, 8255, 8256, 12287, 12288, 16383];
-    for intid in [8192, 12288, 16383, 8256, 8255, 12287] {
-        pending.set(Intid(intid));
-    }
+    pending.set(Intid(8192));
+    pending.set(Intid(12288));
+    pending.set(Intid(16383));
+    pending.set(Intid(8256));
+    pending.set(Intid(8255));
+    pending.set(Intid(12287));
     let lpis = pending.lpis(rt.alloc())?;
     assert_eq!(rt; lpis.len(), 6);
     for (at, lpi) in lpis.iter().enumerate() {
