@@ -1,5 +1,5 @@
 -- The script that good drafts end in is within its limits.
-use Rattle.std.proofs.Common.{◌≡◌, ℕ, ◌+◌, Bool, true, false, ◌&&◌, nat_lt, nat_le, nat_eq, if◌then◌else◌, List, [], ◌∷◌, length, filter_map, Option, Some, None, is_some, ok_or, Result, Ok, Err, IfOk, refl, arith}
+use Rattle.std.proofs.Common.{◌≡◌, ℕ, ◌+◌, Bool, true, false, ◌&&◌, nat_lt, nat_eq, if◌then◌else◌, List, [], ◌∷◌, length, filter_map, Option, Some, None, is_some, ok_or, Result, Ok, Err, IfOk, refl, arith}
 use Rattle.std.specs.List.{list_all}
 use Rattle.std.specs.Option.{unwrap_or}
 use Rattle.std.proofs.lemmas.Bool.{ltb-true}
@@ -11,7 +11,7 @@ use Rattle.event_script.specs.Fields.{arg}
 use Rattle.event_script.specs.Words.{keyword_of}
 use Rattle.event_script.specs.Description.{empty, at_start, is_ended, is_shard_count}
 use Rattle.event_script.specs.Body.{is_described}
-use Rattle.event_script.specs.Limits.{IsWithinLimits, is_phase, is_leg, are_limits}
+use Rattle.event_script.specs.Limits.{IsWithinLimits, are_limits}
 use Rattle.event_script.specs.Script.{is_skipped, words_line, line, default_limits, desc_of, script_from, finished, at_line, ◌then◌, parts_from, script_of}
 use Rattle.event_script.specs.declared.fault.Kind.{Kind}
 use Rattle.event_script.specs.declared.fault.Kind.TheVariants as kind
@@ -19,8 +19,7 @@ use Rattle.event_script.specs.declared.fault.ScriptFault.{ScriptFault}
 use Rattle.event_script.specs.declared.draft.Draft.{Draft}
 use Rattle.event_script.specs.declared.draft.Stage.{Stage}
 use Rattle.event_script.specs.declared.draft.Stage.TheVariants as stage
-use Rattle.event_script.specs.declared.draft.TheConstants.{MOST_PHASES}
-use Rattle.event_script.proofs.Steps.{left_true, right_true, both_true, below, bound, bound_by, ensured, chosen}
+use Rattle.event_script.proofs.Steps.{left_true, right_true, bound, bound_by, ensured, chosen}
 use Rattle.event_script.proofs.Good.{IsGood, given_shards, given_limits, in_body, empty_is_good}
 use Rattle.event_script.proofs.GoodBody.{keyword_good}
 
@@ -52,12 +51,13 @@ all_there (Some table ∷ tables) e = omega (arith, all_there tables e)
 ended : (s : Stage) → is_ended s ≡ true → (in_body s ≡ true) × (at_start s ≡ false)
 ended stage.Start e = absurd (cc)
 ended stage.Description e = absurd (cc)
+ended stage.Leg e = absurd (cc)
 ended stage.Phase e = absurd (cc)
 ended stage.Thread e = absurd (cc)
 ended stage.Ended e = (refl, refl)
 
 abbrev IsFit : Draft → Desc → Type 0
-IsFit d desc = IsWithinLimits (record { desc = desc; legs = d.phases ∷ [] })
+IsFit d desc = IsWithinLimits (record { desc = desc; legs = d.legs })
 
 desc_fits : (d : Draft) → IsGood d → is_ended d.stage ≡ true → IfOk (desc_of d) (IsFit d)
 unfolding desc_of
@@ -67,7 +67,6 @@ desc_fits d h over =
     let windows : Bool = nat_lt 0 (length d.windows) in
     let before : (is_some d.shards && windows && is_some d.config) ≡ true = left_true (is_some d.shards && windows && is_some d.config) tables is in
     let some_windows : windows ≡ true = right_true (is_some d.shards) windows (left_true (is_some d.shards && windows) (is_some d.config) before) in
-    let count : ℕ = length d.pending in
     bound_by (IsFit d) (ok_or d.shards kind.Missing) (λ n. is_shard_count n ≡ true) _ (shards_known d.shards h.fair.shards) (λ shards known.
     bound (IsFit d) (ok_or d.config kind.Missing) _ (λ config.
     record {
@@ -87,10 +86,9 @@ desc_fits d h over =
       some_windows = ltb-true 0 (length d.windows) some_windows;
       most_windows = h.fair.windows;
       fills = h.fair.fills;
-      some_legs = omega arith;
-      most_legs = omega arith;
-      legs = both_true (is_leg count d.phases) true
-          (both_true (nat_le (length d.phases) MOST_PHASES) (list_all (is_phase count) d.phases) (below (length d.phases) MOST_PHASES (omega (arith, h.body.phase_room))) h.body.phases) refl;
+      some_legs = omega (arith, h.body.some_legs over);
+      most_legs = omega (arith, h.body.leg_room);
+      legs = h.body.legs;
     }))
 
 script_fits : (d : Draft) → IsGood d → IfOk (script_from d) IsWithinLimits

@@ -8,14 +8,14 @@ use Rattle.its_types.specs.declared.ids.Addr.{Addr}
 use Rattle.its_types.specs.declared.machine.Limits.{Limits}
 use Rattle.event_script.specs.Text.{number}
 use Rattle.event_script.specs.Fields.{arg, number_within, any_number, address, processor, bytes_within}
-use Rattle.event_script.specs.Description.{at_start, in_description, empty, vcpus_line, shards_line, limits_line, window_line, config_line, pending_line, bytes_line, word_fill_line, is_given, is_shard_count, with_fill}
+use Rattle.event_script.specs.Description.{at_start, in_description, is_ended, empty, vcpus_line, shards_line, limits_line, window_line, config_line, pending_line, register_values, restore_line, bytes_line, word_fill_line, is_given, is_shard_count, with_fill}
 use Rattle.event_script.specs.Body.{is_described}
-use Rattle.event_script.specs.Limits.{is_thread, is_phase, are_limits, is_fill}
+use Rattle.event_script.specs.Limits.{is_thread, is_phase, is_leg, are_limits, is_fill}
 use Rattle.event_script.specs.declared.fault.Kind.TheVariants as kind
 use Rattle.event_script.specs.declared.draft.Draft.{Draft}
 use Rattle.event_script.specs.declared.draft.Stage.{Stage}
 use Rattle.event_script.specs.declared.draft.Stage.TheVariants as stage
-use Rattle.event_script.specs.declared.draft.TheConstants.{MOST_PHASES, MOST_THREADS}
+use Rattle.event_script.specs.declared.draft.TheConstants.{MOST_LEGS, MOST_PHASES, MOST_THREADS}
 use Rattle.event_script.proofs.Steps.{left_true, both_true, below, all_pushed, bound, bound_by, ensured, IsBetween, number_in_range, are_bytes, bytes_in_range}
 
 -- ---- stages
@@ -24,14 +24,25 @@ use Rattle.event_script.proofs.Steps.{left_true, both_true, below, all_pushed, b
 abbrev pub in_body : Stage → Bool
 in_body stage.Start = false
 in_body stage.Description = false
+in_body stage.Leg = true
 in_body stage.Phase = true
 in_body stage.Thread = true
 in_body stage.Ended = true
+
+-- how many legs are to be closed
+abbrev pub open_legs : Stage → ℕ
+open_legs stage.Start = 1
+open_legs stage.Description = 1
+open_legs stage.Leg = 1
+open_legs stage.Phase = 1
+open_legs stage.Thread = 1
+open_legs stage.Ended = 0
 
 -- how many phases are open
 abbrev pub open_phases : Stage → ℕ
 open_phases stage.Start = 0
 open_phases stage.Description = 0
+open_phases stage.Leg = 0
 open_phases stage.Phase = 1
 open_phases stage.Thread = 1
 open_phases stage.Ended = 0
@@ -40,6 +51,7 @@ open_phases stage.Ended = 0
 abbrev pub open_threads : Stage → ℕ
 open_threads stage.Start = 0
 open_threads stage.Description = 0
+open_threads stage.Leg = 0
 open_threads stage.Phase = 0
 open_threads stage.Thread = 1
 open_threads stage.Ended = 0
@@ -47,6 +59,7 @@ open_threads stage.Ended = 0
 pub not_started : (s : Stage) → in_description s ≡ true → in_body s ≡ false
 not_started stage.Start e = refl
 not_started stage.Description e = refl
+not_started stage.Leg e = absurd (cc)
 not_started stage.Phase e = absurd (cc)
 not_started stage.Thread e = absurd (cc)
 not_started stage.Ended e = absurd (cc)
@@ -54,6 +67,7 @@ not_started stage.Ended e = absurd (cc)
 pub start_first : (s : Stage) → at_start s ≡ true → in_body s ≡ false
 start_first stage.Start e = refl
 start_first stage.Description e = absurd (cc)
+start_first stage.Leg e = absurd (cc)
 start_first stage.Phase e = absurd (cc)
 start_first stage.Thread e = absurd (cc)
 start_first stage.Ended e = absurd (cc)
@@ -61,6 +75,7 @@ start_first stage.Ended e = absurd (cc)
 pub described_on : (s : Stage) → in_description s ≡ true → at_start s ≡ false
 described_on stage.Start e = absurd (cc)
 described_on stage.Description e = refl
+described_on stage.Leg e = refl
 described_on stage.Phase e = refl
 described_on stage.Thread e = refl
 described_on stage.Ended e = refl
@@ -68,6 +83,7 @@ described_on stage.Ended e = refl
 pub none_open : (s : Stage) → in_body s ≡ false → open_phases s ≡ 0
 none_open stage.Start e = refl
 none_open stage.Description e = refl
+none_open stage.Leg e = absurd (cc)
 none_open stage.Phase e = absurd (cc)
 none_open stage.Thread e = absurd (cc)
 none_open stage.Ended e = absurd (cc)
@@ -75,9 +91,26 @@ none_open stage.Ended e = absurd (cc)
 pub none_running : (s : Stage) → in_body s ≡ false → open_threads s ≡ 0
 none_running stage.Start e = refl
 none_running stage.Description e = refl
+none_running stage.Leg e = absurd (cc)
 none_running stage.Phase e = absurd (cc)
 none_running stage.Thread e = absurd (cc)
 none_running stage.Ended e = absurd (cc)
+
+pub one_to_close : (s : Stage) → in_body s ≡ false → open_legs s ≡ 1
+one_to_close stage.Start e = refl
+one_to_close stage.Description e = refl
+one_to_close stage.Leg e = absurd (cc)
+one_to_close stage.Phase e = absurd (cc)
+one_to_close stage.Thread e = absurd (cc)
+one_to_close stage.Ended e = absurd (cc)
+
+pub not_over : (s : Stage) → in_body s ≡ false → is_ended s ≡ false
+not_over stage.Start e = refl
+not_over stage.Description e = refl
+not_over stage.Leg e = absurd (cc)
+not_over stage.Phase e = absurd (cc)
+not_over stage.Thread e = absurd (cc)
+not_over stage.Ended e = absurd (cc)
 
 pub clash : {A : Type 0} {b : Bool} → b ≡ false → b ≡ true → A
 clash e f = absurd (cc)
@@ -103,12 +136,16 @@ pub record IsFair (d : Draft) : Type 0 where
 
 -- no call was read
 pub record IsEarly (d : Draft) : Type 0 where
+  pub legs : d.legs ≡ []
   pub phases : d.phases ≡ []
   pub threads : d.threads ≡ []
   pub calls : d.calls ≡ []
 
 -- the calls so far
 pub record HasCalls (d : Draft) : Type 0 where
+  pub legs : list_all (is_leg (length d.pending)) d.legs ≡ true
+  pub leg_room : length d.legs + open_legs d.stage ≤ MOST_LEGS
+  pub some_legs : is_ended d.stage ≡ true → 1 ≤ length d.legs
   pub phases : list_all (is_phase (length d.pending)) d.phases ≡ true
   pub phase_room : length d.phases + open_phases d.stage ≤ MOST_PHASES
   pub threads : list_all (is_thread (length d.pending)) d.threads ≡ true
@@ -125,13 +162,16 @@ pub empty_is_good : IsGood empty
 empty_is_good = record {
   fair = record { few = omega arith; some = λ e. absurd (cc); shards = refl; limits = refl; windows = omega arith; fills = refl };
   described = λ e. absurd (cc);
-  early = λ e. record { phases = refl; threads = refl; calls = refl };
-  body = record { phases = refl; phase_room = omega arith; threads = refl; thread_room = omega arith; calls = refl };
+  early = λ e. record { legs = refl; phases = refl; threads = refl; calls = refl };
+  body = record { legs = refl; leg_room = omega arith; some_legs = λ e. absurd (cc); phases = refl; phase_room = omega arith; threads = refl; thread_room = omega arith; calls = refl };
 }
 
 -- where no call was read there is none out of range
 pub early_calls : (d : Draft) → IsEarly d → in_body d.stage ≡ false → HasCalls d
 early_calls d h e = record {
+  legs = rw h.legs refl;
+  leg_room = rw (h.legs, one_to_close d.stage e) (omega arith);
+  some_legs = λ over. clash (not_over d.stage e) over;
   phases = rw h.phases refl;
   phase_room = rw (h.phases, none_open d.stage e) (omega arith);
   threads = rw h.threads refl;
@@ -160,12 +200,12 @@ shards_good d fs h =
     ensured IsGood (is_shard_count n) kind.Number _ (λ count.
     described_more (record d { shards = Some n })
     (record { few = h.fair.few; some = h.fair.some; shards = count; limits = h.fair.limits; windows = h.fair.windows; fills = h.fair.fills })
-    (record { phases = (h.early (not_started d.stage here)).phases; threads = (h.early (not_started d.stage here)).threads; calls = (h.early (not_started d.stage here)).calls })
+    (record { legs = (h.early (not_started d.stage here)).legs; phases = (h.early (not_started d.stage here)).phases; threads = (h.early (not_started d.stage here)).threads; calls = (h.early (not_started d.stage here)).calls })
     (not_started d.stage here)))))
 
 -- what was early stays so while calls are not read
-pub still_early : (d e : Draft) → IsEarly d → e.phases ≡ d.phases → e.threads ≡ d.threads → e.calls ≡ d.calls → IsEarly e
-still_early d e h p t c = record { phases = p ∙ h.phases; threads = t ∙ h.threads; calls = c ∙ h.calls }
+pub still_early : (d e : Draft) → IsEarly d → e.legs ≡ d.legs → e.phases ≡ d.phases → e.threads ≡ d.threads → e.calls ≡ d.calls → IsEarly e
+still_early d e h l p t c = record { legs = l ∙ h.legs; phases = p ∙ h.phases; threads = t ∙ h.threads; calls = c ∙ h.calls }
 
 pub vcpus_good : (d : Draft) (fs : List (List ℕ)) → IsGood d → IfOk (vcpus_line d fs) IsGood
 unfolding vcpus_line
@@ -178,7 +218,7 @@ vcpus_good d fs h =
     let count : length (replicate n none) ≡ n = length-replicate n none in
     described_more e
     (record { few = rw count r.1; some = λ _. rw count r.0; shards = h.fair.shards; limits = h.fair.limits; windows = h.fair.windows; fills = h.fair.fills })
-    (still_early d e (h.early (start_first d.stage start)) refl refl refl) refl)))
+    (still_early d e (h.early (start_first d.stage start)) refl refl refl refl) refl)))
 
 pub limits_fit : (stamp place : ℕ) → IsBetween 1 (2 ^ 24 - 1) stamp → IsBetween 1 (2 ^ 40 - 1) place → are_limits (record { stamp_last = stamp; place_last = place }) ≡ true
 limits_fit stamp place s p =
@@ -199,7 +239,7 @@ limits_good d fs h =
     let e : Draft = record d { limits = Some (record { stamp_last = stamp; place_last = place }) } in
     described_more e
     (record { few = h.fair.few; some = h.fair.some; shards = h.fair.shards; limits = limits_fit stamp place s p; windows = h.fair.windows; fills = h.fair.fills })
-    (still_early d e (h.early off) refl refl refl) off))))
+    (still_early d e (h.early off) refl refl refl refl) off))))
 
 pub window_good : (d : Draft) (fs : List (List ℕ)) → IsGood d → IfOk (window_line d fs) IsGood
 unfolding window_line
@@ -213,7 +253,7 @@ window_good d fs h =
     let e : Draft = record d { windows = d.windows ++ (base, len) ∷ [] } in
     described_more e
     (record { few = h.fair.few; some = h.fair.some; shards = h.fair.shards; limits = h.fair.limits; windows = omega (arith, length-append d.windows ((base, len) ∷ []), ltb-true (length d.windows) 16 room); fills = h.fair.fills })
-    (still_early d e (h.early off) refl refl refl) off)))))
+    (still_early d e (h.early off) refl refl refl refl) off)))))
 
 pub config_good : (d : Draft) (fs : List (List ℕ)) → IsGood d → IfOk (config_line d fs) IsGood
 unfolding config_line
@@ -225,7 +265,7 @@ config_good d fs h =
     let e : Draft = record d { config = Some base } in
     described_more e
     (record { few = h.fair.few; some = h.fair.some; shards = h.fair.shards; limits = h.fair.limits; windows = h.fair.windows; fills = h.fair.fills })
-    (still_early d e (h.early off) refl refl refl) off)))
+    (still_early d e (h.early off) refl refl refl refl) off)))
 
 pub pending_good : (d : Draft) (fs : List (List ℕ)) → IsGood d → IfOk (pending_line d fs) IsGood
 unfolding pending_line
@@ -239,7 +279,19 @@ pending_good d fs h =
     let count : length e.pending ≡ length d.pending = length-set d.pending vcpu.0 (Some base) in
     described_more e
     (record { few = rw count h.fair.few; some = λ s. rw count (h.fair.some s); shards = h.fair.shards; limits = h.fair.limits; windows = h.fair.windows; fills = h.fair.fills })
-    (still_early d e (h.early off) refl refl refl) off))))
+    (still_early d e (h.early off) refl refl refl refl) off))))
+
+pub restore_good : (d : Draft) (fs : List (List ℕ)) → IsGood d → IfOk (restore_line d fs) IsGood
+unfolding restore_line
+restore_good d fs h =
+    ensured IsGood (in_description d.stage && is_none d.restore) kind.Order _ (λ order.
+    let off = not_started d.stage (left_true (in_description d.stage) (is_none d.restore) order) in
+    ensured IsGood (nat_eq (length fs) 7) kind.Fields _ (λ _.
+    bound IsGood (register_values fs) _ (λ values.
+    let e : Draft = record d { restore = Some values } in
+    described_more e
+    (record { few = h.fair.few; some = h.fair.some; shards = h.fair.shards; limits = h.fair.limits; windows = h.fair.windows; fills = h.fair.fills })
+    (still_early d e (h.early off) refl refl refl refl) off)))
 
 -- with more bytes for the memory
 pub fill_good : (d : Draft) (n : ℕ) (addr : Addr) (bytes : List ℕ) → IsGood d → in_description d.stage ≡ true → are_bytes 4096 bytes ≡ true → IsGood (with_fill d n addr bytes)
@@ -248,7 +300,7 @@ fill_good d n addr bytes h here sized =
     let e : Draft = with_fill d n addr bytes in
     described_more e
     (record { few = h.fair.few; some = h.fair.some; shards = h.fair.shards; limits = h.fair.limits; windows = h.fair.windows; fills = all_pushed is_fill d.fills (record { line = n; addr = addr; bytes = bytes }) h.fair.fills sized })
-    (still_early d e (h.early off) refl refl refl) off
+    (still_early d e (h.early off) refl refl refl refl) off
 
 pub bytes_good : (d : Draft) (n : ℕ) (fs : List (List ℕ)) → IsGood d → IfOk (bytes_line d n fs) IsGood
 unfolding bytes_line

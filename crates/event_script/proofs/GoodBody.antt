@@ -6,8 +6,8 @@ use Rattle.std.proofs.lemmas.List.{length-append}
 use Rattle.its_plain.specs.declared.call.Call.{Call}
 use Rattle.event_script.specs.Description.{at_start, in_description, in_phase, in_thread, is_ended}
 use Rattle.event_script.specs.Calls.{signal_of, take_of, show_of, poke_of, word_of, command_call_of, peek_of, read_of, write_of, step_of, save_of}
-use Rattle.event_script.specs.Body.{is_described, is_whole, may_go_on, threads_so_far, phases_so_far, phase_line, thread_line, end_line, call_line, word_line, keyword_line}
-use Rattle.event_script.specs.Limits.{is_call, is_thread, is_phase}
+use Rattle.event_script.specs.Body.{is_described, is_whole, may_go_on, threads_so_far, phases_so_far, legs_so_far, phase_line, thread_line, migrate_line, end_line, call_line, word_line, keyword_line}
+use Rattle.event_script.specs.Limits.{is_call, is_thread, is_phase, is_leg}
 use Rattle.event_script.specs.declared.fault.Kind.{Kind}
 use Rattle.event_script.specs.declared.fault.Kind.TheVariants as kind
 use Rattle.event_script.specs.declared.words.Keyword.{Keyword}
@@ -15,14 +15,15 @@ use Rattle.event_script.specs.declared.words.Keyword.TheVariants as on
 use Rattle.event_script.specs.declared.draft.Draft.{Draft}
 use Rattle.event_script.specs.declared.draft.Stage.{Stage}
 use Rattle.event_script.specs.declared.draft.Stage.TheVariants as stage
-use Rattle.event_script.specs.declared.draft.TheConstants.{MOST_PHASES, MOST_THREADS, MOST_CALLS}
+use Rattle.event_script.specs.declared.draft.TheConstants.{MOST_LEGS, MOST_PHASES, MOST_THREADS, MOST_CALLS}
 use Rattle.event_script.proofs.Steps.{left_true, right_true, both_true, below, all_pushed, bound_by, ensured, chosen}
 use Rattle.event_script.proofs.Calling.{signal_is_call, take_is_call, show_is_call, poke_is_call, word_is_call, command_is_call, peek_is_call, read_is_call, write_is_call, step_is_call, save_is_call}
-use Rattle.event_script.proofs.Good.{in_body, open_phases, open_threads, clash, IsFair, HasCalls, IsGood, shards_good, vcpus_good, limits_good, window_good, config_good, pending_good, bytes_good, word_fill_good}
+use Rattle.event_script.proofs.Good.{in_body, open_legs, open_phases, open_threads, clash, IsFair, HasCalls, IsGood, shards_good, vcpus_good, limits_good, window_good, config_good, pending_good, restore_good, bytes_good, word_fill_good}
 
 one_open : (s : Stage) → in_thread s ≡ true → (open_phases s ≡ 1) × (open_threads s ≡ 1)
 one_open stage.Start e = absurd (cc)
 one_open stage.Description e = absurd (cc)
+one_open stage.Leg e = absurd (cc)
 one_open stage.Phase e = absurd (cc)
 one_open stage.Thread e = (refl, refl)
 one_open stage.Ended e = absurd (cc)
@@ -30,11 +31,13 @@ one_open stage.Ended e = absurd (cc)
 thread_in_body : (s : Stage) → in_thread s ≡ true → in_body s ≡ true
 thread_in_body stage.Start e = absurd (cc)
 thread_in_body stage.Description e = absurd (cc)
+thread_in_body stage.Leg e = absurd (cc)
 thread_in_body stage.Phase e = absurd (cc)
 thread_in_body stage.Thread e = refl
 thread_in_body stage.Ended e = absurd (cc)
 
 pub record IsOpen (s : Stage) : Type 0 where
+  pub leg : open_legs s ≡ 1
   pub phase : open_phases s ≡ 1
   pub body : in_body s ≡ true
   pub started : at_start s ≡ false
@@ -42,16 +45,26 @@ pub record IsOpen (s : Stage) : Type 0 where
 phase_open : (s : Stage) → (in_phase s || in_thread s) ≡ true → IsOpen s
 phase_open stage.Start e = absurd (cc)
 phase_open stage.Description e = absurd (cc)
-phase_open stage.Phase e = record { phase = refl; body = refl; started = refl }
-phase_open stage.Thread e = record { phase = refl; body = refl; started = refl }
+phase_open stage.Leg e = absurd (cc)
+phase_open stage.Phase e = record { leg = refl; phase = refl; body = refl; started = refl }
+phase_open stage.Thread e = record { leg = refl; phase = refl; body = refl; started = refl }
 phase_open stage.Ended e = absurd (cc)
 
 started : (s : Stage) → (not (at_start s) && not (is_ended s)) ≡ true → at_start s ≡ false
 started stage.Start e = absurd (cc)
 started stage.Description e = refl
+started stage.Leg e = refl
 started stage.Phase e = refl
 started stage.Thread e = refl
 started stage.Ended e = refl
+
+still_open : (s : Stage) → (not (at_start s) && not (is_ended s)) ≡ true → open_legs s ≡ 1
+still_open stage.Start e = absurd (cc)
+still_open stage.Description e = refl
+still_open stage.Leg e = refl
+still_open stage.Phase e = refl
+still_open stage.Thread e = refl
+still_open stage.Ended e = absurd (cc)
 
 -- the open phase is one when it is closed
 closed_phase : (d : Draft) → HasCalls d → in_thread d.stage ≡ true → is_phase (length d.pending) (d.threads ++ d.calls ∷ []) ≡ true
@@ -75,6 +88,18 @@ phases_fit d h =
     chosen (λ ps. length ps ≤ MOST_PHASES) (in_thread d.stage) _ _
     (λ e. omega (arith, length-append d.phases ((d.threads ++ d.calls ∷ []) ∷ []), h.phase_room, (one_open d.stage e).0))
     (λ _. omega (arith, h.phase_room))
+
+-- the open leg is one when it is closed
+closed_leg : (d : Draft) → HasCalls d → is_leg (length d.pending) (phases_so_far d) ≡ true
+closed_leg d h =
+    let ps : List (List (List Call)) = phases_so_far d in
+    both_true (nat_le (length ps) MOST_PHASES) (list_all (is_phase (length d.pending)) ps) (below (length ps) MOST_PHASES (phases_fit d h)) (phases_all d h)
+
+legs_all : (d : Draft) → HasCalls d → list_all (is_leg (length d.pending)) (legs_so_far d) ≡ true
+legs_all d h = all_pushed (is_leg (length d.pending)) d.legs (phases_so_far d) h.legs (closed_leg d h)
+
+count_legs : (d : Draft) → length (legs_so_far d) ≡ length d.legs + 1
+count_legs d = length-append d.legs (phases_so_far d ∷ [])
 
 threads_all : (d : Draft) → HasCalls d → list_all (is_thread (length d.pending)) (threads_so_far d) ≡ true
 threads_all d h =
@@ -105,8 +130,34 @@ phase_good d fs h =
       described = λ _. left_true (is_described d) (not (in_phase d.stage)) whole;
       early = λ off. clash off refl;
       body = record {
+        legs = h.body.legs;
+        leg_room = omega (arith, h.body.leg_room, still_open d.stage on);
+        some_legs = λ over. absurd (cc);
         phases = phases_all d h.body;
         phase_room = omega (arith, ltb-true (length (phases_so_far d)) MOST_PHASES room);
+        threads = refl;
+        thread_room = omega arith;
+        calls = refl;
+      };
+    }))))
+
+migrate_good : (d : Draft) (fs : List (List ℕ)) → IsGood d → IfOk (migrate_line d fs) IsGood
+unfolding migrate_line
+migrate_good d fs h =
+    ensured IsGood (may_go_on d) kind.Order _ (λ on.
+    ensured IsGood (is_whole d) kind.Missing _ (λ whole.
+    ensured IsGood (nat_eq (length fs) 1) kind.Fields _ (λ _.
+    ensured IsGood (nat_lt (length (legs_so_far d)) MOST_LEGS) kind.Many _ (λ room.
+    record {
+      fair = later d (record d { stage = stage.Leg; legs = legs_so_far d; phases = []; threads = []; calls = [] }) h.fair (started d.stage on) refl refl refl refl refl;
+      described = λ _. left_true (is_described d) (not (in_phase d.stage)) whole;
+      early = λ off. clash off refl;
+      body = record {
+        legs = legs_all d h.body;
+        leg_room = omega (arith, ltb-true (length (legs_so_far d)) MOST_LEGS room);
+        some_legs = λ over. absurd (cc);
+        phases = refl;
+        phase_room = omega arith;
         threads = refl;
         thread_room = omega arith;
         calls = refl;
@@ -120,12 +171,15 @@ end_good d fs h =
     ensured IsGood (is_whole d) kind.Missing _ (λ whole.
     ensured IsGood (nat_eq (length fs) 1) kind.Fields _ (λ _.
     record {
-      fair = later d (record d { stage = stage.Ended; phases = phases_so_far d; threads = []; calls = [] }) h.fair (started d.stage on) refl refl refl refl refl;
+      fair = later d (record d { stage = stage.Ended; legs = legs_so_far d; phases = []; threads = []; calls = [] }) h.fair (started d.stage on) refl refl refl refl refl;
       described = λ _. left_true (is_described d) (not (in_phase d.stage)) whole;
       early = λ off. clash off refl;
       body = record {
-        phases = phases_all d h.body;
-        phase_room = omega (arith, phases_fit d h.body);
+        legs = legs_all d h.body;
+        leg_room = omega (arith, count_legs d, h.body.leg_room, still_open d.stage on);
+        some_legs = λ _. omega (arith, count_legs d);
+        phases = refl;
+        phase_room = omega arith;
         threads = refl;
         thread_room = omega arith;
         calls = refl;
@@ -144,6 +198,9 @@ thread_good d fs h =
       described = λ _. h.described open_now.body;
       early = λ off. clash off refl;
       body = record {
+        legs = h.body.legs;
+        leg_room = omega (arith, h.body.leg_room, open_now.leg);
+        some_legs = λ over. absurd (cc);
         phases = h.body.phases;
         phase_room = omega (arith, h.body.phase_room, open_now.phase);
         threads = threads_all d h.body;
@@ -169,6 +226,9 @@ call_good d read h reads =
       described = h.described;
       early = λ off. clash off (thread_in_body d.stage here);
       body = record {
+        legs = h.body.legs;
+        leg_room = h.body.leg_room;
+        some_legs = h.body.some_legs;
         phases = h.body.phases;
         phase_room = h.body.phase_room;
         threads = h.body.threads;
@@ -193,8 +253,10 @@ keyword_good d n on.Config fs h = config_good d fs h
 keyword_good d n on.Pending fs h = pending_good d fs h
 keyword_good d n on.Bytes fs h = bytes_good d n fs h
 keyword_good d n on.Word fs h = word_good d n fs h
+keyword_good d n on.Restore fs h = restore_good d fs h
 keyword_good d n on.Phase fs h = phase_good d fs h
 keyword_good d n on.Thread fs h = thread_good d fs h
+keyword_good d n on.Migrate fs h = migrate_good d fs h
 keyword_good d n on.End fs h = end_good d fs h
 keyword_good d n on.Signal fs h = call_good d (signal_of fs) h (signal_is_call (length d.pending) fs)
 keyword_good d n on.Take fs h = call_good d (take_of (length d.pending) fs) h (take_is_call (length d.pending) fs)

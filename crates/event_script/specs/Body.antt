@@ -1,9 +1,9 @@
--- The lines of a script's body: phases, threads and their calls.
+-- The lines of a script's body: legs, phases, threads and their calls.
 use Rattle.std.specs.Prelude.{ℕ, Bool, not, ◌&&◌, ◌||◌, ◌==◌, nat_lt, if◌then◌else◌, List, [], ◌∷◌, ◌++◌, length, is_some, Result, Ok}
 use Rattle.std.specs.List.{list_all}
 use Rattle.its_plain.specs.declared.call.Call.{Call}
 use Rattle.event_script.specs.Outcome.{◌>>=◌, ensure}
-use Rattle.event_script.specs.Description.{at_start, in_description, in_phase, in_thread, is_ended, vcpus_line, shards_line, limits_line, window_line, config_line, pending_line, bytes_line, word_fill_line}
+use Rattle.event_script.specs.Description.{at_start, in_description, in_phase, in_thread, is_ended, vcpus_line, shards_line, limits_line, window_line, config_line, pending_line, restore_line, bytes_line, word_fill_line}
 use Rattle.event_script.specs.Calls.{signal_of, take_of, show_of, poke_of, word_of, command_call_of, peek_of, read_of, write_of, step_of, save_of}
 use Rattle.event_script.specs.declared.fault.Kind.{Kind}
 use Rattle.event_script.specs.declared.fault.Kind.TheVariants as kind
@@ -11,13 +11,13 @@ use Rattle.event_script.specs.declared.words.Keyword.{Keyword}
 use Rattle.event_script.specs.declared.words.Keyword.TheVariants as on
 use Rattle.event_script.specs.declared.draft.Draft.{Draft}
 use Rattle.event_script.specs.declared.draft.Stage.TheVariants as stage
-use Rattle.event_script.specs.declared.draft.TheConstants.{MOST_PHASES, MOST_THREADS, MOST_CALLS}
+use Rattle.event_script.specs.declared.draft.TheConstants.{MOST_LEGS, MOST_PHASES, MOST_THREADS, MOST_CALLS}
 
 -- each line that a description must have was there
 abbrev pub is_described : Draft → Bool
 is_described d = is_some d.shards && nat_lt 0 (length d.windows) && is_some d.config && list_all is_some d.pending
 
--- nothing is missing where a phase begins or the script ends: an open phase has a thread
+-- nothing is missing where a phase begins, or a leg or the script ends: an open phase has a thread
 abbrev pub is_whole : Draft → Bool
 is_whole d = is_described d && not (in_phase d.stage)
 
@@ -25,9 +25,13 @@ is_whole d = is_described d && not (in_phase d.stage)
 abbrev pub threads_so_far : Draft → List (List Call)
 threads_so_far d = if in_thread d.stage then d.threads ++ d.calls ∷ [] else d.threads
 
--- the phases, with the one that is open
+-- the phases of the open leg, with the one that is open
 abbrev pub phases_so_far : Draft → List (List (List Call))
 phases_so_far d = if in_thread d.stage then d.phases ++ (d.threads ++ d.calls ∷ []) ∷ [] else d.phases
+
+-- the legs, with the one that is open
+abbrev pub legs_so_far : Draft → List (List (List (List Call)))
+legs_so_far d = d.legs ++ phases_so_far d ∷ []
 
 -- the body goes on, or begins
 abbrev pub may_go_on : Draft → Bool
@@ -48,12 +52,21 @@ thread_line d fs = do
   _ ← ensure (nat_lt (length (threads_so_far d)) MOST_THREADS) kind.Many
   Ok (record d { stage = stage.Thread; threads = threads_so_far d; calls = [] })
 
+-- a leg ends, and the next one begins
+unfoldable pub migrate_line : Draft → List (List ℕ) → Result Draft Kind
+migrate_line d fs = do
+  _ ← ensure (may_go_on d) kind.Order
+  _ ← ensure (is_whole d) kind.Missing
+  _ ← ensure (length fs == 1) kind.Fields
+  _ ← ensure (nat_lt (length (legs_so_far d)) MOST_LEGS) kind.Many
+  Ok (record d { stage = stage.Leg; legs = legs_so_far d; phases = []; threads = []; calls = [] })
+
 unfoldable pub end_line : Draft → List (List ℕ) → Result Draft Kind
 end_line d fs = do
   _ ← ensure (may_go_on d) kind.Order
   _ ← ensure (is_whole d) kind.Missing
   _ ← ensure (length fs == 1) kind.Fields
-  Ok (record d { stage = stage.Ended; phases = phases_so_far d; threads = []; calls = [] })
+  Ok (record d { stage = stage.Ended; legs = legs_so_far d; phases = []; threads = []; calls = [] })
 
 -- a line of a call: what it reads as counts only where a thread is open
 unfoldable pub call_line : Draft → Result Call Kind → Result Draft Kind
@@ -77,8 +90,10 @@ keyword_line d n on.Config fs = config_line d fs
 keyword_line d n on.Pending fs = pending_line d fs
 keyword_line d n on.Bytes fs = bytes_line d n fs
 keyword_line d n on.Word fs = word_line d n fs
+keyword_line d n on.Restore fs = restore_line d fs
 keyword_line d n on.Phase fs = phase_line d fs
 keyword_line d n on.Thread fs = thread_line d fs
+keyword_line d n on.Migrate fs = migrate_line d fs
 keyword_line d n on.End fs = end_line d fs
 keyword_line d n on.Signal fs = call_line d (signal_of fs)
 keyword_line d n on.Take fs = call_line d (take_of (length d.pending) fs)

@@ -1,6 +1,7 @@
 -- The lines of a description. Each gives the draft with what it says, or the kind of its first fault.
 use Rattle.std.specs.Prelude.{ℕ, ◌-◌, ◌^◌, Bool, true, false, not, ◌&&◌, ◌||◌, ◌==◌, nat_lt, List, [], ◌∷◌, ◌++◌, length, replicate, slice_index_or, slice_set, Option, Some, None, is_some, is_none, Result, Ok}
 use Rattle.byteorder.specs.Endian.{little_bytes}
+use Rattle.gits_regs.specs.declared.values.RegValues.{RegValues}
 use Rattle.its_types.specs.declared.ids.Addr.{Addr}
 use Rattle.event_script.specs.Text.{number}
 use Rattle.event_script.specs.Outcome.{◌>>=◌, ensure}
@@ -43,6 +44,8 @@ empty = record {
   config = None;
   pending = [];
   fills = [];
+  restore = None;
+  legs = [];
   phases = [];
   threads = [];
   calls = [];
@@ -104,6 +107,24 @@ pending_line d fs = do
   vcpu ← processor (length d.pending) (arg fs 1)
   base ← address (arg fs 2)
   Ok (record d { pending = slice_set d.pending vcpu.0 (Some base) })
+
+-- the registers to restore, in the order of a line's fields
+unfoldable pub register_values : List (List ℕ) → Result RegValues Kind
+register_values fs = do
+  ctlr ← any_number (arg fs 1)
+  cbaser ← any_number (arg fs 2)
+  creadr ← any_number (arg fs 3)
+  cwriter ← any_number (arg fs 4)
+  baser0 ← any_number (arg fs 5)
+  baser1 ← any_number (arg fs 6)
+  Ok (record { ctlr = ctlr; cbaser = cbaser; creadr = creadr; cwriter = cwriter; baser0 = baser0; baser1 = baser1 })
+
+unfoldable pub restore_line : Draft → List (List ℕ) → Result Draft Kind
+restore_line d fs = do
+  _ ← ensure (in_description d.stage && is_none d.restore) kind.Order
+  _ ← ensure (length fs == 7) kind.Fields
+  values ← register_values fs
+  Ok (record d { restore = Some values })
 
 -- with bytes for the memory, from the n-th line
 abbrev pub with_fill : Draft → ℕ → Addr → List ℕ → Draft

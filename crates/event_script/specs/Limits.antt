@@ -7,7 +7,7 @@ use Rattle.its_plain.specs.declared.call.Call.TheVariants as call
 use Rattle.its_plain.specs.Made.{IsDescription}
 use Rattle.its_plain.specs.declared.desc.Fill.{Fill}
 use Rattle.event_script.specs.Description.{is_shard_count}
-use Rattle.event_script.specs.declared.draft.TheConstants.{MOST_PHASES, MOST_THREADS, MOST_CALLS}
+use Rattle.event_script.specs.declared.draft.TheConstants.{MOST_LEGS, MOST_PHASES, MOST_THREADS, MOST_CALLS}
 use Rattle.event_script.specs.declared.script.Script.{Script}
 
 -- ---- calls
@@ -53,5 +53,5 @@ pub record IsWithinLimits (s : Script) : Type 0 where
   pub most_windows : length s.desc.windows ≤ 16
   pub fills : list_all is_fill s.desc.fills ≡ true
   pub some_legs : 0 < length s.legs
-  pub most_legs : length s.legs ≤ 64
+  pub most_legs : length s.legs ≤ MOST_LEGS
   pub legs : list_all (is_leg s.desc.shape.vcpus) s.legs ≡ true

@@ -1,5 +1,5 @@
 -- Scripts: what the bytes of one say, or its first faulty line with that line's first kind.
-use Rattle.std.specs.Prelude.{◌≡◌, ℕ, ◌+◌, ◌-◌, ◌^◌, Bool, ◌||◌, ◌==◌, if◌then◌else◌, List, [], ◌∷◌, length, slice_index, filter_map, None, Result, Ok, Err}
+use Rattle.std.specs.Prelude.{◌≡◌, ℕ, ◌+◌, ◌-◌, ◌^◌, Bool, ◌||◌, ◌==◌, if◌then◌else◌, List, [], ◌∷◌, length, slice_index, filter_map, Result, Ok, Err}
 use Rattle.std.specs.Option.{ok_or, unwrap_or}
 use Rattle.its_types.specs.declared.machine.Limits.{Limits}
 use Rattle.its_types.specs.declared.machine.Profile.TheVariants.{One}
@@ -53,19 +53,15 @@ desc_of d = do
     config = config;
     pending = filter_map (λ table. table) d.pending;
     fills = d.fills;
-    restore = None;
+    restore = d.restore;
   })
 
--- the script of a draft that ended, which has one leg
+-- the script of a draft that ended
 unfoldable pub script_from : Draft → Result Script Kind
 script_from d = do
   _ ← ensure (is_ended d.stage) kind.Missing
   desc ← desc_of d
-  Ok (record { desc = desc; legs = d.phases ∷ [] })
-
--- no line ends a leg but the last one, so there is one
-abbrev pub HasOneLeg : Script → Type 0
-HasOneLeg script = length script.legs ≡ 1
+  Ok (record { desc = desc; legs = d.legs })
 
 -- what stands behind the last line end is no line
 unfoldable pub finished : Draft → List ℕ → Result Script Kind

@@ -6,6 +6,24 @@ use Rattle.event_script.specs.declared.fault.Kind.TheVariants as kind
 use Rattle.event_script.specs.declared.words.Keyword.{Keyword}
 use Rattle.event_script.specs.declared.words.Keyword.TheVariants as on
 
+-- the words of descriptions, legs, phases and threads
+unfoldable pub outline_keyword_of : List ℕ → Result Keyword Kind
+outline_keyword_of word =
+    if bytes_eq word (codes "bytes") then Ok on.Bytes
+    else (if bytes_eq word (codes "thread") then Ok on.Thread
+    else (if bytes_eq word (codes "phase") then Ok on.Phase
+    else (if bytes_eq word (codes "vcpus") then Ok on.Vcpus
+    else (if bytes_eq word (codes "shards") then Ok on.Shards
+    else (if bytes_eq word (codes "limits") then Ok on.Limits
+    else (if bytes_eq word (codes "window") then Ok on.Window
+    else (if bytes_eq word (codes "config") then Ok on.Config
+    else (if bytes_eq word (codes "pending") then Ok on.Pending
+    else (if bytes_eq word (codes "restore") then Ok on.Restore
+    else (if bytes_eq word (codes "migrate") then Ok on.Migrate
+    else (if bytes_eq word (codes "end") then Ok on.End
+    else Err kind.Word)))))))))))
+
+-- those and the words of calls
 unfoldable pub keyword_of : List ℕ → Result Keyword Kind
 keyword_of word =
     if bytes_eq word (codes "signal") then Ok on.Signal
@@ -18,15 +36,5 @@ keyword_of word =
     else (if bytes_eq word (codes "poke") then Ok on.Poke
     else (if bytes_eq word (codes "peek") then Ok on.Peek
     else (if bytes_eq word (codes "word") then Ok on.Word
-    else (if bytes_eq word (codes "bytes") then Ok on.Bytes
-    else (if bytes_eq word (codes "thread") then Ok on.Thread
-    else (if bytes_eq word (codes "phase") then Ok on.Phase
-    else (if bytes_eq word (codes "vcpus") then Ok on.Vcpus
-    else (if bytes_eq word (codes "shards") then Ok on.Shards
-    else (if bytes_eq word (codes "limits") then Ok on.Limits
-    else (if bytes_eq word (codes "window") then Ok on.Window
-    else (if bytes_eq word (codes "config") then Ok on.Config
-    else (if bytes_eq word (codes "pending") then Ok on.Pending
-    else (if bytes_eq word (codes "end") then Ok on.End
     else (if bytes_eq word (codes "save") then Ok on.Save
-    else Err kind.Word))))))))))))))))))))
+    else outline_keyword_of word))))))))))

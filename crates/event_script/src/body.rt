@@ -7,7 +7,7 @@ use crate::calls::{
     command_call_of, peek_of, poke_of, read_of, save_of, show_of, signal_of, step_of, take_of,
     word_of, write_of,
 };
-use crate::draft::{Draft, MOST_CALLS, MOST_PHASES, MOST_THREADS, Stage};
+use crate::draft::{Draft, MOST_CALLS, MOST_LEGS, MOST_PHASES, MOST_THREADS, Stage};
 use crate::fault::{Kind, LineError, ensure};
 use crate::words::Keyword;
 use its_plain::Call;
@@ -60,6 +60,16 @@ impl Draft {
         Ok(())
     }
 
+    /// Closes the leg that is open.
+    fn close_leg(&mut self, alloc: Global) -> Result<(), AllocError>
+        ensures { OnOk result (self.new ≡ record self.old { legs = spec.legs_so_far self.old; phases = []; threads = []; calls = [] }) }
+    {
+        self.close_phase(alloc)?;
+        let phases = mem::replace(&mut self.phases, Listed::new(alloc));
+        self.legs.push(phases)?;
+        Ok(())
+    }
+
     #[tactic(auto, unfolding(crate::specs::Body::phase_line))]
     fn phase_line(&mut self, alloc: Global, fields: &[&[u8]]) -> Result<(), LineError>
         ensures { Gives (λ _. self.new) result (spec.phase_line self.old (map (λ f. f.now) fields.now)) }
@@ -86,6 +96,19 @@ impl Draft {
         Ok(())
     }
 
+    #[tactic(auto, unfolding(crate::specs::Body::migrate_line))]
+    fn migrate_line(&mut self, alloc: Global, fields: &[&[u8]]) -> Result<(), LineError>
+        ensures { Gives (λ _. self.new) result (spec.migrate_line self.old (map (λ f. f.now) fields.now)) }
+    {
+        ensure(self.may_go_on(), Kind::Order)?;
+        ensure(self.is_whole(), Kind::Missing)?;
+        ensure(fields.len() == 1, Kind::Fields)?;
+        self.close_leg(alloc)?;
+        ensure(self.legs.len() < MOST_LEGS, Kind::Many)?;
+        self.stage = Stage::Leg;
+        Ok(())
+    }
+
     #[tactic(auto, unfolding(crate::specs::Body::end_line))]
     fn end_line(&mut self, alloc: Global, fields: &[&[u8]]) -> Result<(), LineError>
         ensures { Gives (λ _. self.new) result (spec.end_line self.old (map (λ f. f.now) fields.now)) }
@@ -93,7 +116,7 @@ impl Draft {
         ensure(self.may_go_on(), Kind::Order)?;
         ensure(self.is_whole(), Kind::Missing)?;
         ensure(fields.len() == 1, Kind::Fields)?;
-        self.close_phase(alloc)?;
+        self.close_leg(alloc)?;
         self.stage = Stage::Ended;
         Ok(())
     }
@@ -141,8 +164,10 @@ impl Draft {
             Keyword::Pending => self.pending_line(fields),
             Keyword::Bytes => self.bytes_line(alloc, number, fields),
             Keyword::Word => self.word_line(alloc, number, fields),
+            Keyword::Restore => self.restore_line(fields),
             Keyword::Phase => self.phase_line(alloc, fields),
             Keyword::Thread => self.thread_line(alloc, fields),
+            Keyword::Migrate => self.migrate_line(alloc, fields),
             Keyword::End => self.end_line(alloc, fields),
             Keyword::Signal => self.call_line(signal_of(fields)),
             Keyword::Take => self.call_line(take_of(vcpus, fields)),

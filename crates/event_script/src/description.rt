@@ -9,6 +9,7 @@ use crate::fault::{Kind, LineError, ensure};
 use crate::fields::{address, any_number, arg, bytes_within, number_within, processor};
 use crate::places::PendingTables;
 use crate::text;
+use gits_regs::RegValues;
 use its_plain::Fill;
 use its_types::{Limits, Listed};
 use std::alloc::Global;
@@ -99,6 +100,17 @@ impl Draft {
         Ok(())
     }
 
+    #[tactic(auto, unfolding(crate::specs::Description::restore_line))]
+    pub fn restore_line(&mut self, fields: &[&[u8]]) -> Result<(), LineError>
+        ensures { Gives (λ _. self.new) result (spec.restore_line self.old (map (λ f. f.now) fields.now)) }
+    {
+        let first = self.describes() && self.restore.is_none();
+        ensure(first, Kind::Order)?;
+        ensure(fields.len() == 7, Kind::Fields)?;
+        self.restore = Some(register_values(fields)?);
+        Ok(())
+    }
+
     #[tactic(auto, unfolding(crate::specs::Description::bytes_line))]
     pub fn bytes_line(
         &mut self,
@@ -140,6 +152,21 @@ impl Draft {
         })?;
         Ok(())
     }
+}
+
+/// The registers to restore, in the order of a line's fields.
+#[tactic(auto, unfolding(crate::specs::Description::register_values))]
+fn register_values(fields: &[&[u8]]) -> Result<RegValues, Kind>
+    ensures { result ≡ spec.register_values (map (λ f. f.now) fields.now) }
+{
+    Ok(RegValues {
+        ctlr: any_number(arg(fields, 1))?,
+        cbaser: any_number(arg(fields, 2))?,
+        creadr: any_number(arg(fields, 3))?,
+        cwriter: any_number(arg(fields, 4))?,
+        baser0: any_number(arg(fields, 5))?,
+        baser1: any_number(arg(fields, 6))?,
+    })
 }
 
 fn is_shard_count(count: u64) -> bool

@@ -1,8 +1,11 @@
 use crate::places::PendingTables;
-use crate::script::{Phase, Thread};
+use crate::script::{Leg, Phase, Thread};
+use gits_regs::RegValues;
 use its_plain::Fill;
 use its_types::{Addr, Limits, Listed};
 
+/// How many legs a script may have.
+pub const MOST_LEGS: usize = 64;
 /// How many phases a leg may have.
 pub const MOST_PHASES: usize = 256;
 /// How many threads a phase may have.
@@ -17,6 +20,8 @@ pub enum Stage {
     Start,
     /// In the description, after its first line.
     Description,
+    /// A leg is open behind a migration, and none of its phases.
+    Leg,
     /// A phase is open, and none of its threads.
     Phase,
     /// A thread is open.
@@ -34,7 +39,10 @@ pub struct Draft {
     pub config: Option<Addr>,
     pub pending: PendingTables,
     pub fills: Listed<Fill>,
-    /// The phases that are closed.
+    pub restore: Option<RegValues>,
+    /// The legs that are closed.
+    pub legs: Listed<Leg>,
+    /// The phases of the open leg that are closed.
     pub phases: Listed<Phase>,
     /// The threads of the open phase that are closed.
     pub threads: Listed<Thread>,

@@ -1,5 +1,5 @@
 //! A whole script, line by line.
-ghost use Rattle.std.specs.Prelude.{◌≡◌, ◌<◌, ◌+◌, ◌∷◌, [], ◌==◌, map, position, drop, length, IfNone, IfSome, IfOk};
+ghost use Rattle.std.specs.Prelude.{◌≡◌, ◌<◌, ◌+◌, ◌∷◌, [], ◌==◌, map, position, drop, length, IfNone, IfSome};
 ghost use Rattle.event_script.specs.Outcome.{Gives};
 ghost use Rattle.event_script.specs.Description as description;
 ghost use Rattle.event_script.specs.Script as spec;
@@ -25,8 +25,7 @@ const DEFAULT_LIMITS: Limits = Limits {
 /// The script that the bytes are, or their first faulty line and what is wrong with it.
 #[tactic(auto, unfolding(crate::specs::Script::script_of))]
 pub fn parse(alloc: Global, bytes: &[u8]) -> Result<Script, ParseError>
-    ensures answer { spec.IsAnswer result (spec.script_of bytes.now) }
-    ensures one_leg { IfOk result spec.HasOneLeg }
+    ensures { spec.IsAnswer result (spec.script_of bytes.now) }
 {
     let mut draft = Draft::new(alloc);
     let mut rest = bytes;
@@ -71,8 +70,7 @@ fn line_end(text: &[u8]) -> Option<usize>
 
 /// The script of a draft, if it ended and nothing stands behind its last line end.
 fn finish(alloc: Global, number: u64, draft: Draft, last: &[u8]) -> Result<Script, ParseError>
-    ensures answer { spec.IsAnswer result (spec.at_line number (spec.finished draft last.now)) }
-    ensures one_leg { IfOk result spec.HasOneLeg }
+    ensures { spec.IsAnswer result (spec.at_line number (spec.finished draft last.now)) }
 {
     match finished(alloc, draft, last) {
         Ok(script) => Ok(script),
@@ -82,8 +80,7 @@ fn finish(alloc: Global, number: u64, draft: Draft, last: &[u8]) -> Result<Scrip
 
 #[tactic(auto, unfolding(crate::specs::Script::finished))]
 fn finished(alloc: Global, draft: Draft, last: &[u8]) -> Result<Script, LineError>
-    ensures script { Gives (λ script. script) result (spec.finished draft last.now) }
-    ensures one_leg { IfOk result spec.HasOneLeg }
+    ensures { Gives (λ script. script) result (spec.finished draft last.now) }
 {
     ensure(last.is_empty(), Kind::Cut)?;
     script_from(alloc, draft)
@@ -91,16 +88,13 @@ fn finished(alloc: Global, draft: Draft, last: &[u8]) -> Result<Script, LineErro
 
 #[tactic(auto, unfolding(crate::specs::Script::script_from, crate::specs::Script::desc_of))]
 fn script_from(alloc: Global, draft: Draft) -> Result<Script, LineError>
-    ensures script { Gives (λ script. script) result (spec.script_from draft) }
-    ensures one_leg { IfOk result spec.HasOneLeg }
+    ensures { Gives (λ script. script) result (spec.script_from draft) }
 {
     ensure(draft.stage == Stage::Ended, Kind::Missing)?;
     let shards = draft.shards.ok_or(Kind::Missing)?;
     let config = draft.config.ok_or(Kind::Missing)?;
     let vcpus = draft.pending.count();
     let pending = draft.pending.tables(alloc)?;
-    let mut legs = Listed::new(alloc);
-    legs.push(draft.phases)?;
     let desc = Desc {
         shape: Shape {
             vcpus,
@@ -114,9 +108,12 @@ fn script_from(alloc: Global, draft: Draft) -> Result<Script, LineError>
         config,
         pending,
         fills: draft.fills,
-        restore: None,
+        restore: draft.restore,
     };
-    Ok(Script { desc, legs })
+    Ok(Script {
+        desc,
+        legs: draft.legs,
+    })
 }
 
 impl Draft {
@@ -131,6 +128,8 @@ impl Draft {
             config: None,
             pending: PendingTables::none(alloc),
             fills: Listed::new(alloc),
+            restore: None,
+            legs: Listed::new(alloc),
             phases: Listed::new(alloc),
             threads: Listed::new(alloc),
             calls: Listed::new(alloc),

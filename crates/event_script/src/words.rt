@@ -16,8 +16,10 @@ pub enum Keyword {
     Pending,
     Bytes,
     Word,
+    Restore,
     Phase,
     Thread,
+    Migrate,
     End,
     Signal,
     Take,
@@ -75,7 +77,19 @@ pub fn keyword_of(word: &[u8]) -> Result<Keyword, Kind>
         Ok(Keyword::Peek)
     } else if word == b"word".as_slice() {
         Ok(Keyword::Word)
-    } else if word == b"bytes".as_slice() {
+    } else if word == b"save".as_slice() {
+        Ok(Keyword::Save)
+    } else {
+        outline_keyword_of(word)
+    }
+}
+
+/// The first word of a line that is no call's.
+#[tactic(auto, unfolding(crate::specs::Words::outline_keyword_of))]
+fn outline_keyword_of(word: &[u8]) -> Result<Keyword, Kind>
+    ensures { result ≡ spec.outline_keyword_of word.now }
+{
+    if word == b"bytes".as_slice() {
         Ok(Keyword::Bytes)
     } else if word == b"thread".as_slice() {
         Ok(Keyword::Thread)
@@ -93,10 +107,12 @@ pub fn keyword_of(word: &[u8]) -> Result<Keyword, Kind>
         Ok(Keyword::Config)
     } else if word == b"pending".as_slice() {
         Ok(Keyword::Pending)
+    } else if word == b"restore".as_slice() {
+        Ok(Keyword::Restore)
+    } else if word == b"migrate".as_slice() {
+        Ok(Keyword::Migrate)
     } else if word == b"end".as_slice() {
         Ok(Keyword::End)
-    } else if word == b"save".as_slice() {
-        Ok(Keyword::Save)
     } else {
         Err(Kind::Word)
     }

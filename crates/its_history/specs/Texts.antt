@@ -1,7 +1,9 @@
--- How calls and replies are printed: addresses, register offsets and values, priorities and opcodes without a name as 0x and
+-- How calls, replies and faults are printed: addresses, register offsets and values, priorities and opcodes without a name as 0x and
 -- hexadecimal digits, bytes as hexadecimal digits, all other numbers in decimal.
 use Rattle.std.specs.Prelude.{ℕ, false, List, ◌++◌, codes}
 use Rattle.std.specs.Fmt.{decimal, digits}
+use Rattle.gits_regs.specs.declared.values.Register.{Register}
+use Rattle.gits_regs.specs.declared.values.Register.TheVariants as register
 use Rattle.hex.specs.Hex.{encode_lower}
 use Rattle.its_command.specs.declared.command.Op.{Op}
 use Rattle.its_command.specs.declared.command.Op.TheVariants as op
@@ -21,8 +23,12 @@ use Rattle.its_plain.specs.declared.call.StepReply.{StepReply}
 use Rattle.its_plain.specs.declared.call.StepReply.TheVariants as step
 use Rattle.its_plain.specs.declared.fault.Region.{Region}
 use Rattle.its_plain.specs.declared.fault.Region.TheVariants as region
+use Rattle.its_plain.specs.declared.fault.RestoreFault.{RestoreFault}
+use Rattle.its_plain.specs.declared.fault.RestoreFault.TheVariants as restore
 use Rattle.its_plain.specs.declared.fault.SaveFault.{SaveFault}
 use Rattle.its_plain.specs.declared.fault.SaveFault.TheVariants as save
+use Rattle.its_plain.specs.declared.fault.Table.{Table}
+use Rattle.its_plain.specs.declared.fault.Table.TheVariants as table
 
 abbrev pub hexadecimal : ℕ → List ℕ
 hexadecimal n = codes "0x" ++ digits 16 false n
@@ -102,6 +108,29 @@ unfoldable pub save_fault_text : SaveFault → List ℕ
 save_fault_text (save.NoPlace dev) = codes "no-place " ++ decimal dev.0
 save_fault_text (save.Outside r) = codes "outside " ++ region_text r
 save_fault_text (save.Overlap r s) = codes "overlap " ++ region_text r ++ codes " " ++ region_text s
+
+unfoldable pub register_text : Register → List ℕ
+register_text register.Cbaser = codes "cbaser"
+register_text register.Creadr = codes "creadr"
+register_text register.Cwriter = codes "cwriter"
+register_text register.Baser0 = codes "baser0"
+register_text register.Baser1 = codes "baser1"
+
+-- an entry that leads too far, by its number and how far it leads
+unfoldable pub past_end_text : Table → ℕ → ℕ → List ℕ
+past_end_text table.Devices entry next = codes "past-end devices " ++ decimal entry ++ codes " " ++ decimal next
+past_end_text (table.Itt dev) entry next = codes "past-end itt " ++ decimal dev.0 ++ codes " " ++ decimal entry ++ codes " " ++ decimal next
+
+unfoldable pub restore_fault_text : RestoreFault → List ℕ
+restore_fault_text (restore.NotValid r) = codes "not-valid " ++ register_text r
+restore_fault_text (restore.OutsideTable addr) = codes "outside-table " ++ hexadecimal addr.0
+restore_fault_text (restore.BadCollection icid) = codes "bad-collection " ++ decimal icid.0
+restore_fault_text (restore.BadTarget icid n) = codes "bad-target " ++ decimal icid.0 ++ codes " " ++ decimal n
+restore_fault_text (restore.DoubleCollection icid) = codes "double-collection " ++ decimal icid.0
+restore_fault_text (restore.BadSize dev) = codes "bad-size " ++ decimal dev.0
+restore_fault_text (restore.PastEnd t entry next) = past_end_text t entry next
+restore_fault_text (restore.BadIntid dev ev intid) = codes "bad-intid " ++ decimal dev.0 ++ codes " " ++ decimal ev.0 ++ codes " " ++ decimal intid.0
+restore_fault_text (restore.BadRedist vcpu) = codes "bad-redist " ++ decimal vcpu.0
 
 unfoldable pub reply_text : Reply → List ℕ
 reply_text (reply.Signal s) = signal_text s

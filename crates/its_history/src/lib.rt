@@ -14,6 +14,7 @@ mod threads;
 mod trace;
 
 pub use errors::NoMemory;
+pub use faults::{restore_fault_text, save_fault_text};
 pub use report::{answered_text, entry_text, leg_text, pending_text, report_text};
 pub use text::Text;
 pub use threads::{ThreadList, merge, merge_gives, thread_gives};

@@ -1,7 +1,14 @@
-use crate::{End, Leg, NoMemory, ThreadList, Trace, entry_text, merge, pending_text, report_text};
+use crate::{
+    End, EntryLine, Leg, NoMemory, Text, ThreadList, Trace, entry_text, leg_text, merge,
+    pending_text, report_text, restore_fault_text, save_fault_text,
+};
+use gits_regs::Register;
 use its_command::Op;
-use its_plain::{Ack, Bytes64, Call, Cause, Reason, Reply, Signal, StepReply};
-use its_types::{Addr, DeviceId, EventId, Intid, Listed, Placed, Vcpu};
+use its_plain::{
+    Ack, Bytes64, Call, Cause, Reason, Region, Reply, RestoreFault, SaveFault, Signal, StepReply,
+    Table,
+};
+use its_types::{Addr, DeviceId, EventId, Icid, Intid, Listed, Placed, Vcpu};
 use std::alloc::Global;
 use std::test::Fail;
 
@@ -185,5 +192,159 @@ fn report_of_nothing_is_empty(rt: HostRuntime) -> Result<(), Fail> {
         legs: Listed::new(rt.alloc()),
     };
     assert_eq!(rt; report_text(rt.alloc(), &trace)?.as_str(), "");
+    Ok(())
+}
+
+/// A leg of one entry at most, over one virtual processor.
+fn small_leg(
+    alloc: Global,
+    has_entry: bool,
+    pending: &[Intid],
+    end: Option<End>,
+) -> Result<Leg, NoMemory> {
+    let mut entries = Listed::new(alloc);
+    if has_entry {
+        entries.push(EntryLine {
+            place: 0,
+            phase: 1,
+            thread: 1,
+            text: Text::new(String::from_str(alloc, "step -> idle")?),
+        })?;
+    }
+    let mut lists = Listed::new(alloc);
+    lists.push(pending_text(alloc, pending)?)?;
+    Ok(Leg {
+        entries,
+        pending: lists,
+        end,
+    })
+}
+
+#[test]
+fn legs_by_their_ends(rt: HostRuntime) -> Result<(), Fail> {
+    let alloc = rt.alloc();
+    for (has_entry, end, want) in [
+        (
+            true,
+            Some(End::Migrated),
+            "leg 3\n0 1.1 step -> idle\nvcpu 0 pending 8200\nmigrated\n",
+        ),
+        (
+            true,
+            None,
+            "leg 3\n0 1.1 step -> idle\nvcpu 0 pending 8200\n",
+        ),
+        (
+            true,
+            Some(End::Done),
+            "leg 3\n0 1.1 step -> idle\nvcpu 0 pending 8200\ndone\n",
+        ),
+        (
+            false,
+            Some(End::Migrated),
+            "leg 3\nvcpu 0 pending 8200\nmigrated\n",
+        ),
+        (false, None, "leg 3\nvcpu 0 pending 8200\n"),
+    ] {
+        let leg = small_leg(alloc, has_entry, &[Intid(8200)], end)?;
+        assert_eq!(rt; leg_text(alloc, 3, &leg)?.as_str(), want);
+    }
+    Ok(())
+}
+
+#[test]
+fn report_of_a_refused_migration(rt: HostRuntime) -> Result<(), Fail> {
+    let alloc = rt.alloc();
+    let mut legs = Listed::new(alloc);
+    legs.push(small_leg(alloc, true, &[], Some(End::Migrated))?)?;
+    legs.push(small_leg(alloc, false, &[Intid(8192)], None)?)?;
+    let want = "leg 1
+0 1.1 step -> idle
+vcpu 0 pending none
+migrated
+leg 2
+vcpu 0 pending 8192
+";
+    assert_eq!(rt; report_text(alloc, &Trace { legs })?.as_str(), want);
+    Ok(())
+}
+
+#[test]
+fn causes_of_refused_saves(rt: HostRuntime) -> Result<(), Fail> {
+    let alloc = rt.alloc();
+    let first = Region::Itt(DeviceId(16));
+    let second = Region::Itt(DeviceId(17));
+    for (fault, want) in [
+        (SaveFault::Overlap(first, second), "overlap itt 16 itt 17"),
+        (SaveFault::NoPlace(DeviceId(16384)), "no-place 16384"),
+        (SaveFault::Outside(Region::Page(2)), "outside page 2"),
+        (SaveFault::Outside(Region::Devices), "outside devices"),
+        (SaveFault::Outside(Region::Level1), "outside level1"),
+        (
+            SaveFault::Outside(Region::Collections),
+            "outside collections",
+        ),
+        (
+            SaveFault::Overlap(Region::Pending(Vcpu(3)), Region::Config),
+            "overlap pending 3 config",
+        ),
+        (
+            SaveFault::Overlap(Region::ConfigOf(Vcpu(1)), Region::Queue),
+            "overlap config 1 queue",
+        ),
+    ] {
+        assert_eq!(rt; save_fault_text(alloc, &fault)?.as_str(), want);
+    }
+    Ok(())
+}
+
+#[test]
+fn causes_of_refused_restores(rt: HostRuntime) -> Result<(), Fail> {
+    let alloc = rt.alloc();
+    let dev = DeviceId(16);
+    let ev = EventId(3);
+    for (fault, want) in [
+        (RestoreFault::NotValid(Register::Cbaser), "not-valid cbaser"),
+        (RestoreFault::NotValid(Register::Creadr), "not-valid creadr"),
+        (
+            RestoreFault::NotValid(Register::Cwriter),
+            "not-valid cwriter",
+        ),
+        (RestoreFault::NotValid(Register::Baser0), "not-valid baser0"),
+        (RestoreFault::NotValid(Register::Baser1), "not-valid baser1"),
+        (
+            RestoreFault::OutsideTable(Addr(0x9000_0000)),
+            "outside-table 0x90000000",
+        ),
+        (
+            RestoreFault::OutsideTable(Addr(0xf_ffff_ffff_abf8)),
+            "outside-table 0xfffffffffabf8",
+        ),
+        (
+            RestoreFault::BadCollection(Icid(8192)),
+            "bad-collection 8192",
+        ),
+        (RestoreFault::BadTarget(Icid(1), 4), "bad-target 1 4"),
+        (
+            RestoreFault::DoubleCollection(Icid(1)),
+            "double-collection 1",
+        ),
+        (RestoreFault::BadSize(DeviceId(0)), "bad-size 0"),
+        (
+            RestoreFault::PastEnd(Table::Devices, 8191, 1),
+            "past-end devices 8191 1",
+        ),
+        (
+            RestoreFault::PastEnd(Table::Itt(dev), 31, 2),
+            "past-end itt 16 31 2",
+        ),
+        (
+            RestoreFault::BadIntid(dev, ev, Intid(8191)),
+            "bad-intid 16 3 8191",
+        ),
+        (RestoreFault::BadRedist(Vcpu(2)), "bad-redist 2"),
+    ] {
+        assert_eq!(rt; restore_fault_text(alloc, &fault)?.as_str(), want);
+    }
     Ok(())
 }

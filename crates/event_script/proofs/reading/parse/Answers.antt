@@ -3,9 +3,9 @@ use Rattle.event_script.specs.Script.{script_of}
 use Rattle.event_script.proofs.Lines.{read_on, read_fails}
 use Rattle.event_script.proofs.reading.parse.Goals as goal
 
-pub returns-in-Err-clause-answer : goal.returns-in-Err-clause-answer
+pub returns-in-Err : goal.returns-in-Err
 unfolding script_of
-returns-in-Err-clause-answer c =
+returns-in-Err c =
     rw (c.at.ensures, c.loop-line.invariant.read)
     (read_fails c.loop-line.number c.loop-line.draft c.loop-line.rest.now c.in-Some.line.now c.in-Some.more.now c.in-Err.error c.in-Some.ensures.first c.in-Err.ensures)
 
