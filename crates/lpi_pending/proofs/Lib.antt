@@ -7,3 +7,4 @@ pub mod Searching
 pub mod Bytes
 pub mod Firsts
 pub mod Moves
+pub mod Nexts

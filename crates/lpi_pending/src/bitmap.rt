@@ -59,6 +59,43 @@ impl Bitmap {
         put_bit(&mut self.summary, at, word != 0);
     }
 
+    // The first bit from this one on that is 1.
+    pub fn next(&self, from: usize) -> Option<usize>
+        requires { from ≤ 64 * length self.now }
+        ensures { FirstIn (word_bit self.now) from (64 * length self.now) result }
+    {
+        let at = from / 64;
+        if at >= self.words.len() {
+            return None;
+        }
+        if let Some(bit) = bit_from(self.words[at], (from % 64) as u32) {
+            return Some(64 * at + bit as usize);
+        }
+        let Some(used) = self.next_used(at + 1) else {
+            return None;
+        };
+        Some(64 * used + self.words[used].trailing_zeros() as usize)
+    }
+
+    // The first word from this one on that isn't zero.
+    fn next_used(&self, from: usize) -> Option<usize>
+        requires { from ≤ length self.now }
+        ensures { FirstIn (is_used self.now) from (length self.now) result }
+    {
+        let group = from / 64;
+        if group >= self.summary.len() {
+            return None;
+        }
+        if let Some(bit) = bit_from(self.summary[group], (from % 64) as u32) {
+            return Some(64 * group + bit as usize);
+        }
+        let Some(skipped) = first_nonzero(&self.summary[group + 1..]) else {
+            return None;
+        };
+        let next = group + 1 + skipped;
+        Some(64 * next + self.summary[next].trailing_zeros() as usize)
+    }
+
     // Makes each bit 1 there that is 1 here, and 0 here.
     pub fn move_to(&mut self, to: &mut Bitmap)
         requires { length self.old ≡ length to.old }
@@ -132,6 +169,19 @@ fn first_in_word(word: u64, config: &Config, at: usize) -> Option<usize>
         None
     } else {
         Some(64 * at + ready.trailing_zeros() as usize)
+    }
+}
+
+// The first bit of a word from this one on that is 1.
+fn bit_from(word: u64, from: u32) -> Option<u32>
+    requires { from < 64 }
+    ensures { FirstIn (bit_of word) from 64 result }
+{
+    let left = word >> from;
+    if left == 0 {
+        None
+    } else {
+        Some(from + left.trailing_zeros())
     }
 }
 

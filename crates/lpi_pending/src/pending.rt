@@ -1,4 +1,4 @@
-ghost use Rattle.std.specs.Prelude.{◌≡◌, ◌+◌, ◌*◌, ◌<◌, ◌≤◌, ◌^◌, ◌-◌, ◌/◌, ◌%◌, ◌==◌, if◌then◌else◌, ℕ, true, IfOk, IfSome, All};
+ghost use Rattle.std.specs.Prelude.{◌≡◌, ◌+◌, ◌*◌, ◌<◌, ◌≤◌, ◌^◌, ◌-◌, ◌/◌, ◌%◌, ◌==◌, if◌then◌else◌, ℕ, true, IfOk, IfSome, All, map};
 ghost use Rattle.std.specs.Option.{option_map};
 ghost use Rattle.std.specs.List.Sorted.{IsStrictlyIncreasing};
 ghost use Rattle.its_types.specs.Bits as bits;
@@ -11,7 +11,7 @@ use crate::steps::Steps;
 use guest_windows::NoMemory;
 use its_types::{Intid, bit_of, field};
 use lpi_config::{Config, with_bit};
-use std::alloc::Global;
+use std::alloc::{AllocError, Global};
 use std::marker::{Brand, Model};
 use std::sync::ledger::{Blank, Ledger};
 
@@ -126,6 +126,20 @@ impl Pending {
             Some(at) => Some(Intid(8192 + at as u32)),
             None => None,
         }
+    }
+
+    /// The LPIs that are pending, in rising order. Of the words of 64 LPIs none is looked at but those that have a pending
+    /// one.
+    pub fn lpis(&self, alloc: Global) -> Result<Vec<Intid>, AllocError>
+        ensures { IfOk result (λ lpis. map (λ i. i.0) lpis.items ≡ self.now.lpis) }
+    {
+        let mut lpis = Vec::new(alloc);
+        let mut from = 0;
+        while let Some(at) = self.bitmap.next(from) {
+            lpis.push(Intid(8192 + at as u32))?;
+            from = at + 1;
+        }
+        Ok(lpis)
     }
 
     /// Moves every pending LPI to another set.

@@ -64,6 +64,22 @@ fn bytes_of_a_pending_table(rt: HostRuntime) -> Result<(), Fail> {
 }
 
 #[test]
+fn lists_of_pending_lpis(rt: HostRuntime) -> Result<(), Fail> {
+    let mut pending = Pending::new(rt.alloc(), 14)?;
+    assert_eq!(rt; pending.lpis(rt.alloc())?.len(), 0);
+    let intids = [8192, 8255, 8256, 12287, 12288, 16383];
+    for intid in [8192, 12288, 16383, 8256, 8255, 12287] {
+        pending.set(Intid(intid));
+    }
+    let lpis = pending.lpis(rt.alloc())?;
+    assert_eq!(rt; lpis.len(), 6);
+    for (at, lpi) in lpis.iter().enumerate() {
+        assert_eq!(rt; intids.get(at), Some(&lpi.0));
+    }
+    Ok(())
+}
+
+#[test]
 fn redistributors_in_hand(rt: HostRuntime) -> Result<(), Fail> {
     let redist = Redist {
         pending: Pending::new(rt.alloc(), 14)?,

@@ -7,6 +7,7 @@ mod calls;
 mod machine;
 mod make;
 mod memory;
+mod migrations;
 mod registers;
 mod saves;
 mod signals;

@@ -1,10 +1,13 @@
 use crate::calls::answered;
-use crate::make::{bare, start};
+use crate::make::bare;
+use crate::migrations::{begin, moved};
 use guest_windows::NoMemory;
 use its_plain::{Call, Desc, MakeError, Reply};
+use its_types::{Intid, Vcpu};
 use owned_parts::Parts;
-use std::alloc::Global;
+use std::alloc::{AllocError, Global};
 use std::marker::Model;
+use table_save::SaveError;
 
 /// A machine of one translator, seen as the state of the plain machine that its parts stand for.
 #[derive(Drop)]
@@ -29,18 +32,21 @@ impl Model for Machine {
 }
 
 impl Machine {
-    ghost use Rattle.std.specs.Prelude.{◌≡◌, true, IfOk, OnErr};
+    ghost use Rattle.std.specs.Prelude.{◌≡◌, ◌<◌, true, IfOk, OnErr, length, map};
     ghost use Rattle.its_plain.specs.Answer as plain;
-    ghost use Rattle.its_plain.specs.Machine.{made};
-    ghost use Rattle.its_plain.specs.Made.{IsDescription, IsMade};
+    ghost use Rattle.its_plain.specs.Described.{IsMadeFrom};
+    ghost use Rattle.its_plain.specs.Made.{IsDescription};
+    ghost use Rattle.its_plain.specs.Plain.{pending_of};
+    ghost use Rattle.owned_machine.specs.Migrations.{Migrates};
     ghost use Rattle.owned_machine.specs.Whole.{may_want_memory};
 
-    /// The machine that a description makes without a restore, or the first thing that is wrong with the description.
+    /// The machine that a description makes, restored from memory where the description says so, or the first thing that is
+    /// wrong.
     pub fn new(alloc: Global, desc: &Desc) -> Result<Machine, MakeError>
         requires { IsDescription desc.now }
-        ensures { IsMade result (made desc.now) }
+        ensures { IsMadeFrom desc.now result }
     {
-        let parts = start(alloc, desc)?;
+        let parts = begin(alloc, desc)?;
         let desc = bare(alloc, desc)?;
         Ok(Machine { desc, parts })
     }
@@ -54,5 +60,29 @@ impl Machine {
         ensures rare { OnErr result (may_want_memory call.now ≡ true) }
     {
         answered(&mut self.parts, &self.desc, alloc, call)
+    }
+    /// How many virtual processors there are.
+    pub fn vcpus(&self) -> usize
+        ensures { result ≡ length self.now.redistributors }
+    {
+        usize::from(self.desc.shape.vcpus)
+    }
+
+    /// The LPIs that are pending at a virtual processor, in rising order.
+    pub fn pending(&self, alloc: Global, vcpu: usize) -> Result<Vec<Intid>, AllocError>
+        requires { vcpu < length self.now.redistributors }
+        ensures { IfOk result (λ lpis. map (λ i. i.0) lpis.items ≡ pending_of self.now vcpu) }
+    {
+        let redist = self.parts.redists.redist(Vcpu(vcpu as u8));
+        redist.pending.lpis(alloc)
+    }
+
+    /// Saves into a copy of guest memory, and goes on from what that copy and the registers stand for (KVM document
+    /// arm-vgic-its, "ITS Restore Sequence"). Where it answers an error, the machine is as it was.
+    pub fn migrate(&mut self, alloc: Global) -> Result<(), SaveError>
+        ensures { Migrates result self.old self.new }
+    {
+        self.parts = moved(&self.parts, &self.desc, alloc)?;
+        Ok(())
     }
 }

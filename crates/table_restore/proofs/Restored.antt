@@ -54,11 +54,12 @@ in_list [] i x e = absurd cc
 in_list (y ∷ ys) zero x e = omega arith
 in_list (y ∷ ys) (suc i) x e = let lt = in_list ys i x e in omega arith
 
-pub all_restored : (s : Shape) (memory : List Window) (bases : List Bases) (redists : List (Option Redist)) (n : ℕ) → length bases ≤ n → AreRestoredBelow s memory bases redists n → AreRestoredRedists s memory bases redists
+pub all_restored : (s : Shape) (memory : List Window) (bases : List Bases) (redists : List (Option Redist)) (n : ℕ) → length bases ≡ n → AreRestoredBelow s memory bases redists n → AreRestoredRedists s memory bases redists
 all_restored s memory bases redists n all below = record {
   clear = λ v b e. below.clear v b (let lt = in_list bases v b e in omega arith) e;
   places = below.places;
   each = λ v b e. below.each v b (let lt = in_list bases v b e in omega arith) e;
+  rest = λ v le. below.rest v (omega arith);
 }
 
 pub at_item : (f : Addr → Bases) (xs : List Addr) (i : ℕ) (d : Addr) → i < length xs → slice_get (map f xs) i ≡ Some (f (get_or xs i d))

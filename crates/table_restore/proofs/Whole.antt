@@ -1,5 +1,5 @@
 -- What a restore answers: the state that memory and register values stand for, or their first offence.
-use Rattle.std.proofs.Common.{◌≡◌, ℕ, zero, suc, ◌<◌, ◌≤◌, Bool, true, false, nat_lt, List, [], ◌∷◌, length, map, take, get_or, Option, Some, Result, Ok, Err, refl, sym, subst, ap, ◌∙◌, inl, inr, arith}
+use Rattle.std.proofs.Common.{◌≡◌, ℕ, zero, suc, ◌<◌, ◌≤◌, Bool, true, false, nat_lt, List, [], ◌∷◌, length, map, take, get_or, Option, Some, None, Result, Ok, Err, refl, sym, subst, ap, ◌∙◌, inl, inr, arith}
 use Rattle.std.specs.Prelude.{slice_get}
 use Rattle.std.specs.Result.{IsOk, IsErrAnd}
 use Rattle.std.proofs.lemmas.List.{length-map}
@@ -107,6 +107,9 @@ module _ (d : Desc) (memory : List Window) (values : RegValues) (described : IsD
       let n : v < length d.pending = subst (λ (k : ℕ). v < k) (sym described.tables) lt in
       let w = all.each v (described_bases d.config (get_or d.pending v item)) (at_item (described_bases d.config) d.pending v item n) in
       (w.0, w.1, w.2.lpis)
+
+  pub no_others : (v : ℕ) → d.shape.vcpus ≤ v → in_hand redists v ≡ None
+  no_others v le = all.rest v (subst (λ (n : ℕ). n ≤ v) (sym as_many) le)
 
   -- ---- the first offence
 

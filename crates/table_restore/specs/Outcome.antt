@@ -1,5 +1,5 @@
 -- What the functions of a restore answer.
-use Rattle.std.specs.Prelude.{◌≡◌, ◌<◌, ℕ, ◌^◌, true, false, IsSome, length, slice_get, List, Option, Some, None, Result, Ok, Err}
+use Rattle.std.specs.Prelude.{◌≡◌, ◌<◌, ◌≤◌, ℕ, ◌^◌, true, false, IsSome, length, slice_get, List, Option, Some, None, Result, Ok, Err}
 use Rattle.std.specs.Option.{option_map}
 use Rattle.guest_windows.specs.Windows.{Window, number_at}
 use Rattle.gits_regs.specs.Registers.{Registers, is_indirect}
@@ -82,11 +82,12 @@ RestoredRedist s memory vcpu b (Ok r) = IsRestoredRedist s memory b r × (lacks_
 RestoredRedist s memory vcpu b (Err (errors.Fault f)) = (lacks_tables s memory b ≡ true) × (f ≡ BadRedist (record { 0 = vcpu }))
 RestoredRedist s memory vcpu b (Err errors.NoMemory) = Unit {0}
 
--- each redistributor with bases is in hand
+-- each redistributor with bases is in hand, and no other
 pub record AreRestoredRedists (s : Shape) (memory : List Window) (bases : List Bases) (redists : List (Option Redist)) : Type 0 where
   pub clear : AreRedistributorsClear s memory bases
   pub places : length redists ≡ 16
   pub each : (vcpu : ℕ) (b : Bases) → slice_get bases vcpu ≡ Some b → (r : Redist) × (in_hand redists vcpu ≡ Some r) × IsRestoredRedist s memory b r
+  pub rest : (vcpu : ℕ) → length bases ≤ vcpu → in_hand redists vcpu ≡ None
 
 abbrev pub RestoredRedists : Shape → List Window → List Bases → Result (List (Option Redist)) RestoreError → Type 0
 RestoredRedists s memory bases (Ok redists) = AreRestoredRedists s memory bases redists

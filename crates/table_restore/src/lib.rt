@@ -13,7 +13,7 @@ mod redists;
 
 pub use error::RestoreError;
 pub use laws::{at_most_one_state_stands, offences_are_decided, standing_is_sound};
-pub use parts::restore;
+pub use parts::{restore, restore_in};
 
 #[cfg(test)]
 mod tests;
