@@ -4,5 +4,6 @@ pub mod Turns
 pub mod Playeds
 pub mod Runs
 pub mod Migrations
+pub mod Scripts
 pub mod Endings
 pub mod Causes

@@ -34,5 +34,6 @@ reported first _ _ = []
 
 -- the first legs, as many as there are histories: a migration ended each
 abbrev pub migrated : Plain → List Leg → List (List Entry) → List LegLines
+migrated first legs [] = []
+migrated first [] (h ∷ hs) = []
 migrated first (leg ∷ legs) (h ∷ hs) = ended first leg h (Some Migrated) ∷ migrated (moved (after first h)) legs hs
-migrated first _ _ = []

@@ -3,7 +3,7 @@ ghost use Rattle.std.specs.Prelude.{◌≡◌, ◌++◌, ◌<◌, ◌≤◌, ◌
 ghost use Rattle.std.specs.List.{list_all};
 ghost use Rattle.std.specs.String.{string_bytes};
 ghost use Rattle.event_script.specs.Limits.{IsWithinLimits};
-ghost use Rattle.its_history.specs.Report as report;
+ghost use Rattle.its_history.specs.Report as history;
 ghost use Rattle.its_history.specs.Merged.{open_leg};
 ghost use Rattle.its_cli.specs.Answered.{RunEnds, IsSoFar, LegGoes, LegIsLast, IsSpentEnding};
 ghost use Rattle.its_cli.specs.Reports as spec;
@@ -47,7 +47,9 @@ pub fn run(
         }
         number += 1;
     }
-    run_last_leg(alloc, machine, report, legs[end].as_slice(), number, last)
+    let leg = legs[end].as_slice();
+    let ending = run_last_leg(alloc, machine, report, leg, number, last)?;
+    Ok(ending)
 }
 
 /// Runs a leg and migrates the machine, or tells why the run ends here. Where memory runs out, the report is as it was.
@@ -101,7 +103,8 @@ fn run_last_leg(
 {
     let mut lines = Vec::new(alloc);
     if play_leg(alloc, machine, &mut lines, leg, last)? {
-        return end_spent(alloc, report, number, lines);
+        let ending = end_spent(alloc, report, number, lines)?;
+        return Ok(ending);
     }
     let pending = pending_texts(alloc, machine)?;
     add_leg(alloc, report, number, lines, pending, Some(End::Done))?;
@@ -138,7 +141,7 @@ fn add_leg(
     pending: Listed<Text>,
     end: Option<End>,
 ) -> Result<(), AllocError>
-    ensures ok { IfOk result (λ _. string_bytes report.new ≡ string_bytes report.old ++ report.leg_text number (record { entries = lines.items; pending = pending; end = end })) }
+    ensures ok { IfOk result (λ _. string_bytes report.new ≡ string_bytes report.old ++ history.leg_text number (record { entries = lines.items; pending = pending; end = end })) }
     ensures err { OnErr result (string_bytes report.new ≡ string_bytes report.old) }
 {
     let leg = Leg {
@@ -154,7 +157,7 @@ fn add_leg(
 
 /// What is pending at each virtual processor.
 fn pending_texts(alloc: Global, machine: &Machine) -> Result<Listed<Text>, AllocError>
-    ensures { IfOk result (λ texts. texts ≡ map report.pending_text (spec.pending_lists machine.now)) }
+    ensures { IfOk result (λ texts. texts ≡ map history.pending_text (spec.pending_lists machine.now)) }
 {
     let mut texts = Listed::new(alloc);
     for vcpu in 0..machine.vcpus() {

@@ -67,7 +67,7 @@ fn push_cause(alloc: Global, text: &mut String, fault: DescFault) -> Result<(), 
 fn push_offence(alloc: Global, text: &mut String, fault: RestoreFault) -> Result<(), AllocError>
     ensures { OnOk result (string_bytes text.new ≡ string_bytes text.old ++ history.restore_fault_text fault) }
 {
-    match restore_fault_text(alloc, fault) {
+    match restore_fault_text(alloc, &fault) {
         Ok(cause) => text.push_str(cause.as_str()),
         Err(_) => Err(AllocError),
     }
@@ -90,7 +90,7 @@ pub fn migration_refusal(alloc: Global, leg: u64, fault: SaveFault) -> Result<St
 {
     let mut text = String::new(alloc);
     write!(text, "refused migration {leg} ")?;
-    match save_fault_text(alloc, fault) {
+    match save_fault_text(alloc, &fault) {
         Ok(cause) => text.push_str(cause.as_str())?,
         Err(_) => return Err(AllocError),
     }
