@@ -3,3 +3,4 @@ mod Kept
 mod Needed
 mod Answered
 mod Started
+mod Moved

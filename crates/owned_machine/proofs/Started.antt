@@ -127,17 +127,13 @@ module _ (d : Desc) (p : Parts) (description : IsDescription d) (filled : IsFill
 
 -- ---- a copy of the description
 
-state_of_copy : (d c : Desc) (p : Parts) → IsCopy d c → machine_of d p ≡ machine_of c p
+pub state_of_copy : (d c : Desc) (p : Parts) → IsCopy d c → machine_of d p ≡ machine_of c p
 state_of_copy d c p copy =
     ap (λ (s : Shape). laid s d.config d.pending p) (sym copy.shape) ∙ ap (λ (a : Addr). laid c.shape a d.pending p) (sym copy.config) ∙ ap (λ (xs : List Addr). laid c.shape c.config xs p) (sym copy.pending)
 
-pub copy_is : (d c : Desc) (p : Parts) → IsCopy d c → AreStarted d (Ok p) → (made d ≡ Ok (machine_of c p)) × IsMachine c p
-copy_is d c p copy h =
-    let m = h.1 in let same = state_of_copy d c p copy in (
-      h.0 ∙ ap (λ (u : Plain). Ok u) same,
-      record {
-        sound = subst IsSound same m.sound;
-        all_in_hand = subst (λ (s : Shape). AreAllInHand s p.redists) (sym copy.shape) m.all_in_hand;
-        no_others = λ v past. m.no_others v (subst (λ (s : Shape). s.vcpus ≤ v) copy.shape past);
-      },
-    )
+pub whole_of_copy : (d c : Desc) (p : Parts) → IsCopy d c → IsMachine d p → IsMachine c p
+whole_of_copy d c p copy m = record {
+  sound = subst IsSound (state_of_copy d c p copy) m.sound;
+  all_in_hand = subst (λ (s : Shape). AreAllInHand s p.redists) (sym copy.shape) m.all_in_hand;
+  no_others = λ v past. m.no_others v (subst (λ (s : Shape). s.vcpus ≤ v) copy.shape past);
+}

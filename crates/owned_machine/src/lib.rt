@@ -7,9 +7,13 @@ mod calls;
 mod machine;
 mod make;
 mod memory;
+#[cfg(test)]
+mod migration_tests;
 mod migrations;
 mod registers;
 mod saves;
+#[cfg(test)]
+mod scripts;
 mod signals;
 mod steps;
 #[cfg(test)]

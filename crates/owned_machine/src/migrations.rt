@@ -53,6 +53,7 @@ pub fn moved(parts: &Parts, desc: &Desc, alloc: Global) -> Result<Parts, SaveErr
 }
 
 // What is read of the registers.
+#[tactic(auto, unfolding(saved_state::specs::Laws::values_read, gits_regs::specs::Registers::read_reg, gits_regs::specs::Registers::read_word))]
 fn values_of(regs: &Regs) -> RegValues
     ensures { result ≡ values_read regs.now }
 {

@@ -1,50 +1,16 @@
-ghost use Rattle.std.specs.Prelude.{◌≡◌, ◌<◌, ◌≤◌, length, IfOk};
-ghost use Rattle.its_plain.specs.Made.{IsDescription};
-
+//! The machine and the plain one answer alike: every refusal and every effect of each command, and the other calls.
 use crate::Machine;
+use crate::scripts::{Asked, CONFIG, Given, Line, desc, enabling, queueing};
 use guest_windows::NoMemory;
-use its_command::{Command, EventIdBits, IttAddr, Op, RdBase, UnknownOp, encode};
-use its_plain::{Bytes64, Call, Desc, Reason, Reply, State, StepReply};
-use its_types::{Addr, DeviceId, EventId, Icid, Intid, Limits, Listed, Profile, Shape, Vcpu};
-use std::alloc::{AllocError, Global};
+use its_command::Command;
+use its_plain::{Call, Cause, Reason, Reply, State, StepReply};
+use its_types::{Addr, DeviceId, EventId, Profile, Vcpu};
+use std::alloc::Global;
 use std::test::Fail;
-
-const QUEUE: u64 = 0x8002_0000;
-
-const CONFIG: Addr = Addr(0x8003_0000);
 
 const DEVICE: DeviceId = DeviceId(16);
 
-// Four virtual processors, and two MiB of memory.
-fn desc(alloc: Global, profile: Profile) -> Result<Desc, AllocError>
-    ensures { IfOk result IsDescription }
-{
-    let mut windows = Listed::new(alloc);
-    windows.push((Addr(0x8000_0000), 0x20_0000))?;
-    let mut pending = Listed::new(alloc);
-    pending.push(Addr(0x8004_0000))?;
-    pending.push(Addr(0x8005_0000))?;
-    pending.push(Addr(0x8006_0000))?;
-    pending.push(Addr(0x8007_0000))?;
-    Ok(Desc {
-        shape: Shape {
-            vcpus: 4,
-            dev_bits: 16,
-            lpi_bits: 16,
-            profile,
-        },
-        shards: 4,
-        limits: Limits {
-            stamp_last: 16_777_215,
-            place_last: 1_099_511_627_775,
-        },
-        windows,
-        config: CONFIG,
-        pending,
-        fills: Listed::new(alloc),
-        restore: None,
-    })
-}
+const ITT: u64 = 0x800c_0000;
 
 // What both machines answer, if they answer the same.
 fn ask(
@@ -79,70 +45,51 @@ fn ask_each(
     Ok((state, same))
 }
 
-fn poke(addr: u64, bytes: &[u8]) -> Call
-    requires some { 0 < length bytes.now }
-    requires few { length bytes.now ≤ 64 }
-{
-    Call::Poke {
-        addr: Addr(addr),
-        bytes: Bytes64::new(bytes),
-    }
-}
-
-fn write(off: u32, size: u8, value: u64) -> Call {
-    Call::WriteReg {
-        its: 0,
-        off,
-        size,
-        value,
-    }
-}
-
 // Both take a command from the queue. Whether they answer it so, and are then the same otherwise.
 fn take_command(
     alloc: Global,
     machine: &mut Machine,
     state: State,
-    at: usize,
-    line: &(Command, StepReply),
-) -> Result<(State, bool), NoMemory>
-    requires { at < 100 }
-{
-    let (command, expected) = line;
-    let place = 32 * at as u64;
-    let calls = [
-        poke(QUEUE + place, &encode(command)),
-        write(0x88, 8, place + 32),
-    ];
+    command: &Command,
+    expected: StepReply,
+) -> Result<(State, bool), NoMemory> {
+    let calls = queueing(alloc, machine, command)?;
     let (state, ready) = ask_each(alloc, machine, state, &calls)?;
     let (state, reply) = ask(alloc, machine, state, &Call::Step { its: 0 })?;
     let (state, same) = ask_each(alloc, machine, state, &AFTER_EACH)?;
-    let good = ready && same && reply == Some(Reply::Step(*expected));
+    let good = ready && same && reply == Some(Reply::Step(expected));
     Ok((state, good))
 }
 
-// How many of the commands both take and answer so, and are then the same otherwise.
-fn take_commands(
+// Whether both answer a line as it says.
+fn take_line(
     alloc: Global,
-    profile: Profile,
-    lines: &[(Command, StepReply)],
-) -> Result<usize, Fail>
-    requires { length lines.now ≤ 100 }
-{
-    let desc = desc(alloc, profile)?;
+    machine: &mut Machine,
+    state: State,
+    line: &Line,
+) -> Result<(State, bool), NoMemory> {
+    match line.asked() {
+        Asked::Command(command, expected) => {
+            take_command(alloc, machine, state, &command, expected)
+        }
+        Asked::Call(call, expected) => {
+            let (state, reply) = ask(alloc, machine, state, &call)?;
+            Ok((state, reply == Some(expected)))
+        }
+    }
+}
+
+// How many of the lines both answer as they say, up to the first that they don't. All other calls come last.
+fn take_lines(alloc: Global, profile: Profile, lines: &[Line]) -> Result<usize, Fail> {
+    let words = [(0x8003_0008, 0x00c1_b1a1)];
+    let desc = desc(alloc, profile, &words)?;
     let mut machine = Machine::new(alloc, &desc)?;
     let state = State::new(alloc, &desc)?;
-    let start = [
-        poke(0x8003_0008, &[0xa1, 0xb1]),
-        write(0x80, 8, 0x8000_0000_8002_0000),
-        write(0x100, 8, 0x8107_0000_8000_0200),
-        write(0x108, 8, 0x8407_0000_8001_0200),
-        write(0x0, 4, 1),
-    ];
+    let start = enabling(0x8107_0000_8000_0200);
     let (mut state, _) = ask_each(alloc, &mut machine, state, &start)?;
     let mut count = 0;
     for (at, line) in lines.iter().enumerate() {
-        let (next, good) = take_command(alloc, &mut machine, state, at, line)?;
+        let (next, good) = take_line(alloc, &mut machine, state, line)?;
         state = next;
         if !good {
             return Ok(count);
@@ -225,160 +172,192 @@ const AT_LAST: [Call; 16] = [
     Call::Step { its: 0 },
 ];
 
-fn mapd(dev: u32, bits: u8, valid: bool) -> Command
-    requires least { 1 ≤ bits }
-    requires most { bits ≤ 32 }
-{
-    Command::Mapd {
-        dev: DeviceId(dev),
-        bits: EventIdBits::new(bits),
-        itt: IttAddr::new(0x800c_0000),
-        valid,
-    }
-}
-
-fn mapc(icid: u16, target: u8, valid: bool) -> Command {
-    Command::Mapc {
-        icid: Icid(icid),
-        target: RdBase::new(u64::from(target)),
-        valid,
-    }
-}
-
-fn mapti(dev: u32, ev: u32, intid: u32, icid: u16) -> Command {
-    Command::Mapti {
-        dev: DeviceId(dev),
-        ev: EventId(ev),
-        intid: Intid(intid),
-        icid: Icid(icid),
-    }
-}
-
-fn movall(from: u8, to: u8) -> Command {
-    Command::Movall {
-        from: RdBase::new(u64::from(from)),
-        to: RdBase::new(u64::from(to)),
-    }
-}
+const REFUSED_MAPS: [Line; 18] = [
+    Line::Refused(Given::Unknown, Reason::UnknownCommand),
+    Line::Refused(Given::Mapd(0x2000, 5, ITT), Reason::DeviceRange),
+    Line::Refused(Given::Mapd(0x10000, 5, ITT), Reason::DeviceRange),
+    Line::Refused(Given::Unmapd(0x10000), Reason::DeviceRange),
+    Line::Refused(Given::Mapd(16, 17, ITT), Reason::SizeRange),
+    Line::Refused(Given::Mapc(1, 4), Reason::TargetRange),
+    Line::Refused(Given::Mapc(0x2000, 1), Reason::CollectionRange),
+    Line::Refused(Given::Mapti(16, 1, 8200, 1), Reason::NoDevice),
+    Line::Refused(Given::Mapi(17, 8202, 1), Reason::NoDevice),
+    Line::Runs(Given::Mapd(16, 5, ITT)),
+    Line::Runs(Given::Mapd(17, 14, 0x8010_0000)),
+    Line::Refused(Given::Mapti(16, 32, 8200, 1), Reason::EventRange),
+    Line::Refused(Given::Mapti(16, 1, 8191, 1), Reason::IntidRange),
+    Line::Refused(Given::Mapti(16, 1, 65536, 1), Reason::IntidRange),
+    Line::Refused(Given::Mapti(16, 1, 8200, 0x2000), Reason::CollectionRange),
+    Line::Refused(Given::Mapi(17, 16384, 1), Reason::EventRange),
+    Line::Refused(Given::Mapi(17, 8191, 1), Reason::IntidRange),
+    Line::Refused(Given::Mapi(17, 8202, 0x2000), Reason::CollectionRange),
+];
 
 #[test]
-fn commands_that_are_refused(rt: HostRuntime) -> Result<(), Fail> {
-    let refused = StepReply::Refused;
-    let lines = [
-        (
-            Command::Unknown(UnknownOp::new(0)),
-            refused(Op::Unknown(0), Reason::UnknownCommand),
-        ),
-        (
-            mapd(0x2000, 5, true),
-            refused(Op::Mapd, Reason::DeviceRange),
-        ),
-        (mapd(16, 17, true), refused(Op::Mapd, Reason::SizeRange)),
-        (mapc(1, 4, true), refused(Op::Mapc, Reason::TargetRange)),
-        (
-            mapc(0x2000, 1, true),
-            refused(Op::Mapc, Reason::CollectionRange),
-        ),
-        (mapti(16, 1, 8200, 1), refused(Op::Mapti, Reason::NoDevice)),
-        (mapd(16, 5, true), StepReply::Ran(Op::Mapd)),
-        (
-            mapti(16, 32, 8200, 1),
-            refused(Op::Mapti, Reason::EventRange),
-        ),
-        (
-            mapti(16, 1, 8191, 1),
-            refused(Op::Mapti, Reason::IntidRange),
-        ),
-        (
-            mapti(16, 1, 8200, 0x2000),
-            refused(Op::Mapti, Reason::CollectionRange),
-        ),
-        (
-            Command::Int {
-                dev: DEVICE,
-                ev: EventId(1),
-            },
-            refused(Op::Int, Reason::NoEvent),
-        ),
-        (mapti(16, 1, 8200, 1), StepReply::Ran(Op::Mapti)),
-        (
-            Command::Int {
-                dev: DEVICE,
-                ev: EventId(1),
-            },
-            refused(Op::Int, Reason::NoCollection),
-        ),
-        (
-            Command::Invall { icid: Icid(1) },
-            refused(Op::Invall, Reason::NoCollection),
-        ),
-        (movall(0, 4), refused(Op::Movall, Reason::TargetRange)),
-    ];
-    assert_eq!(rt; take_commands(rt.alloc(), Profile::One, &lines)?, 15);
+fn maps_that_are_refused(rt: HostRuntime) -> Result<(), Fail> {
+    assert_eq!(rt;
+        take_lines(rt.alloc(), Profile::One, &REFUSED_MAPS)?,
+        REFUSED_MAPS.len()
+    );
     Ok(())
 }
 
+const REFUSED_COMMANDS: [Line; 26] = [
+    Line::Refused(Given::Movi(16, 1, 1), Reason::NoDevice),
+    Line::Refused(Given::Int(16, 1), Reason::NoDevice),
+    Line::Refused(Given::Clear(16, 1), Reason::NoDevice),
+    Line::Refused(Given::Discard(16, 1), Reason::NoDevice),
+    Line::Refused(Given::Inv(16, 1), Reason::NoDevice),
+    Line::Runs(Given::Mapd(16, 5, ITT)),
+    Line::Refused(Given::Movi(16, 32, 1), Reason::EventRange),
+    Line::Refused(Given::Int(16, 32), Reason::EventRange),
+    Line::Refused(Given::Clear(16, 32), Reason::EventRange),
+    Line::Refused(Given::Discard(16, 32), Reason::EventRange),
+    Line::Refused(Given::Inv(16, 32), Reason::EventRange),
+    Line::Refused(Given::Movi(16, 1, 1), Reason::NoEvent),
+    Line::Refused(Given::Int(16, 1), Reason::NoEvent),
+    Line::Refused(Given::Clear(16, 1), Reason::NoEvent),
+    Line::Refused(Given::Discard(16, 1), Reason::NoEvent),
+    Line::Refused(Given::Inv(16, 1), Reason::NoEvent),
+    Line::Runs(Given::Mapti(16, 1, 8200, 1)),
+    Line::Runs(Given::Mapc(2, 1)),
+    Line::Refused(Given::Movi(16, 1, 2), Reason::NoCollection),
+    Line::Refused(Given::Int(16, 1), Reason::NoCollection),
+    Line::Refused(Given::Clear(16, 1), Reason::NoCollection),
+    Line::Refused(Given::Invall(1), Reason::NoCollection),
+    Line::Runs(Given::Mapc(1, 0)),
+    Line::Refused(Given::Movi(16, 1, 3), Reason::NoCollection),
+    Line::Refused(Given::Movall(0, 4), Reason::TargetRange),
+    Line::Refused(Given::Movall(4, 0), Reason::TargetRange),
+];
+
+#[test]
+fn commands_that_are_refused(rt: HostRuntime) -> Result<(), Fail> {
+    assert_eq!(rt;
+        take_lines(rt.alloc(), Profile::One, &REFUSED_COMMANDS)?,
+        REFUSED_COMMANDS.len()
+    );
+    Ok(())
+}
+
+const COMMANDS: [Line; 36] = [
+    Line::Runs(Given::Mapd(16, 5, ITT)),
+    Line::Runs(Given::Mapc(1, 2)),
+    Line::Runs(Given::Mapc(2, 0)),
+    Line::Runs(Given::Mapti(16, 1, 8200, 1)),
+    Line::Runs(Given::Mapti(16, 2, 8201, 2)),
+    Line::Runs(Given::Mapti(16, 1, 8201, 2)),
+    Line::Delivers(16, 1, 2, 8200),
+    Line::Runs(Given::Movi(16, 1, 2)),
+    Line::Shows(0, Some((8200, 0xa0))),
+    Line::Runs(Given::Movall(0, 0)),
+    Line::Runs(Given::Movall(0, 3)),
+    Line::Shows(3, Some((8200, 0xa0))),
+    Line::Runs(Given::Int(16, 1)),
+    Line::Runs(Given::Clear(16, 1)),
+    Line::Runs(Given::Mapc(2, 1)),
+    Line::Delivers(16, 1, 1, 8200),
+    Line::Runs(Given::Mapc(2, 1)),
+    Line::Shows(1, Some((8200, 0xa0))),
+    Line::Runs(Given::Discard(16, 1)),
+    Line::Shows(1, Some((8201, 0xb0))),
+    Line::Drops(16, 1, Cause::NoEvent),
+    Line::Runs(Given::Unmapc(2)),
+    Line::Drops(16, 2, Cause::NoCollection),
+    Line::Runs(Given::Discard(16, 2)),
+    Line::Shows(1, Some((8201, 0xb0))),
+    Line::Runs(Given::Unmapc(5)),
+    Line::Runs(Given::Sync(1)),
+    Line::Runs(Given::Mapti(16, 1, 8200, 1)),
+    Line::Runs(Given::Mapd(16, 6, ITT)),
+    Line::Drops(16, 1, Cause::NoEvent),
+    Line::Runs(Given::Mapti(16, 33, 8200, 1)),
+    Line::Delivers(16, 33, 2, 8200),
+    Line::Runs(Given::Unmapd(16)),
+    Line::Drops(16, 33, Cause::NoDevice),
+    Line::Takes(2, Some((8200, 0xa0))),
+    Line::Runs(Given::Unmapd(16)),
+];
+
 #[test]
 fn commands_that_run(rt: HostRuntime) -> Result<(), Fail> {
-    let one = EventId(1);
-    let ran = StepReply::Ran;
-    let lines = [
-        (mapd(16, 5, true), ran(Op::Mapd)),
-        (mapc(1, 2, true), ran(Op::Mapc)),
-        (mapc(2, 0, true), ran(Op::Mapc)),
-        (mapti(16, 1, 8200, 1), ran(Op::Mapti)),
-        (mapti(16, 2, 8201, 2), ran(Op::Mapti)),
-        (mapti(16, 1, 8201, 2), ran(Op::Mapti)),
-        (
-            Command::Movi {
-                dev: DEVICE,
-                ev: one,
-                icid: Icid(2),
-            },
-            ran(Op::Movi),
-        ),
-        (movall(0, 3), ran(Op::Movall)),
-        (
-            Command::Int {
-                dev: DEVICE,
-                ev: one,
-            },
-            ran(Op::Int),
-        ),
-        (
-            Command::Clear {
-                dev: DEVICE,
-                ev: one,
-            },
-            ran(Op::Clear),
-        ),
-        (mapc(2, 1, true), ran(Op::Mapc)),
-        (
-            Command::Inv {
-                dev: DEVICE,
-                ev: one,
-            },
-            ran(Op::Inv),
-        ),
-        (Command::Invall { icid: Icid(2) }, ran(Op::Invall)),
-        (
-            Command::Discard {
-                dev: DEVICE,
-                ev: one,
-            },
-            ran(Op::Discard),
-        ),
-        (mapc(1, 0, false), ran(Op::Mapc)),
-        (
-            Command::Sync {
-                target: RdBase::new(1),
-            },
-            ran(Op::Sync),
-        ),
-        (mapd(16, 6, true), ran(Op::Mapd)),
-        (mapd(16, 6, false), ran(Op::Mapd)),
-    ];
-    assert_eq!(rt; take_commands(rt.alloc(), Profile::One, &lines)?, 18);
-    assert_eq!(rt; take_commands(rt.alloc(), Profile::Two, &lines)?, 18);
+    assert_eq!(rt;
+        take_lines(rt.alloc(), Profile::One, &COMMANDS)?,
+        COMMANDS.len()
+    );
+    assert_eq!(rt;
+        take_lines(rt.alloc(), Profile::Two, &COMMANDS)?,
+        COMMANDS.len()
+    );
+    Ok(())
+}
+
+// An interrupt is known by its configuration byte as it was read last.
+const CONFIGURATIONS: [Line; 25] = [
+    Line::Runs(Given::Mapd(16, 5, ITT)),
+    Line::Runs(Given::Mapd(17, 14, 0x8010_0000)),
+    Line::Runs(Given::Mapc(1, 2)),
+    Line::Runs(Given::Mapc(3, 1)),
+    Line::Runs(Given::Mapti(16, 1, 8200, 1)),
+    Line::Shows(2, Some((8200, 0xa0))),
+    Line::Byte(0x8003_0008, 0x40),
+    Line::Shows(2, Some((8200, 0xa0))),
+    Line::Runs(Given::Inv(16, 1)),
+    Line::Shows(2, None),
+    Line::Takes(2, None),
+    Line::Byte(0x8003_0008, 0xd1),
+    Line::Shows(2, None),
+    Line::Runs(Given::Invall(3)),
+    Line::Shows(2, None),
+    Line::Runs(Given::Invall(1)),
+    Line::Shows(2, Some((8200, 0xd0))),
+    Line::Takes(2, Some((8200, 0xd0))),
+    Line::Byte(0x8003_000a, 0xe1),
+    Line::Runs(Given::Mapi(17, 8202, 3)),
+    Line::Delivers(17, 8202, 1, 8202),
+    Line::Shows(1, Some((8202, 0xe0))),
+    Line::Runs(Given::Mapi(17, 8202, 1)),
+    Line::Delivers(17, 8202, 1, 8202),
+    Line::Takes(1, Some((8202, 0xe0))),
+];
+
+#[test]
+fn configurations_read_again(rt: HostRuntime) -> Result<(), Fail> {
+    assert_eq!(rt;
+        take_lines(rt.alloc(), Profile::One, &CONFIGURATIONS)?,
+        CONFIGURATIONS.len()
+    );
+    assert_eq!(rt;
+        take_lines(rt.alloc(), Profile::Two, &CONFIGURATIONS)?,
+        CONFIGURATIONS.len()
+    );
+    Ok(())
+}
+
+// A collection goes to another target: its pending interrupts stay, or go with it.
+const STAYING: [Line; 5] = [
+    Line::Runs(Given::Mapd(16, 5, ITT)),
+    Line::Runs(Given::Mapc(1, 2)),
+    Line::Runs(Given::Mapti(16, 1, 8200, 1)),
+    Line::Runs(Given::Mapc(1, 3)),
+    Line::Shows(2, Some((8200, 0xa0))),
+];
+
+const GOING: [Line; 6] = [
+    Line::Runs(Given::Mapd(16, 5, ITT)),
+    Line::Runs(Given::Mapc(1, 2)),
+    Line::Runs(Given::Mapti(16, 1, 8200, 1)),
+    Line::Runs(Given::Mapc(1, 3)),
+    Line::Shows(2, None),
+    Line::Shows(3, Some((8200, 0xa0))),
+];
+
+#[test]
+fn collections_moved(rt: HostRuntime) -> Result<(), Fail> {
+    assert_eq!(rt;
+        take_lines(rt.alloc(), Profile::One, &STAYING)?,
+        STAYING.len()
+    );
+    assert_eq!(rt; take_lines(rt.alloc(), Profile::Two, &GOING)?, GOING.len());
     Ok(())
 }
