@@ -33,11 +33,12 @@ pub ran_more : (last : ℕ) (first : Plain) (legs : List Leg) (hs : List (List E
 ran_more last first [] [] now leg left h r fits is can = not_empty leg left r.1
 ran_more last first [] (g ∷ hs) now leg left h r fits is can = absurd r
 ran_more last first (l ∷ legs) [] now leg left h r fits is can =
-    let same : leg ≡ l = head_of leg l left legs r.1 in
-    (subst (λ (k : Leg). call_count k ≤ last) same fits,
-    subst (λ (u : Plain). IsLegRun u l h) r.0 (subst (λ (k : Leg). IsLegRun now k h) same is),
-    subst (λ (u : Plain). IsSavable (after u h)) r.0 can,
-    (ap (λ (u : Plain). moved (after u h)) r.0, rest_of leg l left legs r.1))
+    let same : leg ≡ l = head_of leg l left legs r.1 in (
+      subst (λ (k : Leg). call_count k ≤ last) same fits,
+      subst (λ (u : Plain). IsLegRun u l h) r.0 (subst (λ (k : Leg). IsLegRun now k h) same is),
+      subst (λ (u : Plain). IsSavable (after u h)) r.0 can,
+      (ap (λ (u : Plain). moved (after u h)) r.0, rest_of leg l left legs r.1),
+    )
 ran_more last first (l ∷ legs) (g ∷ hs) now leg left h r fits is can = (r.0, r.1, r.2, ran_more last (moved (after first g)) legs hs now leg left h r.3 fits is can)
 
 pub migrated_more : (last : ℕ) (first : Plain) (legs : List Leg) (hs : List (List Entry)) (now : Plain) (leg : Leg) (left : List Leg) (h : List Entry)

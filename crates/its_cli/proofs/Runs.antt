@@ -77,14 +77,16 @@ is_whole last before now leg number end lines pending old new e texts added =
     let now_is : now ≡ after before h = ap (λ (o : Outcome). o.state) e ∙ played_state last before 0 turns in
     let lines_are : lines ≡ history_lines (seat_of (counts_of leg)) 0 h = ap (λ (o : Outcome). o.lines) e ∙ leg_lines last before leg in
     let texts_are : pending ≡ map report.pending_text (pending_lists (after before h)) = texts ∙ ap (λ u. map report.pending_text (pending_lists u)) now_is in
-    let count = ((played_count last before 0 turns (omega arith)).0 spent).1 in
-    (record {
-      history = h;
-      is_run = leg_run last before leg spent;
-      places = omega (arith, count, leg_counted 1 1 leg);
-      added = added ∙ ap (λ (ls : List EntryLine). old ++ report.leg_text number (record { entries = ls; pending = pending; end = end })) lines_are
-          ∙ ap (λ (ts : List (List ℕ)). old ++ report.leg_text number (record { entries = history_lines (seat_of (counts_of leg)) 0 h; pending = ts; end = end })) texts_are;
-    }, now_is)
+    let count = ((played_count last before 0 turns (omega arith)).0 spent).1 in (
+      record {
+        history = h;
+        is_run = leg_run last before leg spent;
+        places = omega (arith, count, leg_counted 1 1 leg);
+        added = added ∙ ap (λ (ls : List EntryLine). old ++ report.leg_text number (record { entries = ls; pending = pending; end = end })) lines_are
+            ∙ ap (λ (ts : List (List ℕ)). old ++ report.leg_text number (record { entries = history_lines (seat_of (counts_of leg)) 0 h; pending = ts; end = end })) texts_are;
+      },
+      now_is,
+    )
 
 pub is_spent : (last : ℕ) (before now : Plain) (leg : Leg) (number : ℕ) (lines : List EntryLine) (old new : List ℕ) (e : Ending)
     → made lines now true ≡ appended [] (outcome last before 0 (leg_turns 1 1 leg)) → IsSpentEnding number lines old new e → IsLegSpent last before leg number old new (string_bytes e.line)

@@ -2,7 +2,6 @@
 use crate::examples::{MACHINE, MAPPED, ends, reports};
 use crate::status::Status;
 
-
 #[test]
 fn a_pending_interrupt_is_migrated(rt: HostRuntime) {
     let body = "signal 0x10 3
@@ -248,7 +247,12 @@ vcpu 3 pending none
 refused migration 2 overlap itt 16 itt 17
 ";
     assert_eq!(rt;
-        ends(rt.alloc(), [MACHINE, MAPPED, body, ""], Status::MigrationRefused, lines),
+        ends(
+            rt.alloc(),
+            [MACHINE, MAPPED, body, ""],
+            Status::MigrationRefused,
+            lines
+        ),
         Some(true)
     );
 }

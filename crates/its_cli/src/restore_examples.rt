@@ -158,7 +158,12 @@ vcpu 3 pending none
 refused migration 1 overlap page 0 page 1
 ";
     assert_eq!(rt;
-        ends(rt.alloc(), [MACHINE, words, body, ""], Status::MigrationRefused, text),
+        ends(
+            rt.alloc(),
+            [MACHINE, words, body, ""],
+            Status::MigrationRefused,
+            text
+        ),
         Some(true)
     );
 }

@@ -39,6 +39,9 @@ loop-threads-preserved c =
     record {
       few = next.1;
       phase = omega (arith, l.invariant.phase);
-      plays = (pass + length threads, plays_on c.args.last l.lines.items new.lines.items l.machine new.machine turns rest whole came
-          (ap (λ (ts : List Turn). appended l.lines.items (outcome c.args.last l.machine (length l.lines.items) ts)) (sym front) ∙ l.invariant.plays.1));
+      plays = (
+        pass + length threads,
+        plays_on c.args.last l.lines.items new.lines.items l.machine new.machine turns rest whole came
+            (ap (λ (ts : List Turn). appended l.lines.items (outcome c.args.last l.machine (length l.lines.items) ts)) (sym front) ∙ l.invariant.plays.1),
+      );
     }
