@@ -3,4 +3,7 @@ pub mod Playing
 pub mod Turns
 pub mod Playeds
 pub mod Runs
+pub mod Migrations
+pub mod Scripts
+pub mod Endings
 pub mod Causes

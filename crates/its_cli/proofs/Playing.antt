@@ -61,6 +61,24 @@ pub plays_no_more : (last : ℕ) (cur new : List EntryLine) (s v : Plain) (xs ys
 plays_no_more last cur new s v xs ys whole e so_far =
     sym (stopped last cur new v (outcome last s (length cur) xs) ys e) ∙ ap (appended cur) (sym (outcome-append last s (length cur) xs ys)) ∙ so_far
 
+-- ---- what comes of turns doesn't depend on passes
+
+pub thread_pass : (last p q phase thread : ℕ) (calls : List Call) (u : Plain) (n : ℕ) → outcome last u n (thread_turns p phase thread calls) ≡ outcome last u n (thread_turns q phase thread calls)
+thread_pass last p q phase thread [] u n = refl
+thread_pass last p q phase thread (c ∷ calls) u n =
+    let t : Turn = record { pass = q; phase = phase; thread = thread; call = c } in
+    ap (λ (o : Outcome). cond (nat_lt n last) (appended (turn_line u n t ∷ []) o) (made [] u true)) (thread_pass last p q phase thread calls (next_state u t) (n + 1))
+
+pub phase_pass : (last p q phase thread : ℕ) (threads : List (List Call)) (u : Plain) (n : ℕ) → outcome last u n (phase_turns p phase thread threads) ≡ outcome last u n (phase_turns q phase thread threads)
+phase_pass last p q phase thread [] u n = refl
+phase_pass last p q phase thread (calls ∷ threads) u n =
+    let rest = phase_turns (p + 1) phase (thread + 1) threads in
+    let o = outcome last u n (thread_turns q phase thread calls) in
+    outcome-append last u n (thread_turns p phase thread calls) rest
+    ∙ ap (λ (x : Outcome). joined last n x rest) (thread_pass last p q phase thread calls u n)
+    ∙ ap (λ (x : Outcome). cond o.spent o (appended o.lines x)) (phase_pass last (p + 1) (q + 1) phase (thread + 1) threads o.state (n + length o.lines))
+    ∙ sym (outcome-append last u n (thread_turns q phase thread calls) (phase_turns (q + 1) phase (thread + 1) threads))
+
 -- ---- the next of several
 
 pub phase_front : (pass phase thread named i : ℕ) (threads : List (List Call)) (t calls : List Call) → i < length threads → t ≡ get_or threads i t → calls ≡ t → named ≡ phase

@@ -1,57 +1,121 @@
--- What was answered to some bytes, and to what a source says.
-use Rattle.std.specs.Prelude.{◌≡◌, ℕ, ◌+◌, ◌<◌, List, [], ◌∷◌, ◌++◌, length, map, codes, Option, Some, None}
+-- What was answered to a leg, to a script, to some bytes, and to what a source says: a report, and the line of a refusal behind it.
+use Rattle.std.specs.Prelude.{◌≡◌, ◌⊎◌, ℕ, ◌<◌, ◌≤◌, List, [], ◌∷◌, ◌++◌, length, codes, Option, Some, None, Ok, Err}
 use Rattle.std.specs.String.{string_bytes}
 use Rattle.its_plain.specs.Plain.{Plain}
-use Rattle.its_plain.specs.Runs.{Leg, IsRun, IsPartOfLegRun}
+use Rattle.its_plain.specs.History.{after}
+use Rattle.its_plain.specs.Regions.{savable}
+use Rattle.its_plain.specs.Saved.{moved, IsSavable}
+use Rattle.its_plain.specs.Runs.{Leg, IsLegRun, IsPartOfLegRun, IsPartialRun}
 use Rattle.its_plain.specs.declared.call.Entry.{Entry}
+use Rattle.its_plain.specs.declared.fault.SaveFault.{SaveFault}
 use Rattle.event_script.specs.declared.script.Script.{Script}
-use Rattle.its_history.specs.Report as report
-use Rattle.its_history.specs.declared.trace.End.TheVariants.{Done}
+use Rattle.its_history.specs.Merged.{open_leg}
+use Rattle.its_history.specs.Report.{leg_text, report_text}
+use Rattle.its_history.specs.declared.trace.End.{End}
+use Rattle.its_history.specs.declared.trace.End.TheVariants.{Migrated, Done}
 use Rattle.its_history.specs.declared.trace.EntryLine.{EntryLine}
-use Rattle.its_history.specs.declared.trace.Leg.{Leg as LegLines}
-use Rattle.its_cli.specs.Its.{RunCauses, IsReport, IsScriptRefusal, IsMachineRefusal, IsSpentReport, HasPlaces, reported, cut_leg, call_count, pending_lists}
+use Rattle.its_cli.specs.Legs.{call_count, HaveRun}
+use Rattle.its_cli.specs.Reports.{migrated, ended, cut_leg}
+use Rattle.its_cli.specs.Refusals.{spent_refusal, migration_refusal}
+use Rattle.its_cli.specs.Its.{RunCauses, OfScript, IsReport, IsScriptRefusal, IsMachineRefusal, IsMigrationRefusal, IsSpentReport}
 use Rattle.its_cli.specs.declared.its.Answer.{Answer}
 use Rattle.its_cli.specs.declared.its.Answer.TheVariants.{Answered, Refused}
-use Rattle.its_cli.specs.declared.said.Said.{Said}
+use Rattle.its_cli.specs.declared.legs.Ending.{Ending}
 use Rattle.its_cli.specs.declared.status.Status.{Status}
 use Rattle.its_cli.specs.declared.status.Status.TheVariants as status
 
--- ---- a run
+-- ---- a leg with a number, from a state on, and what its text makes of a report
 
--- the lines of the one leg, and what is pending at its end
-abbrev pub done_leg : List EntryLine → Plain → LegLines
-done_leg lines u = record { entries = lines; pending = map report.pending_text (pending_lists u); end = Some Done }
-
-pub record IsWhole (script : Script) (first : Plain) (text : List ℕ) : Type 0 where
-  pub histories : List (List Entry)
-  pub is_run : IsRun first script.legs histories
-  pub places : HasPlaces script.desc.limits.place_last script.legs
-  pub same : text ≡ report.report_text (reported first script.legs histories)
-
-pub record IsSpent (script : Script) (first : Plain) (text : List ℕ) : Type 0 where
-  pub leg : Leg
-  pub legs : List Leg
-  pub legs_are : script.legs ≡ leg ∷ legs
+-- it was made up to the last place, and a call is left
+pub record IsLegSpent (last : ℕ) (before : Plain) (leg : Leg) (number : ℕ) (old new line : List ℕ) : Type 0 where
   pub history : List Entry
-  pub is_part : IsPartOfLegRun first leg history
-  pub all_places : length history ≡ script.desc.limits.place_last
-  pub more : script.desc.limits.place_last < call_count leg
-  pub same : text ≡ report.leg_text 1 (cut_leg leg history) ++ codes "refused spent 1\n"
+  pub is_part : IsPartOfLegRun before leg history
+  pub all_places : length history ≡ last
+  pub more : last < call_count leg
+  pub added : new ≡ old ++ leg_text number (cut_leg leg history)
+  pub line_is : line ≡ spent_refusal number
 
--- how a script's run from its first state ended
+-- all its calls were made
+pub record IsLegWhole (last : ℕ) (before : Plain) (leg : Leg) (number : ℕ) (end : Option End) (old new : List ℕ) : Type 0 where
+  pub history : List Entry
+  pub is_run : IsLegRun before leg history
+  pub places : call_count leg ≤ last
+  pub added : new ≡ old ++ leg_text number (ended before leg history end)
+
+-- and the machine was migrated
+pub record IsLegMigrated (last : ℕ) (before now : Plain) (leg : Leg) (number : ℕ) (old new : List ℕ) : Type 0 where
+  pub whole : IsLegWhole last before leg number (Some Migrated) old new
+  pub can : IsSavable (after before whole.history)
+  pub now_is : now ≡ moved (after before whole.history)
+
+-- and the state after it can't be saved
+pub record IsLegRefused (last : ℕ) (before : Plain) (leg : Leg) (number : ℕ) (old new line : List ℕ) : Type 0 where
+  pub whole : IsLegWhole last before leg number None old new
+  pub fault : SaveFault
+  pub refused : savable (after before whole.history) ≡ Err fault
+  pub line_is : line ≡ migration_refusal number fault
+
+-- it was the last
+pub record IsLegDone (last : ℕ) (before : Plain) (leg : Leg) (number : ℕ) (old new line : List ℕ) : Type 0 where
+  pub whole : IsLegWhole last before leg number (Some Done) old new
+  pub line_is : line ≡ []
+
+abbrev pub LegStops : ℕ → Plain → Leg → ℕ → List ℕ → List ℕ → Status → List ℕ → Type 0
+LegStops last before leg number old new status.MigrationRefused line = IsLegRefused last before leg number old new line
+LegStops last before leg number old new status.Spent line = IsLegSpent last before leg number old new line
+LegStops last before leg number old new _ line = ⊥
+
+-- what comes of one that isn't the last: the run goes on, or it ends here
+abbrev pub LegGoes : ℕ → Plain → Plain → Leg → ℕ → List ℕ → List ℕ → Option Ending → Type 0
+LegGoes last before now leg number old new None = IsLegMigrated last before now leg number old new
+LegGoes last before now leg number old new (Some e) = LegStops last before leg number old new e.status (string_bytes e.line)
+
+-- what comes of the last
+abbrev pub LegEnds : ℕ → Plain → Leg → ℕ → List ℕ → List ℕ → Status → List ℕ → Type 0
+LegEnds last before leg number old new status.Ok line = IsLegDone last before leg number old new line
+LegEnds last before leg number old new status.Spent line = IsLegSpent last before leg number old new line
+LegEnds last before leg number old new _ line = ⊥
+
+abbrev pub LegIsLast : ℕ → Plain → Leg → ℕ → List ℕ → List ℕ → Ending → Type 0
+LegIsLast last before leg number old new e = LegEnds last before leg number old new e.status (string_bytes e.line)
+
+-- the entries of a leg that was cut were told
+pub record IsSpentEnding (number : ℕ) (lines : List EntryLine) (old new : List ℕ) (e : Ending) : Type 0 where
+  pub status_is : e.status ≡ status.Spent
+  pub added : new ≡ old ++ leg_text number (open_leg lines)
+  pub line_is : string_bytes e.line ≡ spent_refusal number
+
+-- ---- a script
+
+-- how its run from its first state ended
 abbrev pub RunEnds : Script → Plain → Status → List ℕ → Type 0
-RunEnds script first status.Ok text = IsWhole script first text
-RunEnds script first status.Spent text = IsSpent script first text
+RunEnds script first status.Ok text = IsReport script first text
+RunEnds script first status.MigrationRefused text = IsMigrationRefusal script first text
+RunEnds script first status.Spent text = IsSpentReport script first text
 RunEnds script first _ text = ⊥
+
+-- the reports of first legs that were migrated
+pub record IsSoFar (script : Script) (first : Plain) (report : List ℕ) : Type 0 where
+  pub histories : List (List Entry)
+  pub now : Plain
+  pub leg : Leg
+  pub later : List Leg
+  pub earlier : HaveRun script.desc.limits.place_last first script.legs histories now (leg ∷ later)
+  pub same : report ≡ report_text (migrated first script.legs histories)
 
 -- ---- some bytes
 
 abbrev pub InputCauses : List ℕ → Status → List ℕ → Type 0
-InputCauses input status.Ok text = IsReport input text
+InputCauses input status.Ok text = OfScript IsReport input text
 InputCauses input status.ScriptRefused text = IsScriptRefusal input text
 InputCauses input status.MachineRefused text = IsMachineRefusal input text
-InputCauses input status.Spent text = IsSpentReport input text
+InputCauses input status.MigrationRefused text = OfScript IsMigrationRefusal input text
+InputCauses input status.Spent text = OfScript IsSpentReport input text
 InputCauses input _ text = ⊥
+
+-- memory ran out before a script's run, or in a leg
+abbrev pub StopsShort : List ℕ → List ℕ → Type 0
+StopsShort input report = (report ≡ []) ⊎ OfScript IsSoFar input report
 
 -- ---- a source
 
@@ -63,11 +127,11 @@ refusal_text status.Memory = codes "refused memory\n"
 refusal_text status.TooLong = codes "refused long\n"
 refusal_text _ = []
 
-abbrev pub AnswerIsCaused : Option (List ℕ) → Type 0 → Answer → Type 0
-AnswerIsCaused told rose (Answered said) = RunCauses told rose said.status (string_bytes said.text)
-AnswerIsCaused told rose (Refused s) = RunCauses told rose s (refusal_text s)
+abbrev pub AnswerIsCaused : Option (List ℕ) → Type 0 → List ℕ → Answer → Type 0
+AnswerIsCaused told rose report (Answered e) = RunCauses told rose e.status (report ++ string_bytes e.line)
+AnswerIsCaused told rose report (Refused s) = RunCauses told rose s (report ++ refusal_text s)
 
 -- the command may end well
 abbrev pub MayEndWell : Answer → Type 0
-MayEndWell (Answered said) = Unit {0}
+MayEndWell (Answered e) = Unit {0}
 MayEndWell (Refused s) = s ≡ status.Ok

@@ -1,26 +1,22 @@
 -- What the command prints, and why.
-use Rattle.std.specs.Prelude.{◌≡◌, ◌⊎◌, ℕ, ◌+◌, ◌<◌, ◌≤◌, Bool, true, false, ◌&&◌, ◌==◌, List, [], ◌∷◌, ◌++◌, length, map, codes, slice_index_or, sum_by, Option, Some, None, Ok, Err, IfSome, MatchBool}
-use Rattle.std.specs.Fmt.{decimal}
+use Rattle.std.specs.Prelude.{◌≡◌, ◌⊎◌, ℕ, ◌+◌, ◌<◌, ◌≤◌, Bool, true, false, ◌&&◌, ◌==◌, List, [], ◌∷◌, ◌++◌, length, codes, slice_index_or, Option, None, Ok, Err, IfSome, MatchBool}
 use Rattle.std.specs.Str.{bytes_eq}
-use Rattle.its_plain.specs.Plain.{Plain, Redistributor}
+use Rattle.its_plain.specs.Plain.{Plain}
 use Rattle.its_plain.specs.History.{after}
-use Rattle.its_plain.specs.Machine.{made}
-use Rattle.its_plain.specs.Saved.{moved}
-use Rattle.its_plain.specs.Runs.{Leg, IsRun, IsPartOfLegRun}
+use Rattle.its_plain.specs.Described.{IsFirstState, IsRefused}
+use Rattle.its_plain.specs.Regions.{savable}
+use Rattle.its_plain.specs.Runs.{Leg, IsRun, IsLegRun, IsPartOfLegRun, IsPartialRun}
 use Rattle.its_plain.specs.declared.call.Entry.{Entry}
 use Rattle.its_plain.specs.declared.desc.DescFault.{DescFault}
-use Rattle.its_plain.specs.declared.desc.DescFault.TheVariants as desc_fault
+use Rattle.its_plain.specs.declared.fault.SaveFault.{SaveFault}
 use Rattle.event_script.specs.Script.{script_of}
-use Rattle.event_script.specs.declared.fault.Kind.{Kind}
-use Rattle.event_script.specs.declared.fault.Kind.TheVariants as kind
 use Rattle.event_script.specs.declared.fault.ScriptFault.{ScriptFault}
 use Rattle.event_script.specs.declared.script.Script.{Script}
-use Rattle.its_history.specs.Histories.{history_lines, leg_of, seat_of}
-use Rattle.its_history.specs.Merged.{open_leg}
-use Rattle.its_history.specs.Report as report
-use Rattle.its_history.specs.declared.trace.End.TheVariants.{Migrated, Done}
-use Rattle.its_history.specs.declared.trace.Leg.{Leg as LegLines}
+use Rattle.its_history.specs.Report.{report_text}
 use Rattle.its_cli.specs.Streams.{Tells}
+use Rattle.its_cli.specs.Legs.{call_count, HasPlaces, HaveRun, CanMigrate, AllEnd}
+use Rattle.its_cli.specs.Reports.{reported, migrated, ended, cut_leg}
+use Rattle.its_cli.specs.Refusals.{script_refusal, machine_refusal, spent_refusal, migration_refusal}
 use Rattle.its_cli.specs.declared.status.Status.{Status}
 use Rattle.its_cli.specs.declared.status.Status.TheVariants as status
 
@@ -28,80 +24,12 @@ use Rattle.its_cli.specs.declared.status.Status.TheVariants as status
 abbrev pub is_run_command : List (List ℕ) → Bool
 is_run_command words = length words == 2 && bytes_eq (slice_index_or words 1 []) (codes "run")
 
--- ---- reports
-
--- how many threads each phase has
-abbrev pub thread_counts : Leg → List ℕ
-thread_counts leg = map (λ threads. length threads) leg
-
--- how many calls a leg has
-abbrev pub call_count : Leg → ℕ
-call_count leg = sum_by (λ threads. sum_by (λ calls. length calls) threads) leg
-
-abbrev pub pending_lists : Plain → List (List ℕ)
-pending_lists u = map (λ (r : Redistributor). r.pending) u.redistributors
-
--- the legs of a report: each with its history, and with what is pending at its end
-abbrev pub reported : Plain → List Leg → List (List Entry) → List LegLines
-reported first (leg ∷ []) (h ∷ hs) = leg_of (thread_counts leg) h (pending_lists (after first h)) (Some Done) ∷ []
-reported first (leg ∷ next ∷ legs) (h ∷ hs) = leg_of (thread_counts leg) h (pending_lists (after first h)) (Some Migrated) ∷ reported (moved (after first h)) (next ∷ legs) hs
-reported first _ _ = []
-
--- the entries of a history alone
-abbrev pub cut_leg : Leg → List Entry → LegLines
-cut_leg leg h = open_leg (history_lines (seat_of (thread_counts leg)) 0 h)
-
--- ---- refusals
-
-unfoldable pub kind_text : Kind → List ℕ
-kind_text kind.Cut = codes "cut"
-kind_text kind.Text = codes "text"
-kind_text kind.Word = codes "word"
-kind_text kind.Order = codes "order"
-kind_text kind.Missing = codes "missing"
-kind_text kind.Fields = codes "fields"
-kind_text kind.Number = codes "number"
-kind_text kind.Hex = codes "hex"
-kind_text kind.Many = codes "many"
-
-unfoldable pub script_refusal : ScriptFault → List ℕ
-script_refusal fault = codes "refused script " ++ decimal fault.line ++ codes " " ++ kind_text fault.kind ++ codes "\n"
-
-unfoldable pub cause_text : DescFault → List ℕ
-cause_text desc_fault.Windows = codes "windows"
-cause_text desc_fault.Config = codes "config"
-cause_text (desc_fault.Pending vcpu) = codes "pending " ++ decimal vcpu.0
-cause_text (desc_fault.Bytes line) = codes "bytes " ++ decimal line
-
-unfoldable pub machine_refusal : DescFault → List ℕ
-machine_refusal fault = codes "refused machine " ++ cause_text fault ++ codes "\n"
-
--- ---- causes
+-- ---- some bytes
 
 -- what was read, where the source tells it, with at most so many bytes
 pub record WasRead (told : Option (List ℕ)) (input : List ℕ) : Type 0 where
   pub whole : Tells told input
   pub short : length input ≤ 16777216
-
--- the bytes are a script, whose description makes this first state
-pub record IsScript (input : List ℕ) (script : Script) (first : Plain) : Type 0 where
-  pub read : script_of input ≡ Ok script
-  pub made : made script.desc ≡ Ok first
-
--- no leg has more calls than there are places
-abbrev pub HasPlaces : ℕ → List Leg → Type 0
-HasPlaces last [] = Unit {0}
-HasPlaces last (leg ∷ legs) = (call_count leg ≤ last) × HasPlaces last legs
-
--- the report of a run of the script that the bytes are
-pub record IsReport (input text : List ℕ) : Type 0 where
-  pub script : Script
-  pub first : Plain
-  pub is_script : IsScript input script first
-  pub histories : List (List Entry)
-  pub is_run : IsRun first script.legs histories
-  pub places : HasPlaces script.desc.limits.place_last script.legs
-  pub same : text ≡ report.report_text (reported first script.legs histories)
 
 pub record IsScriptRefusal (input text : List ℕ) : Type 0 where
   pub fault : ScriptFault
@@ -112,38 +40,90 @@ pub record IsMachineRefusal (input text : List ℕ) : Type 0 where
   pub script : Script
   pub fault : DescFault
   pub read : script_of input ≡ Ok script
-  pub made : made script.desc ≡ Err fault
+  pub refused : IsRefused script.desc fault
   pub same : text ≡ machine_refusal fault
 
--- the first leg's calls up to the last place, and one more that has none
-pub record IsSpentReport (input text : List ℕ) : Type 0 where
+-- the bytes are a script, whose description makes a machine that starts in this state
+pub record IsScript (input : List ℕ) (script : Script) (first : Plain) : Type 0 where
+  pub read : script_of input ≡ Ok script
+  pub starts : IsFirstState script.desc first
+
+-- the text says something of that script's run
+pub record OfScript (Says : Script → Plain → List ℕ → Type 0) (input text : List ℕ) : Type 0 where
   pub script : Script
   pub first : Plain
   pub is_script : IsScript input script first
+  pub says : Says script first text
+
+-- ---- a script's run
+
+-- the report of a run of all legs
+pub record IsReport (script : Script) (first : Plain) (text : List ℕ) : Type 0 where
+  pub histories : List (List Entry)
+  pub is_run : IsRun first script.legs histories
+  pub places : HasPlaces script.desc.limits.place_last script.legs
+  pub same : text ≡ report_text (reported first script.legs histories)
+
+-- the reports of first legs that were migrated, then the calls of the next one up to the last place, where a call is left
+pub record IsSpentReport (script : Script) (first : Plain) (text : List ℕ) : Type 0 where
+  pub histories : List (List Entry)
+  pub now : Plain
   pub leg : Leg
-  pub legs : List Leg
-  pub legs_are : script.legs ≡ leg ∷ legs
+  pub later : List Leg
+  pub earlier : HaveRun script.desc.limits.place_last first script.legs histories now (leg ∷ later)
   pub history : List Entry
-  pub is_part : IsPartOfLegRun first leg history
+  pub is_part : IsPartOfLegRun now leg history
+  pub partial : IsPartialRun first script.legs (histories ++ history ∷ [])
   pub all_places : length history ≡ script.desc.limits.place_last
   pub more : script.desc.limits.place_last < call_count leg
-  pub same : text ≡ report.leg_text 1 (cut_leg leg history) ++ codes "refused spent 1\n"
+  pub same : text ≡ report_text (migrated first script.legs histories ++ cut_leg leg history ∷ []) ++ spent_refusal (length histories + 1)
+
+-- the reports of first legs that were migrated, then the next one whole; it isn't the last, and the state after it can't be saved
+pub record IsMigrationRefusal (script : Script) (first : Plain) (text : List ℕ) : Type 0 where
+  pub histories : List (List Entry)
+  pub now : Plain
+  pub leg : Leg
+  pub next : Leg
+  pub later : List Leg
+  pub earlier : HaveRun script.desc.limits.place_last first script.legs histories now (leg ∷ next ∷ later)
+  pub history : List Entry
+  pub is_run : IsLegRun now leg history
+  pub partial : IsPartialRun first script.legs (histories ++ history ∷ [])
+  pub places : call_count leg ≤ script.desc.limits.place_last
+  pub fault : SaveFault
+  pub refused : savable (after now history) ≡ Err fault
+  pub same : text ≡ report_text (migrated first script.legs histories ++ ended now leg history None ∷ []) ++ migration_refusal (length histories + 1) fault
+
+-- the reports of first legs that were migrated, and nothing of the next one
+pub record IsCutShort (script : Script) (first : Plain) (text : List ℕ) : Type 0 where
+  pub histories : List (List Entry)
+  pub now : Plain
+  pub leg : Leg
+  pub later : List Leg
+  pub earlier : HaveRun script.desc.limits.place_last first script.legs histories now (leg ∷ later)
+  pub partial : IsPartialRun first script.legs (histories ++ [] ∷ [])
+  pub same : text ≡ report_text (migrated first script.legs histories) ++ codes "refused memory\n"
+
+-- ---- causes
 
 -- what reading and running come to at each status, and the text
 abbrev pub RunCauses : Option (List ℕ) → Type 0 → Status → List ℕ → Type 0
-RunCauses told rose status.Ok text = (input : List ℕ) × (WasRead told input × IsReport input text)
+RunCauses told rose status.Ok text = (input : List ℕ) × (WasRead told input × OfScript IsReport input text)
 RunCauses told rose status.ScriptRefused text = (input : List ℕ) × (WasRead told input × IsScriptRefusal input text)
 RunCauses told rose status.WordsRefused text = ⊥
 RunCauses told rose status.ReadFault text = rose × (text ≡ codes "refused read\n")
 RunCauses told rose status.WriteFault text = ⊥
-RunCauses told rose status.Memory text = text ≡ codes "refused memory\n"
+RunCauses told rose status.Memory text = (text ≡ codes "refused memory\n") ⊎ ((input : List ℕ) × (WasRead told input × OfScript IsCutShort input text))
 RunCauses told rose status.MachineRefused text = (input : List ℕ) × (WasRead told input × IsMachineRefusal input text)
-RunCauses told rose status.Spent text = (input : List ℕ) × (WasRead told input × IsSpentReport input text)
+RunCauses told rose status.MigrationRefused text = (input : List ℕ) × (WasRead told input × OfScript IsMigrationRefusal input text)
+RunCauses told rose status.Spent text = (input : List ℕ) × (WasRead told input × OfScript IsSpentReport input text)
 RunCauses told rose status.TooLong text = IfSome told (λ all. 16777216 < length all) × (text ≡ codes "refused long\n")
 
 -- what each status says of the words, of what the source tells and of its count of faults, and the text that is printed
 abbrev pub Causes : List (List ℕ) → Option (List ℕ) → Type 0 → Status → List ℕ → Type 0
 Causes words told rose s text = MatchBool (is_run_command words) (RunCauses told rose s text) ((s ≡ status.WordsRefused) × (text ≡ codes "refused words\n"))
+
+-- ---- what decides
 
 -- the status, unless memory ran out
 abbrev pub Ends : Status → Status → Type 0
@@ -154,6 +134,7 @@ pub record IsDecided (words : List (List ℕ)) (input : List ℕ) (s : Status) :
   pub words_refused : is_run_command words ≡ false → s ≡ status.WordsRefused
   pub too_long : is_run_command words ≡ true → 16777216 < length input → Ends s status.TooLong
   pub script_refused : is_run_command words ≡ true → length input ≤ 16777216 → (fault : ScriptFault) → script_of input ≡ Err fault → Ends s status.ScriptRefused
-  pub machine_refused : is_run_command words ≡ true → length input ≤ 16777216 → (script : Script) (fault : DescFault) → script_of input ≡ Ok script → made script.desc ≡ Err fault → Ends s status.MachineRefused
-  pub spent : is_run_command words ≡ true → length input ≤ 16777216 → (script : Script) (first : Plain) → IsScript input script first → (HasPlaces script.desc.limits.place_last script.legs → ⊥) → Ends s status.Spent
-  pub complete : is_run_command words ≡ true → length input ≤ 16777216 → (script : Script) (first : Plain) → IsScript input script first → HasPlaces script.desc.limits.place_last script.legs → Ends s status.Ok
+  pub machine_refused : is_run_command words ≡ true → length input ≤ 16777216 → (script : Script) (fault : DescFault) → script_of input ≡ Ok script → IsRefused script.desc fault → Ends s status.MachineRefused
+  pub spent : is_run_command words ≡ true → length input ≤ 16777216 → (script : Script) (first : Plain) → IsScript input script first → AllEnd script.desc.limits.place_last first script.legs status.Spent → Ends s status.Spent
+  pub migration_refused : is_run_command words ≡ true → length input ≤ 16777216 → (script : Script) (first : Plain) → IsScript input script first → AllEnd script.desc.limits.place_last first script.legs status.MigrationRefused → Ends s status.MigrationRefused
+  pub complete : is_run_command words ≡ true → length input ≤ 16777216 → (script : Script) (first : Plain) → IsScript input script first → HasPlaces script.desc.limits.place_last script.legs → CanMigrate first script.legs → Ends s status.Ok

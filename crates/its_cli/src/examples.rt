@@ -54,12 +54,17 @@ pub fn run(alloc: Global, input: &[u8]) -> Option<(Status, SureSink)> {
     Some((status, sink))
 }
 
-/// Whether the run of a script ends with status 0, and its report with these lines.
-pub fn reports(alloc: Global, parts: [&str; 4], lines: &str) -> Option<bool> {
+/// Whether the run of a script ends with this status, and what it prints with these lines.
+pub fn ends(alloc: Global, parts: [&str; 4], expected: Status, lines: &str) -> Option<bool> {
     let input = script(alloc, parts).ok()?;
     let (status, sink) = run(alloc, input.as_bytes())?;
-    let report = sink.bytes()?;
-    Some(status == Status::Ok && report.ends_with(lines.as_bytes()))
+    let printed = sink.bytes()?;
+    Some(status == expected && printed.ends_with(lines.as_bytes()))
+}
+
+/// Whether it ends with status 0, and the report with these lines.
+pub fn reports(alloc: Global, parts: [&str; 4], lines: &str) -> Option<bool> {
+    ends(alloc, parts, Status::Ok, lines)
 }
 
 #[test]

@@ -1,5 +1,5 @@
 //! The top call.
-ghost use Rattle.std.specs.Prelude.{◌≡◌, ◌≢◌, ◌≤◌, ℕ, List, Some, map, take};
+ghost use Rattle.std.specs.Prelude.{◌≡◌, ◌≢◌, ◌≤◌, ◌++◌, ℕ, List, [], Some, map, take};
 ghost use Rattle.std.specs.String.{string_bytes};
 ghost use Rattle.its_io.specs.Bytes.{Appends};
 ghost use Rattle.its_io.specs.Count.{Rose};
@@ -7,9 +7,10 @@ ghost use Rattle.its_cli.specs.Its.{is_run_command, Causes, IsDecided};
 ghost use Rattle.its_cli.specs.Streams.{IsAtEnd};
 ghost use Rattle.its_cli.specs.Answered.{AnswerIsCaused, MayEndWell, refusal_text};
 
-use crate::said::{Said, say};
+use crate::legs::Ending;
+use crate::say::say;
 use crate::status::Status;
-use crate::streams::{ReadAllError, read_all, write_all};
+use crate::streams::{ReadAllError, read_all, write_both};
 use its_io::{Failed, Sink, Source};
 use std::alloc::Global;
 
@@ -19,7 +20,7 @@ const LIMIT: usize = 16_777_216;
 /// What the source says, answered.
 #[derive(Drop)]
 pub enum Answer {
-    Answered(Said),
+    Answered(Ending),
     Refused(Status),
 }
 
@@ -72,12 +73,14 @@ fn command<S: Source, K: Sink>(
 
     ensures to_the_end { result ≡ Status.Ok → IsAtEnd (S.left source.old) (S.left source.new) }
 {
+    let mut report = String::new(alloc);
     if !is_run_command(words) {
-        return print(sink, refusal(Status::WordsRefused), Status::WordsRefused);
+        let status = Status::WordsRefused;
+        return print(sink, &report, refusal(status), status);
     }
-    match run_command(alloc, source) {
-        Answer::Answered(said) => print(sink, said.text.as_str(), said.status),
-        Answer::Refused(status) => print(sink, refusal(status), status),
+    match run_command(alloc, source, &mut report) {
+        Answer::Answered(ending) => print(sink, &report, ending.line.as_str(), ending.status),
+        Answer::Refused(status) => print(sink, &report, refusal(status), status),
     }
 }
 
@@ -88,9 +91,10 @@ fn is_run_command(words: &[String]) -> bool
     words.len() == 2 && words[1].as_str() == "run"
 }
 
-// What the source says, answered.
-fn run_command<S: Source>(alloc: Global, source: &mut S) -> Answer
-    ensures caused { AnswerIsCaused (S.left source.old) (Rose (S.faults source.old) (S.faults source.new)) result }
+// What the source says, answered with a report first, as far as there is one.
+fn run_command<S: Source>(alloc: Global, source: &mut S, report: &mut String) -> Answer
+    requires { string_bytes report.old ≡ [] }
+    ensures caused { AnswerIsCaused (S.left source.old) (Rose (S.faults source.old) (S.faults source.new)) (string_bytes report.new) result }
     ensures later { S.faults source.old ≤ S.faults source.new }
     ensures to_the_end { MayEndWell result → IsAtEnd (S.left source.old) (S.left source.new) }
 {
@@ -100,8 +104,8 @@ fn run_command<S: Source>(alloc: Global, source: &mut S) -> Answer
         Err(ReadAllError::Failed) => return Answer::Refused(Status::ReadFault),
         Err(ReadAllError::TooLong) => return Answer::Refused(Status::TooLong),
     };
-    match say(alloc, &input) {
-        Ok(said) => Answer::Answered(said),
+    match say(alloc, &input, report) {
+        Ok(ending) => Answer::Answered(ending),
         Err(_) => Answer::Refused(Status::Memory),
     }
 }
@@ -119,14 +123,14 @@ fn refusal(status: Status) -> &'static str
     }
 }
 
-// Ends with this status, if the text is printed.
-fn print<K: Sink>(sink: &mut K, text: &str, status: Status) -> Status
+// Ends with this status, if the report and the line behind it are printed.
+fn print<K: Sink>(sink: &mut K, report: &str, line: &str, status: Status) -> Status
     requires { status ≢ Status.WriteFault }
-    ensures printed { result ≢ Status.WriteFault → (result ≡ status) × Appends (K.held sink.old) (K.held sink.new) text.now }
+    ensures printed { result ≢ Status.WriteFault → (result ≡ status) × Appends (K.held sink.old) (K.held sink.new) (report.now ++ line.now) }
     ensures write_fault { result ≡ Status.WriteFault → Rose (K.faults sink.old) (K.faults sink.new)
-        × ((n : ℕ) × Appends (K.held sink.old) (K.held sink.new) (take n text.now)) }
+        × ((n : ℕ) × Appends (K.held sink.old) (K.held sink.new) (take n (report.now ++ line.now))) }
 {
-    match write_all(sink, text.as_bytes()) {
+    match write_both(sink, report.as_bytes(), line.as_bytes()) {
         Ok(()) => status,
         Err(Failed) => Status::WriteFault,
     }

@@ -6,11 +6,17 @@ mod cut_short;
 #[cfg(test)]
 mod examples;
 mod its;
+mod legs;
+#[cfg(test)]
+mod migration_examples;
+mod refusals;
 #[cfg(test)]
 mod registers_examples;
-mod said;
+#[cfg(test)]
+mod restore_examples;
 #[cfg(test)]
 mod saved_examples;
+mod say;
 mod solo;
 mod status;
 mod streams;

@@ -15,6 +15,8 @@ pub enum Status {
     Memory = 5,
     /// The description makes no machine.
     MachineRefused = 6,
+    /// The state after a leg can't be saved, so the machine isn't moved.
+    MigrationRefused = 7,
     /// A leg has more calls than places.
     Spent = 8,
     /// The input is too long.

@@ -120,3 +120,45 @@ fn one_byte_too_many(rt: HostRuntime) -> Result<(), Fail> {
     assert_eq!(rt; sink.bytes(), Some(b"refused long\n".as_slice()));
     Ok(())
 }
+
+#[test]
+fn the_line_behind_a_report_is_not_written(rt: HostRuntime) -> Result<(), Fail> {
+    let alloc = rt.alloc();
+    let input = script(alloc, "limits 1 1\nphase\nthread\nshow 0\nshow 0\nend\n")?;
+    let mut source = SureSource::new(alloc, input.as_bytes())?;
+    let mut sink = MemSink::new(alloc, 64, 64, &[2])?;
+    let status = its(alloc, &words(alloc, "run")?, &mut source, &mut sink);
+    assert_eq!(rt; status, Status::WriteFault);
+    assert_eq!(rt; sink.bytes(), b"leg 1\n0 1.1 show 0 -> none\n".as_slice());
+    Ok(())
+}
+
+// Whether these bytes are refused as a script, with this line.
+fn is_no_script(alloc: Global, input: &str, line: &str) -> Option<bool> {
+    let words = words(alloc, "run").ok()?;
+    let mut source = SureSource::new(alloc, input.as_bytes()).ok()?;
+    let mut sink = SureSink::new(alloc, 64).ok()?;
+    let status = its(alloc, &words, &mut source, &mut sink);
+    Some(status == Status::ScriptRefused && sink.bytes() == Some(line.as_bytes()))
+}
+
+#[test]
+fn faulty_scripts_are_refused(rt: HostRuntime) {
+    for (input, line) in [
+        ("shards 4\n", "refused script 1 order\n"),
+        ("vcpus 17\n", "refused script 1 number\n"),
+        ("vcpus 4 4\n", "refused script 1 fields\n"),
+        ("vcpus 4\nshards 3\n", "refused script 2 number\n"),
+        ("vcpus 4\nwalk\n", "refused script 2 word\n"),
+        ("vcpus 4\nphase\n", "refused script 2 missing\n"),
+        ("vcpus 4\nbytes 0x0 abc\n", "refused script 2 hex\n"),
+        ("vcpus 4\n\tshards 4\n", "refused script 2 text\n"),
+        ("vcpus 4\nthread\n", "refused script 2 order\n"),
+    ] {
+        assert_eq!(rt;
+            is_no_script(rt.alloc(), input, line),
+            Some(true),
+            "{input}"
+        );
+    }
+}

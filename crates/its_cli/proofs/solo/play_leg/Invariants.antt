@@ -1,4 +1,4 @@
-use Rattle.std.proofs.Common.{◌≡◌, ◌+◌, ◌*◌, ◌≤◌, length, drop, true}
+use Rattle.std.proofs.Common.{◌≡◌, ℕ, ◌+◌, length, drop, true}
 use Rattle.std.specs.Prelude.{nat_le}
 use Rattle.std.specs.List.{list_all}
 use Rattle.its_cli.specs.Solo.{appended, outcome, leg_turns}
@@ -7,8 +7,7 @@ use Rattle.its_cli.proofs.solo.play_leg.Given as goal
 abbrev pub invariant-loop-threads : goal.invariant-loop-threads
 invariant-loop-threads l = record {
   few : list_all (λ threads. nat_le (length threads) 64) (drop l.threads-index l.phases) ≡ true;
-  pass : l.pass ≤ 1 + 64 * l.threads-index;
   phase : l.phase ≡ 1 + l.threads-index;
-  plays : appended l.lines.items (outcome l.last l.state (length l.lines.items) (leg_turns l.pass l.phase (drop l.threads-index l.phases)))
-      ≡ appended l.fn.lines.items (outcome l.last l.fn.state (length l.fn.lines.items) (leg_turns 1 1 l.phases));
+  plays : (pass : ℕ) × (appended l.lines.items (outcome l.last l.machine (length l.lines.items) (leg_turns pass l.phase (drop l.threads-index l.phases)))
+      ≡ appended l.fn.lines.items (outcome l.last l.fn.machine (length l.fn.lines.items) (leg_turns 1 1 l.phases)));
 }

@@ -1,16 +1,16 @@
-use Rattle.std.proofs.Common.{◌≡◌, ◌∷◌, ◌++◌, [], ap, sym, ◌∙◌, refl, map, take, suc, List, ℕ, add-one, arith, subst}
+use Rattle.std.proofs.Common.{◌≡◌, ◌∷◌, ◌++◌, [], ap, sym, ◌∙◌, map, take, List, ℕ, add-one, arith, subst}
 use Rattle.its_history.specs.Report as report
-use Rattle.its_cli.specs.Its as spec
+use Rattle.its_cli.specs.Reports as spec
 use Rattle.its_cli.proofs.Runs.{pending_more}
-use Rattle.its_cli.proofs.said.pending_texts.Goals as goal
+use Rattle.its_cli.proofs.legs.pending_texts.Goals as goal
 
 pub loop-vcpu-preserved : goal.loop-vcpu-preserved
 loop-vcpu-preserved c =
-    let u = c.args.state.now in
+    let u = c.args.machine.now in
     let vcpu = c.loop-vcpu.vcpu in
     let lists = spec.pending_lists u in
-    let numbers : map (λ i. i.0) c.deref.result.now ≡ c.pending.result.now = ap (map (λ i. i.0)) c.deref.ensures.value ∙ c.in_ok-lpis.ensures in
-    let text = c.in-Ok.ensures ∙ ap report.pending_text (numbers ∙ c.pending.ensures) in
+    let numbers = ap (map (λ i. i.0)) c.deref.ensures.value ∙ c.in_ok-lpis.ensures in
+    let text = c.in-Ok.ensures ∙ ap report.pending_text numbers in
     let more = pending_more u.redistributors vcpu (omega (arith, c.loop-vcpu-test.true, c.vcpus-vcpu-end.ensures)) in
     subst (λ (n : ℕ). c.push.new.self ≡ map report.pending_text (take n lists)) (sym (add-one vcpu))
     (c.in_ok-push.ensures.ok ∙ ap (λ (ts : List (List ℕ)). ts ++ c.in-Ok.text ∷ []) c.loop-vcpu.invariant ∙ ap (λ (t : List ℕ). map report.pending_text (take vcpu lists) ++ t ∷ []) text ∙ sym more)

@@ -3,12 +3,12 @@ use Rattle.event_script.proofs.Bounds.{scripts_fit}
 use Rattle.event_script.specs.Limits.{IsWithinLimits}
 use Rattle.event_script.specs.declared.fault.ScriptFault.{ScriptFault}
 use Rattle.event_script.specs.declared.script.Script.{Script}
-use Rattle.its_cli.proofs.said.say.Goals as goal
+use Rattle.its_cli.proofs.say.say.Goals as goal
 
 pub new-requires : goal.new-requires
 new-requires c =
-    let fits : IsWithinLimits c.in-Ok.script = subst (λ (r : Result Script ScriptFault). IfOk r IsWithinLimits) c.in-Ok.ensures.answer (scripts_fit c.args.input.now) in
+    let fits : IsWithinLimits c.in-Ok.script = subst (λ (r : Result Script ScriptFault). IfOk r IsWithinLimits) c.in-Ok.ensures (scripts_fit c.args.input.now) in
     fits.description
 
 pub run-requires-clause-within : goal.run-requires-clause-within
-run-requires-clause-within c = subst (λ (r : Result Script ScriptFault). IfOk r IsWithinLimits) c.in-Ok.ensures.answer (scripts_fit c.args.input.now)
+run-requires-clause-within c = subst (λ (r : Result Script ScriptFault). IfOk r IsWithinLimits) c.in-Ok.ensures (scripts_fit c.args.input.now)

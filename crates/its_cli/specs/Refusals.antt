@@ -1,0 +1,42 @@
+-- The lines of refusals.
+use Rattle.std.specs.Prelude.{ℕ, List, ◌++◌, codes}
+use Rattle.std.specs.Fmt.{decimal}
+use Rattle.its_plain.specs.declared.desc.DescFault.{DescFault}
+use Rattle.its_plain.specs.declared.desc.DescFault.TheVariants as desc_fault
+use Rattle.its_plain.specs.declared.fault.SaveFault.{SaveFault}
+use Rattle.event_script.specs.declared.fault.Kind.{Kind}
+use Rattle.event_script.specs.declared.fault.Kind.TheVariants as kind
+use Rattle.event_script.specs.declared.fault.ScriptFault.{ScriptFault}
+use Rattle.its_history.specs.Texts.{save_fault_text, restore_fault_text}
+
+unfoldable pub kind_text : Kind → List ℕ
+kind_text kind.Cut = codes "cut"
+kind_text kind.Text = codes "text"
+kind_text kind.Word = codes "word"
+kind_text kind.Order = codes "order"
+kind_text kind.Missing = codes "missing"
+kind_text kind.Fields = codes "fields"
+kind_text kind.Number = codes "number"
+kind_text kind.Hex = codes "hex"
+kind_text kind.Many = codes "many"
+
+unfoldable pub script_refusal : ScriptFault → List ℕ
+script_refusal fault = codes "refused script " ++ decimal fault.line ++ codes " " ++ kind_text fault.kind ++ codes "\n"
+
+unfoldable pub cause_text : DescFault → List ℕ
+cause_text desc_fault.Windows = codes "windows"
+cause_text desc_fault.Config = codes "config"
+cause_text (desc_fault.Pending vcpu) = codes "pending " ++ decimal vcpu.0
+cause_text (desc_fault.Bytes line) = codes "bytes " ++ decimal line
+cause_text (desc_fault.Restore fault) = codes "restore " ++ restore_fault_text fault
+
+unfoldable pub machine_refusal : DescFault → List ℕ
+machine_refusal fault = codes "refused machine " ++ cause_text fault ++ codes "\n"
+
+-- of a leg, by its number from 1
+
+unfoldable pub spent_refusal : ℕ → List ℕ
+spent_refusal leg = codes "refused spent " ++ decimal leg ++ codes "\n"
+
+unfoldable pub migration_refusal : ℕ → SaveFault → List ℕ
+migration_refusal leg fault = codes "refused migration " ++ decimal leg ++ codes " " ++ save_fault_text fault ++ codes "\n"

@@ -1,0 +1,99 @@
+//! The lines of refusals.
+ghost use Rattle.std.specs.Prelude.{◌≡◌, ◌++◌, IfOk, OnOk};
+ghost use Rattle.std.specs.String.{string_bytes};
+ghost use Rattle.its_history.specs.Texts as history;
+ghost use Rattle.its_cli.specs.Refusals as spec;
+
+use event_script::{Kind, ScriptFault};
+use its_history::{restore_fault_text, save_fault_text};
+use its_plain::{DescFault, RestoreFault, SaveFault};
+use std::alloc::{AllocError, Global};
+use std::fmt::Write;
+
+#[tactic(auto, unfolding(crate::specs::Refusals::script_refusal))]
+pub fn script_refusal(alloc: Global, fault: ScriptFault) -> Result<String, AllocError>
+    ensures { IfOk result (λ text. string_bytes text ≡ spec.script_refusal fault) }
+{
+    let mut text = String::new(alloc);
+    let line = fault.line;
+    let kind = kind_name(fault.kind);
+    writeln!(text, "refused script {line} {kind}")?;
+    Ok(text)
+}
+
+#[tactic(auto, unfolding(crate::specs::Refusals::kind_text))]
+fn kind_name(kind: Kind) -> &'static str
+    ensures { result.now ≡ spec.kind_text kind }
+{
+    match kind {
+        Kind::Cut => "cut",
+        Kind::Text => "text",
+        Kind::Word => "word",
+        Kind::Order => "order",
+        Kind::Missing => "missing",
+        Kind::Fields => "fields",
+        Kind::Number => "number",
+        Kind::Hex => "hex",
+        Kind::Many => "many",
+    }
+}
+
+#[tactic(auto, unfolding(crate::specs::Refusals::machine_refusal))]
+pub fn machine_refusal(alloc: Global, fault: DescFault) -> Result<String, AllocError>
+    ensures { IfOk result (λ text. string_bytes text ≡ spec.machine_refusal fault) }
+{
+    let mut text = String::from_str(alloc, "refused machine ")?;
+    push_cause(alloc, &mut text, fault)?;
+    text.push_str("\n")?;
+    Ok(text)
+}
+
+#[tactic(auto, unfolding(crate::specs::Refusals::cause_text))]
+fn push_cause(alloc: Global, text: &mut String, fault: DescFault) -> Result<(), AllocError>
+    ensures { OnOk result (string_bytes text.new ≡ string_bytes text.old ++ spec.cause_text fault) }
+{
+    match fault {
+        DescFault::Windows => text.push_str("windows"),
+        DescFault::Config => text.push_str("config"),
+        DescFault::Pending(vcpu) => write!(text, "pending {}", vcpu.0),
+        DescFault::Bytes(line) => write!(text, "bytes {line}"),
+        DescFault::Restore(fault) => {
+            text.push_str("restore ")?;
+            push_offence(alloc, text, fault)
+        }
+    }
+}
+
+fn push_offence(alloc: Global, text: &mut String, fault: RestoreFault) -> Result<(), AllocError>
+    ensures { OnOk result (string_bytes text.new ≡ string_bytes text.old ++ history.restore_fault_text fault) }
+{
+    match restore_fault_text(alloc, &fault) {
+        Ok(cause) => text.push_str(cause.as_str()),
+        Err(_) => Err(AllocError),
+    }
+}
+
+/// Of a leg, by its number from 1.
+#[tactic(auto, unfolding(crate::specs::Refusals::spent_refusal))]
+pub fn spent_refusal(alloc: Global, leg: u64) -> Result<String, AllocError>
+    ensures { IfOk result (λ text. string_bytes text ≡ spec.spent_refusal leg) }
+{
+    let mut text = String::new(alloc);
+    writeln!(text, "refused spent {leg}")?;
+    Ok(text)
+}
+
+/// Of a leg, by its number from 1.
+#[tactic(auto, unfolding(crate::specs::Refusals::migration_refusal))]
+pub fn migration_refusal(alloc: Global, leg: u64, fault: SaveFault) -> Result<String, AllocError>
+    ensures { IfOk result (λ text. string_bytes text ≡ spec.migration_refusal leg fault) }
+{
+    let mut text = String::new(alloc);
+    write!(text, "refused migration {leg} ")?;
+    match save_fault_text(alloc, &fault) {
+        Ok(cause) => text.push_str(cause.as_str())?,
+        Err(_) => return Err(AllocError),
+    }
+    text.push_str("\n")?;
+    Ok(text)
+}
