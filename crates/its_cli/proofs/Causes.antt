@@ -12,7 +12,7 @@ use Rattle.table_restore.proofs.Once.{stands_once}
 use Rattle.event_script.specs.Script.{script_of}
 use Rattle.event_script.specs.declared.fault.ScriptFault.{ScriptFault}
 use Rattle.event_script.specs.declared.script.Script.{Script}
-use Rattle.its_cli.specs.Legs.{HasPlaces, CanMigrate, AllEnd}
+use Rattle.its_cli.specs.Legs.{AllEnd}
 use Rattle.its_cli.specs.Its.{is_run_command, Causes, RunCauses, WasRead, IsScript, OfScript, IsReport, IsMigrationRefusal, IsSpentReport, IsCutShort, IsDecided}
 use Rattle.its_cli.specs.Answered.{InputCauses, RunEnds, IsSoFar, StopsShort}
 use Rattle.its_cli.specs.declared.status.Status.{Status}

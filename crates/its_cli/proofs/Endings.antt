@@ -1,5 +1,5 @@
 -- How a script ends is decided by its runs.
-use Rattle.std.proofs.Common.{◌≡◌, ◌⊎◌, ℕ, ◌<◌, ◌≤◌, List, [], ◌∷◌, Result, Ok, Err, refl, sym, ap, subst, ◌∙◌, inl, inr, arith}
+use Rattle.std.proofs.Common.{◌≡◌, ◌⊎◌, ℕ, ◌<◌, ◌≤◌, List, [], ◌∷◌, Result, Ok, Err, refl, sym, subst, ◌∙◌, inl, inr, arith}
 use Rattle.its_plain.specs.Plain.{Plain}
 use Rattle.its_plain.specs.History.{after}
 use Rattle.its_plain.specs.Regions.{savable}
@@ -10,7 +10,7 @@ use Rattle.its_plain.specs.declared.fault.SaveFault.{SaveFault}
 use Rattle.its_cli.specs.Legs.{call_count, HasPlaces, HaveRun, CanMigrate, AllEnd}
 use Rattle.its_cli.specs.declared.status.Status.{Status}
 use Rattle.its_cli.specs.declared.status.Status.TheVariants as status
-use Rattle.its_cli.proofs.Migrations.{head_of, rest_of, not_empty}
+use Rattle.its_cli.proofs.Migrations.{not_empty}
 
 not_savable : {X : Type 0} (u : Plain) (f : SaveFault) → savable u ≡ Err f → IsSavable u → X
 not_savable u f e can =

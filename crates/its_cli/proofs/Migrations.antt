@@ -1,20 +1,16 @@
 -- Legs that run one after another, with migrations between.
-use Rattle.std.proofs.Common.{◌≡◌, ◌⊎◌, ℕ, suc, ◌+◌, ◌<◌, ◌≤◌, List, [], ◌∷◌, ◌++◌, length, Some, None, Ok, Err, refl, sym, ap, subst, ◌∙◌, append_assoc, inl, inr, arith}
+use Rattle.std.proofs.Common.{◌≡◌, ℕ, suc, ◌+◌, ◌≤◌, List, [], ◌∷◌, ◌++◌, length, Some, refl, sym, ap, subst, ◌∙◌, append_assoc, inl, inr, arith}
 use Rattle.std.proofs.lemmas.List.{append-nil}
 use Rattle.its_plain.specs.Plain.{Plain}
 use Rattle.its_plain.specs.History.{after}
-use Rattle.its_plain.specs.Regions.{savable}
 use Rattle.its_plain.specs.Saved.{moved, IsSavable}
-use Rattle.its_plain.specs.Runs.{Thread, Phase, Leg, HasCalls, HasFirstCalls, IsPhase, IsPartOfPhase, ArePhases, ArePartOfPhases, IsLegRun, IsPartOfLegRun, IsRun, IsPartialRun}
+use Rattle.its_plain.specs.Runs.{Phase, Leg, HasFirstCalls, ArePhases, ArePartOfPhases, IsLegRun, IsPartOfLegRun, IsRun, IsPartialRun}
 use Rattle.its_plain.specs.declared.call.Entry.{Entry}
-use Rattle.its_plain.specs.declared.fault.SaveFault.{SaveFault}
 use Rattle.its_history.specs.Report.{leg_text, legs_from, report_text}
 use Rattle.its_history.specs.declared.trace.End.TheVariants.{Migrated, Done}
 use Rattle.its_history.specs.declared.trace.Leg.{Leg as LegLines}
-use Rattle.its_cli.specs.Legs.{call_count, HasPlaces, HaveRun, CanMigrate, AllEnd}
+use Rattle.its_cli.specs.Legs.{call_count, HasPlaces, HaveRun}
 use Rattle.its_cli.specs.Reports.{reported, migrated, ended}
-use Rattle.its_cli.specs.declared.status.Status.{Status}
-use Rattle.its_cli.specs.declared.status.Status.TheVariants as status
 
 pub head_of : {X : Type 0} (x y : X) (xs ys : List X) → x ∷ xs ≡ y ∷ ys → x ≡ y
 head_of x y xs ys e = cc

@@ -1,19 +1,17 @@
 -- The history of turns that are played in turn.
-use Rattle.std.proofs.Common.{◌≡◌, ◌⊎◌, ℕ, zero, suc, ◌+◌, ◌-◌, ◌<◌, ◌≤◌, Bool, true, false, cond, nat_lt, List, [], ◌∷◌, ◌++◌, length, take, drop, refl, sym, ap, subst, ◌∙◌, append_assoc, add-one, arith, inl, inr}
+use Rattle.std.proofs.Common.{◌≡◌, ◌⊎◌, ℕ, zero, suc, ◌+◌, ◌-◌, ◌<◌, ◌≤◌, true, false, cond, nat_lt, List, [], ◌∷◌, ◌++◌, length, take, drop, refl, sym, ap, subst, ◌∙◌, add-one, arith, inl, inr}
 use Rattle.std.specs.Prelude.{◌==◌}
 use Rattle.std.specs.List.{AllByRecursion}
 use Rattle.std.proofs.lemmas.Bool.{ltb-true, ltb-false}
-use Rattle.std.proofs.lemmas.List.{take-append-drop, take-append-le}
-use mathlib.Core.List.{IsPrefix}
+use Rattle.std.proofs.lemmas.List.{take-append-drop}
 use Rattle.its_plain.specs.Plain.{Plain}
-use Rattle.its_plain.specs.Answer.{reply_of, answer}
 use Rattle.its_plain.specs.History.{IsLegal, after, calls_by}
-use Rattle.its_plain.specs.Runs.{Thread, Phase, Leg, IsOfPasses, HasCalls, HasFirstCalls, IsPhase, IsPartOfPhase, ArePhases, ArePartOfPhases, IsLegRun, IsPartOfLegRun}
+use Rattle.its_plain.specs.Runs.{Phase, Leg, IsOfPasses, HasCalls, HasFirstCalls, IsPhase, IsPartOfPhase, ArePhases, ArePartOfPhases, IsLegRun, IsPartOfLegRun}
 use Rattle.its_plain.specs.declared.call.Call.{Call}
 use Rattle.its_plain.specs.declared.call.Entry.{Entry}
 use Rattle.its_history.specs.Histories.{Seat, seat_of, history_lines}
 use Rattle.its_history.specs.declared.trace.EntryLine.{EntryLine}
-use Rattle.its_cli.specs.Solo.{Turn, Outcome, appended, outcome, turn_line, next_state, entry_of, played, thread_turns, phase_turns, leg_turns}
+use Rattle.its_cli.specs.Solo.{Turn, Outcome, appended, outcome, turn_line, next_state, entry_of, played, phase_turns, leg_turns}
 use Rattle.its_cli.proofs.Turns.{Within, phase_within, calls_of, calls_of-append, Has, phase_has, Sits, leg_sits, counts_of, all_front_of, all_mapped}
 
 -- ---- without a last place

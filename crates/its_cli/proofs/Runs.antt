@@ -10,7 +10,6 @@ use Rattle.its_plain.specs.History.{after}
 use Rattle.its_plain.specs.Regions.{savable}
 use Rattle.its_plain.specs.Saved.{moved, IsSavable}
 use Rattle.its_plain.specs.Runs.{Thread, Phase, Leg}
-use Rattle.its_plain.specs.declared.call.Call.{Call}
 use Rattle.its_plain.specs.declared.fault.SaveFault.{SaveFault}
 use Rattle.event_script.specs.Limits.{IsWithinLimits, is_leg, is_phase, is_thread}
 use Rattle.event_script.specs.declared.draft.TheConstants.{MOST_PHASES, MOST_THREADS}

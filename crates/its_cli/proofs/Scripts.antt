@@ -1,6 +1,5 @@
 -- What a script's run came to, leg by leg.
-use Rattle.std.proofs.Common.{◌≡◌, ℕ, suc, ◌+◌, ◌-◌, ◌<◌, ◌≤◌, List, [], ◌∷◌, ◌++◌, length, get_or, take, drop, Option, Some, None, Ok, Err, add-one, refl, sym, ap, subst, ◌∙◌, arith}
-use Rattle.std.specs.String.{string_bytes}
+use Rattle.std.proofs.Common.{◌≡◌, ℕ, suc, ◌+◌, ◌-◌, ◌<◌, ◌≤◌, List, [], ◌∷◌, ◌++◌, length, get_or, take, drop, Some, None, add-one, refl, sym, ap, subst, ◌∙◌, arith}
 use Rattle.std.proofs.lemmas.List.{append-nil, length-append, length-take, get_or-take}
 use Rattle.std.proofs.Math.Seq.{drop-cons, drop-length}
 use Rattle.its_plain.specs.Plain.{Plain}
@@ -11,7 +10,7 @@ use Rattle.its_history.specs.Report.{leg_text, report_text}
 use Rattle.its_history.specs.declared.trace.End.TheVariants.{Migrated, Done}
 use Rattle.its_history.specs.declared.trace.Leg.{Leg as LegLines}
 use Rattle.its_cli.specs.Legs.{HaveRun}
-use Rattle.its_cli.specs.Reports.{migrated, reported, ended, cut_leg}
+use Rattle.its_cli.specs.Reports.{migrated, ended, cut_leg}
 use Rattle.its_cli.specs.Refusals.{spent_refusal, migration_refusal}
 use Rattle.its_cli.specs.Its.{IsReport, IsMigrationRefusal, IsSpentReport}
 use Rattle.its_cli.specs.Answered.{IsLegSpent, IsLegMigrated, IsLegRefused, IsLegDone, LegStops, LegEnds, RunEnds, IsSoFar}

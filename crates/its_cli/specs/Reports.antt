@@ -1,5 +1,5 @@
 -- What the report of a script's run says of its legs.
-use Rattle.std.specs.Prelude.{ℕ, List, [], ◌∷◌, length, map, Option, Some, None}
+use Rattle.std.specs.Prelude.{ℕ, List, [], ◌∷◌, length, map, Option, Some}
 use Rattle.its_plain.specs.Plain.{Plain, Redistributor}
 use Rattle.its_plain.specs.History.{after}
 use Rattle.its_plain.specs.Saved.{moved}

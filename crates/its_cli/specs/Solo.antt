@@ -1,5 +1,5 @@
 -- A leg whose threads make their calls one after another, on places below a last one.
-use Rattle.std.specs.Prelude.{◌≡◌, ℕ, suc, ◌+◌, Bool, true, false, nat_lt, if◌then◌else◌, List, [], ◌∷◌, ◌++◌, length, map}
+use Rattle.std.specs.Prelude.{◌≡◌, ℕ, ◌+◌, Bool, true, false, nat_lt, if◌then◌else◌, List, [], ◌∷◌, ◌++◌, length}
 use Rattle.its_plain.specs.Plain.{Plain}
 use Rattle.its_plain.specs.Answer.{reply_of, answer}
 use Rattle.its_plain.specs.Runs.{Thread, Phase, Leg}

@@ -1,10 +1,9 @@
 //! A run of a script: its legs, with a migration of the machine between each two.
-ghost use Rattle.std.specs.Prelude.{◌≡◌, ◌++◌, ◌<◌, ◌≤◌, ◌^◌, [], true, nat_le, IfOk, OnErr, length, map};
+ghost use Rattle.std.specs.Prelude.{◌≡◌, ◌++◌, ◌≤◌, [], true, nat_le, IfOk, OnErr, length, map};
 ghost use Rattle.std.specs.List.{list_all};
 ghost use Rattle.std.specs.String.{string_bytes};
 ghost use Rattle.event_script.specs.Limits.{IsWithinLimits};
 ghost use Rattle.its_history.specs.Report as history;
-ghost use Rattle.its_history.specs.Merged.{open_leg};
 ghost use Rattle.its_cli.specs.Answered.{RunEnds, IsSoFar, LegGoes, LegIsLast, IsSpentEnding};
 ghost use Rattle.its_cli.specs.Reports as spec;
 

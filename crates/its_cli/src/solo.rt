@@ -1,5 +1,5 @@
 //! A run of a leg, one thread's calls after another's.
-ghost use Rattle.std.specs.Prelude.{◌≡◌, ◌<◌, ◌≤◌, true, nat_le, IfOk, length};
+ghost use Rattle.std.specs.Prelude.{◌≡◌, ◌≤◌, true, nat_le, IfOk, length};
 ghost use Rattle.its_cli.specs.Solo.{Plays, thread_turns, phase_turns, leg_turns};
 ghost use Rattle.std.specs.List.{list_all};
 ghost use Rattle.its_history.specs.Report as report;

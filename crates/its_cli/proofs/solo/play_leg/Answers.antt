@@ -1,7 +1,7 @@
-use Rattle.std.proofs.Common.{◌≡◌, ◌+◌, ◌≤◌, ◌∙◌, ap, sym, refl, true, false, drop, length, List, arith}
+use Rattle.std.proofs.Common.{◌≡◌, ◌+◌, ◌∙◌, ap, sym, refl, true, false, drop, length, List, arith}
 use Rattle.std.specs.Prelude.{nat_le}
 use Rattle.its_plain.specs.declared.call.Call.{Call}
-use Rattle.its_cli.specs.Solo.{Turn, Outcome, appended, outcome, phase_turns, leg_turns}
+use Rattle.its_cli.specs.Solo.{Turn, appended, outcome, phase_turns, leg_turns}
 use Rattle.its_cli.proofs.Playing.{plays_on, plays_no_more, leg_front, phase_pass, all_front, made}
 use Rattle.its_cli.proofs.solo.play_leg.Goals as goal
 

@@ -1,5 +1,5 @@
 use Rattle.std.proofs.Common.{◌≡◌, ◌+◌, ◌∙◌, ap, sym, true, false, drop, length, List, arith}
-use Rattle.its_cli.specs.Solo.{Turn, Outcome, appended, outcome, thread_turns, phase_turns}
+use Rattle.its_cli.specs.Solo.{Turn, appended, outcome, thread_turns, phase_turns}
 use Rattle.its_cli.proofs.Playing.{plays_on, plays_no_more, phase_front, thread_pass, made}
 use Rattle.its_cli.proofs.solo.play_phase.Goals as goal
 
