@@ -13,7 +13,9 @@ use Rattle.its_plain.specs.Sound.{IsSound}
 use Rattle.xlate_cache.specs.Ways.{no_entries}
 use Rattle.xlate_cache.specs.declared.entry.Entry.{Entry as Translation}
 use Rattle.xlate_cache.proofs.Sets.{none_at, empty_shard}
-use Rattle.its_steps.specs.Parts.{Setup, Content, Maps, Mem, Shard, Redist, Stands, index_of, part_count, translator_count, vcpu_count}
+use Rattle.its_steps.specs.Parts.{Setup, Stands, index_of, part_count, translator_count, vcpu_count}
+use Rattle.its_steps.specs.declared.content.Content.{Content}
+use Rattle.its_steps.specs.declared.content.Content.TheVariants.{Maps, Mem, Shard, Redist}
 use Rattle.its_steps.specs.World.{View, first_word, first_view, first_slots, first_world}
 use Rattle.its_steps.specs.Good.{IsHome, IsPass, Good}
 use Rattle.its_steps.specs.Laws.{FirstIsGood}

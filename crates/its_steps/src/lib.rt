@@ -2,11 +2,16 @@
 #![tactic(auto)]
 
 mod change;
+mod content;
 mod event;
+mod held;
 mod laws;
+mod view;
 
 pub use change::ShardChange;
+pub use content::Content;
 pub use event::{Event, Kind};
+pub use held::Held;
 pub use laws::{
     bring_keeps, calm_calls_are_steady, calm_calls_may_commit, commit_keeps, endings_are_all,
     endings_are_dropped, first_is_good, give_keeps, hit_may_commit, holders_may_commit, join_keeps,
@@ -14,3 +19,4 @@ pub use laws::{
     root_knows_all, runs_keep, split_keeps, steps_keep, take_keeps, take_may_commit,
     take_out_keeps, try_keeps,
 };
+pub use view::{Looked, Standing, View};
