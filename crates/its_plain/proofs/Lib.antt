@@ -2,4 +2,5 @@ pub mod Rising
 pub mod Entries
 pub mod Pending
 pub mod Mapped
+pub mod MappedPairs
 mod SavedTables

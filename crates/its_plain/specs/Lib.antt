@@ -11,6 +11,7 @@ pub mod Saved
 pub mod Runs
 pub mod Machine
 pub mod Mapped
+pub mod MappedPairs
 pub mod MapLists
 pub mod Slots
 pub mod Outcome

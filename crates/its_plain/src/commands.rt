@@ -40,7 +40,7 @@ impl State {
     }
 
     #[tactic(auto, using(crate::proofs::Entries::no_event))]
-    fn event(&self, its: u8, dev: DeviceId, ev: EventId) -> Option<MappedEvent>
+    pub(crate) fn event(&self, its: u8, dev: DeviceId, ev: EventId) -> Option<MappedEvent>
         ensures { result ≡ maps.event_of (plain.maps_of self.now its) dev.0 ev.0 }
     {
         match self.translators.get(usize::from(its)) {
@@ -50,7 +50,7 @@ impl State {
     }
 
     #[tactic(auto, using(crate::proofs::Entries::no_collection))]
-    fn collection(&self, its: u8, icid: Icid) -> Option<Vcpu>
+    pub(crate) fn collection(&self, its: u8, icid: Icid) -> Option<Vcpu>
         ensures { result ≡ maps.collection_of (plain.maps_of self.now its) icid.0 }
     {
         match self.translators.get(usize::from(its)) {

@@ -15,9 +15,9 @@ use std::marker::Model;
 /// Devices, events and collections, each a list whose keys rise.
 #[derive(Drop)]
 pub struct MapLists {
-    devices: Vec<(u32, MappedDevice)>,
-    events: Vec<((u32, u32), MappedEvent)>,
-    collections: Vec<(u16, Vcpu)>,
+    pub(crate) devices: Vec<(u32, MappedDevice)>,
+    pub(crate) events: Vec<((u32, u32), MappedEvent)>,
+    pub(crate) collections: Vec<(u16, Vcpu)>,
 }
 
 impl Model for MapLists {

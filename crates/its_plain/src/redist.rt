@@ -19,9 +19,9 @@ use std::marker::Model;
 /// A pending set as a rising list, and a copy of the configuration.
 #[derive(Drop)]
 pub struct RedistLists {
-    bases: Bases,
-    pending: Vec<u32>,
-    config: Vec<u8>,
+    pub(crate) bases: Bases,
+    pub(crate) pending: Vec<u32>,
+    pub(crate) config: Vec<u8>,
 }
 
 impl Model for RedistLists {

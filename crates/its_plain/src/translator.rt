@@ -24,8 +24,8 @@ use std::marker::Model;
 /// A translator's registers and maps.
 #[derive(Drop)]
 pub struct TranslatorLists {
-    regs: Regs,
-    maps: MapLists,
+    pub(crate) regs: Regs,
+    pub(crate) maps: MapLists,
 }
 
 impl Model for TranslatorLists {

@@ -1,3 +1,4 @@
 pub mod Pairs
 pub mod Ways
 pub mod Laws
+pub mod Observed

@@ -3,6 +3,7 @@
 
 mod entry;
 mod laws;
+mod observed;
 mod pairs;
 mod shard;
 

@@ -13,7 +13,7 @@ use std::marker::Model;
 /// 64 sets of four ways, one set after another. Each entry stands in the set of its pair.
 #[derive(Drop)]
 pub struct Shard {
-    ways: Box<[Option<Entry>; 256]>,
+    pub(crate) ways: Box<[Option<Entry>; 256]>,
 }
 
 impl Model for Shard {
@@ -105,7 +105,7 @@ fn no_ways() -> [Option<Entry>; 256]
     [None; 256]
 }
 
-fn is_of(way: &Option<Entry>, dev: DeviceId, ev: EventId) -> bool
+pub(crate) fn is_of(way: &Option<Entry>, dev: DeviceId, ev: EventId) -> bool
     ensures { result ≡ spec.is_of dev.0 ev.0 way.now }
 {
     match way {
