@@ -21,3 +21,6 @@ pub mod Ports
 pub mod Routes
 pub mod Lasting
 pub mod Endings
+pub mod Seats
+pub mod HeldTests
+pub mod Slots

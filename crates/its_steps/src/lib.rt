@@ -5,7 +5,11 @@ mod change;
 mod content;
 mod event;
 mod held;
+mod holding;
 mod laws;
+mod loads;
+mod shared;
+mod tries;
 mod view;
 
 pub use change::ShardChange;

@@ -1,7 +1,14 @@
+ghost use Rattle.std.specs.Prelude.{◌≡◌, OnOk, IfOk};
+ghost use Rattle.its_steps.specs.Parts.{Setup};
+ghost use Rattle.its_steps.specs.Shared.{known, is_standing, is_pass};
+ghost use Rattle.its_steps.specs.World as world;
+
 use crate::change::ShardChange;
+use crate::content::Content;
 use crate::held::Held;
-use its_plain::Entry;
+use its_plain::{Entry, NoMemory};
 use its_types::{Listed, Part, Word};
+use std::alloc::{AllocError, Global};
 use std::collections::VecDeque;
 
 /// What a view is of.
@@ -21,7 +28,7 @@ pub struct Looked {
     pub ways: Listed<Option<xlate_cache::Entry>>,
 }
 
-/// What a pass knows.
+/// What a pass or a note knows.
 #[derive(Drop)]
 pub struct View {
     pub standing: Standing,
@@ -40,4 +47,135 @@ pub struct View {
     pub change: ShardChange,
     pub made: u64,
     pub ended: VecDeque<(u32, Listed<(u64, Entry)>)>,
+}
+
+impl Looked {
+    /// No shard.
+    pub fn none(alloc: Global) -> Looked
+        ensures { result ≡ world.no_look }
+    {
+        Looked {
+            its: 0,
+            number: 0,
+            ways: Listed::new(alloc),
+        }
+    }
+
+    pub fn copy(&self, alloc: Global) -> Result<Looked, AllocError>
+        ensures { IfOk result (λ l. l ≡ self.now) }
+    {
+        let ways = Vec::from_slice(alloc, self.ways.as_slice())?;
+        Ok(Looked {
+            its: self.its,
+            number: self.number,
+            ways: Listed::from_vec(ways),
+        })
+    }
+
+    /// Looks at the part, if that is a shard.
+    fn look(&mut self, alloc: Global, part: Part, content: &Content) -> Result<(), AllocError>
+        ensures { OnOk result (self.new ≡ world.looked_of part content.now self.old) }
+    {
+        if let Part::Shard(its, number) = part {
+            if let Content::Shard(shard) = content {
+                let ways = Vec::from_slice(alloc, shard.ways())?;
+                *self = Looked {
+                    its,
+                    number,
+                    ways: Listed::from_vec(ways),
+                };
+            }
+        }
+        Ok(())
+    }
+}
+
+impl View {
+    /// A pass that has done nothing yet.
+    pub fn fresh(alloc: Global, number: u32, made: u64, seen: Vec<Entry>, last: Word) -> View
+        ensures { (s : Setup) → known s result ≡ world.fresh s number made seen.items last }
+    {
+        View {
+            standing: Standing::Pass,
+            number,
+            seen,
+            mine: Listed::new(alloc),
+            told: Vec::new(alloc),
+            last,
+            held: Vec::new(alloc),
+            looked: Looked::none(alloc),
+            early: (Looked::none(alloc), last),
+            won: VecDeque::new(alloc),
+            lost: 0,
+            met: (Part::Mem, 0),
+            base: last,
+            change: ShardChange::Keep,
+            made,
+            ended: VecDeque::new(alloc),
+        }
+    }
+
+    /// Whether it is what the pass of a number knows.
+    pub fn is_pass(&self, number: u32) -> bool
+        ensures { result ≡ is_pass number self.now }
+    {
+        self.standing.is_pass() && self.number == number
+    }
+
+    /// The pass reads the word, and sees the history.
+    pub fn load(&mut self, word: Word, history: Vec<Entry>)
+        ensures { (s : Setup) → known s self.new ≡ world.loaded (known s self.old) word history.items }
+    {
+        self.last = word;
+        self.seen = history;
+    }
+
+    /// The pass tries the turn of a part that another has.
+    pub fn miss(&mut self, part: Part, found: u64) -> Result<(), AllocError>
+        ensures { OnOk result ((s : Setup) → known s self.new ≡ world.missed (known s self.old) part found) }
+    {
+        self.lost = self.lost.checked_add(1).ok_or(AllocError)?;
+        self.met = (part, found);
+        Ok(())
+    }
+
+    /// The pass gets the turn of a part that has this in its slot.
+    pub fn get(&mut self, alloc: Global, part: Part, content: Content) -> Result<(), NoMemory>
+        ensures { OnOk result ((s : Setup) → known s self.new ≡ world.got (known s self.old) part content) }
+    {
+        look_early(&mut self.early, alloc, part, &self.looked, self.last)?;
+        self.looked.look(alloc, part, &content)?;
+        self.won.push_front(part)?;
+        let held = Held {
+            part,
+            owed: content,
+            out: false,
+        };
+        self.held.insert(0, held)?;
+        Ok(())
+    }
+}
+
+impl Standing {
+    fn is_pass(&self) -> bool
+        ensures { result ≡ is_standing self.now }
+    {
+        matches!(self, Standing::Pass)
+    }
+}
+
+// Keeps what was looked at and read, where the part is some maps.
+fn look_early(
+    early: &mut (Looked, Word),
+    alloc: Global,
+    part: Part,
+    looked: &Looked,
+    last: Word,
+) -> Result<(), AllocError>
+    ensures { OnOk result (early.new ≡ world.early_of part (looked.now, last) early.old) }
+{
+    if let Part::Maps(_) = part {
+        *early = (looked.copy(alloc)?, last);
+    }
+    Ok(())
 }
