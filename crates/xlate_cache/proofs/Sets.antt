@@ -1,7 +1,10 @@
 -- The set of a pair in a shard whose entries stand in their sets.
-use Rattle.std.proofs.Common.{◌≡◌, ℕ, ◌+◌, ◌-◌, ◌/◌, ◌<◌, ◌≤◌, Bool, true, false, ◌&&◌, eqb, List, ◌++◌, length, get_or, take, drop, slice_range, Some, None, Option, refl, sym, ap, ◌∙◌, inl, inr, arith}
+use Rattle.std.proofs.Common.{◌≡◌, ℕ, suc, ◌+◌, ◌-◌, ◌/◌, ◌<◌, ◌≤◌, Bool, true, false, ◌&&◌, ◌||◌, eqb, List, [], ◌∷◌, ◌++◌, length, get_or, take, drop, slice_range, Some, None, Option, refl, sym, ap, ◌∙◌, inl, inr, arith}
 use mathlib.Core.Bool.{false≢true}
 use Rattle.std.specs.Prelude.{replicate}
+use Rattle.std.specs.List.{list_any}
+use Rattle.std.proofs.Math.Bool.{or-false}
+use Rattle.std.proofs.lemmas.List.Folds.{list_any-append}
 use Rattle.std.proofs.lemmas.Bool.{eqb-true, cases_lt}
 use Rattle.std.proofs.lemmas.List.{take-append-drop, drop-drop, get_or-take, get_or-drop, get_or-replicate, get_or_past, length-take, length-take-le, length-drop, length-replicate, length-map}
 use Rattle.xlate_cache.specs.declared.entry.Entry.{Entry}
@@ -39,6 +42,10 @@ outside ways shard dev ev i apart = at (get_or ways i None) refl
 not_held : (dev ev stamp : ℕ) (w : Option Entry) → is_of dev ev w ≡ false → holds dev ev stamp w ≡ false
 not_held dev ev stamp w is = ap (λ t. t && has_stamp stamp w) is
 
+none_any : (dev ev : ℕ) (ws : List (Option Entry)) → ((i : ℕ) → i < length ws → is_of dev ev (get_or ws i None) ≡ false) → list_any (is_of dev ev) ws ≡ false
+none_any dev ev [] none = refl
+none_any dev ev (w ∷ ws) none = ap (λ (t : Bool). t || list_any (is_of dev ev) ws) (none 0 (omega arith)) ∙ none_any dev ev ws (λ i lt. none (suc i) (omega arith))
+
 module _ (ways : List (Option Entry)) (shard : IsShard ways) (dev ev : ℕ) where
   front_range : (i : ℕ) → i < first_way dev ev → i / 4 ≡ set_number dev ev → ⊥
   front_range i lt is = omega arith
@@ -65,14 +72,34 @@ module _ (ways : List (Option Entry)) (shard : IsShard ways) (dev ev : ℕ) wher
       ∙ ap (λ (r : List (Option Entry)). take 4 (drop (first_way dev ev) ways) ++ r) (drop-drop 4 (first_way dev ev) ways)
       ∙ ap (λ n. take n (drop (first_way dev ev) ways) ++ drop (first_way dev ev + 4) ways) (sym four))
 
+  -- outside the set no way is of the pair
+  front_none : (i : ℕ) → i < length (take (first_way dev ev) ways) → is_of dev ev (get_or (take (first_way dev ev) ways) i None) ≡ false
+  front_none i lt =
+      let below : i < first_way dev ev = omega (arith, length-take (first_way dev ev) ways) in
+      ap (is_of dev ev) (get_or-take (first_way dev ev) ways i None below) ∙ outside ways shard dev ev i (front_range i below)
+
+  rest_none : (i : ℕ) → i < length (drop (first_way dev ev + 4) ways) → is_of dev ev (get_or (drop (first_way dev ev + 4) ways) i None) ≡ false
+  rest_none i lt =
+      ap (is_of dev ev) (get_or-drop (first_way dev ev + 4) ways i None) ∙ outside ways shard dev ev (first_way dev ev + 4 + i) (rest_range (first_way dev ev + 4 + i) (omega arith))
+
+  pub any_in_set : list_any (is_of dev ev) (set_of ways dev ev) ≡ list_any (is_of dev ev) ways
+  any_in_set =
+      let of_pair = is_of dev ev in
+      let front = take (first_way dev ev) ways in
+      let set = set_of ways dev ev in
+      let rest = drop (first_way dev ev + 4) ways in
+      sym (ap (list_any of_pair) parts
+      ∙ list_any-append of_pair front (set ++ rest)
+      ∙ ap (λ (t : Bool). t || list_any of_pair (set ++ rest)) (none_any dev ev front front_none)
+      ∙ list_any-append of_pair set rest
+      ∙ ap (λ (t : Bool). list_any of_pair set || t) (none_any dev ev rest rest_none)
+      ∙ or-false (list_any of_pair set))
+
   -- so a search of the set is one of the shard
   pub found_in_set : (stamp : ℕ) → found (set_of ways dev ev) dev ev stamp ≡ found ways dev ev stamp
   found_in_set stamp =
-      let before : NoneHolds dev ev stamp (take (first_way dev ev) ways) = λ i lt.
-      let below : i < first_way dev ev = omega (arith, length-take (first_way dev ev) ways) in
-      ap (holds dev ev stamp) (get_or-take (first_way dev ev) ways i None below) ∙ not_held dev ev stamp _ (outside ways shard dev ev i (front_range i below)) in
-      let after : NoneHolds dev ev stamp (drop (first_way dev ev + 4) ways) = λ i lt.
-      ap (holds dev ev stamp) (get_or-drop (first_way dev ev + 4) ways i None) ∙ not_held dev ev stamp _ (outside ways shard dev ev (first_way dev ev + 4 + i) (rest_range (first_way dev ev + 4 + i) (omega arith))) in
+      let before : NoneHolds dev ev stamp (take (first_way dev ev) ways) = λ i lt. not_held dev ev stamp _ (front_none i lt) in
+      let after : NoneHolds dev ev stamp (drop (first_way dev ev + 4) ways) = λ i lt. not_held dev ev stamp _ (rest_none i lt) in
       sym (ap (λ (r : List (Option Entry)). found r dev ev stamp) parts
       ∙ found_append dev ev stamp (take (first_way dev ev) ways) (set_of ways dev ev ++ drop (first_way dev ev + 4) ways) before
       ∙ found_front dev ev stamp (set_of ways dev ev) (drop (first_way dev ev + 4) ways) after)

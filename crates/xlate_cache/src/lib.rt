@@ -63,4 +63,26 @@ mod tests {
         assert_eq!(rt; shard_of(dev, EventId(4), 16), 4);
         Ok(())
     }
+
+    #[test]
+    fn a_copy_has_entries_of_its_own(rt: HostRuntime) -> Result<(), Fail> {
+        let mut shard = Shard::new(rt.alloc())?;
+        let dev = DeviceId(16);
+        shard.fill(dev, EventId(3), 7, target(3));
+        let copy = shard.copy(rt.alloc())?;
+        shard.fill(dev, EventId(4), 7, target(4));
+        assert!(rt; shard.has_entry_of(dev, EventId(4)));
+        assert!(rt; !copy.has_entry_of(dev, EventId(4)));
+        let entry = Entry {
+            dev,
+            ev: EventId(3),
+            stamp: 7,
+            target: target(3),
+        };
+        assert!(rt; copy.holds_only(Some(entry)));
+        assert!(rt; !shard.holds_only(Some(entry)));
+        assert!(rt; !copy.holds_only(None));
+        assert_eq!(rt; copy.ways().len(), 256);
+        Ok(())
+    }
 }
