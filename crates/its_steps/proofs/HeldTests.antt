@@ -24,7 +24,7 @@ same_part_decides (part.Shard a n) (part.Redist b) = ((λ e. absurd cc), (λ e. 
 same_part_decides (part.Redist a) (part.Maps b) = ((λ e. absurd cc), (λ e. absurd cc))
 same_part_decides (part.Redist a) part.Mem = ((λ e. absurd cc), (λ e. absurd cc))
 same_part_decides (part.Redist a) (part.Shard b m) = ((λ e. absurd cc), (λ e. absurd cc))
-same_part_decides (part.Redist a) (part.Redist b) = Decides-like _ (λ e. cc) (λ e. cc) (Decides-eqb a.0 b.0)
+same_part_decides (part.Redist a) (part.Redist b) = Decides-like _ (λ e. ap (λ (k : ℕ). part.Redist (record { 0 = k })) e) (λ e. cc) (Decides-eqb a.0 b.0)
 
 pub holds_decides : (p : Part) (xs : List Held) → Decides (holds p xs) (Holds p xs)
 holds_decides p [] = ((λ e. absurd cc), (λ h. absurd h))

@@ -55,33 +55,33 @@ gets_some w at x x' v p i y content owed turn k free yis some_is same lt is ther
 -- ---- tries
 
 pub no_part : (w : Shared) (at : ℕ) (v : View) (p : Part) → ¬ Stands (setup_of w) p → IsDone (Tries (core_of w) at v p) (core_of w) (core_of w)
-no_part w at v p no = inr ((λ d t. no t.stands), refl)
+no_part w at v p missing = inr ((λ d t. missing t.stands), refl)
 
 pub holds_already : (w : Shared) (at : ℕ) (x : Known) (v : View) (p : Part) → at < length w.views.items → x ≡ get_or w.views.items at x → get_elem? (core_of w).world.views at ≡ some v → v.standing ≡ Pass → holds p x.held.items ≡ true
     → IsDone (Tries (core_of w) at v p) (core_of w) (core_of w)
-holds_already w at x v p lt is there passes yes =
+holds_already w at x v p lt is there passes sure =
     let same : v.held ≡ x.held.items = ap (λ (u : View). u.held) (known_here (setup_of w) w.views.items at x v lt is there passes) in
-    inr ((λ d t. t.lacks (subst (Holds p) (sym same) ((holds_decides p x.held.items).0 yes))), refl)
+    inr ((λ d t. t.lacks (subst (Holds p) (sym same) ((holds_decides p x.held.items).0 sure))), refl)
 
 lacks_here : (w : Shared) (at : ℕ) (x : Known) (v : View) (p : Part) → at < length w.views.items → x ≡ get_or w.views.items at x → get_elem? (core_of w).world.views at ≡ some v → v.standing ≡ Pass → holds p x.held.items ≡ false → ¬ Holds p v.held
-lacks_here w at x v p lt is there passes no h =
+lacks_here w at x v p lt is there passes lacking h =
     let same : v.held ≡ x.held.items = ap (λ (u : View). u.held) (known_here (setup_of w) w.views.items at x v lt is there passes) in
-    let yes : holds p x.held.items ≡ true = (holds_decides p x.held.items).1 (subst (Holds p) same h) in
-    absurd (let two : true ≡ false = sym yes ∙ no in cc)
+    let sure : holds p x.held.items ≡ true = (holds_decides p x.held.items).1 (subst (Holds p) same h) in
+    absurd (let two : true ≡ false = sym sure ∙ lacking in cc)
 
 pub tries_missed : (w : Shared) (at : ℕ) (x : Known) (v : View) (p : Part) (i found : ℕ) (after : Core) → IsIndex w p i → at < length w.views.items → x ≡ get_or w.views.items at x → get_elem? (core_of w).world.views at ≡ some v → v.standing ≡ Pass
     → holds p x.held.items ≡ false → get_or w.turns.items i 0 ≡ suc found → after ≡ set_view (core_of w) at (missed v p found) → IsDone (Tries (core_of w) at v p) (core_of w) after
-tries_missed w at x v p i found after k lt is there passes no turn leaves = inl record {
+tries_missed w at x v p i found after k lt is there passes lacking turn leaves = inl record {
   stands = k.stands;
-  lacks = lacks_here w at x v p lt is there passes no;
+  lacks = lacks_here w at x v p lt is there passes lacking;
   does = inr record { found = found; taken = ap (λ (j : ℕ). get_or w.turns.items j 0) (sym k.is) ∙ turn; leaves = leaves };
 }
 
 pub tries_got : (w : Shared) (at : ℕ) (x : Known) (v : View) (p : Part) (i : ℕ) (after : Core) → IsIndex w p i → at < length w.views.items → x ≡ get_or w.views.items at x → get_elem? (core_of w).world.views at ≡ some v → v.standing ≡ Pass
     → holds p x.held.items ≡ false → get_or w.turns.items i 0 ≡ 0 → IsDone (Gets (core_of w) at v p) (core_of w) after → IsDone (Tries (core_of w) at v p) (core_of w) after
-tries_got w at x v p i after k lt is there passes no turn done =
+tries_got w at x v p i after k lt is there passes lacking turn done =
     let free : turn_of (setup_of w) w.turns.items p ≡ 0 = ap (λ (j : ℕ). get_or w.turns.items j 0) (sym k.is) ∙ turn in
     ⊎_elim
-    (λ (g : Gets (core_of w) at v p after). inl record { stands = k.stands; lacks = lacks_here w at x v p lt is there passes no; does = inl g })
+    (λ (g : Gets (core_of w) at v p after). inl record { stands = k.stands; lacks = lacks_here w at x v p lt is there passes lacking; does = inl g })
     (λ (n : ((d : Core) → ¬ Gets (core_of w) at v p d) × (after ≡ core_of w)). inr ((λ d t. ⊎_elim (λ (g : Gets (core_of w) at v p d). n.0 d g) (λ (m : Misses (core_of w) at v p d). absurd (omega (arith, m.taken, free))) t.does), n.1))
     done

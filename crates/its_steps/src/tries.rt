@@ -47,9 +47,11 @@ impl Shared {
         if holds(&self.views[at].held, part) {
             return Ok(());
         }
-        match self.turns[index].checked_sub(1) {
-            Some(found) => self.miss(at, part, found),
-            None => self.get(alloc, at, part, index),
+        let turn = self.turns[index];
+        if turn == 0 {
+            self.get(alloc, at, part, index)
+        } else {
+            self.miss(at, part, turn - 1)
         }
     }
 
