@@ -24,3 +24,5 @@ pub mod Endings
 pub mod Seats
 pub mod HeldTests
 pub mod Slots
+pub mod Positions
+pub mod HeldParts

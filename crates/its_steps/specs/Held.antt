@@ -1,5 +1,5 @@
 -- Tests of the parts that a pass holds.
-use Rattle.std.specs.Prelude.{ℕ, Bool, true, false, ◌==◌, ◌&&◌, List}
+use Rattle.std.specs.Prelude.{ℕ, Bool, true, false, not, ◌==◌, ◌&&◌, List}
 use Rattle.std.specs.List.{list_any, list_all}
 use Rattle.its_types.specs.declared.machine.Part.{Part}
 use Rattle.its_types.specs.declared.machine.Part.TheVariants as part
@@ -14,3 +14,10 @@ same_part p q = false
 
 abbrev pub holds : Part → List Held → Bool
 holds p held = list_any (λ x. same_part x.part p) held
+
+-- the part is held, and is out of its slot or in it
+abbrev pub is_out : Part → Held → Bool
+is_out p x = same_part x.part p && x.out
+
+abbrev pub is_kept : Part → Held → Bool
+is_kept p x = same_part x.part p && not x.out

@@ -81,6 +81,11 @@ is_standing Pass = true
 is_standing Note = false
 is_standing Spent = false
 
+abbrev pub is_standing_note : Standing → Bool
+is_standing_note Pass = false
+is_standing_note Note = true
+is_standing_note Spent = false
+
 -- the pass of a number
 abbrev pub is_pass : ℕ → Known → Bool
 is_pass number v = is_standing v.standing && v.number == number

@@ -1,15 +1,8 @@
-ghost use Rattle.std.specs.Prelude.{◌≡◌};
-ghost use Rattle.std.specs.Bool.{Decides};
+ghost use Rattle.std.specs.Prelude.{◌≡◌, position};
 ghost use Rattle.its_steps.specs.Held as spec;
 
 use crate::held::Held;
 use its_types::Part;
-
-fn is_part(a: Part, b: Part) -> bool
-    ensures { Decides result (a ≡ b) }
-{
-    a == b
-}
 
 fn same_part(a: Part, b: Part) -> bool
     ensures { result ≡ spec.same_part a b }
@@ -27,4 +20,20 @@ pub fn holds(held: &[Held], part: Part) -> bool
     ensures { result ≡ spec.holds part held.now }
 {
     held.iter().any(|x| same_part(x.part, part))
+}
+
+/// Where a part is held that is out of its slot.
+pub fn find_out(held: &[Held], part: Part) -> Option<usize>
+    ensures { result ≡ position (spec.is_out part) held.now }
+{
+    held.iter()
+        .position(|x| same_part(x.part, part) && x.out)
+}
+
+/// Where a part is held that stands in its slot.
+pub fn find_kept(held: &[Held], part: Part) -> Option<usize>
+    ensures { result ≡ position (spec.is_kept part) held.now }
+{
+    held.iter()
+        .position(|x| same_part(x.part, part) && !x.out)
 }

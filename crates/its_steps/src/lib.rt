@@ -6,9 +6,11 @@ mod content;
 mod event;
 mod held;
 mod holding;
+mod homes;
 mod laws;
 mod loads;
 mod shared;
+mod splits;
 mod tries;
 mod view;
 

@@ -1,6 +1,6 @@
 ghost use Rattle.std.specs.Prelude.{◌≡◌, OnOk, IfOk};
 ghost use Rattle.its_steps.specs.Parts.{Setup};
-ghost use Rattle.its_steps.specs.Shared.{known, is_standing, is_pass};
+ghost use Rattle.its_steps.specs.Shared.{known, is_standing, is_standing_note, is_pass};
 ghost use Rattle.its_steps.specs.World as world;
 
 use crate::change::ShardChange;
@@ -10,6 +10,9 @@ use its_plain::{Entry, NoMemory};
 use its_types::{Listed, Part, Word};
 use std::alloc::{AllocError, Global};
 use std::collections::VecDeque;
+
+/// The word before any commit.
+pub const FIRST_WORD: Word = Word { stamp: 0, place: 0 };
 
 /// What a view is of.
 #[derive(Clone, Copy, Debug, PartialEq, Eq)]
@@ -115,6 +118,25 @@ impl View {
         }
     }
 
+    /// A note of what was seen.
+    pub fn note(alloc: Global, seen: Vec<Entry>) -> View
+        ensures standing { result.standing ≡ Note }
+        ensures note { (s : Setup) → known s result ≡ record (world.fresh s 0 0 seen.items world.first_word) { standing = Note } }
+    {
+        let mut note = View::fresh(alloc, 0, 0, seen, FIRST_WORD);
+        note.standing = Standing::Note;
+        note
+    }
+
+    /// What is left of a pass that was joined, or of a note that was met.
+    pub fn spent(alloc: Global) -> View
+        ensures { result.standing ≡ Spent }
+    {
+        let mut spent = View::fresh(alloc, 0, 0, Vec::new(alloc), FIRST_WORD);
+        spent.standing = Standing::Spent;
+        spent
+    }
+
     /// Whether it is what the pass of a number knows.
     pub fn is_pass(&self, number: u32) -> bool
         ensures { result ≡ is_pass number self.now }
@@ -128,6 +150,27 @@ impl View {
     {
         self.last = word;
         self.seen = history;
+    }
+
+    /// The root takes back a pass that holds nothing.
+    pub fn join(&mut self, other: View) -> Result<(), AllocError>
+        ensures { OnOk result ((s : Setup) → known s self.new ≡ world.has_joined (known s self.old) (known s other)) }
+    {
+        self.ended.push_front((other.number, other.mine))?;
+        if self.last.place < other.last.place {
+            self.told = std::mem::replace(&mut self.seen, other.seen);
+            self.last = other.last;
+        } else {
+            self.told = other.seen;
+        }
+        Ok(())
+    }
+
+    /// The pass meets a note.
+    pub fn meet(&mut self, note: View)
+        ensures { (s : Setup) → known s self.new ≡ world.has_met (known s self.old) (known s note) }
+    {
+        self.told = note.seen;
     }
 
     /// The pass tries the turn of a part that another has.
@@ -157,6 +200,13 @@ impl View {
 }
 
 impl Standing {
+    /// Whether it is a note's.
+    pub fn is_note(&self) -> bool
+        ensures { result ≡ is_standing_note self.now }
+    {
+        matches!(self, Standing::Note)
+    }
+
     fn is_pass(&self) -> bool
         ensures { result ≡ is_standing self.now }
     {
