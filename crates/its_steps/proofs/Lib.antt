@@ -26,3 +26,5 @@ pub mod HeldTests
 pub mod Slots
 pub mod Positions
 pub mod HeldParts
+pub mod PassSeats
+pub mod PassesMet

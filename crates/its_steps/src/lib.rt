@@ -7,6 +7,7 @@ mod event;
 mod held;
 mod holding;
 mod homes;
+mod joins;
 mod laws;
 mod loads;
 mod shared;

@@ -18,8 +18,11 @@ impl Shared {
         ensures moves { OnOk result (IsMove (core_of self.old) at Kind.Split (core_of self.new)) }
         ensures shards { OnOk result (self.new.shards ≡ self.old.shards) }
     {
-        let (number, made) = (self.views[at].number, self.views[at].made);
-        if number != 0 || made >= NUMBERS {
+        if self.views[at].number != 0 {
+            return Ok(());
+        }
+        let made = self.views[at].made;
+        if made >= NUMBERS {
             return Ok(());
         }
         let seen = Vec::from_slice(alloc, &self.history)?;

@@ -2,6 +2,7 @@ ghost use Rattle.std.specs.Prelude.{◌≡◌, OnOk, IfOk};
 ghost use Rattle.its_steps.specs.Parts.{Setup};
 ghost use Rattle.its_steps.specs.Shared.{known, is_standing, is_standing_note, is_pass};
 ghost use Rattle.its_steps.specs.World as world;
+ghost use Rattle.its_steps.specs.declared.view.Standing.TheVariants as standing;
 
 use crate::change::ShardChange;
 use crate::content::Content;
@@ -120,8 +121,8 @@ impl View {
 
     /// A note of what was seen.
     pub fn note(alloc: Global, seen: Vec<Entry>) -> View
-        ensures standing { result.standing ≡ Note }
-        ensures note { (s : Setup) → known s result ≡ record (world.fresh s 0 0 seen.items world.first_word) { standing = Note } }
+        ensures standing { result.standing ≡ standing.Note }
+        ensures note { (s : Setup) → known s result ≡ record (world.fresh s 0 0 seen.items world.first_word) { standing = standing.Note } }
     {
         let mut note = View::fresh(alloc, 0, 0, seen, FIRST_WORD);
         note.standing = Standing::Note;
@@ -130,7 +131,7 @@ impl View {
 
     /// What is left of a pass that was joined, or of a note that was met.
     pub fn spent(alloc: Global) -> View
-        ensures { result.standing ≡ Spent }
+        ensures { result.standing ≡ standing.Spent }
     {
         let mut spent = View::fresh(alloc, 0, 0, Vec::new(alloc), FIRST_WORD);
         spent.standing = Standing::Spent;
