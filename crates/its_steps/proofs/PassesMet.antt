@@ -1,5 +1,5 @@
 -- Passes taken back, and notes met.
-use Rattle.std.proofs.Common.{◌≡◌, ◌≢◌, ℕ, suc, ◌+◌, ◌<◌, ◌≤◌, eqb, Bool, true, false, ◌&&◌, List, [], ◌∷◌, length, map, set, get_or, Option, Some, None, refl, ap, sym, ◌∙◌, subst, inl, inr, arith}
+use Rattle.std.proofs.Common.{◌≡◌, ◌≢◌, ℕ, zero, suc, ◌+◌, ◌<◌, ◌≤◌, eqb, Bool, true, false, ◌&&◌, List, [], ◌∷◌, length, map, set, get_or, Option, Some, None, refl, ap, sym, ◌∙◌, subst, inl, inr, arith}
 use Rattle.std.specs.List.{position}
 use Rattle.std.specs.Vec.{with_item}
 use Rattle.std.proofs.lemmas.Bool.{eqb-true}
@@ -86,3 +86,95 @@ no_pass_at w n i v none a =
     let fails : is_pass n k.0 ≡ false = ap (is_pass n) (sym (at_read w.views.items i k.0 k.0 k.2)) ∙ none_passes (is_pass n) w.views.items none i k.0 k.1 in
     let two : true ≡ false = sym (is_this (setup_of w) n k.0 v k.3 a.passes a.number_is) ∙ fails in
     cc
+
+-- ---- two views changed
+
+pub two_views : (s : Setup) (items : List Known) (i j : ℕ) (a b : Known) (v u : View) → i ≢ j → view_of s a ≡ v → view_of s b ≡ u → map (view_of s) (set (set items i a) j b) ≡ set (set (map (view_of s) items) j u) i v
+two_views s items i j a b v u ne e f =
+    map-set (view_of s) (set items i a) j b ∙ ((λ d. set (map-set (view_of s) items i a d) j (f d)) ∙ ((λ d. set (set (map (view_of s) items) i (e d)) j u) ∙ set_comm (map (view_of s) items) i j v u ne))
+
+-- ---- no note to meet
+
+module _ (w : Shared) (at : ℕ) (v : View) where
+  abbrev s2 : Setup
+  s2 = setup_of w
+
+  pub no_note : (n : ℕ) → length w.notes.items ≤ n → IsDone (Meets (core_of w) at v n) (core_of w) (core_of w)
+  no_note n le = inr ((λ d t. absurd (let b = at_below w.notes.items n t.index t.is_at.made in omega (arith, b, le))), refl)
+
+  same_index : (n i : ℕ) (note : View) (j : ℕ) → n < length w.notes.items → j ≡ get_or w.notes.items n j → IsNoteAt (core_of w) n i note → i ≡ j
+  same_index n i note j below jis a = some-injective i j (sym a.made ∙ at_index w.notes.items n j below jis)
+
+  pub no_index : (n j : ℕ) → n < length w.notes.items → j ≡ get_or w.notes.items n j → length w.views.items ≤ j → IsDone (Meets (core_of w) at v n) (core_of w) (core_of w)
+  no_index n j below jis le = inr ((λ d t. absurd (let b = known_at w t.index t.note t.is_at.at in let lt2 = b.1 in let e = same_index n t.index t.note j below jis t.is_at in omega (arith, lt2, le, e))), refl)
+
+  not_met : (y : Known) (u : View) → u ≡ view_of s2 y → u.standing ≡ Note → is_standing_note y.standing ≡ true
+  not_met y u e p = ap is_standing_note (sym (ap (λ (z : View). z.standing) e ∙ same_standing s2 y) ∙ p)
+
+  pub no_note_at : (n j : ℕ) (y : Known) → n < length w.notes.items → j ≡ get_or w.notes.items n j → j < length w.views.items → y ≡ get_or w.views.items j y → is_standing_note y.standing ≡ false → IsDone (Meets (core_of w) at v n) (core_of w) (core_of w)
+  no_note_at n j y below jis in_views yis fails =
+      inr ((λ d t. let e = same_index n t.index t.note j below jis t.is_at in
+      let u : t.note ≡ view_of s2 y = some-injective t.note (view_of s2 y) (sym t.is_at.at ∙ (ap (get_elem? (core_of w).world.views) e ∙ at_map (view_of s2) w.views.items j y (at_index w.views.items j y in_views yis))) in
+      let two : true ≡ false = sym (not_met y t.note u t.is_at.is_note) ∙ fails in
+      absurd cc), refl)
+
+-- ---- the root takes a pass back
+
+module _ (w : Shared) (at : ℕ) (x : Known) (v : View) (lt : at < length w.views.items) (is : x ≡ get_or w.views.items at x) (there : get_elem? (core_of w).world.views at ≡ some v) (passes : v.standing ≡ Pass) where
+  abbrev s : Setup
+  s = setup_of w
+
+  v_is : v ≡ known s x
+  v_is = known_here s w.views.items at x v lt is there passes
+
+  pub not_root : (number : ℕ) → x.number ≢ 0 → IsDone (Joins (core_of w) at v number) (core_of w) (core_of w)
+  not_root number ne = inr ((λ d t. ne (sym (ap (λ (u : View). u.number) v_is) ∙ t.root)), refl)
+
+  pub none_to_join : (number : ℕ) → position (is_pass number) w.views.items ≡ None → IsDone (Joins (core_of w) at v number) (core_of w) (core_of w)
+  none_to_join number none = inr ((λ d t. no_pass_at w number t.index t.view none t.is_at), refl)
+
+  pub not_bare : IsGoodCore (core_of w) → (number i : ℕ) (y : Known) → position (is_pass number) w.views.items ≡ Some i → y ≡ get_or w.views.items i y → (y.held.items ≡ [] → ⊥) → IsDone (Joins (core_of w) at v number) (core_of w) (core_of w)
+  not_bare good number i y found yis full =
+      inr ((λ d t. full (sym (ap (λ (u : View). u.held) (one_view (core_of w) good number t.index i t.view (known s y) t.is_at (pass_at w number i y found yis))) ∙ t.bare)), refl)
+
+  -- x is read once more after the other view was taken
+  pub joins : (number i : ℕ) (y x2 x' gone : Known) → x.number ≡ 0 → number ≢ 0 → position (is_pass number) w.views.items ≡ Some i → y ≡ get_or w.views.items i y → y.held.items ≡ [] → gone.standing ≡ Spent → x2 ≡ get_or (set w.views.items i gone) at x2
+      → known s x' ≡ loaded (has_joined (known s x2) (known s y)) w.word w.history.items → (views : List Known) → views ≡ set (set w.views.items i gone) at x' → Joins (core_of w) at v number (record (core_of w) { world = record (core_of w).world { views = map (view_of s) views } })
+  joins number i y x2 x' gone root other found yis bare spent_is x2is new views made =
+      let a = pass_at w number i y found yis in
+      let f = position-Some (is_pass number) w.views.items i y found in
+      let ne : i ≢ at = λ e. other (sym a.number_is ∙ (ap (λ (u : Known). u.number) (yis ∙ (ap (λ (k : ℕ). get_or w.views.items k y) e ∙ (any_default w.views.items at y x lt ∙ sym is))) ∙ root)) in
+      let same : x2 ≡ x = x2is ∙ (get_or-set_other w.views.items i at gone x2 (λ e. ne (sym e)) ∙ (any_default w.views.items at x2 x lt ∙ sym is)) in
+      let now : known s x' ≡ loaded (has_joined v (known s y)) w.word w.history.items = new ∙ ap (λ (u : View). loaded (has_joined u (known s y)) w.word w.history.items) (ap (known s) same ∙ sym v_is) in
+      let p : x'.standing ≡ Pass = ap (λ (u : View). u.standing) now ∙ passes in
+      let e : map (view_of s) views ≡ set (set (map (view_of s) w.views.items) at (loaded (has_joined v (known s y)) w.word w.history.items)) i spent =
+      ap (map (view_of s)) made ∙ two_views s w.views.items i at gone x' spent (loaded (has_joined v (known s y)) w.word w.history.items) ne (spent_view s gone spent_is) (pass_view s x' p ∙ now) in
+      record {
+        root = ap (λ (u : View). u.number) v_is ∙ root;
+        other = other;
+        index = i;
+        view = known s y;
+        is_at = a;
+        bare = bare;
+        leaves = λ d. record (core_of w) { world = record (core_of w).world { views = e d } };
+      }
+
+  -- ---- a pass meets a note
+
+  pub meets : (n i : ℕ) (y x2 x' gone : Known) → n < length w.notes.items → i ≡ get_or w.notes.items n i → i < length w.views.items → y ≡ get_or w.views.items i y → is_standing_note y.standing ≡ true → gone.standing ≡ Spent → x2 ≡ get_or (set w.views.items i gone) at x2
+      → known s x' ≡ loaded (has_met (known s x2) (known s y)) w.word w.history.items → (views : List Known) → views ≡ set (set w.views.items i gone) at x' → Meets (core_of w) at v n (record (core_of w) { world = record (core_of w).world { views = map (view_of s) views } })
+  meets n i y x2 x' gone below iis in_views yis note spent_is x2is new views made =
+      let np : y.standing ≡ Note = note_standing y.standing note in
+      let px : x.standing ≡ Pass = pass_here s w.views.items at x v lt is there passes in
+      let ne : i ≢ at = λ e. absurd (let both : Note ≡ Pass = sym np ∙ (ap (λ (u : Known). u.standing) (yis ∙ (ap (λ (k : ℕ). get_or w.views.items k y) e ∙ (any_default w.views.items at y x lt ∙ sym is))) ∙ px) in cc) in
+      let same : x2 ≡ x = x2is ∙ (get_or-set_other w.views.items i at gone x2 (λ e. ne (sym e)) ∙ (any_default w.views.items at x2 x lt ∙ sym is)) in
+      let now : known s x' ≡ loaded (has_met v (known s y)) w.word w.history.items = new ∙ ap (λ (u : View). loaded (has_met u (known s y)) w.word w.history.items) (ap (known s) same ∙ sym v_is) in
+      let p : x'.standing ≡ Pass = ap (λ (u : View). u.standing) now ∙ passes in
+      let e : map (view_of s) views ≡ set (set (map (view_of s) w.views.items) at (loaded (has_met v (known s y)) w.word w.history.items)) i spent =
+      ap (map (view_of s)) made ∙ two_views s w.views.items i at gone x' spent (loaded (has_met v (known s y)) w.word w.history.items) ne (spent_view s gone spent_is) (pass_view s x' p ∙ now) in
+      record {
+        index = i;
+        note = known s y;
+        is_at = record { made = at_index w.notes.items n i below iis; at = at_map (view_of s) w.views.items i y (at_index w.views.items i y in_views yis) ∙ ap some (note_view s y np); is_note = np };
+        leaves = λ d. record (core_of w) { world = record (core_of w).world { views = e d } };
+      }

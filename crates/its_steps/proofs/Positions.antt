@@ -50,3 +50,7 @@ any_default (x ∷ xs) (suc k) a b lt = any_default xs k a b (omega arith)
 -- an element that is read twice
 pub same_read : {X : Type 0} (xs : List X) (k : ℕ) (a b : X) → k < length xs → a ≡ get_or xs k a → b ≡ get_or xs k b → a ≡ b
 same_read xs k a b lt e f = e ∙ (any_default xs k a b lt ∙ sym f)
+
+pub no_items : {X : Type 0} (xs : List X) → length xs ≡ 0 → xs ≡ []
+no_items [] e = refl
+no_items (x ∷ xs) e = absurd (omega arith)
