@@ -4,7 +4,8 @@ ghost use Rattle.its_steps.specs.Held as spec;
 use crate::held::Held;
 use its_types::Part;
 
-fn same_part(a: Part, b: Part) -> bool
+/// Whether two parts are the same.
+pub fn same_part(a: Part, b: Part) -> bool
     ensures { result ≡ spec.same_part a b }
 {
     match (a, b) {
@@ -16,6 +17,7 @@ fn same_part(a: Part, b: Part) -> bool
     }
 }
 
+/// Whether a part is held.
 pub fn holds(held: &[Held], part: Part) -> bool
     ensures { result ≡ spec.holds part held.now }
 {

@@ -1,6 +1,7 @@
 //! The pure interleaving core: worlds of passes that share a machine, and the steps from one to the next.
 #![tactic(auto)]
 
+mod answers;
 mod change;
 mod content;
 mod event;
@@ -10,6 +11,7 @@ mod homes;
 mod joins;
 mod laws;
 mod loads;
+mod renewals;
 mod shared;
 mod splits;
 mod tries;
