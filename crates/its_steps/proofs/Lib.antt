@@ -28,3 +28,4 @@ pub mod Positions
 pub mod HeldParts
 pub mod PassSeats
 pub mod PassesMet
+pub mod MayTests

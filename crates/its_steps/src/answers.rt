@@ -76,18 +76,21 @@ impl Shared {
         let Call::Signal { its, dev, ev } = *call else {
             return None;
         };
-        let Reply::Signal(Signal::Delivered { vcpu, intid }) = *reply else {
+        let Reply::Signal(signal) = *reply else {
+            return None;
+        };
+        let Signal::Delivered { vcpu, intid } = signal else {
             return None;
         };
         let target = Target { vcpu, intid };
         let shard = Part::Shard(its, shard_of(dev, ev, self.shards));
-        if finds_in(held, shard, dev, ev, expected.stamp, target)
-            && holds(held, Part::Redist(vcpu))
-        {
-            Some(target)
-        } else {
-            None
+        if !finds_in(held, shard, dev, ev, expected.stamp, target) {
+            return None;
         }
+        if !holds(held, Part::Redist(vcpu)) {
+            return None;
+        }
+        Some(target)
     }
 
     // Whether every part of the call is held, and it has this reply; and if so, what it leaves.
@@ -108,7 +111,7 @@ impl Shared {
             return Ok(None);
         }
         let (after, answer) = state.answer(alloc, call)?;
-        if answer != *reply {
+        if !is_same_reply(&answer, reply) {
             return Ok(None);
         }
         Ok(Some(after))
@@ -138,25 +141,57 @@ impl Shared {
     }
 
     /// Whether a call that leaves a state may change the shards so.
-    pub fn may_change(&self, held: &[Held], call: &Call, change: &ShardChange, after: &State) -> bool
+    pub fn may_change(
+        &self,
+        held: &[Held],
+        call: &Call,
+        change: &ShardChange,
+        after: &State,
+    ) -> bool
         requires { 1 ≤ self.now.shards }
         ensures { Decides result (may.MayChange (setup_of self.now) call.now change.now after.now held.now) }
     {
-        let its = its_of(call);
         match *change {
-            ShardChange::Fill(dev, ev, target) => {
-                let shard = Part::Shard(its, shard_of(dev, ev, self.shards));
-                holds(held, Part::Maps(its))
-                    && holds(held, shard)
-                    && holds(held, Part::Redist(target.vcpu))
-                    && goes_to(after, its, dev, ev, target)
-            }
+            ShardChange::Fill(dev, ev, target) => self.may_fill(held, call, after, dev, ev, target),
             ShardChange::Drop(dev, ev) => {
-                holds(held, Part::Shard(its, shard_of(dev, ev, self.shards)))
+                let shard = Part::Shard(its_of(call), shard_of(dev, ev, self.shards));
+                holds(held, shard)
             }
             ShardChange::Keep | ShardChange::Empty => true,
         }
     }
+
+    // Whether it may fill a pair's translation in.
+    fn may_fill(
+        &self,
+        held: &[Held],
+        call: &Call,
+        after: &State,
+        dev: DeviceId,
+        ev: EventId,
+        target: Target,
+    ) -> bool
+        requires { 1 ≤ self.now.shards }
+        ensures { Decides result (may.MayFill (setup_of self.now) call.now after.now held.now dev ev target) }
+    {
+        let its = its_of(call);
+        if !holds(held, Part::Maps(its)) {
+            return false;
+        }
+        if !holds(held, Part::Shard(its, shard_of(dev, ev, self.shards))) {
+            return false;
+        }
+        if !holds(held, Part::Redist(target.vcpu)) {
+            return false;
+        }
+        goes_to(after, its, dev, ev, target)
+    }
+}
+
+fn is_same_reply(a: &Reply, b: &Reply) -> bool
+    ensures { Decides result (a.now ≡ b.now) }
+{
+    a == b
 }
 
 // Whether a message goes to this target.

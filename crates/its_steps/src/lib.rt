@@ -14,6 +14,7 @@ mod loads;
 mod renewals;
 mod shared;
 mod splits;
+mod steady;
 mod tries;
 mod view;
 
