@@ -95,11 +95,8 @@ impl State {
                 add_redist_of(found, self.target_of_event(its, dev, ev))?;
                 add_redist_of(found, self.collection(its, icid))
             }
-            Command::Int { dev, ev }
-            | Command::Clear { dev, ev }
-            | Command::Discard { dev, ev } => {
-                add_redist_of(found, self.target_of_event(its, dev, ev))
-            }
+            Command::Int { dev, ev } | Command::Clear { dev, ev } | Command::Discard { dev, ev } =>
+                { add_redist_of(found, self.target_of_event(its, dev, ev)) }
             Command::Mapc {
                 icid,
                 target,

@@ -8,6 +8,7 @@ mod call;
 mod commands;
 mod copies;
 mod desc;
+mod equal;
 mod fault;
 mod footprints;
 mod make;

@@ -83,7 +83,7 @@ impl RedistLists {
     }
 
     /// A byte of the pending table.
-    pub fn pending_byte(&self, n: u32) -> u8
+    pub(crate) fn pending_byte(&self, n: u32) -> u8
         requires { n < 2 ^ 29 }
         ensures { result ≡ lpis.pending_byte n self.now.pending }
     {
@@ -106,14 +106,14 @@ impl RedistLists {
     }
 
     /// Where the configuration table stands.
-    pub fn config_base(&self) -> u64
+    pub(crate) fn config_base(&self) -> u64
         ensures { result ≡ self.now.bases.config.0 }
     {
         self.bases.config.0
     }
 
     /// Adds the area of the pending table, where LPIs are on.
-    pub fn add_pending_area(
+    pub(crate) fn add_pending_area(
         &self,
         areas: &mut Vec<Area>,
         shape: &Shape,
@@ -135,7 +135,7 @@ impl RedistLists {
     }
 
     /// Adds the area of the configuration table, where LPIs are on.
-    pub fn add_config_area(
+    pub(crate) fn add_config_area(
         &self,
         areas: &mut Vec<Area>,
         shape: &Shape,
@@ -157,7 +157,7 @@ impl RedistLists {
     }
 
     /// Writes the pending table, where LPIs are on.
-    pub fn write_pending(&self, memory: &mut Memory, shape: &Shape)
+    pub(crate) fn write_pending(&self, memory: &mut Memory, shape: &Shape)
         requires least { 14 ≤ shape.now.lpi_bits }
         requires most { shape.now.lpi_bits ≤ 20 }
         ensures { memory.new ≡ saved.put_tables memory.old (saved.pending_words shape.now self.now) }
@@ -168,7 +168,7 @@ impl RedistLists {
     }
 
     /// Hands the pending set out, so that nothing is pending.
-    pub fn take_all(&mut self, alloc: Global) -> Vec<u32>
+    pub(crate) fn take_all(&mut self, alloc: Global) -> Vec<u32>
         ensures taken { result.items ≡ self.old.pending }
         ensures none { self.new ≡ record self.old { pending = [] } }
     {
@@ -176,7 +176,7 @@ impl RedistLists {
     }
 
     /// Makes all of some LPIs pending.
-    pub fn set_all(&mut self, intids: Vec<u32>) -> Result<(), AllocError>
+    pub(crate) fn set_all(&mut self, intids: Vec<u32>) -> Result<(), AllocError>
         ensures { OnOk result (self.new ≡ record self.old { pending = lpis.with_lpis intids.items self.old.pending }) }
     {
         add_all_rising(&mut self.pending, intids)?;
@@ -184,7 +184,7 @@ impl RedistLists {
     }
 
     /// The LPI that would be acknowledged.
-    pub fn lowest(&self) -> Option<u32>
+    pub(crate) fn lowest(&self) -> Option<u32>
         ensures { result ≡ plain.lowest self.now }
     {
         first_enabled(&self.config, &self.pending)
@@ -215,7 +215,7 @@ impl RedistLists {
 
     /// Reads an LPI's configuration byte again, if LPIs are on.
     #[tactic(auto, unfolding(crate::specs::Commands::reread_at))]
-    pub fn reread(&mut self, memory: &Memory, intid: u32)
+    pub(crate) fn reread(&mut self, memory: &Memory, intid: u32)
         ensures { self.new ≡ commands.reread_at memory.now intid self.old }
     {
         if !self.bases.on {
@@ -227,7 +227,7 @@ impl RedistLists {
         }
     }
 
-    pub fn reread_all(&mut self, memory: &Memory, intids: &[u32])
+    pub(crate) fn reread_all(&mut self, memory: &Memory, intids: &[u32])
         ensures { self.new ≡ commands.all_reread_at memory.now intids.now self.old }
     {
         for intid in intids {

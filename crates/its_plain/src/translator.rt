@@ -57,7 +57,7 @@ impl TranslatorLists {
         &self.regs
     }
 
-    pub fn maps(&self) -> &MapLists
+    pub(crate) fn maps(&self) -> &MapLists
         ensures { result.now ≡ self.now.maps }
     {
         &self.maps
@@ -82,7 +82,11 @@ impl TranslatorLists {
 
     /// Adds the areas of the tables.
     #[tactic(auto, unfolding(crate::specs::Regions::table_areas))]
-    pub fn add_tables(&self, areas: &mut Vec<Area>, memory: &Memory) -> Result<(), AllocError>
+    pub(crate) fn add_tables(
+        &self,
+        areas: &mut Vec<Area>,
+        memory: &Memory,
+    ) -> Result<(), AllocError>
         ensures { OnOk result (areas.new.items ≡ areas.old.items ++ regions.table_areas memory.now self.now) }
     {
         area::add_devices(areas, &self.regs, memory)?;
@@ -91,7 +95,7 @@ impl TranslatorLists {
     }
 
     /// The first device whose level-1 entry isn't valid.
-    pub fn first_unplaced(&self, memory: &Memory) -> Option<DeviceId>
+    pub(crate) fn first_unplaced(&self, memory: &Memory) -> Option<DeviceId>
         ensures { option_map (λ d. d.0) result ≡ option_map (λ d. d.0) (regions.first_unplaced memory.now self.now) }
     {
         self.maps.first_unplaced(&self.regs, memory)
@@ -99,7 +103,7 @@ impl TranslatorLists {
 
     /// Writes the tables. `before` is memory as it was before any table was written.
     #[tactic(auto, using(crate::proofs::SavedTables::put_more), unfolding(crate::specs::Saved::translator_words))]
-    pub fn write_tables(&self, memory: &mut Memory, before: &Memory)
+    pub(crate) fn write_tables(&self, memory: &mut Memory, before: &Memory)
         ensures { memory.new ≡ saved.put_tables memory.old (saved.translator_words before.now self.now) }
     {
         saved_tables::write_devices(memory, before, &self.regs, &self.maps);
