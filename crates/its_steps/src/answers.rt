@@ -111,7 +111,7 @@ impl Shared {
             return Ok(None);
         }
         let (after, answer) = state.answer(alloc, call)?;
-        if !is_same_reply(&answer, reply) {
+        if !answer.equals(reply) {
             return Ok(None);
         }
         Ok(Some(after))
@@ -186,12 +186,6 @@ impl Shared {
         }
         goes_to(after, its, dev, ev, target)
     }
-}
-
-fn is_same_reply(a: &Reply, b: &Reply) -> bool
-    ensures { Decides result (a.now ≡ b.now) }
-{
-    a == b
 }
 
 // Whether a message goes to this target.

@@ -14,6 +14,7 @@ mod loads;
 mod renewals;
 mod shared;
 mod splits;
+mod stamps;
 mod steady;
 mod tries;
 mod view;

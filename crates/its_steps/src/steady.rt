@@ -101,8 +101,9 @@ impl Shared {
         requires { 1 ≤ self.now.shards }
         ensures { IfOk result (λ b. Decides b ((dev ev : ℕ) (target : Goal) → located before.now dev ev ≡ Ok target → (located after.now dev ev ≡ Ok target) ⊎ may.IsWithout (setup_of self.now) its dev ev owed.now)) }
     {
-        for (dev, ev) in before.events(alloc)? {
-            if !self.keeps_pair(its, owed, before, after, dev, ev) {
+        let pairs = before.events(alloc)?;
+        for pair in &pairs {
+            if !self.keeps_pair(its, owed, before, after, pair.0, pair.1) {
                 return Ok(false);
             }
         }

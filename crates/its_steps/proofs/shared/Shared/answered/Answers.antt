@@ -26,14 +26,14 @@ returns c =
     let passes = sym c.covers.ensures ∙ c.if-not-covers.false in
     let all = (covers_decides c.args.held.now c.deref.result.now).0 passes in
     let u : Plain = assembled (setup_of c.args.self.now) c.args.held.now in
-    let same : c.in_ok-after.answer ≡ c.args.reply.now = c.is_same_reply.ensures.0 c.if-not-is_same_reply.false in
+    let same : c.in_ok-after.answer ≡ c.args.reply.now = c.equals.ensures.0 c.if-not-equals.false in
     (record {
       covers = subst (AllByRecursion (λ (p : Part). Holds p c.args.held.now)) parts all;
       reply_is = sym same ∙ (c.in_ok-after.ensures.reply ∙ ap (λ (w : Plain). reply_of w c.args.call.now) c.requires);
     }, c.in_ok-after.ensures.left ∙ (λ d. left (c.requires d) c.args.call.now (same d)))
 
-pub returns-then-not-is_same_reply : goal.returns-then-not-is_same_reply
-returns-then-not-is_same_reply c = λ h.
+pub returns-then-not-equals : goal.returns-then-not-equals
+returns-then-not-equals c = λ h.
     let same : c.in_ok-after.answer ≡ c.args.reply.now = c.in_ok-after.ensures.reply ∙ (ap (λ (w : Plain). reply_of w c.args.call.now) c.requires ∙ sym h.reply_is) in
-    let two : true ≡ false = sym (c.is_same_reply.ensures.1 same) ∙ c.if-not-is_same_reply.true in
+    let two : true ≡ false = sym (c.equals.ensures.1 same) ∙ c.if-not-equals.true in
     cc
