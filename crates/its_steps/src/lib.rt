@@ -3,6 +3,7 @@
 
 mod answers;
 mod change;
+mod commits;
 mod content;
 mod event;
 mod held;

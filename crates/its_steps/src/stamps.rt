@@ -124,7 +124,13 @@ impl Shared {
         if !holds_maps(held, its) {
             return false;
         }
-        u64::from(to.stamp) == u64::from(expected.stamp) + 1 && to.stamp <= self.limits.stamp_last
+        if u64::from(to.stamp) != u64::from(expected.stamp) + 1 {
+            return false;
+        }
+        if to.stamp > self.limits.stamp_last {
+            return false;
+        }
+        true
     }
 
     fn renews(
@@ -148,5 +154,52 @@ impl Shared {
             return false;
         }
         have_fills_alone(owed, to, call, change, its)
+    }
+
+    // Whether the stamp of one translator may be so.
+    fn may_stamp(
+        &self,
+        alloc: Global,
+        expected: Word,
+        to: Word,
+        call: &Call,
+        change: &ShardChange,
+        held: &[Held],
+        owed: &[Held],
+        its: usize,
+    ) -> Result<bool, NoMemory>
+        requires { 1 ≤ self.now.shards }
+        ensures { IfOk result (λ b. Decides b (may.MayStamp (setup_of self.now) expected to call.now change.now held.now owed.now its)) }
+    {
+        if self.stays(alloc, expected, to, its, held, owed)? {
+            return Ok(true);
+        }
+        if self.rises(expected, to, its, held) {
+            return Ok(true);
+        }
+        Ok(self.renews(to, call, change, its, held, owed))
+    }
+
+    /// Whether the stamp may be so.
+    pub fn may_stamps(
+        &self,
+        alloc: Global,
+        expected: Word,
+        to: Word,
+        call: &Call,
+        change: &ShardChange,
+        held: &[Held],
+        owed: &[Held],
+    ) -> Result<bool, NoMemory>
+        requires { 1 ≤ self.now.shards }
+        ensures { IfOk result (λ b. Decides b ((its : ℕ) → its < translator_count (setup_of self.now) → may.MayStamp (setup_of self.now) expected to call.now change.now held.now owed.now its)) }
+    {
+        for its in 0..self.start.translators().len() {
+            let may = self.may_stamp(alloc, expected, to, call, change, held, owed, its)?;
+            if !may {
+                return Ok(false);
+            }
+        }
+        Ok(true)
     }
 }
