@@ -29,3 +29,4 @@ pub mod HeldParts
 pub mod PassSeats
 pub mod PassesMet
 pub mod MayTests
+pub mod Committed

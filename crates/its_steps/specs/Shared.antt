@@ -1,12 +1,17 @@
 -- The worlds of the program, and the worlds that they stand for.
-use Rattle.std.specs.Prelude.{◌≡◌, ◌⊎◌, ℕ, ◌<◌, Bool, true, false, ◌==◌, ◌&&◌, List, [], ◌∷◌, length, map}
+use Rattle.std.specs.Prelude.{◌≡◌, ◌⊎◌, ℕ, ◌<◌, Bool, true, false, ◌==◌, ◌&&◌, List, [], ◌∷◌, ◌++◌, length, map, slice_set, slice_index_or}
 use Rattle.std.specs.Prelude as std
 use mathlib.Core.Option.{Option, none, some}
 use lib.ListN.{get_elem?}
 use Rattle.its_types.specs.declared.machine.Part.{Part}
+use Rattle.its_types.specs.declared.machine.Word.{Word}
+use Rattle.its_plain.specs.declared.call.Call.{Call}
+use Rattle.its_plain.specs.declared.call.Reply.{Reply}
+use Rattle.its_steps.specs.declared.change.ShardChange.{ShardChange}
+use Rattle.its_steps.specs.declared.held.Held.{Held}
 use Rattle.its_steps.specs.Parts.{Setup, Stands, index_of}
 use Rattle.its_steps.specs.Good.{AreWide}
-use Rattle.its_steps.specs.World.{View, World, spent}
+use Rattle.its_steps.specs.World.{View, World, spent, entry, committed}
 use Rattle.its_steps.specs.Steps.{Core, Moves}
 use Rattle.its_steps.specs.declared.content.Content.{Content}
 use Rattle.its_steps.specs.declared.event.Kind.{Kind}
@@ -90,6 +95,10 @@ is_standing_note Spent = false
 abbrev pub is_pass : ℕ → Known → Bool
 is_pass number v = is_standing v.standing && v.number == number
 
+-- a pass is at the index
+abbrev pub IsPassAt : Shared → ℕ → Type 0
+IsPassAt w at = (x : Known) → x ≡ slice_index_or w.views.items at x → x.standing ≡ Pass
+
 -- ---- moves
 
 -- this is what is left of c, or it can't be and c stays as it is
@@ -103,3 +112,10 @@ AtPass c i P = (v : View) → get_elem? c.world.views i ≡ some v → v.standin
 -- the pass at an index does a step of this kind, or isn't allowed it
 abbrev pub IsMove : Core → ℕ → Kind → Core → Type 0
 IsMove c i kind after = AtPass c i (λ v. IsDone (Moves c i v kind) c after)
+
+-- what a commit makes of a world
+abbrev pub made : Core → ℕ → View → Word → Word → Call → Reply → ShardChange → List Held → Core
+made c i v expected to call reply change owed = record c {
+  history = c.history ++ entry v.number call reply ∷ [];
+  world = record c.world { word = to; views = slice_set c.world.views i (committed v c.history expected to call reply change owed) };
+}

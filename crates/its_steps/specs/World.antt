@@ -142,7 +142,7 @@ took v p c = record (got v p c) { held = out p c ∷ v.held }
 abbrev pub entry : ℕ → Call → Reply → Entry
 entry number call reply = record { pass = number; call = call; reply = reply }
 
-abbrev is_looked : Looked → Part → Bool
+abbrev pub is_looked : Looked → Part → Bool
 is_looked o (part.Shard its n) = its == o.its && n == o.number
 is_looked o p = false
 

@@ -1,4 +1,4 @@
-ghost use Rattle.std.specs.Prelude.{◌≡◌, OnOk, IfOk};
+ghost use Rattle.std.specs.Prelude.{◌≡◌, ◌++◌, ◌∷◌, [], OnOk, IfOk};
 ghost use Rattle.its_steps.specs.Parts.{Setup};
 ghost use Rattle.its_steps.specs.Shared.{known, is_standing, is_standing_note, is_pass};
 ghost use Rattle.its_steps.specs.World as world;
@@ -7,7 +7,7 @@ ghost use Rattle.its_steps.specs.declared.view.Standing.TheVariants as standing;
 use crate::change::ShardChange;
 use crate::content::Content;
 use crate::held::Held;
-use its_plain::{Entry, NoMemory};
+use its_plain::{Call, Entry, NoMemory, Reply};
 use its_types::{Listed, Part, Word};
 use std::alloc::{AllocError, Global};
 use std::collections::VecDeque;
@@ -74,6 +74,28 @@ impl Looked {
             number: self.number,
             ways: Listed::from_vec(ways),
         })
+    }
+
+    // Looks at the shard again, if it is held.
+    fn look_again(&mut self, alloc: Global, held: &[Held]) -> Result<(), AllocError>
+        ensures { OnOk result (self.new ≡ world.looked_in held.now self.old) }
+    {
+        for x in held {
+            if self.is_at(x.part) {
+                return self.look(alloc, x.part, &x.owed);
+            }
+        }
+        Ok(())
+    }
+
+    // Whether the part is the shard.
+    fn is_at(&self, part: Part) -> bool
+        ensures { result ≡ world.is_looked self.now part }
+    {
+        match part {
+            Part::Shard(its, number) => its == self.its && number == self.number,
+            _ => false,
+        }
     }
 
     /// Looks at the part, if that is a shard.
@@ -151,6 +173,42 @@ impl View {
     {
         self.last = word;
         self.seen = history;
+    }
+
+    /// The pass commits a call. `seen` is the history with that.
+    pub fn commit(
+        &mut self,
+        alloc: Global,
+        seen: Vec<Entry>,
+        expected: Word,
+        to: Word,
+        call: &Call,
+        reply: &Reply,
+        change: &ShardChange,
+        owed: Vec<Held>,
+    ) -> Result<(), NoMemory>
+        ensures { OnOk result ((s : Setup) → known s self.new ≡ record (known s self.old) {
+            seen = seen.items;
+            mine = self.old.mine ++ (expected.place, world.entry self.old.number call.now reply.now) ∷ [];
+            last = to;
+            held = owed.items;
+            looked = world.looked_in owed.items self.old.looked;
+            base = expected;
+            change = change.now }) }
+    {
+        self.looked.look_again(alloc, &owed)?;
+        let entry = Entry {
+            pass: self.number,
+            call: *call,
+            reply: *reply,
+        };
+        self.mine.push((expected.place, entry))?;
+        self.seen = seen;
+        self.last = to;
+        self.held = owed;
+        self.base = expected;
+        self.change = *change;
+        Ok(())
     }
 
     /// The root takes back a pass that holds nothing.
