@@ -30,3 +30,4 @@ pub mod PassSeats
 pub mod PassesMet
 pub mod MayTests
 pub mod Committed
+pub mod Stepped

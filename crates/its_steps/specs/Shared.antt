@@ -1,5 +1,5 @@
 -- The worlds of the program, and the worlds that they stand for.
-use Rattle.std.specs.Prelude.{◌≡◌, ◌⊎◌, ℕ, ◌<◌, Bool, true, false, ◌==◌, ◌&&◌, List, [], ◌∷◌, ◌++◌, length, map, slice_set, slice_index_or}
+use Rattle.std.specs.Prelude.{◌≡◌, ◌⊎◌, ℕ, ◌<◌, Bool, true, false, ◌==◌, ◌&&◌, List, [], ◌∷◌, ◌++◌, length, map, replicate, ◌*◌, slice_set, slice_index_or}
 use Rattle.std.specs.Prelude as std
 use mathlib.Core.Option.{Option, none, some}
 use lib.ListN.{get_elem?}
@@ -13,7 +13,10 @@ use Rattle.its_steps.specs.Parts.{Setup, Stands, index_of}
 use Rattle.its_steps.specs.Good.{AreWide}
 use Rattle.its_steps.specs.World.{View, World, spent, entry, committed}
 use Rattle.its_steps.specs.Steps.{Core, Moves}
+use Rattle.xlate_cache.specs.Ways.{no_entries}
+use Rattle.its_plain.specs.Plain.{Plain}
 use Rattle.its_steps.specs.declared.content.Content.{Content}
+use Rattle.its_steps.specs.declared.content.Content.TheVariants.{Maps, Mem, Shard, Redist}
 use Rattle.its_steps.specs.declared.event.Kind.{Kind}
 use Rattle.its_steps.specs.declared.shared.Shared.{Shared}
 use Rattle.its_steps.specs.declared.view.Standing.{Standing}
@@ -119,3 +122,10 @@ made c i v expected to call reply change owed = record c {
   history = c.history ++ entry v.number call reply ∷ [];
   world = record c.world { word = to; views = slice_set c.world.views i (committed v c.history expected to call reply change owed) };
 }
+
+-- ---- the first slots
+
+abbrev pub home_slots : Plain → ℕ → List (std.Option Content)
+home_slots u shards =
+    map (λ t. std.Some (Maps t)) u.translators
+    ++ (std.Some (Mem u.memory) ∷ (replicate (length u.translators * shards) (std.Some (Shard no_entries)) ++ map (λ r. std.Some (Redist r)) u.redistributors))

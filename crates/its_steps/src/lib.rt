@@ -17,8 +17,10 @@ mod shared;
 mod splits;
 mod stamps;
 mod steady;
+mod step;
 mod tries;
 mod view;
+mod world;
 
 pub use change::ShardChange;
 pub use content::Content;
@@ -32,3 +34,4 @@ pub use laws::{
     take_out_keeps, try_keeps,
 };
 pub use view::{Looked, Standing, View};
+pub use world::World;
