@@ -56,7 +56,7 @@ module _ (s : Setup) (sound : IsSound s.start) where
   redists_long : length redists ≡ vcpu_count s
   redists_long = length-map s.start.redistributors (λ r. some (Redist r)) ∙ sound.vcpus
 
-  slots_long : length (first_slots s) ≡ part_count s
+  pub slots_long : length (first_slots s) ≡ part_count s
   slots_long = omega (arith, length-append maps (some (Mem s.start.memory) ∷ (shards ++ redists)), length-append shards redists, maps_long, shards_long, redists_long)
 
   first_home : (p : Part) → Stands s p → IsHome s first_word s.start (first_slots s) p

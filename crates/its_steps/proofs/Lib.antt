@@ -31,3 +31,4 @@ pub mod PassesMet
 pub mod MayTests
 pub mod Committed
 pub mod Stepped
+pub mod FirstShared

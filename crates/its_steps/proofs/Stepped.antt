@@ -1,9 +1,9 @@
 -- Steps of the pass that is found, and steps of none.
-use Rattle.std.proofs.Common.{◌≡◌, ◌⊎◌, ℕ, ◌<◌, Bool, List, [], ◌∷◌, length, get_or, arith, Some, None, refl, ap, sym, ◌∙◌, subst, inl, inr, ⊎_elim}
+use Rattle.std.proofs.Common.{◌≡◌, ◌⊎◌, ℕ, zero, suc, take, ◌<◌, Bool, List, [], ◌∷◌, length, get_or, arith, Some, None, refl, ap, sym, ◌∙◌, subst, inl, inr, ⊎_elim}
 use Rattle.std.specs.List.{position}
 use Rattle.std.proofs.lemmas.List.Quantifiers.{position-Some}
 use Rattle.its_steps.specs.Shared.{setup_of, known, is_pass, core_of, IsMove, IsPassAt}
-use Rattle.its_steps.specs.Steps.{Core, IsGoodCore, Moves, Does, IsStep}
+use Rattle.its_steps.specs.Steps.{Core, IsGoodCore, Moves, Does, IsStep, IsRun}
 use Rattle.its_steps.specs.World.{View}
 use Rattle.its_steps.specs.declared.event.Event.{Event}
 use Rattle.its_steps.specs.declared.shared.Shared.{Shared}
@@ -43,3 +43,9 @@ some_view (x ∷ xs) k lt f = f x
 
 pub stepped_at : (w : Shared) → IsGoodCore (core_of w) → (e : Event) (at : ℕ) (after : Core) → position (is_pass e.pass) w.views.items ≡ Some at → IsMove (core_of w) at e.kind after → IsStep (core_of w) e after
 stepped_at w good e at after found moves = some_view w.views.items at (position_below (is_pass e.pass) w.views.items at found) (λ d. stepped w good e at d after found moves)
+
+-- one event more
+pub run_more : (c : Core) (es : List Event) (i : ℕ) (x : Event) (d after : Core) → i < length es → x ≡ get_or es i x → IsRun c (take i es) d → IsStep d x after → IsRun c (take (suc i) es) after
+run_more c [] i x d after lt is r s = absurd (omega arith)
+run_more c (e ∷ es) zero x d after lt is r s = (after, subst (λ (k : Core × Event). IsStep k.0 k.1 after) (λ j. (r j, is j)) s, refl)
+run_more c (e ∷ es) (suc i) x d after lt is r s = (r.0, r.1, run_more r.0 es i x d after (omega arith) is r.2 s)

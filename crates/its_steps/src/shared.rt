@@ -2,6 +2,7 @@
 ghost use Rattle.std.specs.Prelude.{◌≡◌, ◌++◌, ◌∷◌, OnOk, IfOk, map, replicate};
 ghost use Rattle.std.specs.Prelude as std;
 ghost use Rattle.xlate_cache.specs.Ways.{no_entries};
+ghost use Rattle.its_plain.specs.Sound.{IsSound};
 ghost use Rattle.its_steps.specs.Shared.{core_of, home_slots};
 ghost use Rattle.its_steps.specs.Steps.{first_core};
 
@@ -39,13 +40,15 @@ impl Shared {
         limits: Limits,
         shards: u32,
     ) -> Result<Shared, NoMemory>
+        requires { IsSound start }
         ensures first { IfOk result (λ w. core_of w ≡ first_core (record { start = start; limits = limits; shards = shards })) }
         ensures shards { IfOk result (λ w. w.shards ≡ shards) }
     {
         let slots = first_slots(alloc, &start, shards)?;
         let turns = free_turns(alloc, slots.len())?;
+        let root = View::fresh(alloc, 0, 1, Vec::new(alloc), FIRST_WORD);
         let mut views = Vec::new(alloc);
-        views.push(View::fresh(alloc, 0, 1, Vec::new(alloc), FIRST_WORD))?;
+        views.push(root)?;
         Ok(Shared {
             start,
             limits,

@@ -19,7 +19,12 @@ pub struct World {
 impl Model for World {
     ghost use Rattle.its_steps.specs.Steps.{Core, IsGoodCore};
 
+    ghost use Rattle.std.specs.Coded.{codes};
+    ghost use Rattle.its_plain.specs.Plain.{plain_code, translator_code, redistributor_code};
+
     ghost Value = { Core };
+
+    ghost coded = { Prim.hlevel (codes, plain_code, translator_code, redistributor_code) };
 
     ghost use Rattle.std.specs.Prelude.{◌≤◌};
     ghost use Rattle.its_steps.specs.Shared.{core_of};
@@ -59,8 +64,7 @@ impl World {
 
     /// One event after another.
     pub fn run(self, alloc: Global, events: &[Event]) -> Result<World, NoMemory>
-        ensures runs { IfOk result (λ w. spec.IsRun self events.now w) }
-        ensures good { IfOk result spec.IsGoodCore }
+        ensures { IfOk result (λ w. spec.IsRun self events.now w) }
     {
         let mut world = self;
         for event in events {

@@ -4,5 +4,5 @@ use Rattle.its_steps.specs.declared.content.Content.TheVariants.{Maps, Mem, Shar
 use Rattle.xlate_cache.specs.Ways.{no_entries}
 use Rattle.its_steps.proofs.shared.add_shards.Given as goal
 
-abbrev pub invariant-loop-_n : goal.invariant-loop-_n
-invariant-loop-_n l = l.slots.items ≡ l.initial.slots.items ++ replicate l._n (Some (Shard no_entries))
+abbrev pub invariant-loop-n : goal.invariant-loop-n
+invariant-loop-n l = l.slots.items ≡ l.initial.slots.items ++ replicate l._n (Some (Shard no_entries))

@@ -4,5 +4,5 @@ use Rattle.its_steps.specs.declared.content.Content.TheVariants.{Maps, Mem, Shar
 use Rattle.xlate_cache.specs.Ways.{no_entries}
 use Rattle.its_steps.proofs.shared.first_slots.Given as goal
 
-abbrev pub invariant-loop-_translator : goal.invariant-loop-_translator
-invariant-loop-_translator l = l.slots.items ≡ l.initial.slots.items ++ replicate (l._translator-index * l.shards) (Some (Shard no_entries))
+abbrev pub invariant-loop-translator : goal.invariant-loop-translator
+invariant-loop-translator l = l.slots.items ≡ l.initial.slots.items ++ replicate (l._translator-index * l.shards) (Some (Shard no_entries))
