@@ -35,3 +35,6 @@ pub use laws::{
 };
 pub use view::{Looked, Standing, View};
 pub use world::World;
+
+#[cfg(test)]
+mod tests;

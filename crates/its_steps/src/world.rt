@@ -1,8 +1,10 @@
-ghost use Rattle.std.specs.Prelude.{◌≡◌, ◌≤◌, IfOk};
+ghost use Rattle.std.specs.Prelude.{◌≡◌, ◌≤◌, ℕ, IfOk, MatchOption};
 ghost use Rattle.its_plain.specs.Sound.{IsSound};
 ghost use Rattle.its_steps.specs.Steps as spec;
+ghost use Rattle.its_steps.specs.World.{View};
 
 use crate::event::Event;
+use crate::joins::find_pass;
 use crate::shared::Shared;
 use its_plain::{Entry, NoMemory, State};
 use its_types::{Limits, Word};
@@ -85,5 +87,15 @@ impl World {
         ensures { result ≡ self.now.world.word }
     {
         self.shared.word
+    }
+
+    /// The word that the pass of a number read last, if there is the pass.
+    pub fn last(&self, pass: u32) -> Option<Word>
+        ensures { MatchOption result ((i : ℕ) (v : View) → ¬ spec.IsAt self.now pass i v) (λ word. (i : ℕ) × (v : View) × spec.IsAt self.now pass i v × (v.last ≡ word)) }
+    {
+        let Some(at) = find_pass(&self.shared.views, pass) else {
+            return None;
+        };
+        Some(self.shared.views[at].last)
     }
 }
