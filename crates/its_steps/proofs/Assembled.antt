@@ -11,8 +11,11 @@ use Rattle.its_plain.specs.Parts.{SamePart, IsIn}
 use Rattle.its_plain.specs.Plain.{Plain, Layout}
 use Rattle.plain_footprint.proofs.Listed.{in_head, in_tail}
 use Rattle.plain_footprint.proofs.Stays.{Stay, stay, stay_translator, stay_redist, stay_memory}
-use Rattle.its_steps.specs.Parts.{Setup, Content, Maps, Mem, Shard, Redist, Stands, IsOfMachine, index_of, translator_count, vcpu_count, Right}
-use Rattle.its_steps.specs.World.{Held, parts_of}
+use Rattle.its_steps.specs.Parts.{Setup, Stands, IsOfMachine, index_of, translator_count, vcpu_count, Right}
+use Rattle.its_steps.specs.declared.content.Content.{Content}
+use Rattle.its_steps.specs.declared.content.Content.TheVariants.{Maps, Mem, Shard, Redist}
+use Rattle.its_steps.specs.World.{parts_of}
+use Rattle.its_steps.specs.declared.held.Held.{Held}
 use Rattle.its_steps.specs.Good.{Holds, Apart}
 use Rattle.its_steps.specs.MayCommit.{IsRight}
 use Rattle.its_steps.specs.Renewal.{with_part, assembled}

@@ -25,8 +25,10 @@ use Rattle.xlate_cache.specs.declared.entry.Entry.{Entry as Translation}
 use Rattle.xlate_cache.proofs.Founds.{dropped_kept}
 use Rattle.xlate_cache.proofs.Lawful.{filled_lawful}
 use Rattle.xlate_cache.proofs.Sets.{none_at, empty_shard, dropped_shard}
-use Rattle.its_steps.specs.Parts.{Setup, Content, Maps, Mem, Shard, Redist, IsOfMachine, translator_count, vcpu_count, stamp_of, IsCached, IsCache, Right}
-use Rattle.its_steps.specs.World.{Held}
+use Rattle.its_steps.specs.Parts.{Setup, IsOfMachine, translator_count, vcpu_count, stamp_of, IsCached, IsCache, Right}
+use Rattle.its_steps.specs.declared.content.Content.{Content}
+use Rattle.its_steps.specs.declared.content.Content.TheVariants.{Maps, Mem, Shard, Redist}
+use Rattle.its_steps.specs.declared.held.Held.{Held}
 use Rattle.its_steps.specs.Good.{Holds, Apart}
 use Rattle.its_steps.specs.MayCommit.{IsRight}
 use Rattle.its_steps.specs.MayCall.{Owes, MayFill, MayChange, IsWithout, IsSteady, AreSteady, IsFill, HasFillsAlone, StampStays, StampRises, StampRenews, MayCall}

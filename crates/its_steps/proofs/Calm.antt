@@ -23,8 +23,10 @@ use Rattle.its_plain.specs.declared.call.Signal.TheVariants.{Delivered, Dropped}
 use Rattle.plain_soundness.proofs.Lists.{same_after_set}
 use Rattle.its_steps.specs.Calls.{IsCalm, HasVcpus, CalmCallsAreSteady, CalmCallsMayCommit}
 use Rattle.its_steps.specs.Steps.{next_word}
-use Rattle.its_steps.specs.Parts.{Setup, Content, Maps, Mem, Shard, Redist, Stands, translator_count, vcpu_count}
-use Rattle.its_steps.specs.World.{Held}
+use Rattle.its_steps.specs.Parts.{Setup, Stands, translator_count, vcpu_count}
+use Rattle.its_steps.specs.declared.content.Content.{Content}
+use Rattle.its_steps.specs.declared.content.Content.TheVariants.{Maps, Mem, Shard, Redist}
+use Rattle.its_steps.specs.declared.held.Held.{Held}
 use Rattle.its_steps.specs.Good.{Holds, Apart}
 use Rattle.its_steps.specs.MayCall.{Owes, IsSteady, AreSteady}
 use Rattle.its_steps.specs.Renewal.{with_part, assembled, content_in, renewed, renewal}

@@ -11,7 +11,8 @@ use Rattle.its_plain.specs.declared.call.Call.{Call}
 use Rattle.its_plain.specs.declared.call.Entry.{Entry}
 use Rattle.its_plain.specs.declared.call.Reply.{Reply}
 use Rattle.its_steps.specs.Parts.{Setup}
-use Rattle.its_steps.specs.World.{Pass, View, World, loaded, has_split, split_off, has_joined, has_met, spent}
+use Rattle.its_steps.specs.World.{View, World, loaded, has_split, split_off, has_joined, has_met, spent}
+use Rattle.its_steps.specs.declared.view.Standing.TheVariants.{Pass}
 use Rattle.its_steps.specs.Good.{Good}
 use Rattle.its_steps.specs.Renewal.{renewal}
 use Rattle.its_steps.specs.Steps.{Core, IsGoodCore, Tries, Gets, Misses, loads, next_word, Commits, Splits, Joins, Meets, Moves, Does, StepsKeep, RunsKeep}

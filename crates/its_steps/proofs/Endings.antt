@@ -23,9 +23,11 @@ use Rattle.its_plain.specs.declared.call.Call.TheVariants as call
 use Rattle.its_plain.specs.declared.call.Reason.{Reason}
 use Rattle.its_steps.specs.Endings.{Ending, Nothing, Pair, All, ending_in, ending_ran, ending_met, ending_of, Ends, Lasts, EndingsAreAll, EndingsAreDropped}
 use Rattle.its_steps.specs.MayCall.{Owes, IsWithout, IsSteady, AreSteady}
-use Rattle.its_steps.specs.Parts.{Setup, Content, Maps, Mem, Shard, Redist}
+use Rattle.its_steps.specs.Parts.{Setup}
+use Rattle.its_steps.specs.declared.content.Content.{Content}
+use Rattle.its_steps.specs.declared.content.Content.TheVariants.{Maps, Mem, Shard, Redist}
 use Rattle.its_steps.specs.Renewal.{assembled, its_of, content_in, renewed}
-use Rattle.its_steps.specs.World.{Held}
+use Rattle.its_steps.specs.declared.held.Held.{Held}
 use Rattle.its_steps.specs.declared.change.ShardChange.{ShardChange}
 use Rattle.its_steps.proofs.Calm.{Leaves, Has, assembled_has, calm_leaves}
 use Rattle.its_steps.proofs.Lasting.{LastsOk, lasts_self, lasts_then, lasts_translator, lasts_advanced, ran_lasts}

@@ -27,8 +27,11 @@ use Rattle.plain_footprint.proofs.SameParts.{same_parts}
 use Rattle.plain_footprint.proofs.Stays.{stay, stay_redist}
 use Rattle.xlate_cache.specs.Pairs.{shard_number}
 use Rattle.xlate_cache.specs.Ways.{entry}
-use Rattle.its_steps.specs.Parts.{Setup, Content, Stands, IsOfMachine, Right, stamp_of, Shard}
-use Rattle.its_steps.specs.World.{Held, parts_of}
+use Rattle.its_steps.specs.Parts.{Setup, Stands, IsOfMachine, Right, stamp_of}
+use Rattle.its_steps.specs.declared.content.Content.{Content}
+use Rattle.its_steps.specs.declared.content.Content.TheVariants.{Shard}
+use Rattle.its_steps.specs.World.{parts_of}
+use Rattle.its_steps.specs.declared.held.Held.{Held}
 use Rattle.its_steps.specs.Good.{Holds, Apart}
 use Rattle.its_steps.specs.MayCommit.{IsRight}
 use Rattle.its_steps.specs.MayCall.{Owes, IsAnswered, IsHit}

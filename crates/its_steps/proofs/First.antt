@@ -13,7 +13,9 @@ use Rattle.its_plain.specs.Sound.{IsSound}
 use Rattle.xlate_cache.specs.Ways.{no_entries}
 use Rattle.xlate_cache.specs.declared.entry.Entry.{Entry as Translation}
 use Rattle.xlate_cache.proofs.Sets.{none_at, empty_shard}
-use Rattle.its_steps.specs.Parts.{Setup, Content, Maps, Mem, Shard, Redist, Stands, index_of, part_count, translator_count, vcpu_count}
+use Rattle.its_steps.specs.Parts.{Setup, Stands, index_of, part_count, translator_count, vcpu_count}
+use Rattle.its_steps.specs.declared.content.Content.{Content}
+use Rattle.its_steps.specs.declared.content.Content.TheVariants.{Maps, Mem, Shard, Redist}
 use Rattle.its_steps.specs.World.{View, first_word, first_view, first_slots, first_world}
 use Rattle.its_steps.specs.Good.{IsHome, IsPass, Good}
 use Rattle.its_steps.specs.Laws.{FirstIsGood}
@@ -54,7 +56,7 @@ module _ (s : Setup) (sound : IsSound s.start) where
   redists_long : length redists ≡ vcpu_count s
   redists_long = length-map s.start.redistributors (λ r. some (Redist r)) ∙ sound.vcpus
 
-  slots_long : length (first_slots s) ≡ part_count s
+  pub slots_long : length (first_slots s) ≡ part_count s
   slots_long = omega (arith, length-append maps (some (Mem s.start.memory) ∷ (shards ++ redists)), length-append shards redists, maps_long, shards_long, redists_long)
 
   first_home : (p : Part) → Stands s p → IsHome s first_word s.start (first_slots s) p

@@ -9,8 +9,10 @@ use Rattle.its_plain.specs.Answer.{left, answer}
 use Rattle.its_plain.specs.Plain.{Plain, Translator, Redistributor, no_translator, no_redistributor}
 use Rattle.its_plain.specs.declared.call.Call.{Call}
 use Rattle.its_plain.specs.declared.call.Reply.{Reply}
-use Rattle.its_steps.specs.Parts.{Setup, Content, Maps, Mem, Shard, Redist, Stands, IsOfMachine, translator_count, stamp_of, Right}
-use Rattle.its_steps.specs.World.{Held}
+use Rattle.its_steps.specs.Parts.{Setup, Stands, IsOfMachine, translator_count, stamp_of, Right}
+use Rattle.its_steps.specs.declared.content.Content.{Content}
+use Rattle.its_steps.specs.declared.content.Content.TheVariants.{Maps, Mem, Shard, Redist}
+use Rattle.its_steps.specs.declared.held.Held.{Held}
 use Rattle.its_steps.specs.Good.{Holds}
 use Rattle.its_steps.specs.MayCommit.{IsRight, Answers}
 use Rattle.its_steps.specs.MayCall.{Owes, StampStays, StampRises, StampRenews, MayCall}

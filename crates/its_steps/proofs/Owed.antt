@@ -5,8 +5,9 @@ use Rattle.its_types.specs.declared.machine.Part.{Part}
 use Rattle.its_types.specs.declared.machine.Word.{Word}
 use Rattle.its_plain.specs.Plain.{Plain}
 use Rattle.its_plain.specs.declared.call.Call.{Call}
-use Rattle.its_steps.specs.Parts.{Setup, Content, Stands, Right}
-use Rattle.its_steps.specs.World.{Held}
+use Rattle.its_steps.specs.Parts.{Setup, Stands, Right}
+use Rattle.its_steps.specs.declared.content.Content.{Content}
+use Rattle.its_steps.specs.declared.held.Held.{Held}
 use Rattle.its_steps.specs.Good.{Holds, Apart}
 use Rattle.its_steps.specs.MayCommit.{IsRight, IsOut, AreSameParts}
 use Rattle.its_steps.specs.MayCall.{Owes, IsSteady, AreSteady}

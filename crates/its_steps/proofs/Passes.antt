@@ -13,7 +13,8 @@ use Rattle.its_types.specs.declared.machine.Word.{Word}
 use Rattle.its_plain.specs.History.{placed}
 use Rattle.its_plain.specs.declared.call.Entry.{Entry}
 use Rattle.its_steps.specs.Parts.{Setup, Stands}
-use Rattle.its_steps.specs.World.{Pass, Note, Spent, View, World, has_split, split_off, note_of, later, has_joined, has_met, spent}
+use Rattle.its_steps.specs.World.{View, World, has_split, split_off, note_of, later, has_joined, has_met, spent}
+use Rattle.its_steps.specs.declared.view.Standing.TheVariants.{Pass, Note, Spent}
 use Rattle.its_steps.specs.Good.{Holds, turn_of, Ended, IsEnded, IsWhole, IsPass, IsNote, Seated, IsNumber, IsOwner, HasRead, IsRoot, Good}
 use Rattle.its_steps.specs.Laws.{SplitKeeps, JoinKeeps, NoteKeeps, MeetKeeps, IsAlone, RootKnowsAll}
 use Rattle.its_steps.proofs.Lists.{prefix_length, prefix_whole, at_below, at_end, placed_none, all_weaker}

@@ -18,8 +18,10 @@ use Rattle.xlate_cache.specs.Pairs.{shard_number}
 use Rattle.xlate_cache.specs.Ways.{found}
 use Rattle.xlate_cache.specs.declared.entry.Entry.{Entry as Translation}
 use Rattle.its_steps.specs.Calls.{HasVcpus, TakeMayCommit, HitMayCommit}
-use Rattle.its_steps.specs.Parts.{Setup, Shard, Redist, translator_count, vcpu_count, stamp_of}
-use Rattle.its_steps.specs.World.{Held, out}
+use Rattle.its_steps.specs.Parts.{Setup, translator_count, vcpu_count, stamp_of}
+use Rattle.its_steps.specs.declared.content.Content.TheVariants.{Shard, Redist}
+use Rattle.its_steps.specs.World.{out}
+use Rattle.its_steps.specs.declared.held.Held.{Held}
 use Rattle.its_steps.specs.Good.{Holds, Apart}
 use Rattle.its_steps.specs.MayCall.{IsAnswered, MayCall}
 use Rattle.its_steps.specs.Renewal.{assembled, changed, renewal}

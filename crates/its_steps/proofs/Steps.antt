@@ -11,8 +11,10 @@ use Rattle.its_types.specs.declared.machine.Part.{Part}
 use Rattle.its_types.specs.declared.machine.Word.{Word}
 use Rattle.its_plain.specs.History.{IsLegal, after}
 use Rattle.its_plain.specs.declared.call.Entry.{Entry}
-use Rattle.its_steps.specs.Parts.{Setup, Content, Stands}
-use Rattle.its_steps.specs.World.{Pass, Note, View, World}
+use Rattle.its_steps.specs.Parts.{Setup, Stands}
+use Rattle.its_steps.specs.declared.content.Content.{Content}
+use Rattle.its_steps.specs.World.{View, World}
+use Rattle.its_steps.specs.declared.view.Standing.TheVariants.{Pass, Note}
 use Rattle.its_steps.specs.Good.{Holds, turn_of, IsHeld, IsHome, IsEnded, IsWhole, IsPass, Seated, IsNumber, IsOwner, HasRead, IsRoot, IsWithin, AreWide, Good}
 use Rattle.its_steps.proofs.Lists.{prefix_through, at_below}
 use Rattle.its_steps.proofs.Helds.{all_held}

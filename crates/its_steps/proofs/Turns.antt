@@ -11,8 +11,11 @@ use Rattle.its_types.specs.declared.machine.Word.{Word}
 use Rattle.its_plain.specs.History.{after}
 use Rattle.its_plain.specs.Plain.{Plain}
 use Rattle.its_plain.specs.declared.call.Entry.{Entry}
-use Rattle.its_steps.specs.Parts.{Setup, Content, Stands, index_of, Right}
-use Rattle.its_steps.specs.World.{Held, Pass, View, World, got, kept, out}
+use Rattle.its_steps.specs.Parts.{Setup, Stands, index_of, Right}
+use Rattle.its_steps.specs.declared.content.Content.{Content}
+use Rattle.its_steps.specs.World.{View, World, got, kept, out}
+use Rattle.its_steps.specs.declared.held.Held.{Held}
+use Rattle.its_steps.specs.declared.view.Standing.TheVariants.{Pass}
 use Rattle.its_steps.specs.Good.{Holds, Apart, turn_of, slot_of, IsHeld, IsHome, IsPass, AreWide, Good}
 use Rattle.its_steps.specs.Laws.{TryKeeps, TakeOutKeeps, PutHomeKeeps, ReleaseKeeps}
 use Rattle.its_steps.proofs.Lists.{prefix_self, all_here, all_but, all_with}

@@ -9,8 +9,10 @@ use Rattle.its_plain.specs.Answer.{answer}
 use Rattle.its_plain.specs.History.{after}
 use Rattle.its_plain.specs.Plain.{Plain}
 use Rattle.its_plain.specs.declared.call.Entry.{Entry}
-use Rattle.its_steps.specs.Parts.{Setup, Content, Stands, index_of, Right}
-use Rattle.its_steps.specs.World.{Held, loaded, missed, entry, committed}
+use Rattle.its_steps.specs.Parts.{Setup, Stands, index_of, Right}
+use Rattle.its_steps.specs.declared.content.Content.{Content}
+use Rattle.its_steps.specs.World.{loaded, missed, entry, committed}
+use Rattle.its_steps.specs.declared.held.Held.{Held}
 use Rattle.its_steps.specs.Good.{Holds, turn_of, slot_of, IsHeld, IsEnded, IsWhole}
 use Rattle.its_steps.specs.MayCommit.{IsRight, IsOut, AreSameParts, Answers}
 use Rattle.its_steps.specs.Laws.{LoadKeeps, MissKeeps, CommitKeeps, ReaderHasSeen}

@@ -18,8 +18,10 @@ use Rattle.its_types.specs.Lpis.{with_lpi}
 use Rattle.xlate_cache.specs.Pairs.{shard_number}
 use Rattle.xlate_cache.specs.Ways.{found}
 use Rattle.xlate_cache.specs.declared.entry.Entry.{Entry as Translation}
-use Rattle.its_steps.specs.Parts.{Setup, Shard, Redist, Stands, translator_count, vcpu_count, stamp_of}
-use Rattle.its_steps.specs.World.{Held, out}
+use Rattle.its_steps.specs.Parts.{Setup, Stands, translator_count, vcpu_count, stamp_of}
+use Rattle.its_steps.specs.declared.content.Content.TheVariants.{Shard, Redist}
+use Rattle.its_steps.specs.World.{out}
+use Rattle.its_steps.specs.declared.held.Held.{Held}
 use Rattle.its_steps.specs.Good.{Apart}
 use Rattle.its_steps.specs.MayCommit.{IsOut}
 use Rattle.its_steps.specs.MayCall.{AreSteady, IsAnswered, IsHit, MayChange, MayCall}

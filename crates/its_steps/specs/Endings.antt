@@ -21,7 +21,7 @@ use Rattle.its_steps.specs.Good.{Apart}
 use Rattle.its_steps.specs.MayCall.{IsWithout, AreSteady}
 use Rattle.its_steps.specs.Parts.{Setup, Stands}
 use Rattle.its_steps.specs.Renewal.{assembled, its_of, renewal}
-use Rattle.its_steps.specs.World.{Held}
+use Rattle.its_steps.specs.declared.held.Held.{Held}
 use Rattle.its_steps.specs.declared.change.ShardChange.{ShardChange}
 
 pub data Ending : Type 0 where

@@ -10,8 +10,11 @@ use Rattle.its_plain.specs.History.{IsLegal, after, placed}
 use Rattle.its_plain.specs.Plain.{Plain}
 use Rattle.its_plain.specs.Sound.{IsSound}
 use Rattle.its_plain.specs.declared.call.Entry.{Entry}
-use Rattle.its_steps.specs.Parts.{Setup, Content, Stands, index_of, part_count, translator_count, stamp_of, Right}
-use Rattle.its_steps.specs.World.{Held, Pass, Note, View, World}
+use Rattle.its_steps.specs.Parts.{Setup, Stands, index_of, part_count, translator_count, stamp_of, Right}
+use Rattle.its_steps.specs.declared.content.Content.{Content}
+use Rattle.its_steps.specs.World.{View, World}
+use Rattle.its_steps.specs.declared.held.Held.{Held}
+use Rattle.its_steps.specs.declared.view.Standing.TheVariants.{Pass, Note}
 
 -- ---- parts
 

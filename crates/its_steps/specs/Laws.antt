@@ -9,8 +9,11 @@ use Rattle.its_plain.specs.Sound.{IsSound}
 use Rattle.its_plain.specs.declared.call.Call.{Call}
 use Rattle.its_plain.specs.declared.call.Entry.{Entry}
 use Rattle.its_plain.specs.declared.call.Reply.{Reply}
-use Rattle.its_steps.specs.Parts.{Setup, Content, Stands, index_of}
-use Rattle.its_steps.specs.World.{Held, Pass, Note, View, World, first_world, loaded, missed, got, took, kept, out, entry, committed, has_split, split_off, note_of, has_joined, has_met, spent}
+use Rattle.its_steps.specs.Parts.{Setup, Stands, index_of}
+use Rattle.its_steps.specs.declared.content.Content.{Content}
+use Rattle.its_steps.specs.World.{View, World, first_world, loaded, missed, got, took, kept, out, entry, committed, has_split, split_off, note_of, has_joined, has_met, spent}
+use Rattle.its_steps.specs.declared.held.Held.{Held}
+use Rattle.its_steps.specs.declared.view.Standing.TheVariants.{Pass, Note}
 use Rattle.its_steps.specs.Good.{turn_of, IsEnded, IsWhole, Good}
 use Rattle.its_steps.specs.MayCommit.{MayCommit}
 use Rattle.its_steps.specs.MayCall.{MayCall}

@@ -8,3 +8,5 @@ pub mod Laws
 pub mod Steps
 pub mod Calls
 pub mod Endings
+pub mod Held
+pub mod Shared

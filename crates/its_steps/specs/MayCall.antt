@@ -19,8 +19,10 @@ use Rattle.its_plain.specs.declared.call.Signal.TheVariants.{Delivered}
 use Rattle.xlate_cache.specs.Pairs.{shard_number}
 use Rattle.xlate_cache.specs.Ways.{is_of, entry, found}
 use Rattle.xlate_cache.specs.declared.entry.Entry.{Entry as Translation}
-use Rattle.its_steps.specs.Parts.{Setup, Content, Maps, Shard, Redist, Stands, translator_count, stamp_of}
-use Rattle.its_steps.specs.World.{Held}
+use Rattle.its_steps.specs.Parts.{Setup, Stands, translator_count, stamp_of}
+use Rattle.its_steps.specs.declared.content.Content.{Content}
+use Rattle.its_steps.specs.declared.content.Content.TheVariants.{Maps, Shard, Redist}
+use Rattle.its_steps.specs.declared.held.Held.{Held}
 use Rattle.its_steps.specs.Good.{Holds, Apart}
 use Rattle.its_steps.specs.MayCommit.{IsOut}
 use Rattle.its_steps.specs.Renewal.{assembled, its_of, shard_of, renewal}

@@ -7,8 +7,9 @@ use Rattle.its_plain.specs.Answer.{answer}
 use Rattle.its_plain.specs.Plain.{Plain}
 use Rattle.its_plain.specs.declared.call.Call.{Call}
 use Rattle.its_plain.specs.declared.call.Reply.{Reply}
-use Rattle.its_steps.specs.Parts.{Setup, Content, Stands, IsOfMachine, translator_count, stamp_of, Right}
-use Rattle.its_steps.specs.World.{Held}
+use Rattle.its_steps.specs.Parts.{Setup, Stands, IsOfMachine, translator_count, stamp_of, Right}
+use Rattle.its_steps.specs.declared.content.Content.{Content}
+use Rattle.its_steps.specs.declared.held.Held.{Held}
 use Rattle.its_steps.specs.Good.{Holds}
 
 -- a part that is held owes what it should, in the state u

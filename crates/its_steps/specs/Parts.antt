@@ -12,6 +12,8 @@ use Rattle.its_plain.specs.Translation.{translated}
 use Rattle.xlate_cache.specs.Pairs.{shard_number}
 use Rattle.xlate_cache.specs.Ways.{IsShard}
 use Rattle.xlate_cache.specs.declared.entry.Entry.{Entry as Translation}
+use Rattle.its_steps.specs.declared.content.Content.{Content}
+use Rattle.its_steps.specs.declared.content.Content.TheVariants.{Maps, Mem, Shard, Redist}
 
 -- what no step changes: the first state, the limits, and how many shards each translator's cache has
 pub record Setup : Type 0 where
@@ -51,15 +53,6 @@ abbrev pub part_count : Setup → ℕ
 part_count s = translator_count s + 1 + translator_count s * s.shards + vcpu_count s
 
 -- ---- what they contain
-
-pub data Content : Type 0 where
-  -- a translator's registers and maps
-  Maps : Translator → Content
-  -- guest memory
-  Mem : List Window → Content
-  -- the ways of a shard
-  Shard : List (Option Translation) → Content
-  Redist : Redistributor → Content
 
 -- The stamp that a translator's cached translations have while they are current. All translators share the word's
 abbrev pub stamp_of : Word → ℕ → ℕ

@@ -7,8 +7,11 @@ use Rattle.its_types.specs.declared.machine.Word.{Word}
 use Rattle.its_plain.specs.declared.call.Call.{Call}
 use Rattle.its_plain.specs.declared.call.Entry.{Entry}
 use Rattle.its_plain.specs.declared.call.Reply.{Reply}
-use Rattle.its_steps.specs.Parts.{Setup, Content, Stands, index_of}
-use Rattle.its_steps.specs.World.{Held, Pass, Note, View, World, first_world, loaded, missed, got, kept, out, entry, committed, has_split, split_off, note_of, has_joined, has_met, spent}
+use Rattle.its_steps.specs.Parts.{Setup, Stands, index_of}
+use Rattle.its_steps.specs.declared.content.Content.{Content}
+use Rattle.its_steps.specs.World.{View, World, first_world, loaded, missed, got, kept, out, entry, committed, has_split, split_off, note_of, has_joined, has_met, spent}
+use Rattle.its_steps.specs.declared.held.Held.{Held}
+use Rattle.its_steps.specs.declared.view.Standing.TheVariants.{Pass, Note}
 use Rattle.its_steps.specs.Good.{Holds, turn_of, Good}
 use Rattle.its_steps.specs.MayCall.{MayCall}
 use Rattle.its_steps.specs.Renewal.{renewal}

@@ -11,30 +11,18 @@ use Rattle.its_plain.specs.declared.call.Entry.{Entry}
 use Rattle.its_plain.specs.declared.call.Reply.{Reply}
 use Rattle.xlate_cache.specs.Ways.{no_entries}
 use Rattle.xlate_cache.specs.declared.entry.Entry.{Entry as Translation}
-use Rattle.its_steps.specs.Parts.{Setup, Content, Maps, Mem, Shard, Redist, translator_count, part_count}
+use Rattle.its_steps.specs.Parts.{Setup, translator_count, part_count}
+use Rattle.its_steps.specs.declared.content.Content.{Content}
+use Rattle.its_steps.specs.declared.content.Content.TheVariants.{Maps, Mem, Shard, Redist}
+use Rattle.its_steps.specs.declared.held.Held.{Held}
+use Rattle.its_steps.specs.declared.view.Looked.{Looked}
+use Rattle.its_steps.specs.declared.view.Standing.{Standing}
+use Rattle.its_steps.specs.declared.view.Standing.TheVariants.{Pass, Note, Spent}
 use Rattle.its_steps.specs.declared.change.ShardChange.{ShardChange}
 use Rattle.its_steps.specs.declared.change.ShardChange.TheVariants.{Keep}
 
--- a part whose turn a pass has, the content that it owes, and whether the part's slot is empty
-pub record Held : Type 0 where
-  pub part : Part
-  pub owed : Content
-  pub out : Bool
-
 abbrev pub parts_of : List Held → List Part
 parts_of held = map (λ x. x.part) held
-
--- a shard and its ways
-pub record Looked : Type 0 where
-  pub its : ℕ
-  pub number : ℕ
-  pub ways : List (std.Option Translation)
-
-pub data Standing : Type 0 where
-  Pass : Standing
-  Note : Standing
-  -- joined or met
-  Spent : Standing
 
 pub record View : Type 0 where
   pub setup : Setup
@@ -154,7 +142,7 @@ took v p c = record (got v p c) { held = out p c ∷ v.held }
 abbrev pub entry : ℕ → Call → Reply → Entry
 entry number call reply = record { pass = number; call = call; reply = reply }
 
-abbrev is_looked : Looked → Part → Bool
+abbrev pub is_looked : Looked → Part → Bool
 is_looked o (part.Shard its n) = its == o.its && n == o.number
 is_looked o p = false
 

@@ -1,0 +1,15 @@
+use Rattle.std.proofs.Common.{◌≡◌, ℕ, [], ◌∷◌, ◌++◌, refl, sym, ap, ◌∙◌}
+use Rattle.its_steps.specs.Shared.{setup_of}
+use Rattle.its_steps.specs.World.{entry}
+use Rattle.its_steps.specs.declared.view.View.{View as Known}
+use Rattle.its_steps.proofs.Committed.{makes}
+use Rattle.its_steps.proofs.Positions.{same_read}
+use Rattle.its_steps.proofs.shared.Shared.make.Goals as goal
+
+pub returns-clause-makes : goal.returns-clause-makes
+returns-clause-makes c = λ v at p.
+    let w = c.args.self.now in
+    let x : Known = c.index_mut-view.result.now in
+    let same : c.index.result.now ≡ x = same_read w.views.items c.args.at c.index.result.now x c.requires c.index.ensures c.index_mut-view.ensures.value in
+    makes w c.args.at x v c.requires c.index_mut-view.ensures.value at p c.args.expected c.args.to c.args.call.now c.args.reply.now c.args.change.now c.args.owed.items c.commit.new.self c.push.new.self.items c.in_ok-seen.seen.items
+        _ (c.in_ok-push.ensures.items ∙ ap (λ (u : Known). w.history.items ++ entry u.number c.args.call.now c.args.reply.now ∷ []) same) (c.in_ok-seen.ensures.items ∙ c.deref.ensures.value) (c.in_ok-commit.ensures (setup_of w)) refl

@@ -1,0 +1,7 @@
+use Rattle.std.proofs.Common.{◌≡◌, ℕ, ◌+◌, ◌*◌, ◌++◌, map, drop, Some}
+use Rattle.std.specs.Prelude.{replicate}
+use Rattle.its_steps.specs.declared.content.Content.TheVariants.{Maps, Mem, Shard, Redist}
+use Rattle.its_steps.proofs.shared.add_redists.Given as goal
+
+abbrev pub invariant-loop-redist : goal.invariant-loop-redist
+invariant-loop-redist l = l.initial.slots.items ++ map (λ r. Some (Redist r)) l.redists ≡ l.slots.items ++ map (λ r. Some (Redist r)) (drop l.redist-index l.redists)
