@@ -223,6 +223,34 @@ refused migration 1 no-place 16384
 
 #[test]
 fn tables_that_overlap_are_not_migrated(rt: HostRuntime) {
+    let body = "command 0x80020060 mapd 0x11 5 0x800c0000
+write 0x88 8 0x80
+step
+migrate
+end
+";
+    let lines = "11 2.1 poke 0x80020060 0800000011000000040000000000000000000c80000000800000000000000000 -> ok
+12 2.1 write 0x88 8 0x80 -> ok
+13 2.1 step -> ran mapd
+vcpu 0 pending none
+vcpu 1 pending none
+vcpu 2 pending none
+vcpu 3 pending none
+refused migration 1 overlap itt 16 itt 17
+";
+    assert_eq!(rt;
+        ends(
+            rt.alloc(),
+            [MACHINE, MAPPED, body, ""],
+            Status::MigrationRefused,
+            lines
+        ),
+        Some(true)
+    );
+}
+
+#[test]
+fn a_later_leg_is_not_migrated(rt: HostRuntime) {
     let body = "migrate
 phase
 thread
