@@ -54,11 +54,11 @@ pub owes_such_decides : (p : Part) (test : Content → Bool) (xs : List Held) �
 owes_such_decides p test [] = ((λ e. absurd cc), (λ t. absurd t.1))
 owes_such_decides p test (x ∷ xs) = Decides-like ((same_part x.part p && test x.owed) || owes_such p test xs)
     (λ (t : ((x.part ≡ p) × (test x.owed ≡ true)) ⊎ ((c : Content) × Owes p c xs × (test c ≡ true))).
-      let to : ((c : Content) × Owes p c (x ∷ xs) × (test c ≡ true)) =
-      ⊎_elim (λ (a : (x.part ≡ p) × (test x.owed ≡ true)). (x.owed, inl (a.0, refl), a.1)) (λ (a : (c : Content) × Owes p c xs × (test c ≡ true)). (a.0, inr a.1, a.2)) t in to)
+    let to : ((c : Content) × Owes p c (x ∷ xs) × (test c ≡ true)) =
+    ⊎_elim (λ (a : (x.part ≡ p) × (test x.owed ≡ true)). (x.owed, inl (a.0, refl), a.1)) (λ (a : (c : Content) × Owes p c xs × (test c ≡ true)). (a.0, inr a.1, a.2)) t in to)
     (λ (t : (c : Content) × Owes p c (x ∷ xs) × (test c ≡ true)).
-      let from : ((x.part ≡ p) × (test x.owed ≡ true)) ⊎ ((c : Content) × Owes p c xs × (test c ≡ true)) =
-      ⊎_elim (λ (a : (x.part ≡ p) × (x.owed ≡ t.0)). inl (a.0, ap test a.1 ∙ t.2)) (λ (a : Owes p t.0 xs). inr (t.0, a, t.2)) t.1 in from)
+    let from : ((x.part ≡ p) × (test x.owed ≡ true)) ⊎ ((c : Content) × Owes p c xs × (test c ≡ true)) =
+    ⊎_elim (λ (a : (x.part ≡ p) × (x.owed ≡ t.0)). inl (a.0, ap test a.1 ∙ t.2)) (λ (a : Owes p t.0 xs). inr (t.0, a, t.2)) t.1 in from)
     (Decides-or (same_part x.part p && test x.owed) (owes_such p test xs) (Decides-and (same_part x.part p) (test x.owed) (same_part_decides x.part p) (itself (test x.owed))) (owes_such_decides p test xs))
 
 pub covers_decides : (held : List Held) (ps : List Part) → Decides (covers held ps) (AllByRecursion (λ p. Holds p held) ps)

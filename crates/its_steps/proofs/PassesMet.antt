@@ -113,10 +113,13 @@ module _ (w : Shared) (at : ℕ) (v : View) where
 
   pub no_note_at : (n j : ℕ) (y : Known) → n < length w.notes.items → j ≡ get_or w.notes.items n j → j < length w.views.items → y ≡ get_or w.views.items j y → is_standing_note y.standing ≡ false → IsDone (Meets (core_of w) at v n) (core_of w) (core_of w)
   no_note_at n j y below jis in_views yis fails =
-      inr ((λ d t. let e = same_index n t.index t.note j below jis t.is_at in
-      let u : t.note ≡ view_of s2 y = some-injective t.note (view_of s2 y) (sym t.is_at.at ∙ (ap (get_elem? (core_of w).world.views) e ∙ at_map (view_of s2) w.views.items j y (at_index w.views.items j y in_views yis))) in
-      let two : true ≡ false = sym (not_met y t.note u t.is_at.is_note) ∙ fails in
-      absurd cc), refl)
+      inr (
+        (λ d t. let e = same_index n t.index t.note j below jis t.is_at in
+            let u : t.note ≡ view_of s2 y = some-injective t.note (view_of s2 y) (sym t.is_at.at ∙ (ap (get_elem? (core_of w).world.views) e ∙ at_map (view_of s2) w.views.items j y (at_index w.views.items j y in_views yis))) in
+            let two : true ≡ false = sym (not_met y t.note u t.is_at.is_note) ∙ fails in
+            absurd cc),
+        refl,
+      )
 
 -- ---- the root takes a pass back
 

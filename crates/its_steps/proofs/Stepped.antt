@@ -26,7 +26,7 @@ stepped w good e at d after found moves =
     ⊎_elim
     (λ (m : Moves (core_of w) at v e.kind after). inl record { index = at; view = v; is_at = a; moves = m })
     (λ (n : ((t : Core) → ¬ Moves (core_of w) at v e.kind t) × (after ≡ core_of w)).
-      inr ((λ t does. n.0 t (subst (λ (k : ℕ × View). Moves (core_of w) k.0 k.1 e.kind t) (λ i. (one_seat (core_of w) good e.pass does.index at does.view v does.is_at a i, one_view (core_of w) good e.pass does.index at does.view v does.is_at a i)) does.moves)), n.1))
+    inr ((λ t does. n.0 t (subst (λ (k : ℕ × View). Moves (core_of w) k.0 k.1 e.kind t) (λ i. (one_seat (core_of w) good e.pass does.index at does.view v does.is_at a i, one_view (core_of w) good e.pass does.index at does.view v does.is_at a i)) does.moves)), n.1))
     (moves v a.at a.passes)
 
 -- the same where nothing is known of any view

@@ -48,8 +48,7 @@ fn finds_in(
 ) -> bool
     ensures { result ≡ spec.owes_such part (spec.finds dev.0 ev.0 stamp target) held.now }
 {
-    held.iter()
-        .any(|x| same_part(x.part, part) && x.owed.finds(dev, ev, stamp, target))
+    held.iter().any(|x| same_part(x.part, part) && x.owed.finds(dev, ev, stamp, target))
 }
 
 /// Whether every part held is out of its slot.

@@ -28,14 +28,12 @@ pub fn holds(held: &[Held], part: Part) -> bool
 pub fn find_out(held: &[Held], part: Part) -> Option<usize>
     ensures { result ≡ position (spec.is_out part) held.now }
 {
-    held.iter()
-        .position(|x| same_part(x.part, part) && x.out)
+    held.iter().position(|x| same_part(x.part, part) && x.out)
 }
 
 /// Where a part is held that stands in its slot.
 pub fn find_kept(held: &[Held], part: Part) -> Option<usize>
     ensures { result ≡ position (spec.is_kept part) held.now }
 {
-    held.iter()
-        .position(|x| same_part(x.part, part) && !x.out)
+    held.iter().position(|x| same_part(x.part, part) && !x.out)
 }

@@ -34,12 +34,7 @@ pub struct Shared {
 
 impl Shared {
     /// Before any step.
-    pub fn new(
-        alloc: Global,
-        start: State,
-        limits: Limits,
-        shards: u32,
-    ) -> Result<Shared, NoMemory>
+    pub fn new(alloc: Global, start: State, limits: Limits, shards: u32) -> Result<Shared, NoMemory>
         requires { IsSound start }
         ensures first { IfOk result (λ w. core_of w ≡ first_core (record { start = start; limits = limits; shards = shards })) }
         ensures shards { IfOk result (λ w. w.shards ≡ shards) }
@@ -70,11 +65,7 @@ fn free_turns(alloc: Global, count: usize) -> Result<Vec<u64>, NoMemory>
 }
 
 // Each part at home, and every shard empty.
-fn first_slots(
-    alloc: Global,
-    start: &State,
-    shards: u32,
-) -> Result<Vec<Option<Content>>, NoMemory>
+fn first_slots(alloc: Global, start: &State, shards: u32) -> Result<Vec<Option<Content>>, NoMemory>
     ensures { IfOk result (λ v. v.items ≡ home_slots start.now shards) }
 {
     let mut slots = Vec::new(alloc);
@@ -100,11 +91,7 @@ fn add_maps(
     Ok(())
 }
 
-fn add_shards(
-    alloc: Global,
-    slots: &mut Vec<Option<Content>>,
-    shards: u32,
-) -> Result<(), NoMemory>
+fn add_shards(alloc: Global, slots: &mut Vec<Option<Content>>, shards: u32) -> Result<(), NoMemory>
     ensures { OnOk result (slots.new.items ≡ slots.old.items ++ replicate shards (std.Some (Content.Shard no_entries))) }
 {
     for _n in 0..shards {

@@ -79,13 +79,7 @@ fn has_fill_alone(x: &Held, to: Word, call: &Call, change: &ShardChange, its: us
     shard.holds_only(fill_of(to, call, change, its))
 }
 
-fn have_fills_alone(
-    owed: &[Held],
-    to: Word,
-    call: &Call,
-    change: &ShardChange,
-    its: usize,
-) -> bool
+fn have_fills_alone(owed: &[Held], to: Word, call: &Call, change: &ShardChange, its: usize) -> bool
     ensures { Decides result (AllByRecursion (λ x. may.HasFillsAlone to call.now change.now its x.part x.owed) owed.now) }
 {
     match owed {

@@ -134,7 +134,16 @@ fn write(
         size,
         value,
     };
-    make(alloc, world, pass, &[MAPS], 0, call, Reply::Ok, ShardChange::Keep)
+    make(
+        alloc,
+        world,
+        pass,
+        &[MAPS],
+        0,
+        call,
+        Reply::Ok,
+        ShardChange::Keep,
+    )
 }
 
 fn poke(
@@ -148,17 +157,30 @@ fn poke(
         addr: Addr(addr),
         bytes: Bytes64::new(bytes),
     };
-    make(alloc, world, pass, &[Part::Mem], 0, call, Reply::Ok, ShardChange::Keep)
+    make(
+        alloc,
+        world,
+        pass,
+        &[Part::Mem],
+        0,
+        call,
+        Reply::Ok,
+        ShardChange::Keep,
+    )
 }
 
-fn run_command(
-    alloc: Global,
-    world: World,
-    parts: &[Part],
-    op: Op,
-) -> Result<World, NoMemory> {
+fn run_command(alloc: Global, world: World, parts: &[Part], op: Op) -> Result<World, NoMemory> {
     let reply = Reply::Step(StepReply::Ran(op));
-    make(alloc, world, 1, parts, 0, Call::Step { its: 0 }, reply, ShardChange::Keep)
+    make(
+        alloc,
+        world,
+        1,
+        parts,
+        0,
+        Call::Step { its: 0 },
+        reply,
+        ShardChange::Keep,
+    )
 }
 
 // The calls of places 0 to 10: tables, a queue and three commands.
@@ -228,18 +250,42 @@ fn a_signal_is_overtaken(rt: HostRuntime) -> Result<(), Fail> {
     let alloc = rt.alloc();
     let world = world(alloc)?;
     assert_eq!(rt; world.history().len(), 14);
-    assert_eq!(rt; world.word(), Word { stamp: 0, place: 14 });
+    assert_eq!(rt;
+        world.word(),
+        Word {
+            stamp: 0,
+            place: 14
+        }
+    );
     let world = step(alloc, world, 4, Kind::Load)?;
     let cached = [Part::Shard(0, 3), Part::Redist(Vcpu(2))];
     let world = take(alloc, world, 4, &cached)?;
     let reply = Reply::Step(StepReply::Ran(Op::Mapd));
     let parts = [MAPS, Part::Mem];
     let keep = ShardChange::Keep;
-    let world = make(alloc, world, 3, &parts, 1, Call::Step { its: 0 }, reply, keep)?;
+    let world = make(
+        alloc,
+        world,
+        3,
+        &parts,
+        1,
+        Call::Step { its: 0 },
+        reply,
+        keep,
+    )?;
     assert_eq!(rt; world.history().len(), 15);
-    assert_eq!(rt; world.word(), Word { stamp: 1, place: 15 });
+    assert_eq!(rt;
+        world.word(),
+        Word {
+            stamp: 1,
+            place: 15
+        }
+    );
     let commit = Kind::Commit {
-        expected: Word { stamp: 0, place: 14 },
+        expected: Word {
+            stamp: 0,
+            place: 14,
+        },
         stamp: 0,
         call: SIGNAL,
         reply: DELIVERED,
@@ -247,13 +293,25 @@ fn a_signal_is_overtaken(rt: HostRuntime) -> Result<(), Fail> {
     };
     let world = step(alloc, world, 4, commit)?;
     assert_eq!(rt; world.history().len(), 15);
-    assert_eq!(rt; world.last(4), Some(Word { stamp: 1, place: 15 }));
+    assert_eq!(rt;
+        world.last(4),
+        Some(Word {
+            stamp: 1,
+            place: 15
+        })
+    );
     let world = give(alloc, world, 4, &cached)?;
     let dropped = Reply::Signal(Signal::Dropped(Cause::NoDevice));
     let keep = ShardChange::Keep;
     let world = make(alloc, world, 4, &[MAPS], 1, SIGNAL, dropped, keep)?;
     assert_eq!(rt; world.history().len(), 16);
-    assert_eq!(rt; world.word(), Word { stamp: 1, place: 16 });
+    assert_eq!(rt;
+        world.word(),
+        Word {
+            stamp: 1,
+            place: 16
+        }
+    );
     Ok(())
 }
 
@@ -269,7 +327,13 @@ fn what_is_not_allowed_changes_nothing(rt: HostRuntime) -> Result<(), Fail> {
     let keep = ShardChange::Keep;
     let world = make(alloc, world, 4, &[MAPS], 0, SIGNAL, dropped, keep)?;
     assert_eq!(rt; world.history().len(), 14);
-    assert_eq!(rt; world.word(), Word { stamp: 0, place: 14 });
+    assert_eq!(rt;
+        world.word(),
+        Word {
+            stamp: 0,
+            place: 14
+        }
+    );
     let world = step(alloc, world, 9, Kind::Load)?;
     assert_eq!(rt; world.last(9), None);
     Ok(())

@@ -188,13 +188,14 @@ impl View {
         owed: Vec<Held>,
     ) -> Result<(), NoMemory>
         ensures { OnOk result ((s : Setup) → known s self.new ≡ record (known s self.old) {
-            seen = seen.items;
-            mine = self.old.mine ++ (expected.place, world.entry self.old.number call.now reply.now) ∷ [];
-            last = to;
-            held = owed.items;
-            looked = world.looked_in owed.items self.old.looked;
-            base = expected;
-            change = change.now }) }
+          seen = seen.items;
+          mine = self.old.mine ++ (expected.place, world.entry self.old.number call.now reply.now) ∷ [];
+          last = to;
+          held = owed.items;
+          looked = world.looked_in owed.items self.old.looked;
+          base = expected;
+          change = change.now;
+        }) }
     {
         self.looked.look_again(alloc, &owed)?;
         let entry = Entry {

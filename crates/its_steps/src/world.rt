@@ -20,7 +20,6 @@ pub struct World {
 
 impl Model for World {
     ghost use Rattle.its_steps.specs.Steps.{Core, IsGoodCore};
-
     ghost use Rattle.std.specs.Coded.{codes};
     ghost use Rattle.its_plain.specs.Plain.{plain_code, translator_code, redistributor_code};
 
@@ -39,12 +38,7 @@ impl Model for World {
 impl World {
     /// The world before any step: word (0, 0), no history, each part home as the first state has it, empty shards, and
     /// the root alone. Each translator's cache has `shards` shards.
-    pub fn new(
-        alloc: Global,
-        start: State,
-        limits: Limits,
-        shards: u32,
-    ) -> Result<World, NoMemory>
+    pub fn new(alloc: Global, start: State, limits: Limits, shards: u32) -> Result<World, NoMemory>
         requires sound { IsSound start }
         requires some { 1 ≤ shards }
         ensures { IfOk result (λ w. w ≡ spec.first_core (record { start = start; limits = limits; shards = shards })) }

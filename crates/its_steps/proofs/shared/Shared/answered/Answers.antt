@@ -26,11 +26,13 @@ returns c =
     let passes = sym c.covers.ensures ∙ c.if-not-covers.false in
     let all = (covers_decides c.args.held.now c.deref.result.now).0 passes in
     let u : Plain = assembled (setup_of c.args.self.now) c.args.held.now in
-    let same : c.in_ok-after.answer ≡ c.args.reply.now = c.equals.ensures.0 c.if-not-equals.false in
-    (record {
-      covers = subst (AllByRecursion (λ (p : Part). Holds p c.args.held.now)) parts all;
-      reply_is = sym same ∙ (c.in_ok-after.ensures.reply ∙ ap (λ (w : Plain). reply_of w c.args.call.now) c.requires);
-    }, c.in_ok-after.ensures.left ∙ (λ d. left (c.requires d) c.args.call.now (same d)))
+    let same : c.in_ok-after.answer ≡ c.args.reply.now = c.equals.ensures.0 c.if-not-equals.false in (
+      record {
+        covers = subst (AllByRecursion (λ (p : Part). Holds p c.args.held.now)) parts all;
+        reply_is = sym same ∙ (c.in_ok-after.ensures.reply ∙ ap (λ (w : Plain). reply_of w c.args.call.now) c.requires);
+      },
+      c.in_ok-after.ensures.left ∙ (λ d. left (c.requires d) c.args.call.now (same d)),
+    )
 
 pub returns-then-not-equals : goal.returns-then-not-equals
 returns-then-not-equals c = λ h.

@@ -31,7 +31,7 @@ returns-then-not-is_same_word-clause-moves c = λ v at p.
     let ne : w.word ≢ c.args.expected = λ e. absurd (let two : true ≡ false = sym (c.is_same_word.ensures.1 e) ∙ c.if-not-is_same_word.true in cc) in
     let loaded = ⊎_elim {A = core_of c.load.new.self ≡ loads (core_of w) c.args.at v} (λ e. e) (λ n. absurd (n.0 (loads (core_of w) c.args.at v) refl)) (c.in_ok-load.ensures.moves v at p) in
     inl (raced w c.args.at c.index.result.now v c.requires.at c.index.ensures at p c.args.expected c.args.stamp c.args.call.now c.args.reply.now c.args.change.now
-      (subst (MayCall (setup_of w) c.args.expected (next_word c.args.expected c.args.stamp) c.args.call.now c.args.reply.now c.args.change.now) c.deref.ensures.value h.0) ne (core_of c.load.new.self) loaded)
+    (subst (MayCall (setup_of w) c.args.expected (next_word c.args.expected c.args.stamp) c.args.call.now c.args.reply.now c.args.change.now) c.deref.ensures.value h.0) ne (core_of c.load.new.self) loaded)
 
 pub returns-clause-moves : goal.returns-clause-moves
 returns-clause-moves c = λ v at p.
@@ -39,5 +39,5 @@ returns-clause-moves c = λ v at p.
     let h = rw c.in-Some.is at c.in_ok-owed.ensures in
     let same : w.word ≡ c.args.expected = c.is_same_word.ensures.0 c.if-not-is_same_word.false in
     inl (commits_it w c.args.at c.index.result.now v c.requires.at c.index.ensures at p c.args.expected c.args.stamp c.args.call.now c.args.reply.now c.args.change.now
-      (subst (MayCall (setup_of w) c.args.expected (next_word c.args.expected c.args.stamp) c.args.call.now c.args.reply.now c.args.change.now) c.deref.ensures.value h.0) same c.in-Some.owed.items
-      (h.1 ∙ ap (renewal (setup_of w) (next_word c.args.expected c.args.stamp) c.args.call.now c.args.reply.now c.args.change.now) c.deref.ensures.value) (core_of c.make.new.self) (c.in_ok-make.ensures.makes v at p))
+    (subst (MayCall (setup_of w) c.args.expected (next_word c.args.expected c.args.stamp) c.args.call.now c.args.reply.now c.args.change.now) c.deref.ensures.value h.0) same c.in-Some.owed.items
+    (h.1 ∙ ap (renewal (setup_of w) (next_word c.args.expected c.args.stamp) c.args.call.now c.args.reply.now c.args.change.now) c.deref.ensures.value) (core_of c.make.new.self) (c.in_ok-make.ensures.makes v at p))

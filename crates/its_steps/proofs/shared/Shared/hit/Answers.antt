@@ -26,6 +26,7 @@ returns-then-not-holds c = λ h.
 pub returns : goal.returns
 returns c =
     let is = c.in-Signal-reply.is ∙ ap (λ (x : Signal). reply.Signal x) c.in-Delivered.is in
-    let found = ap (λ (n : ℕ). owes_such (part.Shard c.in-Signal.its n) (finds c.in-Signal.dev.0 c.in-Signal.ev.0 c.args.expected.stamp (record { vcpu = c.in-Delivered.vcpu; intid = c.in-Delivered.intid })) c.args.held.now) (sym c.shard_of.ensures) ∙ (sym c.finds_in.ensures ∙ c.if-not-finds_in.false) in
-    (hit_is (setup_of c.args.self.now) c.args.expected c.args.held.now c.in-Signal.its c.in-Signal.dev c.in-Signal.ev (record { vcpu = c.in-Delivered.vcpu; intid = c.in-Delivered.intid }) c.args.call.now c.args.reply.now c.in-Signal.is is found (sym c.holds.ensures ∙ c.if-not-holds.false),
-      record { its = c.in-Signal.its; dev = c.in-Signal.dev; ev = c.in-Signal.ev; call_is = c.in-Signal.is; reply_is = is })
+    let found = ap (λ (n : ℕ). owes_such (part.Shard c.in-Signal.its n) (finds c.in-Signal.dev.0 c.in-Signal.ev.0 c.args.expected.stamp (record { vcpu = c.in-Delivered.vcpu; intid = c.in-Delivered.intid })) c.args.held.now) (sym c.shard_of.ensures) ∙ (sym c.finds_in.ensures ∙ c.if-not-finds_in.false) in (
+      hit_is (setup_of c.args.self.now) c.args.expected c.args.held.now c.in-Signal.its c.in-Signal.dev c.in-Signal.ev (record { vcpu = c.in-Delivered.vcpu; intid = c.in-Delivered.intid }) c.args.call.now c.args.reply.now c.in-Signal.is is found (sym c.holds.ensures ∙ c.if-not-holds.false),
+      record { its = c.in-Signal.its; dev = c.in-Signal.dev; ev = c.in-Signal.ev; call_is = c.in-Signal.is; reply_is = is },
+    )

@@ -38,4 +38,4 @@ returns-clause-moves c = λ v at p.
     let seen : c.in_ok-seen.seen.items ≡ w.history.items = c.in_ok-seen.ensures.items ∙ c.deref-2.ensures.value in
     let gone : c.replace-other.new.dest.standing ≡ Spent = ap (λ (u : Known). u.standing) c.replace-other.ensures.after ∙ c.spent.ensures in
     inl (joins w c.args.at c.index.result.now v c.requires.at c.index.ensures at p c.args.number c.in-Some.index y c.index_mut-view.result.now c.load.new.self c.replace-other.new.dest c.if-index-ne0.false c.if-number-eq0.false found c.index_mut-taken.ensures.value bare gone c.index_mut-view.ensures.value
-        (c.load.ensures s ∙ ((λ d. loaded (c.in_ok-join.ensures s d) w.word (seen d)) ∙ ap (λ (u : Known). loaded (has_joined (known s c.index_mut-view.result.now) (known s u)) w.word w.history.items) c.replace-other.ensures.value)) (set (set w.views.items c.in-Some.index c.replace-other.new.dest) c.args.at c.load.new.self) refl)
+    (c.load.ensures s ∙ ((λ d. loaded (c.in_ok-join.ensures s d) w.word (seen d)) ∙ ap (λ (u : Known). loaded (has_joined (known s c.index_mut-view.result.now) (known s u)) w.word w.history.items) c.replace-other.ensures.value)) (set (set w.views.items c.in-Some.index c.replace-other.new.dest) c.args.at c.load.new.self) refl)

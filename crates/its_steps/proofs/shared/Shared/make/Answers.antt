@@ -12,4 +12,4 @@ returns-clause-makes c = λ v at p.
     let x : Known = c.index_mut-view.result.now in
     let same : c.index.result.now ≡ x = same_read w.views.items c.args.at c.index.result.now x c.requires c.index.ensures c.index_mut-view.ensures.value in
     makes w c.args.at x v c.requires c.index_mut-view.ensures.value at p c.args.expected c.args.to c.args.call.now c.args.reply.now c.args.change.now c.args.owed.items c.commit.new.self c.push.new.self.items c.in_ok-seen.seen.items
-        _ (c.in_ok-push.ensures.items ∙ ap (λ (u : Known). w.history.items ++ entry u.number c.args.call.now c.args.reply.now ∷ []) same) (c.in_ok-seen.ensures.items ∙ c.deref.ensures.value) (c.in_ok-commit.ensures (setup_of w)) refl
+    _ (c.in_ok-push.ensures.items ∙ ap (λ (u : Known). w.history.items ++ entry u.number c.args.call.now c.args.reply.now ∷ []) same) (c.in_ok-seen.ensures.items ∙ c.deref.ensures.value) (c.in_ok-commit.ensures (setup_of w)) refl

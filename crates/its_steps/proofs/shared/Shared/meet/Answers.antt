@@ -42,4 +42,4 @@ returns-clause-moves c = λ v at p.
     let gone : c.replace-note.new.dest.standing ≡ Spent = ap (λ (u : Known). u.standing) c.replace-note.ensures.after ∙ c.spent.ensures in
     let x : Known = get_or w.views.items c.args.at y in
     inl (meets w c.args.at x v c.requires (any_default w.views.items c.args.at y x c.requires) at p c.args.n c.index-index.result.now y c.index_mut-view.result.now c.load.new.self c.replace-note.new.dest below c.index-index.ensures in_views c.index_mut-met.ensures.value note gone c.index_mut-view.ensures.value
-        (c.load.ensures s ∙ ((λ d. loaded (c.meet.ensures s d) w.word (seen d)) ∙ ap (λ (u : Known). loaded (has_met (known s c.index_mut-view.result.now) (known s u)) w.word w.history.items) c.replace-note.ensures.value)) (set (set w.views.items c.index-index.result.now c.replace-note.new.dest) c.args.at c.load.new.self) refl)
+    (c.load.ensures s ∙ ((λ d. loaded (c.meet.ensures s d) w.word (seen d)) ∙ ap (λ (u : Known). loaded (has_met (known s c.index_mut-view.result.now) (known s u)) w.word w.history.items) c.replace-note.ensures.value)) (set (set w.views.items c.index-index.result.now c.replace-note.new.dest) c.args.at c.load.new.self) refl)

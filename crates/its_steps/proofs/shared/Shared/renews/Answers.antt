@@ -10,11 +10,11 @@ returns-then-not-holds_maps c = ((λ e. absurd cc), (λ f. absurd (holds_not (pa
 
 pub returns : goal.returns
 returns c = (
-      (λ e. record {
-        maps = holds_sure (part.Maps c.args.its) c.args.held.now (sym c.holds_maps.ensures ∙ c.if-not-holds_maps.false);
-        shards = c.holds_shards.ensures.0 c.if-not-holds_shards.false;
-        zero = c.if-to-ne0.false;
-        fills = c.have_fills_alone.ensures.0 e;
-      }),
-      (λ f. c.have_fills_alone.ensures.1 f.fills),
-    )
+  (λ e. record {
+    maps = holds_sure (part.Maps c.args.its) c.args.held.now (sym c.holds_maps.ensures ∙ c.if-not-holds_maps.false);
+    shards = c.holds_shards.ensures.0 c.if-not-holds_shards.false;
+    zero = c.if-to-ne0.false;
+    fills = c.have_fills_alone.ensures.0 e;
+  }),
+  (λ f. c.have_fills_alone.ensures.1 f.fills),
+)

@@ -25,6 +25,6 @@ returns-clause-moves c = λ v at p.
     let h = c.if-made-ge-NUMBERS.false in
     let k = c.if-index-ne0.false in
     inl (has_split_off w c.args.at x v c.requires c.index_mut-view.ensures.value at p (record c.load.new.self { made = c.index-2.result.now.made + 1 }) c.fresh-new.result (sym (ap (λ (u : Known). u.number) one) ∙ k) (omega (arith, h, made))
-        (ap (λ (u : View). record u { made = c.index-2.result.now.made + 1 }) (c.load.ensures (setup_of w))
-        ∙ (λ d. record (loaded (known (setup_of w) x) w.word (seen d)) { made = made d + 1 }))
-        (c.fresh-new.ensures (setup_of w) ∙ (λ d. fresh (setup_of w) (made d) 0 (first d) w.word)) c.push.new.self.items c.in_ok-push.ensures.items)
+    (ap (λ (u : View). record u { made = c.index-2.result.now.made + 1 }) (c.load.ensures (setup_of w))
+    ∙ (λ d. record (loaded (known (setup_of w) x) w.word (seen d)) { made = made d + 1 }))
+    (c.fresh-new.ensures (setup_of w) ∙ (λ d. fresh (setup_of w) (made d) 0 (first d) w.word)) c.push.new.self.items c.in_ok-push.ensures.items)

@@ -16,11 +16,11 @@ returns-else-turn-eq0-clause-moves c =
     let ne = c.if-turn-eq0.false in
     let turn : get_or w.turns.items c.in-Some.index 0 ≡ suc (c.index-turn.result.now - 1) = omega (arith, z, c.index-turn.ensures) in
     ok_more (λ f v at p. tries_missed w c.args.at c.index-2.result.now v c.args.part c.in-Some.index (c.index-turn.result.now - 1) (core_of c.miss.new.self) c.in-Some.ensures c.requires.at c.index-2.ensures at p
-        (ap (holds c.args.part) (sym c.deref.ensures.value) ∙ (sym c.holds.ensures ∙ c.if-holds.false)) turn (f v at p)) c.miss.result c.miss.ensures.leaves
+    (ap (holds c.args.part) (sym c.deref.ensures.value) ∙ (sym c.holds.ensures ∙ c.if-holds.false)) turn (f v at p)) c.miss.result c.miss.ensures.leaves
 
 pub returns-then-turn-eq0-clause-moves : goal.returns-then-turn-eq0-clause-moves
 returns-then-turn-eq0-clause-moves c =
     let w = c.args.self.now in
     let turn : get_or w.turns.items c.in-Some.index 0 ≡ 0 = sym (get_or_default_zero w.turns.items c.in-Some.index c.index-turn.result.now c.in-Some.ensures.turn) ∙ (sym c.index-turn.ensures ∙ c.if-turn-eq0.true) in
     ok_more (λ f v at p. tries_got w c.args.at c.index-2.result.now v c.args.part c.in-Some.index (core_of c.get.new.self) c.in-Some.ensures c.requires.at c.index-2.ensures at p
-        (ap (holds c.args.part) (sym c.deref.ensures.value) ∙ (sym c.holds.ensures ∙ c.if-holds.false)) turn (f v at p)) c.get.result c.get.ensures.gets
+    (ap (holds c.args.part) (sym c.deref.ensures.value) ∙ (sym c.holds.ensures ∙ c.if-holds.false)) turn (f v at p)) c.get.result c.get.ensures.gets
