@@ -63,7 +63,7 @@ impl State {
 
     /// Where a device's message goes.
     #[tactic(auto, unfolding(crate::specs::Translation::translated, crate::specs::Translation::located))]
-    pub fn translate(&self, its: u8, dev: DeviceId, ev: EventId) -> Result<Target, Cause>
+    fn translate(&self, its: u8, dev: DeviceId, ev: EventId) -> Result<Target, Cause>
         ensures { result ≡ translation.translated self.now its dev.0 ev.0 }
     {
         let Some(translator) = self.translators.get(usize::from(its)) else {

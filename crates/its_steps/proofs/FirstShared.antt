@@ -9,7 +9,7 @@ use Rattle.its_plain.specs.Sound.{IsSound}
 use Rattle.its_plain.specs.declared.call.Entry.{Entry}
 use Rattle.its_steps.specs.Parts.{Setup, part_count}
 use Rattle.its_steps.specs.Shared.{known, view_of, slot_as, home_slots}
-use Rattle.its_steps.specs.Steps.{Core, first_core}
+use Rattle.its_steps.specs.Steps.{first_core}
 use Rattle.its_steps.specs.World.{View, fresh, first_word, first_view, first_slots}
 use Rattle.its_steps.specs.declared.content.Content.{Content}
 use Rattle.its_steps.specs.declared.content.Content.TheVariants.{Maps, Mem, Shard, Redist}

@@ -5,8 +5,7 @@ use Rattle.std.specs.List.{position}
 use Rattle.std.specs.Vec.{with_item}
 use Rattle.std.proofs.lemmas.List.{map-set}
 use Rattle.std.proofs.lemmas.List.Quantifiers.{position-Some}
-use mathlib.Core.Option.{none, some}
-use mathlib.Core.Option as maybe
+use mathlib.Core.Option.{some}
 use lib.ListN.{get_elem?}
 use Rattle.its_types.specs.declared.machine.Part.{Part}
 use Rattle.its_plain.specs.History.{after}
@@ -14,7 +13,7 @@ use Rattle.its_steps.specs.Parts.{Setup, Stands, index_of}
 use Rattle.its_steps.specs.Good.{Holds, IsHeld}
 use Rattle.its_steps.specs.Held.{same_part, is_out, is_kept}
 use Rattle.its_steps.specs.Shared.{setup_of, known, view_of, slot_as, core_of, IsIndex, IsDone}
-use Rattle.its_steps.specs.Steps.{Core, IsGoodCore, TakesOut, PutsHome, Releases}
+use Rattle.its_steps.specs.Steps.{IsGoodCore, TakesOut, PutsHome, Releases}
 use Rattle.its_steps.specs.World.{View, kept, out}
 use Rattle.its_steps.specs.declared.content.Content.{Content}
 use Rattle.its_steps.specs.declared.content.Content.TheVariants.{Mem}

@@ -33,7 +33,7 @@ use Rattle.its_steps.specs.Good.{Holds}
 use Rattle.its_steps.specs.Held.{same_part, holds, owes_such, is_target, finds, lacks, all_out, covers}
 use Rattle.its_steps.specs.MayCall.{Owes, IsHit, IsWithout}
 use Rattle.its_steps.specs.MayCommit.{IsOut}
-use Rattle.its_steps.specs.Parts.{Setup, stamp_of}
+use Rattle.its_steps.specs.Parts.{Setup}
 use Rattle.its_steps.specs.declared.content.Content.{Content}
 use Rattle.its_steps.specs.declared.content.Content.TheVariants.{Maps, Mem, Shard, Redist}
 use Rattle.its_steps.specs.declared.held.Held.{Held}

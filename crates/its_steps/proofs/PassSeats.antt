@@ -1,14 +1,12 @@
 -- Passes split off, and notes made.
-use Rattle.std.proofs.Common.{◌≡◌, ◌≢◌, ℕ, suc, ◌+◌, ◌<◌, ◌≤◌, ◌^◌, List, [], ◌∷◌, ◌++◌, length, map, set, get_or, refl, ap, sym, ◌∙◌, subst, inl, inr, arith}
-use Rattle.std.specs.Vec.{with_item}
+use Rattle.std.proofs.Common.{◌≡◌, ℕ, ◌<◌, ◌^◌, List, [], ◌∷◌, ◌++◌, length, map, set, get_or, refl, ap, sym, ◌∙◌, subst, inr}
 use Rattle.std.proofs.lemmas.List.{map-append, length-map}
 use mathlib.Core.Option.{some}
 use lib.ListN.{get_elem?}
-use Rattle.its_types.specs.declared.machine.Word.{Word}
 use Rattle.its_plain.specs.declared.call.Entry.{Entry}
 use Rattle.its_steps.specs.Parts.{Setup}
 use Rattle.its_steps.specs.Shared.{setup_of, known, view_of, core_of, IsDone}
-use Rattle.its_steps.specs.Steps.{Core, Splits, notes}
+use Rattle.its_steps.specs.Steps.{Splits, notes}
 use Rattle.its_steps.specs.World.{View, fresh, first_word, loaded, has_split, split_off, note_of}
 use Rattle.its_steps.specs.declared.shared.Shared.{Shared}
 use Rattle.its_steps.specs.declared.view.Standing.TheVariants.{Pass, Note}

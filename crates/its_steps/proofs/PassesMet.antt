@@ -1,21 +1,17 @@
 -- Passes taken back, and notes met.
-use Rattle.std.proofs.Common.{◌≡◌, ◌≢◌, ℕ, zero, suc, ◌+◌, ◌<◌, ◌≤◌, eqb, Bool, true, false, ◌&&◌, List, [], ◌∷◌, length, map, set, get_or, Option, Some, None, refl, ap, sym, ◌∙◌, subst, inl, inr, arith}
+use Rattle.std.proofs.Common.{◌≡◌, ◌≢◌, ℕ, zero, suc, ◌<◌, ◌≤◌, eqb, true, false, ◌&&◌, List, [], ◌∷◌, length, map, set, get_or, Some, None, refl, ap, sym, ◌∙◌, inr, arith}
 use Rattle.std.specs.List.{position}
-use Rattle.std.specs.Vec.{with_item}
 use Rattle.std.proofs.lemmas.Bool.{eqb-true}
 use Rattle.std.proofs.lemmas.Bool.Decides.{Decides-eqb}
-use Rattle.std.proofs.lemmas.List.{map-set, length-map, set_comm, get_or-set_other}
+use Rattle.std.proofs.lemmas.List.{map-set, set_comm, get_or-set_other}
 use Rattle.std.proofs.lemmas.List.Quantifiers.{position-Some}
 use mathlib.Core.Option.{some, some-injective, some-ne-none}
 use lib.ListN.{get_elem?}
 use Rattle.atomic_table.proofs.Lists.{at_index, at_map}
-use Rattle.its_types.specs.declared.machine.Word.{Word}
-use Rattle.its_plain.specs.declared.call.Entry.{Entry}
 use Rattle.its_steps.specs.Parts.{Setup}
 use Rattle.its_steps.specs.Shared.{setup_of, known, view_of, core_of, is_standing, is_standing_note, is_pass, IsDone}
 use Rattle.its_steps.specs.Steps.{Core, IsGoodCore, IsAt, IsNoteAt, Joins, Meets}
 use Rattle.its_steps.specs.World.{View, loaded, has_joined, has_met, spent}
-use Rattle.its_steps.specs.declared.held.Held.{Held}
 use Rattle.its_steps.specs.declared.shared.Shared.{Shared}
 use Rattle.its_steps.specs.declared.view.Standing.{Standing}
 use Rattle.its_steps.specs.declared.view.Standing.TheVariants.{Pass, Note, Spent}

@@ -8,7 +8,7 @@ use lib.ListN.{get_elem?}
 use Rattle.atomic_table.proofs.Lists.{at_index, at_map}
 use Rattle.its_steps.specs.Parts.{Setup}
 use Rattle.its_steps.specs.World.{View, spent}
-use Rattle.its_steps.specs.Steps.{Core, set_view}
+use Rattle.its_steps.specs.Steps.{set_view}
 use Rattle.its_steps.specs.Shared.{setup_of, known, unless_spent, view_of, core_of}
 use Rattle.its_steps.specs.declared.shared.Shared.{Shared}
 use Rattle.its_steps.specs.declared.view.Standing.{Standing}

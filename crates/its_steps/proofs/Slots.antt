@@ -1,17 +1,16 @@
 -- Turns and slots at the index of a part, and tries of a turn.
-use Rattle.std.proofs.Common.{◌≡◌, ◌≢◌, ℕ, suc, ◌+◌, ◌<◌, ◌≤◌, Bool, true, false, List, length, map, set, get_or, refl, ap, sym, ◌∙◌, subst, inl, inr, ⊎_elim, arith, add-one}
+use Rattle.std.proofs.Common.{◌≡◌, ℕ, suc, ◌<◌, true, false, length, map, set, get_or, refl, ap, sym, ◌∙◌, subst, inl, inr, ⊎_elim, arith}
 use Rattle.std.specs.Prelude as std
-use Rattle.std.specs.Bool.{Decides}
 use Rattle.std.specs.Vec.{with_item}
 use Rattle.std.proofs.lemmas.List.{length-map}
-use mathlib.Core.Option.{Option, none, some, some-injective, some-ne-none}
+use mathlib.Core.Option.{none, some, some-injective, some-ne-none}
 use lib.ListN.{get_elem?}
 use Rattle.atomic_table.proofs.Lists.{at_index, at_map}
 use Rattle.its_types.specs.declared.machine.Part.{Part}
 use Rattle.its_steps.specs.Parts.{Setup, Stands, index_of, part_count}
 use Rattle.its_steps.specs.Good.{Holds, turn_of}
 use Rattle.its_steps.specs.Held.{holds}
-use Rattle.its_steps.specs.Shared.{setup_of, known, view_of, slot_as, core_of, IsIndex, IsWide, IsDone, AtPass}
+use Rattle.its_steps.specs.Shared.{setup_of, known, view_of, slot_as, core_of, IsIndex, IsWide, IsDone}
 use Rattle.its_steps.specs.Steps.{Core, Gets, Misses, Tries, set_view}
 use Rattle.its_steps.specs.World.{View, got, missed}
 use Rattle.its_steps.specs.declared.content.Content.{Content}

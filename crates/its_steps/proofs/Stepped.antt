@@ -1,9 +1,9 @@
 -- Steps of the pass that is found, and steps of none.
-use Rattle.std.proofs.Common.{◌≡◌, ◌⊎◌, ℕ, zero, suc, take, ◌<◌, Bool, List, [], ◌∷◌, length, get_or, arith, Some, None, refl, ap, sym, ◌∙◌, subst, inl, inr, ⊎_elim}
+use Rattle.std.proofs.Common.{◌≡◌, ℕ, zero, suc, take, ◌<◌, Bool, List, [], ◌∷◌, length, get_or, arith, Some, None, refl, subst, inl, inr, ⊎_elim}
 use Rattle.std.specs.List.{position}
 use Rattle.std.proofs.lemmas.List.Quantifiers.{position-Some}
 use Rattle.its_steps.specs.Shared.{setup_of, known, is_pass, core_of, IsMove, IsPassAt}
-use Rattle.its_steps.specs.Steps.{Core, IsGoodCore, Moves, Does, IsStep, IsRun}
+use Rattle.its_steps.specs.Steps.{Core, IsGoodCore, Moves, IsStep, IsRun}
 use Rattle.its_steps.specs.World.{View}
 use Rattle.its_steps.specs.declared.event.Event.{Event}
 use Rattle.its_steps.specs.declared.shared.Shared.{Shared}

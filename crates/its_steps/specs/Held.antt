@@ -14,7 +14,7 @@ use Rattle.its_plain.specs.declared.call.Signal.TheVariants.{Delivered}
 use Rattle.xlate_cache.specs.Ways.{found}
 use Rattle.xlate_cache.specs.Observed.{has_entry_of}
 use Rattle.its_steps.specs.declared.content.Content.{Content}
-use Rattle.its_steps.specs.declared.content.Content.TheVariants.{Maps, Mem, Shard, Redist}
+use Rattle.its_steps.specs.declared.content.Content.TheVariants.{Shard}
 use Rattle.its_steps.specs.declared.held.Held.{Held}
 
 abbrev pub same_part : Part → Part → Bool

@@ -11,7 +11,7 @@ use Rattle.its_steps.specs.declared.change.ShardChange.{ShardChange}
 use Rattle.its_steps.specs.declared.held.Held.{Held}
 use Rattle.its_steps.specs.Parts.{Setup, Stands, index_of}
 use Rattle.its_steps.specs.Good.{AreWide}
-use Rattle.its_steps.specs.World.{View, World, spent, entry, committed}
+use Rattle.its_steps.specs.World.{View, spent, entry, committed}
 use Rattle.its_steps.specs.Steps.{Core, Moves}
 use Rattle.xlate_cache.specs.Ways.{no_entries}
 use Rattle.its_plain.specs.Plain.{Plain}

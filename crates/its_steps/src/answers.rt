@@ -17,7 +17,7 @@ use crate::held::Held;
 use crate::holding::{holds, same_part};
 use crate::renewals::its_of;
 use crate::shared::Shared;
-use its_plain::{Call, NoMemory, Reply, Signal, State};
+use its_plain::{Call, Cause, NoMemory, Reply, Signal, State};
 use its_types::{DeviceId, EventId, Part, Target, Word};
 use std::alloc::Global;
 use xlate_cache::shard_of;
@@ -191,8 +191,23 @@ impl Shared {
 fn goes_to(state: &State, its: u8, dev: DeviceId, ev: EventId, target: Target) -> bool
     ensures { Decides result (translated state.now its dev.0 ev.0 ≡ Ok target) }
 {
-    match state.translate(its, dev, ev) {
+    match translate(state, its, dev, ev) {
         Ok(found) => found == target,
         Err(_) => false,
+    }
+}
+
+// Where a message goes.
+#[tactic(auto, unfolding(its_plain::specs::Translation::translated, its_plain::specs::Translation::located))]
+fn translate(state: &State, its: u8, dev: DeviceId, ev: EventId) -> Result<Target, Cause>
+    ensures { result ≡ translated state.now its dev.0 ev.0 }
+{
+    let Some(translator) = state.translators().get(usize::from(its)) else {
+        return Err(Cause::Disabled);
+    };
+    let target = translator.locate(dev, ev)?;
+    match state.redistributors().get(usize::from(target.vcpu.0)) {
+        Some(redistributor) if redistributor.is_on() => Ok(target),
+        _ => Err(Cause::LpisOff),
     }
 }

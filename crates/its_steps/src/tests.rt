@@ -77,11 +77,22 @@ fn step(alloc: Global, world: World, pass: u32, kind: Kind) -> Result<World, NoM
     world.step(alloc, &Event { pass, kind })
 }
 
+// Two steps of a pass, one after the other.
+fn both(
+    alloc: Global,
+    world: World,
+    pass: u32,
+    first: Kind,
+    second: Kind,
+) -> Result<World, NoMemory> {
+    let events = [Event { pass, kind: first }, Event { pass, kind: second }];
+    world.run(alloc, &events)
+}
+
 fn take(alloc: Global, world: World, pass: u32, parts: &[Part]) -> Result<World, NoMemory> {
     let mut world = world;
     for part in parts {
-        world = step(alloc, world, pass, Kind::Try(*part))?;
-        world = step(alloc, world, pass, Kind::TakeOut(*part))?;
+        world = both(alloc, world, pass, Kind::Try(*part), Kind::TakeOut(*part))?;
     }
     Ok(world)
 }
@@ -89,8 +100,7 @@ fn take(alloc: Global, world: World, pass: u32, parts: &[Part]) -> Result<World,
 fn give(alloc: Global, world: World, pass: u32, parts: &[Part]) -> Result<World, NoMemory> {
     let mut world = world;
     for part in parts {
-        world = step(alloc, world, pass, Kind::PutHome(*part))?;
-        world = step(alloc, world, pass, Kind::Release(*part))?;
+        world = both(alloc, world, pass, Kind::PutHome(*part), Kind::Release(*part))?;
     }
     Ok(world)
 }

@@ -1,6 +1,5 @@
-use Rattle.std.proofs.Common.{◌≡◌, ℕ, ◌+◌, ◌*◌, ◌++◌, map, drop, Some}
-use Rattle.std.specs.Prelude.{replicate}
-use Rattle.its_steps.specs.declared.content.Content.TheVariants.{Maps, Mem, Shard, Redist}
+use Rattle.std.proofs.Common.{◌≡◌, ◌++◌, map, drop, Some}
+use Rattle.its_steps.specs.declared.content.Content.TheVariants.{Maps}
 use Rattle.its_steps.proofs.shared.add_maps.Given as goal
 
 abbrev pub invariant-loop-translator : goal.invariant-loop-translator

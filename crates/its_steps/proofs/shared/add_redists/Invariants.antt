@@ -1,6 +1,5 @@
-use Rattle.std.proofs.Common.{◌≡◌, ℕ, ◌+◌, ◌*◌, ◌++◌, map, drop, Some}
-use Rattle.std.specs.Prelude.{replicate}
-use Rattle.its_steps.specs.declared.content.Content.TheVariants.{Maps, Mem, Shard, Redist}
+use Rattle.std.proofs.Common.{◌≡◌, ◌++◌, map, drop, Some}
+use Rattle.its_steps.specs.declared.content.Content.TheVariants.{Redist}
 use Rattle.its_steps.proofs.shared.add_redists.Given as goal
 
 abbrev pub invariant-loop-redist : goal.invariant-loop-redist

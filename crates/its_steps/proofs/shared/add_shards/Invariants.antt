@@ -1,6 +1,6 @@
-use Rattle.std.proofs.Common.{◌≡◌, ℕ, ◌+◌, ◌*◌, ◌++◌, map, drop, Some}
+use Rattle.std.proofs.Common.{◌≡◌, ◌++◌, Some}
 use Rattle.std.specs.Prelude.{replicate}
-use Rattle.its_steps.specs.declared.content.Content.TheVariants.{Maps, Mem, Shard, Redist}
+use Rattle.its_steps.specs.declared.content.Content.TheVariants.{Shard}
 use Rattle.xlate_cache.specs.Ways.{no_entries}
 use Rattle.its_steps.proofs.shared.add_shards.Given as goal
 

@@ -1,4 +1,4 @@
-use Rattle.std.proofs.Common.{◌≡◌, ℕ, suc, ◌+◌, ◌*◌, ◌≤◌, List, [], ◌∷◌, ◌++◌, length, map, replicate, Option, Some, refl, sym, ap, ◌∙◌, arith, append_assoc, suc-mul}
+use Rattle.std.proofs.Common.{◌≡◌, ℕ, suc, ◌+◌, ◌*◌, List, [], ◌∷◌, ◌++◌, length, map, replicate, Option, Some, ap, ◌∙◌, arith, append_assoc, suc-mul}
 use Rattle.std.proofs.lemmas.List.{replicate-append-replicate}
 use Rattle.guest_windows.specs.Windows.{Window}
 use Rattle.its_plain.specs.Plain.{Translator, Redistributor}

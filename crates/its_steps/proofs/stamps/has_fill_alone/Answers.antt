@@ -1,9 +1,7 @@
-use Rattle.std.proofs.Common.{◌≡◌, ◌≢◌, ◌⊎◌, ℕ, suc, ◌+◌, ◌<◌, ◌≤◌, true, false, refl, sym, ap, subst, ◌∙◌, inl, inr, ⊎_elim, arith}
+use Rattle.std.proofs.Common.{◌≡◌, sym, subst, ◌∙◌}
 use Rattle.std.specs.Bool.{Decides}
 use Rattle.its_types.specs.declared.machine.Part.TheVariants as part
-use Rattle.its_steps.specs.Good.{Holds}
-use Rattle.its_steps.proofs.MayTests.{holds_sure, holds_not}
-use Rattle.its_steps.specs.MayCall.{IsFill, HasFillsAlone}
+use Rattle.its_steps.specs.MayCall.{HasFillsAlone}
 use Rattle.its_types.specs.declared.machine.Part.{Part}
 use Rattle.its_steps.specs.declared.content.Content.{Content}
 use Rattle.its_steps.specs.declared.content.Content.TheVariants.{Shard}

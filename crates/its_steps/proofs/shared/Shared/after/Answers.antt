@@ -1,8 +1,6 @@
-use Rattle.std.proofs.Common.{◌≡◌, inl, inr, refl, sym, ap, ◌∙◌}
+use Rattle.std.proofs.Common.{inr, sym, ap, ◌∙◌}
 use Rattle.its_plain.specs.Answer.{left, signal_left}
 use Rattle.its_plain.specs.Plain.{Plain}
-use Rattle.its_plain.specs.declared.call.Call.{Call}
-use Rattle.its_plain.specs.declared.call.Reply.{Reply}
 use Rattle.its_plain.specs.declared.call.Signal.TheVariants.{Delivered}
 use Rattle.its_steps.specs.Renewal.{assembled}
 use Rattle.its_steps.specs.Shared.{setup_of}

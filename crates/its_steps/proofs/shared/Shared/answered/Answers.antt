@@ -1,12 +1,10 @@
-use Rattle.std.proofs.Common.{◌≡◌, List, true, false, refl, sym, ap, subst, ◌∙◌}
+use Rattle.std.proofs.Common.{◌≡◌, true, false, sym, ap, subst, ◌∙◌}
 use Rattle.std.specs.List.{AllByRecursion}
 use Rattle.its_types.specs.declared.machine.Part.{Part}
 use Rattle.its_plain.specs.Answer.{reply_of, left}
 use Rattle.its_plain.specs.Parts.{footprint}
 use Rattle.its_plain.specs.Plain.{Plain}
-use Rattle.its_plain.specs.declared.call.Reply.{Reply}
 use Rattle.its_steps.specs.Good.{Holds}
-use Rattle.its_steps.specs.Held.{covers}
 use Rattle.its_steps.specs.Renewal.{assembled}
 use Rattle.its_steps.specs.Shared.{setup_of}
 use Rattle.its_steps.proofs.MayTests.{covers_decides}

@@ -1,4 +1,4 @@
-use Rattle.std.proofs.Common.{◌≡◌, Bool, true, ◌&&◌, eqb, cond, eq-eqb, ap, sym, ◌∙◌}
+use Rattle.std.proofs.Common.{◌≡◌, true, ◌&&◌, eqb, cond, eq-eqb, ap, sym, ◌∙◌}
 use Rattle.xlate_cache.specs.Pairs.{shard_number}
 use Rattle.xlate_cache.specs.Ways.{entry, filled}
 use Rattle.its_steps.specs.Renewal.{its_of, changed}

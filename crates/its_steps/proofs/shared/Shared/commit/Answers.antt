@@ -1,13 +1,12 @@
-use Rattle.std.proofs.Common.{◌≡◌, ◌≢◌, ◌⊎◌, ℕ, List, true, false, refl, sym, ap, subst, ◌∙◌, inl, inr, ⊎_elim}
+use Rattle.std.proofs.Common.{◌≡◌, ◌≢◌, true, false, refl, sym, ap, subst, ◌∙◌, inl, ⊎_elim}
 use Rattle.std.specs.List.{AllByRecursion}
 use Rattle.its_steps.specs.Good.{Apart}
 use Rattle.its_steps.specs.MayCall.{MayCall}
 use Rattle.its_steps.specs.Parts.{Stands}
 use Rattle.its_steps.specs.Renewal.{renewal}
 use Rattle.its_steps.specs.Shared.{setup_of, core_of}
-use Rattle.its_steps.specs.Steps.{Core, loads, next_word}
+use Rattle.its_steps.specs.Steps.{loads, next_word}
 use Rattle.its_steps.specs.declared.held.Held.{Held}
-use Rattle.its_steps.specs.declared.view.View.{View as Known}
 use Rattle.its_steps.proofs.Committed.{held_stand, held_apart, no_commit, raced, commits_it}
 use Rattle.its_steps.proofs.shared.Shared.commit.Goals as goal
 

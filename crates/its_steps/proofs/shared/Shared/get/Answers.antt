@@ -1,4 +1,4 @@
-use Rattle.std.proofs.Common.{ℕ, ◌+◌, refl, inl, sym, ap, ◌∙◌, arith, get_or}
+use Rattle.std.proofs.Common.{ℕ, ◌+◌, inl, sym, ap, ◌∙◌, arith, get_or}
 use Rattle.its_steps.specs.Shared.{setup_of}
 use Rattle.its_steps.proofs.Slots.{gets_none, gets_some}
 use Rattle.its_steps.proofs.shared.Shared.get.Goals as goal

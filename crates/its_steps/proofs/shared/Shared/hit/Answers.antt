@@ -1,8 +1,7 @@
-use Rattle.std.proofs.Common.{◌≡◌, true, false, refl, sym, ap, ◌∙◌, ℕ}
+use Rattle.std.proofs.Common.{◌≡◌, true, false, sym, ap, ◌∙◌, ℕ}
 use Rattle.its_types.specs.declared.machine.Part.TheVariants as part
 use Rattle.its_plain.specs.declared.call.Reply.TheVariants as reply
 use Rattle.its_plain.specs.declared.call.Signal.{Signal}
-use Rattle.its_plain.specs.declared.call.Signal.TheVariants.{Delivered}
 use Rattle.its_steps.specs.Held.{owes_such, finds}
 use Rattle.its_steps.specs.Shared.{setup_of}
 use Rattle.its_steps.proofs.MayTests.{hit_is, hit_tests}

@@ -1,13 +1,12 @@
-use Rattle.std.proofs.Common.{◌≡◌, ◌≢◌, ℕ, true, false, eqb, eq-eqb, List, [], length, set, get_or, Some, refl, ap, sym, ◌∙◌, inl, arith}
+use Rattle.std.proofs.Common.{◌≡◌, true, false, eqb, eq-eqb, List, [], length, set, Some, refl, ap, sym, ◌∙◌, inl}
 use Rattle.std.proofs.lemmas.Bool.{eqb-true}
 use Rattle.std.proofs.lemmas.List.Quantifiers.{position-Some}
 use Rattle.its_steps.specs.declared.held.Held.{Held}
 use Rattle.its_steps.specs.declared.view.Standing.TheVariants.{Spent}
 use Rattle.its_steps.proofs.Positions.{no_items, same_read}
 use Rattle.std.specs.List.{position}
-use Rattle.its_plain.specs.declared.call.Entry.{Entry}
 use Rattle.its_steps.specs.Shared.{setup_of, known, is_pass}
-use Rattle.its_steps.specs.World.{View, loaded, has_joined}
+use Rattle.its_steps.specs.World.{loaded, has_joined}
 use Rattle.its_steps.specs.declared.view.View.{View as Known}
 use Rattle.its_steps.proofs.PassesMet.{not_root, none_to_join, not_bare, joins}
 use Rattle.its_steps.proofs.shared.Shared.join.Goals as goal

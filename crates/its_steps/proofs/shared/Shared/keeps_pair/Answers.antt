@@ -1,4 +1,4 @@
-use Rattle.std.proofs.Common.{◌≡◌, ◌⊎◌, ℕ, true, false, Ok, refl, sym, ap, ◌∙◌, inl, inr, ⊎_elim}
+use Rattle.std.proofs.Common.{◌≡◌, ℕ, true, false, Ok, sym, ap, ◌∙◌, inr, ⊎_elim}
 use Rattle.its_types.specs.declared.machine.Part.TheVariants as part
 use Rattle.its_plain.specs.Translation.{located}
 use Rattle.its_steps.specs.Held.{owes_such, lacks}

@@ -1,6 +1,6 @@
 use Rattle.std.proofs.Common.{◌≡◌, List, inl, refl, ap, ◌∙◌}
 use Rattle.its_steps.specs.Shared.{setup_of, known}
-use Rattle.its_steps.specs.World.{View, loaded}
+use Rattle.its_steps.specs.World.{loaded}
 use Rattle.its_plain.specs.declared.call.Entry.{Entry}
 use Rattle.its_steps.proofs.Seats.{put_core}
 use Rattle.its_steps.proofs.shared.Shared.load.Goals as goal

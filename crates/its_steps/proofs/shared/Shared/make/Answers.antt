@@ -1,4 +1,4 @@
-use Rattle.std.proofs.Common.{◌≡◌, ℕ, [], ◌∷◌, ◌++◌, refl, sym, ap, ◌∙◌}
+use Rattle.std.proofs.Common.{◌≡◌, [], ◌∷◌, ◌++◌, refl, ap, ◌∙◌}
 use Rattle.its_steps.specs.Shared.{setup_of}
 use Rattle.its_steps.specs.World.{entry}
 use Rattle.its_steps.specs.declared.view.View.{View as Known}

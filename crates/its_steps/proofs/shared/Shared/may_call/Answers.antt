@@ -1,10 +1,7 @@
-use Rattle.std.proofs.Common.{◌≡◌, ◌⊎◌, ℕ, ◌<◌, List, true, false, refl, sym, ap, subst, ◌∙◌, Some}
-use Rattle.std.specs.Prelude.{MatchOption}
-use Rattle.std.specs.List.{AllByRecursion}
+use Rattle.std.proofs.Common.{◌≡◌, ℕ, ◌<◌, List, true, false, refl, sym, ap, subst, ◌∙◌}
 use Rattle.its_plain.specs.Answer.{left}
 use Rattle.its_plain.specs.Plain.{Plain}
-use Rattle.its_steps.specs.MayCall.{IsAnswered, IsHit, MayChange, MayStamp}
-use Rattle.its_steps.specs.MayCommit.{IsOut}
+use Rattle.its_steps.specs.MayCall.{MayChange, MayStamp}
 use Rattle.its_steps.specs.Parts.{translator_count}
 use Rattle.its_steps.specs.Renewal.{assembled, renewed, renewal}
 use Rattle.its_steps.specs.Shared.{setup_of}

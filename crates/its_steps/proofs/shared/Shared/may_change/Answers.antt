@@ -1,9 +1,8 @@
-use Rattle.std.proofs.Common.{◌≡◌, ℕ, true, false, refl, sym, ap, subst, ◌∙◌}
+use Rattle.std.proofs.Common.{◌≡◌, sym, subst, ◌∙◌}
 use Rattle.std.specs.Bool.{Decides}
 use Rattle.its_types.specs.declared.machine.Part.{Part}
 use Rattle.its_types.specs.declared.machine.Part.TheVariants as part
 use Rattle.its_steps.specs.Good.{Holds}
-use Rattle.its_steps.specs.Held.{holds}
 use Rattle.its_steps.specs.MayCall.{MayChange}
 use Rattle.its_steps.specs.Renewal.{shard_of}
 use Rattle.its_steps.specs.Shared.{setup_of}

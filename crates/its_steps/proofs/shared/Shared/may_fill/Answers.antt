@@ -1,10 +1,9 @@
-use Rattle.std.proofs.Common.{◌≡◌, ℕ, true, false, refl, sym, ap, subst, ◌∙◌}
+use Rattle.std.proofs.Common.{◌≡◌, ℕ, sym, ap, subst, ◌∙◌}
 use Rattle.its_types.specs.declared.machine.Part.{Part}
 use Rattle.its_types.specs.declared.machine.Part.TheVariants as part
 use Rattle.its_plain.specs.Translation.{translated}
 use Rattle.its_steps.specs.Good.{Holds}
-use Rattle.its_steps.specs.Held.{holds}
-use Rattle.its_steps.specs.Renewal.{its_of, shard_of}
+use Rattle.its_steps.specs.Renewal.{shard_of}
 use Rattle.its_steps.specs.Shared.{setup_of}
 use Rattle.its_steps.proofs.MayTests.{holds_sure, holds_not}
 use Rattle.its_steps.proofs.shared.Shared.may_fill.Goals as goal

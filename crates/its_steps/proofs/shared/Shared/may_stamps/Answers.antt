@@ -1,11 +1,6 @@
-use Rattle.std.proofs.Common.{◌≡◌, ◌≢◌, ◌⊎◌, ℕ, suc, ◌+◌, ◌<◌, ◌≤◌, true, false, refl, sym, ap, subst, ◌∙◌, inl, inr, ⊎_elim, arith}
+use Rattle.std.proofs.Common.{◌≡◌, true, false, sym, ap, ◌∙◌, arith}
 use borrow.Author.Count.{below_more}
-use Rattle.its_plain.specs.Plain.{Translator}
-use Rattle.std.proofs.Common.{length, List}
-use Rattle.std.specs.Bool.{Decides}
-use Rattle.its_types.specs.declared.machine.Part.TheVariants as part
-use Rattle.its_steps.specs.Good.{Holds}
-use Rattle.its_steps.proofs.MayTests.{holds_sure, holds_not}
+use Rattle.std.proofs.Common.{length}
 use Rattle.its_steps.specs.MayCall.{MayStamp}
 use Rattle.its_steps.specs.Shared.{setup_of}
 use Rattle.its_steps.proofs.shared.Shared.may_stamps.Goals as goal

@@ -1,7 +1,6 @@
-use Rattle.std.proofs.Common.{◌≡◌, ◌≢◌, ◌<◌, ℕ, true, List, [], length, set, get_or, refl, ap, sym, ◌∙◌, inl, arith}
-use Rattle.its_plain.specs.declared.call.Entry.{Entry}
+use Rattle.std.proofs.Common.{◌≡◌, ◌<◌, true, length, set, get_or, refl, ap, sym, ◌∙◌, inl, arith}
 use Rattle.its_steps.specs.Shared.{setup_of, known, is_standing_note}
-use Rattle.its_steps.specs.World.{View, loaded, has_met}
+use Rattle.its_steps.specs.World.{loaded, has_met}
 use Rattle.its_steps.specs.declared.view.View.{View as Known}
 use Rattle.its_steps.specs.declared.view.Standing.TheVariants.{Spent}
 use Rattle.its_steps.proofs.Positions.{any_default, same_read}

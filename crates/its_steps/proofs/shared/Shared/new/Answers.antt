@@ -1,4 +1,4 @@
-use Rattle.std.proofs.Common.{refl, sym, ap, ◌∙◌, ℕ, replicate}
+use Rattle.std.proofs.Common.{ap, ◌∙◌, ℕ, replicate}
 use Rattle.its_steps.specs.Parts.{Setup}
 use Rattle.its_steps.proofs.FirstShared.{first_shared}
 use Rattle.its_steps.proofs.shared.Shared.new.Goals as goal

@@ -1,4 +1,4 @@
-use Rattle.std.proofs.Common.{◌≡◌, ℕ, List, [], ◌∷◌, ◌++◌, refl, ap, sym, ◌∙◌, inl, arith}
+use Rattle.std.proofs.Common.{ℕ, [], ◌∷◌, ◌++◌, ap, ◌∙◌, inl}
 use Rattle.its_steps.specs.Shared.{setup_of}
 use Rattle.its_steps.proofs.PassSeats.{notes_it}
 use Rattle.its_steps.proofs.shared.Shared.note.Goals as goal

@@ -1,5 +1,4 @@
-use Rattle.std.proofs.Common.{◌≡◌, ℕ, suc, ◌+◌, List, ◌++◌, take, drop, true, false, Some, refl, ap, sym, ◌∙◌, arith}
-use Rattle.std.specs.Vec.{with_item}
+use Rattle.std.proofs.Common.{◌≡◌, ℕ, suc, ◌+◌, List, ◌++◌, take, drop, Some, ap, sym, ◌∙◌, arith}
 use Rattle.its_steps.specs.Shared.{setup_of, known}
 use Rattle.its_steps.specs.declared.held.Held.{Held}
 use Rattle.its_steps.specs.declared.view.View.{View as Known}

@@ -1,7 +1,5 @@
-use Rattle.std.proofs.Common.{◌≡◌, ◌≢◌, ◌⊎◌, ℕ, suc, ◌+◌, ◌<◌, ◌≤◌, true, false, refl, sym, ap, subst, ◌∙◌, inl, inr, ⊎_elim, arith}
-use Rattle.std.specs.Bool.{Decides}
+use Rattle.std.proofs.Common.{sym, ◌∙◌}
 use Rattle.its_types.specs.declared.machine.Part.TheVariants as part
-use Rattle.its_steps.specs.Good.{Holds}
 use Rattle.its_steps.proofs.MayTests.{holds_sure, holds_not}
 use Rattle.its_steps.proofs.shared.Shared.renews.Goals as goal
 

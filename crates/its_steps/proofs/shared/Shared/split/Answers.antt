@@ -1,5 +1,4 @@
-use Rattle.std.proofs.Common.{◌≡◌, ◌+◌, ◌<◌, ◌^◌, ℕ, List, length, get_or, refl, ap, sym, ◌∙◌, subst, inl, arith}
-use Rattle.its_plain.specs.declared.call.Entry.{Entry}
+use Rattle.std.proofs.Common.{◌≡◌, ◌+◌, ap, sym, ◌∙◌, inl, arith}
 use Rattle.its_steps.specs.Shared.{setup_of, known}
 use Rattle.its_steps.specs.World.{View, fresh, loaded}
 use Rattle.its_steps.specs.declared.view.View.{View as Known}

@@ -1,6 +1,5 @@
-use Rattle.std.proofs.Common.{◌≡◌, Some, refl, sym, ap, ◌∙◌}
+use Rattle.std.proofs.Common.{◌≡◌, Some, sym, ap, ◌∙◌}
 use Rattle.std.specs.List.{position}
-use Rattle.std.proofs.lemmas.List.Quantifiers.{position-Some}
 use Rattle.its_steps.specs.Shared.{is_pass, core_of}
 use Rattle.its_steps.proofs.Stepped.{nobody, found_pass, stepped_at}
 use Rattle.its_steps.proofs.shared.Shared.step.Goals as goal

@@ -1,7 +1,5 @@
-use Rattle.std.proofs.Common.{◌≡◌, ℕ, suc, ◌+◌, List, ◌++◌, take, drop, true, false, Some, refl, ap, sym, ◌∙◌, arith}
+use Rattle.std.proofs.Common.{◌≡◌, true, Some, refl, ap, sym, ◌∙◌}
 use Rattle.std.specs.Vec.{with_item}
-use Rattle.its_steps.specs.Shared.{setup_of, known}
-use Rattle.its_steps.specs.declared.held.Held.{Held}
 use Rattle.its_steps.specs.declared.view.View.{View as Known}
 use Rattle.its_steps.proofs.Positions.{same_read}
 use Rattle.std.specs.List.{position}

@@ -3,7 +3,7 @@ use Rattle.std.proofs.lemmas.Grind.{get_or_default_zero}
 use Rattle.its_steps.specs.Shared.{core_of}
 use Rattle.its_steps.specs.Held.{holds}
 use Rattle.its_steps.proofs.Seats.{ok_more}
-use Rattle.its_steps.proofs.Slots.{no_part, holds_already, tries_missed, tries_got}
+use Rattle.its_steps.proofs.Slots.{holds_already, tries_missed, tries_got}
 use Rattle.its_steps.proofs.shared.Shared.try_part.Goals as goal
 
 pub returns-then-holds-clause-moves : goal.returns-then-holds-clause-moves

@@ -1,8 +1,7 @@
-use Rattle.std.proofs.Common.{◌≡◌, ℕ, refl, sym, ap, subst, ◌∙◌, Some}
+use Rattle.std.proofs.Common.{refl, sym, ap, subst, ◌∙◌}
 use Rattle.std.specs.List.{position}
-use Rattle.its_steps.specs.Shared.{setup_of, known, is_pass, core_of}
+use Rattle.its_steps.specs.Shared.{setup_of, known, is_pass}
 use Rattle.its_steps.specs.Steps.{Core, IsAt}
-use Rattle.its_steps.specs.World.{View}
 use Rattle.its_steps.proofs.PassesMet.{pass_at, no_pass_at}
 use Rattle.its_steps.proofs.world.World.last.Goals as goal
 

@@ -1,5 +1,5 @@
 use Rattle.std.proofs.Common.{ℕ, ◌≤◌, sym, subst}
-use Rattle.its_steps.specs.Steps.{Core, IsGoodCore}
+use Rattle.its_steps.specs.Steps.{IsGoodCore}
 use Rattle.its_steps.proofs.First.{first}
 use Rattle.its_steps.proofs.world.World.new.Goals as goal
 

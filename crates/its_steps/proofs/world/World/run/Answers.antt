@@ -1,5 +1,5 @@
 use Rattle.std.proofs.Common.{◌≡◌, ℕ, suc, ◌+◌, take, subst, arith}
-use Rattle.its_steps.specs.Steps.{Core, IsRun}
+use Rattle.its_steps.specs.Steps.{IsRun}
 use Rattle.its_steps.proofs.Stepped.{run_more}
 use Rattle.its_steps.proofs.world.World.run.Goals as goal
 
