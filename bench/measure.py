@@ -37,8 +37,9 @@ def main():
     program, script, report = sys.argv[1:]
     seconds, memory = run(program, script, report)
     calls = count_calls(report)
+    each = f" {memory / calls:5.0f} bytes a call," if calls > 1 else ""
     print(
-        f"{calls:>9} calls: {seconds:6.2f} s, {memory / 2**20:7.1f} MiB at most, {memory / calls:5.0f} bytes a call, "
+        f"{calls:>9} calls: {seconds:6.2f} s, {memory / 2**20:7.1f} MiB at most,{each} "
         f"script {os.path.getsize(script)} bytes, report {os.path.getsize(report)} bytes"
     )
 
