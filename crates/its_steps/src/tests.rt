@@ -100,7 +100,13 @@ fn take(alloc: Global, world: World, pass: u32, parts: &[Part]) -> Result<World,
 fn give(alloc: Global, world: World, pass: u32, parts: &[Part]) -> Result<World, NoMemory> {
     let mut world = world;
     for part in parts {
-        world = both(alloc, world, pass, Kind::PutHome(*part), Kind::Release(*part))?;
+        world = both(
+            alloc,
+            world,
+            pass,
+            Kind::PutHome(*part),
+            Kind::Release(*part),
+        )?;
     }
     Ok(world)
 }
