@@ -74,7 +74,7 @@ fn start(alloc: Global) -> Result<State, Fail>
 }
 
 fn step(alloc: Global, world: World, pass: u32, kind: Kind) -> Result<World, NoMemory> {
-    world.step(alloc, &Event { pass, kind })
+    world.run(alloc, &[Event { pass, kind }])
 }
 
 // Two steps of a pass, one after the other.
