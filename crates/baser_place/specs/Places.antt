@@ -2,7 +2,6 @@
 use Rattle.std.specs.Prelude.{ℕ, ◌<◌, ◌+◌, ◌-◌, ◌*◌, ◌/◌, ◌%◌, ◌^◌, Bool, nat_lt, if◌then◌else◌, List, Option, Some, None}
 use Rattle.its_types.specs.Bits.{field, bit_of}
 use Rattle.its_types.specs.Ranges.{is_device_id}
-use Rattle.its_types.specs.declared.ids.Addr.{Addr}
 use Rattle.guest_windows.specs.Windows.{Window, inside, number_at}
 use Rattle.gits_regs.specs.Registers.{Registers, is_valid, is_indirect, pages, table_base}
 use Rattle.baser_place.specs.declared.entry.Level1.{Level1}

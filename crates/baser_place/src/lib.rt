@@ -5,4 +5,4 @@ mod entry;
 mod places;
 
 pub use entry::Level1;
-pub use places::{collection_places, device_place, level1};
+pub use places::{collection_places, device_place, level1, level1_entries};

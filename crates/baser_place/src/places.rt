@@ -16,6 +16,16 @@ pub fn collection_places(regs: &Regs) -> u32
     regs.collection_places()
 }
 
+/// How many entries the first level of a device table has: one for each 8192 DeviceIDs (KVM document arm-vgic-its, "ITS
+/// Table ABI REV0").
+pub fn level1_entries(regs: &Regs) -> u32
+    ensures entries { result ≡ spec.level1_entries regs.now.dev_bits }
+    ensures most { result ≤ 128 }
+{
+    regs.keeps_rules();
+    1 << (regs.dev_bits() - 13)
+}
+
 /// Entry `k` of the first level of a device table, which stands at eight times `k` behind the table's base.
 #[tactic(auto, unfolding(crate::specs::Places::level1_of))]
 pub fn level1(regs: &Regs, memory: &Memory, k: u32) -> Level1

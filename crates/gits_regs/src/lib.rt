@@ -4,6 +4,7 @@
 mod change;
 mod laws;
 mod masks;
+pub mod offsets;
 mod read;
 mod regs;
 mod restore;

@@ -1,6 +1,7 @@
 ghost use Rattle.std.specs.Prelude.{◌≡◌, ◌<◌, ◌^◌};
 ghost use Rattle.gits_regs.specs.Registers as spec;
 
+use crate::offsets;
 use crate::regs::Regs;
 
 impl Regs {
@@ -37,9 +38,9 @@ impl Regs {
         ensures { result ≡ spec.read_32 self.now off }
     {
         match off {
-            0x0 => { if self.enabled { 1 } else { 0x8000_0000 } }
-            0x4 => 0x4B00_043B,
-            0xFFE8 => 0x30,
+            offsets::CTLR => { if self.enabled { 1 } else { 0x8000_0000 } }
+            offsets::IIDR => 0x4B00_043B,
+            offsets::PIDR2 => 0x30,
             _ => 0,
         }
     }
@@ -49,12 +50,12 @@ impl Regs {
         ensures { result ≡ spec.read_64 self.now off }
     {
         match off {
-            0x8 => (u64::from(self.dev_bits) - 1) * 8192 + 0xF71,
-            0x80 => self.cbaser,
-            0x88 => self.cwriter,
-            0x90 => self.creadr,
-            0x100 => self.baser0,
-            0x108 => self.baser1,
+            offsets::TYPER => (u64::from(self.dev_bits) - 1) * 8192 + 0xF71,
+            offsets::CBASER => self.cbaser,
+            offsets::CWRITER => self.cwriter,
+            offsets::CREADR => self.creadr,
+            offsets::BASER0 => self.baser0,
+            offsets::BASER1 => self.baser1,
             _ => 0,
         }
     }
@@ -64,7 +65,7 @@ impl Regs {
 pub fn is_32(off: u32) -> bool
     ensures { result ≡ spec.is_32 off }
 {
-    off == 0x0 || off == 0x4 || off == 0xFFE8
+    off == offsets::CTLR || off == offsets::IIDR || off == offsets::PIDR2
 }
 
 pub fn low_half(whole: u64) -> u32

@@ -3,6 +3,7 @@ ghost use Rattle.gits_regs.specs.Registers as spec;
 
 use crate::change::RegChange;
 use crate::masks::{kept_baser0, kept_baser1, kept_cbaser, kept_offset};
+use crate::offsets;
 use crate::read::{high_half, is_32, low_half};
 use crate::regs::Regs;
 use its_types::bit_of;
@@ -27,7 +28,7 @@ impl Regs {
         ensures { record { regs = self.new; change = result } ≡ spec.write_word self.old off value }
     {
         if is_32(off) {
-            if off == 0x0 {
+            if off == offsets::CTLR {
                 self.write_ctlr(u64::from(value))
             } else {
                 RegChange::None
@@ -48,10 +49,10 @@ impl Regs {
         ensures { record { regs = self.new; change = result } ≡ spec.write_64 self.old off value }
     {
         match off {
-            0x80 => self.write_cbaser(value),
-            0x88 => self.write_cwriter(value),
-            0x100 => self.write_baser0(value),
-            0x108 => self.write_baser1(value),
+            offsets::CBASER => self.write_cbaser(value),
+            offsets::CWRITER => self.write_cwriter(value),
+            offsets::BASER0 => self.write_baser0(value),
+            offsets::BASER1 => self.write_baser1(value),
             _ => RegChange::None,
         }
     }

@@ -1,13 +1,19 @@
 -- Laws of guest memory, for the crates that stand on it: a write leaves the windows where they are, what was written is
 -- read again, and every other byte stays.
 use Rattle.std.proofs.Common.{◌≡◌, ◌⊎◌, ℕ, ◌+◌, ◌-◌, ◌≤◌, Bool, true, false, cond, List, [], ◌∷◌, length, drop, map, Option, Some, None, inl, inr, refl, sym, ap, ◌∙◌, arith, length-drop}
-use Rattle.std.specs.Prelude.{◌&&◌, ◌||◌, is_some, nat_le}
+use Rattle.std.specs.Prelude.{◌&&◌, ◌||◌, is_some, nat_le, unwrap_or}
 use Rattle.std.specs.Option.{option_map}
 use Rattle.std.proofs.lemmas.Bool.{and_parts, leb-true, cond-true, cond-false, cases_Bool}
-use Rattle.std.proofs.lemmas.List.{length-take-le}
-use Rattle.guest_windows.specs.Windows.{Window, has, inside, piece, put, read_at, write_at, extent}
+use Rattle.std.proofs.lemmas.List.{length-take-le, length-replicate}
+use Rattle.guest_windows.specs.Windows.{Window, has, inside, piece, put, read_at, write_at, extent, zeros}
 use Rattle.guest_windows.proofs.Places.{chosen}
 use Rattle.guest_windows.proofs.Splices.{length-splice, splice_same, splice_before, splice_after}
+
+-- ---- where windows are
+
+pub extents_of_zeros : (list : List (ℕ × ℕ)) → map extent (map zeros list) ≡ list
+extents_of_zeros [] = refl
+extents_of_zeros (w ∷ list) = ap (λ n. (w.0, n) ∷ map extent (map zeros list)) (length-replicate w.1 0) ∙ ap (λ rest. w ∷ rest) (extents_of_zeros list)
 
 -- ---- where a stretch is
 
@@ -38,6 +44,14 @@ pub is_some-read_at : (ws : List Window) (a n : ℕ) → is_some (read_at ws a n
 is_some-read_at [] a n = refl
 is_some-read_at (w ∷ ws) a n =
     elim (has w a n) as (λ b. is_some (cond b (Some (piece w a n)) (read_at ws a n)) ≡ (b || inside ws a n)) [ true ↦ refl | false ↦ is_some-read_at ws a n ]
+
+-- so a stretch that is inside has bytes
+pub read_inside : (ws : List Window) (a n : ℕ) (other : List ℕ) → inside ws a n ≡ true → read_at ws a n ≡ Some (unwrap_or (read_at ws a n) other)
+read_inside ws a n other is = some_of (read_at ws a n) (is_some-read_at ws a n ∙ is)
+  where
+    some_of : (o : Option (List ℕ)) → is_some o ≡ true → o ≡ Some (unwrap_or o other)
+    some_of None none = absurd cc
+    some_of (Some bytes) some = refl
 
 is_some-option_map : {A B : Type 0} (f : A → B) (o : Option A) → is_some (option_map f o) ≡ is_some o
 is_some-option_map f None = refl

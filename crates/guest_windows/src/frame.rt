@@ -1,9 +1,8 @@
 ghost use Rattle.std.specs.Prelude.{◌+◌, ◌≤◌, ◌^◌};
 ghost use Rattle.std.specs.Vec.{vec_len};
 
-use crate::errors::NoMemory;
 use its_types::Addr;
-use std::alloc::Global;
+use std::alloc::{AllocError, Global};
 
 /// A window: its bytes, and the address of the first.
 #[derive(Drop)]
@@ -18,7 +17,7 @@ impl Frame {
     ghost use Rattle.guest_windows.specs.Windows.{has, piece, put, zeros};
     ghost use Rattle.guest_windows.specs.Fields.{window};
 
-    pub fn new(alloc: Global, base: Addr, len: u64) -> Result<Frame, NoMemory>
+    pub fn new(alloc: Global, base: Addr, len: u64) -> Result<Frame, AllocError>
         requires { base.0 + len ≤ 2 ^ 52 }
         ensures { IfOk result (λ f. window f ≡ zeros (base.0, len)) }
     {
@@ -28,7 +27,7 @@ impl Frame {
         })
     }
 
-    pub fn copy(&self, alloc: Global) -> Result<Frame, NoMemory>
+    pub fn copy(&self, alloc: Global) -> Result<Frame, AllocError>
         ensures { IfOk result (λ f. window f ≡ window self.now) }
     {
         Ok(Frame {

@@ -8,6 +8,7 @@ mod memory;
 #[cfg(test)]
 mod tests;
 
-pub use errors::{NewError, NoMemory, Outside};
+pub use errors::{NewError, Outside};
 pub use extents::are_windows;
 pub use memory::Memory;
+pub use std::alloc::AllocError as NoMemory;

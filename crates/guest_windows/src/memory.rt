@@ -1,17 +1,18 @@
-ghost use Rattle.std.specs.Prelude.{◌≡◌, ◌+◌, ◌≤◌, ◌^◌, true, false, MatchOption, IfOk, OnOk, IsErrOf, Ok, Err, length, map};
+ghost use Rattle.std.specs.Prelude.{◌≡◌, ◌+◌, ◌*◌, ◌<◌, ◌≤◌, ◌^◌, ℕ, true, false, MatchOption, IfOk, OnOk, IsErrOf, Some, Ok, Err, length, map, slice_index};
 ghost use Rattle.std.specs.Bool.{OnTrue};
 ghost use Rattle.std.specs.Option.{ok_or};
 ghost use Rattle.std.specs.List.{list_all};
-ghost use Rattle.byteorder.specs.Endian.{little_bytes};
-ghost use Rattle.guest_windows.specs.Windows.{read_at, write_at, byte_at, number_at, are_windows, in_range};
+ghost use Rattle.byteorder.specs.Endian.{little_number, little_bytes};
+ghost use Rattle.its_types.specs.Bits.{field};
+ghost use Rattle.guest_windows.specs.Windows.{read_at, write_at, byte_at, number_at, are_windows, in_range, extent};
 ghost use Rattle.guest_windows.specs.Windows as spec;
 ghost use Rattle.guest_windows.specs.Fields.{windows, pairs, place_from};
 
-use crate::errors::{NewError, NoMemory, Outside};
+use crate::errors::{NewError, Outside};
 use crate::extents::are_windows;
 use crate::frame::Frame;
 use its_types::{Addr, le_u64};
-use std::alloc::Global;
+use std::alloc::{AllocError, Global};
 use std::marker::Model;
 
 /// Guest memory. A stretch of bytes can be read and written where it lies in one window whole, even where windows touch.
@@ -21,14 +22,16 @@ pub struct Memory {
 }
 
 impl Model for Memory {
-    ghost use Rattle.std.specs.Prelude.{List};
-    ghost use Rattle.guest_windows.specs.Windows.{Window};
+    ghost use Rattle.std.specs.Prelude.{◌≡◌, List, true, map};
+    ghost use Rattle.guest_windows.specs.Windows.{Window, extent, are_windows};
 
     ghost Value = { List Window };
 
     ghost use Rattle.guest_windows.specs.Fields.{windows};
 
     ghost view = { λ m. windows m.frames.items };
+
+    ghost invariant = { λ m. are_windows (map extent (windows m.frames.items)) ≡ true };
 }
 
 impl Memory {
@@ -48,7 +51,7 @@ impl Memory {
     }
 
     /// A memory of its own with the same windows and bytes.
-    pub fn copy(&self, alloc: Global) -> Result<Memory, NoMemory>
+    pub fn copy(&self, alloc: Global) -> Result<Memory, AllocError>
         ensures { IfOk result (λ m. m ≡ self.now) }
     {
         let mut frames = Vec::new(alloc);
@@ -62,6 +65,8 @@ impl Memory {
     pub fn inside(&self, addr: Addr, len: u64) -> bool
         ensures inside { result ≡ spec.inside self.now addr.0 len }
         ensures low { OnTrue result (addr.0 + len ≤ 2 ^ 52) }
+        // As when it was made.
+        ensures windows { are_windows (map extent self.now) ≡ true }
     {
         place(&self.frames, addr, len).is_some()
     }
@@ -105,11 +110,14 @@ impl Memory {
 
     /// The eight bytes from an address on as a number, least significant byte first.
     pub fn read_u64(&self, addr: Addr) -> Result<u64, Outside>
-        ensures { result ≡ ok_or (number_at self.now addr.0) (record { 0 = addr }) }
+        ensures number { result ≡ ok_or (number_at self.now addr.0) (record { 0 = addr }) }
+        ensures bytes { IfOk result (λ n. (k : ℕ) → k < 8
+            → byte_at self.now (addr.0 + k) ≡ Some (field n (8 * k) 8)) }
     {
+        let _ = &self.frames;
         let mut bytes = [0u8; 8];
         self.read(addr, &mut bytes)?;
-        Ok(le_u64(&bytes, 0))
+        Ok(number_of(&bytes))
     }
 
     /// Writes a number as eight bytes, least significant byte first.
@@ -121,6 +129,14 @@ impl Memory {
     {
         self.write(addr, &value.to_le_bytes())
     }
+}
+
+// Eight bytes as a number, least significant byte first.
+fn number_of(bytes: &[u8; 8]) -> u64
+    ensures number { result ≡ little_number 8 bytes.now }
+    ensures bytes { (k : ℕ) → k < 8 → field result (8 * k) 8 ≡ slice_index bytes.now k }
+{
+    le_u64(bytes, 0)
 }
 
 // Which window has the bytes.
@@ -135,7 +151,7 @@ fn place(frames: &[Frame], addr: Addr, len: u64) -> Option<usize>
     None
 }
 
-fn zeros(alloc: Global, list: &[(Addr, u64)]) -> Result<Vec<Frame>, NoMemory>
+fn zeros(alloc: Global, list: &[(Addr, u64)]) -> Result<Vec<Frame>, AllocError>
     requires { list_all in_range (pairs list.now) ≡ true }
     ensures { IfOk result (λ v. windows v.items ≡ map spec.zeros (pairs list.now)) }
 {

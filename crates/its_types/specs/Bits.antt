@@ -1,5 +1,5 @@
 -- Bit fields of a number, as IHI 0069 writes them.
-use Rattle.std.specs.Prelude.{ℕ, ◌/◌, ◌%◌, ◌*◌, ◌^◌, Bool, true, false, ◌==◌}
+use Rattle.std.specs.Prelude.{ℕ, ◌/◌, ◌%◌, ◌^◌, Bool, true, false, ◌==◌}
 
 -- the bits from `low` on, `width` of them
 abbrev pub field : ℕ → ℕ → ℕ → ℕ

@@ -4,6 +4,7 @@ use Rattle.std.specs.Prelude.{ℕ, ◌+◌, ◌-◌, ◌*◌, ◌/◌, ◌%◌, 
 use Rattle.std.specs.List.{list_any}
 use Rattle.std.specs.Coded.{Coded, code_by, coded×, coded_ℕ, coded_bool}
 use Rattle.its_types.specs.Bits.{bit, bit_of}
+use Rattle.its_types.specs.declared.ids.Addr.{Addr}
 use Rattle.its_types.specs.declared.translation.Bases.{Bases}
 
 -- ---- pending sets
@@ -65,7 +66,21 @@ priority_of config intid = bit_and (config_byte config intid) 252
 abbrev pub first_enabled : List ℕ → List ℕ → Option ℕ
 first_enabled config pending = find (is_enabled config) pending
 
+-- ---- where the tables stand
+
+-- LPIs are on at these tables, and the redistributor has no registers of its own
+abbrev pub described_bases : Addr → Addr → Bases
+described_bases config pending = record { on = true; prop = record { table = config; id_bits = 0 }; pend = record { table = pending; ptz = false } }
+
+-- the registers at reset: LPIs are off
+abbrev pub no_bases : Bases
+no_bases = record { on = false; prop = record { table = record { 0 = 0 }; id_bits = 0 }; pend = record { table = record { 0 = 0 }; ptz = false } }
+
 -- ---- a code for the bases, by which models tell values apart
 
 abbrev pub bases_code : Coded Bases
-bases_code = code_by ((ℕ × ℕ) × Bool) (coded× (coded× coded_ℕ coded_ℕ) coded_bool) (λ b. ((b.config.0, b.pending.0), b.on)) (λ p. record { on = p.1; config = record { 0 = p.0.0 }; pending = record { 0 = p.0.1 } }) (λ _. refl)
+bases_code =
+    code_by (Bool × ((ℕ × ℕ) × (ℕ × Bool))) (coded× coded_bool (coded× (coded× coded_ℕ coded_ℕ) (coded× coded_ℕ coded_bool)))
+    (λ b. (b.on, ((b.prop.table.0, b.prop.id_bits), (b.pend.table.0, b.pend.ptz))))
+    (λ p. record { on = p.0; prop = record { table = record { 0 = p.1.0.0 }; id_bits = p.1.0.1 }; pend = record { table = record { 0 = p.1.1.0 }; ptz = p.1.1.1 } })
+    (λ _. refl)

@@ -1,5 +1,6 @@
 -- The maps of a translator (IHI 0069, section 5.2): its devices, their events, and its collections.
-use Rattle.std.specs.Prelude.{ℕ, Bool, not, ◌&&◌, ◌==◌, Option, refl}
+use Rattle.std.specs.Prelude.{ℕ, Bool, not, ◌&&◌, ◌==◌, Option, List, filter, refl}
+use Rattle.std.specs.Prelude.{map as map_list}
 use Rattle.std.specs.Ordering.{nat_cmp, ordering_then}
 use Rattle.std.specs.declared.cmp.Ordering.{Ordering}
 use Rattle.std.specs.FinMap as map
@@ -66,6 +67,10 @@ devices_emptied m = record m { devices = map.empty; events = map.empty }
 
 abbrev pub collections_emptied : Maps → Maps
 collections_emptied m = record m { collections = map.empty }
+
+-- the events of one device, by EventID
+abbrev pub events_at : Maps → ℕ → List (ℕ × Event)
+events_at m dev = map_list (λ e. (e.0.1, e.1)) (filter (λ e. e.0.0 == dev) (map.entries m.events))
 
 -- ---- a code for each part, by which models tell values apart
 

@@ -1,5 +1,5 @@
 -- The ranges of identifiers (IHI 0069, sections 5.1 and 5.2), for the numbers of bits that a translator implements.
-use Rattle.std.specs.Prelude.{ℕ, ◌^◌, ◌*◌, ◌-◌, Bool, ◌&&◌, nat_lt, nat_le}
+use Rattle.std.specs.Prelude.{ℕ, ◌^◌, ◌-◌, Bool, ◌&&◌, nat_lt, nat_le}
 
 -- LPIs begin at this INTID
 abbrev pub first_lpi : ℕ

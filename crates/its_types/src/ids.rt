@@ -15,6 +15,9 @@ pub struct EventId(pub u32);
 #[derive(Clone, Copy, Debug, PartialEq, Eq, PartialOrd, Ord)]
 pub struct Intid(pub u32);
 
+/// The first INTID that an LPI has (IHI 0069, section 2.2).
+pub const FIRST_LPI: u32 = 8192;
+
 /// The number of a collection (IHI 0069, section 5.2.5).
 #[derive(Clone, Copy, Debug, PartialEq, Eq, PartialOrd, Ord)]
 pub struct Icid(pub u16);
@@ -57,7 +60,7 @@ impl Intid {
     pub fn in_range(&self, lpi_bits: u8) -> bool
         ensures { result ≡ spec.is_lpi lpi_bits self.now.0 }
     {
-        8192 <= self.0 && fits_bits(self.0, lpi_bits)
+        FIRST_LPI <= self.0 && fits_bits(self.0, lpi_bits)
     }
 }
 

@@ -1,4 +1,4 @@
-use crate::ids::Vcpu;
+use crate::ids::{FIRST_LPI, Vcpu};
 
 /// The word that every commit exchanges: the stamp of cached translations, and the place in the history that the next
 /// call gets.
@@ -68,7 +68,7 @@ impl Shape {
         ensures at_least { 8192 ≤ result }
         ensures below { result < 1048576 }
     {
-        2u64.pow(u32::from(self.lpi_bits)) - 8192
+        2u64.pow(u32::from(self.lpi_bits)) - u64::from(FIRST_LPI)
     }
 
     /// How many bytes a pending table has.

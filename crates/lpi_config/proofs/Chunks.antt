@@ -1,11 +1,11 @@
 -- Bit 0 of each of 64 bytes, as a mask, and of all bytes, 64 to a word.
-use Rattle.std.proofs.Common.{◌≡◌, ℕ, suc, zero, ◌+◌, ◌-◌, ◌*◌, ◌/◌, ◌%◌, ◌^◌, ◌<◌, Bool, true, false, cond, List, [], ◌∷◌, ◌++◌, map, length, get_or, take, drop, bit_and, eqb, refl, sym, ap, ◌∙◌, inl, inr, arith}
+use Rattle.std.proofs.Common.{◌≡◌, ◌≢◌, ℕ, suc, zero, ◌+◌, ◌-◌, ◌*◌, ◌/◌, ◌%◌, ◌^◌, ◌<◌, Bool, true, false, cond, List, [], map, length, get_or, set, take, drop, bit_and, eqb, refl, sym, ap, ◌∙◌, inl, inr, arith}
 use Rattle.std.specs.Prelude.{replicate}
 use Rattle.std.specs.Simd.{first_chunks}
 use Rattle.std.specs.Int.{w8}
 use lib.Lanes.{mask_l, zip2, top}
 use Rattle.std.proofs.lemmas.Bool.{cases_lt}
-use Rattle.std.proofs.lemmas.List.{length-map, get_or-map, get_or-take, get_or-drop, get_or_append_left, get_or_push, drop-drop}
+use Rattle.std.proofs.lemmas.List.{length-map, get_or-map, get_or-take, get_or-drop, get_or-set_same, get_or-set_other, drop-drop}
 use Rattle.std.proofs.lemmas.Nat.{and_mask}
 use Rattle.std.proofs.lemmas.Nat.Bits.{bit_at_lowest}
 use Rattle.std.proofs.lemmas.Simd.{zip2_splat, bitmask_splat, bit_mask_l}
@@ -37,19 +37,20 @@ get_or-first_chunks n (suc k) xs (suc i) d lt =
 
 -- one word more
 pub enabled_more :
-    (bytes : List ℕ) (chunks : List (List ℕ)) (words : List ℕ) (i w : ℕ) → chunks ≡ first_chunks 64 (length bytes / 64) bytes → i < length bytes / 64 → length words ≡ i
+    (bytes : List ℕ) (chunks : List (List ℕ)) (words : List ℕ) (i w : ℕ) → chunks ≡ first_chunks 64 (length bytes / 64) bytes → i < length bytes / 64 → i < length words
     → ((k : ℕ) → k < 64 * i → word_bit words k ≡ bit_of (get_or bytes k 0) 0)
     → ((k : ℕ) → k < 64 → bit_of w k ≡ bit_of (get_or (get_or chunks i []) k 0) 0)
-    → (k : ℕ) → k < 64 * (i + 1) → word_bit (words ++ w ∷ []) k ≡ bit_of (get_or bytes k 0) 0
-enabled_more bytes chunks words i w split lt long before here k below =
+    → (k : ℕ) → k < 64 * (i + 1) → word_bit (set words i w) k ≡ bit_of (get_or bytes k 0) 0
+enabled_more bytes chunks words i w split lt there before here k below =
     elim (cases_lt k (64 * i)) [
-      | inl low ↦ ap (λ n. bit_of n (k % 64)) (get_or_append_left words (w ∷ []) 0 (k / 64) (omega arith)) ∙ before k low
+      | inl low ↦
+          let other : k / 64 ≢ i = omega arith in
+          ap (λ n. bit_of n (k % 64)) (get_or-set_other words i (k / 64) w 0 other) ∙ before k low
       | inr high ↦
           let chunk : get_or chunks i [] ≡ take 64 (drop (64 * i) bytes) = ap (λ (xs : List (List ℕ)). get_or xs i []) split ∙ get_or-first_chunks 64 (length bytes / 64) bytes i [] lt in
           let place : 64 * i + k % 64 ≡ k = omega arith in
           let index : k / 64 ≡ i = omega arith in
           let within : k % 64 < 64 = omega arith in
-          let last : length words ≡ k / 64 = omega arith in
-          ap (λ n. bit_of n (k % 64)) (get_or_push words w 0 (k / 64) last) ∙ here (k % 64) within
+          ap (λ j. bit_of (get_or (set words i w) j 0) (k % 64)) index ∙ ap (λ n. bit_of n (k % 64)) (get_or-set_same words i w 0 there) ∙ here (k % 64) within
           ∙ ap (λ n. bit_of n 0) (ap (λ (xs : List ℕ). get_or xs (k % 64) 0) chunk ∙ get_or-take 64 (drop (64 * i) bytes) (k % 64) 0 within ∙ get_or-drop (64 * i) bytes (k % 64) 0 ∙ ap (λ n. get_or bytes n 0) place)
     ]

@@ -1,4 +1,3 @@
 pub mod Words
 pub mod Sizes
 pub mod Chunks
-pub mod Inside

@@ -1,5 +1,5 @@
 -- How many LPIs there are.
-use Rattle.std.proofs.Common.{◌≡◌, ℕ, ◌+◌, ◌-◌, ◌*◌, ◌^◌, ◌<◌, ◌≤◌, ap, ◌∙◌, arith}
+use Rattle.std.proofs.Common.{◌≡◌, ℕ, ◌+◌, ◌-◌, ◌*◌, ◌%◌, ◌^◌, ◌<◌, ◌≤◌, ap, ◌∙◌, arith}
 use Rattle.std.proofs.Math.Nat.{pow-le-pow_right}
 use Rattle.std.proofs.lemmas.Nat.{pow-add}
 
@@ -25,3 +25,16 @@ bytes_within n size k low high is below =
     let split : n ≡ 3 + (n - 3) = omega arith in
     let eighth : 2 ^ n ≡ 8 * 2 ^ (n - 3) = ap (λ j. 2 ^ j) split ∙ pow-add 2 3 (n - 3) in
     omega (arith, s.is, s.least)
+
+-- a pending table has a byte for eight LPIs, after 1024 bytes of none
+pub record TableSize (n words : ℕ) : Type 0 where
+  pub is : 2 ^ (n - 3) ≡ 1024 + 8 * words
+  pub shifted : 1 * 2 ^ (n - 3) % 2 ^ 64 ≡ 2 ^ (n - 3)
+
+pub table_size : (n words : ℕ) → 14 ≤ n → n ≤ 20 → 64 * words ≡ 2 ^ n - 8192 → TableSize n words
+table_size n words low high is =
+    let s = size_of n low high in
+    let split : n ≡ 3 + (n - 3) = omega arith in
+    let eighth : 2 ^ n ≡ 8 * 2 ^ (n - 3) = ap (λ j. 2 ^ j) split ∙ pow-add 2 3 (n - 3) in
+    let bytes : 2 ^ (n - 3) ≡ 1024 + 8 * words = omega (arith, s.is, s.least) in
+    record { is = bytes; shifted = omega (arith, s.is, s.most) }

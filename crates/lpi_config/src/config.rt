@@ -1,4 +1,4 @@
-ghost use Rattle.std.specs.Prelude.{◌≡◌, ◌+◌, ◌*◌, ◌/◌, ◌<◌, ◌≤◌, ℕ, true, Some, IfOk, length};
+ghost use Rattle.std.specs.Prelude.{◌≡◌, ◌+◌, ◌*◌, ◌/◌, ◌<◌, ◌≤◌, ℕ, true, Some, IfOk, unwrap_or, length};
 ghost use Rattle.its_types.specs.Bits.{bit_of};
 ghost use Rattle.its_types.specs.Ranges.{is_lpi, lpi_count};
 ghost use Rattle.its_types.specs.Lpis.{config_byte, with_config_byte, is_enabled};
@@ -6,10 +6,10 @@ ghost use Rattle.guest_windows.specs.Windows.{inside, read_at};
 ghost use Rattle.lpi_config.specs.Configurations as spec;
 
 use crate::bitmap::put_bit;
-use crate::enabled::enabled_bits;
-use guest_windows::{Memory, NoMemory};
+use crate::enabled::put_enabled_bits;
+use guest_windows::Memory;
 use its_types::{Addr, Intid};
-use std::alloc::Global;
+use std::alloc::{AllocError, Global};
 use std::marker::Model;
 
 /// The LPI configuration that a redistributor has read (IHI 0069, section 5.1.1), seen as its bytes.
@@ -40,27 +40,20 @@ impl Config {
         memory: &Memory,
         base: Addr,
         lpi_bits: u8,
-    ) -> Result<Config, NoMemory>
+    ) -> Result<Config, AllocError>
         requires low { 14 ≤ lpi_bits }
         requires high { lpi_bits ≤ 20 }
         requires inside { inside memory.now base.0 (lpi_count lpi_bits) ≡ true }
         ensures bits { IfOk result (λ c. c.lpi_bits ≡ lpi_bits) }
         ensures bytes { IfOk result (λ c. read_at memory.now base.0 (lpi_count lpi_bits) ≡ Some c.bytes) }
     {
-        let mut bytes = vec![in alloc; 0; lpi_count(lpi_bits)]?;
-        let Ok(()) = memory.read(base, &mut bytes) else {
-            unreachable!()
-        };
-        let enabled = enabled_bits(alloc, &bytes)?;
-        Ok(Config {
-            lpi_bits,
-            bytes,
-            enabled,
-        })
+        let mut config = Config::zeros(alloc, lpi_bits)?;
+        config.read_table(memory, base);
+        Ok(config)
     }
 
     /// The configuration of a redistributor whose LPIs are off: all bytes zero. An LPI's INTID has 14 to 20 bits.
-    pub fn zeros(alloc: Global, lpi_bits: u8) -> Result<Config, NoMemory>
+    pub fn zeros(alloc: Global, lpi_bits: u8) -> Result<Config, AllocError>
         requires low { 14 ≤ lpi_bits }
         requires high { lpi_bits ≤ 20 }
         ensures { IfOk result (λ c. c ≡ spec.zeros lpi_bits) }
@@ -71,6 +64,17 @@ impl Config {
             bytes: vec![in alloc; 0; count]?,
             enabled: vec![in alloc; 0; count / 64]?,
         })
+    }
+
+    /// Reads the configuration table that begins at an address, in place of the bytes of all LPIs. Where it doesn't lie in
+    /// one window nothing changes.
+    pub fn read_table(&mut self, memory: &Memory, base: Addr)
+        ensures { let read = read_at memory.now base.0 (lpi_count self.old.lpi_bits) in
+            self.new ≡ record self.old { bytes = unwrap_or read self.old.bytes } }
+    {
+        if memory.read(base, &mut self.bytes).is_ok() {
+            put_enabled_bits(&mut self.enabled, &self.bytes);
+        }
     }
 
     /// How many bits the INTID of an LPI has, which says how many bytes there are.

@@ -1,23 +1,18 @@
-ghost use Rattle.std.specs.Prelude.{◌≡◌, ◌*◌, ◌%◌, ◌<◌, ℕ, IfOk, length, slice_index};
+ghost use Rattle.std.specs.Prelude.{◌≡◌, ◌*◌, ◌<◌, ℕ, length, slice_index};
 ghost use Rattle.its_types.specs.Bits.{bit_of};
 ghost use Rattle.lpi_config.specs.Configurations.{AreEnableBits};
 
-use guest_windows::NoMemory;
-use std::alloc::Global;
 use std::simd::prelude::*;
 
-// Bit 0 of each byte, 64 to a word.
-pub fn enabled_bits(alloc: Global, bytes: &[u8]) -> Result<Vec<u64>, NoMemory>
-    requires { length bytes.now % 64 ≡ 0 }
-    ensures size { IfOk result (λ words. 64 * length words.items ≡ length bytes.now) }
-    ensures bits { IfOk result (λ words. AreEnableBits words.items bytes.now) }
+// Writes bit 0 of each byte, 64 to a word.
+pub fn put_enabled_bits(words: &mut [u64], bytes: &[u8])
+    requires { 64 * length words.old ≡ length bytes.now }
+    ensures { AreEnableBits words.new bytes.now }
 {
     let (chunks, _) = bytes.as_chunks::<64>();
-    let mut words = Vec::with_capacity(alloc, chunks.len())?;
-    for chunk in chunks {
-        words.push(enabled_word(chunk))?;
+    for at in 0..words.len() {
+        words[at] = enabled_word(&chunks[at]);
     }
-    Ok(words)
 }
 
 fn enabled_word(bytes: &[u8; 64]) -> u64

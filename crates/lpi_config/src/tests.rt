@@ -21,8 +21,11 @@ fn bytes_and_enable_bits_of_a_table(rt: HostRuntime) -> Result<(), Fail> {
     assert_eq!(rt; config.enabled_word(127), 1 << 63);
     config.reload(Intid(8200), 0xa0);
     config.reload(Intid(8255), 0x05);
+    config.read_table(&memory, Addr(BASE.0 + 1));
     assert_eq!(rt; config.byte(Intid(8255)), 0x05);
     assert_eq!(rt; config.enabled_word(0), 0x8000_0000_0000_0400);
+    config.read_table(&memory, BASE);
+    assert_eq!(rt; config.enabled_word(0), 0x500);
     Ok(())
 }
 

@@ -1,3 +1,4 @@
+mod Windows
 pub mod Sets
 pub mod Counts
 pub mod Bits
@@ -8,3 +9,4 @@ pub mod Bytes
 pub mod Firsts
 pub mod Moves
 pub mod Nexts
+pub mod Tables

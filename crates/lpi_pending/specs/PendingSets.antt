@@ -1,7 +1,9 @@
 -- The pending LPIs of a redistributor (IHI 0069, section 5.1.2).
-use Rattle.std.specs.Prelude.{◌≡◌, ℕ, ◌-◌, ◌*◌, ◌/◌, ◌≤◌, Bool, ◌==◌, List, [], length, filter, refl}
+use Rattle.std.specs.Prelude.{◌≡◌, ℕ, ◌+◌, ◌-◌, ◌*◌, ◌/◌, ◌%◌, ◌≤◌, Bool, ◌==◌, List, [], length, filter, unwrap_or, refl}
 use Rattle.std.specs.List.{list_any, range_with_len}
 use Rattle.std.specs.Coded.{Coded, code_by, coded×, coded_list, coded_ℕ}
+use Rattle.guest_windows.specs.Windows.{Window, byte_at}
+use Rattle.its_types.specs.Bits.{bit_of}
 use Rattle.its_types.specs.Ranges.{lpi_count}
 use Rattle.its_types.specs.declared.ids.Intid.{Intid}
 use Rattle.lpi_config.specs.Bitmap.{word_bit}
@@ -34,6 +36,10 @@ lpi_bit words intid = word_bit words (intid - 8192)
 -- the LPIs whose bits are 1
 abbrev pub lpis_of : List ℕ → List ℕ
 lpis_of words = filter (lpi_bit words) (range_with_len 8192 (64 * length words))
+
+-- bit k of a table at an address
+abbrev pub table_bit : List Window → ℕ → ℕ → Bool
+table_bit memory address k = bit_of (unwrap_or (byte_at memory (address + k / 8)) 0) (k % 8)
 
 -- what holds of the fields of each pending set
 pub record IsKept (lpi_bits : ℕ) (words : List ℕ) : Type 0 where

@@ -1,15 +1,18 @@
-ghost use Rattle.std.specs.Prelude.{◌≡◌, ◌+◌, ◌*◌, ◌/◌, ◌<◌, ◌≤◌, ◌^◌, ℕ, List, ◌||◌, IfOk, MatchOption, length, replicate, slice_index, slice_set, bit_or};
+ghost use Rattle.std.specs.Prelude.{◌≡◌, ◌+◌, ◌*◌, ◌/◌, ◌<◌, ◌≤◌, ◌^◌, ℕ, true, List, ◌||◌, IfOk, MatchOption, length, replicate, slice_index, slice_set, bit_or};
+ghost use Rattle.guest_windows.specs.Windows.{inside};
 ghost use Rattle.its_types.specs.Ranges.{lpi_count};
 ghost use Rattle.its_types.specs.Bits.{bit_of};
 ghost use Rattle.lpi_config.specs.Bitmap.{word_bit};
+ghost use Rattle.lpi_pending.specs.PendingSets.{table_bit};
 ghost use Rattle.lpi_pending.specs.Searches.{FirstIn, count_in};
 ghost use Rattle.lpi_pending.specs.Summaries.{is_used, is_ready};
 
 use crate::lanes::first_nonzero;
 use crate::steps::Steps;
-use guest_windows::NoMemory;
+use guest_windows::Memory;
+use its_types::Addr;
 use lpi_config::{Config, put_bit, with_bit};
-use std::alloc::Global;
+use std::alloc::{AllocError, Global};
 use std::marker::Model;
 use std::sync::ledger::Ledger;
 
@@ -34,7 +37,7 @@ impl Model for Bitmap {
 
 impl Bitmap {
     // All bits zero: 64 words for each word of the summary.
-    pub fn new(alloc: Global, groups: usize) -> Result<Bitmap, NoMemory>
+    pub fn new(alloc: Global, groups: usize) -> Result<Bitmap, AllocError>
         requires { groups ≤ 1024 }
         ensures { IfOk result (λ b. b ≡ replicate (64 * groups) 0) }
     {
@@ -57,6 +60,21 @@ impl Bitmap {
     {
         self.words[at] = word;
         put_bit(&mut self.summary, at, word != 0);
+    }
+
+    // Reads all words from an address on, each in one stretch.
+    pub fn read(&mut self, memory: &Memory, first: Addr)
+        requires inside { inside memory.now first.0 (8 * length self.old) ≡ true }
+        requires low { first.0 + 8 * length self.old ≤ 2 ^ 52 }
+        ensures size { length self.new ≡ length self.old }
+        ensures bits { (k : ℕ) → k < 64 * length self.old → word_bit self.new k ≡ table_bit memory.now first.0 k }
+    {
+        for at in 0..self.words.len() {
+            let Ok(word) = memory.read_u64(Addr(first.0 + 8 * at as u64)) else {
+                unreachable!()
+            };
+            self.put_word(at, word);
+        }
     }
 
     // The first bit from this one on that is 1.

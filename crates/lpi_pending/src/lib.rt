@@ -2,6 +2,7 @@
 #![tactic(auto)]
 
 mod bitmap;
+mod gicr;
 mod lanes;
 mod pending;
 mod places;
@@ -10,6 +11,7 @@ mod steps;
 #[cfg(test)]
 mod tests;
 
+pub use gicr::{gicr_read, gicr_write};
 pub use lanes::first_nonzero;
 pub use pending::Pending;
 pub use places::Redists;

@@ -1,6 +1,8 @@
 ghost use Rattle.std.specs.Prelude.{◌≡◌, ◌+◌, ◌*◌, ◌<◌, ◌≤◌, ◌^◌, ◌-◌, ◌/◌, ◌%◌, ◌==◌, if◌then◌else◌, ℕ, true, IfOk, IfSome, All, map};
 ghost use Rattle.std.specs.Option.{option_map};
 ghost use Rattle.std.specs.List.Sorted.{IsStrictlyIncreasing};
+ghost use Rattle.guest_windows.specs.Windows.{inside};
+ghost use Rattle.gicr_regs.specs.Redistributors.{pending_in};
 ghost use Rattle.its_types.specs.Bits as bits;
 ghost use Rattle.its_types.specs.Ranges.{is_lpi, lpi_count, pending_bytes};
 ghost use Rattle.its_types.specs.Lpis as spec;
@@ -8,8 +10,8 @@ ghost use Rattle.lpi_pending.specs.PendingSets.{none_pending, as_intid, busy_wor
 
 use crate::bitmap::Bitmap;
 use crate::steps::Steps;
-use guest_windows::NoMemory;
-use its_types::{Intid, bit_of, field};
+use guest_windows::Memory;
+use its_types::{Addr, Intid, bit_of, field};
 use lpi_config::{Config, with_bit};
 use std::alloc::{AllocError, Global};
 use std::marker::{Brand, Model};
@@ -36,7 +38,7 @@ impl Model for Pending {
 
 impl Pending {
     /// A set in which no LPI is pending. An LPI's INTID has 14 to 20 bits.
-    pub fn new(alloc: Global, lpi_bits: u8) -> Result<Pending, NoMemory>
+    pub fn new(alloc: Global, lpi_bits: u8) -> Result<Pending, AllocError>
         requires low { 14 ≤ lpi_bits }
         requires high { lpi_bits ≤ 20 }
         ensures { IfOk result (λ p. p ≡ none_pending lpi_bits) }
@@ -149,6 +151,18 @@ impl Pending {
         ensures moved { to.new ≡ record to.old { lpis = spec.with_lpis self.old.lpis to.old.lpis } }
     {
         self.bitmap.move_to(&mut to.bitmap);
+    }
+
+    /// Makes pending what the pending table that begins at an address says, and nothing else. Where it doesn't lie in one
+    /// window nothing changes.
+    pub fn read_table(&mut self, memory: &Memory, base: Addr)
+        ensures { let bits = self.old.lpi_bits in
+            self.new ≡ (if inside memory.now base.0 (pending_bytes bits)
+            then record self.old { lpis = pending_in bits memory.now base.0 } else self.old) }
+    {
+        if memory.inside(base, 1 << (self.lpi_bits - 3)) {
+            self.bitmap.read(memory, Addr(base.0 + 1024));
+        }
     }
 
     /// Byte `n` of the pending table, which has the bits of the INTIDs from 8 * `n` on, the lowest at bit 0. The bytes of

@@ -1,9 +1,8 @@
 ghost use Rattle.std.specs.Prelude.{◌≡◌, ◌<◌, IfOk, Some, None, is_some, true, length, replicate, slice_set};
 
 use crate::redist::Redist;
-use guest_windows::NoMemory;
 use its_types::Vcpu;
-use std::alloc::Global;
+use std::alloc::{AllocError, Global};
 use std::marker::Model;
 
 // A redistributor in hand.
@@ -60,7 +59,7 @@ impl Redists {
     ghost use Rattle.lpi_pending.specs.Lending.{LendsInHand};
 
     /// Sixteen empty places.
-    pub fn new(alloc: Global) -> Result<Redists, NoMemory>
+    pub fn new(alloc: Global) -> Result<Redists, AllocError>
         ensures { IfOk result (λ r. r ≡ replicate 16 None) }
     {
         let mut places = Vec::with_capacity(alloc, 16)?;

@@ -1,7 +1,15 @@
-use crate::{Pending, Redist, Redists, first_nonzero};
-use its_types::{Addr, Bases, Intid, Vcpu};
+use crate::{Pending, Redist, Redists, first_nonzero, gicr_read, gicr_write};
+use guest_windows::Memory;
+use its_types::{Addr, Bases, Intid, Profile, Shape, Vcpu};
 use lpi_config::Config;
 use std::test::Fail;
+
+const SHAPE: Shape = Shape {
+    vcpus: 1,
+    dev_bits: 16,
+    lpi_bits: 14,
+    profile: Profile::One,
+};
 
 #[test]
 fn first_words_that_are_not_zero(rt: HostRuntime) {
@@ -87,11 +95,7 @@ fn redistributors_in_hand(rt: HostRuntime) -> Result<(), Fail> {
     let redist = Redist {
         pending: Pending::new(rt.alloc(), 14)?,
         config: Config::zeros(rt.alloc(), 14)?,
-        bases: Bases {
-            on: false,
-            config: Addr(0),
-            pending: Addr(0),
-        },
+        bases: Bases::off(),
     };
     let redist = Box::new(rt.alloc(), redist)?;
     let mut redists = Redists::new(rt.alloc())?;
@@ -99,8 +103,54 @@ fn redistributors_in_hand(rt: HostRuntime) -> Result<(), Fail> {
     redists.redist_mut(Vcpu(15)).bases.on = true;
     assert!(rt; redists.redist(Vcpu(15)).bases.on);
     let mut taken = redists.take_out(Vcpu(15));
-    taken.bases.pending = Addr(0x8004_0000);
+    taken.bases.pend.table = Addr(0x8004_0000);
     redists.place(Vcpu(15), taken);
-    assert_eq!(rt; redists.redist(Vcpu(15)).bases.pending, Addr(0x8004_0000));
+    assert_eq!(rt;
+        redists.redist(Vcpu(15)).bases.pend.table,
+        Addr(0x8004_0000)
+    );
+    Ok(())
+}
+
+// GICR_PROPBASER, GICR_PENDBASER, a write of its lower half, and then, with LPIs turned on where that can be: GICR_CTLR,
+// whether LPI 8200 is pending, and its configuration.
+const ROWS: [(u64, u64, u64, u64, bool, u8); 5] = [
+    (0x8003_0000, 0, 0x8006_0000, 1, true, 0xa1),
+    (
+        0x8003_0000,
+        0x4000_0000_0000_0000,
+        0x8006_0000,
+        1,
+        false,
+        0xa1,
+    ),
+    (0x8003_0000, 0xc000_0000_8000_0000, 0x8008_0000, 0, false, 0),
+    (0x8007_f000, 0, 0x8006_0000, 0, false, 0),
+    (0x8006_0000, 0, 0x8003_0000, 1, false, 0),
+];
+
+#[test]
+fn lpis_turned_on(rt: HostRuntime) -> Result<(), Fail> {
+    let mut memory = Memory::new(rt.alloc(), &[(Addr(0x8003_0000), 0x5_0000)])?;
+    assert_eq!(rt; memory.write(Addr(0x8003_0008), &[0xa1]), Ok(()));
+    assert_eq!(rt; memory.write(Addr(0x8006_0401), &[0x01]), Ok(()));
+    for (prop, pend, half, ctlr, pending, byte) in ROWS {
+        let mut redist = Redist {
+            pending: Pending::new(rt.alloc(), 14)?,
+            config: Config::zeros(rt.alloc(), 14)?,
+            bases: Bases::off(),
+        };
+        gicr_write(&mut redist, &memory, &SHAPE, 0x70, 8, prop);
+        gicr_write(&mut redist, &memory, &SHAPE, 0x78, 8, pend);
+        gicr_write(&mut redist, &memory, &SHAPE, 0x78, 4, half);
+        gicr_write(&mut redist, &memory, &SHAPE, 0x0, 4, 1);
+        assert_eq!(rt;
+            gicr_read(&redist, 0x0, 4),
+            ctlr,
+            "at {prop:x} and {half:x}"
+        );
+        assert_eq!(rt; redist.pending.has(Intid(8200)), pending);
+        assert_eq!(rt; redist.config.byte(Intid(8200)), byte);
+    }
     Ok(())
 }

@@ -1,7 +1,9 @@
-use Rattle.std.proofs.Common.{◌≡◌, Some, None, length, refl, arith}
+use Rattle.std.proofs.Common.{◌≡◌, Some, None, length, refl, ap, ◌∙◌, arith}
+use Rattle.guest_windows.specs.Windows.{are_windows}
 use Rattle.guest_windows.specs.Fields.{windows, place_from}
 use Rattle.guest_windows.proofs.Places.{not_found}
 use Rattle.guest_windows.proofs.Frames.{AtFrame, at_frame}
+use Rattle.guest_windows.proofs.Laws.{extents-write_at}
 use Rattle.guest_windows.proofs.memory.Memory.write.Goals as goal
 
 pub returns-in_default-clause-written : goal.returns-in_default-clause-written
@@ -31,3 +33,11 @@ returns-clause-written c =
     let e : place_from 0 (windows fs) c.args.addr.0 (length bytes) ≡ Some c.in-Some.at = cc in
     let there : AtFrame fs c.args.addr.0 (length bytes) c.in-Some.at = at_frame fs c.args.addr.0 (length bytes) c.in-Some.at e in
     rw (← c.self.view_is, there.writes _ c.write.new.self bytes c.index_mut.ensures.value refl c.write.ensures.written) (refl, refl)
+
+pub invariant_of-self : goal.invariant_of-self
+invariant_of-self c =
+    let fs = c.self.inside.frames.items in
+    let bytes = c.args.bytes.now in
+    let e : place_from 0 (windows fs) c.args.addr.0 (length bytes) ≡ Some c.in-Some.at = cc in
+    let there : AtFrame fs c.args.addr.0 (length bytes) c.in-Some.at = at_frame fs c.args.addr.0 (length bytes) c.in-Some.at e in
+    ap are_windows (extents-write_at (windows fs) c.args.addr.0 bytes _ (there.writes _ c.write.new.self bytes c.index_mut.ensures.value refl c.write.ensures.written)) ∙ c.self.invariant

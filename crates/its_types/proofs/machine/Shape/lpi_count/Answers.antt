@@ -1,4 +1,4 @@
-use Rattle.std.proofs.Common.{◌∙◌, ap, ◌^◌, arith}
+use Rattle.std.proofs.Common.{arith}
 use Rattle.its_types.proofs.Powers.{lpi_power}
 use Rattle.its_types.proofs.machine.Shape.lpi_count.Goals as goal
 

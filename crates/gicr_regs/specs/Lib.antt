@@ -1,0 +1,2 @@
+pub mod Redistributors
+pub mod Registers

@@ -1,0 +1,73 @@
+ghost use Rattle.std.specs.Prelude.{◌≡◌, ◌<◌, ◌^◌};
+ghost use Rattle.gicr_regs.specs.Registers as spec;
+
+use crate::offsets;
+use its_types::{Bases, Pendbaser, Propbaser};
+
+/// A read of `size` bytes at an offset of the LPI registers: of 8 bytes a base, of 4 GICR_CTLR or half of a base.
+/// Everything else reads zero, as Pending Table Zero does.
+#[tactic(auto, unfolding(crate::specs::Registers::read_gicr))]
+pub fn read_gicr(bases: &Bases, off: u32, size: u8) -> u64
+    requires { spec.AreLow bases.now }
+    ensures { result ≡ spec.read_gicr bases.now off size }
+{
+    match size {
+        8 => read_64(bases, off),
+        4 => u64::from(read_word(bases, off)),
+        _ => 0,
+    }
+}
+
+#[tactic(auto, unfolding(crate::specs::Registers::read_word))]
+fn read_word(bases: &Bases, off: u32) -> u32
+    requires { spec.AreLow bases.now }
+    ensures { result ≡ spec.read_word bases.now off }
+{
+    match off {
+        offsets::CTLR => u32::from(bases.on),
+        offsets::PROPBASER => low_half(propbaser_value(bases.prop)),
+        offsets::PROPBASER_HIGH => high_half(propbaser_value(bases.prop)),
+        offsets::PENDBASER => low_half(pendbaser_value(bases.pend)),
+        offsets::PENDBASER_HIGH => high_half(pendbaser_value(bases.pend)),
+        _ => 0,
+    }
+}
+
+#[tactic(auto, unfolding(crate::specs::Registers::read_64))]
+fn read_64(bases: &Bases, off: u32) -> u64
+    requires { spec.AreLow bases.now }
+    ensures { result ≡ spec.read_64 bases.now off }
+{
+    match off {
+        offsets::PROPBASER => propbaser_value(bases.prop),
+        offsets::PENDBASER => pendbaser_value(bases.pend),
+        _ => 0,
+    }
+}
+
+/// How GICR_PROPBASER reads.
+pub fn propbaser_value(prop: Propbaser) -> u64
+    requires { prop.table.0 < 2 ^ 52 }
+    ensures { result ≡ spec.propbaser_value prop }
+{
+    prop.table.0 + u64::from(prop.id_bits)
+}
+
+/// How GICR_PENDBASER reads.
+pub fn pendbaser_value(pend: Pendbaser) -> u64
+    ensures { result ≡ spec.pendbaser_value pend }
+{
+    pend.table.0
+}
+
+pub fn low_half(whole: u64) -> u32
+    ensures { result ≡ spec.low_half whole }
+{
+    (whole % (1 << 32)) as u32
+}
+
+pub fn high_half(whole: u64) -> u32
+    ensures { result ≡ spec.high_half whole }
+{
+    (whole >> 32) as u32
+}
