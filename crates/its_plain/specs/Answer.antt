@@ -1,6 +1,7 @@
 -- What each call is answered, and the state that it leaves.
 use Rattle.std.specs.Prelude.{ℕ, Bool, not, ◌&&◌, ◌||◌, nat_lt, nat_le, if◌then◌else◌, Option, Some, None, Result, Ok, Err, List, unwrap_or}
 use Rattle.guest_windows.specs.Windows.{Window, read_at, write_at}
+use Rattle.gicr_regs.specs.Registers.{read_gicr, written_gicr}
 use Rattle.gits_regs.specs.Registers.{Written, read_reg, write_reg, queue_place, is_queue_empty, advanced}
 use Rattle.gits_regs.specs.declared.change.RegChange.{RegChange}
 use Rattle.gits_regs.specs.declared.change.RegChange.TheVariants as change
@@ -84,6 +85,15 @@ translator_written t w = record { regs = w.regs; maps = emptied w.change t.maps 
 unfoldable pub written : Plain → ℕ → ℕ → ℕ → ℕ → Plain
 written u i off size value = with_translator u i (translator_written (translator u i) (write_reg (regs_of u i) off size value))
 
+-- ---- the LPI registers of redistributors, where the guest programs them
+
+abbrev pub gicr_read : Plain → ℕ → ℕ → ℕ → ℕ
+gicr_read u vcpu off size = if u.layout.gicr then read_gicr (redistributor u vcpu).bases off size else 0
+
+abbrev pub gicr_written : Plain → ℕ → ℕ → ℕ → ℕ → Plain
+gicr_written u vcpu off size value =
+    if u.layout.gicr then with_redistributor u vcpu (written_gicr u.layout.shape u.memory (redistributor u vcpu) off size value) else u
+
 -- ---- steps
 
 abbrev pub went_on : ℕ → Plain → Plain
@@ -141,6 +151,8 @@ reply_of u (call.Poke addr bytes) = poke_reply (write_at u.memory addr.0 bytes)
 reply_of u (call.Peek addr count) = peek_reply (peeked u addr.0 count)
 reply_of u (call.ReadReg its off size) = reply.Value (read_reg (regs_of u its) off size)
 reply_of u (call.WriteReg its off size value) = reply.Ok
+reply_of u (call.ReadGicr vcpu off size) = reply.Value (gicr_read u vcpu.0 off size)
+reply_of u (call.WriteGicr vcpu off size value) = reply.Ok
 reply_of u (call.Step its) = reply.Step (step_reply u its)
 reply_of u call.Save = save_reply (savable u)
 
@@ -157,6 +169,8 @@ left u (call.Poke addr bytes) r = poked u addr.0 bytes
 left u (call.Peek addr count) r = u
 left u (call.ReadReg its off size) r = u
 left u (call.WriteReg its off size value) r = written u its off size value
+left u (call.ReadGicr vcpu off size) r = u
+left u (call.WriteGicr vcpu off size value) r = gicr_written u vcpu.0 off size value
 left u (call.Step its) r = step_left u its
 left u call.Save r = save_left u (savable u)
 

@@ -1,21 +1,22 @@
 -- What each command does (IHI 0069, section 5.3): its first refusal, or what it leaves.
-use Rattle.std.specs.Prelude.{ℕ, ◌+◌, ◌-◌, ◌^◌, Bool, ◌&&◌, ◌==◌, nat_lt, nat_le, if◌then◌else◌, Option, Some, None, is_some, Result, Ok, Err, List, [], ◌∷◌, map, filter}
+use Rattle.std.specs.Prelude.{ℕ, ◌^◌, Bool, ◌&&◌, ◌==◌, nat_lt, nat_le, if◌then◌else◌, Option, Some, None, is_some, Result, Ok, Err, List, [], ◌∷◌, map, filter}
 use Rattle.std.specs.Option.{ok_or}
 use Rattle.std.specs.FinMap.{entries}
-use Rattle.guest_windows.specs.Windows.{Window, byte_at}
+pub use Rattle.gicr_regs.specs.Redistributors.{all_reread_at}
+unfoldable pub use Rattle.gicr_regs.specs.Redistributors.{reread_at}
 use Rattle.gits_regs.specs.Registers.{collection_places}
 use Rattle.baser_place.specs.Places.{device_place}
 use Rattle.its_command.specs.declared.command.Command.{Command}
 use Rattle.its_command.specs.declared.command.Command.TheVariants as command
 use Rattle.its_types.specs.Ranges.{is_device_id, is_lpi}
-use Rattle.its_types.specs.Lpis.{is_pending, with_lpi, with_lpis, without_lpi, with_config_byte}
+use Rattle.its_types.specs.Lpis.{is_pending, with_lpi, with_lpis, without_lpi}
 use Rattle.its_types.specs.Maps.{Maps, device_of, event_of, collection_of, device_mapped, device_unmapped, event_mapped, event_unmapped, collection_mapped, collection_unmapped}
 use Rattle.its_types.specs.declared.ids.Intid.{Intid}
 use Rattle.its_types.specs.declared.ids.Vcpu.{Vcpu}
 use Rattle.its_types.specs.declared.machine.Profile.{Profile}
 use Rattle.its_types.specs.declared.machine.Profile.TheVariants.{One, Two}
 use Rattle.its_types.specs.declared.translation.Event.{Event}
-use Rattle.its_plain.specs.Plain.{Plain, Redistributor, regs_of, maps_of, pending_of, is_on, with_maps, with_pending}
+use Rattle.its_plain.specs.Plain.{Plain, regs_of, maps_of, pending_of, is_on, with_maps, with_pending}
 use Rattle.its_plain.specs.declared.call.Reason.{Reason}
 use Rattle.its_plain.specs.declared.call.Reason.TheVariants.{UnknownCommand, DeviceRange, SizeRange, TargetRange, CollectionRange, NoDevice, EventRange, IntidRange, NoEvent, NoCollection, LpisOff}
 
@@ -51,18 +52,6 @@ unfoldable pub all_moved : ℕ → ℕ → Plain → Plain
 all_moved from to u = if from == to then u else with_pending (with_pending u from []) to (with_lpis (pending_of u from) (pending_of u to))
 
 -- ---- configurations
-
-abbrev reread_byte : ℕ → Redistributor → Option ℕ → Redistributor
-reread_byte intid r None = r
-reread_byte intid r (Some byte) = record r { config = with_config_byte r.config intid byte }
-
--- a redistributor whose LPIs are on reads an LPI's byte again, from its own table
-unfoldable pub reread_at : List Window → ℕ → Redistributor → Redistributor
-reread_at memory intid r = if r.bases.on then reread_byte intid r (byte_at memory (r.bases.config.0 + (intid - 8192))) else r
-
-abbrev pub all_reread_at : List Window → List ℕ → Redistributor → Redistributor
-all_reread_at memory [] r = r
-all_reread_at memory (intid ∷ intids) r = all_reread_at memory intids (reread_at memory intid r)
 
 -- every redistributor reads the bytes of these LPIs again
 abbrev pub reread : List ℕ → Plain → Plain

@@ -1,10 +1,10 @@
 -- The first state of a described machine, which may be restored from its memory (KVM document arm-vgic-its, "ITS Restore
 -- Sequence"), or why there is none.
-use Rattle.std.specs.Prelude.{◌≡◌, List, Option, Some, None, map, Result, Ok, Err}
+use Rattle.std.specs.Prelude.{◌≡◌, List, Option, Some, None, Result, Ok, Err}
 use Rattle.gits_regs.specs.declared.values.RegValues.{RegValues}
 use Rattle.its_types.specs.declared.translation.Bases.{Bases}
 use Rattle.its_plain.specs.Plain.{Plain}
-use Rattle.its_plain.specs.Machine.{made}
+use Rattle.its_plain.specs.Machine.{made, bases_given}
 use Rattle.its_plain.specs.Stands.{Stands, IsFirstFault}
 use Rattle.its_plain.specs.declared.desc.Desc.{Desc}
 use Rattle.its_plain.specs.declared.desc.DescFault.{DescFault}
@@ -13,25 +13,26 @@ use Rattle.its_plain.specs.declared.fault.RestoreFault.{RestoreFault}
 use Rattle.its_plain.specs.declared.make.MakeError.{MakeError}
 use Rattle.its_plain.specs.declared.make.MakeError.TheVariants as errors
 
-abbrev pub bases_of : Plain → List Bases
-bases_of u = map (λ r. r.bases) u.redistributors
-
 -- where register values are given, the state that they and the memory of the machine as made stand for
-abbrev pub StartsAt : Option RegValues → Plain → Plain → Type 0
-StartsAt None base u = u ≡ base
-StartsAt (Some values) base u = Stands base.memory values base.layout (bases_of base) u
+abbrev pub StartsAt : Option RegValues → List Bases → Plain → Plain → Type 0
+StartsAt None bases base u = u ≡ base
+StartsAt (Some values) bases base u = Stands base.memory values base.layout bases u
+
+-- where the tables of the redistributors are that a restore reads
+abbrev pub restored_bases : Desc → List Bases
+restored_bases d = bases_given d.shape.vcpus d.tables
 
 -- the machine is made, and starts in this state
 pub record IsFirstState (d : Desc) (u : Plain) : Type 0 where
   pub base : Plain
   pub made_is : made d ≡ Ok base
-  pub starts : StartsAt d.restore base u
+  pub starts : StartsAt d.restore (restored_bases d) base u
 
 -- the first thing that is wrong with the description, or else the first offence of what is to be restored
 pub data IsRefused (d : Desc) : DescFault → Type 0 where
   of_description : (f : DescFault) → made d ≡ Err f → IsRefused d f
   of_restore : (base : Plain) (values : RegValues) (f : RestoreFault) → made d ≡ Ok base → d.restore ≡ Some values
-      → IsFirstFault base.memory values base.layout.shape (bases_of base) f → IsRefused d (Restore f)
+      → IsFirstFault base.memory values base.layout.shape (restored_bases d) f → IsRefused d (Restore f)
 
 -- what making the machine came to, unless memory ran out
 abbrev pub IsMadeFrom : Desc → Result Plain MakeError → Type 0

@@ -10,12 +10,6 @@ pub mod Regions
 pub mod Saved
 pub mod Runs
 pub mod Machine
-pub mod Mapped
-pub mod MappedPairs
-pub mod MapLists
-pub mod Slots
-pub mod Outcome
-pub mod Made
 pub mod Walks
 pub mod EventTables
 pub mod CollectionTables

@@ -1,5 +1,5 @@
 -- The machine that a description makes, or why it makes none.
-use Rattle.std.specs.Prelude.{ℕ, ◌+◌, Bool, true, false, if◌then◌else◌, List, [], ◌∷◌, map, Result, Ok, Err}
+use Rattle.std.specs.Prelude.{◌≡◌, ℕ, ◌+◌, length, replicate, Bool, true, false, if◌then◌else◌, List, [], ◌∷◌, map, Result, Ok, Err}
 use Rattle.std.specs.Option.{ok_or}
 use Rattle.guest_windows.specs.Windows.{Window, are_windows, zeros, inside, read_at, write_at}
 use Rattle.guest_windows.specs.Fields.{pairs}
@@ -8,9 +8,18 @@ use Rattle.its_types.specs.Maps.{no_maps}
 use Rattle.its_types.specs.Ranges.{lpi_count, pending_bytes}
 use Rattle.its_types.specs.declared.ids.Addr.{Addr}
 use Rattle.its_types.specs.declared.translation.Bases.{Bases}
-use Rattle.its_plain.specs.Plain.{Plain, Redistributor}
+use Rattle.gicr_regs.specs.Redistributors.{off_redistributor}
+use Rattle.gicr_regs.specs.Registers.{all_restored_bases}
+use Rattle.gicr_regs.specs.declared.values.GicrValues.{GicrValues}
+pub use Rattle.its_types.specs.Lpis.{described_bases}
+use Rattle.its_types.specs.Lpis.{no_bases}
+use Rattle.its_types.specs.declared.machine.Shape.{Shape}
+use Rattle.its_plain.specs.Plain.{Plain, Layout, Redistributor}
+use Rattle.its_plain.specs.Sound.{IsShape}
 use Rattle.its_plain.specs.declared.desc.Desc.{Desc}
 use Rattle.its_plain.specs.declared.desc.Fill.{Fill}
+use Rattle.its_plain.specs.declared.desc.LpiTables.{LpiTables}
+use Rattle.its_plain.specs.declared.desc.LpiTables.TheVariants.{Described, Registers}
 use Rattle.its_plain.specs.declared.desc.DescFault.{DescFault}
 use Rattle.its_plain.specs.declared.desc.DescFault.TheVariants.{Windows, Config, Pending, Bytes}
 
@@ -22,31 +31,77 @@ abbrev pub ◌>>=◌ : {A B : Type 0} → Result A DescFault → (A → Result B
 abbrev pub ensure : Bool → DescFault → Result (Unit {0}) DescFault
 ensure test fault = if test then Ok tt else Err fault
 
+-- ---- the tables of the redistributors
+
+-- whether the guest programs them
+abbrev pub are_programmed : LpiTables → Bool
+are_programmed (Described config pending) = false
+are_programmed (Registers values) = true
+
+-- the tables described for each virtual processor, if they are
+abbrev pub described_in : LpiTables → List Bases
+described_in (Described config pending) = map (described_bases config) pending
+described_in (Registers values) = []
+
+-- where a restore finds the tables of so many virtual processors
+abbrev pub bases_given : ℕ → LpiTables → List Bases
+bases_given vcpus (Described config pending) = map (described_bases config) pending
+bases_given vcpus (Registers values) = all_restored_bases vcpus values
+
+abbrev pub registers : GicrValues → LpiTables
+registers values = Registers values
+
+-- what a description fixes for good
+abbrev pub layout_of : Desc → Layout
+layout_of d = record { shape = d.shape; gicr = are_programmed d.tables; described = described_in d.tables }
+
+-- each virtual processor has a pending table, unless the guest programs them
+abbrev pub HasTablesFor : ℕ → LpiTables → Type 0
+HasTablesFor vcpus (Described config pending) = length pending ≡ vcpus
+HasTablesFor vcpus (Registers values) = Unit {0}
+
+-- the counts of a description are in their ranges
+pub record IsDescription (d : Desc) : Type 0 where
+  pub shape : IsShape d.shape
+  pub tables : HasTablesFor d.shape.vcpus d.tables
+
+-- ---- checks
+
 -- each pending table lies in one window, or the first virtual processor whose table doesn't
 abbrev pub pending_inside : List Window → ℕ → ℕ → List Addr → Result (Unit {0}) DescFault
 pending_inside memory size vcpu [] = Ok tt
 pending_inside memory size vcpu (base ∷ bases) =
     if inside memory base.0 size then pending_inside memory size (vcpu + 1) bases else Err (Pending (record { 0 = vcpu }))
 
--- memory with the bytes that the description puts there, or the first line whose bytes don't lie in one window
-abbrev pub filled : List Window → List Fill → Result (List Window) DescFault
-filled memory [] = Ok memory
-filled memory (f ∷ fills) = ok_or (write_at memory f.addr.0 f.bytes) (Bytes f.line) >>= λ m. filled m fills
+-- the described tables lie in one window each, the configuration table before the pending tables
+abbrev pub tables_inside : Shape → List Window → LpiTables → Result (Unit {0}) DescFault
+tables_inside s memory (Described config pending) =
+    ensure (inside memory config.0 (lpi_count s.lpi_bits)) Config >>= λ _. pending_inside memory (pending_bytes s.lpi_bits) 0 pending
+tables_inside s memory (Registers values) = Ok tt
 
--- LPIs are on at these tables
-abbrev pub described_bases : Addr → Addr → Bases
-described_bases config pending = record { on = true; config = config; pending = pending }
+-- memory with the bytes that the description puts there, or the first of these fills, from number n on, that doesn't lie in one window
+abbrev pub filled : List Window → ℕ → List Fill → Result (List Window) DescFault
+filled memory n [] = Ok memory
+filled memory n (f ∷ fills) = ok_or (write_at memory f.addr.0 f.bytes) (Bytes n) >>= λ m. filled m (n + 1) fills
+
+-- ---- the first state
 
 -- nothing is pending
 abbrev pub idle_redistributor : List ℕ → Bases → Redistributor
 idle_redistributor config bases = record { bases = bases; pending = []; config = config }
 
--- registers at reset, no map, nothing pending, and the configuration as memory has it
-abbrev pub started : Desc → List Window → List ℕ → Plain
-started d memory config = record {
-  layout = record { shape = d.shape; gicr = false; described = map (described_bases d.config) d.pending };
+-- nothing pending, and the configuration as memory has it; or LPIs off, where the guest programs the tables
+abbrev pub first_redistributors : Shape → List Window → LpiTables → Result (List Redistributor) DescFault
+first_redistributors s memory (Described config pending) =
+    ok_or (read_at memory config.0 (lpi_count s.lpi_bits)) Config >>= λ bytes. Ok (map (idle_redistributor bytes) (map (described_bases config) pending))
+first_redistributors s memory (Registers values) = Ok (replicate s.vcpus (off_redistributor s no_bases))
+
+-- registers at reset, and no map
+abbrev pub started : Desc → List Window → List Redistributor → Plain
+started d memory redistributors = record {
+  layout = layout_of d;
   translators = record { regs = reset d.shape.dev_bits; maps = no_maps } ∷ [];
-  redistributors = map (idle_redistributor config) (map (described_bases d.config) d.pending);
+  redistributors = redistributors;
   memory = memory;
 }
 
@@ -54,8 +109,7 @@ started d memory config = record {
 unfoldable pub made : Desc → Result Plain DescFault
 made d = do
   _ ← ensure (are_windows (pairs d.windows)) Windows
-  _ ← ensure (inside (map zeros (pairs d.windows)) d.config.0 (lpi_count d.shape.lpi_bits)) Config
-  _ ← pending_inside (map zeros (pairs d.windows)) (pending_bytes d.shape.lpi_bits) 0 d.pending
-  memory ← filled (map zeros (pairs d.windows)) d.fills
-  config ← ok_or (read_at memory d.config.0 (lpi_count d.shape.lpi_bits)) Config
-  Ok (started d memory config)
+  _ ← tables_inside d.shape (map zeros (pairs d.windows)) d.tables
+  memory ← filled (map zeros (pairs d.windows)) 0 d.fills
+  redistributors ← first_redistributors d.shape memory d.tables
+  Ok (started d memory redistributors)

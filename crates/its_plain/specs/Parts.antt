@@ -79,7 +79,7 @@ needed u i (command.Unknown opcode) = []
 
 -- ---- the parts of a call
 
-abbrev needed_by : Plain → ℕ → Option (List ℕ) → List Part
+abbrev pub needed_by : Plain → ℕ → Option (List ℕ) → List Part
 needed_by u i None = []
 needed_by u i (Some bytes) = needed u i (decoded bytes)
 
@@ -95,6 +95,8 @@ footprint u (call.Poke addr bytes) = Mem ∷ []
 footprint u (call.Peek addr count) = Mem ∷ []
 footprint u (call.ReadReg its off size) = MapsOf its ∷ []
 footprint u (call.WriteReg its off size value) = MapsOf its ∷ []
+footprint u (call.ReadGicr vcpu off size) = Redist vcpu ∷ []
+footprint u (call.WriteGicr vcpu off size value) = Mem ∷ Redist vcpu ∷ []
 footprint u (call.Step its) = MapsOf its ∷ Mem ∷ needed_next u its
 footprint u call.Save = Mem ∷ translators_below (length u.translators) ++ redists_below (length u.redistributors)
 

@@ -1,10 +1,13 @@
 -- The state of the plain translators: no cache, no lock, no table walk.
-use Rattle.std.specs.Prelude.{ℕ, Bool, true, false, List, [], slice_index_or, slice_set, ◌≡◌, refl}
+use Rattle.std.specs.Prelude.{ℕ, Bool, true, false, List, slice_index_or, slice_set, ◌≡◌, refl}
 use Rattle.std.specs.Coded.{Coded, code_by, coded×, coded_ℕ, coded_list, coded_bool}
 use Rattle.guest_windows.specs.Windows.{Window}
 use Rattle.gits_regs.specs.Registers.{Registers, registers_code, reset}
 use Rattle.its_types.specs.Maps.{Maps, no_maps, maps_code}
 use Rattle.its_types.specs.Lpis.{bases_code}
+pub use Rattle.its_types.specs.Lpis.{no_bases}
+pub use Rattle.gicr_regs.specs.Redistributors.{Redistributor, redistributor_code, no_redistributor}
+pub use Rattle.its_plain.specs.declared.layout.Layout.{Layout}
 use Rattle.its_types.specs.declared.machine.Shape.{Shape}
 use Rattle.its_types.specs.declared.machine.Profile.{Profile}
 use Rattle.its_types.specs.declared.machine.Profile.TheVariants.{One, Two}
@@ -14,22 +17,6 @@ use Rattle.its_types.specs.declared.translation.Bases.{Bases}
 pub record Translator : Type 0 where
   pub regs : Registers
   pub maps : Maps
-
--- what a redistributor knows of LPIs: where its tables are, its pending set, and its copy of the configuration
-pub record Redistributor : Type 0 where
-  pub bases : Bases
-  -- INTIDs, rising
-  pub pending : List ℕ
-  -- the byte of each LPI, from 8192 on
-  pub config : List ℕ
-
--- what no call changes
-pub record Layout : Type 0 where
-  pub shape : Shape
-  -- whether the guest programs the LPI registers of the redistributors; otherwise LPIs are on at the tables described
-  pub gicr : Bool
-  -- for each virtual processor
-  pub described : List Bases
 
 pub record Plain : Type 0 where
   pub layout : Layout
@@ -43,12 +30,6 @@ pub record Plain : Type 0 where
 
 abbrev pub no_translator : Translator
 no_translator = record { regs = reset 16; maps = no_maps }
-
-abbrev pub no_bases : Bases
-no_bases = record { on = false; config = record { 0 = 0 }; pending = record { 0 = 0 } }
-
-abbrev pub no_redistributor : Redistributor
-no_redistributor = record { bases = no_bases; pending = []; config = [] }
 
 abbrev pub translator : Plain → ℕ → Translator
 translator u i = slice_index_or u.translators i no_translator
@@ -111,11 +92,6 @@ coded_window = code_by (ℕ × List ℕ) (coded× coded_ℕ (coded_list coded_�
 
 abbrev pub translator_code : Coded Translator
 translator_code = code_by (Registers × Maps) (coded× registers_code maps_code) (λ t. (t.regs, t.maps)) (λ p. record { regs = p.0; maps = p.1 }) (λ _. refl)
-
-abbrev pub redistributor_code : Coded Redistributor
-redistributor_code =
-    code_by (Bases × (List ℕ × List ℕ)) (coded× bases_code (coded× (coded_list coded_ℕ) (coded_list coded_ℕ))) (λ r. (r.bases, (r.pending, r.config)))
-    (λ p. record { bases = p.0; pending = p.1.0; config = p.1.1 }) (λ _. refl)
 
 abbrev coded_layout : Coded Layout
 coded_layout =

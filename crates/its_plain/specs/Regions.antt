@@ -88,10 +88,10 @@ queue_areas t = queue_area t.regs
 -- a pending table but for the 1024 bytes that belong to no LPI
 abbrev pub pending_area : Shape → ℕ → Redistributor → List Area
 pending_area s vcpu r =
-    if r.bases.on then written_area (Pending (record { 0 = vcpu })) (r.bases.pending.0 + 1024) (pending_bytes s.lpi_bits - 1024) ∷ [] else []
+    if r.bases.on then written_area (Pending (record { 0 = vcpu })) (r.bases.pend.table.0 + 1024) (pending_bytes s.lpi_bits - 1024) ∷ [] else []
 
 abbrev pub config_area : Shape → ℕ → Redistributor → List Area
-config_area s vcpu r = if r.bases.on then read_area (ConfigOf (record { 0 = vcpu })) r.bases.config.0 (lpi_count s.lpi_bits) ∷ [] else []
+config_area s vcpu r = if r.bases.on then read_area (ConfigOf (record { 0 = vcpu })) r.bases.prop.table.0 (lpi_count s.lpi_bits) ∷ [] else []
 
 -- those of each virtual processor, from one on
 abbrev pub areas_from : (ℕ → Redistributor → List Area) → ℕ → List Redistributor → List Area
@@ -102,7 +102,7 @@ areas_from areas vcpu (r ∷ rs) = areas vcpu r ++ areas_from areas (suc vcpu) r
 abbrev pub config_areas : Plain → List Area
 config_areas u =
     if u.layout.gicr then areas_from (config_area u.layout.shape) 0 u.redistributors
-    else read_area Config (redistributor u 0).bases.config.0 (lpi_count u.layout.shape.lpi_bits) ∷ []
+    else read_area Config (redistributor u 0).bases.prop.table.0 (lpi_count u.layout.shape.lpi_bits) ∷ []
 
 -- ---- refusals
 

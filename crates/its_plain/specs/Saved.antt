@@ -4,13 +4,14 @@ use Rattle.std.specs.Option.{option_map}
 use Rattle.std.specs.List.{flat_map}
 use Rattle.std.specs.FinMap.{entries, keys}
 use Rattle.byteorder.specs.Endian.{little_number, little_bytes}
-use Rattle.guest_windows.specs.Windows.{Window, read_at, write_at}
+use Rattle.guest_windows.specs.Windows.{Window, write_at}
+pub use Rattle.gicr_regs.specs.Redistributors.{reloaded}
 use Rattle.gits_regs.specs.Registers.{is_valid, is_indirect, table_base}
 use Rattle.baser_place.specs.Places.{level1_entries, level1_of, page_of, entry_address}
 use Rattle.table_entries.specs.Words.{packed_device, packed_collection, packed_event}
 use Rattle.its_types.specs.Lpis.{pending_byte}
 use Rattle.its_types.specs.Maps.{Maps, device_of, event_of}
-use Rattle.its_types.specs.Ranges.{lpi_count, pending_bytes}
+use Rattle.its_types.specs.Ranges.{pending_bytes}
 use Rattle.its_types.specs.declared.ids.Vcpu.{Vcpu}
 use Rattle.its_types.specs.declared.machine.Shape.{Shape}
 use Rattle.its_types.specs.declared.translation.Bases.{Bases}
@@ -119,7 +120,7 @@ translator_words memory t = device_words t memory ++ collection_words t ++ itt_w
 -- a pending table but for the 1024 bytes that belong to no LPI, of each redistributor whose LPIs are on
 abbrev pub pending_words : Shape → Redistributor → List Words
 pending_words s r =
-    if r.bases.on then record { base = r.bases.pending.0 + 1024; count = (pending_bytes s.lpi_bits - 1024) / 8; word = λ i. pending_word r.pending (1024 + 8 * i) } ∷ []
+    if r.bases.on then record { base = r.bases.pend.table.0 + 1024; count = (pending_bytes s.lpi_bits - 1024) / 8; word = λ i. pending_word r.pending (1024 + 8 * i) } ∷ []
     else []
 
 unfoldable pub words_of : Plain → List Words
@@ -133,10 +134,6 @@ saved u = put_tables u.memory (words_of u)
 
 abbrev pub IsSavable : Plain → Type 0
 IsSavable u = savable u ≡ Ok tt
-
--- with LPIs on, the configuration as memory has it
-abbrev pub reloaded : Shape → List Window → Redistributor → Redistributor
-reloaded s memory r = if r.bases.on then record r { config = unwrap_or (read_at memory r.bases.config.0 (lpi_count s.lpi_bits)) r.config } else r
 
 -- the state that a migration goes on from
 unfoldable pub moved : Plain → Plain

@@ -3,6 +3,7 @@ use Rattle.std.specs.Prelude.{◌≡◌, ℕ, ◌%◌, ◌^◌, ◌<◌, ◌≤�
 use Rattle.std.specs.List.{AllByRecursion}
 use Rattle.std.specs.List.Sorted.{IsStrictlyIncreasing}
 use Rattle.guest_windows.specs.Windows.{Window, inside, are_windows, extent}
+use Rattle.gicr_regs.specs.Registers.{AreKept}
 use Rattle.gits_regs.specs.Registers as regs
 use Rattle.gits_regs.specs.Registers.{Registers, is_valid, is_indirect, collection_places}
 use Rattle.baser_place.specs.Places.{flat_places}
@@ -27,7 +28,8 @@ pub record IsShape (s : Shape) : Type 0 where
 
 pub record IsLayout (l : Layout) : Type 0 where
   pub shape : IsShape l.shape
-  pub described : length l.described ≡ l.shape.vcpus
+  -- tables are described for each virtual processor, unless the guest programs them
+  pub described : l.gicr ≡ false → length l.described ≡ l.shape.vcpus
 
 -- ---- a translator
 
@@ -64,17 +66,10 @@ pub record IsTranslator (s : Shape) (t : Translator) : Type 0 where
 
 -- ---- a redistributor
 
--- the guest's registers keep addresses of whole pages
-pub record AreKeptBases (b : Bases) : Type 0 where
-  pub config_whole : b.config.0 % 4096 ≡ 0
-  pub config_low : b.config.0 < 2 ^ 52
-  pub pending_whole : b.pending.0 % 65536 ≡ 0
-  pub pending_low : b.pending.0 < 2 ^ 52
-
 -- with LPIs on both tables lie in memory
 pub record HasTables (s : Shape) (memory : List Window) (b : Bases) : Type 0 where
-  pub config : inside memory b.config.0 (lpi_count s.lpi_bits) ≡ true
-  pub pending : inside memory b.pending.0 (pending_bytes s.lpi_bits) ≡ true
+  pub config : inside memory b.prop.table.0 (lpi_count s.lpi_bits) ≡ true
+  pub pending : inside memory b.pend.table.0 (pending_bytes s.lpi_bits) ≡ true
 
 pub record IsRedistributor (l : Layout) (memory : List Window) (vcpu : ℕ) (r : Redistributor) : Type 0 where
   pub rising : IsStrictlyIncreasing r.pending
@@ -83,7 +78,7 @@ pub record IsRedistributor (l : Layout) (memory : List Window) (vcpu : ℕ) (r :
   pub tables : r.bases.on ≡ true → HasTables l.shape memory r.bases
   pub off_pending : r.bases.on ≡ false → r.pending ≡ []
   pub off_config : r.bases.on ≡ false → r.config ≡ replicate (lpi_count l.shape.lpi_bits) 0
-  pub kept : l.gicr ≡ true → AreKeptBases r.bases
+  pub kept : l.gicr ≡ true → AreKept r.bases
   -- otherwise LPIs are on at the tables that the description gives
   pub described : l.gicr ≡ false → slice_get l.described vcpu ≡ Some r.bases
   pub always_on : l.gicr ≡ false → r.bases.on ≡ true

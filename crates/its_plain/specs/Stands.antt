@@ -1,16 +1,17 @@
 -- Which state guest memory and register values stand for, and what their first offence is where they stand for none (KVM
 -- document arm-vgic-its, "ITS Restore Sequence").
-use Rattle.std.specs.Prelude.{◌≡◌, ◌<◌, ℕ, ◌+◌, ◌/◌, ◌%◌, Bool, true, false, not, ◌&&◌, List, [], ◌∷◌, length, replicate, slice_get, Some, unwrap_or, Err, ◌↔◌}
+use Rattle.std.specs.Prelude.{◌≡◌, ◌<◌, ℕ, Bool, true, false, not, ◌&&◌, List, [], ◌∷◌, length, replicate, slice_get, Some, Err, ◌↔◌}
 use Rattle.std.specs.Result.{IsOk}
 use Rattle.std.specs.List.Sorted.{IsStrictlyIncreasing}
-use Rattle.its_types.specs.Bits.{bit_of}
-use Rattle.guest_windows.specs.Windows.{Window, inside, read_at, byte_at}
+use Rattle.guest_windows.specs.Windows.{Window, read_at}
+pub use Rattle.gicr_regs.specs.Redistributors.{is_set}
+use Rattle.gicr_regs.specs.Redistributors.{has_tables}
 use Rattle.gits_regs.specs.Registers.{Registers, masked, restored}
 use Rattle.gits_regs.specs.declared.values.NotValid.{NotValid}
 use Rattle.gits_regs.specs.declared.values.RegValues.{RegValues}
 use Rattle.its_types.specs.Lpis.{is_pending}
 use Rattle.its_types.specs.Maps.{Maps, device_of, event_of, collection_of}
-use Rattle.its_types.specs.Ranges.{is_lpi, lpi_count, pending_bytes}
+use Rattle.its_types.specs.Ranges.{is_lpi, lpi_count}
 use Rattle.its_types.specs.declared.ids.Vcpu.{Vcpu}
 use Rattle.its_types.specs.declared.machine.Shape.{Shape}
 use Rattle.its_types.specs.declared.translation.Bases.{Bases}
@@ -26,7 +27,7 @@ use Rattle.its_plain.specs.declared.fault.RestoreFault.TheVariants as fault
 
 -- LPIs are on, and one of the two tables doesn't lie in one window
 abbrev pub lacks_tables : Shape → List Window → Bases → Bool
-lacks_tables s memory b = b.on && not (inside memory b.config.0 (lpi_count s.lpi_bits) && inside memory b.pending.0 (pending_bytes s.lpi_bits))
+lacks_tables s memory b = b.on && not (has_tables s memory b)
 
 abbrev pub AreRedistributorsClear : Shape → List Window → List Bases → Type 0
 AreRedistributorsClear s memory bases = (vcpu : ℕ) (b : Bases) → slice_get bases vcpu ≡ Some b → lacks_tables s memory b ≡ false
@@ -38,10 +39,6 @@ pub record RedistributorOffends (s : Shape) (memory : List Window) (bases : List
   pub lacks : lacks_tables s memory base ≡ true
   pub first : (w : ℕ) (b : Bases) → w < vcpu → slice_get bases w ≡ Some b → lacks_tables s memory b ≡ false
 
--- the bit of an LPI in a pending table
-abbrev pub is_set : List Window → ℕ → ℕ → Bool
-is_set memory base intid = bit_of (unwrap_or (byte_at memory (base + intid / 8)) 0) (intid % 8)
-
 -- the LPIs whose bits are set, rising: the first 1024 bytes of the table belong to none
 pub record ArePendingIn (lpi_bits : ℕ) (memory : List Window) (base : ℕ) (pending : List ℕ) : Type 0 where
   pub rising : IsStrictlyIncreasing pending
@@ -50,8 +47,8 @@ pub record ArePendingIn (lpi_bits : ℕ) (memory : List Window) (base : ℕ) (pe
 -- what memory says of a redistributor with these bases
 pub record IsRedistributorIn (s : Shape) (memory : List Window) (b : Bases) (r : Redistributor) : Type 0 where
   pub bases : r.bases ≡ b
-  pub config : b.on ≡ true → read_at memory b.config.0 (lpi_count s.lpi_bits) ≡ Some r.config
-  pub pending : b.on ≡ true → ArePendingIn s.lpi_bits memory b.pending.0 r.pending
+  pub config : b.on ≡ true → read_at memory b.prop.table.0 (lpi_count s.lpi_bits) ≡ Some r.config
+  pub pending : b.on ≡ true → ArePendingIn s.lpi_bits memory b.pend.table.0 r.pending
   pub off_config : b.on ≡ false → r.config ≡ replicate (lpi_count s.lpi_bits) 0
   pub off_pending : b.on ≡ false → r.pending ≡ []
 

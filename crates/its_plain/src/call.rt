@@ -39,6 +39,19 @@ pub enum Call {
         size: u8,
         value: u64,
     },
+    /// A read of 4 or 8 bytes of the LPI registers of a virtual processor's redistributor.
+    ReadGicr {
+        vcpu: Vcpu,
+        off: u32,
+        size: u8,
+    },
+    /// A write of 4 or 8 bytes of them.
+    WriteGicr {
+        vcpu: Vcpu,
+        off: u32,
+        size: u8,
+        value: u64,
+    },
     /// A translator takes its next command.
     Step {
         its: u8,

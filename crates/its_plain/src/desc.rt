@@ -1,16 +1,31 @@
-use crate::fault::RestoreFault;
-use gits_regs::RegValues;
-use its_types::{Addr, Limits, Listed, Shape, Vcpu};
+ghost use Rattle.std.specs.Prelude.{◌≡◌, IfOk, map};
+ghost use Rattle.its_types.specs.Lpis.{described_bases};
+ghost use Rattle.its_plain.specs.Machine as spec;
 
-/// Bytes that a description puts into guest memory, with the number of the line that says so.
+use crate::fault::RestoreFault;
+use crate::layout::Layout;
+use gicr_regs::{GicrValues, restored_bases};
+use gits_regs::RegValues;
+use its_types::{Addr, Bases, Limits, Listed, Shape, Vcpu};
+use std::alloc::{AllocError, Global};
+
+/// Bytes that a description puts into guest memory.
 #[derive(Debug, Drop)]
 pub struct Fill {
-    pub line: u64,
     pub addr: Addr,
     pub bytes: Listed<u8>,
 }
 
-/// What the description lines of a script say.
+/// Where the LPI tables of the redistributors are.
+#[derive(Debug, Drop)]
+pub enum LpiTables {
+    /// LPIs are on at these tables: one configuration table for all, and a pending table for each virtual processor.
+    Described { config: Addr, pending: Listed<Addr> },
+    /// The guest programs the LPI registers of the redistributors, which a restore begins with these values.
+    Registers(GicrValues),
+}
+
+/// What a machine is made from.
 #[derive(Debug, Drop)]
 pub struct Desc {
     pub shape: Shape,
@@ -19,10 +34,8 @@ pub struct Desc {
     pub limits: Limits,
     /// The base and the length of each window of guest memory.
     pub windows: Listed<(Addr, u64)>,
-    /// The LPI configuration table.
-    pub config: Addr,
-    /// The LPI pending table of each virtual processor.
-    pub pending: Listed<Addr>,
+    pub tables: LpiTables,
+    /// Put into memory in their order, before anything is read there.
     pub fills: Listed<Fill>,
     /// The registers that the machine is restored with, if it is.
     pub restore: Option<RegValues>,
@@ -37,8 +50,79 @@ pub enum DescFault {
     Config,
     /// The virtual processor's pending table doesn't lie in one window.
     Pending(Vcpu),
-    /// The bytes of this line don't lie in one window.
+    /// The bytes of this fill, counted from 0, don't lie in one window.
     Bytes(u64),
     /// Memory and the registers to restore stand for no state: their first offence.
     Restore(RestoreFault),
+}
+
+impl Desc {
+    /// What no call will change.
+    pub fn layout(&self, alloc: Global) -> Result<Layout, AllocError>
+        ensures { IfOk result (λ l. l ≡ spec.layout_of self.now) }
+    {
+        Ok(Layout {
+            shape: self.shape,
+            gicr: self.tables.are_programmed(),
+            described: Listed::from_vec(self.tables.described(alloc)?),
+        })
+    }
+}
+
+impl LpiTables {
+    /// Whether the guest programs them.
+    pub fn are_programmed(&self) -> bool
+        ensures { result ≡ spec.are_programmed self.now }
+    {
+        match self {
+            LpiTables::Described { .. } => false,
+            LpiTables::Registers(_) => true,
+        }
+    }
+
+    /// The tables described for each virtual processor, if they are.
+    pub fn described(&self, alloc: Global) -> Result<Vec<Bases>, AllocError>
+        ensures { IfOk result (λ v. v.items ≡ spec.described_in self.now) }
+    {
+        match self {
+            LpiTables::Described { config, pending } => {
+                all_described(alloc, *config, pending.as_slice())
+            }
+            LpiTables::Registers(_) => Ok(Vec::new(alloc)),
+        }
+    }
+
+    /// Where a restore finds the tables of each of so many virtual processors.
+    pub fn bases(&self, alloc: Global, vcpus: u8) -> Result<Vec<Bases>, AllocError>
+        ensures { IfOk result (λ v. v.items ≡ spec.bases_given vcpus self.now) }
+    {
+        match self {
+            LpiTables::Described { config, pending } => {
+                all_described(alloc, *config, pending.as_slice())
+            }
+            LpiTables::Registers(values) => all_restored(alloc, values, vcpus),
+        }
+    }
+}
+
+// LPIs are on at the described tables.
+fn all_described(alloc: Global, config: Addr, pending: &[Addr]) -> Result<Vec<Bases>, AllocError>
+    ensures { IfOk result (λ v. v.items ≡ map (described_bases config) pending.now) }
+{
+    pending
+        .iter()
+        .map(|base| Bases::described(config, *base))
+        .collect(alloc)
+}
+
+// The registers of the first virtual processors, as the values give them.
+fn all_restored(alloc: Global, values: &GicrValues, vcpus: u8) -> Result<Vec<Bases>, AllocError>
+    ensures { IfOk result (λ v. v.items ≡ spec.bases_given vcpus (spec.registers values.now)) }
+{
+    values
+        .registers
+        .iter()
+        .take(usize::from(vcpus))
+        .map(|registers| restored_bases(registers))
+        .collect(alloc)
 }

@@ -1,5 +1,9 @@
+ghost use Rattle.std.specs.Prelude.{◌≡◌};
+ghost use Rattle.its_plain.specs.declared.fault.SaveError.TheVariants as errors;
+
 use gits_regs::Register;
 use its_types::{Addr, DeviceId, EventId, Icid, Intid, Vcpu};
+use std::alloc::{AllocError, AllocFailed};
 
 /// A stretch of guest memory that a save looks at.
 #[derive(Clone, Copy, Debug, PartialEq, Eq)]
@@ -32,6 +36,39 @@ pub enum SaveFault {
     Outside(Region),
     /// The two regions share a byte, and one of them is written.
     Overlap(Region, Region),
+}
+
+/// Why nothing was saved.
+#[derive(Clone, Copy, Debug, PartialEq, Eq)]
+pub enum SaveError {
+    /// The state can't be saved: the first that applies.
+    Fault(SaveFault),
+    /// The host ran out of memory.
+    NoMemory,
+}
+
+impl From<AllocError> for SaveError {
+    ghost from_gives = { λ _ e. e ≡ errors.NoMemory };
+
+    fn from(_: AllocError) -> Self {
+        SaveError::NoMemory
+    }
+}
+
+impl<T: Drop> From<AllocFailed<T>> for SaveError {
+    ghost from_gives = { λ _ e. e ≡ errors.NoMemory };
+
+    fn from(_: AllocFailed<T>) -> Self {
+        SaveError::NoMemory
+    }
+}
+
+impl From<SaveFault> for SaveError {
+    ghost from_gives = { λ f e. e ≡ errors.Fault f };
+
+    fn from(fault: SaveFault) -> Self {
+        SaveError::Fault(fault)
+    }
 }
 
 /// A table that is walked from entry to entry.

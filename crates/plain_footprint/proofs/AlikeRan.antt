@@ -15,7 +15,8 @@ use Rattle.its_types.specs.declared.machine.Part.TheVariants.{Maps as MapsOf, Re
 use Rattle.its_types.specs.declared.machine.Profile.{Profile}
 use Rattle.its_types.specs.declared.machine.Profile.TheVariants.{One, Two}
 use Rattle.its_types.specs.declared.translation.Event.{Event}
-use Rattle.its_plain.specs.Plain.{Plain, Layout, Translator, Redistributor, regs_of, maps_of, pending_of, is_on, with_maps, with_pending}
+use Rattle.its_plain.specs.Plain.{Plain, Translator, Redistributor, regs_of, maps_of, pending_of, is_on, with_maps, with_pending}
+use Rattle.its_plain.specs.declared.layout.Layout.{Layout}
 use Rattle.its_plain.specs.Commands.{◌>>=◌, ensure, lpis_moved, all_moved, all_reread_at, reread, event_at, target_at, intids_of, mapd, unmapd, followed, followed_in, mapc, unmapc, mapti, movi, lpi_at, int, clear, cleared_at, discard, inv, invall, movall, ran}
 use Rattle.its_plain.specs.Parts.{IsIn, AgreesOn, redist, redist_of, target_of_event, moved_targets, both_targets, needed}
 use Rattle.its_plain.specs.declared.call.Reason.{Reason}

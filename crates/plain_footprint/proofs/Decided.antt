@@ -1,5 +1,5 @@
 -- A call's footprint decides what is answered, and what is left in it.
-use Rattle.std.proofs.Common.{◌≡◌, ℕ, Bool, true, false, not, ◌||◌, ◌&&◌, nat_lt, nat_le, List, [], ◌∷◌, ◌++◌, length, Option, Some, None, Result, Ok, Err, refl, ap, subst, unwrap_or, if◌then◌else◌}
+use Rattle.std.proofs.Common.{◌≡◌, ℕ, Bool, true, false, not, ◌||◌, ◌&&◌, nat_lt, nat_le, List, [], ◌∷◌, ◌++◌, length, Option, Some, None, Result, Ok, Err, refl, ap, subst, unwrap_or, if◌then◌else◌, ◌∙◌}
 use Rattle.std.specs.Option.{option_map}
 use Rattle.std.specs.Result.{result_ok}
 use Rattle.guest_windows.specs.Windows.{Window, read_at, write_at}
@@ -9,7 +9,9 @@ use Rattle.its_command.specs.declared.command.Op.{Op}
 use Rattle.its_types.specs.declared.ids.Target.{Target}
 use Rattle.its_types.specs.declared.machine.Part.{Part}
 use Rattle.its_types.specs.declared.machine.Part.TheVariants.{Maps as MapsOf, Mem, Redist}
-use Rattle.its_plain.specs.Plain.{Plain, Translator, Redistributor, translator, redistributor, regs_of, is_on}
+use Rattle.gicr_regs.specs.Registers.{read_gicr, written_gicr}
+use Rattle.its_plain.specs.declared.layout.Layout.{Layout}
+use Rattle.its_plain.specs.Plain.{Plain, Translator, Redistributor, translator, redistributor, regs_of, is_on, with_redistributor}
 use Rattle.its_plain.specs.Translation.{◌>>=◌, ensure, located, translated}
 use Rattle.its_plain.specs.Commands.{ran}
 use Rattle.its_plain.specs.Answer.{signal_reply, signal_left, ack_of, lowest, taken, poke_reply, peek_reply, translator_written, written, command_reply, command_left, save_reply, save_left, is_idle, next_bytes, met_reply, met_left, step_reply, step_left, reply_of, left, answer}
@@ -34,6 +36,14 @@ use Rattle.plain_footprint.proofs.AlikeRan.{Alike, ran_alike}
 -- the same answer, and the same left in the parts
 abbrev Decided : {R : Type 0} → List Part → R → R → Plain → Plain → Type 0
 Decided ps r s u w = (r ≡ s) × ((p : Part) → IsIn p ps → SamePart u w p)
+
+-- a test that comes out the same chooses parts that are the same
+alike_if : (b c : Bool) (ps : List Part) (x y u w : Plain) → b ≡ c → ((p : Part) → IsIn p ps → SamePart x y p) → ((p : Part) → IsIn p ps → SamePart u w p)
+    → (p : Part) → IsIn p ps → SamePart (if b then x else u) (if c then y else w) p
+alike_if true true ps x y u w e new old = new
+alike_if false false ps x y u w e new old = old
+alike_if true false ps x y u w e new old = absurd cc
+alike_if false true ps x y u w e new old = absurd cc
 
 -- ---- signals
 
@@ -170,5 +180,24 @@ decides u w (call.WriteReg its off size value) a =
     let after = agree_translator u w (MapsOf its ∷ []) its (translator_written (translator u its) (write_reg (regs_of u its) off size value)) (translator_written (translator w its) (write_reg (regs_of w its) off size value))
     (ap (λ (t : Translator). translator_written t (write_reg t.regs off size value)) (translator_same u w (MapsOf its ∷ []) its (in_head (MapsOf its) []) a)) a in
     (refl, after.parts)
+decides u w (call.ReadGicr vcpu off size) a =
+    let same : redistributor u vcpu.0 ≡ redistributor w vcpu.0 = redist_same u w (Redist vcpu ∷ []) vcpu.0 (in_head (Redist vcpu) []) a in (
+      ap (λ (r : Redistributor). reply.Value (if u.layout.gicr then read_gicr r.bases off size else 0)) same
+          ∙ ap (λ (l : Layout). reply.Value (if l.gicr then read_gicr (redistributor w vcpu.0).bases off size else 0)) a.layout,
+      a.parts,
+    )
+decides u w (call.WriteGicr vcpu off size value) a =
+    let ps : List Part = Mem ∷ Redist vcpu ∷ [] in
+    let same : redistributor u vcpu.0 ≡ redistributor w vcpu.0 = redist_same u w ps vcpu.0 (in_tail (Redist vcpu) Mem (Redist vcpu ∷ []) (in_head (Redist vcpu) [])) a in
+    let memory : u.memory ≡ w.memory = a.parts Mem (in_head Mem (Redist vcpu ∷ [])) in
+    let after : (v : Plain) → Redistributor = λ v. written_gicr v.layout.shape v.memory (redistributor v vcpu.0) off size value in
+    let new : after u ≡ after w =
+    ap (λ (l : Layout). written_gicr l.shape u.memory (redistributor u vcpu.0) off size value) a.layout
+    ∙ ap (λ (m : List Window). written_gicr w.layout.shape m (redistributor u vcpu.0) off size value) memory
+    ∙ ap (λ (r : Redistributor). written_gicr w.layout.shape w.memory r off size value) same in (
+      refl,
+      alike_if u.layout.gicr w.layout.gicr ps (with_redistributor u vcpu.0 (after u)) (with_redistributor w vcpu.0 (after w)) u w (ap (λ (l : Layout). l.gicr) a.layout)
+          (agree_redist u w ps vcpu.0 (after u) (after w) new a).parts a.parts,
+    )
 decides u w (call.Step its) a = let d = step_decided u w its a in (ap (λ (s : StepReply). reply.Step s) d.0, d.1)
 decides u w call.Save a = save_decided u w (whole u w a)

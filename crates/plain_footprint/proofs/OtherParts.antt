@@ -1,5 +1,6 @@
 -- A call changes no part outside its footprint.
 use Rattle.std.proofs.Common.{◌≡◌, ℕ, ◌≤◌, Bool, true, false, List, [], ◌∷◌, ◌++◌, length, Option, Some, None, Result, Ok, Err, sym, subst, unwrap_or, if◌then◌else◌}
+use Rattle.std.proofs.lemmas.Bool.{cond_both}
 use Rattle.std.proofs.lemmas.Option.{slice_get_past}
 use Rattle.guest_windows.specs.Windows.{write_at}
 use Rattle.gits_regs.specs.Registers.{write_reg, advanced}
@@ -8,7 +9,8 @@ use Rattle.its_types.specs.Lpis.{with_lpi}
 use Rattle.its_types.specs.declared.ids.Target.{Target}
 use Rattle.its_types.specs.declared.machine.Part.{Part}
 use Rattle.its_types.specs.declared.machine.Part.TheVariants.{Maps as MapsOf, Mem, Redist}
-use Rattle.its_plain.specs.Plain.{Plain, translator, redistributor, regs_of, pending_of, is_on}
+use Rattle.gicr_regs.specs.Registers.{written_gicr}
+use Rattle.its_plain.specs.Plain.{Plain, translator, redistributor, regs_of, pending_of, is_on, with_redistributor}
 use Rattle.its_plain.specs.Sound.{IsSound}
 use Rattle.its_plain.specs.Translation.{◌>>=◌, ensure, located, translated}
 use Rattle.its_plain.specs.Commands.{ran}
@@ -94,6 +96,12 @@ others_stay u (call.Peek addr count) sound = stay u (Mem ∷ [])
 others_stay u (call.ReadReg its off size) sound = stay u (MapsOf its ∷ [])
 others_stay u (call.WriteReg its off size value) sound =
     stay_translator u u (MapsOf its ∷ []) its (translator_written (translator u its) (write_reg (regs_of u its) off size value)) (in_head (MapsOf its) []) (stay u (MapsOf its ∷ []))
+others_stay u (call.ReadGicr vcpu off size) sound = stay u (Redist vcpu ∷ [])
+others_stay u (call.WriteGicr vcpu off size value) sound =
+    let ps : List Part = Mem ∷ Redist vcpu ∷ [] in
+    cond_both u.layout.gicr (with_redistributor u vcpu.0 (written_gicr u.layout.shape u.memory (redistributor u vcpu.0) off size value)) u (Stay u ps)
+    (λ _. stay_redist u u ps vcpu.0 (written_gicr u.layout.shape u.memory (redistributor u vcpu.0) off size value) (in_tail (Redist vcpu) Mem (Redist vcpu ∷ []) (in_head (Redist vcpu) [])) (stay u ps))
+    (λ _. stay u ps)
 others_stay u (call.Step its) sound = step_stays u its sound
 others_stay u call.Save sound = save_stays u (savable u)
 

@@ -10,7 +10,8 @@ use Rattle.its_command.specs.declared.command.Command.TheVariants as command
 use Rattle.its_types.specs.Maps.{Maps, collection_of}
 use Rattle.its_types.specs.declared.machine.Part.{Part}
 use Rattle.its_types.specs.declared.machine.Part.TheVariants.{Maps as MapsOf, Mem}
-use Rattle.its_plain.specs.Plain.{Plain, Layout, Translator, translator, maps_of}
+use Rattle.its_plain.specs.Plain.{Plain, Translator, translator, maps_of}
+use Rattle.its_plain.specs.declared.layout.Layout.{Layout}
 use Rattle.its_plain.specs.Translation.{located}
 use Rattle.its_plain.specs.Answer.{is_idle, next_bytes}
 use Rattle.its_plain.specs.Parts.{AgreesOn, translators_below, redists_below, redist_of, target_of_event, moved_targets, both_targets, needed, footprint}
@@ -59,6 +60,8 @@ same_parts u w (call.Poke addr bytes) a = refl
 same_parts u w (call.Peek addr count) a = refl
 same_parts u w (call.ReadReg its off size) a = refl
 same_parts u w (call.WriteReg its off size value) a = refl
+same_parts u w (call.ReadGicr vcpu off size) a = refl
+same_parts u w (call.WriteGicr vcpu off size value) a = refl
 same_parts u w (call.Step its) a =
     let rest : List Part = (if is_idle u its then [] else needed_at u its (next_bytes u its)) in
     let ps : List Part = Mem ∷ rest in

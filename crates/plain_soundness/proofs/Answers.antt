@@ -1,5 +1,6 @@
 -- What each kind of call keeps.
 use Rattle.plain_soundness.proofs.Migrated.{saves_keep}
+use Rattle.plain_soundness.proofs.Gicr.{gicr_read_keeps, gicr_write_keeps}
 use Rattle.std.proofs.Common.{◌≡◌, ℕ, true, List, [], ◌∷◌, Option, Some, None, not, Result, Ok, Err, IfOk, ◌∙◌, refl, map}
 use Rattle.std.specs.Prelude.{unwrap_or}
 use Rattle.std.proofs.lemmas.Bool.{cond_both, not-false, or_parts}
@@ -104,6 +105,8 @@ calls_keep u (call.Poke addr bytes) h = poke_keeps u addr bytes h
 calls_keep u (call.Peek addr count) h = peek_keeps u addr count h
 calls_keep u (call.ReadReg its off size) h = register_read_keeps u its off size h
 calls_keep u (call.WriteReg its off size value) h = register_write_keeps u its off size value h
+calls_keep u (call.ReadGicr vcpu off size) h = gicr_read_keeps u vcpu off size h
+calls_keep u (call.WriteGicr vcpu off size value) h = gicr_write_keeps u vcpu off size value h
 calls_keep u (call.Step its) h = step_keeps u its h
 calls_keep u call.Save h = saves_keep u h
 

@@ -1,5 +1,5 @@
 -- The first state of a machine.
-use Rattle.std.proofs.Common.{◌≡◌, ℕ, zero, suc, ◌+◌, ◌≤◌, Bool, true, false, cond, List, [], ◌∷◌, length, map, Option, Some, None, Result, Ok, Err, IfOk, refl, ap, subst, ◌∙◌}
+use Rattle.std.proofs.Common.{◌≡◌, ℕ, zero, suc, ◌+◌, ◌≤◌, Bool, true, false, cond, List, [], ◌∷◌, length, map, replicate, Option, Some, None, Result, Ok, Err, IfOk, refl, ap, subst, ◌∙◌, arith}
 use Rattle.std.specs.Prelude.{slice_get, ok_or}
 use Rattle.std.specs.List.{AllByRecursion}
 use Rattle.std.proofs.lemmas.Bool.{both_ways}
@@ -16,10 +16,15 @@ use Rattle.its_types.specs.Ranges.{lpi_count, pending_bytes}
 use Rattle.its_types.specs.declared.ids.Addr.{Addr}
 use Rattle.its_types.specs.declared.machine.Shape.{Shape}
 use Rattle.its_types.specs.declared.translation.Bases.{Bases}
-use Rattle.its_plain.specs.Plain.{Layout, Translator, Redistributor}
+use Rattle.its_plain.specs.Plain.{Translator, Redistributor}
+use Rattle.its_plain.specs.declared.layout.Layout.{Layout}
 use Rattle.its_plain.specs.Sound.{IsSound, IsTranslator, IsRedistributor, HasTables, IsShape}
-use Rattle.its_plain.specs.Machine.{made, started, pending_inside, filled, described_bases, idle_redistributor, ensure, ◌>>=◌}
-use Rattle.its_plain.specs.Made.{IsDescription}
+use Rattle.gicr_regs.specs.Redistributors.{off_redistributor}
+use Rattle.gicr_regs.specs.declared.values.GicrValues.{GicrValues}
+use Rattle.its_types.specs.Lpis.{no_bases}
+use Rattle.its_plain.specs.Machine.{made, started, pending_inside, tables_inside, filled, described_bases, described_in, are_programmed, layout_of, first_redistributors, idle_redistributor, ensure, ◌>>=◌, IsDescription, HasTablesFor}
+use Rattle.its_plain.specs.declared.desc.LpiTables.{LpiTables}
+use Rattle.its_plain.specs.declared.desc.LpiTables.TheVariants.{Described, Registers}
 use Rattle.its_plain.specs.declared.desc.Desc.{Desc}
 use Rattle.its_plain.specs.declared.desc.DescFault.{DescFault}
 use Rattle.its_plain.specs.declared.desc.DescFault.TheVariants.{Windows, Config, Pending, Bytes}
@@ -67,11 +72,11 @@ then_same memory next (Ok now) e h = h ∙ e
 then_same memory next (Err fault) e h = tt
 
 -- bytes put into memory leave the windows where they are
-same_windows : (memory : List Window) (fills : List Fill) → IfOk (filled memory fills) (λ now. map extent now ≡ map extent memory)
-same_windows memory [] = refl
-same_windows memory (f ∷ fills) =
-    found (λ now. map extent now ≡ map extent memory) (write_at memory f.addr.0 f.bytes) (Bytes f.line) _ (λ next written.
-    then_same memory next (filled next fills) (extents-write_at memory f.addr.0 f.bytes next written) (same_windows next fills))
+same_windows : (memory : List Window) (n : ℕ) (fills : List Fill) → IfOk (filled memory n fills) (λ now. map extent now ≡ map extent memory)
+same_windows memory n [] = refl
+same_windows memory n (f ∷ fills) =
+    found (λ now. map extent now ≡ map extent memory) (write_at memory f.addr.0 f.bytes) (Bytes n) _ (λ next written.
+    then_same memory next (filled next (n + 1) fills) (extents-write_at memory f.addr.0 f.bytes next written) (same_windows next (n + 1) fills))
 
 -- windows of zeros are where they are to be
 extents_of_zeros : (windows : List (ℕ × ℕ)) → map extent (map zeros windows) ≡ windows
@@ -79,6 +84,12 @@ extents_of_zeros [] = refl
 extents_of_zeros (w ∷ windows) = ap (λ n. (w.0, n) ∷ map extent (map zeros windows)) (length-replicate w.1 0) ∙ ap (λ rest. w ∷ rest) (extents_of_zeros windows)
 
 -- ---- the parts of the first state
+
+-- each of a list of one element again and again is that
+at_replicate : {A : Type 0} (n : ℕ) (x : A) (i : ℕ) (y : A) → slice_get (replicate n x) i ≡ Some y → x ≡ y
+at_replicate zero x i y e = absurd cc
+at_replicate (suc n) x zero y e = same_Some x y e
+at_replicate (suc n) x (suc i) y e = at_replicate n x i y e
 
 reset_sound : (dev_bits : ℕ) → 16 ≤ dev_bits → dev_bits ≤ 20 → regs.IsSound (reset dev_bits)
 reset_sound dev_bits least most = record {
@@ -113,59 +124,98 @@ idle_sound l memory v config b fixed described on count tables = record {
   always_on = λ _. on;
 }
 
--- where memory is as described, and its tables lie in it
-record IsFit (d : Desc) (memory : List Window) (config : List ℕ) : Type 0 where
-  windows : are_windows (map extent memory) ≡ true
-  table : inside memory d.config.0 (lpi_count d.shape.lpi_bits) ≡ true
-  pending : AllInside memory (pending_bytes d.shape.lpi_bits) d.pending
-  count : length config ≡ lpi_count d.shape.lpi_bits
+-- LPIs are off
+off_sound : (l : Layout) (memory : List Window) (v : ℕ) → l.gicr ≡ true → IsRedistributor l memory v (off_redistributor l.shape no_bases)
+off_sound l memory v programmed = record {
+  rising = (no_set (λ _. Unit {0})).rising;
+  lpis = tt;
+  config = length-replicate (lpi_count l.shape.lpi_bits) 0;
+  tables = λ on. absurd cc;
+  off_pending = λ _. refl;
+  off_config = λ _. refl;
+  kept = λ _. record { prop_whole = refl; prop_low = omega arith; id_bits = omega arith; pend_whole = refl; pend_low = omega arith };
+  described = λ fixed. absurd (both_ways l.gicr fixed programmed);
+  always_on = λ fixed. absurd (both_ways l.gicr fixed programmed);
+}
 
-redistributors_sound : (d : Desc) (memory : List Window) (config : List ℕ) → IsFit d memory config
-    → (v : ℕ) (r : Redistributor) → slice_get (started d memory config).redistributors v ≡ Some r → IsRedistributor (started d memory config).layout memory v r
-redistributors_sound d memory config fit =
-    let l : Layout = (started d memory config).layout in
-    at_each_map (IsRedistributor l memory) (idle_redistributor config) l.described (λ v b is.
-    let on_and_tables : (b.on ≡ true) × HasTables d.shape memory b =
-    at_each_map (λ _ x. (x.on ≡ true) × HasTables d.shape memory x) (described_bases d.config) d.pending
-    (λ k base there. (refl, record { config = fit.table; pending = all_at (λ a. inside memory a.0 (pending_bytes d.shape.lpi_bits) ≡ true) d.pending fit.pending k base there })) v b is in
-    idle_sound l memory v config b refl is on_and_tables.0 fit.count on_and_tables.1)
+-- ---- the redistributors, where their tables lie in memory
 
-started_sound : (d : Desc) (memory : List Window) (config : List ℕ) → IsDescription d → IsFit d memory config → IsSound (started d memory config)
-started_sound d memory config h fit =
-    let l : Layout = (started d memory config).layout in
-    let count : length l.described ≡ d.shape.vcpus = length-map d.pending (described_bases d.config) ∙ h.tables in
-    record {
-      layout = record { shape = h.shape; described = count };
-      translators = one_translator d.shape (record { regs = reset d.shape.dev_bits; maps = no_maps }) (reset_translator d.shape h.shape);
-      vcpus = length-map l.described (idle_redistributor config) ∙ count;
-      redistributors = redistributors_sound d memory config fit;
-      memory = fit.windows;
-    }
+-- the described tables lie in memory
+abbrev AreInside : Shape → List Window → LpiTables → Type 0
+AreInside s memory (Described config pending) = (inside memory config.0 (lpi_count s.lpi_bits) ≡ true) × AllInside memory (pending_bytes s.lpi_bits) pending
+AreInside s memory (Registers values) = Unit {0}
 
--- ---- the whole
+tables_are_inside : (s : Shape) (memory : List Window) (t : LpiTables) → IfOk (tables_inside s memory t) (λ _. AreInside s memory t)
+tables_are_inside s memory (Described config pending) =
+    passed (λ _. AreInside s memory (Described config pending)) (inside memory config.0 (lpi_count s.lpi_bits)) Config _ (λ here.
+    both_hold (inside memory config.0 (lpi_count s.lpi_bits) ≡ true) (AllInside memory (pending_bytes s.lpi_bits) pending)
+    (pending_inside memory (pending_bytes s.lpi_bits) 0 pending) here (pending_tables memory (pending_bytes s.lpi_bits) 0 pending))
+tables_are_inside s memory (Registers values) = tt
 
 all_inside_now : (now before : List Window) (size : ℕ) (bases : List Addr) → map extent now ≡ map extent before → AllInside before size bases → AllInside now size bases
 all_inside_now now before size [] same h = tt
 all_inside_now now before size (base ∷ bases) same h = (inside-extents now before base.0 size same ∙ h.0, all_inside_now now before size bases same h.1)
+
+are_inside_now : (s : Shape) (now before : List Window) (t : LpiTables) → map extent now ≡ map extent before → AreInside s before t → AreInside s now t
+are_inside_now s now before (Described config pending) same h = (inside-extents now before config.0 (lpi_count s.lpi_bits) same ∙ h.0, all_inside_now now before (pending_bytes s.lpi_bits) pending same h.1)
+are_inside_now s now before (Registers values) same h = tt
+
+-- as many as virtual processors, and each sound
+abbrev AreSound : Layout → List Window → List Redistributor → Type 0
+AreSound l memory rs = (length rs ≡ l.shape.vcpus) × ((v : ℕ) (r : Redistributor) → slice_get rs v ≡ Some r → IsRedistributor l memory v r)
+
+abbrev layout_in : Shape → LpiTables → Layout
+layout_in s t = record { shape = s; gicr = are_programmed t; described = described_in t }
+
+described_sound : (s : Shape) (memory : List Window) (config : Addr) (pending : List Addr) (bytes : List ℕ) → AreInside s memory (Described config pending) → length pending ≡ s.vcpus
+    → length bytes ≡ lpi_count s.lpi_bits → AreSound (layout_in s (Described config pending)) memory (map (idle_redistributor bytes) (map (described_bases config) pending))
+described_sound s memory config pending bytes fit count size =
+    let l : Layout = layout_in s (Described config pending) in (
+      length-map l.described (idle_redistributor bytes) ∙ length-map pending (described_bases config) ∙ count,
+      at_each_map (IsRedistributor l memory) (idle_redistributor bytes) l.described (λ v b is.
+          let on_and_tables : (b.on ≡ true) × HasTables s memory b =
+          at_each_map (λ _ x. (x.on ≡ true) × HasTables s memory x) (described_bases config) pending
+          (λ k base there. (refl, record { config = fit.0; pending = all_at (λ a. inside memory a.0 (pending_bytes s.lpi_bits) ≡ true) pending fit.1 k base there })) v b is in
+          idle_sound l memory v bytes b refl is on_and_tables.0 size on_and_tables.1),
+    )
+
+programmed_sound : (s : Shape) (memory : List Window) (values : GicrValues) → AreSound (layout_in s (Registers values)) memory (replicate s.vcpus (off_redistributor s no_bases))
+programmed_sound s memory values = (
+  length-replicate s.vcpus (off_redistributor s no_bases),
+  λ v r is. subst (IsRedistributor (layout_in s (Registers values)) memory v) (at_replicate s.vcpus (off_redistributor s no_bases) v r is) (off_sound (layout_in s (Registers values)) memory v refl),
+)
+
+first_sound : (s : Shape) (memory : List Window) (t : LpiTables) → AreInside s memory t → HasTablesFor s.vcpus t → IfOk (first_redistributors s memory t) (AreSound (layout_in s t) memory)
+first_sound s memory (Described config pending) fit count =
+    found (AreSound (layout_in s (Described config pending)) memory) (read_at memory config.0 (lpi_count s.lpi_bits)) Config _ (λ bytes read.
+    described_sound s memory config pending bytes fit count (length-read_at memory config.0 (lpi_count s.lpi_bits) bytes read))
+first_sound s memory (Registers values) fit count = programmed_sound s memory values
+
+-- ---- the whole
+
+described_count : (s : Shape) (t : LpiTables) → HasTablesFor s.vcpus t → are_programmed t ≡ false → length (described_in t) ≡ s.vcpus
+described_count s (Described config pending) count fixed = length-map pending (described_bases config) ∙ count
+described_count s (Registers values) count fixed = absurd cc
+
+started_sound : (d : Desc) (memory : List Window) (rs : List Redistributor) → IsDescription d → are_windows (map extent memory) ≡ true → AreSound (layout_of d) memory rs → IsSound (started d memory rs)
+started_sound d memory rs h windows sound = record {
+  layout = record { shape = h.shape; described = described_count d.shape d.tables h.tables };
+  translators = one_translator d.shape (record { regs = reset d.shape.dev_bits; maps = no_maps }) (reset_translator d.shape h.shape);
+  vcpus = sound.0;
+  redistributors = sound.1;
+  memory = windows;
+}
 
 made_sound : (d : Desc) → IsDescription d → IfOk (made d) IsSound
 unfolding made
 made_sound d h =
     let windows : List (ℕ × ℕ) = pairs d.windows in
     let empty : List Window = map zeros windows in
-    let size : ℕ = lpi_count d.shape.lpi_bits in
-    let bytes : ℕ = pending_bytes d.shape.lpi_bits in
     passed IsSound (are_windows windows) Windows _ (λ good.
-    passed IsSound (inside empty d.config.0 size) Config _ (λ table.
-    then_ok (λ _. AllInside empty bytes d.pending) IsSound (pending_inside empty bytes 0 d.pending) _ (pending_tables empty bytes 0 d.pending) (λ _ tables.
-    then_ok (λ now. map extent now ≡ map extent empty) IsSound (filled empty d.fills) _ (same_windows empty d.fills) (λ memory same.
-    found IsSound (read_at memory d.config.0 size) Config _ (λ config read.
-    started_sound d memory config h (record {
-      windows = ap are_windows (same ∙ extents_of_zeros windows) ∙ good;
-      table = inside-extents memory empty d.config.0 size same ∙ table;
-      pending = all_inside_now memory empty bytes d.pending same tables;
-      count = length-read_at memory d.config.0 size config read;
-    }))))))
+    then_ok (λ _. AreInside d.shape empty d.tables) IsSound (tables_inside d.shape empty d.tables) _ (tables_are_inside d.shape empty d.tables) (λ _ tables.
+    then_ok (λ now. map extent now ≡ map extent empty) IsSound (filled empty 0 d.fills) _ (same_windows empty 0 d.fills) (λ memory same.
+    then_ok (AreSound (layout_of d) memory) IsSound (first_redistributors d.shape memory d.tables) _ (first_sound d.shape memory d.tables (are_inside_now d.shape memory empty d.tables same tables) h.tables) (λ rs sound.
+    started_sound d memory rs h (ap are_windows (same ∙ extents_of_zeros windows) ∙ good) sound))))
 
 pub start_sound : MachinesStartSound
 start_sound d u h is = if_ok_at IsSound (made d) u (made_sound d h) is

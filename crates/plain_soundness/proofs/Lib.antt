@@ -11,3 +11,4 @@ pub mod Run
 pub mod Answers
 pub mod First
 pub mod Migrated
+pub mod Gicr

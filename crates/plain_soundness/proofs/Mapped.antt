@@ -1,8 +1,8 @@
 -- The maps of a translator, and what each change of them keeps.
-use Rattle.std.proofs.Common.{◌≡◌, ℕ, ◌*◌, ◌<◌, min, true, not, eqb, Some, refl, sym, ap, subst, ◌∙◌}
+use Rattle.std.proofs.Common.{◌≡◌, ℕ, ◌*◌, ◌<◌, min, true, not, eqb, Some, None, refl, sym, ap, subst, ◌∙◌}
 use Rattle.std.specs.Ordering.{nat_cmp}
 use Rattle.std.specs.Cmp.{nat_cmp_total}
-use Rattle.std.specs.FinMap.{nat_cmp-IsAntisymmetric}
+use Rattle.std.specs.FinMap.{nat_cmp-IsAntisymmetric, get-empty}
 use Rattle.std.proofs.lemmas.Bool.{not-true, eqb-false}
 use Rattle.std.proofs.lemmas.Option.{none-some}
 use Rattle.its_types.specs.Ranges.{is_device_id}
@@ -15,9 +15,20 @@ use Rattle.its_types.specs.declared.translation.Device.{Device}
 use Rattle.its_types.specs.declared.translation.Event.{Event}
 use Rattle.its_plain.specs.Plain.{Translator}
 use Rattle.its_plain.specs.Sound.{IsDevice, IsEvent, IsCollection, IsTranslator}
-use Rattle.its_plain.proofs.Entries.{pair_total, pair_exact, no_device, no_event, no_collection}
+use Rattle.its_types.proofs.PairOrder.{pair_total, pair_same}
 use Rattle.plain_soundness.proofs.FiniteMaps.{inserted, not_inserted, retained, still_there}
 use Rattle.plain_soundness.proofs.FiniteMaps.Found.{new, kept}
+
+-- ---- where nothing is mapped
+
+no_device : (dev : ℕ) → device_of no_maps dev ≡ None
+no_device dev = get-empty nat_cmp dev
+
+no_event : (dev ev : ℕ) → event_of no_maps dev ev ≡ None
+no_event dev ev = get-empty pair_cmp (dev, ev)
+
+no_collection : (icid : ℕ) → collection_of no_maps icid ≡ None
+no_collection icid = get-empty nat_cmp icid
 
 -- what a sound translator's maps are, beside its registers
 pub record AreMaps (s : Shape) (r : Registers) (m : Maps) : Type 0 where
@@ -105,7 +116,7 @@ device_added s r m dev device fits h = record {
     | kept old ↦ h.devices d x old
   ];
   events = λ d ev x e.
-      let left = retained pair_cmp pair_total pair_exact m.events (λ k. not (eqb k.0 dev)) (d, ev) x e in
+      let left = retained pair_cmp pair_total pair_same m.events (λ k. not (eqb k.0 dev)) (d, ev) x e in
       event_in s m (device_mapped m dev device) d ev x (not_inserted nat_cmp nat_cmp_total nat_cmp-IsAntisymmetric m.devices dev device d (other_device dev d left.0)) (h.events d ev x left.1);
   collections = h.collections;
 }
@@ -114,7 +125,7 @@ pub device_removed : (s : Shape) (r : Registers) (m : Maps) (dev : ℕ) → AreM
 device_removed s r m dev h = record {
   devices = λ d x e. h.devices d x (retained nat_cmp nat_cmp_total nat_cmp-IsAntisymmetric m.devices (λ k. not (eqb k dev)) d x e).1;
   events = λ d ev x e.
-      let left = retained pair_cmp pair_total pair_exact m.events (λ k. not (eqb k.0 dev)) (d, ev) x e in
+      let left = retained pair_cmp pair_total pair_same m.events (λ k. not (eqb k.0 dev)) (d, ev) x e in
       event_in s m (device_unmapped m dev) d ev x (still_there nat_cmp nat_cmp_total nat_cmp-IsAntisymmetric m.devices (λ k. not (eqb k dev)) d left.0) (h.events d ev x left.1);
   collections = h.collections;
 }
@@ -124,7 +135,7 @@ device_removed s r m dev h = record {
 pub event_added : (s : Shape) (r : Registers) (m : Maps) (dev ev : ℕ) (event : Event) → IsEvent s m dev ev event → AreMaps s r m → AreMaps s r (event_mapped m dev ev event)
 event_added s r m dev ev event fits h = record {
   devices = h.devices;
-  events = λ d v x e. elim (inserted pair_cmp pair_total pair_exact m.events (dev, ev) event (d, v) x e) [
+  events = λ d v x e. elim (inserted pair_cmp pair_total pair_same m.events (dev, ev) event (d, v) x e) [
     | new same is ↦
         let here : IsEvent s m d v event = subst (λ (k : ℕ × ℕ). IsEvent s m k.0 k.1 event) (sym same) fits in
         event_in s m (event_mapped m dev ev event) d v x refl (subst (IsEvent s m d v) is here)
@@ -136,7 +147,7 @@ event_added s r m dev ev event fits h = record {
 pub event_removed : (s : Shape) (r : Registers) (m : Maps) (dev ev : ℕ) → AreMaps s r m → AreMaps s r (event_unmapped m dev ev)
 event_removed s r m dev ev h = record {
   devices = h.devices;
-  events = λ d v x e. event_in s m (event_unmapped m dev ev) d v x refl (h.events d v x (retained pair_cmp pair_total pair_exact m.events (λ k. not (is_pair dev ev k)) (d, v) x e).1);
+  events = λ d v x e. event_in s m (event_unmapped m dev ev) d v x refl (h.events d v x (retained pair_cmp pair_total pair_same m.events (λ k. not (is_pair dev ev k)) (d, v) x e).1);
   collections = h.collections;
 }
 

@@ -7,7 +7,8 @@ use Rattle.guest_windows.specs.Windows.{Window, extent, read_at, write_at}
 use Rattle.guest_windows.proofs.Laws.{extents-write_at, length-read_at}
 use Rattle.baser_place.specs.Places.{entry_address}
 use Rattle.its_types.specs.Ranges.{lpi_count}
-use Rattle.its_plain.specs.Plain.{Plain, Layout, Redistributor}
+use Rattle.its_plain.specs.Plain.{Plain, Redistributor}
+use Rattle.its_plain.specs.declared.layout.Layout.{Layout}
 use Rattle.its_plain.specs.Sound.{IsSound, IsRedistributor}
 use Rattle.its_plain.specs.Answer.{save_left, left}
 use Rattle.its_plain.specs.Regions.{savable}
@@ -35,18 +36,18 @@ tables_kept memory (t ∷ ts) = tables_kept (put_words memory t.base t.word t.co
 
 -- ---- configurations
 
-config_read : (old : List ℕ) (n : ℕ) (o : Option (List ℕ)) → length old ≡ n → ((bytes : List ℕ) → o ≡ Some bytes → length bytes ≡ n) → length (unwrap_or o old) ≡ n
+pub config_read : (old : List ℕ) (n : ℕ) (o : Option (List ℕ)) → length old ≡ n → ((bytes : List ℕ) → o ≡ Some bytes → length bytes ≡ n) → length (unwrap_or o old) ≡ n
 config_read old n None before now = before
 config_read old n (Some bytes) before now = now bytes refl
 
-reloaded_sound : (l : Layout) (memory : List Window) (v : ℕ) (r : Redistributor) → IsRedistributor l memory v r → IsRedistributor l memory v (reloaded l.shape memory r)
+pub reloaded_sound : (l : Layout) (memory : List Window) (v : ℕ) (r : Redistributor) → IsRedistributor l memory v r → IsRedistributor l memory v (reloaded l.shape memory r)
 reloaded_sound l memory v r h =
     let n : ℕ = lpi_count l.shape.lpi_bits in
-    let read : Option (List ℕ) = read_at memory r.bases.config.0 n in
+    let read : Option (List ℕ) = read_at memory r.bases.prop.table.0 n in
     cond_both r.bases.on (record r { config = unwrap_or read r.config }) r (IsRedistributor l memory v) (λ on. record {
       rising = h.rising;
       lpis = h.lpis;
-      config = config_read r.config n read h.config (length-read_at memory r.bases.config.0 n);
+      config = config_read r.config n read h.config (length-read_at memory r.bases.prop.table.0 n);
       tables = h.tables;
       off_pending = h.off_pending;
       off_config = λ off. absurd (both_ways r.bases.on off on);

@@ -3,7 +3,8 @@ use Rattle.std.proofs.Common.{◌≡◌, ℕ, ◌+◌, ◌-◌, true, List, [], 
 use Rattle.std.proofs.lemmas.Bool.{both_ways, cond_both}
 use Rattle.guest_windows.specs.Windows.{Window, byte_at}
 use Rattle.its_types.specs.Lpis.{with_config_byte}
-use Rattle.its_plain.specs.Plain.{Plain, Layout, Redistributor}
+use Rattle.its_plain.specs.Plain.{Plain, Redistributor}
+use Rattle.its_plain.specs.declared.layout.Layout.{Layout}
 use Rattle.its_plain.specs.Sound.{IsSound, IsRedistributor}
 use Rattle.its_plain.specs.Commands.{reread, reread_at, all_reread_at}
 use Rattle.plain_soundness.proofs.States.{redistributors_mapped}
@@ -32,10 +33,10 @@ module _ (l : Layout) (memory : List Window) (v : ℕ) where
   read_sound r intid None on h = h
   read_sound r intid (Some byte) on h = byte_replaced r intid byte on h
 
-  reread_at_sound : (r : Redistributor) (intid : ℕ) → IsRedistributor l memory v r → IsRedistributor l memory v (reread_at memory intid r)
+  pub reread_at_sound : (r : Redistributor) (intid : ℕ) → IsRedistributor l memory v r → IsRedistributor l memory v (reread_at memory intid r)
   unfolding reread_at
   reread_at_sound r intid h =
-      cond_both r.bases.on _ r (IsRedistributor l memory v) (λ on. read_sound r intid (byte_at memory (r.bases.config.0 + (intid - 8192))) on h) (λ _. h)
+      cond_both r.bases.on _ r (IsRedistributor l memory v) (λ on. read_sound r intid (byte_at memory (r.bases.prop.table.0 + (intid - 8192))) on h) (λ _. h)
 
   all_reread_at_sound : (intids : List ℕ) (r : Redistributor) → IsRedistributor l memory v r → IsRedistributor l memory v (all_reread_at memory intids r)
   all_reread_at_sound [] r h = h

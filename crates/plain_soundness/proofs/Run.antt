@@ -13,7 +13,8 @@ use Rattle.its_types.specs.declared.machine.Profile.TheVariants.{One, Two}
 use Rattle.its_types.specs.declared.translation.Device.{Device}
 use Rattle.its_types.specs.declared.translation.Event.{Event}
 use Rattle.its_command.specs.declared.command.Command.TheVariants as command
-use Rattle.its_plain.specs.Plain.{Plain, Layout, Translator, no_translator, regs_of, maps_of, is_on, with_maps}
+use Rattle.its_plain.specs.Plain.{Plain, Translator, no_translator, regs_of, maps_of, is_on, with_maps}
+use Rattle.its_plain.specs.declared.layout.Layout.{Layout}
 use Rattle.its_plain.specs.Sound.{IsSound, IsCollection}
 use Rattle.its_plain.specs.Commands.{ensure, ◌>>=◌, event_at, lpi_at, cleared_at, followed, followed_in, intids_of, lpis_moved, reread, ran, mapd, unmapd, mapc, mapti, movi, discard, int, clear, inv, invall, movall}
 use Rattle.its_plain.specs.declared.call.Reason.{Reason}

@@ -11,7 +11,8 @@ use Rattle.its_types.specs.Maps.{Maps}
 use Rattle.its_types.specs.Ranges.{is_lpi, lpi_count, pending_bytes}
 use Rattle.its_types.specs.declared.machine.Shape.{Shape}
 use Rattle.its_types.specs.declared.translation.Bases.{Bases}
-use Rattle.its_plain.specs.Plain.{Plain, Layout, Translator, Redistributor, translator, redistributor, no_translator, no_redistributor, regs_of, maps_of, pending_of, is_on, with_translator, with_maps, with_regs, with_redistributor, with_pending}
+use Rattle.its_plain.specs.Plain.{Plain, Translator, Redistributor, translator, redistributor, no_translator, no_redistributor, regs_of, maps_of, pending_of, is_on, with_translator, with_maps, with_regs, with_redistributor, with_pending}
+use Rattle.its_plain.specs.declared.layout.Layout.{Layout}
 use Rattle.its_plain.specs.Sound.{IsSound, IsTranslator, IsRedistributor, HasTables}
 use Rattle.plain_soundness.proofs.Lists.{at_each_set, at_each_map, same_after_set, IsSet, no_set}
 use Rattle.plain_soundness.proofs.Mapped.{AreMaps, SameTables, same_tables, maps_sound, no_maps_sound, translator_made}
@@ -131,8 +132,8 @@ same_on u v w pending =
 
 tables_kept : (s : Shape) (now before : List Window) (b : Bases) → map extent now ≡ map extent before → HasTables s before b → HasTables s now b
 tables_kept s now before b same h = record {
-  config = inside-extents now before b.config.0 (lpi_count s.lpi_bits) same ∙ h.config;
-  pending = inside-extents now before b.pending.0 (pending_bytes s.lpi_bits) same ∙ h.pending;
+  config = inside-extents now before b.prop.table.0 (lpi_count s.lpi_bits) same ∙ h.config;
+  pending = inside-extents now before b.pend.table.0 (pending_bytes s.lpi_bits) same ∙ h.pending;
 }
 
 redistributor_kept : (l : Layout) (now before : List Window) (v : ℕ) (r : Redistributor) → map extent now ≡ map extent before

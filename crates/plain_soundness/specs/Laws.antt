@@ -13,7 +13,7 @@ use Rattle.its_plain.specs.History.{after}
 use Rattle.its_plain.specs.declared.call.Entry.{Entry}
 use Rattle.its_plain.specs.Saved.{moved}
 use Rattle.its_plain.specs.Machine.{made}
-use Rattle.its_plain.specs.Made.{IsDescription}
+use Rattle.its_plain.specs.Machine.{IsDescription}
 use Rattle.its_plain.specs.declared.desc.Desc.{Desc}
 use Rattle.its_plain.specs.Commands.{ran, mapd, unmapd, mapc, unmapc, mapti, movi, discard, int, clear, inv, invall, movall}
 use Rattle.its_plain.specs.declared.call.Call.{Call}
@@ -42,6 +42,12 @@ PokeKeepsSound = (u : Plain) (addr : Addr) (bytes : List ℕ) → KeepsSound u (
 
 abbrev pub RegisterWriteKeepsSound : Type 0
 RegisterWriteKeepsSound = (u : Plain) (its off size value : ℕ) → KeepsSound u (call.WriteReg its off size value)
+
+abbrev pub GicrReadKeepsSound : Type 0
+GicrReadKeepsSound = (u : Plain) (vcpu : Vcpu) (off size : ℕ) → KeepsSound u (call.ReadGicr vcpu off size)
+
+abbrev pub GicrWriteKeepsSound : Type 0
+GicrWriteKeepsSound = (u : Plain) (vcpu : Vcpu) (off size value : ℕ) → KeepsSound u (call.WriteGicr vcpu off size value)
 
 abbrev pub SignalKeepsSound : Type 0
 SignalKeepsSound = (u : Plain) (its : ℕ) (dev : DeviceId) (ev : EventId) → KeepsSound u (call.Signal its dev ev)

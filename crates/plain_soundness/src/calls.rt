@@ -31,6 +31,16 @@ pub fn register_write_keeps_soundness()
     ensures { laws.RegisterWriteKeepsSound }
 {}
 
+/// A read of an LPI register changes nothing.
+pub fn gicr_read_keeps_soundness()
+    ensures { laws.GicrReadKeepsSound }
+{}
+
+/// A write of an LPI register leaves kept bits alone, and turns LPIs on only where both tables lie in memory.
+pub fn gicr_write_keeps_soundness()
+    ensures { laws.GicrWriteKeepsSound }
+{}
+
 /// A message makes an LPI pending where LPIs are on.
 pub fn signal_keeps_soundness()
     ensures { laws.SignalKeepsSound }

@@ -1,6 +1,0 @@
-use Rattle.std.proofs.Common.{◌≡◌, ◌++◌}
-use Rattle.its_plain.specs.Regions as spec
-use Rattle.its_plain.proofs.area.add_pages.Given as goal
-
-abbrev pub invariant-loop-k : goal.invariant-loop-k
-invariant-loop-k l = l.areas.items ≡ l.initial.areas.items ++ spec.pages_below l.regs l.memory l.k

@@ -1,9 +1,0 @@
-use Rattle.std.proofs.Common.{refl}
-use Rattle.std.specs.Ordering.{nat_cmp}
-use Rattle.std.specs.Cmp.{nat_cmp_total}
-use Rattle.std.specs.FinMap.{nat_cmp-IsAntisymmetric}
-use Rattle.its_plain.proofs.Entries.{none_is}
-use Rattle.its_plain.proofs.maps.MapLists.empty_collections.Goals as goal
-
-pub returns : goal.returns
-returns c = rw (← c.self.view_is, c.clear.ensures.items, none_is nat_cmp nat_cmp_total nat_cmp-IsAntisymmetric) refl

@@ -1,5 +1,0 @@
-use Rattle.its_plain.proofs.Entries.{listed_devices}
-use Rattle.its_plain.proofs.maps.MapLists.first_unplaced.Goals as goal
-
-pub returns : goal.returns
-returns c = rw (← c.self.view_is, listed_devices c.self.inside c.self.invariant, ← c.deref.ensures.value) c.first_unplaced.ensures

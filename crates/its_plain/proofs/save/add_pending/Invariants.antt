@@ -1,6 +1,0 @@
-use Rattle.std.proofs.Common.{◌≡◌, ◌++◌, drop}
-use Rattle.its_plain.specs.Regions as spec
-use Rattle.its_plain.proofs.save.add_pending.Given as goal
-
-abbrev pub invariant-loop-vcpu : goal.invariant-loop-vcpu
-invariant-loop-vcpu l = l.areas.items ++ spec.areas_from (spec.pending_area l.shape) l.vcpu (drop l.vcpu l.redists) ≡ l.initial.areas.items ++ spec.areas_from (spec.pending_area l.shape) 0 l.redists

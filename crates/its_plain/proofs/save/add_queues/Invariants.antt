@@ -1,7 +1,0 @@
-use Rattle.std.proofs.Common.{◌≡◌, ◌++◌, drop}
-use Rattle.std.specs.List.{flat_map}
-use Rattle.its_plain.specs.Regions as spec
-use Rattle.its_plain.proofs.save.add_queues.Given as goal
-
-abbrev pub invariant-loop-translator : goal.invariant-loop-translator
-invariant-loop-translator l = l.areas.items ++ flat_map spec.queue_areas (drop l.translator-index l.translators) ≡ l.initial.areas.items ++ flat_map spec.queue_areas l.translators

@@ -1,7 +1,0 @@
-use Rattle.std.proofs.Common.{◌≡◌, drop}
-use Rattle.std.specs.List.{flat_map}
-use Rattle.its_plain.specs.Saved as spec
-use Rattle.its_plain.proofs.save.write_pending.Given as goal
-
-abbrev pub invariant-loop-redist : goal.invariant-loop-redist
-invariant-loop-redist l = spec.put_tables l.memory (flat_map (spec.pending_words l.shape) (drop l.redist-index l.redists)) ≡ spec.put_tables l.initial.memory (flat_map (spec.pending_words l.shape) l.redists)

@@ -1,6 +1,0 @@
-use Rattle.std.proofs.Common.{◌≡◌}
-use Rattle.its_plain.specs.Saved as spec
-use Rattle.its_plain.proofs.saved_tables.write_pages.Given as goal
-
-abbrev pub invariant-loop-k : goal.invariant-loop-k
-invariant-loop-k l = l.memory ≡ spec.put_tables l.initial.memory (spec.pages_words (record { regs = l.regs; maps = l.maps }) l.before l.k)

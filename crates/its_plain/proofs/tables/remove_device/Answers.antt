@@ -1,7 +1,0 @@
-use Rattle.std.proofs.Common.{rules, tests, ◌==◌}
-use Rattle.std.specs.Prelude.{not}
-use Rattle.its_plain.proofs.Rising.{filtered}
-use Rattle.its_plain.proofs.tables.remove_device.Goals as goal
-
-pub returns : goal.returns
-returns g c = filtered _ (λ e. not (e.0 == c.args.dev)) _ (λ x b q k. search (rules, tests)) _ _ c.retain.ensures.filtered

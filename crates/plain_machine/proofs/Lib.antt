@@ -1,0 +1,6 @@
+pub mod Rising
+pub mod Entries
+pub mod Pending
+pub mod Mapped
+pub mod MappedPairs
+mod SavedTables

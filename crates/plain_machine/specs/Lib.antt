@@ -1,0 +1,6 @@
+pub mod Mapped
+pub mod MappedPairs
+pub mod MapLists
+pub mod Slots
+pub mod Outcome
+pub mod Made

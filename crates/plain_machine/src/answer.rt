@@ -1,0 +1,127 @@
+//! What each call is answered.
+use crate::refusal::CommandError;
+use crate::state::State;
+use crate::{redist, translator};
+use gits_regs::Regs;
+use its_command::decode;
+use its_plain::{Bytes64, Call, Reply, StepReply};
+use its_types::Addr;
+use std::alloc::{AllocError, Global};
+
+impl State {
+    ghost use Rattle.std.specs.Prelude.{◌≡◌, ◌<◌, ◌≤◌, IfOk, length};
+    ghost use Rattle.guest_windows.specs.Windows.{write_at};
+    ghost use Rattle.its_plain.specs.Plain as plain;
+    ghost use Rattle.its_plain.specs.Answer as answers;
+
+    /// Answers a call, and gives the state that it leaves. At want of memory the state is dropped.
+    pub fn answer(mut self, alloc: Global, call: &Call) -> Result<(State, Reply), AllocError>
+        ensures reply { IfOk result (λ r. r.1 ≡ answers.reply_of self call.now) }
+        ensures left { IfOk result (λ r. r.0 ≡ answers.left self call.now r.1) }
+    {
+        let reply = self.replied(alloc, call)?;
+        Ok((self, reply))
+    }
+
+    fn poke(&mut self, addr: Addr, bytes: &[u8]) -> Reply
+        ensures reply { result ≡ answers.poke_reply (write_at self.old.memory addr.0 bytes.now) }
+        ensures left { self.new ≡ answers.poked self.old addr.0 bytes.now }
+    {
+        match self.memory.write(addr, bytes) {
+            Ok(()) => Reply::Ok,
+            Err(_) => Reply::Outside,
+        }
+    }
+
+    fn peek(&self, addr: Addr, count: u8) -> Reply
+        ensures { result ≡ answers.peek_reply (answers.peeked self.now addr.0 count) }
+    {
+        if count == 0 || count > 64 {
+            return Reply::Outside;
+        }
+        let mut buffer = [0; 64];
+        let bytes = &mut buffer[..usize::from(count)];
+        match self.memory.read(addr, bytes) {
+            Ok(()) => Reply::Bytes(Bytes64::new(bytes)),
+            Err(_) => Reply::Outside,
+        }
+    }
+
+    #[tactic(auto, unfolding(its_plain::specs::Answer::written))]
+    fn write_reg(&mut self, its: u8, off: u32, size: u8, value: u64)
+        ensures { self.new ≡ answers.written self.old its off size value }
+    {
+        translator::write(&mut self.translators, its, off, size, value);
+    }
+
+    fn advance(&mut self, its: u8)
+        ensures { self.new ≡ answers.went_on its self.old }
+    {
+        translator::advance(&mut self.translators, its);
+    }
+
+    #[tactic(auto, unfolding(its_plain::specs::Answer::step_reply, its_plain::specs::Answer::step_left))]
+    fn step(&mut self, alloc: Global, its: u8) -> Result<StepReply, AllocError>
+        ensures reply { IfOk result (λ r. r ≡ answers.step_reply self.old its) }
+        ensures left { IfOk result (λ _. self.new ≡ answers.step_left self.old its) }
+    {
+        let regs: Regs = self.regs(its);
+        if !regs.enabled() || regs.queue_is_empty() {
+            return Ok(StepReply::Idle);
+        }
+        let mut bytes = [0; 32];
+        if self.memory.read(regs.queue_place(), &mut bytes).is_err() {
+            return Ok(StepReply::QueueFault(regs.queue_place()));
+        }
+        let command = decode(&bytes);
+        let reply = match self.run(alloc, its, &command) {
+            Ok(()) => StepReply::Ran(command.op()),
+            Err(CommandError::Refused(reason)) => StepReply::Refused(command.op(), reason),
+            Err(CommandError::Memory) => return Err(AllocError),
+        };
+        self.advance(its);
+        Ok(reply)
+    }
+
+    #[tactic(auto, unfolding(its_plain::specs::Answer::reply_of, its_plain::specs::Answer::left))]
+    fn replied(&mut self, alloc: Global, call: &Call) -> Result<Reply, AllocError>
+        ensures reply { IfOk result (λ r. r ≡ answers.reply_of self.old call.now) }
+        ensures left { IfOk result (λ r. self.new ≡ answers.left self.old call.now r) }
+    {
+        match *call {
+            Call::Signal { its, dev, ev } => Ok(Reply::Signal(self.signal(its, dev, ev)?)),
+            Call::Take(vcpu) => Ok(Reply::Ack(redist::take_at(
+                &mut self.redistributors,
+                u64::from(vcpu.0),
+            ))),
+            Call::Show(vcpu) => Ok(Reply::Ack(redist::show_at(
+                &self.redistributors,
+                u64::from(vcpu.0),
+            ))),
+            Call::Poke { addr, bytes } => Ok(self.poke(addr, bytes.as_slice())),
+            Call::Peek { addr, count } => Ok(self.peek(addr, count)),
+            Call::ReadReg { its, off, size } => Ok(Reply::Value(self.regs(its).read(off, size))),
+            Call::WriteReg {
+                its,
+                off,
+                size,
+                value,
+            } => {
+                self.write_reg(its, off, size, value);
+                Ok(Reply::Ok)
+            }
+            Call::ReadGicr { vcpu, off, size } => Ok(Reply::Value(self.read_gicr(vcpu, off, size))),
+            Call::WriteGicr {
+                vcpu,
+                off,
+                size,
+                value,
+            } => {
+                self.write_gicr(alloc, vcpu, off, size, value)?;
+                Ok(Reply::Ok)
+            }
+            Call::Step { its } => Ok(Reply::Step(self.step(alloc, its)?)),
+            Call::Save => self.save(alloc),
+        }
+    }
+}

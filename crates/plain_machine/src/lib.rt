@@ -1,0 +1,28 @@
+//! The plain machine as a program: slow, and close to the definitions of each call. Tests and the player of events stand
+//! on it.
+#![tactic(auto)]
+
+mod answer;
+mod areas;
+mod commands;
+mod copies;
+mod footprints;
+mod gicr;
+mod make;
+mod mapped_entries;
+mod mapped_pairs;
+mod maps;
+mod parts;
+mod redist;
+mod refusal;
+mod save;
+mod saved_lists;
+mod saved_tables;
+mod saved_words;
+mod state;
+mod tables;
+mod translator;
+
+pub use redist::RedistLists;
+pub use state::State;
+pub use translator::TranslatorLists;

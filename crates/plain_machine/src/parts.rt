@@ -1,0 +1,73 @@
+//! A state taken apart and put together again.
+use crate::redist::RedistLists;
+use crate::state::State;
+use crate::translator::TranslatorLists;
+use guest_windows::Memory;
+use its_types::{Shape, Target};
+use std::alloc::AllocError;
+
+impl State {
+    ghost use Rattle.std.specs.Prelude.{◌≡◌, OnOk};
+    ghost use Rattle.its_plain.specs.Plain as plain;
+    ghost use Rattle.its_plain.specs.Answer as answers;
+    ghost use Rattle.its_plain.specs.declared.call.Signal.TheVariants.{Delivered};
+
+    /// How large the machine is.
+    pub fn shape(&self) -> Shape
+        ensures { result ≡ self.now.layout.shape }
+    {
+        self.layout.shape
+    }
+
+    pub fn translators(&self) -> &[TranslatorLists]
+        ensures { result.now ≡ self.now.translators }
+    {
+        &self.translators
+    }
+
+    /// The redistributor of each virtual processor.
+    pub fn redistributors(&self) -> &[RedistLists]
+        ensures { result.now ≡ self.now.redistributors }
+    {
+        &self.redistributors
+    }
+
+    /// Guest memory.
+    pub fn memory(&self) -> &Memory
+        ensures { result.now ≡ self.now.memory }
+    {
+        &self.memory
+    }
+
+    /// Puts another translator in a place. Where there is no such place nothing changes.
+    pub fn set_translator(&mut self, its: usize, translator: TranslatorLists)
+        ensures { self.new ≡ plain.with_translator self.old its translator }
+    {
+        if its < self.translators.len() {
+            self.translators[its] = translator;
+        }
+    }
+
+    /// Puts another redistributor at a virtual processor. Where there is no such processor nothing changes.
+    pub fn set_redistributor(&mut self, vcpu: usize, redistributor: RedistLists)
+        ensures { self.new ≡ plain.with_redistributor self.old vcpu redistributor }
+    {
+        if vcpu < self.redistributors.len() {
+            self.redistributors[vcpu] = redistributor;
+        }
+    }
+
+    /// Puts other guest memory in.
+    pub fn set_memory(&mut self, memory: Memory)
+        ensures { self.new ≡ record self.old { memory = memory } }
+    {
+        self.memory = memory;
+    }
+
+    /// Makes the interrupt pending at its target, as a delivered message does. At want of memory the state isn't told.
+    pub fn deliver(&mut self, target: Target) -> Result<(), AllocError>
+        ensures { OnOk result (self.new ≡ answers.signal_left self.old (Delivered target.vcpu target.intid)) }
+    {
+        self.set_lpi(u64::from(target.vcpu.0), target.intid)
+    }
+}

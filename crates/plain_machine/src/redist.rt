@@ -1,0 +1,408 @@
+//! What a redistributor knows of LPIs, as plain lists.
+ghost use Rattle.std.specs.Prelude.{◌≡◌, ◌<◌, ◌≤◌, ◌^◌, ◌==◌, ◌++◌, OnOk, OnErr, [], slice_set, map};
+ghost use Rattle.its_types.specs.Lpis as lpis;
+ghost use Rattle.gicr_regs.specs.Redistributors as tables;
+ghost use Rattle.its_plain.specs.Answer as plain;
+ghost use Rattle.its_plain.specs.Regions as regions;
+ghost use Rattle.its_plain.specs.Saved as saved;
+ghost use Rattle.its_plain.specs.Commands as commands;
+ghost use Rattle.plain_machine.specs.Slots.{redistributor_in, pending_set};
+
+use crate::saved_tables;
+use guest_windows::Memory;
+use its_plain::{Ack, Area, Region};
+use its_types::{Addr, Bases, Intid, Shape, Vcpu};
+use std::alloc::{AllocError, Global};
+use std::marker::Model;
+
+/// A pending set as a rising list, and a copy of the configuration.
+#[derive(Drop)]
+pub struct RedistLists {
+    pub(crate) bases: Bases,
+    pub(crate) pending: Vec<u32>,
+    pub(crate) config: Vec<u8>,
+}
+
+impl Model for RedistLists {
+    ghost use Rattle.std.specs.Prelude.{◌<◌, ◌^◌};
+    ghost use Rattle.its_plain.specs.Plain.{Redistributor, redistributor_code};
+
+    ghost Value = { Redistributor };
+
+    ghost coded = { redistributor_code };
+
+    ghost view = { λ r. record { bases = r.bases; pending = r.pending.items; config = r.config.items } };
+
+    ghost invariant = { λ r. (r.bases.prop.table.0 < 2 ^ 52) × (r.bases.pend.table.0 < 2 ^ 52) };
+}
+
+impl RedistLists {
+    /// Nothing is pending.
+    pub fn new(alloc: Global, bases: Bases, config: Vec<u8>) -> RedistLists
+        requires config { bases.prop.table.0 < 2 ^ 52 }
+        requires pending { bases.pend.table.0 < 2 ^ 52 }
+        ensures { result ≡ record { bases = bases; pending = []; config = config.items } }
+    {
+        RedistLists {
+            bases,
+            pending: Vec::new(alloc),
+            config,
+        }
+    }
+
+    pub fn is_on(&self) -> bool
+        ensures { result ≡ self.now.bases.on }
+    {
+        self.bases.on
+    }
+
+    pub fn pending(&self) -> &[u32]
+        ensures { result.now ≡ self.now.pending }
+    {
+        &self.pending
+    }
+
+    pub fn is_pending(&self, intid: u32) -> bool
+        ensures { result ≡ lpis.is_pending intid self.now.pending }
+    {
+        self.pending.iter().any(|x| *x == intid)
+    }
+
+    pub fn set(&mut self, intid: u32) -> Result<(), AllocError>
+        ensures { OnOk result (self.new ≡ record self.old { pending = lpis.with_lpi intid self.old.pending }) }
+    {
+        add_rising(&mut self.pending, intid)?;
+        Ok(())
+    }
+
+    pub fn clear(&mut self, intid: u32)
+        ensures { self.new ≡ record self.old { pending = lpis.without_lpi intid self.old.pending } }
+    {
+        remove_number(&mut self.pending, intid);
+    }
+
+    /// A byte of the pending table.
+    pub(crate) fn pending_byte(&self, n: u32) -> u8
+        requires { n < 2 ^ 29 }
+        ensures { result ≡ lpis.pending_byte n self.now.pending }
+    {
+        let first = 8 * n;
+        self.pending_bit(first)
+            + 2 * self.pending_bit(first + 1)
+            + 4 * self.pending_bit(first + 2)
+            + 8 * self.pending_bit(first + 3)
+            + 16 * self.pending_bit(first + 4)
+            + 32 * self.pending_bit(first + 5)
+            + 64 * self.pending_bit(first + 6)
+            + 128 * self.pending_bit(first + 7)
+    }
+
+    fn pending_bit(&self, intid: u32) -> u8
+        ensures bit { result ≡ lpis.pending_bit intid self.now.pending }
+        ensures most { result ≤ 1 }
+    {
+        u8::from(self.is_pending(intid))
+    }
+
+    /// Where the configuration table stands.
+    pub(crate) fn config_base(&self) -> u64
+        ensures { result ≡ self.now.bases.prop.table.0 }
+    {
+        self.bases.prop.table.0
+    }
+
+    /// Adds the area of the pending table, where LPIs are on.
+    pub(crate) fn add_pending_area(
+        &self,
+        areas: &mut Vec<Area>,
+        shape: &Shape,
+        vcpu: Vcpu,
+    ) -> Result<(), AllocError>
+        requires least { 14 ≤ shape.now.lpi_bits }
+        requires most { shape.now.lpi_bits ≤ 20 }
+        ensures { OnOk result (areas.new.items ≡ areas.old.items ++ regions.pending_area shape.now vcpu.0 self.now) }
+    {
+        if self.bases.on {
+            areas.push(Area {
+                region: Region::Pending(vcpu),
+                base: self.bases.pend.table.0 + 1024,
+                size: shape.pending_bytes() - 1024,
+                is_written: true,
+            })?;
+        }
+        Ok(())
+    }
+
+    /// Adds the area of the configuration table, where LPIs are on.
+    pub(crate) fn add_config_area(
+        &self,
+        areas: &mut Vec<Area>,
+        shape: &Shape,
+        vcpu: Vcpu,
+    ) -> Result<(), AllocError>
+        requires least { 14 ≤ shape.now.lpi_bits }
+        requires most { shape.now.lpi_bits ≤ 20 }
+        ensures { OnOk result (areas.new.items ≡ areas.old.items ++ regions.config_area shape.now vcpu.0 self.now) }
+    {
+        if self.bases.on {
+            areas.push(Area {
+                region: Region::ConfigOf(vcpu),
+                base: self.bases.prop.table.0,
+                size: shape.lpi_count(),
+                is_written: false,
+            })?;
+        }
+        Ok(())
+    }
+
+    /// Writes the pending table, where LPIs are on.
+    pub(crate) fn write_pending(&self, memory: &mut Memory, shape: &Shape)
+        requires least { 14 ≤ shape.now.lpi_bits }
+        requires most { shape.now.lpi_bits ≤ 20 }
+        ensures { memory.new ≡ saved.put_tables memory.old (saved.pending_words shape.now self.now) }
+    {
+        if self.bases.on {
+            saved_tables::write_pending(memory, self.bases.pend.table, shape.pending_bytes(), self);
+        }
+    }
+
+    /// Hands the pending set out, so that nothing is pending.
+    pub(crate) fn take_all(&mut self, alloc: Global) -> Vec<u32>
+        ensures taken { result.items ≡ self.old.pending }
+        ensures none { self.new ≡ record self.old { pending = [] } }
+    {
+        std::mem::replace(&mut self.pending, Vec::new(alloc))
+    }
+
+    /// Makes all of some LPIs pending.
+    pub(crate) fn set_all(&mut self, intids: Vec<u32>) -> Result<(), AllocError>
+        ensures { OnOk result (self.new ≡ record self.old { pending = lpis.with_lpis intids.items self.old.pending }) }
+    {
+        add_all_rising(&mut self.pending, intids)?;
+        Ok(())
+    }
+
+    /// The LPI that would be acknowledged.
+    pub(crate) fn lowest(&self) -> Option<u32>
+        ensures { result ≡ plain.lowest self.now }
+    {
+        first_enabled(&self.config, &self.pending)
+    }
+
+    pub fn show(&self) -> Ack
+        ensures { result ≡ plain.ack_of self.now (plain.lowest self.now) }
+    {
+        match self.lowest() {
+            Some(intid) => Ack::Some {
+                intid: Intid(intid),
+                priority: config_byte(&self.config, intid) & 0xfc,
+            },
+            None => Ack::None,
+        }
+    }
+
+    pub fn take(&mut self) -> Ack
+        ensures ack { result ≡ plain.ack_of self.old (plain.lowest self.old) }
+        ensures taken { self.new ≡ plain.taken self.old (plain.lowest self.old) }
+    {
+        let ack = self.show();
+        if let Ack::Some { intid, .. } = ack {
+            self.clear(intid.0);
+        }
+        ack
+    }
+
+    /// Reads an LPI's configuration byte again, if LPIs are on.
+    #[tactic(auto, unfolding(gicr_regs::specs::Redistributors::reread_at))]
+    pub(crate) fn reread(&mut self, memory: &Memory, intid: u32)
+        ensures { self.new ≡ commands.reread_at memory.now intid self.old }
+    {
+        if !self.bases.on {
+            return;
+        }
+        let place = intid.saturating_sub(8192);
+        if let Ok(byte) = memory.read_u8(Addr(self.bases.prop.table.0 + u64::from(place))) {
+            set_byte(&mut self.config, place as usize, byte);
+        }
+    }
+
+    /// Reads the whole configuration table, where it lies in memory.
+    pub(crate) fn read_config(
+        &mut self,
+        alloc: Global,
+        memory: &Memory,
+        shape: &Shape,
+    ) -> Result<(), AllocError>
+        requires least { 14 ≤ shape.now.lpi_bits }
+        requires most { shape.now.lpi_bits ≤ 20 }
+        ensures { OnOk result (self.new ≡ record self.old { config = tables.config_in shape.now memory.now self.old }) }
+    {
+        let mut bytes = vec![in alloc; 0; shape.lpi_count() as usize]?;
+        if memory.read(self.bases.prop.table, &mut bytes).is_ok() {
+            self.config = bytes;
+        }
+        Ok(())
+    }
+
+    pub(crate) fn reread_all(&mut self, memory: &Memory, intids: &[u32])
+        ensures { self.new ≡ commands.all_reread_at memory.now intids.now self.old }
+    {
+        for intid in intids {
+            self.reread(memory, *intid);
+        }
+    }
+}
+
+// ---- one of several redistributors, where it is there
+
+pub fn set_at(all: &mut [RedistLists], vcpu: u64, intid: u32) -> Result<(), AllocError>
+    ensures { OnOk result (all.new ≡ pending_set all.old vcpu (lpis.with_lpi intid (redistributor_in all.old vcpu).pending)) }
+{
+    let at = vcpu as usize;
+    if at < all.len() {
+        all[at].set(intid)?;
+    }
+    Ok(())
+}
+
+pub fn clear_at(all: &mut [RedistLists], vcpu: u64, intid: u32)
+    ensures { all.new ≡ pending_set all.old vcpu (lpis.without_lpi intid (redistributor_in all.old vcpu).pending) }
+{
+    let at = vcpu as usize;
+    if at < all.len() {
+        all[at].clear(intid);
+    }
+}
+
+pub fn take_all_at(alloc: Global, all: &mut [RedistLists], vcpu: u64) -> Vec<u32>
+    ensures taken { result.items ≡ (redistributor_in all.old vcpu).pending }
+    ensures none { all.new ≡ pending_set all.old vcpu [] }
+{
+    let at = vcpu as usize;
+    if at < all.len() {
+        all[at].take_all(alloc)
+    } else {
+        Vec::new(alloc)
+    }
+}
+
+pub fn set_all_at(all: &mut [RedistLists], vcpu: u64, intids: Vec<u32>) -> Result<(), AllocError>
+    ensures { OnOk result (all.new ≡ pending_set all.old vcpu (lpis.with_lpis intids.items (redistributor_in all.old vcpu).pending)) }
+{
+    let at = vcpu as usize;
+    if at < all.len() {
+        all[at].set_all(intids)?;
+    }
+    Ok(())
+}
+
+pub fn take_at(all: &mut [RedistLists], vcpu: u64) -> Ack
+    ensures ack { result ≡ plain.ack_of (redistributor_in all.old vcpu) (plain.lowest (redistributor_in all.old vcpu)) }
+    ensures taken { all.new ≡ slice_set all.old vcpu (plain.taken (redistributor_in all.old vcpu) (plain.lowest (redistributor_in all.old vcpu))) }
+{
+    let at = vcpu as usize;
+    if at < all.len() {
+        all[at].take()
+    } else {
+        Ack::None
+    }
+}
+
+pub fn show_at(all: &[RedistLists], vcpu: u64) -> Ack
+    ensures { result ≡ plain.ack_of (redistributor_in all.now vcpu) (plain.lowest (redistributor_in all.now vcpu)) }
+{
+    match all.get(vcpu as usize) {
+        Some(redist) => redist.show(),
+        None => Ack::None,
+    }
+}
+
+pub fn is_on_at(all: &[RedistLists], vcpu: u64) -> bool
+    ensures { result ≡ (redistributor_in all.now vcpu).bases.on }
+{
+    match all.get(vcpu as usize) {
+        Some(redist) => redist.is_on(),
+        None => false,
+    }
+}
+
+pub fn is_pending_at(all: &[RedistLists], vcpu: u64, intid: u32) -> bool
+    ensures { result ≡ lpis.is_pending intid (redistributor_in all.now vcpu).pending }
+{
+    match all.get(vcpu as usize) {
+        Some(redist) => redist.is_pending(intid),
+        None => false,
+    }
+}
+
+/// Every redistributor reads the configuration bytes of these LPIs again.
+pub fn reread_each(all: &mut [RedistLists], memory: &Memory, intids: &[u32])
+    ensures { all.new ≡ map (commands.all_reread_at memory.now intids.now) all.old }
+{
+    for redist in all.iter_mut() {
+        redist.reread_all(memory, intids);
+    }
+}
+
+// ---- lists
+
+// Adds a number to a rising list.
+fn add_rising(list: &mut Vec<u32>, number: u32) -> Result<(), AllocError>
+    ensures ok { OnOk result (list.new.items ≡ lpis.with_lpi number list.old.items) }
+    ensures err { OnErr result (list.new.items ≡ list.old.items) }
+{
+    for at in 0..list.len() {
+        if list[at] == number {
+            return Ok(());
+        }
+        if list[at] > number {
+            list.insert(at, number)?;
+            return Ok(());
+        }
+    }
+    list.push(number)?;
+    Ok(())
+}
+
+#[tactic(auto, using(crate::proofs::Pending::with_lpis_push))]
+fn add_all_rising(list: &mut Vec<u32>, mut numbers: Vec<u32>) -> Result<(), AllocError>
+    ensures { OnOk result (list.new.items ≡ lpis.with_lpis numbers.items list.old.items) }
+{
+    while let Some(number) = numbers.pop() {
+        add_rising(list, number)?;
+    }
+    Ok(())
+}
+
+fn remove_number(list: &mut Vec<u32>, number: u32)
+    ensures { list.new.items ≡ lpis.without_lpi number list.old.items }
+{
+    list.retain(|x| *x != number);
+}
+
+// Writes a byte, where it is there.
+fn set_byte(bytes: &mut [u8], at: usize, byte: u8)
+    ensures { bytes.new ≡ slice_set bytes.old at byte }
+{
+    if at < bytes.len() {
+        bytes[at] = byte;
+    }
+}
+
+fn config_byte(config: &[u8], intid: u32) -> u8
+    ensures { result ≡ lpis.config_byte config.now intid }
+{
+    config
+        .get(intid.saturating_sub(8192) as usize)
+        .copied()
+        .unwrap_or(0)
+}
+
+fn first_enabled(config: &[u8], pending: &[u32]) -> Option<u32>
+    ensures { result ≡ lpis.first_enabled config.now pending.now }
+{
+    pending
+        .iter()
+        .copied()
+        .find(|intid| config_byte(config, *intid) % 2 == 1)
+}

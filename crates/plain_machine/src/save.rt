@@ -1,0 +1,171 @@
+//! Whether the plain machine can be saved, and the save.
+ghost use Rattle.std.specs.Prelude.{◌≡◌, ◌≤◌, ◌+◌, ◌<◌, ◌^◌, ◌++◌, OnOk, IfOk, length};
+ghost use Rattle.std.specs.List.{flat_map};
+ghost use Rattle.its_plain.specs.Answer as answers;
+ghost use Rattle.plain_machine.specs.Outcome.{IsTested};
+ghost use Rattle.its_plain.specs.Regions as regions;
+ghost use Rattle.its_plain.specs.Saved as saved;
+
+use crate::areas;
+use crate::redist::RedistLists;
+use crate::state::State;
+use crate::translator::TranslatorLists;
+use guest_windows::Memory;
+use its_plain::{Area, Region, Reply, SaveError, SaveFault};
+use its_types::{Shape, Vcpu};
+use std::alloc::{AllocError, Global};
+
+impl State {
+    /// Writes every table to memory, or tells the first thing in the way.
+    pub(crate) fn save(&mut self, alloc: Global) -> Result<Reply, AllocError>
+        ensures reply { IfOk result (λ r. r ≡ answers.save_reply (regions.savable self.old)) }
+        ensures left { IfOk result (λ _. self.new ≡ answers.save_left self.old (regions.savable self.old)) }
+    {
+        match self.savable(alloc) {
+            Ok(()) => {}
+            Err(SaveError::Fault(fault)) => return Ok(Reply::SaveFault(fault)),
+            Err(SaveError::NoMemory) => return Err(AllocError),
+        }
+        let Ok(before) = self.memory.copy(alloc) else {
+            return Err(AllocError);
+        };
+        self.write_tables(&before);
+        Ok(Reply::Saved)
+    }
+
+    // Whether every table can be written, or the first thing in the way.
+    #[tactic(auto, unfolding(its_plain::specs::Regions::savable, its_plain::specs::Regions::areas_of))]
+    fn savable(&self, alloc: Global) -> Result<(), SaveError>
+        ensures { IsTested result (regions.savable self.now) }
+    {
+        let mut areas = Vec::new(alloc);
+        add_tables(&mut areas, &self.translators, &self.memory)?;
+        if let Some(outside) = areas::first_outside(&areas, &self.memory) {
+            return Err(SaveError::Fault(SaveFault::Outside(outside.region)));
+        }
+        all_placed(&self.translators, &self.memory)?;
+        add_pending(&mut areas, &self.layout.shape, &self.redistributors)?;
+        self.add_configurations(&mut areas)?;
+        add_queues(&mut areas, &self.translators)?;
+        areas::none_overlap(&areas)?;
+        Ok(())
+    }
+
+    fn add_configurations(&self, areas: &mut Vec<Area>) -> Result<(), AllocError>
+        ensures { OnOk result (areas.new.items ≡ areas.old.items ++ regions.config_areas self.now) }
+    {
+        if self.layout.gicr {
+            return add_configurations(areas, &self.layout.shape, &self.redistributors);
+        }
+        let base = match self.redistributors.first() {
+            Some(redist) => redist.config_base(),
+            None => 0,
+        };
+        areas.push(Area {
+            region: Region::Config,
+            base,
+            size: self.layout.shape.lpi_count(),
+            is_written: false,
+        })?;
+        Ok(())
+    }
+
+    // `before` is memory as it is.
+    #[tactic(auto, using(crate::proofs::SavedTables::put_more), unfolding(its_plain::specs::Saved::words_of))]
+    fn write_tables(&mut self, before: &Memory)
+        requires { before.now ≡ self.old.memory }
+        ensures { self.new ≡ record self.old { memory = saved.saved self.old } }
+    {
+        write_translators(&mut self.memory, before, &self.translators);
+        write_pending(&mut self.memory, &self.layout.shape, &self.redistributors);
+    }
+}
+
+// The areas of the tables of translators.
+fn add_tables(
+    areas: &mut Vec<Area>,
+    translators: &[TranslatorLists],
+    memory: &Memory,
+) -> Result<(), AllocError>
+    ensures { OnOk result (areas.new.items ≡ areas.old.items ++ flat_map (regions.table_areas memory.now) translators.now) }
+{
+    for translator in translators {
+        translator.add_tables(areas, memory)?;
+    }
+    Ok(())
+}
+
+fn add_queues(areas: &mut Vec<Area>, translators: &[TranslatorLists]) -> Result<(), AllocError>
+    ensures { OnOk result (areas.new.items ≡ areas.old.items ++ flat_map regions.queue_areas translators.now) }
+{
+    for translator in translators {
+        areas::add_queue(areas, translator.regs())?;
+    }
+    Ok(())
+}
+
+// Each mapped device has its level-1 entry, or the first that has none.
+fn all_placed(translators: &[TranslatorLists], memory: &Memory) -> Result<(), SaveFault>
+    ensures { result ≡ regions.all_placed memory.now translators.now }
+{
+    for translator in translators {
+        if let Some(dev) = translator.first_unplaced(memory) {
+            return Err(SaveFault::NoPlace(dev));
+        }
+    }
+    Ok(())
+}
+
+fn add_pending(
+    areas: &mut Vec<Area>,
+    shape: &Shape,
+    redists: &[RedistLists],
+) -> Result<(), AllocError>
+    requires least { 14 ≤ shape.now.lpi_bits }
+    requires most { shape.now.lpi_bits ≤ 20 }
+    requires few { length redists.now ≤ 16 }
+    ensures { OnOk result (areas.new.items ≡ areas.old.items ++ regions.areas_from (regions.pending_area shape.now) 0 redists.now) }
+{
+    for (vcpu, redist) in redists.iter().enumerate() {
+        redist.add_pending_area(areas, shape, Vcpu(vcpu as u8))?;
+    }
+    Ok(())
+}
+
+fn add_configurations(
+    areas: &mut Vec<Area>,
+    shape: &Shape,
+    redists: &[RedistLists],
+) -> Result<(), AllocError>
+    requires least { 14 ≤ shape.now.lpi_bits }
+    requires most { shape.now.lpi_bits ≤ 20 }
+    requires few { length redists.now ≤ 16 }
+    ensures { OnOk result (areas.new.items ≡ areas.old.items ++ regions.areas_from (regions.config_area shape.now) 0 redists.now) }
+{
+    for (vcpu, redist) in redists.iter().enumerate() {
+        redist.add_config_area(areas, shape, Vcpu(vcpu as u8))?;
+    }
+    Ok(())
+}
+
+// ---- what is written
+
+#[tactic(auto, using(crate::proofs::SavedTables::put_front))]
+fn write_translators(memory: &mut Memory, before: &Memory, translators: &[TranslatorLists])
+    ensures { memory.new ≡ saved.put_tables memory.old (flat_map (saved.translator_words before.now) translators.now) }
+{
+    for translator in translators {
+        translator.write_tables(memory, before);
+    }
+}
+
+#[tactic(auto, using(crate::proofs::SavedTables::put_more))]
+fn write_pending(memory: &mut Memory, shape: &Shape, redists: &[RedistLists])
+    requires least { 14 ≤ shape.now.lpi_bits }
+    requires most { shape.now.lpi_bits ≤ 20 }
+    ensures { memory.new ≡ saved.put_tables memory.old (flat_map (saved.pending_words shape.now) redists.now) }
+{
+    for redist in redists {
+        redist.write_pending(memory, shape);
+    }
+}
