@@ -28,7 +28,7 @@ use Rattle.saved_state.proofs.Written.{Spares, CanStand, AreApart, spares_part, 
 no_config : (s : Shape) (v : ℕ) (rs : List Redistributor) → written_spans (areas_from (config_area s) v rs) ≡ []
 no_config s v [] = refl
 no_config s v (r ∷ rs) = written_append (config_area s v r) (areas_from (config_area s) (suc v) rs) ∙ (elim r.bases.on as (λ on.
-    written_spans (cond on (record { region = ConfigOf (record { 0 = v }); base = r.bases.config.0; size = lpi_count s.lpi_bits; is_written = false } ∷ []) []) ++ written_spans (areas_from (config_area s) (suc v) rs) ≡ []) [
+    written_spans (cond on (record { region = ConfigOf (record { 0 = v }); base = r.bases.prop.table.0; size = lpi_count s.lpi_bits; is_written = false } ∷ []) []) ++ written_spans (areas_from (config_area s) (suc v) rs) ≡ []) [
       | true ↦ no_config s (suc v) rs
       | false ↦ no_config s (suc v) rs
     ])
@@ -36,7 +36,7 @@ no_config s v (r ∷ rs) = written_append (config_area s v r) (areas_from (confi
 no_configs : (u : Plain) → written_spans (config_areas u) ≡ []
 no_configs u =
     elim u.layout.gicr as (λ b. written_spans (cond b (areas_from (config_area u.layout.shape) 0 u.redistributors)
-    (record { region = Config; base = (redistributor u 0).bases.config.0; size = lpi_count u.layout.shape.lpi_bits; is_written = false } ∷ [])) ≡ []) [
+    (record { region = Config; base = (redistributor u 0).bases.prop.table.0; size = lpi_count u.layout.shape.lpi_bits; is_written = false } ∷ [])) ≡ []) [
       | true ↦ no_config u.layout.shape 0 u.redistributors
       | false ↦ refl
     ]
@@ -98,8 +98,8 @@ pending_inside : (memory : List Window) (s : Shape) (v : ℕ) (rs : List Redistr
 pending_inside memory s v [] least h = tt
 pending_inside memory s v (r ∷ rs) least h =
     all_both (λ a. inside memory a.base a.size ≡ true) (pending_area s v r) (areas_from (pending_area s) (suc v) rs)
-    (elim r.bases.on as (λ on. r.bases.on ≡ on → AllInside memory (cond on (record { region = Pending (record { 0 = v }); base = r.bases.pending.0 + 1024; size = pending_bytes s.lpi_bits - 1024; is_written = true } ∷ []) [])) [
-      | true ↦ λ e. (pending_part memory s.lpi_bits r.bases.pending.0 least (h 0 r refl e).pending, tt)
+    (elim r.bases.on as (λ on. r.bases.on ≡ on → AllInside memory (cond on (record { region = Pending (record { 0 = v }); base = r.bases.pend.table.0 + 1024; size = pending_bytes s.lpi_bits - 1024; is_written = true } ∷ []) [])) [
+      | true ↦ λ e. (pending_part memory s.lpi_bits r.bases.pend.table.0 least (h 0 r refl e).pending, tt)
       | false ↦ λ e. tt
     ] refl)
     (pending_inside memory s (suc v) rs least (λ k x at. h (suc k) x at))

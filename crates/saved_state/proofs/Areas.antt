@@ -135,9 +135,9 @@ whole_words bits least =
 redistributor_alike : (s : Shape) (v : ℕ) (r : Redistributor) → 14 ≤ s.lpi_bits → written_spans (pending_area s v r) ≡ stretches (pending_words s r)
 redistributor_alike s v r least =
     elim r.bases.on as (λ on.
-    written_spans (cond on (record { region = Pending (record { 0 = v }); base = r.bases.pending.0 + 1024; size = pending_bytes s.lpi_bits - 1024; is_written = true } ∷ []) [])
-    ≡ stretches (cond on (record { base = r.bases.pending.0 + 1024; count = (pending_bytes s.lpi_bits - 1024) / 8; word = λ i. pending_word r.pending (1024 + 8 * i) } ∷ []) [])) [
-      | true ↦ ap (λ (n : ℕ). (r.bases.pending.0 + 1024, n) ∷ []) (whole_words s.lpi_bits least)
+    written_spans (cond on (record { region = Pending (record { 0 = v }); base = r.bases.pend.table.0 + 1024; size = pending_bytes s.lpi_bits - 1024; is_written = true } ∷ []) [])
+    ≡ stretches (cond on (record { base = r.bases.pend.table.0 + 1024; count = (pending_bytes s.lpi_bits - 1024) / 8; word = λ i. pending_word r.pending (1024 + 8 * i) } ∷ []) [])) [
+      | true ↦ ap (λ (n : ℕ). (r.bases.pend.table.0 + 1024, n) ∷ []) (whole_words s.lpi_bits least)
       | false ↦ refl
     ]
 

@@ -5,8 +5,8 @@ use Rattle.std.specs.FinMap as finmap
 use Rattle.std.proofs.lemmas.Bool.{ltb-true, ltb-false, cases_eq, cases_lt}
 use Rattle.std.proofs.lemmas.Option.{same_Some}
 use Rattle.its_plain.specs.Walks.{Reached}
-use Rattle.table_save.specs.Pass.{RisesFrom, key_after}
-use Rattle.table_save.proofs.Rises.{find_skips, find_here, rises_none}
+use Rattle.standing_states.specs.Rises.{RisesFrom, key_after}
+use Rattle.standing_states.proofs.Rises.{find_skips, find_here, rises_none}
 
 -- where each good place before q leads to one that is no further than q
 module _ {P : Type 0} (next : P → Option P) (rank : P → ℕ) (Good : P → Type 0) (q : P) (same : (p : P) → Good p → rank p ≡ rank q → p ≡ q)

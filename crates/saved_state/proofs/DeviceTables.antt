@@ -20,7 +20,7 @@ use Rattle.its_plain.specs.declared.fault.Region.TheVariants.{Devices, Level1}
 use Rattle.its_plain.specs.Regions.{device_pages, pages_below, device_areas, collection_areas, itt_areas, table_areas, tables_of, areas_of, areas_from, pending_area, config_areas, queue_areas, has_no_place}
 use Rattle.its_plain.specs.Saved.{Words, saved, device_word, device_after, page_words, pages_words, device_words, collection_words, itt_words, translator_words, IsSavable}
 use Rattle.its_plain.specs.DeviceTables.{flat_size, page_places, HasDevice, AreDevicesClear}
-use Rattle.table_save.proofs.Rises.{sorted_rises}
+use Rattle.standing_states.proofs.Rises.{sorted_rises}
 use Rattle.saved_state.specs.Laws.{DevicesStand}
 use Rattle.saved_state.proofs.Areas.{all_left, all_right}
 use Rattle.saved_state.proofs.Tests.{tested, AllPlaced, at_place}

@@ -8,7 +8,7 @@ use Rattle.std.specs.FinMap.Entries.{below_all}
 use lib.Dec.{T}
 use Rattle.std.proofs.lemmas.Bool.{eqb-true, eq-eqb, ne_eqb}
 use Rattle.std.proofs.lemmas.Option.{same_Some}
-use Rattle.its_maps.proofs.Rising.{first, second, below}
+use Rattle.its_types.proofs.Rising.{first, second, below}
 
 module _ {V : Type 0} where
   pub above : (x : ℕ) (es : List (ℕ × V)) → T (below_all nat_cmp x es) → (i : ℕ) (c : ℕ × V) → slice_get es i ≡ Some c → x < c.0

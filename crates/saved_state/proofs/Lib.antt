@@ -17,3 +17,4 @@ pub mod DeviceTables
 pub mod Whole
 pub mod Values
 pub mod Restored
+pub mod Equal

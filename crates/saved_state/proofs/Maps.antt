@@ -18,8 +18,8 @@ use Rattle.its_plain.specs.Sound.{IsSound, IsTranslator}
 use Rattle.its_plain.specs.Regions.{collection_pages}
 use Rattle.its_plain.specs.CollectionTables.{collection_address, HasCollection, AreCollectionsClear}
 use Rattle.its_plain.specs.Saved.{saved, translator_words, device_words, collection_words, itt_words, collection_word, event_word, event_after, IsSavable}
-use Rattle.its_maps.specs.MapsRoom.{events_at}
-use Rattle.table_save.proofs.EventsOf.{events_rise, find_of_device, after_of_device}
+use Rattle.its_types.specs.Maps.{events_at}
+use Rattle.standing_states.proofs.EventsOf.{events_rise, find_of_device, after_of_device}
 use Rattle.saved_state.specs.Laws.{CollectionsStand, EventsStand}
 use Rattle.saved_state.proofs.Chains.{IsChain, chain_of}
 use Rattle.saved_state.proofs.Events.{Fits, itt_clear, events_are}

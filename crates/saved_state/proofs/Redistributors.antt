@@ -84,23 +84,23 @@ module _ (u : Plain) (v : ℕ) (r : Redistributor) (sound : IsSound u) (savable 
   fits : IsRedistributor u.layout u.memory v r
   fits = sound.redistributors v r at
 
-  pending_at : r.bases.on ≡ true → (i : ℕ) → i < (pending_bytes u.layout.shape.lpi_bits - 1024) / 8 → read_at (saved u) (entry_address (r.bases.pending.0 + 1024) i) 8 ≡ Some (little_bytes 8 (pending_word r.pending (1024 + 8 * i)))
+  pending_at : r.bases.on ≡ true → (i : ℕ) → i < (pending_bytes u.layout.shape.lpi_bits - 1024) / 8 → read_at (saved u) (entry_address (r.bases.pend.table.0 + 1024) i) 8 ≡ Some (little_bytes 8 (pending_word r.pending (1024 + 8 * i)))
   pending_at on =
-      let all = subst (λ (b : Bool). AllByRecursion (HasBytes (saved u)) (cond b (record { base = r.bases.pending.0 + 1024; count = (pending_bytes u.layout.shape.lpi_bits - 1024) / 8; word = λ i. pending_word r.pending (1024 + 8 * i) } ∷ []) [])) on (pending_found u v r sound savable at) in
+      let all = subst (λ (b : Bool). AllByRecursion (HasBytes (saved u)) (cond b (record { base = r.bases.pend.table.0 + 1024; count = (pending_bytes u.layout.shape.lpi_bits - 1024) / 8; word = λ i. pending_word r.pending (1024 + 8 * i) } ∷ []) [])) on (pending_found u v r sound savable at) in
       all.0
 
-  pending_is : r.bases.on ≡ true → ArePendingIn u.layout.shape.lpi_bits (saved u) r.bases.pending.0 r.pending
+  pending_is : r.bases.on ≡ true → ArePendingIn u.layout.shape.lpi_bits (saved u) r.bases.pend.table.0 r.pending
   pending_is on = record {
     rising = fits.rising;
-    are = are_there (saved u) r.bases.pending.0 u.layout.shape.lpi_bits r.pending sound.layout.shape.least_lpi_bits (saved_apart u sound) (pending_at on) fits.lpis;
+    are = are_there (saved u) r.bases.pend.table.0 u.layout.shape.lpi_bits r.pending sound.layout.shape.least_lpi_bits (saved_apart u sound) (pending_at on) fits.lpis;
   }
 
-  when_on : r.bases.on ≡ true → IsRedistributorIn u.layout.shape (saved u) r.bases (record r { config = unwrap_or (read_at (saved u) r.bases.config.0 (lpi_count u.layout.shape.lpi_bits)) r.config })
+  when_on : r.bases.on ≡ true → IsRedistributorIn u.layout.shape (saved u) r.bases (record r { config = unwrap_or (read_at (saved u) r.bases.prop.table.0 (lpi_count u.layout.shape.lpi_bits)) r.config })
   when_on on = record {
     bases = refl;
     config = λ _.
-        some_is (read_at (saved u) r.bases.config.0 (lpi_count u.layout.shape.lpi_bits)) r.config
-        (is_some-read_at (saved u) r.bases.config.0 (lpi_count u.layout.shape.lpi_bits) ∙ saved_inside u r.bases.config.0 (lpi_count u.layout.shape.lpi_bits) ∙ (fits.tables on).config);
+        some_is (read_at (saved u) r.bases.prop.table.0 (lpi_count u.layout.shape.lpi_bits)) r.config
+        (is_some-read_at (saved u) r.bases.prop.table.0 (lpi_count u.layout.shape.lpi_bits) ∙ saved_inside u r.bases.prop.table.0 (lpi_count u.layout.shape.lpi_bits) ∙ (fits.tables on).config);
     pending = λ _. pending_is on;
     off_config = λ off. absurd (let two : true ≡ false = sym on ∙ off in cc);
     off_pending = λ off. absurd (let two : true ≡ false = sym on ∙ off in cc);
@@ -117,7 +117,7 @@ module _ (u : Plain) (v : ℕ) (r : Redistributor) (sound : IsSound u) (savable 
 
   stands : IsRedistributorIn u.layout.shape (saved u) r.bases (reloaded u.layout.shape (saved u) r)
   stands =
-      cond_both r.bases.on (record r { config = unwrap_or (read_at (saved u) r.bases.config.0 (lpi_count u.layout.shape.lpi_bits)) r.config }) r
+      cond_both r.bases.on (record r { config = unwrap_or (read_at (saved u) r.bases.prop.table.0 (lpi_count u.layout.shape.lpi_bits)) r.config }) r
       (IsRedistributorIn u.layout.shape (saved u) r.bases) when_on when_off
 
 pub redistributors_stand : RedistributorsStand

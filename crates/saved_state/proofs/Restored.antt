@@ -1,7 +1,7 @@
 -- A restore of what was saved gives that state and no other, and has no offence.
 use Rattle.its_plain.specs.Saved.{saved, moved}
-use Rattle.table_restore.proofs.Once.{stands_once}
-use Rattle.table_restore.proofs.Offences.{stands_without}
+use Rattle.standing_states.proofs.Once.{stands_once}
+use Rattle.standing_states.proofs.Offences.{stands_without}
 use Rattle.saved_state.specs.Laws.{values_read, bases_of, OnlyThatStands, NoOffenceIsFirst}
 use Rattle.saved_state.proofs.Values.{reads_stand}
 

@@ -168,7 +168,7 @@ redistributors_small : (s : Shape) (rs : List Redistributor) → AllByRecursion 
 redistributors_small s [] = tt
 redistributors_small s (r ∷ rs) =
     all_both AreSmall (pending_words s r) (flat_map (pending_words s) rs)
-    (elim r.bases.on as (λ on. AllByRecursion AreSmall (cond on (record { base = r.bases.pending.0 + 1024; count = (pending_bytes s.lpi_bits - 1024) / 8; word = λ i. pending_word r.pending (1024 + 8 * i) } ∷ []) [])) [
+    (elim r.bases.on as (λ on. AllByRecursion AreSmall (cond on (record { base = r.bases.pend.table.0 + 1024; count = (pending_bytes s.lpi_bits - 1024) / 8; word = λ i. pending_word r.pending (1024 + 8 * i) } ∷ []) [])) [
       | true ↦ ((λ i. pending_small r.pending (1024 + 8 * i)), tt)
       | false ↦ tt
     ])

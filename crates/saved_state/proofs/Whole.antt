@@ -103,9 +103,9 @@ clear u sound =
     let s = u.layout.shape in
     at_each_map (λ v b. lacks_tables s (saved u) b ≡ false) (λ r. r.bases) u.redistributors (λ v r at.
     let h = sound.redistributors v r at in
-    no_lack r.bases.on (inside (saved u) r.bases.config.0 (lpi_count s.lpi_bits)) (inside (saved u) r.bases.pending.0 (pending_bytes s.lpi_bits))
-    (λ on. saved_inside u r.bases.config.0 (lpi_count s.lpi_bits) ∙ (h.tables on).config)
-    (λ on. saved_inside u r.bases.pending.0 (pending_bytes s.lpi_bits) ∙ (h.tables on).pending))
+    no_lack r.bases.on (inside (saved u) r.bases.prop.table.0 (lpi_count s.lpi_bits)) (inside (saved u) r.bases.pend.table.0 (pending_bytes s.lpi_bits))
+    (λ on. saved_inside u r.bases.prop.table.0 (lpi_count s.lpi_bits) ∙ (h.tables on).config)
+    (λ on. saved_inside u r.bases.pend.table.0 (pending_bytes s.lpi_bits) ∙ (h.tables on).pending))
 
 both_maps : {X Y Z : Type 0} (P : Y → Z → Type 0) (f : X → Y) (g : X → Z) (xs : List X) → ((k : ℕ) (x : X) → slice_get xs k ≡ Some x → P (f x) (g x))
     → (k : ℕ) (y : Y) (z : Z) → slice_get (map f xs) k ≡ Some y → slice_get (map g xs) k ≡ Some z → P y z

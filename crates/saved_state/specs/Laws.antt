@@ -1,5 +1,5 @@
 -- What is claimed of a state that was saved: a restore reads it back.
-use Rattle.std.specs.Prelude.{◌≡◌, ◌⊎◌, ◌<◌, ◌≤◌, ℕ, ◌+◌, true, false, List, [], ◌∷◌, map, slice_get, Some, ◌↔◌}
+use Rattle.std.specs.Prelude.{◌≡◌, ◌⊎◌, ◌<◌, ◌≤◌, ℕ, ◌+◌, true, false, List, [], ◌∷◌, length, map, slice_get, Some, ◌↔◌}
 use Rattle.guest_windows.specs.Windows.{read_at, number_at}
 use Rattle.gits_regs.specs.Registers as regs
 use Rattle.gits_regs.specs.Registers.{Registers, masked, read_32, read_64}
@@ -12,7 +12,7 @@ use Rattle.its_types.specs.declared.translation.Device.{Device}
 use Rattle.its_types.specs.declared.translation.Event.{Event}
 use Rattle.its_plain.specs.EventTables.{itt_of, IsIttClear, HasEvent}
 use Rattle.its_plain.specs.DeviceTables.{AreDevicesClear, HasDevice}
-use Rattle.its_plain.specs.Plain.{Plain, Translator, Redistributor}
+use Rattle.its_plain.specs.Plain.{Plain, Translator, Redistributor, redistributor, regs_of, maps_of, pending_of, is_on}
 use Rattle.its_plain.specs.CollectionTables.{AreCollectionsClear, HasCollection}
 use Rattle.its_plain.specs.Sound.{IsSound}
 use Rattle.its_plain.specs.declared.area.Area.{Area}
@@ -115,3 +115,23 @@ OnlyThatStands = (u : Plain) (t : Translator) (w : Plain) → IsSound u → IsSa
 -- and there is nothing that a restore would refuse
 abbrev pub NoOffenceIsFirst : Type 0
 NoOffenceIsFirst = (u : Plain) (t : Translator) (f : RestoreFault) → IsSound u → IsSavable u → u.translators ≡ t ∷ [] → IsFirstFault (saved u) (values_read t.regs) u.layout.shape (bases_of u) f → ⊥
+
+-- ---- equal translators
+
+-- two states with equal registers, devices, events, collections and pending lists, whose LPIs are on alike, with the same
+-- bases; their memories and configurations may differ
+pub record AreEqual (u v : Plain) : Type 0 where
+  pub layout : u.layout ≡ v.layout
+  pub translators : length u.translators ≡ length v.translators
+  pub registers : (i : ℕ) → regs_of u i ≡ regs_of v i
+  pub devices : (i dev : ℕ) → device_of (maps_of u i) dev ≡ device_of (maps_of v i) dev
+  pub events : (i dev ev : ℕ) → event_of (maps_of u i) dev ev ≡ event_of (maps_of v i) dev ev
+  pub collections : (i icid : ℕ) → collection_of (maps_of u i) icid ≡ collection_of (maps_of v i) icid
+  pub vcpus : length u.redistributors ≡ length v.redistributors
+  pub on : (vcpu : ℕ) → is_on u vcpu ≡ is_on v vcpu
+  pub bases : (vcpu : ℕ) → (redistributor u vcpu).bases ≡ (redistributor v vcpu).bases
+  pub pending : (vcpu : ℕ) → pending_of u vcpu ≡ pending_of v vcpu
+
+-- a migration goes on from an equal translator, with exactly the same LPIs pending
+abbrev pub MovedIsEqual : Type 0
+MovedIsEqual = (u : Plain) → AreEqual u (moved u)

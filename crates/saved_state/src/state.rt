@@ -25,3 +25,9 @@ pub fn only_that_state_stands()
 pub fn no_offence_is_first()
     ensures { laws.NoOffenceIsFirst }
 {}
+
+/// The state that a migration goes on from is an equal translator: registers, devices, events, collections, whether LPIs are
+/// on, bases, and exactly the same pending LPIs.
+pub fn moved_is_equal()
+    ensures { laws.MovedIsEqual }
+{}

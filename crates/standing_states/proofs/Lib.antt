@@ -1,0 +1,14 @@
+pub mod Walks
+pub mod Filled
+pub mod EventsWalked
+pub mod CollectionsWalked
+pub mod DevicesWalked
+pub mod Standing
+pub mod Contents
+pub mod Masked
+pub mod Once
+pub mod Soundness
+pub mod Offences
+pub mod Lent
+pub mod Rises
+pub mod EventsOf

@@ -1,0 +1,4 @@
+pub mod Walked
+pub mod Found
+pub mod Laws
+pub mod Rises

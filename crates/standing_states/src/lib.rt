@@ -1,0 +1,7 @@
+//! Which state guest memory and register values stand for, and what their first offence is where they stand for none: there is
+//! one such state at most, it is sound, and no offence is met in it.
+#![tactic(auto)]
+
+mod laws;
+
+pub use laws::{at_most_one_state_stands, offences_are_decided, standing_is_sound};
