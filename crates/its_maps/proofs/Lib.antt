@@ -1,10 +1,14 @@
-pub mod Rising
-pub mod Places
-pub mod Shown
-pub mod PairOrder
-pub mod Values
-pub mod Events
-pub mod Changes
-pub mod Picked
-pub mod Fits
-pub mod Calls
+mod Places
+mod Shown
+mod Values
+mod Blocks
+mod Events
+mod Changes
+mod Picked
+mod Fits
+mod Calls
+mod Rooms
+mod Slots
+mod Paged
+mod Walked
+mod Refilled

@@ -1,13 +1,13 @@
 -- What edits of rising entries are to the map that they show.
-use Rattle.std.proofs.Common.{◌≡◌, ℕ, ◌+◌, ◌-◌, ◌==◌, Bool, true, false, not, cond, List, [], ◌∷◌, length, get_or, set, Some, None, is_some, refl, sym, ap, ◌∙◌, subst, arith}
+use Rattle.std.proofs.Common.{◌≡◌, ℕ, ◌==◌, Bool, false, not, cond, List, [], get_or, set, Some, None, is_some, refl, sym, ap, ◌∙◌, subst}
 use Rattle.std.specs.List.{insert, remove}
 use Rattle.std.specs.Ordering.{nat_cmp}
 use Rattle.std.specs.declared.cmp.Ordering.TheVariants.{Equal}
 use Rattle.std.specs.Cmp.{nat_cmp_total}
 use Rattle.std.specs.FinMap as map
-use Rattle.std.specs.FinMap.{FinMap, put, from_sorted, entries-from_sorted, entries-insert, same_entries_map, get-from_sorted, get-retain_keys, get-empty, len-entries, same_map, nat_cmp-IsAntisymmetric}
+use Rattle.std.specs.FinMap.{FinMap, put, from_sorted, entries-from_sorted, entries-insert, same_entries_map, get-from_sorted, get-retain_keys, get-empty, same_map, nat_cmp-IsAntisymmetric}
 use Rattle.std.specs.FinMap.Entries.{where_key, is_sorted-put, is_sorted-where_key, find-where_key}
-use Rattle.its_maps.specs.MapRoom.{MapRoom, with_key, without_key, emptied}
+use Rattle.its_maps.specs.MapRoom.{MapRoom, without}
 use Rattle.its_maps.specs.Lending.{with_value}
 use Rattle.its_maps.specs.Search.{Rises, IsAt, IsGapFor}
 use Rattle.its_maps.proofs.Places.{find_at, put_at, without_at, find_gap, put_gap, without_gap}
@@ -17,7 +17,7 @@ pub alike : (p : ℕ → Bool) (q x : ℕ) → nat_cmp q x ≡ Equal → p x ≡
 alike p q x tie = ap p (sym (nat_cmp-IsAntisymmetric q x tie))
 
 module _ {V : Type 0} where
-  same_room : (m n : FinMap nat_cmp V) (a b : ℕ) → m ≡ n → a ≡ b → ◌≡◌ {A = MapRoom V} (record { map = m; spare = a }) (record { map = n; spare = b })
+  pub same_room : (m n : FinMap nat_cmp V) (a b : ℕ) → m ≡ n → a ≡ b → ◌≡◌ {A = MapRoom V} (record { map = m; spare = a }) (record { map = n; spare = b })
   same_room m n a b p q = λ i. record { map = p i; spare = q i }
 
   pub none_shown : from_sorted {X = V} {R = nat_cmp} [] ≡ map.empty
@@ -42,13 +42,6 @@ module _ {V : Type 0} where
     pub get_gap : IsGapFor es k i → None ≡ map.get (from_sorted {R = nat_cmp} es) k
     get_gap gap = sym (get-from_sorted nat_cmp es k rises ∙ find_gap k es i gap)
 
-    has_at : IsAt es k i → map.contains_key (from_sorted {R = nat_cmp} es) k ≡ true
-    has_at at = ap is_some (get-from_sorted nat_cmp es k rises ∙ find_at k es i (k, (get_or_value es at)) rises at)
-      where
-        get_or_value : (es : List (ℕ × V)) → IsAt es k i → V
-        get_or_value [] at = absurd (omega (arith, at.in_range))
-        get_or_value (e ∷ es) at = e.1
-
     pub has_gap : IsGapFor es k i → map.contains_key (from_sorted {R = nat_cmp} es) k ≡ false
     has_gap gap = ap is_some (sym (get_gap gap))
 
@@ -61,11 +54,17 @@ module _ {V : Type 0} where
     pub rises_remove : IsAt es k i → Rises (remove es i)
     rises_remove at = subst Rises (without_at k es i rises at) (is_sorted-where_key nat_cmp (λ q. not (q == k)) es rises)
 
-    pub shown_set : (v : V) (spare : ℕ) → IsAt es k i → ◌≡◌ {A = MapRoom V} (record { map = from_sorted (set es i (k, v)); spare = spare }) (with_key (record { map = from_sorted es; spare = spare }) k v)
-    shown_set v spare at =
-        let same : spare ≡ spare - 0 = omega arith in
-        same_room _ _ spare _ (ap (λ (l : List (ℕ × V)). from_sorted l) (sym (put_at k v es i rises at)) ∙ from_put es k v rises)
-        (same ∙ ap (λ b. spare - cond b 0 1) (sym (has_at at)))
+    pub shown_set : (v : V) → IsAt es k i → from_sorted {R = nat_cmp} (set es i (k, v)) ≡ map.insert (from_sorted es) k v
+    shown_set v at = ap (λ (l : List (ℕ × V)). from_sorted l) (sym (put_at k v es i rises at)) ∙ from_put es k v rises
+
+    pub shown_insert : (v : V) (new : List (ℕ × V)) → IsGapFor es k i → new ≡ insert es i (k, v) → from_sorted {R = nat_cmp} new ≡ map.insert (from_sorted es) k v
+    shown_insert v new gap is = ap (λ (l : List (ℕ × V)). from_sorted l) (is ∙ sym (put_gap k v es i gap)) ∙ from_put es k v rises
+
+    pub shown_remove : (new : List (ℕ × V)) → IsAt es k i → new ≡ remove es i → from_sorted {R = nat_cmp} new ≡ without (from_sorted es) k
+    shown_remove new at is = ap (λ (l : List (ℕ × V)). from_sorted l) (is ∙ sym (without_at k es i rises at)) ∙ from_where es (λ q. not (q == k)) rises
+
+    pub shown_absent : IsGapFor es k i → from_sorted {R = nat_cmp} es ≡ without (from_sorted es) k
+    shown_absent gap = ap (λ (l : List (ℕ × V)). from_sorted l) (sym (without_gap k es i gap)) ∙ from_where es (λ q. not (q == k)) rises
 
     -- a value that is lent comes back at its key
     same_key : (x : ℕ × V) → x ≡ get_or es i x → IsAt es k i → x.0 ≡ k
@@ -75,27 +74,7 @@ module _ {V : Type 0} where
     rises_lent x is at w = subst (λ (q : ℕ). Rises (set es i (q, w))) (sym (same_key x is at)) (rises_set w at)
 
     pub shown_lent : (x : ℕ × V) → x ≡ get_or es i x → (spare : ℕ) → IsAt es k i → (w : V) → ◌≡◌ {A = MapRoom V} (record { map = from_sorted (set es i (x.0, w)); spare = spare }) (with_value (record { map = from_sorted es; spare = spare }) k w)
-    shown_lent x is spare at w =
-        same_room _ _ spare spare (ap (λ (q : ℕ). from_sorted (set es i (q, w))) (same_key x is at) ∙ ap (λ (l : List (ℕ × V)). from_sorted l) (sym (put_at k w es i rises at)) ∙ from_put es k w rises) refl
+    shown_lent x is spare at w = same_room _ _ spare spare (ap (λ (q : ℕ). from_sorted (set es i (q, w))) (same_key x is at) ∙ shown_set w at) refl
 
-    pub shown_insert : (v : V) (spare : ℕ) (new : List (ℕ × V)) (left : ℕ) → IsGapFor es k i → new ≡ insert es i (k, v) → left ≡ spare - 1 → ◌≡◌ {A = MapRoom V} (record { map = from_sorted new; spare = left }) (with_key (record { map = from_sorted es; spare = spare }) k v)
-    shown_insert v spare new left gap is one =
-        same_room _ _ left _ (ap (λ (l : List (ℕ × V)). from_sorted l) (is ∙ sym (put_gap k v es i gap)) ∙ from_put es k v rises)
-        (one ∙ ap (λ b. spare - cond b 0 1) (sym (has_gap gap)))
-
-    pub shown_remove : (spare : ℕ) (new : List (ℕ × V)) (left : ℕ) → IsAt es k i → new ≡ remove es i → left ≡ spare + 1 → ◌≡◌ {A = MapRoom V} (record { map = from_sorted new; spare = left }) (without_key (record { map = from_sorted es; spare = spare }) k)
-    shown_remove spare new left at is one =
-        same_room _ _ left _ (ap (λ (l : List (ℕ × V)). from_sorted l) (is ∙ sym (without_at k es i rises at)) ∙ from_where es (λ q. not (q == k)) rises)
-        (one ∙ ap (λ b. spare + cond b 1 0) (sym (has_at at)))
-
-    pub shown_absent : (spare : ℕ) → IsGapFor es k i → ◌≡◌ {A = MapRoom V} (record { map = from_sorted es; spare = spare }) (without_key (record { map = from_sorted es; spare = spare }) k)
-    shown_absent spare gap =
-        let none : spare ≡ spare + 0 = omega arith in
-        same_room _ _ spare _ (ap (λ (l : List (ℕ × V)). from_sorted l) (sym (without_gap k es i gap)) ∙ from_where es (λ q. not (q == k)) rises)
-        (none ∙ ap (λ b. spare + cond b 1 0) (sym (has_gap gap)))
-
-  pub len_shown : (es : List (ℕ × V)) → Rises es → map.len (from_sorted {R = nat_cmp} es) ≡ length es
-  len_shown es h = len-entries (from_sorted es) ∙ ap length (entries-from_sorted nat_cmp es h)
-
-  pub shown_clear : (es new : List (ℕ × V)) (spare left : ℕ) → Rises es → new ≡ [] → left ≡ spare + length es → ◌≡◌ {A = MapRoom V} (record { map = from_sorted new; spare = left }) (emptied (record { map = from_sorted es; spare = spare }))
-  shown_clear es new spare left h is all = same_room _ _ left _ (ap (λ (l : List (ℕ × V)). from_sorted l) is ∙ none_shown) (omega (arith, len_shown es h))
+  pub shown_clear : (new : List (ℕ × V)) → new ≡ [] → from_sorted {R = nat_cmp} new ≡ map.empty
+  shown_clear new is = ap (λ (l : List (ℕ × V)). from_sorted l) is ∙ none_shown

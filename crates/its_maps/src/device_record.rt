@@ -1,9 +1,9 @@
-use crate::sorted_map::SortedMap;
-use its_types::{Device, Event};
+use crate::event_table::EventTable;
+use its_types::Device;
 
 /// A mapped device, with its events by EventID.
 #[derive(Drop)]
 pub struct DeviceRecord {
     pub device: Device,
-    pub events: SortedMap<Event>,
+    pub events: EventTable,
 }

@@ -2,10 +2,17 @@
 #![tactic(auto)]
 
 mod device_record;
+mod event_table;
+mod look_up;
 mod maps;
+mod page;
+mod paged_map;
+mod paged_walk;
+mod reserve;
 mod sorted_map;
 mod walks;
 
+pub use look_up::LookUp;
 pub use maps::Maps;
 pub use walks::{CollectionWalk, DeviceWalk, EventWalk};
 

@@ -1,24 +1,34 @@
-ghost use Rattle.std.specs.Prelude.{◌≡◌, ◌≤◌, ◌+◌, ◌-◌, ◌==◌, not, if◌then◌else◌, None, IsSome, IfSome, OnOk, OnErr, is_some};
-ghost use Rattle.std.specs.Option.{option_map};
+ghost use Rattle.std.specs.Prelude.{◌≡◌, ◌≤◌, ℕ, None, IsSome, IfSome, OnOk, OnErr};
 ghost use Rattle.std.specs.FinMap as finmap;
-ghost use Rattle.its_types.specs.Maps.{device_of, event_of, collection_of, no_maps, device_mapped, device_unmapped, event_mapped, event_unmapped, collection_mapped, collection_unmapped, devices_emptied, collections_emptied};
-ghost use Rattle.its_maps.specs.MapsRoom.{event_room, events_at, EventsHaveDevices, KeysFit};
+ghost use Rattle.its_types.specs.Maps.{device_of, event_of, collection_of, events_at, no_maps, device_mapped, device_unmapped, event_mapped, event_unmapped, collection_mapped, collection_unmapped, devices_emptied, collections_emptied};
+ghost use Rattle.its_maps.specs.LookUp.{looked_up};
+ghost use Rattle.its_maps.specs.MapsRoom.{event_room, EventsHaveDevices, KeysFit};
 
 use crate::device_record::DeviceRecord;
-use crate::sorted_map::SortedMap;
+use crate::event_table::EventTable;
+use crate::look_up::LookUp;
+use crate::paged_map::PagedMap;
+use crate::paged_walk::PagedWalk;
+use crate::reserve::Reserve;
 use crate::walks::{CollectionWalk, DeviceWalk, EventWalk};
-use its_types::{Addr, Device, DeviceId, Event, EventId, Icid, Intid, Vcpu};
+use its_types::{Device, DeviceId, Event, EventId, Icid, Vcpu};
 use std::alloc::{AllocError, Global};
 use std::marker::Model;
 
 /// The devices, events and collections of a translator (IHI 0069, section 5.2). Each event's device is mapped.
 ///
-/// The three calls that make room take memory, and no other call does. What there is room for is seen as numbers: of
-/// devices, of collections, and of events for each mapped device.
+/// A look-up, a map or an unmap costs about the same however much is mapped and in whatever order: a key has its place
+/// in a page of such places, which is there while one of its keys is mapped. The few events of a device are one vector.
+///
+/// The three calls that make room take memory, and no other call does. After such a call that succeeded, one map call of
+/// its kind finds the page and the place that it may need.
 #[derive(Drop)]
 pub struct Maps {
-    devices: SortedMap<DeviceRecord>,
-    collections: SortedMap<Vcpu>,
+    devices: PagedMap<DeviceRecord>,
+    collections: PagedMap<Vcpu>,
+    device_page: Reserve<DeviceRecord>,
+    event_page: Reserve<Event>,
+    collection_page: Reserve<Vcpu>,
     alloc: Global,
 }
 
@@ -29,9 +39,16 @@ impl Model for Maps {
 
     ghost coded = { maps_room_code };
 
-    ghost use Rattle.its_maps.specs.View.{maps_room};
+    ghost use Rattle.its_maps.specs.View.{shown, room_of, event_room_in};
 
-    ghost view = { λ m. maps_room m.devices m.collections };
+    ghost view = { λ m. record {
+      maps = shown m.devices.map m.collections.map;
+      room = record {
+        devices = room_of m.device_page m.devices.spare;
+        events = event_room_in m.event_page m.devices.map;
+        collections = room_of m.collection_page m.collections.spare;
+      };
+    } };
 
     ghost invariant = { λ m. KeysFit m.collections.map };
 }
@@ -39,12 +56,14 @@ impl Model for Maps {
 impl Maps {
     /// No device, event or collection, and room for none. Room will come from the allocator given.
     pub fn new(alloc: Global) -> Maps
-        ensures maps { result.maps ≡ no_maps }
-        ensures room { result.room ≡ record { devices = 0; events = finmap.empty; collections = 0 } }
+        ensures { result.maps ≡ no_maps }
     {
         Maps {
-            devices: SortedMap::new(alloc),
-            collections: SortedMap::new(alloc),
+            devices: PagedMap::new(alloc),
+            collections: PagedMap::new(alloc),
+            device_page: Reserve::empty(),
+            event_page: Reserve::empty(),
+            collection_page: Reserve::empty(),
             alloc,
         }
     }
@@ -57,7 +76,8 @@ impl Maps {
         ensures others { self.new.room ≡ record self.old.room { devices = self.new.room.devices } }
         ensures err { OnErr result (self.new ≡ self.old) }
     {
-        self.devices.make_room()
+        self.devices.make_room()?;
+        self.device_page.fill(self.alloc)
     }
 
     /// Makes room for one event more of a mapped device.
@@ -65,12 +85,13 @@ impl Maps {
         requires { IsSome (device_of self.old.maps dev.0) }
         ensures maps { self.new.maps ≡ self.old.maps }
         ensures ok { OnOk result (1 ≤ event_room self.new.room dev.0) }
-        ensures grows { event_room self.old.room dev.0 ≤ event_room self.new.room dev.0 }
-        ensures others { self.new.room ≡ record self.old.room { events = finmap.insert self.old.room.events dev.0 (event_room self.new.room dev.0) } }
+        ensures grows { (d : ℕ) → event_room self.old.room d ≤ event_room self.new.room d }
+        ensures others { self.new.room ≡ record self.old.room { events = self.new.room.events } }
         ensures err { OnErr result (self.new ≡ self.old) }
     {
         let record = self.devices.get_mut(dev.0);
-        record.events.make_room()
+        record.events.make_room(self.alloc)?;
+        self.event_page.fill(self.alloc)
     }
 
     /// Makes room for one collection more.
@@ -81,47 +102,49 @@ impl Maps {
         ensures others { self.new.room ≡ record self.old.room { collections = self.new.room.collections } }
         ensures err { OnErr result (self.new ≡ self.old) }
     {
-        self.collections.make_room()
+        self.collections.make_room()?;
+        self.collection_page.fill(self.alloc)
     }
 
-    /// Maps a device, which then has no event and room for none.
-    pub fn map_device(&mut self, dev: DeviceId, itt: Addr, bits: u8)
+    /// Maps a device, which then has no event.
+    pub fn map_device(&mut self, dev: DeviceId, device: Device)
         requires { device_of self.old.maps dev.0 ≡ None → 1 ≤ self.old.room.devices }
-        ensures maps { self.new.maps ≡ device_mapped self.old.maps dev.0 (record { itt = itt; bits = bits }) }
-        ensures room { self.new.room ≡ record self.old.room { devices = self.old.room.devices - (if is_some (device_of self.old.maps dev.0) then 0 else 1); events = finmap.insert self.old.room.events dev.0 0 } }
+        ensures maps { self.new.maps ≡ device_mapped self.old.maps dev.0 device }
+        ensures room { self.new.room.collections ≡ self.old.room.collections }
     {
         let record = DeviceRecord {
-            device: Device { itt, bits },
-            events: SortedMap::new(self.alloc),
+            device,
+            events: EventTable::new(self.alloc),
         };
-        self.devices.insert(dev.0, record);
+        self.devices.insert(dev.0, record, &mut self.device_page);
     }
 
     /// Maps an event of a mapped device.
-    pub fn map_event(&mut self, dev: DeviceId, ev: EventId, intid: Intid, icid: Icid)
+    pub fn map_event(&mut self, dev: DeviceId, ev: EventId, event: Event)
         requires mapped { IsSome (device_of self.old.maps dev.0) }
         requires room { event_of self.old.maps dev.0 ev.0 ≡ None → 1 ≤ event_room self.old.room dev.0 }
-        ensures maps { self.new.maps ≡ event_mapped self.old.maps dev.0 ev.0 (record { intid = intid; icid = icid }) }
-        ensures room { self.new.room ≡ record self.old.room { events = finmap.insert self.old.room.events dev.0 (event_room self.old.room dev.0 - (if is_some (event_of self.old.maps dev.0 ev.0) then 0 else 1)) } }
+        ensures maps { self.new.maps ≡ event_mapped self.old.maps dev.0 ev.0 event }
+        ensures room { self.new.room ≡ record self.old.room { events = self.new.room.events } }
     {
         let record = self.devices.get_mut(dev.0);
-        record.events.insert(ev.0, Event { intid, icid });
+        record.events.insert(ev.0, event, &mut self.event_page);
     }
 
     /// Maps a collection to a virtual processor.
     pub fn map_collection(&mut self, icid: Icid, vcpu: Vcpu)
         requires { collection_of self.old.maps icid.0 ≡ None → 1 ≤ self.old.room.collections }
         ensures maps { self.new.maps ≡ collection_mapped self.old.maps icid.0 vcpu }
-        ensures room { self.new.room ≡ record self.old.room { collections = self.old.room.collections - (if is_some (collection_of self.old.maps icid.0) then 0 else 1) } }
+        ensures room { self.new.room ≡ record self.old.room { collections = self.new.room.collections } }
     {
         let Icid(number) = icid;
-        self.collections.insert(u32::from(number), vcpu);
+        self.collections
+            .insert(u32::from(number), vcpu, &mut self.collection_page);
     }
 
     /// Unmaps a device, if it is mapped, with its events.
     pub fn unmap_device(&mut self, dev: DeviceId)
         ensures maps { self.new.maps ≡ device_unmapped self.old.maps dev.0 }
-        ensures room { self.new.room ≡ record self.old.room { devices = self.old.room.devices + (if is_some (device_of self.old.maps dev.0) then 1 else 0); events = finmap.retain_keys self.old.room.events (λ k. not (k == dev.0)) } }
+        ensures room { self.new.room.collections ≡ self.old.room.collections }
     {
         self.devices.remove(dev.0);
     }
@@ -129,7 +152,7 @@ impl Maps {
     /// Unmaps an event, if it is mapped.
     pub fn unmap_event(&mut self, dev: DeviceId, ev: EventId)
         ensures maps { self.new.maps ≡ event_unmapped self.old.maps dev.0 ev.0 }
-        ensures room { self.new.room ≡ (if is_some (event_of self.old.maps dev.0 ev.0) then record self.old.room { events = finmap.insert self.old.room.events dev.0 (event_room self.old.room dev.0 + 1) } else self.old.room) }
+        ensures room { self.new.room ≡ record self.old.room { events = self.new.room.events } }
     {
         if self.devices.contains(dev.0) {
             let record = self.devices.get_mut(dev.0);
@@ -141,17 +164,16 @@ impl Maps {
     pub fn move_event(&mut self, dev: DeviceId, ev: EventId, icid: Icid)
         requires { IsSome (event_of self.old.maps dev.0 ev.0) }
         ensures maps { IfSome (event_of self.old.maps dev.0 ev.0) (λ event. self.new.maps ≡ event_mapped self.old.maps dev.0 ev.0 (record event { icid = icid })) }
-        ensures room { self.new.room ≡ self.old.room }
+        ensures room { self.new.room ≡ record self.old.room { events = self.new.room.events } }
     {
         let record = self.devices.get_mut(dev.0);
-        let event = record.events.get_mut(ev.0);
-        event.icid = icid;
+        record.events.move_to(ev.0, icid);
     }
 
     /// Unmaps a collection, if it is mapped.
     pub fn unmap_collection(&mut self, icid: Icid)
         ensures maps { self.new.maps ≡ collection_unmapped self.old.maps icid.0 }
-        ensures room { self.new.room ≡ record self.old.room { collections = self.old.room.collections + (if is_some (collection_of self.old.maps icid.0) then 1 else 0) } }
+        ensures room { self.new.room ≡ record self.old.room { collections = self.new.room.collections } }
     {
         self.collections.remove(u32::from(icid.0));
     }
@@ -159,8 +181,7 @@ impl Maps {
     /// Unmaps all devices with their events.
     pub fn empty_devices(&mut self)
         ensures maps { self.new.maps ≡ devices_emptied self.old.maps }
-        ensures grows { self.old.room.devices ≤ self.new.room.devices }
-        ensures others { self.new.room ≡ record self.old.room { devices = self.new.room.devices; events = finmap.empty } }
+        ensures room { self.new.room.collections ≡ self.old.room.collections }
     {
         self.devices.clear();
     }
@@ -168,28 +189,30 @@ impl Maps {
     /// Unmaps all collections.
     pub fn empty_collections(&mut self)
         ensures maps { self.new.maps ≡ collections_emptied self.old.maps }
-        ensures grows { self.old.room.collections ≤ self.new.room.collections }
-        ensures others { self.new.room ≡ record self.old.room { collections = self.new.room.collections } }
+        ensures room { self.new.room ≡ record self.old.room { collections = self.new.room.collections } }
     {
         self.collections.clear();
     }
 
-    /// Where the interrupt translation table of a mapped device stands, and how many bits its EventIDs have.
-    pub fn device(&self, dev: DeviceId) -> Option<(Addr, u8)>
-        ensures { result ≡ option_map (λ d. (d.itt, d.bits)) (device_of self.now.maps dev.0) }
+    pub fn device(&self, dev: DeviceId) -> Option<Device>
+        ensures { result ≡ device_of self.now.maps dev.0 }
     {
         let record = self.devices.get(dev.0)?;
-        Some((record.device.itt, record.device.bits))
+        Some(record.device)
     }
 
-    /// The interrupt and the collection of a mapped event.
-    pub fn event(&self, dev: DeviceId, ev: EventId) -> Option<(Intid, Icid)>
-        ensures event { result ≡ option_map (λ e. (e.intid, e.icid)) (event_of self.now.maps dev.0 ev.0) }
+    /// What is mapped of a device and one of its events, found in one search of the devices.
+    pub fn look_up(&self, dev: DeviceId, ev: EventId) -> LookUp
+        ensures found { result ≡ looked_up self.now.maps dev.0 ev.0 }
         ensures mapped { EventsHaveDevices self.now.maps }
     {
-        let record = self.devices.get(dev.0)?;
-        let event = record.events.get(ev.0)?;
-        Some((event.intid, event.icid))
+        match self.devices.get(dev.0) {
+            None => LookUp::NoDevice,
+            Some(record) => match record.events.get(ev.0) {
+                None => LookUp::NoEvent(record.device),
+                Some(event) => LookUp::Mapped(record.device, *event),
+            },
+        }
     }
 
     /// The virtual processor that a mapped collection goes to.
@@ -204,7 +227,7 @@ impl Maps {
         ensures { result ≡ finmap.entries self.now.maps.devices }
     {
         DeviceWalk {
-            rest: self.devices.entries(),
+            rest: self.devices.walk(),
         }
     }
 
@@ -213,10 +236,11 @@ impl Maps {
         ensures { result ≡ events_at self.now.maps dev.0 }
     {
         match self.devices.get(dev.0) {
-            Some(record) => EventWalk {
-                rest: record.events.entries(),
+            Some(record) => record.events.walk(),
+            None => EventWalk {
+                few: &[],
+                many: PagedWalk::new(&[]),
             },
-            None => EventWalk { rest: &[] },
         }
     }
 
@@ -226,7 +250,7 @@ impl Maps {
         ensures fits { KeysFit self.now.maps.collections }
     {
         CollectionWalk {
-            rest: self.collections.entries(),
+            rest: self.collections.walk(),
         }
     }
 }

@@ -1,121 +1,114 @@
 use super::*;
-use its_types::{Addr, DeviceId, EventId, Icid, Intid, Vcpu};
+use its_types::{Addr, Device, DeviceId, Event, EventId, Icid, Intid, Vcpu};
 use std::alloc::AllocError;
 use std::test::Fail;
 
+const DEVICE: Device = Device {
+    itt: Addr(0x800c_0000),
+    bits: 16,
+};
+
 fn put_device(maps: &mut Maps, dev: u32) -> Result<(), AllocError> {
     maps.room_for_device()?;
-    maps.map_device(DeviceId(dev), Addr(0x800c_0000), 4);
+    maps.map_device(DeviceId(dev), DEVICE);
     Ok(())
 }
 
-// Maps an event, where its device is mapped.
-fn put_event(maps: &mut Maps, dev: u32, ev: u32, intid: u32) -> Result<(), AllocError> {
+// Maps an event of a device, if that is mapped.
+fn put_event(maps: &mut Maps, dev: u32, ev: u32, event: Event) -> Result<(), AllocError> {
     if maps.device(DeviceId(dev)).is_some() {
         maps.room_for_event(DeviceId(dev))?;
-        maps.map_event(DeviceId(dev), EventId(ev), Intid(intid), Icid(1));
+        maps.map_event(DeviceId(dev), EventId(ev), event);
     }
     Ok(())
 }
 
-fn put_collection(maps: &mut Maps, icid: u16, vcpu: u8) -> Result<(), AllocError> {
+fn put_collection(maps: &mut Maps, icid: u16) -> Result<(), AllocError> {
     maps.room_for_collection()?;
-    maps.map_collection(Icid(icid), Vcpu(vcpu));
+    maps.map_collection(Icid(icid), Vcpu(2));
     Ok(())
 }
 
+// Gives a mapped event another collection.
 fn move_to(maps: &mut Maps, dev: u32, ev: u32, icid: u16) {
-    if maps.event(DeviceId(dev), EventId(ev)).is_some() {
+    if let LookUp::Mapped(_, _) = maps.look_up(DeviceId(dev), EventId(ev)) {
         maps.move_event(DeviceId(dev), EventId(ev), Icid(icid));
     }
 }
 
+fn put_devices(maps: &mut Maps, devs: &[u32]) -> Result<(), AllocError> {
+    for dev in devs {
+        put_device(maps, *dev)?;
+    }
+    Ok(())
+}
+
+fn put_events(maps: &mut Maps, dev: u32, evs: &[u32]) -> Result<(), AllocError> {
+    for ev in evs {
+        put_event(maps, dev, *ev, event(1))?;
+    }
+    Ok(())
+}
+
+fn event(icid: u16) -> Event {
+    Event {
+        intid: Intid(8200),
+        icid: Icid(icid),
+    }
+}
+
+fn are_devices(maps: &Maps, ids: &[u32]) -> bool {
+    maps.devices().map(|(dev, _)| dev.0).eq(ids.iter().copied())
+}
+
+fn are_events(maps: &Maps, dev: u32, ids: &[u32]) -> bool {
+    let events = maps.events(DeviceId(dev));
+    events.map(|(ev, _)| ev.0).eq(ids.iter().copied())
+}
+
+fn are_collections(maps: &Maps, ids: &[u16]) -> bool {
+    let collections = maps.collections();
+    collections.map(|(icid, _)| icid.0).eq(ids.iter().copied())
+}
+
 #[test]
-fn devices_rise(rt: HostRuntime) -> Result<(), Fail> {
+fn devices_far_apart_rise(rt: HostRuntime) -> Result<(), Fail> {
     let mut maps = Maps::new(rt.alloc());
-    for dev in [20, 16, 18] {
-        put_device(&mut maps, dev)?;
-    }
-    let mut ids = vec![in rt.alloc()]?;
-    for (dev, device) in maps.devices() {
-        assert_eq!(rt; device.bits, 4);
-        ids.push(dev.0)?;
-    }
-    assert_eq!(rt; ids.as_slice(), [16, 18, 20].as_slice());
-    assert_eq!(rt; maps.device(DeviceId(17)), None);
+    put_devices(&mut maps, &[1_048_575, 64, 0, 63, 40_000, 65])?;
+    maps.unmap_device(DeviceId(40_000));
+    maps.unmap_device(DeviceId(64));
+    assert!(rt; are_devices(&maps, &[0, 63, 65, 1_048_575]));
+    assert_eq!(rt; maps.device(DeviceId(63)), Some(DEVICE));
+    maps.empty_devices();
+    assert!(rt; are_devices(&maps, &[]));
     Ok(())
 }
 
 #[test]
-fn events_rise(rt: HostRuntime) -> Result<(), Fail> {
+fn many_events_of_a_device(rt: HostRuntime) -> Result<(), Fail> {
     let mut maps = Maps::new(rt.alloc());
     put_device(&mut maps, 16)?;
-    for ev in [3, 0, 9] {
-        put_event(&mut maps, 16, ev, 8192)?;
-    }
-    let mut ids = vec![in rt.alloc()]?;
-    for (ev, event) in maps.events(DeviceId(16)) {
-        assert_eq!(rt; event.intid, Intid(8192));
-        ids.push(ev.0)?;
-    }
-    assert_eq!(rt; ids.as_slice(), [0, 3, 9].as_slice());
-    assert_eq!(rt; maps.event(DeviceId(16), EventId(4)), None);
+    put_events(&mut maps, 16, &[99, 5, 300, 2, 0, 7, 64, 65_535, 63, 1000])?;
+    maps.unmap_event(DeviceId(16), EventId(300));
+    move_to(&mut maps, 16, 64, 2);
+    assert!(rt; are_events(&maps, 16, &[0, 2, 5, 7, 63, 64, 99, 1000, 65_535]));
+    let moved = maps.look_up(DeviceId(16), EventId(64));
+    assert_eq!(rt; moved, LookUp::Mapped(DEVICE, event(2)));
+    let unmapped = maps.look_up(DeviceId(16), EventId(300));
+    assert_eq!(rt; unmapped, LookUp::NoEvent(DEVICE));
     Ok(())
 }
 
 #[test]
 fn collections_rise(rt: HostRuntime) -> Result<(), Fail> {
     let mut maps = Maps::new(rt.alloc());
-    for icid in [7, 65535, 0] {
-        put_collection(&mut maps, icid, 2)?;
-    }
+    put_collection(&mut maps, 7)?;
+    put_collection(&mut maps, 65_535)?;
+    put_collection(&mut maps, 0)?;
     maps.unmap_collection(Icid(7));
-    let mut ids = vec![in rt.alloc()]?;
-    for (icid, vcpu) in maps.collections() {
-        assert_eq!(rt; vcpu, Vcpu(2));
-        ids.push(icid.0)?;
-    }
-    assert_eq!(rt; ids.as_slice(), [0, 65535].as_slice());
-    Ok(())
-}
-
-#[test]
-fn an_event_moves(rt: HostRuntime) -> Result<(), Fail> {
-    let mut maps = Maps::new(rt.alloc());
-    put_device(&mut maps, 17)?;
-    put_event(&mut maps, 17, 3, 8201)?;
-    move_to(&mut maps, 17, 3, 2);
-    assert_eq!(rt;
-        maps.event(DeviceId(17), EventId(3)),
-        Some((Intid(8201), Icid(2)))
-    );
-    maps.unmap_event(DeviceId(17), EventId(3));
-    assert_eq!(rt; maps.event(DeviceId(17), EventId(3)), None);
-    Ok(())
-}
-
-#[test]
-fn a_device_mapped_anew_has_no_event(rt: HostRuntime) -> Result<(), Fail> {
-    let mut maps = Maps::new(rt.alloc());
-    put_device(&mut maps, 16)?;
-    put_event(&mut maps, 16, 3, 8200)?;
-    put_device(&mut maps, 16)?;
-    assert_eq!(rt; maps.event(DeviceId(16), EventId(3)), None);
-    assert_eq!(rt; maps.device(DeviceId(16)), Some((Addr(0x800c_0000), 4)));
-    maps.unmap_device(DeviceId(16));
-    assert_eq!(rt; maps.device(DeviceId(16)), None);
-    Ok(())
-}
-
-#[test]
-fn all_go(rt: HostRuntime) -> Result<(), Fail> {
-    let mut maps = Maps::new(rt.alloc());
-    put_device(&mut maps, 17)?;
-    maps.empty_devices();
-    assert_eq!(rt; maps.device(DeviceId(17)), None);
-    put_collection(&mut maps, 1, 3)?;
-    assert_eq!(rt; maps.collection(Icid(1)), Some(Vcpu(3)));
+    assert!(rt; are_collections(&maps, &[0, 65_535]));
+    assert_eq!(rt; maps.collection(Icid(0)), Some(Vcpu(2)));
     maps.empty_collections();
-    assert_eq!(rt; maps.collection(Icid(1)), None);
+    assert!(rt; are_collections(&maps, &[]));
     Ok(())
 }

@@ -3,13 +3,14 @@
 ghost use Rattle.std.specs.Iterator.{YieldsFirstBy, item_count};
 
 use crate::device_record::DeviceRecord;
+use crate::paged_walk::PagedWalk;
 use its_types::{Device, DeviceId, Event, EventId, Icid, Vcpu};
 use std::marker::Model;
 
 /// The mapped devices.
 #[derive(Drop)]
 pub struct DeviceWalk<'a> {
-    pub(crate) rest: &'a [(u32, DeviceRecord)],
+    pub(crate) rest: PagedWalk<'a, DeviceRecord>,
 }
 
 impl<'a> Model for DeviceWalk<'a> {
@@ -18,7 +19,7 @@ impl<'a> Model for DeviceWalk<'a> {
 
     ghost Value = { List (ℕ × Device) };
 
-    ghost view = { λ w. map (λ d. (d.0, d.1.device)) w.rest.now };
+    ghost view = { λ w. map (λ d. (d.0, d.1.device)) w.rest };
 }
 
 impl<'a> Iterator for DeviceWalk<'a> {
@@ -29,25 +30,25 @@ impl<'a> Iterator for DeviceWalk<'a> {
     ghost remaining = { item_count (λ w. w) };
 
     fn next(&mut self) -> Option<(DeviceId, Device)> {
-        let (first, rest) = self.rest.split_first()?;
-        self.rest = rest;
-        Some((DeviceId(first.0), first.1.device))
+        let (dev, record) = self.rest.next()?;
+        Some((DeviceId(dev), record.device))
     }
 }
 
 /// The mapped events of a device.
 #[derive(Drop)]
 pub struct EventWalk<'a> {
-    pub(crate) rest: &'a [(u32, Event)],
+    pub(crate) few: &'a [(u32, Event)],
+    pub(crate) many: PagedWalk<'a, Event>,
 }
 
 impl<'a> Model for EventWalk<'a> {
-    ghost use Rattle.std.specs.Prelude.{ℕ, List};
+    ghost use Rattle.std.specs.Prelude.{ℕ, List, ◌++◌};
     ghost use Rattle.its_types.specs.declared.translation.Event.{Event};
 
     ghost Value = { List (ℕ × Event) };
 
-    ghost view = { λ w. w.rest.now };
+    ghost view = { λ w. w.few.now ++ w.many };
 }
 
 impl<'a> Iterator for EventWalk<'a> {
@@ -58,16 +59,19 @@ impl<'a> Iterator for EventWalk<'a> {
     ghost remaining = { item_count (λ w. w) };
 
     fn next(&mut self) -> Option<(EventId, Event)> {
-        let (first, rest) = self.rest.split_first()?;
-        self.rest = rest;
-        Some((EventId(first.0), first.1))
+        if let Some(((ev, event), rest)) = self.few.split_first() {
+            self.few = rest;
+            return Some((EventId(*ev), *event));
+        }
+        let (ev, event) = self.many.next()?;
+        Some((EventId(ev), *event))
     }
 }
 
 /// The mapped collections.
 #[derive(Drop)]
 pub struct CollectionWalk<'a> {
-    pub(crate) rest: &'a [(u32, Vcpu)],
+    pub(crate) rest: PagedWalk<'a, Vcpu>,
 }
 
 impl<'a> Model for CollectionWalk<'a> {
@@ -77,9 +81,9 @@ impl<'a> Model for CollectionWalk<'a> {
 
     ghost Value = { List (ℕ × Vcpu) };
 
-    ghost view = { λ w. w.rest.now };
+    ghost view = { λ w. w.rest };
 
-    ghost invariant = { λ w. EachFits w.rest.now };
+    ghost invariant = { λ w. EachFits w.rest };
 }
 
 impl<'a> Iterator for CollectionWalk<'a> {
@@ -90,8 +94,7 @@ impl<'a> Iterator for CollectionWalk<'a> {
     ghost remaining = { item_count (λ w. w) };
 
     fn next(&mut self) -> Option<(Icid, Vcpu)> {
-        let (first, rest) = self.rest.split_first()?;
-        self.rest = rest;
-        Some((Icid(first.0 as u16), first.1))
+        let (icid, vcpu) = self.rest.next()?;
+        Some((Icid(icid as u16), *vcpu))
     }
 }
