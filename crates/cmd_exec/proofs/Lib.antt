@@ -11,3 +11,4 @@ pub mod Readied
 pub mod Executed
 pub mod Sets
 pub mod Start
+mod Below

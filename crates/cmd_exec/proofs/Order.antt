@@ -14,8 +14,8 @@ use Rattle.its_types.specs.Maps.{Maps, pair_cmp}
 use Rattle.its_types.specs.declared.translation.Device.{Device}
 use Rattle.its_types.specs.declared.translation.Event.{Event}
 use Rattle.its_maps.specs.MapsRoom.{EventsHaveDevices}
-use Rattle.its_maps.proofs.Rising.{first, second, below}
-use Rattle.its_maps.proofs.PairOrder.{pair_total}
+use Rattle.its_types.proofs.Rising.{first, second, below}
+use Rattle.its_types.proofs.PairOrder.{pair_total}
 use Rattle.its_plain.specs.Commands.{intids_of}
 use Rattle.cmd_exec.specs.Walked.{lpis_of, lpis_of_all}
 

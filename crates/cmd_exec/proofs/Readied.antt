@@ -27,8 +27,8 @@ use Rattle.its_types.specs.declared.machine.Profile.TheVariants.{One, Two}
 use Rattle.its_types.specs.declared.machine.Shape.{Shape}
 use Rattle.its_types.specs.declared.translation.Event.{Event}
 use Rattle.its_maps.specs.MapsRoom.{MapsRoom, event_room}
-use Rattle.its_maps.proofs.Rising.{first, second}
-use Rattle.its_maps.proofs.PairOrder.{pair_total, pair_tied}
+use Rattle.its_types.proofs.Rising.{first, second}
+use Rattle.its_types.proofs.PairOrder.{pair_total, pair_tied}
 use Rattle.its_plain.specs.Parts.{target_of_event}
 use Rattle.its_plain.specs.Commands.{◌>>=◌, event_at, intids_of}
 use Rattle.its_plain.specs.declared.call.Reason.{Reason}

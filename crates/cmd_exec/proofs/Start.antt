@@ -76,7 +76,7 @@ off_sound s r memory v = record {
   tables = λ on. absurd (both_ways false refl on);
   off_pending = λ _. refl;
   off_config = λ _. refl;
-  kept = λ _. record { config_whole = refl; config_low = lit< tt; pending_whole = refl; pending_low = lit< tt };
+  kept = λ _. record { prop_whole = refl; prop_low = lit< tt; id_bits = lit< tt; pend_whole = refl; pend_low = lit< tt };
   described = λ no. absurd (both_ways true no refl);
   always_on = λ no. absurd (both_ways true no refl);
 }
@@ -97,7 +97,7 @@ first_translators s r sound (suc i) t e = absurd cc
 
 first_sound : (s : Shape) (r : Registers) (memory : List Window) → IsShape s → regs.IsSound r → r.dev_bits ≡ s.dev_bits → are_windows (map extent memory) ≡ true → IsSound (first s r memory)
 first_sound s r memory shape sound bits windows = record {
-  layout = record { shape = shape; described = length-replicate s.vcpus no_bases };
+  layout = record { shape = shape; described = λ no. absurd (both_ways true no refl) };
   translators = first_translators s r (first_translator s r sound bits);
   vcpus = length-replicate s.vcpus (off s);
   redistributors = λ v x e. subst (IsRedistributor (first s r memory).layout memory v) (from_replicate s.vcpus (off s) x v e) (off_sound s r memory v);

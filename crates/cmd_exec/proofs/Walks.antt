@@ -25,7 +25,7 @@ lpis_first k e events icid same = ap (map (λ (x : ℕ × Event). x.1.intid.0)) 
 
 bases_read : (memory : List Window) (intid : ℕ) (r : Redistributor) → (reread_at memory intid r).bases ≡ r.bases
 unfolding reread_at
-bases_read memory intid r = cond_both r.bases.on _ r (λ (x : Redistributor). x.bases ≡ r.bases) (λ _. by_byte (byte_at memory (r.bases.config.0 + (intid - 8192)))) (λ _. refl)
+bases_read memory intid r = cond_both r.bases.on _ r (λ (x : Redistributor). x.bases ≡ r.bases) (λ _. by_byte (byte_at memory (r.bases.prop.table.0 + (intid - 8192)))) (λ _. refl)
   where
     by_byte : (o : Option ℕ) → (with_read intid r o).bases ≡ r.bases
     by_byte None = refl
@@ -40,7 +40,7 @@ can_kept [] r r' bits bases h = tt
 can_kept (x ∷ xs) r r' bits bases h = (
   record {
     lpi = ap (λ (n : ℕ). is_lpi n x) bits ∙ h.0.lpi;
-    low = subst (λ (b : Bases). b.on ≡ true → b.config.0 ≤ 2 ^ 52) (sym bases) h.0.low;
+    low = subst (λ (b : Bases). b.on ≡ true → b.prop.table.0 ≤ 2 ^ 52) (sym bases) h.0.low;
   },
   can_kept xs r r' bits bases h.1,
 )

@@ -25,7 +25,7 @@ pub record IsWorkable (s : Shape) (m : Maps) (rs : List (Option Redist)) : Type 
   pub devices : EventsHaveDevices m
   pub below : (v : ℕ) (r : Redist) → in_hand rs v ≡ Some r → v < s.vcpus
   pub lpis : (v : ℕ) (r : Redist) → in_hand rs v ≡ Some r → HasLpisOf s r
-  pub low : (v : ℕ) (r : Redist) → in_hand rs v ≡ Some r → r.bases.on ≡ true → r.bases.config.0 ≤ 2 ^ 52
+  pub low : (v : ℕ) (r : Redist) → in_hand rs v ≡ Some r → r.bases.on ≡ true → r.bases.prop.table.0 ≤ 2 ^ 52
 
 -- ---- a stretch of memory
 
@@ -71,8 +71,8 @@ workable_by s r m memory rs u i same sound are =
       lpis = λ v x is. (are.redistributors_are v x is).lpis;
       low = λ v x is on.
           let at : IsRedistributor u.layout u.memory v (redistributor_of x) = sound.redistributors v (redistributor_of x) (are.redistributors_are v x is).same in
-          let end : x.bases.config.0 + lpi_count u.layout.shape.lpi_bits ≤ 2 ^ 52 =
-          stretch_is_low u.memory x.bases.config.0 (lpi_count u.layout.shape.lpi_bits) (ranges u.memory sound.memory) (at.tables on).config in
+          let end : x.bases.prop.table.0 + lpi_count u.layout.shape.lpi_bits ≤ 2 ^ 52 =
+          stretch_is_low u.memory x.bases.prop.table.0 (lpi_count u.layout.shape.lpi_bits) (ranges u.memory sound.memory) (at.tables on).config in
           omega (arith, end);
     })
 

@@ -86,7 +86,7 @@ takes_lpi redists vcpu intid = has_lpi intid (in_hand redists vcpu)
 -- the INTID is one of its LPIs, and its configuration table stands where memory can be
 pub record CanReread (r : Redist) (intid : ℕ) : Type 0 where
   pub lpi : is_lpi r.config.lpi_bits intid ≡ true
-  pub low : r.bases.on ≡ true → r.bases.config.0 ≤ 2 ^ 52
+  pub low : r.bases.on ≡ true → r.bases.prop.table.0 ≤ 2 ^ 52
 
 abbrev pub CanRereadAll : Redist → List ℕ → Type 0
 CanRereadAll r [] = Unit {0}

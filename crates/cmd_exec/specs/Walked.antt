@@ -4,7 +4,7 @@ use Rattle.std.specs.List.{flat_map}
 use Rattle.its_types.specs.Maps.{Maps}
 use Rattle.its_types.specs.declared.translation.Device.{Device}
 use Rattle.its_types.specs.declared.translation.Event.{Event}
-use Rattle.its_maps.specs.MapsRoom.{events_at}
+use Rattle.its_types.specs.Maps.{events_at}
 
 -- of events by EventID, the LPIs of those of a collection
 abbrev pub lpis_of : List (ℕ × Event) → ℕ → List ℕ

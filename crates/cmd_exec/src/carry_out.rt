@@ -25,7 +25,7 @@ pub fn carry_out(
 {
     match effect {
         Effect::Nothing => {}
-        Effect::MapDevice { dev, device } => maps.map_device(dev, device.itt, device.bits),
+        Effect::MapDevice { dev, device } => maps.map_device(dev, device),
         Effect::UnmapDevice { dev } => maps.unmap_device(dev),
         Effect::MapCollection { icid, vcpu } => maps.map_collection(icid, vcpu),
         Effect::MoveCollection { icid, from, to } => {
@@ -34,7 +34,7 @@ pub fn carry_out(
         }
         Effect::UnmapCollection { icid } => maps.unmap_collection(icid),
         Effect::MapEvent { dev, ev, event } => {
-            maps.map_event(dev, ev, event.intid, event.icid);
+            maps.map_event(dev, ev, event);
             reread_each(redists, shape.vcpus, memory, event.intid);
         }
         Effect::MoveEvent {

@@ -18,6 +18,6 @@ mod walk;
 pub use execute::{answer, apply};
 pub use needed::needs;
 pub use part_set::PartSet;
-pub use registers::access;
+pub use registers::{read_register, write_register};
 pub use room::prepare;
 pub use walk::RedistWalk;

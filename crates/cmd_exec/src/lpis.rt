@@ -65,7 +65,7 @@ pub fn reread(redist: &mut Redist, memory: &Memory, intid: Intid)
         return;
     }
     let place = u64::from(intid.0 - 8192);
-    if let Ok(byte) = memory.read_u8(Addr(redist.bases.config.0 + place)) {
+    if let Ok(byte) = memory.read_u8(Addr(redist.bases.prop.table.0 + place)) {
         redist.config.reload(intid, byte);
     }
 }

@@ -1,11 +1,11 @@
-ghost use Rattle.std.specs.Prelude.{◌≡◌, ◌<◌, ◌≤◌, ℕ, nat_lt, IfSome};
+ghost use Rattle.std.specs.Prelude.{◌≡◌, ◌<◌, ◌≤◌, ℕ, true, nat_lt, IfSome};
 ghost use Rattle.its_plain.specs.Parts.{target_of_event};
 ghost use Rattle.cmd_exec.specs.Needs.{is_in, is_needed, is_either, is_moved, needs_vcpu, AreTargets, ArePartsOfStep};
 
 use crate::part_set::PartSet;
 use gits_regs::Regs;
 use its_command::Command;
-use its_maps::Maps;
+use its_maps::{LookUp, Maps};
 use its_types::{DeviceId, EventId, Profile, Shape, Vcpu};
 
 /// The parts that a step which meets a command reads or changes: its translator's maps and guest memory always, and these
@@ -14,6 +14,7 @@ pub fn needs(command: &Command, _regs: &Regs, maps: &Maps, shape: &Shape) -> Par
     requires vcpus { shape.now.vcpus ≤ 16 }
     requires targets { AreTargets shape.now maps.now.maps }
     ensures redists { (vcpu : ℕ) → is_in result vcpu ≡ is_needed shape.now maps.now.maps command.now vcpu }
+    ensures below { (vcpu : ℕ) → is_in result vcpu ≡ true → vcpu < shape.now.vcpus }
     ensures parts { ArePartsOfStep shape.now maps.now.maps command.now result }
 {
     redists_of(command, maps, shape)
@@ -68,8 +69,10 @@ fn target_of(maps: &Maps, shape: &Shape, dev: DeviceId, ev: EventId) -> Option<V
     ensures below { IfSome result (λ t. t.0 < shape.now.vcpus) }
 {
     let _ = shape;
-    let (_, icid) = maps.event(dev, ev)?;
-    maps.collection(icid)
+    match maps.look_up(dev, ev) {
+        LookUp::Mapped(_, event) => maps.collection(event.icid),
+        _ => None,
+    }
 }
 
 // The old target and the new one, where in profile 2 a mapped collection gets another.

@@ -14,7 +14,7 @@ use baser_place::device_place;
 use gits_regs::Regs;
 use guest_windows::Memory;
 use its_command::{Command, EventIdBits, IttAddr, RdBase};
-use its_maps::Maps;
+use its_maps::{LookUp, Maps};
 use its_plain::Reason;
 use its_types::{
     Addr, Device, DeviceId, Event, EventId, Icid, Intid, Profile, Shape, Vcpu, fits_bits,
@@ -46,16 +46,28 @@ impl<'a> InHand<'a> {
         self.redists.redist(vcpu).bases.on
     }
 
+    // A device and an event of it, where they are mapped.
+    fn find(&self, dev: DeviceId, ev: EventId) -> (Option<Device>, Option<Event>)
+        ensures device { result.0 ≡ maps.device_of self.now.maps.now.maps dev.0 }
+        ensures event { result.1 ≡ maps.event_of self.now.maps.now.maps dev.0 ev.0 }
+    {
+        match self.maps.look_up(dev, ev) {
+            LookUp::NoDevice => (None, None),
+            LookUp::NoEvent(device) => (Some(device), None),
+            LookUp::Mapped(device, event) => (Some(device), Some(event)),
+        }
+    }
+
     // An event of a mapped device.
     #[tactic(auto, using(crate::proofs::Opened::event_at_is))]
     fn event_at(&self, dev: DeviceId, ev: EventId) -> Result<Event, Reason>
         ensures value { result ≡ commands.event_at self.now.maps.now.maps dev.0 ev.0 }
         ensures target { IfOk result (λ e. target_of_event self.now.maps.now.maps dev.0 ev.0 ≡ maps.collection_of self.now.maps.now.maps e.icid.0) }
     {
-        let (_, id_bits) = self.maps.device(dev).ok_or(Reason::NoDevice)?;
-        ensure(fits_bits(ev.0, id_bits), Reason::EventRange)?;
-        let (intid, icid) = self.maps.event(dev, ev).ok_or(Reason::NoEvent)?;
-        Ok(Event { intid, icid })
+        let (device, event) = self.find(dev, ev);
+        let device = device.ok_or(Reason::NoDevice)?;
+        ensure(fits_bits(ev.0, device.bits), Reason::EventRange)?;
+        event.ok_or(Reason::NoEvent)
     }
 
     // The target of a collection.
@@ -126,25 +138,19 @@ impl<'a> InHand<'a> {
     fn mapti(&self, dev: DeviceId, ev: EventId, event: Event) -> Result<Effect, Reason>
         ensures { result ≡ effects.mapti self.now.shape.now self.now.regs.now self.now.maps.now.maps dev ev event.intid event.icid }
     {
-        let (_, bits) = self.maps.device(dev).ok_or(Reason::NoDevice)?;
-        ensure(fits_bits(ev.0, bits), Reason::EventRange)?;
+        let (device, mapped) = self.find(dev, ev);
+        let device = device.ok_or(Reason::NoDevice)?;
+        ensure(fits_bits(ev.0, device.bits), Reason::EventRange)?;
         ensure(
             event.intid.in_range(self.shape.lpi_bits),
             Reason::IntidRange,
         )?;
         let placed = u32::from(event.icid.0) < self.regs.collection_places();
         ensure(placed, Reason::CollectionRange)?;
-        Ok(self.added(dev, ev, event))
-    }
-
-    // A mapped event stays as it is.
-    fn added(&self, dev: DeviceId, ev: EventId, event: Event) -> Effect
-        ensures { result ≡ effects.added self.now.maps.now.maps dev ev event }
-    {
-        match self.maps.event(dev, ev) {
+        Ok(match mapped {
             Some(_) => Effect::Nothing,
             None => Effect::MapEvent { dev, ev, event },
-        }
+        })
     }
 
     #[tactic(auto, unfolding(crate::specs::Effects::movi))]

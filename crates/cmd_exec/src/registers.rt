@@ -1,24 +1,26 @@
-ghost use Rattle.std.specs.Prelude.{◌≡◌, MatchOption};
+ghost use Rattle.std.specs.Prelude.{◌≡◌};
 ghost use Rattle.gits_regs.specs.Registers.{read_reg, write_reg};
 ghost use Rattle.its_plain.specs.Answer.{emptied};
 
 use gits_regs::{RegChange, Regs};
 use its_maps::Maps;
 
-/// An access of `size` bytes at an offset of the control frame: a read of its value, or a write of one, which answers 0.
-pub fn access(regs: &mut Regs, maps: &mut Maps, off: u32, size: u8, value: Option<u64>) -> u64
-    ensures { MatchOption value
-        ((result ≡ read_reg regs.old off size) × (regs.new ≡ regs.old) × (maps.new ≡ maps.old))
-        (λ v. (result ≡ 0) × (regs.new ≡ (write_reg regs.old off size v).regs)
-        × (maps.new.maps ≡ emptied (write_reg regs.old off size v).change maps.old.maps)) }
+/// Reads `size` bytes at an offset of the control frame.
+pub fn read_register(regs: &Regs, off: u32, size: u8) -> u64
+    ensures { result ≡ read_reg regs.now off size }
 {
-    let Some(value) = value else {
-        return regs.read(off, size);
-    };
+    regs.read(off, size)
+}
+
+/// Writes `size` bytes at an offset of the control frame. A new device table unmaps all devices, and a new collection table
+/// all collections.
+pub fn write_register(regs: &mut Regs, maps: &mut Maps, off: u32, size: u8, value: u64)
+    ensures regs { regs.new ≡ (write_reg regs.old off size value).regs }
+    ensures maps { maps.new.maps ≡ emptied (write_reg regs.old off size value).change maps.old.maps }
+{
     match regs.write(off, size, value) {
         RegChange::DevicesEmptied => maps.empty_devices(),
         RegChange::CollectionsEmptied => maps.empty_collections(),
         _ => {}
     }
-    0
 }

@@ -1,24 +1,17 @@
 -- The state of the plain translators that parts in hand stand for.
-use Rattle.std.specs.Prelude.{◌≡◌, ◌<◌, ℕ, false, List, [], ◌∷◌, map, take, slice_get, Option, Some, None}
+use Rattle.std.specs.Prelude.{◌≡◌, ◌<◌, ℕ, List, [], ◌∷◌, map, take, slice_get, Option, Some, None}
 use Rattle.gits_regs.specs.Registers.{Registers}
 use Rattle.guest_windows.specs.Windows.{Window}
 use Rattle.its_types.specs.Maps.{Maps}
 use Rattle.its_types.specs.declared.machine.Shape.{Shape}
-use Rattle.its_plain.specs.Machine.{described_bases}
-use Rattle.its_plain.specs.Plain.{Plain, Layout, Redistributor, no_redistributor}
+use Rattle.its_plain.specs.Plain.{Plain, Redistributor, no_redistributor}
+use Rattle.its_plain.specs.declared.layout.Layout.{Layout}
 use Rattle.its_plain.specs.Sound.{IsSound}
-use Rattle.its_plain.specs.declared.desc.Desc.{Desc}
+pub use Rattle.its_plain.specs.Machine.{layout_of}
+pub use Rattle.lpi_pending.specs.InHand.{redistributor_of, HasLpisOf}
 use Rattle.lpi_pending.specs.InHand.{in_hand}
+use Rattle.owned_parts.specs.declared.parts.Parts.{Parts}
 use Rattle.lpi_pending.specs.declared.redist.Redist.{Redist}
-
--- a redistributor in hand, as the plain machine has it
-abbrev pub redistributor_of : Redist → Redistributor
-redistributor_of r = record { bases = r.bases; pending = r.pending.lpis; config = r.config.bytes }
-
--- its pending set and its configuration are those of a machine's LPIs
-pub record HasLpisOf (shape : Shape) (r : Redist) : Type 0 where
-  pub pending_bits : r.pending.lpi_bits ≡ shape.lpi_bits
-  pub config_bits : r.config.lpi_bits ≡ shape.lpi_bits
 
 -- ---- some parts of a state
 
@@ -59,6 +52,5 @@ state_of layout regs maps memory redists = record {
   memory = memory;
 }
 
--- what a description fixes for good
-abbrev pub layout_of : Desc → Layout
-layout_of d = record { shape = d.shape; gicr = false; described = map (described_bases d.config) d.pending }
+abbrev pub state_of_parts : Parts → Plain
+state_of_parts p = state_of p.layout p.regs p.maps.maps p.memory p.redists

@@ -2,7 +2,7 @@ use Rattle.std.proofs.Common.{◌≡◌, ℕ, List, [], ◌++◌, sym, ap, subst
 use Rattle.std.specs.FinMap.{entries}
 use Rattle.its_types.specs.declared.translation.Device.{Device}
 use Rattle.its_types.specs.declared.translation.Event.{Event}
-use Rattle.its_maps.specs.MapsRoom.{events_at}
+use Rattle.its_types.specs.Maps.{events_at}
 use Rattle.its_plain.specs.Commands.{all_reread_at}
 use Rattle.cmd_exec.specs.InHand.{redist_by, CanRereadAll}
 use Rattle.cmd_exec.specs.Walked.{lpis_of, lpis_of_all}

@@ -16,7 +16,7 @@ apply-reply-requires-clause-parts g c =
     (record { some_vcpus = lit≤ tt; most_vcpus = lit≤ tt; least_dev_bits = lit≤ tt; most_dev_bits = lit≤ tt; least_lpi_bits = lit≤ tt; most_lpi_bits = lit≤ tt })
     c.keeps_rules.ensures (ap (λ (r : Registers). r.dev_bits) c.reset-regs.ensures)
     (good_windows windows c.in_ok-memory.memory c.in_ok-memory.ensures.ok c.in_ok-memory.ensures.fits)
-    (c.in_ok-prepare.ensures.maps ∙ c.new-maps.ensures.maps) c.in_ok-redists.ensures
+    (c.in_ok-prepare.ensures.maps ∙ c.new-maps.ensures) c.in_ok-redists.ensures
 
 pub apply-reply-requires-clause-in_hand : goal.apply-reply-requires-clause-in_hand
 apply-reply-requires-clause-in_hand g c = mapc_needs_none _ _ _ c.mapc-3.result _ _ refl c.mapc-3.ensures
