@@ -1,13 +1,4 @@
-pub mod Walks
-pub mod Filled
-pub mod EventsWalked
-pub mod CollectionsWalked
-pub mod DevicesWalked
-pub mod Standing
-pub mod Contents
+pub mod Steps
 pub mod PendingRead
 pub mod Restored
 pub mod Whole
-pub mod Once
-pub mod Soundness
-pub mod Offences

@@ -1,16 +1,16 @@
 -- The redistributors, one after another.
-use Rattle.std.proofs.Common.{◌≡◌, ℕ, zero, suc, ◌+◌, ◌<◌, ◌≤◌, false, List, [], ◌∷◌, length, map, get_or, Option, Some, None, refl, sym, subst, ap, ◌∙◌, inl, inr, arith}
-use Rattle.std.specs.Prelude.{slice_get, slice_set}
+use Rattle.std.proofs.Common.{◌≡◌, ℕ, zero, suc, ◌+◌, ◌<◌, ◌≤◌, Bool, true, false, not, List, [], ◌∷◌, length, map, get_or, Option, Some, None, refl, sym, subst, ap, ◌∙◌, inl, inr, arith}
+use Rattle.std.specs.Prelude.{◌&&◌, slice_get, slice_set}
 use Rattle.std.proofs.lemmas.Bool.{cases_eq}
 use Rattle.std.proofs.lemmas.List.{get_or-set_same, get_or-set_other}
 use Rattle.guest_windows.specs.Windows.{Window}
-use Rattle.its_types.specs.declared.ids.Addr.{Addr}
 use Rattle.its_types.specs.declared.machine.Shape.{Shape}
 use Rattle.its_types.specs.declared.translation.Bases.{Bases}
-use Rattle.its_plain.specs.Stands.{lacks_tables}
+use Rattle.gicr_regs.specs.Redistributors.{has_tables}
+use Rattle.its_plain.specs.Stands.{lacks_tables, IsRedistributorIn}
 use Rattle.lpi_pending.specs.InHand.{in_hand}
 use Rattle.lpi_pending.specs.declared.redist.Redist.{Redist}
-use Rattle.table_restore.specs.Outcome.{IsRestoredRedist, AreRestoredRedists}
+use Rattle.table_restore.specs.Outcome.{IsOffRedist, IsRestoredRedist, AreRestoredRedists}
 
 -- the redistributors below n are in hand, and no other
 pub record AreRestoredBelow (s : Shape) (memory : List Window) (bases : List Bases) (redists : List (Option Redist)) (n : ℕ) : Type 0 where
@@ -18,11 +18,6 @@ pub record AreRestoredBelow (s : Shape) (memory : List Window) (bases : List Bas
   pub clear : (vcpu : ℕ) (b : Bases) → vcpu < n → slice_get bases vcpu ≡ Some b → lacks_tables s memory b ≡ false
   pub each : (vcpu : ℕ) (b : Bases) → vcpu < n → slice_get bases vcpu ≡ Some b → (r : Redist) × (in_hand redists vcpu ≡ Some r) × IsRestoredRedist s memory b r
   pub rest : (vcpu : ℕ) → n ≤ vcpu → in_hand redists vcpu ≡ None
-
-pub is_at : (f : Addr → Bases) (xs : List Addr) (i : ℕ) (x : Addr) → slice_get xs i ≡ Some x → slice_get (map f xs) i ≡ Some (f x)
-is_at f [] i x e = absurd cc
-is_at f (y ∷ ys) zero x e = let is : y ≡ x = cc in ap (λ (z : Addr). Some (f z)) is
-is_at f (y ∷ ys) (suc i) x e = is_at f ys i x e
 
 module _ (s : Shape) (memory : List Window) (bases : List Bases) (redists now : List (Option Redist)) (n : ℕ) (b : Bases) (r : Redist) (at : slice_get bases n ≡ Some b) (got : now ≡ slice_set redists n (Some r)) where
   same_base : (c : Bases) → slice_get bases n ≡ Some c → b ≡ c
@@ -62,7 +57,19 @@ all_restored s memory bases redists n all below = record {
   rest = λ v le. below.rest v (omega arith);
 }
 
-pub at_item : (f : Addr → Bases) (xs : List Addr) (i : ℕ) (d : Addr) → i < length xs → slice_get (map f xs) i ≡ Some (f (get_or xs i d))
-at_item f [] i d lt = absurd (omega arith)
-at_item f (y ∷ ys) zero d lt = refl
-at_item f (y ∷ ys) (suc i) d lt = at_item f ys i d (omega arith)
+-- ---- a redistributor whose LPIs are off
+
+pub off_restored : (s : Shape) (memory : List Window) (vcpu : ℕ) (b : Bases) (r : Redist) → b.on ≡ false → IsOffRedist s b r → IsRestoredRedist s memory b r × (lacks_tables s memory b ≡ false)
+off_restored s memory vcpu b r off h = (
+  record {
+    lpis = h.lpis;
+    stands = subst (IsRedistributorIn s memory b) (sym h.is) (record {
+      bases = refl;
+      config = λ on. absurd (let two : true ≡ false = sym on ∙ off in cc);
+      pending = λ on. absurd (let two : true ≡ false = sym on ∙ off in cc);
+      off_config = λ _. refl;
+      off_pending = λ _. refl;
+    });
+  },
+  ap (λ (t : Bool). t && not (has_tables s memory b)) off,
+)

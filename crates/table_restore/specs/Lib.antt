@@ -1,4 +1,1 @@
-pub mod Walked
-pub mod Found
 pub mod Outcome
-pub mod Laws

@@ -1,10 +1,11 @@
 -- What the functions of a restore answer.
-use Rattle.std.specs.Prelude.{◌≡◌, ◌<◌, ◌≤◌, ℕ, ◌^◌, true, false, IsSome, length, slice_get, List, Option, Some, None, Result, Ok, Err}
+use Rattle.std.specs.Prelude.{◌≡◌, ◌≤◌, ℕ, true, false, IsSome, length, slice_get, List, Option, Some, None, Result, Ok, Err}
 use Rattle.std.specs.Option.{option_map}
 use Rattle.guest_windows.specs.Windows.{Window, number_at}
-use Rattle.gits_regs.specs.Registers.{Registers, is_indirect}
-use Rattle.baser_place.specs.Places.{level1_entries, level1_address}
+use Rattle.gits_regs.specs.Registers.{Registers}
+use Rattle.baser_place.specs.Places.{level1_address}
 use Rattle.table_entries.specs.Fields.{CollectionFields}
+use Rattle.gicr_regs.specs.Redistributors.{off_redistributor}
 use Rattle.its_types.specs.Maps.{Maps}
 use Rattle.its_types.specs.declared.ids.Icid.{Icid}
 use Rattle.its_types.specs.declared.ids.Vcpu.{Vcpu}
@@ -24,8 +25,8 @@ use Rattle.its_types.specs.declared.translation.Bases.{Bases}
 use Rattle.lpi_pending.specs.InHand.{in_hand}
 use Rattle.lpi_pending.specs.declared.redist.Redist.{Redist}
 use Rattle.owned_parts.specs.Owned.{HasLpisOf, redistributor_of}
-use Rattle.table_restore.specs.Walked.{after}
-use Rattle.table_restore.specs.Found.{look_device, put_found}
+use Rattle.standing_states.specs.Walked.{after}
+use Rattle.standing_states.specs.Found.{look_device, put_found}
 use Rattle.table_restore.specs.declared.error.RestoreError.{RestoreError}
 use Rattle.table_restore.specs.declared.error.RestoreError.TheVariants as errors
 use Rattle.table_restore.specs.declared.place.DevicePlace.{DevicePlace}
@@ -54,12 +55,6 @@ abbrev pub place_of : DevicePlace → spec.DevicePlace
 place_of (Level1 k) = spec.at_level1 k
 place_of (Entry k page index) = spec.at_entry k page.0 index
 
--- a place that the table has
-abbrev pub IsPlace : Registers → spec.DevicePlace → Type 0
-IsPlace r (spec.at_level1 k) = (is_indirect r.baser0 ≡ true) × (k < level1_entries r.dev_bits) × (k < 128)
-IsPlace r (spec.at_entry k page index) =
-    (page < 2 ^ 52) × (index < spec.page_places r) × (is_indirect r.baser0 ≡ true → k < level1_entries r.dev_bits) × (is_indirect r.baser0 ≡ false → k ≡ 0) × (k < 128) × (index < 1048576)
-
 -- the maps have what the place has, and it leads there
 abbrev pub LookedDevice : List Window → ℕ → Registers → spec.DevicePlace → Maps → Maps → Result (Option DevicePlace) RestoreError → Type 0
 LookedDevice memory lpi_bits r p old new (Ok to) = (after put_found old (look_device memory lpi_bits r p) ≡ Ok new) × (next_device memory r p ≡ option_map place_of to)
@@ -76,6 +71,11 @@ LookedLevel1 memory r k (Err f) = (number_at memory (level1_address r k) ≡ Non
 pub record IsRestoredRedist (s : Shape) (memory : List Window) (b : Bases) (r : Redist) : Type 0 where
   pub lpis : HasLpisOf s r
   pub stands : IsRedistributorIn s memory b (redistributor_of r)
+
+-- one whose LPIs are off has none pending, and a configuration of zeros
+pub record IsOffRedist (s : Shape) (b : Bases) (r : Redist) : Type 0 where
+  pub lpis : HasLpisOf s r
+  pub is : redistributor_of r ≡ off_redistributor s b
 
 abbrev pub RestoredRedist : Shape → List Window → ℕ → Bases → Result Redist RestoreError → Type 0
 RestoredRedist s memory vcpu b (Ok r) = IsRestoredRedist s memory b r × (lacks_tables s memory b ≡ false)
@@ -105,7 +105,11 @@ RestoredMaps (Ok m) read = read ≡ Ok m.maps
 RestoredMaps (Err (errors.Fault f)) read = read ≡ Err f
 RestoredMaps (Err errors.NoMemory) read = Unit {0}
 
+-- what is said of a fault, unless the host ran out of memory
+abbrev pub WhereFault : RestoreError → (RestoreFault → Type 0) → Type 0
+WhereFault (errors.Fault f) P = P f
+WhereFault errors.NoMemory P = Unit {0}
+
 abbrev pub IfFault : {X : Type 0} → Result X RestoreError → (RestoreFault → Type 0) → Type 0
 IfFault (Ok x) P = Unit {0}
-IfFault (Err (errors.Fault f)) P = P f
-IfFault (Err errors.NoMemory) P = Unit {0}
+IfFault (Err e) P = WhereFault e P

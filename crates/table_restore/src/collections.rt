@@ -2,7 +2,7 @@
 ghost use Rattle.std.specs.Prelude.{◌≡◌, ◌+◌, ◌<◌, ◌≤◌, ◌^◌, ℕ, true, OnOk};
 ghost use Rattle.gits_regs.specs.Registers.{collection_places, is_valid};
 ghost use Rattle.its_types.specs.Maps.{Maps, no_maps};
-ghost use Rattle.table_restore.specs.Found.{put_collection, collections_from, collections_read, AreThoseBefore};
+ghost use Rattle.standing_states.specs.Found.{put_collection, collections_from, collections_read, AreThoseBefore};
 ghost use Rattle.table_restore.specs.Outcome.{LookedCollection, Took};
 
 use crate::error::RestoreError;

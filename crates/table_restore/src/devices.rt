@@ -2,34 +2,23 @@
 ghost use Rattle.std.specs.Prelude.{◌≡◌, ◌+◌, ◌*◌, ◌<◌, ◌≤◌, ◌^◌, true, false, Some, None, OnOk};
 ghost use Rattle.std.specs.Option.{option_map};
 ghost use Rattle.gits_regs.specs.Registers.{is_indirect};
-ghost use Rattle.baser_place.specs.Places.{level1_entries};
 ghost use Rattle.its_types.specs.Maps.{device_mapped};
 ghost use Rattle.its_plain.specs.DeviceTables as spec;
 ghost use Rattle.its_plain.specs.EventTables.{itt_of};
-ghost use Rattle.table_restore.specs.Found.{put_event, put_found, events_read, devices_from, devices_read};
-ghost use Rattle.table_restore.specs.Outcome.{LookedDevice, LookedLevel1, Took, IsPlace, place_of};
+ghost use Rattle.standing_states.specs.Found.{put_event, put_found, events_read, devices_from, devices_read, IsPlace};
+ghost use Rattle.table_restore.specs.Outcome.{LookedDevice, LookedLevel1, Took, place_of};
 ghost use Rattle.table_restore.specs.declared.place.DevicePlace.TheVariants as place;
 
 use crate::error::RestoreError;
 use crate::events::map_events;
 use crate::place::DevicePlace;
-use baser_place::{Level1, level1};
+use baser_place::{Level1, level1, level1_entries};
 use gits_regs::Regs;
 use guest_windows::Memory;
 use its_maps::Maps;
 use its_plain::{RestoreFault, Table};
 use its_types::{Addr, Device, DeviceId};
 use table_entries::Dte;
-
-// How many entries the first level of a table has that DeviceIDs need.
-fn level1_entries(regs: &Regs) -> u32
-    ensures entries { result ≡ level1_entries regs.now.dev_bits }
-    ensures some { 1 ≤ result }
-    ensures most { result ≤ 128 }
-{
-    regs.keeps_rules();
-    1 << (regs.dev_bits() - 13)
-}
 
 // How many places a flat table has.
 #[tactic(auto, unfolding(its_plain::specs::DeviceTables::flat_size))]
@@ -108,7 +97,7 @@ fn map_device(
     ensures { Took (put_event dev.0) (device_mapped maps.old.maps dev.0 device) maps.new.maps result (events_read memory.now lpi_bits (itt_of dev.0 device)) }
 {
     maps.room_for_device()?;
-    maps.map_device(dev, device.itt, device.bits);
+    maps.map_device(dev, device);
     map_events(memory, lpi_bits, maps, dev, device)
 }
 

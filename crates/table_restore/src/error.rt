@@ -1,6 +1,5 @@
 ghost use Rattle.table_restore.specs.declared.error.RestoreError.TheVariants as errors;
 
-use guest_windows::NoMemory;
 use its_plain::RestoreFault;
 use std::alloc::{AllocError, AllocFailed};
 
@@ -9,6 +8,7 @@ use std::alloc::{AllocError, AllocFailed};
 pub enum RestoreError {
     /// Memory and registers stand for no state: their first offence.
     Fault(RestoreFault),
+    /// The host ran out of memory.
     NoMemory,
 }
 
@@ -28,16 +28,6 @@ impl<T: Drop> From<AllocFailed<T>> for RestoreError {
     ghost from_gives = { λ _ e. e ≡ errors.NoMemory };
 
     fn from(_: AllocFailed<T>) -> Self {
-        RestoreError::NoMemory
-    }
-}
-
-impl From<NoMemory> for RestoreError {
-    ghost use Rattle.std.specs.Prelude.{◌≡◌};
-
-    ghost from_gives = { λ _ e. e ≡ errors.NoMemory };
-
-    fn from(_: NoMemory) -> Self {
         RestoreError::NoMemory
     }
 }

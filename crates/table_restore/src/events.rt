@@ -3,8 +3,8 @@ ghost use Rattle.std.specs.Prelude.{◌≡◌, ◌+◌, ◌<◌, ◌≤◌, ◌^
 ghost use Rattle.its_types.specs.Maps.{device_of};
 ghost use Rattle.its_plain.specs.EventTables.{itt_of};
 ghost use Rattle.its_plain.specs.Walks as walks;
-ghost use Rattle.table_restore.specs.Walked.{after_all};
-ghost use Rattle.table_restore.specs.Found.{one_event, put_event, events_read};
+ghost use Rattle.standing_states.specs.Walked.{after_all};
+ghost use Rattle.standing_states.specs.Found.{one_event, put_event, events_read};
 ghost use Rattle.table_restore.specs.Outcome.{LookedEvent, Took};
 
 use crate::error::RestoreError;
@@ -75,7 +75,7 @@ fn map_one(maps: &mut Maps, dev: DeviceId, ev: u32, event: Option<Event>) -> Res
 {
     if let Some(event) = event {
         maps.room_for_event(dev)?;
-        maps.map_event(dev, EventId(ev), event.intid, event.icid);
+        maps.map_event(dev, EventId(ev), event);
     }
     Ok(())
 }

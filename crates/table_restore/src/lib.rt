@@ -6,13 +6,11 @@ mod collections;
 mod devices;
 mod error;
 mod events;
-mod laws;
 mod parts;
 mod place;
 mod redists;
 
 pub use error::RestoreError;
-pub use laws::{at_most_one_state_stands, offences_are_decided, standing_is_sound};
 pub use parts::{restore, restore_in};
 
 #[cfg(test)]

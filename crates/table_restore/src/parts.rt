@@ -1,24 +1,24 @@
-ghost use Rattle.std.specs.Prelude.{◌≡◌, ◌≤◌, ℕ, None, IfOk, map};
+ghost use Rattle.std.specs.Prelude.{◌≡◌, ◌≤◌, ℕ, None, IfOk, IfErr};
 ghost use Rattle.gits_regs.specs.Registers as registers;
-ghost use Rattle.its_types.specs.Maps.{no_maps};
-ghost use Rattle.its_plain.specs.Machine.{described_bases};
-ghost use Rattle.its_plain.specs.Made.{IsDescription};
-ghost use Rattle.its_plain.specs.Sound.{IsShape};
+ghost use Rattle.its_plain.specs.Sound.{IsShape, IsLayout};
 ghost use Rattle.its_plain.specs.Stands.{Stands, IsFirstFault};
 ghost use Rattle.lpi_pending.specs.InHand.{in_hand};
-ghost use Rattle.owned_parts.specs.Owned.{AreAllInHand, layout_of, state_of};
-ghost use Rattle.table_restore.specs.Found.{maps_read};
-ghost use Rattle.table_restore.specs.Outcome.{RestoredRegs, RestoredMaps, IfFault};
+ghost use Rattle.owned_parts.specs.Owned.{AreAllInHand, state_of, state_of_parts};
+ghost use Rattle.standing_states.specs.Found.{maps_read};
+ghost use Rattle.standing_states.specs.Laws.{bases_to_restore};
+ghost use Rattle.table_restore.specs.Outcome.{RestoredRegs, RestoredMaps, IfFault, WhereFault};
 
 use crate::collections::map_collections;
 use crate::devices::map_devices;
 use crate::error::RestoreError;
 use crate::redists::redists_of;
+use gicr_regs::GicrValues;
 use gits_regs::{NotValid, RegValues, Regs, restore_regs};
 use guest_windows::Memory;
 use its_maps::Maps;
-use its_plain::{Desc, RestoreFault};
+use its_plain::{Layout, RestoreFault};
 use its_types::Shape;
+use lpi_pending::Redists;
 use owned_parts::Parts;
 use std::alloc::Global;
 
@@ -43,47 +43,91 @@ fn maps_of(alloc: Global, regs: &Regs, memory: &Memory, shape: Shape) -> Result<
     Ok(maps)
 }
 
-/// The machine that memory and the values of a translator's registers stand for, with a copy of the memory, or their first
-/// offence. LPIs are on at the tables that the description gives, and a table of these that doesn't lie in one window is an
-/// offence before all others. Registers come next, then collections, and then devices with their events.
+// What memory and register values stand for, but for the memory itself.
+#[derive(Drop)]
+struct Found {
+    layout: Layout,
+    regs: Regs,
+    maps: Maps,
+    redists: Redists,
+}
+
+fn find(
+    alloc: Global,
+    values: RegValues,
+    gicr: &GicrValues,
+    memory: &Memory,
+    layout: &Layout,
+) -> Result<Found, RestoreError>
+    requires { IsLayout layout.now }
+    ensures stands { IfOk result (λ f. Stands memory.now values layout.now (bases_to_restore layout.now gicr.now) (state_of f.layout f.regs f.maps.maps memory.now f.redists)) }
+    ensures layout { IfOk result (λ f. f.layout ≡ layout.now) }
+    ensures in_hand { IfOk result (λ f. AreAllInHand layout.now.shape f.redists) }
+    ensures no_others { IfOk result (λ f. (vcpu : ℕ) → layout.now.shape.vcpus ≤ vcpu → in_hand f.redists vcpu ≡ None) }
+    ensures fault { IfFault result (λ f. IsFirstFault memory.now values layout.now.shape (bases_to_restore layout.now gicr.now) f) }
+{
+    let redists = redists_of(alloc, memory, gicr, layout)?;
+    let regs = regs_of(values, layout.shape)?;
+    let maps = maps_of(alloc, &regs, memory, layout.shape)?;
+    Ok(Found {
+        layout: layout.copy(alloc)?,
+        regs,
+        maps,
+        redists,
+    })
+}
+
+/// The machine that memory, the values of a translator's registers and those of the redistributors' LPI registers stand for,
+/// with a copy of the memory, or their first offence. A redistributor whose LPIs are on and of which a table doesn't lie in
+/// one window is an offence before all others; then come the registers, the collections, and the devices with their events.
+/// Where the layout describes the LPI tables, the values of the LPI registers aren't looked at.
 pub fn restore(
     alloc: Global,
     values: RegValues,
+    gicr: &GicrValues,
     memory: &Memory,
-    desc: &Desc,
+    layout: &Layout,
 ) -> Result<Parts, RestoreError>
-    requires { IsDescription desc.now }
-    ensures stands { IfOk result (λ p. Stands memory.now values (layout_of desc.now) (layout_of desc.now).described (state_of (layout_of desc.now) p.regs p.maps.maps p.memory p.redists)) }
+    requires { IsLayout layout.now }
+    ensures stands { IfOk result (λ p. Stands memory.now values layout.now (bases_to_restore layout.now gicr.now) (state_of_parts p)) }
+    ensures layout { IfOk result (λ p. p.layout ≡ layout.now) }
     ensures copy { IfOk result (λ p. p.memory ≡ memory.now) }
-    ensures in_hand { IfOk result (λ p. AreAllInHand desc.now.shape p.redists) }
-    ensures no_others { IfOk result (λ p. (vcpu : ℕ) → desc.now.shape.vcpus ≤ vcpu → in_hand p.redists vcpu ≡ None) }
-    ensures fault { IfFault result (λ f. IsFirstFault memory.now values desc.now.shape (layout_of desc.now).described f) }
+    ensures in_hand { IfOk result (λ p. AreAllInHand layout.now.shape p.redists) }
+    ensures no_others { IfOk result (λ p. (vcpu : ℕ) → layout.now.shape.vcpus ≤ vcpu → in_hand p.redists vcpu ≡ None) }
+    ensures fault { IfFault result (λ f. IsFirstFault memory.now values layout.now.shape (bases_to_restore layout.now gicr.now) f) }
 {
     let memory = memory.copy(alloc)?;
-    restore_in(alloc, values, memory, desc)
+    match restore_in(alloc, values, gicr, memory, layout) {
+        Ok(parts) => Ok(parts),
+        Err((_, error)) => Err(error),
+    }
 }
 
-/// The same, with the memory itself in place of a copy.
+/// The same, with the memory itself in place of a copy. With an error it comes back as it was.
 pub fn restore_in(
     alloc: Global,
     values: RegValues,
+    gicr: &GicrValues,
     memory: Memory,
-    desc: &Desc,
-) -> Result<Parts, RestoreError>
-    requires { IsDescription desc.now }
-    ensures stands { IfOk result (λ p. Stands memory values (layout_of desc.now) (layout_of desc.now).described (state_of (layout_of desc.now) p.regs p.maps.maps p.memory p.redists)) }
+    layout: &Layout,
+) -> Result<Parts, (Memory, RestoreError)>
+    requires { IsLayout layout.now }
+    ensures stands { IfOk result (λ p. Stands memory values layout.now (bases_to_restore layout.now gicr.now) (state_of_parts p)) }
+    ensures layout { IfOk result (λ p. p.layout ≡ layout.now) }
     ensures memory { IfOk result (λ p. p.memory ≡ memory) }
-    ensures in_hand { IfOk result (λ p. AreAllInHand desc.now.shape p.redists) }
-    ensures no_others { IfOk result (λ p. (vcpu : ℕ) → desc.now.shape.vcpus ≤ vcpu → in_hand p.redists vcpu ≡ None) }
-    ensures fault { IfFault result (λ f. IsFirstFault memory values desc.now.shape (layout_of desc.now).described f) }
+    ensures in_hand { IfOk result (λ p. AreAllInHand layout.now.shape p.redists) }
+    ensures no_others { IfOk result (λ p. (vcpu : ℕ) → layout.now.shape.vcpus ≤ vcpu → in_hand p.redists vcpu ≡ None) }
+    ensures fault { IfErr result (λ e. WhereFault e.1 (λ f. IsFirstFault memory values layout.now.shape (bases_to_restore layout.now gicr.now) f)) }
+    ensures back { IfErr result (λ e. e.0 ≡ memory) }
 {
-    let redists = redists_of(alloc, &memory, desc)?;
-    let regs = regs_of(values, desc.shape)?;
-    let maps = maps_of(alloc, &regs, &memory, desc.shape)?;
-    Ok(Parts {
-        regs,
-        maps,
-        memory,
-        redists,
-    })
+    match find(alloc, values, gicr, &memory, layout) {
+        Ok(found) => Ok(Parts {
+            layout: found.layout,
+            regs: found.regs,
+            maps: found.maps,
+            memory,
+            redists: found.redists,
+        }),
+        Err(error) => Err((memory, error)),
+    }
 }

@@ -1,23 +1,28 @@
 //! The redistributors, from their tables in memory.
-ghost use Rattle.std.specs.Prelude.{◌≡◌, ◌+◌, ◌<◌, ◌≤◌, ◌^◌, ℕ, true, IfOk, map, length};
+ghost use Rattle.std.specs.Prelude.{◌≡◌, ◌+◌, ◌<◌, ◌≤◌, ◌^◌, ℕ, true, false, IfOk, OnOk, Some, slice_get, length};
 ghost use Rattle.guest_windows.specs.Windows.{inside};
 ghost use Rattle.its_types.specs.Ranges.{pending_bytes};
-ghost use Rattle.its_plain.specs.Machine.{described_bases};
-ghost use Rattle.its_plain.specs.Made.{IsDescription};
-ghost use Rattle.its_plain.specs.Sound.{IsShape};
+ghost use Rattle.its_plain.specs.Sound.{IsShape, IsLayout};
 ghost use Rattle.its_plain.specs.Stands.{ArePendingIn};
-ghost use Rattle.table_restore.specs.Outcome.{RestoredRedist, RestoredRedists};
+ghost use Rattle.standing_states.specs.Laws.{bases_to_restore};
+ghost use Rattle.table_restore.specs.Outcome.{IsOffRedist, RestoredRedist, RestoredRedists};
 
 use crate::error::RestoreError;
-use guest_windows::{Memory, NoMemory};
-use its_plain::{Desc, RestoreFault};
+use gicr_regs::{GicrValues, restored_bases};
+use guest_windows::Memory;
+use its_plain::{Layout, RestoreFault};
 use its_types::{Addr, Bases, Shape, Vcpu};
 use lpi_config::Config;
 use lpi_pending::{Pending, Redist, Redists};
-use std::alloc::Global;
+use std::alloc::{AllocError, Global};
 
 // The LPIs that a pending table has.
-fn pending_of(alloc: Global, memory: &Memory, base: Addr, shape: Shape) -> Result<Pending, NoMemory>
+fn pending_of(
+    alloc: Global,
+    memory: &Memory,
+    base: Addr,
+    shape: Shape,
+) -> Result<Pending, AllocError>
     requires shape { IsShape shape }
     requires inside { inside memory.now base.0 (pending_bytes shape.lpi_bits) ≡ true }
     requires low { base.0 < 2 ^ 53 }
@@ -36,8 +41,8 @@ fn pending_of(alloc: Global, memory: &Memory, base: Addr, shape: Shape) -> Resul
     Ok(pending)
 }
 
-// A virtual processor's redistributor, whose LPIs are on at these tables.
-fn redist_of(
+// A virtual processor's redistributor, whose LPIs are on at its tables.
+fn on_redist(
     alloc: Global,
     memory: &Memory,
     shape: Shape,
@@ -48,14 +53,14 @@ fn redist_of(
     requires on { bases.on ≡ true }
     ensures { RestoredRedist shape memory.now vcpu.0 bases result }
 {
-    if !memory.inside(bases.config, shape.lpi_count()) {
+    if !memory.inside(bases.prop.table, shape.lpi_count()) {
         return Err(RestoreError::Fault(RestoreFault::BadRedist(vcpu)));
     }
-    if !memory.inside(bases.pending, shape.pending_bytes()) {
+    if !memory.inside(bases.pend.table, shape.pending_bytes()) {
         return Err(RestoreError::Fault(RestoreFault::BadRedist(vcpu)));
     }
-    let config = Config::load(alloc, memory, bases.config, shape.lpi_bits)?;
-    let pending = pending_of(alloc, memory, bases.pending, shape)?;
+    let config = Config::load(alloc, memory, bases.prop.table, shape.lpi_bits)?;
+    let pending = pending_of(alloc, memory, bases.pend.table, shape)?;
     Ok(Redist {
         pending,
         config,
@@ -63,29 +68,68 @@ fn redist_of(
     })
 }
 
-// LPIs are on at the tables described.
-fn bases(config: Addr, pending: Addr) -> Bases
-    ensures { result ≡ described_bases config pending }
+// One whose LPIs are off: its tables aren't read.
+fn off_redist(alloc: Global, shape: Shape, bases: Bases) -> Result<Redist, AllocError>
+    requires shape { IsShape shape }
+    requires off { bases.on ≡ false }
+    ensures { IfOk result (IsOffRedist shape bases) }
 {
-    Bases {
-        on: true,
-        config,
-        pending,
+    Ok(Redist {
+        pending: Pending::new(alloc, shape.lpi_bits)?,
+        config: Config::zeros(alloc, shape.lpi_bits)?,
+        bases,
+    })
+}
+
+fn redist_of(
+    alloc: Global,
+    memory: &Memory,
+    shape: Shape,
+    vcpu: Vcpu,
+    bases: Bases,
+) -> Result<Redist, RestoreError>
+    requires shape { IsShape shape }
+    ensures { RestoredRedist shape memory.now vcpu.0 bases result }
+{
+    if bases.on {
+        on_redist(alloc, memory, shape, vcpu, bases)
+    } else {
+        Ok(off_redist(alloc, shape, bases)?)
     }
 }
 
-/// The redistributors of a description's virtual processors, or the first of them of which a table doesn't lie in one
-/// window.
-pub fn redists_of(alloc: Global, memory: &Memory, desc: &Desc) -> Result<Redists, RestoreError>
-    requires { IsDescription desc.now }
-    ensures { RestoredRedists desc.now.shape memory.now (map (described_bases desc.now.config) desc.now.pending) result }
+// The registers with which a virtual processor's redistributor begins.
+fn bases_of(gicr: &GicrValues, layout: &Layout, vcpu: u8) -> Bases
+    requires layout { IsLayout layout.now }
+    requires vcpu { vcpu < layout.now.shape.vcpus }
+    ensures bases { slice_get (bases_to_restore layout.now gicr.now) vcpu ≡ Some result }
+    ensures many { length (bases_to_restore layout.now gicr.now) ≡ layout.now.shape.vcpus }
 {
+    if layout.gicr {
+        restored_bases(&gicr.registers[vcpu as usize])
+    } else {
+        layout.described.as_slice()[vcpu as usize]
+    }
+}
+
+/// The redistributors of all virtual processors, or the first of them whose LPIs are on and of which a table doesn't lie in
+/// one window.
+pub fn redists_of(
+    alloc: Global,
+    memory: &Memory,
+    gicr: &GicrValues,
+    layout: &Layout,
+) -> Result<Redists, RestoreError>
+    requires { IsLayout layout.now }
+    ensures redists { RestoredRedists layout.now.shape memory.now (bases_to_restore layout.now gicr.now) result }
+    ensures many { OnOk result (length (bases_to_restore layout.now gicr.now) ≡ layout.now.shape.vcpus) }
+{
+    let shape = layout.shape;
     let mut redists = Redists::new(alloc)?;
-    for (vcpu, pending) in desc.pending.as_slice().iter().enumerate() {
-        let vcpu = Vcpu(vcpu as u8);
-        let bases = bases(desc.config, *pending);
-        let redist = redist_of(alloc, memory, desc.shape, vcpu, bases)?;
-        redists.place(vcpu, Box::new(alloc, redist)?);
+    for vcpu in 0..shape.vcpus {
+        let bases = bases_of(gicr, layout, vcpu);
+        let redist = redist_of(alloc, memory, shape, Vcpu(vcpu), bases)?;
+        redists.place(Vcpu(vcpu), Box::new(alloc, redist)?);
     }
     Ok(redists)
 }

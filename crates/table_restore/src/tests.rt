@@ -1,12 +1,16 @@
 ghost use Rattle.std.specs.Prelude.{◌≡◌, ◌<◌, IfOk};
-ghost use Rattle.its_plain.specs.Made.{IsDescription};
+ghost use Rattle.its_plain.specs.Sound.{IsLayout};
 ghost use Rattle.owned_parts.specs.Owned.{AreAllInHand};
 
 use crate::{RestoreError, restore};
+use gicr_regs::{GicrRegisters, GicrValues};
 use gits_regs::{RegValues, Register};
 use guest_windows::{Memory, Outside};
-use its_plain::{Desc, RestoreFault, Table};
-use its_types::{Addr, DeviceId, EventId, Icid, Intid, Limits, Listed, Profile, Shape, Vcpu};
+use its_maps::LookUp;
+use its_plain::{Layout, RestoreFault, Table};
+use its_types::{
+    Addr, Bases, Device, DeviceId, Event, EventId, Icid, Intid, Listed, Profile, Shape, Vcpu,
+};
 use owned_parts::Parts;
 use std::alloc::{AllocError, Global};
 use std::test::Fail;
@@ -21,33 +25,20 @@ const VALUES: RegValues = RegValues {
     baser1: 0x8407_0000_8001_0200,
 };
 
-// Four virtual processors.
-fn desc(alloc: Global) -> Result<Desc, AllocError>
-    ensures described { IfOk result IsDescription }
-    ensures vcpus { IfOk result (λ d. d.shape.vcpus ≡ 4) }
+// Four virtual processors, whose LPIs are on at these tables.
+fn layout(alloc: Global) -> Result<Layout, AllocError>
+    ensures layout { IfOk result IsLayout }
+    ensures vcpus { IfOk result (λ l. l.shape.vcpus ≡ 4) }
 {
-    let mut pending = Listed::new(alloc);
-    pending.push(Addr(0x8004_0000))?;
-    pending.push(Addr(0x8005_0000))?;
-    pending.push(Addr(0x8006_0000))?;
-    pending.push(Addr(0x8007_0000))?;
-    Ok(Desc {
-        shape: Shape {
-            vcpus: 4,
-            dev_bits: 16,
-            lpi_bits: 16,
-            profile: Profile::One,
-        },
-        shards: 4,
-        limits: Limits {
-            stamp_last: 16_777_215,
-            place_last: 1_099_511_627_775,
-        },
-        windows: Listed::new(alloc),
-        config: Addr(0x8003_0000),
-        pending,
-        fills: Listed::new(alloc),
-        restore: None,
+    let mut described = Listed::new(alloc);
+    described.push(Bases::described(CONFIG, Addr(0x8004_0000)))?;
+    described.push(Bases::described(CONFIG, Addr(0x8005_0000)))?;
+    described.push(Bases::described(CONFIG, Addr(0x8006_0000)))?;
+    described.push(Bases::described(CONFIG, Addr(0x8007_0000)))?;
+    Ok(Layout {
+        shape: SHAPE,
+        gicr: false,
+        described,
     })
 }
 
@@ -58,6 +49,31 @@ fn put(memory: &mut Memory, words: &[(u64, u64)]) -> Result<(), Outside> {
     Ok(())
 }
 
+// What an entry 0x8000_0000_1001_8004 maps a device to.
+const DEVICE: Device = Device {
+    itt: Addr(0x800c_0000),
+    bits: 5,
+};
+
+const CONFIG: Addr = Addr(0x8003_0000);
+
+const SHAPE: Shape = Shape {
+    vcpus: 4,
+    dev_bits: 16,
+    lpi_bits: 16,
+    profile: Profile::One,
+};
+
+const OFF: GicrRegisters = GicrRegisters {
+    ctlr: 0,
+    propbaser: 0,
+    pendbaser: 0,
+};
+
+const ALL_OFF: GicrValues = GicrValues {
+    registers: [OFF; 16],
+};
+
 // What these register values stand for, with zeros in memory but for these words.
 fn restored(
     rt: &HostRuntime,
@@ -66,8 +82,8 @@ fn restored(
 ) -> Result<Result<Parts, RestoreError>, Fail> {
     let mut memory = Memory::new(rt.alloc(), &[(Addr(0x8000_0000), 0x20_0000)])?;
     put(&mut memory, words)?;
-    let desc = desc(rt.alloc())?;
-    Ok(restore(rt.alloc(), values, &memory, &desc))
+    let layout = layout(rt.alloc())?;
+    Ok(restore(rt.alloc(), values, &ALL_OFF, &memory, &layout))
 }
 
 fn first_fault(
@@ -168,22 +184,29 @@ fn old_entries_are_not_read(rt: HostRuntime) -> Result<(), Fail> {
         (0x8006_0400, 0x0100),
     ];
     put(&mut memory, &words)?;
-    let desc = desc(rt.alloc())?;
-    let Ok(parts) = restore(rt.alloc(), VALUES, &memory, &desc) else {
+    let layout = layout(rt.alloc())?;
+    let Ok(parts) = restore(rt.alloc(), VALUES, &ALL_OFF, &memory, &layout) else {
         return Err(AllocError)?;
     };
     let maps = &parts.maps;
     let here = DeviceId(16);
-    assert_eq!(rt; maps.device(here), Some((Addr(0x800c_0000), 5)));
+    assert_eq!(rt; maps.device(here), Some(DEVICE));
     assert_eq!(rt; maps.device(DeviceId(32)), None);
-    assert_eq!(rt; maps.event(here, EventId(5)), None);
-    assert_eq!(rt; maps.event(here, EventId(7)), Some((Intid(8201), Icid(1))));
+    assert_eq!(rt; maps.look_up(here, EventId(5)), LookUp::NoEvent(DEVICE));
+    let event = Event {
+        intid: Intid(8201),
+        icid: Icid(1),
+    };
+    assert_eq!(rt;
+        maps.look_up(here, EventId(7)),
+        LookUp::Mapped(DEVICE, event)
+    );
     assert_eq!(rt; maps.collection(Icid(1)), Some(Vcpu(2)));
     assert_eq!(rt;
-        first_pending(&parts, desc.shape, Vcpu(2)),
+        first_pending(&parts, layout.shape, Vcpu(2)),
         Some(Intid(8200))
     );
-    assert_eq!(rt; first_pending(&parts, desc.shape, Vcpu(0)), None);
+    assert_eq!(rt; first_pending(&parts, layout.shape, Vcpu(0)), None);
     Ok(())
 }
 
@@ -200,9 +223,40 @@ fn one_page_of_two_entries(rt: HostRuntime) -> Result<(), Fail> {
     let Ok(parts) = restored(&rt, values, &words)? else {
         return Err(AllocError)?;
     };
-    let mapped = Some((Addr(0x800c_0000), 5));
+    let mapped = Some(DEVICE);
     assert_eq!(rt; parts.maps.device(DeviceId(0)), mapped);
     assert_eq!(rt; parts.maps.device(DeviceId(1)), None);
     assert_eq!(rt; parts.maps.device(DeviceId(8192)), mapped);
+    Ok(())
+}
+
+// Where the guest programs the LPI registers: virtual processor 2 reads its tables, and the others are off.
+#[test]
+fn registers_of_redistributors(rt: HostRuntime) -> Result<(), Fail> {
+    let mut memory = Memory::new(rt.alloc(), &[(Addr(0x8000_0000), 0x20_0000)])?;
+    put(&mut memory, &[(0x8003_0008, 0xa1), (0x8006_0400, 0x0100)])?;
+    let mut values = ALL_OFF;
+    values.registers[2] = GicrRegisters {
+        ctlr: 1,
+        propbaser: 0x8003_000f,
+        pendbaser: 0x8006_0000,
+    };
+    let layout = Layout {
+        shape: SHAPE,
+        gicr: true,
+        described: Listed::new(rt.alloc()),
+    };
+    let Ok(parts) = restore(rt.alloc(), VALUES, &values, &memory, &layout) else {
+        return Err(AllocError)?;
+    };
+    assert_eq!(rt;
+        first_pending(&parts, layout.shape, Vcpu(2)),
+        Some(Intid(8200))
+    );
+    assert_eq!(rt; first_pending(&parts, layout.shape, Vcpu(0)), None);
+    values.registers[3].ctlr = 1;
+    let answer = restore(rt.alloc(), VALUES, &values, &memory, &layout);
+    let fault = RestoreFault::BadRedist(Vcpu(3));
+    assert!(rt; matches!(answer, Err(RestoreError::Fault(found)) if found == fault));
     Ok(())
 }

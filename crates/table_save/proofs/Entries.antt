@@ -11,19 +11,18 @@ use Rattle.its_types.specs.Maps.{Maps, device_of, event_of}
 use Rattle.its_types.specs.declared.ids.Addr.{Addr}
 use Rattle.its_types.specs.declared.translation.Device.{Device}
 use Rattle.its_types.specs.declared.translation.Event.{Event}
-use Rattle.its_maps.specs.MapsRoom.{events_at}
-use Rattle.table_entries.specs.Words.{packed_device, packed_event}
+use Rattle.its_types.specs.Maps.{events_at}
 use Rattle.its_plain.specs.Plain.{Translator}
 use Rattle.its_plain.specs.Saved.{Words, put_words, put_tables, device_words, collection_words, pending_words, translator_words, words_of, distance, device_after, event_after, device_entry, event_entry, page_words, device_word, event_word, itt_words, pages_words}
 use Rattle.table_save.specs.Pass.{packed_if, pack_device, pack_event, key_after, device_entry_word, event_entry_word}
 use Rattle.table_save.specs.Tables.{all_tables, ArePages, address_of, page_at, page_table, page_tables, itt_tables}
-use Rattle.its_plain.specs.declared.desc.Desc.{Desc}
+use Rattle.its_plain.specs.declared.layout.Layout.{Layout}
 use Rattle.lpi_pending.specs.declared.redist.Redist.{Redist}
-use Rattle.owned_parts.specs.Owned.{state_of, layout_of}
+use Rattle.owned_parts.specs.Owned.{state_of}
 use Rattle.table_save.specs.Areas.{redistributors_of}
 use Rattle.its_plain.specs.Regions.{device_pages}
 use Rattle.table_save.proofs.Written.{same_words, tables_append}
-use Rattle.table_save.proofs.EventsOf.{find_of_device, after_of_device}
+use Rattle.standing_states.proofs.EventsOf.{find_of_device, after_of_device}
 
 -- ---- devices
 
@@ -100,11 +99,11 @@ all_written memory one two three four ds cs is ps a b c d =
     d ∙ ap (λ m. put_tables m ps) (c ∙ ap (λ m. put_tables m is) (b ∙ ap (λ m. put_tables m cs) a ∙ sym (tables_append memory ds cs)) ∙ sym (tables_append memory (ds ++ cs) is))
     ∙ sym (tables_append memory (ds ++ cs ++ is) ps)
 
-pub words_are : (d : Desc) (r : Registers) (m : Maps) (memory : List Window) (redists : List (Option Redist))
-    → all_tables memory r m (redistributors_of d.shape redists) d.shape ≡ words_of (state_of (layout_of d) r m memory redists)
+pub words_are : (l : Layout) (r : Registers) (m : Maps) (memory : List Window) (redists : List (Option Redist))
+    → all_tables memory r m (redistributors_of l.shape redists) l.shape ≡ words_of (state_of l r m memory redists)
 unfolding words_of translator_words
-words_are d r m memory redists =
+words_are l r m memory redists =
     let t : Translator = record { regs = r; maps = m } in
-    let ps = flat_map (pending_words d.shape) (redistributors_of d.shape redists) in
+    let ps = flat_map (pending_words l.shape) (redistributors_of l.shape redists) in
     ap (λ is. device_words t memory ++ collection_words t ++ is ++ ps) (itts_are m)
     ∙ sym (ap (λ ts. ts ++ ps) (append-nil (device_words t memory ++ collection_words t ++ itt_words m)))

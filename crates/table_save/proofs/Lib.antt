@@ -1,15 +1,10 @@
-pub mod Disjoint
+pub mod Overlaps
 pub mod CollectionWalks
-pub mod EventsOf
 pub mod PageTables
-pub mod ReadBack
 pub mod Redistributors
 pub mod Rises
 pub mod Written
 pub mod Entries
-pub mod SavedPlaces
-pub mod SavedState
-pub mod SavedTables
 pub mod SoundState
 pub mod Tested
 pub mod SoundTried

@@ -7,10 +7,9 @@ use Rattle.std.specs.List.{flat_map}
 use Rattle.guest_windows.specs.Windows.{Window}
 use Rattle.its_plain.specs.Saved.{Words, put_tables, pending_words}
 use Rattle.table_save.proofs.Written.{tables_append}
-use Rattle.its_plain.specs.Regions as regions
 use Rattle.its_plain.specs.declared.area.Area.{Area}
 use Rattle.its_plain.specs.Regions.{areas_from}
-use Rattle.table_save.specs.Areas.{pending_area, redistributors_of}
+use Rattle.table_save.specs.Areas.{redistributors_of}
 use Rattle.lpi_pending.specs.InHand.{in_hand}
 use Rattle.lpi_pending.specs.declared.redist.Redist.{Redist}
 use Rattle.owned_parts.specs.Owned.{redistributor_of, redistributor_or}
@@ -23,16 +22,16 @@ drop_in_hand (suc n) zero (x ∷ xs) r lt is = ap (λ (o : Option Redist). redis
 drop_in_hand (suc n) (suc v) (x ∷ xs) r lt is = drop_in_hand n v xs r (omega arith) is
 
 -- one redistributor's area more
-pub pending_more : (shape : Shape) (v : ℕ) (redists : List (Option Redist)) (r : Redist) (old now whole : List Area) → v < shape.vcpus → in_hand redists v ≡ Some r
-    → now ≡ old ++ pending_area shape (record { 0 = v }) r.bases
-    → old ++ areas_from (regions.pending_area shape) v (drop v (redistributors_of shape redists)) ≡ whole
-    → now ++ areas_from (regions.pending_area shape) (v + 1) (drop (v + 1) (redistributors_of shape redists)) ≡ whole
-pending_more shape v redists r old now whole lt is added so_far =
+pub area_more : (area : ℕ → Redistributor → List Area) (shape : Shape) (v : ℕ) (redists : List (Option Redist)) (r : Redist) (old now whole : List Area) → v < shape.vcpus → in_hand redists v ≡ Some r
+    → now ≡ old ++ area v (redistributor_of r)
+    → old ++ areas_from area v (drop v (redistributors_of shape redists)) ≡ whole
+    → now ++ areas_from area (v + 1) (drop (v + 1) (redistributors_of shape redists)) ≡ whole
+area_more area shape v redists r old now whole lt is added so_far =
     let rs = redistributors_of shape redists in
-    let here : List Area = pending_area shape (record { 0 = v }) r.bases in
-    let rest : List Area = areas_from (regions.pending_area shape) (suc v) (drop (suc v) rs) in
+    let here : List Area = area v (redistributor_of r) in
+    let rest : List Area = areas_from area (suc v) (drop (suc v) rs) in
     rw add-one (ap (λ (xs : List Area). xs ++ rest) added ∙ append_assoc old here rest
-    ∙ ap (λ (ds : List Redistributor). old ++ areas_from (regions.pending_area shape) v ds) (sym (drop_in_hand shape.vcpus v redists r lt is)) ∙ so_far)
+    ∙ ap (λ (ds : List Redistributor). old ++ areas_from area v ds) (sym (drop_in_hand shape.vcpus v redists r lt is)) ∙ so_far)
 
 -- one redistributor's table more
 pub table_more : (shape : Shape) (v : ℕ) (redists : List (Option Redist)) (r : Redist) (before now : List Window) (whole : List Window) → v < shape.vcpus → in_hand redists v ≡ Some r

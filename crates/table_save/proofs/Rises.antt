@@ -1,15 +1,11 @@
 -- A rising pass: what is left of the entries answers for the places to come as all of them do.
-use Rattle.std.proofs.Common.{◌≡◌, ℕ, ◌+◌, ◌<◌, ◌≤◌, true, false, cond, List, [], ◌∷◌, length, drop, Some, None, refl, sym, subst, ap, ◌∙◌, eq-eqb, arith}
+pub use Rattle.standing_states.proofs.Rises.{find_skips, find_here, rises_none, later_rises, sorted_rises, map_rises}
+use Rattle.std.proofs.Common.{◌≡◌, ℕ, ◌+◌, ◌<◌, ◌≤◌, true, false, cond, List, [], ◌∷◌, length, drop, Some, None, refl, sym, subst, ap, ◌∙◌, arith}
 use Rattle.std.specs.Prelude.{◌==◌}
 use Rattle.std.specs.List.{AllByRecursion}
 use Rattle.std.specs.Ordering.{nat_cmp}
-use Rattle.std.specs.Cmp.{unsigned_tied}
 use Rattle.std.specs.FinMap as finmap
-use Rattle.std.specs.FinMap.{FinMap}
-use Rattle.std.specs.FinMap.Entries.{below_all}
-use lib.Dec.{T}
-use Rattle.its_maps.proofs.Rising.{first, second, below}
-use Rattle.std.proofs.lemmas.Bool.{le-ltb, ltb-true, ltb-false, eqb-true, eqb-false, ne_eqb}
+use Rattle.std.proofs.lemmas.Bool.{le-ltb, ltb-true, ltb-false, eqb-true, eqb-false}
 use Rattle.its_plain.specs.Saved.{distance}
 use Rattle.table_save.specs.Pass.{RisesFrom, past, begins_below, key_after, packed_if, entry_word, Passed}
 
@@ -20,20 +16,6 @@ pub record Skipping {X : Type 0} (Fits : ℕ × X → Type 0) (pack : X → ℕ 
   pub fit : AllByRecursion Fits rest
 
 module _ {X : Type 0} where
-  pub find_skips : (k : ℕ) (e : ℕ × X) (es : List (ℕ × X)) → (k ≡ e.0 → ⊥) → finmap.find nat_cmp k (e ∷ es) ≡ finmap.find nat_cmp k es
-  find_skips k e es apart = ap (λ b. cond b (Some e.1) (finmap.find nat_cmp k es)) (unsigned_tied k e.0 ∙ ne_eqb k e.0 apart)
-
-  pub find_here : (k : ℕ) (e : ℕ × X) (es : List (ℕ × X)) → k ≡ e.0 → finmap.find nat_cmp k (e ∷ es) ≡ Some e.1
-  find_here k e es is = ap (λ b. cond b (Some e.1) (finmap.find nat_cmp k es)) (unsigned_tied k e.0 ∙ eq-eqb k e.0 is)
-
-  pub rises_none : (k i : ℕ) (es : List (ℕ × X)) → RisesFrom i es → k < i → finmap.find nat_cmp k es ≡ None
-  rises_none k i [] r lt = refl
-  rises_none k i (e ∷ es) r lt = let low = r.0 in find_skips k e es (λ s. omega arith) ∙ rises_none k (e.0 + 1) es r.1 (omega arith)
-
-  pub later_rises : (i j : ℕ) (es : List (ℕ × X)) → RisesFrom i es → j ≤ i → RisesFrom j es
-  later_rises i j [] r le = tt
-  later_rises i j (e ∷ es) r le = let low = r.0 in (omega arith, r.1)
-
   -- ---- past one place
 
   pub past_rises : (i : ℕ) (es : List (ℕ × X)) → RisesFrom i es → RisesFrom (i + 1) (past i es)
@@ -124,17 +106,3 @@ module _ {X : Type 0} where
     pub shorter : (id : ℕ) (rest : List (ℕ × X)) → begins_below id rest ≡ true → length (drop 1 rest) < length rest
     shorter id [] below = absurd cc
     shorter id (e ∷ es) below = omega arith
-
--- ---- the entries of a map rise
-
-module _ {X : Type 0} where
-  rises_above : (x : ℕ) (es : List (ℕ × X)) → T (below_all nat_cmp x es) → T (finmap.is_sorted nat_cmp es) → RisesFrom (x + 1) es
-  rises_above x [] low sorted = tt
-  rises_above x (e ∷ es) low sorted = let lt = below x e.0 (first _ _ low) in (omega arith, rises_above e.0 es (first _ _ sorted) (second _ _ sorted))
-
-  pub sorted_rises : (es : List (ℕ × X)) → T (finmap.is_sorted nat_cmp es) → RisesFrom 0 es
-  sorted_rises [] sorted = tt
-  sorted_rises (e ∷ es) sorted = (omega arith, rises_above e.0 es (first _ _ sorted) (second _ _ sorted))
-
-  pub map_rises : (m : FinMap nat_cmp X) → RisesFrom 0 (finmap.entries m)
-  map_rises m = sorted_rises (finmap.entries m) (finmap.entries_sorted m)

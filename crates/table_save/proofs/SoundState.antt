@@ -1,5 +1,5 @@
 -- What a sound state says of the parts in hand.
-use Rattle.std.proofs.Common.{◌≡◌, ℕ, zero, suc, ◌+◌, ◌<◌, ◌≤◌, ◌^◌, true, List, [], ◌∷◌, map, take, Option, Some, None, inl, inr, refl, sym, ap, ◌∙◌, arith}
+use Rattle.std.proofs.Common.{◌≡◌, ℕ, zero, suc, ◌+◌, ◌-◌, ◌<◌, ◌≤◌, ◌^◌, true, false, List, [], ◌∷◌, map, take, Option, Some, None, inl, inr, refl, sym, ap, ◌∙◌, arith}
 use Rattle.std.specs.Prelude.{◌&&◌, nat_lt, nat_le, length, slice_get}
 use Rattle.std.specs.List.{AllByRecursion, list_all}
 use Rattle.std.specs.Ordering.{nat_cmp}
@@ -9,16 +9,19 @@ use Rattle.std.proofs.lemmas.Bool.{and_parts, or_cases, leb-true, cases_lt}
 use Rattle.guest_windows.specs.Windows.{Window, has, inside, are_windows, in_range, share_no_byte, total, extent}
 use Rattle.guest_windows.proofs.Laws.{has-fits}
 use Rattle.gits_regs.specs.Registers.{Registers}
+use Rattle.gicr_regs.specs.Registers.{AreLow}
+use Rattle.its_types.specs.Ranges.{lpi_count, pending_bytes}
+use Rattle.std.proofs.Math.Pow.{pow_mono}
 use Rattle.its_types.specs.Maps.{Maps}
-use Rattle.its_maps.specs.MapsRoom.{events_at}
+use Rattle.its_types.specs.Maps.{events_at}
 use Rattle.its_plain.specs.Sound.{IsSound, IsTranslator}
-use Rattle.its_plain.specs.declared.desc.Desc.{Desc}
+use Rattle.its_plain.specs.declared.layout.Layout.{Layout}
 use Rattle.lpi_pending.specs.InHand.{in_hand}
 use Rattle.lpi_pending.specs.declared.redist.Redist.{Redist}
-use Rattle.owned_parts.specs.Owned.{state_of, layout_of, redistributor_of, redistributor_or}
+use Rattle.owned_parts.specs.Owned.{state_of, redistributor_of, redistributor_or}
 use Rattle.table_save.specs.Areas.{HasLowTable, HaveLowTables}
 use Rattle.table_save.specs.Pass.{RisesFrom, FitsDevice, FitsEvent}
-use Rattle.table_save.proofs.EventsOf.{events_rise, find_of_device}
+use Rattle.standing_states.proofs.EventsOf.{events_rise, find_of_device}
 use Rattle.table_save.proofs.Rises.{find_here, find_skips, rises_none, map_rises}
 
 -- ---- each entry of a list that rises
@@ -54,6 +57,13 @@ are_in_range ws h =
     let ranges = and_parts (few && list_all in_range ws) (share_no_byte ws) apart.0 in
     (and_parts few (list_all in_range ws) ranges.0).1
 
+-- tables of LPIs have bytes
+some_bytes : (bits : ℕ) → 14 ≤ bits → (0 < lpi_count bits) × (0 < pending_bytes bits)
+some_bytes bits least =
+    let all : 2 ^ 14 ≤ 2 ^ bits = pow_mono {i = 14} {j = bits} least in
+    let part : 2 ^ 11 ≤ 2 ^ (bits - 3) = pow_mono {i = 11} {j = bits - 3} (omega arith) in
+    (omega arith, omega arith)
+
 -- ---- the parts
 
 pub in_hand_here : (n v : ℕ) (redists : List (Option Redist)) (r : Redist) → v < n → in_hand redists v ≡ Some r → slice_get (map redistributor_or (take n redists)) v ≡ Some (redistributor_of r)
@@ -62,8 +72,8 @@ in_hand_here zero v (x ∷ xs) r lt is = absurd (omega arith)
 in_hand_here (suc n) zero (x ∷ xs) r lt is = ap (λ (o : Option Redist). Some (redistributor_or o)) is
 in_hand_here (suc n) (suc v) (x ∷ xs) r lt is = in_hand_here n v xs r (omega arith) is
 
-module _ (d : Desc) (r : Registers) (m : Maps) (memory : List Window) (redists : List (Option Redist)) (sound : IsSound (state_of (layout_of d) r m memory redists)) where
-  translator : IsTranslator d.shape (record { regs = r; maps = m })
+module _ (l : Layout) (r : Registers) (m : Maps) (memory : List Window) (redists : List (Option Redist)) (sound : IsSound (state_of l r m memory redists)) where
+  translator : IsTranslator l.shape (record { regs = r; maps = m })
   translator = sound.translators 0 (record { regs = r; maps = m }) refl
 
   pub devices_fit : AllByRecursion FitsDevice (finmap.entries m.devices)
@@ -77,12 +87,24 @@ module _ (d : Desc) (r : Registers) (m : Maps) (memory : List Window) (redists :
   pub events_fit : (dev : ℕ) → AllByRecursion FitsEvent (events_at m dev)
   events_fit dev = each_found FitsEvent 0 (events_at m dev) (events_rise m dev) (λ k x is.
       let h = translator.events dev k x (get-entries m.events (dev, k) ∙ sym (find_of_device dev k (finmap.entries m.events)) ∙ is) in
-      let low = leb-true 8192 x.intid.0 (and_parts (nat_le 8192 x.intid.0) (nat_lt x.intid.0 (2 ^ d.shape.lpi_bits)) h.lpi).0 in
+      let low = leb-true 8192 x.intid.0 (and_parts (nat_le 8192 x.intid.0) (nat_lt x.intid.0 (2 ^ l.shape.lpi_bits)) h.lpi).0 in
       omega (arith, low))
 
-  pub redistributors_low : HaveLowTables d.shape redists
+  pub redistributors_low : HaveLowTables l.shape redists
   redistributors_low = λ v q is lt.
-      let h = sound.redistributors v (redistributor_of q) (in_hand_here d.shape.vcpus v redists q lt is) in
-      let both = h.tables (h.always_on refl) in
+      let h = sound.redistributors v (redistributor_of q) (in_hand_here l.shape.vcpus v redists q lt is) in
       let windows = are_in_range (map extent memory) sound.memory in
-      record { config = window_low memory _ _ windows both.config; pending = window_low memory _ _ windows both.pending }
+      let least = sound.layout.shape.least_lpi_bits in
+      elim q.bases.on as (λ b. q.bases.on ≡ b → AreLow q.bases) [
+        | true ↦ λ on.
+            let both = h.tables on in
+            let config = window_low memory q.bases.prop.table.0 (lpi_count l.shape.lpi_bits) windows both.config in
+            let pending = window_low memory q.bases.pend.table.0 (pending_bytes l.shape.lpi_bits) windows both.pending in
+            let some = some_bytes l.shape.lpi_bits least in
+            record { prop = omega (arith, config, some); pend = omega (arith, pending, some) }
+        | false ↦ λ off.
+            elim l.gicr as (λ b. l.gicr ≡ b → AreLow q.bases) [
+              | true ↦ λ gicr. let kept = h.kept gicr in record { prop = kept.prop_low; pend = kept.pend_low }
+              | false ↦ λ none. absurd (let two : true ≡ false = sym (h.always_on none) ∙ off in cc)
+            ] refl
+      ] refl

@@ -15,15 +15,16 @@ use Rattle.its_types.specs.Maps.{Maps, device_of, event_of}
 use Rattle.its_types.specs.declared.machine.Shape.{Shape}
 use Rattle.its_types.specs.declared.translation.Device.{Device}
 use Rattle.its_types.specs.declared.translation.Event.{Event}
-use Rattle.its_maps.specs.MapsRoom.{events_at, EventsHaveDevices}
+use Rattle.its_maps.specs.MapsRoom.{EventsHaveDevices}
+use Rattle.its_types.specs.Maps.{events_at}
 use Rattle.its_plain.specs.Plain.{Translator}
 use Rattle.its_plain.specs.Sound.{IsShape, IsSound, IsTranslator, IsEvent, IsRedistributor}
-use Rattle.its_plain.specs.declared.desc.Desc.{Desc}
+use Rattle.its_plain.specs.declared.layout.Layout.{Layout}
 use Rattle.lpi_pending.specs.InHand.{in_hand}
 use Rattle.lpi_pending.specs.declared.redist.Redist.{Redist}
-use Rattle.owned_parts.specs.Owned.{AreAllInHand, HasLpisOf, state_of, layout_of, redistributor_of, redistributor_or}
+use Rattle.owned_parts.specs.Owned.{AreAllInHand, HasLpisOf, state_of, redistributor_of, redistributor_or}
 use Rattle.table_save.specs.SoundParts.{IsDeviceOf, IsEventOf, AreEventsOf, IsCollectionOf, AreSoundRedistributors}
-use Rattle.table_save.proofs.EventsOf.{find_of_device}
+use Rattle.standing_states.proofs.EventsOf.{find_of_device}
 use Rattle.table_save.proofs.Rises.{find_here, find_skips}
 use Rattle.table_save.proofs.SoundState.{in_hand_here}
 
@@ -68,31 +69,31 @@ in_list [] v x is = absurd cc
 in_list (y ∷ xs) zero x is = omega arith
 in_list (y ∷ xs) (suc v) x is = let lt = in_list xs v x is in omega (arith, lt)
 
-module _ (d : Desc) (r : Registers) (m : Maps) (memory : List Window) (redists : List (Option Redist)) where
-  pub sound_state : IsShape d.shape → length d.pending ≡ d.shape.vcpus → regs.IsSound r → r.dev_bits ≡ d.shape.dev_bits → EventsHaveDevices m
-      → AllByRecursion (IsDeviceOf r) (finmap.entries m.devices) → AllByRecursion (AreEventsOf d.shape m) (finmap.entries m.devices) → AllByRecursion (IsCollectionOf d.shape r) (finmap.entries m.collections)
-      → AreSoundRedistributors (layout_of d) memory redists → AreAllInHand d.shape redists → are_windows (map extent memory) ≡ true → IsSound (state_of (layout_of d) r m memory redists)
-  sound_state shape tables rules bits have devices events collections redistributors in_hands windows =
+module _ (l : Layout) (r : Registers) (m : Maps) (memory : List Window) (redists : List (Option Redist)) where
+  pub sound_state : IsShape l.shape → l.gicr ≡ false → length l.described ≡ l.shape.vcpus → regs.IsSound r → r.dev_bits ≡ l.shape.dev_bits → EventsHaveDevices m
+      → AllByRecursion (IsDeviceOf r) (finmap.entries m.devices) → AllByRecursion (AreEventsOf l.shape m) (finmap.entries m.devices) → AllByRecursion (IsCollectionOf l.shape r) (finmap.entries m.collections)
+      → AreSoundRedistributors l memory redists → AreAllInHand l.shape redists → are_windows (map extent memory) ≡ true → IsSound (state_of l r m memory redists)
+  sound_state shape none tables rules bits have devices events collections redistributors in_hands windows =
       let t : Translator = record { regs = r; maps = m } in
-      let translator : IsTranslator d.shape t = record {
+      let translator : IsTranslator l.shape t = record {
         regs = rules;
         dev_bits = bits;
         devices = λ dev x is. found (IsDeviceOf r) dev x (finmap.entries m.devices) devices (sym (get-entries m.devices dev) ∙ is);
-        events = λ dev ev e is. event_sound d.shape m dev ev e (device_of m dev) refl (have dev ev (some_mapped (event_of m dev ev) e is)) events is;
-        collections = λ icid x is. found (IsCollectionOf d.shape r) icid x (finmap.entries m.collections) collections (sym (get-entries m.collections icid) ∙ is);
+        events = λ dev ev e is. event_sound l.shape m dev ev e (device_of m dev) refl (have dev ev (some_mapped (event_of m dev ev) e is)) events is;
+        collections = λ icid x is. found (IsCollectionOf l.shape r) icid x (finmap.entries m.collections) collections (sym (get-entries m.collections icid) ∙ is);
       } in
-      let n = d.shape.vcpus in
+      let n = l.shape.vcpus in
       let long : n ≤ length redists = enough n redists (λ v lt. let h = in_hands v lt in below redists v h.0 h.1) in
       let count : length (map redistributor_or (take n redists)) ≡ n = length-map (take n redists) redistributor_or ∙ length-take-le n redists long in
       record {
-        layout = record { shape = shape; described = length-map d.pending _ ∙ tables };
-        translators = λ i u is. one_translator (IsTranslator d.shape) t u i is translator;
+        layout = record { shape = shape; described = λ _. tables };
+        translators = λ i u is. one_translator (IsTranslator l.shape) t u i is translator;
         vcpus = count;
         redistributors = λ v q is.
             let lt : v < n = (let inside = in_list (map redistributor_or (take n redists)) v q is in omega (arith, inside, count)) in
             let h = in_hands v lt in
             let same : redistributor_of h.0 ≡ q = same_Some (redistributor_of h.0) q (sym (in_hand_here n v redists h.0 lt h.1) ∙ is) in
-            subst (IsRedistributor (layout_of d) memory v) same (redistributors v h.0 lt h.1);
+            subst (IsRedistributor l memory v) same (redistributors v h.0 lt h.1);
         memory = windows;
       }
 

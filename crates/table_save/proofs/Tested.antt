@@ -9,15 +9,15 @@ use Rattle.its_types.specs.declared.translation.Device.{Device}
 use Rattle.its_plain.specs.Plain.{Plain, Translator}
 use Rattle.its_plain.specs.declared.area.Area.{Area}
 use Rattle.its_plain.specs.Regions.{areas_from, pending_area, ◌>>=◌, is_outside, has_no_place, all_placed, none_overlap, table_areas, areas_of, savable}
-use Rattle.its_plain.specs.declared.desc.Desc.{Desc}
+use Rattle.its_plain.specs.declared.layout.Layout.{Layout}
 use Rattle.its_plain.specs.declared.fault.SaveFault.{SaveFault}
 use Rattle.its_plain.specs.declared.fault.SaveFault.TheVariants.{NoPlace}
 use Rattle.lpi_pending.specs.declared.redist.Redist.{Redist}
-use Rattle.owned_parts.specs.Owned.{state_of, layout_of}
-use Rattle.table_save.specs.Areas.{tables_in, all_areas, redistributors_of, config_area, queue_areas}
+use Rattle.owned_parts.specs.Owned.{state_of}
+use Rattle.table_save.specs.Areas.{tables_in, all_areas, redistributors_of, config_areas, queue_areas}
 use Rattle.table_save.specs.Checked.{outside_fault, unplaced_fault, Answers}
-use Rattle.table_save.specs.declared.error.SaveError.{SaveError}
-use Rattle.table_save.specs.declared.error.SaveError.TheVariants as errors
+use Rattle.its_plain.specs.declared.fault.SaveError.{SaveError}
+use Rattle.its_plain.specs.declared.fault.SaveError.TheVariants as errors
 
 abbrev placed_or : Option (ℕ × Device) → Result (Unit {0}) SaveFault → Result (Unit {0}) SaveFault
 placed_or None rest = rest
@@ -30,15 +30,15 @@ placed_cases (Some d) = refl
 placed_is : (memory : List Window) (t : Translator) → all_placed memory (t ∷ []) ≡ unplaced_fault (find (has_no_place t.regs memory) (entries t.maps.devices))
 placed_is memory t = placed_cases (find (has_no_place t.regs memory) (entries t.maps.devices))
 
-module _ (d : Desc) (r : Registers) (m : Maps) (memory : List Window) (redists : List (Option Redist)) where
+module _ (l : Layout) (r : Registers) (m : Maps) (memory : List Window) (redists : List (Option Redist)) where
   abbrev pub state : Plain
-  state = state_of (layout_of d) r m memory redists
+  state = state_of l r m memory redists
 
   abbrev pub tables : List Area
   tables = tables_in memory r m
 
   abbrev pub all : List Area
-  all = all_areas tables d.shape r redists
+  all = all_areas tables l r redists
 
   abbrev pub inside_test : Result (Unit {0}) SaveFault
   inside_test = outside_fault (find (is_outside memory) tables)
@@ -49,8 +49,8 @@ module _ (d : Desc) (r : Registers) (m : Maps) (memory : List Window) (redists :
   all_is : areas_of state ≡ all
   unfolding areas_of table_areas
   all_is =
-      let pending = areas_from (pending_area d.shape) 0 (redistributors_of d.shape redists) in
-      let config = config_area d.shape (redistributors_of d.shape redists) in
+      let pending = areas_from (pending_area l.shape) 0 (redistributors_of l.shape redists) in
+      let config = config_areas l (redistributors_of l.shape redists) in
       ap (λ ts. ts ++ pending ++ config ++ (queue_areas r ++ [])) (append-nil tables) ∙ ap (λ q. tables ++ pending ++ config ++ q) (append-nil (queue_areas r))
 
   pub savable_is : savable state ≡ (inside_test >>= λ _. placed_test >>= λ _. none_overlap all)

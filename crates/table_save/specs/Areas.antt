@@ -14,8 +14,10 @@ use Rattle.its_types.specs.declared.translation.Device.{Device}
 use Rattle.its_plain.specs.Plain.{Redistributor, no_redistributor}
 use Rattle.its_plain.specs.Regions as regions
 use Rattle.its_plain.specs.declared.area.Area.{Area}
+use Rattle.its_plain.specs.declared.layout.Layout.{Layout}
+use Rattle.gicr_regs.specs.Registers.{AreLow}
 use Rattle.its_plain.specs.Regions.{page_size, pages_below, device_areas, collection_areas, itt_area, areas_from}
-use Rattle.its_plain.specs.declared.fault.Region.TheVariants.{Level1, Page, Pending, Config, Queue}
+use Rattle.its_plain.specs.declared.fault.Region.TheVariants.{Level1, Page, Pending, Config, ConfigOf, Queue}
 use Rattle.lpi_pending.specs.InHand.{in_hand}
 use Rattle.lpi_pending.specs.declared.redist.Redist.{Redist}
 use Rattle.owned_parts.specs.Owned.{redistributor_or}
@@ -45,11 +47,17 @@ redistributors_of shape redists = map redistributor_or (take shape.vcpus redists
 -- a pending table but for the bytes that belong to no LPI, where LPIs are on
 abbrev pub pending_area : Shape → Vcpu → Bases → List Area
 pending_area shape vcpu b =
-    if b.on then record { region = Pending vcpu; base = b.pending.0 + 1024; size = pending_bytes shape.lpi_bits - 1024; is_written = true } ∷ [] else []
+    if b.on then record { region = Pending vcpu; base = b.pend.table.0 + 1024; size = pending_bytes shape.lpi_bits - 1024; is_written = true } ∷ [] else []
 
--- the configuration table of the first
-abbrev pub config_area : Shape → List Redistributor → List Area
-config_area shape rs = record { region = Config; base = (slice_index_or rs 0 no_redistributor).bases.config.0; size = lpi_count shape.lpi_bits; is_written = false } ∷ []
+-- a configuration table of a virtual processor's own, where LPIs are on
+abbrev pub own_config_area : Shape → Vcpu → Bases → List Area
+own_config_area shape vcpu b = if b.on then record { region = ConfigOf vcpu; base = b.prop.table.0; size = lpi_count shape.lpi_bits; is_written = false } ∷ [] else []
+
+-- that of the first, which all share, unless each virtual processor has its own
+abbrev pub config_areas : Layout → List Redistributor → List Area
+config_areas l rs =
+    if l.gicr then areas_from (regions.config_area l.shape) 0 rs
+    else record { region = Config; base = (slice_index_or rs 0 no_redistributor).bases.prop.table.0; size = lpi_count l.shape.lpi_bits; is_written = false } ∷ []
 
 abbrev pub queue_areas : Registers → List Area
 queue_areas r = if is_valid r.cbaser then record { region = Queue; base = queue_base r; size = queue_size r; is_written = false } ∷ [] else []
@@ -59,13 +67,8 @@ queue_areas r = if is_valid r.cbaser then record { region = Queue; base = queue_
 abbrev pub HasLowTable : ℕ × Device → Type 0
 HasLowTable d = (d.1.itt.0 < 2 ^ 52) × (d.1.bits ≤ 16)
 
--- both tables of a redistributor end at 2 ^ 52 at most
-pub record AreLow (shape : Shape) (b : Bases) : Type 0 where
-  pub config : b.config.0 + lpi_count shape.lpi_bits ≤ 2 ^ 52
-  pub pending : b.pending.0 + pending_bytes shape.lpi_bits ≤ 2 ^ 52
-
 abbrev pub HaveLowTables : Shape → List (Option Redist) → Type 0
-HaveLowTables shape redists = (vcpu : ℕ) (r : Redist) → in_hand redists vcpu ≡ Some r → vcpu < shape.vcpus → AreLow shape r.bases
+HaveLowTables shape redists = (vcpu : ℕ) (r : Redist) → in_hand redists vcpu ≡ Some r → vcpu < shape.vcpus → AreLow r.bases
 
 -- ---- all of them
 
@@ -74,6 +77,6 @@ abbrev pub tables_in : List Window → Registers → Maps → List Area
 tables_in memory r m = device_areas r memory ++ collection_areas r ++ itt_areas (entries m.devices)
 
 -- with the others behind them
-abbrev pub all_areas : List Area → Shape → Registers → List (Option Redist) → List Area
-all_areas tables shape r redists =
-    tables ++ areas_from (regions.pending_area shape) 0 (redistributors_of shape redists) ++ config_area shape (redistributors_of shape redists) ++ queue_areas r
+abbrev pub all_areas : List Area → Layout → Registers → List (Option Redist) → List Area
+all_areas tables l r redists =
+    tables ++ areas_from (regions.pending_area l.shape) 0 (redistributors_of l.shape redists) ++ config_areas l (redistributors_of l.shape redists) ++ queue_areas r

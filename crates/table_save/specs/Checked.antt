@@ -5,8 +5,8 @@ use Rattle.its_types.specs.declared.translation.Device.{Device}
 use Rattle.its_plain.specs.declared.area.Area.{Area}
 use Rattle.its_plain.specs.declared.fault.SaveFault.{SaveFault}
 use Rattle.its_plain.specs.declared.fault.SaveFault.TheVariants.{Outside, NoPlace, Overlap}
-use Rattle.table_save.specs.declared.error.SaveError.{SaveError}
-use Rattle.table_save.specs.declared.error.SaveError.TheVariants as errors
+use Rattle.its_plain.specs.declared.fault.SaveError.{SaveError}
+use Rattle.its_plain.specs.declared.fault.SaveError.TheVariants as errors
 
 -- the first area that isn't in one window
 abbrev pub outside_fault : Option Area → Result (Unit {0}) SaveFault

@@ -2,5 +2,5 @@ pub mod Areas
 pub mod Checked
 pub mod Pass
 pub mod SoundParts
-pub mod Spans
+pub mod Edges
 pub mod Tables

@@ -1,8 +1,9 @@
 -- One rising pass over the places of a table, beside the entries that are mapped.
-use Rattle.std.specs.Prelude.{◌≡◌, ◌≤◌, ◌<◌, ◌%◌, ◌^◌, ℕ, ◌+◌, Bool, false, nat_lt, ◌==◌, if◌then◌else◌, List, [], ◌∷◌, map, find, Option, Some, None}
+use Rattle.std.specs.Prelude.{◌≡◌, ◌≤◌, ◌<◌, ◌%◌, ◌^◌, ℕ, Bool, false, nat_lt, ◌==◌, if◌then◌else◌, List, [], ◌∷◌, Option, Some, None}
 use Rattle.std.specs.List.{AllByRecursion}
 use Rattle.std.specs.Ordering.{nat_cmp}
 use Rattle.std.specs.FinMap as finmap
+pub use Rattle.standing_states.specs.Rises.{RisesFrom, key_after}
 use Rattle.table_entries.specs.Words.{packed_device, packed_event}
 use Rattle.its_plain.specs.Saved.{distance}
 use Rattle.its_types.specs.declared.ids.DeviceId.{DeviceId}
@@ -11,11 +12,6 @@ use Rattle.its_types.specs.declared.translation.Device.{Device}
 use Rattle.its_types.specs.declared.translation.Event.{Event}
 
 -- ---- entries of any kind, by rising number
-
--- the numbers rise, from i on
-abbrev pub RisesFrom : {X : Type 0} → ℕ → List (ℕ × X) → Type 0
-RisesFrom i [] = Unit {0}
-RisesFrom i (e ∷ es) = (i ≤ e.0) × RisesFrom (e.0 + 1) es
 
 -- the entries after place i, where they rise from i on
 abbrev pub past : {X : Type 0} → ℕ → List (ℕ × X) → List (ℕ × X)
@@ -30,10 +26,6 @@ first_key (e ∷ es) = Some e.0
 abbrev pub begins_below : {X : Type 0} → ℕ → List (ℕ × X) → Bool
 begins_below id [] = false
 begins_below id (e ∷ es) = nat_lt e.0 id
-
--- the first number behind one
-abbrev pub key_after : {X : Type 0} → ℕ → List (ℕ × X) → Option ℕ
-key_after id es = find (λ k. nat_lt id k) (map (λ e. e.0) es)
 
 abbrev pub packed_if : {X : Type 0} → (X → ℕ → ℕ) → Option X → ℕ → ℕ
 packed_if pack None next = 0

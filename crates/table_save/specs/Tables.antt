@@ -13,7 +13,7 @@ use Rattle.its_plain.specs.Plain.{Redistributor}
 use Rattle.its_plain.specs.Saved.{Words, device_words, collection_words, pending_words}
 use Rattle.table_save.specs.Pass.{device_entry_word, event_entry_word}
 use Rattle.table_entries.specs.Words.{packed_collection}
-use Rattle.its_maps.specs.MapsRoom.{events_at}
+use Rattle.its_types.specs.Maps.{events_at}
 use Rattle.its_types.specs.Maps.{Maps}
 use Rattle.its_types.specs.declared.ids.Icid.{Icid}
 use Rattle.its_types.specs.declared.ids.Vcpu.{Vcpu}

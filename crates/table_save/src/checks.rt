@@ -4,7 +4,7 @@ ghost use Rattle.baser_place.specs.Places.{page_of};
 ghost use Rattle.its_plain.specs.Regions as spec;
 ghost use Rattle.table_save.specs.Checked.{outside_fault, unplaced_fault};
 
-use crate::area::Area;
+use crate::area::Stretch;
 use baser_place::{Level1, level1};
 use gits_regs::Regs;
 use guest_windows::Memory;
@@ -12,7 +12,7 @@ use its_maps::Maps;
 use its_plain::SaveFault;
 
 /// Each of the areas lies in one window, or the first that doesn't.
-pub fn all_inside(memory: &Memory, areas: &[Area]) -> Result<(), SaveFault>
+pub fn all_inside(memory: &Memory, areas: &[Stretch]) -> Result<(), SaveFault>
     ensures { result ≡ outside_fault (find (spec.is_outside memory.now) areas.now) }
 {
     for area in areas {

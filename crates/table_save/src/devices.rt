@@ -8,8 +8,8 @@ ghost use Rattle.table_save.specs.Tables.{AreLowPages, ArePages, page_table, pag
 ghost use Rattle.std.specs.List.{AllByRecursion};
 ghost use Rattle.table_save.specs.Pass.{RisesFrom, FitsDevice, device_entry_word, PassedDevices};
 
-use crate::areas::level1_entries;
 use crate::words::put_word;
+use baser_place::level1_entries;
 use gits_regs::Regs;
 use guest_windows::Memory;
 use its_maps::{DeviceWalk, Maps};

@@ -3,7 +3,7 @@
 ghost use Rattle.std.specs.Prelude.{◌≡◌, ◌<◌, ◌≤◌, ◌^◌, ℕ};
 ghost use Rattle.std.specs.FinMap.{entries};
 ghost use Rattle.std.specs.List.{AllByRecursion};
-ghost use Rattle.its_maps.specs.MapsRoom.{events_at};
+ghost use Rattle.its_types.specs.Maps.{events_at};
 ghost use Rattle.its_plain.specs.Saved.{put_words, put_tables};
 ghost use Rattle.table_save.specs.Pass.{FitsDevice, FitsEvent, event_entry_word};
 ghost use Rattle.table_save.specs.Tables.{itt_tables};
@@ -35,7 +35,7 @@ impl<'a> Model for EventFront<'a> {
 impl<'a> EventFront<'a> {
     ghost use Rattle.std.specs.Prelude.{◌≡◌, ◌+◌};
     ghost use Rattle.std.specs.List.{AllByRecursion};
-    ghost use Rattle.its_maps.specs.MapsRoom.{events_at};
+    ghost use Rattle.its_types.specs.Maps.{events_at};
     ghost use Rattle.its_plain.specs.Saved as saved;
     ghost use Rattle.table_save.specs.Pass.{RisesFrom, FitsEvent, event_entry_word, first_key, past};
 

@@ -6,7 +6,7 @@ mod areas;
 mod checks;
 mod collections;
 mod devices;
-mod error;
+mod edges;
 mod events;
 mod overlap;
 mod pages;
@@ -14,7 +14,6 @@ mod pending;
 mod saving;
 mod words;
 
-pub use error::SaveError;
 pub use saving::{savable, save};
 
 #[cfg(test)]

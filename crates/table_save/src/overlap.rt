@@ -1,65 +1,57 @@
-ghost use Rattle.std.specs.Prelude.{◌≡◌, ◌≤◌, ◌<◌, find, map, IfOk, Ok};
-ghost use Rattle.std.specs.Bool.{OnTrue};
+ghost use Rattle.std.specs.Prelude.{◌≡◌, List, ◌<◌, find, true, false};
 ghost use Rattle.its_plain.specs.Regions as spec;
+ghost use Rattle.its_plain.specs.declared.area.Area as plain;
 ghost use Rattle.table_save.specs.Checked.{clash_fault, Answers};
-ghost use Rattle.table_save.specs.Spans.{span, Follow};
+ghost use Rattle.table_save.specs.Edges.{AreEdges, chosen, end_of, meets_another};
 
-use crate::area::Area;
-use crate::error::SaveError;
-use its_plain::SaveFault;
-use std::alloc::{AllocError, Global};
+use crate::area::Stretch;
+use crate::edges::Edges;
+use its_plain::{SaveError, SaveFault};
+use std::alloc::Global;
 
 /// No two of the areas clash, or the first pair that does, by the first of the two and then by the second.
-pub fn none_overlap(alloc: Global, areas: &[Area]) -> Result<(), SaveError>
+pub fn none_overlap(alloc: Global, areas: &[Stretch]) -> Result<(), SaveError>
     ensures { Answers result (spec.none_overlap areas.now) }
 {
-    if are_apart(alloc, areas)? {
-        return Ok(());
-    }
-    find_overlap(areas)?;
+    let mut all = Edges::new(alloc, areas.len())?;
+    let mut written = Edges::new(alloc, areas.len())?;
+    all.set(areas, true);
+    written.set(areas, false);
+    find_overlap(areas, &all, &written)?;
     Ok(())
 }
 
-// Whether no two of the areas share a byte. It takes a sort, and not a test of each pair.
-fn are_apart(alloc: Global, areas: &[Area]) -> Result<bool, AllocError>
-    ensures { IfOk result (λ apart. OnTrue apart (spec.none_overlap areas.now ≡ Ok tt)) }
-{
-    let mut spans = Vec::with_capacity(alloc, areas.len())?;
-    for area in areas {
-        spans.push(area.span())?;
-    }
-    spans.sort_unstable();
-    Ok(follow(&spans))
-}
-
-// Whether each stretch, from its base to its end, has a byte and begins where the one before it ends at the earliest.
-fn follow(spans: &[(u64, u64)]) -> bool
-    ensures { OnTrue result (Follow 0 spans.now) }
-{
-    let mut last = 0;
-    for &(base, end) in spans {
-        if base < last || end <= base {
-            return false;
-        }
-        last = end;
-    }
-    true
-}
-
-// The same test of each pair.
-fn find_overlap(areas: &[Area]) -> Result<(), SaveFault>
+// The same, with the edges of all the areas and of those that are written. The first area that meets another is the first
+// of the pair, so one area alone is tried with each of those after it.
+fn find_overlap(areas: &[Stretch], all: &Edges, written: &Edges) -> Result<(), SaveFault>
+    requires all { AreEdges (chosen true areas.now) all.now }
+    requires written { AreEdges (chosen false areas.now) written.now }
     ensures { result ≡ spec.none_overlap areas.now }
 {
     let mut rest = areas;
     while let [one, others @ ..] = rest {
-        none_clashes(one, others)?;
+        if meets_another(one, all, written) {
+            none_clashes(one, others)?;
+        }
         rest = others;
     }
     Ok(())
 }
 
+// Whether an area shares a byte with another, and one of the two is written.
+fn meets_another(one: &Stretch, all: &Edges, written: &Edges) -> bool
+    ensures meets { (areas : List plain.Area) → AreEdges (chosen true areas) all.now → AreEdges (chosen false areas) written.now → result ≡ meets_another one.now areas }
+    ensures some { one.now.base < end_of one.now }
+{
+    if one.is_written() {
+        all.met_by(one) > 1
+    } else {
+        written.met_by(one) > 0
+    }
+}
+
 // None of the others clashes with an area, or the first that does.
-fn none_clashes(one: &Area, others: &[Area]) -> Result<(), SaveFault>
+fn none_clashes(one: &Stretch, others: &[Stretch]) -> Result<(), SaveFault>
     ensures { result ≡ clash_fault one.now (find (spec.clash one.now) others.now) }
 {
     for other in others {

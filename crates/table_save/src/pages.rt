@@ -6,19 +6,18 @@ ghost use Rattle.gits_regs.specs.Registers.{is_indirect};
 ghost use Rattle.baser_place.specs.Places as places;
 ghost use Rattle.table_save.specs.Tables.{ArePages, address_of};
 
-use crate::areas::level1_entries;
-use baser_place::{Level1, level1};
+use baser_place::{Level1, level1, level1_entries};
 use gits_regs::Regs;
-use guest_windows::{Memory, NoMemory};
+use guest_windows::Memory;
 use its_types::Addr;
-use std::alloc::Global;
+use std::alloc::{AllocError, Global};
 
 /// Where the page of each level-1 entry stands, if the entry is valid; of a flat table none.
 pub fn read_pages(
     alloc: Global,
     regs: &Regs,
     memory: &Memory,
-) -> Result<Vec<Option<Addr>>, NoMemory>
+) -> Result<Vec<Option<Addr>>, AllocError>
     ensures { IfOk result (λ v. is_indirect regs.now.baser0 ≡ true → ArePages regs.now memory.now v.items) }
 {
     if regs.indirect() {
@@ -27,7 +26,7 @@ pub fn read_pages(
     Ok(Vec::new(alloc))
 }
 
-fn read_level1(alloc: Global, regs: &Regs, memory: &Memory) -> Result<Vec<Option<Addr>>, NoMemory>
+fn read_level1(alloc: Global, regs: &Regs, memory: &Memory) -> Result<Vec<Option<Addr>>, AllocError>
     ensures { IfOk result (λ v. ArePages regs.now memory.now v.items) }
 {
     let mut pages = Vec::new(alloc);

@@ -6,7 +6,8 @@ ghost use Rattle.its_types.specs.Ranges.{pending_bytes};
 ghost use Rattle.its_plain.specs.Saved.{put_words, put_tables, pending_word, pending_words};
 ghost use Rattle.its_plain.specs.Sound.{IsShape};
 ghost use Rattle.owned_parts.specs.Owned.{AreAllInHand, HasLpisOf, redistributor_of};
-ghost use Rattle.table_save.specs.Areas.{redistributors_of, AreLow, HaveLowTables};
+ghost use Rattle.gicr_regs.specs.Registers.{AreLow};
+ghost use Rattle.table_save.specs.Areas.{redistributors_of, HaveLowTables};
 
 use crate::words::put_word;
 use guest_windows::Memory;
@@ -29,14 +30,14 @@ pub fn put_pending(memory: &mut Memory, redists: &Redists, shape: Shape)
 fn put_table(memory: &mut Memory, redist: &Redist, shape: Shape)
     requires shape { IsShape shape }
     requires lpis { HasLpisOf shape redist.now }
-    requires low { AreLow shape redist.now.bases }
+    requires low { AreLow redist.now.bases }
     ensures { memory.new ≡ put_tables memory.old (pending_words shape (redistributor_of redist.now)) }
 {
     if redist.bases.on {
         let count = (shape.pending_bytes() - 1024) / 8;
         put_words_of(
             memory,
-            redist.bases.pending.0 + 1024,
+            redist.bases.pend.table.0 + 1024,
             count as u32,
             &redist.pending,
         );

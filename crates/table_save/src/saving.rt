@@ -4,33 +4,32 @@ ghost use Rattle.std.specs.Prelude.{◌≡◌, ℕ, true, IfOk};
 ghost use Rattle.std.specs.FinMap.{entries};
 ghost use Rattle.std.specs.List.{AllByRecursion};
 ghost use Rattle.gits_regs.specs.Registers.{is_indirect};
-ghost use Rattle.its_maps.specs.MapsRoom.{events_at};
+ghost use Rattle.its_types.specs.Maps.{events_at};
 ghost use Rattle.its_plain.specs.Regions as spec;
 ghost use Rattle.its_plain.specs.Saved.{saved, put_tables};
 ghost use Rattle.its_plain.specs.Sound.{IsShape, IsSound};
-ghost use Rattle.owned_parts.specs.Owned.{AreAllInHand, state_of, layout_of};
+ghost use Rattle.owned_parts.specs.Owned.{AreAllInHand, state_of};
 ghost use Rattle.table_save.specs.Areas.{redistributors_of, tables_in, all_areas, HasLowTable, HaveLowTables};
 ghost use Rattle.table_save.specs.Checked.{Answers, Leaves};
 ghost use Rattle.table_save.specs.Pass.{FitsDevice, FitsEvent};
 ghost use Rattle.table_save.specs.Tables.{ArePages, all_tables};
 
-use crate::area::Area;
-use crate::areas::{add_collections, add_config, add_devices, add_itts, add_pending, add_queue};
+use crate::area::Stretch;
+use crate::areas::{add_collections, add_configs, add_devices, add_itts, add_pending, add_queue};
 use crate::checks::{all_inside, all_placed};
 use crate::collections::put_collections;
 use crate::devices::put_devices;
-use crate::error::SaveError;
 use crate::events::put_itts;
 use crate::overlap::none_overlap;
 use crate::pages::read_pages;
 use crate::pending::put_pending;
 use gits_regs::Regs;
-use guest_windows::{Memory, NoMemory};
+use guest_windows::Memory;
 use its_maps::Maps;
-use its_plain::Desc;
+use its_plain::{Layout, SaveError};
 use its_types::{Addr, Shape};
 use lpi_pending::Redists;
-use std::alloc::Global;
+use std::alloc::{AllocError, Global};
 
 /// Whether the tables can be saved to guest memory, or the first thing that is in the way.
 pub fn savable(
@@ -38,17 +37,17 @@ pub fn savable(
     regs: &Regs,
     maps: &Maps,
     redists: &Redists,
-    desc: &Desc,
+    layout: &Layout,
     memory: &Memory,
 ) -> Result<(), SaveError>
-    requires parts { AreAllInHand desc.now.shape redists.now }
-    requires sound { IsSound (state_of (layout_of desc.now) regs.now maps.now.maps memory.now redists.now) }
-    ensures { Answers result (spec.savable (state_of (layout_of desc.now) regs.now maps.now.maps memory.now redists.now)) }
+    requires parts { AreAllInHand layout.now.shape redists.now }
+    requires sound { IsSound (state_of layout.now regs.now maps.now.maps memory.now redists.now) }
+    ensures { Answers result (spec.savable (state_of layout.now regs.now maps.now.maps memory.now redists.now)) }
 {
     let tables = table_areas(alloc, regs, maps, memory)?;
     all_inside(memory, &tables)?;
     all_placed(regs, memory, maps)?;
-    let areas = with_others(tables, regs, redists, desc.shape)?;
+    let areas = with_others(tables, regs, redists, layout)?;
     none_overlap(alloc, &areas)
 }
 
@@ -58,7 +57,7 @@ fn table_areas(
     regs: &Regs,
     maps: &Maps,
     memory: &Memory,
-) -> Result<Vec<Area>, NoMemory>
+) -> Result<Vec<Stretch>, AllocError>
     requires { AllByRecursion HasLowTable (entries maps.now.maps.devices) }
     ensures { IfOk result (λ v. v.items ≡ tables_in memory.now regs.now maps.now.maps) }
 {
@@ -69,21 +68,21 @@ fn table_areas(
     Ok(areas)
 }
 
-// The others behind them.
+// The others after them.
 fn with_others(
-    tables: Vec<Area>,
+    tables: Vec<Stretch>,
     regs: &Regs,
     redists: &Redists,
-    shape: Shape,
-) -> Result<Vec<Area>, NoMemory>
-    requires shape { IsShape shape }
-    requires in_hand { AreAllInHand shape redists.now }
-    requires low { HaveLowTables shape redists.now }
-    ensures { IfOk result (λ v. v.items ≡ all_areas tables.items shape regs.now redists.now) }
+    layout: &Layout,
+) -> Result<Vec<Stretch>, AllocError>
+    requires shape { IsShape layout.now.shape }
+    requires in_hand { AreAllInHand layout.now.shape redists.now }
+    requires low { HaveLowTables layout.now.shape redists.now }
+    ensures { IfOk result (λ v. v.items ≡ all_areas tables.items layout.now regs.now redists.now) }
 {
     let mut areas = tables;
-    add_pending(&mut areas, redists, shape)?;
-    add_config(&mut areas, redists, shape)?;
+    add_pending(&mut areas, redists, layout.shape)?;
+    add_configs(&mut areas, redists, layout)?;
     add_queue(&mut areas, regs)?;
     Ok(areas)
 }
@@ -95,17 +94,17 @@ pub fn save(
     regs: &Regs,
     maps: &Maps,
     redists: &Redists,
-    desc: &Desc,
+    layout: &Layout,
     memory: &mut Memory,
 ) -> Result<(), SaveError>
-    requires parts { AreAllInHand desc.now.shape redists.now }
-    requires sound { IsSound (state_of (layout_of desc.now) regs.now maps.now.maps memory.old redists.now) }
-    ensures answer { Answers result (spec.savable (state_of (layout_of desc.now) regs.now maps.now.maps memory.old redists.now)) }
-    ensures memory { Leaves result memory.old memory.new (saved (state_of (layout_of desc.now) regs.now maps.now.maps memory.old redists.now)) }
+    requires parts { AreAllInHand layout.now.shape redists.now }
+    requires sound { IsSound (state_of layout.now regs.now maps.now.maps memory.old redists.now) }
+    ensures answer { Answers result (spec.savable (state_of layout.now regs.now maps.now.maps memory.old redists.now)) }
+    ensures memory { Leaves result memory.old memory.new (saved (state_of layout.now regs.now maps.now.maps memory.old redists.now)) }
 {
-    savable(alloc, regs, maps, redists, desc, memory)?;
+    savable(alloc, regs, maps, redists, layout, memory)?;
     let pages = read_pages(alloc, regs, memory)?;
-    put_all(memory, regs, &pages, maps, redists, desc.shape);
+    put_all(memory, regs, &pages, maps, redists, layout.shape);
     Ok(())
 }
 

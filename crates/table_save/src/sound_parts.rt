@@ -1,43 +1,49 @@
 //! For tests: whether parts in hand stand for a sound state.
 
-ghost use Rattle.std.specs.Prelude.{◌≡◌, ℕ, ◌<◌, true, Some, map};
+ghost use Rattle.std.specs.Prelude.{◌≡◌, ℕ, ◌<◌, true, false, Some, map};
 ghost use Rattle.std.specs.Bool.{OnTrue};
 ghost use Rattle.std.specs.FinMap.{entries};
 ghost use Rattle.std.specs.List.{AllByRecursion};
 ghost use Rattle.guest_windows.specs.Windows.{are_windows, extent};
-ghost use Rattle.its_maps.specs.MapsRoom.{events_at};
+ghost use Rattle.its_types.specs.Maps.{events_at};
 ghost use Rattle.its_plain.specs.Sound as sound;
 ghost use Rattle.lpi_pending.specs.InHand.{in_hand};
 ghost use Rattle.lpi_pending.specs.declared.redist.Redist.{Redist};
-ghost use Rattle.owned_parts.specs.Owned.{AreAllInHand, HasLpisOf, state_of, layout_of, redistributor_of};
+ghost use Rattle.owned_parts.specs.Owned.{AreAllInHand, HasLpisOf, state_of, redistributor_of};
 ghost use Rattle.table_save.specs.SoundParts.{IsDeviceOf, IsEventOf, AreEventsOf, IsCollectionOf, AreSoundRedistributors};
 
 use gits_regs::Regs;
 use guest_windows::Memory;
 use its_maps::Maps;
-use its_plain::Desc;
+use its_plain::Layout;
 use its_types::{Device, DeviceId, Event, EventId, Icid, Shape, Vcpu};
 use lpi_pending::{Redist, Redists};
 
 /// Whether they do, where the redistributor of each virtual processor is in hand.
-pub fn are_sound(regs: &Regs, maps: &Maps, memory: &Memory, redists: &Redists, desc: &Desc) -> bool
+pub fn are_sound(
+    regs: &Regs,
+    maps: &Maps,
+    memory: &Memory,
+    redists: &Redists,
+    layout: &Layout,
+) -> bool
     requires windows { are_windows (map extent memory.now) ≡ true }
-    requires in_hand { AreAllInHand desc.now.shape redists.now }
-    ensures { OnTrue result (sound.IsSound (state_of (layout_of desc.now) regs.now maps.now.maps memory.now redists.now)) }
+    requires in_hand { AreAllInHand layout.now.shape redists.now }
+    ensures { OnTrue result (sound.IsSound (state_of layout.now regs.now maps.now.maps memory.now redists.now)) }
 {
     regs.keeps_rules();
-    let _mapped = maps.event(DeviceId(0), EventId(0));
-    let shape = desc.shape;
+    let _mapped = maps.look_up(DeviceId(0), EventId(0));
+    let shape = layout.shape;
     if !is_shape(shape) || regs.dev_bits() != shape.dev_bits {
         return false;
     }
-    if desc.pending.len() != shape.vcpus as usize {
+    if layout.gicr || layout.described.len() != shape.vcpus as usize {
         return false;
     }
     if !are_devices(regs, maps) || !are_events(maps, shape) {
         return false;
     }
-    are_collections(regs, maps, shape) && are_redistributors(redists, memory, desc)
+    are_collections(regs, maps, shape) && are_redistributors(redists, memory, layout)
 }
 
 fn is_shape(shape: Shape) -> bool
@@ -122,32 +128,33 @@ fn is_collection(regs: &Regs, shape: Shape, icid: Icid, vcpu: Vcpu) -> bool
     regs.table_valid(1) && u32::from(icid.0) < regs.collection_places() && vcpu.0 < shape.vcpus
 }
 
-fn are_redistributors(redists: &Redists, memory: &Memory, desc: &Desc) -> bool
-    requires { AreAllInHand desc.now.shape redists.now }
-    ensures { OnTrue result (AreSoundRedistributors (layout_of desc.now) memory.now redists.now) }
+fn are_redistributors(redists: &Redists, memory: &Memory, layout: &Layout) -> bool
+    requires described { layout.now.gicr ≡ false }
+    requires in_hand { AreAllInHand layout.now.shape redists.now }
+    ensures { OnTrue result (AreSoundRedistributors layout.now memory.now redists.now) }
 {
-    for vcpu in 0..desc.shape.vcpus {
-        if !is_redistributor(redists.redist(Vcpu(vcpu)), memory, desc, vcpu) {
+    for vcpu in 0..layout.shape.vcpus {
+        if !is_redistributor(redists.redist(Vcpu(vcpu)), memory, layout, vcpu) {
             return false;
         }
     }
     true
 }
 
-fn is_redistributor(redist: &Redist, memory: &Memory, desc: &Desc, vcpu: u8) -> bool
-    requires { HasLpisOf desc.now.shape redist.now }
-    ensures { OnTrue result (sound.IsRedistributor (layout_of desc.now) memory.now vcpu (redistributor_of redist.now)) }
+fn is_redistributor(redist: &Redist, memory: &Memory, layout: &Layout, vcpu: u8) -> bool
+    requires described { layout.now.gicr ≡ false }
+    requires lpis { HasLpisOf layout.now.shape redist.now }
+    ensures { OnTrue result (sound.IsRedistributor layout.now memory.now vcpu (redistributor_of redist.now)) }
 {
     let bases = redist.bases;
-    let shape = desc.shape;
+    let shape = layout.shape;
     let _pending = redist.pending.lpi_bits();
     let _config = redist.config.lpi_bits();
-    let Some(pending) = desc.pending.as_slice().get(vcpu as usize) else {
+    let Some(described) = layout.described.as_slice().get(vcpu as usize) else {
         return false;
     };
     bases.on
-        && bases.config == desc.config
-        && bases.pending == *pending
-        && memory.inside(bases.config, shape.lpi_count())
-        && memory.inside(bases.pending, shape.pending_bytes())
+        && bases == *described
+        && memory.inside(bases.prop.table, shape.lpi_count())
+        && memory.inside(bases.pend.table, shape.pending_bytes())
 }

@@ -3,13 +3,13 @@ ghost use Rattle.guest_windows.specs.Windows.{are_windows, extent};
 ghost use Rattle.owned_parts.specs.Owned.{AreAllInHand, HasLpisOf};
 
 use crate::sound_parts::are_sound;
-use crate::{SaveError, savable, save};
+use crate::{savable, save};
 use gits_regs::Regs;
 use guest_windows::Memory;
 use its_maps::Maps;
-use its_plain::{Desc, Region, SaveFault};
+use its_plain::{Layout, Region, SaveError, SaveFault};
 use its_types::{
-    Addr, Bases, DeviceId, EventId, Icid, Intid, Limits, Listed, Profile, Shape, Vcpu,
+    Addr, Bases, Device, DeviceId, Event, EventId, Icid, Intid, Listed, Profile, Shape, Vcpu,
 };
 use lpi_config::Config;
 use lpi_pending::{Pending, Redist, Redists};
@@ -25,31 +25,23 @@ const SHAPE: Shape = Shape {
 
 const CONFIG: Addr = Addr(0x8003_0000);
 
-// Four virtual processors, and 2 MiB of memory.
-fn description(alloc: Global) -> Result<Desc, SaveError>
-    ensures { IfOk result (λ d. d.shape ≡ SHAPE) }
+// Four virtual processors, whose LPIs are on.
+fn layout(alloc: Global) -> Result<Layout, SaveError>
+    ensures { IfOk result (λ l. l.shape ≡ SHAPE) }
 {
-    let mut pending = Listed::new(alloc);
+    let mut described = Listed::new(alloc);
     for vcpu in 0..4u8 {
-        pending.push(pending_base(vcpu))?;
+        described.push(bases(vcpu))?;
     }
-    Ok(Desc {
+    Ok(Layout {
         shape: SHAPE,
-        shards: 4,
-        limits: Limits {
-            stamp_last: 0xff_ffff,
-            place_last: 0xff_ffff_ffff,
-        },
-        windows: Listed::new(alloc),
-        config: CONFIG,
-        pending,
-        fills: Listed::new(alloc),
-        restore: None,
+        gicr: false,
+        described,
     })
 }
 
-fn pending_base(vcpu: u8) -> Addr {
-    Addr(0x8004_0000 + 0x1_0000 * u64::from(vcpu))
+fn bases(vcpu: u8) -> Bases {
+    Bases::described(CONFIG, Addr(0x8004_0000 + 0x1_0000 * u64::from(vcpu)))
 }
 
 // LPI 8200 is pending at virtual processor 2.
@@ -70,11 +62,7 @@ fn redistributor(alloc: Global, vcpu: u8) -> Result<Redist, SaveError>
     Ok(Redist {
         pending: pending_at(alloc, vcpu)?,
         config: Config::zeros(alloc, 16)?,
-        bases: Bases {
-            on: true,
-            config: CONFIG,
-            pending: pending_base(vcpu),
-        },
+        bases: bases(vcpu),
     })
 }
 
@@ -101,7 +89,8 @@ fn registers(baser0: u64) -> Regs {
 
 fn put_device(maps: &mut Maps, dev: u32, bits: u8, itt: u64) -> Result<(), SaveError> {
     maps.room_for_device()?;
-    maps.map_device(DeviceId(dev), Addr(itt), bits);
+    let itt = Addr(itt);
+    maps.map_device(DeviceId(dev), Device { itt, bits });
     Ok(())
 }
 
@@ -109,7 +98,8 @@ fn put_device(maps: &mut Maps, dev: u32, bits: u8, itt: u64) -> Result<(), SaveE
 fn put_event(maps: &mut Maps, dev: u32, ev: u32, intid: u32) -> Result<(), SaveError> {
     if maps.device(DeviceId(dev)).is_some() {
         maps.room_for_event(DeviceId(dev))?;
-        maps.map_event(DeviceId(dev), EventId(ev), Intid(intid), Icid(1));
+        let (intid, icid) = (Intid(intid), Icid(1));
+        maps.map_event(DeviceId(dev), EventId(ev), Event { intid, icid });
     }
     Ok(())
 }
@@ -136,14 +126,14 @@ fn empty_memory(alloc: Global, base: Addr, len: u64) -> Result<Memory, SaveError
 
 // Memory after a save, and what the save and the test before it answered.
 fn saved(alloc: Global, regs: &Regs, maps: &Maps) -> Result<Memory, SaveError> {
-    let desc = description(alloc)?;
+    let layout = layout(alloc)?;
     let redists = redistributors(alloc)?;
     let mut memory = empty_memory(alloc, Addr(0x8000_0000), 0x20_0000)?;
-    if !are_sound(regs, maps, &memory, &redists, &desc) {
+    if !are_sound(regs, maps, &memory, &redists, &layout) {
         return Err(SaveError::NoMemory);
     }
-    savable(alloc, regs, maps, &redists, &desc, &memory)?;
-    save(alloc, regs, maps, &redists, &desc, &mut memory)?;
+    savable(alloc, regs, maps, &redists, &layout, &memory)?;
+    save(alloc, regs, maps, &redists, &layout, &mut memory)?;
     Ok(memory)
 }
 

@@ -2,11 +2,12 @@ use Rattle.std.proofs.Common.{ℕ, ◌+◌, ◌<◌, refl, subst, sym, ap, ◌�
 use Rattle.gits_regs.specs.Registers.{collection_places}
 use Rattle.its_plain.specs.Walks.{within}
 use Rattle.its_plain.specs.CollectionTables.{next_collection}
-use Rattle.table_restore.specs.Walked.{after}
-use Rattle.table_restore.specs.Found.{put_collection, look_collection, collections_from, AreThoseBefore}
-use Rattle.table_restore.proofs.Walks.{goes_on, ends_here}
-use Rattle.table_restore.proofs.EventsWalked.{within_is}
-use Rattle.table_restore.proofs.CollectionsWalked.{collections_rise, none_before, one_more, took_none, leads_none, took_one, leads_one, entry_one}
+use Rattle.standing_states.specs.Walked.{after}
+use Rattle.standing_states.specs.Found.{put_collection, look_collection, collections_from, AreThoseBefore}
+use Rattle.standing_states.proofs.Walks.{goes_on, ends_here}
+use Rattle.standing_states.proofs.EventsWalked.{within_is}
+use Rattle.standing_states.proofs.CollectionsWalked.{collections_rise, none_before, one_more}
+use Rattle.table_restore.proofs.Steps.{took_none, leads_none, took_one, leads_one, entry_one}
 use Rattle.table_restore.proofs.collections.walk.Goals as goal
 
 pub places-init : goal.places-init

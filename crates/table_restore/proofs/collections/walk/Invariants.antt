@@ -1,7 +1,7 @@
 use Rattle.std.proofs.Common.{◌≡◌, ◌<◌, ◌-◌}
 use Rattle.gits_regs.specs.Registers.{collection_places}
-use Rattle.table_restore.specs.Walked.{after}
-use Rattle.table_restore.specs.Found.{put_collection, collections_from, AreThoseBefore}
+use Rattle.standing_states.specs.Walked.{after}
+use Rattle.standing_states.specs.Found.{put_collection, collections_from, AreThoseBefore}
 use Rattle.table_restore.proofs.collections.walk.Given as goal
 
 abbrev pub invariant-places : goal.invariant-places

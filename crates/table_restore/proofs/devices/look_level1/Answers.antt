@@ -1,6 +1,6 @@
 use Rattle.std.proofs.Common.{ap, sym, ◌∙◌}
 use Rattle.its_plain.specs.declared.fault.RestoreFault.TheVariants.{OutsideTable}
-use Rattle.table_restore.proofs.DevicesWalked.{level1_is}
+use Rattle.table_restore.proofs.Steps.{level1_is}
 use Rattle.table_restore.proofs.devices.look_level1.Goals as goal
 
 pub returns-in-Outside : goal.returns-in-Outside

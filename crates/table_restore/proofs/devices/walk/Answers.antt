@@ -1,10 +1,12 @@
 use Rattle.std.proofs.Common.{refl, subst, sym, ap}
 use Rattle.its_plain.specs.DeviceTables.{first_device, next_device}
-use Rattle.table_restore.specs.Walked.{after}
-use Rattle.table_restore.specs.Found.{put_found, devices_from, rank, reach}
-use Rattle.table_restore.specs.Outcome.{IsPlace, place_of}
-use Rattle.table_restore.proofs.Walks.{is_smaller}
-use Rattle.table_restore.proofs.DevicesWalked.{small, devices_rise, device_starts, device_wrong, device_ends, device_leads_to, device_on}
+use Rattle.standing_states.specs.Walked.{after}
+use Rattle.standing_states.specs.Found.{put_found, devices_from, rank, reach}
+use Rattle.standing_states.specs.Found.{IsPlace}
+use Rattle.table_restore.specs.Outcome.{place_of}
+use Rattle.standing_states.proofs.Walks.{is_smaller}
+use Rattle.standing_states.proofs.DevicesWalked.{small, devices_rise, device_starts}
+use Rattle.table_restore.proofs.Steps.{device_wrong, device_ends, device_leads_to, device_on}
 use Rattle.table_restore.proofs.devices.walk.Goals as goal
 
 pub places-init : goal.places-init

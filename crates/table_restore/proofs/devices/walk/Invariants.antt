@@ -1,8 +1,9 @@
 use Rattle.std.proofs.Common.{◌≡◌, ◌-◌}
 use Rattle.its_plain.specs.DeviceTables.{first_device}
-use Rattle.table_restore.specs.Walked.{after}
-use Rattle.table_restore.specs.Found.{put_found, devices_from, rank, reach}
-use Rattle.table_restore.specs.Outcome.{IsPlace, place_of}
+use Rattle.standing_states.specs.Walked.{after}
+use Rattle.standing_states.specs.Found.{put_found, devices_from, rank, reach}
+use Rattle.standing_states.specs.Found.{IsPlace}
+use Rattle.table_restore.specs.Outcome.{place_of}
 use Rattle.table_restore.proofs.devices.walk.Given as goal
 
 abbrev pub invariant-places : goal.invariant-places

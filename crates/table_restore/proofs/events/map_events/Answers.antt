@@ -4,10 +4,11 @@ use Rattle.std.specs.FinMap as map
 use Rattle.std.specs.FinMap.{FinMap}
 use Rattle.its_types.specs.declared.translation.Device.{Device}
 use Rattle.its_plain.specs.EventTables.{itt_of, next_event}
-use Rattle.table_restore.specs.Walked.{after}
-use Rattle.table_restore.specs.Found.{put_event, look_event, events_read}
-use Rattle.table_restore.proofs.Walks.{goes_on, ends_here, goes_wrong, after-err}
-use Rattle.table_restore.proofs.EventsWalked.{events_rise, event_put, event_wrong}
+use Rattle.standing_states.specs.Walked.{after}
+use Rattle.standing_states.specs.Found.{put_event, look_event, events_read}
+use Rattle.standing_states.proofs.Walks.{goes_on, ends_here, goes_wrong, after-err}
+use Rattle.standing_states.proofs.EventsWalked.{events_rise}
+use Rattle.table_restore.proofs.Steps.{event_put, event_wrong}
 use Rattle.table_restore.proofs.events.map_events.Goals as goal
 
 pub returns-in-Err : goal.returns-in-Err

@@ -1,8 +1,8 @@
 use Rattle.std.proofs.Common.{◌≡◌, ◌<◌, ◌-◌, ◌^◌, IsSome}
 use Rattle.its_types.specs.Maps.{device_of}
 use Rattle.its_plain.specs.EventTables.{itt_of}
-use Rattle.table_restore.specs.Walked.{after}
-use Rattle.table_restore.specs.Found.{put_event, events_from, events_read}
+use Rattle.standing_states.specs.Walked.{after}
+use Rattle.standing_states.specs.Found.{put_event, events_from, events_read}
 use Rattle.table_restore.proofs.events.map_events.Given as goal
 
 abbrev pub invariant-places : goal.invariant-places

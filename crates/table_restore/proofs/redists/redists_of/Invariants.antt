@@ -1,10 +1,10 @@
-use Rattle.std.proofs.Common.{◌≤◌, map, length}
-use Rattle.its_plain.specs.Machine.{described_bases}
+use Rattle.std.proofs.Common.{◌≡◌, ◌<◌, length}
+use Rattle.standing_states.specs.Laws.{bases_to_restore}
 use Rattle.table_restore.proofs.Restored.{AreRestoredBelow}
 use Rattle.table_restore.proofs.redists.redists_of.Given as goal
 
 abbrev pub invariant-loop-vcpu : goal.invariant-loop-vcpu
 invariant-loop-vcpu l = record {
-  within : l.vcpu ≤ length l.desc.pending;
-  below : AreRestoredBelow l.desc.shape l.memory (map (described_bases l.desc.config) l.desc.pending) l.redists l.vcpu;
+  below : AreRestoredBelow l.layout.shape l.memory (bases_to_restore l.layout l.gicr) l.redists l.vcpu;
+  many : 0 < l.vcpu → length (bases_to_restore l.layout l.gicr) ≡ l.layout.shape.vcpus;
 }

@@ -1,6 +1,7 @@
 use Rattle.std.proofs.Common.{ap}
 use Rattle.std.specs.Prelude.{is_some}
-use Rattle.table_save.proofs.Redistributors.{pending_more}
+use Rattle.its_plain.specs.Regions.{pending_area}
+use Rattle.table_save.proofs.Redistributors.{area_more}
 use Rattle.table_save.proofs.areas.add_pending.Goals as goal
 
 pub redist-redist-requires : goal.redist-redist-requires
@@ -8,5 +9,5 @@ redist-redist-requires c = ap is_some (c.requires.in_hand c.loop-vcpu.vcpu c.loo
 
 pub loop-vcpu-preserved : goal.loop-vcpu-preserved
 loop-vcpu-preserved c =
-    pending_more c.args.shape c.loop-vcpu.vcpu c.args.redists.now c.redist-redist.result.now c.loop-vcpu.areas.items c.add_pending_of.new.areas.items _ c.loop-vcpu-test.true
+    area_more (pending_area c.args.shape) c.args.shape c.loop-vcpu.vcpu c.args.redists.now c.redist-redist.result.now c.loop-vcpu.areas.items c.add_pending_of.new.areas.items _ c.loop-vcpu-test.true
     c.redist-redist.ensures c.in_ok-add_pending_of.ensures c.loop-vcpu.invariant

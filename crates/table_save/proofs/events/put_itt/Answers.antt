@@ -1,7 +1,7 @@
 use Rattle.std.proofs.Common.{refl}
-use Rattle.its_maps.specs.MapsRoom.{events_at}
+use Rattle.its_types.specs.Maps.{events_at}
 use Rattle.table_save.specs.Pass.{FitsEvent, pack_event}
-use Rattle.table_save.proofs.EventsOf.{events_rise}
+use Rattle.standing_states.proofs.EventsOf.{events_rise}
 use Rattle.table_save.proofs.Rises.{passed_none}
 use Rattle.table_save.proofs.events.put_itt.Goals as goal
 

@@ -1,5 +1,5 @@
 use Rattle.std.proofs.Common.{◌≡◌}
-use Rattle.its_maps.specs.MapsRoom.{events_at}
+use Rattle.its_types.specs.Maps.{events_at}
 use Rattle.its_plain.specs.Saved.{put_words}
 use Rattle.table_save.specs.Pass.{event_entry_word, PassedEvents}
 use Rattle.table_save.proofs.events.put_itt.Given as goal

@@ -5,13 +5,13 @@ use Rattle.table_save.proofs.SoundState.{devices_fit, events_fit, redistributors
 use Rattle.table_save.proofs.saving.save.Goals as goal
 
 pub put_all-requires-clause-low : goal.put_all-requires-clause-low
-put_all-requires-clause-low c = redistributors_low c.args.desc.now c.args.regs.now c.args.maps.now.maps c.args.memory.now c.args.redists.now c.requires.sound
+put_all-requires-clause-low c = redistributors_low c.args.layout.now c.args.regs.now c.args.maps.now.maps c.args.memory.now c.args.redists.now c.requires.sound
 
 pub put_all-requires-clause-devices : goal.put_all-requires-clause-devices
-put_all-requires-clause-devices c = devices_fit c.args.desc.now c.args.regs.now c.args.maps.now.maps c.args.memory.now c.args.redists.now c.requires.sound
+put_all-requires-clause-devices c = devices_fit c.args.layout.now c.args.regs.now c.args.maps.now.maps c.args.memory.now c.args.redists.now c.requires.sound
 
 pub put_all-requires-clause-events : goal.put_all-requires-clause-events
-put_all-requires-clause-events c = events_fit c.args.desc.now c.args.regs.now c.args.maps.now.maps c.args.memory.now c.args.redists.now c.requires.sound
+put_all-requires-clause-events c = events_fit c.args.layout.now c.args.regs.now c.args.maps.now.maps c.args.memory.now c.args.redists.now c.requires.sound
 
 pub returns-clause-memory : goal.returns-clause-memory
-returns-clause-memory c = c.put_all.ensures ∙ ap (put_tables c.args.memory.now) (words_are c.args.desc.now c.args.regs.now c.args.maps.now.maps c.args.memory.now c.args.redists.now)
+returns-clause-memory c = c.put_all.ensures ∙ ap (put_tables c.args.memory.now) (words_are c.args.layout.now c.args.regs.now c.args.maps.now.maps c.args.memory.now c.args.redists.now)

@@ -1,5 +1,5 @@
 use Rattle.std.specs.List.{AllByRecursion}
-use Rattle.its_maps.specs.MapsRoom.{events_at}
+use Rattle.its_types.specs.Maps.{events_at}
 use Rattle.table_save.specs.SoundParts.{IsEventOf}
 use Rattle.table_save.proofs.sound_parts.are_events_of.Given as goal
 

@@ -1,0 +1,112 @@
+-- The steps of the walks: what a place has goes into the maps, and the rest of the walk is as it was.
+use Rattle.std.proofs.Common.{◌≡◌, ℕ, ◌+◌, true, false, cond, List, Option, Some, None, Ok, Err, refl, sym, subst, ap, ◌∙◌}
+use Rattle.std.specs.Prelude.{IsSome}
+use Rattle.std.specs.Option.{option_and_then, option_map}
+use Rattle.its_types.specs.Bits.{bit_of}
+use Rattle.guest_windows.specs.Windows.{Window, number_at}
+use Rattle.gits_regs.specs.Registers.{Registers, collection_places}
+use Rattle.baser_place.specs.Places.{level1_address, page_address, level1_word, level1_of}
+use Rattle.baser_place.specs.declared.entry.Level1.{Level1}
+use Rattle.baser_place.specs.declared.entry.Level1.TheVariants as level1
+use Rattle.its_types.specs.Maps.{Maps}
+use Rattle.its_types.specs.declared.ids.Icid.{Icid}
+use Rattle.its_types.specs.declared.ids.Vcpu.{Vcpu}
+use Rattle.its_types.specs.declared.translation.Event.{Event}
+use Rattle.its_plain.specs.Walks.{within}
+use Rattle.its_plain.specs.EventTables.{Itt, event_check, event_in}
+use Rattle.its_plain.specs.CollectionTables.{collection_entry, collection_leads, next_collection, collection_check}
+use Rattle.its_plain.specs.DeviceTables.{DevicePlace, at_level1, at_entry, following, word_leads, next_device}
+use Rattle.its_plain.specs.declared.fault.RestoreFault.{RestoreFault}
+use Rattle.standing_states.specs.Walked.{after_all, after}
+use Rattle.standing_states.specs.Found.{one_event, look_event, one_collection, look_collection, put_collection, IsPlace, rank, reach, look_device, devices_from, put_found}
+use Rattle.standing_states.proofs.Walks.{goes_on, ends_here, goes_wrong, after-err}
+use Rattle.standing_states.proofs.EventsWalked.{then_ok, then_err}
+use Rattle.standing_states.proofs.CollectionsWalked.{next_is}
+use Rattle.standing_states.proofs.DevicesWalked.{IsSmall, devices_rise}
+use Rattle.table_restore.specs.Outcome.{fields_of, LookedDevice, Took, place_of}
+use Rattle.table_restore.specs.declared.error.RestoreError.{RestoreError}
+use Rattle.table_restore.specs.declared.error.RestoreError.TheVariants as errors
+use Rattle.table_restore.specs.declared.place.DevicePlace as code
+
+-- ---- events
+
+pub event_put : (memory : List Window) (n : ℕ) (t : Itt) (i : ℕ) (o : Option Event) (put : Maps → ℕ × Event → Maps) (s u : Maps) → event_check memory n t i ≡ Ok tt → event_in memory t i ≡ o → u ≡ after_all put s (one_event i o)
+    → after put s (look_event memory n t i) ≡ Ok u
+event_put memory n t i o put s u ok is got =
+    ap (after put s) (then_ok (event_check memory n t i) (one_event i (event_in memory t i)) ok) ∙ ap (λ (e : Option Event). Ok (after_all put s (one_event i e))) is ∙ ap Ok (sym got)
+
+pub event_wrong : (memory : List Window) (n : ℕ) (t : Itt) (i : ℕ) (f : RestoreFault) → event_check memory n t i ≡ Err f → look_event memory n t i ≡ Err f
+event_wrong memory n t i f e = then_err (event_check memory n t i) (one_event i (event_in memory t i)) f e
+
+-- ---- collections
+
+pub collection_wrong : (memory : List Window) (n : ℕ) (r : Registers) (i : ℕ) (f : RestoreFault) → collection_check memory n r i ≡ Err f → look_collection memory n r i ≡ Err f
+collection_wrong memory n r i f e = then_err (collection_check memory n r i) (one_collection (collection_entry memory r i)) f e
+
+module _ (memory : List Window) (n : ℕ) (r : Registers) (i : ℕ) (seen : Option (Icid × Vcpu)) (ok : collection_check memory n r i ≡ Ok tt) (at : collection_entry memory r i ≡ option_map fields_of seen) where
+  looked : look_collection memory n r i ≡ Ok (one_collection (option_map fields_of seen))
+  looked = then_ok (collection_check memory n r i) (one_collection (collection_entry memory r i)) ok ∙ ap (λ o. Ok (one_collection o)) at
+
+  pub took_none : (s : Maps) → seen ≡ None → after put_collection s (look_collection memory n r i) ≡ Ok s
+  took_none s none = ap (after put_collection s) looked ∙ ap (λ (o : Option (Icid × Vcpu)). Ok (after_all put_collection s (one_collection (option_map fields_of o)))) none
+
+  pub leads_none : seen ≡ None → next_collection memory r i ≡ None
+  leads_none none = next_is memory r i ∙ ap (collection_leads r i) at ∙ ap (λ (o : Option (Icid × Vcpu)). collection_leads r i (option_map fields_of o)) none
+
+  pub took_one : (s u : Maps) (c : Icid × Vcpu) → seen ≡ Some c → u ≡ put_collection s (c.0.0, c.1) → after put_collection s (look_collection memory n r i) ≡ Ok u
+  took_one s u c some got = ap (after put_collection s) looked ∙ ap (λ (o : Option (Icid × Vcpu)). Ok (after_all put_collection s (one_collection (option_map fields_of o)))) some ∙ ap Ok (sym got)
+
+  pub leads_one : (c : Icid × Vcpu) → seen ≡ Some c → next_collection memory r i ≡ within (collection_places r) (i + 1)
+  leads_one c some = next_is memory r i ∙ ap (collection_leads r i) at ∙ ap (λ (o : Option (Icid × Vcpu)). collection_leads r i (option_map fields_of o)) some
+
+  pub entry_one : (c : Icid × Vcpu) → seen ≡ Some c → collection_entry memory r i ≡ Some (fields_of c)
+  entry_one c some = at ∙ ap (option_map fields_of) some
+
+-- ---- a level-1 entry, as baser_place reads it
+
+abbrev pub LeadsAs : List Window → Registers → ℕ → Level1 → Type 0
+LeadsAs memory r k (level1.Outside address) = (number_at memory (level1_address r k) ≡ None) × (address.0 ≡ level1_address r k)
+LeadsAs memory r k level1.Empty = IsSome (number_at memory (level1_address r k)) × (next_device memory r (at_level1 k) ≡ following r k)
+LeadsAs memory r k (level1.Page address) = IsSome (number_at memory (level1_address r k)) × (next_device memory r (at_level1 k) ≡ Some (at_entry k address.0 0))
+
+some_is : {A : Type 0} (o : Option A) (x : A) → o ≡ Some x → IsSome o
+some_is o x e = subst IsSome (sym e) refl
+
+pub level1_read : (memory : List Window) (r : Registers) (k : ℕ) → LeadsAs memory r k (level1_of r memory k)
+unfolding level1_of
+level1_read memory r k =
+    elim (number_at memory (level1_address r k)) as (λ o. number_at memory (level1_address r k) ≡ o → LeadsAs memory r k (level1_word (level1_address r k) o)) [
+      | None ↦ λ e. (e, refl)
+      | Some word ↦ λ e.
+          let leads_to = ap (option_and_then (word_leads r (at_level1 k))) e in
+          elim (bit_of word 63) as (λ b. bit_of word 63 ≡ b → LeadsAs memory r k (cond b (level1.Page (record { 0 = page_address word })) level1.Empty)) [
+            | true ↦ λ is. (some_is (number_at memory (level1_address r k)) word e, leads_to ∙ ap (λ b. cond b (Some (at_entry k (page_address word) 0)) (following r k)) is)
+            | false ↦ λ is. (some_is (number_at memory (level1_address r k)) word e, leads_to ∙ ap (λ b. cond b (Some (at_entry k (page_address word) 0)) (following r k)) is)
+          ] refl
+    ] refl
+
+pub level1_is : (memory : List Window) (r : Registers) (k : ℕ) (e f : Level1) → e ≡ level1_of r memory k → e ≡ f → LeadsAs memory r k f
+level1_is memory r k e f a b = subst (LeadsAs memory r k) (sym a ∙ b) (level1_read memory r k)
+
+-- ---- devices
+
+module _ (memory : List Window) (n : ℕ) (r : Registers) (s : IsSmall r) where
+  pub device_wrong : (old seen now new : Maps) (p q : DevicePlace) (error : RestoreError) → IsPlace r p → after put_found now (devices_from memory n r p) ≡ after put_found old (devices_from memory n r q) → LookedDevice memory n r p now seen (Err error)
+      → Took put_found old new (Err error) (devices_from memory n r q)
+  device_wrong old seen now new p q (errors.Fault f) g so is =
+      after-err put_found old (devices_from memory n r q) f
+      (goes_wrong put_found (look_device memory n r) (next_device memory r) rank (reach r) (IsPlace r) (devices_rise memory r s) now p f (after put_found old (devices_from memory n r q)) g so is)
+  device_wrong old seen now new p q errors.NoMemory g so is = tt
+
+  pub device_ends : (old now new : Maps) (p q : DevicePlace) (o : Option code.DevicePlace) → IsPlace r p → after put_found now (devices_from memory n r p) ≡ after put_found old (devices_from memory n r q) → LookedDevice memory n r p now new (Ok o) → o ≡ None
+      → after put_found old (devices_from memory n r q) ≡ Ok new
+  device_ends old now new p q o g so is none =
+      ends_here put_found (look_device memory n r) (next_device memory r) rank (reach r) (IsPlace r) (devices_rise memory r s) now new p (next_device memory r p) (after put_found old (devices_from memory n r q)) g so is.0 refl (is.1 ∙ ap (option_map place_of) none)
+
+  pub device_leads_to : (now new : Maps) (p : DevicePlace) (o : Option code.DevicePlace) (to : code.DevicePlace) → LookedDevice memory n r p now new (Ok o) → o ≡ Some to → next_device memory r p ≡ Some (place_of to)
+  device_leads_to now new p o to is leads_on = is.1 ∙ ap (option_map place_of) leads_on
+
+  pub device_on : (old now new : Maps) (p q : DevicePlace) (o : Option code.DevicePlace) (to : code.DevicePlace) → IsPlace r p → after put_found now (devices_from memory n r p) ≡ after put_found old (devices_from memory n r q) → LookedDevice memory n r p now new (Ok o) → o ≡ Some to
+      → after put_found new (devices_from memory n r (place_of to)) ≡ after put_found old (devices_from memory n r q)
+  device_on old now new p q o to g so is leads_on =
+      goes_on put_found (look_device memory n r) (next_device memory r) rank (reach r) (IsPlace r) (devices_rise memory r s) now new p (place_of to) (next_device memory r p) (after put_found old (devices_from memory n r q)) g so is.0 refl (device_leads_to now new p o to is leads_on)

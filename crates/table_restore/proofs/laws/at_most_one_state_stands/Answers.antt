@@ -1,5 +1,0 @@
-use Rattle.table_restore.proofs.Once.{stands_once}
-use Rattle.table_restore.proofs.laws.at_most_one_state_stands.Goals as goal
-
-pub returns : goal.returns
-returns c = stands_once

@@ -1,0 +1,13 @@
+use Rattle.std.proofs.Common.{ap}
+use Rattle.std.specs.Prelude.{is_some}
+use Rattle.its_plain.specs.Regions.{config_area}
+use Rattle.table_save.proofs.Redistributors.{area_more}
+use Rattle.table_save.proofs.areas.add_own_configs.Goals as goal
+
+pub redist-redist-requires : goal.redist-redist-requires
+redist-redist-requires c = ap is_some (c.requires.in_hand c.loop-vcpu.vcpu c.loop-vcpu-test.true).1
+
+pub loop-vcpu-preserved : goal.loop-vcpu-preserved
+loop-vcpu-preserved c =
+    area_more (config_area c.args.shape) c.args.shape c.loop-vcpu.vcpu c.args.redists.now c.redist-redist.result.now c.loop-vcpu.areas.items c.add_own_config.new.areas.items _ c.loop-vcpu-test.true
+    c.redist-redist.ensures c.in_ok-add_own_config.ensures c.loop-vcpu.invariant
