@@ -25,14 +25,14 @@ use Rattle.its_plain.specs.declared.call.Call.{Call}
 use Rattle.its_plain.specs.declared.call.Call.TheVariants as call
 use Rattle.its_plain.specs.declared.call.Cause.{Cause}
 use Rattle.its_plain.specs.declared.call.Cause.TheVariants.{Disabled, NoDevice, NoEvent, NoCollection, LpisOff}
-use Rattle.its_plain.specs.declared.desc.Desc.{Desc}
 use Rattle.its_maps.specs.MapsRoom.{MapsRoom}
 use Rattle.owned_parts.specs.Owned.{ArePartsOf}
 use Rattle.owned_parts.specs.declared.parts.Parts.{Parts}
 use Rattle.cmd_exec.specs.InHand.{changed, with_set, with_cleared}
 use Rattle.cmd_exec.specs.Executed.{left_by}
 use Rattle.cmd_exec.specs.Needs.{AreNeededInHand}
-use Rattle.owned_machine.specs.Whole.{machine_of, IsMachine, GoesOn, IsMet}
+use Rattle.owned_parts.specs.Owned.{state_of_parts}
+use Rattle.owned_machine.specs.Whole.{IsMachine, GoesOn, IsMet}
 use Rattle.owned_machine.proofs.Lists.{set_past}
 use Rattle.owned_machine.proofs.Kept.{AreHeldAlike, parts_are, goes_on, stays, redist_goes, held}
 use Rattle.owned_machine.proofs.Needed.{is_needed_below}
@@ -60,27 +60,27 @@ goes_to s t dev ev h =
     found (IsTarget s) (collection_of t.maps event.icid.0) NoCollection _ (λ vcpu to.
     ((h.collections event.icid.0 vcpu to).target, (h.events dev ev event is).lpi)))))
 
-pub target_is : (d : Desc) (p : Parts) (dev ev : ℕ) (t : Target) → IsMachine d p → located (record { regs = p.regs; maps = p.maps.maps }) dev ev ≡ Ok t
-    → (t.vcpu.0 < d.shape.vcpus) × (is_lpi d.shape.lpi_bits t.intid.0 ≡ true)
-target_is d p dev ev t m e =
-    subst (λ (r : Result Target Cause). IfOk r (IsTarget d.shape)) e
-    (goes_to d.shape (record { regs = p.regs; maps = p.maps.maps }) dev ev (m.sound.translators 0 (record { regs = p.regs; maps = p.maps.maps }) refl))
+pub target_is : (p : Parts) (dev ev : ℕ) (t : Target) → IsMachine p → located (record { regs = p.regs; maps = p.maps.maps }) dev ev ≡ Ok t
+    → (t.vcpu.0 < p.layout.shape.vcpus) × (is_lpi p.layout.shape.lpi_bits t.intid.0 ≡ true)
+target_is p dev ev t m e =
+    subst (λ (r : Result Target Cause). IfOk r (IsTarget p.layout.shape)) e
+    (goes_to p.layout.shape (record { regs = p.regs; maps = p.maps.maps }) dev ev (m.sound.translators 0 (record { regs = p.regs; maps = p.maps.maps }) refl))
 
 other_translator : (t : Translator) (i : ℕ) → (i ≡ 0 → ⊥) → slice_index_or (t ∷ []) i no_translator ≡ no_translator
 other_translator t zero other = absurd (other refl)
 other_translator t (suc i) other = refl
 
-pub other_disabled : (d : Desc) (p : Parts) (i dev ev : ℕ) → (i ≡ 0 → ⊥) → Err Disabled ≡ translated (machine_of d p) i dev ev
+pub other_disabled : (p : Parts) (i dev ev : ℕ) → (i ≡ 0 → ⊥) → Err Disabled ≡ translated (state_of_parts p) i dev ev
 unfolding translated located
-other_disabled d p i dev ev other =
-    sym (ap (λ (t : Translator). located t dev ev >>= (λ (target : Target). ensure (redistributor (machine_of d p) target.vcpu.0).bases.on LpisOff >>= λ (_ : Unit {0}). Ok target)) (other_translator (record { regs = p.regs; maps = p.maps.maps }) i other))
+other_disabled p i dev ev other =
+    sym (ap (λ (t : Translator). located t dev ev >>= (λ (target : Target). ensure (redistributor (state_of_parts p) target.vcpu.0).bases.on LpisOff >>= λ (_ : Unit {0}). Ok target)) (other_translator (record { regs = p.regs; maps = p.maps.maps }) i other))
 
-pub signal_goes : (d : Desc) (p : Parts) (its : ℕ) (dev : DeviceId) (ev : EventId) (t : Target) → IsMachine d p → translated (machine_of d p) its dev.0 ev.0 ≡ Ok t
-    → GoesOn d (record p { redists = changed t.vcpu.0 (with_set t.intid.0) p.redists }) (lpi_set t.intid.0 t.vcpu.0 (machine_of d p))
+pub signal_goes : (p : Parts) (its : ℕ) (dev : DeviceId) (ev : EventId) (t : Target) → IsMachine p → translated (state_of_parts p) its dev.0 ev.0 ≡ Ok t
+    → GoesOn (record p { redists = changed t.vcpu.0 (with_set t.intid.0) p.redists }) (lpi_set t.intid.0 t.vcpu.0 (state_of_parts p))
 unfolding reply_of left
-signal_goes d p its dev ev t m e =
-    let u = machine_of d p in
-    redist_goes d p (call.Signal its dev ev) t.vcpu.0 (with_set t.intid.0) m (ap (λ (r : Result Target Cause). signal_left u (signal_reply r)) e)
+signal_goes p its dev ev t m e =
+    let u = state_of_parts p in
+    redist_goes p (call.Signal its dev ev) t.vcpu.0 (with_set t.intid.0) m (ap (λ (r : Result Target Cause). signal_left u (signal_reply r)) e)
 
 -- ---- acknowledgements
 
@@ -88,16 +88,16 @@ acked : (r : Redistributor) (o : Option ℕ) (intid : Intid) (priority : ℕ) �
 acked r None intid priority e = absurd cc
 acked r (Some x) intid priority e = cc
 
-pub take_goes : (d : Desc) (p : Parts) (vcpu : Vcpu) (intid : Intid) (priority : ℕ) → IsMachine d p
-    → ack_of (redistributor (machine_of d p) vcpu.0) (lowest (redistributor (machine_of d p) vcpu.0)) ≡ ack.Some intid priority
-    → GoesOn d (record p { redists = changed vcpu.0 (with_cleared intid.0) p.redists }) (with_redistributor (machine_of d p) vcpu.0 (taken (redistributor (machine_of d p) vcpu.0) (lowest (redistributor (machine_of d p) vcpu.0))))
+pub take_goes : (p : Parts) (vcpu : Vcpu) (intid : Intid) (priority : ℕ) → IsMachine p
+    → ack_of (redistributor (state_of_parts p) vcpu.0) (lowest (redistributor (state_of_parts p) vcpu.0)) ≡ ack.Some intid priority
+    → GoesOn (record p { redists = changed vcpu.0 (with_cleared intid.0) p.redists }) (with_redistributor (state_of_parts p) vcpu.0 (taken (redistributor (state_of_parts p) vcpu.0) (lowest (redistributor (state_of_parts p) vcpu.0))))
 unfolding left
-take_goes d p vcpu intid priority m e =
-    let u = machine_of d p in let r = redistributor u vcpu.0 in
+take_goes p vcpu intid priority m e =
+    let u = state_of_parts p in let r = redistributor u vcpu.0 in
     let is : lowest r ≡ Some intid.0 = acked r (lowest r) intid priority e in
     let same : with_redistributor u vcpu.0 (taken r (lowest r)) ≡ with_redistributor u vcpu.0 (with_cleared intid.0 r) = ap (λ (o : Option ℕ). with_redistributor u vcpu.0 (taken r o)) is in
-    subst (GoesOn d (record p { redists = changed vcpu.0 (with_cleared intid.0) p.redists })) (sym same)
-    (redist_goes d p (call.Take vcpu) vcpu.0 (with_cleared intid.0) m same)
+    subst (GoesOn (record p { redists = changed vcpu.0 (with_cleared intid.0) p.redists })) (sym same)
+    (redist_goes p (call.Take vcpu) vcpu.0 (with_cleared intid.0) m same)
 
 -- ---- guest memory
 
@@ -105,45 +105,45 @@ pub write_is : (o : Option (List Window)) (old new : List Window) (A B : Type 0)
 write_is None old new A B h = h.1
 write_is (Some m) old new A B h = h.1
 
-memory_goes : (d : Desc) (p : Parts) (c : Call) (memory : List Window) → IsMachine d p → (answer (machine_of d p) c).1 ≡ record (machine_of d p) { memory = memory }
-    → GoesOn d (record p { memory = memory }) (record (machine_of d p) { memory = memory })
-memory_goes d p c memory m is =
-    goes_on d p (record p { memory = memory }) c (record (machine_of d p) { memory = memory }) m is (λ v. refl)
-    (record { shape_is = refl; translator_is = refl; memory_is = refl; redistributors_are = λ v r is. let h = (parts_are d p m).redistributors_are v r is in record { lpis = h.lpis; same = h.same } })
+memory_goes : (p : Parts) (c : Call) (memory : List Window) → IsMachine p → (answer (state_of_parts p) c).1 ≡ record (state_of_parts p) { memory = memory }
+    → GoesOn (record p { memory = memory }) (record (state_of_parts p) { memory = memory })
+memory_goes p c memory m is =
+    goes_on p (record p { memory = memory }) c (record (state_of_parts p) { memory = memory }) m refl is (λ v. refl)
+    (record { shape_is = refl; translator_is = refl; memory_is = refl; redistributors_are = λ v r is. let h = (parts_are p m).redistributors_are v r is in record { lpis = h.lpis; same = h.same } })
 
-pub poke_goes : (d : Desc) (p : Parts) (addr : Addr) (bytes : List ℕ) (memory : List Window) → IsMachine d p → memory ≡ unwrap_or (write_at p.memory addr.0 bytes) p.memory
-    → GoesOn d (record p { memory = memory }) (poked (machine_of d p) addr.0 bytes)
+pub poke_goes : (p : Parts) (addr : Addr) (bytes : List ℕ) (memory : List Window) → IsMachine p → memory ≡ unwrap_or (write_at p.memory addr.0 bytes) p.memory
+    → GoesOn (record p { memory = memory }) (poked (state_of_parts p) addr.0 bytes)
 unfolding left
-poke_goes d p addr bytes memory m is =
+poke_goes p addr bytes memory m is =
     let now = unwrap_or (write_at p.memory addr.0 bytes) p.memory in
-    subst (λ (x : List Window). GoesOn d (record p { memory = x }) (poked (machine_of d p) addr.0 bytes)) (sym is)
-    (memory_goes d p (call.Poke addr bytes) now m refl)
+    subst (λ (x : List Window). GoesOn (record p { memory = x }) (poked (state_of_parts p) addr.0 bytes)) (sym is)
+    (memory_goes p (call.Poke addr bytes) now m refl)
 
 -- ---- registers
 
-pub write_goes : (d : Desc) (p : Parts) (its off size value : ℕ) (regs : Registers) (maps : MapsRoom) → IsMachine d p → its ≡ 0
+pub write_goes : (p : Parts) (its off size value : ℕ) (regs : Registers) (maps : MapsRoom) → IsMachine p → its ≡ 0
     → regs ≡ (write_reg p.regs off size value).regs → maps.maps ≡ emptied (write_reg p.regs off size value).change p.maps.maps
-    → GoesOn d (record p { regs = regs; maps = maps }) (written (machine_of d p) its off size value)
+    → GoesOn (record p { regs = regs; maps = maps }) (written (state_of_parts p) its off size value)
 unfolding left written
-write_goes d p its off size value regs maps m first regs_are maps_are =
-    let u = machine_of d p in
+write_goes p its off size value regs maps m first regs_are maps_are =
+    let u = state_of_parts p in
     let some : Registers → Maps → Option Translator = λ r x. Some (record { regs = r; maps = x }) in
-    subst (λ (i : ℕ). GoesOn d (record p { regs = regs; maps = maps }) (written u i off size value)) (sym first)
-    (goes_on d p (record p { regs = regs; maps = maps }) (call.WriteReg 0 off size value) (written u 0 off size value) m refl (λ v. refl)
+    subst (λ (i : ℕ). GoesOn (record p { regs = regs; maps = maps }) (written u i off size value)) (sym first)
+    (goes_on p (record p { regs = regs; maps = maps }) (call.WriteReg 0 off size value) (written u 0 off size value) m refl refl (λ v. refl)
     (record {
       shape_is = refl;
       translator_is = sym (ap (λ (r : Registers). some r maps.maps) regs_are ∙ ap (some (write_reg p.regs off size value).regs) maps_are);
       memory_is = refl;
-      redistributors_are = λ v r is. let h = (parts_are d p m).redistributors_are v r is in record { lpis = h.lpis; same = h.same };
+      redistributors_are = λ v r is. let h = (parts_are p m).redistributors_are v r is in record { lpis = h.lpis; same = h.same };
     }))
 
-pub no_write_goes : (d : Desc) (p : Parts) (its off size value : ℕ) → IsMachine d p → (its ≡ 0 → ⊥) → GoesOn d p (written (machine_of d p) its off size value)
+pub no_write_goes : (p : Parts) (its off size value : ℕ) → IsMachine p → (its ≡ 0 → ⊥) → GoesOn p (written (state_of_parts p) its off size value)
 unfolding written
-no_write_goes d p its off size value m other =
-    let u = machine_of d p in
+no_write_goes p its off size value m other =
+    let u = state_of_parts p in
     let t : Translator = record { regs = p.regs; maps = p.maps.maps } in
     let now = translator_written (translator u its) (write_reg (translator u its).regs off size value) in
-    stays d p (written u its off size value) m (ap (λ (ts : List Translator). record u { translators = ts }) (sym (set_past t now its other)))
+    stays p (written u its off size value) m (ap (λ (ts : List Translator). record u { translators = ts }) (sym (set_past t now its other)))
 
 -- ---- steps
 
@@ -154,22 +154,22 @@ step_is u c met =
     ∙ ap (λ (o : Option (List ℕ)). met_left u 0 o) met.bytes_are
     ∙ ap (λ (x : Command). left_by x u 0) met.command
 
-pub run_goes : (d : Desc) (old new : Parts) (c : Command) → IsMachine d old → IsMet (machine_of d old) c → AreHeldAlike new.redists old.redists
-    → ArePartsOf (left_by c (machine_of d old) 0) 0 d.shape new.regs new.maps.maps new.memory new.redists → GoesOn d new (left_by c (machine_of d old) 0)
-run_goes d old new c m met alike parts = goes_on d old new (call.Step 0) (left_by c (machine_of d old) 0) m (step_is (machine_of d old) c met) alike parts
+pub run_goes : (old new : Parts) (c : Command) → IsMachine old → new.layout ≡ old.layout → IsMet (state_of_parts old) c → AreHeldAlike new.redists old.redists
+    → ArePartsOf (left_by c (state_of_parts old) 0) 0 old.layout.shape new.regs new.maps.maps new.memory new.redists → GoesOn new (left_by c (state_of_parts old) 0)
+run_goes old new c m same met alike parts = goes_on old new (call.Step 0) (left_by c (state_of_parts old) 0) m same (step_is (state_of_parts old) c met) alike parts
 
-pub needed_held : (d : Desc) (p : Parts) (c : Command) → IsMachine d p → AreNeededInHand d.shape p.maps.maps c p.redists
-needed_held d p c m = λ v e.
+pub needed_held : (p : Parts) (c : Command) → IsMachine p → AreNeededInHand p.layout.shape p.maps.maps c p.redists
+needed_held p c m = λ v e.
     let t = m.sound.translators 0 (record { regs = p.regs; maps = p.maps.maps }) refl in
-    held d p v m (is_needed_below d.shape p.maps.maps c v (λ icid vcpu is. (t.collections icid vcpu is).target) e)
+    held p v m (is_needed_below p.layout.shape p.maps.maps c v (λ icid vcpu is. (t.collections icid vcpu is).target) e)
 
 -- ---- saves
 
-pub save_goes : (d : Desc) (p : Parts) (memory : List Window) → IsMachine d p → savable (machine_of d p) ≡ Ok tt → memory ≡ saved (machine_of d p)
-    → GoesOn d (record p { memory = memory }) (save_left (machine_of d p) (savable (machine_of d p)))
+pub save_goes : (p : Parts) (memory : List Window) → IsMachine p → savable (state_of_parts p) ≡ Ok tt → memory ≡ saved (state_of_parts p)
+    → GoesOn (record p { memory = memory }) (save_left (state_of_parts p) (savable (state_of_parts p)))
 unfolding left
-save_goes d p memory m ok is =
-    let u = machine_of d p in
+save_goes p memory m ok is =
+    let u = state_of_parts p in
     let done : save_left u (savable u) ≡ record u { memory = saved u } = ap (save_left u) ok in
-    subst (λ (x : List Window). GoesOn d (record p { memory = x }) (save_left u (savable u))) (sym is)
-    (subst (GoesOn d (record p { memory = saved u })) (sym done) (memory_goes d p call.Save (saved u) m done))
+    subst (λ (x : List Window). GoesOn (record p { memory = x }) (save_left u (savable u))) (sym is)
+    (subst (GoesOn (record p { memory = saved u })) (sym done) (memory_goes p call.Save (saved u) m done))

@@ -1,39 +1,40 @@
 -- The parts of a machine are those of its state, and all of them.
-use Rattle.std.proofs.Common.{◌≡◌, ℕ, ◌<◌, true, false, List, [], ◌∷◌, map, take, Option, Some, None, inl, inr, refl, sym, ap, subst, ◌∙◌}
+use Rattle.std.proofs.Common.{◌≡◌, ℕ, ◌<◌, ◌≤◌, true, false, List, [], ◌∷◌, map, take, Option, Some, None, inl, inr, refl, sym, ap, subst, ◌∙◌}
 use Rattle.std.specs.Prelude.{is_some, length}
 use Rattle.std.proofs.lemmas.Bool.{cases_lt}
 use Rattle.std.proofs.lemmas.Option.{same_Some}
 use Rattle.guest_windows.specs.Windows.{Window}
 use Rattle.its_types.specs.Ranges.{is_lpi}
-use Rattle.its_plain.specs.Plain.{Plain, Layout, Translator, Redistributor, redistributor, with_redistributor}
+use Rattle.its_plain.specs.Plain.{Plain, Translator, Redistributor, redistributor, with_redistributor}
+use Rattle.its_plain.specs.declared.layout.Layout.{Layout}
 use Rattle.its_plain.specs.Sound.{IsSound}
 use Rattle.its_plain.specs.Answer.{answer}
 use Rattle.its_plain.specs.declared.call.Ack.{Ack}
 use Rattle.its_plain.specs.declared.call.Ack.TheVariants as ack
 use Rattle.its_plain.specs.declared.call.Call.{Call}
-use Rattle.its_plain.specs.declared.desc.Desc.{Desc}
 use Rattle.plain_soundness.proofs.Answers.{calls_keep}
 use Rattle.plain_footprint.proofs.OtherParts.{leaves}
 use Rattle.lpi_pending.specs.InHand.{in_hand}
 use Rattle.lpi_pending.specs.declared.redist.Redist.{Redist}
-use Rattle.owned_parts.specs.Owned.{ArePartsOf, HasLpisOf, redistributor_of, redistributor_or, layout_of}
+use Rattle.owned_parts.specs.Owned.{ArePartsOf, AreAllInHand, HasLpisOf, redistributor_of, redistributor_or, state_of}
 use Rattle.owned_parts.specs.declared.parts.Parts.{Parts}
 use Rattle.cmd_exec.specs.InHand.{changed, takes_lpi}
 use Rattle.cmd_exec.proofs.InHand.{changed_held}
 use Rattle.cmd_exec.proofs.Lifted.{changed_are, redistributor_is, held_by}
-use Rattle.owned_machine.specs.Whole.{machine_of, IsMachine, GoesOn, IfAcked}
+use Rattle.owned_parts.specs.Owned.{state_of_parts}
+use Rattle.owned_machine.specs.Whole.{IsMachine, GoesOn, IfAcked}
 use Rattle.owned_machine.proofs.Lists.{hand_here, hand_is, one_is}
 
-pub parts_are : (d : Desc) (p : Parts) → IsMachine d p → ArePartsOf (machine_of d p) 0 d.shape p.regs p.maps.maps p.memory p.redists
-parts_are d p m = record {
+pub parts_are : (p : Parts) → IsMachine p → ArePartsOf (state_of_parts p) 0 p.layout.shape p.regs p.maps.maps p.memory p.redists
+parts_are p m = record {
   shape_is = refl;
   translator_is = refl;
   memory_is = refl;
-  redistributors_are = λ v r is. elim (cases_lt v d.shape.vcpus) [
+  redistributors_are = λ v r is. elim (cases_lt v p.layout.shape.vcpus) [
     | inl lt ↦
         let q = m.all_in_hand v lt in
         let same : q.0 ≡ r = same_Some q.0 r (sym q.1 ∙ is) in
-        record { lpis = subst (HasLpisOf d.shape) same q.2; same = hand_here d.shape.vcpus v p.redists r lt is }
+        record { lpis = subst (HasLpisOf p.layout.shape) same q.2; same = hand_here p.layout.shape.vcpus v p.redists r lt is }
     | inr past ↦ absurd (let no : None ≡ Some r = sym (m.no_others v past) ∙ is in cc)
   ];
 }
@@ -53,69 +54,72 @@ same_state : (l k : Layout) (ts us : List Translator) (rs qs : List Redistributo
 same_state l k ts us rs qs m n el et er em =
     ap (λ (x : Layout). built x ts rs m) el ∙ ap (λ (x : List Translator). built k x rs m) et ∙ ap (λ (x : List Redistributor). built k us x m) er ∙ ap (built k us qs) em
 
-module _ (d : Desc) (old new : Parts) (w : Plain) (m : IsMachine d old) (alike : AreHeldAlike new.redists old.redists) (parts : ArePartsOf w 0 d.shape new.regs new.maps.maps new.memory new.redists) where
-  all_held : (v : ℕ) → v < d.shape.vcpus → (r : Redist) × (in_hand new.redists v ≡ Some r) × HasLpisOf d.shape r
+module _ (old new : Parts) (w : Plain) (m : IsMachine old) (same : new.layout ≡ old.layout) (alike : AreHeldAlike new.redists old.redists)
+    (parts : ArePartsOf w 0 old.layout.shape new.regs new.maps.maps new.memory new.redists) where
+  all_held : (v : ℕ) → v < old.layout.shape.vcpus → (r : Redist) × (in_hand new.redists v ≡ Some r) × HasLpisOf old.layout.shape r
   all_held v lt =
       let q = held_by (in_hand new.redists v) (alike v ∙ ap (λ (o : Option Redist). is_some o) (m.all_in_hand v lt).1) in
       (q.0, q.1, subst (λ s. HasLpisOf s q.0) parts.shape_is (parts.redistributors_are v q.0 q.1).lpis)
 
-  state_is : layout_of d ≡ w.layout → length w.translators ≡ 1 → IsSound w → machine_of d new ≡ w
+  state_is : old.layout ≡ w.layout → length w.translators ≡ 1 → IsSound w → state_of_parts new ≡ w
   state_is layout one sound =
-      let n = d.shape.vcpus in
+      let n = old.layout.shape.vcpus in
       let many : length w.redistributors ≡ n = sound.vcpus ∙ ap (λ s. s.vcpus) parts.shape_is in
-      same_state (layout_of d) w.layout (record { regs = new.regs; maps = new.maps.maps } ∷ []) w.translators (map redistributor_or (take n new.redists)) w.redistributors new.memory w.memory
+      ap (λ (l : Layout). state_of l new.regs new.maps.maps new.memory new.redists) same
+      ∙ same_state old.layout w.layout (record { regs = new.regs; maps = new.maps.maps } ∷ []) w.translators (map redistributor_or (take n new.redists)) w.redistributors new.memory w.memory
       layout
       (one_is w.translators (record { regs = new.regs; maps = new.maps.maps }) one parts.translator_is)
       (hand_is n new.redists w.redistributors (λ v lt. let q = all_held v lt in (q.0, q.1, (parts.redistributors_are v q.0 q.1).same)) many)
       (sym parts.memory_is)
 
-  go : layout_of d ≡ w.layout → length w.translators ≡ 1 → IsSound w → GoesOn d new w
+  go : old.layout ≡ w.layout → length w.translators ≡ 1 → IsSound w → GoesOn new w
   go layout one sound =
-      let same = state_is layout one sound in
+      let state = state_is layout one sound in
       record {
-        state = same;
+        state = state;
         whole = record {
-          sound = subst IsSound (sym same) sound;
-          all_in_hand = all_held;
-          no_others = λ v past. none_held (in_hand new.redists v) (alike v ∙ ap (λ (o : Option Redist). is_some o) (m.no_others v past));
+          sound = subst IsSound (sym state) sound;
+          all_in_hand = subst (λ (l : Layout). AreAllInHand l.shape new.redists) (sym same) all_held;
+          no_others = subst (λ (l : Layout). (v : ℕ) → l.shape.vcpus ≤ v → in_hand new.redists v ≡ None) (sym same)
+              (λ v past. none_held (in_hand new.redists v) (alike v ∙ ap (λ (o : Option Redist). is_some o) (m.no_others v past)));
         };
       }
 
 -- the state that a call leaves is gone on to, where its parts are in hand
-pub goes_on : (d : Desc) (old new : Parts) (c : Call) (w : Plain) → IsMachine d old → (answer (machine_of d old) c).1 ≡ w → AreHeldAlike new.redists old.redists
-    → ArePartsOf w 0 d.shape new.regs new.maps.maps new.memory new.redists → GoesOn d new w
-goes_on d old new c w m is alike parts =
-    let u = machine_of d old in
+pub goes_on : (old new : Parts) (c : Call) (w : Plain) → IsMachine old → new.layout ≡ old.layout → (answer (state_of_parts old) c).1 ≡ w → AreHeldAlike new.redists old.redists
+    → ArePartsOf w 0 old.layout.shape new.regs new.maps.maps new.memory new.redists → GoesOn new w
+goes_on old new c w m same is alike parts =
+    let u = state_of_parts old in
     let others = leaves u c (record { vcpus = m.sound.vcpus }) in
-    go d old new w m alike parts
+    go old new w m same alike parts
     (others.layout ∙ ap (λ (x : Plain). x.layout) is)
     (sym (others.translators ∙ ap (λ (x : Plain). length x.translators) is))
     (subst IsSound is (calls_keep u c m.sound))
 
 -- nothing is changed
-pub stays : (d : Desc) (p : Parts) (w : Plain) → IsMachine d p → machine_of d p ≡ w → GoesOn d p w
-stays d p w m e = record { state = e; whole = m }
+pub stays : (p : Parts) (w : Plain) → IsMachine p → state_of_parts p ≡ w → GoesOn p w
+stays p w m e = record { state = e; whole = m }
 
 -- one redistributor is changed
-pub redist_goes : (d : Desc) (old : Parts) (c : Call) (v : ℕ) (f : Redistributor → Redistributor) → IsMachine d old
-    → (answer (machine_of d old) c).1 ≡ with_redistributor (machine_of d old) v (f (redistributor (machine_of d old) v))
-    → GoesOn d (record old { redists = changed v f old.redists }) (with_redistributor (machine_of d old) v (f (redistributor (machine_of d old) v)))
-redist_goes d old c v f m is =
-    let u = machine_of d old in
-    goes_on d old (record old { redists = changed v f old.redists }) c (with_redistributor u v (f (redistributor u v))) m is
+pub redist_goes : (old : Parts) (c : Call) (v : ℕ) (f : Redistributor → Redistributor) → IsMachine old
+    → (answer (state_of_parts old) c).1 ≡ with_redistributor (state_of_parts old) v (f (redistributor (state_of_parts old) v))
+    → GoesOn (record old { redists = changed v f old.redists }) (with_redistributor (state_of_parts old) v (f (redistributor (state_of_parts old) v)))
+redist_goes old c v f m is =
+    let u = state_of_parts old in
+    goes_on old (record old { redists = changed v f old.redists }) c (with_redistributor u v (f (redistributor u v))) m refl is
     (λ w. changed_held v w f old.redists)
-    (record { shape_is = refl; translator_is = refl; memory_is = refl; redistributors_are = changed_are u old.redists v f (parts_are d old m).redistributors_are })
+    (record { shape_is = refl; translator_is = refl; memory_is = refl; redistributors_are = changed_are u old.redists v f (parts_are old m).redistributors_are })
 
 -- ---- a redistributor in hand
 
-pub held : (d : Desc) (p : Parts) (v : ℕ) → IsMachine d p → v < d.shape.vcpus → is_some (in_hand p.redists v) ≡ true
-held d p v m lt = ap (λ (o : Option Redist). is_some o) (m.all_in_hand v lt).1
+pub held : (p : Parts) (v : ℕ) → IsMachine p → v < p.layout.shape.vcpus → is_some (in_hand p.redists v) ≡ true
+held p v m lt = ap (λ (o : Option Redist). is_some o) (m.all_in_hand v lt).1
 
-pub lpis_of : (d : Desc) (p : Parts) (v : ℕ) (r : Redist) → IsMachine d p → in_hand p.redists v ≡ Some r → HasLpisOf d.shape r
-lpis_of d p v r m is = ((parts_are d p m).redistributors_are v r is).lpis
+pub lpis_of : (p : Parts) (v : ℕ) (r : Redist) → IsMachine p → in_hand p.redists v ≡ Some r → HasLpisOf p.layout.shape r
+lpis_of p v r m is = ((parts_are p m).redistributors_are v r is).lpis
 
-pub redistributor_here : (d : Desc) (p : Parts) (v : ℕ) (r : Redist) → IsMachine d p → in_hand p.redists v ≡ Some r → redistributor (machine_of d p) v ≡ redistributor_of r
-redistributor_here d p v r m is = redistributor_is (machine_of d p) p.redists v r (parts_are d p m).redistributors_are is
+pub redistributor_here : (p : Parts) (v : ℕ) (r : Redist) → IsMachine p → in_hand p.redists v ≡ Some r → redistributor (state_of_parts p) v ≡ redistributor_of r
+redistributor_here p v r m is = redistributor_is (state_of_parts p) p.redists v r (parts_are p m).redistributors_are is
 
 pub takes : (rs : List (Option Redist)) (v x : ℕ) (r : Redist) → in_hand rs v ≡ Some r → is_lpi r.pending.lpi_bits x ≡ true → takes_lpi rs v x ≡ true
 takes rs v x r is lpi = ap (λ (o : Option Redist). takes_lpi (o ∷ []) 0 x) is ∙ lpi

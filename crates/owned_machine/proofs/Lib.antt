@@ -4,3 +4,4 @@ mod Needed
 mod Answered
 mod Started
 mod Moved
+mod Programmed

@@ -1,5 +1,5 @@
 -- Machines that are restored from memory, and the ones that migrations go on with.
-use Rattle.std.proofs.Common.{◌≡◌, ℕ, zero, suc, ◌<◌, ◌≤◌, true, false, List, [], ◌∷◌, length, map, Option, Some, None, Result, Ok, Err, refl, sym, ap, subst, ◌∙◌}
+use Rattle.std.proofs.Common.{◌≡◌, ℕ, zero, suc, ◌<◌, ◌≤◌, Bool, true, false, if◌then◌else◌, List, [], ◌∷◌, length, map, take, Option, Some, None, Result, Ok, Err, refl, sym, ap, subst, ◌∙◌, arith}
 use Rattle.std.specs.Prelude.{slice_get}
 use Rattle.std.specs.Result.{IsErrAnd}
 use Rattle.std.proofs.lemmas.List.{length-map}
@@ -11,9 +11,15 @@ use Rattle.its_types.specs.declared.machine.Shape.{Shape}
 use Rattle.its_types.specs.declared.translation.Bases.{Bases}
 use Rattle.its_plain.specs.Plain.{Plain, Translator, Redistributor}
 use Rattle.its_plain.specs.Sound.{IsSound}
-use Rattle.its_plain.specs.Described.{IsFirstState, IsRefused, of_description, of_restore, StartsAt, bases_of}
-use Rattle.its_plain.specs.Machine.{made, described_bases}
-use Rattle.its_plain.specs.Made.{IsDescription}
+use Rattle.gicr_regs.specs.Registers.{AreKept, restored_bases, all_restored_bases, values_of}
+use Rattle.gicr_regs.specs.declared.values.GicrRegisters.{GicrRegisters}
+use Rattle.gicr_regs.specs.declared.values.GicrValues.{GicrValues}
+use Rattle.its_plain.specs.Described as described
+use Rattle.its_plain.specs.Described.{IsFirstState, IsRefused, of_description, of_restore, StartsAt}
+use Rattle.its_plain.specs.Machine.{made, layout_of, described_bases, described_in, are_programmed, bases_given, IsDescription, HasTablesFor}
+use Rattle.its_plain.specs.declared.layout.Layout.{Layout}
+use Rattle.its_plain.specs.declared.desc.LpiTables.{LpiTables}
+use Rattle.its_plain.specs.declared.desc.LpiTables.TheVariants.{Described, Registers}
 use Rattle.its_plain.specs.Regions.{savable}
 use Rattle.its_plain.specs.Saved.{saved, moved}
 use Rattle.its_plain.specs.Stands.{Stands, IsFirstFault}
@@ -23,21 +29,22 @@ use Rattle.its_plain.specs.declared.fault.RestoreFault.{RestoreFault}
 use Rattle.its_plain.specs.declared.make.MakeError.{MakeError}
 use Rattle.its_plain.specs.declared.make.MakeError.TheVariants as making
 use Rattle.lpi_pending.specs.InHand.{in_hand}
-use Rattle.owned_parts.specs.Owned.{AreAllInHand, state_of, layout_of}
+use Rattle.owned_parts.specs.Owned.{AreAllInHand, redistributor_or, state_of, state_of_parts}
 use Rattle.owned_parts.specs.declared.parts.Parts.{Parts}
 use Rattle.plain_soundness.proofs.Migrated.{migrations_keep}
-use Rattle.table_restore.specs.Laws.{AreBasesOf}
-use Rattle.table_restore.specs.Outcome.{IfFault}
+use Rattle.standing_states.specs.Laws.{AreBasesOf, AreGiven, bases_to_restore}
+use Rattle.standing_states.proofs.Lent.{given_is}
+use Rattle.table_restore.specs.Outcome.{WhereFault}
 use Rattle.table_restore.specs.declared.error.RestoreError.{RestoreError}
 use Rattle.table_restore.specs.declared.error.RestoreError.TheVariants as errors
-use Rattle.table_restore.proofs.Soundness.{standing_sound}
-use Rattle.saved_state.specs.Laws.{values_read}
+use Rattle.standing_states.proofs.Soundness.{standing_sound}
+use Rattle.saved_state.specs.Laws.{values_read, bases_of}
 use Rattle.saved_state.proofs.Restored as saved_state
 use Rattle.owned_machine.specs.Migrations.{AreBegun}
-use Rattle.owned_machine.specs.Start.{AreStarted, IsCopy}
-use Rattle.owned_machine.specs.Whole.{machine_of, IsMachine, GoesOn}
-use Rattle.owned_machine.proofs.Lists.{same_lists}
-use Rattle.owned_machine.proofs.Started.{state_of_copy, whole_of_copy}
+use Rattle.owned_machine.specs.Start.{AreStarted, AreFirstParts}
+use Rattle.owned_machine.specs.Whole.{IsMachine, GoesOn}
+use Rattle.std.proofs.lemmas.Bool.{cond_both}
+use Rattle.owned_machine.proofs.Lists.{same_lists, hand_length}
 
 -- ---- where the tables of the redistributors are
 
@@ -46,118 +53,141 @@ map_at f [] i y e = absurd cc
 map_at f (x ∷ xs) zero y e = (x, refl, same_Some (f x) y e)
 map_at f (x ∷ xs) (suc i) y e = map_at f xs i y e
 
-abbrev described : Desc → List Bases
-described d = map (described_bases d.config) d.pending
-
-pub described_are : (d : Desc) (p : Parts) → IsMachine d p → bases_of (machine_of d p) ≡ described d
-described_are d p m =
-    let rs = (machine_of d p).redistributors in
-    same_lists (bases_of (machine_of d p)) (described d) (length-map rs (λ (r : Redistributor). r.bases) ∙ m.sound.vcpus ∙ sym m.sound.layout.described) (λ i b is.
+-- described, they are those of the machine
+pub described_are : (p : Parts) → IsMachine p → p.layout.gicr ≡ false → bases_of (state_of_parts p) ≡ p.layout.described
+described_are p m fixed =
+    let rs = (state_of_parts p).redistributors in
+    same_lists (bases_of (state_of_parts p)) p.layout.described (length-map rs (λ (r : Redistributor). r.bases) ∙ m.sound.vcpus ∙ sym (m.sound.layout.described fixed)) (λ i b is.
     let at = map_at (λ (r : Redistributor). r.bases) rs i b is in
-    (m.sound.redistributors i at.0 at.1).described refl ∙ ap (λ (x : Bases). Some x) at.2)
+    (m.sound.redistributors i at.0 at.1).described fixed ∙ ap (λ (x : Bases). Some x) at.2)
 
-pub description_of : (d : Desc) (p : Parts) → IsMachine d p → IsDescription d
-description_of d p m = record { shape = m.sound.layout.shape; tables = sym (length-map d.pending (described_bases d.config)) ∙ m.sound.layout.described }
+-- and on
+described_on : (p : Parts) → IsMachine p → p.layout.gicr ≡ false → (i : ℕ) (b : Bases) → slice_get p.layout.described i ≡ Some b → b.on ≡ true
+described_on p m fixed i b is =
+    let rs = (state_of_parts p).redistributors in
+    let at = map_at (λ (r : Redistributor). r.bases) rs i b (ap (λ (xs : List Bases). slice_get xs i) (described_are p m fixed) ∙ is) in
+    ap (λ (x : Bases). x.on) (sym at.2) ∙ (m.sound.redistributors i at.0 at.1).always_on fixed
 
-bases_on : (d : Desc) (i : ℕ) (b : Bases) → slice_get (described d) i ≡ Some b → b.on ≡ true
-bases_on d i b is = let at = map_at (described_bases d.config) d.pending i b is in ap (λ (x : Bases). x.on) (sym at.2)
+-- so a restore of the machine's own registers finds them
+pub restored_where : (p : Parts) (values : GicrValues) → IsMachine p → (p.layout.gicr ≡ true → all_restored_bases p.layout.shape.vcpus values ≡ bases_of (state_of_parts p))
+    → bases_to_restore p.layout values ≡ bases_of (state_of_parts p)
+restored_where p values m own =
+    cond_both p.layout.gicr (all_restored_bases p.layout.shape.vcpus values) p.layout.described (λ bs. bs ≡ bases_of (state_of_parts p)) own (λ fixed. sym (described_are p m fixed))
 
-are_bases : (d : Desc) (p : Parts) → IsMachine d p → AreBasesOf (layout_of d) (described d)
-are_bases d p m = record {
-  as_many = m.sound.layout.described;
-  kept = λ gicr. absurd cc;
-  described = λ off i b is. (is, bases_on d i b is);
-}
+restored_kept : (v : GicrRegisters) → AreKept (restored_bases v)
+restored_kept v = record { prop_whole = omega arith; prop_low = omega arith; id_bits = omega arith; pend_whole = omega arith; pend_low = omega arith }
 
 -- ---- a restored machine
 
-module _ (d : Desc) (old new : Parts) (values : RegValues) (m : IsMachine d old) (stands : Stands old.memory values (layout_of d) (described d) (machine_of d new))
-    (all : AreAllInHand d.shape new.redists) (none : (v : ℕ) → d.shape.vcpus ≤ v → in_hand new.redists v ≡ None) where
-  restored_whole : IsMachine d new
-  restored_whole = record {
-    sound = standing_sound old.memory values (layout_of d) (described d) (machine_of d new) m.sound.layout (are_bases d old m) m.sound.memory stands;
-    all_in_hand = all;
-    no_others = none;
+module _ (old new : Parts) (gicr : GicrValues) (values : RegValues) (m : IsMachine old) (same : new.layout ≡ old.layout)
+    (stands : Stands old.memory values old.layout (bases_to_restore old.layout gicr) (state_of_parts new))
+    (all : AreAllInHand old.layout.shape new.redists) (none : (v : ℕ) → old.layout.shape.vcpus ≤ v → in_hand new.redists v ≡ None) where
+  abbrev programmed : List Bases
+  programmed = all_restored_bases old.layout.shape.vcpus gicr
+
+  abbrev chosen : Bool → List Bases
+  chosen b = if b then programmed else old.layout.described
+
+  are_bases : AreBasesOf old.layout (bases_to_restore old.layout gicr)
+  are_bases = record {
+    as_many =
+        sym stands.vcpus
+        ∙ ap (λ (l : Layout). length (map redistributor_or (take l.shape.vcpus new.redists))) same
+        ∙ hand_length old.layout.shape.vcpus new.redists (λ v lt. let q = all v lt in (q.0, q.1));
+    kept = λ on i b is.
+        let at = map_at restored_bases (take old.layout.shape.vcpus gicr.registers) i b (ap (λ (t : Bool). slice_get (chosen t) i) (sym on) ∙ is) in
+        subst AreKept at.2 (restored_kept at.0);
+    described = λ fixed i b is.
+        let there : slice_get old.layout.described i ≡ Some b = ap (λ (t : Bool). slice_get (chosen t) i) (sym fixed) ∙ is in
+        (there, described_on old m fixed i b there);
   }
 
-  restored_first : made d ≡ Ok (machine_of d old) → d.restore ≡ Some values → IsFirstState d (machine_of d new)
-  restored_first made_is restore_is =
-      let u = machine_of d old in
-      let same : Stands old.memory values (layout_of d) (bases_of u) (machine_of d new) = subst (λ (bs : List Bases). Stands old.memory values (layout_of d) bs (machine_of d new)) (sym (described_are d old m)) stands in
-      record {
-        base = u;
-        made_is = made_is;
-        starts = subst (λ (o : Option RegValues). StartsAt o u (machine_of d new)) (sym restore_is) same;
-      }
+  restored_whole : IsMachine new
+  restored_whole = record {
+    sound = standing_sound old.memory values old.layout (bases_to_restore old.layout gicr) (state_of_parts new) m.sound.layout are_bases m.sound.memory stands;
+    all_in_hand = subst (λ (l : Layout). AreAllInHand l.shape new.redists) (sym same) all;
+    no_others = subst (λ (l : Layout). (v : ℕ) → l.shape.vcpus ≤ v → in_hand new.redists v ≡ None) (sym same) none;
+  }
 
-  pub restored_begun : made d ≡ Ok (machine_of d old) → d.restore ≡ Some values → AreBegun d (Ok new)
-  restored_begun made_is restore_is = (restored_first made_is restore_is, restored_whole)
+  pub restored_begun : (d : Desc) → made d ≡ Ok (state_of_parts old) → d.restore ≡ Some values → bases_to_restore old.layout gicr ≡ described.restored_bases d → AreBegun d (Ok new)
+  restored_begun d made_is restore_is where_is =
+      let u = state_of_parts old in
+      let here : Stands old.memory values old.layout (described.restored_bases d) (state_of_parts new) = subst (λ (bs : List Bases). Stands old.memory values old.layout bs (state_of_parts new)) where_is stands in (
+        record {
+          base = u;
+          made_is = made_is;
+          starts = subst (λ (o : Option RegValues). StartsAt o (described.restored_bases d) u (state_of_parts new)) (sym restore_is) here;
+        },
+        restored_whole,
+      )
+
+pub where_given : (d : Desc) (p : Parts) (values : GicrValues) → p.layout ≡ layout_of d → AreGiven d.tables values → bases_to_restore p.layout values ≡ described.restored_bases d
+where_given d p values layout given = ap (λ (l : Layout). bases_to_restore l values) layout ∙ given_is d values given
 
 pub started_begun : (d : Desc) (p : Parts) → d.restore ≡ None → AreStarted d (Ok p) → AreBegun d (Ok p)
 started_begun d p none h =
-    let u = machine_of d p in (
-      record { base = u; made_is = h.0; starts = subst (λ (o : Option RegValues). StartsAt o u u) (sym none) refl },
-      h.1,
+    let u = state_of_parts p in (
+      record { base = u; made_is = h.made_is; starts = subst (λ (o : Option RegValues). StartsAt o (described.restored_bases d) u u) (sym none) refl },
+      h.whole,
     )
 
-pub restore_refused : (d : Desc) (p : Parts) (values : RegValues) (f : RestoreFault) → IsMachine d p → made d ≡ Ok (machine_of d p) → d.restore ≡ Some values → IsFirstFault p.memory values d.shape (described d) f → IsRefused d (Restore f)
-restore_refused d p values f m made_is restore_is first =
-    of_restore (machine_of d p) values f made_is restore_is (subst (λ (bs : List Bases). IsFirstFault p.memory values d.shape bs f) (sym (described_are d p m)) first)
+pub restore_refused : (d : Desc) (p : Parts) (values : RegValues) (gicr : GicrValues) (f : RestoreFault) → made d ≡ Ok (state_of_parts p) → d.restore ≡ Some values → bases_to_restore p.layout gicr ≡ described.restored_bases d
+    → IsFirstFault p.memory values p.layout.shape (bases_to_restore p.layout gicr) f → IsRefused d (Restore f)
+restore_refused d p values gicr f made_is restore_is where_is first =
+    of_restore (state_of_parts p) values f made_is restore_is (subst (λ (bs : List Bases). IsFirstFault p.memory values p.layout.shape bs f) where_is first)
 
 pub start_refused : (d : Desc) (e : MakeError) → AreStarted d (Err e) → AreBegun d (Err e)
 start_refused d making.NoMemory h = tt
 start_refused d (making.Fault f) h = of_description f h
+
+-- what is said of a fault
+pub where_fault : (e : RestoreError) (f : RestoreFault) (P : RestoreFault → Type 0) → e ≡ errors.Fault f → WhereFault e P → P f
+where_fault e f P is h = subst (λ (x : RestoreError). WhereFault x P) is h
 
 -- an error that is handed on
 pub begun_with : (d : Desc) (r : Result Parts MakeError) (e : MakeError) → IsErrAnd r (λ (x : MakeError). x ≡ e) → AreStarted d (Err e) → AreBegun d r
 begun_with d (Ok x) e is h = absurd is
 begun_with d (Err x) e is h = subst (λ (y : MakeError). AreBegun d (Err y)) (sym is) (start_refused d e h)
 
--- for the copy of the description that is kept
-pub copy_begun : (d c : Desc) (p : Parts) → IsCopy d c → AreBegun d (Ok p) → IsFirstState d (machine_of c p) × IsMachine c p
-copy_begun d c p copy h = (subst (IsFirstState d) (state_of_copy d c p copy) h.0, whole_of_copy d c p copy h.1)
-
 -- ---- a moved machine
 
-pub is_fault : {X : Type 0} (r : Result X RestoreError) (e : RestoreError) (f : RestoreFault) (P : RestoreFault → Type 0) → r ≡ Err e → e ≡ errors.Fault f → IfFault r P → P f
-is_fault {X} r e f P is same h = subst (λ (x : RestoreError). IfFault {X = X} (Err x) P) same (subst (λ (x : Result X RestoreError). IfFault x P) is h)
-
 -- what was copied, and then saved into the copy
-module _ (d : Desc) (old : Parts) (copy memory : List Window) (values : RegValues) (m : IsMachine d old) (copied : copy ≡ old.memory)
-    (answered : savable (state_of (layout_of d) old.regs old.maps.maps copy old.redists) ≡ Ok tt) (written : memory ≡ saved (state_of (layout_of d) old.regs old.maps.maps copy old.redists)) (read : values ≡ values_read old.regs) where
+module _ (old : Parts) (copy memory : List Window) (values : RegValues) (gicr : GicrValues) (m : IsMachine old) (copied : copy ≡ old.memory)
+    (answered : savable (state_of old.layout old.regs old.maps.maps copy old.redists) ≡ Ok tt) (written : memory ≡ saved (state_of old.layout old.regs old.maps.maps copy old.redists)) (read : values ≡ values_read old.regs)
+    (own : old.layout.gicr ≡ true → all_restored_bases old.layout.shape.vcpus gicr ≡ bases_of (state_of_parts old)) where
   abbrev u : Plain
-  u = machine_of d old
+  u = state_of_parts old
 
   abbrev t : Translator
   t = record { regs = old.regs; maps = old.maps.maps }
 
-  pub is_savable : savable (machine_of d old) ≡ Ok tt
-  is_savable = subst (λ (x : List Window). savable (state_of (layout_of d) old.regs old.maps.maps x old.redists) ≡ Ok tt) copied answered
+  pub is_savable : savable (state_of_parts old) ≡ Ok tt
+  is_savable = subst (λ (x : List Window). savable (state_of old.layout old.regs old.maps.maps x old.redists) ≡ Ok tt) copied answered
 
-  is_saved : memory ≡ saved (machine_of d old)
-  is_saved = subst (λ (x : List Window). memory ≡ saved (state_of (layout_of d) old.regs old.maps.maps x old.redists)) copied written
+  is_saved : memory ≡ saved (state_of_parts old)
+  is_saved = subst (λ (x : List Window). memory ≡ saved (state_of old.layout old.regs old.maps.maps x old.redists)) copied written
 
   -- what is said of the memory, the values and the bases that were restored from
-  there : (P : List Window → RegValues → List Bases → Type 0) → P memory values (described d) → P (saved u) (values_read old.regs) (bases_of u)
+  there : (P : List Window → RegValues → List Bases → Type 0) → P memory values (bases_to_restore old.layout gicr) → P (saved u) (values_read old.regs) (bases_of u)
   there P h =
-      subst (λ (bs : List Bases). P (saved u) (values_read old.regs) bs) (sym (described_are d old m))
-      (subst (λ (v : RegValues). P (saved u) v (described d)) read (subst (λ (x : List Window). P x values (described d)) is_saved h))
+      subst (λ (bs : List Bases). P (saved u) (values_read old.regs) bs) (restored_where old gicr m own)
+      (subst (λ (v : RegValues). P (saved u) v (bases_to_restore old.layout gicr)) read (subst (λ (x : List Window). P x values (bases_to_restore old.layout gicr)) is_saved h))
 
-  pub moved_goes : (new : Parts) → Stands memory values (layout_of d) (described d) (machine_of d new) → AreAllInHand d.shape new.redists → ((v : ℕ) → d.shape.vcpus ≤ v → in_hand new.redists v ≡ None)
-      → GoesOn d new (moved (machine_of d old))
-  moved_goes new stands all none =
-      let here : Stands (saved u) (values_read old.regs) (layout_of d) (bases_of u) (machine_of d new) =
-      there (λ (x : List Window) (v : RegValues) (bs : List Bases). Stands x v (layout_of d) bs (machine_of d new)) stands
+  pub moved_goes : (new : Parts) → new.layout ≡ old.layout → Stands memory values old.layout (bases_to_restore old.layout gicr) (state_of_parts new) → AreAllInHand old.layout.shape new.redists
+      → ((v : ℕ) → old.layout.shape.vcpus ≤ v → in_hand new.redists v ≡ None) → GoesOn new (moved (state_of_parts old))
+  moved_goes new layout stands all none =
+      let here : Stands (saved u) (values_read old.regs) old.layout (bases_of u) (state_of_parts new) =
+      there (λ (x : List Window) (v : RegValues) (bs : List Bases). Stands x v old.layout bs (state_of_parts new)) stands
       in
-      let same : machine_of d new ≡ moved u = saved_state.only_that u t (machine_of d new) m.sound is_savable refl here in
+      let same : state_of_parts new ≡ moved u = saved_state.only_that u t (state_of_parts new) m.sound is_savable refl here in
       record {
         state = same;
         whole = record {
           sound = subst IsSound (sym same) (migrations_keep u m.sound);
-          all_in_hand = all;
-          no_others = none;
+          all_in_hand = subst (λ (l : Layout). AreAllInHand l.shape new.redists) (sym layout) all;
+          no_others = subst (λ (l : Layout). (v : ℕ) → l.shape.vcpus ≤ v → in_hand new.redists v ≡ None) (sym layout) none;
         };
       }
 
-  pub no_fault : (f : RestoreFault) → IsFirstFault memory values d.shape (described d) f → ⊥
-  no_fault f first = saved_state.no_offence u t f m.sound is_savable refl (there (λ (x : List Window) (v : RegValues) (bs : List Bases). IsFirstFault x v d.shape bs f) first)
+  pub no_fault : (f : RestoreFault) → IsFirstFault memory values old.layout.shape (bases_to_restore old.layout gicr) f → ⊥
+  no_fault f first = saved_state.no_offence u t f m.sound is_savable refl (there (λ (x : List Window) (v : RegValues) (bs : List Bases). IsFirstFault x v old.layout.shape bs f) first)

@@ -8,27 +8,22 @@ use Rattle.its_plain.specs.declared.call.Ack.{Ack}
 use Rattle.its_plain.specs.declared.call.Ack.TheVariants as ack
 use Rattle.its_plain.specs.declared.call.Call.{Call}
 use Rattle.its_plain.specs.declared.call.Call.TheVariants as call
-use Rattle.its_plain.specs.declared.desc.Desc.{Desc}
 use Rattle.its_command.specs.Commands.{decoded}
 use Rattle.its_command.specs.declared.command.Command.{Command}
 use Rattle.lpi_pending.specs.InHand.{in_hand}
-use Rattle.owned_parts.specs.Owned.{state_of, layout_of, AreAllInHand}
+use Rattle.owned_parts.specs.Owned.{state_of_parts, AreAllInHand}
 use Rattle.owned_parts.specs.declared.parts.Parts.{Parts}
 
--- the state that the parts of a described machine stand for
-abbrev pub machine_of : Desc → Parts → Plain
-machine_of d p = state_of (layout_of d) p.regs p.maps.maps p.memory p.redists
-
--- it is sound, and just the redistributors of its virtual processors are in hand
-pub record IsMachine (d : Desc) (p : Parts) : Type 0 where
-  pub sound : IsSound (machine_of d p)
-  pub all_in_hand : AreAllInHand d.shape p.redists
-  pub no_others : (vcpu : ℕ) → d.shape.vcpus ≤ vcpu → in_hand p.redists vcpu ≡ None
+-- they are sound, and just the redistributors of the virtual processors are in hand
+pub record IsMachine (p : Parts) : Type 0 where
+  pub sound : IsSound (state_of_parts p)
+  pub all_in_hand : AreAllInHand p.layout.shape p.redists
+  pub no_others : (vcpu : ℕ) → p.layout.shape.vcpus ≤ vcpu → in_hand p.redists vcpu ≡ None
 
 -- the parts after a state of the plain machine was gone on to
-pub record GoesOn (d : Desc) (p : Parts) (u : Plain) : Type 0 where
-  pub state : machine_of d p ≡ u
-  pub whole : IsMachine d p
+pub record GoesOn (p : Parts) (u : Plain) : Type 0 where
+  pub state : state_of_parts p ≡ u
+  pub whole : IsMachine p
 
 -- the LPI that was acknowledged, if any
 abbrev pub IfAcked : Ack → (ℕ → Type 0) → Type 0
@@ -46,6 +41,8 @@ may_want_memory (call.Poke addr bytes) = false
 may_want_memory (call.Peek addr count) = false
 may_want_memory (call.ReadReg its off size) = false
 may_want_memory (call.WriteReg its off size value) = false
+may_want_memory (call.ReadGicr vcpu off size) = false
+may_want_memory (call.WriteGicr vcpu off size value) = false
 
 -- the command is the one that the translator meets next
 pub record IsMet (u : Plain) (c : Command) : Type 0 where

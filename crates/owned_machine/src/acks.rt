@@ -5,32 +5,33 @@ ghost use Rattle.its_plain.specs.Plain as plain;
 ghost use Rattle.its_plain.specs.Answer as answers;
 ghost use Rattle.owned_parts.specs.Owned.{redistributor_of};
 ghost use Rattle.cmd_exec.specs.InHand.{changed, with_cleared, takes_lpi};
-ghost use Rattle.owned_machine.specs.Whole.{machine_of, IsMachine, GoesOn, IfAcked};
+ghost use Rattle.owned_parts.specs.Owned.{state_of_parts};
+ghost use Rattle.owned_machine.specs.Whole.{IsMachine, GoesOn, IfAcked};
 
-use its_plain::{Ack, Desc};
+use its_plain::Ack;
 use its_types::{Intid, Vcpu};
 use lpi_pending::{Redist, Redists};
 use owned_parts::Parts;
 
 /// The LPI that a virtual processor would acknowledge. Nothing is pending at one that there isn't.
-pub fn show(parts: &Parts, desc: &Desc, vcpu: Vcpu) -> Ack
-    requires { IsMachine desc.now parts.now }
-    ensures ack { result ≡ answers.ack_of (plain.redistributor (machine_of desc.now parts.now) vcpu.0) (answers.lowest (plain.redistributor (machine_of desc.now parts.now) vcpu.0)) }
+pub fn show(parts: &Parts, vcpu: Vcpu) -> Ack
+    requires { IsMachine parts.now }
+    ensures ack { result ≡ answers.ack_of (plain.redistributor (state_of_parts parts.now) vcpu.0) (answers.lowest (plain.redistributor (state_of_parts parts.now) vcpu.0)) }
     ensures takes { IfAcked result (λ intid. takes_lpi parts.now.redists vcpu.0 intid ≡ true) }
 {
-    if vcpu.0 >= desc.shape.vcpus {
+    if vcpu.0 >= parts.layout.shape.vcpus {
         return Ack::None;
     }
     lowest(parts.redists.redist(vcpu))
 }
 
 /// A virtual processor acknowledges an LPI.
-pub fn take(parts: &mut Parts, desc: &Desc, vcpu: Vcpu) -> Ack
-    requires { IsMachine desc.now parts.old }
-    ensures ack { result ≡ answers.ack_of (plain.redistributor (machine_of desc.now parts.old) vcpu.0) (answers.lowest (plain.redistributor (machine_of desc.now parts.old) vcpu.0)) }
-    ensures left { GoesOn desc.now parts.new (plain.with_redistributor (machine_of desc.now parts.old) vcpu.0 (answers.taken (plain.redistributor (machine_of desc.now parts.old) vcpu.0) (answers.lowest (plain.redistributor (machine_of desc.now parts.old) vcpu.0)))) }
+pub fn take(parts: &mut Parts, vcpu: Vcpu) -> Ack
+    requires { IsMachine parts.old }
+    ensures ack { result ≡ answers.ack_of (plain.redistributor (state_of_parts parts.old) vcpu.0) (answers.lowest (plain.redistributor (state_of_parts parts.old) vcpu.0)) }
+    ensures left { GoesOn parts.new (plain.with_redistributor (state_of_parts parts.old) vcpu.0 (answers.taken (plain.redistributor (state_of_parts parts.old) vcpu.0) (answers.lowest (plain.redistributor (state_of_parts parts.old) vcpu.0)))) }
 {
-    let ack = show(parts, desc, vcpu);
+    let ack = show(parts, vcpu);
     if let Ack::Some { intid, .. } = ack {
         clear_lpi(&mut parts.redists, vcpu, intid);
     }

@@ -4,6 +4,7 @@
 
 mod acks;
 mod calls;
+mod gicr;
 mod machine;
 mod make;
 mod memory;

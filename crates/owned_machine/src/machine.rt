@@ -1,19 +1,14 @@
 use crate::calls::answered;
-use crate::make::bare;
 use crate::migrations::{begin, moved};
-use guest_windows::NoMemory;
-use its_plain::{Call, Desc, MakeError, Reply};
+use its_plain::{Call, Desc, MakeError, Reply, SaveError};
 use its_types::{Intid, Vcpu};
 use owned_parts::Parts;
 use std::alloc::{AllocError, Global};
 use std::marker::Model;
-use table_save::SaveError;
 
 /// A machine of one translator, seen as the state of the plain machine that its parts stand for.
 #[derive(Drop)]
 pub struct Machine {
-    // What the description fixes for good: the windows and the bytes that it puts there are in memory by now.
-    desc: Desc,
     parts: Parts,
 }
 
@@ -24,18 +19,19 @@ impl Model for Machine {
 
     ghost coded = { plain_code };
 
-    ghost use Rattle.owned_machine.specs.Whole.{machine_of, IsMachine};
+    ghost use Rattle.owned_parts.specs.Owned.{state_of_parts};
+    ghost use Rattle.owned_machine.specs.Whole.{IsMachine};
 
-    ghost view = { λ m. machine_of m.desc m.parts };
+    ghost view = { λ m. state_of_parts m.parts };
 
-    ghost invariant = { λ m. IsMachine m.desc m.parts };
+    ghost invariant = { λ m. IsMachine m.parts };
 }
 
 impl Machine {
     ghost use Rattle.std.specs.Prelude.{◌≡◌, ◌<◌, true, IfOk, OnErr, length, map};
     ghost use Rattle.its_plain.specs.Answer as plain;
     ghost use Rattle.its_plain.specs.Described.{IsMadeFrom};
-    ghost use Rattle.its_plain.specs.Made.{IsDescription};
+    ghost use Rattle.its_plain.specs.Machine.{IsDescription};
     ghost use Rattle.its_plain.specs.Plain.{pending_of};
     ghost use Rattle.owned_machine.specs.Migrations.{Migrates};
     ghost use Rattle.owned_machine.specs.Whole.{may_want_memory};
@@ -47,25 +43,25 @@ impl Machine {
         ensures { IsMadeFrom desc.now result }
     {
         let parts = begin(alloc, desc)?;
-        let desc = bare(alloc, desc)?;
-        Ok(Machine { desc, parts })
+        Ok(Machine { parts })
     }
 
-    /// Answers a call, and leaves the state that the plain machine's definition says. For want of memory, which only a step
-    /// or a save can have, the state stays as it was.
-    pub fn answer(&mut self, alloc: Global, call: &Call) -> Result<Reply, NoMemory>
+    /// Answers a call, and leaves the state that the plain machine's definition says. Out of memory, which only a step or a
+    /// save can be, the state stays as it was.
+    pub fn answer(&mut self, alloc: Global, call: &Call) -> Result<Reply, AllocError>
         ensures reply { IfOk result (λ r. r ≡ plain.reply_of self.old call.now) }
         ensures left { IfOk result (λ r. self.new ≡ plain.left self.old call.now r) }
         ensures err { OnErr result (self.new ≡ self.old) }
         ensures rare { OnErr result (may_want_memory call.now ≡ true) }
     {
-        answered(&mut self.parts, &self.desc, alloc, call)
+        answered(&mut self.parts, alloc, call)
     }
+
     /// How many virtual processors there are.
     pub fn vcpus(&self) -> usize
         ensures { result ≡ length self.now.redistributors }
     {
-        usize::from(self.desc.shape.vcpus)
+        usize::from(self.parts.layout.shape.vcpus)
     }
 
     /// The LPIs that are pending at a virtual processor, in rising order.
@@ -82,7 +78,7 @@ impl Machine {
     pub fn migrate(&mut self, alloc: Global) -> Result<(), SaveError>
         ensures { Migrates result self.old self.new }
     {
-        self.parts = moved(&self.parts, &self.desc, alloc)?;
+        self.parts = moved(&self.parts, alloc)?;
         Ok(())
     }
 }

@@ -1,57 +1,47 @@
 //! The parts of the machine that a description makes.
-ghost use Rattle.std.specs.Prelude.{◌≡◌, ◌≤◌, ◌<◌, true, IfOk, IfErr, map, length};
-ghost use Rattle.guest_windows.specs.Windows.{zeros, are_windows, inside};
+ghost use Rattle.std.specs.Prelude.{◌≡◌, ◌≤◌, ◌<◌, true, false, Err, IfOk, IfErr, map, length};
+ghost use Rattle.std.specs.Bool.{OnTrue};
+ghost use Rattle.guest_windows.specs.Windows.{zeros, are_windows};
 ghost use Rattle.guest_windows.specs.Fields.{pairs};
-ghost use Rattle.its_types.specs.Ranges.{lpi_count};
 ghost use Rattle.its_plain.specs.Machine as spec;
-ghost use Rattle.its_plain.specs.Made.{IsDescription, IsWindowFault, Fills};
-ghost use Rattle.owned_machine.specs.Start.{IsFilled, IsCopy, AreFirst, AreStarted};
+ghost use Rattle.its_plain.specs.Machine.{IsDescription, HasTablesFor};
+ghost use Rattle.its_plain.specs.Sound.{IsShape};
+ghost use Rattle.its_plain.specs.declared.desc.DescFault.TheVariants as faults;
+ghost use Rattle.owned_machine.specs.Making.{IsWindowFault, Fills};
+ghost use Rattle.owned_machine.specs.Start.{IsFilled, HasConfig, IsFirstOf, AreFirst, AreStarted};
 
 use gits_regs::Regs;
-use guest_windows::{Memory, NewError, NoMemory};
+use guest_windows::{Memory, NewError};
 use its_maps::Maps;
-use its_plain::{Desc, DescFault, Fill, MakeError};
-use its_types::{Addr, Bases, Listed, Vcpu};
+use its_plain::{Desc, DescFault, Fill, LpiTables, MakeError};
+use its_types::{Addr, Bases, Shape, Vcpu};
 use lpi_config::Config;
 use lpi_pending::{Pending, Redist, Redists};
 use owned_parts::Parts;
 use std::alloc::{AllocError, Global};
 
-/// Registers at reset, nothing mapped, nothing pending, and the configuration as memory has it, or the first thing that is
-/// wrong with the description.
+/// Registers at reset, nothing mapped, nothing pending, and the configuration as memory has it (or LPIs off, where the guest
+/// programs the tables), or the first thing that is wrong with the description.
 pub fn start(alloc: Global, desc: &Desc) -> Result<Parts, MakeError>
     requires { IsDescription desc.now }
     ensures { AreStarted desc.now result }
 {
     let memory = filled(alloc, desc)?;
-    if !memory.inside(desc.config, desc.shape.lpi_count()) {
+    if !has_config(&desc.tables, &memory, &desc.shape) {
         return Err(MakeError::Fault(DescFault::Config));
     }
-    let Ok(redists) = redists_of(alloc, &memory, desc) else {
+    let Ok(redists) = redists_of(alloc, &desc.tables, &memory, &desc.shape) else {
+        return Err(MakeError::NoMemory);
+    };
+    let Ok(layout) = desc.layout(alloc) else {
         return Err(MakeError::NoMemory);
     };
     Ok(Parts {
+        layout,
         regs: Regs::reset(desc.shape.dev_bits),
         maps: Maps::new(alloc),
         memory,
         redists,
-    })
-}
-
-/// What the layout says of a description, without its windows and bytes.
-pub fn bare(alloc: Global, desc: &Desc) -> Result<Desc, AllocError>
-    ensures { IfOk result (IsCopy desc.now) }
-{
-    let pending = Vec::from_slice(alloc, desc.pending.as_slice())?;
-    Ok(Desc {
-        shape: desc.shape,
-        shards: desc.shards,
-        limits: desc.limits,
-        windows: Listed::new(alloc),
-        config: desc.config,
-        pending: Listed::from_vec(pending),
-        fills: Listed::new(alloc),
-        restore: None,
     })
 }
 
@@ -62,11 +52,7 @@ fn filled(alloc: Global, desc: &Desc) -> Result<Memory, MakeError>
     ensures { IsFilled desc.now result }
 {
     let mut memory = memory_of(alloc, desc.windows.as_slice())?;
-    ensure(
-        memory.inside(desc.config, desc.shape.lpi_count()),
-        DescFault::Config,
-    )?;
-    pending_inside(&memory, desc.shape.pending_bytes(), desc.pending.as_slice())?;
+    tables_inside(&desc.tables, &memory, &desc.shape)?;
     fill(&mut memory, desc.fills.as_slice())?;
     Ok(memory)
 }
@@ -90,6 +76,21 @@ fn memory_of(alloc: Global, windows: &[(Addr, u64)]) -> Result<Memory, MakeError
     }
 }
 
+// The described tables lie in one window each, or the first fault.
+fn tables_inside(tables: &LpiTables, memory: &Memory, shape: &Shape) -> Result<(), DescFault>
+    requires shape { IsShape shape.now }
+    requires tables { HasTablesFor shape.now.vcpus tables.now }
+    ensures { result ≡ spec.tables_inside shape.now memory.now tables.now }
+{
+    match tables {
+        LpiTables::Described { config, pending } => {
+            ensure(memory.inside(*config, shape.lpi_count()), DescFault::Config)?;
+            pending_inside(memory, shape.pending_bytes(), pending.as_slice())
+        }
+        LpiTables::Registers(_) => Ok(()),
+    }
+}
+
 // Each pending table lies in one window, or the first virtual processor whose table doesn't.
 fn pending_inside(memory: &Memory, size: u64, bases: &[Addr]) -> Result<(), DescFault>
     requires { length bases.now ≤ 16 }
@@ -103,43 +104,75 @@ fn pending_inside(memory: &Memory, size: u64, bases: &[Addr]) -> Result<(), Desc
     Ok(())
 }
 
-// Puts the bytes of a description into memory, or tells the first line whose bytes don't lie in one window.
+// Puts the bytes of a description into memory, or tells the first fill whose bytes don't lie in one window.
 fn fill(memory: &mut Memory, fills: &[Fill]) -> Result<(), DescFault>
-    ensures { Fills memory.new result (spec.filled memory.old fills.now) }
+    ensures { Fills memory.new result (spec.filled memory.old 0 fills.now) }
 {
-    for fill in fills {
+    for (n, fill) in fills.iter().enumerate() {
         if memory.write(fill.addr, fill.bytes.as_slice()).is_err() {
-            return Err(DescFault::Bytes(fill.line));
+            return Err(DescFault::Bytes(n as u64));
         }
     }
     Ok(())
 }
 
-// A redistributor for each virtual processor, whose configuration is read from memory. Nothing is pending.
-fn redists_of(alloc: Global, memory: &Memory, desc: &Desc) -> Result<Redists, NoMemory>
-    requires description { IsDescription desc.now }
-    requires inside { inside memory.now desc.now.config.0 (lpi_count desc.now.shape.lpi_bits) ≡ true }
-    ensures { IfOk result (λ redists. AreFirst desc.now memory.now redists desc.now.shape.vcpus) }
+// Whether the configuration table lies in memory, where one is described.
+fn has_config(tables: &LpiTables, memory: &Memory, shape: &Shape) -> bool
+    requires { IsShape shape.now }
+    ensures has { OnTrue result (HasConfig shape.now memory.now tables.now) }
+    ensures lacks { result ≡ false → spec.first_redistributors shape.now memory.now tables.now ≡ Err faults.Config }
+{
+    match tables {
+        LpiTables::Described { config, .. } => memory.inside(*config, shape.lpi_count()),
+        LpiTables::Registers(_) => true,
+    }
+}
+
+// A redistributor for each virtual processor. Nothing is pending.
+fn redists_of(
+    alloc: Global,
+    tables: &LpiTables,
+    memory: &Memory,
+    shape: &Shape,
+) -> Result<Redists, AllocError>
+    requires shape { IsShape shape.now }
+    requires tables { HasTablesFor shape.now.vcpus tables.now }
+    requires config { HasConfig shape.now memory.now tables.now }
+    ensures { IfOk result (λ redists. AreFirst shape.now memory.now tables.now redists shape.now.vcpus) }
 {
     let mut redists = Redists::new(alloc)?;
-    for (vcpu, pending) in desc.pending.as_slice().iter().enumerate() {
-        let redist = Redist {
-            pending: Pending::new(alloc, desc.shape.lpi_bits)?,
-            config: Config::load(alloc, memory, desc.config, desc.shape.lpi_bits)?,
-            bases: bases(desc.config, *pending),
-        };
-        redists.place(Vcpu(vcpu as u8), Box::new(alloc, redist)?);
+    for vcpu in 0..shape.vcpus {
+        let redist = first_redist(alloc, tables, memory, shape, vcpu)?;
+        redists.place(Vcpu(vcpu), Box::new(alloc, redist)?);
     }
     Ok(redists)
 }
 
-// LPIs are on at the described tables.
-fn bases(config: Addr, pending: Addr) -> Bases
-    ensures { result ≡ spec.described_bases config pending }
+// That of one virtual processor.
+fn first_redist(
+    alloc: Global,
+    tables: &LpiTables,
+    memory: &Memory,
+    shape: &Shape,
+    vcpu: u8,
+) -> Result<Redist, AllocError>
+    requires shape { IsShape shape.now }
+    requires tables { HasTablesFor shape.now.vcpus tables.now }
+    requires config { HasConfig shape.now memory.now tables.now }
+    requires vcpu { vcpu < shape.now.vcpus }
+    ensures { IfOk result (IsFirstOf shape.now memory.now tables.now vcpu) }
 {
-    Bases {
-        on: true,
-        config,
-        pending,
+    let pending_lpis = Pending::new(alloc, shape.lpi_bits)?;
+    match tables {
+        LpiTables::Described { config, pending } => Ok(Redist {
+            pending: pending_lpis,
+            config: Config::load(alloc, memory, *config, shape.lpi_bits)?,
+            bases: Bases::described(*config, pending.as_slice()[usize::from(vcpu)]),
+        }),
+        LpiTables::Registers(_) => Ok(Redist {
+            pending: pending_lpis,
+            config: Config::zeros(alloc, shape.lpi_bits)?,
+            bases: Bases::off(),
+        }),
     }
 }

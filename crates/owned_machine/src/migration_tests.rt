@@ -3,14 +3,13 @@
 use crate::Machine;
 use crate::scripts::{Asked, Given, Line, desc, enabling, queueing};
 use gits_regs::RegValues;
-use guest_windows::NoMemory;
 use its_plain::{
-    Call, Cause, DescFault, MakeError, Reason, Region, Reply, RestoreFault, SaveFault, Table,
+    Call, Cause, DescFault, MakeError, Reason, Region, Reply, RestoreFault, SaveError, SaveFault,
+    Table,
 };
 use its_types::{DeviceId, Intid, Profile};
 use std::alloc::{AllocError, Global};
 use std::test::Fail;
-use table_save::SaveError;
 
 const FLAT: u64 = 0x8107_0000_8000_0200;
 
@@ -35,7 +34,7 @@ enum Act {
 
 // ---- acts
 
-fn does_line(alloc: Global, machine: &mut Machine, line: Line) -> Result<bool, NoMemory> {
+fn does_line(alloc: Global, machine: &mut Machine, line: Line) -> Result<bool, AllocError> {
     match line.asked() {
         Asked::Command(command, expected) => {
             for call in &queueing(alloc, machine, &command)? {
@@ -52,11 +51,11 @@ fn does_migrate(
     alloc: Global,
     machine: &mut Machine,
     fault: Option<SaveFault>,
-) -> Result<bool, NoMemory> {
+) -> Result<bool, AllocError> {
     match machine.migrate(alloc) {
         Ok(()) => Ok(fault.is_none()),
         Err(SaveError::Fault(found)) => Ok(fault == Some(found)),
-        Err(SaveError::NoMemory) => Err(NoMemory),
+        Err(SaveError::NoMemory) => Err(AllocError),
     }
 }
 
@@ -76,7 +75,7 @@ fn are_pending(
 }
 
 // Whether the machine does as it says.
-fn does(alloc: Global, machine: &mut Machine, act: Act) -> Result<bool, NoMemory> {
+fn does(alloc: Global, machine: &mut Machine, act: Act) -> Result<bool, AllocError> {
     match act {
         Act::Asks(line) => does_line(alloc, machine, line),
         Act::Migrates => does_migrate(alloc, machine, None),
@@ -86,7 +85,7 @@ fn does(alloc: Global, machine: &mut Machine, act: Act) -> Result<bool, NoMemory
 }
 
 // How many of the acts the machine does as they say, up to the first that it doesn't.
-fn play(alloc: Global, machine: &mut Machine, acts: &[Act]) -> Result<usize, NoMemory> {
+fn play(alloc: Global, machine: &mut Machine, acts: &[Act]) -> Result<usize, AllocError> {
     let mut count = 0;
     for (at, act) in acts.iter().enumerate() {
         if !does(alloc, machine, *act)? {

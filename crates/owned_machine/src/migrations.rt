@@ -1,17 +1,29 @@
 //! Restored machines, and migrations (KVM document arm-vgic-its, "ITS Restore Sequence").
-ghost use Rattle.std.specs.Prelude.{◌≡◌};
-ghost use Rattle.saved_state.specs.Laws.{values_read};
-ghost use Rattle.its_plain.specs.Made.{IsDescription};
-ghost use Rattle.owned_machine.specs.Whole.{machine_of, IsMachine};
+ghost use Rattle.std.specs.Prelude.{◌≡◌, true};
+ghost use Rattle.gicr_regs.specs.Registers.{all_restored_bases};
+ghost use Rattle.saved_state.specs.Laws.{values_read, bases_of};
+ghost use Rattle.standing_states.specs.Laws.{AreGiven};
+ghost use Rattle.its_plain.specs.Machine.{IsDescription};
+ghost use Rattle.owned_parts.specs.Owned.{state_of_parts};
+ghost use Rattle.owned_machine.specs.Whole.{IsMachine};
 ghost use Rattle.owned_machine.specs.Migrations.{AreMoved, AreBegun};
 
 use crate::make::start;
-use gits_regs::{RegValues, Regs};
-use its_plain::{Desc, DescFault, MakeError};
+use gicr_regs::{GicrRegisters, GicrValues, values_come_back, values_of};
+use gits_regs::{RegValues, Regs, offsets};
+use its_plain::{Desc, DescFault, LpiTables, MakeError, SaveError};
+use its_types::Vcpu;
 use owned_parts::Parts;
 use std::alloc::Global;
 use table_restore::{RestoreError, restore_in};
-use table_save::{SaveError, save};
+use table_save::save;
+
+// The registers at reset.
+const RESET: GicrRegisters = GicrRegisters {
+    ctlr: 0,
+    propbaser: 0,
+    pendbaser: 0,
+};
 
 /// The parts that a description makes, restored from memory where the description says so, or the first thing that is
 /// wrong.
@@ -23,18 +35,31 @@ pub fn begin(alloc: Global, desc: &Desc) -> Result<Parts, MakeError>
     let Some(values) = desc.restore else {
         return Ok(parts);
     };
-    match restore_in(alloc, values, parts.memory, desc) {
+    let given = values_given(&desc.tables);
+    match restore_in(alloc, values, &given, parts.memory, &parts.layout) {
         Ok(restored) => Ok(restored),
-        Err(RestoreError::Fault(fault)) => Err(MakeError::Fault(DescFault::Restore(fault))),
-        Err(RestoreError::NoMemory) => Err(MakeError::NoMemory),
+        Err((_, RestoreError::Fault(fault))) => { Err(MakeError::Fault(DescFault::Restore(fault))) }
+        Err((_, RestoreError::NoMemory)) => Err(MakeError::NoMemory),
+    }
+}
+
+// The values of the redistributors' registers that a description gives, if it does.
+fn values_given(tables: &LpiTables) -> GicrValues
+    ensures { AreGiven tables.now result }
+{
+    match tables {
+        LpiTables::Described { .. } => GicrValues {
+            registers: [RESET; 16],
+        },
+        LpiTables::Registers(values) => *values,
     }
 }
 
 /// The parts that a copy of memory and the registers stand for, once the tables are saved into the copy. That they stand
 /// for none can't come.
-pub fn moved(parts: &Parts, desc: &Desc, alloc: Global) -> Result<Parts, SaveError>
-    requires { IsMachine desc.now parts.now }
-    ensures { AreMoved desc.now (machine_of desc.now parts.now) result }
+pub fn moved(parts: &Parts, alloc: Global) -> Result<Parts, SaveError>
+    requires { IsMachine parts.now }
+    ensures { AreMoved (state_of_parts parts.now) result }
 {
     let mut memory = parts.memory.copy(alloc)?;
     save(
@@ -42,27 +67,51 @@ pub fn moved(parts: &Parts, desc: &Desc, alloc: Global) -> Result<Parts, SaveErr
         &parts.regs,
         &parts.maps,
         &parts.redists,
-        desc,
+        &parts.layout,
         &mut memory,
     )?;
-    match restore_in(alloc, values_of(&parts.regs), memory, desc) {
+    let values = registers_of(parts);
+    match restore_in(
+        alloc,
+        translator_values(&parts.regs),
+        &values,
+        memory,
+        &parts.layout,
+    ) {
         Ok(restored) => Ok(restored),
-        Err(RestoreError::Fault(_)) => unreachable!(),
-        Err(RestoreError::NoMemory) => Err(SaveError::NoMemory),
+        Err((_, RestoreError::Fault(_))) => unreachable!(),
+        Err((_, RestoreError::NoMemory)) => Err(SaveError::NoMemory),
     }
 }
 
-// What is read of the registers.
+// What is read of the translator's registers.
 #[tactic(auto, unfolding(saved_state::specs::Laws::values_read, gits_regs::specs::Registers::read_reg, gits_regs::specs::Registers::read_word))]
-fn values_of(regs: &Regs) -> RegValues
+fn translator_values(regs: &Regs) -> RegValues
     ensures { result ≡ values_read regs.now }
 {
     RegValues {
-        ctlr: regs.read(0x0, 4),
-        cbaser: regs.read(0x80, 8),
-        creadr: regs.read(0x90, 8),
-        cwriter: regs.read(0x88, 8),
-        baser0: regs.read(0x100, 8),
-        baser1: regs.read(0x108, 8),
+        ctlr: regs.read(offsets::CTLR, 4),
+        cbaser: regs.read(offsets::CBASER, 8),
+        creadr: regs.read(offsets::CREADR, 8),
+        cwriter: regs.read(offsets::CWRITER, 8),
+        baser0: regs.read(offsets::BASER0, 8),
+        baser1: regs.read(offsets::BASER1, 8),
     }
+}
+
+// The values of the redistributors' registers, where the guest programs them.
+fn registers_of(parts: &Parts) -> GicrValues
+    requires { IsMachine parts.now }
+    ensures { parts.now.layout.gicr ≡ true
+        → all_restored_bases parts.now.layout.shape.vcpus result ≡ bases_of (state_of_parts parts.now) }
+{
+    values_come_back();
+    let mut registers = [RESET; 16];
+    if parts.layout.gicr {
+        for vcpu in 0..parts.layout.shape.vcpus {
+            let redist = parts.redists.redist(Vcpu(vcpu));
+            registers[usize::from(vcpu)] = values_of(&redist.bases);
+        }
+    }
+    GicrValues { registers }
 }

@@ -1,11 +1,12 @@
 //! What the tests are written in: descriptions, and lines of commands and calls.
 ghost use Rattle.std.specs.Prelude.{◌<◌, ◌≤◌, length, IfOk};
-ghost use Rattle.its_plain.specs.Made.{IsDescription};
+ghost use Rattle.its_plain.specs.Machine.{IsDescription};
 
 use crate::Machine;
-use guest_windows::NoMemory;
 use its_command::{Command, EventIdBits, IttAddr, Op, RdBase, UnknownOp, encode};
-use its_plain::{Ack, Bytes64, Call, Cause, Desc, Fill, Reason, Reply, Signal, StepReply};
+use its_plain::{
+    Ack, Bytes64, Call, Cause, Desc, Fill, LpiTables, Reason, Reply, Signal, StepReply,
+};
 use its_types::{Addr, DeviceId, EventId, Icid, Intid, Limits, Listed, Profile, Shape, Vcpu};
 use std::alloc::{AllocError, Global};
 
@@ -38,8 +39,10 @@ pub fn desc(alloc: Global, profile: Profile, words: &[(u64, u64)]) -> Result<Des
             place_last: 1_099_511_627_775,
         },
         windows,
-        config: CONFIG,
-        pending,
+        tables: LpiTables::Described {
+            config: CONFIG,
+            pending,
+        },
         fills,
         restore: None,
     })
@@ -50,7 +53,6 @@ fn fills(alloc: Global, words: &[(u64, u64)]) -> Result<Listed<Fill>, AllocError
     for &(addr, word) in words {
         let bytes = Vec::from_slice(alloc, &word.to_le_bytes())?;
         fills.push(Fill {
-            line: 0,
             addr: Addr(addr),
             bytes: Listed::from_vec(bytes),
         })?;
@@ -284,7 +286,7 @@ pub fn queueing(
     alloc: Global,
     machine: &mut Machine,
     command: &Command,
-) -> Result<[Call; 2], NoMemory> {
+) -> Result<[Call; 2], AllocError> {
     let read = Call::ReadReg {
         its: 0,
         off: 0x90,

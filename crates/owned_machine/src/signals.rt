@@ -3,22 +3,23 @@ ghost use Rattle.std.specs.Prelude.{◌≡◌, true, IfOk};
 ghost use Rattle.its_plain.specs.Translation as translation;
 ghost use Rattle.its_plain.specs.Answer as plain;
 ghost use Rattle.cmd_exec.specs.InHand.{changed, with_set, takes_lpi};
-ghost use Rattle.owned_machine.specs.Whole.{machine_of, IsMachine, GoesOn};
+ghost use Rattle.owned_parts.specs.Owned.{state_of_parts};
+ghost use Rattle.owned_machine.specs.Whole.{IsMachine, GoesOn};
 
 use gits_regs::Regs;
-use its_maps::Maps;
-use its_plain::{Cause, Desc, Signal};
+use its_maps::{LookUp, Maps};
+use its_plain::{Cause, Signal};
 use its_types::{DeviceId, EventId, Intid, Target, Vcpu};
 use lpi_pending::Redists;
 use owned_parts::Parts;
 
 /// A device's message.
-pub fn signal(parts: &mut Parts, desc: &Desc, its: u8, dev: DeviceId, ev: EventId) -> Signal
-    requires { IsMachine desc.now parts.old }
-    ensures reply { result ≡ plain.signal_reply (translation.translated (machine_of desc.now parts.old) its dev.0 ev.0) }
-    ensures left { GoesOn desc.now parts.new (plain.signal_left (machine_of desc.now parts.old) result) }
+pub fn signal(parts: &mut Parts, its: u8, dev: DeviceId, ev: EventId) -> Signal
+    requires { IsMachine parts.old }
+    ensures reply { result ≡ plain.signal_reply (translation.translated (state_of_parts parts.old) its dev.0 ev.0) }
+    ensures left { GoesOn parts.new (plain.signal_left (state_of_parts parts.old) result) }
 {
-    match translate(parts, desc, its, dev, ev) {
+    match translate(parts, its, dev, ev) {
         Ok(Target { vcpu, intid }) => {
             set_lpi(&mut parts.redists, vcpu, intid);
             Signal::Delivered { vcpu, intid }
@@ -29,18 +30,11 @@ pub fn signal(parts: &mut Parts, desc: &Desc, its: u8, dev: DeviceId, ev: EventI
 
 // The target whose LPIs are on. There is only translator 0.
 #[tactic(auto, unfolding(its_plain::specs::Translation::translated))]
-fn translate(
-    parts: &Parts,
-    desc: &Desc,
-    its: u8,
-    dev: DeviceId,
-    ev: EventId,
-) -> Result<Target, Cause>
-    requires { IsMachine desc.now parts.now }
-    ensures target { result ≡ translation.translated (machine_of desc.now parts.now) its dev.0 ev.0 }
+fn translate(parts: &Parts, its: u8, dev: DeviceId, ev: EventId) -> Result<Target, Cause>
+    requires { IsMachine parts.now }
+    ensures target { result ≡ translation.translated (state_of_parts parts.now) its dev.0 ev.0 }
     ensures takes { IfOk result (λ t. takes_lpi parts.now.redists t.vcpu.0 t.intid.0 ≡ true) }
 {
-    let _ = desc;
     if its != 0 {
         return Err(Cause::Disabled);
     }
@@ -58,10 +52,16 @@ fn locate(regs: &Regs, maps: &Maps, dev: DeviceId, ev: EventId) -> Result<Target
     if !regs.enabled() {
         return Err(Cause::Disabled);
     }
-    maps.device(dev).ok_or(Cause::NoDevice)?;
-    let (intid, icid) = maps.event(dev, ev).ok_or(Cause::NoEvent)?;
-    let vcpu = maps.collection(icid).ok_or(Cause::NoCollection)?;
-    Ok(Target { vcpu, intid })
+    let event = match maps.look_up(dev, ev) {
+        LookUp::NoDevice => return Err(Cause::NoDevice),
+        LookUp::NoEvent(_) => return Err(Cause::NoEvent),
+        LookUp::Mapped(_, event) => event,
+    };
+    let vcpu = maps.collection(event.icid).ok_or(Cause::NoCollection)?;
+    Ok(Target {
+        vcpu,
+        intid: event.intid,
+    })
 }
 
 #[tactic(auto, unfolding(cmd_exec::specs::InHand::changed))]

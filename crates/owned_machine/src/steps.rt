@@ -4,20 +4,21 @@ ghost use Rattle.its_command.specs.Commands.{op_of};
 ghost use Rattle.its_plain.specs.Commands as commands;
 ghost use Rattle.its_plain.specs.Answer as answers;
 ghost use Rattle.cmd_exec.specs.Executed as executed;
-ghost use Rattle.owned_machine.specs.Whole.{machine_of, IsMachine, GoesOn, IsMet};
+ghost use Rattle.owned_parts.specs.Owned.{state_of_parts};
+ghost use Rattle.owned_machine.specs.Whole.{IsMachine, GoesOn, IsMet};
 
 use cmd_exec::{apply, prepare};
-use guest_windows::NoMemory;
 use its_command::{Command, decode};
-use its_plain::{CmdReply, Desc, StepReply};
+use its_plain::{CmdReply, StepReply};
 use owned_parts::Parts;
+use std::alloc::AllocError;
 
 /// A step. A translator that there isn't is idle. For want of memory nothing is changed.
 #[tactic(auto, unfolding(its_plain::specs::Answer::step_reply, its_plain::specs::Answer::step_left))]
-pub fn step(parts: &mut Parts, desc: &Desc, its: u8) -> Result<StepReply, NoMemory>
-    requires { IsMachine desc.now parts.old }
-    ensures reply { IfOk result (λ r. r ≡ answers.step_reply (machine_of desc.now parts.old) its) }
-    ensures left { IfOk result (λ _. GoesOn desc.now parts.new (answers.step_left (machine_of desc.now parts.old) its)) }
+pub fn step(parts: &mut Parts, its: u8) -> Result<StepReply, AllocError>
+    requires { IsMachine parts.old }
+    ensures reply { IfOk result (λ r. r ≡ answers.step_reply (state_of_parts parts.old) its) }
+    ensures left { IfOk result (λ _. GoesOn parts.new (answers.step_left (state_of_parts parts.old) its)) }
     ensures err { OnErr result (parts.new ≡ parts.old) }
 {
     if its != 0 || !parts.regs.enabled() || parts.regs.queue_is_empty() {
@@ -28,15 +29,15 @@ pub fn step(parts: &mut Parts, desc: &Desc, its: u8) -> Result<StepReply, NoMemo
     if parts.memory.read(place, &mut bytes).is_err() {
         return Ok(StepReply::QueueFault(place));
     }
-    run(parts, desc, &decode(&bytes))
+    run(parts, &decode(&bytes))
 }
 
 // Runs or refuses the command that the translator has met.
-fn run(parts: &mut Parts, desc: &Desc, command: &Command) -> Result<StepReply, NoMemory>
-    requires whole { IsMachine desc.now parts.old }
-    requires met { IsMet (machine_of desc.now parts.old) command.now }
-    ensures reply { IfOk result (λ r. r ≡ answers.command_reply (op_of command.now) (commands.ran (machine_of desc.now parts.old) 0 command.now)) }
-    ensures left { IfOk result (λ _. GoesOn desc.now parts.new (executed.left_by command.now (machine_of desc.now parts.old) 0)) }
+fn run(parts: &mut Parts, command: &Command) -> Result<StepReply, AllocError>
+    requires whole { IsMachine parts.old }
+    requires met { IsMet (state_of_parts parts.old) command.now }
+    ensures reply { IfOk result (λ r. r ≡ answers.command_reply (op_of command.now) (commands.ran (state_of_parts parts.old) 0 command.now)) }
+    ensures left { IfOk result (λ _. GoesOn parts.new (executed.left_by command.now (state_of_parts parts.old) 0)) }
     ensures err { OnErr result (parts.new ≡ parts.old) }
 {
     prepare(command, &mut parts.maps)?;
@@ -46,7 +47,7 @@ fn run(parts: &mut Parts, desc: &Desc, command: &Command) -> Result<StepReply, N
         &mut parts.maps,
         &parts.memory,
         &mut parts.redists,
-        &desc.shape,
+        &parts.layout.shape,
     );
     Ok(as_step(reply))
 }

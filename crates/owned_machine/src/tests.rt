@@ -1,11 +1,11 @@
 //! The machine and the plain one answer alike: every refusal and every effect of each command, and the other calls.
 use crate::Machine;
 use crate::scripts::{Asked, CONFIG, Given, Line, desc, enabling, queueing};
-use guest_windows::NoMemory;
 use its_command::Command;
-use its_plain::{Call, Cause, Reason, Reply, State, StepReply};
+use its_plain::{Call, Cause, Reason, Reply, StepReply};
 use its_types::{Addr, DeviceId, EventId, Profile, Vcpu};
-use std::alloc::Global;
+use plain_machine::State;
+use std::alloc::{AllocError, Global};
 use std::test::Fail;
 
 const DEVICE: DeviceId = DeviceId(16);
@@ -18,7 +18,7 @@ fn ask(
     machine: &mut Machine,
     state: State,
     call: &Call,
-) -> Result<(State, Option<Reply>), NoMemory> {
+) -> Result<(State, Option<Reply>), AllocError> {
     let (state, plain) = state.answer(alloc, call)?;
     let reply = machine.answer(alloc, call)?;
     if reply == plain {
@@ -34,7 +34,7 @@ fn ask_each(
     machine: &mut Machine,
     state: State,
     calls: &[Call],
-) -> Result<(State, bool), NoMemory> {
+) -> Result<(State, bool), AllocError> {
     let mut state = state;
     let mut same = true;
     for call in calls {
@@ -52,7 +52,7 @@ fn take_command(
     state: State,
     command: &Command,
     expected: StepReply,
-) -> Result<(State, bool), NoMemory> {
+) -> Result<(State, bool), AllocError> {
     let calls = queueing(alloc, machine, command)?;
     let (state, ready) = ask_each(alloc, machine, state, &calls)?;
     let (state, reply) = ask(alloc, machine, state, &Call::Step { its: 0 })?;
@@ -67,7 +67,7 @@ fn take_line(
     machine: &mut Machine,
     state: State,
     line: &Line,
-) -> Result<(State, bool), NoMemory> {
+) -> Result<(State, bool), AllocError> {
     match line.asked() {
         Asked::Command(command, expected) => {
             take_command(alloc, machine, state, &command, expected)

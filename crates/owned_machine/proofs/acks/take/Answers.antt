@@ -4,7 +4,8 @@ use Rattle.lpi_pending.specs.declared.redist.Redist.{Redist}
 use Rattle.its_plain.specs.Plain.{redistributor, with_redistributor}
 use Rattle.its_plain.specs.Answer.{taken, lowest}
 use Rattle.cmd_exec.specs.InHand.{takes_lpi}
-use Rattle.owned_machine.specs.Whole.{machine_of, GoesOn, IfAcked}
+use Rattle.owned_parts.specs.Owned.{state_of_parts}
+use Rattle.owned_machine.specs.Whole.{GoesOn, IfAcked}
 use Rattle.owned_machine.proofs.Answered.{take_goes}
 use Rattle.owned_machine.proofs.acks.take.Goals as goal
 
@@ -13,6 +14,6 @@ clear_lpi-requires c = subst (λ (a : Ack). IfAcked a (λ intid. takes_lpi c.arg
 
 pub returns-in-Some-clause-left : goal.returns-in-Some-clause-left
 returns-in-Some-clause-left c =
-    let d = c.args.desc.now in let p = c.args.parts.now in let r = redistributor (machine_of d p) c.args.vcpu.0 in
-    subst (λ (rs : List (Option Redist)). GoesOn d (record p { redists = rs }) (with_redistributor (machine_of d p) c.args.vcpu.0 (taken r (lowest r)))) (sym c.clear_lpi.ensures)
-    (take_goes d p c.args.vcpu c.in-Some.intid _ c.requires (sym c.show-ack.ensures.ack ∙ c.in-Some.is))
+    let p = c.args.parts.now in let r = redistributor (state_of_parts p) c.args.vcpu.0 in
+    subst (λ (rs : List (Option Redist)). GoesOn (record p { redists = rs }) (with_redistributor (state_of_parts p) c.args.vcpu.0 (taken r (lowest r)))) (sym c.clear_lpi.ensures)
+    (take_goes p c.args.vcpu c.in-Some.intid _ c.requires (sym c.show-ack.ensures.ack ∙ c.in-Some.is))

@@ -1,4 +1,4 @@
-use Rattle.owned_machine.proofs.Moved.{begun_with, restored_begun, restore_refused, is_fault}
+use Rattle.owned_machine.proofs.Moved.{begun_with, restored_begun, restore_refused, where_given, where_fault}
 use Rattle.owned_machine.proofs.migrations.begin.Goals as goal
 
 pub returns-in_err-parts : goal.returns-in_err-parts
@@ -6,11 +6,18 @@ returns-in_err-parts c = begun_with c.args.desc.now c.from_residual.result c.in_
 
 pub returns-in-Ok : goal.returns-in-Ok
 returns-in-Ok c =
-    let p = c.in_ok-parts.parts in let h = c.in_ok-parts.ensures in
-    restored_begun c.args.desc.now p c.in-Ok.restored c.in-Some.values h.1 c.in-Ok.ensures.stands c.in-Ok.ensures.in_hand c.in-Ok.ensures.no_others h.0 c.in-Some.is
+    let d = c.args.desc.now in
+    let p = c.in_ok-parts.parts in
+    let h = c.in_ok-parts.ensures in
+    let given = c.values_given-given in
+    let e = c.in-Ok.ensures in
+    restored_begun p c.in-Ok.restored given.result c.in-Some.values h.whole e.layout e.stands e.in_hand e.no_others d h.made_is c.in-Some.is (where_given d p given.result h.layout given.ensures)
 
-pub returns-in-Err-Fault : goal.returns-in-Err-Fault
-returns-in-Err-Fault c =
-    let p = c.in_ok-parts.parts in let h = c.in_ok-parts.ensures in
-    restore_refused c.args.desc.now p c.in-Some.values c.in-Err-Fault.fault h.1 h.0 c.in-Some.is
-    (is_fault c.restore_in.result c.in-Err-Fault.field-0 c.in-Err-Fault.fault _ c.in-Err-Fault.is (c.in-Err-Fault.field-0-is) c.restore_in.ensures.fault)
+pub returns-in-Err-default-Fault : goal.returns-in-Err-default-Fault
+returns-in-Err-default-Fault c =
+    let d = c.args.desc.now in
+    let p = c.in_ok-parts.parts in
+    let h = c.in_ok-parts.ensures in
+    let given = c.values_given-given in
+    let e = c.in-Err-default-Fault in
+    restore_refused d p c.in-Some.values given.result e.fault h.made_is c.in-Some.is (where_given d p given.result h.layout given.ensures) (where_fault e.field-0-1 e.fault _ e.field-0-1-is e.ensures.fault)

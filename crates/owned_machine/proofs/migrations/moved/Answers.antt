@@ -1,14 +1,22 @@
-use Rattle.owned_machine.proofs.Moved.{moved_goes, is_savable, no_fault, is_fault}
+use Rattle.owned_machine.proofs.Moved.{moved_goes, is_savable, no_fault, where_fault}
 use Rattle.owned_machine.proofs.migrations.moved.Goals as goal
 
 pub unreachable-requires : goal.unreachable-requires
 unreachable-requires c =
-    no_fault c.args.desc.now c.args.parts.now c.in_ok-memory.memory c.save.new.memory c.values_of.result c.requires c.in_ok-memory.ensures c.in_ok-save.ensures.answer c.in_ok-save.ensures.memory c.values_of.ensures c.in-Err-Fault.field-0-0
-    (is_fault c.restore_in.result c.in-Err-Fault.field-0 c.in-Err-Fault.field-0-0 _ c.in-Err-Fault.is c.in-Err-Fault.field-0-is c.restore_in.ensures.fault)
+    let saved = c.in_ok-save.ensures in
+    let values = c.registers_of-values in
+    let e = c.in-Err-default-Fault in
+    no_fault c.args.parts.now c.in_ok-memory.memory c.save.new.memory c.translator_values.result values.result c.requires c.in_ok-memory.ensures saved.answer saved.memory c.translator_values.ensures values.ensures e.field-0-1-0
+    (where_fault e.field-0-1 e.field-0-1-0 _ e.field-0-1-is e.ensures.fault)
 
 pub returns-in-Ok : goal.returns-in-Ok
-returns-in-Ok c = (
-  is_savable c.args.desc.now c.args.parts.now c.in_ok-memory.memory c.save.new.memory c.values_of.result c.requires c.in_ok-memory.ensures c.in_ok-save.ensures.answer c.in_ok-save.ensures.memory c.values_of.ensures,
-  moved_goes c.args.desc.now c.args.parts.now c.in_ok-memory.memory c.save.new.memory c.values_of.result c.requires c.in_ok-memory.ensures c.in_ok-save.ensures.answer c.in_ok-save.ensures.memory c.values_of.ensures c.in-Ok.restored c.in-Ok.ensures.stands
-      c.in-Ok.ensures.in_hand c.in-Ok.ensures.no_others,
-)
+returns-in-Ok c =
+    let p = c.args.parts.now in
+    let copy = c.in_ok-memory in
+    let saved = c.in_ok-save.ensures in
+    let values = c.registers_of-values in
+    let read = c.translator_values in
+    let e = c.in-Ok.ensures in (
+      is_savable p copy.memory c.save.new.memory read.result values.result c.requires copy.ensures saved.answer saved.memory read.ensures values.ensures,
+      moved_goes p copy.memory c.save.new.memory read.result values.result c.requires copy.ensures saved.answer saved.memory read.ensures values.ensures c.in-Ok.restored e.layout e.stands e.in_hand e.no_others,
+    )

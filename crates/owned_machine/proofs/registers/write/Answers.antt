@@ -3,8 +3,8 @@ use Rattle.owned_machine.proofs.registers.write.Goals as goal
 
 pub returns-then-its-eq0 : goal.returns-then-its-eq0
 returns-then-its-eq0 c =
-    write_goes c.args.desc.now c.args.parts.now c.args.its c.args.off c.args.size c.args.value c.access.new.regs c.access.new.maps c.requires
-    c.if-its-eq0.true c.access.ensures.1 c.access.ensures.2
+    write_goes c.args.parts.now c.args.its c.args.off c.args.size c.args.value c.write_register.new.regs c.write_register.new.maps c.requires
+    c.if-its-eq0.true c.write_register.ensures.regs c.write_register.ensures.maps
 
 pub returns-else-its-eq0 : goal.returns-else-its-eq0
-returns-else-its-eq0 c = no_write_goes c.args.desc.now c.args.parts.now c.args.its c.args.off c.args.size c.args.value c.requires c.if-its-eq0.false
+returns-else-its-eq0 c = no_write_goes c.args.parts.now c.args.its c.args.off c.args.size c.args.value c.requires c.if-its-eq0.false

@@ -1,11 +1,11 @@
 use Rattle.std.proofs.Common.{◌<◌, length, subst, sym, ℕ}
 use Rattle.its_plain.specs.Plain.{Plain}
-use Rattle.owned_machine.specs.Whole.{machine_of}
+use Rattle.owned_parts.specs.Owned.{state_of_parts}
 use Rattle.owned_machine.proofs.Kept.{held}
 use Rattle.owned_machine.proofs.machine.Machine.pending.Goals as goal
 
 pub redist-redist-requires : goal.redist-redist-requires
 redist-redist-requires c =
     let i = c.self.inside in
-    let within : c.args.vcpu < length (machine_of i.desc i.parts).redistributors = subst (λ (u : Plain). c.args.vcpu < length u.redistributors) (sym c.self.view_is) c.requires in
-    held i.desc i.parts c.args.vcpu c.self.invariant (subst (λ (n : ℕ). c.args.vcpu < n) c.self.invariant.sound.vcpus within)
+    let within : c.args.vcpu < length (state_of_parts i.parts).redistributors = subst (λ (u : Plain). c.args.vcpu < length u.redistributors) (sym c.self.view_is) c.requires in
+    held i.parts c.args.vcpu c.self.invariant (subst (λ (n : ℕ). c.args.vcpu < n) c.self.invariant.sound.vcpus within)

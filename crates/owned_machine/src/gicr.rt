@@ -1,0 +1,36 @@
+//! The LPI registers of redistributors, where the guest programs them (IHI 0069, section 12.11).
+ghost use Rattle.std.specs.Prelude.{◌≡◌};
+ghost use Rattle.its_plain.specs.Answer as answers;
+ghost use Rattle.owned_parts.specs.Owned.{state_of_parts};
+ghost use Rattle.owned_machine.specs.Whole.{IsMachine, GoesOn};
+
+use gicr_regs::read_gicr;
+use its_types::{Bases, Vcpu};
+use lpi_pending::{gicr_read, gicr_write};
+use owned_parts::Parts;
+
+/// Reads a register. That of a virtual processor that there isn't reads as at reset.
+pub fn read(parts: &Parts, vcpu: Vcpu, off: u32, size: u8) -> u64
+    requires { IsMachine parts.now }
+    ensures { result ≡ answers.gicr_read (state_of_parts parts.now) vcpu.0 off size }
+{
+    if !parts.layout.gicr {
+        return 0;
+    }
+    if vcpu.0 >= parts.layout.shape.vcpus {
+        return read_gicr(&Bases::off(), off, size);
+    }
+    gicr_read(parts.redists.redist(vcpu), off, size)
+}
+
+/// Writes a register. What is written to that of a virtual processor that there isn't is dropped.
+pub fn write(parts: &mut Parts, vcpu: Vcpu, off: u32, size: u8, value: u64)
+    requires { IsMachine parts.old }
+    ensures { GoesOn parts.new (answers.gicr_written (state_of_parts parts.old) vcpu.0 off size value) }
+{
+    if !parts.layout.gicr || vcpu.0 >= parts.layout.shape.vcpus {
+        return;
+    }
+    let redist = parts.redists.redist_mut(vcpu);
+    gicr_write(redist, &parts.memory, &parts.layout.shape, off, size, value);
+}
