@@ -8,18 +8,19 @@ use Rattle.its_types.specs.declared.machine.Part.{Part}
 use Rattle.its_types.specs.declared.machine.Part.TheVariants as part
 use Rattle.its_types.specs.declared.machine.Word.{Word}
 use Rattle.its_plain.specs.Parts.{SamePart, IsIn}
-use Rattle.its_plain.specs.Plain.{Plain, Layout}
+use Rattle.its_plain.specs.Plain.{Plain}
+use Rattle.its_plain.specs.declared.layout.Layout.{Layout}
 use Rattle.plain_footprint.proofs.Listed.{in_head, in_tail}
 use Rattle.plain_footprint.proofs.Stays.{Stay, stay, stay_translator, stay_redist, stay_memory}
-use Rattle.its_steps.specs.Parts.{Setup, Stands, IsOfMachine, index_of, translator_count, vcpu_count, Right}
-use Rattle.its_steps.specs.declared.content.Content.{Content}
-use Rattle.its_steps.specs.declared.content.Content.TheVariants.{Maps, Mem, Shard, Redist}
-use Rattle.its_steps.specs.World.{parts_of}
-use Rattle.its_steps.specs.declared.held.Held.{Held}
+use Rattle.its_steps.specs.Contents.{Content, Maps, Mem, Shard, Redist, Held, parts_of}
 use Rattle.its_steps.specs.Good.{Holds, Apart}
-use Rattle.its_steps.specs.MayCommit.{IsRight}
+use Rattle.its_steps.specs.Facts.{AssembledHas}
+use Rattle.its_steps.specs.MayCall.{Owes}
+use Rattle.its_steps.specs.Parts.{Setup, HasVcpus, Stands, Has, HasAll, Suits, IsOfMachine, index_of, translator_count, vcpu_count, Right}
 use Rattle.its_steps.specs.Renewal.{with_part, assembled}
+use Rattle.its_steps.specs.States.{RightIsHad}
 use Rattle.its_steps.proofs.Indexes.{index_injective}
+use Rattle.its_steps.proofs.Owed.{owes_holds}
 
 -- ---- parts that are the same
 
@@ -78,43 +79,47 @@ no_part b p = record { stays = stay b (p ∷ []); long = refl }
 
 pub is_put : (p : Part) (c : Content) (b : Plain) → IsPut b p (with_part p c b)
 is_put (part.Maps its) (Maps t) b = record { stays = stay_translator b b (part.Maps its ∷ []) its t (in_head (part.Maps its) []) (stay b (part.Maps its ∷ [])); long = refl }
-is_put (part.Maps its) (Mem memory) b = no_part b (part.Maps its)
-is_put (part.Maps its) (Shard ways) b = no_part b (part.Maps its)
-is_put (part.Maps its) (Redist r) b = no_part b (part.Maps its)
-is_put part.Mem (Maps t) b = no_part b part.Mem
 is_put part.Mem (Mem memory) b = record { stays = stay_memory b b (part.Mem ∷ []) memory (in_head part.Mem []) (stay b (part.Mem ∷ [])); long = refl }
-is_put part.Mem (Shard ways) b = no_part b part.Mem
-is_put part.Mem (Redist r) b = no_part b part.Mem
-is_put (part.Shard its n) (Maps t) b = no_part b (part.Shard its n)
-is_put (part.Shard its n) (Mem memory) b = no_part b (part.Shard its n)
-is_put (part.Shard its n) (Shard ways) b = no_part b (part.Shard its n)
-is_put (part.Shard its n) (Redist r) b = no_part b (part.Shard its n)
-is_put (part.Redist vcpu) (Maps t) b = no_part b (part.Redist vcpu)
-is_put (part.Redist vcpu) (Mem memory) b = no_part b (part.Redist vcpu)
-is_put (part.Redist vcpu) (Shard ways) b = no_part b (part.Redist vcpu)
 is_put (part.Redist vcpu) (Redist r) b =
     record { stays = stay_redist b b (part.Redist vcpu ∷ []) vcpu.0 r (in_head (part.Redist vcpu) []) (stay b (part.Redist vcpu ∷ [])); long = length-set b.redistributors vcpu.0 r }
+is_put p c b = no_part b p
 
 pub get_set_here : {A : Type 0} (xs : List A) (i : ℕ) (y : A) → i < length xs → slice_get (set xs i y) i ≡ Some y
 get_set_here [] i y lt = absurd (omega arith)
 get_set_here (x ∷ xs) zero y lt = refl
 get_set_here (x ∷ xs) (suc i) y lt = get_set_here xs i y (omega arith)
 
--- the part is then as in u, of which what was put in is right
-put_here : (s : Setup) (word : Word) (u : Plain) (p : Part) (c : Content) (b : Plain) → length b.translators ≡ translator_count s → length b.redistributors ≡ vcpu_count s → Stands s p → Right s word u p c → SamePart (with_part p c b) u p
-put_here s word u (part.Maps its) (Maps t) b ts rs st r = get_set_here b.translators its t (omega (arith, st, ts)) ∙ sym r
-put_here s word u (part.Maps its) (Mem memory) b ts rs st r = absurd r
-put_here s word u (part.Maps its) (Shard ways) b ts rs st r = absurd r
-put_here s word u (part.Maps its) (Redist x) b ts rs st r = absurd r
-put_here s word u part.Mem (Maps t) b ts rs st r = absurd r
-put_here s word u part.Mem (Mem memory) b ts rs st r = sym r
-put_here s word u part.Mem (Shard ways) b ts rs st r = absurd r
-put_here s word u part.Mem (Redist x) b ts rs st r = absurd r
-put_here s word u (part.Shard its n) c b ts rs st r = tt
-put_here s word u (part.Redist vcpu) (Maps t) b ts rs st r = absurd r
-put_here s word u (part.Redist vcpu) (Mem memory) b ts rs st r = absurd r
-put_here s word u (part.Redist vcpu) (Shard ways) b ts rs st r = absurd r
-put_here s word u (part.Redist vcpu) (Redist x) b ts rs st r = get_set_here b.redistributors vcpu.0 x (omega (arith, st, rs)) ∙ sym r
+-- the part then has it
+has_here : (s : Setup) (p : Part) (c : Content) (b : Plain) → length b.translators ≡ translator_count s → length b.redistributors ≡ vcpu_count s → Stands s p → Suits p c → Has (with_part p c b) p c
+has_here s (part.Maps its) (Maps t) b ts rs st suits = get_set_here b.translators its t (omega (arith, st, ts))
+has_here s part.Mem (Mem x) b ts rs st suits = refl
+has_here s (part.Shard its n) (Shard x) b ts rs st suits = tt
+has_here s (part.Redist vcpu) (Redist x) b ts rs st suits = get_set_here b.redistributors vcpu.0 x (omega (arith, st, rs))
+has_here s p c b ts rs st suits = absurd suits
+
+-- two states that have the same in a part
+both_have : (u w : Plain) (p : Part) (c : Content) → Has u p c → Has w p c → SamePart u w p
+both_have u w (part.Maps its) (Maps t) a b = a ∙ sym b
+both_have u w part.Mem (Mem x) a b = a ∙ sym b
+both_have u w (part.Shard its n) c a b = tt
+both_have u w (part.Redist vcpu) (Redist r) a b = a ∙ sym b
+both_have u w p c a b = absurd a
+
+-- what is had suits its part
+pub has_suits : (u : Plain) (p : Part) (c : Content) → Has u p c → Suits p c
+has_suits u (part.Maps its) (Maps t) h = tt
+has_suits u part.Mem (Mem x) h = tt
+has_suits u (part.Shard its n) (Shard x) h = tt
+has_suits u (part.Redist vcpu) (Redist r) h = tt
+has_suits u p c h = absurd h
+
+-- the same part has what it had
+same_has : (u w : Plain) (p : Part) (c : Content) → SamePart u w p → Has u p c → Has w p c
+same_has u w (part.Maps its) (Maps t) e h = sym e ∙ h
+same_has u w part.Mem (Mem x) e h = sym e ∙ h
+same_has u w (part.Shard its n) (Shard x) e h = tt
+same_has u w (part.Redist vcpu) (Redist r) e h = sym e ∙ h
+same_has u w p c e h = absurd h
 
 pub not_only : (q p : Part) → ¬ (q ≡ p) → ¬ IsIn p (q ∷ [])
 not_only q p ne (zero, e) = ne (same_Some q p e)
@@ -122,30 +127,68 @@ not_only q p ne (suc n, e) = cc
 
 -- ---- all parts held
 
-pub record IsAssembled (s : Setup) (a : Plain) : Type 0 where
+-- a state with the layout of the machine's, and as many translators and redistributors
+pub record IsSized (s : Setup) (a : Plain) : Type 0 where
   pub layout : s.start.layout ≡ a.layout
   pub translators : length s.start.translators ≡ length a.translators
   pub redistributors : length s.start.redistributors ≡ length a.redistributors
 
-pub is_assembled : (s : Setup) (held : List Held) → IsAssembled s (assembled s held)
+pub machine_sized : (s : Setup) (u : Plain) → IsOfMachine s u → IsSized s u
+machine_sized s u m = record { layout = m.layout; translators = m.translators; redistributors = m.redistributors }
+
+pub machine_vcpus : (s : Setup) (u : Plain) → IsOfMachine s u → HasVcpus s
+machine_vcpus s u m = m.redistributors ∙ (m.sound.vcpus ∙ ap (λ (l : Layout). l.shape.vcpus) (sym m.layout))
+
+pub is_assembled : (s : Setup) (held : List Held) → IsSized s (assembled s held)
 is_assembled s [] = record { layout = refl; translators = refl; redistributors = refl }
 is_assembled s (x ∷ xs) =
     let i = is_assembled s xs in
     let z = is_put x.part x.owed (assembled s xs) in
     record { layout = i.layout ∙ z.stays.layout; translators = i.translators ∙ z.stays.translators; redistributors = i.redistributors ∙ sym z.long }
 
-module _ (s : Setup) (word : Word) (u : Plain) (m : IsOfMachine s u) where
-  vcpus : length s.start.redistributors ≡ vcpu_count s
-  vcpus = m.redistributors ∙ (m.sound.vcpus ∙ ap (λ (l : Layout). l.shape.vcpus) (sym m.layout))
+-- what is owed is had
+pub had : (u : Plain) (held : List Held) → HasAll u held → (p : Part) (c : Content) → Owes p c held → Has u p c
+had u [] has p c o = absurd o
+had u (x ∷ xs) has p c o = ⊎_elim
+    (λ (e : (x.part ≡ p) × (x.owed ≡ c)). subst (λ (q : Part). Has u q c) e.0 (subst (Has u x.part) e.1 has.0))
+    (λ (t : Owes p c xs). had u xs has.1 p c t) o
 
-  pub agree_held : (held : List Held) → Apart held → AllByRecursion (λ x. Stands s x.part) held → AllByRecursion (IsRight s word u) held → (p : Part) → Holds p held → SamePart (assembled s held) u p
-  agree_held [] apart st right p h = absurd h
-  agree_held (x ∷ xs) apart st right p h =
-      let i = is_assembled s xs in
-      ⊎_elim
-      (λ (e : x.part ≡ p). subst (SamePart (assembled s (x ∷ xs)) u) e (put_here s word u x.part x.owed (assembled s xs) (sym i.translators) (sym i.redistributors ∙ vcpus) st.0 right.0))
-      (λ (t : Holds p xs).
-      let other : ¬ IsIn p (x.part ∷ []) = not_only x.part p (λ e. apart.0 (subst (λ (q : Part). Holds q xs) (sym e) t)) in
-      same_through (assembled s (x ∷ xs)) (assembled s xs) u p
-      (same_back (assembled s xs) (assembled s (x ∷ xs)) p ((is_put x.part x.owed (assembled s xs)).stays.parts p other)) (agree_held xs apart.1 st.1 right.1 p t))
+module _ (s : Setup) (vcpus : HasVcpus s) where
+  -- the part put in last has what was put in, and each other one what it had
+  has_last : (x : Held) (xs : List Held) → Stands s x.part → Suits x.part x.owed → Has (assembled s (x ∷ xs)) x.part x.owed
+  has_last x xs st suits = let i = is_assembled s xs in has_here s x.part x.owed (assembled s xs) (sym i.translators) (sym i.redistributors ∙ vcpus) st suits
+
+  same_behind : (x : Held) (xs : List Held) (p : Part) → ¬ Holds x.part xs → Holds p xs → SamePart (assembled s xs) (assembled s (x ∷ xs)) p
+  same_behind x xs p lone h = (is_put x.part x.owed (assembled s xs)).stays.parts p (not_only x.part p (λ e. lone (subst (λ (q : Part). Holds q xs) (sym e) h)))
+
+  assembled_has_all : (held : List Held) → Apart held → AllByRecursion (λ x. Stands s x.part) held → (p : Part) (c : Content) → Suits p c → Owes p c held → Has (assembled s held) p c
+  assembled_has_all [] apart st p c suits o = absurd o
+  assembled_has_all (x ∷ xs) apart st p c suits o = ⊎_elim
+      (λ (e : (x.part ≡ p) × (x.owed ≡ c)).
+      let back : Suits x.part x.owed = subst (Suits x.part) (sym e.1) (subst (λ (q : Part). Suits q c) (sym e.0) suits) in
+      subst (λ (q : Part). Has (assembled s (x ∷ xs)) q c) e.0 (subst (Has (assembled s (x ∷ xs)) x.part) e.1 (has_last x xs st.0 back)))
+      (λ (t : Owes p c xs). same_has (assembled s xs) (assembled s (x ∷ xs)) p c (same_behind x xs p apart.0 (owes_holds p c xs t)) (assembled_has_all xs apart.1 st.1 p c suits t))
+      o
+
+  -- so it agrees on what is held with each state that has it
+  pub agree_held : (u : Plain) (held : List Held) → Apart held → AllByRecursion (λ x. Stands s x.part) held → HasAll u held → (p : Part) → Holds p held → SamePart (assembled s held) u p
+  agree_held u [] apart st has p h = absurd h
+  agree_held u (x ∷ xs) apart st has p h = ⊎_elim
+      (λ (e : x.part ≡ p). subst (SamePart (assembled s (x ∷ xs)) u) e (both_have (assembled s (x ∷ xs)) u x.part x.owed (has_last x xs st.0 (has_suits u x.part x.owed has.0)) has.0))
+      (λ (t : Holds p xs). same_through (assembled s (x ∷ xs)) (assembled s xs) u p (same_back (assembled s xs) (assembled s (x ∷ xs)) p (same_behind x xs p apart.0 t)) (agree_held u xs apart.1 st.1 has.1 p t))
       h
+
+pub assembled_has : AssembledHas
+assembled_has s vcpus held apart st p c suits o = assembled_has_all s vcpus held apart st p c suits o
+
+-- what is right is had
+right_has : (s : Setup) (word : Word) (u : Plain) (p : Part) (c : Content) → Right s word u p c → Has u p c
+right_has s word u (part.Maps its) (Maps t) r = r
+right_has s word u part.Mem (Mem x) r = r
+right_has s word u (part.Shard its n) (Shard ways) r = tt
+right_has s word u (part.Redist vcpu) (Redist x) r = r
+right_has s word u p c r = absurd r
+
+pub right_had : RightIsHad
+right_had s word u [] right = tt
+right_had s word u (x ∷ xs) right = (right_has s word u x.part x.owed right.0, right_had s word u xs right.1)

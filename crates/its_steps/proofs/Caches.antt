@@ -12,31 +12,31 @@ use Rattle.its_types.specs.declared.machine.Part.{Part}
 use Rattle.its_types.specs.declared.machine.Part.TheVariants as part
 use Rattle.its_types.specs.declared.machine.Word.{Word}
 use Rattle.its_plain.specs.Answer.{left, answer}
-use Rattle.its_plain.specs.Plain.{Plain, Layout, Translator, Redistributor, translator, redistributor, no_translator, no_redistributor, is_on}
+use Rattle.its_plain.specs.Plain.{Plain, Translator, Redistributor, translator, redistributor, no_translator, no_redistributor, is_on}
+use Rattle.its_plain.specs.declared.layout.Layout.{Layout}
 use Rattle.its_plain.specs.Translation.{located, translated}
 use Rattle.its_plain.specs.declared.call.Call.{Call}
-use Rattle.its_plain.specs.declared.call.Reply.{Reply}
 use Rattle.plain_footprint.proofs.Listed.{same_or}
 use Rattle.plain_soundness.proofs.States.{IsLpi}
 use Rattle.plain_soundness.proofs.Translated.{if_ok_at, goes_to_lpi}
 use Rattle.xlate_cache.specs.Pairs.{shard_number}
-use Rattle.xlate_cache.specs.Ways.{entry, is_of, filled, dropped, IsShard}
+use Rattle.xlate_cache.specs.Ways.{entry, is_of, filled, dropped, no_entries, IsShard}
 use Rattle.xlate_cache.specs.declared.entry.Entry.{Entry as Translation}
 use Rattle.xlate_cache.proofs.Founds.{dropped_kept}
 use Rattle.xlate_cache.proofs.Lawful.{filled_lawful}
 use Rattle.xlate_cache.proofs.Sets.{none_at, empty_shard, dropped_shard}
 use Rattle.its_steps.specs.Parts.{Setup, IsOfMachine, translator_count, vcpu_count, stamp_of, IsCached, IsCache, Right}
-use Rattle.its_steps.specs.declared.content.Content.{Content}
-use Rattle.its_steps.specs.declared.content.Content.TheVariants.{Maps, Mem, Shard, Redist}
-use Rattle.its_steps.specs.declared.held.Held.{Held}
+use Rattle.its_steps.specs.Contents.{Content, Maps, Shard, Redist, Held}
 use Rattle.its_steps.specs.Good.{Holds, Apart}
 use Rattle.its_steps.specs.MayCommit.{IsRight}
 use Rattle.its_steps.specs.MayCall.{Owes, MayFill, MayChange, IsWithout, IsSteady, AreSteady, IsFill, HasFillsAlone, StampStays, StampRises, StampRenews, MayCall}
+use Rattle.its_steps.specs.World.{word_after}
 use Rattle.its_steps.specs.Renewal.{assembled, its_of, is_shard_of, changed, content_in, renewed}
 use Rattle.its_steps.specs.declared.change.ShardChange.{ShardChange}
 use Rattle.its_steps.specs.declared.change.ShardChange.TheVariants as change
+use Rattle.its_steps.specs.declared.commit.Commit.{Commit}
 use Rattle.its_steps.proofs.Assembled.{holds_or_not}
-use Rattle.its_steps.proofs.Facts.{Does, does}
+use Rattle.its_steps.proofs.Does.{Does, does}
 use Rattle.its_steps.proofs.Found.{both_of}
 use Rattle.its_steps.proofs.Helds.{holds_same, same_apart}
 use Rattle.its_steps.proofs.Machines.{next_of}
@@ -51,18 +51,24 @@ if_shard : (b : Bool) (xs ys : List (Option Translation)) → IsShard xs → IsS
 if_shard true xs ys x y = x
 if_shard false xs ys x y = y
 
-module _ (s : Setup) (expected to : Word) (c : Call) (r : Reply) (ch : ShardChange) (held : List Held) (may : MayCall s expected to c r ch held) (u : Plain) (m : IsOfMachine s u) (right : AllByRecursion (IsRight s expected u) held) where
+module _ (s : Setup) (a : Commit) (held : List Held) (may : MayCall s a held) (u : Plain) (m : IsOfMachine s u) (right : AllByRecursion (IsRight s a.expected u) held) where
+  abbrev to : Word
+  to = word_after a
+
+  abbrev c : Call
+  c = a.call
+
   abbrev before : Plain
-  before = left (assembled s held) c r
+  before = left (assembled s held) c a.reply
 
   abbrev u' : Plain
   u' = (answer u c).1
 
   abbrev owed : List Held
-  owed = renewed s to c ch before held
+  owed = renewed s a before held
 
-  pub d : Does s c r held u
-  d = does s expected held may.stands may.apart u m right c r may.answered
+  pub d : Does s a held u
+  d = does s a held may.stands may.apart u m right may.answered
 
   pub m' : IsOfMachine s u'
   m' = next_of s u c m
@@ -86,29 +92,25 @@ module _ (s : Setup) (expected to : Word) (c : Call) (r : Reply) (ch : ShardChan
 
   -- ---- translations that stay
 
-  maps_steady : (its : ℕ) (x : Content) → Right s expected u (part.Maps its) x → IsSteady s its owed (part.Maps its) x (content_in s to c ch before (part.Maps its) x)
+  maps_steady : (its : ℕ) (x : Content) → Right s a.expected u (part.Maps its) x → IsSteady s its owed (part.Maps its) x (content_in s a before (part.Maps its) x)
       → (dev ev : ℕ) (t : Target) → located (translator u its) dev ev ≡ Ok t → (located (translator before its) dev ev ≡ Ok t) ⊎ IsWithout s its dev ev owed
   maps_steady its (Maps x) is steady dev ev t e =
       let same : translator u its ≡ x = get_or_from_slice_get u.translators its x no_translator is in
       steady refl dev ev t (subst (λ (y : Translator). located y dev ev ≡ Ok t) same e)
-  maps_steady its (Mem x) is steady dev ev t e = absurd is
-  maps_steady its (Shard x) is steady dev ev t e = absurd is
-  maps_steady its (Redist x) is steady dev ev t e = absurd is
+  maps_steady its x is steady dev ev t e = absurd is
 
-  redist_steady : (its v : ℕ) (x : Content) → Right s expected u (part.Redist (record { 0 = v })) x
-      → IsSteady s its owed (part.Redist (record { 0 = v })) x (content_in s to c ch before (part.Redist (record { 0 = v })) x) → is_on u v ≡ true → is_on before v ≡ true
-  redist_steady its v (Maps x) is steady on = absurd is
-  redist_steady its v (Mem x) is steady on = absurd is
-  redist_steady its v (Shard x) is steady on = absurd is
+  redist_steady : (its v : ℕ) (x : Content) → Right s a.expected u (part.Redist (record { 0 = v })) x
+      → IsSteady s its owed (part.Redist (record { 0 = v })) x (content_in s a before (part.Redist (record { 0 = v })) x) → is_on u v ≡ true → is_on before v ≡ true
   redist_steady its v (Redist x) is steady on =
       let same : redistributor u v ≡ x = get_or_from_slice_get u.redistributors v x no_redistributor is in
       steady (ap (λ (y : Redistributor). y.bases.on) (sym same) ∙ on)
+  redist_steady its v x is steady on = absurd is
 
   still_located : (its : ℕ) → its < translator_count s → AreSteady s its owed held owed → (dev ev : ℕ) (t : Target) → located (translator u its) dev ev ≡ Ok t
       → (located (translator u' its) dev ev ≡ Ok t) ⊎ IsWithout s its dev ev owed
   still_located its lt steady dev ev t e = ⊎_elim
       (λ (h : Holds (part.Maps its) held).
-      let x = steady_at s to c ch before expected u its owed held steady right (part.Maps its) h in
+      let x = steady_at s a before a.expected u its owed held steady right (part.Maps its) h in
       ⊎_elim (λ (y : located (translator before its) dev ev ≡ Ok t). inl (subst (λ (z : Translator). located z dev ev ≡ Ok t) (translator_held its h) y)) (λ y. inr y) (maps_steady its x.0 x.1 x.2 dev ev t e))
       (λ (n : ¬ Holds (part.Maps its) held). inl (subst (λ (z : Translator). located z dev ev ≡ Ok t) (translator_other its n) e))
       (holds_or_not s (part.Maps its) lt held may.stands)
@@ -116,7 +118,7 @@ module _ (s : Setup) (expected to : Word) (c : Call) (r : Reply) (ch : ShardChan
   still_on : (its v : ℕ) → AreSteady s its owed held owed → is_on u v ≡ true → is_on u' v ≡ true
   still_on its v steady on = ⊎_elim
       (λ (h : Holds (part.Redist (record { 0 = v })) held).
-      let x = steady_at s to c ch before expected u its owed held steady right (part.Redist (record { 0 = v })) h in
+      let x = steady_at s a before a.expected u its owed held steady right (part.Redist (record { 0 = v })) h in
       ap (λ (y : Redistributor). y.bases.on) (sym (redist_held v h)) ∙ redist_steady its v x.0 x.1 x.2 on)
       (λ (n : ¬ Holds (part.Redist (record { 0 = v })) held). ap (λ (y : Redistributor). y.bases.on) (sym (redist_other v n)) ∙ on)
       (holds_or_not s (part.Redist (record { 0 = v })) (let within = on_within u v on in omega (arith, within, vcpus u m)) held may.stands)
@@ -130,7 +132,7 @@ module _ (s : Setup) (expected to : Word) (c : Call) (r : Reply) (ch : ShardChan
   -- ---- entries
 
   -- what a fill puts in is what translation gives after the call
-  filled_is : (its n : ℕ) (dev : DeviceId) (ev : EventId) (t : Target) → MayFill s c before held dev ev t → its ≡ its_of c → shard_number dev.0 ev.0 s.shards ≡ n → IsCached s to u' its n (entry dev ev (stamp_of to its) t)
+  filled_is : (its n : ℕ) (dev : DeviceId) (ev : EventId) (t : Target) → MayFill s c before held dev ev t → its ≡ its_of c → shard_number dev.0 ev.0 s.shards ≡ n → IsCached s to u' its n (entry dev ev (stamp_of s to its) t)
   filled_is its n dev ev t f is here =
       let x = translated_is before (its_of c) dev.0 ev.0 t f.agrees in
       let sent : translated u' (its_of c) dev.0 ev.0 ≡ Ok t =
@@ -145,19 +147,17 @@ module _ (s : Setup) (expected to : Word) (c : Call) (r : Reply) (ch : ShardChan
         current = λ _. subst (λ (i : ℕ). translated u' i dev.0 ev.0 ≡ Ok t) (sym is) sent;
       }
 
-  fill_is : (x : ShardChange) → MayChange s c x before held → (its n : ℕ) (e : Translation) → IsFill to c x its e → shard_number e.dev.0 e.ev.0 s.shards ≡ n → IsCached s to u' its n e
+  fill_is : (x : ShardChange) → MayChange s c x before held → (its n : ℕ) (e : Translation) → IsFill s to c x its e → shard_number e.dev.0 e.ev.0 s.shards ≡ n → IsCached s to u' its n e
   fill_is (change.Fill dev ev t) f its n e is here = subst (IsCached s to u' its n) (sym is.1) (filled_is its n dev ev t f is.0 (ap (λ (y : Translation). shard_number y.dev.0 y.ev.0 s.shards) (sym is.1) ∙ here))
-  fill_is change.Keep f its n e is here = absurd is
-  fill_is (change.Drop dev ev) f its n e is here = absurd is
-  fill_is change.Empty f its n e is here = absurd is
+  fill_is x f its n e is here = absurd is
 
-  is_fill : (its n : ℕ) (e : Translation) → IsFill to c ch its e → shard_number e.dev.0 e.ev.0 s.shards ≡ n → IsCached s to u' its n e
-  is_fill its n e is here = fill_is ch may.may_change its n e is here
+  is_fill : (its n : ℕ) (e : Translation) → IsFill s to c a.change its e → shard_number e.dev.0 e.ev.0 s.shards ≡ n → IsCached s to u' its n e
+  is_fill its n e is here = fill_is a.change may.may_change its n e is here
 
   -- an entry that was there, where its pair's may not be gone
-  old_is : (its n : ℕ) (e : Translation) → its < translator_count s → IsCached s expected u its n e → ¬ IsWithout s its e.dev.0 e.ev.0 owed → (StampRenews s to c ch its held owed → IsCached s to u' its n e) → IsCached s to u' its n e
+  old_is : (its n : ℕ) (e : Translation) → its < translator_count s → IsCached s a.expected u its n e → ¬ IsWithout s its e.dev.0 e.ev.0 owed → (StampRenews s a its held owed → IsCached s to u' its n e) → IsCached s to u' its n e
   old_is its n e lt old kept renews = ⊎_elim
-      (λ (t : StampStays s expected to its held owed). record {
+      (λ (t : StampStays s a its held owed). record {
         shard = old.shard;
         stamp = omega (arith, old.stamp, t.same);
         vcpu = old.vcpu;
@@ -166,27 +166,27 @@ module _ (s : Setup) (expected to : Word) (c : Call) (r : Reply) (ch : ShardChan
             (still_translated its lt t.steady e.dev.0 e.ev.0 e.target (old.current (is ∙ t.same)));
       })
       (λ rest. ⊎_elim
-      (λ (t : StampRises s expected to its held). record { shard = old.shard; stamp = omega (arith, old.stamp, t.next); vcpu = old.vcpu; lpi = old.lpi; current = λ is. absurd (omega (arith, is, old.stamp, t.next)) })
+      (λ (t : StampRises s a its held). record { shard = old.shard; stamp = omega (arith, old.stamp, t.next); vcpu = old.vcpu; lpi = old.lpi; current = λ is. absurd (omega (arith, is, old.stamp, t.next)) })
       renews rest)
       (may.stamps its lt)
 
   -- ---- shards
 
   apart_owed : Apart owed
-  apart_owed = same_apart held owed (same_renewed s to c ch before held may.out) may.apart
+  apart_owed = same_apart held owed (same_renewed s a before held may.out) may.apart
 
   owed_held : (p : Part) → Holds p owed → Holds p held
-  owed_held p h = holds_same p held owed (same_renewed s to c ch before held may.out) h
+  owed_held p h = holds_same p held owed (same_renewed s a before held may.out) h
 
   changed_shard : (x : ShardChange) (its n : ℕ) (ways : List (Option Translation)) → IsShard ways → IsShard (changed s to c x its n ways)
   unfolding changed
   changed_shard change.Keep its n ways h = h
-  changed_shard (change.Fill dev ev t) its n ways h = if_shard (is_shard_of s c dev ev its n) (filled ways (entry dev ev (stamp_of to its) t)) ways (filled_lawful ways (entry dev ev (stamp_of to its) t) h).shard h
+  changed_shard (change.Fill dev ev t) its n ways h = if_shard (is_shard_of s c dev ev its n) (filled ways (entry dev ev (stamp_of s to its) t)) ways (filled_lawful ways (entry dev ev (stamp_of s to its) t) h).shard h
   changed_shard (change.Drop dev ev) its n ways h = if_shard (is_shard_of s c dev ev its n) (dropped ways dev.0 ev.0) ways (dropped_shard ways dev.0 ev.0 h) h
-  changed_shard change.Empty its n ways h = empty_shard
+  changed_shard change.Empty its n ways h = if_shard (eqb its (its_of c)) no_entries ways empty_shard h
 
   abbrev Comes : ShardChange → ℕ → ℕ → List (Option Translation) → Translation → Type 0
-  Comes x its n ways e = (IsFill to c x its e × (shard_number e.dev.0 e.ev.0 s.shards ≡ n)) ⊎ ((k : ℕ) × (get_or ways k None ≡ Some e))
+  Comes x its n ways e = (IsFill s to c x its e × (shard_number e.dev.0 e.ev.0 s.shards ≡ n)) ⊎ ((k : ℕ) × (get_or ways k None ≡ Some e))
 
   changed_entry : (x : ShardChange) (its n : ℕ) (ways : List (Option Translation)) → IsShard ways → (i : ℕ) (e : Translation) → get_or (changed s to c x its n ways) i None ≡ Some e → Comes x its n ways e
   unfolding changed
@@ -194,49 +194,53 @@ module _ (s : Setup) (expected to : Word) (c : Call) (r : Reply) (ch : ShardChan
   changed_entry (change.Fill dev ev t) its n ways h i e there = at (is_shard_of s c dev ev its n) refl there
     where
       new : Translation
-      new = entry dev ev (stamp_of to its) t
+      new = entry dev ev (stamp_of s to its) t
 
-      at : (b : Bool) → is_shard_of s c dev ev its n ≡ b → get_or (cond b (filled ways (entry dev ev (stamp_of to its) t)) ways) i None ≡ Some e → Comes (change.Fill dev ev t) its n ways e
+      at : (b : Bool) → is_shard_of s c dev ev its n ≡ b → get_or (cond b (filled ways (entry dev ev (stamp_of s to its) t)) ways) i None ≡ Some e → Comes (change.Fill dev ev t) its n ways e
       at false is there = inr (i, there)
       at true is there =
           let tests = both_of (eqb its (its_of c)) (eqb n (shard_number dev.0 ev.0 s.shards)) is in
           ⊎_elim
-          (λ (f : e ≡ entry dev ev (stamp_of to its) t). inl ((eqb-true its (its_of c) tests.0, f), (ap (λ (y : Translation). shard_number y.dev.0 y.ev.0 s.shards) f ∙ sym (eqb-true n (shard_number dev.0 ev.0 s.shards) tests.1))))
+          (λ (f : e ≡ entry dev ev (stamp_of s to its) t). inl ((eqb-true its (its_of c) tests.0, f), (ap (λ (y : Translation). shard_number y.dev.0 y.ev.0 s.shards) f ∙ sym (eqb-true n (shard_number dev.0 ev.0 s.shards) tests.1))))
           (λ (o : get_or ways i None ≡ Some e). inr (i, o))
-          ((filled_lawful ways (entry dev ev (stamp_of to its) t) h).entries i e there)
+          ((filled_lawful ways (entry dev ev (stamp_of s to its) t) h).entries i e there)
   changed_entry (change.Drop dev ev) its n ways h i e there = at (is_shard_of s c dev ev its n) there
     where
       at : (b : Bool) → get_or (cond b (dropped ways dev.0 ev.0) ways) i None ≡ Some e → Comes (change.Drop dev ev) its n ways e
       at false there = inr (i, there)
       at true there = inr (i, (dropped_kept dev.0 ev.0 ways i e there).0)
-  changed_entry change.Empty its n ways h i e there = let t : None ≡ Some e = sym (none_at i) ∙ there in absurd (none_some e t)
+  changed_entry change.Empty its n ways h i e there = at (eqb its (its_of c)) there
     where
-      none_some : (e : Translation) → None ≡ Some e → ⊥
-      none_some e t = cc
+      none_some : None ≡ Some e → ⊥
+      none_some t = cc
+
+      at : (b : Bool) → get_or (cond b no_entries ways) i None ≡ Some e → Comes change.Empty its n ways e
+      at false there = inr (i, there)
+      at true there = absurd (none_some (sym (none_at i) ∙ there))
 
   is_own : (e : Translation) → is_of e.dev.0 e.ev.0 (Some e) ≡ true
   is_own e = both_true (eq-eqb e.dev.0 e.dev.0 refl) (eq-eqb e.ev.0 e.ev.0 refl)
 
-  pub cache_held : (its n : ℕ) (ways : List (Option Translation)) → its < translator_count s → Owes (part.Shard its n) (Shard ways) held → IsCache s expected u its n ways → IsCache s to u' its n (changed s to c ch its n ways)
+  pub cache_held : (its n : ℕ) (ways : List (Option Translation)) → its < translator_count s → Owes (part.Shard its n) (Shard ways) held → IsCache s a.expected u its n ways → IsCache s to u' its n (changed s to c a.change its n ways)
   cache_held its n ways lt owes h =
-      let ways' : List (Option Translation) = changed s to c ch its n ways in
-      let own : Owes (part.Shard its n) (Shard ways') owed = owes_renewed s to c ch before (part.Shard its n) (Shard ways) held owes in
+      let ways' : List (Option Translation) = changed s to c a.change its n ways in
+      let own : Owes (part.Shard its n) (Shard ways') owed = owes_renewed s a before (part.Shard its n) (Shard ways) held owes in
       let is_kept : (i : ℕ) (e : Translation) → get_or ways' i None ≡ Some e → shard_number e.dev.0 e.ev.0 s.shards ≡ n → ¬ IsWithout s its e.dev.0 e.ev.0 owed = λ i e there here w.
       let other : Owes (part.Shard its n) (Shard w.ways) owed = subst (λ (k : ℕ). Owes (part.Shard its k) (Shard w.ways) owed) here w.owes in
       let same : w.ways ≡ ways' = ap ways_in (owes_once (part.Shard its n) (Shard w.ways) (Shard ways') owed apart_owed other own) in
       both_ways (is_of e.dev.0 e.ev.0 (Some e)) (ap (is_of e.dev.0 e.ev.0) (sym there) ∙ (ap (λ (ws : List (Option Translation)). is_of e.dev.0 e.ev.0 (get_or ws i None)) (sym same) ∙ w.none i)) (is_own e) in
       record {
-        shard = changed_shard ch its n ways h.shard;
+        shard = changed_shard a.change its n ways h.shard;
         entries = λ i e there. ⊎_elim
-            (λ (f : IsFill to c ch its e × (shard_number e.dev.0 e.ev.0 s.shards ≡ n)). is_fill its n e f.0 f.1)
+            (λ (f : IsFill s to c a.change its e × (shard_number e.dev.0 e.ev.0 s.shards ≡ n)). is_fill its n e f.0 f.1)
             (λ (o : (k : ℕ) × (get_or ways k None ≡ Some e)).
             let old = h.entries o.0 e o.1 in
             old_is its n e lt old (is_kept i e there old.shard)
-            (λ t. is_fill its n e (owes_all (HasFillsAlone to c ch its) (part.Shard its n) (Shard ways') owed own t.fills refl i e there) old.shard))
-            (changed_entry ch its n ways h.shard i e there);
+            (λ t. is_fill its n e (owes_all (HasFillsAlone s to c a.change its) (part.Shard its n) (Shard ways') owed own t.fills refl i e there) old.shard))
+            (changed_entry a.change its n ways h.shard i e there);
       }
 
-  pub cache_other : (its n : ℕ) (ways : List (Option Translation)) → its < translator_count s → n < s.shards → ¬ Holds (part.Shard its n) held → IsCache s expected u its n ways → IsCache s to u' its n ways
+  pub cache_other : (its n : ℕ) (ways : List (Option Translation)) → its < translator_count s → n < s.shards → ¬ Holds (part.Shard its n) held → IsCache s a.expected u its n ways → IsCache s to u' its n ways
   cache_other its n ways lt ln lacks h = record {
     shard = h.shard;
     entries = λ i e there.

@@ -7,22 +7,20 @@ use lib.ListN.{get_elem?}
 use Rattle.atomic_table.proofs.Lists.{set_here, set_else}
 use Rattle.its_types.specs.declared.machine.Part.{Part}
 use Rattle.its_types.specs.declared.machine.Word.{Word}
-use Rattle.its_plain.specs.declared.call.Call.{Call}
 use Rattle.its_plain.specs.declared.call.Entry.{Entry}
-use Rattle.its_plain.specs.declared.call.Reply.{Reply}
 use Rattle.its_steps.specs.Parts.{Setup}
 use Rattle.its_steps.specs.World.{View, World, loaded, has_split, split_off, has_joined, has_met, spent}
-use Rattle.its_steps.specs.declared.view.Standing.TheVariants.{Pass}
+use Rattle.its_steps.specs.declared.standing.Standing.TheVariants.{Pass}
 use Rattle.its_steps.specs.Good.{Good}
 use Rattle.its_steps.specs.Renewal.{renewal}
-use Rattle.its_steps.specs.Steps.{Core, IsGoodCore, Tries, Gets, Misses, loads, next_word, Commits, Splits, Joins, Meets, Moves, Does, StepsKeep, RunsKeep}
-use Rattle.its_steps.specs.declared.change.ShardChange.{ShardChange}
+use Rattle.its_steps.specs.Steps.{Core, IsGoodCore, Tries, Gets, Misses, loads, Commits, Splits, Joins, Meets, Moves, Does, StepsKeep, RunsKeep}
+use Rattle.its_steps.specs.declared.commit.Commit.{Commit}
 use Rattle.its_steps.specs.declared.event.Kind.{Kind}
 use Rattle.its_steps.specs.declared.event.Kind.TheVariants as kind
 use Rattle.its_steps.proofs.Holders.{holders}
 use Rattle.its_steps.proofs.Lists.{at_below}
 use Rattle.its_steps.proofs.Passes.{splits, joins, notes, meets}
-use Rattle.its_steps.proofs.Steps.{no_pass}
+use Rattle.its_steps.proofs.Views.{no_pass}
 use Rattle.its_steps.proofs.Together.{set_over}
 use Rattle.its_steps.proofs.Turns.{tries, takes_out, puts_home, releases}
 use Rattle.its_steps.proofs.Words.{keeps_load, keeps_miss, keeps_commit}
@@ -62,17 +60,15 @@ module _ (c : Core) (good : IsGoodCore c) (i : ℕ) (v : View) (at : get_elem? c
       (λ (g : Gets c i v p d). subst Keeps (sym g.leaves) (tries s h w good i v at passes p g.content t.stands g.free g.slot))
       (λ (m : Misses c i v p d). subst Keeps (sym m.leaves) (keeps_miss s h w good i v at passes p m.found)) t.does
 
-  commits_keep : (d : Core) (expected : Word) (stamp : ℕ) (call : Call) (reply : Reply) (change : ShardChange) → Commits c i v expected stamp call reply change d → IsGoodCore d
-  commits_keep d expected stamp call reply change t = dite (same_word w.word expected)
-      (λ e. subst Keeps (sym (t.found e)) (keeps_commit s h w good i v at passes expected (next_word expected stamp) call reply change (renewal s (next_word expected stamp) call reply change v.held) e (holders s expected (next_word expected stamp) call reply change v.held t.may)))
-      (λ ne. subst Keeps (sym (t.raced ne)) loads_keep)
+  commits_keep : (d : Core) (a : Commit) → Commits c i v a d → IsGoodCore d
+  commits_keep d a t = dite (same_word w.word a.expected) (λ e. subst Keeps (sym (t.found e)) (keeps_commit s h w good i v at passes a (renewal s a v.held) e (holders s a v.held t.may))) (λ ne. subst Keeps (sym (t.raced ne)) loads_keep)
 
   splits_keep : (d : Core) → Splits c i v d → IsGoodCore d
   splits_keep d t =
       let v1 : View = loaded v w.word h in
       let views1 : List View = set w.views i v1 in
       let here : get_elem? views1 i ≡ some v1 = set_here w.views i v1 (at_below w.views i v at) in
-      let two = splits s h _ loads_keep i v1 here passes t.root in
+      let two = splits s h _ loads_keep i v1 here passes t.root t.room in
       subst Keeps (sym t.leaves) (subst (λ (vs : List View). Good s h record w { views = vs ++ split_off v1 ∷ [] }) (set_over w.views i v1 (has_split v1)) two)
 
   -- the pass at i has a view more, one at j is spent, and then it loads the word
@@ -99,7 +95,7 @@ module _ (c : Core) (good : IsGoodCore c) (i : ℕ) (v : View) (at : get_elem? c
   moves_keep kind.Load d t = subst Keeps (sym t) loads_keep
   moves_keep (kind.Try p) d t = tries_keep d p t
   moves_keep (kind.TakeOut p) d t = subst Keeps (sym t.leaves) (takes_out s h w good i v at passes p t.content t.before t.behind t.held)
-  moves_keep (kind.Commit expected stamp call reply change) d t = commits_keep d expected stamp call reply change t
+  moves_keep (kind.Commit a) d t = commits_keep d a t
   moves_keep (kind.PutHome p) d t = subst Keeps (sym t.leaves) (puts_home s h w good i v at passes p t.content t.before t.behind t.held)
   moves_keep (kind.Release p) d t = subst Keeps (sym t.leaves) (releases s h w good i v at passes p t.content t.before t.behind t.held)
   moves_keep kind.Split d t = splits_keep d t

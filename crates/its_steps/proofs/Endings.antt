@@ -12,24 +12,21 @@ use Rattle.its_types.specs.Maps.{Maps as MapsOf}
 use Rattle.its_types.specs.declared.ids.Target.{Target}
 use Rattle.its_types.specs.declared.machine.Part.{Part}
 use Rattle.its_types.specs.declared.machine.Part.TheVariants as part
-use Rattle.its_types.specs.declared.machine.Word.{Word}
 use Rattle.its_types.specs.declared.translation.Bases.{Bases}
 use Rattle.its_plain.specs.Answer.{emptied, translator_written, written, command_left, is_idle, next_bytes, met_left, step_left, went_on, left}
 use Rattle.its_plain.specs.Commands.{ran}
 use Rattle.its_plain.specs.Plain.{Plain, Translator, Redistributor, translator, no_translator, no_redistributor, regs_of, maps_of}
 use Rattle.its_plain.specs.Translation.{located}
-use Rattle.its_plain.specs.declared.call.Call.{Call}
 use Rattle.its_plain.specs.declared.call.Call.TheVariants as call
 use Rattle.its_plain.specs.declared.call.Reason.{Reason}
 use Rattle.its_steps.specs.Endings.{Ending, Nothing, Pair, All, ending_in, ending_ran, ending_met, ending_of, Ends, Lasts, EndingsAreAll, EndingsAreDropped}
+use Rattle.its_steps.specs.Contents.{Content, Maps, Redist, Held}
 use Rattle.its_steps.specs.MayCall.{Owes, IsWithout, IsSteady, AreSteady}
-use Rattle.its_steps.specs.Parts.{Setup}
-use Rattle.its_steps.specs.declared.content.Content.{Content}
-use Rattle.its_steps.specs.declared.content.Content.TheVariants.{Maps, Mem, Shard, Redist}
-use Rattle.its_steps.specs.Renewal.{assembled, its_of, content_in, renewed}
-use Rattle.its_steps.specs.declared.held.Held.{Held}
-use Rattle.its_steps.specs.declared.change.ShardChange.{ShardChange}
-use Rattle.its_steps.proofs.Calm.{Leaves, Has, assembled_has, calm_leaves}
+use Rattle.its_steps.specs.Parts.{Setup, Has, Suits}
+use Rattle.its_steps.specs.Renewal.{its_of, content_in, renewed}
+use Rattle.its_steps.specs.declared.commit.Commit.{Commit}
+use Rattle.its_steps.proofs.Assembled.{had}
+use Rattle.its_steps.proofs.Leaving.{Leaves, calm_leaves}
 use Rattle.its_steps.proofs.Lasting.{LastsOk, lasts_self, lasts_then, lasts_translator, lasts_advanced, ran_lasts}
 use Rattle.its_steps.proofs.Routes.{Route}
 
@@ -121,6 +118,8 @@ all_endings u (call.Poke addr bytes) r = calm_lasts u _ 0 (calm_leaves u (call.P
 all_endings u (call.Peek addr count) r = lasts_self u 0 Nothing
 all_endings u (call.ReadReg its off size) r = lasts_self u its Nothing
 all_endings u (call.WriteReg its off size value) r = written_lasts u its off size value
+all_endings u (call.ReadGicr vcpu off size) r = lasts_self u 0 Nothing
+all_endings u (call.WriteGicr vcpu off size value) r = calm_lasts u _ 0 (calm_leaves u (call.WriteGicr vcpu off size value) r tt)
 all_endings u (call.Step its) r = step_lasts u its
 all_endings u call.Save r = calm_lasts u _ 0 (calm_leaves u call.Save r tt)
 
@@ -131,40 +130,35 @@ ends_or_not Nothing dev ev = inr (λ x. x)
 ends_or_not All dev ev = inl tt
 ends_or_not (Pair d v) dev ev = dite (ℕ_discrete dev d) (λ a. dite (ℕ_discrete ev v) (λ b. inl (a, b)) (λ ne. inr (λ x. ne x.1))) (λ ne. inr (λ x. ne x.0))
 
-module _ (s : Setup) (to : Word) (c : Call) (ch : ShardChange) (its : ℕ) (owed : List Held) (a z : Plain) (l : Lasts a z (its_of c) (ending_of a c)) (gone : (dev ev : ℕ) → its ≡ its_of c → Ends (ending_of a c) dev ev → IsWithout s its dev ev owed) where
-  maps_steady : (dev ev : ℕ) (t : Target) → located (translator a its) dev ev ≡ Ok t → (located (translator z its) dev ev ≡ Ok t) ⊎ IsWithout s its dev ev owed
-  maps_steady dev ev t e = dite (ℕ_discrete its (its_of c))
-      (λ own. elim (ends_or_not (ending_of a c) dev ev) [
+module _ (s : Setup) (u : Plain) (a : Commit) (its : ℕ) (owed : List Held) (gone : (dev ev : ℕ) → its ≡ its_of a.call → Ends (ending_of u a.call) dev ev → IsWithout s its dev ev owed) where
+  abbrev z : Plain
+  z = left u a.call a.reply
+
+  l : Lasts u z (its_of a.call) (ending_of u a.call)
+  l = all_endings u a.call a.reply
+
+  maps_steady : (dev ev : ℕ) (t : Target) → located (translator u its) dev ev ≡ Ok t → (located (translator z its) dev ev ≡ Ok t) ⊎ IsWithout s its dev ev owed
+  maps_steady dev ev t e = dite (ℕ_discrete its (its_of a.call))
+      (λ own. elim (ends_or_not (ending_of u a.call) dev ev) [
         | inl ends ↦ inr (gone dev ev own ends)
-        | inr lasts ↦ inl (subst (λ (i : ℕ). located (translator z i) dev ev ≡ Ok t) (sym own) (l.own dev ev t lasts (subst (λ (i : ℕ). located (translator a i) dev ev ≡ Ok t) own e)))
+        | inr lasts ↦ inl (subst (λ (i : ℕ). located (translator z i) dev ev ≡ Ok t) (sym own) (l.own dev ev t lasts (subst (λ (i : ℕ). located (translator u i) dev ev ≡ Ok t) own e)))
       ])
       (λ ne. inl (subst (λ (x : Translator). located x dev ev ≡ Ok t) (l.others its ne) e))
 
-  steady_one : (p : Part) (x : Content) → Has a p x → IsSteady s its owed p x (content_in s to c ch z p x)
+  steady_one : (p : Part) (x : Content) → (Suits p x → Has u p x) → IsSteady s its owed p x (content_in s a z p x)
   steady_one (part.Maps i) (Maps t) h = λ is dev ev target e.
       subst (λ (j : ℕ). (located (translator z j) dev ev ≡ Ok target) ⊎ IsWithout s its dev ev owed) (sym is)
-      (maps_steady dev ev target (subst (λ (y : Translator). located y dev ev ≡ Ok target) (sym (get_or_from_slice_get a.translators i t no_translator h) ∙ ap (translator a) is) e))
-  steady_one (part.Maps i) (Mem x) h = tt
-  steady_one (part.Maps i) (Shard x) h = tt
-  steady_one (part.Maps i) (Redist x) h = tt
-  steady_one part.Mem (Maps x) h = tt
-  steady_one part.Mem (Mem x) h = tt
-  steady_one part.Mem (Shard x) h = tt
-  steady_one part.Mem (Redist x) h = tt
-  steady_one (part.Shard i n) (Maps x) h = tt
-  steady_one (part.Shard i n) (Mem x) h = tt
-  steady_one (part.Shard i n) (Shard x) h = tt
-  steady_one (part.Shard i n) (Redist x) h = tt
-  steady_one (part.Redist vcpu) (Maps x) h = tt
-  steady_one (part.Redist vcpu) (Mem x) h = tt
-  steady_one (part.Redist vcpu) (Shard x) h = tt
-  steady_one (part.Redist vcpu) (Redist r) h = λ on.
-      ap (λ (b : Bases). b.on) (sym (l.bases vcpu.0)) ∙ (ap (λ (y : Redistributor). y.bases.on) (get_or_from_slice_get a.redistributors vcpu.0 r no_redistributor h) ∙ on)
+      (maps_steady dev ev target (subst (λ (y : Translator). located y dev ev ≡ Ok target) (sym (get_or_from_slice_get u.translators i t no_translator (h tt)) ∙ ap (translator u) is) e))
+  steady_one (part.Redist vcpu) (Redist r) h = λ on. l.on vcpu.0 (ap (λ (y : Redistributor). y.bases.on) (get_or_from_slice_get u.redistributors vcpu.0 r no_redistributor (h tt)) ∙ on)
+  steady_one p x h = tt
 
-  steady_all : (held : List Held) → ((p : Part) (x : Content) → Owes p x held → Has a p x) → AreSteady s its owed held (renewed s to c ch z held)
+  pub steady_all : (held : List Held) → ((p : Part) (x : Content) → Suits p x → Owes p x held → Has u p x) → AreSteady s its owed held (renewed s a z held)
   steady_all [] has = tt
-  steady_all (x ∷ xs) has = (steady_one x.part x.owed (has x.part x.owed (inl (refl, refl))), steady_all xs (λ p y o. has p y (inr o)))
+  steady_all (x ∷ xs) has = (steady_one x.part x.owed (λ suits. has x.part x.owed suits (inl (refl, refl))), steady_all xs (λ p y suits o. has p y suits (inr o)))
 
 pub dropped_endings : EndingsAreDropped
-dropped_endings s to c r ch its owed held vcpus apart st gone =
-    let a : Plain = assembled s held in steady_all s to c ch its owed a (left a c r) (all_endings a c r) gone held (assembled_has s vcpus held apart st)
+dropped_endings s u a its owed held has gone = steady_all s u a its owed gone held (λ p x suits o. had u held has p x o)
+
+-- no call ends what nothing says
+pub none_ends : (e : Ending) → e ≡ Nothing → (dev ev : ℕ) → Ends e dev ev → ⊥
+none_ends e is dev ev ends = subst (λ (x : Ending). Ends x dev ev) is ends

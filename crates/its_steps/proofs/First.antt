@@ -14,13 +14,13 @@ use Rattle.xlate_cache.specs.Ways.{no_entries}
 use Rattle.xlate_cache.specs.declared.entry.Entry.{Entry as Translation}
 use Rattle.xlate_cache.proofs.Sets.{none_at, empty_shard}
 use Rattle.its_steps.specs.Parts.{Setup, Stands, index_of, part_count, translator_count, vcpu_count}
-use Rattle.its_steps.specs.declared.content.Content.{Content}
-use Rattle.its_steps.specs.declared.content.Content.TheVariants.{Maps, Mem, Shard, Redist}
-use Rattle.its_steps.specs.World.{View, first_word, first_view, first_slots, first_world}
+use Rattle.its_steps.specs.Contents.{Content, Maps, Mem, Shard, Redist}
+use Rattle.its_steps.specs.World.{RootView, View, first_word, first_view, first_slots, first_world}
 use Rattle.its_steps.specs.Good.{IsHome, IsPass, Good}
 use Rattle.its_steps.specs.Laws.{FirstIsGood}
 use Rattle.its_steps.proofs.Indexes.{row_below}
-use Rattle.its_steps.proofs.Steps.{no_pass}
+use Rattle.its_steps.proofs.Stamps.{stamp_zero}
+use Rattle.its_steps.proofs.Views.{no_pass}
 
 -- an element behind the first list
 past : {A : Type 0} (xs ys : List A) (n j : ℕ) (a : A) → n ≡ length xs + j → get_elem? ys j ≡ some a → get_elem? (xs ++ ys) n ≡ some a
@@ -98,29 +98,38 @@ module _ (s : Setup) (sound : IsSound s.start) where
   one_view zero v e = (refl, some-injective (first_view s) v e)
   one_view (suc i) v e = absurd (some-ne-none v (sym e))
 
-  first_pass : IsPass s [] first_word (replicate (part_count s) 0) (first_slots s) 1 [] (λ n. n) 0 (first_view s)
-  first_pass = record { setup = refl; seat_is = refl; given = omega arith; present = λ e. e; seen = ([], refl); told = ([], refl); mine = refl; place = refl; last = λ _. refl; apart = tt; held = tt }
+  abbrev none_yet : RootView
+  none_yet = record { made = 1; ended = [] }
+
+  first_pass : IsPass s [] first_word (replicate (part_count s) 0) (first_slots s) (λ n. n) none_yet 0 (first_view s)
+  first_pass = record {
+    setup = refl;
+    sits = record { seat_is = refl; given = omega arith; present = λ e. e };
+    knows = record { seen = ([], refl); told = ([], refl); mine = refl; place = refl; last = λ _. refl };
+    holds = record { apart = tt; held = tt };
+  }
 
   first_good : Good s [] (first_world s)
   first_good = record {
-    sound = sound;
-    legal = tt;
-    place = refl;
-    within = record { place = omega arith; stamps = λ its lt. omega arith };
+    history = record { sound = sound; legal = tt; place = refl; within = record { place = omega arith; stamps = λ its lt. omega (arith, stamp_zero (translator_count s) its) } };
     seat = λ n. n;
-    made = 1;
-    ended = [];
-    root = record { view = first_view s; at = refl; passes = refl; is = (refl, refl, refl) };
-    each_number = λ n lt. let z : 0 ≡ n = omega (arith, lt) in inl record { view = first_view s; at = ap (get_elem? (first_view s ∷ [])) (sym z); passes = refl; is = z };
-    distinct = tt;
-    whole = tt;
-    passes = tt;
-    latest = (0, omega arith, record { view = first_view s; at = refl; passes = refl; is = refl });
-    views = λ i v e pv. let o = one_view i v e in subst (λ (x : ℕ × View). IsPass s [] first_word (replicate (part_count s) 0) (first_slots s) 1 [] (λ n. n) x.0 x.1) (λ d. (sym o.0 d, o.1 d)) first_pass;
+    root = none_yet;
+    numbers = record {
+      bound = omega arith;
+      first = record { view = first_view s; at = refl; passes = refl; is = (refl, refl) };
+      each = λ n lt. let z : 0 ≡ n = omega (arith, lt) in inl record { view = first_view s; at = ap (get_elem? (first_view s ∷ [])) (sym z); passes = refl; is = z };
+      distinct = tt;
+      whole = tt;
+      calls = tt;
+      latest = (0, omega arith, record { view = first_view s; at = refl; passes = refl; is = refl });
+    };
+    views = λ i v e pv. let o = one_view i v e in subst (λ (x : ℕ × View). IsPass s [] first_word (replicate (part_count s) 0) (first_slots s) (λ n. n) none_yet x.0 x.1) (λ d. (sym o.0 d, o.1 d)) first_pass;
     notes = λ i v e nv. absurd (no_pass v nv (ap (λ (x : View). x.standing) (sym (one_view i v e).1)));
-    wide = record { each_turn = length-replicate {A = ℕ} (part_count s) 0; each_slot = slots_long };
-    home = λ p st e. first_home p st;
-    taken = λ p n st e. absurd (omega (arith, sym e ∙ free (part_count s) (index_of s p)));
+    parts = record {
+      wide = record { each_turn = length-replicate {A = ℕ} (part_count s) 0; each_slot = slots_long };
+      home = λ p st e. first_home p st;
+      taken = λ p n st e. absurd (omega (arith, sym e ∙ free (part_count s) (index_of s p)));
+    };
   }
 
 pub first : FirstIsGood

@@ -2,7 +2,7 @@
 use Rattle.std.proofs.Common.{◌≡◌, ◌⊎◌, List, [], ◌∷◌, ◌++◌, refl, sym, subst, inl, inr, ⊎_elim}
 use Rattle.std.specs.List.{AllByRecursion}
 use Rattle.its_types.specs.declared.machine.Part.{Part}
-use Rattle.its_steps.specs.declared.held.Held.{Held}
+use Rattle.its_steps.specs.Contents.{Held}
 use Rattle.its_steps.specs.Good.{Holds, Apart}
 use Rattle.its_steps.specs.MayCommit.{AreSameParts}
 

@@ -7,6 +7,7 @@ use Rattle.gits_regs.specs.Registers.{collection_places, advanced}
 use Rattle.baser_place.specs.Places.{device_place}
 use Rattle.its_command.specs.declared.command.Command.{Command}
 use Rattle.its_command.specs.declared.command.Command.TheVariants as command
+use Rattle.gicr_regs.specs.Redistributors.{all_reread_at, reread_at}
 use Rattle.its_types.specs.Ranges.{is_device_id, is_lpi}
 use Rattle.its_types.specs.Lpis.{is_pending, with_lpi, with_lpis, without_lpi, with_config_byte}
 use Rattle.its_types.specs.Maps.{Maps, device_of, event_of, collection_of, device_mapped, device_unmapped, event_mapped, event_unmapped, collection_mapped, collection_unmapped}
@@ -14,28 +15,25 @@ use Rattle.its_types.specs.declared.ids.Target.{Target}
 use Rattle.its_types.specs.declared.ids.Vcpu.{Vcpu}
 use Rattle.its_types.specs.declared.machine.Profile.{Profile}
 use Rattle.its_types.specs.declared.machine.Profile.TheVariants.{One, Two}
+use Rattle.its_types.specs.declared.translation.Bases.{Bases}
 use Rattle.its_types.specs.declared.translation.Event.{Event}
 use Rattle.its_plain.specs.Plain.{Plain, Translator, Redistributor, translator, redistributor, no_translator, no_redistributor, regs_of, maps_of, pending_of, is_on, with_translator, with_maps, with_pending}
 use Rattle.its_plain.specs.Translation.{located}
-use Rattle.its_plain.specs.Commands.{◌>>=◌, ensure, lpi_set, lpi_cleared, lpi_moved, lpis_moved, all_moved, all_reread_at, reread_at, reread, event_at, target_at, intids_of, mapd, unmapd, followed, followed_in, mapc, unmapc, mapti, movi, lpi_at, int, clear, cleared_at, discard, inv, invall, movall, ran}
+use Rattle.its_plain.specs.Commands.{◌>>=◌, ensure, lpi_set, lpi_cleared, lpi_moved, lpis_moved, all_moved, reread, event_at, target_at, intids_of, mapd, unmapd, followed, followed_in, mapc, unmapc, mapti, movi, lpi_at, int, clear, cleared_at, discard, inv, invall, movall, ran}
 use Rattle.its_plain.specs.declared.call.Reason.{Reason}
 use Rattle.its_plain.specs.declared.call.Reason.TheVariants.{DeviceRange, SizeRange, TargetRange, CollectionRange, NoDevice, EventRange, IntidRange, LpisOff}
 use Rattle.plain_soundness.proofs.States.{enabled_within}
 use Rattle.its_steps.specs.Endings.{Ending, Nothing, Pair, All, ending_in, Ends, Lasts}
-use Rattle.its_steps.proofs.Calm.{Leaves, all_left, one_redist}
+use Rattle.its_steps.proofs.Leaving.{Leaves, all_left, leaves_if, one_redist, reread_bases}
 use Rattle.its_steps.proofs.Routes.{Route, route_of, located_by, with_device, without_device, with_other_event, with_event, without_event, with_collection, without_collection}
 
 -- ---- pending LPIs and configurations: no map changes
 
 leaves_then : (a b z : Plain) → Leaves a b → Leaves b z → Leaves a z
-leaves_then a b z p q = record { maps = λ i. p.maps i ∙ q.maps i; bases = λ v. p.bases v ∙ q.bases v }
-
-leaves_if : (a b z : Plain) (test : Bool) → Leaves a b → Leaves a z → Leaves a (if test then b else z)
-leaves_if a b z true p q = p
-leaves_if a b z false p q = q
+leaves_then a b z p q = record { maps = λ i. p.maps i ∙ q.maps i; on = λ v x. q.on v (p.on v x) }
 
 pending_left : (a : Plain) (v : ℕ) (xs : List ℕ) → Leaves a (with_pending a v xs)
-pending_left a v xs = one_redist a v (record (redistributor a v) { pending = xs }) refl
+pending_left a v xs = one_redist a v (record (redistributor a v) { pending = xs }) (λ on. on)
 
 moved_left : (a : Plain) (x from to : ℕ) → Leaves a (lpi_moved x from to a)
 moved_left a x from to =
@@ -57,18 +55,6 @@ cleared_left : (x : ℕ) (o : Option Vcpu) (a : Plain) → Leaves a (cleared_at 
 cleared_left x None a = all_left a
 cleared_left x (Some v) a = pending_left a v.0 (without_lpi x (pending_of a v.0))
 
-abbrev with_read : ℕ → Redistributor → Option ℕ → Redistributor
-with_read intid r None = r
-with_read intid r (Some byte) = record r { config = with_config_byte r.config intid byte }
-
-read_bases : (intid : ℕ) (r : Redistributor) (o : Option ℕ) → (with_read intid r o).bases ≡ r.bases
-read_bases intid r None = refl
-read_bases intid r (Some byte) = refl
-
-reread_bases : (memory : List Window) (intid : ℕ) (r : Redistributor) → (reread_at memory intid r).bases ≡ r.bases
-unfolding reread_at
-reread_bases memory intid r = cond_both r.bases.on _ r (λ (x : Redistributor). x.bases ≡ r.bases) (λ _. read_bases intid r (byte_at memory _)) (λ _. refl)
-
 all_reread_bases : (memory : List Window) (intids : List ℕ) (r : Redistributor) → (all_reread_at memory intids r).bases ≡ r.bases
 all_reread_bases memory [] r = refl
 all_reread_bases memory (intid ∷ intids) r = all_reread_bases memory intids (reread_at memory intid r) ∙ reread_bases memory intid r
@@ -79,18 +65,18 @@ mapped_bases f same (r ∷ rs) zero = sym (same r)
 mapped_bases f same (r ∷ rs) (suc v) = mapped_bases f same rs v
 
 reread_left : (intids : List ℕ) (a : Plain) → Leaves a (reread intids a)
-reread_left intids a = record { maps = λ i. refl; bases = λ v. mapped_bases (all_reread_at a.memory intids) (all_reread_bases a.memory intids) a.redistributors v }
+reread_left intids a = record { maps = λ i. refl; on = λ v on. ap (λ (b : Bases). b.on) (sym (mapped_bases (all_reread_at a.memory intids) (all_reread_bases a.memory intids) a.redistributors v)) ∙ on }
 
 -- ---- what lasts
 
 pub lasts_self : (u : Plain) (i : ℕ) (e : Ending) → Lasts u u i e
-lasts_self u i e = record { own = λ dev ev t n l. l; others = λ j ne. refl; bases = λ v. refl }
+lasts_self u i e = record { own = λ dev ev t n l. l; others = λ j ne. refl; on = λ v on. on }
 
 pub lasts_then : (u w z : Plain) (i : ℕ) (e : Ending) → Lasts u w i e → Leaves w z → Lasts u z i e
 lasts_then u w z i e l k = record {
   own = λ dev ev t n loc. subst (λ (x : Translator). located x dev ev ≡ Ok t) (k.maps i) (l.own dev ev t n loc);
   others = λ j ne. l.others j ne ∙ k.maps j;
-  bases = λ v. l.bases v ∙ k.bases v;
+  on = λ v on. k.on v (l.on v on);
 }
 
 -- the translator is another one, by which the routes lead as before
@@ -101,7 +87,7 @@ lasts_translator u w i e x l f = record {
       let r = route_of (translator w i) dev ev t (l.own dev ev t n loc) in
       subst (λ (y : Translator). located y dev ev ≡ Ok t) (sym (get_or-set_same w.translators i x no_translator (enabled_within w i r.on))) (located_by x dev ev t (f dev ev t n r));
   others = λ j ne. l.others j ne ∙ sym (get_or-set_other w.translators i j x no_translator ne);
-  bases = l.bases;
+  on = l.on;
 }
 
 lasts_maps : (u w : Plain) (i : ℕ) (e : Ending) (m : Maps) → Lasts u w i e

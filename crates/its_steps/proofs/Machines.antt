@@ -2,7 +2,8 @@
 use Rattle.std.proofs.Common.{List, [], ◌∷◌, refl, ap, sym, ◌∙◌}
 use Rattle.its_plain.specs.Answer.{answer}
 use Rattle.its_plain.specs.History.{after}
-use Rattle.its_plain.specs.Plain.{Plain, Layout}
+use Rattle.its_plain.specs.Plain.{Plain}
+use Rattle.its_plain.specs.declared.layout.Layout.{Layout}
 use Rattle.its_plain.specs.Sound.{IsSound}
 use Rattle.its_plain.specs.declared.call.Call.{Call}
 use Rattle.its_plain.specs.declared.call.Entry.{Entry}

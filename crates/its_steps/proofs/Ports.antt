@@ -1,99 +1,156 @@
--- Calls that need few parts.
-use Rattle.std.proofs.Common.{◌≡◌, ℕ, ◌<◌, List, [], ◌∷◌, length, set, get_or, Option, Some, refl, ap, sym, ◌∙◌, inl, inr, arith, length-set, get_or-set_same}
-use Rattle.its_types.specs.Lpis.{with_lpi}
-use Rattle.its_types.specs.declared.ids.DeviceId.{DeviceId}
-use Rattle.its_types.specs.declared.ids.EventId.{EventId}
-use Rattle.its_types.specs.declared.ids.Target.{Target}
+-- Calls that need one redistributor, memory, or one translator's maps.
+use Rattle.std.proofs.Common.{◌≡◌, ℕ, Bool, false, ◌+◌, ◌<◌, if◌then◌else◌, List, [], ◌∷◌, length, set, refl, ap, sym, ◌∙◌, inl, arith, length-set, get_or-set_same}
+use Rattle.guest_windows.specs.Windows.{write_at}
+use Rattle.gits_regs.specs.Registers.{read_reg, write_reg}
 use Rattle.its_types.specs.declared.ids.Vcpu.{Vcpu}
+use Rattle.its_types.specs.declared.machine.Part.{Part}
 use Rattle.its_types.specs.declared.machine.Part.TheVariants as part
 use Rattle.its_types.specs.declared.machine.Word.{Word}
-use Rattle.its_plain.specs.Answer.{ack_of, lowest, taken, reply_of, left}
+use Rattle.its_plain.specs.Answer.{ack_of, lowest, taken, poke_reply, peek_reply, written, translator_written, reply_of, left}
 use Rattle.its_plain.specs.Parts.{footprint}
-use Rattle.its_plain.specs.Plain.{Plain, Redistributor, redistributor, no_redistributor, pending_of}
+use Rattle.its_plain.specs.Plain.{Plain, Translator, Redistributor, translator, redistributor, no_translator, no_redistributor}
+use Rattle.its_plain.specs.declared.call.Call.{Call}
 use Rattle.its_plain.specs.declared.call.Call.TheVariants as call
 use Rattle.its_plain.specs.declared.call.Reply.{Reply}
 use Rattle.its_plain.specs.declared.call.Reply.TheVariants as reply
-use Rattle.its_plain.specs.declared.call.Signal.TheVariants.{Delivered}
-use Rattle.xlate_cache.specs.Pairs.{shard_number}
-use Rattle.xlate_cache.specs.Ways.{found}
-use Rattle.xlate_cache.specs.declared.entry.Entry.{Entry as Translation}
-use Rattle.its_steps.specs.Calls.{HasVcpus, TakeMayCommit, HitMayCommit}
-use Rattle.its_steps.specs.Parts.{Setup, translator_count, vcpu_count, stamp_of}
-use Rattle.its_steps.specs.declared.content.Content.TheVariants.{Shard, Redist}
-use Rattle.its_steps.specs.World.{out}
-use Rattle.its_steps.specs.declared.held.Held.{Held}
-use Rattle.its_steps.specs.Good.{Holds, Apart}
+use Rattle.its_steps.specs.Calls.{staying, stamping, IsCalm, turns_off, peeked_in, TakeMayCommit, ShowMayCommit, PokeMayCommit, PeekMayCommit, ReadMayCommit, WriteMayCommit, WriteMayRise}
+use Rattle.its_steps.specs.Contents.{Content, Maps, Mem, Redist, Held}
+use Rattle.its_steps.specs.Endings.{Nothing, All, ending_of}
 use Rattle.its_steps.specs.MayCall.{IsAnswered, MayCall}
-use Rattle.its_steps.specs.Renewal.{assembled, changed, renewal}
-use Rattle.its_steps.specs.Steps.{next_word}
+use Rattle.its_steps.specs.Parts.{Setup, HasVcpus, Stands, translator_count, vcpu_count, stamp_of}
+use Rattle.its_steps.specs.Renewal.{assembled, renewal}
+use Rattle.its_steps.specs.World.{out}
 use Rattle.its_steps.specs.declared.change.ShardChange.TheVariants as change
+use Rattle.its_steps.proofs.Assembled.{assembled_has}
 use Rattle.its_steps.proofs.Calm.{calm_may}
+use Rattle.its_steps.proofs.Stamping.{IsEnough, nothing_may, all_may}
+
+-- one part is held
+module _ (s : Setup) (last : Word) (vcpus : HasVcpus s) (room : last.place < s.limits.place_last) (p : Part) (x : Content) (st : Stands s p) where
+  abbrev one : List Held
+  one = out p x ∷ []
+
+  -- a calm call that needs no more may be committed
+  one_may : (c : Call) (r : Reply) → IsCalm c → IsAnswered (assembled s one) c r one → MayCall s (staying last c r change.Keep) one
+  one_may c r calm answered = calm_may s last c r change.Keep one vcpus calm room ((λ h. h), tt) (st, tt) (refl, tt) (inl answered) tt
+
+  -- and so may any other, where what it ends is known
+  one_enough : (c : Call) (r : Reply) → IsAnswered (assembled s one) c r one → IsEnough s (assembled s one) last c r one
+  one_enough c r answered = record { has = assembled_has s vcpus one ((λ h. h), tt) (st, tt); room = room; stands = (st, tt); apart = ((λ h. h), tt); out = (refl, tt); answered = answered }
 
 -- ---- one redistributor
 
-here_is : (rs : List Redistributor) (v : ℕ) (r : Redistributor) → v < length rs → get_or (set rs v r) v no_redistributor ≡ r
-here_is rs v r lt = get_or-set_same rs v r no_redistributor lt
-
 module _ (s : Setup) (last : Word) (vcpu : Vcpu) (r : Redistributor) (vcpus : HasVcpus s) (st : vcpu.0 < vcpu_count s) (room : last.place < s.limits.place_last) where
-  abbrev one : List Held
-  one = out (part.Redist vcpu) (Redist r) ∷ []
+  abbrev held : List Held
+  held = out (part.Redist vcpu) (Redist r) ∷ []
+
+  abbrev a : Plain
+  a = assembled s held
 
   abbrev ack : Reply
   ack = reply.Ack (ack_of r (lowest r))
 
-  has_one : redistributor (assembled s one) vcpu.0 ≡ r
-  has_one = here_is s.start.redistributors vcpu.0 r (omega (arith, st, vcpus))
+  inside : vcpu.0 < length s.start.redistributors
+  inside = omega (arith, st, vcpus)
 
-  take_answered : IsAnswered s (call.Take vcpu) ack one
+  has_one : redistributor a vcpu.0 ≡ r
+  has_one = get_or-set_same s.start.redistributors vcpu.0 r no_redistributor inside
+
+  acked : ack ≡ reply.Ack (ack_of (redistributor a vcpu.0) (lowest (redistributor a vcpu.0)))
+  acked = ap (λ (x : Redistributor). reply.Ack (ack_of x (lowest x))) (sym has_one)
+
+  take_answered : IsAnswered a (call.Take vcpu) ack held
   unfolding footprint reply_of
-  take_answered = record { covers = (inl refl, tt); reply_is = ap (λ (x : Redistributor). reply.Ack (ack_of x (lowest x))) (sym has_one) }
+  take_answered = record { covers = (inl refl, tt); reply_is = acked }
 
-  take_leaves : renewal s (next_word last last.stamp) (call.Take vcpu) ack change.Keep one ≡ out (part.Redist vcpu) (Redist (taken r (lowest r))) ∷ []
+  take_leaves : renewal s (staying last (call.Take vcpu) ack change.Keep) held ≡ out (part.Redist vcpu) (Redist (taken r (lowest r))) ∷ []
   unfolding left
   take_leaves =
-      let a : Plain = assembled s one in
-      let inside : vcpu.0 < length (set s.start.redistributors vcpu.0 r) = omega (arith, st, vcpus, length-set s.start.redistributors vcpu.0 r) in
-      ap (λ (x : Redistributor). (let y : List Held = out (part.Redist vcpu) (Redist x) ∷ [] in y))
-      (here_is a.redistributors vcpu.0 (taken (redistributor a vcpu.0) (lowest (redistributor a vcpu.0))) inside ∙ ap (λ (x : Redistributor). taken x (lowest x)) has_one)
+      let after : Redistributor → Redistributor = λ x. taken x (lowest x) in
+      let long : vcpu.0 < length (set s.start.redistributors vcpu.0 r) = omega (arith, inside, length-set s.start.redistributors vcpu.0 r) in
+      λ d. out (part.Redist vcpu) (Redist ((get_or-set_same a.redistributors vcpu.0 (after (redistributor a vcpu.0)) no_redistributor long ∙ ap after has_one) d)) ∷ []
 
-  take_may : MayCall s last (next_word last last.stamp) (call.Take vcpu) ack change.Keep one
-  take_may = calm_may s last (call.Take vcpu) ack change.Keep one vcpus tt room ((λ h. h), tt) (st, tt) (refl, tt) (inl take_answered) tt
+  show_answered : IsAnswered a (call.Show vcpu) ack held
+  unfolding footprint reply_of
+  show_answered = record { covers = (inl refl, tt); reply_is = acked }
+
+  show_leaves : renewal s (staying last (call.Show vcpu) ack change.Keep) held ≡ held
+  unfolding left
+  show_leaves = λ d. out (part.Redist vcpu) (Redist (has_one d)) ∷ []
 
 pub takes : TakeMayCommit
-takes s last vcpu r vcpus st room = (take_may s last vcpu r vcpus st room, take_leaves s last vcpu r vcpus st room)
+takes s last vcpu r vcpus st room =
+    (one_may s last vcpus room (part.Redist vcpu) (Redist r) st (call.Take vcpu) (reply.Ack (ack_of r (lowest r))) tt (take_answered s last vcpu r vcpus st room), take_leaves s last vcpu r vcpus st room)
 
--- ---- hits
+pub shows : ShowMayCommit
+shows s last vcpu r vcpus st room =
+    (one_may s last vcpus room (part.Redist vcpu) (Redist r) st (call.Show vcpu) (reply.Ack (ack_of r (lowest r))) tt (show_answered s last vcpu r vcpus st room), show_leaves s last vcpu r vcpus st room)
 
-module _ (s : Setup) (last : Word) (its : ℕ) (dev : DeviceId) (ev : EventId) (target : Target) (ways : List (Option Translation)) (r : Redistributor) (vcpus : HasVcpus s) (it : its < translator_count s) (st : target.vcpu.0 < vcpu_count s)
-    (sh : shard_number dev.0 ev.0 s.shards < s.shards) (room : last.place < s.limits.place_last) (has : found ways dev.0 ev.0 (stamp_of last its) ≡ Some target) where
-  abbrev two : List Held
-  two = out (part.Redist target.vcpu) (Redist r) ∷ out (part.Shard its (shard_number dev.0 ev.0 s.shards)) (Shard ways) ∷ []
+-- ---- memory
 
-  abbrev sent : Reply
-  sent = reply.Signal (Delivered target.vcpu target.intid)
+pub pokes : PokeMayCommit
+unfolding footprint reply_of left
+pokes s last addr bytes memory vcpus room =
+    (one_may s last vcpus room part.Mem (Mem memory) tt (call.Poke addr bytes) (poke_reply (write_at memory addr.0 bytes)) tt record { covers = (inl refl, tt); reply_is = refl }, refl)
 
-  two_apart : Apart two
-  two_apart = ((λ h. no_shard h), ((λ h. h), tt))
-    where
-      no_shard : Holds (part.Redist target.vcpu) (out (part.Shard its (shard_number dev.0 ev.0 s.shards)) (Shard ways) ∷ []) → ⊥
-      no_shard (inl e) = cc
-      no_shard (inr h) = h
+pub peeks : PeekMayCommit
+unfolding footprint reply_of left
+peeks s last addr count memory vcpus room =
+    (one_may s last vcpus room part.Mem (Mem memory) tt (call.Peek addr count) (peek_reply (peeked_in memory addr.0 count)) tt record { covers = (inl refl, tt); reply_is = refl }, refl)
 
-  hit_leaves : renewal s (next_word last last.stamp) (call.Signal its dev ev) sent change.Keep two
-      ≡ out (part.Redist target.vcpu) (Redist (record r { pending = with_lpi target.intid.0 r.pending })) ∷ out (part.Shard its (shard_number dev.0 ev.0 s.shards)) (Shard ways) ∷ []
-  unfolding left changed
-  hit_leaves =
-      let a : Plain = assembled s two in
-      let inside : target.vcpu.0 < length (set s.start.redistributors target.vcpu.0 r) = omega (arith, st, vcpus, length-set s.start.redistributors target.vcpu.0 r) in
-      let has_one : redistributor a target.vcpu.0 ≡ r = here_is s.start.redistributors target.vcpu.0 r (omega (arith, st, vcpus)) in
-      ap (λ (x : Redistributor). (let y : List Held = out (part.Redist target.vcpu) (Redist x) ∷ out (part.Shard its (shard_number dev.0 ev.0 s.shards)) (Shard ways) ∷ [] in y))
-      (here_is a.redistributors target.vcpu.0 (record (redistributor a target.vcpu.0) { pending = with_lpi target.intid.0 (pending_of a target.vcpu.0) }) inside
-      ∙ ap (λ (x : Redistributor). record x { pending = with_lpi target.intid.0 x.pending }) has_one)
+-- ---- registers
 
-  hit_may : MayCall s last (next_word last last.stamp) (call.Signal its dev ev) sent change.Keep two
-  hit_may = calm_may s last (call.Signal its dev ev) sent change.Keep two vcpus tt room two_apart (st, ((it, sh), tt)) (refl, (refl, tt))
-      (inr record { its = its; dev = dev; ev = ev; target = target; call_is = refl; reply_is = refl; ways = ways; owes = inr (inl (refl, refl)); is_found = has; redist = inl refl }) tt
+module _ (s : Setup) (its : ℕ) (t : Translator) (it : its < translator_count s) where
+  abbrev maps : List Held
+  maps = out (part.Maps its) (Maps t) ∷ []
 
-pub hits : HitMayCommit
-hits s last its dev ev target ways r vcpus it st sh room has =
-    (hit_may s last its dev ev target ways r vcpus it st sh room has, hit_leaves s last its dev ev target ways r vcpus it st sh room has)
+  abbrev b : Plain
+  b = assembled s maps
+
+  has_maps : translator b its ≡ t
+  has_maps = get_or-set_same s.start.translators its t no_translator it
+
+  read_answered : (off size : ℕ) → IsAnswered b (call.ReadReg its off size) (reply.Value (read_reg t.regs off size)) maps
+  unfolding footprint reply_of
+  read_answered off size = record { covers = (inl refl, tt); reply_is = ap (λ (x : Translator). reply.Value (read_reg x.regs off size)) (sym has_maps) }
+
+  read_leaves : (last : Word) (off size : ℕ) → renewal s (staying last (call.ReadReg its off size) (reply.Value (read_reg t.regs off size)) change.Keep) maps ≡ maps
+  unfolding left
+  read_leaves last off size = λ d. out (part.Maps its) (Maps (has_maps d)) ∷ []
+
+  module _ (off size value : ℕ) where
+    abbrev write : Call
+    write = call.WriteReg its off size value
+
+    write_answered : IsAnswered b write reply.Ok maps
+    unfolding footprint reply_of
+    write_answered = record { covers = (inl refl, tt); reply_is = refl }
+
+    write_leaves : (last : Word) (stamp : ℕ) → renewal s (record { expected = last; stamp = stamp; call = write; reply = reply.Ok; change = change.Keep }) maps ≡ out (part.Maps its) (Maps (translator_written t (write_reg t.regs off size value))) ∷ []
+    unfolding left written
+    write_leaves last stamp =
+        let after : Translator → Translator = λ x. translator_written x (write_reg x.regs off size value) in
+        let there : its < length (set s.start.translators its t) = omega (arith, it, length-set s.start.translators its t) in
+        λ d. out (part.Maps its) (Maps ((get_or-set_same b.translators its (after (translator b its)) no_translator there ∙ ap after has_maps) d)) ∷ []
+
+    ends_nothing : turns_off t off size value ≡ false → ending_of b write ≡ Nothing
+    unfolding ending_of
+    ends_nothing stays_on = ap (λ (x : Translator). if turns_off x off size value then All else Nothing) has_maps ∙ ap (λ (y : Bool). if y then All else Nothing) stays_on
+
+pub reads : ReadMayCommit
+reads s last its off size t vcpus it room =
+    (one_may s last vcpus room (part.Maps its) (Maps t) it (call.ReadReg its off size) (reply.Value (read_reg t.regs off size)) tt (read_answered s its t it off size), read_leaves s its t it last off size)
+
+pub writes : WriteMayCommit
+writes s last its off size value t vcpus it room on =
+    let answered = write_answered s its t it off size value in (
+      nothing_may s (assembled s (maps s its t it)) last (call.WriteReg its off size value) reply.Ok (maps s its t it) (one_enough s last vcpus room (part.Maps its) (Maps t) it (call.WriteReg its off size value) reply.Ok answered) change.Keep tt (ends_nothing s its t it off size value on),
+      write_leaves s its t it off size value last last.stamp,
+    )
+
+pub rises : WriteMayRise
+rises s last its off size value t vcpus fits it room more =
+    let answered = write_answered s its t it off size value in (
+      all_may s (assembled s (maps s its t it)) last (call.WriteReg its off size value) reply.Ok (maps s its t it) (one_enough s last vcpus room (part.Maps its) (Maps t) it (call.WriteReg its off size value) reply.Ok answered) fits (inl refl) more,
+      write_leaves s its t it off size value last (stamping s last (call.WriteReg its off size value) reply.Ok (stamp_of s last its + 1) change.Keep).stamp,
+    )

@@ -15,7 +15,7 @@ use Rattle.its_plain.specs.Plain.{Translator}
 use Rattle.its_plain.specs.Translation.{◌>>=◌, ensure, located}
 use Rattle.its_plain.specs.declared.call.Cause.{Cause}
 use Rattle.its_plain.specs.declared.call.Cause.TheVariants.{Disabled, NoDevice, NoEvent, NoCollection}
-use Rattle.its_plain.proofs.Entries.{pair_total, pair_exact}
+use Rattle.its_types.proofs.PairOrder.{pair_total, pair_same}
 use Rattle.plain_soundness.proofs.FiniteMaps.{not_inserted, still_there}
 
 pub record Route (enabled : Bool) (m : Maps) (dev ev : ℕ) (t : Target) : Type 0 where
@@ -85,7 +85,7 @@ module _ (b : Bool) (m : Maps) (dev ev : ℕ) (t : Target) (r : Route b m dev ev
     device = r.device;
     device_is = not_inserted nat_cmp nat_cmp_total nat_cmp-IsAntisymmetric m.devices d x dev ne ∙ r.device_is;
     event = r.event;
-    event_is = still_there pair_cmp pair_total pair_exact m.events (λ k. not (eqb k.0 d)) (dev, ev) (not_same dev d ne) ∙ r.event_is;
+    event_is = still_there pair_cmp pair_total pair_same m.events (λ k. not (eqb k.0 d)) (dev, ev) (not_same dev d ne) ∙ r.event_is;
     vcpu = r.vcpu;
     vcpu_is = r.vcpu_is;
     target_is = r.target_is;
@@ -97,7 +97,7 @@ module _ (b : Bool) (m : Maps) (dev ev : ℕ) (t : Target) (r : Route b m dev ev
     device = r.device;
     device_is = still_there nat_cmp nat_cmp_total nat_cmp-IsAntisymmetric m.devices (λ k. not (eqb k d)) dev (not_same dev d ne) ∙ r.device_is;
     event = r.event;
-    event_is = still_there pair_cmp pair_total pair_exact m.events (λ k. not (eqb k.0 d)) (dev, ev) (not_same dev d ne) ∙ r.event_is;
+    event_is = still_there pair_cmp pair_total pair_same m.events (λ k. not (eqb k.0 d)) (dev, ev) (not_same dev d ne) ∙ r.event_is;
     vcpu = r.vcpu;
     vcpu_is = r.vcpu_is;
     target_is = r.target_is;
@@ -109,7 +109,7 @@ module _ (b : Bool) (m : Maps) (dev ev : ℕ) (t : Target) (r : Route b m dev ev
     device = r.device;
     device_is = r.device_is;
     event = r.event;
-    event_is = not_inserted pair_cmp pair_total pair_exact m.events (d, e) x (dev, ev) (λ same. ne (ap (λ (p : ℕ × ℕ). p.0) same, ap (λ (p : ℕ × ℕ). p.1) same)) ∙ r.event_is;
+    event_is = not_inserted pair_cmp pair_total pair_same m.events (d, e) x (dev, ev) (λ same. ne (ap (λ (p : ℕ × ℕ). p.0) same, ap (λ (p : ℕ × ℕ). p.1) same)) ∙ r.event_is;
     vcpu = r.vcpu;
     vcpu_is = r.vcpu_is;
     target_is = r.target_is;
@@ -124,7 +124,7 @@ module _ (b : Bool) (m : Maps) (dev ev : ℕ) (t : Target) (r : Route b m dev ev
     device = r.device;
     device_is = r.device_is;
     event = r.event;
-    event_is = still_there pair_cmp pair_total pair_exact m.events (λ k. not (is_pair d e k)) (dev, ev) (not_pair d e dev ev ne) ∙ r.event_is;
+    event_is = still_there pair_cmp pair_total pair_same m.events (λ k. not (is_pair d e k)) (dev, ev) (not_pair d e dev ev ne) ∙ r.event_is;
     vcpu = r.vcpu;
     vcpu_is = r.vcpu_is;
     target_is = r.target_is;

@@ -4,13 +4,13 @@ use Rattle.std.specs.List.{AllByRecursion}
 use mathlib.Core.Option.{none, some}
 use Rattle.atomic_table.proofs.Lists.{set_here}
 use Rattle.its_plain.specs.History.{after}
-use Rattle.its_steps.specs.Parts.{index_of}
-use Rattle.its_steps.specs.World.{View, got, took, kept}
 use Rattle.its_steps.specs.Good.{Holds, Apart, IsHeld, Good}
 use Rattle.its_steps.specs.Laws.{TakeKeeps, GiveKeeps, BringKeeps}
+use Rattle.its_steps.specs.Parts.{index_of}
+use Rattle.its_steps.specs.World.{View, got, took, kept}
 use Rattle.its_steps.proofs.Helds.{holds_but, apart_but, lone}
-use Rattle.its_steps.proofs.Lists.{prefix_self, at_below, all_but, all_here}
-use Rattle.its_steps.proofs.Steps.{pass, changed, same_turn}
+use Rattle.its_steps.proofs.Lists.{at_below, all_but, all_here}
+use Rattle.its_steps.proofs.Steps.{pass, holds, same_turn}
 use Rattle.its_steps.proofs.Turns.{tries, takes_out, puts_home, releases}
 
 pub set_over : {A : Type 0} (xs : List A) (i : ℕ) (a b : A) → set (set xs i a) i b ≡ set xs i b
@@ -34,25 +34,16 @@ gives s h w good i v at passes p c before behind e =
 
 pub brings : BringKeeps
 brings s h w good i v at passes x before behind e =
-    let f = pass s h w good i v at passes in
-    let hs : AllByRecursion (IsHeld s w.word (after s.start h) w.turns w.slots v.number) (before ++ x ∷ behind) = subst (AllByRecursion (IsHeld s w.word (after s.start h) w.turns w.slots v.number)) e f.held in
-    let apart : Apart (before ++ x ∷ behind) = subst Apart e f.apart in
-    changed s h w good i v at passes h w.word w.turns w.slots (record v { held = x ∷ (before ++ behind) }) passes refl refl refl (inr (refl, refl)) (prefix_self h) good.whole good.passes good.legal good.place good.within good.wide
+    let own = (pass s h w good i v at passes).holds in
+    let hs : AllByRecursion (IsHeld s w.word (after s.start h) w.turns w.slots v.number) (before ++ x ∷ behind) = subst (AllByRecursion (IsHeld s w.word (after s.start h) w.turns w.slots v.number)) e own.held in
+    let apart : Apart (before ++ x ∷ behind) = subst Apart e own.apart in
+    holds s h w good i v at passes (x ∷ (before ++ behind)) v.cache v.tries w.turns w.slots
     record {
-      setup = f.setup;
-      seat_is = f.seat_is;
-      given = f.given;
-      present = f.present;
-      seen = f.seen;
-      told = f.told;
-      mine = f.mine;
-      place = f.place;
-      last = f.last;
       apart = (lone before x behind apart, apart_but before x behind apart);
       held = (
         all_here (IsHeld s w.word (after s.start h) w.turns w.slots v.number) before x behind hs,
         all_but (IsHeld s w.word (after s.start h) w.turns w.slots v.number) before x behind hs,
       );
     }
-    (λ j u ne g. g) good.home
+    (λ n xs ne t. t) good.parts.wide good.parts.home
     (λ p n st t. ⊎_elim (λ (z : (n ≡ v.number) × Holds p v.held). inl (z.0, holds_but p before x behind (subst (Holds p) e z.1))) (λ z. inr z) (same_turn s h w good i v at passes p n st t))

@@ -1,66 +1,166 @@
--- Calls that end no current translation, so that the stamp may stay.
-use Rattle.std.specs.Prelude.{◌≡◌, ◌⊎◌, ℕ, ◌<◌, Option, Some, List, [], ◌∷◌, length}
+-- When each kind of call may be committed with the stamp as it is, told by the parts that it needs, and what it leaves in them.
+use Rattle.std.specs.Prelude.{◌≡◌, ◌⊎◌, ℕ, zero, suc, ◌+◌, ◌<◌, ◌≤◌, Bool, true, false, not, ◌&&◌, nat_lt, nat_le, if◌then◌else◌, Option, Some, None, unwrap_or, Ok, Err, List, [], ◌∷◌, length}
 use Rattle.std.specs.List.{AllByRecursion}
+use Rattle.guest_windows.specs.Windows.{Window, read_at, write_at}
+use Rattle.gits_regs.specs.Registers.{read_reg, write_reg}
+use Rattle.its_types.specs.Lpis.{with_lpi}
+use Rattle.its_types.specs.declared.ids.Addr.{Addr}
 use Rattle.its_types.specs.declared.ids.DeviceId.{DeviceId}
 use Rattle.its_types.specs.declared.ids.EventId.{EventId}
 use Rattle.its_types.specs.declared.ids.Target.{Target}
 use Rattle.its_types.specs.declared.ids.Vcpu.{Vcpu}
 use Rattle.its_types.specs.declared.machine.Part.TheVariants as part
 use Rattle.its_types.specs.declared.machine.Word.{Word}
-use Rattle.its_plain.specs.Answer.{ack_of, lowest, taken, left}
-use Rattle.its_plain.specs.Plain.{Redistributor}
+use Rattle.its_plain.specs.Answer.{ack_of, lowest, taken, poke_reply, peek_reply, translator_written, save_reply, save_left, left}
+use Rattle.its_plain.specs.Plain.{Plain, Translator, Redistributor, translator, redistributor}
+use Rattle.its_plain.specs.Regions.{savable}
+use Rattle.its_plain.specs.Translation.{located}
 use Rattle.its_plain.specs.declared.call.Call.{Call}
 use Rattle.its_plain.specs.declared.call.Call.TheVariants as call
+use Rattle.its_plain.specs.declared.call.Cause.{Cause}
+use Rattle.its_plain.specs.declared.call.Cause.TheVariants.{LpisOff}
 use Rattle.its_plain.specs.declared.call.Reply.{Reply}
 use Rattle.its_plain.specs.declared.call.Reply.TheVariants as reply
-use Rattle.its_plain.specs.declared.call.Signal.TheVariants.{Delivered}
-use Rattle.its_types.specs.Lpis.{with_lpi}
+use Rattle.its_plain.specs.declared.call.Signal.TheVariants.{Delivered, Dropped}
 use Rattle.xlate_cache.specs.Pairs.{shard_number}
-use Rattle.xlate_cache.specs.Ways.{found}
+use Rattle.xlate_cache.specs.Ways.{entry, filled, found}
 use Rattle.xlate_cache.specs.declared.entry.Entry.{Entry as Translation}
-use Rattle.its_steps.specs.Parts.{Setup, Stands, translator_count, vcpu_count, stamp_of}
-use Rattle.its_steps.specs.declared.content.Content.TheVariants.{Shard, Redist}
-use Rattle.its_steps.specs.World.{out}
-use Rattle.its_steps.specs.declared.held.Held.{Held}
+use Rattle.its_steps.specs.Contents.{Maps, Mem, Shard, Redist, Held}
 use Rattle.its_steps.specs.Good.{Apart}
-use Rattle.its_steps.specs.MayCommit.{IsOut}
 use Rattle.its_steps.specs.MayCall.{AreSteady, IsAnswered, IsHit, MayChange, MayCall}
-use Rattle.its_steps.specs.Renewal.{assembled, renewal}
-use Rattle.its_steps.specs.Steps.{next_word}
+use Rattle.its_steps.specs.MayCommit.{IsOut}
+use Rattle.its_steps.specs.Parts.{Setup, HasVcpus, HasStamps, Stands, IsOfMachine, translator_count, vcpu_count, stamp_of, stamp_with}
+use Rattle.its_steps.specs.Renewal.{assembled, its_of, renewal}
+use Rattle.its_steps.specs.World.{out}
 use Rattle.its_steps.specs.declared.change.ShardChange.{ShardChange}
 use Rattle.its_steps.specs.declared.change.ShardChange.TheVariants as change
+use Rattle.its_steps.specs.declared.commit.Commit.{Commit}
 
--- it writes no register and takes no command
+-- a commit with the stamp as it is
+abbrev pub staying : Word → Call → Reply → ShardChange → Commit
+staying last call reply change = record { expected = last; stamp = last.stamp; call = call; reply = reply; change = change }
+
+-- one that leaves another stamp of the call's translator
+abbrev pub stamping : Setup → Word → Call → Reply → ℕ → ShardChange → Commit
+stamping s last call reply stamp change = record { expected = last; stamp = stamp_with (translator_count s) last.stamp (its_of call) stamp; call = call; reply = reply; change = change }
+
+-- a pass that holds these parts may make the commit, and owes those from then on
+abbrev pub MayLeave : Setup → Commit → List Held → List Held → Type 0
+MayLeave s a held owed = MayCall s a held × (renewal s a held ≡ owed)
+
+-- ---- calls that end no current translation
+
+-- it writes no register of a translator and takes no command
 abbrev pub IsCalm : Call → Type 0
 IsCalm (call.WriteReg its off size value) = ⊥
 IsCalm (call.Step its) = ⊥
 IsCalm c = Unit {0}
 
--- the first state has just the redistributors that its layout says
-abbrev pub HasVcpus : Setup → Type 0
-HasVcpus s = length s.start.redistributors ≡ vcpu_count s
-
 -- a calm call changes neither where maps send events nor whether LPIs are on, whatever parts are held
 abbrev pub CalmCallsAreSteady : Type 0
-CalmCallsAreSteady = (s : Setup) (to : Word) (c : Call) (r : Reply) (ch : ShardChange) (its : ℕ) (owed held : List Held) → HasVcpus s → IsCalm c → Apart held → AllByRecursion (λ x. Stands s x.part) held
-    → AreSteady s its owed held (renewal s to c r ch held)
+CalmCallsAreSteady = (s : Setup) (a : Commit) (its : ℕ) (owed held : List Held) → HasVcpus s → IsCalm a.call → Apart held → AllByRecursion (λ x. Stands s x.part) held → AreSteady s its owed held (renewal s a held)
 
 -- so whoever holds its parts may commit it with the stamp as it is, and fill the pair's shard with what the maps say
 abbrev pub CalmCallsMayCommit : Type 0
 CalmCallsMayCommit = (s : Setup) (last : Word) (c : Call) (r : Reply) (ch : ShardChange) (held : List Held) → HasVcpus s → IsCalm c → last.place < s.limits.place_last → Apart held → AllByRecursion (λ x. Stands s x.part) held
-    → AllByRecursion IsOut held → IsAnswered s c r held ⊎ IsHit s last c r held → MayChange s c ch (left (assembled s held) c r) held → MayCall s last (next_word last last.stamp) c r ch held
+    → AllByRecursion IsOut held → IsAnswered (assembled s held) c r held ⊎ IsHit s (staying last c r ch) held → MayChange s c ch (left (assembled s held) c r) held → MayCall s (staying last c r ch) held
+
+-- ---- redistributors
 
 -- a redistributor alone is enough for an acknowledgement
 abbrev pub TakeMayCommit : Type 0
 TakeMayCommit = (s : Setup) (last : Word) (vcpu : Vcpu) (r : Redistributor) → HasVcpus s → vcpu.0 < vcpu_count s → last.place < s.limits.place_last
-    → MayCall s last (next_word last last.stamp) (call.Take vcpu) (reply.Ack (ack_of r (lowest r))) change.Keep (out (part.Redist vcpu) (Redist r) ∷ [])
-    × (renewal s (next_word last last.stamp) (call.Take vcpu) (reply.Ack (ack_of r (lowest r))) change.Keep (out (part.Redist vcpu) (Redist r) ∷ []) ≡ out (part.Redist vcpu) (Redist (taken r (lowest r))) ∷ [])
+    → MayLeave s (staying last (call.Take vcpu) (reply.Ack (ack_of r (lowest r))) change.Keep) (out (part.Redist vcpu) (Redist r) ∷ []) (out (part.Redist vcpu) (Redist (taken r (lowest r))) ∷ [])
+
+-- and to show what would be acknowledged
+abbrev pub ShowMayCommit : Type 0
+ShowMayCommit = (s : Setup) (last : Word) (vcpu : Vcpu) (r : Redistributor) → HasVcpus s → vcpu.0 < vcpu_count s → last.place < s.limits.place_last
+    → let held : List Held = out (part.Redist vcpu) (Redist r) ∷ [] in MayLeave s (staying last (call.Show vcpu) (reply.Ack (ack_of r (lowest r))) change.Keep) held held
+
+-- ---- guest memory
+
+-- memory alone is enough for a write of it
+abbrev pub PokeMayCommit : Type 0
+PokeMayCommit = (s : Setup) (last : Word) (addr : Addr) (bytes : List ℕ) (memory : List Window) → HasVcpus s → last.place < s.limits.place_last
+    → MayLeave s (staying last (call.Poke addr bytes) (poke_reply (write_at memory addr.0 bytes)) change.Keep) (out part.Mem (Mem memory) ∷ []) (out part.Mem (Mem (unwrap_or (write_at memory addr.0 bytes) memory)) ∷ [])
+
+-- 1 to 64 bytes, where one window has them
+abbrev pub peeked_in : List Window → ℕ → ℕ → Option (List ℕ)
+peeked_in memory address count = if nat_lt 0 count && nat_le count 64 then read_at memory address count else None
+
+-- and for a read
+abbrev pub PeekMayCommit : Type 0
+PeekMayCommit = (s : Setup) (last : Word) (addr : Addr) (count : ℕ) (memory : List Window) → HasVcpus s → last.place < s.limits.place_last
+    → let held : List Held = out part.Mem (Mem memory) ∷ [] in MayLeave s (staying last (call.Peek addr count) (peek_reply (peeked_in memory addr.0 count)) change.Keep) held held
+
+-- ---- registers
+
+-- a translator's maps alone are enough for a read of its registers
+abbrev pub ReadMayCommit : Type 0
+ReadMayCommit = (s : Setup) (last : Word) (its off size : ℕ) (t : Translator) → HasVcpus s → its < translator_count s → last.place < s.limits.place_last
+    → let held : List Held = out (part.Maps its) (Maps t) ∷ [] in MayLeave s (staying last (call.ReadReg its off size) (reply.Value (read_reg t.regs off size)) change.Keep) held held
+
+-- the write turns the translator off
+abbrev pub turns_off : Translator → ℕ → ℕ → ℕ → Bool
+turns_off t off size value = t.regs.enabled && not (write_reg t.regs off size value).regs.enabled
+
+-- and for a write that doesn't turn it off
+abbrev pub WriteMayCommit : Type 0
+WriteMayCommit = (s : Setup) (last : Word) (its off size value : ℕ) (t : Translator) → HasVcpus s → its < translator_count s → last.place < s.limits.place_last → turns_off t off size value ≡ false
+    → MayLeave s (staying last (call.WriteReg its off size value) reply.Ok change.Keep) (out (part.Maps its) (Maps t) ∷ []) (out (part.Maps its) (Maps (translator_written t (write_reg t.regs off size value))) ∷ [])
+
+-- and for any write, with the stamp one higher
+abbrev pub WriteMayRise : Type 0
+WriteMayRise = (s : Setup) (last : Word) (its off size value : ℕ) (t : Translator) → HasVcpus s → HasStamps s → its < translator_count s → last.place < s.limits.place_last → stamp_of s last its + 1 ≤ s.limits.stamp_last
+    → MayLeave s (stamping s last (call.WriteReg its off size value) reply.Ok (stamp_of s last its + 1) change.Keep) (out (part.Maps its) (Maps t) ∷ []) (out (part.Maps its) (Maps (translator_written t (write_reg t.regs off size value))) ∷ [])
+
+-- ---- signals
 
 -- a signal that is found in its pair's shard needs that and the target's redistributor
 abbrev pub HitMayCommit : Type 0
 HitMayCommit = (s : Setup) (last : Word) (its : ℕ) (dev : DeviceId) (ev : EventId) (target : Target) (ways : List (Option Translation)) (r : Redistributor) → HasVcpus s → its < translator_count s → target.vcpu.0 < vcpu_count s
-    → shard_number dev.0 ev.0 s.shards < s.shards → last.place < s.limits.place_last → found ways dev.0 ev.0 (stamp_of last its) ≡ Some target
-    → let held : List Held = out (part.Redist target.vcpu) (Redist r) ∷ out (part.Shard its (shard_number dev.0 ev.0 s.shards)) (Shard ways) ∷ [] in
-    MayCall s last (next_word last last.stamp) (call.Signal its dev ev) (reply.Signal (Delivered target.vcpu target.intid)) change.Keep held
-    × (renewal s (next_word last last.stamp) (call.Signal its dev ev) (reply.Signal (Delivered target.vcpu target.intid)) change.Keep held
-    ≡ out (part.Redist target.vcpu) (Redist (record r { pending = with_lpi target.intid.0 r.pending })) ∷ out (part.Shard its (shard_number dev.0 ev.0 s.shards)) (Shard ways) ∷ [])
+    → shard_number dev.0 ev.0 s.shards < s.shards → last.place < s.limits.place_last → found ways dev.0 ev.0 (stamp_of s last its) ≡ Some target
+    → let shard : Held = out (part.Shard its (shard_number dev.0 ev.0 s.shards)) (Shard ways) in
+    MayLeave s (staying last (call.Signal its dev ev) (reply.Signal (Delivered target.vcpu target.intid)) change.Keep)
+    (out (part.Redist target.vcpu) (Redist r) ∷ shard ∷ []) (out (part.Redist target.vcpu) (Redist (record r { pending = with_lpi target.intid.0 r.pending })) ∷ shard ∷ [])
+
+-- one that the maps send to a redistributor whose LPIs are on needs the maps too, and may fill its pair's shard
+abbrev pub FillMayCommit : Type 0
+FillMayCommit = (s : Setup) (last : Word) (its : ℕ) (dev : DeviceId) (ev : EventId) (target : Target) (t : Translator) (ways : List (Option Translation)) (r : Redistributor) → HasVcpus s → its < translator_count s → target.vcpu.0 < vcpu_count s
+    → shard_number dev.0 ev.0 s.shards < s.shards → last.place < s.limits.place_last → located t dev.0 ev.0 ≡ Ok target → r.bases.on ≡ true
+    → let n : ℕ = shard_number dev.0 ev.0 s.shards in
+    MayLeave s (staying last (call.Signal its dev ev) (reply.Signal (Delivered target.vcpu target.intid)) (change.Fill dev ev target))
+    (out (part.Redist target.vcpu) (Redist r) ∷ out (part.Shard its n) (Shard ways) ∷ out (part.Maps its) (Maps t) ∷ [])
+    (out (part.Redist target.vcpu) (Redist (record r { pending = with_lpi target.intid.0 r.pending })) ∷ out (part.Shard its n) (Shard (filled ways (entry dev ev (stamp_of s last its) target))) ∷ out (part.Maps its) (Maps t) ∷ [])
+
+-- one that the maps send nowhere needs the maps alone
+abbrev pub DropMayCommit : Type 0
+DropMayCommit = (s : Setup) (last : Word) (its : ℕ) (dev : DeviceId) (ev : EventId) (cause : Cause) (t : Translator) → HasVcpus s → its < translator_count s → last.place < s.limits.place_last → located t dev.0 ev.0 ≡ Err cause
+    → let held : List Held = out (part.Maps its) (Maps t) ∷ [] in MayLeave s (staying last (call.Signal its dev ev) (reply.Signal (Dropped cause)) change.Keep) held held
+
+-- one whose target's LPIs are off needs that redistributor too; the pair's shard was taken before that was seen, and stays as it was
+abbrev pub OffMayCommit : Type 0
+OffMayCommit = (s : Setup) (last : Word) (its : ℕ) (dev : DeviceId) (ev : EventId) (target : Target) (t : Translator) (ways : List (Option Translation)) (r : Redistributor) → HasVcpus s → its < translator_count s → target.vcpu.0 < vcpu_count s
+    → shard_number dev.0 ev.0 s.shards < s.shards → last.place < s.limits.place_last → located t dev.0 ev.0 ≡ Ok target → r.bases.on ≡ false
+    → let held : List Held = out (part.Redist target.vcpu) (Redist r) ∷ out (part.Shard its (shard_number dev.0 ev.0 s.shards)) (Shard ways) ∷ out (part.Maps its) (Maps t) ∷ [] in
+    MayLeave s (staying last (call.Signal its dev ev) (reply.Signal (Dropped LpisOff)) change.Keep) held held
+
+-- ---- saves
+
+-- of a state the maps of n translators, the last one got first
+abbrev pub maps_held : Plain → ℕ → List Held
+maps_held u zero = []
+maps_held u (suc n) = out (part.Maps n) (Maps (translator u n)) ∷ maps_held u n
+
+-- and n redistributors in front of other parts
+abbrev pub redists_held : Plain → ℕ → List Held → List Held
+redists_held u zero rest = rest
+redists_held u (suc n) rest = out (part.Redist (record { 0 = n })) (Redist (redistributor u n)) ∷ redists_held u n rest
+
+-- all maps of a state, its memory, and all redistributors, each got after the one behind it
+abbrev pub whole_held : Plain → List Held
+whole_held u = redists_held u (length u.redistributors) (out part.Mem (Mem u.memory) ∷ maps_held u (length u.translators))
+
+-- a save needs all but the shards
+abbrev pub SaveMayCommit : Type 0
+SaveMayCommit = (s : Setup) (last : Word) (u : Plain) → IsOfMachine s u → last.place < s.limits.place_last → MayLeave s (staying last call.Save (save_reply (savable u)) change.Keep) (whole_held u) (whole_held (save_left u (savable u)))

@@ -1,5 +1,5 @@
 -- The good world: what holds between any two steps.
-use Rattle.std.specs.Prelude.{◌≡◌, ◌⊎◌, ℕ, suc, ◌<◌, ◌≤◌, Bool, true, false, List, [], ◌∷◌, length, slice_index}
+use Rattle.std.specs.Prelude.{◌≡◌, ◌⊎◌, ℕ, suc, ◌<◌, ◌≤◌, ◌^◌, Bool, true, false, List, [], ◌∷◌, length, slice_index}
 use Rattle.std.specs.List.{AllByRecursion}
 use mathlib.Core.List.{IsPrefix}
 use mathlib.Core.Option.{Option, none, some}
@@ -10,11 +10,11 @@ use Rattle.its_plain.specs.History.{IsLegal, after, placed}
 use Rattle.its_plain.specs.Plain.{Plain}
 use Rattle.its_plain.specs.Sound.{IsSound}
 use Rattle.its_plain.specs.declared.call.Entry.{Entry}
+use Rattle.its_steps.specs.Contents.{Content, Held}
 use Rattle.its_steps.specs.Parts.{Setup, Stands, index_of, part_count, translator_count, stamp_of, Right}
-use Rattle.its_steps.specs.declared.content.Content.{Content}
-use Rattle.its_steps.specs.World.{View, World}
-use Rattle.its_steps.specs.declared.held.Held.{Held}
-use Rattle.its_steps.specs.declared.view.Standing.TheVariants.{Pass, Note}
+use Rattle.its_steps.specs.World.{Placed, RootView, View, World}
+use Rattle.its_steps.specs.declared.standing.Standing.{Standing}
+use Rattle.its_steps.specs.declared.standing.Standing.TheVariants.{Pass, Note}
 
 -- ---- parts
 
@@ -48,10 +48,10 @@ pub record IsHome (s : Setup) (word : Word) (u : Plain) (slots : List (Option Co
   pub slot : get_elem? slots (index_of s p) ≡ some (some content)
   pub right : Right s word u p content
 
--- ---- passes
+-- ---- numbers
 
 abbrev pub Ended : Type 0
-Ended = List (ℕ × List (ℕ × Entry))
+Ended = List (ℕ × Placed)
 
 -- the pass of this number was joined
 abbrev pub IsEnded : ℕ → Ended → Type 0
@@ -64,26 +64,14 @@ AreDistinct [] = Unit {0}
 AreDistinct (x ∷ xs) = (¬ IsEnded x.0 xs) × AreDistinct xs
 
 -- a number that was given, and all its calls
-abbrev pub IsWhole : List Entry → ℕ → ℕ × List (ℕ × Entry) → Type 0
+abbrev pub IsWhole : List Entry → ℕ → ℕ × Placed → Type 0
 IsWhole h made x = (x.0 < made) × (x.1 ≡ placed x.0 0 h)
 
--- what the pass at index i knows is so. `seat` tells at which index each number is
-pub record IsPass (s : Setup) (h : List Entry) (word : Word) (turns : List ℕ) (slots : List (Option Content)) (made : ℕ) (ended : Ended) (seat : ℕ → ℕ) (i : ℕ) (v : View) : Type 0 where
-  pub setup : v.setup ≡ s
-  pub seat_is : seat v.number ≡ i
-  pub given : v.number < made
-  pub present : ¬ IsEnded v.number ended
-  pub seen : IsPrefix v.seen h
-  pub told : IsPrefix v.told h
-  pub mine : v.mine ≡ placed v.number 0 h
-  pub place : v.last.place ≡ length v.seen
-  pub last : v.last.place ≡ word.place → v.last ≡ word
-  pub apart : Apart v.held
-  pub held : AllByRecursion (IsHeld s word (after s.start h) turns slots v.number) v.held
+-- ---- views
 
-pub record IsNote (s : Setup) (h : List Entry) (v : View) : Type 0 where
-  pub setup : v.setup ≡ s
-  pub seen : IsPrefix v.seen h
+-- what holds of each view that is of this
+abbrev pub Each : List View → Standing → (ℕ → View → Type 0) → Type 0
+Each views standing P = (i : ℕ) (v : View) → get_elem? views i ≡ some v → v.standing ≡ standing → P i v
 
 -- a pass is at index i, of which P holds
 pub record Seated (views : List View) (i : ℕ) (P : View → Type 0) : Type 0 where
@@ -101,41 +89,81 @@ IsOwner n p v = (v.number ≡ n) × Holds p v.held
 abbrev pub HasRead : Word → View → Type 0
 HasRead word v = v.last ≡ word
 
-abbrev pub IsRoot : ℕ → Ended → View → Type 0
-IsRoot made ended v = (v.number ≡ 0) × (v.made ≡ made) × (v.ended ≡ ended)
+abbrev pub IsRoot : RootView → View → Type 0
+IsRoot root v = (v.number ≡ 0) × (v.root ≡ root)
+
+-- the pass of this number sits at index i: the number was given, and its pass is out
+pub record Sits (seat : ℕ → ℕ) (root : RootView) (i number : ℕ) : Type 0 where
+  pub seat_is : seat number ≡ i
+  pub given : number < root.made
+  pub present : ¬ IsEnded number root.ended
+
+-- what the pass of this number has seen and was told are beginnings of the history, what it calls its own are its calls, and the word that it read is as old as what it has seen
+pub record Knows (h : List Entry) (word : Word) (number : ℕ) (sees hears : List Entry) (own : Placed) (read : Word) : Type 0 where
+  pub seen : IsPrefix sees h
+  pub told : IsPrefix hears h
+  pub mine : own ≡ placed number 0 h
+  pub place : read.place ≡ length sees
+  pub last : read.place ≡ word.place → read ≡ word
+
+-- the pass of this number holds parts rightly, none twice
+pub record AreHeld (s : Setup) (word : Word) (u : Plain) (turns : List ℕ) (slots : List (Option Content)) (number : ℕ) (xs : List Held) : Type 0 where
+  pub apart : Apart xs
+  pub held : AllByRecursion (IsHeld s word u turns slots number) xs
+
+-- what the pass at index i knows is so. `seat` tells at which index each number is
+pub record IsPass (s : Setup) (h : List Entry) (word : Word) (turns : List ℕ) (slots : List (Option Content)) (seat : ℕ → ℕ) (root : RootView) (i : ℕ) (v : View) : Type 0 where
+  pub setup : v.setup ≡ s
+  pub sits : Sits seat root i v.number
+  pub knows : Knows h word v.number v.seen v.told v.mine v.last
+  pub holds : AreHeld s word (after s.start h) turns slots v.number v.held
+
+pub record IsNote (s : Setup) (h : List Entry) (v : View) : Type 0 where
+  pub setup : v.setup ≡ s
+  pub seen : IsPrefix v.seen h
 
 -- ---- the world
 
 pub record IsWithin (s : Setup) (word : Word) : Type 0 where
   pub place : word.place ≤ s.limits.place_last
-  pub stamps : (its : ℕ) → its < translator_count s → stamp_of word its ≤ s.limits.stamp_last
+  pub stamps : (its : ℕ) → its < translator_count s → stamp_of s word its ≤ s.limits.stamp_last
+
+-- the history is the plain machine's, and as long as the word says
+pub record IsHistory (s : Setup) (h : List Entry) (word : Word) : Type 0 where
+  pub sound : IsSound s.start
+  pub legal : IsLegal s.start h
+  pub place : length h ≡ word.place
+  pub within : IsWithin s word
+
+-- each number that was given is at one index or was joined; the root is never joined, and knows who was
+pub record AreNumbered (h : List Entry) (word : Word) (views : List View) (seat : ℕ → ℕ) (root : RootView) : Type 0 where
+  pub bound : root.made ≤ 2 ^ 32
+  pub first : Seated views (seat 0) (IsRoot root)
+  pub each : (n : ℕ) → n < root.made → Seated views (seat n) (IsNumber n) ⊎ IsEnded n root.ended
+  pub distinct : AreDistinct root.ended
+  pub whole : AllByRecursion (IsWhole h root.made) root.ended
+  -- no other pass made a call
+  pub calls : AllByRecursion (λ e. e.pass < root.made) h
+  -- some pass has read the word as it is
+  pub latest : (n : ℕ) × (n < root.made) × Seated views (seat n) (HasRead word)
 
 -- there is one turn and one slot for each part
 pub record AreWide (s : Setup) (turns : List ℕ) (slots : List (Option Content)) : Type 0 where
   pub each_turn : length turns ≡ part_count s
   pub each_slot : length slots ≡ part_count s
 
+-- each part is free and at home, or a pass that has its turn holds it
+pub record AreShared (s : Setup) (word : Word) (u : Plain) (turns : List ℕ) (slots : List (Option Content)) (views : List View) (seat : ℕ → ℕ) : Type 0 where
+  pub wide : AreWide s turns slots
+  pub home : (p : Part) → Stands s p → turn_of s turns p ≡ 0 → IsHome s word u slots p
+  pub taken : (p : Part) (n : ℕ) → Stands s p → turn_of s turns p ≡ suc n → Seated views (seat n) (IsOwner n p)
+
 pub record Good (s : Setup) (h : List Entry) (w : World) : Type 0 where
-  pub sound : IsSound s.start
-  -- the history is the plain machine's, and as long as the word says
-  pub legal : IsLegal s.start h
-  pub place : length h ≡ w.word.place
-  pub within : IsWithin s w.word
-  -- Each number that was given is at one index or was joined. The root is never joined, and knows who was
+  pub history : IsHistory s h w.word
+  -- at which index each number is, and what the root knows of all
   pub seat : ℕ → ℕ
-  pub made : ℕ
-  pub ended : Ended
-  pub root : Seated w.views (seat 0) (IsRoot made ended)
-  pub each_number : (n : ℕ) → n < made → Seated w.views (seat n) (IsNumber n) ⊎ IsEnded n ended
-  pub distinct : AreDistinct ended
-  pub whole : AllByRecursion (IsWhole h made) ended
-  -- no other pass made a call
-  pub passes : AllByRecursion (λ e. e.pass < made) h
-  -- some pass has read the word as it is
-  pub latest : (n : ℕ) × (n < made) × Seated w.views (seat n) (HasRead w.word)
-  pub views : (i : ℕ) (v : View) → get_elem? w.views i ≡ some v → v.standing ≡ Pass → IsPass s h w.word w.turns w.slots made ended seat i v
-  pub notes : (i : ℕ) (v : View) → get_elem? w.views i ≡ some v → v.standing ≡ Note → IsNote s h v
-  -- each part is free and at home, or a pass that has its turn holds it
-  pub wide : AreWide s w.turns w.slots
-  pub home : (p : Part) → Stands s p → turn_of s w.turns p ≡ 0 → IsHome s w.word (after s.start h) w.slots p
-  pub taken : (p : Part) (n : ℕ) → Stands s p → turn_of s w.turns p ≡ suc n → Seated w.views (seat n) (IsOwner n p)
+  pub root : RootView
+  pub numbers : AreNumbered h w.word w.views seat root
+  pub views : Each w.views Pass (IsPass s h w.word w.turns w.slots seat root)
+  pub notes : Each w.views Note (λ _. IsNote s h)
+  pub parts : AreShared s w.word (after s.start h) w.turns w.slots w.views seat

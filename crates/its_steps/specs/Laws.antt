@@ -1,24 +1,20 @@
 -- Each kind of step leads from a good world to a good world.
-use Rattle.std.specs.Prelude.{◌≡◌, ◌≢◌, ℕ, suc, ◌<◌, List, [], ◌∷◌, ◌++◌, slice_set}
+use Rattle.std.specs.Prelude.{◌≡◌, ◌≢◌, ◌⊎◌, ℕ, suc, ◌<◌, ◌≤◌, ◌^◌, List, [], ◌∷◌, ◌++◌, slice_set}
 use Rattle.std.specs.List.{AllByRecursion}
 use mathlib.Core.Option.{some, none}
 use lib.ListN.{get_elem?}
 use Rattle.its_types.specs.declared.machine.Part.{Part}
-use Rattle.its_types.specs.declared.machine.Word.{Word}
 use Rattle.its_plain.specs.Sound.{IsSound}
-use Rattle.its_plain.specs.declared.call.Call.{Call}
 use Rattle.its_plain.specs.declared.call.Entry.{Entry}
-use Rattle.its_plain.specs.declared.call.Reply.{Reply}
-use Rattle.its_steps.specs.Parts.{Setup, Stands, index_of}
-use Rattle.its_steps.specs.declared.content.Content.{Content}
-use Rattle.its_steps.specs.World.{View, World, first_world, loaded, missed, got, took, kept, out, entry, committed, has_split, split_off, note_of, has_joined, has_met, spent}
-use Rattle.its_steps.specs.declared.held.Held.{Held}
-use Rattle.its_steps.specs.declared.view.Standing.TheVariants.{Pass, Note}
-use Rattle.its_steps.specs.Good.{turn_of, IsEnded, IsWhole, Good}
-use Rattle.its_steps.specs.MayCommit.{MayCommit}
+use Rattle.its_steps.specs.Contents.{Content, Held}
+use Rattle.its_steps.specs.Good.{Holds, turn_of, IsEnded, AreDistinct, IsWhole, Good}
 use Rattle.its_steps.specs.MayCall.{MayCall}
+use Rattle.its_steps.specs.MayCommit.{MayCommit}
+use Rattle.its_steps.specs.Parts.{Setup, Stands, index_of}
 use Rattle.its_steps.specs.Renewal.{renewal}
-use Rattle.its_steps.specs.declared.change.ShardChange.{ShardChange}
+use Rattle.its_steps.specs.World.{View, World, first_world, loaded, missed, got, took, kept, out, word_after, entry_of, committed, has_split, split_off, note_of, has_joined, has_met, spent}
+use Rattle.its_steps.specs.declared.commit.Commit.{Commit}
+use Rattle.its_steps.specs.declared.standing.Standing.TheVariants.{Pass, Note}
 
 -- before any step
 abbrev pub FirstIsGood : Type 0
@@ -39,13 +35,12 @@ LoadKeeps = AtPass (λ s h w i v. Good s h record w { views = slice_set w.views 
 
 -- a commit that found the word as expected; one that found another is a load
 abbrev pub CommitKeeps : Type 0
-CommitKeeps = AtPass (λ s h w i v. (expected to : Word) (call : Call) (reply : Reply) (change : ShardChange) (owed : List Held) → w.word ≡ expected → MayCommit s expected to call reply v.held owed
-    → Good s (h ++ entry v.number call reply ∷ []) record w { word = to; views = slice_set w.views i (committed v h expected to call reply change owed) })
+CommitKeeps = AtPass (λ s h w i v. (a : Commit) (owed : List Held) → w.word ≡ a.expected → MayCommit s a v.held owed
+    → Good s (h ++ entry_of v a ∷ []) record w { word = word_after a; views = slice_set w.views i (committed v h a owed) })
 
 -- a pass that holds the parts of a call may commit it
 abbrev pub HoldersMayCommit : Type 0
-HoldersMayCommit = (s : Setup) (expected to : Word) (call : Call) (reply : Reply) (change : ShardChange) (held : List Held) → MayCall s expected to call reply change held
-    → MayCommit s expected to call reply held (renewal s to call reply change held)
+HoldersMayCommit = (s : Setup) (a : Commit) (held : List Held) → MayCall s a held → MayCommit s a held (renewal s a held)
 
 -- ---- parts
 
@@ -87,8 +82,9 @@ BringKeeps = AtPass (λ s h w i v. (x : Held) (before behind : List Held) → v.
 
 -- ---- passes and notes
 
+-- there is a number for each pass
 abbrev pub SplitKeeps : Type 0
-SplitKeeps = AtRoot (λ s h w i v. Good s h record w { views = slice_set w.views i (has_split v) ++ split_off v ∷ [] })
+SplitKeeps = AtRoot (λ s h w i v. v.root.made < 2 ^ 32 → Good s h record w { views = slice_set w.views i (has_split v) ++ split_off v ∷ [] })
 
 -- a pass that holds nothing is joined
 abbrev pub JoinKeeps : Type 0
@@ -108,14 +104,25 @@ MeetKeeps = AtPass (λ s h w i v. (j : ℕ) (note : View) → get_elem? w.views 
 abbrev pub ReaderHasSeen : Type 0
 ReaderHasSeen = AtPass (λ s h w i v. v.last.place ≡ w.word.place → (v.last ≡ w.word) × (v.seen ≡ h))
 
+-- every pass has a number below 2^32
+abbrev pub NumbersAreBounded : Type 0
+NumbersAreBounded = AtPass (λ s h w i v. v.number < 2 ^ 32)
+
+-- so has the one whose turn a part is; and a pass holds the parts that have its number
+abbrev pub TurnsAreHeld : Type 0
+TurnsAreHeld = AtPass (λ s h w i v. (p : Part) (n : ℕ) → Stands s p → turn_of s w.turns p ≡ suc n → (n < 2 ^ 32) × (((n ≡ v.number) × Holds p v.held) ⊎ (n ≢ v.number)))
+
 -- no pass but the root is out
 abbrev pub IsAlone : View → Type 0
-IsAlone v = (n : ℕ) → 0 < n → n < v.made → IsEnded n v.ended
+IsAlone v = (n : ℕ) → 0 < n → n < v.root.made → IsEnded n v.root.ended
 
--- The root knows which entries there can be, and all that the passes did that were joined. Alone it has read the word, has seen the whole history, and no other pass has a turn
+-- The root knows which entries there can be, and all that the passes did that were joined, each of them once, and not the root. Alone it has read the word, has seen the whole history, and no other pass has a turn
 pub record RootKnows (s : Setup) (h : List Entry) (w : World) (v : View) : Type 0 where
-  pub given : AllByRecursion (λ e. e.pass < v.made) h
-  pub whole : AllByRecursion (IsWhole h v.made) v.ended
+  pub bound : v.root.made ≤ 2 ^ 32
+  pub given : AllByRecursion (λ e. e.pass < v.root.made) h
+  pub whole : AllByRecursion (IsWhole h v.root.made) v.root.ended
+  pub distinct : AreDistinct v.root.ended
+  pub out : ¬ IsEnded 0 v.root.ended
   pub last : IsAlone v → v.last ≡ w.word
   pub seen : IsAlone v → v.seen ≡ h
   pub turns : IsAlone v → (p : Part) (n : ℕ) → Stands s p → turn_of s w.turns p ≡ suc n → n ≡ 0

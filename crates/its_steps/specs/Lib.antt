@@ -1,3 +1,4 @@
+pub mod Contents
 pub mod Parts
 pub mod World
 pub mod Good
@@ -8,5 +9,5 @@ pub mod Laws
 pub mod Steps
 pub mod Calls
 pub mod Endings
-pub mod Held
-pub mod Shared
+pub mod States
+pub mod Facts

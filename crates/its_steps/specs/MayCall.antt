@@ -19,15 +19,15 @@ use Rattle.its_plain.specs.declared.call.Signal.TheVariants.{Delivered}
 use Rattle.xlate_cache.specs.Pairs.{shard_number}
 use Rattle.xlate_cache.specs.Ways.{is_of, entry, found}
 use Rattle.xlate_cache.specs.declared.entry.Entry.{Entry as Translation}
-use Rattle.its_steps.specs.Parts.{Setup, Stands, translator_count, stamp_of}
-use Rattle.its_steps.specs.declared.content.Content.{Content}
-use Rattle.its_steps.specs.declared.content.Content.TheVariants.{Maps, Shard, Redist}
-use Rattle.its_steps.specs.declared.held.Held.{Held}
+use Rattle.its_steps.specs.Contents.{Content, Maps, Shard, Redist, Held}
 use Rattle.its_steps.specs.Good.{Holds, Apart}
 use Rattle.its_steps.specs.MayCommit.{IsOut}
-use Rattle.its_steps.specs.Renewal.{assembled, its_of, shard_of, renewal}
+use Rattle.its_steps.specs.Parts.{Setup, Stands, translator_count, stamp_of}
+use Rattle.its_steps.specs.Renewal.{assembled, its_of, shard_of, renewal_in}
+use Rattle.its_steps.specs.World.{word_after}
 use Rattle.its_steps.specs.declared.change.ShardChange.{ShardChange}
 use Rattle.its_steps.specs.declared.change.ShardChange.TheVariants as change
+use Rattle.its_steps.specs.declared.commit.Commit.{Commit}
 
 -- the part is held and owes this
 abbrev pub Owes : Part → Content → List Held → Type 0
@@ -36,22 +36,26 @@ Owes p c (x ∷ xs) = ((x.part ≡ p) × (x.owed ≡ c)) ⊎ Owes p c xs
 
 -- ---- the reply
 
--- every part that the call reads or changes is held, and on what they owe this is the reply
-pub record IsAnswered (s : Setup) (call : Call) (reply : Reply) (held : List Held) : Type 0 where
-  pub covers : AllByRecursion (λ p. Holds p held) (footprint (assembled s held) call)
-  pub reply_is : reply ≡ reply_of (assembled s held) call
+-- every part that the call reads or changes in this state is held
+abbrev pub Covers : Plain → Call → List Held → Type 0
+Covers u call held = AllByRecursion (λ p. Holds p held) (footprint u call)
+
+-- and this is the reply there
+pub record IsAnswered (u : Plain) (call : Call) (reply : Reply) (held : List Held) : Type 0 where
+  pub covers : Covers u call held
+  pub reply_is : reply ≡ reply_of u call
 
 -- A signal that is found in the cache: its pair's shard has the translation under the stamp expected, and the target's redistributor is held. No maps need be
-pub record IsHit (s : Setup) (expected : Word) (c : Call) (r : Reply) (held : List Held) : Type 0 where
+pub record IsHit (s : Setup) (a : Commit) (held : List Held) : Type 0 where
   pub its : ℕ
   pub dev : DeviceId
   pub ev : EventId
   pub target : Target
-  pub call_is : c ≡ call.Signal its dev ev
-  pub reply_is : r ≡ reply.Signal (Delivered target.vcpu target.intid)
+  pub call_is : a.call ≡ call.Signal its dev ev
+  pub reply_is : a.reply ≡ reply.Signal (Delivered target.vcpu target.intid)
   pub ways : List (Option Translation)
   pub owes : Owes (part.Shard its (shard_number dev.0 ev.0 s.shards)) (Shard ways) held
-  pub is_found : found ways dev.0 ev.0 (stamp_of expected its) ≡ Some target
+  pub is_found : found ways dev.0 ev.0 (stamp_of s a.expected its) ≡ Some target
   pub redist : Holds (part.Redist target.vcpu) held
 
 -- ---- the change of the shards, where the call leaves this state
@@ -86,45 +90,51 @@ AreSteady s its owed (x ∷ xs) (y ∷ ys) = IsSteady s its owed x.part x.owed y
 AreSteady s its owed [] ys = Unit {0}
 AreSteady s its owed (x ∷ xs) [] = Unit {0}
 
--- the entry is what the change puts in
-abbrev pub IsFill : Word → Call → ShardChange → ℕ → Translation → Type 0
-IsFill to call (change.Fill dev ev target) its e = (its ≡ its_of call) × (e ≡ entry dev ev (stamp_of to its) target)
-IsFill to call change its e = ⊥
+-- the entry is what the change puts in, where the commit of the call leaves this word
+abbrev pub IsFill : Setup → Word → Call → ShardChange → ℕ → Translation → Type 0
+IsFill s to call (change.Fill dev ev target) its e = (its ≡ its_of call) × (e ≡ entry dev ev (stamp_of s to its) target)
+IsFill s to call change its e = ⊥
 
 -- no entry was in the translator's shard before
-abbrev pub HasFillsAlone : Word → Call → ShardChange → ℕ → Part → Content → Type 0
-HasFillsAlone to call change its (part.Shard i n) (Shard ways) = i ≡ its → (k : ℕ) (e : Translation) → slice_index_or ways k None ≡ Some e → IsFill to call change its e
-HasFillsAlone to call change its p c = Unit {0}
+abbrev pub HasFillsAlone : Setup → Word → Call → ShardChange → ℕ → Part → Content → Type 0
+HasFillsAlone s to call change its (part.Shard i n) (Shard ways) = i ≡ its → (k : ℕ) (e : Translation) → slice_index_or ways k None ≡ Some e → IsFill s to call change its e
+HasFillsAlone s to call change its p c = Unit {0}
 
 -- The stamp of a translator stays, where no current translation ends
-pub record StampStays (s : Setup) (expected to : Word) (its : ℕ) (held owed : List Held) : Type 0 where
-  pub same : stamp_of to its ≡ stamp_of expected its
+pub record StampStays (s : Setup) (a : Commit) (its : ℕ) (held owed : List Held) : Type 0 where
+  pub same : stamp_of s (word_after a) its ≡ stamp_of s a.expected its
   pub steady : AreSteady s its owed held owed
 
--- or rises by one, with its maps held, so that none is current any more
-pub record StampRises (s : Setup) (expected to : Word) (its : ℕ) (held : List Held) : Type 0 where
+-- or that of the call's own rises by one, with its maps held, so that none is current any more
+pub record StampRises (s : Setup) (a : Commit) (its : ℕ) (held : List Held) : Type 0 where
+  pub own : its ≡ its_of a.call
   pub maps : Holds (part.Maps its) held
-  pub next : stamp_of to its ≡ stamp_of expected its + 1
-  pub most : stamp_of to its ≤ s.limits.stamp_last
+  pub next : stamp_of s (word_after a) its ≡ stamp_of s a.expected its + 1
+  pub most : stamp_of s (word_after a) its ≤ s.limits.stamp_last
 
 -- or is 0 again, with its maps and all its shards held, none of which keeps an entry
-pub record StampRenews (s : Setup) (to : Word) (call : Call) (change : ShardChange) (its : ℕ) (held owed : List Held) : Type 0 where
+pub record StampRenews (s : Setup) (a : Commit) (its : ℕ) (held owed : List Held) : Type 0 where
+  pub own : its ≡ its_of a.call
   pub maps : Holds (part.Maps its) held
   pub shards : (n : ℕ) → n < s.shards → Holds (part.Shard its n) held
-  pub zero : stamp_of to its ≡ 0
-  pub fills : AllByRecursion (λ x. HasFillsAlone to call change its x.part x.owed) owed
+  pub zero : stamp_of s (word_after a) its ≡ 0
+  pub fills : AllByRecursion (λ x. HasFillsAlone s (word_after a) a.call a.change its x.part x.owed) owed
 
-abbrev pub MayStamp : Setup → Word → Word → Call → ShardChange → List Held → List Held → ℕ → Type 0
-MayStamp s expected to call change held owed its = StampStays s expected to its held owed ⊎ (StampRises s expected to its held ⊎ StampRenews s to call change its held owed)
+abbrev pub MayStamp : Setup → Commit → List Held → List Held → ℕ → Type 0
+MayStamp s a held owed its = StampStays s a its held owed ⊎ (StampRises s a its held ⊎ StampRenews s a its held owed)
 
 -- ---- the commit
 
-pub record MayCall (s : Setup) (expected to : Word) (call : Call) (reply : Reply) (change : ShardChange) (held : List Held) : Type 0 where
-  pub room : expected.place < s.limits.place_last
-  pub next : to.place ≡ expected.place + 1
+-- told of a state that has what is held
+pub record MayCallIn (s : Setup) (u : Plain) (a : Commit) (held : List Held) : Type 0 where
+  pub room : a.expected.place < s.limits.place_last
   pub stands : AllByRecursion (λ x. Stands s x.part) held
   pub apart : Apart held
   pub out : AllByRecursion IsOut held
-  pub answered : IsAnswered s call reply held ⊎ IsHit s expected call reply held
-  pub may_change : MayChange s call change (left (assembled s held) call reply) held
-  pub stamps : (its : ℕ) → its < translator_count s → MayStamp s expected to call change held (renewal s to call reply change held) its
+  pub answered : IsAnswered u a.call a.reply held ⊎ IsHit s a held
+  pub may_change : MayChange s a.call a.change (left u a.call a.reply) held
+  pub stamps : (its : ℕ) → its < translator_count s → MayStamp s a held (renewal_in s u a held) its
+
+-- and of the first state, with what is held put in
+abbrev pub MayCall : Setup → Commit → List Held → Type 0
+MayCall s a held = MayCallIn s (assembled s held) a held

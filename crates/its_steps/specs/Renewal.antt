@@ -9,16 +9,15 @@ use Rattle.its_plain.specs.Answer.{left}
 use Rattle.its_plain.specs.Plain.{Plain, translator, redistributor, with_translator, with_redistributor}
 use Rattle.its_plain.specs.declared.call.Call.{Call}
 use Rattle.its_plain.specs.declared.call.Call.TheVariants as call
-use Rattle.its_plain.specs.declared.call.Reply.{Reply}
 use Rattle.xlate_cache.specs.Pairs.{shard_number}
 use Rattle.xlate_cache.specs.Ways.{entry, filled, dropped, no_entries}
 use Rattle.xlate_cache.specs.declared.entry.Entry.{Entry as Translation}
+use Rattle.its_steps.specs.Contents.{Content, Maps, Mem, Shard, Redist, Held}
 use Rattle.its_steps.specs.Parts.{Setup, stamp_of}
-use Rattle.its_steps.specs.declared.content.Content.{Content}
-use Rattle.its_steps.specs.declared.content.Content.TheVariants.{Maps, Mem, Shard, Redist}
-use Rattle.its_steps.specs.declared.held.Held.{Held}
+use Rattle.its_steps.specs.World.{word_after}
 use Rattle.its_steps.specs.declared.change.ShardChange.{ShardChange}
 use Rattle.its_steps.specs.declared.change.ShardChange.TheVariants as change
+use Rattle.its_steps.specs.declared.commit.Commit.{Commit}
 
 -- ---- the state that parts stand for
 
@@ -50,27 +49,30 @@ shard_of s call dev ev = part.Shard (its_of call) (shard_number dev.0 ev.0 s.sha
 abbrev pub is_shard_of : Setup → Call → DeviceId → EventId → ℕ → ℕ → Bool
 is_shard_of s call dev ev its n = its == its_of call && n == shard_number dev.0 ev.0 s.shards
 
--- shard n of a translator after a change, where the commit leaves this word
+-- shard n of a translator after a change, where the commit of the call leaves this word
 unfoldable pub changed : Setup → Word → Call → ShardChange → ℕ → ℕ → List (Option Translation) → List (Option Translation)
 changed s to call change.Keep its n ways = ways
-changed s to call (change.Fill dev ev target) its n ways = if is_shard_of s call dev ev its n then filled ways (entry dev ev (stamp_of to its) target) else ways
+changed s to call (change.Fill dev ev target) its n ways = if is_shard_of s call dev ev its n then filled ways (entry dev ev (stamp_of s to its) target) else ways
 changed s to call (change.Drop dev ev) its n ways = if is_shard_of s call dev ev its n then dropped ways dev.0 ev.0 else ways
-changed s to call change.Empty its n ways = no_entries
+changed s to call change.Empty its n ways = if its == its_of call then no_entries else ways
 
 -- ---- all parts
 
--- what a part owes where the call leaves this state
-abbrev pub content_in : Setup → Word → Call → ShardChange → Plain → Part → Content → Content
-content_in s to call change after (part.Maps its) c = Maps (translator after its)
-content_in s to call change after part.Mem c = Mem after.memory
-content_in s to call change after (part.Redist vcpu) c = Redist (redistributor after vcpu.0)
-content_in s to call change after (part.Shard its n) (Shard ways) = Shard (changed s to call change its n ways)
-content_in s to call change after (part.Shard its n) c = c
+-- what a part owes where the commit's call leaves this state
+abbrev pub content_in : Setup → Commit → Plain → Part → Content → Content
+content_in s a after (part.Maps its) c = Maps (translator after its)
+content_in s a after part.Mem c = Mem after.memory
+content_in s a after (part.Redist vcpu) c = Redist (redistributor after vcpu.0)
+content_in s a after (part.Shard its n) (Shard ways) = Shard (changed s (word_after a) a.call a.change its n ways)
+content_in s a after (part.Shard its n) c = c
 
-abbrev pub renewed : Setup → Word → Call → ShardChange → Plain → List Held → List Held
-renewed s to call change after [] = []
-renewed s to call change after (x ∷ xs) = record x { owed = content_in s to call change after x.part x.owed } ∷ renewed s to call change after xs
+abbrev pub renewed : Setup → Commit → Plain → List Held → List Held
+renewed s a after [] = []
+renewed s a after (x ∷ xs) = record x { owed = content_in s a after x.part x.owed } ∷ renewed s a after xs
 
--- what the parts held owe after the call, where it has this reply
-abbrev pub renewal : Setup → Word → Call → Reply → ShardChange → List Held → List Held
-renewal s to call reply change held = renewed s to call change (left (assembled s held) call reply) held
+-- what the parts held owe after the commit, where a state has them
+abbrev pub renewal_in : Setup → Plain → Commit → List Held → List Held
+renewal_in s u a held = renewed s a (left u a.call a.reply) held
+
+abbrev pub renewal : Setup → Commit → List Held → List Held
+renewal s a held = renewal_in s (assembled s held) a held

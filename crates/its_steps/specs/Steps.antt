@@ -1,24 +1,20 @@
 -- The eight kinds of step, as events of a world: when each is allowed, and what it leaves.
-use Rattle.std.specs.Prelude.{◌≡◌, ◌≢◌, ◌⊎◌, ℕ, suc, ◌+◌, ◌<◌, ◌^◌, List, [], ◌∷◌, ◌++◌, length, slice_set}
+use Rattle.std.specs.Prelude.{◌≡◌, ◌≢◌, ◌⊎◌, ℕ, suc, ◌<◌, ◌^◌, List, [], ◌∷◌, ◌++◌, length, slice_set}
 use mathlib.Core.Option.{none, some}
 use lib.ListN.{get_elem?}
 use Rattle.its_types.specs.declared.machine.Part.{Part}
-use Rattle.its_types.specs.declared.machine.Word.{Word}
-use Rattle.its_plain.specs.declared.call.Call.{Call}
 use Rattle.its_plain.specs.declared.call.Entry.{Entry}
-use Rattle.its_plain.specs.declared.call.Reply.{Reply}
-use Rattle.its_steps.specs.Parts.{Setup, Stands, index_of}
-use Rattle.its_steps.specs.declared.content.Content.{Content}
-use Rattle.its_steps.specs.World.{View, World, first_world, loaded, missed, got, kept, out, entry, committed, has_split, split_off, note_of, has_joined, has_met, spent}
-use Rattle.its_steps.specs.declared.held.Held.{Held}
-use Rattle.its_steps.specs.declared.view.Standing.TheVariants.{Pass, Note}
+use Rattle.its_steps.specs.Contents.{Content, Held}
 use Rattle.its_steps.specs.Good.{Holds, turn_of, Good}
 use Rattle.its_steps.specs.MayCall.{MayCall}
+use Rattle.its_steps.specs.Parts.{Setup, Stands, index_of}
 use Rattle.its_steps.specs.Renewal.{renewal}
-use Rattle.its_steps.specs.declared.change.ShardChange.{ShardChange}
+use Rattle.its_steps.specs.World.{View, World, first_world, loaded, missed, got, kept, out, word_after, entry_of, committed, has_split, split_off, note_of, has_joined, has_met, spent}
+use Rattle.its_steps.specs.declared.commit.Commit.{Commit}
 use Rattle.its_steps.specs.declared.event.Event.{Event}
 use Rattle.its_steps.specs.declared.event.Kind.{Kind}
 use Rattle.its_steps.specs.declared.event.Kind.TheVariants as kind
+use Rattle.its_steps.specs.declared.standing.Standing.TheVariants.{Pass, Note}
 
 -- a world, with the machine that it is of and its history
 pub record Core : Type 0 where
@@ -104,25 +100,18 @@ pub record Releases (c : Core) (i : ℕ) (v : View) (p : Part) (after : Core) : 
 abbrev pub loads : Core → ℕ → View → Core
 loads c i v = set_view c i (loaded v c.world.word c.history)
 
--- the word that a commit leaves
-abbrev pub next_word : Word → ℕ → Word
-next_word expected stamp = record { stamp = stamp; place = expected.place + 1 }
-
 -- what a commit leaves that found the word as expected
-abbrev pub commits : Core → ℕ → View → Word → ℕ → Call → Reply → ShardChange → Core
-commits c i v expected stamp call reply change =
-    let to : Word = next_word expected stamp in
-    let owed : List Held = renewal c.setup to call reply change v.held in
-    record c {
-      history = c.history ++ entry v.number call reply ∷ [];
-      world = record c.world { word = to; views = slice_set c.world.views i (committed v c.history expected to call reply change owed) };
-    }
+abbrev pub commits : Core → ℕ → View → Commit → Core
+commits c i v a = record c {
+  history = c.history ++ entry_of v a ∷ [];
+  world = record c.world { word = word_after a; views = slice_set c.world.views i (committed v c.history a (renewal c.setup a v.held)) };
+}
 
 -- one that found another word is a load
-pub record Commits (c : Core) (i : ℕ) (v : View) (expected : Word) (stamp : ℕ) (call : Call) (reply : Reply) (change : ShardChange) (after : Core) : Type 0 where
-  pub may : MayCall c.setup expected (next_word expected stamp) call reply change v.held
-  pub found : c.world.word ≡ expected → after ≡ commits c i v expected stamp call reply change
-  pub raced : c.world.word ≢ expected → after ≡ loads c i v
+pub record Commits (c : Core) (i : ℕ) (v : View) (a : Commit) (after : Core) : Type 0 where
+  pub may : MayCall c.setup a v.held
+  pub found : c.world.word ≡ a.expected → after ≡ commits c i v a
+  pub raced : c.world.word ≢ a.expected → after ≡ loads c i v
 
 -- ---- passes and notes
 
@@ -134,7 +123,7 @@ splits c i v =
 
 pub record Splits (c : Core) (i : ℕ) (v : View) (after : Core) : Type 0 where
   pub root : v.number ≡ 0
-  pub room : v.made < 2 ^ 32
+  pub room : v.root.made < 2 ^ 32
   pub leaves : after ≡ splits c i v
 
 abbrev pub notes : Core → View → Core
@@ -164,7 +153,7 @@ abbrev pub Moves : Core → ℕ → View → Kind → Core → Type 0
 Moves c i v kind.Load after = after ≡ loads c i v
 Moves c i v (kind.Try p) after = Tries c i v p after
 Moves c i v (kind.TakeOut p) after = TakesOut c i v p after
-Moves c i v (kind.Commit expected stamp call reply change) after = Commits c i v expected stamp call reply change after
+Moves c i v (kind.Commit a) after = Commits c i v a after
 Moves c i v (kind.PutHome p) after = PutsHome c i v p after
 Moves c i v (kind.Release p) after = Releases c i v p after
 Moves c i v kind.Split after = Splits c i v after

@@ -9,48 +9,77 @@ use Rattle.its_plain.specs.declared.call.Call.{Call}
 use Rattle.its_plain.specs.declared.call.Entry.{Entry}
 use Rattle.its_plain.specs.declared.call.Reply.{Reply}
 use Rattle.xlate_cache.specs.Ways.{no_entries}
+use Rattle.its_steps.specs.Contents.{Content, Maps, Mem, Shard, Redist, Held, Looked}
 use Rattle.its_steps.specs.Parts.{Setup, translator_count, part_count}
-use Rattle.its_steps.specs.declared.content.Content.{Content}
-use Rattle.its_steps.specs.declared.content.Content.TheVariants.{Maps, Mem, Shard, Redist}
-use Rattle.its_steps.specs.declared.held.Held.{Held}
-use Rattle.its_steps.specs.declared.view.Looked.{Looked}
-use Rattle.its_steps.specs.declared.view.Standing.{Standing}
-use Rattle.its_steps.specs.declared.view.Standing.TheVariants.{Pass, Note, Spent}
 use Rattle.its_steps.specs.declared.change.ShardChange.{ShardChange}
 use Rattle.its_steps.specs.declared.change.ShardChange.TheVariants.{Keep}
+use Rattle.its_steps.specs.declared.commit.Commit.{Commit}
+use Rattle.its_steps.specs.declared.standing.Standing.{Standing}
+use Rattle.its_steps.specs.declared.standing.Standing.TheVariants.{Pass, Note, Spent}
 
-abbrev pub parts_of : List Held → List Part
-parts_of held = map (λ x. x.part) held
+-- ---- what a pass knows
 
-pub record View : Type 0 where
-  pub setup : Setup
-  pub standing : Standing
-  pub number : ℕ
-  -- the history as this pass, or the one that made this note, last saw it
-  pub seen : List Entry
-  -- its own calls, each with its place
-  pub mine : List (ℕ × Entry)
-  -- of a pass that joined another or met a note, what the one that had seen less had seen
-  pub told : List Entry
-  -- the word that it read last
-  pub last : Word
-  -- the last one got first
-  pub held : List Held
-  -- the last shard held, with the ways that it owes or owed
+-- of the cache
+pub record CacheView : Type 0 where
+  -- the shard that it held last, with the ways that it owes or owed
   pub looked : Looked
-  -- that and the word read last, when it last got some maps
-  pub early : Looked × Word
+  -- that shard as it was when the pass last got some maps
+  pub early : Looked
+  -- the word that it had read by then
+  pub early_word : Word
+
+-- of its tries
+pub record Tries : Type 0 where
   -- the parts whose turns it got, the last one first
   pub won : List Part
-  -- how many tries it lost, and the part and the number found of the last one
+  -- how many tries it lost
   pub lost : ℕ
+  -- of the last one that it lost, the part and the number found
   pub met : Part × ℕ
-  -- the word that its last commit found, and what that did to the shards
+
+-- of its last commit
+pub record LastCommit : Type 0 where
+  -- the word that it found
   pub base : Word
+  -- what it did to the shards
   pub change : ShardChange
-  -- of the root: how many numbers were given, its own among them, and the calls of each pass that was joined
+
+-- the calls of a pass, each with its place
+abbrev pub Placed : Type 0
+Placed = List (ℕ × Entry)
+
+-- of all numbers, which the root knows
+pub record RootView : Type 0 where
+  -- how many were given, the root's own among them
   pub made : ℕ
-  pub ended : List (ℕ × List (ℕ × Entry))
+  -- those that were joined, the last one first, each with its calls
+  pub ended : List (ℕ × Placed)
+
+pub record View : Type 0 where
+  -- the machine that it is of
+  pub setup : Setup
+  -- whether it is a pass's, a note's, or spent
+  pub standing : Standing
+  -- the pass's number
+  pub number : ℕ
+  -- the history as the pass, or the one that made the note, last saw it
+  pub seen : List Entry
+  -- of a pass that joined another or met a note, what the one that had seen less had seen
+  pub told : List Entry
+  -- its own calls
+  pub mine : Placed
+  -- the word that it read last
+  pub last : Word
+  -- the parts that it holds, the last one got first
+  pub held : List Held
+  -- what it knows of the cache
+  pub cache : CacheView
+  -- which turns it got, and which not
+  pub tries : Tries
+  -- its last commit
+  pub commit : LastCommit
+  -- of the root, what it knows of all numbers
+  pub root : RootView
 
 pub record World : Type 0 where
   pub word : Word
@@ -68,6 +97,9 @@ first_word = record { stamp = 0; place = 0 }
 abbrev pub no_look : Looked
 no_look = record { its = 0; number = 0; ways = [] }
 
+abbrev pub no_tries : Tries
+no_tries = record { won = []; lost = 0; met = (part.Mem, 0) }
+
 -- a pass with nothing yet of its own
 abbrev pub fresh : Setup → ℕ → ℕ → List Entry → Word → View
 fresh s number made seen last = record {
@@ -75,19 +107,14 @@ fresh s number made seen last = record {
   standing = Pass;
   number = number;
   seen = seen;
-  mine = [];
   told = [];
+  mine = [];
   last = last;
   held = [];
-  looked = no_look;
-  early = (no_look, last);
-  won = [];
-  lost = 0;
-  met = (part.Mem, 0);
-  base = last;
-  change = Keep;
-  made = made;
-  ended = [];
+  cache = record { looked = no_look; early = no_look; early_word = last };
+  tries = no_tries;
+  commit = record { base = last; change = Keep };
+  root = record { made = made; ended = [] };
 }
 
 abbrev pub first_view : Setup → View
@@ -110,16 +137,20 @@ loaded v word h = record v { last = word; seen = h }
 -- ---- a try of a part's turn
 
 -- another pass has it
+abbrev pub lost_to : Tries → Part → ℕ → Tries
+lost_to t p found = record t { lost = t.lost + 1; met = (p, found) }
+
 abbrev pub missed : View → Part → ℕ → View
-missed v p found = record v { lost = v.lost + 1; met = (p, found) }
+missed v p found = record v { tries = lost_to v.tries p found }
 
 abbrev pub looked_of : Part → Content → Looked → Looked
 looked_of (part.Shard its n) (Shard ways) before = record { its = its; number = n; ways = ways }
 looked_of p c before = before
 
-abbrev pub early_of : Part → Looked × Word → Looked × Word → Looked × Word
-early_of (part.Maps its) now before = now
-early_of p now before = before
+-- what is known of the cache once a part was got that contains this, where the word read last is given
+abbrev pub cache_got : Part → Content → Word → CacheView → CacheView
+cache_got (part.Maps its) c last v = record v { early = v.looked; early_word = last }
+cache_got p c last v = record v { looked = looked_of p c v.looked }
 
 abbrev pub kept : Part → Content → Held
 kept p c = record { part = p; owed = c; out = false }
@@ -129,7 +160,7 @@ out p c = record { part = p; owed = c; out = true }
 
 -- it was free; what stands in the slot is owed
 abbrev pub got : View → Part → Content → View
-got v p c = record v { held = kept p c ∷ v.held; looked = looked_of p c v.looked; early = early_of p (v.looked, v.last) v.early; won = p ∷ v.won }
+got v p c = record v { held = kept p c ∷ v.held; cache = cache_got p c v.last v.cache; tries = record v.tries { won = p ∷ v.tries.won } }
 
 -- and out of its slot at once
 abbrev pub took : View → Part → Content → View
@@ -137,8 +168,20 @@ took v p c = record (got v p c) { held = out p c ∷ v.held }
 
 -- ---- a commit
 
+-- the next word, with this stamp
+abbrev pub next_word : Word → ℕ → Word
+next_word expected stamp = record { stamp = stamp; place = expected.place + 1 }
+
+-- the word that a commit leaves
+abbrev pub word_after : Commit → Word
+word_after a = next_word a.expected a.stamp
+
 abbrev pub entry : ℕ → Call → Reply → Entry
 entry number call reply = record { pass = number; call = call; reply = reply }
+
+-- the entry of the history that a commit of this pass makes
+abbrev pub entry_of : View → Commit → Entry
+entry_of v a = entry v.number a.call a.reply
 
 abbrev pub is_looked : Looked → Part → Bool
 is_looked o (part.Shard its n) = its == o.its && n == o.number
@@ -150,25 +193,24 @@ looked_in [] o = o
 looked_in (x ∷ xs) o = if is_looked o x.part then looked_of x.part x.owed o else looked_in xs o
 
 -- after a commit that found the word as expected, where h was the history, with other contents owed from then on
-abbrev pub committed : View → List Entry → Word → Word → Call → Reply → ShardChange → List Held → View
-committed v h expected to call reply change held = record v {
-  seen = h ++ entry v.number call reply ∷ [];
-  mine = v.mine ++ (expected.place, entry v.number call reply) ∷ [];
-  last = to;
-  held = held;
-  looked = looked_in held v.looked;
-  base = expected;
-  change = change;
+abbrev pub committed : View → List Entry → Commit → List Held → View
+committed v h a owed = record v {
+  seen = h ++ entry_of v a ∷ [];
+  mine = v.mine ++ (a.expected.place, entry_of v a) ∷ [];
+  last = word_after a;
+  held = owed;
+  cache = record v.cache { looked = looked_in owed v.cache.looked };
+  commit = record { base = a.expected; change = a.change };
 }
 
 -- ---- splits and joins: the root loads the word before it splits, and after it joins
 
 -- a pass of the next number, which has seen what the root has
 abbrev pub split_off : View → View
-split_off v = fresh v.setup v.made 0 v.seen v.last
+split_off v = fresh v.setup v.root.made 0 v.seen v.last
 
 abbrev pub has_split : View → View
-has_split v = record v { made = v.made + 1 }
+has_split v = record v { root = record v.root { made = v.root.made + 1 } }
 
 -- a note has what its maker has seen, and nothing else
 abbrev pub note_of : View → View
@@ -182,7 +224,7 @@ earlier v w = if nat_lt v.last.place w.last.place then v else w
 
 -- the root after a join with the pass w
 abbrev pub has_joined : View → View → View
-has_joined v w = record v { seen = (later v w).seen; told = (earlier v w).seen; last = (later v w).last; ended = (w.number, w.mine) ∷ v.ended }
+has_joined v w = record v { seen = (later v w).seen; told = (earlier v w).seen; last = (later v w).last; root = record v.root { ended = (w.number, w.mine) ∷ v.root.ended } }
 
 -- a pass after it met a note
 abbrev pub has_met : View → View → View

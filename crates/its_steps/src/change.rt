@@ -1,6 +1,6 @@
 use its_types::{DeviceId, EventId, Target};
 
-/// What a commit does to the shards of its call's translator that the pass holds.
+/// What a commit does to the shards of its call's translator.
 #[derive(Clone, Copy, Debug, PartialEq, Eq)]
 pub enum ShardChange {
     /// They stay as they were.

@@ -1,6 +1,5 @@
-use crate::change::ShardChange;
-use its_plain::{Call, Reply};
-use its_types::{Part, Word};
+use crate::commit::Commit;
+use its_types::Part;
 
 /// One step of one pass.
 #[derive(Clone, Copy, Debug, PartialEq, Eq)]
@@ -20,14 +19,7 @@ pub enum Kind {
     /// It takes the value of a part that it holds out of the slot.
     TakeOut(Part),
     /// It exchanges the word, if that is the one expected, and so makes a call with its reply.
-    Commit {
-        expected: Word,
-        /// That of the word that it leaves; the place is the next one.
-        stamp: u32,
-        call: Call,
-        reply: Reply,
-        change: ShardChange,
-    },
+    Commit(Commit),
     /// It puts what a part owes into the slot.
     PutHome(Part),
     /// It gives the turn of a part back that is at home.

@@ -1,8 +1,10 @@
-//! What each kind of step keeps, and what a good world tells. Nothing here runs.
+//! What each kind of step keeps, what a good world tells, and when a call may be committed. Nothing here runs.
 
 ghost use Rattle.its_steps.specs.Calls as calls;
 ghost use Rattle.its_steps.specs.Endings as endings;
+ghost use Rattle.its_steps.specs.Facts as facts;
 ghost use Rattle.its_steps.specs.Laws as laws;
+ghost use Rattle.its_steps.specs.States as states;
 ghost use Rattle.its_steps.specs.Steps as steps;
 
 /// The world before any step is good, where the first state is sound.
@@ -10,120 +12,28 @@ pub fn first_is_good()
     ensures { laws.FirstIsGood }
 {}
 
-/// A pass reads the word, and has then seen the whole history.
-pub fn load_keeps()
-    ensures { laws.LoadKeeps }
+/// Each step of a pass, or two of them in one, leads from a good world to a good world: it reads the word; it tries a
+/// turn, and gets it or not; it takes a value out of its slot, puts it home, and gives the turn back; it commits a
+/// call. What it holds may be in another order.
+pub fn passes_keep()
+    ensures load { laws.LoadKeeps }
+    ensures try_part { laws.TryKeeps }
+    ensures miss { laws.MissKeeps }
+    ensures take_out { laws.TakeOutKeeps }
+    ensures commit { laws.CommitKeeps }
+    ensures put_home { laws.PutHomeKeeps }
+    ensures release { laws.ReleaseKeeps }
+    ensures take { laws.TakeKeeps }
+    ensures give { laws.GiveKeeps }
+    ensures bring { laws.BringKeeps }
 {}
 
-/// A pass gets the turn of a part that is free.
-pub fn try_keeps()
-    ensures { laws.TryKeeps }
-{}
-
-/// A pass finds that another has the turn.
-pub fn miss_keeps()
-    ensures { laws.MissKeeps }
-{}
-
-/// A pass takes the value of a part that it holds out of its slot.
-pub fn take_out_keeps()
-    ensures { laws.TakeOutKeeps }
-{}
-
-/// A pass commits a call, where the word is the one that it expected.
-pub fn commit_keeps()
-    ensures { laws.CommitKeeps }
-{}
-
-/// A pass puts what it owes into the slot of a part that it holds.
-pub fn put_home_keeps()
-    ensures { laws.PutHomeKeeps }
-{}
-
-/// A pass gives the turn of a part back that is at home.
-pub fn release_keeps()
-    ensures { laws.ReleaseKeeps }
-{}
-
-/// A pass gets the turn of a part and takes the value out, in one step.
-pub fn take_keeps()
-    ensures { laws.TakeKeeps }
-{}
-
-/// A pass puts what it owes home and gives the turn back, in one step.
-pub fn give_keeps()
-    ensures { laws.GiveKeeps }
-{}
-
-/// A pass holds its parts in another order.
-pub fn bring_keeps()
-    ensures { laws.BringKeeps }
-{}
-
-/// The root splits a pass off.
-pub fn split_keeps()
-    ensures { laws.SplitKeeps }
-{}
-
-/// The root joins a pass that holds nothing.
-pub fn join_keeps()
-    ensures { laws.JoinKeeps }
-{}
-
-/// A pass makes a note of what it has seen.
-pub fn note_keeps()
-    ensures { laws.NoteKeeps }
-{}
-
-/// A pass meets a note.
-pub fn meet_keeps()
-    ensures { laws.MeetKeeps }
-{}
-
-/// A pass that holds the parts that a call reads or changes, or a cached translation in place of the maps, may commit
-/// the call, whatever the other parts have.
-pub fn holders_may_commit()
-    ensures { laws.HoldersMayCommit }
-{}
-
-/// A call that writes no register and takes no command leaves where messages go as it was.
-pub fn calm_calls_are_steady()
-    ensures { calls.CalmCallsAreSteady }
-{}
-
-/// Such a call may be committed with the stamp as it is by whoever holds its parts.
-pub fn calm_calls_may_commit()
-    ensures { calls.CalmCallsMayCommit }
-{}
-
-/// Which translations a call may end, in any state.
-pub fn endings_are_all()
-    ensures { endings.EndingsAreAll }
-{}
-
-/// Where each translation that ends has left its shard, the stamp may stay.
-pub fn endings_are_dropped()
-    ensures { endings.EndingsAreDropped }
-{}
-
-/// An acknowledgement needs its redistributor alone, and this is what it leaves there.
-pub fn take_may_commit()
-    ensures { calls.TakeMayCommit }
-{}
-
-/// A signal that is found in the cache needs no maps, and this is what it leaves.
-pub fn hit_may_commit()
-    ensures { calls.HitMayCommit }
-{}
-
-/// A pass that has read the word as it is has seen the whole history.
-pub fn reader_has_seen()
-    ensures { laws.ReaderHasSeen }
-{}
-
-/// What the root knows of all passes, and what it knows alone.
-pub fn root_knows_all()
-    ensures { laws.RootKnowsAll }
+/// So do a pass that the root splits off or joins, and a note that is made or met.
+pub fn splits_and_joins_keep()
+    ensures split { laws.SplitKeeps }
+    ensures join { laws.JoinKeeps }
+    ensures note { laws.NoteKeeps }
+    ensures meet { laws.MeetKeeps }
 {}
 
 /// Every event keeps the good world, whether or not it is allowed.
@@ -134,4 +44,84 @@ pub fn steps_keep()
 /// From every good world every schedule of events ends in a good world.
 pub fn runs_keep()
     ensures { steps.RunsKeep }
+{}
+
+/// What a good world tells: a pass that has read the word as it is has seen the whole history; numbers have a bound; a
+/// pass holds the parts whose turns have its number; the root knows of all passes, and alone of the whole world.
+pub fn worlds_tell()
+    ensures reader { laws.ReaderHasSeen }
+    ensures numbers { laws.NumbersAreBounded }
+    ensures turns { laws.TurnsAreHeld }
+    ensures root { laws.RootKnowsAll }
+{}
+
+/// What is so of every machine: a history leaves a state of it; each part has an index of its own, and a slot at first;
+/// what is found in a shard stands in one of its ways; and each translator has a stamp of its own in the word's.
+pub fn machines_tell()
+    ensures histories { facts.HistoriesStayInMachine }
+    ensures below { facts.IndexesAreBelow }
+    ensures apart { facts.IndexesAreApart }
+    ensures slots { facts.FirstSlotsAreAll }
+    ensures found { facts.FoundStandsThere }
+    ensures one { facts.OneHasAllBits }
+    ensures stamps { facts.StampsAreApart }
+{}
+
+/// A pass that holds the parts that a call reads or changes, or a cached translation in place of the maps, may commit
+/// the call, whatever the other parts have.
+pub fn holders_may_commit()
+    ensures { laws.HoldersMayCommit }
+{}
+
+/// What may be committed in a state of the machine that has what is held may be committed, and leaves what it leaves
+/// there. Where what is held is right in a state, the state has it.
+pub fn states_may_commit()
+    ensures state { states.StateMayCommit }
+    ensures right { states.RightIsHad }
+    ensures assembled { facts.AssembledHas }
+{}
+
+/// Which translations a call may end, in any state; two states that agree on its footprint end the same, and the reply
+/// of a step tells what it ends. Where each translation that ends has left its shard, all others go on.
+pub fn endings_tell()
+    ensures all { endings.EndingsAreAll }
+    ensures alike { endings.EndingsAreAlike }
+    ensures replies { endings.RepliesTellEndings }
+    ensures dropped { endings.EndingsAreDropped }
+{}
+
+/// What the stamp and the shards are after a call, by what it ends: nothing, one pair, or all; and where the stamp was
+/// the last one.
+pub fn endings_and_stamps()
+    ensures nothing { states.NothingEnds }
+    ensures pair { states.PairEnds }
+    ensures all { states.AllEnd }
+    ensures last { states.AllEndAtLast }
+{}
+
+/// A call that writes no register of a translator and takes no command leaves where messages go as it was, and the stamp may stay.
+pub fn calm_calls_may_commit()
+    ensures state { states.CalmInState }
+    ensures steady { calls.CalmCallsAreSteady }
+    ensures may { calls.CalmCallsMayCommit }
+{}
+
+/// What each call needs that a processor or the guest makes, and what it leaves there.
+pub fn ports_may_commit()
+    ensures take { calls.TakeMayCommit }
+    ensures show { calls.ShowMayCommit }
+    ensures poke { calls.PokeMayCommit }
+    ensures peek { calls.PeekMayCommit }
+    ensures read { calls.ReadMayCommit }
+    ensures write { calls.WriteMayCommit }
+    ensures rise { calls.WriteMayRise }
+    ensures save { calls.SaveMayCommit }
+{}
+
+/// What a signal needs that is found in the cache, or goes by the maps, and what it leaves there.
+pub fn signals_may_commit()
+    ensures hit { calls.HitMayCommit }
+    ensures fill { calls.FillMayCommit }
+    ensures drop { calls.DropMayCommit }
+    ensures off { calls.OffMayCommit }
 {}

@@ -1,0 +1,11 @@
+pub mod Seats
+pub mod HeldTests
+pub mod Slots
+pub mod Positions
+pub mod HeldParts
+pub mod PassSeats
+pub mod PassesMet
+pub mod MayTests
+pub mod Committed
+pub mod Stepped
+pub mod FirstShared

@@ -1,0 +1,81 @@
+ghost use Rattle.std.specs.Prelude.{◌≡◌, true, false};
+ghost use Rattle.its_player.specs.Contents.{content_of};
+ghost use Rattle.its_player.specs.Held as spec;
+
+use crate::content::Content;
+use its_types::{DeviceId, EventId, Part, Target};
+use std::marker::Model;
+
+/// A part whose turn a pass has, what it owes, and whether the part's slot is empty.
+#[derive(Drop)]
+pub struct Held {
+    part: Part,
+    owed: Content,
+    out: bool,
+}
+
+impl Model for Held {
+    ghost use Rattle.its_steps.specs.Contents as steps;
+    ghost use Rattle.std.specs.Coded.{codes};
+    ghost use Rattle.its_plain.specs.Plain.{translator_code, redistributor_code};
+
+    ghost Value = { steps.Held };
+
+    ghost coded = { Prim.hlevel (codes, translator_code, redistributor_code) };
+
+    ghost use Rattle.its_player.specs.Contents.{content_of};
+
+    ghost view = { λ h. record { part = h.part; owed = content_of h.owed; out = h.out } };
+}
+
+impl Held {
+    pub fn new(part: Part, owed: Content, out: bool) -> Held
+        ensures { result ≡ record { part = part; owed = content_of owed; out = out } }
+    {
+        Held { part, owed, out }
+    }
+
+    pub fn part(&self) -> Part
+        ensures { result ≡ self.now.part }
+    {
+        self.part
+    }
+
+    pub fn owed(&self) -> &Content
+        ensures { content_of result.now ≡ self.now.owed }
+    {
+        &self.owed
+    }
+
+    pub fn is_out(&self) -> bool
+        ensures { result ≡ self.now.out }
+    {
+        self.out
+    }
+
+    pub fn take_out(&mut self)
+        ensures { self.new ≡ record self.old { out = true } }
+    {
+        self.out = true;
+    }
+
+    pub fn put_home(&mut self)
+        ensures { self.new ≡ record self.old { out = false } }
+    {
+        self.out = false;
+    }
+
+    /// Whether it owes a shard that has a pair's translation under a stamp, to this target.
+    pub fn finds(&self, dev: DeviceId, ev: EventId, stamp: u32, target: Target) -> bool
+        ensures { result ≡ spec.finds dev.0 ev.0 stamp target self.now.owed }
+    {
+        self.owed.finds(dev, ev, stamp, target)
+    }
+
+    /// Whether it owes a shard that has no entry of a pair.
+    pub fn lacks(&self, dev: DeviceId, ev: EventId) -> bool
+        ensures { result ≡ spec.lacks dev.0 ev.0 self.now.owed }
+    {
+        self.owed.lacks(dev, ev)
+    }
+}

@@ -1,0 +1,222 @@
+-- Signals: found in the cache, or sent by the maps.
+use Rattle.std.proofs.Common.{◌≡◌, ℕ, ◌<◌, ◌&&◌, Bool, true, false, cond, eqb, List, [], ◌∷◌, length, set, get_or, Option, Some, Result, Ok, Err, refl, ap, sym, ◌∙◌, subst, inl, inr, arith, length-set, get_or-set_same, eq-eqb}
+use Rattle.std.specs.List.{AllByRecursion}
+use Rattle.std.specs.Option.{option_map}
+use Rattle.std.specs.Result.{result_ok}
+use Rattle.its_types.specs.Lpis.{with_lpi}
+use Rattle.its_types.specs.declared.ids.DeviceId.{DeviceId}
+use Rattle.its_types.specs.declared.ids.EventId.{EventId}
+use Rattle.its_types.specs.declared.ids.Target.{Target}
+use Rattle.its_types.specs.declared.machine.Part.TheVariants as part
+use Rattle.its_types.specs.declared.machine.Word.{Word}
+use Rattle.its_plain.specs.Answer.{signal_reply, reply_of, left}
+use Rattle.its_plain.specs.Parts.{footprint, redist_of}
+use Rattle.its_plain.specs.Plain.{Plain, Translator, Redistributor, translator, redistributor, is_on, no_translator, no_redistributor}
+use Rattle.its_plain.specs.Translation.{located, translated, ◌>>=◌, ensure}
+use Rattle.its_plain.specs.declared.call.Call.{Call}
+use Rattle.its_plain.specs.declared.call.Call.TheVariants as call
+use Rattle.its_plain.specs.declared.call.Cause.{Cause}
+use Rattle.its_plain.specs.declared.call.Cause.TheVariants.{LpisOff}
+use Rattle.its_plain.specs.declared.call.Reply.{Reply}
+use Rattle.its_plain.specs.declared.call.Reply.TheVariants as reply
+use Rattle.its_plain.specs.declared.call.Signal.TheVariants.{Delivered, Dropped}
+use Rattle.xlate_cache.specs.Pairs.{shard_number}
+use Rattle.xlate_cache.specs.Ways.{entry, filled, found}
+use Rattle.xlate_cache.specs.declared.entry.Entry.{Entry as Translation}
+use Rattle.its_steps.specs.Calls.{staying, MayLeave, HitMayCommit, FillMayCommit, DropMayCommit, OffMayCommit}
+use Rattle.its_steps.specs.Contents.{Maps, Shard, Redist, Held}
+use Rattle.its_steps.specs.Good.{Holds, Apart}
+use Rattle.its_steps.specs.MayCall.{MayCall, Covers, IsAnswered, MayFill}
+use Rattle.its_steps.specs.Parts.{Setup, HasVcpus, translator_count, vcpu_count, stamp_of}
+use Rattle.its_steps.specs.Renewal.{assembled, changed, renewal}
+use Rattle.its_steps.specs.World.{out, word_after}
+use Rattle.its_steps.specs.declared.change.ShardChange.TheVariants as change
+use Rattle.its_steps.specs.declared.commit.Commit.{Commit}
+use Rattle.its_steps.proofs.Calm.{calm_may}
+
+-- on to the redistributor
+abbrev sends : Bool → Result Target Cause → Result Target Cause
+sends on x = x >>= (λ t. ensure on LpisOff >>= (λ _. Ok t))
+
+-- a redistributor that a delivery leaves
+abbrev with_sent : Target → Redistributor → Redistributor
+with_sent target r = record r { pending = with_lpi target.intid.0 r.pending }
+
+module _ (s : Setup) (last : Word) (its : ℕ) (dev : DeviceId) (ev : EventId) (vcpus : HasVcpus s) (it : its < translator_count s) (room : last.place < s.limits.place_last) where
+  abbrev c : Call
+  c = call.Signal its dev ev
+
+  abbrev n : ℕ
+  n = shard_number dev.0 ev.0 s.shards
+
+  -- ---- a redistributor in front of other parts
+
+  module _ (target : Target) (r : Redistributor) (st : target.vcpu.0 < vcpu_count s) (rest : List Held) where
+    abbrev front : List Held
+    front = out (part.Redist target.vcpu) (Redist r) ∷ rest
+
+    abbrev sent : Reply
+    sent = reply.Signal (Delivered target.vcpu target.intid)
+
+    module _ (long : target.vcpu.0 < length (assembled s rest).redistributors) where
+      pub here_redist : redistributor (assembled s front) target.vcpu.0 ≡ r
+      here_redist = get_or-set_same (assembled s rest).redistributors target.vcpu.0 r no_redistributor long
+
+      pub sent_redist : redistributor (left (assembled s front) c sent) target.vcpu.0 ≡ with_sent target r
+      unfolding left
+      sent_redist =
+          let a : Plain = assembled s front in
+          let still : target.vcpu.0 < length a.redistributors = omega (arith, long, length-set (assembled s rest).redistributors target.vcpu.0 r) in
+          get_or-set_same a.redistributors target.vcpu.0 (with_sent target (redistributor a target.vcpu.0)) no_redistributor still ∙ ap (with_sent target) here_redist
+
+  -- ---- hits
+
+  module _ (target : Target) (ways : List (Option Translation)) (r : Redistributor) (st : target.vcpu.0 < vcpu_count s) (sh : n < s.shards) (has : found ways dev.0 ev.0 (stamp_of s last its) ≡ Some target) where
+    abbrev shard : List Held
+    shard = out (part.Shard its n) (Shard ways) ∷ []
+
+    abbrev two : List Held
+    two = out (part.Redist target.vcpu) (Redist r) ∷ shard
+
+    two_apart : Apart two
+    two_apart = ((λ h. no_shard h), ((λ h. h), tt))
+      where
+        no_shard : Holds (part.Redist target.vcpu) shard → ⊥
+        no_shard (inl e) = cc
+        no_shard (inr h) = h
+
+    hit_leaves : renewal s (staying last c (sent target r st shard) change.Keep) two ≡ out (part.Redist target.vcpu) (Redist (with_sent target r)) ∷ shard
+    unfolding left changed
+    hit_leaves = λ d. out (part.Redist target.vcpu) (Redist (sent_redist target r st shard (omega (arith, st, vcpus)) d)) ∷ shard
+
+    hit_may : MayCall s (staying last c (sent target r st shard) change.Keep) two
+    hit_may = calm_may s last c (sent target r st shard) change.Keep two vcpus tt room two_apart (st, ((it, sh), tt)) (refl, (refl, tt))
+        (inr record { its = its; dev = dev; ev = ev; target = target; call_is = refl; reply_is = refl; ways = ways; owes = inr (inl (refl, refl)); is_found = has; redist = inl refl }) tt
+
+  -- ---- by the maps
+
+  module _ (t : Translator) where
+    here_maps : get_or (set s.start.translators its t) its no_translator ≡ t
+    here_maps = get_or-set_same s.start.translators its t no_translator it
+
+    -- in a state that has these maps
+    goes_where : (u : Plain) (x : Result Target Cause) → translator u its ≡ t → located t dev.0 ev.0 ≡ x → located (translator u its) dev.0 ev.0 ≡ x
+    goes_where u x has is = ap (λ (y : Translator). located y dev.0 ev.0) has ∙ is
+
+    goes_to : (u : Plain) (target : Target) (on : Bool) → translator u its ≡ t → located t dev.0 ev.0 ≡ Ok target → is_on u target.vcpu.0 ≡ on → translated u its dev.0 ev.0 ≡ sends on (Ok target)
+    unfolding translated
+    goes_to u target on has is on_is =
+        ap (λ (x : Result Target Cause). x >>= (λ t. ensure (is_on u t.vcpu.0) LpisOff >>= (λ _. Ok t))) (goes_where u (Ok target) has is)
+        ∙ ap (λ (b : Bool). sends b (Ok target)) on_is
+
+    goes_nowhere : (u : Plain) (cause : Cause) → translator u its ≡ t → located t dev.0 ev.0 ≡ Err cause → translated u its dev.0 ev.0 ≡ Err cause
+    unfolding translated
+    goes_nowhere u cause has is = ap (λ (x : Result Target Cause). x >>= (λ t. ensure (is_on u t.vcpu.0) LpisOff >>= (λ _. Ok t))) (goes_where u (Err cause) has is)
+
+    answers_as : (u : Plain) (x : Result Target Cause) → translated u its dev.0 ev.0 ≡ x → reply.Signal (signal_reply x) ≡ reply_of u c
+    unfolding reply_of
+    answers_as u x is = ap (λ (y : Result Target Cause). reply.Signal (signal_reply y)) (sym is)
+
+    covers_as : (u : Plain) (held : List Held) (x : Result Target Cause) → located (translator u its) dev.0 ev.0 ≡ x → Holds (part.Maps its) held
+        → AllByRecursion (λ p. Holds p held) (redist_of (option_map (λ t. t.vcpu) (result_ok x))) → Covers u c held
+    unfolding footprint
+    covers_as u held x is maps redists = (maps, subst (λ (y : Result Target Cause). AllByRecursion (λ p. Holds p held) (redist_of (option_map (λ t. t.vcpu) (result_ok y)))) (sym is) redists)
+
+    abbrev maps : List Held
+    maps = out (part.Maps its) (Maps t) ∷ []
+
+    -- ---- dropped by the maps
+
+    module _ (cause : Cause) (lost : located t dev.0 ev.0 ≡ Err cause) where
+      drop_answered : IsAnswered (assembled s maps) c (reply.Signal (Dropped cause)) maps
+      drop_answered = record { covers = covers_as (assembled s maps) maps (Err cause) (goes_where (assembled s maps) (Err cause) here_maps lost) (inl refl) tt; reply_is = answers_as (assembled s maps) (Err cause) (goes_nowhere (assembled s maps) cause here_maps lost) }
+
+      drop_leaves : renewal s (staying last c (reply.Signal (Dropped cause)) change.Keep) maps ≡ maps
+      unfolding left
+      drop_leaves = λ d. out (part.Maps its) (Maps (here_maps d)) ∷ []
+
+      pub drop_may : MayLeave s (staying last c (reply.Signal (Dropped cause)) change.Keep) maps maps
+      drop_may = (calm_may s last c (reply.Signal (Dropped cause)) change.Keep maps vcpus tt room ((λ h. h), tt) (it, tt) (refl, tt) (inl drop_answered) tt, drop_leaves)
+
+    -- ---- sent to a redistributor
+
+    module _ (target : Target) (r : Redistributor) (st : target.vcpu.0 < vcpu_count s) (goes : located t dev.0 ev.0 ≡ Ok target) (ways : List (Option Translation)) (sh : n < s.shards) where
+      abbrev behind : List Held
+      behind = out (part.Shard its n) (Shard ways) ∷ maps
+
+      abbrev three : List Held
+      three = out (part.Redist target.vcpu) (Redist r) ∷ behind
+
+      abbrev a : Plain
+      a = assembled s three
+
+      long : target.vcpu.0 < length (assembled s behind).redistributors
+      long = omega (arith, st, vcpus)
+
+      three_apart : Apart three
+      three_apart = ((λ h. no_redist h), ((λ h. no_shard h), ((λ h. h), tt)))
+        where
+          no_shard : Holds (part.Shard its n) maps → ⊥
+          no_shard (inl e) = cc
+          no_shard (inr h) = h
+
+          no_redist : Holds (part.Redist target.vcpu) behind → ⊥
+          no_redist (inl e) = cc
+          no_redist (inr (inl e)) = cc
+          no_redist (inr (inr h)) = h
+
+      goes_on : (on : Bool) (x : Result Target Cause) → r.bases.on ≡ on → sends on (Ok target) ≡ x → IsAnswered a c (reply.Signal (signal_reply x)) three
+      goes_on on x is sent_as = record {
+        covers = covers_as a three (Ok target) (goes_where a (Ok target) here_maps goes) (inr (inr (inl refl))) (inl refl, tt);
+        reply_is = answers_as a x (goes_to a target on here_maps goes (ap (λ (y : Redistributor). y.bases.on) (here_redist target r st behind long) ∙ is) ∙ sent_as);
+      }
+
+      off_leaves : renewal s (staying last c (reply.Signal (Dropped LpisOff)) change.Keep) three ≡ three
+      unfolding left changed
+      off_leaves = λ d. out (part.Redist target.vcpu) (Redist (here_redist target r st behind long d)) ∷ out (part.Shard its n) (Shard ways) ∷ out (part.Maps its) (Maps (here_maps d)) ∷ []
+
+      pub off_may : r.bases.on ≡ false → MayLeave s (staying last c (reply.Signal (Dropped LpisOff)) change.Keep) three three
+      off_may off = (calm_may s last c (reply.Signal (Dropped LpisOff)) change.Keep three vcpus tt room three_apart (st, ((it, sh), (it, tt))) (refl, (refl, (refl, tt))) (inl (goes_on false (Err LpisOff) off refl)) tt, off_leaves)
+
+      abbrev fill : Commit
+      fill = staying last c (sent target r st behind) (change.Fill dev ev target)
+
+      maps_after : translator (left a c (sent target r st behind)) its ≡ t
+      unfolding left
+      maps_after = here_maps
+
+      may_fill : r.bases.on ≡ true → MayFill s c (left a c (sent target r st behind)) three dev ev target
+      may_fill on = record {
+        maps = inr (inr (inl refl));
+        shard = inr (inl refl);
+        redist = inl refl;
+        agrees = goes_to (left a c (sent target r st behind)) target true maps_after goes (ap (λ (x : Redistributor). x.bases.on) (sent_redist target r st behind long) ∙ on);
+      }
+
+      its_own : (eqb its its && eqb n n) ≡ true
+      its_own = ap (λ (b : Bool). b && eqb n n) (eq-eqb its its refl) ∙ eq-eqb n n refl
+
+      abbrev full : List (Option Translation)
+      full = filled ways (entry dev ev (stamp_of s last its) target)
+
+      shard_after : changed s (word_after fill) c (change.Fill dev ev target) its n ways ≡ full
+      unfolding changed
+      shard_after = ap (λ (b : Bool). cond b full ways) its_own
+
+      fill_leaves : renewal s fill three ≡ out (part.Redist target.vcpu) (Redist (with_sent target r)) ∷ out (part.Shard its n) (Shard full) ∷ maps
+      fill_leaves = λ d. out (part.Redist target.vcpu) (Redist (sent_redist target r st behind long d)) ∷ out (part.Shard its n) (Shard (shard_after d)) ∷ out (part.Maps its) (Maps (maps_after d)) ∷ []
+
+      pub fill_may : r.bases.on ≡ true → MayCall s fill three
+      fill_may on = calm_may s last c (sent target r st behind) (change.Fill dev ev target) three vcpus tt room three_apart (st, ((it, sh), (it, tt))) (refl, (refl, (refl, tt))) (inl (goes_on true (Ok target) on refl)) (may_fill on)
+
+pub hits : HitMayCommit
+hits s last its dev ev target ways r vcpus it st sh room has = (hit_may s last its dev ev vcpus it room target ways r st sh has, hit_leaves s last its dev ev vcpus it room target ways r st sh has)
+
+pub fills : FillMayCommit
+fills s last its dev ev target t ways r vcpus it st sh room goes on = (fill_may s last its dev ev vcpus it room t target r st goes ways sh on, fill_leaves s last its dev ev vcpus it room t target r st goes ways sh)
+
+pub drops : DropMayCommit
+drops s last its dev ev cause t vcpus it room lost = drop_may s last its dev ev vcpus it room t cause lost
+
+pub offs : OffMayCommit
+offs s last its dev ev target t ways r vcpus it st sh room goes off = off_may s last its dev ev vcpus it room t target r st goes ways sh off

@@ -1,5 +1,0 @@
-use Rattle.std.proofs.Common.{length}
-use Rattle.its_steps.proofs.shared.Shared.+assembled.Given as goal
-
-abbrev pub decreases-assembled : goal.decreases-assembled
-decreases-assembled l = length l.held.now

@@ -1,5 +1,0 @@
-use Rattle.std.proofs.Common.{length}
-use Rattle.its_steps.proofs.stamps.+have_fills_alone.Given as goal
-
-abbrev pub decreases-have_fills_alone : goal.decreases-have_fills_alone
-decreases-have_fills_alone l = length l.owed.now

@@ -1,0 +1,15 @@
+use crate::change::ShardChange;
+use its_plain::{Call, Reply};
+use its_types::Word;
+
+/// One exchange of the word, which makes a call with its reply.
+#[derive(Clone, Copy, Debug, PartialEq, Eq)]
+pub struct Commit {
+    /// The word that is to be there. The one that the commit leaves has the next place.
+    pub expected: Word,
+    /// The stamp of the word that it leaves.
+    pub stamp: u32,
+    pub call: Call,
+    pub reply: Reply,
+    pub change: ShardChange,
+}
