@@ -1,0 +1,13 @@
+pub mod Spaced
+pub mod Homes
+pub mod Looking
+pub mod Turning
+pub mod Trying
+pub mod Committing
+pub mod Passing
+pub mod Closing
+pub mod Ended
+pub mod Opening
+pub mod Exchanged
+pub mod Joined
+pub mod Telling

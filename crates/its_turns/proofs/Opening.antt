@@ -1,0 +1,162 @@
+-- The table that a machine begins with keeps the rule.
+use Rattle.std.proofs.Common.{◌≡◌, ℕ, zero, suc, ◌+◌, ◌*◌, ◌<◌, ◌≤◌, List, [], ◌∷◌, ◌++◌, map, replicate, take, length, set, get_or, refl, ap, sym, ◌∙◌, subst, arith, append_assoc, get_or-set_other}
+use Rattle.std.specs.Prelude as std
+use Rattle.std.specs.List.{AllByRecursion}
+use mathlib.Core.Option.{Option, none, some, some-injective, some-ne-none}
+use lib.ListN.{get_elem?, length-map, length-replicate}
+use Rattle.atomic_table.specs.Table.{opening}
+use Rattle.its_types.specs.declared.machine.Word.{Word}
+use Rattle.guest_windows.specs.Windows.{Window}
+use Rattle.its_plain.specs.Plain.{Redistributor}
+use Rattle.its_plain.specs.Sound.{IsSound}
+use Rattle.its_plain.specs.declared.desc.Desc.{Desc}
+use Rattle.lpi_pending.specs.InHand.{in_hand}
+use Rattle.lpi_pending.specs.declared.redist.Redist.{Redist as InHand}
+use Rattle.owned_parts.specs.Owned.{redistributor_of, redistributor_or}
+use Rattle.owned_parts.specs.declared.parts.Parts.{Parts}
+use Rattle.xlate_cache.specs.Ways.{no_entries}
+use Rattle.its_steps.specs.Parts.{Setup, part_count}
+use Rattle.its_steps.specs.Contents.{Content, Maps, Mem, Shard, Redist}
+use Rattle.its_steps.specs.World.{View, World, first_word, first_view, first_slots, first_world}
+use Rattle.its_steps.specs.Good.{Good}
+use Rattle.its_steps.proofs.First.{first, slots_long}
+use Rattle.its_turns.specs.declared.value.Tables.{Tables as TheTables}
+use Rattle.its_turns.specs.declared.value.Value.{Value}
+use Rattle.its_turns.specs.declared.value.Value.TheVariants.{Vacant}
+use Rattle.its_turns.specs.Contents.{content_of, IsFit, shelved}
+use Rattle.its_turns.specs.Opening.{setup_from, AreFirst, apart, first_words}
+use Rattle.its_turns.specs.Rule.{Kept, world_of}
+use Rattle.its_turns.specs.Words.{unpacked, spaced, turns_in, slots_in}
+
+zeros_at : (n k : ℕ) → get_or {A = ℕ} (replicate n 0) k 0 ≡ 0
+zeros_at zero k = refl
+zeros_at (suc n) zero = refl
+zeros_at (suc n) (suc k) = zeros_at n k
+
+zero_turns : (m k n : ℕ) → spaced {A = ℕ} 0 16 (replicate m 0) k n ≡ replicate n 0
+zero_turns m k zero = refl
+zero_turns m k (suc n) = let here = zeros_at m (16 * k) in let rest = zero_turns m (suc k) n in λ d. here d ∷ rest d
+
+-- ---- slots with empty ones behind
+
+abbrev Homes : Type 0
+Homes = List (Option Value)
+
+-- seven empty slots
+abbrev behind : Homes → Homes
+behind xs = some Vacant ∷ some Vacant ∷ some Vacant ∷ some Vacant ∷ some Vacant ∷ some Vacant ∷ some Vacant ∷ xs
+
+later_slots : (o : Option Value) (xs : Homes) (k n : ℕ) → spaced none 8 (o ∷ behind xs) (suc k) n ≡ spaced none 8 xs k n
+later_slots o xs k zero = refl
+later_slots o xs k (suc n) =
+    let i : 8 * suc k ≡ suc (suc (suc (suc (suc (suc (suc (suc (8 * k)))))))) = omega arith in
+    let here : get_or (o ∷ behind xs) (8 * suc k) none ≡ get_or xs (8 * k) none = ap (λ (j : ℕ). get_or (o ∷ behind xs) j none) i in
+    let rest = later_slots o xs (suc k) n in
+    λ d. here d ∷ rest d
+
+first_of_each : (values : List Value) → spaced none 8 (map some (apart values)) 0 (length values) ≡ map some values
+first_of_each [] = refl
+first_of_each (x ∷ xs) = ap (λ (l : Homes). some x ∷ l) (later_slots (some x) (map some (apart xs)) 0 (length xs) ∙ first_of_each xs)
+
+all_shelved : (xs : List Value) → map shelved (map some xs) ≡ map content_of xs
+all_shelved [] = refl
+all_shelved (x ∷ xs) = ap (λ (l : List (Option Content)). content_of x ∷ l) (all_shelved xs)
+
+pub apart_long : (xs : List Value) → length (apart xs) ≡ 8 * length xs
+apart_long [] = refl
+apart_long (x ∷ xs) = let rest = apart_long xs in omega (arith, rest)
+
+apart_fit : (s : Setup) (xs : List Value) → AllByRecursion (IsFit s) xs → AllByRecursion (IsFit s) (apart xs)
+apart_fit s [] fs = tt
+apart_fit s (x ∷ xs) fs = (fs.0, (tt, (tt, (tt, (tt, (tt, (tt, (tt, apart_fit s xs fs.1))))))))
+
+all_fit : (s : Setup) (xs : List Value) → AllByRecursion (IsFit s) xs → (k : ℕ) (x : Value) → get_elem? (map some xs) k ≡ some (some x) → IsFit s x
+all_fit s [] fs k x e = absurd (some-ne-none (some x) (sym e))
+all_fit s (y ∷ ys) fs zero x e = subst (IsFit s) (some-injective y x (some-injective (some y) (some x) e)) fs.0
+all_fit s (y ∷ ys) fs (suc k) x e = all_fit s ys fs.1 k x e
+
+apart_more : (xs : List Value) (x : Value) → apart (xs ++ x ∷ []) ≡ apart xs ++ x ∷ replicate 7 Vacant
+apart_more [] x = refl
+apart_more (y ∷ ys) x = ap (λ (l : List Value). y ∷ (replicate 7 Vacant ++ l)) (apart_more ys x)
+
+pub one_more_apart : (xs : List Value) (x : Value) (slots more : List Value) → slots ≡ apart xs → more ≡ slots ++ x ∷ replicate 7 Vacant → more ≡ apart (xs ++ x ∷ [])
+one_more_apart xs x slots more so_far is = is ∙ (ap (λ (l : List Value). l ++ x ∷ replicate 7 Vacant) so_far ∙ sym (apart_more xs x))
+
+-- there is a value for each part
+pub values_long : (s : Setup) (values : List Value) → IsSound s.start → AreFirst s values → length values ≡ part_count s
+values_long s values sound are = sym (length-map values content_of) ∙ (ap (λ (l : List (Option Content)). length l) are.contents ∙ slots_long s sound)
+
+pub opens : (s : Setup) (values : List Value) → IsSound s.start → AreFirst s values → Kept s (opening (first_words (part_count s)) (apart values) (first_view s))
+opens s values sound are =
+    let n : ℕ = part_count s in
+    let m : ℕ = 16 * (n + 1) in
+    let long : length values ≡ n = values_long s values sound are in
+    let word : unpacked (get_or (first_words n) 0 0) ≡ first_word = ap unpacked (zeros_at m 0) in
+    let turns = zero_turns m 1 n in
+    let slots : slots_in (map some (apart values)) n ≡ first_slots s =
+    ap (λ (k : ℕ). slots_in (map some (apart values)) k) (sym long) ∙ (ap (map shelved) (first_of_each values) ∙ (all_shelved values ∙ are.contents)) in
+    let worlds : world_of s (opening (first_words n) (apart values) (first_view s)) ≡ first_world s = λ d. record { word = word d; turns = turns d; slots = slots d; views = first_view s ∷ [] } in
+    record {
+      history = [];
+      good = subst (Good s []) (sym worlds) (first s sound);
+      wide = omega (arith, length-replicate {A = ℕ} m 0);
+      deep = omega (arith, length-map (apart values) (λ (x : Value). (let o : Option Value = some x in o)), apart_long values, long);
+      out = λ k j e. absurd (let z : get_or (turns_in (first_words n) n) k 0 ≡ 0 = ap (λ (ts : List ℕ). get_or ts k 0) turns ∙ zeros_at n k in omega (arith, z, e));
+      fit = all_fit s (apart values) (apart_fit s values are.fit);
+    }
+
+-- ---- the first values
+
+contents_more : (xs : List Value) (x : Value) → map content_of (xs ++ x ∷ []) ≡ map content_of xs ++ content_of x ∷ []
+contents_more [] x = refl
+contents_more (y ∷ ys) x = ap (λ (l : List (Option Content)). content_of y ∷ l) (contents_more ys x)
+
+abbrev shown : Redistributor → Option Content
+shown r = some (Redist r)
+
+-- the redistributors of the first n places
+abbrev listed : ℕ → List (std.Option InHand) → List Redistributor
+listed n xs = map redistributor_or (take n xs)
+
+one_more : (n v : ℕ) (xs : List (std.Option InHand)) (r : InHand) → v < n → in_hand xs v ≡ std.Some r → map shown (take (suc v) (listed n xs)) ≡ map shown (take v (listed n xs)) ++ shown (redistributor_of r) ∷ []
+one_more n v [] r lt is = absurd cc
+one_more zero v (x ∷ xs) r lt is = absurd (omega arith)
+one_more (suc n) zero (x ∷ xs) r lt is = ap (λ (o : std.Option InHand). (let l : List (Option Content) = shown (redistributor_or o) ∷ [] in l)) is
+one_more (suc n) (suc v) (x ∷ xs) r lt is = ap (λ (l : List (Option Content)). shown (redistributor_or x) ∷ l) (one_more n v xs r (omega arith) is)
+
+all_listed : (n : ℕ) (xs : List (std.Option InHand)) → take n (listed n xs) ≡ listed n xs
+all_listed zero xs = refl
+all_listed (suc n) [] = refl
+all_listed (suc n) (x ∷ xs) = ap (λ (l : List Redistributor). redistributor_or x ∷ l) (all_listed n xs)
+
+abbrev front : Setup → TheTables → List Window → List (Option Content) → List (Option Content)
+front s t memory rest = some (Maps (record { regs = t.regs; maps = t.maps.maps })) ∷ some (Mem memory) ∷ (replicate s.shards (some (Shard no_entries)) ++ rest)
+
+pub next_value : (s : Setup) (t : TheTables) (memory : List Window) (n v : ℕ) (xs : List (std.Option InHand)) (r : InHand) (values : List Value) (x : Value) → v < n → in_hand xs v ≡ std.Some r → content_of x ≡ shown (redistributor_of r)
+    → map content_of values ≡ front s t memory (map shown (take v (listed n xs))) → map content_of (values ++ x ∷ []) ≡ front s t memory (map shown (take (v + 1) (listed n xs)))
+next_value s t memory n v xs r values x lt is shows so_far =
+    let more : suc v ≡ v + 1 = omega arith in
+    let ms : List (Option Content) = map shown (take v (listed n xs)) in
+    contents_more values x ∙ (λ d. so_far d ++ shows d ∷ [])
+    ∙ ap (λ (l : List (Option Content)). some (Maps (record { regs = t.regs; maps = t.maps.maps })) ∷ some (Mem memory) ∷ l) (append_assoc (replicate s.shards (some (Shard no_entries))) ms (shown (redistributor_of r) ∷ []))
+    ∙ ap (front s t memory) (sym (one_more n v xs r lt is) ∙ ap (λ (j : ℕ). map shown (take j (listed n xs))) more)
+
+pub all_values : (d : Desc) (p : Parts) (v : ℕ) (values : List Value) → v ≡ p.layout.shape.vcpus → AllByRecursion (IsFit (setup_from d p)) values
+    → map content_of values ≡ front (setup_from d p) (record { regs = p.regs; maps = p.maps }) p.memory (map shown (take v (listed p.layout.shape.vcpus p.redists))) → AreFirst (setup_from d p) values
+all_values d p v values is fit so_far =
+    let s : Setup = setup_from d p in
+    let one : s.shards ≡ 1 * s.shards = omega arith in
+    let rest : map shown (take v (listed p.layout.shape.vcpus p.redists)) ≡ map shown s.start.redistributors =
+    ap (λ (j : ℕ). map shown (take j (listed p.layout.shape.vcpus p.redists))) is ∙ ap (map shown) (all_listed p.layout.shape.vcpus p.redists) in
+    record {
+      contents = so_far ∙ ap (front s (record { regs = p.regs; maps = p.maps }) p.memory) rest
+          ∙ ap (λ (j : ℕ). some (Maps (record { regs = p.regs; maps = p.maps.maps })) ∷ some (Mem p.memory) ∷ (replicate j (some (Shard no_entries)) ++ map shown s.start.redistributors)) one;
+      fit = fit;
+    }
+
+-- a place that is emptied leaves the later ones
+pub later_same : (xs ys : List (std.Option InHand)) (v k : ℕ) → v + 1 ≤ k → ((j : ℕ) → v ≤ j → in_hand xs j ≡ in_hand ys j) → in_hand (set xs v std.None) k ≡ in_hand ys k
+later_same xs ys v k le same = get_or-set_other xs v k std.None std.None (λ e. absurd (omega arith)) ∙ same k (omega arith)
+
+pub same_some : (x y : InHand) → std.Some x ≡ std.Some y → x ≡ y
+same_some x y e = cc

@@ -1,0 +1,45 @@
+use Rattle.std.proofs.Common.{rules, arith, ◌≡◌, ℕ, ◌+◌, ◌*◌, ◌<◌, ◌≤◌, ◌^◌, List, length, replicate, ap, sym, ◌∙◌, subst}
+use Rattle.atomic_table.specs.Table.{opening}
+use Rattle.its_plain.specs.declared.desc.Desc.{Desc}
+use Rattle.its_plain.specs.declared.layout.Layout.{Layout}
+use Rattle.its_steps.specs.Parts.{HasVcpus, Setup, part_count}
+use Rattle.its_steps.specs.World.{first_view}
+use Rattle.owned_parts.specs.declared.parts.Parts.{Parts}
+use Rattle.its_turns.specs.Opening.{setup_from, kept_of, apart, first_words}
+use Rattle.its_turns.specs.Rule.{Kept, setup_of}
+use Rattle.its_turns.specs.declared.value.Value.{Value}
+use Rattle.its_turns.proofs.Opening.{opens, values_long, apart_long}
+use Rattle.its_turns.proofs.machine.Machine.new.Goals as goal
+
+pub new-requires-2 : goal.new-requires-2
+new-requires-2 c =
+    let s : Setup = setup_from c.args.desc.now c.args.parts in
+    let values = c.in_ok-first_values.field-0.items in
+    let vcpus : c.args.parts.layout.shape.vcpus ≡ c.args.desc.now.shape.vcpus = ap (λ (l : Layout). l.shape.vcpus) c.requires.layout in
+    let count : 16 * (c.args.desc.now.shards + 3 + c.args.desc.now.shape.vcpus) ≡ 16 * (part_count s + 1) = omega (arith, vcpus) in
+    let ws : c.as_slice.result.now ≡ first_words (part_count s) = c.as_slice.ensures.value ∙ (search rules) ∙ ap (λ (n : ℕ). replicate n 0) count in
+    let here : Kept s (opening c.as_slice.result.now c.in_ok-slots.slots.items (first_view s)) =
+    subst (λ (x : List ℕ × List Value). Kept s (opening x.0 x.1 (first_view s))) (λ d. (sym ws d, sym c.in_ok-slots.ensures d)) (opens s values c.requires.sound c.in_ok-first_values.ensures) in
+    subst (λ (x : Desc × Parts). Kept (setup_from x.0 x.1) (opening c.as_slice.result.now c.in_ok-slots.slots.items (first_view (setup_from x.0 x.1)))) (λ d. (sym c.of.ensures d, sym c.of-2.ensures d)) here
+
+pub invariant_of-result : goal.invariant_of-result
+invariant_of-result c =
+    let s : Setup = setup_from c.args.desc.now c.args.parts in
+    let values = c.in_ok-first_values.field-0.items in
+    let e = c.in-Ok.ensures.ok in
+    let key : setup_of c.in-Ok.table.shared.key ≡ s = ap setup_of e.5 ∙ (λ d. setup_from (c.of.ensures d) (c.of-2.ensures d)) in
+    let long : length c.in_ok-slots.slots.items ≡ 8 * part_count s =
+    ap (λ (l : List Value). length l) c.in_ok-slots.ensures ∙ (apart_long values ∙ ap (λ (n : ℕ). 8 * n) (values_long s values c.requires.sound c.in_ok-first_values.ensures)) in
+    let parts : part_count (setup_of c.in-Ok.table.shared.key) ≡ part_count s = ap (λ (x : Setup). part_count x) key in
+    let vcpus : c.args.parts.layout.shape.vcpus ≡ c.args.desc.now.shape.vcpus = ap (λ (l : Layout). l.shape.vcpus) c.requires.layout in
+    let layout : c.in_ok-layout.layout ≡ c.args.parts.layout = c.in_ok-layout.ensures in
+    let words : length c.as_slice.result.now ≡ 16 * (c.args.desc.now.shards + 3 + c.args.desc.now.shape.vcpus) = search rules in
+    record {
+      described = search rules;
+      built = (layout ∙ sym (ap (λ (x : Setup). x.start.layout) key), ap (λ (d : Desc). d.shape) c.in_ok-kept.ensures ∙ sym (ap (λ (l : Layout). l.shape) (layout ∙ c.requires.layout)));
+      sized = (e.1 ∙ (long ∙ ap (λ (n : ℕ). 8 * n) (sym parts)), omega (arith, e.0, words, parts, vcpus));
+      laid = (ap (λ (x : Setup). length x.start.translators) key, subst HasVcpus (sym key) c.requires.sound.vcpus);
+      small = subst (λ (d : Desc). (1 ≤ d.shards) × (d.shards ≤ 64) × (d.shape.vcpus ≤ 16) × (d.limits.place_last < 2 ^ 40) × (d.limits.stamp_last < 2 ^ 24)) (sym c.in_ok-kept.ensures)
+          (c.requires.some_shards, c.requires.most_shards, c.requires.vcpus, c.requires.places, c.requires.stamps);
+      bare = c.in_ok-places.ensures;
+    }

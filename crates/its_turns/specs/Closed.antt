@@ -1,0 +1,23 @@
+-- What is left of a machine.
+use Rattle.std.specs.Prelude.{◌≡◌, ℕ, ◌<◌, ◌≤◌, Bool, true, false, slice_index_or, Option, Some, None, List}
+use Rattle.its_plain.specs.Plain.{Plain}
+use Rattle.lpi_pending.specs.InHand.{in_hand}
+use Rattle.lpi_pending.specs.declared.redist.Redist.{Redist}
+use Rattle.owned_parts.specs.Owned.{ArePartsOf, IsRedistributorOf}
+use Rattle.owned_parts.specs.declared.parts.Parts.{Parts}
+use Rattle.its_steps.specs.Parts.{Setup, vcpu_count}
+
+-- of so many slots, of which some are filled still, just those below n were taken
+abbrev pub AreTaken : ℕ → ℕ → List Bool → Type 0
+AreTaken n count filled = ((k : ℕ) → k < n → slice_index_or filled k false ≡ false) × ((k : ℕ) → n ≤ k → k < count → slice_index_or filled k false ≡ true)
+
+-- the redistributors below n are in hand, as the state has them, and no other is
+pub record AreBelow (u : Plain) (n : ℕ) (redists : List (Option Redist)) : Type 0 where
+  pub below : (vcpu : ℕ) → vcpu < n → (r : Redist) × (in_hand redists vcpu ≡ Some r) × IsRedistributorOf u vcpu r
+  pub others : (vcpu : ℕ) → n ≤ vcpu → in_hand redists vcpu ≡ None
+
+-- all parts of a state
+pub record AreAllParts (s : Setup) (u : Plain) (p : Parts) : Type 0 where
+  pub layout : p.layout ≡ u.layout
+  pub parts : ArePartsOf u 0 s.start.layout.shape p.regs p.maps.maps p.memory p.redists
+  pub redists : AreBelow u (vcpu_count s) p.redists

@@ -1,0 +1,44 @@
+-- What the values in slots stand for.
+use Rattle.std.specs.Prelude.{ℕ, ◌*◌, List, [], ◌∷◌}
+use mathlib.Core.Option.{Option, none, some}
+use Rattle.its_plain.specs.Plain.{Translator}
+use Rattle.owned_parts.specs.Owned.{redistributor_of, HasLpisOf}
+use Rattle.its_steps.specs.Parts.{Setup, index_of}
+use Rattle.its_steps.specs.Contents.{Content, Held}
+use Rattle.its_steps.specs.Contents as content
+use Rattle.its_turns.specs.declared.value.Tables.{Tables}
+use Rattle.its_turns.specs.declared.value.Value.{Value}
+use Rattle.its_turns.specs.declared.value.Value.TheVariants.{Vacant, Maps, Mem, Shard, Redist}
+
+-- registers and maps, as the plain machine has them
+abbrev pub translator_of : Tables → Translator
+translator_of t = record { regs = t.regs; maps = t.maps.maps }
+
+abbrev pub content_of : Value → Option Content
+content_of Vacant = none
+content_of (Maps b) = some (content.Maps (translator_of b.value))
+content_of (Mem b) = some (content.Mem b.value.memory)
+content_of (Shard s) = some (content.Shard s)
+content_of (Redist b) = some (content.Redist (redistributor_of b.value))
+
+-- a redistributor has as many LPIs as the machine
+abbrev pub IsFit : Setup → Value → Type 0
+IsFit s (Redist b) = HasLpisOf s.start.layout.shape b.value
+IsFit s x = Unit {0}
+
+-- in a slot, at home or out
+abbrev pub shelved : Option Value → Option Content
+shelved none = none
+shelved (some x) = content_of x
+
+-- ---- the slots that a pass has in hand
+
+-- each part held is out of its slot, and they stand 8 slots apart
+abbrev pub emptied : Setup → List Held → List (ℕ × Value)
+emptied s [] = []
+emptied s (x ∷ xs) = (8 * index_of s x.part, Vacant) ∷ emptied s xs
+
+-- all but the part taken last
+abbrev pub held_before : List Held → List Held
+held_before [] = []
+held_before (x ∷ xs) = xs

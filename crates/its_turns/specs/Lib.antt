@@ -1,0 +1,9 @@
+pub mod Contents
+pub mod Words
+pub mod Calls
+pub mod Opening
+pub mod Rule
+pub mod Told
+pub mod Machines
+pub mod Steps
+pub mod Closed

@@ -1,0 +1,45 @@
+//! What a call comes to that is tried once.
+use crate::commits::Raced;
+use crate::turns::Busy;
+use its_types::Placed;
+
+/// A call that takes each turn at the first try or gives up.
+#[derive(Clone, Copy, Debug, PartialEq, Eq)]
+pub enum Attempt<T> {
+    /// It was made.
+    Done(Placed<T>),
+    /// It was not: another pass has a turn that it needs.
+    Busy(Busy),
+    /// It was not: another call was made first.
+    Raced(Raced),
+    /// It was not: all places are used.
+    Spent,
+}
+
+/// All places are used, and no call can be made any more.
+#[derive(Clone, Copy, Debug, PartialEq, Eq)]
+pub struct Spent;
+
+/// Why a call was not made that has the parts that it needs.
+#[derive(Clone, Copy, Debug, PartialEq, Eq)]
+pub enum Lost {
+    /// All places are used.
+    Spent,
+    /// Another call was made first.
+    Raced(Raced),
+}
+
+impl Lost {
+    ghost use Rattle.std.specs.Prelude.{◌≡◌};
+    ghost use Rattle.its_turns.specs.Calls.{attempt_of};
+
+    /// What the whole call comes to.
+    pub fn attempt<T>(self) -> Attempt<T>
+        ensures { result ≡ attempt_of self }
+    {
+        match self {
+            Lost::Spent => Attempt::Spent,
+            Lost::Raced(raced) => Attempt::Raced(raced),
+        }
+    }
+}

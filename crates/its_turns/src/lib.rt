@@ -1,0 +1,32 @@
+//! The machine that threads share: each part has a turn, which one pass has or none, and a slot, which its value leaves
+//! while a pass works on it. A call takes effect at a compare-and-exchange of one word.
+#![tactic(auto)]
+
+mod asked;
+mod attempts;
+mod calls;
+mod commits;
+mod ending;
+mod law;
+mod loads;
+mod machine;
+mod make;
+mod passes;
+mod turns;
+mod typed;
+mod value;
+mod waiting;
+mod word;
+
+pub use attempts::{Attempt, Lost, Spent};
+pub use calls::{begin, try_commit};
+pub use commits::{Raced, commit};
+pub use ending::close;
+pub use law::{Known, Plan};
+pub use loads::{bring, look};
+pub use machine::{Machine, Note, Pass, Root};
+pub use passes::{meet, note};
+pub use turns::{Busy, put, take, try_take};
+pub use typed::{try_take_maps, try_take_memory, try_take_redist, try_take_shard};
+pub use value::{GuestMemory, Tables, Value};
+pub use waiting::{give_way, pause};

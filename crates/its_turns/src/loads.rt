@@ -1,0 +1,42 @@
+//! Loads of the word.
+ghost use Rattle.std.specs.Prelude.{◌≡◌};
+ghost use Rattle.its_steps.specs.declared.standing.Standing.TheVariants as standing;
+ghost use Rattle.its_turns.specs.Machines.{view, IsOf};
+ghost use Rattle.its_turns.specs.Told.{Looks, turned};
+
+use crate::law::{Known, Look, Turn};
+use crate::machine::{Machine, Pass};
+use crate::value::Value;
+use crate::word::unpack;
+use atomic_table::Seat;
+use its_types::Word;
+
+/// Loads the word. The pass has then seen the whole history so far.
+pub fn look(machine: &Machine, pass: &mut Pass) -> Word
+    requires { IsOf machine.now pass.old }
+    ensures of { IsOf machine.now pass.new }
+    ensures looks { Looks (view pass.old) result (view pass.new) }
+{
+    load(machine, &mut pass.seat)
+}
+
+pub(crate) fn load(machine: &Machine, seat: &mut Seat<Value, Known>) -> Word
+    requires of { seat.old.table_id ≡ machine.now.table.shared.table_id }
+    requires live { seat.old.me.0.standing ≡ standing.Pass }
+    ensures of { seat.new.table_id ≡ seat.old.table_id }
+    ensures hand { seat.new.me.1 ≡ seat.old.me.1 }
+    ensures looks { Looks seat.old.me.0 result seat.new.me.0 }
+{
+    unpack(machine.table.shared.load::<Look>(seat, 0))
+}
+
+/// Puts the part that was taken last behind all others that the pass holds, so that the one taken before it is the
+/// next to go home.
+pub fn bring(machine: &Machine, pass: &mut Pass)
+    requires { IsOf machine.now pass.old }
+    ensures of { IsOf machine.now pass.new }
+    ensures view { view pass.new ≡ record (view pass.old) { held = turned (view pass.old).held } }
+{
+    machine.table.shared.load::<Turn>(&mut pass.seat, 0);
+    pass.seat.turn();
+}

@@ -1,0 +1,145 @@
+//! How a machine is made.
+ghost use Rattle.std.specs.Prelude.{◌≡◌, ◌+◌, ◌^◌, ◌<◌, ◌≤◌, ◌++◌, ◌∷◌, replicate, length, IfOk, OnOk};
+ghost use Rattle.owned_parts.specs.Owned.{AreAllInHand};
+ghost use Rattle.its_plain.specs.Machine.{layout_of};
+ghost use Rattle.its_plain.specs.Sound.{IsSound};
+ghost use Rattle.its_steps.specs.World.{first_view};
+ghost use Rattle.its_turns.specs.Opening.{setup_from, kept_of, apart, AreFirst};
+ghost use Rattle.its_turns.specs.Machines.{setup, view, IsOf};
+ghost use Rattle.its_turns.specs.declared.value.Value.TheVariants.{Vacant};
+
+use crate::law::Plan;
+use crate::machine::{Machine, Pass, Root};
+use crate::value::{GuestMemory, Tables, Value};
+use atomic_table::{Refused, Table};
+use its_plain::{Desc, LpiTables};
+use its_types::{Listed, Vcpu};
+use lpi_pending::Redists;
+use owned_parts::Parts;
+use std::alloc::{AllocError, Global};
+use std::snapshot::Snapshot;
+use xlate_cache::Shard;
+
+impl Machine {
+    /// A machine with an empty history, stamp and place at 0 and every part at home, and its root. The shards are
+    /// empty. Where memory runs out the parts are dropped.
+    pub fn new(alloc: Global, desc: &Desc, parts: Parts) -> Result<(Machine, Root), AllocError>
+        requires some_shards { 1 ≤ desc.now.shards }
+        requires most_shards { desc.now.shards ≤ 64 }
+        requires vcpus { desc.now.shape.vcpus ≤ 16 }
+        requires stamps { desc.now.limits.stamp_last < 2 ^ 24 }
+        requires places { desc.now.limits.place_last < 2 ^ 40 }
+        requires layout { parts.layout ≡ layout_of desc.now }
+        requires hand { AreAllInHand parts.layout.shape parts.redists }
+        requires sound { IsSound (setup_from desc.now parts).start }
+        ensures of { IfOk result (λ r. IsOf r.0 r.1) }
+        ensures setup { IfOk result (λ r. setup r.0 ≡ setup_from desc.now parts) }
+        ensures desc { IfOk result (λ r. r.0.desc ≡ kept_of desc.now) }
+        ensures view { IfOk result (λ r. view r.1 ≡ first_view (setup r.0)) }
+    {
+        let plan = Plan {
+            desc: Snapshot::of(desc),
+            parts: Snapshot::of(&parts),
+        };
+        let count = desc.shards as usize + 3 + usize::from(desc.shape.vcpus);
+        let words = vec![in alloc; 0; 16 * count]?;
+        let places = Redists::new(alloc)?;
+        let kept = copy_of(alloc, desc)?;
+        let layout = parts.layout.copy(alloc)?;
+        let slots = spread(alloc, first_values(alloc, desc, parts)?)?;
+        match Table::new(alloc, words.as_slice(), slots, &plan) {
+            Ok((table, seat)) => Ok((
+                Machine {
+                    table,
+                    desc: kept,
+                    layout,
+                    places,
+                },
+                Pass {
+                    number: 0,
+                    made: 1,
+                    out: 0,
+                    seat,
+                },
+            )),
+            Err(Refused { slots: _ }) => Err(AllocError),
+        }
+    }
+}
+
+// What the machine keeps of its description.
+fn copy_of(alloc: Global, desc: &Desc) -> Result<Desc, AllocError>
+    ensures { IfOk result (λ d. d ≡ kept_of desc.now) }
+{
+    let windows = Vec::from_slice(alloc, desc.windows.as_slice())?;
+    Ok(Desc {
+        shape: desc.shape,
+        shards: desc.shards,
+        limits: desc.limits,
+        windows: Listed::from_vec(windows),
+        tables: tables_of(alloc, &desc.tables)?,
+        fills: Listed::new(alloc),
+        restore: None,
+    })
+}
+
+fn tables_of(alloc: Global, tables: &LpiTables) -> Result<LpiTables, AllocError>
+    ensures { IfOk result (λ t. t ≡ tables.now) }
+{
+    match tables {
+        LpiTables::Described { config, pending } => {
+            let pending = Vec::from_slice(alloc, pending.as_slice())?;
+            Ok(LpiTables::Described {
+                config: *config,
+                pending: Listed::from_vec(pending),
+            })
+        }
+        LpiTables::Registers(values) => Ok(LpiTables::Registers(*values)),
+    }
+}
+
+// The values of all parts.
+fn first_values(alloc: Global, desc: &Desc, parts: Parts) -> Result<Vec<Value>, AllocError>
+    requires vcpus { parts.layout.shape.vcpus ≤ 16 }
+    requires hand { AreAllInHand parts.layout.shape parts.redists }
+    ensures { IfOk result (λ v. AreFirst (setup_from desc.now parts) v.items) }
+{
+    let Parts {
+        layout,
+        regs,
+        maps,
+        memory,
+        mut redists,
+    } = parts;
+    let mut values = Vec::new(alloc);
+    values.push(Value::Maps(Box::new(alloc, Tables { regs, maps })?))?;
+    values.push(Value::Mem(Box::new(alloc, GuestMemory { memory })?))?;
+    for _shard in 0..desc.shards {
+        values.push(Value::Shard(Shard::new(alloc)?))?;
+    }
+    for vcpu in 0..layout.shape.vcpus {
+        values.push(Value::Redist(redists.take_out(Vcpu(vcpu))))?;
+    }
+    Ok(values)
+}
+
+// Each value with seven empty slots behind it.
+fn spread(alloc: Global, values: Vec<Value>) -> Result<Vec<Value>, AllocError>
+    ensures { IfOk result (λ v. v.items ≡ apart values.items) }
+{
+    let mut slots = Vec::new(alloc);
+    for value in values {
+        push_apart(&mut slots, value)?;
+    }
+    Ok(slots)
+}
+
+fn push_apart(slots: &mut Vec<Value>, value: Value) -> Result<(), AllocError>
+    ensures { OnOk result (slots.new.items ≡ slots.old.items ++ value ∷ replicate 7 Vacant) }
+{
+    slots.push(value)?;
+    for _ in 0..7u8 {
+        slots.push(Value::Vacant)?;
+    }
+    Ok(())
+}

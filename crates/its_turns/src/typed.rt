@@ -1,0 +1,81 @@
+//! Parts taken as what they are.
+ghost use Rattle.std.specs.Prelude.{◌≡◌, ◌<◌, MatchResult};
+ghost use Rattle.its_types.specs.declared.machine.Part.TheVariants as part;
+ghost use Rattle.owned_parts.specs.Owned.{redistributor_of, HasLpisOf};
+ghost use Rattle.its_steps.specs.Good.{Holds};
+ghost use Rattle.its_steps.specs.Parts.{Stands, translator_count, vcpu_count};
+ghost use Rattle.its_steps.specs.Contents as content;
+ghost use Rattle.its_turns.specs.Contents.{translator_of};
+ghost use Rattle.its_turns.specs.Machines.{setup, view, IsOf};
+ghost use Rattle.its_turns.specs.Steps.{TakesPart, IsBusy};
+
+use crate::machine::{Machine, Pass};
+use crate::turns::{Busy, try_take};
+use crate::value::{GuestMemory, Tables, Value};
+use its_types::{Part, Vcpu};
+use lpi_pending::Redist;
+use xlate_cache::Shard;
+
+/// Tries the turn of a translator's maps once, and takes registers and maps out.
+pub fn try_take_maps(machine: &Machine, pass: &mut Pass, its: u8) -> Result<Box<Tables>, Busy>
+    requires of { IsOf machine.now pass.old }
+    requires stands { its < translator_count (setup machine.now) }
+    requires free { ¬ Holds (part.Maps its) (view pass.old).held }
+    ensures of { IsOf machine.now pass.new }
+    ensures result { MatchResult result (λ x. TakesPart (view pass.old) (part.Maps its) (content.Maps (translator_of x.value)) (view pass.new)) (λ b. IsBusy (view pass.old) (part.Maps its) b (view pass.new)) }
+{
+    match try_take(machine, pass, Part::Maps(its)) {
+        Ok(Value::Maps(tables)) => Ok(tables),
+        Ok(_) => unreachable!(),
+        Err(busy) => Err(busy),
+    }
+}
+
+/// Tries the turn of guest memory once, and takes it out.
+pub fn try_take_memory(machine: &Machine, pass: &mut Pass) -> Result<Box<GuestMemory>, Busy>
+    requires of { IsOf machine.now pass.old }
+    requires free { ¬ Holds part.Mem (view pass.old).held }
+    ensures of { IsOf machine.now pass.new }
+    ensures result { MatchResult result (λ x. TakesPart (view pass.old) part.Mem (content.Mem x.value.memory) (view pass.new)) (λ b. IsBusy (view pass.old) part.Mem b (view pass.new)) }
+{
+    match try_take(machine, pass, Part::Mem) {
+        Ok(Value::Mem(memory)) => Ok(memory),
+        Ok(_) => unreachable!(),
+        Err(busy) => Err(busy),
+    }
+}
+
+/// Tries the turn of a shard once, and takes it out.
+pub fn try_take_shard(
+    machine: &Machine,
+    pass: &mut Pass,
+    its: u8,
+    number: u32,
+) -> Result<Shard, Busy>
+    requires of { IsOf machine.now pass.old }
+    requires stands { Stands (setup machine.now) (part.Shard its number) }
+    requires free { ¬ Holds (part.Shard its number) (view pass.old).held }
+    ensures of { IsOf machine.now pass.new }
+    ensures result { MatchResult result (λ x. TakesPart (view pass.old) (part.Shard its number) (content.Shard x) (view pass.new)) (λ b. IsBusy (view pass.old) (part.Shard its number) b (view pass.new)) }
+{
+    match try_take(machine, pass, Part::Shard(its, number)) {
+        Ok(Value::Shard(shard)) => Ok(shard),
+        Ok(_) => unreachable!(),
+        Err(busy) => Err(busy),
+    }
+}
+
+/// Tries the turn of a redistributor once, and takes it out.
+pub fn try_take_redist(machine: &Machine, pass: &mut Pass, vcpu: Vcpu) -> Result<Box<Redist>, Busy>
+    requires of { IsOf machine.now pass.old }
+    requires stands { vcpu.0 < vcpu_count (setup machine.now) }
+    requires free { ¬ Holds (part.Redist vcpu) (view pass.old).held }
+    ensures of { IsOf machine.now pass.new }
+    ensures result { MatchResult result (λ x. TakesPart (view pass.old) (part.Redist vcpu) (content.Redist (redistributor_of x.value)) (view pass.new) × HasLpisOf (setup machine.now).start.layout.shape x.value) (λ b. IsBusy (view pass.old) (part.Redist vcpu) b (view pass.new)) }
+{
+    match try_take(machine, pass, Part::Redist(vcpu)) {
+        Ok(Value::Redist(redist)) => Ok(redist),
+        Ok(_) => unreachable!(),
+        Err(busy) => Err(busy),
+    }
+}

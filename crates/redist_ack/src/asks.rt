@@ -1,0 +1,64 @@
+//! Acknowledgements that wait for their redistributor.
+ghost use Rattle.std.specs.Prelude.{◌≡◌, ◌<◌, []};
+ghost use Rattle.its_types.specs.declared.machine.Part.TheVariants as part;
+ghost use Rattle.its_plain.specs.declared.call.Call.TheVariants as call;
+ghost use Rattle.its_plain.specs.declared.call.Reply.TheVariants as reply;
+ghost use Rattle.its_steps.specs.Parts.{vcpu_count};
+ghost use Rattle.its_turns.specs.Calls.{AsksPart};
+ghost use Rattle.its_turns.specs.Machines.{setup, view, IsOf};
+
+use crate::acks::{try_show, try_take};
+use its_plain::Ack;
+use its_turns::{Attempt, Machine, Pass, Spent, give_way, pause};
+use its_types::{Gate, Placed, Vcpu};
+use std::sync::Wait;
+
+/// Acknowledges the lowest LPI that is pending and enabled at a virtual processor.
+pub fn take<R: Wait, G: Gate>(
+    rt: &R,
+    machine: &Machine,
+    pass: &mut Pass,
+    gate: &G,
+    vcpu: Vcpu,
+) -> Result<Placed<Ack>, Spent>
+    requires of { IsOf machine.now pass.old }
+    requires free { (view pass.old).held ≡ [] }
+    requires vcpu { vcpu.0 < vcpu_count (setup machine.now) }
+    ensures of { IsOf machine.now pass.new }
+    ensures answer { AsksPart (view pass.old) (part.Redist vcpu) (call.Take vcpu) reply.Ack (view pass.new) result }
+{
+    for _ in rt.forever() {
+        match try_take(machine, pass, gate, vcpu) {
+            Attempt::Done(placed) => return Ok(placed),
+            Attempt::Spent => return Err(Spent),
+            Attempt::Busy(_) => give_way(),
+            Attempt::Raced(_) => pause(),
+        }
+    }
+    unreachable!()
+}
+
+/// Shows the LPI that the virtual processor would acknowledge.
+pub fn show<R: Wait, G: Gate>(
+    rt: &R,
+    machine: &Machine,
+    pass: &mut Pass,
+    gate: &G,
+    vcpu: Vcpu,
+) -> Result<Placed<Ack>, Spent>
+    requires of { IsOf machine.now pass.old }
+    requires free { (view pass.old).held ≡ [] }
+    requires vcpu { vcpu.0 < vcpu_count (setup machine.now) }
+    ensures of { IsOf machine.now pass.new }
+    ensures answer { AsksPart (view pass.old) (part.Redist vcpu) (call.Show vcpu) reply.Ack (view pass.new) result }
+{
+    for _ in rt.forever() {
+        match try_show(machine, pass, gate, vcpu) {
+            Attempt::Done(placed) => return Ok(placed),
+            Attempt::Spent => return Err(Spent),
+            Attempt::Busy(_) => give_way(),
+            Attempt::Raced(_) => pause(),
+        }
+    }
+    unreachable!()
+}
