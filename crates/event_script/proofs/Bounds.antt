@@ -12,15 +12,17 @@ use Rattle.event_script.specs.Words.{keyword_of}
 use Rattle.event_script.specs.Description.{empty, at_start, is_ended, is_shard_count}
 use Rattle.event_script.specs.Body.{is_described}
 use Rattle.event_script.specs.Limits.{IsWithinLimits, are_limits}
-use Rattle.event_script.specs.Script.{is_skipped, words_line, line, default_limits, desc_of, script_from, finished, at_line, ◌then◌, parts_from, script_of}
+use Rattle.event_script.specs.Script.{is_skipped, words_line, line, default_limits, desc_of, script_from, finished, at_line, ◌then◌, parts_from, script_of, default_ids, begins_report, trace_with, without_report, check_from, check_of}
 use Rattle.event_script.specs.declared.fault.Kind.{Kind}
 use Rattle.event_script.specs.declared.fault.Kind.TheVariants as kind
 use Rattle.event_script.specs.declared.fault.ScriptFault.{ScriptFault}
 use Rattle.event_script.specs.declared.draft.Draft.{Draft}
+use Rattle.event_script.specs.declared.script.Script.{Script}
+use Rattle.event_script.specs.declared.draft.IdBits.{IdBits}
 use Rattle.event_script.specs.declared.draft.Stage.{Stage}
 use Rattle.event_script.specs.declared.draft.Stage.TheVariants as stage
-use Rattle.event_script.proofs.Steps.{left_true, right_true, bound, bound_by, ensured, chosen}
-use Rattle.event_script.proofs.Good.{IsGood, given_shards, given_limits, in_body, empty_is_good}
+use Rattle.event_script.proofs.Steps.{left_true, right_true, bound, bound_by, ensured, chosen, IsBetween}
+use Rattle.event_script.proofs.Good.{IsGood, given_shards, given_limits, given_ids, in_body, empty_is_good}
 use Rattle.event_script.proofs.GoodBody.{keyword_good}
 
 words_good : (d : Draft) (n : ℕ) (fs : List (List ℕ)) → IsGood d → IfOk (words_line d n fs) IsGood
@@ -43,6 +45,13 @@ limits_known : (o : Option Limits) → given_limits o ≡ true → are_limits (u
 limits_known None e = refl
 limits_known (Some l) e = e
 
+abbrev FitIds : IdBits → Type 0
+FitIds b = IsBetween 16 20 b.dev × IsBetween 14 20 b.lpi
+
+ids_known : (o : Option IdBits) → given_ids o → FitIds (unwrap_or o default_ids)
+ids_known None e = ((omega arith, omega arith), (omega arith, omega arith))
+ids_known (Some b) e = e
+
 all_there : (tables : List (Option Addr)) → list_all is_some tables ≡ true → length (filter_map (λ table. table) tables) ≡ length tables
 all_there [] e = refl
 all_there (None ∷ tables) e = absurd (cc)
@@ -57,12 +66,13 @@ ended stage.Thread e = absurd (cc)
 ended stage.Ended e = (refl, refl)
 
 abbrev IsFit : Draft → Desc → Type 0
-IsFit d desc = IsWithinLimits (record { desc = desc; legs = d.legs })
+IsFit d desc = IsWithinLimits (record { desc = desc; fill_lines = d.fill_lines; legs = d.legs })
 
 desc_fits : (d : Draft) → IsGood d → is_ended d.stage ≡ true → IfOk (desc_of d) (IsFit d)
 unfolding desc_of
 desc_fits d h over =
     let is : is_described d ≡ true = h.described (ended d.stage over).0 in
+    let bits : FitIds (unwrap_or d.ids default_ids) = ids_known d.ids h.fair.ids in
     let tables : Bool = list_all is_some d.pending in
     let windows : Bool = nat_lt 0 (length d.windows) in
     let before : (is_some d.shards && windows && is_some d.config) ≡ true = left_true (is_some d.shards && windows && is_some d.config) tables is in
@@ -74,10 +84,10 @@ desc_fits d h over =
         shape = record {
           some_vcpus = h.fair.some (ended d.stage over).1;
           most_vcpus = h.fair.few;
-          least_dev_bits = omega arith;
-          most_dev_bits = omega arith;
-          least_lpi_bits = omega arith;
-          most_lpi_bits = omega arith;
+          least_dev_bits = bits.0.0;
+          most_dev_bits = bits.0.1;
+          least_lpi_bits = bits.1.0;
+          most_lpi_bits = bits.1.1;
         };
         tables = all_there d.pending (right_true (is_some d.shards && windows && is_some d.config) tables is);
       };
@@ -86,6 +96,7 @@ desc_fits d h over =
       some_windows = ltb-true 0 (length d.windows) some_windows;
       most_windows = h.fair.windows;
       fills = h.fair.fills;
+      fill_lines = h.fair.fill_lines;
       some_legs = omega (arith, h.body.some_legs over);
       most_legs = omega (arith, h.body.leg_room);
       legs = h.body.legs;
@@ -119,3 +130,27 @@ parts_fit n d (text ∷ (next ∷ rest)) h =
 pub scripts_fit : (bytes : List ℕ) → IfOk (script_of bytes) IsWithinLimits
 unfolding script_of
 scripts_fit bytes = parts_fit 1 empty (parts bytes) empty_is_good
+
+-- ---- a script that a report follows
+
+trace_fits : (d : Draft) (fs : List (List ℕ)) → IsGood d → IfOk (trace_with d fs) IsWithinLimits
+unfolding trace_with
+trace_fits d fs h = ensured IsWithinLimits (nat_eq (length fs) 1) kind.Fields _ (λ _. script_fits d h)
+
+abbrev HasScript : Script × List (List ℕ) → Type 0
+HasScript p = IsWithinLimits p.0
+
+none_fits : (n : ℕ) (last : List ℕ) → IfOk (at_line n (without_report last)) HasScript
+none_fits n last = chosen {A = Result (Script × List (List ℕ)) Kind} (λ r. IfOk (at_line n r) HasScript) (nat_eq (length last) 0) _ _ (λ _. tt) (λ _. tt)
+
+check_fits : (n : ℕ) (d : Draft) (ps : List (List ℕ)) → IsGood d → IfOk (check_from n d ps) HasScript
+check_fits n d [] h = none_fits n []
+check_fits n d (last ∷ []) h = none_fits n last
+check_fits n d (text ∷ (next ∷ rest)) h =
+    chosen {A = Result (Script × List (List ℕ)) ScriptFault} (λ r. IfOk r HasScript) (begins_report d text) _ _
+    (λ _. followed IsWithinLimits HasScript n (trace_with d (fields text)) (λ s. Ok (s, next ∷ rest)) (trace_fits d (fields text) h) (λ s fit. fit))
+    (λ _. followed IsGood HasScript n (line d n text) (λ e. check_from (n + 1) e (next ∷ rest)) (line_good d n text h) (λ e good. check_fits (n + 1) e (next ∷ rest) good))
+
+pub checked_scripts_fit : (bytes : List ℕ) → IfOk (check_of bytes) HasScript
+unfolding check_of
+checked_scripts_fit bytes = check_fits 1 empty (parts bytes) empty_is_good

@@ -6,13 +6,15 @@ use Rattle.std.proofs.lemmas.List.{length-set, length-append, length-replicate}
 use Rattle.byteorder.specs.Endian.{little_bytes}
 use Rattle.its_types.specs.declared.ids.Addr.{Addr}
 use Rattle.its_types.specs.declared.machine.Limits.{Limits}
+use Rattle.its_plain.specs.declared.desc.Fill.{Fill}
 use Rattle.event_script.specs.Text.{number}
 use Rattle.event_script.specs.Fields.{arg, number_within, any_number, address, processor, bytes_within}
-use Rattle.event_script.specs.Description.{at_start, in_description, is_ended, empty, vcpus_line, shards_line, limits_line, window_line, config_line, pending_line, register_values, restore_line, bytes_line, word_fill_line, is_given, is_shard_count, with_fill}
+use Rattle.event_script.specs.Description.{at_start, in_description, is_ended, empty, vcpus_line, shards_line, limits_line, ids_line, profile_of, profile_line, window_line, config_line, pending_line, register_values, restore_line, bytes_line, word_fill_line, is_given, is_shard_count, with_fill}
 use Rattle.event_script.specs.Body.{is_described}
 use Rattle.event_script.specs.Limits.{is_thread, is_phase, is_leg, are_limits, is_fill}
 use Rattle.event_script.specs.declared.fault.Kind.TheVariants as kind
 use Rattle.event_script.specs.declared.draft.Draft.{Draft}
+use Rattle.event_script.specs.declared.draft.IdBits.{IdBits}
 use Rattle.event_script.specs.declared.draft.Stage.{Stage}
 use Rattle.event_script.specs.declared.draft.Stage.TheVariants as stage
 use Rattle.event_script.specs.declared.draft.TheConstants.{MOST_LEGS, MOST_PHASES, MOST_THREADS}
@@ -125,14 +127,20 @@ abbrev pub given_limits : Option Limits → Bool
 given_limits None = true
 given_limits (Some l) = are_limits l
 
+abbrev pub given_ids : Option IdBits → Type 0
+given_ids None = Unit {0}
+given_ids (Some b) = IsBetween 16 20 b.dev × IsBetween 14 20 b.lpi
+
 -- what the description has so far
 pub record IsFair (d : Draft) : Type 0 where
   pub few : length d.pending ≤ 16
   pub some : at_start d.stage ≡ false → 1 ≤ length d.pending
   pub shards : given_shards d.shards ≡ true
   pub limits : given_limits d.limits ≡ true
+  pub ids : given_ids d.ids
   pub windows : length d.windows ≤ 16
   pub fills : list_all is_fill d.fills ≡ true
+  pub fill_lines : length d.fill_lines ≡ length d.fills
 
 -- no call was read
 pub record IsEarly (d : Draft) : Type 0 where
@@ -160,7 +168,7 @@ pub record IsGood (d : Draft) : Type 0 where
 
 pub empty_is_good : IsGood empty
 empty_is_good = record {
-  fair = record { few = omega arith; some = λ e. absurd (cc); shards = refl; limits = refl; windows = omega arith; fills = refl };
+  fair = record { few = omega arith; some = λ e. absurd (cc); shards = refl; limits = refl; ids = tt; windows = omega arith; fills = refl; fill_lines = refl };
   described = λ e. absurd (cc);
   early = λ e. record { legs = refl; phases = refl; threads = refl; calls = refl };
   body = record { legs = refl; leg_room = omega arith; some_legs = λ e. absurd (cc); phases = refl; phase_room = omega arith; threads = refl; thread_room = omega arith; calls = refl };
@@ -199,7 +207,7 @@ shards_good d fs h =
     bound IsGood (number_within 1 64 (arg fs 1)) _ (λ n.
     ensured IsGood (is_shard_count n) kind.Number _ (λ count.
     described_more (record d { shards = Some n })
-    (record { few = h.fair.few; some = h.fair.some; shards = count; limits = h.fair.limits; windows = h.fair.windows; fills = h.fair.fills })
+    (record { few = h.fair.few; some = h.fair.some; shards = count; limits = h.fair.limits; ids = h.fair.ids; windows = h.fair.windows; fills = h.fair.fills; fill_lines = h.fair.fill_lines })
     (record { legs = (h.early (not_started d.stage here)).legs; phases = (h.early (not_started d.stage here)).phases; threads = (h.early (not_started d.stage here)).threads; calls = (h.early (not_started d.stage here)).calls })
     (not_started d.stage here)))))
 
@@ -217,7 +225,7 @@ vcpus_good d fs h =
     let e : Draft = record d { stage = stage.Description; pending = replicate n none } in
     let count : length (replicate n none) ≡ n = length-replicate n none in
     described_more e
-    (record { few = rw count r.1; some = λ _. rw count r.0; shards = h.fair.shards; limits = h.fair.limits; windows = h.fair.windows; fills = h.fair.fills })
+    (record { few = rw count r.1; some = λ _. rw count r.0; shards = h.fair.shards; limits = h.fair.limits; ids = h.fair.ids; windows = h.fair.windows; fills = h.fair.fills; fill_lines = h.fair.fill_lines })
     (still_early d e (h.early (start_first d.stage start)) refl refl refl refl) refl)))
 
 pub limits_fit : (stamp place : ℕ) → IsBetween 1 (2 ^ 24 - 1) stamp → IsBetween 1 (2 ^ 40 - 1) place → are_limits (record { stamp_last = stamp; place_last = place }) ≡ true
@@ -238,8 +246,33 @@ limits_good d fs h =
     bound_by IsGood (number_within 1 (2 ^ 40 - 1) (arg fs 2)) (IsBetween 1 (2 ^ 40 - 1)) _ (number_in_range 1 (2 ^ 40 - 1) (arg fs 2)) (λ place p.
     let e : Draft = record d { limits = Some (record { stamp_last = stamp; place_last = place }) } in
     described_more e
-    (record { few = h.fair.few; some = h.fair.some; shards = h.fair.shards; limits = limits_fit stamp place s p; windows = h.fair.windows; fills = h.fair.fills })
+    (record { few = h.fair.few; some = h.fair.some; shards = h.fair.shards; limits = limits_fit stamp place s p; ids = h.fair.ids; windows = h.fair.windows; fills = h.fair.fills; fill_lines = h.fair.fill_lines })
     (still_early d e (h.early off) refl refl refl refl) off))))
+
+pub ids_good : (d : Draft) (fs : List (List ℕ)) → IsGood d → IfOk (ids_line d fs) IsGood
+unfolding ids_line
+ids_good d fs h =
+    ensured IsGood (in_description d.stage && is_none d.ids) kind.Order _ (λ order.
+    let off = not_started d.stage (left_true (in_description d.stage) (is_none d.ids) order) in
+    ensured IsGood (nat_eq (length fs) 3) kind.Fields _ (λ _.
+    bound_by IsGood (number_within 16 20 (arg fs 1)) (IsBetween 16 20) _ (number_in_range 16 20 (arg fs 1)) (λ dev p.
+    bound_by IsGood (number_within 14 20 (arg fs 2)) (IsBetween 14 20) _ (number_in_range 14 20 (arg fs 2)) (λ lpi q.
+    let e : Draft = record d { ids = Some (record { dev = dev; lpi = lpi }) } in
+    described_more e
+    (record { few = h.fair.few; some = h.fair.some; shards = h.fair.shards; limits = h.fair.limits; ids = (p, q); windows = h.fair.windows; fills = h.fair.fills; fill_lines = h.fair.fill_lines })
+    (still_early d e (h.early off) refl refl refl refl) off))))
+
+pub profile_good : (d : Draft) (fs : List (List ℕ)) → IsGood d → IfOk (profile_line d fs) IsGood
+unfolding profile_line
+profile_good d fs h =
+    ensured IsGood (in_description d.stage && is_none d.profile) kind.Order _ (λ order.
+    let off = not_started d.stage (left_true (in_description d.stage) (is_none d.profile) order) in
+    ensured IsGood (nat_eq (length fs) 2) kind.Fields _ (λ _.
+    bound IsGood (number_within 1 2 (arg fs 1)) _ (λ n.
+    let e : Draft = record d { profile = Some (profile_of n) } in
+    described_more e
+    (record { few = h.fair.few; some = h.fair.some; shards = h.fair.shards; limits = h.fair.limits; ids = h.fair.ids; windows = h.fair.windows; fills = h.fair.fills; fill_lines = h.fair.fill_lines })
+    (still_early d e (h.early off) refl refl refl refl) off)))
 
 pub window_good : (d : Draft) (fs : List (List ℕ)) → IsGood d → IfOk (window_line d fs) IsGood
 unfolding window_line
@@ -252,7 +285,7 @@ window_good d fs h =
     ensured IsGood (nat_lt (length d.windows) 16) kind.Many _ (λ room.
     let e : Draft = record d { windows = d.windows ++ (base, len) ∷ [] } in
     described_more e
-    (record { few = h.fair.few; some = h.fair.some; shards = h.fair.shards; limits = h.fair.limits; windows = omega (arith, length-append d.windows ((base, len) ∷ []), ltb-true (length d.windows) 16 room); fills = h.fair.fills })
+    (record { few = h.fair.few; some = h.fair.some; shards = h.fair.shards; limits = h.fair.limits; ids = h.fair.ids; windows = omega (arith, length-append d.windows ((base, len) ∷ []), ltb-true (length d.windows) 16 room); fills = h.fair.fills; fill_lines = h.fair.fill_lines })
     (still_early d e (h.early off) refl refl refl refl) off)))))
 
 pub config_good : (d : Draft) (fs : List (List ℕ)) → IsGood d → IfOk (config_line d fs) IsGood
@@ -264,7 +297,7 @@ config_good d fs h =
     bound IsGood (address (arg fs 1)) _ (λ base.
     let e : Draft = record d { config = Some base } in
     described_more e
-    (record { few = h.fair.few; some = h.fair.some; shards = h.fair.shards; limits = h.fair.limits; windows = h.fair.windows; fills = h.fair.fills })
+    (record { few = h.fair.few; some = h.fair.some; shards = h.fair.shards; limits = h.fair.limits; ids = h.fair.ids; windows = h.fair.windows; fills = h.fair.fills; fill_lines = h.fair.fill_lines })
     (still_early d e (h.early off) refl refl refl refl) off)))
 
 pub pending_good : (d : Draft) (fs : List (List ℕ)) → IsGood d → IfOk (pending_line d fs) IsGood
@@ -278,7 +311,7 @@ pending_good d fs h =
     let e : Draft = record d { pending = set d.pending vcpu.0 (Some base) } in
     let count : length e.pending ≡ length d.pending = length-set d.pending vcpu.0 (Some base) in
     described_more e
-    (record { few = rw count h.fair.few; some = λ s. rw count (h.fair.some s); shards = h.fair.shards; limits = h.fair.limits; windows = h.fair.windows; fills = h.fair.fills })
+    (record { few = rw count h.fair.few; some = λ s. rw count (h.fair.some s); shards = h.fair.shards; limits = h.fair.limits; ids = h.fair.ids; windows = h.fair.windows; fills = h.fair.fills; fill_lines = h.fair.fill_lines })
     (still_early d e (h.early off) refl refl refl refl) off))))
 
 pub restore_good : (d : Draft) (fs : List (List ℕ)) → IsGood d → IfOk (restore_line d fs) IsGood
@@ -290,7 +323,7 @@ restore_good d fs h =
     bound IsGood (register_values fs) _ (λ values.
     let e : Draft = record d { restore = Some values } in
     described_more e
-    (record { few = h.fair.few; some = h.fair.some; shards = h.fair.shards; limits = h.fair.limits; windows = h.fair.windows; fills = h.fair.fills })
+    (record { few = h.fair.few; some = h.fair.some; shards = h.fair.shards; limits = h.fair.limits; ids = h.fair.ids; windows = h.fair.windows; fills = h.fair.fills; fill_lines = h.fair.fill_lines })
     (still_early d e (h.early off) refl refl refl refl) off)))
 
 -- with more bytes for the memory
@@ -298,8 +331,9 @@ pub fill_good : (d : Draft) (n : ℕ) (addr : Addr) (bytes : List ℕ) → IsGoo
 fill_good d n addr bytes h here sized =
     let off = not_started d.stage here in
     let e : Draft = with_fill d n addr bytes in
+    let fill : Fill = record { addr = addr; bytes = bytes } in
     described_more e
-    (record { few = h.fair.few; some = h.fair.some; shards = h.fair.shards; limits = h.fair.limits; windows = h.fair.windows; fills = all_pushed is_fill d.fills (record { line = n; addr = addr; bytes = bytes }) h.fair.fills sized })
+    (record { few = h.fair.few; some = h.fair.some; shards = h.fair.shards; limits = h.fair.limits; ids = h.fair.ids; windows = h.fair.windows; fills = all_pushed is_fill d.fills (record { addr = addr; bytes = bytes }) h.fair.fills sized; fill_lines = omega (arith, h.fair.fill_lines, length-append d.fills (fill ∷ []), length-append d.fill_lines (n ∷ [])) })
     (still_early d e (h.early off) refl refl refl refl) off
 
 pub bytes_good : (d : Draft) (n : ℕ) (fs : List (List ℕ)) → IsGood d → IfOk (bytes_line d n fs) IsGood

@@ -18,7 +18,7 @@ use Rattle.event_script.specs.declared.draft.Stage.TheVariants as stage
 use Rattle.event_script.specs.declared.draft.TheConstants.{MOST_LEGS, MOST_PHASES, MOST_THREADS, MOST_CALLS}
 use Rattle.event_script.proofs.Steps.{left_true, right_true, both_true, below, all_pushed, bound_by, ensured, chosen}
 use Rattle.event_script.proofs.Calling.{signal_is_call, take_is_call, show_is_call, poke_is_call, word_is_call, command_is_call, peek_is_call, read_is_call, write_is_call, step_is_call, save_is_call}
-use Rattle.event_script.proofs.Good.{in_body, open_legs, open_phases, open_threads, clash, IsFair, HasCalls, IsGood, shards_good, vcpus_good, limits_good, window_good, config_good, pending_good, restore_good, bytes_good, word_fill_good}
+use Rattle.event_script.proofs.Good.{in_body, open_legs, open_phases, open_threads, clash, IsFair, HasCalls, IsGood, shards_good, vcpus_good, limits_good, ids_good, profile_good, window_good, config_good, pending_good, restore_good, bytes_good, word_fill_good}
 
 one_open : (s : Stage) → in_thread s ≡ true → (open_phases s ≡ 1) × (open_threads s ≡ 1)
 one_open stage.Start e = absurd (cc)
@@ -108,14 +108,16 @@ threads_all d h =
     (λ _. h.threads)
 
 -- what the description has is the same at a later stage
-later : (d e : Draft) → IsFair d → at_start d.stage ≡ false → e.pending ≡ d.pending → e.shards ≡ d.shards → e.limits ≡ d.limits → e.windows ≡ d.windows → e.fills ≡ d.fills → IsFair e
-later d e h s p sh l w f = record {
+later : (d e : Draft) → IsFair d → at_start d.stage ≡ false → e.pending ≡ d.pending → e.shards ≡ d.shards → e.limits ≡ d.limits → e.ids ≡ d.ids → e.windows ≡ d.windows → e.fills ≡ d.fills → e.fill_lines ≡ d.fill_lines → IsFair e
+later d e h s p sh l i w f fl = record {
   few = rw p h.few;
   some = λ _. rw p (h.some s);
   shards = rw sh h.shards;
   limits = rw l h.limits;
+  ids = rw i h.ids;
   windows = rw w h.windows;
   fills = rw f h.fills;
+  fill_lines = rw (f, fl) h.fill_lines;
 }
 
 phase_good : (d : Draft) (fs : List (List ℕ)) → IsGood d → IfOk (phase_line d fs) IsGood
@@ -126,7 +128,7 @@ phase_good d fs h =
     ensured IsGood (nat_eq (length fs) 1) kind.Fields _ (λ _.
     ensured IsGood (nat_lt (length (phases_so_far d)) MOST_PHASES) kind.Many _ (λ room.
     record {
-      fair = later d (record d { stage = stage.Phase; phases = phases_so_far d; threads = []; calls = [] }) h.fair (started d.stage on) refl refl refl refl refl;
+      fair = later d (record d { stage = stage.Phase; phases = phases_so_far d; threads = []; calls = [] }) h.fair (started d.stage on) refl refl refl refl refl refl refl;
       described = λ _. left_true (is_described d) (not (in_phase d.stage)) whole;
       early = λ off. clash off refl;
       body = record {
@@ -149,7 +151,7 @@ migrate_good d fs h =
     ensured IsGood (nat_eq (length fs) 1) kind.Fields _ (λ _.
     ensured IsGood (nat_lt (length (legs_so_far d)) MOST_LEGS) kind.Many _ (λ room.
     record {
-      fair = later d (record d { stage = stage.Leg; legs = legs_so_far d; phases = []; threads = []; calls = [] }) h.fair (started d.stage on) refl refl refl refl refl;
+      fair = later d (record d { stage = stage.Leg; legs = legs_so_far d; phases = []; threads = []; calls = [] }) h.fair (started d.stage on) refl refl refl refl refl refl refl;
       described = λ _. left_true (is_described d) (not (in_phase d.stage)) whole;
       early = λ off. clash off refl;
       body = record {
@@ -171,7 +173,7 @@ end_good d fs h =
     ensured IsGood (is_whole d) kind.Missing _ (λ whole.
     ensured IsGood (nat_eq (length fs) 1) kind.Fields _ (λ _.
     record {
-      fair = later d (record d { stage = stage.Ended; legs = legs_so_far d; phases = []; threads = []; calls = [] }) h.fair (started d.stage on) refl refl refl refl refl;
+      fair = later d (record d { stage = stage.Ended; legs = legs_so_far d; phases = []; threads = []; calls = [] }) h.fair (started d.stage on) refl refl refl refl refl refl refl;
       described = λ _. left_true (is_described d) (not (in_phase d.stage)) whole;
       early = λ off. clash off refl;
       body = record {
@@ -194,7 +196,7 @@ thread_good d fs h =
     ensured IsGood (nat_eq (length fs) 1) kind.Fields _ (λ _.
     ensured IsGood (nat_lt (length (threads_so_far d)) MOST_THREADS) kind.Many _ (λ room.
     record {
-      fair = later d (record d { stage = stage.Thread; threads = threads_so_far d; calls = [] }) h.fair open_now.started refl refl refl refl refl;
+      fair = later d (record d { stage = stage.Thread; threads = threads_so_far d; calls = [] }) h.fair open_now.started refl refl refl refl refl refl refl;
       described = λ _. h.described open_now.body;
       early = λ off. clash off refl;
       body = record {
@@ -222,7 +224,7 @@ call_good d read h reads =
     let cs : List Call = d.calls ++ c ∷ [] in
     let more : length cs ≤ MOST_CALLS = omega (arith, length-append d.calls (c ∷ []), ltb-true (length d.calls) MOST_CALLS room) in
     record {
-      fair = record { few = h.fair.few; some = h.fair.some; shards = h.fair.shards; limits = h.fair.limits; windows = h.fair.windows; fills = h.fair.fills };
+      fair = record { few = h.fair.few; some = h.fair.some; shards = h.fair.shards; limits = h.fair.limits; ids = h.fair.ids; windows = h.fair.windows; fills = h.fair.fills; fill_lines = h.fair.fill_lines };
       described = h.described;
       early = λ off. clash off (thread_in_body d.stage here);
       body = record {
@@ -248,6 +250,8 @@ unfolding keyword_line
 keyword_good d n on.Vcpus fs h = vcpus_good d fs h
 keyword_good d n on.Shards fs h = shards_good d fs h
 keyword_good d n on.Limits fs h = limits_good d fs h
+keyword_good d n on.Ids fs h = ids_good d fs h
+keyword_good d n on.Profile fs h = profile_good d fs h
 keyword_good d n on.Window fs h = window_good d fs h
 keyword_good d n on.Config fs h = config_good d fs h
 keyword_good d n on.Pending fs h = pending_good d fs h
@@ -268,3 +272,4 @@ keyword_good d n on.Read fs h = call_good d (read_of fs) h (read_is_call (length
 keyword_good d n on.Write fs h = call_good d (write_of fs) h (write_is_call (length d.pending) fs)
 keyword_good d n on.Step fs h = call_good d (step_of fs) h (step_is_call (length d.pending) fs)
 keyword_good d n on.Save fs h = call_good d (save_of fs) h (save_is_call (length d.pending) fs)
+keyword_good d n on.Trace fs h = tt

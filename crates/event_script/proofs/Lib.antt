@@ -1,6 +1,7 @@
 pub mod Numbers
 pub mod Hex
 pub mod Lines
+pub mod Reports
 pub mod Steps
 pub mod Calling
 pub mod Good

@@ -41,7 +41,7 @@ pub line_first : (n : ℕ) (d : Draft) (text : List ℕ) (ps : List (List ℕ)) 
 line_first n d text [] lt = absurd (omega arith)
 line_first n d text (p ∷ ps) lt = refl
 
-some_part : (text : List ℕ) → 0 < length (parts text)
+pub some_part : (text : List ℕ) → 0 < length (parts text)
 some_part text = omega (arith, length-slice_split (λ b. b == 10) text)
 
 -- one line is read, and the rest follows

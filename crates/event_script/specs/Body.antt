@@ -1,9 +1,9 @@
 -- The lines of a script's body: legs, phases, threads and their calls.
-use Rattle.std.specs.Prelude.{ℕ, Bool, not, ◌&&◌, ◌||◌, ◌==◌, nat_lt, if◌then◌else◌, List, [], ◌∷◌, ◌++◌, length, is_some, Result, Ok}
+use Rattle.std.specs.Prelude.{ℕ, Bool, not, ◌&&◌, ◌||◌, ◌==◌, nat_lt, if◌then◌else◌, List, [], ◌∷◌, ◌++◌, length, is_some, Result, Ok, Err}
 use Rattle.std.specs.List.{list_all}
 use Rattle.its_plain.specs.declared.call.Call.{Call}
 use Rattle.event_script.specs.Outcome.{◌>>=◌, ensure}
-use Rattle.event_script.specs.Description.{at_start, in_description, in_phase, in_thread, is_ended, vcpus_line, shards_line, limits_line, window_line, config_line, pending_line, restore_line, bytes_line, word_fill_line}
+use Rattle.event_script.specs.Description.{at_start, in_description, in_phase, in_thread, is_ended, vcpus_line, shards_line, limits_line, ids_line, profile_line, window_line, config_line, pending_line, restore_line, bytes_line, word_fill_line}
 use Rattle.event_script.specs.Calls.{signal_of, take_of, show_of, poke_of, word_of, command_call_of, peek_of, read_of, write_of, step_of, save_of}
 use Rattle.event_script.specs.declared.fault.Kind.{Kind}
 use Rattle.event_script.specs.declared.fault.Kind.TheVariants as kind
@@ -85,6 +85,8 @@ unfoldable pub keyword_line : Draft → ℕ → Keyword → List (List ℕ) → 
 keyword_line d n on.Vcpus fs = vcpus_line d fs
 keyword_line d n on.Shards fs = shards_line d fs
 keyword_line d n on.Limits fs = limits_line d fs
+keyword_line d n on.Ids fs = ids_line d fs
+keyword_line d n on.Profile fs = profile_line d fs
 keyword_line d n on.Window fs = window_line d fs
 keyword_line d n on.Config fs = config_line d fs
 keyword_line d n on.Pending fs = pending_line d fs
@@ -105,3 +107,5 @@ keyword_line d n on.Read fs = call_line d (read_of fs)
 keyword_line d n on.Write fs = call_line d (write_of fs)
 keyword_line d n on.Step fs = call_line d (step_of fs)
 keyword_line d n on.Save fs = call_line d (save_of fs)
+-- it stands only where a report follows the script, which isn't read line by line
+keyword_line d n on.Trace fs = Err kind.Order

@@ -1,8 +1,10 @@
 -- The lines of a description. Each gives the draft with what it says, or the kind of its first fault.
-use Rattle.std.specs.Prelude.{ℕ, ◌-◌, ◌^◌, Bool, true, false, not, ◌&&◌, ◌||◌, ◌==◌, nat_lt, List, [], ◌∷◌, ◌++◌, length, replicate, slice_index_or, slice_set, Option, Some, None, is_some, is_none, Result, Ok}
+use Rattle.std.specs.Prelude.{ℕ, ◌-◌, ◌^◌, Bool, true, false, not, ◌&&◌, ◌||◌, ◌==◌, nat_lt, if◌then◌else◌, List, [], ◌∷◌, ◌++◌, length, replicate, slice_index_or, slice_set, Option, Some, None, is_some, is_none, Result, Ok}
 use Rattle.byteorder.specs.Endian.{little_bytes}
 use Rattle.gits_regs.specs.declared.values.RegValues.{RegValues}
 use Rattle.its_types.specs.declared.ids.Addr.{Addr}
+use Rattle.its_types.specs.declared.machine.Profile.{Profile}
+use Rattle.its_types.specs.declared.machine.Profile.TheVariants.{One, Two}
 use Rattle.event_script.specs.Text.{number}
 use Rattle.event_script.specs.Outcome.{◌>>=◌, ensure}
 use Rattle.event_script.specs.Fields.{arg, number_within, any_number, address, processor, bytes_within}
@@ -40,10 +42,13 @@ empty = record {
   stage = stage.Start;
   shards = None;
   limits = None;
+  ids = None;
+  profile = None;
   windows = [];
   config = None;
   pending = [];
   fills = [];
+  fill_lines = [];
   restore = None;
   legs = [];
   phases = [];
@@ -78,6 +83,26 @@ limits_line d fs = do
   stamp ← number_within 1 (2 ^ 24 - 1) (arg fs 1)
   place ← number_within 1 (2 ^ 40 - 1) (arg fs 2)
   Ok (record d { limits = Some (record { stamp_last = stamp; place_last = place }) })
+
+-- how many bits a DeviceID has, and then the INTID of an LPI
+unfoldable pub ids_line : Draft → List (List ℕ) → Result Draft Kind
+ids_line d fs = do
+  _ ← ensure (in_description d.stage && is_none d.ids) kind.Order
+  _ ← ensure (length fs == 3) kind.Fields
+  dev ← number_within 16 20 (arg fs 1)
+  lpi ← number_within 14 20 (arg fs 2)
+  Ok (record d { ids = Some (record { dev = dev; lpi = lpi }) })
+
+-- the profile with a number, which is 1 or 2
+abbrev pub profile_of : ℕ → Profile
+profile_of n = if n == 1 then One else Two
+
+unfoldable pub profile_line : Draft → List (List ℕ) → Result Draft Kind
+profile_line d fs = do
+  _ ← ensure (in_description d.stage && is_none d.profile) kind.Order
+  _ ← ensure (length fs == 2) kind.Fields
+  n ← number_within 1 2 (arg fs 1)
+  Ok (record d { profile = Some (profile_of n) })
 
 unfoldable pub window_line : Draft → List (List ℕ) → Result Draft Kind
 window_line d fs = do
@@ -128,7 +153,7 @@ restore_line d fs = do
 
 -- with bytes for the memory, from the n-th line
 abbrev pub with_fill : Draft → ℕ → Addr → List ℕ → Draft
-with_fill d n addr bytes = record d { fills = d.fills ++ record { line = n; addr = addr; bytes = bytes } ∷ [] }
+with_fill d n addr bytes = record d { fills = d.fills ++ record { addr = addr; bytes = bytes } ∷ []; fill_lines = d.fill_lines ++ n ∷ [] }
 
 unfoldable pub bytes_line : Draft → ℕ → List (List ℕ) → Result Draft Kind
 bytes_line d n fs = do

@@ -4,7 +4,7 @@ use Rattle.std.specs.List.{list_all}
 use Rattle.its_types.specs.declared.machine.Limits.{Limits}
 use Rattle.its_plain.specs.declared.call.Call.{Call}
 use Rattle.its_plain.specs.declared.call.Call.TheVariants as call
-use Rattle.its_plain.specs.Made.{IsDescription}
+use Rattle.its_plain.specs.Machine.{IsDescription}
 use Rattle.its_plain.specs.declared.desc.Fill.{Fill}
 use Rattle.event_script.specs.Description.{is_shard_count}
 use Rattle.event_script.specs.declared.draft.TheConstants.{MOST_LEGS, MOST_PHASES, MOST_THREADS, MOST_CALLS}
@@ -25,6 +25,8 @@ is_call vcpus (call.Poke addr bytes) = nat_lt 0 (length bytes) && nat_le (length
 is_call vcpus (call.Peek addr count) = nat_le 1 count && nat_le count 64
 is_call vcpus (call.ReadReg its off size) = its == 0 && is_access_size size
 is_call vcpus (call.WriteReg its off size value) = its == 0 && is_access_size size && nat_lt value (2 ^ (8 * size))
+is_call vcpus (call.ReadGicr vcpu off size) = nat_lt vcpu.0 vcpus && is_access_size size
+is_call vcpus (call.WriteGicr vcpu off size value) = nat_lt vcpu.0 vcpus && is_access_size size && nat_lt value (2 ^ (8 * size))
 is_call vcpus (call.Step its) = its == 0
 is_call vcpus call.Save = true
 
@@ -52,6 +54,7 @@ pub record IsWithinLimits (s : Script) : Type 0 where
   pub some_windows : 0 < length s.desc.windows
   pub most_windows : length s.desc.windows ≤ 16
   pub fills : list_all is_fill s.desc.fills ≡ true
+  pub fill_lines : length s.fill_lines ≡ length s.desc.fills
   pub some_legs : 0 < length s.legs
   pub most_legs : length s.legs ≤ MOST_LEGS
   pub legs : list_all (is_leg s.desc.shape.vcpus) s.legs ≡ true

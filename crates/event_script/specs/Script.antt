@@ -1,9 +1,12 @@
 -- Scripts: what the bytes of one say, or its first faulty line with that line's first kind.
-use Rattle.std.specs.Prelude.{◌≡◌, ℕ, ◌+◌, ◌-◌, ◌^◌, Bool, ◌||◌, ◌==◌, if◌then◌else◌, List, [], ◌∷◌, length, slice_index, filter_map, Result, Ok, Err}
+use Rattle.std.specs.Prelude.{◌≡◌, ℕ, ◌+◌, ◌-◌, ◌^◌, Bool, ◌&&◌, ◌||◌, ◌==◌, if◌then◌else◌, List, [], ◌∷◌, length, slice_index, filter_map, codes, Result, Ok, Err}
+use Rattle.std.specs.Str.{bytes_eq}
 use Rattle.std.specs.Option.{ok_or, unwrap_or}
 use Rattle.its_types.specs.declared.machine.Limits.{Limits}
 use Rattle.its_types.specs.declared.machine.Profile.TheVariants.{One}
+use Rattle.its_types.specs.declared.machine.Shape.{Shape}
 use Rattle.its_plain.specs.declared.desc.Desc.{Desc}
+use Rattle.its_plain.specs.declared.desc.LpiTables.TheVariants.{Described}
 use Rattle.event_script.specs.Text.{parts, fields, is_text}
 use Rattle.event_script.specs.Outcome.{◌>>=◌, ensure}
 use Rattle.event_script.specs.Fields.{arg}
@@ -16,6 +19,8 @@ use Rattle.event_script.specs.declared.fault.ScriptFault.{ScriptFault}
 use Rattle.event_script.specs.declared.fault.ParseError.{ParseError}
 use Rattle.event_script.specs.declared.fault.ParseError.TheVariants as error
 use Rattle.event_script.specs.declared.draft.Draft.{Draft}
+use Rattle.event_script.specs.declared.draft.IdBits.{IdBits}
+use Rattle.event_script.specs.declared.script.CheckInput.{CheckInput}
 use Rattle.event_script.specs.declared.script.Script.{Script}
 
 -- ---- one line
@@ -40,18 +45,29 @@ line d n text = do
 abbrev pub default_limits : Limits
 default_limits = record { stamp_last = 2 ^ 24 - 1; place_last = 2 ^ 40 - 1 }
 
+abbrev pub default_ids : IdBits
+default_ids = record { dev = 16; lpi = 16 }
+
+-- of so many virtual processors
+abbrev pub shape_of : Draft → Shape
+shape_of d = record {
+  vcpus = length d.pending;
+  dev_bits = (unwrap_or d.ids default_ids).dev;
+  lpi_bits = (unwrap_or d.ids default_ids).lpi;
+  profile = unwrap_or d.profile One;
+}
+
 -- the description, where all of it is there
 unfoldable pub desc_of : Draft → Result Desc Kind
 desc_of d = do
   shards ← ok_or d.shards kind.Missing
   config ← ok_or d.config kind.Missing
   Ok (record {
-    shape = record { vcpus = length d.pending; dev_bits = 16; lpi_bits = 16; profile = One };
+    shape = shape_of d;
     shards = shards;
     limits = unwrap_or d.limits default_limits;
     windows = d.windows;
-    config = config;
-    pending = filter_map (λ table. table) d.pending;
+    tables = Described config (filter_map (λ table. table) d.pending);
     fills = d.fills;
     restore = d.restore;
   })
@@ -61,7 +77,7 @@ unfoldable pub script_from : Draft → Result Script Kind
 script_from d = do
   _ ← ensure (is_ended d.stage) kind.Missing
   desc ← desc_of d
-  Ok (record { desc = desc; legs = d.legs })
+  Ok (record { desc = desc; fill_lines = d.fill_lines; legs = d.legs })
 
 -- what stands behind the last line end is no line
 unfoldable pub finished : Draft → List ℕ → Result Script Kind
@@ -90,11 +106,46 @@ parts_from n d (text ∷ (next ∷ rest)) = at_line n (line d n text) then λ e.
 unfoldable pub script_of : List ℕ → Result Script ScriptFault
 script_of bytes = parts_from 1 empty (parts bytes)
 
+-- ---- a script that a report follows
+
+-- a line `trace` after the script
+abbrev pub begins_report : Draft → List ℕ → Bool
+begins_report d text = is_ended d.stage && is_text text && bytes_eq (arg (fields text) 0) (codes "trace")
+
+-- it has these fields
+unfoldable pub trace_with : Draft → List (List ℕ) → Result Script Kind
+trace_with d fs = do
+  _ ← ensure (length fs == 1) kind.Fields
+  script_from d
+
+abbrev pub report_line : ℕ → Draft → List (List ℕ) → List (List ℕ) → Result (Script × List (List ℕ)) ScriptFault
+report_line n d fs report = at_line n (trace_with d fs) then λ s. Ok (s, report)
+
+-- no report came
+abbrev pub without_report : List ℕ → Result (Script × List (List ℕ)) Kind
+without_report last = if length last == 0 then Err kind.Missing else Err kind.Cut
+
+-- the parts from the n-th on: those after the line `trace` are the report's
+abbrev pub check_from : ℕ → Draft → List (List ℕ) → Result (Script × List (List ℕ)) ScriptFault
+check_from n d [] = at_line n (without_report [])
+check_from n d (last ∷ []) = at_line n (without_report last)
+check_from n d (text ∷ (next ∷ rest)) =
+    if begins_report d text then report_line n d (fields text) (next ∷ rest)
+    else (at_line n (line d n text) then λ e. check_from (n + 1) e (next ∷ rest))
+
+-- the script, and the parts of the report
+unfoldable pub check_of : List ℕ → Result (Script × List (List ℕ)) ScriptFault
+check_of bytes = check_from 1 empty (parts bytes)
+
 -- the answer to some bytes: their script or its first fault, unless memory ran out
-abbrev pub FailsAs : ParseError → Result Script ScriptFault → Type 0
+abbrev pub FailsAs : {A : Type 0} → ParseError → Result A ScriptFault → Type 0
 FailsAs error.NoMemory read = Unit {0}
 FailsAs (error.Fault fault) read = read ≡ Err fault
 
 abbrev pub IsAnswer : Result Script ParseError → Result Script ScriptFault → Type 0
 IsAnswer (Ok script) read = read ≡ Ok script
 IsAnswer (Err e) read = FailsAs e read
+
+abbrev pub IsCheckAnswer : Result CheckInput ParseError → Result (Script × List (List ℕ)) ScriptFault → Type 0
+IsCheckAnswer (Ok input) read = read ≡ Ok (input.script, parts input.report.now)
+IsCheckAnswer (Err e) read = FailsAs e read

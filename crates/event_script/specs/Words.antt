@@ -15,13 +15,16 @@ outline_keyword_of word =
     else (if bytes_eq word (codes "vcpus") then Ok on.Vcpus
     else (if bytes_eq word (codes "shards") then Ok on.Shards
     else (if bytes_eq word (codes "limits") then Ok on.Limits
+    else (if bytes_eq word (codes "ids") then Ok on.Ids
+    else (if bytes_eq word (codes "profile") then Ok on.Profile
     else (if bytes_eq word (codes "window") then Ok on.Window
     else (if bytes_eq word (codes "config") then Ok on.Config
     else (if bytes_eq word (codes "pending") then Ok on.Pending
     else (if bytes_eq word (codes "restore") then Ok on.Restore
     else (if bytes_eq word (codes "migrate") then Ok on.Migrate
     else (if bytes_eq word (codes "end") then Ok on.End
-    else Err kind.Word)))))))))))
+    else (if bytes_eq word (codes "trace") then Ok on.Trace
+    else Err kind.Word))))))))))))))
 
 -- those and the words of calls
 unfoldable pub keyword_of : List ℕ → Result Keyword Kind

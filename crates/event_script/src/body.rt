@@ -159,6 +159,8 @@ impl Draft {
             Keyword::Vcpus => self.vcpus_line(alloc, fields),
             Keyword::Shards => self.shards_line(fields),
             Keyword::Limits => self.limits_line(fields),
+            Keyword::Ids => self.ids_line(fields),
+            Keyword::Profile => self.profile_line(fields),
             Keyword::Window => self.window_line(fields),
             Keyword::Config => self.config_line(fields),
             Keyword::Pending => self.pending_line(fields),
@@ -179,6 +181,7 @@ impl Draft {
             Keyword::Write => self.call_line(write_of(fields)),
             Keyword::Step => self.call_line(step_of(fields)),
             Keyword::Save => self.call_line(save_of(fields)),
+            Keyword::Trace => Err(Kind::Order.into()),
         }
     }
 }

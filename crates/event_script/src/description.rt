@@ -1,17 +1,17 @@
 //! The lines of a description.
-ghost use Rattle.std.specs.Prelude.{◌≡◌, map};
+ghost use Rattle.std.specs.Prelude.{◌≡◌, Ok, map};
 ghost use Rattle.event_script.specs.Outcome.{Gives};
 ghost use Rattle.event_script.specs.Description as spec;
 ghost use Rattle.event_script.specs.Text.{number};
 
-use crate::draft::{Draft, Stage};
+use crate::draft::{Draft, IdBits, Stage};
 use crate::fault::{Kind, LineError, ensure};
 use crate::fields::{address, any_number, arg, bytes_within, number_within, processor};
 use crate::places::PendingTables;
 use crate::text;
 use gits_regs::RegValues;
 use its_plain::Fill;
-use its_types::{Limits, Listed};
+use its_types::{Limits, Listed, Profile};
 use std::alloc::Global;
 
 impl Draft {
@@ -63,6 +63,34 @@ impl Draft {
         Ok(())
     }
 
+    #[tactic(auto, unfolding(crate::specs::Description::ids_line))]
+    pub fn ids_line(&mut self, fields: &[&[u8]]) -> Result<(), LineError>
+        ensures { Gives (λ _. self.new) result (spec.ids_line self.old (map (λ f. f.now) fields.now)) }
+    {
+        let first = self.describes() && self.ids.is_none();
+        ensure(first, Kind::Order)?;
+        ensure(fields.len() == 3, Kind::Fields)?;
+        let dev = number_within(16, 20, arg(fields, 1))?;
+        let lpi = number_within(14, 20, arg(fields, 2))?;
+        self.ids = Some(IdBits {
+            dev: dev as u8,
+            lpi: lpi as u8,
+        });
+        Ok(())
+    }
+
+    #[tactic(auto, unfolding(crate::specs::Description::profile_line))]
+    pub fn profile_line(&mut self, fields: &[&[u8]]) -> Result<(), LineError>
+        ensures { Gives (λ _. self.new) result (spec.profile_line self.old (map (λ f. f.now) fields.now)) }
+    {
+        let first = self.describes() && self.profile.is_none();
+        ensure(first, Kind::Order)?;
+        ensure(fields.len() == 2, Kind::Fields)?;
+        let number = number_within(1, 2, arg(fields, 1))?;
+        self.profile = Some(profile_of(number));
+        Ok(())
+    }
+
     #[tactic(auto, unfolding(crate::specs::Description::window_line))]
     pub fn window_line(&mut self, fields: &[&[u8]]) -> Result<(), LineError>
         ensures { Gives (λ _. self.new) result (spec.window_line self.old (map (λ f. f.now) fields.now)) }
@@ -111,6 +139,15 @@ impl Draft {
         Ok(())
     }
 
+    /// Adds bytes for the memory, from the line with a number.
+    fn add_fill(&mut self, number: u64, fill: Fill) -> Result<(), LineError>
+        ensures { Gives (λ _. self.new) result (Ok (spec.with_fill self.old number fill.addr fill.bytes)) }
+    {
+        self.fills.push(fill)?;
+        self.fill_lines.push(number)?;
+        Ok(())
+    }
+
     #[tactic(auto, unfolding(crate::specs::Description::bytes_line))]
     pub fn bytes_line(
         &mut self,
@@ -124,12 +161,7 @@ impl Draft {
         ensure(fields.len() == 3, Kind::Fields)?;
         let addr = address(arg(fields, 1))?;
         let bytes = bytes_within(alloc, 4096, arg(fields, 2))?;
-        self.fills.push(Fill {
-            line: number,
-            addr,
-            bytes,
-        })?;
-        Ok(())
+        self.add_fill(number, Fill { addr, bytes })
     }
 
     #[tactic(auto, unfolding(crate::specs::Description::word_fill_line))]
@@ -145,12 +177,7 @@ impl Draft {
         let addr = address(arg(fields, 1))?;
         let value = any_number(arg(fields, 2))?;
         let bytes = Listed::from_vec(value.to_le_bytes().to_vec(alloc)?);
-        self.fills.push(Fill {
-            line: number,
-            addr,
-            bytes,
-        })?;
-        Ok(())
+        self.add_fill(number, Fill { addr, bytes })
     }
 }
 
@@ -167,6 +194,17 @@ fn register_values(fields: &[&[u8]]) -> Result<RegValues, Kind>
         baser0: any_number(arg(fields, 5))?,
         baser1: any_number(arg(fields, 6))?,
     })
+}
+
+/// The profile with a number, which is 1 or 2.
+fn profile_of(number: u64) -> Profile
+    ensures { result ≡ spec.profile_of number }
+{
+    if number == 1 {
+        Profile::One
+    } else {
+        Profile::Two
+    }
 }
 
 fn is_shard_count(count: u64) -> bool

@@ -2,7 +2,7 @@ use crate::places::PendingTables;
 use crate::script::{Leg, Phase, Thread};
 use gits_regs::RegValues;
 use its_plain::Fill;
-use its_types::{Addr, Limits, Listed};
+use its_types::{Addr, Limits, Listed, Profile};
 
 /// How many legs a script may have.
 pub const MOST_LEGS: usize = 64;
@@ -29,16 +29,27 @@ pub enum Stage {
     Ended,
 }
 
+/// How many bits a DeviceID has, and the INTID of an LPI.
+#[derive(Clone, Copy, Debug, PartialEq, Eq)]
+pub struct IdBits {
+    pub dev: u8,
+    pub lpi: u8,
+}
+
 /// What was read so far.
 #[derive(Debug, Drop)]
 pub struct Draft {
     pub stage: Stage,
     pub shards: Option<u32>,
     pub limits: Option<Limits>,
+    pub ids: Option<IdBits>,
+    pub profile: Option<Profile>,
     pub windows: Listed<(Addr, u64)>,
     pub config: Option<Addr>,
     pub pending: PendingTables,
     pub fills: Listed<Fill>,
+    /// The line of each of them.
+    pub fill_lines: Listed<u64>,
     pub restore: Option<RegValues>,
     /// The legs that are closed.
     pub legs: Listed<Leg>,

@@ -18,6 +18,6 @@ mod text;
 mod words;
 
 pub use fault::{Kind, ParseError, ScriptFault};
-pub use laws::scripts_are_within_limits;
-pub use reading::parse;
-pub use script::{Leg, Phase, Script, Thread};
+pub use laws::{checked_scripts_are_within_limits, scripts_are_within_limits};
+pub use reading::{parse, parse_check};
+pub use script::{CheckInput, Leg, Phase, Script, Thread};

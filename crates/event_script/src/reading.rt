@@ -1,26 +1,30 @@
 //! A whole script, line by line.
-ghost use Rattle.std.specs.Prelude.{◌≡◌, ◌<◌, ◌+◌, ◌∷◌, [], ◌==◌, map, position, drop, length, IfNone, IfSome};
+ghost use Rattle.std.specs.Prelude.{◌≡◌, ◌<◌, ◌+◌, ◌∷◌, [], ◌==◌, true, Err, map, position, drop, length, IfOk, IfNone, IfSome};
 ghost use Rattle.event_script.specs.Outcome.{Gives};
 ghost use Rattle.event_script.specs.Description as description;
 ghost use Rattle.event_script.specs.Script as spec;
+ghost use Rattle.event_script.specs.Text as text_of;
 ghost use Rattle.event_script.specs.Text.{parts};
 
-use crate::draft::{Draft, Stage};
-use crate::fault::{Kind, LineError, ParseError, ensure};
+use crate::draft::{Draft, IdBits, Stage};
+use crate::fault::{Kind, LineError, ParseError, ScriptFault, ensure};
 use crate::fields::arg;
 use crate::places::PendingTables;
-use crate::script::Script;
+use crate::script::{CheckInput, Script};
 use crate::text;
 use crate::words::keyword_of;
-use its_plain::Desc;
+use its_plain::{Desc, LpiTables};
 use its_types::{Limits, Listed, Profile, Shape};
-use std::alloc::Global;
+use std::alloc::{AllocError, Global};
 
 /// The limits where no line gives others.
 const DEFAULT_LIMITS: Limits = Limits {
     stamp_last: 16_777_215,
     place_last: 1_099_511_627_775,
 };
+
+/// The numbers of bits where no line gives others.
+const DEFAULT_IDS: IdBits = IdBits { dev: 16, lpi: 16 };
 
 /// The script that the bytes are, or their first faulty line and what is wrong with it.
 #[tactic(auto, unfolding(crate::specs::Script::script_of))]
@@ -39,6 +43,67 @@ pub fn parse(alloc: Global, bytes: &[u8]) -> Result<Script, ParseError>
         number += 1;
     }
     finish(alloc, number, draft, rest)
+}
+
+/// The script that the bytes begin with, and the report that follows it after a line `trace`, or their first faulty line and
+/// what is wrong with it.
+#[tactic(auto, unfolding(crate::specs::Script::check_of))]
+pub fn parse_check(alloc: Global, bytes: &[u8]) -> Result<CheckInput<'_>, ParseError>
+    ensures { spec.IsCheckAnswer result (spec.check_of bytes.now) }
+{
+    let mut draft = Draft::new(alloc);
+    let mut rest = bytes;
+    let mut fields = Vec::new(alloc);
+    let mut number = 1;
+    while let Some((line, more)) = split_line(rest) {
+        if draft.begins_report(line, &mut fields)? {
+            return trace_line(alloc, number, draft, &fields, more);
+        }
+        if let Err(error) = draft.line(alloc, number, line, &mut fields) {
+            return Err(error.at(number));
+        }
+        rest = more;
+        number += 1;
+    }
+    Err(ParseError::Fault(ScriptFault {
+        line: number,
+        kind: without_report(rest),
+    }))
+}
+
+/// What is wrong where no line `trace` came.
+fn without_report(last: &[u8]) -> Kind
+    ensures { spec.without_report last.now ≡ Err result }
+{
+    if last.is_empty() {
+        Kind::Missing
+    } else {
+        Kind::Cut
+    }
+}
+
+/// The script of a draft that ended, at a line `trace` that has these fields, and the report after it.
+fn trace_line<'a>(
+    alloc: Global,
+    number: u64,
+    draft: Draft,
+    fields: &[&[u8]],
+    report: &'a [u8],
+) -> Result<CheckInput<'a>, ParseError>
+    ensures { spec.IsCheckAnswer result (spec.report_line number draft (map (λ f. f.now) fields.now) (parts report.now)) }
+{
+    match trace_with(alloc, draft, fields) {
+        Ok(script) => Ok(CheckInput { script, report }),
+        Err(error) => Err(error.at(number)),
+    }
+}
+
+#[tactic(auto, unfolding(crate::specs::Script::trace_with))]
+fn trace_with(alloc: Global, draft: Draft, fields: &[&[u8]]) -> Result<Script, LineError>
+    ensures { Gives (λ script. script) result (spec.trace_with draft (map (λ f. f.now) fields.now)) }
+{
+    ensure(fields.len() == 1, Kind::Fields)?;
+    script_from(alloc, draft)
 }
 
 /// The first line, without its end, and what follows it.
@@ -93,25 +158,20 @@ fn script_from(alloc: Global, draft: Draft) -> Result<Script, LineError>
     ensure(draft.stage == Stage::Ended, Kind::Missing)?;
     let shards = draft.shards.ok_or(Kind::Missing)?;
     let config = draft.config.ok_or(Kind::Missing)?;
-    let vcpus = draft.pending.count();
+    let shape = draft.shape();
     let pending = draft.pending.tables(alloc)?;
     let desc = Desc {
-        shape: Shape {
-            vcpus,
-            dev_bits: 16,
-            lpi_bits: 16,
-            profile: Profile::One,
-        },
+        shape,
         shards,
         limits: draft.limits.unwrap_or(DEFAULT_LIMITS),
         windows: draft.windows,
-        config,
-        pending,
+        tables: LpiTables::Described { config, pending },
         fills: draft.fills,
         restore: draft.restore,
     };
     Ok(Script {
         desc,
+        fill_lines: draft.fill_lines,
         legs: draft.legs,
     })
 }
@@ -124,16 +184,47 @@ impl Draft {
             stage: Stage::Start,
             shards: None,
             limits: None,
+            ids: None,
+            profile: None,
             windows: Listed::new(alloc),
             config: None,
             pending: PendingTables::none(alloc),
             fills: Listed::new(alloc),
+            fill_lines: Listed::new(alloc),
             restore: None,
             legs: Listed::new(alloc),
             phases: Listed::new(alloc),
             threads: Listed::new(alloc),
             calls: Listed::new(alloc),
         }
+    }
+
+    fn shape(&self) -> Shape
+        ensures { result ≡ spec.shape_of self.now }
+    {
+        let ids = self.ids.unwrap_or(DEFAULT_IDS);
+        Shape {
+            vcpus: self.pending.count(),
+            dev_bits: ids.dev,
+            lpi_bits: ids.lpi,
+            profile: self.profile.unwrap_or(Profile::One),
+        }
+    }
+
+    /// Whether it is a line `trace` after the script. The list is for its fields.
+    fn begins_report<'a>(
+        &self,
+        line: &'a [u8],
+        fields: &mut Vec<&'a [u8]>,
+    ) -> Result<bool, AllocError>
+        ensures value { IfOk result (λ b. b ≡ spec.begins_report self.now line.now) }
+        ensures split { IfOk result (λ b. b ≡ true → map (λ f. f.now) fields.new.items ≡ text_of.fields line.now) }
+    {
+        if self.stage != Stage::Ended || !text::is_text(line) {
+            return Ok(false);
+        }
+        text::split_fields(fields, line)?;
+        Ok(arg(fields, 0) == b"trace".as_slice())
     }
 
     /// Reads the line with a number, without its line end. The list is for its fields.

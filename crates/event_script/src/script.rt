@@ -14,6 +14,16 @@ pub type Leg = Listed<Phase>;
 #[derive(Debug, Drop)]
 pub struct Script {
     pub desc: Desc,
+    /// The line of each fill of the description, counted from 1.
+    pub fill_lines: Listed<u64>,
     /// A migration stands between each two.
     pub legs: Listed<Leg>,
+}
+
+/// A script, and the report that follows it.
+#[derive(Debug, Drop)]
+pub struct CheckInput<'a> {
+    pub script: Script,
+    /// What follows the line `trace`.
+    pub report: &'a [u8],
 }

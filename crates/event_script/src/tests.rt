@@ -1,6 +1,5 @@
 use crate::fault::{Kind, ParseError, ScriptFault};
-use crate::reading::parse;
-use gits_regs::RegValues;
+use crate::reading::{parse, parse_check};
 use std::alloc::Global;
 use std::fmt::Write;
 use std::test::Fail;
@@ -33,34 +32,27 @@ fn faulty_descriptions(rt: HostRuntime) {
         ("vcpus 4\nshards 4\nwind", 3, Kind::Cut),
         ("vcpus 4\r\n", 1, Kind::Text),
         ("phase\n", 1, Kind::Order),
-        ("end\n", 1, Kind::Order),
         ("vcpus 4\nphase x\n", 2, Kind::Missing),
         ("vcpus 4\nshards 4\nshards 3\n", 3, Kind::Order),
         ("vcpus 4\npending 0 0\npending 0x0\n", 3, Kind::Order),
-        ("vcpus 4\npending 0 0\npending 0\n", 3, Kind::Order),
         ("vcpus 4\npending 4 0\n", 2, Kind::Number),
         ("vcpus 0X4\n", 1, Kind::Number),
         ("vcpus +4\n", 1, Kind::Number),
-        ("vcpus 4_\n", 1, Kind::Number),
         ("vcpus 0x\n", 1, Kind::Number),
         ("vcpus 4\nbytes 0 0x00\n", 2, Kind::Hex),
-        ("migrate\n", 1, Kind::Order),
-        ("restore 0 0 0 0 0 0\n", 1, Kind::Order),
-        ("vcpus 4\nmigrate\n", 2, Kind::Missing),
-        ("vcpus 4\nmigrate x\n", 2, Kind::Missing),
-        ("vcpus 4\nrestore 0 0 0 0 0\n", 2, Kind::Fields),
-        ("vcpus 4\nrestore 0 0 0 0 0 0 0\n", 2, Kind::Fields),
         ("vcpus 4\nrestore x 0 0 0 0\n", 2, Kind::Fields),
-        ("vcpus 4\nrestore x 0 0 0 0 0\n", 2, Kind::Number),
-        (
-            "vcpus 4\nrestore 0 0 0 0 0 18446744073709551616\n",
-            2,
-            Kind::Number,
-        ),
         ("vcpus 4\nrestore 0 0 0 0 0 0\nrestore 0\n", 3, Kind::Order),
-        ("vcpus 4\nlimits 0 1\n", 2, Kind::Number),
+        ("vcpus 4\nids 15 16\n", 2, Kind::Number),
+        ("vcpus 4\nids 20 21\n", 2, Kind::Number),
+        ("vcpus 4\nids 20 13\n", 2, Kind::Number),
+        ("vcpus 4\nids 16\n", 2, Kind::Fields),
+        ("vcpus 4\nids 16 16\nids 16 16\n", 3, Kind::Order),
+        ("vcpus 4\nprofile 3\n", 2, Kind::Number),
+        ("vcpus 4\nprofile 1\nprofile 2\n", 3, Kind::Order),
         ("vcpus 4\nwindow 0x11111111111111111 1\n", 2, Kind::Number),
         ("vcpus 4\nwindow 18446744073709551616 1\n", 2, Kind::Number),
+        ("gicr\n", 1, Kind::Word),
+        ("trace\n", 1, Kind::Order),
     ] {
         assert_eq!(rt; fault_of(alloc, text), Some((line, kind)), "{text}");
     }
@@ -75,31 +67,17 @@ fn faulty_bodies(rt: HostRuntime) -> Result<(), Fail> {
         ("phase x\n", 6, Kind::Fields),
         ("phase\nend\n", 7, Kind::Missing),
         ("phase\nword 0 0\n", 7, Kind::Order),
-        ("phase\nshards 4\n", 7, Kind::Order),
+        ("phase\nids 16 16\n", 7, Kind::Order),
         ("phase\nthread\nthread\n", 8, Kind::Many),
-        ("restore 0 0 0 0 0 0\nrestore 0 0 0 0 0 0\n", 7, Kind::Order),
-        ("phase\nrestore 0 0 0 0 0 0\n", 7, Kind::Order),
-        ("migrate\nrestore 0 0 0 0 0 0\n", 7, Kind::Order),
-        ("migrate x\n", 6, Kind::Fields),
-        ("phase\nmigrate\n", 7, Kind::Missing),
-        ("phase\nmigrate x\n", 7, Kind::Missing),
         ("migrate\nphase\nmigrate\n", 8, Kind::Missing),
         ("migrate\nthread\n", 7, Kind::Order),
-        ("migrate\nstep\n", 7, Kind::Order),
-        ("migrate\nword 0 0\n", 7, Kind::Order),
-        ("migrate\nshards 4\n", 7, Kind::Order),
-        ("migrate\n", 7, Kind::Missing),
-        ("end\nmigrate\n", 7, Kind::Order),
         ("phase\nthread\ntake 1\n", 8, Kind::Number),
         ("phase\nthread\nread 0 5\n", 8, Kind::Number),
         ("phase\nthread\nwrite 0 4 0x100000000\n", 8, Kind::Number),
-        ("phase\nthread\npoke 0 \n", 8, Kind::Fields),
         ("phase\nthread\npeek 0 65\n", 8, Kind::Number),
         ("phase\nthread\ncommand 0 walk\n", 8, Kind::Fields),
-        ("phase\nthread\ncommand x mapd 0 1 0x10\n", 8, Kind::Number),
         ("phase\nthread\ncommand 0 mapd 0 1 0x10\n", 8, Kind::Number),
         ("end\nstep\n", 7, Kind::Order),
-        ("end\nwalk\n", 7, Kind::Word),
         ("end\n# no line end", 7, Kind::Cut),
         ("end\n#\t\n", 7, Kind::Text),
     ] {
@@ -118,7 +96,6 @@ fn limits_are_passed(rt: HostRuntime) -> Result<(), Fail> {
     let alloc = rt.alloc();
     for (head, opened, lines, count, line) in [
         ("vcpus 1\n", "", "window 0 1\n", 17, 18),
-        (HEAD, "", "migrate\n", 64, 69),
         (HEAD, "phase\nthread\n", "migrate\n", 64, 71),
         (HEAD, "", "phase\nthread\n", 257, 518),
         (HEAD, "phase\nthread\n", "step\n", 65_537, 65_544),
@@ -137,116 +114,74 @@ fn limits_are_passed(rt: HostRuntime) -> Result<(), Fail> {
     Ok(())
 }
 
-#[test]
-fn a_script_is_read(rt: HostRuntime) -> Result<(), Fail> {
-    let alloc = rt.alloc();
-    let text = format!(in alloc;
-        "{HEAD}# a remark\n\nphase\nthread\n  signal  0x10 0003 \nword 0x0 0xffffFFFF\nstep\nphase\nthread\nend\n\n"
+/// The shape of the machine, the registers to restore, and the number of calls of each thread, by phases and legs.
+fn summary(alloc: Global, text: &str) -> Result<String, Fail> {
+    let script = parse(alloc, text.as_bytes()).ok().ok_or("refused")?;
+    let shape = script.desc.shape;
+    let mut said = format!(in alloc;
+        "{} {} {} {:?}",
+        shape.vcpus, shape.dev_bits, shape.lpi_bits, shape.profile
     )?;
-    let script = parse(alloc, text.as_bytes()).ok().ok_or("refused")?;
-    assert_eq!(rt; script.desc.shape.vcpus, 1);
-    assert_eq!(rt; script.legs.len(), 1);
-    Ok(())
-}
-
-/// The shape of a script: the number of calls of each thread, by phases and legs.
-fn shape_of(alloc: Global, text: &str) -> Result<String, Fail> {
-    let script = parse(alloc, text.as_bytes()).ok().ok_or("refused")?;
-    let mut shape = String::new(alloc);
+    if let Some(values) = script.desc.restore {
+        write!(said, " restore {} {:x}", values.creadr, values.baser1)?;
+    }
     for leg in script.legs.as_slice() {
+        said.push_str(" leg")?;
         for phase in leg.as_slice() {
             for thread in phase.as_slice() {
-                write!(shape, "{}", thread.len())?;
+                write!(said, " {}", thread.len())?;
             }
-            shape.push_str(" ")?;
         }
-        shape.push_str("|")?;
     }
-    Ok(shape)
+    Ok(said)
 }
 
 #[test]
-fn legs_are_read(rt: HostRuntime) -> Result<(), Fail> {
+fn scripts_are_read(rt: HostRuntime) -> Result<(), Fail> {
     let alloc = rt.alloc();
-    for (body, shape) in [
-        ("end\n", "|"),
-        ("migrate\nend\n", "||"),
-        ("phase\nthread\nstep\nend\n", "1 |"),
+    for (body, said) in [
+        ("end\n", "1 16 16 One leg"),
+        ("ids 20 14\nend\n", "1 20 14 One leg"),
+        ("profile 2\nend\n", "1 16 16 Two leg"),
         (
-            "phase\nthread\nstep\nstep\nmigrate\nphase\nthread\nsave\nend\n",
-            "2 |1 |",
+            "restore 1 0x8000000080020000 0x20 64 0 18446744073709551615\nend\n",
+            "1 16 16 One restore 32 ffffffffffffffff leg",
         ),
         (
-            "phase\nthread\nmigrate\n# nothing\nmigrate\nphase\nthread\nstep\nphase\nthread\nend\n",
-            "0 ||1 0 |",
+            "# a remark\n\nphase\nthread\n  signal  0x10 0003 \nword 0x0 0xffffFFFF\nstep\nphase\nthread\nend\n\n",
+            "1 16 16 One leg 3 0",
+        ),
+        (
+            "phase\nthread\nstep\nmigrate\n# nothing\nmigrate\nphase\nthread\nsave\nend\n",
+            "1 16 16 One leg 1 leg leg 1",
         ),
     ] {
         let text = format!(in alloc; "{HEAD}{body}")?;
-        assert_eq!(rt; shape_of(alloc, text.as_str())?.as_str(), shape, "{body}");
+        assert_eq!(rt; summary(alloc, text.as_str())?.as_str(), said, "{body}");
     }
     Ok(())
 }
 
 #[test]
-fn as_many_legs_as_there_may_be(rt: HostRuntime) -> Result<(), Fail> {
+fn a_report_follows(rt: HostRuntime) -> Result<(), Fail> {
     let alloc = rt.alloc();
-    let mut text = String::from_str(alloc, HEAD)?;
-    for _ in 0..63 {
-        text.push_str("migrate\n")?;
-    }
-    text.push_str("end\n")?;
-    let script = parse(alloc, text.as_bytes()).ok().ok_or("refused")?;
-    assert_eq!(rt; script.legs.len(), 64);
-    Ok(())
-}
-
-#[test]
-fn registers_to_restore(rt: HostRuntime) -> Result<(), Fail> {
-    let alloc = rt.alloc();
-    let text = format!(in alloc;
-        "{HEAD}restore 1 0x8000000080020000 0x20 64 0xffffffffffffffff 18446744073709551615\nend\n"
-    )?;
-    let script = parse(alloc, text.as_bytes()).ok().ok_or("refused")?;
-    assert_eq!(rt;
-        script.desc.restore,
-        Some(RegValues {
-            ctlr: 1,
-            cbaser: 0x8000_0000_8002_0000,
-            creadr: 32,
-            cwriter: 64,
-            baser0: u64::MAX,
-            baser1: u64::MAX,
-        })
-    );
-    Ok(())
-}
-
-#[test]
-fn nothing_to_restore(rt: HostRuntime) -> Result<(), Fail> {
-    let alloc = rt.alloc();
-    let text = format!(in alloc; "{HEAD}end\n")?;
-    let script = parse(alloc, text.as_bytes()).ok().ok_or("refused")?;
-    assert_eq!(rt; script.desc.restore, None);
-    Ok(())
-}
-
-#[test]
-fn words_of_no_line(rt: HostRuntime) {
-    let alloc = rt.alloc();
-    for text in [
-        "walk\n",
-        "Migrate\n",
-        "migrate1\n",
-        "migrat\n",
-        "restored\n",
-        "ids 16 16\n",
-        "profile 1\n",
-        "gicr\n",
-        "rrestore 0 0 0 0\n",
-        "rread 0 0 4\n",
-        "rwrite 0 0 4 0\n",
-        "trace\n",
+    for (body, line, kind) in [
+        ("end\n", 7, Kind::Missing),
+        ("end\ntrace", 7, Kind::Cut),
+        ("trace\nend\n", 6, Kind::Order),
+        ("end\nstep\ntrace\n", 7, Kind::Order),
+        ("end\ntrace x\n", 7, Kind::Fields),
     ] {
-        assert_eq!(rt; fault_of(alloc, text), Some((1, Kind::Word)), "{text}");
+        let text = format!(in alloc; "{HEAD}{body}")?;
+        let fault = match parse_check(alloc, text.as_bytes()) {
+            Err(ParseError::Fault(ScriptFault { line, kind })) => Some((line, kind)),
+            _ => None,
+        };
+        assert_eq!(rt; fault, Some((line, kind)), "{body}");
     }
+    let text = format!(in alloc; "{HEAD}end\n# nothing\n  trace \nleg 1\ntrace")?;
+    let input = parse_check(alloc, text.as_bytes()).ok().ok_or("refused")?;
+    assert_eq!(rt; input.report, b"leg 1\ntrace".as_slice());
+    assert_eq!(rt; input.script.legs.len(), 1);
+    Ok(())
 }

@@ -11,6 +11,8 @@ pub enum Keyword {
     Vcpus,
     Shards,
     Limits,
+    Ids,
+    Profile,
     Window,
     Config,
     Pending,
@@ -31,6 +33,7 @@ pub enum Keyword {
     Write,
     Step,
     Save,
+    Trace,
 }
 
 /// The word of a command.
@@ -101,6 +104,10 @@ fn outline_keyword_of(word: &[u8]) -> Result<Keyword, Kind>
         Ok(Keyword::Shards)
     } else if word == b"limits".as_slice() {
         Ok(Keyword::Limits)
+    } else if word == b"ids".as_slice() {
+        Ok(Keyword::Ids)
+    } else if word == b"profile".as_slice() {
+        Ok(Keyword::Profile)
     } else if word == b"window".as_slice() {
         Ok(Keyword::Window)
     } else if word == b"config".as_slice() {
@@ -113,6 +120,8 @@ fn outline_keyword_of(word: &[u8]) -> Result<Keyword, Kind>
         Ok(Keyword::Migrate)
     } else if word == b"end".as_slice() {
         Ok(Keyword::End)
+    } else if word == b"trace".as_slice() {
+        Ok(Keyword::Trace)
     } else {
         Err(Kind::Word)
     }

@@ -41,7 +41,7 @@ pub record IsMachineRefusal (input text : List ℕ) : Type 0 where
   pub fault : DescFault
   pub read : script_of input ≡ Ok script
   pub refused : IsRefused script.desc fault
-  pub same : text ≡ machine_refusal fault
+  pub same : text ≡ machine_refusal script.fill_lines fault
 
 -- the bytes are a script, whose description makes a machine that starts in this state
 pub record IsScript (input : List ℕ) (script : Script) (first : Plain) : Type 0 where

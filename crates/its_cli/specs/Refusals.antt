@@ -1,5 +1,5 @@
 -- The lines of refusals.
-use Rattle.std.specs.Prelude.{ℕ, List, ◌++◌, codes}
+use Rattle.std.specs.Prelude.{ℕ, List, ◌++◌, codes, slice_index}
 use Rattle.std.specs.Fmt.{decimal}
 use Rattle.its_plain.specs.declared.desc.DescFault.{DescFault}
 use Rattle.its_plain.specs.declared.desc.DescFault.TheVariants as desc_fault
@@ -23,15 +23,16 @@ kind_text kind.Many = codes "many"
 unfoldable pub script_refusal : ScriptFault → List ℕ
 script_refusal fault = codes "refused script " ++ decimal fault.line ++ codes " " ++ kind_text fault.kind ++ codes "\n"
 
-unfoldable pub cause_text : DescFault → List ℕ
-cause_text desc_fault.Windows = codes "windows"
-cause_text desc_fault.Config = codes "config"
-cause_text (desc_fault.Pending vcpu) = codes "pending " ++ decimal vcpu.0
-cause_text (desc_fault.Bytes line) = codes "bytes " ++ decimal line
-cause_text (desc_fault.Restore fault) = codes "restore " ++ restore_fault_text fault
+-- of a script, whose fills stand in these lines
+unfoldable pub cause_text : List ℕ → DescFault → List ℕ
+cause_text lines desc_fault.Windows = codes "windows"
+cause_text lines desc_fault.Config = codes "config"
+cause_text lines (desc_fault.Pending vcpu) = codes "pending " ++ decimal vcpu.0
+cause_text lines (desc_fault.Bytes fill) = codes "bytes " ++ decimal (slice_index lines fill)
+cause_text lines (desc_fault.Restore fault) = codes "restore " ++ restore_fault_text fault
 
-unfoldable pub machine_refusal : DescFault → List ℕ
-machine_refusal fault = codes "refused machine " ++ cause_text fault ++ codes "\n"
+unfoldable pub machine_refusal : List ℕ → DescFault → List ℕ
+machine_refusal lines fault = codes "refused machine " ++ cause_text lines fault ++ codes "\n"
 
 -- of a leg, by its number from 1
 

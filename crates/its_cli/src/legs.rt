@@ -12,10 +12,10 @@ use crate::solo::play_leg;
 use crate::status::Status;
 use event_script::{Phase, Script};
 use its_history::{End, EntryLine, Leg, Text, leg_text, pending_text};
+use its_plain::SaveError;
 use its_types::Listed;
 use owned_machine::Machine;
 use std::alloc::{AllocError, Global};
-use table_save::SaveError;
 
 /// How a run ended: its status, and the line behind the report, which is a refusal's or has no bytes.
 #[derive(Drop)]
@@ -148,10 +148,8 @@ fn add_leg(
         pending,
         end,
     };
-    match leg_text(alloc, number, &leg) {
-        Ok(text) => report.push_str(text.as_str()),
-        Err(_) => Err(AllocError),
-    }
+    let text = leg_text(alloc, number, &leg)?;
+    report.push_str(text.as_str())
 }
 
 /// What is pending at each virtual processor.
@@ -161,9 +159,7 @@ fn pending_texts(alloc: Global, machine: &Machine) -> Result<Listed<Text>, Alloc
     let mut texts = Listed::new(alloc);
     for vcpu in 0..machine.vcpus() {
         let lpis = machine.pending(alloc, vcpu)?;
-        let Ok(text) = pending_text(alloc, &lpis) else {
-            return Err(AllocError);
-        };
+        let text = pending_text(alloc, &lpis)?;
         texts.push(text)?;
     }
     Ok(texts)

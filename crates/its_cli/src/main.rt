@@ -2,20 +2,14 @@
 #![tactic(auto)]
 
 #[cfg(test)]
-mod cut_short;
+mod command_tests;
 #[cfg(test)]
-mod examples;
+mod hostile_tests;
 mod its;
 mod legs;
 #[cfg(test)]
-mod migration_examples;
+mod migration_tests;
 mod refusals;
-#[cfg(test)]
-mod registers_examples;
-#[cfg(test)]
-mod restore_examples;
-#[cfg(test)]
-mod saved_examples;
 mod say;
 mod solo;
 mod status;

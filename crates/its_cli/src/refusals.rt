@@ -1,5 +1,5 @@
 //! The lines of refusals.
-ghost use Rattle.std.specs.Prelude.{◌≡◌, ◌++◌, IfOk, OnOk};
+ghost use Rattle.std.specs.Prelude.{◌≡◌, ◌++◌, IfOk, OnOk, slice_index};
 ghost use Rattle.std.specs.String.{string_bytes};
 ghost use Rattle.its_history.specs.Texts as history;
 ghost use Rattle.its_cli.specs.Refusals as spec;
@@ -38,25 +38,38 @@ fn kind_name(kind: Kind) -> &'static str
     }
 }
 
+/// Of a script, whose fills stand in these lines.
 #[tactic(auto, unfolding(crate::specs::Refusals::machine_refusal))]
-pub fn machine_refusal(alloc: Global, fault: DescFault) -> Result<String, AllocError>
-    ensures { IfOk result (λ text. string_bytes text ≡ spec.machine_refusal fault) }
+pub fn machine_refusal(
+    alloc: Global,
+    fill_lines: &[u64],
+    fault: DescFault,
+) -> Result<String, AllocError>
+    ensures { IfOk result (λ text. string_bytes text ≡ spec.machine_refusal fill_lines.now fault) }
 {
     let mut text = String::from_str(alloc, "refused machine ")?;
-    push_cause(alloc, &mut text, fault)?;
+    push_cause(alloc, &mut text, fill_lines, fault)?;
     text.push_str("\n")?;
     Ok(text)
 }
 
 #[tactic(auto, unfolding(crate::specs::Refusals::cause_text))]
-fn push_cause(alloc: Global, text: &mut String, fault: DescFault) -> Result<(), AllocError>
-    ensures { OnOk result (string_bytes text.new ≡ string_bytes text.old ++ spec.cause_text fault) }
+fn push_cause(
+    alloc: Global,
+    text: &mut String,
+    fill_lines: &[u64],
+    fault: DescFault,
+) -> Result<(), AllocError>
+    ensures { OnOk result (string_bytes text.new ≡ string_bytes text.old ++ spec.cause_text fill_lines.now fault) }
 {
     match fault {
         DescFault::Windows => text.push_str("windows"),
         DescFault::Config => text.push_str("config"),
         DescFault::Pending(vcpu) => write!(text, "pending {}", vcpu.0),
-        DescFault::Bytes(line) => write!(text, "bytes {line}"),
+        DescFault::Bytes(fill) => {
+            let line = line_of(fill_lines, fill);
+            write!(text, "bytes {line}")
+        }
         DescFault::Restore(fault) => {
             text.push_str("restore ")?;
             push_offence(alloc, text, fault)
@@ -64,13 +77,21 @@ fn push_cause(alloc: Global, text: &mut String, fault: DescFault) -> Result<(), 
     }
 }
 
+// The line of a fill by its number from 0.
+fn line_of(fill_lines: &[u64], fill: u64) -> u64
+    ensures { result ≡ slice_index fill_lines.now fill }
+{
+    match fill_lines.get(fill as usize) {
+        Some(line) => *line,
+        None => 0,
+    }
+}
+
 fn push_offence(alloc: Global, text: &mut String, fault: RestoreFault) -> Result<(), AllocError>
     ensures { OnOk result (string_bytes text.new ≡ string_bytes text.old ++ history.restore_fault_text fault) }
 {
-    match restore_fault_text(alloc, &fault) {
-        Ok(cause) => text.push_str(cause.as_str()),
-        Err(_) => Err(AllocError),
-    }
+    let cause = restore_fault_text(alloc, &fault)?;
+    text.push_str(cause.as_str())
 }
 
 /// Of a leg, by its number from 1.
@@ -90,10 +111,7 @@ pub fn migration_refusal(alloc: Global, leg: u64, fault: SaveFault) -> Result<St
 {
     let mut text = String::new(alloc);
     write!(text, "refused migration {leg} ")?;
-    match save_fault_text(alloc, &fault) {
-        Ok(cause) => text.push_str(cause.as_str())?,
-        Err(_) => return Err(AllocError),
-    }
+    text.push_str(save_fault_text(alloc, &fault)?.as_str())?;
     text.push_str("\n")?;
     Ok(text)
 }

@@ -30,7 +30,7 @@ pub fn say(alloc: Global, input: &[u8], report: &mut String) -> Result<Ending, A
         Ok(machine) => machine,
         Err(MakeError::NoMemory) => return Err(AllocError),
         Err(MakeError::Fault(fault)) => {
-            let line = machine_refusal(alloc, fault)?;
+            let line = machine_refusal(alloc, script.fill_lines.as_slice(), fault)?;
             let status = Status::MachineRefused;
             return Ok(Ending { status, line });
         }

@@ -76,9 +76,7 @@ fn play_thread(
         if place >= last {
             return Ok(true);
         }
-        let Ok(reply) = machine.answer(alloc, call) else {
-            return Err(AllocError);
-        };
+        let reply = machine.answer(alloc, call)?;
         let line = line_of(alloc, place, seat, call, &reply)?;
         lines.push(line)?;
     }
@@ -94,13 +92,10 @@ fn line_of(
 ) -> Result<EntryLine, AllocError>
     ensures { IfOk result (λ l. l ≡ report.line_of place seat.phase seat.thread call.now reply.now) }
 {
-    match answered_text(alloc, call, reply) {
-        Ok(text) => Ok(EntryLine {
-            place,
-            phase: seat.phase,
-            thread: seat.thread,
-            text,
-        }),
-        Err(_) => Err(AllocError),
-    }
+    Ok(EntryLine {
+        place,
+        phase: seat.phase,
+        thread: seat.thread,
+        text: answered_text(alloc, call, reply)?,
+    })
 }

@@ -1,3 +1,10 @@
 pub mod ThreadLines
 pub mod Unique
 pub mod Merges
+pub mod ReadLines
+pub mod ReadNumbers
+pub mod ReadTexts
+pub mod ReadLegs
+pub mod Flat
+pub mod Printed
+pub mod ReadAgain

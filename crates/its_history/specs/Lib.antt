@@ -2,3 +2,5 @@ pub mod Texts
 pub mod Report
 pub mod Merged
 pub mod Histories
+pub mod Reading
+pub mod ReadBack

@@ -10,9 +10,13 @@ use Rattle.its_history.specs.declared.trace.End.TheVariants.{Migrated, Done}
 use Rattle.its_history.specs.declared.trace.EntryLine.{EntryLine}
 use Rattle.its_history.specs.declared.trace.Leg.{Leg}
 
--- the line of an entry, without its end: its place, its phase and thread, its text
+-- what an entry's line says after its place: its phase and thread, and its text
+unfoldable pub told_text : ℕ → ℕ → List ℕ → List ℕ
+told_text phase thread text = decimal phase ++ codes "." ++ decimal thread ++ codes " " ++ text
+
+-- the line of an entry, without its end
 unfoldable pub line_text : EntryLine → List ℕ
-line_text l = decimal l.place ++ codes " " ++ decimal l.phase ++ codes "." ++ decimal l.thread ++ codes " " ++ l.text
+line_text l = decimal l.place ++ codes " " ++ told_text l.phase l.thread l.text
 
 abbrev pub line_of : ℕ → ℕ → ℕ → Call → Reply → EntryLine
 line_of place phase thread c r = record { place = place; phase = phase; thread = thread; text = answered_text c r }
@@ -25,8 +29,12 @@ abbrev pub pending_text : List ℕ → List ℕ
 pending_text [] = codes "none"
 pending_text (n ∷ ns) = decimal n ++ flat_map (λ m. codes " " ++ decimal m) ns
 
-unfoldable pub vcpu_line : ℕ → List ℕ → List ℕ
-vcpu_line vcpu pending = codes "vcpu " ++ decimal vcpu ++ codes " pending " ++ pending ++ codes "\n"
+-- the line of a virtual processor, without its end
+unfoldable pub vcpu_text : ℕ → List ℕ → List ℕ
+vcpu_text vcpu pending = codes "vcpu " ++ decimal vcpu ++ codes " pending " ++ pending
+
+abbrev pub vcpu_line : ℕ → List ℕ → List ℕ
+vcpu_line vcpu pending = vcpu_text vcpu pending ++ codes "\n"
 
 abbrev pub vcpu_lines_from : ℕ → List (List ℕ) → List ℕ
 vcpu_lines_from vcpu [] = []

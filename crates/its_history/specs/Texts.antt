@@ -41,6 +41,9 @@ call_text (call.Poke addr bytes) = codes "poke " ++ hexadecimal addr.0 ++ codes 
 call_text (call.Peek addr count) = codes "peek " ++ hexadecimal addr.0 ++ codes " " ++ decimal count
 call_text (call.ReadReg its off size) = codes "read " ++ hexadecimal off ++ codes " " ++ decimal size
 call_text (call.WriteReg its off size value) = codes "write " ++ hexadecimal off ++ codes " " ++ decimal size ++ codes " " ++ hexadecimal value
+call_text (call.ReadGicr vcpu off size) = codes "rread " ++ decimal vcpu.0 ++ codes " " ++ hexadecimal off ++ codes " " ++ decimal size
+call_text (call.WriteGicr vcpu off size value) =
+    codes "rwrite " ++ decimal vcpu.0 ++ codes " " ++ hexadecimal off ++ codes " " ++ decimal size ++ codes " " ++ hexadecimal value
 call_text (call.Step its) = codes "step"
 call_text call.Save = codes "save"
 

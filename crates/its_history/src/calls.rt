@@ -49,6 +49,23 @@ pub fn push_call(alloc: Global, out: &mut String, call: &Call) -> Result<(), All
             out.push_str(" ")?;
             push_hexadecimal(out, *value)
         }
+        Call::ReadGicr { vcpu, off, size } => {
+            out.push_str("rread ")?;
+            push_decimal(out, vcpu.0.into())?;
+            push_access(out, " ", *off, *size)
+        }
+        Call::WriteGicr {
+            vcpu,
+            off,
+            size,
+            value,
+        } => {
+            out.push_str("rwrite ")?;
+            push_decimal(out, vcpu.0.into())?;
+            push_access(out, " ", *off, *size)?;
+            out.push_str(" ")?;
+            push_hexadecimal(out, *value)
+        }
         Call::Step { its: _ } => out.push_str("step"),
         Call::Save => out.push_str("save"),
     }

@@ -4,7 +4,6 @@ ghost use Rattle.std.specs.Fmt.{decimal};
 ghost use Rattle.std.specs.String.{string_bytes};
 ghost use Rattle.its_history.specs.Texts as spec;
 
-use crate::errors::NoMemory;
 use crate::numbers::push_decimal;
 use gits_regs::Register;
 use its_plain::{Region, RestoreFault, SaveFault, Table};
@@ -12,7 +11,7 @@ use std::alloc::{AllocError, Global};
 use std::fmt::Write;
 
 /// The cause of a refused save or migration, as `overlap itt 16 itt 17`.
-pub fn save_fault_text(alloc: Global, fault: &SaveFault) -> Result<String, NoMemory>
+pub fn save_fault_text(alloc: Global, fault: &SaveFault) -> Result<String, AllocError>
     ensures { IfOk result (λ text. string_bytes text ≡ spec.save_fault_text fault.now) }
 {
     let mut out = String::new(alloc);
@@ -21,7 +20,7 @@ pub fn save_fault_text(alloc: Global, fault: &SaveFault) -> Result<String, NoMem
 }
 
 /// The cause of a refused restore, as `bad-target 1 4`.
-pub fn restore_fault_text(alloc: Global, fault: &RestoreFault) -> Result<String, NoMemory>
+pub fn restore_fault_text(alloc: Global, fault: &RestoreFault) -> Result<String, AllocError>
     ensures { IfOk result (λ text. string_bytes text ≡ spec.restore_fault_text fault.now) }
 {
     let mut out = String::new(alloc);

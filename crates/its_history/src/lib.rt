@@ -2,9 +2,12 @@
 #![tactic(auto)]
 
 mod calls;
-mod errors;
 mod faults;
+mod left;
+mod lines;
 mod numbers;
+mod read_back;
+mod reading;
 mod replies;
 mod report;
 #[cfg(test)]
@@ -13,9 +16,13 @@ mod text;
 mod threads;
 mod trace;
 
-pub use errors::NoMemory;
 pub use faults::{restore_fault_text, save_fault_text};
-pub use report::{answered_text, entry_text, leg_text, pending_text, report_text};
+pub use read_back::{printed_reports_are_read, read_reports_print};
+pub use reading::{TraceError, parse_trace};
+pub use report::{
+    answered_text, entry_text, leg_text, pending_text, reply_text, report_text, told_text,
+    vcpu_text,
+};
 pub use text::Text;
 pub use threads::{ThreadList, merge, merge_gives, thread_gives};
 pub use trace::{End, EntryLine, Leg, Trace};

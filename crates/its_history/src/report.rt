@@ -1,10 +1,9 @@
 ghost use Rattle.std.specs.Prelude.{◌≡◌, ◌++◌, IfOk, OnOk, map};
 ghost use Rattle.std.specs.String.{string_bytes};
-ghost use Rattle.its_history.specs.Texts.{answered_text};
+ghost use Rattle.its_history.specs.Texts.{answered_text, reply_text};
 ghost use Rattle.its_history.specs.Report as spec;
 
 use crate::calls::push_call;
-use crate::errors::NoMemory;
 use crate::numbers::push_decimal;
 use crate::replies::push_reply;
 use crate::text::Text;
@@ -22,7 +21,7 @@ pub fn entry_text(
     thread: u32,
     call: &Call,
     reply: &Reply,
-) -> Result<String, NoMemory>
+) -> Result<String, AllocError>
     ensures { IfOk result (λ text. string_bytes text ≡ spec.entry_text place phase thread call.now reply.now) }
 {
     let text = answered_text(alloc, call, reply)?;
@@ -39,9 +38,36 @@ pub fn entry_text(
     Ok(out)
 }
 
+/// What an entry's line says after its place.
+pub fn told_text(alloc: Global, phase: u64, thread: u64, text: &Text) -> Result<Text, AllocError>
+    ensures { IfOk result (λ told. told ≡ spec.told_text phase thread text.now) }
+{
+    let mut out = String::new(alloc);
+    push_told(&mut out, phase, thread, text)?;
+    Ok(Text::new(out))
+}
+
+/// The line of a virtual processor, by what is pending there, without its end.
+pub fn vcpu_text(alloc: Global, vcpu: u64, pending: &Text) -> Result<Text, AllocError>
+    ensures { IfOk result (λ line. line ≡ spec.vcpu_text vcpu pending.now) }
+{
+    let mut out = String::new(alloc);
+    push_vcpu(&mut out, vcpu, pending)?;
+    Ok(Text::new(out))
+}
+
+/// A reply.
+pub fn reply_text(alloc: Global, reply: &Reply) -> Result<Text, AllocError>
+    ensures { IfOk result (λ text. text ≡ reply_text reply.now) }
+{
+    let mut out = String::new(alloc);
+    push_reply(alloc, &mut out, reply)?;
+    Ok(Text::new(out))
+}
+
 /// A call and what it was answered.
 #[tactic(auto, unfolding(crate::specs::Texts::answered_text))]
-pub fn answered_text(alloc: Global, call: &Call, reply: &Reply) -> Result<Text, NoMemory>
+pub fn answered_text(alloc: Global, call: &Call, reply: &Reply) -> Result<Text, AllocError>
     ensures { IfOk result (λ text. text ≡ answered_text call.now reply.now) }
 {
     let mut out = String::with_capacity(alloc, 48)?;
@@ -52,7 +78,7 @@ pub fn answered_text(alloc: Global, call: &Call, reply: &Reply) -> Result<Text, 
 }
 
 /// The interrupts that are pending at a virtual processor, which are given in rising order.
-pub fn pending_text(alloc: Global, pending: &[Intid]) -> Result<Text, NoMemory>
+pub fn pending_text(alloc: Global, pending: &[Intid]) -> Result<Text, AllocError>
     ensures { IfOk result (λ text. text ≡ spec.pending_text (map (λ i. i.0) pending.now)) }
 {
     let mut out = String::new(alloc);
@@ -70,7 +96,7 @@ pub fn pending_text(alloc: Global, pending: &[Intid]) -> Result<Text, NoMemory>
 }
 
 /// The report of a trace.
-pub fn report_text(alloc: Global, trace: &Trace) -> Result<String, NoMemory>
+pub fn report_text(alloc: Global, trace: &Trace) -> Result<String, AllocError>
     ensures { IfOk result (λ text. string_bytes text ≡ spec.report_text trace.now.legs) }
 {
     let mut out = String::with_capacity(alloc, room_for(trace.legs.as_slice()))?;
@@ -83,7 +109,7 @@ pub fn report_text(alloc: Global, trace: &Trace) -> Result<String, NoMemory>
 }
 
 /// The part of a report that is a leg's, of which the first has the number 1.
-pub fn leg_text(alloc: Global, number: u64, leg: &Leg) -> Result<String, NoMemory>
+pub fn leg_text(alloc: Global, number: u64, leg: &Leg) -> Result<String, AllocError>
     ensures { IfOk result (λ text. string_bytes text ≡ spec.leg_text number leg.now) }
 {
     let mut out = String::with_capacity(alloc, room_for(slice::from_ref(leg)))?;
@@ -132,11 +158,18 @@ fn push_line(out: &mut String, line: &EntryLine) -> Result<(), AllocError>
 {
     push_decimal(out, line.place)?;
     out.push_str(" ")?;
-    push_decimal(out, line.phase.into())?;
+    push_told(out, line.phase.into(), line.thread.into(), &line.text)
+}
+
+#[tactic(auto, unfolding(crate::specs::Report::told_text))]
+fn push_told(out: &mut String, phase: u64, thread: u64, text: &Text) -> Result<(), AllocError>
+    ensures { OnOk result (string_bytes out.new ≡ string_bytes out.old ++ spec.told_text phase thread text.now) }
+{
+    push_decimal(out, phase)?;
     out.push_str(".")?;
-    push_decimal(out, line.thread.into())?;
+    push_decimal(out, thread)?;
     out.push_str(" ")?;
-    out.push_str(line.text.as_str())
+    out.push_str(text.as_str())
 }
 
 fn push_vcpus(out: &mut String, pending: &[Text]) -> Result<(), AllocError>
@@ -144,19 +177,19 @@ fn push_vcpus(out: &mut String, pending: &[Text]) -> Result<(), AllocError>
 {
     for (vcpu, pending) in pending.iter().enumerate() {
         push_vcpu(out, vcpu as u64, pending)?;
+        out.push_str("\n")?;
     }
     Ok(())
 }
 
-#[tactic(auto, unfolding(crate::specs::Report::vcpu_line))]
+#[tactic(auto, unfolding(crate::specs::Report::vcpu_text))]
 fn push_vcpu(out: &mut String, vcpu: u64, pending: &Text) -> Result<(), AllocError>
-    ensures { OnOk result (string_bytes out.new ≡ string_bytes out.old ++ spec.vcpu_line vcpu pending.now) }
+    ensures { OnOk result (string_bytes out.new ≡ string_bytes out.old ++ spec.vcpu_text vcpu pending.now) }
 {
     out.push_str("vcpu ")?;
     push_decimal(out, vcpu)?;
     out.push_str(" pending ")?;
-    out.push_str(pending.as_str())?;
-    out.push_str("\n")
+    out.push_str(pending.as_str())
 }
 
 #[tactic(auto, unfolding(crate::specs::Report::end_text))]

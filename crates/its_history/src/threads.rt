@@ -4,12 +4,11 @@ ghost use Rattle.its_history.specs.Report.{line_of};
 ghost use Rattle.its_history.specs.Merged.{list_lines, all_lines, first_entries, open_leg};
 ghost use Rattle.its_history.specs.Histories.{ThreadGives, MergeGives};
 
-use crate::errors::NoMemory;
 use crate::report::answered_text;
 use crate::trace::{EntryLine, Leg, Trace};
 use its_plain::{Call, Reply};
 use its_types::{Listed, Placed};
-use std::alloc::Global;
+use std::alloc::{AllocError, Global};
 
 /// The entries of a thread: its first calls, each with its reply and its place. Calls without a reply weren't made.
 #[derive(Drop)]
@@ -23,7 +22,7 @@ pub struct ThreadList<'a> {
 }
 
 /// A leg of the entries of all lists, by place. Nothing is pending in it, and it has no end.
-pub fn merge(alloc: Global, lists: &[ThreadList]) -> Result<Trace, NoMemory>
+pub fn merge(alloc: Global, lists: &[ThreadList]) -> Result<Trace, AllocError>
     ensures leg { IfOk result (λ t. t.legs ≡ open_leg (first_entries t.legs) ∷ []) }
     ensures same { IfOk result (λ t. IsPermutation (all_lines lists.now) (first_entries t.legs)) }
     ensures rises { IfOk result (λ t. IsNonDecreasingBy (λ l. l.place) (first_entries t.legs)) }
@@ -51,7 +50,7 @@ fn count_replies(lists: &[ThreadList]) -> usize {
     count
 }
 
-fn push_list(alloc: Global, lines: &mut Vec<EntryLine>, list: &ThreadList) -> Result<(), NoMemory>
+fn push_list(alloc: Global, lines: &mut Vec<EntryLine>, list: &ThreadList) -> Result<(), AllocError>
     ensures { OnOk result (lines.new.items ≡ lines.old.items ++ list_lines list.now) }
 {
     for (call, placed) in list.calls.iter().zip(list.replies.as_slice()) {

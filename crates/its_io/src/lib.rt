@@ -10,7 +10,7 @@ mod sure;
 mod tests;
 mod traits;
 
-pub use errors::{Failed, NoMemory};
+pub use errors::Failed;
 pub use memory::{MemSink, MemSource};
 pub use standard::{StdSink, StdSource};
 pub use sure::{SureSink, SureSource};

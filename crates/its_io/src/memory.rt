@@ -1,10 +1,10 @@
 ghost use Rattle.std.specs.Prelude.{◌≤◌, ◌<◌, ◌^◌};
 ghost use Rattle.std.specs.Vec.{vec_len, vec_capacity};
 
-use crate::errors::{Failed, NoMemory};
+use crate::errors::Failed;
 use crate::script::Script;
 use crate::traits::{Sink, Source};
-use std::alloc::Global;
+use std::alloc::{AllocError, Global};
 
 /// Bytes in memory, read with some of the calls failing.
 #[derive(Drop)]
@@ -28,7 +28,7 @@ impl MemSource {
         bytes: &[u8],
         most: usize,
         fail: &[u64],
-    ) -> Result<MemSource, NoMemory>
+    ) -> Result<MemSource, AllocError>
         requires { 0 < most }
         ensures bytes { IfOk result (λ s. bytes_left s ≡ bytes.now) }
         ensures script { IfOk result (λ s. source_script s ≡ record { most = most; fail = fail.now; calls = 0; faults = 0 }) }
@@ -90,7 +90,7 @@ impl MemSink {
 
     /// A sink with room for so many bytes. A call moves at most `most` of them, and the calls whose numbers, counted from 1,
     /// stand in `fail` fail. All its memory is taken here.
-    pub fn new(alloc: Global, room: usize, most: usize, fail: &[u64]) -> Result<MemSink, NoMemory>
+    pub fn new(alloc: Global, room: usize, most: usize, fail: &[u64]) -> Result<MemSink, AllocError>
         requires { 0 < most }
         ensures bytes { IfOk result (λ s. bytes_held s ≡ []) }
         ensures room { IfOk result (λ s. sink_room s ≡ room) }

@@ -1,8 +1,8 @@
 ghost use Rattle.std.specs.Prelude.{◌≡◌, IfOk};
 ghost use Rattle.its_io.specs.Script.{refuses, with_call, with_fault};
 
-use crate::errors::{Failed, NoMemory};
-use std::alloc::Global;
+use crate::errors::Failed;
+use std::alloc::{AllocError, Global};
 use std::marker::Model;
 
 /// Which calls are to fail, and how often one did.
@@ -23,7 +23,7 @@ impl Model for Script {
 }
 
 impl Script {
-    pub fn new(alloc: Global, most: usize, fail: &[u64]) -> Result<Script, NoMemory>
+    pub fn new(alloc: Global, most: usize, fail: &[u64]) -> Result<Script, AllocError>
         ensures { IfOk result (λ s. s ≡ record { most = most; fail = fail.now; calls = 0; faults = 0 }) }
     {
         Ok(Script {

@@ -1,9 +1,9 @@
 ghost use Rattle.std.specs.Prelude.{◌≤◌};
 ghost use Rattle.std.specs.Vec.{vec_len, vec_capacity};
 
-use crate::errors::{Failed, NoMemory};
+use crate::errors::Failed;
 use crate::traits::{Sink, Source};
-use std::alloc::Global;
+use std::alloc::{AllocError, Global};
 
 /// Bytes in memory. No read fails.
 #[derive(Drop)]
@@ -17,7 +17,7 @@ impl SureSource {
     ghost use Rattle.std.specs.Prelude.{◌≡◌, IfOk};
     ghost use Rattle.its_io.specs.Ends.{sure_left};
 
-    pub fn new(alloc: Global, bytes: &[u8]) -> Result<SureSource, NoMemory>
+    pub fn new(alloc: Global, bytes: &[u8]) -> Result<SureSource, AllocError>
         ensures { IfOk result (λ s. sure_left s ≡ bytes.now) }
     {
         Ok(SureSource {
@@ -68,7 +68,7 @@ impl SureSink {
     ghost use Rattle.its_io.specs.Ends.{sure_held, sure_room};
 
     /// A sink with room for so many bytes. All its memory is taken here.
-    pub fn new(alloc: Global, room: usize) -> Result<SureSink, NoMemory>
+    pub fn new(alloc: Global, room: usize) -> Result<SureSink, AllocError>
         ensures bytes { IfOk result (λ s. sure_held s ≡ Some []) }
         ensures room { IfOk result (λ s. sure_room s ≡ room) }
     {
