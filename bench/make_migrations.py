@@ -2,9 +2,11 @@
 """Writes a script to standard output that restores a machine from tables in its memory and migrates it N times.
 
 The tables have either one device with COUNT events in an interrupt translation table of 65,536 places (`events`), or
-COUNT devices without events in a flat device table of 8 pages, which has 65,536 places (`devices`).
+COUNT devices without events in a flat device table of 8 pages, which has 65,536 places (`devices`). With `overlap` they
+have such devices whose last two tables overlap. That machine can't be saved, so instead of migrations the script has N
+saves, each of which is refused.
 
-usage: make_migrations.py events|devices COUNT N
+usage: make_migrations.py events|devices|overlap COUNT N
 """
 
 import sys
@@ -70,18 +72,25 @@ def devices(count):
     yield from filled(DEVICES, [device_entry(distance(dev, count), ITTS + 256 * dev, 1) for dev in range(count)])
 
 
-TABLES = {"events": events, "devices": devices}
+def overlap(count):
+    """The same, but the last device has the table of the one before it."""
+    yield from devices(count - 1)
+    last = count - 1
+    yield from filled(DEVICES + 8 * last, [device_entry(0, ITTS + 256 * (last - 1), 1)])
+    yield from filled(DEVICES + 8 * (last - 1), [device_entry(1, ITTS + 256 * (last - 1), 1)])
 
 
-def script(tables, migrations):
+TABLES = {"events": events, "devices": devices, "overlap": overlap}
+
+
+def script(tables, again):
     yield DESCRIPTION
     yield from tables
     # One collection, at the only processor.
     yield from filled(COLLECTIONS, [VALID | 1])
     yield f"restore 0 0 0 0 {BASER0:#x} {BASER1:#x}\n"
     yield "phase\nthread\nshow 0\n"
-    for _ in range(migrations):
-        yield "migrate\n"
+    yield from again
     yield "end\n"
 
 
@@ -89,9 +98,10 @@ def main():
     if len(sys.argv) != 4 or sys.argv[1] not in TABLES or not sys.argv[2].isdecimal() or not sys.argv[3].isdecimal():
         raise SystemExit(__doc__)
     count, migrations = int(sys.argv[2]), int(sys.argv[3])
-    if not 1 <= count <= MOST or migrations > MOST_MIGRATIONS:
+    if not 2 <= count <= MOST or migrations > MOST_MIGRATIONS:
         raise SystemExit(__doc__)
-    for lines in script(TABLES[sys.argv[1]](count), migrations):
+    again = ["save\n" if sys.argv[1] == "overlap" else "migrate\n"] * migrations
+    for lines in script(TABLES[sys.argv[1]](count), again):
         sys.stdout.write(lines)
 
 

@@ -1,7 +1,9 @@
 #!/usr/bin/env python3
 """Runs a program's `run` on a script, and prints the time, the peak memory and the sizes.
 
-usage: measure.py PROGRAM SCRIPT REPORT
+With FIGURES, KIND and SIZE it also adds a row to the file FIGURES, which plot.py draws.
+
+usage: measure.py PROGRAM SCRIPT REPORT [FIGURES KIND SIZE]
 """
 
 import os
@@ -31,10 +33,15 @@ def count_calls(report):
         return sum(b" -> " in line for line in lines)
 
 
+def add_row(figures, kind, size, calls, seconds, memory):
+    with open(figures, "a", encoding="ascii") as rows:
+        rows.write(f"{kind},{size},{calls},{seconds:.2f},{memory / 2**20:.1f}\n")
+
+
 def main():
-    if len(sys.argv) != 4:
+    if len(sys.argv) not in (4, 7):
         raise SystemExit(__doc__)
-    program, script, report = sys.argv[1:]
+    program, script, report = sys.argv[1:4]
     seconds, memory = run(program, script, report)
     calls = count_calls(report)
     each = f" {memory / calls:5.0f} bytes a call," if calls > 1 else ""
@@ -42,6 +49,9 @@ def main():
         f"{calls:>9} calls: {seconds:6.2f} s, {memory / 2**20:7.1f} MiB at most,{each} "
         f"script {os.path.getsize(script)} bytes, report {os.path.getsize(report)} bytes"
     )
+    if len(sys.argv) == 7:
+        figures, kind, size = sys.argv[4:]
+        add_row(figures, kind, size, calls, seconds, memory)
 
 
 if __name__ == "__main__":
