@@ -1,0 +1,5 @@
+pub mod Targets
+pub mod Cached
+pub mod Mapped
+pub mod Sent
+pub mod Asked

@@ -1,0 +1,35 @@
+use Rattle.std.proofs.Common.{rules, arith, refl, sym, ◌∙◌, ap, subst, List, [], ◌∷◌, ◌<◌, ◌≡◌, ℕ}
+use Rattle.its_types.specs.Lpis.{with_lpi}
+use Rattle.its_types.specs.declared.machine.Word.{Word}
+use Rattle.its_plain.specs.declared.call.Cause.TheVariants.{LpisOff}
+use Rattle.its_plain.specs.declared.call.Reply.TheVariants as reply
+use Rattle.its_plain.specs.declared.call.Signal.TheVariants.{Delivered, Dropped}
+use Rattle.owned_parts.specs.Owned.{redistributor_of}
+use Rattle.xlate_cache.specs.Pairs.{shard_number}
+use Rattle.xlate_cache.specs.Ways.{entry, filled}
+use Rattle.its_steps.proofs.Signals.{fills, drops, offs}
+use Rattle.its_steps.specs.Contents.{Maps, Held}
+use Rattle.its_steps.specs.declared.change.ShardChange.TheVariants.{Keep, Fill}
+use Rattle.its_turns.proofs.Telling.{may_here, owes_here}
+use Rattle.its_turns.specs.Contents.{translator_of}
+use Rattle.its_turns.specs.Machines.{setup, view}
+use Rattle.device_port.proofs.Cached.{at_stamp}
+use Rattle.device_port.specs.Hands.{one_held, three_held}
+use Rattle.device_port.specs.Signals.{signal}
+use Rattle.device_port.proofs.finish.drop_signal.Goals as goal
+
+pub try_commit-requires-clause-may : goal.try_commit-requires-clause-may
+try_commit-requires-clause-may g c = let m = c.args.machine.now in let t = c.args.maps.value in
+    may_here (setup m) (signal c.args.dev c.args.ev) (reply.Signal (Dropped c.args.cause)) Keep (one_held t) (λ _. one_held t) (λ w room. drops (setup m) w 0 c.args.dev c.args.ev c.args.cause (translator_of t) m.laid.1 (omega (arith, m.laid.0)) room c.requires.lost)
+    (view c.args.pass.now) c.requires.held
+
+pub put-requires-clause-owed : goal.put-requires-clause-owed
+put-requires-clause-owed g c = let m = c.args.machine.now in let t = c.args.maps.value in
+    record {
+      content = Maps (translator_of t);
+      content_is = refl;
+      before = [];
+      last = owes_here (setup m) (signal c.args.dev c.args.ev) (reply.Signal (Dropped c.args.cause)) Keep (one_held t) (λ _. one_held t)
+          (λ w room. drops (setup m) w 0 c.args.dev c.args.ev c.args.cause (translator_of t) m.laid.1 (omega (arith, m.laid.0)) room c.requires.lost)
+          (view c.args.pass.now) c.requires.held c.requires.of.1 c.in-Ok.word (view c.try_commit.new.pass) c.in-Ok.ensures.result;
+    }

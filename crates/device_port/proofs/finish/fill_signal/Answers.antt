@@ -1,0 +1,37 @@
+use Rattle.std.proofs.Common.{rules, arith, refl, sym, ◌∙◌, ap, subst, List, [], ◌∷◌, ◌<◌, ◌≡◌, ℕ}
+use Rattle.its_types.specs.Lpis.{with_lpi}
+use Rattle.its_types.specs.declared.machine.Word.{Word}
+use Rattle.its_plain.specs.declared.call.Cause.TheVariants.{LpisOff}
+use Rattle.its_plain.specs.declared.call.Reply.TheVariants as reply
+use Rattle.its_plain.specs.declared.call.Signal.TheVariants.{Delivered, Dropped}
+use Rattle.owned_parts.specs.Owned.{redistributor_of}
+use Rattle.xlate_cache.specs.Pairs.{shard_number}
+use Rattle.xlate_cache.specs.Ways.{entry, filled}
+use Rattle.its_steps.proofs.Signals.{fills, drops, offs}
+use Rattle.its_steps.specs.Contents.{Maps, Held}
+use Rattle.its_steps.specs.declared.change.ShardChange.TheVariants.{Keep, Fill}
+use Rattle.its_turns.proofs.Telling.{may_here, owes_here}
+use Rattle.its_turns.specs.Contents.{translator_of}
+use Rattle.its_turns.specs.Machines.{setup, view}
+use Rattle.device_port.proofs.Cached.{at_stamp}
+use Rattle.device_port.specs.Hands.{one_held, three_held}
+use Rattle.device_port.specs.Signals.{signal}
+use Rattle.device_port.proofs.Mapped.{fill_may, fill_owes, fill_finds}
+use Rattle.device_port.proofs.finish.fill_signal.Goals as goal
+
+pub try_commit-requires-clause-may : goal.try_commit-requires-clause-may
+try_commit-requires-clause-may g c = let m = c.args.machine.now in let s = setup m in let t = c.args.maps.value in let r = redistributor_of c.args.redist.value in
+    let sh = subst (λ (n : ℕ). n < s.shards) c.shard_of-number.ensures.number c.shard_of-number.ensures.stands.1 in
+    fill_may s m.laid.0 m.laid.1 c.args.dev c.args.ev c.args.target t c.args.shard r c.requires.vcpu sh c.requires.goes c.requires.on (view c.args.pass.now) c.requires.held
+
+pub put_three-requires-clause-held : goal.put_three-requires-clause-held
+put_three-requires-clause-held g c = let m = c.args.machine.now in let s = setup m in let t = c.args.maps.value in let r = redistributor_of c.args.redist.value in
+    let sh = subst (λ (n : ℕ). n < s.shards) c.shard_of-number.ensures.number c.shard_of-number.ensures.stands.1 in
+    rw (c.shard_of-number.ensures.number, c.fill.ensures.ways, c.set.ensures, c.deref_mut.ensures.value) (fill_owes s m.laid.0 m.laid.1 c.args.dev c.args.ev c.args.target t c.args.shard r c.requires.vcpu sh c.requires.goes c.requires.on (view c.args.pass.now) c.requires.held
+    c.requires.of.1 c.in-Ok.word (view c.try_commit.new.pass) c.in-Ok.ensures.result)
+
+pub returns-in-Ok-clause-finds : goal.returns-in-Ok-clause-finds
+returns-in-Ok-clause-finds g c = let m = c.args.machine.now in let s = setup m in let t = c.args.maps.value in let r = redistributor_of c.args.redist.value in
+    let sh = subst (λ (n : ℕ). n < s.shards) c.shard_of-number.ensures.number c.shard_of-number.ensures.stands.1 in
+    fill_finds s m.laid.0 m.laid.1 c.args.dev c.args.ev c.args.target t c.args.shard r c.requires.vcpu sh c.requires.goes c.requires.on (view c.args.pass.now) c.requires.held c.requires.of.1 c.in-Ok.word (view c.try_commit.new.pass) c.in-Ok.ensures.result
+    (view c.put_three.new.pass) c.requires.looked c.fill.ensures.found c.put_three.ensures.home

@@ -1,0 +1,42 @@
+-- What the last steps of a signal by the cache come to: from the commit on.
+use Rattle.std.specs.Prelude.{◌≡◌, Some, Option, List, []}
+use Rattle.its_types.specs.declared.ids.DeviceId.{DeviceId}
+use Rattle.its_types.specs.declared.ids.EventId.{EventId}
+use Rattle.its_types.specs.declared.ids.Target.{Target}
+use Rattle.its_types.specs.declared.machine.Part.TheVariants as part
+use Rattle.its_types.specs.declared.machine.Word.{Word}
+use Rattle.its_plain.specs.declared.call.Reply.TheVariants as reply
+use Rattle.its_plain.specs.declared.call.Signal.TheVariants.{Delivered}
+use Rattle.xlate_cache.specs.Pairs.{shard_number}
+use Rattle.xlate_cache.specs.declared.entry.Entry.{Entry as Translation}
+use Rattle.its_steps.specs.Calls.{staying}
+use Rattle.its_steps.specs.Contents.{Shard, Redist}
+use Rattle.its_plain.specs.Plain.{Redistributor}
+use Rattle.its_steps.specs.World.{View, out}
+use Rattle.its_steps.specs.declared.change.ShardChange.TheVariants.{Keep}
+use Rattle.its_turns.specs.Steps.{IsRaced}
+use Rattle.its_turns.specs.Told.{Commits}
+use Rattle.its_turns.specs.declared.commits.Raced.{Raced}
+use Rattle.device_port.specs.Hands.{two_before}
+use Rattle.device_port.specs.Signals.{signal}
+use Rattle.device_port.specs.declared.hits.Now.{Now}
+use Rattle.device_port.specs.declared.hits.Now.TheVariants as now
+
+-- it was made, and both parts went home
+pub record HitMade (y : View) (w : Word) (dev : DeviceId) (ev : EventId) (t : Target) (ways : List (Option Translation)) (x : View) : Type 0 where
+  pub made : View
+  pub commits : Commits y (staying w (signal dev ev) (reply.Signal (Delivered t.vcpu t.intid)) Keep) made
+  pub left : Redistributor
+  pub owes : made.held ≡ two_before (shard_number dev.0 ev.0 y.setup.shards) t.vcpu ways left []
+  pub home : x ≡ record made { held = [] }
+
+-- another was made first, and both parts went home
+pub record HitRaced (y : View) (w : Word) (r : Raced) (x : View) : Type 0 where
+  pub left : View
+  pub raced : IsRaced y w r left
+  pub home : x ≡ record left { held = [] }
+
+abbrev pub HitsNow : View → Word → DeviceId → EventId → Target → List (Option Translation) → View → Now → Type 0
+HitsNow y w dev ev t ways x (now.Done p) = (p.reply ≡ Delivered t.vcpu t.intid) × (p.place ≡ w.place) × HitMade y w dev ev t ways x
+HitsNow y w dev ev t ways x (now.Raced r) = HitRaced y w r x
+HitsNow y w dev ev t ways x other = ⊥

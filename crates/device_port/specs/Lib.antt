@@ -1,0 +1,5 @@
+pub mod Hands
+pub mod Signals
+pub mod Finishes
+pub mod Hits
+pub mod ByMaps

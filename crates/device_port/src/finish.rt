@@ -1,0 +1,158 @@
+//! The last steps of a signal by the maps, which has all turns that it needs.
+ghost use Rattle.std.specs.Prelude.{◌≡◌, ◌<◌, true, false, Ok, Err, Some};
+ghost use Rattle.its_types.specs.Ranges.{is_lpi};
+ghost use Rattle.its_plain.specs.Translation.{located};
+ghost use Rattle.its_plain.specs.declared.call.Signal.TheVariants as signals;
+ghost use Rattle.its_plain.specs.declared.call.Cause.TheVariants as cause;
+ghost use Rattle.owned_parts.specs.Owned.{redistributor_of, HasLpisOf};
+ghost use Rattle.xlate_cache.specs.Pairs.{shard_number};
+ghost use Rattle.its_steps.specs.Parts.{vcpu_count};
+ghost use Rattle.its_steps.specs.declared.change.ShardChange.TheVariants as change;
+ghost use Rattle.its_turns.specs.Contents.{translator_of};
+ghost use Rattle.its_turns.specs.Machines.{setup, view, IsOf};
+ghost use Rattle.device_port.specs.Finishes.{Finishes};
+ghost use Rattle.device_port.specs.Hands.{one_held, three_held};
+ghost use Rattle.device_port.specs.Signals.{FindsIfDone};
+
+use crate::home::put_three;
+use its_plain::{Call, Cause, Reply, Signal};
+use its_steps::ShardChange;
+use its_turns::{Attempt, Machine, Pass, Tables, Value, put, try_commit};
+use its_types::{DeviceId, EventId, Gate, Part, Placed, Target};
+use lpi_pending::Redist;
+use xlate_cache::Shard;
+
+/// The maps send it nowhere.
+pub fn drop_signal<G: Gate>(
+    machine: &Machine,
+    pass: &mut Pass,
+    gate: &G,
+    dev: DeviceId,
+    ev: EventId,
+    maps: Box<Tables>,
+    cause: Cause,
+) -> Attempt<Signal>
+    requires of { IsOf machine.now pass.old }
+    requires held { (view pass.old).held ≡ one_held maps.value }
+    requires lost { located (translator_of maps.value) dev.0 ev.0 ≡ Err cause }
+    ensures of { IsOf machine.now pass.new }
+    ensures answer { Finishes (view pass.old) dev ev (signals.Dropped cause) change.Keep (view pass.new) result }
+{
+    let signal = Signal::Dropped(cause);
+    let call = Call::Signal { its: 0, dev, ev };
+    match try_commit(
+        machine,
+        pass,
+        gate,
+        &call,
+        &Reply::Signal(signal),
+        ShardChange::Keep,
+    ) {
+        Ok(word) => {
+            put(machine, pass, Part::Maps(0), Value::Maps(maps));
+            Attempt::Done(Placed {
+                place: word.place,
+                reply: signal,
+            })
+        }
+        Err(lost) => {
+            put(machine, pass, Part::Maps(0), Value::Maps(maps));
+            lost.attempt()
+        }
+    }
+}
+
+/// The maps send it to a redistributor whose LPIs are on: the LPI is pending there, and the pair's translation is in
+/// its shard.
+pub fn fill_signal<G: Gate>(
+    machine: &Machine,
+    pass: &mut Pass,
+    gate: &G,
+    dev: DeviceId,
+    ev: EventId,
+    target: Target,
+    maps: Box<Tables>,
+    mut shard: Shard,
+    mut redist: Box<Redist>,
+) -> Attempt<Signal>
+    requires of { IsOf machine.now pass.old }
+    requires held { (view pass.old).held ≡ three_held (shard_number dev.0 ev.0 (setup machine.now).shards) target.vcpu maps.value shard (redistributor_of redist.value) }
+    requires goes { located (translator_of maps.value) dev.0 ev.0 ≡ Ok target }
+    requires on { redist.value.bases.on ≡ true }
+    requires vcpu { target.vcpu.0 < vcpu_count (setup machine.now) }
+    requires lpi { is_lpi (setup machine.now).start.layout.shape.lpi_bits target.intid.0 ≡ true }
+    requires lpis { HasLpisOf (setup machine.now).start.layout.shape redist.value }
+    requires looked { ((view pass.old).cache.looked.its ≡ 0) × ((view pass.old).cache.looked.number ≡ shard_number dev.0 ev.0 (setup machine.now).shards) }
+    ensures of { IsOf machine.now pass.new }
+    ensures answer { Finishes (view pass.old) dev ev (signals.Delivered target.vcpu target.intid) (change.Fill dev ev target) (view pass.new) result }
+    ensures finds { FindsIfDone dev ev (view pass.new) (Some target) result }
+{
+    let number = machine.shard_of(dev, ev);
+    let signal = Signal::Delivered {
+        vcpu: target.vcpu,
+        intid: target.intid,
+    };
+    let call = Call::Signal { its: 0, dev, ev };
+    let fill = ShardChange::Fill(dev, ev, target);
+    match try_commit(machine, pass, gate, &call, &Reply::Signal(signal), fill) {
+        Ok(word) => {
+            redist.pending.set(target.intid);
+            shard.fill(dev, ev, word.stamp, target);
+            put_three(machine, pass, number, target.vcpu, maps, shard, redist);
+            Attempt::Done(Placed {
+                place: word.place,
+                reply: signal,
+            })
+        }
+        Err(lost) => {
+            put_three(machine, pass, number, target.vcpu, maps, shard, redist);
+            lost.attempt()
+        }
+    }
+}
+
+/// The maps send it to a redistributor whose LPIs are off.
+pub fn off_signal<G: Gate>(
+    machine: &Machine,
+    pass: &mut Pass,
+    gate: &G,
+    dev: DeviceId,
+    ev: EventId,
+    target: Target,
+    maps: Box<Tables>,
+    shard: Shard,
+    redist: Box<Redist>,
+) -> Attempt<Signal>
+    requires of { IsOf machine.now pass.old }
+    requires held { (view pass.old).held ≡ three_held (shard_number dev.0 ev.0 (setup machine.now).shards) target.vcpu maps.value shard (redistributor_of redist.value) }
+    requires goes { located (translator_of maps.value) dev.0 ev.0 ≡ Ok target }
+    requires off { redist.value.bases.on ≡ false }
+    requires vcpu { target.vcpu.0 < vcpu_count (setup machine.now) }
+    requires lpis { HasLpisOf (setup machine.now).start.layout.shape redist.value }
+    ensures of { IsOf machine.now pass.new }
+    ensures answer { Finishes (view pass.old) dev ev (signals.Dropped cause.LpisOff) change.Keep (view pass.new) result }
+{
+    let number = machine.shard_of(dev, ev);
+    let signal = Signal::Dropped(Cause::LpisOff);
+    let call = Call::Signal { its: 0, dev, ev };
+    match try_commit(
+        machine,
+        pass,
+        gate,
+        &call,
+        &Reply::Signal(signal),
+        ShardChange::Keep,
+    ) {
+        Ok(word) => {
+            put_three(machine, pass, number, target.vcpu, maps, shard, redist);
+            Attempt::Done(Placed {
+                place: word.place,
+                reply: signal,
+            })
+        }
+        Err(lost) => {
+            put_three(machine, pass, number, target.vcpu, maps, shard, redist);
+            lost.attempt()
+        }
+    }
+}
