@@ -1,0 +1,62 @@
+//! Writes and reads of guest memory that wait for its turn.
+ghost use Rattle.std.specs.Prelude.{◌≡◌, []};
+ghost use Rattle.its_types.specs.declared.machine.Part.TheVariants as part;
+ghost use Rattle.its_plain.specs.declared.call.Call.TheVariants as call;
+ghost use Rattle.its_turns.specs.Calls.{AsksPart};
+ghost use Rattle.its_turns.specs.Machines.{view, IsOf};
+
+use crate::tries::{try_peek, try_poke};
+use its_plain::{Bytes64, Reply};
+use its_turns::{Attempt, Machine, Pass, Spent, give_way, pause};
+use its_types::{Addr, Gate, Placed};
+use std::sync::Wait;
+
+/// Writes 1 to 64 bytes, where one window of memory has them all.
+pub fn poke<R: Wait, G: Gate>(
+    rt: &R,
+    machine: &Machine,
+    pass: &mut Pass,
+    gate: &G,
+    addr: Addr,
+    bytes: &Bytes64,
+) -> Result<Placed<Reply>, Spent>
+    requires of { IsOf machine.now pass.old }
+    requires free { (view pass.old).held ≡ [] }
+    ensures of { IsOf machine.now pass.new }
+    ensures answer { AsksPart (view pass.old) part.Mem (call.Poke addr bytes.now) (λ r. r) (view pass.new) result }
+{
+    for _ in rt.forever() {
+        match try_poke(machine, pass, gate, addr, bytes) {
+            Attempt::Done(placed) => return Ok(placed),
+            Attempt::Spent => return Err(Spent),
+            Attempt::Busy(_) => give_way(),
+            Attempt::Raced(_) => pause(),
+        }
+    }
+    unreachable!()
+}
+
+/// Reads `count` bytes, 1 to 64, where one window of memory has them all.
+pub fn peek<R: Wait, G: Gate>(
+    rt: &R,
+    machine: &Machine,
+    pass: &mut Pass,
+    gate: &G,
+    addr: Addr,
+    count: u8,
+) -> Result<Placed<Reply>, Spent>
+    requires of { IsOf machine.now pass.old }
+    requires free { (view pass.old).held ≡ [] }
+    ensures of { IsOf machine.now pass.new }
+    ensures answer { AsksPart (view pass.old) part.Mem (call.Peek addr count) (λ r. r) (view pass.new) result }
+{
+    for _ in rt.forever() {
+        match try_peek(machine, pass, gate, addr, count) {
+            Attempt::Done(placed) => return Ok(placed),
+            Attempt::Spent => return Err(Spent),
+            Attempt::Busy(_) => give_way(),
+            Attempt::Raced(_) => pause(),
+        }
+    }
+    unreachable!()
+}
