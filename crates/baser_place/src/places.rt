@@ -16,8 +16,8 @@ pub fn collection_places(regs: &Regs) -> u32
     regs.collection_places()
 }
 
-/// How many entries the first level of a device table has: one for each 8192 DeviceIDs (KVM document arm-vgic-its, "ITS
-/// Table ABI REV0").
+/// How many entries the first level of a device table has: one for each 8192 DeviceIDs (KVM
+/// document arm-vgic-its, "ITS Table ABI REV0").
 pub fn level1_entries(regs: &Regs) -> u32
     ensures entries { result ≡ spec.level1_entries regs.now.dev_bits }
     ensures most { result ≤ 128 }
@@ -26,7 +26,8 @@ pub fn level1_entries(regs: &Regs) -> u32
     1 << (regs.dev_bits() - 13)
 }
 
-/// Entry `k` of the first level of a device table, which stands at eight times `k` behind the table's base.
+/// Entry `k` of the first level of a device table, which stands at eight times `k` behind the
+/// table's base.
 #[tactic(auto, unfolding(crate::specs::Places::level1_of))]
 pub fn level1(regs: &Regs, memory: &Memory, k: u32) -> Level1
     ensures entry { result ≡ spec.level1_of regs.now memory.now k }
@@ -40,8 +41,9 @@ pub fn level1(regs: &Regs, memory: &Memory, k: u32) -> Level1
     }
 }
 
-/// Where a device's table entry stands. There is no such place where the table isn't valid, the DeviceID is out of
-/// range, an entry on the way isn't valid, or the bytes of an entry don't lie in one window.
+/// Where a device's table entry stands. There is no such place where the table isn't valid, the
+/// DeviceID is out of range, an entry on the way isn't valid, or the bytes of an entry don't lie in
+/// one window.
 #[tactic(auto, unfolding(crate::specs::Places::device_place))]
 pub fn device_place(regs: &Regs, memory: &Memory, dev: DeviceId) -> Option<Addr>
     ensures { option_map (λ a. a.0) result ≡ spec.device_place regs.now memory.now dev.0 }

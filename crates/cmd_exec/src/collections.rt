@@ -41,7 +41,9 @@ fn move_lpis_of(redists: &mut Redists, events: EventWalk, icid: Icid, from: Vcpu
 pub fn reread_collection(redists: &mut Redists, vcpus: u8, memory: &Memory, maps: &Maps, icid: Icid)
     requires devices { EventsHaveDevices maps.now.maps }
     requires each { CanEachReread vcpus redists.old (intids_of maps.now.maps icid.0) }
-    ensures { redists.new ≡ changed_below vcpus (all_reread_at memory.now (intids_of maps.now.maps icid.0)) redists.old }
+    ensures { redists.new
+        ≡ changed_below vcpus (all_reread_at memory.now (intids_of maps.now.maps icid.0))
+        redists.old }
 {
     for vcpu in 0..vcpus {
         let redist = redists.redist_mut(Vcpu(vcpu));
@@ -52,7 +54,8 @@ pub fn reread_collection(redists: &mut Redists, vcpus: u8, memory: &Memory, maps
 fn reread_all(redist: &mut Redist, memory: &Memory, maps: &Maps, icid: Icid)
     requires devices { EventsHaveDevices maps.now.maps }
     requires can { CanRereadAll redist.old (intids_of maps.now.maps icid.0) }
-    ensures { redist.new ≡ redist_by (all_reread_at memory.now (intids_of maps.now.maps icid.0)) redist.old }
+    ensures { redist.new
+        ≡ redist_by (all_reread_at memory.now (intids_of maps.now.maps icid.0)) redist.old }
 {
     for (dev, _) in maps.devices() {
         reread_all_of(redist, memory, maps.events(dev), icid);

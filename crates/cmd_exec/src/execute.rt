@@ -15,8 +15,8 @@ use its_plain::CmdReply;
 use its_types::Shape;
 use lpi_pending::Redists;
 
-/// What a command would be answered (IHI 0069, section 5.3). Nothing is changed. The redistributors that `needs` names are
-/// in hand. The reply is that of every state that has these parts.
+/// What a command would be answered (IHI 0069, section 5.3). Nothing is changed. The redistributors
+/// that `needs` names are in hand. The reply is that of every state that has these parts.
 pub fn answer(
     command: &Command,
     regs: &Regs,
@@ -41,8 +41,9 @@ pub fn answer(
     }
 }
 
-/// Runs a command or refuses it, and moves CREADR on to the next command (IHI 0069, section 5.3). It takes no memory: the
-/// maps have the room that `prepare` makes, and the redistributors that `needs` names are in hand.
+/// Runs a command or refuses it, and moves CREADR on to the next command (IHI 0069, section 5.3).
+/// It takes no memory: the maps have the room that `prepare` makes, and the redistributors that
+/// `needs` names are in hand.
 pub fn apply(
     command: &Command,
     regs: &mut Regs,
@@ -55,7 +56,8 @@ pub fn apply(
     requires in_hand { AreNeededInHand shape.now maps.old.maps command.now redists.old }
     requires prepared { IsPrepared maps.old command.now }
     ensures reply { IsReplyTo command.now shape.now regs.old maps.old.maps memory.now redists.old result }
-    ensures left { AreLeftBy command.now shape.now memory.now (regs.old, maps.old.maps, redists.old) (regs.new, maps.new.maps, redists.new) }
+    ensures left { AreLeftBy command.now shape.now memory.now (regs.old, maps.old.maps, redists.old)
+        (regs.new, maps.new.maps, redists.new) }
     ensures hand { (vcpu : ℕ) → is_some (in_hand redists.new vcpu) ≡ is_some (in_hand redists.old vcpu) }
 {
     let parts = InHand {

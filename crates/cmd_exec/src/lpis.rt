@@ -3,7 +3,8 @@ ghost use Rattle.std.specs.Prelude.{◌≡◌, ◌≢◌, ◌<◌, ℕ, true, is
 ghost use Rattle.lpi_pending.specs.InHand.{in_hand};
 ghost use Rattle.owned_parts.specs.Owned.{redistributor_of};
 ghost use Rattle.its_plain.specs.Commands.{reread_at, all_reread_at};
-ghost use Rattle.cmd_exec.specs.InHand.{redist_by, changed, changed_below, with_set, with_cleared, lpi_moved_in, all_moved_in, takes_lpi, CanReread};
+ghost use Rattle.cmd_exec.specs.InHand.{redist_by, changed, changed_below, with_set, with_cleared};
+ghost use Rattle.cmd_exec.specs.InHand.{lpi_moved_in, all_moved_in, takes_lpi, CanReread};
 ghost use Rattle.cmd_exec.specs.Ready.{CanEachReread, HaveSameLpis};
 
 use guest_windows::Memory;

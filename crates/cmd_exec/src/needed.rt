@@ -1,6 +1,7 @@
 ghost use Rattle.std.specs.Prelude.{◌≡◌, ◌<◌, ◌≤◌, ℕ, true, nat_lt, IfSome};
 ghost use Rattle.its_plain.specs.Parts.{target_of_event};
-ghost use Rattle.cmd_exec.specs.Needs.{is_in, is_needed, is_either, is_moved, needs_vcpu, AreTargets, ArePartsOfStep};
+ghost use Rattle.cmd_exec.specs.Needs.{is_in, is_needed, is_either, is_moved, needs_vcpu};
+ghost use Rattle.cmd_exec.specs.Needs.{AreTargets, ArePartsOfStep};
 
 use crate::part_set::PartSet;
 use gits_regs::Regs;
@@ -8,8 +9,8 @@ use its_command::Command;
 use its_maps::{LookUp, Maps};
 use its_types::{DeviceId, EventId, Profile, Shape, Vcpu};
 
-/// The parts that a step which meets a command reads or changes: its translator's maps and guest memory always, and these
-/// redistributors. The registers have no say in it.
+/// The parts that a step which meets a command reads or changes: its translator's maps and guest
+/// memory always, and these redistributors. The registers have no say in it.
 pub fn needs(command: &Command, _regs: &Regs, maps: &Maps, shape: &Shape) -> PartSet
     requires vcpus { shape.now.vcpus ≤ 16 }
     requires targets { AreTargets shape.now maps.now.maps }

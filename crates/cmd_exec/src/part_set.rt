@@ -6,8 +6,9 @@ use its_types::{Part, Vcpu, bit_of};
 use lpi_config::with_bit;
 use std::marker::Model;
 
-/// Parts of a machine: the redistributors of some virtual processors, beside a translator's maps and guest memory. It is
-/// seen as a number, of whose first 16 bits bit v is 1 where the redistributor of virtual processor v is in it.
+/// Parts of a machine: the redistributors of some virtual processors, beside a translator's maps
+/// and guest memory. It is seen as a number, of whose first 16 bits bit v is 1 where the
+/// redistributor of virtual processor v is in it.
 #[derive(Clone, Copy, Debug, PartialEq, Eq)]
 pub struct PartSet {
     redists: u64,
@@ -45,8 +46,8 @@ impl PartSet {
         }
     }
 
-    /// Whether a part is in it: the maps of the translator that runs the command, whatever number it is given here, and guest
-    /// memory always are.
+    /// Whether a part is in it: the maps of the translator that runs the command, whatever number
+    /// it is given here, and guest memory always are.
     pub fn contains(&self, part: Part) -> bool
         ensures { result ≡ has_part self.now part }
     {

@@ -62,7 +62,9 @@ impl<'a> InHand<'a> {
     #[tactic(auto, using(crate::proofs::Opened::event_at_is))]
     fn event_at(&self, dev: DeviceId, ev: EventId) -> Result<Event, Reason>
         ensures value { result ≡ commands.event_at self.now.maps.now.maps dev.0 ev.0 }
-        ensures target { IfOk result (λ e. target_of_event self.now.maps.now.maps dev.0 ev.0 ≡ maps.collection_of self.now.maps.now.maps e.icid.0) }
+        ensures target { IfOk result (λ e.
+            target_of_event self.now.maps.now.maps dev.0 ev.0
+            ≡ maps.collection_of self.now.maps.now.maps e.icid.0) }
     {
         let (device, event) = self.find(dev, ev);
         let device = device.ok_or(Reason::NoDevice)?;
@@ -103,8 +105,12 @@ impl<'a> InHand<'a> {
 
     #[tactic(auto, unfolding(crate::specs::Effects::mapc))]
     fn mapc(&self, icid: Icid, target: RdBase) -> Result<Effect, Reason>
-        requires { target < self.now.shape.now.vcpus → AreTargetsInHand self.now.redists.now self.now.shape.now.profile (maps.collection_of self.now.maps.now.maps icid.0) target }
-        ensures { result ≡ effects.mapc self.now.shape.now self.now.regs.now self.now.maps.now.maps self.now.redists.now icid target }
+        requires { target < self.now.shape.now.vcpus →
+            AreTargetsInHand self.now.redists.now self.now.shape.now.profile
+            (maps.collection_of self.now.maps.now.maps icid.0) target }
+        ensures { result
+            ≡ effects.mapc self.now.shape.now self.now.regs.now self.now.maps.now.maps
+            self.now.redists.now icid target }
     {
         ensure(
             target.get() < u64::from(self.shape.vcpus),
@@ -117,8 +123,11 @@ impl<'a> InHand<'a> {
 
     // In profile 2 pending LPIs go with a mapped collection to its new target.
     fn targeted(&self, icid: Icid, to: Vcpu) -> Effect
-        requires { AreTargetsInHand self.now.redists.now self.now.shape.now.profile (maps.collection_of self.now.maps.now.maps icid.0) to.0 }
-        ensures { result ≡ effects.targeted self.now.shape.now.profile self.now.redists.now icid (maps.collection_of self.now.maps.now.maps icid.0) to }
+        requires { AreTargetsInHand self.now.redists.now self.now.shape.now.profile
+            (maps.collection_of self.now.maps.now.maps icid.0) to.0 }
+        ensures { result
+            ≡ effects.targeted self.now.shape.now.profile self.now.redists.now icid
+            (maps.collection_of self.now.maps.now.maps icid.0) to }
     {
         let mapped = Effect::MapCollection { icid, vcpu: to };
         if self.shape.profile == Profile::One {
@@ -136,7 +145,9 @@ impl<'a> InHand<'a> {
 
     #[tactic(auto, unfolding(crate::specs::Effects::mapti))]
     fn mapti(&self, dev: DeviceId, ev: EventId, event: Event) -> Result<Effect, Reason>
-        ensures { result ≡ effects.mapti self.now.shape.now self.now.regs.now self.now.maps.now.maps dev ev event.intid event.icid }
+        ensures { result
+            ≡ effects.mapti self.now.shape.now self.now.regs.now self.now.maps.now.maps dev ev
+            event.intid event.icid }
     {
         let (device, mapped) = self.find(dev, ev);
         let device = device.ok_or(Reason::NoDevice)?;
@@ -236,7 +247,8 @@ impl<'a> InHand<'a> {
 
     #[tactic(auto, unfolding(crate::specs::Effects::movall))]
     fn movall(&self, from: RdBase, to: RdBase) -> Result<Effect, Reason>
-        requires { from < self.now.shape.now.vcpus → to < self.now.shape.now.vcpus → AreBothInHand self.now.redists.now from to }
+        requires { from < self.now.shape.now.vcpus → to < self.now.shape.now.vcpus →
+            AreBothInHand self.now.redists.now from to }
         ensures { result ≡ effects.movall self.now.shape.now self.now.redists.now from to }
     {
         let (from, to) = (from.get(), to.get());
@@ -251,8 +263,11 @@ impl<'a> InHand<'a> {
 
     #[tactic(auto, unfolding(crate::specs::Effects::planned))]
     pub fn plan(&self, command: &Command) -> Result<Effect, Reason>
-        requires { AreNeededInHand self.now.shape.now self.now.maps.now.maps command.now self.now.redists.now }
-        ensures { result ≡ effects.planned self.now.shape.now self.now.regs.now self.now.maps.now.maps self.now.memory.now self.now.redists.now command.now }
+        requires { AreNeededInHand self.now.shape.now self.now.maps.now.maps command.now
+            self.now.redists.now }
+        ensures { result
+            ≡ effects.planned self.now.shape.now self.now.regs.now self.now.maps.now.maps
+            self.now.memory.now self.now.redists.now command.now }
     {
         match *command {
             Command::Movi { dev, ev, icid } => self.movi(dev, ev, icid),

@@ -12,8 +12,8 @@ pub fn read_register(regs: &Regs, off: u32, size: u8) -> u64
     regs.read(off, size)
 }
 
-/// Writes `size` bytes at an offset of the control frame. A new device table unmaps all devices, and a new collection table
-/// all collections.
+/// Writes `size` bytes at an offset of the control frame. A new device table unmaps all devices,
+/// and a new collection table all collections.
 pub fn write_register(regs: &mut Regs, maps: &mut Maps, off: u32, size: u8, value: u64)
     ensures regs { regs.new ≡ (write_reg regs.old off size value).regs }
     ensures maps { maps.new.maps ≡ emptied (write_reg regs.old off size value).change maps.old.maps }

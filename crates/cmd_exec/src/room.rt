@@ -7,8 +7,9 @@ use its_maps::{LookUp, Maps};
 use its_types::{DeviceId, EventId};
 use std::alloc::AllocError;
 
-/// Makes the room in the maps that a command needs. Only room is made: what is mapped stays as it is. For want of memory
-/// nothing is changed at all, and that comes only of a command that adds a device, a collection or an event.
+/// Makes the room in the maps that a command needs. Only room is made: what is mapped stays as it
+/// is. For want of memory nothing is changed at all, and that comes only of a command that adds a
+/// device, a collection or an event.
 #[tactic(auto, unfolding(crate::specs::Room::grows, crate::specs::Room::room_for))]
 pub fn prepare(command: &Command, maps: &mut Maps) -> Result<(), AllocError>
     ensures maps { maps.new.maps ≡ maps.old.maps }
@@ -42,7 +43,8 @@ pub fn prepare(command: &Command, maps: &mut Maps) -> Result<(), AllocError>
 
 fn prepare_event(maps: &mut Maps, dev: DeviceId, ev: EventId) -> Result<(), AllocError>
     ensures maps { maps.new.maps ≡ maps.old.maps }
-    ensures room { OnOk result (adds_event maps.old.maps dev.0 ev.0 ≡ true → 1 ≤ event_room maps.new.room dev.0) }
+    ensures room { OnOk result
+        (adds_event maps.old.maps dev.0 ev.0 ≡ true → 1 ≤ event_room maps.new.room dev.0) }
     ensures err { OnErr result (maps.new ≡ maps.old) }
     ensures growing { OnErr result (adds_event maps.old.maps dev.0 ev.0 ≡ true) }
     ensures others { adds_event maps.old.maps dev.0 ev.0 ≡ false → maps.new ≡ maps.old }

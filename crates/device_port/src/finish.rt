@@ -62,8 +62,8 @@ pub fn drop_signal<G: Gate>(
     }
 }
 
-/// The maps send it to a redistributor whose LPIs are on: the LPI is pending there, and the pair's translation is in
-/// its shard.
+/// The maps send it to a redistributor whose LPIs are on: the LPI is pending there, and the pair's
+/// translation is in its shard.
 pub fn fill_signal<G: Gate>(
     machine: &Machine,
     pass: &mut Pass,
@@ -76,15 +76,19 @@ pub fn fill_signal<G: Gate>(
     mut redist: Box<Redist>,
 ) -> Attempt<Signal>
     requires of { IsOf machine.now pass.old }
-    requires held { (view pass.old).held ≡ three_held (shard_number dev.0 ev.0 (setup machine.now).shards) target.vcpu maps.value shard (redistributor_of redist.value) }
+    requires held { (view pass.old).held
+        ≡ three_held (shard_number dev.0 ev.0 (setup machine.now).shards) target.vcpu maps.value
+        shard (redistributor_of redist.value) }
     requires goes { located (translator_of maps.value) dev.0 ev.0 ≡ Ok target }
     requires on { redist.value.bases.on ≡ true }
     requires vcpu { target.vcpu.0 < vcpu_count (setup machine.now) }
     requires lpi { is_lpi (setup machine.now).start.layout.shape.lpi_bits target.intid.0 ≡ true }
     requires lpis { HasLpisOf (setup machine.now).start.layout.shape redist.value }
-    requires looked { ((view pass.old).cache.looked.its ≡ 0) × ((view pass.old).cache.looked.number ≡ shard_number dev.0 ev.0 (setup machine.now).shards) }
+    requires looked { ((view pass.old).cache.looked.its ≡ 0) ×
+        ((view pass.old).cache.looked.number ≡ shard_number dev.0 ev.0 (setup machine.now).shards) }
     ensures of { IsOf machine.now pass.new }
-    ensures answer { Finishes (view pass.old) dev ev (signals.Delivered target.vcpu target.intid) (change.Fill dev ev target) (view pass.new) result }
+    ensures answer { Finishes (view pass.old) dev ev (signals.Delivered target.vcpu target.intid)
+        (change.Fill dev ev target) (view pass.new) result }
     ensures finds { FindsIfDone dev ev (view pass.new) (Some target) result }
 {
     let number = machine.shard_of(dev, ev);
@@ -124,13 +128,16 @@ pub fn off_signal<G: Gate>(
     redist: Box<Redist>,
 ) -> Attempt<Signal>
     requires of { IsOf machine.now pass.old }
-    requires held { (view pass.old).held ≡ three_held (shard_number dev.0 ev.0 (setup machine.now).shards) target.vcpu maps.value shard (redistributor_of redist.value) }
+    requires held { (view pass.old).held
+        ≡ three_held (shard_number dev.0 ev.0 (setup machine.now).shards) target.vcpu maps.value
+        shard (redistributor_of redist.value) }
     requires goes { located (translator_of maps.value) dev.0 ev.0 ≡ Ok target }
     requires off { redist.value.bases.on ≡ false }
     requires vcpu { target.vcpu.0 < vcpu_count (setup machine.now) }
     requires lpis { HasLpisOf (setup machine.now).start.layout.shape redist.value }
     ensures of { IsOf machine.now pass.new }
-    ensures answer { Finishes (view pass.old) dev ev (signals.Dropped cause.LpisOff) change.Keep (view pass.new) result }
+    ensures answer { Finishes (view pass.old) dev ev (signals.Dropped cause.LpisOff) change.Keep (view pass.new)
+        result }
 {
     let number = machine.shard_of(dev, ev);
     let signal = Signal::Dropped(Cause::LpisOff);

@@ -35,7 +35,8 @@ pub enum Now {
     Spent,
 }
 
-/// Signals by the cache. Tries the turns of the pair's shard and of the target's redistributor once, and no other.
+/// Signals by the cache. Tries the turns of the pair's shard and of the target's redistributor
+/// once, and no other.
 pub fn try_signal<G: Gate>(
     machine: &Machine,
     pass: &mut Pass,
@@ -84,7 +85,9 @@ fn hit<G: Gate>(
     mut redist: Box<Redist>,
 ) -> Now
     requires of { IsOf machine.now pass.old }
-    requires held { (view pass.old).held ≡ two_before (shard_number dev.0 ev.0 (setup machine.now).shards) target.vcpu shard (redistributor_of redist.value) [] }
+    requires held { (view pass.old).held
+        ≡ two_before (shard_number dev.0 ev.0 (setup machine.now).shards) target.vcpu shard
+        (redistributor_of redist.value) [] }
     requires last { word ≡ (view pass.old).last }
     requires room { word.place < (setup machine.now).limits.place_last }
     requires low { word.stamp ≤ (setup machine.now).limits.stamp_last }

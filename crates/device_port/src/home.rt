@@ -21,12 +21,15 @@ pub fn put_two(
     redist: Box<Redist>,
 )
     requires of { IsOf machine.now pass.old }
-    requires held { (before : List Held) × ((view pass.old).held ≡ two_before number vcpu shard (redistributor_of redist.value) before) }
+    requires held { (before : List Held) ×
+        ((view pass.old).held ≡ two_before number vcpu shard (redistributor_of redist.value) before) }
     requires number { number < (setup machine.now).shards }
     requires vcpu { vcpu.0 < vcpu_count (setup machine.now) }
     requires lpis { HasLpisOf (setup machine.now).start.layout.shape redist.value }
     ensures of { IsOf machine.now pass.new }
-    ensures home { (before : List Held) → (view pass.old).held ≡ two_before number vcpu shard (redistributor_of redist.value) before → view pass.new ≡ record (view pass.old) { held = before } }
+    ensures home { (before : List Held) →
+        (view pass.old).held ≡ two_before number vcpu shard (redistributor_of redist.value) before →
+        view pass.new ≡ record (view pass.old) { held = before } }
 {
     put(machine, pass, Part::Redist(vcpu), Value::Redist(redist));
     put(machine, pass, Part::Shard(0, number), Value::Shard(shard));
@@ -43,7 +46,8 @@ pub fn put_three(
     redist: Box<Redist>,
 )
     requires of { IsOf machine.now pass.old }
-    requires held { (view pass.old).held ≡ three_held number vcpu maps.value shard (redistributor_of redist.value) }
+    requires held { (view pass.old).held
+        ≡ three_held number vcpu maps.value shard (redistributor_of redist.value) }
     requires number { number < (setup machine.now).shards }
     requires vcpu { vcpu.0 < vcpu_count (setup machine.now) }
     requires lpis { HasLpisOf (setup machine.now).start.layout.shape redist.value }

@@ -18,7 +18,8 @@ use its_turns::{
 };
 use its_types::{DeviceId, EventId, Gate, Part, Point, Target};
 
-/// Signals by the maps, and fills the pair's shard where the message is delivered. Tries each turn once.
+/// Signals by the maps, and fills the pair's shard where the message is delivered. Tries each turn
+/// once.
 pub fn signal_by_maps<G: Gate>(
     machine: &Machine,
     pass: &mut Pass,
@@ -57,7 +58,9 @@ fn send_signal<G: Gate>(
     requires stood { HasStood (setup machine.now) (part.Maps 0) (content.Maps (translator_of maps.value)) }
     requires goes { located (translator_of maps.value) dev.0 ev.0 ≡ Ok target }
     ensures of { IsOf machine.now pass.new }
-    ensures answer { (v : View) → v.held ≡ [] → view pass.old ≡ took v (part.Maps 0) (content.Maps (translator_of maps.value)) → AsksMaps v dev ev (view pass.new) result }
+    ensures answer { (v : View) → v.held ≡ [] →
+        view pass.old ≡ took v (part.Maps 0) (content.Maps (translator_of maps.value)) →
+        AsksMaps v dev ev (view pass.new) result }
 {
     let number = machine.shard_of(dev, ev);
     let shard = match try_take_shard(machine, pass, 0, number) {

@@ -39,7 +39,8 @@ impl Draft {
 
     /// Closes the thread that is open.
     fn close_thread(&mut self, alloc: Global) -> Result<(), AllocError>
-        ensures { OnOk result (self.new ≡ record self.old { threads = spec.threads_so_far self.old; calls = [] }) }
+        ensures { OnOk result
+            (self.new ≡ record self.old { threads = spec.threads_so_far self.old; calls = [] }) }
     {
         let calls = mem::replace(&mut self.calls, Listed::new(alloc));
         if self.stage == Stage::Thread {
@@ -50,7 +51,9 @@ impl Draft {
 
     /// Closes the phase that is open.
     fn close_phase(&mut self, alloc: Global) -> Result<(), AllocError>
-        ensures { OnOk result (self.new ≡ record self.old { phases = spec.phases_so_far self.old; threads = []; calls = [] }) }
+        ensures { OnOk result (self.new
+            ≡ record self.old
+            { phases = spec.phases_so_far self.old; threads = []; calls = [] }) }
     {
         self.close_thread(alloc)?;
         let threads = mem::replace(&mut self.threads, Listed::new(alloc));
@@ -62,7 +65,9 @@ impl Draft {
 
     /// Closes the leg that is open.
     fn close_leg(&mut self, alloc: Global) -> Result<(), AllocError>
-        ensures { OnOk result (self.new ≡ record self.old { legs = spec.legs_so_far self.old; phases = []; threads = []; calls = [] }) }
+        ensures { OnOk result (self.new
+            ≡ record self.old
+            { legs = spec.legs_so_far self.old; phases = []; threads = []; calls = [] }) }
     {
         self.close_phase(alloc)?;
         let phases = mem::replace(&mut self.phases, Listed::new(alloc));
@@ -134,7 +139,8 @@ impl Draft {
 
     #[tactic(auto, unfolding(crate::specs::Body::word_line))]
     fn word_line(&mut self, alloc: Global, number: u64, fields: &[&[u8]]) -> Result<(), LineError>
-        ensures { Gives (λ _. self.new) result (spec.word_line self.old number (map (λ f. f.now) fields.now)) }
+        ensures { Gives (λ _. self.new) result
+            (spec.word_line self.old number (map (λ f. f.now) fields.now)) }
     {
         if self.describes() {
             self.word_fill_line(alloc, number, fields)
@@ -152,7 +158,8 @@ impl Draft {
         keyword: Keyword,
         fields: &[&[u8]],
     ) -> Result<(), LineError>
-        ensures { Gives (λ _. self.new) result (spec.keyword_line self.old number keyword (map (λ f. f.now) fields.now)) }
+        ensures { Gives (λ _. self.new) result
+            (spec.keyword_line self.old number keyword (map (λ f. f.now) fields.now)) }
     {
         let vcpus = self.pending.count();
         match keyword {

@@ -155,7 +155,8 @@ impl Draft {
         number: u64,
         fields: &[&[u8]],
     ) -> Result<(), LineError>
-        ensures { Gives (λ _. self.new) result (spec.bytes_line self.old number (map (λ f. f.now) fields.now)) }
+        ensures { Gives (λ _. self.new) result
+            (spec.bytes_line self.old number (map (λ f. f.now) fields.now)) }
     {
         ensure(self.describes(), Kind::Order)?;
         ensure(fields.len() == 3, Kind::Fields)?;
@@ -171,7 +172,8 @@ impl Draft {
         number: u64,
         fields: &[&[u8]],
     ) -> Result<(), LineError>
-        ensures { Gives (λ _. self.new) result (spec.word_fill_line self.old number (map (λ f. f.now) fields.now)) }
+        ensures { Gives (λ _. self.new) result
+            (spec.word_fill_line self.old number (map (λ f. f.now) fields.now)) }
     {
         ensure(fields.len() == 3, Kind::Fields)?;
         let addr = address(arg(fields, 1))?;

@@ -1,12 +1,13 @@
-ghost use Rattle.std.specs.Prelude.{◌≡◌, [], ◌<◌, ◌≤◌, None, Some, OnOk, IfOk, length, replicate, slice_index_or, slice_set, filter_map, is_some};
+ghost use Rattle.std.specs.Prelude.{◌≡◌, [], ◌<◌, ◌≤◌, None, Some, OnOk, IfOk, length, replicate};
+ghost use Rattle.std.specs.Prelude.{slice_index_or, slice_set, filter_map, is_some};
 ghost use Rattle.std.specs.List.{list_all};
 
 use its_types::{Addr, Listed};
 use std::alloc::{AllocError, Global};
 use std::marker::Model;
 
-/// The pending table of each virtual processor, where it was given: a list of 1 to 16 places, or none before their
-/// number is known.
+/// The pending table of each virtual processor, where it was given: a list of 1 to 16 places, or
+/// none before their number is known.
 #[derive(Debug, Drop)]
 pub struct PendingTables {
     places: Vec<Option<Addr>>,

@@ -1,5 +1,6 @@
 //! A whole script, line by line.
-ghost use Rattle.std.specs.Prelude.{◌≡◌, ◌<◌, ◌+◌, ◌∷◌, [], ◌==◌, true, Err, map, position, drop, length, IfOk, IfNone, IfSome};
+ghost use Rattle.std.specs.Prelude.{◌≡◌, ◌<◌, ◌+◌, ◌∷◌, [], ◌==◌, true, Err, map, position, drop};
+ghost use Rattle.std.specs.Prelude.{length, IfOk, IfNone, IfSome};
 ghost use Rattle.event_script.specs.Outcome.{Gives};
 ghost use Rattle.event_script.specs.Description as description;
 ghost use Rattle.event_script.specs.Script as spec;
@@ -45,8 +46,8 @@ pub fn parse(alloc: Global, bytes: &[u8]) -> Result<Script, ParseError>
     finish(alloc, number, draft, rest)
 }
 
-/// The script that the bytes begin with, and the report that follows it after a line `trace`, or their first faulty line and
-/// what is wrong with it.
+/// The script that the bytes begin with, and the report that follows it after a line `trace`, or
+/// their first faulty line and what is wrong with it.
 #[tactic(auto, unfolding(crate::specs::Script::check_of))]
 pub fn parse_check(alloc: Global, bytes: &[u8]) -> Result<CheckInput<'_>, ParseError>
     ensures { spec.IsCheckAnswer result (spec.check_of bytes.now) }
@@ -82,7 +83,8 @@ fn without_report(last: &[u8]) -> Kind
     }
 }
 
-/// The script of a draft that ended, at a line `trace` that has these fields, and the report after it.
+/// The script of a draft that ended, at a line `trace` that has these fields, and the report after
+/// it.
 fn trace_line<'a>(
     alloc: Global,
     number: u64,
@@ -90,7 +92,8 @@ fn trace_line<'a>(
     fields: &[&[u8]],
     report: &'a [u8],
 ) -> Result<CheckInput<'a>, ParseError>
-    ensures { spec.IsCheckAnswer result (spec.report_line number draft (map (λ f. f.now) fields.now) (parts report.now)) }
+    ensures { spec.IsCheckAnswer result
+        (spec.report_line number draft (map (λ f. f.now) fields.now) (parts report.now)) }
 {
     match trace_with(alloc, draft, fields) {
         Ok(script) => Ok(CheckInput { script, report }),
@@ -218,7 +221,8 @@ impl Draft {
         fields: &mut Vec<&'a [u8]>,
     ) -> Result<bool, AllocError>
         ensures value { IfOk result (λ b. b ≡ spec.begins_report self.now line.now) }
-        ensures split { IfOk result (λ b. b ≡ true → map (λ f. f.now) fields.new.items ≡ text_of.fields line.now) }
+        ensures split { IfOk result (λ b.
+            b ≡ true → map (λ f. f.now) fields.new.items ≡ text_of.fields line.now) }
     {
         if self.stage != Stage::Ended || !text::is_text(line) {
             return Ok(false);
@@ -248,7 +252,8 @@ impl Draft {
 
     #[tactic(auto, unfolding(crate::specs::Script::words_line))]
     fn words_line(&mut self, alloc: Global, number: u64, fields: &[&[u8]]) -> Result<(), LineError>
-        ensures { Gives (λ _. self.new) result (spec.words_line self.old number (map (λ f. f.now) fields.now)) }
+        ensures { Gives (λ _. self.new) result
+            (spec.words_line self.old number (map (λ f. f.now) fields.now)) }
     {
         let keyword = keyword_of(arg(fields, 0))?;
         self.keyword_line(alloc, number, keyword, fields)

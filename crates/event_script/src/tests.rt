@@ -114,7 +114,8 @@ fn limits_are_passed(rt: HostRuntime) -> Result<(), Fail> {
     Ok(())
 }
 
-/// The shape of the machine, the registers to restore, and the number of calls of each thread, by phases and legs.
+/// The shape of the machine, the registers to restore, and the number of calls of each thread, by
+/// phases and legs.
 fn summary(alloc: Global, text: &str) -> Result<String, Fail> {
     let script = parse(alloc, text.as_bytes()).ok().ok_or("refused")?;
     let shape = script.desc.shape;

@@ -4,8 +4,8 @@ ghost use Rattle.gicr_regs.specs.Registers as spec;
 use crate::offsets;
 use its_types::{Bases, Pendbaser, Propbaser};
 
-/// A read of `size` bytes at an offset of the LPI registers: of 8 bytes a base, of 4 GICR_CTLR or half of a base.
-/// Everything else reads zero, as Pending Table Zero does.
+/// A read of `size` bytes at an offset of the LPI registers: of 8 bytes a base, of 4 GICR_CTLR or
+/// half of a base. Everything else reads zero, as Pending Table Zero does.
 #[tactic(auto, unfolding(crate::specs::Registers::read_gicr))]
 pub fn read_gicr(bases: &Bases, off: u32, size: u8) -> u64
     requires { spec.AreLow bases.now }

@@ -20,8 +20,9 @@ pub enum GicrWrite {
     RereadAll,
 }
 
-/// What a write of `size` bytes at an offset of the LPI registers asks for: of 8 bytes of a base or of a command to read
-/// again, of 4 (the low 32 bits of the value) of GICR_CTLR or of half of those. Everything else is ignored.
+/// What a write of `size` bytes at an offset of the LPI registers asks for: of 8 bytes of a base or
+/// of a command to read again, of 4 (the low 32 bits of the value) of GICR_CTLR or of half of
+/// those. Everything else is ignored.
 #[tactic(auto, unfolding(crate::specs::Registers::asked_by))]
 pub fn asked_by(bases: &Bases, off: u32, size: u8, value: u64) -> GicrWrite
     requires { spec.AreLow bases.now }

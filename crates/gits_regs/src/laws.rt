@@ -1,5 +1,6 @@
 ghost use Rattle.std.specs.Prelude.{◌≡◌, ◌≤◌, ℕ, IfOk};
-ghost use Rattle.gits_regs.specs.Registers.{Registers, IsSound, reset, write_reg, advanced, restored};
+ghost use Rattle.gits_regs.specs.Registers.{Registers, IsSound, reset, write_reg, advanced};
+ghost use Rattle.gits_regs.specs.Registers.{restored};
 ghost use Rattle.gits_regs.specs.declared.values.RegValues.{RegValues};
 
 /// The registers at reset keep the rules.
@@ -19,5 +20,6 @@ pub fn advance_keeps_rules()
 
 /// Restored registers keep them.
 pub fn restored_are_sound()
-    ensures { (values : RegValues) (dev_bits : ℕ) → 16 ≤ dev_bits → dev_bits ≤ 20 → IfOk (restored values dev_bits) IsSound }
+    ensures { (values : RegValues) (dev_bits : ℕ) → 16 ≤ dev_bits → dev_bits ≤ 20 →
+        IfOk (restored values dev_bits) IsSound }
 {}

@@ -5,8 +5,8 @@ use crate::offsets;
 use crate::regs::Regs;
 
 impl Regs {
-    /// A read of `size` bytes at an offset of the control frame: of 8 bytes a 64-bit register, of 4 a 32-bit one or half of
-    /// a 64-bit one. Everything else reads zero.
+    /// A read of `size` bytes at an offset of the control frame: of 8 bytes a 64-bit register, of 4
+    /// a 32-bit one or half of a 64-bit one. Everything else reads zero.
     #[tactic(auto, unfolding(crate::specs::Registers::read_reg))]
     pub fn read(&self, off: u32, size: u8) -> u64
         ensures { result ≡ spec.read_reg self.now off size }

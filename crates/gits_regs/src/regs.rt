@@ -4,8 +4,8 @@ ghost use Rattle.gits_regs.specs.Registers as spec;
 use its_types::{Addr, bit_of, field};
 use std::marker::Model;
 
-/// The registers, and how many bits a DeviceID has. A contract sees them as a record of the specs; each value keeps what
-/// every sequence of writes keeps (`IsSound`).
+/// The registers, and how many bits a DeviceID has. A contract sees them as a record of the specs;
+/// each value keeps what every sequence of writes keeps (`IsSound`).
 #[derive(Clone, Copy, Debug, PartialEq, Eq)]
 pub struct Regs {
     pub(crate) dev_bits: u8,

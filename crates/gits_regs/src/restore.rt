@@ -6,8 +6,9 @@ use crate::regs::{Regs, size_of};
 use crate::values::{NotValid, RegValues, Register};
 use its_types::bit_of;
 
-/// The registers that saved values give, masked as writes are, or the first whose value can't stand: a base that isn't
-/// valid while bit 0 of CTLR is 1, or an offset at or past the queue's size. DeviceIDs have 16 to 20 bits.
+/// The registers that saved values give, masked as writes are, or the first whose value can't
+/// stand: a base that isn't valid while bit 0 of CTLR is 1, or an offset at or past the queue's
+/// size. DeviceIDs have 16 to 20 bits.
 #[tactic(auto, unfolding(crate::specs::Registers::restored))]
 pub fn restore_regs(values: RegValues, dev_bits: u8) -> Result<Regs, NotValid>
     requires least { 16 ≤ dev_bits }

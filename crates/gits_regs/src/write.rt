@@ -9,9 +9,9 @@ use crate::regs::Regs;
 use its_types::bit_of;
 
 impl Regs {
-    /// A write of `size` bytes at an offset of the control frame, which tells what it changed: of 8 bytes of a 64-bit
-    /// register, of 4 (the low 32 bits of the value) of CTLR or of half of a 64-bit register. Everything else writes
-    /// nothing.
+    /// A write of `size` bytes at an offset of the control frame, which tells what it changed: of 8
+    /// bytes of a 64-bit register, of 4 (the low 32 bits of the value) of CTLR or of half of a
+    /// 64-bit register. Everything else writes nothing.
     #[tactic(auto, unfolding(crate::specs::Registers::write_reg))]
     pub fn write(&mut self, off: u32, size: u8, value: u64) -> RegChange
         ensures { record { regs = self.new; change = result } ≡ spec.write_reg self.old off size value }

@@ -11,8 +11,8 @@ const END: u64 = 1 << 52;
 // 64 MiB.
 const MOST_BYTES: u64 = 67_108_864;
 
-/// Whether a memory can have windows with these bases and lengths: there are 1 to 16, none is empty or ends past 2^52, no
-/// two share a byte, and together they have at most 64 MiB.
+/// Whether a memory can have windows with these bases and lengths: there are 1 to 16, none is empty
+/// or ends past 2^52, no two share a byte, and together they have at most 64 MiB.
 pub fn are_windows(list: &[(Addr, u64)]) -> bool
     ensures { result ≡ spec.are_windows (pairs list.now) }
 {

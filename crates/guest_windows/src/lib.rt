@@ -11,4 +11,3 @@ mod tests;
 pub use errors::{NewError, Outside};
 pub use extents::are_windows;
 pub use memory::Memory;
-pub use std::alloc::AllocError as NoMemory;

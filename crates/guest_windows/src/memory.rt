@@ -1,10 +1,12 @@
-ghost use Rattle.std.specs.Prelude.{◌≡◌, ◌+◌, ◌*◌, ◌<◌, ◌≤◌, ◌^◌, ℕ, true, false, MatchOption, IfOk, OnOk, IsErrOf, Some, Ok, Err, length, map, slice_index};
+ghost use Rattle.std.specs.Prelude.{◌≡◌, ◌+◌, ◌*◌, ◌<◌, ◌≤◌, ◌^◌, ℕ, true, false, MatchOption};
+ghost use Rattle.std.specs.Prelude.{IfOk, OnOk, IsErrOf, Some, Ok, Err, length, map, slice_index};
 ghost use Rattle.std.specs.Bool.{OnTrue};
 ghost use Rattle.std.specs.Option.{ok_or};
 ghost use Rattle.std.specs.List.{list_all};
 ghost use Rattle.byteorder.specs.Endian.{little_number, little_bytes};
 ghost use Rattle.its_types.specs.Bits.{field};
-ghost use Rattle.guest_windows.specs.Windows.{read_at, write_at, byte_at, number_at, are_windows, in_range, extent};
+ghost use Rattle.guest_windows.specs.Windows.{read_at, write_at, byte_at, number_at, are_windows};
+ghost use Rattle.guest_windows.specs.Windows.{in_range, extent};
 ghost use Rattle.guest_windows.specs.Windows as spec;
 ghost use Rattle.guest_windows.specs.Fields.{windows, pairs, place_from};
 
@@ -15,7 +17,8 @@ use its_types::{Addr, le_u64};
 use std::alloc::{AllocError, Global};
 use std::marker::Model;
 
-/// Guest memory. A stretch of bytes can be read and written where it lies in one window whole, even where windows touch.
+/// Guest memory. A stretch of bytes can be read and written where it lies in one window whole, even
+/// where windows touch.
 #[derive(Drop)]
 pub struct Memory {
     frames: Vec<Frame>,

@@ -78,8 +78,8 @@ fn desc(alloc: Global) -> Result<Desc, AllocError>
     })
 }
 
-/// Has the machine take a command. The queue has one page, and `place` is where the last command ended; answers where this
-/// one does.
+/// Has the machine take a command. The queue has one page, and `place` is where the last command
+/// ended; answers where this one does.
 pub fn take(
     alloc: Global,
     machine: &mut Machine,

@@ -1,5 +1,6 @@
-//! Signals of the machine that one caller has alone, so many as a word says: of one device with 64,000 events, or of 64,000
-//! devices with one event each. It prints nothing, and ends with 0 where all were delivered. The time is taken from outside.
+//! Signals of the machine that one caller has alone, so many as a word says: of one device with
+//! 64,000 events, or of 64,000 devices with one event each. It prints nothing, and ends with 0
+//! where all were delivered. The time is taken from outside.
 #![tactic(auto)]
 
 mod machine;

@@ -138,8 +138,8 @@ fn a_script_cut_anywhere_is_refused(rt: HostRuntime) -> Result<(), Fail> {
     Ok(())
 }
 
-/// The command `its run` over a source and a sink of which these calls fail. A sink that ran full fails too. Gives the status,
-/// and what the sink holds.
+/// The command `its run` over a source and a sink of which these calls fail. A sink that ran full
+/// fails too. Gives the status, and what the sink holds.
 fn over(
     alloc: Global,
     input: &[u8],

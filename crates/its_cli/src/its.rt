@@ -36,7 +36,8 @@ pub fn its<S: Source, K: Sink>(
         × Causes (map (λ w. string_bytes w) words.now) (S.left source.old) (Rose (S.faults source.old) (S.faults source.new)) result text
         × Appends (K.held sink.old) (K.held sink.new) text }
 
-    // A write's fault comes only where the sink's count rose. The sink has a front of a text that another status allows.
+    // A write's fault comes only where the sink's count rose. The sink has a front of a text that
+    // another status allows.
     ensures write_fault { result ≡ Status.WriteFault → Rose (K.faults sink.old) (K.faults sink.new)
         × ((status : Status) × (text : List ℕ) × (n : ℕ)
         × Causes (map (λ w. string_bytes w) words.now) (S.left source.old) (Rose (S.faults source.old) (S.faults source.new)) status text
@@ -45,7 +46,8 @@ pub fn its<S: Source, K: Sink>(
     // Where the report was printed, the source was read to its end.
     ensures to_the_end { result ≡ Status.Ok → IsAtEnd (S.left source.old) (S.left source.new) }
 
-    // Where no count of faults rose, what the words and the bytes are decides, unless memory runs out.
+    // Where no count of faults rose, what the words and the bytes are decides, unless memory runs
+    // out.
     ensures decided { ¬ Rose (S.faults source.old) (S.faults source.new) → ¬ Rose (K.faults sink.old) (K.faults sink.new) →
         (input : List ℕ) → S.left source.old ≡ Some input →
         IsDecided (map (λ w. string_bytes w) words.now) input result }
@@ -65,7 +67,8 @@ fn command<S: Source, K: Sink>(
         × Causes (map (λ w. string_bytes w) words.now) (S.left source.old) (Rose (S.faults source.old) (S.faults source.new)) result text
         × Appends (K.held sink.old) (K.held sink.new) text }
 
-    // A write's fault comes only where the sink's count rose. The sink has a front of a text that another status allows.
+    // A write's fault comes only where the sink's count rose. The sink has a front of a text that
+    // another status allows.
     ensures write_fault { result ≡ Status.WriteFault → Rose (K.faults sink.old) (K.faults sink.new)
         × ((status : Status) × (text : List ℕ) × (n : ℕ)
         × Causes (map (λ w. string_bytes w) words.now) (S.left source.old) (Rose (S.faults source.old) (S.faults source.new)) status text
@@ -94,7 +97,8 @@ fn is_run_command(words: &[String]) -> bool
 // What the source says, answered with a report first, as far as there is one.
 fn run_command<S: Source>(alloc: Global, source: &mut S, report: &mut String) -> Answer
     requires { string_bytes report.old ≡ [] }
-    ensures caused { AnswerIsCaused (S.left source.old) (Rose (S.faults source.old) (S.faults source.new)) (string_bytes report.new) result }
+    ensures caused { AnswerIsCaused (S.left source.old) (Rose (S.faults source.old) (S.faults source.new))
+        (string_bytes report.new) result }
     ensures later { S.faults source.old ≤ S.faults source.new }
     ensures to_the_end { MayEndWell result → IsAtEnd (S.left source.old) (S.left source.new) }
 {
@@ -126,7 +130,8 @@ fn refusal(status: Status) -> &'static str
 // Ends with this status, if the report and the line behind it are printed.
 fn print<K: Sink>(sink: &mut K, report: &str, line: &str, status: Status) -> Status
     requires { status ≢ Status.WriteFault }
-    ensures printed { result ≢ Status.WriteFault → (result ≡ status) × Appends (K.held sink.old) (K.held sink.new) (report.now ++ line.now) }
+    ensures printed { result ≢ Status.WriteFault →
+        (result ≡ status) × Appends (K.held sink.old) (K.held sink.new) (report.now ++ line.now) }
     ensures write_fault { result ≡ Status.WriteFault → Rose (K.faults sink.old) (K.faults sink.new)
         × ((n : ℕ) × Appends (K.held sink.old) (K.held sink.new) (take n (report.now ++ line.now))) }
 {

@@ -17,14 +17,16 @@ use its_types::Listed;
 use owned_machine::Machine;
 use std::alloc::{AllocError, Global};
 
-/// How a run ended: its status, and the line behind the report, which is a refusal's or has no bytes.
+/// How a run ended: its status, and the line behind the report, which is a refusal's or has no
+/// bytes.
 #[derive(Drop)]
 pub struct Ending {
     pub status: Status,
     pub line: String,
 }
 
-/// Runs a script, and adds the legs' reports. Where memory runs out, these are of the legs that were migrated.
+/// Runs a script, and adds the legs' reports. Where memory runs out, these are of the legs that
+/// were migrated.
 pub fn run(
     alloc: Global,
     script: &Script,
@@ -33,7 +35,9 @@ pub fn run(
 ) -> Result<Ending, AllocError>
     requires within { IsWithinLimits script.now }
     requires empty { string_bytes report.old ≡ [] }
-    ensures ok { IfOk result (λ e. RunEnds script.now machine.old e.status (string_bytes report.new ++ string_bytes e.line)) }
+    ensures ok { IfOk result (λ e.
+        RunEnds script.now machine.old e.status
+        (string_bytes report.new ++ string_bytes e.line)) }
     ensures err { OnErr result (IsSoFar script.now machine.old (string_bytes report.new)) }
 {
     let last = script.desc.limits.place_last;
@@ -51,7 +55,8 @@ pub fn run(
     Ok(ending)
 }
 
-/// Runs a leg and migrates the machine, or tells why the run ends here. Where memory runs out, the report is as it was.
+/// Runs a leg and migrates the machine, or tells why the run ends here. Where memory runs out, the
+/// report is as it was.
 fn run_leg(
     alloc: Global,
     machine: &mut Machine,
@@ -62,7 +67,9 @@ fn run_leg(
 ) -> Result<Option<Ending>, AllocError>
     requires phases { length leg.now ≤ 256 }
     requires threads { list_all (λ threads. nat_le (length threads) 64) leg.now ≡ true }
-    ensures ok { IfOk result (λ e. LegGoes last machine.old machine.new leg.now number (string_bytes report.old) (string_bytes report.new) e) }
+    ensures ok { IfOk result (λ e.
+        LegGoes last machine.old machine.new leg.now number (string_bytes report.old)
+        (string_bytes report.new) e) }
     ensures err { OnErr result (string_bytes report.new ≡ string_bytes report.old) }
 {
     let mut lines = Vec::new(alloc);
@@ -97,7 +104,9 @@ fn run_last_leg(
 ) -> Result<Ending, AllocError>
     requires phases { length leg.now ≤ 256 }
     requires threads { list_all (λ threads. nat_le (length threads) 64) leg.now ≡ true }
-    ensures ok { IfOk result (λ e. LegIsLast last machine.old leg.now number (string_bytes report.old) (string_bytes report.new) e) }
+    ensures ok { IfOk result (λ e.
+        LegIsLast last machine.old leg.now number (string_bytes report.old)
+        (string_bytes report.new) e) }
     ensures err { OnErr result (string_bytes report.new ≡ string_bytes report.old) }
 {
     let mut lines = Vec::new(alloc);
@@ -120,7 +129,8 @@ fn end_spent(
     number: u64,
     lines: Vec<EntryLine>,
 ) -> Result<Ending, AllocError>
-    ensures ok { IfOk result (λ e. IsSpentEnding number lines.items (string_bytes report.old) (string_bytes report.new) e) }
+    ensures ok { IfOk result (λ e.
+        IsSpentEnding number lines.items (string_bytes report.old) (string_bytes report.new) e) }
     ensures err { OnErr result (string_bytes report.new ≡ string_bytes report.old) }
 {
     let line = spent_refusal(alloc, number)?;
@@ -140,7 +150,10 @@ fn add_leg(
     pending: Listed<Text>,
     end: Option<End>,
 ) -> Result<(), AllocError>
-    ensures ok { IfOk result (λ _. string_bytes report.new ≡ string_bytes report.old ++ history.leg_text number (record { entries = lines.items; pending = pending; end = end })) }
+    ensures ok { IfOk result (λ _.
+        string_bytes report.new
+        ≡ string_bytes report.old ++ history.leg_text number
+        (record { entries = lines.items; pending = pending; end = end })) }
     ensures err { OnErr result (string_bytes report.new ≡ string_bytes report.old) }
 {
     let leg = Leg {

@@ -60,7 +60,8 @@ fn push_cause(
     fill_lines: &[u64],
     fault: DescFault,
 ) -> Result<(), AllocError>
-    ensures { OnOk result (string_bytes text.new ≡ string_bytes text.old ++ spec.cause_text fill_lines.now fault) }
+    ensures { OnOk result
+        (string_bytes text.new ≡ string_bytes text.old ++ spec.cause_text fill_lines.now fault) }
 {
     match fault {
         DescFault::Windows => text.push_str("windows"),
@@ -88,7 +89,8 @@ fn line_of(fill_lines: &[u64], fill: u64) -> u64
 }
 
 fn push_offence(alloc: Global, text: &mut String, fault: RestoreFault) -> Result<(), AllocError>
-    ensures { OnOk result (string_bytes text.new ≡ string_bytes text.old ++ history.restore_fault_text fault) }
+    ensures { OnOk result
+        (string_bytes text.new ≡ string_bytes text.old ++ history.restore_fault_text fault) }
 {
     let cause = restore_fault_text(alloc, &fault)?;
     text.push_str(cause.as_str())

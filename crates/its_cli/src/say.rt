@@ -14,7 +14,8 @@ use std::alloc::{AllocError, Global};
 /// Answers bytes that were read to their end, with a report first, as far as there is one.
 pub fn say(alloc: Global, input: &[u8], report: &mut String) -> Result<Ending, AllocError>
     requires { string_bytes report.old ≡ [] }
-    ensures ok { IfOk result (λ e. InputCauses input.now e.status (string_bytes report.new ++ string_bytes e.line)) }
+    ensures ok { IfOk result (λ e.
+        InputCauses input.now e.status (string_bytes report.new ++ string_bytes e.line)) }
     ensures err { OnErr result (StopsShort input.now (string_bytes report.new)) }
 {
     let script = match parse(alloc, input) {

@@ -17,7 +17,8 @@ struct Seat {
     thread: u32,
 }
 
-/// Makes the calls of phases and adds their lines. No place is at or above the last. Tells whether a call had no place left.
+/// Makes the calls of phases and adds their lines. No place is at or above the last. Tells whether
+/// a call had no place left.
 pub fn play_leg(
     alloc: Global,
     machine: &mut Machine,
@@ -27,7 +28,9 @@ pub fn play_leg(
 ) -> Result<bool, AllocError>
     requires phases { length phases.now ≤ 256 }
     requires threads { list_all (λ threads. nat_le (length threads) 64) phases.now ≡ true }
-    ensures { IfOk result (λ spent. Plays last machine.old lines.old.items (leg_turns 1 1 phases.now) (record { lines = lines.new.items; state = machine.new; spent = spent })) }
+    ensures { IfOk result (λ spent.
+        Plays last machine.old lines.old.items (leg_turns 1 1 phases.now)
+        (record { lines = lines.new.items; state = machine.new; spent = spent })) }
 {
     let mut phase = 1;
     for threads in phases {
@@ -49,7 +52,9 @@ fn play_phase(
     last: u64,
 ) -> Result<bool, AllocError>
     requires { length threads.now ≤ 64 }
-    ensures { IfOk result (λ spent. Plays last machine.old lines.old.items (phase_turns 0 phase 1 threads.now) (record { lines = lines.new.items; state = machine.new; spent = spent })) }
+    ensures { IfOk result (λ spent.
+        Plays last machine.old lines.old.items (phase_turns 0 phase 1 threads.now)
+        (record { lines = lines.new.items; state = machine.new; spent = spent })) }
 {
     let mut seat = Seat { phase, thread: 1 };
     for calls in threads {
@@ -69,7 +74,9 @@ fn play_thread(
     calls: &[Call],
     last: u64,
 ) -> Result<bool, AllocError>
-    ensures { IfOk result (λ spent. Plays last machine.old lines.old.items (thread_turns 0 seat.phase seat.thread calls.now) (record { lines = lines.new.items; state = machine.new; spent = spent })) }
+    ensures { IfOk result (λ spent.
+        Plays last machine.old lines.old.items (thread_turns 0 seat.phase seat.thread calls.now)
+        (record { lines = lines.new.items; state = machine.new; spent = spent })) }
 {
     for call in calls {
         let place = lines.len() as u64;

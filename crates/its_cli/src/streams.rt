@@ -1,5 +1,6 @@
 //! All that comes from a source, and all that goes to a sink.
-ghost use Rattle.std.specs.Prelude.{◌≡◌, ◌<◌, ◌≤◌, ◌^◌, ◌++◌, ℕ, IfOk, OnOk, OnErr, IsErrOf, IfSome, length, take};
+ghost use Rattle.std.specs.Prelude.{◌≡◌, ◌<◌, ◌≤◌, ◌^◌, ◌++◌, ℕ, IfOk, OnOk, OnErr, IsErrOf};
+ghost use Rattle.std.specs.Prelude.{IfSome, length, take};
 ghost use Rattle.its_io.specs.Bytes.{Appends};
 ghost use Rattle.its_io.specs.Count.{Rose, HasCause};
 ghost use Rattle.its_cli.specs.Streams.{Tells, IsAtEnd};
@@ -68,7 +69,8 @@ fn write_all<K: Sink>(sink: &mut K, text: &[u8]) -> Result<(), Failed>
 /// Writes a text and then another. Where the sink fails, it has some front of both.
 pub fn write_both<K: Sink>(sink: &mut K, first: &[u8], second: &[u8]) -> Result<(), Failed>
     ensures ok { OnOk result (Appends (K.held sink.old) (K.held sink.new) (first.now ++ second.now)) }
-    ensures err { OnErr result ((k : ℕ) × Appends (K.held sink.old) (K.held sink.new) (take k (first.now ++ second.now))) }
+    ensures err { OnErr result ((k : ℕ) ×
+        Appends (K.held sink.old) (K.held sink.new) (take k (first.now ++ second.now))) }
     ensures cause { HasCause (K.faults sink.old) (K.faults sink.new) result }
 {
     write_all(sink, first)?;

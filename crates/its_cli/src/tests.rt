@@ -18,7 +18,8 @@ pending 3 0x80070000
 bytes 0x80030008 a1
 ";
 
-/// A phase that enables its translator, and maps event 3 of device 16 to LPI 8200 by collection 1, which goes to processor 2.
+/// A phase that enables its translator, and maps event 3 of device 16 to LPI 8200 by collection 1,
+/// which goes to processor 2.
 pub const MAPPED: &str = "phase
 thread
 write 0x100 8 0x8107000080000200
@@ -30,8 +31,8 @@ run mapc 1 2
 run mapti 0x10 3 8200 1
 ";
 
-/// A script of these parts, in which a line `run C` stands for the command C at the queue's next place, CWRITER moved past it,
-/// and a step.
+/// A script of these parts, in which a line `run C` stands for the command C at the queue's next
+/// place, CWRITER moved past it, and a step.
 pub fn script(alloc: Global, parts: &[&str]) -> Result<String, AllocError> {
     let mut text = String::new(alloc);
     let mut place = 0u64;
@@ -67,7 +68,8 @@ pub fn run(alloc: Global, input: &[u8]) -> Option<(Status, SureSink)> {
     Some((status, sink))
 }
 
-/// What a report tells beside `ok`, the numbers of its legs and processors where nothing is pending, line by line.
+/// What a report tells beside `ok`, the numbers of its legs and processors where nothing is
+/// pending, line by line.
 fn told(alloc: Global, printed: &str) -> Result<String, AllocError> {
     let mut told = String::new(alloc);
     for line in printed.lines() {

@@ -21,7 +21,8 @@ mod tests {
     use its_types::DeviceId;
     use std::test::Fail;
 
-    // MAPD of device 16, 5 EventID bits, table at 0x800C0000, with zeros at its free bits and with ones
+    // MAPD of device 16, 5 EventID bits, table at 0x800C0000, with zeros at its free bits and with
+    // ones
     const PLAIN: [u8; 32] = [
         0x08, 0, 0, 0, 0x10, 0, 0, 0, 0x04, 0, 0, 0, 0, 0, 0, 0, 0, 0, 0x0C, 0x80, 0, 0, 0, 0x80,
         0, 0, 0, 0, 0, 0, 0, 0,

@@ -73,7 +73,8 @@ pub fn push_call(alloc: Global, out: &mut String, call: &Call) -> Result<(), All
 
 // A register's offset and how many bytes of it, after a word.
 fn push_access(out: &mut String, word: &str, off: u32, size: u8) -> Result<(), AllocError>
-    ensures { OnOk result (string_bytes out.new ≡ string_bytes out.old ++ word.now ++ hexadecimal off ++ codes " " ++ decimal size) }
+    ensures { OnOk result (string_bytes out.new
+        ≡ string_bytes out.old ++ word.now ++ hexadecimal off ++ codes " " ++ decimal size) }
 {
     out.push_str(word)?;
     push_hexadecimal(out, off.into())?;

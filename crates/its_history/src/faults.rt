@@ -50,7 +50,8 @@ fn push_save_fault(out: &mut String, fault: SaveFault) -> Result<(), AllocError>
 
 /// What a refused save is answered.
 pub fn push_refused_save(out: &mut String, fault: SaveFault) -> Result<(), AllocError>
-    ensures { OnOk result (string_bytes out.new ≡ string_bytes out.old ++ codes "save-fault " ++ spec.save_fault_text fault) }
+    ensures { OnOk result (string_bytes out.new
+        ≡ string_bytes out.old ++ codes "save-fault " ++ spec.save_fault_text fault) }
 {
     out.push_str("save-fault ")?;
     push_save_fault(out, fault)
@@ -108,7 +109,8 @@ fn register_name(register: Register) -> &'static str
 
 #[tactic(auto, unfolding(crate::specs::Texts::past_end_text))]
 fn push_past_end(out: &mut String, table: Table, entry: u32, next: u32) -> Result<(), AllocError>
-    ensures { OnOk result (string_bytes out.new ≡ string_bytes out.old ++ spec.past_end_text table entry next) }
+    ensures { OnOk result
+        (string_bytes out.new ≡ string_bytes out.old ++ spec.past_end_text table entry next) }
 {
     match table {
         Table::Devices => write!(out, "past-end devices {entry} {next}"),

@@ -1,4 +1,5 @@
-//! Traces of runs: the lines of calls and replies by their places in the history, and the report that they are printed as.
+//! Traces of runs: the lines of calls and replies by their places in the history, and the report
+//! that they are printed as.
 #![tactic(auto)]
 
 mod calls;

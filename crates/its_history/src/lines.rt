@@ -1,5 +1,6 @@
 //! What a line of a report says.
-ghost use Rattle.std.specs.Prelude.{◌≡◌, ◌<◌, ◌+◌, ◌^◌, ◌==◌, ℕ, Some, IfSome, decimal, drop, is_some, length, option_map, position, take};
+ghost use Rattle.std.specs.Prelude.{◌≡◌, ◌<◌, ◌+◌, ◌^◌, ◌==◌, ℕ, Some, IfSome, decimal, drop};
+ghost use Rattle.std.specs.Prelude.{is_some, length, option_map, position, take};
 ghost use Rattle.its_history.specs.Reading as spec;
 
 use crate::trace::End;

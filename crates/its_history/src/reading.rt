@@ -27,8 +27,8 @@ impl From<AllocError> for TraceError {
     }
 }
 
-/// The trace that a report tells, of a script with so many legs on a machine with so many virtual processors, or its first line
-/// that isn't as it must be.
+/// The trace that a report tells, of a script with so many legs on a machine with so many virtual
+/// processors, or its first line that isn't as it must be.
 #[tactic(auto, unfolding(crate::specs::Reading::trace_of))]
 pub fn parse_trace(
     alloc: Global,
@@ -112,7 +112,9 @@ impl<'a> Lines<'a> {
 
     /// Takes entries by place, up to a line that isn't one.
     fn entries(&mut self, alloc: Global) -> Result<Listed<EntryLine>, AllocError>
-        ensures { IfOk result (λ es. spec.entries_from 0 self.old.number (spec.parts self.old.rest.now) ≡ (es, spec.left self.new)) }
+        ensures { IfOk result (λ es.
+            spec.entries_from 0 self.old.number (spec.parts self.old.rest.now)
+            ≡ (es, spec.left self.new)) }
     {
         let mut entries = Listed::new(alloc);
         while let Some(entry) = self.entry(alloc, entries.len() as u64)? {
@@ -123,7 +125,8 @@ impl<'a> Lines<'a> {
 
     /// Takes the line of a virtual processor.
     fn pending(&mut self, alloc: Global, vcpu: u8) -> Result<Text, TraceError>
-        ensures { spec.Reads (λ text. text) result (spec.left self.new) (spec.read (spec.pending_in vcpu) (spec.left self.old)) }
+        ensures { spec.Reads (λ text. text) result (spec.left self.new)
+            (spec.read (spec.pending_in vcpu) (spec.left self.old)) }
     {
         let bad = TraceError::BadLine(self.number);
         let Some((line, after)) = self.next() else {
@@ -139,7 +142,8 @@ impl<'a> Lines<'a> {
 
     /// Takes the lines of so many virtual processors.
     fn pending_lists(&mut self, alloc: Global, vcpus: u8) -> Result<Listed<Text>, TraceError>
-        ensures { spec.Reads (λ lists. lists) result (spec.left self.new) (spec.pending_from 0 vcpus (spec.left self.old)) }
+        ensures { spec.Reads (λ lists. lists) result (spec.left self.new)
+            (spec.pending_from 0 vcpus (spec.left self.old)) }
     {
         let mut lists = Listed::new(alloc);
         for vcpu in 0..vcpus {
@@ -151,7 +155,8 @@ impl<'a> Lines<'a> {
 
     /// Takes the first line of the leg with a number.
     fn head(&mut self, number: u64) -> Result<(), TraceError>
-        ensures { spec.Reads (λ done. done) result (spec.left self.new) (spec.read (spec.head_in number) (spec.left self.old)) }
+        ensures { spec.Reads (λ done. done) result (spec.left self.new)
+            (spec.read (spec.head_in number) (spec.left self.old)) }
     {
         match self.next() {
             Some((line, after)) if is_head(line, number) => {
@@ -164,7 +169,8 @@ impl<'a> Lines<'a> {
 
     /// Takes the line that ends a leg so.
     fn end(&mut self, end: End) -> Result<(), TraceError>
-        ensures { spec.Reads (λ done. done) result (spec.left self.new) (spec.read (spec.end_in end) (spec.left self.old)) }
+        ensures { spec.Reads (λ done. done) result (spec.left self.new)
+            (spec.read (spec.end_in end) (spec.left self.old)) }
     {
         match self.next() {
             Some((line, after)) if is_end(line, end) => {
@@ -178,7 +184,8 @@ impl<'a> Lines<'a> {
     /// Takes the lines of the leg with a number, which ends so.
     #[tactic(auto, unfolding(crate::specs::Reading::leg_from))]
     fn leg(&mut self, alloc: Global, number: u64, vcpus: u8, end: End) -> Result<Leg, TraceError>
-        ensures { spec.Reads (λ leg. leg) result (spec.left self.new) (spec.leg_from vcpus number end (spec.left self.old)) }
+        ensures { spec.Reads (λ leg. leg) result (spec.left self.new)
+            (spec.leg_from vcpus number end (spec.left self.old)) }
     {
         self.head(number)?;
         let entries = self.entries(alloc)?;

@@ -1,6 +1,7 @@
 ghost use Rattle.std.specs.Prelude.{◌≡◌, ◌++◌, OnOk};
 ghost use Rattle.std.specs.String.{string_bytes};
-ghost use Rattle.its_history.specs.Texts.{op_text, cause_text, reason_text, signal_text, ack_text, step_text, reply_text};
+ghost use Rattle.its_history.specs.Texts.{op_text, cause_text, reason_text, signal_text, ack_text};
+ghost use Rattle.its_history.specs.Texts.{step_text, reply_text};
 
 use crate::faults::push_refused_save;
 use crate::numbers::{push_bytes, push_decimal, push_hexadecimal};

@@ -22,7 +22,8 @@ pub fn entry_text(
     call: &Call,
     reply: &Reply,
 ) -> Result<String, AllocError>
-    ensures { IfOk result (λ text. string_bytes text ≡ spec.entry_text place phase thread call.now reply.now) }
+    ensures { IfOk result (λ text.
+        string_bytes text ≡ spec.entry_text place phase thread call.now reply.now) }
 {
     let text = answered_text(alloc, call, reply)?;
     let mut out = String::new(alloc);
@@ -163,7 +164,8 @@ fn push_line(out: &mut String, line: &EntryLine) -> Result<(), AllocError>
 
 #[tactic(auto, unfolding(crate::specs::Report::told_text))]
 fn push_told(out: &mut String, phase: u64, thread: u64, text: &Text) -> Result<(), AllocError>
-    ensures { OnOk result (string_bytes out.new ≡ string_bytes out.old ++ spec.told_text phase thread text.now) }
+    ensures { OnOk result
+        (string_bytes out.new ≡ string_bytes out.old ++ spec.told_text phase thread text.now) }
 {
     push_decimal(out, phase)?;
     out.push_str(".")?;
@@ -173,7 +175,8 @@ fn push_told(out: &mut String, phase: u64, thread: u64, text: &Text) -> Result<(
 }
 
 fn push_vcpus(out: &mut String, pending: &[Text]) -> Result<(), AllocError>
-    ensures { OnOk result (string_bytes out.new ≡ string_bytes out.old ++ spec.vcpu_lines_from 0 pending.now) }
+    ensures { OnOk result
+        (string_bytes out.new ≡ string_bytes out.old ++ spec.vcpu_lines_from 0 pending.now) }
 {
     for (vcpu, pending) in pending.iter().enumerate() {
         push_vcpu(out, vcpu as u64, pending)?;

@@ -10,7 +10,8 @@ use its_plain::{Call, Reply};
 use its_types::{Listed, Placed};
 use std::alloc::{AllocError, Global};
 
-/// The entries of a thread: its first calls, each with its reply and its place. Calls without a reply weren't made.
+/// The entries of a thread: its first calls, each with its reply and its place. Calls without a
+/// reply weren't made.
 #[derive(Drop)]
 pub struct ThreadList<'a> {
     /// Counted from 1 in each leg.

@@ -1,7 +1,8 @@
 use crate::text::Text;
 use its_types::Listed;
 
-/// An entry of a history: where it stands, which thread of which phase made the call, and the text of call and reply.
+/// An entry of a history: where it stands, which thread of which phase made the call, and the text
+/// of call and reply.
 #[derive(Debug, Drop)]
 pub struct EntryLine {
     /// Counted from 0 in each leg.

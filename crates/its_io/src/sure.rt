@@ -40,7 +40,8 @@ impl Source for SureSource {
     ghost faults_fit = { λ s. lit< tt };
 
     fn read(&mut self, buf: &mut [u8]) -> Result<usize, Failed>
-        ensures read { IfOk result (λ n. Reads (Some (sure_left self.old)) (Some (sure_left self.new)) buf.old buf.new n) }
+        ensures read { IfOk result (λ n.
+            Reads (Some (sure_left self.old)) (Some (sure_left self.new)) buf.old buf.new n) }
         ensures answer { result ≡ Ok (min (length (sure_left self.old)) (length buf.old)) }
     {
         let rest = &self.bytes[self.at..];
@@ -51,8 +52,8 @@ impl Source for SureSource {
     }
 }
 
-/// Memory for so many bytes. No write fails: bytes past its room are taken without being kept, and from then on it tells
-/// no bytes.
+/// Memory for so many bytes. No write fails: bytes past its room are taken without being kept, and
+/// from then on it tells no bytes.
 #[derive(Drop)]
 pub struct SureSink {
     bytes: Vec<u8>,
@@ -88,7 +89,8 @@ impl SureSink {
 }
 
 impl Sink for SureSink {
-    ghost use Rattle.std.specs.Prelude.{◌≡◌, ◌++◌, ◌-◌, nat_lt, IfOk, OnErr, Some, None, Ok, Err, length, if◌then◌else◌, IfSome};
+    ghost use Rattle.std.specs.Prelude.{◌≡◌, ◌++◌, ◌-◌, nat_lt, IfOk, OnErr, Some, None, Ok, Err};
+    ghost use Rattle.std.specs.Prelude.{length, if◌then◌else◌, IfSome};
     ghost use Rattle.std.proofs.Common.{lit<};
     ghost use Rattle.its_io.specs.Bytes.{Writes};
     ghost use Rattle.its_io.specs.Ends.{sure_held, sure_room};
@@ -102,7 +104,10 @@ impl Sink for SureSink {
     fn write(&mut self, piece: &[u8]) -> Result<usize, Failed>
         ensures written { IfOk result (λ n. Writes (sure_held self.old) (sure_held self.new) piece.now n) }
         ensures answer { result ≡ Ok (length piece.now) }
-        ensures bytes { IfSome (sure_held self.old) (λ held. sure_held self.new ≡ (if nat_lt (sure_room self.old) (length piece.now) then None else Some (held ++ piece.now))) }
+        ensures bytes { IfSome (sure_held self.old) (λ held.
+            sure_held self.new
+            ≡ (if nat_lt (sure_room self.old) (length piece.now) then None else Some
+            (held ++ piece.now))) }
         ensures room { sure_room self.new ≡ sure_room self.old - length piece.now }
     {
         let kept = piece.len().min(self.room - self.bytes.len());

@@ -12,7 +12,8 @@ pub trait Source {
     /// How often it has failed.
     ghost faults: { Self → ℕ };
 
-    /// Puts the next bytes at the buffer's front, and says how many. None, into a buffer that has room, is the end of input.
+    /// Puts the next bytes at the buffer's front, and says how many. None, into a buffer that has
+    /// room, is the end of input.
     fn read(&mut self, buf: &mut [u8]) -> Result<usize, Failed>
         ensures read { IfOk result (λ n. Reads (left self.old) (left self.new) buf.old buf.new n) }
         ensures failed { OnErr result (left self.new ≡ left self.old) }

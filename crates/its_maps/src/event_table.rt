@@ -93,7 +93,8 @@ impl EventTable {
     /// Gives an event another collection.
     pub fn move_to(&mut self, ev: u32, icid: Icid)
         requires { map.contains_key self.old.map ev ≡ true }
-        ensures { IfSome (map.get self.old.map ev) (λ event. self.new.map ≡ map.insert self.old.map ev (record event { icid = icid })) }
+        ensures { IfSome (map.get self.old.map ev) (λ event.
+            self.new.map ≡ map.insert self.old.map ev (record event { icid = icid })) }
     {
         match &mut self.form {
             Form::Few(events) => events.get_mut(ev).icid = icid,

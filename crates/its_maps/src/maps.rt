@@ -1,6 +1,9 @@
 ghost use Rattle.std.specs.Prelude.{◌≡◌, ◌≤◌, ℕ, None, IsSome, IfSome, OnOk, OnErr};
 ghost use Rattle.std.specs.FinMap as finmap;
-ghost use Rattle.its_types.specs.Maps.{device_of, event_of, collection_of, events_at, no_maps, device_mapped, device_unmapped, event_mapped, event_unmapped, collection_mapped, collection_unmapped, devices_emptied, collections_emptied};
+ghost use Rattle.its_types.specs.Maps.{device_of, event_of, collection_of, events_at, no_maps};
+ghost use Rattle.its_types.specs.Maps.{device_mapped, device_unmapped, event_mapped};
+ghost use Rattle.its_types.specs.Maps.{event_unmapped, collection_mapped, collection_unmapped};
+ghost use Rattle.its_types.specs.Maps.{devices_emptied, collections_emptied};
 ghost use Rattle.its_maps.specs.LookUp.{looked_up};
 ghost use Rattle.its_maps.specs.MapsRoom.{event_room, EventsHaveDevices, KeysFit};
 
@@ -15,13 +18,15 @@ use its_types::{Device, DeviceId, Event, EventId, Icid, Vcpu};
 use std::alloc::{AllocError, Global};
 use std::marker::Model;
 
-/// The devices, events and collections of a translator (IHI 0069, section 5.2). Each event's device is mapped.
+/// The devices, events and collections of a translator (IHI 0069, section 5.2). Each event's device
+/// is mapped.
 ///
-/// A look-up, a map or an unmap costs about the same however much is mapped and in whatever order: a key has its place
-/// in a page of such places, which is there while one of its keys is mapped. The few events of a device are one vector.
+/// A look-up, a map or an unmap costs about the same however much is mapped and in whatever order:
+/// a key has its place in a page of such places, which is there while one of its keys is mapped.
+/// The few events of a device are one vector.
 ///
-/// The three calls that make room take memory, and no other call does. After such a call that succeeded, one map call of
-/// its kind finds the page and the place that it may need.
+/// The three calls that make room take memory, and no other call does. After such a call that
+/// succeeded, one map call of its kind finds the page and the place that it may need.
 #[derive(Drop)]
 pub struct Maps {
     devices: PagedMap<DeviceRecord>,
@@ -163,7 +168,9 @@ impl Maps {
     /// Gives a mapped event another collection, and leaves its INTID.
     pub fn move_event(&mut self, dev: DeviceId, ev: EventId, icid: Icid)
         requires { IsSome (event_of self.old.maps dev.0 ev.0) }
-        ensures maps { IfSome (event_of self.old.maps dev.0 ev.0) (λ event. self.new.maps ≡ event_mapped self.old.maps dev.0 ev.0 (record event { icid = icid })) }
+        ensures maps { IfSome (event_of self.old.maps dev.0 ev.0) (λ event.
+            self.new.maps
+            ≡ event_mapped self.old.maps dev.0 ev.0 (record event { icid = icid })) }
         ensures room { self.new.room ≡ record self.old.room { events = self.new.room.events } }
     {
         let record = self.devices.get_mut(dev.0);

@@ -1,6 +1,7 @@
 //! A page of places.
 
-ghost use Rattle.std.specs.Prelude.{◌≡◌, ◌<◌, length, slice_set, slice_index_or, Some, None, is_some, true, IfOk, IsTrue, ◌↔◌};
+ghost use Rattle.std.specs.Prelude.{◌≡◌, ◌<◌, length, slice_set, slice_index_or, Some, None};
+ghost use Rattle.std.specs.Prelude.{is_some, true, IfOk, IsTrue, ◌↔◌};
 ghost use Rattle.std.specs.Option.{option_copied};
 ghost use Rattle.its_maps.specs.Pages.{IsBlank};
 

@@ -12,8 +12,8 @@ use crate::sorted_map::SortedMap;
 use std::alloc::{AllocError, Global};
 use std::marker::Model;
 
-/// A map from numbers to values: the pages that have a value, by the key over `PLACES`. How many pages more it takes
-/// without memory is seen as a number.
+/// A map from numbers to values: the pages that have a value, by the key over `PLACES`. How many
+/// pages more it takes without memory is seen as a number.
 #[derive(Drop)]
 pub struct PagedMap<V> {
     pages: SortedMap<Page<V>>,

@@ -3,7 +3,8 @@ use crate::fault::SaveFault;
 use its_command::Op;
 use its_types::{Addr, DeviceId, EventId, Intid, Vcpu};
 
-/// What a device, a virtual processor or the guest asks of the machine. `its` is the number of a translator.
+/// What a device, a virtual processor or the guest asks of the machine. `its` is the number of a
+/// translator.
 #[derive(Clone, Copy, Debug, PartialEq, Eq)]
 pub enum Call {
     /// A device's message.

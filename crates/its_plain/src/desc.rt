@@ -19,9 +19,11 @@ pub struct Fill {
 /// Where the LPI tables of the redistributors are.
 #[derive(Debug, Drop)]
 pub enum LpiTables {
-    /// LPIs are on at these tables: one configuration table for all, and a pending table for each virtual processor.
+    /// LPIs are on at these tables: one configuration table for all, and a pending table for each
+    /// virtual processor.
     Described { config: Addr, pending: Listed<Addr> },
-    /// The guest programs the LPI registers of the redistributors, which a restore begins with these values.
+    /// The guest programs the LPI registers of the redistributors, which a restore begins with
+    /// these values.
     Registers(GicrValues),
 }
 

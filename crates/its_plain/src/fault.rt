@@ -93,7 +93,8 @@ pub enum RestoreFault {
     BadTarget(Icid, u64),
     /// The collection has two entries.
     DoubleCollection(Icid),
-    /// The register's value can't stand beside the others (KVM document arm-vgic-its, "ITS Restore Sequence").
+    /// The register's value can't stand beside the others (KVM document arm-vgic-its, "ITS Restore
+    /// Sequence").
     NotValid(Register),
     /// The collection has no place in the table.
     BadCollection(Icid),

@@ -7,9 +7,11 @@ use std::alloc::{AllocError, Global};
 #[derive(Debug, Drop)]
 pub struct Layout {
     pub shape: Shape,
-    /// Whether the guest programs the LPI registers of the redistributors. Otherwise LPIs are on at the tables described.
+    /// Whether the guest programs the LPI registers of the redistributors. Otherwise LPIs are on at
+    /// the tables described.
     pub gicr: bool,
-    /// For each virtual processor, where its tables are described; none where the guest programs them.
+    /// For each virtual processor, where its tables are described; none where the guest programs
+    /// them.
     pub described: Listed<Bases>,
 }
 

@@ -1,4 +1,5 @@
-//! The model: what a machine is made from, its calls and replies, and (in specs/) what each call is answered and leaves.
+//! The model: what a machine is made from, its calls and replies, and (in specs/) what each call is
+//! answered and leaves.
 #![tactic(auto)]
 
 mod area;
@@ -17,4 +18,3 @@ pub use desc::{Desc, DescFault, Fill, LpiTables};
 pub use fault::{Region, RestoreFault, SaveError, SaveFault, Table};
 pub use layout::Layout;
 pub use make::MakeError;
-pub use std::alloc::AllocError as NoMemory;

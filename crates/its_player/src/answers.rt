@@ -19,7 +19,8 @@ use plain_machine::State;
 use std::alloc::{AllocError, Global};
 use xlate_cache::shard_of;
 
-// Whether the part is held and owes a shard that has a pair's translation under a stamp, to this target.
+// Whether the part is held and owes a shard that has a pair's translation under a stamp, to this
+// target.
 fn finds_in(
     held: &[Held],
     part: Part,
@@ -109,7 +110,8 @@ impl Shared {
     /// Whether a commit whose call leaves a state may change the shards so.
     pub fn may_change(&self, held: &[Held], commit: &Commit, after: &State) -> bool
         requires { 1 ≤ self.now.shards }
-        ensures { Decides result (may.MayChange (setup_of self.now) commit.now.call commit.now.change after.now held.now) }
+        ensures { Decides result (may.MayChange (setup_of self.now) commit.now.call commit.now.change after.now
+            held.now) }
     {
         match commit.change {
             ShardChange::Fill(dev, ev, target) => {
@@ -134,7 +136,8 @@ impl Shared {
         target: Target,
     ) -> bool
         requires { 1 ≤ self.now.shards }
-        ensures { Decides result (may.MayFill (setup_of self.now) call.now after.now held.now dev ev target) }
+        ensures { Decides result
+            (may.MayFill (setup_of self.now) call.now after.now held.now dev ev target) }
     {
         let its = its_of(call);
         if !holds(held, Part::Maps(its)) {

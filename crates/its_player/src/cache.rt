@@ -16,8 +16,8 @@ pub struct Looked {
     pub ways: Listed<Option<xlate_cache::Entry>>,
 }
 
-/// What a pass knows of the cache: the shard that it held last, and both that and the word read last as they were when
-/// it last got some maps.
+/// What a pass knows of the cache: the shard that it held last, and both that and the word read
+/// last as they were when it last got some maps.
 #[derive(Drop)]
 pub struct Cache {
     pub looked: Looked,
@@ -72,7 +72,8 @@ impl Looked {
 
     // Looks at the part, if that is a shard.
     fn look(&mut self, alloc: Global, part: Part, content: &Content) -> Result<(), AllocError>
-        ensures { OnOk result (looked_as self.new ≡ world.looked_of part (content_of content.now) (looked_as self.old)) }
+        ensures { OnOk result (looked_as self.new
+            ≡ world.looked_of part (content_of content.now) (looked_as self.old)) }
     {
         if let Part::Shard(its, number) = part {
             if let Content::Shard(shard) = content {
@@ -97,7 +98,8 @@ impl Cache {
         content: &Content,
         last: Word,
     ) -> Result<(), AllocError>
-        ensures { OnOk result (cache_as self.new ≡ world.cache_got part (content_of content.now) last (cache_as self.old)) }
+        ensures { OnOk result (cache_as self.new
+            ≡ world.cache_got part (content_of content.now) last (cache_as self.old)) }
     {
         if let Part::Maps(_) = part {
             self.early = self.looked.copy(alloc)?;

@@ -53,8 +53,8 @@ impl Shared {
         Ok(Some(owed))
     }
 
-    /// The pass at an index makes a commit, if it may and the word is the one that it expected. Otherwise it reads the
-    /// word, if it might have.
+    /// The pass at an index makes a commit, if it may and the word is the one that it expected.
+    /// Otherwise it reads the word, if it might have.
     pub fn commit(&mut self, alloc: Global, at: usize, commit: &Commit) -> Result<(), AllocError>
         requires good { IsGoodCore (core_of self.old) }
         requires shards { 1 ≤ self.old.shards }
@@ -85,7 +85,8 @@ impl Shared {
     ) -> Result<(), AllocError>
         requires at { at < length self.old.views.items }
         requires room { commit.now.expected.place < self.old.limits.place_last }
-        ensures makes { OnOk result (AtPass (core_of self.old) at (λ v. core_of self.new ≡ made (core_of self.old) at v commit.now owed.items)) }
+        ensures makes { OnOk result (AtPass (core_of self.old) at (λ v.
+            core_of self.new ≡ made (core_of self.old) at v commit.now owed.items)) }
         ensures shards { OnOk result (self.new.shards ≡ self.old.shards) }
     {
         let number = self.views[at].number;

@@ -17,7 +17,8 @@ pub fn find_pass(views: &[View], number: u32) -> Option<usize>
 }
 
 impl Shared {
-    /// The pass at an index, if it is the root, takes back the pass of a number, if that holds nothing.
+    /// The pass at an index, if it is the root, takes back the pass of a number, if that holds
+    /// nothing.
     pub fn join(&mut self, alloc: Global, at: usize, number: u32) -> Result<(), AllocError>
         requires good { IsGoodCore (core_of self.old) }
         requires at { at < length self.old.views.items }

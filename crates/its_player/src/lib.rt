@@ -1,4 +1,5 @@
-//! A program of the core: a world goes from event to event, and each does just what its definition says.
+//! A program of the core: a world goes from event to event, and each does just what its definition
+//! says.
 #![tactic(auto)]
 
 mod answers;

@@ -80,7 +80,8 @@ impl Shared {
     ) -> Result<Vec<Held>, AllocError>
         requires shards { 1 ≤ self.now.shards }
         requires to { to ≡ world.word_after commit.now }
-        ensures { IfOk result (λ v. v.items ≡ spec.renewed (setup_of self.now) commit.now after.now held.now) }
+        ensures { IfOk result (λ v.
+            v.items ≡ spec.renewed (setup_of self.now) commit.now after.now held.now) }
     {
         let mut owed = Vec::new(alloc);
         for x in held {
@@ -102,7 +103,10 @@ impl Shared {
     ) -> Result<Content, AllocError>
         requires shards { 1 ≤ self.now.shards }
         requires to { to ≡ world.word_after commit.now }
-        ensures { IfOk result (λ c. content_of c ≡ spec.content_in (setup_of self.now) commit.now after.now part (content_of before.now)) }
+        ensures { IfOk result (λ c.
+            content_of c
+            ≡ spec.content_in (setup_of self.now) commit.now after.now part
+            (content_of before.now)) }
     {
         match part {
             Part::Maps(its) => Ok(Content::Maps(translator_of(alloc, after, usize::from(its))?)),
@@ -126,7 +130,9 @@ impl Shared {
     #[tactic(auto, unfolding(its_steps::specs::Renewal::changed))]
     fn change_shard(&self, shard: &mut Shard, its: u8, number: u32, commit: &Commit, to: Word)
         requires { 1 ≤ self.now.shards }
-        ensures { shard.new ≡ spec.changed (setup_of self.now) to commit.now.call commit.now.change its number shard.old }
+        ensures { shard.new
+            ≡ spec.changed (setup_of self.now) to commit.now.call commit.now.change its number
+            shard.old }
     {
         match commit.change {
             ShardChange::Keep => {}

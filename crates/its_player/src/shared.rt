@@ -42,7 +42,8 @@ impl Shared {
         shards: u32,
     ) -> Result<Shared, AllocError>
         requires { IsSound start }
-        ensures first { IfOk result (λ w. core_of w ≡ first_core (record { start = start; limits = limits; shards = shards })) }
+        ensures first { IfOk result (λ w.
+            core_of w ≡ first_core (record { start = start; limits = limits; shards = shards })) }
         ensures shards { IfOk result (λ w. w.shards ≡ shards) }
     {
         let slots = first_slots(alloc, &start, shards)?;
@@ -93,7 +94,8 @@ fn add_maps(
     slots: &mut Vec<Option<Content>>,
     translators: &[TranslatorLists],
 ) -> Result<(), AllocError>
-    ensures { OnOk result (slots.new.items ≡ slots.old.items ++ map (λ t. std.Some (Content.Maps t)) translators.now) }
+    ensures { OnOk result (slots.new.items
+        ≡ slots.old.items ++ map (λ t. std.Some (Content.Maps t)) translators.now) }
 {
     for translator in translators {
         slots.push(Some(Content::Maps(translator.copy(alloc)?)))?;
@@ -106,7 +108,8 @@ fn add_shards(
     slots: &mut Vec<Option<Content>>,
     shards: u32,
 ) -> Result<(), AllocError>
-    ensures { OnOk result (slots.new.items ≡ slots.old.items ++ replicate shards (std.Some (Content.Shard no_entries))) }
+    ensures { OnOk result (slots.new.items
+        ≡ slots.old.items ++ replicate shards (std.Some (Content.Shard no_entries))) }
 {
     for _n in 0..shards {
         slots.push(Some(Content::Shard(Shard::new(alloc)?)))?;

@@ -48,8 +48,11 @@ fn holds_shards(held: &[Held], its: usize, shards: u32) -> bool
 impl Shared {
     // What a commit puts into the shards of a translator.
     fn fill_of(&self, commit: &Commit, to: Word, its: usize) -> Option<Entry>
-        ensures fill { (e : Translation) → result ≡ Some e → may.IsFill (setup_of self.now) to commit.now.call commit.now.change its e }
-        ensures only { (e : Translation) → may.IsFill (setup_of self.now) to commit.now.call commit.now.change its e → result ≡ Some e }
+        ensures fill { (e : Translation) → result ≡ Some e →
+            may.IsFill (setup_of self.now) to commit.now.call commit.now.change its e }
+        ensures only { (e : Translation) →
+            may.IsFill (setup_of self.now) to commit.now.call commit.now.change its e →
+            result ≡ Some e }
     {
         let ShardChange::Fill(dev, ev, target) = commit.change else {
             return None;
@@ -74,7 +77,8 @@ impl Shared {
         to: Word,
         its: usize,
     ) -> bool
-        ensures { Decides result (may.HasFillsAlone (setup_of self.now) to commit.now.call commit.now.change its part (content_of owed.now)) }
+        ensures { Decides result (may.HasFillsAlone (setup_of self.now) to commit.now.call commit.now.change its part
+            (content_of owed.now)) }
     {
         let Part::Shard(other, _) = part else {
             return true;
@@ -89,7 +93,9 @@ impl Shared {
     }
 
     fn have_fills_alone(&self, owed: &[Held], commit: &Commit, to: Word, its: usize) -> bool
-        ensures { Decides result (AllByRecursion (λ x. may.HasFillsAlone (setup_of self.now) to commit.now.call commit.now.change its x.part x.owed) owed.now) }
+        ensures { Decides result (AllByRecursion
+            (λ x. may.HasFillsAlone (setup_of self.now) to commit.now.call commit.now.change its x.part x.owed)
+            owed.now) }
     {
         match owed {
             [] => true,
@@ -113,7 +119,8 @@ impl Shared {
     ) -> Result<bool, AllocError>
         requires shards { 1 ≤ self.now.shards }
         requires to { to ≡ world.word_after commit.now }
-        ensures { IfOk result (λ b. Decides b (may.StampStays (setup_of self.now) commit.now its held.now owed.now)) }
+        ensures { IfOk result (λ b.
+            Decides b (may.StampStays (setup_of self.now) commit.now its held.now owed.now)) }
     {
         if self.stamp_of(to, its) != self.stamp_of(commit.expected, its) {
             return Ok(false);
@@ -172,7 +179,8 @@ impl Shared {
     ) -> Result<bool, AllocError>
         requires shards { 1 ≤ self.now.shards }
         requires to { to ≡ world.word_after commit.now }
-        ensures { IfOk result (λ b. Decides b (may.MayStamp (setup_of self.now) commit.now held.now owed.now its)) }
+        ensures { IfOk result (λ b.
+            Decides b (may.MayStamp (setup_of self.now) commit.now held.now owed.now its)) }
     {
         if self.stays(alloc, commit, to, its, held, owed)? {
             return Ok(true);
@@ -194,7 +202,9 @@ impl Shared {
     ) -> Result<bool, AllocError>
         requires shards { 1 ≤ self.now.shards }
         requires to { to ≡ world.word_after commit.now }
-        ensures { IfOk result (λ b. Decides b ((its : ℕ) → its < translator_count (setup_of self.now) → may.MayStamp (setup_of self.now) commit.now held.now owed.now its)) }
+        ensures { IfOk result (λ b.
+            Decides b ((its : ℕ) → its < translator_count (setup_of self.now) →
+            may.MayStamp (setup_of self.now) commit.now held.now owed.now its)) }
     {
         for its in 0..self.start.translators().len() {
             let may = self.may_stamp(alloc, commit, to, held, owed, its)?;

@@ -64,7 +64,9 @@ impl Shared {
         ev: EventId,
     ) -> bool
         requires { 1 ≤ self.now.shards }
-        ensures { Decides result ((target : Goal) → located before.now dev.0 ev.0 ≡ Ok target → (located after.now dev.0 ev.0 ≡ Ok target) ⊎ may.IsWithout (setup_of self.now) its dev.0 ev.0 owed.now) }
+        ensures { Decides result ((target : Goal) → located before.now dev.0 ev.0 ≡ Ok target →
+            (located after.now dev.0 ev.0 ≡ Ok target) ⊎
+            may.IsWithout (setup_of self.now) its dev.0 ev.0 owed.now) }
     {
         match before.locate(dev, ev) {
             Err(_) => true,
@@ -87,7 +89,10 @@ impl Shared {
         after: &TranslatorLists,
     ) -> Result<bool, AllocError>
         requires { 1 ≤ self.now.shards }
-        ensures { IfOk result (λ b. Decides b ((dev ev : ℕ) (target : Goal) → located before.now dev ev ≡ Ok target → (located after.now dev ev ≡ Ok target) ⊎ may.IsWithout (setup_of self.now) its dev ev owed.now)) }
+        ensures { IfOk result (λ b.
+            Decides b ((dev ev : ℕ) (target : Goal) → located before.now dev ev ≡ Ok target →
+            (located after.now dev ev ≡ Ok target) ⊎
+            may.IsWithout (setup_of self.now) its dev ev owed.now)) }
     {
         let pairs = before.events(alloc)?;
         for pair in &pairs {
@@ -108,7 +113,9 @@ impl Shared {
         after: &Held,
     ) -> Result<bool, AllocError>
         requires { 1 ≤ self.now.shards }
-        ensures { IfOk result (λ b. Decides b (may.IsSteady (setup_of self.now) its owed.now before.now.part before.now.owed after.now.owed)) }
+        ensures { IfOk result (λ b.
+            Decides b (may.IsSteady (setup_of self.now) its owed.now before.now.part before.now.owed
+            after.now.owed)) }
     {
         match (before.part(), before.owed(), after.owed()) {
             (Part::Maps(other), Content::Maps(first), Content::Maps(second)) => {
@@ -134,7 +141,8 @@ impl Shared {
         after: &[Held],
     ) -> Result<bool, AllocError>
         requires { 1 ≤ self.now.shards }
-        ensures { IfOk result (λ b. Decides b (may.AreSteady (setup_of self.now) its owed.now before.now after.now)) }
+        ensures { IfOk result (λ b.
+            Decides b (may.AreSteady (setup_of self.now) its owed.now before.now after.now)) }
     {
         let [x, xs @ ..] = before else {
             return Ok(true);

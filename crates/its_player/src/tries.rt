@@ -1,7 +1,8 @@
 //! Tries of a part's turn.
 ghost use Rattle.std.specs.Prelude.{◌≡◌, ◌<◌, ◌≤◌, OnOk, length, slice_index, MatchOption};
 ghost use Rattle.its_steps.specs.Parts.{Stands};
-ghost use Rattle.its_player.specs.Shared.{core_of, setup_of, AtPass, IsDone, IsIndex, IsMove, IsWide};
+ghost use Rattle.its_player.specs.Shared.{core_of, setup_of, AtPass, IsDone, IsIndex, IsMove};
+ghost use Rattle.its_player.specs.Shared.{IsWide};
 ghost use Rattle.its_steps.specs.Steps.{Gets, set_view};
 ghost use Rattle.its_steps.specs.World.{missed};
 
@@ -57,7 +58,8 @@ impl Shared {
     // The pass finds the number of another.
     fn miss(&mut self, at: usize, part: Part, found: u64) -> Result<(), AllocError>
         requires { at < length self.old.views.items }
-        ensures leaves { OnOk result (AtPass (core_of self.old) at (λ v. core_of self.new ≡ set_view (core_of self.old) at (missed v part found))) }
+        ensures leaves { OnOk result (AtPass (core_of self.old) at (λ v.
+            core_of self.new ≡ set_view (core_of self.old) at (missed v part found))) }
         ensures shards { OnOk result (self.new.shards ≡ self.old.shards) }
     {
         let view = &mut self.views[at];
@@ -70,7 +72,9 @@ impl Shared {
         requires at { at < length self.old.views.items }
         requires index { IsIndex self.old part index }
         requires free { slice_index self.old.turns.items index ≡ 0 }
-        ensures gets { OnOk result (AtPass (core_of self.old) at (λ v. IsDone (Gets (core_of self.old) at v part) (core_of self.old) (core_of self.new))) }
+        ensures gets { OnOk result (AtPass (core_of self.old) at (λ v.
+            IsDone (Gets (core_of self.old) at v part) (core_of self.old)
+            (core_of self.new))) }
         ensures shards { OnOk result (self.new.shards ≡ self.old.shards) }
     {
         let Some(content) = &self.slots[index] else {

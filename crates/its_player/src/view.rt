@@ -93,7 +93,10 @@ impl View {
     /// A note of what was seen.
     pub fn note(alloc: Global, seen: Vec<Entry>) -> View
         ensures standing { result.standing ≡ standing.Note }
-        ensures note { (s : Setup) → known s result ≡ record (world.fresh s 0 0 seen.items world.first_word) { standing = standing.Note } }
+        ensures note { (s : Setup) →
+            known s result
+            ≡ record (world.fresh s 0 0 seen.items world.first_word)
+            { standing = standing.Note } }
     {
         let mut note = View::fresh(alloc, 0, 0, seen, FIRST_WORD);
         note.standing = Standing::Note;
@@ -161,7 +164,8 @@ impl View {
 
     /// The root takes back a pass that holds nothing.
     pub fn join(&mut self, other: View) -> Result<(), AllocError>
-        ensures { OnOk result ((s : Setup) → known s self.new ≡ world.has_joined (known s self.old) (known s other)) }
+        ensures { OnOk result ((s : Setup) →
+            known s self.new ≡ world.has_joined (known s self.old) (known s other)) }
     {
         self.root.ended.push_front((other.number, other.mine))?;
         if self.last.place < other.last.place {
@@ -182,7 +186,8 @@ impl View {
 
     /// The pass tries the turn of a part that another has.
     pub fn miss(&mut self, part: Part, found: u64) -> Result<(), AllocError>
-        ensures { OnOk result ((s : Setup) → known s self.new ≡ world.missed (known s self.old) part found) }
+        ensures { OnOk result
+            ((s : Setup) → known s self.new ≡ world.missed (known s self.old) part found) }
     {
         self.tries.lost = self.tries.lost.checked_add(1).ok_or(AllocError)?;
         self.tries.met = (part, found);
@@ -191,7 +196,8 @@ impl View {
 
     /// The pass gets the turn of a part that has this in its slot.
     pub fn get(&mut self, alloc: Global, part: Part, content: Content) -> Result<(), AllocError>
-        ensures { OnOk result ((s : Setup) → known s self.new ≡ world.got (known s self.old) part (content_of content)) }
+        ensures { OnOk result ((s : Setup) →
+            known s self.new ≡ world.got (known s self.old) part (content_of content)) }
     {
         self.cache.get(alloc, part, &content, self.last)?;
         self.tries.won.push_front(part)?;

@@ -12,8 +12,8 @@ use plain_machine::State;
 use std::alloc::{AllocError, Global};
 use std::marker::Model;
 
-/// A machine that passes share, what each of them knows, and the history of their calls. Each world is good: its history
-/// is the plain machine's, and each part is as that history leaves it.
+/// A machine that passes share, what each of them knows, and the history of their calls. Each world
+/// is good: its history is the plain machine's, and each part is as that history leaves it.
 #[derive(Drop)]
 pub struct World {
     shared: Shared,
@@ -37,8 +37,8 @@ impl Model for World {
 }
 
 impl World {
-    /// The world before any step: word (0, 0), no history, each part home as the first state has it, empty shards, and
-    /// the root alone. Each translator's cache has `shards` shards.
+    /// The world before any step: word (0, 0), no history, each part home as the first state has
+    /// it, empty shards, and the root alone. Each translator's cache has `shards` shards.
     pub fn new(
         alloc: Global,
         start: State,
@@ -47,15 +47,16 @@ impl World {
     ) -> Result<World, AllocError>
         requires sound { IsSound start }
         requires some { 1 ≤ shards }
-        ensures { IfOk result (λ w. w ≡ spec.first_core (record { start = start; limits = limits; shards = shards })) }
+        ensures { IfOk result (λ w.
+            w ≡ spec.first_core (record { start = start; limits = limits; shards = shards })) }
     {
         Ok(World {
             shared: Shared::new(alloc, start, limits, shards)?,
         })
     }
 
-    /// One event. One that isn't allowed leaves the world as it is. At want of memory the world is dropped; so it is
-    /// where a count of lost tries is at its end.
+    /// One event. One that isn't allowed leaves the world as it is. At want of memory the world is
+    /// dropped; so it is where a count of lost tries is at its end.
     pub fn step(self, alloc: Global, event: &Event) -> Result<World, AllocError>
         ensures steps { IfOk result (λ w. spec.IsStep self event.now w) }
         ensures good { IfOk result spec.IsGoodCore }
@@ -91,7 +92,8 @@ impl World {
 
     /// The word that the pass of a number read last, if there is the pass.
     pub fn last(&self, pass: u32) -> Option<Word>
-        ensures { MatchOption result ((i : ℕ) (v : View) → ¬ spec.IsAt self.now pass i v) (λ word. (i : ℕ) × (v : View) × spec.IsAt self.now pass i v × (v.last ≡ word)) }
+        ensures { MatchOption result ((i : ℕ) (v : View) → ¬ spec.IsAt self.now pass i v) (λ word.
+            (i : ℕ) × (v : View) × spec.IsAt self.now pass i v × (v.last ≡ word)) }
     {
         let Some(at) = find_pass(&self.shared.views, pass) else {
             return None;

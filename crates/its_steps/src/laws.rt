@@ -1,4 +1,5 @@
-//! What each kind of step keeps, what a good world tells, and when a call may be committed. Nothing here runs.
+//! What each kind of step keeps, what a good world tells, and when a call may be committed. Nothing
+//! here runs.
 
 ghost use Rattle.its_steps.specs.Calls as calls;
 ghost use Rattle.its_steps.specs.Endings as endings;
@@ -12,9 +13,9 @@ pub fn first_is_good()
     ensures { laws.FirstIsGood }
 {}
 
-/// Each step of a pass, or two of them in one, leads from a good world to a good world: it reads the word; it tries a
-/// turn, and gets it or not; it takes a value out of its slot, puts it home, and gives the turn back; it commits a
-/// call. What it holds may be in another order.
+/// Each step of a pass, or two of them in one, leads from a good world to a good world: it reads
+/// the word; it tries a turn, and gets it or not; it takes a value out of its slot, puts it home,
+/// and gives the turn back; it commits a call. What it holds may be in another order.
 pub fn passes_keep()
     ensures load { laws.LoadKeeps }
     ensures try_part { laws.TryKeeps }
@@ -46,8 +47,9 @@ pub fn runs_keep()
     ensures { steps.RunsKeep }
 {}
 
-/// What a good world tells: a pass that has read the word as it is has seen the whole history; numbers have a bound; a
-/// pass holds the parts whose turns have its number; the root knows of all passes, and alone of the whole world.
+/// What a good world tells: a pass that has read the word as it is has seen the whole history;
+/// numbers have a bound; a pass holds the parts whose turns have its number; the root knows of all
+/// passes, and alone of the whole world.
 pub fn worlds_tell()
     ensures reader { laws.ReaderHasSeen }
     ensures numbers { laws.NumbersAreBounded }
@@ -55,8 +57,9 @@ pub fn worlds_tell()
     ensures root { laws.RootKnowsAll }
 {}
 
-/// What is so of every machine: a history leaves a state of it; each part has an index of its own, and a slot at first;
-/// what is found in a shard stands in one of its ways; and each translator has a stamp of its own in the word's.
+/// What is so of every machine: a history leaves a state of it; each part has an index of its own,
+/// and a slot at first; what is found in a shard stands in one of its ways; and each translator has
+/// a stamp of its own in the word's.
 pub fn machines_tell()
     ensures histories { facts.HistoriesStayInMachine }
     ensures below { facts.IndexesAreBelow }
@@ -67,22 +70,23 @@ pub fn machines_tell()
     ensures stamps { facts.StampsAreApart }
 {}
 
-/// A pass that holds the parts that a call reads or changes, or a cached translation in place of the maps, may commit
-/// the call, whatever the other parts have.
+/// A pass that holds the parts that a call reads or changes, or a cached translation in place of
+/// the maps, may commit the call, whatever the other parts have.
 pub fn holders_may_commit()
     ensures { laws.HoldersMayCommit }
 {}
 
-/// What may be committed in a state of the machine that has what is held may be committed, and leaves what it leaves
-/// there. Where what is held is right in a state, the state has it.
+/// What may be committed in a state of the machine that has what is held may be committed, and
+/// leaves what it leaves there. Where what is held is right in a state, the state has it.
 pub fn states_may_commit()
     ensures state { states.StateMayCommit }
     ensures right { states.RightIsHad }
     ensures assembled { facts.AssembledHas }
 {}
 
-/// Which translations a call may end, in any state; two states that agree on its footprint end the same, and the reply
-/// of a step tells what it ends. Where each translation that ends has left its shard, all others go on.
+/// Which translations a call may end, in any state; two states that agree on its footprint end the
+/// same, and the reply of a step tells what it ends. Where each translation that ends has left its
+/// shard, all others go on.
 pub fn endings_tell()
     ensures all { endings.EndingsAreAll }
     ensures alike { endings.EndingsAreAlike }
@@ -90,8 +94,8 @@ pub fn endings_tell()
     ensures dropped { endings.EndingsAreDropped }
 {}
 
-/// What the stamp and the shards are after a call, by what it ends: nothing, one pair, or all; and where the stamp was
-/// the last one.
+/// What the stamp and the shards are after a call, by what it ends: nothing, one pair, or all; and
+/// where the stamp was the last one.
 pub fn endings_and_stamps()
     ensures nothing { states.NothingEnds }
     ensures pair { states.PairEnds }
@@ -99,7 +103,8 @@ pub fn endings_and_stamps()
     ensures last { states.AllEndAtLast }
 {}
 
-/// A call that writes no register of a translator and takes no command leaves where messages go as it was, and the stamp may stay.
+/// A call that writes no register of a translator and takes no command leaves where messages go as
+/// it was, and the stamp may stay.
 pub fn calm_calls_may_commit()
     ensures state { states.CalmInState }
     ensures steady { calls.CalmCallsAreSteady }

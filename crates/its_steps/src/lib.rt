@@ -1,5 +1,5 @@
-//! The pure interleaving core: worlds of passes that share a machine, and the steps from one to the next. Nothing here
-//! runs.
+//! The pure interleaving core: worlds of passes that share a machine, and the steps from one to the
+//! next. Nothing here runs.
 #![tactic(auto)]
 
 mod change;

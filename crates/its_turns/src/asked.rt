@@ -11,8 +11,8 @@ impl Machine {
     ghost use Rattle.its_steps.specs.Parts.{Stands, vcpu_count};
     ghost use Rattle.its_turns.specs.Machines.{setup};
 
-    /// What the machine was made from, without the bytes that were put into memory and the registers that it was
-    /// restored with.
+    /// What the machine was made from, without the bytes that were put into memory and the
+    /// registers that it was restored with.
     pub fn desc(&self) -> &Desc
         ensures desc { result.now ≡ self.now.desc }
         ensures limits { result.now.limits ≡ (setup self.now).limits }

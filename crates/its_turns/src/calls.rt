@@ -31,8 +31,8 @@ pub fn begin(machine: &Machine, pass: &mut Pass) -> Result<Word, Spent>
     }
 }
 
-/// Loads the word, and tries once to make a call that leaves the stamp as it is. Answers the word that it found, whose
-/// place is the call's.
+/// Loads the word, and tries once to make a call that leaves the stamp as it is. Answers the word
+/// that it found, whose place is the call's.
 pub fn try_commit<G: Gate>(
     machine: &Machine,
     pass: &mut Pass,
@@ -42,9 +42,12 @@ pub fn try_commit<G: Gate>(
     change: ShardChange,
 ) -> Result<Word, Lost>
     requires of { IsOf machine.now pass.old }
-    requires may { (w : Word) → w.place < (setup machine.now).limits.place_last → MayCall (setup machine.now) (staying w call.now reply.now change) (view pass.old).held }
+    requires may { (w : Word) → w.place < (setup machine.now).limits.place_last →
+        MayCall (setup machine.now) (staying w call.now reply.now change) (view pass.old).held }
     ensures of { IsOf machine.now pass.new }
-    ensures result { MatchResult result (λ w. Makes (view pass.old) (staying w call.now reply.now change) (view pass.new)) (λ l. IsLost (view pass.old) l (view pass.new)) }
+    ensures result { MatchResult result
+        (λ w. Makes (view pass.old) (staying w call.now reply.now change) (view pass.new))
+        (λ l. IsLost (view pass.old) l (view pass.new)) }
 {
     let Ok(word) = begin(machine, pass) else {
         return Err(Lost::Spent);

@@ -66,7 +66,8 @@ fn exchange<A: Announces>(
     requires new { unpacked new ≡ word_after commit.now }
     requires may { MayCall (setup machine.now) commit.now (view pass.old).held }
     ensures of { IsOf machine.now pass.new }
-    ensures tells { committing commit.now (step machine.now.table.shared.table_id.slots 0 old new none) pass.old.seat.me result pass.new.seat.me }
+    ensures tells { committing commit.now (step machine.now.table.shared.table_id.slots 0 old new none)
+        pass.old.seat.me result pass.new.seat.me }
 {
     machine
         .table

@@ -15,7 +15,8 @@ use its_types::Vcpu;
 use owned_parts::Parts;
 use std::alloc::Global;
 
-/// The parts, as all calls leave them. No pass but the root is out, and that holds nothing. Takes no memory.
+/// The parts, as all calls leave them. No pass but the root is out, and that holds nothing. Takes
+/// no memory.
 pub fn close(machine: Machine, root: Root) -> Parts
     requires of { IsOf machine root }
     requires free { (view root).held ≡ [] }

@@ -1,7 +1,8 @@
 //! The rule of the table of words and slots, and what its steps tell.
 ghost use Rattle.its_types.specs.declared.machine.Part.{Part};
 ghost use Rattle.its_types.specs.declared.machine.Part.TheVariants as part;
-ghost use Rattle.its_steps.specs.World.{first_view, split_off, has_split, has_joined, note_of, has_met, spent};
+ghost use Rattle.its_steps.specs.World.{first_view, split_off, has_split, has_joined, note_of};
+ghost use Rattle.its_steps.specs.World.{has_met, spent};
 ghost use Rattle.its_turns.specs.Rule.{setup_of, Kept};
 ghost use Rattle.its_turns.specs.Told.{looking, turning, trying, releasing, committing, no_commit};
 ghost use Rattle.its_steps.specs.declared.commit.Commit.{Commit};

@@ -1,5 +1,6 @@
-//! The machine that threads share: each part has a turn, which one pass has or none, and a slot, which its value leaves
-//! while a pass works on it. A call takes effect at a compare-and-exchange of one word.
+//! The machine that threads share: each part has a turn, which one pass has or none, and a slot,
+//! which its value leaves while a pass works on it. A call takes effect at a compare-and-exchange
+//! of one word.
 #![tactic(auto)]
 
 mod asked;

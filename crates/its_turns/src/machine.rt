@@ -1,5 +1,6 @@
 //! The machine and its passes.
-ghost use Rattle.std.specs.Prelude.{◌≡◌, ◌+◌, ◌*◌, ◌^◌, ◌<◌, ◌≤◌, true, [], None, replicate, length};
+ghost use Rattle.std.specs.Prelude.{◌≡◌, ◌+◌, ◌*◌, ◌^◌, ◌<◌, ◌≤◌, true, [], None, replicate};
+ghost use Rattle.std.specs.Prelude.{length};
 ghost use Rattle.its_steps.specs.Parts.{part_count, translator_count, vcpu_count};
 ghost use Rattle.its_steps.specs.Parts.{HasVcpus};
 ghost use Rattle.its_steps.specs.declared.standing.Standing.TheVariants as standing;
@@ -15,7 +16,8 @@ use its_plain::{Desc, Layout};
 use lpi_pending::Redists;
 use std::alloc::Global;
 
-/// A machine that threads share: the word that commits exchange, and for each part a turn and a slot.
+/// A machine that threads share: the word that commits exchange, and for each part a turn and a
+/// slot.
 #[derive(Drop)]
 pub struct Machine {
     pub(crate) table: Table<Value, Known, Plan, Law, Global>,

@@ -1,5 +1,6 @@
 //! How a machine is made.
-ghost use Rattle.std.specs.Prelude.{◌≡◌, ◌+◌, ◌^◌, ◌<◌, ◌≤◌, ◌++◌, ◌∷◌, replicate, length, IfOk, OnOk};
+ghost use Rattle.std.specs.Prelude.{◌≡◌, ◌+◌, ◌^◌, ◌<◌, ◌≤◌, ◌++◌, ◌∷◌, replicate, length, IfOk};
+ghost use Rattle.std.specs.Prelude.{OnOk};
 ghost use Rattle.owned_parts.specs.Owned.{AreAllInHand};
 ghost use Rattle.its_plain.specs.Machine.{layout_of};
 ghost use Rattle.its_plain.specs.Sound.{IsSound};
@@ -21,8 +22,8 @@ use std::snapshot::Snapshot;
 use xlate_cache::Shard;
 
 impl Machine {
-    /// A machine with an empty history, stamp and place at 0 and every part at home, and its root. The shards are
-    /// empty. Where memory runs out the parts are dropped.
+    /// A machine with an empty history, stamp and place at 0 and every part at home, and its root.
+    /// The shards are empty. Where memory runs out the parts are dropped.
     pub fn new(alloc: Global, desc: &Desc, parts: Parts) -> Result<(Machine, Root), AllocError>
         requires some_shards { 1 ≤ desc.now.shards }
         requires most_shards { desc.now.shards ≤ 64 }

@@ -34,13 +34,15 @@ impl Pass {
         self.out
     }
 
-    /// Of the root: a new pass, which has seen all that the root has. Passes are numbered 1, 2, .. as they are split off.
+    /// Of the root: a new pass, which has seen all that the root has. Passes are numbered 1, 2, ..
+    /// as they are split off.
     pub fn split(&mut self, machine: &Machine) -> Pass
         requires of { IsOf machine.now self.old }
         requires root { (view self.old).number ≡ 0 }
         requires few { (view self.old).root.made < 2 ^ 32 }
         ensures of { IsOf machine.now self.new × IsOf machine.now result }
-        ensures views { (before : View) × (w : Word) × Looks (view self.old) w before × (view self.new ≡ has_split before) × (view result ≡ split_off before) }
+        ensures views { (before : View) × (w : Word) × Looks (view self.old) w before ×
+            (view self.new ≡ has_split before) × (view result ≡ split_off before) }
     {
         look(machine, self);
         let number = self.made as u32;
@@ -61,7 +63,8 @@ impl Pass {
         requires free { (view pass).held ≡ [] }
         ensures of { IsOf machine.now self.new }
         ensures view { (w : Word) × Looks (has_joined (view self.old) (view pass)) w (view self.new) }
-        ensures seen { IsPrefix (view self.old).seen (view self.new).seen × IsPrefix (view pass).seen (view self.new).seen }
+        ensures seen { IsPrefix (view self.old).seen (view self.new).seen ×
+            IsPrefix (view pass).seen (view self.new).seen }
     {
         let Pass { seat, .. } = pass;
         machine
@@ -90,7 +93,8 @@ pub fn meet(machine: &Machine, pass: &mut Pass, note: Note)
     requires of { IsOf machine.now pass.old × IsNoteOf machine.now note }
     ensures of { IsOf machine.now pass.new }
     ensures view { (w : Word) × Looks (has_met (view pass.old) (known note)) w (view pass.new) }
-    ensures seen { IsPrefix (view pass.old).seen (view pass.new).seen × IsPrefix (known note).seen (view pass.new).seen }
+    ensures seen { IsPrefix (view pass.old).seen (view pass.new).seen ×
+        IsPrefix (known note).seen (view pass.new).seen }
 {
     let Note { seat } = note;
     machine

@@ -43,7 +43,8 @@ fn try_turn<A: Chooses>(
     requires low { at < 2048 }
     requires number { seat.old.me.0.number + 1 ≡ number }
     ensures of { seat.new.table_id ≡ seat.old.table_id }
-    ensures tries { trying part (step machine.now.table.shared.table_id.slots (16 * (at + 1)) 0 number none) seat.old.me result seat.new.me }
+    ensures tries { trying part (step machine.now.table.shared.table_id.slots (16 * (at + 1)) 0 number none)
+        seat.old.me result seat.new.me }
 {
     machine
         .table
@@ -57,7 +58,8 @@ pub fn try_take(machine: &Machine, pass: &mut Pass, part: Part) -> Result<Value,
     requires stands { Stands (setup machine.now) part }
     requires free { ¬ Holds part (view pass.old).held }
     ensures of { IsOf machine.now pass.new }
-    ensures result { MatchResult result (λ x. Takes (view pass.old) part x (view pass.new)) (λ b. IsBusy (view pass.old) part b (view pass.new)) }
+    ensures result { MatchResult result (λ x. Takes (view pass.old) part x (view pass.new)) (λ b.
+        IsBusy (view pass.old) part b (view pass.new)) }
 {
     let at = machine.index(part);
     let number = u64::from(pass.number) + 1;

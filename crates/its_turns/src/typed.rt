@@ -22,7 +22,9 @@ pub fn try_take_maps(machine: &Machine, pass: &mut Pass, its: u8) -> Result<Box<
     requires stands { its < translator_count (setup machine.now) }
     requires free { ¬ Holds (part.Maps its) (view pass.old).held }
     ensures of { IsOf machine.now pass.new }
-    ensures result { MatchResult result (λ x. TakesPart (view pass.old) (part.Maps its) (content.Maps (translator_of x.value)) (view pass.new)) (λ b. IsBusy (view pass.old) (part.Maps its) b (view pass.new)) }
+    ensures result { MatchResult result
+        (λ x. TakesPart (view pass.old) (part.Maps its) (content.Maps (translator_of x.value)) (view pass.new))
+        (λ b. IsBusy (view pass.old) (part.Maps its) b (view pass.new)) }
 {
     match try_take(machine, pass, Part::Maps(its)) {
         Ok(Value::Maps(tables)) => Ok(tables),
@@ -36,7 +38,9 @@ pub fn try_take_memory(machine: &Machine, pass: &mut Pass) -> Result<Box<GuestMe
     requires of { IsOf machine.now pass.old }
     requires free { ¬ Holds part.Mem (view pass.old).held }
     ensures of { IsOf machine.now pass.new }
-    ensures result { MatchResult result (λ x. TakesPart (view pass.old) part.Mem (content.Mem x.value.memory) (view pass.new)) (λ b. IsBusy (view pass.old) part.Mem b (view pass.new)) }
+    ensures result { MatchResult result
+        (λ x. TakesPart (view pass.old) part.Mem (content.Mem x.value.memory) (view pass.new))
+        (λ b. IsBusy (view pass.old) part.Mem b (view pass.new)) }
 {
     match try_take(machine, pass, Part::Mem) {
         Ok(Value::Mem(memory)) => Ok(memory),
@@ -56,7 +60,9 @@ pub fn try_take_shard(
     requires stands { Stands (setup machine.now) (part.Shard its number) }
     requires free { ¬ Holds (part.Shard its number) (view pass.old).held }
     ensures of { IsOf machine.now pass.new }
-    ensures result { MatchResult result (λ x. TakesPart (view pass.old) (part.Shard its number) (content.Shard x) (view pass.new)) (λ b. IsBusy (view pass.old) (part.Shard its number) b (view pass.new)) }
+    ensures result { MatchResult result
+        (λ x. TakesPart (view pass.old) (part.Shard its number) (content.Shard x) (view pass.new))
+        (λ b. IsBusy (view pass.old) (part.Shard its number) b (view pass.new)) }
 {
     match try_take(machine, pass, Part::Shard(its, number)) {
         Ok(Value::Shard(shard)) => Ok(shard),
@@ -71,7 +77,9 @@ pub fn try_take_redist(machine: &Machine, pass: &mut Pass, vcpu: Vcpu) -> Result
     requires stands { vcpu.0 < vcpu_count (setup machine.now) }
     requires free { ¬ Holds (part.Redist vcpu) (view pass.old).held }
     ensures of { IsOf machine.now pass.new }
-    ensures result { MatchResult result (λ x. TakesPart (view pass.old) (part.Redist vcpu) (content.Redist (redistributor_of x.value)) (view pass.new) × HasLpisOf (setup machine.now).start.layout.shape x.value) (λ b. IsBusy (view pass.old) (part.Redist vcpu) b (view pass.new)) }
+    ensures result { MatchResult result
+        (λ x. TakesPart (view pass.old) (part.Redist vcpu) (content.Redist (redistributor_of x.value)) (view pass.new) × HasLpisOf (setup machine.now).start.layout.shape x.value)
+        (λ b. IsBusy (view pass.old) (part.Redist vcpu) b (view pass.new)) }
 {
     match try_take(machine, pass, Part::Redist(vcpu)) {
         Ok(Value::Redist(redist)) => Ok(redist),

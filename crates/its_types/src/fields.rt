@@ -19,7 +19,8 @@ pub fn le_u64(bytes: &[u8], at: usize) -> u64
     LittleEndian::read_u64(&bytes[at..])
 }
 
-/// Writes a number's eight bytes from index `at` on, least significant byte first, and no other byte.
+/// Writes a number's eight bytes from index `at` on, least significant byte first, and no other
+/// byte.
 pub fn put_le_u64(bytes: &mut [u8], at: usize, value: u64)
     requires { at + 8 ≤ length bytes.old }
     ensures { bytes.new ≡ take at bytes.old ++ little_bytes 8 value ++ drop (at + 8) bytes.old }

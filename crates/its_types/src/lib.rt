@@ -1,4 +1,5 @@
-//! The small types that every part of the translator speaks of, and fields of little-endian numbers.
+//! The small types that every part of the translator speaks of, and fields of little-endian
+//! numbers.
 #![tactic(auto)]
 
 mod bits;

@@ -1,7 +1,7 @@
 use crate::ids::{FIRST_LPI, Vcpu};
 
-/// The word that every commit exchanges: the stamp of cached translations, and the place in the history that the next
-/// call gets.
+/// The word that every commit exchanges: the stamp of cached translations, and the place in the
+/// history that the next call gets.
 #[derive(Clone, Copy, Debug, PartialEq, Eq)]
 pub struct Word {
     pub stamp: u32,

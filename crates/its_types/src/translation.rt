@@ -3,8 +3,8 @@ ghost use Rattle.its_types.specs.Lpis as spec;
 
 use crate::ids::{Addr, Icid, Intid};
 
-/// What a device is mapped to: where its interrupt translation table stands, and how many bits its EventIDs have
-/// (IHI 0069, section 5.2.3).
+/// What a device is mapped to: where its interrupt translation table stands, and how many bits its
+/// EventIDs have (IHI 0069, section 5.2.3).
 #[derive(Clone, Copy, Debug, PartialEq, Eq)]
 pub struct Device {
     /// A multiple of 256.
@@ -13,15 +13,16 @@ pub struct Device {
     pub bits: u8,
 }
 
-/// What an event is mapped to: its interrupt, and the collection that says where that goes (IHI 0069, section 5.2.4).
+/// What an event is mapped to: its interrupt, and the collection that says where that goes (IHI
+/// 0069, section 5.2.4).
 #[derive(Clone, Copy, Debug, PartialEq, Eq)]
 pub struct Event {
     pub intid: Intid,
     pub icid: Icid,
 }
 
-/// GICR_PROPBASER with its kept bits: where the LPI configuration table stands (IHI 0069, section 12.11). Where a guest
-/// has no such register, the table that its machine's description gives.
+/// GICR_PROPBASER with its kept bits: where the LPI configuration table stands (IHI 0069, section
+/// 12.11). Where a guest has no such register, the table that its machine's description gives.
 #[derive(Clone, Copy, Debug, PartialEq, Eq)]
 pub struct Propbaser {
     /// As the guest writes it a multiple of 4096 below 2^52.
@@ -30,8 +31,8 @@ pub struct Propbaser {
     pub id_bits: u8,
 }
 
-/// GICR_PENDBASER with its kept bits: where the LPI pending table stands (IHI 0069, section 12.11). Where a guest has no
-/// such register, the table that its machine's description gives.
+/// GICR_PENDBASER with its kept bits: where the LPI pending table stands (IHI 0069, section 12.11).
+/// Where a guest has no such register, the table that its machine's description gives.
 #[derive(Clone, Copy, Debug, PartialEq, Eq)]
 pub struct Pendbaser {
     /// As the guest writes it a multiple of 65536 below 2^52.
@@ -40,7 +41,8 @@ pub struct Pendbaser {
     pub ptz: bool,
 }
 
-/// Whether a redistributor's LPIs are on, and where its tables stand (IHI 0069, sections 5.1.1 and 5.1.2).
+/// Whether a redistributor's LPIs are on, and where its tables stand (IHI 0069, sections 5.1.1 and
+/// 5.1.2).
 #[derive(Clone, Copy, Debug, PartialEq, Eq)]
 pub struct Bases {
     /// EnableLPIs of GICR_CTLR.

@@ -1,4 +1,5 @@
-ghost use Rattle.std.specs.Prelude.{◌≡◌, ◌+◌, ◌*◌, ◌/◌, ◌<◌, ◌≤◌, ℕ, true, Some, IfOk, unwrap_or, length};
+ghost use Rattle.std.specs.Prelude.{◌≡◌, ◌+◌, ◌*◌, ◌/◌, ◌<◌, ◌≤◌, ℕ, true, Some, IfOk, unwrap_or};
+ghost use Rattle.std.specs.Prelude.{length};
 ghost use Rattle.its_types.specs.Bits.{bit_of};
 ghost use Rattle.its_types.specs.Ranges.{is_lpi, lpi_count};
 ghost use Rattle.its_types.specs.Lpis.{config_byte, with_config_byte, is_enabled};
@@ -12,7 +13,8 @@ use its_types::{Addr, Intid};
 use std::alloc::{AllocError, Global};
 use std::marker::Model;
 
-/// The LPI configuration that a redistributor has read (IHI 0069, section 5.1.1), seen as its bytes.
+/// The LPI configuration that a redistributor has read (IHI 0069, section 5.1.1), seen as its
+/// bytes.
 #[derive(Drop)]
 pub struct Config {
     lpi_bits: u8,
@@ -34,7 +36,8 @@ impl Model for Config {
 }
 
 impl Config {
-    /// Reads the configuration table that begins at an address: the bytes of all LPIs. An LPI's INTID has 14 to 20 bits.
+    /// Reads the configuration table that begins at an address: the bytes of all LPIs. An LPI's
+    /// INTID has 14 to 20 bits.
     pub fn load(
         alloc: Global,
         memory: &Memory,
@@ -52,7 +55,8 @@ impl Config {
         Ok(config)
     }
 
-    /// The configuration of a redistributor whose LPIs are off: all bytes zero. An LPI's INTID has 14 to 20 bits.
+    /// The configuration of a redistributor whose LPIs are off: all bytes zero. An LPI's INTID has
+    /// 14 to 20 bits.
     pub fn zeros(alloc: Global, lpi_bits: u8) -> Result<Config, AllocError>
         requires low { 14 ≤ lpi_bits }
         requires high { lpi_bits ≤ 20 }
@@ -66,8 +70,8 @@ impl Config {
         })
     }
 
-    /// Reads the configuration table that begins at an address, in place of the bytes of all LPIs. Where it doesn't lie in
-    /// one window nothing changes.
+    /// Reads the configuration table that begins at an address, in place of the bytes of all LPIs.
+    /// Where it doesn't lie in one window nothing changes.
     pub fn read_table(&mut self, memory: &Memory, base: Addr)
         ensures { let read = read_at memory.now base.0 (lpi_count self.old.lpi_bits) in
             self.new ≡ record self.old { bytes = unwrap_or read self.old.bytes } }

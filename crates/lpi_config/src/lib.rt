@@ -1,4 +1,5 @@
-//! The LPI configuration of a redistributor: a byte for each LPI, and a bitmap of those that are enabled.
+//! The LPI configuration of a redistributor: a byte for each LPI, and a bitmap of those that are
+//! enabled.
 #![tactic(auto)]
 
 mod bitmap;

@@ -1,4 +1,5 @@
-ghost use Rattle.std.specs.Prelude.{◌≡◌, ◌+◌, ◌*◌, ◌/◌, ◌<◌, ◌≤◌, ◌^◌, ℕ, true, List, ◌||◌, IfOk, MatchOption, length, replicate, slice_index, slice_set, bit_or};
+ghost use Rattle.std.specs.Prelude.{◌≡◌, ◌+◌, ◌*◌, ◌/◌, ◌<◌, ◌≤◌, ◌^◌, ℕ, true, List, ◌||◌, IfOk};
+ghost use Rattle.std.specs.Prelude.{MatchOption, length, replicate, slice_index, slice_set, bit_or};
 ghost use Rattle.guest_windows.specs.Windows.{inside};
 ghost use Rattle.its_types.specs.Ranges.{lpi_count};
 ghost use Rattle.its_types.specs.Bits.{bit_of};
@@ -16,7 +17,8 @@ use std::alloc::{AllocError, Global};
 use std::marker::Model;
 use std::sync::ledger::Ledger;
 
-// A bit for each LPI, the first LPI's at bit 0 of the first word, and a summary of the words. It is seen as the words.
+// A bit for each LPI, the first LPI's at bit 0 of the first word, and a summary of the words. It is
+// seen as the words.
 #[derive(Drop)]
 pub struct Bitmap {
     words: Vec<u64>,
@@ -67,7 +69,8 @@ impl Bitmap {
         requires inside { inside memory.now first.0 (8 * length self.old) ≡ true }
         requires low { first.0 + 8 * length self.old ≤ 2 ^ 52 }
         ensures size { length self.new ≡ length self.old }
-        ensures bits { (k : ℕ) → k < 64 * length self.old → word_bit self.new k ≡ table_bit memory.now first.0 k }
+        ensures bits { (k : ℕ) → k < 64 * length self.old →
+            word_bit self.new k ≡ table_bit memory.now first.0 k }
     {
         for at in 0..self.words.len() {
             let Ok(word) = memory.read_u64(Addr(first.0 + 8 * at as u64)) else {
@@ -125,12 +128,14 @@ impl Bitmap {
         move_words(&mut self.summary, &mut to.summary);
     }
 
-    // The first bit that is 1 and whose LPI is enabled. A step is a word looked at: each word of the summary counts once,
-    // though four of them are loaded at a time, and each word that the summary leads to.
+    // The first bit that is 1 and whose LPI is enabled. A step is a word looked at: each word of
+    // the summary counts once, though four of them are loaded at a time, and each word that the
+    // summary leads to.
     pub fn first_ready<L: Ledger>(&self, config: &Config, steps: &mut Steps<L>) -> Option<usize>
         requires { 64 * length self.now ≡ lpi_count config.now.lpi_bits }
         ensures found { FirstIn (is_ready self.now config.now.bytes) 0 (64 * length self.now) result }
-        ensures cost { steps.new ≤ steps.old + length self.now / 64 + count_in (is_used self.now) 0 (length self.now) }
+        ensures cost { steps.new ≤ steps.old + length self.now / 64 + count_in (is_used self.now) 0
+            (length self.now) }
         ensures words { (k : ℕ) → slice_index self.now k < 2 ^ 64 }
     {
         let words: &[u64] = &self.words;
@@ -180,7 +185,8 @@ fn first_in_group<L: Ledger>(
 fn first_in_word(word: u64, config: &Config, at: usize) -> Option<usize>
     requires within { 64 * at < lpi_count config.now.lpi_bits }
     requires small { at < 65536 }
-    ensures { (words : List ℕ) → slice_index words at ≡ word → FirstIn (is_ready words config.now.bytes) (64 * at) (64 * at + 64) result }
+    ensures { (words : List ℕ) → slice_index words at ≡ word →
+        FirstIn (is_ready words config.now.bytes) (64 * at) (64 * at + 64) result }
 {
     let ready = word & config.enabled_word(at);
     if ready == 0 {

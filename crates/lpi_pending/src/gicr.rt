@@ -1,4 +1,5 @@
-//! The LPI registers of a redistributor, and what their writes make it read (IHI 0069, section 12.11).
+//! The LPI registers of a redistributor, and what their writes make it read (IHI 0069, section
+//! 12.11).
 ghost use Rattle.std.specs.Prelude.{◌≡◌};
 ghost use Rattle.gicr_regs.specs.Registers.{AreLow};
 ghost use Rattle.gicr_regs.specs.Registers as spec;
@@ -9,8 +10,8 @@ use gicr_regs::{GicrWrite, asked_by, read_gicr};
 use guest_windows::Memory;
 use its_types::{Addr, Bases, FIRST_LPI, Intid, Shape};
 
-/// A read of `size` bytes at an offset of a redistributor's LPI registers: of 8 bytes a base, of 4 GICR_CTLR or half of a
-/// base. Everything else reads zero, as Pending Table Zero does.
+/// A read of `size` bytes at an offset of a redistributor's LPI registers: of 8 bytes a base, of 4
+/// GICR_CTLR or half of a base. Everything else reads zero, as Pending Table Zero does.
 pub fn gicr_read(redist: &Redist, off: u32, size: u8) -> u64
     requires { AreLow redist.now.bases }
     ensures { result ≡ spec.read_gicr redist.now.bases off size }
@@ -18,8 +19,9 @@ pub fn gicr_read(redist: &Redist, off: u32, size: u8) -> u64
     read_gicr(&redist.bases, off, size)
 }
 
-/// A write of `size` bytes at an offset of a redistributor's LPI registers: what it asks for (`asked_by`) is done. Where LPIs
-/// are turned on, the configuration is read, and the pending bits unless Pending Table Zero is set.
+/// A write of `size` bytes at an offset of a redistributor's LPI registers: what it asks for
+/// (`asked_by`) is done. Where LPIs are turned on, the configuration is read, and the pending bits
+/// unless Pending Table Zero is set.
 #[tactic(auto, unfolding(gicr_regs::specs::Registers::written_gicr, gicr_regs::specs::Registers::done_by))]
 pub fn gicr_write(
     redist: &mut Redist,

@@ -1,4 +1,5 @@
-ghost use Rattle.std.specs.Prelude.{◌≡◌, ◌+◌, ◌*◌, ◌<◌, ◌≤◌, ◌^◌, ◌-◌, ◌/◌, ◌%◌, ◌==◌, if◌then◌else◌, ℕ, true, IfOk, IfSome, All, map};
+ghost use Rattle.std.specs.Prelude.{◌≡◌, ◌+◌, ◌*◌, ◌<◌, ◌≤◌, ◌^◌, ◌-◌, ◌/◌, ◌%◌, ◌==◌};
+ghost use Rattle.std.specs.Prelude.{if◌then◌else◌, ℕ, true, IfOk, IfSome, All, map};
 ghost use Rattle.std.specs.Option.{option_map};
 ghost use Rattle.std.specs.List.Sorted.{IsStrictlyIncreasing};
 ghost use Rattle.guest_windows.specs.Windows.{inside};
@@ -17,7 +18,8 @@ use std::alloc::{AllocError, Global};
 use std::marker::{Brand, Model};
 use std::sync::ledger::{Blank, Ledger};
 
-/// The LPIs that are pending at a redistributor (IHI 0069, section 5.1.2), seen as their INTIDs in rising order.
+/// The LPIs that are pending at a redistributor (IHI 0069, section 5.1.2), seen as their INTIDs in
+/// rising order.
 #[derive(Drop)]
 pub struct Pending {
     lpi_bits: u8,
@@ -112,8 +114,9 @@ impl Pending {
         self.first_enabled_in(config, &mut steps)
     }
 
-    /// The lowest LPI that is pending and enabled, and how many words were looked at to find it: each word of the
-    /// summary at most once, and of the words of 64 LPIs none but those that have a pending one.
+    /// The lowest LPI that is pending and enabled, and how many words were looked at to find it:
+    /// each word of the summary at most once, and of the words of 64 LPIs none but those that have
+    /// a pending one.
     pub fn first_enabled_in<L: Ledger>(
         &self,
         config: &Config,
@@ -130,8 +133,8 @@ impl Pending {
         }
     }
 
-    /// The LPIs that are pending, in rising order. Of the words of 64 LPIs none is looked at but those that have a pending
-    /// one.
+    /// The LPIs that are pending, in rising order. Of the words of 64 LPIs none is looked at but
+    /// those that have a pending one.
     pub fn lpis(&self, alloc: Global) -> Result<Vec<Intid>, AllocError>
         ensures { IfOk result (λ lpis. map (λ i. i.0) lpis.items ≡ self.now.lpis) }
     {
@@ -153,8 +156,8 @@ impl Pending {
         self.bitmap.move_to(&mut to.bitmap);
     }
 
-    /// Makes pending what the pending table that begins at an address says, and nothing else. Where it doesn't lie in one
-    /// window nothing changes.
+    /// Makes pending what the pending table that begins at an address says, and nothing else. Where
+    /// it doesn't lie in one window nothing changes.
     pub fn read_table(&mut self, memory: &Memory, base: Addr)
         ensures { let bits = self.old.lpi_bits in
             self.new ≡ (if inside memory.now base.0 (pending_bytes bits)
@@ -165,8 +168,8 @@ impl Pending {
         }
     }
 
-    /// Byte `n` of the pending table, which has the bits of the INTIDs from 8 * `n` on, the lowest at bit 0. The bytes of
-    /// LPIs begin at 1024.
+    /// Byte `n` of the pending table, which has the bits of the INTIDs from 8 * `n` on, the lowest
+    /// at bit 0. The bytes of LPIs begin at 1024.
     pub fn byte(&self, n: u32) -> u8
         requires low { 1024 ≤ n }
         requires high { n < pending_bytes self.now.lpi_bits }
@@ -177,7 +180,8 @@ impl Pending {
         field(self.bitmap.word(at / 8), shift, 8) as u8
     }
 
-    /// Makes pending what byte `n` of the pending table says of its eight INTIDs, and no other of them.
+    /// Makes pending what byte `n` of the pending table says of its eight INTIDs, and no other of
+    /// them.
     pub fn set_byte(&mut self, n: u32, byte: u8)
         requires low { 1024 ≤ n }
         requires high { n < pending_bytes self.old.lpi_bits }

@@ -1,4 +1,5 @@
-ghost use Rattle.std.specs.Prelude.{◌≡◌, ◌<◌, IfOk, Some, None, is_some, true, length, replicate, slice_set};
+ghost use Rattle.std.specs.Prelude.{◌≡◌, ◌<◌, IfOk, Some, None, is_some, true, length, replicate};
+ghost use Rattle.std.specs.Prelude.{slice_set};
 
 use crate::redist::Redist;
 use its_types::Vcpu;
@@ -35,7 +36,8 @@ impl Held {
     }
 }
 
-/// Places for the redistributors of virtual processors 0 to 15. Each holds one, which is then in hand, or is empty.
+/// Places for the redistributors of virtual processors 0 to 15. Each holds one, which is then in
+/// hand, or is empty.
 #[derive(Drop)]
 pub struct Redists {
     places: Vec<Option<Held>>,
@@ -53,7 +55,8 @@ impl Model for Redists {
 }
 
 impl Redists {
-    ghost use Rattle.std.specs.Prelude.{◌≡◌, ◌<◌, IfOk, Some, None, is_some, true, length, replicate, slice_set};
+    ghost use Rattle.std.specs.Prelude.{◌≡◌, ◌<◌, IfOk, Some, None, is_some, true, length};
+    ghost use Rattle.std.specs.Prelude.{replicate, slice_set};
     ghost use Rattle.std.specs.Borrow.{sem};
     ghost use Rattle.lpi_pending.specs.InHand.{in_hand};
     ghost use Rattle.lpi_pending.specs.Lending.{LendsInHand};

@@ -112,8 +112,8 @@ fn redistributors_in_hand(rt: HostRuntime) -> Result<(), Fail> {
     Ok(())
 }
 
-// GICR_PROPBASER, GICR_PENDBASER, a write of its lower half, and then, with LPIs turned on where that can be: GICR_CTLR,
-// whether LPI 8200 is pending, and its configuration.
+// GICR_PROPBASER, GICR_PENDBASER, a write of its lower half, and then, with LPIs turned on where
+// that can be: GICR_CTLR, whether LPI 8200 is pending, and its configuration.
 const ROWS: [(u64, u64, u64, u64, bool, u8); 5] = [
     (0x8003_0000, 0, 0x8006_0000, 1, true, 0xa1),
     (

@@ -16,7 +16,9 @@ use owned_parts::Parts;
 /// The LPI that a virtual processor would acknowledge. Nothing is pending at one that there isn't.
 pub fn show(parts: &Parts, vcpu: Vcpu) -> Ack
     requires { IsMachine parts.now }
-    ensures ack { result ≡ answers.ack_of (plain.redistributor (state_of_parts parts.now) vcpu.0) (answers.lowest (plain.redistributor (state_of_parts parts.now) vcpu.0)) }
+    ensures ack { result
+        ≡ answers.ack_of (plain.redistributor (state_of_parts parts.now) vcpu.0)
+        (answers.lowest (plain.redistributor (state_of_parts parts.now) vcpu.0)) }
     ensures takes { IfAcked result (λ intid. takes_lpi parts.now.redists vcpu.0 intid ≡ true) }
 {
     if vcpu.0 >= parts.layout.shape.vcpus {
@@ -28,8 +30,11 @@ pub fn show(parts: &Parts, vcpu: Vcpu) -> Ack
 /// A virtual processor acknowledges an LPI.
 pub fn take(parts: &mut Parts, vcpu: Vcpu) -> Ack
     requires { IsMachine parts.old }
-    ensures ack { result ≡ answers.ack_of (plain.redistributor (state_of_parts parts.old) vcpu.0) (answers.lowest (plain.redistributor (state_of_parts parts.old) vcpu.0)) }
-    ensures left { GoesOn parts.new (plain.with_redistributor (state_of_parts parts.old) vcpu.0 (answers.taken (plain.redistributor (state_of_parts parts.old) vcpu.0) (answers.lowest (plain.redistributor (state_of_parts parts.old) vcpu.0)))) }
+    ensures ack { result
+        ≡ answers.ack_of (plain.redistributor (state_of_parts parts.old) vcpu.0)
+        (answers.lowest (plain.redistributor (state_of_parts parts.old) vcpu.0)) }
+    ensures left { GoesOn parts.new (plain.with_redistributor (state_of_parts parts.old) vcpu.0 (answers.taken (plain.redistributor (state_of_parts parts.old) vcpu.0)
+        (answers.lowest (plain.redistributor (state_of_parts parts.old) vcpu.0)))) }
 {
     let ack = show(parts, vcpu);
     if let Ack::Some { intid, .. } = ack {
@@ -41,7 +46,9 @@ pub fn take(parts: &mut Parts, vcpu: Vcpu) -> Ack
 // The lowest LPI that is pending and enabled, with its priority.
 fn lowest(redist: &Redist) -> Ack
     requires { redist.now.pending.lpi_bits ≡ redist.now.config.lpi_bits }
-    ensures ack { result ≡ answers.ack_of (redistributor_of redist.now) (answers.lowest (redistributor_of redist.now)) }
+    ensures ack { result
+        ≡ answers.ack_of (redistributor_of redist.now)
+        (answers.lowest (redistributor_of redist.now)) }
     ensures lpi { IfAcked result (λ intid. is_lpi redist.now.pending.lpi_bits intid ≡ true) }
 {
     match redist.pending.first_enabled(&redist.config) {

@@ -1,5 +1,5 @@
-//! A machine of one translator that one caller has alone, on tables that are fast. It answers every call as the plain
-//! machine does.
+//! A machine of one translator that one caller has alone, on tables that are fast. It answers every
+//! call as the plain machine does.
 #![tactic(auto)]
 
 mod acks;

@@ -36,8 +36,8 @@ impl Machine {
     ghost use Rattle.owned_machine.specs.Migrations.{Migrates};
     ghost use Rattle.owned_machine.specs.Whole.{may_want_memory};
 
-    /// The machine that a description makes, restored from memory where the description says so, or the first thing that is
-    /// wrong.
+    /// The machine that a description makes, restored from memory where the description says so, or
+    /// the first thing that is wrong.
     pub fn new(alloc: Global, desc: &Desc) -> Result<Machine, MakeError>
         requires { IsDescription desc.now }
         ensures { IsMadeFrom desc.now result }
@@ -46,8 +46,8 @@ impl Machine {
         Ok(Machine { parts })
     }
 
-    /// Answers a call, and leaves the state that the plain machine's definition says. Out of memory, which only a step or a
-    /// save can be, the state stays as it was.
+    /// Answers a call, and leaves the state that the plain machine's definition says. Out of
+    /// memory, which only a step or a save can be, the state stays as it was.
     pub fn answer(&mut self, alloc: Global, call: &Call) -> Result<Reply, AllocError>
         ensures reply { IfOk result (λ r. r ≡ plain.reply_of self.old call.now) }
         ensures left { IfOk result (λ r. self.new ≡ plain.left self.old call.now r) }
@@ -73,8 +73,9 @@ impl Machine {
         redist.pending.lpis(alloc)
     }
 
-    /// Saves into a copy of guest memory, and goes on from what that copy and the registers stand for (KVM document
-    /// arm-vgic-its, "ITS Restore Sequence"). Where it answers an error, the machine is as it was.
+    /// Saves into a copy of guest memory, and goes on from what that copy and the registers stand
+    /// for (KVM document arm-vgic-its, "ITS Restore Sequence"). Where it answers an error, the
+    /// machine is as it was.
     pub fn migrate(&mut self, alloc: Global) -> Result<(), SaveError>
         ensures { Migrates result self.old self.new }
     {

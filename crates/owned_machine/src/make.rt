@@ -20,8 +20,9 @@ use lpi_pending::{Pending, Redist, Redists};
 use owned_parts::Parts;
 use std::alloc::{AllocError, Global};
 
-/// Registers at reset, nothing mapped, nothing pending, and the configuration as memory has it (or LPIs off, where the guest
-/// programs the tables), or the first thing that is wrong with the description.
+/// Registers at reset, nothing mapped, nothing pending, and the configuration as memory has it (or
+/// LPIs off, where the guest programs the tables), or the first thing that is wrong with the
+/// description.
 pub fn start(alloc: Global, desc: &Desc) -> Result<Parts, MakeError>
     requires { IsDescription desc.now }
     ensures { AreStarted desc.now result }
@@ -66,7 +67,8 @@ fn ensure(test: bool, fault: DescFault) -> Result<(), DescFault>
 
 // Memory with these windows, all bytes zero.
 fn memory_of(alloc: Global, windows: &[(Addr, u64)]) -> Result<Memory, MakeError>
-    ensures ok { IfOk result (λ m. (m ≡ map zeros (pairs windows.now)) × (are_windows (pairs windows.now) ≡ true)) }
+    ensures ok { IfOk result (λ m.
+        (m ≡ map zeros (pairs windows.now)) × (are_windows (pairs windows.now) ≡ true)) }
     ensures err { IfErr result (IsWindowFault (are_windows (pairs windows.now))) }
 {
     match Memory::new(alloc, windows) {
@@ -104,7 +106,8 @@ fn pending_inside(memory: &Memory, size: u64, bases: &[Addr]) -> Result<(), Desc
     Ok(())
 }
 
-// Puts the bytes of a description into memory, or tells the first fill whose bytes don't lie in one window.
+// Puts the bytes of a description into memory, or tells the first fill whose bytes don't lie in one
+// window.
 fn fill(memory: &mut Memory, fills: &[Fill]) -> Result<(), DescFault>
     ensures { Fills memory.new result (spec.filled memory.old 0 fills.now) }
 {
@@ -120,7 +123,8 @@ fn fill(memory: &mut Memory, fills: &[Fill]) -> Result<(), DescFault>
 fn has_config(tables: &LpiTables, memory: &Memory, shape: &Shape) -> bool
     requires { IsShape shape.now }
     ensures has { OnTrue result (HasConfig shape.now memory.now tables.now) }
-    ensures lacks { result ≡ false → spec.first_redistributors shape.now memory.now tables.now ≡ Err faults.Config }
+    ensures lacks { result ≡ false →
+        spec.first_redistributors shape.now memory.now tables.now ≡ Err faults.Config }
 {
     match tables {
         LpiTables::Described { config, .. } => memory.inside(*config, shape.lpi_count()),

@@ -1,5 +1,5 @@
-//! Machines that are saved, moved and restored. The words are those of the table format (KVM document arm-vgic-its, "ITS
-//! Table ABI REV0").
+//! Machines that are saved, moved and restored. The words are those of the table format (KVM
+//! document arm-vgic-its, "ITS Table ABI REV0").
 use crate::Machine;
 use crate::scripts::{Asked, Given, Line, desc, enabling, queueing};
 use gits_regs::RegValues;
@@ -155,7 +155,8 @@ fn an_empty_machine_is_moved(rt: HostRuntime) -> Result<(), Fail> {
     Ok(())
 }
 
-// Devices 0 and 16384 are further apart than an entry can say. Then the second level-1 entry is taken away.
+// Devices 0 and 16384 are further apart than an entry can say. Then the second level-1 entry is
+// taken away.
 const FAR_IN_TWO_LEVELS: [Act; 13] = [
     Act::Asks(Line::Runs(Given::Mapd(0, 5, ITT))),
     Act::Asks(Line::Runs(Given::Mapd(16384, 5, ITT + 0x100))),
@@ -291,7 +292,8 @@ const VALUES: RegValues = RegValues {
     baser1: 0x8407_0000_8001_0200,
 };
 
-// A machine restored from device 16 with events 3 and 7, and old entries at places that no entry leads to.
+// A machine restored from device 16 with events 3 and 7, and old entries at places that no entry
+// leads to.
 fn restored(alloc: Global, event: u64) -> Result<Machine, MakeError> {
     let words = [
         ENABLED,

@@ -25,8 +25,8 @@ const RESET: GicrRegisters = GicrRegisters {
     pendbaser: 0,
 };
 
-/// The parts that a description makes, restored from memory where the description says so, or the first thing that is
-/// wrong.
+/// The parts that a description makes, restored from memory where the description says so, or the
+/// first thing that is wrong.
 pub fn begin(alloc: Global, desc: &Desc) -> Result<Parts, MakeError>
     requires { IsDescription desc.now }
     ensures { AreBegun desc.now result }
@@ -55,8 +55,8 @@ fn values_given(tables: &LpiTables) -> GicrValues
     }
 }
 
-/// The parts that a copy of memory and the registers stand for, once the tables are saved into the copy. That they stand
-/// for none can't come.
+/// The parts that a copy of memory and the registers stand for, once the tables are saved into the
+/// copy. That they stand for none can't come.
 pub fn moved(parts: &Parts, alloc: Global) -> Result<Parts, SaveError>
     requires { IsMachine parts.now }
     ensures { AreMoved (state_of_parts parts.now) result }

@@ -16,7 +16,8 @@ use owned_parts::Parts;
 /// A device's message.
 pub fn signal(parts: &mut Parts, its: u8, dev: DeviceId, ev: EventId) -> Signal
     requires { IsMachine parts.old }
-    ensures reply { result ≡ plain.signal_reply (translation.translated (state_of_parts parts.old) its dev.0 ev.0) }
+    ensures reply { result
+        ≡ plain.signal_reply (translation.translated (state_of_parts parts.old) its dev.0 ev.0) }
     ensures left { GoesOn parts.new (plain.signal_left (state_of_parts parts.old) result) }
 {
     match translate(parts, its, dev, ev) {

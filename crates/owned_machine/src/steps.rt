@@ -36,8 +36,12 @@ pub fn step(parts: &mut Parts, its: u8) -> Result<StepReply, AllocError>
 fn run(parts: &mut Parts, command: &Command) -> Result<StepReply, AllocError>
     requires whole { IsMachine parts.old }
     requires met { IsMet (state_of_parts parts.old) command.now }
-    ensures reply { IfOk result (λ r. r ≡ answers.command_reply (op_of command.now) (commands.ran (state_of_parts parts.old) 0 command.now)) }
-    ensures left { IfOk result (λ _. GoesOn parts.new (executed.left_by command.now (state_of_parts parts.old) 0)) }
+    ensures reply { IfOk result (λ r.
+        r
+        ≡ answers.command_reply (op_of command.now)
+        (commands.ran (state_of_parts parts.old) 0 command.now)) }
+    ensures left { IfOk result (λ _.
+        GoesOn parts.new (executed.left_by command.now (state_of_parts parts.old) 0)) }
     ensures err { OnErr result (parts.new ≡ parts.old) }
 {
     prepare(command, &mut parts.maps)?;

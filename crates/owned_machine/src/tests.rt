@@ -1,4 +1,5 @@
-//! The machine and the plain one answer alike: every refusal and every effect of each command, and the other calls.
+//! The machine and the plain one answer alike: every refusal and every effect of each command, and
+//! the other calls.
 use crate::Machine;
 use crate::scripts::{Asked, CONFIG, Given, Line, desc, enabling, queueing};
 use its_command::Command;
@@ -79,7 +80,8 @@ fn take_line(
     }
 }
 
-// How many of the lines both answer as they say, up to the first that they don't. All other calls come last.
+// How many of the lines both answer as they say, up to the first that they don't. All other calls
+// come last.
 fn take_lines(alloc: Global, profile: Profile, lines: &[Line]) -> Result<usize, Fail> {
     let words = [(0x8003_0008, 0x00c1_b1a1)];
     let desc = desc(alloc, profile, &words)?;

@@ -4,7 +4,8 @@ use its_maps::Maps;
 use its_plain::Layout;
 use lpi_pending::Redists;
 
-/// Everything that a machine of one translator has. The redistributors of all its virtual processors are in hand.
+/// Everything that a machine of one translator has. The redistributors of all its virtual
+/// processors are in hand.
 #[derive(Drop)]
 pub struct Parts {
     pub layout: Layout,

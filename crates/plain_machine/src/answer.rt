@@ -1,7 +1,7 @@
 //! What each call is answered.
 use crate::refusal::CommandError;
 use crate::state::State;
-use crate::{redist, translator};
+use crate::{redists, translator};
 use gits_regs::Regs;
 use its_command::decode;
 use its_plain::{Bytes64, Call, Reply, StepReply};
@@ -90,11 +90,11 @@ impl State {
     {
         match *call {
             Call::Signal { its, dev, ev } => Ok(Reply::Signal(self.signal(its, dev, ev)?)),
-            Call::Take(vcpu) => Ok(Reply::Ack(redist::take_at(
+            Call::Take(vcpu) => Ok(Reply::Ack(redists::take_at(
                 &mut self.redistributors,
                 u64::from(vcpu.0),
             ))),
-            Call::Show(vcpu) => Ok(Reply::Ack(redist::show_at(
+            Call::Show(vcpu) => Ok(Reply::Ack(redists::show_at(
                 &self.redistributors,
                 u64::from(vcpu.0),
             ))),

@@ -52,7 +52,9 @@ fn add_levels(areas: &mut Vec<Area>, regs: &Regs, memory: &Memory) -> Result<(),
 }
 
 fn add_pages(areas: &mut Vec<Area>, regs: &Regs, memory: &Memory) -> Result<(), AllocError>
-    ensures { OnOk result (areas.new.items ≡ areas.old.items ++ spec.pages_below regs.now memory.now (places.level1_entries regs.now.dev_bits)) }
+    ensures { OnOk result (areas.new.items
+        ≡ areas.old.items ++ spec.pages_below regs.now memory.now
+        (places.level1_entries regs.now.dev_bits)) }
 {
     for k in 0..level1_entries(regs) {
         add_page(areas, k, level1(regs, memory, k))?;

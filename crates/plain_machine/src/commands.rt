@@ -6,7 +6,7 @@ ghost use Rattle.its_plain.specs.declared.call.Reason.TheVariants as reasons;
 use crate::mapped_entries::{MappedDevice, MappedEvent};
 use crate::refusal::{CommandError, ensure};
 use crate::state::State;
-use crate::{redist, translator};
+use crate::{redists, translator};
 use baser_place::device_place;
 use its_command::{Command, EventIdBits, IttAddr, RdBase};
 use its_plain::Reason;
@@ -62,7 +62,7 @@ impl State {
     fn is_on(&self, vcpu: u64) -> bool
         ensures { result ≡ plain.is_on self.now vcpu }
     {
-        redist::is_on_at(&self.redistributors, vcpu)
+        redists::is_on_at(&self.redistributors, vcpu)
     }
 
     // An event of a mapped device.
@@ -152,7 +152,9 @@ impl State {
 
     // In profile 2 pending LPIs go with a mapped collection to its new target.
     fn follow(&mut self, alloc: Global, its: u8, icid: Icid, to: u64) -> Result<(), AllocError>
-        ensures { OnOk result (self.new ≡ commands.followed_in self.old.layout.shape.profile self.old its icid.0 (maps.collection_of (plain.maps_of self.old its) icid.0) to) }
+        ensures { OnOk result (self.new
+            ≡ commands.followed_in self.old.layout.shape.profile self.old its icid.0
+            (maps.collection_of (plain.maps_of self.old its) icid.0) to) }
     {
         if self.layout.shape.profile == Profile::One {
             return Ok(());
@@ -211,7 +213,8 @@ impl State {
         Ok(())
     }
 
-    // A mapped event stays as it is. A new one is mapped, and its LPI's configuration is read again.
+    // A mapped event stays as it is. A new one is mapped, and its LPI's configuration is read
+    // again.
     fn add_event(
         &mut self,
         its: u8,

@@ -17,8 +17,8 @@ impl State {
     ghost use Rattle.its_plain.specs.Parts as parts;
     ghost use Rattle.its_plain.specs.Translation as translation;
 
-    /// The parts that a call reads or changes in this state, in the order in which it asks for them. Some may stand
-    /// twice.
+    /// The parts that a call reads or changes in this state, in the order in which it asks for
+    /// them. Some may stand twice.
     pub fn footprint(&self, alloc: Global, call: &Call) -> Result<Vec<Part>, AllocError>
         ensures { IfOk result (λ v. v.items ≡ parts.footprint self.now call.now) }
     {
@@ -137,7 +137,10 @@ impl State {
         icid: Icid,
         to: u64,
     ) -> Result<(), AllocError>
-        ensures { OnOk result (found.new.items ≡ found.old.items ++ (if nat_lt to self.now.layout.shape.vcpus then parts.moved_targets self.now.layout.shape.profile (maps.collection_of (plain.maps_of self.now its) icid.0) to else [])) }
+        ensures { OnOk result (found.new.items
+            ≡ found.old.items ++ (if nat_lt to self.now.layout.shape.vcpus then parts.moved_targets
+            self.now.layout.shape.profile
+            (maps.collection_of (plain.maps_of self.now its) icid.0) to else [])) }
     {
         if to >= u64::from(self.layout.shape.vcpus) {
             return Ok(());
@@ -148,7 +151,8 @@ impl State {
 
     // Both, where both are virtual processors.
     fn add_both_targets(&self, found: &mut Vec<Part>, from: u64, to: u64) -> Result<(), AllocError>
-        ensures { OnOk result (found.new.items ≡ found.old.items ++ parts.both_targets self.now.layout.shape.vcpus from to) }
+        ensures { OnOk result (found.new.items
+            ≡ found.old.items ++ parts.both_targets self.now.layout.shape.vcpus from to) }
     {
         let vcpus = u64::from(self.layout.shape.vcpus);
         if from >= vcpus || to >= vcpus {

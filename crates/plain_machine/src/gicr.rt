@@ -68,7 +68,8 @@ impl RedistLists {
         value: u64,
     ) -> Result<(), AllocError>
         requires { IsShape shape.now }
-        ensures { OnOk result (self.new ≡ registers.written_gicr shape.now memory.now self.old off size value) }
+        ensures { OnOk result
+            (self.new ≡ registers.written_gicr shape.now memory.now self.old off size value) }
     {
         match asked_by(&self.bases, off, size, value) {
             GicrWrite::Ignored => {}
@@ -88,7 +89,9 @@ impl RedistLists {
     #[tactic(auto, unfolding(gicr_regs::specs::Registers::turned_on))]
     fn enable(&mut self, alloc: Global, memory: &Memory, shape: &Shape) -> Result<(), AllocError>
         requires { IsShape shape.now }
-        ensures { OnOk result (self.new ≡ (if lpis.has_tables shape.now memory.now self.old.bases then registers.turned_on shape.now memory.now self.old else self.old)) }
+        ensures { OnOk result (self.new
+            ≡ (if lpis.has_tables shape.now memory.now self.old.bases then registers.turned_on
+            shape.now memory.now self.old else self.old)) }
     {
         let in_memory = memory.inside(self.bases.prop.table, shape.lpi_count())
             && memory.inside(self.bases.pend.table, shape.pending_bytes());

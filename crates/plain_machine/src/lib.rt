@@ -1,5 +1,5 @@
-//! The plain machine as a program: slow, and close to the definitions of each call. Tests and the player of events stand
-//! on it.
+//! The plain machine as a program: slow, and close to the definitions of each call. Tests and the
+//! player of events stand on it.
 #![tactic(auto)]
 
 mod answer;
@@ -14,7 +14,9 @@ mod mapped_pairs;
 mod maps;
 mod parts;
 mod redist;
+mod redists;
 mod refusal;
+mod rising_lists;
 mod save;
 mod saved_lists;
 mod saved_tables;

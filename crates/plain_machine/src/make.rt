@@ -1,5 +1,6 @@
 //! The machine that a description makes.
-ghost use Rattle.std.specs.Prelude.{◌≡◌, ◌≤◌, ◌<◌, ◌+◌, ◌^◌, true, All, IfOk, IfErr, OnOk, map, length, replicate};
+ghost use Rattle.std.specs.Prelude.{◌≡◌, ◌≤◌, ◌<◌, ◌+◌, ◌^◌, true, All, IfOk, IfErr, OnOk, map};
+ghost use Rattle.std.specs.Prelude.{length, replicate};
 ghost use Rattle.its_types.specs.Lpis.{no_bases};
 ghost use Rattle.its_types.specs.declared.ids.Addr.{Addr as Address};
 ghost use Rattle.guest_windows.specs.Windows.{read_at, zeros, are_windows};
@@ -8,7 +9,8 @@ ghost use Rattle.gicr_regs.specs.Redistributors.{off_redistributor};
 ghost use Rattle.its_plain.specs.Machine as spec;
 ghost use Rattle.its_plain.specs.Machine.{IsDescription};
 ghost use Rattle.its_plain.specs.Sound.{IsShape};
-ghost use Rattle.plain_machine.specs.Made.{IsMade, IsStarted, IsWindowFault, Fills, Reads, AreLow, AreFirst};
+ghost use Rattle.plain_machine.specs.Made.{IsMade, IsStarted, IsWindowFault, Fills, Reads, AreLow};
+ghost use Rattle.plain_machine.specs.Made.{AreFirst};
 
 use crate::redist::RedistLists;
 use crate::state::State;
@@ -19,7 +21,8 @@ use its_types::{Addr, Bases, Shape, Vcpu};
 use std::alloc::{AllocError, Global};
 
 impl State {
-    /// The first state of a described machine, or the first thing that is wrong with the description.
+    /// The first state of a described machine, or the first thing that is wrong with the
+    /// description.
     #[tactic(auto, unfolding(its_plain::specs::Machine::made))]
     pub fn new(alloc: Global, desc: &Desc) -> Result<State, MakeError>
         requires { IsDescription desc.now }
@@ -42,7 +45,8 @@ fn ensure(test: bool, fault: DescFault) -> Result<(), DescFault>
 
 // Memory with these windows, all bytes zero.
 fn memory_of(alloc: Global, windows: &[(Addr, u64)]) -> Result<Memory, MakeError>
-    ensures ok { IfOk result (λ m. (m ≡ map zeros (pairs windows.now)) × (are_windows (pairs windows.now) ≡ true)) }
+    ensures ok { IfOk result (λ m.
+        (m ≡ map zeros (pairs windows.now)) × (are_windows (pairs windows.now) ≡ true)) }
     ensures err { IfErr result (IsWindowFault (are_windows (pairs windows.now))) }
 {
     match Memory::new(alloc, windows) {
@@ -83,7 +87,8 @@ fn tables_inside(tables: &LpiTables, memory: &Memory, shape: &Shape) -> Result<(
     }
 }
 
-// Puts the bytes of a description into memory, or tells the first fill whose bytes don't lie in one window.
+// Puts the bytes of a description into memory, or tells the first fill whose bytes don't lie in one
+// window.
 fn fill(memory: &mut Memory, fills: &[Fill]) -> Result<(), DescFault>
     ensures { Fills memory.new result (spec.filled memory.old 0 fills.now) }
 {
@@ -137,7 +142,10 @@ fn described(
 ) -> Result<Vec<RedistLists>, AllocError>
     requires config { base.0 < 2 ^ 52 }
     requires pending { All (λ (a : Address). a.0 < 2 ^ 52) pending.now }
-    ensures { IfOk result (λ v. v.items ≡ map (spec.idle_redistributor config.now) (map (spec.described_bases base) pending.now)) }
+    ensures { IfOk result (λ v.
+        v.items
+        ≡ map (spec.idle_redistributor config.now)
+        (map (spec.described_bases base) pending.now)) }
 {
     let mut redistributors = Vec::new(alloc);
     for table in pending {
@@ -150,7 +158,8 @@ fn described(
 // LPIs are off at each virtual processor.
 fn all_off(alloc: Global, shape: &Shape) -> Result<Vec<RedistLists>, AllocError>
     requires { IsShape shape.now }
-    ensures { IfOk result (λ v. v.items ≡ replicate shape.now.vcpus (off_redistributor shape.now no_bases)) }
+    ensures { IfOk result (λ v.
+        v.items ≡ replicate shape.now.vcpus (off_redistributor shape.now no_bases)) }
 {
     let mut redistributors = Vec::new(alloc);
     for _ in 0..shape.vcpus {

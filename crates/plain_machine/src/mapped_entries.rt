@@ -5,7 +5,8 @@ ghost use Rattle.plain_machine.specs.Mapped.{HasTable};
 use its_types::{Device, Event};
 use std::marker::Model;
 
-/// A device with 1 to 16 EventID bits, whose interrupt translation table stands at a multiple of 256 below 2^52.
+/// A device with 1 to 16 EventID bits, whose interrupt translation table stands at a multiple of
+/// 256 below 2^52.
 #[derive(Clone, Copy, Debug, PartialEq, Eq)]
 pub struct MappedDevice {
     device: Device,

@@ -48,7 +48,8 @@ impl State {
         }
     }
 
-    /// Puts another redistributor at a virtual processor. Where there is no such processor nothing changes.
+    /// Puts another redistributor at a virtual processor. Where there is no such processor nothing
+    /// changes.
     pub fn set_redistributor(&mut self, vcpu: usize, redistributor: RedistLists)
         ensures { self.new ≡ plain.with_redistributor self.old vcpu redistributor }
     {
@@ -64,9 +65,11 @@ impl State {
         self.memory = memory;
     }
 
-    /// Makes the interrupt pending at its target, as a delivered message does. At want of memory the state isn't told.
+    /// Makes the interrupt pending at its target, as a delivered message does. At want of memory
+    /// the state isn't told.
     pub fn deliver(&mut self, target: Target) -> Result<(), AllocError>
-        ensures { OnOk result (self.new ≡ answers.signal_left self.old (Delivered target.vcpu target.intid)) }
+        ensures { OnOk result
+            (self.new ≡ answers.signal_left self.old (Delivered target.vcpu target.intid)) }
     {
         self.set_lpi(u64::from(target.vcpu.0), target.intid)
     }

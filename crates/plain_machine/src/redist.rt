@@ -1,13 +1,13 @@
 //! What a redistributor knows of LPIs, as plain lists.
-ghost use Rattle.std.specs.Prelude.{◌≡◌, ◌<◌, ◌≤◌, ◌^◌, ◌==◌, ◌++◌, OnOk, OnErr, [], slice_set, map};
+ghost use Rattle.std.specs.Prelude.{◌≡◌, ◌<◌, ◌≤◌, ◌^◌, ◌++◌, OnOk, [], slice_set};
 ghost use Rattle.its_types.specs.Lpis as lpis;
 ghost use Rattle.gicr_regs.specs.Redistributors as tables;
 ghost use Rattle.its_plain.specs.Answer as plain;
 ghost use Rattle.its_plain.specs.Regions as regions;
 ghost use Rattle.its_plain.specs.Saved as saved;
 ghost use Rattle.its_plain.specs.Commands as commands;
-ghost use Rattle.plain_machine.specs.Slots.{redistributor_in, pending_set};
 
+use crate::rising_lists::{add_all_rising, add_rising, remove_number};
 use crate::saved_tables;
 use guest_windows::Memory;
 use its_plain::{Ack, Area, Region};
@@ -69,7 +69,8 @@ impl RedistLists {
     }
 
     pub fn set(&mut self, intid: u32) -> Result<(), AllocError>
-        ensures { OnOk result (self.new ≡ record self.old { pending = lpis.with_lpi intid self.old.pending }) }
+        ensures { OnOk result
+            (self.new ≡ record self.old { pending = lpis.with_lpi intid self.old.pending }) }
     {
         add_rising(&mut self.pending, intid)?;
         Ok(())
@@ -142,7 +143,8 @@ impl RedistLists {
     ) -> Result<(), AllocError>
         requires least { 14 ≤ shape.now.lpi_bits }
         requires most { shape.now.lpi_bits ≤ 20 }
-        ensures { OnOk result (areas.new.items ≡ areas.old.items ++ regions.config_area shape.now vcpu.0 self.now) }
+        ensures { OnOk result
+            (areas.new.items ≡ areas.old.items ++ regions.config_area shape.now vcpu.0 self.now) }
     {
         if self.bases.on {
             areas.push(Area {
@@ -176,7 +178,8 @@ impl RedistLists {
 
     /// Makes all of some LPIs pending.
     pub(crate) fn set_all(&mut self, intids: Vec<u32>) -> Result<(), AllocError>
-        ensures { OnOk result (self.new ≡ record self.old { pending = lpis.with_lpis intids.items self.old.pending }) }
+        ensures { OnOk result (self.new
+            ≡ record self.old { pending = lpis.with_lpis intids.items self.old.pending }) }
     {
         add_all_rising(&mut self.pending, intids)?;
         Ok(())
@@ -235,7 +238,8 @@ impl RedistLists {
     ) -> Result<(), AllocError>
         requires least { 14 ≤ shape.now.lpi_bits }
         requires most { shape.now.lpi_bits ≤ 20 }
-        ensures { OnOk result (self.new ≡ record self.old { config = tables.config_in shape.now memory.now self.old }) }
+        ensures { OnOk result (self.new
+            ≡ record self.old { config = tables.config_in shape.now memory.now self.old }) }
     {
         let mut bytes = vec![in alloc; 0; shape.lpi_count() as usize]?;
         if memory.read(self.bases.prop.table, &mut bytes).is_ok() {
@@ -251,133 +255,6 @@ impl RedistLists {
             self.reread(memory, *intid);
         }
     }
-}
-
-// ---- one of several redistributors, where it is there
-
-pub fn set_at(all: &mut [RedistLists], vcpu: u64, intid: u32) -> Result<(), AllocError>
-    ensures { OnOk result (all.new ≡ pending_set all.old vcpu (lpis.with_lpi intid (redistributor_in all.old vcpu).pending)) }
-{
-    let at = vcpu as usize;
-    if at < all.len() {
-        all[at].set(intid)?;
-    }
-    Ok(())
-}
-
-pub fn clear_at(all: &mut [RedistLists], vcpu: u64, intid: u32)
-    ensures { all.new ≡ pending_set all.old vcpu (lpis.without_lpi intid (redistributor_in all.old vcpu).pending) }
-{
-    let at = vcpu as usize;
-    if at < all.len() {
-        all[at].clear(intid);
-    }
-}
-
-pub fn take_all_at(alloc: Global, all: &mut [RedistLists], vcpu: u64) -> Vec<u32>
-    ensures taken { result.items ≡ (redistributor_in all.old vcpu).pending }
-    ensures none { all.new ≡ pending_set all.old vcpu [] }
-{
-    let at = vcpu as usize;
-    if at < all.len() {
-        all[at].take_all(alloc)
-    } else {
-        Vec::new(alloc)
-    }
-}
-
-pub fn set_all_at(all: &mut [RedistLists], vcpu: u64, intids: Vec<u32>) -> Result<(), AllocError>
-    ensures { OnOk result (all.new ≡ pending_set all.old vcpu (lpis.with_lpis intids.items (redistributor_in all.old vcpu).pending)) }
-{
-    let at = vcpu as usize;
-    if at < all.len() {
-        all[at].set_all(intids)?;
-    }
-    Ok(())
-}
-
-pub fn take_at(all: &mut [RedistLists], vcpu: u64) -> Ack
-    ensures ack { result ≡ plain.ack_of (redistributor_in all.old vcpu) (plain.lowest (redistributor_in all.old vcpu)) }
-    ensures taken { all.new ≡ slice_set all.old vcpu (plain.taken (redistributor_in all.old vcpu) (plain.lowest (redistributor_in all.old vcpu))) }
-{
-    let at = vcpu as usize;
-    if at < all.len() {
-        all[at].take()
-    } else {
-        Ack::None
-    }
-}
-
-pub fn show_at(all: &[RedistLists], vcpu: u64) -> Ack
-    ensures { result ≡ plain.ack_of (redistributor_in all.now vcpu) (plain.lowest (redistributor_in all.now vcpu)) }
-{
-    match all.get(vcpu as usize) {
-        Some(redist) => redist.show(),
-        None => Ack::None,
-    }
-}
-
-pub fn is_on_at(all: &[RedistLists], vcpu: u64) -> bool
-    ensures { result ≡ (redistributor_in all.now vcpu).bases.on }
-{
-    match all.get(vcpu as usize) {
-        Some(redist) => redist.is_on(),
-        None => false,
-    }
-}
-
-pub fn is_pending_at(all: &[RedistLists], vcpu: u64, intid: u32) -> bool
-    ensures { result ≡ lpis.is_pending intid (redistributor_in all.now vcpu).pending }
-{
-    match all.get(vcpu as usize) {
-        Some(redist) => redist.is_pending(intid),
-        None => false,
-    }
-}
-
-/// Every redistributor reads the configuration bytes of these LPIs again.
-pub fn reread_each(all: &mut [RedistLists], memory: &Memory, intids: &[u32])
-    ensures { all.new ≡ map (commands.all_reread_at memory.now intids.now) all.old }
-{
-    for redist in all.iter_mut() {
-        redist.reread_all(memory, intids);
-    }
-}
-
-// ---- lists
-
-// Adds a number to a rising list.
-fn add_rising(list: &mut Vec<u32>, number: u32) -> Result<(), AllocError>
-    ensures ok { OnOk result (list.new.items ≡ lpis.with_lpi number list.old.items) }
-    ensures err { OnErr result (list.new.items ≡ list.old.items) }
-{
-    for at in 0..list.len() {
-        if list[at] == number {
-            return Ok(());
-        }
-        if list[at] > number {
-            list.insert(at, number)?;
-            return Ok(());
-        }
-    }
-    list.push(number)?;
-    Ok(())
-}
-
-#[tactic(auto, using(crate::proofs::Pending::with_lpis_push))]
-fn add_all_rising(list: &mut Vec<u32>, mut numbers: Vec<u32>) -> Result<(), AllocError>
-    ensures { OnOk result (list.new.items ≡ lpis.with_lpis numbers.items list.old.items) }
-{
-    while let Some(number) = numbers.pop() {
-        add_rising(list, number)?;
-    }
-    Ok(())
-}
-
-fn remove_number(list: &mut Vec<u32>, number: u32)
-    ensures { list.new.items ≡ lpis.without_lpi number list.old.items }
-{
-    list.retain(|x| *x != number);
 }
 
 // Writes a byte, where it is there.

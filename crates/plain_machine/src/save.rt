@@ -87,7 +87,8 @@ fn add_tables(
     translators: &[TranslatorLists],
     memory: &Memory,
 ) -> Result<(), AllocError>
-    ensures { OnOk result (areas.new.items ≡ areas.old.items ++ flat_map (regions.table_areas memory.now) translators.now) }
+    ensures { OnOk result (areas.new.items
+        ≡ areas.old.items ++ flat_map (regions.table_areas memory.now) translators.now) }
 {
     for translator in translators {
         translator.add_tables(areas, memory)?;
@@ -96,7 +97,8 @@ fn add_tables(
 }
 
 fn add_queues(areas: &mut Vec<Area>, translators: &[TranslatorLists]) -> Result<(), AllocError>
-    ensures { OnOk result (areas.new.items ≡ areas.old.items ++ flat_map regions.queue_areas translators.now) }
+    ensures { OnOk result
+        (areas.new.items ≡ areas.old.items ++ flat_map regions.queue_areas translators.now) }
 {
     for translator in translators {
         areas::add_queue(areas, translator.regs())?;
@@ -124,7 +126,8 @@ fn add_pending(
     requires least { 14 ≤ shape.now.lpi_bits }
     requires most { shape.now.lpi_bits ≤ 20 }
     requires few { length redists.now ≤ 16 }
-    ensures { OnOk result (areas.new.items ≡ areas.old.items ++ regions.areas_from (regions.pending_area shape.now) 0 redists.now) }
+    ensures { OnOk result (areas.new.items
+        ≡ areas.old.items ++ regions.areas_from (regions.pending_area shape.now) 0 redists.now) }
 {
     for (vcpu, redist) in redists.iter().enumerate() {
         redist.add_pending_area(areas, shape, Vcpu(vcpu as u8))?;
@@ -140,7 +143,8 @@ fn add_configurations(
     requires least { 14 ≤ shape.now.lpi_bits }
     requires most { shape.now.lpi_bits ≤ 20 }
     requires few { length redists.now ≤ 16 }
-    ensures { OnOk result (areas.new.items ≡ areas.old.items ++ regions.areas_from (regions.config_area shape.now) 0 redists.now) }
+    ensures { OnOk result (areas.new.items
+        ≡ areas.old.items ++ regions.areas_from (regions.config_area shape.now) 0 redists.now) }
 {
     for (vcpu, redist) in redists.iter().enumerate() {
         redist.add_config_area(areas, shape, Vcpu(vcpu as u8))?;
@@ -152,7 +156,8 @@ fn add_configurations(
 
 #[tactic(auto, using(crate::proofs::SavedTables::put_front))]
 fn write_translators(memory: &mut Memory, before: &Memory, translators: &[TranslatorLists])
-    ensures { memory.new ≡ saved.put_tables memory.old (flat_map (saved.translator_words before.now) translators.now) }
+    ensures { memory.new
+        ≡ saved.put_tables memory.old (flat_map (saved.translator_words before.now) translators.now) }
 {
     for translator in translators {
         translator.write_tables(memory, before);
@@ -163,7 +168,8 @@ fn write_translators(memory: &mut Memory, before: &Memory, translators: &[Transl
 fn write_pending(memory: &mut Memory, shape: &Shape, redists: &[RedistLists])
     requires least { 14 ≤ shape.now.lpi_bits }
     requires most { shape.now.lpi_bits ≤ 20 }
-    ensures { memory.new ≡ saved.put_tables memory.old (flat_map (saved.pending_words shape.now) redists.now) }
+    ensures { memory.new
+        ≡ saved.put_tables memory.old (flat_map (saved.pending_words shape.now) redists.now) }
 {
     for redist in redists {
         redist.write_pending(memory, shape);

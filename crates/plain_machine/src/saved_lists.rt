@@ -1,5 +1,6 @@
 //! What a save asks of plain lists of devices and events.
-ghost use Rattle.std.specs.Prelude.{◌≡◌, ◌≤◌, ◌<◌, ◌+◌, ◌*◌, ◌/◌, ◌^◌, ◌++◌, ◌&&◌, ◌==◌, ◌∷◌, [], not, is_some, nat_lt, OnOk, find, map, slice_get};
+ghost use Rattle.std.specs.Prelude.{◌≡◌, ◌≤◌, ◌<◌, ◌+◌, ◌*◌, ◌/◌, ◌^◌, ◌++◌, ◌&&◌, ◌==◌, ◌∷◌, []};
+ghost use Rattle.std.specs.Prelude.{not, is_some, nat_lt, OnOk, find, map, slice_get};
 ghost use Rattle.std.specs.Option.{option_map};
 ghost use Rattle.std.specs.List.{flat_map};
 ghost use Rattle.gits_regs.specs.Registers.{is_indirect};
@@ -19,7 +20,8 @@ use std::alloc::AllocError;
 
 /// Adds the areas of the interrupt translation tables.
 pub fn add_itts(areas: &mut Vec<Area>, devices: &[(u32, MappedDevice)]) -> Result<(), AllocError>
-    ensures { OnOk result (areas.new.items ≡ areas.old.items ++ flat_map (λ d. regions.itt_area d ∷ []) devices.now) }
+    ensures { OnOk result (areas.new.items
+        ≡ areas.old.items ++ flat_map (λ d. regions.itt_area d ∷ []) devices.now) }
 {
     for entry in devices {
         areas.push(itt_area(entry))?;
@@ -45,7 +47,8 @@ pub fn first_unplaced(
     regs: &Regs,
     memory: &Memory,
 ) -> Option<DeviceId>
-    ensures { option_map (λ d. d.0) result ≡ option_map (λ d. d.0) (find (regions.has_no_place regs.now memory.now) devices.now) }
+    ensures { option_map (λ d. d.0) result
+        ≡ option_map (λ d. d.0) (find (regions.has_no_place regs.now memory.now) devices.now) }
 {
     let found = devices
         .iter()
@@ -55,14 +58,19 @@ pub fn first_unplaced(
 
 // Whether the device's level-1 entry isn't valid.
 fn has_no_place(regs: &Regs, memory: &Memory, dev: u32) -> bool
-    ensures { result ≡ (is_indirect regs.now.baser0 && not (is_some (page_of (level1_of regs.now memory.now (dev / 8192))))) }
+    ensures { result
+        ≡ (is_indirect regs.now.baser0 && not
+        (is_some (page_of (level1_of regs.now memory.now (dev / 8192))))) }
 {
     regs.indirect() && !matches!(level1(regs, memory, dev / 8192), Level1::Page(_))
 }
 
 /// Writes the interrupt translation tables.
 pub fn write_itts(memory: &mut Memory, devices: &[(u32, MappedDevice)], maps: &MapLists)
-    ensures { memory.new ≡ saved.put_tables memory.old (flat_map (λ d. record { base = d.1.itt.0; count = 2 ^ d.1.bits; word = saved.event_word maps.now d.0 } ∷ []) devices.now) }
+    ensures { memory.new
+        ≡ saved.put_tables memory.old (flat_map
+        (λ d. record { base = d.1.itt.0; count = 2 ^ d.1.bits; word = saved.event_word maps.now d.0 } ∷ [])
+        devices.now) }
 {
     for entry in devices {
         let device = entry.1.get();
@@ -82,7 +90,9 @@ pub fn device_after(devices: &[(u32, MappedDevice)], dev: DeviceId) -> Option<u3
 
 /// The next event of a device.
 pub fn event_after(events: &[((u32, u32), MappedEvent)], dev: DeviceId, ev: u32) -> Option<u32>
-    ensures { result ≡ option_map (λ k. k.1) (find (λ k. k.0 == dev.0 && nat_lt ev k.1) (map (λ e. e.0) events.now)) }
+    ensures { result
+        ≡ option_map (λ k. k.1)
+        (find (λ k. k.0 == dev.0 && nat_lt ev k.1) (map (λ e. e.0) events.now)) }
 {
     let key = key_after(events, dev, ev)?;
     Some(key.1)

@@ -1,4 +1,5 @@
-//! The words that a save writes (KVM document arm-vgic-its, "ITS Table ABI REV0"), each found anew in the plain lists.
+//! The words that a save writes (KVM document arm-vgic-its, "ITS Table ABI REV0"), each found anew
+//! in the plain lists.
 ghost use Rattle.std.specs.Prelude.{◌≡◌, ◌≤◌, ◌+◌, ◌-◌, ◌*◌, ◌/◌, ◌<◌, ◌^◌, ℕ};
 ghost use Rattle.baser_place.specs.Places as places;
 ghost use Rattle.its_types.specs.Lpis as lpis;
@@ -22,7 +23,9 @@ fn put_word(memory: &mut Memory, base: Addr, at: u32, word: u64)
 /// Writes a device table.
 #[tactic(auto, unfolding(its_plain::specs::Saved::device_words))]
 pub fn write_devices(memory: &mut Memory, before: &Memory, regs: &Regs, maps: &MapLists)
-    ensures { memory.new ≡ spec.put_tables memory.old (spec.device_words (record { regs = regs.now; maps = maps.now }) before.now) }
+    ensures { memory.new
+        ≡ spec.put_tables memory.old
+        (spec.device_words (record { regs = regs.now; maps = maps.now }) before.now) }
 {
     if !regs.table_valid(0) {
         return;
@@ -38,7 +41,9 @@ pub fn write_devices(memory: &mut Memory, before: &Memory, regs: &Regs, maps: &M
 // Writes the pages of a device table of two levels.
 #[tactic(auto, using(crate::proofs::SavedTables::put_more))]
 fn write_pages(memory: &mut Memory, before: &Memory, regs: &Regs, maps: &MapLists)
-    ensures { memory.new ≡ spec.put_tables memory.old (spec.pages_words (record { regs = regs.now; maps = maps.now }) before.now (places.level1_entries regs.now.dev_bits)) }
+    ensures { memory.new
+        ≡ spec.put_tables memory.old (spec.pages_words (record { regs = regs.now; maps = maps.now }) before.now
+        (places.level1_entries regs.now.dev_bits)) }
 {
     for k in 0..level1_entries(regs) {
         write_page(memory, k, level1(regs, before, k), 8192, maps);
@@ -50,7 +55,8 @@ fn write_page(memory: &mut Memory, k: u32, entry: Level1, count: u32, maps: &Map
     requires early { k < 128 }
     requires few { count ≤ 8192 }
     requires low { places.HasLowPage entry }
-    ensures { memory.new ≡ spec.put_tables memory.old (spec.words_of_page count maps.now k (places.page_of entry)) }
+    ensures { memory.new
+        ≡ spec.put_tables memory.old (spec.words_of_page count maps.now k (places.page_of entry)) }
 {
     match entry {
         Level1::Page(base) => write_places(memory, base, 8192 * k, count, maps),
@@ -62,7 +68,8 @@ fn write_page(memory: &mut Memory, k: u32, entry: Level1, count: u32, maps: &Map
 fn write_places(memory: &mut Memory, base: Addr, first: u32, count: u32, maps: &MapLists)
     requires low { base.0 < 2 ^ 53 }
     requires few { first + count < 2 ^ 32 }
-    ensures { memory.new ≡ spec.put_words memory.old base.0 (λ i. spec.device_word maps.now (first + i)) count }
+    ensures { memory.new
+        ≡ spec.put_words memory.old base.0 (λ i. spec.device_word maps.now (first + i)) count }
 {
     for at in 0..count {
         put_word(memory, base, at, maps.device_word(DeviceId(first + at)));
@@ -71,7 +78,9 @@ fn write_places(memory: &mut Memory, base: Addr, first: u32, count: u32, maps: &
 
 /// Writes a collection table.
 pub fn write_collections(memory: &mut Memory, regs: &Regs, maps: &MapLists)
-    ensures { memory.new ≡ spec.put_tables memory.old (spec.collection_words (record { regs = regs.now; maps = maps.now })) }
+    ensures { memory.new
+        ≡ spec.put_tables memory.old
+        (spec.collection_words (record { regs = regs.now; maps = maps.now })) }
 {
     if !regs.table_valid(1) {
         return;
@@ -93,12 +102,15 @@ pub fn write_itt(memory: &mut Memory, base: Addr, bits: u8, dev: DeviceId, maps:
     }
 }
 
-/// Writes the pending table of a redistributor, which has so many bytes, but for the 1024 that belong to no LPI.
+/// Writes the pending table of a redistributor, which has so many bytes, but for the 1024 that
+/// belong to no LPI.
 pub fn write_pending(memory: &mut Memory, base: Addr, bytes: u64, redist: &RedistLists)
     requires low { base.0 < 2 ^ 52 }
     requires least { 1024 ≤ bytes }
     requires few { bytes ≤ 131072 }
-    ensures { memory.new ≡ spec.put_words memory.old (base.0 + 1024) (λ i. spec.pending_word redist.now.pending (1024 + 8 * i)) ((bytes - 1024) / 8) }
+    ensures { memory.new
+        ≡ spec.put_words memory.old (base.0 + 1024)
+        (λ i. spec.pending_word redist.now.pending (1024 + 8 * i)) ((bytes - 1024) / 8) }
 {
     let first = Addr(base.0 + 1024);
     for at in 0..((bytes - 1024) / 8) as u32 {

@@ -1,5 +1,6 @@
 //! The plain machine as a program.
-use crate::redist::{self, RedistLists};
+use crate::redist::RedistLists;
+use crate::redists;
 use crate::translator::TranslatorLists;
 use gits_regs::Regs;
 use guest_windows::Memory;
@@ -8,7 +9,8 @@ use its_types::{DeviceId, EventId, Intid, Target};
 use std::alloc::{AllocError, Global};
 use std::marker::Model;
 
-/// A state of the plain machine, as a value: translators and redistributors in plain lists, and guest memory.
+/// A state of the plain machine, as a value: translators and redistributors in plain lists, and
+/// guest memory.
 #[derive(Drop)]
 pub struct State {
     pub(crate) layout: Layout,
@@ -68,7 +70,7 @@ impl State {
             return Err(Cause::Disabled);
         };
         let target = translator.locate(dev, ev)?;
-        if !redist::is_on_at(&self.redistributors, u64::from(target.vcpu.0)) {
+        if !redists::is_on_at(&self.redistributors, u64::from(target.vcpu.0)) {
             return Err(Cause::LpisOff);
         }
         Ok(target)
@@ -80,7 +82,8 @@ impl State {
         dev: DeviceId,
         ev: EventId,
     ) -> Result<Signal, AllocError>
-        ensures signal { IfOk result (λ s. s ≡ answers.signal_reply (translation.translated self.old its dev.0 ev.0)) }
+        ensures signal { IfOk result (λ s.
+            s ≡ answers.signal_reply (translation.translated self.old its dev.0 ev.0)) }
         ensures left { IfOk result (λ s. self.new ≡ answers.signal_left self.old s) }
     {
         match self.translate(its, dev, ev) {
@@ -106,19 +109,19 @@ impl State {
     pub(crate) fn set_lpi(&mut self, vcpu: u64, intid: Intid) -> Result<(), AllocError>
         ensures { OnOk result (self.new ≡ commands.lpi_set intid.0 vcpu self.old) }
     {
-        redist::set_at(&mut self.redistributors, vcpu, intid.0)
+        redists::set_at(&mut self.redistributors, vcpu, intid.0)
     }
 
     pub(crate) fn clear_lpi(&mut self, vcpu: u64, intid: Intid)
         ensures { self.new ≡ commands.lpi_cleared intid.0 vcpu self.old }
     {
-        redist::clear_at(&mut self.redistributors, vcpu, intid.0);
+        redists::clear_at(&mut self.redistributors, vcpu, intid.0);
     }
 
     pub(crate) fn move_lpi(&mut self, from: u64, to: u64, intid: Intid) -> Result<(), AllocError>
         ensures { OnOk result (self.new ≡ commands.lpi_moved intid.0 from to self.old) }
     {
-        if redist::is_pending_at(&self.redistributors, from, intid.0) {
+        if redists::is_pending_at(&self.redistributors, from, intid.0) {
             self.clear_lpi(from, intid);
             self.set_lpi(to, intid)?;
         }
@@ -141,13 +144,13 @@ impl State {
         if from == to {
             return Ok(());
         }
-        let pending = redist::take_all_at(alloc, &mut self.redistributors, from);
-        redist::set_all_at(&mut self.redistributors, to, pending)
+        let pending = redists::take_all_at(alloc, &mut self.redistributors, from);
+        redists::set_all_at(&mut self.redistributors, to, pending)
     }
 
     pub(crate) fn reread(&mut self, intids: &[u32])
         ensures { self.new ≡ commands.reread intids.now self.old }
     {
-        redist::reread_each(&mut self.redistributors, &self.memory, intids);
+        redists::reread_each(&mut self.redistributors, &self.memory, intids);
     }
 }

@@ -83,7 +83,8 @@ pub fn intids(
     entries: &[((u32, u32), MappedEvent)],
     icid: Icid,
 ) -> Result<Vec<u32>, AllocError>
-    ensures { IfOk result (λ v. v.items ≡ map (λ e. e.1.intid.0) (filter (λ e. e.1.icid.0 == icid.0) entries.now)) }
+    ensures { IfOk result (λ v.
+        v.items ≡ map (λ e. e.1.intid.0) (filter (λ e. e.1.icid.0 == icid.0) entries.now)) }
 {
     entries
         .iter()

@@ -86,7 +86,8 @@ impl TranslatorLists {
         areas: &mut Vec<Area>,
         memory: &Memory,
     ) -> Result<(), AllocError>
-        ensures { OnOk result (areas.new.items ≡ areas.old.items ++ regions.table_areas memory.now self.now) }
+        ensures { OnOk result
+            (areas.new.items ≡ areas.old.items ++ regions.table_areas memory.now self.now) }
     {
         areas::add_devices(areas, &self.regs, memory)?;
         areas::add_collections(areas, &self.regs)?;
@@ -95,7 +96,8 @@ impl TranslatorLists {
 
     /// The first device whose level-1 entry isn't valid.
     pub(crate) fn first_unplaced(&self, memory: &Memory) -> Option<DeviceId>
-        ensures { option_map (λ d. d.0) result ≡ option_map (λ d. d.0) (regions.first_unplaced memory.now self.now) }
+        ensures { option_map (λ d. d.0) result
+            ≡ option_map (λ d. d.0) (regions.first_unplaced memory.now self.now) }
     {
         self.maps.first_unplaced(&self.regs, memory)
     }
@@ -111,7 +113,8 @@ impl TranslatorLists {
     }
 
     fn write(&mut self, off: u32, size: u8, value: u64)
-        ensures { self.new ≡ answers.translator_written self.old (registers.write_reg self.old.regs off size value) }
+        ensures { self.new
+            ≡ answers.translator_written self.old (registers.write_reg self.old.regs off size value) }
     {
         match self.regs.write(off, size, value) {
             RegChange::DevicesEmptied => self.maps.empty_devices(),
@@ -141,7 +144,8 @@ impl TranslatorLists {
 
     fn map_event(&mut self, dev: DeviceId, ev: EventId, event: Event) -> Result<(), AllocError>
         requires { 1 ≤ event.intid.0 }
-        ensures { OnOk result (self.new ≡ record self.old { maps = maps.event_mapped self.old.maps dev.0 ev.0 event }) }
+        ensures { OnOk result (self.new
+            ≡ record self.old { maps = maps.event_mapped self.old.maps dev.0 ev.0 event }) }
     {
         self.maps.map_event(dev, ev, event)
     }
@@ -153,7 +157,8 @@ impl TranslatorLists {
     }
 
     fn map_collection(&mut self, icid: Icid, vcpu: Vcpu) -> Result<(), AllocError>
-        ensures { OnOk result (self.new ≡ record self.old { maps = maps.collection_mapped self.old.maps icid.0 vcpu }) }
+        ensures { OnOk result (self.new
+            ≡ record self.old { maps = maps.collection_mapped self.old.maps icid.0 vcpu }) }
     {
         self.maps.map_collection(icid, vcpu)
     }
@@ -168,7 +173,9 @@ impl TranslatorLists {
 // ---- one of several translators, where it is there
 
 pub fn write(all: &mut [TranslatorLists], its: u8, off: u32, size: u8, value: u64)
-    ensures { all.new ≡ slice_set all.old its (answers.translator_written (translator_in all.old its) (registers.write_reg (translator_in all.old its).regs off size value)) }
+    ensures { all.new
+        ≡ slice_set all.old its (answers.translator_written (translator_in all.old its)
+        (registers.write_reg (translator_in all.old its).regs off size value)) }
 {
     let at = usize::from(its);
     if at < all.len() {
@@ -192,7 +199,9 @@ pub fn map_device(
     device: Device,
 ) -> Result<(), AllocError>
     requires { HasTable device }
-    ensures { OnOk result (all.new ≡ maps_set all.old its (maps.device_mapped (translator_in all.old its).maps dev.0 device)) }
+    ensures { OnOk result (all.new
+        ≡ maps_set all.old its
+        (maps.device_mapped (translator_in all.old its).maps dev.0 device)) }
 {
     let at = usize::from(its);
     if at < all.len() {
@@ -218,7 +227,9 @@ pub fn map_event(
     event: Event,
 ) -> Result<(), AllocError>
     requires { 1 ≤ event.intid.0 }
-    ensures { OnOk result (all.new ≡ maps_set all.old its (maps.event_mapped (translator_in all.old its).maps dev.0 ev.0 event)) }
+    ensures { OnOk result (all.new
+        ≡ maps_set all.old its
+        (maps.event_mapped (translator_in all.old its).maps dev.0 ev.0 event)) }
 {
     let at = usize::from(its);
     if at < all.len() {
@@ -228,7 +239,8 @@ pub fn map_event(
 }
 
 pub fn unmap_event(all: &mut [TranslatorLists], its: u8, dev: DeviceId, ev: EventId)
-    ensures { all.new ≡ maps_set all.old its (maps.event_unmapped (translator_in all.old its).maps dev.0 ev.0) }
+    ensures { all.new
+        ≡ maps_set all.old its (maps.event_unmapped (translator_in all.old its).maps dev.0 ev.0) }
 {
     let at = usize::from(its);
     if at < all.len() {
@@ -242,7 +254,9 @@ pub fn map_collection(
     icid: Icid,
     vcpu: Vcpu,
 ) -> Result<(), AllocError>
-    ensures { OnOk result (all.new ≡ maps_set all.old its (maps.collection_mapped (translator_in all.old its).maps icid.0 vcpu)) }
+    ensures { OnOk result (all.new
+        ≡ maps_set all.old its
+        (maps.collection_mapped (translator_in all.old its).maps icid.0 vcpu)) }
 {
     let at = usize::from(its);
     if at < all.len() {
@@ -252,7 +266,8 @@ pub fn map_collection(
 }
 
 pub fn unmap_collection(all: &mut [TranslatorLists], its: u8, icid: Icid)
-    ensures { all.new ≡ maps_set all.old its (maps.collection_unmapped (translator_in all.old its).maps icid.0) }
+    ensures { all.new
+        ≡ maps_set all.old its (maps.collection_unmapped (translator_in all.old its).maps icid.0) }
 {
     let at = usize::from(its);
     if at < all.len() {

@@ -36,7 +36,8 @@ pub fn gicr_read_keeps_soundness()
     ensures { laws.GicrReadKeepsSound }
 {}
 
-/// A write of an LPI register leaves kept bits alone, and turns LPIs on only where both tables lie in memory.
+/// A write of an LPI register leaves kept bits alone, and turns LPIs on only where both tables lie
+/// in memory.
 pub fn gicr_write_keeps_soundness()
     ensures { laws.GicrWriteKeepsSound }
 {}

@@ -24,7 +24,8 @@ pub fn offered(redist: &Redist) -> Ack
 /// It is pending no more.
 pub fn acknowledge(redist: &mut Redist)
     requires { redist.old.pending.lpi_bits ≡ redist.old.config.lpi_bits }
-    ensures left { redistributor_of redist.new ≡ taken (redistributor_of redist.old) (lowest (redistributor_of redist.old)) }
+    ensures left { redistributor_of redist.new
+        ≡ taken (redistributor_of redist.old) (lowest (redistributor_of redist.old)) }
     ensures lpis { (s : Shape) → HasLpisOf s redist.old → HasLpisOf s redist.new }
 {
     if let Some(intid) = redist.pending.first_enabled(&redist.config) {

@@ -11,7 +11,8 @@ pub fn other_bytes_stay()
     ensures { laws.OtherBytesStay }
 {}
 
-/// So what a save only looks at is as before: first levels, configuration tables and command queues.
+/// So what a save only looks at is as before: first levels, configuration tables and command
+/// queues.
 pub fn read_areas_stay()
     ensures { laws.ReadAreasStay }
 {}

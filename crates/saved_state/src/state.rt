@@ -1,7 +1,8 @@
 //! The state that a restore finds.
 ghost use Rattle.saved_state.specs.Laws as laws;
 
-/// What a save left, and values that mask to the registers, stand for the state that a migration goes on from.
+/// What a save left, and values that mask to the registers, stand for the state that a migration
+/// goes on from.
 pub fn saved_stands()
     ensures { laws.SavedStands }
 {}
@@ -26,8 +27,8 @@ pub fn no_offence_is_first()
     ensures { laws.NoOffenceIsFirst }
 {}
 
-/// The state that a migration goes on from is an equal translator: registers, devices, events, collections, whether LPIs are
-/// on, bases, and exactly the same pending LPIs.
+/// The state that a migration goes on from is an equal translator: registers, devices, events,
+/// collections, whether LPIs are on, bases, and exactly the same pending LPIs.
 pub fn moved_is_equal()
     ensures { laws.MovedIsEqual }
 {}

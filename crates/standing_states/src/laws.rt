@@ -5,13 +5,14 @@ pub fn at_most_one_state_stands()
     ensures { laws.AtMostOneStands }
 {}
 
-/// A state that memory and register values stand for is sound, where the machine's layout and the bases of its
-/// redistributors are.
+/// A state that memory and register values stand for is sound, where the machine's layout and the
+/// bases of its redistributors are.
 pub fn standing_is_sound()
     ensures { laws.StandingIsSound }
 {}
 
-/// One memory and one set of register values have at most one first offence, and none where they stand for a state.
+/// One memory and one set of register values have at most one first offence, and none where they
+/// stand for a state.
 pub fn offences_are_decided()
     ensures { laws.OffencesAreDecided }
 {}

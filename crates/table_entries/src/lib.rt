@@ -1,4 +1,5 @@
-//! The entries of the tables that a translator is saved to (KVM document arm-vgic-its, ITS table ABI revision 0).
+//! The entries of the tables that a translator is saved to (KVM document arm-vgic-its, ITS table
+//! ABI revision 0).
 #![tactic(auto)]
 
 mod cte;
@@ -15,7 +16,8 @@ mod tests {
     use its_types::{Addr, Icid, Intid};
     use std::test::Fail;
 
-    // A table of two entries, as a host writes it: device 0 with 16 bits and its table at 0x800c0000, device 3 the last.
+    // A table of two entries, as a host writes it: device 0 with 16 bits and its table at
+    // 0x800c0000, device 3 the last.
     #[test]
     fn device_words(rt: HostRuntime) -> Result<(), Fail> {
         let first = Dte {

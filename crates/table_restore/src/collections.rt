@@ -2,7 +2,8 @@
 ghost use Rattle.std.specs.Prelude.{◌≡◌, ◌+◌, ◌<◌, ◌≤◌, ◌^◌, ℕ, true, OnOk};
 ghost use Rattle.gits_regs.specs.Registers.{collection_places, is_valid};
 ghost use Rattle.its_types.specs.Maps.{Maps, no_maps};
-ghost use Rattle.standing_states.specs.Found.{put_collection, collections_from, collections_read, AreThoseBefore};
+ghost use Rattle.standing_states.specs.Found.{put_collection, collections_from, collections_read};
+ghost use Rattle.standing_states.specs.Found.{AreThoseBefore};
 ghost use Rattle.table_restore.specs.Outcome.{LookedCollection, Took};
 
 use crate::error::RestoreError;
@@ -57,7 +58,8 @@ fn map_one(maps: &mut Maps, icid: Icid, vcpu: Vcpu) -> Result<(), AllocError>
 
 fn walk(regs: &Regs, memory: &Memory, vcpus: u8, maps: &mut Maps) -> Result<(), RestoreError>
     requires { maps.old.maps ≡ no_maps }
-    ensures { Took put_collection maps.old.maps maps.new.maps result (collections_from memory.now vcpus regs.now 0) }
+    ensures { Took put_collection maps.old.maps maps.new.maps result
+        (collections_from memory.now vcpus regs.now 0) }
 {
     let mut place = 0;
     'places: loop {
@@ -76,8 +78,8 @@ fn walk(regs: &Regs, memory: &Memory, vcpus: u8, maps: &mut Maps) -> Result<(), 
     }
 }
 
-/// Maps the collections that a valid table has, up to its first entry that isn't valid, or tells the first offence. No
-/// collection is mapped before.
+/// Maps the collections that a valid table has, up to its first entry that isn't valid, or tells
+/// the first offence. No collection is mapped before.
 pub fn map_collections(
     regs: &Regs,
     memory: &Memory,
@@ -85,7 +87,8 @@ pub fn map_collections(
     maps: &mut Maps,
 ) -> Result<(), RestoreError>
     requires { maps.old.maps ≡ no_maps }
-    ensures { Took put_collection maps.old.maps maps.new.maps result (collections_read memory.now vcpus regs.now) }
+    ensures { Took put_collection maps.old.maps maps.new.maps result
+        (collections_read memory.now vcpus regs.now) }
 {
     if !regs.table_valid(1) {
         return Ok(());

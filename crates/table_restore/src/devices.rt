@@ -5,7 +5,8 @@ ghost use Rattle.gits_regs.specs.Registers.{is_indirect};
 ghost use Rattle.its_types.specs.Maps.{device_mapped};
 ghost use Rattle.its_plain.specs.DeviceTables as spec;
 ghost use Rattle.its_plain.specs.EventTables.{itt_of};
-ghost use Rattle.standing_states.specs.Found.{put_event, put_found, events_read, devices_from, devices_read, IsPlace};
+ghost use Rattle.standing_states.specs.Found.{put_event, put_found, events_read, devices_from};
+ghost use Rattle.standing_states.specs.Found.{devices_read, IsPlace};
 ghost use Rattle.table_restore.specs.Outcome.{LookedDevice, LookedLevel1, Took, place_of};
 ghost use Rattle.table_restore.specs.declared.place.DevicePlace.TheVariants as place;
 
@@ -94,7 +95,8 @@ fn map_device(
 ) -> Result<(), RestoreError>
     requires base { device.itt.0 < 2 ^ 52 }
     requires bits { device.bits ≤ 16 }
-    ensures { Took (put_event dev.0) (device_mapped maps.old.maps dev.0 device) maps.new.maps result (events_read memory.now lpi_bits (itt_of dev.0 device)) }
+    ensures { Took (put_event dev.0) (device_mapped maps.old.maps dev.0 device) maps.new.maps result
+        (events_read memory.now lpi_bits (itt_of dev.0 device)) }
 {
     maps.room_for_device()?;
     maps.map_device(dev, device);
@@ -112,7 +114,8 @@ fn look_entry(
     index: u32,
 ) -> Result<Option<DevicePlace>, RestoreError>
     requires { IsPlace regs.now (spec.at_entry k page.0 index) }
-    ensures { LookedDevice memory.now lpi_bits regs.now (spec.at_entry k page.0 index) maps.old.maps maps.new.maps result }
+    ensures { LookedDevice memory.now lpi_bits regs.now (spec.at_entry k page.0 index) maps.old.maps
+        maps.new.maps result }
 {
     let addr = Addr(page.0 + 8 * u64::from(index));
     let Ok(word) = memory.read_u64(addr) else {
@@ -162,7 +165,8 @@ fn look(
     place: DevicePlace,
 ) -> Result<Option<DevicePlace>, RestoreError>
     requires { IsPlace regs.now (place_of place) }
-    ensures { LookedDevice memory.now lpi_bits regs.now (place_of place) maps.old.maps maps.new.maps result }
+    ensures { LookedDevice memory.now lpi_bits regs.now (place_of place) maps.old.maps maps.new.maps
+        result }
 {
     match place {
         DevicePlace::Level1(k) => Ok(look_level1(regs, memory, k)?),
@@ -173,7 +177,8 @@ fn look(
 }
 
 fn walk(regs: &Regs, memory: &Memory, lpi_bits: u8, maps: &mut Maps) -> Result<(), RestoreError>
-    ensures { Took put_found maps.old.maps maps.new.maps result (devices_from memory.now lpi_bits regs.now (spec.first_device regs.now)) }
+    ensures { Took put_found maps.old.maps maps.new.maps result
+        (devices_from memory.now lpi_bits regs.now (spec.first_device regs.now)) }
 {
     regs.keeps_rules();
     let mut place = first(regs);
@@ -196,7 +201,8 @@ pub fn map_devices(
     lpi_bits: u8,
     maps: &mut Maps,
 ) -> Result<(), RestoreError>
-    ensures { Took put_found maps.old.maps maps.new.maps result (devices_read memory.now lpi_bits regs.now) }
+    ensures { Took put_found maps.old.maps maps.new.maps result
+        (devices_read memory.now lpi_bits regs.now) }
 {
     if !regs.table_valid(0) {
         return Ok(());

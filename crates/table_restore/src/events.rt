@@ -91,7 +91,8 @@ pub fn map_events(
     requires base { device.itt.0 < 2 ^ 52 }
     requires bits { device.bits ≤ 16 }
     requires mapped { IsSome (device_of maps.old.maps dev.0) }
-    ensures { Took (put_event dev.0) maps.old.maps maps.new.maps result (events_read memory.now lpi_bits (itt_of dev.0 device)) }
+    ensures { Took (put_event dev.0) maps.old.maps maps.new.maps result
+        (events_read memory.now lpi_bits (itt_of dev.0 device)) }
 {
     let mut ev = 0;
     'places: loop {

@@ -1,5 +1,5 @@
-//! The state that guest memory and register values stand for, or their first offence (KVM document arm-vgic-its, "ITS
-//! Restore Sequence").
+//! The state that guest memory and register values stand for, or their first offence (KVM document
+//! arm-vgic-its, "ITS Restore Sequence").
 #![tactic(auto)]
 
 mod collections;

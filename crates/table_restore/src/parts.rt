@@ -60,11 +60,16 @@ fn find(
     layout: &Layout,
 ) -> Result<Found, RestoreError>
     requires { IsLayout layout.now }
-    ensures stands { IfOk result (λ f. Stands memory.now values layout.now (bases_to_restore layout.now gicr.now) (state_of f.layout f.regs f.maps.maps memory.now f.redists)) }
+    ensures stands { IfOk result (λ f.
+        Stands memory.now values layout.now (bases_to_restore layout.now gicr.now)
+        (state_of f.layout f.regs f.maps.maps memory.now f.redists)) }
     ensures layout { IfOk result (λ f. f.layout ≡ layout.now) }
     ensures in_hand { IfOk result (λ f. AreAllInHand layout.now.shape f.redists) }
-    ensures no_others { IfOk result (λ f. (vcpu : ℕ) → layout.now.shape.vcpus ≤ vcpu → in_hand f.redists vcpu ≡ None) }
-    ensures fault { IfFault result (λ f. IsFirstFault memory.now values layout.now.shape (bases_to_restore layout.now gicr.now) f) }
+    ensures no_others { IfOk result (λ f.
+        (vcpu : ℕ) → layout.now.shape.vcpus ≤ vcpu → in_hand f.redists vcpu ≡ None) }
+    ensures fault { IfFault result (λ f.
+        IsFirstFault memory.now values layout.now.shape (bases_to_restore layout.now gicr.now)
+        f) }
 {
     let redists = redists_of(alloc, memory, gicr, layout)?;
     let regs = regs_of(values, layout.shape)?;
@@ -77,10 +82,11 @@ fn find(
     })
 }
 
-/// The machine that memory, the values of a translator's registers and those of the redistributors' LPI registers stand for,
-/// with a copy of the memory, or their first offence. A redistributor whose LPIs are on and of which a table doesn't lie in
-/// one window is an offence before all others; then come the registers, the collections, and the devices with their events.
-/// Where the layout describes the LPI tables, the values of the LPI registers aren't looked at.
+/// The machine that memory, the values of a translator's registers and those of the redistributors'
+/// LPI registers stand for, with a copy of the memory, or their first offence. A redistributor
+/// whose LPIs are on and of which a table doesn't lie in one window is an offence before all
+/// others; then come the registers, the collections, and the devices with their events. Where the
+/// layout describes the LPI tables, the values of the LPI registers aren't looked at.
 pub fn restore(
     alloc: Global,
     values: RegValues,
@@ -89,12 +95,17 @@ pub fn restore(
     layout: &Layout,
 ) -> Result<Parts, RestoreError>
     requires { IsLayout layout.now }
-    ensures stands { IfOk result (λ p. Stands memory.now values layout.now (bases_to_restore layout.now gicr.now) (state_of_parts p)) }
+    ensures stands { IfOk result (λ p.
+        Stands memory.now values layout.now (bases_to_restore layout.now gicr.now)
+        (state_of_parts p)) }
     ensures layout { IfOk result (λ p. p.layout ≡ layout.now) }
     ensures copy { IfOk result (λ p. p.memory ≡ memory.now) }
     ensures in_hand { IfOk result (λ p. AreAllInHand layout.now.shape p.redists) }
-    ensures no_others { IfOk result (λ p. (vcpu : ℕ) → layout.now.shape.vcpus ≤ vcpu → in_hand p.redists vcpu ≡ None) }
-    ensures fault { IfFault result (λ f. IsFirstFault memory.now values layout.now.shape (bases_to_restore layout.now gicr.now) f) }
+    ensures no_others { IfOk result (λ p.
+        (vcpu : ℕ) → layout.now.shape.vcpus ≤ vcpu → in_hand p.redists vcpu ≡ None) }
+    ensures fault { IfFault result (λ f.
+        IsFirstFault memory.now values layout.now.shape (bases_to_restore layout.now gicr.now)
+        f) }
 {
     let memory = memory.copy(alloc)?;
     match restore_in(alloc, values, gicr, memory, layout) {
@@ -112,12 +123,18 @@ pub fn restore_in(
     layout: &Layout,
 ) -> Result<Parts, (Memory, RestoreError)>
     requires { IsLayout layout.now }
-    ensures stands { IfOk result (λ p. Stands memory values layout.now (bases_to_restore layout.now gicr.now) (state_of_parts p)) }
+    ensures stands { IfOk result (λ p.
+        Stands memory values layout.now (bases_to_restore layout.now gicr.now)
+        (state_of_parts p)) }
     ensures layout { IfOk result (λ p. p.layout ≡ layout.now) }
     ensures memory { IfOk result (λ p. p.memory ≡ memory) }
     ensures in_hand { IfOk result (λ p. AreAllInHand layout.now.shape p.redists) }
-    ensures no_others { IfOk result (λ p. (vcpu : ℕ) → layout.now.shape.vcpus ≤ vcpu → in_hand p.redists vcpu ≡ None) }
-    ensures fault { IfErr result (λ e. WhereFault e.1 (λ f. IsFirstFault memory values layout.now.shape (bases_to_restore layout.now gicr.now) f)) }
+    ensures no_others { IfOk result (λ p.
+        (vcpu : ℕ) → layout.now.shape.vcpus ≤ vcpu → in_hand p.redists vcpu ≡ None) }
+    ensures fault { IfErr result (λ e.
+        WhereFault e.1 (λ f.
+        IsFirstFault memory values layout.now.shape (bases_to_restore layout.now gicr.now)
+        f)) }
     ensures back { IfErr result (λ e. e.0 ≡ memory) }
 {
     match find(alloc, values, gicr, &memory, layout) {

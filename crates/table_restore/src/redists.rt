@@ -1,5 +1,6 @@
 //! The redistributors, from their tables in memory.
-ghost use Rattle.std.specs.Prelude.{◌≡◌, ◌+◌, ◌<◌, ◌≤◌, ◌^◌, ℕ, true, false, IfOk, OnOk, Some, slice_get, length};
+ghost use Rattle.std.specs.Prelude.{◌≡◌, ◌+◌, ◌<◌, ◌≤◌, ◌^◌, ℕ, true, false, IfOk, OnOk, Some};
+ghost use Rattle.std.specs.Prelude.{slice_get, length};
 ghost use Rattle.guest_windows.specs.Windows.{inside};
 ghost use Rattle.its_types.specs.Ranges.{pending_bytes};
 ghost use Rattle.its_plain.specs.Sound.{IsShape, IsLayout};
@@ -112,8 +113,8 @@ fn bases_of(gicr: &GicrValues, layout: &Layout, vcpu: u8) -> Bases
     }
 }
 
-/// The redistributors of all virtual processors, or the first of them whose LPIs are on and of which a table doesn't lie in
-/// one window.
+/// The redistributors of all virtual processors, or the first of them whose LPIs are on and of
+/// which a table doesn't lie in one window.
 pub fn redists_of(
     alloc: Global,
     memory: &Memory,

@@ -15,7 +15,8 @@ use owned_parts::Parts;
 use std::alloc::{AllocError, Global};
 use std::test::Fail;
 
-// Enabled, with a queue of one page, a flat device table of one page and a collection table of one page.
+// Enabled, with a queue of one page, a flat device table of one page and a collection table of one
+// page.
 const VALUES: RegValues = RegValues {
     ctlr: 1,
     cbaser: 0x8000_0000_8002_0000,
@@ -169,7 +170,8 @@ fn first_pending(parts: &Parts, shape: Shape, vcpu: Vcpu) -> Option<Intid>
     redist.pending.first_enabled(&redist.config)
 }
 
-// A table as a host leaves it: device 16 is the last, and behind it an old entry stands; between its events too.
+// A table as a host leaves it: device 16 is the last, and behind it an old entry stands; between
+// its events too.
 #[test]
 fn old_entries_are_not_read(rt: HostRuntime) -> Result<(), Fail> {
     let mut memory = Memory::new(rt.alloc(), &[(Addr(0x8000_0000), 0x20_0000)])?;
@@ -230,7 +232,8 @@ fn one_page_of_two_entries(rt: HostRuntime) -> Result<(), Fail> {
     Ok(())
 }
 
-// Where the guest programs the LPI registers: virtual processor 2 reads its tables, and the others are off.
+// Where the guest programs the LPI registers: virtual processor 2 reads its tables, and the others
+// are off.
 #[test]
 fn registers_of_redistributors(rt: HostRuntime) -> Result<(), Fail> {
     let mut memory = Memory::new(rt.alloc(), &[(Addr(0x8000_0000), 0x20_0000)])?;

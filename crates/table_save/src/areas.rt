@@ -8,7 +8,9 @@ ghost use Rattle.gicr_regs.specs.Registers.{AreLow};
 ghost use Rattle.its_plain.specs.Regions as spec;
 ghost use Rattle.its_plain.specs.Sound.{IsShape};
 ghost use Rattle.owned_parts.specs.Owned.{AreAllInHand};
-ghost use Rattle.table_save.specs.Areas.{page_area, level1_areas, itt_areas, redistributors_of, pending_area, own_config_area, config_areas, queue_areas, HasLowTable, HaveLowTables};
+ghost use Rattle.table_save.specs.Areas.{page_area, level1_areas, itt_areas, redistributors_of};
+ghost use Rattle.table_save.specs.Areas.{pending_area, own_config_area, config_areas, queue_areas};
+ghost use Rattle.table_save.specs.Areas.{HasLowTable, HaveLowTables};
 
 use crate::area::Stretch;
 use baser_place::{Level1, level1, level1_entries};
@@ -54,7 +56,9 @@ fn add_levels(areas: &mut Vec<Stretch>, regs: &Regs, memory: &Memory) -> Result<
 }
 
 fn add_pages(areas: &mut Vec<Stretch>, regs: &Regs, memory: &Memory) -> Result<(), AllocError>
-    ensures { OnOk result (areas.new.items ≡ areas.old.items ++ spec.pages_below regs.now memory.now (places.level1_entries regs.now.dev_bits)) }
+    ensures { OnOk result (areas.new.items
+        ≡ areas.old.items ++ spec.pages_below regs.now memory.now
+        (places.level1_entries regs.now.dev_bits)) }
 {
     for k in 0..level1_entries(regs) {
         add_page(areas, k, level1(regs, memory, k))?;
@@ -114,7 +118,9 @@ pub fn add_pending(
     requires shape { IsShape shape }
     requires in_hand { AreAllInHand shape redists.now }
     requires low { HaveLowTables shape redists.now }
-    ensures { OnOk result (areas.new.items ≡ areas.old.items ++ spec.areas_from (spec.pending_area shape) 0 (redistributors_of shape redists.now)) }
+    ensures { OnOk result (areas.new.items
+        ≡ areas.old.items ++ spec.areas_from (spec.pending_area shape) 0
+        (redistributors_of shape redists.now)) }
 {
     for vcpu in 0..shape.vcpus {
         let redist = redists.redist(Vcpu(vcpu));
@@ -141,8 +147,8 @@ fn add_pending_of(
     Ok(())
 }
 
-/// Appends that of the configuration table, which all virtual processors share; or where the guest programs the LPI
-/// registers, that of each whose LPIs are on.
+/// Appends that of the configuration table, which all virtual processors share; or where the guest
+/// programs the LPI registers, that of each whose LPIs are on.
 pub fn add_configs(
     areas: &mut Vec<Stretch>,
     redists: &Redists,
@@ -151,7 +157,9 @@ pub fn add_configs(
     requires shape { IsShape layout.now.shape }
     requires in_hand { AreAllInHand layout.now.shape redists.now }
     requires low { HaveLowTables layout.now.shape redists.now }
-    ensures { OnOk result (areas.new.items ≡ areas.old.items ++ config_areas layout.now (redistributors_of layout.now.shape redists.now)) }
+    ensures { OnOk result (areas.new.items
+        ≡ areas.old.items ++ config_areas layout.now
+        (redistributors_of layout.now.shape redists.now)) }
 {
     let shape = layout.shape;
     if layout.gicr {
@@ -170,7 +178,9 @@ fn add_own_configs(
     requires shape { IsShape shape }
     requires in_hand { AreAllInHand shape redists.now }
     requires low { HaveLowTables shape redists.now }
-    ensures { OnOk result (areas.new.items ≡ areas.old.items ++ spec.areas_from (spec.config_area shape) 0 (redistributors_of shape redists.now)) }
+    ensures { OnOk result (areas.new.items
+        ≡ areas.old.items ++ spec.areas_from (spec.config_area shape) 0
+        (redistributors_of shape redists.now)) }
 {
     for vcpu in 0..shape.vcpus {
         let redist = redists.redist(Vcpu(vcpu));

@@ -25,7 +25,9 @@ pub fn all_inside(memory: &Memory, areas: &[Stretch]) -> Result<(), SaveFault>
 
 /// The level-1 entry of each mapped device is valid, or the first device whose entry isn't.
 pub fn all_placed(regs: &Regs, memory: &Memory, maps: &Maps) -> Result<(), SaveFault>
-    ensures { result ≡ unplaced_fault (find (spec.has_no_place regs.now memory.now) (entries maps.now.maps.devices)) }
+    ensures { result
+        ≡ unplaced_fault
+        (find (spec.has_no_place regs.now memory.now) (entries maps.now.maps.devices)) }
 {
     for (dev, _) in maps.devices() {
         if regs.indirect() && !is_page(level1(regs, memory, dev.0 / 8192)) {

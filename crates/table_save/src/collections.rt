@@ -13,7 +13,9 @@ use table_entries::Cte;
 
 /// Writes the collections by rising ICID, and zeros behind them.
 pub fn put_collections(memory: &mut Memory, regs: &Regs, maps: &Maps)
-    ensures { memory.new ≡ put_tables memory.old (collection_words (record { regs = regs.now; maps = maps.now.maps })) }
+    ensures { memory.new
+        ≡ put_tables memory.old
+        (collection_words (record { regs = regs.now; maps = maps.now.maps })) }
 {
     if regs.table_valid(1) {
         put_places(memory, regs.table_base(1).0, regs.collection_places(), maps);

@@ -39,7 +39,8 @@ impl<'a> DeviceFront<'a> {
     ghost use Rattle.std.specs.List.{AllByRecursion};
     ghost use Rattle.std.specs.FinMap.{entries};
     ghost use Rattle.its_plain.specs.Saved as saved;
-    ghost use Rattle.table_save.specs.Pass.{RisesFrom, FitsDevice, PassedDevices, device_entry_word, begins_below, first_key, past};
+    ghost use Rattle.table_save.specs.Pass.{RisesFrom, FitsDevice, PassedDevices};
+    ghost use Rattle.table_save.specs.Pass.{device_entry_word, begins_below, first_key, past};
 
     pub fn new(maps: &'a Maps) -> DeviceFront<'a>
         ensures { result ≡ entries maps.now.maps.devices }
@@ -49,7 +50,8 @@ impl<'a> DeviceFront<'a> {
         DeviceFront { first, rest }
     }
 
-    /// The word of a place, at which the devices begin at the earliest; the device there is then written.
+    /// The word of a place, at which the devices begin at the earliest; the device there is then
+    /// written.
     pub fn word_at(&mut self, id: u32) -> u64
         requires rises { RisesFrom id self.old }
         requires fit { AllByRecursion FitsDevice self.old }
@@ -108,7 +110,8 @@ impl<'a> DeviceFront<'a> {
     }
 }
 
-/// Writes so many places of a device table, of which the first is that of a DeviceID and stands at an address.
+/// Writes so many places of a device table, of which the first is that of a DeviceID and stands at
+/// an address.
 pub fn put_places(memory: &mut Memory, base: u64, first: u32, count: u32, front: &mut DeviceFront)
     requires low { base < 2 ^ 53 }
     requires few { first + count < 2 ^ 32 }
@@ -129,7 +132,9 @@ pub fn put_pages(memory: &mut Memory, pages: &[Option<Addr>], per_page: u32, map
     requires short { per_page ≤ 8192 }
     requires low { AreLowPages pages.now }
     requires fit { AllByRecursion FitsDevice (entries maps.now.maps.devices) }
-    ensures { memory.new ≡ put_tables memory.old (page_tables (entries maps.now.maps.devices) per_page pages.now (length pages.now)) }
+    ensures { memory.new
+        ≡ put_tables memory.old
+        (page_tables (entries maps.now.maps.devices) per_page pages.now (length pages.now)) }
 {
     let mut front = DeviceFront::new(maps);
     for (k, page) in pages.iter().enumerate() {
@@ -163,7 +168,9 @@ fn put_page(
 pub fn put_devices(memory: &mut Memory, regs: &Regs, pages: &[Option<Addr>], maps: &Maps)
     requires pages { is_indirect regs.now.baser0 ≡ true → ArePages regs.now memory.old pages.now }
     requires fit { AllByRecursion FitsDevice (entries maps.now.maps.devices) }
-    ensures { memory.new ≡ put_tables memory.old (device_words (record { regs = regs.now; maps = maps.now.maps }) memory.old) }
+    ensures { memory.new
+        ≡ put_tables memory.old
+        (device_words (record { regs = regs.now; maps = maps.now.maps }) memory.old) }
 {
     if !regs.table_valid(0) {
         return;

@@ -1,6 +1,8 @@
-//! Areas by their bases and their ends: how many of them an area meets is found without a look at each.
+//! Areas by their bases and their ends: how many of them an area meets is found without a look at
+//! each.
 
-ghost use Rattle.std.specs.Prelude.{◌≡◌, ◌+◌, ◌≤◌, ◌<◌, ◌++◌, ◌∷◌, [], length, map, nat_lt, count_by};
+ghost use Rattle.std.specs.Prelude.{◌≡◌, ◌+◌, ◌≤◌, ◌<◌, ◌++◌, ◌∷◌, [], length, map, nat_lt};
+ghost use Rattle.std.specs.Prelude.{count_by};
 ghost use Rattle.std.specs.List.Sorted.{IsNonDecreasing};
 ghost use Rattle.table_save.specs.Edges.{chosen, end_of};
 ghost use Rattle.std.specs.Vec.{vec_len, vec_capacity};
@@ -57,7 +59,8 @@ impl Edges {
         self.ends.sort_unstable();
     }
 
-    /// How many of the areas share a byte with one: those that begin before its end, but for those that end by its base.
+    /// How many of the areas share a byte with one: those that begin before its end, but for those
+    /// that end by its base.
     pub fn met_by(&self, area: &Stretch) -> usize
         ensures met { (areas : List plain.Area) → AreEdges areas self.now → result ≡ met area.now areas }
         ensures some { area.now.base < end_of area.now }

@@ -37,7 +37,8 @@ impl<'a> EventFront<'a> {
     ghost use Rattle.std.specs.List.{AllByRecursion};
     ghost use Rattle.its_types.specs.Maps.{events_at};
     ghost use Rattle.its_plain.specs.Saved as saved;
-    ghost use Rattle.table_save.specs.Pass.{RisesFrom, FitsEvent, event_entry_word, first_key, past};
+    ghost use Rattle.table_save.specs.Pass.{RisesFrom, FitsEvent, event_entry_word, first_key};
+    ghost use Rattle.table_save.specs.Pass.{past};
 
     fn new(maps: &'a Maps, dev: DeviceId) -> EventFront<'a>
         ensures { result ≡ events_at maps.now.maps dev.0 }
@@ -47,7 +48,8 @@ impl<'a> EventFront<'a> {
         EventFront { first, rest }
     }
 
-    // The word of a place, at which the events begin at the earliest; the event there is then written.
+    // The word of a place, at which the events begin at the earliest; the event there is then
+    // written.
     fn word_at(&mut self, id: u32) -> u64
         requires rises { RisesFrom id self.old }
         requires fit { AllByRecursion FitsEvent self.old }
@@ -84,7 +86,8 @@ impl<'a> EventFront<'a> {
 pub fn put_itts(memory: &mut Memory, maps: &Maps)
     requires devices { AllByRecursion FitsDevice (entries maps.now.maps.devices) }
     requires events { (dev : ℕ) → AllByRecursion FitsEvent (events_at maps.now.maps dev) }
-    ensures { memory.new ≡ put_tables memory.old (itt_tables maps.now.maps (entries maps.now.maps.devices)) }
+    ensures { memory.new
+        ≡ put_tables memory.old (itt_tables maps.now.maps (entries maps.now.maps.devices)) }
 {
     for (dev, device) in maps.devices() {
         put_itt(memory, maps, dev, device);
@@ -95,7 +98,9 @@ fn put_itt(memory: &mut Memory, maps: &Maps, dev: DeviceId, device: Device)
     requires low { device.itt.0 < 2 ^ 52 }
     requires few { device.bits ≤ 16 }
     requires events { AllByRecursion FitsEvent (events_at maps.now.maps dev.0) }
-    ensures { memory.new ≡ put_words memory.old device.itt.0 (event_entry_word (events_at maps.now.maps dev.0)) (2 ^ device.bits) }
+    ensures { memory.new
+        ≡ put_words memory.old device.itt.0 (event_entry_word (events_at maps.now.maps dev.0))
+        (2 ^ device.bits) }
 {
     let mut front = EventFront::new(maps, dev);
     let count = 1u32 << device.bits;

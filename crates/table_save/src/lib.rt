@@ -1,4 +1,5 @@
-//! Saving a translator and the pending LPIs to guest memory (KVM document arm-vgic-its, ITS table ABI revision 0).
+//! Saving a translator and the pending LPIs to guest memory (KVM document arm-vgic-its, ITS table
+//! ABI revision 0).
 #![tactic(auto)]
 
 mod area;

@@ -9,7 +9,8 @@ use crate::edges::Edges;
 use its_plain::{SaveError, SaveFault};
 use std::alloc::Global;
 
-/// No two of the areas clash, or the first pair that does, by the first of the two and then by the second.
+/// No two of the areas clash, or the first pair that does, by the first of the two and then by the
+/// second.
 pub fn none_overlap(alloc: Global, areas: &[Stretch]) -> Result<(), SaveError>
     ensures { Answers result (spec.none_overlap areas.now) }
 {
@@ -21,8 +22,8 @@ pub fn none_overlap(alloc: Global, areas: &[Stretch]) -> Result<(), SaveError>
     Ok(())
 }
 
-// The same, with the edges of all the areas and of those that are written. The first area that meets another is the first
-// of the pair, so one area alone is tried with each of those after it.
+// The same, with the edges of all the areas and of those that are written. The first area that
+// meets another is the first of the pair, so one area alone is tried with each of those after it.
 fn find_overlap(areas: &[Stretch], all: &Edges, written: &Edges) -> Result<(), SaveFault>
     requires all { AreEdges (chosen true areas.now) all.now }
     requires written { AreEdges (chosen false areas.now) written.now }
@@ -40,7 +41,8 @@ fn find_overlap(areas: &[Stretch], all: &Edges, written: &Edges) -> Result<(), S
 
 // Whether an area shares a byte with another, and one of the two is written.
 fn meets_another(one: &Stretch, all: &Edges, written: &Edges) -> bool
-    ensures meets { (areas : List plain.Area) → AreEdges (chosen true areas) all.now → AreEdges (chosen false areas) written.now → result ≡ meets_another one.now areas }
+    ensures meets { (areas : List plain.Area) → AreEdges (chosen true areas) all.now →
+        AreEdges (chosen false areas) written.now → result ≡ meets_another one.now areas }
     ensures some { one.now.base < end_of one.now }
 {
     if one.is_written() {

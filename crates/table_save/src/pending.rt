@@ -19,7 +19,9 @@ pub fn put_pending(memory: &mut Memory, redists: &Redists, shape: Shape)
     requires shape { IsShape shape }
     requires in_hand { AreAllInHand shape redists.now }
     requires low { HaveLowTables shape redists.now }
-    ensures { memory.new ≡ put_tables memory.old (flat_map (pending_words shape) (redistributors_of shape redists.now)) }
+    ensures { memory.new
+        ≡ put_tables memory.old
+        (flat_map (pending_words shape) (redistributors_of shape redists.now)) }
 {
     for vcpu in 0..shape.vcpus {
         put_table(memory, redists.redist(Vcpu(vcpu)), shape);
@@ -49,7 +51,8 @@ fn put_words_of(memory: &mut Memory, base: u64, count: u32, pending: &Pending)
     requires low { base < 2 ^ 53 }
     requires few { count ≤ 16384 }
     requires in_table { 1024 + 8 * count ≤ pending_bytes pending.now.lpi_bits }
-    ensures { memory.new ≡ put_words memory.old base (λ i. pending_word pending.now.lpis (1024 + 8 * i)) count }
+    ensures { memory.new
+        ≡ put_words memory.old base (λ i. pending_word pending.now.lpis (1024 + 8 * i)) count }
 {
     for i in 0..count {
         let word = word_of(pending, 1024 + 8 * i);

@@ -9,7 +9,8 @@ ghost use Rattle.its_plain.specs.Regions as spec;
 ghost use Rattle.its_plain.specs.Saved.{saved, put_tables};
 ghost use Rattle.its_plain.specs.Sound.{IsShape, IsSound};
 ghost use Rattle.owned_parts.specs.Owned.{AreAllInHand, state_of};
-ghost use Rattle.table_save.specs.Areas.{redistributors_of, tables_in, all_areas, HasLowTable, HaveLowTables};
+ghost use Rattle.table_save.specs.Areas.{redistributors_of, tables_in, all_areas, HasLowTable};
+ghost use Rattle.table_save.specs.Areas.{HaveLowTables};
 ghost use Rattle.table_save.specs.Checked.{Answers, Leaves};
 ghost use Rattle.table_save.specs.Pass.{FitsDevice, FitsEvent};
 ghost use Rattle.table_save.specs.Tables.{ArePages, all_tables};
@@ -42,7 +43,8 @@ pub fn savable(
 ) -> Result<(), SaveError>
     requires parts { AreAllInHand layout.now.shape redists.now }
     requires sound { IsSound (state_of layout.now regs.now maps.now.maps memory.now redists.now) }
-    ensures { Answers result (spec.savable (state_of layout.now regs.now maps.now.maps memory.now redists.now)) }
+    ensures { Answers result
+        (spec.savable (state_of layout.now regs.now maps.now.maps memory.now redists.now)) }
 {
     let tables = table_areas(alloc, regs, maps, memory)?;
     all_inside(memory, &tables)?;
@@ -87,8 +89,8 @@ fn with_others(
     Ok(areas)
 }
 
-/// Saves the tables to guest memory: writes every entry of every table, unused ones as zeros, and the pending bits. Where
-/// it answers an error, memory is as it was.
+/// Saves the tables to guest memory: writes every entry of every table, unused ones as zeros, and
+/// the pending bits. Where it answers an error, memory is as it was.
 pub fn save(
     alloc: Global,
     regs: &Regs,
@@ -99,8 +101,10 @@ pub fn save(
 ) -> Result<(), SaveError>
     requires parts { AreAllInHand layout.now.shape redists.now }
     requires sound { IsSound (state_of layout.now regs.now maps.now.maps memory.old redists.now) }
-    ensures answer { Answers result (spec.savable (state_of layout.now regs.now maps.now.maps memory.old redists.now)) }
-    ensures memory { Leaves result memory.old memory.new (saved (state_of layout.now regs.now maps.now.maps memory.old redists.now)) }
+    ensures answer { Answers result
+        (spec.savable (state_of layout.now regs.now maps.now.maps memory.old redists.now)) }
+    ensures memory { Leaves result memory.old memory.new
+        (saved (state_of layout.now regs.now maps.now.maps memory.old redists.now)) }
 {
     savable(alloc, regs, maps, redists, layout, memory)?;
     let pages = read_pages(alloc, regs, memory)?;
@@ -123,7 +127,9 @@ fn put_all(
     requires devices { AllByRecursion FitsDevice (entries maps.now.maps.devices) }
     requires events { (dev : ℕ) → AllByRecursion FitsEvent (events_at maps.now.maps dev) }
     requires pages { is_indirect regs.now.baser0 ≡ true → ArePages regs.now memory.old pages.now }
-    ensures { memory.new ≡ put_tables memory.old (all_tables memory.old regs.now maps.now.maps (redistributors_of shape redists.now) shape) }
+    ensures { memory.new
+        ≡ put_tables memory.old (all_tables memory.old regs.now maps.now.maps (redistributors_of shape redists.now)
+        shape) }
 {
     put_devices(memory, regs, pages, maps);
     put_collections(memory, regs, maps);

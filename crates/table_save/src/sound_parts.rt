@@ -10,7 +10,8 @@ ghost use Rattle.its_plain.specs.Sound as sound;
 ghost use Rattle.lpi_pending.specs.InHand.{in_hand};
 ghost use Rattle.lpi_pending.specs.declared.redist.Redist.{Redist};
 ghost use Rattle.owned_parts.specs.Owned.{AreAllInHand, HasLpisOf, state_of, redistributor_of};
-ghost use Rattle.table_save.specs.SoundParts.{IsDeviceOf, IsEventOf, AreEventsOf, IsCollectionOf, AreSoundRedistributors};
+ghost use Rattle.table_save.specs.SoundParts.{IsDeviceOf, IsEventOf, AreEventsOf, IsCollectionOf};
+ghost use Rattle.table_save.specs.SoundParts.{AreSoundRedistributors};
 
 use gits_regs::Regs;
 use guest_windows::Memory;
@@ -29,7 +30,8 @@ pub fn are_sound(
 ) -> bool
     requires windows { are_windows (map extent memory.now) ≡ true }
     requires in_hand { AreAllInHand layout.now.shape redists.now }
-    ensures { OnTrue result (sound.IsSound (state_of layout.now regs.now maps.now.maps memory.now redists.now)) }
+    ensures { OnTrue result
+        (sound.IsSound (state_of layout.now regs.now maps.now.maps memory.now redists.now)) }
 {
     regs.keeps_rules();
     let _mapped = maps.look_up(DeviceId(0), EventId(0));
@@ -81,7 +83,8 @@ fn is_device(regs: &Regs, dev: DeviceId, device: Device) -> bool
 }
 
 fn are_events(maps: &Maps, shape: Shape) -> bool
-    ensures { OnTrue result (AllByRecursion (AreEventsOf shape maps.now.maps) (entries maps.now.maps.devices)) }
+    ensures { OnTrue result
+        (AllByRecursion (AreEventsOf shape maps.now.maps) (entries maps.now.maps.devices)) }
 {
     for (dev, device) in maps.devices() {
         if !are_events_of(maps, shape, dev, device) {
@@ -112,7 +115,8 @@ fn is_event(shape: Shape, device: Device, ev: EventId, event: Event) -> bool
 }
 
 fn are_collections(regs: &Regs, maps: &Maps, shape: Shape) -> bool
-    ensures { OnTrue result (AllByRecursion (IsCollectionOf shape regs.now) (entries maps.now.maps.collections)) }
+    ensures { OnTrue result
+        (AllByRecursion (IsCollectionOf shape regs.now) (entries maps.now.maps.collections)) }
 {
     for (icid, vcpu) in maps.collections() {
         if !is_collection(regs, shape, icid, vcpu) {
@@ -144,7 +148,8 @@ fn are_redistributors(redists: &Redists, memory: &Memory, layout: &Layout) -> bo
 fn is_redistributor(redist: &Redist, memory: &Memory, layout: &Layout, vcpu: u8) -> bool
     requires described { layout.now.gicr ≡ false }
     requires lpis { HasLpisOf layout.now.shape redist.now }
-    ensures { OnTrue result (sound.IsRedistributor layout.now memory.now vcpu (redistributor_of redist.now)) }
+    ensures { OnTrue result
+        (sound.IsRedistributor layout.now memory.now vcpu (redistributor_of redist.now)) }
 {
     let bases = redist.bases;
     let shape = layout.shape;

@@ -77,7 +77,8 @@ fn pending_at(alloc: Global, vcpu: u8) -> Result<Pending, SaveError>
     Ok(pending)
 }
 
-// The translator is enabled, its queue stands at 0x80020000, and its collection table at 0x80010000.
+// The translator is enabled, its queue stands at 0x80020000, and its collection table at
+// 0x80010000.
 fn registers(baser0: u64) -> Regs {
     let mut regs = Regs::reset(16);
     regs.write(0x100, 8, baser0);

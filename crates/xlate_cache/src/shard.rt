@@ -2,7 +2,9 @@ ghost use Rattle.std.specs.Prelude.{◌≡◌, ◌<◌, not, IfOk, position, len
 ghost use Rattle.std.specs.Option.{is_none};
 ghost use Rattle.xlate_cache.specs.Ways as spec;
 ghost use Rattle.xlate_cache.specs.Ways.{entry, chosen, filled, dropped, no_entries, IsShard};
-ghost use Rattle.xlate_cache.specs.Laws.{FindsEntry, FindsFill, LeavesOthers, TakesFromSet, TakesCurrentIfFull, AddsOne, Drops, KeepsOthers, FindsNothing};
+ghost use Rattle.xlate_cache.specs.Laws.{FindsEntry, FindsFill, LeavesOthers, TakesFromSet};
+ghost use Rattle.xlate_cache.specs.Laws.{TakesCurrentIfFull, AddsOne, Drops, KeepsOthers};
+ghost use Rattle.xlate_cache.specs.Laws.{FindsNothing};
 
 use crate::entry::Entry;
 use crate::pairs::first_way;
@@ -49,16 +51,18 @@ impl Shard {
         find_in(&ways[first..first + 4], dev, ev, stamp)
     }
 
-    /// Puts in a pair's translation, and takes away at most one: that of the pair, else one of another stamp, else
-    /// that of the first way.
+    /// Puts in a pair's translation, and takes away at most one: that of the pair, else one of
+    /// another stamp, else that of the first way.
     pub fn fill(&mut self, dev: DeviceId, ev: EventId, stamp: u32, target: Target)
         ensures ways { self.new ≡ filled self.old (entry dev ev stamp target) }
 
-        // Right after it the translation is found, and each other as before, but the one that was taken away.
+        // Right after it the translation is found, and each other as before, but the one that was
+        // taken away.
         ensures found { FindsFill self.old (entry dev ev stamp target) }
         ensures others { LeavesOthers self.old (entry dev ev stamp target) }
 
-        // That one was of the pair's set. It is of the same stamp and of another pair only where the set holds four such.
+        // That one was of the pair's set. It is of the same stamp and of another pair only where
+        // the set holds four such.
         ensures set { TakesFromSet self.old (entry dev ev stamp target) }
         ensures current { TakesCurrentIfFull self.old (entry dev ev stamp target) }
         ensures entries { AddsOne self.old (entry dev ev stamp target) }

@@ -1,7 +1,7 @@
 use Rattle.std.proofs.Common.{◌∙◌, ap, sym}
 use Rattle.its_plain.specs.Commands.{all_reread_at}
 use Rattle.plain_machine.proofs.Mapped.{mapped_more}
-use Rattle.plain_machine.proofs.redist.reread_each.Goals as goal
+use Rattle.plain_machine.proofs.redists.reread_each.Goals as goal
 
 pub loop-redist-preserved : goal.loop-redist-preserved
 loop-redist-preserved c =

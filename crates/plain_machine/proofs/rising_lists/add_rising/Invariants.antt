@@ -1,6 +1,6 @@
 use Rattle.std.proofs.Common.{◌≡◌, ◌++◌, take, drop}
 use Rattle.its_types.specs.Lpis.{with_lpi}
-use Rattle.plain_machine.proofs.redist.add_rising.Given as goal
+use Rattle.plain_machine.proofs.rising_lists.add_rising.Given as goal
 
 abbrev pub invariant-loop-at : goal.invariant-loop-at
 invariant-loop-at l = record {
