@@ -9,7 +9,7 @@ pub const MOST_LEGS: usize = 64;
 /// How many phases a leg may have.
 pub const MOST_PHASES: usize = 256;
 /// How many threads a phase may have.
-pub const MOST_THREADS: usize = 1;
+pub const MOST_THREADS: usize = 64;
 /// How many calls a thread may have.
 pub const MOST_CALLS: usize = 65536;
 

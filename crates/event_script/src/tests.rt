@@ -68,7 +68,6 @@ fn faulty_bodies(rt: HostRuntime) -> Result<(), Fail> {
         ("phase\nend\n", 7, Kind::Missing),
         ("phase\nword 0 0\n", 7, Kind::Order),
         ("phase\nids 16 16\n", 7, Kind::Order),
-        ("phase\nthread\nthread\n", 8, Kind::Many),
         ("migrate\nphase\nmigrate\n", 8, Kind::Missing),
         ("migrate\nthread\n", 7, Kind::Order),
         ("phase\nthread\ntake 1\n", 8, Kind::Number),
@@ -98,6 +97,7 @@ fn limits_are_passed(rt: HostRuntime) -> Result<(), Fail> {
         ("vcpus 1\n", "", "window 0 1\n", 17, 18),
         (HEAD, "phase\nthread\n", "migrate\n", 64, 71),
         (HEAD, "", "phase\nthread\n", 257, 518),
+        (HEAD, "phase\n", "thread\n", 65, 71),
         (HEAD, "phase\nthread\n", "step\n", 65_537, 65_544),
     ] {
         let mut text = String::from_str(alloc, head)?;
