@@ -25,5 +25,5 @@ pub use report::{
     vcpu_text,
 };
 pub use text::Text;
-pub use threads::{ThreadList, merge, merge_gives, thread_gives};
+pub use threads::{ThreadList, merge, merge_gives, merge_lines, thread_gives};
 pub use trace::{End, EntryLine, Leg, Trace};

@@ -28,11 +28,7 @@ pub fn merge(alloc: Global, lists: &[ThreadList]) -> Result<Trace, AllocError>
     ensures same { IfOk result (λ t. IsPermutation (all_lines lists.now) (first_entries t.legs)) }
     ensures rises { IfOk result (λ t. IsNonDecreasingBy (λ l. l.place) (first_entries t.legs)) }
 {
-    let mut lines = Vec::with_capacity(alloc, count_replies(lists))?;
-    for list in lists {
-        push_list(alloc, &mut lines, list)?;
-    }
-    lines.sort_by_key(|line| line.place)?;
+    let lines = merge_lines(alloc, lists)?;
     let mut legs = Listed::new(alloc);
     legs.push(Leg {
         entries: Listed::from_vec(lines),
@@ -40,6 +36,19 @@ pub fn merge(alloc: Global, lists: &[ThreadList]) -> Result<Trace, AllocError>
         end: None,
     })?;
     Ok(Trace { legs })
+}
+
+/// The lines of the entries of all lists, by place.
+pub fn merge_lines(alloc: Global, lists: &[ThreadList]) -> Result<Vec<EntryLine>, AllocError>
+    ensures same { IfOk result (λ lines. IsPermutation (all_lines lists.now) lines.items) }
+    ensures rises { IfOk result (λ lines. IsNonDecreasingBy (λ l. l.place) lines.items) }
+{
+    let mut lines = Vec::with_capacity(alloc, count_replies(lists))?;
+    for list in lists {
+        push_list(alloc, &mut lines, list)?;
+    }
+    lines.sort_by_key(|line| line.place)?;
+    Ok(lines)
 }
 
 // How many entries there are at most, so that their list needs not grow.
