@@ -1,7 +1,4 @@
 pub mod Pieces
-pub mod Playing
-pub mod Turns
-pub mod Playeds
 pub mod Runs
 pub mod Migrations
 pub mod Scripts

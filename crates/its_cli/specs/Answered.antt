@@ -20,7 +20,13 @@ use Rattle.its_cli.specs.Refusals.{spent_refusal, migration_refusal}
 use Rattle.its_cli.specs.Its.{RunCauses, OfScript, IsReport, IsScriptRefusal, IsMachineRefusal, IsMigrationRefusal, IsSpentReport}
 use Rattle.its_cli.specs.declared.its.Answer.{Answer}
 use Rattle.its_cli.specs.declared.its.Answer.TheVariants.{Answered, Refused}
+use Rattle.its_steps.specs.Parts.{Setup, vcpu_count}
+use Rattle.its_turns.specs.Machines.{setup}
+use Rattle.its_cli.specs.Played.{IsFresh}
 use Rattle.its_cli.specs.declared.legs.Ending.{Ending}
+use Rattle.its_cli.specs.declared.legs.Goes.{Goes}
+use Rattle.its_cli.specs.declared.legs.Goes.TheVariants.{On, Ends}
+use Rattle.its_cli.specs.declared.legs.Shared.{Shared}
 use Rattle.its_cli.specs.declared.status.Status.{Status}
 use Rattle.its_cli.specs.declared.status.Status.TheVariants as status
 
@@ -65,10 +71,16 @@ LegStops last before leg number old new status.MigrationRefused line = IsLegRefu
 LegStops last before leg number old new status.Spent line = IsLegSpent last before leg number old new line
 LegStops last before leg number old new _ line = ⊥
 
--- what comes of one that isn't the last: the run goes on, or it ends here
-abbrev pub LegGoes : ℕ → Plain → Plain → Leg → ℕ → List ℕ → List ℕ → Option Ending → Type 0
-LegGoes last before now leg number old new None = IsLegMigrated last before now leg number old new
-LegGoes last before now leg number old new (Some e) = LegStops last before leg number old new e.status (string_bytes e.line)
+-- the machine that the next leg starts with
+pub record GoesOnWith (s : Setup) (next : Shared) : Type 0 where
+  pub fresh : IsFresh next.machine next.root
+  pub limits : (setup next.machine).limits ≡ s.limits
+  pub vcpus : vcpu_count (setup next.machine) ≡ vcpu_count s
+
+-- what comes of one that isn't the last, on a machine that was made so: the run goes on, or it ends here
+abbrev pub LegGoes : Setup → Leg → ℕ → List ℕ → List ℕ → Goes → Type 0
+LegGoes s leg number old new (On next) = GoesOnWith s next × IsLegMigrated s.limits.place_last s.start (setup next.machine).start leg number old new
+LegGoes s leg number old new (Ends e) = LegStops s.limits.place_last s.start leg number old new e.status (string_bytes e.line)
 
 -- what comes of the last
 abbrev pub LegEnds : ℕ → Plain → Leg → ℕ → List ℕ → List ℕ → Status → List ℕ → Type 0
@@ -76,8 +88,8 @@ LegEnds last before leg number old new status.Ok line = IsLegDone last before le
 LegEnds last before leg number old new status.Spent line = IsLegSpent last before leg number old new line
 LegEnds last before leg number old new _ line = ⊥
 
-abbrev pub LegIsLast : ℕ → Plain → Leg → ℕ → List ℕ → List ℕ → Ending → Type 0
-LegIsLast last before leg number old new e = LegEnds last before leg number old new e.status (string_bytes e.line)
+abbrev pub LegIsLast : Setup → Leg → ℕ → List ℕ → List ℕ → Ending → Type 0
+LegIsLast s leg number old new e = LegEnds s.limits.place_last s.start leg number old new e.status (string_bytes e.line)
 
 -- the entries of a leg that was cut were told
 pub record IsSpentEnding (number : ℕ) (lines : List EntryLine) (old new : List ℕ) (e : Ending) : Type 0 where

@@ -1,7 +1,7 @@
 pub mod Streams
-pub mod Solo
 pub mod Legs
 pub mod Reports
+pub mod Played
 pub mod Refusals
 pub mod Its
 pub mod Answered

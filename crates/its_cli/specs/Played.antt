@@ -5,7 +5,9 @@ use Rattle.its_plain.specs.Runs.{Leg, ArePhases, ArePartOfPhases}
 use Rattle.its_plain.specs.declared.call.Entry.{Entry}
 use Rattle.its_history.specs.Histories.{seat_of, history_lines}
 use Rattle.its_history.specs.declared.trace.EntryLine.{EntryLine}
-use Rattle.its_steps.specs.Parts.{Setup}
+use Rattle.event_script.specs.Limits.{IsWithinLimits}
+use Rattle.event_script.specs.declared.script.Script.{Script}
+use Rattle.its_steps.specs.Parts.{Setup, vcpu_count}
 use Rattle.its_steps.specs.World.{first_view}
 use Rattle.its_turns.specs.Machines.{setup, view, IsOf}
 use Rattle.its_turns.specs.Told.{IsLone}
@@ -14,6 +16,7 @@ use Rattle.its_turns.specs.declared.machine.Pass.{Pass}
 use Rattle.its_migrate.specs.Resting.{HasItsLayout}
 use Rattle.its_cli.specs.Legs.{call_count}
 use Rattle.its_cli.specs.Reports.{thread_counts}
+use Rattle.its_cli.specs.declared.legs.Shared.{Shared}
 
 -- a machine with its root, and no call was made
 pub record IsFresh (m : Machine) (r : Pass) : Type 0 where
@@ -21,8 +24,15 @@ pub record IsFresh (m : Machine) (r : Pass) : Type 0 where
   pub layout : HasItsLayout m
   pub view : view r ≡ first_view (setup m)
 
+-- a script, and a machine of its description that no call was made on
+pub record IsReady (script : Script) (first : Shared) : Type 0 where
+  pub within : IsWithinLimits script
+  pub fresh : IsFresh first.machine first.root
+  pub limits : (setup first.machine).limits ≡ script.desc.limits
+  pub vcpus : vcpu_count (setup first.machine) ≡ script.desc.shape.vcpus
+
 -- no pass but the root is out, and that holds nothing
-pub record RestsAfter (m : Machine) (r : Pass) : Type 0 where
+pub record IsAtRest (m : Machine) (r : Pass) : Type 0 where
   pub of : IsOf m r
   pub lone : IsLone (view r)
   pub free : (view r).held ≡ []

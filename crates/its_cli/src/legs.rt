@@ -1,21 +1,27 @@
 //! A run of a script: its legs, with a migration of the machine between each two.
-ghost use Rattle.std.specs.Prelude.{◌≡◌, ◌++◌, ◌≤◌, [], true, nat_le, IfOk, OnErr, length, map};
-ghost use Rattle.std.specs.List.{list_all};
+ghost use Rattle.std.specs.Prelude.{◌≡◌, ◌++◌, ◌≤◌, [], IfOk, OnErr, length, map};
+ghost use Rattle.std.specs.List.{AllByRecursion};
 ghost use Rattle.std.specs.String.{string_bytes};
-ghost use Rattle.event_script.specs.Limits.{IsWithinLimits};
+ghost use Rattle.its_turns.specs.Machines.{setup};
+ghost use Rattle.script_threads.specs.Asks.{MayRunLeg};
 ghost use Rattle.its_history.specs.Report as history;
+ghost use Rattle.its_migrate.specs.Resting.{resting};
 ghost use Rattle.its_cli.specs.Answered.{RunEnds, IsSoFar, LegGoes, LegIsLast, IsSpentEnding};
+ghost use Rattle.its_cli.specs.Played.{IsFresh, IsAtRest, IsReady};
 ghost use Rattle.its_cli.specs.Reports as spec;
 
+use crate::play::play_leg;
 use crate::refusals::{migration_refusal, spent_refusal};
-use crate::solo::play_leg;
 use crate::status::Status;
 use event_script::{Phase, Script};
 use its_history::{End, EntryLine, Leg, Text, leg_text, pending_text};
+use its_migrate::{migrate, pending};
 use its_plain::SaveError;
-use its_types::Listed;
-use owned_machine::Machine;
+use its_turns::{Machine, Root};
+use its_types::{Gate, Listed};
 use std::alloc::{AllocError, Global};
+use std::sync::Wait;
+use std::thread::Threads;
 
 /// How a run ended: its status, and the line behind the report, which is a refusal's or has no
 /// bytes.
@@ -25,97 +31,122 @@ pub struct Ending {
     pub line: String,
 }
 
+/// A machine that the threads of a leg share, with its root.
+#[derive(Drop)]
+pub struct Shared {
+    pub machine: Machine,
+    pub root: Root,
+}
+
+/// What came of a leg that isn't the last: the machine goes on, or the run ends.
+#[derive(Drop)]
+enum Goes {
+    On(Shared),
+    Ends(Ending),
+}
+
 /// Runs a script, and adds the legs' reports. Where memory runs out, these are of the legs that
 /// were migrated.
-pub fn run(
+pub fn run<R: Threads + Wait + Sync, G: Gate + Sync>(
+    rt: &R,
     alloc: Global,
+    gate: &G,
     script: &Script,
-    machine: &mut Machine,
+    first: Shared,
     report: &mut String,
 ) -> Result<Ending, AllocError>
-    requires within { IsWithinLimits script.now }
+    requires ready { IsReady script.now first }
     requires empty { string_bytes report.old ≡ [] }
     ensures ok { IfOk result (λ e.
-        RunEnds script.now machine.old e.status
+        RunEnds script.now (setup first.machine).start e.status
         (string_bytes report.new ++ string_bytes e.line)) }
-    ensures err { OnErr result (IsSoFar script.now machine.old (string_bytes report.new)) }
+    ensures err { OnErr result
+        (IsSoFar script.now (setup first.machine).start (string_bytes report.new)) }
 {
-    let last = script.desc.limits.place_last;
     let legs = script.legs.as_slice();
     let end = legs.len() - 1;
     let mut number = 1;
+    let mut now = first;
     for leg in &legs[..end] {
-        if let Some(ending) = run_leg(alloc, machine, report, leg.as_slice(), number, last)? {
-            return Ok(ending);
+        match run_leg(rt, alloc, gate, now, report, leg.as_slice(), number)? {
+            Goes::On(next) => now = next,
+            Goes::Ends(ending) => return Ok(ending),
         }
         number += 1;
     }
     let leg = legs[end].as_slice();
-    let ending = run_last_leg(alloc, machine, report, leg, number, last)?;
-    Ok(ending)
+    run_last_leg(rt, alloc, gate, now, report, leg, number)
 }
 
 /// Runs a leg and migrates the machine, or tells why the run ends here. Where memory runs out, the
 /// report is as it was.
-fn run_leg(
+fn run_leg<R: Threads + Wait + Sync, G: Gate + Sync>(
+    rt: &R,
     alloc: Global,
-    machine: &mut Machine,
+    gate: &G,
+    now: Shared,
     report: &mut String,
     leg: &[Phase],
     number: u64,
-    last: u64,
-) -> Result<Option<Ending>, AllocError>
+) -> Result<Goes, AllocError>
+    requires fresh { IsFresh now.machine now.root }
     requires phases { length leg.now ≤ 256 }
-    requires threads { list_all (λ threads. nat_le (length threads) 64) leg.now ≡ true }
-    ensures ok { IfOk result (λ e.
-        LegGoes last machine.old machine.new leg.now number (string_bytes report.old)
-        (string_bytes report.new) e) }
+    requires threads { AllByRecursion (λ threads. length threads ≤ 64) leg.now }
+    requires may { MayRunLeg (setup now.machine) leg.now }
+    ensures ok { IfOk result (λ g.
+        LegGoes (setup now.machine) leg.now number (string_bytes report.old)
+        (string_bytes report.new) g) }
     ensures err { OnErr result (string_bytes report.new ≡ string_bytes report.old) }
 {
-    let mut lines = Vec::new(alloc);
-    if play_leg(alloc, machine, &mut lines, leg, last)? {
-        let ending = end_spent(alloc, report, number, lines)?;
-        return Ok(Some(ending));
+    let Shared { machine, mut root } = now;
+    let played = play_leg(rt, alloc, gate, &machine, &mut root, leg)?;
+    if played.spent {
+        let ending = end_spent(alloc, report, number, played.lines)?;
+        return Ok(Goes::Ends(ending));
     }
-    let pending = pending_texts(alloc, machine)?;
-    match machine.migrate(alloc) {
-        Ok(()) => {
-            add_leg(alloc, report, number, lines, pending, Some(End::Migrated))?;
-            Ok(None)
+    let texts = pending_texts(alloc, &machine, &mut root)?;
+    match migrate(alloc, machine, root) {
+        Ok((machine, root)) => {
+            add_leg(alloc, report, number, played.lines, texts, Some(End::Migrated))?;
+            Ok(Goes::On(Shared { machine, root }))
         }
-        Err(SaveError::Fault(fault)) => {
+        Err((_, _, SaveError::Fault(fault))) => {
             let line = migration_refusal(alloc, number, fault)?;
-            add_leg(alloc, report, number, lines, pending, None)?;
+            add_leg(alloc, report, number, played.lines, texts, None)?;
             let status = Status::MigrationRefused;
-            Ok(Some(Ending { status, line }))
+            Ok(Goes::Ends(Ending { status, line }))
         }
-        Err(SaveError::NoMemory) => Err(AllocError),
+        Err((_, _, SaveError::NoMemory)) => Err(AllocError),
     }
 }
 
 /// Runs the last leg. Where memory runs out, the report is as it was.
-fn run_last_leg(
+fn run_last_leg<R: Threads + Wait + Sync, G: Gate + Sync>(
+    rt: &R,
     alloc: Global,
-    machine: &mut Machine,
+    gate: &G,
+    now: Shared,
     report: &mut String,
     leg: &[Phase],
     number: u64,
-    last: u64,
 ) -> Result<Ending, AllocError>
+    requires fresh { IsFresh now.machine now.root }
     requires phases { length leg.now ≤ 256 }
-    requires threads { list_all (λ threads. nat_le (length threads) 64) leg.now ≡ true }
+    requires threads { AllByRecursion (λ threads. length threads ≤ 64) leg.now }
+    requires may { MayRunLeg (setup now.machine) leg.now }
     ensures ok { IfOk result (λ e.
-        LegIsLast last machine.old leg.now number (string_bytes report.old)
+        LegIsLast (setup now.machine) leg.now number (string_bytes report.old)
         (string_bytes report.new) e) }
     ensures err { OnErr result (string_bytes report.new ≡ string_bytes report.old) }
 {
-    let mut lines = Vec::new(alloc);
-    if play_leg(alloc, machine, &mut lines, leg, last)? {
-        let ending = end_spent(alloc, report, number, lines)?;
+    let Shared { machine, mut root } = now;
+    let played = play_leg(rt, alloc, gate, &machine, &mut root, leg)?;
+    if played.spent {
+        let ending = end_spent(alloc, report, number, played.lines)?;
         return Ok(ending);
     }
-    let pending = pending_texts(alloc, machine)?;
-    add_leg(alloc, report, number, lines, pending, Some(End::Done))?;
+    let texts = pending_texts(alloc, &machine, &mut root)?;
+    add_leg(alloc, report, number, played.lines, texts, Some(End::Done))?;
     Ok(Ending {
         status: Status::Ok,
         line: String::new(alloc),
@@ -165,14 +196,22 @@ fn add_leg(
     report.push_str(text.as_str())
 }
 
-/// What is pending at each virtual processor.
-fn pending_texts(alloc: Global, machine: &Machine) -> Result<Listed<Text>, AllocError>
-    ensures { IfOk result (λ texts. texts ≡ map history.pending_text (spec.pending_lists machine.now)) }
+/// What is pending at each virtual processor of a machine at rest.
+fn pending_texts(
+    alloc: Global,
+    machine: &Machine,
+    root: &mut Root,
+) -> Result<Listed<Text>, AllocError>
+    requires rests { IsAtRest machine.now root.old }
+    ensures rests { IfOk result (λ _. IsAtRest machine.now root.new) }
+    ensures same { IfOk result (λ _. resting machine.now root.new ≡ resting machine.now root.old) }
+    ensures texts { IfOk result (λ texts.
+        texts ≡ map history.pending_text (spec.pending_lists (resting machine.now root.old))) }
 {
+    let lists = pending(alloc, machine, root)?;
     let mut texts = Listed::new(alloc);
-    for vcpu in 0..machine.vcpus() {
-        let lpis = machine.pending(alloc, vcpu)?;
-        let text = pending_text(alloc, &lpis)?;
+    for lpis in lists.as_slice() {
+        let text = pending_text(alloc, lpis.as_slice())?;
         texts.push(text)?;
     }
     Ok(texts)

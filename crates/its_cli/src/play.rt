@@ -1,14 +1,14 @@
 //! A leg of a script on a machine that its threads share.
-ghost use Rattle.std.specs.Prelude.{◌≡◌, ◌≤◌, true, nat_le, IfOk, length};
-ghost use Rattle.std.specs.List.{list_all};
+ghost use Rattle.std.specs.Prelude.{◌≡◌, ◌≤◌, IfOk, length};
+ghost use Rattle.std.specs.List.{AllByRecursion};
 ghost use Rattle.its_turns.specs.Machines.{setup, view};
 ghost use Rattle.script_threads.specs.Asks.{MayRunLeg};
-ghost use Rattle.its_cli.specs.Played.{IsFresh, RestsAfter, IsPlayed};
+ghost use Rattle.its_cli.specs.Played.{IsFresh, IsAtRest, IsPlayed};
 
 use event_script::Phase;
-use its_history::{EntryLine, merge};
+use its_history::{EntryLine, merge_gives, merge_lines};
 use its_turns::{Machine, Root};
-use its_types::{Gate, Listed};
+use its_types::Gate;
 use script_threads::{Stop, run_leg};
 use std::alloc::{AllocError, Global};
 use std::sync::Wait;
@@ -17,7 +17,7 @@ use std::thread::Threads;
 /// The entries of a leg by place, and whether a call had no place left.
 #[derive(Drop)]
 pub struct Played {
-    pub lines: Listed<EntryLine>,
+    pub lines: Vec<EntryLine>,
     pub spent: bool,
 }
 
@@ -32,19 +32,19 @@ pub fn play_leg<R: Threads + Wait + Sync, G: Gate + Sync>(
 ) -> Result<Played, AllocError>
     requires fresh { IsFresh machine.now root.old }
     requires phases { length leg.now ≤ 256 }
-    requires threads { list_all (λ threads. nat_le (length threads) 64) leg.now ≡ true }
+    requires threads { AllByRecursion (λ threads. length threads ≤ 64) leg.now }
     requires may { MayRunLeg (setup machine.now) leg.now }
-    ensures ok { IfOk result (λ p.
-        RestsAfter machine.now root.new
-        × IsPlayed (setup machine.now) leg.now p.lines p.spent (view root.new).seen) }
+    ensures rests { IfOk result (λ _. IsAtRest machine.now root.new) }
+    ensures played { IfOk result (λ p.
+        IsPlayed (setup machine.now) leg.now p.lines.items p.spent (view root.new).seen) }
 {
-    let end = run_leg(rt, alloc, gate, machine, root, leg)?;
+    let end = run_leg(rt, alloc, machine, root, gate, leg)?;
     let spent = match end.stop {
         None => false,
         Some(Stop::Spent) => true,
         Some(Stop::NoMemory) => return Err(AllocError),
     };
-    let trace = merge(alloc, end.lists.as_slice())?;
-    let lines = first_lines(alloc, trace);
+    merge_gives();
+    let lines = merge_lines(alloc, end.lists.as_slice())?;
     Ok(Played { lines, spent })
 }
