@@ -47,12 +47,13 @@ impl Machine {
     }
 
     /// Answers a call, and leaves the state that the plain machine's definition says. Out of
-    /// memory, which only a step or a save can be, the state stays as it was.
+    /// memory, which only a save can be, or a step that adds a device, an event or a collection,
+    /// the state stays as it was. A command that is refused never comes to it.
     pub fn answer(&mut self, alloc: Global, call: &Call) -> Result<Reply, AllocError>
         ensures reply { IfOk result (λ r. r ≡ plain.reply_of self.old call.now) }
         ensures left { IfOk result (λ r. self.new ≡ plain.left self.old call.now r) }
         ensures err { OnErr result (self.new ≡ self.old) }
-        ensures rare { OnErr result (may_want_memory call.now ≡ true) }
+        ensures rare { OnErr result (may_want_memory self.old call.now ≡ true) }
     {
         answered(&mut self.parts, alloc, call)
     }
