@@ -1,5 +1,5 @@
 use crate::calls::answered;
-use crate::migrations::{begin, moved};
+use crate::migrations::{InPlace, begin, moved};
 use its_plain::{Call, Desc, MakeError, Reply, SaveError};
 use its_types::{Intid, Vcpu};
 use owned_parts::Parts;
@@ -80,7 +80,15 @@ impl Machine {
     pub fn migrate(&mut self, alloc: Global) -> Result<(), SaveError>
         ensures { Migrates result self.old self.new }
     {
-        self.parts = moved(&self.parts, alloc)?;
+        let parts = &self.parts;
+        let in_place = InPlace {
+            layout: &parts.layout,
+            regs: &parts.regs,
+            maps: &parts.maps,
+            memory: &parts.memory,
+            redists: &parts.redists,
+        };
+        self.parts = moved(alloc, &in_place)?;
         Ok(())
     }
 }
