@@ -12,7 +12,10 @@ use crate::say::say;
 use crate::status::Status;
 use crate::streams::{ReadAllError, read_all, write_both};
 use its_io::{Failed, Sink, Source};
+use its_types::Gate;
 use std::alloc::Global;
+use std::sync::Wait;
+use std::thread::Threads;
 
 /// How many bytes of input there may be: 16 MiB.
 const LIMIT: usize = 16_777_216;
@@ -24,12 +27,15 @@ pub enum Answer {
     Refused(Status),
 }
 
-/// The command: what its words say, over the source and the sink that are handed in.
-pub fn its<S: Source, K: Sink>(
+/// The command: what its words say, over the source and the sink that are handed in. Its threads
+/// are real ones; `gate` is where a test may hold their calls.
+pub fn its<R: Threads + Wait + Sync, S: Source, K: Sink, G: Gate + Sync>(
+    rt: &R,
     alloc: Global,
     words: &[String],
     source: &mut S,
     sink: &mut K,
+    gate: &G,
 ) -> Status
     // At each status but a write's fault the sink has its old bytes and then this text.
     ensures printed { result ≢ Status.WriteFault → (text : List ℕ)
@@ -52,15 +58,17 @@ pub fn its<S: Source, K: Sink>(
         (input : List ℕ) → S.left source.old ≡ Some input →
         IsDecided (map (λ w. string_bytes w) words.now) input result }
 {
-    command(alloc, words, source, sink)
+    command(rt, alloc, words, source, sink, gate)
 }
 
 // The clauses of `its` on what is printed.
-fn command<S: Source, K: Sink>(
+fn command<R: Threads + Wait + Sync, S: Source, K: Sink, G: Gate + Sync>(
+    rt: &R,
     alloc: Global,
     words: &[String],
     source: &mut S,
     sink: &mut K,
+    gate: &G,
 ) -> Status
     // At each status but a write's fault the sink has its old bytes and then this text.
     ensures printed { result ≢ Status.WriteFault → (text : List ℕ)
@@ -81,7 +89,7 @@ fn command<S: Source, K: Sink>(
         let status = Status::WordsRefused;
         return print(sink, &report, refusal(status), status);
     }
-    match run_command(alloc, source, &mut report) {
+    match run_command(rt, alloc, gate, source, &mut report) {
         Answer::Answered(ending) => print(sink, &report, ending.line.as_str(), ending.status),
         Answer::Refused(status) => print(sink, &report, refusal(status), status),
     }
@@ -95,7 +103,13 @@ fn is_run_command(words: &[String]) -> bool
 }
 
 // What the source says, answered with a report first, as far as there is one.
-fn run_command<S: Source>(alloc: Global, source: &mut S, report: &mut String) -> Answer
+fn run_command<R: Threads + Wait + Sync, S: Source, G: Gate + Sync>(
+    rt: &R,
+    alloc: Global,
+    gate: &G,
+    source: &mut S,
+    report: &mut String,
+) -> Answer
     requires { string_bytes report.old ≡ [] }
     ensures caused { AnswerIsCaused (S.left source.old) (Rose (S.faults source.old) (S.faults source.new))
         (string_bytes report.new) result }
@@ -108,7 +122,7 @@ fn run_command<S: Source>(alloc: Global, source: &mut S, report: &mut String) ->
         Err(ReadAllError::Failed) => return Answer::Refused(Status::ReadFault),
         Err(ReadAllError::TooLong) => return Answer::Refused(Status::TooLong),
     };
-    match say(alloc, &input, report) {
+    match say(rt, alloc, gate, &input, report) {
         Ok(ending) => Answer::Answered(ending),
         Err(_) => Answer::Refused(Status::Memory),
     }

@@ -9,9 +9,9 @@ mod its;
 mod legs;
 #[cfg(test)]
 mod migration_tests;
+mod play;
 mod refusals;
 mod say;
-mod solo;
 mod status;
 mod streams;
 #[cfg(test)]
@@ -19,6 +19,7 @@ mod tests;
 
 use its::its;
 use its_io::{StdSink, StdSource};
+use its_types::Open;
 use std::process::ExitCode;
 use std::{env, io};
 
@@ -29,6 +30,6 @@ fn main(rt: HostRuntime) -> io::Result<ExitCode> {
     }
     let mut source = StdSource::new(rt.stdin());
     let mut sink = StdSink::new(rt.stdout());
-    let status = its(rt.alloc(), &words, &mut source, &mut sink);
+    let status = its(&rt, rt.alloc(), &words, &mut source, &mut sink, &Open);
     Ok(ExitCode::from(status as u8))
 }
