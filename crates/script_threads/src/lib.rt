@@ -1,0 +1,12 @@
+//! Phases of a script: its threads beside each other, on one machine that they share.
+#![tactic(auto)]
+
+mod ask;
+mod job;
+mod phase;
+mod stop;
+
+pub use ask::call_once;
+
+pub use phase::{PhaseEnd, run_phase};
+pub use stop::Stop;
