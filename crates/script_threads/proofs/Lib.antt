@@ -1,0 +1,5 @@
+pub mod Grown
+pub mod Phases
+pub mod Rooms
+pub mod Roots
+pub mod Runs
