@@ -3,3 +3,5 @@ pub mod Phases
 pub mod Rooms
 pub mod Roots
 pub mod Runs
+pub mod Stops
+pub mod Threads
