@@ -1,4 +1,6 @@
 pub mod Grown
+pub mod Legs
+pub mod Lines
 pub mod Phases
 pub mod Rooms
 pub mod Roots

@@ -3,10 +3,12 @@
 
 mod ask;
 mod job;
+mod leg;
 mod phase;
 mod stop;
 
 pub use ask::call_once;
+pub use leg::{LegEnd, run_leg};
 
 pub use phase::{PhaseEnd, run_phase};
 pub use stop::Stop;
