@@ -1,7 +1,6 @@
 //! Redistributors, taken the lowest first.
 ghost use Rattle.std.specs.Prelude.{◌≡◌, ◌&&◌, ℕ, List, Some, None, nat_lt};
 ghost use Rattle.its_steps.specs.Contents.{Held};
-ghost use Rattle.its_steps.specs.Parts.{vcpu_count};
 ghost use Rattle.its_turns.specs.Machines.{setup, view, IsOf};
 ghost use Rattle.held_parts.specs.Redists.{redists_held, is_wanted, AreNoRedists, AreWanted};
 ghost use Rattle.held_parts.specs.Redists.{AreOfSet, AreAllRedists, HoldsNoRedist};
@@ -49,12 +48,7 @@ pub fn put_redists(machine: &Machine, pass: &mut Pass, set: PartSet, redists: &m
 }
 
 /// Waits for the turns of all redistributors, the lowest first, and puts them in their places.
-pub fn take_all_redists<R: Wait>(
-    rt: &R,
-    machine: &Machine,
-    pass: &mut Pass,
-    redists: &mut Redists,
-)
+pub fn take_all_redists<R: Wait>(rt: &R, machine: &Machine, pass: &mut Pass, redists: &mut Redists)
     requires of { IsOf machine.now pass.old }
     requires empty { AreNoRedists redists.old }
     requires free { HoldsNoRedist (view pass.old).held }
@@ -80,14 +74,14 @@ pub fn put_all_redists(machine: &Machine, pass: &mut Pass, redists: &mut Redists
 }
 
 // Without a set, all are wanted.
-fn is_wanted(machine: &Machine, set: &Option<PartSet>, vcpu: u8) -> bool
-    ensures { result ≡ (is_wanted set.now vcpu && nat_lt vcpu (vcpu_count (setup machine.now))) }
+fn is_wanted(set: &Option<PartSet>, vcpus: u8, vcpu: u8) -> bool
+    ensures { result ≡ (is_wanted set.now vcpu && nat_lt vcpu vcpus) }
 {
     let inside = match set {
         Some(set) => set.contains(Part::Redist(Vcpu(vcpu))),
         None => true,
     };
-    inside && vcpu < machine.vcpus()
+    inside && vcpu < vcpus
 }
 
 fn take_wanted<R: Wait>(
@@ -105,8 +99,9 @@ fn take_wanted<R: Wait>(
     ensures held { (view pass.new).held ≡ redists_held redists.new 16 (view pass.old).held }
     ensures hand { AreWanted (setup machine.now) set.now redists.new }
 {
+    let vcpus = machine.vcpus();
     for vcpu in 0..16u8 {
-        if is_wanted(machine, set, vcpu) {
+        if is_wanted(set, vcpus, vcpu) {
             let redist = take_redist(rt, machine, pass, Vcpu(vcpu));
             redists.place(Vcpu(vcpu), redist);
         }
@@ -122,11 +117,17 @@ fn put_wanted(machine: &Machine, pass: &mut Pass, set: &Option<PartSet>, redists
     ensures home { (before : List Held) → (view pass.old).held ≡ redists_held redists.old 16 before →
         view pass.new ≡ holding (view pass.old) before }
 {
+    let vcpus = machine.vcpus();
     for k in 0..16u8 {
         let vcpu = 15 - k;
-        if is_wanted(machine, set, vcpu) {
+        if is_wanted(set, vcpus, vcpu) {
             let redist = redists.take_out(Vcpu(vcpu));
-            put(machine, pass, Part::Redist(Vcpu(vcpu)), Value::Redist(redist));
+            put(
+                machine,
+                pass,
+                Part::Redist(Vcpu(vcpu)),
+                Value::Redist(redist),
+            );
         }
     }
 }

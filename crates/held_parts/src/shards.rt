@@ -54,6 +54,7 @@ impl Shards {
     pub fn empty_all(&mut self)
         ensures { AreEmptied self.old self.new }
     {
+        let _ = &self.places;
         for number in 0..64u32 {
             self.empty_one(number);
         }

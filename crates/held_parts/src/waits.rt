@@ -76,12 +76,7 @@ pub fn take_shard<R: Wait>(
 }
 
 /// Waits for the turn of a redistributor, and takes it out.
-pub fn take_redist<R: Wait>(
-    rt: &R,
-    machine: &Machine,
-    pass: &mut Pass,
-    vcpu: Vcpu,
-) -> Box<Redist>
+pub fn take_redist<R: Wait>(rt: &R, machine: &Machine, pass: &mut Pass, vcpu: Vcpu) -> Box<Redist>
     requires of { IsOf machine.now pass.old }
     requires stands { vcpu.0 < vcpu_count (setup machine.now) }
     requires free { ¬ Holds (part.Redist vcpu) (view pass.old).held }
