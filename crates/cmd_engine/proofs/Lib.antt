@@ -1,2 +1,4 @@
 pub mod InState
 pub mod Marks
+pub mod Running
+pub mod InHand

@@ -2,3 +2,8 @@
 #![tactic(auto)]
 
 mod met;
+mod step_commands;
+mod step_shards;
+mod step_tells;
+
+pub use step_tells::NoStep;
