@@ -17,8 +17,11 @@ use Rattle.its_steps.specs.declared.change.ShardChange.{ShardChange}
 use Rattle.its_steps.specs.declared.commit.Commit.{Commit}
 use Rattle.its_turns.specs.Calls.{Stays, IsPlaced, Makes, GotOnly}
 use Rattle.its_turns.specs.Told.{Looks}
-use Rattle.held_parts.specs.Taking.{Goes, WasMade}
-use Rattle.cmd_engine.specs.StepHands.{IsOfStep}
+use Rattle.held_parts.specs.Taking.{Goes}
+use Rattle.guest_windows.specs.Windows.{Window}
+use Rattle.its_turns.specs.declared.value.Tables.{Tables}
+use Rattle.cmd_engine.specs.Steps.{MeetsNone}
+use Rattle.cmd_engine.specs.StepHands.{IsOfStep, base_held}
 use Rattle.cmd_engine.specs.StepShards.{LeavesBy}
 use Rattle.cmd_engine.specs.declared.step_tells.NoStep.{NoStep}
 use Rattle.cmd_engine.specs.declared.step_tells.NoStep.TheVariants as none
@@ -49,8 +52,8 @@ IsWhy v none.Spent w = length w.seen ≡ v.setup.limits.place_last
 IsWhy v none.NoMemory w = WantsMemory (after v.setup.start w.seen)
 
 abbrev pub Steps : View → Result (Placed StepReply) NoStep → View → Type 0
-Steps v (Ok p) w = IsStep v p w
-Steps v (Err e) w = Stays v w × IsWhy v e w
+Steps v (Ok p) w = IsStep v p w × GotOnly IsOfStep v w
+Steps v (Err e) w = Stays v w × IsWhy v e w × GotOnly IsOfStep v w
 
 -- ---- one try
 
@@ -80,3 +83,16 @@ pub record LooksOnly (v : View) (e : Unmade) (w : View) : Type 0 where
 abbrev pub Runs : View → Result (Placed StepReply) Unmade → View → Type 0
 Runs v (Ok p) w = MakesStep v p w
 Runs v (Err e) w = LooksOnly v e w
+
+-- a try that goes on from here ends so, whatever it began with
+abbrev pub TriesFrom : View → Result (Placed StepReply) Unmade → View → Type 0
+TriesFrom y r w = (v : View) → v.held ≡ [] → Goes IsOfStep v y → Tried v r w
+
+-- ---- no command is met
+
+-- maps and memory are held, and this is what is answered
+pub record HoldsStill (v : View) (r : StepReply) : Type 0 where
+  pub tables : Tables
+  pub memory : List Window
+  pub held : v.held ≡ base_held tables memory
+  pub none : MeetsNone tables.regs memory r

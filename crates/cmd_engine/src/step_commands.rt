@@ -1,24 +1,32 @@
 //! A step that met a command.
 ghost use Rattle.std.specs.Prelude.{◌≡◌, ℕ};
 ghost use Rattle.its_steps.specs.Endings.{ending_in};
+ghost use Rattle.its_steps.specs.Contents as content;
+ghost use Rattle.its_turns.specs.Contents.{translator_of};
 ghost use Rattle.its_turns.specs.Machines.{setup, view, IsOf};
+ghost use Rattle.its_turns.specs.Told.{HasStood};
+ghost use Rattle.its_types.specs.declared.machine.Part.TheVariants as part;
 ghost use Rattle.cmd_exec.specs.Executed.{as_step};
-ghost use Rattle.held_parts.specs.Redists.{AreOfSet};
+ghost use Rattle.held_parts.specs.Redists.{AreOfSet, AreNoRedists};
 ghost use Rattle.cmd_engine.specs.Steps.{MeetsCommand};
-ghost use Rattle.cmd_engine.specs.StepHands.{step_held, HasNeeded};
+ghost use Rattle.cmd_engine.specs.StepHands.{base_held, step_held, HasNeeded};
 ghost use Rattle.cmd_engine.specs.StepShards.{ending_as, AreWhole};
-ghost use Rattle.cmd_engine.specs.StepTells.{Runs};
+ghost use Rattle.cmd_engine.specs.StepTells.{Runs, TriesFrom};
 
 use crate::step_shards::Cached;
+use crate::step_shards_taken::{put_cached, take_cached};
+use crate::step_still::put_base;
 use crate::step_tells::{NoStep, Unmade};
-use cmd_exec::{apply, make_room, plan};
+use cmd_exec::{apply, make_room, needs, plan};
+use held_parts::{put_redists, take_redists};
 use guest_windows::Memory;
 use its_command::Command;
 use its_plain::{Call, CmdReply, Reply, StepReply};
 use its_steps::Commit;
-use its_turns::{Machine, Pass, Tables, begin, commit};
+use its_turns::{GuestMemory, Machine, Pass, Tables, begin, commit};
 use its_types::{Gate, Placed, Point};
 use lpi_pending::Redists;
+use std::sync::Wait;
 
 fn as_step(reply: CmdReply) -> StepReply
     ensures { result ≡ as_step reply }
@@ -29,8 +37,48 @@ fn as_step(reply: CmdReply) -> StepReply
     }
 }
 
-/// Commits a command that has in hand what it needs, and carries it out. Where it isn't committed,
-/// what is mapped and held stays as it was.
+/// Takes what a command needs beside maps and memory: shards, and redistributors, the lowest first.
+/// Tries it once, and puts all home. No redistributor is in its place before and after.
+pub(crate) fn command_step<R: Wait, G: Gate>(
+    rt: &R,
+    machine: &Machine,
+    pass: &mut Pass,
+    gate: &G,
+    command: &Command,
+    mut tables: Box<Tables>,
+    memory: Box<GuestMemory>,
+    redists: &mut Redists,
+) -> Result<Placed<StepReply>, Unmade>
+    requires of { IsOf machine.now pass.old }
+    requires held { (view pass.old).held ≡ base_held tables.value memory.value.memory }
+    requires stood { HasStood (setup machine.now) (part.Maps 0) (content.Maps (translator_of tables.value)) }
+    requires meets { MeetsCommand tables.value.regs memory.value.memory command.now }
+    requires empty { AreNoRedists redists.old }
+    ensures of { IsOf machine.now pass.new }
+    ensures empty { AreNoRedists redists.new }
+    ensures tries { TriesFrom (view pass.old) result (view pass.new) }
+{
+    let set = needs(command, &tables.regs, &tables.maps, &machine.desc().shape);
+    let mut cached = take_cached(rt, machine, pass, &tables.maps, command);
+    take_redists(rt, machine, pass, set, redists);
+    let said = run_command(
+        machine,
+        pass,
+        gate,
+        command,
+        &mut tables,
+        &memory.memory,
+        &mut cached,
+        redists,
+    );
+    put_redists(machine, pass, set, redists);
+    put_cached(machine, pass, cached);
+    put_base(machine, pass, tables, memory);
+    said
+}
+
+// Commits a command that has in hand what it needs, and carries it out. Where it isn't committed,
+// what is mapped and held stays as it was.
 fn run_command<G: Gate>(
     machine: &Machine,
     pass: &mut Pass,
