@@ -24,6 +24,7 @@ use Rattle.its_turns.specs.Calls.{Stays, IsPlaced, GotOnly, GoesOn}
 use Rattle.its_turns.specs.Contents.{translator_of}
 use Rattle.its_turns.specs.Told.{Looks, HasStood}
 use Rattle.its_turns.specs.declared.value.Tables.{Tables}
+use Rattle.its_turns.proofs.Telling.{stays_again, placed_again}
 use Rattle.held_parts.specs.Redists.{IsRedistOf}
 use Rattle.held_parts.specs.Shards.{IsShardOfFirst}
 use Rattle.held_parts.specs.Taking.{TakesInTime, TakesOnly, Goes, WasMade, holding}
@@ -31,6 +32,7 @@ use Rattle.held_parts.proofs.Going.{takes_wider, takes_one, got_then, going_firs
 use Rattle.cmd_engine.specs.StepHands.{IsOfStep}
 use Rattle.cmd_engine.specs.StepShards.{LeavesBy}
 use Rattle.cmd_engine.specs.StepTells.{WantsMemory, LeavesAs, IsStep, IsWhy, IsWhyNot, Tried, MakesStep, LooksOnly, Runs}
+use Rattle.cmd_engine.specs.declared.step_tells.NoStep.{NoStep}
 use Rattle.cmd_engine.specs.declared.step_tells.NoStep.TheVariants as none
 use Rattle.cmd_engine.specs.declared.step_tells.Unmade.{Unmade}
 use Rattle.cmd_engine.specs.declared.step_tells.Unmade.TheVariants as unmade
@@ -134,3 +136,33 @@ module _ (v y z x : View) (bare : v.held ≡ []) (goes : Goes IsOfStep v y) (hom
   pub from_runs : (r : Result (Placed StepReply) Unmade) → Runs y r z → Tried v r x
   from_runs (Ok p) m = made_step p m
   from_runs (Err e) l = looked_only e l
+
+-- ---- try after try
+
+module _ (v w x : View) (stays : Stays v w) (got : GotOnly IsOfStep v w) where
+  same_setup : w.setup ≡ v.setup
+  same_setup = ap (λ (k : View). k.setup) stays.same
+
+  pub again : Stays w x → GotOnly IsOfStep w x → Stays v x × GotOnly IsOfStep v x
+  again more turns = (stays_again v w x stays more, got_then IsOfStep v w x got turns)
+
+  pub made_again : (p : Placed StepReply) → IsStep w p x → GotOnly IsOfStep w x → IsStep v p x × GotOnly IsOfStep v x
+  made_again p m turns =
+      let at : IsPlaced v (call.Step 0) (reply.Step p.reply) p.place x = placed_again v w x (call.Step 0) (reply.Step p.reply) p.place stays m.placed in
+      let seen : v.seen ++ at.between ≡ w.seen ++ m.placed.between = same_before (v.seen ++ at.between) (w.seen ++ m.placed.between) (entry v.number (call.Step 0) (reply.Step p.reply)) (entry w.number (call.Step 0) (reply.Step p.reply)) (sym at.seen ∙ m.placed.seen) in (
+        record {
+          placed = at;
+          leaves = subst (λ (k : Setup × List Entry). LeavesAs k.0.limits.stamp_last (ending_of (after k.0.start k.1) (call.Step 0)) x) (λ d. (same_setup d, sym seen d)) m.leaves;
+        },
+        got_then IsOfStep v w x got turns,
+      )
+
+  why_same : (e : NoStep) → IsWhy w e x → IsWhy v e x
+  why_same none.Spent is = is ∙ ap (λ (k : Setup). k.limits.place_last) same_setup
+  why_same none.NoMemory is = subst (λ (k : Setup). WantsMemory (after k.start x.seen)) same_setup is
+
+  pub never_again : (e : NoStep) → Stays w x → IsWhy w e x → GotOnly IsOfStep w x → Stays v x × IsWhy v e x × GotOnly IsOfStep v x
+  never_again e more why turns = (stays_again v w x stays more, why_same e why, got_then IsOfStep v w x got turns)
+
+pub bare_still : (v w : View) → v.held ≡ [] → Stays v w → w.held ≡ []
+bare_still v w bare stays = ap (λ (k : View). k.held) stays.same ∙ bare
