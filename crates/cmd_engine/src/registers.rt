@@ -34,7 +34,14 @@ pub fn try_read_reg<G: Gate>(
     };
     let value = read_register(&tables.regs, off, size);
     let call = Call::ReadReg { its: 0, off, size };
-    let made = try_commit(machine, pass, gate, &call, &Reply::Value(value), ShardChange::Keep);
+    let made = try_commit(
+        machine,
+        pass,
+        gate,
+        &call,
+        &Reply::Value(value),
+        ShardChange::Keep,
+    );
     match made {
         Ok(word) => {
             put(machine, pass, Part::Maps(0), Value::Maps(tables));
