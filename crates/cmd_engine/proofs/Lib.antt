@@ -1,6 +1,8 @@
+pub mod Came
+pub mod Writing
 pub mod InState
 pub mod Marks
 pub mod Running
 pub mod InHand
-pub mod Trying
 pub mod Still
+pub mod Trying

@@ -1,5 +1,5 @@
 -- From what a try tells of its pass to what the step says.
-use Rattle.std.proofs.Common.{◌≡◌, ◌+◌, ◌<◌, ℕ, List, [], ◌∷◌, ◌++◌, length, Option, Some, Result, Ok, Err, refl, ap, sym, ◌∙◌, subst, arith, inl, inr}
+use Rattle.std.proofs.Common.{◌≡◌, ◌+◌, ◌<◌, ℕ, zero, suc, List, [], ◌∷◌, ◌++◌, length, replicate, Option, Some, None, Result, Ok, Err, refl, ap, sym, ◌∙◌, subst, arith, inl, inr}
 use Rattle.its_types.specs.declared.ids.Vcpu.{Vcpu}
 use Rattle.its_types.specs.declared.machine.Part.{Part}
 use Rattle.its_types.specs.declared.machine.Part.TheVariants as part
@@ -12,9 +12,11 @@ use Rattle.its_plain.specs.declared.call.Entry.{Entry}
 use Rattle.its_plain.specs.declared.call.Reply.TheVariants as reply
 use Rattle.its_plain.specs.declared.call.StepReply.{StepReply}
 use Rattle.its_plain.specs.declared.layout.Layout.{Layout}
+use Rattle.lpi_pending.specs.InHand.{in_hand}
+use Rattle.lpi_pending.specs.declared.redist.Redist.{Redist as Owned}
 use Rattle.cmd_exec.specs.Needs.{AreTargets}
 use Rattle.its_steps.specs.Contents.{Content, Maps, Held}
-use Rattle.its_steps.specs.Endings.{Ending, ending_of}
+use Rattle.its_steps.specs.Endings.{Ending, Nothing, Pair, All, ending_of}
 use Rattle.its_steps.specs.Parts.{Setup}
 use Rattle.its_steps.specs.World.{View, entry, LastCommit}
 use Rattle.its_steps.specs.declared.change.ShardChange.{ShardChange}
@@ -25,13 +27,14 @@ use Rattle.its_turns.specs.Contents.{translator_of}
 use Rattle.its_turns.specs.Told.{Looks, HasStood}
 use Rattle.its_turns.specs.declared.value.Tables.{Tables}
 use Rattle.its_turns.proofs.Telling.{stays_again, placed_again}
-use Rattle.held_parts.specs.Redists.{IsRedistOf}
+use Rattle.held_parts.specs.Redists.{AreNoRedists, IsRedistOf}
 use Rattle.held_parts.specs.Shards.{IsShardOfFirst}
 use Rattle.held_parts.specs.Taking.{TakesInTime, TakesOnly, Goes, WasMade, holding}
 use Rattle.held_parts.proofs.Going.{takes_wider, takes_one, got_then, going_first, going_takes, going_looked, going_home, going_stays, going_made, made_home, made_placed}
+use Rattle.cmd_engine.specs.Leaving.{LeavesAs}
 use Rattle.cmd_engine.specs.StepHands.{IsOfStep}
 use Rattle.cmd_engine.specs.StepShards.{LeavesBy}
-use Rattle.cmd_engine.specs.StepTells.{WantsMemory, LeavesAs, IsStep, IsWhy, IsWhyNot, Tried, MakesStep, LooksOnly, Runs}
+use Rattle.cmd_engine.specs.StepTells.{WantsMemory, IsStep, IsWhy, IsWhyNot, Tried, MakesStep, LooksOnly, Runs}
 use Rattle.cmd_engine.specs.declared.step_tells.NoStep.{NoStep}
 use Rattle.cmd_engine.specs.declared.step_tells.NoStep.TheVariants as none
 use Rattle.cmd_engine.specs.declared.step_tells.Unmade.{Unmade}
@@ -98,6 +101,15 @@ same_before [] (y ∷ ys) a b e = absurd (length_one ys b (ap tail_of e))
 same_before (x ∷ xs) [] a b e = absurd (length_one xs a (sym (ap tail_of e)))
 same_before (x ∷ xs) (y ∷ ys) a b e = (λ d. ap (head_or x) e d ∷ same_before xs ys a b (ap tail_of e) d)
 
+-- ---- the stamp and the shards
+
+-- what the last commit left is what its ending says
+leaves_as : (last : ℕ) (e : Ending) (x : View) → LeavesBy last e x.commit.base.stamp x.last.stamp x.commit.change → LeavesAs last e x
+leaves_as last Nothing x l = record { stamp = l.0; change_is = l.1 }
+leaves_as last (Pair dev ev) x l = record { stamp = l.0; change_is = l.1 }
+leaves_as last All x (inl l) = inl record { room = l.1; stamp = l.0; change_is = l.2 }
+leaves_as last All x (inr l) = inr record { most = l.1; stamp = l.0; change_is = l.2 }
+
 -- ---- a try that ends
 
 module _ (v y z x : View) (bare : v.held ≡ []) (goes : Goes IsOfStep v y) (home : x ≡ holding z []) where
@@ -116,9 +128,10 @@ module _ (v y z x : View) (bare : v.held ≡ []) (goes : Goes IsOfStep v y) (hom
           (sym at.seen ∙ (ap (λ (k : View). k.seen) home ∙ ap (λ (k : View). k.seen) m.makes.view)) in (
         record {
           placed = at;
-          leaves = subst (λ (k : LastCommit × ℕ). LeavesBy v.setup.limits.stamp_last (ending_of (after v.setup.start (v.seen ++ at.between)) (call.Step 0)) k.0.base.stamp k.1 k.0.change)
+          leaves = leaves_as v.setup.limits.stamp_last (ending_of (after v.setup.start (v.seen ++ at.between)) (call.Step 0)) x
+              (subst (λ (k : LastCommit × ℕ). LeavesBy v.setup.limits.stamp_last (ending_of (after v.setup.start (v.seen ++ at.between)) (call.Step 0)) k.0.base.stamp k.1 k.0.change)
               (λ d. (sym made.made.commit d, sym (ap (λ (w : Word). w.stamp) made.made.last) d))
-              (subst (λ (k : Setup × List Entry). LeavesBy k.0.limits.stamp_last (ending_of (after k.0.start k.1) (call.Step 0)) m.word.stamp m.stamp m.change) (λ d. (own d, sym seen d)) m.leaves);
+              (subst (λ (k : Setup × List Entry). LeavesBy k.0.limits.stamp_last (ending_of (after k.0.start k.1) (call.Step 0)) m.word.stamp m.stamp m.change) (λ d. (own d, sym seen d)) m.leaves));
         },
         made.got,
       )
@@ -166,3 +179,12 @@ module _ (v w x : View) (stays : Stays v w) (got : GotOnly IsOfStep v w) where
 
 pub bare_still : (v w : View) → v.held ≡ [] → Stays v w → w.held ≡ []
 bare_still v w bare stays = ap (λ (k : View). k.held) stays.same ∙ bare
+
+-- sixteen empty places
+none_in : (n v : ℕ) → in_hand (replicate n None) v ≡ None
+none_in zero v = refl
+none_in (suc n) zero = refl
+none_in (suc n) (suc v) = none_in n v
+
+pub none_at_first : (redists : List (Option Owned)) → redists ≡ replicate 16 None → AreNoRedists redists
+none_at_first redists is v = ap (λ (l : List (Option Owned)). in_hand l v) is ∙ none_in 16 v

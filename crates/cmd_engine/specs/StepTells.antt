@@ -11,15 +11,15 @@ use Rattle.its_plain.specs.declared.call.Call.TheVariants as call
 use Rattle.its_plain.specs.declared.call.Reply.TheVariants as reply
 use Rattle.its_plain.specs.declared.call.StepReply.{StepReply}
 use Rattle.cmd_exec.specs.Room.{adds_to}
-use Rattle.its_steps.specs.Endings.{Ending, ending_of}
+use Rattle.its_steps.specs.Endings.{ending_of}
 use Rattle.its_steps.specs.World.{View}
 use Rattle.its_steps.specs.declared.change.ShardChange.{ShardChange}
-use Rattle.its_steps.specs.declared.commit.Commit.{Commit}
-use Rattle.its_turns.specs.Calls.{Stays, IsPlaced, Makes, GotOnly}
+use Rattle.its_turns.specs.Calls.{Stays, Makes, GotOnly}
 use Rattle.its_turns.specs.Told.{Looks}
 use Rattle.held_parts.specs.Taking.{Goes}
 use Rattle.guest_windows.specs.Windows.{Window}
 use Rattle.its_turns.specs.declared.value.Tables.{Tables}
+use Rattle.cmd_engine.specs.Leaving.{EndsAs}
 use Rattle.cmd_engine.specs.Steps.{MeetsNone}
 use Rattle.cmd_engine.specs.StepHands.{IsOfStep, base_held}
 use Rattle.cmd_engine.specs.StepShards.{LeavesBy}
@@ -27,10 +27,6 @@ use Rattle.cmd_engine.specs.declared.step_tells.NoStep.{NoStep}
 use Rattle.cmd_engine.specs.declared.step_tells.NoStep.TheVariants as none
 use Rattle.cmd_engine.specs.declared.step_tells.Unmade.{Unmade}
 use Rattle.cmd_engine.specs.declared.step_tells.Unmade.TheVariants as unmade
-
--- the stamp and the change of the shards that the pass's last commit left are those of a call with this ending
-abbrev pub LeavesAs : ℕ → Ending → View → Type 0
-LeavesAs last ending w = LeavesBy last ending w.commit.base.stamp w.last.stamp w.commit.change
 
 -- in this state the translator would take a command that isn't refused and adds a device, a collection or an event
 pub record WantsMemory (u : Plain) : Type 0 where
@@ -42,9 +38,8 @@ pub record WantsMemory (u : Plain) : Type 0 where
 -- ---- the whole step
 
 -- it was made, and left the stamp and the shards as its ending says in the state that it was made in
-pub record IsStep (v : View) (p : Placed StepReply) (w : View) : Type 0 where
-  pub placed : IsPlaced v (call.Step 0) (reply.Step p.reply) p.place w
-  pub leaves : LeavesAs v.setup.limits.stamp_last (ending_of (after v.setup.start (v.seen ++ placed.between)) (call.Step 0)) w
+abbrev pub IsStep : View → Placed StepReply → View → Type 0
+IsStep v p w = EndsAs v (call.Step 0) (reply.Step p.reply) p.place w
 
 -- why it was not
 abbrev pub IsWhy : View → NoStep → View → Type 0

@@ -41,22 +41,22 @@ fn try_step<R: Wait, G: Gate>(
     }
 }
 
-// Tries it until it was made, or can't be.
-fn step_with<R: Wait, G: Gate>(
+/// Translator 0 takes its next command (IHI 0069, section 5.3), and waits for the turns that it
+/// needs: the maps, memory, a pair's shard or every one, and redistributors, the lowest first.
+pub fn step<R: Wait, G: Gate>(
     rt: &R,
     machine: &Machine,
     pass: &mut Pass,
     gate: &G,
-    redists: &mut Redists,
 ) -> Result<Placed<StepReply>, NoStep>
     requires of { IsOf machine.now pass.old }
     requires free { (view pass.old).held ≡ [] }
-    requires empty { AreNoRedists redists.old }
     ensures of { IsOf machine.now pass.new }
     ensures answer { Steps (view pass.old) result (view pass.new) }
 {
+    let mut redists = Redists::new();
     for _ in rt.forever() {
-        match try_step(rt, machine, pass, gate, redists) {
+        match try_step(rt, machine, pass, gate, &mut redists) {
             Ok(placed) => return Ok(placed),
             Err(Unmade::Never(why)) => return Err(why),
             Err(Unmade::Again) => pause(),

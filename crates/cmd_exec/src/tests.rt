@@ -77,7 +77,7 @@ fn a_command_is_run_or_refused(rt: HostRuntime) -> Result<(), Fail> {
     let mut regs = Regs::reset(16);
     let mut maps = Maps::new(rt.alloc());
     let memory = Memory::new(rt.alloc(), &[(Addr(0x8000_0000), 0x1000)])?;
-    let mut redists = Redists::new(rt.alloc())?;
+    let mut redists = Redists::new();
     let refused = plan(&mapc(1, 4), &regs, &maps, &memory, &redists, &SHAPE);
     let reason = Reason::TargetRange;
     assert_eq!(rt; refused.reply(), CmdReply::Refused(Op::Mapc, reason));

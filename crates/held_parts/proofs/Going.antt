@@ -1,20 +1,18 @@
 -- What a pass knows after it tried turns, took parts, and put them home.
-use Rattle.std.proofs.Common.{◌≡◌, ◌≢◌, ℕ, ◌+◌, ◌<◌, ◌≤◌, List, [], ◌∷◌, ◌++◌, length, refl, ap, sym, ◌∙◌, subst, arith, append_assoc, le_refl}
+use Rattle.std.proofs.Common.{◌≡◌, List, [], ◌∷◌, refl, ap, sym, ◌∙◌, subst, arith, le_refl}
 use Rattle.std.specs.List.{AllByRecursion}
 use mathlib.Core.List.{IsPrefix}
 use Rattle.its_types.specs.declared.machine.Part.{Part}
 use Rattle.its_types.specs.declared.machine.Word.{Word}
 use Rattle.its_steps.specs.Contents.{Content, Held}
 use Rattle.its_steps.specs.Good.{Holds}
-use Rattle.its_steps.specs.Parts.{Setup}
-use Rattle.its_steps.specs.World.{View, Tries, loaded, took, missed, out, lost_to}
+use Rattle.its_steps.specs.World.{View, Tries, took, out, lost_to}
 use Rattle.its_steps.specs.declared.commit.Commit.{Commit}
-use Rattle.its_steps.proofs.Lists.{prefix_self}
-use Rattle.its_turns.specs.Calls.{Stays, IsPlaced, GotOnly, GoesOn, Makes, IsMade, Leaves, got_all}
+use Rattle.its_turns.specs.Calls.{Stays, IsPlaced, GotOnly, GoesOn, Makes, IsMade}
 use Rattle.its_turns.specs.Steps.{IsBusy, TakesPart}
-use Rattle.its_turns.specs.Told.{Looks, IsLone, released}
+use Rattle.its_turns.specs.Told.{Looks, IsLone}
 use Rattle.its_turns.specs.declared.turns.Busy.{Busy}
-use Rattle.its_turns.proofs.Telling.{goes_first, goes_looked, goes_emptied, stays_from, lone_on, makes_from, made_emptied, placed_from, got_first, got_more}
+use Rattle.its_turns.proofs.Telling.{goes_first, goes_looked, stays_from, lone_on, makes_from, placed_from, got_first, got_more}
 use Rattle.held_parts.specs.Taking.{Waits, TakesInTime, TakesOnly, Goes, WasMade, holding}
 
 -- ---- waiting for one turn

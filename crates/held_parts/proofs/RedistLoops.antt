@@ -1,16 +1,14 @@
 -- Redistributors taken one by one, and put home one by one.
-use Rattle.std.proofs.Common.{◌≡◌, ◌≢◌, ℕ, zero, suc, ◌+◌, ◌-◌, ◌<◌, ◌≤◌, Bool, true, false, ◌&&◌, nat_lt, List, [], ◌∷◌, Option, Some, None, length, get_or, set, refl, ap, sym, ◌∙◌, subst, inl, inr, arith, get_or-set_same, get_or-set_other}
-use Rattle.std.proofs.lemmas.Bool.{cases_eq, cases_lt, le-ltb, and_left, and_parts}
-use Rattle.std.specs.Prelude.{is_some, slice_set}
-use Rattle.its_types.specs.declared.ids.Vcpu.{Vcpu}
+use Rattle.std.proofs.Common.{◌≡◌, ◌≢◌, ℕ, zero, suc, ◌<◌, ◌≤◌, Bool, true, false, ◌&&◌, nat_lt, List, [], ◌∷◌, Option, Some, None, length, set, refl, ap, sym, ◌∙◌, subst, inl, inr, arith, get_or-set_same, get_or-set_other}
+use Rattle.std.proofs.lemmas.Bool.{cases_eq, cases_lt, le-ltb}
+use Rattle.std.specs.Prelude.{is_some}
 use Rattle.its_types.specs.declared.machine.Part.TheVariants as part
 use Rattle.lpi_pending.specs.InHand.{in_hand}
 use Rattle.lpi_pending.specs.declared.redist.Redist.{Redist as Owned}
-use Rattle.owned_parts.specs.Owned.{redistributor_of, HasLpisOf}
-use Rattle.its_steps.specs.Contents.{Held, Redist}
+use Rattle.owned_parts.specs.Owned.{HasLpisOf}
+use Rattle.its_steps.specs.Contents.{Held}
 use Rattle.its_steps.specs.Good.{Holds}
 use Rattle.its_steps.specs.Parts.{Setup, vcpu_count}
-use Rattle.its_steps.specs.World.{out}
 use Rattle.held_parts.specs.Redists.{redist_held, held_if_in, redist_row, redists_held, is_wanted, AreNoRedists, AreWanted, HoldsNoRedist}
 use Rattle.held_parts.proofs.InRows.{row_agrees, row_none, row_first, row_skips}
 use Rattle.held_parts.proofs.RedistRows.{redist_above}

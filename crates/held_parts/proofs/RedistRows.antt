@@ -1,6 +1,6 @@
 -- Redistributors held in front of other parts.
-use Rattle.std.proofs.Common.{◌≡◌, ◌≢◌, ℕ, zero, suc, ◌+◌, ◌<◌, ◌≤◌, Bool, true, false, ◌&&◌, nat_lt, List, [], ◌∷◌, Option, Some, None, length, slice_get, refl, ap, sym, ◌∙◌, subst, inl, inr, arith}
-use Rattle.std.proofs.lemmas.Bool.{and_parts, and_from, lt-ltb, ltb-true}
+use Rattle.std.proofs.Common.{◌≡◌, ◌≢◌, ℕ, zero, suc, ◌<◌, ◌≤◌, true, ◌&&◌, nat_lt, List, ◌∷◌, Option, Some, None, slice_get, refl, ap, sym, ◌∙◌, subst, arith}
+use Rattle.std.proofs.lemmas.Bool.{and_parts, ltb-true}
 use Rattle.std.proofs.lemmas.Option.{get_or_from_slice_get}
 use Rattle.std.specs.Prelude.{is_some}
 use Rattle.std.specs.List.{AllByRecursion}
@@ -22,7 +22,7 @@ use Rattle.its_steps.specs.Renewal.{renewed, content_in}
 use Rattle.its_steps.specs.World.{out}
 use Rattle.its_steps.specs.declared.commit.Commit.{Commit}
 use Rattle.its_steps.proofs.Owed.{owes_holds}
-use Rattle.held_parts.specs.Rows.{Row, in_row, with_one}
+use Rattle.held_parts.specs.Rows.{in_row, with_one}
 use Rattle.held_parts.specs.Redists.{redist_held, held_if_in, redist_row, redists_held, is_wanted, AreWanted, HoldsNoRedist}
 use Rattle.held_parts.proofs.InRows.{row_holds, row_owes, row_has, row_lacks, row_all, row_apart, row_each, row_renewed}
 

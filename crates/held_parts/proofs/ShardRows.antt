@@ -1,6 +1,6 @@
 -- Shards of translator 0 held in front of other parts.
-use Rattle.std.proofs.Common.{◌≡◌, ◌≢◌, ℕ, zero, suc, ◌+◌, ◌<◌, ◌≤◌, Bool, true, false, nat_lt, List, [], ◌∷◌, Option, Some, None, refl, ap, sym, ◌∙◌, subst, inl, inr, arith}
-use Rattle.std.proofs.lemmas.Bool.{lt-ltb, ltb-true}
+use Rattle.std.proofs.Common.{◌≡◌, ◌≢◌, ℕ, ◌<◌, ◌≤◌, true, List, Option, Some, None, refl, ap, sym, ◌∙◌, subst, arith}
+use Rattle.std.proofs.lemmas.Bool.{lt-ltb}
 use Rattle.std.specs.Prelude.{is_some}
 use Rattle.std.specs.List.{AllByRecursion}
 use Rattle.its_types.specs.declared.machine.Part.{Part}
@@ -13,7 +13,7 @@ use Rattle.its_steps.specs.MayCall.{Owes}
 use Rattle.its_steps.specs.MayCommit.{IsOut}
 use Rattle.its_steps.specs.Parts.{Setup, Stands, Has, HasAll, translator_count}
 use Rattle.its_steps.specs.Renewal.{renewed, changed, its_of, content_in}
-use Rattle.its_steps.specs.World.{out, word_after}
+use Rattle.its_steps.specs.World.{word_after}
 use Rattle.its_steps.specs.declared.change.ShardChange.TheVariants.{Keep, Empty}
 use Rattle.its_steps.specs.declared.commit.Commit.{Commit}
 use Rattle.its_steps.proofs.Owed.{owes_holds}

@@ -1,5 +1,5 @@
 -- Parts held in a row, one after another, each with a number.
-use Rattle.std.specs.Prelude.{ℕ, zero, suc, Option, Some, None, List, [], ◌∷◌}
+use Rattle.std.specs.Prelude.{ℕ, zero, suc, Option, Some, None, List, ◌∷◌}
 use Rattle.its_steps.specs.Contents.{Held}
 
 -- the part of each number, if it is held

@@ -1,9 +1,6 @@
-use Rattle.std.proofs.Common.{rules, arith, ap, sym, ◌∙◌, subst, refl, ◌≡◌, ◌<◌, ◌-◌, ◌+◌, ◌&&◌, ℕ, suc, Bool, true, false, nat_lt, List, Some, None}
-use Rattle.its_types.specs.declared.machine.Part.TheVariants as part
-use Rattle.lpi_pending.specs.InHand.{in_hand}
+use Rattle.std.proofs.Common.{arith, ap, sym, ◌∙◌, refl, ◌≡◌, ◌-◌, ◌+◌, ◌&&◌, ℕ, suc, nat_lt, List}
 use Rattle.owned_parts.specs.Owned.{redistributor_of}
 use Rattle.its_steps.specs.Contents.{Held, Redist}
-use Rattle.its_steps.specs.Parts.{vcpu_count}
 use Rattle.its_steps.specs.World.{View}
 use Rattle.its_turns.specs.Contents.{held_before}
 use Rattle.its_turns.specs.Machines.{setup, view}
@@ -11,7 +8,7 @@ use Rattle.its_turns.specs.Told.{released}
 use Rattle.held_parts.specs.Redists.{is_wanted, redist_row, redist_held, held_if_in, redists_held}
 use Rattle.held_parts.specs.Taking.{holding}
 use Rattle.held_parts.proofs.InRows.{row_first, row_skips, row_none}
-use Rattle.held_parts.proofs.RedistLoops.{all_left, one_left, none_left, not_in_hand}
+use Rattle.held_parts.proofs.RedistLoops.{one_left, none_left, not_in_hand}
 use Rattle.held_parts.proofs.redists.put_wanted.Goals as goal
 use Rattle.held_parts.proofs.redists.put_wanted.Goals.{then-is_wanted, else-is_wanted}
 

@@ -1,6 +1,6 @@
-use Rattle.std.proofs.Common.{◌≡◌, ◌≤◌, ◌<◌, ◌-◌, ℕ, List, length}
+use Rattle.std.proofs.Common.{◌≡◌, ◌-◌, List}
 use Rattle.its_steps.specs.Contents.{Held}
-use Rattle.its_turns.specs.Machines.{setup, view, IsOf}
+use Rattle.its_turns.specs.Machines.{view, IsOf}
 use Rattle.held_parts.specs.Redists.{redists_held}
 use Rattle.held_parts.specs.Taking.{holding}
 use Rattle.held_parts.proofs.RedistLoops.{AreLeft}

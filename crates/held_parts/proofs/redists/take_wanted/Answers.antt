@@ -1,15 +1,14 @@
 use Rattle.std.proofs.lemmas.List.{length-set}
-use Rattle.std.proofs.Common.{length, rules, arith, ap, sym, ◌∙◌, subst, refl, ◌≡◌, ◌<◌, ◌+◌, ◌&&◌, ℕ, Bool, true, false, nat_lt, List, Some, slice_set}
+use Rattle.std.proofs.Common.{length, rules, arith, ap, sym, ◌∙◌, ◌≡◌, ◌+◌, ◌&&◌, ℕ, true, nat_lt, Some}
 use Rattle.std.proofs.lemmas.Bool.{and_parts}
 use Rattle.its_types.specs.declared.machine.Part.TheVariants as part
-use Rattle.owned_parts.specs.Owned.{redistributor_of, HasLpisOf}
-use Rattle.its_steps.specs.Contents.{Held, Redist}
-use Rattle.its_steps.specs.Parts.{Setup, vcpu_count}
-use Rattle.its_steps.specs.World.{View}
+use Rattle.owned_parts.specs.Owned.{redistributor_of}
+use Rattle.its_steps.specs.Contents.{Redist}
+use Rattle.its_steps.specs.Parts.{vcpu_count}
 use Rattle.its_turns.specs.Machines.{setup, view}
-use Rattle.held_parts.specs.Redists.{is_wanted, redist_held, IsWantedRedist}
+use Rattle.held_parts.specs.Redists.{is_wanted, IsWantedRedist}
 use Rattle.held_parts.proofs.Going.{takes_first, takes_one, takes_then, took_held}
-use Rattle.held_parts.proofs.RedistLoops.{none_taken, is_free, not_taken, one_taken, all_taken}
+use Rattle.held_parts.proofs.RedistLoops.{none_taken, is_free, not_taken, one_taken}
 use Rattle.held_parts.proofs.redists.take_wanted.Goals as goal
 use Rattle.held_parts.proofs.redists.take_wanted.Goals.{then-is_wanted, else-is_wanted}
 

@@ -1,4 +1,3 @@
-use Rattle.std.proofs.Common.{◌≡◌, ◌≤◌, ◌<◌, ℕ}
 use Rattle.its_turns.specs.Machines.{setup, view, IsOf}
 use Rattle.held_parts.specs.Redists.{IsWantedRedist}
 use Rattle.held_parts.specs.Taking.{TakesOnly}

@@ -1,8 +1,8 @@
-use Rattle.std.proofs.Common.{rules, arith, ap, sym, ◌∙◌, subst, refl, ◌≡◌, ◌<◌, ◌-◌, ◌+◌, ℕ, suc, List, Option, None, Some}
+use Rattle.std.proofs.Common.{arith, ap, sym, ◌∙◌, refl, ◌≡◌, ◌-◌, ◌+◌, ℕ, suc, List}
 use Rattle.its_steps.specs.Contents.{Held, Shard}
 use Rattle.its_steps.specs.World.{View}
 use Rattle.its_turns.specs.Contents.{held_before}
-use Rattle.its_turns.specs.Machines.{setup, view}
+use Rattle.its_turns.specs.Machines.{view}
 use Rattle.its_turns.specs.Told.{released}
 use Rattle.held_parts.specs.Shards.{shard_row, shard_held, held_if_in, shards_held}
 use Rattle.held_parts.specs.Taking.{holding}

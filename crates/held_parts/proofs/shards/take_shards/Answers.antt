@@ -1,8 +1,8 @@
 use Rattle.std.proofs.lemmas.List.{length-set}
-use Rattle.std.proofs.Common.{length, rules, arith, ap, sym, ◌∙◌, subst, refl, ◌≡◌, ◌<◌, ◌+◌, ℕ, List, Option, Some}
+use Rattle.std.proofs.Common.{length, rules, arith, ap, sym, ◌∙◌, refl, ◌+◌, Some}
 use Rattle.its_types.specs.declared.machine.Part.TheVariants as part
 use Rattle.its_steps.specs.Contents.{Shard}
-use Rattle.its_turns.specs.Machines.{setup, view}
+use Rattle.its_turns.specs.Machines.{view}
 use Rattle.held_parts.specs.Shards.{IsShardOfFirst}
 use Rattle.held_parts.proofs.Going.{takes_first, takes_one, takes_then, took_held}
 use Rattle.held_parts.proofs.ShardLoops.{none_taken, is_free, one_taken}

@@ -1,5 +1,4 @@
-use Rattle.std.proofs.Common.{◌≡◌, ◌≤◌, ◌<◌, ℕ}
-use Rattle.its_turns.specs.Machines.{setup, view, IsOf}
+use Rattle.its_turns.specs.Machines.{view, IsOf}
 use Rattle.held_parts.specs.Shards.{IsShardOfFirst}
 use Rattle.held_parts.specs.Taking.{TakesOnly}
 use Rattle.held_parts.proofs.ShardLoops.{AreTaken}

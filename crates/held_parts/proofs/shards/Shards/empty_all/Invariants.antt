@@ -1,4 +1,4 @@
-use Rattle.std.proofs.Common.{◌≡◌, ◌≤◌, ◌<◌, ℕ, length}
+use Rattle.std.proofs.Common.{◌≡◌, ◌≤◌, ◌<◌, ℕ}
 use Rattle.held_parts.specs.Shards.{in_place, emptied}
 use Rattle.held_parts.proofs.shards.Shards.empty_all.Given as goal
 

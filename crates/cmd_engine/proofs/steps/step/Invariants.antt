@@ -3,7 +3,7 @@ use Rattle.its_turns.specs.Calls.{Stays, GotOnly}
 use Rattle.its_turns.specs.Machines.{view, IsOf}
 use Rattle.held_parts.specs.Redists.{AreNoRedists}
 use Rattle.cmd_engine.specs.StepHands.{IsOfStep}
-use Rattle.cmd_engine.proofs.steps.step_with.Given as goal
+use Rattle.cmd_engine.proofs.steps.step.Given as goal
 
 abbrev pub invariant-loop : goal.invariant-loop
 invariant-loop g l =
