@@ -19,6 +19,9 @@ MayAsk s (call.Take vcpu) = vcpu.0 < vcpu_count s
 MayAsk s (call.Show vcpu) = vcpu.0 < vcpu_count s
 MayAsk s (call.Poke addr bytes) = Unit {0}
 MayAsk s (call.Peek addr count) = Unit {0}
+MayAsk s (call.ReadReg its off size) = its ≡ 0
+MayAsk s (call.WriteReg its off size value) = its ≡ 0
+MayAsk s (call.Step its) = its ≡ 0
 MayAsk s other = ⊥
 
 abbrev pub MayAskAll : Setup → Thread → Type 0

@@ -6,6 +6,7 @@ ghost use Rattle.its_turns.specs.Machines.{setup, view, IsOf};
 ghost use Rattle.script_threads.specs.Asks.{MayAsk, Answers};
 
 use crate::stop::Stop;
+use cmd_engine::{NoStep, read_reg, step, write_reg};
 use device_port::signal;
 use guest_port::{peek, poke};
 use its_plain::{Bytes64, Call, Reply};
@@ -118,6 +119,72 @@ fn ask_peek<R: Wait, G: Gate>(
     }
 }
 
+fn ask_read_reg<R: Wait, G: Gate>(
+    rt: &R,
+    machine: &Machine,
+    pass: &mut Pass,
+    gate: &G,
+    off: u32,
+    size: u8,
+) -> Result<Placed<Reply>, Stop>
+    requires of { IsOf machine.now pass.old }
+    requires free { (view pass.old).held ≡ [] }
+    ensures of { IsOf machine.now pass.new }
+    ensures answer { Answers (view pass.old) (call.ReadReg 0 off size) (view pass.new) result }
+{
+    match read_reg(rt, machine, pass, gate, off, size) {
+        Ok(Placed { place, reply }) => Ok(Placed {
+            place,
+            reply: Reply::Value(reply),
+        }),
+        Err(_) => Err(Stop::Spent),
+    }
+}
+
+fn ask_write_reg<R: Wait, G: Gate>(
+    rt: &R,
+    machine: &Machine,
+    pass: &mut Pass,
+    gate: &G,
+    off: u32,
+    size: u8,
+    value: u64,
+) -> Result<Placed<Reply>, Stop>
+    requires of { IsOf machine.now pass.old }
+    requires free { (view pass.old).held ≡ [] }
+    ensures of { IsOf machine.now pass.new }
+    ensures answer { Answers (view pass.old) (call.WriteReg 0 off size value) (view pass.new) result }
+{
+    match write_reg(rt, machine, pass, gate, off, size, value) {
+        Ok(Placed { place, reply: () }) => Ok(Placed {
+            place,
+            reply: Reply::Ok,
+        }),
+        Err(_) => Err(Stop::Spent),
+    }
+}
+
+fn ask_step<R: Wait, G: Gate>(
+    rt: &R,
+    machine: &Machine,
+    pass: &mut Pass,
+    gate: &G,
+) -> Result<Placed<Reply>, Stop>
+    requires of { IsOf machine.now pass.old }
+    requires free { (view pass.old).held ≡ [] }
+    ensures of { IsOf machine.now pass.new }
+    ensures answer { Answers (view pass.old) (call.Step 0) (view pass.new) result }
+{
+    match step(rt, machine, pass, gate) {
+        Ok(Placed { place, reply }) => Ok(Placed {
+            place,
+            reply: Reply::Step(reply),
+        }),
+        Err(NoStep::Spent) => Err(Stop::Spent),
+        Err(NoStep::NoMemory) => Err(Stop::NoMemory),
+    }
+}
+
 /// Makes a call by its port, and waits for the turns that it needs.
 pub fn call_once<R: Wait, G: Gate>(
     rt: &R,
@@ -138,6 +205,14 @@ pub fn call_once<R: Wait, G: Gate>(
         Call::Show(vcpu) => ask_show(rt, machine, pass, gate, *vcpu),
         Call::Poke { addr, bytes } => ask_poke(rt, machine, pass, gate, *addr, bytes),
         Call::Peek { addr, count } => ask_peek(rt, machine, pass, gate, *addr, *count),
+        Call::ReadReg { its: _, off, size } => ask_read_reg(rt, machine, pass, gate, *off, *size),
+        Call::WriteReg {
+            its: _,
+            off,
+            size,
+            value,
+        } => ask_write_reg(rt, machine, pass, gate, *off, *size, *value),
+        Call::Step { its: _ } => ask_step(rt, machine, pass, gate),
         _ => unreachable!(),
     }
 }
