@@ -1,5 +1,5 @@
 -- A leg, phase by phase.
-use Rattle.std.proofs.Common.{◌≡◌, ℕ, zero, suc, ◌+◌, ◌<◌, ◌≤◌, List, [], ◌∷◌, ◌++◌, map, length, get_or, drop, Option, Some, None, refl, ap, sym, ◌∙◌, subst, inl, inr, arith, append_assoc, append-nil, drop-cons}
+use Rattle.std.proofs.Common.{◌≡◌, ℕ, zero, suc, ◌+◌, ◌<◌, ◌≤◌, List, [], ◌∷◌, ◌++◌, map, length, get_or, drop, Option, Some, None, refl, ap, sym, ◌∙◌, subst, inl, inr, arith, append_assoc, append-nil, length-append, drop-cons, true≢false}
 use Rattle.std.specs.List.{AllByRecursion}
 use Rattle.std.proofs.lemmas.List.{drop_all}
 use Rattle.its_types.specs.declared.machine.Placed.{Placed}
@@ -14,10 +14,11 @@ use Rattle.its_steps.specs.Parts.{Setup}
 use Rattle.its_steps.specs.World.{View}
 use Rattle.its_steps.proofs.Lists.{all_weaker}
 use Rattle.script_threads.specs.Legs.{RanLeg, phase_lines, threads_in}
-use Rattle.script_threads.specs.Phases.{Phased, replies_of}
+use Rattle.script_threads.specs.Phases.{Phased, calls_of, replies_of}
 use Rattle.script_threads.specs.Rests.{Rests}
 use Rattle.script_threads.specs.declared.stop.Stop.{Stop}
 use Rattle.script_threads.specs.declared.stop.Stop.TheVariants.{Spent}
+use Rattle.script_threads.proofs.Counts.{calls_in, calls_more, calls_most, calls_all}
 use Rattle.script_threads.proofs.Lines.{passes_more, phase_passes, seat_at, threads_more}
 
 all_append : {A : Type 0} (P : A → Type 0) (xs ys : List A) → AllByRecursion P xs → AllByRecursion P ys → AllByRecursion P (xs ++ ys)
@@ -31,6 +32,8 @@ pub record Going (s : Setup) (phases : Leg) (k : ℕ) (lists : List ThreadList) 
   pub legal : IsLegal s.start w.seen
   pub run : (rest : List Entry) → ArePhases w.root.made (drop k phases) rest → ArePhases 1 phases (w.seen ++ rest)
   pub part : (rest : List Entry) → ArePartOfPhases w.root.made (drop k phases) rest → ArePartOfPhases 1 phases (w.seen ++ rest)
+  pub fits : length w.seen ≤ s.limits.place_last
+  pub all : length w.seen ≡ calls_in k phases
   pub made : w.root.made ≡ 1 + threads_in k phases
   pub only : AllByRecursion (IsOfPasses 1 (threads_in k phases)) w.seen
   pub lines : all_lines lists ≡ passes_lines (seat_of (map length phases)) 1 (threads_in k phases) 0 w.seen
@@ -42,6 +45,8 @@ going_none s phases lists w rests same made seen none = record {
   legal = subst (IsLegal s.start) (sym seen) tt;
   run = λ rest r. subst (λ (z : List Entry). ArePhases 1 phases (z ++ rest)) (sym seen) (subst (λ (m : ℕ). ArePhases m phases rest) made r);
   part = λ rest r. subst (λ (z : List Entry). ArePartOfPhases 1 phases (z ++ rest)) (sym seen) (subst (λ (m : ℕ). ArePartOfPhases m phases rest) made r);
+  fits = omega (arith, ap (λ (z : List Entry). length z) seen);
+  all = ap (λ (z : List Entry). length z) seen;
   made = omega (arith, made);
   only = subst (AllByRecursion (IsOfPasses 1 0)) (sym seen) tt;
   lines = ap all_lines none;
@@ -89,6 +94,15 @@ module _ (s : Setup) (phases : Leg) (k : ℕ) (threads : Phase) (below : k < len
       (all_weaker (IsOfPasses (1 + count) (length threads)) (λ (e : Entry). 1 + count ≤ e.pass) p.more (λ e o. o.0) new)
       ∙ (λ d. passes_lines (seat_of (map length phases)) 1 (sym counts d) 0 (sym p.seen d))))
 
+  fits_is : length w.seen ≤ s.limits.place_last
+  fits_is = subst (λ (z : Setup). length w.seen ≤ z.limits.place_last) was.setup p.fits
+
+  long_is : length w.seen ≡ calls_in k phases + length p.more
+  long_is = omega (arith, ap (λ (z : List Entry). length z) p.seen, length-append v.seen p.more, was.all)
+
+  calls_is : calls_in (k + 1) phases ≡ calls_in k phases + calls_of threads
+  calls_is = calls_more k phases threads below ∙ ap (λ (z : Phase). calls_in k phases + calls_of z) (sym at)
+
   legal_is : IsLegal s.start w.seen
   legal_is = subst (λ (z : Setup). IsLegal z.start w.seen) was.setup p.legal
 
@@ -101,6 +115,8 @@ module _ (s : Setup) (phases : Leg) (k : ℕ) (threads : Phase) (below : k < len
         (was.run (p.more ++ rest) (subst (λ (z : Leg). ArePhases v.root.made z (p.more ++ rest)) (sym left) (p.more, rest, refl, p.whole none, subst (λ (m : ℕ). ArePhases m (drop (k + 1) phases) rest) p.made r)));
     part = λ rest r. subst (ArePartOfPhases 1 phases) (together rest)
         (was.part (p.more ++ rest) (subst (λ (z : Leg). ArePartOfPhases v.root.made z (p.more ++ rest)) (sym left) (inr (p.more, rest, refl, p.whole none, subst (λ (m : ℕ). ArePartOfPhases m (drop (k + 1) phases) rest) p.made r))));
+    fits = fits_is;
+    all = omega (arith, long_is, calls_is, p.all none);
     made = made_is;
     only = only_is;
     lines = lines_are;
@@ -118,6 +134,9 @@ module _ (s : Setup) (phases : Leg) (k : ℕ) (threads : Phase) (below : k < len
     made = made_is;
     only = only_is;
     lines = lines_are;
+    fits = fits_is;
+    all = λ none. absurd (stopped none);
+    short = λ some. omega (arith, long_is, calls_is, p.short some, calls_most (k + 1) phases);
     spent = λ e. (p.spent e).1 ∙ ap (λ (z : Setup). z.limits.place_last) was.setup;
   }
 
@@ -132,5 +151,8 @@ went_through s phases k lists w was le = let none : drop k phases ≡ [] = drop_
   made = was.made;
   only = was.only;
   lines = was.lines;
+  fits = was.fits;
+  all = λ _. was.all ∙ calls_all k phases le;
+  short = λ some. absurd (true≢false (sym some));
   spent = λ e. absurd (cc e);
 }

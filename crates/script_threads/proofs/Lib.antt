@@ -1,3 +1,4 @@
+pub mod Counts
 pub mod Grown
 pub mod Legs
 pub mod Lines

@@ -26,8 +26,9 @@ use Rattle.script_threads.specs.Jobs.{AreNew, Both, IsFreeJob, IsReady, SeenBy, 
 use Rattle.script_threads.specs.Phases.{IsCut, IsCutAtMemory, Phased, SomeThread, replies_of}
 use Rattle.script_threads.specs.Rests.{Rests}
 use Rattle.script_threads.specs.Roots.{Counted, Gave, Knows, TookIn}
+use Rattle.script_threads.proofs.Counts.{entries_long, long, long_cut, long_whole}
 use Rattle.script_threads.proofs.Grown.{Grown, grown, listed}
-use Rattle.script_threads.proofs.Stops.{SomeStopped, NeverStopped, never_stopped, some_stopped}
+use Rattle.script_threads.proofs.Stops.{SomeStopped, SomeStop, NeverStopped, never_stopped, some_stopped, some_stop}
 use Rattle.script_threads.proofs.Threads.{HaveEntries, AreWhole, has_first, has_all, replies_are}
 
 -- what a slice of the whole of a list leaves in it
@@ -103,6 +104,12 @@ module _ (m : Machine) where
       stopped None s e = absurd (cc e)
       stopped (Some x) s e = refl
 
+  cut_after : (js ks : List Job) → Both (Worked m) js ks → SomeStop ks → SomeThread IsCut (map call_list js) (map reply_list ks)
+  cut_after [] [] b t = absurd t
+  cut_after [] (k ∷ ks) b t = absurd b
+  cut_after (j ∷ js) [] b t = absurd b
+  cut_after (j ∷ js) (k ∷ ks) b t = ⊎_elim (λ (e : IsSome k.stop). inl (b.0.ran.cut e)) (λ (e : SomeStop ks). inr (cut_after js ks b.1 e)) t
+
   memory_after : (js ks : List Job) → Both (Worked m) js ks → SomeStopped NoMemory ks → SomeThread IsCutAtMemory (map call_list js) (map reply_list ks)
   memory_after [] [] b t = absurd t
   memory_after [] (k ∷ ks) b t = absurd b
@@ -122,6 +129,8 @@ module _ (m : Machine) where
       let only : AllByRecursion (IsOfPasses v.root.made (length threads)) g.more = subst (λ (n : ℕ). AllByRecursion (IsOfPasses v.root.made n) g.more) count g.only in
       let put : (P : Phase → List (List (Placed Reply)) → Type 0) → P (map call_list js) (map reply_list ks) → P threads lists = λ P p. subst (λ (z : Phase × List (List (Placed Reply))). P z.0 z.1) (λ d. (calls d, sym lines d)) p in
       let have : HaveEntries v.root.made (length v.seen) g.more threads lists = put (HaveEntries v.root.made (length v.seen) g.more) (entries_after v.root.made (length v.seen) g.more js ks new worked g.lists) in
+      let lists_is : lists ≡ replies_of v.root.made (length threads) (length v.seen) g.more = replies_are v.root.made (length v.seen) g.more threads lists have in
+      let long_is : length g.more ≡ long lists = entries_long v.root.made (length threads) (length v.seen) g.more only ∙ ap long (sym lists_is) in
       record {
         rests = g.rests;
         setup = setup_is;
@@ -131,7 +140,10 @@ module _ (m : Machine) where
         seen = g.seen;
         part = record { only = only; calls = has_first v.root.made (length v.seen) g.more threads lists have };
         whole = λ none. record { only = only; calls = has_all v.root.made (length v.seen) g.more threads lists have (put AreWhole (whole_after js ks worked (never_stopped ks (sym is ∙ none)))) };
-        lists_are = replies_are v.root.made (length v.seen) g.more threads lists have;
+        lists_are = lists_is;
+        fits = omega (arith, g.knows.within, last);
+        all = λ none. long_is ∙ long_whole threads lists (put AreWhole (whole_after js ks worked (never_stopped ks (sym is ∙ none))));
+        short = λ some. omega (arith, long_is, long_cut v.root.made (length v.seen) g.more threads lists have (put (SomeThread IsCut) (cut_after js ks worked (some_stop ks (subst (λ (o : Option Stop). IsSome o) is some)))));
         spent = λ e. let r = spent_after w js ks worked same told (some_stopped ks Spent (sym is ∙ e)) in (put (SomeThread IsCut) r.0, omega (arith, r.1, g.knows.within, last));
         memory = λ e. put (SomeThread IsCutAtMemory) (memory_after js ks worked (some_stopped ks NoMemory (sym is ∙ e)));
       }
@@ -151,6 +163,9 @@ phased_before threads lists stop v b w word rests looks p =
       part = subst (λ (n : ℕ). IsPartOfPhase n threads p.more) made p.part;
       whole = λ none. subst (λ (n : ℕ). IsPhase n threads p.more) made (p.whole none);
       lists_are = p.lists_are ∙ (λ d. replies_of (made d) (length threads) (length (seen d)) p.more);
+      fits = subst (λ (s : Setup). length w.seen ≤ s.limits.place_last) same p.fits;
+      all = p.all;
+      short = p.short;
       spent = λ e. let r = p.spent e in (r.0, r.1 ∙ ap (λ (s : Setup). s.limits.place_last) same);
       memory = p.memory;
     }

@@ -1,5 +1,6 @@
 -- Which stop a phase tells.
-use Rattle.std.proofs.Common.{◌≡◌, ◌⊎◌, ℕ, List, [], ◌∷◌, ◌++◌, Option, Some, None, refl, sym, ap, ◌∙◌, inl, inr, ⊎_elim}
+use Rattle.std.proofs.Common.{◌≡◌, ◌⊎◌, ℕ, List, [], ◌∷◌, ◌++◌, Option, Some, None, refl, sym, ap, ◌∙◌, inl, inr, ⊎_elim, true≢false}
+use Rattle.std.specs.Prelude.{IsSome}
 use Rattle.std.specs.List.{AllByRecursion}
 use Rattle.script_threads.specs.declared.job.Job.{Job}
 use Rattle.script_threads.specs.declared.stop.Stop.{Stop}
@@ -9,6 +10,10 @@ use Rattle.script_threads.specs.Jobs.{worse, worst_from}
 abbrev pub SomeStopped : Stop → List Job → Type 0
 SomeStopped s [] = ⊥
 SomeStopped s (k ∷ ks) = (k.stop ≡ Some s) ⊎ SomeStopped s ks
+
+abbrev pub SomeStop : List Job → Type 0
+SomeStop [] = ⊥
+SomeStop (k ∷ ks) = IsSome k.stop ⊎ SomeStop ks
 
 abbrev pub NeverStopped : Job → Type 0
 NeverStopped k = k.stop ≡ None
@@ -48,3 +53,22 @@ some_stopped ks s e = ⊎_elim (λ (t : None ≡ Some s). absurd (cc t)) (λ (t 
 pub worst_snoc : (first : Option Stop) (ks : List Job) (k : Job) → worst_from first (ks ++ k ∷ []) ≡ worse (worst_from first ks) k.stop
 worst_snoc first [] k = refl
 worst_snoc first (x ∷ ks) k = worst_snoc (worse first x.stop) ks k
+
+worse_some : (a b : Option Stop) → IsSome (worse a b) → IsSome a ⊎ IsSome b
+worse_some (Some NoMemory) b e = inl refl
+worse_some (Some Spent) None e = inl refl
+worse_some (Some Spent) (Some z) e = inl refl
+worse_some None None e = inl e
+worse_some None (Some z) e = inr refl
+
+worst_some : (first : Option Stop) (ks : List Job) → IsSome (worst_from first ks) → IsSome first ⊎ SomeStop ks
+worst_some first [] e = inl e
+worst_some first (k ∷ ks) e = ⊎_elim
+    (λ (t : IsSome (worse first k.stop)). ⊎_elim (λ (a : IsSome first). inl a) (λ (b : IsSome k.stop). inr (inl b)) (worse_some first k.stop t))
+    (λ (t : SomeStop ks). inr (inr t)) (worst_some (worse first k.stop) ks e)
+
+abbrev no_stop : Option Stop
+no_stop = None
+
+pub some_stop : (ks : List Job) → IsSome (worst_from None ks) → SomeStop ks
+some_stop ks e = ⊎_elim (λ (t : IsSome no_stop). absurd (true≢false (sym t))) (λ (t : SomeStop ks). t) (worst_some None ks e)

@@ -1,5 +1,5 @@
 -- What a leg does.
-use Rattle.std.specs.Prelude.{◌≡◌, ℕ, zero, suc, ◌+◌, List, [], ◌∷◌, ◌++◌, map, length, Option, Some, None}
+use Rattle.std.specs.Prelude.{◌≡◌, ◌<◌, ◌≤◌, ℕ, zero, suc, ◌+◌, List, [], ◌∷◌, ◌++◌, map, length, sum_by, Option, Some, None, IsSome}
 use Rattle.std.specs.List.{AllByRecursion}
 use Rattle.its_plain.specs.History.{IsLegal}
 use Rattle.its_types.specs.declared.machine.Placed.{Placed}
@@ -27,6 +27,10 @@ threads_in zero phases = 0
 threads_in (suc k) [] = 0
 threads_in (suc k) (threads ∷ phases) = length threads + threads_in k phases
 
+-- how many calls its threads have
+abbrev pub call_count : Leg → ℕ
+call_count phases = sum_by (λ threads. sum_by (λ calls. length calls) threads) phases
+
 -- The root's history is that of the leg, or of its first calls where a phase was stopped. The lists' lines are those of its passes, of which there are `count`, by phase and thread
 pub record RanLeg (s : Setup) (phases : Leg) (lists : List ThreadList) (stop : Option Stop) (w : View) : Type 0 where
   pub rests : Rests w
@@ -38,4 +42,7 @@ pub record RanLeg (s : Setup) (phases : Leg) (lists : List ThreadList) (stop : O
   pub made : w.root.made ≡ 1 + count
   pub only : AllByRecursion (IsOfPasses 1 count) w.seen
   pub lines : all_lines lists ≡ passes_lines (seat_of (map length phases)) 1 count 0 w.seen
+  pub fits : length w.seen ≤ s.limits.place_last
+  pub all : stop ≡ None → length w.seen ≡ call_count phases
+  pub short : IsSome stop → length w.seen < call_count phases
   pub spent : stop ≡ Some Spent → length w.seen ≡ s.limits.place_last

@@ -1,5 +1,5 @@
 -- What a phase does.
-use Rattle.std.specs.Prelude.{◌≡◌, ◌⊎◌, ◌<◌, ℕ, zero, suc, ◌+◌, List, [], ◌∷◌, ◌++◌, length, Option, Some, None}
+use Rattle.std.specs.Prelude.{◌≡◌, ◌⊎◌, ◌<◌, ◌≤◌, ℕ, zero, suc, ◌+◌, List, [], ◌∷◌, ◌++◌, length, sum_by, Option, Some, None, IsSome}
 use Rattle.its_types.specs.declared.machine.Placed.{Placed}
 use Rattle.its_plain.specs.History.{IsLegal}
 use Rattle.its_plain.specs.Runs.{Thread, Phase, IsPhase, IsPartOfPhase}
@@ -34,6 +34,10 @@ IsCutAtMemory [] done = ⊥
 IsCutAtMemory (c ∷ calls) [] = TakesMemory c
 IsCutAtMemory (c ∷ calls) (r ∷ done) = IsCutAtMemory calls done
 
+-- how many calls the threads have
+abbrev pub calls_of : Phase → ℕ
+calls_of threads = sum_by (λ calls. length calls) threads
+
 -- The root's history grew by the first calls of these threads, by all of them where nothing stopped a thread, and by no other entry. Each list is the replies of one thread, with their places. Want of memory is told before spent places
 pub record Phased (v : View) (threads : Phase) (lists : List (List (Placed Reply))) (stop : Option Stop) (w : View) : Type 0 where
   pub rests : Rests w
@@ -45,5 +49,8 @@ pub record Phased (v : View) (threads : Phase) (lists : List (List (Placed Reply
   pub part : IsPartOfPhase v.root.made threads more
   pub whole : stop ≡ None → IsPhase v.root.made threads more
   pub lists_are : lists ≡ replies_of v.root.made (length threads) (length v.seen) more
+  pub fits : length w.seen ≤ v.setup.limits.place_last
+  pub all : stop ≡ None → length more ≡ calls_of threads
+  pub short : IsSome stop → length more < calls_of threads
   pub spent : stop ≡ Some Spent → SomeThread IsCut threads lists × (length w.seen ≡ v.setup.limits.place_last)
   pub memory : stop ≡ Some NoMemory → SomeThread IsCutAtMemory threads lists
