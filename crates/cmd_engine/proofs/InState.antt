@@ -1,0 +1,185 @@
+-- A state that has what a step has in hand: what it is answered there, what it ends, and what it leaves.
+use Rattle.std.proofs.Common.{◌≡◌, ◌<◌, ℕ, zero, suc, Bool, true, false, not, ◌||◌, cond, Option, Some, None, List, [], ◌∷◌, slice_get, refl, ap, sym, ◌∙◌, subst}
+use Rattle.std.specs.List.{AllByRecursion}
+use Rattle.std.specs.Prelude.{is_some}
+use Rattle.std.proofs.lemmas.Option.{get_or_from_slice_get}
+use Rattle.guest_windows.specs.Windows.{Window, read_at}
+use Rattle.gits_regs.specs.Registers.{Registers, queue_place, is_queue_empty}
+use Rattle.its_command.specs.Commands.{decoded, op_of}
+use Rattle.its_command.specs.declared.command.Command.{Command}
+use Rattle.its_types.specs.Maps.{Maps as MapsOf}
+use Rattle.its_types.specs.declared.ids.Vcpu.{Vcpu}
+use Rattle.its_types.specs.declared.machine.Part.{Part}
+use Rattle.its_types.specs.declared.machine.Part.TheVariants as part
+use Rattle.its_types.specs.declared.machine.Shape.{Shape}
+use Rattle.its_types.specs.declared.machine.Word.{Word}
+use Rattle.its_plain.specs.Answer.{reply_of, left, is_idle, next_bytes, step_reply, step_left, met_reply, met_left, command_reply}
+use Rattle.its_plain.specs.Commands.{ran}
+use Rattle.its_plain.specs.Parts.{footprint, needed, needed_next, IsIn}
+use Rattle.its_plain.specs.Plain.{Plain, Translator, translator, no_translator}
+use Rattle.its_plain.specs.declared.layout.Layout.{Layout}
+use Rattle.its_plain.specs.declared.call.Call.TheVariants as call
+use Rattle.its_plain.specs.declared.call.CmdReply.{CmdReply}
+use Rattle.its_plain.specs.declared.call.Reply.{Reply}
+use Rattle.its_plain.specs.declared.call.Reply.TheVariants as reply
+use Rattle.its_plain.specs.declared.call.StepReply.{StepReply}
+use Rattle.its_plain.specs.declared.call.StepReply.TheVariants.{Idle, Ran, Refused, QueueFault}
+use Rattle.lpi_pending.specs.InHand.{in_hand}
+use Rattle.lpi_pending.specs.declared.redist.Redist.{Redist as Owned}
+use Rattle.owned_parts.specs.Owned.{redistributor_of, HasLpisOf, ArePartsOf, ArePartsOfSound}
+use Rattle.cmd_exec.specs.Executed.{as_step, IsReplyTo, left_by, AreLeftBy}
+use Rattle.cmd_exec.specs.Needs.{IsPartOf, ArePartsOfStep}
+use Rattle.its_steps.specs.Contents.{Maps, Mem, Redist, Held}
+use Rattle.its_steps.specs.Endings.{Ending, Nothing, ending_of, ending_met, ending_told}
+use Rattle.its_steps.specs.Good.{Holds, Apart}
+use Rattle.its_steps.specs.MayCall.{Owes, IsAnswered}
+use Rattle.its_steps.specs.MayCommit.{IsRight, IsOut}
+use Rattle.its_steps.specs.Parts.{Setup, Stands, IsOfMachine, HasAll, Right}
+use Rattle.its_steps.specs.States.{IsReady}
+use Rattle.its_steps.proofs.Assembled.{right_had}
+use Rattle.its_steps.proofs.Owed.{owes_all, owes_holds}
+use Rattle.its_steps.proofs.Told.{told}
+use Rattle.cmd_engine.specs.Steps.{MeetsCommand, MeetsNone}
+
+-- the parts held are different parts of the machine, all out of their slots
+pub record AreOut (s : Setup) (held : List Held) : Type 0 where
+  pub stands : AllByRecursion (λ x. Stands s x.part) held
+  pub apart : Apart held
+  pub out : AllByRecursion IsOut held
+
+-- among them are the maps and memory with these values
+pub record HoldsBase (t : Translator) (memory : List Window) (held : List Held) : Type 0 where
+  pub maps : Owes (part.Maps 0) (Maps t) held
+  pub mem : Owes part.Mem (Mem memory) held
+
+-- and the redistributors in hand
+abbrev pub HoldsRedists : Setup → List (Option Owned) → List Held → Type 0
+HoldsRedists s redists held = (vcpu : Vcpu) (r : Owned) → in_hand redists vcpu.0 ≡ Some r → HasLpisOf s.start.layout.shape r × Owes (part.Redist vcpu) (Redist (redistributor_of r)) held
+
+from_each : (P : Part → Type 0) (ps : List Part) → ((p : Part) → IsIn p ps → P p) → AllByRecursion P ps
+from_each P [] f = tt
+from_each P (p ∷ ps) f = (f p (0, refl), from_each P ps (λ q at. f q (suc at.0, at.1)))
+
+-- ---- no command is met
+
+record IsStill (u : Plain) (r : StepReply) : Type 0 where
+  needs_none : needed_next u 0 ≡ []
+  reply_is : r ≡ step_reply u 0
+  left_is : step_left u 0 ≡ u
+  ends : ending_of u (call.Step 0) ≡ Nothing
+
+still_in : (u : Plain) (r : StepReply) → MeetsNone (translator u 0).regs u.memory r → IsStill u r
+unfolding step_reply step_left ending_of
+still_in u Idle h = record {
+  needs_none = rw h refl;
+  reply_is = sym (ap (λ (b : Bool). cond b Idle (met_reply u 0 (next_bytes u 0))) h);
+  left_is = ap (λ (b : Bool). cond b u (met_left u 0 (next_bytes u 0))) h;
+  ends = ap (λ (b : Bool). cond b Nothing (ending_met u 0 (next_bytes u 0))) h;
+}
+still_in u (QueueFault addr) h = record {
+  needs_none = rw (h.0, h.2) refl;
+  reply_is = sym (ap (λ (b : Bool). cond b Idle (met_reply u 0 (next_bytes u 0))) h.0 ∙ (ap (met_reply u 0) h.2 ∙ ap (λ (x : ℕ). QueueFault (record { 0 = x })) (sym h.1)));
+  left_is = ap (λ (b : Bool). cond b u (met_left u 0 (next_bytes u 0))) h.0 ∙ ap (met_left u 0) h.2;
+  ends = ap (λ (b : Bool). cond b Nothing (ending_met u 0 (next_bytes u 0))) h.0 ∙ ap (ending_met u 0) h.2;
+}
+still_in u (Ran op) h = absurd h
+still_in u (Refused op why) h = absurd h
+
+-- ---- a state of the machine where all that is held is right
+
+module _ (s : Setup) (u : Plain) (w : Word) (held : List Held) (machine : IsOfMachine s u) (right : AllByRecursion (IsRight s w u) held) (out : AreOut s held) (t : Translator) (memory : List Window) (base : HoldsBase t memory held) where
+  maps_at : slice_get u.translators 0 ≡ Some t
+  maps_at = owes_all (Right s w u) (part.Maps 0) (Maps t) held base.maps right
+
+  pub translator_is : translator u 0 ≡ t
+  translator_is = get_or_from_slice_get u.translators 0 t no_translator maps_at
+
+  pub memory_is : u.memory ≡ memory
+  memory_is = owes_all (Right s w u) part.Mem (Mem memory) held base.mem right
+
+  shape_is : u.layout.shape ≡ s.start.layout.shape
+  shape_is = ap (λ (l : Layout). l.shape) (sym machine.layout)
+
+  ready_from : (r : StepReply) → w.place < s.limits.place_last → IsAnswered u (call.Step 0) (reply.Step r) held → IsReady s u w (call.Step 0) (reply.Step r) held
+  ready_from r room answered = record { machine = machine; has = right_had s w u held right; room = room; stands = out.stands; apart = out.apart; out = out.out; answered = answered }
+
+  -- no command is met
+  module _ (r : StepReply) (none : MeetsNone t.regs memory r) where
+    still : IsStill u r
+    still = still_in u r (subst (λ (x : Translator). MeetsNone x.regs u.memory r) (sym translator_is) (subst (λ (m : List Window). MeetsNone t.regs m r) (sym memory_is) none))
+
+    still_answered : IsAnswered u (call.Step 0) (reply.Step r) held
+    unfolding footprint reply_of
+    still_answered = record {
+      covers = subst (λ (ps : List Part). AllByRecursion (λ p. Holds p held) (part.Maps 0 ∷ part.Mem ∷ ps)) (sym still.needs_none) (owes_holds (part.Maps 0) (Maps t) held base.maps, (owes_holds part.Mem (Mem memory) held base.mem, tt));
+      reply_is = ap (λ (x : StepReply). reply.Step x) still.reply_is;
+    }
+
+    pub still_ready : w.place < s.limits.place_last → IsReady s u w (call.Step 0) (reply.Step r) held
+    still_ready room = ready_from r room still_answered
+
+    pub still_ends : ending_of u (call.Step 0) ≡ Nothing
+    still_ends = still.ends
+
+    pub still_left : left u (call.Step 0) (reply.Step r) ≡ u
+    unfolding left
+    still_left = still.left_is
+
+  -- a command is met, and its redistributors are in hand
+  module _ (redists : List (Option Owned)) (hand : HoldsRedists s redists held) (c : Command) (meets : MeetsCommand t.regs memory c) where
+    pub parts : ArePartsOf u 0 s.start.layout.shape t.regs t.maps memory redists
+    parts = record {
+      shape_is = shape_is;
+      translator_is = maps_at;
+      memory_is = memory_is;
+      redistributors_are = λ vcpu r at. record {
+        lpis = subst (λ (x : Shape). HasLpisOf x r) (sym shape_is) (hand (record { 0 = vcpu }) r at).0;
+        same = owes_all (Right s w u) (part.Redist (record { 0 = vcpu })) (Redist (redistributor_of r)) held (hand (record { 0 = vcpu }) r at).1 right;
+      };
+    }
+
+    pub sound_parts : ArePartsOfSound s.start.layout.shape t.regs t.maps memory redists
+    sound_parts = (u, 0, machine.sound, parts)
+
+    pub busy : is_idle u 0 ≡ false
+    busy = ap (λ (x : Translator). not x.regs.enabled || is_queue_empty x.regs) translator_is ∙ meets.busy
+
+    pub bytes_are : next_bytes u 0 ≡ Some meets.bytes
+    bytes_are = (λ d. read_at (memory_is d) (queue_place (ap (λ (x : Translator). x.regs) translator_is d)) 32) ∙ meets.bytes_are
+
+    left_is : left_by c u 0 ≡ step_left u 0
+    unfolding step_left
+    left_is = ap (λ (x : Command). left_by x u 0) (sym meets.command) ∙ (ap (met_left u 0) (sym bytes_are) ∙ ap (λ (b : Bool). cond b u (met_left u 0 (next_bytes u 0))) (sym busy))
+
+    -- the parts that are left are those of the state that the step leaves
+    pub parts_left : (r : Reply) (regs' : Registers) (maps' : MapsOf) (redists' : List (Option Owned)) → AreLeftBy c s.start.layout.shape memory (t.regs, t.maps, redists) (regs', maps', redists')
+        → ArePartsOf (left u (call.Step 0) r) 0 s.start.layout.shape regs' maps' memory redists'
+    unfolding left
+    parts_left r regs' maps' redists' leaves = subst (λ (x : Plain). ArePartsOf x 0 s.start.layout.shape regs' maps' memory redists') left_is (leaves u 0 parts)
+
+    module _ (set : ℕ) (needs : ArePartsOfStep s.start.layout.shape t.maps c set) (has : (p : Part) → IsPartOf 0 set p → Holds p held) (said : CmdReply) (replies : IsReplyTo c s.start.layout.shape t.regs t.maps memory redists said) where
+      needs_is : needed_next u 0 ≡ needed u 0 c
+      needs_is = rw (busy, bytes_are, meets.command) refl
+
+      covers : AllByRecursion (λ p. Holds p held) (footprint u (call.Step 0))
+      unfolding footprint
+      covers = subst (λ (ps : List Part). AllByRecursion (λ p. Holds p held) (part.Maps 0 ∷ part.Mem ∷ ps)) (sym needs_is)
+          (from_each (λ p. Holds p held) (part.Maps 0 ∷ part.Mem ∷ needed u 0 c) (λ p at. has p ((needs u 0 shape_is (ap (λ (x : Translator). x.maps) translator_is) p).0 at)))
+
+      replied : as_step said ≡ step_reply u 0
+      unfolding step_reply
+      replied = replies u 0 parts
+          ∙ (ap (λ (x : Command). command_reply (op_of x) (ran u 0 x)) (sym meets.command)
+          ∙ (ap (met_reply u 0) (sym bytes_are) ∙ ap (λ (b : Bool). cond b Idle (met_reply u 0 (next_bytes u 0))) (sym busy)))
+
+      answered : IsAnswered u (call.Step 0) (reply.Step (as_step said)) held
+      unfolding reply_of
+      answered = record { covers = covers; reply_is = ap (λ (r : StepReply). reply.Step r) replied }
+
+      pub command_ready : w.place < s.limits.place_last → IsReady s u w (call.Step 0) (reply.Step (as_step said)) held
+      command_ready room = ready_from (as_step said) room answered
+
+      -- its reply tells what it ends
+      pub command_ends : ending_of u (call.Step 0) ≡ ending_told t.maps c (as_step said)
+      command_ends = told u 0 meets.bytes busy bytes_are
+          ∙ (λ d. ending_told (translator_is d).maps (meets.command d) (sym replied d))

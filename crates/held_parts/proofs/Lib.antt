@@ -1,0 +1,6 @@
+pub mod Going
+pub mod InRows
+pub mod RedistRows
+pub mod ShardRows
+pub mod RedistLoops
+pub mod ShardLoops

@@ -1,0 +1,4 @@
+pub mod Taking
+pub mod Rows
+pub mod Redists
+pub mod Shards

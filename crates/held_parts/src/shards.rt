@@ -1,0 +1,130 @@
+//! All shards of translator 0, taken the first one first.
+ghost use Rattle.std.specs.Prelude.{◌≡◌, ◌<◌, ℕ, List};
+ghost use Rattle.its_steps.specs.Contents.{Held};
+ghost use Rattle.its_turns.specs.Machines.{setup, view, IsOf};
+ghost use Rattle.held_parts.specs.Shards.{shards_held, AreNoShards, AreShards, HoldsNoShard};
+ghost use Rattle.held_parts.specs.Shards.{IsShardOfFirst};
+ghost use Rattle.held_parts.specs.Taking.{TakesOnly, holding};
+
+use crate::waits::take_shard;
+use its_turns::{Machine, Pass, Value, put};
+use its_types::Part;
+use std::marker::Model;
+use std::sync::Wait;
+use xlate_cache::Shard;
+
+/// Places for shards 0 to 63. Each holds one, which is then in hand, or is empty.
+#[derive(Drop)]
+pub struct Shards {
+    places: [Option<Shard>; 64],
+}
+
+impl Model for Shards {
+    ghost use Rattle.std.specs.Prelude.{◌≡◌, List, Option, length};
+    ghost use Rattle.held_parts.specs.Shards.{Ways};
+
+    ghost Value = { List (Option Ways) };
+
+    ghost view = { λ s. s.places };
+
+    ghost invariant = { λ s. length s.places ≡ 64 };
+}
+
+impl Shards {
+    ghost use Rattle.std.specs.Prelude.{◌≡◌, ◌≢◌, ◌<◌, ℕ, true, Some, None, is_some};
+    ghost use Rattle.std.specs.Prelude.{slice_set, length};
+    ghost use Rattle.held_parts.specs.Shards.{in_place, emptied, AreNoShards, AreEmptied};
+
+    /// Empty places. Takes no memory.
+    pub fn new() -> Shards
+        ensures { AreNoShards result }
+    {
+        Shards {
+            places: [
+                None, None, None, None, None, None, None, None, None, None, None, None, None, None,
+                None, None, None, None, None, None, None, None, None, None, None, None, None, None,
+                None, None, None, None, None, None, None, None, None, None, None, None, None, None,
+                None, None, None, None, None, None, None, None, None, None, None, None, None, None,
+                None, None, None, None, None, None, None, None,
+            ],
+        }
+    }
+
+    /// Takes every translation away from each shard that is in hand.
+    pub fn empty_all(&mut self)
+        ensures { AreEmptied self.old self.new }
+    {
+        let _ = &self.places;
+        for number in 0..64u32 {
+            self.empty_one(number);
+        }
+    }
+
+    fn empty_one(&mut self, number: u32)
+        requires in_range { number < 64 }
+        ensures here { in_place self.new number ≡ emptied (in_place self.old number) }
+        ensures others { (n : ℕ) → n ≢ number → in_place self.new n ≡ in_place self.old n }
+    {
+        if let Some(mut shard) = self.places[number as usize].take() {
+            shard.empty();
+            self.places[number as usize] = Some(shard);
+        }
+    }
+
+    // Puts a shard into its empty place.
+    fn place(&mut self, number: u32, shard: Shard)
+        requires in_range { number < 64 }
+        ensures placed { self.new ≡ slice_set self.old number (Some shard) }
+        ensures size { length self.new ≡ 64 }
+    {
+        self.places[number as usize] = Some(shard);
+    }
+
+    // Takes a shard that is in hand, and leaves its place empty.
+    fn take_out(&mut self, number: u32) -> Shard
+        requires { is_some (in_place self.old number) ≡ true }
+        ensures value { in_place self.old number ≡ Some result }
+        ensures taken { self.new ≡ slice_set self.old number None }
+    {
+        match self.places[number as usize].take() {
+            Some(shard) => shard,
+            None => unreachable!(),
+        }
+    }
+}
+
+/// Waits for the turns of all shards, the first one first, and puts them in their places.
+pub fn take_shards<R: Wait>(rt: &R, machine: &Machine, pass: &mut Pass, shards: &mut Shards)
+    requires of { IsOf machine.now pass.old }
+    requires empty { AreNoShards shards.old }
+    requires free { HoldsNoShard (view pass.old).held }
+    ensures of { IsOf machine.now pass.new }
+    ensures takes { TakesOnly IsShardOfFirst (view pass.old) (view pass.new) }
+    ensures held { (view pass.new).held ≡ shards_held shards.new (setup machine.now).shards (view pass.old).held }
+    ensures hand { AreShards (setup machine.now).shards shards.new }
+{
+    for number in 0..machine.shards() {
+        let shard = take_shard(rt, machine, pass, 0, number);
+        shards.place(number, shard);
+    }
+}
+
+/// Puts them home, the last one first. Their places are empty then.
+pub fn put_shards(machine: &Machine, pass: &mut Pass, shards: &mut Shards)
+    requires of { IsOf machine.now pass.old }
+    requires hand { AreShards (setup machine.now).shards shards.old }
+    requires held { (before : List Held) ×
+        ((view pass.old).held ≡ shards_held shards.old (setup machine.now).shards before) }
+    ensures of { IsOf machine.now pass.new }
+    ensures empty { AreNoShards shards.new }
+    ensures home { (before : List Held) →
+        (view pass.old).held ≡ shards_held shards.old (setup machine.now).shards before →
+        view pass.new ≡ holding (view pass.old) before }
+{
+    let count = machine.shards();
+    for k in 0..count {
+        let number = count - 1 - k;
+        let shard = shards.take_out(number);
+        put(machine, pass, Part::Shard(0, number), Value::Shard(shard));
+    }
+}

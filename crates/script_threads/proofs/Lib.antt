@@ -1,0 +1,10 @@
+pub mod Counts
+pub mod Grown
+pub mod Legs
+pub mod Lines
+pub mod Phases
+pub mod Rooms
+pub mod Roots
+pub mod Runs
+pub mod Stops
+pub mod Threads

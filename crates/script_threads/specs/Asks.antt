@@ -1,0 +1,46 @@
+-- What a thread may ask, and what it is answered.
+use Rattle.std.specs.Prelude.{◌≡◌, ◌<◌, length, Result, Ok, Err, List}
+use Rattle.std.specs.List.{AllByRecursion}
+use Rattle.its_types.specs.declared.machine.Placed.{Placed}
+use Rattle.its_plain.specs.Runs.{Thread, Phase, Leg}
+use Rattle.its_plain.specs.declared.call.Call.{Call}
+use Rattle.its_plain.specs.declared.call.Call.TheVariants as call
+use Rattle.its_plain.specs.declared.call.Reply.{Reply}
+use Rattle.its_steps.specs.Parts.{Setup, vcpu_count}
+use Rattle.its_steps.specs.World.{View}
+use Rattle.its_turns.specs.Calls.{IsPlaced, Stays}
+use Rattle.script_threads.specs.declared.stop.Stop.{Stop}
+use Rattle.script_threads.specs.declared.stop.Stop.TheVariants.{Spent, NoMemory}
+
+-- the call has a port, which may be called with it
+abbrev pub MayAsk : Setup → Call → Type 0
+MayAsk s (call.Signal its dev ev) = its ≡ 0
+MayAsk s (call.Take vcpu) = vcpu.0 < vcpu_count s
+MayAsk s (call.Show vcpu) = vcpu.0 < vcpu_count s
+MayAsk s (call.Poke addr bytes) = Unit {0}
+MayAsk s (call.Peek addr count) = Unit {0}
+MayAsk s (call.ReadReg its off size) = its ≡ 0
+MayAsk s (call.WriteReg its off size value) = its ≡ 0
+MayAsk s (call.Step its) = its ≡ 0
+MayAsk s other = ⊥
+
+abbrev pub MayAskAll : Setup → Thread → Type 0
+MayAskAll s calls = AllByRecursion (MayAsk s) calls
+
+abbrev pub MayRun : Setup → Phase → Type 0
+MayRun s threads = AllByRecursion (MayAskAll s) threads
+
+abbrev pub MayRunLeg : Setup → Leg → Type 0
+MayRunLeg s phases = AllByRecursion (MayRun s) phases
+
+-- the call takes memory before it is made, and may find none
+abbrev pub TakesMemory : Call → Type 0
+TakesMemory (call.Step its) = Unit {0}
+TakesMemory call.Save = Unit {0}
+TakesMemory other = ⊥
+
+-- The call was made, or nothing was: where all places are used, or for want of memory
+abbrev pub Answers : View → Call → View → Result (Placed Reply) Stop → Type 0
+Answers v c w (Ok p) = IsPlaced v c p.reply p.place w
+Answers v c w (Err Spent) = Stays v w × (length w.seen ≡ v.setup.limits.place_last)
+Answers v c w (Err NoMemory) = Stays v w × TakesMemory c

@@ -1,0 +1,6 @@
+pub mod Asks
+pub mod Jobs
+pub mod Legs
+pub mod Phases
+pub mod Rests
+pub mod Roots

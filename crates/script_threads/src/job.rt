@@ -1,0 +1,60 @@
+//! What one thread of a phase has to do.
+ghost use Rattle.std.specs.Prelude.{◌≡◌, ◌≤◌, [], length, vec_capacity};
+ghost use Rattle.its_turns.specs.Machines.{setup, view, IsOf};
+ghost use Rattle.script_threads.specs.Asks.{MayAskAll};
+ghost use Rattle.script_threads.specs.Jobs.{IsReady, Ran, Worked};
+
+use crate::ask::call_once;
+use crate::stop::Stop;
+use its_plain::{Call, Reply};
+use its_turns::{Machine, Pass};
+use its_types::{Gate, Placed};
+use std::sync::Wait;
+
+/// A thread's pass and its calls, the replies of those that were made, and why the next was not.
+#[derive(Drop)]
+pub struct Job<'a> {
+    pub pass: Pass,
+    pub calls: &'a [Call],
+    pub done: Vec<Placed<Reply>>,
+    pub stop: Option<Stop>,
+}
+
+/// Makes the calls in order, up to the first that isn't made.
+fn ask_all<R: Wait, G: Gate>(
+    rt: &R,
+    machine: &Machine,
+    pass: &mut Pass,
+    gate: &G,
+    calls: &[Call],
+    done: &mut Vec<Placed<Reply>>,
+) -> Option<Stop>
+    requires of { IsOf machine.now pass.old }
+    requires free { (view pass.old).held ≡ [] }
+    requires may { MayAskAll (setup machine.now) calls.now }
+    requires empty { done.old.items ≡ [] }
+    requires room { length calls.now ≤ vec_capacity done.old }
+    ensures of { IsOf machine.now pass.new }
+    ensures ran { Ran (view pass.old) calls.now result done.new.items (view pass.new) }
+{
+    for call in calls {
+        match call_once(rt, machine, pass, gate, call) {
+            Ok(placed) => {
+                if done.push(placed).is_err() {
+                    unreachable!();
+                }
+            }
+            Err(stop) => return Some(stop),
+        }
+    }
+    None
+}
+
+/// Does a thread's work.
+pub fn run<R: Wait, G: Gate>(rt: &R, machine: &Machine, gate: &G, job: &mut Job)
+    requires { IsReady machine.now job.old }
+    ensures { Worked machine.now job.old job.new }
+{
+    let calls = job.calls;
+    job.stop = ask_all(rt, machine, &mut job.pass, gate, calls, &mut job.done);
+}
