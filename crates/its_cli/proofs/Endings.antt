@@ -7,7 +7,8 @@ use Rattle.its_plain.specs.Saved.{moved, IsSavable}
 use Rattle.its_plain.specs.Runs.{Leg, IsLegRun, IsRun}
 use Rattle.its_plain.specs.declared.call.Entry.{Entry}
 use Rattle.its_plain.specs.declared.fault.SaveFault.{SaveFault}
-use Rattle.its_cli.specs.Legs.{call_count, HasPlaces, HaveRun, CanMigrate, AllEnd}
+use Rattle.script_threads.specs.Legs.{call_count}
+use Rattle.its_cli.specs.Legs.{HasPlaces, HaveRun, CanMigrate, AllEnd}
 use Rattle.its_cli.specs.declared.status.Status.{Status}
 use Rattle.its_cli.specs.declared.status.Status.TheVariants as status
 use Rattle.its_cli.proofs.Migrations.{not_empty}

@@ -1,4 +1,5 @@
 pub mod Pieces
+pub mod Playing
 pub mod Runs
 pub mod Migrations
 pub mod Scripts

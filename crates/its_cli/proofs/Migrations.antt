@@ -9,7 +9,8 @@ use Rattle.its_plain.specs.declared.call.Entry.{Entry}
 use Rattle.its_history.specs.Report.{leg_text, legs_from, report_text}
 use Rattle.its_history.specs.declared.trace.End.TheVariants.{Migrated, Done}
 use Rattle.its_history.specs.declared.trace.Leg.{Leg as LegLines}
-use Rattle.its_cli.specs.Legs.{call_count, HasPlaces, HaveRun}
+use Rattle.script_threads.specs.Legs.{call_count}
+use Rattle.its_cli.specs.Legs.{HasPlaces, HaveRun}
 use Rattle.its_cli.specs.Reports.{reported, migrated, ended}
 
 pub head_of : {X : Type 0} (x y : X) (xs ys : List X) → x ∷ xs ≡ y ∷ ys → x ≡ y

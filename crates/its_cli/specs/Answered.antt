@@ -14,7 +14,8 @@ use Rattle.its_history.specs.Report.{leg_text, report_text}
 use Rattle.its_history.specs.declared.trace.End.{End}
 use Rattle.its_history.specs.declared.trace.End.TheVariants.{Migrated, Done}
 use Rattle.its_history.specs.declared.trace.EntryLine.{EntryLine}
-use Rattle.its_cli.specs.Legs.{call_count, HaveRun}
+use Rattle.script_threads.specs.Legs.{call_count}
+use Rattle.its_cli.specs.Legs.{HaveRun}
 use Rattle.its_cli.specs.Reports.{migrated, ended, cut_leg}
 use Rattle.its_cli.specs.Refusals.{spent_refusal, migration_refusal}
 use Rattle.its_cli.specs.Its.{RunCauses, OfScript, IsReport, IsScriptRefusal, IsMachineRefusal, IsMigrationRefusal, IsSpentReport}

@@ -14,7 +14,8 @@ use Rattle.event_script.specs.declared.fault.ScriptFault.{ScriptFault}
 use Rattle.event_script.specs.declared.script.Script.{Script}
 use Rattle.its_history.specs.Report.{report_text}
 use Rattle.its_cli.specs.Streams.{Tells}
-use Rattle.its_cli.specs.Legs.{call_count, HasPlaces, HaveRun, CanMigrate, AllEnd}
+use Rattle.script_threads.specs.Legs.{call_count}
+use Rattle.its_cli.specs.Legs.{HasPlaces, HaveRun, CanMigrate, AllEnd}
 use Rattle.its_cli.specs.Reports.{reported, migrated, ended, cut_leg}
 use Rattle.its_cli.specs.Refusals.{script_refusal, machine_refusal, spent_refusal, migration_refusal}
 use Rattle.its_cli.specs.declared.status.Status.{Status}

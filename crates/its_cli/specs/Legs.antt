@@ -1,16 +1,13 @@
 -- How a script runs leg by leg: on places below a last one, with a migration of the machine between each two.
-use Rattle.std.specs.Prelude.{◌≡◌, ◌⊎◌, ℕ, ◌<◌, ◌≤◌, List, [], ◌∷◌, length, sum_by}
+use Rattle.std.specs.Prelude.{◌≡◌, ◌⊎◌, ℕ, ◌<◌, ◌≤◌, List, [], ◌∷◌, length}
 use Rattle.its_plain.specs.Plain.{Plain}
 use Rattle.its_plain.specs.History.{after}
 use Rattle.its_plain.specs.Saved.{moved, IsSavable}
 use Rattle.its_plain.specs.Runs.{Leg, IsLegRun}
 use Rattle.its_plain.specs.declared.call.Entry.{Entry}
+use Rattle.script_threads.specs.Legs.{call_count}
 use Rattle.its_cli.specs.declared.status.Status.{Status}
 use Rattle.its_cli.specs.declared.status.Status.TheVariants as status
-
--- how many calls a leg has
-abbrev pub call_count : Leg → ℕ
-call_count leg = sum_by (λ threads. sum_by (λ calls. length calls) threads) leg
 
 -- no leg has more calls than there are places
 abbrev pub HasPlaces : ℕ → List Leg → Type 0
