@@ -1,5 +1,5 @@
 -- The state that all parts in hand stand for.
-use Rattle.std.proofs.Common.{◌≡◌, ℕ, zero, suc, ◌<◌, ◌≤◌, List, [], ◌∷◌, map, take, length, Option, Some, None, get_or, refl, sym, ap, subst, ◌∙◌, arith}
+use Rattle.std.proofs.Common.{◌≡◌, ℕ, zero, suc, ◌<◌, ◌≤◌, List, [], ◌∷◌, map, take, length, Option, Some, get_or, refl, sym, ap, ◌∙◌, arith}
 use Rattle.std.specs.Prelude.{slice_get}
 use Rattle.std.specs.List.{AllByRecursion}
 use Rattle.std.proofs.lemmas.Option.{same_Some, slice_get_within}
@@ -11,7 +11,7 @@ use Rattle.its_plain.specs.Sound.{IsSound}
 use Rattle.its_plain.specs.declared.layout.Layout.{Layout}
 use Rattle.lpi_pending.specs.InHand.{in_hand}
 use Rattle.lpi_pending.specs.declared.redist.Redist.{Redist as InHand}
-use Rattle.owned_parts.specs.Owned.{AreAllInHand, redistributor_of, redistributor_or, state_of_parts}
+use Rattle.owned_parts.specs.Owned.{redistributor_of, redistributor_or, state_of_parts}
 use Rattle.owned_machine.specs.Whole.{IsMachine}
 use Rattle.its_steps.specs.Calls.{redists_held, whole_held}
 use Rattle.its_steps.specs.Contents.{Held, Redist}
@@ -22,7 +22,7 @@ use Rattle.its_turns.specs.Contents.{translator_of}
 use Rattle.its_migrate.specs.Getting.{AreFirstOf, redists_out}
 use Rattle.its_migrate.specs.Wholes.{parts_of, memory_held, held_whole}
 use Rattle.its_migrate.specs.declared.whole.Whole.{Whole}
-use Rattle.its_migrate.proofs.Rows.{one_out, out_each, out_rest}
+use Rattle.its_migrate.proofs.Rows.{out_each, out_rest}
 
 -- ---- lists
 

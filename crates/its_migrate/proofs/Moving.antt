@@ -1,5 +1,5 @@
 -- From the moved parts to the machine that goes on with them.
-use Rattle.std.proofs.Common.{◌≡◌, ℕ, Result, Ok, Err, refl, ap, sym, ◌∙◌, subst}
+use Rattle.std.proofs.Common.{◌≡◌, Result, Ok, Err, refl, ap, sym, ◌∙◌, subst}
 use Rattle.std.specs.Prelude.{IfOk}
 use Rattle.its_plain.specs.History.{after}
 use Rattle.its_plain.specs.Machine.{layout_of}
@@ -7,11 +7,10 @@ use Rattle.its_plain.specs.Plain.{Plain}
 use Rattle.its_plain.specs.Saved.{moved}
 use Rattle.its_plain.specs.declared.desc.Desc.{Desc}
 use Rattle.its_plain.specs.declared.fault.SaveError.{SaveError}
-use Rattle.its_plain.specs.declared.fault.SaveError.TheVariants as errors
 use Rattle.its_plain.specs.declared.layout.Layout.{Layout}
 use Rattle.its_plain.specs.Sound.{IsSound}
 use Rattle.owned_machine.specs.Migrations.{AreMoved}
-use Rattle.owned_machine.specs.Whole.{IsMachine, GoesOn}
+use Rattle.owned_machine.specs.Whole.{IsMachine}
 use Rattle.owned_parts.specs.Owned.{state_of_parts}
 use Rattle.owned_parts.specs.declared.parts.Parts.{Parts}
 use Rattle.its_steps.specs.Parts.{Setup}
@@ -20,7 +19,7 @@ use Rattle.its_turns.specs.Machines.{setup, view, IsOf}
 use Rattle.its_turns.specs.Opening.{setup_from, kept_of}
 use Rattle.its_turns.specs.declared.machine.Machine.{Machine}
 use Rattle.its_turns.specs.declared.machine.Pass.{Pass}
-use Rattle.its_migrate.specs.Resting.{HasItsLayout, WentOn, IsCause, resting}
+use Rattle.its_migrate.specs.Resting.{HasItsLayout, WentOn, resting}
 use Rattle.its_migrate.specs.Wholes.{HasTaken, parts_of}
 use Rattle.its_migrate.specs.declared.whole.Whole.{Whole}
 use Rattle.its_migrate.proofs.Hands.{machine_is}

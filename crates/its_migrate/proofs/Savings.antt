@@ -1,5 +1,5 @@
 -- A save of all parts in hand.
-use Rattle.std.proofs.Common.{◌≡◌, ◌<◌, ℕ, List, [], Option, Result, Ok, Err, refl, ap, sym, ◌∙◌, subst, length}
+use Rattle.std.proofs.Common.{◌≡◌, ◌<◌, List, [], Option, Result, Ok, Err, refl, ap, sym, ◌∙◌, subst, length}
 use Rattle.guest_windows.specs.Windows.{Window}
 use Rattle.its_types.specs.declared.machine.Word.{Word}
 use Rattle.its_plain.specs.Answer.{save_reply, save_left}
@@ -8,7 +8,6 @@ use Rattle.its_plain.specs.Plain.{Plain}
 use Rattle.its_plain.specs.Regions.{savable}
 use Rattle.its_plain.specs.Sound.{IsSound}
 use Rattle.its_plain.specs.declared.call.Call.TheVariants as call
-use Rattle.its_plain.specs.declared.call.Reply.{Reply}
 use Rattle.its_plain.specs.declared.fault.SaveFault.{SaveFault}
 use Rattle.its_plain.specs.declared.layout.Layout.{Layout}
 use Rattle.owned_parts.specs.Owned.{AreAllInHand, state_of_parts}
@@ -16,7 +15,7 @@ use Rattle.its_steps.specs.Calls.{staying, whole_held, MayLeave}
 use Rattle.its_steps.specs.Contents.{Held}
 use Rattle.its_steps.specs.MayCall.{MayCall}
 use Rattle.its_steps.specs.Parts.{Setup, vcpu_count}
-use Rattle.its_steps.specs.World.{View, Tries}
+use Rattle.its_steps.specs.World.{View}
 use Rattle.its_steps.specs.declared.change.ShardChange.TheVariants.{Keep}
 use Rattle.its_steps.specs.declared.commit.Commit.{Commit}
 use Rattle.its_steps.proofs.Saves.{saves}
@@ -29,7 +28,6 @@ use Rattle.lpi_pending.specs.declared.redist.Redist.{Redist}
 use Rattle.its_migrate.specs.Getting.{AreFirstOf}
 use Rattle.its_migrate.specs.Saving.{IsTried, unmade_by}
 use Rattle.its_migrate.specs.Wholes.{HasTaken, held_whole, parts_of}
-use Rattle.its_migrate.specs.declared.saving.Unmade.{Unmade}
 use Rattle.its_migrate.specs.declared.whole.Whole.{Whole}
 use Rattle.its_migrate.proofs.Hands.{held_is}
 use Rattle.its_migrate.proofs.Moving.{taken_state}

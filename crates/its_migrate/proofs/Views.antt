@@ -1,14 +1,11 @@
 -- What a pass knows that gets parts and puts them home.
-use Rattle.std.proofs.Common.{◌≡◌, ◌⊎◌, ◌<◌, ◌+◌, ℕ, List, [], ◌∷◌, Option, Some, length, set, refl, ap, sym, ◌∙◌, subst, inl, inr, ⊎_elim}
+use Rattle.std.proofs.Common.{◌≡◌, ◌⊎◌, ◌<◌, ◌+◌, ℕ, List, [], ◌∷◌, Option, Some, length, set, refl, ap, sym, ◌∙◌, subst, ⊎_elim}
 use Rattle.std.specs.List.{AllByRecursion}
 use mathlib.Core.List.{IsPrefix}
-use mathlib.Core.Option.{some}
-use Rattle.its_types.specs.declared.ids.Vcpu.{Vcpu}
 use Rattle.its_types.specs.declared.machine.Part.{Part}
 use Rattle.its_types.specs.declared.machine.Part.TheVariants as part
 use Rattle.its_types.specs.declared.machine.Word.{Word}
 use Rattle.its_plain.specs.History.{after}
-use Rattle.its_plain.specs.Plain.{Plain}
 use Rattle.its_plain.specs.declared.call.Entry.{Entry}
 use Rattle.lpi_pending.specs.declared.redist.Redist.{Redist as InHand}
 use Rattle.owned_parts.specs.Owned.{redistributor_of}
@@ -17,9 +14,9 @@ use Rattle.its_steps.specs.Good.{Holds}
 use Rattle.its_steps.specs.MayCommit.{IsRight}
 use Rattle.its_steps.specs.Parts.{Setup, IsOfMachine, translator_count, vcpu_count}
 use Rattle.its_steps.specs.World.{View, out, took, loaded}
-use Rattle.its_turns.specs.Contents.{content_of, IsFit}
+use Rattle.its_turns.specs.Contents.{IsFit}
 use Rattle.its_turns.specs.Steps.{IsSameButLost, Takes}
-use Rattle.its_turns.specs.Told.{HasStood, IsLone, Looks, released}
+use Rattle.its_turns.specs.Told.{HasStood, IsLone, Looks}
 use Rattle.its_turns.specs.declared.value.Value.{Value}
 use Rattle.its_migrate.specs.Getting.{Holding, Gets, GetsValue, AreFirstOf, HoldsNoRedist, redists_out}
 use Rattle.its_migrate.specs.Resting.{Rests}

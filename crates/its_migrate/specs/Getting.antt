@@ -1,5 +1,5 @@
 -- Parts that a pass gets, whether or not it waited.
-use Rattle.std.specs.Prelude.{◌≡◌, ◌≤◌, ◌<◌, ℕ, zero, suc, List, [], ◌∷◌, Option, Some, None}
+use Rattle.std.specs.Prelude.{◌≡◌, ◌≤◌, ◌<◌, ℕ, zero, suc, List, ◌∷◌, Option, Some, None}
 use mathlib.Core.Option.{some}
 use Rattle.its_types.specs.declared.ids.Vcpu.{Vcpu}
 use Rattle.its_types.specs.declared.machine.Part.{Part}
@@ -9,7 +9,7 @@ use Rattle.lpi_pending.specs.declared.redist.Redist.{Redist as InHand}
 use Rattle.owned_parts.specs.Owned.{HasLpisOf, redistributor_or}
 use Rattle.its_steps.specs.Contents.{Content, Held, Redist}
 use Rattle.its_steps.specs.Good.{Holds}
-use Rattle.its_steps.specs.Parts.{Setup, vcpu_count}
+use Rattle.its_steps.specs.Parts.{Setup}
 use Rattle.its_steps.specs.World.{View, out}
 use Rattle.its_turns.specs.Contents.{content_of, IsFit}
 use Rattle.its_turns.specs.Told.{HasStood}

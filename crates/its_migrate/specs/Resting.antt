@@ -7,7 +7,6 @@ use Rattle.its_plain.specs.Regions.{savable}
 use Rattle.its_plain.specs.Saved.{moved}
 use Rattle.its_plain.specs.declared.fault.SaveError.{SaveError}
 use Rattle.its_plain.specs.declared.fault.SaveError.TheVariants as errors
-use Rattle.its_steps.specs.Parts.{Setup}
 use Rattle.its_steps.specs.World.{View, first_view}
 use Rattle.its_turns.specs.Machines.{setup, view, IsOf}
 use Rattle.its_turns.specs.declared.machine.Machine.{Machine}

@@ -11,7 +11,6 @@ use crate::whole::{put_all, take_all};
 use its_plain::SaveError;
 use its_turns::{Machine, Root};
 use its_types::Open;
-use lpi_pending::Redists;
 use owned_machine::moved;
 use owned_parts::Parts;
 use std::alloc::{AllocError, Global};
@@ -53,8 +52,7 @@ fn moved_parts(alloc: Global, machine: &Machine, root: &mut Root) -> Result<Part
     ensures layout { IfOk result (λ p. p.layout ≡ (setup machine.now).start.layout) }
 {
     let layout = machine.desc().layout(alloc)?;
-    let places = Redists::new(alloc)?;
-    let whole = take_all(&AtRest, machine, root, &Open, places);
+    let whole = take_all(&AtRest, machine, root, &Open);
     let moved = moved(alloc, &whole.in_place(&layout));
     put_all(machine, root, whole);
     moved

@@ -17,7 +17,6 @@ use its_plain::{Call, Layout, Reply, SaveError, SaveFault};
 use its_steps::ShardChange;
 use its_turns::{Lost, Machine, Pass, pause, try_commit};
 use its_types::{Gate, Placed};
-use lpi_pending::Redists;
 use std::alloc::{AllocError, Global};
 use std::sync::Wait;
 
@@ -89,8 +88,7 @@ fn save_once<R: Wait, G: Gate>(
     ensures answer { IsTried (view pass.old) result (view pass.new) }
 {
     let layout = machine.desc().layout(alloc)?;
-    let places = Redists::new(alloc)?;
-    let mut whole = take_all(&Waiting { rt }, machine, pass, gate, places);
+    let mut whole = take_all(&Waiting { rt }, machine, pass, gate);
     let Ok((reply, saved)) = saved_copy(alloc, &layout, &whole) else {
         put_all(machine, pass, whole);
         return Err(Unmade::NoMemory);

@@ -47,16 +47,14 @@ pub fn take_all<T: Turns, G: Gate>(
     machine: &Machine,
     pass: &mut Pass,
     gate: &G,
-    places: Redists,
 ) -> Whole
     requires of { IsOf machine.now pass.old }
     requires free { (view pass.old).held ≡ [] }
     requires allowed { T.allowed (view pass.old) }
-    requires empty { places ≡ replicate 16 None }
     ensures of { IsOf machine.now pass.new }
     ensures taken { HasTaken (setup machine.now) (view pass.old) result (view pass.new) }
 {
-    let mut redists = places;
+    let mut redists = Redists::new();
     let tables = get_maps(how, machine, pass);
     gate.at(pass.number(), Point::MapsTaken);
     let memory = get_memory(how, machine, pass);

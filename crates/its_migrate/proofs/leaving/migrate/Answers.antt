@@ -1,4 +1,4 @@
-use Rattle.std.proofs.Common.{sym, ◌∙◌, ap, subst}
+use Rattle.std.proofs.Common.{sym, ◌∙◌, ap}
 use Rattle.its_plain.specs.Machine.{layout_of}
 use Rattle.its_plain.specs.declared.desc.Desc.{Desc}
 use Rattle.its_turns.specs.Opening.{setup_from, kept_of}

@@ -1,12 +1,11 @@
-use Rattle.std.proofs.Common.{◌≡◌, ◌<◌, ℕ, List, length, map, take, ap, sym, ◌∙◌, subst, arith, refl}
+use Rattle.std.proofs.Common.{◌≡◌, ◌<◌, List, length, map, ap, ◌∙◌, arith}
 use Rattle.its_plain.specs.History.{after}
-use Rattle.its_plain.specs.Plain.{Plain, pending_of}
+use Rattle.its_plain.specs.Plain.{pending_of}
 use Rattle.its_plain.specs.declared.call.Entry.{Entry}
-use Rattle.its_plain.specs.declared.layout.Layout.{Layout}
-use Rattle.its_steps.specs.Parts.{IsOfMachine, vcpu_count}
+use Rattle.its_steps.specs.Parts.{vcpu_count}
 use Rattle.its_turns.specs.Machines.{setup, view}
 use Rattle.its_migrate.specs.Resting.{resting}
-use Rattle.its_migrate.proofs.Pendings.{lpis_in, pending_in, one_more_list, all_lists, rests_looked, rests_lone, rests_free, rests_seen, rests_more, as_many_rest}
+use Rattle.its_migrate.proofs.Pendings.{lpis_in, one_more_list, all_lists, rests_looked, rests_lone, rests_free, rests_seen, rests_more, as_many_rest}
 use Rattle.its_migrate.proofs.resting.pending.Goals as goal
 
 pub loop-vcpu-init : goal.loop-vcpu-init

@@ -1,4 +1,3 @@
-use Rattle.std.proofs.Common.{◌≡◌}
 use Rattle.its_turns.specs.Calls.{Stays}
 use Rattle.its_turns.specs.Machines.{view, IsOf}
 use Rattle.its_migrate.proofs.saving.save.Given as goal

@@ -1,4 +1,4 @@
-use Rattle.std.proofs.Common.{◌≡◌, refl, sym, ap, ◌∙◌, ℕ}
+use Rattle.std.proofs.Common.{refl, ap, ◌∙◌}
 use Rattle.std.specs.Box.{with_value}
 use Rattle.its_plain.specs.Machine.{layout_of}
 use Rattle.its_plain.specs.declared.call.Call.TheVariants as call

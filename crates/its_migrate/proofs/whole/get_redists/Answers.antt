@@ -1,4 +1,4 @@
-use Rattle.std.proofs.Common.{◌≡◌, ◌<◌, ◌≤◌, ℕ, List, Option, Some, length, ap, sym, ◌∙◌, subst, arith}
+use Rattle.std.proofs.Common.{◌≡◌, ◌<◌, ℕ, List, Option, length, ap, sym, subst, arith}
 use Rattle.lpi_pending.specs.declared.redist.Redist.{Redist as InHand}
 use Rattle.its_types.specs.declared.machine.Part.TheVariants as part
 use Rattle.its_steps.specs.Contents.{Held}

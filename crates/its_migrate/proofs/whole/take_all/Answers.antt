@@ -1,4 +1,4 @@
-use Rattle.std.proofs.Common.{◌≡◌, ◌∷◌, ap, sym, ◌∙◌, subst}
+use Rattle.std.proofs.Common.{◌≡◌, ◌∷◌, ap, ◌∙◌, subst}
 use Rattle.its_types.specs.declared.machine.Part.TheVariants as part
 use Rattle.its_steps.specs.Contents.{Held, Maps, Mem}
 use Rattle.its_steps.specs.Parts.{vcpu_count}
