@@ -6,5 +6,6 @@ pub mod Phases
 pub mod Rooms
 pub mod Roots
 pub mod Runs
+pub mod Scripts
 pub mod Stops
 pub mod Threads

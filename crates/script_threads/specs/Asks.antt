@@ -22,6 +22,7 @@ MayAsk s (call.Peek addr count) = Unit {0}
 MayAsk s (call.ReadReg its off size) = its ≡ 0
 MayAsk s (call.WriteReg its off size value) = its ≡ 0
 MayAsk s (call.Step its) = its ≡ 0
+MayAsk s call.Save = Unit {0}
 MayAsk s other = ⊥
 
 abbrev pub MayAskAll : Setup → Thread → Type 0

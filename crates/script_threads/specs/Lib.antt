@@ -4,3 +4,4 @@ pub mod Legs
 pub mod Phases
 pub mod Rests
 pub mod Roots
+pub mod Scripts

@@ -1,7 +1,9 @@
 //! One call of a script, by its port.
 ghost use Rattle.std.specs.Prelude.{◌≡◌, ◌<◌, []};
 ghost use Rattle.its_plain.specs.declared.call.Call.TheVariants as call;
+ghost use Rattle.its_plain.specs.Answer.{save_reply};
 ghost use Rattle.its_steps.specs.Parts.{vcpu_count};
+ghost use Rattle.its_migrate.specs.Resting.{HasItsLayout};
 ghost use Rattle.its_turns.specs.Machines.{setup, view, IsOf};
 ghost use Rattle.script_threads.specs.Asks.{MayAsk, Answers};
 
@@ -9,10 +11,12 @@ use crate::stop::Stop;
 use cmd_engine::{NoStep, read_reg, step, write_reg};
 use device_port::signal;
 use guest_port::{peek, poke};
-use its_plain::{Bytes64, Call, Reply};
+use its_migrate::{NoSave, save};
+use its_plain::{Bytes64, Call, Reply, SaveFault};
 use its_turns::{Machine, Pass};
 use its_types::{Addr, DeviceId, EventId, Gate, Placed, Vcpu};
 use redist_ack::{show, take};
+use std::alloc::Global;
 use std::sync::Wait;
 
 fn ask_signal<R: Wait, G: Gate>(
@@ -185,15 +189,49 @@ fn ask_step<R: Wait, G: Gate>(
     }
 }
 
+fn ask_save<R: Wait, G: Gate>(
+    rt: &R,
+    alloc: Global,
+    machine: &Machine,
+    pass: &mut Pass,
+    gate: &G,
+) -> Result<Placed<Reply>, Stop>
+    requires of { IsOf machine.now pass.old }
+    requires layout { HasItsLayout machine.now }
+    requires free { (view pass.old).held ≡ [] }
+    ensures of { IsOf machine.now pass.new }
+    ensures answer { Answers (view pass.old) call.Save (view pass.new) result }
+{
+    match save(rt, alloc, machine, pass, gate) {
+        Ok(Placed { place, reply }) => Ok(Placed {
+            place,
+            reply: saved(reply),
+        }),
+        Err(NoSave::Spent) => Err(Stop::Spent),
+        Err(NoSave::NoMemory) => Err(Stop::NoMemory),
+    }
+}
+
+fn saved(reply: Result<(), SaveFault>) -> Reply
+    ensures { result ≡ save_reply reply }
+{
+    match reply {
+        Ok(()) => Reply::Saved,
+        Err(fault) => Reply::SaveFault(fault),
+    }
+}
+
 /// Makes a call by its port, and waits for the turns that it needs.
 pub fn call_once<R: Wait, G: Gate>(
     rt: &R,
+    alloc: Global,
     machine: &Machine,
     pass: &mut Pass,
     gate: &G,
     call: &Call,
 ) -> Result<Placed<Reply>, Stop>
     requires of { IsOf machine.now pass.old }
+    requires layout { HasItsLayout machine.now }
     requires free { (view pass.old).held ≡ [] }
     requires may { MayAsk (setup machine.now) call.now }
     ensures of { IsOf machine.now pass.new }
@@ -213,6 +251,7 @@ pub fn call_once<R: Wait, G: Gate>(
             value,
         } => ask_write_reg(rt, machine, pass, gate, *off, *size, *value),
         Call::Step { its: _ } => ask_step(rt, machine, pass, gate),
+        Call::Save => ask_save(rt, alloc, machine, pass, gate),
         _ => unreachable!(),
     }
 }

@@ -1,6 +1,7 @@
 //! What one thread of a phase has to do.
 ghost use Rattle.std.specs.Prelude.{◌≡◌, ◌≤◌, [], length, vec_capacity};
 ghost use Rattle.its_turns.specs.Machines.{setup, view, IsOf};
+ghost use Rattle.its_migrate.specs.Resting.{HasItsLayout};
 ghost use Rattle.script_threads.specs.Asks.{MayAskAll};
 ghost use Rattle.script_threads.specs.Jobs.{IsReady, Ran, Worked};
 
@@ -9,6 +10,7 @@ use crate::stop::Stop;
 use its_plain::{Call, Reply};
 use its_turns::{Machine, Pass};
 use its_types::{Gate, Placed};
+use std::alloc::Global;
 use std::sync::Wait;
 
 /// A thread's pass and its calls, the replies of those that were made, and why the next was not.
@@ -23,6 +25,7 @@ pub struct Job<'a> {
 /// Makes the calls in order, up to the first that isn't made.
 fn ask_all<R: Wait, G: Gate>(
     rt: &R,
+    alloc: Global,
     machine: &Machine,
     pass: &mut Pass,
     gate: &G,
@@ -30,6 +33,7 @@ fn ask_all<R: Wait, G: Gate>(
     done: &mut Vec<Placed<Reply>>,
 ) -> Option<Stop>
     requires of { IsOf machine.now pass.old }
+    requires layout { HasItsLayout machine.now }
     requires free { (view pass.old).held ≡ [] }
     requires may { MayAskAll (setup machine.now) calls.now }
     requires empty { done.old.items ≡ [] }
@@ -38,7 +42,7 @@ fn ask_all<R: Wait, G: Gate>(
     ensures ran { Ran (view pass.old) calls.now result done.new.items (view pass.new) }
 {
     for call in calls {
-        match call_once(rt, machine, pass, gate, call) {
+        match call_once(rt, alloc, machine, pass, gate, call) {
             Ok(placed) => {
                 if done.push(placed).is_err() {
                     unreachable!();
@@ -51,10 +55,18 @@ fn ask_all<R: Wait, G: Gate>(
 }
 
 /// Does a thread's work.
-pub fn run<R: Wait, G: Gate>(rt: &R, machine: &Machine, gate: &G, job: &mut Job)
+pub fn run<R: Wait, G: Gate>(rt: &R, alloc: Global, machine: &Machine, gate: &G, job: &mut Job)
     requires { IsReady machine.now job.old }
     ensures { Worked machine.now job.old job.new }
 {
     let calls = job.calls;
-    job.stop = ask_all(rt, machine, &mut job.pass, gate, calls, &mut job.done);
+    job.stop = ask_all(
+        rt,
+        alloc,
+        machine,
+        &mut job.pass,
+        gate,
+        calls,
+        &mut job.done,
+    );
 }

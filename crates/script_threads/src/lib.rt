@@ -3,11 +3,13 @@
 
 mod ask;
 mod job;
+mod laws;
 mod leg;
 mod phase;
 mod stop;
 
 pub use ask::call_once;
+pub use laws::legs_may_run;
 pub use leg::{LegEnd, run_leg};
 
 pub use phase::{PhaseEnd, run_phase};

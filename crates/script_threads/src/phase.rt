@@ -2,6 +2,7 @@
 ghost use Rattle.std.specs.Prelude.{◌≡◌, ◌+◌, ◌^◌, ◌<◌, ◌≤◌, [], None, map, length, vec_len, vec_capacity, IfOk, OnErr};
 ghost use Rattle.std.specs.List.{AllByRecursion};
 ghost use Rattle.its_turns.specs.Machines.{setup, view, IsOf};
+ghost use Rattle.its_migrate.specs.Resting.{HasItsLayout};
 ghost use Rattle.script_threads.specs.Asks.{MayRun};
 ghost use Rattle.script_threads.specs.Jobs.{AreNew, Both, HasRoom, IsFreeJob, IsReady, SeenBy, Worked, call_list, end_of, reply_list, worst_from};
 ghost use Rattle.script_threads.specs.Phases.{Phased};
@@ -40,6 +41,7 @@ struct Room<'a> {
 /// Runs every job, in a thread of its own where one can be made.
 fn run_each<R: Threads + Wait + Sync, G: Gate + Sync>(
     rt: &R,
+    alloc: Global,
     machine: &Machine,
     gate: &G,
     jobs: &mut [Job],
@@ -48,11 +50,12 @@ fn run_each<R: Threads + Wait + Sync, G: Gate + Sync>(
     ensures { Both (Worked machine.now) jobs.old jobs.new }
 {
     let threads = jobs.len().max(1);
-    thread::for_each_mut(rt, jobs, threads, &|_, job| run(rt, machine, gate, job));
+    thread::for_each_mut(rt, jobs, threads, &|_, job| run(rt, alloc, machine, gate, job));
 }
 
 fn run_all<R: Threads + Wait + Sync, G: Gate + Sync>(
     rt: &R,
+    alloc: Global,
     machine: &Machine,
     gate: &G,
     jobs: &mut Vec<Job>,
@@ -61,7 +64,7 @@ fn run_all<R: Threads + Wait + Sync, G: Gate + Sync>(
     ensures worked { Both (Worked machine.now) jobs.old.items jobs.new.items }
     ensures len { vec_len jobs.new ≡ vec_len jobs.old }
 {
-    run_each(rt, machine, gate, jobs.as_mut_slice());
+    run_each(rt, alloc, machine, gate, jobs.as_mut_slice());
 }
 
 /// Lists with room for the replies of each thread.
@@ -85,6 +88,7 @@ fn split_all<'a>(
     jobs: &mut Vec<Job<'a>>,
 )
     requires of { IsOf machine.now root.old }
+    requires layout { HasItsLayout machine.now }
     requires root { (view root.old).number ≡ 0 }
     requires few { (view root.old).root.made + length threads.now < 2 ^ 32 }
     requires len { vec_len lists ≡ length threads.now }
@@ -185,6 +189,7 @@ pub fn run_phase<R: Threads + Wait + Sync, G: Gate + Sync>(
     threads: &[Thread],
 ) -> Result<PhaseEnd, AllocError>
     requires of { IsOf machine.now root.old }
+    requires layout { HasItsLayout machine.now }
     requires rests { Rests (view root.old) }
     requires few { (view root.old).root.made + length threads.now < 2 ^ 32 }
     requires may { MayRun (setup machine.now) threads.now }
@@ -194,12 +199,13 @@ pub fn run_phase<R: Threads + Wait + Sync, G: Gate + Sync>(
 {
     let room = take_room(alloc, threads)?;
     look(machine, root);
-    Ok(run_rested(rt, machine, root, gate, threads, room))
+    Ok(run_rested(rt, alloc, machine, root, gate, threads, room))
 }
 
 // The same, once the memory is there and the root has looked.
 fn run_rested<'a, R: Threads + Wait + Sync, G: Gate + Sync>(
     rt: &R,
+    alloc: Global,
     machine: &Machine,
     root: &mut Pass,
     gate: &G,
@@ -207,6 +213,7 @@ fn run_rested<'a, R: Threads + Wait + Sync, G: Gate + Sync>(
     room: Room<'a>,
 ) -> PhaseEnd
     requires of { IsOf machine.now root.old }
+    requires layout { HasItsLayout machine.now }
     requires rests { Rests (view root.old) }
     requires knows { Knows (view root.old) }
     requires few { (view root.old).root.made + length threads.now < 2 ^ 32 }
@@ -224,7 +231,7 @@ fn run_rested<'a, R: Threads + Wait + Sync, G: Gate + Sync>(
         mut lists,
     } = room;
     split_all(machine, root, threads, replies, &mut jobs);
-    run_all(rt, machine, gate, &mut jobs);
+    run_all(rt, alloc, machine, gate, &mut jobs);
     let stop = join_all(machine, root, jobs, &mut lists);
     PhaseEnd { lists, stop }
 }

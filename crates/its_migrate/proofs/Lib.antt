@@ -1,0 +1,6 @@
+mod Rows
+mod Hands
+mod Views
+mod Moving
+mod Pendings
+mod Savings

@@ -1,0 +1,4 @@
+pub mod Getting
+pub mod Wholes
+pub mod Resting
+pub mod Saving
