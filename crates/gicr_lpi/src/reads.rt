@@ -6,7 +6,7 @@ ghost use Rattle.its_plain.specs.declared.call.Reply.TheVariants as reply;
 ghost use Rattle.its_steps.specs.Parts.{vcpu_count};
 ghost use Rattle.its_turns.specs.Calls.{TriesPart, AsksPart};
 ghost use Rattle.its_turns.specs.Machines.{setup, view, IsOf};
-ghost use Rattle.gicr_lpi.specs.Accesses.{IsDescribed};
+ghost use Rattle.gicr_lpi.specs.Accesses.{HasItsLayout};
 
 use crate::access::read_from;
 use its_plain::{Call, Reply};
@@ -28,12 +28,12 @@ pub fn try_read_gicr<G: Gate>(
     size: u8,
 ) -> Attempt<u64>
     requires of { IsOf machine.now pass.old }
-    requires described { IsDescribed machine.now }
+    requires layout { HasItsLayout machine.now }
     requires free { (view pass.old).held ≡ [] }
     requires vcpu { vcpu.0 < vcpu_count (setup machine.now) }
     ensures of { IsOf machine.now pass.new }
-    ensures answer { TriesPart (view pass.old) (part.Redist vcpu) (call.ReadGicr vcpu off size) reply.Value
-        (view pass.new) result }
+    ensures answer { TriesPart (view pass.old) (part.Redist vcpu) (call.ReadGicr vcpu off size)
+        reply.Value (view pass.new) result }
 {
     let redist = match try_take_redist(machine, pass, vcpu) {
         Ok(redist) => redist,
@@ -77,12 +77,12 @@ pub fn read_gicr<R: Wait, G: Gate>(
     size: u8,
 ) -> Result<Placed<u64>, Spent>
     requires of { IsOf machine.now pass.old }
-    requires described { IsDescribed machine.now }
+    requires layout { HasItsLayout machine.now }
     requires free { (view pass.old).held ≡ [] }
     requires vcpu { vcpu.0 < vcpu_count (setup machine.now) }
     ensures of { IsOf machine.now pass.new }
-    ensures answer { AsksPart (view pass.old) (part.Redist vcpu) (call.ReadGicr vcpu off size) reply.Value
-        (view pass.new) result }
+    ensures answer { AsksPart (view pass.old) (part.Redist vcpu) (call.ReadGicr vcpu off size)
+        reply.Value (view pass.new) result }
 {
     for _ in rt.forever() {
         match try_read_gicr(machine, pass, gate, vcpu, off, size) {

@@ -5,6 +5,7 @@ use Rattle.guest_windows.specs.Windows.{Window}
 use Rattle.its_plain.specs.Machine.{are_programmed}
 use Rattle.its_plain.specs.Plain.{Redistributor}
 use Rattle.its_plain.specs.declared.desc.Desc.{Desc}
+use Rattle.its_plain.specs.declared.layout.Layout.{Layout}
 use Rattle.its_plain.specs.declared.call.Reply.TheVariants as reply
 use Rattle.lpi_pending.specs.declared.redist.Redist.{Redist as Owned}
 use Rattle.owned_parts.specs.Owned.{redistributor_of}
@@ -21,15 +22,15 @@ use Rattle.its_turns.specs.Told.{released}
 use Rattle.its_turns.specs.declared.machine.Machine.{Machine}
 use Rattle.its_turns.proofs.Telling.{may_here, owes_here, lost_held}
 use Rattle.held_parts.proofs.Going.{took_held}
-use Rattle.gicr_lpi.specs.Accesses.{write_call, after_write, both_held, IsOfWrite}
+use Rattle.gicr_lpi.specs.Accesses.{HasItsLayout, write_call, after_write, both_held, IsOfWrite}
 use Rattle.gicr_lpi.specs.declared.access.GicrAccess.{GicrAccess}
 use Rattle.gicr_lpi.proofs.Alone.{low_bases, may_write}
 use Rattle.gicr_lpi.proofs.Asked.{took_stood, took_two, once_made, once_lost}
 use Rattle.gicr_lpi.proofs.writes.write_once.Goals as goal
 use Rattle.gicr_lpi.proofs.writes.write_once.Goals.{in-Ok, in-Err}
 
-is_so : (m : Machine) (programmed : Bool) (desc : Desc) → (setup m).start.layout.gicr ≡ are_programmed m.desc.tables → desc ≡ m.desc → programmed ≡ are_programmed desc.tables → programmed ≡ (setup m).start.layout.gicr
-is_so m programmed desc described same is = is ∙ (ap (λ (d : Desc). are_programmed d.tables) same ∙ sym described)
+is_so : (m : Machine) (programmed : Bool) (desc : Desc) → HasItsLayout m → desc ≡ m.desc → programmed ≡ are_programmed desc.tables → programmed ≡ (setup m).start.layout.gicr
+is_so m programmed desc own same is = is ∙ (ap (λ (d : Desc). are_programmed d.tables) same ∙ ap (λ (l : Layout). l.gicr) own)
 
 -- what the write leaves, where it is made
 abbrev left_of : Machine → GicrAccess → Redistributor → List Window → Redistributor
@@ -53,7 +54,7 @@ pub apply-requires-clause-low : goal.apply-requires-clause-low
 apply-requires-clause-low g c = λ e.
     let m = c.args.machine.now in let y = view c.take_memory-memory.new.pass in let x = view c.take_redist-redist.new.pass in let a = c.args.access in let r = redistributor_of c.take_redist-redist.result.value in
     rw (c.deref_mut.ensures.value) (low_bases (setup m) a.vcpu r (took_stood (setup m) y x (part.Redist a.vcpu) (Redist r) c.take_memory-memory.ensures.of.1 c.take_redist-redist.ensures.takes)
-    (sym (is_so m c.are_programmed-programmed.result c.desc-desc.result.now c.requires.described c.desc-desc.ensures.desc c.are_programmed-programmed.ensures) ∙ e))
+    (sym (is_so m c.are_programmed-programmed.result c.desc-desc.result.now c.requires.layout c.desc-desc.ensures.desc c.are_programmed-programmed.ensures) ∙ e))
 
 -- what is held once it was made
 made_held : (m : Machine) (a : GicrAccess) (r : Redistributor) (memory : List Window) (x z : View) (w : Word) → a.vcpu.0 < vcpu_count (setup m) → x.setup ≡ setup m → x.held ≡ both_held a.vcpu r memory
@@ -65,7 +66,7 @@ put-requires-clause-owed g c =
     let m = c.args.machine.now in let v = view c.args.pass.now in let y = view c.take_memory-memory.new.pass in let x = view c.take_redist-redist.new.pass in let z = view c.try_commit-made.new.pass in let a = c.args.access in
     let memory = c.take_memory-memory.result.value.memory in let r = redistributor_of c.take_redist-redist.result.value in
     let has = two_held v y x a r memory c.requires.free (took_held v y part.Mem (Mem memory) c.take_memory-memory.ensures.takes) (took_held y x (part.Redist a.vcpu) (Redist r) c.take_redist-redist.ensures.takes) in
-    let so = is_so m c.are_programmed-programmed.result c.desc-desc.result.now c.requires.described c.desc-desc.ensures.desc c.are_programmed-programmed.ensures in
+    let so = is_so m c.are_programmed-programmed.result c.desc-desc.result.now c.requires.layout c.desc-desc.ensures.desc c.are_programmed-programmed.ensures in
     record {
       content = Redist (redistributor_of c.match-made.redist.value);
       content_is = refl;
