@@ -26,7 +26,8 @@ pub fn try_read_reg<G: Gate>(
     requires of { IsOf machine.now pass.old }
     requires free { (view pass.old).held ≡ [] }
     ensures of { IsOf machine.now pass.new }
-    ensures answer { TriesPart (view pass.old) (part.Maps 0) (call.ReadReg 0 off size) reply.Value (view pass.new) result }
+    ensures answer { TriesPart (view pass.old) (part.Maps 0) (call.ReadReg 0 off size) reply.Value
+        (view pass.new) result }
 {
     let tables = match try_take_maps(machine, pass, 0) {
         Ok(tables) => tables,
@@ -69,7 +70,8 @@ pub fn read_reg<R: Wait, G: Gate>(
     requires of { IsOf machine.now pass.old }
     requires free { (view pass.old).held ≡ [] }
     ensures of { IsOf machine.now pass.new }
-    ensures answer { AsksPart (view pass.old) (part.Maps 0) (call.ReadReg 0 off size) reply.Value (view pass.new) result }
+    ensures answer { AsksPart (view pass.old) (part.Maps 0) (call.ReadReg 0 off size) reply.Value
+        (view pass.new) result }
 {
     for _ in rt.forever() {
         match try_read_reg(machine, pass, gate, off, size) {

@@ -75,11 +75,12 @@ pub fn commit_write<G: Gate>(
     requires of { IsOf machine.now pass.old }
     requires held { (view pass.old).held ≡ maps_held (translator_of tables.old) }
     requires read { HasRead (view pass.old) word }
-    requires stamp { IsStampOf (setup machine.now).limits.stamp_last (translator_of tables.old) write word stamp }
+    requires stamp { IsStampOf (setup machine.now).limits.stamp_last (translator_of tables.old)
+        write word stamp }
     ensures of { IsOf machine.now pass.new }
     ensures held { (view pass.new).held ≡ maps_held (translator_of tables.new) }
-    ensures comes { Comes IsOfTranslator (view pass.old) (write_call write) (λ _. reply.Ok) (view pass.new)
-        result }
+    ensures comes { Comes IsOfTranslator (view pass.old) (write_call write) (λ _. reply.Ok)
+        (view pass.new) result }
 {
     gate.at(pass.number(), Point::BeforeCommit);
     let made = Commit {

@@ -31,8 +31,8 @@ pub fn renew_write<R: Wait, G: Gate>(
     requires off { turns_off write (translator_of tables.old) ≡ true }
     ensures of { IsOf machine.now pass.new }
     ensures held { (view pass.new).held ≡ maps_held (translator_of tables.new) }
-    ensures comes { Comes IsOfTranslator (view pass.old) (write_call write) (λ _. reply.Ok) (view pass.new)
-        result }
+    ensures comes { Comes IsOfTranslator (view pass.old) (write_call write) (λ _. reply.Ok)
+        (view pass.new) result }
 {
     let mut shards = Shards::new();
     take_shards(rt, machine, pass, &mut shards);
@@ -59,8 +59,8 @@ fn begin_renewal<G: Gate>(
     ensures held { (view pass.new).held ≡ shards_held shards.new (setup machine.now).shards
         (maps_held (translator_of tables.new)) }
     ensures hand { AreShards (setup machine.now).shards shards.new }
-    ensures comes { Comes IsOfTranslator (view pass.old) (write_call write) (λ _. reply.Ok) (view pass.new)
-        result }
+    ensures comes { Comes IsOfTranslator (view pass.old) (write_call write) (λ _. reply.Ok)
+        (view pass.new) result }
 {
     let Ok(word) = begin(machine, pass) else {
         return Err(Missed::Spent);
@@ -91,8 +91,8 @@ fn commit_renewal<G: Gate>(
     ensures held { (view pass.new).held ≡ shards_held shards.new (setup machine.now).shards
         (maps_held (translator_of tables.new)) }
     ensures hand { AreShards (setup machine.now).shards shards.new }
-    ensures comes { Comes IsOfTranslator (view pass.old) (write_call write) (λ _. reply.Ok) (view pass.new)
-        result }
+    ensures comes { Comes IsOfTranslator (view pass.old) (write_call write) (λ _. reply.Ok)
+        (view pass.new) result }
 {
     gate.at(pass.number(), Point::BeforeCommit);
     let made = Commit {

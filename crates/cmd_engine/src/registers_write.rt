@@ -30,8 +30,8 @@ pub fn write_reg<R: Wait, G: Gate>(
     requires of { IsOf machine.now pass.old }
     requires free { (view pass.old).held ≡ [] }
     ensures of { IsOf machine.now pass.new }
-    ensures answer { AsksUntilMade IsOfTranslator (view pass.old) (call.WriteReg 0 off size value) (λ _. reply.Ok)
-        (view pass.new) result }
+    ensures answer { AsksUntilMade IsOfTranslator (view pass.old) (call.WriteReg 0 off size value)
+        (λ _. reply.Ok) (view pass.new) result }
 {
     let write = RegWrite { off, size, value };
     for _ in rt.forever() {
@@ -55,8 +55,8 @@ fn write_once<R: Wait, G: Gate>(
     requires free { (view pass.old).held ≡ [] }
     ensures of { IsOf machine.now pass.new }
     ensures free { (view pass.new).held ≡ [] }
-    ensures comes { Comes IsOfTranslator (view pass.old) (write_call write) (λ _. reply.Ok) (view pass.new)
-        result }
+    ensures comes { Comes IsOfTranslator (view pass.old) (write_call write) (λ _. reply.Ok)
+        (view pass.new) result }
 {
     let mut tables = take_maps(rt, machine, pass, 0);
     gate.at(pass.number(), Point::MapsTaken);
@@ -83,8 +83,8 @@ fn write_held<R: Wait, G: Gate>(
     requires read { HasRead (view pass.old) word }
     ensures of { IsOf machine.now pass.new }
     ensures held { (view pass.new).held ≡ maps_held (translator_of tables.new) }
-    ensures comes { Comes IsOfTranslator (view pass.old) (write_call write) (λ _. reply.Ok) (view pass.new)
-        result }
+    ensures comes { Comes IsOfTranslator (view pass.old) (write_call write) (λ _. reply.Ok)
+        (view pass.new) result }
 {
     if !write.turns_off(tables) {
         commit_write(machine, pass, gate, word, word.stamp, write, tables)

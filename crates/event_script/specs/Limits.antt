@@ -1,5 +1,5 @@
 -- What each script keeps to: how many there may be of each thing, and in which range each field of its calls is.
-use Rattle.std.specs.Prelude.{◌≡◌, ◌<◌, ◌≤◌, ℕ, ◌*◌, ◌^◌, Bool, true, false, ◌&&◌, ◌||◌, ◌==◌, nat_lt, nat_le, List, length}
+use Rattle.std.specs.Prelude.{◌≡◌, ◌<◌, ◌≤◌, ℕ, ◌*◌, ◌^◌, Bool, true, ◌&&◌, ◌||◌, ◌==◌, nat_lt, nat_le, List, length}
 use Rattle.std.specs.List.{list_all}
 use Rattle.its_types.specs.declared.machine.Limits.{Limits}
 use Rattle.its_plain.specs.declared.call.Call.{Call}
@@ -16,7 +16,7 @@ use Rattle.event_script.specs.declared.script.Script.{Script}
 abbrev pub is_access_size : ℕ → Bool
 is_access_size size = size == 4 || size == 8
 
--- a call of a machine with so many processors and one translator; no line asks for an LPI register of a redistributor
+-- a call of a machine with so many processors and one translator
 abbrev pub is_call : ℕ → Call → Bool
 is_call vcpus (call.Signal its dev ev) = its == 0
 is_call vcpus (call.Take vcpu) = nat_lt vcpu.0 vcpus
@@ -25,8 +25,8 @@ is_call vcpus (call.Poke addr bytes) = nat_lt 0 (length bytes) && nat_le (length
 is_call vcpus (call.Peek addr count) = nat_le 1 count && nat_le count 64
 is_call vcpus (call.ReadReg its off size) = its == 0 && is_access_size size
 is_call vcpus (call.WriteReg its off size value) = its == 0 && is_access_size size && nat_lt value (2 ^ (8 * size))
-is_call vcpus (call.ReadGicr vcpu off size) = false
-is_call vcpus (call.WriteGicr vcpu off size value) = false
+is_call vcpus (call.ReadGicr vcpu off size) = nat_lt vcpu.0 vcpus && is_access_size size
+is_call vcpus (call.WriteGicr vcpu off size value) = nat_lt vcpu.0 vcpus && is_access_size size && nat_lt value (2 ^ (8 * size))
 is_call vcpus (call.Step its) = its == 0
 is_call vcpus call.Save = true
 

@@ -38,10 +38,12 @@ pub fn take_redists<R: Wait>(
 pub fn put_redists(machine: &Machine, pass: &mut Pass, set: PartSet, redists: &mut Redists)
     requires of { IsOf machine.now pass.old }
     requires hand { AreOfSet (setup machine.now) set redists.old }
-    requires held { (before : List Held) × ((view pass.old).held ≡ redists_held redists.old 16 before) }
+    requires held { (before : List Held) ×
+        ((view pass.old).held ≡ redists_held redists.old 16 before) }
     ensures of { IsOf machine.now pass.new }
     ensures empty { AreNoRedists redists.new }
-    ensures home { (before : List Held) → (view pass.old).held ≡ redists_held redists.old 16 before →
+    ensures home { (before : List Held) →
+        (view pass.old).held ≡ redists_held redists.old 16 before →
         view pass.new ≡ holding (view pass.old) before }
 {
     put_wanted(machine, pass, &Some(set), redists);
@@ -64,10 +66,12 @@ pub fn take_all_redists<R: Wait>(rt: &R, machine: &Machine, pass: &mut Pass, red
 pub fn put_all_redists(machine: &Machine, pass: &mut Pass, redists: &mut Redists)
     requires of { IsOf machine.now pass.old }
     requires hand { AreAllRedists (setup machine.now) redists.old }
-    requires held { (before : List Held) × ((view pass.old).held ≡ redists_held redists.old 16 before) }
+    requires held { (before : List Held) ×
+        ((view pass.old).held ≡ redists_held redists.old 16 before) }
     ensures of { IsOf machine.now pass.new }
     ensures empty { AreNoRedists redists.new }
-    ensures home { (before : List Held) → (view pass.old).held ≡ redists_held redists.old 16 before →
+    ensures home { (before : List Held) →
+        (view pass.old).held ≡ redists_held redists.old 16 before →
         view pass.new ≡ holding (view pass.old) before }
 {
     put_wanted(machine, pass, &None, redists);
@@ -111,10 +115,12 @@ fn take_wanted<R: Wait>(
 fn put_wanted(machine: &Machine, pass: &mut Pass, set: &Option<PartSet>, redists: &mut Redists)
     requires of { IsOf machine.now pass.old }
     requires hand { AreWanted (setup machine.now) set.now redists.old }
-    requires held { (before : List Held) × ((view pass.old).held ≡ redists_held redists.old 16 before) }
+    requires held { (before : List Held) ×
+        ((view pass.old).held ≡ redists_held redists.old 16 before) }
     ensures of { IsOf machine.now pass.new }
     ensures empty { AreNoRedists redists.new }
-    ensures home { (before : List Held) → (view pass.old).held ≡ redists_held redists.old 16 before →
+    ensures home { (before : List Held) →
+        (view pass.old).held ≡ redists_held redists.old 16 before →
         view pass.new ≡ holding (view pass.old) before }
 {
     let vcpus = machine.vcpus();

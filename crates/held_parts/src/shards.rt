@@ -100,7 +100,8 @@ pub fn take_shards<R: Wait>(rt: &R, machine: &Machine, pass: &mut Pass, shards: 
     requires free { HoldsNoShard (view pass.old).held }
     ensures of { IsOf machine.now pass.new }
     ensures takes { TakesOnly IsShardOfFirst (view pass.old) (view pass.new) }
-    ensures held { (view pass.new).held ≡ shards_held shards.new (setup machine.now).shards (view pass.old).held }
+    ensures held { (view pass.new).held ≡ shards_held shards.new (setup machine.now).shards
+        (view pass.old).held }
     ensures hand { AreShards (setup machine.now).shards shards.new }
 {
     for number in 0..machine.shards() {

@@ -24,8 +24,8 @@ pub fn take_maps<R: Wait>(rt: &R, machine: &Machine, pass: &mut Pass, its: u8) -
     requires stands { its < translator_count (setup machine.now) }
     requires free { ¬ Holds (part.Maps its) (view pass.old).held }
     ensures of { IsOf machine.now pass.new }
-    ensures takes { TakesInTime (view pass.old) (part.Maps its) (content.Maps (translator_of result.value))
-        (view pass.new) }
+    ensures takes { TakesInTime (view pass.old) (part.Maps its)
+        (content.Maps (translator_of result.value)) (view pass.new) }
 {
     for _ in rt.forever() {
         match try_take_maps(machine, pass, its) {
@@ -41,7 +41,8 @@ pub fn take_memory<R: Wait>(rt: &R, machine: &Machine, pass: &mut Pass) -> Box<G
     requires of { IsOf machine.now pass.old }
     requires free { ¬ Holds part.Mem (view pass.old).held }
     ensures of { IsOf machine.now pass.new }
-    ensures takes { TakesInTime (view pass.old) part.Mem (content.Mem result.value.memory) (view pass.new) }
+    ensures takes { TakesInTime (view pass.old) part.Mem (content.Mem result.value.memory)
+        (view pass.new) }
 {
     for _ in rt.forever() {
         match try_take_memory(machine, pass) {
@@ -64,7 +65,8 @@ pub fn take_shard<R: Wait>(
     requires stands { Stands (setup machine.now) (part.Shard its number) }
     requires free { ¬ Holds (part.Shard its number) (view pass.old).held }
     ensures of { IsOf machine.now pass.new }
-    ensures takes { TakesInTime (view pass.old) (part.Shard its number) (content.Shard result) (view pass.new) }
+    ensures takes { TakesInTime (view pass.old) (part.Shard its number) (content.Shard result)
+        (view pass.new) }
 {
     for _ in rt.forever() {
         match try_take_shard(machine, pass, its, number) {

@@ -22,8 +22,9 @@ MayAsk s (call.Peek addr count) = Unit {0}
 MayAsk s (call.ReadReg its off size) = its ≡ 0
 MayAsk s (call.WriteReg its off size value) = its ≡ 0
 MayAsk s (call.Step its) = its ≡ 0
+MayAsk s (call.ReadGicr vcpu off size) = vcpu.0 < vcpu_count s
+MayAsk s (call.WriteGicr vcpu off size value) = vcpu.0 < vcpu_count s
 MayAsk s call.Save = Unit {0}
-MayAsk s other = ⊥
 
 abbrev pub MayAskAll : Setup → Thread → Type 0
 MayAskAll s calls = AllByRecursion (MayAsk s) calls

@@ -10,6 +10,7 @@ ghost use Rattle.script_threads.specs.Asks.{MayAsk, Answers};
 use crate::stop::Stop;
 use cmd_engine::{NoStep, read_reg, step, write_reg};
 use device_port::signal;
+use gicr_lpi::{read_gicr, write_gicr};
 use guest_port::{peek, poke};
 use its_migrate::{NoSave, save};
 use its_plain::{Bytes64, Call, Reply, SaveFault};
@@ -212,6 +213,58 @@ fn ask_save<R: Wait, G: Gate>(
     }
 }
 
+fn ask_read_gicr<R: Wait, G: Gate>(
+    rt: &R,
+    machine: &Machine,
+    pass: &mut Pass,
+    gate: &G,
+    vcpu: Vcpu,
+    off: u32,
+    size: u8,
+) -> Result<Placed<Reply>, Stop>
+    requires of { IsOf machine.now pass.old }
+    requires layout { HasItsLayout machine.now }
+    requires free { (view pass.old).held ≡ [] }
+    requires vcpu { vcpu.0 < vcpu_count (setup machine.now) }
+    ensures of { IsOf machine.now pass.new }
+    ensures answer { Answers (view pass.old) (call.ReadGicr vcpu off size) (view pass.new) result }
+{
+    match read_gicr(rt, machine, pass, gate, vcpu, off, size) {
+        Ok(Placed { place, reply }) => Ok(Placed {
+            place,
+            reply: Reply::Value(reply),
+        }),
+        Err(_) => Err(Stop::Spent),
+    }
+}
+
+fn ask_write_gicr<R: Wait, G: Gate>(
+    rt: &R,
+    machine: &Machine,
+    pass: &mut Pass,
+    gate: &G,
+    vcpu: Vcpu,
+    off: u32,
+    size: u8,
+    value: u64,
+) -> Result<Placed<Reply>, Stop>
+    requires of { IsOf machine.now pass.old }
+    requires layout { HasItsLayout machine.now }
+    requires free { (view pass.old).held ≡ [] }
+    requires vcpu { vcpu.0 < vcpu_count (setup machine.now) }
+    ensures of { IsOf machine.now pass.new }
+    ensures answer { Answers (view pass.old) (call.WriteGicr vcpu off size value) (view pass.new)
+        result }
+{
+    match write_gicr(rt, machine, pass, gate, vcpu, off, size, value) {
+        Ok(Placed { place, reply: () }) => Ok(Placed {
+            place,
+            reply: Reply::Ok,
+        }),
+        Err(_) => Err(Stop::Spent),
+    }
+}
+
 fn saved(reply: Result<(), SaveFault>) -> Reply
     ensures { result ≡ save_reply reply }
 {
@@ -250,8 +303,16 @@ pub fn call_once<R: Wait, G: Gate>(
             size,
             value,
         } => ask_write_reg(rt, machine, pass, gate, *off, *size, *value),
+        Call::ReadGicr { vcpu, off, size } => {
+            ask_read_gicr(rt, machine, pass, gate, *vcpu, *off, *size)
+        }
+        Call::WriteGicr {
+            vcpu,
+            off,
+            size,
+            value,
+        } => ask_write_gicr(rt, machine, pass, gate, *vcpu, *off, *size, *value),
         Call::Step { its: _ } => ask_step(rt, machine, pass, gate),
         Call::Save => ask_save(rt, alloc, machine, pass, gate),
-        _ => unreachable!(),
     }
 }
