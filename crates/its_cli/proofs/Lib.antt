@@ -1,6 +1,8 @@
 pub mod Pieces
+pub mod Sharing
 pub mod Playing
 pub mod Runs
+pub mod Moving
 pub mod Migrations
 pub mod Scripts
 pub mod Endings

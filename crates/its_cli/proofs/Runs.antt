@@ -1,16 +1,14 @@
 -- What came of a leg.
 use Rattle.std.proofs.Common.{◌≡◌, ℕ, zero, suc, ◌+◌, get_or, take, ◌<◌, ◌≤◌, Bool, true, false, nat_le, List, [], ◌∷◌, ◌++◌, length, map, Option, Some, None, Ok, Err, refl, sym, ap, subst, ◌∙◌, length-append, arith}
-use Rattle.std.specs.Prelude.{◌&&◌, ◌==◌, ◌*◌, ◌^◌, nat_lt, slice_index_or}
+use Rattle.std.specs.Prelude.{◌&&◌, slice_index_or}
 use Rattle.std.specs.List.{list_all, AllByRecursion}
 use Rattle.std.specs.String.{string_bytes}
-use Rattle.std.proofs.lemmas.Bool.{leb-true, ltb-true, eqb-true}
 use Rattle.its_plain.specs.Plain.{Plain, Redistributor, no_redistributor}
 use Rattle.its_plain.specs.History.{after}
 use Rattle.its_plain.specs.Regions.{savable}
-use Rattle.its_plain.specs.Runs.{Thread, Phase, Leg}
+use Rattle.its_plain.specs.Runs.{Leg}
 use Rattle.its_plain.specs.declared.fault.SaveFault.{SaveFault}
-use Rattle.event_script.specs.Limits.{IsWithinLimits, is_leg, is_phase, is_thread, is_call, is_access_size}
-use Rattle.event_script.specs.declared.draft.TheConstants.{MOST_PHASES, MOST_THREADS, MOST_CALLS}
+use Rattle.event_script.specs.Limits.{IsWithinLimits, is_leg}
 use Rattle.event_script.specs.declared.script.Script.{Script}
 use Rattle.its_history.specs.Histories.{seat_of, history_lines}
 use Rattle.its_history.specs.Merged.{open_leg}
@@ -20,10 +18,9 @@ use Rattle.its_history.specs.declared.trace.EntryLine.{EntryLine}
 use Rattle.its_cli.specs.Reports.{pending_lists, thread_counts}
 use Rattle.its_cli.specs.Played.{IsPlayed}
 use Rattle.its_steps.specs.Parts.{Setup, vcpu_count}
-use Rattle.its_plain.specs.declared.call.Call.{Call}
-use Rattle.its_plain.specs.declared.call.Call.TheVariants as call
 use Rattle.its_plain.specs.declared.call.Entry.{Entry}
-use Rattle.script_threads.specs.Asks.{MayAsk, MayAskAll, MayRun, MayRunLeg}
+use Rattle.script_threads.specs.Asks.{MayRunLeg}
+use Rattle.script_threads.proofs.Scripts.{legs_may_run_so}
 use Rattle.its_cli.specs.Refusals.{migration_refusal}
 use Rattle.its_cli.specs.Answered.{IsLegSpent, IsLegWhole, IsLegRefused, LegStops, LegEnds, IsSpentEnding}
 use Rattle.its_cli.specs.declared.legs.Ending.{Ending}
@@ -73,60 +70,17 @@ both : (a b : Bool) → (a && b) ≡ true → (a ≡ true) × (b ≡ true)
 both true b e = (refl, e)
 both false b e = absurd cc
 
-may_ask : (s : Setup) (vcpus : ℕ) (c : Call) → vcpu_count s ≡ vcpus → is_call vcpus c ≡ true → MayAsk s c
-may_ask s vcpus (call.Signal its dev ev) same e = eqb-true its 0 e
-may_ask s vcpus (call.Take vcpu) same e = omega (arith, same, ltb-true vcpu.0 vcpus e)
-may_ask s vcpus (call.Show vcpu) same e = omega (arith, same, ltb-true vcpu.0 vcpus e)
-may_ask s vcpus (call.Poke addr bytes) same e = tt
-may_ask s vcpus (call.Peek addr count) same e = tt
-may_ask s vcpus (call.ReadReg its off size) same e = eqb-true its 0 (both (its == 0) (is_access_size size) e).0
-may_ask s vcpus (call.WriteReg its off size value) same e = eqb-true its 0 (both (its == 0) (is_access_size size) (both (its == 0 && is_access_size size) (nat_lt value (2 ^ (8 * size))) e).0).0
-may_ask s vcpus (call.ReadGicr vcpu off size) same e = absurd cc
-may_ask s vcpus (call.WriteGicr vcpu off size value) same e = absurd cc
-may_ask s vcpus (call.Step its) same e = eqb-true its 0 e
-may_ask s vcpus call.Save same e = tt
-
-all_mapped : {X : Type 0} (f : X → Bool) (P : X → Type 0) (each : (x : X) → f x ≡ true → P x) (xs : List X) → list_all f xs ≡ true → AllByRecursion P xs
-all_mapped f P each [] e = tt
-all_mapped f P each (x ∷ xs) e = let parts = both (f x) (list_all f xs) e in (each x parts.0, all_mapped f P each xs parts.1)
-
-module _ (s : Setup) (vcpus : ℕ) (same : vcpu_count s ≡ vcpus) where
-  may_thread : (calls : Thread) → is_thread vcpus calls ≡ true → MayAskAll s calls
-  may_thread calls e = all_mapped (is_call vcpus) (MayAsk s) (λ c one. may_ask s vcpus c same one) calls (both (nat_le (length calls) MOST_CALLS) (list_all (is_call vcpus) calls) e).1
-
-  threads_of : (threads : Phase) → is_phase vcpus threads ≡ true → list_all (is_thread vcpus) threads ≡ true
-  threads_of threads e = (both (nat_lt 0 (length threads) && nat_le (length threads) MOST_THREADS) (list_all (is_thread vcpus) threads) e).1
-
-  may_phase : (threads : Phase) → is_phase vcpus threads ≡ true → MayRun s threads
-  may_phase threads e = all_mapped (is_thread vcpus) (MayAskAll s) may_thread threads (threads_of threads e)
-
-few_threads : (vcpus : ℕ) (threads : Phase) → is_phase vcpus threads ≡ true → length threads ≤ 64
-few_threads vcpus threads e =
-    let bounds = both (nat_lt 0 (length threads) && nat_le (length threads) MOST_THREADS) (list_all (is_thread vcpus) threads) e in
-    leb-true _ _ (both (nat_lt 0 (length threads)) (nat_le (length threads) MOST_THREADS) bounds.0).1
-
 all_at : {X : Type 0} (f : X → Bool) (xs : List X) (i : ℕ) (x : X) → i < length xs → x ≡ get_or xs i x → list_all f xs ≡ true → f x ≡ true
 all_at f [] i x lt at e = absurd (omega (arith, lt))
 all_at f (y ∷ xs) zero x lt at e = ap f at ∙ (both (f y) (list_all f xs) e).0
 all_at f (y ∷ xs) (suc i) x lt at e = all_at f xs i x (omega (arith, lt)) at (both (f y) (list_all f xs) e).1
 
--- those of a leg of a script
-pub leg_bounds : (script : Script) (i : ℕ) (leg phases : Leg) → IsWithinLimits script → i < length script.legs → leg ≡ get_or script.legs i leg → phases ≡ leg
-    → (length phases ≤ 256) × AllByRecursion (λ threads. length threads ≤ 64) phases
-leg_bounds script i leg phases within lt at is =
-    let vcpus = script.desc.shape.vcpus in
-    let one : is_leg vcpus leg ≡ true = all_at (is_leg vcpus) script.legs i leg lt at within.legs in
-    let parts = both (nat_le (length phases) MOST_PHASES) (list_all (is_phase vcpus) phases) (ap (is_leg vcpus) is ∙ one) in
-    (leb-true _ _ parts.0, all_mapped (is_phase vcpus) (λ threads. length threads ≤ 64) (few_threads vcpus) phases parts.1)
-
--- its calls may be asked of its machine
-pub leg_may : (script : Script) (i : ℕ) (leg phases : Leg) (s : Setup) → IsWithinLimits script → i < length script.legs → leg ≡ get_or script.legs i leg → phases ≡ leg
-    → vcpu_count s ≡ script.desc.shape.vcpus → MayRunLeg s phases
+-- a leg of a script may be run on a machine with as many virtual processors
+pub leg_may : (script : Script) (i : ℕ) (leg phases : Leg) (s : Setup) → IsWithinLimits script → i < length script.legs → leg ≡ get_or script.legs i leg → phases ≡ leg → vcpu_count s ≡ script.desc.shape.vcpus
+    → (length phases ≤ 256) × AllByRecursion (λ threads. length threads ≤ 64) phases × MayRunLeg s phases
 leg_may script i leg phases s within lt at is same =
-    let vcpus = script.desc.shape.vcpus in
-    let one : is_leg vcpus leg ≡ true = all_at (is_leg vcpus) script.legs i leg lt at within.legs in
-    let parts = both (nat_le (length phases) MOST_PHASES) (list_all (is_phase vcpus) phases) (ap (is_leg vcpus) is ∙ one) in
-    all_mapped (is_phase vcpus) (MayRun s) (may_phase s vcpus same) phases parts.1
+    let one : is_leg script.desc.shape.vcpus leg ≡ true = all_at (is_leg script.desc.shape.vcpus) script.legs i leg lt at within.legs in
+    legs_may_run_so s phases (ap (λ n. is_leg n phases) same ∙ ap (is_leg script.desc.shape.vcpus) is ∙ one)
 
 -- ---- what is pending at one more virtual processor
 

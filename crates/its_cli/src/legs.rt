@@ -75,7 +75,8 @@ pub fn run<R: Threads + Wait + Sync, G: Gate + Sync>(
         number += 1;
     }
     let leg = legs[end].as_slice();
-    run_last_leg(rt, alloc, gate, now, report, leg, number)
+    let ending = run_last_leg(rt, alloc, gate, now, report, leg, number)?;
+    Ok(ending)
 }
 
 /// Runs a leg and migrates the machine, or tells why the run ends here. Where memory runs out, the

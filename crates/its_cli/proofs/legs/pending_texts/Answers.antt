@@ -1,16 +1,17 @@
-use Rattle.std.proofs.Common.{◌≡◌, ◌∷◌, ◌++◌, [], ap, sym, ◌∙◌, map, take, List, ℕ, add-one, arith, subst}
+use Rattle.std.proofs.Common.{rules, ◌≡◌, map, take, List, ℕ, ap, ◌∙◌}
+use Rattle.std.proofs.lemmas.List.{take_all}
+use Rattle.its_types.specs.declared.ids.Intid.{Intid}
 use Rattle.its_history.specs.Report as report
-use Rattle.its_cli.specs.Reports as spec
-use Rattle.its_cli.proofs.Runs.{pending_more}
+use Rattle.its_cli.proofs.Playing.{still_rests, still_same, texts_of}
 use Rattle.its_cli.proofs.legs.pending_texts.Goals as goal
 
-pub loop-vcpu-preserved : goal.loop-vcpu-preserved
-loop-vcpu-preserved c =
-    let u = c.args.machine.now in
-    let vcpu = c.loop-vcpu.vcpu in
-    let lists = spec.pending_lists u in
-    let numbers = ap (map (λ i. i.0)) c.deref.ensures.value ∙ c.in_ok-lpis.ensures in
-    let text = c.in_ok-text.ensures ∙ ap report.pending_text numbers in
-    let more = pending_more u.redistributors vcpu (omega (arith, c.loop-vcpu-test.true, c.vcpus-vcpu-end.ensures)) in
-    subst (λ (n : ℕ). c.push.new.self ≡ map report.pending_text (take n lists)) (sym (add-one vcpu))
-    (c.in_ok-push.ensures.ok ∙ ap (λ (ts : List (List ℕ)). ts ++ c.in_ok-text.text ∷ []) c.loop-vcpu.invariant ∙ ap (λ (t : List ℕ). map report.pending_text (take vcpu lists) ++ t ∷ []) text ∙ sym more)
+pub returns-clause-rests : goal.returns-clause-rests
+returns-clause-rests c = still_rests c.args.machine.now c.args.root.now c.pending.new.root c.requires.rests c.pending.ensures.of c.pending.ensures.rests
+
+pub returns-clause-texts : goal.returns-clause-texts
+returns-clause-texts c =
+    let items : List (List Intid) = c.as_slice-lpis-items.result.now in
+    let told : List Intid → List ℕ = λ lpis. report.pending_text (map (λ i. i.0) lpis) in
+    let whole : take c.loop-lpis.lpis-index items ≡ items = take_all c.loop-lpis.lpis-index items c.loop-lpis-test.false in
+    c.loop-lpis.invariant ∙ ap (map told) whole ∙ texts_of report.pending_text items
+    ∙ ap (λ (ls : List (List Intid)). map report.pending_text (map (map (λ i. i.0)) ls)) c.as_slice-lpis-items.ensures ∙ ap (map report.pending_text) c.in_ok-lists.ensures.lists

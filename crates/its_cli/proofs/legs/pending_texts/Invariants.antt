@@ -1,7 +1,6 @@
 use Rattle.std.proofs.Common.{◌≡◌, map, take}
 use Rattle.its_history.specs.Report as report
-use Rattle.its_cli.specs.Reports as spec
 use Rattle.its_cli.proofs.legs.pending_texts.Given as goal
 
-abbrev pub invariant-loop-vcpu : goal.invariant-loop-vcpu
-invariant-loop-vcpu l = l.texts ≡ map report.pending_text (take l.vcpu (spec.pending_lists l.machine))
+abbrev pub invariant-loop-lpis : goal.invariant-loop-lpis
+invariant-loop-lpis l = l.texts ≡ map (λ lpis. report.pending_text (map (λ i. i.0) lpis)) (take l.lpis-index l.lpis-items)

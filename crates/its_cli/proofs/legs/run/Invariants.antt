@@ -1,10 +1,13 @@
 use Rattle.std.proofs.Common.{◌≡◌, ◌+◌}
 use Rattle.std.specs.String.{string_bytes}
+use Rattle.its_turns.specs.Machines.{setup}
+use Rattle.its_cli.specs.Played.{IsReady}
 use Rattle.its_cli.proofs.Scripts.{HasRunTo}
 use Rattle.its_cli.proofs.legs.run.Given as goal
 
 abbrev pub invariant-loop-leg : goal.invariant-loop-leg
-invariant-loop-leg l = record {
+invariant-loop-leg g l = record {
   number : l.number ≡ l.leg-index + 1;
-  ran : HasRunTo l.script l.fn.machine l.leg-index l.machine (string_bytes l.report);
+  ready : IsReady l.script l.now;
+  ran : HasRunTo l.script (setup l.fn.first.machine).start l.leg-index (setup l.now.machine).start (string_bytes l.report);
 }
