@@ -94,12 +94,7 @@ pub fn get_memory<T: Turns>(how: &T, machine: &Machine, pass: &mut Pass) -> Box<
 }
 
 /// Takes a redistributor out.
-pub fn get_redist<T: Turns>(
-    how: &T,
-    machine: &Machine,
-    pass: &mut Pass,
-    vcpu: Vcpu,
-) -> Box<Redist>
+pub fn get_redist<T: Turns>(how: &T, machine: &Machine, pass: &mut Pass, vcpu: Vcpu) -> Box<Redist>
     requires of { IsOf machine.now pass.old }
     requires stands { vcpu.0 < vcpu_count (setup machine.now) }
     requires free { ¬ Holds (part.Redist vcpu) (view pass.old).held }

@@ -42,12 +42,7 @@ impl Whole {
 
 /// Takes all of them out: the maps, memory, and the redistributors, lowest first. The pass held
 /// nothing. Then it loads the word, so that it has seen the history that they stand for.
-pub fn take_all<T: Turns, G: Gate>(
-    how: &T,
-    machine: &Machine,
-    pass: &mut Pass,
-    gate: &G,
-) -> Whole
+pub fn take_all<T: Turns, G: Gate>(how: &T, machine: &Machine, pass: &mut Pass, gate: &G) -> Whole
     requires of { IsOf machine.now pass.old }
     requires free { (view pass.old).held ≡ [] }
     requires allowed { T.allowed (view pass.old) }

@@ -24,5 +24,10 @@ returns-in-Err-NoMemory-clause-answer g c = stays_again (view c.args.pass.now) (
     (subst (λ (k : Unmade). IsTried (view c.loop.pass) (Err k) (view c.save_once.new.pass)) c.in-Err-NoMemory.field-0-is c.in-Err-NoMemory.ensures.answer)
 
 pub loop-preserved : goal.loop-preserved
-loop-preserved g c = (tt, tt, c.save_once.ensures.of, stays_again (view c.args.pass.now) (view c.loop.pass) (view c.save_once.new.pass) c.loop.invariant.3
-    (subst (λ (k : Unmade). IsTried (view c.loop.pass) (Err k) (view c.save_once.new.pass)) c.in-Err-Raced.field-0-is c.in-Err-Raced.ensures.answer))
+loop-preserved g c = (
+  tt,
+  tt,
+  c.save_once.ensures.of,
+  stays_again (view c.args.pass.now) (view c.loop.pass) (view c.save_once.new.pass) c.loop.invariant.3
+      (subst (λ (k : Unmade). IsTried (view c.loop.pass) (Err k) (view c.save_once.new.pass)) c.in-Err-Raced.field-0-is c.in-Err-Raced.ensures.answer),
+)
