@@ -42,7 +42,8 @@ starts_layout None bases base u is = ap (λ (x : Plain). x.layout) is
 starts_layout (Some values) bases base u is = is.layout_is
 
 pub first_layout : (d : Desc) (u : Plain) → IsFirstState d u → u.layout ≡ layout_of d
-first_layout d u first = starts_layout d.restore (restored_bases d) first.base u first.starts ∙ subst (λ (r : Result Plain DescFault). IfOk r (HasLayoutOf d)) first.made_is (made_layout d)
+first_layout d u first = starts_layout d.restore (restored_bases d) first.base u first.starts ∙ subst
+    (λ (r : Result Plain DescFault). IfOk r (HasLayoutOf d)) first.made_is (made_layout d)
 
 -- ---- machines
 

@@ -14,7 +14,8 @@ pub returns : goal.returns
 returns c =
     let d = c.in_ok-desc.desc in
     let e = c.in_ok-machine.ensures in
-    let layout : c.into_parts.result.layout ≡ layout_of d = ap (λ (u : Plain). u.layout) c.into_parts.ensures.state ∙ first_layout d c.in_ok-made.made c.in_ok-made.ensures in
+    let layout : c.into_parts.result.layout ≡ layout_of d = ap (λ (u : Plain). u.layout) c.into_parts.ensures.state ∙ first_layout d c.in_ok-made.made
+    c.in_ok-made.ensures in
     record {
       of = e.of;
       layout = fresh_layout c.in_ok-machine.machine d c.into_parts.result layout e.setup e.desc;
