@@ -67,7 +67,8 @@ module _ (s : Setup) (n : ℕ) (rs : List (Option InHand)) (are : AreFirstOf s n
   pub firsts_at : (v : ℕ) → v < n → slice_get (firsts n rs) v ≡ Some (redistributor_or (in_hand rs v))
   firsts_at v lt = let a = are.first v lt in here n v rs a.0 lt a.1 ∙ ap (λ (o : Option InHand). Some (redistributor_or o)) (sym a.1)
 
-  pub firsts_are : (all : List Redistributor) → length all ≡ n → ((v : ℕ) → v < n → slice_get all v ≡ Some (redistributor_or (in_hand rs v))) → firsts n rs ≡ all
+  pub firsts_are : (all : List Redistributor) → length all ≡ n → ((v : ℕ) → v < n → slice_get all v ≡ Some (redistributor_or (in_hand rs v)))
+      → firsts n rs ≡ all
   firsts_are all many each = same_lists (firsts n rs) all (firsts_length ∙ sym many) (λ i x is.
       let within = slice_get_within (firsts n rs) i x is in
       let lt : i < n = omega (arith, within, firsts_length) in
@@ -83,14 +84,16 @@ module _ (s : Setup) (x : Whole) (are : AreFirstOf s (vcpu_count s) x.redists) w
   n = vcpu_count s
 
   -- what is held is right in a state, so it is that state's
-  pub state_is : translator_count s ≡ 1 → (word : Word) (u : Plain) → IsOfMachine s u → AllByRecursion (IsRight s word u) (held_whole n x) → state_of_parts (parts_of s.start.layout x) ≡ u
+  pub state_is : translator_count s ≡ 1 → (word : Word) (u : Plain) → IsOfMachine s u → AllByRecursion (IsRight s word u) (held_whole n x)
+      → state_of_parts (parts_of s.start.layout x) ≡ u
   state_is one word u m right =
       let t : Translator = translator_of x.tables.value in
       let base = out_rest (IsRight s word u) x.redists n (memory_held x.tables.value x.memory.value.memory) right in
       let memory : x.memory.value.memory ≡ u.memory = sym base.0 in
       let translators : t ∷ [] ≡ u.translators = one_is u.translators t (sym m.translators ∙ one) base.1.0 in
       let many : length u.redistributors ≡ n = m.sound.vcpus ∙ ap (λ (l : Layout). l.shape.vcpus) (sym m.layout) in
-      let redists : firsts n x.redists ≡ u.redistributors = firsts_are s n x.redists are u.redistributors many (λ v lt. out_each (IsRight s word u) x.redists n (memory_held x.tables.value x.memory.value.memory) right v lt) in
+      let redists : firsts n x.redists ≡ u.redistributors = firsts_are s n x.redists are u.redistributors many
+      (λ v lt. out_each (IsRight s word u) x.redists n (memory_held x.tables.value x.memory.value.memory) right v lt) in
       let layout = m.layout in
       λ d. record { layout = layout d; translators = translators d; redistributors = redists d; memory = memory d }
 
@@ -104,7 +107,8 @@ module _ (s : Setup) (x : Whole) (are : AreFirstOf s (vcpu_count s) x.redists) w
   redists_are zero rest le = refl
   redists_are (suc k) rest le =
       let u : Plain = state_of_parts (parts_of s.start.layout x) in
-      let same : redistributor u k ≡ redistributor_or (in_hand x.redists k) = got_at u.redistributors k no_redistributor (redistributor_or (in_hand x.redists k)) (firsts_at s n x.redists are k (omega (arith, le))) in
+      let same : redistributor u k ≡ redistributor_or (in_hand x.redists k) = got_at u.redistributors k no_redistributor
+      (redistributor_or (in_hand x.redists k)) (firsts_at s n x.redists are k (omega (arith, le))) in
       let others = redists_are k rest (omega (arith, le)) in
       λ d. out (part.Redist (record { 0 = k })) (Redist (sym same d)) ∷ others d
 

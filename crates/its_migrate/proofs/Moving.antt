@@ -41,7 +41,8 @@ module _ (s : Setup) (v w : View) (x : Whole) (taken : HasTaken s v x w) (l : La
   moved_are p r e are = subst (λ (u : Plain). AreMoved u r) (ap (λ (q : Parts). state_of_parts q) e ∙ taken_state) are
 
   -- the parts that were moved have the same layout
-  pub taken_layout : (p : Parts) (r : Result Parts SaveError) → p ≡ parts_of l x → AreMoved (state_of_parts p) r → IfOk r (λ (q : Parts). q.layout ≡ s.start.layout)
+  pub taken_layout : (p : Parts) (r : Result Parts SaveError) → p ≡ parts_of l x → AreMoved (state_of_parts p) r
+      → IfOk r (λ (q : Parts). q.layout ≡ s.start.layout)
   taken_layout p (Ok q) e are =
       let moved_to = moved_are p (Ok q) e are in
       ap (λ (u : Plain). u.layout) moved_to.1.state ∙ (moved_layout (after s.start w.seen) ∙ sym taken.machine.layout)
@@ -49,7 +50,8 @@ module _ (s : Setup) (v w : View) (x : Whole) (taken : HasTaken s v x w) (l : La
 
 -- ---- the new machine
 
-module _ (m n : Machine) (r q : Pass) (p : Parts) (layout : HasItsLayout m) (own : p.layout ≡ (setup m).start.layout) (are : AreMoved (resting m r) (Ok p)) (of : IsOf n q) (made : setup n ≡ setup_from m.desc p) (desc : n.desc ≡ kept_of m.desc)
+module _ (m n : Machine) (r q : Pass) (p : Parts) (layout : HasItsLayout m) (own : p.layout ≡ (setup m).start.layout) (are : AreMoved (resting m r) (Ok p))
+    (of : IsOf n q) (made : setup n ≡ setup_from m.desc p) (desc : n.desc ≡ kept_of m.desc)
     (fresh : view q ≡ first_view (setup n)) where
   same_desc : n.desc ≡ m.desc
   same_desc = desc ∙ (ap (λ (d : Desc). kept_of d) m.described ∙ sym m.described)

@@ -19,7 +19,8 @@ lpis_in = map (λ i. i.0)
 abbrev pub pending_in : Redistributor → List ℕ
 pending_in r = r.pending
 
-pub one_more_list : (xs : List (List Intid)) (x : List Intid) (rs : List Redistributor) (n : ℕ) → n < length rs → map lpis_in xs ≡ map pending_in (take n rs) → lpis_in x ≡ (get_or rs n no_redistributor).pending
+pub one_more_list : (xs : List (List Intid)) (x : List Intid) (rs : List Redistributor) (n : ℕ) → n < length rs → map lpis_in xs ≡ map pending_in (take n rs)
+    → lpis_in x ≡ (get_or rs n no_redistributor).pending
     → map lpis_in (xs ++ x ∷ []) ≡ map pending_in (take (n + 1) rs)
 one_more_list xs x rs n lt before here =
     map-append lpis_in xs (x ∷ []) ∙ ((λ d. before d ++ here d ∷ []) ∙ (sym (map-append pending_in (take n rs) (get_or rs n no_redistributor ∷ [])) ∙ ap (λ (qs : List Redistributor). map pending_in qs) (sym (take_more rs n no_redistributor lt))))
@@ -32,7 +33,10 @@ all_lists rs n e = ap (λ (k : ℕ). map pending_in (take k rs)) e ∙ ap (λ (q
 pub rests_looked : (v w : View) (z : Word) → IsLone v → Looks v z w → Rests v w
 rests_looked v w z alone looks =
     let seen = looks.still alone in
-    record { same = subst (λ (y : View). y ≡ record v { last = y.last; cache = y.cache; tries = y.tries }) (sym (looks.same ∙ (λ d. record v { last = z; seen = seen d }))) refl }
+    record {
+      same = subst (λ (y : View). y ≡ record v { last = y.last; cache = y.cache; tries = y.tries })
+          (sym (looks.same ∙ (λ d. record v { last = z; seen = seen d }))) refl;
+    }
 
 -- there are as many redistributors as processors
 pub as_many_rest : (s : Setup) (v w : View) (z : Word) → v.setup ≡ s → IsLone v → Looks v z w → length (after s.start v.seen).redistributors ≡ vcpu_count s

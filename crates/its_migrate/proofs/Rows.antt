@@ -36,7 +36,8 @@ pub out_before : (rs : List (Option InHand)) (n m : ℕ) (rest : List Held) → 
 out_before rs n m rest e = ap (λ (h : List Held). held_before h) (out_next rs n m rest e)
 
 -- only those below n count
-pub out_same : (rs qs : List (Option InHand)) (n : ℕ) (rest : List Held) → ((v : ℕ) → v < n → in_hand rs v ≡ in_hand qs v) → redists_out rs n rest ≡ redists_out qs n rest
+pub out_same : (rs qs : List (Option InHand)) (n : ℕ) (rest : List Held) → ((v : ℕ) → v < n → in_hand rs v ≡ in_hand qs v)
+    → redists_out rs n rest ≡ redists_out qs n rest
 unfolding redists_out
 out_same rs qs zero rest same = refl
 out_same rs qs (suc n) rest same =
@@ -44,25 +45,29 @@ out_same rs qs (suc n) rest same =
     λ d. one_out n (here d) (others d)
 
 -- one more is placed
-pub out_placed : (rs : List (Option InHand)) (n : ℕ) (r : InHand) (rest : List Held) → n < length rs → redists_out (set rs n (Some r)) (n + 1) rest ≡ one_out n (Some r) (redists_out rs n rest)
+pub out_placed : (rs : List (Option InHand)) (n : ℕ) (r : InHand) (rest : List Held) → n < length rs
+    → redists_out (set rs n (Some r)) (n + 1) rest ≡ one_out n (Some r) (redists_out rs n rest)
 out_placed rs n r rest inside =
     let here : in_hand (set rs n (Some r)) n ≡ Some r = get_or-set_same rs n (Some r) None inside in
     let others = out_same (set rs n (Some r)) rs n rest (λ v lt. get_or-set_other rs n v (Some r) None (λ e. absurd (omega (arith, e, lt)))) in
     out_next (set rs n (Some r)) n (n + 1) rest refl ∙ (λ d. one_out n (here d) (others d))
 
 -- one that wasn't got isn't held
-pub out_lacks : (rs : List (Option InHand)) (n : ℕ) (rest : List Held) → HoldsNoRedist rest → (v : Vcpu) → n ≤ v.0 → ¬ Holds (part.Redist v) (redists_out rs n rest)
+pub out_lacks : (rs : List (Option InHand)) (n : ℕ) (rest : List Held) → HoldsNoRedist rest → (v : Vcpu) → n ≤ v.0
+    → ¬ Holds (part.Redist v) (redists_out rs n rest)
 unfolding redists_out
 out_lacks rs zero rest none v past h = none v h
 out_lacks rs (suc n) rest none v past h =
-    ⊎_elim (λ (e : part.Redist (record { 0 = n }) ≡ part.Redist v). let same : n ≡ v.0 = ap number e in absurd (omega (arith, same, past))) (λ (t : Holds (part.Redist v) (redists_out rs n rest)). out_lacks rs n rest none v (omega (arith, past)) t) h
+    ⊎_elim (λ (e : part.Redist (record { 0 = n }) ≡ part.Redist v). let same : n ≡ v.0 = ap number e in absurd (omega (arith, same, past)))
+    (λ (t : Holds (part.Redist v) (redists_out rs n rest)). out_lacks rs n rest none v (omega (arith, past)) t) h
   where
     number : Part → ℕ
     number (part.Redist w) = w.0
     number p = 0
 
 -- what holds of all holds of each, and of those behind
-pub out_each : (P : Held → Type 0) (rs : List (Option InHand)) (n : ℕ) (rest : List Held) → AllByRecursion P (redists_out rs n rest) → (v : ℕ) → v < n → P (out (part.Redist (record { 0 = v })) (Redist (redistributor_or (in_hand rs v))))
+pub out_each : (P : Held → Type 0) (rs : List (Option InHand)) (n : ℕ) (rest : List Held) → AllByRecursion P (redists_out rs n rest) → (v : ℕ) → v < n
+    → P (out (part.Redist (record { 0 = v })) (Redist (redistributor_or (in_hand rs v))))
 unfolding redists_out
 out_each P rs zero rest all v lt = absurd (omega (arith, lt))
 out_each P rs (suc n) rest all v lt =
@@ -84,10 +89,12 @@ nothing_at (suc n) (suc k) = nothing_at n k
 pub first_none : (s : Setup) (rs : List (Option InHand)) → rs ≡ replicate 16 None → AreFirstOf s 0 rs
 first_none s rs e = record { first = λ v lt. absurd (omega (arith, lt)); others = λ v le. ap (λ (qs : List (Option InHand)). in_hand qs v) e ∙ nothing_at 16 v }
 
-pub first_more : (s : Setup) (n : ℕ) (rs : List (Option InHand)) (r : InHand) → AreFirstOf s n rs → n < length rs → HasLpisOf s.start.layout.shape r → AreFirstOf s (n + 1) (set rs n (Some r))
+pub first_more : (s : Setup) (n : ℕ) (rs : List (Option InHand)) (r : InHand) → AreFirstOf s n rs → n < length rs → HasLpisOf s.start.layout.shape r
+    → AreFirstOf s (n + 1) (set rs n (Some r))
 first_more s n rs r are inside lpis = record {
   first = λ v lt. dite (ℕ_discrete v n)
-      (λ e. subst (λ (k : ℕ). (x : InHand) × (in_hand (set rs n (Some r)) k ≡ Some x) × HasLpisOf s.start.layout.shape x) (sym e) (r, get_or-set_same rs n (Some r) None inside, lpis))
+      (λ e. subst (λ (k : ℕ). (x : InHand) × (in_hand (set rs n (Some r)) k ≡ Some x) × HasLpisOf s.start.layout.shape x) (sym e)
+      (r, get_or-set_same rs n (Some r) None inside, lpis))
       (λ ne. let a = are.first v (omega (arith, lt, ne)) in (a.0, get_or-set_other rs n v (Some r) None ne ∙ a.1, a.2));
   others = λ v le. get_or-set_other rs n v (Some r) None (λ e. absurd (omega (arith, e, le))) ∙ are.others v (omega (arith, le));
 }

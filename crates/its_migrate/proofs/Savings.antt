@@ -40,7 +40,8 @@ saved_is : (u : Plain) (r : Answer) → record u { memory = (save_left u r).memo
 saved_is u (Ok done) = refl
 saved_is u (Err fault) = refl
 
-saved_so : (u x y : Plain) (r : Answer) (memory : List Window) → x ≡ u → y ≡ u → r ≡ savable y → memory ≡ (save_left y r).memory → record x { memory = memory } ≡ save_left u (savable u)
+saved_so : (u x y : Plain) (r : Answer) (memory : List Window) → x ≡ u → y ≡ u → r ≡ savable y → memory ≡ (save_left y r).memory
+    → record x { memory = memory } ≡ save_left u (savable u)
 saved_so u x y r memory ex ey er em =
     let r_is : r ≡ savable u = er ∙ ap (λ (z : Plain). savable z) ey in
     let m_is : memory ≡ (save_left u (savable u)).memory = em ∙ (λ d. (save_left (ey d) (r_is d)).memory) in
@@ -67,23 +68,32 @@ module _ (s : Setup) (v w : View) (x : Whole) (taken : HasTaken s v x w) (l : La
     left_held = whole_held (save_left u (savable u))
 
     leaves : (z : Word) → z.place < s.limits.place_last → MayLeave s (staying z call.Save (save_reply r) Keep) (whole_held u) left_held
-    leaves z room = subst (λ (q : Answer). MayLeave s (staying z call.Save (save_reply q) Keep) (whole_held u) left_held) (sym answer_is) (saves s z u taken.machine room)
+    leaves z room = subst (λ (q : Answer). MayLeave s (staying z call.Save (save_reply q) Keep) (whole_held u) left_held) (sym answer_is)
+        (saves s z u taken.machine room)
 
     pub save_may : (z : Word) → z.place < s.limits.place_last → MayCall s (staying z call.Save (save_reply r) Keep) w.held
     save_may = may_here s call.Save (save_reply r) Keep (whole_held u) (λ _. left_held) leaves w holds_all
 
     -- with the copy in place of memory all that is owed is in hand
-    pub save_owes : w.setup ≡ s → (z : Word) (y : View) (memory : List Window) (after_it : Whole) → after_it.redists ≡ x.redists → state_of_parts (parts_of s.start.layout after_it) ≡ record (state_of_parts (parts_of s.start.layout x)) { memory = memory }
-        → memory ≡ (save_left (state_of_parts (parts_of l x)) r).memory → Makes w (staying z call.Save (save_reply r) Keep) y → y.held ≡ held_whole (vcpu_count s) after_it
+    pub save_owes : w.setup ≡ s → (z : Word) (y : View) (memory : List Window) (after_it : Whole) → after_it.redists ≡ x.redists
+        → state_of_parts (parts_of s.start.layout after_it) ≡ record (state_of_parts (parts_of s.start.layout x)) { memory = memory }
+        → memory ≡ (save_left (state_of_parts (parts_of l x)) r).memory → Makes w (staying z call.Save (save_reply r) Keep) y
+        → y.held ≡ held_whole (vcpu_count s) after_it
     save_owes own z y memory after_it hands state is made =
         owes_here s call.Save (save_reply r) Keep (whole_held u) (λ _. left_held) leaves w holds_all own z y made
-        ∙ (ap (λ (q : Plain). whole_held q) (sym (state ∙ saved_so u (state_of_parts (parts_of s.start.layout x)) (state_of_parts (parts_of l x)) r memory taken.state (taken_state s v w x taken l same) answered is))
+        ∙ (ap (λ (q : Plain). whole_held q)
+        (sym (state ∙ saved_so u (state_of_parts (parts_of s.start.layout x)) (state_of_parts (parts_of l x)) r memory taken.state (taken_state s v w x taken l same) answered is))
         ∙ sym (held_is s after_it (subst (λ (rs : List (Option Redist)). AreFirstOf s (vcpu_count s) rs) (sym hands) taken.hand)))
 
   -- ---- what the pass knows
 
   goes_taken : GoesOn v w.tries w
-  goes_taken = record { same = taken.same ∙ ap (λ (h : List Held). record v { seen = w.seen; last = w.last; held = h; cache = w.cache; tries = w.tries }) (sym (ap (λ (y : View). y.held) taken.same)); longer = taken.longer; tries = refl }
+  goes_taken = record {
+    same = taken.same ∙ ap (λ (h : List Held). record v { seen = w.seen; last = w.last; held = h; cache = w.cache; tries = w.tries })
+        (sym (ap (λ (y : View). y.held) taken.same));
+    longer = taken.longer;
+    tries = refl;
+  }
 
   module _ (y z : View) (home : z ≡ record y { held = [] }) (bare : v.held ≡ []) where
     home_held : z.held ≡ v.held
@@ -98,7 +108,11 @@ module _ (s : Setup) (v w : View) (x : Whole) (taken : HasTaken s v x w) (l : La
     looked_stays n looks = stays_from v z w.tries (goes_emptied v y w.tries (goes_looked v w w.tries goes_taken y n looks) z home) home_held
 
     pub save_lost : (k : Lost) → IsLost w k y → IsTried v (Err (unmade_by k)) z
-    save_lost lost.Spent spent = (looked_stays y.last spent.0, ap (λ (q : View). length q.seen) home ∙ (spent.0.place ∙ (spent.1 ∙ ap (λ (q : View). q.setup.limits.place_last) taken.same)))
+    save_lost lost.Spent spent = (
+      looked_stays y.last spent.0,
+      ap (λ (q : View). length q.seen)
+          home ∙ (spent.0.place ∙ (spent.1 ∙ ap (λ (q : View). q.setup.limits.place_last) taken.same)),
+    )
     save_lost (lost.Raced r) raced = looked_stays r.found raced.0
 
   pub none_saved : (z : View) → z ≡ record w { held = [] } → v.held ≡ [] → Stays v z

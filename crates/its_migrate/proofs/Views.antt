@@ -30,7 +30,8 @@ use Rattle.its_migrate.proofs.Rows.{out_none, out_placed}
 module _ (v waited w : View) (p : Part) (lost : IsSameButLost v waited) where
   got_waited : (c : Content) → w ≡ took waited p c → Gets v p c w
   got_waited c e = record {
-    same = subst (λ (z : View). z ≡ record v { held = out p c ∷ v.held; cache = z.cache; tries = z.tries }) (sym (e ∙ ap (λ (y : View). took y p c) lost.same)) refl;
+    same = subst (λ (z : View). z ≡ record v { held = out p c ∷ v.held; cache = z.cache; tries = z.tries })
+        (sym (e ∙ ap (λ (y : View). took y p c) lost.same)) refl;
   }
 
   same_setup : waited.setup ≡ v.setup
@@ -63,12 +64,14 @@ module _ (v w : View) (held : List Held) (h : Holding v held w) where
 pub holds_first : (v : View) (rs : List (Option InHand)) → Holding v (redists_out rs 0 v.held) v
 holds_first v rs = record { same = λ d. record v { held = sym (out_none rs v.held) d } }
 
-pub holds_more : (v w x : View) (rs : List (Option InHand)) (n : ℕ) (r : InHand) → n < length rs → Holding v (redists_out rs n v.held) w → Gets w (part.Redist (record { 0 = n })) (Redist (redistributor_of r)) x
+pub holds_more : (v w x : View) (rs : List (Option InHand)) (n : ℕ) (r : InHand) → n < length rs → Holding v (redists_out rs n v.held) w
+    → Gets w (part.Redist (record { 0 = n })) (Redist (redistributor_of r)) x
     → Holding v (redists_out (set rs n (Some r)) (n + 1) v.held) x
 holds_more v w x rs n r inside h gets =
     let p : Part = part.Redist (record { 0 = n }) in
     let c : Content = Redist (redistributor_of r) in
-    let held : out p c ∷ w.held ≡ redists_out (set rs n (Some r)) (n + 1) v.held = ap (λ (l : List Held). out p c ∷ l) (holds_so v w (redists_out rs n v.held) h) ∙ sym (out_placed rs n r v.held inside) in
+    let held : out p c ∷ w.held ≡ redists_out (set rs n (Some r)) (n + 1) v.held = ap (λ (l : List Held). out p c ∷ l)
+    (holds_so v w (redists_out rs n v.held) h) ∙ sym (out_placed rs n r v.held inside) in
     subst (λ (l : List Held). Holding v l x) held (holds_next v w (redists_out rs n v.held) h (out p c ∷ w.held) x gets)
 
 -- ---- what isn't held
@@ -80,7 +83,9 @@ pub maps_free : (c : Content) (held : List Held) → held ≡ out (part.Maps 0) 
 maps_free c held e = subst (λ (h : List Held). ¬ Holds part.Mem h) (sym e) (λ t. ⊎_elim (λ (q : part.Maps 0 ≡ part.Mem). cc) (λ (q : ⊥). q) t)
 
 pub both_free : (c d : Content) (held : List Held) → held ≡ out part.Mem d ∷ out (part.Maps 0) c ∷ [] → HoldsNoRedist held
-both_free c d held e = subst HoldsNoRedist (sym e) (λ vcpu t. ⊎_elim (λ (q : part.Mem ≡ part.Redist vcpu). cc) (λ (r : (part.Maps 0 ≡ part.Redist vcpu) ⊎ ⊥). ⊎_elim (λ (q : part.Maps 0 ≡ part.Redist vcpu). cc) (λ (q : ⊥). q) r) t)
+both_free c d held e = subst HoldsNoRedist (sym e)
+    (λ vcpu t. ⊎_elim (λ (q : part.Mem ≡ part.Redist vcpu). cc)
+    (λ (r : (part.Maps 0 ≡ part.Redist vcpu) ⊎ ⊥). ⊎_elim (λ (q : part.Maps 0 ≡ part.Redist vcpu). cc) (λ (q : ⊥). q) r) t)
 
 -- ---- all are taken, and then the word is read
 
@@ -98,7 +103,8 @@ module _ (s : Setup) (v w y : View) (x : Whole) (word : Word) (own : v.setup ≡
   has_taken one are =
       let machine : IsOfMachine s (after s.start y.seen) = subst (λ (z : Setup). IsOfMachine z (after z.start y.seen)) here looks.machine in
       let right : AllByRecursion (IsRight s word (after s.start y.seen)) hw =
-      subst (λ (l : List Held). AllByRecursion (IsRight s word (after s.start y.seen)) l) (ap (λ (z : View). z.held) h.same) (subst (λ (z : Setup). AllByRecursion (IsRight z word (after z.start y.seen)) w.held) here looks.right) in
+      subst (λ (l : List Held). AllByRecursion (IsRight s word (after s.start y.seen)) l) (ap (λ (z : View). z.held) h.same)
+      (subst (λ (z : Setup). AllByRecursion (IsRight z word (after z.start y.seen)) w.held) here looks.right) in
       record {
         same = subst (λ (z : View). z ≡ record v { seen = z.seen; last = z.last; held = hw; cache = z.cache; tries = z.tries }) (sym looked) refl;
         longer = subst (λ (l : List Entry). IsPrefix l y.seen) (ap (λ (z : View). z.seen) h.same) looks.longer;
@@ -114,5 +120,6 @@ module _ (v w z : View) (x : Whole) (s : Setup) (taken : HasTaken s v x w) (home
   pub rests_again : Rests v z
   rests_again =
       let seen = taken.still alone in
-      let back : z ≡ record v { last = w.last; cache = w.cache; tries = w.tries } = home ∙ (ap (λ (y : View). record y { held = [] }) taken.same ∙ (λ d. record v { seen = seen d; last = w.last; held = sym bare d; cache = w.cache; tries = w.tries })) in
+      let back : z ≡ record v { last = w.last; cache = w.cache; tries = w.tries } = home ∙ (ap (λ (y : View). record y { held = [] })
+      taken.same ∙ (λ d. record v { seen = seen d; last = w.last; held = sym bare d; cache = w.cache; tries = w.tries })) in
       record { same = subst (λ (y : View). y ≡ record v { last = y.last; cache = y.cache; tries = y.tries }) (sym back) refl }

@@ -69,7 +69,8 @@ pub fn get_maps<T: Turns>(how: &T, machine: &Machine, pass: &mut Pass) -> Box<Ta
     requires free { ¬ Holds (part.Maps 0) (view pass.old).held }
     requires allowed { T.allowed (view pass.old) }
     ensures of { IsOf machine.now pass.new }
-    ensures gets { Gets (view pass.old) (part.Maps 0) (content.Maps (translator_of result.value)) (view pass.new) }
+    ensures gets { Gets (view pass.old) (part.Maps 0) (content.Maps (translator_of result.value))
+        (view pass.new) }
     ensures allowed { T.allowed (view pass.new) }
 {
     match how.turn(machine, pass, Part::Maps(0)) {
@@ -94,18 +95,14 @@ pub fn get_memory<T: Turns>(how: &T, machine: &Machine, pass: &mut Pass) -> Box<
 }
 
 /// Takes a redistributor out.
-pub fn get_redist<T: Turns>(
-    how: &T,
-    machine: &Machine,
-    pass: &mut Pass,
-    vcpu: Vcpu,
-) -> Box<Redist>
+pub fn get_redist<T: Turns>(how: &T, machine: &Machine, pass: &mut Pass, vcpu: Vcpu) -> Box<Redist>
     requires of { IsOf machine.now pass.old }
     requires stands { vcpu.0 < vcpu_count (setup machine.now) }
     requires free { ¬ Holds (part.Redist vcpu) (view pass.old).held }
     requires allowed { T.allowed (view pass.old) }
     ensures of { IsOf machine.now pass.new }
-    ensures gets { Gets (view pass.old) (part.Redist vcpu) (content.Redist (redistributor_of result.value)) (view pass.new) }
+    ensures gets { Gets (view pass.old) (part.Redist vcpu) (content.Redist (redistributor_of
+        result.value)) (view pass.new) }
     ensures lpis { HasLpisOf (setup machine.now).start.layout.shape result.value }
     ensures allowed { T.allowed (view pass.new) }
 {

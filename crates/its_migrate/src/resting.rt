@@ -26,7 +26,8 @@ pub fn pending(
     requires free { (view root.old).held ≡ [] }
     ensures of { IsOf machine.now root.new }
     ensures rests { Rests (view root.old) (view root.new) }
-    ensures lists { IfOk result (λ lists. map (map (λ i. i.0)) lists ≡ pending_at_rest (resting machine.now root.old)) }
+    ensures lists { IfOk result (λ lists. map (map (λ i. i.0)) lists ≡ pending_at_rest (resting
+        machine.now root.old)) }
 {
     let mut lists = Listed::new(alloc);
     look(machine, root);
@@ -49,7 +50,8 @@ fn pending_at(
     requires vcpu { vcpu.0 < vcpu_count (setup machine.now) }
     ensures of { IsOf machine.now root.new }
     ensures rests { Rests (view root.old) (view root.new) }
-    ensures lpis { IfOk result (λ lpis. map (λ i. i.0) lpis ≡ pending_of (resting machine.now root.old) vcpu.0) }
+    ensures lpis { IfOk result (λ lpis. map (λ i. i.0) lpis ≡ pending_of (resting machine.now
+        root.old) vcpu.0) }
 {
     let redist = get_redist(&AtRest, machine, root, vcpu);
     look(machine, root);

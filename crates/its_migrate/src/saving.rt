@@ -124,8 +124,10 @@ fn saved_copy(
 ) -> Result<(Result<(), SaveFault>, Memory), AllocError>
     requires hand { AreAllInHand layout.now.shape whole.now.redists }
     requires sound { IsSound (state_of_parts (parts_of layout.now whole.now)) }
-    ensures reply { IfOk result (λ x. x.0 ≡ regions.savable (state_of_parts (parts_of layout.now whole.now))) }
-    ensures memory { IfOk result (λ x. x.1 ≡ (save_left (state_of_parts (parts_of layout.now whole.now)) x.0).memory) }
+    ensures reply { IfOk result (λ x. x.0 ≡ regions.savable (state_of_parts (parts_of layout.now
+        whole.now))) }
+    ensures memory { IfOk result (λ x. x.1 ≡ (save_left (state_of_parts (parts_of layout.now
+        whole.now)) x.0).memory) }
 {
     let mut copy = whole.memory.memory.copy(alloc)?;
     match table_save::save(

@@ -42,12 +42,7 @@ impl Whole {
 
 /// Takes all of them out: the maps, memory, and the redistributors, lowest first. The pass held
 /// nothing. Then it loads the word, so that it has seen the history that they stand for.
-pub fn take_all<T: Turns, G: Gate>(
-    how: &T,
-    machine: &Machine,
-    pass: &mut Pass,
-    gate: &G,
-) -> Whole
+pub fn take_all<T: Turns, G: Gate>(how: &T, machine: &Machine, pass: &mut Pass, gate: &G) -> Whole
     requires of { IsOf machine.now pass.old }
     requires free { (view pass.old).held ≡ [] }
     requires allowed { T.allowed (view pass.old) }
@@ -73,7 +68,8 @@ fn get_redists<T: Turns>(how: &T, machine: &Machine, pass: &mut Pass, redists: &
     requires allowed { T.allowed (view pass.old) }
     requires empty { redists.old ≡ replicate 16 None }
     ensures of { IsOf machine.now pass.new }
-    ensures gets { Holding (view pass.old) (redists_out redists.new (vcpu_count (setup machine.now)) (view pass.old).held) (view pass.new) }
+    ensures gets { Holding (view pass.old) (redists_out redists.new (vcpu_count (setup
+        machine.now)) (view pass.old).held) (view pass.new) }
     ensures hand { AreFirstOf (setup machine.now) (vcpu_count (setup machine.now)) redists.new }
 {
     for vcpu in 0..machine.vcpus() {
@@ -102,10 +98,12 @@ pub fn put_all(machine: &Machine, pass: &mut Pass, whole: Whole)
 
 fn put_redists(machine: &Machine, pass: &mut Pass, redists: &mut Redists)
     requires of { IsOf machine.now pass.old }
-    requires held { (rest : List Held) × ((view pass.old).held ≡ redists_out redists.old (vcpu_count (setup machine.now)) rest) }
+    requires held { (rest : List Held) × ((view pass.old).held ≡ redists_out redists.old
+        (vcpu_count (setup machine.now)) rest) }
     requires hand { AreFirstOf (setup machine.now) (vcpu_count (setup machine.now)) redists.old }
     ensures of { IsOf machine.now pass.new }
-    ensures home { (rest : List Held) → (view pass.old).held ≡ redists_out redists.old (vcpu_count (setup machine.now)) rest →
+    ensures home { (rest : List Held) → (view pass.old).held ≡ redists_out redists.old (vcpu_count
+        (setup machine.now)) rest →
         view pass.new ≡ record (view pass.old) { held = rest } }
 {
     let count = machine.vcpus();

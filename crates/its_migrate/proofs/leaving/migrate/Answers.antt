@@ -12,4 +12,5 @@ pub returns-in-Ok-new : goal.returns-in-Ok-new
 returns-in-Ok-new c =
     let e = c.in-Ok-new.ensures in
     let same = c.desc.ensures.desc in
-    went_on c.args.machine c.in-Ok-new.new.0 c.args.root c.in-Ok-new.new.1 c.in-Ok.parts c.requires.layout c.in-Ok.ensures.layout c.in-Ok.ensures.moved e.of (e.setup ∙ ap (λ (d : Desc). setup_from d c.in-Ok.parts) same) (e.desc ∙ ap (λ (d : Desc). kept_of d) same) e.view
+    went_on c.args.machine c.in-Ok-new.new.0 c.args.root c.in-Ok-new.new.1 c.in-Ok.parts c.requires.layout c.in-Ok.ensures.layout c.in-Ok.ensures.moved e.of
+    (e.setup ∙ ap (λ (d : Desc). setup_from d c.in-Ok.parts) same) (e.desc ∙ ap (λ (d : Desc). kept_of d) same) e.view

@@ -11,10 +11,13 @@ pub moved-moved-requires : goal.moved-moved-requires
 moved-moved-requires c =
     let m = c.args.machine.now in
     let same = c.in_ok-layout.ensures ∙ (ap (λ (d : Desc). layout_of d) c.desc.ensures.desc ∙ c.requires.layout) in
-    subst IsMachine (sym c.in_place.ensures) (taken_machine (setup m) (view c.args.root.now) (view c.take_all-whole.new.pass) c.take_all-whole.result c.take_all-whole.ensures.taken c.in_ok-layout.layout same)
+    subst IsMachine (sym c.in_place.ensures)
+    (taken_machine (setup m) (view c.args.root.now) (view c.take_all-whole.new.pass) c.take_all-whole.result c.take_all-whole.ensures.taken
+    c.in_ok-layout.layout same)
 
 pub returns-clause-layout : goal.returns-clause-layout
 returns-clause-layout c =
     let m = c.args.machine.now in
     let same = c.in_ok-layout.ensures ∙ (ap (λ (d : Desc). layout_of d) c.desc.ensures.desc ∙ c.requires.layout) in
-    taken_layout (setup m) (view c.args.root.now) (view c.take_all-whole.new.pass) c.take_all-whole.result c.take_all-whole.ensures.taken c.in_ok-layout.layout same (parts_in c.in_place.result) c.moved-moved.result c.in_place.ensures c.moved-moved.ensures
+    taken_layout (setup m) (view c.args.root.now) (view c.take_all-whole.new.pass) c.take_all-whole.result c.take_all-whole.ensures.taken
+    c.in_ok-layout.layout same (parts_in c.in_place.result) c.moved-moved.result c.in_place.ensures c.moved-moved.ensures

@@ -25,10 +25,12 @@ pub pending_at-requires-clause-free : goal.pending_at-requires-clause-free
 pending_at-requires-clause-free c = rests_free (view c.args.root.now) (view c.loop-vcpu.root) c.loop-vcpu.invariant.1 c.requires.free
 
 pub returns-in_err-lpis-clause-rests : goal.returns-in_err-lpis-clause-rests
-returns-in_err-lpis-clause-rests c = rests_more (view c.args.root.now) (view c.loop-vcpu.root) c.loop-vcpu.invariant.1 (view c.pending_at.new.root) c.pending_at.ensures.rests
+returns-in_err-lpis-clause-rests c = rests_more (view c.args.root.now) (view c.loop-vcpu.root) c.loop-vcpu.invariant.1 (view c.pending_at.new.root)
+    c.pending_at.ensures.rests
 
 pub returns-in_err-push-clause-rests : goal.returns-in_err-push-clause-rests
-returns-in_err-push-clause-rests c = rests_more (view c.args.root.now) (view c.loop-vcpu.root) c.loop-vcpu.invariant.1 (view c.pending_at.new.root) c.pending_at.ensures.rests
+returns-in_err-push-clause-rests c = rests_more (view c.args.root.now) (view c.loop-vcpu.root) c.loop-vcpu.invariant.1 (view c.pending_at.new.root)
+    c.pending_at.ensures.rests
 
 pub loop-vcpu-preserved : goal.loop-vcpu-preserved
 loop-vcpu-preserved c =
@@ -37,8 +39,10 @@ loop-vcpu-preserved c =
     let v = view c.args.root.now in
     let l = c.loop-vcpu in
     let u = resting m c.args.root.now in
-    let many : length u.redistributors ≡ vcpu_count s = as_many_rest s v (view c.look.new.pass) c.look.result c.requires.of.1 c.requires.lone c.look.ensures.looks in
-    let inside : l.vcpu < length u.redistributors = (let test = c.loop-vcpu-test.true in let count = c.vcpus-vcpu-end.ensures.vcpus in omega (arith, test, count, many)) in
+    let many : length u.redistributors ≡ vcpu_count s = as_many_rest s v (view c.look.new.pass) c.look.result c.requires.of.1 c.requires.lone
+    c.look.ensures.looks in
+    let inside : l.vcpu < length u.redistributors = (let test = c.loop-vcpu-test.true in let count = c.vcpus-vcpu-end.ensures.vcpus in omega
+    (arith, test, count, many)) in
     let here : lpis_in c.in_ok-lpis.lpis ≡ pending_of u l.vcpu =
     c.in_ok-lpis.ensures.lpis ∙ ap (λ (h : List Entry). pending_of (after s.start h) l.vcpu) (rests_seen v (view l.root) l.invariant.1)
     in (
@@ -60,5 +64,6 @@ returns-clause-lists c =
     let v = view c.args.root.now in
     let l = c.loop-vcpu in
     let u = resting m c.args.root.now in
-    let many : length u.redistributors ≡ vcpu_count s = as_many_rest s v (view c.look.new.pass) c.look.result c.requires.of.1 c.requires.lone c.look.ensures.looks in
+    let many : length u.redistributors ≡ vcpu_count s = as_many_rest s v (view c.look.new.pass) c.look.result c.requires.of.1 c.requires.lone
+    c.look.ensures.looks in
     l.invariant.2 ∙ all_lists u.redistributors l.vcpu (omega (arith, l.auto.vcpu-end, c.loop-vcpu-test.false, c.vcpus-vcpu-end.ensures.vcpus, many))

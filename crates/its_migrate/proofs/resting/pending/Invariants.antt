@@ -6,4 +6,5 @@ use Rattle.its_migrate.proofs.resting.pending.Given as goal
 
 abbrev pub invariant-loop-vcpu : goal.invariant-loop-vcpu
 invariant-loop-vcpu l =
-    IsOf l.machine l.root × Rests (view l.fn.root) (view l.root) × (map lpis_in l.lists ≡ map pending_in (take l.vcpu (resting l.machine l.fn.root).redistributors))
+    IsOf l.machine l.root × Rests (view l.fn.root)
+    (view l.root) × (map lpis_in l.lists ≡ map pending_in (take l.vcpu (resting l.machine l.fn.root).redistributors))

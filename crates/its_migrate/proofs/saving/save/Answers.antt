@@ -16,13 +16,21 @@ returns-in-Ok-clause-answer g c =
 
 pub returns-in-Err-Spent-clause-answer : goal.returns-in-Err-Spent-clause-answer
 returns-in-Err-Spent-clause-answer g c =
-    let e = subst (λ (k : Unmade). IsTried (view c.loop.pass) (Err k) (view c.save_once.new.pass)) c.in-Err-Spent.field-0-is c.in-Err-Spent.ensures.answer in
-    (stays_again (view c.args.pass.now) (view c.loop.pass) (view c.save_once.new.pass) c.loop.invariant.3 e.0, e.1 ∙ ap (λ (y : View). y.setup.limits.place_last) c.loop.invariant.3.same)
+    let e = subst (λ (k : Unmade). IsTried (view c.loop.pass) (Err k) (view c.save_once.new.pass)) c.in-Err-Spent.field-0-is c.in-Err-Spent.ensures.answer in (
+      stays_again (view c.args.pass.now) (view c.loop.pass) (view c.save_once.new.pass) c.loop.invariant.3 e.0,
+      e.1 ∙ ap
+          (λ (y : View). y.setup.limits.place_last) c.loop.invariant.3.same,
+    )
 
 pub returns-in-Err-NoMemory-clause-answer : goal.returns-in-Err-NoMemory-clause-answer
 returns-in-Err-NoMemory-clause-answer g c = stays_again (view c.args.pass.now) (view c.loop.pass) (view c.save_once.new.pass) c.loop.invariant.3
     (subst (λ (k : Unmade). IsTried (view c.loop.pass) (Err k) (view c.save_once.new.pass)) c.in-Err-NoMemory.field-0-is c.in-Err-NoMemory.ensures.answer)
 
 pub loop-preserved : goal.loop-preserved
-loop-preserved g c = (tt, tt, c.save_once.ensures.of, stays_again (view c.args.pass.now) (view c.loop.pass) (view c.save_once.new.pass) c.loop.invariant.3
-    (subst (λ (k : Unmade). IsTried (view c.loop.pass) (Err k) (view c.save_once.new.pass)) c.in-Err-Raced.field-0-is c.in-Err-Raced.ensures.answer))
+loop-preserved g c = (
+  tt,
+  tt,
+  c.save_once.ensures.of,
+  stays_again (view c.args.pass.now) (view c.loop.pass) (view c.save_once.new.pass) c.loop.invariant.3
+      (subst (λ (k : Unmade). IsTried (view c.loop.pass) (Err k) (view c.save_once.new.pass)) c.in-Err-Raced.field-0-is c.in-Err-Raced.ensures.answer),
+)

@@ -14,31 +14,38 @@ pub saved_copy-requires-clause-hand : goal.saved_copy-requires-clause-hand
 saved_copy-requires-clause-hand g c =
     let m = c.args.machine.now in
     let same = c.in_ok-layout.ensures ∙ (ap (λ (d : Desc). layout_of d) c.desc.ensures.desc ∙ c.requires.layout) in
-    taken_hand (setup m) (view c.args.pass.now) (view c.take_all-whole.new.pass) c.take_all-whole.result c.take_all-whole.ensures.taken c.in_ok-layout.layout same
+    taken_hand (setup m) (view c.args.pass.now) (view c.take_all-whole.new.pass) c.take_all-whole.result c.take_all-whole.ensures.taken c.in_ok-layout.layout
+    same
 
 pub try_commit-requires-clause-may : goal.try_commit-requires-clause-may
 try_commit-requires-clause-may g c =
     let m = c.args.machine.now in
     let same = c.in_ok-layout.ensures ∙ (ap (λ (d : Desc). layout_of d) c.desc.ensures.desc ∙ c.requires.layout) in
-    rw (c.reply_to.ensures) (save_may (setup m) (view c.args.pass.now) (view c.take_all-whole.new.pass) c.take_all-whole.result c.take_all-whole.ensures.taken c.in_ok-layout.layout same c.in-Ok.reply c.in-Ok.ensures.reply)
+    rw (c.reply_to.ensures) (save_may (setup m) (view c.args.pass.now) (view c.take_all-whole.new.pass) c.take_all-whole.result
+    c.take_all-whole.ensures.taken c.in_ok-layout.layout same c.in-Ok.reply c.in-Ok.ensures.reply)
 
 pub put_all-requires-in-Ok-try_commit-clause-held : goal.put_all-requires-in-Ok-try_commit-clause-held
 put_all-requires-in-Ok-try_commit-clause-held g c =
     let m = c.args.machine.now in
     let same = c.in_ok-layout.ensures ∙ (ap (λ (d : Desc). layout_of d) c.desc.ensures.desc ∙ c.requires.layout) in
-    save_owes (setup m) (view c.args.pass.now) (view c.take_all-whole.new.pass) c.take_all-whole.result c.take_all-whole.ensures.taken c.in_ok-layout.layout same c.in-Ok.reply c.in-Ok.ensures.reply c.take_all-whole.ensures.of.1 c.in-Ok-try_commit.word
-    (view c.try_commit.new.pass) c.in-Ok.saved (record { tables = c.take_all-whole.result.tables; memory = with_value c.take_all-whole.result.memory (record { memory = c.in-Ok.saved }); redists = c.take_all-whole.result.redists }) refl refl c.in-Ok.ensures.memory (rw (c.reply_to.ensures) at c.in-Ok-try_commit.ensures.result)
+    save_owes (setup m) (view c.args.pass.now) (view c.take_all-whole.new.pass) c.take_all-whole.result c.take_all-whole.ensures.taken c.in_ok-layout.layout
+    same c.in-Ok.reply c.in-Ok.ensures.reply c.take_all-whole.ensures.of.1 c.in-Ok-try_commit.word
+    (view c.try_commit.new.pass) c.in-Ok.saved
+    (record { tables = c.take_all-whole.result.tables; memory = with_value c.take_all-whole.result.memory (record { memory = c.in-Ok.saved }); redists = c.take_all-whole.result.redists }) refl refl c.in-Ok.ensures.memory (rw (c.reply_to.ensures) at c.in-Ok-try_commit.ensures.result)
 
 pub returns-in-Ok-try_commit-clause-answer : goal.returns-in-Ok-try_commit-clause-answer
 returns-in-Ok-try_commit-clause-answer g c =
     let m = c.args.machine.now in
     let same = c.in_ok-layout.ensures ∙ (ap (λ (d : Desc). layout_of d) c.desc.ensures.desc ∙ c.requires.layout) in
-    save_placed (setup m) (view c.args.pass.now) (view c.take_all-whole.new.pass) c.take_all-whole.result c.take_all-whole.ensures.taken c.in_ok-layout.layout same (view c.try_commit.new.pass) (view c.put_all-in-Ok-try_commit.new.pass)
-    c.put_all-in-Ok-try_commit.ensures.home c.requires.free (staying c.in-Ok-try_commit.word call.Save (save_reply c.in-Ok.reply) Keep) refl (rw (c.reply_to.ensures) at c.in-Ok-try_commit.ensures.result)
+    save_placed (setup m) (view c.args.pass.now) (view c.take_all-whole.new.pass) c.take_all-whole.result c.take_all-whole.ensures.taken
+    c.in_ok-layout.layout same (view c.try_commit.new.pass) (view c.put_all-in-Ok-try_commit.new.pass)
+    c.put_all-in-Ok-try_commit.ensures.home c.requires.free (staying c.in-Ok-try_commit.word call.Save (save_reply c.in-Ok.reply) Keep) refl
+    (rw (c.reply_to.ensures) at c.in-Ok-try_commit.ensures.result)
 
 pub returns-clause-answer : goal.returns-clause-answer
 returns-clause-answer g c =
     let m = c.args.machine.now in
     let same = c.in_ok-layout.ensures ∙ (ap (λ (d : Desc). layout_of d) c.desc.ensures.desc ∙ c.requires.layout) in
-    rw (c.cause_of.ensures) (save_lost (setup m) (view c.args.pass.now) (view c.take_all-whole.new.pass) c.take_all-whole.result c.take_all-whole.ensures.taken c.in_ok-layout.layout same (view c.try_commit.new.pass) (view c.put_all-in-Err.new.pass)
+    rw (c.cause_of.ensures) (save_lost (setup m) (view c.args.pass.now) (view c.take_all-whole.new.pass) c.take_all-whole.result
+    c.take_all-whole.ensures.taken c.in_ok-layout.layout same (view c.try_commit.new.pass) (view c.put_all-in-Err.new.pass)
     c.put_all-in-Err.ensures.home c.requires.free c.in-Err.lost c.in-Err.ensures.result)

@@ -24,7 +24,8 @@ get_redist-redist-requires-clause-of g c = c.loop-vcpu.invariant.0
 
 pub get_redist-redist-requires-clause-free : goal.get_redist-redist-requires-clause-free
 get_redist-redist-requires-clause-free g c = let l = c.loop-vcpu in let v = view c.args.pass.now in let held = redists_out l.redists l.vcpu v.held in
-    subst (λ (h : List Held). ¬ Holds (part.Redist (record { 0 = l.vcpu })) h) (sym (holds_so v (view l.pass) held l.invariant.1)) (out_lacks l.redists l.vcpu v.held c.requires.free (record { 0 = l.vcpu }) (omega arith))
+    subst (λ (h : List Held). ¬ Holds (part.Redist (record { 0 = l.vcpu })) h) (sym (holds_so v (view l.pass) held l.invariant.1))
+    (out_lacks l.redists l.vcpu v.held c.requires.free (record { 0 = l.vcpu }) (omega arith))
 
 pub get_redist-redist-requires-clause-allowed : goal.get_redist-redist-requires-clause-allowed
 get_redist-redist-requires-clause-allowed g c = c.loop-vcpu.invariant.3
@@ -34,7 +35,8 @@ place-requires-clause-empty g c = let l = c.loop-vcpu in l.invariant.2.others l.
 
 pub loop-vcpu-preserved : goal.loop-vcpu-preserved
 loop-vcpu-preserved g c = let l = c.loop-vcpu in let v = view c.args.pass.now in let r = c.get_redist-redist in
-    let inside : l.vcpu < length l.redists = (let long = l.invariant.4 in let test = c.loop-vcpu-test.true in let most = c.vcpus-vcpu-end.ensures.most in omega (arith, long, test, most)) in (
+    let inside : l.vcpu < length l.redists = (let long = l.invariant.4 in let test = c.loop-vcpu-test.true in let most = c.vcpus-vcpu-end.ensures.most in
+    omega (arith, long, test, most)) in (
       r.ensures.of,
       rw (c.place.ensures.placed) (holds_more v (view l.pass) (view r.new.pass) l.redists l.vcpu r.result.value inside l.invariant.1 r.ensures.gets),
       rw (c.place.ensures.placed) (first_more (setup c.args.machine.now) l.vcpu l.redists r.result.value l.invariant.2 inside r.ensures.lpis),

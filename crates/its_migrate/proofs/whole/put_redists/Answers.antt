@@ -23,14 +23,16 @@ loop-done-init c = let v = view c.args.pass.now in let n = c.vcpus-count.result 
 
 pub take_out-redist-requires : goal.take_out-redist-requires
 take_out-redist-requires c = let l = c.loop-done in let n = c.vcpus-count.result in let k : ℕ = n - 1 - l.done in
-    let lt : k < vcpu_count (setup c.args.machine.now) = (let test = c.loop-done-test.true in let count = c.vcpus-count.ensures.vcpus in omega (arith, test, count)) in
+    let lt : k < vcpu_count (setup c.args.machine.now) = (let test = c.loop-done-test.true in let count = c.vcpus-count.ensures.vcpus in omega
+    (arith, test, count)) in
     ap (λ (o : Option InHand). is_some o) (l.invariant.2 k (let test = c.loop-done-test.true in omega (arith, test)) ∙ (c.requires.hand.first k lt).1)
 
 pub put-requires-clause-of : goal.put-requires-clause-of
 put-requires-clause-of c = c.loop-done.invariant.0
 
 pub put-requires-clause-owed : goal.put-requires-clause-owed
-put-requires-clause-owed c = let l = c.loop-done in let n = c.vcpus-count.result in let k : ℕ = n - 1 - l.done in let rs = c.args.redists.now in let r = c.take_out-redist.result.value in
+put-requires-clause-owed c = let l = c.loop-done in let n = c.vcpus-count.result in let k : ℕ = n - 1 - l.done in let rs = c.args.redists.now in let
+    r = c.take_out-redist.result.value in
     let test = c.loop-done-test.true in let count = c.vcpus-count.ensures.vcpus in
     let rest = c.requires.held.0 in
     let held : (view c.args.pass.now).held ≡ redists_out rs n rest = c.requires.held.1 ∙ ap (λ (j : ℕ). redists_out rs j rest) (sym count) in
@@ -39,11 +41,14 @@ put-requires-clause-owed c = let l = c.loop-done in let n = c.vcpus-count.result
       content = Redist (redistributor_of r);
       content_is = refl;
       before = redists_out rs k rest;
-      last = ap (λ (v : View). v.held) (l.invariant.1 rest held) ∙ (out_next rs k (n - l.done) rest (omega (arith, test)) ∙ ap (λ (o : Option InHand). one_out k o (redists_out rs k rest)) here);
+      last = ap (λ (v : View). v.held)
+          (l.invariant.1 rest held) ∙ (out_next rs k (n - l.done) rest (omega (arith, test)) ∙ ap
+          (λ (o : Option InHand). one_out k o (redists_out rs k rest)) here);
     }
 
 pub put-requires-clause-fit : goal.put-requires-clause-fit
-put-requires-clause-fit c = let l = c.loop-done in let n = c.vcpus-count.result in let k : ℕ = n - 1 - l.done in let rs = c.args.redists.now in let r = c.take_out-redist.result.value in
+put-requires-clause-fit c = let l = c.loop-done in let n = c.vcpus-count.result in let k : ℕ = n - 1 - l.done in let rs = c.args.redists.now in let
+    r = c.take_out-redist.result.value in
     let s = setup c.args.machine.now in
     let test = c.loop-done-test.true in let count = c.vcpus-count.ensures.vcpus in
     let a = c.requires.hand.first k (omega (arith, test, count)) in
@@ -55,7 +60,8 @@ loop-done-preserved c = let l = c.loop-done in let n = c.vcpus-count.result in l
     let test = c.loop-done-test.true in (
       c.put.ensures.of,
       (λ rest e. c.put.ensures.view ∙ (ap (λ (w : View). released w) (l.invariant.1 rest e) ∙ ap (λ (h : List Held). record v { held = h }) (out_before rs (n - (l.done + 1)) (n - l.done) rest (omega (arith, test))))),
-      (λ k lt. rw (c.take_out-redist.ensures.taken) (get_or-set_other l.redists (n - 1 - l.done) k None None (λ e. absurd (omega (arith, e, lt, test))) ∙ l.invariant.2 k (omega (arith, lt)))),
+      (λ k lt. rw (c.take_out-redist.ensures.taken)
+          (get_or-set_other l.redists (n - 1 - l.done) k None None (λ e. absurd (omega (arith, e, lt, test))) ∙ l.invariant.2 k (omega (arith, lt)))),
     )
 
 pub returns-clause-of : goal.returns-clause-of
@@ -65,4 +71,5 @@ pub returns-clause-home : goal.returns-clause-home
 returns-clause-home c = let l = c.loop-done in let n = c.vcpus-count.result in let rs = c.args.redists.now in let v = view c.args.pass.now in
     let count = c.vcpus-count.ensures.vcpus in
     let none : n - l.done ≡ 0 = (let test = c.loop-done-test.false in omega (arith, test)) in
-    λ rest e. l.invariant.1 rest (e ∙ ap (λ (j : ℕ). redists_out rs j rest) (sym count)) ∙ ap (λ (h : List Held). record v { held = h }) (ap (λ (k : ℕ). redists_out rs k rest) none ∙ out_none rs rest)
+    λ rest e. l.invariant.1 rest (e ∙ ap (λ (j : ℕ). redists_out rs j rest) (sym count)) ∙ ap (λ (h : List Held). record v { held = h })
+    (ap (λ (k : ℕ). redists_out rs k rest) none ∙ out_none rs rest)
