@@ -1,5 +1,5 @@
 -- What a step meets, and what it comes to.
-use Rattle.std.specs.Prelude.{◌≡◌, ℕ, ◌<◌, true, false, not, ◌||◌, Option, Some, None, List}
+use Rattle.std.specs.Prelude.{◌≡◌, ℕ, true, false, not, ◌||◌, Some, None, List}
 use Rattle.guest_windows.specs.Windows.{Window, read_at}
 use Rattle.gits_regs.specs.Registers.{Registers, queue_place, is_queue_empty}
 use Rattle.its_command.specs.Commands.{decoded}

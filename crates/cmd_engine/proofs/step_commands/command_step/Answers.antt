@@ -1,8 +1,5 @@
-use Rattle.std.proofs.Common.{rules, ◌≡◌, ◌<◌, ap, sym, ◌∙◌, subst, Some, []}
+use Rattle.std.proofs.Common.{◌≡◌, ap, ◌∙◌, subst, []}
 use Rattle.its_types.specs.declared.machine.Part.TheVariants as part
-use Rattle.its_types.specs.Maps.{Maps, collection_of}
-use Rattle.cmd_exec.specs.Needs.{AreTargets}
-use Rattle.its_steps.specs.Contents.{Held}
 use Rattle.its_steps.specs.Good.{Holds}
 use Rattle.its_steps.specs.World.{View}
 use Rattle.its_turns.specs.Machines.{setup, view}
