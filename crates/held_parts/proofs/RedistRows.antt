@@ -1,5 +1,5 @@
 -- Redistributors held in front of other parts.
-use Rattle.std.proofs.Common.{◌≡◌, ◌≢◌, ℕ, zero, suc, ◌<◌, ◌≤◌, true, ◌&&◌, nat_lt, List, ◌∷◌, Option, Some, None, slice_get, refl, ap, sym, ◌∙◌, subst, arith}
+use Rattle.std.proofs.Common.{◌≡◌, ◌≢◌, ℕ, zero, suc, ◌<◌, ◌≤◌, true, ◌&&◌, nat_lt, List, ◌∷◌, Option, Some, None, replicate, slice_get, refl, ap, sym, ◌∙◌, subst, arith}
 use Rattle.std.proofs.lemmas.Bool.{and_parts, ltb-true}
 use Rattle.std.proofs.lemmas.Option.{get_or_from_slice_get}
 use Rattle.std.specs.Prelude.{is_some}
@@ -162,3 +162,10 @@ redists_whole u redists others (suc n) each =
     ap (λ (o : Option Owned). with_one (held_if_in n o) (redists_held redists n others)) one.1
     ∙ (ap (λ (r : Redistributor). (let l : List Held = out (part.Redist (record { 0 = n })) (Redist r) ∷ redists_held redists n others in l)) (sym one.2)
     ∙ ap (λ (l : List Held). (let l' : List Held = out (part.Redist (record { 0 = n })) (Redist (redistributor u n)) ∷ l in l')) (redists_whole u redists others n (λ k lt. each k (omega (arith, lt)))))
+
+-- ---- empty places
+
+pub no_redists : (n k : ℕ) → in_hand (replicate n None) k ≡ None
+no_redists zero k = refl
+no_redists (suc n) zero = refl
+no_redists (suc n) (suc k) = no_redists n k

@@ -1,0 +1,56 @@
+-- What a call that needs some parts comes to, from its commit to the last try.
+use Rattle.std.proofs.Common.{◌≡◌, ℕ, List, length, Err, refl, ap, ◌∙◌, subst}
+use Rattle.its_types.specs.declared.machine.Part.{Part}
+use Rattle.its_types.specs.declared.machine.Word.{Word}
+use Rattle.its_plain.specs.declared.call.Call.{Call}
+use Rattle.its_plain.specs.declared.call.Reply.{Reply}
+use Rattle.its_steps.specs.Calls.{staying}
+use Rattle.its_steps.specs.Contents.{Content, Held}
+use Rattle.its_steps.specs.World.{View}
+use Rattle.its_steps.specs.declared.change.ShardChange.TheVariants.{Keep}
+use Rattle.its_turns.specs.Calls.{Stays, IsPlaced, Leaves, GotOnly, StillAsks, Makes, IsLost}
+use Rattle.its_turns.specs.Told.{HasStood}
+use Rattle.its_turns.specs.declared.attempts.Lost.{Lost}
+use Rattle.its_turns.specs.declared.attempts.Lost.TheVariants as lost
+use Rattle.its_turns.proofs.Telling.{stays_again, placed_again, leaves_from}
+use Rattle.its_steps.specs.Parts.{Setup}
+use Rattle.held_parts.specs.Taking.{TakesInTime, Goes, WasMade, holding}
+use Rattle.held_parts.proofs.Going.{takes_one, takes_then, going_first, going_takes, going_looked, going_home, going_stays, going_made, made_home, made_placed, got_then}
+use Rattle.gicr_lpi.specs.Asking.{AsksOnce}
+
+-- a part that was waited for had its content after some history of this machine
+pub took_stood : (s : Setup) (v x : View) (p : Part) (c : Content) → v.setup ≡ s → TakesInTime v p c x → HasStood s p c
+took_stood s v x p c own t = subst (λ (z : Setup). HasStood z p c) (ap (λ (y : View). y.setup) t.waits.same ∙ own) t.takes.stood
+
+module _ (P : Part → Type 0) where
+  -- two parts were taken
+  pub took_two : (v w x : View) (p q : Part) (c d : Content) → P p → P q → TakesInTime v p c w → TakesInTime w q d x → Goes P v x
+  took_two v w x p q c d is_p is_q a b = going_takes P v v x (going_first P v) (takes_then P v w x (takes_one P v w p c is_p a) (takes_one P w x q d is_q b))
+
+  module _ (v x : View) (on : Goes P v x) where
+    pub once_made : (c : Call) (r : Reply) (w : Word) (y z : View) (left : List Held) → Makes x (staying w c r Keep) y → z ≡ holding y left → left ≡ v.held → IsPlaced v c r w.place z × Leaves Keep z × GotOnly P v z
+    once_made c r w y z left makes home same =
+        let m : WasMade P v (staying w c r Keep) z = made_home P v y z (staying w c r Keep) left (going_made P v x y (staying w c r Keep) on makes) home in
+        (made_placed P v z (staying w c r Keep) m (ap (λ (u : View). u.held) home ∙ same), leaves_from v z z.tries (staying w c r Keep) m.made refl, m.got)
+
+    still : (y z : View) (w : Word) (left : List Held) → Goes P v y → z ≡ holding y left → left ≡ v.held → StillAsks P v z
+    still y z w left g home same = let h = going_home P v y z left g home in record { stays = going_stays P v z h (ap (λ (u : View). u.held) home ∙ same); got = h.got }
+
+    pub once_lost : {T : Type 0} (c : Call) (reply : T → Reply) (l : Lost) (y z : View) (left : List Held) → IsLost x l y → z ≡ holding y left → left ≡ v.held → AsksOnce P v c reply z (Err l)
+    once_lost c reply lost.Spent y z left spent home same = (
+      still y z y.last left (going_looked P v x y y.last on spent.0) home same,
+      ap (λ (u : View). length u.seen) home ∙ (spent.0.place ∙ (spent.1 ∙ ap (λ (u : View). u.setup.limits.place_last) on.on.same)),
+    )
+    once_lost c reply (lost.Raced r) y z left raced home same = still y z r.found left (going_looked P v x y r.found on raced.0) home same
+
+  -- ---- again
+
+  module _ (v w : View) (asks : StillAsks P v w) where
+    pub again : (x : View) → StillAsks P w x → StillAsks P v x
+    again x s = record { stays = stays_again v w x asks.stays s.stays; got = got_then P v w x asks.got s.got }
+
+    pub asked_made : (c : Call) (r : Reply) (place : ℕ) (x : View) → IsPlaced w c r place x × Leaves Keep x × GotOnly P w x → IsPlaced v c r place x × Leaves Keep x × GotOnly P v x
+    asked_made c r place x done = (placed_again v w x c r place asks.stays done.0, done.1, got_then P v w x asks.got done.2)
+
+    pub asked_spent : (x : View) → StillAsks P w x × (length x.seen ≡ w.setup.limits.place_last) → Stays v x × (length x.seen ≡ v.setup.limits.place_last) × GotOnly P v x
+    asked_spent x spent = let s = again x spent.0 in (s.stays, spent.1 ∙ ap (λ (y : View). y.setup.limits.place_last) asks.stays.same, s.got)

@@ -1,0 +1,40 @@
+-- Accesses of the LPI registers under turns.
+use Rattle.std.specs.Prelude.{◌≡◌, ◌⊎◌, ℕ, Bool, if◌then◌else◌, List, [], ◌∷◌}
+use Rattle.gicr_regs.specs.Registers.{read_gicr, written_gicr}
+use Rattle.guest_windows.specs.Windows.{Window}
+use Rattle.its_types.specs.declared.ids.Vcpu.{Vcpu}
+use Rattle.its_types.specs.declared.machine.Part.{Part}
+use Rattle.its_types.specs.declared.machine.Part.TheVariants as part
+use Rattle.its_types.specs.declared.machine.Shape.{Shape}
+use Rattle.its_plain.specs.Machine.{are_programmed}
+use Rattle.its_plain.specs.Plain.{Redistributor}
+use Rattle.its_plain.specs.declared.call.Call.{Call}
+use Rattle.its_plain.specs.declared.call.Call.TheVariants as call
+use Rattle.its_steps.specs.Contents.{Held, Mem, Redist}
+use Rattle.its_steps.specs.World.{out}
+use Rattle.its_turns.specs.Machines.{setup}
+use Rattle.its_turns.specs.declared.machine.Machine.{Machine}
+use Rattle.gicr_lpi.specs.declared.access.GicrAccess.{GicrAccess}
+
+-- The guest programs the LPI tables just where the machine's description says so. It holds of each machine that was made of the parts of its description
+abbrev pub IsDescribed : Machine → Type 0
+IsDescribed m = (setup m).start.layout.gicr ≡ are_programmed m.desc.tables
+
+-- what a read gives
+abbrev pub read_by : Bool → Redistributor → ℕ → ℕ → ℕ
+read_by programmed r off size = if programmed then read_gicr r.bases off size else 0
+
+abbrev pub write_call : GicrAccess → Call
+write_call a = call.WriteGicr a.vcpu a.off a.size a.value
+
+-- what a write leaves of the redistributor
+abbrev pub after_write : Bool → Shape → List Window → GicrAccess → Redistributor → Redistributor
+after_write programmed shape memory a r = if programmed then written_gicr shape memory r a.off a.size a.value else r
+
+-- the redistributor was taken after memory
+abbrev pub both_held : Vcpu → Redistributor → List Window → List Held
+both_held vcpu r memory = out (part.Redist vcpu) (Redist r) ∷ out part.Mem (Mem memory) ∷ []
+
+-- the part is memory, or the virtual processor's redistributor
+abbrev pub IsOfWrite : Vcpu → Part → Type 0
+IsOfWrite vcpu p = (p ≡ part.Mem) ⊎ (p ≡ part.Redist vcpu)

@@ -1,0 +1,23 @@
+-- What a call comes to that needs some parts, waits for them, and leaves the stamp and the shards as they were.
+use Rattle.std.specs.Prelude.{◌≡◌, length, Result, Ok, Err}
+use Rattle.its_types.specs.declared.machine.Part.{Part}
+use Rattle.its_types.specs.declared.machine.Placed.{Placed}
+use Rattle.its_plain.specs.declared.call.Call.{Call}
+use Rattle.its_plain.specs.declared.call.Reply.{Reply}
+use Rattle.its_steps.specs.World.{View}
+use Rattle.its_steps.specs.declared.change.ShardChange.TheVariants.{Keep}
+use Rattle.its_turns.specs.Calls.{Stays, IsPlaced, Leaves, GotOnly, StillAsks}
+use Rattle.its_turns.specs.declared.attempts.Lost.{Lost}
+use Rattle.its_turns.specs.declared.attempts.Lost.TheVariants as lost
+use Rattle.its_turns.specs.declared.attempts.Spent.{Spent}
+
+-- tried once
+abbrev pub AsksOnce : {T : Type 0} → (Part → Type 0) → View → Call → (T → Reply) → View → Result (Placed T) Lost → Type 0
+AsksOnce P v call reply w (Ok x) = IsPlaced v call (reply x.reply) x.place w × Leaves Keep w × GotOnly P v w
+AsksOnce P v call reply w (Err lost.Spent) = StillAsks P v w × (length w.seen ≡ v.setup.limits.place_last)
+AsksOnce P v call reply w (Err (lost.Raced r)) = StillAsks P v w
+
+-- and again until it was made
+abbrev pub AsksParts : {T : Type 0} → (Part → Type 0) → View → Call → (T → Reply) → View → Result (Placed T) Spent → Type 0
+AsksParts P v call reply w (Ok x) = IsPlaced v call (reply x.reply) x.place w × Leaves Keep w × GotOnly P v w
+AsksParts P v call reply w (Err spent) = Stays v w × (length w.seen ≡ v.setup.limits.place_last) × GotOnly P v w

@@ -1,0 +1,10 @@
+//! The port of the redistributors' LPI registers, where the guest programs the LPI tables (IHI
+//! 0069, section 12.11).
+#![tactic(auto)]
+
+mod access;
+mod reads;
+mod writes;
+
+pub use reads::{read_gicr, try_read_gicr};
+pub use writes::write_gicr;
