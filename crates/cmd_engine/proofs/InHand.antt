@@ -1,52 +1,45 @@
 -- A step's command on the parts that it has in hand: what each of its calls needs, and what it tells.
-use Rattle.std.proofs.Common.{◌≡◌, ◌+◌, ◌<◌, ◌≤◌, ◌&&◌, ℕ, Bool, true, false, nat_lt, List, [], ◌∷◌, ◌++◌, length, Option, Some, None, Result, Ok, Err, refl, ap, sym, ◌∙◌, subst, arith}
+use Rattle.std.proofs.Common.{◌≡◌, ◌<◌, ℕ, Bool, true, nat_lt, List, [], ◌∷◌, Option, Some, Result, Ok, Err, refl, ap, sym, ◌∙◌, subst, arith}
 use Rattle.std.specs.List.{AllByRecursion}
 use Rattle.std.specs.Prelude.{is_some}
 use Rattle.std.specs.Result.{is_err, OnErr}
 use Rattle.std.proofs.lemmas.Bool.{and_from, lt-ltb, ltb-true, and_parts}
 use Rattle.std.proofs.lemmas.Option.{get_or_from_slice_get}
 use Rattle.guest_windows.specs.Windows.{Window}
-use Rattle.gits_regs.specs.Registers.{Registers}
-use Rattle.its_command.specs.Commands.{decoded}
 use Rattle.its_command.specs.declared.command.Command.{Command}
 use Rattle.its_types.specs.Maps.{Maps as MapsOf}
-use Rattle.its_types.specs.declared.ids.Vcpu.{Vcpu}
 use Rattle.its_types.specs.declared.machine.Part.{Part}
 use Rattle.its_types.specs.declared.machine.Part.TheVariants as part
-use Rattle.its_types.specs.declared.machine.Placed.{Placed}
 use Rattle.its_types.specs.declared.machine.Shape.{Shape}
 use Rattle.its_types.specs.declared.machine.Word.{Word}
 use Rattle.its_plain.specs.Answer.{left}
 use Rattle.its_plain.specs.History.{IsLegal, after}
-use Rattle.its_plain.specs.Plain.{Plain, Translator, translator, no_translator}
-use Rattle.its_plain.specs.declared.layout.Layout.{Layout}
+use Rattle.its_plain.specs.Plain.{Plain, translator, no_translator}
 use Rattle.its_plain.specs.declared.call.Call.TheVariants as call
 use Rattle.its_plain.specs.declared.call.CmdReply.{CmdReply}
 use Rattle.its_plain.specs.declared.call.CmdReply.TheVariants as answers
-use Rattle.its_plain.specs.declared.call.Reply.{Reply}
 use Rattle.its_plain.specs.declared.call.Reply.TheVariants as reply
 use Rattle.its_plain.specs.declared.call.StepReply.{StepReply}
 use Rattle.lpi_pending.specs.InHand.{in_hand}
 use Rattle.lpi_pending.specs.declared.redist.Redist.{Redist as Owned}
-use Rattle.owned_parts.specs.Owned.{redistributor_of, HasLpisOf, ArePartsOf, ArePartsOfSound}
+use Rattle.owned_parts.specs.Owned.{HasLpisOf, ArePartsOf, ArePartsOfSound}
 use Rattle.cmd_exec.specs.Executed.{as_step, IsReplyTo, AreLeftBy}
 use Rattle.cmd_exec.specs.Needs.{IsPartOf, is_in}
 use Rattle.cmd_exec.specs.Room.{adds_to}
-use Rattle.its_steps.specs.Contents.{Content, Maps, Mem, Redist, Held}
-use Rattle.its_steps.specs.Endings.{Ending, Nothing, ending_in, ending_of, ending_told}
+use Rattle.its_steps.specs.Contents.{Maps, Mem, Held}
+use Rattle.its_steps.specs.Endings.{Ending, ending_in, ending_of, ending_told}
 use Rattle.its_steps.specs.Good.{Holds}
-use Rattle.its_steps.specs.MayCall.{MayCall, Owes}
+use Rattle.its_steps.specs.MayCall.{MayCall}
 use Rattle.its_steps.specs.MayCommit.{IsRight}
 use Rattle.its_steps.specs.Parts.{Setup, IsOfMachine, translator_count, vcpu_count}
-use Rattle.its_steps.specs.Renewal.{renewed, renewal, renewal_in}
+use Rattle.its_steps.specs.Renewal.{renewed, renewal}
 use Rattle.its_steps.specs.States.{IsReady, MayLeaveIn}
-use Rattle.its_steps.specs.World.{View, loaded, committed}
+use Rattle.its_steps.specs.World.{View, committed}
 use Rattle.its_steps.specs.declared.change.ShardChange.{ShardChange}
 use Rattle.its_steps.specs.declared.commit.Commit.{Commit}
 use Rattle.its_steps.proofs.Owed.{owes_holds}
-use Rattle.its_turns.specs.Calls.{Makes}
 use Rattle.its_turns.specs.Contents.{translator_of}
-use Rattle.its_turns.specs.Told.{Looks, Commits, committed_by}
+use Rattle.its_turns.specs.Told.{Looks, Commits}
 use Rattle.its_turns.specs.declared.value.Tables.{Tables}
 use Rattle.its_turns.proofs.Telling.{looked_held}
 use Rattle.held_parts.specs.Redists.{redists_held, AreOfSet, HoldsNoRedist}
@@ -57,7 +50,7 @@ use Rattle.cmd_engine.specs.StepShards.{ending_as, ending_said, cached_held, Are
 use Rattle.cmd_engine.specs.StepTells.{MakesStep, WantsMemory}
 use Rattle.cmd_engine.specs.declared.step_shards.Cached.{Cached}
 use Rattle.cmd_engine.specs.declared.step_shards.Mark.{Mark}
-use Rattle.cmd_engine.proofs.InState.{AreOut, HoldsBase, HoldsRedists, parts, sound_parts, busy, bytes_are, parts_left, command_ready, command_ends}
+use Rattle.cmd_engine.proofs.InState.{AreOut, HoldsBase, HoldsRedists, parts, busy, bytes_are, parts_left, command_ready, command_ends}
 use Rattle.cmd_engine.proofs.Marks.{IsMark, step_commit, marked_may}
 use Rattle.cmd_engine.proofs.Running.{base_no_redist, base_no_shard, base_out, base_holds, cached_no_redist, cached_owes, cached_out, is_mark, Leaves, any_leaves}
 

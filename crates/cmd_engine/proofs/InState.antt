@@ -1,11 +1,10 @@
 -- A state that has what a step has in hand: what it is answered there, what it ends, and what it leaves.
-use Rattle.std.proofs.Common.{◌≡◌, ◌<◌, ℕ, zero, suc, Bool, true, false, not, ◌||◌, cond, Option, Some, None, List, [], ◌∷◌, slice_get, refl, ap, sym, ◌∙◌, subst}
+use Rattle.std.proofs.Common.{◌≡◌, ◌<◌, ℕ, suc, Bool, false, not, ◌||◌, cond, Option, Some, List, [], ◌∷◌, slice_get, refl, ap, sym, ◌∙◌, subst}
 use Rattle.std.specs.List.{AllByRecursion}
-use Rattle.std.specs.Prelude.{is_some}
 use Rattle.std.proofs.lemmas.Option.{get_or_from_slice_get}
 use Rattle.guest_windows.specs.Windows.{Window, read_at}
 use Rattle.gits_regs.specs.Registers.{Registers, queue_place, is_queue_empty}
-use Rattle.its_command.specs.Commands.{decoded, op_of}
+use Rattle.its_command.specs.Commands.{op_of}
 use Rattle.its_command.specs.declared.command.Command.{Command}
 use Rattle.its_types.specs.Maps.{Maps as MapsOf}
 use Rattle.its_types.specs.declared.ids.Vcpu.{Vcpu}
@@ -30,11 +29,11 @@ use Rattle.owned_parts.specs.Owned.{redistributor_of, HasLpisOf, ArePartsOf, Are
 use Rattle.cmd_exec.specs.Executed.{as_step, IsReplyTo, left_by, AreLeftBy}
 use Rattle.cmd_exec.specs.Needs.{IsPartOf, ArePartsOfStep}
 use Rattle.its_steps.specs.Contents.{Maps, Mem, Redist, Held}
-use Rattle.its_steps.specs.Endings.{Ending, Nothing, ending_of, ending_met, ending_told}
+use Rattle.its_steps.specs.Endings.{Nothing, ending_of, ending_met, ending_told}
 use Rattle.its_steps.specs.Good.{Holds, Apart}
 use Rattle.its_steps.specs.MayCall.{Owes, IsAnswered}
 use Rattle.its_steps.specs.MayCommit.{IsRight, IsOut}
-use Rattle.its_steps.specs.Parts.{Setup, Stands, IsOfMachine, HasAll, Right}
+use Rattle.its_steps.specs.Parts.{Setup, Stands, IsOfMachine, Right}
 use Rattle.its_steps.specs.States.{IsReady}
 use Rattle.its_steps.proofs.Assembled.{right_had}
 use Rattle.its_steps.proofs.Owed.{owes_all, owes_holds}

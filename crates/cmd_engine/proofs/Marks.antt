@@ -1,19 +1,15 @@
 -- Which stamp and which change of the shards a step leaves, by what it ends.
-use Rattle.std.proofs.Common.{◌≡◌, ◌⊎◌, ◌+◌, ◌<◌, ◌≤◌, ℕ, List, refl, ap, sym, ◌∙◌, subst, inl, inr}
-use Rattle.its_types.specs.declared.ids.DeviceId.{DeviceId}
-use Rattle.its_types.specs.declared.ids.EventId.{EventId}
+use Rattle.std.proofs.Common.{◌≡◌, ◌⊎◌, ◌+◌, ◌<◌, ◌≤◌, ℕ, List, refl, sym, ◌∙◌, subst, inl, inr}
 use Rattle.its_types.specs.declared.machine.Part.TheVariants as part
 use Rattle.its_types.specs.declared.machine.Word.{Word}
 use Rattle.its_plain.specs.Plain.{Plain}
 use Rattle.its_plain.specs.declared.call.Call.TheVariants as call
 use Rattle.its_plain.specs.declared.call.Reply.{Reply}
 use Rattle.xlate_cache.specs.Pairs.{shard_number}
-use Rattle.its_steps.specs.Calls.{MayLeave}
 use Rattle.its_steps.specs.Contents.{Held}
 use Rattle.its_steps.specs.Endings.{Ending, Nothing, Pair, All, ending_of}
 use Rattle.its_steps.specs.Good.{Holds}
 use Rattle.its_steps.specs.Parts.{Setup, translator_count, stamp_with}
-use Rattle.its_steps.specs.Renewal.{renewal_in}
 use Rattle.its_steps.specs.States.{IsReady, MayLeaveIn}
 use Rattle.its_steps.specs.declared.change.ShardChange.{ShardChange}
 use Rattle.its_steps.specs.declared.change.ShardChange.TheVariants as change

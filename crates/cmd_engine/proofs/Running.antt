@@ -1,72 +1,39 @@
 -- What a command needs that has in hand what it should, and what it leaves.
-use Rattle.std.proofs.Common.{◌≡◌, ◌≢◌, ◌⊎◌, ◌+◌, ◌<◌, ◌≤◌, ◌&&◌, ℕ, Bool, true, false, cond, eqb, nat_lt, List, [], ◌∷◌, ◌++◌, length, Option, Some, None, refl, ap, sym, ◌∙◌, subst, inl, inr, arith, eq-eqb}
-use Rattle.std.specs.List.{AllByRecursion}
+use Rattle.std.proofs.Common.{◌≡◌, ◌<◌, ℕ, Bool, true, cond, List, [], ◌∷◌, Option, Some, None, refl, ap, sym, ◌∙◌, subst, inl, inr, arith, eq-eqb}
 use Rattle.std.specs.Prelude.{is_some}
-use Rattle.std.proofs.lemmas.Bool.{and_from, lt-ltb, ltb-true, and_parts}
-use Rattle.std.proofs.lemmas.Option.{get_or_from_slice_get}
 use Rattle.guest_windows.specs.Windows.{Window}
-use Rattle.gits_regs.specs.Registers.{Registers}
-use Rattle.its_command.specs.Commands.{decoded}
-use Rattle.its_command.specs.declared.command.Command.{Command}
-use Rattle.its_types.specs.Maps.{Maps as MapsOf}
 use Rattle.its_types.specs.declared.ids.DeviceId.{DeviceId}
 use Rattle.its_types.specs.declared.ids.EventId.{EventId}
-use Rattle.its_types.specs.declared.ids.Vcpu.{Vcpu}
 use Rattle.its_types.specs.declared.machine.Part.{Part}
 use Rattle.its_types.specs.declared.machine.Part.TheVariants as part
-use Rattle.its_types.specs.declared.machine.Placed.{Placed}
-use Rattle.its_types.specs.declared.machine.Shape.{Shape}
 use Rattle.its_types.specs.declared.machine.Word.{Word}
-use Rattle.its_plain.specs.Answer.{left}
-use Rattle.its_plain.specs.History.{IsLegal, after}
-use Rattle.its_plain.specs.Plain.{Plain, Translator, translator, no_translator}
+use Rattle.its_plain.specs.Plain.{Plain, Translator}
 use Rattle.its_plain.specs.declared.call.Call.TheVariants as call
 use Rattle.its_plain.specs.declared.call.CmdReply.{CmdReply}
 use Rattle.its_plain.specs.declared.call.CmdReply.TheVariants as answers
 use Rattle.its_plain.specs.declared.call.Reply.{Reply}
-use Rattle.its_plain.specs.declared.call.Reply.TheVariants as reply
-use Rattle.its_plain.specs.declared.call.StepReply.{StepReply}
-use Rattle.lpi_pending.specs.InHand.{in_hand}
-use Rattle.lpi_pending.specs.declared.redist.Redist.{Redist as Owned}
-use Rattle.owned_parts.specs.Owned.{redistributor_of, HasLpisOf, ArePartsOf, ArePartsOfSound}
 use Rattle.xlate_cache.specs.Pairs.{shard_number}
 use Rattle.xlate_cache.specs.Ways.{dropped}
-use Rattle.xlate_cache.specs.declared.entry.Entry.{Entry as Translation}
-use Rattle.cmd_exec.specs.Executed.{as_step, IsReplyTo, AreLeftBy}
-use Rattle.cmd_exec.specs.Needs.{IsPartOf, is_in}
-use Rattle.cmd_exec.specs.Room.{adds_to}
-use Rattle.its_steps.specs.Calls.{MayLeave}
-use Rattle.its_steps.specs.Contents.{Content, Maps, Mem, Redist, Shard, Held}
-use Rattle.its_steps.specs.Endings.{Ending, Nothing, Pair, All, ending_in, ending_of, ending_told}
-use Rattle.its_steps.specs.Good.{Holds, Apart}
-use Rattle.its_steps.specs.MayCall.{MayCall, Owes}
-use Rattle.its_steps.specs.MayCommit.{IsRight, IsOut}
-use Rattle.its_steps.specs.Parts.{Setup, Stands, IsOfMachine, translator_count, vcpu_count}
-use Rattle.its_steps.specs.Renewal.{changed, renewed, renewal, renewal_in}
-use Rattle.its_steps.specs.States.{IsReady, MayLeaveIn}
-use Rattle.its_steps.specs.World.{View, loaded, committed, word_after}
+use Rattle.its_steps.specs.Contents.{Content, Maps, Held}
+use Rattle.its_steps.specs.Good.{Holds}
+use Rattle.its_steps.specs.MayCall.{Owes}
+use Rattle.its_steps.specs.Parts.{Setup, translator_count}
+use Rattle.its_steps.specs.Renewal.{changed, renewed}
+use Rattle.its_steps.specs.World.{word_after}
 use Rattle.its_steps.specs.declared.change.ShardChange.{ShardChange}
 use Rattle.its_steps.specs.declared.change.ShardChange.TheVariants as change
-use Rattle.its_steps.specs.declared.commit.Commit.{Commit}
-use Rattle.its_steps.proofs.Owed.{owes_holds}
-use Rattle.its_turns.specs.Calls.{Makes}
 use Rattle.its_turns.specs.Contents.{translator_of}
-use Rattle.its_turns.specs.Told.{Looks, Commits, committed_by}
 use Rattle.its_turns.specs.declared.value.Tables.{Tables}
-use Rattle.its_turns.proofs.Telling.{looked_held}
-use Rattle.held_parts.specs.Redists.{redists_held, AreOfSet, HoldsNoRedist}
-use Rattle.held_parts.specs.Shards.{Ways, shard_held, shards_held, in_place, emptied, AreEmptied, HoldsNoShard}
-use Rattle.held_parts.proofs.RedistRows.{redists_hold, redists_owe, redist_owed, redist_holds, redists_out, redists_apart, redists_stand, redists_left}
-use Rattle.held_parts.proofs.ShardRows.{shards_hold, shards_owe, shards_lack, shards_out, shards_apart, shards_stand, all_hold, shards_emptied, shards_kept}
-use Rattle.cmd_engine.specs.Steps.{MeetsCommand}
-use Rattle.cmd_engine.specs.StepHands.{base_held, step_held, HasNeeded}
-use Rattle.cmd_engine.specs.StepShards.{ending_as, ending_said, cached_held, AreWhole, LeavesBy, MayMark, AreChanged, HasEvery}
-use Rattle.cmd_engine.specs.StepTells.{MakesStep, WantsMemory}
+use Rattle.held_parts.specs.Redists.{HoldsNoRedist}
+use Rattle.held_parts.specs.Shards.{Ways, shard_held, in_place, emptied, AreEmptied, HoldsNoShard}
+use Rattle.held_parts.proofs.ShardRows.{shards_owe, shards_lack, shards_out, shards_apart, shards_stand, all_hold, shards_emptied, shards_kept}
+use Rattle.cmd_engine.specs.StepHands.{base_held}
+use Rattle.cmd_engine.specs.StepShards.{ending_said, cached_held, AreWhole, MayMark, AreChanged}
 use Rattle.cmd_engine.specs.declared.step_shards.Cached.{Cached}
 use Rattle.cmd_engine.specs.declared.step_shards.Cached.TheVariants as cached
 use Rattle.cmd_engine.specs.declared.step_shards.Mark.{Mark}
-use Rattle.cmd_engine.proofs.InState.{AreOut, HoldsBase, HoldsRedists, parts, sound_parts, busy, bytes_are, parts_left, command_ready, command_ends}
-use Rattle.cmd_engine.proofs.Marks.{IsMark, step_commit, marked_may}
+use Rattle.cmd_engine.proofs.InState.{AreOut, HoldsBase}
+use Rattle.cmd_engine.proofs.Marks.{IsMark, step_commit}
 
 -- ---- maps and memory
 

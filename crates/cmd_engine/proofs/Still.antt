@@ -1,12 +1,11 @@
 -- A step that meets no command.
 use Rattle.std.proofs.Common.{◌≡◌, ◌<◌, ℕ, true, List, [], ◌∷◌, refl, ap, sym, ◌∙◌, subst, arith}
 use Rattle.std.specs.List.{AllByRecursion}
-use Rattle.guest_windows.specs.Windows.{Window}
 use Rattle.its_types.specs.declared.machine.Part.TheVariants as part
 use Rattle.its_types.specs.declared.machine.Word.{Word}
 use Rattle.its_plain.specs.Answer.{left}
 use Rattle.its_plain.specs.History.{after}
-use Rattle.its_plain.specs.Plain.{Plain, translator}
+use Rattle.its_plain.specs.Plain.{Plain}
 use Rattle.its_plain.specs.declared.call.Call.TheVariants as call
 use Rattle.its_plain.specs.declared.call.Reply.TheVariants as reply
 use Rattle.its_plain.specs.declared.call.StepReply.{StepReply}
@@ -16,7 +15,7 @@ use Rattle.its_steps.specs.MayCall.{MayCall}
 use Rattle.its_steps.specs.MayCommit.{IsRight}
 use Rattle.its_steps.specs.Parts.{Setup, IsOfMachine, translator_count}
 use Rattle.its_steps.specs.Renewal.{renewed}
-use Rattle.its_steps.specs.States.{IsReady, MayLeaveIn}
+use Rattle.its_steps.specs.States.{MayLeaveIn}
 use Rattle.its_steps.specs.World.{View}
 use Rattle.its_steps.specs.declared.change.ShardChange.TheVariants as change
 use Rattle.its_steps.specs.declared.commit.Commit.{Commit}

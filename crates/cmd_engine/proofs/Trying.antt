@@ -1,6 +1,5 @@
 -- From what a try tells of its pass to what the step says.
-use Rattle.std.proofs.Common.{◌≡◌, ◌+◌, ◌<◌, ℕ, zero, suc, List, [], ◌∷◌, ◌++◌, length, replicate, Option, Some, None, Result, Ok, Err, refl, ap, sym, ◌∙◌, subst, arith, inl, inr}
-use Rattle.its_types.specs.declared.ids.Vcpu.{Vcpu}
+use Rattle.std.proofs.Common.{◌≡◌, ◌<◌, ℕ, zero, suc, List, [], ◌∷◌, ◌++◌, length, replicate, Option, None, Result, Ok, Err, refl, ap, sym, ◌∙◌, subst, inl, inr}
 use Rattle.its_types.specs.declared.machine.Part.{Part}
 use Rattle.its_types.specs.declared.machine.Part.TheVariants as part
 use Rattle.its_types.specs.declared.machine.Placed.{Placed}
@@ -15,14 +14,13 @@ use Rattle.its_plain.specs.declared.layout.Layout.{Layout}
 use Rattle.lpi_pending.specs.InHand.{in_hand}
 use Rattle.lpi_pending.specs.declared.redist.Redist.{Redist as Owned}
 use Rattle.cmd_exec.specs.Needs.{AreTargets}
-use Rattle.its_steps.specs.Contents.{Content, Maps, Held}
+use Rattle.its_steps.specs.Contents.{Content, Maps}
 use Rattle.its_steps.specs.Endings.{Ending, Nothing, Pair, All, ending_of}
 use Rattle.its_steps.specs.Parts.{Setup}
 use Rattle.its_steps.specs.World.{View, entry, LastCommit}
-use Rattle.its_steps.specs.declared.change.ShardChange.{ShardChange}
 use Rattle.its_steps.specs.declared.commit.Commit.{Commit}
 use Rattle.its_steps.proofs.Lists.{prefix_through}
-use Rattle.its_turns.specs.Calls.{Stays, IsPlaced, GotOnly, GoesOn}
+use Rattle.its_turns.specs.Calls.{Stays, IsPlaced, GotOnly}
 use Rattle.its_turns.specs.Contents.{translator_of}
 use Rattle.its_turns.specs.Told.{Looks, HasStood}
 use Rattle.its_turns.specs.declared.value.Tables.{Tables}
@@ -125,7 +123,7 @@ module _ (v y z x : View) (bare : v.held ≡ []) (goes : Goes IsOfStep v y) (hom
       let made : WasMade IsOfStep v a x = made_home IsOfStep v z x a [] (going_made IsOfStep v y z a goes m.makes) home in
       let at : IsPlaced v (call.Step 0) (reply.Step p.reply) p.place x = subst (λ (k : ℕ). IsPlaced v (call.Step 0) (reply.Step p.reply) k x) (sym m.place) (made_placed IsOfStep v x a made free) in
       let seen : v.seen ++ at.between ≡ m.makes.seen = same_before (v.seen ++ at.between) m.makes.seen (entry v.number (call.Step 0) (reply.Step p.reply)) (entry y.number (call.Step 0) (reply.Step p.reply))
-          (sym at.seen ∙ (ap (λ (k : View). k.seen) home ∙ ap (λ (k : View). k.seen) m.makes.view)) in (
+      (sym at.seen ∙ (ap (λ (k : View). k.seen) home ∙ ap (λ (k : View). k.seen) m.makes.view)) in (
         record {
           placed = at;
           leaves = leaves_as v.setup.limits.stamp_last (ending_of (after v.setup.start (v.seen ++ at.between)) (call.Step 0)) x

@@ -1,7 +1,6 @@
 -- What a step tells.
-use Rattle.std.specs.Prelude.{◌≡◌, ℕ, ◌+◌, ◌<◌, true, false, List, [], ◌++◌, length, Option, Some, Result, Ok, Err}
+use Rattle.std.specs.Prelude.{◌≡◌, ℕ, true, false, List, [], length, Some, Result, Ok, Err}
 use Rattle.its_command.specs.Commands.{decoded}
-use Rattle.its_command.specs.declared.command.Command.{Command}
 use Rattle.its_types.specs.declared.machine.Placed.{Placed}
 use Rattle.its_types.specs.declared.machine.Word.{Word}
 use Rattle.its_plain.specs.Answer.{is_idle, next_bytes}

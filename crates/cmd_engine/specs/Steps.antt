@@ -1,5 +1,5 @@
--- What a step meets, and what it comes to.
-use Rattle.std.specs.Prelude.{◌≡◌, ℕ, ◌<◌, true, false, not, ◌||◌, Option, Some, None, List}
+-- What a step meets in the queue.
+use Rattle.std.specs.Prelude.{◌≡◌, ℕ, true, false, not, ◌||◌, Some, None, List}
 use Rattle.guest_windows.specs.Windows.{Window, read_at}
 use Rattle.gits_regs.specs.Registers.{Registers, queue_place, is_queue_empty}
 use Rattle.its_command.specs.Commands.{decoded}
@@ -8,8 +8,6 @@ use Rattle.its_plain.specs.declared.call.StepReply.{StepReply}
 use Rattle.its_plain.specs.declared.call.StepReply.TheVariants.{Idle, QueueFault}
 use Rattle.cmd_engine.specs.declared.met.Met.{Met}
 use Rattle.cmd_engine.specs.declared.met.Met.TheVariants as met
-
--- ---- what is met
 
 -- the translator is enabled and has a command, whose 32 bytes are in memory (IHI 0069, section 5.3)
 pub record MeetsCommand (r : Registers) (memory : List Window) (c : Command) : Type 0 where

@@ -1,5 +1,5 @@
-//! The engine of translator 0's commands on a machine that threads share: its steps, and its control
-//! frame (IHI 0069, sections 5.3 and 12.19).
+//! Translator 0 of a machine that threads share, as its guest drives it: the commands of its queue
+//! and its control frame (IHI 0069, sections 5.3 and 12.19).
 #![tactic(auto)]
 
 mod met;

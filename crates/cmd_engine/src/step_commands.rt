@@ -18,8 +18,8 @@ use crate::step_shards_taken::{put_cached, take_cached};
 use crate::step_still::put_base;
 use crate::step_tells::{NoStep, Unmade};
 use cmd_exec::{apply, make_room, needs, plan};
-use held_parts::{put_redists, take_redists};
 use guest_windows::Memory;
+use held_parts::{put_redists, take_redists};
 use its_command::Command;
 use its_plain::{Call, CmdReply, Reply, StepReply};
 use its_steps::Commit;
@@ -126,7 +126,14 @@ fn run_command<G: Gate>(
         return Err(Unmade::Again);
     };
     gate.at(pass.number(), Point::AfterCommit);
-    apply(planned, &mut tables.regs, &mut tables.maps, memory, redists, shape);
+    apply(
+        planned,
+        &mut tables.regs,
+        &mut tables.maps,
+        memory,
+        redists,
+        shape,
+    );
     cached.change(mark.change);
     Ok(Placed { place, reply })
 }

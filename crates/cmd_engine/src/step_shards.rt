@@ -1,11 +1,5 @@
 //! The shards that a command has in hand, and what its commit does to them and to the stamp.
-ghost use Rattle.std.specs.Prelude.{◌≡◌};
-ghost use Rattle.its_steps.specs.Endings.{ending_in};
-ghost use Rattle.cmd_engine.specs.StepShards.{ending_as};
-
 use held_parts::Shards;
-use its_command::Command;
-use its_maps::Maps;
 use its_plain::CmdReply;
 use its_steps::ShardChange;
 use its_types::{DeviceId, EventId, Word};

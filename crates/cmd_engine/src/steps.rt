@@ -42,7 +42,11 @@ fn try_step<R: Wait, G: Gate>(
 }
 
 /// Translator 0 takes its next command (IHI 0069, section 5.3), and waits for the turns that it
-/// needs: the maps, memory, a pair's shard or every one, and redistributors, the lowest first.
+/// needs: the maps, memory, a pair's shard or every one, and redistributors, the lowest first. A
+/// command that ends one pair's translations drops them from their shard. One that may end all
+/// leaves the next stamp, and after the last one 0 and empty shards. Takes no memory but what the
+/// maps want for a device, a collection or an event that is added. Where no step is made, every
+/// part is as it was.
 pub fn step<R: Wait, G: Gate>(
     rt: &R,
     machine: &Machine,

@@ -1,7 +1,5 @@
-use Rattle.std.proofs.Common.{rules, ◌≡◌, ◌<◌, ap, sym, ◌∙◌, subst, Some, []}
+use Rattle.std.proofs.Common.{List, ◌≡◌, ap, ◌∙◌, subst, []}
 use Rattle.its_types.specs.declared.machine.Part.TheVariants as part
-use Rattle.its_types.specs.Maps.{Maps, collection_of}
-use Rattle.cmd_exec.specs.Needs.{AreTargets}
 use Rattle.its_steps.specs.Contents.{Held}
 use Rattle.its_steps.specs.Good.{Holds}
 use Rattle.its_steps.specs.World.{View}
@@ -19,7 +17,7 @@ needs-set-requires-clause-targets g c = rw (c.deref-2.ensures) (targets_of (setu
 pub take_redists-requires-clause-free : goal.take_redists-requires-clause-free
 take_redists-requires-clause-free g c vcpu holds = let s = setup c.args.machine.now in let base = base_held c.args.tables.value c.args.memory.value.memory in
     cached_no_redist s.shards c.take_cached-cached.result base (base_no_redist c.args.tables.value c.args.memory.value.memory) vcpu
-    (subst (Holds (part.Redist vcpu)) (c.take_cached-cached.ensures.held ∙ ap (cached_held s.shards c.take_cached-cached.result) c.requires.held) holds)
+    (subst (λ (l : List Held). Holds (part.Redist vcpu) (cached_held s.shards c.take_cached-cached.result l)) c.requires.held (subst (Holds (part.Redist vcpu)) c.take_cached-cached.ensures.held holds))
 
 pub returns-clause-tries : goal.returns-clause-tries
 returns-clause-tries g c v bare goes = let s = setup c.args.machine.now in let run = c.run_command-said in
