@@ -11,6 +11,5 @@ mod stop;
 pub use ask::call_once;
 pub use laws::legs_may_run;
 pub use leg::{LegEnd, run_leg};
-
 pub use phase::{PhaseEnd, run_phase};
 pub use stop::Stop;

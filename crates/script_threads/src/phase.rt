@@ -50,7 +50,12 @@ fn run_each<R: Threads + Wait + Sync, G: Gate + Sync>(
     ensures { Both (Worked machine.now) jobs.old jobs.new }
 {
     let threads = jobs.len().max(1);
-    thread::for_each_mut(rt, jobs, threads, &|_, job| run(rt, alloc, machine, gate, job));
+    thread::for_each_mut(
+        rt,
+        jobs,
+        threads,
+        &|_, job| run(rt, alloc, machine, gate, job),
+    );
 }
 
 fn run_all<R: Threads + Wait + Sync, G: Gate + Sync>(
