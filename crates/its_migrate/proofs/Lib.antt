@@ -4,3 +4,4 @@ mod Views
 mod Moving
 mod Pendings
 mod Savings
+pub mod Fresh

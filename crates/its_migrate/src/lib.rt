@@ -5,6 +5,8 @@ mod getting;
 mod leaving;
 mod resting;
 mod saving;
+#[cfg(test)]
+mod tests;
 mod whole;
 
 pub use leaving::migrate;

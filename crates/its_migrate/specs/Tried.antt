@@ -1,0 +1,24 @@
+-- What the tests begin with.
+use Rattle.std.specs.Prelude.{◌≡◌, []}
+use Rattle.its_plain.specs.Machine.{IsDescription}
+use Rattle.its_plain.specs.declared.desc.Desc.{Desc}
+use Rattle.its_turns.specs.Machines.{view, IsOf}
+use Rattle.its_turns.specs.Told.{IsLone}
+use Rattle.its_turns.specs.declared.machine.Machine.{Machine}
+use Rattle.its_turns.specs.declared.machine.Pass.{Pass}
+use Rattle.its_migrate.specs.Resting.{HasItsLayout}
+
+-- a description of a machine that threads can share
+pub record IsSmall (d : Desc) : Type 0 where
+  pub description : IsDescription d
+  pub shards : d.shards ≡ 4
+  pub vcpus : d.shape.vcpus ≡ 4
+  pub stamps : d.limits.stamp_last ≡ 16777215
+  pub places : d.limits.place_last ≡ 1099511627775
+
+-- a machine at rest with its root
+pub record IsAtRest (m : Machine) (r : Pass) : Type 0 where
+  pub of : IsOf m r
+  pub layout : HasItsLayout m
+  pub lone : IsLone (view r)
+  pub free : (view r).held ≡ []
