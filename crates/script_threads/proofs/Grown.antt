@@ -116,11 +116,13 @@ grown v u w xs rests knew root held made mine ended longer knows took count =
     let below : AllByRecursion (λ (e : Entry). e.pass < v.root.made + length xs) more = all_last (λ (e : Entry). e.pass < v.root.made + length xs) v.seen more (subst (λ (z : ℕ × List Entry). AllByRecursion (λ (e : Entry). e.pass < z.0) z.1) (λ d. (made' d, seen d)) know.given) in
     record {
       rests = record {
-        lone = (took.number ∙ root,
+        lone = (
+          took.number ∙ root,
           (λ n pos lt. subst (IsEnded n) (sym ended') (⊎_elim
               (λ (old : n < v.root.made). ended_later n xs v.root.ended (rests.lone.1 n pos old))
               (λ (le : v.root.made ≤ n). ended_new n v.root.made xs v.root.ended count le (omega (arith, lt, made')))
-              (cases_lt n v.root.made))));
+              (cases_lt n v.root.made))),
+        );
         held = took.held ∙ held;
       };
       knows = know;

@@ -96,8 +96,8 @@ module _ (m : Machine) where
   spent_after w (j ∷ js) [] b same told t = absurd b
   spent_after w (j ∷ js) (k ∷ ks) b same told t = ⊎_elim
       (λ (e : k.stop ≡ Some Spent).
-          let last : (view j.pass).setup.limits.place_last ≡ w.setup.limits.place_last = ap (λ (s : Setup). s.limits.place_last) same.0 in
-          (inl (b.0.ran.cut (stopped k.stop Spent e)), omega (arith, b.0.ran.spent e, last, prefix_length (view k.pass).seen w.seen told.0)))
+      let last : (view j.pass).setup.limits.place_last ≡ w.setup.limits.place_last = ap (λ (s : Setup). s.limits.place_last) same.0 in
+      (inl (b.0.ran.cut (stopped k.stop Spent e)), omega (arith, b.0.ran.spent e, last, prefix_length (view k.pass).seen w.seen told.0)))
       (λ (e : SomeStopped Spent ks). let r = spent_after w js ks b.1 same.1 told.1 e in (inr r.0, r.1)) t
     where
       stopped : (o : Option Stop) (s : Stop) → o ≡ Some s → IsSome o

@@ -5,3 +5,4 @@ pub mod Phases
 pub mod Rests
 pub mod Roots
 pub mod Scripts
+pub mod Tried

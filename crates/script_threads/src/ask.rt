@@ -158,7 +158,8 @@ fn ask_write_reg<R: Wait, G: Gate>(
     requires of { IsOf machine.now pass.old }
     requires free { (view pass.old).held ≡ [] }
     ensures of { IsOf machine.now pass.new }
-    ensures answer { Answers (view pass.old) (call.WriteReg 0 off size value) (view pass.new) result }
+    ensures answer { Answers (view pass.old) (call.WriteReg 0 off size value) (view pass.new)
+        result }
 {
     match write_reg(rt, machine, pass, gate, off, size, value) {
         Ok(Placed { place, reply: () }) => Ok(Placed {

@@ -38,7 +38,8 @@ fn add_lists<'a>(
     requires few { length threads.now ≤ 64 }
     requires len { vec_len lists ≡ length threads.now }
     ensures { OnOk result
-        (all_lines all.new.items ≡ all_lines all.old.items ++ phase_lines phase 1 threads.now lists.items) }
+        (all_lines all.new.items
+        ≡ all_lines all.old.items ++ phase_lines phase 1 threads.now lists.items) }
 {
     let mut thread = 0u32;
     for replies in lists {
@@ -72,7 +73,8 @@ pub fn run_leg<'a, R: Threads + Wait + Sync, G: Gate + Sync>(
     requires threads { AllByRecursion (λ threads. length threads ≤ 64) phases.now }
     requires may { MayRunLeg (setup machine.now) phases.now }
     ensures of { IsOf machine.now root.new }
-    ensures leg { IfOk result (λ e. RanLeg (setup machine.now) phases.now e.lists.items e.stop (view root.new)) }
+    ensures leg { IfOk result (λ e.
+        RanLeg (setup machine.now) phases.now e.lists.items e.stop (view root.new)) }
 {
     let mut lists = Vec::new(alloc);
     let mut number = 0u32;

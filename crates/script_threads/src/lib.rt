@@ -7,10 +7,11 @@ mod laws;
 mod leg;
 mod phase;
 mod stop;
+#[cfg(test)]
+mod tests;
 
 pub use ask::call_once;
 pub use laws::legs_may_run;
 pub use leg::{LegEnd, run_leg};
-
 pub use phase::{PhaseEnd, run_phase};
 pub use stop::Stop;

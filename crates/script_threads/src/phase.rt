@@ -1,10 +1,12 @@
 //! The threads of a phase, beside each other.
-ghost use Rattle.std.specs.Prelude.{◌≡◌, ◌+◌, ◌^◌, ◌<◌, ◌≤◌, [], None, map, length, vec_len, vec_capacity, IfOk, OnErr};
+ghost use Rattle.std.specs.Prelude.{◌≡◌, ◌+◌, ◌^◌, ◌<◌, ◌≤◌, [], None, IfOk, OnErr};
+ghost use Rattle.std.specs.Prelude.{map, length, vec_len, vec_capacity};
 ghost use Rattle.std.specs.List.{AllByRecursion};
 ghost use Rattle.its_turns.specs.Machines.{setup, view, IsOf};
 ghost use Rattle.its_migrate.specs.Resting.{HasItsLayout};
 ghost use Rattle.script_threads.specs.Asks.{MayRun};
-ghost use Rattle.script_threads.specs.Jobs.{AreNew, Both, HasRoom, IsFreeJob, IsReady, SeenBy, Worked, call_list, end_of, reply_list, worst_from};
+ghost use Rattle.script_threads.specs.Jobs.{AreNew, Both, HasRoom, IsFreeJob, IsReady, SeenBy};
+ghost use Rattle.script_threads.specs.Jobs.{Worked, call_list, end_of, reply_list, worst_from};
 ghost use Rattle.script_threads.specs.Phases.{Phased};
 ghost use Rattle.script_threads.specs.Rests.{Rests};
 ghost use Rattle.script_threads.specs.Jobs as spec;
@@ -50,7 +52,12 @@ fn run_each<R: Threads + Wait + Sync, G: Gate + Sync>(
     ensures { Both (Worked machine.now) jobs.old jobs.new }
 {
     let threads = jobs.len().max(1);
-    thread::for_each_mut(rt, jobs, threads, &|_, job| run(rt, alloc, machine, gate, job));
+    thread::for_each_mut(
+        rt,
+        jobs,
+        threads,
+        &|_, job| run(rt, alloc, machine, gate, job),
+    );
 }
 
 fn run_all<R: Threads + Wait + Sync, G: Gate + Sync>(
@@ -166,8 +173,10 @@ fn worse(first: Option<Stop>, later: Option<Stop>) -> Option<Stop>
 fn take_room<'a>(alloc: Global, threads: &'a [Thread]) -> Result<Room<'a>, AllocError>
     ensures len { IfOk result (λ r. vec_len r.replies ≡ length threads.now) }
     ensures replies { IfOk result (λ r. HasRoom threads.now r.replies.items) }
-    ensures jobs { IfOk result (λ r. (r.jobs.items ≡ []) × (length threads.now ≤ vec_capacity r.jobs)) }
-    ensures lists { IfOk result (λ r. (r.lists.items ≡ []) × (length threads.now ≤ vec_capacity r.lists)) }
+    ensures jobs { IfOk result (λ r.
+        (r.jobs.items ≡ []) × (length threads.now ≤ vec_capacity r.jobs)) }
+    ensures lists { IfOk result (λ r.
+        (r.lists.items ≡ []) × (length threads.now ≤ vec_capacity r.lists)) }
 {
     Ok(Room {
         replies: room_for(alloc, threads)?,
@@ -194,7 +203,8 @@ pub fn run_phase<R: Threads + Wait + Sync, G: Gate + Sync>(
     requires few { (view root.old).root.made + length threads.now < 2 ^ 32 }
     requires may { MayRun (setup machine.now) threads.now }
     ensures of { IsOf machine.now root.new }
-    ensures phase { IfOk result (λ e. Phased (view root.old) threads.now e.lists.items e.stop (view root.new)) }
+    ensures phase { IfOk result (λ e.
+        Phased (view root.old) threads.now e.lists.items e.stop (view root.new)) }
     ensures err { OnErr result (root.new ≡ root.old) }
 {
     let room = take_room(alloc, threads)?;
@@ -223,7 +233,8 @@ fn run_rested<'a, R: Threads + Wait + Sync, G: Gate + Sync>(
     requires jobs { (room.jobs.items ≡ []) × (length threads.now ≤ vec_capacity room.jobs) }
     requires lists { (room.lists.items ≡ []) × (length threads.now ≤ vec_capacity room.lists) }
     ensures of { IsOf machine.now root.new }
-    ensures phase { Phased (view root.old) threads.now result.lists.items result.stop (view root.new) }
+    ensures phase { Phased (view root.old) threads.now result.lists.items result.stop
+        (view root.new) }
 {
     let Room {
         replies,
