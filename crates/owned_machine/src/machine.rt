@@ -34,7 +34,8 @@ impl Machine {
     ghost use Rattle.its_plain.specs.Machine.{IsDescription};
     ghost use Rattle.its_plain.specs.Plain.{pending_of};
     ghost use Rattle.owned_machine.specs.Migrations.{Migrates};
-    ghost use Rattle.owned_machine.specs.Whole.{may_want_memory};
+    ghost use Rattle.owned_machine.specs.Whole.{IsMachine, may_want_memory};
+    ghost use Rattle.owned_parts.specs.Owned.{state_of_parts};
 
     /// The machine that a description makes, restored from memory where the description says so, or
     /// the first thing that is wrong.
@@ -56,6 +57,14 @@ impl Machine {
         ensures rare { OnErr result (may_want_memory self.old call.now ≡ true) }
     {
         answered(&mut self.parts, alloc, call)
+    }
+
+    /// Everything that it has.
+    pub fn into_parts(self) -> Parts
+        ensures whole { IsMachine result }
+        ensures state { state_of_parts result ≡ self }
+    {
+        self.parts
     }
 
     /// How many virtual processors there are.
