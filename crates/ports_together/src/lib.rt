@@ -1,8 +1,8 @@
 //! Machines that threads share, from a description to the parts that are left, with all ports.
 #![tactic(auto)]
 
-mod share;
+mod sharing;
 #[cfg(test)]
 mod tests;
 
-pub use share::share;
+pub use sharing::share;

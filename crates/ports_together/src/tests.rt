@@ -206,7 +206,7 @@ fn peeked<R: Wait>(rt: &R, machine: &Machine, pass: &mut Pass, addr: u64) -> Sai
     }
 }
 
-fn said<R: Wait>(rt: &R, machine: &Machine, pass: &mut Pass, ask: Ask) -> Said
+fn asked<R: Wait>(rt: &R, machine: &Machine, pass: &mut Pass, ask: Ask) -> Said
     requires { IsReady machine.now pass.old }
     ensures { IsReady machine.now pass.new }
 {
@@ -226,7 +226,7 @@ fn play<R: Wait>(rt: &R, machine: &Machine, pass: &mut Pass, rows: &[(Ask, Said)
     ensures { IsReady machine.now pass.new }
 {
     for (row, &(ask, expected)) in rows.iter().enumerate() {
-        if said(rt, machine, pass, ask) != expected {
+        if asked(rt, machine, pass, ask) != expected {
             return row;
         }
     }
