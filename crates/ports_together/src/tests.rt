@@ -49,7 +49,8 @@ const VALUES: RegValues = RegValues {
 fn described(alloc: Global) -> Result<Desc, AllocError>
     ensures description { IfOk result IsDescription }
     ensures shards { IfOk result (λ d. d.shards ≡ 4) }
-    ensures limits { IfOk result (λ d. d.limits ≡ record { stamp_last = 16_777_215; place_last = 1_000_000 }) }
+    ensures limits { IfOk result (λ d.
+        d.limits ≡ record { stamp_last = 16_777_215; place_last = 1_000_000 }) }
 {
     let mut windows = Listed::new(alloc);
     windows.push((Addr(0x8000_0000), 0x20_0000))?;
