@@ -27,10 +27,12 @@ pub fn plan(
     shape: &Shape,
 ) -> Planned
     requires { AreNeededInHand shape.now maps.now.maps command.now redists.now }
-    ensures plan { IsPlanOf command.now shape.now regs.now maps.now.maps memory.now redists.now result }
+    ensures plan { IsPlanOf command.now shape.now regs.now maps.now.maps memory.now redists.now
+        result }
     ensures reply { IsReplyTo command.now shape.now regs.now maps.now.maps memory.now redists.now
         (planned_reply result) }
-    ensures adds { AddsAlike command.now shape.now regs.now maps.now.maps memory.now redists.now result }
+    ensures adds { AddsAlike command.now shape.now regs.now maps.now.maps memory.now redists.now
+        result }
 {
     let parts = InHand {
         regs,
@@ -58,7 +60,8 @@ pub fn apply(
 )
     requires parts { ArePartsOfSound shape.now regs.old maps.old.maps memory.now redists.old }
     requires in_hand { AreNeededInHand shape.now maps.old.maps planned.command redists.old }
-    requires plan { IsPlanOf planned.command shape.now regs.old maps.old.maps memory.now redists.old planned }
+    requires plan { IsPlanOf planned.command shape.now regs.old maps.old.maps memory.now redists.old
+        planned }
     requires room { HasRoomFor maps.old planned }
     ensures left { AreLeftBy planned.command shape.now memory.now (regs.old, maps.old.maps, redists.old)
         (regs.new, maps.new.maps, redists.new) }
