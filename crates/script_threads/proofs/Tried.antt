@@ -1,5 +1,5 @@
 -- What the test's leg asks.
-use Rattle.std.proofs.Common.{◌≡◌, ℕ, ◌<◌, List, [], ◌∷◌, ◌++◌, sym, subst, arith}
+use Rattle.std.proofs.Common.{◌≡◌, [], ◌∷◌, ◌++◌, sym, subst, arith}
 use Rattle.std.specs.List.{AllByRecursion}
 use Rattle.its_plain.specs.Runs.{Thread}
 use Rattle.its_plain.specs.declared.call.Call.{Call}

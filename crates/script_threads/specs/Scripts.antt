@@ -1,5 +1,5 @@
 -- What a script's limits tell of its legs.
-use Rattle.std.specs.Prelude.{◌≡◌, ◌≤◌, Bool, true, false, List, length}
+use Rattle.std.specs.Prelude.{◌≡◌, ◌≤◌, Bool, true, false, length}
 use Rattle.std.specs.List.{AllByRecursion, list_all}
 use Rattle.its_plain.specs.Runs.{Leg}
 use Rattle.its_plain.specs.declared.call.Call.{Call}

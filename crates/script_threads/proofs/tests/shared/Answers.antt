@@ -1,7 +1,6 @@
-use Rattle.std.proofs.Common.{◌≡◌, ap, sym, ◌∙◌}
+use Rattle.std.proofs.Common.{◌≡◌, ap, ◌∙◌}
 use Rattle.its_plain.specs.Machine.{layout_of}
 use Rattle.its_plain.specs.Plain.{Plain}
-use Rattle.its_plain.specs.declared.desc.Desc.{Desc}
 use Rattle.its_steps.specs.Parts.{Setup, vcpu_count}
 use Rattle.its_migrate.proofs.Fresh.{first_layout, fresh_layout}
 use Rattle.script_threads.proofs.tests.shared.Goals as goal
