@@ -1,0 +1,6 @@
+pub mod Asked
+pub mod Codes
+pub mod Faults
+pub mod Lending
+pub mod Replies
+pub mod Saves

@@ -1,0 +1,19 @@
+//! The translator for machine monitors in other languages: a machine behind a handle, and calls
+//! that take and answer numbers and bytes.
+#![tactic(auto)]
+
+mod codes;
+mod commands;
+mod faults;
+mod handle;
+mod interrupts;
+mod lent;
+mod loose;
+mod ranges;
+mod registers;
+mod replies;
+mod saves;
+
+pub use faults::{MakeFaultOut, SaveFaultOut};
+pub use handle::Handle;
+pub use replies::{AckOut, SignalOut, StepOut};
