@@ -9,6 +9,8 @@ mod handle;
 mod interrupts;
 mod lent;
 mod loose;
+mod memory;
+mod pieces;
 mod ranges;
 mod registers;
 mod replies;
