@@ -1,7 +1,9 @@
 pub mod Asked
 pub mod Codes
+pub mod Descriptions
 pub mod Faults
 pub mod Lending
+pub mod Making
 pub mod Pieces
 pub mod Replies
 pub mod Saves

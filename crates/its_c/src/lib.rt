@@ -4,12 +4,16 @@
 
 mod codes;
 mod commands;
+mod description;
 mod faults;
 mod handle;
 mod interrupts;
 mod lent;
 mod loose;
+mod making;
 mod memory;
+mod numbers;
+mod pending;
 mod pieces;
 mod ranges;
 mod registers;
@@ -18,4 +22,5 @@ mod saves;
 
 pub use faults::{MakeFaultOut, SaveFaultOut};
 pub use handle::Handle;
+pub use numbers::{DescriptionIn, FillIn, RedistributorIn, WindowIn};
 pub use replies::{AckOut, SignalOut, StepOut};

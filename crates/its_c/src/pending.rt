@@ -1,0 +1,55 @@
+//! The LPIs that are pending.
+ghost use Rattle.std.specs.Prelude.{◌≡◌, ◌≢◌, true, false, take, length, map};
+ghost use Rattle.its_plain.specs.Plain.{pending_of};
+ghost use Rattle.its_c.specs.Asked.{has_vcpu as has};
+ghost use Rattle.its_c.specs.Codes as codes;
+
+use crate::codes::{DONE, NO_MEMORY, RANGE};
+use crate::handle::Handle;
+use crate::ranges::has_vcpu;
+use its_types::Intid;
+use std::alloc::Global;
+
+/// The LPIs that are pending at a virtual processor, rising, as many as the list takes; and how many
+/// there are.
+#[unsafe(no_mangle)]
+pub extern "C" fn its_pending(
+    handle: &mut Handle,
+    alloc: Global,
+    vcpu: u32,
+    list: &mut [u32],
+    count: &mut u64,
+) -> u32
+    ensures range { has handle.old.machine vcpu ≡ false → result ≡ codes.range }
+    ensures told { result ≡ codes.done
+        → (take (length list.old) (pending_of handle.old.machine vcpu)
+        ≡ take (length (pending_of handle.old.machine vcpu)) list.new)
+        × (count.new ≡ length (pending_of handle.old.machine vcpu)) }
+    ensures only { result ≢ codes.done → (list.new ≡ list.old) × (count.new ≡ count.old) }
+    ensures no_other { has handle.old.machine vcpu ≡ true → result ≢ codes.range }
+    ensures same { handle.new.machine ≡ handle.old.machine }
+{
+    let machine = handle.lent();
+    if !has_vcpu(machine, vcpu) {
+        return RANGE;
+    }
+    let Ok(lpis) = machine.pending(alloc, vcpu as usize) else {
+        return NO_MEMORY;
+    };
+    copy(&lpis, list);
+    *count = lpis.len() as u64;
+    DONE
+}
+
+// As many of the LPIs as the list takes.
+fn copy(lpis: &[Intid], list: &mut [u32])
+    ensures copied { take (length list.old) (map (λ i. i.0) lpis.now)
+        ≡ take (length lpis.now) list.new }
+    ensures length { length list.new ≡ length list.old }
+{
+    let mut at = 0;
+    while at < lpis.len() && at < list.len() {
+        list[at] = lpis[at].0;
+        at += 1;
+    }
+}
