@@ -1,7 +1,7 @@
 //! The LPIs that are pending.
-ghost use Rattle.std.specs.Prelude.{◌≡◌, ◌≢◌, true, false, take, length, map};
+ghost use Rattle.std.specs.Prelude.{◌≡◌, ◌≢◌, true, false, length, map};
 ghost use Rattle.its_plain.specs.Plain.{pending_of};
-ghost use Rattle.its_c.specs.Asked.{has_vcpu as has};
+ghost use Rattle.its_c.specs.Asked.{has_vcpu as has, HasFirst};
 ghost use Rattle.its_c.specs.Codes as codes;
 
 use crate::codes::{DONE, NO_MEMORY, RANGE};
@@ -21,10 +21,10 @@ pub extern "C" fn its_pending(
     count: &mut u64,
 ) -> u32
     ensures range { has handle.old.machine vcpu ≡ false → result ≡ codes.range }
-    ensures told { result ≡ codes.done
-        → (take (length list.old) (pending_of handle.old.machine vcpu)
-        ≡ take (length (pending_of handle.old.machine vcpu)) list.new)
-        × (count.new ≡ length (pending_of handle.old.machine vcpu)) }
+    ensures told { result ≡ codes.done → HasFirst (pending_of handle.old.machine vcpu) list.new }
+    ensures length { length list.new ≡ length list.old }
+    ensures count { result ≡ codes.done
+        → count.new ≡ length (pending_of handle.old.machine vcpu) }
     ensures only { result ≢ codes.done → (list.new ≡ list.old) × (count.new ≡ count.old) }
     ensures no_other { has handle.old.machine vcpu ≡ true → result ≢ codes.range }
     ensures same { handle.new.machine ≡ handle.old.machine }
@@ -43,8 +43,7 @@ pub extern "C" fn its_pending(
 
 // As many of the LPIs as the list takes.
 fn copy(lpis: &[Intid], list: &mut [u32])
-    ensures copied { take (length list.old) (map (λ i. i.0) lpis.now)
-        ≡ take (length lpis.now) list.new }
+    ensures copied { HasFirst (map (λ i. i.0) lpis.now) list.new }
     ensures length { length list.new ≡ length list.old }
 {
     let mut at = 0;
