@@ -38,19 +38,25 @@ next_read m a i before after piece below read found is = below_next i earlier th
   where
     n : ℕ
     n = length before
+
     long : length piece ≡ piece_length n i
     long = length-read_at m (a + 64 * i) (piece_length n i) piece found
+
     within : 64 * i + length piece ≤ n
     within = omega (arith, long, ends n i below)
+
     start : 64 * i ≤ n
     start = omega (arith, within)
+
     same_length : length after ≡ n
     same_length = ap length is ∙ length-splice (64 * i) piece before within
+
     earlier : (k : ℕ) → k < i → read_at m (a + 64 * k) (piece_length (length after) k) ≡ Some (piece_of after k)
     earlier k small =
         ap (λ l. read_at m (a + 64 * k) (piece_length l k)) same_length ∙ read k small
         ∙ ap Some (sym (ap (λ l. take (piece_length l k) (drop (64 * k) after)) same_length ∙ ap (λ xs. take (piece_length n k) (drop (64 * k) xs)) is
         ∙ splice_before (64 * i) (64 * k) (piece_length n k) piece before start (omega (arith, short n k, small))))
+
     this : read_at m (a + 64 * i) (piece_length (length after) i) ≡ Some (piece_of after i)
     this =
         ap (λ l. read_at m (a + 64 * i) (piece_length l i)) same_length ∙ found

@@ -21,6 +21,10 @@ range = 3
 abbrev pub fault : ℕ
 fault = 4
 
+-- a handle with no machine, or, to make one, a handle that has one already
+abbrev pub handle : ℕ
+handle = 5
+
 -- done where the numbers are in their ranges
 abbrev pub if_in_range : Bool → ℕ
 if_in_range b = if b then done else range

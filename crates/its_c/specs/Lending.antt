@@ -1,4 +1,5 @@
 -- What the loan of the machine behind a handle leaves of the handle.
+use Rattle.std.specs.Prelude.{Some}
 use base.Fml.{Fml}
 use denote.Ref.{MutBor}
 use denote.Follow.{follows}
@@ -9,7 +10,7 @@ use Rattle.owned_machine.specs.contracts.machine.Machine.{the_row as machine_row
 
 -- the handle, once its machine is in the state u
 abbrev pub holding : Handle → Plain → Handle
-holding h u = record { at = h.at; alloc = h.alloc; machine = u }
+holding h u = record { at = h.at; alloc = h.alloc; machine = Some u }
 
 -- at the loan's end the handle's machine is in the state that was last written through it
 abbrev pub machine_follows : MutBor Handle → MutBor Plain → Fml

@@ -1,5 +1,5 @@
 -- What making a machine comes to.
-use Rattle.std.specs.Prelude.{◌≡◌, ◌≢◌, ℕ}
+use Rattle.std.specs.Prelude.{◌≡◌, ◌≢◌, ℕ, Option, Some, None}
 use Rattle.its_plain.specs.Described.{IsFirstState, IsRefused}
 use Rattle.its_plain.specs.Plain.{Plain}
 use Rattle.its_plain.specs.declared.desc.Desc.{Desc}
@@ -8,9 +8,10 @@ use Rattle.its_c.specs.Codes as codes
 use Rattle.its_c.specs.Faults.{make_fault_out}
 use Rattle.its_c.specs.declared.faults.MakeFaultOut.{MakeFaultOut}
 
--- the description makes a machine
-abbrev pub IsMade : Desc → Type 0
-IsMade d = (u : Plain) × IsFirstState d u
+-- there is a machine, in the first state of what the description makes
+abbrev pub IsMade : Desc → Option Plain → Type 0
+IsMade d None = ⊥
+IsMade d (Some u) = IsFirstState d u
 
 -- what each answer says when none was made
 pub record IsUnmade (code : ℕ) (d : Desc) (before after : MakeFaultOut) : Type 0 where

@@ -15,3 +15,6 @@ pub const RANGE: u32 = 3;
 /// The description makes no machine, or the state can't be saved: the call tells the fault. Nothing
 /// changed.
 pub const FAULT: u32 = 4;
+
+/// The handle has no machine; or, where one is to be made, has one already. Nothing changed.
+pub const HANDLE: u32 = 5;

@@ -5,24 +5,23 @@ ghost use Rattle.its_c.specs.Codes as codes;
 ghost use Rattle.its_c.specs.Replies as replies;
 
 use crate::codes::{DONE, NO_MEMORY};
-use crate::handle::Handle;
 use crate::replies::{StepOut, step_out};
 use its_plain::{Call, Reply};
+use owned_machine::Machine;
 use std::alloc::Global;
 
 /// The translator takes its next command.
 #[tactic(auto, unfolding(its_plain::specs::Answer::reply_of, its_plain::specs::Answer::left))]
-#[unsafe(no_mangle)]
-pub extern "C" fn its_step(handle: &mut Handle, alloc: Global, out: &mut StepOut) -> u32
+pub fn step(machine: &mut Machine, alloc: Global, out: &mut StepOut) -> u32
     ensures codes { result ≤ codes.no_memory }
     ensures told { result ≡ codes.done
-        → out.new ≡ replies.step_out (plain.step_reply handle.old.machine 0) }
+        → out.new ≡ replies.step_out (plain.step_reply machine.old 0) }
     ensures left { result ≡ codes.done
-        → handle.new.machine ≡ plain.step_left handle.old.machine 0 }
+        → machine.new ≡ plain.step_left machine.old 0 }
     ensures no_memory { result ≡ codes.no_memory
-        → (out.new ≡ out.old) × (handle.new.machine ≡ handle.old.machine) }
+        → (out.new ≡ out.old) × (machine.new ≡ machine.old) }
 {
-    match handle.lent().answer(alloc, &Call::Step { its: 0 }) {
+    match machine.answer(alloc, &Call::Step { its: 0 }) {
         Ok(Reply::Step(step)) => {
             *out = step_out(step);
             DONE

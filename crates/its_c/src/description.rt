@@ -83,11 +83,13 @@ pub fn description(
     bytes: &[u8],
 ) -> Result<Desc, AllocError>
     requires numbers { spec.numbers_in_range numbers.now ≡ true }
-    requires counts { spec.counts_in_range numbers.now (length pending.now) (length redistributors.now) ≡ true }
+    requires counts { spec.counts_in_range numbers.now (length pending.now)
+        (length redistributors.now) ≡ true }
     requires lengths { spec.lengths_fit fills.now (length bytes.now) ≡ true }
     ensures described { IfOk result IsDescription }
     ensures described_by { IfOk result (λ d. d
-        ≡ spec.description_of numbers.now windows.now pending.now redistributors.now fills.now bytes.now) }
+        ≡ spec.description_of numbers.now windows.now pending.now redistributors.now fills.now
+        bytes.now) }
 {
     Ok(Desc {
         shape: shape(numbers),
@@ -135,7 +137,8 @@ fn tables(
     pending: &[u64],
     redistributors: &[RedistributorIn],
 ) -> Result<LpiTables, AllocError>
-    requires { spec.counts_in_range numbers.now (length pending.now) (length redistributors.now) ≡ true }
+    requires { spec.counts_in_range numbers.now (length pending.now) (length redistributors.now)
+        ≡ true }
     ensures counts { IfOk result (HasTablesFor numbers.now.vcpus) }
     ensures tables { IfOk result (λ t. t ≡ spec.tables_of numbers.now pending.now redistributors.now) }
 {

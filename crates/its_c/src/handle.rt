@@ -1,38 +1,76 @@
 //! What a caller in another language holds of a machine.
-ghost use Rattle.std.specs.Prelude.{◌≡◌};
+ghost use Rattle.std.specs.Prelude.{◌≡◌, Option, Some, None, IsSome, is_none};
+ghost use Rattle.std.specs.Coded.{coded_option};
 ghost use Rattle.its_plain.specs.Plain.{Plain, plain_code};
 
 use crate::loose::Loose;
 use owned_machine::Machine;
 use std::alloc::Global;
 use std::marker::Model;
+use std::ptr::null_mut;
 
-/// A machine on the heap, by its address. Whoever has the handle owns the machine.
+/// A machine on the heap, by its address, or no machine, at null. Whoever has the handle owns the
+/// machine.
 #[repr(C)]
+#[derive(Drop)]
 pub struct Handle {
     pub(crate) at: *mut u8,
     pub(crate) alloc: Global,
-    pub(crate) ghost machine: { Plain } by { plain_code },
+    pub(crate) ghost machine: { Option Plain } by { coded_option plain_code },
 }
 
 impl Model for Handle {
-    ghost use Rattle.std_alloc.specs.Box.Ownership.{box_owns};
-    ghost use Rattle.std_heap.specs.contracts.GlobalAllocator.TheImpl.{ghosts};
-    ghost use Rattle.owned_machine.specs.contracts.machine.Machine.{the_row};
+    ghost use Rattle.its_c.specs.Owning.{held};
 
-    ghost also_owns = { λ h. box_owns (ghosts.dealloc_token h.alloc) the_row h.at h.machine };
+    ghost also_owns = { λ h. held h.alloc h.at h.machine };
 }
 
 impl Handle {
+    /// A handle with no machine.
+    pub fn empty(alloc: Global) -> Handle
+        ensures { result.machine ≡ None }
+    {
+        Handle {
+            at: null_mut(),
+            alloc,
+        }
+    }
+
+    /// Whether it has no machine.
+    pub fn is_empty(&mut self) -> bool
+        ensures { (result ≡ is_none self.old.machine) × (self.new ≡ self.old) }
+    {
+        self.at.is_null()
+    }
+
+    /// The handle of a machine that is on the heap.
+    pub fn of(machine: Box<Machine>) -> Handle
+        ensures { result.machine ≡ Some machine.value }
+    {
+        Handle::of_loose(Loose::of(machine))
+    }
+
     /// The machine as a box, which frees it when it is dropped.
     pub fn into_box(self) -> Box<Machine>
-        ensures { result.value ≡ self.machine }
+        requires { IsSome self.machine }
+        ensures { self.machine ≡ Some result.value }
     {
         self.into_loose().into_box()
     }
 
+    fn of_loose(loose: Loose<Machine, Global>) -> Handle
+        ensures { result.machine ≡ Some loose.value }
+    {
+        let Loose { at, alloc } = loose;
+        Handle {
+            at: at.cast::<u8>(),
+            alloc,
+        }
+    }
+
     fn into_loose(self) -> Loose<Machine, Global>
-        ensures { result.value ≡ self.machine }
+        requires { IsSome self.machine }
+        ensures { self.machine ≡ Some result.value }
     {
         let Handle { at, alloc } = self;
         Loose {

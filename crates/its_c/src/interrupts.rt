@@ -7,34 +7,33 @@ ghost use Rattle.its_c.specs.Codes as codes;
 ghost use Rattle.its_c.specs.Replies as replies;
 
 use crate::codes::{DONE, RANGE};
-use crate::handle::Handle;
 use crate::ranges::has_vcpu;
 use crate::replies::{AckOut, SignalOut, ack_out, signal_out};
 use its_plain::{Call, Reply};
 use its_types::{DeviceId, EventId, Vcpu};
+use owned_machine::Machine;
 use std::alloc::Global;
 
 /// A device's message.
 #[tactic(auto, unfolding(its_plain::specs::Answer::reply_of, its_plain::specs::Answer::left))]
-#[unsafe(no_mangle)]
-pub extern "C" fn its_signal(
-    handle: &mut Handle,
+pub fn signal(
+    machine: &mut Machine,
     alloc: Global,
     device: u32,
     event: u32,
     out: &mut SignalOut,
 ) -> u32
     ensures done { result ≡ codes.done }
-    ensures told { out.new ≡ replies.signal_out (signalled handle.old.machine device event) }
-    ensures left { handle.new.machine
-        ≡ signal_left handle.old.machine (signalled handle.old.machine device event) }
+    ensures told { out.new ≡ replies.signal_out (signalled machine.old device event) }
+    ensures left { machine.new
+        ≡ signal_left machine.old (signalled machine.old device event) }
 {
     let call = Call::Signal {
         its: 0,
         dev: DeviceId(device),
         ev: EventId(event),
     };
-    let Ok(Reply::Signal(signal)) = handle.lent().answer(alloc, &call) else {
+    let Ok(Reply::Signal(signal)) = machine.answer(alloc, &call) else {
         unreachable!()
     };
     *out = signal_out(signal);
@@ -43,22 +42,15 @@ pub extern "C" fn its_signal(
 
 /// A virtual processor acknowledges an LPI, which is then no longer pending.
 #[tactic(auto, unfolding(its_plain::specs::Answer::reply_of, its_plain::specs::Answer::left))]
-#[unsafe(no_mangle)]
-pub extern "C" fn its_take(
-    handle: &mut Handle,
-    alloc: Global,
-    vcpu: u32,
-    out: &mut AckOut,
-) -> u32
-    ensures code { result ≡ codes.if_in_range (has handle.old.machine vcpu) }
-    ensures told { has handle.old.machine vcpu ≡ true
-        → out.new ≡ replies.ack_out (shown handle.old.machine vcpu) }
-    ensures left { has handle.old.machine vcpu ≡ true
-        → handle.new.machine ≡ acknowledged handle.old.machine vcpu }
-    ensures refused { has handle.old.machine vcpu ≡ false
-        → (out.new ≡ out.old) × (handle.new.machine ≡ handle.old.machine) }
+pub fn take(machine: &mut Machine, alloc: Global, vcpu: u32, out: &mut AckOut) -> u32
+    ensures code { result ≡ codes.if_in_range (has machine.old vcpu) }
+    ensures told { has machine.old vcpu ≡ true
+        → out.new ≡ replies.ack_out (shown machine.old vcpu) }
+    ensures left { has machine.old vcpu ≡ true
+        → machine.new ≡ acknowledged machine.old vcpu }
+    ensures refused { has machine.old vcpu ≡ false
+        → (out.new ≡ out.old) × (machine.new ≡ machine.old) }
 {
-    let machine = handle.lent();
     if !has_vcpu(machine, vcpu) {
         return RANGE;
     }
@@ -71,20 +63,13 @@ pub extern "C" fn its_take(
 
 /// The LPI that a virtual processor would acknowledge.
 #[tactic(auto, unfolding(its_plain::specs::Answer::reply_of, its_plain::specs::Answer::left))]
-#[unsafe(no_mangle)]
-pub extern "C" fn its_show(
-    handle: &mut Handle,
-    alloc: Global,
-    vcpu: u32,
-    out: &mut AckOut,
-) -> u32
-    ensures code { result ≡ codes.if_in_range (has handle.old.machine vcpu) }
-    ensures told { has handle.old.machine vcpu ≡ true
-        → out.new ≡ replies.ack_out (shown handle.old.machine vcpu) }
-    ensures refused { has handle.old.machine vcpu ≡ false → out.new ≡ out.old }
-    ensures same { handle.new.machine ≡ handle.old.machine }
+pub fn show(machine: &mut Machine, alloc: Global, vcpu: u32, out: &mut AckOut) -> u32
+    ensures code { result ≡ codes.if_in_range (has machine.old vcpu) }
+    ensures told { has machine.old vcpu ≡ true
+        → out.new ≡ replies.ack_out (shown machine.old vcpu) }
+    ensures refused { has machine.old vcpu ≡ false → out.new ≡ out.old }
+    ensures same { machine.new ≡ machine.old }
 {
-    let machine = handle.lent();
     if !has_vcpu(machine, vcpu) {
         return RANGE;
     }

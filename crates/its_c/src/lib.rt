@@ -2,6 +2,7 @@
 //! that take and answer numbers and bytes.
 #![tactic(auto)]
 
+mod calls;
 mod codes;
 mod commands;
 mod description;

@@ -1,4 +1,4 @@
-//! A box by its pointer, for the moment between a handle and a box.
+//! A box by its pointer, for the moment between a box and a handle.
 ghost use Rattle.std.specs.Prelude.{◌≡◌};
 ghost use Rattle.std_alloc.specs.Box.Ownership.{box_owns};
 
@@ -16,6 +16,13 @@ impl<T, A: Allocator> Model for Loose<T, A> {
 }
 
 impl<T: Drop, A: Allocator> Loose<T, A> {
+    pub(crate) fn of(value: Box<T, A>) -> Loose<T, A>
+        ensures { result.value ≡ value.value }
+    {
+        let (at, alloc) = Box::into_raw_with_allocator(value);
+        Loose { at, alloc }
+    }
+
     pub(crate) fn into_box(self) -> Box<T, A>
         ensures { result.value ≡ self.value }
     {

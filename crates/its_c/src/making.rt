@@ -1,12 +1,12 @@
 //! A machine's making and end.
-ghost use Rattle.std.specs.Prelude.{◌≡◌, ◌≢◌, true, false, Ok, Err, IfOk, IfErr, length};
-ghost use Rattle.its_plain.specs.Described.{IsMadeFrom, IsFirstState};
+ghost use Rattle.std.specs.Prelude.{◌≡◌, ◌≢◌, true, false, Ok, Err, None, IfOk, IfErr, is_none, length};
+ghost use Rattle.its_plain.specs.Described.{IsMadeFrom};
 ghost use Rattle.its_plain.specs.Machine.{IsDescription};
 ghost use Rattle.its_c.specs.Codes as codes;
 ghost use Rattle.its_c.specs.Descriptions.{is_in_range as in_range, description_of};
 ghost use Rattle.its_c.specs.Making.{IsMade, IsUnmade};
 
-use crate::codes::{DONE, FAULT, NO_MEMORY, RANGE};
+use crate::codes::{DONE, FAULT, HANDLE, NO_MEMORY, RANGE};
 use crate::description::{description, is_in_range};
 use crate::faults::{MakeFaultOut, make_fault_out};
 use crate::handle::Handle;
@@ -14,10 +14,13 @@ use crate::numbers::{DescriptionIn, FillIn, RedistributorIn, WindowIn};
 use its_plain::{Desc, MakeError};
 use owned_machine::Machine;
 use std::alloc::Global;
+use std::mem::replace;
 
-/// A machine as numbers describe it, restored from guest memory where they say so.
+/// A machine as numbers describe it, restored from guest memory where they say so. The handle has
+/// none before.
 #[unsafe(no_mangle)]
 pub extern "C" fn its_new(
+    handle: &mut Handle,
     alloc: Global,
     numbers: &DescriptionIn,
     windows: &[WindowIn],
@@ -26,25 +29,46 @@ pub extern "C" fn its_new(
     fills: &[FillIn],
     bytes: &[u8],
     fault: &mut MakeFaultOut,
-    out: &mut *mut u8,
 ) -> u32
-    ensures range { in_range numbers.now (length pending.now) (length redistributors.now) fills.now (length bytes.now) ≡ false
+    ensures empty { is_none handle.old.machine ≡ false → result ≡ codes.handle }
+    ensures range { handle.old.machine ≡ None
+        → in_range numbers.now (length pending.now) (length redistributors.now) fills.now
+        (length bytes.now) ≡ false
         → result ≡ codes.range }
     ensures done { result ≡ codes.done
-        → IsMade (description_of numbers.now windows.now pending.now redistributors.now fills.now bytes.now) }
-    ensures unmade { IsUnmade result (description_of numbers.now windows.now pending.now redistributors.now fills.now bytes.now)
+        → IsMade (description_of numbers.now windows.now pending.now redistributors.now fills.now
+        bytes.now) handle.new.machine }
+    ensures same { result ≢ codes.done → handle.new ≡ handle.old }
+    ensures unmade { IsUnmade result
+        (description_of numbers.now windows.now pending.now redistributors.now fills.now bytes.now)
         fault.old fault.new }
 {
-    if !is_in_range(numbers, pending.len(), redistributors.len(), fills, bytes.len()) {
+    if !handle.is_empty() {
+        return HANDLE;
+    }
+    if !is_in_range(
+        numbers,
+        pending.len(),
+        redistributors.len(),
+        fills,
+        bytes.len(),
+    ) {
         return RANGE;
     }
-    let Ok(desc) = description(alloc, numbers, windows, pending, redistributors, fills, bytes)
-    else {
+    let Ok(desc) = description(
+        alloc,
+        numbers,
+        windows,
+        pending,
+        redistributors,
+        fills,
+        bytes,
+    ) else {
         return NO_MEMORY;
     };
     match made(alloc, &desc) {
         Ok(machine) => {
-            *out = Box::into_raw(machine).cast::<u8>();
+            *handle = machine;
             DONE
         }
         Err(MakeError::NoMemory) => NO_MEMORY,
@@ -55,18 +79,27 @@ pub extern "C" fn its_new(
     }
 }
 
-// The machine on the heap.
-fn made(alloc: Global, desc: &Desc) -> Result<Box<Machine>, MakeError>
+// The handle of a machine on the heap.
+fn made(alloc: Global, desc: &Desc) -> Result<Handle, MakeError>
     requires { IsDescription desc.now }
-    ensures made { IfOk result (λ b. IsFirstState desc.now b.value) }
+    ensures made { IfOk result (λ h. IsMade desc.now h.machine) }
     ensures refused { IfErr result (λ e. IsMadeFrom desc.now (Err e)) }
 {
     let machine = Machine::new(alloc, desc)?;
-    Ok(Box::new(alloc, machine)?)
+    Ok(Handle::of(Box::new(alloc, machine)?))
 }
 
-/// A machine's end. Its handle is gone.
+/// A machine's end. The handle has none then.
 #[unsafe(no_mangle)]
-pub extern "C" fn its_free(handle: Handle) {
-    drop(handle.into_box());
+pub extern "C" fn its_free(handle: &mut Handle, alloc: Global) -> u32
+    ensures empty { handle.old.machine ≡ None → result ≡ codes.handle }
+    ensures freed { is_none handle.old.machine ≡ false → result ≡ codes.done }
+    ensures gone { handle.new.machine ≡ None }
+{
+    if handle.is_empty() {
+        return HANDLE;
+    }
+    let ended = replace(handle, Handle::empty(alloc));
+    drop(ended.into_box());
+    DONE
 }

@@ -58,4 +58,3 @@ pub struct RedistributorIn {
     /// GICR_PENDBASER. Bit 62, Pending Table Zero, is taken as it is given.
     pub pendbaser: u64,
 }
-

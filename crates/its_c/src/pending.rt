@@ -5,31 +5,29 @@ ghost use Rattle.its_c.specs.Asked.{has_vcpu as has, HasFirst};
 ghost use Rattle.its_c.specs.Codes as codes;
 
 use crate::codes::{DONE, NO_MEMORY, RANGE};
-use crate::handle::Handle;
 use crate::ranges::has_vcpu;
 use its_types::Intid;
+use owned_machine::Machine;
 use std::alloc::Global;
 
 /// The LPIs that are pending at a virtual processor, rising, as many as the list takes; and how many
 /// there are.
-#[unsafe(no_mangle)]
-pub extern "C" fn its_pending(
-    handle: &mut Handle,
+pub fn pending(
+    machine: &mut Machine,
     alloc: Global,
     vcpu: u32,
     list: &mut [u32],
     count: &mut u64,
 ) -> u32
-    ensures range { has handle.old.machine vcpu ≡ false → result ≡ codes.range }
-    ensures told { result ≡ codes.done → HasFirst (pending_of handle.old.machine vcpu) list.new }
+    ensures range { has machine.old vcpu ≡ false → result ≡ codes.range }
+    ensures told { result ≡ codes.done → HasFirst (pending_of machine.old vcpu) list.new }
     ensures length { length list.new ≡ length list.old }
     ensures count { result ≡ codes.done
-        → count.new ≡ length (pending_of handle.old.machine vcpu) }
+        → count.new ≡ length (pending_of machine.old vcpu) }
     ensures only { result ≢ codes.done → (list.new ≡ list.old) × (count.new ≡ count.old) }
-    ensures no_other { has handle.old.machine vcpu ≡ true → result ≢ codes.range }
-    ensures same { handle.new.machine ≡ handle.old.machine }
+    ensures no_other { has machine.old vcpu ≡ true → result ≢ codes.range }
+    ensures same { machine.new ≡ machine.old }
 {
-    let machine = handle.lent();
     if !has_vcpu(machine, vcpu) {
         return RANGE;
     }

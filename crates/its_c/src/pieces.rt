@@ -125,6 +125,11 @@ pub fn write(machine: &mut Machine, alloc: Global, address: u64, bytes: &[u8])
     let count = bytes.len();
     for i in 0..piece_count(count) {
         let at = address + 64 * i as u64;
-        poke(machine, alloc, at, &bytes[64 * i..][..piece_length(count, i)]);
+        poke(
+            machine,
+            alloc,
+            at,
+            &bytes[64 * i..][..piece_length(count, i)],
+        );
     }
 }

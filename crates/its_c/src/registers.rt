@@ -7,26 +7,25 @@ ghost use Rattle.its_c.specs.Asked.{is_size as is, has_register};
 ghost use Rattle.its_c.specs.Codes as codes;
 
 use crate::codes::{DONE, RANGE};
-use crate::handle::Handle;
 use crate::ranges::{has_vcpu, is_size};
 use its_plain::{Call, Reply};
 use its_types::Vcpu;
+use owned_machine::Machine;
 use std::alloc::Global;
 
 /// A read of 4 or 8 bytes of the translator's control frame (IHI 0069, section 12.19).
 #[tactic(auto, unfolding(its_plain::specs::Answer::reply_of, its_plain::specs::Answer::left))]
-#[unsafe(no_mangle)]
-pub extern "C" fn its_read_register(
-    handle: &mut Handle,
+pub fn read_register(
+    machine: &mut Machine,
     alloc: Global,
     offset: u32,
     size: u32,
     out: &mut u64,
 ) -> u32
     ensures code { result ≡ codes.if_in_range (is size) }
-    ensures told { is size ≡ true → out.new ≡ read_reg (regs_of handle.old.machine 0) offset size }
+    ensures told { is size ≡ true → out.new ≡ read_reg (regs_of machine.old 0) offset size }
     ensures refused { is size ≡ false → out.new ≡ out.old }
-    ensures same { handle.new.machine ≡ handle.old.machine }
+    ensures same { machine.new ≡ machine.old }
 {
     if !is_size(size) {
         return RANGE;
@@ -36,7 +35,7 @@ pub extern "C" fn its_read_register(
         off: offset,
         size: size as u8,
     };
-    let Ok(Reply::Value(value)) = handle.lent().answer(alloc, &call) else {
+    let Ok(Reply::Value(value)) = machine.answer(alloc, &call) else {
         unreachable!()
     };
     *out = value;
@@ -45,9 +44,8 @@ pub extern "C" fn its_read_register(
 
 /// A write of 4 or 8 bytes of the translator's control frame.
 #[tactic(auto, unfolding(its_plain::specs::Answer::reply_of, its_plain::specs::Answer::left))]
-#[unsafe(no_mangle)]
-pub extern "C" fn its_write_register(
-    handle: &mut Handle,
+pub fn write_register(
+    machine: &mut Machine,
     alloc: Global,
     offset: u32,
     size: u32,
@@ -55,8 +53,8 @@ pub extern "C" fn its_write_register(
 ) -> u32
     ensures code { result ≡ codes.if_in_range (is size) }
     ensures left { is size ≡ true
-        → handle.new.machine ≡ written handle.old.machine 0 offset size value }
-    ensures refused { is size ≡ false → handle.new.machine ≡ handle.old.machine }
+        → machine.new ≡ written machine.old 0 offset size value }
+    ensures refused { is size ≡ false → machine.new ≡ machine.old }
 {
     if !is_size(size) {
         return RANGE;
@@ -67,7 +65,7 @@ pub extern "C" fn its_write_register(
         size: size as u8,
         value,
     };
-    let Ok(_) = handle.lent().answer(alloc, &call) else {
+    let Ok(_) = machine.answer(alloc, &call) else {
         unreachable!()
     };
     DONE
@@ -75,22 +73,20 @@ pub extern "C" fn its_write_register(
 
 /// A read of 4 or 8 bytes of the LPI registers of a redistributor (IHI 0069, section 12.11).
 #[tactic(auto, unfolding(its_plain::specs::Answer::reply_of, its_plain::specs::Answer::left))]
-#[unsafe(no_mangle)]
-pub extern "C" fn its_read_lpi_register(
-    handle: &mut Handle,
+pub fn read_lpi_register(
+    machine: &mut Machine,
     alloc: Global,
     vcpu: u32,
     offset: u32,
     size: u32,
     out: &mut u64,
 ) -> u32
-    ensures code { result ≡ codes.if_in_range (has_register handle.old.machine vcpu size) }
-    ensures told { has_register handle.old.machine vcpu size ≡ true
-        → out.new ≡ gicr_read handle.old.machine vcpu offset size }
-    ensures refused { has_register handle.old.machine vcpu size ≡ false → out.new ≡ out.old }
-    ensures same { handle.new.machine ≡ handle.old.machine }
+    ensures code { result ≡ codes.if_in_range (has_register machine.old vcpu size) }
+    ensures told { has_register machine.old vcpu size ≡ true
+        → out.new ≡ gicr_read machine.old vcpu offset size }
+    ensures refused { has_register machine.old vcpu size ≡ false → out.new ≡ out.old }
+    ensures same { machine.new ≡ machine.old }
 {
-    let machine = handle.lent();
     if !(has_vcpu(machine, vcpu) && is_size(size)) {
         return RANGE;
     }
@@ -108,22 +104,20 @@ pub extern "C" fn its_read_lpi_register(
 
 /// A write of 4 or 8 bytes of the LPI registers of a redistributor.
 #[tactic(auto, unfolding(its_plain::specs::Answer::reply_of, its_plain::specs::Answer::left))]
-#[unsafe(no_mangle)]
-pub extern "C" fn its_write_lpi_register(
-    handle: &mut Handle,
+pub fn write_lpi_register(
+    machine: &mut Machine,
     alloc: Global,
     vcpu: u32,
     offset: u32,
     size: u32,
     value: u64,
 ) -> u32
-    ensures code { result ≡ codes.if_in_range (has_register handle.old.machine vcpu size) }
-    ensures left { has_register handle.old.machine vcpu size ≡ true
-        → handle.new.machine ≡ gicr_written handle.old.machine vcpu offset size value }
-    ensures refused { has_register handle.old.machine vcpu size ≡ false
-        → handle.new.machine ≡ handle.old.machine }
+    ensures code { result ≡ codes.if_in_range (has_register machine.old vcpu size) }
+    ensures left { has_register machine.old vcpu size ≡ true
+        → machine.new ≡ gicr_written machine.old vcpu offset size value }
+    ensures refused { has_register machine.old vcpu size ≡ false
+        → machine.new ≡ machine.old }
 {
-    let machine = handle.lent();
     if !(has_vcpu(machine, vcpu) && is_size(size)) {
         return RANGE;
     }

@@ -5,18 +5,17 @@ ghost use Rattle.its_c.specs.Saves.{IsSaved, IsMoved, IsUnsaved};
 
 use crate::codes::{DONE, FAULT, NO_MEMORY};
 use crate::faults::{SaveFaultOut, save_fault_out};
-use crate::handle::Handle;
 use its_plain::{Call, Reply, SaveError};
+use owned_machine::Machine;
 use std::alloc::Global;
 
 /// The tables are written to guest memory.
 #[tactic(auto, unfolding(its_plain::specs::Answer::reply_of, its_plain::specs::Answer::left))]
-#[unsafe(no_mangle)]
-pub extern "C" fn its_save(handle: &mut Handle, alloc: Global, fault: &mut SaveFaultOut) -> u32
-    ensures done { result ≡ codes.done → IsSaved handle.old.machine handle.new.machine }
-    ensures otherwise { IsUnsaved result handle.old.machine handle.new.machine fault.old fault.new }
+pub fn save(machine: &mut Machine, alloc: Global, fault: &mut SaveFaultOut) -> u32
+    ensures done { result ≡ codes.done → IsSaved machine.old machine.new }
+    ensures otherwise { IsUnsaved result machine.old machine.new fault.old fault.new }
 {
-    match handle.lent().answer(alloc, &Call::Save) {
+    match machine.answer(alloc, &Call::Save) {
         Ok(Reply::Saved) => DONE,
         Ok(Reply::SaveFault(found)) => {
             *fault = save_fault_out(found);
@@ -29,12 +28,11 @@ pub extern "C" fn its_save(handle: &mut Handle, alloc: Global, fault: &mut SaveF
 
 /// The tables are saved into a copy of guest memory, and the machine goes on from what that copy and
 /// the registers stand for.
-#[unsafe(no_mangle)]
-pub extern "C" fn its_migrate(handle: &mut Handle, alloc: Global, fault: &mut SaveFaultOut) -> u32
-    ensures done { result ≡ codes.done → IsMoved handle.old.machine handle.new.machine }
-    ensures otherwise { IsUnsaved result handle.old.machine handle.new.machine fault.old fault.new }
+pub fn migrate(machine: &mut Machine, alloc: Global, fault: &mut SaveFaultOut) -> u32
+    ensures done { result ≡ codes.done → IsMoved machine.old machine.new }
+    ensures otherwise { IsUnsaved result machine.old machine.new fault.old fault.new }
 {
-    match handle.lent().migrate(alloc) {
+    match machine.migrate(alloc) {
         Ok(()) => DONE,
         Err(SaveError::Fault(found)) => {
             *fault = save_fault_out(found);
