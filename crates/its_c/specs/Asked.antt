@@ -1,6 +1,6 @@
 -- What a machine is asked in numbers: which numbers are in their ranges, and what the plain machine answers and leaves.
 use Rattle.std.specs.Prelude.{◌≡◌, ◌<◌, List, slice_index, ℕ, Bool, ◌&&◌, ◌||◌, ◌==◌, nat_lt, length}
-use Rattle.its_plain.specs.Plain.{Plain, Redistributor, redistributor, with_redistributor}
+use Rattle.its_plain.specs.Plain.{Plain, redistributor, with_redistributor}
 use Rattle.its_plain.specs.Answer.{ack_of, lowest, taken, signal_reply}
 use Rattle.its_plain.specs.Translation.{translated}
 use Rattle.its_plain.specs.declared.call.Ack.{Ack}

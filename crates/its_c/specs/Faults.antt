@@ -57,7 +57,7 @@ no_make_fault = record {
   table = 0;
   entry = 0;
   distance = 0;
-  register = 0;
+  register_offset = 0;
   number = 0;
   address = 0;
 }
@@ -81,7 +81,7 @@ restore_fault_out (restored.BadIntid device event intid) = record no_make_fault 
 restore_fault_out (restored.PastEnd table entry distance) = past_end_out table entry distance
 restore_fault_out (restored.BadTarget collection number) = record no_make_fault { kind = 9; collection = collection.0; number = number }
 restore_fault_out (restored.DoubleCollection collection) = record no_make_fault { kind = 10; collection = collection.0 }
-restore_fault_out (restored.NotValid register) = record no_make_fault { kind = 11; register = offset_of register }
+restore_fault_out (restored.NotValid register) = record no_make_fault { kind = 11; register_offset = offset_of register }
 restore_fault_out (restored.BadCollection collection) = record no_make_fault { kind = 12; collection = collection.0 }
 restore_fault_out (restored.BadRedist vcpu) = record no_make_fault { kind = 13; vcpu = vcpu.0 }
 

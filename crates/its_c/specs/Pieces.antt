@@ -1,6 +1,6 @@
 -- Stretches of guest memory of any length. They are read and written in pieces of 64 bytes, counted from the first byte; the
 -- last piece may be shorter. Each piece has to lie in one window.
-use Rattle.std.specs.Prelude.{◌≡◌, ◌<◌, ◌≤◌, ℕ, zero, suc, ◌+◌, ◌-◌, ◌*◌, ◌/◌, ◌^◌, true, min, List, length, take, drop, Option, Some, None, unwrap_or}
+use Rattle.std.specs.Prelude.{◌≡◌, ◌<◌, ℕ, zero, suc, ◌+◌, ◌-◌, ◌*◌, ◌/◌, ◌^◌, true, min, List, length, take, drop, Option, Some, None, unwrap_or}
 use Rattle.guest_windows.specs.Windows.{Window, inside, read_at, write_at}
 use Rattle.its_plain.specs.Plain.{Plain}
 use Rattle.its_plain.specs.declared.call.Reply.{Reply}

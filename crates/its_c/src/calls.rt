@@ -1,9 +1,11 @@
 //! The calls of a machine by its handle, for callers in other languages.
 ghost use Rattle.std.specs.Prelude.{◌≡◌, ◌≢◌, ◌≤◌, true, false, None, is_some, length};
 ghost use Rattle.gits_regs.specs.Registers.{read_reg};
-ghost use Rattle.its_plain.specs.Answer.{signal_left, written, gicr_read, gicr_written, step_reply, step_left};
+ghost use Rattle.its_plain.specs.Answer.{signal_left, written, gicr_read, gicr_written};
+ghost use Rattle.its_plain.specs.Answer.{step_reply, step_left};
 ghost use Rattle.its_plain.specs.Plain.{regs_of, pending_of};
-ghost use Rattle.its_c.specs.Asked.{has_vcpu as has, is_size as is, has_register, signalled, shown, acknowledged, HasFirst};
+ghost use Rattle.its_c.specs.Asked.{has_vcpu as has, is_size as is, has_register};
+ghost use Rattle.its_c.specs.Asked.{signalled, shown, acknowledged, HasFirst};
 ghost use Rattle.its_c.specs.Codes as codes;
 ghost use Rattle.its_c.specs.Held.{InMachine};
 ghost use Rattle.its_c.specs.Pieces.{IsStretch, IsRead, written_to};
@@ -126,7 +128,8 @@ pub extern "C" fn its_read_memory(
     address: u64,
     buffer: &mut [u8],
 ) -> u32
-    ensures empty { handle.old.machine ≡ None → (result ≡ codes.handle) × (buffer.new ≡ buffer.old) }
+    ensures empty { handle.old.machine ≡ None
+        → (result ≡ codes.handle) × (buffer.new ≡ buffer.old) }
     ensures kept { is_some handle.new.machine ≡ is_some handle.old.machine }
     ensures done { InMachine handle.old handle.new (λ u w.
         IsStretch u.memory address (length buffer.old)
@@ -227,8 +230,8 @@ pub extern "C" fn its_show(handle: &mut Handle, alloc: Global, vcpu: u32, out: &
     show(handle.lent(), alloc, vcpu, out)
 }
 
-/// The LPIs that are pending at a virtual processor, rising, as many as the list takes; and how many
-/// there are.
+/// The LPIs that are pending at a virtual processor, rising, as many as the list takes; and how
+/// many there are.
 #[unsafe(no_mangle)]
 pub extern "C" fn its_pending(
     handle: &mut Handle,
@@ -237,7 +240,8 @@ pub extern "C" fn its_pending(
     list: &mut [u32],
     count: &mut u64,
 ) -> u32
-    ensures empty { handle.old.machine ≡ None → (result ≡ codes.handle) × (list.new ≡ list.old) × (count.new ≡ count.old) }
+    ensures empty { handle.old.machine ≡ None
+        → (result ≡ codes.handle) × (list.new ≡ list.old) × (count.new ≡ count.old) }
     ensures kept { is_some handle.new.machine ≡ is_some handle.old.machine }
     ensures range { InMachine handle.old handle.new (λ u w.
         has u vcpu ≡ false → result ≡ codes.range) }
@@ -292,8 +296,8 @@ pub extern "C" fn its_save(handle: &mut Handle, alloc: Global, fault: &mut SaveF
     save(handle.lent(), alloc, fault)
 }
 
-/// The tables are saved into a copy of guest memory, and the machine goes on from what that copy and
-/// the registers stand for.
+/// The tables are saved into a copy of guest memory, and the machine goes on from what that copy
+/// and the registers stand for.
 #[unsafe(no_mangle)]
 pub extern "C" fn its_migrate(handle: &mut Handle, alloc: Global, fault: &mut SaveFaultOut) -> u32
     ensures empty { handle.old.machine ≡ None → (result ≡ codes.handle) × (fault.new ≡ fault.old) }

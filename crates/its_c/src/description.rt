@@ -11,8 +11,8 @@ use its_plain::{Desc, Fill, LpiTables};
 use its_types::{Addr, Limits, Listed, Profile, Shape};
 use std::alloc::{AllocError, Global};
 
-/// Whether all numbers are in their ranges, of so many pending tables, redistributors' registers and
-/// bytes.
+/// Whether all numbers are in their ranges, of so many pending tables, redistributors' registers
+/// and bytes.
 pub fn is_in_range(
     description: &DescriptionIn,
     pending: usize,
@@ -140,7 +140,8 @@ fn tables(
     requires { spec.counts_in_range numbers.now (length pending.now) (length redistributors.now)
         ≡ true }
     ensures counts { IfOk result (HasTablesFor numbers.now.vcpus) }
-    ensures tables { IfOk result (λ t. t ≡ spec.tables_of numbers.now pending.now redistributors.now) }
+    ensures tables { IfOk result (λ t. t
+        ≡ spec.tables_of numbers.now pending.now redistributors.now) }
 {
     if numbers.programmed == 0 {
         Ok(LpiTables::Described {

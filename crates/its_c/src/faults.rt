@@ -13,8 +13,8 @@ pub struct SaveFaultOut {
     /// `region` and `other_region` share a byte, and one of them is written.
     pub kind: u32,
     pub device: u32,
-    /// 1 the flat device table, 2 the first level of a device table, 3 a page of its second level, 4
-    /// the collection table, 5 a device's interrupt translation table, 6 a pending table, 7 the
+    /// 1 the flat device table, 2 the first level of a device table, 3 a page of its second level,
+    /// 4 the collection table, 5 a device's interrupt translation table, 6 a pending table, 7 the
     /// configuration table of all, 8 a virtual processor's own, 9 the command queue.
     pub region: u32,
     /// Of region 3 the level-1 entry, of 5 the device, of 6 and 8 the virtual processor.
@@ -29,14 +29,14 @@ pub struct SaveFaultOut {
 #[derive(Clone, Copy)]
 pub struct MakeFaultOut {
     /// Of the description: 1 the windows can't be so; 2 the configuration table doesn't lie in one
-    /// window; 3 the pending table of `vcpu` doesn't; 4 the fill `number`, counted from 0, doesn't.
+    /// window; 3 the pending table of `vcpu` doesn't; 4 the fill `number`, from 0, doesn't.
     ///
     /// Of what is restored: 5 the entry at `address` doesn't lie in one window; 6 `device` has more
     /// than 16 EventID bits; 7 the interrupt `intid` of `device` and `event` is no LPI; 8 entry
-    /// `entry` of `table` leads `distance` entries on, past its end; 9 `collection` goes to `number`,
-    /// which is no virtual processor; 10 `collection` has two entries; 11 the value for the register
-    /// at offset `register` can't stand beside the others; 12 `collection` has no place in the
-    /// table; 13 a table of the redistributor of `vcpu` doesn't lie in one window.
+    /// `entry` of `table` leads `distance` entries on, past its end; 9 `collection` goes to
+    /// `number`, which is no virtual processor; 10 `collection` has two entries; 11 the value for
+    /// the register at `register_offset` can't stand beside the others; 12 `collection` has no
+    /// place in the table; 13 a table of the redistributor of `vcpu` doesn't lie in one window.
     pub kind: u32,
     pub vcpu: u32,
     pub device: u32,
@@ -47,7 +47,7 @@ pub struct MakeFaultOut {
     pub table: u32,
     pub entry: u32,
     pub distance: u32,
-    pub register: u32,
+    pub register_offset: u32,
     pub number: u64,
     pub address: u64,
 }
@@ -106,7 +106,7 @@ const NO_FAULT: MakeFaultOut = MakeFaultOut {
     table: 0,
     entry: 0,
     distance: 0,
-    register: 0,
+    register_offset: 0,
     number: 0,
     address: 0,
 };
@@ -163,7 +163,7 @@ fn restore_fault_out(fault: RestoreFault) -> MakeFaultOut
         RestoreFault::PastEnd(table, entry, distance) => past_end_out(table, entry, distance),
         RestoreFault::NotValid(register) => MakeFaultOut {
             kind: 11,
-            register: offset_of(register),
+            register_offset: offset_of(register),
             ..NO_FAULT
         },
         RestoreFault::BadRedist(vcpu) => MakeFaultOut {

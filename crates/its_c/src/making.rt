@@ -1,5 +1,5 @@
 //! A machine's making and end.
-ghost use Rattle.std.specs.Prelude.{◌≡◌, ◌≢◌, true, false, Ok, Err, None, IfOk, IfErr, is_none, length};
+ghost use Rattle.std.specs.Prelude.{◌≡◌, ◌≢◌, false, Err, None, IfOk, IfErr, is_none, length};
 ghost use Rattle.its_plain.specs.Described.{IsMadeFrom};
 ghost use Rattle.its_plain.specs.Machine.{IsDescription};
 ghost use Rattle.its_c.specs.Codes as codes;

@@ -12,8 +12,8 @@ pub struct DescriptionIn {
     pub lpi_bits: u32,
     /// What a MAPC of a mapped collection does with pending LPIs: 1 they stay, 2 they move.
     pub profile: u32,
-    /// 0: LPIs are on at the configuration table and the pending tables given. 1: the guest programs
-    /// the LPI registers of the redistributors.
+    /// 0: LPIs are on at the configuration table and the pending tables given. 1: the guest
+    /// programs the LPI registers of the redistributors.
     pub programmed: u32,
     /// 0: the translator is at reset. 1: it is restored from guest memory and the registers below.
     pub restored: u32,

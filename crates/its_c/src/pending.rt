@@ -10,8 +10,8 @@ use its_types::Intid;
 use owned_machine::Machine;
 use std::alloc::Global;
 
-/// The LPIs that are pending at a virtual processor, rising, as many as the list takes; and how many
-/// there are.
+/// The LPIs that are pending at a virtual processor, rising, as many as the list takes; and how
+/// many there are.
 pub fn pending(
     machine: &mut Machine,
     alloc: Global,

@@ -26,8 +26,8 @@ pub fn save(machine: &mut Machine, alloc: Global, fault: &mut SaveFaultOut) -> u
     }
 }
 
-/// The tables are saved into a copy of guest memory, and the machine goes on from what that copy and
-/// the registers stand for.
+/// The tables are saved into a copy of guest memory, and the machine goes on from what that copy
+/// and the registers stand for.
 pub fn migrate(machine: &mut Machine, alloc: Global, fault: &mut SaveFaultOut) -> u32
     ensures done { result ≡ codes.done → IsMoved machine.old machine.new }
     ensures otherwise { IsUnsaved result machine.old machine.new fault.old fault.new }

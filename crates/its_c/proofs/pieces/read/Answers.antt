@@ -1,6 +1,6 @@
-use Rattle.std.proofs.Common.{◌≡◌, ◌<◌, ◌≤◌, ℕ, ◌+◌, ◌*◌, true, false, List, length, Option, Some, None, sym, ap, ◌∙◌, subst, arith}
+use Rattle.std.proofs.Common.{◌≡◌, ◌<◌, ℕ, ◌+◌, ◌*◌, true, false, List, length, Option, Some, sym, ap, ◌∙◌, subst, arith}
 use Rattle.std.specs.Prelude.{is_some}
-use Rattle.guest_windows.specs.Windows.{Window, inside, read_at}
+use Rattle.guest_windows.specs.Windows.{inside, read_at}
 use Rattle.guest_windows.proofs.Laws.{length-read_at}
 use Rattle.guest_windows.proofs.Splices.{length-splice}
 use Rattle.its_plain.specs.Plain.{Plain}

@@ -1,31 +1,28 @@
 -- `is_empty` compares the handle's pointer with null, which it may do: null is null, and a machine's box starts its block.
-use Rattle.std.proofs.Common.{◌≡◌, ℕ, Bool, true, false, Option, Some, None, List, [], ◌∷◌, refl, sym, ap, ◌∙◌, lit<}
-use Rattle.std.specs.Prelude.{is_none}
+use Rattle.std.proofs.Common.{◌≡◌, ℕ, true, false, Option, Some, None, List, [], ◌∷◌, refl, sym, ap, ◌∙◌, lit<}
 use seplogic.Ra.Ura.{Ura}
 use base.Fml.{Fml, ftrue, flft, Lft, Share, GName}
 use base.Fraction.{full_share}
-use base.Logic.{SProp, ent, guard, guard_i, fst∗, never, emp}
+use base.Logic.{SProp, ent, guard, guard_i, fst∗, never}
 use mir.Raw.{raw as bare}
 use mir.Syntax.{named}
-use mir.Val.{Val, vptr, vnull, vbool}
+use mir.Val.{Val, vptr, vbool}
 use prog.Memory.{Memory}
 use prog.Routine.{Routine}
 use prog.Wp.{WpFn, Calls, Loops}
 use contract.Monad.{Fun, fact_use}
 use contract.Running.{tables}
-use types.Kit.{‵, raw, ◌⊛◌, given, ◌$◌, ◌∵◌, !, qed, done, move, keep, drop, use1, split, join, fsplit, fsplit3, fjoin, fpick, fpack, feq_i, rewrite, learn, suffices, frame, group}
+use types.Kit.{‵, ◌⊛◌, given, ◌$◌, ◌∵◌, !, qed, done, move, keep, use1, split, join, fsplit, fsplit3, fjoin, fpick, fpack, feq_i, rewrite, learn, suffices, frame, group}
 use types.Logic.{Logic, sem}
 use types.Part.{whole, sub, look_in}
 use types.Run.{enter, of_opd, lit, bin, load, stop, fld, returns}
 use types.ByLocal.{alloc_all, pass_all, free_all, look_at, get, through, sets}
 use denote.Laws.{shows}
 use denote.Memory.{cell_at, lone}
-use denote.RattleType.{owns}
 use denote.RawPtr.{Ptr, block_ptr, null_ptr, in_a_block, Testable, tests_null}
 use denote.Ref.{MutBor, MutRef, mut_vals, mut_Tells}
 use denote.Signature.{plain}
 use denote.Steps.{nothing, opens, closes, peeks}
-use denote.Triple.Entry.{on_entry}
 use denote.Triple.Walked.{Stays, walk_of, says, stay_ref, Goes-ref, ends_at}
 use Rattle.std.proofs.raw_atomic.Walks.{proved}
 use Rattle.std_alloc.specs.Box.Ownership.{box_owns}

@@ -1,8 +1,5 @@
 -- `of_loose` moves both fields, and what the loose box owned goes with them.
-use mathlib.Core.Path.{◌≡◌, refl, sym, subst}
-use Rattle.std.proofs.Common.{Option, Some, None}
-use Rattle.std.specs.Prelude.{IsSome}
-use Rattle.its_plain.specs.Plain.{Plain}
+use mathlib.Core.Path.{refl, sym, subst}
 use Rattle.its_c.specs.contracts.handle.Handle.{the_row as handle_row}
 use mathlib.Core.List.{List, [], ◌∷◌, ◌++◌}
 use seplogic.Ra.Ura.{Ura}
@@ -13,7 +10,7 @@ use prog.Memory.{Memory}
 use prog.Routine.{Routine}
 use prog.Wp.{WpFn, Tables}
 use types.Logic.{Logic}
-use contract.Monad.{Fun, fact}
+use contract.Monad.{Fun}
 use contract.Running.{tables, tables_of}
 use sound.WpLaws.{WpFn-mono}
 use types.Kit.{Item, ‵, raw, ◌⊛◌, ◌$◌, ◌∵◌, !, qed, by, move, drop, use1, join, split, fsplit, fjoin, rewrite, suffices, done}
@@ -21,8 +18,7 @@ use types.Part.{whole, sub, agg}
 use types.Run.{stop, fld, no_more, and_then, of_opd, returns, enter}
 use types.ByLocal.{alloc_all, pass_all, free_all, look_at, get, get_in, sets}
 use denote.Exit.{yes}
-use denote.Signature.{type_at}
-use denote.Steps.{nothing, heard}
+use denote.Steps.{nothing}
 use denote.Triple.Spec.{triple_of}
 use denote.Triple.Table.{entered}
 use denote.Triple.Walked.{says, Stays, stay_dropped, walk_of, ends_at, Goes-dropped, walk_Meets}
