@@ -1,4 +1,4 @@
-/* How long calls take, on this machine. */
+/* How much processor time calls take on this machine: the least of five rounds. */
 #define _POSIX_C_SOURCE 199309L
 #include "its.h"
 
@@ -6,24 +6,29 @@
 #include <stdio.h>
 #include <time.h>
 
-enum { COUNT = 5000000 };
+enum { COUNT = 1000000 };
 
 static uint64_t sum;
 
 static double now(void)
 {
     struct timespec t;
-    clock_gettime(CLOCK_MONOTONIC, &t);
+    clock_gettime(CLOCK_PROCESS_CPUTIME_ID, &t);
     return (double)t.tv_sec * 1e9 + (double)t.tv_nsec;
 }
 
 #define TIME(name, count, call)                                                            \
     do {                                                                                   \
-        double from = now();                                                               \
-        for (long i = 0; i < (count); i++) {                                               \
-            call;                                                                          \
+        double least = 1e18;                                                               \
+        for (int round = 0; round < 5; round++) {                                          \
+            double from = now();                                                           \
+            for (long i = 0; i < (count); i++) {                                           \
+                call;                                                                      \
+            }                                                                              \
+            double each = (now() - from) / (double)(count);                                \
+            least = each < least ? each : least;                                           \
         }                                                                                  \
-        printf("%-28s %10.1f ns\n", (name), (now() - from) / (double)(count));             \
+        printf("%-28s %10.1f ns\n", (name), least);                                        \
     } while (0)
 
 int main(void)
