@@ -66,5 +66,6 @@ module _ (R Z : RattleType) (L : Laws Z) (g : Ghosts Z.Denot) where
     loose_in t b o h a x = step (λ rest.
         nothing t $ move t (2 ∷ 0 ∷ []) $ fjoin t $ feq_i t (List Val) (vptr b o ∷ []) (vptr b o ∷ []) refl $ fjoin t $
         feq_i t (List Val) (pair (vptr b o) h ∷ []) (pair (vptr b o) h ∷ []) refl $ fjoin t $
-        fpack t (Valss (RawPtr ∷ Z ∷ [])) (within (shape (loose.the_type R Z g)) (block_ptr b o, (a, tt)) (pair (vptr b o) h ∷ [])) (vptr b o ∷ [], (h ∷ [], tt)) $
+        fpack t (Valss (RawPtr ∷ Z ∷ [])) (within (shape (loose.the_type R Z g)) (block_ptr b o, (a, tt)) (pair (vptr b o) h ∷ []))
+        (vptr b o ∷ [], (h ∷ [], tt)) $
         fjoin t $ rest)

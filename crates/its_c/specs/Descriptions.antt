@@ -68,11 +68,14 @@ abbrev pub registers_of : List RedistributorIn → GicrValues
 registers_of r = record {
   registers =
       registers_at r 0 ∷ registers_at r 1 ∷ registers_at r 2 ∷ registers_at r 3 ∷ registers_at r 4 ∷ registers_at r 5 ∷ registers_at r 6 ∷ registers_at r 7
-      ∷ registers_at r 8 ∷ registers_at r 9 ∷ registers_at r 10 ∷ registers_at r 11 ∷ registers_at r 12 ∷ registers_at r 13 ∷ registers_at r 14 ∷ registers_at r 15 ∷ [];
+      ∷ registers_at r 8 ∷ registers_at r 9 ∷ registers_at r 10 ∷ registers_at r 11
+      ∷ registers_at r 12 ∷ registers_at r 13 ∷ registers_at r 14 ∷ registers_at r 15 ∷ [];
 }
 
 abbrev pub tables_of : DescriptionIn → List ℕ → List RedistributorIn → LpiTables
-tables_of d pending redistributors = if d.programmed == 0 then Described (address_of d.config) (map address_of pending) else Registers (registers_of redistributors)
+tables_of d pending redistributors =
+    if d.programmed == 0 then Described (address_of d.config) (map address_of pending)
+    else Registers (registers_of redistributors)
 
 abbrev pub values_of : DescriptionIn → RegValues
 values_of d = record { ctlr = d.ctlr; cbaser = d.cbaser; creadr = d.creadr; cwriter = d.cwriter; baser0 = d.baser0; baser1 = d.baser1 }

@@ -1,5 +1,5 @@
 -- What making a machine comes to.
-use Rattle.std.specs.Prelude.{◌≡◌, ◌≢◌, ℕ, Option, Some, None}
+use Rattle.std.specs.Prelude.{◌≡◌, ◌≢◌, ◌≤◌, ℕ, Option, Some, None}
 use Rattle.its_plain.specs.Described.{IsFirstState, IsRefused}
 use Rattle.its_plain.specs.Plain.{Plain}
 use Rattle.its_plain.specs.declared.desc.Desc.{Desc}
@@ -17,4 +17,5 @@ IsMade d (Some u) = IsFirstState d u
 pub record IsUnmade (code : ℕ) (d : Desc) (before after : MakeFaultOut) : Type 0 where
   pub fault : code ≡ codes.fault → (f : DescFault) × IsRefused d f × (after ≡ make_fault_out f)
   pub same : code ≢ codes.fault → after ≡ before
-  pub known : code ≢ codes.outside
+  pub known : code ≤ codes.handle
+  pub not_outside : code ≢ codes.outside

@@ -1,5 +1,5 @@
 -- What saves and migrations come to.
-use Rattle.std.specs.Prelude.{◌≡◌, ◌≢◌, ℕ, Ok, Err}
+use Rattle.std.specs.Prelude.{◌≡◌, ◌≢◌, ◌≤◌, ℕ, Ok, Err}
 use Rattle.its_plain.specs.Plain.{Plain}
 use Rattle.its_plain.specs.Regions.{savable}
 use Rattle.its_plain.specs.Saved.{saved, moved}
@@ -21,4 +21,6 @@ pub record IsUnsaved (code : ℕ) (u w : Plain) (before after : SaveFaultOut) : 
   pub same : code ≢ codes.done → w ≡ u
   pub no_memory : code ≡ codes.no_memory → after ≡ before
   pub fault : code ≡ codes.fault → (f : SaveFault) × (savable u ≡ Err f) × (after ≡ save_fault_out f)
-  pub known : code ≢ codes.outside
+  pub known : code ≤ codes.fault
+  pub not_outside : code ≢ codes.outside
+  pub not_range : code ≢ codes.range

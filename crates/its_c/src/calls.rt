@@ -252,6 +252,8 @@ pub extern "C" fn its_pending(
         result ≡ codes.done → count.new ≡ length (pending_of u vcpu)) }
     ensures only { InMachine handle.old handle.new (λ u w.
         result ≢ codes.done → (list.new ≡ list.old) × (count.new ≡ count.old)) }
+    ensures codes { InMachine handle.old handle.new (λ u w. result ≤ codes.range) }
+    ensures not_outside { InMachine handle.old handle.new (λ u w. result ≢ codes.outside) }
     ensures no_other { InMachine handle.old handle.new (λ u w.
         has u vcpu ≡ true → result ≢ codes.range) }
     ensures same { InMachine handle.old handle.new (λ u w. w ≡ u) }

@@ -10,7 +10,7 @@ use std::marker::Model;
 use std::ptr::null_mut;
 
 /// A machine on the heap, by its address, or no machine, at null. Whoever has the handle owns the
-/// machine.
+/// machine. To drop a handle frees nothing: only one with no machine is dropped here.
 #[repr(C)]
 #[derive(Drop)]
 pub struct Handle {

@@ -30,11 +30,15 @@ pub extern "C" fn its_new(
     bytes: &[u8],
     fault: &mut MakeFaultOut,
 ) -> u32
-    ensures empty { is_none handle.old.machine ≡ false → result ≡ codes.handle }
+    ensures in_use { is_none handle.old.machine ≡ false → result ≡ codes.handle }
+    ensures only_in_use { result ≡ codes.handle → is_none handle.old.machine ≡ false }
     ensures range { handle.old.machine ≡ None
         → in_range numbers.now (length pending.now) (length redistributors.now) fills.now
         (length bytes.now) ≡ false
         → result ≡ codes.range }
+    ensures only_range { result ≡ codes.range
+        → in_range numbers.now (length pending.now) (length redistributors.now) fills.now
+        (length bytes.now) ≡ false }
     ensures done { result ≡ codes.done
         → IsMade (description_of numbers.now windows.now pending.now redistributors.now fills.now
         bytes.now) handle.new.machine }

@@ -1,5 +1,5 @@
 //! The LPIs that are pending.
-ghost use Rattle.std.specs.Prelude.{◌≡◌, ◌≢◌, true, false, length, map};
+ghost use Rattle.std.specs.Prelude.{◌≡◌, ◌≢◌, ◌≤◌, true, false, length, map};
 ghost use Rattle.its_plain.specs.Plain.{pending_of};
 ghost use Rattle.its_c.specs.Asked.{has_vcpu as has, HasFirst};
 ghost use Rattle.its_c.specs.Codes as codes;
@@ -25,6 +25,8 @@ pub fn pending(
     ensures count { result ≡ codes.done
         → count.new ≡ length (pending_of machine.old vcpu) }
     ensures only { result ≢ codes.done → (list.new ≡ list.old) × (count.new ≡ count.old) }
+    ensures codes { result ≤ codes.range }
+    ensures not_outside { result ≢ codes.outside }
     ensures no_other { has machine.old vcpu ≡ true → result ≢ codes.range }
     ensures same { machine.new ≡ machine.old }
 {

@@ -12,7 +12,8 @@ returns-then-is_none-2-clause-no c _ stretch =
     let n = piece_length c.args.count c.loop-i.i in
     let isnt : inside m at n ≡ false =
     ap (λ (u : Plain). inside u.memory at n) (sym c.loop-i.invariant.same)
-    ∙ inside_by_read c.loop-i.machine.memory at n c.piece_length.result c.peek.result false c.peek.ensures.read c.piece_length.ensures.length c.if-is_none-2.ensures in
+    ∙ inside_by_read c.loop-i.machine.memory at n c.piece_length.result c.peek.result false c.peek.ensures.read
+    c.piece_length.ensures.length c.if-is_none-2.ensures in
     let is : inside m at n ≡ true = stretch.pieces c.loop-i.i (subst (λ k. c.loop-i.i < k) c.piece_count-i-end.ensures c.loop-i-test.true) in
     absurd (let wrong : false ≡ true = sym isnt ∙ is in cc)
 
@@ -21,7 +22,8 @@ loop-i-preserved c =
     let m = c.loop-i.machine.memory in
     let at = c.args.address + 64 * c.loop-i.i in
     let n = piece_length c.args.count c.loop-i.i in
-    let here : inside m at n ≡ true = inside_by_read m at n c.piece_length.result c.peek.result true c.peek.ensures.read c.piece_length.ensures.length c.if-is_none-2.ensures in
+    let here : inside m at n ≡ true =
+    inside_by_read m at n c.piece_length.result c.peek.result true c.peek.ensures.read c.piece_length.ensures.length c.if-is_none-2.ensures in
     record {
       same = c.peek.ensures.same ∙ c.loop-i.invariant.same;
       inside = subst (λ (u : Plain). AreInside u.memory c.args.address c.args.count (c.loop-i.i + 1)) (sym c.peek.ensures.same)

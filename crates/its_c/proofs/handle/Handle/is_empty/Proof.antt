@@ -12,7 +12,8 @@ use prog.Routine.{Routine}
 use prog.Wp.{WpFn, Calls, Loops}
 use contract.Monad.{Fun, fact_use}
 use contract.Running.{tables}
-use types.Kit.{‵, ◌⊛◌, given, ◌$◌, ◌∵◌, !, qed, done, move, keep, use1, split, join, fsplit, fsplit3, fjoin, fpick, fpack, feq_i, rewrite, learn, suffices, frame, group}
+use types.Kit.{‵, ◌⊛◌, given, ◌$◌, ◌∵◌, !, qed, done, move, keep, use1, split}
+use types.Kit.{join, fsplit, fsplit3, fjoin, fpick, fpack, feq_i, rewrite, learn, suffices, frame, group}
 use types.Logic.{Logic, sem}
 use types.Part.{whole, sub, look_in}
 use types.Run.{enter, of_opd, lit, bin, load, stop, fld, returns}

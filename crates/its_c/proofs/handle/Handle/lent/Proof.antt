@@ -18,7 +18,8 @@ use prog.Wp.{Env, Calls, Loops, WpFn}
 use types.Logic.{Logic, sem}
 use contract.Monad.{Fun, fact}
 use contract.Running
-use types.Kit.{‵, ◌⊛◌, some, at_ret, ◌$◌, ◌∵◌, !, qed, by, move, keep, use1, drop, split, join, pick, fsplit, fsplit3, fjoin, suffices, frame, done, raw, later, await, group, fpack, rewrite}
+use types.Kit.{‵, ◌⊛◌, some, at_ret, ◌$◌, ◌∵◌, !, qed, by, move, keep, use1, drop, split}
+use types.Kit.{join, pick, fsplit, fsplit3, fjoin, suffices, frame, done, raw, later, await, group, fpack, rewrite}
 use types.Part.{whole, sub, look_in}
 use types.Run.{stop, fld, load, of_opd, first, blocks, exec, returns, enter, addr}
 use types.ByLocal.{alloc_all, pass_all, free_all, look_at, get, through, sets, env, sets_last}
@@ -76,12 +77,14 @@ module _ {U : Type 1} {𝓤 : Ura U} (𝓛 : Logic 𝓤) (memory : Memory → SP
         (cell_at full_share handle_row.mir (word machine_box hv b o ∷ []) place offset)
 
     -- the machine in any state and the rest make a handle again
-    back : at ≡ block_ptr b o → (u : Plain) → ent 𝓤 (sep 𝓤 (sem 𝓛 ((mem machine_row).own_at u b o)) (sem 𝓛 rest)) (sem 𝓛 ((mem handle_row).own_at (holding h u) place offset))
+    back : at ≡ block_ptr b o → (u : Plain)
+        → ent 𝓤 (sep 𝓤 (sem 𝓛 ((mem machine_row).own_at u b o)) (sem 𝓛 rest)) (sem 𝓛 ((mem handle_row).own_at (holding h u) place offset))
     unfolding part_of
     back in_block u =
         qed 𝓛 (‵ (part_at machine_row full_share u b o) ∷ ‵ rest ∷ []) ∵ move ! (1 ∷ []) $ fsplit ! $ fsplit ! $ move ! (3 ∷ []) $
         box_in machine_box ! (box_of at alloc u) b o u in_block refl $ move ! (1 ∷ 0 ∷ []) $ fjoin ! $
-        fpack ! (List Val) (λ us. fsep (cell_at full_share handle_row.mir us place offset) (handle_row.own_val (holding h u) us)) (word machine_box hv b o ∷ []) $ done !
+        fpack ! (List Val) (λ us. fsep (cell_at full_share handle_row.mir us place offset) (handle_row.own_val (holding h u) us))
+        (word machine_box hv b o ∷ []) $ done !
 
     exits : (γ' : GName)
         → ent 𝓤 (sep 𝓤 (sem 𝓛 ((MutRef (named 0) κ machine_row).own_val (record { ref_ptr = (b, o); ghost_name = γ'; now = now }) (vptr b o ∷ [])))
@@ -120,12 +123,16 @@ module _ {U : Type 1} {𝓤 : Ura U} (𝓛 : Logic 𝓤) (memory : Memory → SP
         let r : SProp 𝓤 = sem 𝓛 (rest b o hv u) in
         let lending : GName → SProp 𝓤 = λ γ'. Part 𝓛 handle_row machine_row (holding h) (named 0) κ q place offset b o γ r (back b o hv u in_block) u γ' in
         use1 𝓛 (later (some (λ (γ' : GName). raw (lending γ'))))
-        (lends_Part 𝓛 handle_row machine_row (holding h) (named 0) κ q place offset b o γ r (back b o hv u in_block) (handle_row.coded.code h) (handle_row.coded.code h) u) $
+        (lends_Part 𝓛 handle_row machine_row (holding h) (named 0) κ q place offset b o γ r (back b o hv u in_block)
+        (handle_row.coded.code h) (handle_row.coded.code h) u) $
         await ! tt $ pick ! (λ γ'. returns ! (look_at ! 0 refl) $ free_all ! refl $ keep ! (0 ∷ []) $ by ! (exits b o hv u γ')))))
 
     -- there is a machine
     walk_any : (m : Option Plain) → ent 𝓤 (sep 𝓤 (given m) (fact 𝓤 (IsSome m))) (lends m)
-    walk_any None = let m : Option Plain = None in qed 𝓛 (raw (given m) ∷ raw (fact 𝓤 (IsSome m)) ∷ []) ∵ move ! (1 ∷ []) $ heard ! (IsSome m) (λ some. absurd (let wrong : false ≡ true = some in cc))
+    walk_any None =
+        let m : Option Plain = None in
+        qed 𝓛 (raw (given m) ∷ raw (fact 𝓤 (IsSome m)) ∷ []) ∵ move ! (1 ∷ []) $
+        heard ! (IsSome m) (λ some. absurd (let wrong : false ≡ true = some in cc))
     walk_any (Some u) = via 𝓤 _ (fst∗ 𝓤 (given (Some u)) (fact 𝓤 (IsSome (Some u)))) (walk u)
 
 pub lent_spec : {U : Type 1} → statement U
