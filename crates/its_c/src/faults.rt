@@ -96,7 +96,8 @@ pub fn save_fault_out(fault: SaveFault) -> SaveFaultOut
     out
 }
 
-const NO_FAULT: MakeFaultOut = MakeFaultOut {
+/// What no fault tells.
+pub const NO_FAULT: MakeFaultOut = MakeFaultOut {
     kind: 0,
     vcpu: 0,
     device: 0,

@@ -20,6 +20,8 @@ mod ranges;
 mod registers;
 mod replies;
 mod saves;
+#[cfg(test)]
+mod tests;
 
 pub use faults::{MakeFaultOut, SaveFaultOut};
 pub use handle::Handle;
