@@ -1,6 +1,6 @@
 -- What a command comes to on parts in hand, from its plan.
-use Rattle.std.proofs.Common.{◌≡◌, ℕ, eqb, List, [], ◌∷◌, Option, Some, None, Result, Ok, Err, IfOk, refl, sym, ap, subst, ◌∙◌}
-use Rattle.std.specs.Prelude.{is_some}
+use Rattle.std.proofs.Common.{◌≡◌, ℕ, Bool, ◌&&◌, eqb, List, [], ◌∷◌, Option, Some, None, Result, Ok, Err, IfOk, refl, sym, ap, subst, ◌∙◌}
+use Rattle.std.specs.Prelude.{is_some, is_ok}
 use Rattle.std.proofs.lemmas.Bool.{cond_both}
 use Rattle.guest_windows.specs.Windows.{Window}
 use Rattle.gits_regs.specs.Registers.{Registers, advanced}
@@ -14,7 +14,6 @@ use Rattle.its_maps.specs.MapsRoom.{MapsRoom}
 use Rattle.its_plain.specs.Plain.{Plain, regs_of, maps_of}
 use Rattle.its_plain.specs.Commands.{ran, intids_of, all_reread_at}
 use Rattle.its_plain.specs.Answer.{command_reply, command_left, went_on}
-use Rattle.its_plain.specs.declared.call.CmdReply.TheVariants as reply
 use Rattle.its_plain.specs.declared.call.Reason.{Reason}
 use Rattle.lpi_pending.specs.InHand.{in_hand}
 use Rattle.lpi_pending.specs.declared.redist.Redist.{Redist}
@@ -23,15 +22,17 @@ use Rattle.cmd_exec.specs.declared.effect.Effect.{Effect}
 use Rattle.cmd_exec.specs.declared.effect.Effect.TheVariants as effect
 use Rattle.cmd_exec.specs.InHand.{changed, with_set, with_cleared, with_none, with_all, lpis_in, lpi_moved_in, lpis_moved_in, all_moved_in}
 use Rattle.cmd_exec.specs.Effects.{planned, maps_after, redists_after, cleared_in}
-use Rattle.cmd_exec.specs.Executed.{IsReplyTo, AreLeftBy}
+use Rattle.cmd_exec.specs.Executed.{IsPlanOf, IsReplyTo, AreLeftBy, planned_reply, outcome_reply, as_step}
 use Rattle.cmd_exec.specs.Needs.{AreNeededInHand}
 use Rattle.cmd_exec.specs.Ready.{IsReady}
-use Rattle.cmd_exec.specs.Room.{IsPrepared}
+use Rattle.cmd_exec.specs.Room.{HasRoom, AddsAlike, grows, outcome_adds, effect_adds}
+use Rattle.cmd_exec.specs.declared.effect.Planned.{Planned}
 use Rattle.cmd_exec.proofs.InHand.{changed_held, below_held}
 use Rattle.cmd_exec.proofs.Steps.{by}
 use Rattle.cmd_exec.proofs.Lifted.{left, regs_are, maps_are, parts_left, went_on_are}
-use Rattle.cmd_exec.proofs.Planned.{planned_same}
+use Rattle.cmd_exec.proofs.PlainPlan.{planned_same}
 use Rattle.cmd_exec.proofs.Readied.{planned_ready}
+use Rattle.cmd_exec.proofs.Adding.{planned_adds}
 use Rattle.cmd_exec.proofs.Workable.{workable}
 
 abbrev Hand : Type 0
@@ -94,22 +95,45 @@ module _ (s : Shape) (r : Registers) (mr : MapsRoom) (memory : List Window) (rs 
       ∙ ap (λ (x : Maps). by (left u i x) (planned s r x u.memory rs c)) maps_is
       ∙ ap (λ (x : List Window). by (left u i m) (planned s r m x rs c)) are.memory_is
 
-  pub ready : ArePartsOfSound s r m memory rs → IsPrepared mr c → (e : Effect) → planned s r m memory rs c ≡ Ok e → IsReady s mr rs e
-  ready sound prepared e is = subst (λ (x : Result Effect Reason). IfOk x (IsReady s mr rs)) is (planned_ready s mr rs (workable s r m memory rs sound) r memory c needed prepared)
+  ready_if : ArePartsOfSound s r m memory rs → IfOk (planned s r m memory rs c) (λ e. HasRoom mr e → IsReady s mr rs e)
+  ready_if sound = planned_ready s mr rs (workable s r m memory rs sound) r memory c needed
 
-  pub ran_reply : (e : Effect) → planned s r m memory rs c ≡ Ok e → IsReplyTo c s r m memory rs (reply.Ran (op_of c))
-  ran_reply e is = λ u i are. sym (ap (command_reply (op_of c)) (ran_is u i are ∙ ap (by (left u i m)) is))
+  pub ready : ArePartsOfSound s r m memory rs → (e : Effect) → planned s r m memory rs c ≡ Ok e → HasRoom mr e → IsReady s mr rs e
+  ready sound e is = subst (λ (x : Result Effect Reason). IfOk x (λ e'. HasRoom mr e' → IsReady s mr rs e')) is (ready_if sound)
 
-  pub refused_reply : (reason : Reason) → planned s r m memory rs c ≡ Err reason → IsReplyTo c s r m memory rs (reply.Refused (op_of c) reason)
-  refused_reply reason is = λ u i are. sym (ap (command_reply (op_of c)) (ran_is u i are ∙ ap (by (left u i m)) is))
+  -- ---- its reply, and what it adds
 
-  pub ran_left : ArePartsOfSound s r m memory rs → IsPrepared mr c → (e : Effect) → planned s r m memory rs c ≡ Ok e
+  same_reply : (u : Plain) (i : ℕ) (x : Result Effect Reason) → as_step (outcome_reply (op_of c) x) ≡ command_reply (op_of c) (by (left u i m) x)
+  same_reply u i (Ok e) = refl
+  same_reply u i (Err reason) = refl
+
+  abbrev Plan : Planned → Type 0
+  Plan p = IsPlanOf c s r m memory rs p
+
+  pub plan_reply : (p : Planned) → Plan p → IsReplyTo c s r m memory rs (planned_reply p)
+  plan_reply p is = λ u i are.
+      ap as_step (ap (λ (x : Command). outcome_reply (op_of x) p.outcome) is.command ∙ ap (outcome_reply (op_of c)) is.outcome)
+      ∙ same_reply u i (planned s r m memory rs c) ∙ sym (ap (command_reply (op_of c)) (ran_is u i are))
+
+  same_adds : (u : Plain) (i : ℕ) (b : Bool) (x : Result Effect Reason) → IfOk x (λ e. effect_adds m e ≡ b) → outcome_adds m x ≡ (is_ok (by (left u i m) x) && b)
+  same_adds u i b (Ok e) h = h
+  same_adds u i b (Err reason) h = refl
+
+  pub plan_adds : (p : Planned) → Plan p → AddsAlike c s r m memory rs p
+  plan_adds p is = λ u i are.
+      ap (outcome_adds m) is.outcome ∙ same_adds u i (grows m c) (planned s r m memory rs c) (planned_adds s r m memory rs c)
+      ∙ ap (λ (x : Result Plain Reason). is_ok x && grows m c) (sym (ran_is u i are))
+      ∙ ap (λ (x : Maps). is_ok (ran u i c) && grows x c) (sym (maps_are i s r memory u m rs are))
+
+  -- ---- what it leaves
+
+  pub ran_left : ArePartsOfSound s r m memory rs → (e : Effect) → planned s r m memory rs c ≡ Ok e → HasRoom mr e
       → AreLeftBy c s memory (r, m, rs) (advanced r, maps_after e m, redists_after s m memory e rs)
-  ran_left sound prepared e is = λ u i are.
+  ran_left sound e is room = λ u i are.
       let now : command_left u (ran u i c) ≡ left u i m e = ap (command_left u) (ran_is u i are ∙ ap (by (left u i m)) is) in
       subst (λ (w : Plain). ArePartsOf (went_on i w) i s (advanced r) (maps_after e m) memory (redists_after s m memory e rs)) (sym now)
       (went_on_are (left u i m e) i s r (maps_after e m) memory (redists_after s m memory e rs)
-      (parts_left i s r memory u mr rs e (workable s r m memory rs sound).below (ready sound prepared e is) are))
+      (parts_left i s r memory u mr rs e (workable s r m memory rs sound).below (ready sound e is room) are))
 
   pub refused_left : (reason : Reason) → planned s r m memory rs c ≡ Err reason → AreLeftBy c s memory (r, m, rs) (advanced r, m, rs)
   refused_left reason is = λ u i are.

@@ -5,9 +5,10 @@ pub mod Walks
 pub mod Order
 pub mod Steps
 pub mod Lifted
-pub mod Planned
+pub mod PlainPlan
 pub mod Workable
 pub mod Readied
+mod Adding
 pub mod Executed
 pub mod Sets
 pub mod Start

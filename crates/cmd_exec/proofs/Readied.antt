@@ -1,6 +1,6 @@
 -- A command that isn't refused has an effect that can be had on the parts of a sound state.
-use Rattle.std.proofs.Common.{◌≡◌, ℕ, ◌^◌, ◌<◌, ◌≤◌, Bool, true, false, ◌&&◌, not, cond, eqb, nat_lt, nat_le, List, [], ◌∷◌, map, filter, Option, Some, None, Result, Ok, Err, IfOk, refl, sym, ap, subst, ◌∙◌, arith}
-use Rattle.std.specs.Prelude.{is_some, IsSome, IfSome}
+use Rattle.std.proofs.Common.{◌≡◌, ℕ, ◌^◌, ◌<◌, Bool, true, false, ◌&&◌, not, cond, eqb, nat_lt, nat_le, List, [], ◌∷◌, map, filter, Option, Some, None, Result, Ok, Err, IfOk, refl, sym, ap, subst, ◌∙◌, arith}
+use Rattle.std.specs.Prelude.{is_some, IfSome}
 use Rattle.std.specs.List.{AllByRecursion}
 use Rattle.std.specs.Ordering.{is_lt, is_eq, eq_by_cmp}
 use Rattle.std.specs.declared.cmp.Ordering.{Ordering}
@@ -26,7 +26,7 @@ use Rattle.its_types.specs.declared.machine.Profile.{Profile}
 use Rattle.its_types.specs.declared.machine.Profile.TheVariants.{One, Two}
 use Rattle.its_types.specs.declared.machine.Shape.{Shape}
 use Rattle.its_types.specs.declared.translation.Event.{Event}
-use Rattle.its_maps.specs.MapsRoom.{MapsRoom, event_room}
+use Rattle.its_maps.specs.MapsRoom.{MapsRoom}
 use Rattle.its_types.proofs.Rising.{first, second}
 use Rattle.its_types.proofs.PairOrder.{pair_total, pair_tied}
 use Rattle.its_plain.specs.Parts.{target_of_event}
@@ -42,7 +42,7 @@ use Rattle.cmd_exec.specs.Effects as parts
 use Rattle.cmd_exec.specs.Effects.{targeted, moved, added}
 use Rattle.cmd_exec.specs.Needs.{AreNeededInHand}
 use Rattle.cmd_exec.specs.Ready.{IsReady, IsTargetInHand, AreBothInHand, AreTargetsInHand, TakesAll, TakesIfMapped, HaveSameLpis, HeldCanReread, CanEachReread}
-use Rattle.cmd_exec.specs.Room.{grows, room_for, adds_event, IsPrepared}
+use Rattle.cmd_exec.specs.Room.{effect_adds, room_for, HasRoom}
 use Rattle.cmd_exec.proofs.Steps.{passed, found, ran, event_is, target_is}
 use Rattle.cmd_exec.proofs.Lifted.{held_by}
 use Rattle.cmd_exec.proofs.Targets.{movi_old, movi_new, int_target, clear_target, discard_target, mapc_targets, movall_targets, mapti_each, mapi_each, inv_each, invall_each}
@@ -130,75 +130,88 @@ module _ (s : Shape) (mr : MapsRoom) (rs : List (Option Redist)) (can : IsWorkab
 
   -- ---- commands
 
+  -- where the maps have the room that the effect needs
+  abbrev CanBeHad : Effect → Type 0
+  CanBeHad e = HasRoom mr e → IsReady s mr rs e
+
   abbrev Readies : Result Effect Reason → Type 0
-  Readies x = IfOk x (IsReady s mr rs)
+  Readies x = IfOk x CanBeHad
 
   not_there : {A : Type 0} (o : Option A) → o ≡ None → not (is_some o) ≡ true
   not_there None e = refl
   not_there (Some x) e = absurd cc
 
-  mapd_ready : (r : Registers) (memory : List Window) (dev : DeviceId) (bits itt : ℕ) → IsPrepared mr (command.Mapd dev bits itt true) → Readies (parts.mapd r memory dev bits itt)
-  unfolding parts.mapd IsReady grows room_for
-  mapd_ready r memory dev bits itt prepared =
-      passed (IsReady s mr rs) (is_some (device_place r memory dev.0)) DeviceRange _ (λ _.
-      passed (IsReady s mr rs) (nat_le bits 16) SizeRange _ (λ _ none. prepared (not_there (device_of m dev.0) none)))
+  mapd_ready : (r : Registers) (memory : List Window) (dev : DeviceId) (bits itt : ℕ) → Readies (parts.mapd r memory dev bits itt)
+  unfolding parts.mapd IsReady effect_adds room_for
+  mapd_ready r memory dev bits itt =
+      passed CanBeHad (is_some (device_place r memory dev.0)) DeviceRange _ (λ _.
+      passed CanBeHad (nat_le bits 16) SizeRange _ (λ _ room none. room (not_there (device_of m dev.0) none)))
 
   unmapd_ready : (dev : DeviceId) → Readies (parts.unmapd s dev)
   unfolding parts.unmapd IsReady
-  unmapd_ready dev = passed (IsReady s mr rs) (is_device_id s.dev_bits dev.0) DeviceRange _ (λ _. tt)
+  unmapd_ready dev = passed CanBeHad (is_device_id s.dev_bits dev.0) DeviceRange _ (λ _ _. tt)
 
-  abbrev HasRoom : Icid → Type 0
-  HasRoom icid = collection_of m icid.0 ≡ None → 1 ≤ mr.room.collections
-
-  targeted_ready : (p : Profile) (icid : Icid) (o : Option Vcpu) (to : Vcpu) → HasRoom icid → AreTargetsInHand rs p o to.0 → IsReady s mr rs (targeted p rs icid o to)
-  unfolding IsReady
-  targeted_ready One icid o to room held = room
-  targeted_ready Two icid None to room held = room
-  targeted_ready Two icid (Some from) to room held = by_same (eqb from.0 to.0) held
+  targeted_ready : (p : Profile) (icid : Icid) (o : Option Vcpu) (to : Vcpu) → collection_of m icid.0 ≡ o → AreTargetsInHand rs p o to.0 → CanBeHad (targeted p rs icid o to)
+  unfolding IsReady effect_adds room_for
+  targeted_ready p icid o to is held = by_profile p o is held
     where
-      by_on : (b : Bool) → (is_some (in_hand rs from.0) ≡ true) × (is_some (in_hand rs to.0) ≡ true) → IsReady s mr rs (cond b (effect.MoveCollection icid from to) (effect.MapCollection icid to))
-      by_on true h = (room, can.devices, takes_all from.0 (intids_of m icid.0) h.0 (lpis_of_collection icid.0), takes_all to.0 (intids_of m icid.0) h.1 (lpis_of_collection icid.0))
-      by_on false h = room
+      mapped : (now : Vcpu) → CanBeHad (effect.MapCollection icid now)
+      mapped now room none = room (not_there (collection_of m icid.0) none)
 
-      by_same : (t : Bool) → (t ≡ false → (is_some (in_hand rs from.0) ≡ true) × (is_some (in_hand rs to.0) ≡ true))
-          → IsReady s mr rs (cond t (effect.MapCollection icid to) (moved rs icid from to))
-      by_same true g = room
-      by_same false g = by_on (is_on_in rs from.0 && is_on_in rs to.0) (g refl)
+      some_there : (v : Vcpu) (q : Option Vcpu) → q ≡ Some v → q ≡ None → ⊥
+      some_there v q a b = cc
 
-  mapc_ready : (r : Registers) (icid : Icid) (target : ℕ) → IsPrepared mr (command.Mapc icid target true)
+      by_on : (from : Vcpu) → collection_of m icid.0 ≡ Some from → (b : Bool) → (is_some (in_hand rs from.0) ≡ true) × (is_some (in_hand rs to.0) ≡ true)
+          → CanBeHad (cond b (effect.MoveCollection icid from to) (effect.MapCollection icid to))
+      by_on from there true h = λ _. (
+        (λ none. absurd (some_there from (collection_of m icid.0) there none)),
+        can.devices,
+        takes_all from.0 (intids_of m icid.0) h.0 (lpis_of_collection icid.0),
+        takes_all to.0 (intids_of m icid.0) h.1 (lpis_of_collection icid.0),
+      )
+      by_on from there false h = mapped to
+
+      by_same : (from : Vcpu) → collection_of m icid.0 ≡ Some from → (t : Bool) → (t ≡ false → (is_some (in_hand rs from.0) ≡ true) × (is_some (in_hand rs to.0) ≡ true))
+          → CanBeHad (cond t (effect.MapCollection icid to) (moved rs icid from to))
+      by_same from there true g = mapped to
+      by_same from there false g = by_on from there (is_on_in rs from.0 && is_on_in rs to.0) (g refl)
+
+      by_profile : (q : Profile) (o' : Option Vcpu) → collection_of m icid.0 ≡ o' → AreTargetsInHand rs q o' to.0 → CanBeHad (targeted q rs icid o' to)
+      by_profile One o' there h = mapped to
+      by_profile Two None there h = mapped to
+      by_profile Two (Some from) there h = by_same from there (eqb from.0 to.0) h
+
+  mapc_ready : (r : Registers) (icid : Icid) (target : ℕ)
       → (target < s.vcpus → AreTargetsInHand rs s.profile (collection_of m icid.0) target) → Readies (parts.mapc s r m rs icid target)
-  unfolding parts.mapc grows room_for
-  mapc_ready r icid target prepared held =
-      passed (IsReady s mr rs) (nat_lt target s.vcpus) TargetRange _ (λ below.
-      passed (IsReady s mr rs) (nat_lt icid.0 (collection_places r)) CollectionRange _ (λ _.
-      targeted_ready s.profile icid (collection_of m icid.0) (record { 0 = target }) (λ none. prepared (not_there (collection_of m icid.0) none)) (held (ltb-true target s.vcpus below))))
+  unfolding parts.mapc
+  mapc_ready r icid target held =
+      passed CanBeHad (nat_lt target s.vcpus) TargetRange _ (λ below.
+      passed CanBeHad (nat_lt icid.0 (collection_places r)) CollectionRange _ (λ _.
+      targeted_ready s.profile icid (collection_of m icid.0) (record { 0 = target }) refl (held (ltb-true target s.vcpus below))))
 
-  added_ready : (dev : DeviceId) (ev : EventId) (event : Event) → IsSome (device_of m dev.0) → (event_of m dev.0 ev.0 ≡ None → 1 ≤ event_room mr.room dev.0)
-      → CanEachReread s.vcpus rs (event.intid.0 ∷ []) → IsReady s mr rs (added m dev ev event)
-  unfolding IsReady
-  added_ready dev ev event mapped room each =
-      cond_both (is_some (event_of m dev.0 ev.0)) effect.Nothing (effect.MapEvent dev ev event) (IsReady s mr rs) (λ _. tt) (λ _. (mapped, room, each))
+  added_ready : (dev : DeviceId) (ev : EventId) (event : Event) → is_some (device_of m dev.0) ≡ true → CanEachReread s.vcpus rs (event.intid.0 ∷ []) → CanBeHad (added m dev ev event)
+  unfolding IsReady effect_adds room_for
+  added_ready dev ev event mapped each =
+      cond_both (is_some (event_of m dev.0 ev.0)) effect.Nothing (effect.MapEvent dev ev event) CanBeHad (λ _ _. tt)
+      (λ _ room. (mapped, (λ none. room (ap (λ (b : Bool). b && not (is_some (event_of m dev.0 ev.0))) mapped ∙ not_there (event_of m dev.0 ev.0) none)), each))
 
-  mapti_ready : (r : Registers) (dev : DeviceId) (ev : EventId) (intid : Intid) (icid : Icid) → (adds_event m dev.0 ev.0 ≡ true → 1 ≤ event_room mr.room dev.0)
+  mapti_ready : (r : Registers) (dev : DeviceId) (ev : EventId) (intid : Intid) (icid : Icid)
       → ((v : ℕ) → v < s.vcpus → is_some (in_hand rs v) ≡ true) → Readies (parts.mapti s r m dev ev intid icid)
   unfolding parts.mapti
-  mapti_ready r dev ev intid icid room held =
-      found (IsReady s mr rs) (device_of m dev.0) NoDevice _ (λ device is.
-      passed (IsReady s mr rs) (nat_lt ev.0 (2 ^ device.bits)) EventRange _ (λ _.
-      passed (IsReady s mr rs) (is_lpi s.lpi_bits intid.0) IntidRange _ (λ lpi.
-      passed (IsReady s mr rs) (nat_lt icid.0 (collection_places r)) CollectionRange _ (λ _.
-      let mapped : is_some (device_of m dev.0) ≡ true = ap is_some is in
-      added_ready dev ev (record { intid = intid; icid = icid }) mapped
-      (λ none. room (ap (λ (b : Bool). b && not (is_some (event_of m dev.0 ev.0))) mapped ∙ not_there (event_of m dev.0 ev.0) none))
-      (can_each (intid.0 ∷ []) held (lpi, tt))))))
+  mapti_ready r dev ev intid icid held =
+      found CanBeHad (device_of m dev.0) NoDevice _ (λ device is.
+      passed CanBeHad (nat_lt ev.0 (2 ^ device.bits)) EventRange _ (λ _.
+      passed CanBeHad (is_lpi s.lpi_bits intid.0) IntidRange _ (λ lpi.
+      passed CanBeHad (nat_lt icid.0 (collection_places r)) CollectionRange _ (λ _.
+      added_ready dev ev (record { intid = intid; icid = icid }) (ap is_some is) (can_each (intid.0 ∷ []) held (lpi, tt))))))
 
   movi_ready : (dev : DeviceId) (ev : EventId) (icid : Icid) → IsTargetInHand rs (target_of_event m dev.0 ev.0) → IsTargetInHand rs (collection_of m icid.0) → Readies (parts.movi m rs dev ev icid)
   unfolding parts.movi IsReady
   movi_ready dev ev icid old new =
-      ran (IsReady s mr rs) (event_at m dev.0 ev.0) _ (λ event at.
-      found (IsReady s mr rs) (collection_of m event.icid.0) NoCollection _ (λ from is_from.
-      found (IsReady s mr rs) (collection_of m icid.0) NoCollection _ (λ to is_to.
-      passed (IsReady s mr rs) (is_on_in rs from.0 && is_on_in rs to.0) LpisOff _ (λ _.
+      ran CanBeHad (event_at m dev.0 ev.0) _ (λ event at.
+      found CanBeHad (collection_of m event.icid.0) NoCollection _ (λ from is_from.
+      found CanBeHad (collection_of m icid.0) NoCollection _ (λ to is_to.
+      passed CanBeHad (is_on_in rs from.0 && is_on_in rs to.0) LpisOff _ (λ _ _.
       let is = event_is m dev.0 ev.0 event at in
       let lpi = can.events dev.0 ev.0 event is in (
         subst (λ (o : Option Event). IfSome o (λ e. e.intid ≡ event.intid)) (sym is) refl,
@@ -217,7 +230,7 @@ module _ (s : Shape) (mr : MapsRoom) (rs : List (Option Redist)) (can : IsWorkab
       takes vcpu.0 event.intid.0 (subst (IsTargetInHand rs) (target_is m dev.0 ev.0 event at ∙ is) target) (can.events dev.0 ev.0 event (event_is m dev.0 ev.0 event at)))))
 
   with_lpi : (x : Result (Intid × Vcpu) Reason) (f : Intid × Vcpu → Effect) → IfOk x (λ lpi. IsReady s mr rs (f lpi)) → Readies (x >>= λ lpi. Ok (f lpi))
-  with_lpi (Ok lpi) f h = h
+  with_lpi (Ok lpi) f h = λ _. h
   with_lpi (Err e) f h = tt
 
   int_ready : (dev : DeviceId) (ev : EventId) → IsTargetInHand rs (target_of_event m dev.0 ev.0) → Readies (parts.int m rs dev ev)
@@ -231,18 +244,18 @@ module _ (s : Shape) (mr : MapsRoom) (rs : List (Option Redist)) (can : IsWorkab
   discard_ready : (dev : DeviceId) (ev : EventId) → IsTargetInHand rs (target_of_event m dev.0 ev.0) → Readies (parts.discard m dev ev)
   unfolding parts.discard IsReady
   discard_ready dev ev target =
-      ran (IsReady s mr rs) (event_at m dev.0 ev.0) _ (λ event at.
+      ran CanBeHad (event_at m dev.0 ev.0) _ (λ event at _.
       takes_target (collection_of m event.icid.0) event.intid.0 (subst (IsTargetInHand rs) (target_is m dev.0 ev.0 event at) target) (can.events dev.0 ev.0 event (event_is m dev.0 ev.0 event at)))
 
   inv_ready : (dev : DeviceId) (ev : EventId) → ((v : ℕ) → v < s.vcpus → is_some (in_hand rs v) ≡ true) → Readies (parts.inv m dev ev)
   unfolding parts.inv IsReady
   inv_ready dev ev held =
-      ran (IsReady s mr rs) (event_at m dev.0 ev.0) _ (λ event at. can_each (event.intid.0 ∷ []) held (can.events dev.0 ev.0 event (event_is m dev.0 ev.0 event at), tt))
+      ran CanBeHad (event_at m dev.0 ev.0) _ (λ event at _. can_each (event.intid.0 ∷ []) held (can.events dev.0 ev.0 event (event_is m dev.0 ev.0 event at), tt))
 
   invall_ready : (icid : Icid) → ((v : ℕ) → v < s.vcpus → is_some (in_hand rs v) ≡ true) → Readies (parts.invall m icid)
   unfolding parts.invall IsReady
   invall_ready icid held =
-      found (IsReady s mr rs) (collection_of m icid.0) NoCollection _ (λ _ _. (can.devices, can_each (intids_of m icid.0) held (lpis_of_collection icid.0)))
+      found CanBeHad (collection_of m icid.0) NoCollection _ (λ _ _ _. (can.devices, can_each (intids_of m icid.0) held (lpis_of_collection icid.0)))
 
   same_lpis : (a b : Option Redist) (x y : Redist) → a ≡ Some x → b ≡ Some y → x.pending.lpi_bits ≡ y.pending.lpi_bits → HaveSameLpis a b
   same_lpis a b x y ax bx same = subst (λ (o : Option Redist). HaveSameLpis o b) (sym ax) (subst (HaveSameLpis (Some x)) (sym bx) same)
@@ -250,8 +263,8 @@ module _ (s : Shape) (mr : MapsRoom) (rs : List (Option Redist)) (can : IsWorkab
   movall_ready : (from to : ℕ) → (from < s.vcpus → to < s.vcpus → AreBothInHand rs from to) → Readies (parts.movall s rs from to)
   unfolding parts.movall IsReady
   movall_ready from to h =
-      passed (IsReady s mr rs) (nat_lt from s.vcpus && nat_lt to s.vcpus) TargetRange _ (λ below.
-      passed (IsReady s mr rs) (is_on_in rs from && is_on_in rs to) LpisOff _ (λ _.
+      passed CanBeHad (nat_lt from s.vcpus && nat_lt to s.vcpus) TargetRange _ (λ below.
+      passed CanBeHad (is_on_in rs from && is_on_in rs to) LpisOff _ (λ _ _.
       let both = and_parts (nat_lt from s.vcpus) (nat_lt to s.vcpus) below in
       let lt = ltb-true from s.vcpus both.0 in
       let held = h lt (ltb-true to s.vcpus both.1) in
@@ -262,20 +275,20 @@ module _ (s : Shape) (mr : MapsRoom) (rs : List (Option Redist)) (can : IsWorkab
 
   -- ---- all commands
 
-  pub planned_ready : (r : Registers) (memory : List Window) (c : Command) → AreNeededInHand s m c rs → IsPrepared mr c → IfOk (parts.planned s r mr.maps memory rs c) (IsReady s mr rs)
-  unfolding parts.planned IsReady grows room_for
-  planned_ready r memory (command.Movi dev ev icid) h p = movi_ready dev ev icid (movi_old s m rs dev ev icid h) (movi_new s m rs dev ev icid h)
-  planned_ready r memory (command.Int dev ev) h p = int_ready dev ev (int_target s m rs dev ev h)
-  planned_ready r memory (command.Clear dev ev) h p = clear_ready dev ev (clear_target s m rs dev ev h)
-  planned_ready r memory (command.Sync target) h p = tt
-  planned_ready r memory (command.Mapd dev bits itt true) h p = mapd_ready r memory dev bits itt p
-  planned_ready r memory (command.Mapd dev bits itt false) h p = unmapd_ready dev
-  planned_ready r memory (command.Mapc icid target true) h p = mapc_ready r icid target p (mapc_targets s m rs icid target h)
-  planned_ready r memory (command.Mapc icid target false) h p = tt
-  planned_ready r memory (command.Mapti dev ev intid icid) h p = mapti_ready r dev ev intid icid p (mapti_each s m rs dev ev intid icid h)
-  planned_ready r memory (command.Mapi dev ev icid) h p = mapti_ready r dev ev (record { 0 = ev.0 }) icid p (mapi_each s m rs dev ev icid h)
-  planned_ready r memory (command.Inv dev ev) h p = inv_ready dev ev (inv_each s m rs dev ev h)
-  planned_ready r memory (command.Invall icid) h p = invall_ready icid (invall_each s m rs icid h)
-  planned_ready r memory (command.Movall from to) h p = movall_ready from to (movall_targets s m rs from to h)
-  planned_ready r memory (command.Discard dev ev) h p = discard_ready dev ev (discard_target s m rs dev ev h)
-  planned_ready r memory (command.Unknown opcode) h p = tt
+  pub planned_ready : (r : Registers) (memory : List Window) (c : Command) → AreNeededInHand s m c rs → Readies (parts.planned s r mr.maps memory rs c)
+  unfolding parts.planned IsReady
+  planned_ready r memory (command.Movi dev ev icid) h = movi_ready dev ev icid (movi_old s m rs dev ev icid h) (movi_new s m rs dev ev icid h)
+  planned_ready r memory (command.Int dev ev) h = int_ready dev ev (int_target s m rs dev ev h)
+  planned_ready r memory (command.Clear dev ev) h = clear_ready dev ev (clear_target s m rs dev ev h)
+  planned_ready r memory (command.Sync target) h = λ _. tt
+  planned_ready r memory (command.Mapd dev bits itt true) h = mapd_ready r memory dev bits itt
+  planned_ready r memory (command.Mapd dev bits itt false) h = unmapd_ready dev
+  planned_ready r memory (command.Mapc icid target true) h = mapc_ready r icid target (mapc_targets s m rs icid target h)
+  planned_ready r memory (command.Mapc icid target false) h = λ _. tt
+  planned_ready r memory (command.Mapti dev ev intid icid) h = mapti_ready r dev ev intid icid (mapti_each s m rs dev ev intid icid h)
+  planned_ready r memory (command.Mapi dev ev icid) h = mapti_ready r dev ev (record { 0 = ev.0 }) icid (mapi_each s m rs dev ev icid h)
+  planned_ready r memory (command.Inv dev ev) h = inv_ready dev ev (inv_each s m rs dev ev h)
+  planned_ready r memory (command.Invall icid) h = invall_ready icid (invall_each s m rs icid h)
+  planned_ready r memory (command.Movall from to) h = movall_ready from to (movall_targets s m rs from to h)
+  planned_ready r memory (command.Discard dev ev) h = discard_ready dev ev (discard_target s m rs dev ev h)
+  planned_ready r memory (command.Unknown opcode) h = tt

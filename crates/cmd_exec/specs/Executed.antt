@@ -1,10 +1,11 @@
 -- What is promised of a command (IHI 0069, section 5.3) that is executed on parts in hand: in each state that has them, it
 -- comes to what the plain machine says.
-use Rattle.std.specs.Prelude.{◌≡◌, ℕ, List, Option}
+use Rattle.std.specs.Prelude.{◌≡◌, ℕ, List, Option, Result, Ok, Err}
 use Rattle.guest_windows.specs.Windows.{Window}
 use Rattle.gits_regs.specs.Registers.{Registers}
 use Rattle.its_command.specs.Commands.{op_of}
 use Rattle.its_command.specs.declared.command.Command.{Command}
+use Rattle.its_command.specs.declared.command.Op.{Op}
 use Rattle.its_types.specs.Maps.{Maps}
 use Rattle.its_types.specs.declared.machine.Shape.{Shape}
 use Rattle.its_plain.specs.Plain.{Plain}
@@ -12,10 +13,27 @@ use Rattle.its_plain.specs.Commands.{ran}
 use Rattle.its_plain.specs.Answer.{command_reply, command_left, went_on}
 use Rattle.its_plain.specs.declared.call.CmdReply.{CmdReply}
 use Rattle.its_plain.specs.declared.call.CmdReply.TheVariants as reply
+use Rattle.its_plain.specs.declared.call.Reason.{Reason}
 use Rattle.its_plain.specs.declared.call.StepReply.{StepReply}
 use Rattle.its_plain.specs.declared.call.StepReply.TheVariants.{Ran, Refused}
 use Rattle.lpi_pending.specs.declared.redist.Redist.{Redist}
 use Rattle.owned_parts.specs.Owned.{ArePartsOf}
+use Rattle.cmd_exec.specs.declared.effect.Effect.{Effect}
+use Rattle.cmd_exec.specs.declared.effect.Planned.{Planned}
+use Rattle.cmd_exec.specs.Effects.{planned}
+
+-- it is what the command comes to on these parts
+pub record IsPlanOf (c : Command) (s : Shape) (r : Registers) (m : Maps) (memory : List Window) (redists : List (Option Redist)) (p : Planned) : Type 0 where
+  pub command : p.command ≡ c
+  pub outcome : p.outcome ≡ planned s r m memory redists c
+
+-- what a command is answered that comes to this
+abbrev pub outcome_reply : Op → Result Effect Reason → CmdReply
+outcome_reply op (Ok effect) = reply.Ran op
+outcome_reply op (Err reason) = reply.Refused op reason
+
+abbrev pub planned_reply : Planned → CmdReply
+planned_reply p = outcome_reply (op_of p.command) p.outcome
 
 -- the reply of a step that met the command
 abbrev pub as_step : CmdReply → StepReply

@@ -1,3 +1,5 @@
+use its_command::Command;
+use its_plain::{CmdReply, Reason};
 use its_types::{Device, DeviceId, Event, EventId, Icid, Intid, Vcpu};
 
 /// What a command does that isn't refused.
@@ -64,4 +66,28 @@ pub enum Effect {
         from: Vcpu,
         to: Vcpu,
     },
+}
+
+/// What a command comes to on the parts that it was planned on: its effect, or the first reason to
+/// refuse it (IHI 0069, section 5.3).
+#[derive(Clone, Copy)]
+pub struct Planned {
+    /// The command itself.
+    pub command: Command,
+    pub(crate) outcome: Result<Effect, Reason>,
+}
+
+impl Planned {
+    ghost use Rattle.std.specs.Prelude.{◌≡◌};
+    ghost use Rattle.cmd_exec.specs.Executed.{planned_reply};
+
+    /// What the command is answered.
+    pub fn reply(&self) -> CmdReply
+        ensures { result ≡ planned_reply self.now }
+    {
+        match self.outcome {
+            Ok(_) => CmdReply::Ran(self.command.op()),
+            Err(reason) => CmdReply::Refused(self.command.op(), reason),
+        }
+    }
 }

@@ -8,16 +8,17 @@ mod execute;
 mod lpis;
 mod needed;
 mod part_set;
-mod plan;
+mod planning;
 mod registers;
 mod room;
 #[cfg(test)]
 mod tests;
 mod walk;
 
-pub use execute::{answer, apply};
+pub use effect::Planned;
+pub use execute::{apply, plan};
 pub use needed::needs;
 pub use part_set::PartSet;
 pub use registers::{read_register, write_register};
-pub use room::prepare;
+pub use room::make_room;
 pub use walk::RedistWalk;

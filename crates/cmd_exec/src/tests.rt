@@ -4,7 +4,7 @@ ghost use Rattle.its_command.specs.declared.command.Command.TheVariants as comma
 use super::*;
 use gits_regs::Regs;
 use guest_windows::Memory;
-use its_command::{Command, EventIdBits, IttAddr, Op, RdBase};
+use its_command::{Command, Op, RdBase};
 use its_maps::Maps;
 use its_plain::{CmdReply, Reason};
 use its_types::{Addr, Device, DeviceId, Icid, Part, Profile, Shape, Vcpu};
@@ -52,22 +52,6 @@ fn a_new_collection_table_unmaps_collections(rt: HostRuntime) -> Result<(), Fail
 }
 
 #[test]
-fn room_for_what_a_command_adds(rt: HostRuntime) -> Result<(), Fail> {
-    let mut maps = Maps::new(rt.alloc());
-    let mapd = Command::Mapd {
-        dev: DeviceId(16),
-        bits: EventIdBits::new(5),
-        itt: IttAddr::new(0x800c_0000),
-        valid: true,
-    };
-    assert_eq!(rt; prepare(&mapd, &mut maps), Ok(()));
-    assert_eq!(rt; prepare(&mapc(1, 2), &mut maps), Ok(()));
-    assert_eq!(rt; maps.device(DeviceId(16)), None);
-    assert_eq!(rt; maps.collection(Icid(1)), None);
-    Ok(())
-}
-
-#[test]
 fn redistributors_that_commands_need(rt: HostRuntime) -> Result<(), Fail> {
     let regs = Regs::reset(16);
     let maps = Maps::new(rt.alloc());
@@ -93,23 +77,17 @@ fn a_command_is_run_or_refused(rt: HostRuntime) -> Result<(), Fail> {
     let mut regs = Regs::reset(16);
     let mut maps = Maps::new(rt.alloc());
     let memory = Memory::new(rt.alloc(), &[(Addr(0x8000_0000), 0x1000)])?;
-    let mut redists = Redists::new(rt.alloc())?;
-    let refused = CmdReply::Refused(Op::Mapc, Reason::TargetRange);
-    assert_eq!(rt;
-        answer(&mapc(1, 4), &regs, &maps, &memory, &redists, &SHAPE),
-        refused
-    );
-    prepare(&mapc(1, 2), &mut maps)?;
+    let mut redists = Redists::new();
+    let refused = plan(&mapc(1, 4), &regs, &maps, &memory, &redists, &SHAPE);
+    let reason = Reason::TargetRange;
+    assert_eq!(rt; refused.reply(), CmdReply::Refused(Op::Mapc, reason));
+    assert_eq!(rt; make_room(&refused, &mut maps), Ok(()));
+    let planned = plan(&mapc(1, 2), &regs, &maps, &memory, &redists, &SHAPE);
+    assert_eq!(rt; planned.reply(), CmdReply::Ran(Op::Mapc));
+    make_room(&planned, &mut maps)?;
+    assert_eq!(rt; maps.collection(Icid(1)), None);
     regs.keeps_rules();
-    let reply = apply(
-        &mapc(1, 2),
-        &mut regs,
-        &mut maps,
-        &memory,
-        &mut redists,
-        &SHAPE,
-    );
-    assert_eq!(rt; reply, CmdReply::Ran(Op::Mapc));
+    apply(planned, &mut regs, &mut maps, &memory, &mut redists, &SHAPE);
     assert_eq!(rt; maps.collection(Icid(1)), Some(Vcpu(2)));
     assert_eq!(rt; regs.read(0x90, 8), 32);
     Ok(())

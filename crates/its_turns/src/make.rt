@@ -44,7 +44,7 @@ impl Machine {
         };
         let count = desc.shards as usize + 3 + usize::from(desc.shape.vcpus);
         let words = vec![in alloc; 0; 16 * count]?;
-        let places = Redists::new(alloc)?;
+        let places = Redists::new();
         let kept = copy_of(alloc, desc)?;
         let layout = parts.layout.copy(alloc)?;
         let slots = spread(alloc, first_values(alloc, desc, parts)?)?;

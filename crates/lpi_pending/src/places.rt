@@ -1,9 +1,8 @@
-ghost use Rattle.std.specs.Prelude.{◌≡◌, ◌<◌, IfOk, Some, None, is_some, true, length, replicate};
+ghost use Rattle.std.specs.Prelude.{◌≡◌, ◌<◌, Some, None, is_some, true, length, replicate};
 ghost use Rattle.std.specs.Prelude.{slice_set};
 
 use crate::redist::Redist;
 use its_types::Vcpu;
-use std::alloc::{AllocError, Global};
 use std::marker::Model;
 
 // A redistributor in hand.
@@ -40,7 +39,7 @@ impl Held {
 /// hand, or is empty.
 #[derive(Drop)]
 pub struct Redists {
-    places: Vec<Option<Held>>,
+    places: [Option<Held>; 16],
 }
 
 impl Model for Redists {
@@ -49,27 +48,28 @@ impl Model for Redists {
 
     ghost Value = { List (Option Redist) };
 
-    ghost view = { λ r. r.places.items };
+    ghost view = { λ r. r.places };
 
-    ghost invariant = { λ r. length r.places.items ≡ 16 };
+    ghost invariant = { λ r. length r.places ≡ 16 };
 }
 
 impl Redists {
-    ghost use Rattle.std.specs.Prelude.{◌≡◌, ◌<◌, IfOk, Some, None, is_some, true, length};
+    ghost use Rattle.std.specs.Prelude.{◌≡◌, ◌<◌, Some, None, is_some, true, length};
     ghost use Rattle.std.specs.Prelude.{replicate, slice_set};
     ghost use Rattle.std.specs.Borrow.{sem};
     ghost use Rattle.lpi_pending.specs.InHand.{in_hand};
     ghost use Rattle.lpi_pending.specs.Lending.{LendsInHand};
 
     /// Sixteen empty places.
-    pub fn new(alloc: Global) -> Result<Redists, AllocError>
-        ensures { IfOk result (λ r. r ≡ replicate 16 None) }
+    pub fn new() -> Redists
+        ensures { result ≡ replicate 16 None }
     {
-        let mut places = Vec::with_capacity(alloc, 16)?;
-        for _ in 0..16usize {
-            places.push(None)?;
+        Redists {
+            places: [
+                None, None, None, None, None, None, None, None, None, None, None, None, None, None,
+                None, None,
+            ],
         }
-        Ok(Redists { places })
     }
 
     /// Puts a redistributor into its empty place.

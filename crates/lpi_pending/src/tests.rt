@@ -98,7 +98,7 @@ fn redistributors_in_hand(rt: HostRuntime) -> Result<(), Fail> {
         bases: Bases::off(),
     };
     let redist = Box::new(rt.alloc(), redist)?;
-    let mut redists = Redists::new(rt.alloc())?;
+    let mut redists = Redists::new();
     redists.place(Vcpu(15), redist);
     redists.redist_mut(Vcpu(15)).bases.on = true;
     assert!(rt; redists.redist(Vcpu(15)).bases.on);

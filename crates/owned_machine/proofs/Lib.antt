@@ -3,5 +3,5 @@ mod Kept
 mod Needed
 mod Answered
 mod Started
-mod Moved
+mod Migrating
 mod Programmed

@@ -1,5 +1,5 @@
 -- The LPI registers of redistributors, where the guest programs them.
-use Rattle.std.proofs.Common.{◌≡◌, ℕ, ◌+◌, ◌<◌, ◌≤◌, Bool, true, if◌then◌else◌, List, length, map, take, set, get_or, Option, Some, None, inl, inr, refl, sym, ap, subst, ◌∙◌, arith}
+use Rattle.std.proofs.Common.{◌≡◌, ℕ, ◌+◌, ◌<◌, Bool, true, if◌then◌else◌, List, length, map, take, set, get_or, Option, Some, inl, inr, sym, ap, subst, ◌∙◌, arith}
 use Rattle.std.specs.Prelude.{slice_set}
 use Rattle.std.specs.Option.{option_map}
 use Rattle.std.proofs.lemmas.Bool.{cases_eq}
@@ -9,10 +9,8 @@ use lib.Seq.{length-take-le, get_or-take, ext_get_or}
 use Rattle.its_types.specs.declared.translation.Bases.{Bases}
 use Rattle.gicr_regs.specs.Registers.{AreKept, AreLow, ValuesComeBack, restored_bases, all_restored_bases, values_of, written_gicr}
 use Rattle.gicr_regs.specs.declared.values.GicrRegisters.{GicrRegisters}
-use Rattle.gicr_regs.specs.declared.values.GicrValues.{GicrValues}
 use Rattle.its_plain.specs.Plain.{Plain, Redistributor, redistributor, with_redistributor, no_redistributor}
 use Rattle.its_plain.specs.Answer.{answer, left, gicr_written}
-use Rattle.its_plain.specs.declared.call.Call.{Call}
 use Rattle.its_plain.specs.declared.call.Call.TheVariants as call
 use Rattle.saved_state.specs.Laws.{bases_of}
 use Rattle.lpi_pending.specs.InHand.{in_hand}

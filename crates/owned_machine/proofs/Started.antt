@@ -3,7 +3,6 @@ use Rattle.std.proofs.Common.{◌≡◌, ℕ, ◌+◌, ◌<◌, ◌≤◌, true,
 use Rattle.std.specs.Prelude.{ok_or, is_some, slice_get, slice_set}
 use Rattle.std.proofs.lemmas.Bool.{cases_eq}
 use Rattle.std.proofs.lemmas.List.{get_or-set_same, get_or-set_other, length-map, length-replicate}
-use Rattle.std.proofs.lemmas.Option.{same_Some}
 use Rattle.guest_windows.specs.Windows.{Window, inside, read_at}
 use Rattle.guest_windows.proofs.Laws.{is_some-read_at}
 use Rattle.gits_regs.specs.Registers.{Registers, reset}
@@ -12,7 +11,6 @@ use Rattle.its_types.specs.Ranges.{lpi_count}
 use Rattle.its_types.specs.declared.ids.Addr.{Addr}
 use Rattle.its_types.specs.declared.machine.Shape.{Shape}
 use Rattle.its_types.specs.declared.translation.Bases.{Bases}
-use Rattle.its_plain.specs.Sound.{IsSound}
 use Rattle.its_plain.specs.Plain.{Plain, Redistributor}
 use Rattle.gicr_regs.specs.Redistributors.{off_redistributor}
 use Rattle.gicr_regs.specs.declared.values.GicrValues.{GicrValues}
@@ -32,8 +30,7 @@ use Rattle.lpi_pending.specs.InHand.{in_hand}
 use Rattle.lpi_pending.specs.declared.redist.Redist.{Redist}
 use Rattle.owned_parts.specs.Owned.{AreAllInHand, state_of_parts, redistributor_of, redistributor_or}
 use Rattle.owned_parts.specs.declared.parts.Parts.{Parts}
-use Rattle.owned_machine.specs.Whole.{IsMachine}
-use Rattle.owned_machine.specs.Start.{HasConfig, IsFilled, IsFirst, IsFirstOf, AreFirst, AreStarted}
+use Rattle.owned_machine.specs.Start.{HasConfig, IsFilled, IsFirstOf, AreFirst, AreStarted}
 use Rattle.owned_machine.proofs.Lists.{hand_is}
 
 -- ---- one redistributor more

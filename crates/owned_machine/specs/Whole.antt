@@ -1,6 +1,6 @@
 -- What it is to have a whole machine of one translator in hand: the parts are those of a sound state of the plain machine
 -- (IHI 0069, chapter 5), all of them, and a call goes from one such to the next.
-use Rattle.std.specs.Prelude.{◌≡◌, ℕ, ◌≤◌, Bool, true, false, List, Some, None}
+use Rattle.std.specs.Prelude.{◌≡◌, ℕ, ◌≤◌, Bool, true, false, not, ◌&&◌, List, Option, Some, None}
 use Rattle.its_plain.specs.Plain.{Plain}
 use Rattle.its_plain.specs.Sound.{IsSound}
 use Rattle.its_plain.specs.Answer.{is_idle, next_bytes}
@@ -11,6 +11,7 @@ use Rattle.its_plain.specs.declared.call.Call.TheVariants as call
 use Rattle.its_command.specs.Commands.{decoded}
 use Rattle.its_command.specs.declared.command.Command.{Command}
 use Rattle.lpi_pending.specs.InHand.{in_hand}
+use Rattle.cmd_exec.specs.Room.{adds_to}
 use Rattle.owned_parts.specs.Owned.{state_of_parts, AreAllInHand}
 use Rattle.owned_parts.specs.declared.parts.Parts.{Parts}
 
@@ -30,19 +31,27 @@ abbrev pub IfAcked : Ack → (ℕ → Type 0) → Type 0
 IfAcked ack.None P = Unit {0}
 IfAcked (ack.Some intid priority) P = P intid.0
 
--- the calls that may want memory of the host
-abbrev pub may_want_memory : Call → Bool
-may_want_memory (call.Step its) = true
-may_want_memory call.Save = true
-may_want_memory (call.Signal its dev ev) = false
-may_want_memory (call.Take vcpu) = false
-may_want_memory (call.Show vcpu) = false
-may_want_memory (call.Poke addr bytes) = false
-may_want_memory (call.Peek addr count) = false
-may_want_memory (call.ReadReg its off size) = false
-may_want_memory (call.WriteReg its off size value) = false
-may_want_memory (call.ReadGicr vcpu off size) = false
-may_want_memory (call.WriteGicr vcpu off size value) = false
+-- the translator has a command to take, and doesn't refuse it, and it adds a device, an event or a collection
+abbrev pub met_adds : Plain → ℕ → Option (List ℕ) → Bool
+met_adds u i None = false
+met_adds u i (Some bytes) = adds_to u i (decoded bytes)
+
+unfoldable pub step_adds : Plain → ℕ → Bool
+step_adds u i = not (is_idle u i) && met_adds u i (next_bytes u i)
+
+-- the calls that may want memory of the host: such a step, and a save
+abbrev pub may_want_memory : Plain → Call → Bool
+may_want_memory u (call.Step its) = step_adds u its
+may_want_memory u call.Save = true
+may_want_memory u (call.Signal its dev ev) = false
+may_want_memory u (call.Take vcpu) = false
+may_want_memory u (call.Show vcpu) = false
+may_want_memory u (call.Poke addr bytes) = false
+may_want_memory u (call.Peek addr count) = false
+may_want_memory u (call.ReadReg its off size) = false
+may_want_memory u (call.WriteReg its off size value) = false
+may_want_memory u (call.ReadGicr vcpu off size) = false
+may_want_memory u (call.WriteGicr vcpu off size value) = false
 
 -- the command is the one that the translator meets next
 pub record IsMet (u : Plain) (c : Command) : Type 0 where

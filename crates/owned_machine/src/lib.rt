@@ -21,3 +21,4 @@ mod steps;
 mod tests;
 
 pub use machine::Machine;
+pub use migrations::{InPlace, moved};

@@ -1,5 +1,5 @@
 use crate::calls::answered;
-use crate::migrations::{begin, moved};
+use crate::migrations::{InPlace, begin, moved};
 use its_plain::{Call, Desc, MakeError, Reply, SaveError};
 use its_types::{Intid, Vcpu};
 use owned_parts::Parts;
@@ -34,7 +34,8 @@ impl Machine {
     ghost use Rattle.its_plain.specs.Machine.{IsDescription};
     ghost use Rattle.its_plain.specs.Plain.{pending_of};
     ghost use Rattle.owned_machine.specs.Migrations.{Migrates};
-    ghost use Rattle.owned_machine.specs.Whole.{may_want_memory};
+    ghost use Rattle.owned_machine.specs.Whole.{IsMachine, may_want_memory};
+    ghost use Rattle.owned_parts.specs.Owned.{state_of_parts};
 
     /// The machine that a description makes, restored from memory where the description says so, or
     /// the first thing that is wrong.
@@ -47,14 +48,23 @@ impl Machine {
     }
 
     /// Answers a call, and leaves the state that the plain machine's definition says. Out of
-    /// memory, which only a step or a save can be, the state stays as it was.
+    /// memory, which only a save can be, or a step that adds a device, an event or a collection,
+    /// the state stays as it was. A command that is refused never comes to it.
     pub fn answer(&mut self, alloc: Global, call: &Call) -> Result<Reply, AllocError>
         ensures reply { IfOk result (λ r. r ≡ plain.reply_of self.old call.now) }
         ensures left { IfOk result (λ r. self.new ≡ plain.left self.old call.now r) }
         ensures err { OnErr result (self.new ≡ self.old) }
-        ensures rare { OnErr result (may_want_memory call.now ≡ true) }
+        ensures rare { OnErr result (may_want_memory self.old call.now ≡ true) }
     {
         answered(&mut self.parts, alloc, call)
+    }
+
+    /// The parts that the machine is made of.
+    pub fn into_parts(self) -> Parts
+        ensures whole { IsMachine result }
+        ensures state { state_of_parts result ≡ self }
+    {
+        self.parts
     }
 
     /// How many virtual processors there are.
@@ -79,7 +89,15 @@ impl Machine {
     pub fn migrate(&mut self, alloc: Global) -> Result<(), SaveError>
         ensures { Migrates result self.old self.new }
     {
-        self.parts = moved(&self.parts, alloc)?;
+        let parts = &self.parts;
+        let in_place = InPlace {
+            layout: &parts.layout,
+            regs: &parts.regs,
+            maps: &parts.maps,
+            memory: &parts.memory,
+            redists: &parts.redists,
+        };
+        self.parts = moved(alloc, &in_place)?;
         Ok(())
     }
 }

@@ -144,7 +144,7 @@ fn redists_of(
     requires config { HasConfig shape.now memory.now tables.now }
     ensures { IfOk result (λ redists. AreFirst shape.now memory.now tables.now redists shape.now.vcpus) }
 {
-    let mut redists = Redists::new(alloc)?;
+    let mut redists = Redists::new();
     for vcpu in 0..shape.vcpus {
         let redist = first_redist(alloc, tables, memory, shape, vcpu)?;
         redists.place(Vcpu(vcpu), Box::new(alloc, redist)?);

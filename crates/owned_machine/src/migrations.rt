@@ -7,12 +7,16 @@ ghost use Rattle.its_plain.specs.Machine.{IsDescription};
 ghost use Rattle.owned_parts.specs.Owned.{state_of_parts};
 ghost use Rattle.owned_machine.specs.Whole.{IsMachine};
 ghost use Rattle.owned_machine.specs.Migrations.{AreMoved, AreBegun};
+ghost use Rattle.owned_machine.specs.Placed.{parts_in};
 
 use crate::make::start;
 use gicr_regs::{GicrRegisters, GicrValues, values_come_back, values_of};
 use gits_regs::{RegValues, Regs, offsets};
-use its_plain::{Desc, DescFault, LpiTables, MakeError, SaveError};
+use guest_windows::Memory;
+use its_maps::Maps;
+use its_plain::{Desc, DescFault, Layout, LpiTables, MakeError, SaveError};
 use its_types::Vcpu;
+use lpi_pending::Redists;
 use owned_parts::Parts;
 use std::alloc::Global;
 use table_restore::{RestoreError, restore_in};
@@ -24,6 +28,16 @@ const RESET: GicrRegisters = GicrRegisters {
     propbaser: 0,
     pendbaser: 0,
 };
+
+/// All parts of a machine, each where it stands.
+#[derive(Clone, Copy)]
+pub struct InPlace<'a> {
+    pub layout: &'a Layout,
+    pub regs: &'a Regs,
+    pub maps: &'a Maps,
+    pub memory: &'a Memory,
+    pub redists: &'a Redists,
+}
 
 /// The parts that a description makes, restored from memory where the description says so, or the
 /// first thing that is wrong.
@@ -56,27 +70,28 @@ fn values_given(tables: &LpiTables) -> GicrValues
 }
 
 /// The parts that a copy of memory and the registers stand for, once the tables are saved into the
-/// copy. That they stand for none can't come.
-pub fn moved(parts: &Parts, alloc: Global) -> Result<Parts, SaveError>
-    requires { IsMachine parts.now }
-    ensures { AreMoved (state_of_parts parts.now) result }
+/// copy (KVM document arm-vgic-its, "ITS Restore Sequence"); or why they can't be saved. The parts
+/// given stay as they are.
+pub fn moved(alloc: Global, parts: &InPlace<'_>) -> Result<Parts, SaveError>
+    requires { IsMachine (parts_in parts.now) }
+    ensures { AreMoved (state_of_parts (parts_in parts.now)) result }
 {
     let mut memory = parts.memory.copy(alloc)?;
     save(
         alloc,
-        &parts.regs,
-        &parts.maps,
-        &parts.redists,
-        &parts.layout,
+        parts.regs,
+        parts.maps,
+        parts.redists,
+        parts.layout,
         &mut memory,
     )?;
     let values = registers_of(parts);
     match restore_in(
         alloc,
-        translator_values(&parts.regs),
+        translator_values(parts.regs),
         &values,
         memory,
-        &parts.layout,
+        parts.layout,
     ) {
         Ok(restored) => Ok(restored),
         Err((_, RestoreError::Fault(_))) => unreachable!(),
@@ -100,10 +115,10 @@ fn translator_values(regs: &Regs) -> RegValues
 }
 
 // The values of the redistributors' registers, where the guest programs them.
-fn registers_of(parts: &Parts) -> GicrValues
-    requires { IsMachine parts.now }
-    ensures { parts.now.layout.gicr ≡ true
-        → all_restored_bases parts.now.layout.shape.vcpus result ≡ bases_of (state_of_parts parts.now) }
+fn registers_of(parts: &InPlace<'_>) -> GicrValues
+    requires { IsMachine (parts_in parts.now) }
+    ensures { parts.now.layout.now.gicr ≡ true
+        → all_restored_bases parts.now.layout.now.shape.vcpus result ≡ bases_of (state_of_parts (parts_in parts.now)) }
 {
     values_come_back();
     let mut registers = [RESET; 16];

@@ -126,7 +126,7 @@ pub fn redists_of(
     ensures many { OnOk result (length (bases_to_restore layout.now gicr.now) ≡ layout.now.shape.vcpus) }
 {
     let shape = layout.shape;
-    let mut redists = Redists::new(alloc)?;
+    let mut redists = Redists::new();
     for vcpu in 0..shape.vcpus {
         let bases = bases_of(gicr, layout, vcpu);
         let redist = redist_of(alloc, memory, shape, Vcpu(vcpu), bases)?;

@@ -48,7 +48,7 @@ fn bases(vcpu: u8) -> Bases {
 fn redistributors(alloc: Global) -> Result<Redists, SaveError>
     ensures { IfOk result (λ r. AreAllInHand SHAPE r) }
 {
-    let mut redists = Redists::new(alloc)?;
+    let mut redists = Redists::new();
     for vcpu in 0..SHAPE.vcpus {
         let redist = redistributor(alloc, vcpu)?;
         redists.place(Vcpu(vcpu), Box::new(alloc, redist)?);

@@ -1,4 +1,4 @@
-use Rattle.std.proofs.Common.{◌≡◌, false, Err, sym, ap, subst, ◌∙◌}
+use Rattle.std.proofs.Common.{◌≡◌, Err, sym, ap, subst, ◌∙◌}
 use Rattle.guest_windows.specs.Windows.{inside}
 use Rattle.its_plain.specs.Machine as spec
 use Rattle.its_plain.specs.declared.desc.DescFault.TheVariants as faults

@@ -1,4 +1,4 @@
-use Rattle.std.proofs.Common.{◌≡◌, ◌<◌, List, Some, arith, ap, ◌∙◌}
+use Rattle.std.proofs.Common.{◌<◌, Some, arith, ap, ◌∙◌}
 use Rattle.std.specs.Prelude.{slice_set}
 use Rattle.lpi_pending.specs.declared.redist.Redist.{Redist}
 use Rattle.owned_machine.proofs.Started.{one_more}

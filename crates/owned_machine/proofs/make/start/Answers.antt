@@ -1,4 +1,4 @@
-use Rattle.owned_machine.proofs.Started.{started_are, refused_config}
+use Rattle.owned_machine.proofs.Started.{started_are}
 use Rattle.owned_machine.proofs.make.start.Goals as goal
 
 pub returns : goal.returns

@@ -1,4 +1,4 @@
-use Rattle.owned_machine.proofs.Moved.{begun_with, restored_begun, restore_refused, where_given, where_fault}
+use Rattle.owned_machine.proofs.Migrating.{begun_with, restored_begun, restore_refused, where_given, where_fault}
 use Rattle.owned_machine.proofs.migrations.begin.Goals as goal
 
 pub returns-in_err-parts : goal.returns-in_err-parts

@@ -5,20 +5,21 @@ use Rattle.gicr_regs.specs.Registers.{values_of}
 use Rattle.owned_machine.specs.Migrations.{AreRead}
 use Rattle.owned_machine.proofs.Kept.{held}
 use Rattle.owned_machine.proofs.Programmed.{bases_low, one_read, all_read}
+use Rattle.owned_machine.specs.Placed.{parts_in}
 use Rattle.owned_machine.proofs.migrations.registers_of.Goals as goal
 
 pub loop-vcpu-init : goal.loop-vcpu-init
 loop-vcpu-init c = record { sixteen = refl; each = λ v other lt. absurd (omega (arith, lt)) }
 
 pub redist-redist-requires : goal.redist-redist-requires
-redist-redist-requires c = held c.args.parts.now c.loop-vcpu.vcpu c.requires c.loop-vcpu-test.true
+redist-redist-requires c = held (parts_in c.args.parts.now) c.loop-vcpu.vcpu c.requires c.loop-vcpu-test.true
 
 pub values_of-requires : goal.values_of-requires
-values_of-requires c = bases_low c.args.parts.now c.loop-vcpu.vcpu c.redist-redist.result.now c.requires c.if-parts.true c.redist-redist.ensures
+values_of-requires c = bases_low (parts_in c.args.parts.now) c.loop-vcpu.vcpu c.redist-redist.result.now c.requires c.if-parts.true c.redist-redist.ensures
 
 pub loop-vcpu-preserved : goal.loop-vcpu-preserved
 loop-vcpu-preserved c =
-    let p = c.args.parts.now in
+    let p = parts_in c.args.parts.now in
     let n : ℕ = c.loop-vcpu.vcpu in
     let rs : List GicrRegisters = c.loop-vcpu.registers in
     let r = c.redist-redist.result.now in
@@ -30,6 +31,6 @@ loop-vcpu-preserved c =
 
 pub returns-after-loop-vcpu : goal.returns-after-loop-vcpu
 returns-after-loop-vcpu c =
-    let p = c.args.parts.now in
+    let p = parts_in c.args.parts.now in
     let done : c.loop-vcpu.vcpu ≡ p.layout.shape.vcpus = omega (arith, c.loop-vcpu-test.false, c.loop-vcpu.auto.vcpu-end) in
     λ gicr. all_read p c.loop-vcpu.registers c.requires (subst (AreRead p c.loop-vcpu.registers) done c.loop-vcpu.invariant)

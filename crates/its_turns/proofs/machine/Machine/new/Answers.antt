@@ -11,8 +11,8 @@ use Rattle.its_turns.specs.declared.value.Value.{Value}
 use Rattle.its_turns.proofs.Opening.{opens, values_long, apart_long}
 use Rattle.its_turns.proofs.machine.Machine.new.Goals as goal
 
-pub new-requires-2 : goal.new-requires-2
-new-requires-2 c =
+pub new-requires : goal.new-requires
+new-requires c =
     let s : Setup = setup_from c.args.desc.now c.args.parts in
     let values = c.in_ok-first_values.field-0.items in
     let vcpus : c.args.parts.layout.shape.vcpus ≡ c.args.desc.now.shape.vcpus = ap (λ (l : Layout). l.shape.vcpus) c.requires.layout in
@@ -41,5 +41,5 @@ invariant_of-result c =
       laid = (ap (λ (x : Setup). length x.start.translators) key, subst HasVcpus (sym key) c.requires.sound.vcpus);
       small = subst (λ (d : Desc). (1 ≤ d.shards) × (d.shards ≤ 64) × (d.shape.vcpus ≤ 16) × (d.limits.place_last < 2 ^ 40) × (d.limits.stamp_last < 2 ^ 24)) (sym c.in_ok-kept.ensures)
           (c.requires.some_shards, c.requires.most_shards, c.requires.vcpus, c.requires.places, c.requires.stamps);
-      bare = c.in_ok-places.ensures;
+      bare = c.new-places.ensures;
     }

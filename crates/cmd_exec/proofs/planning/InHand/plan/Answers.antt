@@ -3,7 +3,7 @@ use Rattle.its_command.specs.declared.command.Command.{Command}
 use Rattle.its_command.specs.declared.command.Command.TheVariants.{Mapc}
 use Rattle.cmd_exec.specs.Needs.{AreNeededInHand}
 use Rattle.cmd_exec.proofs.Targets.{movi_old, movi_new, int_target, clear_target, mapc_targets, movall_targets}
-use Rattle.cmd_exec.proofs.plan.InHand.plan.Goals as goal
+use Rattle.cmd_exec.proofs.planning.InHand.plan.Goals as goal
 
 pub movi-requires-clause-from : goal.movi-requires-clause-from
 movi-requires-clause-from c =

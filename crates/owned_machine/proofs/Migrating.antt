@@ -1,25 +1,21 @@
 -- Machines that are restored from memory, and the ones that migrations go on with.
-use Rattle.std.proofs.Common.{◌≡◌, ℕ, zero, suc, ◌<◌, ◌≤◌, Bool, true, false, if◌then◌else◌, List, [], ◌∷◌, length, map, take, Option, Some, None, Result, Ok, Err, refl, sym, ap, subst, ◌∙◌, arith}
+use Rattle.std.proofs.Common.{◌≡◌, ℕ, zero, suc, ◌≤◌, Bool, true, false, if◌then◌else◌, List, [], ◌∷◌, length, map, take, Option, Some, None, Result, Ok, Err, refl, sym, ap, subst, ◌∙◌, arith}
 use Rattle.std.specs.Prelude.{slice_get}
 use Rattle.std.specs.Result.{IsErrAnd}
 use Rattle.std.proofs.lemmas.List.{length-map}
 use Rattle.std.proofs.lemmas.Option.{same_Some}
 use Rattle.guest_windows.specs.Windows.{Window}
 use Rattle.gits_regs.specs.declared.values.RegValues.{RegValues}
-use Rattle.its_types.specs.declared.ids.Addr.{Addr}
-use Rattle.its_types.specs.declared.machine.Shape.{Shape}
 use Rattle.its_types.specs.declared.translation.Bases.{Bases}
 use Rattle.its_plain.specs.Plain.{Plain, Translator, Redistributor}
 use Rattle.its_plain.specs.Sound.{IsSound}
-use Rattle.gicr_regs.specs.Registers.{AreKept, restored_bases, all_restored_bases, values_of}
+use Rattle.gicr_regs.specs.Registers.{AreKept, restored_bases, all_restored_bases}
 use Rattle.gicr_regs.specs.declared.values.GicrRegisters.{GicrRegisters}
 use Rattle.gicr_regs.specs.declared.values.GicrValues.{GicrValues}
 use Rattle.its_plain.specs.Described as described
 use Rattle.its_plain.specs.Described.{IsFirstState, IsRefused, of_description, of_restore, StartsAt}
-use Rattle.its_plain.specs.Machine.{made, layout_of, described_bases, described_in, are_programmed, bases_given, IsDescription, HasTablesFor}
+use Rattle.its_plain.specs.Machine.{made, layout_of}
 use Rattle.its_plain.specs.declared.layout.Layout.{Layout}
-use Rattle.its_plain.specs.declared.desc.LpiTables.{LpiTables}
-use Rattle.its_plain.specs.declared.desc.LpiTables.TheVariants.{Described, Registers}
 use Rattle.its_plain.specs.Regions.{savable}
 use Rattle.its_plain.specs.Saved.{saved, moved}
 use Rattle.its_plain.specs.Stands.{Stands, IsFirstFault}
@@ -41,7 +37,7 @@ use Rattle.standing_states.proofs.Soundness.{standing_sound}
 use Rattle.saved_state.specs.Laws.{values_read, bases_of}
 use Rattle.saved_state.proofs.Restored as saved_state
 use Rattle.owned_machine.specs.Migrations.{AreBegun}
-use Rattle.owned_machine.specs.Start.{AreStarted, AreFirstParts}
+use Rattle.owned_machine.specs.Start.{AreStarted}
 use Rattle.owned_machine.specs.Whole.{IsMachine, GoesOn}
 use Rattle.std.proofs.lemmas.Bool.{cond_both}
 use Rattle.owned_machine.proofs.Lists.{same_lists, hand_length}
