@@ -228,7 +228,10 @@ uint32_t its_show(struct its_handle *handle, uint32_t vcpu, struct its_ack_out *
 uint32_t its_pending(struct its_handle *handle, uint32_t vcpu, uint32_t *list, size_t list_len,
                      uint64_t *count);
 
-/* The translator takes the next command of its queue (section 5.3). ITS_NO_MEMORY, ITS_HANDLE. */
+/*
+ * The translator takes the next command of its queue (section 5.3). ITS_NO_MEMORY only of a command
+ * that adds a device, an event or a collection; ITS_HANDLE.
+ */
 uint32_t its_step(struct its_handle *handle, struct its_step_out *out);
 
 /*

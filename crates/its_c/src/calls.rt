@@ -4,6 +4,7 @@ ghost use Rattle.gits_regs.specs.Registers.{read_reg};
 ghost use Rattle.its_plain.specs.Answer.{signal_left, written, gicr_read, gicr_written};
 ghost use Rattle.its_plain.specs.Answer.{step_reply, step_left};
 ghost use Rattle.its_plain.specs.Plain.{regs_of, pending_of};
+ghost use Rattle.owned_machine.specs.Whole.{step_adds};
 ghost use Rattle.its_c.specs.Asked.{has_vcpu as has, is_size as is, has_register};
 ghost use Rattle.its_c.specs.Asked.{signalled, shown, acknowledged, HasFirst};
 ghost use Rattle.its_c.specs.Codes as codes;
@@ -274,6 +275,8 @@ pub extern "C" fn its_step(handle: &mut Handle, alloc: Global, out: &mut StepOut
         result ≡ codes.done → out.new ≡ replies.step_out (step_reply u 0)) }
     ensures left { InMachine handle.old handle.new (λ u w.
         result ≡ codes.done → w ≡ step_left u 0) }
+    ensures rare { InMachine handle.old handle.new (λ u w.
+        result ≡ codes.no_memory → step_adds u 0 ≡ true) }
     ensures no_memory { InMachine handle.old handle.new (λ u w.
         result ≡ codes.no_memory → (out.new ≡ out.old) × (w ≡ u)) }
 {

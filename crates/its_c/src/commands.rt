@@ -1,6 +1,7 @@
 //! Commands: the translator takes the next of its queue (IHI 0069, section 5.3).
-ghost use Rattle.std.specs.Prelude.{◌≡◌, ◌≤◌};
+ghost use Rattle.std.specs.Prelude.{◌≡◌, ◌≤◌, true};
 ghost use Rattle.its_plain.specs.Answer as plain;
+ghost use Rattle.owned_machine.specs.Whole.{step_adds};
 ghost use Rattle.its_c.specs.Codes as codes;
 ghost use Rattle.its_c.specs.Replies as replies;
 
@@ -18,6 +19,7 @@ pub fn step(machine: &mut Machine, alloc: Global, out: &mut StepOut) -> u32
         → out.new ≡ replies.step_out (plain.step_reply machine.old 0) }
     ensures left { result ≡ codes.done
         → machine.new ≡ plain.step_left machine.old 0 }
+    ensures rare { result ≡ codes.no_memory → step_adds machine.old 0 ≡ true }
     ensures no_memory { result ≡ codes.no_memory
         → (out.new ≡ out.old) × (machine.new ≡ machine.old) }
 {
