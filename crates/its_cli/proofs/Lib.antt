@@ -1,4 +1,5 @@
 pub mod Pieces
+pub mod Saying
 pub mod Sharing
 pub mod Playing
 pub mod Runs

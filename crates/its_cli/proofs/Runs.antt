@@ -31,16 +31,18 @@ use Rattle.its_cli.specs.declared.status.Status.TheVariants as status
 
 module _ (s : Setup) (leg : Leg) (number : ℕ) (lines : List EntryLine) (h : List Entry) (old new : List ℕ) where
   pub is_whole : (now : Plain) (end : Option End) (pending : List (List ℕ)) → IsPlayed s leg lines false h → now ≡ after s.start h → pending ≡ map report.pending_text (pending_lists now)
-      → new ≡ old ++ report.leg_text number (record { entries = lines; pending = pending; end = end }) → IsLegWhole s.limits.place_last s.start leg number end old new
+      → new ≡ old ++ report.leg_text number (record { entries = lines; pending = pending; end = end }) → (w : IsLegWhole s.limits.place_last s.start leg number end old new) × (now ≡ after s.start w.history)
   is_whole now end pending played is texts added =
-      let texts_are : pending ≡ map report.pending_text (pending_lists (after s.start h)) = texts ∙ ap (λ u. map report.pending_text (pending_lists u)) is in
-      record {
-        history = h;
-        is_run = record { legal = played.legal; calls = played.whole refl };
-        places = played.fits refl;
-        added = added ∙ ap (λ (ls : List EntryLine). old ++ report.leg_text number (record { entries = ls; pending = pending; end = end })) played.lines_are
-            ∙ ap (λ (ts : List (List ℕ)). old ++ report.leg_text number (record { entries = history_lines (seat_of (thread_counts leg)) 0 h; pending = ts; end = end })) texts_are;
-      }
+      let texts_are : pending ≡ map report.pending_text (pending_lists (after s.start h)) = texts ∙ ap (λ u. map report.pending_text (pending_lists u)) is in (
+        record {
+          history = h;
+          is_run = record { legal = played.legal; calls = played.whole refl };
+          places = played.fits refl;
+          added = added ∙ ap (λ (ls : List EntryLine). old ++ report.leg_text number (record { entries = ls; pending = pending; end = end })) played.lines_are
+              ∙ ap (λ (ts : List (List ℕ)). old ++ report.leg_text number (record { entries = history_lines (seat_of (thread_counts leg)) 0 h; pending = ts; end = end })) texts_are;
+        },
+        is,
+      )
 
   pub is_spent : (e : Ending) → IsPlayed s leg lines true h → IsSpentEnding number lines old new e → IsLegSpent s.limits.place_last s.start leg number old new (string_bytes e.line)
   is_spent e played told = record {

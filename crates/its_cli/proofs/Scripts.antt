@@ -1,5 +1,5 @@
 -- What a script's run came to, leg by leg.
-use Rattle.std.proofs.Common.{◌≡◌, ℕ, suc, ◌+◌, ◌-◌, ◌<◌, ◌≤◌, List, [], ◌∷◌, ◌++◌, length, get_or, take, drop, Some, None, add-one, refl, sym, ap, subst, ◌∙◌, arith}
+use Rattle.std.proofs.Common.{◌≡◌, ℕ, suc, ◌+◌, ◌-◌, ◌<◌, ◌≤◌, List, [], ◌∷◌, ◌++◌, length, get_or, take, drop, Some, None, Result, Ok, Err, OnErr, add-one, refl, sym, ap, subst, ◌∙◌, arith}
 use Rattle.std.proofs.lemmas.List.{append-nil, length-append, length-take, get_or-take}
 use Rattle.std.proofs.Math.Seq.{drop-cons, drop-length}
 use Rattle.its_plain.specs.Plain.{Plain}
@@ -82,6 +82,10 @@ final_leg legs slice i leg phases same some ge le at is =
     record { lt = omega (arith, end); at = stands; left = last_leg legs i leg phases end stands is }
 
 -- ---- a report so far
+
+pub on_err : {X Y : Type 0} (r : Result X Y) (P : Type 0) → P → OnErr r P
+on_err (Ok x) P p = tt
+on_err (Err e) P p = p
 
 pub so_far : (script : Script) (first : Plain) (i : ℕ) (now : Plain) (report : List ℕ) (leg : Leg) (later : List Leg) → HasRunTo script first i now report → drop i script.legs ≡ leg ∷ later → IsSoFar script first report
 so_far script first i now report leg later r e = record {

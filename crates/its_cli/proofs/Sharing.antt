@@ -27,7 +27,7 @@ pub is_ready : (script : Script) (m : Machine) (r : Pass) (p : Parts) → IsWith
     → IsReady script (record { machine = m; root = r })
 is_ready script m r p within layout of from kept view_is = record {
   within = within;
-  fresh = record { of = of; layout = fresh_layout m script.desc p from kept layout; view = view_is };
+  fresh = record { of = of; layout = fresh_layout m script.desc p layout from kept; view = view_is };
   limits = ap (λ (s : Setup). s.limits) from;
   vcpus = ap (λ (s : Setup). s.start.layout.shape.vcpus) from ∙ ap (λ (l : Layout). l.shape.vcpus) layout;
 }

@@ -64,7 +64,7 @@ done
         ),
     ] {
         let parts = [MACHINE, "phase\nthread", body];
-        let ended = tells(rt.alloc(), &parts, Status::Ok, end);
+        let ended = tells(&rt, rt.alloc(), &parts, Status::Ok, end);
         assert_eq!(rt; ended, Some(true), "{body}");
     }
 }
@@ -229,7 +229,7 @@ done
         ),
     ] {
         let parts = [MACHINE, described, MAPPED, body];
-        let ended = tells(rt.alloc(), &parts, Status::Ok, end);
+        let ended = tells(&rt, rt.alloc(), &parts, Status::Ok, end);
         assert_eq!(rt; ended, Some(true), "{body}");
     }
 }

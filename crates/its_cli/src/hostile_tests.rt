@@ -3,8 +3,11 @@ use crate::its::its;
 use crate::status::Status;
 use crate::tests::{MACHINE, MAPPED, run, script, tells, words};
 use its_io::{MemSink, MemSource, SureSink, SureSource};
+use its_types::Open;
 use std::alloc::Global;
+use std::sync::Wait;
 use std::test::Fail;
+use std::thread::Threads;
 
 #[test]
 fn scripts_are_refused(rt: HostRuntime) {
@@ -17,7 +20,7 @@ fn scripts_are_refused(rt: HostRuntime) {
         ("vcpus 4\nbytes 0x0 abc\n", "refused script 2 hex\n"),
         ("vcpus 4\nshards\t4\n", "refused script 2 text\n"),
     ] {
-        let ended = tells(rt.alloc(), &[input], Status::ScriptRefused, line);
+        let ended = tells(&rt, rt.alloc(), &[input], Status::ScriptRefused, line);
         assert_eq!(rt; ended, Some(true), "{input}");
     }
 }
@@ -81,7 +84,7 @@ fn tables_are_refused(rt: HostRuntime) {
         ),
     ] {
         let parts = [MACHINE, lines, restore, "end"];
-        let ended = tells(rt.alloc(), &parts, Status::MachineRefused, cause);
+        let ended = tells(&rt, rt.alloc(), &parts, Status::MachineRefused, cause);
         assert_eq!(rt; ended, Some(true), "{lines}");
     }
 }
@@ -115,7 +118,7 @@ fn machines_are_refused(rt: HostRuntime) {
         ),
     ] {
         let parts = ["vcpus 1\nshards 1", lines, "end"];
-        let ended = tells(rt.alloc(), &parts, Status::MachineRefused, text);
+        let ended = tells(&rt, rt.alloc(), &parts, Status::MachineRefused, text);
         assert_eq!(rt; ended, Some(true), "{lines}");
     }
 }
@@ -127,7 +130,7 @@ fn a_script_cut_anywhere_is_refused(rt: HostRuntime) -> Result<(), Fail> {
     let whole = script(alloc, &[MACHINE, MAPPED, calls])?;
     let script_len = whole.len().saturating_sub(16);
     for len in 0..whole.len() {
-        let (status, _) = run(alloc, &whole.as_bytes()[..len]).ok_or("no memory")?;
+        let (status, _) = run(&rt, alloc, &whole.as_bytes()[..len]).ok_or("no memory")?;
         let expected = if len == script_len {
             Status::Ok
         } else {
@@ -140,7 +143,8 @@ fn a_script_cut_anywhere_is_refused(rt: HostRuntime) -> Result<(), Fail> {
 
 /// The command `its run` over a source and a sink of which these calls fail. A sink that ran full
 /// fails too. Gives the status, and what the sink holds.
-fn over(
+fn over<R: Threads + Wait + Sync>(
+    rt: &R,
     alloc: Global,
     input: &[u8],
     failing_read: u64,
@@ -150,7 +154,7 @@ fn over(
     let words = words(alloc, "run").ok()?;
     let mut source = MemSource::new(alloc, input, 64, &[failing_read]).ok()?;
     let mut sink = MemSink::new(alloc, room, 64, &[failing_write]).ok()?;
-    let status = its(alloc, &words, &mut source, &mut sink);
+    let status = its(rt, alloc, &words, &mut source, &mut sink, &Open);
     Some((status, sink))
 }
 
@@ -160,12 +164,12 @@ fn each_read_and_each_write_fails_in_turn(rt: HostRuntime) -> Result<(), Fail> {
     let calls = "step\nsignal 0x10 3\nshow 2\ntake 2\ntake 2\nend";
     let text = script(alloc, &[MACHINE, MAPPED, calls])?;
     let input = text.as_bytes();
-    let (status, whole) = over(alloc, input, 0, 32_768, 0).ok_or("no memory")?;
+    let (status, whole) = over(&rt, alloc, input, 0, 32_768, 0).ok_or("no memory")?;
     assert_eq!(rt; status, Status::Ok);
     let report = whole.bytes();
     let mut refused = 0;
     for number in 1..100 {
-        let (status, sink) = over(alloc, input, number, 32_768, 0).ok_or("no memory")?;
+        let (status, sink) = over(&rt, alloc, input, number, 32_768, 0).ok_or("no memory")?;
         if status == Status::Ok {
             break;
         }
@@ -175,7 +179,7 @@ fn each_read_and_each_write_fails_in_turn(rt: HostRuntime) -> Result<(), Fail> {
     }
     assert!(rt; refused > 5);
     for number in 1..100 {
-        let (status, sink) = over(alloc, input, 0, 32_768, number).ok_or("no memory")?;
+        let (status, sink) = over(&rt, alloc, input, 0, 32_768, number).ok_or("no memory")?;
         if status == Status::Ok {
             break;
         }
@@ -190,7 +194,7 @@ fn each_read_and_each_write_fails_in_turn(rt: HostRuntime) -> Result<(), Fail> {
         (3, 64, 1, ""),
         (3, 7, 0, "refused"),
     ] {
-        let (status, sink) = over(alloc, input, failing_read, room, failing_write).ok_or(
+        let (status, sink) = over(&rt, alloc, input, failing_read, room, failing_write).ok_or(
             "no memory",
         )?;
         assert_eq!(rt; status, Status::WriteFault, "{room}");
@@ -214,7 +218,8 @@ fn long_inputs_and_other_words_are_refused(rt: HostRuntime) -> Result<(), Fail> 
     ] {
         let mut source = SureSource::new(alloc, input)?;
         let mut sink = SureSink::new(alloc, 64)?;
-        let ended = its(alloc, &words(alloc, word)?, &mut source, &mut sink);
+        let words = words(alloc, word)?;
+        let ended = its(&rt, alloc, &words, &mut source, &mut sink, &Open);
         assert_eq!(rt; ended, status, "{word}");
         assert_eq!(rt; sink.bytes(), Some(text.as_bytes()), "{word}");
     }

@@ -16,6 +16,8 @@ mod status;
 mod streams;
 #[cfg(test)]
 mod tests;
+#[cfg(test)]
+mod thread_tests;
 
 use its::its;
 use its_io::{StdSink, StdSource};

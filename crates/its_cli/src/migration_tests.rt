@@ -104,7 +104,7 @@ done
         ),
     ] {
         let parts = [MACHINE, described, started, body];
-        let ended = tells(rt.alloc(), &parts, Status::Ok, end);
+        let ended = tells(&rt, rt.alloc(), &parts, Status::Ok, end);
         assert_eq!(rt; ended, Some(true), "{body}");
     }
 }
@@ -190,7 +190,7 @@ done
         ),
     ] {
         let parts = [MACHINE, described, "phase\nthread", baser0, FAR_APART, body];
-        let ended = tells(rt.alloc(), &parts, status, end);
+        let ended = tells(&rt, rt.alloc(), &parts, status, end);
         assert_eq!(rt; ended, Some(true), "{body}");
     }
 }
@@ -279,7 +279,7 @@ refused migration 1 overlap page 0 page 1
         ),
     ] {
         let parts = [MACHINE, described, started, body];
-        let ended = tells(rt.alloc(), &parts, status, end);
+        let ended = tells(&rt, rt.alloc(), &parts, status, end);
         assert_eq!(rt; ended, Some(true), "{body}");
     }
 }

@@ -51,7 +51,8 @@ pub fn say<R: Threads + Wait + Sync, G: Gate + Sync>(
         }
     };
     let first = share(alloc, &script, made)?;
-    run(rt, alloc, gate, &script, first, report)
+    let ending = run(rt, alloc, gate, &script, first, report)?;
+    Ok(ending)
 }
 
 /// The machine of a script, for its threads to share.

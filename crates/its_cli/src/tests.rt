@@ -2,9 +2,12 @@
 use crate::its::its;
 use crate::status::Status;
 use its_io::{SureSink, SureSource};
+use its_types::Open;
 use std::alloc::{AllocError, Global};
 use std::fmt::Write;
 use std::str;
+use std::sync::Wait;
+use std::thread::Threads;
 
 /// A machine with four processors.
 pub const MACHINE: &str = "vcpus 4
@@ -60,11 +63,15 @@ pub fn words(alloc: Global, second: &str) -> Result<Vec<String>, AllocError> {
 }
 
 /// How the run of a script ends, and the sink with what it printed.
-pub fn run(alloc: Global, input: &[u8]) -> Option<(Status, SureSink)> {
+pub fn run<R: Threads + Wait + Sync>(
+    rt: &R,
+    alloc: Global,
+    input: &[u8],
+) -> Option<(Status, SureSink)> {
     let words = words(alloc, "run").ok()?;
     let mut source = SureSource::new(alloc, input).ok()?;
     let mut sink = SureSink::new(alloc, 32_768).ok()?;
-    let status = its(alloc, &words, &mut source, &mut sink);
+    let status = its(rt, alloc, &words, &mut source, &mut sink, &Open);
     Some((status, sink))
 }
 
@@ -86,9 +93,15 @@ fn told(alloc: Global, printed: &str) -> Result<String, AllocError> {
 }
 
 /// Whether the run of a script ends with this status, and tells this at its end.
-pub fn tells(alloc: Global, parts: &[&str], status: Status, end: &str) -> Option<bool> {
+pub fn tells<R: Threads + Wait + Sync>(
+    rt: &R,
+    alloc: Global,
+    parts: &[&str],
+    status: Status,
+    end: &str,
+) -> Option<bool> {
     let input = script(alloc, parts).ok()?;
-    let (ended, sink) = run(alloc, input.as_bytes())?;
+    let (ended, sink) = run(rt, alloc, input.as_bytes())?;
     let printed = str::from_utf8(sink.bytes()?).ok()?;
     let told = told(alloc, printed).ok()?;
     Some(ended == status && told.ends_with(end))

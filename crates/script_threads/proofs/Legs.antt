@@ -1,5 +1,5 @@
 -- A leg, phase by phase.
-use Rattle.std.proofs.Common.{◌≡◌, ℕ, zero, suc, ◌+◌, ◌<◌, ◌≤◌, List, [], ◌∷◌, ◌++◌, map, length, get_or, drop, Option, Some, None, refl, ap, sym, ◌∙◌, subst, inl, inr, arith, append_assoc, append-nil, length-append, drop-cons, true≢false}
+use Rattle.std.proofs.Common.{◌≡◌, ℕ, suc, ◌+◌, ◌<◌, ◌≤◌, List, [], ◌∷◌, ◌++◌, map, length, get_or, drop, Option, None, refl, ap, sym, ◌∙◌, subst, inl, inr, arith, append_assoc, append-nil, length-append, drop-cons, true≢false}
 use Rattle.std.specs.List.{AllByRecursion}
 use Rattle.std.proofs.lemmas.List.{drop_all}
 use Rattle.its_types.specs.declared.machine.Placed.{Placed}
@@ -17,7 +17,6 @@ use Rattle.script_threads.specs.Legs.{RanLeg, phase_lines, threads_in}
 use Rattle.script_threads.specs.Phases.{Phased, calls_of, replies_of}
 use Rattle.script_threads.specs.Rests.{Rests}
 use Rattle.script_threads.specs.declared.stop.Stop.{Stop}
-use Rattle.script_threads.specs.declared.stop.Stop.TheVariants.{Spent}
 use Rattle.script_threads.proofs.Counts.{calls_in, calls_more, calls_most, calls_all}
 use Rattle.script_threads.proofs.Lines.{passes_more, phase_passes, seat_at, threads_more}
 

@@ -9,3 +9,4 @@ pub mod Runs
 pub mod Scripts
 pub mod Stops
 pub mod Threads
+pub mod Tried

@@ -4,11 +4,10 @@ use Rattle.std.proofs.Math.Seq.{take-append_seam}
 use Rattle.std.proofs.lemmas.List.{length-map}
 use Rattle.std.specs.Prelude.{IsSome}
 use Rattle.std.specs.List.{AllByRecursion}
-use mathlib.Core.List.{IsPrefix}
 use Rattle.its_types.specs.declared.machine.Placed.{Placed}
 use Rattle.its_types.specs.declared.machine.Word.{Word}
 use Rattle.its_plain.specs.History.{IsLegal}
-use Rattle.its_plain.specs.Runs.{Thread, Phase, IsOfPasses, IsPhase, IsPartOfPhase}
+use Rattle.its_plain.specs.Runs.{Phase, IsOfPasses, IsPhase, IsPartOfPhase}
 use Rattle.its_plain.specs.declared.call.Entry.{Entry}
 use Rattle.its_plain.specs.declared.call.Reply.{Reply}
 use Rattle.its_steps.specs.Good.{Ended}

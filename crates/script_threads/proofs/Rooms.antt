@@ -1,5 +1,5 @@
 -- The jobs as they are made.
-use Rattle.std.proofs.Common.{◌≡◌, ℕ, suc, ◌+◌, ◌<◌, ◌≤◌, List, [], ◌∷◌, ◌++◌, map, take, drop, length, get_or, Vec, vec_len, vec_capacity, refl, ap, sym, ◌∙◌, subst, arith, length-append, take-suc, drop-cons}
+use Rattle.std.proofs.Common.{◌≡◌, ℕ, suc, ◌+◌, ◌<◌, ◌≤◌, List, [], ◌∷◌, ◌++◌, map, take, drop, length, get_or, Vec, vec_capacity, refl, ap, sym, ◌∙◌, subst, arith, length-append, take-suc, drop-cons}
 use Rattle.std.specs.List.{AllByRecursion}
 use Rattle.std.specs.Global.{Global}
 use Rattle.its_types.specs.declared.machine.Placed.{Placed}

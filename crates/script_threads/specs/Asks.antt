@@ -1,5 +1,5 @@
 -- What a thread may ask, and what it is answered.
-use Rattle.std.specs.Prelude.{◌≡◌, ◌<◌, length, Result, Ok, Err, List}
+use Rattle.std.specs.Prelude.{◌≡◌, ◌<◌, length, Result, Ok, Err}
 use Rattle.std.specs.List.{AllByRecursion}
 use Rattle.its_types.specs.declared.machine.Placed.{Placed}
 use Rattle.its_plain.specs.Runs.{Thread, Phase, Leg}

@@ -1,10 +1,9 @@
 -- Jobs before their work and after it.
-use Rattle.std.specs.Prelude.{◌≡◌, ◌⊎◌, ◌<◌, ◌≤◌, ℕ, suc, ◌+◌, List, [], ◌∷◌, ◌++◌, length, Option, Some, None, IsSome, Vec, vec_len, vec_capacity}
+use Rattle.std.specs.Prelude.{◌≡◌, ◌<◌, ◌≤◌, ℕ, suc, List, [], ◌∷◌, ◌++◌, length, Option, Some, None, IsSome, Vec, vec_capacity}
 use Rattle.std.specs.Global.{Global}
 use mathlib.Core.List.{IsPrefix}
 use Rattle.its_types.specs.declared.machine.Placed.{Placed}
 use Rattle.its_plain.specs.Runs.{Thread}
-use Rattle.its_plain.specs.declared.call.Call.{Call}
 use Rattle.its_plain.specs.declared.call.Entry.{Entry}
 use Rattle.its_plain.specs.declared.call.Reply.{Reply}
 use Rattle.its_steps.specs.World.{View, entry}

@@ -13,7 +13,7 @@ use Rattle.its_steps.specs.Parts.{Setup}
 use Rattle.its_steps.specs.World.{View}
 use Rattle.script_threads.specs.Rests.{Rests}
 use Rattle.script_threads.specs.declared.stop.Stop.{Stop}
-use Rattle.script_threads.specs.declared.stop.Stop.TheVariants.{Spent, NoMemory}
+use Rattle.script_threads.specs.declared.stop.Stop.TheVariants.{Spent}
 
 -- the lines of a phase's threads, counted from `thread` on, with these replies
 abbrev pub phase_lines : ℕ → ℕ → Phase → List (List (Placed Reply)) → List EntryLine

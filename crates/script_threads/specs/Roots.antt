@@ -1,9 +1,8 @@
 -- The root as it gives numbers and takes passes in.
-use Rattle.std.specs.Prelude.{◌≡◌, ◌<◌, ◌≤◌, ℕ, suc, ◌+◌, List, [], ◌∷◌, length}
+use Rattle.std.specs.Prelude.{◌≡◌, ◌<◌, ◌≤◌, ℕ, suc, ◌+◌, [], ◌∷◌, length}
 use Rattle.std.specs.List.{AllByRecursion}
 use mathlib.Core.List.{IsPrefix}
 use Rattle.its_plain.specs.History.{IsLegal, placed}
-use Rattle.its_plain.specs.declared.call.Entry.{Entry}
 use Rattle.its_steps.specs.Good.{Ended, IsWhole}
 use Rattle.its_steps.specs.World.{View}
 

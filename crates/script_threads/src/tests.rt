@@ -10,7 +10,9 @@ use event_script::{Phase, Thread};
 use gits_regs::RegValues;
 use its_plain::{Ack, Call, Desc, Fill, LpiTables, Reply, Signal};
 use its_turns::{Machine, Root};
-use its_types::{Addr, DeviceId, EventId, Intid, Limits, Listed, Open, Placed, Profile, Shape, Vcpu};
+use its_types::{
+    Addr, DeviceId, EventId, Intid, Limits, Listed, Open, Placed, Profile, Shape, Vcpu,
+};
 use std::alloc::{AllocError, Global};
 use std::test::Fail;
 
@@ -93,12 +95,12 @@ fn shared(alloc: Global) -> Result<(Machine, Root), Fail>
     Ok((machine, root))
 }
 
-fn repeated(alloc: Global, call: Call, count: u32) -> Result<Thread, AllocError>
-    ensures { IfOk result (λ calls. AllByRecursion (λ c. c ≡ call) calls) }
+fn repeated(alloc: Global, call: &Call, count: u32) -> Result<Thread, AllocError>
+    ensures { IfOk result (λ calls. AllByRecursion (λ c. c ≡ call.now) calls) }
 {
     let mut calls = Listed::new(alloc);
     for _ in 0..count {
-        calls.push(call)?;
+        calls.push(*call)?;
     }
     Ok(calls)
 }
@@ -108,12 +110,12 @@ fn leg(alloc: Global) -> Result<Vec<Phase>, AllocError>
     ensures { IfOk result (λ phases. IsSmallLeg phases.items) }
 {
     let mut first = Listed::new(alloc);
-    first.push(repeated(alloc, SIGNAL, 50)?)?;
-    first.push(repeated(alloc, SIGNAL, 50)?)?;
-    first.push(repeated(alloc, SIGNAL, 50)?)?;
-    first.push(repeated(alloc, SIGNAL, 50)?)?;
+    first.push(repeated(alloc, &SIGNAL, 50)?)?;
+    first.push(repeated(alloc, &SIGNAL, 50)?)?;
+    first.push(repeated(alloc, &SIGNAL, 50)?)?;
+    first.push(repeated(alloc, &SIGNAL, 50)?)?;
     let mut second = Listed::new(alloc);
-    second.push(repeated(alloc, TAKE, 2)?)?;
+    second.push(repeated(alloc, &TAKE, 2)?)?;
     let mut phases = Vec::new(alloc);
     phases.push(first)?;
     phases.push(second)?;
@@ -138,13 +140,20 @@ fn threads_signal_beside_each_other(rt: HostRuntime) -> Result<(), Fail> {
     let (machine, root) = shared(alloc)?;
     let phases = leg(alloc)?;
     let mut root = root;
-    let LegEnd { lists, stop } =
-        run_leg(&rt, alloc, &machine, &mut root, &Open, phases.as_slice())?;
+    let LegEnd { lists, stop } = run_leg(
+        &rt,
+        alloc,
+        &machine,
+        &mut root,
+        &Open,
+        phases.as_slice(),
+    )?;
     assert_eq!(rt; stop, None);
-    let [one, two, three, four, acks] = lists.as_slice() else {
-        panic!(rt; "there are {} lists", lists.len());
+    let Some((acks, signals)) = lists.as_slice().split_last() else {
+        panic!(rt; "there are no lists");
     };
-    for list in [one, two, three, four] {
+    assert_eq!(rt; signals.len(), 4);
+    for list in signals {
         assert_eq!(rt; count_delivered(list.replies.as_slice()), 50);
     }
     let first = Placed {

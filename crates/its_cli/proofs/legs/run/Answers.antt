@@ -1,10 +1,10 @@
-use Rattle.std.proofs.Common.{arith, ◌≡◌, ap, sym, subst, ◌∙◌}
+use Rattle.std.proofs.Common.{arith, ◌≡◌, ℕ, List, [], drop, ◌+◌, ap, sym, subst, ◌∙◌}
 use Rattle.std.specs.String.{string_bytes}
 use Rattle.its_types.specs.declared.machine.Limits.{Limits}
 use Rattle.its_turns.specs.Machines.{setup}
-use Rattle.its_cli.specs.Answered.{IsLegMigrated, LegStops, LegEnds}
+use Rattle.its_cli.specs.Answered.{IsSoFar, IsLegMigrated, LegStops, LegEnds}
 use Rattle.its_cli.proofs.Runs.{leg_may}
-use Rattle.its_cli.proofs.Scripts.{earlier_leg, final_leg, leg_behind, stops_here, ends_here, goes_on}
+use Rattle.its_cli.proofs.Scripts.{earlier_leg, final_leg, leg_behind, stops_here, ends_here, goes_on, so_far, on_err}
 use Rattle.its_cli.proofs.legs.run.Goals as goal
 
 pub run_leg-requires-clause-phases : goal.run_leg-requires-clause-phases
@@ -70,8 +70,22 @@ run_last_leg-requires-clause-may g c κs within =
 pub returns-clause-ok : goal.returns-clause-ok
 returns-clause-ok g c =
     let script = c.args.script.now in let l = c.loop-leg in let leg = c.as_slice-leg.result.now in let u = (setup l.now.machine).start in let ready = l.invariant.ready in
-    let old = string_bytes l.report in let new = string_bytes c.run_last_leg.new.report in let e = c.in_ok-ending-2.ending in
+    let old = string_bytes l.report in let new = string_bytes c.run_last_leg.new.report in let e = c.in_ok-ending.ending in
     let at = final_leg script.legs c.as_slice-legs.result.now l.leg-index c.index-legs-end.result leg c.as_slice-legs.ensures ready.within.some_legs c.loop-leg-test.false l.auto.leg-index-end c.index-legs-end.is c.as_slice-leg.ensures in
     let ends : LegEnds script.desc.limits.place_last u leg l.number old new e.status (string_bytes e.line) =
-    subst (λ (x : Limits). LegEnds x.place_last u leg l.number old new e.status (string_bytes e.line)) ready.limits c.in_ok-ending-2.ensures.ok in
+    subst (λ (x : Limits). LegEnds x.place_last u leg l.number old new e.status (string_bytes e.line)) ready.limits c.in_ok-ending.ensures.ok in
     ends_here script (setup c.args.first.machine).start l.leg-index l.number u old new (string_bytes e.line) leg e.status l.invariant.ran l.invariant.number at.left ends
+
+pub returns-in_err-next-clause-err : goal.returns-in_err-next-clause-err
+returns-in_err-next-clause-err g c =
+    let script = c.args.script.now in let l = c.loop-leg in let leg = c.as_slice.result.now in let first = (setup c.args.first.machine).start in
+    let at = earlier_leg script.legs c.as_slice-legs.result.now l.leg-index c.leg-item.result leg c.as_slice-legs.ensures c.loop-leg-test.true c.leg-item.is c.as_slice.ensures in
+    let told = so_far script first l.leg-index (setup l.now.machine).start (string_bytes l.report) leg (drop (l.leg-index + 1) script.legs) l.invariant.ran at.left in
+    on_err _ (IsSoFar script first (string_bytes c.run_leg.new.report)) (subst (λ (t : List ℕ). IsSoFar script first t) (sym c.in_err-next.ensures.err) told)
+
+pub returns-in_err-ending-clause-err : goal.returns-in_err-ending-clause-err
+returns-in_err-ending-clause-err g c =
+    let script = c.args.script.now in let l = c.loop-leg in let leg = c.as_slice-leg.result.now in let first = (setup c.args.first.machine).start in
+    let at = final_leg script.legs c.as_slice-legs.result.now l.leg-index c.index-legs-end.result leg c.as_slice-legs.ensures l.invariant.ready.within.some_legs c.loop-leg-test.false l.auto.leg-index-end c.index-legs-end.is c.as_slice-leg.ensures in
+    let told = so_far script first l.leg-index (setup l.now.machine).start (string_bytes l.report) leg [] l.invariant.ran at.left in
+    on_err _ (IsSoFar script first (string_bytes c.run_last_leg.new.report)) (subst (λ (t : List ℕ). IsSoFar script first t) (sym c.in_err-ending.ensures.err) told)

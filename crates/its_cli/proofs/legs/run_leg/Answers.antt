@@ -1,4 +1,4 @@
-use Rattle.std.proofs.Common.{◌≡◌, refl, Some, None}
+use Rattle.std.proofs.Common.{◌≡◌, refl, ◌∙◌, Some, None}
 use Rattle.std.specs.String.{string_bytes}
 use Rattle.its_history.specs.declared.trace.End.TheVariants.{Migrated}
 use Rattle.its_migrate.specs.Resting.{resting}
@@ -15,7 +15,7 @@ returns-in_ok-add_leg-in-Ok-clause-ok g c =
     let w = is_whole s leg c.args.number c.in_ok-played.played.lines.items h old new (resting m c.play_leg.new.root) (Some Migrated) c.in_ok-texts.texts played refl c.in_ok-texts.ensures.texts c.in_ok-add_leg-in-Ok.ensures.ok in
     let went = c.in-Ok.ensures in (
       goes_on_with m c.in-Ok.machine c.pending_texts.new.root c.in-Ok.root went c.requires.fresh.layout,
-      is_migrated m c.in-Ok.machine c.pending_texts.new.root c.in-Ok.root went leg c.args.number old new w c.in_ok-texts.ensures.same,
+      is_migrated m c.in-Ok.machine c.pending_texts.new.root c.in-Ok.root went leg c.args.number old new w.0 (c.in_ok-texts.ensures.same ∙ w.1),
     )
 
 pub returns-in_ok-add_leg-in-Err-default-default-Fault-clause-ok : goal.returns-in_ok-add_leg-in-Err-default-default-Fault-clause-ok
@@ -26,4 +26,4 @@ returns-in_ok-add_leg-in-Err-default-default-Fault-clause-ok g c =
     let played = rw c.if-played.false at c.in_ok-played.ensures.played in
     let w = is_whole s leg c.args.number c.in_ok-played.played.lines.items h old new (resting m c.play_leg.new.root) None c.in_ok-texts.texts played refl c.in_ok-texts.ensures.texts c.in_ok-add_leg-in-Err-default-default-Fault.ensures.ok in
     let refused = rw x.field-0-2-is at x.ensures in
-    is_refused s.limits.place_last s.start (resting m c.pending_texts.new.root) leg c.args.number old new (string_bytes c.in_ok-line-in-Err-default-default-Fault.line) x.fault w c.in_ok-texts.ensures.same refused.3 c.in_ok-line-in-Err-default-default-Fault.ensures
+    is_refused s.limits.place_last s.start (resting m c.pending_texts.new.root) leg c.args.number old new (string_bytes c.in_ok-line-in-Err-default-default-Fault.line) x.fault w.0 (c.in_ok-texts.ensures.same ∙ w.1) refused.3 c.in_ok-line-in-Err-default-default-Fault.ensures

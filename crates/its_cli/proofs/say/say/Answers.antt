@@ -6,9 +6,9 @@ use Rattle.event_script.specs.declared.script.Script.{Script}
 use Rattle.its_cli.proofs.say.say.Goals as goal
 
 pub new-requires : goal.new-requires
-new-requires c =
+new-requires g c =
     let fits : IsWithinLimits c.in-Ok.script = subst (λ (r : Result Script ScriptFault). IfOk r IsWithinLimits) c.in-Ok.ensures (scripts_fit c.args.input.now) in
     fits.description
 
-pub run-requires-clause-within : goal.run-requires-clause-within
-run-requires-clause-within c = subst (λ (r : Result Script ScriptFault). IfOk r IsWithinLimits) c.in-Ok.ensures (scripts_fit c.args.input.now)
+pub share-requires-clause-within : goal.share-requires-clause-within
+share-requires-clause-within g c = subst (λ (r : Result Script ScriptFault). IfOk r IsWithinLimits) c.in-Ok.ensures (scripts_fit c.args.input.now)

@@ -1,17 +1,15 @@
-use Rattle.std.proofs.Common.{rules, arith, ◌≡◌, ℕ, ◌+◌, ◌<◌, ◌≤◌, ◌++◌, true, false, List, Option, Some, None, length, get_or, vec_len, refl, sym, ap, ◌∙◌, subst, true≢false}
+use Rattle.std.proofs.Common.{rules, arith, ◌≡◌, ◌+◌, ◌≤◌, ◌++◌, true, false, List, Option, Some, None, length, get_or, refl, sym, ap, ◌∙◌, true≢false}
 use Rattle.std.specs.Option.{is_some}
-use Rattle.std.specs.List.{AllByRecursion}
 use Rattle.its_types.specs.declared.machine.Placed.{Placed}
 use Rattle.its_plain.specs.Runs.{Phase}
 use Rattle.its_plain.specs.declared.call.Reply.{Reply}
 use Rattle.its_history.specs.Merged.{all_lines}
 use Rattle.its_turns.specs.Machines.{setup, view}
 use Rattle.script_threads.specs.Legs.{phase_lines}
-use Rattle.script_threads.specs.Phases.{Phased}
 use Rattle.script_threads.specs.declared.stop.Stop.{Stop}
 use Rattle.script_threads.proofs.Runs.{all_at}
 use Rattle.script_threads.proofs.Lines.{threads_most, length_replies}
-use Rattle.script_threads.proofs.Legs.{Going, going_none, going_more, cut_short, went_through}
+use Rattle.script_threads.proofs.Legs.{going_more, cut_short, went_through}
 use Rattle.script_threads.proofs.leg.run_leg.Goals as goal
 
 no_stop : (o : Option Stop) → is_some o ≡ false → o ≡ None

@@ -1,10 +1,8 @@
-use Rattle.std.proofs.Common.{rules, arith, ◌≡◌, ℕ, ◌++◌, ◌∷◌, [], List, None, map, subst, sym, ap, ◌∙◌}
-use Rattle.its_types.specs.declared.machine.Placed.{Placed}
-use Rattle.its_plain.specs.declared.call.Reply.{Reply}
+use Rattle.std.proofs.Common.{rules, arith, ◌≡◌, ◌++◌, ◌∷◌, [], None, map, subst, sym, ap, ◌∙◌}
 use Rattle.its_steps.specs.Good.{Ended}
 use Rattle.its_steps.proofs.Lists.{all_snoc, all_weaker, prefix_through}
 use Rattle.its_turns.specs.Machines.{view}
-use Rattle.script_threads.specs.Jobs.{SeenBy, end_of, reply_list, worse, worst_from}
+use Rattle.script_threads.specs.Jobs.{SeenBy, end_of, reply_list, worse}
 use Rattle.script_threads.specs.Roots.{TookIn}
 use Rattle.script_threads.proofs.Rooms.{map_snoc}
 use Rattle.script_threads.proofs.Roots.{took_more}

@@ -1,4 +1,4 @@
-use Rattle.std.proofs.Common.{arith, ◌≡◌, ℕ, suc, ◌+◌, ◌++◌, ◌∷◌, [], List, take, take-suc, subst, sym, ap, ◌∙◌}
+use Rattle.std.proofs.Common.{arith, ◌≡◌, suc, ◌+◌, ◌++◌, ◌∷◌, [], List, take, take-suc, subst, sym, ap, ◌∙◌}
 use Rattle.its_plain.specs.Runs.{Thread}
 use Rattle.script_threads.specs.Jobs.{HasRoom}
 use Rattle.script_threads.proofs.Rooms.{Replies, room_snoc}

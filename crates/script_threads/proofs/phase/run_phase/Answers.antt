@@ -1,4 +1,3 @@
-use Rattle.std.proofs.Common.{◌≡◌}
 use Rattle.its_turns.specs.Machines.{view}
 use Rattle.script_threads.proofs.Roots.{knows_looked, rests_looked}
 use Rattle.script_threads.proofs.Phases.{phased_before}

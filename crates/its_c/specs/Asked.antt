@@ -1,0 +1,35 @@
+-- What a machine is asked in numbers: which numbers are in their ranges, and what the plain machine answers and leaves.
+use Rattle.std.specs.Prelude.{◌≡◌, ◌<◌, List, slice_index, ℕ, Bool, ◌&&◌, ◌||◌, ◌==◌, nat_lt, length}
+use Rattle.its_plain.specs.Plain.{Plain, redistributor, with_redistributor}
+use Rattle.its_plain.specs.Answer.{ack_of, lowest, taken, signal_reply}
+use Rattle.its_plain.specs.Translation.{translated}
+use Rattle.its_plain.specs.declared.call.Ack.{Ack}
+use Rattle.its_plain.specs.declared.call.Signal.{Signal}
+
+-- whether the machine has a virtual processor of this number
+abbrev pub has_vcpu : Plain → ℕ → Bool
+has_vcpu u vcpu = nat_lt vcpu 256 && nat_lt vcpu (length u.redistributors)
+
+-- whether registers are read and written in so many bytes
+abbrev pub is_size : ℕ → Bool
+is_size size = size == 4 || size == 8
+
+-- both
+abbrev pub has_register : Plain → ℕ → ℕ → Bool
+has_register u vcpu size = has_vcpu u vcpu && is_size size
+
+-- where the message of a device goes
+abbrev pub signalled : Plain → ℕ → ℕ → Signal
+signalled u device event = signal_reply (translated u 0 device event)
+
+-- the LPI that a virtual processor would acknowledge
+abbrev pub shown : Plain → ℕ → Ack
+shown u vcpu = ack_of (redistributor u vcpu) (lowest (redistributor u vcpu))
+
+-- the state once it has
+abbrev pub acknowledged : Plain → ℕ → Plain
+acknowledged u vcpu = with_redistributor u vcpu (taken (redistributor u vcpu) (lowest (redistributor u vcpu)))
+
+-- a list has the first of some numbers, as many as it takes
+abbrev pub HasFirst : List ℕ → List ℕ → Type 0
+HasFirst numbers list = (i : ℕ) → i < length numbers → i < length list → slice_index list i ≡ slice_index numbers i

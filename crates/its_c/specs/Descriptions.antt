@@ -1,0 +1,102 @@
+-- Descriptions as they are given in numbers, and the description that they stand for.
+use Rattle.std.specs.Prelude.{ℕ, ◌-◌, Bool, ◌&&◌, ◌==◌, nat_le, nat_lt, if◌then◌else◌, List, [], ◌∷◌, take, drop, map, Option, Some, None, slice_get}
+use Rattle.gicr_regs.specs.declared.values.GicrRegisters.{GicrRegisters}
+use Rattle.gicr_regs.specs.declared.values.GicrValues.{GicrValues}
+use Rattle.gits_regs.specs.declared.values.RegValues.{RegValues}
+use Rattle.its_types.specs.declared.ids.Addr.{Addr}
+use Rattle.its_types.specs.declared.machine.Limits.{Limits}
+use Rattle.its_types.specs.declared.machine.Profile.{Profile}
+use Rattle.its_types.specs.declared.machine.Profile.TheVariants.{One, Two}
+use Rattle.its_types.specs.declared.machine.Shape.{Shape}
+use Rattle.its_plain.specs.declared.desc.Desc.{Desc}
+use Rattle.its_plain.specs.declared.desc.Fill.{Fill}
+use Rattle.its_plain.specs.declared.desc.LpiTables.{LpiTables}
+use Rattle.its_plain.specs.declared.desc.LpiTables.TheVariants.{Described, Registers}
+use Rattle.its_c.specs.declared.numbers.DescriptionIn.{DescriptionIn}
+use Rattle.its_c.specs.declared.numbers.FillIn.{FillIn}
+use Rattle.its_c.specs.declared.numbers.RedistributorIn.{RedistributorIn}
+use Rattle.its_c.specs.declared.numbers.WindowIn.{WindowIn}
+
+-- ---- ranges
+
+abbrev pub between : ℕ → ℕ → ℕ → Bool
+between least most n = nat_le least n && nat_le n most
+
+-- each number by itself
+abbrev pub numbers_in_range : DescriptionIn → Bool
+numbers_in_range d =
+    between 1 16 d.vcpus && between 16 20 d.device_bits && between 14 20 d.lpi_bits && between 1 2 d.profile && nat_lt d.programmed 2 && nat_lt d.restored 2
+
+-- so many pending tables, or so many redistributors' registers, as virtual processors
+abbrev pub counts_in_range : DescriptionIn → ℕ → ℕ → Bool
+counts_in_range d pending redistributors = if d.programmed == 0 then pending == d.vcpus else (redistributors == d.vcpus)
+
+-- the fills take n bytes together
+abbrev pub lengths_fit : List FillIn → ℕ → Bool
+lengths_fit [] n = n == 0
+lengths_fit (f ∷ fills) n = nat_le f.length n && lengths_fit fills (n - f.length)
+
+-- all of them
+abbrev pub is_in_range : DescriptionIn → ℕ → ℕ → List FillIn → ℕ → Bool
+is_in_range d pending redistributors fills n = numbers_in_range d && counts_in_range d pending redistributors && lengths_fit fills n
+
+-- ---- the description
+
+abbrev pub profile_of : ℕ → Profile
+profile_of n = if n == 1 then One else Two
+
+abbrev pub window_of : WindowIn → Addr × ℕ
+window_of w = (record { 0 = w.base }, w.length)
+
+abbrev pub address_of : ℕ → Addr
+address_of n = record { 0 = n }
+
+-- each fill takes the next bytes
+abbrev pub fills_of : List FillIn → List ℕ → List Fill
+fills_of [] bytes = []
+fills_of (f ∷ fills) bytes = record { addr = address_of f.address; bytes = take f.length bytes } ∷ fills_of fills (drop f.length bytes)
+
+abbrev pub registers_in : Option RedistributorIn → GicrRegisters
+registers_in None = record { ctlr = 0; propbaser = 0; pendbaser = 0 }
+registers_in (Some r) = record { ctlr = r.ctlr; propbaser = r.propbaser; pendbaser = r.pendbaser }
+
+abbrev pub registers_at : List RedistributorIn → ℕ → GicrRegisters
+registers_at redistributors i = registers_in (slice_get redistributors i)
+
+-- all zero where there are no more
+abbrev pub registers_of : List RedistributorIn → GicrValues
+registers_of r = record {
+  registers =
+      registers_at r 0 ∷ registers_at r 1 ∷ registers_at r 2 ∷ registers_at r 3 ∷ registers_at r 4 ∷ registers_at r 5 ∷ registers_at r 6 ∷ registers_at r 7
+      ∷ registers_at r 8 ∷ registers_at r 9 ∷ registers_at r 10 ∷ registers_at r 11
+      ∷ registers_at r 12 ∷ registers_at r 13 ∷ registers_at r 14 ∷ registers_at r 15 ∷ [];
+}
+
+abbrev pub tables_of : DescriptionIn → List ℕ → List RedistributorIn → LpiTables
+tables_of d pending redistributors =
+    if d.programmed == 0 then Described (address_of d.config) (map address_of pending)
+    else Registers (registers_of redistributors)
+
+abbrev pub values_of : DescriptionIn → RegValues
+values_of d = record { ctlr = d.ctlr; cbaser = d.cbaser; creadr = d.creadr; cwriter = d.cwriter; baser0 = d.baser0; baser1 = d.baser1 }
+
+abbrev pub restore_of : DescriptionIn → Option RegValues
+restore_of d = if d.restored == 0 then None else Some (values_of d)
+
+abbrev pub shape_of : DescriptionIn → Shape
+shape_of d = record { vcpus = d.vcpus; dev_bits = d.device_bits; lpi_bits = d.lpi_bits; profile = profile_of d.profile }
+
+abbrev pub limits : Limits
+limits = record { stamp_last = 16777215; place_last = 1099511627775 }
+
+-- what the numbers stand for
+abbrev pub description_of : DescriptionIn → List WindowIn → List ℕ → List RedistributorIn → List FillIn → List ℕ → Desc
+description_of d windows pending redistributors fills bytes = record {
+  shape = shape_of d;
+  shards = 1;
+  limits = limits;
+  windows = map window_of windows;
+  tables = tables_of d pending redistributors;
+  fills = fills_of fills bytes;
+  restore = restore_of d;
+}

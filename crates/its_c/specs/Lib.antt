@@ -1,0 +1,11 @@
+pub mod Asked
+pub mod Codes
+pub mod Descriptions
+pub mod Faults
+pub mod Held
+pub mod Lending
+pub mod Making
+pub mod Owning
+pub mod Pieces
+pub mod Replies
+pub mod Saves

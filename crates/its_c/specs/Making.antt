@@ -1,0 +1,21 @@
+-- What making a machine comes to.
+use Rattle.std.specs.Prelude.{◌≡◌, ◌≢◌, ◌≤◌, ℕ, Option, Some, None}
+use Rattle.its_plain.specs.Described.{IsFirstState, IsRefused}
+use Rattle.its_plain.specs.Plain.{Plain}
+use Rattle.its_plain.specs.declared.desc.Desc.{Desc}
+use Rattle.its_plain.specs.declared.desc.DescFault.{DescFault}
+use Rattle.its_c.specs.Codes as codes
+use Rattle.its_c.specs.Faults.{make_fault_out}
+use Rattle.its_c.specs.declared.faults.MakeFaultOut.{MakeFaultOut}
+
+-- there is a machine, in the first state of what the description makes
+abbrev pub IsMade : Desc → Option Plain → Type 0
+IsMade d None = ⊥
+IsMade d (Some u) = IsFirstState d u
+
+-- what each answer says when none was made
+pub record IsUnmade (code : ℕ) (d : Desc) (before after : MakeFaultOut) : Type 0 where
+  pub fault : code ≡ codes.fault → (f : DescFault) × IsRefused d f × (after ≡ make_fault_out f)
+  pub same : code ≢ codes.fault → after ≡ before
+  pub known : code ≤ codes.handle
+  pub not_outside : code ≢ codes.outside

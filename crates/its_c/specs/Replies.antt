@@ -1,0 +1,73 @@
+-- Replies as numbers.
+use Rattle.std.specs.Prelude.{ℕ}
+use Rattle.its_command.specs.declared.command.Op.{Op}
+use Rattle.its_command.specs.declared.command.Op.TheVariants as ops
+use Rattle.its_plain.specs.declared.call.Ack.{Ack}
+use Rattle.its_plain.specs.declared.call.Ack.TheVariants as acks
+use Rattle.its_plain.specs.declared.call.Cause.{Cause}
+use Rattle.its_plain.specs.declared.call.Cause.TheVariants as causes
+use Rattle.its_plain.specs.declared.call.Reason.{Reason}
+use Rattle.its_plain.specs.declared.call.Reason.TheVariants as reasons
+use Rattle.its_plain.specs.declared.call.Signal.{Signal}
+use Rattle.its_plain.specs.declared.call.Signal.TheVariants.{Delivered, Dropped}
+use Rattle.its_plain.specs.declared.call.StepReply.{StepReply}
+use Rattle.its_plain.specs.declared.call.StepReply.TheVariants as steps
+use Rattle.its_c.specs.declared.replies.SignalOut.{SignalOut}
+use Rattle.its_c.specs.declared.replies.AckOut.{AckOut}
+use Rattle.its_c.specs.declared.replies.StepOut.{StepOut}
+
+-- ---- signals
+
+abbrev pub cause_number : Cause → ℕ
+cause_number causes.Disabled = 1
+cause_number causes.NoDevice = 2
+cause_number causes.NoEvent = 3
+cause_number causes.NoCollection = 4
+cause_number causes.LpisOff = 5
+
+abbrev pub signal_out : Signal → SignalOut
+signal_out (Delivered vcpu intid) = record { cause = 0; vcpu = vcpu.0; intid = intid.0 }
+signal_out (Dropped cause) = record { cause = cause_number cause; vcpu = 0; intid = 0 }
+
+-- ---- acknowledgements
+
+abbrev pub ack_out : Ack → AckOut
+ack_out (acks.Some intid priority) = record { intid = intid.0; priority = priority }
+ack_out acks.None = record { intid = 0; priority = 0 }
+
+-- ---- steps
+
+-- byte 0 of the command (IHI 0069, section 5.3)
+abbrev pub opcode : Op → ℕ
+opcode ops.Movi = 0x01
+opcode ops.Int = 0x03
+opcode ops.Clear = 0x04
+opcode ops.Sync = 0x05
+opcode ops.Mapd = 0x08
+opcode ops.Mapc = 0x09
+opcode ops.Mapti = 0x0A
+opcode ops.Mapi = 0x0B
+opcode ops.Inv = 0x0C
+opcode ops.Invall = 0x0D
+opcode ops.Movall = 0x0E
+opcode ops.Discard = 0x0F
+opcode (ops.Unknown byte) = byte
+
+abbrev pub reason_number : Reason → ℕ
+reason_number reasons.UnknownCommand = 1
+reason_number reasons.DeviceRange = 2
+reason_number reasons.SizeRange = 3
+reason_number reasons.TargetRange = 4
+reason_number reasons.CollectionRange = 5
+reason_number reasons.NoDevice = 6
+reason_number reasons.EventRange = 7
+reason_number reasons.IntidRange = 8
+reason_number reasons.NoEvent = 9
+reason_number reasons.NoCollection = 10
+reason_number reasons.LpisOff = 11
+
+abbrev pub step_out : StepReply → StepOut
+step_out steps.Idle = record { outcome = 0; op = 0; reason = 0; address = 0 }
+step_out (steps.Ran op) = record { outcome = 1; op = opcode op; reason = 0; address = 0 }
+step_out (steps.Refused op reason) = record { outcome = 2; op = opcode op; reason = reason_number reason; address = 0 }
+step_out (steps.QueueFault at) = record { outcome = 3; op = 0; reason = 0; address = at.0 }

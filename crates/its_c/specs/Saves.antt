@@ -1,0 +1,26 @@
+-- What saves and migrations come to.
+use Rattle.std.specs.Prelude.{◌≡◌, ◌≢◌, ◌≤◌, ℕ, Ok, Err}
+use Rattle.its_plain.specs.Plain.{Plain}
+use Rattle.its_plain.specs.Regions.{savable}
+use Rattle.its_plain.specs.Saved.{saved, moved}
+use Rattle.its_plain.specs.declared.fault.SaveFault.{SaveFault}
+use Rattle.its_c.specs.Codes as codes
+use Rattle.its_c.specs.Faults.{save_fault_out}
+use Rattle.its_c.specs.declared.faults.SaveFaultOut.{SaveFaultOut}
+
+-- the state can be saved, and memory has the tables
+abbrev pub IsSaved : Plain → Plain → Type 0
+IsSaved u w = (savable u ≡ Ok tt) × (w ≡ record u { memory = saved u })
+
+-- the state can be saved, and the machine went on from what was saved
+abbrev pub IsMoved : Plain → Plain → Type 0
+IsMoved u w = (savable u ≡ Ok tt) × (w ≡ moved u)
+
+-- what each other answer says: the machine is as it was, and a fault is the state's
+pub record IsUnsaved (code : ℕ) (u w : Plain) (before after : SaveFaultOut) : Type 0 where
+  pub same : code ≢ codes.done → w ≡ u
+  pub no_memory : code ≡ codes.no_memory → after ≡ before
+  pub fault : code ≡ codes.fault → (f : SaveFault) × (savable u ≡ Err f) × (after ≡ save_fault_out f)
+  pub known : code ≤ codes.fault
+  pub not_outside : code ≢ codes.outside
+  pub not_range : code ≢ codes.range

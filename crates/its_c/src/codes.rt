@@ -1,0 +1,20 @@
+//! What a call answers.
+
+/// The call was made.
+pub const DONE: u32 = 0;
+
+/// The host's memory ran out. Nothing changed, and the same call may be made again.
+pub const NO_MEMORY: u32 = 1;
+
+/// The bytes don't all lie in guest memory. Nothing changed.
+pub const OUTSIDE: u32 = 2;
+
+/// A number is out of its range. Nothing changed.
+pub const RANGE: u32 = 3;
+
+/// The description makes no machine, or the state can't be saved: the call tells the fault. Nothing
+/// changed.
+pub const FAULT: u32 = 4;
+
+/// The handle has no machine; or, where one is to be made, has one already. Nothing changed.
+pub const HANDLE: u32 = 5;

@@ -1,0 +1,238 @@
+//! The description that numbers stand for.
+ghost use Rattle.std.specs.Prelude.{◌≡◌, true, IfOk, length, map};
+ghost use Rattle.its_plain.specs.Machine.{IsDescription, HasTablesFor};
+ghost use Rattle.its_plain.specs.Sound.{IsShape};
+ghost use Rattle.its_c.specs.Descriptions as spec;
+
+use crate::numbers::{DescriptionIn, FillIn, RedistributorIn, WindowIn};
+use gicr_regs::{GicrRegisters, GicrValues};
+use gits_regs::RegValues;
+use its_plain::{Desc, Fill, LpiTables};
+use its_types::{Addr, Limits, Listed, Profile, Shape};
+use std::alloc::{AllocError, Global};
+
+/// Whether all numbers are in their ranges, of so many pending tables, redistributors' registers
+/// and bytes.
+pub fn is_in_range(
+    description: &DescriptionIn,
+    pending: usize,
+    redistributors: usize,
+    fills: &[FillIn],
+    bytes: usize,
+) -> bool
+    ensures { result
+        ≡ spec.is_in_range description.now pending redistributors fills.now bytes }
+{
+    numbers_in_range(description)
+        && counts_in_range(description, pending, redistributors)
+        && lengths_fit(fills, bytes)
+}
+
+fn numbers_in_range(description: &DescriptionIn) -> bool
+    ensures { result ≡ spec.numbers_in_range description.now }
+{
+    between(1, 16, description.vcpus)
+        && between(16, 20, description.device_bits)
+        && between(14, 20, description.lpi_bits)
+        && between(1, 2, description.profile)
+        && description.programmed < 2
+        && description.restored < 2
+}
+
+fn between(least: u32, most: u32, number: u32) -> bool
+    ensures { result ≡ spec.between least most number }
+{
+    least <= number && number <= most
+}
+
+fn counts_in_range(description: &DescriptionIn, pending: usize, redistributors: usize) -> bool
+    ensures { result ≡ spec.counts_in_range description.now pending redistributors }
+{
+    let count = if description.programmed == 0 {
+        pending
+    } else {
+        redistributors
+    };
+    count == description.vcpus as usize
+}
+
+// Whether the fills take so many bytes together.
+fn lengths_fit(fills: &[FillIn], bytes: usize) -> bool
+    ensures { result ≡ spec.lengths_fit fills.now bytes }
+{
+    let mut left = bytes as u64;
+    let mut rest = fills;
+    while let [fill, others @ ..] = rest {
+        if fill.length > left {
+            return false;
+        }
+        left -= fill.length;
+        rest = others;
+    }
+    left == 0
+}
+
+/// The description.
+pub fn description(
+    alloc: Global,
+    numbers: &DescriptionIn,
+    windows: &[WindowIn],
+    pending: &[u64],
+    redistributors: &[RedistributorIn],
+    fills: &[FillIn],
+    bytes: &[u8],
+) -> Result<Desc, AllocError>
+    requires numbers { spec.numbers_in_range numbers.now ≡ true }
+    requires counts { spec.counts_in_range numbers.now (length pending.now)
+        (length redistributors.now) ≡ true }
+    requires lengths { spec.lengths_fit fills.now (length bytes.now) ≡ true }
+    ensures described { IfOk result IsDescription }
+    ensures described_by { IfOk result (λ d. d
+        ≡ spec.description_of numbers.now windows.now pending.now redistributors.now fills.now
+        bytes.now) }
+{
+    Ok(Desc {
+        shape: shape(numbers),
+        shards: 1,
+        limits: Limits {
+            stamp_last: 16_777_215,
+            place_last: 1_099_511_627_775,
+        },
+        windows: Listed::from_vec(windows_of(alloc, windows)?),
+        tables: tables(alloc, numbers, pending, redistributors)?,
+        fills: fills_of(alloc, fills, bytes)?,
+        restore: restore(numbers),
+    })
+}
+
+fn shape(numbers: &DescriptionIn) -> Shape
+    requires { spec.numbers_in_range numbers.now ≡ true }
+    ensures shape { result ≡ spec.shape_of numbers.now }
+    ensures ranges { IsShape result }
+{
+    Shape {
+        vcpus: numbers.vcpus as u8,
+        dev_bits: numbers.device_bits as u8,
+        lpi_bits: numbers.lpi_bits as u8,
+        profile: if numbers.profile == 1 {
+            Profile::One
+        } else {
+            Profile::Two
+        },
+    }
+}
+
+fn windows_of(alloc: Global, windows: &[WindowIn]) -> Result<Vec<(Addr, u64)>, AllocError>
+    ensures { IfOk result (λ v. v.items ≡ map spec.window_of windows.now) }
+{
+    windows
+        .iter()
+        .map(|window| (Addr(window.base), window.length))
+        .collect(alloc)
+}
+
+fn tables(
+    alloc: Global,
+    numbers: &DescriptionIn,
+    pending: &[u64],
+    redistributors: &[RedistributorIn],
+) -> Result<LpiTables, AllocError>
+    requires { spec.counts_in_range numbers.now (length pending.now) (length redistributors.now)
+        ≡ true }
+    ensures counts { IfOk result (HasTablesFor numbers.now.vcpus) }
+    ensures tables { IfOk result (λ t. t
+        ≡ spec.tables_of numbers.now pending.now redistributors.now) }
+{
+    if numbers.programmed == 0 {
+        Ok(LpiTables::Described {
+            config: Addr(numbers.config),
+            pending: Listed::from_vec(addresses(alloc, pending)?),
+        })
+    } else {
+        Ok(LpiTables::Registers(registers_of(redistributors)))
+    }
+}
+
+fn addresses(alloc: Global, words: &[u64]) -> Result<Vec<Addr>, AllocError>
+    ensures { IfOk result (λ v. v.items ≡ map spec.address_of words.now) }
+{
+    words.iter().map(|word| Addr(*word)).collect(alloc)
+}
+
+// The registers of 16 redistributors, all zero where there are no more.
+fn registers_of(r: &[RedistributorIn]) -> GicrValues
+    ensures { result ≡ spec.registers_of r.now }
+{
+    GicrValues {
+        registers: [
+            registers_at(r, 0),
+            registers_at(r, 1),
+            registers_at(r, 2),
+            registers_at(r, 3),
+            registers_at(r, 4),
+            registers_at(r, 5),
+            registers_at(r, 6),
+            registers_at(r, 7),
+            registers_at(r, 8),
+            registers_at(r, 9),
+            registers_at(r, 10),
+            registers_at(r, 11),
+            registers_at(r, 12),
+            registers_at(r, 13),
+            registers_at(r, 14),
+            registers_at(r, 15),
+        ],
+    }
+}
+
+fn registers_at(redistributors: &[RedistributorIn], i: usize) -> GicrRegisters
+    ensures { result ≡ spec.registers_at redistributors.now i }
+{
+    match redistributors.get(i) {
+        Some(registers) => GicrRegisters {
+            ctlr: registers.ctlr,
+            propbaser: registers.propbaser,
+            pendbaser: registers.pendbaser,
+        },
+        None => GicrRegisters {
+            ctlr: 0,
+            propbaser: 0,
+            pendbaser: 0,
+        },
+    }
+}
+
+fn fills_of(alloc: Global, fills: &[FillIn], bytes: &[u8]) -> Result<Listed<Fill>, AllocError>
+    requires { spec.lengths_fit fills.now (length bytes.now) ≡ true }
+    ensures { IfOk result (λ list. list ≡ spec.fills_of fills.now bytes.now) }
+{
+    let mut list = Listed::new(alloc);
+    let mut rest = fills;
+    let mut left = bytes;
+    while let [fill, others @ ..] = rest {
+        let (own, more) = left.split_at(fill.length as usize);
+        list.push(Fill {
+            addr: Addr(fill.address),
+            bytes: Listed::from_vec(Vec::from_slice(alloc, own)?),
+        })?;
+        rest = others;
+        left = more;
+    }
+    Ok(list)
+}
+
+fn restore(numbers: &DescriptionIn) -> Option<RegValues>
+    ensures { result ≡ spec.restore_of numbers.now }
+{
+    if numbers.restored == 0 {
+        return None;
+    }
+    Some(RegValues {
+        ctlr: numbers.ctlr,
+        cbaser: numbers.cbaser,
+        creadr: numbers.creadr,
+        cwriter: numbers.cwriter,
+        baser0: numbers.baser0,
+        baser1: numbers.baser1,
+    })
+}

@@ -1,0 +1,109 @@
+//! A machine's making and end.
+ghost use Rattle.std.specs.Prelude.{◌≡◌, ◌≢◌, false, Err, None, IfOk, IfErr, is_none, length};
+ghost use Rattle.its_plain.specs.Described.{IsMadeFrom};
+ghost use Rattle.its_plain.specs.Machine.{IsDescription};
+ghost use Rattle.its_c.specs.Codes as codes;
+ghost use Rattle.its_c.specs.Descriptions.{is_in_range as in_range, description_of};
+ghost use Rattle.its_c.specs.Making.{IsMade, IsUnmade};
+
+use crate::codes::{DONE, FAULT, HANDLE, NO_MEMORY, RANGE};
+use crate::description::{description, is_in_range};
+use crate::faults::{MakeFaultOut, make_fault_out};
+use crate::handle::Handle;
+use crate::numbers::{DescriptionIn, FillIn, RedistributorIn, WindowIn};
+use its_plain::{Desc, MakeError};
+use owned_machine::Machine;
+use std::alloc::Global;
+use std::mem::replace;
+
+/// A machine as numbers describe it, restored from guest memory where they say so. The handle has
+/// none before.
+#[unsafe(no_mangle)]
+pub extern "C" fn its_new(
+    handle: &mut Handle,
+    alloc: Global,
+    numbers: &DescriptionIn,
+    windows: &[WindowIn],
+    pending: &[u64],
+    redistributors: &[RedistributorIn],
+    fills: &[FillIn],
+    bytes: &[u8],
+    fault: &mut MakeFaultOut,
+) -> u32
+    ensures in_use { is_none handle.old.machine ≡ false → result ≡ codes.handle }
+    ensures only_in_use { result ≡ codes.handle → is_none handle.old.machine ≡ false }
+    ensures range { handle.old.machine ≡ None
+        → in_range numbers.now (length pending.now) (length redistributors.now) fills.now
+        (length bytes.now) ≡ false
+        → result ≡ codes.range }
+    ensures only_range { result ≡ codes.range
+        → in_range numbers.now (length pending.now) (length redistributors.now) fills.now
+        (length bytes.now) ≡ false }
+    ensures done { result ≡ codes.done
+        → IsMade (description_of numbers.now windows.now pending.now redistributors.now fills.now
+        bytes.now) handle.new.machine }
+    ensures same { result ≢ codes.done → handle.new ≡ handle.old }
+    ensures unmade { IsUnmade result
+        (description_of numbers.now windows.now pending.now redistributors.now fills.now bytes.now)
+        fault.old fault.new }
+{
+    if !handle.is_empty() {
+        return HANDLE;
+    }
+    if !is_in_range(
+        numbers,
+        pending.len(),
+        redistributors.len(),
+        fills,
+        bytes.len(),
+    ) {
+        return RANGE;
+    }
+    let Ok(desc) = description(
+        alloc,
+        numbers,
+        windows,
+        pending,
+        redistributors,
+        fills,
+        bytes,
+    ) else {
+        return NO_MEMORY;
+    };
+    match made(alloc, &desc) {
+        Ok(machine) => {
+            *handle = machine;
+            DONE
+        }
+        Err(MakeError::NoMemory) => NO_MEMORY,
+        Err(MakeError::Fault(found)) => {
+            *fault = make_fault_out(found);
+            FAULT
+        }
+    }
+}
+
+// The handle of a machine on the heap.
+fn made(alloc: Global, desc: &Desc) -> Result<Handle, MakeError>
+    requires { IsDescription desc.now }
+    ensures made { IfOk result (λ h. IsMade desc.now h.machine) }
+    ensures refused { IfErr result (λ e. IsMadeFrom desc.now (Err e)) }
+{
+    let machine = Machine::new(alloc, desc)?;
+    Ok(Handle::of(Box::new(alloc, machine)?))
+}
+
+/// A machine's end. The handle has none then.
+#[unsafe(no_mangle)]
+pub extern "C" fn its_free(handle: &mut Handle, alloc: Global) -> u32
+    ensures empty { handle.old.machine ≡ None → result ≡ codes.handle }
+    ensures freed { is_none handle.old.machine ≡ false → result ≡ codes.done }
+    ensures gone { handle.new.machine ≡ None }
+{
+    if handle.is_empty() {
+        return HANDLE;
+    }
+    let ended = replace(handle, Handle::empty(alloc));
+    drop(ended.into_box());
+    DONE
+}

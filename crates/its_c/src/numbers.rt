@@ -1,0 +1,60 @@
+//! Descriptions as a caller in another language gives them.
+
+/// What a machine is made from, but for its lists.
+#[repr(C)]
+#[derive(Clone, Copy)]
+pub struct DescriptionIn {
+    /// How many virtual processors there are: 1 to 16.
+    pub vcpus: u32,
+    /// How many bits a DeviceID has: 16 to 20.
+    pub device_bits: u32,
+    /// How many bits the INTID of an LPI has: 14 to 20.
+    pub lpi_bits: u32,
+    /// What a MAPC of a mapped collection does with pending LPIs: 1 they stay, 2 they move.
+    pub profile: u32,
+    /// 0: LPIs are on at the configuration table and the pending tables given. 1: the guest
+    /// programs the LPI registers of the redistributors.
+    pub programmed: u32,
+    /// 0: the translator is at reset. 1: it is restored from guest memory and the registers below.
+    pub restored: u32,
+    /// Where the configuration table is, if the guest doesn't program it.
+    pub config: u64,
+    /// The registers to restore: GITS_CTLR, of which bit 0 counts.
+    pub ctlr: u64,
+    pub cbaser: u64,
+    pub creadr: u64,
+    pub cwriter: u64,
+    pub baser0: u64,
+    pub baser1: u64,
+}
+
+/// A window of guest memory, which is all zeros at first.
+#[repr(C)]
+#[derive(Clone, Copy)]
+pub struct WindowIn {
+    /// A guest physical address.
+    pub base: u64,
+    /// In bytes.
+    pub length: u64,
+}
+
+/// Bytes that guest memory has at first, which are the next in the list of all bytes.
+#[repr(C)]
+#[derive(Clone, Copy)]
+pub struct FillIn {
+    /// A guest physical address.
+    pub address: u64,
+    /// How many bytes.
+    pub length: u64,
+}
+
+/// The LPI registers of a redistributor, as they are restored.
+#[repr(C)]
+#[derive(Clone, Copy)]
+pub struct RedistributorIn {
+    /// GICR_CTLR, of which bit 0 counts.
+    pub ctlr: u64,
+    pub propbaser: u64,
+    /// GICR_PENDBASER. Bit 62, Pending Table Zero, is taken as it is given.
+    pub pendbaser: u64,
+}

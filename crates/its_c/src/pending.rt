@@ -1,0 +1,54 @@
+//! The LPIs that are pending.
+ghost use Rattle.std.specs.Prelude.{◌≡◌, ◌≢◌, ◌≤◌, true, false, length, map};
+ghost use Rattle.its_plain.specs.Plain.{pending_of};
+ghost use Rattle.its_c.specs.Asked.{has_vcpu as has, HasFirst};
+ghost use Rattle.its_c.specs.Codes as codes;
+
+use crate::codes::{DONE, NO_MEMORY, RANGE};
+use crate::ranges::has_vcpu;
+use its_types::Intid;
+use owned_machine::Machine;
+use std::alloc::Global;
+
+/// The LPIs that are pending at a virtual processor, rising, as many as the list takes; and how
+/// many there are.
+pub fn pending(
+    machine: &mut Machine,
+    alloc: Global,
+    vcpu: u32,
+    list: &mut [u32],
+    count: &mut u64,
+) -> u32
+    ensures range { has machine.old vcpu ≡ false → result ≡ codes.range }
+    ensures told { result ≡ codes.done → HasFirst (pending_of machine.old vcpu) list.new }
+    ensures length { length list.new ≡ length list.old }
+    ensures count { result ≡ codes.done
+        → count.new ≡ length (pending_of machine.old vcpu) }
+    ensures only { result ≢ codes.done → (list.new ≡ list.old) × (count.new ≡ count.old) }
+    ensures codes { result ≤ codes.range }
+    ensures not_outside { result ≢ codes.outside }
+    ensures no_other { has machine.old vcpu ≡ true → result ≢ codes.range }
+    ensures same { machine.new ≡ machine.old }
+{
+    if !has_vcpu(machine, vcpu) {
+        return RANGE;
+    }
+    let Ok(lpis) = machine.pending(alloc, vcpu as usize) else {
+        return NO_MEMORY;
+    };
+    copy(&lpis, list);
+    *count = lpis.len() as u64;
+    DONE
+}
+
+// As many of the LPIs as the list takes.
+fn copy(lpis: &[Intid], list: &mut [u32])
+    ensures copied { HasFirst (map (λ i. i.0) lpis.now) list.new }
+    ensures length { length list.new ≡ length list.old }
+{
+    let mut at = 0;
+    while at < lpis.len() && at < list.len() {
+        list[at] = lpis[at].0;
+        at += 1;
+    }
+}

@@ -1,0 +1,19 @@
+//! Which numbers are in their ranges.
+ghost use Rattle.std.specs.Prelude.{◌≡◌};
+ghost use Rattle.its_c.specs.Asked as spec;
+
+use owned_machine::Machine;
+
+/// Whether there is a virtual processor of this number.
+pub fn has_vcpu(machine: &Machine, vcpu: u32) -> bool
+    ensures { result ≡ spec.has_vcpu machine.now vcpu }
+{
+    vcpu < 256 && (vcpu as usize) < machine.vcpus()
+}
+
+/// Whether registers are accessed in so many bytes.
+pub fn is_size(size: u32) -> bool
+    ensures { result ≡ spec.is_size size }
+{
+    size == 4 || size == 8
+}

@@ -1,0 +1,134 @@
+//! Registers: those of the translator, and the LPI registers of redistributors.
+ghost use Rattle.std.specs.Prelude.{◌≡◌, true, false};
+ghost use Rattle.gits_regs.specs.Registers.{read_reg};
+ghost use Rattle.its_plain.specs.Answer.{written, gicr_read, gicr_written};
+ghost use Rattle.its_plain.specs.Plain.{regs_of};
+ghost use Rattle.its_c.specs.Asked.{is_size as is, has_register};
+ghost use Rattle.its_c.specs.Codes as codes;
+
+use crate::codes::{DONE, RANGE};
+use crate::ranges::{has_vcpu, is_size};
+use its_plain::{Call, Reply};
+use its_types::Vcpu;
+use owned_machine::Machine;
+use std::alloc::Global;
+
+/// A read of 4 or 8 bytes of the translator's control frame (IHI 0069, section 12.19).
+#[tactic(auto, unfolding(its_plain::specs::Answer::reply_of, its_plain::specs::Answer::left))]
+pub fn read_register(
+    machine: &mut Machine,
+    alloc: Global,
+    offset: u32,
+    size: u32,
+    out: &mut u64,
+) -> u32
+    ensures code { result ≡ codes.if_in_range (is size) }
+    ensures told { is size ≡ true → out.new ≡ read_reg (regs_of machine.old 0) offset size }
+    ensures refused { is size ≡ false → out.new ≡ out.old }
+    ensures same { machine.new ≡ machine.old }
+{
+    if !is_size(size) {
+        return RANGE;
+    }
+    let call = Call::ReadReg {
+        its: 0,
+        off: offset,
+        size: size as u8,
+    };
+    let Ok(Reply::Value(value)) = machine.answer(alloc, &call) else {
+        unreachable!()
+    };
+    *out = value;
+    DONE
+}
+
+/// A write of 4 or 8 bytes of the translator's control frame.
+#[tactic(auto, unfolding(its_plain::specs::Answer::reply_of, its_plain::specs::Answer::left))]
+pub fn write_register(
+    machine: &mut Machine,
+    alloc: Global,
+    offset: u32,
+    size: u32,
+    value: u64,
+) -> u32
+    ensures code { result ≡ codes.if_in_range (is size) }
+    ensures left { is size ≡ true
+        → machine.new ≡ written machine.old 0 offset size value }
+    ensures refused { is size ≡ false → machine.new ≡ machine.old }
+{
+    if !is_size(size) {
+        return RANGE;
+    }
+    let call = Call::WriteReg {
+        its: 0,
+        off: offset,
+        size: size as u8,
+        value,
+    };
+    let Ok(_) = machine.answer(alloc, &call) else {
+        unreachable!()
+    };
+    DONE
+}
+
+/// A read of 4 or 8 bytes of the LPI registers of a redistributor (IHI 0069, section 12.11).
+#[tactic(auto, unfolding(its_plain::specs::Answer::reply_of, its_plain::specs::Answer::left))]
+pub fn read_lpi_register(
+    machine: &mut Machine,
+    alloc: Global,
+    vcpu: u32,
+    offset: u32,
+    size: u32,
+    out: &mut u64,
+) -> u32
+    ensures code { result ≡ codes.if_in_range (has_register machine.old vcpu size) }
+    ensures told { has_register machine.old vcpu size ≡ true
+        → out.new ≡ gicr_read machine.old vcpu offset size }
+    ensures refused { has_register machine.old vcpu size ≡ false → out.new ≡ out.old }
+    ensures same { machine.new ≡ machine.old }
+{
+    if !(has_vcpu(machine, vcpu) && is_size(size)) {
+        return RANGE;
+    }
+    let call = Call::ReadGicr {
+        vcpu: Vcpu(vcpu as u8),
+        off: offset,
+        size: size as u8,
+    };
+    let Ok(Reply::Value(value)) = machine.answer(alloc, &call) else {
+        unreachable!()
+    };
+    *out = value;
+    DONE
+}
+
+/// A write of 4 or 8 bytes of the LPI registers of a redistributor.
+#[tactic(auto, unfolding(its_plain::specs::Answer::reply_of, its_plain::specs::Answer::left))]
+pub fn write_lpi_register(
+    machine: &mut Machine,
+    alloc: Global,
+    vcpu: u32,
+    offset: u32,
+    size: u32,
+    value: u64,
+) -> u32
+    ensures code { result ≡ codes.if_in_range (has_register machine.old vcpu size) }
+    ensures left { has_register machine.old vcpu size ≡ true
+        → machine.new ≡ gicr_written machine.old vcpu offset size value }
+    ensures refused { has_register machine.old vcpu size ≡ false
+        → machine.new ≡ machine.old }
+{
+    if !(has_vcpu(machine, vcpu) && is_size(size)) {
+        return RANGE;
+    }
+    let call = Call::WriteGicr {
+        vcpu: Vcpu(vcpu as u8),
+        off: offset,
+        size: size as u8,
+        value,
+    };
+    let Ok(_) = machine.answer(alloc, &call) else {
+        unreachable!()
+    };
+    DONE
+}

@@ -1,0 +1,192 @@
+//! Threads beside each other, and what a gate shows of them.
+use crate::its::its;
+use crate::status::Status;
+use crate::tests::{MACHINE, words};
+use its_io::{SureSink, SureSource};
+use its_types::{Gate, Open, Point};
+use std::alloc::{AllocError, Global};
+use std::sync::Wait;
+use std::sync::atomic::{AtomicU64, Ordering};
+use std::test::Fail;
+use std::thread::Threads;
+use std::{str, thread};
+
+/// Places 0 to 10: event 3 of device 16 goes to processor 2 as LPI 8200.
+const BASE: &str = "phase
+thread
+write 0x100 8 0x8107000080000200
+write 0x108 8 0x8407000080010200
+write 0x80 8 0x8000000080020000
+write 0 4 1
+command 0x80020000 mapd 0x10 5 0x800c0000
+command 0x80020020 mapc 1 2
+command 0x80020040 mapti 0x10 3 8200 1
+write 0x88 8 0x60
+step
+step
+step
+";
+
+/// How far a pass has come in its calls.
+#[derive(Drop)]
+struct Reached {
+    maps_taken: AtomicU64,
+    before_commit: AtomicU64,
+    after_commit: AtomicU64,
+}
+
+impl Reached {
+    fn new() -> Reached {
+        Reached {
+            maps_taken: AtomicU64::new(0),
+            before_commit: AtomicU64::new(0),
+            after_commit: AtomicU64::new(0),
+        }
+    }
+
+    fn flag(&self, point: Point) -> &AtomicU64 {
+        match point {
+            Point::MapsTaken => &self.maps_taken,
+            Point::BeforeCommit => &self.before_commit,
+            Point::AfterCommit => &self.after_commit,
+        }
+    }
+}
+
+/// Holds pass 3 when it has the maps, until pass 4 has come to a point, and pass 4 before its
+/// commit, until pass 3 has. Counts the holds that ran out.
+#[derive(Drop)]
+struct Meeting {
+    third: Reached,
+    fourth: Reached,
+    third_waits_for: Point,
+    fourth_waits_for: Point,
+    ran_out: AtomicU64,
+}
+
+impl Meeting {
+    fn hold(&self, flag: &AtomicU64) {
+        for _ in 0..100_000_000u64 {
+            if flag.load(Ordering::SeqCst) != 0 {
+                return;
+            }
+            thread::yield_now();
+        }
+        self.ran_out.fetch_add(1, Ordering::SeqCst);
+    }
+}
+
+impl Gate for Meeting {
+    fn at(&self, pass: u32, point: Point) {
+        if pass == 3 {
+            self.third.flag(point).store(1, Ordering::SeqCst);
+            if point == Point::MapsTaken {
+                self.hold(self.fourth.flag(self.third_waits_for));
+            }
+        }
+        if pass == 4 {
+            self.fourth.flag(point).store(1, Ordering::SeqCst);
+            if point == Point::BeforeCommit {
+                self.hold(self.third.flag(self.fourth_waits_for));
+            }
+        }
+    }
+}
+
+/// How the run of a script of these parts ends, and the sink with what it printed.
+fn run<R: Threads + Wait + Sync, G: Gate + Sync>(
+    rt: &R,
+    alloc: Global,
+    gate: &G,
+    parts: &[&str],
+) -> Result<(Status, SureSink), AllocError> {
+    let mut text = String::new(alloc);
+    for part in parts {
+        text.push_str(part)?;
+    }
+    let words = words(alloc, "run")?;
+    let mut source = SureSource::new(alloc, text.as_bytes())?;
+    let mut sink = SureSink::new(alloc, 65_536)?;
+    let status = its(rt, alloc, &words, &mut source, &mut sink, gate);
+    Ok((status, sink))
+}
+
+#[test]
+fn a_cached_signal_and_a_command_run_at_once(rt: HostRuntime) -> Result<(), Fail> {
+    let alloc = rt.alloc();
+    for (command, third_waits_for, fourth_waits_for, lines) in [
+        // The hit commits while the command has the maps.
+        (
+            "mapti 0x10 4 8201 1",
+            Point::AfterCommit,
+            Point::MapsTaken,
+            "\n14 3.2 signal 16 3 -> delivered 2 8200\n15 3.1 step -> ran mapti\n",
+        ),
+        // The command ends the translation that the signal has found.
+        (
+            "unmapd 0x10",
+            Point::BeforeCommit,
+            Point::AfterCommit,
+            "\n14 3.1 step -> ran mapd\n15 3.2 signal 16 3 -> dropped no-device\n",
+        ),
+    ] {
+        let gate = Meeting {
+            third: Reached::new(),
+            fourth: Reached::new(),
+            third_waits_for,
+            fourth_waits_for,
+            ran_out: AtomicU64::new(0),
+        };
+        let parts = [
+            MACHINE,
+            BASE,
+            "phase\nthread\nsignal 0x10 3\ncommand 0x80020060 ",
+            command,
+            "\nwrite 0x88 8 0x80\nphase\nthread\nstep\nthread\nsignal 0x10 3\nend\n",
+        ];
+        let (status, sink) = run(&rt, alloc, &gate, &parts)?;
+        assert_eq!(rt; status, Status::Ok, "{command}");
+        assert_eq!(rt; gate.ran_out.load(Ordering::SeqCst), 0, "{command}");
+        let printed = str::from_utf8(sink.bytes().ok_or("no bytes")?)?;
+        assert!(rt; printed.contains(lines), "{printed}");
+    }
+    Ok(())
+}
+
+#[test]
+fn threads_signal_beside_each_other(rt: HostRuntime) -> Result<(), Fail> {
+    let alloc = rt.alloc();
+    for (threads, calls, count, end) in [
+        (
+            4,
+            50,
+            200,
+            "\n211 3.1 take 2 -> lpi 8200 0xa0\n212 3.1 take 2 -> none\nvcpu 0",
+        ),
+        (
+            64,
+            10,
+            640,
+            "\n651 3.1 take 2 -> lpi 8200 0xa0\n652 3.1 take 2 -> none\nvcpu 0",
+        ),
+    ] {
+        let mut beside = String::from_str(alloc, "phase\n")?;
+        for _ in 0..threads {
+            beside.push_str("thread\n")?;
+            for _ in 0..calls {
+                beside.push_str("signal 0x10 3\n")?;
+            }
+        }
+        let after = "phase\nthread\ntake 2\ntake 2\nend\n";
+        let parts = [MACHINE, BASE, beside.as_str(), after];
+        let (status, sink) = run(&rt, alloc, &Open, &parts)?;
+        assert_eq!(rt; status, Status::Ok, "{threads}");
+        let printed = str::from_utf8(sink.bytes().ok_or("no bytes")?)?;
+        let delivered = printed
+            .lines()
+            .filter(|line| line.ends_with("delivered 2 8200"));
+        assert_eq!(rt; delivered.count(), count, "{threads}");
+        assert!(rt; printed.contains(end), "{threads}");
+    }
+    Ok(())
+}

@@ -1,0 +1,88 @@
+#!/usr/bin/env python3
+"""Holds include/its.h to the sources of the library.
+
+usage: check_header.py HEADER SOURCE..
+
+Prints a C file that compiles only if the header declares what the sources define: each call with the
+same types, each struct with the same fields at the same places, each code with the same value. Ends
+with 1, and names what differs, where one side has a name that the other hasn't.
+"""
+import re
+import sys
+
+NUMBERS = {"u8": "uint8_t", "u32": "uint32_t", "u64": "uint64_t", "usize": "size_t"}
+
+
+def snake(name):
+    return "its_" + re.sub(r"(?<!^)([A-Z])", r"_\1", name).lower()
+
+
+def c_type(name):
+    return NUMBERS.get(name) or "struct " + snake(name)
+
+
+def structs(text):
+    """Each repr(C) struct: its C name, and the name and C type of each field that has bytes."""
+    pattern = r"#\[repr\(C\)\]\s*(?:#\[[^\]]*\]\s*)*pub struct (\w+) \{(.*?)\n\}"
+    for name, body in re.findall(pattern, text, re.S):
+        fields = []
+        body = re.sub(r"//.*", "", body)
+        for ghost, field, kind in re.findall(r"^\s*(?:pub(?:\(crate\))? )?(ghost )?(\w+): ([^,]*),?$", body, re.M):
+            if ghost or kind == "Global":
+                continue
+            fields.append((field, "void *" if kind.startswith("*mut") else c_type(kind)))
+        yield snake(name), fields
+
+
+def parameter(text):
+    """The C parameters of one of Rust's."""
+    name, kind = text.split(": ")
+    if kind == "Global":
+        return []
+    if not kind.startswith("&"):
+        return [f"{c_type(kind)} {name}"]
+    const = "" if kind.startswith("&mut ") else "const "
+    kind = kind.removeprefix("&").removeprefix("mut ")
+    if kind.startswith("["):
+        return [f"{const}{c_type(kind[1:-1])} *{name}", f"size_t {name}_len"]
+    return [f"{const}{c_type(kind)} *{name}"]
+
+
+def calls(text):
+    for name, arguments, result in re.findall(r'pub extern "C" fn (\w+)\((.*?)\) -> (\w+)', text, re.S):
+        arguments = [a.strip() for a in arguments.split(",") if a.strip()]
+        yield name, f"{c_type(result)} {name}({', '.join(p for a in arguments for p in parameter(a))});"
+
+
+def codes(text):
+    for name, value in re.findall(r"pub const (\w+): u32 = (\d+);", text):
+        yield "ITS_" + name, value
+
+
+def main():
+    header = re.sub(r"/\*.*?\*/", "", open(sys.argv[1]).read(), flags=re.S)
+    text = "\n".join(open(source).read() for source in sys.argv[2:])
+    found_structs, found_calls, found_codes = dict(structs(text)), dict(calls(text)), dict(codes(text))
+    declared = {
+        "struct": (set(re.findall(r"^struct (\w+) \{", header, re.M)), set(found_structs)),
+        "call": (set(re.findall(r"^uint32_t (\w+)\(", header, re.M)), set(found_calls)),
+        "code": (set(re.findall(r"^#define (ITS_\w+) \d", header, re.M)), set(found_codes)),
+    }
+    differing = [f"{what} {name}: in one of header and sources alone" for what, (a, b) in declared.items() for name in sorted(a ^ b)]
+    if differing or not found_calls:
+        sys.exit("\n".join(differing) or "no call was found")
+    print('#include "its.h"\n#include <assert.h>')
+    for name, value in found_codes.items():
+        print(f"static_assert({name} == {value}, \"{name}\");")
+    for name, fields in found_structs.items():
+        print(f"struct of_sources_{name} {{ {' '.join(f'{kind} {field};' for field, kind in fields)} }};")
+        print(f"static_assert(sizeof(struct {name}) == sizeof(struct of_sources_{name}), \"size of {name}\");")
+        for field, kind in fields:
+            same = f"offsetof(struct {name}, {field}) == offsetof(struct of_sources_{name}, {field})"
+            print(f"static_assert({same}, \"{name}.{field}\");")
+            print(f"static_assert(_Generic(((struct {name} *)0)->{field}, {kind}: 1, default: 0), \"type of {name}.{field}\");")
+    for call in found_calls.values():
+        print(call)
+
+
+main()
