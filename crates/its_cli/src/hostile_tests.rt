@@ -218,7 +218,14 @@ fn long_inputs_and_other_words_are_refused(rt: HostRuntime) -> Result<(), Fail> 
     ] {
         let mut source = SureSource::new(alloc, input)?;
         let mut sink = SureSink::new(alloc, 64)?;
-        let ended = its(&rt, alloc, &words(alloc, word)?, &mut source, &mut sink, &Open);
+        let ended = its(
+            &rt,
+            alloc,
+            &words(alloc, word)?,
+            &mut source,
+            &mut sink,
+            &Open,
+        );
         assert_eq!(rt; ended, status, "{word}");
         assert_eq!(rt; sink.bytes(), Some(text.as_bytes()), "{word}");
     }

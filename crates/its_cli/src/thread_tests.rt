@@ -1,7 +1,7 @@
 //! Threads beside each other, and what a gate shows of them.
 use crate::its::its;
 use crate::status::Status;
-use crate::tests::{MACHINE, words};
+use crate::tests::{MACHINE, MAPPED, tells, words};
 use its_io::{SureSink, SureSource};
 use its_types::{Gate, Open, Point};
 use std::alloc::{AllocError, Global};
@@ -106,7 +106,7 @@ fn run<R: Threads + Wait + Sync, G: Gate + Sync>(
     }
     let words = words(alloc, "run")?;
     let mut source = SureSource::new(alloc, text.as_bytes())?;
-    let mut sink = SureSink::new(alloc, 65_536)?;
+    let mut sink = SureSink::new(alloc, 4_194_304)?;
     let status = its(rt, alloc, &words, &mut source, &mut sink, gate);
     Ok((status, sink))
 }
@@ -153,6 +153,18 @@ fn a_cached_signal_and_a_command_run_at_once(rt: HostRuntime) -> Result<(), Fail
     Ok(())
 }
 
+// A phase of so many threads, each with so many signals.
+fn signals(alloc: Global, threads: u32, calls: u32) -> Result<String, AllocError> {
+    let mut text = String::from_str(alloc, "phase\n")?;
+    for _ in 0..threads {
+        text.push_str("thread\n")?;
+        for _ in 0..calls {
+            text.push_str("signal 0x10 3\n")?;
+        }
+    }
+    Ok(text)
+}
+
 #[test]
 fn threads_signal_beside_each_other(rt: HostRuntime) -> Result<(), Fail> {
     let alloc = rt.alloc();
@@ -165,18 +177,12 @@ fn threads_signal_beside_each_other(rt: HostRuntime) -> Result<(), Fail> {
         ),
         (
             64,
-            10,
-            640,
-            "\n651 3.1 take 2 -> lpi 8200 0xa0\n652 3.1 take 2 -> none\nvcpu 0",
+            1000,
+            64_000,
+            "\n64011 3.1 take 2 -> lpi 8200 0xa0\n64012 3.1 take 2 -> none\nvcpu 0",
         ),
     ] {
-        let mut beside = String::from_str(alloc, "phase\n")?;
-        for _ in 0..threads {
-            beside.push_str("thread\n")?;
-            for _ in 0..calls {
-                beside.push_str("signal 0x10 3\n")?;
-            }
-        }
+        let beside = signals(alloc, threads, calls)?;
         let after = "phase\nthread\ntake 2\ntake 2\nend\n";
         let parts = [MACHINE, BASE, beside.as_str(), after];
         let (status, sink) = run(&rt, alloc, &Open, &parts)?;
@@ -189,4 +195,45 @@ fn threads_signal_beside_each_other(rt: HostRuntime) -> Result<(), Fail> {
         assert!(rt; printed.contains(end), "{threads}");
     }
     Ok(())
+}
+
+#[test]
+fn threads_use_all_places(rt: HostRuntime) -> Result<(), Fail> {
+    let alloc = rt.alloc();
+    let beside = signals(alloc, 4, 50)?;
+    let parts = [
+        MACHINE,
+        "limits 16777215 100\n",
+        BASE,
+        beside.as_str(),
+        "end\n",
+    ];
+    let (status, sink) = run(&rt, alloc, &Open, &parts)?;
+    assert_eq!(rt; status, Status::Spent);
+    let printed = str::from_utf8(sink.bytes().ok_or("no bytes")?)?;
+    assert!(rt; printed.contains("\n99 2."));
+    assert!(rt; printed.ends_with("-> delivered 2 8200\nrefused spent 1\n"));
+    Ok(())
+}
+
+// Commands that end translations, one more than there are stamps: the stamp begins again at 0, and
+// no entry of the cache stays.
+#[test]
+fn stamps_begin_again(rt: HostRuntime) {
+    let commands =
+        "phase\nthread\nsignal 16 3\nrun mapc 1 3\nrun mapc 1 2\nrun mapc 1 3\nsignal 16 3\nend\n";
+    for limits in ["limits 1 1099511627775\n", "limits 2 1099511627775\n"] {
+        let parts = [MACHINE, limits, MAPPED, commands];
+        let end = "delivered 2 8200
+ran mapc
+ran mapc
+ran mapc
+delivered 3 8200
+vcpu 2 pending 8200
+vcpu 3 pending 8200
+done
+";
+        let ended = tells(&rt, rt.alloc(), &parts, Status::Ok, end);
+        assert_eq!(rt; ended, Some(true), "{limits}");
+    }
 }
