@@ -1,18 +1,21 @@
 -- The script that good drafts end in is within its limits.
-use Rattle.std.proofs.Common.{◌≡◌, ℕ, ◌+◌, Bool, true, false, ◌&&◌, nat_lt, nat_eq, if◌then◌else◌, List, [], ◌∷◌, length, filter_map, Option, Some, None, is_some, ok_or, Result, Ok, Err, IfOk, refl, arith}
+use Rattle.std.proofs.Common.{◌≡◌, ℕ, ◌+◌, Bool, true, false, ◌&&◌, ◌||◌, nat_lt, nat_eq, if◌then◌else◌, List, [], ◌∷◌, length, filter_map, Option, Some, None, is_some, ok_or, Result, Ok, Err, IfOk, refl, arith}
 use Rattle.std.specs.List.{list_all}
 use Rattle.std.specs.Option.{unwrap_or}
 use Rattle.std.proofs.lemmas.Bool.{ltb-true}
 use Rattle.its_types.specs.declared.ids.Addr.{Addr}
 use Rattle.its_types.specs.declared.machine.Limits.{Limits}
+use Rattle.its_plain.specs.Machine.{HasTablesFor}
 use Rattle.its_plain.specs.declared.desc.Desc.{Desc}
+use Rattle.its_plain.specs.declared.desc.LpiTables.{LpiTables}
+use Rattle.its_plain.specs.declared.desc.LpiTables.TheVariants.{Registers}
 use Rattle.event_script.specs.Text.{parts, fields, is_text}
 use Rattle.event_script.specs.Fields.{arg}
 use Rattle.event_script.specs.Words.{keyword_of}
 use Rattle.event_script.specs.Description.{empty, at_start, is_ended, is_shard_count}
-use Rattle.event_script.specs.Body.{is_described}
+use Rattle.event_script.specs.Body.{has_tables, is_described}
 use Rattle.event_script.specs.Limits.{IsWithinLimits, are_limits}
-use Rattle.event_script.specs.Script.{is_skipped, words_line, line, default_limits, desc_of, script_from, finished, at_line, ◌then◌, parts_from, script_of, default_ids, begins_report, trace_with, without_report, check_from, check_of}
+use Rattle.event_script.specs.Script.{is_skipped, words_line, line, default_limits, described_tables, tables_of, desc_of, script_from, finished, at_line, ◌then◌, parts_from, script_of, default_ids, begins_report, trace_with, without_report, check_from, check_of}
 use Rattle.event_script.specs.declared.fault.Kind.{Kind}
 use Rattle.event_script.specs.declared.fault.Kind.TheVariants as kind
 use Rattle.event_script.specs.declared.fault.ScriptFault.{ScriptFault}
@@ -57,6 +60,21 @@ all_there [] e = refl
 all_there (None ∷ tables) e = absurd (cc)
 all_there (Some table ∷ tables) e = omega (arith, all_there tables e)
 
+described_there : (d : Draft) → (is_some d.config && list_all is_some d.pending) ≡ true → IfOk (described_tables d) (HasTablesFor (length d.pending))
+unfolding described_tables
+described_there d e =
+    bound (HasTablesFor (length d.pending)) (ok_or d.config kind.Missing) _ (λ config.
+    all_there d.pending (right_true (is_some d.config) (list_all is_some d.pending) e))
+
+-- the guest programs the tables, or there is one for each processor
+by_choice : (d : Draft) (gicr : Bool) → (gicr || (is_some d.config && list_all is_some d.pending)) ≡ true
+    → IfOk (let r : Result LpiTables Kind = if gicr then Ok (Registers d.registers) else described_tables d in r) (HasTablesFor (length d.pending))
+by_choice d true e = tt
+by_choice d false e = described_there d e
+
+tables_there : (d : Draft) → has_tables d ≡ true → IfOk (tables_of d) (HasTablesFor (length d.pending))
+tables_there d e = by_choice d d.gicr e
+
 ended : (s : Stage) → is_ended s ≡ true → (in_body s ≡ true) × (at_start s ≡ false)
 ended stage.Start e = absurd (cc)
 ended stage.Description e = absurd (cc)
@@ -73,12 +91,11 @@ unfolding desc_of
 desc_fits d h over =
     let is : is_described d ≡ true = h.described (ended d.stage over).0 in
     let bits : FitIds (unwrap_or d.ids default_ids) = ids_known d.ids h.fair.ids in
-    let tables : Bool = list_all is_some d.pending in
     let windows : Bool = nat_lt 0 (length d.windows) in
-    let before : (is_some d.shards && windows && is_some d.config) ≡ true = left_true (is_some d.shards && windows && is_some d.config) tables is in
-    let some_windows : windows ≡ true = right_true (is_some d.shards) windows (left_true (is_some d.shards && windows) (is_some d.config) before) in
+    let some_windows : windows ≡ true = right_true (is_some d.shards) windows (left_true (is_some d.shards && windows) (has_tables d) is) in
+    let there : has_tables d ≡ true = right_true (is_some d.shards && windows) (has_tables d) is in
     bound_by (IsFit d) (ok_or d.shards kind.Missing) (λ n. is_shard_count n ≡ true) _ (shards_known d.shards h.fair.shards) (λ shards known.
-    bound (IsFit d) (ok_or d.config kind.Missing) _ (λ config.
+    bound_by (IsFit d) (tables_of d) (HasTablesFor (length d.pending)) _ (tables_there d there) (λ tables enough.
     record {
       description = record {
         shape = record {
@@ -89,7 +106,7 @@ desc_fits d h over =
           least_lpi_bits = bits.1.0;
           most_lpi_bits = bits.1.1;
         };
-        tables = all_there d.pending (right_true (is_some d.shards && windows && is_some d.config) tables is);
+        tables = enough;
       };
       shards = known;
       limits = limits_known d.limits h.fair.limits;

@@ -1,12 +1,12 @@
 -- The fields of each call that a line gives are in their ranges.
-use Rattle.std.proofs.Common.{◌≡◌, ℕ, ◌-◌, ◌*◌, ◌^◌, ◌≤◌, true, nat_lt, nat_le, nat_eq, List, length, IfOk, refl, arith, lit<}
+use Rattle.std.proofs.Common.{◌≡◌, ℕ, ◌-◌, ◌*◌, ◌^◌, ◌≤◌, true, ◌&&◌, nat_lt, nat_le, nat_eq, List, length, IfOk, refl, arith, lit<}
 use Rattle.std.proofs.lemmas.Bool.{lt-ltb}
 use Rattle.std.proofs.Math.Pow.{pow-sub-lt}
 use Rattle.its_command.specs.Commands.{encoded}
 use Rattle.its_plain.specs.declared.call.Call.{Call}
 use Rattle.event_script.specs.Fields.{arg, number_within, any_number, address, device, event, processor, bytes_within}
 use Rattle.event_script.specs.Commands.{command_word_of, command_fields, command_of}
-use Rattle.event_script.specs.Calls.{signal_of, take_of, show_of, poke_of, word_of, command_call_of, peek_of, read_of, write_of, step_of, save_of, access_size}
+use Rattle.event_script.specs.Calls.{signal_of, take_of, show_of, poke_of, word_of, command_call_of, peek_of, read_of, write_of, rread_of, rwrite_of, step_of, save_of, access_size}
 use Rattle.event_script.specs.Limits.{is_call, is_access_size}
 use Rattle.event_script.specs.declared.fault.Kind.TheVariants as kind
 use Rattle.event_script.proofs.Steps.{both_true, below, bound, bound_by, ensured, number_in_range, processor_below, are_bytes, bytes_in_range, length-encoded}
@@ -79,6 +79,26 @@ write_is_call vcpus fs =
     bound_by (IsCall vcpus) (access_size (arg fs 2)) (λ n. is_access_size n ≡ true) _ (size_is_known (arg fs 2)) (λ size e.
     bound_by (IsCall vcpus) (number_within 0 (2 ^ (8 * size) - 1) (arg fs 3)) (λ n. (0 ≤ n) × (n ≤ 2 ^ (8 * size) - 1)) _ (number_in_range 0 (2 ^ (8 * size) - 1) (arg fs 3)) (λ value r.
     both_true (is_access_size size) (nat_lt value (2 ^ (8 * size))) e (fits (8 * size) value r.1)))))
+
+pub rread_is_call : (vcpus : ℕ) (fs : List (List ℕ)) → IfOk (rread_of vcpus fs) (IsCall vcpus)
+unfolding rread_of
+rread_is_call vcpus fs =
+    ensured (IsCall vcpus) (nat_eq (length fs) 4) kind.Fields _ (λ _.
+    bound_by (IsCall vcpus) (processor vcpus (arg fs 1)) (λ v. nat_lt v.0 vcpus ≡ true) _ (processor_below vcpus (arg fs 1)) (λ v below.
+    bound (IsCall vcpus) (number_within 0 (2 ^ 32 - 1) (arg fs 2)) _ (λ off.
+    bound_by (IsCall vcpus) (access_size (arg fs 3)) (λ n. is_access_size n ≡ true) _ (size_is_known (arg fs 3)) (λ size e.
+    both_true (nat_lt v.0 vcpus) (is_access_size size) below e))))
+
+pub rwrite_is_call : (vcpus : ℕ) (fs : List (List ℕ)) → IfOk (rwrite_of vcpus fs) (IsCall vcpus)
+unfolding rwrite_of
+rwrite_is_call vcpus fs =
+    ensured (IsCall vcpus) (nat_eq (length fs) 5) kind.Fields _ (λ _.
+    bound_by (IsCall vcpus) (processor vcpus (arg fs 1)) (λ v. nat_lt v.0 vcpus ≡ true) _ (processor_below vcpus (arg fs 1)) (λ v below.
+    bound (IsCall vcpus) (number_within 0 (2 ^ 32 - 1) (arg fs 2)) _ (λ off.
+    bound_by (IsCall vcpus) (access_size (arg fs 3)) (λ n. is_access_size n ≡ true) _ (size_is_known (arg fs 3)) (λ size e.
+    bound_by (IsCall vcpus) (number_within 0 (2 ^ (8 * size) - 1) (arg fs 4)) (λ n. (0 ≤ n) × (n ≤ 2 ^ (8 * size) - 1)) _ (number_in_range 0 (2 ^ (8 * size) - 1) (arg fs 4)) (λ value r.
+    both_true (nat_lt v.0 vcpus && is_access_size size) (nat_lt value (2 ^ (8 * size)))
+    (both_true (nat_lt v.0 vcpus) (is_access_size size) below e) (fits (8 * size) value r.1))))))
 
 pub save_is_call : (vcpus : ℕ) (fs : List (List ℕ)) → IfOk (save_of fs) (IsCall vcpus)
 unfolding save_of

@@ -1,5 +1,5 @@
 -- What each draft keeps while lines of the description are read.
-use Rattle.std.proofs.Common.{◌≡◌, ℕ, ◌+◌, ◌-◌, ◌^◌, ◌≤◌, Bool, true, false, not, ◌&&◌, nat_lt, nat_le, nat_eq, List, [], ◌∷◌, ◌++◌, length, set, replicate, Option, Some, None, is_none, IfOk, ◌∙◌, refl, arith}
+use Rattle.std.proofs.Common.{◌≡◌, ℕ, ◌+◌, ◌-◌, ◌^◌, ◌≤◌, Bool, true, false, not, ◌&&◌, nat_lt, nat_le, nat_eq, List, [], ◌∷◌, ◌++◌, length, set, replicate, Option, Some, None, is_some, is_none, IfOk, ◌∙◌, refl, arith}
 use Rattle.std.specs.List.{list_all}
 use Rattle.std.proofs.lemmas.Bool.{ltb-true, lt-ltb}
 use Rattle.std.proofs.lemmas.List.{length-set, length-append, length-replicate}
@@ -9,7 +9,7 @@ use Rattle.its_types.specs.declared.machine.Limits.{Limits}
 use Rattle.its_plain.specs.declared.desc.Fill.{Fill}
 use Rattle.event_script.specs.Text.{number}
 use Rattle.event_script.specs.Fields.{arg, number_within, any_number, address, processor, bytes_within}
-use Rattle.event_script.specs.Description.{at_start, in_description, is_ended, empty, vcpus_line, shards_line, limits_line, ids_line, profile_of, profile_line, window_line, config_line, pending_line, register_values, restore_line, bytes_line, word_fill_line, is_given, is_shard_count, with_fill}
+use Rattle.event_script.specs.Description.{at_start, in_description, is_ended, empty, vcpus_line, shards_line, limits_line, ids_line, profile_of, profile_line, window_line, describes_tables, config_line, pending_line, gicr_line, register_values, restore_line, redistributor_values, with_registers, has_registers, restores_registers, rrestore_line, bytes_line, word_fill_line, is_given, is_shard_count, with_fill}
 use Rattle.event_script.specs.Body.{is_described}
 use Rattle.event_script.specs.Limits.{is_thread, is_phase, is_leg, are_limits, is_fill}
 use Rattle.event_script.specs.declared.fault.Kind.TheVariants as kind
@@ -288,11 +288,14 @@ window_good d fs h =
     (record { few = h.fair.few; some = h.fair.some; shards = h.fair.shards; limits = h.fair.limits; ids = h.fair.ids; windows = omega (arith, length-append d.windows ((base, len) ∷ []), ltb-true (length d.windows) 16 room); fills = h.fair.fills; fill_lines = h.fair.fill_lines })
     (still_early d e (h.early off) refl refl refl refl) off)))))
 
+no_body : (d : Draft) → describes_tables d ≡ true → in_body d.stage ≡ false
+no_body d e = not_started d.stage (left_true (in_description d.stage) (not d.gicr) e)
+
 pub config_good : (d : Draft) (fs : List (List ℕ)) → IsGood d → IfOk (config_line d fs) IsGood
 unfolding config_line
 config_good d fs h =
-    ensured IsGood (in_description d.stage && is_none d.config) kind.Order _ (λ order.
-    let off = not_started d.stage (left_true (in_description d.stage) (is_none d.config) order) in
+    ensured IsGood (describes_tables d && is_none d.config) kind.Order _ (λ order.
+    let off = no_body d (left_true (describes_tables d) (is_none d.config) order) in
     ensured IsGood (nat_eq (length fs) 2) kind.Fields _ (λ _.
     bound IsGood (address (arg fs 1)) _ (λ base.
     let e : Draft = record d { config = Some base } in
@@ -303,8 +306,8 @@ config_good d fs h =
 pub pending_good : (d : Draft) (fs : List (List ℕ)) → IsGood d → IfOk (pending_line d fs) IsGood
 unfolding pending_line
 pending_good d fs h =
-    ensured IsGood (in_description d.stage && not (is_given d.pending (number (arg fs 1)))) kind.Order _ (λ order.
-    let off = not_started d.stage (left_true (in_description d.stage) (not (is_given d.pending (number (arg fs 1)))) order) in
+    ensured IsGood (describes_tables d && not (is_given d.pending (number (arg fs 1)))) kind.Order _ (λ order.
+    let off = no_body d (left_true (describes_tables d) (not (is_given d.pending (number (arg fs 1)))) order) in
     ensured IsGood (nat_eq (length fs) 3) kind.Fields _ (λ _.
     bound IsGood (processor (length d.pending) (arg fs 1)) _ (λ vcpu.
     bound IsGood (address (arg fs 2)) _ (λ base.
@@ -325,6 +328,42 @@ restore_good d fs h =
     described_more e
     (record { few = h.fair.few; some = h.fair.some; shards = h.fair.shards; limits = h.fair.limits; ids = h.fair.ids; windows = h.fair.windows; fills = h.fair.fills; fill_lines = h.fair.fill_lines })
     (still_early d e (h.early off) refl refl refl refl) off)))
+
+-- what the registers of redistributors are is no matter
+same_but_registers : (d e : Draft) → IsFair d → e.stage ≡ d.stage → e.pending ≡ d.pending → e.shards ≡ d.shards
+    → e.limits ≡ d.limits → e.ids ≡ d.ids → e.windows ≡ d.windows → e.fills ≡ d.fills → e.fill_lines ≡ d.fill_lines → IsFair e
+same_but_registers d e h t p sh l i w f fl = record {
+  few = rw p h.few;
+  some = rw (t, p) h.some;
+  shards = rw sh h.shards;
+  limits = rw l h.limits;
+  ids = rw i h.ids;
+  windows = rw w h.windows;
+  fills = rw f h.fills;
+  fill_lines = rw (f, fl) h.fill_lines;
+}
+
+pub gicr_good : (d : Draft) (fs : List (List ℕ)) → IsGood d → IfOk (gicr_line d fs) IsGood
+unfolding gicr_line
+gicr_good d fs h =
+    ensured IsGood (describes_tables d && is_none d.config && list_all is_none d.pending) kind.Order _ (λ order.
+    let none = left_true (describes_tables d && is_none d.config) (list_all is_none d.pending) order in
+    let off = no_body d (left_true (describes_tables d) (is_none d.config) none) in
+    ensured IsGood (nat_eq (length fs) 1) kind.Fields _ (λ _.
+    let e : Draft = record d { gicr = true } in
+    described_more e (same_but_registers d e h.fair refl refl refl refl refl refl refl refl) (still_early d e (h.early off) refl refl refl refl) off))
+
+pub rrestore_good : (d : Draft) (fs : List (List ℕ)) → IsGood d → IfOk (rrestore_line d fs) IsGood
+unfolding rrestore_line
+rrestore_good d fs h =
+    ensured IsGood (restores_registers d && not (has_registers d.given (number (arg fs 1)))) kind.Order _ (λ order.
+    let here = left_true (restores_registers d) (not (has_registers d.given (number (arg fs 1)))) order in
+    let off = not_started d.stage (left_true (in_description d.stage) d.gicr (left_true (in_description d.stage && d.gicr) (is_some d.restore) here)) in
+    ensured IsGood (nat_eq (length fs) 5) kind.Fields _ (λ _.
+    bound IsGood (processor (length d.pending) (arg fs 1)) _ (λ vcpu.
+    bound IsGood (redistributor_values fs) _ (λ values.
+    let e : Draft = record d { registers = with_registers d.registers vcpu.0 values; given = set d.given vcpu.0 true } in
+    described_more e (same_but_registers d e h.fair refl refl refl refl refl refl refl refl) (still_early d e (h.early off) refl refl refl refl) off))))
 
 -- with more bytes for the memory
 pub fill_good : (d : Draft) (n : ℕ) (addr : Addr) (bytes : List ℕ) → IsGood d → in_description d.stage ≡ true → are_bytes 4096 bytes ≡ true → IsGood (with_fill d n addr bytes)

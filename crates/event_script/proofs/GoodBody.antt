@@ -5,8 +5,8 @@ use Rattle.std.proofs.lemmas.Bool.{ltb-true, lt-ltb}
 use Rattle.std.proofs.lemmas.List.{length-append}
 use Rattle.its_plain.specs.declared.call.Call.{Call}
 use Rattle.event_script.specs.Description.{at_start, in_description, in_phase, in_thread, is_ended}
-use Rattle.event_script.specs.Calls.{signal_of, take_of, show_of, poke_of, word_of, command_call_of, peek_of, read_of, write_of, step_of, save_of}
-use Rattle.event_script.specs.Body.{is_described, is_whole, may_go_on, threads_so_far, phases_so_far, legs_so_far, phase_line, thread_line, migrate_line, end_line, call_line, word_line, keyword_line}
+use Rattle.event_script.specs.Calls.{signal_of, take_of, show_of, poke_of, word_of, command_call_of, peek_of, read_of, write_of, rread_of, rwrite_of, step_of, save_of}
+use Rattle.event_script.specs.Body.{is_described, is_whole, may_go_on, threads_so_far, phases_so_far, legs_so_far, phase_line, thread_line, migrate_line, end_line, call_line, gicr_call_line, word_line, keyword_line}
 use Rattle.event_script.specs.Limits.{is_call, is_thread, is_phase, is_leg}
 use Rattle.event_script.specs.declared.fault.Kind.{Kind}
 use Rattle.event_script.specs.declared.fault.Kind.TheVariants as kind
@@ -17,8 +17,8 @@ use Rattle.event_script.specs.declared.draft.Stage.{Stage}
 use Rattle.event_script.specs.declared.draft.Stage.TheVariants as stage
 use Rattle.event_script.specs.declared.draft.TheConstants.{MOST_LEGS, MOST_PHASES, MOST_THREADS, MOST_CALLS}
 use Rattle.event_script.proofs.Steps.{left_true, right_true, both_true, below, all_pushed, bound_by, ensured, chosen}
-use Rattle.event_script.proofs.Calling.{signal_is_call, take_is_call, show_is_call, poke_is_call, word_is_call, command_is_call, peek_is_call, read_is_call, write_is_call, step_is_call, save_is_call}
-use Rattle.event_script.proofs.Good.{in_body, open_legs, open_phases, open_threads, clash, IsFair, HasCalls, IsGood, shards_good, vcpus_good, limits_good, ids_good, profile_good, window_good, config_good, pending_good, restore_good, bytes_good, word_fill_good}
+use Rattle.event_script.proofs.Calling.{signal_is_call, take_is_call, show_is_call, poke_is_call, word_is_call, command_is_call, peek_is_call, read_is_call, write_is_call, rread_is_call, rwrite_is_call, step_is_call, save_is_call}
+use Rattle.event_script.proofs.Good.{in_body, open_legs, open_phases, open_threads, clash, IsFair, HasCalls, IsGood, shards_good, vcpus_good, limits_good, ids_good, profile_good, window_good, config_good, pending_good, gicr_good, restore_good, rrestore_good, bytes_good, word_fill_good}
 
 one_open : (s : Stage) → in_thread s ≡ true → (open_phases s ≡ 1) × (open_threads s ≡ 1)
 one_open stage.Start e = absurd (cc)
@@ -240,6 +240,10 @@ call_good d read h reads =
       };
     })))
 
+gicr_call_good : (d : Draft) (read : Result Call Kind) → IsGood d → IfOk read (IsCallOf d) → IfOk (gicr_call_line d read) IsGood
+unfolding gicr_call_line
+gicr_call_good d read h reads = ensured IsGood d.gicr kind.Order _ (λ _. call_good d read h reads)
+
 word_good : (d : Draft) (n : ℕ) (fs : List (List ℕ)) → IsGood d → IfOk (word_line d n fs) IsGood
 unfolding word_line
 word_good d n fs h =
@@ -258,6 +262,8 @@ keyword_good d n on.Pending fs h = pending_good d fs h
 keyword_good d n on.Bytes fs h = bytes_good d n fs h
 keyword_good d n on.Word fs h = word_good d n fs h
 keyword_good d n on.Restore fs h = restore_good d fs h
+keyword_good d n on.Gicr fs h = gicr_good d fs h
+keyword_good d n on.Rrestore fs h = rrestore_good d fs h
 keyword_good d n on.Phase fs h = phase_good d fs h
 keyword_good d n on.Thread fs h = thread_good d fs h
 keyword_good d n on.Migrate fs h = migrate_good d fs h
@@ -270,6 +276,8 @@ keyword_good d n on.Peek fs h = call_good d (peek_of fs) h (peek_is_call (length
 keyword_good d n on.Command fs h = call_good d (command_call_of fs) h (command_is_call (length d.pending) fs)
 keyword_good d n on.Read fs h = call_good d (read_of fs) h (read_is_call (length d.pending) fs)
 keyword_good d n on.Write fs h = call_good d (write_of fs) h (write_is_call (length d.pending) fs)
+keyword_good d n on.Rread fs h = gicr_call_good d (rread_of (length d.pending) fs) h (rread_is_call (length d.pending) fs)
+keyword_good d n on.Rwrite fs h = gicr_call_good d (rwrite_of (length d.pending) fs) h (rwrite_is_call (length d.pending) fs)
 keyword_good d n on.Step fs h = call_good d (step_of fs) h (step_is_call (length d.pending) fs)
 keyword_good d n on.Save fs h = call_good d (save_of fs) h (save_is_call (length d.pending) fs)
 keyword_good d n on.Trace fs h = tt

@@ -1,16 +1,20 @@
 -- A text is read line by line: its parts up to a line end, and those behind it.
-use Rattle.std.proofs.Common.{◌≡◌, ℕ, ◌+◌, ◌<◌, ◌==◌, ◌≤◌, Bool, true, false, cond, nat_lt, List, [], ◌∷◌, length, take, drop, position, Option, Some, None, Ok, ap, ◌∙◌, refl, arith}
+use Rattle.std.proofs.Common.{◌≡◌, ℕ, ◌+◌, ◌<◌, ◌==◌, ◌≤◌, Bool, true, false, cond, nat_lt, List, [], ◌∷◌, length, take, drop, position, Option, Some, None, ok_or, Result, Ok, Err, sym, ap, subst, ◌∙◌, refl, arith}
+use Rattle.std.specs.Prelude.{IsErrAnd}
 use Rattle.std.specs.List.{position_or_len}
 use Rattle.std.specs.Option.{unwrap_or}
 use Rattle.std.proofs.lemmas.Bool.{ltb-true, ltb-false}
 use Rattle.std.proofs.lemmas.List.Sums.{fails_before_first}
 use Rattle.std.proofs.lemmas.List.Splits.{slice_split_first, slice_split_none, length-slice_split}
 use Rattle.event_script.specs.Text.{parts}
-use Rattle.event_script.specs.Outcome.{Fails, error_at}
+use Rattle.event_script.specs.Outcome.{Fails, Gives, error_at}
+use Rattle.event_script.specs.declared.fault.Kind.TheVariants as kind
 use Rattle.event_script.specs.declared.fault.LineError.{LineError}
 use Rattle.event_script.specs.declared.fault.LineError.TheVariants as errors
-use Rattle.event_script.specs.Script.{line, at_line, ◌then◌, parts_from, finished, FailsAs}
+use Rattle.event_script.specs.Description.{is_ended}
+use Rattle.event_script.specs.Script.{line, at_line, ◌then◌, parts_from, finished, described_tables, tables_of, desc_of, script_from, FailsAs}
 use Rattle.event_script.specs.declared.draft.Draft.{Draft}
+use Rattle.event_script.specs.declared.script.Script.{Script}
 
 abbrev ends : ℕ → Bool
 ends b = b == 10
@@ -58,3 +62,16 @@ read_fails n d text first more (errors.Fault k) at h =
 -- what is left is no line
 pub read_last : (n : ℕ) (d : Draft) (text : List ℕ) → parts text ≡ text ∷ [] → parts_from n d (parts text) ≡ at_line n (finished d text)
 read_last n d text at = ap (parts_from n d) at
+
+-- the tables of the redistributors are not read
+tables_fail : (d : Draft) (shards : ℕ) (e : LineError) → is_ended d.stage ≡ true → ok_or d.shards kind.Missing ≡ Ok shards → Fails e (tables_of d)
+    → Fails e (script_from d)
+unfolding script_from desc_of described_tables
+tables_fail d shards errors.Memory over some h = tt
+tables_fail d shards (errors.Fault k) over some h = rw (over, some, h) refl
+
+pub tables_failed : (d : Draft) (shards : ℕ) (e : LineError) (r : Result Script LineError) → is_ended d.stage ≡ true → ok_or d.shards kind.Missing ≡ Ok shards
+    → Fails e (tables_of d) → IsErrAnd r (λ f. f ≡ e)
+    → Gives (λ script. script) r (script_from d)
+tables_failed d shards e (Ok x) over some h is = absurd is
+tables_failed d shards e (Err f) over some h is = subst (λ (g : LineError). Fails g (script_from d)) (sym is) (tables_fail d shards e over some h)

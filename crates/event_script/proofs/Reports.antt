@@ -1,14 +1,12 @@
 -- A script that a report follows is read line by line, up to the line `trace`.
-use Rattle.std.proofs.Common.{◌≡◌, ℕ, ◌+◌, ◌<◌, Bool, true, false, List, [], ◌∷◌, length, Result, Ok, Err, refl, sym, ap, ◌∙◌, arith}
-use Rattle.std.specs.Prelude.{if◌then◌else◌, map}
+use Rattle.std.proofs.Common.{◌≡◌, ℕ, ◌+◌, ◌<◌, Bool, true, false, List, [], ◌∷◌, length, Result, refl, sym, ap, ◌∙◌, arith}
+use Rattle.std.specs.Prelude.{if◌then◌else◌}
 use Rattle.event_script.specs.Text.{parts, fields}
 use Rattle.event_script.specs.Outcome.{Fails, error_at}
 use Rattle.event_script.specs.Script.{line, at_line, ◌then◌, begins_report, report_line, check_from, FailsAs}
 use Rattle.event_script.specs.declared.fault.Kind.{Kind}
 use Rattle.event_script.specs.declared.fault.LineError.{LineError}
 use Rattle.event_script.specs.declared.fault.LineError.TheVariants as errors
-use Rattle.event_script.specs.declared.fault.ParseError.{ParseError}
-use Rattle.event_script.specs.declared.fault.ParseError.TheVariants as error
 use Rattle.event_script.specs.declared.fault.ScriptFault.{ScriptFault}
 use Rattle.event_script.specs.declared.draft.Draft.{Draft}
 use Rattle.event_script.specs.declared.script.Script.{Script}

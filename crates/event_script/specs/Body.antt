@@ -3,8 +3,8 @@ use Rattle.std.specs.Prelude.{ℕ, Bool, not, ◌&&◌, ◌||◌, ◌==◌, nat_
 use Rattle.std.specs.List.{list_all}
 use Rattle.its_plain.specs.declared.call.Call.{Call}
 use Rattle.event_script.specs.Outcome.{◌>>=◌, ensure}
-use Rattle.event_script.specs.Description.{at_start, in_description, in_phase, in_thread, is_ended, vcpus_line, shards_line, limits_line, ids_line, profile_line, window_line, config_line, pending_line, restore_line, bytes_line, word_fill_line}
-use Rattle.event_script.specs.Calls.{signal_of, take_of, show_of, poke_of, word_of, command_call_of, peek_of, read_of, write_of, step_of, save_of}
+use Rattle.event_script.specs.Description.{at_start, in_description, in_phase, in_thread, is_ended, vcpus_line, shards_line, limits_line, ids_line, profile_line, window_line, config_line, pending_line, gicr_line, restore_line, rrestore_line, bytes_line, word_fill_line}
+use Rattle.event_script.specs.Calls.{signal_of, take_of, show_of, poke_of, word_of, command_call_of, peek_of, read_of, write_of, rread_of, rwrite_of, step_of, save_of}
 use Rattle.event_script.specs.declared.fault.Kind.{Kind}
 use Rattle.event_script.specs.declared.fault.Kind.TheVariants as kind
 use Rattle.event_script.specs.declared.words.Keyword.{Keyword}
@@ -13,9 +13,13 @@ use Rattle.event_script.specs.declared.draft.Draft.{Draft}
 use Rattle.event_script.specs.declared.draft.Stage.TheVariants as stage
 use Rattle.event_script.specs.declared.draft.TheConstants.{MOST_LEGS, MOST_PHASES, MOST_THREADS, MOST_CALLS}
 
+-- the tables of the redistributors are described, or the guest programs them
+abbrev pub has_tables : Draft → Bool
+has_tables d = d.gicr || (is_some d.config && list_all is_some d.pending)
+
 -- each line that a description must have was there
 abbrev pub is_described : Draft → Bool
-is_described d = is_some d.shards && nat_lt 0 (length d.windows) && is_some d.config && list_all is_some d.pending
+is_described d = is_some d.shards && nat_lt 0 (length d.windows) && has_tables d
 
 -- nothing is missing where a phase begins, or a leg or the script ends: an open phase has a thread
 abbrev pub is_whole : Draft → Bool
@@ -76,6 +80,12 @@ call_line d read = do
   _ ← ensure (nat_lt (length d.calls) MOST_CALLS) kind.Many
   Ok (record d { calls = d.calls ++ c ∷ [] })
 
+-- a line of a call to a redistributor, whose registers are the guest's
+unfoldable pub gicr_call_line : Draft → Result Call Kind → Result Draft Kind
+gicr_call_line d read = do
+  _ ← ensure d.gicr kind.Order
+  call_line d read
+
 -- `word` stands in the description and in threads
 unfoldable pub word_line : Draft → ℕ → List (List ℕ) → Result Draft Kind
 word_line d n fs = if in_description d.stage then word_fill_line d n fs else call_line d (word_of fs)
@@ -93,6 +103,8 @@ keyword_line d n on.Pending fs = pending_line d fs
 keyword_line d n on.Bytes fs = bytes_line d n fs
 keyword_line d n on.Word fs = word_line d n fs
 keyword_line d n on.Restore fs = restore_line d fs
+keyword_line d n on.Gicr fs = gicr_line d fs
+keyword_line d n on.Rrestore fs = rrestore_line d fs
 keyword_line d n on.Phase fs = phase_line d fs
 keyword_line d n on.Thread fs = thread_line d fs
 keyword_line d n on.Migrate fs = migrate_line d fs
@@ -105,6 +117,8 @@ keyword_line d n on.Peek fs = call_line d (peek_of fs)
 keyword_line d n on.Command fs = call_line d (command_call_of fs)
 keyword_line d n on.Read fs = call_line d (read_of fs)
 keyword_line d n on.Write fs = call_line d (write_of fs)
+keyword_line d n on.Rread fs = gicr_call_line d (rread_of (length d.pending) fs)
+keyword_line d n on.Rwrite fs = gicr_call_line d (rwrite_of (length d.pending) fs)
 keyword_line d n on.Step fs = call_line d (step_of fs)
 keyword_line d n on.Save fs = call_line d (save_of fs)
 -- it stands only where a report follows the script, which isn't read line by line

@@ -82,6 +82,24 @@ write_of fs = do
   value ← number_within 0 (2 ^ (8 * size) - 1) (arg fs 3)
   Ok (call.WriteReg 0 off size value)
 
+-- a read of an LPI register of a processor's redistributor
+unfoldable pub rread_of : ℕ → List (List ℕ) → Result Call Kind
+rread_of vcpus fs = do
+  _ ← ensure (length fs == 4) kind.Fields
+  vcpu ← processor vcpus (arg fs 1)
+  off ← number_within 0 (2 ^ 32 - 1) (arg fs 2)
+  size ← access_size (arg fs 3)
+  Ok (call.ReadGicr vcpu off size)
+
+unfoldable pub rwrite_of : ℕ → List (List ℕ) → Result Call Kind
+rwrite_of vcpus fs = do
+  _ ← ensure (length fs == 5) kind.Fields
+  vcpu ← processor vcpus (arg fs 1)
+  off ← number_within 0 (2 ^ 32 - 1) (arg fs 2)
+  size ← access_size (arg fs 3)
+  value ← number_within 0 (2 ^ (8 * size) - 1) (arg fs 4)
+  Ok (call.WriteGicr vcpu off size value)
+
 unfoldable pub step_of : List (List ℕ) → Result Call Kind
 step_of fs = do
   _ ← ensure (length fs == 1) kind.Fields

@@ -1,6 +1,9 @@
 -- The lines of a description. Each gives the draft with what it says, or the kind of its first fault.
 use Rattle.std.specs.Prelude.{ℕ, ◌-◌, ◌^◌, Bool, true, false, not, ◌&&◌, ◌||◌, ◌==◌, nat_lt, if◌then◌else◌, List, [], ◌∷◌, ◌++◌, length, replicate, slice_index_or, slice_set, Option, Some, None, is_some, is_none, Result, Ok}
+use Rattle.std.specs.List.{list_all}
 use Rattle.byteorder.specs.Endian.{little_bytes}
+use Rattle.gicr_regs.specs.declared.values.GicrRegisters.{GicrRegisters}
+use Rattle.gicr_regs.specs.declared.values.GicrValues.{GicrValues}
 use Rattle.gits_regs.specs.declared.values.RegValues.{RegValues}
 use Rattle.its_types.specs.declared.ids.Addr.{Addr}
 use Rattle.its_types.specs.declared.machine.Profile.{Profile}
@@ -36,6 +39,10 @@ abbrev pub is_ended : Stage → Bool
 is_ended stage.Ended = true
 is_ended s = false
 
+-- the registers of a redistributor that no line gives
+abbrev pub no_registers : GicrRegisters
+no_registers = record { ctlr = 0; propbaser = 0; pendbaser = 0 }
+
 -- nothing was read
 abbrev pub empty : Draft
 empty = record {
@@ -47,6 +54,9 @@ empty = record {
   windows = [];
   config = None;
   pending = [];
+  gicr = false;
+  registers = record { registers = replicate 16 no_registers };
+  given = replicate 16 false;
   fills = [];
   fill_lines = [];
   restore = None;
@@ -113,9 +123,13 @@ window_line d fs = do
   _ ← ensure (nat_lt (length d.windows) 16) kind.Many
   Ok (record d { windows = d.windows ++ (base, len) ∷ [] })
 
+-- the tables of the redistributors are described where the guest doesn't program them
+abbrev pub describes_tables : Draft → Bool
+describes_tables d = in_description d.stage && not d.gicr
+
 unfoldable pub config_line : Draft → List (List ℕ) → Result Draft Kind
 config_line d fs = do
-  _ ← ensure (in_description d.stage && is_none d.config) kind.Order
+  _ ← ensure (describes_tables d && is_none d.config) kind.Order
   _ ← ensure (length fs == 2) kind.Fields
   base ← address (arg fs 1)
   Ok (record d { config = Some base })
@@ -127,11 +141,18 @@ is_given tables (Some vcpu) = is_some (slice_index_or tables vcpu None)
 
 unfoldable pub pending_line : Draft → List (List ℕ) → Result Draft Kind
 pending_line d fs = do
-  _ ← ensure (in_description d.stage && not (is_given d.pending (number (arg fs 1)))) kind.Order
+  _ ← ensure (describes_tables d && not (is_given d.pending (number (arg fs 1)))) kind.Order
   _ ← ensure (length fs == 3) kind.Fields
   vcpu ← processor (length d.pending) (arg fs 1)
   base ← address (arg fs 2)
   Ok (record d { pending = slice_set d.pending vcpu.0 (Some base) })
+
+-- the guest programs the tables of the redistributors, of which none is described
+unfoldable pub gicr_line : Draft → List (List ℕ) → Result Draft Kind
+gicr_line d fs = do
+  _ ← ensure (describes_tables d && is_none d.config && list_all is_none d.pending) kind.Order
+  _ ← ensure (length fs == 1) kind.Fields
+  Ok (record d { gicr = true })
 
 -- the registers to restore, in the order of a line's fields
 unfoldable pub register_values : List (List ℕ) → Result RegValues Kind
@@ -150,6 +171,35 @@ restore_line d fs = do
   _ ← ensure (length fs == 7) kind.Fields
   values ← register_values fs
   Ok (record d { restore = Some values })
+
+-- the registers of a redistributor, in the order of a line's fields
+unfoldable pub redistributor_values : List (List ℕ) → Result GicrRegisters Kind
+redistributor_values fs = do
+  ctlr ← any_number (arg fs 2)
+  propbaser ← any_number (arg fs 3)
+  pendbaser ← any_number (arg fs 4)
+  Ok (record { ctlr = ctlr; propbaser = propbaser; pendbaser = pendbaser })
+
+-- with the registers of a redistributor
+abbrev pub with_registers : GicrValues → ℕ → GicrRegisters → GicrValues
+with_registers values vcpu r = record { registers = slice_set values.registers vcpu r }
+
+-- registers that were given already, where the number is that of a processor
+abbrev pub has_registers : List Bool → Option ℕ → Bool
+has_registers given None = false
+has_registers given (Some vcpu) = slice_index_or given vcpu false
+
+-- registers to restore are given for redistributors that the guest programs, in a machine that is restored
+abbrev pub restores_registers : Draft → Bool
+restores_registers d = in_description d.stage && d.gicr && is_some d.restore
+
+unfoldable pub rrestore_line : Draft → List (List ℕ) → Result Draft Kind
+rrestore_line d fs = do
+  _ ← ensure (restores_registers d && not (has_registers d.given (number (arg fs 1)))) kind.Order
+  _ ← ensure (length fs == 5) kind.Fields
+  vcpu ← processor (length d.pending) (arg fs 1)
+  values ← redistributor_values fs
+  Ok (record d { registers = with_registers d.registers vcpu.0 values; given = slice_set d.given vcpu.0 true })
 
 -- with bytes for the memory, from the n-th line
 abbrev pub with_fill : Draft → ℕ → Addr → List ℕ → Draft

@@ -6,7 +6,8 @@ use Rattle.its_types.specs.declared.machine.Limits.{Limits}
 use Rattle.its_types.specs.declared.machine.Profile.TheVariants.{One}
 use Rattle.its_types.specs.declared.machine.Shape.{Shape}
 use Rattle.its_plain.specs.declared.desc.Desc.{Desc}
-use Rattle.its_plain.specs.declared.desc.LpiTables.TheVariants.{Described}
+use Rattle.its_plain.specs.declared.desc.LpiTables.{LpiTables}
+use Rattle.its_plain.specs.declared.desc.LpiTables.TheVariants.{Described, Registers}
 use Rattle.event_script.specs.Text.{parts, fields, is_text}
 use Rattle.event_script.specs.Outcome.{◌>>=◌, ensure}
 use Rattle.event_script.specs.Fields.{arg}
@@ -57,17 +58,27 @@ shape_of d = record {
   profile = unwrap_or d.profile One;
 }
 
+-- the tables that the description has, where all of them are there
+unfoldable pub described_tables : Draft → Result LpiTables Kind
+described_tables d = do
+  config ← ok_or d.config kind.Missing
+  Ok (Described config (filter_map (λ table. table) d.pending))
+
+-- where the LPI tables of the redistributors are
+abbrev pub tables_of : Draft → Result LpiTables Kind
+tables_of d = if d.gicr then Ok (Registers d.registers) else described_tables d
+
 -- the description, where all of it is there
 unfoldable pub desc_of : Draft → Result Desc Kind
 desc_of d = do
   shards ← ok_or d.shards kind.Missing
-  config ← ok_or d.config kind.Missing
+  tables ← tables_of d
   Ok (record {
     shape = shape_of d;
     shards = shards;
     limits = unwrap_or d.limits default_limits;
     windows = d.windows;
-    tables = Described config (filter_map (λ table. table) d.pending);
+    tables = tables;
     fills = d.fills;
     restore = d.restore;
   })

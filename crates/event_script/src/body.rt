@@ -4,8 +4,8 @@ ghost use Rattle.event_script.specs.Outcome.{Gives};
 ghost use Rattle.event_script.specs.Body as spec;
 
 use crate::calls::{
-    command_call_of, peek_of, poke_of, read_of, save_of, show_of, signal_of, step_of, take_of,
-    word_of, write_of,
+    command_call_of, peek_of, poke_of, read_of, rread_of, rwrite_of, save_of, show_of, signal_of,
+    step_of, take_of, word_of, write_of,
 };
 use crate::draft::{Draft, MOST_CALLS, MOST_LEGS, MOST_PHASES, MOST_THREADS, Stage};
 use crate::fault::{Kind, LineError, ensure};
@@ -16,13 +16,16 @@ use std::alloc::{AllocError, Global};
 use std::mem;
 
 impl Draft {
+    fn has_tables(&self) -> bool
+        ensures { result ≡ spec.has_tables self.now }
+    {
+        self.gicr || self.config.is_some() && self.pending.all_given()
+    }
+
     fn is_described(&self) -> bool
         ensures { result ≡ spec.is_described self.now }
     {
-        self.shards.is_some()
-            && !self.windows.is_empty()
-            && self.config.is_some()
-            && self.pending.all_given()
+        self.shards.is_some() && !self.windows.is_empty() && self.has_tables()
     }
 
     fn is_whole(&self) -> bool
@@ -137,6 +140,15 @@ impl Draft {
         Ok(())
     }
 
+    /// A call to a redistributor, whose registers are the guest's.
+    #[tactic(auto, unfolding(crate::specs::Body::gicr_call_line))]
+    fn gicr_call_line(&mut self, read: Result<Call, Kind>) -> Result<(), LineError>
+        ensures { Gives (λ _. self.new) result (spec.gicr_call_line self.old read) }
+    {
+        ensure(self.gicr, Kind::Order)?;
+        self.call_line(read)
+    }
+
     #[tactic(auto, unfolding(crate::specs::Body::word_line))]
     fn word_line(&mut self, alloc: Global, number: u64, fields: &[&[u8]]) -> Result<(), LineError>
         ensures { Gives (λ _. self.new) result
@@ -174,6 +186,8 @@ impl Draft {
             Keyword::Bytes => self.bytes_line(alloc, number, fields),
             Keyword::Word => self.word_line(alloc, number, fields),
             Keyword::Restore => self.restore_line(fields),
+            Keyword::Gicr => self.gicr_line(fields),
+            Keyword::Rrestore => self.rrestore_line(fields),
             Keyword::Phase => self.phase_line(alloc, fields),
             Keyword::Thread => self.thread_line(alloc, fields),
             Keyword::Migrate => self.migrate_line(alloc, fields),
@@ -186,6 +200,8 @@ impl Draft {
             Keyword::Command => self.call_line(command_call_of(fields)),
             Keyword::Read => self.call_line(read_of(fields)),
             Keyword::Write => self.call_line(write_of(fields)),
+            Keyword::Rread => self.gicr_call_line(rread_of(vcpus, fields)),
+            Keyword::Rwrite => self.gicr_call_line(rwrite_of(vcpus, fields)),
             Keyword::Step => self.call_line(step_of(fields)),
             Keyword::Save => self.call_line(save_of(fields)),
             Keyword::Trace => Err(Kind::Order.into()),

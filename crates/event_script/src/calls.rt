@@ -141,6 +141,39 @@ pub fn write_of(fields: &[&[u8]]) -> Result<Call, Kind>
     })
 }
 
+/// A read of an LPI register of a processor's redistributor.
+#[tactic(auto, unfolding(crate::specs::Calls::rread_of))]
+pub fn rread_of(vcpus: u8, fields: &[&[u8]]) -> Result<Call, Kind>
+    ensures { result ≡ spec.rread_of vcpus (map (λ f. f.now) fields.now) }
+{
+    ensure(fields.len() == 4, Kind::Fields)?;
+    let vcpu = processor(vcpus, arg(fields, 1))?;
+    let off = number_within(0, u64::from(u32::MAX), arg(fields, 2))?;
+    let size = access_size(arg(fields, 3))?;
+    Ok(Call::ReadGicr {
+        vcpu,
+        off: off as u32,
+        size,
+    })
+}
+
+#[tactic(auto, unfolding(crate::specs::Calls::rwrite_of))]
+pub fn rwrite_of(vcpus: u8, fields: &[&[u8]]) -> Result<Call, Kind>
+    ensures { result ≡ spec.rwrite_of vcpus (map (λ f. f.now) fields.now) }
+{
+    ensure(fields.len() == 5, Kind::Fields)?;
+    let vcpu = processor(vcpus, arg(fields, 1))?;
+    let off = number_within(0, u64::from(u32::MAX), arg(fields, 2))?;
+    let size = access_size(arg(fields, 3))?;
+    let value = number_within(0, largest(size), arg(fields, 4))?;
+    Ok(Call::WriteGicr {
+        vcpu,
+        off: off as u32,
+        size,
+        value,
+    })
+}
+
 #[tactic(auto, unfolding(crate::specs::Calls::step_of))]
 pub fn step_of(fields: &[&[u8]]) -> Result<Call, Kind>
     ensures { result ≡ spec.step_of (map (λ f. f.now) fields.now) }

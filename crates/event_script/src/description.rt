@@ -9,6 +9,7 @@ use crate::fault::{Kind, LineError, ensure};
 use crate::fields::{address, any_number, arg, bytes_within, number_within, processor};
 use crate::places::PendingTables;
 use crate::text;
+use gicr_regs::GicrRegisters;
 use gits_regs::RegValues;
 use its_plain::Fill;
 use its_types::{Limits, Listed, Profile};
@@ -104,11 +105,18 @@ impl Draft {
         Ok(())
     }
 
+    /// Whether the tables of the redistributors may be described.
+    fn describes_tables(&self) -> bool
+        ensures { result ≡ spec.describes_tables self.now }
+    {
+        self.describes() && !self.gicr
+    }
+
     #[tactic(auto, unfolding(crate::specs::Description::config_line))]
     pub fn config_line(&mut self, fields: &[&[u8]]) -> Result<(), LineError>
         ensures { Gives (λ _. self.new) result (spec.config_line self.old (map (λ f. f.now) fields.now)) }
     {
-        let first = self.describes() && self.config.is_none();
+        let first = self.describes_tables() && self.config.is_none();
         ensure(first, Kind::Order)?;
         ensure(fields.len() == 2, Kind::Fields)?;
         self.config = Some(address(arg(fields, 1))?);
@@ -120,11 +128,22 @@ impl Draft {
         ensures { Gives (λ _. self.new) result (spec.pending_line self.old (map (λ f. f.now) fields.now)) }
     {
         let again = is_given(&self.pending, arg(fields, 1));
-        ensure(self.describes() && !again, Kind::Order)?;
+        ensure(self.describes_tables() && !again, Kind::Order)?;
         ensure(fields.len() == 3, Kind::Fields)?;
         let vcpu = processor(self.pending.count(), arg(fields, 1))?;
         let table = address(arg(fields, 2))?;
         self.pending.give(vcpu.0, table);
+        Ok(())
+    }
+
+    #[tactic(auto, unfolding(crate::specs::Description::gicr_line))]
+    pub fn gicr_line(&mut self, fields: &[&[u8]]) -> Result<(), LineError>
+        ensures { Gives (λ _. self.new) result (spec.gicr_line self.old (map (λ f. f.now) fields.now)) }
+    {
+        let described = self.config.is_some() || !self.pending.none_given();
+        ensure(self.describes_tables() && !described, Kind::Order)?;
+        ensure(fields.len() == 1, Kind::Fields)?;
+        self.gicr = true;
         Ok(())
     }
 
@@ -136,6 +155,28 @@ impl Draft {
         ensure(first, Kind::Order)?;
         ensure(fields.len() == 7, Kind::Fields)?;
         self.restore = Some(register_values(fields)?);
+        Ok(())
+    }
+
+    /// Whether registers to restore may be given for redistributors.
+    fn restores_registers(&self) -> bool
+        ensures { result ≡ spec.restores_registers self.now }
+    {
+        self.describes() && self.gicr && self.restore.is_some()
+    }
+
+    #[tactic(auto, unfolding(crate::specs::Description::rrestore_line))]
+    pub fn rrestore_line(&mut self, fields: &[&[u8]]) -> Result<(), LineError>
+        ensures { Gives (λ _. self.new) result
+            (spec.rrestore_line self.old (map (λ f. f.now) fields.now)) }
+    {
+        let again = has_registers(&self.given, arg(fields, 1));
+        ensure(self.restores_registers() && !again, Kind::Order)?;
+        ensure(fields.len() == 5, Kind::Fields)?;
+        let vcpu = processor(self.pending.count(), arg(fields, 1))?;
+        let values = redistributor_values(fields)?;
+        self.registers.registers[usize::from(vcpu.0)] = values;
+        self.given[usize::from(vcpu.0)] = true;
         Ok(())
     }
 
@@ -198,6 +239,18 @@ fn register_values(fields: &[&[u8]]) -> Result<RegValues, Kind>
     })
 }
 
+/// The registers of a redistributor, in the order of a line's fields.
+#[tactic(auto, unfolding(crate::specs::Description::redistributor_values))]
+fn redistributor_values(fields: &[&[u8]]) -> Result<GicrRegisters, Kind>
+    ensures { result ≡ spec.redistributor_values (map (λ f. f.now) fields.now) }
+{
+    Ok(GicrRegisters {
+        ctlr: any_number(arg(fields, 2))?,
+        propbaser: any_number(arg(fields, 3))?,
+        pendbaser: any_number(arg(fields, 4))?,
+    })
+}
+
 /// The profile with a number, which is 1 or 2.
 fn profile_of(number: u64) -> Profile
     ensures { result ≡ spec.profile_of number }
@@ -227,6 +280,16 @@ fn is_given(tables: &PendingTables, field: &[u8]) -> bool
 {
     match text::number(field) {
         Some(vcpu) => tables.is_given(vcpu),
+        None => false,
+    }
+}
+
+/// Whether a field is the number of a processor whose registers were given.
+fn has_registers(given: &[bool; 16], field: &[u8]) -> bool
+    ensures { result ≡ spec.has_registers given.now (number field.now) }
+{
+    match text::number(field) {
+        Some(vcpu) => vcpu < 16 && given[vcpu as usize],
         None => false,
     }
 }

@@ -1,5 +1,6 @@
 use crate::places::PendingTables;
 use crate::script::{Leg, Phase, Thread};
+use gicr_regs::GicrValues;
 use gits_regs::RegValues;
 use its_plain::Fill;
 use its_types::{Addr, Limits, Listed, Profile};
@@ -47,6 +48,12 @@ pub struct Draft {
     pub windows: Listed<(Addr, u64)>,
     pub config: Option<Addr>,
     pub pending: PendingTables,
+    /// Whether the guest programs the LPI registers of the redistributors.
+    pub gicr: bool,
+    /// What they are restored with.
+    pub registers: GicrValues,
+    /// Whether a line gave those of each virtual processor.
+    pub given: [bool; 16],
     pub fills: Listed<Fill>,
     /// The line of each of them.
     pub fill_lines: Listed<u64>,

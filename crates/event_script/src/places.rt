@@ -1,5 +1,5 @@
 ghost use Rattle.std.specs.Prelude.{◌≡◌, [], ◌<◌, ◌≤◌, None, Some, OnOk, IfOk, length, replicate};
-ghost use Rattle.std.specs.Prelude.{slice_index_or, slice_set, filter_map, is_some};
+ghost use Rattle.std.specs.Prelude.{slice_index_or, slice_set, filter_map, is_some, is_none};
 ghost use Rattle.std.specs.List.{list_all};
 
 use its_types::{Addr, Listed};
@@ -48,7 +48,8 @@ impl PendingTables {
 
     /// How many processors there are.
     pub fn count(&self) -> u8
-        ensures { result ≡ length self.now }
+        ensures count { result ≡ length self.now }
+        ensures few { result ≤ 16 }
     {
         self.places.len() as u8
     }
@@ -72,6 +73,13 @@ impl PendingTables {
         ensures { result ≡ list_all is_some self.now }
     {
         self.places.iter().all(|place| place.is_some())
+    }
+
+    /// Whether no processor's table was given.
+    pub fn none_given(&self) -> bool
+        ensures { result ≡ list_all is_none self.now }
+    {
+        self.places.iter().all(|place| place.is_none())
     }
 
     /// The tables that were given, in the processors' order.

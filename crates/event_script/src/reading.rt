@@ -14,6 +14,7 @@ use crate::places::PendingTables;
 use crate::script::{CheckInput, Script};
 use crate::text;
 use crate::words::keyword_of;
+use gicr_regs::{GicrRegisters, GicrValues};
 use its_plain::{Desc, LpiTables};
 use its_types::{Limits, Listed, Profile, Shape};
 use std::alloc::{AllocError, Global};
@@ -26,6 +27,13 @@ const DEFAULT_LIMITS: Limits = Limits {
 
 /// The numbers of bits where no line gives others.
 const DEFAULT_IDS: IdBits = IdBits { dev: 16, lpi: 16 };
+
+/// The registers of a redistributor that no line gives.
+const NO_REGISTERS: GicrRegisters = GicrRegisters {
+    ctlr: 0,
+    propbaser: 0,
+    pendbaser: 0,
+};
 
 /// The script that the bytes are, or their first faulty line and what is wrong with it.
 #[tactic(auto, unfolding(crate::specs::Script::script_of))]
@@ -158,17 +166,16 @@ fn finished(alloc: Global, draft: Draft, last: &[u8]) -> Result<Script, LineErro
 fn script_from(alloc: Global, draft: Draft) -> Result<Script, LineError>
     ensures { Gives (λ script. script) result (spec.script_from draft) }
 {
-    ensure(draft.stage == Stage::Ended, Kind::Missing)?;
+    ensure(draft.is_ended(), Kind::Missing)?;
     let shards = draft.shards.ok_or(Kind::Missing)?;
-    let config = draft.config.ok_or(Kind::Missing)?;
+    let tables = draft.tables(alloc)?;
     let shape = draft.shape();
-    let pending = draft.pending.tables(alloc)?;
     let desc = Desc {
         shape,
         shards,
         limits: draft.limits.unwrap_or(DEFAULT_LIMITS),
         windows: draft.windows,
-        tables: LpiTables::Described { config, pending },
+        tables,
         fills: draft.fills,
         restore: draft.restore,
     };
@@ -192,6 +199,11 @@ impl Draft {
             windows: Listed::new(alloc),
             config: None,
             pending: PendingTables::none(alloc),
+            gicr: false,
+            registers: GicrValues {
+                registers: [NO_REGISTERS; 16],
+            },
+            given: [false; 16],
             fills: Listed::new(alloc),
             fill_lines: Listed::new(alloc),
             restore: None,
@@ -200,6 +212,12 @@ impl Draft {
             threads: Listed::new(alloc),
             calls: Listed::new(alloc),
         }
+    }
+
+    fn is_ended(&self) -> bool
+        ensures { result ≡ description.is_ended self.now.stage }
+    {
+        self.stage == Stage::Ended
     }
 
     fn shape(&self) -> Shape
@@ -214,6 +232,26 @@ impl Draft {
         }
     }
 
+    #[tactic(auto, unfolding(crate::specs::Script::described_tables))]
+    fn described_tables(&self, alloc: Global) -> Result<LpiTables, LineError>
+        ensures { Gives (λ tables. tables) result (spec.described_tables self.now) }
+    {
+        let config = self.config.ok_or(Kind::Missing)?;
+        let pending = self.pending.tables(alloc)?;
+        Ok(LpiTables::Described { config, pending })
+    }
+
+    /// Where the LPI tables of the redistributors are.
+    fn tables(&self, alloc: Global) -> Result<LpiTables, LineError>
+        ensures { Gives (λ tables. tables) result (spec.tables_of self.now) }
+    {
+        if self.gicr {
+            Ok(LpiTables::Registers(self.registers))
+        } else {
+            self.described_tables(alloc)
+        }
+    }
+
     /// Whether it is a line `trace` after the script. The list is for its fields.
     fn begins_report<'a>(
         &self,
@@ -224,7 +262,7 @@ impl Draft {
         ensures split { IfOk result (λ b.
             b ≡ true → map (λ f. f.now) fields.new.items ≡ text_of.fields line.now) }
     {
-        if self.stage != Stage::Ended || !text::is_text(line) {
+        if !self.is_ended() || !text::is_text(line) {
             return Ok(false);
         }
         text::split_fields(fields, line)?;

@@ -1,5 +1,6 @@
 use crate::fault::{Kind, ParseError, ScriptFault};
 use crate::reading::{parse, parse_check};
+use its_plain::LpiTables;
 use std::alloc::Global;
 use std::fmt::Write;
 use std::test::Fail;
@@ -51,11 +52,98 @@ fn faulty_descriptions(rt: HostRuntime) {
         ("vcpus 4\nprofile 1\nprofile 2\n", 3, Kind::Order),
         ("vcpus 4\nwindow 0x11111111111111111 1\n", 2, Kind::Number),
         ("vcpus 4\nwindow 18446744073709551616 1\n", 2, Kind::Number),
-        ("gicr\n", 1, Kind::Word),
         ("trace\n", 1, Kind::Order),
     ] {
         assert_eq!(rt; fault_of(alloc, text), Some((line, kind)), "{text}");
     }
+}
+
+#[test]
+fn faulty_redistributor_lines(rt: HostRuntime) {
+    let alloc = rt.alloc();
+    for (text, line, kind) in [
+        ("gicr\n", 1, Kind::Order),
+        ("vcpus 2\ngicr x\n", 2, Kind::Fields),
+        ("vcpus 2\ngicr\ngicr\n", 3, Kind::Order),
+        ("vcpus 2\nconfig 0\ngicr\n", 3, Kind::Order),
+        ("vcpus 2\npending 1 0\ngicr x\n", 3, Kind::Order),
+        ("vcpus 2\ngicr\nconfig\n", 3, Kind::Order),
+        ("vcpus 2\ngicr\npending 2\n", 3, Kind::Order),
+        ("vcpus 2\ngicr\nphase\n", 3, Kind::Missing),
+        ("vcpus 2\nrrestore 0 0 0 0\n", 2, Kind::Order),
+        ("vcpus 2\ngicr\nrrestore 0 0 0 0\n", 3, Kind::Order),
+        (
+            "vcpus 2\nrestore 0 0 0 0 0 0\nrrestore 0 0 0 0\n",
+            3,
+            Kind::Order,
+        ),
+        (
+            "vcpus 2\ngicr\nrestore 0 0 0 0 0 0\nrrestore 0 0 0\n",
+            4,
+            Kind::Fields,
+        ),
+        (
+            "vcpus 2\ngicr\nrestore 0 0 0 0 0 0\nrrestore 2 0 0 0\n",
+            4,
+            Kind::Number,
+        ),
+        (
+            "vcpus 2\ngicr\nrestore 0 0 0 0 0 0\nrrestore 2 0 0 0 0\n",
+            4,
+            Kind::Fields,
+        ),
+        (
+            "vcpus 2\ngicr\nrestore 0 0 0 0 0 0\nrrestore 1 x 0 0\n",
+            4,
+            Kind::Number,
+        ),
+        (
+            "vcpus 2\ngicr\nrestore 0 0 0 0 0 0\nrrestore 1 0 0 0\nrrestore 0x1\n",
+            5,
+            Kind::Order,
+        ),
+    ] {
+        assert_eq!(rt; fault_of(alloc, text), Some((line, kind)), "{text}");
+    }
+}
+
+/// A whole description of a machine with two processors whose guest programs the redistributors.
+const PROGRAMMED: &str = "vcpus 2\ngicr\nshards 4\nwindow 0x80000000 0x200000\n";
+
+#[test]
+fn faulty_redistributor_calls(rt: HostRuntime) -> Result<(), Fail> {
+    let alloc = rt.alloc();
+    for (head, body, line, kind) in [
+        (HEAD, "phase\nthread\nrread 0 0 4\n", 8, Kind::Order),
+        (HEAD, "phase\nthread\nrwrite 0\n", 8, Kind::Order),
+        (PROGRAMMED, "rread 0 0 4\n", 5, Kind::Order),
+        (PROGRAMMED, "phase\nrwrite 0 0 4 1\n", 6, Kind::Order),
+        (PROGRAMMED, "phase\ngicr\n", 6, Kind::Order),
+        (PROGRAMMED, "phase\nthread\nrread 0 4\n", 7, Kind::Fields),
+        (PROGRAMMED, "phase\nthread\nrread 2 0 4\n", 7, Kind::Number),
+        (PROGRAMMED, "phase\nthread\nrread 1 0 2\n", 7, Kind::Number),
+        (
+            PROGRAMMED,
+            "phase\nthread\nrread 1 0x100000000 4\n",
+            7,
+            Kind::Number,
+        ),
+        (PROGRAMMED, "phase\nthread\nrwrite 1 0 4\n", 7, Kind::Fields),
+        (
+            PROGRAMMED,
+            "phase\nthread\nrwrite 1 0 4 0x100000000\n",
+            7,
+            Kind::Number,
+        ),
+    ] {
+        let text = format!(in alloc; "{head}{body}")?;
+        assert_eq!(rt;
+            fault_of(alloc, text.as_str()),
+            Some((line, kind)),
+            "{body}"
+        );
+    }
+    Ok(())
 }
 
 #[test]
@@ -123,6 +211,14 @@ fn summary(alloc: Global, text: &str) -> Result<String, Fail> {
         "{} {} {} {:?}",
         shape.vcpus, shape.dev_bits, shape.lpi_bits, shape.profile
     )?;
+    if let LpiTables::Registers(values) = &script.desc.tables {
+        let last = &values.registers[1];
+        write!(
+            said,
+            " gicr {} {:x} {:x}",
+            last.ctlr, last.propbaser, last.pendbaser
+        )?;
+    }
     if let Some(values) = script.desc.restore {
         write!(said, " restore {} {:x}", values.creadr, values.baser1)?;
     }
@@ -140,24 +236,38 @@ fn summary(alloc: Global, text: &str) -> Result<String, Fail> {
 #[test]
 fn scripts_are_read(rt: HostRuntime) -> Result<(), Fail> {
     let alloc = rt.alloc();
-    for (body, said) in [
-        ("end\n", "1 16 16 One leg"),
-        ("ids 20 14\nend\n", "1 20 14 One leg"),
-        ("profile 2\nend\n", "1 16 16 Two leg"),
+    for (head, body, said) in [
+        (HEAD, "end\n", "1 16 16 One leg"),
+        (HEAD, "ids 20 14\nend\n", "1 20 14 One leg"),
+        (HEAD, "profile 2\nend\n", "1 16 16 Two leg"),
         (
+            HEAD,
             "restore 1 0x8000000080020000 0x20 64 0 18446744073709551615\nend\n",
             "1 16 16 One restore 32 ffffffffffffffff leg",
         ),
         (
+            HEAD,
             "# a remark\n\nphase\nthread\n  signal  0x10 0003 \nword 0x0 0xffffFFFF\nstep\nphase\nthread\nend\n\n",
             "1 16 16 One leg 3 0",
         ),
         (
+            HEAD,
             "phase\nthread\nstep\nmigrate\n# nothing\nmigrate\nphase\nthread\nsave\nend\n",
             "1 16 16 One leg 1 leg leg 1",
         ),
+        (PROGRAMMED, "end\n", "2 16 16 One gicr 0 0 0 leg"),
+        (
+            PROGRAMMED,
+            "restore 0 0 0 0 0 0\nrrestore 0x1 1 0x8003000f 2147876864\nend\n",
+            "2 16 16 One gicr 1 8003000f 80060000 restore 0 0 leg",
+        ),
+        (
+            PROGRAMMED,
+            "phase\nthread\nrread 1 0x70 8\nrwrite 0 0x78 8 0xffffffffffffffff\nend\n",
+            "2 16 16 One gicr 0 0 0 leg 2",
+        ),
     ] {
-        let text = format!(in alloc; "{HEAD}{body}")?;
+        let text = format!(in alloc; "{head}{body}")?;
         assert_eq!(rt; summary(alloc, text.as_str())?.as_str(), said, "{body}");
     }
     Ok(())

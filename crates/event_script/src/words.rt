@@ -19,6 +19,8 @@ pub enum Keyword {
     Bytes,
     Word,
     Restore,
+    Gicr,
+    Rrestore,
     Phase,
     Thread,
     Migrate,
@@ -31,6 +33,8 @@ pub enum Keyword {
     Command,
     Read,
     Write,
+    Rread,
+    Rwrite,
     Step,
     Save,
     Trace,
@@ -82,6 +86,10 @@ pub fn keyword_of(word: &[u8]) -> Result<Keyword, Kind>
         Ok(Keyword::Word)
     } else if word == b"save".as_slice() {
         Ok(Keyword::Save)
+    } else if word == b"rread".as_slice() {
+        Ok(Keyword::Rread)
+    } else if word == b"rwrite".as_slice() {
+        Ok(Keyword::Rwrite)
     } else {
         outline_keyword_of(word)
     }
@@ -116,6 +124,10 @@ fn outline_keyword_of(word: &[u8]) -> Result<Keyword, Kind>
         Ok(Keyword::Pending)
     } else if word == b"restore".as_slice() {
         Ok(Keyword::Restore)
+    } else if word == b"gicr".as_slice() {
+        Ok(Keyword::Gicr)
+    } else if word == b"rrestore".as_slice() {
+        Ok(Keyword::Rrestore)
     } else if word == b"migrate".as_slice() {
         Ok(Keyword::Migrate)
     } else if word == b"end".as_slice() {

@@ -33,8 +33,7 @@ module _ (s : Setup) (leg : Leg) (number : ℕ) (lines : List EntryLine) (h : Li
   pub is_whole : (now : Plain) (end : Option End) (pending : List (List ℕ)) → IsPlayed s leg lines false h → now ≡ after s.start h → pending ≡ map report.pending_text (pending_lists now)
       → new ≡ old ++ report.leg_text number (record { entries = lines; pending = pending; end = end }) → (w : IsLegWhole s.limits.place_last s.start leg number end old new) × (now ≡ after s.start w.history)
   is_whole now end pending played is texts added =
-      let texts_are : pending ≡ map report.pending_text (pending_lists (after s.start h)) = texts ∙ ap (λ u. map report.pending_text (pending_lists u)) is in
-      (
+      let texts_are : pending ≡ map report.pending_text (pending_lists (after s.start h)) = texts ∙ ap (λ u. map report.pending_text (pending_lists u)) is in (
         record {
           history = h;
           is_run = record { legal = played.legal; calls = played.whole refl };

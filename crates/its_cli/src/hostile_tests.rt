@@ -218,8 +218,7 @@ fn long_inputs_and_other_words_are_refused(rt: HostRuntime) -> Result<(), Fail> 
     ] {
         let mut source = SureSource::new(alloc, input)?;
         let mut sink = SureSink::new(alloc, 64)?;
-        let words = words(alloc, word)?;
-        let ended = its(&rt, alloc, &words, &mut source, &mut sink, &Open);
+        let ended = its(&rt, alloc, &words(alloc, word)?, &mut source, &mut sink, &Open);
         assert_eq!(rt; ended, status, "{word}");
         assert_eq!(rt; sink.bytes(), Some(text.as_bytes()), "{word}");
     }

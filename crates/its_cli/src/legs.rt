@@ -108,7 +108,14 @@ fn run_leg<R: Threads + Wait + Sync, G: Gate + Sync>(
     let texts = pending_texts(alloc, &machine, &mut root)?;
     match migrate(alloc, machine, root) {
         Ok((machine, root)) => {
-            add_leg(alloc, report, number, played.lines, texts, Some(End::Migrated))?;
+            add_leg(
+                alloc,
+                report,
+                number,
+                played.lines,
+                texts,
+                Some(End::Migrated),
+            )?;
             Ok(Goes::On(Shared { machine, root }))
         }
         Err((_, _, SaveError::Fault(fault))) => {

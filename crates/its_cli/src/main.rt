@@ -4,6 +4,8 @@
 #[cfg(test)]
 mod command_tests;
 #[cfg(test)]
+mod gicr_tests;
+#[cfg(test)]
 mod hostile_tests;
 mod its;
 mod legs;

@@ -1,4 +1,4 @@
-use Rattle.std.proofs.Common.{◌≡◌, ◌+◌, ◌∙◌, ℕ, List, map, true, false, sym, ap, subst, arith}
+use Rattle.std.proofs.Common.{◌≡◌, ◌+◌, ◌∙◌, map, true, false, sym, ap, subst, arith}
 use Rattle.event_script.specs.Text.{parts, fields}
 use Rattle.event_script.specs.Script.{line, at_line, ◌then◌, begins_report, check_from, check_of, IsCheckAnswer}
 use Rattle.event_script.specs.declared.draft.Draft.{Draft}
