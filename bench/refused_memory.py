@@ -1,0 +1,113 @@
+#!/usr/bin/env python3
+"""Refuses each request for memory of `its run` in turn.
+
+Runs a script again and again, and has the first, the second, .. request for memory fail, until a run asks for no more.
+Each run must end as a whole one does, with the same report (where the request served only to start a thread), or with
+status 5: the reports of the legs that were migrated, and the line `refused memory`. Requests for the words of the
+command line come before the command begins; where one of these is refused, the program ends with status 1 and nothing.
+
+Needs gcc for a library that the loader puts in front of the C library's.
+
+usage: refused_memory.py PROGRAM SCRIPT..
+"""
+
+import os
+import subprocess
+import sys
+import tempfile
+
+SHIM = """
+#define _GNU_SOURCE
+#include <dlfcn.h>
+#include <errno.h>
+#include <stdatomic.h>
+#include <stdlib.h>
+
+static atomic_long asked;
+
+static int is_refused(void) {
+    const char *which = getenv("REFUSED");
+    return which && atomic_fetch_add(&asked, 1) + 1 == atol(which);
+}
+
+#define REFUSE do { if (is_refused()) { errno = ENOMEM; return NULL; } } while (0)
+
+void *malloc(size_t size) {
+    static void *(*real)(size_t);
+    if (!real) real = dlsym(RTLD_NEXT, "malloc");
+    REFUSE;
+    return real(size);
+}
+
+void *realloc(void *old, size_t size) {
+    static void *(*real)(void *, size_t);
+    if (!real) real = dlsym(RTLD_NEXT, "realloc");
+    REFUSE;
+    return real(old, size);
+}
+
+void *aligned_alloc(size_t alignment, size_t size) {
+    static void *(*real)(size_t, size_t);
+    if (!real) real = dlsym(RTLD_NEXT, "aligned_alloc");
+    REFUSE;
+    return real(alignment, size);
+}
+"""
+
+
+def built(folder):
+    source, library = os.path.join(folder, "shim.c"), os.path.join(folder, "shim.so")
+    with open(source, "w", encoding="utf-8") as file:
+        file.write(SHIM)
+    subprocess.run(["gcc", "-shared", "-fPIC", "-O2", "-o", library, source, "-ldl"], check=True)
+    return library
+
+
+def run(program, script, library, refused):
+    env = dict(os.environ, LD_PRELOAD=library)
+    if refused:
+        env["REFUSED"] = str(refused)
+    done = subprocess.run([program, "run"], input=script, capture_output=True, env=env, check=False)
+    return done.returncode, done.stdout.decode()
+
+
+def entries(report):
+    """A report without who came when: threads may come in another order."""
+    return sorted(line.split(" ", 1)[-1] for line in report.splitlines())
+
+
+def is_cut(report, whole):
+    front, line = report[: -len("refused memory\n")], report[-len("refused memory\n") :]
+    migrated = front == "" or front.endswith("migrated\n")
+    return line == "refused memory\n" and migrated and entries(front) == entries(whole[: len(front)])
+
+
+def check(program, path, library):
+    with open(path, "rb") as file:
+        script = file.read()
+    status, whole = run(program, script, library, 0)
+    if status not in (0, 7, 8):
+        sys.exit(f"{path}: status {status}")
+    out_of_memory = same = early = number = 0
+    while same < 200:
+        number += 1
+        ended, report = run(program, script, library, number)
+        if ended == 5 and is_cut(report, whole):
+            out_of_memory, same = out_of_memory + 1, 0
+        elif ended == status and entries(report) == entries(whole):
+            same += 1
+        elif ended == 1 and report == "" and out_of_memory == 0:
+            early += 1
+        else:
+            sys.exit(f"{path}: request {number} refused: status {ended}, {report[-200:]!r}")
+    print(f"{path}: {early} requests before the command, {out_of_memory} refused ones ended with status 5, the last is {number - same}")
+
+
+def main():
+    with tempfile.TemporaryDirectory() as folder:
+        library = built(folder)
+        for path in sys.argv[2:]:
+            check(sys.argv[1], path, library)
+
+
+main()
