@@ -86,7 +86,7 @@ def check(program, path, library):
     with open(path, "rb") as file:
         script = file.read()
     status, whole = run(program, script, library, 0)
-    if status not in (0, 7, 8):
+    if status not in (0, 1, 6, 7, 8):
         sys.exit(f"{path}: status {status}")
     out_of_memory = same = early = number = 0
     while same < 200:
