@@ -69,6 +69,18 @@ static uint64_t load(struct its_handle *its, uint32_t offset, uint32_t size)
     return value;
 }
 
+/* The words of a report of `its run`. */
+static void tell_step(const struct its_step_out *step)
+{
+    static const char *const words[] = {"mapd", "mapc", "mapti"};
+    if (step->outcome == 0)
+        printf("step -> idle\n");
+    else if (step->outcome == 1 && step->op >= 8 && step->op <= 10)
+        printf("step -> ran %s\n", words[step->op - 8]);
+    else
+        printf("step: outcome %u, command 0x%02x\n", step->outcome, step->op);
+}
+
 /* What the guest's driver does: it sets the translator up and maps event 2 of device 7. */
 static void drive(struct its_handle *its)
 {
@@ -91,23 +103,30 @@ static void drive(struct its_handle *its)
     store(its, CWRITER, 8, sizeof bytes);
     do {
         made("its_step", its_step(its, &step));
-        printf("step: outcome %u, command 0x%02x\n", step.outcome, step.op);
+        tell_step(&step);
     } while (step.outcome != 0);
 }
 
 static void send(struct its_handle *its, uint32_t device, uint32_t event)
 {
+    static const char *const causes[] = {"", "disabled", "no-device", "no-event", "no-collection", "lpis-off"};
     struct its_signal_out signal;
     made("its_signal", its_signal(its, device, event, &signal));
-    printf("signal %u %u: cause %u, processor %u, LPI %u\n", device, event, signal.cause, signal.vcpu,
-           signal.intid);
+    printf("signal %u %u -> ", device, event);
+    if (signal.cause == 0)
+        printf("delivered %u %u\n", signal.vcpu, signal.intid);
+    else
+        printf("dropped %s\n", causes[signal.cause]);
 }
 
 static void acknowledge(struct its_handle *its, uint32_t vcpu)
 {
     struct its_ack_out ack;
     made("its_take", its_take(its, vcpu, &ack));
-    printf("processor %u takes LPI %u, priority 0x%02x\n", vcpu, ack.intid, ack.priority);
+    if (ack.intid == 0)
+        printf("take %u -> none\n", vcpu);
+    else
+        printf("take %u -> lpi %u 0x%02x\n", vcpu, ack.intid, ack.priority);
 }
 
 /* Saves, and goes on in a new machine that is made from the saved one's memory and registers. */

@@ -12,6 +12,7 @@ if [ ! -f "$library/libits_c.a" ]; then
     echo "crates/its_c/out/libits_c.a isn't there: build it by 'rt lib' in crates/its_c"
     exit 1
 fi
+program=../../crates/its_cli/out/its_cli
 work=$(mktemp -d)
 trap 'rm -rf "$work"' EXIT
 failed=0
@@ -24,6 +25,11 @@ tell() {
         echo "$1: FAILED"
         failed=1
     fi
+}
+
+# The steps, signals and acknowledgements of a report or of a monitor, without places and threads.
+replies() {
+    sed -E 's/^[0-9]+ [0-9]+[.][0-9]+ //' | grep -E '^(step|signal|take) [^:]*->|^step ->' | grep -v '^signal 4294967295'
 }
 
 # Builds a program of these C files.
@@ -43,6 +49,12 @@ if command -v "$compiler" >/dev/null; then
     fi
     build monitor monitor.c heap.c && "$work/monitor" | diff - expected.txt
     tell "monitor in C" "$((PIPESTATUS[0] | PIPESTATUS[1]))"
+    if [ -x "$program" ]; then
+        replies <expected.txt >"$work/said" && "$program" run <monitor.its | replies | diff - "$work/said"
+        tell "what its run replies to the same calls" $?
+    else
+        echo "crates/its_cli/out/its_cli isn't there: the monitor's replies are not compared with those of its run"
+    fi
     build refusals refusals.c && "$work/refusals"
     tell "each allocation refused in turn" $?
     if [ "${1:-}" = times ]; then
