@@ -15,7 +15,7 @@ use Rattle.its_history.specs.Merged.{open_leg}
 use Rattle.its_history.specs.Report as report
 use Rattle.its_history.specs.declared.trace.End.{End}
 use Rattle.its_history.specs.declared.trace.EntryLine.{EntryLine}
-use Rattle.its_cli.specs.Reports.{pending_lists, thread_counts}
+use Rattle.its_history.specs.Reports.{pending_lists, thread_counts}
 use Rattle.its_cli.specs.Played.{IsPlayed}
 use Rattle.its_steps.specs.Parts.{Setup, vcpu_count}
 use Rattle.its_plain.specs.declared.call.Entry.{Entry}

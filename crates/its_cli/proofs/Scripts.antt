@@ -10,7 +10,7 @@ use Rattle.its_history.specs.Report.{leg_text, report_text}
 use Rattle.its_history.specs.declared.trace.End.TheVariants.{Migrated, Done}
 use Rattle.its_history.specs.declared.trace.Leg.{Leg as LegLines}
 use Rattle.its_cli.specs.Legs.{HaveRun}
-use Rattle.its_cli.specs.Reports.{migrated, ended, cut_leg}
+use Rattle.its_history.specs.Reports.{migrated, ended, cut_leg}
 use Rattle.its_cli.specs.Refusals.{spent_refusal, migration_refusal}
 use Rattle.its_cli.specs.Its.{IsReport, IsMigrationRefusal, IsSpentReport}
 use Rattle.its_cli.specs.Answered.{IsLegSpent, IsLegMigrated, IsLegRefused, IsLegDone, LegStops, LegEnds, RunEnds, IsSoFar}

@@ -16,7 +16,7 @@ use Rattle.its_history.specs.declared.trace.End.TheVariants.{Migrated, Done}
 use Rattle.its_history.specs.declared.trace.EntryLine.{EntryLine}
 use Rattle.script_threads.specs.Legs.{call_count}
 use Rattle.its_cli.specs.Legs.{HaveRun}
-use Rattle.its_cli.specs.Reports.{migrated, ended, cut_leg}
+use Rattle.its_history.specs.Reports.{migrated, ended, cut_leg}
 use Rattle.its_cli.specs.Refusals.{spent_refusal, migration_refusal}
 use Rattle.its_cli.specs.Its.{RunCauses, OfScript, IsReport, IsScriptRefusal, IsMachineRefusal, IsMigrationRefusal, IsSpentReport}
 use Rattle.its_cli.specs.declared.its.Answer.{Answer}

@@ -16,7 +16,7 @@ use Rattle.its_history.specs.Report.{report_text}
 use Rattle.its_cli.specs.Streams.{Tells}
 use Rattle.script_threads.specs.Legs.{call_count}
 use Rattle.its_cli.specs.Legs.{HasPlaces, HaveRun, CanMigrate, AllEnd}
-use Rattle.its_cli.specs.Reports.{reported, migrated, ended, cut_leg}
+use Rattle.its_history.specs.Reports.{reported, migrated, ended, cut_leg}
 use Rattle.its_cli.specs.Refusals.{script_refusal, machine_refusal, spent_refusal, migration_refusal}
 use Rattle.its_cli.specs.declared.status.Status.{Status}
 use Rattle.its_cli.specs.declared.status.Status.TheVariants as status

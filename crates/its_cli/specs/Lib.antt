@@ -1,6 +1,5 @@
 pub mod Streams
 pub mod Legs
-pub mod Reports
 pub mod Played
 pub mod Refusals
 pub mod Its

@@ -8,7 +8,7 @@ ghost use Rattle.its_history.specs.Report as history;
 ghost use Rattle.its_migrate.specs.Resting.{resting};
 ghost use Rattle.its_cli.specs.Answered.{RunEnds, IsSoFar, LegGoes, LegIsLast, IsSpentEnding};
 ghost use Rattle.its_cli.specs.Played.{IsFresh, IsAtRest, IsReady};
-ghost use Rattle.its_cli.specs.Reports as spec;
+ghost use Rattle.its_history.specs.Reports as spec;
 
 use crate::play::play_leg;
 use crate::refusals::{migration_refusal, spent_refusal};
