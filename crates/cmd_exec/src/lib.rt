@@ -11,8 +11,6 @@ mod part_set;
 mod planning;
 mod registers;
 mod room;
-#[cfg(test)]
-mod tests;
 mod walk;
 
 pub use effect::Planned;

@@ -12,8 +12,6 @@ mod laws;
 mod places;
 mod reading;
 mod script;
-#[cfg(test)]
-mod tests;
 mod text;
 mod words;
 

@@ -11,6 +11,3 @@ pub use laws::{restores_keep_bits, values_come_back, writes_keep_bits};
 pub use read::read_gicr;
 pub use values::{GicrRegisters, GicrValues, restored_bases, values_of};
 pub use write::{GicrWrite, asked_by};
-
-#[cfg(test)]
-mod tests;

@@ -53,23 +53,3 @@ fn base_allowed(enabled: bool, base: u64) -> bool
 {
     !enabled || bit_of(base, 63)
 }
-
-#[cfg(test)]
-mod tests {
-    use crate::change::RegChange;
-    use crate::regs::Regs;
-
-    #[test]
-    fn registers_at_reset(rt: HostRuntime) {
-        let mut regs = Regs::reset(16);
-        assert_eq!(rt; regs.read(0x8, 8), 0x1EF71);
-        assert_eq!(rt; regs.read(0x4, 4), 0x4B00_043B);
-        assert_eq!(rt; regs.read(0xFFE8, 4), 0x30);
-        assert_eq!(rt; regs.read(0x100, 8), 0x0107_0000_0000_0200);
-        assert_eq!(rt; regs.read(0x108, 8), 0x0407_0000_0000_0200);
-        assert_eq!(rt; regs.read(0x110, 8), 0);
-        assert_eq!(rt; regs.read(0x0, 8), 0);
-        assert_eq!(rt; regs.write(0x0, 4, 1), RegChange::None);
-        assert_eq!(rt; regs.read(0x0, 4), 0x8000_0000);
-    }
-}

@@ -5,8 +5,6 @@ mod errors;
 mod extents;
 mod frame;
 mod memory;
-#[cfg(test)]
-mod tests;
 
 pub use errors::{NewError, Outside};
 pub use extents::are_windows;

@@ -11,8 +11,6 @@ mod read_back;
 mod reading;
 mod replies;
 mod report;
-#[cfg(test)]
-mod tests;
 mod text;
 mod threads;
 mod trace;

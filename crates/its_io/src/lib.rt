@@ -6,8 +6,6 @@ mod memory;
 mod script;
 mod standard;
 mod sure;
-#[cfg(test)]
-mod tests;
 mod traits;
 
 pub use errors::Failed;

@@ -15,6 +15,3 @@ mod walks;
 pub use look_up::LookUp;
 pub use maps::Maps;
 pub use walks::{CollectionWalk, DeviceWalk, EventWalk};
-
-#[cfg(test)]
-mod tests;

@@ -5,8 +5,6 @@ mod getting;
 mod leaving;
 mod resting;
 mod saving;
-#[cfg(test)]
-mod tests;
 mod whole;
 
 pub use leaving::migrate;

@@ -22,6 +22,3 @@ mod view;
 mod world;
 
 pub use world::World;
-
-#[cfg(test)]
-mod tests;

@@ -5,8 +5,6 @@
 mod bitmap;
 mod config;
 mod enabled;
-#[cfg(test)]
-mod tests;
 
 pub use bitmap::{has_bit, put_bit, with_bit};
 pub use config::Config;

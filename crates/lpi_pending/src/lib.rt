@@ -8,8 +8,6 @@ mod pending;
 mod places;
 mod redist;
 mod steps;
-#[cfg(test)]
-mod tests;
 
 pub use gicr::{gicr_read, gicr_write};
 pub use lanes::first_nonzero;

@@ -8,17 +8,11 @@ mod gicr;
 mod machine;
 mod make;
 mod memory;
-#[cfg(test)]
-mod migration_tests;
 mod migrations;
 mod registers;
 mod saves;
-#[cfg(test)]
-mod scripts;
 mod signals;
 mod steps;
-#[cfg(test)]
-mod tests;
 
 pub use machine::Machine;
 pub use migrations::{InPlace, moved};

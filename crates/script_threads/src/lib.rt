@@ -7,8 +7,6 @@ mod laws;
 mod leg;
 mod phase;
 mod stop;
-#[cfg(test)]
-mod tests;
 
 pub use ask::call_once;
 pub use laws::legs_may_run;

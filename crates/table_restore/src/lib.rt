@@ -12,6 +12,3 @@ mod redists;
 
 pub use error::RestoreError;
 pub use parts::{restore, restore_in};
-
-#[cfg(test)]
-mod tests;

@@ -7,4 +7,3 @@ pub mod Written
 pub mod Entries
 pub mod SoundState
 pub mod Tested
-pub mod SoundTried

@@ -1,6 +1,5 @@
 pub mod Areas
 pub mod Checked
 pub mod Pass
-pub mod SoundParts
 pub mod Edges
 pub mod Tables

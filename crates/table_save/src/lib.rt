@@ -16,8 +16,3 @@ mod saving;
 mod words;
 
 pub use saving::{savable, save};
-
-#[cfg(test)]
-mod sound_parts;
-#[cfg(test)]
-mod tests;
