@@ -82,30 +82,47 @@ pub fn act<R: Wait>(rt: &R, machine: &Machine, actor: &mut Actor)
 // can't be started.
 const LOOKS: u32 = 100_000;
 
-// Waits until so many threads have come here, or long enough.
-fn meet(arrived: &AtomicU64, threads: u64) {
-    arrived.fetch_add(1, Ordering::SeqCst);
-    for _ in 0..LOOKS {
-        if arrived.load(Ordering::SeqCst) >= threads {
-            return;
+// Where threads meet before they begin.
+#[derive(Drop)]
+struct Meeting {
+    threads: u64,
+    arrived: AtomicU64,
+}
+
+impl Meeting {
+    // Waits until all threads have come here, or long enough.
+    fn wait(&self) {
+        self.arrived.fetch_add(1, Ordering::SeqCst);
+        for _ in 0..LOOKS {
+            if self.arrived.load(Ordering::SeqCst) >= self.threads {
+                return;
+            }
+            thread::yield_now();
         }
-        thread::yield_now();
     }
+}
+
+// Makes an actor's calls, once the other threads are there.
+fn meet_and_act<R: Wait>(rt: &R, machine: &Machine, actor: &mut Actor, meeting: &Meeting)
+    requires { IsReady machine.now actor.old.pass }
+{
+    meeting.wait();
+    act(rt, machine, actor);
 }
 
 /// Has all actors make their calls, each in a thread of its own where one can be started.
 pub fn act_all<R: Threads + Wait + Sync>(rt: &R, machine: &Machine, actors: &mut [Actor])
     requires { AllByRecursion (λ a. IsReady machine.now a.pass) actors.old }
 {
-    let threads = actors.len();
-    let arrived = AtomicU64::new(0);
+    let threads = actors.len().max(1);
+    let meeting = Meeting {
+        threads: threads as u64,
+        arrived: AtomicU64::new(0),
+    };
     thread::for_each_mut(
         rt,
         actors,
-        threads.max(1),
-        &|_, actor| {
-            meet(&arrived, threads as u64);
-            act(rt, machine, actor);
-        },
+        threads,
+        &|_, actor| { meet_and_act(rt, machine, actor, &meeting) },
     );
 }

@@ -34,7 +34,7 @@ use times::{ALL, time};
 // Of each kind, where no count is given.
 const FEW: u32 = 256;
 
-const FEW_STRESS: u32 = 2_000;
+const FEW_STRESS: u32 = 100_000;
 
 // The exit statuses.
 const OK: u8 = 0;

@@ -72,7 +72,8 @@ pub fn shared(alloc: Global, stamp_last: u32) -> Result<(Machine, Root), AllocEr
     let Ok(owned) = Owned::new(alloc, &desc) else {
         return Err(AllocError);
     };
-    Machine::new(alloc, &desc, owned.into_parts())
+    let (machine, root) = Machine::new(alloc, &desc, owned.into_parts())?;
+    Ok((machine, root))
 }
 
 /// A pass that is split off the root.

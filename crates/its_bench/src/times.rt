@@ -39,16 +39,15 @@ pub const ALL: [(&str, Times); 10] = [
     ("migrate", Times::Migrate),
 ];
 
-// The most events that a device has.
-const MOST_EVENTS: u32 = 65_536;
+// A device has at most 65,536 events.
+const MOST_BITS: u32 = 16;
 
 // How many EventID bits a device has, for so many events or somewhat fewer.
 fn event_bits(count: u32) -> u8
     ensures least { 1 ≤ result }
     ensures most { result ≤ 16 }
 {
-    let events = count.max(2).min(MOST_EVENTS);
-    events.ilog2() as u8
+    count.max(2).ilog2().min(MOST_BITS) as u8
 }
 
 /// Makes calls, and takes the time. Each thread makes so many; of the calls on tables there are as
