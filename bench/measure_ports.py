@@ -3,13 +3,13 @@
 
 Runs its_bench and ports_peer in turn, call by call, and prints for each the least time of all rounds, their ratio, and
 signals a second. As many processors are used as a call has threads. With FIGURES it writes a row for each call to that
-file, which plot.py draws. `--alone` runs at a real-time priority (chrt), for a machine that has other work.
+file, which plot.py draws. `--real-time` runs at a real-time priority (chrt), for a machine that has other work.
 
 Build both first:
     cd crates/its_bench && rt run && cd ../..
     rustc --edition 2021 -C opt-level=3 -o ports_peer bench/ports_peer.rs
 
-usage: measure_ports.py ITS_BENCH PORTS_PEER [--alone] [--rounds N] [FIGURES]
+usage: measure_ports.py ITS_BENCH PORTS_PEER [--real-time] [--rounds N] [FIGURES]
 """
 
 import os
@@ -32,11 +32,11 @@ CALLS = {
 NO_PEER = ("migrate",)
 
 
-def prefix(threads, alone):
+def prefix(threads, real_time):
     """How a program is started: on the last processors, and before all other work where that is wanted."""
     most = os.cpu_count() or 1
     processors = ",".join(str(n) for n in range(max(0, most - threads), most))
-    return (["chrt", "-f", "1"] if alone else []) + ["taskset", "-c", processors]
+    return (["chrt", "-f", "1"] if real_time else []) + ["taskset", "-c", processors]
 
 
 def nanoseconds(start, command):
@@ -52,8 +52,8 @@ def row(name, ours, peer, threads, load):
 
 
 def main():
-    words = [word for word in sys.argv[1:] if word != "--alone"]
-    alone = "--alone" in sys.argv
+    words = [word for word in sys.argv[1:] if word != "--real-time"]
+    real_time = "--real-time" in sys.argv
     rounds = 10
     if "--rounds" in words:
         at = words.index("--rounds")
@@ -64,7 +64,7 @@ def main():
     program, rust = (os.path.realpath(word) for word in words[:2])
     lines = ["name,threads,ns,peer_ns,load\n"]
     for name, (threads, count) in CALLS.items():
-        start = prefix(threads, alone)
+        start = prefix(threads, real_time)
         ours, peer = [], []
         for _ in range(rounds):
             ours.append(nanoseconds(start, [program, "time", str(count), name]))
