@@ -1,0 +1,16 @@
+//! The script that a measurement runs: signals from many threads while events move and the machine
+//! migrates; and the summary of its run.
+#![tactic(auto)]
+
+mod commands;
+mod counts;
+mod description;
+mod generate;
+mod laws;
+mod queue;
+mod summary;
+
+pub use counts::Counts;
+pub use generate::generate;
+pub use laws::{can_migrate, has_room, is_a_script, is_never_refused, makes_machine};
+pub use summary::summary_text;

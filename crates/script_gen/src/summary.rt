@@ -1,0 +1,44 @@
+ghost use Rattle.std.specs.Prelude.{◌≡◌, ◌+◌, ◌++◌, OnOk, IfOk};
+ghost use Rattle.std.specs.String.{string_bytes};
+ghost use Rattle.script_gen.specs.Summary as spec;
+
+use crate::counts::Counts;
+use std::alloc::{AllocError, Global};
+use std::fmt::Write;
+
+/// The summary of a run with one migration: its counts, and how many LPIs were pending at each
+/// virtual processor after the migration.
+#[tactic(auto, unfolding(crate::specs::Summary::summary))]
+pub fn summary_text(alloc: Global, counts: &Counts, pending: &[u64]) -> Result<String, AllocError>
+    ensures { IfOk result (λ text. string_bytes text ≡ spec.summary counts.now pending.now) }
+{
+    let mut out = String::new(alloc);
+    push_counts(&mut out, counts)?;
+    out.push_str("migrated 1\n")?;
+    let mut vcpu = 0u64;
+    for count in pending {
+        push_vcpu(&mut out, vcpu, *count)?;
+        vcpu += 1;
+    }
+    Ok(out)
+}
+
+#[tactic(auto, unfolding(crate::specs::Summary::counts_text))]
+fn push_counts(out: &mut String, counts: &Counts) -> Result<(), AllocError>
+    ensures { OnOk result (string_bytes out.new ≡ string_bytes out.old ++ spec.counts_text counts.now) }
+{
+    let Counts {
+        signals,
+        delivered,
+        commands,
+        ran,
+    } = *counts;
+    write!(out, "signals {signals} delivered {delivered}\n")?;
+    write!(out, "commands {commands} ran {ran}\n")
+}
+
+fn push_vcpu(out: &mut String, vcpu: u64, count: u64) -> Result<(), AllocError>
+    ensures { OnOk result (string_bytes out.new ≡ string_bytes out.old ++ spec.vcpu_line vcpu count) }
+{
+    write!(out, "vcpu {vcpu} pending {count}\n")
+}
