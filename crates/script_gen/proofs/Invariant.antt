@@ -20,8 +20,8 @@ use Rattle.script_gen.specs.Generated.{queue}
 pub record IsOwn (n dev bits itt : ℕ) : Type 0 where
   pub first : 1 ≤ dev
   pub last : dev ≤ n
-  pub bits : bits ≡ 6
-  pub itt : itt ≡ itt_of dev
+  pub bits_are : bits ≡ 6
+  pub itt_is : itt ≡ itt_of dev
 
 -- a command that maps no other device
 abbrev pub IsAllowed : ℕ → Command → Type 0

@@ -1,3 +1,8 @@
 pub mod Lists
 pub mod Spread
 pub mod Invariant
+pub mod Ran
+pub mod Writes
+pub mod Calls
+pub mod Histories
+pub mod Given

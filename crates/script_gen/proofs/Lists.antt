@@ -1,5 +1,5 @@
 -- What holds of each element of a list.
-use Rattle.std.proofs.Common.{◌≡◌, ℕ, Bool, true, false, cond, List, [], ◌∷◌, ◌++◌, map, Option, Some, None, refl}
+use Rattle.std.proofs.Common.{◌≡◌, ℕ, zero, suc, ◌+◌, ◌-◌, ◌<◌, ◌≤◌, Bool, true, false, cond, List, [], ◌∷◌, ◌++◌, map, Option, Some, None, refl, ap, sym, ◌∙◌, append_assoc, arith}
 use Rattle.std.specs.Prelude.{find}
 use Rattle.std.specs.List.{AllByRecursion, flat_map, range_with_len, list_all}
 
@@ -19,11 +19,36 @@ pub all_flat_map : {X Y : Type 0} (P : Y → Type 0) (f : X → List Y) (xs : Li
 all_flat_map P f [] h = tt
 all_flat_map P f (x ∷ xs) h = all_append P (f x) (flat_map f xs) h.0 (all_flat_map P f xs h.1)
 
+not_found : {X : Type 0} (b : Bool) (x : X) (rest : Option X) → b ≡ false → rest ≡ None → cond b (Some x) rest ≡ None
+not_found true x rest e none = absurd cc
+not_found false x rest e none = none
+
 -- no element passes a test that each fails
 pub find_none : {X : Type 0} (p : X → Bool) (xs : List X) → AllByRecursion (λ x. p x ≡ false) xs → find p xs ≡ None
 find_none p [] h = refl
-find_none p (x ∷ xs) h = none (p x) h.0
-  where
-    none : (b : Bool) → b ≡ false → cond b (Some x) (find p xs) ≡ None
-    none true e = absurd cc
-    none false e = find_none p xs h.1
+find_none p (x ∷ xs) h = not_found (p x) x (find p xs) h.0 (find_none p xs h.1)
+
+-- ---- ranges
+
+range_more : (a b : ℕ) → a < b → range_with_len a (b - a) ≡ a ∷ range_with_len (a + 1) (b - (a + 1))
+range_more a b lt = let e : b - a ≡ suc (b - (a + 1)) = omega arith in ap (range_with_len a) e
+
+range_from_1 : (n : ℕ) → range_with_len 1 (n + 1 - 1) ≡ range_with_len 1 n
+range_from_1 n = let e : n + 1 - 1 ≡ n = omega arith in ap (range_with_len 1) e
+
+-- a loop over the numbers 1 to n puts some elements for each at the end of a list: it begins
+pub pieces_none : {Y : Type 0} (f : ℕ → List Y) (now front all : List Y) (n : ℕ) → now ≡ front → all ≡ front ++ flat_map f (range_with_len 1 n)
+    → now ++ flat_map f (range_with_len 1 (n + 1 - 1)) ≡ all
+pieces_none f now front all n same whole = ap (λ ns. now ++ flat_map f ns) (range_from_1 n) ∙ ap (λ xs. xs ++ flat_map f (range_with_len 1 n)) same ∙ sym whole
+
+-- and goes on
+pub pieces_more : {Y : Type 0} (f : ℕ → List Y) (now before all : List Y) (a b : ℕ) → a < b → now ≡ before ++ f a → before ++ flat_map f (range_with_len a (b - a)) ≡ all
+    → now ++ flat_map f (range_with_len (a + 1) (b - (a + 1))) ≡ all
+pieces_more f now before all a b lt one h =
+    let rest = flat_map f (range_with_len (a + 1) (b - (a + 1))) in
+    ap (λ xs. xs ++ rest) one ∙ append_assoc before (f a) rest ∙ sym (ap (λ ns. before ++ flat_map f ns) (range_more a b lt)) ∙ h
+
+-- what holds of each number of a range
+pub all_range : (P : ℕ → Type 0) (a n : ℕ) → ((k : ℕ) → a ≤ k → k < a + n → P k) → AllByRecursion P (range_with_len a n)
+all_range P a zero h = tt
+all_range P a (suc n) h = (h a (omega arith) (omega arith), all_range P (a + 1) n (λ k low high. h k (omega arith) (omega arith)))

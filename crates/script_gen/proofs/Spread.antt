@@ -20,7 +20,6 @@ one_false true false z h = refl
 one_false false false z h = refl
 one_false true true false h = refl
 one_false false true false h = refl
-one_false false true true h = refl
 
 no_clash : (a b : Area) → AreApart a b → clash a b ≡ false
 no_clash a b (inl before) = one_false (a.is_written || b.is_written) (nat_lt a.base (b.base + b.size)) (nat_lt b.base (a.base + a.size)) (inr (le-ltb b.base (a.base + a.size) before))

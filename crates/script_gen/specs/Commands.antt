@@ -24,9 +24,13 @@ lpi_of dev ev = 8192 + 64 * (dev - 1) + ev
 abbrev pub map_event : ℕ → ℕ → Command
 map_event dev ev = Mapti (record { 0 = dev }) (record { 0 = ev }) (record { 0 = lpi_of dev ev }) (record { 0 = ev % 4 })
 
--- a device, and then its events
+-- the first events of a device
+unfoldable pub event_commands : ℕ → ℕ → List Command
+event_commands dev count = map (map_event dev) (range_with_len 0 count)
+
+-- a device, and then its 64 events
 unfoldable pub device_commands : ℕ → List Command
-device_commands dev = map_device dev ∷ map (map_event dev) (range_with_len 0 64)
+device_commands dev = map_device dev ∷ event_commands dev 64
 
 -- the collections, and then the devices 1 to n with their events
 unfoldable pub setup_commands : ℕ → List Command

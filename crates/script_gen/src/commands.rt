@@ -53,6 +53,17 @@ fn map_event(dev: u32, ev: u32) -> Command
     }
 }
 
+// The first events of a device.
+#[tactic(auto, unfolding(crate::specs::Commands::event_commands))]
+fn event_commands(alloc: Global, dev: u32, count: u32) -> Result<Vec<Command>, AllocError>
+    requires first { 1 ≤ dev }
+    requires last { dev ≤ 63 }
+    requires events { count ≤ 64 }
+    ensures { IfOk result (λ v. v.items ≡ spec.event_commands dev count) }
+{
+    (0..count).map(|ev| map_event(dev, ev)).collect(alloc)
+}
+
 // A device, and then its events.
 #[tactic(auto, unfolding(crate::specs::Commands::device_commands))]
 fn push_device(alloc: Global, out: &mut Vec<Command>, dev: u32) -> Result<(), AllocError>
@@ -60,12 +71,19 @@ fn push_device(alloc: Global, out: &mut Vec<Command>, dev: u32) -> Result<(), Al
     requires last { dev ≤ 63 }
     ensures { OnOk result (out.new.items ≡ out.old.items ++ spec.device_commands dev) }
 {
-    let events = (0..EVENTS)
-        .map(|ev| map_event(dev, ev))
-        .collect::<Vec<Command>>(alloc)?;
+    let events = event_commands(alloc, dev, EVENTS)?;
     out.push(map_device(dev))?;
     out.extend_from_slice(&events)?;
     Ok(())
+}
+
+// The collections of the virtual processors.
+fn collection_commands(alloc: Global) -> Result<Vec<Command>, AllocError>
+    ensures { IfOk result (λ v. v.items ≡ map spec.map_collection (range_with_len 0 4)) }
+{
+    (0..COLLECTIONS)
+        .map(|icid| map_collection(icid))
+        .collect(alloc)
 }
 
 /// The commands that map the collections, and the devices 1 to `devices` with their events.
@@ -74,9 +92,7 @@ pub fn setup_commands(alloc: Global, devices: u32) -> Result<Vec<Command>, Alloc
     requires { devices ≤ 63 }
     ensures { IfOk result (λ v. v.items ≡ spec.setup_commands devices) }
 {
-    let mut out = (0..COLLECTIONS)
-        .map(|icid| map_collection(icid))
-        .collect::<Vec<Command>>(alloc)?;
+    let mut out = collection_commands(alloc)?;
     for dev in 1..devices + 1 {
         push_device(alloc, &mut out, dev)?;
     }

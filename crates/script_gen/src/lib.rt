@@ -5,12 +5,12 @@
 mod commands;
 mod counts;
 mod description;
-mod generate;
+mod generator;
 mod laws;
 mod queue;
 mod summary;
 
 pub use counts::Counts;
-pub use generate::generate;
+pub use generator::generate;
 pub use laws::{can_migrate, has_room, is_a_script, is_never_refused, makes_machine};
 pub use summary::summary_text;

@@ -15,10 +15,8 @@ pub fn summary_text(alloc: Global, counts: &Counts, pending: &[u64]) -> Result<S
     let mut out = String::new(alloc);
     push_counts(&mut out, counts)?;
     out.push_str("migrated 1\n")?;
-    let mut vcpu = 0u64;
-    for count in pending {
+    for (vcpu, count) in pending.iter().enumerate() {
         push_vcpu(&mut out, vcpu, *count)?;
-        vcpu += 1;
     }
     Ok(out)
 }
@@ -33,11 +31,13 @@ fn push_counts(out: &mut String, counts: &Counts) -> Result<(), AllocError>
         commands,
         ran,
     } = *counts;
-    write!(out, "signals {signals} delivered {delivered}\n")?;
-    write!(out, "commands {commands} ran {ran}\n")
+    write!(
+        out,
+        "signals {signals} delivered {delivered}\ncommands {commands} ran {ran}\n"
+    )
 }
 
-fn push_vcpu(out: &mut String, vcpu: u64, count: u64) -> Result<(), AllocError>
+fn push_vcpu(out: &mut String, vcpu: usize, count: u64) -> Result<(), AllocError>
     ensures { OnOk result (string_bytes out.new ≡ string_bytes out.old ++ spec.vcpu_line vcpu count) }
 {
     write!(out, "vcpu {vcpu} pending {count}\n")
