@@ -8,7 +8,7 @@ use Rattle.its_command.proofs.Encoded.{decodes_back}
 use Rattle.its_plain.specs.declared.call.Call.{Call}
 use Rattle.its_plain.specs.declared.call.Call.TheVariants.{Signal}
 use Rattle.script_gen.specs.Commands.{map_collection, map_device, map_event, move_event, itt_of, event_commands, device_commands, setup_commands, move_commands}
-use Rattle.script_gen.specs.Generated.{queue, offset_of, command_calls, queued, register_writes, setup_thread, signal_thread, setup_count, move_thread, setup_phase, signal_phase, first_leg}
+use Rattle.script_gen.specs.Generated.{signal_call, queue, offset_of, command_calls, queued, register_writes, setup_thread, signal_thread, setup_count, move_thread, setup_phase, signal_phase, first_leg}
 use Rattle.script_gen.proofs.Invariant.{IsGiven, IsAllowed, IsOwn, IsPut}
 use Rattle.script_gen.proofs.Invariant.IsWrite.{ctlr, cbaser, cwriter, baser0, baser1}
 use Rattle.script_gen.proofs.Lists.{all_append, all_map, all_flat_map, all_range}
@@ -94,8 +94,7 @@ move_given signals n some most = queued_given n (setup_count n) (move_commands n
 signals_given : (signals n dev : ℕ) → AllByRecursion (IsGiven n) (signal_thread signals dev)
 unfolding signal_thread
 signals_given signals n dev =
-    let f : ℕ → Call = λ i. Signal 0 (record { 0 = dev }) (record { 0 = i % 64 }) in
-    all_map (IsGiven n) f (range_with_len 0 signals) (all_range (λ i. IsGiven n (f i)) 0 signals (λ _ _ _. tt))
+    all_map (IsGiven n) (signal_call dev) (range_with_len 0 signals) (all_range (λ i. IsGiven n (signal_call dev i)) 0 signals (λ _ _ _. tt))
 
 abbrev pub AllGiven : ℕ → List Call → Type 0
 AllGiven n calls = AllByRecursion (IsGiven n) calls

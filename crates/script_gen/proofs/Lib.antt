@@ -6,3 +6,6 @@ pub mod Writes
 pub mod Calls
 pub mod Histories
 pub mod Given
+pub mod Lengths
+pub mod Room
+pub mod Within

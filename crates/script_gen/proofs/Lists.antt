@@ -1,6 +1,7 @@
 -- What holds of each element of a list.
 use Rattle.std.proofs.Common.{◌≡◌, ℕ, zero, suc, ◌+◌, ◌-◌, ◌<◌, ◌≤◌, Bool, true, false, cond, List, [], ◌∷◌, ◌++◌, map, Option, Some, None, refl, ap, sym, ◌∙◌, append_assoc, arith}
 use Rattle.std.specs.Prelude.{find}
+use Rattle.std.proofs.lemmas.Bool.{and_from}
 use Rattle.std.specs.List.{AllByRecursion, flat_map, range_with_len, list_all}
 
 pub all_append : {X : Type 0} (P : X → Type 0) (xs ys : List X) → AllByRecursion P xs → AllByRecursion P ys → AllByRecursion P (xs ++ ys)
@@ -52,3 +53,20 @@ pieces_more f now before all a b lt one h =
 pub all_range : (P : ℕ → Type 0) (a n : ℕ) → ((k : ℕ) → a ≤ k → k < a + n → P k) → AllByRecursion P (range_with_len a n)
 all_range P a zero h = tt
 all_range P a (suc n) h = (h a (omega arith) (omega arith), all_range P (a + 1) n (λ k low high. h k (omega arith) (omega arith)))
+
+-- a loop over the numbers 1 to n puts one element for each at the end of a list: it begins
+pub items_none : {Y : Type 0} (f : ℕ → Y) (n : ℕ) → map f (range_with_len 1 (n + 1 - 1)) ≡ map f (range_with_len 1 n)
+items_none f n = ap (map f) (range_from_1 n)
+
+-- and goes on
+pub items_more : {Y : Type 0} (f : ℕ → Y) (now before all : List Y) (x : Y) (a b : ℕ) → a < b → x ≡ f a → now ≡ before ++ x ∷ [] → before ++ map f (range_with_len a (b - a)) ≡ all
+    → now ++ map f (range_with_len (a + 1) (b - (a + 1))) ≡ all
+items_more f now before all x a b lt is one h =
+    let rest = map f (range_with_len (a + 1) (b - (a + 1))) in
+    ap (λ xs. xs ++ rest) (one ∙ ap (λ y. before ++ y ∷ []) is) ∙ append_assoc before (f a ∷ []) rest ∙ sym (ap (λ ns. before ++ map f ns) (range_more a b lt)) ∙ h
+
+-- ---- tests of each element
+
+pub list_all_true : {X : Type 0} (p : X → Bool) (xs : List X) → AllByRecursion (λ x. p x ≡ true) xs → list_all p xs ≡ true
+list_all_true p [] h = refl
+list_all_true p (x ∷ xs) h = and_from (p x) (list_all p xs) h.0 (list_all_true p xs h.1)

@@ -44,8 +44,11 @@ unfoldable pub setup_thread : ℕ → Thread
 setup_thread threads = register_writes ++ queued 0 (setup_commands threads)
 
 -- the 64 events of a device in turn
+abbrev pub signal_call : ℕ → ℕ → Call
+signal_call dev i = Signal 0 (record { 0 = dev }) (record { 0 = i % 64 })
+
 unfoldable pub signal_thread : ℕ → ℕ → Thread
-signal_thread signals dev = map (λ i. Signal 0 (record { 0 = dev }) (record { 0 = i % 64 })) (range_with_len 0 signals)
+signal_thread signals dev = map (signal_call dev) (range_with_len 0 signals)
 
 -- how many commands the setup has
 abbrev pub setup_count : ℕ → ℕ

@@ -1,4 +1,5 @@
-ghost use Rattle.std.specs.Prelude.{◌≡◌, ◌<◌, ◌≤◌, ◌+◌, ◌++◌, OnOk, IfOk};
+ghost use Rattle.std.specs.Prelude.{◌≡◌, ◌≤◌, IfOk, map};
+ghost use Rattle.std.specs.List.{range_with_len};
 ghost use Rattle.script_gen.specs.Laws.{IsAsked};
 ghost use Rattle.script_gen.specs.Generated as spec;
 ghost use Rattle.event_script.specs.Limits.{IsWithinLimits};
@@ -17,7 +18,7 @@ use std::alloc::{AllocError, Global};
 pub fn generate(alloc: Global, signals: u32, threads: u32) -> Result<Script, AllocError>
     requires { IsAsked signals threads }
     ensures script { IfOk result (λ s. s ≡ spec.generated signals threads) }
-    ensures limits { IsWithinLimits (spec.generated signals threads) }
+    ensures limits { IfOk result IsWithinLimits }
 {
     let mut leg = Leg::new(alloc);
     leg.push(setup_phase(alloc, threads)?)?;
@@ -43,7 +44,7 @@ fn setup_phase(alloc: Global, threads: u32) -> Result<Phase, AllocError>
     Ok(phase)
 }
 
-#[tactic(auto, unfolding(crate::specs::Generated::setup_thread))]
+#[tactic(auto, using(crate::proofs::Lengths::setup_length), unfolding(crate::specs::Generated::setup_thread))]
 fn setup_thread(alloc: Global, threads: u32) -> Result<Thread, AllocError>
     requires { threads ≤ 63 }
     ensures { IfOk result (λ calls. calls ≡ spec.setup_thread threads) }
@@ -73,17 +74,26 @@ fn signal_phase(alloc: Global, signals: u32, threads: u32) -> Result<Phase, Allo
 fn signal_thread(alloc: Global, signals: u32, dev: u32) -> Result<Thread, AllocError>
     ensures { IfOk result (λ calls. calls ≡ spec.signal_thread signals dev) }
 {
-    let calls = (0..signals)
-        .map(|i| Call::Signal {
-            its: 0,
-            dev: DeviceId(dev),
-            ev: EventId(i % EVENTS),
-        })
-        .collect::<Vec<Call>>(alloc)?;
-    Ok(Listed::from_vec(calls))
+    Ok(Listed::from_vec(signal_calls(alloc, signals, dev)?))
 }
 
-#[tactic(auto, unfolding(crate::specs::Generated::move_thread))]
+fn signal_calls(alloc: Global, signals: u32, dev: u32) -> Result<Vec<Call>, AllocError>
+    ensures { IfOk result (λ v. v.items ≡ map (spec.signal_call dev) (range_with_len 0 signals)) }
+{
+    (0..signals).map(|i| signal_call(dev, i)).collect(alloc)
+}
+
+fn signal_call(dev: u32, i: u32) -> Call
+    ensures { result ≡ spec.signal_call dev i }
+{
+    Call::Signal {
+        its: 0,
+        dev: DeviceId(dev),
+        ev: EventId(i % EVENTS),
+    }
+}
+
+#[tactic(auto, using(crate::proofs::Lengths::move_length), unfolding(crate::specs::Generated::move_thread))]
 fn move_thread(alloc: Global, signals: u32, threads: u32) -> Result<Thread, AllocError>
     requires { IsAsked signals threads }
     ensures { IfOk result (λ calls. calls ≡ spec.move_thread signals threads) }
