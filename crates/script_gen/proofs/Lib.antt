@@ -9,3 +9,5 @@ pub mod Given
 pub mod Lengths
 pub mod Room
 pub mod Within
+pub mod Memory
+pub mod Start
