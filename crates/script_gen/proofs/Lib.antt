@@ -11,3 +11,5 @@ pub mod Room
 pub mod Within
 pub mod Memory
 pub mod Start
+pub mod Tables
+pub mod Savable

@@ -9,12 +9,17 @@ use std::alloc::{AllocError, Global};
 
 // Where the command queue stands, and how many commands it has room for.
 const QUEUE: u64 = 0x8002_0000;
+
 const QUEUE_LEN: u32 = 128;
 
 const GITS_CTLR: u32 = 0x0;
+
 const GITS_CBASER: u32 = 0x80;
+
 const GITS_CWRITER: u32 = 0x88;
+
 const GITS_BASER0: u32 = 0x100;
+
 const GITS_BASER1: u32 = 0x108;
 
 fn write_call(off: u32, value: u64) -> Call
