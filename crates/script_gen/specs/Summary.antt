@@ -1,7 +1,10 @@
 -- What is printed of a run of a generated script.
-use Rattle.std.specs.Prelude.{ℕ, ◌+◌, Bool, true, false, ◌&&◌, List, [], ◌∷◌, ◌++◌, codes, count_by}
+use Rattle.std.specs.Prelude.{◌≡◌, ◌<◌, ℕ, ◌+◌, ◌^◌, Bool, true, false, ◌&&◌, List, [], ◌∷◌, ◌++◌, codes, count_by, length}
+use Rattle.std.specs.List.{AllByRecursion}
 use Rattle.std.specs.Fmt.{decimal}
 use Rattle.its_types.specs.Bits.{bit}
+use Rattle.its_types.specs.declared.machine.Placed.{Placed}
+use Rattle.its_plain.specs.Runs.{IsOfPasses}
 use Rattle.its_plain.specs.declared.call.Call.{Call}
 use Rattle.its_plain.specs.declared.call.Call.TheVariants as call
 use Rattle.its_plain.specs.declared.call.Entry.{Entry}
@@ -9,6 +12,9 @@ use Rattle.its_plain.specs.declared.call.Reply.{Reply}
 use Rattle.its_plain.specs.declared.call.Reply.TheVariants as reply
 use Rattle.its_plain.specs.declared.call.Signal.TheVariants.{Delivered}
 use Rattle.its_plain.specs.declared.call.StepReply.TheVariants.{Ran}
+use Rattle.its_history.specs.Histories.{Seat, passes_lines}
+use Rattle.its_history.specs.Merged.{all_lines}
+use Rattle.its_history.specs.declared.threads.ThreadList.{ThreadList}
 use Rattle.script_gen.specs.declared.counts.Counts.{Counts}
 
 -- ---- counts
@@ -29,6 +35,17 @@ abbrev pub has_run : Reply → Bool
 has_run (reply.Step (Ran op)) = true
 has_run _ = false
 
+-- those of a history
+abbrev pub counts_of : List Entry → Counts
+counts_of h = record {
+  signals = count_by (λ (e : Entry). is_signal e.call) h;
+  delivered = count_by (λ (e : Entry). is_signal e.call && is_delivered e.reply) h;
+  commands = count_by (λ (e : Entry). is_step e.call) h;
+  ran = count_by (λ (e : Entry). is_step e.call && has_run e.reply) h;
+}
+
+-- ---- counting
+
 abbrev pub none : Counts
 none = record { signals = 0; delivered = 0; commands = 0; ran = 0 }
 
@@ -41,14 +58,31 @@ with_call c r n = record {
   ran = n.ran + bit (is_step c && has_run r);
 }
 
--- those of a history
-abbrev pub counts_of : List Entry → Counts
-counts_of h = record {
-  signals = count_by (λ (e : Entry). is_signal e.call) h;
-  delivered = count_by (λ (e : Entry). is_signal e.call && is_delivered e.reply) h;
-  commands = count_by (λ (e : Entry). is_step e.call) h;
-  ran = count_by (λ (e : Entry). is_step e.call && has_run e.reply) h;
-}
+-- a thread's calls that have a reply
+abbrev pub with_replies : List Call → List (Placed Reply) → Counts → Counts
+with_replies (c ∷ cs) (r ∷ rs) n = with_replies cs rs (with_call c r.reply n)
+with_replies _ _ n = n
+
+abbrev pub with_lists : List ThreadList → Counts → Counts
+with_lists [] n = n
+with_lists (l ∷ lists) n = with_lists lists (with_replies l.calls.now l.replies n)
+
+-- so many more can be counted
+pub record HasRoomFor (more : ℕ) (n : Counts) : Type 0 where
+  pub signals : n.signals + more < 2 ^ 64
+  pub delivered : n.delivered + more < 2 ^ 64
+  pub commands : n.commands + more < 2 ^ 64
+  pub ran : n.ran + more < 2 ^ 64
+
+-- the passes of a history, of which each made the calls of a list: lists with just these lines have the history's counts
+abbrev pub ListsTellCounts : Type 0
+ListsTellCounts = (seat : ℕ → Seat) (pass count place : ℕ) (h : List Entry) (lists : List ThreadList) → AllByRecursion (IsOfPasses pass count) h
+    → all_lines lists ≡ passes_lines seat pass count place h → with_lists lists none ≡ counts_of h
+
+-- and as many lines as the history has entries
+abbrev pub ListsTellLength : Type 0
+ListsTellLength = (seat : ℕ → Seat) (pass count place : ℕ) (h : List Entry) (lists : List ThreadList) → AllByRecursion (IsOfPasses pass count) h
+    → all_lines lists ≡ passes_lines seat pass count place h → length (all_lines lists) ≡ length h
 
 -- ---- text
 

@@ -1,6 +1,8 @@
-ghost use Rattle.std.specs.Prelude.{◌≡◌, ◌<◌, ◌^◌, ◌+◌};
+ghost use Rattle.std.specs.Prelude.{◌≡◌, ◌<◌, ◌^◌, length};
+ghost use Rattle.its_history.specs.Merged.{list_lines, all_lines};
 ghost use Rattle.script_gen.specs.Summary as spec;
 
+use its_history::ThreadList;
 use its_plain::{Call, Reply, Signal, StepReply};
 
 /// What a run's calls came to.
@@ -25,12 +27,31 @@ impl Counts {
         ran: 0,
     };
 
+    /// What the calls of all lists came to.
+    pub fn of(lists: &[ThreadList]) -> Counts
+        requires { length (all_lines lists.now) < 2 ^ 64 }
+        ensures { result ≡ spec.with_lists lists.now spec.none }
+    {
+        let mut counts = Counts::NONE;
+        for list in lists {
+            counts.add_list(list);
+        }
+        counts
+    }
+
+    // Counts a thread's calls.
+    fn add_list(&mut self, list: &ThreadList)
+        requires { spec.HasRoomFor (length (list_lines list.now)) self.old }
+        ensures { self.new ≡ spec.with_replies list.now.calls.now list.now.replies self.old }
+    {
+        for (call, placed) in list.calls.iter().zip(list.replies.as_slice()) {
+            self.add(call, &placed.reply);
+        }
+    }
+
     /// Counts one more call, with its reply.
     pub fn add(&mut self, call: &Call, reply: &Reply)
-        requires signals { self.old.signals + 1 < 2 ^ 64 }
-        requires delivered { self.old.delivered + 1 < 2 ^ 64 }
-        requires commands { self.old.commands + 1 < 2 ^ 64 }
-        requires ran { self.old.ran + 1 < 2 ^ 64 }
+        requires { spec.HasRoomFor 1 self.old }
         ensures { self.new ≡ spec.with_call call.now reply.now self.old }
     {
         match call {

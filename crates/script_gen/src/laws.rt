@@ -1,5 +1,6 @@
 //! What a run of a generated script rests on.
 ghost use Rattle.script_gen.specs.Laws as laws;
+ghost use Rattle.script_gen.specs.Summary.{ListsTellCounts, ListsTellLength};
 
 /// The description makes a machine.
 pub fn makes_machine()
@@ -26,4 +27,15 @@ pub fn has_room()
 /// another.
 pub fn can_migrate()
     ensures { laws.CanMigrate }
+{}
+
+/// Where lists have just the lines of a history's passes, what their calls came to is what the
+/// history's did.
+pub fn lists_tell_counts()
+    ensures { ListsTellCounts }
+{}
+
+/// Then they have as many lines as the history has entries.
+pub fn lists_tell_length()
+    ensures { ListsTellLength }
 {}

@@ -12,5 +12,8 @@ mod summary;
 
 pub use counts::Counts;
 pub use generator::generate;
-pub use laws::{can_migrate, has_room, is_a_script, is_never_refused, makes_machine};
+pub use laws::{
+    can_migrate, has_room, is_a_script, is_never_refused, lists_tell_counts, lists_tell_length,
+    makes_machine,
+};
 pub use summary::summary_text;
