@@ -13,3 +13,6 @@ pub mod Memory
 pub mod Start
 pub mod Tables
 pub mod Savable
+pub mod Counted
+pub mod Told
+pub mod Passes
