@@ -1,5 +1,5 @@
 -- Each call of the script keeps the invariant.
-use Rattle.std.proofs.Common.{◌≡◌, ◌⊎◌, ℕ, ◌+◌, ◌-◌, ◌*◌, ◌/◌, ◌%◌, ◌<◌, ◌≤◌, ◌^◌, true, false, not, ◌&&◌, ◌||◌, List, [], ◌∷◌, length, map, Option, Some, None, Result, Ok, Err, IfOk, inl, inr, refl, sym, ap, subst, ◌∙◌, arith}
+use Rattle.std.proofs.Common.{◌≡◌, ◌⊎◌, ℕ, ◌+◌, ◌*◌, ◌/◌, ◌%◌, ◌<◌, ◌≤◌, ◌^◌, true, not, ◌&&◌, List, [], ◌∷◌, length, map, Option, Some, None, Result, Ok, Err, IfOk, inl, inr, refl, sym, ap, subst, ◌∙◌, arith}
 use Rattle.std.specs.Prelude.{unwrap_or, slice_index_or}
 use Rattle.std.specs.List.{AllByRecursion}
 use Rattle.std.proofs.lemmas.Bool.{cond_both, or_parts, and_parts, not-false, cases_eq, cases_lt}
@@ -13,8 +13,8 @@ use Rattle.its_command.specs.Commands.{decoded}
 use Rattle.its_types.specs.Bits.{field}
 use Rattle.its_types.specs.declared.machine.Profile.TheVariants.{One}
 use Rattle.its_plain.specs.Plain.{Plain, Translator, no_translator, translator, regs_of, maps_of, with_regs, with_translator}
-use Rattle.its_plain.specs.Answer.{answer, left, reply_of, written, translator_written, emptied, signal_left, signal_reply, step_left, met_left, command_left, went_on, is_idle, next_bytes}
-use Rattle.its_plain.specs.Commands.{ran, lpi_set}
+use Rattle.its_plain.specs.Answer.{answer, left, reply_of, written, translator_written, signal_left, signal_reply, step_left, met_left, command_left, went_on, is_idle, next_bytes}
+use Rattle.its_plain.specs.Commands.{ran}
 use Rattle.its_plain.specs.History.{after}
 use Rattle.its_plain.specs.declared.layout.Layout.{Layout}
 use Rattle.its_plain.specs.Sound.{IsSound}

@@ -1,15 +1,14 @@
 -- Each call of the script is one that keeps the invariant.
-use Rattle.std.proofs.Common.{◌≡◌, ℕ, ◌+◌, ◌-◌, ◌*◌, ◌/◌, ◌%◌, ◌^◌, ◌<◌, ◌≤◌, List, [], ◌∷◌, ◌++◌, length, map, refl, sym, subst, arith}
+use Rattle.std.proofs.Common.{◌≡◌, ℕ, ◌+◌, ◌/◌, ◌%◌, ◌<◌, ◌≤◌, List, [], ◌∷◌, length, map, refl, sym, subst, arith}
 use Rattle.std.specs.List.{AllByRecursion, flat_map, range_with_len}
-use Rattle.its_command.specs.Commands.{encoded, decoded, IsWithinBits}
+use Rattle.its_command.specs.Commands.{encoded, IsWithinBits}
 use Rattle.its_command.specs.declared.command.Command.{Command}
 use Rattle.its_command.specs.declared.command.Command.TheVariants.{Movi, Int, Clear, Sync, Mapd, Mapc, Mapti, Mapi, Inv, Invall, Movall, Discard, Unknown}
 use Rattle.its_command.proofs.Encoded.{decodes_back}
 use Rattle.its_plain.specs.declared.call.Call.{Call}
-use Rattle.its_plain.specs.declared.call.Call.TheVariants.{Signal}
-use Rattle.script_gen.specs.Commands.{map_collection, map_device, map_event, move_event, itt_of, event_commands, device_commands, setup_commands, move_commands}
-use Rattle.script_gen.specs.Generated.{signal_call, queue, offset_of, command_calls, queued, register_writes, setup_thread, signal_thread, setup_count, move_thread, setup_phase, signal_phase, first_leg}
-use Rattle.script_gen.proofs.Invariant.{IsGiven, IsAllowed, IsOwn, IsPut}
+use Rattle.script_gen.specs.Commands.{map_collection, map_device, map_event, move_event, event_commands, device_commands, setup_commands, move_commands}
+use Rattle.script_gen.specs.Generated.{signal_call, queue, offset_of, queued, setup_thread, signal_thread, setup_count, move_thread, setup_phase, signal_phase, first_leg}
+use Rattle.script_gen.proofs.Invariant.{IsGiven, IsAllowed, IsPut}
 use Rattle.script_gen.proofs.Invariant.IsWrite.{ctlr, cbaser, cwriter, baser0, baser1}
 use Rattle.script_gen.proofs.Lists.{all_append, all_map, all_flat_map, all_range}
 

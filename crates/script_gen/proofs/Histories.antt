@@ -1,12 +1,12 @@
 -- What holds of each call of a leg's threads holds of each entry of its history.
-use Rattle.std.proofs.Common.{◌≡◌, ◌⊎◌, ℕ, suc, ◌+◌, ◌<◌, ◌≤◌, true, false, cond, eqb, List, [], ◌∷◌, ◌++◌, length, inl, inr, refl, sym, subst, arith}
+use Rattle.std.proofs.Common.{◌≡◌, ℕ, suc, ◌+◌, eqb, List, [], ◌∷◌, length, inl, inr, sym, subst, arith}
 use Rattle.std.specs.List.{AllByRecursion}
 use Rattle.std.proofs.lemmas.Bool.{cond_both, cases_eq, both_ways, eq-eqb}
 use Rattle.its_plain.specs.History.{calls_by}
 use Rattle.its_plain.specs.Runs.{Phase, Leg, IsOfPasses, HasCalls, ArePhases}
 use Rattle.its_plain.specs.declared.call.Call.{Call}
 use Rattle.its_plain.specs.declared.call.Entry.{Entry}
-use Rattle.script_gen.proofs.Lists.{all_append, all_weaker}
+use Rattle.script_gen.proofs.Lists.{all_append}
 
 module _ (P : Call → Type 0) where
   -- each call of the pass

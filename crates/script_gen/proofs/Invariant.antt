@@ -1,5 +1,5 @@
 -- What every call of a generated script keeps, in whichever order they come: its tables stand where they are meant to.
-use Rattle.std.proofs.Common.{◌≡◌, ◌⊎◌, ℕ, ◌+◌, ◌*◌, ◌<◌, ◌≤◌, Bool, true, List, [], ◌∷◌, length, map, Some}
+use Rattle.std.proofs.Common.{◌≡◌, ◌⊎◌, ℕ, ◌+◌, ◌*◌, ◌<◌, ◌≤◌, true, List, [], ◌∷◌, length, map, Some}
 use Rattle.guest_windows.specs.Windows.{Window, extent, read_at}
 use Rattle.gits_regs.specs.Registers.{Registers}
 use Rattle.its_command.specs.Commands.{decoded}

@@ -1,11 +1,11 @@
 -- How many commands and calls the script has.
-use Rattle.std.proofs.Common.{◌≡◌, ℕ, zero, suc, ◌+◌, ◌*◌, ◌/◌, ◌≤◌, List, [], ◌∷◌, ◌++◌, length, map, refl, ap, ◌∙◌, arith}
+use Rattle.std.proofs.Common.{◌≡◌, ℕ, zero, suc, ◌+◌, ◌*◌, ◌/◌, List, [], ◌∷◌, length, refl, ap, arith}
 use Rattle.std.specs.List.{flat_map, range_with_len}
 use Rattle.std.proofs.lemmas.List.{length-append}
 use Rattle.std.proofs.lemmas.List.FromFn.{length-map-range_with_len}
 use Rattle.its_command.specs.declared.command.Command.{Command}
-use Rattle.script_gen.specs.Commands.{map_collection, map_event, move_event, event_commands, device_commands, setup_commands, move_commands}
-use Rattle.script_gen.specs.Generated.{command_calls, queued, register_writes, setup_thread, signal_call, signal_thread, setup_count, move_thread}
+use Rattle.script_gen.specs.Commands.{map_event, move_event, event_commands, device_commands, setup_commands, move_commands}
+use Rattle.script_gen.specs.Generated.{queued, setup_thread, signal_call, signal_thread, setup_count, move_thread}
 
 event_length : (dev count : ℕ) → length (event_commands dev count) ≡ count
 unfolding event_commands

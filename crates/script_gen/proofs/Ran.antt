@@ -1,5 +1,5 @@
 -- A command of the script maps no device but the script's own, and touches neither registers nor memory.
-use Rattle.std.proofs.Common.{◌≡◌, ℕ, ◌^◌, ◌<◌, Bool, true, false, ◌&&◌, is_some, nat_lt, nat_le, List, [], ◌∷◌, length, set, Option, Some, None, Result, Ok, Err, IfOk, refl, sym, ap, subst, ◌∙◌, cond, not, eqb, arith}
+use Rattle.std.proofs.Common.{◌≡◌, ℕ, ◌^◌, Bool, true, false, ◌&&◌, is_some, nat_lt, nat_le, List, [], ◌∷◌, length, Option, Some, None, Result, Ok, Err, IfOk, refl, sym, ap, subst, ◌∙◌, not, eqb, arith}
 use Rattle.std.specs.Prelude.{ok_or, slice_index_or}
 use Rattle.std.specs.Ordering.{nat_cmp}
 use Rattle.std.specs.Cmp.{nat_cmp_total}
@@ -19,7 +19,7 @@ use Rattle.its_types.specs.declared.machine.Profile.TheVariants.{One, Two}
 use Rattle.its_types.specs.declared.translation.Device.{Device}
 use Rattle.its_types.specs.declared.translation.Event.{Event}
 use Rattle.its_plain.specs.Plain.{Plain, Translator, no_translator, translator, regs_of, maps_of, pending_of, is_on, with_translator, with_maps}
-use Rattle.its_plain.specs.Commands.{ensure, ◌>>=◌, event_at, lpi_at, target_at, cleared_at, lpi_moved, lpi_set, lpi_cleared, lpis_moved, all_moved, followed, followed_in, intids_of, reread, with_event, with_collection, ran, mapd, unmapd, mapc, unmapc, mapti, movi, discard, int, clear, inv, invall, movall}
+use Rattle.its_plain.specs.Commands.{ensure, ◌>>=◌, event_at, lpi_at, target_at, cleared_at, lpi_moved, lpi_set, lpi_cleared, all_moved, followed_in, intids_of, reread, with_collection, ran, mapd, unmapd, mapc, mapti, movi, discard, int, clear, inv, invall, movall}
 use Rattle.its_plain.specs.declared.call.Reason.{Reason}
 use Rattle.its_plain.specs.declared.call.Reason.TheVariants.{DeviceRange, SizeRange, TargetRange, CollectionRange, NoDevice, EventRange, IntidRange, NoCollection, LpisOff}
 use Rattle.plain_soundness.proofs.FiniteMaps.{inserted, retained}

@@ -1,12 +1,12 @@
 -- A leg of the script has fewer calls than a history has places.
-use Rattle.std.proofs.Common.{◌≡◌, ℕ, zero, suc, ◌+◌, ◌*◌, ◌/◌, ◌<◌, ◌≤◌, ◌^◌, ◌-◌, List, [], ◌∷◌, ◌++◌, length, map, arith, lit<}
+use Rattle.std.proofs.Common.{ℕ, zero, suc, ◌+◌, ◌*◌, ◌≤◌, [], ◌∷◌, length, map, arith, lit<}
 use Rattle.std.specs.Prelude.{sum_by}
 use Rattle.std.specs.List.{range_with_len}
 use Rattle.std.proofs.lemmas.List.Sums.{sum_by-append, sum_by-cons}
 use Rattle.its_plain.specs.Runs.{Thread}
 use Rattle.script_gen.specs.Description.{description}
-use Rattle.script_gen.specs.Generated.{setup_phase, signal_phase, setup_thread, signal_thread, move_thread}
-use Rattle.script_gen.specs.Laws.{IsAsked, HasRoom}
+use Rattle.script_gen.specs.Generated.{setup_phase, signal_phase, signal_thread, move_thread}
+use Rattle.script_gen.specs.Laws.{HasRoom}
 use Rattle.script_gen.proofs.Lengths.{setup_thread_length, signal_thread_length, move_thread_length}
 
 abbrev size : Thread → ℕ

@@ -1,15 +1,13 @@
 -- A state that the script reaches can be saved: its tables lie in memory, and share no byte.
-use Rattle.std.proofs.Common.{◌≡◌, ℕ, ◌+◌, ◌/◌, ◌<◌, ◌≤◌, Bool, true, false, not, ◌&&◌, is_some, List, [], ◌∷◌, ◌++◌, append-nil, length, map, cond, Option, None, Result, Ok, inl, inr, refl, sym, ap, subst, ◌∙◌, arith, lit<, lit≤}
+use Rattle.std.proofs.Common.{◌≡◌, ℕ, ◌/◌, ◌<◌, ◌≤◌, false, not, is_some, List, [], ◌∷◌, ◌++◌, append-nil, length, map, cond, None, Ok, refl, sym, ap, ◌∙◌, arith, lit≤}
 use Rattle.std.specs.Prelude.{find, slice_get, slice_index_or}
 use Rattle.std.specs.List.{AllByRecursion, flat_map}
 use Rattle.std.specs.FinMap.{entries}
 use Rattle.std.proofs.lemmas.Bool.{and_left}
-use Rattle.guest_windows.specs.Windows.{Window, inside, extent}
-use Rattle.gits_regs.specs.Registers.{Registers, is_indirect}
+use Rattle.guest_windows.specs.Windows.{Window, extent}
+use Rattle.gits_regs.specs.Registers.{is_indirect}
 use Rattle.baser_place.specs.Places.{page_of, level1_of}
-use Rattle.its_types.specs.Maps.{Maps}
 use Rattle.its_types.specs.Ranges.{lpi_count}
-use Rattle.its_types.specs.declared.translation.Bases.{Bases}
 use Rattle.its_types.specs.declared.translation.Device.{Device}
 use Rattle.its_plain.specs.Machine.{layout_of, described_in}
 use Rattle.its_plain.specs.Plain.{Plain, Translator, Redistributor, no_translator, no_redistributor, translator, regs_of, maps_of}

@@ -1,11 +1,9 @@
 -- Areas that share no byte.
-use Rattle.std.proofs.Common.{◌≡◌, ◌⊎◌, ℕ, ◌+◌, ◌<◌, ◌≤◌, Bool, true, false, ◌&&◌, ◌||◌, List, [], ◌∷◌, ◌++◌, Option, None, Result, Ok, inl, inr, refl, sym, subst, arith}
+use Rattle.std.proofs.Common.{◌≡◌, ◌⊎◌, ℕ, ◌+◌, ◌≤◌, Bool, true, false, ◌&&◌, ◌||◌, List, [], ◌∷◌, ◌++◌, None, Ok, inl, inr, refl, arith}
 use Rattle.std.specs.Prelude.{find, nat_lt}
 use Rattle.std.specs.List.{AllByRecursion}
 use Rattle.std.proofs.lemmas.Bool.{le-ltb}
 use Rattle.its_plain.specs.declared.area.Area.{Area}
-use Rattle.its_plain.specs.declared.fault.SaveFault.{SaveFault}
-use Rattle.its_plain.specs.declared.fault.SaveFault.TheVariants.{Overlap}
 use Rattle.its_plain.specs.Regions.{clash, none_overlap}
 use Rattle.script_gen.proofs.Lists.{all_append, all_weaker, find_none}
 

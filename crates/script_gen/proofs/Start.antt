@@ -1,5 +1,5 @@
 -- The machine of the script's description: it is made, and its first state keeps the invariant.
-use Rattle.std.proofs.Common.{◌≡◌, ℕ, ◌+◌, ◌*◌, ◌<◌, ◌≤◌, Bool, true, false, List, [], ◌∷◌, length, map, replicate, Option, Some, None, Result, Ok, Err, IfOk, inl, inr, refl, sym, ap, subst, ◌∙◌, arith, lit<, lit≤}
+use Rattle.std.proofs.Common.{◌≡◌, ℕ, ◌+◌, ◌*◌, ◌≤◌, Bool, true, false, List, [], ◌∷◌, length, map, replicate, Option, Some, None, Result, Ok, Err, IfOk, inl, refl, sym, ap, subst, ◌∙◌, lit<, lit≤}
 use Rattle.std.specs.Prelude.{ok_or, slice_index_or}
 use Rattle.std.specs.Ordering.{nat_cmp}
 use Rattle.std.specs.FinMap.{get-empty}
@@ -12,24 +12,21 @@ use Rattle.gits_regs.specs.declared.values.RegValues.{RegValues}
 use Rattle.its_command.specs.Commands.{encoded, decoded}
 use Rattle.its_command.specs.declared.command.Command.TheVariants.{Unknown}
 use Rattle.its_command.proofs.Encoded.{decodes_back}
-use Rattle.its_types.specs.Maps.{no_maps, device_of}
+use Rattle.its_types.specs.Maps.{no_maps}
 use Rattle.its_types.specs.Ranges.{lpi_count, pending_bytes}
-use Rattle.its_types.specs.declared.ids.Addr.{Addr}
 use Rattle.its_types.specs.declared.machine.Shape.{Shape}
-use Rattle.its_plain.specs.Described.{IsFirstState, IsRefused, StartsAt, restored_bases}
+use Rattle.its_plain.specs.Described.{IsFirstState, StartsAt, restored_bases}
 use Rattle.its_plain.specs.Described.IsRefused.{of_description, of_restore}
-use Rattle.its_plain.specs.Machine.{made, started, tables_inside, pending_inside, filled, first_redistributors, idle_redistributor, described_bases, layout_of, ensure, ◌>>=◌}
+use Rattle.its_plain.specs.Machine.{made, started, tables_inside, filled, first_redistributors, layout_of, ensure, ◌>>=◌}
 use Rattle.its_plain.specs.Plain.{Plain, Translator, translator, no_translator}
 use Rattle.its_plain.specs.Sound.{IsSound}
 use Rattle.its_plain.specs.declared.desc.Desc.{Desc}
 use Rattle.its_plain.specs.declared.desc.DescFault.{DescFault}
-use Rattle.its_plain.specs.declared.desc.DescFault.TheVariants.{Windows, Config, Pending, Bytes}
+use Rattle.its_plain.specs.declared.desc.DescFault.TheVariants.{Windows, Config}
 use Rattle.its_plain.specs.declared.desc.Fill.{Fill}
-use Rattle.its_plain.specs.declared.desc.LpiTables.{LpiTables}
-use Rattle.its_plain.specs.declared.desc.LpiTables.TheVariants.{Described}
 use Rattle.plain_soundness.proofs.First.{start_sound}
 use Rattle.plain_soundness.proofs.Translated.{if_ok_at}
-use Rattle.script_gen.specs.Description.{description, shape, tables, window}
+use Rattle.script_gen.specs.Description.{description, shape, tables}
 use Rattle.script_gen.specs.Generated.{queue}
 use Rattle.script_gen.specs.Laws.{MakesMachine, IsNeverRefused}
 use Rattle.script_gen.proofs.Invariant.{IsKept, IsAllowed, IsQueue, AreRegisters, AreDevices, extents}

@@ -1,5 +1,5 @@
 -- Between which addresses the tables of the script lie.
-use Rattle.std.proofs.Common.{◌≡◌, ℕ, zero, suc, ◌+◌, ◌-◌, ◌*◌, ◌^◌, ◌<◌, ◌≤◌, min, Bool, true, false, not, cond, List, [], ◌∷◌, ◌++◌, length, map, Option, Some, None, inl, inr, refl, sym, ap, subst, ◌∙◌, arith, lit<, lit≤}
+use Rattle.std.proofs.Common.{◌≡◌, ℕ, suc, ◌+◌, ◌-◌, ◌*◌, ◌^◌, ◌≤◌, min, true, false, not, cond, List, [], ◌∷◌, ◌++◌, length, map, Some, inl, inr, refl, sym, ap, subst, ◌∙◌, arith, lit≤}
 use Rattle.std.specs.Prelude.{slice_get, slice_index_or}
 use Rattle.std.specs.List.{AllByRecursion, flat_map}
 use Rattle.std.specs.Ordering.{nat_cmp}
@@ -10,20 +10,18 @@ use Rattle.guest_windows.specs.Windows.{Window}
 use Rattle.gits_regs.specs.Registers.{Registers, is_valid, is_indirect, pages, table_base, size_of}
 use Rattle.baser_place.specs.Places.{level1_entries}
 use Rattle.its_types.specs.Bits.{field}
-use Rattle.its_types.specs.Maps.{Maps, device_of}
+use Rattle.its_types.specs.Maps.{Maps}
 use Rattle.its_types.specs.Ranges.{lpi_count}
 use Rattle.its_types.specs.declared.translation.Bases.{Bases}
 use Rattle.its_types.specs.declared.translation.Device.{Device}
 use Rattle.its_plain.specs.Machine.{described_in, described_bases}
 use Rattle.its_plain.specs.Plain.{Redistributor, no_redistributor}
-use Rattle.its_plain.specs.declared.layout.Layout.{Layout}
 use Rattle.its_plain.specs.declared.area.Area.{Area}
 use Rattle.its_plain.specs.declared.fault.Region.TheVariants.{Devices, Collections, Config, Queue}
-use Rattle.its_plain.specs.Regions.{device_areas, level1_areas, collection_areas, itt_area, itt_areas, queue_area, pending_area, config_area, areas_from}
+use Rattle.its_plain.specs.Regions.{device_areas, level1_areas, collection_areas, itt_area, itt_areas, queue_area, pending_area, areas_from}
 use Rattle.standing_states.specs.Rises.{RisesFrom}
 use Rattle.standing_states.proofs.Rises.{find_here, find_skips, map_rises}
 use Rattle.script_gen.specs.Description.{shape, tables, at}
-use Rattle.script_gen.specs.Commands.{itt_of}
 use Rattle.script_gen.proofs.Invariant.{IsEither, IsOwn, AreDevices}
 use Rattle.script_gen.proofs.Lists.{all_weaker}
 use Rattle.script_gen.proofs.Spread.{AllLie, Lies, AreSpread, AreApart}

@@ -1,10 +1,9 @@
 -- The text of a call and its reply tells how they count.
-use Rattle.std.proofs.Common.{◌≡◌, ℕ, zero, suc, ◌+◌, ◌-◌, ◌*◌, ◌/◌, ◌%◌, ◌<◌, ◌≤◌, Bool, true, false, ◌&&◌, cond, eqb, List, [], ◌∷◌, ◌++◌, refl, sym, ap, subst, ◌∙◌, append_assoc, arith}
+use Rattle.std.proofs.Common.{◌≡◌, ℕ, zero, suc, ◌+◌, ◌/◌, ◌%◌, ◌<◌, Bool, true, false, ◌&&◌, cond, eqb, List, [], ◌∷◌, ◌++◌, refl, ap, ◌∙◌, append_assoc, arith}
 use Rattle.std.specs.Prelude.{codes, slice_index, nat_lt}
 use Rattle.std.specs.List.{AllByRecursion}
 use Rattle.std.specs.Fmt.{decimal, digits, digits_onto, digit_glyph}
-use Rattle.std.proofs.lemmas.Bool.{cond_both, ltb-true, ltb-false, ne_eqb}
-use Rattle.its_types.specs.Bits.{bit}
+use Rattle.std.proofs.lemmas.Bool.{cond_both, ltb-true, ne_eqb}
 use Rattle.its_plain.specs.declared.call.Ack.TheVariants as ack
 use Rattle.its_plain.specs.declared.call.Call.{Call}
 use Rattle.its_plain.specs.declared.call.Call.TheVariants as call
@@ -12,10 +11,8 @@ use Rattle.its_plain.specs.declared.call.Reply.{Reply}
 use Rattle.its_plain.specs.declared.call.Reply.TheVariants as reply
 use Rattle.its_plain.specs.declared.call.Signal.TheVariants as signal
 use Rattle.its_plain.specs.declared.call.StepReply.TheVariants as step
-use Rattle.its_history.specs.Texts.{answered_text, call_text, reply_text, signal_text, ack_text, step_text, hexadecimal}
-use Rattle.script_gen.specs.Summary.{is_signal, is_step, is_delivered, has_run, with_call}
-use Rattle.script_gen.specs.declared.counts.Counts.{Counts}
-use Rattle.script_gen.proofs.Lists.{all_append}
+use Rattle.its_history.specs.Texts.{answered_text, call_text, reply_text, signal_text, ack_text, step_text}
+use Rattle.script_gen.specs.Summary.{is_signal, is_step, is_delivered, has_run}
 
 -- ---- what is read of a text
 

@@ -1,6 +1,6 @@
 -- The script has no more of anything than a script may have.
-use Rattle.std.proofs.Common.{◌≡◌, ℕ, ◌+◌, ◌*◌, ◌/◌, ◌%◌, ◌<◌, ◌≤◌, ◌^◌, Bool, true, false, ◌&&◌, List, [], ◌∷◌, ◌++◌, length, map, refl, sym, subst, ap, ◌∙◌, arith, lit<, lit≤}
-use Rattle.std.specs.Prelude.{nat_lt, nat_le, nat_eq}
+use Rattle.std.proofs.Common.{◌≡◌, ℕ, ◌+◌, ◌/◌, ◌<◌, ◌≤◌, ◌^◌, Bool, true, false, ◌&&◌, List, [], ◌∷◌, ◌++◌, length, map, refl, sym, subst, ap, ◌∙◌, arith, lit<, lit≤}
+use Rattle.std.specs.Prelude.{nat_lt, nat_le}
 use Rattle.std.specs.List.{AllByRecursion, range_with_len, list_all}
 use Rattle.std.proofs.lemmas.Bool.{and_from, lt-ltb, le-leb}
 use Rattle.std.proofs.lemmas.List.{length-append}
@@ -11,12 +11,11 @@ use Rattle.its_plain.specs.Machine.{IsDescription}
 use Rattle.its_plain.specs.Sound.{IsShape}
 use Rattle.its_plain.specs.Runs.{Thread, Phase}
 use Rattle.its_plain.specs.declared.call.Call.{Call}
-use Rattle.its_plain.specs.declared.call.Call.TheVariants.{Signal, Poke, WriteReg, Step}
-use Rattle.event_script.specs.Limits.{is_call, is_thread, is_phase, is_leg, IsWithinLimits}
+use Rattle.event_script.specs.Limits.{is_call, is_thread, is_phase, is_leg}
 use Rattle.script_gen.specs.Description.{description}
 use Rattle.script_gen.specs.Commands.{setup_commands, move_commands}
-use Rattle.script_gen.specs.Generated.{queued, offset_of, register_writes, signal_call, setup_count, setup_phase, signal_phase, setup_thread, signal_thread, move_thread, first_leg, generated}
-use Rattle.script_gen.specs.Laws.{IsAsked, IsAScript}
+use Rattle.script_gen.specs.Generated.{queued, offset_of, signal_call, setup_count, setup_phase, signal_phase, setup_thread, signal_thread, move_thread, first_leg}
+use Rattle.script_gen.specs.Laws.{IsAScript}
 use Rattle.script_gen.proofs.Given.{length-encoded}
 use Rattle.script_gen.proofs.Lengths.{setup_thread_length, signal_thread_length, move_thread_length}
 use Rattle.script_gen.proofs.Lists.{all_append, all_map, all_range, list_all_true}

@@ -1,12 +1,12 @@
 -- The script's writes of registers leave each at reset or at the script's own value, and map no device.
-use Rattle.std.proofs.Common.{◌≡◌, ℕ, true, false, not, ◌&&◌, nat_lt, nat_eq, Some, None, inl, inr, refl, sym, ◌∙◌}
+use Rattle.std.proofs.Common.{ℕ, not, ◌&&◌, nat_lt, nat_eq, inr, refl, sym, ◌∙◌}
 use Rattle.std.specs.Ordering.{nat_cmp}
 use Rattle.std.specs.FinMap.{get-empty}
 use Rattle.std.proofs.lemmas.Bool.{cond_both}
 use Rattle.std.proofs.lemmas.Option.{none-some}
 use Rattle.its_types.specs.Bits.{bit_of}
-use Rattle.its_types.specs.Maps.{Maps, device_of, devices_emptied}
-use Rattle.gits_regs.specs.Registers.{Registers, Written, write_reg, write_64, write_word, write_ctlr, write_cbaser, write_cwriter, write_baser0, write_baser1, unchanged, kept_cbaser, kept_baser0, kept_baser1, kept_offset, has_bases, is_same_queue, queue_size}
+use Rattle.its_types.specs.Maps.{Maps, devices_emptied}
+use Rattle.gits_regs.specs.Registers.{Registers, Written, write_reg, write_64, write_word, write_ctlr, write_cbaser, write_cwriter, write_baser0, write_baser1, unchanged, kept_cbaser, kept_offset, has_bases, is_same_queue, queue_size}
 use Rattle.its_plain.specs.Answer.{emptied}
 use Rattle.script_gen.proofs.Invariant.{AreRegisters, AreDevices, IsWrite}
 use Rattle.script_gen.proofs.Invariant.IsWrite.{ctlr, cbaser, cwriter, baser0, baser1}

@@ -1,5 +1,5 @@
 -- The machine of a generated script: four virtual processors, and one window of memory that has every table.
-use Rattle.std.specs.Prelude.{ℕ, List, [], ◌∷◌, None}
+use Rattle.std.specs.Prelude.{ℕ, [], ◌∷◌, None}
 use Rattle.its_types.specs.declared.ids.Addr.{Addr}
 use Rattle.its_types.specs.declared.machine.Profile.TheVariants.{One}
 use Rattle.its_types.specs.declared.machine.Shape.{Shape}

@@ -1,5 +1,5 @@
 -- What a run of a generated script rests on: its machine is made, no leg has too many calls, and the machine can migrate.
-use Rattle.std.specs.Prelude.{◌≡◌, ◌<◌, ◌≤◌, ℕ, List, length, sum_by}
+use Rattle.std.specs.Prelude.{◌<◌, ◌≤◌, ℕ, List, length, sum_by}
 use Rattle.std.specs.List.{AllByRecursion}
 use Rattle.its_plain.specs.Described.{IsFirstState, IsRefused}
 use Rattle.its_plain.specs.History.{after}

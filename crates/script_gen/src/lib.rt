@@ -9,6 +9,8 @@ mod generator;
 mod laws;
 mod queue;
 mod summary;
+#[cfg(test)]
+mod tests;
 
 pub use counts::Counts;
 pub use generator::generate;
