@@ -53,7 +53,8 @@ signalled u (Dropped cause) = itself u
 
 -- ---- writes of registers
 
-kept_written : (n : ℕ) (u : Plain) (off size value : ℕ) → IsKept n u → IsWrite off size value → IsSound (written u 0 off size value) → IsKept n (written u 0 off size value)
+kept_written : (n : ℕ) (u : Plain) (off size value : ℕ) → IsKept n u → IsWrite off size value → IsSound (written u 0 off size value)
+    → IsKept n (written u 0 off size value)
 unfolding written
 kept_written n u off size value h is sound =
     let w = write_reg (regs_of u 0) off size value in
@@ -71,7 +72,8 @@ kept_written n u off size value h is sound =
 
 -- ---- commands written to the queue
 
-kept_memory : (n : ℕ) (u : Plain) (memory : List Window) → IsKept n u → map extent memory ≡ extents → IsQueue n memory → IsSound (record u { memory = memory }) → IsKept n (record u { memory = memory })
+kept_memory : (n : ℕ) (u : Plain) (memory : List Window) → IsKept n u → map extent memory ≡ extents → IsQueue n memory
+    → IsSound (record u { memory = memory }) → IsKept n (record u { memory = memory })
 kept_memory n u memory h windows queue sound = record {
   sound = sound;
   layout = h.layout;
@@ -82,7 +84,8 @@ kept_memory n u memory h windows queue sound = record {
   queue = queue;
 }
 
-same_place : (n : ℕ) (memory now : List Window) (address : ℕ) (put : List ℕ) (bytes : List ℕ) → write_at memory address put ≡ Some now → length put ≡ 32 → IsAllowed n (decoded put)
+same_place : (n : ℕ) (memory now : List Window) (address : ℕ) (put : List ℕ) (bytes : List ℕ) → write_at memory address put ≡ Some now → length put ≡ 32
+    → IsAllowed n (decoded put)
     → read_at now address 32 ≡ Some bytes → IsAllowed n (decoded bytes)
 same_place n memory now address put bytes wrote count allowed read =
     let again : read_at now address (length put) ≡ Some put = read_at-write_at_same memory address put now wrote in
@@ -96,7 +99,8 @@ places_apart j k apart =
       | inr after ↦ let less : k < j = omega (arith, apart) in inr (omega arith)
     ]
 
-queue_written : (n : ℕ) (memory now : List Window) (address : ℕ) (put : List ℕ) → IsPut n address put → write_at memory address put ≡ Some now → IsQueue n memory → IsQueue n now
+queue_written : (n : ℕ) (memory now : List Window) (address : ℕ) (put : List ℕ) → IsPut n address put → write_at memory address put ≡ Some now
+    → IsQueue n memory → IsQueue n now
 queue_written n memory now address put is wrote h k bytes low read =
     elim (cases_eq is.place k) [
       | inl same ↦
@@ -109,7 +113,8 @@ queue_written n memory now address put is wrote h k bytes low read =
           h k bytes low (sym (read_at-write_at_apart memory address put now (queue + 32 * k) 32 wrote apart) ∙ read)
     ]
 
-kept_put : (n : ℕ) (u : Plain) (address : ℕ) (bytes : List ℕ) (o : Option (List Window)) → write_at u.memory address bytes ≡ o → IsKept n u → IsPut n address bytes
+kept_put : (n : ℕ) (u : Plain) (address : ℕ) (bytes : List ℕ) (o : Option (List Window)) → write_at u.memory address bytes ≡ o → IsKept n u
+    → IsPut n address bytes
     → IsSound (record u { memory = unwrap_or o u.memory }) → IsKept n (record u { memory = unwrap_or o u.memory })
 kept_put n u address bytes None wrote h is sound = h
 kept_put n u address bytes (Some now) wrote h is sound =
@@ -170,7 +175,8 @@ profile_is : description.shape.profile ≡ One
 unfolding description
 profile_is = refl
 
-met_kept : (n : ℕ) (u : Plain) (next : Option (List ℕ)) → next_bytes u 0 ≡ next → (regs_of u 0).enabled ≡ true → IsKept n u → IsSound (met_left u 0 next) → IsKept n (met_left u 0 next)
+met_kept : (n : ℕ) (u : Plain) (next : Option (List ℕ)) → next_bytes u 0 ≡ next → (regs_of u 0).enabled ≡ true → IsKept n u → IsSound (met_left u 0 next)
+    → IsKept n (met_left u 0 next)
 met_kept n u None is on h sound = h
 met_kept n u (Some bytes) is on h sound =
     let c = decoded bytes in

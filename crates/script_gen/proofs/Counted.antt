@@ -35,7 +35,8 @@ room_after more c r n h =
     let b4 = bit_below (is_step c && has_run r) in
     record { signals = omega arith; delivered = omega arith; commands = omega arith; ran = omega arith }
 
-pub room_after_list : (phase thread more : ℕ) (cs : List Call) (rs : List (Placed Reply)) (n : Counts) → HasRoomFor (length (thread_lines phase thread cs rs) + more) n
+pub room_after_list : (phase thread more : ℕ) (cs : List Call) (rs : List (Placed Reply)) (n : Counts)
+    → HasRoomFor (length (thread_lines phase thread cs rs) + more) n
     → HasRoomFor more (with_replies cs rs n)
 room_after_list phase thread more [] rs n h = less_room (0 + more) more n (omega arith) h
 room_after_list phase thread more (c ∷ cs) [] n h = less_room (0 + more) more n (omega arith) h
@@ -60,7 +61,8 @@ pub record IsCounted (lists : List ThreadList) (i : ℕ) (all n : Counts) : Type
   pub room : HasRoomFor (length (all_lines (drop i lists))) n
   pub counts : with_lists (drop i lists) n ≡ all
 
-pub next_counted : (lists : List ThreadList) (i : ℕ) (l : ThreadList) (all n now : Counts) → i < length lists → l ≡ get_or lists i l → now ≡ with_replies l.calls.now l.replies n
+pub next_counted : (lists : List ThreadList) (i : ℕ) (l : ThreadList) (all n now : Counts) → i < length lists → l ≡ get_or lists i l
+    → now ≡ with_replies l.calls.now l.replies n
     → IsCounted lists i all n → IsCounted lists (i + 1) all now
 next_counted lists i l all n now within is made h =
     let rest : List ThreadList = drop (i + 1) lists in

@@ -28,7 +28,8 @@ module _ (P : Call → Type 0) where
   one_more pass count e first rest within =
       elim (cases_eq e.pass pass) [ inl same ↦ first same | inr other ↦ let low = within.0 in let high = within.1 in rest (omega (arith, other), omega arith) ]
 
-  both : (pass count : ℕ) (h : List Entry) → AllByRecursion (OfPass pass) h → AllByRecursion (OfPasses (suc pass) count) h → AllByRecursion (OfPasses pass (suc count)) h
+  both : (pass count : ℕ) (h : List Entry) → AllByRecursion (OfPass pass) h → AllByRecursion (OfPasses (suc pass) count) h
+      → AllByRecursion (OfPasses pass (suc count)) h
   both pass count [] first rest = tt
   both pass count (e ∷ h) first rest = (one_more pass count e first.0 rest.0, both pass count h first.1 rest.1)
 
@@ -36,16 +37,19 @@ module _ (P : Call → Type 0) where
   none pass [] = tt
   none pass (e ∷ h) = (λ within. let low = within.0 in let high = within.1 in absurd (omega arith), none pass h)
 
-  of_threads : (pass : ℕ) (threads : Phase) (h : List Entry) → HasCalls pass threads h → AllByRecursion (λ calls. AllByRecursion P calls) threads → AllByRecursion (OfPasses pass (length threads)) h
+  of_threads : (pass : ℕ) (threads : Phase) (h : List Entry) → HasCalls pass threads h → AllByRecursion (λ calls. AllByRecursion P calls) threads
+      → AllByRecursion (OfPasses pass (length threads)) h
   of_threads pass [] h has all = none pass h
   of_threads pass (calls ∷ threads) h has all =
       both pass (length threads) h (of_pass pass h (subst (AllByRecursion P) (sym has.0) all.0)) (of_threads (suc pass) threads h has.1 all.1)
 
-  within_passes : (pass count : ℕ) (h : List Entry) → AllByRecursion (IsOfPasses pass count) h → AllByRecursion (OfPasses pass count) h → AllByRecursion (λ (e : Entry). P e.call) h
+  within_passes : (pass count : ℕ) (h : List Entry) → AllByRecursion (IsOfPasses pass count) h → AllByRecursion (OfPasses pass count) h
+      → AllByRecursion (λ (e : Entry). P e.call) h
   within_passes pass count [] only all = tt
   within_passes pass count (e ∷ h) only all = (all.0 only.0, within_passes pass count h only.1 all.1)
 
-  pub of_leg : (pass : ℕ) (leg : Leg) (h : List Entry) → ArePhases pass leg h → AllByRecursion (λ threads. AllByRecursion (λ calls. AllByRecursion P calls) threads) leg
+  pub of_leg : (pass : ℕ) (leg : Leg) (h : List Entry) → ArePhases pass leg h
+      → AllByRecursion (λ threads. AllByRecursion (λ calls. AllByRecursion P calls) threads) leg
       → AllByRecursion (λ (e : Entry). P e.call) h
   of_leg pass [] h is all = subst (AllByRecursion (λ (e : Entry). P e.call)) (sym is) tt
   of_leg pass (threads ∷ leg) h (now, rest, split, phase, phases) all =

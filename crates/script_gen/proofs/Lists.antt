@@ -16,7 +16,8 @@ pub all_map : {X Y : Type 0} (P : Y → Type 0) (f : X → Y) (xs : List X) → 
 all_map P f [] h = tt
 all_map P f (x ∷ xs) h = (h.0, all_map P f xs h.1)
 
-pub all_flat_map : {X Y : Type 0} (P : Y → Type 0) (f : X → List Y) (xs : List X) → AllByRecursion (λ x. AllByRecursion P (f x)) xs → AllByRecursion P (flat_map f xs)
+pub all_flat_map : {X Y : Type 0} (P : Y → Type 0) (f : X → List Y) (xs : List X) → AllByRecursion (λ x. AllByRecursion P (f x)) xs
+    → AllByRecursion P (flat_map f xs)
 all_flat_map P f [] h = tt
 all_flat_map P f (x ∷ xs) h = all_append P (f x) (flat_map f xs) h.0 (all_flat_map P f xs h.1)
 
@@ -43,7 +44,8 @@ pub pieces_none : {Y : Type 0} (f : ℕ → List Y) (now front all : List Y) (n 
 pieces_none f now front all n same whole = ap (λ ns. now ++ flat_map f ns) (range_from_1 n) ∙ ap (λ xs. xs ++ flat_map f (range_with_len 1 n)) same ∙ sym whole
 
 -- and goes on
-pub pieces_more : {Y : Type 0} (f : ℕ → List Y) (now before all : List Y) (a b : ℕ) → a < b → now ≡ before ++ f a → before ++ flat_map f (range_with_len a (b - a)) ≡ all
+pub pieces_more : {Y : Type 0} (f : ℕ → List Y) (now before all : List Y) (a b : ℕ) → a < b → now ≡ before ++ f a
+    → before ++ flat_map f (range_with_len a (b - a)) ≡ all
     → now ++ flat_map f (range_with_len (a + 1) (b - (a + 1))) ≡ all
 pieces_more f now before all a b lt one h =
     let rest = flat_map f (range_with_len (a + 1) (b - (a + 1))) in
@@ -59,7 +61,8 @@ pub items_none : {Y : Type 0} (f : ℕ → Y) (n : ℕ) → map f (range_with_le
 items_none f n = ap (map f) (range_from_1 n)
 
 -- and goes on
-pub items_more : {Y : Type 0} (f : ℕ → Y) (now before all : List Y) (x : Y) (a b : ℕ) → a < b → x ≡ f a → now ≡ before ++ x ∷ [] → before ++ map f (range_with_len a (b - a)) ≡ all
+pub items_more : {Y : Type 0} (f : ℕ → Y) (now before all : List Y) (x : Y) (a b : ℕ) → a < b → x ≡ f a → now ≡ before ++ x ∷ []
+    → before ++ map f (range_with_len a (b - a)) ≡ all
     → now ++ map f (range_with_len (a + 1) (b - (a + 1))) ≡ all
 items_more f now before all x a b lt is one h =
     let rest = map f (range_with_len (a + 1) (b - (a + 1))) in

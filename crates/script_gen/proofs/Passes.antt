@@ -63,7 +63,8 @@ module _ (p : Call → Reply → Bool) (q : List ℕ → Bool) (told : IsTold p 
   weight e = bit (p e.call e.reply)
 
   module _ (seat : ℕ → Seat) where
-    of_pass : (pass n : ℕ) (e : Entry) (h : List Entry) → e.pass ≡ pass → lines_telling (pass_lines seat pass n (e ∷ h)) ≡ weight e + lines_telling (pass_lines seat pass (suc n) h)
+    of_pass : (pass n : ℕ) (e : Entry) (h : List Entry) → e.pass ≡ pass
+        → lines_telling (pass_lines seat pass n (e ∷ h)) ≡ weight e + lines_telling (pass_lines seat pass (suc n) h)
     of_pass pass n e h same =
         let told_here = ap bit (told.same e.call e.reply) in
         cond_both (eqb e.pass pass) (entry_line seat n e ∷ pass_lines seat pass (suc n) h) (pass_lines seat pass (suc n) h)
@@ -71,7 +72,8 @@ module _ (p : Call → Reply → Bool) (q : List ℕ → Bool) (told : IsTold p 
         (λ _. omega arith)
         (λ other. absurd (eqb-false e.pass pass other same))
 
-    not_of_pass : (pass n : ℕ) (e : Entry) (h : List Entry) → (e.pass ≡ pass → ⊥) → lines_telling (pass_lines seat pass n (e ∷ h)) ≡ lines_telling (pass_lines seat pass (suc n) h)
+    not_of_pass : (pass n : ℕ) (e : Entry) (h : List Entry) → (e.pass ≡ pass → ⊥)
+        → lines_telling (pass_lines seat pass n (e ∷ h)) ≡ lines_telling (pass_lines seat pass (suc n) h)
     not_of_pass pass n e h other =
         cond_both (eqb e.pass pass) (entry_line seat n e ∷ pass_lines seat pass (suc n) h) (pass_lines seat pass (suc n) h)
         (λ lines. lines_telling lines ≡ lines_telling (pass_lines seat pass (suc n) h))
@@ -79,10 +81,12 @@ module _ (p : Call → Reply → Bool) (q : List ℕ → Bool) (told : IsTold p 
         (λ _. refl)
 
     -- those of a number of passes
-    parts : (m count n : ℕ) (h : List Entry) → lines_telling (passes_lines seat m (suc count) n h) ≡ lines_telling (pass_lines seat m n h) + lines_telling (passes_lines seat (suc m) count n h)
+    parts : (m count n : ℕ) (h : List Entry)
+        → lines_telling (passes_lines seat m (suc count) n h) ≡ lines_telling (pass_lines seat m n h) + lines_telling (passes_lines seat (suc m) count n h)
     parts m count n h = telling-append (pass_lines seat m n h) (passes_lines seat (suc m) count n h)
 
-    before : (m count n : ℕ) (e : Entry) (h : List Entry) → e.pass < m → lines_telling (passes_lines seat m count n (e ∷ h)) ≡ lines_telling (passes_lines seat m count (suc n) h)
+    before : (m count n : ℕ) (e : Entry) (h : List Entry) → e.pass < m
+        → lines_telling (passes_lines seat m count n (e ∷ h)) ≡ lines_telling (passes_lines seat m count (suc n) h)
     before m zero n e h lt = refl
     before m (suc count) n e h lt =
         let first = not_of_pass m n e h (λ same. omega arith) in
@@ -143,7 +147,8 @@ module _ (p : Call → Reply → Bool) (q : List ℕ → Bool) (told : IsTold p 
         omega arith
 
     -- lists with the lines of all passes have the history's count
-    counted : (seat : ℕ → Seat) (m count n : ℕ) (h : List Entry) (lists : List ThreadList) → f none ≡ 0 → AllByRecursion (IsOfPasses m count) h → all_lines lists ≡ passes_lines seat m count n h
+    counted : (seat : ℕ → Seat) (m count n : ℕ) (h : List Entry) (lists : List ThreadList) → f none ≡ 0 → AllByRecursion (IsOfPasses m count) h
+        → all_lines lists ≡ passes_lines seat m count n h
         → f (with_lists lists none) ≡ count_by (λ (e : Entry). p e.call e.reply) h
     counted seat m count n h lists zero_first all same =
         let made = lists_counted lists none in

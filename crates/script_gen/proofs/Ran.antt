@@ -28,7 +28,8 @@ use Rattle.script_gen.proofs.Invariant.{IsOwn, IsAllowed, AreDevices}
 
 -- ---- a command's steps
 
-passed : {B : Type 0} (P : B → Type 0) (test : Bool) (reason : Reason) (f : Unit {0} → Result B Reason) → (test ≡ true → IfOk (f tt) P) → IfOk (ensure test reason >>= f) P
+passed : {B : Type 0} (P : B → Type 0) (test : Bool) (reason : Reason) (f : Unit {0} → Result B Reason) → (test ≡ true → IfOk (f tt) P)
+    → IfOk (ensure test reason >>= f) P
 passed P true reason f h = h refl
 passed P false reason f h = tt
 

@@ -28,7 +28,8 @@ use Rattle.script_gen.proofs.Tables.{IsGroup, device_group, collection_group, qu
 -- ---- groups one after another
 
 -- tables lie in memory
-lies_inside : (memory : List Window) (low high : ℕ) (areas : List Area) → map extent memory ≡ extents → 0x80000000 ≤ low → high ≤ 0x80200000 → AllLie low high areas
+lies_inside : (memory : List Window) (low high : ℕ) (areas : List Area) → map extent memory ≡ extents → 0x80000000 ≤ low → high ≤ 0x80200000
+    → AllLie low high areas
     → AllByRecursion (λ a. is_outside memory a ≡ false) areas
 lies_inside memory low high areas one starts ends lie =
     all_weaker (Lies low high) (λ a. is_outside memory a ≡ false) (λ a lies.

@@ -61,7 +61,8 @@ apart_from low high a b (inl after) lies = let end = lies.below in inr (omega ar
 apart_from low high a b (inr before) lies = let start = lies.above in inl (omega arith)
 
 -- a group after areas that are out of it
-pub with_group : (low high : ℕ) (areas group : List Area) → AreOutOf low high areas → AreSpread areas → AllLie low high group → AreSpread group → AreSpread (areas ++ group)
+pub with_group : (low high : ℕ) (areas group : List Area) → AreOutOf low high areas → AreSpread areas → AllLie low high group → AreSpread group
+    → AreSpread (areas ++ group)
 with_group low high [] group out spread lie apart = apart
 with_group low high (a ∷ areas) group out spread lie apart = (
   all_append (AreApart a) areas group spread.0 (all_weaker (Lies low high) (AreApart a) (λ b. apart_from low high a b out.0) group lie),

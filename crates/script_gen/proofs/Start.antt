@@ -126,7 +126,8 @@ passed : {B : Type 0} (P : B → Type 0) (test : Bool) (fault : DescFault) (f : 
 passed P true fault f h = h
 passed P false fault f h = tt
 
-then_ok : {A B : Type 0} (Q : A → Type 0) (P : B → Type 0) (r : Result A DescFault) (f : A → Result B DescFault) → IfOk r Q → ((x : A) → Q x → IfOk (f x) P) → IfOk (r >>= f) P
+then_ok : {A B : Type 0} (Q : A → Type 0) (P : B → Type 0) (r : Result A DescFault) (f : A → Result B DescFault) → IfOk r Q
+    → ((x : A) → Q x → IfOk (f x) P) → IfOk (r >>= f) P
 then_ok Q P (Ok x) f q h = h x q
 then_ok Q P (Err e) f q h = tt
 

@@ -39,7 +39,8 @@ one_group low high a above below = record { lie = (record { above = above; below
 
 -- ---- tables that registers give
 
-pub device_group : (r : Registers) (memory : List Window) → r.dev_bits ≡ 16 → IsEither 0x0107000000000200 0x8107000080000200 r.baser0 → IsGroup 0x80000000 0x80010000 (device_areas r memory)
+pub device_group : (r : Registers) (memory : List Window) → r.dev_bits ≡ 16 → IsEither 0x0107000000000200 0x8107000080000200 r.baser0
+    → IsGroup 0x80000000 0x80010000 (device_areas r memory)
 unfolding device_areas
 device_group r memory bits either =
     let P : ℕ → ℕ → Type 0 = λ n base. IsGroup 0x80000000 0x80010000 (cond (not (is_valid base)) []
@@ -76,7 +77,8 @@ queue_group r either =
 abbrev OwnEntry : ℕ → ℕ × Device → Type 0
 OwnEntry n e = IsOwn n e.0 e.1.bits e.1.itt.0
 
-own_entries : (n i : ℕ) (es : List (ℕ × Device)) → RisesFrom i es → ((k : ℕ) (d : Device) → i ≤ k → finmap.find nat_cmp k es ≡ Some d → IsOwn n k d.bits d.itt.0) → AllByRecursion (OwnEntry n) es
+own_entries : (n i : ℕ) (es : List (ℕ × Device)) → RisesFrom i es
+    → ((k : ℕ) (d : Device) → i ≤ k → finmap.find nat_cmp k es ≡ Some d → IsOwn n k d.bits d.itt.0) → AllByRecursion (OwnEntry n) es
 own_entries n i [] rises h = tt
 own_entries n i (e ∷ es) rises h = (
   h e.0 e.1 rises.0 (find_here e.0 e es refl),
@@ -94,7 +96,8 @@ itt_lies n e own =
     let first = own.first in
     record { above = omega arith; below = omega arith }
 
-itts_lie : (n i : ℕ) (es : List (ℕ × Device)) → n ≤ 63 → RisesFrom i es → AllByRecursion (OwnEntry n) es → AllLie (itts_from i) 0x800C8000 (flat_map (λ d. itt_area d ∷ []) es)
+itts_lie : (n i : ℕ) (es : List (ℕ × Device)) → n ≤ 63 → RisesFrom i es → AllByRecursion (OwnEntry n) es
+    → AllLie (itts_from i) 0x800C8000 (flat_map (λ d. itt_area d ∷ []) es)
 itts_lie n i [] most rises own = tt
 itts_lie n i (e ∷ es) most rises own =
     let here = itt_lies n e own.0 in
@@ -126,7 +129,8 @@ itt_group n m most devices =
 -- ---- tables that the description gives
 
 -- where the tables of each redistributor stand
-pub bases_listed : (rs : List Redistributor) (bs : List Bases) → length rs ≡ length bs → ((v : ℕ) (r : Redistributor) → slice_get rs v ≡ Some r → slice_get bs v ≡ Some r.bases) → map (λ r. r.bases) rs ≡ bs
+pub bases_listed : (rs : List Redistributor) (bs : List Bases) → length rs ≡ length bs
+    → ((v : ℕ) (r : Redistributor) → slice_get rs v ≡ Some r → slice_get bs v ≡ Some r.bases) → map (λ r. r.bases) rs ≡ bs
 bases_listed [] [] count h = refl
 bases_listed [] (b ∷ bs) count h = absurd (omega arith)
 bases_listed (r ∷ rs) [] count h = absurd (omega arith)
@@ -138,7 +142,8 @@ bases_listed (r ∷ rs) (b ∷ bs) count h =
 abbrev idle : Bases → Redistributor
 idle b = record { bases = b; pending = []; config = [] }
 
-pending_by_bases : (v : ℕ) (rs : List Redistributor) → areas_from (pending_area shape) v rs ≡ areas_from (pending_area shape) v (map idle (map (λ r. r.bases) rs))
+pending_by_bases : (v : ℕ) (rs : List Redistributor)
+    → areas_from (pending_area shape) v rs ≡ areas_from (pending_area shape) v (map idle (map (λ r. r.bases) rs))
 pending_by_bases v [] = refl
 pending_by_bases v (r ∷ rs) = ap (λ areas. pending_area shape v r ++ areas) (pending_by_bases (suc v) rs)
 
@@ -154,7 +159,8 @@ four_apart = record {
   );
 }
 
-pub pending_group : (rs : List Redistributor) → map (λ r. r.bases) rs ≡ described_in tables → IsGroup 0x80040000 0x80080000 (areas_from (pending_area shape) 0 rs)
+pub pending_group : (rs : List Redistributor) → map (λ r. r.bases) rs ≡ described_in tables
+    → IsGroup 0x80040000 0x80080000 (areas_from (pending_area shape) 0 rs)
 pending_group rs bases =
     subst (IsGroup 0x80040000 0x80080000) (sym (pending_by_bases 0 rs ∙ ap (λ bs. areas_from (pending_area shape) 0 (map idle bs)) bases)) four_apart
 

@@ -37,9 +37,10 @@ call_count phases = sum_by (λ threads. sum_by (λ calls. length calls) threads)
 
 -- each leg has fewer calls than a history has places
 abbrev pub HasRoom : Type 0
-HasRoom = (signals threads : ℕ) → IsAsked signals threads → AllByRecursion (λ leg. call_count leg < description.limits.place_last) (generated signals threads).legs
+HasRoom = (signals threads : ℕ) → IsAsked signals threads
+    → AllByRecursion (λ leg. call_count leg < description.limits.place_last) (generated signals threads).legs
 
 -- the state that the first leg leaves can be saved, however the calls of its threads follow one another
 abbrev pub CanMigrate : Type 0
-CanMigrate = (signals threads : ℕ) → IsAsked signals threads → (first : Plain) (h : List Entry) → IsFirstState description first → IsLegRun first (first_leg signals threads) h
-    → IsSavable (after first h)
+CanMigrate = (signals threads : ℕ) → IsAsked signals threads → (first : Plain) (h : List Entry)
+    → IsFirstState description first → IsLegRun first (first_leg signals threads) h → IsSavable (after first h)

@@ -74,15 +74,15 @@ pub record HasRoomFor (more : ℕ) (n : Counts) : Type 0 where
   pub commands : n.commands + more < 2 ^ 64
   pub ran : n.ran + more < 2 ^ 64
 
--- the passes of a history, of which each made the calls of a list: lists with just these lines have the history's counts
+-- lists that have just the lines of a history's passes have the history's counts
 abbrev pub ListsTellCounts : Type 0
-ListsTellCounts = (seat : ℕ → Seat) (pass count place : ℕ) (h : List Entry) (lists : List ThreadList) → AllByRecursion (IsOfPasses pass count) h
-    → all_lines lists ≡ passes_lines seat pass count place h → with_lists lists none ≡ counts_of h
+ListsTellCounts = (seat : ℕ → Seat) (pass count place : ℕ) (h : List Entry) (lists : List ThreadList)
+    → AllByRecursion (IsOfPasses pass count) h → all_lines lists ≡ passes_lines seat pass count place h → with_lists lists none ≡ counts_of h
 
 -- and as many lines as the history has entries
 abbrev pub ListsTellLength : Type 0
-ListsTellLength = (seat : ℕ → Seat) (pass count place : ℕ) (h : List Entry) (lists : List ThreadList) → AllByRecursion (IsOfPasses pass count) h
-    → all_lines lists ≡ passes_lines seat pass count place h → length (all_lines lists) ≡ length h
+ListsTellLength = (seat : ℕ → Seat) (pass count place : ℕ) (h : List Entry) (lists : List ThreadList)
+    → AllByRecursion (IsOfPasses pass count) h → all_lines lists ≡ passes_lines seat pass count place h → length (all_lines lists) ≡ length h
 
 -- ---- text
 
@@ -96,8 +96,8 @@ vcpu_lines vcpu (count ∷ counts) = vcpu_line vcpu count ++ vcpu_lines (vcpu + 
 
 unfoldable pub counts_text : Counts → List ℕ
 counts_text n =
-    codes "signals " ++ decimal n.signals ++ codes " delivered " ++ decimal n.delivered ++ codes "\ncommands " ++ decimal n.commands ++ codes " ran " ++ decimal n.ran
-    ++ codes "\n"
+    codes "signals " ++ decimal n.signals ++ codes " delivered " ++ decimal n.delivered
+    ++ codes "\ncommands " ++ decimal n.commands ++ codes " ran " ++ decimal n.ran ++ codes "\n"
 
 -- of a run with one migration
 unfoldable pub summary : Counts → List ℕ → List ℕ

@@ -23,7 +23,8 @@ pub fn summary_text(alloc: Global, counts: &Counts, pending: &[u64]) -> Result<S
 
 #[tactic(auto, unfolding(crate::specs::Summary::counts_text))]
 fn push_counts(out: &mut String, counts: &Counts) -> Result<(), AllocError>
-    ensures { OnOk result (string_bytes out.new ≡ string_bytes out.old ++ spec.counts_text counts.now) }
+    ensures { OnOk result (string_bytes out.new
+        ≡ string_bytes out.old ++ spec.counts_text counts.now) }
 {
     let Counts {
         signals,
@@ -38,7 +39,8 @@ fn push_counts(out: &mut String, counts: &Counts) -> Result<(), AllocError>
 }
 
 fn push_vcpu(out: &mut String, vcpu: usize, count: u64) -> Result<(), AllocError>
-    ensures { OnOk result (string_bytes out.new ≡ string_bytes out.old ++ spec.vcpu_line vcpu count) }
+    ensures { OnOk result (string_bytes out.new
+        ≡ string_bytes out.old ++ spec.vcpu_line vcpu count) }
 {
     write!(out, "vcpu {vcpu} pending {count}\n")
 }
