@@ -15,7 +15,7 @@ use Rattle.event_script.specs.Limits.{is_call, is_thread, is_phase, is_leg}
 use Rattle.script_gen.specs.Description.{description}
 use Rattle.script_gen.specs.Commands.{setup_commands, move_commands}
 use Rattle.script_gen.specs.Generated.{queued, offset_of, signal_call, setup_count, setup_phase, signal_phase, setup_thread, signal_thread, move_thread, first_leg}
-use Rattle.script_gen.specs.Laws.{IsAScript}
+use Rattle.script_gen.specs.Laws.{StaysWithinLimits}
 use Rattle.script_gen.proofs.Given.{length-encoded}
 use Rattle.script_gen.proofs.Lengths.{setup_thread_length, signal_thread_length, move_thread_length}
 use Rattle.script_gen.proofs.Lists.{all_append, all_map, all_range, list_all_true}
@@ -102,7 +102,7 @@ pub description_is : IsDescription description
 unfolding description
 description_is = record { shape = shape_is; tables = refl }
 
-pub within : IsAScript
+pub within : StaysWithinLimits
 unfolding description
 within signals threads asked = record {
   description = description_is;

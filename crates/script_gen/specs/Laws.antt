@@ -28,8 +28,8 @@ abbrev pub IsNeverRefused : Type 0
 IsNeverRefused = (f : DescFault) → IsRefused description f → ⊥
 
 -- the script has no more of anything than a script may have
-abbrev pub IsAScript : Type 0
-IsAScript = (signals threads : ℕ) → IsAsked signals threads → IsWithinLimits (generated signals threads)
+abbrev pub StaysWithinLimits : Type 0
+StaysWithinLimits = (signals threads : ℕ) → IsAsked signals threads → IsWithinLimits (generated signals threads)
 
 -- how many calls the threads of a leg have
 abbrev pub call_count : Leg → ℕ

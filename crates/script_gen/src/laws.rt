@@ -14,8 +14,8 @@ pub fn is_never_refused()
 
 /// The script has no more of anything than a script may have, and each field of its calls is in its
 /// range.
-pub fn is_a_script()
-    ensures { laws.IsAScript }
+pub fn stays_within_limits()
+    ensures { laws.StaysWithinLimits }
 {}
 
 /// Each leg has fewer calls than a history has places.

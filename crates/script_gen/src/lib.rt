@@ -15,7 +15,7 @@ mod tests;
 pub use counts::Counts;
 pub use generator::generate;
 pub use laws::{
-    can_migrate, has_room, is_a_script, is_never_refused, lists_tell_counts, lists_tell_length,
-    makes_machine,
+    can_migrate, has_room, is_never_refused, lists_tell_counts, lists_tell_length, makes_machine,
+    stays_within_limits,
 };
 pub use summary::summary_text;
