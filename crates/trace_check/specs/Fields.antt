@@ -1,0 +1,20 @@
+-- How the program's cursor shows how far the calls of a leg are answered.
+use Rattle.std.specs.Prelude.{◌≡◌, ◌<◌, ℕ, ◌+◌, ◌^◌, length, Option}
+use Rattle.its_plain.specs.declared.call.Call.{Call}
+use Rattle.trace_check.specs.Cursors.{Progress, at, threads_of, call_of, open_count}
+use Rattle.trace_check.specs.declared.cursor.Cursor.{Cursor}
+use Rattle.trace_check.specs.declared.cursor.Next.{Next}
+
+abbrev pub progress : Cursor → Progress
+progress c = at c.number c.phases.now c.answered.items
+
+abbrev pub call_in : Cursor → ℕ → Option Call
+call_in c i = call_of (threads_of c.phases.now) c.answered.items i
+
+abbrev pub next_in : Next → ℕ × Call
+next_in n = (n.thread, n.call.now)
+
+pub record IsCounted (c : Cursor) : Type 0 where
+  pub answered : length c.answered.items ≡ length (threads_of c.phases.now)
+  pub open : c.open ≡ open_count (threads_of c.phases.now) c.answered.items
+  pub number : c.number + length c.phases.now < 2 ^ 64
