@@ -16,5 +16,5 @@ next_in n = (n.thread, n.call.now)
 
 pub record IsCounted (c : Cursor) : Type 0 where
   pub answered : length c.answered.items ≡ length (threads_of c.phases.now)
-  pub open : c.open ≡ open_count (threads_of c.phases.now) c.answered.items
+  pub open_is : c.open_threads ≡ open_count (threads_of c.phases.now) c.answered.items
   pub number : c.number + length c.phases.now < 2 ^ 64

@@ -58,7 +58,7 @@ pub record AreEntries (first : Plain) (leg : Leg) (entries : List EntryLine) (no
 
 -- and so is what is pending
 pub record IsLegRight (first : Plain) (leg : Leg) (entries : List EntryLine) (pending : List (List ℕ)) (now : Plain) : Type 0 where
-  pub entries : AreEntries first leg entries now
+  pub are_entries : AreEntries first leg entries now
   pub pending_is : pending ≡ pending_texts now
 
 -- ---- lines that aren't right
@@ -79,7 +79,7 @@ pub record IsOtherPending (u : Plain) (told : List (List ℕ)) (said is : List �
 -- the entries of a leg, whatever else it has
 pub record EntriesDiffer (n : ℕ) (first : Plain) (leg : Leg) (entries : List EntryLine) (d : Difference) : Type 0 where
   pub leg_is : d.leg ≡ n
-  pub entries : (told : LegLines) → told.entries ≡ entries → EntryDiffers first leg told d ⊎ EndsEarly first leg told d
+  pub differs : (told : LegLines) → told.entries ≡ entries → EntryDiffers first leg told d ⊎ EndsEarly first leg told d
 
 -- ---- migrations
 

@@ -18,7 +18,7 @@ pub struct Cursor<'a> {
     /// How many calls of each of its threads are answered.
     answered: Vec<usize>,
     /// How many of its threads have calls left.
-    open: usize,
+    open_threads: usize,
 }
 
 /// The next call of a thread.
@@ -47,14 +47,14 @@ impl<'a> Cursor<'a> {
         let mut number = first;
         let mut phases = leg;
         while let [threads, later @ ..] = phases {
-            let open = count_open(threads.as_slice());
-            if open > 0 {
+            let open_threads = count_open(threads.as_slice());
+            if open_threads > 0 {
                 let answered = vec![in alloc; 0; threads.len()]?;
                 return Ok(Cursor {
                     number,
                     phases,
                     answered,
-                    open,
+                    open_threads,
                 });
             }
             number += 1;
@@ -64,7 +64,7 @@ impl<'a> Cursor<'a> {
             number,
             phases,
             answered: Vec::new(alloc),
-            open: 0,
+            open_threads: 0,
         })
     }
 
@@ -132,9 +132,9 @@ impl<'a> Cursor<'a> {
     {
         self.answered[thread] += 1;
         if self.answered[thread] == self.threads()[thread].len() {
-            self.open -= 1;
+            self.open_threads -= 1;
         }
-        if self.open == 0 {
+        if self.open_threads == 0 {
             *self = Cursor::from_phase(alloc, self.number + 1, &self.phases[1..])?;
         }
         Ok(())
