@@ -25,7 +25,7 @@ use Rattle.trace_check.specs.declared.verdict.Difference.{Difference}
 use Rattle.trace_check.proofs.Lists.{head_is, tail_is, legal_front, legal_reply}
 use Rattle.trace_check.proofs.Parts.{part_front, whole_part, leg_over}
 use Rattle.trace_check.proofs.Going.{IsAt, IsSettled, at_first, at_opened, opened_settled, at_taken, settled_settled}
-use Rattle.trace_check.proofs.Next.{HasNext, has_next}
+use Rattle.trace_check.proofs.Following.{HasNext, has_next}
 
 module _ (first : Plain) (leg : Leg) where
   abbrev seats : ℕ → Seat

@@ -2,5 +2,6 @@ pub mod Lists
 pub mod Parts
 pub mod Taken
 pub mod Going
-pub mod Next
+pub mod Following
 pub mod Exact
+pub mod Counting

@@ -49,10 +49,10 @@ none_taken pass (calls ∷ threads) = (refl, omega arith, none_taken (suc pass) 
 
 -- ---- threads that have calls left
 
-one_is : (n m : ℕ) → n < m → one_if n m ≡ 1
+pub one_is : (n m : ℕ) → n < m → one_if n m ≡ 1
 one_is n m lt = ap (λ b. cond b 1 0) (lt-ltb n m lt)
 
-one_not : (n m : ℕ) → m ≤ n → one_if n m ≡ 0
+pub one_not : (n m : ℕ) → m ≤ n → one_if n m ≡ 0
 one_not n m le = ap (λ b. cond b 1 0) (le-ltb n m le)
 
 -- where none has, the phase is whole

@@ -1,5 +1,5 @@
 -- How the program's cursor shows how far the calls of a leg are answered.
-use Rattle.std.specs.Prelude.{◌≡◌, ◌<◌, ℕ, ◌+◌, ◌^◌, length, Option}
+use Rattle.std.specs.Prelude.{◌≡◌, ◌<◌, ℕ, ◌+◌, ◌^◌, [], length, slice_index, slice_index_or, Option}
 use Rattle.its_plain.specs.declared.call.Call.{Call}
 use Rattle.trace_check.specs.Cursors.{Progress, at, threads_of, call_of, open_count}
 use Rattle.trace_check.specs.declared.cursor.Cursor.{Cursor}
@@ -18,3 +18,8 @@ pub record IsCounted (c : Cursor) : Type 0 where
   pub answered : length c.answered.items ≡ length (threads_of c.phases.now)
   pub open_is : c.open_threads ≡ open_count (threads_of c.phases.now) c.answered.items
   pub number : c.number + length c.phases.now < 2 ^ 64
+
+-- the thread has a call left
+pub record HasCall (c : Cursor) (i : ℕ) : Type 0 where
+  pub below : i < length (threads_of c.phases.now)
+  pub left : slice_index c.answered.items i < length (slice_index_or (threads_of c.phases.now) i [])

@@ -1,8 +1,8 @@
 //! How far the calls of a leg are answered.
 ghost use Rattle.std.specs.Prelude.{◌≡◌, ◌<◌, ◌+◌, ◌^◌, ℕ, Some, None, IsSome, IfOk, IfSome, IfNone};
-ghost use Rattle.std.specs.Prelude.{OnOk, length, option_map};
+ghost use Rattle.std.specs.Prelude.{OnOk, ◌==◌, count_by, length, not, option_map};
 ghost use Rattle.trace_check.specs.Cursors as spec;
-ghost use Rattle.trace_check.specs.Fields.{IsCounted, progress, call_in, next_in};
+ghost use Rattle.trace_check.specs.Fields.{IsCounted, HasCall, progress, call_in, next_in};
 
 use event_script::{Phase, Thread};
 use its_plain::Call;
@@ -126,24 +126,38 @@ impl<'a> Cursor<'a> {
     /// Goes on after the next call of a thread, of which the first is 0.
     pub fn take(&mut self, alloc: Global, thread: usize) -> Result<(), AllocError>
         requires counted { IsCounted self.old }
-        requires some { IsSome (call_in self.old thread) }
+        requires call { HasCall self.old thread }
         ensures taken { OnOk result (progress self.new ≡ spec.taken thread (progress self.old)) }
         ensures counted { OnOk result (IsCounted self.new) }
     {
-        self.answered[thread] += 1;
-        if self.answered[thread] == self.threads()[thread].len() {
-            self.open_threads -= 1;
-        }
+        self.count(thread);
         if self.open_threads == 0 {
             *self = Cursor::from_phase(alloc, self.number + 1, &self.phases[1..])?;
         }
         Ok(())
     }
+
+    /// Counts the next call of a thread as answered.
+    fn count(&mut self, thread: usize)
+        requires counted { IsCounted self.old }
+        requires call { HasCall self.old thread }
+        ensures answered { self.new.answered.items ≡ spec.more self.old.answered.items thread }
+        ensures number { self.new.number ≡ self.old.number }
+        ensures phases { self.new.phases ≡ self.old.phases }
+        ensures counted { IsCounted self.new }
+    {
+        let calls = self.threads()[thread].len();
+        let answered = self.answered[thread] + 1;
+        self.answered[thread] = answered;
+        if answered == calls {
+            self.open_threads -= 1;
+        }
+    }
 }
 
 /// How many threads have calls.
 fn count_open(threads: &[Thread]) -> usize
-    ensures { result ≡ spec.open_count threads.now (spec.zeros threads.now) }
+    ensures { result ≡ count_by (λ calls. not (length calls == 0)) threads.now }
 {
     threads.iter().filter(|calls| !calls.is_empty()).count()
 }
