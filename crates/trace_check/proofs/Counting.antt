@@ -9,7 +9,7 @@ use native.Mathlib.Decide.{ℕ_discrete}
 use Rattle.its_plain.specs.Runs.{Thread, Phase, Leg}
 use Rattle.its_plain.specs.declared.call.Call.{Call}
 use Rattle.trace_check.specs.Cursors.{Progress, at, threads_of, later_of, zeros, one_if, open_count, opened, call_of, more}
-use Rattle.trace_check.proofs.Taken.{one_is, one_not}
+use Rattle.trace_check.proofs.Taken.{one_is, one_not, get_within}
 
 -- ---- the next call of a thread
 
@@ -137,3 +137,10 @@ module _ (threads : Phase) (ns : List ℕ) (i n len : ℕ) (calls : Thread) (bel
 pub later_fits : (phases : Leg) → 0 < length phases → suc (length (later_of phases)) ≡ length phases
 later_fits [] some = absurd (omega arith)
 later_fits (x ∷ later) some = refl
+
+-- a thread that has a next call has a call left
+pub has_left : (threads : Phase) (ns : List ℕ) (i : ℕ) (c : Call) → call_of threads ns i ≡ Some c → (i < length threads) × (get_or ns i 0 < length (get_or threads i []))
+has_left [] ns i c e = absurd (cc e)
+has_left (calls ∷ threads) [] i c e = absurd (cc e)
+has_left (calls ∷ threads) (n ∷ ns) zero c e = (omega arith, get_within calls n c e)
+has_left (calls ∷ threads) (n ∷ ns) (suc i) c e = let rest = has_left threads ns i c e in (omega (arith, rest.0), rest.1)

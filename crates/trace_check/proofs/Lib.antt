@@ -5,3 +5,6 @@ pub mod Going
 pub mod Following
 pub mod Exact
 pub mod Counting
+pub mod Entries
+pub mod Texts
+pub mod Checked

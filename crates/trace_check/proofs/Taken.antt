@@ -75,7 +75,7 @@ get_some [] n lt = absurd (omega arith)
 get_some (c ∷ cs) zero lt = (c, refl)
 get_some (c ∷ cs) (suc n) lt = get_some cs n (omega arith)
 
-get_within : (cs : List Call) (n : ℕ) (c : Call) → slice_get cs n ≡ Some c → n < length cs
+pub get_within : (cs : List Call) (n : ℕ) (c : Call) → slice_get cs n ≡ Some c → n < length cs
 get_within [] n c e = absurd (cc e)
 get_within (x ∷ cs) zero c e = omega arith
 get_within (x ∷ cs) (suc n) c e = omega (arith, get_within cs n c e)

@@ -113,6 +113,7 @@ impl<'a> Cursor<'a> {
         requires { IsCounted self.now }
         ensures next { IfSome result (λ n. call_in self.now n.thread ≡ Some n.call.now) }
         ensures least { IfSome result (λ n. (i : ℕ) → i < n.thread → call_in self.now i ≡ None) }
+        ensures fits { IfSome result (λ n. n.thread + 1 < 2 ^ 64) }
         ensures none { IfNone result ((i : ℕ) → call_in self.now i ≡ None) }
     {
         for thread in 0..self.threads().len() {

@@ -1,7 +1,8 @@
 //! One leg of a report.
 ghost use Rattle.std.specs.Prelude.{◌≡◌, IfOk, IfSome, IfNone, length};
 ghost use Rattle.its_plain.specs.Sound.{IsSound};
-ghost use Rattle.trace_check.specs.Differences.{IsHere, LinesDiffer};
+ghost use Rattle.its_history.specs.ReadBack.{ArePlaced};
+ghost use Rattle.trace_check.specs.Differences.{IsHere};
 ghost use Rattle.trace_check.specs.Steps.{AreEntries, EntriesDiffer, IsLegRight};
 
 use crate::cursor::Cursor;
@@ -22,6 +23,7 @@ pub fn check_leg(
     told: &Leg,
 ) -> Result<Option<Difference>, AllocError>
     requires sound { IsSound machine.old }
+    requires placed { ArePlaced 0 told.now.entries }
     requires vcpus { length told.now.pending ≡ length machine.old.redistributors }
     ensures right { IfOk result (λ r.
         IfNone r (IsLegRight machine.old leg.now told.now.entries told.now.pending machine.new)) }
@@ -51,6 +53,7 @@ fn check_entries(
     leg: &[Phase],
     entries: &[EntryLine],
 ) -> Result<Option<Difference>, AllocError>
+    requires { ArePlaced 0 entries.now }
     ensures right { IfOk result (λ r.
         IfNone r (AreEntries machine.old leg.now entries.now machine.new)) }
     ensures wrong { IfOk result (λ r.

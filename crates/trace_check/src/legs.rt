@@ -53,6 +53,7 @@ pub fn check(
 }
 
 /// Migrates the machine after a leg with so many entries, or tells that it can't.
+#[tactic(auto, unfolding(its_history::specs::Texts::reply_text))]
 fn migrate(
     alloc: Global,
     machine: &mut Machine,
