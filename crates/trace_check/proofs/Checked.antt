@@ -1,13 +1,12 @@
 -- The legs of a report, one after another.
-use Rattle.std.proofs.Common.{◌≡◌, ◌≢◌, ◌⊎◌, ℕ, zero, suc, ◌+◌, ◌<◌, ◌≤◌, List, [], ◌∷◌, ◌++◌, length, drop, get_or, map, Option, Some, None, refl, sym, ap, subst, ◌∙◌, inl, inr, arith}
+use Rattle.std.proofs.Common.{◌≡◌, ℕ, zero, suc, ◌+◌, ◌<◌, ◌≤◌, List, [], ◌∷◌, length, drop, get_or, Some, refl, sym, ap, subst, ◌∙◌, inl, inr, arith}
 use Rattle.std.proofs.lemmas.List.{drop_more, drop_all, length-map, length-drop}
-use Rattle.its_types.specs.declared.machine.Shape.{Shape}
-use Rattle.its_plain.specs.Plain.{Plain, Redistributor}
+use Rattle.its_plain.specs.Plain.{Plain}
 use Rattle.its_plain.specs.declared.layout.Layout.{Layout}
 use Rattle.its_plain.specs.Answer.{answer}
 use Rattle.its_plain.specs.History.{after}
 use Rattle.its_plain.specs.Regions.{savable}
-use Rattle.its_plain.specs.Runs.{Leg, IsLegRun, IsRun}
+use Rattle.its_plain.specs.Runs.{Leg, IsLegRun}
 use Rattle.its_plain.specs.Saved.{IsSavable, moved, saved, reloaded}
 use Rattle.its_plain.specs.Sound.{IsSound}
 use Rattle.its_plain.specs.declared.call.Entry.{Entry}
@@ -17,17 +16,17 @@ use Rattle.plain_footprint.proofs.OtherParts.{layout_is}
 use Rattle.its_history.specs.Histories.{Seat, history_lines}
 use Rattle.its_history.specs.ReadBack.{ArePlaced, HasLegShape, HasShape}
 use Rattle.its_history.specs.Reading.{end_of}
-use Rattle.its_history.specs.Reports.{ended, reported}
+use Rattle.its_history.specs.Reports.{ended}
 use Rattle.its_history.specs.declared.trace.End.{End}
 use Rattle.its_history.specs.declared.trace.End.TheVariants.{Migrated, Done}
-use Rattle.its_history.specs.declared.trace.EntryLine.{EntryLine}
 use Rattle.its_history.specs.declared.trace.Leg.{Leg as LegLines}
-use Rattle.trace_check.specs.Differences.{seat, lines, EntryDiffers, EndsEarly, PendingDiffers, CannotMigrate, LinesDiffer, IsRightLeg, IsHere, IsAtEnd, DiffersFrom, pending_texts}
+use Rattle.trace_check.specs.Differences.{seat, IsHere, IsAtEnd, DiffersFrom, pending_texts}
 use Rattle.trace_check.specs.Steps.{AreEntries, EntriesDiffer, IsLegRight, IsOtherPending, IsMigrated, IsFault}
-use Rattle.trace_check.specs.Verdicts.{IsReportOfRun, IsVerdictFrom, IfDiffers}
+use Rattle.trace_check.specs.Verdicts.{IsReportOfRun, IsVerdictFrom}
 use Rattle.trace_check.specs.declared.verdict.Difference.{Difference}
 use Rattle.trace_check.specs.declared.verdict.Verdict.{Verdict}
 use Rattle.trace_check.specs.declared.verdict.Verdict.TheVariants.{Agrees, Differs}
+use Rattle.trace_check.proofs.Exact.{exact_from}
 
 -- ---- how many virtual processors there are
 
@@ -55,7 +54,7 @@ module _ (u : Plain) (leg : Leg) (t : LegLines) where
   pub entries_differ : (n : ℕ) (d : Difference) → EntriesDiffer n u leg t.entries d → IsHere n u leg t d
   entries_differ n d e = record {
     leg_is = e.leg_is;
-    lines = elim (e.differs t refl) [ | inl x ↦ inl x | inr y ↦ inr (inl y) ];
+    lines = elim (e.differs t refl) [ inl x ↦ inl x | inr y ↦ inr (inl y) ];
   }
 
   pub pending_differs : (n : ℕ) (w : Plain) (d : Difference) → (a : AreEntries u leg t.entries w) → IsOtherPending w t.pending d.said d.is → d.leg ≡ n → d.place ≡ length t.entries → IsHere n u leg t d
@@ -223,3 +222,7 @@ checking_all first legs told i u c le =
     let gone : drop i told ≡ [] = drop_all i told (omega (arith, le, c.long)) in
     let nothing : IsReportOfRun u [] [] = record { histories = []; is_run = refl; told_is = refl } in
     c.goes Agrees (subst (λ (p : List Leg × List LegLines). IsReportOfRun u p.0 p.1) (λ j. (sym none j, sym gone j)) nothing)
+
+-- a difference leaves no run
+pub no_run : (first : Plain) (legs : List Leg) (told : List LegLines) (d : Difference) → IsVerdictFrom 1 first legs told (Differs d) → IsReportOfRun first legs told → ⊥
+no_run first legs told d h run = exact_from 1 first legs told d h run

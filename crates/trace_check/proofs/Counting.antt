@@ -1,14 +1,12 @@
 -- How the program's counts show which calls are left.
-use Rattle.std.proofs.Common.{◌≡◌, ◌≢◌, ℕ, zero, suc, ◌+◌, ◌-◌, ◌<◌, ◌≤◌, ltb, cond, eqb, Bool, true, false, not, List, [], ◌∷◌, length, take, drop, set, get_or, count_by, Option, Some, None, IfSome, is_some, option_map, Bor, refl, sym, ap, subst, ◌∙◌, inl, inr, arith, lt-ltb, eq-eqb, ne_eqb}
-use Rattle.std.specs.Prelude.{slice_get, slice_index, slice_set}
+use Rattle.std.proofs.Common.{◌≡◌, ◌≢◌, ℕ, zero, suc, ◌+◌, ◌-◌, ◌<◌, ◌≤◌, ltb, cond, eqb, Bool, false, not, List, [], ◌∷◌, length, take, drop, set, get_or, count_by, Option, Some, None, IfSome, is_some, option_map, Bor, refl, sym, ap, ◌∙◌, inl, inr, arith, lt-ltb, eq-eqb, ne_eqb}
+use Rattle.std.specs.Prelude.{slice_get}
 use Rattle.std.proofs.lemmas.Bool.{cases_lt, le-ltb, false≢true}
 use Rattle.std.proofs.lemmas.List.{take_all, get_or_read}
 use Rattle.std.proofs.lemmas.List.Recursion.{is_count_by}
-use mathlib.Core.Logic.{dite}
-use native.Mathlib.Decide.{ℕ_discrete}
 use Rattle.its_plain.specs.Runs.{Thread, Phase, Leg}
 use Rattle.its_plain.specs.declared.call.Call.{Call}
-use Rattle.trace_check.specs.Cursors.{Progress, at, threads_of, later_of, zeros, one_if, open_count, opened, call_of, more}
+use Rattle.trace_check.specs.Cursors.{at, threads_of, later_of, zeros, one_if, open_count, opened, call_of, more}
 use Rattle.trace_check.proofs.Taken.{one_is, one_not, get_within}
 
 -- ---- the next call of a thread

@@ -1,11 +1,11 @@
 -- The entries of a leg, one after another.
-use Rattle.std.proofs.Common.{◌≡◌, ◌≢◌, ◌⊎◌, ℕ, zero, suc, ◌+◌, ◌<◌, ◌≤◌, List, [], ◌∷◌, ◌++◌, length, take, drop, get_or, Option, Some, None, refl, sym, ap, subst, ◌∙◌, inl, inr, arith, append_assoc, append-nil, length-append}
+use Rattle.std.proofs.Common.{◌≡◌, ℕ, zero, suc, ◌+◌, ◌<◌, ◌≤◌, List, [], ◌∷◌, ◌++◌, length, take, drop, get_or, Some, None, refl, sym, ap, subst, ◌∙◌, inl, inr, arith, length-append}
 use Rattle.std.specs.Prelude.{codes}
 use Rattle.std.proofs.lemmas.List.{take_more, take_all, take-append-drop, drop_more}
 use Rattle.its_plain.specs.Plain.{Plain}
 use Rattle.its_plain.specs.Answer.{answer}
 use Rattle.its_plain.specs.History.{IsLegal, after}
-use Rattle.its_plain.specs.Runs.{Leg, IsLegRun}
+use Rattle.its_plain.specs.Runs.{Leg}
 use Rattle.its_plain.specs.declared.call.Call.{Call}
 use Rattle.its_plain.specs.declared.call.Entry.{Entry}
 use Rattle.its_history.specs.Histories.{Seat, history_lines, entry_line}
@@ -13,10 +13,9 @@ use Rattle.its_history.specs.ReadBack.{ArePlaced}
 use Rattle.its_history.specs.Report.{told_text}
 use Rattle.its_history.specs.Texts.{answered_text}
 use Rattle.its_history.specs.declared.trace.EntryLine.{EntryLine}
-use Rattle.its_history.specs.declared.trace.Leg.{Leg as LegLines}
-use Rattle.trace_check.specs.Cursors.{Progress, at, threads_of, call_of, next_call, opened, taken, more}
+use Rattle.trace_check.specs.Cursors.{threads_of, opened, more}
 use Rattle.trace_check.specs.Fields.{progress, call_in, IsCounted, HasCall}
-use Rattle.trace_check.specs.Differences.{seat, lines, MayFollow, IsOther, IsNone, EntryDiffers, EndsEarly, entry_told, line_told}
+use Rattle.trace_check.specs.Differences.{seat, lines, IsOther, IsNone, entry_told, line_told}
 use Rattle.trace_check.specs.Steps.{right_text, IsRight, HasOtherText, HasNoCall, IsWrong, AreEntries, EntriesDiffer}
 use Rattle.trace_check.specs.declared.cursor.Cursor.{Cursor}
 use Rattle.trace_check.specs.declared.verdict.Difference.{Difference}
@@ -143,7 +142,7 @@ module _ (first : Plain) (leg : Leg) (entries : List EntryLine) (k : ℕ) (u : P
       entries = same ∙ (cut_at entries k line lt at_k ∙ ap (λ ls. ls ++ line ∷ drop (k + 1) entries) went.lines_are);
       place = place ∙ sym went.count;
       said = said;
-      differs = elim wrong [ | inl o ↦ inl (other line d.is o) | inr o ↦ inr (none line d.is o) ];
+      differs = elim wrong [ inl o ↦ inl (other line d.is o) | inr o ↦ inr (none line d.is o) ];
     });
   }
 

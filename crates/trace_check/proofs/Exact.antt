@@ -1,31 +1,28 @@
 -- A report with a difference is that of no run.
-use Rattle.std.proofs.Common.{◌≡◌, ◌≢◌, ◌⊎◌, ℕ, zero, suc, ◌+◌, ◌<◌, List, [], ◌∷◌, ◌++◌, length, map, Option, Some, None, Ok, Err, refl, sym, ap, subst, ◌∙◌, inl, inr, arith, append_assoc, append-nil}
+use Rattle.std.proofs.Common.{◌≡◌, ℕ, suc, ◌+◌, List, [], ◌∷◌, ◌++◌, length, Option, Some, Ok, Err, refl, sym, ap, subst, ◌∙◌, inl, inr, arith, append_assoc, append-nil}
 use Rattle.std.proofs.lemmas.List.{append_cancel_left}
 use Rattle.its_plain.specs.Plain.{Plain}
 use Rattle.its_plain.specs.Answer.{answer}
-use Rattle.its_plain.specs.History.{IsLegal, after}
+use Rattle.its_plain.specs.History.{after}
 use Rattle.its_plain.specs.Regions.{savable}
-use Rattle.its_plain.specs.Runs.{Leg, IsLegRun, IsPartOfLegRun, IsRun}
+use Rattle.its_plain.specs.Runs.{Leg, IsLegRun, IsPartOfLegRun}
 use Rattle.its_plain.specs.Saved.{IsSavable, moved}
-use Rattle.its_plain.specs.declared.call.Call.{Call}
 use Rattle.its_plain.specs.declared.call.Entry.{Entry}
-use Rattle.its_plain.specs.declared.call.Reply.{Reply}
 use Rattle.its_history.specs.Histories.{Seat, history_lines, entry_line}
-use Rattle.its_history.specs.Report.{pending_text}
-use Rattle.its_history.specs.Reports.{ended, reported, thread_counts}
+use Rattle.its_history.specs.Reports.{ended, reported}
 use Rattle.its_history.specs.Texts.{answered_text}
 use Rattle.its_history.specs.declared.trace.End.{End}
 use Rattle.its_history.specs.declared.trace.End.TheVariants.{Migrated, Done}
 use Rattle.its_history.specs.declared.trace.EntryLine.{EntryLine}
 use Rattle.its_history.specs.declared.trace.Leg.{Leg as LegLines}
-use Rattle.trace_check.specs.Cursors.{Progress, at, threads_of, call_of, opened, taken, more}
-use Rattle.trace_check.specs.Differences.{seat, lines, MayFollow, IsOther, IsNone, EntryDiffers, EndsEarly, PendingDiffers, CannotMigrate, LinesDiffer, IsRightLeg, IsHere, IsAtEnd, DiffersFrom, pending_texts}
+use Rattle.trace_check.specs.Cursors.{Progress, threads_of, call_of, opened, taken, more}
+use Rattle.trace_check.specs.Differences.{seat, lines, MayFollow, EntryDiffers, EndsEarly, PendingDiffers, CannotMigrate, LinesDiffer, DiffersFrom, pending_texts}
 use Rattle.trace_check.specs.Verdicts.{IsReportOfRun}
 use Rattle.trace_check.specs.declared.verdict.Difference.{Difference}
 use Rattle.trace_check.proofs.Lists.{head_is, tail_is, legal_front, legal_reply}
 use Rattle.trace_check.proofs.Parts.{part_front, whole_part, leg_over}
 use Rattle.trace_check.proofs.Going.{IsAt, IsSettled, at_first, at_opened, opened_settled, at_taken, settled_settled}
-use Rattle.trace_check.proofs.Following.{HasNext, has_next}
+use Rattle.trace_check.proofs.Following.{has_next}
 
 module _ (first : Plain) (leg : Leg) where
   abbrev seats : ℕ → Seat
@@ -154,7 +151,7 @@ module _ (first : Plain) (leg : Leg) where
       let entries : told.entries ≡ lines leg g = λ i. (same i).entries in
       elim w [
         | inl e ↦ entry_exact told d g e run entries
-        | inr v ↦ elim v [ | inl e ↦ early_exact told d g e run entries | inr p ↦ pending_exact told d g p run entries (λ i. (same i).pending) ]
+        | inr v ↦ elim v [ inl e ↦ early_exact told d g e run entries | inr p ↦ pending_exact told d g p run entries (λ i. (same i).pending) ]
       ]
 
   pub same_history : (told : LegLines) (h g : List Entry) (end last : Option End) → IsLegRun first leg h → IsLegRun first leg g → told ≡ ended first leg h end → told ≡ ended first leg g last → g ≡ h

@@ -1,16 +1,16 @@
 -- Which entries may follow a history.
-use Rattle.std.proofs.Common.{◌≡◌, ◌≢◌, ◌⊎◌, ℕ, zero, suc, ◌+◌, ◌-◌, ◌<◌, ◌≤◌, leb, cond, eqb, List, [], ◌∷◌, ◌++◌, length, Option, Some, None, refl, sym, ap, subst, ◌∙◌, inl, inr, arith, append_assoc, append-nil, length-append, le-leb, eq-eqb, ne_eqb}
+use Rattle.std.proofs.Common.{◌≡◌, ◌⊎◌, ℕ, zero, suc, ◌+◌, ◌-◌, ◌<◌, cond, List, [], ◌∷◌, ◌++◌, length, Option, Some, None, refl, sym, ap, subst, ◌∙◌, inl, inr, arith, append-nil, length-append, le-leb, eq-eqb, ne_eqb}
 use mathlib.Core.Logic.{dite}
 use native.Mathlib.Decide.{ℕ_discrete}
 use Rattle.its_plain.specs.Plain.{Plain}
 use Rattle.its_plain.specs.Answer.{answer}
 use Rattle.its_plain.specs.History.{IsLegal, after}
-use Rattle.its_plain.specs.Runs.{Phase, Leg, IsPhase, IsPartOfPhase, ArePhases, ArePartOfPhases, IsPartOfLegRun}
+use Rattle.its_plain.specs.Runs.{Phase, Leg, IsPhase, IsPartOfPhase, ArePartOfPhases}
 use Rattle.its_plain.specs.declared.call.Call.{Call}
 use Rattle.its_plain.specs.declared.call.Entry.{Entry}
 use Rattle.its_history.specs.Histories.{Seat, seat_from}
 use Rattle.its_history.specs.Reports.{thread_counts}
-use Rattle.trace_check.specs.Cursors.{Progress, at, threads_of, open_count, call_of, with_thread, next_call, taken}
+use Rattle.trace_check.specs.Cursors.{Progress, threads_of, open_count, call_of, with_thread, next_call, taken}
 use Rattle.trace_check.specs.Differences.{seat, MayFollow}
 use Rattle.trace_check.proofs.Lists.{cuts, legal_more}
 use Rattle.trace_check.proofs.Parts.{whole_phase, nothing_more}

@@ -1,17 +1,16 @@
 -- A history of a part of a leg, and how far the leg's calls are answered after it.
-use Rattle.std.proofs.Common.{◌≡◌, ◌≢◌, ◌⊎◌, ℕ, zero, suc, ◌+◌, ◌-◌, ◌<◌, ◌≤◌, leb, cond, eqb, Bool, true, false, List, [], ◌∷◌, ◌++◌, length, Option, Some, None, refl, sym, ap, subst, ◌∙◌, inl, inr, arith, append_assoc, append-nil, le-leb, eq-eqb, ne_eqb}
+use Rattle.std.proofs.Common.{◌≡◌, ◌⊎◌, ℕ, suc, ◌+◌, ◌-◌, ◌<◌, leb, cond, false, List, [], ◌∷◌, ◌++◌, length, Some, refl, sym, ap, subst, ◌∙◌, inl, inr, arith, append_assoc, append-nil, eq-eqb, ne_eqb}
 use Rattle.std.proofs.lemmas.Bool.{lt-leb}
 use Rattle.std.specs.List.{AllByRecursion}
 use mathlib.Core.Logic.{dite}
 use native.Mathlib.Decide.{ℕ_discrete}
-use Rattle.its_plain.specs.Runs.{Phase, Leg, IsPhase, IsPartOfPhase, ArePhases, ArePartOfPhases, IsOfPasses}
-use Rattle.its_plain.specs.declared.call.Call.{Call}
+use Rattle.its_plain.specs.Runs.{Phase, Leg, IsPhase, ArePhases, ArePartOfPhases, IsOfPasses}
 use Rattle.its_plain.specs.declared.call.Entry.{Entry}
-use Rattle.its_history.specs.Histories.{Seat, seat_of, seat_from}
+use Rattle.its_history.specs.Histories.{seat_from}
 use Rattle.its_history.specs.Reports.{thread_counts}
 use Rattle.trace_check.specs.Cursors.{Progress, at, threads_of, later_of, zeros, open_count, opened, call_of, more, settled, taken}
 use Rattle.trace_check.specs.Differences.{seat}
-use Rattle.trace_check.proofs.Parts.{none_yet, behind, whole_phase}
+use Rattle.trace_check.proofs.Parts.{behind}
 use Rattle.trace_check.proofs.Taken.{IsTaken, none_taken, whole_taken, taken_part, taken_more}
 
 -- what may follow the history is what may follow the entries of this phase, whose passes come after so many

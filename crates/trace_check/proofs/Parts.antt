@@ -1,11 +1,10 @@
 -- Parts of a leg's phases.
-use Rattle.std.proofs.Common.{◌≡◌, ◌≢◌, ℕ, suc, ◌+◌, ◌<◌, ◌≤◌, List, [], ◌∷◌, ◌++◌, length, refl, sym, ap, subst, ◌∙◌, inl, inr, arith, append_assoc, append-nil}
-use Rattle.std.specs.List.{AllByRecursion}
+use Rattle.std.proofs.Common.{◌≡◌, ℕ, suc, ◌+◌, ◌<◌, ◌≤◌, List, [], ◌∷◌, ◌++◌, length, refl, sym, ap, subst, ◌∙◌, inl, inr, arith, append_assoc, append-nil}
 use mathlib.Core.List.{IsPrefix}
 use mathlib.Core.Logic.{dite}
 use native.Mathlib.Decide.{ℕ_discrete}
 use Rattle.its_plain.specs.History.{calls_by}
-use Rattle.its_plain.specs.Runs.{Thread, Phase, Leg, IsOfPasses, HasCalls, HasFirstCalls, IsPhase, IsPartOfPhase, ArePhases, ArePartOfPhases}
+use Rattle.its_plain.specs.Runs.{Phase, Leg, IsOfPasses, HasCalls, HasFirstCalls, IsPhase, IsPartOfPhase, ArePhases, ArePartOfPhases}
 use Rattle.its_plain.specs.declared.call.Call.{Call}
 use Rattle.its_plain.specs.declared.call.Entry.{Entry}
 use Rattle.trace_check.proofs.Lists.{front_none, cuts, all_front, all_rest, prefix_front, no_longer, calls_append, calls_here}

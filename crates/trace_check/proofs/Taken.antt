@@ -1,18 +1,18 @@
 -- How many calls of each thread of a phase are answered.
-use Rattle.std.proofs.Common.{◌≡◌, ◌≢◌, ◌⊎◌, ℕ, zero, suc, ◌+◌, ◌<◌, ◌≤◌, ltb, cond, List, [], ◌∷◌, ◌++◌, length, take, set, get_or, replicate, Option, Some, None, refl, sym, ap, subst, ◌∙◌, inl, inr, arith, append_assoc, length-append, length-take, lt-ltb}
-use Rattle.std.specs.Prelude.{slice_get, slice_index, slice_set}
+use Rattle.std.proofs.Common.{◌≡◌, ◌≢◌, ℕ, zero, suc, ◌+◌, ◌<◌, ◌≤◌, cond, List, [], ◌∷◌, ◌++◌, length, take, Some, refl, sym, ap, subst, ◌∙◌, inl, inr, arith, length-take, lt-ltb}
+use Rattle.std.specs.Prelude.{slice_get}
 use Rattle.std.specs.List.{AllByRecursion}
 use Rattle.std.proofs.lemmas.Bool.{cases_lt, le-ltb}
-use Rattle.std.proofs.lemmas.List.{take_more, take_all}
+use Rattle.std.proofs.lemmas.List.{take_all}
 use mathlib.Core.List.{IsPrefix}
 use mathlib.Core.Logic.{dite}
 use native.Mathlib.Decide.{ℕ_discrete}
 use Rattle.its_plain.specs.History.{calls_by}
-use Rattle.its_plain.specs.Runs.{Thread, Phase, Leg, IsOfPasses, HasCalls, HasFirstCalls, IsPhase, IsPartOfPhase}
+use Rattle.its_plain.specs.Runs.{Phase, IsOfPasses, HasCalls, HasFirstCalls, IsPhase, IsPartOfPhase}
 use Rattle.its_plain.specs.declared.call.Call.{Call}
 use Rattle.its_plain.specs.declared.call.Entry.{Entry}
 use Rattle.trace_check.specs.Cursors.{zeros, one_if, open_count, call_of, more}
-use Rattle.trace_check.proofs.Lists.{all_both, all_rest, no_longer, calls_append, calls_here, calls_more, calls_same}
+use Rattle.trace_check.proofs.Lists.{all_both, all_rest, calls_more, calls_same}
 
 -- thread by thread a pass made just its first calls, so many
 abbrev pub HasTaken : ℕ → Phase → List Entry → List ℕ → Type 0

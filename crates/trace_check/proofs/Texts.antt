@@ -1,8 +1,8 @@
 -- The lines of virtual processors.
-use Rattle.std.proofs.Common.{◌≡◌, ◌≢◌, ℕ, zero, suc, ◌+◌, ◌<◌, ◌≤◌, List, [], ◌∷◌, ◌++◌, length, take, drop, get_or, map, Bool, true, false, not, true≢false, refl, sym, ap, subst, ◌∙◌, arith}
+use Rattle.std.proofs.Common.{◌≡◌, ◌≢◌, ℕ, ◌+◌, ◌<◌, ◌≤◌, List, [], ◌∷◌, ◌++◌, length, take, drop, get_or, Bool, true, false, not, true≢false, refl, sym, ap, ◌∙◌, arith}
 use Rattle.std.specs.Str.{bytes_eq}
 use Rattle.std.proofs.lemmas.Slice.Eq.{bytes_eq-Decides}
-use Rattle.std.proofs.lemmas.List.{take_more, take_all, take-append-drop, drop_more, get_or-map, length-map, length-take-le, take_more_same, get_or_read}
+use Rattle.std.proofs.lemmas.List.{take_all, take-append-drop, drop_more, get_or-map, length-map, length-take-le, take_more_same, get_or_read}
 use Rattle.its_plain.specs.Plain.{Plain, Redistributor, no_redistributor, pending_of}
 use Rattle.its_history.specs.Report.{pending_text, vcpu_text}
 use Rattle.its_history.specs.Reports.{pending_lists}
@@ -53,13 +53,13 @@ all_pending u told i long le same = sym (take_all i told le) ∙ (same ∙ take_
 -- ---- texts that were compared
 
 pub texts_differ : (a b x y : List ℕ) (r : Bool) → x ≡ a → y ≡ b → r ≡ not (bytes_eq x y) → r ≡ true → a ≢ b
-texts_differ a b x y r ax by r_is yes same =
+texts_differ a b x y r ax by r_is unequal same =
     let equal : bytes_eq x y ≡ true = (bytes_eq-Decides x y).1 (ax ∙ (same ∙ sym by)) in
-    true≢false (sym yes ∙ (r_is ∙ ap not equal))
+    true≢false (sym unequal ∙ (r_is ∙ ap not equal))
 
 pub texts_same : (a b x y : List ℕ) (r : Bool) → x ≡ a → y ≡ b → r ≡ not (bytes_eq x y) → r ≡ false → a ≡ b
-texts_same a b x y r ax by r_is no = sym ax ∙ ((bytes_eq-Decides x y).0 (equal (bytes_eq x y) (sym r_is ∙ no)) ∙ by)
+texts_same a b x y r ax by r_is found = sym ax ∙ ((bytes_eq-Decides x y).0 (equal (bytes_eq x y) (sym r_is ∙ found)) ∙ by)
   where
     equal : (e : Bool) → not e ≡ false → e ≡ true
     equal true same = refl
-    equal false same = same
+    equal false same = sym same

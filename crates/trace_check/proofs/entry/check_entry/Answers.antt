@@ -1,5 +1,4 @@
-use Rattle.std.proofs.Common.{◌≡◌, ◌∙◌, ℕ, Some, sym}
-use Rattle.its_plain.specs.declared.call.Call.{Call}
+use Rattle.std.proofs.Common.{◌≡◌, ◌∙◌, Some, sym}
 use Rattle.trace_check.specs.Cursors.{next_call}
 use Rattle.trace_check.specs.Fields.{progress}
 use Rattle.trace_check.proofs.Following.{next_means}

@@ -1,7 +1,6 @@
-use Rattle.std.proofs.Common.{◌≡◌, ◌∙◌, ◌+◌, ◌<◌, ℕ, suc, None, length, refl, sym, ap, arith}
+use Rattle.std.proofs.Common.{◌≡◌, ◌∙◌, ◌+◌, suc, length, refl, ap, arith}
 use Rattle.its_history.specs.Report.{told_text}
 use Rattle.its_history.specs.Texts.{answered_text}
-use Rattle.trace_check.specs.Fields.{progress}
 use Rattle.trace_check.specs.Steps.{right_text}
 use Rattle.trace_check.specs.declared.verdict.Difference.{Difference}
 use Rattle.trace_check.proofs.Entries.{went_none, went_more, differs_here, ends_early, all_right}

@@ -1,4 +1,4 @@
-use Rattle.std.proofs.Common.{◌≡◌, ◌∙◌, ℕ, length, refl, sym, ap, subst}
+use Rattle.std.proofs.Common.{◌∙◌, length, refl, sym, ap, subst}
 use Rattle.its_plain.specs.Plain.{Plain}
 use Rattle.trace_check.specs.Steps.{AreEntries, IsOtherPending}
 use Rattle.trace_check.specs.declared.verdict.Difference.{Difference}

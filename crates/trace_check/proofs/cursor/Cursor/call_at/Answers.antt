@@ -1,4 +1,4 @@
-use Rattle.std.proofs.Common.{◌≡◌, ◌≤◌, ◌<◌, false, true, ltb, List, get_or, IfSome, length, option_map, Option, Bor, ℕ, None, sym, ap, subst, ◌∙◌, arith}
+use Rattle.std.proofs.Common.{◌≡◌, ◌≤◌, ◌<◌, ltb, List, get_or, IfSome, length, option_map, Bor, sym, ap, subst, ◌∙◌, arith}
 use borrow.Author.Tests.{ltb-false, ltb-true}
 use Rattle.its_plain.specs.declared.call.Call.{Call}
 use Rattle.its_plain.specs.Runs.{Phase}

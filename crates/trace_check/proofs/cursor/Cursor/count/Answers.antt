@@ -1,8 +1,7 @@
-use Rattle.std.proofs.Common.{◌≡◌, ◌≤◌, ◌<◌, ◌+◌, ℕ, List, get_or, length, set, sym, ap, subst, ◌∙◌, arith}
+use Rattle.std.proofs.Common.{◌≡◌, ◌+◌, get_or, sym, subst, ◌∙◌, arith}
 use Rattle.std.proofs.lemmas.List.{length-set}
 use Rattle.its_plain.specs.Runs.{Phase, Thread}
-use Rattle.trace_check.specs.Cursors.{open_count, threads_of}
-use Rattle.trace_check.specs.Fields.{IsCounted}
+use Rattle.trace_check.specs.Cursors.{threads_of}
 use Rattle.trace_check.proofs.Counting.{counted_last, counted_left}
 use Rattle.trace_check.proofs.cursor.Cursor.count.Goals as goal
 

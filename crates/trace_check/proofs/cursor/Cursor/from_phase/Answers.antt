@@ -1,8 +1,7 @@
-use Rattle.std.proofs.Common.{◌≡◌, ◌≤◌, ◌<◌, ◌+◌, ℕ, List, length, replicate, count_by, sym, ap, subst, ◌∙◌, arith}
+use Rattle.std.proofs.Common.{◌≡◌, ◌<◌, ◌+◌, length, replicate, count_by, sym, ap, ◌∙◌, arith}
 use Rattle.std.proofs.lemmas.List.{length-replicate}
 use Rattle.its_plain.specs.Runs.{Phase, Leg}
 use Rattle.trace_check.specs.Cursors as spec
-use Rattle.trace_check.specs.Fields.{IsCounted}
 use Rattle.trace_check.proofs.Counting.{has_calls, zeros_open, opened_over, opened_here, first_of, later_is, later_fits}
 use Rattle.trace_check.proofs.cursor.Cursor.from_phase.Goals as goal
 

@@ -1,4 +1,4 @@
-use Rattle.std.proofs.Common.{◌≡◌, ◌≤◌, ◌<◌, ℕ, length, None, inl, inr, sym, ap, ◌∙◌, arith}
+use Rattle.std.proofs.Common.{length, inl, inr, ap, arith}
 use Rattle.std.proofs.lemmas.Bool.{cases_lt}
 use Rattle.trace_check.specs.Cursors.{threads_of}
 use Rattle.trace_check.proofs.Counting.{none_past}
