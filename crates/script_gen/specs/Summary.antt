@@ -94,11 +94,12 @@ abbrev pub vcpu_lines : ℕ → List ℕ → List ℕ
 vcpu_lines vcpu [] = []
 vcpu_lines vcpu (count ∷ counts) = vcpu_line vcpu count ++ vcpu_lines (vcpu + 1) counts
 
-unfoldable pub counts_text : Counts → List ℕ
-counts_text n =
-    codes "signals " ++ decimal n.signals ++ codes " delivered " ++ decimal n.delivered
-    ++ codes "\ncommands " ++ decimal n.commands ++ codes " ran " ++ decimal n.ran ++ codes "\n"
+unfoldable pub signals_line : Counts → List ℕ
+signals_line n = codes "signals " ++ decimal n.signals ++ codes " delivered " ++ decimal n.delivered ++ codes "\n"
+
+unfoldable pub commands_line : Counts → List ℕ
+commands_line n = codes "commands " ++ decimal n.commands ++ codes " ran " ++ decimal n.ran ++ codes "\n"
 
 -- of a run with one migration
 unfoldable pub summary : Counts → List ℕ → List ℕ
-summary n pending = counts_text n ++ codes "migrated 1\n" ++ vcpu_lines 0 pending
+summary n pending = signals_line n ++ commands_line n ++ codes "migrated 1\n" ++ vcpu_lines 0 pending
