@@ -1,5 +1,4 @@
 //! Threads that make calls, and keep what they are answered.
-ghost use Rattle.std.specs.Prelude.{◌≡◌, IfOk};
 ghost use Rattle.std.specs.List.{AllByRecursion};
 ghost use Rattle.its_bench.specs.Ready.{IsReady};
 

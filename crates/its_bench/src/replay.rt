@@ -1,5 +1,4 @@
 //! The calls of several threads, by place, against the machine of one caller.
-ghost use Rattle.std.specs.Prelude.{◌≡◌};
 ghost use Rattle.its_plain.specs.Machine.{IsDescription};
 
 use crate::actors::Actor;

@@ -1,6 +1,5 @@
 //! A device with many events: signals by the maps, acknowledgements, steps, saves, migrations.
-ghost use Rattle.std.specs.Prelude.{◌≡◌, ◌^◌, ◌<◌, ◌≤◌, IfOk};
-ghost use Rattle.its_turns.specs.Machines.{view};
+ghost use Rattle.std.specs.Prelude.{◌≤◌, IfOk};
 ghost use Rattle.its_migrate.specs.Resting.{HasItsLayout};
 ghost use Rattle.its_bench.specs.Ready.{IsReady, IsRoot};
 
@@ -138,22 +137,33 @@ pub fn time_steps<R: Clock + Wait>(rt: &R, alloc: Global, bits: u8) -> io::Resul
     Ok(lap)
 }
 
-/// Saves, with as many events mapped as so many bits allow.
+/// So many saves, after one that isn't timed, with as many events mapped as so many bits allow.
 pub fn time_saves<R: Clock + Wait>(rt: &R, alloc: Global, bits: u8, count: u32) -> io::Result<Lap>
     requires least { 1 ≤ bits }
     requires most { bits ≤ 16 }
 {
     let (machine, _root, mut pass, _queue, _) = with_events(rt, alloc, bits)?;
+    saves(rt, alloc, &machine, &mut pass, 1);
     let mut lap = Lap::new();
     let since = Instant::now(rt)?;
+    let saved = saves(rt, alloc, &machine, &mut pass, count);
+    lap.add(rt, &since, saved)?;
+    Ok(lap)
+}
+
+// So many saves. Answers how many were made.
+fn saves<R: Wait>(rt: &R, alloc: Global, machine: &Machine, pass: &mut Pass, count: u32) -> u64
+    requires ready { IsReady machine.now pass.old }
+    requires layout { HasItsLayout machine.now }
+    ensures { IsReady machine.now pass.new }
+{
     let mut saved = 0u64;
     for _ in 0..count {
-        if let Ok(Placed { reply: Ok(()), .. }) = save(rt, alloc, &machine, &mut pass, &Open) {
+        if let Ok(Placed { reply: Ok(()), .. }) = save(rt, alloc, machine, pass, &Open) {
             saved = saved.wrapping_add(1);
         }
     }
-    lap.add(rt, &since, saved)?;
-    Ok(lap)
+    saved
 }
 
 /// A migration, with as many events mapped as so many bits allow.
