@@ -9,10 +9,7 @@ use Rattle.trace_check.proofs.legs.check.Goals as goal
 use Rattle.trace_check.proofs.legs.check.Goals.{then-index-legs+in_ok-difference-2+in_default-2, else-index-legs}
 
 pub loop-index-init : goal.loop-index-init
-loop-index-init c = checking_none c.args.machine c.args.legs.now c.args.trace.now.legs c.requires.sound c.requires.shape
-
-pub check_leg-requires-clause-sound : goal.check_leg-requires-clause-sound
-check_leg-requires-clause-sound c = c.loop-index.invariant.sound
+loop-index-init c = checking_none c.args.machine c.args.legs.now c.args.trace.now.legs c.requires
 
 pub check_leg-requires-clause-placed : goal.check_leg-requires-clause-placed
 check_leg-requires-clause-placed c =
