@@ -1,6 +1,6 @@
 -- The legs of a report, one after another.
 use Rattle.std.proofs.Common.{◌≡◌, ℕ, zero, suc, ◌+◌, ◌<◌, ◌≤◌, List, [], ◌∷◌, length, drop, get_or, Some, refl, sym, ap, subst, ◌∙◌, inl, inr, arith}
-use Rattle.std.proofs.lemmas.List.{drop_more, drop_all, length-map, length-drop}
+use Rattle.std.proofs.lemmas.List.{drop_more, drop_all, get_or_read, length-map, length-drop}
 use Rattle.its_plain.specs.Plain.{Plain}
 use Rattle.its_plain.specs.Answer.{answer}
 use Rattle.its_plain.specs.History.{after}
@@ -137,7 +137,26 @@ checking_none first legs told shape = record {
   goes = λ v h. h;
 }
 
-module _ (first : Plain) (legs : List Leg) (told : List LegLines) (i : ℕ) (u : Plain) (leg : Leg) (t : LegLines) (c : Checking first legs told i u) (lt : i < length legs) (leg_at : leg ≡ get_or legs i leg) (t_at : t ≡ get_or told i t) where
+-- the leg and its lines, as the program has them in hand
+pub record InHand (legs : List Leg) (told : List LegLines) (i : ℕ) (leg : Leg) (t : LegLines) : Type 0 where
+  pub below : i < length legs
+  pub item : Leg
+  pub leg_is : leg ≡ item
+  pub item_at : item ≡ get_or legs i item
+  pub lists : List LegLines
+  pub lists_are : lists ≡ told
+  pub lines_at : t ≡ get_or lists i t
+
+module _ (first : Plain) (legs : List Leg) (told : List LegLines) (i : ℕ) (u : Plain) (leg : Leg) (t : LegLines) (c : Checking first legs told i u) (has : InHand legs told i leg t) where
+  lt : i < length legs
+  lt = has.below
+
+  leg_at : leg ≡ get_or legs i leg
+  leg_at = has.leg_is ∙ get_or_read legs i has.item lt has.item_at leg
+
+  t_at : t ≡ get_or told i t
+  t_at = subst (λ (ts : List LegLines). t ≡ get_or ts i t) has.lists_are has.lines_at
+
   abbrev rest : List Leg
   rest = drop (i + 1) legs
 

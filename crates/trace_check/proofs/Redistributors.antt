@@ -1,8 +1,8 @@
 -- No call changes how many redistributors there are.
-use Rattle.std.proofs.Common.{◌≡◌, ℕ, Bool, true, false, ◌&&◌, ◌==◌, nat_lt, nat_le, ◌^◌, List, [], ◌∷◌, length, map, Option, Some, None, is_some, Result, Ok, Err, refl, sym, ap, ◌∙◌, if◌then◌else◌}
+use Rattle.std.proofs.Common.{◌≡◌, ℕ, Bool, true, false, ◌&&◌, ◌==◌, nat_lt, nat_le, ◌^◌, List, [], ◌∷◌, length, Option, Some, None, is_some, Result, Ok, Err, refl, ◌∙◌, if◌then◌else◌}
 use Rattle.std.specs.Option.{ok_or}
 use Rattle.std.proofs.lemmas.List.{length-map, length-set}
-use Rattle.gits_regs.specs.Registers.{collection_places, advanced}
+use Rattle.gits_regs.specs.Registers.{collection_places}
 use Rattle.gicr_regs.specs.Registers.{written_gicr}
 use Rattle.baser_place.specs.Places.{device_place}
 use Rattle.its_command.specs.Commands.{decoded}
@@ -11,21 +11,17 @@ use Rattle.its_command.specs.declared.command.Command.TheVariants as command
 use Rattle.its_types.specs.Ranges.{is_device_id, is_lpi}
 use Rattle.its_types.specs.Lpis.{is_pending, with_lpi, with_lpis, without_lpi}
 use Rattle.its_types.specs.Maps.{device_of, event_of, collection_of, event_mapped}
-use Rattle.its_types.specs.declared.ids.Target.{Target}
 use Rattle.its_types.specs.declared.ids.Vcpu.{Vcpu}
 use Rattle.its_types.specs.declared.machine.Profile.{Profile}
 use Rattle.its_types.specs.declared.machine.Profile.TheVariants.{One, Two}
 use Rattle.its_types.specs.declared.translation.Event.{Event}
 use Rattle.its_plain.specs.Plain.{Plain, Redistributor, redistributor, regs_of, maps_of, pending_of, is_on, with_maps, with_pending, with_redistributor}
-use Rattle.its_plain.specs.Translation.{located, translated}
-use Rattle.its_plain.specs.Translation as translation
+use Rattle.its_plain.specs.Translation.{translated}
 use Rattle.its_plain.specs.Commands.{◌>>=◌, ensure, lpi_set, lpi_cleared, lpi_moved, lpis_moved, all_moved, all_reread_at, reread, event_at, target_at, intids_of, mapd, unmapd, followed, followed_in, mapc, unmapc, mapti, movi, lpi_at, int, clear, cleared_at, discard, inv, invall, movall, ran}
 use Rattle.its_plain.specs.Answer.{signal_reply, signal_left, lowest, taken, written, command_left, save_left, is_idle, next_bytes, met_left, step_left, reply_of, left, answer}
 use Rattle.its_plain.specs.Regions.{savable}
 use Rattle.its_plain.specs.declared.call.Call.{Call}
 use Rattle.its_plain.specs.declared.call.Call.TheVariants as call
-use Rattle.its_plain.specs.declared.call.Cause.{Cause}
-use Rattle.its_plain.specs.declared.call.Cause.TheVariants as cause
 use Rattle.its_plain.specs.declared.call.Reason.{Reason}
 use Rattle.its_plain.specs.declared.call.Reason.TheVariants.{DeviceRange, SizeRange, TargetRange, CollectionRange, NoDevice, EventRange, IntidRange, LpisOff}
 use Rattle.its_plain.specs.declared.fault.SaveFault.{SaveFault}
