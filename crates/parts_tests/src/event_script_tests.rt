@@ -1,6 +1,7 @@
-use event_script::{Kind, ParseError, ScriptFault, parse, parse_check};
+use event_script::{Kind, Leg, ParseError, Script, ScriptFault, parse, parse_check};
+use gits_regs::RegValues;
 use its_plain::LpiTables;
-use std::alloc::Global;
+use std::alloc::{AllocError, Global};
 use std::fmt::Write;
 use std::test::Fail;
 
@@ -13,6 +14,12 @@ fn fault_of(alloc: Global, text: &str) -> Option<(u64, Kind)> {
         Err(ParseError::Fault(ScriptFault { line, kind })) => Some((line, kind)),
         _ => None,
     }
+}
+
+// Of a head and what follows it.
+fn fault_after(alloc: Global, head: &str, body: &str) -> Result<Option<(u64, Kind)>, Fail> {
+    let text = format!(in alloc; "{head}{body}")?;
+    Ok(fault_of(alloc, text.as_str()))
 }
 
 #[test]
@@ -135,9 +142,8 @@ fn faulty_redistributor_calls(rt: HostRuntime) -> Result<(), Fail> {
             Kind::Number,
         ),
     ] {
-        let text = format!(in alloc; "{head}{body}")?;
         assert_eq!(rt;
-            fault_of(alloc, text.as_str()),
+            fault_after(alloc, head, body)?,
             Some((line, kind)),
             "{body}"
         );
@@ -167,14 +173,29 @@ fn faulty_bodies(rt: HostRuntime) -> Result<(), Fail> {
         ("end\n# no line end", 7, Kind::Cut),
         ("end\n#\t\n", 7, Kind::Text),
     ] {
-        let text = format!(in alloc; "{HEAD}{body}")?;
         assert_eq!(rt;
-            fault_of(alloc, text.as_str()),
+            fault_after(alloc, HEAD, body)?,
             Some((line, kind)),
             "{body}"
         );
     }
     Ok(())
+}
+
+// A head, and what stands after it so many times.
+fn repeated(
+    alloc: Global,
+    head: &str,
+    opened: &str,
+    lines: &str,
+    count: u32,
+) -> Result<String, AllocError> {
+    let mut text = String::from_str(alloc, head)?;
+    text.push_str(opened)?;
+    for _ in 0..count {
+        text.push_str(lines)?;
+    }
+    Ok(text)
 }
 
 #[test]
@@ -187,11 +208,7 @@ fn limits_are_passed(rt: HostRuntime) -> Result<(), Fail> {
         (HEAD, "phase\n", "thread\n", 65, 71),
         (HEAD, "phase\nthread\n", "step\n", 65_537, 65_544),
     ] {
-        let mut text = String::from_str(alloc, head)?;
-        text.push_str(opened)?;
-        for _ in 0..count {
-            text.push_str(lines)?;
-        }
+        let text = repeated(alloc, head, opened, lines, count)?;
         assert_eq!(rt;
             fault_of(alloc, text.as_str()),
             Some((line, Kind::Many)),
@@ -201,16 +218,8 @@ fn limits_are_passed(rt: HostRuntime) -> Result<(), Fail> {
     Ok(())
 }
 
-/// The shape of the machine, the registers to restore, and the number of calls of each thread, by
-/// phases and legs.
-fn summary(alloc: Global, text: &str) -> Result<String, Fail> {
-    let script = parse(alloc, text.as_bytes()).ok().ok_or("refused")?;
-    let shape = script.desc.shape;
-    let mut said = format!(in alloc;
-        "{} {} {} {:?}",
-        shape.vcpus, shape.dev_bits, shape.lpi_bits, shape.profile
-    )?;
-    if let LpiTables::Registers(values) = &script.desc.tables {
+fn push_tables(said: &mut String, tables: &LpiTables) -> Result<(), Fail> {
+    if let LpiTables::Registers(values) = tables {
         let last = &values.registers[1];
         write!(
             said,
@@ -218,10 +227,18 @@ fn summary(alloc: Global, text: &str) -> Result<String, Fail> {
             last.ctlr, last.propbaser, last.pendbaser
         )?;
     }
-    if let Some(values) = script.desc.restore {
+    Ok(())
+}
+
+fn push_restored(said: &mut String, restore: Option<RegValues>) -> Result<(), Fail> {
+    if let Some(values) = restore {
         write!(said, " restore {} {:x}", values.creadr, values.baser1)?;
     }
-    for leg in script.legs.as_slice() {
+    Ok(())
+}
+
+fn push_legs(said: &mut String, legs: &[Leg]) -> Result<(), Fail> {
+    for leg in legs {
         said.push_str(" leg")?;
         for phase in leg.as_slice() {
             for thread in phase.as_slice() {
@@ -229,6 +246,28 @@ fn summary(alloc: Global, text: &str) -> Result<String, Fail> {
             }
         }
     }
+    Ok(())
+}
+
+fn push_script(said: &mut String, script: &Script) -> Result<(), Fail> {
+    let shape = script.desc.shape;
+    write!(
+        said,
+        "{} {} {} {:?}",
+        shape.vcpus, shape.dev_bits, shape.lpi_bits, shape.profile
+    )?;
+    push_tables(said, &script.desc.tables)?;
+    push_restored(said, script.desc.restore)?;
+    push_legs(said, script.legs.as_slice())
+}
+
+/// The shape of the machine, the registers to restore, and the number of calls of each thread, by
+/// phases and legs.
+fn summary(alloc: Global, head: &str, body: &str) -> Result<String, Fail> {
+    let text = format!(in alloc; "{head}{body}")?;
+    let script = parse(alloc, text.as_bytes()).ok().ok_or("refused")?;
+    let mut said = String::new(alloc);
+    push_script(&mut said, &script)?;
     Ok(said)
 }
 
@@ -266,15 +305,22 @@ fn scripts_are_read(rt: HostRuntime) -> Result<(), Fail> {
             "2 16 16 One gicr 0 0 0 leg 2",
         ),
     ] {
-        let text = format!(in alloc; "{head}{body}")?;
-        assert_eq!(rt; summary(alloc, text.as_str())?.as_str(), said, "{body}");
+        assert_eq!(rt; summary(alloc, head, body)?.as_str(), said, "{body}");
     }
     Ok(())
 }
 
+// Of a script that a report follows.
+fn check_fault(alloc: Global, body: &str) -> Result<Option<(u64, Kind)>, Fail> {
+    let text = format!(in alloc; "{HEAD}{body}")?;
+    match parse_check(alloc, text.as_bytes()) {
+        Err(ParseError::Fault(ScriptFault { line, kind })) => Ok(Some((line, kind))),
+        _ => Ok(None),
+    }
+}
+
 #[test]
 fn a_report_follows(rt: HostRuntime) -> Result<(), Fail> {
-    let alloc = rt.alloc();
     for (body, line, kind) in [
         ("end\n", 7, Kind::Missing),
         ("end\ntrace", 7, Kind::Cut),
@@ -282,16 +328,27 @@ fn a_report_follows(rt: HostRuntime) -> Result<(), Fail> {
         ("end\nstep\ntrace\n", 7, Kind::Order),
         ("end\ntrace x\n", 7, Kind::Fields),
     ] {
-        let text = format!(in alloc; "{HEAD}{body}")?;
-        let fault = match parse_check(alloc, text.as_bytes()) {
-            Err(ParseError::Fault(ScriptFault { line, kind })) => Some((line, kind)),
-            _ => None,
-        };
-        assert_eq!(rt; fault, Some((line, kind)), "{body}");
+        assert_eq!(rt;
+            check_fault(rt.alloc(), body)?,
+            Some((line, kind)),
+            "{body}"
+        );
     }
-    let text = format!(in alloc; "{HEAD}end\n# nothing\n  trace \nleg 1\ntrace")?;
-    let input = parse_check(alloc, text.as_bytes()).ok().ok_or("refused")?;
-    assert_eq!(rt; input.report, b"leg 1\ntrace".as_slice());
-    assert_eq!(rt; input.script.legs.len(), 1);
+    Ok(())
+}
+
+// Whether this is read as a script of one leg and that report.
+fn is_one_leg(alloc: Global, body: &str, report: &str) -> Result<bool, Fail> {
+    let text = format!(in alloc; "{HEAD}{body}{report}")?;
+    match parse_check(alloc, text.as_bytes()) {
+        Ok(input) => Ok(input.report == report.as_bytes() && input.script.legs.len() == 1),
+        Err(_) => Ok(false),
+    }
+}
+
+#[test]
+fn a_report_is_what_comes_after_its_line(rt: HostRuntime) -> Result<(), Fail> {
+    let body = "end\n# nothing\n  trace \n";
+    assert!(rt; is_one_leg(rt.alloc(), body, "leg 1\ntrace")?);
     Ok(())
 }

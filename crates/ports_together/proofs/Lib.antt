@@ -1,1 +1,1 @@
-mod Layouts
+pub mod Legs

@@ -1,6 +1,6 @@
 use Rattle.std.proofs.Common.{ap, ◌∙◌}
 use Rattle.its_plain.specs.Plain.{Plain}
-use Rattle.ports_together.proofs.Layouts.{first_layout}
+use Rattle.its_migrate.proofs.Fresh.{first_layout}
 use Rattle.ports_together.proofs.sharing.share.Goals as goal
 
 pub new-requires-2-clause-layout : goal.new-requires-2-clause-layout

@@ -1,0 +1,12 @@
+use Rattle.its_types.specs.declared.machine.Profile.TheVariants.{One}
+use Rattle.its_types.specs.declared.machine.Shape.{Shape}
+use Rattle.cmd_exec.proofs.Start.{no_targets}
+use Rattle.machine_tests.proofs.commands.redistributors_that_commands_need.Goals as goal
+
+pub needs-set-requires-clause-targets : goal.needs-set-requires-clause-targets
+needs-set-requires-clause-targets g c =
+    let shape : Shape = record { vcpus = 4; dev_bits = 16; lpi_bits = 16; profile = One } in no_targets shape c.new-maps.result.maps c.new-maps.ensures
+
+pub needs-all-requires-clause-targets : goal.needs-all-requires-clause-targets
+needs-all-requires-clause-targets g c =
+    let shape : Shape = record { vcpus = 4; dev_bits = 16; lpi_bits = 16; profile = One } in no_targets shape c.new-maps.result.maps c.new-maps.ensures
