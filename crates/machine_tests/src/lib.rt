@@ -5,7 +5,11 @@
 #[cfg(test)]
 mod commands;
 #[cfg(test)]
+mod machines_alike;
+#[cfg(test)]
 mod migrations;
+#[cfg(test)]
+mod passes;
 #[cfg(test)]
 mod restoring;
 #[cfg(test)]

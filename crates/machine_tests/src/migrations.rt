@@ -1,9 +1,11 @@
 //! Machines that are saved, moved and restored. The words are those of the table format (KVM
 //! document arm-vgic-its, "ITS Table ABI REV0").
+ghost use Rattle.its_plain.specs.Machine.{IsDescription};
+
 use crate::scripts::{Asked, Given, Line, desc, enabling, queueing};
 use gits_regs::RegValues;
 use its_plain::{
-    Call, Cause, DescFault, MakeError, Reason, Region, Reply, RestoreFault, SaveError, SaveFault,
+    Call, Cause, Desc, DescFault, MakeError, Reason, Region, Reply, RestoreFault, SaveError, SaveFault,
     Table,
 };
 use its_types::{DeviceId, Intid, Profile};
@@ -96,19 +98,48 @@ fn play(alloc: Global, machine: &mut Machine, acts: &[Act]) -> Result<usize, All
     Ok(count)
 }
 
-// Of a machine with these words in memory, enabled with this device table.
-fn play_enabled(
+// Where a device table is told, the machine is enabled with it first.
+fn play_on(
+    alloc: Global,
+    machine: &mut Machine,
+    baser0: Option<u64>,
+    acts: &[Act],
+) -> Result<usize, AllocError> {
+    if let Some(baser0) = baser0 {
+        for call in &enabling(baser0) {
+            machine.answer(alloc, call)?;
+        }
+    }
+    play(alloc, machine, acts)
+}
+
+fn play_made(
+    alloc: Global,
+    desc: &Desc,
+    baser0: Option<u64>,
+    acts: &[Act],
+) -> Result<Result<usize, AllocError>, MakeError>
+    requires { IsDescription desc.now }
+{
+    let mut machine = Machine::new(alloc, desc)?;
+    Ok(play_on(alloc, &mut machine, baser0, acts))
+}
+
+// How many of the acts a machine with these words in memory does as they say, up to the first that
+// it doesn't, or why there is no such machine.
+fn played(
     alloc: Global,
     words: &[(u64, u64)],
-    baser0: u64,
+    restore: Option<RegValues>,
+    baser0: Option<u64>,
     acts: &[Act],
-) -> Result<usize, Fail> {
-    let desc = desc(alloc, Profile::One, words)?;
-    let mut machine = Machine::new(alloc, &desc)?;
-    for call in &enabling(baser0) {
-        machine.answer(alloc, call)?;
+) -> Result<Result<usize, MakeError>, Fail> {
+    let mut desc = desc(alloc, Profile::One, words)?;
+    desc.restore = restore;
+    match play_made(alloc, &desc, baser0, acts) {
+        Ok(count) => Ok(Ok(count?)),
+        Err(error) => Ok(Err(error)),
     }
-    Ok(play(alloc, &mut machine, acts)?)
 }
 
 // ---- migrations
@@ -132,8 +163,8 @@ const MOVED: [Act; 14] = [
 
 #[test]
 fn one_interrupt_is_moved(rt: HostRuntime) -> Result<(), Fail> {
-    let done = play_enabled(rt.alloc(), &[ENABLED], FLAT, &MOVED)?;
-    assert_eq!(rt; done, 14);
+    let done = played(rt.alloc(), &[ENABLED], None, Some(FLAT), &MOVED)?;
+    assert_eq!(rt; done, Ok(14));
     Ok(())
 }
 
@@ -148,10 +179,8 @@ const EMPTY: [Act; 6] = [
 
 #[test]
 fn an_empty_machine_is_moved(rt: HostRuntime) -> Result<(), Fail> {
-    let desc = desc(rt.alloc(), Profile::One, &[ENABLED])?;
-    let mut machine = Machine::new(rt.alloc(), &desc)?;
-    let done = play(rt.alloc(), &mut machine, &EMPTY)?;
-    assert_eq!(rt; done, 6);
+    let done = played(rt.alloc(), &[ENABLED], None, None, &EMPTY)?;
+    assert_eq!(rt; done, Ok(6));
     Ok(())
 }
 
@@ -179,8 +208,8 @@ fn devices_far_apart_in_two_levels(rt: HostRuntime) -> Result<(), Fail> {
         (0x8000_0000, 0x8000_0000_8008_0000),
         (0x8000_0010, 0x8000_0000_8009_0000),
     ];
-    let done = play_enabled(rt.alloc(), &words, TWO_LEVELS, &FAR_IN_TWO_LEVELS)?;
-    assert_eq!(rt; done, 13);
+    let done = played(rt.alloc(), &words, None, Some(TWO_LEVELS), &FAR_IN_TWO_LEVELS)?;
+    assert_eq!(rt; done, Ok(13));
     Ok(())
 }
 
@@ -192,8 +221,8 @@ const NO_PLACE: [Act; 1] = [Act::Asks(Line::Refused(
 #[test]
 fn a_device_without_a_page(rt: HostRuntime) -> Result<(), Fail> {
     let words = [(0x8000_0000, 0x8000_0000_8008_0000)];
-    let done = play_enabled(rt.alloc(), &words, TWO_LEVELS, &NO_PLACE)?;
-    assert_eq!(rt; done, 1);
+    let done = played(rt.alloc(), &words, None, Some(TWO_LEVELS), &NO_PLACE)?;
+    assert_eq!(rt; done, Ok(1));
     Ok(())
 }
 
@@ -210,8 +239,8 @@ const FAR_IN_ONE: [Act; 8] = [
 
 #[test]
 fn devices_far_apart_in_a_flat_table(rt: HostRuntime) -> Result<(), Fail> {
-    let done = play_enabled(rt.alloc(), &[], FOUR_PAGES, &FAR_IN_ONE)?;
-    assert_eq!(rt; done, 8);
+    let done = played(rt.alloc(), &[], None, Some(FOUR_PAGES), &FAR_IN_ONE)?;
+    assert_eq!(rt; done, Ok(8));
     Ok(())
 }
 
@@ -230,8 +259,8 @@ const FAR_EVENTS: [Act; 10] = [
 
 #[test]
 fn events_far_apart(rt: HostRuntime) -> Result<(), Fail> {
-    let done = play_enabled(rt.alloc(), &[], FLAT, &FAR_EVENTS)?;
-    assert_eq!(rt; done, 10);
+    let done = played(rt.alloc(), &[], None, Some(FLAT), &FAR_EVENTS)?;
+    assert_eq!(rt; done, Ok(10));
     Ok(())
 }
 
@@ -255,8 +284,8 @@ const OVERLAPPING: [Act; 14] = [
 
 #[test]
 fn tables_that_overlap(rt: HostRuntime) -> Result<(), Fail> {
-    let done = play_enabled(rt.alloc(), &[ENABLED], FLAT, &OVERLAPPING)?;
-    assert_eq!(rt; done, 14);
+    let done = played(rt.alloc(), &[ENABLED], None, Some(FLAT), &OVERLAPPING)?;
+    assert_eq!(rt; done, Ok(14));
     Ok(())
 }
 
@@ -276,8 +305,8 @@ const READ_AGAIN: [Act; 10] = [
 
 #[test]
 fn configurations_are_read_again(rt: HostRuntime) -> Result<(), Fail> {
-    let done = play_enabled(rt.alloc(), &[ENABLED], FLAT, &READ_AGAIN)?;
-    assert_eq!(rt; done, 10);
+    let done = played(rt.alloc(), &[ENABLED], None, Some(FLAT), &READ_AGAIN)?;
+    assert_eq!(rt; done, Ok(10));
     Ok(())
 }
 
@@ -292,10 +321,9 @@ const VALUES: RegValues = RegValues {
     baser1: 0x8407_0000_8001_0200,
 };
 
-// A machine restored from device 16 with events 3 and 7, and old entries at places that no entry
-// leads to.
-fn restored(alloc: Global, event: u64) -> Result<Machine, MakeError> {
-    let words = [
+// Device 16 with events 3 and 7, and old entries at places that no entry leads to.
+fn words(event: u64) -> [(u64, u64); 8] {
+    [
         ENABLED,
         (0x8001_0000, 0x8000_0000_0002_0001),
         (0x8000_0080, 0x8000_0000_1001_8004),
@@ -304,10 +332,7 @@ fn restored(alloc: Global, event: u64) -> Result<Machine, MakeError> {
         (0x800c_0028, 0xffff_ffff_ffff_ffff),
         (0x800c_0038, 0x0000_0000_2009_0001),
         (0x8006_0400, 0x0100),
-    ];
-    let mut desc = desc(alloc, Profile::One, &words)?;
-    desc.restore = Some(VALUES);
-    Machine::new(alloc, &desc)
+    ]
 }
 
 const RESTORED: [Act; 12] = [
@@ -327,19 +352,17 @@ const RESTORED: [Act; 12] = [
 
 #[test]
 fn a_machine_is_restored(rt: HostRuntime) -> Result<(), Fail> {
-    let mut machine = restored(rt.alloc(), 0x0004_0000_2008_0001)?;
-    let done = play(rt.alloc(), &mut machine, &RESTORED)?;
-    assert_eq!(rt; done, 12);
+    let words = words(0x0004_0000_2008_0001);
+    let done = played(rt.alloc(), &words, Some(VALUES), None, &RESTORED)?;
+    assert_eq!(rt; done, Ok(12));
     Ok(())
 }
 
 #[test]
 fn a_machine_that_is_not_restored(rt: HostRuntime) -> Result<(), Fail> {
+    let words = words(0x001d_0000_2008_0001);
+    let done = played(rt.alloc(), &words, Some(VALUES), None, &[])?;
     let fault = RestoreFault::PastEnd(Table::Itt(DeviceId(16)), 3, 29);
-    let made = restored(rt.alloc(), 0x001d_0000_2008_0001);
-    assert_eq!(rt;
-        made.err(),
-        Some(MakeError::Fault(DescFault::Restore(fault)))
-    );
+    assert_eq!(rt; done, Err(MakeError::Fault(DescFault::Restore(fault))));
     Ok(())
 }
