@@ -1,11 +1,12 @@
 -- What a status says, by what the words are and by what was read.
-use Rattle.std.proofs.Common.{◌≡◌, ◌⊎◌, ℕ, ◌<◌, ◌≤◌, List, [], ◌++◌, length, codes, Bool, true, false, Option, Some, None, Result, Ok, Err, refl, sym, ap, subst, ◌∙◌, inl, inr, arith}
+use Rattle.std.proofs.Common.{◌≡◌, ◌⊎◌, ℕ, ◌<◌, ◌≤◌, List, [], ◌∷◌, ◌++◌, length, codes, Bool, true, false, Option, Some, None, Result, Ok, Err, refl, sym, ap, subst, ◌∙◌, inl, inr, arith}
 use Rattle.std.specs.Prelude.{MatchBool}
 use Rattle.gits_regs.specs.declared.values.RegValues.{RegValues}
 use Rattle.its_types.specs.declared.translation.Bases.{Bases}
 use Rattle.its_plain.specs.Described.{IsFirstState, IsRefused, StartsAt, restored_bases}
 use Rattle.its_plain.specs.Machine.{made}
 use Rattle.its_plain.specs.Plain.{Plain}
+use Rattle.its_plain.specs.Runs.{IsPartialRun}
 use Rattle.its_plain.specs.declared.desc.Desc.{Desc}
 use Rattle.its_plain.specs.declared.desc.DescFault.{DescFault}
 use Rattle.standing_states.proofs.Offences.{stands_without}
@@ -18,6 +19,8 @@ use Rattle.its_cli.specs.Its.{is_run_command, Causes, RunCauses, WasRead, IsScri
 use Rattle.its_cli.specs.Answered.{InputCauses, RunEnds, IsSoFar, StopsShort}
 use Rattle.its_cli.specs.declared.status.Status.{Status}
 use Rattle.its_cli.specs.declared.status.Status.TheVariants as status
+use Rattle.its_cli.proofs.Enabling.{partial_lpis}
+use Rattle.its_cli.proofs.Lines.{scripts_off}
 use Rattle.its_cli.proofs.Migrations.{partial_run, part_of_none}
 use Rattle.its_cli.proofs.Endings.{ends_well, ends_spent, ends_refused, all_end_well}
 
@@ -54,7 +57,7 @@ read_causes told rose input status.Spent text was h = (input, (was, h))
 read_causes told rose input status.TooLong text was h = absurd h
 
 of_script : (Says : Script → Plain → List ℕ → Type 0) (input : List ℕ) (script : Script) (first : Plain) (text : List ℕ) → IsScript input script first → Says script first text → OfScript Says input text
-of_script Says input script first text is h = record { script = script; first = first; is_script = is; says = h }
+of_script Says input script first text is h = record { script = script; first = first; is_script = is; off = scripts_off input script is.read; says = h }
 
 -- a run of a script that was read
 pub run_causes : (input : List ℕ) (script : Script) (first : Plain) (s : Status) (text : List ℕ) → IsScript input script first → RunEnds script first s text → InputCauses input s text
@@ -74,15 +77,19 @@ pub so_far : (input : List ℕ) (script : Script) (first : Plain) (report : List
 so_far input script first report is h = inr (of_script IsSoFar input script first report is h)
 
 cut_short : (script : Script) (first : Plain) (report : List ℕ) → IsSoFar script first report → IsCutShort script first (report ++ codes "refused memory\n")
-cut_short script first report h = record {
-  histories = h.histories;
-  now = h.now;
-  leg = h.leg;
-  later = h.later;
-  earlier = h.earlier;
-  partial = partial_run script.desc.limits.place_last first script.legs h.histories h.now h.leg h.later [] h.earlier (part_of_none h.now h.leg);
-  same = ap (λ (t : List ℕ). t ++ codes "refused memory\n") h.same;
-}
+cut_short script first report h =
+    let partial : IsPartialRun first script.legs (h.histories ++ [] ∷ []) =
+    partial_run script.desc.limits.place_last first script.legs h.histories h.now h.leg h.later [] h.earlier (part_of_none h.now h.leg) in
+    record {
+      histories = h.histories;
+      now = h.now;
+      leg = h.leg;
+      later = h.later;
+      earlier = h.earlier;
+      partial = partial;
+      lpis = partial_lpis script first (h.histories ++ [] ∷ []) partial;
+      same = ap (λ (t : List ℕ). t ++ codes "refused memory\n") h.same;
+    }
 
 pub short_causes : (told : Option (List ℕ)) (rose : Type 0) (input report : List ℕ) → WasRead told input → StopsShort input report → RunCauses told rose status.Memory (report ++ codes "refused memory\n")
 short_causes told rose input report was h =

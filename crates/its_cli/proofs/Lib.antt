@@ -1,10 +1,13 @@
 pub mod Pieces
+pub mod Drafts
+pub mod Lines
 pub mod Saying
 pub mod Sharing
 pub mod Playing
 pub mod Runs
 pub mod Moving
 pub mod Migrations
+pub mod Enabling
 pub mod Scripts
 pub mod Endings
 pub mod Causes

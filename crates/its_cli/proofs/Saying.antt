@@ -7,6 +7,7 @@ use Rattle.event_script.specs.declared.script.Script.{Script}
 use Rattle.its_cli.specs.Its.{OfScript, IsReport, IsMigrationRefusal, IsSpentReport}
 use Rattle.its_cli.specs.Answered.{RunEnds, InputCauses, StopsShort, IsSoFar}
 use Rattle.its_cli.specs.declared.status.Status.{Status}
+use Rattle.its_cli.proofs.Lines.{scripts_off}
 use Rattle.its_cli.specs.declared.status.Status.TheVariants as status
 
 module _ (input : List ℕ) (script : Script) (first made : Plain) (read : script_of input ≡ Ok script) (starts : IsFirstState script.desc made) (same : first ≡ made) where
@@ -15,6 +16,7 @@ module _ (input : List ℕ) (script : Script) (first made : Plain) (read : scrip
     script = script;
     first = first;
     is_script = record { read = read; starts = subst (IsFirstState script.desc) (sym same) starts };
+    off = scripts_off input script read;
     says = says;
   }
 

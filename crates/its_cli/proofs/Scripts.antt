@@ -3,7 +3,7 @@ use Rattle.std.proofs.Common.{◌≡◌, ℕ, suc, ◌+◌, ◌-◌, ◌<◌, �
 use Rattle.std.proofs.lemmas.List.{append-nil, length-append, length-take, get_or-take}
 use Rattle.std.proofs.Math.Seq.{drop-cons, drop-length}
 use Rattle.its_plain.specs.Plain.{Plain}
-use Rattle.its_plain.specs.Runs.{Leg}
+use Rattle.its_plain.specs.Runs.{Leg, IsRun, IsPartialRun}
 use Rattle.its_plain.specs.declared.call.Entry.{Entry}
 use Rattle.event_script.specs.declared.script.Script.{Script}
 use Rattle.its_history.specs.Report.{leg_text, report_text}
@@ -16,6 +16,7 @@ use Rattle.its_cli.specs.Its.{IsReport, IsMigrationRefusal, IsSpentReport}
 use Rattle.its_cli.specs.Answered.{IsLegSpent, IsLegMigrated, IsLegRefused, IsLegDone, LegStops, LegEnds, RunEnds, IsSoFar}
 use Rattle.its_cli.specs.declared.status.Status.{Status}
 use Rattle.its_cli.specs.declared.status.Status.TheVariants as status
+use Rattle.its_cli.proofs.Enabling.{run_lpis, partial_lpis}
 use Rattle.its_cli.proofs.Migrations.{ran_more, migrated_more, as_many, report_more, whole_run, whole_places, whole_report, part_of_whole, partial_run}
 
 -- the first i legs ran, and the report is theirs
@@ -128,6 +129,7 @@ is_spent script first i number now old new line leg later r n e s =
     let ran : HaveRun last first script.legs r.histories now (leg ∷ later) = subst (λ (ls : List Leg). HaveRun last first script.legs r.histories now ls) e r.earlier in
     let number_is : number ≡ length r.histories + 1 = omega (arith, n, r.count) in
     let line_is : line ≡ spent_refusal (length r.histories + 1) = s.line_is ∙ ap spent_refusal number_is in
+    let partial : IsPartialRun first script.legs (r.histories ++ s.history ∷ []) = partial_run last first script.legs r.histories now leg later s.history ran s.is_part in
     let here : new ≡ report_text (migrated first script.legs r.histories ++ cut_leg leg s.history ∷ []) = placed script first i number now old new (cut_leg leg s.history) r n s.added in
     record {
       histories = r.histories;
@@ -137,7 +139,8 @@ is_spent script first i number now old new line leg later r n e s =
       earlier = ran;
       history = s.history;
       is_part = s.is_part;
-      partial = partial_run last first script.legs r.histories now leg later s.history ran s.is_part;
+      partial = partial;
+      lpis = partial_lpis script first (r.histories ++ s.history ∷ []) partial;
       all_places = s.all_places;
       more = s.more;
       same = ap (λ (t : List ℕ). t ++ line) here ∙ ap (λ (t : List ℕ). report_text (migrated first script.legs r.histories ++ cut_leg leg s.history ∷ []) ++ t) line_is;
@@ -151,6 +154,7 @@ is_refused script first i number now old new line leg next later r n e s =
     let ran : HaveRun last first script.legs r.histories now (leg ∷ next ∷ later) = subst (λ (ls : List Leg). HaveRun last first script.legs r.histories now ls) e r.earlier in
     let number_is : number ≡ length r.histories + 1 = omega (arith, n, r.count) in
     let line_is : line ≡ migration_refusal (length r.histories + 1) s.fault = s.line_is ∙ ap (λ k. migration_refusal k s.fault) number_is in
+    let partial : IsPartialRun first script.legs (r.histories ++ h ∷ []) = partial_run last first script.legs r.histories now leg (next ∷ later) h ran (part_of_whole now leg h s.whole.is_run) in
     let here : new ≡ report_text (migrated first script.legs r.histories ++ ended now leg h None ∷ []) = placed script first i number now old new (ended now leg h None) r n s.whole.added in
     record {
       histories = r.histories;
@@ -161,7 +165,8 @@ is_refused script first i number now old new line leg next later r n e s =
       earlier = ran;
       history = h;
       is_run = s.whole.is_run;
-      partial = partial_run last first script.legs r.histories now leg (next ∷ later) h ran (part_of_whole now leg h s.whole.is_run);
+      partial = partial;
+      lpis = partial_lpis script first (r.histories ++ h ∷ []) partial;
       places = s.whole.places;
       fault = s.fault;
       refused = s.refused;
@@ -174,10 +179,12 @@ is_done script first i number now old new line leg r n e d =
     let last = script.desc.limits.place_last in
     let h = d.whole.history in
     let ran : HaveRun last first script.legs r.histories now (leg ∷ []) = subst (λ (ls : List Leg). HaveRun last first script.legs r.histories now ls) e r.earlier in
+    let run : IsRun first script.legs (r.histories ++ h ∷ []) = whole_run last first script.legs r.histories now leg h ran d.whole.is_run in
     let here : new ≡ report_text (migrated first script.legs r.histories ++ ended now leg h (Some Done) ∷ []) = placed script first i number now old new (ended now leg h (Some Done)) r n d.whole.added in
     record {
       histories = r.histories ++ h ∷ [];
-      is_run = whole_run last first script.legs r.histories now leg h ran d.whole.is_run;
+      is_run = run;
+      lpis = run_lpis script first (r.histories ++ h ∷ []) run;
       places = whole_places last first script.legs r.histories now leg ran d.whole.places;
       same = ap (λ (t : List ℕ). new ++ t) d.line_is ∙ append-nil new ∙ here ∙ ap report_text (whole_report last first script.legs r.histories now leg h ran);
     }

@@ -9,11 +9,13 @@ use Rattle.its_plain.specs.Runs.{Leg, IsRun, IsLegRun, IsPartOfLegRun, IsPartial
 use Rattle.its_plain.specs.declared.call.Entry.{Entry}
 use Rattle.its_plain.specs.declared.desc.DescFault.{DescFault}
 use Rattle.its_plain.specs.declared.fault.SaveFault.{SaveFault}
+use Rattle.lpi_enabling.specs.Enabling.{RestoresOff, FollowEnabling}
 use Rattle.event_script.specs.Script.{script_of}
 use Rattle.event_script.specs.declared.fault.ScriptFault.{ScriptFault}
 use Rattle.event_script.specs.declared.script.Script.{Script}
 use Rattle.its_history.specs.Report.{report_text}
 use Rattle.its_cli.specs.Streams.{Tells}
+use Rattle.its_cli.specs.Lines.{StartsOff}
 use Rattle.script_threads.specs.Legs.{call_count}
 use Rattle.its_cli.specs.Legs.{HasPlaces, HaveRun, CanMigrate, AllEnd}
 use Rattle.its_history.specs.Reports.{reported, migrated, ended, cut_leg}
@@ -54,14 +56,22 @@ pub record OfScript (Says : Script → Plain → List ℕ → Type 0) (input tex
   pub script : Script
   pub first : Plain
   pub is_script : IsScript input script first
+  -- with a line `gicr` and no line `rrestore` no redistributor is restored with LPIs on
+  pub off : StartsOff input → RestoresOff script.desc.tables
   pub says : Says script first text
 
 -- ---- a script's run
+
+-- where its machine starts in this state, the guest programs the LPI registers, and none is restored with LPIs on, an LPI is
+-- delivered, taken, shown or pending only after a call that turned those of its virtual processor on
+abbrev pub LpisFollow : Script → Plain → List (List Entry) → Type 0
+LpisFollow script first histories = IsFirstState script.desc first → RestoresOff script.desc.tables → FollowEnabling first histories
 
 -- the report of a run of all legs
 pub record IsReport (script : Script) (first : Plain) (text : List ℕ) : Type 0 where
   pub histories : List (List Entry)
   pub is_run : IsRun first script.legs histories
+  pub lpis : LpisFollow script first histories
   pub places : HasPlaces script.desc.limits.place_last script.legs
   pub same : text ≡ report_text (reported first script.legs histories)
 
@@ -75,6 +85,7 @@ pub record IsSpentReport (script : Script) (first : Plain) (text : List ℕ) : T
   pub history : List Entry
   pub is_part : IsPartOfLegRun now leg history
   pub partial : IsPartialRun first script.legs (histories ++ history ∷ [])
+  pub lpis : LpisFollow script first (histories ++ history ∷ [])
   pub all_places : length history ≡ script.desc.limits.place_last
   pub more : script.desc.limits.place_last < call_count leg
   pub same : text ≡ report_text (migrated first script.legs histories ++ cut_leg leg history ∷ []) ++ spent_refusal (length histories + 1)
@@ -90,6 +101,7 @@ pub record IsMigrationRefusal (script : Script) (first : Plain) (text : List ℕ
   pub history : List Entry
   pub is_run : IsLegRun now leg history
   pub partial : IsPartialRun first script.legs (histories ++ history ∷ [])
+  pub lpis : LpisFollow script first (histories ++ history ∷ [])
   pub places : call_count leg ≤ script.desc.limits.place_last
   pub fault : SaveFault
   pub refused : savable (after now history) ≡ Err fault
@@ -103,6 +115,7 @@ pub record IsCutShort (script : Script) (first : Plain) (text : List ℕ) : Type
   pub later : List Leg
   pub earlier : HaveRun script.desc.limits.place_last first script.legs histories now (leg ∷ later)
   pub partial : IsPartialRun first script.legs (histories ++ [] ∷ [])
+  pub lpis : LpisFollow script first (histories ++ [] ∷ [])
   pub same : text ≡ report_text (migrated first script.legs histories) ++ codes "refused memory\n"
 
 -- ---- causes

@@ -1,4 +1,5 @@
 pub mod Streams
+pub mod Lines
 pub mod Legs
 pub mod Played
 pub mod Refusals

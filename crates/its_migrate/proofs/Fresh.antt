@@ -1,5 +1,5 @@
 -- A machine that was just made of the parts that a description tells.
-use Rattle.std.proofs.Common.{◌≡◌, ◌<◌, ℕ, List, map, Option, Some, None, Result, Ok, Err, refl, sym, ap, ◌∙◌, subst, arith}
+use Rattle.std.proofs.Common.{◌≡◌, List, map, Option, Some, None, Result, Ok, Err, refl, sym, ap, ◌∙◌, subst, arith}
 use Rattle.std.specs.Prelude.{IfOk}
 use Rattle.guest_windows.specs.Windows.{are_windows, zeros}
 use Rattle.guest_windows.specs.Fields.{pairs}

@@ -10,7 +10,7 @@ use Rattle.its_plain.specs.Sound.{IsSound}
 use Rattle.its_plain.specs.declared.call.Call.TheVariants as call
 use Rattle.its_plain.specs.declared.fault.SaveFault.{SaveFault}
 use Rattle.its_plain.specs.declared.layout.Layout.{Layout}
-use Rattle.owned_parts.specs.Owned.{AreAllInHand, state_of_parts}
+use Rattle.owned_parts.specs.Owned.{AreAllInHand, state_of, state_of_parts}
 use Rattle.its_steps.specs.Calls.{staying, whole_held, MayLeave}
 use Rattle.its_steps.specs.Contents.{Held}
 use Rattle.its_steps.specs.MayCall.{MayCall}
@@ -74,15 +74,17 @@ module _ (s : Setup) (v w : View) (x : Whole) (taken : HasTaken s v x w) (l : La
     pub save_may : (z : Word) → z.place < s.limits.place_last → MayCall s (staying z call.Save (save_reply r) Keep) w.held
     save_may = may_here s call.Save (save_reply r) Keep (whole_held u) (λ _. left_held) leaves w holds_all
 
-    -- with the copy in place of memory all that is owed is in hand
-    pub save_owes : w.setup ≡ s → (z : Word) (y : View) (memory : List Window) (after_it : Whole) → after_it.redists ≡ x.redists
-        → state_of_parts (parts_of s.start.layout after_it) ≡ record (state_of_parts (parts_of s.start.layout x)) { memory = memory }
-        → memory ≡ (save_left (state_of_parts (parts_of l x)) r).memory → Makes w (staying z call.Save (save_reply r) Keep) y
+    -- with the tables written all that is owed is in hand
+    pub save_owes : w.setup ≡ s → (z : Word) (y : View) (after_it : Whole) → after_it.tables ≡ x.tables → after_it.redists ≡ x.redists
+        → after_it.memory.value.memory ≡ (save_left (state_of_parts (parts_of l x)) r).memory → Makes w (staying z call.Save (save_reply r) Keep) y
         → y.held ≡ held_whole (vcpu_count s) after_it
-    save_owes own z y memory after_it hands state is made =
+    save_owes own z y after_it tables hands is made =
+        let memory : List Window = after_it.memory.value.memory in
+        let before : Plain = state_of_parts (parts_of s.start.layout x) in
+        let state : state_of_parts (parts_of s.start.layout after_it) ≡ record before { memory = memory } =
+        λ d. state_of s.start.layout (tables d).value.regs (tables d).value.maps.maps memory (hands d) in
         owes_here s call.Save (save_reply r) Keep (whole_held u) (λ _. left_held) leaves w holds_all own z y made
-        ∙ (ap (λ (q : Plain). whole_held q)
-        (sym (state ∙ saved_so u (state_of_parts (parts_of s.start.layout x)) (state_of_parts (parts_of l x)) r memory taken.state (taken_state s v w x taken l same) answered is))
+        ∙ (ap (λ (q : Plain). whole_held q) (sym (state ∙ saved_so u before (state_of_parts (parts_of l x)) r memory taken.state (taken_state s v w x taken l same) answered is))
         ∙ sym (held_is s after_it (subst (λ (rs : List (Option Redist)). AreFirstOf s (vcpu_count s) rs) (sym hands) taken.hand)))
 
   -- ---- what the pass knows

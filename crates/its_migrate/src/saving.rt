@@ -12,13 +12,13 @@ ghost use Rattle.its_migrate.specs.Wholes.{parts_of};
 
 use crate::getting::Waiting;
 use crate::whole::{Whole, put_all, take_all};
-use guest_windows::Memory;
-use its_plain::{Call, Layout, Reply, SaveError, SaveFault};
+use its_plain::{Call, Layout, Reply, SaveFault};
 use its_steps::ShardChange;
 use its_turns::{Lost, Machine, Pass, pause, try_commit};
 use its_types::{Gate, Placed};
 use std::alloc::{AllocError, Global};
 use std::sync::Wait;
+use table_save::{SaveRoom, savable_in, write_tables};
 
 /// Why no save was made.
 #[derive(Clone, Copy, Debug, PartialEq, Eq)]
@@ -96,7 +96,7 @@ fn save_once<R: Wait, G: Gate>(
 {
     let layout = machine.desc().layout(alloc)?;
     let mut whole = take_all(&Waiting { rt }, machine, pass, gate);
-    let Ok((reply, saved)) = saved_copy(alloc, &layout, &whole) else {
+    let Ok(reply) = saves(alloc, &layout, &whole) else {
         put_all(machine, pass, whole);
         return Err(Unmade::NoMemory);
     };
@@ -109,7 +109,7 @@ fn save_once<R: Wait, G: Gate>(
         ShardChange::Keep,
     ) {
         Ok(word) => {
-            whole.memory.memory = saved;
+            write(&layout, &reply, &mut whole);
             put_all(machine, pass, whole);
             Ok(Placed {
                 place: word.place,
@@ -123,31 +123,42 @@ fn save_once<R: Wait, G: Gate>(
     }
 }
 
-// The reply to a save, and memory as it leaves it: a copy, into which it saves.
-fn saved_copy(
-    alloc: Global,
-    layout: &Layout,
-    whole: &Whole,
-) -> Result<(Result<(), SaveFault>, Memory), AllocError>
+// What a save of the parts answers. Nothing after this takes memory.
+fn saves(alloc: Global, layout: &Layout, whole: &Whole) -> Result<Result<(), SaveFault>, AllocError>
     requires hand { AreAllInHand layout.now.shape whole.now.redists }
     requires sound { IsSound (state_of_parts (parts_of layout.now whole.now)) }
-    ensures reply { IfOk result (λ x. x.0 ≡ regions.savable (state_of_parts (parts_of layout.now
+    ensures { IfOk result (λ r. r ≡ regions.savable (state_of_parts (parts_of layout.now
         whole.now))) }
-    ensures memory { IfOk result (λ x. x.1 ≡ (save_left (state_of_parts (parts_of layout.now
-        whole.now)) x.0).memory) }
 {
-    let mut copy = whole.memory.memory.copy(alloc)?;
-    match table_save::save(
-        alloc,
-        &whole.tables.regs,
-        &whole.tables.maps,
+    let tables = &whole.tables;
+    let mut room = SaveRoom::for_maps(alloc, &tables.maps)?;
+    Ok(savable_in(
+        &tables.regs,
+        &tables.maps,
         &whole.redists,
         layout,
-        &mut copy,
-    ) {
-        Ok(()) => Ok((Ok(()), copy)),
-        Err(SaveError::Fault(fault)) => Ok((Err(fault), copy)),
-        Err(SaveError::NoMemory) => Err(AllocError),
+        &whole.memory.memory,
+        &mut room,
+    ))
+}
+
+// Writes the tables to guest memory, where they are saved.
+fn write(layout: &Layout, saved: &Result<(), SaveFault>, whole: &mut Whole)
+    requires hand { AreAllInHand layout.now.shape whole.old.redists }
+    requires sound { IsSound (state_of_parts (parts_of layout.now whole.old)) }
+    ensures tables { whole.new.tables ≡ whole.old.tables }
+    ensures redists { whole.new.redists ≡ whole.old.redists }
+    ensures memory { whole.new.memory.value.memory ≡ (save_left (state_of_parts (parts_of layout.now
+        whole.old)) saved.now).memory }
+{
+    if saved.is_ok() {
+        write_tables(
+            &whole.tables.regs,
+            &whole.tables.maps,
+            &whole.redists,
+            layout,
+            &mut whole.memory.memory,
+        );
     }
 }
 

@@ -1,5 +1,6 @@
 pub mod Overlaps
 pub mod CollectionWalks
+pub mod FirstPages
 pub mod PageTables
 pub mod Redistributors
 pub mod Rises

@@ -1,6 +1,6 @@
 -- The tests of the code are those of the definition.
 use Rattle.std.proofs.Common.{◌≡◌, ℕ, List, [], ◌∷◌, ◌++◌, Option, Some, None, Result, Ok, Err, refl, sym, ap, ◌∙◌, append-nil}
-use Rattle.std.specs.Prelude.{find, IsErrAnd}
+use Rattle.std.specs.Prelude.{find}
 use Rattle.std.specs.FinMap.{entries}
 use Rattle.guest_windows.specs.Windows.{Window}
 use Rattle.gits_regs.specs.Registers.{Registers}
@@ -15,9 +15,7 @@ use Rattle.its_plain.specs.declared.fault.SaveFault.TheVariants.{NoPlace}
 use Rattle.lpi_pending.specs.declared.redist.Redist.{Redist}
 use Rattle.owned_parts.specs.Owned.{state_of}
 use Rattle.table_save.specs.Areas.{tables_in, all_areas, redistributors_of, config_areas, queue_areas}
-use Rattle.table_save.specs.Checked.{outside_fault, unplaced_fault, Answers}
-use Rattle.its_plain.specs.declared.fault.SaveError.{SaveError}
-use Rattle.its_plain.specs.declared.fault.SaveError.TheVariants as errors
+use Rattle.table_save.specs.Checked.{outside_fault, unplaced_fault}
 
 abbrev placed_or : Option (ℕ × Device) → Result (Unit {0}) SaveFault → Result (Unit {0}) SaveFault
 placed_or None rest = rest
@@ -75,9 +73,3 @@ module _ (l : Layout) (r : Registers) (m : Maps) (memory : List Window) (redists
   when_placed inside placed =
       savable_is ∙ ap (λ (p : Result (Unit {0}) SaveFault). p >>= λ _. placed_test >>= λ _. none_overlap all) inside
       ∙ ap (λ (p : Result (Unit {0}) SaveFault). p >>= λ _. none_overlap all) placed
-
--- a fault that was met is the answer
-pub answered : (result : Result (Unit {0}) SaveError) (f : SaveFault) (s : Result (Unit {0}) SaveFault) → IsErrAnd result (λ e. e ≡ errors.Fault f) → s ≡ Err f → Answers result s
-answered (Ok done) f s is e = absurd is
-answered (Err errors.NoMemory) f s is e = tt
-answered (Err (errors.Fault g)) f s is e = let same : g ≡ f = cc in e ∙ ap Err (sym same)

@@ -37,6 +37,12 @@ pub record ArePages (r : Registers) (memory : List Window) (pages : List (Option
   pub each : (k : ℕ) → k < length pages → option_map address_of (page_at pages k) ≡ page_of (level1_of r memory k)
   pub low : AreLowPages pages
 
+-- those of the first n level-1 entries, in an array that has places to spare
+pub record AreFirstPages (r : Registers) (memory : List Window) (n : ℕ) (pages : List (Option Addr)) : Type 0 where
+  pub places : length pages ≡ 128
+  pub each : (k : ℕ) → k < n → option_map address_of (page_at pages k) ≡ page_of (level1_of r memory k)
+  pub low : AreLowPages pages
+
 -- a page of n places, of which the first is that of a DeviceID
 abbrev pub page_table : List (ℕ × Device) → ℕ → ℕ → Option Addr → List Words
 page_table devices first n None = []

@@ -1,6 +1,6 @@
 //! The stretches of guest memory that a save looks at.
 
-ghost use Rattle.std.specs.Prelude.{◌≡◌, ◌+◌, ◌*◌, ◌++◌, ◌≤◌, ◌<◌, ◌^◌, OnOk};
+ghost use Rattle.std.specs.Prelude.{◌≡◌, ◌+◌, ◌*◌, ◌≤◌, ◌<◌, ◌^◌, length};
 ghost use Rattle.std.specs.FinMap.{entries};
 ghost use Rattle.std.specs.List.{AllByRecursion};
 ghost use Rattle.baser_place.specs.Places as places;
@@ -11,8 +11,10 @@ ghost use Rattle.owned_parts.specs.Owned.{AreAllInHand};
 ghost use Rattle.table_save.specs.Areas.{page_area, level1_areas, itt_areas, redistributors_of};
 ghost use Rattle.table_save.specs.Areas.{pending_area, own_config_area, config_areas, queue_areas};
 ghost use Rattle.table_save.specs.Areas.{HasLowTable, HaveLowTables};
+ghost use Rattle.table_save.specs.Rooms.{Appended, HasRoom};
 
 use crate::area::Stretch;
+use crate::area_list::AreaList;
 use baser_place::{Level1, level1, level1_entries};
 use gits_regs::Regs;
 use guest_windows::Memory;
@@ -20,85 +22,85 @@ use its_maps::Maps;
 use its_plain::{Layout, Region};
 use its_types::{Bases, Device, DeviceId, Shape, Vcpu};
 use lpi_pending::Redists;
-use std::alloc::AllocError;
 
 // A page of 64 KiB.
 const PAGE: u64 = 65536;
 
 /// Appends those of the device table.
 #[tactic(auto, unfolding(its_plain::specs::Regions::device_areas))]
-pub fn add_devices(areas: &mut Vec<Stretch>, regs: &Regs, memory: &Memory) -> Result<(), AllocError>
-    ensures { OnOk result (areas.new.items ≡ areas.old.items ++ spec.device_areas regs.now memory.now) }
+pub fn add_devices(areas: &mut AreaList, regs: &Regs, memory: &Memory)
+    requires room { HasRoom 129 areas.old }
+    ensures { Appended 129 (spec.device_areas regs.now memory.now) areas.old areas.new }
 {
     if !regs.table_valid(0) {
-        return Ok(());
+        return;
     }
     if regs.indirect() {
-        return add_levels(areas, regs, memory);
+        add_levels(areas, regs, memory);
+        return;
     }
     let pages = regs.pages(0).min(level1_entries(regs));
     let size = PAGE * u64::from(pages);
-    areas.push(Stretch::written(Region::Devices, regs.table_base(0).0, size))?;
-    Ok(())
+    areas.push(Stretch::written(Region::Devices, regs.table_base(0).0, size));
 }
 
 // Those of a device table of two levels: its first level, and the page of each valid level-1 entry.
-fn add_levels(areas: &mut Vec<Stretch>, regs: &Regs, memory: &Memory) -> Result<(), AllocError>
-    ensures { OnOk result (areas.new.items ≡ areas.old.items ++ level1_areas regs.now memory.now) }
+fn add_levels(areas: &mut AreaList, regs: &Regs, memory: &Memory)
+    requires room { HasRoom 129 areas.old }
+    ensures { Appended 129 (level1_areas regs.now memory.now) areas.old areas.new }
 {
     let base = regs.table_base(0);
     let size = 8 * u64::from(level1_entries(regs));
-    areas.push(Stretch::read_only(Region::Level1, base.0, size))?;
+    areas.push(Stretch::read_only(Region::Level1, base.0, size));
     if memory.inside(base, size) {
-        add_pages(areas, regs, memory)?;
+        add_pages(areas, regs, memory);
     }
-    Ok(())
 }
 
-fn add_pages(areas: &mut Vec<Stretch>, regs: &Regs, memory: &Memory) -> Result<(), AllocError>
-    ensures { OnOk result (areas.new.items
-        ≡ areas.old.items ++ spec.pages_below regs.now memory.now
-        (places.level1_entries regs.now.dev_bits)) }
+fn add_pages(areas: &mut AreaList, regs: &Regs, memory: &Memory)
+    requires room { HasRoom (places.level1_entries regs.now.dev_bits) areas.old }
+    ensures { let count = places.level1_entries regs.now.dev_bits in Appended count
+        (spec.pages_below regs.now memory.now count) areas.old areas.new }
 {
     for k in 0..level1_entries(regs) {
-        add_page(areas, k, level1(regs, memory, k))?;
+        add_page(areas, k, level1(regs, memory, k));
     }
-    Ok(())
 }
 
-fn add_page(areas: &mut Vec<Stretch>, k: u32, entry: Level1) -> Result<(), AllocError>
-    requires { places.HasLowPage entry }
-    ensures { OnOk result (areas.new.items ≡ areas.old.items ++ page_area k (places.page_of entry)) }
+fn add_page(areas: &mut AreaList, k: u32, entry: Level1)
+    requires room { HasRoom 1 areas.old }
+    requires entry { places.HasLowPage entry }
+    ensures { Appended 1 (page_area k (places.page_of entry)) areas.old areas.new }
 {
     match entry {
         Level1::Page(page) => {
-            areas.push(Stretch::written(Region::Page(k), page.0, PAGE))?;
-            Ok(())
+            areas.push(Stretch::written(Region::Page(k), page.0, PAGE));
         }
-        Level1::Empty | Level1::Outside(_) => Ok(()),
+        Level1::Empty | Level1::Outside(_) => {}
     }
 }
 
 /// Appends that of the collection table.
-pub fn add_collections(areas: &mut Vec<Stretch>, regs: &Regs) -> Result<(), AllocError>
-    ensures { OnOk result (areas.new.items ≡ areas.old.items ++ spec.collection_areas regs.now) }
+pub fn add_collections(areas: &mut AreaList, regs: &Regs)
+    requires room { HasRoom 1 areas.old }
+    ensures { Appended 1 (spec.collection_areas regs.now) areas.old areas.new }
 {
     if regs.table_valid(1) {
         let size = PAGE * u64::from(regs.pages(1).min(8));
-        areas.push(Stretch::written(Region::Collections, regs.table_base(1).0, size))?;
+        areas.push(Stretch::written(Region::Collections, regs.table_base(1).0, size));
     }
-    Ok(())
 }
 
 /// Appends those of the interrupt translation tables, by rising DeviceID.
-pub fn add_itts(areas: &mut Vec<Stretch>, maps: &Maps) -> Result<(), AllocError>
-    requires { AllByRecursion HasLowTable (entries maps.now.maps.devices) }
-    ensures { OnOk result (areas.new.items ≡ areas.old.items ++ itt_areas (entries maps.now.maps.devices)) }
+pub fn add_itts(areas: &mut AreaList, maps: &Maps)
+    requires room { HasRoom (length (entries maps.now.maps.devices)) areas.old }
+    requires devices { AllByRecursion HasLowTable (entries maps.now.maps.devices) }
+    ensures { Appended (length (entries maps.now.maps.devices))
+        (itt_areas (entries maps.now.maps.devices)) areas.old areas.new }
 {
     for (dev, device) in maps.devices() {
-        areas.push(itt_area(dev, device))?;
+        areas.push(itt_area(dev, device));
     }
-    Ok(())
 }
 
 fn itt_area(dev: DeviceId, device: Device) -> Stretch
@@ -110,108 +112,84 @@ fn itt_area(dev: DeviceId, device: Device) -> Stretch
 }
 
 /// Appends those of the pending tables, but for the bytes that belong to no LPI.
-pub fn add_pending(
-    areas: &mut Vec<Stretch>,
-    redists: &Redists,
-    shape: Shape,
-) -> Result<(), AllocError>
+pub fn add_pending(areas: &mut AreaList, redists: &Redists, shape: Shape)
+    requires room { HasRoom 16 areas.old }
     requires shape { IsShape shape }
     requires in_hand { AreAllInHand shape redists.now }
     requires low { HaveLowTables shape redists.now }
-    ensures { OnOk result (areas.new.items
-        ≡ areas.old.items ++ spec.areas_from (spec.pending_area shape) 0
-        (redistributors_of shape redists.now)) }
+    ensures { Appended 16 (spec.areas_from (spec.pending_area shape) 0
+        (redistributors_of shape redists.now)) areas.old areas.new }
 {
     for vcpu in 0..shape.vcpus {
         let redist = redists.redist(Vcpu(vcpu));
-        add_pending_of(areas, Vcpu(vcpu), redist.bases, shape)?;
+        add_pending_of(areas, Vcpu(vcpu), redist.bases, shape);
     }
-    Ok(())
 }
 
-fn add_pending_of(
-    areas: &mut Vec<Stretch>,
-    vcpu: Vcpu,
-    bases: Bases,
-    shape: Shape,
-) -> Result<(), AllocError>
+fn add_pending_of(areas: &mut AreaList, vcpu: Vcpu, bases: Bases, shape: Shape)
+    requires room { HasRoom 1 areas.old }
     requires shape { IsShape shape }
     requires low { AreLow bases }
-    ensures { OnOk result (areas.new.items ≡ areas.old.items ++ pending_area shape vcpu bases) }
+    ensures { Appended 1 (pending_area shape vcpu bases) areas.old areas.new }
 {
     if bases.on {
         let base = bases.pend.table.0 + 1024;
         let size = shape.pending_bytes() - 1024;
-        areas.push(Stretch::written(Region::Pending(vcpu), base, size))?;
+        areas.push(Stretch::written(Region::Pending(vcpu), base, size));
     }
-    Ok(())
 }
 
 /// Appends that of the configuration table, which all virtual processors share; or where the guest
 /// programs the LPI registers, that of each whose LPIs are on.
-pub fn add_configs(
-    areas: &mut Vec<Stretch>,
-    redists: &Redists,
-    layout: &Layout,
-) -> Result<(), AllocError>
+pub fn add_configs(areas: &mut AreaList, redists: &Redists, layout: &Layout)
+    requires room { HasRoom 16 areas.old }
     requires shape { IsShape layout.now.shape }
     requires in_hand { AreAllInHand layout.now.shape redists.now }
     requires low { HaveLowTables layout.now.shape redists.now }
-    ensures { OnOk result (areas.new.items
-        ≡ areas.old.items ++ config_areas layout.now
-        (redistributors_of layout.now.shape redists.now)) }
+    ensures { Appended 16 (config_areas layout.now
+        (redistributors_of layout.now.shape redists.now)) areas.old areas.new }
 {
     let shape = layout.shape;
     if layout.gicr {
-        return add_own_configs(areas, redists, shape);
+        add_own_configs(areas, redists, shape);
+        return;
     }
     let table = redists.redist(Vcpu(0)).bases.prop.table;
-    areas.push(Stretch::read_only(Region::Config, table.0, shape.lpi_count()))?;
-    Ok(())
+    areas.push(Stretch::read_only(Region::Config, table.0, shape.lpi_count()));
 }
 
-fn add_own_configs(
-    areas: &mut Vec<Stretch>,
-    redists: &Redists,
-    shape: Shape,
-) -> Result<(), AllocError>
+fn add_own_configs(areas: &mut AreaList, redists: &Redists, shape: Shape)
+    requires room { HasRoom 16 areas.old }
     requires shape { IsShape shape }
     requires in_hand { AreAllInHand shape redists.now }
     requires low { HaveLowTables shape redists.now }
-    ensures { OnOk result (areas.new.items
-        ≡ areas.old.items ++ spec.areas_from (spec.config_area shape) 0
-        (redistributors_of shape redists.now)) }
+    ensures { Appended 16 (spec.areas_from (spec.config_area shape) 0
+        (redistributors_of shape redists.now)) areas.old areas.new }
 {
     for vcpu in 0..shape.vcpus {
         let redist = redists.redist(Vcpu(vcpu));
-        add_own_config(areas, Vcpu(vcpu), redist.bases, shape)?;
+        add_own_config(areas, Vcpu(vcpu), redist.bases, shape);
     }
-    Ok(())
 }
 
-fn add_own_config(
-    areas: &mut Vec<Stretch>,
-    vcpu: Vcpu,
-    bases: Bases,
-    shape: Shape,
-) -> Result<(), AllocError>
+fn add_own_config(areas: &mut AreaList, vcpu: Vcpu, bases: Bases, shape: Shape)
+    requires room { HasRoom 1 areas.old }
     requires shape { IsShape shape }
     requires low { AreLow bases }
-    ensures { OnOk result (areas.new.items ≡ areas.old.items ++ own_config_area shape vcpu bases) }
+    ensures { Appended 1 (own_config_area shape vcpu bases) areas.old areas.new }
 {
     if bases.on {
         let region = Region::ConfigOf(vcpu);
-        areas.push(Stretch::read_only(region, bases.prop.table.0, shape.lpi_count()))?;
+        areas.push(Stretch::read_only(region, bases.prop.table.0, shape.lpi_count()));
     }
-    Ok(())
 }
 
 /// Appends that of the command queue.
-pub fn add_queue(areas: &mut Vec<Stretch>, regs: &Regs) -> Result<(), AllocError>
-    ensures { OnOk result (areas.new.items ≡ areas.old.items ++ queue_areas regs.now) }
+pub fn add_queue(areas: &mut AreaList, regs: &Regs)
+    requires room { HasRoom 1 areas.old }
+    ensures { Appended 1 (queue_areas regs.now) areas.old areas.new }
 {
     if regs.queue_valid() {
-        areas.push(Stretch::read_only(Region::Queue, regs.queue_base().0, regs.queue_size()))?;
+        areas.push(Stretch::read_only(Region::Queue, regs.queue_base().0, regs.queue_size()));
     }
-    Ok(())
 }

@@ -3,6 +3,7 @@
 #![tactic(auto)]
 
 mod area;
+mod area_list;
 mod areas;
 mod checks;
 mod collections;
@@ -12,7 +13,9 @@ mod events;
 mod overlap;
 mod pages;
 mod pending;
+mod room;
 mod saving;
 mod words;
 
-pub use saving::{savable, save};
+pub use room::SaveRoom;
+pub use saving::{savable, savable_in, save, save_in, write_tables};

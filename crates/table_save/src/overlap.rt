@@ -1,25 +1,30 @@
-ghost use Rattle.std.specs.Prelude.{◌≡◌, List, ◌<◌, find, true, false};
+ghost use Rattle.std.specs.Prelude.{◌≡◌, List, ◌<◌, ◌≤◌, find, length, true, false};
 ghost use Rattle.its_plain.specs.Regions as spec;
 ghost use Rattle.its_plain.specs.declared.area.Area as plain;
-ghost use Rattle.table_save.specs.Checked.{clash_fault, Answers};
+ghost use Rattle.table_save.specs.Checked.{clash_fault};
 ghost use Rattle.table_save.specs.Edges.{AreEdges, chosen, end_of, meets_another};
 
 use crate::area::Stretch;
 use crate::edges::Edges;
-use its_plain::{SaveError, SaveFault};
-use std::alloc::Global;
+use its_plain::SaveFault;
 
 /// No two of the areas clash, or the first pair that does, by the first of the two and then by the
-/// second.
-pub fn none_overlap(alloc: Global, areas: &[Stretch]) -> Result<(), SaveError>
-    ensures { Answers result (spec.none_overlap areas.now) }
+/// second. The edges of all of them, and of those that are written, are sorted into the room that
+/// is lent for them.
+pub fn none_overlap(
+    areas: &[Stretch],
+    all: &mut Edges,
+    written: &mut Edges,
+) -> Result<(), SaveFault>
+    requires all { length areas.now ≤ all.old.room }
+    requires written { length areas.now ≤ written.old.room }
+    ensures answer { result ≡ spec.none_overlap areas.now }
+    ensures all { all.old.room ≤ all.new.room }
+    ensures written { written.old.room ≤ written.new.room }
 {
-    let mut all = Edges::new(alloc, areas.len())?;
-    let mut written = Edges::new(alloc, areas.len())?;
     all.set(areas, true);
     written.set(areas, false);
-    find_overlap(areas, &all, &written)?;
-    Ok(())
+    find_overlap(areas, all, written)
 }
 
 // The same, with the edges of all the areas and of those that are written. The first area that

@@ -1,6 +1,6 @@
 //! The pages of a device table of two levels.
 
-ghost use Rattle.std.specs.Prelude.{◌≡◌, ◌<◌, ◌^◌, true, IfOk, IfSome};
+ghost use Rattle.std.specs.Prelude.{◌≡◌, ◌<◌, ◌^◌, true, take, IfSome};
 ghost use Rattle.std.specs.Option.{option_map};
 ghost use Rattle.gits_regs.specs.Registers.{is_indirect};
 ghost use Rattle.baser_place.specs.Places as places;
@@ -10,30 +10,22 @@ use baser_place::{Level1, level1, level1_entries};
 use gits_regs::Regs;
 use guest_windows::Memory;
 use its_types::Addr;
-use std::alloc::{AllocError, Global};
+
+/// The first level has no more entries.
+pub const MOST: usize = 128;
 
 /// Where the page of each level-1 entry stands, if the entry is valid; of a flat table none.
-pub fn read_pages(
-    alloc: Global,
-    regs: &Regs,
-    memory: &Memory,
-) -> Result<Vec<Option<Addr>>, AllocError>
-    ensures { IfOk result (λ v. is_indirect regs.now.baser0 ≡ true → ArePages regs.now memory.now v.items) }
+pub fn read_pages(regs: &Regs, memory: &Memory) -> [Option<Addr>; MOST]
+    ensures { is_indirect regs.now.baser0 ≡ true → ArePages regs.now memory.now
+        (take (places.level1_entries regs.now.dev_bits) result) }
 {
+    let mut pages = [None; MOST];
     if regs.indirect() {
-        return read_level1(alloc, regs, memory);
+        for k in 0..level1_entries(regs) {
+            pages[k as usize] = page_of(level1(regs, memory, k));
+        }
     }
-    Ok(Vec::new(alloc))
-}
-
-fn read_level1(alloc: Global, regs: &Regs, memory: &Memory) -> Result<Vec<Option<Addr>>, AllocError>
-    ensures { IfOk result (λ v. ArePages regs.now memory.now v.items) }
-{
-    let mut pages = Vec::new(alloc);
-    for k in 0..level1_entries(regs) {
-        pages.push(page_of(level1(regs, memory, k)))?;
-    }
-    Ok(pages)
+    pages
 }
 
 fn page_of(entry: Level1) -> Option<Addr>

@@ -1,10 +1,11 @@
 //! The whole of a save.
 
-ghost use Rattle.std.specs.Prelude.{◌≡◌, ℕ, true, IfOk};
+ghost use Rattle.std.specs.Prelude.{◌≡◌, ◌+◌, ◌++◌, ◌≤◌, ℕ, length, true};
 ghost use Rattle.std.specs.FinMap.{entries};
 ghost use Rattle.std.specs.List.{AllByRecursion};
 ghost use Rattle.gits_regs.specs.Registers.{is_indirect};
 ghost use Rattle.its_types.specs.Maps.{events_at};
+ghost use Rattle.its_plain.specs.Answer.{save_left};
 ghost use Rattle.its_plain.specs.Regions as spec;
 ghost use Rattle.its_plain.specs.Saved.{saved, put_tables};
 ghost use Rattle.its_plain.specs.Sound.{IsShape, IsSound};
@@ -13,9 +14,10 @@ ghost use Rattle.table_save.specs.Areas.{redistributors_of, tables_in, all_areas
 ghost use Rattle.table_save.specs.Areas.{HaveLowTables};
 ghost use Rattle.table_save.specs.Checked.{Answers, Leaves};
 ghost use Rattle.table_save.specs.Pass.{FitsDevice, FitsEvent};
+ghost use Rattle.table_save.specs.Rooms.{Appended, HasRoom};
 ghost use Rattle.table_save.specs.Tables.{ArePages, all_tables};
 
-use crate::area::Stretch;
+use crate::area_list::AreaList;
 use crate::areas::{add_collections, add_configs, add_devices, add_itts, add_pending, add_queue};
 use crate::checks::{all_inside, all_placed};
 use crate::collections::put_collections;
@@ -24,13 +26,15 @@ use crate::events::put_itts;
 use crate::overlap::none_overlap;
 use crate::pages::read_pages;
 use crate::pending::put_pending;
+use crate::room::SaveRoom;
+use baser_place::level1_entries;
 use gits_regs::Regs;
 use guest_windows::Memory;
 use its_maps::Maps;
-use its_plain::{Layout, SaveError};
+use its_plain::{Layout, SaveError, SaveFault};
 use its_types::{Addr, Shape};
 use lpi_pending::Redists;
-use std::alloc::{AllocError, Global};
+use std::alloc::Global;
 
 /// Whether the tables can be saved to guest memory, or the first thing that is in the way.
 pub fn savable(
@@ -46,47 +50,60 @@ pub fn savable(
     ensures { Answers result
         (spec.savable (state_of layout.now regs.now maps.now.maps memory.now redists.now)) }
 {
-    let tables = table_areas(alloc, regs, maps, memory)?;
-    all_inside(memory, &tables)?;
-    all_placed(regs, memory, maps)?;
-    let areas = with_others(tables, regs, redists, layout)?;
-    none_overlap(alloc, &areas)
+    let mut room = SaveRoom::for_maps(alloc, maps)?;
+    savable_in(regs, maps, redists, layout, memory, &mut room)?;
+    Ok(())
 }
 
-// The areas that have to lie in one window each.
-fn table_areas(
-    alloc: Global,
+/// Whether the tables can be saved, found in room that was made beforehand: takes no memory.
+pub fn savable_in(
     regs: &Regs,
     maps: &Maps,
-    memory: &Memory,
-) -> Result<Vec<Stretch>, AllocError>
-    requires { AllByRecursion HasLowTable (entries maps.now.maps.devices) }
-    ensures { IfOk result (λ v. v.items ≡ tables_in memory.now regs.now maps.now.maps) }
-{
-    let mut areas = Vec::new(alloc);
-    add_devices(&mut areas, regs, memory)?;
-    add_collections(&mut areas, regs)?;
-    add_itts(&mut areas, maps)?;
-    Ok(areas)
-}
-
-// The others after them.
-fn with_others(
-    tables: Vec<Stretch>,
-    regs: &Regs,
     redists: &Redists,
     layout: &Layout,
-) -> Result<Vec<Stretch>, AllocError>
+    memory: &Memory,
+    room: &mut SaveRoom,
+) -> Result<(), SaveFault>
+    requires parts { AreAllInHand layout.now.shape redists.now }
+    requires sound { IsSound (state_of layout.now regs.now maps.now.maps memory.now redists.now) }
+    requires room { length (entries maps.now.maps.devices) ≤ room.old.spare }
+    ensures answer { result
+        ≡ spec.savable (state_of layout.now regs.now maps.now.maps memory.now redists.now) }
+    ensures room { room.new ≡ room.old }
+{
+    room.areas.clear();
+    add_tables(&mut room.areas, regs, maps, memory);
+    all_inside(memory, room.areas.as_slice())?;
+    all_placed(regs, memory, maps)?;
+    add_others(&mut room.areas, regs, redists, layout);
+    none_overlap(room.areas.as_slice(), &mut room.all, &mut room.written)
+}
+
+// Appends the areas that have to lie in one window each.
+fn add_tables(areas: &mut AreaList, regs: &Regs, maps: &Maps, memory: &Memory)
+    requires devices { AllByRecursion HasLowTable (entries maps.now.maps.devices) }
+    requires room { HasRoom (length (entries maps.now.maps.devices) + 130) areas.old }
+    ensures { Appended (length (entries maps.now.maps.devices) + 130)
+        (tables_in memory.now regs.now maps.now.maps) areas.old areas.new }
+{
+    add_devices(areas, regs, memory);
+    add_collections(areas, regs);
+    add_itts(areas, maps);
+}
+
+// Appends the others.
+fn add_others(areas: &mut AreaList, regs: &Regs, redists: &Redists, layout: &Layout)
     requires shape { IsShape layout.now.shape }
     requires in_hand { AreAllInHand layout.now.shape redists.now }
     requires low { HaveLowTables layout.now.shape redists.now }
-    ensures { IfOk result (λ v. v.items ≡ all_areas tables.items layout.now regs.now redists.now) }
+    requires room { HasRoom 33 areas.old }
+    ensures items { areas.new.items ≡ all_areas areas.old.items layout.now regs.now redists.now }
+    ensures few { length areas.new.items ≤ length areas.old.items + 33 }
+    ensures capacity { areas.old.capacity ≤ areas.new.capacity }
 {
-    let mut areas = tables;
-    add_pending(&mut areas, redists, layout.shape)?;
-    add_configs(&mut areas, redists, layout)?;
-    add_queue(&mut areas, regs)?;
-    Ok(areas)
+    add_pending(areas, redists, layout.shape);
+    add_configs(areas, redists, layout);
+    add_queue(areas, regs);
 }
 
 /// Saves the tables to guest memory: writes every entry of every table, unused ones as zeros, and
@@ -106,10 +123,53 @@ pub fn save(
     ensures memory { Leaves result memory.old memory.new
         (saved (state_of layout.now regs.now maps.now.maps memory.old redists.now)) }
 {
-    savable(alloc, regs, maps, redists, layout, memory)?;
-    let pages = read_pages(alloc, regs, memory)?;
-    put_all(memory, regs, &pages, maps, redists, layout.shape);
+    let mut room = SaveRoom::for_maps(alloc, maps)?;
+    save_in(regs, maps, redists, layout, memory, &mut room)?;
     Ok(())
+}
+
+/// Saves the tables in room that was made beforehand: takes no memory. Where it answers an error,
+/// guest memory is as it was.
+pub fn save_in(
+    regs: &Regs,
+    maps: &Maps,
+    redists: &Redists,
+    layout: &Layout,
+    memory: &mut Memory,
+    room: &mut SaveRoom,
+) -> Result<(), SaveFault>
+    requires parts { AreAllInHand layout.now.shape redists.now }
+    requires sound { IsSound (state_of layout.now regs.now maps.now.maps memory.old redists.now) }
+    requires room { length (entries maps.now.maps.devices) ≤ room.old.spare }
+    ensures answer { result
+        ≡ spec.savable (state_of layout.now regs.now maps.now.maps memory.old redists.now) }
+    ensures memory { memory.new
+        ≡ (save_left (state_of layout.now regs.now maps.now.maps memory.old redists.now)
+        result).memory }
+    ensures room { room.new ≡ room.old }
+{
+    savable_in(regs, maps, redists, layout, memory, room)?;
+    write_tables(regs, maps, redists, layout, memory);
+    Ok(())
+}
+
+/// Writes what a save writes. For a state that was found savable: it doesn't look for anything that
+/// is in the way, and takes no memory.
+pub fn write_tables(
+    regs: &Regs,
+    maps: &Maps,
+    redists: &Redists,
+    layout: &Layout,
+    memory: &mut Memory,
+)
+    requires parts { AreAllInHand layout.now.shape redists.now }
+    requires sound { IsSound (state_of layout.now regs.now maps.now.maps memory.old redists.now) }
+    ensures { memory.new
+        ≡ saved (state_of layout.now regs.now maps.now.maps memory.old redists.now) }
+{
+    let pages = read_pages(regs, memory);
+    let pages = &pages[..level1_entries(regs) as usize];
+    put_all(memory, regs, pages, maps, redists, layout.shape);
 }
 
 // Writes all tables.

@@ -1,5 +1,4 @@
 use Rattle.std.proofs.Common.{refl, ap, ◌∙◌}
-use Rattle.std.specs.Box.{with_value}
 use Rattle.its_plain.specs.Machine.{layout_of}
 use Rattle.its_plain.specs.declared.call.Call.TheVariants as call
 use Rattle.its_plain.specs.declared.desc.Desc.{Desc}
@@ -10,28 +9,32 @@ use Rattle.its_turns.specs.Machines.{setup, view}
 use Rattle.its_migrate.proofs.Savings.{taken_hand, save_may, save_owes, save_placed, save_lost}
 use Rattle.its_migrate.proofs.saving.save_once.Goals as goal
 
-pub saved_copy-requires-clause-hand : goal.saved_copy-requires-clause-hand
-saved_copy-requires-clause-hand g c =
+pub saves-requires-clause-hand : goal.saves-requires-clause-hand
+saves-requires-clause-hand g c =
     let m = c.args.machine.now in
     let same = c.in_ok-layout.ensures ∙ (ap (λ (d : Desc). layout_of d) c.desc.ensures.desc ∙ c.requires.layout) in
-    taken_hand (setup m) (view c.args.pass.now) (view c.take_all-whole.new.pass) c.take_all-whole.result c.take_all-whole.ensures.taken c.in_ok-layout.layout
-    same
+    taken_hand (setup m) (view c.args.pass.now) (view c.take_all-whole.new.pass) c.take_all-whole.result c.take_all-whole.ensures.taken c.in_ok-layout.layout same
 
 pub try_commit-requires-clause-may : goal.try_commit-requires-clause-may
 try_commit-requires-clause-may g c =
     let m = c.args.machine.now in
     let same = c.in_ok-layout.ensures ∙ (ap (λ (d : Desc). layout_of d) c.desc.ensures.desc ∙ c.requires.layout) in
     rw (c.reply_to.ensures) (save_may (setup m) (view c.args.pass.now) (view c.take_all-whole.new.pass) c.take_all-whole.result
-    c.take_all-whole.ensures.taken c.in_ok-layout.layout same c.in-Ok.reply c.in-Ok.ensures.reply)
+    c.take_all-whole.ensures.taken c.in_ok-layout.layout same c.in-Ok.reply c.in-Ok.ensures)
+
+pub write-requires-clause-hand : goal.write-requires-clause-hand
+write-requires-clause-hand g c =
+    let m = c.args.machine.now in
+    let same = c.in_ok-layout.ensures ∙ (ap (λ (d : Desc). layout_of d) c.desc.ensures.desc ∙ c.requires.layout) in
+    taken_hand (setup m) (view c.args.pass.now) (view c.take_all-whole.new.pass) c.take_all-whole.result c.take_all-whole.ensures.taken c.in_ok-layout.layout same
 
 pub put_all-requires-in-Ok-try_commit-clause-held : goal.put_all-requires-in-Ok-try_commit-clause-held
 put_all-requires-in-Ok-try_commit-clause-held g c =
     let m = c.args.machine.now in
     let same = c.in_ok-layout.ensures ∙ (ap (λ (d : Desc). layout_of d) c.desc.ensures.desc ∙ c.requires.layout) in
     save_owes (setup m) (view c.args.pass.now) (view c.take_all-whole.new.pass) c.take_all-whole.result c.take_all-whole.ensures.taken c.in_ok-layout.layout
-    same c.in-Ok.reply c.in-Ok.ensures.reply c.take_all-whole.ensures.of.1 c.in-Ok-try_commit.word
-    (view c.try_commit.new.pass) c.in-Ok.saved
-    (record { tables = c.take_all-whole.result.tables; memory = with_value c.take_all-whole.result.memory (record { memory = c.in-Ok.saved }); redists = c.take_all-whole.result.redists }) refl refl c.in-Ok.ensures.memory (rw (c.reply_to.ensures) at c.in-Ok-try_commit.ensures.result)
+    same c.in-Ok.reply c.in-Ok.ensures c.take_all-whole.ensures.of.1 c.in-Ok-try_commit.word (view c.try_commit.new.pass) c.write.new.whole
+    c.write.ensures.tables c.write.ensures.redists c.write.ensures.memory (rw (c.reply_to.ensures) at c.in-Ok-try_commit.ensures.result)
 
 pub returns-in-Ok-try_commit-clause-answer : goal.returns-in-Ok-try_commit-clause-answer
 returns-in-Ok-try_commit-clause-answer g c =

@@ -1,4 +1,4 @@
-use Rattle.std.proofs.Common.{◌≡◌, ℕ, List, ◌∙◌, ap, sym, append_assoc, ◌++◌, ◌∷◌, [], subst}
+use Rattle.std.proofs.Common.{◌≡◌, ℕ, List, ◌∙◌, ap, sym, append_assoc, ◌++◌, ◌∷◌, [], subst, length, arith}
 use Rattle.std.specs.List.{AllByRecursion}
 use Rattle.its_types.specs.declared.translation.Device.{Device}
 use Rattle.its_plain.specs.declared.area.Area.{Area}
@@ -17,5 +17,7 @@ loop-dev-preserved c =
       can_next = tt;
       is_finite = tt;
       low = (subst (AllByRecursion HasLowTable) c.in-Some.ensures.steps v.low).1;
-      areas = one_more c.loop-dev.areas.items c.push.new.self.items _ c.loop-dev.dev-iterator c.next.new.self (c.in-Some.dev.0, c.in-Some.device) c.itt_area.result c.in-Some.ensures.steps c.itt_area.ensures c.in_ok-push.ensures.items v.areas;
+      areas = one_more c.loop-dev.areas.items c.push.new.self.items _ c.loop-dev.dev-iterator c.next.new.self (c.in-Some.dev.0, c.in-Some.device) c.itt_area.result c.in-Some.ensures.steps c.itt_area.ensures c.push.ensures.items v.areas;
+      few = let steps = ap length c.in-Some.ensures.steps in omega (arith, steps, c.push.ensures.one, v.few);
+      capacity = omega (arith, c.push.ensures.capacity, v.capacity);
     }

@@ -1,4 +1,4 @@
-use Rattle.std.proofs.Common.{◌≡◌, ◌++◌}
+use Rattle.std.proofs.Common.{◌≡◌, ◌++◌, ◌+◌, ◌≤◌, length}
 use Rattle.std.specs.FinMap.{entries}
 use Rattle.std.specs.List.{AllByRecursion}
 use Rattle.table_save.specs.Areas.{itt_areas, HasLowTable}
@@ -10,4 +10,6 @@ invariant-loop-dev l = record {
   is_finite : (goal.iterator-loop-dev).is_finite l.dev-iterator;
   low : AllByRecursion HasLowTable l.dev-iterator;
   areas : l.areas.items ++ itt_areas l.dev-iterator ≡ l.fn.areas.items ++ itt_areas (entries l.fn.maps.maps.devices);
+  few : length l.areas.items + length l.dev-iterator ≤ length l.fn.areas.items + length (entries l.fn.maps.maps.devices);
+  capacity : l.fn.areas.capacity ≤ l.areas.capacity;
 }

@@ -1,4 +1,4 @@
-use Rattle.std.proofs.Common.{ap}
+use Rattle.std.proofs.Common.{ap, arith}
 use Rattle.std.specs.Prelude.{is_some}
 use Rattle.its_plain.specs.Regions.{config_area}
 use Rattle.table_save.proofs.Redistributors.{area_more}
@@ -9,5 +9,10 @@ redist-redist-requires c = ap is_some (c.requires.in_hand c.loop-vcpu.vcpu c.loo
 
 pub loop-vcpu-preserved : goal.loop-vcpu-preserved
 loop-vcpu-preserved c =
-    area_more (config_area c.args.shape) c.args.shape c.loop-vcpu.vcpu c.args.redists.now c.redist-redist.result.now c.loop-vcpu.areas.items c.add_own_config.new.areas.items _ c.loop-vcpu-test.true
-    c.redist-redist.ensures c.in_ok-add_own_config.ensures c.loop-vcpu.invariant
+    let v = c.loop-vcpu.invariant in
+    let more = c.add_own_config.ensures in
+    record {
+      items = area_more (config_area c.args.shape) c.args.shape c.loop-vcpu.vcpu c.args.redists.now c.redist-redist.result.now c.loop-vcpu.areas.items c.add_own_config.new.areas.items _ c.loop-vcpu-test.true c.redist-redist.ensures more.items v.items;
+      few = omega (arith, more.few, v.few);
+      capacity = omega (arith, more.capacity, v.capacity);
+    }

@@ -1,0 +1,190 @@
+-- A script with a line `gicr` and no line `rrestore` restores no redistributor with LPIs on.
+use Rattle.std.proofs.Common.{◌≡◌, ◌⊎◌, ℕ, zero, suc, ◌+◌, Bool, true, false, ◌||◌, nat_eq, List, [], ◌∷◌, length, codes, replicate, if◌then◌else◌, ok_or, Result, Ok, Err, IfOk, inl, inr, refl, sym, ap, subst, ◌∙◌, arith}
+use Rattle.std.specs.Prelude.{slice_index}
+use Rattle.std.specs.List.{AllByRecursion, list_any}
+use Rattle.std.specs.Str.{bytes_eq}
+use Rattle.std.proofs.lemmas.Bool.{both_ways, cases_Bool, eqb-true, or_cases}
+use Rattle.std.proofs.lemmas.Slice.Eq.{bytes_eq-Decides}
+use Rattle.gicr_regs.specs.declared.values.GicrRegisters.{GicrRegisters}
+use Rattle.gicr_regs.specs.declared.values.GicrValues.{GicrValues}
+use Rattle.its_types.specs.Bits.{bit_of}
+use Rattle.its_plain.specs.declared.desc.Desc.{Desc}
+use Rattle.its_plain.specs.declared.desc.LpiTables.{LpiTables}
+use Rattle.its_plain.specs.declared.desc.LpiTables.TheVariants.{Registers}
+use Rattle.event_script.specs.Text.{parts, fields, is_text}
+use Rattle.event_script.specs.Fields.{arg}
+use Rattle.event_script.specs.Words.{keyword_of, outline_keyword_of}
+use Rattle.event_script.specs.Outcome.{ensure}
+use Rattle.event_script.specs.Description.{empty, is_ended, no_registers}
+use Rattle.event_script.specs.Body.{keyword_line}
+use Rattle.event_script.specs.Script.{is_skipped, words_line, line, described_tables, tables_of, desc_of, script_from, finished, at_line, ◌then◌, parts_from, script_of}
+use Rattle.event_script.specs.declared.fault.Kind.{Kind}
+use Rattle.event_script.specs.declared.fault.Kind.TheVariants as kind
+use Rattle.event_script.specs.declared.fault.ScriptFault.{ScriptFault}
+use Rattle.event_script.specs.declared.draft.Draft.{Draft}
+use Rattle.event_script.specs.declared.script.Script.{Script}
+use Rattle.event_script.specs.declared.words.Keyword.{Keyword}
+use Rattle.event_script.specs.declared.words.Keyword.TheVariants as on
+use Rattle.event_script.proofs.Steps.{bound, bound_by, ensured, chosen}
+use Rattle.lpi_enabling.specs.Enabling.{RestoresOff}
+use Rattle.its_cli.specs.Lines.{begins_with, StartsOff}
+use Rattle.its_cli.proofs.Drafts.{Follows, same, IsOther, line_follows, gicr_follows}
+
+-- ---- words
+
+-- another word is another keyword
+either : (test : Bool) (k : Keyword) (r : Result Keyword Kind) → IsOther k → IfOk r IsOther → IfOk (if test then Ok k else r) IsOther
+either true k r here rest = here
+either false k r here rest = rest
+
+not_here : (test : Bool) (r : Result Keyword Kind) → test ≡ false → IfOk r IsOther → IfOk (if test then Ok on.Rrestore else r) IsOther
+not_here true r e rest = absurd cc
+not_here false r e rest = rest
+
+outline_other : (word : List ℕ) → bytes_eq word (codes "rrestore") ≡ false → IfOk (outline_keyword_of word) IsOther
+unfolding outline_keyword_of
+outline_other word none =
+    either (bytes_eq word (codes "bytes")) on.Bytes _ tt (either (bytes_eq word (codes "thread")) on.Thread _ tt (either (bytes_eq word (codes "phase")) on.Phase _ tt
+    (either (bytes_eq word (codes "vcpus")) on.Vcpus _ tt (either (bytes_eq word (codes "shards")) on.Shards _ tt (either (bytes_eq word (codes "limits")) on.Limits _ tt
+    (either (bytes_eq word (codes "ids")) on.Ids _ tt (either (bytes_eq word (codes "profile")) on.Profile _ tt (either (bytes_eq word (codes "window")) on.Window _ tt
+    (either (bytes_eq word (codes "config")) on.Config _ tt (either (bytes_eq word (codes "pending")) on.Pending _ tt (either (bytes_eq word (codes "restore")) on.Restore _ tt
+    (either (bytes_eq word (codes "gicr")) on.Gicr _ tt (not_here (bytes_eq word (codes "rrestore")) _ none (either (bytes_eq word (codes "migrate")) on.Migrate _ tt
+    (either (bytes_eq word (codes "end")) on.End _ tt (either (bytes_eq word (codes "trace")) on.Trace _ tt tt))))))))))))))))
+
+other : (word : List ℕ) → bytes_eq word (codes "rrestore") ≡ false → IfOk (keyword_of word) IsOther
+unfolding keyword_of
+other word none =
+    either (bytes_eq word (codes "signal")) on.Signal _ tt (either (bytes_eq word (codes "take")) on.Take _ tt (either (bytes_eq word (codes "show")) on.Show _ tt
+    (either (bytes_eq word (codes "step")) on.Step _ tt (either (bytes_eq word (codes "command")) on.Command _ tt (either (bytes_eq word (codes "write")) on.Write _ tt
+    (either (bytes_eq word (codes "read")) on.Read _ tt (either (bytes_eq word (codes "poke")) on.Poke _ tt (either (bytes_eq word (codes "peek")) on.Peek _ tt
+    (either (bytes_eq word (codes "word")) on.Word _ tt (either (bytes_eq word (codes "save")) on.Save _ tt (either (bytes_eq word (codes "rread")) on.Rread _ tt
+    (either (bytes_eq word (codes "rwrite")) on.Rwrite _ tt (outline_other word none)))))))))))))
+
+gicr_keyword : keyword_of (codes "gicr") ≡ Ok on.Gicr
+unfolding keyword_of outline_keyword_of
+gicr_keyword = refl
+
+-- ---- one line
+
+abbrev Programs : Draft → Draft → Type 0
+Programs d e = Follows d e × (e.gicr ≡ true)
+
+both_false : (a b : Bool) → a ≡ false → b ≡ false → (a || b) ≡ false
+both_false true b p q = absurd cc
+both_false false b p q = q
+
+some_fields : {X : Type 0} (x : X) (xs : List X) → nat_eq (length (x ∷ xs)) 0 ≡ false
+some_fields x xs = elim (cases_Bool (nat_eq (length (x ∷ xs)) 0)) [ inl e ↦ absurd (omega (arith, eqb-true (length (x ∷ xs)) 0 e)) | inr e ↦ e ]
+
+-- a line `gicr` is neither blank nor a remark
+not_skipped : (fs : List (List ℕ)) → arg fs 0 ≡ codes "gicr" → is_skipped fs ≡ false
+not_skipped [] e = absurd cc
+not_skipped (f ∷ fs) e = both_false (nat_eq (length (f ∷ fs)) 0) (nat_eq (slice_index f 0) 35) (some_fields f fs) (ap (λ (word : List ℕ). nat_eq (slice_index word 0) 35) e)
+
+words_programs : (d : Draft) (n : ℕ) (fs : List (List ℕ)) → arg fs 0 ≡ codes "gicr" → IfOk (words_line d n fs) (Programs d)
+unfolding words_line
+words_programs d n fs e =
+    let is : keyword_of (arg fs 0) ≡ Ok on.Gicr = ap keyword_of e ∙ gicr_keyword in
+    bound_by (Programs d) (keyword_of (arg fs 0)) (λ k. k ≡ on.Gicr) _ (subst (λ (r : Result Keyword Kind). IfOk r (λ k. k ≡ on.Gicr)) (sym is) refl)
+    (λ k same. subst (λ (x : Keyword). IfOk (keyword_line d n x fs) (Programs d)) (sym same) (gicr_follows d n fs))
+
+line_programs : (d : Draft) (n : ℕ) (text : List ℕ) → begins_with (codes "gicr") text ≡ true → IfOk (line d n text) (Programs d)
+unfolding line
+line_programs d n text e =
+    let word : arg (fields text) 0 ≡ codes "gicr" = (bytes_eq-Decides (arg (fields text) 0) (codes "gicr")).0 e in
+    bound (Programs d) (ensure (is_text text) kind.Text) _ (λ _.
+    chosen {A = Result Draft Kind} (λ r. IfOk r (Programs d)) (is_skipped (fields text)) _ _ (λ skipped. absurd (both_ways (is_skipped (fields text)) (not_skipped (fields text) word) skipped))
+    (λ _. words_programs d n (fields text) word))
+
+words_follow : (d : Draft) (n : ℕ) (fs : List (List ℕ)) → bytes_eq (arg fs 0) (codes "rrestore") ≡ false → IfOk (words_line d n fs) (Follows d)
+unfolding words_line
+words_follow d n fs none = bound_by (Follows d) (keyword_of (arg fs 0)) IsOther _ (other (arg fs 0) none) (λ k is. line_follows d n k fs is)
+
+line_keeps : (d : Draft) (n : ℕ) (text : List ℕ) → begins_with (codes "rrestore") text ≡ false → IfOk (line d n text) (Follows d)
+unfolding line
+line_keeps d n text none =
+    bound (Follows d) (ensure (is_text text) kind.Text) _ (λ _.
+    chosen {A = Result Draft Kind} (λ r. IfOk r (Follows d)) (is_skipped (fields text)) _ _ (λ _. same d) (λ _. words_follow d n (fields text) none))
+
+-- ---- the script
+
+abbrev AreOff : GicrValues → Type 0
+AreOff values = AllByRecursion (λ (r : GicrRegisters). bit_of r.ctlr 0 ≡ false) values.registers
+
+abbrev IsOffScript : Script → Type 0
+IsOffScript s = RestoresOff s.desc.tables
+
+tables_off : (d : Draft) (gicr : Bool) → gicr ≡ true → AreOff d.registers → IfOk (let r : Result LpiTables Kind = if gicr then Ok (Registers d.registers) else described_tables d in r) RestoresOff
+tables_off d true e off = off
+tables_off d false e off = absurd cc
+
+desc_off : (d : Draft) → d.gicr ≡ true → AreOff d.registers → IfOk (desc_of d) (λ desc. RestoresOff desc.tables)
+unfolding desc_of
+desc_off d g off =
+    let P : Desc → Type 0 = λ desc. RestoresOff desc.tables in
+    bound P (ok_or d.shards kind.Missing) _ (λ shards. bound_by P (tables_of d) RestoresOff _ (tables_off d d.gicr g off) (λ tables is. is))
+
+ended_off : (d : Draft) → d.gicr ≡ true → AreOff d.registers → IfOk (script_from d) IsOffScript
+unfolding script_from
+ended_off d g off =
+    bound IsOffScript (ensure (is_ended d.stage) kind.Missing) _ (λ _.
+    bound_by IsOffScript (desc_of d) (λ desc. RestoresOff desc.tables) _ (desc_off d g off) (λ desc is. is))
+
+numbered : {A : Type 0} (P : A → Type 0) (n : ℕ) (r : Result A Kind) → IfOk r P → IfOk (at_line n r) P
+numbered P n (Ok x) h = h
+numbered P n (Err k) h = tt
+
+followed : {A B : Type 0} (P : A → Type 0) (Q : B → Type 0) (n : ℕ) (r : Result A Kind) (f : A → Result B ScriptFault) → IfOk r P → ((x : A) → P x → IfOk (f x) Q) → IfOk (at_line n r then f) Q
+followed P Q n (Ok x) f p q = q x p
+followed P Q n (Err k) f p q = tt
+
+neither : (a b : Bool) → (a || b) ≡ false → (a ≡ false) × (b ≡ false)
+neither true b e = absurd cc
+neither false b e = (refl, e)
+
+-- a line `gicr` was read, or comes
+abbrev WillProgram : Draft → List (List ℕ) → Type 0
+WillProgram d ps = (d.gicr ≡ true) ⊎ (list_any (begins_with (codes "gicr")) ps ≡ true)
+
+-- the part after the last line end is no line
+last_part : (d : Draft) (last : List ℕ) → WillProgram d (last ∷ []) → (d.gicr ≡ true) ⊎ (begins_with (codes "gicr") last ≡ true)
+last_part d last w =
+    elim w [ inl g ↦ inl g | inr here ↦ elim (or_cases (begins_with (codes "gicr") last) false here) [ inl e ↦ inr e | inr none ↦ absurd cc ] ]
+
+no_bytes : (last : List ℕ) → nat_eq (length last) 0 ≡ true → begins_with (codes "gicr") last ≡ false
+no_bytes [] e = refl
+no_bytes (b ∷ bs) e = absurd (both_ways (nat_eq (length (b ∷ bs)) 0) (some_fields b bs) e)
+
+finished_off : (d : Draft) (last : List ℕ) → WillProgram d (last ∷ []) → AreOff d.registers → IfOk (finished d last) IsOffScript
+unfolding finished
+finished_off d last w off =
+    ensured IsOffScript (nat_eq (length last) 0) kind.Cut _ (λ none.
+    elim (last_part d last w) [ inl g ↦ ended_off d g off | inr here ↦ absurd (both_ways (begins_with (codes "gicr") last) (no_bytes last none) here) ])
+
+parts_off : (n : ℕ) (d : Draft) (ps : List (List ℕ)) → WillProgram d ps → list_any (begins_with (codes "rrestore")) ps ≡ false → AreOff d.registers → IfOk (parts_from n d ps) IsOffScript
+parts_off n d [] w none off = elim w [ inl g ↦ numbered IsOffScript n (script_from d) (ended_off d g off) | inr never ↦ absurd cc ]
+parts_off n d (last ∷ []) w none off = numbered IsOffScript n (finished d last) (finished_off d last w off)
+parts_off n d (text ∷ (next ∷ rest)) w none off =
+    let later = neither (begins_with (codes "rrestore") text) (list_any (begins_with (codes "rrestore")) (next ∷ rest)) none in
+    let goes_on : (e : Draft) → Follows d e → WillProgram e (next ∷ rest) → IfOk (parts_from (n + 1) e (next ∷ rest)) IsOffScript =
+    λ e f will. parts_off (n + 1) e (next ∷ rest) will later.1 (subst AreOff (sym f.registers) off) in
+    let by_line : IfOk (line d n text) (Follows d) = line_keeps d n text later.0 in
+    elim w [
+      | inl g ↦ followed (Follows d) IsOffScript n (line d n text) (λ e. parts_from (n + 1) e (next ∷ rest)) by_line (λ e f. goes_on e f (inl (f.gicr g)))
+      | inr some ↦
+          elim (or_cases (begins_with (codes "gicr") text) (list_any (begins_with (codes "gicr")) (next ∷ rest)) some) [
+            | inl here ↦ followed (Programs d) IsOffScript n (line d n text) (λ e. parts_from (n + 1) e (next ∷ rest)) (line_programs d n text here) (λ e f. goes_on e f.0 (inl f.1))
+            | inr there ↦ followed (Follows d) IsOffScript n (line d n text) (λ e. parts_from (n + 1) e (next ∷ rest)) by_line (λ e f. goes_on e f (inr there))
+          ]
+    ]
+
+none_given : (n : ℕ) → AllByRecursion (λ (r : GicrRegisters). bit_of r.ctlr 0 ≡ false) (replicate n no_registers)
+none_given zero = tt
+none_given (suc n) = (refl, none_given n)
+
+read_off : (bytes : List ℕ) → StartsOff bytes → IfOk (script_of bytes) IsOffScript
+unfolding script_of
+read_off bytes h = parts_off 1 empty (parts bytes) (inr h.programmed) h.none_restored (none_given 16)
+
+pub scripts_off : (bytes : List ℕ) (s : Script) → script_of bytes ≡ Ok s → StartsOff bytes → RestoresOff s.desc.tables
+scripts_off bytes s read h = subst (λ (r : Result Script ScriptFault). IfOk r IsOffScript) read (read_off bytes h)

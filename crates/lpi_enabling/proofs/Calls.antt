@@ -1,0 +1,188 @@
+-- What each call does to whether LPIs are on, and which replies tell of an LPI.
+use Rattle.std.proofs.Common.{◌≡◌, ℕ, Bool, true, false, List, [], Option, Some, None, Result, Ok, Err, IfOk, if◌then◌else◌, refl, sym, ap, subst, ◌∙◌, inl, inr}
+use Rattle.std.specs.Prelude.{◌⊎◌}
+use Rattle.std.proofs.lemmas.Bool.{both_ways, cases_Bool, cond_both, true_from_ne_false}
+use Rattle.gicr_regs.specs.Redistributors.{reloaded}
+use Rattle.gicr_regs.specs.Registers.{written_gicr}
+use Rattle.its_types.specs.Lpis.{first_enabled, is_pending}
+use Rattle.its_types.specs.declared.ids.DeviceId.{DeviceId}
+use Rattle.its_types.specs.declared.ids.EventId.{EventId}
+use Rattle.its_types.specs.declared.ids.Target.{Target}
+use Rattle.its_types.specs.declared.ids.Vcpu.{Vcpu}
+use Rattle.its_command.specs.Commands.{decoded}
+use Rattle.its_plain.specs.Plain.{Plain, Redistributor, redistributor, no_redistributor, translator, pending_of, is_on, with_redistributor}
+use Rattle.its_plain.specs.Translation.{translated, located, ensure, ◌>>=◌}
+use Rattle.its_plain.specs.Commands.{ran}
+use Rattle.its_plain.specs.Answer.{answer, reply_of, left, signal_left, signal_reply, ack_of, lowest, taken, written, is_idle, next_bytes, met_left, step_left, command_left, save_left}
+use Rattle.its_plain.specs.Regions.{savable}
+use Rattle.its_plain.specs.Saved.{saved, moved}
+use Rattle.its_plain.specs.declared.call.Call.{Call}
+use Rattle.its_plain.specs.declared.call.Call.TheVariants as call
+use Rattle.its_plain.specs.declared.call.Cause.{Cause}
+use Rattle.its_plain.specs.declared.call.Cause.TheVariants.{LpisOff}
+use Rattle.its_plain.specs.declared.call.Reason.{Reason}
+use Rattle.its_plain.specs.declared.call.Reply.TheVariants as reply
+use Rattle.its_plain.specs.declared.fault.SaveFault.{SaveFault}
+use Rattle.lpi_enabling.specs.Enabling.{WritesEnableLpis, TurnsOn, TellsLpi}
+use Rattle.lpi_enabling.specs.Laws.{LpisStayOn, OnlyAWriteTurnsOn, MigrationsKeepOn}
+use Rattle.lpi_enabling.proofs.Kept.{Keeps, kept, kept_without, AllKeep, all_kept, at_set, at_map, set_kept, reloaded_kept}
+use Rattle.lpi_enabling.proofs.Commands.{ran_kept}
+use Rattle.lpi_enabling.proofs.Writes.{Goes, goes, goes_by, IsEnabling, written_goes}
+
+-- ---- signals
+
+after_ok : {A B : Type 0} (P : B → Type 0) (r : Result A Cause) (f : A → Result B Cause) → ((x : A) → IfOk (f x) P) → IfOk (r >>= f) P
+after_ok P (Ok x) f h = h x
+after_ok P (Err e) f h = tt
+
+passed : {B : Type 0} (P : B → Type 0) (test : Bool) (cause : Cause) (f : Unit {0} → Result B Cause) → (test ≡ true → IfOk (f tt) P) → IfOk (ensure test cause >>= f) P
+passed P true cause f h = h refl
+passed P false cause f h = tt
+
+-- a message goes where LPIs are on
+goes_where_on : (u : Plain) (i dev ev : ℕ) → IfOk (translated u i dev ev) (λ target. is_on u target.vcpu.0 ≡ true)
+unfolding translated
+goes_where_on u i dev ev =
+    let P : Target → Type 0 = λ target. is_on u target.vcpu.0 ≡ true in
+    after_ok P (located (translator u i) dev ev) _ (λ target. passed P (is_on u target.vcpu.0) LpisOff _ (λ on. on))
+
+signal_kept : (u : Plain) (r : Result Target Cause) → IfOk r (λ target. is_on u target.vcpu.0 ≡ true) → AllKeep u (signal_left u (signal_reply r))
+signal_kept u (Ok target) on = set_kept u target.intid.0 target.vcpu.0 on
+signal_kept u (Err cause) on = all_kept u
+
+-- ---- acknowledgements
+
+taken_keeps : (r : Redistributor) (o : Option ℕ) → Keeps r (taken r o)
+taken_keeps r None = kept r
+taken_keeps r (Some intid) = kept_without r intid
+
+take_kept : (u : Plain) (v : ℕ) → AllKeep u (with_redistributor u v (taken (redistributor u v) (lowest (redistributor u v))))
+take_kept u v k = at_set (λ _. Keeps) u.redistributors v k (taken (redistributor u v) (lowest (redistributor u v))) no_redistributor (λ _ r. kept r) (taken_keeps (redistributor u v) (lowest (redistributor u v)))
+
+-- ---- steps, saves and migrations
+
+command_kept : (u : Plain) (r : Result Plain Reason) → IfOk r (AllKeep u) → AllKeep u (command_left u r)
+command_kept u (Ok w) k = k
+command_kept u (Err reason) k = all_kept u
+
+met_kept : (u : Plain) (i : ℕ) (next : Option (List ℕ)) → AllKeep u (met_left u i next)
+met_kept u i None = all_kept u
+met_kept u i (Some bytes) = command_kept u (ran u i (decoded bytes)) (ran_kept u i (decoded bytes))
+
+step_kept : (u : Plain) (i : ℕ) → AllKeep u (step_left u i)
+unfolding step_left
+step_kept u i = cond_both (is_idle u i) u (met_left u i (next_bytes u i)) (AllKeep u) (λ _. all_kept u) (λ _. met_kept u i (next_bytes u i))
+
+save_kept : (u : Plain) (r : Result (Unit {0}) SaveFault) → AllKeep u (save_left u r)
+save_kept u (Ok done) = all_kept u
+save_kept u (Err fault) = all_kept u
+
+pub migrated_kept : (u : Plain) → AllKeep u (moved u)
+unfolding moved
+migrated_kept u k = at_map Keeps (reloaded u.layout.shape (saved u)) u.redistributors k no_redistributor (reloaded_kept u.layout.shape (saved u)) (kept no_redistributor)
+
+-- ---- all calls
+
+abbrev AllGo : Plain → Call → Plain → Type 0
+AllGo u c w = (v : ℕ) → Goes (WritesEnableLpis v c) (redistributor u v) (redistributor w v)
+
+all_go : (u : Plain) (c : Call) (w : Plain) → AllKeep u w → AllGo u c w
+all_go u c w k v = goes (WritesEnableLpis v c) (redistributor u v) (redistributor w v) (k v)
+
+module _ (u : Plain) (vcpu : Vcpu) (off size value : ℕ) where
+  abbrev written_to : Redistributor
+  written_to = written_gicr u.layout.shape u.memory (redistributor u vcpu.0) off size value
+
+  gicr_goes : AllGo u (call.WriteGicr vcpu off size value) (if u.layout.gicr then with_redistributor u vcpu.0 written_to else u)
+  gicr_goes =
+      let c : Call = call.WriteGicr vcpu off size value in
+      let here : Goes (WritesEnableLpis vcpu.0 c) (redistributor u vcpu.0) written_to =
+      goes_by (IsEnabling off size value) (WritesEnableLpis vcpu.0 c) (redistributor u vcpu.0) written_to (λ p. (refl, p.0, p.1, p.2))
+      (written_goes u.layout.shape u.memory (redistributor u vcpu.0) off size value) in
+      cond_both u.layout.gicr (with_redistributor u vcpu.0 written_to) u (AllGo u c)
+      (λ _ k. at_set (λ n. Goes (WritesEnableLpis n c)) u.redistributors vcpu.0 k written_to no_redistributor (λ n r. goes (WritesEnableLpis n c) r r (kept r)) here)
+      (λ _. all_go u c u (all_kept u))
+
+calls_keep : (u : Plain) (c : Call) → AllKeep u (answer u c).1 → AllGo u c (answer u c).1
+calls_keep u c k = all_go u c (answer u c).1 k
+
+pub calls_go : (u : Plain) (c : Call) → AllGo u c (answer u c).1
+unfolding reply_of left written
+calls_go u (call.Signal its dev ev) = calls_keep u (call.Signal its dev ev) (signal_kept u (translated u its dev.0 ev.0) (goes_where_on u its dev.0 ev.0))
+calls_go u (call.Take vcpu) = calls_keep u (call.Take vcpu) (take_kept u vcpu.0)
+calls_go u (call.Show vcpu) = calls_keep u (call.Show vcpu) (all_kept u)
+calls_go u (call.Poke addr bytes) = calls_keep u (call.Poke addr bytes) (all_kept u)
+calls_go u (call.Peek addr count) = calls_keep u (call.Peek addr count) (all_kept u)
+calls_go u (call.ReadReg its off size) = calls_keep u (call.ReadReg its off size) (all_kept u)
+calls_go u (call.WriteReg its off size value) = calls_keep u (call.WriteReg its off size value) (all_kept u)
+calls_go u (call.ReadGicr vcpu off size) = calls_keep u (call.ReadGicr vcpu off size) (all_kept u)
+calls_go u (call.WriteGicr vcpu off size value) = gicr_goes u vcpu off size value
+calls_go u (call.Step its) = calls_keep u (call.Step its) (step_kept u its)
+calls_go u call.Save = calls_keep u call.Save (save_kept u (savable u))
+
+pub stay_on : LpisStayOn
+stay_on u v c on = (calls_go u c v).stays on
+
+pub only_a_write : OnlyAWriteTurnsOn
+only_a_write u v c off on = record { write = (calls_go u c v).turned off on; off_before = off; on_after = on }
+
+pub migrations_keep : MigrationsKeepOn
+migrations_keep u v = (migrated_kept u v).on
+
+-- ---- states in which nothing is pending where LPIs are off
+
+abbrev pub Silent : Plain → Type 0
+Silent u = (v : ℕ) → is_on u v ≡ false → pending_of u v ≡ []
+
+pub silent_after : (u : Plain) (c : Call) → Silent u → Silent (answer u c).1
+silent_after u c h v off = (calls_go u c v).none (h v) off
+
+pub silent_moved : (u : Plain) → Silent u → Silent (moved u)
+silent_moved u h v off = (goes (Unit {0}) (redistributor u v) (redistributor (moved u) v) (migrated_kept u v)).none (h v) off
+
+-- on after a call: they were, or it turned them on
+pub on_after : (u : Plain) (v : ℕ) (c : Call) → is_on (answer u c).1 v ≡ true → (is_on u v ≡ true) ⊎ TurnsOn u v c
+on_after u v c on = elim (cases_Bool (is_on u v)) [ inl was ↦ inl was | inr off ↦ inr (only_a_write u v c off on) ]
+
+-- ---- replies
+
+signal_tells : (u : Plain) (v : ℕ) (its : ℕ) (dev : DeviceId) (ev : EventId) (r : Result Target Cause) → IfOk r (λ target. is_on u target.vcpu.0 ≡ true)
+    → TellsLpi v (call.Signal its dev ev) (reply.Signal (signal_reply r)) → is_on u v ≡ true
+signal_tells u v its dev ev (Ok target) on same = subst (λ k. is_on u k ≡ true) same on
+signal_tells u v its dev ev (Err cause) on h = absurd h
+
+-- where an LPI is pending and enabled, LPIs are on
+lowest_on : (u : Plain) (v intid : ℕ) → Silent u → lowest (redistributor u v) ≡ Some intid → is_on u v ≡ true
+lowest_on u v intid silent e =
+    let none : is_on u v ≡ false → lowest (redistributor u v) ≡ None = λ off. ap (first_enabled (redistributor u v).config) (silent v off) in
+    true_from_ne_false (is_on u v) (λ off. let both : Some intid ≡ None = sym e ∙ none off in cc both)
+
+take_tells : (u : Plain) (v : ℕ) (taker : Vcpu) (o : Option ℕ) → Silent u → lowest (redistributor u taker.0) ≡ o
+    → TellsLpi v (call.Take taker) (reply.Ack (ack_of (redistributor u taker.0) o)) → is_on u v ≡ true
+take_tells u v taker None silent e h = absurd h
+take_tells u v taker (Some intid) silent e same = subst (λ k. is_on u k ≡ true) same (lowest_on u taker.0 intid silent e)
+
+show_tells : (u : Plain) (v : ℕ) (shown : Vcpu) (o : Option ℕ) → Silent u → lowest (redistributor u shown.0) ≡ o
+    → TellsLpi v (call.Show shown) (reply.Ack (ack_of (redistributor u shown.0) o)) → is_on u v ≡ true
+show_tells u v shown None silent e h = absurd h
+show_tells u v shown (Some intid) silent e same = subst (λ k. is_on u k ≡ true) same (lowest_on u shown.0 intid silent e)
+
+-- a reply that tells of an LPI is given where LPIs are on
+pub tells_on : (u : Plain) (v : ℕ) (c : Call) → Silent u → TellsLpi v c (reply_of u c) → is_on u v ≡ true
+unfolding reply_of
+tells_on u v (call.Signal its dev ev) silent h = signal_tells u v its dev ev (translated u its dev.0 ev.0) (goes_where_on u its dev.0 ev.0) h
+tells_on u v (call.Take taker) silent h = take_tells u v taker (lowest (redistributor u taker.0)) silent refl h
+tells_on u v (call.Show shown) silent h = show_tells u v shown (lowest (redistributor u shown.0)) silent refl h
+tells_on u v (call.Poke addr bytes) silent h = absurd h
+tells_on u v (call.Peek addr count) silent h = absurd h
+tells_on u v (call.ReadReg its off size) silent h = absurd h
+tells_on u v (call.WriteReg its off size value) silent h = absurd h
+tells_on u v (call.ReadGicr vcpu off size) silent h = absurd h
+tells_on u v (call.WriteGicr vcpu off size value) silent h = absurd h
+tells_on u v (call.Step its) silent h = absurd h
+tells_on u v call.Save silent h = absurd h
+
+-- and an LPI is pending only there
+pub pending_on : (u : Plain) (v intid : ℕ) → Silent u → is_pending intid (pending_of u v) ≡ true → is_on u v ≡ true
+pending_on u v intid silent h =
+    true_from_ne_false (is_on u v) (λ off. both_ways (is_pending intid (pending_of u v)) (ap (is_pending intid) (silent v off)) h)

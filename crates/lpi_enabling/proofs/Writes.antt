@@ -1,0 +1,97 @@
+-- A write of a redistributor's LPI registers turns LPIs on where it writes 1 to GICR_CTLR.EnableLPIs, and never off.
+use Rattle.std.proofs.Common.{◌≡◌, ℕ, Bool, true, false, ◌&&◌, ◌||◌, ◌==◌, eqb, not, if◌then◌else◌, List, [], refl, sym, ap, ◌∙◌, arith}
+use Rattle.std.proofs.lemmas.Bool.{and_parts, both_ways, cond_both, eqb-true}
+use Rattle.guest_windows.specs.Windows.{Window}
+use Rattle.its_types.specs.Bits.{bit_of, field}
+use Rattle.its_types.specs.Ranges.{is_lpi}
+use Rattle.its_types.specs.declared.machine.Shape.{Shape}
+use Rattle.its_types.specs.declared.translation.Bases.{Bases}
+use Rattle.gicr_regs.specs.Redistributors.{Redistributor, has_tables, reread_at}
+use Rattle.gicr_regs.specs.Registers.{asked_by, asked_by_64, asked_by_word, done_by, turned_on, written_gicr, low_half}
+use Rattle.gicr_regs.specs.declared.write.GicrWrite.{GicrWrite}
+use Rattle.gicr_regs.specs.declared.write.GicrWrite.TheVariants as writes
+use Rattle.lpi_enabling.proofs.Kept.{Keeps, kept, reread_kept, reloaded_kept}
+
+-- ---- what a call may do to a redistributor
+
+-- LPIs stay on, are turned on only where P holds, and none is pending while they are off, if none was
+pub record Goes (P : Type 0) (r s : Redistributor) : Type 0 where
+  pub stays : r.bases.on ≡ true → s.bases.on ≡ true
+  pub turned : r.bases.on ≡ false → s.bases.on ≡ true → P
+  pub none : (r.bases.on ≡ false → r.pending ≡ []) → s.bases.on ≡ false → s.pending ≡ []
+
+pub goes : (P : Type 0) (r s : Redistributor) → Keeps r s → Goes P r s
+goes P r s k = record {
+  stays = λ on. k.on ∙ on;
+  turned = λ off on. absurd (both_ways r.bases.on off (sym k.on ∙ on));
+  none = λ h off. let was : r.bases.on ≡ false = sym k.on ∙ off in k.none was (h was);
+}
+
+pub goes_by : (P Q : Type 0) (r s : Redistributor) → (P → Q) → Goes P r s → Goes Q r s
+goes_by P Q r s f g = record { stays = g.stays; turned = λ off on. f (g.turned off on); none = g.none }
+
+-- ---- what a write asks for
+
+abbrev pub IsEnabling : ℕ → ℕ → ℕ → Type 0
+IsEnabling off size value = (off ≡ 0) × (size ≡ 4) × (bit_of value 0 ≡ true)
+
+-- other bases, or LPIs on, are asked for only while they are off
+abbrev Asks : Bases → Type 0 → GicrWrite → Type 0
+Asks b P writes.Ignored = Unit {0}
+Asks b P (writes.SetBases c) = (b.on ≡ false) × (c.on ≡ false)
+Asks b P writes.Enable = P
+Asks b P (writes.Reread intid) = Unit {0}
+Asks b P writes.RereadAll = Unit {0}
+
+lowest_bit : (value : ℕ) → bit_of (low_half value) 0 ≡ bit_of value 0
+lowest_bit value = let same : field (low_half value) 0 1 ≡ field value 0 1 = omega arith in ap (λ k. eqb k 1) same
+
+module _ (b : Bases) (off size value : ℕ) where
+  abbrev A : GicrWrite → Type 0
+  A = Asks b (IsEnabling off size value)
+
+  either : (t : Bool) (x y : GicrWrite) → A x → A y → A (if t then x else y)
+  either true x y p q = p
+  either false x y p q = q
+
+  set : (c : Bases) → c.on ≡ b.on → A (if b.on then writes.Ignored else writes.SetBases c)
+  set c same = cond_both b.on writes.Ignored (writes.SetBases c) A (λ _. tt) (λ e. (e, same ∙ e))
+
+  asked_64 : A (asked_by_64 b off value)
+  unfolding asked_by_64
+  asked_64 =
+      either (off == 0x70) _ _ (set _ refl) (either (off == 0x78) _ _ (set _ refl) (either (off == 0xA0) _ _ tt (either (off == 0xB0) _ _ tt tt)))
+
+  asked_word : size ≡ 4 → A (asked_by_word b off (low_half value))
+  unfolding asked_by_word
+  asked_word four =
+      cond_both (off == 0x0) _ _ A
+      (λ first. cond_both (bit_of (low_half value) 0 && not b.on) writes.Enable writes.Ignored A
+      (λ on. (eqb-true off 0 first, four, sym (lowest_bit value) ∙ (and_parts (bit_of (low_half value) 0) (not b.on) on).0)) (λ _. tt))
+      (λ _. either (off == 0x70) _ _ (set _ refl) (either (off == 0x74) _ _ (set _ refl) (either (off == 0x78) _ _ (set _ refl) (either (off == 0x7C) _ _ (set _ refl)
+      (either (off == 0xA0) _ _ tt (either (off == 0xB0 || off == 0xB4) _ _ tt tt))))))
+
+  asked : A (asked_by b off size value)
+  unfolding asked_by
+  asked = either (size == 8) _ _ asked_64 (cond_both (size == 4) (asked_by_word b off (low_half value)) writes.Ignored A (λ e. asked_word (eqb-true size 4 e)) (λ _. tt))
+
+-- ---- what it does
+
+module _ (s : Shape) (memory : List Window) (P : Type 0) where
+  done : (r : Redistributor) (w : GicrWrite) → Asks r.bases P w → Goes P r (done_by s memory w r)
+  unfolding done_by turned_on
+  done r writes.Ignored a = goes P r r (kept r)
+  done r (writes.SetBases c) a = record {
+    stays = λ on. absurd (both_ways r.bases.on a.0 on);
+    turned = λ _ on. absurd (both_ways c.on a.1 on);
+    none = λ h _. h a.0;
+  }
+  done r writes.Enable a =
+      cond_both (has_tables s memory r.bases) (turned_on s memory r) r (Goes P r) (λ _. record { stays = λ _. refl; turned = λ _ _. a; none = λ _ off. absurd cc }) (λ _. goes P r r (kept r))
+  done r (writes.Reread intid) a =
+      cond_both (is_lpi s.lpi_bits intid.0) (reread_at memory intid.0 r) r (Goes P r) (λ _. goes P r (reread_at memory intid.0 r) (reread_kept memory intid.0 r)) (λ _. goes P r r (kept r))
+  done r writes.RereadAll a = goes P r (done_by s memory writes.RereadAll r) (reloaded_kept s memory r)
+
+pub written_goes : (s : Shape) (memory : List Window) (r : Redistributor) (off size value : ℕ) → Goes (IsEnabling off size value) r (written_gicr s memory r off size value)
+unfolding written_gicr
+written_goes s memory r off size value = done s memory (IsEnabling off size value) r (asked_by r.bases off size value) (asked r.bases off size value)

@@ -1,0 +1,228 @@
+-- The legs of a report, one after another.
+use Rattle.std.proofs.Common.{◌≡◌, ℕ, zero, suc, ◌+◌, ◌<◌, ◌≤◌, List, [], ◌∷◌, length, drop, get_or, Some, refl, sym, ap, subst, ◌∙◌, inl, inr, arith}
+use Rattle.std.proofs.lemmas.List.{drop_more, drop_all, length-map, length-drop}
+use Rattle.its_plain.specs.Plain.{Plain}
+use Rattle.its_plain.specs.declared.layout.Layout.{Layout}
+use Rattle.its_plain.specs.Answer.{answer}
+use Rattle.its_plain.specs.History.{after}
+use Rattle.its_plain.specs.Regions.{savable}
+use Rattle.its_plain.specs.Runs.{Leg, IsLegRun}
+use Rattle.its_plain.specs.Saved.{IsSavable, moved, saved, reloaded}
+use Rattle.its_plain.specs.Sound.{IsSound}
+use Rattle.its_plain.specs.declared.call.Entry.{Entry}
+use Rattle.plain_soundness.proofs.Answers.{calls_keep, histories_keep}
+use Rattle.plain_soundness.proofs.Migrated.{migrations_keep}
+use Rattle.plain_footprint.proofs.OtherParts.{layout_is}
+use Rattle.its_history.specs.Histories.{Seat, history_lines}
+use Rattle.its_history.specs.ReadBack.{ArePlaced, HasLegShape, HasShape}
+use Rattle.its_history.specs.Reading.{end_of}
+use Rattle.its_history.specs.Reports.{ended}
+use Rattle.its_history.specs.declared.trace.End.{End}
+use Rattle.its_history.specs.declared.trace.End.TheVariants.{Migrated, Done}
+use Rattle.its_history.specs.declared.trace.Leg.{Leg as LegLines}
+use Rattle.trace_check.specs.Differences.{seat, IsHere, IsAtEnd, DiffersFrom, pending_texts}
+use Rattle.trace_check.specs.Steps.{AreEntries, EntriesDiffer, IsLegRight, IsOtherPending, IsMigrated, IsFault}
+use Rattle.trace_check.specs.Verdicts.{IsReportOfRun, IsVerdictFrom}
+use Rattle.trace_check.specs.declared.verdict.Difference.{Difference}
+use Rattle.trace_check.specs.declared.verdict.Verdict.{Verdict}
+use Rattle.trace_check.specs.declared.verdict.Verdict.TheVariants.{Agrees, Differs}
+use Rattle.trace_check.proofs.Exact.{exact_from}
+
+-- ---- how many virtual processors there are
+
+after_layout : (u : Plain) (h : List Entry) → IsSound u → (after u h).layout ≡ u.layout
+after_layout u [] s = refl
+after_layout u (e ∷ h) s = after_layout (answer u e.call).1 h (calls_keep u e.call s) ∙ sym (layout_is u e.call s)
+
+pub after_vcpus : (u : Plain) (h : List Entry) → IsSound u → length (after u h).redistributors ≡ length u.redistributors
+after_vcpus u h s = (histories_keep u h s).vcpus ∙ (ap (λ (l : Layout). l.shape.vcpus) (after_layout u h s) ∙ sym s.vcpus)
+
+moved_vcpus : (u : Plain) → length (moved u).redistributors ≡ length u.redistributors
+unfolding moved
+moved_vcpus u = length-map u.redistributors (reloaded u.layout.shape (saved u))
+
+-- ---- a leg
+
+lines_long : (s : ℕ → Seat) (n : ℕ) (h : List Entry) → length (history_lines s n h) ≡ length h
+lines_long s n [] = refl
+lines_long s n (e ∷ h) = ap suc (lines_long s (suc n) h)
+
+module _ (u : Plain) (leg : Leg) (t : LegLines) where
+  pub entries_long : (w : Plain) → (a : AreEntries u leg t.entries w) → length t.entries ≡ length a.history
+  entries_long w a = ap length a.lines_are ∙ lines_long (seat leg) 0 a.history
+
+  pub entries_differ : (n : ℕ) (d : Difference) → EntriesDiffer n u leg t.entries d → IsHere n u leg t d
+  entries_differ n d e = record {
+    leg_is = e.leg_is;
+    lines = elim (e.differs t refl) [ inl x ↦ inl x | inr y ↦ inr (inl y) ];
+  }
+
+  pub pending_differs : (n : ℕ) (w : Plain) (d : Difference) → (a : AreEntries u leg t.entries w) → IsOtherPending w t.pending d.said d.is → d.leg ≡ n → d.place ≡ length t.entries → IsHere n u leg t d
+  pending_differs n w d a o leg_is place = record {
+    leg_is = leg_is;
+    lines = inr (inr (record {
+      history = a.history;
+      is_run = a.is_run;
+      entries = a.lines_are;
+      place = place ∙ entries_long w a;
+      before = o.before;
+      said_text = o.said_text;
+      said_later = o.said_later;
+      pending_said = o.pending_said;
+      is_text = o.is_text;
+      is_later = o.is_later;
+      pending_is = ap pending_texts (sym a.now_is) ∙ o.pending_is;
+      differs = o.differs;
+      said = o.said_line;
+      is_line = o.is_line;
+    }));
+  }
+
+  pub told_is : (w : Plain) (end : End) → (r : IsLegRight u leg t.entries t.pending w) → t.end ≡ Some end → t ≡ ended u leg r.are_entries.history (Some end)
+  told_is w end r e =
+      let pending : t.pending ≡ pending_texts (after u r.are_entries.history) = r.pending_is ∙ ap pending_texts r.are_entries.now_is in
+      λ i. record { entries = r.are_entries.lines_are i; pending = pending i; end = e i }
+
+  pub cannot : (n : ℕ) (w : Plain) (d : Difference) → (r : IsLegRight u leg t.entries t.pending w) → t.end ≡ Some Migrated → IsFault n (length t.entries) w d → IsAtEnd n u leg t d
+  cannot n w d r e f = record {
+    leg_is = f.leg_is;
+    end = record {
+      history = r.are_entries.history;
+      is_run = r.are_entries.is_run;
+      right = told_is w Migrated r e;
+      place = f.place_is ∙ entries_long w r.are_entries;
+      said = f.said;
+      fault = f.fault;
+      not_savable = ap savable (sym r.are_entries.now_is) ∙ f.not_savable;
+      is_fault = f.is_fault;
+    };
+  }
+
+-- ---- legs
+
+shape_long : (vcpus n : ℕ) (told : List LegLines) → HasShape vcpus n told → length told ≡ n
+shape_long vcpus zero [] s = refl
+shape_long vcpus zero (t ∷ told) s = absurd s
+shape_long vcpus (suc n) [] s = absurd s
+shape_long vcpus (suc n) (t ∷ told) s = ap suc (shape_long vcpus n told s.1)
+
+here_is : (n : ℕ) (u : Plain) (leg : Leg) (rest : List Leg) (t : LegLines) (told : List LegLines) (d : Difference) → IsHere n u leg t d → DiffersFrom n u (leg ∷ rest) (t ∷ told) d
+here_is n u leg [] t told d h = h
+here_is n u leg (next ∷ rest) t told d h = inl h
+
+end_is : (n : ℕ) (u : Plain) (leg : Leg) (rest : List Leg) (t : LegLines) (told : List LegLines) (d : Difference) → 0 < length rest → IsAtEnd n u leg t d → DiffersFrom n u (leg ∷ rest) (t ∷ told) d
+end_is n u leg [] t told d some e = absurd (omega arith)
+end_is n u leg (next ∷ rest) t told d some e = inr (inl e)
+
+-- a leg is right, the state after it was moved, and so it is for the legs that follow
+module _ (n : ℕ) (u w : Plain) (leg : Leg) (t : LegLines) (h : List Entry) (run : IsLegRun u leg h) (can : IsSavable (after u h)) (now : w ≡ moved (after u h)) (right : t ≡ ended u leg h (Some Migrated)) where
+  goes_on : (rest : List Leg) (told : List LegLines) (v : Verdict) → 0 < length rest → IsVerdictFrom (n + 1) w rest told v → IsVerdictFrom n u (leg ∷ rest) (t ∷ told) v
+  goes_on [] told v some later = absurd (omega arith)
+  goes_on (next ∷ rest) told Agrees some later =
+      let moved_on : IsReportOfRun (moved (after u h)) (next ∷ rest) told = subst (λ (x : Plain). IsReportOfRun x (next ∷ rest) told) now later in
+      record { histories = h ∷ moved_on.histories; is_run = (h, moved_on.histories, refl, run, can, moved_on.is_run); told_is = λ i. right i ∷ moved_on.told_is i }
+  goes_on (next ∷ rest) told (Differs d) some later =
+      inr (inr (h, record { is_run = run; right = right; savable = can }, subst (λ (x : Plain). DiffersFrom (n + 1) x (next ∷ rest) told d) now later))
+
+-- the last leg is right
+ends : (n : ℕ) (u w : Plain) (leg : Leg) (t : LegLines) (h : List Entry) → IsLegRun u leg h → t ≡ ended u leg h (Some Done) → (v : Verdict) → IsVerdictFrom (n + 1) w [] [] v → IsVerdictFrom n u (leg ∷ []) (t ∷ []) v
+ends n u w leg t h run right Agrees later = record { histories = h ∷ []; is_run = (h, refl, run); told_is = λ i. right i ∷ [] }
+ends n u w leg t h run right (Differs d) later = absurd later
+
+-- whatever is right of the legs from the i-th on is right of all
+pub record Checking (first : Plain) (legs : List Leg) (told : List LegLines) (i : ℕ) (u : Plain) : Type 0 where
+  pub sound : IsSound u
+  pub vcpus : length u.redistributors ≡ length first.redistributors
+  pub long : length told ≡ length legs
+  pub shape : HasShape (length first.redistributors) (length (drop i legs)) (drop i told)
+  pub goes : (v : Verdict) → IsVerdictFrom (i + 1) u (drop i legs) (drop i told) v → IsVerdictFrom 1 first legs told v
+
+pub checking_none : (first : Plain) (legs : List Leg) (told : List LegLines) → IsSound first → HasShape (length first.redistributors) (length legs) told → Checking first legs told 0 first
+checking_none first legs told sound shape = record {
+  sound = sound;
+  vcpus = refl;
+  long = shape_long (length first.redistributors) (length legs) told shape;
+  shape = shape;
+  goes = λ v h. h;
+}
+
+module _ (first : Plain) (legs : List Leg) (told : List LegLines) (i : ℕ) (u : Plain) (leg : Leg) (t : LegLines) (c : Checking first legs told i u) (lt : i < length legs) (leg_at : leg ≡ get_or legs i leg) (t_at : t ≡ get_or told i t) where
+  abbrev rest : List Leg
+  rest = drop (i + 1) legs
+
+  abbrev later : List LegLines
+  later = drop (i + 1) told
+
+  left : drop i legs ≡ leg ∷ rest
+  left = drop_more legs i leg lt ∙ ap (λ l. l ∷ rest) (sym leg_at)
+
+  said : drop i told ≡ t ∷ later
+  said = drop_more told i t (omega (arith, lt, c.long)) ∙ ap (λ l. l ∷ later) (sym t_at)
+
+  both : HasLegShape (length first.redistributors) (end_of (length rest)) t × HasShape (length first.redistributors) (length rest) later
+  both = subst (λ (p : List Leg × List LegLines). HasShape (length first.redistributors) (length p.0) p.1) (λ j. (left j, said j)) c.shape
+
+  pub placed : ArePlaced 0 t.entries
+  placed = both.0.placed
+
+  pub pending_long : length t.pending ≡ length u.redistributors
+  pending_long = both.0.pending ∙ sym c.vcpus
+
+  -- what is right of this leg and those after it
+  whole : (v : Verdict) → IsVerdictFrom (i + 1) u (leg ∷ rest) (t ∷ later) v → IsVerdictFrom 1 first legs told v
+  whole v h = c.goes v (subst (λ (p : List Leg × List LegLines). IsVerdictFrom (i + 1) u p.0 p.1 v) (λ j. (sym left j, sym said j)) h)
+
+  pub differs_now : (d : Difference) → IsHere (i + 1) u leg t d → IsVerdictFrom 1 first legs told (Differs d)
+  differs_now d h = whole (Differs d) (here_is (i + 1) u leg rest t later d h)
+
+  rest_long : suc (length rest) + i ≡ length legs
+  rest_long = omega (arith, length-drop (i + 1) legs, lt)
+
+  end_migrated : i + 1 < length legs → t.end ≡ Some Migrated
+  end_migrated more = both.0.end_is ∙ ap (λ (e : End). Some e) (after_one (length rest) (omega (arith, rest_long, more)))
+    where
+      after_one : (n : ℕ) → 0 < n → end_of n ≡ Migrated
+      after_one zero some = absurd (omega arith)
+      after_one (suc n) some = refl
+
+  pub differs_after : (w : Plain) (d : Difference) → i + 1 < length legs → IsLegRight u leg t.entries t.pending w → IsFault (i + 1) (length t.entries) w d → IsVerdictFrom 1 first legs told (Differs d)
+  differs_after w d more right fault =
+      whole (Differs d) (end_is (i + 1) u leg rest t later d (omega (arith, rest_long, more)) (cannot u leg t (i + 1) w d right (end_migrated more) fault))
+
+  pub checking_more : (w x : Plain) → i + 1 < length legs → IsLegRight u leg t.entries t.pending w → IsMigrated w x → Checking first legs told (i + 1) x
+  checking_more w x more right m =
+      let a = right.are_entries in
+      let now : x ≡ moved (after u a.history) = m.now ∙ ap moved a.now_is in
+      record {
+        sound = subst IsSound (sym now) (migrations_keep (after u a.history) (histories_keep u a.history c.sound));
+        vcpus = ap (λ (z : Plain). length z.redistributors) now ∙ (moved_vcpus (after u a.history) ∙ (after_vcpus u a.history c.sound ∙ c.vcpus));
+        long = c.long;
+        shape = both.1;
+        goes = λ v h. whole v (goes_on (i + 1) u x leg t a.history a.is_run (subst IsSavable a.now_is m.is_savable) now (told_is u leg t w Migrated right (end_migrated more)) rest later v (omega (arith, rest_long, more)) h);
+      }
+
+  pub checking_last : (w : Plain) → length legs ≤ i + 1 → IsLegRight u leg t.entries t.pending w → Checking first legs told (i + 1) w
+  checking_last w le right =
+      let a = right.are_entries in
+      let none : rest ≡ [] = drop_all (i + 1) legs le in
+      let gone : later ≡ [] = drop_all (i + 1) told (omega (arith, le, c.long)) in
+      let done : t.end ≡ Some Done = both.0.end_is ∙ ap (λ (l : List Leg). Some (end_of (length l))) none in
+      record {
+        sound = subst IsSound (sym a.now_is) (histories_keep u a.history c.sound);
+        vcpus = ap (λ (z : Plain). length z.redistributors) a.now_is ∙ (after_vcpus u a.history c.sound ∙ c.vcpus);
+        long = c.long;
+        shape = both.1;
+        goes = λ v h. whole v (subst (λ (p : List Leg × List LegLines). IsVerdictFrom (i + 1) u (leg ∷ p.0) (t ∷ p.1) v) (λ j. (sym none j, sym gone j))
+            (ends (i + 1) u w leg t a.history a.is_run (told_is u leg t w Done right done) v (subst (λ (p : List Leg × List LegLines). IsVerdictFrom (i + 1 + 1) w p.0 p.1 v) (λ j. (none j, gone j)) h)));
+      }
+
+pub checking_all : (first : Plain) (legs : List Leg) (told : List LegLines) (i : ℕ) (u : Plain) → Checking first legs told i u → length legs ≤ i → IsReportOfRun first legs told
+checking_all first legs told i u c le =
+    let none : drop i legs ≡ [] = drop_all i legs le in
+    let gone : drop i told ≡ [] = drop_all i told (omega (arith, le, c.long)) in
+    let nothing : IsReportOfRun u [] [] = record { histories = []; is_run = refl; told_is = refl } in
+    c.goes Agrees (subst (λ (p : List Leg × List LegLines). IsReportOfRun u p.0 p.1) (λ j. (sym none j, sym gone j)) nothing)
+
+-- a difference leaves no run
+pub no_run : (first : Plain) (legs : List Leg) (told : List LegLines) (d : Difference) → IsVerdictFrom 1 first legs told (Differs d) → IsReportOfRun first legs told → ⊥
+no_run first legs told d h run = exact_from 1 first legs told d h run

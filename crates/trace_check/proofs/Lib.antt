@@ -1,0 +1,10 @@
+pub mod Lists
+pub mod Parts
+pub mod Taken
+pub mod Going
+pub mod Following
+pub mod Exact
+pub mod Counting
+pub mod Entries
+pub mod Texts
+pub mod Checked

@@ -1,0 +1,5 @@
+use Rattle.trace_check.proofs.Checked.{Checking}
+use Rattle.trace_check.proofs.legs.check.Given as goal
+
+abbrev pub invariant-loop-index : goal.invariant-loop-index
+invariant-loop-index l = Checking l.fn.machine l.legs l.trace.legs l.index l.machine

@@ -1,0 +1,5 @@
+pub mod Differences
+pub mod Verdicts
+pub mod Cursors
+pub mod Fields
+pub mod Steps
