@@ -10,6 +10,7 @@ use its_plain::{CmdReply, Reason};
 use its_types::{Addr, Device, DeviceId, Icid, Part, Profile, Shape, Vcpu};
 use lpi_pending::Redists;
 use std::alloc::{AllocError, Global};
+use std::process::Abort;
 use std::test::Fail;
 
 const DEVICE: Device = Device {
@@ -88,10 +89,10 @@ fn redistributors_that_commands_need(rt: HostRuntime) {
 // carried out, and GITS_CREADR.
 type Ran = (CmdReply, Option<Vcpu>, Option<Vcpu>, u64);
 
-fn run_mapc(rt: &HostRuntime, target: u8) -> Result<Ran, NewError> {
-    let memory = Memory::new(rt.alloc(), &[(Addr(0x8000_0000), 0x1000)])?;
+fn run_mapc(rt: &impl Abort, alloc: Global, target: u8) -> Result<Ran, NewError> {
+    let memory = Memory::new(alloc, &[(Addr(0x8000_0000), 0x1000)])?;
     let mut regs = Regs::reset(16);
-    let mut maps = Maps::new(rt.alloc());
+    let mut maps = Maps::new(alloc);
     let mut redists = Redists::new();
     let planned = plan(&mapc(1, target), &regs, &maps, &memory, &redists, &SHAPE);
     let reply = planned.reply();
@@ -107,8 +108,11 @@ fn run_mapc(rt: &HostRuntime, target: u8) -> Result<Ran, NewError> {
 #[test]
 fn a_command_is_run_or_refused(rt: HostRuntime) -> Result<(), Fail> {
     let refused = CmdReply::Refused(Op::Mapc, Reason::TargetRange);
-    assert_eq!(rt; run_mapc(&rt, 4)?, (refused, None, None, 32));
+    assert_eq!(rt; run_mapc(&rt, rt.alloc(), 4)?, (refused, None, None, 32));
     let ran = CmdReply::Ran(Op::Mapc);
-    assert_eq!(rt; run_mapc(&rt, 2)?, (ran, None, Some(Vcpu(2)), 32));
+    assert_eq!(rt;
+        run_mapc(&rt, rt.alloc(), 2)?,
+        (ran, None, Some(Vcpu(2)), 32)
+    );
     Ok(())
 }

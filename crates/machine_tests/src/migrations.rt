@@ -5,8 +5,8 @@ ghost use Rattle.its_plain.specs.Machine.{IsDescription};
 use crate::scripts::{Asked, Given, Line, desc, enabling, queueing};
 use gits_regs::RegValues;
 use its_plain::{
-    Call, Cause, Desc, DescFault, MakeError, Reason, Region, Reply, RestoreFault, SaveError, SaveFault,
-    Table,
+    Call, Cause, Desc, DescFault, MakeError, Reason, Region, Reply, RestoreFault, SaveError,
+    SaveFault, Table,
 };
 use its_types::{DeviceId, Intid, Profile};
 use owned_machine::Machine;
@@ -208,7 +208,13 @@ fn devices_far_apart_in_two_levels(rt: HostRuntime) -> Result<(), Fail> {
         (0x8000_0000, 0x8000_0000_8008_0000),
         (0x8000_0010, 0x8000_0000_8009_0000),
     ];
-    let done = played(rt.alloc(), &words, None, Some(TWO_LEVELS), &FAR_IN_TWO_LEVELS)?;
+    let done = played(
+        rt.alloc(),
+        &words,
+        None,
+        Some(TWO_LEVELS),
+        &FAR_IN_TWO_LEVELS,
+    )?;
     assert_eq!(rt; done, Ok(13));
     Ok(())
 }
