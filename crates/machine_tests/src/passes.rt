@@ -18,7 +18,6 @@ const LIMITS: Limits = Limits {
 };
 
 // What passes do, or what is then seen. A call is made by a pass with the parts that it names.
-#[derive(Clone, Copy)]
 enum Act {
     // A value of so many bytes to the register at an offset, with the maps.
     Write(u32, u32, u8, u64),
@@ -131,35 +130,34 @@ fn run(stamp: u32, op: Op) -> Commit {
     commit(stamp, Call::Step { its: 0 }, reply, ShardChange::Keep)
 }
 
-fn does(alloc: Global, world: World, act: Act) -> Result<World, AllocError> {
+fn does(alloc: Global, world: World, act: &Act) -> Result<World, AllocError> {
     match act {
         Act::Write(pass, off, size, value) => {
-            make(alloc, world, pass, &[MAPS], write(off, size, value))
+            make(alloc, world, *pass, &[MAPS], write(*off, *size, *value))
         }
-        Act::Poke(pass, addr, bytes) => make(alloc, world, pass, &[Part::Mem], poke(addr, bytes)),
-        Act::Run(pass, parts, stamp, op) => make(alloc, world, pass, parts, run(stamp, op)),
+        Act::Poke(pass, addr, bytes) => {
+            make(alloc, world, *pass, &[Part::Mem], poke(*addr, *bytes))
+        }
+        Act::Run(pass, parts, stamp, op) => make(alloc, world, *pass, parts, run(*stamp, *op)),
         Act::Signal(pass, parts, stamp, reply, change) => {
-            make(
-                alloc,
-                world,
-                pass,
-                parts,
-                commit(stamp, SIGNAL, reply, change),
-            )
+            let signal = commit(*stamp, SIGNAL, *reply, *change);
+            make(alloc, world, *pass, parts, signal)
         }
-        Act::Step(pass, kind) => step(alloc, world, pass, kind),
-        Act::Take(pass, parts) => take(alloc, world, pass, parts),
-        Act::Give(pass, parts) => give(alloc, world, pass, parts),
+        Act::Step(pass, kind) => step(alloc, world, *pass, *kind),
+        Act::Take(pass, parts) => take(alloc, world, *pass, parts),
+        Act::Give(pass, parts) => give(alloc, world, *pass, parts),
         Act::IsAt(..) | Act::Last(..) => Ok(world),
     }
 }
 
-fn is_seen(world: &World, act: Act) -> bool {
+fn is_seen(world: &World, act: &Act) -> bool {
     match act {
         Act::IsAt(stamp, place) => {
-            world.word() == Word { stamp, place } && world.history().len() as u64 == place
+            let word = world.word();
+            let length = world.history().len() as u64;
+            word.stamp == *stamp && word.place == *place && length == *place
         }
-        Act::Last(pass, word) => world.last(pass) == word,
+        Act::Last(pass, word) => world.last(*pass) == *word,
         _ => true,
     }
 }
@@ -172,7 +170,7 @@ fn world(alloc: Global) -> Result<World, Fail> {
         world = step(alloc, world, 0, Kind::Split)?;
     }
     for act in &PREPARED {
-        world = does(alloc, world, *act)?;
+        world = does(alloc, world, act)?;
     }
     Ok(world)
 }
@@ -181,8 +179,8 @@ fn world(alloc: Global) -> Result<World, Fail> {
 fn play(alloc: Global, acts: &[Act]) -> Result<usize, Fail> {
     let mut world = world(alloc)?;
     for (at, act) in acts.iter().enumerate() {
-        world = does(alloc, world, *act)?;
-        if !is_seen(&world, *act) {
+        world = does(alloc, world, act)?;
+        if !is_seen(&world, act) {
             return Ok(at);
         }
     }
