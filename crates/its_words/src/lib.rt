@@ -1,0 +1,7 @@
+//! The words of the command line, by the kit's parser of command lines.
+#![tactic(auto)]
+
+mod command;
+mod words;
+
+pub use words::{Asked, WordsError, parse_words, usage};
