@@ -1,5 +1,5 @@
 -- Numbers in form.
-use Rattle.std.proofs.Common.{◌≡◌, ◌<◌, ◌≤◌, ◌∙◌, ℕ, Bool, true, false, List, [], ◌∷◌, cond, nat_lt, nat_le, option_and_then, subst, Option, Some, None, Result, Ok, Err, slice_index, refl, sym, ap, arith, length, ◌^◌, ◌&&◌}
+use Rattle.std.proofs.Common.{◌≡◌, ◌<◌, ◌≤◌, ◌∙◌, ℕ, Bool, true, false, List, [], ◌∷◌, cond, nat_lt, nat_le, Some, None, Result, Ok, Err, slice_index, refl, sym, ap, arith, length, ◌^◌, ◌&&◌}
 use Rattle.std.specs.Str.{all_ascii_digits}
 use Rattle.std.specs.Str.Parse.{ParsesUnsigned, digits_value}
 use Rattle.std.specs.Result.{result_ok}
@@ -10,8 +10,7 @@ use Rattle.std.proofs.lemmas.Bool.Decides.{nat_tests}
 use Rattle.std.proofs.lemmas.Str.Parse.{digits_value-take-le}
 use Rattle.std.specs.Char.{digit_value, is_ascii_digit}
 use Rattle.clap.proofs.WalkLemmas.{both}
-use Rattle.its_words.specs.Words.{number_of, gen_of_numbers, gen_by, IsInRange}
-use Rattle.its_words.specs.declared.words.Asked.{Asked}
+use Rattle.its_words.specs.Words.{number_of}
 
 own : IsNumeralModel (λ ds. all_ascii_digits ds ≡ true) (digits_value 10)
 own = numerals_by_value _ tells_all_ascii_digits

@@ -1,6 +1,6 @@
 -- The command `its` as the parser of command lines reads it.
 use Rattle.std.specs.Prelude.{ℕ, List, true, Some, codes}
-use Rattle.clap.specs.Words.{App, Rule, Shape, new_app, new_rule, with_rule, with_subcommand}
+use Rattle.clap.specs.Words.{App, Rule, new_app, new_rule, with_rule, with_subcommand}
 use Rattle.clap.specs.declared.builder.ArgAction.TheVariants.{Set}
 
 -- an argument that has to be there

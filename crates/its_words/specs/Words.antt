@@ -24,9 +24,40 @@ gen_of_numbers _ _ = None
 abbrev pub gen_by : Option Text → Option Text → Option Asked
 gen_by n t = gen_of_numbers (option_and_then (number_of 20000) n) (option_and_then (number_of 63) t)
 
+abbrev pub gen_of : List Text → Option Asked
+gen_of (n ∷ t ∷ []) = gen_of_numbers (number_of 20000 n) (number_of 63 t)
+gen_of _ = None
+
 -- ---- commands
 
--- what a command and its matches ask for
+-- a command that takes no words
+abbrev pub alone : Asked → List Text → Option Asked
+alone asked [] = Some asked
+alone asked (word ∷ words) = None
+
+abbrev pub asked_by : Text → List Text → Option Asked
+asked_by name words =
+    if bytes_eq (codes "run") name then alone Run words
+    else (if bytes_eq (codes "check") name then alone Check words
+    else (if bytes_eq (codes "gen") name then gen_of words else None))
+
+-- the words without the first `--`, after which no word names an option
+abbrev pub without_separator : List Text → List Text
+without_separator [] = []
+without_separator (word ∷ words) = if bytes_eq word (codes "--") then words else word ∷ without_separator words
+
+-- the first word is the program's name
+unfoldable pub asked_of : List Text → Option Asked
+asked_of (program ∷ name ∷ words) = asked_by name (without_separator words)
+asked_of _ = None
+
+-- ---- the parser
+
+abbrev pub is_none : {X : Type 0} → List X → Bool
+is_none [] = true
+is_none (x ∷ xs) = false
+
+-- what the matches of a command ask for
 abbrev pub asked_in : Option (Text × List Row) → Option Asked
 asked_in None = None
 asked_in (Some (name, rows)) =
@@ -34,16 +65,9 @@ asked_in (Some (name, rows)) =
     else (if bytes_eq name (codes "check") then Some Check
     else gen_by (first_of (codes "signals") rows) (first_of (codes "threads") rows))
 
-abbrev pub is_none : {X : Type 0} → List X → Bool
-is_none [] = true
-is_none (x ∷ xs) = false
-
 -- the parser finds no fault with the words
 unfoldable pub is_taken : List Text → Bool
 is_taken words = is_none (fault_of its_app words)
-
-unfoldable pub asked_of : List Text → Option Asked
-asked_of words = if is_taken words then asked_in (subcommand_of its_app words) else None
 
 -- these are the matches of the words, with which the parser finds no fault
 pub record IsMatched (words : List Text) (m : ArgMatches) : Type 0 where

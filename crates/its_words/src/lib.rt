@@ -2,6 +2,8 @@
 #![tactic(auto)]
 
 mod command;
+#[cfg(test)]
+mod tests;
 mod words;
 
 pub use words::{Asked, WordsError, parse_words, usage};

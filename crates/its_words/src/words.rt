@@ -1,7 +1,8 @@
 //! What the words ask for.
-ghost use Rattle.std.specs.Prelude.{◌≡◌, ◌≤◌, IfOk, IfSome, Some, None, codes, false, map, nat_lt, slice_index};
+ghost use Rattle.std.specs.Prelude.{◌≡◌, ◌≤◌, IfOk, IfSome, Some, None, codes, false, true, map, nat_lt, slice_index};
 ghost use Rattle.std.specs.String.{string_bytes};
-ghost use Rattle.clap.specs.Words.{first_value, found_of, subcommand_rows_of};
+ghost use Rattle.clap.specs.Words.{first_value, found_of, subcommand_of, subcommand_rows_of, takes};
+ghost use Rattle.its_words.specs.Command.{its_app};
 ghost use Rattle.its_words.specs.Words.{asked_in, asked_of, gen_by, is_taken, number_of, IsInRange, IsMatched};
 ghost use Rattle.its_words.specs.declared.words.WordsError.TheVariants.{NoMemory};
 
@@ -50,6 +51,14 @@ pub fn parse_words(alloc: Global, words: &[String]) -> Result<Asked, WordsError>
     ensures refused { result ≡ Err WordsError.Refused →
         asked_of (map (λ w. string_bytes w) words.now) ≡ None }
     ensures range { IfOk result IsInRange }
+
+    // What the parser's own matches of the words give. It is refused only where the parser doesn't
+    // take the words, or a number is out of form.
+    ensures matches { IfOk result (λ a.
+        asked_in (subcommand_of its_app (map (λ w. string_bytes w) words.now)) ≡ Some a) }
+    ensures not_taken { result ≡ Err WordsError.Refused →
+        takes its_app (map (λ w. string_bytes w) words.now) ≡ true →
+        asked_in (subcommand_of its_app (map (λ w. string_bytes w) words.now)) ≡ None }
 {
     let matches = matches_of(alloc, words)?;
     match read(&matches) {
@@ -63,6 +72,8 @@ fn matches_of<'a>(alloc: Global, words: &'a [String]) -> Result<ArgMatches<'a>, 
     ensures ok { IfOk result (IsMatched (map (λ w. string_bytes w) words.entry.now)) }
     ensures refused { result ≡ Err WordsError.Refused →
         is_taken (map (λ w. string_bytes w) words.entry.now) ≡ false }
+    ensures not_taken { result ≡ Err WordsError.Refused →
+        ¬ (takes its_app (map (λ w. string_bytes w) words.entry.now) ≡ true) }
 {
     let command = its_command(alloc)?;
     match command.try_get_matches_from(words) {
