@@ -59,6 +59,11 @@ pub fn try_read_reg<G: Gate>(
 }
 
 /// Reads `size` bytes, 4 or 8, at an offset of the control frame of translator 0.
+///
+/// ```
+/// // GITS_CTLR, bit 0: the translator is enabled.
+/// let enabled = read_reg(rt, machine, pass, &Open, 0x0, 4)?.reply & 1 == 1;
+/// ```
 pub fn read_reg<R: Wait, G: Gate>(
     rt: &R,
     machine: &Machine,

@@ -27,6 +27,7 @@ impl RegWrite {
     ghost use Rattle.its_turns.specs.Contents.{translator_of};
     ghost use Rattle.cmd_engine.specs.Registers.{write_call, after_write, turns_off};
 
+    /// The write as a call of the history, of translator 0.
     pub fn call(self) -> Call
         ensures { result ≡ write_call self }
     {

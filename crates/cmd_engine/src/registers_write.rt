@@ -18,6 +18,11 @@ use std::sync::Wait;
 /// Writes `size` bytes, 4 or 8, at an offset of the control frame of translator 0. A write that
 /// turns the translator off ends every translation that was cached: it leaves the next stamp, and
 /// after the last one 0 and empty shards, for which it takes all shards.
+///
+/// ```
+/// // GITS_CTLR: the translator is enabled.
+/// write_reg(rt, machine, pass, &Open, 0x0, 4, 1)?;
+/// ```
 pub fn write_reg<R: Wait, G: Gate>(
     rt: &R,
     machine: &Machine,

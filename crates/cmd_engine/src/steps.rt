@@ -47,6 +47,17 @@ fn try_step<R: Wait, G: Gate>(
 /// leaves the next stamp, and after the last one 0 and empty shards. Takes no memory but what the
 /// maps want for a device, a collection or an event that is added. Where no step is made, every
 /// part is as it was.
+///
+/// ```
+/// let mut refused = 0u32;
+/// loop {
+///     match step(rt, machine, pass, &Open)?.reply {
+///         StepReply::Ran(_) => {}
+///         StepReply::Refused(..) => refused = refused.wrapping_add(1),
+///         StepReply::Idle | StepReply::QueueFault(_) => break,
+///     }
+/// }
+/// ```
 pub fn step<R: Wait, G: Gate>(
     rt: &R,
     machine: &Machine,

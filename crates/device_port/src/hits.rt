@@ -37,6 +37,13 @@ pub enum Now {
 
 /// Signals by the cache. Tries the turns of the pair's shard and of the target's redistributor
 /// once, and no other.
+///
+/// ```
+/// let reply = match try_signal(machine, pass, &Open, dev, ev) {
+///     Now::Done(placed) => placed.reply,
+///     _ => signal(rt, machine, pass, &Open, dev, ev)?.reply,
+/// };
+/// ```
 pub fn try_signal<G: Gate>(
     machine: &Machine,
     pass: &mut Pass,

@@ -33,6 +33,13 @@ pub fn signal_once<G: Gate>(
 }
 
 /// Signals, and waits for the turns that the call needs.
+///
+/// ```
+/// let kicked = match signal(rt, machine, pass, &Open, DeviceId(16), EventId(3))?.reply {
+///     Signal::Delivered { vcpu, .. } => Some(vcpu),
+///     Signal::Dropped(_) => None,
+/// };
+/// ```
 pub fn signal<R: Wait, G: Gate>(
     rt: &R,
     machine: &Machine,

@@ -38,6 +38,7 @@ impl GicrAccess {
     ghost use Rattle.owned_parts.specs.Owned.{redistributor_of, HasLpisOf};
     ghost use Rattle.gicr_lpi.specs.Accesses.{after_write, write_call};
 
+    /// The write as a call of the history.
     pub fn call(self) -> Call
         ensures { result ≡ write_call self }
     {

@@ -67,6 +67,11 @@ pub fn try_read_gicr<G: Gate>(
 
 /// Reads `size` bytes, 4 or 8, at an offset of a virtual processor's LPI registers. Zero where the
 /// guest doesn't program the LPI tables.
+///
+/// ```
+/// // GICR_CTLR, bit 0: EnableLPIs.
+/// let on = read_gicr(rt, machine, pass, &Open, Vcpu(2), 0x0, 4)?.reply & 1 == 1;
+/// ```
 pub fn read_gicr<R: Wait, G: Gate>(
     rt: &R,
     machine: &Machine,

@@ -18,6 +18,11 @@ use std::sync::Wait;
 /// Writes `size` bytes, 4 or 8, at an offset of a virtual processor's LPI registers. A write that
 /// turns LPIs on or names an LPI to be read again reads guest memory too. Nothing is written where
 /// the guest doesn't program the LPI tables.
+///
+/// ```
+/// // GICR_CTLR, bit 0: EnableLPIs.
+/// write_gicr(rt, machine, pass, &Open, Vcpu(2), 0x0, 4, 1)?;
+/// ```
 pub fn write_gicr<R: Wait, G: Gate>(
     rt: &R,
     machine: &Machine,

@@ -12,6 +12,12 @@ use its_types::{Addr, Gate, Placed};
 use std::sync::Wait;
 
 /// Writes 1 to 64 bytes, where one window of memory has them all.
+///
+/// ```
+/// let bytes = Bytes64::new(&[0x01]);
+/// let address = Addr(0x8003_0008);
+/// let written = poke(rt, machine, pass, &Open, address, &bytes)?.reply == Reply::Ok;
+/// ```
 pub fn poke<R: Wait, G: Gate>(
     rt: &R,
     machine: &Machine,
@@ -37,6 +43,13 @@ pub fn poke<R: Wait, G: Gate>(
 }
 
 /// Reads `count` bytes, 1 to 64, where one window of memory has them all.
+///
+/// ```
+/// let first = match peek(rt, machine, pass, &Open, Addr(0x8003_0008), 1)?.reply {
+///     Reply::Bytes(bytes) => bytes.as_slice().get(0).copied(),
+///     _ => None,
+/// };
+/// ```
 pub fn peek<R: Wait, G: Gate>(
     rt: &R,
     machine: &Machine,

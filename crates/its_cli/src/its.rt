@@ -141,7 +141,7 @@ fn refusal(status: Status) -> &'static str
     }
 }
 
-// Ends with this status, if the report and the line behind it are printed.
+// Ends with this status, if the report and the line after it are printed.
 fn print<K: Sink>(sink: &mut K, report: &str, line: &str, status: Status) -> Status
     requires { status ≢ Status.WriteFault }
     ensures printed { result ≢ Status.WriteFault →

@@ -23,7 +23,7 @@ use std::alloc::{AllocError, Global};
 use std::sync::Wait;
 use std::thread::Threads;
 
-/// How a run ended: its status, and the line behind the report, which is a refusal's or has no
+/// How a run ended: its status, and the line after the report, which is a refusal's or has no
 /// bytes.
 #[derive(Drop)]
 pub struct Ending {

@@ -10,6 +10,7 @@ use its_plain::{DescFault, RestoreFault, SaveFault};
 use std::alloc::{AllocError, Global};
 use std::fmt::Write;
 
+/// Of a script, with the line and kind of its first fault.
 #[tactic(auto, unfolding(crate::specs::Refusals::script_refusal))]
 pub fn script_refusal(alloc: Global, fault: ScriptFault) -> Result<String, AllocError>
     ensures { IfOk result (λ text. string_bytes text ≡ spec.script_refusal fault) }

@@ -18,6 +18,13 @@ use std::alloc::{AllocError, Global};
 /// Saves into a copy of guest memory, and gives a machine that begins with what that copy and the
 /// registers stand for, and its root. No pass but the root is out, and that holds nothing. Where
 /// the state can't be saved, or memory runs out, both come back, the machine as it was.
+///
+/// ```
+/// let (machine, root, moved) = match migrate(alloc, machine, root) {
+///     Ok((machine, root)) => (machine, root, true),
+///     Err((machine, root, _)) => (machine, root, false),
+/// };
+/// ```
 pub fn migrate(
     alloc: Global,
     machine: Machine,

@@ -16,6 +16,14 @@ pub type PendingLists = Listed<Listed<Intid>>;
 
 /// The LPIs that are pending at each virtual processor. No pass but the root is out, and that holds
 /// nothing.
+///
+/// ```
+/// let lists = pending(alloc, &machine, &mut root)?;
+/// let mut count = 0usize;
+/// for lpis in lists.as_slice() {
+///     count = count.wrapping_add(lpis.as_slice().len());
+/// }
+/// ```
 pub fn pending(
     alloc: Global,
     machine: &Machine,

@@ -37,6 +37,7 @@ impl Looked {
         }
     }
 
+    /// An equal value.
     pub fn copy(&self, alloc: Global) -> Result<Looked, AllocError>
         ensures { IfOk result (λ l. l ≡ self.now) }
     {

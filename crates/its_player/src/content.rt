@@ -21,6 +21,7 @@ pub enum Content {
 }
 
 impl Content {
+    /// Equal content.
     pub fn copy(&self, alloc: Global) -> Result<Content, AllocError>
         ensures { IfOk result (λ c. c ≡ self.now) }
     {

@@ -29,36 +29,42 @@ impl Model for Held {
 }
 
 impl Held {
+    /// A part in hand, with what it owes and whether its slot is empty.
     pub fn new(part: Part, owed: Content, out: bool) -> Held
         ensures { result ≡ record { part = part; owed = content_of owed; out = out } }
     {
         Held { part, owed, out }
     }
 
+    /// The part.
     pub fn part(&self) -> Part
         ensures { result ≡ self.now.part }
     {
         self.part
     }
 
+    /// What has to be put home.
     pub fn owed(&self) -> &Content
         ensures { content_of result.now ≡ self.now.owed }
     {
         &self.owed
     }
 
+    /// Whether the value is out of its slot.
     pub fn is_out(&self) -> bool
         ensures { result ≡ self.now.out }
     {
         self.out
     }
 
+    /// The value leaves its slot.
     pub fn take_out(&mut self)
         ensures { self.new ≡ record self.old { out = true } }
     {
         self.out = true;
     }
 
+    /// The value is back in its slot.
     pub fn put_home(&mut self)
         ensures { self.new ≡ record self.old { out = false } }
     {

@@ -55,7 +55,7 @@ impl World {
         })
     }
 
-    /// One event. One that isn't allowed leaves the world as it is. At want of memory the world is
+    /// One event. One that isn't allowed leaves the world as it is. Out of memory, the world is
     /// dropped; so it is where a count of lost tries is at its end.
     pub fn step(self, alloc: Global, event: &Event) -> Result<World, AllocError>
         ensures steps { IfOk result (λ w. spec.IsStep self event.now w) }
@@ -84,6 +84,7 @@ impl World {
         &self.shared.history
     }
 
+    /// The word that commits exchange.
     pub fn word(&self) -> Word
         ensures { result ≡ self.now.world.word }
     {

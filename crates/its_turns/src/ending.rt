@@ -17,6 +17,11 @@ use std::alloc::Global;
 
 /// The parts, as all calls leave them. No pass but the root is out, and that holds nothing. Takes
 /// no memory.
+///
+/// ```
+/// root.join(&machine, pass);
+/// let parts = close(machine, root);
+/// ```
 pub fn close(machine: Machine, root: Root) -> Parts
     requires of { IsOf machine root }
     requires free { (view root).held ≡ [] }

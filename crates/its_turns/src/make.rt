@@ -24,6 +24,11 @@ use xlate_cache::Shard;
 impl Machine {
     /// A machine with an empty history, stamp and place at 0 and every part at home, and its root.
     /// The shards are empty. Where memory runs out the parts are dropped.
+    ///
+    /// ```
+    /// let parts = owned_machine::Machine::new(alloc, &desc)?.into_parts();
+    /// let (machine, mut root) = Machine::new(alloc, &desc, parts)?;
+    /// ```
     pub fn new(alloc: Global, desc: &Desc, parts: Parts) -> Result<(Machine, Root), AllocError>
         requires some_shards { 1 ≤ desc.now.shards }
         requires most_shards { desc.now.shards ≤ 64 }

@@ -36,6 +36,16 @@ impl Pass {
 
     /// Of the root: a new pass, which has seen all that the root has. Passes are numbered 1, 2, ..
     /// as they are split off.
+    ///
+    /// ```
+    /// let first = root.split(&machine);
+    /// let second = root.split(&machine);
+    /// let (first, second) = join(
+    ///     rt,
+    ///     || devices(rt, &machine, first),
+    ///     || vcpus(rt, &machine, second),
+    /// );
+    /// ```
     pub fn split(&mut self, machine: &Machine) -> Pass
         requires of { IsOf machine.now self.old }
         requires root { (view self.old).number ≡ 0 }
@@ -57,6 +67,12 @@ impl Pass {
     }
 
     /// Of the root: takes back a pass that holds nothing. The root has then seen all that both had.
+    ///
+    /// ```
+    /// let mut pass = root.split(&machine);
+    /// signal(rt, &machine, &mut pass, &Open, DeviceId(16), EventId(3))?;
+    /// root.join(&machine, pass);
+    /// ```
     pub fn join(&mut self, machine: &Machine, pass: Pass)
         requires of { IsOf machine.now self.old × IsOf machine.now pass }
         requires root { (view self.old).number ≡ 0 }

@@ -15,7 +15,7 @@ use its_plain::{Call, Reply};
 use owned_parts::Parts;
 use std::alloc::{AllocError, Global};
 
-/// Answers a call on the parts of a machine. For want of memory nothing is changed.
+/// Answers a call on the parts of a machine. Out of memory, nothing is changed.
 #[tactic(auto, unfolding(its_plain::specs::Answer::reply_of, its_plain::specs::Answer::left))]
 pub fn answered(parts: &mut Parts, alloc: Global, call: &Call) -> Result<Reply, AllocError>
     requires { IsMachine parts.old }

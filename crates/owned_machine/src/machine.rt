@@ -39,6 +39,12 @@ impl Machine {
 
     /// The machine that a description makes, restored from memory where the description says so, or
     /// the first thing that is wrong.
+    ///
+    /// ```
+    /// let mut machine = Machine::new(alloc, &desc)?;
+    /// let signal = Call::Signal { its: 0, dev: DeviceId(16), ev: EventId(3) };
+    /// let reply = machine.answer(alloc, &signal)?;
+    /// ```
     pub fn new(alloc: Global, desc: &Desc) -> Result<Machine, MakeError>
         requires { IsDescription desc.now }
         ensures { IsMadeFrom desc.now result }
@@ -50,6 +56,14 @@ impl Machine {
     /// Answers a call, and leaves the state that the plain machine's definition says. Out of
     /// memory, which only a save can be, or a step that adds a device, an event or a collection,
     /// the state stays as it was. A command that is refused never comes to it.
+    ///
+    /// ```
+    /// let signal = Call::Signal { its: 0, dev: DeviceId(16), ev: EventId(3) };
+    /// let kicked = match machine.answer(alloc, &signal)? {
+    ///     Reply::Signal(Signal::Delivered { vcpu, .. }) => Some(vcpu),
+    ///     _ => None,
+    /// };
+    /// ```
     pub fn answer(&mut self, alloc: Global, call: &Call) -> Result<Reply, AllocError>
         ensures reply { IfOk result (λ r. r ≡ plain.reply_of self.old call.now) }
         ensures left { IfOk result (λ r. self.new ≡ plain.left self.old call.now r) }
@@ -75,6 +89,13 @@ impl Machine {
     }
 
     /// The LPIs that are pending at a virtual processor, in rising order.
+    ///
+    /// ```
+    /// let mut count = 0usize;
+    /// for vcpu in 0..machine.vcpus() {
+    ///     count += machine.pending(alloc, vcpu)?.len();
+    /// }
+    /// ```
     pub fn pending(&self, alloc: Global, vcpu: usize) -> Result<Vec<Intid>, AllocError>
         requires { vcpu < length self.now.redistributors }
         ensures { IfOk result (λ lpis. map (λ i. i.0) lpis.items ≡ pending_of self.now vcpu) }
@@ -86,6 +107,14 @@ impl Machine {
     /// Saves into a copy of guest memory, and goes on from what that copy and the registers stand
     /// for (KVM document arm-vgic-its, "ITS Restore Sequence"). Where it answers an error, the
     /// machine is as it was.
+    ///
+    /// ```
+    /// let moved = match machine.migrate(alloc) {
+    ///     Ok(()) => true,
+    ///     Err(SaveError::Fault(_)) => false,
+    ///     Err(SaveError::NoMemory) => return Err(AllocError),
+    /// };
+    /// ```
     pub fn migrate(&mut self, alloc: Global) -> Result<(), SaveError>
         ensures { Migrates result self.old self.new }
     {

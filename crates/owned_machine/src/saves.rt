@@ -9,7 +9,7 @@ use its_plain::{Reply, SaveError};
 use owned_parts::Parts;
 use std::alloc::{AllocError, Global};
 
-/// Writes the tables to guest memory, or answers why not. For want of memory nothing is written.
+/// Writes the tables to guest memory, or answers why not. Out of memory, nothing is written.
 pub fn save(parts: &mut Parts, alloc: Global) -> Result<Reply, AllocError>
     requires { IsMachine parts.old }
     ensures reply { IfOk result (λ r. r ≡ answers.save_reply (regions.savable (state_of_parts parts.old))) }

@@ -14,7 +14,7 @@ impl State {
     ghost use Rattle.its_plain.specs.Plain as plain;
     ghost use Rattle.its_plain.specs.Answer as answers;
 
-    /// Answers a call, and gives the state that it leaves. At want of memory the state is dropped.
+    /// Answers a call, and gives the state that it leaves. Out of memory, the state is dropped.
     pub fn answer(mut self, alloc: Global, call: &Call) -> Result<(State, Reply), AllocError>
         ensures reply { IfOk result (λ r. r.1 ≡ answers.reply_of self call.now) }
         ensures left { IfOk result (λ r. r.0 ≡ answers.left self call.now r.1) }

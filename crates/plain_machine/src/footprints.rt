@@ -163,7 +163,7 @@ impl State {
     }
 }
 
-// ---- one part or several behind others
+// ---- one part or several after others
 
 fn add_part(found: &mut Vec<Part>, part: Part) -> Result<(), AllocError>
     ensures { OnOk result (found.new.items ≡ found.old.items ++ part ∷ []) }

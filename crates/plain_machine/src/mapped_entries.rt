@@ -29,6 +29,7 @@ impl Model for MappedDevice {
 }
 
 impl MappedDevice {
+    /// A device that has a table.
     pub fn new(device: Device) -> MappedDevice
         requires { HasTable device }
         ensures { result ≡ device }
@@ -36,6 +37,7 @@ impl MappedDevice {
         MappedDevice { device }
     }
 
+    /// The device.
     pub fn get(&self) -> Device
         ensures same { result ≡ self.now }
         ensures table { HasTable result }
@@ -67,6 +69,7 @@ impl Model for MappedEvent {
 }
 
 impl MappedEvent {
+    /// An event whose INTID isn't 0.
     pub fn new(event: Event) -> MappedEvent
         requires { 1 ≤ event.intid.0 }
         ensures { result ≡ event }
@@ -74,6 +77,7 @@ impl MappedEvent {
         MappedEvent { event }
     }
 
+    /// The event.
     pub fn get(&self) -> Event
         ensures same { result ≡ self.now }
         ensures some_intid { 1 ≤ result.intid.0 }

@@ -44,6 +44,7 @@ impl MapLists {
     ghost use Rattle.its_plain.specs.Regions as regions;
     ghost use Rattle.its_plain.specs.Saved as saved;
 
+    /// Nothing is mapped.
     pub fn new(alloc: Global) -> MapLists
         ensures { result ≡ spec.no_maps }
     {
@@ -54,18 +55,21 @@ impl MapLists {
         }
     }
 
+    /// A mapped device.
     pub fn device(&self, dev: DeviceId) -> Option<MappedDevice>
         ensures { result ≡ spec.device_of self.now dev.0 }
     {
         tables::find(&self.devices, dev.0)
     }
 
+    /// A mapped event.
     pub fn event(&self, dev: DeviceId, ev: EventId) -> Option<MappedEvent>
         ensures { result ≡ spec.event_of self.now dev.0 ev.0 }
     {
         tables::find(&self.events, (dev.0, ev.0))
     }
 
+    /// The virtual processor of a mapped collection.
     pub fn collection(&self, icid: Icid) -> Option<Vcpu>
         ensures { result ≡ spec.collection_of self.now icid.0 }
     {
@@ -79,6 +83,7 @@ impl MapLists {
         tables::intids(alloc, &self.events, icid)
     }
 
+    /// Maps a device, which then has no event. Out of memory, the maps aren't told.
     pub fn map_device(&mut self, dev: DeviceId, device: Device) -> Result<(), AllocError>
         requires { HasTable device }
         ensures { OnOk result (self.new ≡ spec.device_mapped self.old dev.0 device) }
@@ -88,6 +93,7 @@ impl MapLists {
         Ok(())
     }
 
+    /// Unmaps a device and its events.
     pub fn unmap_device(&mut self, dev: DeviceId)
         ensures { self.new ≡ spec.device_unmapped self.old dev.0 }
     {
@@ -95,6 +101,7 @@ impl MapLists {
         tables::remove_events(&mut self.events, dev.0);
     }
 
+    /// Maps an event. Out of memory, the maps aren't told.
     pub fn map_event(&mut self, dev: DeviceId, ev: EventId, event: Event) -> Result<(), AllocError>
         requires { 1 ≤ event.intid.0 }
         ensures { OnOk result (self.new ≡ spec.event_mapped self.old dev.0 ev.0 event) }
@@ -103,12 +110,14 @@ impl MapLists {
         Ok(())
     }
 
+    /// Unmaps an event, if it is mapped.
     pub fn unmap_event(&mut self, dev: DeviceId, ev: EventId)
         ensures { self.new ≡ spec.event_unmapped self.old dev.0 ev.0 }
     {
         tables::remove_event(&mut self.events, dev.0, ev.0);
     }
 
+    /// Maps a collection. Out of memory, the maps aren't told.
     pub fn map_collection(&mut self, icid: Icid, vcpu: Vcpu) -> Result<(), AllocError>
         ensures { OnOk result (self.new ≡ spec.collection_mapped self.old icid.0 vcpu) }
     {
@@ -116,12 +125,14 @@ impl MapLists {
         Ok(())
     }
 
+    /// Unmaps a collection, if it is mapped.
     pub fn unmap_collection(&mut self, icid: Icid)
         ensures { self.new ≡ spec.collection_unmapped self.old icid.0 }
     {
         tables::remove_collection(&mut self.collections, icid.0);
     }
 
+    /// Unmaps all devices and events.
     pub fn empty_devices(&mut self)
         ensures { self.new ≡ spec.devices_emptied self.old }
     {
@@ -129,6 +140,7 @@ impl MapLists {
         self.events.clear();
     }
 
+    /// Unmaps all collections. Events stay.
     pub fn empty_collections(&mut self)
         ensures { self.new ≡ spec.collections_emptied self.old }
     {

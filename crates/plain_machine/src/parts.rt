@@ -19,6 +19,7 @@ impl State {
         self.layout.shape
     }
 
+    /// The registers and maps of each translator.
     pub fn translators(&self) -> &[TranslatorLists]
         ensures { result.now ≡ self.now.translators }
     {
@@ -65,8 +66,8 @@ impl State {
         self.memory = memory;
     }
 
-    /// Makes the interrupt pending at its target, as a delivered message does. At want of memory
-    /// the state isn't told.
+    /// Makes the interrupt pending at its target, as a delivered message does. Out of memory, the
+    /// state isn't told.
     pub fn deliver(&mut self, target: Target) -> Result<(), AllocError>
         ensures { OnOk result
             (self.new ≡ answers.signal_left self.old (Delivered target.vcpu target.intid)) }

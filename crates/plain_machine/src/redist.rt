@@ -50,24 +50,28 @@ impl RedistLists {
         }
     }
 
+    /// Whether LPIs are on (IHI 0069, section 12.11, GICR_CTLR.EnableLPIs).
     pub fn is_on(&self) -> bool
         ensures { result ≡ self.now.bases.on }
     {
         self.bases.on
     }
 
+    /// The pending LPIs, in rising order.
     pub fn pending(&self) -> &[u32]
         ensures { result.now ≡ self.now.pending }
     {
         &self.pending
     }
 
+    /// Whether an LPI is pending.
     pub fn is_pending(&self, intid: u32) -> bool
         ensures { result ≡ lpis.is_pending intid self.now.pending }
     {
         self.pending.iter().any(|x| *x == intid)
     }
 
+    /// Makes an LPI pending. Out of memory, the pending set isn't told.
     pub fn set(&mut self, intid: u32) -> Result<(), AllocError>
         ensures { OnOk result
             (self.new ≡ record self.old { pending = lpis.with_lpi intid self.old.pending }) }
@@ -76,6 +80,7 @@ impl RedistLists {
         Ok(())
     }
 
+    /// Makes an LPI not pending.
     pub fn clear(&mut self, intid: u32)
         ensures { self.new ≡ record self.old { pending = lpis.without_lpi intid self.old.pending } }
     {
@@ -192,6 +197,7 @@ impl RedistLists {
         first_enabled(&self.config, &self.pending)
     }
 
+    /// The LPI that would be acknowledged, and its priority with bits 1 and 0 clear.
     pub fn show(&self) -> Ack
         ensures { result ≡ plain.ack_of self.now (plain.lowest self.now) }
     {
@@ -204,6 +210,7 @@ impl RedistLists {
         }
     }
 
+    /// Acknowledges the lowest LPI that is pending and enabled.
     pub fn take(&mut self) -> Ack
         ensures ack { result ≡ plain.ack_of self.old (plain.lowest self.old) }
         ensures taken { self.new ≡ plain.taken self.old (plain.lowest self.old) }

@@ -10,6 +10,7 @@ use guest_windows::Memory;
 use its_plain::Ack;
 use std::alloc::{AllocError, Global};
 
+/// Makes an LPI pending at a virtual processor. Out of memory, its pending set isn't told.
 pub fn set_at(all: &mut [RedistLists], vcpu: u64, intid: u32) -> Result<(), AllocError>
     ensures { OnOk result (all.new
         ≡ pending_set all.old vcpu
@@ -22,6 +23,7 @@ pub fn set_at(all: &mut [RedistLists], vcpu: u64, intid: u32) -> Result<(), Allo
     Ok(())
 }
 
+/// Makes an LPI not pending at a virtual processor.
 pub fn clear_at(all: &mut [RedistLists], vcpu: u64, intid: u32)
     ensures { all.new
         ≡ pending_set all.old vcpu (lpis.without_lpi intid (redistributor_in all.old vcpu).pending) }
@@ -32,6 +34,7 @@ pub fn clear_at(all: &mut [RedistLists], vcpu: u64, intid: u32)
     }
 }
 
+/// Takes all pending LPIs from a virtual processor, in rising order.
 pub fn take_all_at(alloc: Global, all: &mut [RedistLists], vcpu: u64) -> Vec<u32>
     ensures taken { result.items ≡ (redistributor_in all.old vcpu).pending }
     ensures none { all.new ≡ pending_set all.old vcpu [] }
@@ -44,6 +47,7 @@ pub fn take_all_at(alloc: Global, all: &mut [RedistLists], vcpu: u64) -> Vec<u32
     }
 }
 
+/// Makes LPIs pending at a virtual processor. Out of memory, its pending set isn't told.
 pub fn set_all_at(all: &mut [RedistLists], vcpu: u64, intids: Vec<u32>) -> Result<(), AllocError>
     ensures { OnOk result (all.new
         ≡ pending_set all.old vcpu
@@ -56,6 +60,7 @@ pub fn set_all_at(all: &mut [RedistLists], vcpu: u64, intids: Vec<u32>) -> Resul
     Ok(())
 }
 
+/// Acknowledges an LPI at a virtual processor.
 pub fn take_at(all: &mut [RedistLists], vcpu: u64) -> Ack
     ensures ack { result
         ≡ plain.ack_of (redistributor_in all.old vcpu)
@@ -72,6 +77,7 @@ pub fn take_at(all: &mut [RedistLists], vcpu: u64) -> Ack
     }
 }
 
+/// The LPI that a virtual processor would acknowledge.
 pub fn show_at(all: &[RedistLists], vcpu: u64) -> Ack
     ensures { result
         ≡ plain.ack_of (redistributor_in all.now vcpu)
@@ -83,6 +89,7 @@ pub fn show_at(all: &[RedistLists], vcpu: u64) -> Ack
     }
 }
 
+/// Whether LPIs are on at a virtual processor.
 pub fn is_on_at(all: &[RedistLists], vcpu: u64) -> bool
     ensures { result ≡ (redistributor_in all.now vcpu).bases.on }
 {
@@ -92,6 +99,7 @@ pub fn is_on_at(all: &[RedistLists], vcpu: u64) -> bool
     }
 }
 
+/// Whether an LPI is pending at a virtual processor.
 pub fn is_pending_at(all: &[RedistLists], vcpu: u64, intid: u32) -> bool
     ensures { result ≡ lpis.is_pending intid (redistributor_in all.now vcpu).pending }
 {

@@ -22,6 +22,7 @@ pub fn add_rising(list: &mut Vec<u32>, number: u32) -> Result<(), AllocError>
     Ok(())
 }
 
+/// Adds numbers to a rising list. Out of memory, the list isn't told.
 #[tactic(auto, using(crate::proofs::Pending::with_lpis_push))]
 pub fn add_all_rising(list: &mut Vec<u32>, mut numbers: Vec<u32>) -> Result<(), AllocError>
     ensures { OnOk result (list.new.items ≡ lpis.with_lpis numbers.items list.old.items) }
@@ -32,6 +33,7 @@ pub fn add_all_rising(list: &mut Vec<u32>, mut numbers: Vec<u32>) -> Result<(), 
     Ok(())
 }
 
+/// Removes a number from a list, if it is there.
 pub fn remove_number(list: &mut Vec<u32>, number: u32)
     ensures { list.new.items ≡ lpis.without_lpi number list.old.items }
 {

@@ -50,6 +50,7 @@ impl TranslatorLists {
         }
     }
 
+    /// The registers.
     pub fn regs(&self) -> &Regs
         ensures { result.now ≡ self.now.regs }
     {
@@ -172,6 +173,7 @@ impl TranslatorLists {
 
 // ---- one of several translators, where it is there
 
+/// Writes `size` bytes at an offset of a translator's control frame.
 pub fn write(all: &mut [TranslatorLists], its: u8, off: u32, size: u8, value: u64)
     ensures { all.new
         ≡ slice_set all.old its (answers.translator_written (translator_in all.old its)
@@ -183,6 +185,7 @@ pub fn write(all: &mut [TranslatorLists], its: u8, off: u32, size: u8, value: u6
     }
 }
 
+/// Moves a translator's GITS_CREADR past a command.
 pub fn advance(all: &mut [TranslatorLists], its: u8)
     ensures { all.new ≡ regs_set all.old its (registers.advanced (translator_in all.old its).regs) }
 {
@@ -192,6 +195,7 @@ pub fn advance(all: &mut [TranslatorLists], its: u8)
     }
 }
 
+/// Maps a device of a translator.
 pub fn map_device(
     all: &mut [TranslatorLists],
     its: u8,
@@ -210,6 +214,7 @@ pub fn map_device(
     Ok(())
 }
 
+/// Unmaps a device of a translator, and its events.
 pub fn unmap_device(all: &mut [TranslatorLists], its: u8, dev: DeviceId)
     ensures { all.new ≡ maps_set all.old its (maps.device_unmapped (translator_in all.old its).maps dev.0) }
 {
@@ -219,6 +224,7 @@ pub fn unmap_device(all: &mut [TranslatorLists], its: u8, dev: DeviceId)
     }
 }
 
+/// Maps an event of a translator.
 pub fn map_event(
     all: &mut [TranslatorLists],
     its: u8,
@@ -238,6 +244,7 @@ pub fn map_event(
     Ok(())
 }
 
+/// Unmaps an event of a translator.
 pub fn unmap_event(all: &mut [TranslatorLists], its: u8, dev: DeviceId, ev: EventId)
     ensures { all.new
         ≡ maps_set all.old its (maps.event_unmapped (translator_in all.old its).maps dev.0 ev.0) }
@@ -248,6 +255,7 @@ pub fn unmap_event(all: &mut [TranslatorLists], its: u8, dev: DeviceId, ev: Even
     }
 }
 
+/// Maps a collection of a translator.
 pub fn map_collection(
     all: &mut [TranslatorLists],
     its: u8,
@@ -265,6 +273,7 @@ pub fn map_collection(
     Ok(())
 }
 
+/// Unmaps a collection of a translator.
 pub fn unmap_collection(all: &mut [TranslatorLists], its: u8, icid: Icid)
     ensures { all.new
         ≡ maps_set all.old its (maps.collection_unmapped (translator_in all.old its).maps icid.0) }

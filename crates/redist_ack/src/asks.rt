@@ -14,6 +14,13 @@ use its_types::{Gate, Placed, Vcpu};
 use std::sync::Wait;
 
 /// Acknowledges the lowest LPI that is pending and enabled at a virtual processor.
+///
+/// ```
+/// let lpi = match take(rt, machine, pass, &Open, Vcpu(2))?.reply {
+///     Ack::Some { intid, .. } => Some(intid),
+///     Ack::None => None,
+/// };
+/// ```
 pub fn take<R: Wait, G: Gate>(
     rt: &R,
     machine: &Machine,
@@ -40,6 +47,10 @@ pub fn take<R: Wait, G: Gate>(
 }
 
 /// Shows the LPI that the virtual processor would acknowledge.
+///
+/// ```
+/// let waits = show(rt, machine, pass, &Open, Vcpu(2))?.reply != Ack::None;
+/// ```
 pub fn show<R: Wait, G: Gate>(
     rt: &R,
     machine: &Machine,

@@ -1,7 +1,7 @@
 //! The memory that a save leaves.
 ghost use Rattle.saved_state.specs.Laws as laws;
 
-/// Every word of every table that a save writes stands in memory behind it.
+/// Every word of every table that a save writes stands in memory after it.
 pub fn words_read_back()
     ensures { laws.WordsReadBack }
 {}

@@ -17,12 +17,12 @@ pub fn saved_reads_stand()
     ensures { laws.SavedReadsStand }
 {}
 
-/// They stand for no other state.
+/// Memory and registers stand for no other state after a save.
 pub fn only_that_state_stands()
     ensures { laws.OnlyThatStands }
 {}
 
-/// And a restore finds no offence in them.
+/// A restore finds no fault in what a save leaves.
 pub fn no_offence_is_first()
     ensures { laws.NoOffenceIsFirst }
 {}

@@ -28,7 +28,7 @@ use std::thread::Threads;
 pub struct PhaseEnd {
     /// Each thread's replies, with their places. Its first calls have them.
     pub lists: Vec<Listed<Placed<Reply>>>,
-    /// Whether a thread was stopped: one for want of memory is told before one without a place.
+    /// Whether a thread was stopped: one that ran out of memory is told before one without a place.
     pub stop: Option<Stop>,
 }
 

@@ -79,7 +79,7 @@ fn walk(regs: &Regs, memory: &Memory, vcpus: u8, maps: &mut Maps) -> Result<(), 
 }
 
 /// Maps the collections that a valid table has, up to its first entry that isn't valid, or tells
-/// the first offence. No collection is mapped before.
+/// the first fault. No collection is mapped before.
 pub fn map_collections(
     regs: &Regs,
     memory: &Memory,

@@ -52,7 +52,7 @@ fn first(regs: &Regs) -> DevicePlace
     }
 }
 
-// The level-1 entry behind one.
+// The level-1 entry after one.
 fn following(regs: &Regs, k: u32) -> Option<DevicePlace>
     requires { k < 128 }
     ensures { option_map place_of result ≡ spec.following regs.now k }
@@ -64,7 +64,7 @@ fn following(regs: &Regs, k: u32) -> Option<DevicePlace>
     }
 }
 
-// A place of a page, or what comes behind the page.
+// A place of a page, or what comes after the page.
 fn goes_to(regs: &Regs, k: u32, page: Addr, index: u32) -> Option<DevicePlace>
     requires { k < 128 }
     ensures { option_map place_of result ≡ spec.goes_to regs.now k page.0 index }
@@ -85,7 +85,7 @@ fn ends_well(regs: &Regs, index: u32, next: u32) -> bool
     regs.indirect() || index + next < flat_size(regs)
 }
 
-// Maps a device with its events, or tells the first offence of its table.
+// Maps a device with its events, or tells the first fault of its table.
 fn map_device(
     memory: &Memory,
     lpi_bits: u8,
@@ -194,7 +194,7 @@ fn walk(regs: &Regs, memory: &Memory, lpi_bits: u8, maps: &mut Maps) -> Result<(
     }
 }
 
-/// Maps the devices that a valid table has, with their events, or tells the first offence.
+/// Maps the devices that a valid table has, with their events, or tells the first fault.
 pub fn map_devices(
     regs: &Regs,
     memory: &Memory,

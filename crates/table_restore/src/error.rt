@@ -6,7 +6,7 @@ use std::alloc::{AllocError, AllocFailed};
 /// Why no state was restored.
 #[derive(Clone, Copy, Debug, PartialEq, Eq)]
 pub enum RestoreError {
-    /// Memory and registers stand for no state: their first offence.
+    /// Memory and registers stand for no state: their first fault.
     Fault(RestoreFault),
     /// The host ran out of memory.
     NoMemory,

@@ -80,7 +80,7 @@ fn map_one(maps: &mut Maps, dev: DeviceId, ev: u32, event: Option<Event>) -> Res
     Ok(())
 }
 
-/// Maps the events of a mapped device that its table has, or tells the table's first offence.
+/// Maps the events of a mapped device that its table has, or tells the table's first fault.
 pub fn map_events(
     memory: &Memory,
     lpi_bits: u8,

@@ -1,4 +1,4 @@
-//! The state that guest memory and register values stand for, or their first offence (KVM document
+//! The state that guest memory and register values stand for, or their first fault (KVM document
 //! arm-vgic-its, "ITS Restore Sequence").
 #![tactic(auto)]
 

@@ -83,8 +83,8 @@ fn find(
 }
 
 /// The machine that memory, the values of a translator's registers and those of the redistributors'
-/// LPI registers stand for, with a copy of the memory, or their first offence. A redistributor
-/// whose LPIs are on and of which a table doesn't lie in one window is an offence before all
+/// LPI registers stand for, with a copy of the memory, or their first fault. A redistributor
+/// whose LPIs are on and of which a table doesn't lie in one window is a fault before all
 /// others; then come the registers, the collections, and the devices with their events. Where the
 /// layout describes the LPI tables, the values of the LPI registers aren't looked at.
 pub fn restore(

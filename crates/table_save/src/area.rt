@@ -57,18 +57,21 @@ impl Stretch {
         }
     }
 
+    /// What stands there.
     pub fn region(&self) -> Region
         ensures { result ≡ self.now.region }
     {
         self.area.region
     }
 
+    /// Whether a save writes it.
     pub fn is_written(&self) -> bool
         ensures { result ≡ self.now.is_written }
     {
         self.area.is_written
     }
 
+    /// The first address.
     pub fn base(&self) -> u64
         ensures { result ≡ self.now.base }
     {

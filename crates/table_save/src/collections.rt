@@ -11,7 +11,7 @@ use its_maps::Maps;
 use its_types::{Icid, Vcpu};
 use table_entries::Cte;
 
-/// Writes the collections by rising ICID, and zeros behind them.
+/// Writes the collections by rising ICID, and zeros after them.
 pub fn put_collections(memory: &mut Memory, regs: &Regs, maps: &Maps)
     ensures { memory.new
         ≡ put_tables memory.old

@@ -42,6 +42,7 @@ impl<'a> DeviceFront<'a> {
     ghost use Rattle.table_save.specs.Pass.{RisesFrom, FitsDevice, PassedDevices};
     ghost use Rattle.table_save.specs.Pass.{device_entry_word, begins_below, first_key, past};
 
+    /// All mapped devices.
     pub fn new(maps: &'a Maps) -> DeviceFront<'a>
         ensures { result ≡ entries maps.now.maps.devices }
     {
