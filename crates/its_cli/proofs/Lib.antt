@@ -7,4 +7,6 @@ pub mod Moving
 pub mod Migrations
 pub mod Scripts
 pub mod Endings
+pub mod Once
+pub mod Checks
 pub mod Causes

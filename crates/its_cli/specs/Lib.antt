@@ -2,5 +2,7 @@ pub mod Streams
 pub mod Legs
 pub mod Played
 pub mod Refusals
+pub mod Checked
+pub mod Summarized
 pub mod Its
 pub mod Answered
