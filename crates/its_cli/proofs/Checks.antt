@@ -1,5 +1,5 @@
 -- What a status of `check` says, by what was read.
-use Rattle.std.proofs.Common.{◌≡◌, ◌⊎◌, ℕ, ◌<◌, ◌≤◌, List, length, Option, Some, Result, Ok, Err, refl, sym, ap, subst, ◌∙◌, inl, inr, arith}
+use Rattle.std.proofs.Common.{◌≡◌, ◌⊎◌, ℕ, ◌<◌, ◌≤◌, List, length, Option, Some, Result, Ok, Err, if◌then◌else◌, refl, sym, ap, subst, ◌∙◌, inl, inr, arith}
 use Rattle.its_plain.specs.Described.{IsFirstState, IsRefused}
 use Rattle.its_plain.specs.Plain.{Plain}
 use Rattle.its_plain.specs.declared.desc.DescFault.{DescFault}
@@ -7,7 +7,7 @@ use Rattle.event_script.specs.Script.{check_of}
 use Rattle.event_script.specs.Text.{parts}
 use Rattle.event_script.specs.declared.fault.ScriptFault.{ScriptFault}
 use Rattle.event_script.specs.declared.script.Script.{Script}
-use Rattle.its_history.specs.Reading.{trace_of}
+use Rattle.its_history.specs.Reading.{trace_of, legs_from, lines_left, is_over, ◌then◌}
 use Rattle.its_history.specs.Reports.{reported}
 use Rattle.its_history.specs.declared.trace.Leg.{Leg as LegLines}
 use Rattle.trace_check.specs.Verdicts.{IsReportOfRun}
@@ -133,7 +133,8 @@ agrees script first report text a =
 -- one and the same report is read the same
 same_read : (script : Script) (a b : List ℕ) → parts a ≡ parts b → read_report script a ≡ read_report script b
 unfolding trace_of
-same_read script a b same = ?
+same_read script a b same =
+    ap (λ (ps : List (List ℕ)). legs_from script.desc.shape.vcpus 1 (length script.legs) (lines_left 1 ps) then λ p. if is_over p.1.parts then Ok p.0 else Err p.1.number) same
 
 same_stands : (input read : List ℕ) (s : Status) (Says : Script → Plain → List ℕ → List ℕ → Type 0) (text : List ℕ) (script : Script) (first : Plain) (report : List ℕ) → WasRead (Some input) read → (h : OfReport Says read text)
     → IsCheckInput input script first report → Stands h.script h.first (read_report h.script h.report) s → Stands script first (read_report script report) s

@@ -9,4 +9,6 @@ pub mod Scripts
 pub mod Endings
 pub mod Once
 pub mod Checks
+pub mod Reports
+pub mod Summaries
 pub mod Causes

@@ -36,4 +36,3 @@ made_once d u f is (IsRefused.of_restore base values g base_is restore_is offend
 
 pub too_short : {X : Type 0} (input read : List ℕ) → WasRead (Some input) read → 16777216 < length input → X
 too_short input read was lt = absurd (omega (arith, was.short, ap length was.whole, lt))
-

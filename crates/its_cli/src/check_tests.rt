@@ -125,7 +125,12 @@ fn a_report_of_many_threads_agrees(rt: HostRuntime) -> Result<(), Fail> {
             calls.push_str("signal 0x10 3\n")?;
         }
     }
-    let parts = [MACHINE, MAPPED, calls.as_str(), "phase\nthread\ntake 2\nend"];
+    let parts = [
+        MACHINE,
+        MAPPED,
+        calls.as_str(),
+        "phase\nthread\ntake 2\nend",
+    ];
     let script = script(alloc, &parts)?;
     let answered = is_answered(&rt, alloc, &script, "", "", (Status::Ok, "agrees\n"));
     assert_eq!(rt; answered, Some(true));

@@ -209,10 +209,30 @@ fn long_inputs_and_other_words_are_refused(rt: HostRuntime) -> Result<(), Fail> 
     let alloc = rt.alloc();
     let long = vec![in alloc; b'#'; 16_777_217]?;
     for (line, input, status, text) in [
-        ("its run", long.as_slice(), Status::TooLong, "refused long\n"),
-        ("its check", long.as_slice(), Status::TooLong, "refused long\n"),
-        ("its walk", b"", Status::WordsRefused, "refused words\n"),
-        ("its gen 20 64", b"", Status::WordsRefused, "refused words\n"),
+        (
+            "its run",
+            long.as_slice(),
+            Status::TooLong,
+            "refused long\n",
+        ),
+        (
+            "its check",
+            long.as_slice(),
+            Status::TooLong,
+            "refused long\n",
+        ),
+        (
+            "its walk",
+            b"".as_slice(),
+            Status::WordsRefused,
+            "refused words\n",
+        ),
+        (
+            "its gen 20 64",
+            b"".as_slice(),
+            Status::WordsRefused,
+            "refused words\n",
+        ),
     ] {
         let mut source = SureSource::new(alloc, input)?;
         let mut sink = SureSink::new(alloc, 64)?;

@@ -1,5 +1,5 @@
 //! A run of a script that is made for it, and what its calls came to.
-ghost use Rattle.std.specs.Prelude.{◌≡◌, IfOk};
+ghost use Rattle.std.specs.Prelude.{◌≡◌, IfOk, length, map};
 ghost use Rattle.std.specs.String.{string_bytes};
 ghost use Rattle.its_plain.specs.Described.{IsFirstState};
 ghost use Rattle.its_turns.specs.Machines.{setup};
@@ -12,10 +12,12 @@ use crate::say::share;
 use event_script::Script;
 use its_migrate::{migrate, pending};
 use its_plain::{MakeError, SaveError};
-use its_types::Gate;
+use its_types::{Gate, Intid, Listed};
 use owned_machine::Machine as OwnedMachine;
-use script_gen::{Counts, can_migrate, generate, has_room, is_never_refused};
-use script_gen::{lists_tell_counts, lists_tell_length, summary_text};
+use script_gen::{
+    Counts, can_migrate, generate, has_room, is_never_refused, lists_tell_counts,
+    lists_tell_length, summary_text,
+};
 use script_threads::{Stop, run_leg};
 use std::alloc::{AllocError, Global};
 use std::sync::Wait;
@@ -42,12 +44,7 @@ pub fn summarize<R: Threads + Wait + Sync, G: Gate + Sync>(
 }
 
 // The machine of a script that was made, for its threads to share.
-fn begin(
-    alloc: Global,
-    script: &Script,
-    signals: u32,
-    threads: u32,
-) -> Result<Shared, AllocError>
+fn begin(alloc: Global, script: &Script, signals: u32, threads: u32) -> Result<Shared, AllocError>
     requires { spec.IsMade signals threads script.now }
     ensures ready { IfOk result (λ s. IsReady script.now s) }
     ensures first { IfOk result (λ s. IsFirstState script.now.desc (setup s.machine).start) }
@@ -100,10 +97,17 @@ fn count_leg<R: Threads + Wait + Sync, G: Gate + Sync>(
 // How many LPIs are pending at each virtual processor of a machine that no call was made on.
 fn count_pending(alloc: Global, shared: Shared) -> Result<Vec<u64>, AllocError>
     requires { IsFresh shared.machine shared.root }
-    ensures { IfOk result (λ counts. counts.items ≡ spec.pending_counts (setup shared.machine).start) }
+    ensures { IfOk result (λ counts.
+        counts.items ≡ spec.pending_counts (setup shared.machine).start) }
 {
     let Shared { machine, mut root } = shared;
     let lists = pending(alloc, &machine, &mut root)?;
-    let counts = lists.as_slice().iter().map(|lpis| lpis.len() as u64);
-    counts.collect(alloc)
+    let counts = lengths(alloc, lists.as_slice())?;
+    Ok(counts)
+}
+
+fn lengths(alloc: Global, lists: &[Listed<Intid>]) -> Result<Vec<u64>, AllocError>
+    ensures { IfOk result (λ counts. counts.items ≡ map (λ lpis. length lpis) lists.now) }
+{
+    lists.iter().map(|lpis| lpis.len() as u64).collect(alloc)
 }
