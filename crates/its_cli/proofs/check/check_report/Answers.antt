@@ -3,8 +3,8 @@ use Rattle.its_plain.specs.Sound.{IsSound}
 use Rattle.its_cli.proofs.Reports.{has_shape, agrees}
 use Rattle.its_cli.proofs.check.check_report.Goals as goal
 
-pub check-requires-clause-shape : goal.check-requires-clause-shape
-check-requires-clause-shape c =
+pub check-requires : goal.check-requires
+check-requires c =
     let sound : IsSound c.args.machine = search rules in
     has_shape c.args.script.now c.args.machine c.args.report.now c.as_slice-legs.result.now _ c.as_slice-legs.ensures refl c.in-Ok.trace.legs c.requires.first sound c.read_reports_print.ensures c.in-Ok.ensures
 
