@@ -42,7 +42,7 @@ fn main(rt: HostRuntime) -> io::Result<ExitCode> {
     let mut sink = StdSink::new(rt.stdout());
     let status = its(&rt, rt.alloc(), &words, &mut source, &mut sink, &Open);
     if status == Status::WordsRefused {
-        eprint!(rt; "{}", usage())?;
+        let _ = eprint!(rt; "{}", usage());
     }
     Ok(ExitCode::from(status as u8))
 }
