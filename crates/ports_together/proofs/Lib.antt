@@ -1,1 +1,2 @@
-mod Layouts
+pub mod Begun
+pub mod Legs

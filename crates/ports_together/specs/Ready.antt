@@ -1,8 +1,14 @@
--- Passes between calls.
+-- Passes between calls, and machines that have only begun.
 use Rattle.std.specs.Prelude.{◌≡◌, []}
-use Rattle.its_turns.specs.Machines.{view, IsOf}
+use Rattle.its_plain.specs.Machine.{IsDescription}
+use Rattle.its_plain.specs.declared.desc.Desc.{Desc}
+use Rattle.its_steps.specs.Parts.{vcpu_count}
+use Rattle.its_steps.specs.World.{first_view}
+use Rattle.its_turns.specs.Machines.{setup, view, IsOf}
+use Rattle.its_turns.specs.Told.{IsLone}
 use Rattle.its_turns.specs.declared.machine.Machine.{Machine}
 use Rattle.its_turns.specs.declared.machine.Pass.{Pass}
+use Rattle.its_migrate.specs.Resting.{HasItsLayout}
 
 -- the pass is one of the machine, and holds nothing
 pub record IsReady (m : Machine) (p : Pass) : Type 0 where
@@ -13,3 +19,25 @@ pub record IsReady (m : Machine) (p : Pass) : Type 0 where
 pub record IsRoot (m : Machine) (p : Pass) : Type 0 where
   pub ready : IsReady m p
   pub number : (view p).number ≡ 0
+
+-- a description of a machine that threads can share
+pub record IsSmall (d : Desc) : Type 0 where
+  pub description : IsDescription d
+  pub shards : d.shards ≡ 4
+  pub vcpus : d.shape.vcpus ≡ 4
+  pub stamps : d.limits.stamp_last ≡ 16777215
+  pub places : d.limits.place_last ≡ 1099511627775
+
+-- a machine at rest with its root
+pub record IsAtRest (m : Machine) (r : Pass) : Type 0 where
+  pub of : IsOf m r
+  pub layout : HasItsLayout m
+  pub lone : IsLone (view r)
+  pub free : (view r).held ≡ []
+
+-- a machine of four processors with an empty history, and its root
+pub record IsShared (m : Machine) (r : Pass) : Type 0 where
+  pub of : IsOf m r
+  pub layout : HasItsLayout m
+  pub view_is : view r ≡ first_view (setup m)
+  pub vcpus : vcpu_count (setup m) ≡ 4

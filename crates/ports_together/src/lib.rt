@@ -1,8 +1,14 @@
 //! Machines that threads share, from a description to the parts that are left, with all ports.
 #![tactic(auto)]
 
-mod sharing;
 #[cfg(test)]
-mod tests;
+mod legs;
+#[cfg(test)]
+mod made;
+#[cfg(test)]
+mod migrations;
+#[cfg(test)]
+mod passes;
+mod sharing;
 
 pub use sharing::share;

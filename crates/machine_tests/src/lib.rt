@@ -1,0 +1,20 @@
+//! Tests of one translator's machine: its commands, what it saves and restores, the machine whole
+//! beside the slow one of the model, and passes that race on the word.
+#![tactic(auto)]
+
+#[cfg(test)]
+mod commands;
+#[cfg(test)]
+mod machines_alike;
+#[cfg(test)]
+mod migrations;
+#[cfg(test)]
+mod passes;
+#[cfg(test)]
+mod restoring;
+#[cfg(test)]
+mod saving;
+#[cfg(test)]
+mod scripts;
+#[cfg(test)]
+mod sound_parts;

@@ -1,0 +1,92 @@
+use guest_windows::{Memory, NewError, Outside, are_windows};
+use its_types::Addr;
+use std::test::Fail;
+
+#[test]
+fn windows_of_a_memory(rt: HostRuntime) {
+    let last = Addr((1 << 52) - 16);
+    for (windows, want) in [
+        ([(Addr(0), 16), (Addr(16), 16)], true),
+        ([(Addr(0), 17), (Addr(16), 16)], false),
+        ([(Addr(16), 16), (Addr(8), 9)], false),
+        ([(Addr(0), 16), (Addr(16), 0)], false),
+        ([(Addr(0), 16), (last, 16)], true),
+        ([(Addr(0), 16), (last, 17)], false),
+        ([(Addr(0), 0x400_0000 - 1), (last, 1)], true),
+        ([(Addr(0), 0x400_0000), (last, 1)], false),
+    ] {
+        assert_eq!(rt; are_windows(&windows), want, "{windows:?}");
+    }
+}
+
+const TWO: [(Addr, u64); 2] = [(Addr(0x8000_0000), 0x1000), (Addr(0x8000_1000), 0x20)];
+
+// What memory is asked, with the answer.
+enum Act {
+    Writes(u64, &'static [u8], Result<(), Outside>),
+    WritesWord(u64, u64),
+    Byte(u64, Result<u8, Outside>),
+    Word(u64, Result<u64, Outside>),
+    // A read of five bytes that fails, and leaves the buffer as it was.
+    ReadsNothing(u64),
+    Inside(u64, u64, bool),
+}
+
+fn reads_nothing(memory: &Memory, addr: u64) -> bool {
+    let mut buf = [7; 5];
+    memory.read(Addr(addr), &mut buf) == Err(Outside(Addr(addr))) && buf == [7; 5]
+}
+
+// Whether the memory does as the act says.
+fn does(memory: &mut Memory, act: &Act) -> bool {
+    match act {
+        Act::Writes(addr, bytes, want) => memory.write(Addr(*addr), bytes) == *want,
+        Act::WritesWord(addr, word) => memory.write_u64(Addr(*addr), *word) == Ok(()),
+        Act::Byte(addr, want) => memory.read_u8(Addr(*addr)) == *want,
+        Act::Word(addr, want) => memory.read_u64(Addr(*addr)) == *want,
+        Act::ReadsNothing(addr) => reads_nothing(memory, *addr),
+        Act::Inside(addr, len, want) => memory.inside(Addr(*addr), *len) == *want,
+    }
+}
+
+// How many of the acts the memory does as they say, up to the first that it doesn't.
+fn play(memory: &mut Memory, acts: &[Act]) -> usize {
+    for (at, act) in acts.iter().enumerate() {
+        if !does(memory, act) {
+            return at;
+        }
+    }
+    acts.len()
+}
+
+const WRITTEN: [Act; 6] = [
+    Act::Writes(0x8000_0ffc, &[1, 2, 3, 4], Ok(())),
+    Act::Writes(0x8000_0ffc, &[9; 5], Err(Outside(Addr(0x8000_0ffc)))),
+    Act::Byte(0x8000_0fff, Ok(4)),
+    Act::Byte(0x8000_1020, Err(Outside(Addr(0x8000_1020)))),
+    Act::WritesWord(0x8000_1018, 0x0102_0304_0506_0708),
+    Act::Byte(0x8000_1018, Ok(8)),
+];
+
+const COPIED: [Act; 5] = [
+    Act::Word(0x8000_1018, Ok(0x0102_0304_0506_0708)),
+    Act::Word(0x8000_0ffc, Err(Outside(Addr(0x8000_0ffc)))),
+    Act::ReadsNothing(0x8000_0ffc),
+    Act::Inside(0x8000_0ffc, 4, true),
+    Act::Inside(0x8000_0ffc, 5, false),
+];
+
+#[test]
+fn bytes_are_what_was_written(rt: HostRuntime) -> Result<(), Fail> {
+    let mut memory = Memory::new(rt.alloc(), &TWO)?;
+    assert_eq!(rt; play(&mut memory, &WRITTEN), 6);
+    let mut copy = memory.copy(rt.alloc())?;
+    assert_eq!(rt; play(&mut memory, &[Act::WritesWord(0x8000_1018, 0)]), 1);
+    assert_eq!(rt; play(&mut copy, &COPIED), 5);
+    Ok(())
+}
+
+#[test]
+fn bad_windows_are_told(rt: HostRuntime) {
+    assert!(rt; matches!(Memory::new(rt.alloc(), &[]), Err(NewError::BadWindows)));
+}

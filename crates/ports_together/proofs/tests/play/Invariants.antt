@@ -1,5 +1,0 @@
-use Rattle.ports_together.specs.Ready.{IsReady}
-use Rattle.ports_together.proofs.tests.play.Given as goal
-
-abbrev pub invariant-loop-row : goal.invariant-loop-row
-invariant-loop-row g l = IsReady l.machine l.pass

@@ -1,5 +1,0 @@
-use Rattle.ports_together.specs.Ready.{IsReady}
-use Rattle.ports_together.proofs.tests.takes_all.Given as goal
-
-abbrev pub invariant-loop : goal.invariant-loop
-invariant-loop g l = IsReady l.machine l.pass

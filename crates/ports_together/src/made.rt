@@ -1,0 +1,79 @@
+//! One machine of four virtual processors that is restored from words in its memory, and shared
+//! from then on. The words are those of the table format (KVM document arm-vgic-its, "ITS Table ABI
+//! REV0").
+ghost use Rattle.std.specs.Prelude.{◌≡◌, IfOk};
+ghost use Rattle.its_turns.specs.Machines.{view};
+ghost use Rattle.ports_together.specs.Ready.{IsSmall, IsRoot, IsAtRest, IsShared};
+
+use crate::share;
+use gits_regs::RegValues;
+use its_plain::{Desc, Fill, LpiTables, MakeError};
+use its_turns::{Machine, Root};
+use its_types::{Addr, Limits, Listed, Profile, Shape};
+use std::alloc::{AllocError, Global};
+
+// The translator is enabled, its queue empty, its device table flat.
+const VALUES: RegValues = RegValues {
+    ctlr: 1,
+    cbaser: 0x8000_0000_8002_0000,
+    creadr: 0,
+    cwriter: 0,
+    baser0: 0x8107_0000_8000_0200,
+    baser1: 0x8407_0000_8001_0200,
+};
+
+fn described(alloc: Global, words: &[(u64, u64)]) -> Result<Desc, AllocError>
+    ensures { IfOk result IsSmall }
+{
+    let mut windows = Listed::new(alloc);
+    windows.push((Addr(0x8000_0000), 0x20_0000))?;
+    let mut pending = Listed::new(alloc);
+    pending.push(Addr(0x8004_0000))?;
+    pending.push(Addr(0x8005_0000))?;
+    pending.push(Addr(0x8006_0000))?;
+    pending.push(Addr(0x8007_0000))?;
+    let config = Addr(0x8003_0000);
+    let fills = fills(alloc, words)?;
+    Ok(Desc {
+        shape: Shape {
+            vcpus: 4,
+            dev_bits: 16,
+            lpi_bits: 16,
+            profile: Profile::One,
+        },
+        shards: 4,
+        limits: Limits {
+            stamp_last: 16_777_215,
+            place_last: 1_099_511_627_775,
+        },
+        windows,
+        tables: LpiTables::Described { config, pending },
+        fills,
+        restore: Some(VALUES),
+    })
+}
+
+fn fills(alloc: Global, words: &[(u64, u64)]) -> Result<Listed<Fill>, AllocError> {
+    let mut fills = Listed::new(alloc);
+    for &(addr, word) in words {
+        let bytes = Vec::from_slice(alloc, &word.to_le_bytes())?;
+        fills.push(Fill {
+            addr: Addr(addr),
+            bytes: Listed::from_vec(bytes),
+        })?;
+    }
+    Ok(fills)
+}
+
+/// The machine with these words in its memory, each with its address, and its root.
+pub fn made(alloc: Global, words: &[(u64, u64)]) -> Result<(Machine, Root), MakeError>
+    ensures root { IfOk result (λ made. IsRoot made.0 made.1) }
+    ensures passes { IfOk result (λ made. (view made.1).root.made ≡ 1) }
+    ensures at_rest { IfOk result (λ made. IsAtRest made.0 made.1) }
+    ensures shared { IfOk result (λ made. IsShared made.0 made.1) }
+{
+    let Ok(desc) = described(alloc, words) else {
+        return Err(MakeError::NoMemory);
+    };
+    share(alloc, &desc)
+}
