@@ -2,8 +2,6 @@
 #![tactic(auto)]
 
 #[cfg(test)]
-mod legs;
-#[cfg(test)]
 mod made;
 #[cfg(test)]
 mod migrations;
