@@ -1,7 +1,7 @@
 use Rattle.std.proofs.Common.{arith, ◌≡◌, ◌++◌, ◌∷◌, [], List, refl, sym, ap, ◌∙◌, subst}
 use Rattle.its_plain.specs.Runs.{Thread, Phase, Leg}
 use Rattle.ports_together.specs.Legs.{IsSmallLeg}
-use Rattle.ports_together.proofs.Legs.{small_leg}
+use Rattle.ports_together.proofs.Repeated.{small_leg}
 use Rattle.ports_together.proofs.legs.leg.Goals as goal
 
 joined : (x y : Phase) (t : Thread) (ts : List Thread) → y ≡ x ++ t ∷ [] → x ≡ ts → y ≡ ts ++ t ∷ []

@@ -6,5 +6,5 @@ use Rattle.ports_together.proofs.legs.threads_signal_beside_each_other.Goals as 
 
 pub run_leg-requires-clause-may : goal.run_leg-requires-clause-may
 run_leg-requires-clause-may g c κs =
-    let s = setup c.in_ok-made.machine in
-    subst (λ (z : Leg). MayRunLeg s z) (sym c.as_slice.ensures.value) (c.in_ok-phases.ensures.may s c.in_ok-made.ensures.vcpus)
+    let s = setup c.in_ok-machine.machine in
+    subst (λ (z : Leg). MayRunLeg s z) (sym c.as_slice.ensures.value) (c.in_ok-phases.ensures.may s c.in_ok-machine.ensures.shared.vcpus)
