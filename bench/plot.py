@@ -1,8 +1,9 @@
 #!/usr/bin/env python3
 """Draws the rows of a file that run.sh writes: FOLDER/growth_calls.svg has time and memory by calls, and
-FOLDER/growth_mapped.svg has time and memory by what is mapped.
+FOLDER/growth_mapped.svg has time and memory by what is mapped. With PORTS, a file that measure_ports.py writes,
+FOLDER/signals_threads.svg has signals a second by threads.
 
-usage: plot.py FIGURES FOLDER
+usage: plot.py FIGURES FOLDER [PORTS]
 """
 
 import csv
@@ -24,6 +25,13 @@ BY_MAPPED = {
     "map-events-rising": "mapping events, rising",
     "map-events-falling": "mapping events, falling",
     "map-events-scattered": "mapping events, scattered",
+}
+# By threads: the calls of each line, and the column that has their time.
+BY_THREADS = {
+    "a device for each thread": (("signal-1", "signal-2-devices", "signal-4-devices"), "ns"),
+    "a device for each thread, plain Rust": (("signal-1", "signal-2-devices", "signal-4-devices"), "peer_ns"),
+    "one device": (("signal-1", "signal-2-one"), "ns"),
+    "one device, plain Rust": (("signal-1", "signal-2-one"), "peer_ns"),
 }
 COLOURS = ["#0b62a4", "#c44e00", "#3a7d2c", "#8a3ffc", "#b3003c", "#00707a", "#7a5a00", "#555555", "#d02090"]
 
@@ -123,13 +131,29 @@ def figure(rows, names, x, x_name):
     colours = {names[kind]: COLOURS[at % len(COLOURS)] for at, kind in enumerate(kinds)}
     seconds = {names[kind]: [(row[x], row["seconds"]) for row in rows[kind]] for kind in kinds}
     memory = {names[kind]: [(row[x], row["mib"]) for row in rows[kind]] for kind in kinds}
-    panels = [
-        Panel(LEFT, "Time", seconds, x_name, "seconds"),
-        Panel(LEFT + PANEL_WIDTH + GAP, "Peak memory", memory, x_name, "MiB"),
-    ]
-    width = LEFT + 2 * PANEL_WIDTH + GAP + 32
+    return drawing(
+        [
+            Panel(LEFT, "Time", seconds, x_name, "seconds"),
+            Panel(LEFT + PANEL_WIDTH + GAP, "Peak memory", memory, x_name, "MiB"),
+        ],
+        colours,
+    )
+
+
+def threads_figure(ports):
+    """Million signals a second, by threads."""
+    lines = {}
+    for name, (calls, column) in BY_THREADS.items():
+        lines[name] = [(float(ports[call]["threads"]), 1000 / float(ports[call][column])) for call in calls]
+    colours = {name: COLOURS[at] for at, name in enumerate(lines)}
+    return drawing([Panel(LEFT, "Signals", lines, "threads", "million a second")], colours)
+
+
+def drawing(panels, colours):
+    """Panels beside each other, and the lines' names."""
+    width = LEFT + len(panels) * (PANEL_WIDTH + GAP) - GAP + 32
     legend_top = TOP + PANEL_HEIGHT + FOOT
-    height = legend_top + LEGEND_ROW * len(kinds) + 4
+    height = legend_top + LEGEND_ROW * len(colours) + 4
     yield f'<svg xmlns="http://www.w3.org/2000/svg" viewBox="0 0 {width} {height}" width="{width}" height="{height}">'
     yield f"<style>{STYLE}</style>"
     yield f'<rect width="{width}" height="{height}" fill="#fff"/>'
@@ -146,12 +170,16 @@ def draw(path, lines):
 
 
 def main():
-    if len(sys.argv) != 3:
+    if len(sys.argv) not in (3, 4):
         raise SystemExit(__doc__)
-    figures, folder = sys.argv[1:]
+    figures, folder = sys.argv[1:3]
     rows = rows_of(figures)
     draw(os.path.join(folder, "growth_calls.svg"), figure(rows, BY_CALLS, "calls", "calls"))
     draw(os.path.join(folder, "growth_mapped.svg"), figure(rows, BY_MAPPED, "size", "devices or events"))
+    if len(sys.argv) == 4:
+        with open(sys.argv[3], newline="", encoding="ascii") as lines:
+            ports = {row["name"]: row for row in csv.DictReader(lines)}
+        draw(os.path.join(folder, "signals_threads.svg"), threads_figure(ports))
 
 
 if __name__ == "__main__":

@@ -11,6 +11,8 @@
 # The program is built by `cd crates/its_cli && rt run -- run < stdin`, which leaves it as crates/its_cli/out/its_cli.
 # Where a file FIGURES is named, its rows are written anew; plot.py draws them.
 #
+# The calls of the machine that threads share are measured one by one by measure_ports.py.
+#
 # usage: bench/run.sh PROGRAM [FIGURES]
 set -euo pipefail
 

@@ -9,37 +9,32 @@ use Rattle.its_plain.specs.Plain.{Plain}
 use Rattle.its_plain.specs.Runs.{IsPartialRun}
 use Rattle.its_plain.specs.declared.desc.Desc.{Desc}
 use Rattle.its_plain.specs.declared.desc.DescFault.{DescFault}
-use Rattle.standing_states.proofs.Offences.{stands_without}
-use Rattle.standing_states.proofs.Once.{stands_once}
 use Rattle.event_script.specs.Script.{script_of}
 use Rattle.event_script.specs.declared.fault.ScriptFault.{ScriptFault}
 use Rattle.event_script.specs.declared.script.Script.{Script}
 use Rattle.its_cli.specs.Legs.{AllEnd}
-use Rattle.its_cli.specs.Its.{is_run_command, Causes, RunCauses, WasRead, IsScript, OfScript, IsReport, IsMigrationRefusal, IsSpentReport, IsCutShort, IsDecided}
+use Rattle.its_words.specs.Words.{asked_of}
+use Rattle.its_words.specs.declared.words.Asked.{Asked}
+use Rattle.its_words.specs.declared.words.Asked.TheVariants.{Run, Check, Gen}
+use Rattle.its_cli.specs.Checked.{CheckCauses}
+use Rattle.its_cli.specs.Its.{Causes, RunCauses, WordsCauses, AskedCauses, IsScript, OfScript, IsReport, IsMigrationRefusal, IsSpentReport, IsCutShort, IsDecided, IsRunDecided, AskedDecides}
+use Rattle.its_cli.specs.Streams.{WasRead}
+use Rattle.its_cli.specs.Summarized.{GenCauses}
 use Rattle.its_cli.specs.Answered.{InputCauses, RunEnds, IsSoFar, StopsShort}
 use Rattle.its_cli.specs.declared.status.Status.{Status}
 use Rattle.its_cli.specs.declared.status.Status.TheVariants as status
 use Rattle.its_cli.proofs.Enabling.{partial_lpis}
 use Rattle.its_cli.proofs.Lines.{scripts_off}
+use Rattle.its_cli.proofs.Checks.{check_decided}
+use Rattle.its_cli.proofs.Once.{same_ok, not_both, first_once, made_once, too_short}
 use Rattle.its_cli.proofs.Migrations.{partial_run, part_of_none}
 use Rattle.its_cli.proofs.Endings.{ends_well, ends_spent, ends_refused, all_end_well}
 
--- ---- by what the words are
+-- ---- by what the words ask for
 
-abbrev ByWords : Bool → Option (List ℕ) → Type 0 → Status → List ℕ → Type 0
-ByWords b told rose s text = MatchBool b (RunCauses told rose s text) ((s ≡ status.WordsRefused) × (text ≡ codes "refused words\n"))
-
-pub refused_words : (words : List (List ℕ)) (told : Option (List ℕ)) (rose : Type 0) (text : List ℕ) → false ≡ is_run_command words → text ≡ codes "refused words\n" → Causes words told rose status.WordsRefused text
-refused_words words told rose text differs e = subst (λ (b : Bool). ByWords b told rose status.WordsRefused text) differs (refl, e)
-
-pub ran_words : (words : List (List ℕ)) (told : Option (List ℕ)) (rose : Type 0) (s : Status) (text : List ℕ) → true ≡ is_run_command words → RunCauses told rose s text → Causes words told rose s text
-ran_words words told rose s text same h = subst (λ (b : Bool). ByWords b told rose s text) same h
-
-by_words : (words : List (List ℕ)) (told : Option (List ℕ)) (rose : Type 0) (s : Status) (text : List ℕ) → is_run_command words ≡ true → Causes words told rose s text → RunCauses told rose s text
-by_words words told rose s text is h = subst (λ (b : Bool). ByWords b told rose s text) is h
-
-others : (words : List (List ℕ)) (told : Option (List ℕ)) (rose : Type 0) (s : Status) (text : List ℕ) → is_run_command words ≡ false → Causes words told rose s text → s ≡ status.WordsRefused
-others words told rose s text is h = let r : ByWords false told rose s text = subst (λ (b : Bool). ByWords b told rose s text) is h in r.0
+pub asked_causes : (words : List (List ℕ)) (asked : Option Asked) (told : Option (List ℕ)) (rose : Type 0) (s : Status) (text : List ℕ) → asked_of words ≡ asked → AskedCauses asked told rose s text
+    → Causes words told rose s text
+asked_causes words asked told rose s text is h = subst (λ (a : Option Asked). AskedCauses a told rose s text) (sym is) h
 
 -- ---- by what was read
 
@@ -55,6 +50,8 @@ read_causes told rose input status.MachineRefused text was h = (input, (was, h))
 read_causes told rose input status.MigrationRefused text was h = (input, (was, h))
 read_causes told rose input status.Spent text was h = (input, (was, h))
 read_causes told rose input status.TooLong text was h = absurd h
+read_causes told rose input status.TraceDiffers text was h = absurd h
+read_causes told rose input status.BadTrace text was h = absurd h
 
 of_script : (Says : Script → Plain → List ℕ → Type 0) (input : List ℕ) (script : Script) (first : Plain) (text : List ℕ) → IsScript input script first → Says script first text → OfScript Says input text
 of_script Says input script first text is h = record { script = script; first = first; is_script = is; off = scripts_off input script is.read; says = h }
@@ -71,6 +68,8 @@ run_causes input script first status.MachineRefused text is h = absurd h
 run_causes input script first status.MigrationRefused text is h = of_script IsMigrationRefusal input script first text is h
 run_causes input script first status.Spent text is h = of_script IsSpentReport input script first text is h
 run_causes input script first status.TooLong text is h = absurd h
+run_causes input script first status.TraceDiffers text is h = absurd h
+run_causes input script first status.BadTrace text is h = absurd h
 
 -- memory ran out in it
 pub so_far : (input : List ℕ) (script : Script) (first : Plain) (report : List ℕ) → IsScript input script first → IsSoFar script first report → StopsShort input report
@@ -98,38 +97,10 @@ short_causes told rose input report was h =
       | inr some ↦ inr (input, (was, of_script IsCutShort input some.script some.first (report ++ codes "refused memory\n") some.is_script (cut_short some.script some.first report some.says)))
     ]
 
--- ---- a machine is refused or has one first state
-
-same_ok : {A B : Type 0} (r : Result A B) (a b : A) → r ≡ Ok a → r ≡ Ok b → a ≡ b
-same_ok {A = A} {B = B} r a b e f = let same : (let o : Result A B = Ok a in o) ≡ Ok b = sym e ∙ f in cc
-
-not_both : {A B X : Type 0} (r : Result A B) (a : A) (b : B) → r ≡ Ok a → r ≡ Err b → X
-not_both {A = A} {B = B} r a b e f = let clash : (let o : Result A B = Ok a in o) ≡ Err b = sym e ∙ f in absurd cc
-
-starts_once : (restore : Option RegValues) (bases : List Bases) (base u v : Plain) → StartsAt restore bases base u → StartsAt restore bases base v → u ≡ v
-starts_once None bases base u v a b = a ∙ sym b
-starts_once (Some values) bases base u v a b = stands_once base.memory values base.layout bases u v a b
-
-first_once : (d : Desc) (u v : Plain) → IsFirstState d u → IsFirstState d v → u ≡ v
-first_once d u v a b =
-    let same : a.base ≡ b.base = same_ok (made d) a.base b.base a.made_is b.made_is in
-    starts_once d.restore (restored_bases d) b.base u v (subst (λ (base : Plain). StartsAt d.restore (restored_bases d) base u) same a.starts) b.starts
-
-made_once : {X : Type 0} (d : Desc) (u : Plain) (f : DescFault) → IsFirstState d u → IsRefused d f → X
-made_once d u f is (IsRefused.of_description g none) = not_both (made d) is.base g is.made_is none
-made_once d u f is (IsRefused.of_restore base values g base_is restore_is offends) =
-    let same : is.base ≡ base = same_ok (made d) is.base base is.made_is base_is in
-    let bases = restored_bases d in
-    let starts : StartsAt d.restore bases base u = subst (λ (b : Plain). StartsAt d.restore bases b u) same is.starts in
-    absurd (stands_without base.memory values base.layout bases u g (subst (λ (r : Option RegValues). StartsAt r bases base u) restore_is starts) offends)
-
 -- ---- what decides
 
 abbrev Ended : Status → Status → Type 0
 Ended s expected = (s ≡ expected) ⊎ (s ≡ status.Memory)
-
-too_short : {X : Type 0} (input read : List ℕ) → WasRead (Some input) read → 16777216 < length input → X
-too_short input read was lt = absurd (omega (arith, was.short, ap length was.whole, lt))
 
 long : (input : List ℕ) (rose : Type 0) (s : Status) (text : List ℕ) → ¬ rose → RunCauses (Some input) rose s text → 16777216 < length input → Ended s status.TooLong
 long input rose status.Ok text calm h lt = too_short input h.0 h.1.0 lt
@@ -142,6 +113,8 @@ long input rose status.MachineRefused text calm h lt = too_short input h.0 h.1.0
 long input rose status.MigrationRefused text calm h lt = too_short input h.0 h.1.0 lt
 long input rose status.Spent text calm h lt = too_short input h.0 h.1.0 lt
 long input rose status.TooLong text calm h lt = inl refl
+long input rose status.TraceDiffers text calm h lt = absurd h
+long input rose status.BadTrace text calm h lt = absurd h
 
 -- bytes that are no script don't say anything of one
 no_such : {X : Type 0} (Says : Script → Plain → List ℕ → Type 0) (input read text : List ℕ) (fault : ScriptFault) → WasRead (Some input) read → OfScript Says read text → script_of input ≡ Err fault → X
@@ -158,6 +131,8 @@ no_script input rose status.MachineRefused text calm h le fault e = not_both (sc
 no_script input rose status.MigrationRefused text calm h le fault e = no_such IsMigrationRefusal input h.0 text fault h.1.0 h.1.1 e
 no_script input rose status.Spent text calm h le fault e = no_such IsSpentReport input h.0 text fault h.1.0 h.1.1 e
 no_script input rose status.TooLong text calm h le fault e = absurd (omega (arith, h.0, le))
+no_script input rose status.TraceDiffers text calm h le fault e = absurd h
+no_script input rose status.BadTrace text calm h le fault e = absurd h
 
 -- nor does a script whose machine is refused
 no_run : {X : Type 0} (Says : Script → Plain → List ℕ → Type 0) (input read text : List ℕ) (script : Script) (fault : DescFault) → WasRead (Some input) read → OfScript Says read text
@@ -178,6 +153,8 @@ no_machine input rose status.MachineRefused text calm h le script fault e none =
 no_machine input rose status.MigrationRefused text calm h le script fault e none = no_run IsMigrationRefusal input h.0 text script fault h.1.0 h.1.1 e none
 no_machine input rose status.Spent text calm h le script fault e none = no_run IsSpentReport input h.0 text script fault h.1.0 h.1.1 e none
 no_machine input rose status.TooLong text calm h le script fault e none = absurd (omega (arith, h.0, le))
+no_machine input rose status.TraceDiffers text calm h le script fault e none = absurd h
+no_machine input rose status.BadTrace text calm h le script fault e none = absurd h
 
 -- ---- how a script's run ends
 
@@ -217,20 +194,55 @@ by_runs input rose status.MachineRefused text calm h le script first is expected
 by_runs input rose status.MigrationRefused text calm h le script first is expected all = inl (sym (refusal_ends script first text expected (same_says IsMigrationRefusal input h.0 text script first h.1.0 h.1.1 is) all))
 by_runs input rose status.Spent text calm h le script first is expected all = inl (sym (spent_ends script first text expected (same_says IsSpentReport input h.0 text script first h.1.0 h.1.1 is) all))
 by_runs input rose status.TooLong text calm h le script first is expected all = absurd (omega (arith, h.0, le))
+by_runs input rose status.TraceDiffers text calm h le script first is expected all = absurd h
+by_runs input rose status.BadTrace text calm h le script first is expected all = absurd h
 
-pub decided : (words : List (List ℕ)) (told : Option (List ℕ)) (rose : Type 0) (s : Status) (text input : List ℕ) → ¬ rose → told ≡ Some input → Causes words told rose s text → IsDecided words input s
-decided words told rose s text input calm tells h =
-    let causes : Causes words (Some input) rose s text = subst (λ (o : Option (List ℕ)). Causes words o rose s text) tells h in
-    let ran : is_run_command words ≡ true → RunCauses (Some input) rose s text = λ is. by_words words (Some input) rose s text is causes in
-    record {
-      words_refused = λ is. others words (Some input) rose s text is causes;
-      too_long = λ is lt. long input rose s text calm (ran is) lt;
-      script_refused = λ is le fault e. no_script input rose s text calm (ran is) le fault e;
-      machine_refused = λ is le script fault e none. no_machine input rose s text calm (ran is) le script fault e none;
-      spent = λ is le script first it all. by_runs input rose s text calm (ran is) le script first it status.Spent all;
-      migration_refused = λ is le script first it all. by_runs input rose s text calm (ran is) le script first it status.MigrationRefused all;
-      complete = λ is le script first it places can. by_runs input rose s text calm (ran is) le script first it status.Ok (all_end_well script.desc.limits.place_last first script.legs places can);
-    }
+run_decided : (input : List ℕ) (rose : Type 0) (s : Status) (text : List ℕ) → ¬ rose → RunCauses (Some input) rose s text → IsRunDecided input s
+run_decided input rose s text calm ran = record {
+  too_long = λ lt. long input rose s text calm ran lt;
+  script_refused = λ le fault e. no_script input rose s text calm ran le fault e;
+  machine_refused = λ le script fault e none. no_machine input rose s text calm ran le script fault e none;
+  spent = λ le script first it all. by_runs input rose s text calm ran le script first it status.Spent all;
+  migration_refused = λ le script first it all. by_runs input rose s text calm ran le script first it status.MigrationRefused all;
+  complete = λ le script first it places can. by_runs input rose s text calm ran le script first it status.Ok (all_end_well script.desc.limits.place_last first script.legs places can);
+}
+
+words_end : (s : Status) (text : List ℕ) → WordsCauses s text → Ended s status.WordsRefused
+words_end status.Ok text h = absurd h
+words_end status.ScriptRefused text h = absurd h
+words_end status.WordsRefused text h = inl refl
+words_end status.ReadFault text h = absurd h
+words_end status.WriteFault text h = absurd h
+words_end status.Memory text h = inr refl
+words_end status.MachineRefused text h = absurd h
+words_end status.MigrationRefused text h = absurd h
+words_end status.Spent text h = absurd h
+words_end status.TooLong text h = absurd h
+words_end status.TraceDiffers text h = absurd h
+words_end status.BadTrace text h = absurd h
+
+gen_end : (signals threads : ℕ) (s : Status) (text : List ℕ) → GenCauses signals threads s text → Ended s status.Ok
+gen_end signals threads status.Ok text h = inl refl
+gen_end signals threads status.ScriptRefused text h = absurd h
+gen_end signals threads status.WordsRefused text h = absurd h
+gen_end signals threads status.ReadFault text h = absurd h
+gen_end signals threads status.WriteFault text h = absurd h
+gen_end signals threads status.Memory text h = inr refl
+gen_end signals threads status.MachineRefused text h = absurd h
+gen_end signals threads status.MigrationRefused text h = absurd h
+gen_end signals threads status.Spent text h = absurd h
+gen_end signals threads status.TooLong text h = absurd h
+gen_end signals threads status.TraceDiffers text h = absurd h
+gen_end signals threads status.BadTrace text h = absurd h
+
+pub decided : (words : List (List ℕ)) (told : Option (List ℕ)) (rose : Type 0) (s : Status) (text : List ℕ) → ¬ rose → Causes words told rose s text → IsDecided words told s
+decided words told rose s text calm h = go (asked_of words) h
+  where
+    go : (asked : Option Asked) → AskedCauses asked told rose s text → AskedDecides asked told s
+    go None h = words_end s text h
+    go (Some Run) h = λ input tells. run_decided input rose s text calm (subst (λ (o : Option (List ℕ)). RunCauses o rose s text) tells h)
+    go (Some Check) h = λ input tells. check_decided input rose s text calm (subst (λ (o : Option (List ℕ)). CheckCauses o rose s text) tells h)
+    go (Some (Gen signals threads)) h = gen_end signals threads s text h
 
 -- ---- statuses
 
@@ -246,7 +258,15 @@ or_write_fault status.MachineRefused = inr (λ e. absurd cc)
 or_write_fault status.MigrationRefused = inr (λ e. absurd cc)
 or_write_fault status.Spent = inr (λ e. absurd cc)
 or_write_fault status.TooLong = inr (λ e. absurd cc)
+or_write_fault status.TraceDiffers = inr (λ e. absurd cc)
+or_write_fault status.BadTrace = inr (λ e. absurd cc)
 
--- what is said to a source is not a write's fault
-pub no_write_fault : (told : Option (List ℕ)) (rose : Type 0) (s : Status) (text : List ℕ) → RunCauses told rose s text → s ≡ status.WriteFault → ⊥
-no_write_fault told rose s text h e = subst (λ (t : Status). RunCauses told rose t text) e h
+-- what is said is not a write's fault
+pub no_write_fault : (words : List (List ℕ)) (told : Option (List ℕ)) (rose : Type 0) (s : Status) (text : List ℕ) → Causes words told rose s text → s ≡ status.WriteFault → ⊥
+no_write_fault words told rose s text h e = go (asked_of words) (subst (λ (t : Status). Causes words told rose t text) e h)
+  where
+    go : (asked : Option Asked) → AskedCauses asked told rose status.WriteFault text → ⊥
+    go None h = h
+    go (Some Run) h = h
+    go (Some Check) h = h
+    go (Some (Gen signals threads)) h = h

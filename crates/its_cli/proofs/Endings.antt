@@ -13,7 +13,7 @@ use Rattle.its_cli.specs.declared.status.Status.{Status}
 use Rattle.its_cli.specs.declared.status.Status.TheVariants as status
 use Rattle.its_cli.proofs.Migrations.{not_empty}
 
-not_savable : {X : Type 0} (u : Plain) (f : SaveFault) → savable u ≡ Err f → IsSavable u → X
+pub not_savable : {X : Type 0} (u : Plain) (f : SaveFault) → savable u ≡ Err f → IsSavable u → X
 not_savable u f e can =
     let clash : (let r : Result (Unit {0}) SaveFault = Err f in r) ≡ Ok tt = sym e ∙ can in absurd cc
 

@@ -10,4 +10,8 @@ pub mod Migrations
 pub mod Enabling
 pub mod Scripts
 pub mod Endings
+pub mod Once
+pub mod Checks
+pub mod Reports
+pub mod Summaries
 pub mod Causes

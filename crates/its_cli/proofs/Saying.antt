@@ -31,6 +31,8 @@ module _ (input : List ℕ) (script : Script) (first made : Plain) (read : scrip
   run_said status.MigrationRefused text is = of_script IsMigrationRefusal text is
   run_said status.Spent text is = of_script IsSpentReport text is
   run_said status.TooLong text is = absurd is
+  run_said status.TraceDiffers text is = absurd is
+  run_said status.BadTrace text is = absurd is
 
   pub so_far_said : (report : List ℕ) → IsSoFar script first report → StopsShort input report
   so_far_said report is = inr (of_script IsSoFar report is)

@@ -202,6 +202,8 @@ stops_here script first i number now old new line leg next later status.MachineR
 stops_here script first i number now old new line leg next later status.MigrationRefused r n e h = is_refused script first i number now old new line leg next later r n e h
 stops_here script first i number now old new line leg next later status.Spent r n e h = is_spent script first i number now old new line leg (next ∷ later) r n e h
 stops_here script first i number now old new line leg next later status.TooLong r n e h = absurd h
+stops_here script first i number now old new line leg next later status.TraceDiffers r n e h = absurd h
+stops_here script first i number now old new line leg next later status.BadTrace r n e h = absurd h
 
 -- the last one did
 pub ends_here : (script : Script) (first : Plain) (i number : ℕ) (now : Plain) (old new line : List ℕ) (leg : Leg) (s : Status) → HasRunTo script first i now old → number ≡ i + 1
@@ -216,3 +218,5 @@ ends_here script first i number now old new line leg status.MachineRefused r n e
 ends_here script first i number now old new line leg status.MigrationRefused r n e h = absurd h
 ends_here script first i number now old new line leg status.Spent r n e h = is_spent script first i number now old new line leg [] r n e h
 ends_here script first i number now old new line leg status.TooLong r n e h = absurd h
+ends_here script first i number now old new line leg status.TraceDiffers r n e h = absurd h
+ends_here script first i number now old new line leg status.BadTrace r n e h = absurd h

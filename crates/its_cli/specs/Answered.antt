@@ -18,7 +18,7 @@ use Rattle.script_threads.specs.Legs.{call_count}
 use Rattle.its_cli.specs.Legs.{HaveRun}
 use Rattle.its_history.specs.Reports.{migrated, ended, cut_leg}
 use Rattle.its_cli.specs.Refusals.{spent_refusal, migration_refusal}
-use Rattle.its_cli.specs.Its.{RunCauses, OfScript, IsReport, IsScriptRefusal, IsMachineRefusal, IsMigrationRefusal, IsSpentReport}
+use Rattle.its_cli.specs.Its.{OfScript, IsReport, IsScriptRefusal, IsMachineRefusal, IsMigrationRefusal, IsSpentReport}
 use Rattle.its_cli.specs.declared.its.Answer.{Answer}
 use Rattle.its_cli.specs.declared.its.Answer.TheVariants.{Answered, Refused}
 use Rattle.its_steps.specs.Parts.{Setup, vcpu_count}
@@ -140,9 +140,10 @@ refusal_text status.Memory = codes "refused memory\n"
 refusal_text status.TooLong = codes "refused long\n"
 refusal_text _ = []
 
-abbrev pub AnswerIsCaused : Option (List ℕ) → Type 0 → List ℕ → Answer → Type 0
-AnswerIsCaused told rose report (Answered e) = RunCauses told rose e.status (report ++ string_bytes e.line)
-AnswerIsCaused told rose report (Refused s) = RunCauses told rose s (report ++ refusal_text s)
+-- a report and then the answer's line are caused so
+abbrev pub AnswerIsCaused : (Status → List ℕ → Type 0) → List ℕ → Answer → Type 0
+AnswerIsCaused causes report (Answered e) = causes e.status (report ++ string_bytes e.line)
+AnswerIsCaused causes report (Refused s) = causes s (report ++ refusal_text s)
 
 -- the command may end well
 abbrev pub MayEndWell : Answer → Type 0

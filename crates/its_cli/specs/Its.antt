@@ -1,6 +1,5 @@
 -- What the command prints, and why.
-use Rattle.std.specs.Prelude.{◌≡◌, ◌⊎◌, ℕ, ◌+◌, ◌<◌, ◌≤◌, Bool, true, false, ◌&&◌, ◌==◌, List, [], ◌∷◌, ◌++◌, length, codes, slice_index_or, Option, None, Ok, Err, IfSome, MatchBool}
-use Rattle.std.specs.Str.{bytes_eq}
+use Rattle.std.specs.Prelude.{◌≡◌, ◌⊎◌, ℕ, ◌+◌, ◌<◌, ◌≤◌, List, [], ◌∷◌, ◌++◌, length, codes, Option, Some, None, Ok, Err, IfSome}
 use Rattle.its_plain.specs.Plain.{Plain}
 use Rattle.its_plain.specs.History.{after}
 use Rattle.its_plain.specs.Described.{IsFirstState, IsRefused}
@@ -10,29 +9,27 @@ use Rattle.its_plain.specs.declared.call.Entry.{Entry}
 use Rattle.its_plain.specs.declared.desc.DescFault.{DescFault}
 use Rattle.its_plain.specs.declared.fault.SaveFault.{SaveFault}
 use Rattle.lpi_enabling.specs.Enabling.{RestoresOff, FollowEnabling}
-use Rattle.event_script.specs.Script.{script_of}
+use Rattle.event_script.specs.Script.{script_of, check_of}
 use Rattle.event_script.specs.declared.fault.ScriptFault.{ScriptFault}
 use Rattle.event_script.specs.declared.script.Script.{Script}
 use Rattle.its_history.specs.Report.{report_text}
-use Rattle.its_cli.specs.Streams.{Tells}
+use Rattle.its_cli.specs.Streams.{Tells, IsAtEnd, WasRead}
 use Rattle.its_cli.specs.Lines.{StartsOff}
+use Rattle.its_history.specs.declared.trace.Leg.{Leg as LegLines}
+use Rattle.its_words.specs.Words.{asked_of}
+use Rattle.its_words.specs.declared.words.Asked.{Asked}
+use Rattle.its_words.specs.declared.words.Asked.TheVariants.{Run, Check, Gen}
 use Rattle.script_threads.specs.Legs.{call_count}
 use Rattle.its_cli.specs.Legs.{HasPlaces, HaveRun, CanMigrate, AllEnd}
 use Rattle.its_history.specs.Reports.{reported, migrated, ended, cut_leg}
 use Rattle.its_cli.specs.Refusals.{script_refusal, machine_refusal, spent_refusal, migration_refusal}
+use Rattle.trace_check.specs.Verdicts.{IsReportOfRun}
+use Rattle.its_cli.specs.Checked.{CheckCauses, IsCheckInput, read_report}
+use Rattle.its_cli.specs.Summarized.{GenCauses}
 use Rattle.its_cli.specs.declared.status.Status.{Status}
 use Rattle.its_cli.specs.declared.status.Status.TheVariants as status
 
--- the words are two, and the second is `run`
-abbrev pub is_run_command : List (List ℕ) → Bool
-is_run_command words = length words == 2 && bytes_eq (slice_index_or words 1 []) (codes "run")
-
 -- ---- some bytes
-
--- what was read, where the source tells it, with at most so many bytes
-pub record WasRead (told : Option (List ℕ)) (input : List ℕ) : Type 0 where
-  pub whole : Tells told input
-  pub short : length input ≤ 16777216
 
 pub record IsScriptRefusal (input text : List ℕ) : Type 0 where
   pub fault : ScriptFault
@@ -132,10 +129,35 @@ RunCauses told rose status.MachineRefused text = (input : List ℕ) × (WasRead 
 RunCauses told rose status.MigrationRefused text = (input : List ℕ) × (WasRead told input × OfScript IsMigrationRefusal input text)
 RunCauses told rose status.Spent text = (input : List ℕ) × (WasRead told input × OfScript IsSpentReport input text)
 RunCauses told rose status.TooLong text = IfSome told (λ all. 16777216 < length all) × (text ≡ codes "refused long\n")
+RunCauses told rose status.TraceDiffers text = ⊥
+RunCauses told rose status.BadTrace text = ⊥
+
+-- words that ask for nothing
+abbrev pub WordsCauses : Status → List ℕ → Type 0
+WordsCauses status.WordsRefused text = text ≡ codes "refused words\n"
+WordsCauses status.Memory text = text ≡ codes "refused memory\n"
+WordsCauses _ text = ⊥
+
+abbrev pub AskedCauses : Option Asked → Option (List ℕ) → Type 0 → Status → List ℕ → Type 0
+AskedCauses None told rose s text = WordsCauses s text
+AskedCauses (Some Run) told rose s text = RunCauses told rose s text
+AskedCauses (Some Check) told rose s text = CheckCauses told rose s text
+AskedCauses (Some (Gen signals threads)) told rose s text = GenCauses signals threads s text
 
 -- what each status says of the words, of what the source tells and of its count of faults, and the text that is printed
 abbrev pub Causes : List (List ℕ) → Option (List ℕ) → Type 0 → Status → List ℕ → Type 0
-Causes words told rose s text = MatchBool (is_run_command words) (RunCauses told rose s text) ((s ≡ status.WordsRefused) × (text ≡ codes "refused words\n"))
+Causes words told rose s text = AskedCauses (asked_of words) told rose s text
+
+-- ---- what is read
+
+abbrev pub AskedReads : Option Asked → Option (List ℕ) → Option (List ℕ) → Type 0
+AskedReads (Some Run) before now = IsAtEnd before now
+AskedReads (Some Check) before now = IsAtEnd before now
+AskedReads _ before now = now ≡ before
+
+-- `run` and `check` read the source to its end, and `gen` reads nothing
+abbrev pub Reads : List (List ℕ) → Option (List ℕ) → Option (List ℕ) → Type 0
+Reads words before now = AskedReads (asked_of words) before now
 
 -- ---- what decides
 
@@ -143,12 +165,32 @@ Causes words told rose s text = MatchBool (is_run_command words) (RunCauses told
 abbrev pub Ends : Status → Status → Type 0
 Ends s expected = (s ≡ expected) ⊎ (s ≡ status.Memory)
 
+-- what the status of `run` is where every byte came and went
+pub record IsRunDecided (input : List ℕ) (s : Status) : Type 0 where
+  pub too_long : 16777216 < length input → Ends s status.TooLong
+  pub script_refused : length input ≤ 16777216 → (fault : ScriptFault) → script_of input ≡ Err fault → Ends s status.ScriptRefused
+  pub machine_refused : length input ≤ 16777216 → (script : Script) (fault : DescFault) → script_of input ≡ Ok script → IsRefused script.desc fault → Ends s status.MachineRefused
+  pub spent : length input ≤ 16777216 → (script : Script) (first : Plain) → IsScript input script first → AllEnd script.desc.limits.place_last first script.legs status.Spent → Ends s status.Spent
+  pub migration_refused : length input ≤ 16777216 → (script : Script) (first : Plain) → IsScript input script first → AllEnd script.desc.limits.place_last first script.legs status.MigrationRefused → Ends s status.MigrationRefused
+  pub complete : length input ≤ 16777216 → (script : Script) (first : Plain) → IsScript input script first → HasPlaces script.desc.limits.place_last script.legs → CanMigrate first script.legs → Ends s status.Ok
+
+-- and that of `check`
+pub record IsCheckDecided (input : List ℕ) (s : Status) : Type 0 where
+  pub too_long : 16777216 < length input → Ends s status.TooLong
+  pub script_refused : length input ≤ 16777216 → (fault : ScriptFault) → check_of input ≡ Err fault → Ends s status.ScriptRefused
+  pub machine_refused : length input ≤ 16777216 → (script : Script) (lines : List (List ℕ)) (fault : DescFault) → check_of input ≡ Ok (script, lines) → IsRefused script.desc fault → Ends s status.MachineRefused
+  pub bad_trace : length input ≤ 16777216 → (script : Script) (first : Plain) (report : List ℕ) (line : ℕ) → IsCheckInput input script first report → read_report script report ≡ Err line → Ends s status.BadTrace
+  pub differs : length input ≤ 16777216 → (script : Script) (first : Plain) (report : List ℕ) (told : List LegLines) → IsCheckInput input script first report → read_report script report ≡ Ok told
+      → ¬ IsReportOfRun first script.legs told → Ends s status.TraceDiffers
+  pub complete : length input ≤ 16777216 → (script : Script) (first : Plain) (report : List ℕ) (told : List LegLines) → IsCheckInput input script first report → read_report script report ≡ Ok told
+      → IsReportOfRun first script.legs told → Ends s status.Ok
+
+abbrev pub AskedDecides : Option Asked → Option (List ℕ) → Status → Type 0
+AskedDecides None told s = Ends s status.WordsRefused
+AskedDecides (Some Run) told s = (input : List ℕ) → told ≡ Some input → IsRunDecided input s
+AskedDecides (Some Check) told s = (input : List ℕ) → told ≡ Some input → IsCheckDecided input s
+AskedDecides (Some (Gen signals threads)) told s = Ends s status.Ok
+
 -- what the status is where every byte came and went
-pub record IsDecided (words : List (List ℕ)) (input : List ℕ) (s : Status) : Type 0 where
-  pub words_refused : is_run_command words ≡ false → s ≡ status.WordsRefused
-  pub too_long : is_run_command words ≡ true → 16777216 < length input → Ends s status.TooLong
-  pub script_refused : is_run_command words ≡ true → length input ≤ 16777216 → (fault : ScriptFault) → script_of input ≡ Err fault → Ends s status.ScriptRefused
-  pub machine_refused : is_run_command words ≡ true → length input ≤ 16777216 → (script : Script) (fault : DescFault) → script_of input ≡ Ok script → IsRefused script.desc fault → Ends s status.MachineRefused
-  pub spent : is_run_command words ≡ true → length input ≤ 16777216 → (script : Script) (first : Plain) → IsScript input script first → AllEnd script.desc.limits.place_last first script.legs status.Spent → Ends s status.Spent
-  pub migration_refused : is_run_command words ≡ true → length input ≤ 16777216 → (script : Script) (first : Plain) → IsScript input script first → AllEnd script.desc.limits.place_last first script.legs status.MigrationRefused → Ends s status.MigrationRefused
-  pub complete : is_run_command words ≡ true → length input ≤ 16777216 → (script : Script) (first : Plain) → IsScript input script first → HasPlaces script.desc.limits.place_last script.legs → CanMigrate first script.legs → Ends s status.Ok
+abbrev pub IsDecided : List (List ℕ) → Option (List ℕ) → Status → Type 0
+IsDecided words told s = AskedDecides (asked_of words) told s

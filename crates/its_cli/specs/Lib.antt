@@ -3,5 +3,7 @@ pub mod Lines
 pub mod Legs
 pub mod Played
 pub mod Refusals
+pub mod Checked
+pub mod Summarized
 pub mod Its
 pub mod Answered

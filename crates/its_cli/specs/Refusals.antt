@@ -8,6 +8,7 @@ use Rattle.event_script.specs.declared.fault.Kind.{Kind}
 use Rattle.event_script.specs.declared.fault.Kind.TheVariants as kind
 use Rattle.event_script.specs.declared.fault.ScriptFault.{ScriptFault}
 use Rattle.its_history.specs.Texts.{save_fault_text, restore_fault_text}
+use Rattle.trace_check.specs.declared.verdict.Difference.{Difference}
 
 unfoldable pub kind_text : Kind → List ℕ
 kind_text kind.Cut = codes "cut"
@@ -41,3 +42,14 @@ spent_refusal leg = codes "refused spent " ++ decimal leg ++ codes "\n"
 
 unfoldable pub migration_refusal : ℕ → SaveFault → List ℕ
 migration_refusal leg fault = codes "refused migration " ++ decimal leg ++ codes " " ++ save_fault_text fault ++ codes "\n"
+
+-- ---- of a report
+
+-- its first line that hasn't the shape of a report's, counted from 1
+unfoldable pub trace_refusal : ℕ → List ℕ
+trace_refusal line = codes "refused trace " ++ decimal line ++ codes "\n"
+
+-- its first line that isn't right
+unfoldable pub difference_text : Difference → List ℕ
+difference_text d =
+    codes "differs " ++ decimal d.leg ++ codes " " ++ decimal d.place ++ codes " said " ++ d.said ++ codes " is " ++ d.is ++ codes "\n"

@@ -1,5 +1,5 @@
 -- What came from a source, where it tells its bytes.
-use Rattle.std.specs.Prelude.{◌≡◌, ℕ, List, [], ◌++◌, Option, Some, IfSome}
+use Rattle.std.specs.Prelude.{◌≡◌, ◌≤◌, ℕ, List, [], ◌++◌, length, Option, Some, IfSome}
 
 -- these bytes were taken from the front
 abbrev pub Taken : Option (List ℕ) → Option (List ℕ) → List ℕ → Type 0
@@ -12,3 +12,8 @@ Tells before bytes = IfSome before (λ all. all ≡ bytes)
 -- nothing is left
 abbrev pub IsAtEnd : Option (List ℕ) → Option (List ℕ) → Type 0
 IsAtEnd before now = IfSome before (λ _. now ≡ Some [])
+
+-- these were read, where it tells them, and there are at most so many
+pub record WasRead (told : Option (List ℕ)) (input : List ℕ) : Type 0 where
+  pub whole : Tells told input
+  pub short : length input ≤ 16777216

@@ -1,7 +1,7 @@
 //! Scripts, machines and tables that are refused, and streams that fail.
 use crate::its::its;
 use crate::status::Status;
-use crate::tests::{MACHINE, MAPPED, run, script, tells, words};
+use crate::tests::{MACHINE, MAPPED, answer, script, tells, words};
 use its_io::{MemSink, MemSource, SureSink, SureSource};
 use its_types::Open;
 use std::alloc::Global;
@@ -130,7 +130,8 @@ fn a_script_cut_anywhere_is_refused(rt: HostRuntime) -> Result<(), Fail> {
     let whole = script(alloc, &[MACHINE, MAPPED, calls])?;
     let script_len = whole.len().saturating_sub(16);
     for len in 0..whole.len() {
-        let (status, _) = run(&rt, alloc, &whole.as_bytes()[..len]).ok_or("no memory")?;
+        let cut = &whole.as_bytes()[..len];
+        let (status, _) = answer(&rt, alloc, "its run", cut).ok_or("no memory")?;
         let expected = if len == script_len {
             Status::Ok
         } else {
@@ -151,7 +152,7 @@ fn over<R: Threads + Wait + Sync>(
     room: usize,
     failing_write: u64,
 ) -> Option<(Status, MemSink)> {
-    let words = words(alloc, "run").ok()?;
+    let words = words(alloc, "its run").ok()?;
     let mut source = MemSource::new(alloc, input, 64, &[failing_read]).ok()?;
     let mut sink = MemSink::new(alloc, room, 64, &[failing_write]).ok()?;
     let status = its(rt, alloc, &words, &mut source, &mut sink, &Open);
@@ -207,10 +208,27 @@ fn each_read_and_each_write_fails_in_turn(rt: HostRuntime) -> Result<(), Fail> {
 fn long_inputs_and_other_words_are_refused(rt: HostRuntime) -> Result<(), Fail> {
     let alloc = rt.alloc();
     let long = vec![in alloc; b'#'; 16_777_217]?;
-    for (word, input, status, text) in [
-        ("run", long.as_slice(), Status::TooLong, "refused long\n"),
+    for (line, input, status, text) in [
         (
-            "walk",
+            "its run",
+            long.as_slice(),
+            Status::TooLong,
+            "refused long\n",
+        ),
+        (
+            "its check",
+            long.as_slice(),
+            Status::TooLong,
+            "refused long\n",
+        ),
+        (
+            "its walk",
+            b"".as_slice(),
+            Status::WordsRefused,
+            "refused words\n",
+        ),
+        (
+            "its gen 20 64",
             b"".as_slice(),
             Status::WordsRefused,
             "refused words\n",
@@ -221,13 +239,13 @@ fn long_inputs_and_other_words_are_refused(rt: HostRuntime) -> Result<(), Fail> 
         let ended = its(
             &rt,
             alloc,
-            &words(alloc, word)?,
+            &words(alloc, line)?,
             &mut source,
             &mut sink,
             &Open,
         );
-        assert_eq!(rt; ended, status, "{word}");
-        assert_eq!(rt; sink.bytes(), Some(text.as_bytes()), "{word}");
+        assert_eq!(rt; ended, status, "{line}");
+        assert_eq!(rt; sink.bytes(), Some(text.as_bytes()), "{line}");
     }
     Ok(())
 }

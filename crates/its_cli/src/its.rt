@@ -1,19 +1,25 @@
 //! The top call.
-ghost use Rattle.std.specs.Prelude.{◌≡◌, ◌≢◌, ◌≤◌, ◌++◌, ℕ, List, [], Some, map, take};
+ghost use Rattle.std.specs.Prelude.{◌≡◌, ◌≢◌, ◌≤◌, ◌++◌, ℕ, List, [], map, take};
 ghost use Rattle.std.specs.String.{string_bytes};
 ghost use Rattle.its_io.specs.Bytes.{Appends};
 ghost use Rattle.its_io.specs.Count.{Rose};
-ghost use Rattle.its_cli.specs.Its.{is_run_command, Causes, IsDecided};
+ghost use Rattle.its_cli.specs.Checked.{CheckCauses};
+ghost use Rattle.its_cli.specs.Its.{Causes, RunCauses, Reads, IsDecided};
 ghost use Rattle.its_cli.specs.Streams.{IsAtEnd};
+ghost use Rattle.its_cli.specs.Summarized.{GenCauses};
 ghost use Rattle.its_cli.specs.Answered.{AnswerIsCaused, MayEndWell, refusal_text};
+ghost use Rattle.script_gen.specs.Laws.{IsAsked};
 
+use crate::check::say_check;
 use crate::legs::Ending;
 use crate::say::say;
 use crate::status::Status;
 use crate::streams::{ReadAllError, read_all, write_both};
+use crate::summarize::summarize;
 use its_io::{Failed, Sink, Source};
 use its_types::Gate;
-use std::alloc::Global;
+use its_words::{Asked, WordsError, parse_words};
+use std::alloc::{AllocError, Global};
 use std::sync::Wait;
 use std::thread::Threads;
 
@@ -49,14 +55,14 @@ pub fn its<R: Threads + Wait + Sync, S: Source, K: Sink, G: Gate + Sync>(
         × Causes (map (λ w. string_bytes w) words.now) (S.left source.old) (Rose (S.faults source.old) (S.faults source.new)) status text
         × Appends (K.held sink.old) (K.held sink.new) (take n text)) }
 
-    // Where the report was printed, the source was read to its end.
-    ensures to_the_end { result ≡ Status.Ok → IsAtEnd (S.left source.old) (S.left source.new) }
+    // Where it ends well, `run` and `check` have read the source to its end.
+    ensures to_the_end { result ≡ Status.Ok →
+        Reads (map (λ w. string_bytes w) words.now) (S.left source.old) (S.left source.new) }
 
     // Where no count of faults rose, what the words and the bytes are decides, unless memory runs
     // out.
     ensures decided { ¬ Rose (S.faults source.old) (S.faults source.new) → ¬ Rose (K.faults sink.old) (K.faults sink.new) →
-        (input : List ℕ) → S.left source.old ≡ Some input →
-        IsDecided (map (λ w. string_bytes w) words.now) input result }
+        IsDecided (map (λ w. string_bytes w) words.now) (S.left source.old) result }
 {
     command(rt, alloc, words, source, sink, gate)
 }
@@ -82,24 +88,38 @@ fn command<R: Threads + Wait + Sync, S: Source, K: Sink, G: Gate + Sync>(
         × Causes (map (λ w. string_bytes w) words.now) (S.left source.old) (Rose (S.faults source.old) (S.faults source.new)) status text
         × Appends (K.held sink.old) (K.held sink.new) (take n text)) }
 
-    ensures to_the_end { result ≡ Status.Ok → IsAtEnd (S.left source.old) (S.left source.new) }
+    ensures to_the_end { result ≡ Status.Ok →
+        Reads (map (λ w. string_bytes w) words.now) (S.left source.old) (S.left source.new) }
 {
     let mut report = String::new(alloc);
-    if !is_run_command(words) {
-        let status = Status::WordsRefused;
-        return print(sink, &report, refusal(status), status);
-    }
-    match run_command(rt, alloc, gate, source, &mut report) {
+    match answer_words(rt, alloc, gate, words, source, &mut report) {
         Answer::Answered(ending) => print(sink, &report, ending.line.as_str(), ending.status),
         Answer::Refused(status) => print(sink, &report, refusal(status), status),
     }
 }
 
-// Whether the words are those of `its run`.
-fn is_run_command(words: &[String]) -> bool
-    ensures { result ≡ is_run_command (map (λ w. string_bytes w) words.now) }
+// What the words ask for, answered with a report first, as far as there is one.
+fn answer_words<R: Threads + Wait + Sync, S: Source, G: Gate + Sync>(
+    rt: &R,
+    alloc: Global,
+    gate: &G,
+    words: &[String],
+    source: &mut S,
+    report: &mut String,
+) -> Answer
+    requires { string_bytes report.old ≡ [] }
+    ensures caused { AnswerIsCaused (Causes (map (λ w. string_bytes w) words.now) (S.left source.old)
+        (Rose (S.faults source.old) (S.faults source.new))) (string_bytes report.new) result }
+    ensures to_the_end { MayEndWell result →
+        Reads (map (λ w. string_bytes w) words.now) (S.left source.old) (S.left source.new) }
 {
-    words.len() == 2 && words[1].as_str() == "run"
+    match parse_words(alloc, words) {
+        Ok(Asked::Run) => run_command(rt, alloc, gate, source, report),
+        Ok(Asked::Check) => check_command(alloc, source),
+        Ok(Asked::Gen { signals, threads }) => gen_command(rt, alloc, gate, signals, threads),
+        Err(WordsError::Refused) => Answer::Refused(Status::WordsRefused),
+        Err(WordsError::NoMemory) => Answer::Refused(Status::Memory),
+    }
 }
 
 // What the source says, answered with a report first, as far as there is one.
@@ -111,7 +131,7 @@ fn run_command<R: Threads + Wait + Sync, S: Source, G: Gate + Sync>(
     report: &mut String,
 ) -> Answer
     requires { string_bytes report.old ≡ [] }
-    ensures caused { AnswerIsCaused (S.left source.old) (Rose (S.faults source.old) (S.faults source.new))
+    ensures caused { AnswerIsCaused (RunCauses (S.left source.old) (Rose (S.faults source.old) (S.faults source.new)))
         (string_bytes report.new) result }
     ensures later { S.faults source.old ≤ S.faults source.new }
     ensures to_the_end { MayEndWell result → IsAtEnd (S.left source.old) (S.left source.new) }
@@ -125,6 +145,44 @@ fn run_command<R: Threads + Wait + Sync, S: Source, G: Gate + Sync>(
     match say(rt, alloc, gate, &input, report) {
         Ok(ending) => Answer::Answered(ending),
         Err(_) => Answer::Refused(Status::Memory),
+    }
+}
+
+// What the source says, checked.
+fn check_command<S: Source>(alloc: Global, source: &mut S) -> Answer
+    ensures caused { AnswerIsCaused (CheckCauses (S.left source.old) (Rose (S.faults source.old) (S.faults source.new)))
+        [] result }
+    ensures to_the_end { MayEndWell result → IsAtEnd (S.left source.old) (S.left source.new) }
+{
+    let input = match read_all(alloc, source, LIMIT) {
+        Ok(input) => input,
+        Err(ReadAllError::Memory) => return Answer::Refused(Status::Memory),
+        Err(ReadAllError::Failed) => return Answer::Refused(Status::ReadFault),
+        Err(ReadAllError::TooLong) => return Answer::Refused(Status::TooLong),
+    };
+    match say_check(alloc, &input) {
+        Ok(checked) => Answer::Answered(checked),
+        Err(AllocError) => Answer::Refused(Status::Memory),
+    }
+}
+
+// A run of a script of so many threads with so many signals each, summarized.
+fn gen_command<R: Threads + Wait + Sync, G: Gate + Sync>(
+    rt: &R,
+    alloc: Global,
+    gate: &G,
+    signals: u32,
+    threads: u32,
+) -> Answer
+    requires { IsAsked signals threads }
+    ensures { AnswerIsCaused (GenCauses signals threads) [] result }
+{
+    match summarize(rt, alloc, gate, signals, threads) {
+        Ok(line) => Answer::Answered(Ending {
+            status: Status::Ok,
+            line,
+        }),
+        Err(AllocError) => Answer::Refused(Status::Memory),
     }
 }
 

@@ -9,6 +9,7 @@ use its_history::{restore_fault_text, save_fault_text};
 use its_plain::{DescFault, RestoreFault, SaveFault};
 use std::alloc::{AllocError, Global};
 use std::fmt::Write;
+use trace_check::Difference;
 
 /// Of a script, with the line and kind of its first fault.
 #[tactic(auto, unfolding(crate::specs::Refusals::script_refusal))]
@@ -115,6 +116,32 @@ pub fn migration_refusal(alloc: Global, leg: u64, fault: SaveFault) -> Result<St
     let mut text = String::new(alloc);
     write!(text, "refused migration {leg} ")?;
     text.push_str(save_fault_text(alloc, &fault)?.as_str())?;
+    text.push_str("\n")?;
+    Ok(text)
+}
+
+/// Of a report, by its first line that hasn't the shape of one, counted from 1.
+#[tactic(auto, unfolding(crate::specs::Refusals::trace_refusal))]
+pub fn trace_refusal(alloc: Global, line: u64) -> Result<String, AllocError>
+    ensures { IfOk result (λ text. string_bytes text ≡ spec.trace_refusal line) }
+{
+    let mut text = String::new(alloc);
+    writeln!(text, "refused trace {line}")?;
+    Ok(text)
+}
+
+/// Of a report, by its first line that isn't right.
+#[tactic(auto, unfolding(crate::specs::Refusals::difference_text))]
+pub fn difference_text(alloc: Global, difference: &Difference) -> Result<String, AllocError>
+    ensures { IfOk result (λ text. string_bytes text ≡ spec.difference_text difference.now) }
+{
+    let mut text = String::new(alloc);
+    let leg = difference.leg;
+    let place = difference.place;
+    write!(text, "differs {leg} {place} said ")?;
+    text.push_str(difference.said.as_str())?;
+    text.push_str(" is ")?;
+    text.push_str(difference.is.as_str())?;
     text.push_str("\n")?;
     Ok(text)
 }

@@ -56,7 +56,7 @@ pub fn say<R: Threads + Wait + Sync, G: Gate + Sync>(
 }
 
 /// The machine of a script, for its threads to share.
-fn share(alloc: Global, script: &Script, made: OwnedMachine) -> Result<Shared, AllocError>
+pub fn share(alloc: Global, script: &Script, made: OwnedMachine) -> Result<Shared, AllocError>
     requires within { IsWithinLimits script.now }
     requires first { IsFirstState script.now.desc made }
     ensures ready { IfOk result (λ s. IsReady script.now s) }

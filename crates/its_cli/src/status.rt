@@ -21,4 +21,8 @@ pub enum Status {
     Spent = 8,
     /// The input is too long.
     TooLong = 9,
+    /// The report is that of no run of its script.
+    TraceDiffers = 10,
+    /// What follows the script is no report.
+    BadTrace = 11,
 }

@@ -54,21 +54,23 @@ pub fn script(alloc: Global, parts: &[&str]) -> Result<String, AllocError> {
     Ok(text)
 }
 
-/// The words of `its`, and one more.
-pub fn words(alloc: Global, second: &str) -> Result<Vec<String>, AllocError> {
+/// The words of a command line, between spaces.
+pub fn words(alloc: Global, line: &str) -> Result<Vec<String>, AllocError> {
     let mut words = Vec::new(alloc);
-    words.push(String::from_str(alloc, "its")?)?;
-    words.push(String::from_str(alloc, second)?)?;
+    for word in line.split(' ') {
+        words.push(String::from_str(alloc, word)?)?;
+    }
     Ok(words)
 }
 
-/// How the run of a script ends, and the sink with what it printed.
-pub fn run<R: Threads + Wait + Sync>(
+/// How the command of a line ends, and the sink with what it printed.
+pub fn answer<R: Threads + Wait + Sync>(
     rt: &R,
     alloc: Global,
+    line: &str,
     input: &[u8],
 ) -> Option<(Status, SureSink)> {
-    let words = words(alloc, "run").ok()?;
+    let words = words(alloc, line).ok()?;
     let mut source = SureSource::new(alloc, input).ok()?;
     let mut sink = SureSink::new(alloc, 32_768).ok()?;
     let status = its(rt, alloc, &words, &mut source, &mut sink, &Open);
@@ -101,7 +103,7 @@ pub fn tells<R: Threads + Wait + Sync>(
     end: &str,
 ) -> Option<bool> {
     let input = script(alloc, parts).ok()?;
-    let (ended, sink) = run(rt, alloc, input.as_bytes())?;
+    let (ended, sink) = answer(rt, alloc, "its run", input.as_bytes())?;
     let printed = str::from_utf8(sink.bytes()?).ok()?;
     let told = told(alloc, printed).ok()?;
     Some(ended == status && told.ends_with(end))

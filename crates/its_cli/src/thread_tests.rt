@@ -104,7 +104,7 @@ fn run<R: Threads + Wait + Sync, G: Gate + Sync>(
     for part in parts {
         text.push_str(part)?;
     }
-    let words = words(alloc, "run")?;
+    let words = words(alloc, "its run")?;
     let mut source = SureSource::new(alloc, text.as_bytes())?;
     let mut sink = SureSink::new(alloc, 4_194_304)?;
     let status = its(rt, alloc, &words, &mut source, &mut sink, gate);

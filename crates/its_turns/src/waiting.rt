@@ -4,7 +4,7 @@ use std::thread;
 
 /// Waits a little, as after a commit that lost.
 pub fn pause() {
-    for _ in 0..32 {
+    for _ in 0..256 {
         spin_loop();
     }
 }

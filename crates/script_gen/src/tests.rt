@@ -36,54 +36,36 @@ fn signals_and_steps(script: &Script) -> (usize, usize) {
     (signals, steps)
 }
 
-#[test]
-fn twenty_signals(rt: HostRuntime) -> Result<(), Fail> {
-    let script = generate(rt.alloc(), 20, 1)?;
-    assert_eq!(rt; script.legs.len(), 2);
-    assert_eq!(rt; signals_and_steps(&script), (20, 71));
+fn write_call(off: u32, size: u8, value: u64) -> Call {
+    Call::WriteReg {
+        its: 0,
+        off,
+        size,
+        value,
+    }
+}
+
+// Registers, and then MAPC of collection 0.
+fn first_calls() -> [Call; 7] {
     let mut mapc = [0; 32];
     mapc[0] = 0x09;
     mapc[23] = 0x80;
-    let calls = [
-        Call::WriteReg {
-            its: 0,
-            off: 0x100,
-            size: 8,
-            value: 0x8107_0000_8000_0200,
-        },
-        Call::WriteReg {
-            its: 0,
-            off: 0x108,
-            size: 8,
-            value: 0x8407_0000_8001_0200,
-        },
-        Call::WriteReg {
-            its: 0,
-            off: 0x80,
-            size: 8,
-            value: 0x8000_0000_8002_0000,
-        },
-        Call::WriteReg {
-            its: 0,
-            off: 0x0,
-            size: 4,
-            value: 1,
-        },
+    [
+        write_call(0x100, 8, 0x8107_0000_8000_0200),
+        write_call(0x108, 8, 0x8407_0000_8001_0200),
+        write_call(0x80, 8, 0x8000_0000_8002_0000),
+        write_call(0x0, 4, 1),
         Call::Poke {
             addr: Addr(0x8002_0000),
             bytes: Bytes64::new(&mapc),
         },
-        Call::WriteReg {
-            its: 0,
-            off: 0x88,
-            size: 8,
-            value: 0x20,
-        },
+        write_call(0x88, 8, 0x20),
         Call::Step { its: 0 },
-    ];
-    for (k, call) in calls.iter().enumerate() {
-        assert_eq!(rt; call_at(&script, 0, 0, k), Some(*call), "call {k}");
-    }
+    ]
+}
+
+// MAPD of device 1, the fifth command.
+fn mapd_call() -> Call {
     let mut mapd = [0; 32];
     mapd[0] = 0x08;
     mapd[4] = 0x01;
@@ -91,11 +73,21 @@ fn twenty_signals(rt: HostRuntime) -> Result<(), Fail> {
     mapd[18] = 0x0c;
     mapd[19] = 0x80;
     mapd[23] = 0x80;
-    let put = Call::Poke {
+    Call::Poke {
         addr: Addr(0x8002_0080),
         bytes: Bytes64::new(&mapd),
-    };
-    assert_eq!(rt; call_at(&script, 0, 0, 16), Some(put));
+    }
+}
+
+#[test]
+fn twenty_signals(rt: HostRuntime) -> Result<(), Fail> {
+    let script = generate(rt.alloc(), 20, 1)?;
+    assert_eq!(rt; script.legs.len(), 2);
+    assert_eq!(rt; signals_and_steps(&script), (20, 71));
+    for (k, call) in first_calls().iter().enumerate() {
+        assert_eq!(rt; call_at(&script, 0, 0, k), Some(*call), "call {k}");
+    }
+    assert_eq!(rt; call_at(&script, 0, 0, 16), Some(mapd_call()));
     let last = Call::Signal {
         its: 0,
         dev: DeviceId(1),

@@ -1,18 +1,13 @@
 -- The legs of a report, one after another.
 use Rattle.std.proofs.Common.{◌≡◌, ℕ, zero, suc, ◌+◌, ◌<◌, ◌≤◌, List, [], ◌∷◌, length, drop, get_or, Some, refl, sym, ap, subst, ◌∙◌, inl, inr, arith}
-use Rattle.std.proofs.lemmas.List.{drop_more, drop_all, length-map, length-drop}
+use Rattle.std.proofs.lemmas.List.{drop_more, drop_all, get_or_read, length-map, length-drop}
 use Rattle.its_plain.specs.Plain.{Plain}
-use Rattle.its_plain.specs.declared.layout.Layout.{Layout}
 use Rattle.its_plain.specs.Answer.{answer}
 use Rattle.its_plain.specs.History.{after}
 use Rattle.its_plain.specs.Regions.{savable}
 use Rattle.its_plain.specs.Runs.{Leg, IsLegRun}
 use Rattle.its_plain.specs.Saved.{IsSavable, moved, saved, reloaded}
-use Rattle.its_plain.specs.Sound.{IsSound}
 use Rattle.its_plain.specs.declared.call.Entry.{Entry}
-use Rattle.plain_soundness.proofs.Answers.{calls_keep, histories_keep}
-use Rattle.plain_soundness.proofs.Migrated.{migrations_keep}
-use Rattle.plain_footprint.proofs.OtherParts.{layout_is}
 use Rattle.its_history.specs.Histories.{Seat, history_lines}
 use Rattle.its_history.specs.ReadBack.{ArePlaced, HasLegShape, HasShape}
 use Rattle.its_history.specs.Reading.{end_of}
@@ -27,15 +22,13 @@ use Rattle.trace_check.specs.declared.verdict.Difference.{Difference}
 use Rattle.trace_check.specs.declared.verdict.Verdict.{Verdict}
 use Rattle.trace_check.specs.declared.verdict.Verdict.TheVariants.{Agrees, Differs}
 use Rattle.trace_check.proofs.Exact.{exact_from}
+use Rattle.trace_check.proofs.Redistributors.{answer_many}
 
 -- ---- how many virtual processors there are
 
-after_layout : (u : Plain) (h : List Entry) → IsSound u → (after u h).layout ≡ u.layout
-after_layout u [] s = refl
-after_layout u (e ∷ h) s = after_layout (answer u e.call).1 h (calls_keep u e.call s) ∙ sym (layout_is u e.call s)
-
-pub after_vcpus : (u : Plain) (h : List Entry) → IsSound u → length (after u h).redistributors ≡ length u.redistributors
-after_vcpus u h s = (histories_keep u h s).vcpus ∙ (ap (λ (l : Layout). l.shape.vcpus) (after_layout u h s) ∙ sym s.vcpus)
+pub after_vcpus : (u : Plain) (h : List Entry) → length (after u h).redistributors ≡ length u.redistributors
+after_vcpus u [] = refl
+after_vcpus u (e ∷ h) = after_vcpus (answer u e.call).1 h ∙ answer_many u e.call
 
 moved_vcpus : (u : Plain) → length (moved u).redistributors ≡ length u.redistributors
 unfolding moved
@@ -131,22 +124,39 @@ ends n u w leg t h run right (Differs d) later = absurd later
 
 -- whatever is right of the legs from the i-th on is right of all
 pub record Checking (first : Plain) (legs : List Leg) (told : List LegLines) (i : ℕ) (u : Plain) : Type 0 where
-  pub sound : IsSound u
   pub vcpus : length u.redistributors ≡ length first.redistributors
   pub long : length told ≡ length legs
   pub shape : HasShape (length first.redistributors) (length (drop i legs)) (drop i told)
   pub goes : (v : Verdict) → IsVerdictFrom (i + 1) u (drop i legs) (drop i told) v → IsVerdictFrom 1 first legs told v
 
-pub checking_none : (first : Plain) (legs : List Leg) (told : List LegLines) → IsSound first → HasShape (length first.redistributors) (length legs) told → Checking first legs told 0 first
-checking_none first legs told sound shape = record {
-  sound = sound;
+pub checking_none : (first : Plain) (legs : List Leg) (told : List LegLines) → HasShape (length first.redistributors) (length legs) told → Checking first legs told 0 first
+checking_none first legs told shape = record {
   vcpus = refl;
   long = shape_long (length first.redistributors) (length legs) told shape;
   shape = shape;
   goes = λ v h. h;
 }
 
-module _ (first : Plain) (legs : List Leg) (told : List LegLines) (i : ℕ) (u : Plain) (leg : Leg) (t : LegLines) (c : Checking first legs told i u) (lt : i < length legs) (leg_at : leg ≡ get_or legs i leg) (t_at : t ≡ get_or told i t) where
+-- the leg and its lines, as the program has them in hand
+pub record InHand (legs : List Leg) (told : List LegLines) (i : ℕ) (leg : Leg) (t : LegLines) : Type 0 where
+  pub below : i < length legs
+  pub item : Leg
+  pub leg_is : leg ≡ item
+  pub item_at : item ≡ get_or legs i item
+  pub lists : List LegLines
+  pub lists_are : lists ≡ told
+  pub lines_at : t ≡ get_or lists i t
+
+module _ (first : Plain) (legs : List Leg) (told : List LegLines) (i : ℕ) (u : Plain) (leg : Leg) (t : LegLines) (c : Checking first legs told i u) (has : InHand legs told i leg t) where
+  lt : i < length legs
+  lt = has.below
+
+  leg_at : leg ≡ get_or legs i leg
+  leg_at = has.leg_is ∙ get_or_read legs i has.item lt has.item_at leg
+
+  t_at : t ≡ get_or told i t
+  t_at = subst (λ (ts : List LegLines). t ≡ get_or ts i t) has.lists_are has.lines_at
+
   abbrev rest : List Leg
   rest = drop (i + 1) legs
 
@@ -194,8 +204,7 @@ module _ (first : Plain) (legs : List Leg) (told : List LegLines) (i : ℕ) (u :
       let a = right.are_entries in
       let now : x ≡ moved (after u a.history) = m.now ∙ ap moved a.now_is in
       record {
-        sound = subst IsSound (sym now) (migrations_keep (after u a.history) (histories_keep u a.history c.sound));
-        vcpus = ap (λ (z : Plain). length z.redistributors) now ∙ (moved_vcpus (after u a.history) ∙ (after_vcpus u a.history c.sound ∙ c.vcpus));
+        vcpus = ap (λ (z : Plain). length z.redistributors) now ∙ (moved_vcpus (after u a.history) ∙ (after_vcpus u a.history ∙ c.vcpus));
         long = c.long;
         shape = both.1;
         goes = λ v h. whole v (goes_on (i + 1) u x leg t a.history a.is_run (subst IsSavable a.now_is m.is_savable) now (told_is u leg t w Migrated right (end_migrated more)) rest later v (omega (arith, rest_long, more)) h);
@@ -208,8 +217,7 @@ module _ (first : Plain) (legs : List Leg) (told : List LegLines) (i : ℕ) (u :
       let gone : later ≡ [] = drop_all (i + 1) told (omega (arith, le, c.long)) in
       let done : t.end ≡ Some Done = both.0.end_is ∙ ap (λ (l : List Leg). Some (end_of (length l))) none in
       record {
-        sound = subst IsSound (sym a.now_is) (histories_keep u a.history c.sound);
-        vcpus = ap (λ (z : Plain). length z.redistributors) a.now_is ∙ (after_vcpus u a.history c.sound ∙ c.vcpus);
+        vcpus = ap (λ (z : Plain). length z.redistributors) a.now_is ∙ (after_vcpus u a.history ∙ c.vcpus);
         long = c.long;
         shape = both.1;
         goes = λ v h. whole v (subst (λ (p : List Leg × List LegLines). IsVerdictFrom (i + 1) u (leg ∷ p.0) (t ∷ p.1) v) (λ j. (sym none j, sym gone j))

@@ -7,6 +7,7 @@ use Rattle.its_plain.specs.History.{after}
 use Rattle.its_plain.specs.Regions.{savable}
 use Rattle.its_plain.specs.Runs.{Leg, IsLegRun, IsPartOfLegRun}
 use Rattle.its_plain.specs.Saved.{IsSavable, moved}
+use Rattle.its_plain.specs.declared.call.Call.{Call}
 use Rattle.its_plain.specs.declared.call.Entry.{Entry}
 use Rattle.its_history.specs.Histories.{Seat, history_lines, entry_line}
 use Rattle.its_history.specs.Reports.{ended, reported}
@@ -22,7 +23,13 @@ use Rattle.trace_check.specs.declared.verdict.Difference.{Difference}
 use Rattle.trace_check.proofs.Lists.{head_is, tail_is, legal_front, legal_reply}
 use Rattle.trace_check.proofs.Parts.{part_front, whole_part, leg_over}
 use Rattle.trace_check.proofs.Going.{IsAt, IsSettled, at_first, at_opened, opened_settled, at_taken, settled_settled}
-use Rattle.trace_check.proofs.Following.{has_next}
+use Rattle.trace_check.proofs.Following.{HasNext, has_next}
+
+same_thread : (m n number : ℕ) → ◌≡◌ {A = Seat} (number, suc m) (number, suc n) → m ≡ n
+same_thread m n number e = (let next : suc m ≡ suc n = ap (λ (s : Seat). s.1) e in omega arith)
+
+same_call : (c d : Call) → Some c ≡ Some d → c ≡ d
+same_call c d e = cc e
 
 module _ (first : Plain) (leg : Leg) where
   abbrev seats : ℕ → Seat
@@ -38,14 +45,12 @@ module _ (first : Plain) (leg : Leg) where
 
   same_entry : (pre : List Entry) (p : Progress) → IsAt leg pre p → IsSettled p → (x y : Entry) → MayFollow first leg pre x → MayFollow first leg pre y → seat leg y.pass ≡ seat leg x.pass → y ≡ x
   same_entry pre p a settled x y mx my same =
-      let n = has_next leg pre p a settled x mx.calls in
-      let m = has_next leg pre p a settled y my.calls in
+      let n : HasNext leg pre p a x = has_next leg pre p a settled x mx.calls in
+      let m : HasNext leg pre p a y = has_next leg pre p a settled y my.calls in
       let places : (p.number, suc m.thread) ≡ (p.number, suc n.thread) = sym m.seat_is ∙ (same ∙ n.seat_is) in
-      let threads : suc m.thread ≡ suc n.thread = ap (λ (s : Seat). s.1) places in
-      let thread : m.thread ≡ n.thread = omega arith in
+      let thread : m.thread ≡ n.thread = same_thread m.thread n.thread p.number places in
       let pass : y.pass ≡ x.pass = m.pass ∙ (ap (λ k. suc a.base + k) thread ∙ sym n.pass) in
-      let found : Some y.call ≡ Some x.call = sym m.call ∙ (ap (call_of (threads_of p.phases) p.answered) thread ∙ n.call) in
-      let call : y.call ≡ x.call = cc found in
+      let call : y.call ≡ x.call = same_call y.call x.call (sym m.call ∙ (ap (call_of (threads_of p.phases) p.answered) thread ∙ n.call)) in
       let reply : y.reply ≡ x.reply = legal_reply first pre y [] my.legal ∙ (ap (λ c. (answer (after first pre) c).0) call ∙ sym (legal_reply first pre x [] mx.legal)) in
       λ d. record { pass = pass d; call = call d; reply = reply d }
 

@@ -104,13 +104,16 @@ next_means p phase (suc t) i c e =
     of_thread k None same = absurd (cc same)
     of_thread k (Some x) same = let pair : (k, x) ≡ (i, c) = cc same in (ap (λ (q : ℕ × Call). q.0) pair, ap (λ (q : ℕ × Call). Some q.1) pair)
 
+no_such : {A : Type 0} (x : A) → None ≡ Some x → ⊥
+no_such x e = cc e
+
 -- where there is none, no entry of the thread may follow
 pub none_follows : (leg : Leg) (h : List Entry) (p : Progress) → (a : IsAt leg h p) → IsSettled p → (phase thread : ℕ) → next_call p phase thread ≡ None → (e : Entry) → seat leg e.pass ≡ (phase, thread) → ArePartOfPhases 1 leg (h ++ e ∷ []) → ⊥
 none_follows leg h p a left phase thread none e here part =
     let n = has_next leg h p a left e part in
     let same : (phase, thread) ≡ (p.number, suc n.thread) = sym here ∙ n.seat_is in
-    let is : next_call p phase thread ≡ Some (n.thread, e.call) = ap (λ (s : Seat). next_call p s.0 s.1) same ∙ next_is p n.thread e.call n.call in
-    absurd (let z : None ≡ Some (n.thread, e.call) = sym none ∙ is in cc z)
+    let found : next_call p phase thread ≡ Some (n.thread, e.call) = ap (λ (s : Seat). next_call p s.0 s.1) same ∙ next_is p n.thread e.call n.call in
+    no_such (n.thread, e.call) (sym none ∙ found)
 
 -- ---- the entry of a call that is next
 

@@ -7,4 +7,5 @@ pub mod Exact
 pub mod Counting
 pub mod Entries
 pub mod Texts
+pub mod Redistributors
 pub mod Checked

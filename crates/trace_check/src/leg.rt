@@ -1,6 +1,5 @@
 //! One leg of a report.
 ghost use Rattle.std.specs.Prelude.{◌≡◌, IfOk, IfSome, IfNone, length};
-ghost use Rattle.its_plain.specs.Sound.{IsSound};
 ghost use Rattle.its_history.specs.ReadBack.{ArePlaced};
 ghost use Rattle.trace_check.specs.Differences.{IsHere};
 ghost use Rattle.trace_check.specs.Steps.{AreEntries, EntriesDiffer, IsLegRight};
@@ -22,7 +21,6 @@ pub fn check_leg(
     leg: &[Phase],
     told: &Leg,
 ) -> Result<Option<Difference>, AllocError>
-    requires sound { IsSound machine.old }
     requires placed { ArePlaced 0 told.now.entries }
     requires vcpus { length told.now.pending ≡ length machine.old.redistributors }
     ensures right { IfOk result (λ r.

@@ -1,6 +1,5 @@
 //! All legs of a report.
 ghost use Rattle.std.specs.Prelude.{◌≡◌, IfOk, IfSome, IfNone, length};
-ghost use Rattle.its_plain.specs.Sound.{IsSound};
 ghost use Rattle.its_history.specs.ReadBack.{HasShape};
 ghost use Rattle.trace_check.specs.Differences.{IsDifference};
 ghost use Rattle.trace_check.specs.Steps.{IsMigrated, IsFault};
@@ -23,8 +22,7 @@ pub fn check(
     legs: &[Leg],
     trace: &Trace,
 ) -> Result<Verdict, AllocError>
-    requires sound { IsSound machine }
-    requires shape { HasShape (length machine.redistributors) (length legs.now) trace.now.legs }
+    requires { HasShape (length machine.redistributors) (length legs.now) trace.now.legs }
     ensures agrees { IfOk result (λ v.
         IfAgrees v (IsReportOfRun machine legs.now trace.now.legs)) }
     ensures differs { IfOk result (λ v.

@@ -9,7 +9,7 @@ pub check_pending-requires : goal.check_pending-requires
 check_pending-requires c =
     let u = c.args.machine.now in let t = c.args.told.now in
     let a : AreEntries u c.args.leg.now c.as_slice-entries.result.now c.check_entries.new.machine = rw c.in_default.is at c.in_ok-difference.ensures.right in
-    ap length c.as_slice.ensures ∙ (c.requires.vcpus ∙ (sym (after_vcpus u a.history c.requires.sound) ∙ ap (λ (x : Plain). length x.redistributors) (sym a.now_is)))
+    ap length c.as_slice.ensures ∙ (c.requires.vcpus ∙ (sym (after_vcpus u a.history) ∙ ap (λ (x : Plain). length x.redistributors) (sym a.now_is)))
 
 pub returns-in-Some-2-clause-wrong : goal.returns-in-Some-2-clause-wrong
 returns-in-Some-2-clause-wrong c =

@@ -1,0 +1,127 @@
+//! Threads that make calls, and keep what they are answered.
+ghost use Rattle.std.specs.List.{AllByRecursion};
+ghost use Rattle.its_bench.specs.Ready.{IsReady};
+
+use crate::asks::{Ask, Made, make};
+use its_plain::Reply;
+use its_turns::{Machine, Pass};
+use its_types::Placed;
+use std::alloc::{AllocError, Global};
+use std::sync::Wait;
+use std::sync::atomic::{AtomicU64, Ordering};
+use std::thread;
+use std::thread::Threads;
+
+/// A thread's pass and calls, and the replies to those that were made.
+#[derive(Drop)]
+pub struct Actor {
+    pub pass: Pass,
+    pub asks: Vec<Ask>,
+    pub done: Vec<Placed<Reply>>,
+    /// How many signals the cache alone translated.
+    pub hits: u64,
+}
+
+impl Actor {
+    ghost use Rattle.std.specs.Prelude.{◌≡◌, IfOk};
+
+    /// One that made no call. All memory for replies is taken here.
+    pub fn new(alloc: Global, pass: Pass, asks: Vec<Ask>) -> Result<Actor, AllocError>
+        ensures { IfOk result (λ a. a.pass ≡ pass) }
+    {
+        let done = Vec::with_capacity(alloc, asks.len())?;
+        Ok(Actor {
+            pass,
+            asks,
+            done,
+            hits: 0,
+        })
+    }
+}
+
+/// Makes calls in order, up to the first that isn't made, and answers how many were hits.
+pub fn make_all<R: Wait>(
+    rt: &R,
+    machine: &Machine,
+    pass: &mut Pass,
+    asks: &[Ask],
+    done: &mut Vec<Placed<Reply>>,
+) -> u64
+    requires { IsReady machine.now pass.old }
+    ensures { IsReady machine.now pass.new }
+{
+    let mut hits = 0u64;
+    for each in asks {
+        let Some(Made { placed, hit }) = make(rt, machine, pass, each) else {
+            return hits;
+        };
+        hits = hits.wrapping_add(u64::from(hit));
+        if done.push(placed).is_err() {
+            return hits;
+        }
+    }
+    hits
+}
+
+/// Makes an actor's calls.
+pub fn act<R: Wait>(rt: &R, machine: &Machine, actor: &mut Actor)
+    requires { IsReady machine.now actor.old.pass }
+    ensures { IsReady machine.now actor.new.pass }
+{
+    actor.hits = make_all(
+        rt,
+        machine,
+        &mut actor.pass,
+        actor.asks.as_slice(),
+        &mut actor.done,
+    );
+}
+
+// How often a thread looks whether the others have begun: without end it could wait for one that
+// can't be started.
+const LOOKS: u32 = 100_000;
+
+// Where threads meet before they begin.
+#[derive(Drop)]
+struct Meeting {
+    threads: u64,
+    arrived: AtomicU64,
+}
+
+impl Meeting {
+    // Waits until all threads have come here, or long enough.
+    fn wait(&self) {
+        self.arrived.fetch_add(1, Ordering::SeqCst);
+        for _ in 0..LOOKS {
+            if self.arrived.load(Ordering::SeqCst) >= self.threads {
+                return;
+            }
+            thread::yield_now();
+        }
+    }
+}
+
+// Makes an actor's calls, once the other threads are there.
+fn meet_and_act<R: Wait>(rt: &R, machine: &Machine, actor: &mut Actor, meeting: &Meeting)
+    requires { IsReady machine.now actor.old.pass }
+{
+    meeting.wait();
+    act(rt, machine, actor);
+}
+
+/// Has all actors make their calls, each in a thread of its own where one can be started.
+pub fn act_all<R: Threads + Wait + Sync>(rt: &R, machine: &Machine, actors: &mut [Actor])
+    requires { AllByRecursion (λ a. IsReady machine.now a.pass) actors.old }
+{
+    let threads = actors.len().max(1);
+    let meeting = Meeting {
+        threads: threads as u64,
+        arrived: AtomicU64::new(0),
+    };
+    thread::for_each_mut(
+        rt,
+        actors,
+        threads,
+        &|_, actor| { meet_and_act(rt, machine, actor, &meeting) },
+    );
+}

@@ -1,0 +1,129 @@
+//! The guest's side of the command queue, and what it maps.
+ghost use Rattle.std.specs.Prelude.{◌≤◌};
+
+use crate::asks::Ask;
+use its_command::{Command, EventIdBits, IttAddr, RdBase, encode};
+use its_plain::Bytes64;
+use its_types::{Addr, DeviceId, EventId, Icid, Intid, Vcpu};
+use std::alloc::AllocError;
+
+const QUEUE: u64 = 0x8002_0000;
+
+// 16 pages of 4 KiB.
+const QUEUE_BYTES: u64 = 0x1_0000;
+
+// The interrupt translation table of the device that has one of 512 KiB.
+const WIDE_TABLE: u64 = 0x8010_0000;
+
+// That of the others, 4 KiB apart.
+const TABLES: u64 = 0x800c_0000;
+
+/// Where the guest writes its next command.
+#[derive(Clone, Copy)]
+pub struct Queue {
+    place: u64,
+}
+
+impl Queue {
+    /// An empty queue.
+    pub fn new() -> Queue {
+        Queue { place: 0 }
+    }
+
+    /// Writes a command into the queue. There are at most 2,047 that were not taken.
+    pub fn write(&mut self, asks: &mut Vec<Ask>, command: &Command) -> Result<(), AllocError> {
+        let place = self.place % QUEUE_BYTES;
+        asks.push(Ask::Poke {
+            addr: Addr(QUEUE + place),
+            bytes: Bytes64::new(&encode(command)),
+        })?;
+        self.place = (place + 32) % QUEUE_BYTES;
+        Ok(())
+    }
+
+    /// Tells the translator how far the queue is written.
+    pub fn tell(&self, asks: &mut Vec<Ask>) -> Result<(), AllocError> {
+        asks.push(Ask::Write {
+            off: 0x88,
+            size: 8,
+            value: self.place,
+        })?;
+        Ok(())
+    }
+
+    /// Has the translator carry a command out.
+    pub fn run(&mut self, asks: &mut Vec<Ask>, command: &Command) -> Result<(), AllocError> {
+        self.write(asks, command)?;
+        self.tell(asks)?;
+        asks.push(Ask::Step)?;
+        Ok(())
+    }
+}
+
+/// Turns the translator on or off.
+pub fn enable(asks: &mut Vec<Ask>, on: bool) -> Result<(), AllocError> {
+    asks.push(Ask::Write {
+        off: 0x0,
+        size: 4,
+        value: u64::from(on),
+    })?;
+    Ok(())
+}
+
+/// Gives the translator its queue and its tables of devices and collections, and turns it on.
+pub fn begin(asks: &mut Vec<Ask>) -> Result<(), AllocError> {
+    for (off, value) in [
+        (0x80, 0x8000_0000_8002_000f),
+        (0x100, 0x8107_0000_8000_0200),
+        (0x108, 0x8407_0000_8001_0200),
+    ] {
+        asks.push(Ask::Write {
+            off,
+            size: 8,
+            value,
+        })?;
+    }
+    enable(asks, true)
+}
+
+/// Maps a collection to a virtual processor.
+pub fn mapc(icid: u16, vcpu: Vcpu) -> Command {
+    Command::Mapc {
+        icid: Icid(icid),
+        target: RdBase::new(u64::from(vcpu.0)),
+        valid: true,
+    }
+}
+
+/// Maps a device whose EventIDs have so many bits to the large table.
+pub fn mapd_wide(dev: DeviceId, bits: u8) -> Command
+    requires least { 1 ≤ bits }
+    requires most { bits ≤ 16 }
+{
+    Command::Mapd {
+        dev,
+        bits: EventIdBits::new(bits),
+        itt: IttAddr::new(WIDE_TABLE),
+        valid: true,
+    }
+}
+
+/// Maps a device with 16 events to a table of its own, which has this number.
+pub fn mapd(dev: DeviceId, table: u8) -> Command {
+    Command::Mapd {
+        dev,
+        bits: EventIdBits::new(4),
+        itt: IttAddr::new(TABLES + 0x1000 * u64::from(table)),
+        valid: true,
+    }
+}
+
+/// Maps an event.
+pub fn mapti(dev: DeviceId, ev: EventId, intid: Intid, icid: u16) -> Command {
+    Command::Mapti {
+        dev,
+        ev,
+        intid,
+        icid: Icid(icid),
+    }
+}

@@ -1,0 +1,32 @@
+//! How long calls took.
+use std::io;
+use std::time::{Clock, Duration, Instant};
+
+/// So many calls, and how long they took.
+#[derive(Clone, Copy)]
+pub struct Lap {
+    pub calls: u64,
+    pub spent: Duration,
+}
+
+impl Lap {
+    /// No calls.
+    pub fn new() -> Lap {
+        Lap {
+            calls: 0,
+            spent: Duration::ZERO,
+        }
+    }
+
+    /// With calls that were made since an instant.
+    pub fn add<R: Clock>(&mut self, rt: &R, since: &Instant, calls: u64) -> io::Result<()> {
+        self.spent = self.spent.saturating_add(since.elapsed(rt)?);
+        self.calls = self.calls.wrapping_add(calls);
+        Ok(())
+    }
+
+    /// How many tenths of a nanosecond a call took.
+    pub fn tenths(&self) -> u128 {
+        self.spent.as_nanos().saturating_mul(10) / u128::from(self.calls.max(1))
+    }
+}

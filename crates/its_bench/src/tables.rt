@@ -1,0 +1,266 @@
+//! A device with many events: signals by the maps, acknowledgements, steps, saves, migrations.
+ghost use Rattle.std.specs.Prelude.{◌≤◌, IfOk};
+ghost use Rattle.its_migrate.specs.Resting.{HasItsLayout};
+ghost use Rattle.its_bench.specs.Ready.{IsReady, IsRoot};
+
+use crate::actors::make_all;
+use crate::asks::Ask;
+use crate::guest::{Queue, begin, enable, mapc, mapd_wide, mapti};
+use crate::measure::Lap;
+use crate::shared::{shared, split};
+use crate::signals::signals;
+use cmd_engine::step;
+use its_migrate::{migrate, save};
+use its_plain::{Ack, StepReply};
+use its_turns::{Machine, Pass, Root};
+use its_types::{DeviceId, EventId, Intid, Open, Placed, Vcpu};
+use redist_ack::take;
+use std::alloc::{AllocError, Global};
+use std::io;
+use std::sync::Wait;
+use std::time::{Clock, Instant};
+
+const DEVICE: DeviceId = DeviceId(7);
+
+const TARGET: Vcpu = Vcpu(0);
+
+// How many LPIs there are.
+const LPIS: u32 = 57_344;
+
+// The most commands that are queued at once.
+const BATCH: u32 = 1024;
+
+/// A machine with a device whose EventIDs have so many bits, and none of whose events is mapped,
+/// with its root, a pass and its queue.
+fn with_device<R: Wait>(
+    rt: &R,
+    alloc: Global,
+    bits: u8,
+) -> Result<(Machine, Root, Pass, Queue), AllocError>
+    requires least { 1 ≤ bits }
+    requires most { bits ≤ 16 }
+    ensures root { IfOk result (λ m. IsRoot m.0 m.1) }
+    ensures layout { IfOk result (λ m. HasItsLayout m.0) }
+    ensures pass { IfOk result (λ m. IsReady m.0 m.2) }
+{
+    let (machine, mut root) = shared(alloc, 16_777_215)?;
+    let mut pass = split(&machine, &mut root);
+    let mut asks = Vec::new(alloc);
+    let mut done = Vec::new(alloc);
+    let mut queue = Queue::new();
+    begin(&mut asks)?;
+    queue.run(&mut asks, &mapc(1, TARGET))?;
+    queue.run(&mut asks, &mapd_wide(DEVICE, bits))?;
+    make_all(rt, &machine, &mut pass, asks.as_slice(), &mut done);
+    Ok((machine, root, pass, queue))
+}
+
+// Steps, so many. Answers how many commands ran.
+fn steps<R: Wait>(rt: &R, machine: &Machine, pass: &mut Pass, count: u32) -> u64
+    requires { IsReady machine.now pass.old }
+    ensures { IsReady machine.now pass.new }
+{
+    let mut ran = 0u64;
+    for _ in 0..count {
+        if let Ok(
+            Placed {
+                reply: StepReply::Ran(_),
+                ..
+            },
+        ) = step(rt, machine, pass, &Open)
+        {
+            ran = ran.wrapping_add(1);
+        }
+    }
+    ran
+}
+
+// Maps so many events, from the first on, and answers how long the steps took.
+fn map_events<R: Clock + Wait>(
+    rt: &R,
+    alloc: Global,
+    machine: &Machine,
+    pass: &mut Pass,
+    queue: &mut Queue,
+    events: u32,
+) -> io::Result<Lap>
+    requires { IsReady machine.now pass.old }
+    ensures { IfOk result (λ _. IsReady machine.now pass.new) }
+{
+    let mut lap = Lap::new();
+    let mut asks = Vec::new(alloc);
+    let mut done = Vec::new(alloc);
+    let mut queued = 0u32;
+    for ev in 0..events {
+        let intid = Intid(8192 + ev % LPIS);
+        queue.write(&mut asks, &mapti(DEVICE, EventId(ev), intid, 1))?;
+        queued = queued.wrapping_add(1);
+        if queued == BATCH || ev == events - 1 {
+            queue.tell(&mut asks)?;
+            make_all(rt, machine, pass, asks.as_slice(), &mut done);
+            let since = Instant::now(rt)?;
+            let ran = steps(rt, machine, pass, queued);
+            lap.add(rt, &since, ran)?;
+            asks.clear();
+            done.clear();
+            queued = 0;
+        }
+    }
+    Ok(lap)
+}
+
+// A machine whose device has so many EventID bits, and as many events as these allow, with its
+// root, a pass and its queue, and how long the steps took that mapped the events.
+fn with_events<R: Clock + Wait>(
+    rt: &R,
+    alloc: Global,
+    bits: u8,
+) -> io::Result<(Machine, Root, Pass, Queue, Lap)>
+    requires least { 1 ≤ bits }
+    requires most { bits ≤ 16 }
+    ensures root { IfOk result (λ m. IsRoot m.0 m.1) }
+    ensures layout { IfOk result (λ m. HasItsLayout m.0) }
+    ensures pass { IfOk result (λ m. IsReady m.0 m.2) }
+{
+    let (machine, root, mut pass, mut queue) = with_device(rt, alloc, bits)?;
+    let events = 1u32 << bits;
+    let lap = map_events(rt, alloc, &machine, &mut pass, &mut queue, events)?;
+    Ok((machine, root, pass, queue, lap))
+}
+
+/// The steps that map as many events as so many bits allow.
+pub fn time_steps<R: Clock + Wait>(rt: &R, alloc: Global, bits: u8) -> io::Result<Lap>
+    requires least { 1 ≤ bits }
+    requires most { bits ≤ 16 }
+{
+    let (_machine, _root, _pass, _queue, lap) = with_events(rt, alloc, bits)?;
+    Ok(lap)
+}
+
+/// So many saves, after one that isn't timed, with as many events mapped as so many bits allow.
+pub fn time_saves<R: Clock + Wait>(rt: &R, alloc: Global, bits: u8, count: u32) -> io::Result<Lap>
+    requires least { 1 ≤ bits }
+    requires most { bits ≤ 16 }
+{
+    let (machine, _root, mut pass, _queue, _) = with_events(rt, alloc, bits)?;
+    saves(rt, alloc, &machine, &mut pass, 1);
+    let mut lap = Lap::new();
+    let since = Instant::now(rt)?;
+    let saved = saves(rt, alloc, &machine, &mut pass, count);
+    lap.add(rt, &since, saved)?;
+    Ok(lap)
+}
+
+// So many saves. Answers how many were made.
+fn saves<R: Wait>(rt: &R, alloc: Global, machine: &Machine, pass: &mut Pass, count: u32) -> u64
+    requires ready { IsReady machine.now pass.old }
+    requires layout { HasItsLayout machine.now }
+    ensures { IsReady machine.now pass.new }
+{
+    let mut saved = 0u64;
+    for _ in 0..count {
+        if let Ok(Placed { reply: Ok(()), .. }) = save(rt, alloc, machine, pass, &Open) {
+            saved = saved.wrapping_add(1);
+        }
+    }
+    saved
+}
+
+/// A migration, with as many events mapped as so many bits allow.
+pub fn time_migration<R: Clock + Wait>(rt: &R, alloc: Global, bits: u8) -> io::Result<Lap>
+    requires least { 1 ≤ bits }
+    requires most { bits ≤ 16 }
+{
+    let (machine, mut root, pass, _queue, _) = with_events(rt, alloc, bits)?;
+    join(&machine, &mut root, pass);
+    let mut lap = Lap::new();
+    let since = Instant::now(rt)?;
+    let calls = migrated(alloc, machine, root);
+    lap.add(rt, &since, calls)?;
+    Ok(lap)
+}
+
+fn join(machine: &Machine, root: &mut Root, pass: Pass)
+    requires root { IsRoot machine.now root.old }
+    requires pass { IsReady machine.now pass }
+    ensures { IsRoot machine.now root.new }
+{
+    root.join(machine, pass);
+}
+
+// How many migrations were made: one or none.
+fn migrated(alloc: Global, machine: Machine, root: Root) -> u64
+    requires root { IsRoot machine root }
+    requires layout { HasItsLayout machine }
+{
+    if root.out() != 0 {
+        return 0;
+    }
+    match migrate(alloc, machine, root) {
+        Ok(_) => 1,
+        Err(_) => 0,
+    }
+}
+
+/// Signals by the maps: every event in turn, and again each time the translator was turned off and
+/// on, so that no translation is current. At least so many.
+pub fn time_misses<R: Clock + Wait>(rt: &R, alloc: Global, bits: u8, count: u32) -> io::Result<Lap>
+    requires least { 1 ≤ bits }
+    requires most { bits ≤ 16 }
+{
+    let (machine, _root, mut pass, _queue, _) = with_events(rt, alloc, bits)?;
+    let events = 1u32 << bits;
+    let mut asks = Vec::new(alloc);
+    let mut done = Vec::new(alloc);
+    enable(&mut asks, false)?;
+    enable(&mut asks, true)?;
+    let mut lap = Lap::new();
+    for _ in 0..count.div_ceil(events) {
+        make_all(rt, &machine, &mut pass, asks.as_slice(), &mut done);
+        done.clear();
+        let since = Instant::now(rt)?;
+        let delivered = signals(rt, &machine, &mut pass, DEVICE, events, events);
+        lap.add(rt, &since, delivered)?;
+    }
+    Ok(lap)
+}
+
+/// Acknowledgements of all events' LPIs, each time they were signalled. At least so many.
+pub fn time_takes<R: Clock + Wait>(rt: &R, alloc: Global, bits: u8, count: u32) -> io::Result<Lap>
+    requires least { 1 ≤ bits }
+    requires most { bits ≤ 15 }
+{
+    let (machine, _root, mut pass, _queue, _) = with_events(rt, alloc, bits)?;
+    let events = 1u32 << bits;
+    let mut lap = Lap::new();
+    for _ in 0..count.div_ceil(events) {
+        signals(rt, &machine, &mut pass, DEVICE, events, events);
+        let since = Instant::now(rt)?;
+        let taken = takes(rt, &machine, &mut pass, events);
+        lap.add(rt, &since, taken)?;
+    }
+    Ok(lap)
+}
+
+// So many acknowledgements. Answers how many found an LPI.
+fn takes<R: Wait>(rt: &R, machine: &Machine, pass: &mut Pass, count: u32) -> u64
+    requires { IsReady machine.now pass.old }
+    ensures { IsReady machine.now pass.new }
+{
+    let mut taken = 0u64;
+    if TARGET.0 >= machine.vcpus() {
+        return taken;
+    }
+    for _ in 0..count {
+        if let Ok(
+            Placed {
+                reply: Ack::Some { .. },
+                ..
+            },
+        ) = take(rt, machine, pass, &Open, TARGET)
+        {
+            taken = taken.wrapping_add(1);
+        }
+    }
+    taken
+}

@@ -1,0 +1,74 @@
+//! What is measured, by name.
+ghost use Rattle.std.specs.Prelude.{◌≤◌};
+
+use crate::measure::Lap;
+use crate::signals::{DEVICES, time_hits, time_signals};
+use crate::tables::{time_migration, time_misses, time_saves, time_steps, time_takes};
+use std::alloc::Global;
+use std::io;
+use std::sync::Wait;
+use std::thread::Threads;
+use std::time::Clock;
+
+/// Calls that are measured.
+#[derive(Clone, Copy)]
+pub enum Times {
+    Hit,
+    Miss,
+    SignalOne,
+    SignalTwoDevices,
+    SignalTwoOne,
+    SignalFourDevices,
+    Take,
+    Step,
+    Save,
+    Migrate,
+}
+
+/// All of them, with their names.
+pub const ALL: [(&str, Times); 10] = [
+    ("hit-1", Times::Hit),
+    ("miss-1", Times::Miss),
+    ("signal-1", Times::SignalOne),
+    ("signal-2-devices", Times::SignalTwoDevices),
+    ("signal-2-one", Times::SignalTwoOne),
+    ("signal-4-devices", Times::SignalFourDevices),
+    ("take-1", Times::Take),
+    ("step", Times::Step),
+    ("save", Times::Save),
+    ("migrate", Times::Migrate),
+];
+
+// A device has at most 65,536 events.
+const MOST_BITS: u32 = 16;
+
+// How many EventID bits a device has, for so many events or somewhat fewer.
+fn event_bits(count: u32) -> u8
+    ensures least { 1 ≤ result }
+    ensures most { result ≤ 16 }
+{
+    count.max(2).ilog2().min(MOST_BITS) as u8
+}
+
+/// Makes calls, and takes the time. Each thread makes so many; of the calls on tables there are as
+/// many events, up to 65,536.
+pub fn time<R: Clock + Threads + Wait + Sync>(
+    rt: &R,
+    alloc: Global,
+    times: Times,
+    count: u32,
+) -> io::Result<Lap> {
+    let bits = event_bits(count);
+    match times {
+        Times::Hit => time_hits(rt, alloc, count),
+        Times::Miss => time_misses(rt, alloc, bits.min(13), count),
+        Times::SignalOne => time_signals(rt, alloc, &DEVICES[..1], count),
+        Times::SignalTwoDevices => time_signals(rt, alloc, &DEVICES[..2], count),
+        Times::SignalTwoOne => time_signals(rt, alloc, &[DEVICES[0], DEVICES[0]], count),
+        Times::SignalFourDevices => time_signals(rt, alloc, &DEVICES, count),
+        Times::Take => time_takes(rt, alloc, bits.min(10), count),
+        Times::Step => time_steps(rt, alloc, bits),
+        Times::Save => time_saves(rt, alloc, bits, 4),
+        Times::Migrate => time_migration(rt, alloc, bits),
+    }
+}

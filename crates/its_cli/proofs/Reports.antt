@@ -1,0 +1,58 @@
+-- A report that was read, and what a check of it came to.
+use Rattle.std.proofs.Common.{◌≡◌, ℕ, List, length, Result, Ok, Err, codes, sym, ap, subst, ◌∙◌}
+use Rattle.its_plain.specs.Described.{IsFirstState}
+use Rattle.its_plain.specs.Plain.{Plain}
+use Rattle.its_plain.specs.Runs.{Leg}
+use Rattle.its_plain.specs.Sound.{IsSound}
+use Rattle.its_plain.specs.declared.layout.Layout.{Layout}
+use Rattle.its_migrate.proofs.Fresh.{first_layout}
+use Rattle.event_script.specs.declared.script.Script.{Script}
+use Rattle.its_history.specs.ReadBack.{HasShape, ReadReportsPrint}
+use Rattle.its_history.specs.Reading.{trace_of}
+use Rattle.its_history.specs.Report.{report_text}
+use Rattle.its_history.specs.Reports.{reported}
+use Rattle.its_history.specs.declared.trace.Leg.{Leg as LegLines}
+use Rattle.trace_check.specs.Differences.{IsDifference}
+use Rattle.trace_check.specs.Verdicts.{IsReportOfRun}
+use Rattle.trace_check.specs.declared.verdict.Difference.{Difference}
+use Rattle.its_cli.specs.Checked.{IsAgreement, IsBadTrace, IsDiffering, read_report}
+use Rattle.its_cli.specs.Refusals.{difference_text, trace_refusal}
+
+module _ (script : Script) (first : Plain) (report : List ℕ) (legs : List Leg) (n : ℕ) (same : legs ≡ script.legs) (count : n ≡ length legs) where
+  abbrev Read : Result (List LegLines) ℕ → Type 0
+  Read r = trace_of n script.desc.shape.vcpus report ≡ r
+
+  read_is : (r : Result (List LegLines) ℕ) → Read r → read_report script report ≡ r
+  read_is r e = ap (λ (k : ℕ). trace_of k script.desc.shape.vcpus report) (sym (count ∙ ap length same)) ∙ e
+
+  -- a check may be made of it
+  pub has_shape : (told : List LegLines) → IsFirstState script.desc first → IsSound first → ReadReportsPrint → Read (Ok told) → HasShape (length first.redistributors) (length legs) told
+  has_shape told starts sound laws read =
+      let shape : HasShape script.desc.shape.vcpus n told = (laws n script.desc.shape.vcpus report told read).shape in
+      let vcpus : length first.redistributors ≡ script.desc.shape.vcpus = sound.vcpus ∙ ap (λ (l : Layout). l.shape.vcpus) (first_layout script.desc first starts) in
+      subst (λ (k : ℕ). HasShape (length first.redistributors) k told) count (subst (λ (v : ℕ). HasShape v n told) (sym vcpus) shape)
+
+  pub agrees : (told : List LegLines) (text : List ℕ) → ReadReportsPrint → Read (Ok told) → IsReportOfRun first legs told → text ≡ codes "agrees\n" → IsAgreement script first report text
+  agrees told text laws read run is =
+      let here : IsReportOfRun first script.legs told = subst (λ (ls : List Leg). IsReportOfRun first ls told) same run in
+      record {
+        histories = here.histories;
+        is_run = here.is_run;
+        read = read_is (Ok told) read ∙ ap (λ (ls : List LegLines). Ok ls) here.told_is;
+        same = sym (laws n script.desc.shape.vcpus report told read).same ∙ ap report_text here.told_is;
+        text_is = is;
+      }
+
+  pub differs : (told : List LegLines) (d : Difference) (text : List ℕ) → Read (Ok told) → IsDifference first legs told d → ¬ IsReportOfRun first legs told → text ≡ difference_text d
+      → IsDiffering script first report text
+  differs told d text read there none is = record {
+    told = told;
+    read = read_is (Ok told) read;
+    none = subst (λ (ls : List Leg). ¬ IsReportOfRun first ls told) same none;
+    difference = d;
+    differs = subst (λ (ls : List Leg). IsDifference first ls told d) same there;
+    text_is = is;
+  }
+
+  pub is_bad : (line : ℕ) (text : List ℕ) → Read (Err line) → text ≡ trace_refusal line → IsBadTrace script first report text
+  is_bad line text read is = record { line = line; read = read_is (Err line) read; text_is = is }

@@ -1,0 +1,57 @@
+-- A run of a script that was made, counted.
+use Rattle.std.proofs.Common.{◌≡◌, ℕ, ◌<◌, ◌^◌, List, [], ◌∷◌, length, map, get_or, Some, None, Ok, Err, refl, sym, ap, subst, ◌∙◌, lit<, arith}
+use Rattle.std.proofs.lemmas.List.{length-map}
+use Rattle.its_types.specs.declared.ids.Intid.{Intid}
+use Rattle.its_plain.specs.Described.{IsFirstState}
+use Rattle.its_plain.specs.History.{after}
+use Rattle.its_plain.specs.Plain.{Plain}
+use Rattle.its_plain.specs.Regions.{savable}
+use Rattle.its_plain.specs.Runs.{Leg, ArePhases, IsLegRun}
+use Rattle.its_plain.specs.declared.call.Entry.{Entry}
+use Rattle.its_plain.specs.declared.fault.SaveFault.{SaveFault}
+use Rattle.event_script.specs.declared.script.Script.{Script}
+use Rattle.its_history.specs.Histories.{seat_of}
+use Rattle.its_history.specs.Merged.{all_lines}
+use Rattle.its_history.specs.Reports.{pending_lists}
+use Rattle.its_history.specs.declared.threads.ThreadList.{ThreadList}
+use Rattle.its_steps.specs.Parts.{Setup}
+use Rattle.its_steps.specs.World.{View, first_view}
+use Rattle.its_turns.specs.Machines.{setup, view}
+use Rattle.its_turns.specs.declared.machine.Machine.{Machine}
+use Rattle.its_turns.specs.declared.machine.Pass.{Pass}
+use Rattle.its_migrate.specs.Resting.{WentOn, pending_at_rest, resting}
+use Rattle.script_threads.specs.Legs.{RanLeg, call_count}
+use Rattle.script_threads.specs.declared.stop.Stop.TheVariants.{Spent}
+use Rattle.script_gen.specs.Description.{description}
+use Rattle.script_gen.specs.Generated.{first_leg, generated}
+use Rattle.script_gen.specs.Laws.{CanMigrate, HasRoom}
+use Rattle.script_gen.specs.Summary.{ListsTellCounts, ListsTellLength, counts_of, none, with_lists}
+use Rattle.script_gen.specs.declared.counts.Counts.{Counts}
+use Rattle.its_cli.specs.Summarized.{IsCounted, IsMade, pending_counts}
+use Rattle.its_cli.proofs.Endings.{not_savable}
+
+-- the script's first leg
+pub first_of : (signals threads : ℕ) (script : Script) (leg phases : Leg) → script ≡ generated signals threads → leg ≡ get_or script.legs 0 leg → phases ≡ leg → phases ≡ first_leg signals threads
+first_of signals threads script leg phases same at is = is ∙ at ∙ ap (λ (s : Script). get_or s.legs 0 leg) same
+
+module _ (signals threads : ℕ) (script : Script) (made : IsMade signals threads script) (s : Setup) (leg : Leg) (lists : List ThreadList) (w : View) (same : leg ≡ first_leg signals threads) where
+  leg_run : RanLeg s leg lists None w → IsLegRun s.start (first_leg signals threads) w.seen
+  leg_run ran = record { legal = ran.legal; calls = subst (λ (l : Leg). ArePhases 1 l w.seen) same (ran.whole refl) }
+
+  -- the state can be saved
+  pub can_be_saved : {X : Type 0} (f : SaveFault) → CanMigrate → IsFirstState script.desc s.start → RanLeg s leg lists None w → savable (after s.start w.seen) ≡ Err f → X
+  can_be_saved f can starts ran refused =
+      not_savable (after s.start w.seen) f refused
+      (can signals threads made.asked s.start w.seen (subst (λ (t : Script). IsFirstState t.desc s.start) made.same starts) (leg_run ran))
+
+-- ---- what is pending
+
+lengths : (lists : List (List Intid)) → map (λ lpis. length lpis) lists ≡ map (λ lpis. length lpis) (map (map (λ i. i.0)) lists)
+lengths [] = refl
+lengths (x ∷ xs) = ap (λ n. n ∷ map (λ (lpis : List Intid). length lpis) xs) (sym (length-map x (λ i. i.0))) ∙ ap (λ rest. length (map (λ (i : Intid). i.0) x) ∷ rest) (lengths xs)
+
+pub pending_are : (lists : List (List Intid)) (m : Machine) (r : Pass) → map (map (λ i. i.0)) lists ≡ pending_at_rest (resting m r) → view r ≡ first_view (setup m)
+    → map (λ lpis. length lpis) lists ≡ pending_counts (setup m).start
+pending_are lists m r told fresh =
+    lengths lists ∙ ap (map (λ lpis. length lpis)) told
+    ∙ ap (λ (v : View). map (λ lpis. length lpis) (pending_at_rest (after (setup m).start v.seen))) fresh

@@ -1,0 +1,119 @@
+-- The words that the parser takes for `its`, and what it makes of them.
+use Rattle.std.proofs.Common.{◌≡◌, ◌∙◌, Bool, true, false, List, [], ◌∷◌, cond, Option, Some, None, refl, sym, ap, ap₂, subst, inl, inr, codes, is_some}
+use Rattle.std.specs.Prelude.{fold}
+use Rattle.std.specs.Str.{bytes_eq}
+use Rattle.std.proofs.lemmas.Slice.Eq.{bytes_eq-Decides}
+use Rattle.clap.specs.Kinds.{Kinds, or_else}
+use Rattle.clap.specs.Simple.{App, built, entered, names_of}
+use Rattle.clap.specs.Walk.{Names, Row, Walk, idle, finished, nothing_held, rows_after, settled, subcommand_met, walk_from, walked}
+use Rattle.clap.specs.Faults.{check_fault, defaults_fault, entered_fault, fault_of, level_fault, settle_fault, turn_fault, walk_fault}
+use Rattle.clap.specs.Words.{Text, first_of, subcommand_of}
+use Rattle.clap.proofs.FaultLemmas.{stopped_fault}
+use Rattle.clap.proofs.OnLiterals.{clap_on_literals}
+use Rattle.its_words.specs.Command.{its_app}
+use Rattle.its_words.specs.Words.{alone, asked_by, asked_in, asked_of, gen_by, gen_of, is_none, without_separator}
+use Rattle.its_words.specs.declared.words.Asked.{Asked}
+use Rattle.its_words.specs.declared.words.Asked.TheVariants.{Run, Check}
+use Rattle.its_words.proofs.Bare.{bare, takes_none}
+use Rattle.its_words.proofs.Generated.{gen, takes_two}
+use Rattle.its_words.proofs.WordKinds.{kind_of_word}
+use Rattle.its_words.proofs.Turns.{faulty_turn, first_word, nothing_after, stopped_walk, value_turn}
+
+abbrev its : App
+its = built its_app
+
+abbrev names : Names
+names = names_of its
+
+abbrev pub parsed_by : Kinds → Option (Text × List Row) → Option Asked
+parsed_by faults sub = cond (is_none faults) (asked_in sub) None
+
+-- what the parser makes of words
+unfoldable pub parsed : List Text → Option Asked
+parsed words = parsed_by (fault_of its_app words) (subcommand_of its_app words)
+
+-- ---- after the command's name
+
+-- the faults at a walk's end
+abbrev faults_at : Kinds → Walk → Kinds
+faults_at before end = or_else before (or_else (entered_fault its end.stopped) (or_else (settle_fault its.top.rules its.top.args_override_self end.held)
+    (or_else (defaults_fault (settled its.top.rules end.held).rows its.top.rules) (check_fault its.top (finished its.top.rules end.held) (is_some (entered its end.stopped))))))
+
+abbrev asked_at : Kinds → Walk → Option Asked
+asked_at before end = parsed_by (faults_at before end) (entered its end.stopped)
+
+-- the walk that met a command
+abbrev met : Text → List Text → Walk
+met name rest = record (walk_from nothing_held) { stopped = Some (name, rest) }
+
+goes_in : (program name : Text) (rest : List Text) → turn_fault its.top names (walk_from nothing_held) name ≡ [] → walked its.top.rules names (walk_from nothing_held) name ≡ met name []
+    → parsed (program ∷ name ∷ rest) ≡ asked_at [] (met name rest)
+unfolding parsed walk_fault
+goes_in program name rest fine to =
+    ap₂ (λ (k : Kinds) (w : Walk). asked_at (or_else k (walk_fault its.top names w rest)) (fold (walked its.top.rules names) w rest)) fine to
+    ∙ ap₂ asked_at (stopped_fault its.top names (walk_from nothing_held) (name, []) rest) (stopped_walk its.top.rules names (walk_from nothing_held) name [] rest)
+
+alone_cond : (asked : Asked) (words : List Text) → cond (is_none words) (Some asked) None ≡ alone asked words
+alone_cond asked [] = refl
+alone_cond asked (word ∷ words) = refl
+
+bare_parsed : (name : Text) (asked : Asked) (rest : List Text) → cond (is_none (or_else (level_fault (bare name) [] nothing_held rest false []) [])) (Some asked) None ≡ alone asked (without_separator rest)
+bare_parsed name asked rest =
+    ap (λ (k : Kinds). cond (is_none k) (Some asked) None) (nothing_after _) ∙ ap (λ b. cond b (Some asked) None) (takes_none name rest) ∙ alone_cond asked (without_separator rest)
+
+run_parsed : (program : Text) (rest : List Text) → parsed (program ∷ codes "run" ∷ rest) ≡ alone Run (without_separator rest)
+unfolding clap_on_literals
+run_parsed program rest = goes_in program (codes "run") rest refl refl ∙ bare_parsed (codes "run") Run rest
+
+check_parsed : (program : Text) (rest : List Text) → parsed (program ∷ codes "check" ∷ rest) ≡ alone Check (without_separator rest)
+unfolding clap_on_literals
+check_parsed program rest = goes_in program (codes "check") rest refl refl ∙ bare_parsed (codes "check") Check rest
+
+gen_parsed : (program : Text) (rest : List Text) → parsed (program ∷ codes "gen" ∷ rest) ≡ gen_of (without_separator rest)
+unfolding clap_on_literals
+gen_parsed program rest =
+    goes_in program (codes "gen") rest refl refl
+    ∙ ap (λ (k : Kinds). cond (is_none k) (gen_by (first_of (codes "signals") (rows_after gen.rules [] rest)) (first_of (codes "threads") (rows_after gen.rules [] rest))) None) (nothing_after _)
+    ∙ takes_two rest
+
+-- ---- no command
+
+faulty : (words : List Text) → is_none (fault_of its_app words) ≡ false → parsed words ≡ None
+unfolding parsed
+faulty words e = ap (λ b. cond b (asked_in (subcommand_of its_app words)) None) e
+
+separator_parsed : (program : Text) (rest : List Text) → parsed (program ∷ codes "--" ∷ rest) ≡ None
+unfolding clap_on_literals
+separator_parsed program [] = faulty (program ∷ codes "--" ∷ []) refl
+separator_parsed program (word ∷ rest) = faulty (program ∷ codes "--" ∷ word ∷ rest) refl
+
+other_parsed : (program name : Text) (rest : List Text) → bytes_eq name (codes "--") ≡ false → subcommand_met names idle name ≡ None → parsed (program ∷ name ∷ rest) ≡ None
+other_parsed program name rest other none = faulty (program ∷ name ∷ rest) (first_word its.top names nothing_held name rest _ _
+    (elim (kind_of_word its.top names (λ _. refl) (λ _. refl) name none other) [
+      | inl v ↦ ap is_none (value_turn its.top names name [] None 1 v)
+      | inr f ↦ faulty_turn its.top names name [] None 1 f
+    ]))
+
+-- ---- all words
+
+text_is : (a b : Text) → bytes_eq a b ≡ true → b ≡ a
+text_is a b e = sym ((bytes_eq-Decides a b).0 e)
+
+by_name : (program name : Text) (rest : List Text) (r k g d : Bool) → bytes_eq (codes "run") name ≡ r → bytes_eq (codes "check") name ≡ k → bytes_eq (codes "gen") name ≡ g
+    → bytes_eq name (codes "--") ≡ d → parsed (program ∷ name ∷ rest) ≡ asked_by name (without_separator rest)
+by_name program name rest true k g d er ek eg ed =
+    subst (λ w. parsed (program ∷ w ∷ rest) ≡ asked_by w (without_separator rest)) (sym (text_is _ _ er)) (run_parsed program rest)
+by_name program name rest false true g d er ek eg ed =
+    subst (λ w. parsed (program ∷ w ∷ rest) ≡ asked_by w (without_separator rest)) (sym (text_is _ _ ek)) (check_parsed program rest)
+by_name program name rest false false true d er ek eg ed =
+    subst (λ w. parsed (program ∷ w ∷ rest) ≡ asked_by w (without_separator rest)) (sym (text_is _ _ eg)) (gen_parsed program rest)
+by_name program name rest false false false true er ek eg ed =
+    subst (λ w. parsed (program ∷ w ∷ rest) ≡ asked_by w (without_separator rest)) (sym ((bytes_eq-Decides name (codes "--")).0 ed)) (separator_parsed program rest)
+by_name program name rest false false false false er ek eg ed = other_parsed program name rest ed (rw (er, ek, eg) refl) ∙ rw (er, ek, eg) refl
+
+-- the parser makes of words what they ask for
+pub parsed-asked_of : (words : List Text) → parsed words ≡ asked_of words
+unfolding asked_of clap_on_literals
+parsed-asked_of [] = faulty [] refl
+parsed-asked_of (program ∷ []) = faulty (program ∷ []) refl
+parsed-asked_of (program ∷ name ∷ rest) = by_name program name rest _ _ _ _ refl refl refl refl

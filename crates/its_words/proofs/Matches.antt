@@ -1,0 +1,39 @@
+-- What matches ask for.
+use Rattle.std.proofs.Common.{◌≡◌, ◌∙◌, ℕ, Bool, true, false, List, Option, Some, None, refl, ap₂, codes, option_map, subst}
+use Rattle.std.specs.Str.{bytes_eq}
+use Rattle.std.specs.Box.{box_value}
+use Rattle.std.proofs.lemmas.Slice.Eq.{bytes_eq-Decides}
+use Rattle.clap.specs.Words.{Row, Text, first_of, first_value, found_of, rows_of, subcommand_name_of, subcommand_rows, subcommand_rows_of}
+use Rattle.clap.specs.declared.ArgMatches.{ArgMatches}
+use Rattle.clap.specs.declared.ArgMatches.TheViews.{out-ArgMatches, out-SubCommand}
+use Rattle.clap.proofs.WalkLemmas.{first_value-rows}
+use Rattle.its_words.specs.Words.{asked_in, gen_by}
+
+-- the name that a parse met stands beside its rows
+named : (m : ArgMatches) → subcommand_name_of m ≡ option_map (λ p. p.0) (subcommand_rows_of m)
+named m = elim (out-ArgMatches m).subcommand as (λ s. option_map (λ b. (out-SubCommand (box_value b)).name.now) s ≡ option_map (λ p. p.0) (subcommand_rows s)) [ None ↦ refl | Some b ↦ refl ]
+
+differ : (a b : List ℕ) → (a ≡ b → ⊥) → bytes_eq a b ≡ false
+differ a b no-eq = go (bytes_eq a b) refl
+  where
+    go : (t : Bool) → bytes_eq a b ≡ t → bytes_eq a b ≡ false
+    go true e = absurd (no-eq ((bytes_eq-Decides a b).0 e))
+    go false e = e
+
+asks_gen : (o : Option (Text × List Row)) (name : Text) (rows : List Row) → Some name ≡ option_map (λ p. p.0) o → Some rows ≡ option_map (λ p. p.1) o
+    → bytes_eq name (codes "run") ≡ false → bytes_eq name (codes "check") ≡ false
+    → gen_by (first_of (codes "signals") rows) (first_of (codes "threads") rows) ≡ asked_in o
+asks_gen None name rows n r run check = cc
+asks_gen (Some (a, b)) name rows n r run check =
+    let same : name ≡ a = cc in
+    let rows_are : rows ≡ b = cc in
+    let not_run : bytes_eq a (codes "run") ≡ false = subst (λ t. bytes_eq t (codes "run") ≡ false) same run in
+    let not_check : bytes_eq a (codes "check") ≡ false = subst (λ t. bytes_eq t (codes "check") ≡ false) same check in
+    rw (not_run, not_check, rows_are) refl
+
+pub reads_gen : (m inner : ArgMatches) (name : Text) → Some name ≡ subcommand_name_of m → Some (rows_of (found_of inner)) ≡ option_map (λ p. p.1) (subcommand_rows_of m)
+    → (name ≡ codes "run" → ⊥) → (name ≡ codes "check" → ⊥)
+    → gen_by (first_value (found_of inner) (codes "signals")) (first_value (found_of inner) (codes "threads")) ≡ asked_in (subcommand_rows_of m)
+reads_gen m inner name n r run check =
+    ap₂ gen_by (first_value-rows (found_of inner) (codes "signals")) (first_value-rows (found_of inner) (codes "threads"))
+    ∙ asks_gen (subcommand_rows_of m) name (rows_of (found_of inner)) (n ∙ named m) r (differ name _ run) (differ name _ check)

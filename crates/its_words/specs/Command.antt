@@ -1,0 +1,20 @@
+-- The command `its` as the parser of command lines reads it.
+use Rattle.std.specs.Prelude.{ℕ, List, true, Some, codes}
+use Rattle.clap.specs.Words.{App, Rule, new_app, new_rule, with_rule, with_subcommand}
+use Rattle.clap.specs.declared.builder.ArgAction.TheVariants.{Set}
+
+-- an argument that has to be there
+abbrev pub needed_rule : List ℕ → Rule
+needed_rule name = record (new_rule name) { required = true; action = Some Set }
+
+abbrev pub gen_app : App
+gen_app = with_rule (with_rule (new_app (codes "gen")) (needed_rule (codes "signals"))) (needed_rule (codes "threads"))
+
+-- a command has to be there, and no word asks for help
+abbrev pub bare_app : App
+bare_app =
+    let none = new_app (codes "its") in
+    record none { top = record none.top { subcommand_required = true; disable_help_flag = true; disable_help_subcommand = true } }
+
+abbrev pub its_app : App
+its_app = with_subcommand (with_subcommand (with_subcommand bare_app (new_app (codes "run")).top) (new_app (codes "check")).top) gen_app.top

@@ -1,0 +1,81 @@
+-- What words ask for.
+use Rattle.std.specs.Prelude.{◌≡◌, ◌≤◌, ◌&&◌, ℕ, Bool, true, false, List, [], ◌∷◌, Option, Some, None, nat_lt, nat_le, slice_index, codes, option_and_then, if◌then◌else◌}
+use Rattle.std.specs.Str.{bytes_eq, all_ascii_digits}
+use Rattle.std.specs.Str.Parse.{digits_value}
+use Rattle.clap.specs.Words.{Row, Text, fault_of, first_of, subcommand_of, subcommand_rows_of}
+use Rattle.clap.specs.declared.ArgMatches.{ArgMatches}
+use Rattle.its_words.specs.Command.{its_app}
+use Rattle.its_words.specs.declared.words.Asked.{Asked}
+use Rattle.its_words.specs.declared.words.Asked.TheVariants.{Run, Check, Gen}
+
+-- ---- numbers
+
+-- a number from 1 to a last one, in decimal digits without a sign or a leading zero
+unfoldable pub number_of : ℕ → Text → Option ℕ
+number_of last text =
+    if nat_lt 48 (slice_index text 0) && (all_ascii_digits text && nat_le (digits_value 10 text) last)
+    then Some (digits_value 10 text) else None
+
+abbrev pub gen_of_numbers : Option ℕ → Option ℕ → Option Asked
+gen_of_numbers (Some n) (Some t) = Some (Gen n t)
+gen_of_numbers _ _ = None
+
+-- of two texts
+abbrev pub gen_by : Option Text → Option Text → Option Asked
+gen_by n t = gen_of_numbers (option_and_then (number_of 20000) n) (option_and_then (number_of 63) t)
+
+abbrev pub gen_of : List Text → Option Asked
+gen_of (n ∷ t ∷ []) = gen_of_numbers (number_of 20000 n) (number_of 63 t)
+gen_of _ = None
+
+-- ---- commands
+
+-- a command that takes no words
+abbrev pub alone : Asked → List Text → Option Asked
+alone asked [] = Some asked
+alone asked (word ∷ words) = None
+
+abbrev pub asked_by : Text → List Text → Option Asked
+asked_by name words =
+    if bytes_eq (codes "run") name then alone Run words
+    else (if bytes_eq (codes "check") name then alone Check words
+    else (if bytes_eq (codes "gen") name then gen_of words else None))
+
+-- the words without the first `--`, after which no word names an option
+abbrev pub without_separator : List Text → List Text
+without_separator [] = []
+without_separator (word ∷ words) = if bytes_eq word (codes "--") then words else word ∷ without_separator words
+
+-- the first word is the program's name
+unfoldable pub asked_of : List Text → Option Asked
+asked_of (program ∷ name ∷ words) = asked_by name (without_separator words)
+asked_of _ = None
+
+-- ---- the parser
+
+abbrev pub is_none : {X : Type 0} → List X → Bool
+is_none [] = true
+is_none (x ∷ xs) = false
+
+-- what the matches of a command ask for
+abbrev pub asked_in : Option (Text × List Row) → Option Asked
+asked_in None = None
+asked_in (Some (name, rows)) =
+    if bytes_eq name (codes "run") then Some Run
+    else (if bytes_eq name (codes "check") then Some Check
+    else gen_by (first_of (codes "signals") rows) (first_of (codes "threads") rows))
+
+-- the parser finds no fault with the words
+unfoldable pub is_taken : List Text → Bool
+is_taken words = is_none (fault_of its_app words)
+
+-- these are the matches of the words, with which the parser finds no fault
+pub record IsMatched (words : List Text) (m : ArgMatches) : Type 0 where
+  pub taken : is_taken words ≡ true
+  pub rows : subcommand_rows_of m ≡ subcommand_of its_app words
+
+-- the numbers of a command lie in their ranges
+abbrev pub IsInRange : Asked → Type 0
+IsInRange Run = Unit {0}
+IsInRange Check = Unit {0}
+IsInRange (Gen n t) = (1 ≤ n) × (n ≤ 20000) × (1 ≤ t) × (t ≤ 63)

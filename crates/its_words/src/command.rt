@@ -1,0 +1,42 @@
+//! The command as the parser knows it.
+ghost use Rattle.std.specs.Prelude.{◌≡◌, IfOk, codes, false};
+ghost use Rattle.clap.specs.Words.{app_of, rule_of};
+ghost use Rattle.clap.specs.declared.Command.TheViews.{out-Command};
+ghost use Rattle.its_words.specs.Command.{its_app, gen_app, needed_rule};
+
+use clap::{Arg, ArgAction, Command};
+use std::alloc::{AllocError, Global};
+
+/// `its`, with a required command and no word for help.
+pub fn its_command<'a>(alloc: Global) -> Result<Command<'a>, AllocError>
+    ensures { IfOk result (λ c. app_of c ≡ its_app) }
+{
+    let run = Command::new(alloc, "run");
+    let check = Command::new(alloc, "check");
+    let generate = gen_command(alloc)?;
+    Command::new(alloc, "its")
+        .subcommand_required(true)
+        .disable_help_flag(true)
+        .disable_help_subcommand(true)
+        .subcommand(run)?
+        .subcommand(check)?
+        .subcommand(generate)
+}
+
+// `gen` with its two numbers.
+fn gen_command<'a>(alloc: Global) -> Result<Command<'a>, AllocError>
+    ensures app { IfOk result (λ c. app_of c ≡ gen_app) }
+    ensures local { IfOk result (λ c. (out-Command c).has_globals ≡ false) }
+{
+    let signals = needed(alloc, "signals");
+    let threads = needed(alloc, "threads");
+    Command::new(alloc, "gen").arg(signals)?.arg(threads)
+}
+
+// An argument that has to be there.
+fn needed<'a>(alloc: Global, name: &'a str) -> Arg<'a>
+    ensures rule { rule_of result ≡ needed_rule name.entry.now }
+    ensures local { result.global ≡ false }
+{
+    Arg::new(alloc, name).required(true).action(ArgAction::Set)
+}

@@ -1,0 +1,9 @@
+//! The words of the command line, by the kit's parser of command lines.
+#![tactic(auto)]
+
+mod command;
+#[cfg(test)]
+mod tests;
+mod words;
+
+pub use words::{Asked, WordsError, parse_words, usage};

@@ -1,0 +1,144 @@
+//! What the words ask for.
+ghost use Rattle.std.specs.Prelude.{◌≡◌, ◌≤◌, IfOk, IfSome, Some, None, codes, false, true, map, nat_lt, slice_index};
+ghost use Rattle.std.specs.String.{string_bytes};
+ghost use Rattle.clap.specs.Words.{first_value, found_of, subcommand_of, subcommand_rows_of, takes};
+ghost use Rattle.its_words.specs.Command.{its_app};
+ghost use Rattle.its_words.specs.Words.{asked_in, asked_of, gen_by, is_taken, number_of, IsInRange, IsMatched};
+ghost use Rattle.its_words.specs.declared.words.WordsError.TheVariants.{NoMemory};
+
+use crate::command::its_command;
+use clap::ArgMatches;
+use clap::error::ErrorKind;
+use std::alloc::{AllocError, Global};
+
+/// How many signals each thread may be asked to send.
+const MOST_SIGNALS: u32 = 20_000;
+
+/// How many threads may be asked for.
+const MOST_THREADS: u32 = 63;
+
+/// A command that the words ask for.
+#[derive(Clone, Copy, Debug, PartialEq, Eq)]
+pub enum Asked {
+    /// Runs a script.
+    Run,
+    /// Checks the report of a run.
+    Check,
+    /// Runs a script of so many threads with so many signals each.
+    Gen { signals: u32, threads: u32 },
+}
+
+/// Why the words ask for nothing.
+#[derive(Clone, Copy, Debug, PartialEq, Eq)]
+pub enum WordsError {
+    /// They are no command.
+    Refused,
+    /// Memory ran out.
+    NoMemory,
+}
+
+impl From<AllocError> for WordsError {
+    ghost from_gives = { λ _ e. e ≡ NoMemory };
+
+    fn from(_: AllocError) -> Self {
+        WordsError::NoMemory
+    }
+}
+
+/// What the words ask for, of which the first is the program's name.
+pub fn parse_words(alloc: Global, words: &[String]) -> Result<Asked, WordsError>
+    ensures ok { IfOk result (λ a. asked_of (map (λ w. string_bytes w) words.now) ≡ Some a) }
+    ensures refused { result ≡ Err WordsError.Refused →
+        asked_of (map (λ w. string_bytes w) words.now) ≡ None }
+    ensures range { IfOk result IsInRange }
+
+    // What the parser's own matches of the words give. It is refused only where the parser doesn't
+    // take the words, or a number is out of form.
+    ensures matches { IfOk result (λ a.
+        asked_in (subcommand_of its_app (map (λ w. string_bytes w) words.now)) ≡ Some a) }
+    ensures not_taken { result ≡ Err WordsError.Refused →
+        takes its_app (map (λ w. string_bytes w) words.now) ≡ true →
+        asked_in (subcommand_of its_app (map (λ w. string_bytes w) words.now)) ≡ None }
+{
+    let matches = matches_of(alloc, words)?;
+    match read(&matches) {
+        Some(asked) => Ok(asked),
+        None => Err(WordsError::Refused),
+    }
+}
+
+// The matches of the words.
+fn matches_of<'a>(alloc: Global, words: &'a [String]) -> Result<ArgMatches<'a>, WordsError>
+    ensures ok { IfOk result (IsMatched (map (λ w. string_bytes w) words.entry.now)) }
+    ensures refused { result ≡ Err WordsError.Refused →
+        is_taken (map (λ w. string_bytes w) words.entry.now) ≡ false }
+    ensures not_taken { result ≡ Err WordsError.Refused →
+        ¬ (takes its_app (map (λ w. string_bytes w) words.entry.now) ≡ true) }
+{
+    let command = its_command(alloc)?;
+    match command.try_get_matches_from(words) {
+        Ok(matches) => Ok(matches),
+        Err(error) => {
+            if error.kind() == ErrorKind::OutOfMemory {
+                Err(WordsError::NoMemory)
+            } else {
+                Err(WordsError::Refused)
+            }
+        }
+    }
+}
+
+// What the matches of the words ask for.
+fn read(matches: &ArgMatches) -> Option<Asked>
+    ensures value { result ≡ asked_in (subcommand_rows_of matches.now) }
+    ensures range { IfSome result IsInRange }
+{
+    let (name, matches) = matches.subcommand()?;
+    match name {
+        "run" => Some(Asked::Run),
+        "check" => Some(Asked::Check),
+        _ => generation(matches),
+    }
+}
+
+// The numbers of `gen`.
+fn generation(matches: &ArgMatches) -> Option<Asked>
+    ensures value { result ≡ gen_by (first_value (found_of matches.now) (codes "signals"))
+        (first_value (found_of matches.now) (codes "threads")) }
+    ensures range { IfSome result IsInRange }
+{
+    let signals = number(matches.get_str("signals")?, MOST_SIGNALS)?;
+    let threads = number(matches.get_str("threads")?, MOST_THREADS)?;
+    Some(Asked::Gen { signals, threads })
+}
+
+// A number from 1 to a last one, of digits without a leading zero.
+fn number(text: &str, last: u32) -> Option<u32>
+    ensures value { result ≡ number_of last text.now }
+    ensures range { IfSome result (λ n. (1 ≤ n) × (n ≤ last)) }
+{
+    if !begins_above_zero(text) {
+        return None;
+    }
+    let number: u32 = text.parse().ok()?;
+    if number <= last { Some(number) } else { None }
+}
+
+// Whether the first byte is none of a sign and a zero.
+fn begins_above_zero(text: &str) -> bool
+    ensures { result ≡ nat_lt 48 (slice_index text.now 0) }
+{
+    match text.as_bytes().first() {
+        Some(byte) => *byte > b'0',
+        None => false,
+    }
+}
+
+/// How the program is used.
+pub fn usage() -> &'static str {
+    "usage: its run      runs a script, and prints its report
+       its check    checks a script followed by `trace` and its report
+       its gen N T  runs a made script: T threads (1 to 63) with N signals each (1 to 20000)
+The script of `run` and `check` comes by standard input. docs/FORMATS.md has the formats.
+"
+}
