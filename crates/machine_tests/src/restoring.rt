@@ -26,7 +26,8 @@ const VALUES: RegValues = RegValues {
     baser1: 0x8407_0000_8001_0200,
 };
 
-// Four virtual processors, whose LPIs are on at these tables, or whose guest programs the registers.
+// Four virtual processors, whose LPIs are on at these tables, or whose LPI registers the guest
+// programs.
 fn layout(alloc: Global, gicr: bool) -> Result<Layout, AllocError>
     ensures { IfOk result IsLayout }
 {

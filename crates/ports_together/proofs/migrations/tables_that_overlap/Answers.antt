@@ -6,7 +6,7 @@ use Rattle.ports_together.proofs.migrations.tables_that_overlap.Goals as goal
 
 pub is_one_pending-requires : goal.is_one_pending-requires
 is_one_pending-requires g c =
-    let before = c.in_ok-made.ensures.at_rest in
+    let before = c.in_ok-machine.ensures.at_rest in
     let stays = c.in-Err.ensures in
     record {
       of = stays.1;

@@ -1,0 +1,105 @@
+//! Four threads that signal beside each other, and one that acknowledges after them.
+ghost use Rattle.std.specs.Prelude.{◌≡◌, IfOk};
+ghost use Rattle.std.specs.List.{AllByRecursion};
+ghost use Rattle.ports_together.specs.Legs.{IsSmallLeg};
+
+use crate::made::made;
+use event_script::{Phase, Thread};
+use its_plain::{Ack, Call, Reply, Signal};
+use its_types::{DeviceId, EventId, Intid, Listed, Open, Placed, Vcpu};
+use script_threads::{LegEnd, run_leg};
+use std::alloc::{AllocError, Global};
+use std::test::Fail;
+
+// Device 16 with event 3, which collection 1 leads to processor 2 as LPI 8200, and that LPI's
+// configuration: enabled, of priority 0xa0.
+const WORDS: [(u64, u64); 4] = [
+    (0x8001_0000, 0x8000_0000_0002_0001),
+    (0x8000_0080, 0x8000_0000_1001_8004),
+    (0x800c_0018, 0x0000_0000_2008_0001),
+    (0x8003_0008, 0xa1),
+];
+
+const SIGNAL: Call = Call::Signal {
+    its: 0,
+    dev: DeviceId(16),
+    ev: EventId(3),
+};
+
+const TAKE: Call = Call::Take(Vcpu(2));
+
+fn repeated(alloc: Global, call: &Call, count: u32) -> Result<Thread, AllocError>
+    ensures { IfOk result (λ calls. AllByRecursion (λ c. c ≡ call.now) calls) }
+{
+    let mut calls = Listed::new(alloc);
+    for _ in 0..count {
+        calls.push(*call)?;
+    }
+    Ok(calls)
+}
+
+// Four threads of 50 signals, and then one thread of two acknowledgements.
+fn leg(alloc: Global) -> Result<Vec<Phase>, AllocError>
+    ensures { IfOk result (λ phases. IsSmallLeg phases.items) }
+{
+    let mut first = Listed::new(alloc);
+    first.push(repeated(alloc, &SIGNAL, 50)?)?;
+    first.push(repeated(alloc, &SIGNAL, 50)?)?;
+    first.push(repeated(alloc, &SIGNAL, 50)?)?;
+    first.push(repeated(alloc, &SIGNAL, 50)?)?;
+    let mut second = Listed::new(alloc);
+    second.push(repeated(alloc, &TAKE, 2)?)?;
+    let mut phases = Vec::new(alloc);
+    phases.push(first)?;
+    phases.push(second)?;
+    Ok(phases)
+}
+
+// How many of the replies are signals that were delivered at one of the first 200 places.
+fn count_delivered(replies: &[Placed<Reply>]) -> usize {
+    let delivered = Reply::Signal(Signal::Delivered {
+        vcpu: Vcpu(2),
+        intid: Intid(8200),
+    });
+    replies
+        .iter()
+        .filter(|placed| placed.place < 200 && placed.reply == delivered)
+        .count()
+}
+
+#[test]
+fn threads_signal_beside_each_other(rt: HostRuntime) -> Result<(), Fail> {
+    let alloc = rt.alloc();
+    let (machine, root) = made(alloc, &WORDS)?;
+    let phases = leg(alloc)?;
+    let mut root = root;
+    let LegEnd { lists, stop } = run_leg(
+        &rt,
+        alloc,
+        &machine,
+        &mut root,
+        &Open,
+        phases.as_slice(),
+    )?;
+    assert_eq!(rt; stop, None);
+    let Some((acks, signals)) = lists.as_slice().split_last() else {
+        panic!(rt; "there are no lists");
+    };
+    assert_eq!(rt; signals.len(), 4);
+    for list in signals {
+        assert_eq!(rt; count_delivered(list.replies.as_slice()), 50);
+    }
+    let first = Placed {
+        place: 200,
+        reply: Reply::Ack(Ack::Some {
+            intid: Intid(8200),
+            priority: 0xa0,
+        }),
+    };
+    let second = Placed {
+        place: 201,
+        reply: Reply::Ack(Ack::None),
+    };
+    assert_eq!(rt; acks.replies.as_slice(), [first, second].as_slice());
+    Ok(())
+}
