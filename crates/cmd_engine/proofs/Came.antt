@@ -1,5 +1,6 @@
 -- What a call comes to that waits for its turns: from a load to its commit, and from one try to the next.
-use Rattle.std.proofs.Common.{◌≡◌, ℕ, ◌+◌, ◌<◌, ◌≤◌, List, [], ◌∷◌, ◌++◌, length, Result, Ok, Err, refl, ap, sym, ◌∙◌, subst, inl, inr, arith, length-append, append_assoc}
+use Rattle.std.proofs.Common.{◌≡◌, ℕ, ◌+◌, ◌<◌, ◌≤◌, List, [], ◌∷◌, ◌++◌, length, Result, Ok, Err, refl, ap, sym, ◌∙◌, subst, inl, inr, arith, length-append}
+use Rattle.std.proofs.Common.{append_assoc}
 use Rattle.std.proofs.lemmas.List.{append-nil}
 use Rattle.its_types.specs.declared.machine.Part.{Part}
 use Rattle.its_types.specs.declared.machine.Placed.{Placed}
@@ -40,7 +41,8 @@ looked_read v x w looks room low =
       room = subst (λ (s : Setup). w.place < s.limits.place_last) same room;
       low = subst (λ (s : Setup). w.stamp ≤ s.limits.stamp_last) same low;
       machine = subst (λ (s : Setup). IsOfMachine s (after s.start x.seen)) same looks.machine;
-      has = subst (λ (p : Setup × List Held). HasAll (after p.0.start x.seen) p.1) (λ d. (same d, held d)) (right_had v.setup w (after v.setup.start x.seen) v.held looks.right);
+      has = subst (λ (p : Setup × List Held). HasAll (after p.0.start x.seen) p.1) (λ d. (same d, held d))
+          (right_had v.setup w (after v.setup.start x.seen) v.held looks.right);
     }
 
 -- ---- what a commit leaves of the stamp
@@ -61,11 +63,16 @@ module _ (y x : View) (a : Commit) (commits : Commits y a x) where
       record { room = omega (arith, was, room); stamp = omega (arith, was, next, stamp_is); change_is = ap (λ (c : LastCommit). c.change) base ∙ keep }
 
   pub leaves_renewed : (stamp_last : ℕ) → a.stamp ≡ 0 → a.expected.stamp ≡ stamp_last → a.change ≡ change.Empty → Renews stamp_last x
-  leaves_renewed stamp_last zero most empty = record { most = ap (λ (c : LastCommit). c.base.stamp) base ∙ most; stamp = stamp_is ∙ zero; change_is = ap (λ (c : LastCommit). c.change) base ∙ empty }
+  leaves_renewed stamp_last zero most empty = record {
+    most = ap (λ (c : LastCommit). c.base.stamp) base ∙ most;
+    stamp = stamp_is ∙ zero;
+    change_is = ap (λ (c : LastCommit). c.change) base ∙ empty;
+  }
 
   -- ---- a call that is made right after a load
 
-  pub made_now : (P : Part → Type 0) (w : Word) → a.expected ≡ w → HasRead y w → LeavesAs y.setup.limits.stamp_last (ending_of (after y.setup.start y.seen) a.call) x → MadeAs P y a.call a.reply w.place x
+  pub made_now : (P : Part → Type 0) (w : Word) → a.expected ≡ w → HasRead y w → LeavesAs y.setup.limits.stamp_last
+      (ending_of (after y.setup.start y.seen) a.call) x → MadeAs P y a.call a.reply w.place x
   made_now P w expected read leaves =
       let e : Entry = entry y.number a.call a.reply in
       let whole : y.seen ++ [] ≡ y.seen = append-nil y.seen in
@@ -80,14 +87,28 @@ module _ (y x : View) (a : Commit) (commits : Commits y a x) where
             between = [];
             seen = ap (λ (v : View). v.seen) commits.view ∙ ap (λ (l : List Entry). l ++ e ∷ []) (sym whole);
             legal = commits.legal;
-            place_is = let long = ap (λ (v : View). length v.seen) commits.view in let at = ap (λ (z : Word). z.place) expected in omega (arith, long, at, read.place, length-append y.seen (e ∷ []));
+            place_is = let long = ap (λ (v : View). length v.seen) commits.view in let at = ap (λ (z : Word). z.place) expected in omega
+                (arith, long, at, read.place, length-append y.seen (e ∷ []));
             mine = ap (λ (v : View). v.mine) commits.view;
-            same = subst (λ (z : View). z ≡ record y { seen = z.seen; mine = z.mine; last = z.last; held = z.held; cache = z.cache; tries = z.tries; commit = z.commit }) (sym commits.view) refl;
+            same = subst (λ (z : View). z ≡ record y {
+              seen = z.seen;
+              mine = z.mine;
+              last = z.last;
+              held = z.held;
+              cache = z.cache;
+              tries = z.tries;
+              commit = z.commit;
+            }) (sym commits.view) refl;
             tries = refl;
             last = ap (λ (v : View). v.last) commits.view;
             commit = base;
           };
-          got = record { got = []; won = ap (λ (v : View). v.tries.won) commits.view; only = tt; lost = let n = ap (λ (v : View). v.tries.lost) commits.view in omega (arith, n) };
+          got = record {
+            got = [];
+            won = ap (λ (v : View). v.tries.won) commits.view;
+            only = tt;
+            lost = let n = ap (λ (v : View). v.tries.lost) commits.view in omega (arith, n);
+          };
         };
         leaves = subst (λ (l : List Entry). LeavesAs y.setup.limits.stamp_last (ending_of (after y.setup.start l) a.call) x) (sym whole) leaves;
       }
@@ -136,7 +157,15 @@ module _ (P : Part → Type 0) where
           legal = subst (λ (s : Setup). IsLegal s.start x.seen) setup_is m.legal;
           place_is = m.place_is;
           mine = m.mine ∙ (let old = ap (λ (y : View). y.mine) g.on.same in λ d. old d ++ (a.expected.place, e d) ∷ []);
-          same = m.same ∙ ap (λ (y : View). record y { seen = x.seen; mine = x.mine; last = x.last; held = x.held; cache = x.cache; tries = x.tries; commit = x.commit }) g.on.same;
+          same = m.same ∙ ap (λ (y : View). record y {
+            seen = x.seen;
+            mine = x.mine;
+            last = x.last;
+            held = x.held;
+            cache = x.cache;
+            tries = x.tries;
+            commit = x.commit;
+          }) g.on.same;
           tries = refl;
           last = m.last;
           commit = m.commit;
@@ -155,7 +184,8 @@ module _ (P : Part → Type 0) where
           leaves = subst (λ (p : Setup × List Entry). LeavesAs p.0.limits.stamp_last (ending_of (after p.0.start p.1) c) x) (λ d. (setup_is d, all d)) m.leaves;
         }
 
-    pub came_from : {T : Type 0} (c : Call) (reply : T → Reply) (x : View) (result : Result (Placed T) Missed) → Comes P w c reply x result → Comes P v c reply x result
+    pub came_from : {T : Type 0} (c : Call) (reply : T → Reply) (x : View) (result : Result (Placed T) Missed) → Comes P w c reply x result
+        → Comes P v c reply x result
     came_from c reply x (Ok p) came = made_as_from x c (reply p.reply) p.place came
     came_from c reply x (Err Spent) came = (goes_then v w x g came.0, came.1 ∙ ap (λ (s : Setup). s.limits.place_last) setup_is)
     came_from c reply x (Err Again) came = goes_then v w x g came
@@ -185,7 +215,8 @@ module _ (P : Part → Type 0) where
     leaves = leaves_home v.setup.limits.stamp_last (ending_of (after v.setup.start (v.seen ++ m.made.made.between)) c) w left m.leaves;
   }
 
-  pub came_home : {T : Type 0} (v w x : View) (c : Call) (reply : T → Reply) (result : Result (Placed T) Missed) (left : List Held) → Comes P v c reply w result → x ≡ holding w left → Comes P v c reply x result
+  pub came_home : {T : Type 0} (v w x : View) (c : Call) (reply : T → Reply) (result : Result (Placed T) Missed) (left : List Held) → Comes P v c reply w result
+      → x ≡ holding w left → Comes P v c reply x result
   came_home v w x c reply (Ok p) left came e = made_as_home v w x c (reply p.reply) p.place left came e
   came_home v w x c reply (Err Spent) left came e = (going_home P v w x left came.0 e, ap (λ (y : View). length y.seen) e ∙ came.1)
   came_home v w x c reply (Err Again) left came e = going_home P v w x left came e
@@ -203,13 +234,23 @@ module _ (P : Part → Type 0) where
           legal = made.legal;
           place_is = made.place_is ∙ ap (λ (n : ℕ). n + 1) m.place_is;
           mine = made.mine ∙ ap (λ (p : Call × Reply × ℕ). v.mine ++ (p.2, entry v.number p.0 p.1) ∷ []) to;
-          same = made.same ∙ (λ d. record v { seen = w.seen; mine = w.mine; last = w.last; held = home d; cache = w.cache; tries = w.tries; commit = w.commit });
+          same = made.same ∙ (λ d. record v {
+            seen = w.seen;
+            mine = w.mine;
+            last = w.last;
+            held = home d;
+            cache = w.cache;
+            tries = w.tries;
+            commit = w.commit;
+          });
         };
         leaves = m.leaves;
       }
 
-  pub asks_made : {T : Type 0} (v w : View) (c : Call) (reply : T → Reply) (p : Placed T) → Comes P v c reply w (Ok p) → w.held ≡ v.held → AsksUntilMade P v c reply w (Ok p)
+  pub asks_made : {T : Type 0} (v w : View) (c : Call) (reply : T → Reply) (p : Placed T) → Comes P v c reply w (Ok p) → w.held ≡ v.held
+      → AsksUntilMade P v c reply w (Ok p)
   asks_made v w c reply p came home = (ends_as v w c (reply p.reply) p.place came home, came.made.got)
 
-  pub asks_spent : {T : Type 0} (v w : View) (c : Call) (reply : T → Reply) (spent : AllUsed) → Goes P v w × (length w.seen ≡ v.setup.limits.place_last) → w.held ≡ v.held → AsksUntilMade P v c reply w (Err spent)
+  pub asks_spent : {T : Type 0} (v w : View) (c : Call) (reply : T → Reply) (spent : AllUsed) → Goes P v w × (length w.seen ≡ v.setup.limits.place_last)
+      → w.held ≡ v.held → AsksUntilMade P v c reply w (Err spent)
   asks_spent v w c reply spent came home = (going_stays P v w came.0 home, came.1, came.0.got)

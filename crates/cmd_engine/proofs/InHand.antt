@@ -52,7 +52,8 @@ use Rattle.cmd_engine.specs.declared.step_shards.Cached.{Cached}
 use Rattle.cmd_engine.specs.declared.step_shards.Mark.{Mark}
 use Rattle.cmd_engine.proofs.InState.{AreOut, HoldsBase, HoldsRedists, parts, busy, bytes_are, parts_left, command_ready, command_ends}
 use Rattle.cmd_engine.proofs.Marks.{IsMark, step_commit, marked_may}
-use Rattle.cmd_engine.proofs.Running.{base_no_redist, base_no_shard, base_out, base_holds, cached_no_redist, cached_owes, cached_out, is_mark, Leaves, any_leaves}
+use Rattle.cmd_engine.proofs.Running.{base_no_redist, base_no_shard, base_out, base_holds, cached_no_redist, cached_owes, cached_out, is_mark, Leaves}
+use Rattle.cmd_engine.proofs.Running.{any_leaves}
 
 some_is : (r : Owned) (o : Option Owned) → o ≡ Some r → is_some o ≡ true
 some_is r o is = ap (λ (x : Option Owned). is_some x) is
@@ -62,7 +63,8 @@ if_err (Ok a) is p = absurd cc
 if_err (Err e) is p = p
 
 -- the step was made with such a stamp and such a change
-pub made_step : (v x y : View) (w : Word) (r : StepReply) (place stamp : ℕ) (ch : ShardChange) (s : Setup) → v.setup ≡ s → Looks v w x → w.place < s.limits.place_last → place ≡ w.place → Commits x (step_commit w (reply.Step r) stamp ch) y
+pub made_step : (v x y : View) (w : Word) (r : StepReply) (place stamp : ℕ) (ch : ShardChange) (s : Setup) → v.setup ≡ s → Looks v w x
+    → w.place < s.limits.place_last → place ≡ w.place → Commits x (step_commit w (reply.Step r) stamp ch) y
     → LeavesBy s.limits.stamp_last (ending_of (after v.setup.start x.seen) (call.Step 0)) w.stamp stamp ch → MakesStep v (record { place = place; reply = r }) y
 made_step v x y w r place stamp ch s own looks room at commits leaves =
     let a : Commit = step_commit w (reply.Step r) stamp ch in
@@ -96,7 +98,8 @@ module _ (s : Setup) (v x : View) (w : Word) (held : List Held) (own : v.setup �
   state_machine = subst (λ (z : Setup). IsOfMachine z state) own looks.machine
 
   pub state_right : AllByRecursion (IsRight s w state) held
-  state_right = subst (λ (z : Setup). AllByRecursion (IsRight z w state) held) own (subst (λ (l : List Held). AllByRecursion (IsRight v.setup w state) l) has looks.right)
+  state_right = subst (λ (z : Setup). AllByRecursion (IsRight z w state) held) own
+      (subst (λ (l : List Held). AllByRecursion (IsRight v.setup w state) l) has looks.right)
 
   pub same_held : x.held ≡ held
   same_held = looked_held v x w looks ∙ has
@@ -104,7 +107,8 @@ module _ (s : Setup) (v x : View) (w : Word) (held : List Held) (own : v.setup �
 -- ---- all that is in hand
 
 module _ (s : Setup) (one : translator_count s ≡ 1) (t : Tables) (memory : List Window) (c : Cached) (redists : List (Option Owned)) (cmd : Command)
-    (whole : AreWhole s.shards c) (meets : MeetsCommand t.regs memory cmd) (ends : ending_in t.maps.maps cmd ≡ ending_as c) (needed : HasNeeded s cmd t.maps.maps redists) where
+    (whole : AreWhole s.shards c) (meets : MeetsCommand t.regs memory cmd) (ends : ending_in t.maps.maps cmd ≡ ending_as c)
+    (needed : HasNeeded s cmd t.maps.maps redists) where
   abbrev held : List Held
   held = step_held s t memory c redists
 
@@ -129,7 +133,8 @@ module _ (s : Setup) (one : translator_count s ≡ 1) (t : Tables) (memory : Lis
 
   base : HoldsBase (translator_of t) memory held
   base = let b = base_holds t memory in record {
-    maps = redists_owe redists rest 16 (part.Maps 0) (Maps (translator_of t)) (cached_owes s.shards c (base_held t memory) (part.Maps 0) (Maps (translator_of t)) b.maps);
+    maps = redists_owe redists rest 16 (part.Maps 0) (Maps (translator_of t)) (cached_owes s.shards c (base_held t memory) (part.Maps 0)
+        (Maps (translator_of t)) b.maps);
     mem = redists_owe redists rest 16 part.Mem (Mem memory) (cached_owes s.shards c (base_held t memory) part.Mem (Mem memory) b.mem);
   }
 
@@ -137,7 +142,8 @@ module _ (s : Setup) (one : translator_count s ≡ 1) (t : Tables) (memory : Lis
   maps_held = owes_holds (part.Maps 0) (Maps (translator_of t)) held base.maps
 
   few : (v : ℕ) (r : Owned) → in_hand redists v ≡ Some r → v < 16
-  few v r is = let both = and_parts (is_in needed.set v) (nat_lt v (vcpu_count s)) (sym (needed.hand.hand v) ∙ some_is r (in_hand redists v) is) in ltb-true v 16 (and_parts (nat_lt v 16) _ both.0).0
+  few v r is = let both = and_parts (is_in needed.set v) (nat_lt v (vcpu_count s)) (sym (needed.hand.hand v) ∙ some_is r (in_hand redists v) is) in ltb-true v
+      16 (and_parts (nat_lt v 16) _ both.0).0
 
   hand : HoldsRedists s redists held
   hand vcpu r is = (needed.hand.lpis vcpu.0 r is, redist_owed redists rest 16 vcpu.0 r (few vcpu.0 r is) is)
@@ -165,19 +171,28 @@ module _ (s : Setup) (one : translator_count s ≡ 1) (t : Tables) (memory : Lis
     parts_in = parts s u w held m right out (translator_of t) memory base redists hand cmd meets
 
     -- no memory
-    pub wants : (shape : Shape) → shape ≡ s.start.layout.shape → (adds : Bool) → adds ≡ true → ((z : Plain) (i : ℕ) → ArePartsOf z i shape t.regs t.maps.maps memory redists → adds ≡ adds_to z i cmd) → WantsMemory u
+    pub wants : (shape : Shape) → shape ≡ s.start.layout.shape → (adds : Bool) → adds ≡ true
+        → ((z : Plain) (i : ℕ) → ArePartsOf z i shape t.regs t.maps.maps memory redists → adds ≡ adds_to z i cmd) → WantsMemory u
     wants shape same adds is alike = record {
       busy = busy s u w held m right out (translator_of t) memory base redists hand cmd meets;
       bytes = meets.bytes;
       bytes_are = bytes_are s u w held m right out (translator_of t) memory base redists hand cmd meets;
-      adds = subst (λ (z : Command). adds_to u 0 z ≡ true) (sym meets.command) (sym (alike u 0 (subst (λ (z : Shape). ArePartsOf u 0 z t.regs t.maps.maps memory redists) (sym same) parts_in)) ∙ is);
+      adds = subst (λ (z : Command). adds_to u 0 z ≡ true) (sym meets.command)
+          (sym (alike u 0 (subst (λ (z : Shape). ArePartsOf u 0 z t.regs t.maps.maps memory redists) (sym same) parts_in)) ∙ is);
     }
 
     -- to carry it out
     pub sound_in : (shape : Shape) (maps : MapsOf) → shape ≡ s.start.layout.shape → maps ≡ t.maps.maps → ArePartsOfSound shape t.regs maps memory redists
-    sound_in shape maps same maps_are = (u, 0, m.sound, subst (λ (z : Shape × MapsOf). ArePartsOf u 0 z.0 t.regs z.1 memory redists) (λ d. (sym same d, sym maps_are d)) parts_in)
+    sound_in shape maps same maps_are = (
+      u,
+      0,
+      m.sound,
+      subst (λ (z : Shape × MapsOf). ArePartsOf u 0 z.0 t.regs z.1 memory redists)
+          (λ d. (sym same d, sym maps_are d)) parts_in,
+    )
 
-    module _ (shape : Shape) (same : shape ≡ s.start.layout.shape) (said : CmdReply) (replies : IsReplyTo cmd shape t.regs t.maps.maps memory redists said) (room : w.place < s.limits.place_last) where
+    module _ (shape : Shape) (same : shape ≡ s.start.layout.shape) (said : CmdReply) (replies : IsReplyTo cmd shape t.regs t.maps.maps memory redists said)
+        (room : w.place < s.limits.place_last) where
       replies_here : IsReplyTo cmd s.start.layout.shape t.regs t.maps.maps memory redists said
       replies_here = subst (λ (z : Shape). IsReplyTo cmd z t.regs t.maps.maps memory redists said) same replies
 
@@ -189,7 +204,8 @@ module _ (s : Setup) (one : translator_count s ≡ 1) (t : Tables) (memory : Lis
       told_said (answers.Refused op why) = refl
 
       pub ends_so : ending_of u (call.Step 0) ≡ ending_said c said
-      ends_so = command_ends s u w held m right out (translator_of t) memory base redists hand cmd meets needed.set needed.parts holds said replies_here ∙ told_said said
+      ends_so = command_ends s u w held m right out (translator_of t) memory base redists hand cmd meets needed.set needed.parts holds said replies_here
+          ∙ told_said said
 
       module _ (mark : Mark) (may : MayMark s.limits.stamp_last c said w mark) where
         abbrev a : Commit
@@ -197,25 +213,30 @@ module _ (s : Setup) (one : translator_count s ≡ 1) (t : Tables) (memory : Lis
 
         may_leave : MayLeaveIn s u a held
         may_leave = marked_may s one u w (reply.Step (as_step said)) held ready maps_held mark.stamp mark.change
-            (subst (λ (e : Ending). IsMark s e w mark.stamp mark.change held) (sym ends_so) (is_mark s c (base_held t memory) held said w mark whole (redists_hold redists rest 16) may))
+            (subst (λ (e : Ending). IsMark s e w mark.stamp mark.change held) (sym ends_so) (is_mark s c (base_held t memory) held said w mark whole
+            (redists_hold redists rest 16) may))
 
         pub may_commit : MayCall s a x.held
         may_commit = subst (MayCall s a) (sym (same_held s v x w held own has looks)) may_leave.0
 
         -- carried out
-        module _ (maps : MapsOf) (maps_are : maps ≡ t.maps.maps) (k : Command) (k_is : k ≡ cmd) (t' : Tables) (c' : Cached) (redists' : List (Option Owned)) (leaves : AreLeftBy k shape memory (t.regs, maps, redists) (t'.regs, t'.maps.maps, redists'))
+        module _ (maps : MapsOf) (maps_are : maps ≡ t.maps.maps) (k : Command) (k_is : k ≡ cmd) (t' : Tables) (c' : Cached) (redists' : List (Option Owned))
+            (leaves : AreLeftBy k shape memory (t.regs, maps, redists) (t'.regs, t'.maps.maps, redists'))
             (same_hand : (k : ℕ) → is_some (in_hand redists' k) ≡ is_some (in_hand redists k)) (changes : AreChanged mark.change c c') where
           abbrev z : Plain
           z = left u (call.Step 0) (reply.Step (as_step said))
 
           parts_then : ArePartsOf z 0 s.start.layout.shape t'.regs t'.maps.maps memory redists'
-          parts_then = parts_left s u w held m right out (translator_of t) memory base redists hand cmd meets (reply.Step (as_step said)) t'.regs t'.maps.maps redists'
-              (subst (λ (y : Command × Shape × MapsOf). AreLeftBy y.0 y.1 memory (t.regs, y.2, redists) (t'.regs, t'.maps.maps, redists')) (λ d. (k_is d, same d, maps_are d)) leaves)
+          parts_then = parts_left s u w held m right out (translator_of t) memory base redists hand cmd meets (reply.Step (as_step said)) t'.regs t'.maps.maps
+              redists'
+              (subst (λ (y : Command × Shape × MapsOf). AreLeftBy y.0 y.1 memory (t.regs, y.2, redists) (t'.regs, t'.maps.maps, redists'))
+              (λ d. (k_is d, same d, maps_are d)) leaves)
 
           base_then : renewed s a z (base_held t memory) ≡ base_held t' memory
           base_then =
               let new : translator z 0 ≡ translator_of t' = get_or_from_slice_get z.translators 0 (translator_of t') no_translator parts_then.translator_is in
-              (λ d. record { part = part.Mem; owed = Mem (parts_then.memory_is d); out = true } ∷ record { part = part.Maps 0; owed = Maps (new d); out = true } ∷ [])
+              (λ d. record { part = part.Mem; owed = Mem (parts_then.memory_is d); out = true } ∷ record { part = part.Maps 0; owed = Maps (new d); out = true }
+              ∷ [])
 
           shards_then : Leaves s w (reply.Step (as_step said)) z (base_held t memory) mark.stamp mark.change c c'
           shards_then = any_leaves s w (reply.Step (as_step said)) z (base_held t memory) s.limits.stamp_last c c' said mark may changes

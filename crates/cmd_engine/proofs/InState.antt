@@ -53,7 +53,8 @@ pub record HoldsBase (t : Translator) (memory : List Window) (held : List Held) 
 
 -- and the redistributors in hand
 abbrev pub HoldsRedists : Setup → List (Option Owned) → List Held → Type 0
-HoldsRedists s redists held = (vcpu : Vcpu) (r : Owned) → in_hand redists vcpu.0 ≡ Some r → HasLpisOf s.start.layout.shape r × Owes (part.Redist vcpu) (Redist (redistributor_of r)) held
+HoldsRedists s redists held = (vcpu : Vcpu) (r : Owned) → in_hand redists vcpu.0 ≡ Some r → HasLpisOf s.start.layout.shape r
+    × Owes (part.Redist vcpu) (Redist (redistributor_of r)) held
 
 from_each : (P : Part → Type 0) (ps : List Part) → ((p : Part) → IsIn p ps → P p) → AllByRecursion P ps
 from_each P [] f = tt
@@ -77,7 +78,8 @@ still_in u Idle h = record {
 }
 still_in u (QueueFault addr) h = record {
   needs_none = rw (h.0, h.2) refl;
-  reply_is = sym (ap (λ (b : Bool). cond b Idle (met_reply u 0 (next_bytes u 0))) h.0 ∙ (ap (met_reply u 0) h.2 ∙ ap (λ (x : ℕ). QueueFault (record { 0 = x })) (sym h.1)));
+  reply_is = sym (ap (λ (b : Bool). cond b Idle (met_reply u 0 (next_bytes u 0))) h.0 ∙ (ap (met_reply u 0) h.2 ∙ ap (λ (x : ℕ). QueueFault (record { 0 = x }))
+      (sym h.1)));
   left_is = ap (λ (b : Bool). cond b u (met_left u 0 (next_bytes u 0))) h.0 ∙ ap (met_left u 0) h.2;
   ends = ap (λ (b : Bool). cond b Nothing (ending_met u 0 (next_bytes u 0))) h.0 ∙ ap (ending_met u 0) h.2;
 }
@@ -86,7 +88,8 @@ still_in u (Refused op why) h = absurd h
 
 -- ---- a state of the machine where all that is held is right
 
-module _ (s : Setup) (u : Plain) (w : Word) (held : List Held) (machine : IsOfMachine s u) (right : AllByRecursion (IsRight s w u) held) (out : AreOut s held) (t : Translator) (memory : List Window) (base : HoldsBase t memory held) where
+module _ (s : Setup) (u : Plain) (w : Word) (held : List Held) (machine : IsOfMachine s u) (right : AllByRecursion (IsRight s w u) held) (out : AreOut s held)
+    (t : Translator) (memory : List Window) (base : HoldsBase t memory held) where
   maps_at : slice_get u.translators 0 ≡ Some t
   maps_at = owes_all (Right s w u) (part.Maps 0) (Maps t) held base.maps right
 
@@ -99,18 +102,29 @@ module _ (s : Setup) (u : Plain) (w : Word) (held : List Held) (machine : IsOfMa
   shape_is : u.layout.shape ≡ s.start.layout.shape
   shape_is = ap (λ (l : Layout). l.shape) (sym machine.layout)
 
-  ready_from : (r : StepReply) → w.place < s.limits.place_last → IsAnswered u (call.Step 0) (reply.Step r) held → IsReady s u w (call.Step 0) (reply.Step r) held
-  ready_from r room answered = record { machine = machine; has = right_had s w u held right; room = room; stands = out.stands; apart = out.apart; out = out.out; answered = answered }
+  ready_from : (r : StepReply) → w.place < s.limits.place_last → IsAnswered u (call.Step 0) (reply.Step r) held
+      → IsReady s u w (call.Step 0) (reply.Step r) held
+  ready_from r room answered = record {
+    machine = machine;
+    has = right_had s w u held right;
+    room = room;
+    stands = out.stands;
+    apart = out.apart;
+    out = out.out;
+    answered = answered;
+  }
 
   -- no command is met
   module _ (r : StepReply) (none : MeetsNone t.regs memory r) where
     still : IsStill u r
-    still = still_in u r (subst (λ (x : Translator). MeetsNone x.regs u.memory r) (sym translator_is) (subst (λ (m : List Window). MeetsNone t.regs m r) (sym memory_is) none))
+    still = still_in u r (subst (λ (x : Translator). MeetsNone x.regs u.memory r) (sym translator_is)
+        (subst (λ (m : List Window). MeetsNone t.regs m r) (sym memory_is) none))
 
     still_answered : IsAnswered u (call.Step 0) (reply.Step r) held
     unfolding footprint reply_of
     still_answered = record {
-      covers = subst (λ (ps : List Part). AllByRecursion (λ p. Holds p held) (part.Maps 0 ∷ part.Mem ∷ ps)) (sym still.needs_none) (owes_holds (part.Maps 0) (Maps t) held base.maps, (owes_holds part.Mem (Mem memory) held base.mem, tt));
+      covers = subst (λ (ps : List Part). AllByRecursion (λ p. Holds p held) (part.Maps 0 ∷ part.Mem ∷ ps)) (sym still.needs_none)
+          (owes_holds (part.Maps 0) (Maps t) held base.maps, (owes_holds part.Mem (Mem memory) held base.mem, tt));
       reply_is = ap (λ (x : StepReply). reply.Step x) still.reply_is;
     }
 
@@ -148,22 +162,26 @@ module _ (s : Setup) (u : Plain) (w : Word) (held : List Held) (machine : IsOfMa
 
     left_is : left_by c u 0 ≡ step_left u 0
     unfolding step_left
-    left_is = ap (λ (x : Command). left_by x u 0) (sym meets.command) ∙ (ap (met_left u 0) (sym bytes_are) ∙ ap (λ (b : Bool). cond b u (met_left u 0 (next_bytes u 0))) (sym busy))
+    left_is = ap (λ (x : Command). left_by x u 0) (sym meets.command)
+        ∙ (ap (met_left u 0) (sym bytes_are) ∙ ap (λ (b : Bool). cond b u (met_left u 0 (next_bytes u 0))) (sym busy))
 
     -- the parts that are left are those of the state that the step leaves
-    pub parts_left : (r : Reply) (regs' : Registers) (maps' : MapsOf) (redists' : List (Option Owned)) → AreLeftBy c s.start.layout.shape memory (t.regs, t.maps, redists) (regs', maps', redists')
+    pub parts_left : (r : Reply) (regs' : Registers) (maps' : MapsOf) (redists' : List (Option Owned)) → AreLeftBy c s.start.layout.shape memory
+        (t.regs, t.maps, redists) (regs', maps', redists')
         → ArePartsOf (left u (call.Step 0) r) 0 s.start.layout.shape regs' maps' memory redists'
     unfolding left
     parts_left r regs' maps' redists' leaves = subst (λ (x : Plain). ArePartsOf x 0 s.start.layout.shape regs' maps' memory redists') left_is (leaves u 0 parts)
 
-    module _ (set : ℕ) (needs : ArePartsOfStep s.start.layout.shape t.maps c set) (has : (p : Part) → IsPartOf 0 set p → Holds p held) (said : CmdReply) (replies : IsReplyTo c s.start.layout.shape t.regs t.maps memory redists said) where
+    module _ (set : ℕ) (needs : ArePartsOfStep s.start.layout.shape t.maps c set) (has : (p : Part) → IsPartOf 0 set p → Holds p held) (said : CmdReply)
+        (replies : IsReplyTo c s.start.layout.shape t.regs t.maps memory redists said) where
       needs_is : needed_next u 0 ≡ needed u 0 c
       needs_is = rw (busy, bytes_are, meets.command) refl
 
       covers : AllByRecursion (λ p. Holds p held) (footprint u (call.Step 0))
       unfolding footprint
       covers = subst (λ (ps : List Part). AllByRecursion (λ p. Holds p held) (part.Maps 0 ∷ part.Mem ∷ ps)) (sym needs_is)
-          (from_each (λ p. Holds p held) (part.Maps 0 ∷ part.Mem ∷ needed u 0 c) (λ p at. has p ((needs u 0 shape_is (ap (λ (x : Translator). x.maps) translator_is) p).0 at)))
+          (from_each (λ p. Holds p held) (part.Maps 0 ∷ part.Mem ∷ needed u 0 c)
+          (λ p at. has p ((needs u 0 shape_is (ap (λ (x : Translator). x.maps) translator_is) p).0 at)))
 
       replied : as_step said ≡ step_reply u 0
       unfolding step_reply

@@ -20,19 +20,24 @@ use Rattle.its_steps.proofs.Stamps.{one_has}
 -- what a step with this ending may do, with these parts held
 abbrev pub IsMark : Setup → Ending → Word → ℕ → ShardChange → List Held → Type 0
 IsMark s Nothing w stamp ch held = (stamp ≡ w.stamp) × (ch ≡ change.Keep)
-IsMark s (Pair dev ev) w stamp ch held = (stamp ≡ w.stamp) × (ch ≡ change.Drop (record { 0 = dev }) (record { 0 = ev })) × Holds (part.Shard 0 (shard_number dev ev s.shards)) held
+IsMark s (Pair dev ev) w stamp ch held = (stamp ≡ w.stamp) × (ch ≡ change.Drop (record { 0 = dev }) (record { 0 = ev }))
+    × Holds (part.Shard 0 (shard_number dev ev s.shards)) held
 IsMark s All w stamp ch held = ((stamp ≡ w.stamp + 1) × (ch ≡ change.Keep) × (w.stamp + 1 ≤ s.limits.stamp_last))
     ⊎ ((stamp ≡ 0) × (ch ≡ change.Empty) × (w.stamp ≡ s.limits.stamp_last) × ((n : ℕ) → n < s.shards → Holds (part.Shard 0 n) held))
 
 abbrev pub step_commit : Word → Reply → ℕ → ShardChange → Commit
 step_commit w r stamp ch = record { expected = w; stamp = stamp; call = call.Step 0; reply = r; change = ch }
 
-module _ (s : Setup) (one : translator_count s ≡ 1) (u : Plain) (w : Word) (r : Reply) (held : List Held) (ready : IsReady s u w (call.Step 0) r held) (maps : Holds (part.Maps 0) held) where
-  marked : (e : Ending) → ending_of u (call.Step 0) ≡ e → (stamp : ℕ) (ch : ShardChange) → IsMark s e w stamp ch held → MayLeaveIn s u (step_commit w r stamp ch) held
+module _ (s : Setup) (one : translator_count s ≡ 1) (u : Plain) (w : Word) (r : Reply) (held : List Held) (ready : IsReady s u w (call.Step 0) r held)
+    (maps : Holds (part.Maps 0) held) where
+  marked : (e : Ending) → ending_of u (call.Step 0) ≡ e → (stamp : ℕ) (ch : ShardChange) → IsMark s e w stamp ch held
+      → MayLeaveIn s u (step_commit w r stamp ch) held
   marked Nothing is stamp ch m =
-      subst (λ (x : ℕ × ShardChange). MayLeaveIn s u (step_commit w r x.0 x.1) held) (λ d. (sym m.0 d, sym m.1 d)) (nothing_ends s u w (call.Step 0) r held ready is)
+      subst (λ (x : ℕ × ShardChange). MayLeaveIn s u (step_commit w r x.0 x.1) held) (λ d. (sym m.0 d, sym m.1 d))
+      (nothing_ends s u w (call.Step 0) r held ready is)
   marked (Pair dev ev) is stamp ch m =
-      subst (λ (x : ℕ × ShardChange). MayLeaveIn s u (step_commit w r x.0 x.1) held) (λ d. (sym m.0 d, sym m.1 d)) (pair_ends s u w (call.Step 0) r held ready (record { 0 = dev }) (record { 0 = ev }) is m.2)
+      subst (λ (x : ℕ × ShardChange). MayLeaveIn s u (step_commit w r x.0 x.1) held) (λ d. (sym m.0 d, sym m.1 d))
+      (pair_ends s u w (call.Step 0) r held ready (record { 0 = dev }) (record { 0 = ev }) is m.2)
   marked All is stamp ch (inl m) =
       let at = (one_has s one).0 w 0 in
       let next = (one_has s one).1 w.stamp 0 in

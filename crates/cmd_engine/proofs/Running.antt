@@ -75,9 +75,14 @@ cached_owes n (cached.Pair dev ev ways) others p x o = inr o
 cached_owes n cached.Any others p x o = o
 cached_owes n (cached.Every shards) others p x o = shards_owe shards others n p x o
 
-pub cached_out : (s : Setup) (c : Cached) (others : List Held) → 0 < translator_count s → AreWhole s.shards c → HoldsNoShard others → AreOut s others → AreOut s (cached_held s.shards c others)
+pub cached_out : (s : Setup) (c : Cached) (others : List Held) → 0 < translator_count s → AreWhole s.shards c → HoldsNoShard others → AreOut s others
+    → AreOut s (cached_held s.shards c others)
 cached_out s cached.Nothing others some whole lacks o = o
-cached_out s (cached.Pair dev ev ways) others some whole lacks o = record { stands = ((some, whole), o.stands); apart = (lacks (shard_number dev.0 ev.0 s.shards), o.apart); out = (refl, o.out) }
+cached_out s (cached.Pair dev ev ways) others some whole lacks o = record {
+  stands = ((some, whole), o.stands);
+  apart = (lacks (shard_number dev.0 ev.0 s.shards), o.apart);
+  out = (refl, o.out);
+}
 cached_out s cached.Any others some whole lacks o = o
 cached_out s (cached.Every shards) others some whole lacks o = record {
   stands = shards_stand shards others s s.shards some (omega arith) o.stands;
@@ -87,11 +92,13 @@ cached_out s (cached.Every shards) others some whole lacks o = record {
 
 -- ---- the commit of a mark
 
-pub is_mark : (s : Setup) (c : Cached) (others held : List Held) (said : CmdReply) (w : Word) (m : Mark) → AreWhole s.shards c → ((p : Part) → Holds p (cached_held s.shards c others) → Holds p held) → MayMark s.limits.stamp_last c said w m
+pub is_mark : (s : Setup) (c : Cached) (others held : List Held) (said : CmdReply) (w : Word) (m : Mark) → AreWhole s.shards c
+    → ((p : Part) → Holds p (cached_held s.shards c others) → Holds p held) → MayMark s.limits.stamp_last c said w m
     → IsMark s (ending_said c said) w m.stamp m.change held
 is_mark s c others held (answers.Refused op why) w m whole holds may = may.leaves
 is_mark s cached.Nothing others held (answers.Ran op) w m whole holds may = may.leaves
-is_mark s (cached.Pair dev ev ways) others held (answers.Ran op) w m whole holds may = (may.leaves.0, may.leaves.1, holds (part.Shard 0 (shard_number dev.0 ev.0 s.shards)) (inl refl))
+is_mark s (cached.Pair dev ev ways) others held (answers.Ran op) w m whole holds may =
+    (may.leaves.0, may.leaves.1, holds (part.Shard 0 (shard_number dev.0 ev.0 s.shards)) (inl refl))
 is_mark s cached.Any others held (answers.Ran op) w m whole holds may = elim may.leaves [
   | inl up ↦ inl (up.0, up.2, omega (arith, up.1))
   | inr again ↦ absurd (may.every again.2)
@@ -104,16 +111,19 @@ is_mark s (cached.Every shards) others held (answers.Ran op) w m whole holds may
 -- ---- what it leaves in the shards
 
 module _ (s : Setup) (w : Word) (r : Reply) (z : Plain) (others : List Held) where
-  pair_dropped : (stamp : ℕ) (dev : DeviceId) (ev : EventId) (ways : Ways) → changed s (word_after (step_commit w r stamp (change.Drop dev ev))) (call.Step 0) (change.Drop dev ev) 0 (shard_number dev.0 ev.0 s.shards) ways ≡ dropped ways dev.0 ev.0
+  pair_dropped : (stamp : ℕ) (dev : DeviceId) (ev : EventId) (ways : Ways) → changed s (word_after (step_commit w r stamp (change.Drop dev ev))) (call.Step 0)
+      (change.Drop dev ev) 0 (shard_number dev.0 ev.0 s.shards) ways ≡ dropped ways dev.0 ev.0
   unfolding changed
-  pair_dropped stamp dev ev ways = ap (λ (b : Bool). cond b (dropped ways dev.0 ev.0) ways) (eq-eqb (shard_number dev.0 ev.0 s.shards) (shard_number dev.0 ev.0 s.shards) refl)
+  pair_dropped stamp dev ev ways = ap (λ (b : Bool). cond b (dropped ways dev.0 ev.0) ways)
+      (eq-eqb (shard_number dev.0 ev.0 s.shards) (shard_number dev.0 ev.0 s.shards) refl)
 
   pair_kept : (stamp n : ℕ) (ways : Ways) → changed s (word_after (step_commit w r stamp change.Keep)) (call.Step 0) change.Keep 0 n ways ≡ ways
   unfolding changed
   pair_kept stamp n ways = refl
 
   pub record Leaves (stamp : ℕ) (ch : ShardChange) (old new : Cached) : Type 0 where
-    pub renews : renewed s (step_commit w r stamp ch) z (cached_held s.shards old others) ≡ cached_held s.shards new (renewed s (step_commit w r stamp ch) z others)
+    pub renews : renewed s (step_commit w r stamp ch) z (cached_held s.shards old others) ≡ cached_held s.shards new
+        (renewed s (step_commit w r stamp ch) z others)
     pub whole : AreWhole s.shards old → AreWhole s.shards new
 
   keeps : (old new : Cached) (stamp : ℕ) → new ≡ old → Leaves stamp change.Keep old new
@@ -122,13 +132,15 @@ module _ (s : Setup) (w : Word) (r : Reply) (z : Plain) (others : List Held) whe
       at : (c : Cached) → Leaves stamp change.Keep c c
       at cached.Nothing = record { renews = refl; whole = λ x. x }
       at (cached.Pair dev ev ways) = record {
-        renews = ap (λ (l : Ways). (let out : List Held = shard_held (shard_number dev.0 ev.0 s.shards) l ∷ renewed s (step_commit w r stamp change.Keep) z others in out)) (pair_kept stamp (shard_number dev.0 ev.0 s.shards) ways);
+        renews = ap (λ (l : Ways). (let out : List Held = shard_held (shard_number dev.0 ev.0 s.shards) l ∷ renewed s (step_commit w r stamp change.Keep) z
+            others in out)) (pair_kept stamp (shard_number dev.0 ev.0 s.shards) ways);
         whole = λ x. x;
       }
       at cached.Any = record { renews = refl; whole = λ x. x }
       at (cached.Every shards) = record { renews = shards_kept s (step_commit w r stamp change.Keep) z refl shards others s.shards refl; whole = λ x. x }
 
-  pub any_leaves : (last : ℕ) (old new : Cached) (said : CmdReply) (m : Mark) → MayMark last old said w m → AreChanged m.change old new → Leaves m.stamp m.change old new
+  pub any_leaves : (last : ℕ) (old new : Cached) (said : CmdReply) (m : Mark) → MayMark last old said w m → AreChanged m.change old new
+      → Leaves m.stamp m.change old new
   any_leaves last old new (answers.Refused op why) m may is = at m.change may.leaves.1 is
     where
       at : (ch : ShardChange) → ch ≡ change.Keep → AreChanged ch old new → Leaves m.stamp ch old new
@@ -136,12 +148,14 @@ module _ (s : Setup) (w : Word) (r : Reply) (z : Plain) (others : List Held) whe
   any_leaves last cached.Nothing new (answers.Ran op) m may is = at m.change may.leaves.1 is
     where
       at : (ch : ShardChange) → ch ≡ change.Keep → AreChanged ch cached.Nothing new → Leaves m.stamp ch cached.Nothing new
-      at ch e = subst (λ (x : ShardChange). AreChanged x cached.Nothing new → Leaves m.stamp x cached.Nothing new) (sym e) (λ same. keeps cached.Nothing new m.stamp same)
+      at ch e = subst (λ (x : ShardChange). AreChanged x cached.Nothing new → Leaves m.stamp x cached.Nothing new) (sym e)
+          (λ same. keeps cached.Nothing new m.stamp same)
   any_leaves last (cached.Pair dev ev ways) new (answers.Ran op) m may is = at m.change may.leaves.1 is
     where
       one : new ≡ cached.Pair dev ev (dropped ways dev.0 ev.0) → Leaves m.stamp (change.Drop dev ev) (cached.Pair dev ev ways) new
       one e = subst (Leaves m.stamp (change.Drop dev ev) (cached.Pair dev ev ways)) (sym e) record {
-        renews = ap (λ (l : Ways). (let out : List Held = shard_held (shard_number dev.0 ev.0 s.shards) l ∷ renewed s (step_commit w r m.stamp (change.Drop dev ev)) z others in out)) (pair_dropped m.stamp dev ev ways);
+        renews = ap (λ (l : Ways). (let out : List Held = shard_held (shard_number dev.0 ev.0 s.shards) l ∷ renewed s
+            (step_commit w r m.stamp (change.Drop dev ev)) z others in out)) (pair_dropped m.stamp dev ev ways);
         whole = λ x. x;
       }
 
@@ -160,7 +174,8 @@ module _ (s : Setup) (w : Word) (r : Reply) (z : Plain) (others : List Held) whe
   ]
     where
       at : (ch : ShardChange) → ch ≡ change.Keep → AreChanged ch (cached.Every shards) new → Leaves m.stamp ch (cached.Every shards) new
-      at ch e = subst (λ (x : ShardChange). AreChanged x (cached.Every shards) new → Leaves m.stamp x (cached.Every shards) new) (sym e) (λ same. keeps (cached.Every shards) new m.stamp same)
+      at ch e = subst (λ (x : ShardChange). AreChanged x (cached.Every shards) new → Leaves m.stamp x (cached.Every shards) new) (sym e)
+          (λ same. keeps (cached.Every shards) new m.stamp same)
 
       some_same : (a b : List (Option Ways)) → AreEmptied a b → (n : ℕ) → is_some (in_place b n) ≡ is_some (in_place a n)
       some_same a b are n = ap (λ (o : Option Ways). is_some o) (are n) ∙ kept (in_place a n)

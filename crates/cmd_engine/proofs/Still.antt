@@ -30,7 +30,8 @@ use Rattle.cmd_engine.proofs.InState.{AreOut, HoldsBase, translator_is, memory_i
 use Rattle.cmd_engine.proofs.Marks.{step_commit}
 use Rattle.cmd_engine.proofs.Running.{base_out, base_holds}
 
-module _ (s : Setup) (one : translator_count s ≡ 1) (r : StepReply) (v x : View) (w : Word) (still : HoldsStill v r) (own : v.setup ≡ s) (looks : Looks v w x) (room : w.place < s.limits.place_last) where
+module _ (s : Setup) (one : translator_count s ≡ 1) (r : StepReply) (v x : View) (w : Word) (still : HoldsStill v r) (own : v.setup ≡ s) (looks : Looks v w x)
+    (room : w.place < s.limits.place_last) where
   abbrev u : Plain
   u = after v.setup.start x.seen
 
@@ -56,7 +57,8 @@ module _ (s : Setup) (one : translator_count s ≡ 1) (r : StepReply) (v x : Vie
   ends = still_ends s u w held m right out (translator_of still.tables) still.memory base r still.none
 
   may_leave : MayLeaveIn s u a held
-  may_leave = nothing_ends s u w (call.Step 0) (reply.Step r) held (still_ready s u w held m right out (translator_of still.tables) still.memory base r still.none room) ends
+  may_leave = nothing_ends s u w (call.Step 0) (reply.Step r) held (still_ready s u w held m right out (translator_of still.tables) still.memory base r
+      still.none room) ends
 
   pub still_may : MayCall s a x.held
   still_may = subst (MayCall s a) (sym (same_held s v x w held own still.held looks)) may_leave.0
@@ -71,7 +73,8 @@ module _ (s : Setup) (one : translator_count s ≡ 1) (r : StepReply) (v x : Vie
         λ d. record { part = part.Mem; owed = Mem (n d); out = true } ∷ record { part = part.Maps 0; owed = Maps (t d); out = true } ∷ [])
 
     pub still_held : Commits x a y → y.held ≡ v.held
-    still_held commits = owed_after s x y a held (ap (λ (k : View). k.setup) looks.same ∙ own) (same_held s v x w held own still.held looks) commits ∙ (may_leave.1 ∙ (stays ∙ sym still.held))
+    still_held commits = owed_after s x y a held (ap (λ (k : View). k.setup) looks.same ∙ own) (same_held s v x w held own still.held looks) commits
+        ∙ (may_leave.1 ∙ (stays ∙ sym still.held))
 
     pub still_runs : (place : ℕ) → place ≡ w.place → Commits x a y → MakesStep v (record { place = place; reply = r }) y
     still_runs place at commits = made_step v x y w r place w.stamp change.Keep s own looks room at commits

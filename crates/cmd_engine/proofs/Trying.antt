@@ -1,5 +1,6 @@
 -- From what a try tells of its pass to what the step says.
-use Rattle.std.proofs.Common.{◌≡◌, ◌<◌, ℕ, zero, suc, List, [], ◌∷◌, ◌++◌, length, replicate, Option, None, Result, Ok, Err, refl, ap, sym, ◌∙◌, subst, inl, inr}
+use Rattle.std.proofs.Common.{◌≡◌, ◌<◌, ℕ, zero, suc, List, [], ◌∷◌, ◌++◌, length, replicate, Option, None, Result, Ok, Err, refl, ap, sym, ◌∙◌, subst, inl}
+use Rattle.std.proofs.Common.{inr}
 use Rattle.its_types.specs.declared.machine.Part.{Part}
 use Rattle.its_types.specs.declared.machine.Part.TheVariants as part
 use Rattle.its_types.specs.declared.machine.Placed.{Placed}
@@ -28,7 +29,8 @@ use Rattle.its_turns.proofs.Telling.{stays_again, placed_again}
 use Rattle.held_parts.specs.Redists.{AreNoRedists, IsRedistOf}
 use Rattle.held_parts.specs.Shards.{IsShardOfFirst}
 use Rattle.held_parts.specs.Taking.{TakesInTime, TakesOnly, Goes, WasMade, holding}
-use Rattle.held_parts.proofs.Going.{takes_wider, takes_one, got_then, going_first, going_takes, going_looked, going_home, going_stays, going_made, made_home, made_placed}
+use Rattle.held_parts.proofs.Going.{takes_wider, takes_one, got_then, going_first, going_takes, going_looked, going_home, going_stays, going_made, made_home}
+use Rattle.held_parts.proofs.Going.{made_placed}
 use Rattle.cmd_engine.specs.Leaving.{LeavesAs}
 use Rattle.cmd_engine.specs.StepHands.{IsOfStep}
 use Rattle.cmd_engine.specs.StepShards.{LeavesBy}
@@ -57,7 +59,8 @@ pub goes_one : (v x : View) (p : Part) (c : Content) → IsOfStep p → TakesInT
 goes_one v x p c is t = going_takes IsOfStep v v x (going_first IsOfStep v) (takes_one IsOfStep v x p c is t)
 
 pub goes_shards : (v x y : View) (w : Word) → Looks v w x → TakesOnly IsShardOfFirst x y → Goes IsOfStep v y
-goes_shards v x y w looks takes = going_takes IsOfStep v x y (going_looked IsOfStep v v x w (going_first IsOfStep v) looks) (takes_wider IsShardOfFirst IsOfStep shard_of_step x y takes)
+goes_shards v x y w looks takes = going_takes IsOfStep v x y (going_looked IsOfStep v v x w (going_first IsOfStep v) looks)
+    (takes_wider IsShardOfFirst IsOfStep shard_of_step x y takes)
 
 pub goes_redists : (set : ℕ) (v x y : View) → Goes IsOfStep v x → TakesOnly (IsRedistOf set) x y → Goes IsOfStep v y
 goes_redists set v x y goes takes = going_takes IsOfStep v x y goes (takes_wider (IsRedistOf set) IsOfStep (redist_of_step set) x y takes)
@@ -74,9 +77,11 @@ goes_then v w x a b = record {
 
 -- ---- what the maps taken tell
 
-pub targets_of : (s : Setup) (t : Tables) (shape : Shape) → HasStood s (part.Maps 0) (Maps (translator_of t)) → shape ≡ s.start.layout.shape → AreTargets shape t.maps.maps
+pub targets_of : (s : Setup) (t : Tables) (shape : Shape) → HasStood s (part.Maps 0) (Maps (translator_of t)) → shape ≡ s.start.layout.shape
+    → AreTargets shape t.maps.maps
 targets_of s t shape stood same = λ icid vcpu e. let m = stood.machine in
-    subst (λ (x : Shape). vcpu.0 < x.vcpus) (sym same) (subst (λ (l : Layout). vcpu.0 < l.shape.vcpus) (sym m.layout) ((m.sound.translators 0 (translator_of t) stood.right).collections icid vcpu e).target)
+    subst (λ (x : Shape). vcpu.0 < x.vcpus) (sym same) (subst (λ (l : Layout). vcpu.0 < l.shape.vcpus) (sym m.layout)
+    ((m.sound.translators 0 (translator_of t) stood.right).collections icid vcpu e).target)
 
 -- ---- one entry more
 
@@ -121,15 +126,19 @@ module _ (v y z x : View) (bare : v.held ≡ []) (goes : Goes IsOfStep v y) (hom
   made_step p m =
       let a : Commit = step_commit m.word (reply.Step p.reply) m.stamp m.change in
       let made : WasMade IsOfStep v a x = made_home IsOfStep v z x a [] (going_made IsOfStep v y z a goes m.makes) home in
-      let at : IsPlaced v (call.Step 0) (reply.Step p.reply) p.place x = subst (λ (k : ℕ). IsPlaced v (call.Step 0) (reply.Step p.reply) k x) (sym m.place) (made_placed IsOfStep v x a made free) in
-      let seen : v.seen ++ at.between ≡ m.makes.seen = same_before (v.seen ++ at.between) m.makes.seen (entry v.number (call.Step 0) (reply.Step p.reply)) (entry y.number (call.Step 0) (reply.Step p.reply))
+      let at : IsPlaced v (call.Step 0) (reply.Step p.reply) p.place x = subst (λ (k : ℕ). IsPlaced v (call.Step 0) (reply.Step p.reply) k x) (sym m.place)
+      (made_placed IsOfStep v x a made free) in
+      let seen : v.seen ++ at.between ≡ m.makes.seen = same_before (v.seen ++ at.between) m.makes.seen (entry v.number (call.Step 0) (reply.Step p.reply))
+      (entry y.number (call.Step 0) (reply.Step p.reply))
       (sym at.seen ∙ (ap (λ (k : View). k.seen) home ∙ ap (λ (k : View). k.seen) m.makes.view)) in (
         record {
           placed = at;
           leaves = leaves_as v.setup.limits.stamp_last (ending_of (after v.setup.start (v.seen ++ at.between)) (call.Step 0)) x
-              (subst (λ (k : LastCommit × ℕ). LeavesBy v.setup.limits.stamp_last (ending_of (after v.setup.start (v.seen ++ at.between)) (call.Step 0)) k.0.base.stamp k.1 k.0.change)
+              (subst (λ (k : LastCommit × ℕ). LeavesBy v.setup.limits.stamp_last (ending_of (after v.setup.start (v.seen ++ at.between)) (call.Step 0))
+              k.0.base.stamp k.1 k.0.change)
               (λ d. (sym made.made.commit d, sym (ap (λ (w : Word). w.stamp) made.made.last) d))
-              (subst (λ (k : Setup × List Entry). LeavesBy k.0.limits.stamp_last (ending_of (after k.0.start k.1) (call.Step 0)) m.word.stamp m.stamp m.change) (λ d. (own d, sym seen d)) m.leaves));
+              (subst (λ (k : Setup × List Entry). LeavesBy k.0.limits.stamp_last (ending_of (after k.0.start k.1) (call.Step 0)) m.word.stamp m.stamp m.change)
+              (λ d. (own d, sym seen d)) m.leaves));
         },
         made.got,
       )
@@ -137,7 +146,8 @@ module _ (v y z x : View) (bare : v.held ≡ []) (goes : Goes IsOfStep v y) (hom
   why_not : (e : Unmade) → IsWhyNot y e z → IsWhyNot v e x
   why_not unmade.Again is = tt
   why_not (unmade.Never none.Spent) is = ap (λ (k : View). length k.seen) home ∙ (is ∙ ap (λ (k : Setup). k.limits.place_last) own)
-  why_not (unmade.Never none.NoMemory) is = subst (λ (k : Setup × List Entry). WantsMemory (after k.0.start k.1)) (λ d. (own d, sym (ap (λ (k : View). k.seen) home) d)) is
+  why_not (unmade.Never none.NoMemory) is = subst (λ (k : Setup × List Entry). WantsMemory (after k.0.start k.1))
+      (λ d. (own d, sym (ap (λ (k : View). k.seen) home) d)) is
 
   looked_only : (e : Unmade) → LooksOnly y e z → Stays v x × IsWhyNot v e x × GotOnly IsOfStep v x
   looked_only e l =
@@ -160,10 +170,12 @@ module _ (v w x : View) (stays : Stays v w) (got : GotOnly IsOfStep v w) where
   pub made_again : (p : Placed StepReply) → IsStep w p x → GotOnly IsOfStep w x → IsStep v p x × GotOnly IsOfStep v x
   made_again p m turns =
       let at : IsPlaced v (call.Step 0) (reply.Step p.reply) p.place x = placed_again v w x (call.Step 0) (reply.Step p.reply) p.place stays m.placed in
-      let seen : v.seen ++ at.between ≡ w.seen ++ m.placed.between = same_before (v.seen ++ at.between) (w.seen ++ m.placed.between) (entry v.number (call.Step 0) (reply.Step p.reply)) (entry w.number (call.Step 0) (reply.Step p.reply)) (sym at.seen ∙ m.placed.seen) in (
+      let seen : v.seen ++ at.between ≡ w.seen ++ m.placed.between = same_before (v.seen ++ at.between) (w.seen ++ m.placed.between)
+      (entry v.number (call.Step 0) (reply.Step p.reply)) (entry w.number (call.Step 0) (reply.Step p.reply)) (sym at.seen ∙ m.placed.seen) in (
         record {
           placed = at;
-          leaves = subst (λ (k : Setup × List Entry). LeavesAs k.0.limits.stamp_last (ending_of (after k.0.start k.1) (call.Step 0)) x) (λ d. (same_setup d, sym seen d)) m.leaves;
+          leaves = subst (λ (k : Setup × List Entry). LeavesAs k.0.limits.stamp_last (ending_of (after k.0.start k.1) (call.Step 0)) x)
+              (λ d. (same_setup d, sym seen d)) m.leaves;
         },
         got_then IsOfStep v w x got turns,
       )

@@ -1,5 +1,6 @@
 -- Writes of registers, by what they make of the stamp.
-use Rattle.std.proofs.Common.{◌≡◌, ℕ, ◌+◌, ◌<◌, Bool, true, false, if◌then◌else◌, List, Option, Some, length, slice_get, refl, ap, sym, ◌∙◌, subst, inl, inr, arith, le_refl, get_or-set_same}
+use Rattle.std.proofs.Common.{◌≡◌, ℕ, ◌+◌, ◌<◌, Bool, true, false, if◌then◌else◌, List, Option, Some, length, slice_get, refl, ap, sym, ◌∙◌, subst, inl, inr}
+use Rattle.std.proofs.Common.{arith, le_refl, get_or-set_same}
 use Rattle.std.proofs.lemmas.Option.{get_or_from_slice_get}
 use Rattle.its_types.specs.declared.machine.Part.TheVariants as part
 use Rattle.its_types.specs.declared.machine.Word.{Word}
@@ -67,12 +68,14 @@ module _ (s : Setup) (one : translator_count s ≡ 1) (vcpus : HasVcpus s) (w : 
   may_write stamp (inl on) = subst MayWrite (sym on.1) (writes s w 0 r.off r.size r.value t vcpus it room on.0)
   may_write stamp (inr off) =
       let own : stamp_of s w 0 ≡ w.stamp = (one_has s one).0 w 0 in
-      let risen : stamp_with (translator_count s) w.stamp 0 (stamp_of s w 0 + 1) ≡ stamp = (one_has s one).1 w.stamp 0 (stamp_of s w 0 + 1) ∙ (ap (λ (n : ℕ). n + 1) own ∙ sym off.1) in
+      let risen : stamp_with (translator_count s) w.stamp 0 (stamp_of s w 0 + 1) ≡ stamp = (one_has s one).1 w.stamp 0 (stamp_of s w 0 + 1)
+      ∙ (ap (λ (n : ℕ). n + 1) own ∙ sym off.1) in
       subst MayWrite risen (rises s w 0 r.off r.size r.value t vcpus (inl one) it room (omega (arith, own, off.2)))
 
   -- ---- with all shards too
 
-  module _ (u : Plain) (machine : IsOfMachine s u) (shards : List (Option Ways)) (are : AreShards s.shards shards) (has : HasAll u (shards_held shards s.shards (maps_held t))) where
+  module _ (u : Plain) (machine : IsOfMachine s u) (shards : List (Option Ways)) (are : AreShards s.shards shards)
+      (has : HasAll u (shards_held shards s.shards (maps_held t))) where
     abbrev held : List Held
     held = shards_held shards s.shards (maps_held t)
 
@@ -99,8 +102,10 @@ module _ (s : Setup) (one : translator_count s ≡ 1) (vcpus : HasVcpus s) (w : 
     }
 
     may : MayLeave s renews held (renewal_in s u renews held)
-    may = subst (λ (n : ℕ). MayLeave s (write_commit w n r change.Empty) held (renewal_in s u (write_commit w n r change.Empty) held)) ((one_has s one).1 w.stamp 0 0)
-        (all_end_at_last s u w (write_call r) reply.Ok held ready (inl one) (shards_hold shards (maps_held t) s.shards (part.Maps 0) (inl refl)) (all_hold shards (maps_held t) s.shards are))
+    may = subst (λ (n : ℕ). MayLeave s (write_commit w n r change.Empty) held (renewal_in s u (write_commit w n r change.Empty) held))
+        ((one_has s one).1 w.stamp 0 0)
+        (all_end_at_last s u w (write_call r) reply.Ok held ready (inl one) (shards_hold shards (maps_held t) s.shards (part.Maps 0) (inl refl))
+        (all_hold shards (maps_held t) s.shards are))
 
     pub may_renew : MayCall s renews held
     may_renew = may.0
@@ -120,25 +125,30 @@ module _ (s : Setup) (t : Translator) (r : RegWrite) (w : Word) (y x : View) (ow
   own_leaves : (e : Ending) → LeavesAs n e x → LeavesAs y.setup.limits.stamp_last e x
   own_leaves e l = subst (λ (z : Setup). LeavesAs z.limits.stamp_last e x) (sym own) l
 
-  pub write_made : (stamp : ℕ) → y.held ≡ maps_held t → IsStampOf n t r w stamp → Commits y (write_commit w stamp r change.Keep) x → MadeAs IsOfTranslator y (write_call r) reply.Ok w.place x
+  pub write_made : (stamp : ℕ) → y.held ≡ maps_held t → IsStampOf n t r w stamp → Commits y (write_commit w stamp r change.Keep) x
+      → MadeAs IsOfTranslator y (write_call r) reply.Ok w.place x
   write_made stamp held (inl on) commits =
       let has : slice_get (after y.setup.start y.seen).translators 0 ≡ Some t = (subst (HasAll (after y.setup.start y.seen)) held read.has).0 in
       let a : Commit = write_commit w stamp r change.Keep in
       made_now y x a commits IsOfTranslator w refl read
-      (subst (λ (e : Ending). LeavesAs y.setup.limits.stamp_last e x) (sym (ends_none (after y.setup.start y.seen) t r has on.0)) (leaves_same y x a commits on.1))
+      (subst (λ (e : Ending). LeavesAs y.setup.limits.stamp_last e x) (sym (ends_none (after y.setup.start y.seen) t r has on.0))
+      (leaves_same y x a commits on.1))
   write_made stamp held (inr off) commits =
       let has : slice_get (after y.setup.start y.seen).translators 0 ≡ Some t = (subst (HasAll (after y.setup.start y.seen)) held read.has).0 in
       let a : Commit = write_commit w stamp r change.Keep in
       made_now y x a commits IsOfTranslator w refl read
-      (subst (λ (e : Ending). LeavesAs y.setup.limits.stamp_last e x) (sym (ends_all (after y.setup.start y.seen) t r has off.0)) (own_leaves All (inl (leaves_risen y x a commits n off.1 off.2 refl))))
+      (subst (λ (e : Ending). LeavesAs y.setup.limits.stamp_last e x) (sym (ends_all (after y.setup.start y.seen) t r has off.0))
+      (own_leaves All (inl (leaves_risen y x a commits n off.1 off.2 refl))))
 
-  pub renew_made : (shards : List (Option Ways)) → y.held ≡ shards_held shards s.shards (maps_held t) → turns_off r t ≡ true → w.stamp ≡ n → Commits y (write_commit w 0 r change.Empty) x → MadeAs IsOfTranslator y (write_call r) reply.Ok w.place x
+  pub renew_made : (shards : List (Option Ways)) → y.held ≡ shards_held shards s.shards (maps_held t) → turns_off r t ≡ true → w.stamp ≡ n
+      → Commits y (write_commit w 0 r change.Empty) x → MadeAs IsOfTranslator y (write_call r) reply.Ok w.place x
   renew_made shards held off most commits =
       let u : Plain = after y.setup.start y.seen in
       let has : slice_get u.translators 0 ≡ Some t = (shards_rest shards (maps_held t) u s.shards (subst (HasAll u) held read.has)).0 in
       let a : Commit = write_commit w 0 r change.Empty in
       made_now y x a commits IsOfTranslator w refl read
-      (subst (λ (e : Ending). LeavesAs y.setup.limits.stamp_last e x) (sym (ends_all u t r has off)) (own_leaves All (inr (leaves_renewed y x a commits n refl most refl))))
+      (subst (λ (e : Ending). LeavesAs y.setup.limits.stamp_last e x) (sym (ends_all u t r has off))
+      (own_leaves All (inr (leaves_renewed y x a commits n refl most refl))))
 
 -- ---- what is owed
 

@@ -43,7 +43,8 @@ abbrev pub HasEvery : Cached → Type 0
 HasEvery (cached.Every shards) = Unit {0}
 HasEvery other = ⊥
 
--- from this stamp to that, with this change: nothing ends, or a pair that is dropped, or all, with a higher stamp or, after the last one, with every shard emptied
+-- from this stamp to that, with this change: nothing ends, or a pair that is dropped, or all, with a higher stamp or, after the
+-- last one, with every shard emptied
 abbrev pub LeavesBy : ℕ → Ending → ℕ → ℕ → ShardChange → Type 0
 LeavesBy last Nothing base stamp ch = (stamp ≡ base) × (ch ≡ change.Keep)
 LeavesBy last (Pair dev ev) base stamp ch = (stamp ≡ base) × (ch ≡ change.Drop (record { 0 = dev }) (record { 0 = ev }))

@@ -51,7 +51,8 @@ pub(crate) fn command_step<R: Wait, G: Gate>(
 ) -> Result<Placed<StepReply>, Unmade>
     requires of { IsOf machine.now pass.old }
     requires held { (view pass.old).held ≡ base_held tables.value memory.value.memory }
-    requires stood { HasStood (setup machine.now) (part.Maps 0) (content.Maps (translator_of tables.value)) }
+    requires stood { HasStood (setup machine.now) (part.Maps 0)
+        (content.Maps (translator_of tables.value)) }
     requires meets { MeetsCommand tables.value.regs memory.value.memory command.now }
     requires empty { AreNoRedists redists.old }
     ensures of { IsOf machine.now pass.new }
@@ -90,13 +91,15 @@ fn run_command<G: Gate>(
     redists: &mut Redists,
 ) -> Result<Placed<StepReply>, Unmade>
     requires of { IsOf machine.now pass.old }
-    requires held { (view pass.old).held ≡ step_held (setup machine.now) tables.old memory.now cached.old redists.old }
+    requires held { (view pass.old).held ≡ step_held (setup machine.now) tables.old memory.now
+        cached.old redists.old }
     requires whole { AreWhole (setup machine.now).shards cached.old }
     requires meets { MeetsCommand tables.old.regs memory.now command.now }
     requires ends { ending_in tables.old.maps.maps command.now ≡ ending_as cached.old }
     requires needed { HasNeeded (setup machine.now) command.now tables.old.maps.maps redists.old }
     ensures of { IsOf machine.now pass.new }
-    ensures held { (view pass.new).held ≡ step_held (setup machine.now) tables.new memory.now cached.new redists.new }
+    ensures held { (view pass.new).held ≡ step_held (setup machine.now) tables.new memory.now
+        cached.new redists.new }
     ensures whole { AreWhole (setup machine.now).shards cached.new }
     ensures hand { (set : ℕ) → AreOfSet (setup machine.now) set redists.old →
         AreOfSet (setup machine.now) set redists.new }

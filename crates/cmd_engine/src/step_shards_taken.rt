@@ -29,7 +29,8 @@ pub(crate) fn take_cached<R: Wait>(
     requires free { HoldsNoShard (view pass.old).held }
     ensures of { IsOf machine.now pass.new }
     ensures goes { Goes IsOfStep (view pass.old) (view pass.new) }
-    ensures held { (view pass.new).held ≡ cached_held (setup machine.now).shards result (view pass.old).held }
+    ensures held { (view pass.new).held ≡ cached_held (setup machine.now).shards result
+        (view pass.old).held }
     ensures whole { AreWhole (setup machine.now).shards result }
     ensures ends { ending_in maps.now.maps command.now ≡ ending_as result }
 {
@@ -52,7 +53,8 @@ fn take_any<R: Wait>(rt: &R, machine: &Machine, pass: &mut Pass) -> Cached
     requires free { HoldsNoShard (view pass.old).held }
     ensures of { IsOf machine.now pass.new }
     ensures goes { Goes IsOfStep (view pass.old) (view pass.new) }
-    ensures held { (view pass.new).held ≡ cached_held (setup machine.now).shards result (view pass.old).held }
+    ensures held { (view pass.new).held ≡ cached_held (setup machine.now).shards result
+        (view pass.old).held }
     ensures whole { AreWhole (setup machine.now).shards result }
     ensures ends { ending_as result ≡ All }
 {

@@ -20,7 +20,8 @@ use Rattle.its_types.specs.declared.machine.Shape.{Shape}
 use Rattle.its_types.specs.declared.translation.Event.{Event}
 use Rattle.its_plain.specs.Commands.{event_at}
 use Rattle.its_plain.specs.declared.call.Reason.{Reason}
-use Rattle.its_plain.specs.declared.call.Reason.TheVariants.{DeviceRange, SizeRange, TargetRange, CollectionRange, NoDevice, EventRange, IntidRange, NoCollection, LpisOff}
+use Rattle.its_plain.specs.declared.call.Reason.TheVariants.{DeviceRange, SizeRange, TargetRange, CollectionRange, NoDevice, EventRange, IntidRange}
+use Rattle.its_plain.specs.declared.call.Reason.TheVariants.{NoCollection, LpisOff}
 use Rattle.lpi_pending.specs.declared.redist.Redist.{Redist}
 use Rattle.cmd_exec.specs.declared.effect.Effect.{Effect}
 use Rattle.cmd_exec.specs.declared.effect.Effect.TheVariants as effect
@@ -54,14 +55,16 @@ module _ (s : Shape) (r : Registers) (m : Maps) (memory : List Window) (rs : Lis
   targeted_adds Two icid (Some from) to is =
       let mapped : Is false (effect.MapCollection icid to) = ap (λ (x : Option Vcpu). not (is_some x)) is in
       cond_both (eqb from.0 to.0) (effect.MapCollection icid to) (moved rs icid from to) (Is false) (λ _. mapped)
-      (λ _. cond_both (is_on_in rs from.0 && is_on_in rs to.0) (effect.MoveCollection icid from to) (effect.MapCollection icid to) (Is false) (λ _. refl) (λ _. mapped))
+      (λ _. cond_both (is_on_in rs from.0 && is_on_in rs to.0) (effect.MoveCollection icid from to) (effect.MapCollection icid to) (Is false) (λ _. refl)
+      (λ _. mapped))
 
   mapc_adds : (icid : Icid) (target : ℕ) → If (not (is_some (collection_of m icid.0))) (parts.mapc s r m rs icid target)
   unfolding parts.mapc
   mapc_adds icid target =
       let P = Is (not (is_some (collection_of m icid.0))) in
       passed P (nat_lt target s.vcpus) TargetRange _ (λ _.
-      passed P (nat_lt icid.0 (collection_places r)) CollectionRange _ (λ _. targeted_adds s.profile icid (collection_of m icid.0) (record { 0 = target }) refl))
+      passed P (nat_lt icid.0 (collection_places r)) CollectionRange _ (λ _. targeted_adds s.profile icid (collection_of m icid.0)
+      (record { 0 = target }) refl))
 
   added_adds : (dev : DeviceId) (ev : EventId) (event : Event) → Is (adds_event m dev.0 ev.0) (added m dev ev event)
   unfolding effect_adds
@@ -113,7 +116,8 @@ module _ (s : Shape) (r : Registers) (m : Maps) (memory : List Window) (rs : Lis
   movall_adds : (from to : ℕ) → If false (parts.movall s rs from to)
   unfolding parts.movall effect_adds
   movall_adds from to =
-      passed (Is false) (nat_lt from s.vcpus && nat_lt to s.vcpus) TargetRange _ (λ _. passed (Is false) (is_on_in rs from && is_on_in rs to) LpisOff _ (λ _. refl))
+      passed (Is false) (nat_lt from s.vcpus && nat_lt to s.vcpus) TargetRange _ (λ _. passed (Is false) (is_on_in rs from && is_on_in rs to) LpisOff _
+      (λ _. refl))
 
   -- an effect adds something just where its command does
   pub planned_adds : (c : Command) → If (grows m c) (parts.planned s r m memory rs c)

@@ -27,15 +27,18 @@ module _ (s : Shape) (m : Maps) (targets : AreTargets s m) where
   of_event : (dev ev v : ℕ) → is_target (target_of_event m dev ev) v ≡ true → v < s.vcpus
   of_event dev ev v is = by_event (event_of m dev ev) is
     where
-      by_event : (o : Option Event) → is_target (elim o as (λ _. Option Vcpu) [ None ↦ None | Some event ↦ collection_of m event.icid.0 ]) v ≡ true → v < s.vcpus
+      by_event : (o : Option Event) → is_target (elim o as (λ _. Option Vcpu) [ None ↦ None | Some event ↦ collection_of m event.icid.0 ]) v ≡ true
+          → v < s.vcpus
       by_event None is = absurd (both_ways false refl is)
       by_event (Some event) is = of_collection event.icid.0 v is
 
   either : (from to v : ℕ) → from < s.vcpus → to < s.vcpus → is_either from to v ≡ true → v < s.vcpus
   either from to v low high is =
-      or_else (eqb from v) (eqb to v) (v < s.vcpus) (λ e. subst (λ (n : ℕ). n < s.vcpus) (eqb-true from v e) low) (λ e. subst (λ (n : ℕ). n < s.vcpus) (eqb-true to v e) high) is
+      or_else (eqb from v) (eqb to v) (v < s.vcpus) (λ e. subst (λ (n : ℕ). n < s.vcpus) (eqb-true from v e) low)
+      (λ e. subst (λ (n : ℕ). n < s.vcpus) (eqb-true to v e) high) is
 
-  moved : (p : Profile) (before : Option Vcpu) (to v : ℕ) → ((t : Vcpu) → before ≡ Some t → t.0 < s.vcpus) → to < s.vcpus → is_moved p before to v ≡ true → v < s.vcpus
+  moved : (p : Profile) (before : Option Vcpu) (to v : ℕ) → ((t : Vcpu) → before ≡ Some t → t.0 < s.vcpus) → to < s.vcpus → is_moved p before to v ≡ true
+      → v < s.vcpus
   moved One before to v below high is = absurd (both_ways false refl is)
   moved Two None to v below high is = absurd (both_ways false refl is)
   moved Two (Some from) to v below high is = either from.0 to v (below from refl) high (and_parts _ _ is).1

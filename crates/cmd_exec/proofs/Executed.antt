@@ -42,7 +42,8 @@ Hand = List (Option Redist)
 
 moved_held : (x from to v : ℕ) (rs : Hand) → is_some (in_hand (lpi_moved_in x from to rs) v) ≡ is_some (in_hand rs v)
 moved_held x from to v rs =
-    cond_both (is_pending x (lpis_in rs from)) (changed to (with_set x) (changed from (with_cleared x) rs)) rs (λ (now : Hand). is_some (in_hand now v) ≡ is_some (in_hand rs v))
+    cond_both (is_pending x (lpis_in rs from)) (changed to (with_set x) (changed from (with_cleared x) rs)) rs
+    (λ (now : Hand). is_some (in_hand now v) ≡ is_some (in_hand rs v))
     (λ _. changed_held to v (with_set x) (changed from (with_cleared x) rs) ∙ changed_held from v (with_cleared x) rs) (λ _. refl)
 
 lpis_held : (xs : List ℕ) (from to v : ℕ) (rs : Hand) → is_some (in_hand (lpis_moved_in xs from to rs) v) ≡ is_some (in_hand rs v)
@@ -51,14 +52,16 @@ lpis_held (x ∷ xs) from to v rs = lpis_held xs from to v (lpi_moved_in x from 
 
 all_held : (from to v : ℕ) (rs : Hand) → is_some (in_hand (all_moved_in from to rs) v) ≡ is_some (in_hand rs v)
 all_held from to v rs =
-    cond_both (eqb from to) rs (changed to (with_all (lpis_in rs from)) (changed from with_none rs)) (λ (now : Hand). is_some (in_hand now v) ≡ is_some (in_hand rs v))
+    cond_both (eqb from to) rs (changed to (with_all (lpis_in rs from)) (changed from with_none rs))
+    (λ (now : Hand). is_some (in_hand now v) ≡ is_some (in_hand rs v))
     (λ _. refl) (λ _. changed_held to v (with_all (lpis_in rs from)) (changed from with_none rs) ∙ changed_held from v with_none rs)
 
 cleared_held : (x : ℕ) (o : Option Vcpu) (v : ℕ) (rs : Hand) → is_some (in_hand (cleared_in x o rs) v) ≡ is_some (in_hand rs v)
 cleared_held x None v rs = refl
 cleared_held x (Some w) v rs = changed_held w.0 v (with_cleared x) rs
 
-pub after_held : (s : Shape) (m : Maps) (memory : List Window) (e : Effect) (rs : Hand) (v : ℕ) → is_some (in_hand (redists_after s m memory e rs) v) ≡ is_some (in_hand rs v)
+pub after_held : (s : Shape) (m : Maps) (memory : List Window) (e : Effect) (rs : Hand) (v : ℕ) → is_some (in_hand (redists_after s m memory e rs) v) ≡ is_some
+    (in_hand rs v)
 unfolding redists_after
 after_held s m memory effect.Nothing rs v = refl
 after_held s m memory (effect.MapDevice dev device) rs v = refl
@@ -115,7 +118,8 @@ module _ (s : Shape) (r : Registers) (mr : MapsRoom) (memory : List Window) (rs 
       ap as_step (ap (λ (x : Command). outcome_reply (op_of x) p.outcome) is.command ∙ ap (outcome_reply (op_of c)) is.outcome)
       ∙ same_reply u i (planned s r m memory rs c) ∙ sym (ap (command_reply (op_of c)) (ran_is u i are))
 
-  same_adds : (u : Plain) (i : ℕ) (b : Bool) (x : Result Effect Reason) → IfOk x (λ e. effect_adds m e ≡ b) → outcome_adds m x ≡ (is_ok (by (left u i m) x) && b)
+  same_adds : (u : Plain) (i : ℕ) (b : Bool) (x : Result Effect Reason) → IfOk x (λ e. effect_adds m e ≡ b)
+      → outcome_adds m x ≡ (is_ok (by (left u i m) x) && b)
   same_adds u i b (Ok e) h = h
   same_adds u i b (Err reason) h = refl
 

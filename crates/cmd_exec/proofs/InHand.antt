@@ -1,5 +1,6 @@
 -- Redistributors in hand, of which some were changed.
-use Rattle.std.proofs.Common.{◌≡◌, ℕ, zero, suc, ◌+◌, ◌<◌, ◌≤◌, true, List, [], ◌∷◌, length, set, eqb, subst, add-one, Option, Some, None, inl, inr, refl, sym, ap, ◌∙◌, arith}
+use Rattle.std.proofs.Common.{◌≡◌, ℕ, zero, suc, ◌+◌, ◌<◌, ◌≤◌, true, List, [], ◌∷◌, length, set, eqb, subst, add-one, Option, Some, None, inl, inr, refl, sym}
+use Rattle.std.proofs.Common.{ap, ◌∙◌, arith}
 use Rattle.std.specs.Prelude.{is_some}
 use Rattle.std.specs.Option.{option_map}
 use Rattle.std.proofs.lemmas.Bool.{cases_lt, cases_eq, cond-false, ne_eqb}
@@ -13,14 +14,16 @@ use Rattle.cmd_exec.specs.InHand.{CanRereadAll, redist_by, changed, changed_belo
 
 -- ---- one was changed
 
-pub changed_here : (v : ℕ) (f : Redistributor → Redistributor) (rs : List (Option Redist)) → in_hand (changed v f rs) v ≡ option_map (redist_by f) (in_hand rs v)
+pub changed_here : (v : ℕ) (f : Redistributor → Redistributor) (rs : List (Option Redist)) → in_hand (changed v f rs) v ≡ option_map (redist_by f)
+    (in_hand rs v)
 unfolding changed
 changed_here v f rs =
     elim (cases_lt v (length rs)) [
       | inl within ↦ get_or-set_same rs v (option_map (redist_by f) (in_hand rs v)) None within
       | inr past ↦
           let none : in_hand rs v ≡ None = get_or_past rs v None past in
-          ap (λ (xs : List (Option Redist)). in_hand xs v) (set_past rs v (option_map (redist_by f) (in_hand rs v)) past) ∙ none ∙ sym (ap (option_map (redist_by f)) none)
+          ap (λ (xs : List (Option Redist)). in_hand xs v) (set_past rs v (option_map (redist_by f) (in_hand rs v)) past) ∙ none
+          ∙ sym (ap (option_map (redist_by f)) none)
     ]
 
 pub changed_there : (v w : ℕ) (f : Redistributor → Redistributor) (rs : List (Option Redist)) → (w ≡ v → ⊥) → in_hand (changed v f rs) w ≡ in_hand rs w
@@ -32,7 +35,8 @@ pub same_changed : {X : Type 0} (g : Option Redist → X) (v w : ℕ) (f : Redis
     → ((o : Option Redist) → g (option_map (redist_by f) o) ≡ g o) → g (in_hand (changed v f rs) w) ≡ g (in_hand rs w)
 same_changed g v w f rs same =
     elim (cases_eq w v) [
-      | inl here ↦ ap (λ (k : ℕ). g (in_hand (changed v f rs) k)) here ∙ ap g (changed_here v f rs) ∙ same (in_hand rs v) ∙ ap (λ (k : ℕ). g (in_hand rs k)) (sym here)
+      | inl here ↦ ap (λ (k : ℕ). g (in_hand (changed v f rs) k)) here ∙ ap g (changed_here v f rs) ∙ same (in_hand rs v) ∙ ap (λ (k : ℕ). g (in_hand rs k))
+          (sym here)
       | inr there ↦ ap g (changed_there v w f rs there)
     ]
 
@@ -58,7 +62,8 @@ below_there (suc n) v f rs le =
     let other : v ≡ n → ⊥ = λ (e : v ≡ n). omega (arith, le, e) in
     changed_there n v f (changed_below n f rs) other ∙ below_there n v f rs (omega (arith, le))
 
-pub below_here : (n v : ℕ) (f : Redistributor → Redistributor) (rs : List (Option Redist)) → v < n → in_hand (changed_below n f rs) v ≡ option_map (redist_by f) (in_hand rs v)
+pub below_here : (n v : ℕ) (f : Redistributor → Redistributor) (rs : List (Option Redist)) → v < n → in_hand (changed_below n f rs) v ≡ option_map (redist_by f)
+    (in_hand rs v)
 below_here zero v f rs lt = absurd (omega (arith, lt))
 below_here (suc n) v f rs lt =
     elim (cases_eq v n) [
@@ -74,8 +79,10 @@ below_held (suc n) w f rs = changed_held n w f (changed_below n f rs) ∙ below_
 
 -- ---- all pending LPIs of one were moved to another
 
-pub moved_all : (rs taken left : List (Option Redist)) (from to : ℕ) (s t s' t' : Redist) → (from ≡ to → ⊥) → in_hand rs from ≡ Some s → taken ≡ set rs from None
-    → in_hand taken to ≡ Some t → s' ≡ redist_by with_none s → t' ≡ redist_by (with_all s.pending.lpis) t → left ≡ set (set taken to (Some t')) from (Some s') → left ≡ all_moved_in from to rs
+pub moved_all : (rs taken left : List (Option Redist)) (from to : ℕ) (s t s' t' : Redist) → (from ≡ to → ⊥) → in_hand rs from ≡ Some s
+    → taken ≡ set rs from None
+    → in_hand taken to ≡ Some t → s' ≡ redist_by with_none s → t' ≡ redist_by (with_all s.pending.lpis) t → left ≡ set (set taken to (Some t')) from (Some s')
+    → left ≡ all_moved_in from to rs
 unfolding changed
 moved_all rs taken left from to s t s' t' other has_s taken_is has_t s_is t_is left_is =
     let other' : to ≡ from → ⊥ = λ (e : to ≡ from). other (sym e) in
@@ -83,7 +90,8 @@ moved_all rs taken left from to s t s' t' other has_s taken_is has_t s_is t_is l
     let once : List (Option Redist) = changed from with_none rs in
     let lpis : lpis_in rs from ≡ s.pending.lpis = ap held_lpis has_s in
     let at_to : in_hand once to ≡ Some t =
-    changed_there from to with_none rs other' ∙ sym (get_or-set_other rs from to None None other') ∙ ap (λ (xs : List (Option Redist)). in_hand xs to) (sym taken_is) ∙ has_t in
+    changed_there from to with_none rs other' ∙ sym (get_or-set_other rs from to None None other') ∙ ap (λ (xs : List (Option Redist)). in_hand xs to)
+    (sym taken_is) ∙ has_t in
     left_is
     ∙ ap (λ (xs : List (Option Redist)). set (set xs to (Some t')) from (Some s')) taken_is
     ∙ set_comm (set rs from None) to from (Some t') (Some s') other'
@@ -107,7 +115,8 @@ held_can (Some x) intids r h e = subst (λ (y : Redist). CanRereadAll y intids) 
 pub below_now : (v : ℕ) (f : Redistributor → Redistributor) (rs now : List (Option Redist)) → now ≡ changed_below v f rs → in_hand now v ≡ in_hand rs v
 below_now v f rs now is = ap (λ (xs : List (Option Redist)). in_hand xs v) is ∙ below_there v v f rs (omega arith)
 
-pub below_step : (v : ℕ) (f : Redistributor → Redistributor) (rs now : List (Option Redist)) (r r' : Redist) → now ≡ changed_below v f rs → in_hand now v ≡ Some r → r' ≡ redist_by f r
+pub below_step : (v : ℕ) (f : Redistributor → Redistributor) (rs now : List (Option Redist)) (r r' : Redist) → now ≡ changed_below v f rs
+    → in_hand now v ≡ Some r → r' ≡ redist_by f r
     → set now v (Some r') ≡ changed_below (v + 1) f rs
 unfolding changed
 below_step v f rs now r r' is has r_is =

@@ -1,5 +1,6 @@
 -- The parts in hand after an effect are those of the state that the plain machine goes on in.
-use Rattle.std.proofs.Common.{◌≡◌, ℕ, zero, suc, ◌<◌, Bool, true, false, cond, eqb, List, [], ◌∷◌, map, set, Option, Some, None, inl, inr, refl, sym, ap, subst, ◌∙◌, arith}
+use Rattle.std.proofs.Common.{◌≡◌, ℕ, zero, suc, ◌<◌, Bool, true, false, cond, eqb, List, [], ◌∷◌, map, set, Option, Some, None, inl, inr, refl, sym, ap}
+use Rattle.std.proofs.Common.{subst, ◌∙◌, arith}
 use Rattle.std.specs.Prelude.{is_some, slice_get}
 use Rattle.std.specs.Option.{option_map}
 use Rattle.std.proofs.lemmas.Bool.{cases_lt, cases_eq, eqb-false}
@@ -12,7 +13,8 @@ use Rattle.its_types.specs.Maps.{Maps, device_mapped, device_unmapped, event_map
 use Rattle.its_types.specs.declared.ids.Vcpu.{Vcpu}
 use Rattle.its_types.specs.declared.machine.Shape.{Shape}
 use Rattle.its_maps.specs.MapsRoom.{MapsRoom}
-use Rattle.its_plain.specs.Plain.{Plain, Translator, Redistributor, no_translator, no_redistributor, translator, redistributor, regs_of, maps_of, pending_of, is_on, with_maps, with_redistributor, with_pending}
+use Rattle.its_plain.specs.Plain.{Plain, Translator, Redistributor, no_translator, no_redistributor, translator, redistributor, regs_of, maps_of, pending_of}
+use Rattle.its_plain.specs.Plain.{is_on, with_maps, with_redistributor, with_pending}
 use Rattle.its_plain.specs.Commands.{lpi_set, lpi_cleared, lpi_moved, lpis_moved, all_moved, all_reread_at, reread, intids_of, cleared_at, with_collection}
 use Rattle.its_plain.specs.Answer.{went_on}
 use Rattle.lpi_pending.specs.InHand.{in_hand}
@@ -20,7 +22,8 @@ use Rattle.lpi_pending.specs.declared.redist.Redist.{Redist}
 use Rattle.owned_parts.specs.Owned.{ArePartsOf, AreRedistributorsOf, IsRedistributorOf, HasLpisOf, redistributor_of}
 use Rattle.cmd_exec.specs.declared.effect.Effect.{Effect}
 use Rattle.cmd_exec.specs.declared.effect.Effect.TheVariants as effect
-use Rattle.cmd_exec.specs.InHand.{redist_by, changed, changed_below, with_set, with_cleared, with_none, with_all, is_on_in, lpis_in, held_lpis, is_held_on, lpi_moved_in, lpis_moved_in, all_moved_in, takes_lpi}
+use Rattle.cmd_exec.specs.InHand.{redist_by, changed, changed_below, with_set, with_cleared, with_none, with_all, is_on_in, lpis_in, held_lpis, is_held_on}
+use Rattle.cmd_exec.specs.InHand.{lpi_moved_in, lpis_moved_in, all_moved_in, takes_lpi}
 use Rattle.cmd_exec.specs.Effects.{maps_after, redists_after, cleared_in}
 use Rattle.cmd_exec.specs.Ready.{IsReady, TakesAll, HaveSameLpis}
 use Rattle.cmd_exec.proofs.InHand.{changed_here, changed_there, below_here, below_there}
@@ -36,7 +39,8 @@ left u i m (effect.MapCollection icid vcpu) = with_collection u i icid.0 vcpu.0
 left u i m (effect.MoveCollection icid from to) = with_collection (lpis_moved (intids_of m icid.0) from.0 to.0 u) i icid.0 to.0
 left u i m (effect.UnmapCollection icid) = with_maps u i (collection_unmapped m icid.0)
 left u i m (effect.MapEvent dev ev event) = reread (event.intid.0 ∷ []) (with_maps u i (event_mapped m dev.0 ev.0 event))
-left u i m (effect.MoveEvent dev ev intid icid from to) = lpi_moved intid.0 from.0 to.0 (with_maps u i (event_mapped m dev.0 ev.0 (record { intid = intid; icid = icid })))
+left u i m (effect.MoveEvent dev ev intid icid from to) = lpi_moved intid.0 from.0 to.0
+    (with_maps u i (event_mapped m dev.0 ev.0 (record { intid = intid; icid = icid })))
 left u i m (effect.UnmapEvent dev ev intid target) = cleared_at intid.0 target (with_maps u i (event_unmapped m dev.0 ev.0))
 left u i m (effect.SetLpi intid vcpu) = lpi_set intid.0 vcpu.0 u
 left u i m (effect.ClearLpi intid vcpu) = lpi_cleared intid.0 vcpu.0 u
@@ -68,7 +72,8 @@ lpis_same u rs v h held =
 
 -- ---- one or all are changed
 
-mapped_from : (f : Redistributor → Redistributor) (o : Option Redist) (r : Redist) → option_map (redist_by f) o ≡ Some r → (x : Redist) × (o ≡ Some x) × (redist_by f x ≡ r)
+mapped_from : (f : Redistributor → Redistributor) (o : Option Redist) (r : Redist) → option_map (redist_by f) o ≡ Some r → (x : Redist) × (o ≡ Some x)
+    × (redist_by f x ≡ r)
 mapped_from f None r e = absurd cc
 mapped_from f (Some x) r e = (x, refl, same_Some (redist_by f x) r e)
 
@@ -87,7 +92,8 @@ set_get_other (z ∷ zs) zero (suc j) y other = refl
 set_get_other (z ∷ zs) (suc i) zero y other = refl
 set_get_other (z ∷ zs) (suc i) (suc j) y other = set_get_other zs i j y (λ e. other (ap (λ (n : ℕ). suc n) e))
 
-pub changed_are : (u : Plain) (rs : Hand) (v : ℕ) (f : Redistributor → Redistributor) → AreRedistributorsOf u rs → AreRedistributorsOf (with_redistributor u v (f (redistributor u v))) (changed v f rs)
+pub changed_are : (u : Plain) (rs : Hand) (v : ℕ) (f : Redistributor → Redistributor) → AreRedistributorsOf u rs
+    → AreRedistributorsOf (with_redistributor u v (f (redistributor u v))) (changed v f rs)
 changed_are u rs v f h = λ w r is.
     elim (cases_eq w v) [
       | inl here ↦
@@ -109,7 +115,8 @@ changed_are u rs v f h = λ w r is.
 abbrev pub AreBelow : ℕ → Hand → Type 0
 AreBelow n rs = (v : ℕ) (r : Redist) → in_hand rs v ≡ Some r → v < n
 
-pub below_are : (u : Plain) (rs : Hand) (n : ℕ) (f : Redistributor → Redistributor) → AreBelow n rs → AreRedistributorsOf u rs → AreRedistributorsOf (record u { redistributors = map f u.redistributors }) (changed_below n f rs)
+pub below_are : (u : Plain) (rs : Hand) (n : ℕ) (f : Redistributor → Redistributor) → AreBelow n rs → AreRedistributorsOf u rs
+    → AreRedistributorsOf (record u { redistributors = map f u.redistributors }) (changed_below n f rs)
 below_are u rs n f below h = λ v r is.
     elim (cases_lt v n) [
       | inl within ↦
@@ -142,13 +149,15 @@ module _ (i : ℕ) (s : Shape) (r : Registers) (memory : List Window) where
       let made : Registers → Option Translator = λ (x : Registers). Some (record { regs = x; maps = m' }) in
       record {
         shape_is = h.shape_is;
-        translator_is = set_get u.translators i (record { regs = r; maps = m }) (record (translator u i) { maps = m' }) h.translator_is ∙ ap made (regs_are u m rs h);
+        translator_is = set_get u.translators i (record { regs = r; maps = m }) (record (translator u i) { maps = m' }) h.translator_is
+            ∙ ap made (regs_are u m rs h);
         memory_is = h.memory_is;
         redistributors_are = same_redistributors u (set u.translators i (record (translator u i) { maps = m' })) rs h.redistributors_are;
       }
 
   -- with other redistributors
-  redists_are : (u : Plain) (m : Maps) (rs now : Hand) (redistributors : List Redistributor) → Are u m rs → AreRedistributorsOf (record u { redistributors = redistributors }) now
+  redists_are : (u : Plain) (m : Maps) (rs now : Hand) (redistributors : List Redistributor) → Are u m rs
+      → AreRedistributorsOf (record u { redistributors = redistributors }) now
       → Are (record u { redistributors = redistributors }) m now
   redists_are u m rs now redistributors h are = record {
     shape_is = h.shape_is;
@@ -157,13 +166,16 @@ module _ (i : ℕ) (s : Shape) (r : Registers) (memory : List Window) where
     redistributors_are = are;
   }
 
-  pub one_are : (u : Plain) (m : Maps) (rs : Hand) (v : ℕ) (f : Redistributor → Redistributor) → Are u m rs → Are (with_redistributor u v (f (redistributor u v))) m (changed v f rs)
+  pub one_are : (u : Plain) (m : Maps) (rs : Hand) (v : ℕ) (f : Redistributor → Redistributor) → Are u m rs
+      → Are (with_redistributor u v (f (redistributor u v))) m (changed v f rs)
   one_are u m rs v f h = redists_are u m rs (changed v f rs) (set u.redistributors v (f (redistributor u v))) h (changed_are u rs v f h.redistributors_are)
 
-  reread_are : (u : Plain) (m : Maps) (rs : Hand) (intids : List ℕ) → AreBelow s.vcpus rs → Are u m rs → Are (reread intids u) m (changed_below s.vcpus (all_reread_at memory intids) rs)
+  reread_are : (u : Plain) (m : Maps) (rs : Hand) (intids : List ℕ) → AreBelow s.vcpus rs → Are u m rs
+      → Are (reread intids u) m (changed_below s.vcpus (all_reread_at memory intids) rs)
   reread_are u m rs intids below h =
       let f = all_reread_at memory intids in
-      subst (λ (ws : List Window). Are (record u { redistributors = map (all_reread_at ws intids) u.redistributors }) m (changed_below s.vcpus f rs)) (sym h.memory_is)
+      subst (λ (ws : List Window). Are (record u { redistributors = map (all_reread_at ws intids) u.redistributors }) m (changed_below s.vcpus f rs))
+      (sym h.memory_is)
       (redists_are u m rs (changed_below s.vcpus f rs) (map f u.redistributors) h (below_are u rs s.vcpus f below h.redistributors_are))
 
   -- ---- LPIs that move
@@ -172,7 +184,8 @@ module _ (i : ℕ) (s : Shape) (r : Registers) (memory : List Window) where
   takes_held None x e = absurd cc
   takes_held (Some a) x e = refl
 
-  moved_are : (u : Plain) (m : Maps) (rs : Hand) (x from to : ℕ) → is_some (in_hand rs from) ≡ true → Are u m rs → Are (lpi_moved x from to u) m (lpi_moved_in x from to rs)
+  moved_are : (u : Plain) (m : Maps) (rs : Hand) (x from to : ℕ) → is_some (in_hand rs from) ≡ true → Are u m rs
+      → Are (lpi_moved x from to u) m (lpi_moved_in x from to rs)
   moved_are u m rs x from to held h =
       let t = is_pending x (lpis_in rs from) in
       let once : Are (lpi_cleared x from u) m (changed from (with_cleared x) rs) = one_are u m rs from (with_cleared x) h in
@@ -189,25 +202,31 @@ module _ (i : ℕ) (s : Shape) (r : Registers) (memory : List Window) where
   all_takes_kept : (x from to v : ℕ) (rs : Hand) (xs : List ℕ) → TakesAll rs v xs → TakesAll (lpi_moved_in x from to rs) v xs
   all_takes_kept x from to v rs xs h = takes_kept xs v rs (lpi_moved_in x from to rs) (λ y. moved_takes x from to v y rs) h
 
-  lpis_are : (xs : List ℕ) (u : Plain) (m : Maps) (rs : Hand) (from to : ℕ) → TakesAll rs from xs → Are u m rs → Are (lpis_moved xs from to u) m (lpis_moved_in xs from to rs)
+  lpis_are : (xs : List ℕ) (u : Plain) (m : Maps) (rs : Hand) (from to : ℕ) → TakesAll rs from xs → Are u m rs
+      → Are (lpis_moved xs from to u) m (lpis_moved_in xs from to rs)
   lpis_are [] u m rs from to takes h = h
   lpis_are (x ∷ xs) u m rs from to takes h =
       lpis_are xs (lpi_moved x from to u) m (lpi_moved_in x from to rs) from to (all_takes_kept x from to from rs xs takes.1)
       (moved_are u m rs x from to (takes_held (in_hand rs from) x takes.0) h)
 
-  all_moved_are : (u : Plain) (m : Maps) (rs : Hand) (from to : ℕ) → is_some (in_hand rs from) ≡ true → Are u m rs → Are (all_moved from to u) m (all_moved_in from to rs)
+  all_moved_are : (u : Plain) (m : Maps) (rs : Hand) (from to : ℕ) → is_some (in_hand rs from) ≡ true → Are u m rs
+      → Are (all_moved from to u) m (all_moved_in from to rs)
   unfolding all_moved
   all_moved_are u m rs from to held h =
       let lpis : List ℕ = lpis_in rs from in
       let emptied : Plain = with_pending u from [] in
       let taken : Hand = changed from with_none rs in
       let once : Are emptied m taken = one_are u m rs from with_none h in
-      let filled : Are (with_redistributor emptied to (with_all lpis (redistributor emptied to))) m (changed to (with_all lpis) taken) = one_are emptied m taken to (with_all lpis) once in
-      by_test (eqb from to) (with_pending emptied to (with_lpis (pending_of u from) (pending_of u to))) (changed to (with_all lpis) taken) (λ (off : eqb from to ≡ false).
+      let filled : Are (with_redistributor emptied to (with_all lpis (redistributor emptied to))) m (changed to (with_all lpis) taken) =
+      one_are emptied m taken to (with_all lpis) once in
+      by_test (eqb from to) (with_pending emptied to (with_lpis (pending_of u from) (pending_of u to))) (changed to (with_all lpis) taken)
+      (λ (off : eqb from to ≡ false).
       let other : to ≡ from → ⊥ = λ (e : to ≡ from). eqb-false from to off (sym e) in
-      let there : redistributor emptied to ≡ redistributor u to = get_or-set_other u.redistributors from to (with_none (redistributor u from)) no_redistributor other in
+      let there : redistributor emptied to ≡ redistributor u to = get_or-set_other u.redistributors from to (with_none (redistributor u from)) no_redistributor
+      other in
       let same : with_lpis lpis (pending_of emptied to) ≡ with_lpis (pending_of u from) (pending_of u to) =
-      ap (λ (x : Redistributor). with_lpis lpis x.pending) there ∙ ap (λ (xs : List ℕ). with_lpis xs (pending_of u to)) (sym (lpis_same u rs from h.redistributors_are held)) in
+      ap (λ (x : Redistributor). with_lpis lpis x.pending) there ∙ ap (λ (xs : List ℕ). with_lpis xs (pending_of u to))
+      (sym (lpis_same u rs from h.redistributors_are held)) in
       subst (λ (p : List ℕ). Are (with_pending emptied to p) m (changed to (with_all lpis) taken)) same filled)
     where
       by_test : (b : Bool) (x : Plain) (y : Hand) → (b ≡ false → Are x m y) → Are (cond b u x) m (cond b rs y)
@@ -216,7 +235,8 @@ module _ (i : ℕ) (s : Shape) (r : Registers) (memory : List Window) where
 
   -- ---- effects
 
-  collection_are : (u : Plain) (m : Maps) (rs : Hand) (icid : ℕ) (target : Vcpu) → Are u m rs → Are (with_collection u i icid target.0) (collection_mapped m icid target) rs
+  collection_are : (u : Plain) (m : Maps) (rs : Hand) (icid : ℕ) (target : Vcpu) → Are u m rs → Are (with_collection u i icid target.0)
+      (collection_mapped m icid target) rs
   collection_are u m rs icid target h =
       subst (λ (x : Maps). Are (with_maps u i (collection_mapped x icid target)) (collection_mapped m icid target) rs) (sym (maps_are u m rs h))
       (with_maps_are u m (collection_mapped m icid target) rs h)
@@ -256,7 +276,8 @@ module _ (i : ℕ) (s : Shape) (r : Registers) (memory : List Window) where
 
 -- ---- the next command
 
-pub went_on_are : (u : Plain) (i : ℕ) (s : Shape) (r : Registers) (m : Maps) (memory : List Window) (rs : Hand) → ArePartsOf u i s r m memory rs → ArePartsOf (went_on i u) i s (advanced r) m memory rs
+pub went_on_are : (u : Plain) (i : ℕ) (s : Shape) (r : Registers) (m : Maps) (memory : List Window) (rs : Hand) → ArePartsOf u i s r m memory rs
+    → ArePartsOf (went_on i u) i s (advanced r) m memory rs
 went_on_are u i s r m memory rs h =
     let made : Translator → Option Translator = λ (t : Translator). Some (record { regs = advanced t.regs; maps = t.maps }) in
     record {

@@ -1,5 +1,6 @@
 -- All events, by device and then by event, are those of the first device, those of the next, and so on.
-use Rattle.std.proofs.Common.{◌≡◌, ℕ, ◌<◌, ◌≤◌, Bool, true, false, cond, eqb, List, [], ◌∷◌, ◌++◌, map, filter, Option, Some, inl, inr, refl, sym, ap, subst, ◌∙◌, arith, ◌⊎◌}
+use Rattle.std.proofs.Common.{◌≡◌, ℕ, ◌<◌, ◌≤◌, Bool, true, false, cond, eqb, List, [], ◌∷◌, ◌++◌, map, filter, Option, Some, inl, inr, refl, sym, ap, subst}
+use Rattle.std.proofs.Common.{◌∙◌, arith, ◌⊎◌}
 use Rattle.std.specs.Prelude.{is_some}
 use Rattle.std.specs.List.{flat_map, list_any, AllByRecursion}
 use Rattle.std.specs.Ordering.{nat_cmp, ordering_then, is_lt, is_eq, eq_by_cmp}
@@ -102,7 +103,11 @@ splits_more d ds above later (x ∷ xs) rise h =
           ∙ ap (λ (r : Entries). x ∷ (block d.0 xs ++ r)) (sym (blocks_without x xs ds (subst (λ (n : ℕ). Above n ds) (sym same) above)))
           ∙ ap (λ (b : Entries). b ++ blocks (x ∷ xs) ds) (sym (block_with d.0 x xs same))
       | inr other ↦
-          let in_rest : has ds x.0.0 ≡ true = elim (or_cases (eqb d.0 x.0.0) (has ds x.0.0) h.0) [ inl p ↦ absurd (other (sym (eqb-true d.0 x.0.0 p))) | inr p ↦ p ] in
+          let in_rest : has ds x.0.0 ≡ true = elim (or_cases (eqb d.0 x.0.0) (has ds x.0.0) h.0) [
+            | inl p ↦ absurd (other (sym (eqb-true d.0 x.0.0 p)))
+            | inr p ↦
+                p
+          ] in
           let lt : d.0 < x.0.0 = has_above d.0 x.0.0 ds above in_rest in
           let all : AllHave ds (x ∷ xs) = (in_rest, have_rest d ds x.0.0 xs lt rise.0 h.1) in
           later (x ∷ xs) rise all
@@ -152,7 +157,8 @@ has_found n (d ∷ ds) e =
       | inl same ↦ or_left (eqb d.0 n) (has ds n) (eq-eqb d.0 n same)
       | inr other ↦
           or_right (eqb d.0 n) (has ds n) (has_found n ds
-          (sym (ap is_some (cond-false (eq_by_cmp nat_cmp n d.0) (Some d.1) (find nat_cmp n ds) (unsigned_tied n d.0 ∙ ne_eqb n d.0 (λ e'. other (sym e'))))) ∙ e))
+          (sym (ap is_some (cond-false (eq_by_cmp nat_cmp n d.0) (Some d.1) (find nat_cmp n ds) (unsigned_tied n d.0 ∙ ne_eqb n d.0 (λ e'. other (sym e')))))
+          ∙ e))
     ]
 
 -- and what holds of all that are found holds of each entry
@@ -160,7 +166,8 @@ all_found : (P : ℕ → Type 0) (xs : Entries) → ((q : ℕ × ℕ) → is_som
 all_found P [] h = tt
 all_found P (x ∷ xs) h = (
   h x.0 (ap (λ (o : Ordering). is_some (cond (is_eq o) (Some x.1) (find pair_cmp x.0 xs))) (tied_itself pair_total x.0)),
-  all_found P xs (λ q found. h q (cond_both (eq_by_cmp pair_cmp q x.0) (Some x.1) (find pair_cmp q xs) (λ (o : Option Event). is_some o ≡ true) (λ _. refl) (λ _. found))),
+  all_found P xs (λ q found. h q (cond_both (eq_by_cmp pair_cmp q x.0) (Some x.1) (find pair_cmp q xs) (λ (o : Option Event). is_some o ≡ true) (λ _. refl)
+      (λ _. found))),
 )
 
 all_have : (m : Maps) → EventsHaveDevices m → AllHave (entries m.devices) (entries m.events)
@@ -170,7 +177,8 @@ all_have m h =
 
 pub events_in_blocks : (m : Maps) → EventsHaveDevices m → entries m.events ≡ blocks (entries m.events) (entries m.devices)
 events_in_blocks m h =
-    splits (entries m.devices) (rise_sorted (entries m.devices) (entries_sorted m.devices)) (entries m.events) (devices_rise (entries m.events) (entries_sorted m.events)) (all_have m h)
+    splits (entries m.devices) (rise_sorted (entries m.devices) (entries_sorted m.devices)) (entries m.events)
+    (devices_rise (entries m.events) (entries_sorted m.events)) (all_have m h)
 
 -- ---- the LPIs of a collection
 
@@ -181,8 +189,11 @@ picked_append : (icid : ℕ) (xs ys : Entries) → picked icid (xs ++ ys) ≡ pi
 picked_append icid [] ys = refl
 picked_append icid (x ∷ xs) ys = by_test (picked_append icid xs ys) (eqb x.1.icid.0 icid)
   where
-    by_test : picked icid (xs ++ ys) ≡ picked icid xs ++ picked icid ys → (b : Bool) → map (λ (e : Entry). e.1.intid.0) (cond b (x ∷ filter (λ (e : Entry). eqb e.1.icid.0 icid) (xs ++ ys)) (filter (λ (e : Entry). eqb e.1.icid.0 icid) (xs ++ ys)))
-        ≡ map (λ (e : Entry). e.1.intid.0) (cond b (x ∷ filter (λ (e : Entry). eqb e.1.icid.0 icid) xs) (filter (λ (e : Entry). eqb e.1.icid.0 icid) xs)) ++ picked icid ys
+    by_test : picked icid (xs ++ ys) ≡ picked icid xs ++ picked icid ys → (b : Bool)
+        → map (λ (e : Entry). e.1.intid.0) (cond b (x ∷ filter (λ (e : Entry). eqb e.1.icid.0 icid) (xs ++ ys))
+        (filter (λ (e : Entry). eqb e.1.icid.0 icid) (xs ++ ys)))
+        ≡ map (λ (e : Entry). e.1.intid.0) (cond b (x ∷ filter (λ (e : Entry). eqb e.1.icid.0 icid) xs) (filter (λ (e : Entry). eqb e.1.icid.0 icid) xs))
+        ++ picked icid ys
     by_test is true = ap (λ (r : List ℕ). x.1.intid.0 ∷ r) is
     by_test is false = is
 
@@ -193,7 +204,8 @@ picked_short : (icid : ℕ) (xs : Entries) → lpis_of (short xs) icid ≡ picke
 picked_short icid [] = refl
 picked_short icid (x ∷ xs) = by_test (picked_short icid xs) (eqb x.1.icid.0 icid)
   where
-    by_test : lpis_of (short xs) icid ≡ picked icid xs → (b : Bool) → map (λ (e : ℕ × Event). e.1.intid.0) (cond b ((x.0.1, x.1) ∷ filter (λ (e : ℕ × Event). eqb e.1.icid.0 icid) (short xs)) (filter (λ (e : ℕ × Event). eqb e.1.icid.0 icid) (short xs)))
+    by_test : lpis_of (short xs) icid ≡ picked icid xs → (b : Bool) → map (λ (e : ℕ × Event). e.1.intid.0)
+        (cond b ((x.0.1, x.1) ∷ filter (λ (e : ℕ × Event). eqb e.1.icid.0 icid) (short xs)) (filter (λ (e : ℕ × Event). eqb e.1.icid.0 icid) (short xs)))
         ≡ map (λ (e : Entry). e.1.intid.0) (cond b (x ∷ filter (λ (e : Entry). eqb e.1.icid.0 icid) xs) (filter (λ (e : Entry). eqb e.1.icid.0 icid) xs))
     by_test is true = ap (λ (r : List ℕ). x.1.intid.0 ∷ r) is
     by_test is false = is

@@ -1,5 +1,6 @@
 -- A command comes to the same on the parts in hand and in the state that they are of.
-use Rattle.std.proofs.Common.{◌≡◌, ℕ, ◌^◌, ◌<◌, Bool, true, false, ◌&&◌, cond, eqb, nat_lt, nat_le, List, [], ◌∷◌, Option, Some, None, Result, Ok, refl, ap, subst, ◌∙◌}
+use Rattle.std.proofs.Common.{◌≡◌, ℕ, ◌^◌, ◌<◌, Bool, true, false, ◌&&◌, cond, eqb, nat_lt, nat_le, List, [], ◌∷◌, Option, Some, None, Result, Ok, refl, ap}
+use Rattle.std.proofs.Common.{subst, ◌∙◌}
 use Rattle.std.specs.Prelude.{is_some}
 use Rattle.std.proofs.lemmas.Bool.{ltb-true, and_parts, both_ways}
 use Rattle.gits_regs.specs.Registers.{Registers, collection_places}
@@ -20,7 +21,8 @@ use Rattle.its_plain.specs.Parts.{target_of_event}
 use Rattle.its_plain.specs.Commands as plain
 use Rattle.its_plain.specs.Commands.{◌>>=◌, event_at, intids_of, lpis_moved, followed_in, with_collection, with_event, reread, lpi_set, lpi_cleared}
 use Rattle.its_plain.specs.declared.call.Reason.{Reason}
-use Rattle.its_plain.specs.declared.call.Reason.TheVariants.{DeviceRange, SizeRange, TargetRange, CollectionRange, NoDevice, EventRange, IntidRange, NoCollection, LpisOff}
+use Rattle.its_plain.specs.declared.call.Reason.TheVariants.{DeviceRange, SizeRange, TargetRange, CollectionRange, NoDevice, EventRange, IntidRange}
+use Rattle.its_plain.specs.declared.call.Reason.TheVariants.{NoCollection, LpisOff}
 use Rattle.lpi_pending.specs.InHand.{in_hand}
 use Rattle.lpi_pending.specs.declared.redist.Redist.{Redist}
 use Rattle.owned_parts.specs.Owned.{AreRedistributorsOf}
@@ -66,19 +68,22 @@ module _ (u : Plain) (i : ℕ) (rs : List (Option Redist)) (are : AreRedistribut
   unfolding plain.unmapd parts.unmapd
   unmapd_same dev = test_same end (is_device_id u.layout.shape.dev_bits dev.0) (is_device_id u.layout.shape.dev_bits dev.0) DeviceRange _ _ refl refl
 
-  targeted_same : (p : Profile) (icid : Icid) (o : Option Vcpu) (to : Vcpu) → AreTargetsInHand rs p o to.0 → with_collection (followed_in p u i icid.0 o to.0) i icid.0 to.0 ≡ end (targeted p rs icid o to)
+  targeted_same : (p : Profile) (icid : Icid) (o : Option Vcpu) (to : Vcpu) → AreTargetsInHand rs p o to.0
+      → with_collection (followed_in p u i icid.0 o to.0) i icid.0 to.0 ≡ end (targeted p rs icid o to)
   targeted_same One icid o to h = refl
   targeted_same Two icid None to h = refl
   targeted_same Two icid (Some from) to h = by_same (eqb from.0 to.0) h
     where
-      by_on : (b b' : Bool) → b ≡ b' → with_collection (cond b (lpis_moved (intids_of m icid.0) from.0 to.0 u) u) i icid.0 to.0 ≡ end (cond b' (effect.MoveCollection icid from to) (effect.MapCollection icid to))
+      by_on : (b b' : Bool) → b ≡ b' → with_collection (cond b (lpis_moved (intids_of m icid.0) from.0 to.0 u) u) i icid.0 to.0 ≡ end
+          (cond b' (effect.MoveCollection icid from to) (effect.MapCollection icid to))
       by_on true true e = refl
       by_on false false e = refl
       by_on true false e = absurd (both_ways true e refl)
       by_on false true e = absurd (both_ways false refl e)
 
       by_same : (t : Bool) → (t ≡ false → (is_some (in_hand rs from.0) ≡ true) × (is_some (in_hand rs to.0) ≡ true))
-          → with_collection (cond t u (plain.followed u i icid.0 from.0 to.0)) i icid.0 to.0 ≡ end (cond t (effect.MapCollection icid to) (moved rs icid from to))
+          → with_collection (cond t u (plain.followed u i icid.0 from.0 to.0)) i icid.0 to.0 ≡ end
+          (cond t (effect.MapCollection icid to) (moved rs icid from to))
       by_same true g = refl
       by_same false g = by_on (is_on u from.0 && is_on u to.0) (is_on_in rs from.0 && is_on_in rs to.0) (both_same from.0 to.0 (g refl).0 (g refl).1)
 
@@ -93,7 +98,8 @@ module _ (u : Plain) (i : ℕ) (rs : List (Option Redist)) (are : AreRedistribut
 
   -- ---- events
 
-  mapti_same : (dev : DeviceId) (ev : EventId) (intid : Intid) (icid : Icid) → Same (plain.mapti u i dev.0 ev.0 intid.0 icid.0) (parts.mapti u.layout.shape r m dev ev intid icid)
+  mapti_same : (dev : DeviceId) (ev : EventId) (intid : Intid) (icid : Icid) → Same (plain.mapti u i dev.0 ev.0 intid.0 icid.0)
+      (parts.mapti u.layout.shape r m dev ev intid icid)
   unfolding plain.mapti parts.mapti
   mapti_same dev ev intid icid =
       option_same end (device_of m dev.0) NoDevice _ _ (λ device _.
@@ -115,7 +121,8 @@ module _ (u : Plain) (i : ℕ) (rs : List (Option Redist)) (are : AreRedistribut
       option_same end (collection_of m event.icid.0) NoCollection _ _ (λ from is_from.
       option_same end (collection_of m icid.0) NoCollection _ _ (λ to is_to.
       test_same end (is_on u from.0 && is_on u to.0) (is_on_in rs from.0 && is_on_in rs to.0) LpisOff _ _
-      (both_same from.0 to.0 (target_held rs (target_of_event m dev.0 ev.0) from (target_is m dev.0 ev.0 event at ∙ is_from) old) (target_held rs (collection_of m icid.0) to is_to new)) refl)))
+      (both_same from.0 to.0 (target_held rs (target_of_event m dev.0 ev.0) from (target_is m dev.0 ev.0 event at ∙ is_from) old)
+      (target_held rs (collection_of m icid.0) to is_to new)) refl)))
 
   lpi_same : (dev : DeviceId) (ev : EventId) → IsTargetInHand rs (target_of_event m dev.0 ev.0) → plain.lpi_at u i dev.0 ev.0 ≡ parts.lpi_at m rs dev ev
   unfolding plain.lpi_at parts.lpi_at
@@ -153,7 +160,8 @@ module _ (u : Plain) (i : ℕ) (rs : List (Option Redist)) (are : AreRedistribut
   unfolding plain.invall parts.invall
   invall_same icid = option_same end (collection_of m icid.0) NoCollection _ _ (λ _ _. refl)
 
-  movall_same : (from to : ℕ) → (from < u.layout.shape.vcpus → to < u.layout.shape.vcpus → AreBothInHand rs from to) → Same (plain.movall u from to) (parts.movall u.layout.shape rs from to)
+  movall_same : (from to : ℕ) → (from < u.layout.shape.vcpus → to < u.layout.shape.vcpus → AreBothInHand rs from to)
+      → Same (plain.movall u from to) (parts.movall u.layout.shape rs from to)
   unfolding plain.movall parts.movall
   movall_same from to h =
       let n = u.layout.shape.vcpus in
@@ -164,7 +172,8 @@ module _ (u : Plain) (i : ℕ) (rs : List (Option Redist)) (are : AreRedistribut
 
   -- ---- all commands
 
-  pub planned_same : (c : Command) → AreNeededInHand u.layout.shape m c rs → plain.ran u i c ≡ by (left u i (maps_of u i)) (parts.planned u.layout.shape (regs_of u i) (maps_of u i) u.memory rs c)
+  pub planned_same : (c : Command) → AreNeededInHand u.layout.shape m c rs → plain.ran u i c ≡ by (left u i (maps_of u i))
+      (parts.planned u.layout.shape (regs_of u i) (maps_of u i) u.memory rs c)
   unfolding plain.ran parts.planned
   planned_same (command.Movi dev ev icid) h = movi_same dev ev icid (movi_old u.layout.shape m rs dev ev icid h) (movi_new u.layout.shape m rs dev ev icid h)
   planned_same (command.Int dev ev) h = int_same dev ev (int_target u.layout.shape m rs dev ev h)

@@ -1,5 +1,6 @@
 -- A command that isn't refused has an effect that can be had on the parts of a sound state.
-use Rattle.std.proofs.Common.{◌≡◌, ℕ, ◌^◌, ◌<◌, Bool, true, false, ◌&&◌, not, cond, eqb, nat_lt, nat_le, List, [], ◌∷◌, map, filter, Option, Some, None, Result, Ok, Err, IfOk, refl, sym, ap, subst, ◌∙◌, arith}
+use Rattle.std.proofs.Common.{◌≡◌, ℕ, ◌^◌, ◌<◌, Bool, true, false, ◌&&◌, not, cond, eqb, nat_lt, nat_le, List, [], ◌∷◌, map, filter, Option, Some, None}
+use Rattle.std.proofs.Common.{Result, Ok, Err, IfOk, refl, sym, ap, subst, ◌∙◌, arith}
 use Rattle.std.specs.Prelude.{is_some, IfSome}
 use Rattle.std.specs.List.{AllByRecursion}
 use Rattle.std.specs.Ordering.{is_lt, is_eq, eq_by_cmp}
@@ -32,7 +33,8 @@ use Rattle.its_types.proofs.PairOrder.{pair_total, pair_tied}
 use Rattle.its_plain.specs.Parts.{target_of_event}
 use Rattle.its_plain.specs.Commands.{◌>>=◌, event_at, intids_of}
 use Rattle.its_plain.specs.declared.call.Reason.{Reason}
-use Rattle.its_plain.specs.declared.call.Reason.TheVariants.{DeviceRange, SizeRange, TargetRange, CollectionRange, NoDevice, EventRange, IntidRange, NoCollection, LpisOff}
+use Rattle.its_plain.specs.declared.call.Reason.TheVariants.{DeviceRange, SizeRange, TargetRange, CollectionRange, NoDevice, EventRange, IntidRange}
+use Rattle.its_plain.specs.declared.call.Reason.TheVariants.{NoCollection, LpisOff}
 use Rattle.lpi_pending.specs.InHand.{in_hand}
 use Rattle.lpi_pending.specs.declared.redist.Redist.{Redist}
 use Rattle.cmd_exec.specs.declared.effect.Effect.{Effect}
@@ -45,7 +47,8 @@ use Rattle.cmd_exec.specs.Ready.{IsReady, IsTargetInHand, AreBothInHand, AreTarg
 use Rattle.cmd_exec.specs.Room.{effect_adds, room_for, HasRoom}
 use Rattle.cmd_exec.proofs.Steps.{passed, found, ran, event_is, target_is}
 use Rattle.cmd_exec.proofs.Lifted.{held_by}
-use Rattle.cmd_exec.proofs.Targets.{movi_old, movi_new, int_target, clear_target, discard_target, mapc_targets, movall_targets, mapti_each, mapi_each, inv_each, invall_each}
+use Rattle.cmd_exec.proofs.Targets.{movi_old, movi_new, int_target, clear_target, discard_target, mapc_targets, movall_targets, mapti_each, mapi_each}
+use Rattle.cmd_exec.proofs.Targets.{inv_each, invall_each}
 use Rattle.cmd_exec.proofs.Workable.{IsWorkable}
 
 -- ---- what holds of each event holds of each entry
@@ -64,7 +67,8 @@ none_below x (y ∷ ys) t =
     cond-false (eq_by_cmp pair_cmp x y.0) (Some y.1) (find pair_cmp x ys) (not_eq (pair_cmp x y.0) (first _ _ t)) ∙ none_below x ys (second _ _ t)
 
 -- a key found among later ones isn't the first
-later_found : (q : ℕ × ℕ) (x : (ℕ × ℕ) × Event) (xs : Entries) (e : Event) → T (below_all pair_cmp x.0 xs) → find pair_cmp q xs ≡ Some e → find pair_cmp q (x ∷ xs) ≡ Some e
+later_found : (q : ℕ × ℕ) (x : (ℕ × ℕ) × Event) (xs : Entries) (e : Event) → T (below_all pair_cmp x.0 xs) → find pair_cmp q xs ≡ Some e
+    → find pair_cmp q (x ∷ xs) ≡ Some e
 later_found q x xs e t is =
     cond_both (eq_by_cmp pair_cmp q x.0) (Some x.1) (find pair_cmp q xs) (λ (o : Option Event). o ≡ Some e)
     (λ tied.
@@ -77,19 +81,22 @@ later_found q x xs e t is =
     not_some : (o : Option Event) (e : Event) → o ≡ None → o ≡ Some e → ⊥
     not_some o e a b = cc
 
-each_event : (P : Event → Type 0) (xs : Entries) → T (is_sorted pair_cmp xs) → ((q : ℕ × ℕ) (e : Event) → find pair_cmp q xs ≡ Some e → P e) → AllByRecursion (λ x. P x.1) xs
+each_event : (P : Event → Type 0) (xs : Entries) → T (is_sorted pair_cmp xs) → ((q : ℕ × ℕ) (e : Event) → find pair_cmp q xs ≡ Some e → P e)
+    → AllByRecursion (λ x. P x.1) xs
 each_event P [] t h = tt
 each_event P (x ∷ xs) t h = (
   h x.0 x.1 (ap (λ (o : Ordering). cond (is_eq o) (Some x.1) (find pair_cmp x.0 xs)) (tied_itself pair_total x.0)),
   each_event P xs (second _ _ t) (λ q e is. h q e (later_found q x xs e (first _ _ t) is)),
 )
 
-each_picked : (P : ℕ → Type 0) (icid : ℕ) (xs : Entries) → AllByRecursion (λ x. P x.1.intid.0) xs → AllByRecursion P (map (λ x. x.1.intid.0) (filter (λ x. eqb x.1.icid.0 icid) xs))
+each_picked : (P : ℕ → Type 0) (icid : ℕ) (xs : Entries) → AllByRecursion (λ x. P x.1.intid.0) xs
+    → AllByRecursion P (map (λ x. x.1.intid.0) (filter (λ x. eqb x.1.icid.0 icid) xs))
 each_picked P icid [] h = tt
 each_picked P icid (x ∷ xs) h = by_test (each_picked P icid xs h.1) (eqb x.1.icid.0 icid)
   where
     by_test : AllByRecursion P (map (λ (y : (ℕ × ℕ) × Event). y.1.intid.0) (filter (λ (y : (ℕ × ℕ) × Event). eqb y.1.icid.0 icid) xs)) → (b : Bool)
-        → AllByRecursion P (map (λ (y : (ℕ × ℕ) × Event). y.1.intid.0) (cond b (x ∷ filter (λ (y : (ℕ × ℕ) × Event). eqb y.1.icid.0 icid) xs) (filter (λ (y : (ℕ × ℕ) × Event). eqb y.1.icid.0 icid) xs)))
+        → AllByRecursion P (map (λ (y : (ℕ × ℕ) × Event). y.1.intid.0) (cond b (x ∷ filter (λ (y : (ℕ × ℕ) × Event). eqb y.1.icid.0 icid) xs)
+        (filter (λ (y : (ℕ × ℕ) × Event). eqb y.1.icid.0 icid) xs)))
     by_test rest true = (h.0, rest)
     by_test rest false = rest
 
@@ -102,7 +109,8 @@ module _ (s : Shape) (mr : MapsRoom) (rs : List (Option Redist)) (can : IsWorkab
 
   lpis_of_collection : (icid : ℕ) → AllByRecursion IsLpi (intids_of m icid)
   lpis_of_collection icid =
-      each_picked IsLpi icid (entries m.events) (each_event (λ e. IsLpi e.intid.0) (entries m.events) (entries_sorted m.events) (λ q e is. can.events q.0 q.1 e (get-entries m.events q ∙ is)))
+      each_picked IsLpi icid (entries m.events) (each_event (λ e. IsLpi e.intid.0) (entries m.events) (entries_sorted m.events)
+      (λ q e is. can.events q.0 q.1 e (get-entries m.events q ∙ is)))
 
   -- ---- redistributors in hand
 
@@ -121,7 +129,11 @@ module _ (s : Shape) (mr : MapsRoom) (rs : List (Option Redist)) (can : IsWorkab
 
   can_all : (v : ℕ) (r : Redist) (xs : List ℕ) → in_hand rs v ≡ Some r → AllByRecursion IsLpi xs → CanRereadAll r xs
   can_all v r [] is lpis = tt
-  can_all v r (x ∷ xs) is lpis = (record { lpi = ap (λ (n : ℕ). is_lpi n x) (can.lpis v r is).config_bits ∙ lpis.0; low = can.low v r is }, can_all v r xs is lpis.1)
+  can_all v r (x ∷ xs) is lpis = (
+    record { lpi = ap (λ (n : ℕ). is_lpi n x) (can.lpis v r is).config_bits ∙ lpis.0; low = can.low v r is },
+    can_all v r xs is
+        lpis.1,
+  )
 
   can_each : (xs : List ℕ) → ((v : ℕ) → v < s.vcpus → is_some (in_hand rs v) ≡ true) → AllByRecursion IsLpi xs → CanEachReread s.vcpus rs xs
   can_each xs held lpis = λ v lt.
@@ -151,7 +163,8 @@ module _ (s : Shape) (mr : MapsRoom) (rs : List (Option Redist)) (can : IsWorkab
   unfolding parts.unmapd IsReady
   unmapd_ready dev = passed CanBeHad (is_device_id s.dev_bits dev.0) DeviceRange _ (λ _ _. tt)
 
-  targeted_ready : (p : Profile) (icid : Icid) (o : Option Vcpu) (to : Vcpu) → collection_of m icid.0 ≡ o → AreTargetsInHand rs p o to.0 → CanBeHad (targeted p rs icid o to)
+  targeted_ready : (p : Profile) (icid : Icid) (o : Option Vcpu) (to : Vcpu) → collection_of m icid.0 ≡ o → AreTargetsInHand rs p o to.0
+      → CanBeHad (targeted p rs icid o to)
   unfolding IsReady effect_adds room_for
   targeted_ready p icid o to is held = by_profile p o is held
     where
@@ -171,7 +184,8 @@ module _ (s : Shape) (mr : MapsRoom) (rs : List (Option Redist)) (can : IsWorkab
       )
       by_on from there false h = mapped to
 
-      by_same : (from : Vcpu) → collection_of m icid.0 ≡ Some from → (t : Bool) → (t ≡ false → (is_some (in_hand rs from.0) ≡ true) × (is_some (in_hand rs to.0) ≡ true))
+      by_same : (from : Vcpu) → collection_of m icid.0 ≡ Some from → (t : Bool)
+          → (t ≡ false → (is_some (in_hand rs from.0) ≡ true) × (is_some (in_hand rs to.0) ≡ true))
           → CanBeHad (cond t (effect.MapCollection icid to) (moved rs icid from to))
       by_same from there true g = mapped to
       by_same from there false g = by_on from there (is_on_in rs from.0 && is_on_in rs to.0) (g refl)
@@ -189,7 +203,8 @@ module _ (s : Shape) (mr : MapsRoom) (rs : List (Option Redist)) (can : IsWorkab
       passed CanBeHad (nat_lt icid.0 (collection_places r)) CollectionRange _ (λ _.
       targeted_ready s.profile icid (collection_of m icid.0) (record { 0 = target }) refl (held (ltb-true target s.vcpus below))))
 
-  added_ready : (dev : DeviceId) (ev : EventId) (event : Event) → is_some (device_of m dev.0) ≡ true → CanEachReread s.vcpus rs (event.intid.0 ∷ []) → CanBeHad (added m dev ev event)
+  added_ready : (dev : DeviceId) (ev : EventId) (event : Event) → is_some (device_of m dev.0) ≡ true → CanEachReread s.vcpus rs (event.intid.0 ∷ [])
+      → CanBeHad (added m dev ev event)
   unfolding IsReady effect_adds room_for
   added_ready dev ev event mapped each =
       cond_both (is_some (event_of m dev.0 ev.0)) effect.Nothing (effect.MapEvent dev ev event) CanBeHad (λ _ _. tt)
@@ -205,7 +220,8 @@ module _ (s : Shape) (mr : MapsRoom) (rs : List (Option Redist)) (can : IsWorkab
       passed CanBeHad (nat_lt icid.0 (collection_places r)) CollectionRange _ (λ _.
       added_ready dev ev (record { intid = intid; icid = icid }) (ap is_some is) (can_each (intid.0 ∷ []) held (lpi, tt))))))
 
-  movi_ready : (dev : DeviceId) (ev : EventId) (icid : Icid) → IsTargetInHand rs (target_of_event m dev.0 ev.0) → IsTargetInHand rs (collection_of m icid.0) → Readies (parts.movi m rs dev ev icid)
+  movi_ready : (dev : DeviceId) (ev : EventId) (icid : Icid) → IsTargetInHand rs (target_of_event m dev.0 ev.0) → IsTargetInHand rs (collection_of m icid.0)
+      → Readies (parts.movi m rs dev ev icid)
   unfolding parts.movi IsReady
   movi_ready dev ev icid old new =
       ran CanBeHad (event_at m dev.0 ev.0) _ (λ event at.
@@ -220,14 +236,16 @@ module _ (s : Shape) (mr : MapsRoom) (rs : List (Option Redist)) (can : IsWorkab
         takes to.0 event.intid.0 (subst (IsTargetInHand rs) is_to new) lpi,
       )))))
 
-  lpi_ready : (dev : DeviceId) (ev : EventId) → IsTargetInHand rs (target_of_event m dev.0 ev.0) → IfOk (parts.lpi_at m rs dev ev) (λ lpi. takes_lpi rs lpi.1.0 lpi.0.0 ≡ true)
+  lpi_ready : (dev : DeviceId) (ev : EventId) → IsTargetInHand rs (target_of_event m dev.0 ev.0)
+      → IfOk (parts.lpi_at m rs dev ev) (λ lpi. takes_lpi rs lpi.1.0 lpi.0.0 ≡ true)
   unfolding parts.lpi_at
   lpi_ready dev ev target =
       let P : Intid × Vcpu → Type 0 = λ (lpi : Intid × Vcpu). takes_lpi rs lpi.1.0 lpi.0.0 ≡ true in
       ran P (event_at m dev.0 ev.0) _ (λ event at.
       found P (collection_of m event.icid.0) NoCollection _ (λ vcpu is.
       passed P (is_on_in rs vcpu.0) LpisOff _ (λ _.
-      takes vcpu.0 event.intid.0 (subst (IsTargetInHand rs) (target_is m dev.0 ev.0 event at ∙ is) target) (can.events dev.0 ev.0 event (event_is m dev.0 ev.0 event at)))))
+      takes vcpu.0 event.intid.0 (subst (IsTargetInHand rs) (target_is m dev.0 ev.0 event at ∙ is) target)
+      (can.events dev.0 ev.0 event (event_is m dev.0 ev.0 event at)))))
 
   with_lpi : (x : Result (Intid × Vcpu) Reason) (f : Intid × Vcpu → Effect) → IfOk x (λ lpi. IsReady s mr rs (f lpi)) → Readies (x >>= λ lpi. Ok (f lpi))
   with_lpi (Ok lpi) f h = λ _. h
@@ -245,12 +263,14 @@ module _ (s : Shape) (mr : MapsRoom) (rs : List (Option Redist)) (can : IsWorkab
   unfolding parts.discard IsReady
   discard_ready dev ev target =
       ran CanBeHad (event_at m dev.0 ev.0) _ (λ event at _.
-      takes_target (collection_of m event.icid.0) event.intid.0 (subst (IsTargetInHand rs) (target_is m dev.0 ev.0 event at) target) (can.events dev.0 ev.0 event (event_is m dev.0 ev.0 event at)))
+      takes_target (collection_of m event.icid.0) event.intid.0 (subst (IsTargetInHand rs) (target_is m dev.0 ev.0 event at) target)
+      (can.events dev.0 ev.0 event (event_is m dev.0 ev.0 event at)))
 
   inv_ready : (dev : DeviceId) (ev : EventId) → ((v : ℕ) → v < s.vcpus → is_some (in_hand rs v) ≡ true) → Readies (parts.inv m dev ev)
   unfolding parts.inv IsReady
   inv_ready dev ev held =
-      ran CanBeHad (event_at m dev.0 ev.0) _ (λ event at _. can_each (event.intid.0 ∷ []) held (can.events dev.0 ev.0 event (event_is m dev.0 ev.0 event at), tt))
+      ran CanBeHad (event_at m dev.0 ev.0) _
+      (λ event at _. can_each (event.intid.0 ∷ []) held (can.events dev.0 ev.0 event (event_is m dev.0 ev.0 event at), tt))
 
   invall_ready : (icid : Icid) → ((v : ℕ) → v < s.vcpus → is_some (in_hand rs v) ≡ true) → Readies (parts.invall m icid)
   unfolding parts.invall IsReady

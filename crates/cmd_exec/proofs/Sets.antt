@@ -1,5 +1,6 @@
 -- Sets of redistributors, and those that a command reads or changes.
-use Rattle.std.proofs.Common.{◌≡◌, ◌≢◌, ◌↔◌, ℕ, zero, suc, ◌+◌, ◌-◌, ◌<◌, Bool, true, false, not, ◌&&◌, ◌||◌, cond, eqb, nat_lt, List, [], ◌∷◌, ◌++◌, Option, Some, None, inl, inr, refl, sym, ap, subst, ◌∙◌, arith}
+use Rattle.std.proofs.Common.{◌≡◌, ◌≢◌, ◌↔◌, ℕ, zero, suc, ◌+◌, ◌-◌, ◌<◌, Bool, true, false, not, ◌&&◌, ◌||◌, cond, eqb, nat_lt, List, [], ◌∷◌, ◌++◌, Option}
+use Rattle.std.proofs.Common.{Some, None, inl, inr, refl, sym, ap, subst, ◌∙◌, arith}
 use Rattle.std.specs.Prelude.{slice_get}
 use Rattle.std.specs.List.{AllByRecursion}
 use Rattle.std.proofs.lemmas.Bool.{cases_lt, cases_eq, eq-eqb, ne_eqb, lt-ltb, le-ltb, eqb-true, or_left, or_right, or_from, or_cases, cond_both}
@@ -16,7 +17,8 @@ use Rattle.its_types.specs.declared.machine.Shape.{Shape}
 use Rattle.its_plain.specs.Plain.{Plain, maps_of}
 use Rattle.its_plain.specs.Parts.{redist, redist_of, target_of_event, moved_targets, redists_below, needed, IsIn}
 use Rattle.its_types.specs.Bits.{bit_of}
-use Rattle.cmd_exec.specs.Needs.{bare, is_redist, has_redist, is_needed, is_in, vcpus_from, is_target, is_either, is_moved, needs_vcpu, IsPartOf, ArePartsOfStep}
+use Rattle.cmd_exec.specs.Needs.{bare, is_redist, has_redist, is_needed, is_in, vcpus_from, is_target, is_either, is_moved, needs_vcpu, IsPartOf}
+use Rattle.cmd_exec.specs.Needs.{ArePartsOfStep}
 use Rattle.cmd_exec.proofs.Targets.{has_append, has_below}
 
 or_false : (b : Bool) → (b || false) ≡ b
@@ -24,7 +26,8 @@ or_false true = refl
 or_false false = refl
 
 -- a set whose bit is made 1 has one virtual processor more
-pub bit_added : (set now vcpu : ℕ) → vcpu < 16 → bit_of now vcpu ≡ true → ((i : ℕ) → i < 64 → i ≢ vcpu → bit_of now i ≡ bit_of set i) → (v : ℕ) → is_in now v ≡ (is_in set v || eqb vcpu v)
+pub bit_added : (set now vcpu : ℕ) → vcpu < 16 → bit_of now vcpu ≡ true → ((i : ℕ) → i < 64 → i ≢ vcpu → bit_of now i ≡ bit_of set i) → (v : ℕ)
+    → is_in now v ≡ (is_in set v || eqb vcpu v)
 bit_added set now vcpu small here there v =
     elim (cases_lt v 16) [
       | inl within ↦
@@ -38,7 +41,8 @@ bit_added set now vcpu small here there v =
           ]
       | inr past ↦
           ap (λ (b : Bool). b && bit_of now v) (le-ltb v 16 past)
-          ∙ sym (or_from (is_in set v) (eqb vcpu v) (ap (λ (b : Bool). b && bit_of set v) (le-ltb v 16 past)) (ne_eqb vcpu v (λ (e : vcpu ≡ v). omega (arith, e, small, past))))
+          ∙ sym (or_from (is_in set v) (eqb vcpu v) (ap (λ (b : Bool). b && bit_of set v) (le-ltb v 16 past))
+          (ne_eqb vcpu v (λ (e : vcpu ≡ v). omega (arith, e, small, past))))
     ]
 
 -- ---- the virtual processors that a command needs
@@ -77,7 +81,8 @@ needs_same s m (command.Mapc icid target valid) v =
     ap (λ (b : Bool). (valid && nat_lt target s.vcpus) && b) (has_moved s.profile (collection_of m icid.0) target v)
     ∙ has_if (valid && nat_lt target s.vcpus) v (moved_targets s.profile (collection_of m icid.0) target)
 needs_same s m (command.Movall from to) v =
-    ap (λ (b : Bool). (nat_lt from s.vcpus && nat_lt to s.vcpus) && b) (has_either from to v) ∙ has_if (nat_lt from s.vcpus && nat_lt to s.vcpus) v (redist from ∷ redist to ∷ [])
+    ap (λ (b : Bool). (nat_lt from s.vcpus && nat_lt to s.vcpus) && b) (has_either from to v) ∙ has_if (nat_lt from s.vcpus && nat_lt to s.vcpus) v
+    (redist from ∷ redist to ∷ [])
 needs_same s m (command.Mapti dev ev intid icid) v = sym (has_below s.vcpus v)
 needs_same s m (command.Mapi dev ev icid) v = sym (has_below s.vcpus v)
 needs_same s m (command.Inv dev ev) v = sym (has_below s.vcpus v)
@@ -117,13 +122,16 @@ moved_redists Two (Some from) to = cond_both (eqb from.0 to) [] (redist from.0 �
 needed_redists : (s : Shape) (m : Maps) (c : Command) → AreRedists (needed (bare s m) 0 c)
 unfolding needed
 needed_redists s m (command.Movi dev ev icid) =
-    append_redists (redist_of (target_of_event m dev.0 ev.0)) (redist_of (collection_of m icid.0)) (target_redists (target_of_event m dev.0 ev.0)) (target_redists (collection_of m icid.0))
+    append_redists (redist_of (target_of_event m dev.0 ev.0)) (redist_of (collection_of m icid.0)) (target_redists (target_of_event m dev.0 ev.0))
+    (target_redists (collection_of m icid.0))
 needed_redists s m (command.Int dev ev) = target_redists (target_of_event m dev.0 ev.0)
 needed_redists s m (command.Clear dev ev) = target_redists (target_of_event m dev.0 ev.0)
 needed_redists s m (command.Discard dev ev) = target_redists (target_of_event m dev.0 ev.0)
 needed_redists s m (command.Mapc icid target valid) =
-    cond_both (valid && nat_lt target s.vcpus) (moved_targets s.profile (collection_of m icid.0) target) [] AreRedists (λ _. moved_redists s.profile (collection_of m icid.0) target) (λ _. tt)
-needed_redists s m (command.Movall from to) = cond_both (nat_lt from s.vcpus && nat_lt to s.vcpus) (redist from ∷ redist to ∷ []) [] AreRedists (λ _. (tt, (tt, tt))) (λ _. tt)
+    cond_both (valid && nat_lt target s.vcpus) (moved_targets s.profile (collection_of m icid.0) target) [] AreRedists
+    (λ _. moved_redists s.profile (collection_of m icid.0) target) (λ _. tt)
+needed_redists s m (command.Movall from to) = cond_both (nat_lt from s.vcpus && nat_lt to s.vcpus) (redist from ∷ redist to ∷ []) [] AreRedists
+    (λ _. (tt, (tt, tt))) (λ _. tt)
 needed_redists s m (command.Mapti dev ev intid icid) = below_redists s.vcpus
 needed_redists s m (command.Mapi dev ev icid) = below_redists s.vcpus
 needed_redists s m (command.Inv dev ev) = below_redists s.vcpus
@@ -156,7 +164,8 @@ module _ (its set : ℕ) where
   is_first Mem q ps h has e = absurd h
   is_first (Shard j n) q ps h has e = absurd h
 
-  at_redist : (ps : List Part) → AreRedists ps → ((v : ℕ) → has_redist v ps ≡ true → is_in set v ≡ true) → (k : ℕ) (q : Part) → slice_get ps k ≡ Some q → IsPartOf its set q
+  at_redist : (ps : List Part) → AreRedists ps → ((v : ℕ) → has_redist v ps ≡ true → is_in set v ≡ true) → (k : ℕ) (q : Part) → slice_get ps k ≡ Some q
+      → IsPartOf its set q
   at_redist [] h has k q e = absurd cc
   at_redist (p ∷ ps) h has zero q e = is_first p q ps h.0 has (same_Some p q e)
   at_redist (p ∷ ps) h has (suc k) q e = at_redist ps h.1 (λ v there. has v (or_right (is_redist v p) (has_redist v ps) there)) k q e
@@ -186,7 +195,8 @@ parts_same s m c set h = λ u its same_shape same_maps.
     subst (λ (qs : List Part). (p : Part) → IsIn p (MapsOf its ∷ Mem ∷ qs) ↔ IsPartOf its set p) (sym is)
     (λ p. (λ there. is_part its (needed_redists s m c) there.0 p there.1, λ part. has_it its p part))
   where
-    is_part : (its : ℕ) → AreRedists (needed (bare s m) 0 c) → (n : ℕ) (p : Part) → slice_get (MapsOf its ∷ Mem ∷ needed (bare s m) 0 c) n ≡ Some p → IsPartOf its set p
+    is_part : (its : ℕ) → AreRedists (needed (bare s m) 0 c) → (n : ℕ) (p : Part) → slice_get (MapsOf its ∷ Mem ∷ needed (bare s m) 0 c) n ≡ Some p
+        → IsPartOf its set p
     is_part its are zero p e = subst (IsPartOf its set) (same_Some (MapsOf its) p e) refl
     is_part its are (suc zero) p e = subst (IsPartOf its set) (same_Some Mem p e) tt
     is_part its are (suc (suc k)) p e = at_redist its set (needed (bare s m) 0 c) are (λ v there. h v ∙ there) k p e
@@ -199,7 +209,8 @@ parts_same s m c set h = λ u its same_shape same_maps.
 
 -- ---- a set walked in rising order
 
-pub walk_step : (set at : ℕ) → at < 16 → vcpus_from set at (16 - at) ≡ cond (bit_of set at) (at ∷ vcpus_from set (at + 1) (16 - (at + 1))) (vcpus_from set (at + 1) (16 - (at + 1)))
+pub walk_step : (set at : ℕ) → at < 16 → vcpus_from set at (16 - at) ≡ cond (bit_of set at) (at ∷ vcpus_from set (at + 1) (16 - (at + 1)))
+    (vcpus_from set (at + 1) (16 - (at + 1)))
 walk_step set at lt =
     let more : 16 - at ≡ suc (16 - (at + 1)) = omega (arith, lt) in
     let rest = vcpus_from set (at + 1) (16 - (at + 1)) in

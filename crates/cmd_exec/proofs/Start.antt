@@ -1,5 +1,6 @@
 -- The parts that a translator starts with are those of a sound state.
-use Rattle.std.proofs.Common.{◌≡◌, ℕ, zero, suc, true, false, cond, nat_lt, List, [], ◌∷◌, map, replicate, Option, Some, None, refl, sym, ap, subst, ◌∙◌, arith, lit<}
+use Rattle.std.proofs.Common.{◌≡◌, ℕ, zero, suc, true, false, cond, nat_lt, List, [], ◌∷◌, map, replicate, Option, Some, None, refl, sym, ap, subst, ◌∙◌}
+use Rattle.std.proofs.Common.{arith, lit<}
 use Rattle.std.proofs.lemmas.List.{length-replicate}
 use Rattle.std.specs.Prelude.{slice_get}
 use Rattle.std.specs.FinMap.{get-empty}
@@ -39,7 +40,8 @@ extents_of_zeros : (windows : List (ℕ × ℕ)) → map extent (map zeros windo
 extents_of_zeros [] = refl
 extents_of_zeros (w ∷ windows) = ap (λ n. (w.0, n) ∷ map extent (map zeros windows)) (length-replicate w.1 0) ∙ ap (λ rest. w ∷ rest) (extents_of_zeros windows)
 
-pub good_windows : (windows : List (ℕ × ℕ)) (memory : List Window) → memory ≡ map zeros windows → are_windows windows ≡ true → are_windows (map extent memory) ≡ true
+pub good_windows : (windows : List (ℕ × ℕ)) (memory : List Window) → memory ≡ map zeros windows → are_windows windows ≡ true
+    → are_windows (map extent memory) ≡ true
 good_windows windows memory is good = ap (λ (ws : List Window). are_windows (map extent ws)) is ∙ ap are_windows (extents_of_zeros windows) ∙ good
 
 -- ---- a state in which nothing is mapped and all LPIs are off
@@ -95,7 +97,8 @@ first_translators : (s : Shape) (r : Registers) → IsTranslator s (record { reg
 first_translators s r sound zero t e = subst (IsTranslator s) (same_Some (record { regs = r; maps = no_maps }) t e) sound
 first_translators s r sound (suc i) t e = absurd cc
 
-first_sound : (s : Shape) (r : Registers) (memory : List Window) → IsShape s → regs.IsSound r → r.dev_bits ≡ s.dev_bits → are_windows (map extent memory) ≡ true → IsSound (first s r memory)
+first_sound : (s : Shape) (r : Registers) (memory : List Window) → IsShape s → regs.IsSound r → r.dev_bits ≡ s.dev_bits → are_windows (map extent memory) ≡ true
+    → IsSound (first s r memory)
 first_sound s r memory shape sound bits windows = record {
   layout = record { shape = shape; described = λ no. absurd (both_ways true no refl) };
   translators = first_translators s r (first_translator s r sound bits);
@@ -104,7 +107,8 @@ first_sound s r memory shape sound bits windows = record {
   memory = windows;
 }
 
-pub starts_sound : (s : Shape) (r : Registers) (m : Maps) (memory : List Window) (rs : List (Option Redist)) → IsShape s → regs.IsSound r → r.dev_bits ≡ s.dev_bits
+pub starts_sound : (s : Shape) (r : Registers) (m : Maps) (memory : List Window) (rs : List (Option Redist)) → IsShape s → regs.IsSound r
+    → r.dev_bits ≡ s.dev_bits
     → are_windows (map extent memory) ≡ true → m ≡ no_maps → rs ≡ replicate 16 None → ArePartsOfSound s r m memory rs
 starts_sound s r m memory rs shape sound bits windows maps_is rs_is =
     let some : Maps → Option Translator = λ (x : Maps). Some (record { regs = r; maps = x }) in (
@@ -120,7 +124,8 @@ starts_sound s r m memory rs shape sound bits windows maps_is rs_is =
     )
 
 -- in profile 1 a MAPC needs no redistributor
-pub mapc_needs_none : (s : Shape) (m : Maps) (rs : List (Option Redist)) (c : Command) (icid : Icid) (target : ℕ) → s.profile ≡ One → c ≡ command.Mapc icid target true → AreNeededInHand s m c rs
+pub mapc_needs_none : (s : Shape) (m : Maps) (rs : List (Option Redist)) (c : Command) (icid : Icid) (target : ℕ) → s.profile ≡ One
+    → c ≡ command.Mapc icid target true → AreNeededInHand s m c rs
 unfolding needed
 mapc_needs_none s m rs c icid target one is =
     subst (λ (x : Command). AreNeededInHand s m x rs) (sym is) (λ v e.

@@ -21,11 +21,13 @@ module _ {A B : Type 0} (end : B → A) where
   test_same t true reason f g e h = ap (λ (b : Bool). ensure b reason >>= f) e ∙ h
   test_same t false reason f g e h = ap (λ (b : Bool). ensure b reason >>= f) e
 
-  pub test_when : (t : Bool) (reason : Reason) (f : Unit {0} → Result A Reason) (g : Unit {0} → Result B Reason) → (t ≡ true → f tt ≡ by end (g tt)) → (ensure t reason >>= f) ≡ by end (ensure t reason >>= g)
+  pub test_when : (t : Bool) (reason : Reason) (f : Unit {0} → Result A Reason) (g : Unit {0} → Result B Reason) → (t ≡ true → f tt ≡ by end (g tt))
+      → (ensure t reason >>= f) ≡ by end (ensure t reason >>= g)
   test_when true reason f g h = h refl
   test_when false reason f g h = refl
 
-  pub option_same : {X : Type 0} (o : Option X) (reason : Reason) (f : X → Result A Reason) (g : X → Result B Reason) → ((x : X) → o ≡ Some x → f x ≡ by end (g x))
+  pub option_same : {X : Type 0} (o : Option X) (reason : Reason) (f : X → Result A Reason) (g : X → Result B Reason)
+      → ((x : X) → o ≡ Some x → f x ≡ by end (g x))
       → (ok_or o reason >>= f) ≡ by end (ok_or o reason >>= g)
   option_same None reason f g h = refl
   option_same (Some x) reason f g h = h x refl
@@ -44,11 +46,13 @@ by_itself (Err e) = refl
 
 -- ---- what holds where the last one ran
 
-pub passed : {B : Type 0} (P : B → Type 0) (test : Bool) (reason : Reason) (f : Unit {0} → Result B Reason) → (test ≡ true → IfOk (f tt) P) → IfOk (ensure test reason >>= f) P
+pub passed : {B : Type 0} (P : B → Type 0) (test : Bool) (reason : Reason) (f : Unit {0} → Result B Reason) → (test ≡ true → IfOk (f tt) P)
+    → IfOk (ensure test reason >>= f) P
 passed P true reason f h = h refl
 passed P false reason f h = tt
 
-pub found : {A B : Type 0} (P : B → Type 0) (o : Option A) (reason : Reason) (f : A → Result B Reason) → ((x : A) → o ≡ Some x → IfOk (f x) P) → IfOk (ok_or o reason >>= f) P
+pub found : {A B : Type 0} (P : B → Type 0) (o : Option A) (reason : Reason) (f : A → Result B Reason) → ((x : A) → o ≡ Some x → IfOk (f x) P)
+    → IfOk (ok_or o reason >>= f) P
 found P None reason f h = tt
 found P (Some x) reason f h = h x refl
 

@@ -1,5 +1,6 @@
 -- What is in hand where the redistributors that a command reads or changes are.
-use Rattle.std.proofs.Common.{◌≡◌, ℕ, zero, suc, ◌<◌, Bool, true, false, cond, ◌&&◌, ◌||◌, eqb, ltb, nat_lt, inl, inr, arith, List, [], ◌∷◌, ◌++◌, Option, Some, None, refl, ap, ◌∙◌, sym, subst}
+use Rattle.std.proofs.Common.{◌≡◌, ℕ, zero, suc, ◌<◌, Bool, true, false, cond, ◌&&◌, ◌||◌, eqb, ltb, nat_lt, inl, inr, arith, List, [], ◌∷◌, ◌++◌, Option}
+use Rattle.std.proofs.Common.{Some, None, refl, ap, ◌∙◌, sym, subst}
 use Rattle.std.specs.Prelude.{is_some}
 use Rattle.std.proofs.lemmas.Bool.{eq-eqb, ne_eqb, lt-ltb, le-ltb, or_left, or_right, or_from, cond-true, cond-false, cases_order}
 use Rattle.its_command.specs.declared.command.Command.TheVariants as command
@@ -73,7 +74,8 @@ has_below (suc n) v =
           | inl same ↦ or_right (ltb v n) (eqb n v || false) (or_left (eqb n v) false (eq-eqb n v (sym same))) ∙ sym (lt-ltb v (suc n) (omega (arith, same)))
           | inr (inl below) ↦ or_left (ltb v n) (eqb n v || false) (lt-ltb v n below) ∙ sym (lt-ltb v (suc n) (omega (arith, below)))
           | inr (inr above) ↦
-              or_from (ltb v n) (eqb n v || false) (le-ltb v n (omega (arith, above))) (or_from (eqb n v) false (ne_eqb n v (λ (e : n ≡ v). omega (arith, e, above))) refl)
+              or_from (ltb v n) (eqb n v || false) (le-ltb v n (omega (arith, above)))
+              (or_from (eqb n v) false (ne_eqb n v (λ (e : n ≡ v). omega (arith, e, above))) refl)
               ∙ sym (le-ltb v (suc n) (omega (arith, above)))
         ]
 
@@ -83,7 +85,8 @@ below_held n v rs lt h = h v (has_below n v ∙ lt-ltb v n lt)
 -- ---- commands
 
 module _ (s : Shape) (m : Maps) (rs : List (Option Redist)) where
-  pub movi_old : (dev : DeviceId) (ev : EventId) (icid : Icid) → AreNeededInHand s m (command.Movi dev ev icid) rs → IsTargetInHand rs (target_of_event m dev.0 ev.0)
+  pub movi_old : (dev : DeviceId) (ev : EventId) (icid : Icid) → AreNeededInHand s m (command.Movi dev ev icid) rs
+      → IsTargetInHand rs (target_of_event m dev.0 ev.0)
   unfolding needed
   movi_old dev ev icid h = target_held rs (target_of_event m dev.0 ev.0) (redist_of (collection_of m icid.0)) h
 
@@ -103,7 +106,8 @@ module _ (s : Shape) (m : Maps) (rs : List (Option Redist)) where
   unfolding needed
   discard_target dev ev h = only_target rs (target_of_event m dev.0 ev.0) h
 
-  pub mapc_targets : (icid : Icid) (target : ℕ) → AreNeededInHand s m (command.Mapc icid target true) rs → target < s.vcpus → AreTargetsInHand rs s.profile (collection_of m icid.0) target
+  pub mapc_targets : (icid : Icid) (target : ℕ) → AreNeededInHand s m (command.Mapc icid target true) rs → target < s.vcpus
+      → AreTargetsInHand rs s.profile (collection_of m icid.0) target
   unfolding needed
   mapc_targets icid target h lt =
       moved_held s.profile rs (collection_of m icid.0) target
@@ -113,10 +117,12 @@ module _ (s : Shape) (m : Maps) (rs : List (Option Redist)) where
   unfolding needed
   movall_targets from to h lt lt' =
       both_held rs from to
-      (subst (λ (a : Bool). AreHeld rs (cond a (redist from ∷ redist to ∷ []) [])) (ap (λ (a : Bool). a && nat_lt to s.vcpus) (lt-ltb from s.vcpus lt) ∙ lt-ltb to s.vcpus lt') h)
+      (subst (λ (a : Bool). AreHeld rs (cond a (redist from ∷ redist to ∷ []) [])) (ap (λ (a : Bool). a && nat_lt to s.vcpus) (lt-ltb from s.vcpus lt)
+      ∙ lt-ltb to s.vcpus lt') h)
 
   -- each of them is
-  pub mapti_each : (dev : DeviceId) (ev : EventId) (intid : Intid) (icid : Icid) → AreNeededInHand s m (command.Mapti dev ev intid icid) rs → (v : ℕ) → v < s.vcpus → IsHeld rs v
+  pub mapti_each : (dev : DeviceId) (ev : EventId) (intid : Intid) (icid : Icid) → AreNeededInHand s m (command.Mapti dev ev intid icid) rs → (v : ℕ)
+      → v < s.vcpus → IsHeld rs v
   unfolding needed
   mapti_each dev ev intid icid h v lt = below_held s.vcpus v rs lt h
 

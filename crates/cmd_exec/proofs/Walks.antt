@@ -18,14 +18,18 @@ use Rattle.cmd_exec.proofs.Opened.{with_read}
 
 -- ---- an event of the collection comes first
 
-pub lpis_first : (k : ℕ) (e : Event) (events : List (ℕ × Event)) (icid : ℕ) → eqb e.icid.0 icid ≡ true → lpis_of ((k, e) ∷ events) icid ≡ e.intid.0 ∷ lpis_of events icid
-lpis_first k e events icid same = ap (map (λ (x : ℕ × Event). x.1.intid.0)) (cond-true (eqb e.icid.0 icid) ((k, e) ∷ filter (λ (x : ℕ × Event). eqb x.1.icid.0 icid) events) (filter (λ (x : ℕ × Event). eqb x.1.icid.0 icid) events) same)
+pub lpis_first : (k : ℕ) (e : Event) (events : List (ℕ × Event)) (icid : ℕ) → eqb e.icid.0 icid ≡ true → lpis_of ((k, e) ∷ events) icid ≡ e.intid.0
+    ∷ lpis_of events icid
+lpis_first k e events icid same = ap (map (λ (x : ℕ × Event). x.1.intid.0))
+    (cond-true (eqb e.icid.0 icid) ((k, e) ∷ filter (λ (x : ℕ × Event). eqb x.1.icid.0 icid) events) (filter (λ (x : ℕ × Event). eqb x.1.icid.0 icid) events)
+    same)
 
 -- ---- rereading
 
 bases_read : (memory : List Window) (intid : ℕ) (r : Redistributor) → (reread_at memory intid r).bases ≡ r.bases
 unfolding reread_at
-bases_read memory intid r = cond_both r.bases.on _ r (λ (x : Redistributor). x.bases ≡ r.bases) (λ _. by_byte (byte_at memory (r.bases.prop.table.0 + (intid - 8192)))) (λ _. refl)
+bases_read memory intid r = cond_both r.bases.on _ r (λ (x : Redistributor). x.bases ≡ r.bases)
+    (λ _. by_byte (byte_at memory (r.bases.prop.table.0 + (intid - 8192)))) (λ _. refl)
   where
     by_byte : (o : Option ℕ) → (with_read intid r o).bases ≡ r.bases
     by_byte None = refl
@@ -45,7 +49,8 @@ can_kept (x ∷ xs) r r' bits bases h = (
   can_kept xs r r' bits bases h.1,
 )
 
-read_append : (memory : List Window) (xs ys : List ℕ) (r : Redistributor) → all_reread_at memory (xs ++ ys) r ≡ all_reread_at memory ys (all_reread_at memory xs r)
+read_append : (memory : List Window) (xs ys : List ℕ) (r : Redistributor) → all_reread_at memory (xs ++ ys) r ≡ all_reread_at memory ys
+    (all_reread_at memory xs r)
 read_append memory [] ys r = refl
 read_append memory (x ∷ xs) ys r = read_append memory xs ys (reread_at memory x r)
 
@@ -58,19 +63,23 @@ can_first r [] ys h = tt
 can_first r (x ∷ xs) ys h = (h.0, can_first r xs ys h.1)
 
 -- some are read, and the rest can be
-pub read_some : (memory : List Window) (xs ys : List ℕ) (r r' : Redist) → r' ≡ redist_by (all_reread_at memory xs) r → redist_by (all_reread_at memory ys) r' ≡ redist_by (all_reread_at memory (xs ++ ys)) r
+pub read_some : (memory : List Window) (xs ys : List ℕ) (r r' : Redist) → r' ≡ redist_by (all_reread_at memory xs) r → redist_by (all_reread_at memory ys) r'
+    ≡ redist_by (all_reread_at memory (xs ++ ys)) r
 read_some memory xs ys r r' is =
     ap (redist_by (all_reread_at memory ys)) is ∙ ap (redist_as r) (sym (read_append memory xs ys (redistributor_of r)))
 
-pub can_more : (memory : List Window) (xs ys : List ℕ) (r r' : Redist) → r' ≡ redist_by (all_reread_at memory xs) r → CanRereadAll r (xs ++ ys) → CanRereadAll r' ys
+pub can_more : (memory : List Window) (xs ys : List ℕ) (r r' : Redist) → r' ≡ redist_by (all_reread_at memory xs) r → CanRereadAll r (xs ++ ys)
+    → CanRereadAll r' ys
 can_more memory xs ys r r' is h =
-    can_kept ys r r' (ap (λ (x : Redist). x.config.lpi_bits) is) (ap (λ (x : Redist). x.bases) is ∙ bases_all_read memory xs (redistributor_of r)) (can_rest r xs ys h)
+    can_kept ys r r' (ap (λ (x : Redist). x.config.lpi_bits) is) (ap (λ (x : Redist). x.bases) is ∙ bases_all_read memory xs (redistributor_of r))
+    (can_rest r xs ys h)
 
 -- ---- LPIs that move
 
 pub moved_takes : (x from to v y : ℕ) (rs : List (Option Redist)) → takes_lpi (lpi_moved_in x from to rs) v y ≡ takes_lpi rs v y
 moved_takes x from to v y rs =
-    cond_both (is_pending x (lpis_in rs from)) (changed to (with_set x) (changed from (with_cleared x) rs)) rs (λ (xs : List (Option Redist)). takes_lpi xs v y ≡ takes_lpi rs v y)
+    cond_both (is_pending x (lpis_in rs from)) (changed to (with_set x) (changed from (with_cleared x) rs)) rs
+    (λ (xs : List (Option Redist)). takes_lpi xs v y ≡ takes_lpi rs v y)
     (λ _. changed_takes to v y (with_set x) (changed from (with_cleared x) rs) ∙ changed_takes from v y (with_cleared x) rs) (λ _. refl)
 
 all_moved_takes : (xs : List ℕ) (from to v y : ℕ) (rs : List (Option Redist)) → takes_lpi (lpis_moved_in xs from to rs) v y ≡ takes_lpi rs v y
@@ -89,13 +98,16 @@ pub takes_first : (rs : List (Option Redist)) (v : ℕ) (xs ys : List ℕ) → T
 takes_first rs v [] ys h = tt
 takes_first rs v (x ∷ xs) ys h = (h.0, takes_first rs v xs ys h.1)
 
-moved_append : (xs ys : List ℕ) (from to : ℕ) (rs : List (Option Redist)) → lpis_moved_in (xs ++ ys) from to rs ≡ lpis_moved_in ys from to (lpis_moved_in xs from to rs)
+moved_append : (xs ys : List ℕ) (from to : ℕ) (rs : List (Option Redist)) → lpis_moved_in (xs ++ ys) from to rs ≡ lpis_moved_in ys from to
+    (lpis_moved_in xs from to rs)
 moved_append [] ys from to rs = refl
 moved_append (x ∷ xs) ys from to rs = moved_append xs ys from to (lpi_moved_in x from to rs)
 
-pub moved_some : (xs ys : List ℕ) (from to : ℕ) (rs now : List (Option Redist)) → now ≡ lpis_moved_in xs from to rs → lpis_moved_in ys from to now ≡ lpis_moved_in (xs ++ ys) from to rs
+pub moved_some : (xs ys : List ℕ) (from to : ℕ) (rs now : List (Option Redist)) → now ≡ lpis_moved_in xs from to rs
+    → lpis_moved_in ys from to now ≡ lpis_moved_in (xs ++ ys) from to rs
 moved_some xs ys from to rs now is = ap (lpis_moved_in ys from to) is ∙ sym (moved_append xs ys from to rs)
 
-pub takes_more : (xs ys : List ℕ) (from to v : ℕ) (rs now : List (Option Redist)) → now ≡ lpis_moved_in xs from to rs → TakesAll rs v (xs ++ ys) → TakesAll now v ys
+pub takes_more : (xs ys : List ℕ) (from to v : ℕ) (rs now : List (Option Redist)) → now ≡ lpis_moved_in xs from to rs → TakesAll rs v (xs ++ ys)
+    → TakesAll now v ys
 takes_more xs ys from to v rs now is h =
     takes_kept ys v rs now (λ y. ap (λ (zs : List (Option Redist)). takes_lpi zs v y) is ∙ all_moved_takes xs from to v y rs) (takes_rest rs v xs ys h)

@@ -57,7 +57,8 @@ some_event : {A : Type 0} (o : Option A) → is_some o ≡ true → (x : A) × (
 some_event None e = absurd cc
 some_event (Some x) e = (x, refl)
 
-workable_by : (s : Shape) (r : Registers) (m : Maps) (memory : List Window) (rs : List (Option Redist)) (u : Plain) (i : ℕ) → u.layout.shape ≡ s → IsSound u → ArePartsOf u i s r m memory rs → IsWorkable s m rs
+workable_by : (s : Shape) (r : Registers) (m : Maps) (memory : List Window) (rs : List (Option Redist)) (u : Plain) (i : ℕ) → u.layout.shape ≡ s → IsSound u
+    → ArePartsOf u i s r m memory rs → IsWorkable s m rs
 workable_by s r m memory rs u i same sound are =
     let t : IsTranslator u.layout.shape (record { regs = r; maps = m }) = sound.translators i (record { regs = r; maps = m }) are.translator_is in
     subst (λ (x : Shape). IsWorkable x m rs) same (record {
@@ -70,7 +71,8 @@ workable_by s r m memory rs u i same sound are =
       below = λ v x is. omega (arith, slice_get_within u.redistributors v (redistributor_of x) (are.redistributors_are v x is).same, sound.vcpus);
       lpis = λ v x is. (are.redistributors_are v x is).lpis;
       low = λ v x is on.
-          let at : IsRedistributor u.layout u.memory v (redistributor_of x) = sound.redistributors v (redistributor_of x) (are.redistributors_are v x is).same in
+          let at : IsRedistributor u.layout u.memory v (redistributor_of x) = sound.redistributors v (redistributor_of x)
+          (are.redistributors_are v x is).same in
           let end : x.bases.prop.table.0 + lpi_count u.layout.shape.lpi_bits ≤ 2 ^ 52 =
           stretch_is_low u.memory x.bases.prop.table.0 (lpi_count u.layout.shape.lpi_bits) (ranges u.memory sound.memory) (at.tables on).config in
           omega (arith, end);

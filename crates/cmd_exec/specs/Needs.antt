@@ -75,7 +75,8 @@ IsPartOf its set (Redist vcpu) = is_in set vcpu.0 ≡ true
 
 -- they are just the parts that a step of such a translator which meets the command reads or changes
 abbrev pub ArePartsOfStep : Shape → Maps → Command → ℕ → Type 0
-ArePartsOfStep s m c set = (u : Plain) (its : ℕ) → u.layout.shape ≡ s → maps_of u its ≡ m → (p : Part) → IsIn p (MapsOf its ∷ Mem ∷ needed u its c) ↔ IsPartOf its set p
+ArePartsOfStep s m c set = (u : Plain) (its : ℕ) → u.layout.shape ≡ s → maps_of u its ≡ m → (p : Part)
+    → IsIn p (MapsOf its ∷ Mem ∷ needed u its c) ↔ IsPartOf its set p
 
 -- ---- which virtual processors, command by command
 

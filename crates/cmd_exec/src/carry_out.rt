@@ -21,7 +21,8 @@ pub fn carry_out(
 )
     requires { IsReady shape.now maps.old redists.old effect }
     ensures maps { maps.new.maps ≡ effects.maps_after effect maps.old.maps }
-    ensures redists { redists.new ≡ effects.redists_after shape.now maps.old.maps memory.now effect redists.old }
+    ensures redists { redists.new ≡ effects.redists_after shape.now maps.old.maps memory.now effect
+        redists.old }
 {
     match effect {
         Effect::Nothing => {}

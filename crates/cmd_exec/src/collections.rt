@@ -65,7 +65,8 @@ fn reread_all(redist: &mut Redist, memory: &Memory, maps: &Maps, icid: Icid)
 // Those of one device.
 fn reread_all_of(redist: &mut Redist, memory: &Memory, events: EventWalk, icid: Icid)
     requires { CanRereadAll redist.old (lpis_of events icid.0) }
-    ensures { redist.new ≡ redist_by (all_reread_at memory.now (lpis_of events.entry icid.0)) redist.old }
+    ensures { redist.new ≡ redist_by (all_reread_at memory.now (lpis_of events.entry icid.0))
+        redist.old }
 {
     for (_, event) in events {
         if event.icid == icid {

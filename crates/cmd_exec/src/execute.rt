@@ -63,9 +63,11 @@ pub fn apply(
     requires plan { IsPlanOf planned.command shape.now regs.old maps.old.maps memory.now redists.old
         planned }
     requires room { HasRoomFor maps.old planned }
-    ensures left { AreLeftBy planned.command shape.now memory.now (regs.old, maps.old.maps, redists.old)
+    ensures left { AreLeftBy planned.command shape.now memory.now
+        (regs.old, maps.old.maps, redists.old)
         (regs.new, maps.new.maps, redists.new) }
-    ensures hand { (vcpu : ℕ) → is_some (in_hand redists.new vcpu) ≡ is_some (in_hand redists.old vcpu) }
+    ensures hand { (vcpu : ℕ) → is_some (in_hand redists.new vcpu) ≡ is_some
+        (in_hand redists.old vcpu) }
 {
     regs.advance();
     if let Ok(effect) = planned.outcome {

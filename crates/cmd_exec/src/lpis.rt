@@ -74,7 +74,8 @@ pub fn reread(redist: &mut Redist, memory: &Memory, intid: Intid)
 /// Each of the first virtual processors reads it again.
 pub fn reread_each(redists: &mut Redists, vcpus: u8, memory: &Memory, intid: Intid)
     requires { CanEachReread vcpus redists.old (intid.0 ∷ []) }
-    ensures { redists.new ≡ changed_below vcpus (all_reread_at memory.now (intid.0 ∷ [])) redists.old }
+    ensures { redists.new ≡ changed_below vcpus (all_reread_at memory.now (intid.0 ∷ []))
+        redists.old }
 {
     for vcpu in 0..vcpus {
         let redist = redists.redist_mut(Vcpu(vcpu));

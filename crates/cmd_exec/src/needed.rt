@@ -14,7 +14,8 @@ use its_types::{DeviceId, EventId, Profile, Shape, Vcpu};
 pub fn needs(command: &Command, _regs: &Regs, maps: &Maps, shape: &Shape) -> PartSet
     requires vcpus { shape.now.vcpus ≤ 16 }
     requires targets { AreTargets shape.now maps.now.maps }
-    ensures redists { (vcpu : ℕ) → is_in result vcpu ≡ is_needed shape.now maps.now.maps command.now vcpu }
+    ensures redists { (vcpu : ℕ) → is_in result vcpu ≡ is_needed shape.now maps.now.maps command.now
+        vcpu }
     ensures below { (vcpu : ℕ) → is_in result vcpu ≡ true → vcpu < shape.now.vcpus }
     ensures parts { ArePartsOfStep shape.now maps.now.maps command.now result }
 {

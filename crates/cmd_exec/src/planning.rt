@@ -166,8 +166,10 @@ impl<'a> InHand<'a> {
 
     #[tactic(auto, unfolding(crate::specs::Effects::movi))]
     fn movi(&self, dev: DeviceId, ev: EventId, icid: Icid) -> Result<Effect, Reason>
-        requires from { IsTargetInHand self.now.redists.now (target_of_event self.now.maps.now.maps dev.0 ev.0) }
-        requires to { IsTargetInHand self.now.redists.now (maps.collection_of self.now.maps.now.maps icid.0) }
+        requires from { IsTargetInHand self.now.redists.now
+            (target_of_event self.now.maps.now.maps dev.0 ev.0) }
+        requires to { IsTargetInHand self.now.redists.now
+            (maps.collection_of self.now.maps.now.maps icid.0) }
         ensures { result ≡ effects.movi self.now.maps.now.maps self.now.redists.now dev ev icid }
     {
         let event = self.event_at(dev, ev)?;
@@ -187,7 +189,8 @@ impl<'a> InHand<'a> {
     // The LPI of an event, and its target, whose LPIs are on.
     #[tactic(auto, unfolding(crate::specs::Effects::lpi_at))]
     fn lpi_at(&self, dev: DeviceId, ev: EventId) -> Result<(Intid, Vcpu), Reason>
-        requires { IsTargetInHand self.now.redists.now (target_of_event self.now.maps.now.maps dev.0 ev.0) }
+        requires { IsTargetInHand self.now.redists.now
+            (target_of_event self.now.maps.now.maps dev.0 ev.0) }
         ensures { result ≡ effects.lpi_at self.now.maps.now.maps self.now.redists.now dev ev }
     {
         let event = self.event_at(dev, ev)?;
@@ -198,7 +201,8 @@ impl<'a> InHand<'a> {
 
     #[tactic(auto, unfolding(crate::specs::Effects::int))]
     fn int(&self, dev: DeviceId, ev: EventId) -> Result<Effect, Reason>
-        requires { IsTargetInHand self.now.redists.now (target_of_event self.now.maps.now.maps dev.0 ev.0) }
+        requires { IsTargetInHand self.now.redists.now
+            (target_of_event self.now.maps.now.maps dev.0 ev.0) }
         ensures { result ≡ effects.int self.now.maps.now.maps self.now.redists.now dev ev }
     {
         let (intid, vcpu) = self.lpi_at(dev, ev)?;
@@ -207,7 +211,8 @@ impl<'a> InHand<'a> {
 
     #[tactic(auto, unfolding(crate::specs::Effects::clear))]
     fn clear(&self, dev: DeviceId, ev: EventId) -> Result<Effect, Reason>
-        requires { IsTargetInHand self.now.redists.now (target_of_event self.now.maps.now.maps dev.0 ev.0) }
+        requires { IsTargetInHand self.now.redists.now
+            (target_of_event self.now.maps.now.maps dev.0 ev.0) }
         ensures { result ≡ effects.clear self.now.maps.now.maps self.now.redists.now dev ev }
     {
         let (intid, vcpu) = self.lpi_at(dev, ev)?;

@@ -16,7 +16,8 @@ pub fn read_register(regs: &Regs, off: u32, size: u8) -> u64
 /// and a new collection table all collections.
 pub fn write_register(regs: &mut Regs, maps: &mut Maps, off: u32, size: u8, value: u64)
     ensures regs { regs.new ≡ (write_reg regs.old off size value).regs }
-    ensures maps { maps.new.maps ≡ emptied (write_reg regs.old off size value).change maps.old.maps }
+    ensures maps { maps.new.maps ≡ emptied (write_reg regs.old off size value).change
+        maps.old.maps }
 {
     match regs.write(off, size, value) {
         RegChange::DevicesEmptied => maps.empty_devices(),

@@ -1,5 +1,6 @@
 -- Signals by the cache and then by the maps, and again.
-use Rattle.std.proofs.Common.{◌≡◌, ◌≢◌, ◌⊎◌, ℕ, ◌+◌, ◌<◌, ◌≤◌, List, [], ◌∷◌, ◌++◌, length, Option, Some, None, Result, Ok, Err, refl, ap, sym, ◌∙◌, subst, arith, inl, inr, ⊎_elim, append_assoc, le_refl}
+use Rattle.std.proofs.Common.{◌≡◌, ◌≢◌, ◌⊎◌, ℕ, ◌+◌, ◌<◌, ◌≤◌, List, [], ◌∷◌, ◌++◌, length, Option, Some, None, Result, Ok, Err, refl, ap, sym, ◌∙◌, subst}
+use Rattle.std.proofs.Common.{arith, inl, inr, ⊎_elim, append_assoc, le_refl}
 use Rattle.std.specs.List.{AllByRecursion}
 use mathlib.Core.Logic.{dite}
 use native.Mathlib.Decide.{ℕ_discrete}
@@ -24,7 +25,8 @@ use Rattle.its_turns.specs.declared.attempts.Attempt.TheVariants as attempt
 use Rattle.its_turns.specs.declared.commits.Raced.{Raced}
 use Rattle.its_turns.specs.declared.turns.Busy.{Busy}
 use Rattle.device_port.specs.ByMaps.{EarlyIs, MapsGot, AsksMaps}
-use Rattle.device_port.specs.Signals.{signal, shard_of, IsOfSignal, Among, Finds, FindsLast, KeepsEarly, Sends, SignalGot, SignalsOnce, SignalAsks, Signals, SignalsNow}
+use Rattle.device_port.specs.Signals.{signal, shard_of, IsOfSignal, Among, Finds, FindsLast, KeepsEarly, Sends, SignalGot, SignalsOnce, SignalAsks, Signals}
+use Rattle.device_port.specs.Signals.{SignalsNow}
 use Rattle.device_port.specs.declared.hits.Now.TheVariants as now
 
 -- ---- lists of turns
@@ -56,7 +58,8 @@ is_maps (part.Redist u) = inr (λ e. cc)
 maps_among : (xs : List Part) → Among (part.Maps 0) xs ⊎ (¬ Among (part.Maps 0) xs)
 maps_among [] = inr (λ none. none)
 maps_among (x ∷ xs) = ⊎_elim (λ (e : x ≡ part.Maps 0). inl (inl e))
-    (λ (ne : x ≢ part.Maps 0). ⊎_elim (λ (a : Among (part.Maps 0) xs). inl (inr a)) (λ (no_more : ¬ Among (part.Maps 0) xs). inr (λ b. ⊎_elim (λ (e : x ≡ part.Maps 0). ne e) (λ (a : Among (part.Maps 0) xs). no_more a) b)) (maps_among xs))
+    (λ (ne : x ≢ part.Maps 0). ⊎_elim (λ (a : Among (part.Maps 0) xs). inl (inr a)) (λ (no_more : ¬ Among (part.Maps 0) xs).
+    inr (λ b. ⊎_elim (λ (e : x ≡ part.Maps 0). ne e) (λ (a : Among (part.Maps 0) xs). no_more a) b)) (maps_among xs))
     (is_maps x)
 
 -- the shard is not the maps
@@ -83,7 +86,8 @@ module _ (v w x : View) (got : List Part) (stays : Stays v w) (tries : w.tries �
   pub busy_again : (b : Busy) (more : List Part) → WasBusy w more b x → WasBusy v (more ++ got) b x
   busy_again b more busy = record {
     stays = stays_again v w x stays busy.stays;
-    tries = busy.tries ∙ (ap (λ (t : Tries). lost_to (got_all more t) b.part b.holder) tries ∙ ap (λ (l : List Part). lost_to (record v.tries { won = l }) b.part b.holder) (sym (append_assoc more got v.tries.won)));
+    tries = busy.tries ∙ (ap (λ (t : Tries). lost_to (got_all more t) b.part b.holder) tries
+        ∙ ap (λ (l : List Part). lost_to (record v.tries { won = l }) b.part b.holder) (sym (append_assoc more got v.tries.won)));
     another = λ e. busy.another (e ∙ ap (λ (y : View). y.number) (sym stays.same));
     out = λ alone. busy.out (subst IsLone (sym stays.same) alone);
   }
@@ -99,11 +103,16 @@ module _ (v w x : View) (got : List Part) (stays : Stays v w) (tries : w.tries �
   }
 
   pub spent_again : (more : List Part) → WasSpent w more x → WasSpent v (more ++ got) x
-  spent_again more spent = record { stays = stays_again v w x stays spent.stays; tries = more_tries v.tries x.tries w.tries more got tries spent.tries; spent = spent.spent ∙ ap (λ (s : Setup). s.limits.place_last) setups }
+  spent_again more spent = record {
+    stays = stays_again v w x stays spent.stays;
+    tries = more_tries v.tries x.tries w.tries more got tries spent.tries;
+    spent = spent.spent ∙ ap (λ (s : Setup). s.limits.place_last) setups;
+  }
 
 -- ---- by the maps after the cache had nothing
 
-module _ (dev : DeviceId) (ev : EventId) (v w x : View) (stays : Stays v w) (tries : w.tries ≡ got_all (shard_of v.setup dev ev ∷ []) v.tries) (none : FindsLast dev ev w None) (early : KeepsEarly v w) where
+module _ (dev : DeviceId) (ev : EventId) (v w x : View) (stays : Stays v w) (tries : w.tries ≡ got_all (shard_of v.setup dev ev ∷ []) v.tries)
+    (none : FindsLast dev ev w None) (early : KeepsEarly v w) where
   abbrev shard : Part
   shard = shard_of v.setup dev ev
 
@@ -112,21 +121,45 @@ module _ (dev : DeviceId) (ev : EventId) (v w x : View) (stays : Stays v w) (tri
 
   got_then : (more : List Part) → MapsGot w dev ev more x → x.setup ≡ w.setup → SignalGot v dev ev (more ++ shard ∷ []) x
   got_then more maps same = record {
-    only = all_both (IsOfSignal v.setup dev ev) more (shard ∷ []) (subst (λ (s : Setup). AllByRecursion (IsOfSignal s dev ev) more) own maps.only) (inr (inl refl), tt);
+    only = all_both (IsOfSignal v.setup dev ev) more (shard ∷ []) (subst (λ (s : Setup). AllByRecursion (IsOfSignal s dev ev) more) own maps.only)
+        (inr (inl refl), tt);
     shard = λ _. among_back shard more (shard ∷ []) (inl refl);
     missed = λ a. ⊎_elim
-        (λ (f : Among (part.Maps 0) more). let e = maps.early f in subst (λ (z : Setup × (Looked × Word)). Finds z.0 dev ev z.1.0 z.1.1 None) (let s = sym same in let l = sym e.early in let o = sym e.word in λ d. (s d, (l d, o d))) none)
+        (λ (f : Among (part.Maps 0) more). let e = maps.early f in subst (λ (z : Setup × (Looked × Word)). Finds z.0 dev ev z.1.0 z.1.1 None)
+        (let s = sym same in let l = sym e.early in let o = sym e.word in λ d. (s d, (l d, o d))) none)
         (λ (b : Among (part.Maps 0) (shard ∷ [])). absurd (shard_only 0 _ b))
         (among_one (part.Maps 0) more (shard ∷ []) a);
     kept = λ no_maps. keeps_again v w x early (maps.kept (λ a. no_maps (among_front (part.Maps 0) more (shard ∷ []) a)));
   }
 
   pub by_maps_then : (at : Attempt Signal) → AsksMaps w dev ev x at → SignalsOnce v dev ev x at
-  by_maps_then (attempt.Done p) a =
-      (a.0 ++ shard ∷ [], got_then a.0 a.1 (ap (λ (y : View). y.setup) a.2.same), placed_again v w x (signal dev ev) _ p.place stays a.2, a.3, more_tries v.tries x.tries w.tries a.0 (shard ∷ []) tries a.4)
-  by_maps_then (attempt.Busy b) a = (a.0 ++ shard ∷ [], got_then a.0 a.1 (ap (λ (y : View). y.setup) a.2.stays.same), busy_again v w x (shard ∷ []) stays tries b a.0 a.2, subst (λ (s : Setup). IsOfSignal s dev ev b.part) own a.3)
-  by_maps_then (attempt.Raced r) a = (a.0 ++ shard ∷ [], got_then a.0 a.1 (ap (λ (y : View). y.setup) a.2.stays.same), raced_again v w x (shard ∷ []) stays tries r a.0 a.2)
-  by_maps_then attempt.Spent a = (a.0 ++ shard ∷ [], got_then a.0 a.1 (ap (λ (y : View). y.setup) a.2.stays.same), spent_again v w x (shard ∷ []) stays tries a.0 a.2)
+  by_maps_then (attempt.Done p) a = (
+    a.0 ++ shard ∷ [],
+    got_then a.0 a.1 (ap (λ (y : View). y.setup) a.2.same),
+    placed_again v w x (signal dev ev) _ p.place stays a.2,
+    a.3,
+    more_tries
+        v.tries x.tries w.tries a.0 (shard ∷ []) tries a.4,
+  )
+  by_maps_then (attempt.Busy b) a = (
+    a.0 ++ shard ∷ [],
+    got_then a.0 a.1 (ap (λ (y : View). y.setup) a.2.stays.same),
+    busy_again v w x
+        (shard ∷ []) stays tries b a.0 a.2,
+    subst (λ (s : Setup). IsOfSignal s dev ev b.part) own a.3,
+  )
+  by_maps_then (attempt.Raced r) a = (
+    a.0 ++ shard ∷ [],
+    got_then a.0 a.1 (ap (λ (y : View). y.setup) a.2.stays.same),
+    raced_again v w x
+        (shard ∷ []) stays tries r a.0 a.2,
+  )
+  by_maps_then attempt.Spent a = (
+    a.0 ++ shard ∷ [],
+    got_then a.0 a.1 (ap (λ (y : View). y.setup) a.2.stays.same),
+    spent_again v w x
+        (shard ∷ []) stays tries a.0 a.2,
+  )
 
 -- ---- by the cache
 
@@ -138,10 +171,22 @@ module _ (dev : DeviceId) (ev : EventId) (v w : View) (early : KeepsEarly v w) w
   shard_got = record { only = (inr (inl refl), tt); shard = λ a. absurd (shard_only 0 _ a); missed = λ a. absurd (shard_only 0 _ a); kept = λ _. early }
 
   two_got : (u : Vcpu) → SignalGot v dev ev (part.Redist u ∷ shard_of v.setup dev ev ∷ []) w
-  two_got u = record { only = (inr (inr (u, refl)), (inr (inl refl), tt)); shard = λ a. absurd (two_only u 0 _ a); missed = λ a. absurd (two_only u 0 _ a); kept = λ _. early }
+  two_got u = record {
+    only = (inr (inr (u, refl)), (inr (inl refl), tt));
+    shard = λ a. absurd (two_only u 0 _ a);
+    missed = λ a. absurd (two_only u 0 _ a);
+    kept = λ _. early;
+  }
 
   pub done_then : (p : Placed Signal) → SignalsNow v dev ev w (now.Done p) → SignalsOnce v dev ev w (attempt.Done p)
-  done_then p a = let t = a.0 in (part.Redist t.vcpu ∷ shard_of v.setup dev ev ∷ [], two_got t.vcpu, a.2, subst (λ (s : Signal). Sends dev ev s w) (sym a.1) (inl a.3, a.5), a.4)
+  done_then p a = let t = a.0 in (
+    part.Redist t.vcpu ∷ shard_of v.setup dev ev ∷ [],
+    two_got t.vcpu,
+    a.2,
+    subst (λ (s : Signal). Sends dev ev s w) (sym a.1)
+        (inl a.3, a.5),
+    a.4,
+  )
 
   pub busy_then : (b : Busy) → SignalsNow v dev ev w (now.Busy b) → SignalsOnce v dev ev w (attempt.Busy b)
   busy_then b (inl a) = ([], none_got, a.1, inr (inl a.0))
@@ -160,7 +205,8 @@ module _ (dev : DeviceId) (ev : EventId) (v : View) where
   asks_first = record { got = []; won = refl; turns = none_got dev ev v v (record { early = refl; word = refl }); lost = le_refl v.tries.lost }
 
   -- turns after turns
-  got_join : (w x : View) (got more : List Part) → w.setup ≡ v.setup → x.setup ≡ w.setup → SignalGot v dev ev got w → SignalGot w dev ev more x → SignalGot v dev ev (more ++ got) x
+  got_join : (w x : View) (got more : List Part) → w.setup ≡ v.setup → x.setup ≡ w.setup → SignalGot v dev ev got w → SignalGot w dev ev more x
+      → SignalGot v dev ev (more ++ got) x
   got_join w x got more own same a b =
       let shard : shard_of w.setup dev ev ≡ shard_of v.setup dev ev = ap (λ (s : Setup). shard_of s dev ev) own in
       record {
@@ -172,14 +218,17 @@ module _ (dev : DeviceId) (ev : EventId) (v : View) where
         missed = λ maps. ⊎_elim (λ (f : Among (part.Maps 0) more). b.missed f)
             (λ (no_more : ¬ Among (part.Maps 0) more). ⊎_elim (λ (f : Among (part.Maps 0) more). absurd (no_more f))
             (λ (f : Among (part.Maps 0) got). let e = b.kept no_more in
-            subst (λ (z : Setup × (Looked × Word)). Finds z.0 dev ev z.1.0 z.1.1 None) (let s = sym same in let l = sym e.early in let o = sym e.word in λ d. (s d, (l d, o d))) (a.missed f))
+            subst (λ (z : Setup × (Looked × Word)). Finds z.0 dev ev z.1.0 z.1.1 None) (let s = sym same in let l = sym e.early in let o = sym e.word in λ d.
+            (s d, (l d, o d))) (a.missed f))
             (among_one (part.Maps 0) more got maps))
             (maps_among more);
-        kept = λ no_maps. keeps_again v w x (a.kept (λ f. no_maps (among_back (part.Maps 0) more got f))) (b.kept (λ f. no_maps (among_front (part.Maps 0) more got f)));
+        kept = λ no_maps. keeps_again v w x (a.kept (λ f. no_maps (among_back (part.Maps 0) more got f)))
+            (b.kept (λ f. no_maps (among_front (part.Maps 0) more got f)));
       }
 
   module _ (w : View) (stays : Stays v w) (asks : SignalAsks v dev ev w) where
-    asks_more : (x : View) (more : List Part) → x.setup ≡ w.setup → SignalGot w dev ev more x → x.tries.won ≡ more ++ w.tries.won → w.tries.lost ≤ x.tries.lost → SignalAsks v dev ev x
+    asks_more : (x : View) (more : List Part) → x.setup ≡ w.setup → SignalGot w dev ev more x → x.tries.won ≡ more ++ w.tries.won → w.tries.lost ≤ x.tries.lost
+        → SignalAsks v dev ev x
     asks_more x more same got won lost = record {
       got = more ++ asks.got;
       won = won ∙ (ap (λ (l : List Part). more ++ l) asks.won ∙ sym (append_assoc more asks.got v.tries.won));
@@ -190,25 +239,30 @@ module _ (dev : DeviceId) (ev : EventId) (v : View) where
     pub again_busy : (b : Busy) (x : View) → SignalsOnce w dev ev x (attempt.Busy b) → Stays v x × SignalAsks v dev ev x
     again_busy b x a = (
       stays_again v w x stays a.2.stays,
-      asks_more x a.0 (ap (λ (y : View). y.setup) a.2.stays.same) a.1 (ap (λ (t : Tries). t.won) a.2.tries) (let lost = ap (λ (t : Tries). t.lost) a.2.tries in omega (arith, lost)),
+      asks_more x a.0 (ap (λ (y : View). y.setup) a.2.stays.same) a.1 (ap (λ (t : Tries). t.won) a.2.tries)
+          (let lost = ap (λ (t : Tries). t.lost) a.2.tries in omega (arith, lost)),
     )
 
     pub again_raced : (r : Raced) (x : View) → SignalsOnce w dev ev x (attempt.Raced r) → Stays v x × SignalAsks v dev ev x
     again_raced r x a = (
       stays_again v w x stays a.2.stays,
-      asks_more x a.0 (ap (λ (y : View). y.setup) a.2.stays.same) a.1 (ap (λ (t : Tries). t.won) a.2.tries) (let lost = ap (λ (t : Tries). t.lost) a.2.tries in omega (arith, lost)),
+      asks_more x a.0 (ap (λ (y : View). y.setup) a.2.stays.same) a.1 (ap (λ (t : Tries). t.won) a.2.tries)
+          (let lost = ap (λ (t : Tries). t.lost) a.2.tries in omega (arith, lost)),
     )
 
     pub asked_spent : (x : View) → SignalsOnce w dev ev x attempt.Spent → SignalAsks v dev ev x × Stays v x × (length x.seen ≡ v.setup.limits.place_last)
     asked_spent x a = (
-      asks_more x a.0 (ap (λ (y : View). y.setup) a.2.stays.same) a.1 (ap (λ (t : Tries). t.won) a.2.tries) (let lost = ap (λ (t : Tries). t.lost) a.2.tries in omega (arith, lost)),
+      asks_more x a.0 (ap (λ (y : View). y.setup) a.2.stays.same) a.1 (ap (λ (t : Tries). t.won) a.2.tries)
+          (let lost = ap (λ (t : Tries). t.lost) a.2.tries in omega (arith, lost)),
       stays_again v w x stays a.2.stays,
       a.2.spent ∙ ap (λ (y : View). y.setup.limits.place_last) stays.same,
     )
 
-    pub asked_done : (p : Placed Signal) (x : View) → SignalsOnce w dev ev x (attempt.Done p) → SignalAsks v dev ev x × IsPlaced v (signal dev ev) (reply.Signal p.reply) p.place x × Sends dev ev p.reply x
+    pub asked_done : (p : Placed Signal) (x : View) → SignalsOnce w dev ev x (attempt.Done p) → SignalAsks v dev ev x
+        × IsPlaced v (signal dev ev) (reply.Signal p.reply) p.place x × Sends dev ev p.reply x
     asked_done p x a = (
-      asks_more x a.0 (ap (λ (y : View). y.setup) a.2.same) a.1 (ap (λ (t : Tries). t.won) a.4) (let lost = ap (λ (t : Tries). t.lost) a.4 in omega (arith, lost)),
+      asks_more x a.0 (ap (λ (y : View). y.setup) a.2.same) a.1 (ap (λ (t : Tries). t.won) a.4)
+          (let lost = ap (λ (t : Tries). t.lost) a.4 in omega (arith, lost)),
       placed_again v w x (signal dev ev) (reply.Signal p.reply) p.place stays a.2,
       a.3,
     )

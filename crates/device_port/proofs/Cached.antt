@@ -1,5 +1,6 @@
 -- Signals by the cache: from what each step tells to what the call says.
-use Rattle.std.proofs.Common.{◌≡◌, ◌⊎◌, ℕ, ◌+◌, ◌<◌, ◌≤◌, ◌==◌, ◌&&◌, Bool, true, false, cond, eqb, List, [], ◌∷◌, Option, Some, None, length, refl, ap, sym, ◌∙◌, subst, inl, inr, arith, eq-eqb}
+use Rattle.std.proofs.Common.{◌≡◌, ◌⊎◌, ℕ, ◌+◌, ◌<◌, ◌≤◌, ◌==◌, ◌&&◌, Bool, true, false, cond, eqb, List, [], ◌∷◌, Option, Some, None, length, refl, ap, sym}
+use Rattle.std.proofs.Common.{◌∙◌, subst, inl, inr, arith, eq-eqb}
 use mathlib.Core.List.{IsPrefix}
 use Rattle.its_types.specs.Lpis.{with_lpi}
 use Rattle.its_types.specs.declared.ids.DeviceId.{DeviceId}
@@ -27,7 +28,8 @@ use Rattle.its_steps.specs.Parts.{Setup, HasVcpus, translator_count, vcpu_count,
 use Rattle.its_steps.specs.World.{View, Tries, took, out, lost_to, looked_in}
 use Rattle.its_steps.specs.declared.change.ShardChange.TheVariants.{Keep}
 use Rattle.its_steps.specs.declared.commit.Commit.{Commit}
-use Rattle.its_turns.proofs.Telling.{looks_again, looked_held, goes_first, goes_looked, goes_took, goes_missed, goes_released, goes_emptied, stays_from, lone_on, makes_of, makes_from, made_emptied, placed_from, leaves_from}
+use Rattle.its_turns.proofs.Telling.{looks_again, looked_held, goes_first, goes_looked, goes_took, goes_missed, goes_released, goes_emptied, stays_from}
+use Rattle.its_turns.proofs.Telling.{lone_on, makes_of, makes_from, made_emptied, placed_from, leaves_from}
 use Rattle.its_turns.specs.Contents.{held_before}
 use Rattle.its_turns.specs.Calls.{Stays, IsPlaced, Leaves, got_all, WasBusy, WasRaced, GoesOn}
 use Rattle.its_turns.specs.Steps.{IsBusy, IsRaced}
@@ -45,7 +47,8 @@ pub at_stamp : (s : Setup) → translator_count s ≡ 1 → (w : Word) → stamp
 at_stamp s one w = (one_has s one).0 w 0
 
 -- a shard that is held is looked at again
-pub looked_there : (vcpu : Vcpu) (r : Redistributor) (n : ℕ) (ways : List (Option Translation)) (before : List Held) (o : Looked) → o.its ≡ 0 → o.number ≡ n → looked_in (two_before n vcpu ways r before) o ≡ record { its = 0; number = n; ways = ways }
+pub looked_there : (vcpu : Vcpu) (r : Redistributor) (n : ℕ) (ways : List (Option Translation)) (before : List Held) (o : Looked) → o.its ≡ 0 → o.number ≡ n
+    → looked_in (two_before n vcpu ways r before) o ≡ record { its = 0; number = n; ways = ways }
 looked_there vcpu r n ways before o its number =
     let test : (eqb 0 o.its && eqb n o.number) ≡ true = λ d. eq-eqb 0 o.its (sym its) d && eq-eqb n o.number (sym number) d in
     ap (λ b. cond b (record { its = 0; number = n; ways = ways }) (looked_in before o)) test
@@ -54,7 +57,8 @@ module _ (s : Setup) (one : translator_count s ≡ 1) (dev : DeviceId) (ev : Eve
   abbrev n : ℕ
   n = shard_number dev.0 ev.0 s.shards
 
-  pub finds_last : (x : View) (ways : List (Option Translation)) (w : Word) (o : Option Target) → x.setup ≡ s → x.cache.looked ≡ record { its = 0; number = n; ways = ways } → x.last.stamp ≡ w.stamp → found ways dev.0 ev.0 w.stamp ≡ o
+  pub finds_last : (x : View) (ways : List (Option Translation)) (w : Word) (o : Option Target) → x.setup ≡ s
+      → x.cache.looked ≡ record { its = 0; number = n; ways = ways } → x.last.stamp ≡ w.stamp → found ways dev.0 ev.0 w.stamp ≡ o
       → FindsLast dev ev x o
   finds_last x ways w o own looked last finds = record {
     its = ap (λ (l : Looked). l.its) looked;
@@ -84,7 +88,10 @@ module _ (s : Setup) (one : translator_count s ≡ 1) (dev : DeviceId) (ev : Eve
               out = λ alone. busy.out (subst IsLone (sym looks.same) alone);
             },
           ),
-          record { early = ap (λ (y : View). y.cache.early) (busy.view) ∙ ap (λ (y : View). y.cache.early) looks.same; word = ap (λ (y : View). y.cache.early_word) busy.view ∙ ap (λ (y : View). y.cache.early_word) looks.same },
+          record {
+            early = ap (λ (y : View). y.cache.early) (busy.view) ∙ ap (λ (y : View). y.cache.early) looks.same;
+            word = ap (λ (y : View). y.cache.early_word) busy.view ∙ ap (λ (y : View). y.cache.early_word) looks.same;
+          },
         )
 
     module _ (v2 : View) (ways : List (Option Translation)) (took_is : v2 ≡ took v1 p (Shard ways)) where
@@ -115,19 +122,24 @@ module _ (s : Setup) (one : translator_count s ≡ 1) (dev : DeviceId) (ev : Eve
       last2 : v2.last ≡ w
       last2 = ap (λ (y : View). y.last) took_is ∙ ap (λ (y : View). y.last) looks.same
 
-      pub missed_now : (x : View) → found ways dev.0 ev.0 w.stamp ≡ None → w.place < s.limits.place_last → x ≡ released v2 → SignalsNow v dev ev x Miss × KeepsEarly v x
+      pub missed_now : (x : View) → found ways dev.0 ev.0 w.stamp ≡ None → w.place < s.limits.place_last → x ≡ released v2 → SignalsNow v dev ev x Miss
+          × KeepsEarly v x
       missed_now x none room home =
           let gone = goes_released v v2 t on2 x home in (
             (
               stays_from v x t gone (ap (λ (y : View). y.held) home ∙ ap (λ (l : List Held). held_before l) held2),
               gone.tries,
-              subst (λ (k : ℕ). k < v.setup.limits.place_last) (sym (ap (λ (y : View). length y.seen) (home ∙ ap (λ (y : View). released y) took_is) ∙ looks.place)) (subst (λ (z : Setup). w.place < z.limits.place_last) (sym own) room),
-              finds_last x ways w None (ap (λ (y : View). y.setup) home ∙ own2) (ap (λ (y : View). y.cache.looked) home ∙ looked2) (ap (λ (y : View). y.last.stamp) home ∙ ap (λ (z : Word). z.stamp) last2) none,
+              subst (λ (k : ℕ). k < v.setup.limits.place_last)
+                  (sym (ap (λ (y : View). length y.seen) (home ∙ ap (λ (y : View). released y) took_is) ∙ looks.place))
+                  (subst (λ (z : Setup). w.place < z.limits.place_last) (sym own) room),
+              finds_last x ways w None (ap (λ (y : View). y.setup) home ∙ own2) (ap (λ (y : View). y.cache.looked) home ∙ looked2)
+                  (ap (λ (y : View). y.last.stamp) home ∙ ap (λ (z : Word). z.stamp) last2) none,
             ),
             record { early = ap (λ (y : View). y.cache.early) home ∙ early2.early; word = ap (λ (y : View). y.cache.early_word) home ∙ early2.word },
           )
 
-      pub busy_redist : (target : Target) (b : Found) (x y : View) → found ways dev.0 ev.0 w.stamp ≡ Some target → IsBusy v2 (part.Redist target.vcpu) b y → x ≡ released y → SignalsNow v dev ev x (Busy b) × KeepsEarly v x
+      pub busy_redist : (target : Target) (b : Found) (x y : View) → found ways dev.0 ev.0 w.stamp ≡ Some target → IsBusy v2 (part.Redist target.vcpu) b y
+          → x ≡ released y → SignalsNow v dev ev x (Busy b) × KeepsEarly v x
       busy_redist target b x y finds busy home =
           let q : Part = part.Redist target.vcpu in
           let gone = goes_released v y (lost_to t q b.holder) (goes_missed v v2 t on2 y q b.holder busy.view) x home in (
@@ -135,12 +147,14 @@ module _ (s : Setup) (one : translator_count s ≡ 1) (dev : DeviceId) (ev : Eve
               target,
               busy.part,
               record {
-                stays = stays_from v x _ gone (ap (λ (u : View). u.held) home ∙ (ap (λ (u : View). held_before u.held) busy.view ∙ ap (λ (l : List Held). held_before l) held2));
+                stays = stays_from v x _ gone
+                    (ap (λ (u : View). u.held) home ∙ (ap (λ (u : View). held_before u.held) busy.view ∙ ap (λ (l : List Held). held_before l) held2));
                 tries = gone.tries ∙ ap (λ (r : Part). lost_to t r b.holder) (sym busy.part);
                 another = λ e. busy.another (e ∙ ap (λ (u : View). u.number) (sym on2.same));
                 out = λ alone. busy.out (lone_on v v2 t on2 alone);
               },
-              finds_last x ways w (Some target) (ap (λ (u : View). u.setup) home ∙ (ap (λ (u : View). u.setup) busy.view ∙ own2)) (ap (λ (u : View). u.cache.looked) home ∙ (ap (λ (u : View). u.cache.looked) busy.view ∙ looked2))
+              finds_last x ways w (Some target) (ap (λ (u : View). u.setup) home ∙ (ap (λ (u : View). u.setup) busy.view ∙ own2))
+                  (ap (λ (u : View). u.cache.looked) home ∙ (ap (λ (u : View). u.cache.looked) busy.view ∙ looked2))
                   (ap (λ (u : View). u.last.stamp) home ∙ (ap (λ (u : View). u.last.stamp) busy.view ∙ ap (λ (z : Word). z.stamp) last2)) finds,
             ),
             record {
@@ -149,7 +163,8 @@ module _ (s : Setup) (one : translator_count s ≡ 1) (dev : DeviceId) (ev : Eve
             },
           )
 
-      module _ (v3 : View) (target : Target) (r : Redistributor) (finds : found ways dev.0 ev.0 w.stamp ≡ Some target) (room : w.place < s.limits.place_last) (third : v3 ≡ took v2 (part.Redist target.vcpu) (Redist r)) where
+      module _ (v3 : View) (target : Target) (r : Redistributor) (finds : found ways dev.0 ev.0 w.stamp ≡ Some target) (room : w.place < s.limits.place_last)
+          (third : v3 ≡ took v2 (part.Redist target.vcpu) (Redist r)) where
         abbrev t3 : Tries
         t3 = got_all (part.Redist target.vcpu ∷ shard_of v.setup dev ev ∷ []) v.tries
 
@@ -163,7 +178,8 @@ module _ (s : Setup) (one : translator_count s ≡ 1) (dev : DeviceId) (ev : Eve
         last3 = ap (λ (y : View). y.last) third ∙ last2
 
         pub held3 : v3.held ≡ two_before n target.vcpu ways r []
-        held3 = ap (λ (y : View). y.held) third ∙ (ap (λ (l : List Held). out (part.Redist target.vcpu) (Redist r) ∷ l) held2 ∙ ap (λ (l : List Held). two_before n target.vcpu ways r l) bare)
+        held3 = ap (λ (y : View). y.held) third ∙ (ap (λ (l : List Held). out (part.Redist target.vcpu) (Redist r) ∷ l) held2
+            ∙ ap (λ (l : List Held). two_before n target.vcpu ways r l) bare)
 
         looked3 : v3.cache.looked ≡ record { its = 0; number = n; ways = ways }
         looked3 = ap (λ (y : View). y.cache.looked) third ∙ looked2
@@ -196,15 +212,19 @@ module _ (s : Setup) (one : translator_count s ≡ 1) (dev : DeviceId) (ev : Eve
         abbrev a : Commit
         a = staying w (signal dev ev) (reply.Signal (Delivered target.vcpu target.intid)) Keep
 
-        pub done_now : (x : View) → HitMade v3 w dev ev target ways x → SignalsNow v dev ev x (Done (record { place = w.place; reply = Delivered target.vcpu target.intid })) × KeepsEarly v x
+        pub done_now : (x : View) → HitMade v3 w dev ev target ways x
+            → SignalsNow v dev ev x (Done (record { place = w.place; reply = Delivered target.vcpu target.intid })) × KeepsEarly v x
         done_now x hit =
             let y = hit.made in
-            let seen : length v3.seen ≡ w.place = ap (λ (u : View). length u.seen) (third ∙ ap (λ (u : View). took u (part.Redist target.vcpu) (Redist r)) took_is) ∙ looks.place in
+            let seen : length v3.seen ≡ w.place = ap (λ (u : View). length u.seen)
+            (third ∙ ap (λ (u : View). took u (part.Redist target.vcpu) (Redist r)) took_is) ∙ looks.place in
             let makes = makes_of v3 a y hit.commits seen (subst (λ (z : Setup). w.place < z.limits.place_last) (sym own3) room) in
             let made = made_emptied v y t3 a (makes_from v v3 t3 on3 a y makes) x hit.home in
-            let owes : y.held ≡ two_before n target.vcpu ways hit.left [] = hit.owes ∙ ap (λ (z : Setup). two_before (shard_number dev.0 ev.0 z.shards) target.vcpu ways hit.left []) own3 in
+            let owes : y.held ≡ two_before n target.vcpu ways hit.left [] = hit.owes
+            ∙ ap (λ (z : Setup). two_before (shard_number dev.0 ev.0 z.shards) target.vcpu ways hit.left []) own3 in
             let looked : y.cache.looked ≡ record { its = 0; number = n; ways = ways } =
-            ap (λ (u : View). u.cache.looked) hit.commits.view ∙ (ap (λ (l : List Held). looked_in l v3.cache.looked) (sym (ap (λ (u : View). u.held) hit.commits.view) ∙ owes)
+            ap (λ (u : View). u.cache.looked) hit.commits.view
+            ∙ (ap (λ (l : List Held). looked_in l v3.cache.looked) (sym (ap (λ (u : View). u.held) hit.commits.view) ∙ owes)
             ∙ looked_there target.vcpu hit.left n ways [] v3.cache.looked (ap (λ (l : Looked). l.its) looked3) (ap (λ (l : Looked). l.number) looked3)) in (
               (
                 target,
@@ -212,7 +232,8 @@ module _ (s : Setup) (one : translator_count s ≡ 1) (dev : DeviceId) (ev : Eve
                 placed_from v x t3 a made (ap (λ (u : View). u.held) hit.home ∙ sym bare),
                 leaves_from v x t3 a made refl,
                 made.tries,
-                finds_last x ways w (Some target) (ap (λ (u : View). u.setup) made.same ∙ own) (ap (λ (u : View). u.cache.looked) hit.home ∙ looked) (ap (λ (z : Word). z.stamp) made.last) finds,
+                finds_last x ways w (Some target) (ap (λ (u : View). u.setup) made.same ∙ own) (ap (λ (u : View). u.cache.looked) hit.home ∙ looked)
+                    (ap (λ (z : Word). z.stamp) made.last) finds,
               ),
               record {
                 early = ap (λ (u : View). u.cache.early) hit.home ∙ (ap (λ (u : View). u.cache.early) hit.commits.view ∙ early3.early);
@@ -221,7 +242,8 @@ module _ (s : Setup) (one : translator_count s ≡ 1) (dev : DeviceId) (ev : Eve
             )
 
         pub hit_now : (x : View) (now : Now) → HitsNow v3 w dev ev target ways x now → SignalsNow v dev ev x now × KeepsEarly v x
-        hit_now x (Done p) h = let place = sym h.1 in let reply = sym h.0 in subst (λ (q : Placed Signal). SignalsNow v dev ev x (Done q) × KeepsEarly v x) (λ d. record { place = place d; reply = reply d }) (done_now x h.2)
+        hit_now x (Done p) h = let place = sym h.1 in let reply = sym h.0 in subst (λ (q : Placed Signal). SignalsNow v dev ev x (Done q) × KeepsEarly v x)
+            (λ d. record { place = place d; reply = reply d }) (done_now x h.2)
         hit_now x (Raced c) h = raced_now x c h
         hit_now x Miss h = absurd h
         hit_now x (Busy b) h = absurd h
@@ -229,18 +251,22 @@ module _ (s : Setup) (one : translator_count s ≡ 1) (dev : DeviceId) (ev : Eve
 
 -- ---- the commit
 
-module _ (s : Setup) (one : translator_count s ≡ 1) (vcpus : HasVcpus s) (dev : DeviceId) (ev : EventId) (target : Target) (ways : List (Option Translation)) (r : Redistributor) (w : Word) (st : target.vcpu.0 < vcpu_count s)
-    (sh : shard_number dev.0 ev.0 s.shards < s.shards) (room : w.place < s.limits.place_last) (finds : found ways dev.0 ev.0 w.stamp ≡ Some target) (y : View) (held : y.held ≡ two_before (shard_number dev.0 ev.0 s.shards) target.vcpu ways r []) where
+module _ (s : Setup) (one : translator_count s ≡ 1) (vcpus : HasVcpus s) (dev : DeviceId) (ev : EventId) (target : Target) (ways : List (Option Translation))
+    (r : Redistributor) (w : Word) (st : target.vcpu.0 < vcpu_count s)
+    (sh : shard_number dev.0 ev.0 s.shards < s.shards) (room : w.place < s.limits.place_last) (finds : found ways dev.0 ev.0 w.stamp ≡ Some target) (y : View)
+    (held : y.held ≡ two_before (shard_number dev.0 ev.0 s.shards) target.vcpu ways r []) where
   abbrev hit_call : Commit
   hit_call = staying w (signal dev ev) (reply.Signal (Delivered target.vcpu target.intid)) Keep
 
-  both : MayLeave s hit_call (two_before (shard_number dev.0 ev.0 s.shards) target.vcpu ways r []) (two_before (shard_number dev.0 ev.0 s.shards) target.vcpu ways (record r { pending = with_lpi target.intid.0 r.pending }) [])
+  both : MayLeave s hit_call (two_before (shard_number dev.0 ev.0 s.shards) target.vcpu ways r [])
+      (two_before (shard_number dev.0 ev.0 s.shards) target.vcpu ways (record r { pending = with_lpi target.intid.0 r.pending }) [])
   both = hits s w 0 dev ev target ways r vcpus (omega (arith, one)) st sh room (ap (found ways dev.0 ev.0) (at_stamp s one w) ∙ finds)
 
   pub hit_may : MayCall s hit_call y.held
   hit_may = subst (MayCall s hit_call) (sym held) both.0
 
-  pub hit_owes : y.setup ≡ s → (x : View) → Commits y hit_call x → x.held ≡ two_before (shard_number dev.0 ev.0 s.shards) target.vcpu ways (record r { pending = with_lpi target.intid.0 r.pending }) []
+  pub hit_owes : y.setup ≡ s → (x : View) → Commits y hit_call x → x.held ≡ two_before (shard_number dev.0 ev.0 s.shards) target.vcpu ways
+      (record r { pending = with_lpi target.intid.0 r.pending }) []
   hit_owes own x commits = ap (λ (u : View). u.held) commits.view ∙ ((λ d. renewal (own d) hit_call (held d)) ∙ both.1)
 
   pub hit_made : y.setup ≡ s → (x z : View) → Commits y hit_call x → z ≡ record x { held = [] } → HitMade y w dev ev target ways z
@@ -248,6 +274,7 @@ module _ (s : Setup) (one : translator_count s ≡ 1) (vcpus : HasVcpus s) (dev 
     made = x;
     commits = commits;
     left = record r { pending = with_lpi target.intid.0 r.pending };
-    owes = hit_owes own x commits ∙ ap (λ (q : Setup). two_before (shard_number dev.0 ev.0 q.shards) target.vcpu ways (record r { pending = with_lpi target.intid.0 r.pending }) []) (sym own);
+    owes = hit_owes own x commits ∙ ap (λ (q : Setup). two_before (shard_number dev.0 ev.0 q.shards) target.vcpu ways
+        (record r { pending = with_lpi target.intid.0 r.pending }) []) (sym own);
     home = home;
   }

@@ -16,7 +16,8 @@ use Rattle.its_steps.specs.Parts.{Setup}
 use Rattle.its_steps.specs.World.{View, Tries, took, out, lost_to}
 use Rattle.its_steps.specs.declared.change.ShardChange.{ShardChange}
 use Rattle.its_steps.specs.declared.commit.Commit.{Commit}
-use Rattle.its_turns.proofs.Telling.{looked_held, lost_held, goes_first, goes_looked, goes_took, goes_missed, goes_released, goes_emptied, stays_from, lone_on, makes_from, made_emptied, placed_from, leaves_from}
+use Rattle.its_turns.proofs.Telling.{looked_held, lost_held, goes_first, goes_looked, goes_took, goes_missed, goes_released, goes_emptied, stays_from, lone_on}
+use Rattle.its_turns.proofs.Telling.{makes_from, made_emptied, placed_from, leaves_from}
 use Rattle.its_turns.specs.Calls.{IsPlaced, Leaves, got_all, WasBusy, WasRaced, WasSpent, GoesOn, IsLost}
 use Rattle.its_turns.specs.Contents.{held_before}
 use Rattle.its_turns.specs.Steps.{IsBusy}
@@ -55,12 +56,14 @@ module _ (dev : DeviceId) (ev : EventId) (v : View) (bare : v.held ≡ []) where
   maps_got got x only among early = record { only = only; early = λ _. early; kept = λ none. absurd (none among) }
 
   -- these turns were got, and now others are tried or the call is made
-  module _ (got : List Part) (only : AllByRecursion (IsOfSignal v.setup dev ev) got) (among : Among (part.Maps 0) got) (z : View) (on : GoesOn v (got_all got v.tries) z) (early : EarlyIs v z) where
+  module _ (got : List Part) (only : AllByRecursion (IsOfSignal v.setup dev ev) got) (among : Among (part.Maps 0) got) (z : View)
+      (on : GoesOn v (got_all got v.tries) z) (early : EarlyIs v z) where
     abbrev t : Tries
     t = got_all got v.tries
 
     -- the turn of another part is another's, and all goes home
-    pub busy_later : (p : Part) (b : Busy) (y x : View) → IsOfSignal v.setup dev ev p → IsBusy z p b y → x ≡ record y { held = [] } → AsksMaps v dev ev x (attempt.Busy b)
+    pub busy_later : (p : Part) (b : Busy) (y x : View) → IsOfSignal v.setup dev ev p → IsBusy z p b y → x ≡ record y { held = [] }
+        → AsksMaps v dev ev x (attempt.Busy b)
     busy_later p b y x of busy home =
         let gone = goes_emptied v y (lost_to t p b.holder) (goes_missed v z t on y p b.holder busy.view) x home in (
           got,
@@ -112,7 +115,8 @@ module _ (dev : DeviceId) (ev : EventId) (v : View) (bare : v.held ≡ []) where
           },
         )
 
-    done_later : (s : Signal) (change : ShardChange) (w : Word) (x : View) → (Leaves change x → Sends dev ev s x) → MadeAt z dev ev s change w x → AsksMaps v dev ev x (attempt.Done (record { place = w.place; reply = s }))
+    done_later : (s : Signal) (change : ShardChange) (w : Word) (x : View) → (Leaves change x → Sends dev ev s x) → MadeAt z dev ev s change w x
+        → AsksMaps v dev ev x (attempt.Done (record { place = w.place; reply = s }))
     done_later s change w x sends f =
         let a : Commit = staying w (signal dev ev) (reply.Signal s) change in
         let y = f.made in
@@ -127,10 +131,12 @@ module _ (dev : DeviceId) (ev : EventId) (v : View) (bare : v.held ≡ []) where
           made.tries,
         )
 
-    pub finished : (s : Signal) (change : ShardChange) (x : View) (at : Attempt Signal) → ((p : Placed Signal) → at ≡ attempt.Done p → Leaves change x → Sends dev ev s x) → Finishes z dev ev s change x at → AsksMaps v dev ev x at
+    pub finished : (s : Signal) (change : ShardChange) (x : View) (at : Attempt Signal) → ((p : Placed Signal) → at ≡ attempt.Done p → Leaves change x
+        → Sends dev ev s x) → Finishes z dev ev s change x at → AsksMaps v dev ev x at
     finished s change x (attempt.Done p) sends f =
         let place = sym f.1.1 in let answer = sym f.0 in
-        subst (λ (q : Placed Signal). AsksMaps v dev ev x (attempt.Done q)) (λ d. record { place = place d; reply = answer d }) (done_later s change f.1.0 x (sends p refl) f.1.2)
+        subst (λ (q : Placed Signal). AsksMaps v dev ev x (attempt.Done q)) (λ d. record { place = place d; reply = answer d })
+        (done_later s change f.1.0 x (sends p refl) f.1.2)
     finished s change x (attempt.Busy b) sends f = absurd f
     finished s change x (attempt.Raced r) sends f = raced_later r x f
     finished s change x attempt.Spent sends f = spent_later x f
@@ -157,11 +163,19 @@ module _ (v : View) (y : View) (c : Content) (first : y ≡ took v (part.Maps 0)
     second_on = goes_took v y (got_all (part.Maps 0 ∷ []) v.tries) first_on z (part.Shard 0 n) d second
 
     pub second_early : EarlyIs v z
-    second_early = record { early = ap (λ (u : View). u.cache.early) second ∙ first_early.early; word = ap (λ (u : View). u.cache.early_word) second ∙ first_early.word }
+    second_early = record {
+      early = ap (λ (u : View). u.cache.early) second ∙ first_early.early;
+      word = ap (λ (u : View). u.cache.early_word) second
+          ∙ first_early.word;
+    }
 
     module _ (u : Vcpu) (x : View) (e : Content) (third : x ≡ took z (part.Redist u) e) where
       pub third_on : GoesOn v (got_all (part.Redist u ∷ part.Shard 0 n ∷ part.Maps 0 ∷ []) v.tries) x
       third_on = goes_took v z (got_all (part.Shard 0 n ∷ part.Maps 0 ∷ []) v.tries) second_on x (part.Redist u) e third
 
       pub third_early : EarlyIs v x
-      third_early = record { early = ap (λ (w : View). w.cache.early) third ∙ second_early.early; word = ap (λ (w : View). w.cache.early_word) third ∙ second_early.word }
+      third_early = record {
+        early = ap (λ (w : View). w.cache.early) third ∙ second_early.early;
+        word = ap (λ (w : View). w.cache.early_word) third
+            ∙ second_early.word;
+      }

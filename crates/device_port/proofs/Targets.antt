@@ -24,11 +24,13 @@ pub record IsTarget (s : Shape) (t : Target) : Type 0 where
   pub vcpu : t.vcpu.0 < s.vcpus
   pub lpi : is_lpi s.lpi_bits t.intid.0 ≡ true
 
-passed : {B : Type 0} (P : B → Type 0) (test : Bool) (cause : Cause) (f : Unit {0} → Result B Cause) → (test ≡ true → IfOk (f tt) P) → IfOk (ensure test cause >>= f) P
+passed : {B : Type 0} (P : B → Type 0) (test : Bool) (cause : Cause) (f : Unit {0} → Result B Cause) → (test ≡ true → IfOk (f tt) P)
+    → IfOk (ensure test cause >>= f) P
 passed P true cause f h = h refl
 passed P false cause f h = tt
 
-is_there : {A B : Type 0} (P : B → Type 0) (o : Option A) (cause : Cause) (f : A → Result B Cause) → ((x : A) → o ≡ Some x → IfOk (f x) P) → IfOk (ok_or o cause >>= f) P
+is_there : {A B : Type 0} (P : B → Type 0) (o : Option A) (cause : Cause) (f : A → Result B Cause) → ((x : A) → o ≡ Some x → IfOk (f x) P)
+    → IfOk (ok_or o cause >>= f) P
 is_there P None cause f h = tt
 is_there P (Some x) cause f h = h x refl
 
@@ -41,15 +43,20 @@ located_targets s t dev ev h =
     is_there (IsTarget s) (collection_of t.maps event.icid.0) NoCollection _ (λ vcpu goes.
     record { vcpu = (h.collections event.icid.0 vcpu goes).target; lpi = (h.events dev ev event is).lpi }))))
 
-located_target : (u : Plain) (i : ℕ) (t : Translator) (dev ev : ℕ) (target : Target) → IsSound u → slice_get u.translators i ≡ Some t → located t dev ev ≡ Ok target → IsTarget u.layout.shape target
-located_target u i t dev ev target sound is goes = subst (λ (r : Result Target Cause). IfOk r (IsTarget u.layout.shape)) goes (located_targets u.layout.shape t dev ev (sound.translators i t is))
+located_target : (u : Plain) (i : ℕ) (t : Translator) (dev ev : ℕ) (target : Target) → IsSound u → slice_get u.translators i ≡ Some t
+    → located t dev ev ≡ Ok target → IsTarget u.layout.shape target
+located_target u i t dev ev target sound is goes = subst (λ (r : Result Target Cause). IfOk r (IsTarget u.layout.shape)) goes
+    (located_targets u.layout.shape t dev ev (sound.translators i t is))
 
 -- by the maps
-pub target_in : (s : Setup) (t : Translator) (dev ev : ℕ) (target : Target) → HasStood s (part.Maps 0) (Maps t) → located t dev ev ≡ Ok target → IsTarget s.start.layout.shape target
-target_in s t dev ev target stood goes = subst (λ l. IsTarget l.shape target) (sym stood.machine.layout) (located_target _ 0 t dev ev target stood.machine.sound stood.right goes)
+pub target_in : (s : Setup) (t : Translator) (dev ev : ℕ) (target : Target) → HasStood s (part.Maps 0) (Maps t) → located t dev ev ≡ Ok target
+    → IsTarget s.start.layout.shape target
+target_in s t dev ev target stood goes = subst (λ l. IsTarget l.shape target) (sym stood.machine.layout)
+    (located_target _ 0 t dev ev target stood.machine.sound stood.right goes)
 
 -- by the cache
-pub cached_target : (s : Setup) (n : ℕ) (dev : DeviceId) (ev : EventId) (stamp : ℕ) (target : Target) (ways : List (Option Translation)) → HasStood s (part.Shard 0 n) (Shard ways) → found ways dev.0 ev.0 stamp ≡ Some target → IsTarget s.start.layout.shape target
+pub cached_target : (s : Setup) (n : ℕ) (dev : DeviceId) (ev : EventId) (stamp : ℕ) (target : Target) (ways : List (Option Translation))
+    → HasStood s (part.Shard 0 n) (Shard ways) → found ways dev.0 ev.0 stamp ≡ Some target → IsTarget s.start.layout.shape target
 cached_target s n dev ev stamp target ways stood finds =
     let f = found_at dev ev stamp target ways finds in
     let e = stood.right.entries f.0 (entry dev ev stamp target) f.1 in

@@ -48,9 +48,11 @@ FindsLast dev ev w target = Finds w.setup dev ev w.cache.looked w.last target
 -- ---- by the cache, tried once
 
 abbrev pub SignalsNow : View → DeviceId → EventId → View → Now → Type 0
-SignalsNow v dev ev w (Done p) = (t : Target) × (p.reply ≡ Delivered t.vcpu t.intid) × IsPlaced v (signal dev ev) (reply.Signal p.reply) p.place w × Leaves change.Keep w
+SignalsNow v dev ev w (Done p) = (t : Target) × (p.reply ≡ Delivered t.vcpu t.intid) × IsPlaced v (signal dev ev) (reply.Signal p.reply) p.place w
+    × Leaves change.Keep w
     × (w.tries ≡ got_all (part.Redist t.vcpu ∷ shard_of v.setup dev ev ∷ []) v.tries) × FindsLast dev ev w (Some t)
-SignalsNow v dev ev w Miss = Stays v w × (w.tries ≡ got_all (shard_of v.setup dev ev ∷ []) v.tries) × (length w.seen < v.setup.limits.place_last) × FindsLast dev ev w None
+SignalsNow v dev ev w Miss = Stays v w × (w.tries ≡ got_all (shard_of v.setup dev ev ∷ []) v.tries) × (length w.seen < v.setup.limits.place_last)
+    × FindsLast dev ev w None
 SignalsNow v dev ev w (Busy b) = ((b.part ≡ shard_of v.setup dev ev) × WasBusy v [] b w)
     ⊎ ((t : Target) × (b.part ≡ part.Redist t.vcpu) × WasBusy v (shard_of v.setup dev ev ∷ []) b w × FindsLast dev ev w (Some t))
 SignalsNow v dev ev w (Raced r) = (t : Target) × WasRaced v (part.Redist t.vcpu ∷ shard_of v.setup dev ev ∷ []) r w
@@ -78,14 +80,17 @@ pub record SignalGot (v : View) (dev : DeviceId) (ev : EventId) (got : List Part
   pub missed : Among (part.Maps 0) got → Finds w.setup dev ev w.cache.early w.cache.early_word None
   pub kept : ¬ Among (part.Maps 0) got → KeepsEarly v w
 
--- A message that was delivered is in the cache, under the stamp that the call found: the call filled it, or found it there. One that was dropped changes nothing
+-- A message that was delivered is in the cache, under the stamp that the call found: the call filled it, or found it there. One
+-- that was dropped changes nothing
 abbrev pub Sends : DeviceId → EventId → Signal → View → Type 0
-Sends dev ev (Delivered vcpu intid) w = let t : Target = record { vcpu = vcpu; intid = intid } in (Leaves change.Keep w ⊎ Leaves (change.Fill dev ev t) w) × FindsLast dev ev w (Some t)
+Sends dev ev (Delivered vcpu intid) w = let t : Target = record { vcpu = vcpu; intid = intid } in (Leaves change.Keep w ⊎ Leaves (change.Fill dev ev t) w)
+    × FindsLast dev ev w (Some t)
 Sends dev ev (Dropped cause) w = Leaves change.Keep w
 
 -- each turn tried once
 abbrev pub SignalsOnce : View → DeviceId → EventId → View → Attempt Signal → Type 0
-SignalsOnce v dev ev w (attempt.Done p) = (got : List Part) × SignalGot v dev ev got w × IsPlaced v (signal dev ev) (reply.Signal p.reply) p.place w × Sends dev ev p.reply w × (w.tries ≡ got_all got v.tries)
+SignalsOnce v dev ev w (attempt.Done p) = (got : List Part) × SignalGot v dev ev got w × IsPlaced v (signal dev ev) (reply.Signal p.reply) p.place w
+    × Sends dev ev p.reply w × (w.tries ≡ got_all got v.tries)
 SignalsOnce v dev ev w (attempt.Busy b) = (got : List Part) × SignalGot v dev ev got w × WasBusy v got b w × IsOfSignal v.setup dev ev b.part
 SignalsOnce v dev ev w (attempt.Raced r) = (got : List Part) × SignalGot v dev ev got w × WasRaced v got r w
 SignalsOnce v dev ev w attempt.Spent = (got : List Part) × SignalGot v dev ev got w × WasSpent v got w

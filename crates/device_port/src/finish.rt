@@ -36,7 +36,8 @@ pub fn drop_signal<G: Gate>(
     requires held { (view pass.old).held ≡ one_held maps.value }
     requires lost { located (translator_of maps.value) dev.0 ev.0 ≡ Err cause }
     ensures of { IsOf machine.now pass.new }
-    ensures answer { Finishes (view pass.old) dev ev (signals.Dropped cause) change.Keep (view pass.new) result }
+    ensures answer { Finishes (view pass.old) dev ev (signals.Dropped cause) change.Keep
+        (view pass.new) result }
 {
     let signal = Signal::Dropped(cause);
     let call = Call::Signal { its: 0, dev, ev };
@@ -136,7 +137,8 @@ pub fn off_signal<G: Gate>(
     requires vcpu { target.vcpu.0 < vcpu_count (setup machine.now) }
     requires lpis { HasLpisOf (setup machine.now).start.layout.shape redist.value }
     ensures of { IsOf machine.now pass.new }
-    ensures answer { Finishes (view pass.old) dev ev (signals.Dropped cause.LpisOff) change.Keep (view pass.new)
+    ensures answer { Finishes (view pass.old) dev ev (signals.Dropped cause.LpisOff) change.Keep
+        (view pass.new)
         result }
 {
     let number = machine.shard_of(dev, ev);

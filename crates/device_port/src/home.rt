@@ -22,7 +22,8 @@ pub fn put_two(
 )
     requires of { IsOf machine.now pass.old }
     requires held { (before : List Held) ×
-        ((view pass.old).held ≡ two_before number vcpu shard (redistributor_of redist.value) before) }
+        ((view pass.old).held ≡ two_before number vcpu shard (redistributor_of redist.value)
+        before) }
     requires number { number < (setup machine.now).shards }
     requires vcpu { vcpu.0 < vcpu_count (setup machine.now) }
     requires lpis { HasLpisOf (setup machine.now).start.layout.shape redist.value }

@@ -55,7 +55,8 @@ fn send_signal<G: Gate>(
 ) -> Attempt<Signal>
     requires of { IsOf machine.now pass.old }
     requires held { (view pass.old).held ≡ one_held maps.value }
-    requires stood { HasStood (setup machine.now) (part.Maps 0) (content.Maps (translator_of maps.value)) }
+    requires stood { HasStood (setup machine.now) (part.Maps 0)
+        (content.Maps (translator_of maps.value)) }
     requires goes { located (translator_of maps.value) dev.0 ev.0 ≡ Ok target }
     ensures of { IsOf machine.now pass.new }
     ensures answer { (v : View) → v.held ≡ [] →

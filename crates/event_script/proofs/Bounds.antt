@@ -1,5 +1,6 @@
 -- The script that good drafts end in is within its limits.
-use Rattle.std.proofs.Common.{◌≡◌, ℕ, ◌+◌, Bool, true, false, ◌&&◌, ◌||◌, nat_lt, nat_eq, if◌then◌else◌, List, [], ◌∷◌, length, filter_map, Option, Some, None, is_some, ok_or, Result, Ok, Err, IfOk, refl, arith}
+use Rattle.std.proofs.Common.{◌≡◌, ℕ, ◌+◌, Bool, true, false, ◌&&◌, ◌||◌, nat_lt, nat_eq, if◌then◌else◌, List, [], ◌∷◌, length, filter_map, Option, Some, None}
+use Rattle.std.proofs.Common.{is_some, ok_or, Result, Ok, Err, IfOk, refl, arith}
 use Rattle.std.specs.List.{list_all}
 use Rattle.std.specs.Option.{unwrap_or}
 use Rattle.std.proofs.lemmas.Bool.{ltb-true}
@@ -15,7 +16,8 @@ use Rattle.event_script.specs.Words.{keyword_of}
 use Rattle.event_script.specs.Description.{empty, at_start, is_ended, is_shard_count}
 use Rattle.event_script.specs.Body.{has_tables, is_described}
 use Rattle.event_script.specs.Limits.{IsWithinLimits, are_limits}
-use Rattle.event_script.specs.Script.{is_skipped, words_line, line, default_limits, described_tables, tables_of, desc_of, script_from, finished, at_line, ◌then◌, parts_from, script_of, default_ids, begins_report, trace_with, without_report, check_from, check_of}
+use Rattle.event_script.specs.Script.{is_skipped, words_line, line, default_limits, described_tables, tables_of, desc_of, script_from, finished, at_line}
+use Rattle.event_script.specs.Script.{◌then◌, parts_from, script_of, default_ids, begins_report, trace_with, without_report, check_from, check_of}
 use Rattle.event_script.specs.declared.fault.Kind.{Kind}
 use Rattle.event_script.specs.declared.fault.Kind.TheVariants as kind
 use Rattle.event_script.specs.declared.fault.ScriptFault.{ScriptFault}
@@ -134,7 +136,8 @@ numbered : {A : Type 0} (P : A → Type 0) (n : ℕ) (r : Result A Kind) → IfO
 numbered P n (Ok x) h = h
 numbered P n (Err k) h = tt
 
-followed : {A B : Type 0} (P : A → Type 0) (Q : B → Type 0) (n : ℕ) (r : Result A Kind) (f : A → Result B ScriptFault) → IfOk r P → ((x : A) → P x → IfOk (f x) Q) → IfOk (at_line n r then f) Q
+followed : {A B : Type 0} (P : A → Type 0) (Q : B → Type 0) (n : ℕ) (r : Result A Kind) (f : A → Result B ScriptFault) → IfOk r P
+    → ((x : A) → P x → IfOk (f x) Q) → IfOk (at_line n r then f) Q
 followed P Q n (Ok x) f p q = q x p
 followed P Q n (Err k) f p q = tt
 
@@ -142,7 +145,8 @@ parts_fit : (n : ℕ) (d : Draft) (ps : List (List ℕ)) → IsGood d → IfOk (
 parts_fit n d [] h = numbered IsWithinLimits n (script_from d) (script_fits d h)
 parts_fit n d (last ∷ []) h = numbered IsWithinLimits n (finished d last) (finished_fits d last h)
 parts_fit n d (text ∷ (next ∷ rest)) h =
-    followed IsGood IsWithinLimits n (line d n text) (λ e. parts_from (n + 1) e (next ∷ rest)) (line_good d n text h) (λ e good. parts_fit (n + 1) e (next ∷ rest) good)
+    followed IsGood IsWithinLimits n (line d n text) (λ e. parts_from (n + 1) e (next ∷ rest)) (line_good d n text h)
+    (λ e good. parts_fit (n + 1) e (next ∷ rest) good)
 
 pub scripts_fit : (bytes : List ℕ) → IfOk (script_of bytes) IsWithinLimits
 unfolding script_of
@@ -166,7 +170,8 @@ check_fits n d (last ∷ []) h = none_fits n last
 check_fits n d (text ∷ (next ∷ rest)) h =
     chosen {A = Result (Script × List (List ℕ)) ScriptFault} (λ r. IfOk r HasScript) (begins_report d text) _ _
     (λ _. followed IsWithinLimits HasScript n (trace_with d (fields text)) (λ s. Ok (s, next ∷ rest)) (trace_fits d (fields text) h) (λ s fit. fit))
-    (λ _. followed IsGood HasScript n (line d n text) (λ e. check_from (n + 1) e (next ∷ rest)) (line_good d n text h) (λ e good. check_fits (n + 1) e (next ∷ rest) good))
+    (λ _. followed IsGood HasScript n (line d n text) (λ e. check_from (n + 1) e (next ∷ rest)) (line_good d n text h)
+    (λ e good. check_fits (n + 1) e (next ∷ rest) good))
 
 pub checked_scripts_fit : (bytes : List ℕ) → IfOk (check_of bytes) HasScript
 unfolding check_of

@@ -6,7 +6,8 @@ use Rattle.its_command.specs.Commands.{encoded}
 use Rattle.its_plain.specs.declared.call.Call.{Call}
 use Rattle.event_script.specs.Fields.{arg, number_within, any_number, address, device, event, processor, bytes_within}
 use Rattle.event_script.specs.Commands.{command_word_of, command_fields, command_of}
-use Rattle.event_script.specs.Calls.{signal_of, take_of, show_of, poke_of, word_of, command_call_of, peek_of, read_of, write_of, rread_of, rwrite_of, step_of, save_of, access_size}
+use Rattle.event_script.specs.Calls.{signal_of, take_of, show_of, poke_of, word_of, command_call_of, peek_of, read_of, write_of, rread_of, rwrite_of, step_of}
+use Rattle.event_script.specs.Calls.{save_of, access_size}
 use Rattle.event_script.specs.Limits.{is_call, is_access_size}
 use Rattle.event_script.specs.declared.fault.Kind.TheVariants as kind
 use Rattle.event_script.proofs.Steps.{both_true, below, bound, bound_by, ensured, number_in_range, processor_below, are_bytes, bytes_in_range, length-encoded}
@@ -17,17 +18,20 @@ IsCall vcpus c = is_call vcpus c ≡ true
 pub signal_is_call : (vcpus : ℕ) (fs : List (List ℕ)) → IfOk (signal_of fs) (IsCall vcpus)
 unfolding signal_of
 signal_is_call vcpus fs =
-    ensured (IsCall vcpus) (nat_eq (length fs) 3) kind.Fields _ (λ _. bound (IsCall vcpus) (device (arg fs 1)) _ (λ dev. bound (IsCall vcpus) (event (arg fs 2)) _ (λ ev. refl)))
+    ensured (IsCall vcpus) (nat_eq (length fs) 3) kind.Fields _
+    (λ _. bound (IsCall vcpus) (device (arg fs 1)) _ (λ dev. bound (IsCall vcpus) (event (arg fs 2)) _ (λ ev. refl)))
 
 pub take_is_call : (vcpus : ℕ) (fs : List (List ℕ)) → IfOk (take_of vcpus fs) (IsCall vcpus)
 unfolding take_of
 take_is_call vcpus fs =
-    ensured (IsCall vcpus) (nat_eq (length fs) 2) kind.Fields _ (λ _. bound_by (IsCall vcpus) (processor vcpus (arg fs 1)) (λ v. nat_lt v.0 vcpus ≡ true) _ (processor_below vcpus (arg fs 1)) (λ v e. e))
+    ensured (IsCall vcpus) (nat_eq (length fs) 2) kind.Fields _ (λ _. bound_by (IsCall vcpus) (processor vcpus (arg fs 1)) (λ v. nat_lt v.0 vcpus ≡ true) _
+    (processor_below vcpus (arg fs 1)) (λ v e. e))
 
 pub show_is_call : (vcpus : ℕ) (fs : List (List ℕ)) → IfOk (show_of vcpus fs) (IsCall vcpus)
 unfolding show_of
 show_is_call vcpus fs =
-    ensured (IsCall vcpus) (nat_eq (length fs) 2) kind.Fields _ (λ _. bound_by (IsCall vcpus) (processor vcpus (arg fs 1)) (λ v. nat_lt v.0 vcpus ≡ true) _ (processor_below vcpus (arg fs 1)) (λ v e. e))
+    ensured (IsCall vcpus) (nat_eq (length fs) 2) kind.Fields _ (λ _. bound_by (IsCall vcpus) (processor vcpus (arg fs 1)) (λ v. nat_lt v.0 vcpus ≡ true) _
+    (processor_below vcpus (arg fs 1)) (λ v e. e))
 
 pub poke_is_call : (vcpus : ℕ) (fs : List (List ℕ)) → IfOk (poke_of fs) (IsCall vcpus)
 unfolding poke_of
@@ -38,7 +42,8 @@ poke_is_call vcpus fs =
 pub word_is_call : (vcpus : ℕ) (fs : List (List ℕ)) → IfOk (word_of fs) (IsCall vcpus)
 unfolding word_of
 word_is_call vcpus fs =
-    ensured (IsCall vcpus) (nat_eq (length fs) 3) kind.Fields _ (λ _. bound (IsCall vcpus) (address (arg fs 1)) _ (λ addr. bound (IsCall vcpus) (any_number (arg fs 2)) _ (λ value. refl)))
+    ensured (IsCall vcpus) (nat_eq (length fs) 3) kind.Fields _
+    (λ _. bound (IsCall vcpus) (address (arg fs 1)) _ (λ addr. bound (IsCall vcpus) (any_number (arg fs 2)) _ (λ value. refl)))
 
 few : (bytes : List ℕ) → length bytes ≡ 32 → are_bytes 64 bytes ≡ true
 few bytes e = rw e refl
@@ -55,7 +60,8 @@ pub peek_is_call : (vcpus : ℕ) (fs : List (List ℕ)) → IfOk (peek_of fs) (I
 unfolding peek_of
 peek_is_call vcpus fs =
     ensured (IsCall vcpus) (nat_eq (length fs) 3) kind.Fields _ (λ _. bound (IsCall vcpus) (address (arg fs 1)) _ (λ addr.
-    bound_by (IsCall vcpus) (number_within 1 64 (arg fs 2)) (λ n. (1 ≤ n) × (n ≤ 64)) _ (number_in_range 1 64 (arg fs 2)) (λ n e. both_true (nat_le 1 n) (nat_le n 64) (below 1 n e.0) (below n 64 e.1))))
+    bound_by (IsCall vcpus) (number_within 1 64 (arg fs 2)) (λ n. (1 ≤ n) × (n ≤ 64)) _ (number_in_range 1 64 (arg fs 2))
+    (λ n e. both_true (nat_le 1 n) (nat_le n 64) (below 1 n e.0) (below n 64 e.1))))
 
 size_is_known : (f : List ℕ) → IfOk (access_size f) (λ n. is_access_size n ≡ true)
 unfolding access_size
@@ -77,7 +83,8 @@ unfolding write_of
 write_is_call vcpus fs =
     ensured (IsCall vcpus) (nat_eq (length fs) 4) kind.Fields _ (λ _. bound (IsCall vcpus) (number_within 0 (2 ^ 32 - 1) (arg fs 1)) _ (λ off.
     bound_by (IsCall vcpus) (access_size (arg fs 2)) (λ n. is_access_size n ≡ true) _ (size_is_known (arg fs 2)) (λ size e.
-    bound_by (IsCall vcpus) (number_within 0 (2 ^ (8 * size) - 1) (arg fs 3)) (λ n. (0 ≤ n) × (n ≤ 2 ^ (8 * size) - 1)) _ (number_in_range 0 (2 ^ (8 * size) - 1) (arg fs 3)) (λ value r.
+    bound_by (IsCall vcpus) (number_within 0 (2 ^ (8 * size) - 1) (arg fs 3)) (λ n. (0 ≤ n) × (n ≤ 2 ^ (8 * size) - 1)) _
+    (number_in_range 0 (2 ^ (8 * size) - 1) (arg fs 3)) (λ value r.
     both_true (is_access_size size) (nat_lt value (2 ^ (8 * size))) e (fits (8 * size) value r.1)))))
 
 pub rread_is_call : (vcpus : ℕ) (fs : List (List ℕ)) → IfOk (rread_of vcpus fs) (IsCall vcpus)
@@ -96,7 +103,8 @@ rwrite_is_call vcpus fs =
     bound_by (IsCall vcpus) (processor vcpus (arg fs 1)) (λ v. nat_lt v.0 vcpus ≡ true) _ (processor_below vcpus (arg fs 1)) (λ v below.
     bound (IsCall vcpus) (number_within 0 (2 ^ 32 - 1) (arg fs 2)) _ (λ off.
     bound_by (IsCall vcpus) (access_size (arg fs 3)) (λ n. is_access_size n ≡ true) _ (size_is_known (arg fs 3)) (λ size e.
-    bound_by (IsCall vcpus) (number_within 0 (2 ^ (8 * size) - 1) (arg fs 4)) (λ n. (0 ≤ n) × (n ≤ 2 ^ (8 * size) - 1)) _ (number_in_range 0 (2 ^ (8 * size) - 1) (arg fs 4)) (λ value r.
+    bound_by (IsCall vcpus) (number_within 0 (2 ^ (8 * size) - 1) (arg fs 4)) (λ n. (0 ≤ n) × (n ≤ 2 ^ (8 * size) - 1)) _
+    (number_in_range 0 (2 ^ (8 * size) - 1) (arg fs 4)) (λ value r.
     both_true (nat_lt v.0 vcpus && is_access_size size) (nat_lt value (2 ^ (8 * size)))
     (both_true (nat_lt v.0 vcpus) (is_access_size size) below e) (fits (8 * size) value r.1))))))
 

@@ -1,5 +1,6 @@
 -- What each draft keeps while lines of the description are read.
-use Rattle.std.proofs.Common.{◌≡◌, ℕ, ◌+◌, ◌-◌, ◌^◌, ◌≤◌, Bool, true, false, not, ◌&&◌, nat_lt, nat_le, nat_eq, List, [], ◌∷◌, ◌++◌, length, set, replicate, Option, Some, None, is_some, is_none, IfOk, ◌∙◌, refl, arith}
+use Rattle.std.proofs.Common.{◌≡◌, ℕ, ◌+◌, ◌-◌, ◌^◌, ◌≤◌, Bool, true, false, not, ◌&&◌, nat_lt, nat_le, nat_eq, List, [], ◌∷◌, ◌++◌, length, set, replicate}
+use Rattle.std.proofs.Common.{Option, Some, None, is_some, is_none, IfOk, ◌∙◌, refl, arith}
 use Rattle.std.specs.List.{list_all}
 use Rattle.std.proofs.lemmas.Bool.{ltb-true, lt-ltb}
 use Rattle.std.proofs.lemmas.List.{length-set, length-append, length-replicate}
@@ -9,7 +10,10 @@ use Rattle.its_types.specs.declared.machine.Limits.{Limits}
 use Rattle.its_plain.specs.declared.desc.Fill.{Fill}
 use Rattle.event_script.specs.Text.{number}
 use Rattle.event_script.specs.Fields.{arg, number_within, any_number, address, processor, bytes_within}
-use Rattle.event_script.specs.Description.{at_start, in_description, is_ended, empty, vcpus_line, shards_line, limits_line, ids_line, profile_of, profile_line, window_line, describes_tables, config_line, pending_line, gicr_line, register_values, restore_line, redistributor_values, with_registers, has_registers, restores_registers, rrestore_line, bytes_line, word_fill_line, is_given, is_shard_count, with_fill}
+use Rattle.event_script.specs.Description.{at_start, in_description, is_ended, empty, vcpus_line, shards_line, limits_line, ids_line, profile_of, profile_line}
+use Rattle.event_script.specs.Description.{window_line, describes_tables, config_line, pending_line, gicr_line, register_values, restore_line}
+use Rattle.event_script.specs.Description.{redistributor_values, with_registers, has_registers, restores_registers, rrestore_line, bytes_line, word_fill_line}
+use Rattle.event_script.specs.Description.{is_given, is_shard_count, with_fill}
 use Rattle.event_script.specs.Body.{is_described}
 use Rattle.event_script.specs.Limits.{is_thread, is_phase, is_leg, are_limits, is_fill}
 use Rattle.event_script.specs.declared.fault.Kind.TheVariants as kind
@@ -171,7 +175,16 @@ empty_is_good = record {
   fair = record { few = omega arith; some = λ e. absurd (cc); shards = refl; limits = refl; ids = tt; windows = omega arith; fills = refl; fill_lines = refl };
   described = λ e. absurd (cc);
   early = λ e. record { legs = refl; phases = refl; threads = refl; calls = refl };
-  body = record { legs = refl; leg_room = omega arith; some_legs = λ e. absurd (cc); phases = refl; phase_room = omega arith; threads = refl; thread_room = omega arith; calls = refl };
+  body = record {
+    legs = refl;
+    leg_room = omega arith;
+    some_legs = λ e. absurd (cc);
+    phases = refl;
+    phase_room = omega arith;
+    threads = refl;
+    thread_room = omega arith;
+    calls = refl;
+  };
 }
 
 -- where no call was read there is none out of range
@@ -207,8 +220,22 @@ shards_good d fs h =
     bound IsGood (number_within 1 64 (arg fs 1)) _ (λ n.
     ensured IsGood (is_shard_count n) kind.Number _ (λ count.
     described_more (record d { shards = Some n })
-    (record { few = h.fair.few; some = h.fair.some; shards = count; limits = h.fair.limits; ids = h.fair.ids; windows = h.fair.windows; fills = h.fair.fills; fill_lines = h.fair.fill_lines })
-    (record { legs = (h.early (not_started d.stage here)).legs; phases = (h.early (not_started d.stage here)).phases; threads = (h.early (not_started d.stage here)).threads; calls = (h.early (not_started d.stage here)).calls })
+    (record {
+      few = h.fair.few;
+      some = h.fair.some;
+      shards = count;
+      limits = h.fair.limits;
+      ids = h.fair.ids;
+      windows = h.fair.windows;
+      fills = h.fair.fills;
+      fill_lines = h.fair.fill_lines;
+    })
+    (record {
+      legs = (h.early (not_started d.stage here)).legs;
+      phases = (h.early (not_started d.stage here)).phases;
+      threads = (h.early (not_started d.stage here)).threads;
+      calls = (h.early (not_started d.stage here)).calls;
+    })
     (not_started d.stage here)))))
 
 -- what was early stays so while calls are not read
@@ -225,10 +252,20 @@ vcpus_good d fs h =
     let e : Draft = record d { stage = stage.Description; pending = replicate n none } in
     let count : length (replicate n none) ≡ n = length-replicate n none in
     described_more e
-    (record { few = rw count r.1; some = λ _. rw count r.0; shards = h.fair.shards; limits = h.fair.limits; ids = h.fair.ids; windows = h.fair.windows; fills = h.fair.fills; fill_lines = h.fair.fill_lines })
+    (record {
+      few = rw count r.1;
+      some = λ _. rw count r.0;
+      shards = h.fair.shards;
+      limits = h.fair.limits;
+      ids = h.fair.ids;
+      windows = h.fair.windows;
+      fills = h.fair.fills;
+      fill_lines = h.fair.fill_lines;
+    })
     (still_early d e (h.early (start_first d.stage start)) refl refl refl refl) refl)))
 
-pub limits_fit : (stamp place : ℕ) → IsBetween 1 (2 ^ 24 - 1) stamp → IsBetween 1 (2 ^ 40 - 1) place → are_limits (record { stamp_last = stamp; place_last = place }) ≡ true
+pub limits_fit : (stamp place : ℕ) → IsBetween 1 (2 ^ 24 - 1) stamp → IsBetween 1 (2 ^ 40 - 1) place
+    → are_limits (record { stamp_last = stamp; place_last = place }) ≡ true
 limits_fit stamp place s p =
     both_true (nat_le 1 stamp && nat_lt stamp (2 ^ 24) && nat_le 1 place) (nat_lt place (2 ^ 40))
     (both_true (nat_le 1 stamp && nat_lt stamp (2 ^ 24)) (nat_le 1 place)
@@ -246,7 +283,16 @@ limits_good d fs h =
     bound_by IsGood (number_within 1 (2 ^ 40 - 1) (arg fs 2)) (IsBetween 1 (2 ^ 40 - 1)) _ (number_in_range 1 (2 ^ 40 - 1) (arg fs 2)) (λ place p.
     let e : Draft = record d { limits = Some (record { stamp_last = stamp; place_last = place }) } in
     described_more e
-    (record { few = h.fair.few; some = h.fair.some; shards = h.fair.shards; limits = limits_fit stamp place s p; ids = h.fair.ids; windows = h.fair.windows; fills = h.fair.fills; fill_lines = h.fair.fill_lines })
+    (record {
+      few = h.fair.few;
+      some = h.fair.some;
+      shards = h.fair.shards;
+      limits = limits_fit stamp place s p;
+      ids = h.fair.ids;
+      windows = h.fair.windows;
+      fills = h.fair.fills;
+      fill_lines = h.fair.fill_lines;
+    })
     (still_early d e (h.early off) refl refl refl refl) off))))
 
 pub ids_good : (d : Draft) (fs : List (List ℕ)) → IsGood d → IfOk (ids_line d fs) IsGood
@@ -259,7 +305,16 @@ ids_good d fs h =
     bound_by IsGood (number_within 14 20 (arg fs 2)) (IsBetween 14 20) _ (number_in_range 14 20 (arg fs 2)) (λ lpi q.
     let e : Draft = record d { ids = Some (record { dev = dev; lpi = lpi }) } in
     described_more e
-    (record { few = h.fair.few; some = h.fair.some; shards = h.fair.shards; limits = h.fair.limits; ids = (p, q); windows = h.fair.windows; fills = h.fair.fills; fill_lines = h.fair.fill_lines })
+    (record {
+      few = h.fair.few;
+      some = h.fair.some;
+      shards = h.fair.shards;
+      limits = h.fair.limits;
+      ids = (p, q);
+      windows = h.fair.windows;
+      fills = h.fair.fills;
+      fill_lines = h.fair.fill_lines;
+    })
     (still_early d e (h.early off) refl refl refl refl) off))))
 
 pub profile_good : (d : Draft) (fs : List (List ℕ)) → IsGood d → IfOk (profile_line d fs) IsGood
@@ -271,7 +326,16 @@ profile_good d fs h =
     bound IsGood (number_within 1 2 (arg fs 1)) _ (λ n.
     let e : Draft = record d { profile = Some (profile_of n) } in
     described_more e
-    (record { few = h.fair.few; some = h.fair.some; shards = h.fair.shards; limits = h.fair.limits; ids = h.fair.ids; windows = h.fair.windows; fills = h.fair.fills; fill_lines = h.fair.fill_lines })
+    (record {
+      few = h.fair.few;
+      some = h.fair.some;
+      shards = h.fair.shards;
+      limits = h.fair.limits;
+      ids = h.fair.ids;
+      windows = h.fair.windows;
+      fills = h.fair.fills;
+      fill_lines = h.fair.fill_lines;
+    })
     (still_early d e (h.early off) refl refl refl refl) off)))
 
 pub window_good : (d : Draft) (fs : List (List ℕ)) → IsGood d → IfOk (window_line d fs) IsGood
@@ -285,7 +349,16 @@ window_good d fs h =
     ensured IsGood (nat_lt (length d.windows) 16) kind.Many _ (λ room.
     let e : Draft = record d { windows = d.windows ++ (base, len) ∷ [] } in
     described_more e
-    (record { few = h.fair.few; some = h.fair.some; shards = h.fair.shards; limits = h.fair.limits; ids = h.fair.ids; windows = omega (arith, length-append d.windows ((base, len) ∷ []), ltb-true (length d.windows) 16 room); fills = h.fair.fills; fill_lines = h.fair.fill_lines })
+    (record {
+      few = h.fair.few;
+      some = h.fair.some;
+      shards = h.fair.shards;
+      limits = h.fair.limits;
+      ids = h.fair.ids;
+      windows = omega (arith, length-append d.windows ((base, len) ∷ []), ltb-true (length d.windows) 16 room);
+      fills = h.fair.fills;
+      fill_lines = h.fair.fill_lines;
+    })
     (still_early d e (h.early off) refl refl refl refl) off)))))
 
 no_body : (d : Draft) → describes_tables d ≡ true → in_body d.stage ≡ false
@@ -300,7 +373,16 @@ config_good d fs h =
     bound IsGood (address (arg fs 1)) _ (λ base.
     let e : Draft = record d { config = Some base } in
     described_more e
-    (record { few = h.fair.few; some = h.fair.some; shards = h.fair.shards; limits = h.fair.limits; ids = h.fair.ids; windows = h.fair.windows; fills = h.fair.fills; fill_lines = h.fair.fill_lines })
+    (record {
+      few = h.fair.few;
+      some = h.fair.some;
+      shards = h.fair.shards;
+      limits = h.fair.limits;
+      ids = h.fair.ids;
+      windows = h.fair.windows;
+      fills = h.fair.fills;
+      fill_lines = h.fair.fill_lines;
+    })
     (still_early d e (h.early off) refl refl refl refl) off)))
 
 pub pending_good : (d : Draft) (fs : List (List ℕ)) → IsGood d → IfOk (pending_line d fs) IsGood
@@ -314,7 +396,16 @@ pending_good d fs h =
     let e : Draft = record d { pending = set d.pending vcpu.0 (Some base) } in
     let count : length e.pending ≡ length d.pending = length-set d.pending vcpu.0 (Some base) in
     described_more e
-    (record { few = rw count h.fair.few; some = λ s. rw count (h.fair.some s); shards = h.fair.shards; limits = h.fair.limits; ids = h.fair.ids; windows = h.fair.windows; fills = h.fair.fills; fill_lines = h.fair.fill_lines })
+    (record {
+      few = rw count h.fair.few;
+      some = λ s. rw count (h.fair.some s);
+      shards = h.fair.shards;
+      limits = h.fair.limits;
+      ids = h.fair.ids;
+      windows = h.fair.windows;
+      fills = h.fair.fills;
+      fill_lines = h.fair.fill_lines;
+    })
     (still_early d e (h.early off) refl refl refl refl) off))))
 
 pub restore_good : (d : Draft) (fs : List (List ℕ)) → IsGood d → IfOk (restore_line d fs) IsGood
@@ -326,7 +417,16 @@ restore_good d fs h =
     bound IsGood (register_values fs) _ (λ values.
     let e : Draft = record d { restore = Some values } in
     described_more e
-    (record { few = h.fair.few; some = h.fair.some; shards = h.fair.shards; limits = h.fair.limits; ids = h.fair.ids; windows = h.fair.windows; fills = h.fair.fills; fill_lines = h.fair.fill_lines })
+    (record {
+      few = h.fair.few;
+      some = h.fair.some;
+      shards = h.fair.shards;
+      limits = h.fair.limits;
+      ids = h.fair.ids;
+      windows = h.fair.windows;
+      fills = h.fair.fills;
+      fill_lines = h.fair.fill_lines;
+    })
     (still_early d e (h.early off) refl refl refl refl) off)))
 
 -- what the registers of redistributors are is no matter
@@ -366,13 +466,23 @@ rrestore_good d fs h =
     described_more e (same_but_registers d e h.fair refl refl refl refl refl refl refl refl) (still_early d e (h.early off) refl refl refl refl) off))))
 
 -- with more bytes for the memory
-pub fill_good : (d : Draft) (n : ℕ) (addr : Addr) (bytes : List ℕ) → IsGood d → in_description d.stage ≡ true → are_bytes 4096 bytes ≡ true → IsGood (with_fill d n addr bytes)
+pub fill_good : (d : Draft) (n : ℕ) (addr : Addr) (bytes : List ℕ) → IsGood d → in_description d.stage ≡ true → are_bytes 4096 bytes ≡ true
+    → IsGood (with_fill d n addr bytes)
 fill_good d n addr bytes h here sized =
     let off = not_started d.stage here in
     let e : Draft = with_fill d n addr bytes in
     let fill : Fill = record { addr = addr; bytes = bytes } in
     described_more e
-    (record { few = h.fair.few; some = h.fair.some; shards = h.fair.shards; limits = h.fair.limits; ids = h.fair.ids; windows = h.fair.windows; fills = all_pushed is_fill d.fills (record { addr = addr; bytes = bytes }) h.fair.fills sized; fill_lines = omega (arith, h.fair.fill_lines, length-append d.fills (fill ∷ []), length-append d.fill_lines (n ∷ [])) })
+    (record {
+      few = h.fair.few;
+      some = h.fair.some;
+      shards = h.fair.shards;
+      limits = h.fair.limits;
+      ids = h.fair.ids;
+      windows = h.fair.windows;
+      fills = all_pushed is_fill d.fills (record { addr = addr; bytes = bytes }) h.fair.fills sized;
+      fill_lines = omega (arith, h.fair.fill_lines, length-append d.fills (fill ∷ []), length-append d.fill_lines (n ∷ []));
+    })
     (still_early d e (h.early off) refl refl refl refl) off
 
 pub bytes_good : (d : Draft) (n : ℕ) (fs : List (List ℕ)) → IsGood d → IfOk (bytes_line d n fs) IsGood

@@ -5,8 +5,10 @@ use Rattle.std.proofs.lemmas.Bool.{ltb-true, lt-ltb}
 use Rattle.std.proofs.lemmas.List.{length-append}
 use Rattle.its_plain.specs.declared.call.Call.{Call}
 use Rattle.event_script.specs.Description.{at_start, in_description, in_phase, in_thread, is_ended}
-use Rattle.event_script.specs.Calls.{signal_of, take_of, show_of, poke_of, word_of, command_call_of, peek_of, read_of, write_of, rread_of, rwrite_of, step_of, save_of}
-use Rattle.event_script.specs.Body.{is_described, is_whole, may_go_on, threads_so_far, phases_so_far, legs_so_far, phase_line, thread_line, migrate_line, end_line, call_line, gicr_call_line, word_line, keyword_line}
+use Rattle.event_script.specs.Calls.{signal_of, take_of, show_of, poke_of, word_of, command_call_of, peek_of, read_of, write_of, rread_of, rwrite_of, step_of}
+use Rattle.event_script.specs.Calls.{save_of}
+use Rattle.event_script.specs.Body.{is_described, is_whole, may_go_on, threads_so_far, phases_so_far, legs_so_far, phase_line, thread_line, migrate_line}
+use Rattle.event_script.specs.Body.{end_line, call_line, gicr_call_line, word_line, keyword_line}
 use Rattle.event_script.specs.Limits.{is_call, is_thread, is_phase, is_leg}
 use Rattle.event_script.specs.declared.fault.Kind.{Kind}
 use Rattle.event_script.specs.declared.fault.Kind.TheVariants as kind
@@ -17,8 +19,11 @@ use Rattle.event_script.specs.declared.draft.Stage.{Stage}
 use Rattle.event_script.specs.declared.draft.Stage.TheVariants as stage
 use Rattle.event_script.specs.declared.draft.TheConstants.{MOST_LEGS, MOST_PHASES, MOST_THREADS, MOST_CALLS}
 use Rattle.event_script.proofs.Steps.{left_true, right_true, both_true, below, all_pushed, bound_by, ensured, chosen}
-use Rattle.event_script.proofs.Calling.{signal_is_call, take_is_call, show_is_call, poke_is_call, word_is_call, command_is_call, peek_is_call, read_is_call, write_is_call, rread_is_call, rwrite_is_call, step_is_call, save_is_call}
-use Rattle.event_script.proofs.Good.{in_body, open_legs, open_phases, open_threads, clash, IsFair, HasCalls, IsGood, shards_good, vcpus_good, limits_good, ids_good, profile_good, window_good, config_good, pending_good, gicr_good, restore_good, rrestore_good, bytes_good, word_fill_good}
+use Rattle.event_script.proofs.Calling.{signal_is_call, take_is_call, show_is_call, poke_is_call, word_is_call, command_is_call, peek_is_call, read_is_call}
+use Rattle.event_script.proofs.Calling.{write_is_call, rread_is_call, rwrite_is_call, step_is_call, save_is_call}
+use Rattle.event_script.proofs.Good.{in_body, open_legs, open_phases, open_threads, clash, IsFair, HasCalls, IsGood, shards_good, vcpus_good, limits_good}
+use Rattle.event_script.proofs.Good.{ids_good, profile_good, window_good, config_good, pending_good, gicr_good, restore_good, rrestore_good, bytes_good}
+use Rattle.event_script.proofs.Good.{word_fill_good}
 
 one_open : (s : Stage) → in_thread s ≡ true → (open_phases s ≡ 1) × (open_threads s ≡ 1)
 one_open stage.Start e = absurd (cc)
@@ -108,7 +113,8 @@ threads_all d h =
     (λ _. h.threads)
 
 -- what the description has is the same at a later stage
-later : (d e : Draft) → IsFair d → at_start d.stage ≡ false → e.pending ≡ d.pending → e.shards ≡ d.shards → e.limits ≡ d.limits → e.ids ≡ d.ids → e.windows ≡ d.windows → e.fills ≡ d.fills → e.fill_lines ≡ d.fill_lines → IsFair e
+later : (d e : Draft) → IsFair d → at_start d.stage ≡ false → e.pending ≡ d.pending → e.shards ≡ d.shards → e.limits ≡ d.limits → e.ids ≡ d.ids
+    → e.windows ≡ d.windows → e.fills ≡ d.fills → e.fill_lines ≡ d.fill_lines → IsFair e
 later d e h s p sh l i w f fl = record {
   few = rw p h.few;
   some = λ _. rw p (h.some s);
@@ -128,7 +134,8 @@ phase_good d fs h =
     ensured IsGood (nat_eq (length fs) 1) kind.Fields _ (λ _.
     ensured IsGood (nat_lt (length (phases_so_far d)) MOST_PHASES) kind.Many _ (λ room.
     record {
-      fair = later d (record d { stage = stage.Phase; phases = phases_so_far d; threads = []; calls = [] }) h.fair (started d.stage on) refl refl refl refl refl refl refl;
+      fair = later d (record d { stage = stage.Phase; phases = phases_so_far d; threads = []; calls = [] }) h.fair (started d.stage on) refl refl refl refl refl
+          refl refl;
       described = λ _. left_true (is_described d) (not (in_phase d.stage)) whole;
       early = λ off. clash off refl;
       body = record {
@@ -151,7 +158,8 @@ migrate_good d fs h =
     ensured IsGood (nat_eq (length fs) 1) kind.Fields _ (λ _.
     ensured IsGood (nat_lt (length (legs_so_far d)) MOST_LEGS) kind.Many _ (λ room.
     record {
-      fair = later d (record d { stage = stage.Leg; legs = legs_so_far d; phases = []; threads = []; calls = [] }) h.fair (started d.stage on) refl refl refl refl refl refl refl;
+      fair = later d (record d { stage = stage.Leg; legs = legs_so_far d; phases = []; threads = []; calls = [] }) h.fair (started d.stage on) refl refl refl
+          refl refl refl refl;
       described = λ _. left_true (is_described d) (not (in_phase d.stage)) whole;
       early = λ off. clash off refl;
       body = record {
@@ -173,7 +181,8 @@ end_good d fs h =
     ensured IsGood (is_whole d) kind.Missing _ (λ whole.
     ensured IsGood (nat_eq (length fs) 1) kind.Fields _ (λ _.
     record {
-      fair = later d (record d { stage = stage.Ended; legs = legs_so_far d; phases = []; threads = []; calls = [] }) h.fair (started d.stage on) refl refl refl refl refl refl refl;
+      fair = later d (record d { stage = stage.Ended; legs = legs_so_far d; phases = []; threads = []; calls = [] }) h.fair (started d.stage on) refl refl refl
+          refl refl refl refl;
       described = λ _. left_true (is_described d) (not (in_phase d.stage)) whole;
       early = λ off. clash off refl;
       body = record {
@@ -224,7 +233,16 @@ call_good d read h reads =
     let cs : List Call = d.calls ++ c ∷ [] in
     let more : length cs ≤ MOST_CALLS = omega (arith, length-append d.calls (c ∷ []), ltb-true (length d.calls) MOST_CALLS room) in
     record {
-      fair = record { few = h.fair.few; some = h.fair.some; shards = h.fair.shards; limits = h.fair.limits; ids = h.fair.ids; windows = h.fair.windows; fills = h.fair.fills; fill_lines = h.fair.fill_lines };
+      fair = record {
+        few = h.fair.few;
+        some = h.fair.some;
+        shards = h.fair.shards;
+        limits = h.fair.limits;
+        ids = h.fair.ids;
+        windows = h.fair.windows;
+        fills = h.fair.fills;
+        fill_lines = h.fair.fill_lines;
+      };
       described = h.described;
       early = λ off. clash off (thread_in_body d.stage here);
       body = record {
@@ -247,7 +265,8 @@ gicr_call_good d read h reads = ensured IsGood d.gicr kind.Order _ (λ _. call_g
 word_good : (d : Draft) (n : ℕ) (fs : List (List ℕ)) → IsGood d → IfOk (word_line d n fs) IsGood
 unfolding word_line
 word_good d n fs h =
-    chosen {A = Result Draft Kind} (λ r. IfOk r IsGood) (in_description d.stage) _ _ (word_fill_good d n fs h) (λ _. call_good d (word_of fs) h (word_is_call (length d.pending) fs))
+    chosen {A = Result Draft Kind} (λ r. IfOk r IsGood) (in_description d.stage) _ _ (word_fill_good d n fs h)
+    (λ _. call_good d (word_of fs) h (word_is_call (length d.pending) fs))
 
 pub keyword_good : (d : Draft) (n : ℕ) (k : Keyword) (fs : List (List ℕ)) → IsGood d → IfOk (keyword_line d n k fs) IsGood
 unfolding keyword_line

@@ -1,5 +1,6 @@
 -- A text is read line by line: its parts up to a line end, and those behind it.
-use Rattle.std.proofs.Common.{◌≡◌, ℕ, ◌+◌, ◌<◌, ◌==◌, ◌≤◌, Bool, true, false, cond, nat_lt, List, [], ◌∷◌, length, take, drop, position, Option, Some, None, ok_or, Result, Ok, Err, sym, ap, subst, ◌∙◌, refl, arith}
+use Rattle.std.proofs.Common.{◌≡◌, ℕ, ◌+◌, ◌<◌, ◌==◌, ◌≤◌, Bool, true, false, cond, nat_lt, List, [], ◌∷◌, length, take, drop, position, Option, Some, None}
+use Rattle.std.proofs.Common.{ok_or, Result, Ok, Err, sym, ap, subst, ◌∙◌, refl, arith}
 use Rattle.std.specs.Prelude.{IsErrAnd}
 use Rattle.std.specs.List.{position_or_len}
 use Rattle.std.specs.Option.{unwrap_or}
@@ -41,7 +42,8 @@ parts_last text e =
     slice_split_none ends text (λ k d lt. fails_before_first ends text k d (omega (arith, late, lt)))
 
 -- what follows a line is read after it
-pub line_first : (n : ℕ) (d : Draft) (text : List ℕ) (ps : List (List ℕ)) → 0 < length ps → parts_from n d (text ∷ ps) ≡ (at_line n (line d n text) then λ e. parts_from (n + 1) e ps)
+pub line_first : (n : ℕ) (d : Draft) (text : List ℕ) (ps : List (List ℕ)) → 0 < length ps
+    → parts_from n d (text ∷ ps) ≡ (at_line n (line d n text) then λ e. parts_from (n + 1) e ps)
 line_first n d text [] lt = absurd (omega arith)
 line_first n d text (p ∷ ps) lt = refl
 
@@ -49,12 +51,14 @@ pub some_part : (text : List ℕ) → 0 < length (parts text)
 some_part text = omega (arith, length-slice_split (λ b. b == 10) text)
 
 -- one line is read, and the rest follows
-pub read_on : (n : ℕ) (d e : Draft) (text first more : List ℕ) → parts text ≡ first ∷ parts more → line d n first ≡ Ok e → parts_from n d (parts text) ≡ parts_from (n + 1) e (parts more)
+pub read_on : (n : ℕ) (d e : Draft) (text first more : List ℕ) → parts text ≡ first ∷ parts more → line d n first ≡ Ok e
+    → parts_from n d (parts text) ≡ parts_from (n + 1) e (parts more)
 read_on n d e text first more at ok =
     ap (parts_from n d) at ∙ line_first n d first (parts more) (some_part more) ∙ ap (λ r. at_line n r then λ e. parts_from (n + 1) e (parts more)) ok
 
 -- one line is not read
-pub read_fails : (n : ℕ) (d : Draft) (text first more : List ℕ) (e : LineError) → parts text ≡ first ∷ parts more → Fails e (line d n first) → FailsAs (error_at n e) (parts_from n d (parts text))
+pub read_fails : (n : ℕ) (d : Draft) (text first more : List ℕ) (e : LineError) → parts text ≡ first ∷ parts more → Fails e (line d n first)
+    → FailsAs (error_at n e) (parts_from n d (parts text))
 read_fails n d text first more errors.Memory at h = tt
 read_fails n d text first more (errors.Fault k) at h =
     ap (parts_from n d) at ∙ line_first n d first (parts more) (some_part more) ∙ ap (λ r. at_line n r then λ e. parts_from (n + 1) e (parts more)) h

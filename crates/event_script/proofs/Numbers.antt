@@ -15,9 +15,11 @@ and_false true b e = e
 and_false false b e = refl
 
 -- a front that is too large already
-pub number_in_large : (base : ℕ) (ds : List ℕ) (i c d : ℕ) → 1 ≤ base → i < length ds → get_or ds i 0 ≡ c → digit_value c ≡ d → 2 ^ 64 ≤ digits_value base (take i ds) * base + d → number_in base ds ≡ None
+pub number_in_large : (base : ℕ) (ds : List ℕ) (i c d : ℕ) → 1 ≤ base → i < length ds → get_or ds i 0 ≡ c → digit_value c ≡ d
+    → 2 ^ 64 ≤ digits_value base (take i ds) * base + d → number_in base ds ≡ None
 number_in_large base ds i c d low lt at is large =
-    let more : digits_value base (take (i + 1) ds) ≡ digits_value base (take i ds) * base + d = digits_value_more base ds i lt ∙ ap (λ x. digits_value base (take i ds) * base + digit_value x) at ∙ ap (λ x. digits_value base (take i ds) * base + x) is in
+    let more : digits_value base (take (i + 1) ds) ≡ digits_value base (take i ds) * base + d = digits_value_more base ds i lt
+    ∙ ap (λ x. digits_value base (take i ds) * base + digit_value x) at ∙ ap (λ x. digits_value base (take i ds) * base + x) is in
     let all : 2 ^ 64 ≤ digits_value base ds = omega (arith, more, digits_value-take-le base ds (i + 1) low) in
     let test : (are_digits base ds && nat_lt (digits_value base ds) (2 ^ 64)) ≡ false = and_false (are_digits base ds) _ (le-ltb _ _ all) in
     rw test refl

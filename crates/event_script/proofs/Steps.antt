@@ -1,5 +1,6 @@
 -- What holds of each outcome holds behind each step, and what the fields of a line give.
-use Rattle.std.proofs.Common.{◌≡◌, ℕ, ◌≤◌, Bool, true, false, ◌&&◌, nat_lt, nat_le, if◌then◌else◌, List, [], ◌∷◌, ◌++◌, length, Option, Some, None, Result, Ok, Err, IfOk, refl, arith}
+use Rattle.std.proofs.Common.{◌≡◌, ℕ, ◌≤◌, Bool, true, false, ◌&&◌, nat_lt, nat_le, if◌then◌else◌, List, [], ◌∷◌, ◌++◌, length, Option, Some, None, Result, Ok}
+use Rattle.std.proofs.Common.{Err, IfOk, refl, arith}
 use Rattle.std.specs.List.{list_all}
 use Rattle.hex.specs.Hex.{decode_of}
 use Rattle.hex.specs.declared.error.FromHexError.{FromHexError}
@@ -45,11 +46,13 @@ pub bound : {A B : Type 0} (P : B → Type 0) (r : Result A Kind) (f : A → Res
 bound P (Ok x) f h = h x
 bound P (Err e) f h = tt
 
-pub bound_by : {A B : Type 0} (P : B → Type 0) (r : Result A Kind) (Q : A → Type 0) (f : A → Result B Kind) → IfOk r Q → ((x : A) → Q x → IfOk (f x) P) → IfOk (r >>= f) P
+pub bound_by : {A B : Type 0} (P : B → Type 0) (r : Result A Kind) (Q : A → Type 0) (f : A → Result B Kind) → IfOk r Q → ((x : A) → Q x → IfOk (f x) P)
+    → IfOk (r >>= f) P
 bound_by P (Ok x) Q f q h = h x q
 bound_by P (Err e) Q f q h = tt
 
-pub ensured : {B : Type 0} (P : B → Type 0) (test : Bool) (k : Kind) (f : Unit {0} → Result B Kind) → (test ≡ true → IfOk (f tt) P) → IfOk (ensure test k >>= f) P
+pub ensured : {B : Type 0} (P : B → Type 0) (test : Bool) (k : Kind) (f : Unit {0} → Result B Kind) → (test ≡ true → IfOk (f tt) P)
+    → IfOk (ensure test k >>= f) P
 ensured P true k f h = h refl
 ensured P false k f h = tt
 
@@ -62,7 +65,8 @@ chosen P false x y f g = g refl
 abbrev pub IsBetween : ℕ → ℕ → ℕ → Type 0
 IsBetween low high n = (low ≤ n) × (n ≤ high)
 
-between : (low high n : ℕ) (test : Bool) → (nat_le low n && nat_le n high) ≡ test → IfOk (let r : Result ℕ Kind = if test then Ok n else Err kind.Number in r) (IsBetween low high)
+between : (low high n : ℕ) (test : Bool) → (nat_le low n && nat_le n high) ≡ test → IfOk (let r : Result ℕ Kind = if test then Ok n else Err kind.Number in r)
+    (IsBetween low high)
 between low high n true e = (not_below low n (left_true (nat_le low n) (nat_le n high) e), not_below n high (right_true (nat_le low n) (nat_le n high) e))
 between low high n false e = tt
 

@@ -3,8 +3,11 @@ use Rattle.std.specs.Prelude.{ℕ, Bool, not, ◌&&◌, ◌||◌, ◌==◌, nat_
 use Rattle.std.specs.List.{list_all}
 use Rattle.its_plain.specs.declared.call.Call.{Call}
 use Rattle.event_script.specs.Outcome.{◌>>=◌, ensure}
-use Rattle.event_script.specs.Description.{at_start, in_description, in_phase, in_thread, is_ended, vcpus_line, shards_line, limits_line, ids_line, profile_line, window_line, config_line, pending_line, gicr_line, restore_line, rrestore_line, bytes_line, word_fill_line}
-use Rattle.event_script.specs.Calls.{signal_of, take_of, show_of, poke_of, word_of, command_call_of, peek_of, read_of, write_of, rread_of, rwrite_of, step_of, save_of}
+use Rattle.event_script.specs.Description.{at_start, in_description, in_phase, in_thread, is_ended, vcpus_line, shards_line, limits_line, ids_line}
+use Rattle.event_script.specs.Description.{profile_line, window_line, config_line, pending_line, gicr_line, restore_line, rrestore_line, bytes_line}
+use Rattle.event_script.specs.Description.{word_fill_line}
+use Rattle.event_script.specs.Calls.{signal_of, take_of, show_of, poke_of, word_of, command_call_of, peek_of, read_of, write_of, rread_of, rwrite_of, step_of}
+use Rattle.event_script.specs.Calls.{save_of}
 use Rattle.event_script.specs.declared.fault.Kind.{Kind}
 use Rattle.event_script.specs.declared.fault.Kind.TheVariants as kind
 use Rattle.event_script.specs.declared.words.Keyword.{Keyword}

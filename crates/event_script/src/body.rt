@@ -80,7 +80,8 @@ impl Draft {
 
     #[tactic(auto, unfolding(crate::specs::Body::phase_line))]
     fn phase_line(&mut self, alloc: Global, fields: &[&[u8]]) -> Result<(), LineError>
-        ensures { Gives (λ _. self.new) result (spec.phase_line self.old (map (λ f. f.now) fields.now)) }
+        ensures { Gives (λ _. self.new) result
+            (spec.phase_line self.old (map (λ f. f.now) fields.now)) }
     {
         ensure(self.may_go_on(), Kind::Order)?;
         ensure(self.is_whole(), Kind::Missing)?;
@@ -93,7 +94,8 @@ impl Draft {
 
     #[tactic(auto, unfolding(crate::specs::Body::thread_line))]
     fn thread_line(&mut self, alloc: Global, fields: &[&[u8]]) -> Result<(), LineError>
-        ensures { Gives (λ _. self.new) result (spec.thread_line self.old (map (λ f. f.now) fields.now)) }
+        ensures { Gives (λ _. self.new) result
+            (spec.thread_line self.old (map (λ f. f.now) fields.now)) }
     {
         let opens = self.stage == Stage::Phase || self.stage == Stage::Thread;
         ensure(opens, Kind::Order)?;
@@ -106,7 +108,8 @@ impl Draft {
 
     #[tactic(auto, unfolding(crate::specs::Body::migrate_line))]
     fn migrate_line(&mut self, alloc: Global, fields: &[&[u8]]) -> Result<(), LineError>
-        ensures { Gives (λ _. self.new) result (spec.migrate_line self.old (map (λ f. f.now) fields.now)) }
+        ensures { Gives (λ _. self.new) result
+            (spec.migrate_line self.old (map (λ f. f.now) fields.now)) }
     {
         ensure(self.may_go_on(), Kind::Order)?;
         ensure(self.is_whole(), Kind::Missing)?;
@@ -119,7 +122,8 @@ impl Draft {
 
     #[tactic(auto, unfolding(crate::specs::Body::end_line))]
     fn end_line(&mut self, alloc: Global, fields: &[&[u8]]) -> Result<(), LineError>
-        ensures { Gives (λ _. self.new) result (spec.end_line self.old (map (λ f. f.now) fields.now)) }
+        ensures { Gives (λ _. self.new) result
+            (spec.end_line self.old (map (λ f. f.now) fields.now)) }
     {
         ensure(self.may_go_on(), Kind::Order)?;
         ensure(self.is_whole(), Kind::Missing)?;

@@ -25,7 +25,8 @@ impl Draft {
 
     #[tactic(auto, unfolding(crate::specs::Description::vcpus_line))]
     pub fn vcpus_line(&mut self, alloc: Global, fields: &[&[u8]]) -> Result<(), LineError>
-        ensures { Gives (λ _. self.new) result (spec.vcpus_line self.old (map (λ f. f.now) fields.now)) }
+        ensures { Gives (λ _. self.new) result
+            (spec.vcpus_line self.old (map (λ f. f.now) fields.now)) }
     {
         ensure(self.stage == Stage::Start, Kind::Order)?;
         ensure(fields.len() == 2, Kind::Fields)?;
@@ -37,7 +38,8 @@ impl Draft {
 
     #[tactic(auto, unfolding(crate::specs::Description::shards_line))]
     pub fn shards_line(&mut self, fields: &[&[u8]]) -> Result<(), LineError>
-        ensures { Gives (λ _. self.new) result (spec.shards_line self.old (map (λ f. f.now) fields.now)) }
+        ensures { Gives (λ _. self.new) result
+            (spec.shards_line self.old (map (λ f. f.now) fields.now)) }
     {
         let first = self.describes() && self.shards.is_none();
         ensure(first, Kind::Order)?;
@@ -50,7 +52,8 @@ impl Draft {
 
     #[tactic(auto, unfolding(crate::specs::Description::limits_line))]
     pub fn limits_line(&mut self, fields: &[&[u8]]) -> Result<(), LineError>
-        ensures { Gives (λ _. self.new) result (spec.limits_line self.old (map (λ f. f.now) fields.now)) }
+        ensures { Gives (λ _. self.new) result
+            (spec.limits_line self.old (map (λ f. f.now) fields.now)) }
     {
         let first = self.describes() && self.limits.is_none();
         ensure(first, Kind::Order)?;
@@ -66,7 +69,8 @@ impl Draft {
 
     #[tactic(auto, unfolding(crate::specs::Description::ids_line))]
     pub fn ids_line(&mut self, fields: &[&[u8]]) -> Result<(), LineError>
-        ensures { Gives (λ _. self.new) result (spec.ids_line self.old (map (λ f. f.now) fields.now)) }
+        ensures { Gives (λ _. self.new) result
+            (spec.ids_line self.old (map (λ f. f.now) fields.now)) }
     {
         let first = self.describes() && self.ids.is_none();
         ensure(first, Kind::Order)?;
@@ -82,7 +86,8 @@ impl Draft {
 
     #[tactic(auto, unfolding(crate::specs::Description::profile_line))]
     pub fn profile_line(&mut self, fields: &[&[u8]]) -> Result<(), LineError>
-        ensures { Gives (λ _. self.new) result (spec.profile_line self.old (map (λ f. f.now) fields.now)) }
+        ensures { Gives (λ _. self.new) result
+            (spec.profile_line self.old (map (λ f. f.now) fields.now)) }
     {
         let first = self.describes() && self.profile.is_none();
         ensure(first, Kind::Order)?;
@@ -94,7 +99,8 @@ impl Draft {
 
     #[tactic(auto, unfolding(crate::specs::Description::window_line))]
     pub fn window_line(&mut self, fields: &[&[u8]]) -> Result<(), LineError>
-        ensures { Gives (λ _. self.new) result (spec.window_line self.old (map (λ f. f.now) fields.now)) }
+        ensures { Gives (λ _. self.new) result
+            (spec.window_line self.old (map (λ f. f.now) fields.now)) }
     {
         ensure(self.describes(), Kind::Order)?;
         ensure(fields.len() == 3, Kind::Fields)?;
@@ -114,7 +120,8 @@ impl Draft {
 
     #[tactic(auto, unfolding(crate::specs::Description::config_line))]
     pub fn config_line(&mut self, fields: &[&[u8]]) -> Result<(), LineError>
-        ensures { Gives (λ _. self.new) result (spec.config_line self.old (map (λ f. f.now) fields.now)) }
+        ensures { Gives (λ _. self.new) result
+            (spec.config_line self.old (map (λ f. f.now) fields.now)) }
     {
         let first = self.describes_tables() && self.config.is_none();
         ensure(first, Kind::Order)?;
@@ -125,7 +132,8 @@ impl Draft {
 
     #[tactic(auto, unfolding(crate::specs::Description::pending_line))]
     pub fn pending_line(&mut self, fields: &[&[u8]]) -> Result<(), LineError>
-        ensures { Gives (λ _. self.new) result (spec.pending_line self.old (map (λ f. f.now) fields.now)) }
+        ensures { Gives (λ _. self.new) result
+            (spec.pending_line self.old (map (λ f. f.now) fields.now)) }
     {
         let again = is_given(&self.pending, arg(fields, 1));
         ensure(self.describes_tables() && !again, Kind::Order)?;
@@ -138,7 +146,8 @@ impl Draft {
 
     #[tactic(auto, unfolding(crate::specs::Description::gicr_line))]
     pub fn gicr_line(&mut self, fields: &[&[u8]]) -> Result<(), LineError>
-        ensures { Gives (λ _. self.new) result (spec.gicr_line self.old (map (λ f. f.now) fields.now)) }
+        ensures { Gives (λ _. self.new) result
+            (spec.gicr_line self.old (map (λ f. f.now) fields.now)) }
     {
         let described = self.config.is_some() || !self.pending.none_given();
         ensure(self.describes_tables() && !described, Kind::Order)?;
@@ -149,7 +158,8 @@ impl Draft {
 
     #[tactic(auto, unfolding(crate::specs::Description::restore_line))]
     pub fn restore_line(&mut self, fields: &[&[u8]]) -> Result<(), LineError>
-        ensures { Gives (λ _. self.new) result (spec.restore_line self.old (map (λ f. f.now) fields.now)) }
+        ensures { Gives (λ _. self.new) result
+            (spec.restore_line self.old (map (λ f. f.now) fields.now)) }
     {
         let first = self.describes() && self.restore.is_none();
         ensure(first, Kind::Order)?;
@@ -182,7 +192,8 @@ impl Draft {
 
     /// Adds bytes for the memory, from the line with a number.
     fn add_fill(&mut self, number: u64, fill: Fill) -> Result<(), LineError>
-        ensures { Gives (λ _. self.new) result (Ok (spec.with_fill self.old number fill.addr fill.bytes)) }
+        ensures { Gives (λ _. self.new) result
+            (Ok (spec.with_fill self.old number fill.addr fill.bytes)) }
     {
         self.fills.push(fill)?;
         self.fill_lines.push(number)?;

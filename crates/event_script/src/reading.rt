@@ -111,7 +111,8 @@ fn trace_line<'a>(
 
 #[tactic(auto, unfolding(crate::specs::Script::trace_with))]
 fn trace_with(alloc: Global, draft: Draft, fields: &[&[u8]]) -> Result<Script, LineError>
-    ensures { Gives (λ script. script) result (spec.trace_with draft (map (λ f. f.now) fields.now)) }
+    ensures { Gives (λ script. script) result
+        (spec.trace_with draft (map (λ f. f.now) fields.now)) }
 {
     ensure(fields.len() == 1, Kind::Fields)?;
     script_from(alloc, draft)

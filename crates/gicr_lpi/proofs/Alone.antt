@@ -1,5 +1,6 @@
 -- One redistributor is enough for a read of its LPI registers, and with memory for a write.
-use Rattle.std.proofs.Common.{◌≡◌, ℕ, ◌<◌, Bool, true, false, if◌then◌else◌, List, [], ◌∷◌, length, set, refl, ap, sym, ◌∙◌, inl, inr, arith, length-set, get_or-set_same}
+use Rattle.std.proofs.Common.{◌≡◌, ℕ, ◌<◌, Bool, true, false, if◌then◌else◌, List, [], ◌∷◌, length, set, refl, ap, sym, ◌∙◌, inl, inr, arith, length-set}
+use Rattle.std.proofs.Common.{get_or-set_same}
 use Rattle.gicr_regs.specs.Registers.{AreLow, AreKept, written_gicr}
 use Rattle.guest_windows.specs.Windows.{Window}
 use Rattle.its_types.specs.declared.ids.Vcpu.{Vcpu}
@@ -30,7 +31,8 @@ use Rattle.gicr_lpi.specs.declared.access.GicrAccess.{GicrAccess}
 pub low_bases : (s : Setup) (vcpu : Vcpu) (r : Redistributor) → HasStood s (part.Redist vcpu) (Redist r) → s.start.layout.gicr ≡ true → AreLow r.bases
 low_bases s vcpu r stood programmed =
     let u : Plain = after s.start stood.history in
-    let k : AreKept r.bases = (stood.machine.sound.redistributors vcpu.0 r stood.right).kept (ap (λ (l : Layout). l.gicr) (sym stood.machine.layout) ∙ programmed) in
+    let k : AreKept r.bases = (stood.machine.sound.redistributors vcpu.0 r stood.right).kept (ap (λ (l : Layout). l.gicr) (sym stood.machine.layout)
+    ∙ programmed) in
     record { prop = k.prop_low; pend = k.pend_low }
 
 module _ (s : Setup) (vcpus : HasVcpus s) (w : Word) (room : w.place < s.limits.place_last) (vcpu : Vcpu) (st : vcpu.0 < vcpu_count s) (r : Redistributor) where
@@ -54,7 +56,11 @@ module _ (s : Setup) (vcpus : HasVcpus s) (w : Word) (room : w.place < s.limits.
 
     read_answered : IsAnswered a (call.ReadGicr vcpu off size) value one
     unfolding footprint reply_of
-    read_answered = record { covers = (inl refl, tt); reply_is = ap (λ (x : Redistributor). reply.Value (read_by s.start.layout.gicr x off size)) (sym has_one) }
+    read_answered = record {
+      covers = (inl refl, tt);
+      reply_is = ap (λ (x : Redistributor). reply.Value (read_by s.start.layout.gicr x off size))
+          (sym has_one);
+    }
 
     read_leaves : renewal s (staying w (call.ReadGicr vcpu off size) value Keep) one ≡ one
     unfolding left
@@ -102,9 +108,15 @@ module _ (s : Setup) (vcpus : HasVcpus s) (w : Word) (room : w.place < s.limits.
     left_memory true = refl
     left_memory false = refl
 
-    write_leaves : renewal s (staying w (write_call access) reply.Ok Keep) both ≡ both_held vcpu (after_write s.start.layout.gicr s.start.layout.shape memory access r) memory
+    write_leaves : renewal s (staying w (write_call access) reply.Ok Keep) both ≡ both_held vcpu
+        (after_write s.start.layout.gicr s.start.layout.shape memory access r) memory
     unfolding left
     write_leaves = λ d. both_held vcpu (left_redist s.start.layout.gicr d) (left_memory s.start.layout.gicr d)
 
-    pub may_write : MayLeave s (staying w (write_call access) reply.Ok Keep) both (both_held vcpu (after_write s.start.layout.gicr s.start.layout.shape memory access r) memory)
-    may_write = (calm_may s w (write_call access) reply.Ok Keep both vcpus tt room (not_memory, ((λ h. h), tt)) (st, (tt, tt)) (refl, (refl, tt)) (inl write_answered) tt, write_leaves)
+    pub may_write : MayLeave s (staying w (write_call access) reply.Ok Keep) both
+        (both_held vcpu (after_write s.start.layout.gicr s.start.layout.shape memory access r) memory)
+    may_write = (
+      calm_may s w (write_call access) reply.Ok Keep both vcpus tt room (not_memory, ((λ h. h), tt)) (st, (tt, tt)) (refl, (refl, tt))
+          (inl write_answered) tt,
+      write_leaves,
+    )

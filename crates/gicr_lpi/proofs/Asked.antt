@@ -15,7 +15,8 @@ use Rattle.its_turns.specs.declared.attempts.Lost.TheVariants as lost
 use Rattle.its_turns.proofs.Telling.{stays_again, placed_again, leaves_from}
 use Rattle.its_steps.specs.Parts.{Setup}
 use Rattle.held_parts.specs.Taking.{TakesInTime, Goes, WasMade, holding}
-use Rattle.held_parts.proofs.Going.{takes_one, takes_then, going_first, going_takes, going_looked, going_home, going_stays, going_made, made_home, made_placed, got_then}
+use Rattle.held_parts.proofs.Going.{takes_one, takes_then, going_first, going_takes, going_looked, going_home, going_stays, going_made, made_home, made_placed}
+use Rattle.held_parts.proofs.Going.{got_then}
 use Rattle.gicr_lpi.specs.Asking.{AsksOnce}
 
 -- a part that was waited for had its content after some history of this machine
@@ -28,15 +29,20 @@ module _ (P : Part → Type 0) where
   took_two v w x p q c d is_p is_q a b = going_takes P v v x (going_first P v) (takes_then P v w x (takes_one P v w p c is_p a) (takes_one P w x q d is_q b))
 
   module _ (v x : View) (on : Goes P v x) where
-    pub once_made : (c : Call) (r : Reply) (w : Word) (y z : View) (left : List Held) → Makes x (staying w c r Keep) y → z ≡ holding y left → left ≡ v.held → IsPlaced v c r w.place z × Leaves Keep z × GotOnly P v z
+    pub once_made : (c : Call) (r : Reply) (w : Word) (y z : View) (left : List Held) → Makes x (staying w c r Keep) y → z ≡ holding y left → left ≡ v.held
+        → IsPlaced v c r w.place z × Leaves Keep z × GotOnly P v z
     once_made c r w y z left makes home same =
         let m : WasMade P v (staying w c r Keep) z = made_home P v y z (staying w c r Keep) left (going_made P v x y (staying w c r Keep) on makes) home in
         (made_placed P v z (staying w c r Keep) m (ap (λ (u : View). u.held) home ∙ same), leaves_from v z z.tries (staying w c r Keep) m.made refl, m.got)
 
     still : (y z : View) (w : Word) (left : List Held) → Goes P v y → z ≡ holding y left → left ≡ v.held → StillAsks P v z
-    still y z w left g home same = let h = going_home P v y z left g home in record { stays = going_stays P v z h (ap (λ (u : View). u.held) home ∙ same); got = h.got }
+    still y z w left g home same = let h = going_home P v y z left g home in record {
+      stays = going_stays P v z h (ap (λ (u : View). u.held) home ∙ same);
+      got = h.got;
+    }
 
-    pub once_lost : {T : Type 0} (c : Call) (reply : T → Reply) (l : Lost) (y z : View) (left : List Held) → IsLost x l y → z ≡ holding y left → left ≡ v.held → AsksOnce P v c reply z (Err l)
+    pub once_lost : {T : Type 0} (c : Call) (reply : T → Reply) (l : Lost) (y z : View) (left : List Held) → IsLost x l y → z ≡ holding y left → left ≡ v.held
+        → AsksOnce P v c reply z (Err l)
     once_lost c reply lost.Spent y z left spent home same = (
       still y z y.last left (going_looked P v x y y.last on spent.0) home same,
       ap (λ (u : View). length u.seen) home ∙ (spent.0.place ∙ (spent.1 ∙ ap (λ (u : View). u.setup.limits.place_last) on.on.same)),
@@ -49,8 +55,10 @@ module _ (P : Part → Type 0) where
     pub again : (x : View) → StillAsks P w x → StillAsks P v x
     again x s = record { stays = stays_again v w x asks.stays s.stays; got = got_then P v w x asks.got s.got }
 
-    pub asked_made : (c : Call) (r : Reply) (place : ℕ) (x : View) → IsPlaced w c r place x × Leaves Keep x × GotOnly P w x → IsPlaced v c r place x × Leaves Keep x × GotOnly P v x
+    pub asked_made : (c : Call) (r : Reply) (place : ℕ) (x : View) → IsPlaced w c r place x × Leaves Keep x × GotOnly P w x → IsPlaced v c r place x
+        × Leaves Keep x × GotOnly P v x
     asked_made c r place x done = (placed_again v w x c r place asks.stays done.0, done.1, got_then P v w x asks.got done.2)
 
-    pub asked_spent : (x : View) → StillAsks P w x × (length x.seen ≡ w.setup.limits.place_last) → Stays v x × (length x.seen ≡ v.setup.limits.place_last) × GotOnly P v x
+    pub asked_spent : (x : View) → StillAsks P w x × (length x.seen ≡ w.setup.limits.place_last) → Stays v x × (length x.seen ≡ v.setup.limits.place_last)
+        × GotOnly P v x
     asked_spent x spent = let s = again x spent.0 in (s.stays, spent.1 ∙ ap (λ (y : View). y.setup.limits.place_last) asks.stays.same, s.got)

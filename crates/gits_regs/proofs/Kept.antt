@@ -2,12 +2,15 @@
 use Rattle.std.proofs.Common.{◌≡◌, ℕ, ◌-◌, ◌%◌, ◌<◌, ◌≤◌, Bool, true, false, not, ◌&&◌, nat_lt, nat_eq, if◌then◌else◌, IfOk, Result, Ok, ap, ◌∙◌, refl}
 use Rattle.std.proofs.lemmas.Bool.{ltb-true}
 use Rattle.its_types.specs.Bits.{bit_of}
-use Rattle.gits_regs.specs.Registers.{Registers, IsSound, Written, write_reg, write_64, write_word, write_ctlr, write_cbaser, write_cwriter, write_baser0, write_baser1, restored, masked, kept_cbaser, kept_baser0, kept_baser1, kept_offset, has_bases, is_same_queue, is_32, queue_size, low_half, with_low_half, with_high_half, read_64, ensure, ◌>>=◌, base_allowed, is_valid}
+use Rattle.gits_regs.specs.Registers.{Registers, IsSound, Written, write_reg, write_64, write_word, write_ctlr, write_cbaser, write_cwriter, write_baser0}
+use Rattle.gits_regs.specs.Registers.{write_baser1, restored, masked, kept_cbaser, kept_baser0, kept_baser1, kept_offset, has_bases, is_same_queue, is_32}
+use Rattle.gits_regs.specs.Registers.{queue_size, low_half, with_low_half, with_high_half, read_64, ensure, ◌>>=◌, base_allowed, is_valid}
 use Rattle.gits_regs.specs.declared.values.RegValues.{RegValues}
 use Rattle.gits_regs.specs.declared.values.NotValid.{NotValid}
 use Rattle.gits_regs.specs.declared.values.Register.{Register}
 use Rattle.gits_regs.specs.declared.values.Register.TheVariants.{Cbaser, Creadr, Cwriter, Baser0, Baser1}
-use Rattle.gits_regs.proofs.Rules.{kept_cbaser-fixed, kept_baser0-fixed, kept_baser1-fixed, kept_offset_whole, cbaser_written, baser0_written, baser1_written, cwriter_written, enabled_by_write, disabled_by_write}
+use Rattle.gits_regs.proofs.Rules.{kept_cbaser-fixed, kept_baser0-fixed, kept_baser1-fixed, kept_offset_whole, cbaser_written, baser0_written, baser1_written}
+use Rattle.gits_regs.proofs.Rules.{cwriter_written, enabled_by_write, disabled_by_write}
 
 -- by the two cases of a test
 pick : {A : Type 0} (P : A → Type 0) (b : Bool) (x y : A) → (b ≡ true → P x) → (b ≡ false → P y) → P (if b then x else y)
@@ -35,7 +38,8 @@ write_ctlr_keeps r value h =
 write_cbaser_keeps : (r : Registers) (value : ℕ) → IsSound r → IsSound (write_cbaser r value).regs
 unfolding write_cbaser
 write_cbaser_keeps r value h =
-    pick Keeps r.enabled _ _ (λ _. h) (λ off. pick Keeps (is_same_queue r (kept_cbaser value)) _ _ (λ _. h) (λ _. cbaser_written r value (kept_cbaser value) h off refl))
+    pick Keeps r.enabled _ _ (λ _. h) (λ off. pick Keeps (is_same_queue r (kept_cbaser value)) _ _ (λ _. h)
+    (λ _. cbaser_written r value (kept_cbaser value) h off refl))
 
 write_cwriter_keeps : (r : Registers) (value : ℕ) → IsSound r → IsSound (write_cwriter r value).regs
 unfolding write_cwriter
@@ -125,4 +129,5 @@ restored_keeps values dev_bits least most =
     after IsSound (nat_lt r.cwriter (queue_size r)) Cwriter _ (λ cwriter.
     after IsSound (base_allowed r.enabled r.baser0) Baser0 _ (λ baser0.
     after IsSound (base_allowed r.enabled r.baser1) Baser1 _ (λ baser1.
-    kept_values_are_sound r values least most refl refl refl refl refl cbaser (ltb-true r.creadr (queue_size r) creadr) (ltb-true r.cwriter (queue_size r) cwriter) baser0 baser1)))))
+    kept_values_are_sound r values least most refl refl refl refl refl cbaser (ltb-true r.creadr (queue_size r) creadr)
+    (ltb-true r.cwriter (queue_size r) cwriter) baser0 baser1)))))

@@ -3,7 +3,8 @@ use Rattle.std.proofs.Common.{◌≡◌, ℕ, ◌+◌, ◌*◌, ◌%◌, ◌^◌
 use Rattle.std.specs.Int.Bits.{and_zero_r}
 use Rattle.std.proofs.lemmas.Nat.{and_assoc, and_mod, and_or_apart}
 use Rattle.its_types.specs.Bits.{field}
-use Rattle.gits_regs.specs.Registers.{Registers, IsOffset, IsSound, kept_cbaser, kept_baser0, kept_baser1, kept_offset, has_bases, queue_size, size_of, advanced}
+use Rattle.gits_regs.specs.Registers.{Registers, IsOffset, IsSound, kept_cbaser, kept_baser0, kept_baser1, kept_offset, has_bases, queue_size, size_of}
+use Rattle.gits_regs.specs.Registers.{advanced}
 
 -- ---- masks
 
@@ -45,7 +46,8 @@ absurd_test off on = absurd (cc)
 
 -- ---- one register
 
-pub cbaser_written : (r : Registers) (value base : ℕ) → IsSound r → r.enabled ≡ false → base ≡ kept_cbaser value → IsSound (record r { cbaser = base; creadr = 0; cwriter = 0 })
+pub cbaser_written : (r : Registers) (value base : ℕ) → IsSound r → r.enabled ≡ false → base ≡ kept_cbaser value
+    → IsSound (record r { cbaser = base; creadr = 0; cwriter = 0 })
 cbaser_written r value base h off e = record {
   least_bits = h.least_bits;
   most_bits = h.most_bits;

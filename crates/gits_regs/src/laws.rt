@@ -10,7 +10,8 @@ pub fn reset_is_sound()
 
 /// Every write keeps them.
 pub fn write_keeps_rules()
-    ensures { (r : Registers) (off size value : ℕ) → IsSound r → IsSound (write_reg r off size value).regs }
+    ensures { (r : Registers) (off size value : ℕ) → IsSound r
+        → IsSound (write_reg r off size value).regs }
 {}
 
 /// So does the queue's advance.

@@ -14,7 +14,8 @@ impl Regs {
     /// 64-bit register. Everything else writes nothing.
     #[tactic(auto, unfolding(crate::specs::Registers::write_reg))]
     pub fn write(&mut self, off: u32, size: u8, value: u64) -> RegChange
-        ensures { record { regs = self.new; change = result } ≡ spec.write_reg self.old off size value }
+        ensures { record { regs = self.new; change = result } ≡ spec.write_reg self.old off size
+            value }
     {
         match size {
             8 => self.write_64(off, value),

@@ -26,7 +26,8 @@ is_some-map f (Some x) = refl
 is_some-write_at : (ws : List Window) (a : ℕ) (bytes : List ℕ) → is_some (write_at ws a bytes) ≡ inside ws a (length bytes)
 is_some-write_at [] a bytes = refl
 is_some-write_at (w ∷ ws) a bytes =
-    elim (has w a (length bytes)) as (λ b. is_some (cond b (Some (put w a bytes ∷ ws)) (option_map (λ others. w ∷ others) (write_at ws a bytes))) ≡ (b || inside ws a (length bytes))) [
+    elim (has w a (length bytes)) as (λ b. is_some (cond b (Some (put w a bytes ∷ ws)) (option_map (λ others. w ∷ others) (write_at ws a bytes)))
+    ≡ (b || inside ws a (length bytes))) [
       | true ↦ refl
       | false ↦ is_some-map (λ others. w ∷ others) (write_at ws a bytes) ∙ is_some-write_at ws a bytes
     ]
@@ -53,8 +54,10 @@ one memory = out part.Mem (Mem memory) ∷ []
 
 module _ (s : Setup) (addr : Addr) (memory : List Window) (vcpus : HasVcpus s) where
   pub pokes_now : (bytes : List ℕ) (w : Word) → w.place < s.limits.place_last
-      → MayLeave s (staying w (call.Poke addr bytes) (poke_reply (write_at memory addr.0 bytes)) Keep) (one memory) (one (unwrap_or (write_at memory addr.0 bytes) memory))
+      → MayLeave s (staying w (call.Poke addr bytes) (poke_reply (write_at memory addr.0 bytes)) Keep) (one memory)
+      (one (unwrap_or (write_at memory addr.0 bytes) memory))
   pokes_now bytes w room = pokes s w addr bytes memory vcpus room
 
-  pub peeks_now : (count : ℕ) (w : Word) → w.place < s.limits.place_last → MayLeave s (staying w (call.Peek addr count) (peek_reply (peeked_in memory addr.0 count)) Keep) (one memory) (one memory)
+  pub peeks_now : (count : ℕ) (w : Word) → w.place < s.limits.place_last
+      → MayLeave s (staying w (call.Peek addr count) (peek_reply (peeked_in memory addr.0 count)) Keep) (one memory) (one memory)
   peeks_now count w room = peeks s w addr count memory vcpus room

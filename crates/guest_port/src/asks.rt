@@ -29,7 +29,8 @@ pub fn poke<R: Wait, G: Gate>(
     requires of { IsOf machine.now pass.old }
     requires free { (view pass.old).held ≡ [] }
     ensures of { IsOf machine.now pass.new }
-    ensures answer { AsksPart (view pass.old) part.Mem (call.Poke addr bytes.now) (λ r. r) (view pass.new) result }
+    ensures answer { AsksPart (view pass.old) part.Mem (call.Poke addr bytes.now) (λ r. r)
+        (view pass.new) result }
 {
     for _ in rt.forever() {
         match try_poke(machine, pass, gate, addr, bytes) {
@@ -61,7 +62,8 @@ pub fn peek<R: Wait, G: Gate>(
     requires of { IsOf machine.now pass.old }
     requires free { (view pass.old).held ≡ [] }
     ensures of { IsOf machine.now pass.new }
-    ensures answer { AsksPart (view pass.old) part.Mem (call.Peek addr count) (λ r. r) (view pass.new) result }
+    ensures answer { AsksPart (view pass.old) part.Mem (call.Peek addr count) (λ r. r)
+        (view pass.new) result }
 {
     for _ in rt.forever() {
         match try_peek(machine, pass, gate, addr, count) {

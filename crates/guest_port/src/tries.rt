@@ -22,7 +22,8 @@ pub fn try_poke<G: Gate>(
     requires of { IsOf machine.now pass.old }
     requires free { (view pass.old).held ≡ [] }
     ensures of { IsOf machine.now pass.new }
-    ensures answer { TriesPart (view pass.old) part.Mem (call.Poke addr bytes.now) (λ r. r) (view pass.new)
+    ensures answer { TriesPart (view pass.old) part.Mem (call.Poke addr bytes.now) (λ r. r)
+        (view pass.new)
         result }
 {
     let mut memory = match try_take_memory(machine, pass) {
@@ -61,7 +62,8 @@ pub fn try_peek<G: Gate>(
     requires of { IsOf machine.now pass.old }
     requires free { (view pass.old).held ≡ [] }
     ensures of { IsOf machine.now pass.new }
-    ensures answer { TriesPart (view pass.old) part.Mem (call.Peek addr count) (λ r. r) (view pass.new) result }
+    ensures answer { TriesPart (view pass.old) part.Mem (call.Peek addr count) (λ r. r)
+        (view pass.new) result }
 {
     let memory = match try_take_memory(machine, pass) {
         Ok(memory) => memory,

@@ -1,5 +1,6 @@
 -- A byte of a stretch that is read is the one at its address.
-use Rattle.std.proofs.Common.{◌≡◌, ℕ, zero, suc, ◌+◌, ◌-◌, ◌*◌, ◌/◌, ◌%◌, ◌^◌, ◌<◌, ◌≤◌, Bool, true, false, cond, nat_le, List, [], ◌∷◌, length, take, drop, map, Option, Some, None, refl, sym, ap, ◌∙◌, inl, inr, arith}
+use Rattle.std.proofs.Common.{◌≡◌, ℕ, zero, suc, ◌+◌, ◌-◌, ◌*◌, ◌/◌, ◌%◌, ◌^◌, ◌<◌, ◌≤◌, Bool, true, false, cond, nat_le, List, [], ◌∷◌, length, take, drop}
+use Rattle.std.proofs.Common.{map, Option, Some, None, refl, sym, ap, ◌∙◌, inl, inr, arith}
 use Rattle.std.specs.Prelude.{◌||◌, ◌&&◌, nat_lt, slice_index, MatchOption, Result, Ok, Err}
 use Rattle.std.specs.Option.{option_map}
 use Rattle.std.specs.List.{list_all}
@@ -50,7 +51,8 @@ both_have v w a n j lt apart here there =
       | inr e ↦ let le = leb-true (v.base + length v.bytes) w.base e in omega arith
     ]
 
-not_here : (w : Window) (ws : List Window) (a n j : ℕ) → j < n → list_all (are_apart (extent w)) (map extent ws) ≡ true → inside ws a n ≡ true → has w (a + j) 1 ≡ true → ⊥
+not_here : (w : Window) (ws : List Window) (a n j : ℕ) → j < n → list_all (are_apart (extent w)) (map extent ws) ≡ true → inside ws a n ≡ true
+    → has w (a + j) 1 ≡ true → ⊥
 not_here w [] a n j lt apart h there = absurd cc
 not_here w (v ∷ ws) a n j lt apart h there =
     let both = and_parts (are_apart (extent w) (extent v)) (list_all (are_apart (extent w)) (map extent ws)) apart in
@@ -68,7 +70,8 @@ read_inside (w ∷ ws) a n bs e =
     ] e
 
 -- windows share no byte, so the byte is found where the stretch is
-pub byte_read : (ws : List Window) (a n j : ℕ) (bs : List ℕ) → share_no_byte (map extent ws) ≡ true → read_at ws a n ≡ Some bs → j < n → byte_at ws (a + j) ≡ Some (slice_index bs j)
+pub byte_read : (ws : List Window) (a n j : ℕ) (bs : List ℕ) → share_no_byte (map extent ws) ≡ true → read_at ws a n ≡ Some bs → j < n
+    → byte_at ws (a + j) ≡ Some (slice_index bs j)
 byte_read [] a n j bs apart e lt = absurd cc
 byte_read (w ∷ ws) a n j bs apart e lt =
     let both = and_parts (list_all (are_apart (extent w)) (map extent ws)) (share_no_byte (map extent ws)) apart in
@@ -116,7 +119,8 @@ byte_of_number xs k small lt = let place : 0 + k ≡ k = omega arith in fields_o
 pub windows_apart : (ws : List (ℕ × ℕ)) → are_windows ws ≡ true → share_no_byte ws ≡ true
 windows_apart ws h =
     let few : Bool = nat_lt 0 (length ws) && nat_le (length ws) 16 in
-    (and_parts (few && list_all in_range ws) (share_no_byte ws) (and_parts (few && list_all in_range ws && share_no_byte ws) (nat_le (total ws) 67108864) h).0).1
+    (and_parts (few && list_all in_range ws) (share_no_byte ws) (and_parts (few && list_all in_range ws && share_no_byte ws) (nat_le (total ws) 67108864)
+    h).0).1
 
 -- what a read that succeeds leaves in the buffer
 pub read_gives :

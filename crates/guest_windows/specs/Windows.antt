@@ -1,5 +1,6 @@
 -- Guest memory: a list of windows that share no byte.
-use Rattle.std.specs.Prelude.{ℕ, ◌+◌, ◌-◌, ◌^◌, Bool, true, ◌&&◌, ◌||◌, if◌then◌else◌, nat_lt, nat_le, List, [], ◌∷◌, ◌++◌, length, take, drop, replicate, slice_index, sum_by, Option, Some, None}
+use Rattle.std.specs.Prelude.{ℕ, ◌+◌, ◌-◌, ◌^◌, Bool, true, ◌&&◌, ◌||◌, if◌then◌else◌, nat_lt, nat_le, List, [], ◌∷◌, ◌++◌, length, take, drop, replicate}
+use Rattle.std.specs.Prelude.{slice_index, sum_by, Option, Some, None}
 use Rattle.std.specs.Option.{option_map}
 use Rattle.std.specs.List.{list_any, list_all}
 use Rattle.byteorder.specs.Endian.{little_number}
@@ -65,7 +66,8 @@ total windows = sum_by (λ w. w.1) windows
 
 -- 1 to 16, together 64 MiB at most
 abbrev pub are_windows : List (ℕ × ℕ) → Bool
-are_windows windows = nat_lt 0 (length windows) && nat_le (length windows) 16 && list_all in_range windows && share_no_byte windows && nat_le (total windows) 67108864
+are_windows windows = nat_lt 0 (length windows) && nat_le (length windows) 16 && list_all in_range windows && share_no_byte windows && nat_le
+    (total windows) 67108864
 
 -- a window of zeros
 abbrev pub zeros : ℕ × ℕ → Window

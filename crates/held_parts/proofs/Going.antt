@@ -67,7 +67,8 @@ module _ (P : Part → Type 0) where
 
   pub takes_one : (v x : View) (p : Part) (c : Content) → P p → TakesInTime v p c x → TakesOnly P v x
   takes_one v x p c is t = record {
-    same = subst (λ (y : View). y ≡ record v { held = y.held; cache = y.cache; tries = y.tries }) (sym t.takes.view) (ap (λ (y : View). record y { held = (took t.waited p c).held; cache = (took t.waited p c).cache; tries = (took t.waited p c).tries }) t.waits.same);
+    same = subst (λ (y : View). y ≡ record v { held = y.held; cache = y.cache; tries = y.tries }) (sym t.takes.view)
+        (ap (λ (y : View). record y { held = (took t.waited p c).held; cache = (took t.waited p c).cache; tries = (took t.waited p c).tries }) t.waits.same);
     got = record {
       got = p ∷ [];
       won = ap (λ (y : View). y.tries.won) t.takes.view ∙ ap (λ (l : List Part). p ∷ l) t.waits.won;
@@ -77,7 +78,10 @@ module _ (P : Part → Type 0) where
   }
 
   pub takes_then : (v w x : View) → TakesOnly P v w → TakesOnly P w x → TakesOnly P v x
-  takes_then v w x a b = record { same = b.same ∙ ap (λ (y : View). record y { held = x.held; cache = x.cache; tries = x.tries }) a.same; got = got_then v w x a.got b.got }
+  takes_then v w x a b = record {
+    same = b.same ∙ ap (λ (y : View). record y { held = x.held; cache = x.cache; tries = x.tries }) a.same;
+    got = got_then v w x a.got b.got;
+  }
 
   -- ---- a call that goes on
 
@@ -87,7 +91,8 @@ module _ (P : Part → Type 0) where
   pub going_takes : (v w x : View) → Goes P v w → TakesOnly P w x → Goes P v x
   going_takes v w x g t = record {
     on = record {
-      same = t.same ∙ ap (λ (y : View). record y { held = x.held; cache = x.cache; tries = x.tries }) g.on.same ∙ ap (λ (y : View). record v { seen = y.seen; last = y.last; held = x.held; cache = x.cache; tries = x.tries }) (sym t.same);
+      same = t.same ∙ ap (λ (y : View). record y { held = x.held; cache = x.cache; tries = x.tries }) g.on.same
+          ∙ ap (λ (y : View). record v { seen = y.seen; last = y.last; held = x.held; cache = x.cache; tries = x.tries }) (sym t.same);
       longer = subst (λ (y : View). IsPrefix v.seen y.seen) (sym t.same) g.on.longer;
       tries = refl;
     };

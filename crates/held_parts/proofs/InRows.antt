@@ -30,7 +30,8 @@ with_lacks None p others other lacks h = lacks h
 with_lacks (Some x) p others other lacks (inl e) = other x refl e
 with_lacks (Some x) p others other lacks (inr h) = lacks h
 
-with_all : (P : Held → Type 0) (o : Option Held) (others : List Held) → ((x : Held) → o ≡ Some x → P x) → AllByRecursion P others → AllByRecursion P (with_one o others)
+with_all : (P : Held → Type 0) (o : Option Held) (others : List Held) → ((x : Held) → o ≡ Some x → P x) → AllByRecursion P others
+    → AllByRecursion P (with_one o others)
 with_all P None others one all = all
 with_all P (Some x) others one all = (one x refl, all)
 
@@ -38,7 +39,8 @@ with_apart : (o : Option Held) (others : List Held) → ((x : Held) → o ≡ So
 with_apart None others lacks apart = apart
 with_apart (Some x) others lacks apart = (lacks x refl, apart)
 
-with_each : (P : Held → Type 0) (o : Option Held) (others : List Held) → AllByRecursion P (with_one o others) → ((x : Held) → o ≡ Some x → P x) × AllByRecursion P others
+with_each : (P : Held → Type 0) (o : Option Held) (others : List Held) → AllByRecursion P (with_one o others) → ((x : Held) → o ≡ Some x → P x)
+    × AllByRecursion P others
 with_each P None others all = ((λ x e. absurd cc), all)
 with_each P (Some x) others all = ((λ y e. subst P (same x y e) all.0), all.1)
   where
@@ -71,22 +73,28 @@ module _ (row : Row) (others : List Held) where
   pub row_lacks : (n : ℕ) (p : Part) → ((k : ℕ) (x : Held) → k < n → row k ≡ Some x → x.part ≢ p) → (Holds p others → ⊥) → Holds p (in_row row n others) → ⊥
   unfolding in_row
   row_lacks zero p other lacks h = lacks h
-  row_lacks (suc n) p other lacks h = with_lacks (row n) p (in_row row n others) (λ x is. other n x (omega arith) is) (row_lacks n p (λ k x lt is. other k x (omega (arith, lt)) is) lacks) h
+  row_lacks (suc n) p other lacks h = with_lacks (row n) p (in_row row n others) (λ x is. other n x (omega arith) is)
+      (row_lacks n p (λ k x lt is. other k x (omega (arith, lt)) is) lacks) h
 
-  pub row_all : (P : Held → Type 0) (n : ℕ) → ((k : ℕ) (x : Held) → k < n → row k ≡ Some x → P x) → AllByRecursion P others → AllByRecursion P (in_row row n others)
+  pub row_all : (P : Held → Type 0) (n : ℕ) → ((k : ℕ) (x : Held) → k < n → row k ≡ Some x → P x) → AllByRecursion P others
+      → AllByRecursion P (in_row row n others)
   unfolding in_row
   row_all P zero each all = all
-  row_all P (suc n) each all = with_all P (row n) (in_row row n others) (λ x is. each n x (omega arith) is) (row_all P n (λ k x lt is. each k x (omega (arith, lt)) is) all)
+  row_all P (suc n) each all = with_all P (row n) (in_row row n others) (λ x is. each n x (omega arith) is)
+      (row_all P n (λ k x lt is. each k x (omega (arith, lt)) is) all)
 
   -- parts of other numbers are other parts
-  pub row_apart : (n : ℕ) → ((j k : ℕ) (x y : Held) → j < k → row j ≡ Some x → row k ≡ Some y → x.part ≢ y.part) → ((k : ℕ) (x : Held) → row k ≡ Some x → Holds x.part others → ⊥) → Apart others → Apart (in_row row n others)
+  pub row_apart : (n : ℕ) → ((j k : ℕ) (x y : Held) → j < k → row j ≡ Some x → row k ≡ Some y → x.part ≢ y.part)
+      → ((k : ℕ) (x : Held) → row k ≡ Some x → Holds x.part others → ⊥) → Apart others → Apart (in_row row n others)
   unfolding in_row
   row_apart zero differ lacks apart = apart
   row_apart (suc n) differ lacks apart =
-      with_apart (row n) (in_row row n others) (λ x is. row_lacks n x.part (λ k y lt there. differ k n y x lt there is) (lacks n x is)) (row_apart n differ lacks apart)
+      with_apart (row n) (in_row row n others) (λ x is. row_lacks n x.part (λ k y lt there. differ k n y x lt there is) (lacks n x is))
+      (row_apart n differ lacks apart)
 
   -- what is so of all is so of each, and of the others
-  pub row_each : (P : Held → Type 0) (n : ℕ) → AllByRecursion P (in_row row n others) → ((k : ℕ) (x : Held) → k < n → row k ≡ Some x → P x) × AllByRecursion P others
+  pub row_each : (P : Held → Type 0) (n : ℕ) → AllByRecursion P (in_row row n others) → ((k : ℕ) (x : Held) → k < n → row k ≡ Some x → P x)
+      × AllByRecursion P others
   unfolding in_row
   row_each P zero all = ((λ k x lt is. absurd (omega (arith, lt))), all)
   row_each P (suc n) all =
@@ -104,7 +112,8 @@ pub row_agrees : (a b : Row) (others : List Held) (n : ℕ) → ((k : ℕ) → k
 unfolding in_row
 row_agrees a b others zero same = refl
 row_agrees a b others (suc n) same =
-    ap (λ (o : Option Held). with_one o (in_row a n others)) (same n (omega arith)) ∙ ap (with_one (b n)) (row_agrees a b others n (λ k lt. same k (omega (arith, lt))))
+    ap (λ (o : Option Held). with_one o (in_row a n others)) (same n (omega arith)) ∙ ap (with_one (b n))
+    (row_agrees a b others n (λ k lt. same k (omega (arith, lt))))
 
 pub row_none : (row : Row) (others : List Held) (n : ℕ) → n ≡ 0 → in_row row n others ≡ others
 unfolding in_row
@@ -130,11 +139,13 @@ module _ (s : Setup) (a : Commit) (left : Plain) where
   abbrev renewed_one : Held → Held
   renewed_one x = record x { owed = content_in s a left x.part x.owed }
 
-  with_renewed : (o o' : Option Held) (others : List Held) → (o ≡ None → o' ≡ None) → ((x : Held) → o ≡ Some x → o' ≡ Some (renewed_one x)) → renewed s a left (with_one o others) ≡ with_one o' (renewed s a left others)
+  with_renewed : (o o' : Option Held) (others : List Held) → (o ≡ None → o' ≡ None) → ((x : Held) → o ≡ Some x → o' ≡ Some (renewed_one x))
+      → renewed s a left (with_one o others) ≡ with_one o' (renewed s a left others)
   with_renewed None o' others gone new = ap (λ (y : Option Held). with_one y (renewed s a left others)) (sym (gone refl))
   with_renewed (Some x) o' others gone new = ap (λ (y : Option Held). with_one y (renewed s a left others)) (sym (new x refl))
 
-  pub row_renewed : (old new : Row) (others : List Held) (n : ℕ) → ((k : ℕ) → k < n → old k ≡ None → new k ≡ None) → ((k : ℕ) (x : Held) → k < n → old k ≡ Some x → new k ≡ Some (renewed_one x))
+  pub row_renewed : (old new : Row) (others : List Held) (n : ℕ) → ((k : ℕ) → k < n → old k ≡ None → new k ≡ None)
+      → ((k : ℕ) (x : Held) → k < n → old k ≡ Some x → new k ≡ Some (renewed_one x))
       → renewed s a left (in_row old n others) ≡ in_row new n (renewed s a left others)
   unfolding in_row
   row_renewed old new others zero gone each = refl

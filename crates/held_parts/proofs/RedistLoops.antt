@@ -1,5 +1,6 @@
 -- Redistributors taken one by one, and put home one by one.
-use Rattle.std.proofs.Common.{◌≡◌, ◌≢◌, ℕ, zero, suc, ◌<◌, ◌≤◌, Bool, true, false, ◌&&◌, nat_lt, List, [], ◌∷◌, Option, Some, None, length, set, refl, ap, sym, ◌∙◌, subst, inl, inr, arith, get_or-set_same, get_or-set_other}
+use Rattle.std.proofs.Common.{◌≡◌, ◌≢◌, ℕ, zero, suc, ◌<◌, ◌≤◌, Bool, true, false, ◌&&◌, nat_lt, List, [], ◌∷◌, Option, Some, None, length, set, refl, ap, sym}
+use Rattle.std.proofs.Common.{◌∙◌, subst, inl, inr, arith, get_or-set_same, get_or-set_other}
 use Rattle.std.proofs.lemmas.Bool.{cases_eq, cases_lt, le-ltb}
 use Rattle.std.specs.Prelude.{is_some}
 use Rattle.its_types.specs.declared.machine.Part.TheVariants as part
@@ -31,7 +32,8 @@ none_taken s wanted redists xs none = record {
     no_some : (r : Owned) → None ≡ Some r → ⊥
     no_some r e = cc
 
-module _ (s : Setup) (wanted : Option ℕ) (n m : ℕ) (redists : List (Option Owned)) (before now : List Held) (h : AreTaken s wanted n redists before now) (next : m ≡ suc n) where
+module _ (s : Setup) (wanted : Option ℕ) (n m : ℕ) (redists : List (Option Owned)) (before now : List Held) (h : AreTaken s wanted n redists before now)
+    (next : m ≡ suc n) where
   pub is_free : (k : ℕ) → n ≤ k → HoldsNoRedist before → Holds (part.Redist (record { 0 = k })) now → ⊥
   is_free k le lacks holds = redist_above redists before n k le (lacks (record { 0 = k })) (subst (Holds (part.Redist (record { 0 = k }))) h.held holds)
 
@@ -40,13 +42,15 @@ module _ (s : Setup) (wanted : Option ℕ) (n m : ℕ) (redists : List (Option O
     held = h.held ∙ sym (row_skips (redist_row redists) before m n next (ap (held_if_in n) (h.above n (omega arith))));
     hand = λ k lt. elim (cases_lt k n) [
       | inl less ↦ h.hand k less
-      | inr le ↦ let e : n ≡ k = omega (arith, lt, le, next) in subst (λ (j : ℕ). is_some (in_hand redists j) ≡ (is_wanted wanted j && nat_lt j (vcpu_count s))) e (ap (λ (o : Option Owned). is_some o) (h.above n (omega arith)) ∙ sym out_of)
+      | inr le ↦ let e : n ≡ k = omega (arith, lt, le, next) in subst (λ (j : ℕ). is_some (in_hand redists j) ≡ (is_wanted wanted j && nat_lt j (vcpu_count s)))
+          e (ap (λ (o : Option Owned). is_some o) (h.above n (omega arith)) ∙ sym out_of)
     ];
     above = λ k le. h.above k (omega (arith, le, next));
     lpis = h.lpis;
   }
 
-  module _ (r : Owned) (now' : List Held) (size : length redists ≡ 16) (lt : n < 16) (inside : (is_wanted wanted n && nat_lt n (vcpu_count s)) ≡ true) (lpis : HasLpisOf s.start.layout.shape r) (more : now' ≡ redist_held n r ∷ now) where
+  module _ (r : Owned) (now' : List Held) (size : length redists ≡ 16) (lt : n < 16) (inside : (is_wanted wanted n && nat_lt n (vcpu_count s)) ≡ true)
+      (lpis : HasLpisOf s.start.layout.shape r) (more : now' ≡ redist_held n r ∷ now) where
     abbrev then : List (Option Owned)
     then = set redists n (Some r)
 
@@ -59,11 +63,13 @@ module _ (s : Setup) (wanted : Option ℕ) (n m : ℕ) (redists : List (Option O
     pub one_taken : AreTaken s wanted m then before now'
     one_taken = record {
       held = more
-          ∙ (ap (λ (l : List Held). (let y : List Held = redist_held n r ∷ l in y)) (h.held ∙ row_agrees (redist_row redists) (redist_row then) before n (λ k less. ap (held_if_in k) (sym (others k (λ e. omega (arith, less, e))))))
+          ∙ (ap (λ (l : List Held). (let y : List Held = redist_held n r ∷ l in y)) (h.held ∙ row_agrees (redist_row redists) (redist_row then) before n
+          (λ k less. ap (held_if_in k) (sym (others k (λ e. omega (arith, less, e))))))
           ∙ sym (row_first (redist_row then) before m n (redist_held n r) next (ap (held_if_in n) here)));
       hand = λ k less. elim (cases_lt k n) [
         | inl below ↦ ap (λ (o : Option Owned). is_some o) (others k (λ e. omega (arith, below, e))) ∙ h.hand k below
-        | inr le ↦ let e : n ≡ k = omega (arith, less, le, next) in subst (λ (j : ℕ). is_some (in_hand then j) ≡ (is_wanted wanted j && nat_lt j (vcpu_count s))) e (ap (λ (o : Option Owned). is_some o) here ∙ sym inside)
+        | inr le ↦ let e : n ≡ k = omega (arith, less, le, next) in subst
+            (λ (j : ℕ). is_some (in_hand then j) ≡ (is_wanted wanted j && nat_lt j (vcpu_count s))) e (ap (λ (o : Option Owned). is_some o) here ∙ sym inside)
       ];
       above = λ k le. others k (λ e. omega (arith, le, e, next)) ∙ h.above k (omega (arith, le, next));
       lpis = λ k q is. elim (cases_eq k n) [
@@ -75,13 +81,15 @@ module _ (s : Setup) (wanted : Option ℕ) (n m : ℕ) (redists : List (Option O
         some_same : (a b : Owned) → Some a ≡ Some b → a ≡ b
         some_same a b e = cc
 
-pub all_taken : (s : Setup) (wanted : Option ℕ) (n : ℕ) (redists : List (Option Owned)) (before now : List Held) → n ≡ 16 → vcpu_count s ≤ 16 → AreTaken s wanted n redists before now → (now ≡ redists_held redists 16 before) × AreWanted s wanted redists
+pub all_taken : (s : Setup) (wanted : Option ℕ) (n : ℕ) (redists : List (Option Owned)) (before now : List Held) → n ≡ 16 → vcpu_count s ≤ 16
+    → AreTaken s wanted n redists before now → (now ≡ redists_held redists 16 before) × AreWanted s wanted redists
 all_taken s wanted n redists before now is few h = (
   h.held ∙ ap (λ (k : ℕ). redists_held redists k before) is,
   record {
     hand = λ k. elim (cases_lt k n) [
       | inl lt ↦ h.hand k lt
-      | inr le ↦ ap (λ (o : Option Owned). is_some o) (h.above k le) ∙ sym (and_right (is_wanted wanted k) (nat_lt k (vcpu_count s)) (le-ltb k (vcpu_count s) (omega (arith, le, is, few))))
+      | inr le ↦ ap (λ (o : Option Owned). is_some o) (h.above k le)
+          ∙ sym (and_right (is_wanted wanted k) (nat_lt k (vcpu_count s)) (le-ltb k (vcpu_count s) (omega (arith, le, is, few))))
     ];
     lpis = h.lpis;
   },
@@ -105,7 +113,8 @@ not_some (Some r) e = absurd cc
 pub all_left : (s : Setup) (wanted : Option ℕ) (redists : List (Option Owned)) → vcpu_count s ≤ 16 → AreWanted s wanted redists → AreLeft 16 redists redists
 all_left s wanted redists few are = record {
   below = λ k lt. refl;
-  above = λ k le. not_some (in_hand redists k) (are.hand k ∙ and_right (is_wanted wanted k) (nat_lt k (vcpu_count s)) (le-ltb k (vcpu_count s) (omega (arith, le, few))));
+  above = λ k le. not_some (in_hand redists k) (are.hand k ∙ and_right (is_wanted wanted k) (nat_lt k (vcpu_count s))
+      (le-ltb k (vcpu_count s) (omega (arith, le, few))));
 }
   where
     and_right : (a b : Bool) → b ≡ false → (a && b) ≡ false
@@ -137,5 +146,6 @@ module _ (n m : ℕ) (old redists : List (Option Owned)) (next : n ≡ suc m) (h
   }
 
 -- one that isn't wanted is not in hand
-pub not_in_hand : (s : Setup) (wanted : Option ℕ) (redists : List (Option Owned)) (k : ℕ) → AreWanted s wanted redists → (is_wanted wanted k && nat_lt k (vcpu_count s)) ≡ false → in_hand redists k ≡ None
+pub not_in_hand : (s : Setup) (wanted : Option ℕ) (redists : List (Option Owned)) (k : ℕ) → AreWanted s wanted redists
+    → (is_wanted wanted k && nat_lt k (vcpu_count s)) ≡ false → in_hand redists k ≡ None
 not_in_hand s wanted redists k are out_of = not_some (in_hand redists k) (are.hand k ∙ out_of)

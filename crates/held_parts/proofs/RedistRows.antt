@@ -1,5 +1,6 @@
 -- Redistributors held in front of other parts.
-use Rattle.std.proofs.Common.{◌≡◌, ◌≢◌, ℕ, zero, suc, ◌<◌, ◌≤◌, true, ◌&&◌, nat_lt, List, ◌∷◌, Option, Some, None, replicate, slice_get, refl, ap, sym, ◌∙◌, subst, arith}
+use Rattle.std.proofs.Common.{◌≡◌, ◌≢◌, ℕ, zero, suc, ◌<◌, ◌≤◌, true, ◌&&◌, nat_lt, List, ◌∷◌, Option, Some, None, replicate, slice_get, refl, ap, sym, ◌∙◌}
+use Rattle.std.proofs.Common.{subst, arith}
 use Rattle.std.proofs.lemmas.Bool.{and_parts, ltb-true}
 use Rattle.std.proofs.lemmas.Option.{get_or_from_slice_get}
 use Rattle.std.specs.Prelude.{is_some}
@@ -68,12 +69,15 @@ module _ (redists : List (Option Owned)) (others : List Held) where
   pub redists_owe : (n : ℕ) (p : Part) (c : Content) → Owes p c others → Owes p c (redists_held redists n others)
   redists_owe n p c h = row_owes (redist_row redists) others n p c h
 
-  pub redist_owed : (n k : ℕ) (r : Owned) → k < n → in_hand redists k ≡ Some r → Owes (part.Redist (record { 0 = k })) (Redist (redistributor_of r)) (redists_held redists n others)
+  pub redist_owed : (n k : ℕ) (r : Owned) → k < n → in_hand redists k ≡ Some r → Owes (part.Redist (record { 0 = k })) (Redist (redistributor_of r))
+      (redists_held redists n others)
   redist_owed n k r lt is = row_has (redist_row redists) others n k (redist_held k r) lt (ap (held_if_in k) is)
 
-  some_held : (n k : ℕ) (o : Option Owned) → in_hand redists k ≡ o → k < n → is_some o ≡ true → Holds (part.Redist (record { 0 = k })) (redists_held redists n others)
+  some_held : (n k : ℕ) (o : Option Owned) → in_hand redists k ≡ o → k < n → is_some o ≡ true → Holds (part.Redist (record { 0 = k }))
+      (redists_held redists n others)
   some_held n k None is lt some = absurd cc
-  some_held n k (Some r) is lt some = owes_holds (part.Redist (record { 0 = k })) (Redist (redistributor_of r)) (redists_held redists n others) (redist_owed n k r lt is)
+  some_held n k (Some r) is lt some = owes_holds (part.Redist (record { 0 = k })) (Redist (redistributor_of r)) (redists_held redists n others)
+      (redist_owed n k r lt is)
 
   -- each that is in hand is held
   pub redist_holds : (n k : ℕ) → k < n → is_some (in_hand redists k) ≡ true → Holds (part.Redist (record { 0 = k })) (redists_held redists n others)
@@ -82,10 +86,12 @@ module _ (redists : List (Option Owned)) (others : List Held) where
   -- a part that is no redistributor is held only where the others have it
   pub redists_lack : (n : ℕ) (p : Part) → ((vcpu : Vcpu) → part.Redist vcpu ≢ p) → (Holds p others → ⊥) → Holds p (redists_held redists n others) → ⊥
   redists_lack n p other lacks h =
-      row_lacks (redist_row redists) others n p (λ k x lt is e. let i = in_row_is redists k x is in other (record { 0 = k }) (ap (λ (y : Held). y.part) i.is ∙ e)) lacks h
+      row_lacks (redist_row redists) others n p (λ k x lt is e. let i = in_row_is redists k x is in other (record { 0 = k })
+      (ap (λ (y : Held). y.part) i.is ∙ e)) lacks h
 
   -- nor is one of n on
-  pub redist_above : (n k : ℕ) → n ≤ k → (Holds (part.Redist (record { 0 = k })) others → ⊥) → Holds (part.Redist (record { 0 = k })) (redists_held redists n others) → ⊥
+  pub redist_above : (n k : ℕ) → n ≤ k → (Holds (part.Redist (record { 0 = k })) others → ⊥) → Holds (part.Redist (record { 0 = k }))
+      (redists_held redists n others) → ⊥
   unfolding number_of
   redist_above n k le lacks h = row_lacks (redist_row redists) others n (part.Redist (record { 0 = k })) (λ j x lt is e.
       let i = in_row_is redists j x is in
@@ -97,9 +103,11 @@ module _ (redists : List (Option Owned)) (others : List Held) where
 
   pub redists_apart : (n : ℕ) → HoldsNoRedist others → Apart others → Apart (redists_held redists n others)
   redists_apart n lacks apart =
-      row_apart (redist_row redists) others n (differ redists) (λ k x is holds. let i = in_row_is redists k x is in lacks (record { 0 = k }) (subst (λ (y : Held). Holds y.part others) (sym i.is) holds)) apart
+      row_apart (redist_row redists) others n (differ redists) (λ k x is holds. let i = in_row_is redists k x is in lacks (record { 0 = k })
+      (subst (λ (y : Held). Holds y.part others) (sym i.is) holds)) apart
 
-  pub redists_stand : (s : Setup) (set : Option ℕ) (n : ℕ) → AreWanted s set redists → AllByRecursion (λ x. Stands s x.part) others → AllByRecursion (λ x. Stands s x.part) (redists_held redists n others)
+  pub redists_stand : (s : Setup) (set : Option ℕ) (n : ℕ) → AreWanted s set redists → AllByRecursion (λ x. Stands s x.part) others
+      → AllByRecursion (λ x. Stands s x.part) (redists_held redists n others)
   redists_stand s set n are all = row_all (redist_row redists) others (λ x. Stands s x.part) n (λ k x lt is.
       let i = in_row_is redists k x is in
       let some : (is_wanted set k && nat_lt k (vcpu_count s)) ≡ true = sym (are.hand k) ∙ some_is i.redist (in_hand redists k) i.there in
@@ -108,18 +116,22 @@ module _ (redists : List (Option Owned)) (others : List Held) where
   -- ---- what a state has
 
   -- it has all that is held, where it has each redistributor in hand and the others
-  pub redists_had : (u : Plain) (n : ℕ) → ((k : ℕ) (r : Owned) → in_hand redists k ≡ Some r → slice_get u.redistributors k ≡ Some (redistributor_of r)) → HasAll u others → HasAll u (redists_held redists n others)
-  redists_had u n each all = row_all (redist_row redists) others (λ x. Has u x.part x.owed) n (λ k x lt is. let i = in_row_is redists k x is in subst (λ (y : Held). Has u y.part y.owed) i.is (each k i.redist i.there)) all
+  pub redists_had : (u : Plain) (n : ℕ) → ((k : ℕ) (r : Owned) → in_hand redists k ≡ Some r → slice_get u.redistributors k ≡ Some (redistributor_of r))
+      → HasAll u others → HasAll u (redists_held redists n others)
+  redists_had u n each all = row_all (redist_row redists) others (λ x. Has u x.part x.owed) n (λ k x lt is. let i = in_row_is redists k x is in subst
+      (λ (y : Held). Has u y.part y.owed) i.is (each k i.redist i.there)) all
 
   -- and the other way round
-  pub redists_are : (u : Plain) (n : ℕ) → HasAll u (redists_held redists n others) → ((k : ℕ) (r : Owned) → k < n → in_hand redists k ≡ Some r → slice_get u.redistributors k ≡ Some (redistributor_of r)) × HasAll u others
+  pub redists_are : (u : Plain) (n : ℕ) → HasAll u (redists_held redists n others) → ((k : ℕ) (r : Owned) → k < n → in_hand redists k ≡ Some r
+      → slice_get u.redistributors k ≡ Some (redistributor_of r)) × HasAll u others
   redists_are u n all = let each = row_each (redist_row redists) others (λ x. Has u x.part x.owed) n all in (
     (λ k r lt is. each.0 k (redist_held k r) lt (ap (held_if_in k) is)),
     each.1,
   )
 
   -- as the plain machine has them
-  pub redists_of : (s : Setup) (set : Option ℕ) (u : Plain) → AreWanted s set redists → s.start.layout ≡ u.layout → vcpu_count s ≤ 16 → HasAll u (redists_held redists 16 others) → AreRedistributorsOf u redists
+  pub redists_of : (s : Setup) (set : Option ℕ) (u : Plain) → AreWanted s set redists → s.start.layout ≡ u.layout → vcpu_count s ≤ 16
+      → HasAll u (redists_held redists 16 others) → AreRedistributorsOf u redists
   redists_of s set u are same few all = λ k r is.
       let some : (is_wanted set k && nat_lt k (vcpu_count s)) ≡ true = sym (are.hand k) ∙ some_is r (in_hand redists k) is in
       let low : k < vcpu_count s = ltb-true k (vcpu_count s) (and_parts (is_wanted set k) (nat_lt k (vcpu_count s)) some).1 in
@@ -132,36 +144,44 @@ gone_if k None None same is = refl
 gone_if k None (Some r) same is = absurd cc
 gone_if k (Some q) o' same is = absurd cc
 
-new_if : (k : ℕ) (o' : Option Owned) (c : Redistributor) → is_some o' ≡ true → ((r : Owned) → o' ≡ Some r → c ≡ redistributor_of r) → held_if_in k o' ≡ Some (out (part.Redist (record { 0 = k })) (Redist c))
+new_if : (k : ℕ) (o' : Option Owned) (c : Redistributor) → is_some o' ≡ true → ((r : Owned) → o' ≡ Some r → c ≡ redistributor_of r)
+    → held_if_in k o' ≡ Some (out (part.Redist (record { 0 = k })) (Redist c))
 new_if k None c same each = absurd cc
 new_if k (Some r) c same each = ap (λ (y : Redistributor). Some (out (part.Redist (record { 0 = k })) (Redist y))) (sym (each r refl))
 
 -- the same redistributors are in hand, and are those of the state that it leaves
-pub redists_renewed : (s : Setup) (a : Commit) (z : Plain) (redists redists' : List (Option Owned)) (others : List Held) (n : ℕ) → ((k : ℕ) → is_some (in_hand redists' k) ≡ is_some (in_hand redists k))
-    → ((k : ℕ) (r : Owned) → in_hand redists' k ≡ Some r → redistributor z k ≡ redistributor_of r) → renewed s a z (redists_held redists n others) ≡ redists_held redists' n (renewed s a z others)
+pub redists_renewed : (s : Setup) (a : Commit) (z : Plain) (redists redists' : List (Option Owned)) (others : List Held) (n : ℕ)
+    → ((k : ℕ) → is_some (in_hand redists' k) ≡ is_some (in_hand redists k))
+    → ((k : ℕ) (r : Owned) → in_hand redists' k ≡ Some r → redistributor z k ≡ redistributor_of r) → renewed s a z (redists_held redists n others)
+    ≡ redists_held redists' n (renewed s a z others)
 redists_renewed s a z redists redists' others n same each =
-    row_renewed s a z (redist_row redists) (redist_row redists') others n (λ k lt is. gone_if k (in_hand redists k) (in_hand redists' k) (same k) is) (λ k x lt is.
+    row_renewed s a z (redist_row redists) (redist_row redists') others n (λ k lt is. gone_if k (in_hand redists k) (in_hand redists' k) (same k) is)
+    (λ k x lt is.
     let i = in_row_is redists k x is in
     subst (λ (y : Held). redist_row redists' k ≡ Some record y { owed = content_in s a z y.part y.owed }) i.is
     (new_if k (in_hand redists' k) (redistributor z k) (same k ∙ some_is i.redist (in_hand redists k) i.there) (each k)))
 
 -- where the state is one that has them
-pub redists_left : (s : Setup) (a : Commit) (z : Plain) (redists redists' : List (Option Owned)) (others : List Held) (n : ℕ) → ((k : ℕ) → is_some (in_hand redists' k) ≡ is_some (in_hand redists k))
+pub redists_left : (s : Setup) (a : Commit) (z : Plain) (redists redists' : List (Option Owned)) (others : List Held) (n : ℕ)
+    → ((k : ℕ) → is_some (in_hand redists' k) ≡ is_some (in_hand redists k))
     → AreRedistributorsOf z redists' → renewed s a z (redists_held redists n others) ≡ redists_held redists' n (renewed s a z others)
 redists_left s a z redists redists' others n same are =
-    redists_renewed s a z redists redists' others n same (λ k r is. get_or_from_slice_get z.redistributors k (redistributor_of r) no_redistributor (are k r is).same)
+    redists_renewed s a z redists redists' others n same (λ k r is. get_or_from_slice_get z.redistributors k (redistributor_of r) no_redistributor
+    (are k r is).same)
 
 -- ---- all redistributors of a state
 
 -- as its_steps has them for a save
-pub redists_whole : (u : Plain) (redists : List (Option Owned)) (others : List Held) (n : ℕ) → ((k : ℕ) → k < n → (r : Owned) × (in_hand redists k ≡ Some r) × (redistributor u k ≡ redistributor_of r)) → redists_held redists n others ≡ calls.redists_held u n others
+pub redists_whole : (u : Plain) (redists : List (Option Owned)) (others : List Held) (n : ℕ) → ((k : ℕ) → k < n → (r : Owned) × (in_hand redists k ≡ Some r)
+    × (redistributor u k ≡ redistributor_of r)) → redists_held redists n others ≡ calls.redists_held u n others
 unfolding in_row
 redists_whole u redists others zero each = refl
 redists_whole u redists others (suc n) each =
     let one = each n (omega arith) in
     ap (λ (o : Option Owned). with_one (held_if_in n o) (redists_held redists n others)) one.1
     ∙ (ap (λ (r : Redistributor). (let l : List Held = out (part.Redist (record { 0 = n })) (Redist r) ∷ redists_held redists n others in l)) (sym one.2)
-    ∙ ap (λ (l : List Held). (let l' : List Held = out (part.Redist (record { 0 = n })) (Redist (redistributor u n)) ∷ l in l')) (redists_whole u redists others n (λ k lt. each k (omega (arith, lt)))))
+    ∙ ap (λ (l : List Held). (let l' : List Held = out (part.Redist (record { 0 = n })) (Redist (redistributor u n)) ∷ l in l'))
+    (redists_whole u redists others n (λ k lt. each k (omega (arith, lt)))))
 
 -- ---- empty places
 

@@ -1,5 +1,6 @@
 -- Shards taken one by one, and put home one by one.
-use Rattle.std.proofs.Common.{◌≡◌, ◌≢◌, ℕ, zero, suc, ◌<◌, ◌≤◌, false, List, [], ◌∷◌, Option, Some, None, length, set, replicate, refl, ap, sym, ◌∙◌, subst, inl, inr, arith, get_or-set_same, get_or-set_other}
+use Rattle.std.proofs.Common.{◌≡◌, ◌≢◌, ℕ, zero, suc, ◌<◌, ◌≤◌, false, List, [], ◌∷◌, Option, Some, None, length, set, replicate, refl, ap, sym, ◌∙◌, subst}
+use Rattle.std.proofs.Common.{inl, inr, arith, get_or-set_same, get_or-set_other}
 use Rattle.std.proofs.lemmas.Bool.{cases_eq, cases_lt, le-ltb, lt-ltb}
 use Rattle.std.specs.Prelude.{is_some}
 use Rattle.its_types.specs.declared.machine.Part.TheVariants as part
@@ -19,7 +20,11 @@ none_of None e = refl
 none_of (Some ways) e = absurd cc
 
 pub none_taken : (shards : List (Option Ways)) (xs : List Held) → AreNoShards shards → AreTaken 0 shards xs xs
-none_taken shards xs none = record { held = sym (row_none (shard_row shards) xs 0 refl); hand = λ k. ap (λ (o : Option Ways). is_some o) (none k) ∙ sym (le-ltb k 0 (omega arith)) }
+none_taken shards xs none = record {
+  held = sym (row_none (shard_row shards) xs 0 refl);
+  hand = λ k. ap (λ (o : Option Ways). is_some o) (none k)
+      ∙ sym (le-ltb k 0 (omega arith));
+}
 
 module _ (n m : ℕ) (shards : List (Option Ways)) (before now : List Held) (h : AreTaken n shards before now) (next : m ≡ suc n) where
   pub is_free : HoldsNoShard before → Holds (part.Shard 0 n) now → ⊥
@@ -38,10 +43,12 @@ module _ (n m : ℕ) (shards : List (Option Ways)) (before now : List Held) (h :
     pub one_taken : AreTaken m then before now'
     one_taken = record {
       held = more
-          ∙ (ap (λ (l : List Held). (let y : List Held = shard_held n ways ∷ l in y)) (h.held ∙ row_agrees (shard_row shards) (shard_row then) before n (λ k less. ap (held_if_in k) (sym (others k (λ e. omega (arith, less, e))))))
+          ∙ (ap (λ (l : List Held). (let y : List Held = shard_held n ways ∷ l in y)) (h.held ∙ row_agrees (shard_row shards) (shard_row then) before n
+          (λ k less. ap (held_if_in k) (sym (others k (λ e. omega (arith, less, e))))))
           ∙ sym (row_first (shard_row then) before m n (shard_held n ways) next (ap (held_if_in n) here)));
       hand = λ k. elim (cases_lt k n) [
-        | inl below ↦ ap (λ (o : Option Ways). is_some o) (others k (λ e. omega (arith, below, e))) ∙ (h.hand k ∙ (lt-ltb k n below ∙ sym (lt-ltb k m (omega (arith, below, next)))))
+        | inl below ↦ ap (λ (o : Option Ways). is_some o) (others k (λ e. omega (arith, below, e)))
+            ∙ (h.hand k ∙ (lt-ltb k n below ∙ sym (lt-ltb k m (omega (arith, below, next)))))
         | inr le ↦ elim (cases_eq k n) [
           | inl e ↦ ap (λ (o : Option Ways). is_some o) (ap (in_place then) e ∙ here) ∙ sym (lt-ltb k m (omega (arith, e, next)))
           | inr ne ↦ ap (λ (o : Option Ways). is_some o) (others k ne) ∙ (h.hand k ∙ (le-ltb k n le ∙ sym (le-ltb k m (omega (arith, le, ne, next)))))
@@ -49,7 +56,8 @@ module _ (n m : ℕ) (shards : List (Option Ways)) (before now : List Held) (h :
       ];
     }
 
-pub all_taken : (n m : ℕ) (shards : List (Option Ways)) (before now : List Held) → n ≡ m → AreTaken n shards before now → (now ≡ shards_held shards m before) × AreShards m shards
+pub all_taken : (n m : ℕ) (shards : List (Option Ways)) (before now : List Held) → n ≡ m → AreTaken n shards before now → (now ≡ shards_held shards m before)
+    × AreShards m shards
 all_taken n m shards before now is h = (h.held ∙ ap (λ (k : ℕ). shards_held shards k before) is, subst (λ (k : ℕ). AreShards k shards) is h.hand)
 
 -- ---- put home

@@ -76,7 +76,8 @@ module _ (shards : List (Option Ways)) (others : List Held) where
 
   -- a part that is no shard is held only where the others have it
   pub shards_lack : (n : ℕ) (p : Part) → ((k : ℕ) → part.Shard 0 k ≢ p) → (Holds p others → ⊥) → Holds p (shards_held shards n others) → ⊥
-  shards_lack n p other lacks h = row_lacks (shard_row shards) others n p (λ k x lt is e. let i = in_row_is shards k x is in other k (ap (λ (y : Held). y.part) i.is ∙ e)) lacks h
+  shards_lack n p other lacks h = row_lacks (shard_row shards) others n p (λ k x lt is e. let i = in_row_is shards k x is in other k
+      (ap (λ (y : Held). y.part) i.is ∙ e)) lacks h
 
   -- nor is one of n on
   pub shard_above : (n k : ℕ) → n ≤ k → (Holds (part.Shard 0 k) others → ⊥) → Holds (part.Shard 0 k) (shards_held shards n others) → ⊥
@@ -90,15 +91,18 @@ module _ (shards : List (Option Ways)) (others : List Held) where
   shards_out n all = row_all (shard_row shards) others IsOut n (λ k x lt is. let i = in_row_is shards k x is in ap (λ (y : Held). y.out) (sym i.is)) all
 
   pub shards_apart : (n : ℕ) → HoldsNoShard others → Apart others → Apart (shards_held shards n others)
-  shards_apart n lacks apart = row_apart (shard_row shards) others n (differ shards) (λ k x is holds. let i = in_row_is shards k x is in lacks k (subst (λ (y : Held). Holds y.part others) (sym i.is) holds)) apart
+  shards_apart n lacks apart = row_apart (shard_row shards) others n (differ shards) (λ k x is holds. let i = in_row_is shards k x is in lacks k
+      (subst (λ (y : Held). Holds y.part others) (sym i.is) holds)) apart
 
-  pub shards_stand : (s : Setup) (n : ℕ) → 0 < translator_count s → n ≤ s.shards → AllByRecursion (λ x. Stands s x.part) others → AllByRecursion (λ x. Stands s x.part) (shards_held shards n others)
+  pub shards_stand : (s : Setup) (n : ℕ) → 0 < translator_count s → n ≤ s.shards → AllByRecursion (λ x. Stands s x.part) others
+      → AllByRecursion (λ x. Stands s x.part) (shards_held shards n others)
   shards_stand s n it le all = row_all (shard_row shards) others (λ x. Stands s x.part) n (λ k x lt is.
       let i = in_row_is shards k x is in subst (λ (y : Held). Stands s y.part) i.is (it, (let low : k < s.shards = omega (arith, lt, le) in low))) all
 
   -- every state has them, and so all that is held where it has the others
   pub shards_had : (u : Plain) (n : ℕ) → HasAll u others → HasAll u (shards_held shards n others)
-  shards_had u n all = row_all (shard_row shards) others (λ x. Has u x.part x.owed) n (λ k x lt is. let i = in_row_is shards k x is in subst (λ (y : Held). Has u y.part y.owed) i.is tt) all
+  shards_had u n all = row_all (shard_row shards) others (λ x. Has u x.part x.owed) n (λ k x lt is. let i = in_row_is shards k x is in subst
+      (λ (y : Held). Has u y.part y.owed) i.is tt) all
 
   pub shards_rest : (u : Plain) (n : ℕ) → HasAll u (shards_held shards n others) → HasAll u others
   shards_rest u n all = (row_each (shard_row shards) others (λ x. Has u x.part x.owed) n all).1
@@ -116,7 +120,8 @@ emptied_some (Some ways) = refl
 
 module _ (s : Setup) (a : Commit) (z : Plain) (first : its_of a.call ≡ 0) where
   shards_renewed : (old new : List (Option Ways)) (others : List Held) (n : ℕ) → ((k : ℕ) → is_some (in_place new k) ≡ is_some (in_place old k))
-      → ((k : ℕ) (ways : Ways) → in_place old k ≡ Some ways → in_place new k ≡ Some (changed s (word_after a) a.call a.change 0 k ways)) → renewed s a z (shards_held old n others) ≡ shards_held new n (renewed s a z others)
+      → ((k : ℕ) (ways : Ways) → in_place old k ≡ Some ways → in_place new k ≡ Some (changed s (word_after a) a.call a.change 0 k ways))
+      → renewed s a z (shards_held old n others) ≡ shards_held new n (renewed s a z others)
   shards_renewed old new others n same each =
       row_renewed s a z (shard_row old) (shard_row new) others n (λ k lt is. gone_if k (in_place old k) (in_place new k) (same k) is) (λ k x lt is.
       let i = in_row_is old k x is in
@@ -131,10 +136,13 @@ module _ (s : Setup) (a : Commit) (z : Plain) (first : its_of a.call ≡ 0) wher
   keeps k ways is = rw (is) refl
 
   -- they are emptied
-  pub shards_emptied : (old new : List (Option Ways)) (others : List Held) (n : ℕ) → a.change ≡ Empty → AreEmptied old new → renewed s a z (shards_held old n others) ≡ shards_held new n (renewed s a z others)
+  pub shards_emptied : (old new : List (Option Ways)) (others : List Held) (n : ℕ) → a.change ≡ Empty → AreEmptied old new
+      → renewed s a z (shards_held old n others) ≡ shards_held new n (renewed s a z others)
   shards_emptied old new others n is are =
-      shards_renewed old new others n (λ k. ap (λ (o : Option Ways). is_some o) (are k) ∙ emptied_some (in_place old k)) (λ k ways there. are k ∙ (ap emptied there ∙ ap (λ (w : Ways). Some w) (sym (empties k ways is))))
+      shards_renewed old new others n (λ k. ap (λ (o : Option Ways). is_some o) (are k) ∙ emptied_some (in_place old k))
+      (λ k ways there. are k ∙ (ap emptied there ∙ ap (λ (w : Ways). Some w) (sym (empties k ways is))))
 
   -- or stay as they were
-  pub shards_kept : (shards : List (Option Ways)) (others : List Held) (n : ℕ) → a.change ≡ Keep → renewed s a z (shards_held shards n others) ≡ shards_held shards n (renewed s a z others)
+  pub shards_kept : (shards : List (Option Ways)) (others : List Held) (n : ℕ) → a.change ≡ Keep → renewed s a z (shards_held shards n others)
+      ≡ shards_held shards n (renewed s a z others)
   shards_kept shards others n is = shards_renewed shards shards others n (λ k. refl) (λ k ways there. there ∙ ap (λ (w : Ways). Some w) (sym (keeps k ways is)))

@@ -1,5 +1,6 @@
 -- What a status says, by what the words are and by what was read.
-use Rattle.std.proofs.Common.{◌≡◌, ◌⊎◌, ℕ, ◌<◌, ◌≤◌, List, [], ◌∷◌, ◌++◌, length, codes, Bool, true, false, Option, Some, None, Result, Ok, Err, refl, sym, ap, subst, ◌∙◌, inl, inr, arith}
+use Rattle.std.proofs.Common.{◌≡◌, ◌⊎◌, ℕ, ◌<◌, ◌≤◌, List, [], ◌∷◌, ◌++◌, length, codes, Bool, true, false, Option, Some, None, Result, Ok, Err, refl, sym, ap}
+use Rattle.std.proofs.Common.{subst, ◌∙◌, inl, inr, arith}
 use Rattle.std.specs.Prelude.{MatchBool}
 use Rattle.gits_regs.specs.declared.values.RegValues.{RegValues}
 use Rattle.its_types.specs.declared.translation.Bases.{Bases}
@@ -17,7 +18,8 @@ use Rattle.its_words.specs.Words.{asked_of}
 use Rattle.its_words.specs.declared.words.Asked.{Asked}
 use Rattle.its_words.specs.declared.words.Asked.TheVariants.{Run, Check, Gen}
 use Rattle.its_cli.specs.Checked.{CheckCauses}
-use Rattle.its_cli.specs.Its.{Causes, RunCauses, WordsCauses, AskedCauses, IsScript, OfScript, IsReport, IsMigrationRefusal, IsSpentReport, IsCutShort, IsDecided, IsRunDecided, AskedDecides}
+use Rattle.its_cli.specs.Its.{Causes, RunCauses, WordsCauses, AskedCauses, IsScript, OfScript, IsReport, IsMigrationRefusal, IsSpentReport, IsCutShort}
+use Rattle.its_cli.specs.Its.{IsDecided, IsRunDecided, AskedDecides}
 use Rattle.its_cli.specs.Streams.{WasRead}
 use Rattle.its_cli.specs.Summarized.{GenCauses}
 use Rattle.its_cli.specs.Answered.{InputCauses, RunEnds, IsSoFar, StopsShort}
@@ -32,14 +34,16 @@ use Rattle.its_cli.proofs.Endings.{ends_well, ends_spent, ends_refused, all_end_
 
 -- ---- by what the words ask for
 
-pub asked_causes : (words : List (List ℕ)) (asked : Option Asked) (told : Option (List ℕ)) (rose : Type 0) (s : Status) (text : List ℕ) → asked_of words ≡ asked → AskedCauses asked told rose s text
+pub asked_causes : (words : List (List ℕ)) (asked : Option Asked) (told : Option (List ℕ)) (rose : Type 0) (s : Status) (text : List ℕ) → asked_of words ≡ asked
+    → AskedCauses asked told rose s text
     → Causes words told rose s text
 asked_causes words asked told rose s text is h = subst (λ (a : Option Asked). AskedCauses a told rose s text) (sym is) h
 
 -- ---- by what was read
 
 -- what was read and what it says
-pub read_causes : (told : Option (List ℕ)) (rose : Type 0) (input : List ℕ) (s : Status) (text : List ℕ) → WasRead told input → InputCauses input s text → RunCauses told rose s text
+pub read_causes : (told : Option (List ℕ)) (rose : Type 0) (input : List ℕ) (s : Status) (text : List ℕ) → WasRead told input → InputCauses input s text
+    → RunCauses told rose s text
 read_causes told rose input status.Ok text was h = (input, (was, h))
 read_causes told rose input status.ScriptRefused text was h = (input, (was, h))
 read_causes told rose input status.WordsRefused text was h = absurd h
@@ -53,11 +57,13 @@ read_causes told rose input status.TooLong text was h = absurd h
 read_causes told rose input status.TraceDiffers text was h = absurd h
 read_causes told rose input status.BadTrace text was h = absurd h
 
-of_script : (Says : Script → Plain → List ℕ → Type 0) (input : List ℕ) (script : Script) (first : Plain) (text : List ℕ) → IsScript input script first → Says script first text → OfScript Says input text
+of_script : (Says : Script → Plain → List ℕ → Type 0) (input : List ℕ) (script : Script) (first : Plain) (text : List ℕ) → IsScript input script first
+    → Says script first text → OfScript Says input text
 of_script Says input script first text is h = record { script = script; first = first; is_script = is; off = scripts_off input script is.read; says = h }
 
 -- a run of a script that was read
-pub run_causes : (input : List ℕ) (script : Script) (first : Plain) (s : Status) (text : List ℕ) → IsScript input script first → RunEnds script first s text → InputCauses input s text
+pub run_causes : (input : List ℕ) (script : Script) (first : Plain) (s : Status) (text : List ℕ) → IsScript input script first → RunEnds script first s text
+    → InputCauses input s text
 run_causes input script first status.Ok text is h = of_script IsReport input script first text is h
 run_causes input script first status.ScriptRefused text is h = absurd h
 run_causes input script first status.WordsRefused text is h = absurd h
@@ -72,7 +78,8 @@ run_causes input script first status.TraceDiffers text is h = absurd h
 run_causes input script first status.BadTrace text is h = absurd h
 
 -- memory ran out in it
-pub so_far : (input : List ℕ) (script : Script) (first : Plain) (report : List ℕ) → IsScript input script first → IsSoFar script first report → StopsShort input report
+pub so_far : (input : List ℕ) (script : Script) (first : Plain) (report : List ℕ) → IsScript input script first → IsSoFar script first report
+    → StopsShort input report
 so_far input script first report is h = inr (of_script IsSoFar input script first report is h)
 
 cut_short : (script : Script) (first : Plain) (report : List ℕ) → IsSoFar script first report → IsCutShort script first (report ++ codes "refused memory\n")
@@ -90,11 +97,19 @@ cut_short script first report h =
       same = ap (λ (t : List ℕ). t ++ codes "refused memory\n") h.same;
     }
 
-pub short_causes : (told : Option (List ℕ)) (rose : Type 0) (input report : List ℕ) → WasRead told input → StopsShort input report → RunCauses told rose status.Memory (report ++ codes "refused memory\n")
+pub short_causes : (told : Option (List ℕ)) (rose : Type 0) (input report : List ℕ) → WasRead told input → StopsShort input report
+    → RunCauses told rose status.Memory (report ++ codes "refused memory\n")
 short_causes told rose input report was h =
     elim h [
       | inl none ↦ inl (ap (λ (t : List ℕ). t ++ codes "refused memory\n") none)
-      | inr some ↦ inr (input, (was, of_script IsCutShort input some.script some.first (report ++ codes "refused memory\n") some.is_script (cut_short some.script some.first report some.says)))
+      | inr some ↦ inr (
+        input,
+        (
+          was,
+          of_script IsCutShort input some.script some.first (report ++ codes "refused memory\n") some.is_script
+              (cut_short some.script some.first report some.says),
+        ),
+      )
     ]
 
 -- ---- what decides
@@ -102,7 +117,8 @@ short_causes told rose input report was h =
 abbrev Ended : Status → Status → Type 0
 Ended s expected = (s ≡ expected) ⊎ (s ≡ status.Memory)
 
-long : (input : List ℕ) (rose : Type 0) (s : Status) (text : List ℕ) → ¬ rose → RunCauses (Some input) rose s text → 16777216 < length input → Ended s status.TooLong
+long : (input : List ℕ) (rose : Type 0) (s : Status) (text : List ℕ) → ¬ rose → RunCauses (Some input) rose s text → 16777216 < length input
+    → Ended s status.TooLong
 long input rose status.Ok text calm h lt = too_short input h.0 h.1.0 lt
 long input rose status.ScriptRefused text calm h lt = too_short input h.0 h.1.0 lt
 long input rose status.WordsRefused text calm h lt = absurd h
@@ -117,17 +133,21 @@ long input rose status.TraceDiffers text calm h lt = absurd h
 long input rose status.BadTrace text calm h lt = absurd h
 
 -- bytes that are no script don't say anything of one
-no_such : {X : Type 0} (Says : Script → Plain → List ℕ → Type 0) (input read text : List ℕ) (fault : ScriptFault) → WasRead (Some input) read → OfScript Says read text → script_of input ≡ Err fault → X
-no_such Says input read text fault was h e = not_both (script_of read) h.script fault h.is_script.read (subst (λ (i : List ℕ). script_of i ≡ Err fault) was.whole e)
+no_such : {X : Type 0} (Says : Script → Plain → List ℕ → Type 0) (input read text : List ℕ) (fault : ScriptFault) → WasRead (Some input) read
+    → OfScript Says read text → script_of input ≡ Err fault → X
+no_such Says input read text fault was h e = not_both (script_of read) h.script fault h.is_script.read
+    (subst (λ (i : List ℕ). script_of i ≡ Err fault) was.whole e)
 
-no_script : (input : List ℕ) (rose : Type 0) (s : Status) (text : List ℕ) → ¬ rose → RunCauses (Some input) rose s text → length input ≤ 16777216 → (fault : ScriptFault) → script_of input ≡ Err fault → Ended s status.ScriptRefused
+no_script : (input : List ℕ) (rose : Type 0) (s : Status) (text : List ℕ) → ¬ rose → RunCauses (Some input) rose s text → length input ≤ 16777216
+    → (fault : ScriptFault) → script_of input ≡ Err fault → Ended s status.ScriptRefused
 no_script input rose status.Ok text calm h le fault e = no_such IsReport input h.0 text fault h.1.0 h.1.1 e
 no_script input rose status.ScriptRefused text calm h le fault e = inl refl
 no_script input rose status.WordsRefused text calm h le fault e = absurd h
 no_script input rose status.ReadFault text calm h le fault e = absurd (calm h.0)
 no_script input rose status.WriteFault text calm h le fault e = absurd h
 no_script input rose status.Memory text calm h le fault e = inr refl
-no_script input rose status.MachineRefused text calm h le fault e = not_both (script_of h.0) h.1.1.script fault h.1.1.read (subst (λ (i : List ℕ). script_of i ≡ Err fault) h.1.0.whole e)
+no_script input rose status.MachineRefused text calm h le fault e = not_both (script_of h.0) h.1.1.script fault h.1.1.read
+    (subst (λ (i : List ℕ). script_of i ≡ Err fault) h.1.0.whole e)
 no_script input rose status.MigrationRefused text calm h le fault e = no_such IsMigrationRefusal input h.0 text fault h.1.0 h.1.1 e
 no_script input rose status.Spent text calm h le fault e = no_such IsSpentReport input h.0 text fault h.1.0 h.1.1 e
 no_script input rose status.TooLong text calm h le fault e = absurd (omega (arith, h.0, le))
@@ -135,7 +155,8 @@ no_script input rose status.TraceDiffers text calm h le fault e = absurd h
 no_script input rose status.BadTrace text calm h le fault e = absurd h
 
 -- nor does a script whose machine is refused
-no_run : {X : Type 0} (Says : Script → Plain → List ℕ → Type 0) (input read text : List ℕ) (script : Script) (fault : DescFault) → WasRead (Some input) read → OfScript Says read text
+no_run : {X : Type 0} (Says : Script → Plain → List ℕ → Type 0) (input read text : List ℕ) (script : Script) (fault : DescFault) → WasRead (Some input) read
+    → OfScript Says read text
     → script_of input ≡ Ok script → IsRefused script.desc fault → X
 no_run Says input read text script fault was h e none =
     let same : script ≡ h.script = same_ok (script_of read) script h.script (subst (λ (i : List ℕ). script_of i ≡ Ok script) was.whole e) h.is_script.read in
@@ -144,7 +165,8 @@ no_run Says input read text script fault was h e none =
 no_machine : (input : List ℕ) (rose : Type 0) (s : Status) (text : List ℕ) → ¬ rose → RunCauses (Some input) rose s text → length input ≤ 16777216
     → (script : Script) (fault : DescFault) → script_of input ≡ Ok script → IsRefused script.desc fault → Ended s status.MachineRefused
 no_machine input rose status.Ok text calm h le script fault e none = no_run IsReport input h.0 text script fault h.1.0 h.1.1 e none
-no_machine input rose status.ScriptRefused text calm h le script fault e none = not_both (script_of h.0) script h.1.1.fault (subst (λ (i : List ℕ). script_of i ≡ Ok script) h.1.0.whole e) h.1.1.read
+no_machine input rose status.ScriptRefused text calm h le script fault e none = not_both (script_of h.0) script h.1.1.fault
+    (subst (λ (i : List ℕ). script_of i ≡ Ok script) h.1.0.whole e) h.1.1.read
 no_machine input rose status.WordsRefused text calm h le script fault e none = absurd h
 no_machine input rose status.ReadFault text calm h le script fault e none = absurd (calm h.0)
 no_machine input rose status.WriteFault text calm h le script fault e none = absurd h
@@ -159,30 +181,39 @@ no_machine input rose status.BadTrace text calm h le script fault e none = absur
 -- ---- how a script's run ends
 
 -- what is said of a script that was read is said of the input's, from its first state
-same_says : (Says : Script → Plain → List ℕ → Type 0) (input read text : List ℕ) (script : Script) (first : Plain) → WasRead (Some input) read → OfScript Says read text → IsScript input script first → Says script first text
+same_says : (Says : Script → Plain → List ℕ → Type 0) (input read text : List ℕ) (script : Script) (first : Plain) → WasRead (Some input) read
+    → OfScript Says read text → IsScript input script first → Says script first text
 same_says Says input read text script first was h is =
     let read_is : script_of read ≡ Ok script = subst (λ (i : List ℕ). script_of i ≡ Ok script) was.whole is.read in
     let same : h.script ≡ script = same_ok (script_of read) h.script script h.is_script.read read_is in
-    let start : h.first ≡ first = first_once script.desc h.first first (subst (λ (s : Script). IsFirstState s.desc h.first) same h.is_script.starts) is.starts in
+    let start : h.first ≡ first = first_once script.desc h.first first (subst (λ (s : Script). IsFirstState s.desc h.first) same h.is_script.starts)
+    is.starts in
     subst (λ (u : Plain). Says script u text) start (subst (λ (s : Script). Says s h.first text) same h.says)
 
 abbrev Expected : Script → Plain → Status → Type 0
 Expected script first s = AllEnd script.desc.limits.place_last first script.legs s
 
-report_ends : (script : Script) (first : Plain) (text : List ℕ) (expected : Status) → IsReport script first text → Expected script first expected → expected ≡ status.Ok
+report_ends : (script : Script) (first : Plain) (text : List ℕ) (expected : Status) → IsReport script first text → Expected script first expected
+    → expected ≡ status.Ok
 report_ends script first text expected r all = ends_well script.desc.limits.place_last first script.legs r.histories expected r.is_run r.places all
 
-spent_ends : (script : Script) (first : Plain) (text : List ℕ) (expected : Status) → IsSpentReport script first text → Expected script first expected → expected ≡ status.Spent
-spent_ends script first text expected r all = ends_spent script.desc.limits.place_last first script.legs r.histories r.now r.leg r.later expected r.earlier r.more all
+spent_ends : (script : Script) (first : Plain) (text : List ℕ) (expected : Status) → IsSpentReport script first text → Expected script first expected
+    → expected ≡ status.Spent
+spent_ends script first text expected r all = ends_spent script.desc.limits.place_last first script.legs r.histories r.now r.leg r.later expected r.earlier
+    r.more all
 
-refusal_ends : (script : Script) (first : Plain) (text : List ℕ) (expected : Status) → IsMigrationRefusal script first text → Expected script first expected → expected ≡ status.MigrationRefused
+refusal_ends : (script : Script) (first : Plain) (text : List ℕ) (expected : Status) → IsMigrationRefusal script first text → Expected script first expected
+    → expected ≡ status.MigrationRefused
 refusal_ends script first text expected r all =
-    ends_refused script.desc.limits.place_last first script.legs r.histories r.now r.leg r.next r.later r.history r.fault expected r.earlier r.places r.is_run r.refused all
+    ends_refused script.desc.limits.place_last first script.legs r.histories r.now r.leg r.next r.later r.history r.fault expected r.earlier r.places r.is_run
+    r.refused all
 
 by_runs : (input : List ℕ) (rose : Type 0) (s : Status) (text : List ℕ) → ¬ rose → RunCauses (Some input) rose s text → length input ≤ 16777216
     → (script : Script) (first : Plain) → IsScript input script first → (expected : Status) → Expected script first expected → Ended s expected
-by_runs input rose status.Ok text calm h le script first is expected all = inl (sym (report_ends script first text expected (same_says IsReport input h.0 text script first h.1.0 h.1.1 is) all))
-by_runs input rose status.ScriptRefused text calm h le script first is expected all = not_both (script_of h.0) script h.1.1.fault (subst (λ (i : List ℕ). script_of i ≡ Ok script) h.1.0.whole is.read) h.1.1.read
+by_runs input rose status.Ok text calm h le script first is expected all =
+    inl (sym (report_ends script first text expected (same_says IsReport input h.0 text script first h.1.0 h.1.1 is) all))
+by_runs input rose status.ScriptRefused text calm h le script first is expected all = not_both (script_of h.0) script h.1.1.fault
+    (subst (λ (i : List ℕ). script_of i ≡ Ok script) h.1.0.whole is.read) h.1.1.read
 by_runs input rose status.WordsRefused text calm h le script first is expected all = absurd h
 by_runs input rose status.ReadFault text calm h le script first is expected all = absurd (calm h.0)
 by_runs input rose status.WriteFault text calm h le script first is expected all = absurd h
@@ -191,8 +222,10 @@ by_runs input rose status.MachineRefused text calm h le script first is expected
     let read_is : script_of h.0 ≡ Ok script = subst (λ (i : List ℕ). script_of i ≡ Ok script) h.1.0.whole is.read in
     let same : h.1.1.script ≡ script = same_ok (script_of h.0) h.1.1.script script h.1.1.read read_is in
     made_once script.desc first h.1.1.fault is.starts (subst (λ (t : Script). IsRefused t.desc h.1.1.fault) same h.1.1.refused)
-by_runs input rose status.MigrationRefused text calm h le script first is expected all = inl (sym (refusal_ends script first text expected (same_says IsMigrationRefusal input h.0 text script first h.1.0 h.1.1 is) all))
-by_runs input rose status.Spent text calm h le script first is expected all = inl (sym (spent_ends script first text expected (same_says IsSpentReport input h.0 text script first h.1.0 h.1.1 is) all))
+by_runs input rose status.MigrationRefused text calm h le script first is expected all =
+    inl (sym (refusal_ends script first text expected (same_says IsMigrationRefusal input h.0 text script first h.1.0 h.1.1 is) all))
+by_runs input rose status.Spent text calm h le script first is expected all =
+    inl (sym (spent_ends script first text expected (same_says IsSpentReport input h.0 text script first h.1.0 h.1.1 is) all))
 by_runs input rose status.TooLong text calm h le script first is expected all = absurd (omega (arith, h.0, le))
 by_runs input rose status.TraceDiffers text calm h le script first is expected all = absurd h
 by_runs input rose status.BadTrace text calm h le script first is expected all = absurd h
@@ -204,7 +237,8 @@ run_decided input rose s text calm ran = record {
   machine_refused = λ le script fault e none. no_machine input rose s text calm ran le script fault e none;
   spent = λ le script first it all. by_runs input rose s text calm ran le script first it status.Spent all;
   migration_refused = λ le script first it all. by_runs input rose s text calm ran le script first it status.MigrationRefused all;
-  complete = λ le script first it places can. by_runs input rose s text calm ran le script first it status.Ok (all_end_well script.desc.limits.place_last first script.legs places can);
+  complete = λ le script first it places can. by_runs input rose s text calm ran le script first it status.Ok
+      (all_end_well script.desc.limits.place_last first script.legs places can);
 }
 
 words_end : (s : Status) (text : List ℕ) → WordsCauses s text → Ended s status.WordsRefused
@@ -235,7 +269,8 @@ gen_end signals threads status.TooLong text h = absurd h
 gen_end signals threads status.TraceDiffers text h = absurd h
 gen_end signals threads status.BadTrace text h = absurd h
 
-pub decided : (words : List (List ℕ)) (told : Option (List ℕ)) (rose : Type 0) (s : Status) (text : List ℕ) → ¬ rose → Causes words told rose s text → IsDecided words told s
+pub decided : (words : List (List ℕ)) (told : Option (List ℕ)) (rose : Type 0) (s : Status) (text : List ℕ) → ¬ rose → Causes words told rose s text
+    → IsDecided words told s
 decided words told rose s text calm h = go (asked_of words) h
   where
     go : (asked : Option Asked) → AskedCauses asked told rose s text → AskedDecides asked told s
@@ -262,7 +297,8 @@ or_write_fault status.TraceDiffers = inr (λ e. absurd cc)
 or_write_fault status.BadTrace = inr (λ e. absurd cc)
 
 -- what is said is not a write's fault
-pub no_write_fault : (words : List (List ℕ)) (told : Option (List ℕ)) (rose : Type 0) (s : Status) (text : List ℕ) → Causes words told rose s text → s ≡ status.WriteFault → ⊥
+pub no_write_fault : (words : List (List ℕ)) (told : Option (List ℕ)) (rose : Type 0) (s : Status) (text : List ℕ) → Causes words told rose s text
+    → s ≡ status.WriteFault → ⊥
 no_write_fault words told rose s text h e = go (asked_of words) (subst (λ (t : Status). Causes words told rose t text) e h)
   where
     go : (asked : Option Asked) → AskedCauses asked told rose status.WriteFault text → ⊥

@@ -11,7 +11,8 @@ use Rattle.its_history.specs.Reading.{trace_of, legs_from, lines_left, is_over, 
 use Rattle.its_history.specs.Reports.{reported}
 use Rattle.its_history.specs.declared.trace.Leg.{Leg as LegLines}
 use Rattle.trace_check.specs.Verdicts.{IsReportOfRun}
-use Rattle.its_cli.specs.Checked.{CheckCauses, CheckSays, ReportCauses, OfReport, IsAgreement, IsDiffering, IsBadTrace, IsNoScript, IsNoMachine, IsCheckInput, read_report}
+use Rattle.its_cli.specs.Checked.{CheckCauses, CheckSays, ReportCauses, OfReport, IsAgreement, IsDiffering, IsBadTrace, IsNoScript, IsNoMachine, IsCheckInput}
+use Rattle.its_cli.specs.Checked.{read_report}
 use Rattle.its_cli.specs.Its.{IsCheckDecided}
 use Rattle.its_cli.specs.Streams.{WasRead}
 use Rattle.its_cli.specs.declared.status.Status.{Status}
@@ -20,7 +21,8 @@ use Rattle.its_cli.proofs.Once.{same_ok, not_both, first_once, made_once, too_sh
 
 -- ---- what was read and what it says
 
-pub said_causes : (told : Option (List ℕ)) (rose : Type 0) (input : List ℕ) (s : Status) (text : List ℕ) → WasRead told input → CheckSays input s text → CheckCauses told rose s text
+pub said_causes : (told : Option (List ℕ)) (rose : Type 0) (input : List ℕ) (s : Status) (text : List ℕ) → WasRead told input → CheckSays input s text
+    → CheckCauses told rose s text
 said_causes told rose input status.Ok text was h = (input, (was, h))
 said_causes told rose input status.ScriptRefused text was h = (input, (was, h))
 said_causes told rose input status.WordsRefused text was h = absurd h
@@ -35,7 +37,8 @@ said_causes told rose input status.TraceDiffers text was h = (input, (was, h))
 said_causes told rose input status.BadTrace text was h = (input, (was, h))
 
 -- a report of a script that was read
-pub report_said : (input : List ℕ) (script : Script) (first : Plain) (report : List ℕ) (s : Status) (text : List ℕ) → IsCheckInput input script first report → ReportCauses script first report s text
+pub report_said : (input : List ℕ) (script : Script) (first : Plain) (report : List ℕ) (s : Status) (text : List ℕ) → IsCheckInput input script first report
+    → ReportCauses script first report s text
     → CheckSays input s text
 report_said input script first report status.Ok text is h = record { script = script; first = first; report = report; is_input = is; says = h }
 report_said input script first report status.ScriptRefused text is h = absurd h
@@ -55,7 +58,8 @@ report_said input script first report status.BadTrace text is h = record { scrip
 abbrev Ended : Status → Status → Type 0
 Ended s expected = (s ≡ expected) ⊎ (s ≡ status.Memory)
 
-long : (input : List ℕ) (rose : Type 0) (s : Status) (text : List ℕ) → ¬ rose → CheckCauses (Some input) rose s text → 16777216 < length input → Ended s status.TooLong
+long : (input : List ℕ) (rose : Type 0) (s : Status) (text : List ℕ) → ¬ rose → CheckCauses (Some input) rose s text → 16777216 < length input
+    → Ended s status.TooLong
 long input rose status.Ok text calm h lt = too_short input h.0 h.1.0 lt
 long input rose status.ScriptRefused text calm h lt = too_short input h.0 h.1.0 lt
 long input rose status.WordsRefused text calm h lt = absurd h
@@ -73,10 +77,12 @@ long input rose status.BadTrace text calm h lt = too_short input h.0 h.1.0 lt
 read_as : (input read : List ℕ) → WasRead (Some input) read → (x : Result (Script × List (List ℕ)) ScriptFault) → check_of input ≡ x → check_of read ≡ x
 read_as input read was x e = subst (λ (i : List ℕ). check_of i ≡ x) was.whole e
 
-no_such : {X : Type 0} (Says : Script → Plain → List ℕ → List ℕ → Type 0) (input read text : List ℕ) (fault : ScriptFault) → WasRead (Some input) read → OfReport Says read text → check_of input ≡ Err fault → X
+no_such : {X : Type 0} (Says : Script → Plain → List ℕ → List ℕ → Type 0) (input read text : List ℕ) (fault : ScriptFault) → WasRead (Some input) read
+    → OfReport Says read text → check_of input ≡ Err fault → X
 no_such Says input read text fault was h e = not_both (check_of read) (h.script, parts h.report) fault h.is_input.read (read_as input read was (Err fault) e)
 
-no_script : (input : List ℕ) (rose : Type 0) (s : Status) (text : List ℕ) → ¬ rose → CheckCauses (Some input) rose s text → length input ≤ 16777216 → (fault : ScriptFault) → check_of input ≡ Err fault
+no_script : (input : List ℕ) (rose : Type 0) (s : Status) (text : List ℕ) → ¬ rose → CheckCauses (Some input) rose s text → length input ≤ 16777216
+    → (fault : ScriptFault) → check_of input ≡ Err fault
     → Ended s status.ScriptRefused
 no_script input rose status.Ok text calm h le fault e = no_such IsAgreement input h.0 text fault h.1.0 h.1.1 e
 no_script input rose status.ScriptRefused text calm h le fault e = inl refl
@@ -84,7 +90,8 @@ no_script input rose status.WordsRefused text calm h le fault e = absurd h
 no_script input rose status.ReadFault text calm h le fault e = absurd (calm h.0)
 no_script input rose status.WriteFault text calm h le fault e = absurd h
 no_script input rose status.Memory text calm h le fault e = inr refl
-no_script input rose status.MachineRefused text calm h le fault e = not_both (check_of h.0) (h.1.1.script, h.1.1.lines) fault h.1.1.read (read_as input h.0 h.1.0 (Err fault) e)
+no_script input rose status.MachineRefused text calm h le fault e = not_both (check_of h.0) (h.1.1.script, h.1.1.lines) fault h.1.1.read
+    (read_as input h.0 h.1.0 (Err fault) e)
 no_script input rose status.MigrationRefused text calm h le fault e = absurd h
 no_script input rose status.Spent text calm h le fault e = absurd h
 no_script input rose status.TooLong text calm h le fault e = absurd (omega (arith, h.0, le))
@@ -97,16 +104,19 @@ same_script read s t ls ms a b = ap (λ (p : Script × List (List ℕ)). p.0) (s
 same_lines : (read : List ℕ) (s t : Script) (ls ms : List (List ℕ)) → check_of read ≡ Ok (s, ls) → check_of read ≡ Ok (t, ms) → ls ≡ ms
 same_lines read s t ls ms a b = ap (λ (p : Script × List (List ℕ)). p.1) (same_ok (check_of read) (s, ls) (t, ms) a b)
 
-no_run : {X : Type 0} (Says : Script → Plain → List ℕ → List ℕ → Type 0) (input read text : List ℕ) (script : Script) (lines : List (List ℕ)) (fault : DescFault) → WasRead (Some input) read → OfReport Says read text
+no_run : {X : Type 0} (Says : Script → Plain → List ℕ → List ℕ → Type 0) (input read text : List ℕ) (script : Script) (lines : List (List ℕ))
+    (fault : DescFault) → WasRead (Some input) read → OfReport Says read text
     → check_of input ≡ Ok (script, lines) → IsRefused script.desc fault → X
 no_run Says input read text script lines fault was h e none =
     let same = same_script read script h.script lines (parts h.report) (read_as input read was (Ok (script, lines)) e) h.is_input.read in
     made_once h.script.desc h.first fault h.is_input.starts (subst (λ (s : Script). IsRefused s.desc fault) same none)
 
 no_machine : (input : List ℕ) (rose : Type 0) (s : Status) (text : List ℕ) → ¬ rose → CheckCauses (Some input) rose s text → length input ≤ 16777216
-    → (script : Script) (lines : List (List ℕ)) (fault : DescFault) → check_of input ≡ Ok (script, lines) → IsRefused script.desc fault → Ended s status.MachineRefused
+    → (script : Script) (lines : List (List ℕ)) (fault : DescFault) → check_of input ≡ Ok (script, lines) → IsRefused script.desc fault
+    → Ended s status.MachineRefused
 no_machine input rose status.Ok text calm h le script lines fault e none = no_run IsAgreement input h.0 text script lines fault h.1.0 h.1.1 e none
-no_machine input rose status.ScriptRefused text calm h le script lines fault e none = not_both (check_of h.0) (script, lines) h.1.1.fault (read_as input h.0 h.1.0 (Ok (script, lines)) e) h.1.1.read
+no_machine input rose status.ScriptRefused text calm h le script lines fault e none = not_both (check_of h.0) (script, lines) h.1.1.fault
+    (read_as input h.0 h.1.0 (Ok (script, lines)) e) h.1.1.read
 no_machine input rose status.WordsRefused text calm h le script lines fault e none = absurd h
 no_machine input rose status.ReadFault text calm h le script lines fault e none = absurd (calm h.0)
 no_machine input rose status.WriteFault text calm h le script lines fault e none = absurd h
@@ -126,7 +136,8 @@ Stands script first read status.TraceDiffers = (told : List LegLines) × (read �
 Stands script first read status.BadTrace = (line : ℕ) × (read ≡ Err line)
 Stands script first read _ = ⊥
 
-agrees : (script : Script) (first : Plain) (report text : List ℕ) → IsAgreement script first report text → Stands script first (read_report script report) status.Ok
+agrees : (script : Script) (first : Plain) (report text : List ℕ) → IsAgreement script first report text
+    → Stands script first (read_report script report) status.Ok
 agrees script first report text a =
     (reported first script.legs a.histories, a.read, record { histories = a.histories; is_run = a.is_run; told_is = refl })
 
@@ -134,27 +145,35 @@ agrees script first report text a =
 same_read : (script : Script) (a b : List ℕ) → parts a ≡ parts b → read_report script a ≡ read_report script b
 unfolding trace_of
 same_read script a b same =
-    ap (λ (ps : List (List ℕ)). legs_from script.desc.shape.vcpus 1 (length script.legs) (lines_left 1 ps) then λ p. if is_over p.1.parts then Ok p.0 else Err p.1.number) same
+    ap (λ (ps : List (List ℕ)). legs_from script.desc.shape.vcpus 1 (length script.legs) (lines_left 1 ps) then λ p.
+    if is_over p.1.parts then Ok p.0 else Err p.1.number) same
 
-same_stands : (input read : List ℕ) (s : Status) (Says : Script → Plain → List ℕ → List ℕ → Type 0) (text : List ℕ) (script : Script) (first : Plain) (report : List ℕ) → WasRead (Some input) read → (h : OfReport Says read text)
+same_stands : (input read : List ℕ) (s : Status) (Says : Script → Plain → List ℕ → List ℕ → Type 0) (text : List ℕ) (script : Script) (first : Plain)
+    (report : List ℕ) → WasRead (Some input) read → (h : OfReport Says read text)
     → IsCheckInput input script first report → Stands h.script h.first (read_report h.script h.report) s → Stands script first (read_report script report) s
 same_stands input read s Says text script first report was h is stands =
     let here = read_as input read was (Ok (script, parts report)) is.read in
     let script_is : h.script ≡ script = same_script read h.script script (parts h.report) (parts report) h.is_input.read here in
     let lines_are : parts h.report ≡ parts report = same_lines read h.script script (parts h.report) (parts report) h.is_input.read here in
-    let start : h.first ≡ first = first_once script.desc h.first first (subst (λ (t : Script). IsFirstState t.desc h.first) script_is h.is_input.starts) is.starts in
+    let start : h.first ≡ first = first_once script.desc h.first first (subst (λ (t : Script). IsFirstState t.desc h.first) script_is h.is_input.starts)
+    is.starts in
     let moved : Stands script h.first (read_report script h.report) s = subst (λ (t : Script). Stands t h.first (read_report t h.report) s) script_is stands in
-    subst (λ (u : Plain). Stands script u (read_report script report) s) start (subst (λ (r : Result (List LegLines) ℕ). Stands script h.first r s) (same_read script h.report report lines_are) moved)
+    subst (λ (u : Plain). Stands script u (read_report script report) s) start (subst (λ (r : Result (List LegLines) ℕ). Stands script h.first r s)
+    (same_read script h.report report lines_are) moved)
 
-no_first : {X : Type 0} (input read text : List ℕ) (script : Script) (first : Plain) (report : List ℕ) → WasRead (Some input) read → IsNoMachine read text → IsCheckInput input script first report → X
+no_first : {X : Type 0} (input read text : List ℕ) (script : Script) (first : Plain) (report : List ℕ) → WasRead (Some input) read → IsNoMachine read text
+    → IsCheckInput input script first report → X
 no_first input read text script first report was h is =
     let same = same_script read h.script script h.lines (parts report) h.read (read_as input read was (Ok (script, parts report)) is.read) in
     made_once script.desc first h.fault is.starts (subst (λ (t : Script). IsRefused t.desc h.fault) same h.refused)
 
 by_report : (input : List ℕ) (rose : Type 0) (s : Status) (text : List ℕ) → ¬ rose → CheckCauses (Some input) rose s text → length input ≤ 16777216
-    → (script : Script) (first : Plain) (report : List ℕ) → IsCheckInput input script first report → (s ≡ status.Memory) ⊎ Stands script first (read_report script report) s
-by_report input rose status.Ok text calm h le script first report is = inr (same_stands input h.0 status.Ok IsAgreement text script first report h.1.0 h.1.1 is (agrees h.1.1.script h.1.1.first h.1.1.report text h.1.1.says))
-by_report input rose status.ScriptRefused text calm h le script first report is = not_both (check_of h.0) (script, parts report) h.1.1.fault (read_as input h.0 h.1.0 (Ok (script, parts report)) is.read) h.1.1.read
+    → (script : Script) (first : Plain) (report : List ℕ) → IsCheckInput input script first report → (s ≡ status.Memory)
+    ⊎ Stands script first (read_report script report) s
+by_report input rose status.Ok text calm h le script first report is = inr (same_stands input h.0 status.Ok IsAgreement text script first report h.1.0 h.1.1 is
+    (agrees h.1.1.script h.1.1.first h.1.1.report text h.1.1.says))
+by_report input rose status.ScriptRefused text calm h le script first report is = not_both (check_of h.0) (script, parts report) h.1.1.fault
+    (read_as input h.0 h.1.0 (Ok (script, parts report)) is.read) h.1.1.read
 by_report input rose status.WordsRefused text calm h le script first report is = absurd h
 by_report input rose status.ReadFault text calm h le script first report is = absurd (calm h.0)
 by_report input rose status.WriteFault text calm h le script first report is = absurd h
@@ -163,13 +182,16 @@ by_report input rose status.MachineRefused text calm h le script first report is
 by_report input rose status.MigrationRefused text calm h le script first report is = absurd h
 by_report input rose status.Spent text calm h le script first report is = absurd h
 by_report input rose status.TooLong text calm h le script first report is = absurd (omega (arith, h.0, le))
-by_report input rose status.TraceDiffers text calm h le script first report is = inr (same_stands input h.0 status.TraceDiffers IsDiffering text script first report h.1.0 h.1.1 is (h.1.1.says.told, h.1.1.says.read, h.1.1.says.none))
-by_report input rose status.BadTrace text calm h le script first report is = inr (same_stands input h.0 status.BadTrace IsBadTrace text script first report h.1.0 h.1.1 is (h.1.1.says.line, h.1.1.says.read))
+by_report input rose status.TraceDiffers text calm h le script first report is =
+    inr (same_stands input h.0 status.TraceDiffers IsDiffering text script first report h.1.0 h.1.1 is (h.1.1.says.told, h.1.1.says.read, h.1.1.says.none))
+by_report input rose status.BadTrace text calm h le script first report is =
+    inr (same_stands input h.0 status.BadTrace IsBadTrace text script first report h.1.0 h.1.1 is (h.1.1.says.line, h.1.1.says.read))
 
 told_once : (r : Result (List LegLines) ℕ) (a b : List LegLines) → r ≡ Ok a → r ≡ Ok b → a ≡ b
 told_once r a b x y = same_ok r a b x y
 
-is_bad : (script : Script) (first : Plain) (read : Result (List LegLines) ℕ) (s : Status) (line : ℕ) → read ≡ Err line → Stands script first read s → s ≡ status.BadTrace
+is_bad : (script : Script) (first : Plain) (read : Result (List LegLines) ℕ) (s : Status) (line : ℕ) → read ≡ Err line → Stands script first read s
+    → s ≡ status.BadTrace
 is_bad script first read status.Ok line e h = not_both read h.0 line h.1 e
 is_bad script first read status.ScriptRefused line e h = absurd h
 is_bad script first read status.WordsRefused line e h = absurd h
@@ -183,8 +205,10 @@ is_bad script first read status.TooLong line e h = absurd h
 is_bad script first read status.TraceDiffers line e h = not_both read h.0 line h.1 e
 is_bad script first read status.BadTrace line e h = refl
 
-is_other : (script : Script) (first : Plain) (read : Result (List LegLines) ℕ) (s : Status) (told : List LegLines) → read ≡ Ok told → ¬ IsReportOfRun first script.legs told → Stands script first read s → s ≡ status.TraceDiffers
-is_other script first read status.Ok told e none h = absurd (none (subst (λ (ls : List LegLines). IsReportOfRun first script.legs ls) (told_once read h.0 told h.1 e) h.2))
+is_other : (script : Script) (first : Plain) (read : Result (List LegLines) ℕ) (s : Status) (told : List LegLines) → read ≡ Ok told
+    → ¬ IsReportOfRun first script.legs told → Stands script first read s → s ≡ status.TraceDiffers
+is_other script first read status.Ok told e none h =
+    absurd (none (subst (λ (ls : List LegLines). IsReportOfRun first script.legs ls) (told_once read h.0 told h.1 e) h.2))
 is_other script first read status.ScriptRefused told e none h = absurd h
 is_other script first read status.WordsRefused told e none h = absurd h
 is_other script first read status.ReadFault told e none h = absurd h
@@ -197,7 +221,8 @@ is_other script first read status.TooLong told e none h = absurd h
 is_other script first read status.TraceDiffers told e none h = refl
 is_other script first read status.BadTrace told e none h = not_both read told h.0 e h.1
 
-is_well : (script : Script) (first : Plain) (read : Result (List LegLines) ℕ) (s : Status) (told : List LegLines) → read ≡ Ok told → IsReportOfRun first script.legs told → Stands script first read s → s ≡ status.Ok
+is_well : (script : Script) (first : Plain) (read : Result (List LegLines) ℕ) (s : Status) (told : List LegLines) → read ≡ Ok told
+    → IsReportOfRun first script.legs told → Stands script first read s → s ≡ status.Ok
 is_well script first read status.Ok told e run h = refl
 is_well script first read status.ScriptRefused told e run h = absurd h
 is_well script first read status.WordsRefused told e run h = absurd h
@@ -208,7 +233,8 @@ is_well script first read status.MachineRefused told e run h = absurd h
 is_well script first read status.MigrationRefused told e run h = absurd h
 is_well script first read status.Spent told e run h = absurd h
 is_well script first read status.TooLong told e run h = absurd h
-is_well script first read status.TraceDiffers told e run h = absurd (h.2 (subst (λ (ls : List LegLines). IsReportOfRun first script.legs ls) (told_once read told h.0 e h.1) run))
+is_well script first read status.TraceDiffers told e run h =
+    absurd (h.2 (subst (λ (ls : List LegLines). IsReportOfRun first script.legs ls) (told_once read told h.0 e h.1) run))
 is_well script first read status.BadTrace told e run h = not_both read told h.0 e h.1
 
 ended : (s expected : Status) (P : Type 0) → (P → s ≡ expected) → (s ≡ status.Memory) ⊎ P → Ended s expected
@@ -219,7 +245,10 @@ check_decided input rose s text calm h = record {
   too_long = λ lt. long input rose s text calm h lt;
   script_refused = λ le fault e. no_script input rose s text calm h le fault e;
   machine_refused = λ le script lines fault e none. no_machine input rose s text calm h le script lines fault e none;
-  bad_trace = λ le script first report line is e. ended s status.BadTrace _ (is_bad script first (read_report script report) s line e) (by_report input rose s text calm h le script first report is);
-  differs = λ le script first report told is e none. ended s status.TraceDiffers _ (is_other script first (read_report script report) s told e none) (by_report input rose s text calm h le script first report is);
-  complete = λ le script first report told is e run. ended s status.Ok _ (is_well script first (read_report script report) s told e run) (by_report input rose s text calm h le script first report is);
+  bad_trace = λ le script first report line is e. ended s status.BadTrace _ (is_bad script first (read_report script report) s line e)
+      (by_report input rose s text calm h le script first report is);
+  differs = λ le script first report told is e none. ended s status.TraceDiffers _ (is_other script first (read_report script report) s told e none)
+      (by_report input rose s text calm h le script first report is);
+  complete = λ le script first report told is e run. ended s status.Ok _ (is_well script first (read_report script report) s told e run)
+      (by_report input rose s text calm h le script first report is);
 }

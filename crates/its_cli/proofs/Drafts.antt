@@ -6,9 +6,13 @@ use Rattle.its_plain.specs.declared.call.Call.{Call}
 use Rattle.event_script.specs.Text.{number}
 use Rattle.event_script.specs.Fields.{arg, number_within, any_number, address, processor, bytes_within}
 use Rattle.event_script.specs.Outcome.{ensure}
-use Rattle.event_script.specs.Description.{at_start, in_description, in_phase, in_thread, is_shard_count, describes_tables, is_given, register_values, vcpus_line, shards_line, limits_line, ids_line, profile_line, window_line, config_line, pending_line, gicr_line, restore_line, bytes_line, word_fill_line}
-use Rattle.event_script.specs.Calls.{signal_of, take_of, show_of, poke_of, word_of, command_call_of, peek_of, read_of, write_of, rread_of, rwrite_of, step_of, save_of}
-use Rattle.event_script.specs.Body.{is_whole, may_go_on, threads_so_far, phases_so_far, legs_so_far, phase_line, thread_line, migrate_line, end_line, call_line, gicr_call_line, word_line, keyword_line}
+use Rattle.event_script.specs.Description.{at_start, in_description, in_phase, in_thread, is_shard_count, describes_tables, is_given, register_values}
+use Rattle.event_script.specs.Description.{vcpus_line, shards_line, limits_line, ids_line, profile_line, window_line, config_line, pending_line, gicr_line}
+use Rattle.event_script.specs.Description.{restore_line, bytes_line, word_fill_line}
+use Rattle.event_script.specs.Calls.{signal_of, take_of, show_of, poke_of, word_of, command_call_of, peek_of, read_of, write_of, rread_of, rwrite_of, step_of}
+use Rattle.event_script.specs.Calls.{save_of}
+use Rattle.event_script.specs.Body.{is_whole, may_go_on, threads_so_far, phases_so_far, legs_so_far, phase_line, thread_line, migrate_line, end_line}
+use Rattle.event_script.specs.Body.{call_line, gicr_call_line, word_line, keyword_line}
 use Rattle.event_script.specs.declared.fault.Kind.{Kind}
 use Rattle.event_script.specs.declared.fault.Kind.TheVariants as kind
 use Rattle.event_script.specs.declared.words.Keyword.{Keyword}
@@ -51,7 +55,8 @@ module _ (d : Draft) where
   unfolding limits_line
   limits fs =
       bound F (ensure (in_description d.stage && is_none d.limits) kind.Order) _ (λ _. bound F (ensure (nat_eq (length fs) 3) kind.Fields) _ (λ _.
-      bound F (number_within 1 (2 ^ 24 - 1) (arg fs 1)) _ (λ stamp. bound F (number_within 1 (2 ^ 40 - 1) (arg fs 2)) _ (λ place. record { registers = refl; gicr = λ g. g }))))
+      bound F (number_within 1 (2 ^ 24 - 1) (arg fs 1)) _ (λ stamp. bound F (number_within 1 (2 ^ 40 - 1) (arg fs 2)) _
+      (λ place. record { registers = refl; gicr = λ g. g }))))
 
   ids : (fs : List (List ℕ)) → IfOk (ids_line d fs) F
   unfolding ids_line
@@ -81,7 +86,8 @@ module _ (d : Draft) where
   pending : (fs : List (List ℕ)) → IfOk (pending_line d fs) F
   unfolding pending_line
   pending fs =
-      bound F (ensure (describes_tables d && not (is_given d.pending (number (arg fs 1)))) kind.Order) _ (λ _. bound F (ensure (nat_eq (length fs) 3) kind.Fields) _ (λ _.
+      bound F (ensure (describes_tables d && not (is_given d.pending (number (arg fs 1)))) kind.Order) _
+      (λ _. bound F (ensure (nat_eq (length fs) 3) kind.Fields) _ (λ _.
       bound F (processor (length d.pending) (arg fs 1)) _ (λ vcpu. bound F (address (arg fs 2)) _ (λ base. record { registers = refl; gicr = λ g. g }))))
 
   gicr : (fs : List (List ℕ)) → IfOk (gicr_line d fs) (λ e. F e × (e.gicr ≡ true))
@@ -114,7 +120,8 @@ module _ (d : Draft) where
   phase : (fs : List (List ℕ)) → IfOk (phase_line d fs) F
   unfolding phase_line
   phase fs =
-      bound F (ensure (may_go_on d) kind.Order) _ (λ _. bound F (ensure (is_whole d) kind.Missing) _ (λ _. bound F (ensure (nat_eq (length fs) 1) kind.Fields) _ (λ _.
+      bound F (ensure (may_go_on d) kind.Order) _ (λ _. bound F (ensure (is_whole d) kind.Missing) _ (λ _. bound F (ensure (nat_eq (length fs) 1) kind.Fields) _
+      (λ _.
       bound F (ensure (nat_lt (length (phases_so_far d)) MOST_PHASES) kind.Many) _ (λ _. record { registers = refl; gicr = λ g. g }))))
 
   thread : (fs : List (List ℕ)) → IfOk (thread_line d fs) F
@@ -126,13 +133,15 @@ module _ (d : Draft) where
   migrate : (fs : List (List ℕ)) → IfOk (migrate_line d fs) F
   unfolding migrate_line
   migrate fs =
-      bound F (ensure (may_go_on d) kind.Order) _ (λ _. bound F (ensure (is_whole d) kind.Missing) _ (λ _. bound F (ensure (nat_eq (length fs) 1) kind.Fields) _ (λ _.
+      bound F (ensure (may_go_on d) kind.Order) _ (λ _. bound F (ensure (is_whole d) kind.Missing) _ (λ _. bound F (ensure (nat_eq (length fs) 1) kind.Fields) _
+      (λ _.
       bound F (ensure (nat_lt (length (legs_so_far d)) MOST_LEGS) kind.Many) _ (λ _. record { registers = refl; gicr = λ g. g }))))
 
   end : (fs : List (List ℕ)) → IfOk (end_line d fs) F
   unfolding end_line
   end fs =
-      bound F (ensure (may_go_on d) kind.Order) _ (λ _. bound F (ensure (is_whole d) kind.Missing) _ (λ _. bound F (ensure (nat_eq (length fs) 1) kind.Fields) _ (λ _.
+      bound F (ensure (may_go_on d) kind.Order) _ (λ _. bound F (ensure (is_whole d) kind.Missing) _ (λ _. bound F (ensure (nat_eq (length fs) 1) kind.Fields) _
+      (λ _.
       record { registers = refl; gicr = λ g. g })))
 
   call : (read : Result Call Kind) → IfOk (call_line d read) F

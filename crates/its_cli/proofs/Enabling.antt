@@ -11,5 +11,6 @@ use Rattle.its_cli.specs.Its.{LpisFollow}
 pub run_lpis : (script : Script) (first : Plain) (histories : List (List Entry)) → IsRun first script.legs histories → LpisFollow script first histories
 run_lpis script first histories run starts off = runs_follow first script.legs histories (start_off script.desc first starts off) run
 
-pub partial_lpis : (script : Script) (first : Plain) (histories : List (List Entry)) → IsPartialRun first script.legs histories → LpisFollow script first histories
+pub partial_lpis : (script : Script) (first : Plain) (histories : List (List Entry)) → IsPartialRun first script.legs histories
+    → LpisFollow script first histories
 partial_lpis script first histories partial starts off = partial_runs_follow first script.legs histories (start_off script.desc first starts off) partial

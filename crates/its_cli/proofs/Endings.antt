@@ -19,18 +19,22 @@ not_savable u f e can =
 
 -- what a leg that has places for its calls and others after it says of the end, in one of its runs
 abbrev AfterLeg : ℕ → Plain → Leg → List Leg → List Entry → Status → Type 0
-AfterLeg last first next legs h s = (¬ IsSavable (after first h) × (s ≡ status.MigrationRefused)) ⊎ (IsSavable (after first h) × AllEnd last (moved (after first h)) (next ∷ legs) s)
+AfterLeg last first next legs h s = (¬ IsSavable (after first h) × (s ≡ status.MigrationRefused))
+    ⊎ (IsSavable (after first h) × AllEnd last (moved (after first h)) (next ∷ legs) s)
 
-after_leg : (last : ℕ) (first : Plain) (leg next : Leg) (legs : List Leg) (s : Status) (h : List Entry) → AllEnd last first (leg ∷ next ∷ legs) s → call_count leg ≤ last → IsLegRun first leg h → AfterLeg last first next legs h s
+after_leg : (last : ℕ) (first : Plain) (leg next : Leg) (legs : List Leg) (s : Status) (h : List Entry) → AllEnd last first (leg ∷ next ∷ legs) s
+    → call_count leg ≤ last → IsLegRun first leg h → AfterLeg last first next legs h s
 after_leg last first leg next legs s h all fits is = elim all [ inl short ↦ absurd (omega (arith, short.0, fits)) | inr long ↦ long.1 h is ]
 
 goes_on : (last : ℕ) (first : Plain) (leg next : Leg) (legs : List Leg) (s : Status) (h : List Entry)
-    → AllEnd last first (leg ∷ next ∷ legs) s → call_count leg ≤ last → IsLegRun first leg h → IsSavable (after first h) → AllEnd last (moved (after first h)) (next ∷ legs) s
+    → AllEnd last first (leg ∷ next ∷ legs) s → call_count leg ≤ last → IsLegRun first leg h → IsSavable (after first h) → AllEnd last (moved (after first h))
+    (next ∷ legs) s
 goes_on last first leg next legs s h all fits is can =
     elim (after_leg last first leg next legs s h all fits is) [ inl none ↦ absurd (none.0 can) | inr some ↦ some.1 ]
 
 -- where all legs ran
-pub ends_well : (last : ℕ) (first : Plain) (legs : List Leg) (hs : List (List Entry)) (s : Status) → IsRun first legs hs → HasPlaces last legs → AllEnd last first legs s → s ≡ status.Ok
+pub ends_well : (last : ℕ) (first : Plain) (legs : List Leg) (hs : List (List Entry)) (s : Status) → IsRun first legs hs → HasPlaces last legs
+    → AllEnd last first legs s → s ≡ status.Ok
 ends_well last first [] hs s is places all = all
 ends_well last first (leg ∷ []) hs s is places all = elim all [ inl short ↦ absurd (omega (arith, short.0, places.0)) | inr long ↦ long.1 ]
 ends_well last first (leg ∷ next ∷ legs) hs s is places all =
@@ -58,8 +62,10 @@ pub ends_spent : (last : ℕ) (first : Plain) (legs : List Leg) (hs : List (List
 ends_spent last first legs hs now leg later s r more all = spent_here last now leg later s more (left_ends last first legs hs now leg later s r all)
 
 -- where the state after one could not be saved
-pub ends_refused : (last : ℕ) (first : Plain) (legs : List Leg) (hs : List (List Entry)) (now : Plain) (leg next : Leg) (later : List Leg) (h : List Entry) (f : SaveFault) (s : Status)
-    → HaveRun last first legs hs now (leg ∷ next ∷ later) → call_count leg ≤ last → IsLegRun now leg h → savable (after now h) ≡ Err f → AllEnd last first legs s → s ≡ status.MigrationRefused
+pub ends_refused : (last : ℕ) (first : Plain) (legs : List Leg) (hs : List (List Entry)) (now : Plain) (leg next : Leg) (later : List Leg) (h : List Entry)
+    (f : SaveFault) (s : Status)
+    → HaveRun last first legs hs now (leg ∷ next ∷ later) → call_count leg ≤ last → IsLegRun now leg h → savable (after now h) ≡ Err f
+    → AllEnd last first legs s → s ≡ status.MigrationRefused
 ends_refused last first legs hs now leg next later h f s r fits is refused all =
     elim (after_leg last now leg next later s h (left_ends last first legs hs now leg (next ∷ later) s r all) fits is) [
       | inl none ↦ none.1

@@ -1,5 +1,6 @@
 -- A script with a line `gicr` and no line `rrestore` restores no redistributor with LPIs on.
-use Rattle.std.proofs.Common.{◌≡◌, ◌⊎◌, ℕ, zero, suc, ◌+◌, Bool, true, false, ◌||◌, nat_eq, List, [], ◌∷◌, length, codes, replicate, if◌then◌else◌, ok_or, Result, Ok, Err, IfOk, inl, inr, refl, sym, ap, subst, ◌∙◌, arith}
+use Rattle.std.proofs.Common.{◌≡◌, ◌⊎◌, ℕ, zero, suc, ◌+◌, Bool, true, false, ◌||◌, nat_eq, List, [], ◌∷◌, length, codes, replicate, if◌then◌else◌, ok_or}
+use Rattle.std.proofs.Common.{Result, Ok, Err, IfOk, inl, inr, refl, sym, ap, subst, ◌∙◌, arith}
 use Rattle.std.specs.Prelude.{slice_index}
 use Rattle.std.specs.List.{AllByRecursion, list_any}
 use Rattle.std.specs.Str.{bytes_eq}
@@ -17,7 +18,8 @@ use Rattle.event_script.specs.Words.{keyword_of, outline_keyword_of}
 use Rattle.event_script.specs.Outcome.{ensure}
 use Rattle.event_script.specs.Description.{empty, is_ended, no_registers}
 use Rattle.event_script.specs.Body.{keyword_line}
-use Rattle.event_script.specs.Script.{is_skipped, words_line, line, described_tables, tables_of, desc_of, script_from, finished, at_line, ◌then◌, parts_from, script_of}
+use Rattle.event_script.specs.Script.{is_skipped, words_line, line, described_tables, tables_of, desc_of, script_from, finished, at_line, ◌then◌, parts_from}
+use Rattle.event_script.specs.Script.{script_of}
 use Rattle.event_script.specs.declared.fault.Kind.{Kind}
 use Rattle.event_script.specs.declared.fault.Kind.TheVariants as kind
 use Rattle.event_script.specs.declared.fault.ScriptFault.{ScriptFault}
@@ -44,20 +46,28 @@ not_here false r e rest = rest
 outline_other : (word : List ℕ) → bytes_eq word (codes "rrestore") ≡ false → IfOk (outline_keyword_of word) IsOther
 unfolding outline_keyword_of
 outline_other word none =
-    either (bytes_eq word (codes "bytes")) on.Bytes _ tt (either (bytes_eq word (codes "thread")) on.Thread _ tt (either (bytes_eq word (codes "phase")) on.Phase _ tt
-    (either (bytes_eq word (codes "vcpus")) on.Vcpus _ tt (either (bytes_eq word (codes "shards")) on.Shards _ tt (either (bytes_eq word (codes "limits")) on.Limits _ tt
-    (either (bytes_eq word (codes "ids")) on.Ids _ tt (either (bytes_eq word (codes "profile")) on.Profile _ tt (either (bytes_eq word (codes "window")) on.Window _ tt
-    (either (bytes_eq word (codes "config")) on.Config _ tt (either (bytes_eq word (codes "pending")) on.Pending _ tt (either (bytes_eq word (codes "restore")) on.Restore _ tt
-    (either (bytes_eq word (codes "gicr")) on.Gicr _ tt (not_here (bytes_eq word (codes "rrestore")) _ none (either (bytes_eq word (codes "migrate")) on.Migrate _ tt
+    either (bytes_eq word (codes "bytes")) on.Bytes _ tt (either (bytes_eq word (codes "thread")) on.Thread _ tt
+    (either (bytes_eq word (codes "phase")) on.Phase _ tt
+    (either (bytes_eq word (codes "vcpus")) on.Vcpus _ tt (either (bytes_eq word (codes "shards")) on.Shards _ tt
+    (either (bytes_eq word (codes "limits")) on.Limits _ tt
+    (either (bytes_eq word (codes "ids")) on.Ids _ tt (either (bytes_eq word (codes "profile")) on.Profile _ tt
+    (either (bytes_eq word (codes "window")) on.Window _ tt
+    (either (bytes_eq word (codes "config")) on.Config _ tt (either (bytes_eq word (codes "pending")) on.Pending _ tt
+    (either (bytes_eq word (codes "restore")) on.Restore _ tt
+    (either (bytes_eq word (codes "gicr")) on.Gicr _ tt
+    (not_here (bytes_eq word (codes "rrestore")) _ none (either (bytes_eq word (codes "migrate")) on.Migrate _ tt
     (either (bytes_eq word (codes "end")) on.End _ tt (either (bytes_eq word (codes "trace")) on.Trace _ tt tt))))))))))))))))
 
 other : (word : List ℕ) → bytes_eq word (codes "rrestore") ≡ false → IfOk (keyword_of word) IsOther
 unfolding keyword_of
 other word none =
-    either (bytes_eq word (codes "signal")) on.Signal _ tt (either (bytes_eq word (codes "take")) on.Take _ tt (either (bytes_eq word (codes "show")) on.Show _ tt
-    (either (bytes_eq word (codes "step")) on.Step _ tt (either (bytes_eq word (codes "command")) on.Command _ tt (either (bytes_eq word (codes "write")) on.Write _ tt
+    either (bytes_eq word (codes "signal")) on.Signal _ tt
+    (either (bytes_eq word (codes "take")) on.Take _ tt (either (bytes_eq word (codes "show")) on.Show _ tt
+    (either (bytes_eq word (codes "step")) on.Step _ tt (either (bytes_eq word (codes "command")) on.Command _ tt
+    (either (bytes_eq word (codes "write")) on.Write _ tt
     (either (bytes_eq word (codes "read")) on.Read _ tt (either (bytes_eq word (codes "poke")) on.Poke _ tt (either (bytes_eq word (codes "peek")) on.Peek _ tt
-    (either (bytes_eq word (codes "word")) on.Word _ tt (either (bytes_eq word (codes "save")) on.Save _ tt (either (bytes_eq word (codes "rread")) on.Rread _ tt
+    (either (bytes_eq word (codes "word")) on.Word _ tt
+    (either (bytes_eq word (codes "save")) on.Save _ tt (either (bytes_eq word (codes "rread")) on.Rread _ tt
     (either (bytes_eq word (codes "rwrite")) on.Rwrite _ tt (outline_other word none)))))))))))))
 
 gicr_keyword : keyword_of (codes "gicr") ≡ Ok on.Gicr
@@ -79,7 +89,8 @@ some_fields x xs = elim (cases_Bool (nat_eq (length (x ∷ xs)) 0)) [ inl e ↦ 
 -- a line `gicr` is neither blank nor a remark
 not_skipped : (fs : List (List ℕ)) → arg fs 0 ≡ codes "gicr" → is_skipped fs ≡ false
 not_skipped [] e = absurd cc
-not_skipped (f ∷ fs) e = both_false (nat_eq (length (f ∷ fs)) 0) (nat_eq (slice_index f 0) 35) (some_fields f fs) (ap (λ (word : List ℕ). nat_eq (slice_index word 0) 35) e)
+not_skipped (f ∷ fs) e = both_false (nat_eq (length (f ∷ fs)) 0) (nat_eq (slice_index f 0) 35) (some_fields f fs)
+    (ap (λ (word : List ℕ). nat_eq (slice_index word 0) 35) e)
 
 words_programs : (d : Draft) (n : ℕ) (fs : List (List ℕ)) → arg fs 0 ≡ codes "gicr" → IfOk (words_line d n fs) (Programs d)
 unfolding words_line
@@ -93,7 +104,8 @@ unfolding line
 line_programs d n text e =
     let word : arg (fields text) 0 ≡ codes "gicr" = (bytes_eq-Decides (arg (fields text) 0) (codes "gicr")).0 e in
     bound (Programs d) (ensure (is_text text) kind.Text) _ (λ _.
-    chosen {A = Result Draft Kind} (λ r. IfOk r (Programs d)) (is_skipped (fields text)) _ _ (λ skipped. absurd (both_ways (is_skipped (fields text)) (not_skipped (fields text) word) skipped))
+    chosen {A = Result Draft Kind} (λ r. IfOk r (Programs d)) (is_skipped (fields text)) _ _
+    (λ skipped. absurd (both_ways (is_skipped (fields text)) (not_skipped (fields text) word) skipped))
     (λ _. words_programs d n (fields text) word))
 
 words_follow : (d : Draft) (n : ℕ) (fs : List (List ℕ)) → bytes_eq (arg fs 0) (codes "rrestore") ≡ false → IfOk (words_line d n fs) (Follows d)
@@ -114,7 +126,8 @@ AreOff values = AllByRecursion (λ (r : GicrRegisters). bit_of r.ctlr 0 ≡ fals
 abbrev IsOffScript : Script → Type 0
 IsOffScript s = RestoresOff s.desc.tables
 
-tables_off : (d : Draft) (gicr : Bool) → gicr ≡ true → AreOff d.registers → IfOk (let r : Result LpiTables Kind = if gicr then Ok (Registers d.registers) else described_tables d in r) RestoresOff
+tables_off : (d : Draft) (gicr : Bool) → gicr ≡ true → AreOff d.registers
+    → IfOk (let r : Result LpiTables Kind = if gicr then Ok (Registers d.registers) else described_tables d in r) RestoresOff
 tables_off d true e off = off
 tables_off d false e off = absurd cc
 
@@ -134,7 +147,8 @@ numbered : {A : Type 0} (P : A → Type 0) (n : ℕ) (r : Result A Kind) → IfO
 numbered P n (Ok x) h = h
 numbered P n (Err k) h = tt
 
-followed : {A B : Type 0} (P : A → Type 0) (Q : B → Type 0) (n : ℕ) (r : Result A Kind) (f : A → Result B ScriptFault) → IfOk r P → ((x : A) → P x → IfOk (f x) Q) → IfOk (at_line n r then f) Q
+followed : {A B : Type 0} (P : A → Type 0) (Q : B → Type 0) (n : ℕ) (r : Result A Kind) (f : A → Result B ScriptFault) → IfOk r P
+    → ((x : A) → P x → IfOk (f x) Q) → IfOk (at_line n r then f) Q
 followed P Q n (Ok x) f p q = q x p
 followed P Q n (Err k) f p q = tt
 
@@ -161,7 +175,8 @@ finished_off d last w off =
     ensured IsOffScript (nat_eq (length last) 0) kind.Cut _ (λ none.
     elim (last_part d last w) [ inl g ↦ ended_off d g off | inr here ↦ absurd (both_ways (begins_with (codes "gicr") last) (no_bytes last none) here) ])
 
-parts_off : (n : ℕ) (d : Draft) (ps : List (List ℕ)) → WillProgram d ps → list_any (begins_with (codes "rrestore")) ps ≡ false → AreOff d.registers → IfOk (parts_from n d ps) IsOffScript
+parts_off : (n : ℕ) (d : Draft) (ps : List (List ℕ)) → WillProgram d ps → list_any (begins_with (codes "rrestore")) ps ≡ false → AreOff d.registers
+    → IfOk (parts_from n d ps) IsOffScript
 parts_off n d [] w none off = elim w [ inl g ↦ numbered IsOffScript n (script_from d) (ended_off d g off) | inr never ↦ absurd cc ]
 parts_off n d (last ∷ []) w none off = numbered IsOffScript n (finished d last) (finished_off d last w off)
 parts_off n d (text ∷ (next ∷ rest)) w none off =
@@ -173,7 +188,8 @@ parts_off n d (text ∷ (next ∷ rest)) w none off =
       | inl g ↦ followed (Follows d) IsOffScript n (line d n text) (λ e. parts_from (n + 1) e (next ∷ rest)) by_line (λ e f. goes_on e f (inl (f.gicr g)))
       | inr some ↦
           elim (or_cases (begins_with (codes "gicr") text) (list_any (begins_with (codes "gicr")) (next ∷ rest)) some) [
-            | inl here ↦ followed (Programs d) IsOffScript n (line d n text) (λ e. parts_from (n + 1) e (next ∷ rest)) (line_programs d n text here) (λ e f. goes_on e f.0 (inl f.1))
+            | inl here ↦ followed (Programs d) IsOffScript n (line d n text) (λ e. parts_from (n + 1) e (next ∷ rest)) (line_programs d n text here)
+                (λ e f. goes_on e f.0 (inl f.1))
             | inr there ↦ followed (Follows d) IsOffScript n (line d n text) (λ e. parts_from (n + 1) e (next ∷ rest)) by_line (λ e f. goes_on e f (inr there))
           ]
     ]

@@ -36,7 +36,8 @@ ran_more last first (l ∷ legs) [] now leg left h r fits is can =
       subst (λ (u : Plain). IsSavable (after u h)) r.0 can,
       (ap (λ (u : Plain). moved (after u h)) r.0, rest_of leg l left legs r.1),
     )
-ran_more last first (l ∷ legs) (g ∷ hs) now leg left h r fits is can = (r.0, r.1, r.2, ran_more last (moved (after first g)) legs hs now leg left h r.3 fits is can)
+ran_more last first (l ∷ legs) (g ∷ hs) now leg left h r fits is can =
+    (r.0, r.1, r.2, ran_more last (moved (after first g)) legs hs now leg left h r.3 fits is can)
 
 pub migrated_more : (last : ℕ) (first : Plain) (legs : List Leg) (hs : List (List Entry)) (now : Plain) (leg : Leg) (left : List Leg) (h : List Entry)
     → HaveRun last first legs hs now (leg ∷ left) → migrated first legs (hs ++ h ∷ []) ≡ migrated first legs hs ++ ended now leg h (Some Migrated) ∷ []
@@ -47,7 +48,8 @@ migrated_more last first (l ∷ legs) [] now leg left h r =
 migrated_more last first (l ∷ legs) (g ∷ hs) now leg left h r =
     ap (λ (ls : List LegLines). ended first l g (Some Migrated) ∷ ls) (migrated_more last (moved (after first g)) legs hs now leg left h r.3)
 
-pub as_many : (last : ℕ) (first : Plain) (legs : List Leg) (hs : List (List Entry)) (now : Plain) (left : List Leg) → HaveRun last first legs hs now left → length (migrated first legs hs) ≡ length hs
+pub as_many : (last : ℕ) (first : Plain) (legs : List Leg) (hs : List (List Entry)) (now : Plain) (left : List Leg) → HaveRun last first legs hs now left
+    → length (migrated first legs hs) ≡ length hs
 as_many last first [] [] now left r = refl
 as_many last first [] (g ∷ hs) now left r = absurd r
 as_many last first (l ∷ legs) [] now left r = refl
@@ -58,10 +60,12 @@ as_many last first (l ∷ legs) (g ∷ hs) now left r = ap suc (as_many last (mo
 texts_more : (n m : ℕ) (xs : List LegLines) (x : LegLines) → m ≡ n + length xs → legs_from n (xs ++ x ∷ []) ≡ legs_from n xs ++ leg_text m x
 texts_more n m [] x e = let same : n ≡ m = omega (arith, e) in append-nil (leg_text n x) ∙ ap (λ k. leg_text k x) same
 texts_more n m (y ∷ xs) x e =
-    ap (λ (t : List ℕ). leg_text n y ++ t) (texts_more (n + 1) m xs x (omega (arith, e))) ∙ sym (append_assoc (leg_text n y) (legs_from (n + 1) xs) (leg_text m x))
+    ap (λ (t : List ℕ). leg_text n y ++ t) (texts_more (n + 1) m xs x (omega (arith, e)))
+    ∙ sym (append_assoc (leg_text n y) (legs_from (n + 1) xs) (leg_text m x))
 
 -- a report with the next leg behind it
-pub report_more : (n : ℕ) (xs : List LegLines) (x : LegLines) (old new : List ℕ) → old ≡ report_text xs → n ≡ length xs + 1 → new ≡ old ++ leg_text n x → new ≡ report_text (xs ++ x ∷ [])
+pub report_more : (n : ℕ) (xs : List LegLines) (x : LegLines) (old new : List ℕ) → old ≡ report_text xs → n ≡ length xs + 1 → new ≡ old ++ leg_text n x
+    → new ≡ report_text (xs ++ x ∷ [])
 report_more n xs x old new was count added =
     added ∙ ap (λ (t : List ℕ). t ++ leg_text n x) was ∙ sym (texts_more 1 n xs x (omega (arith, count)))
 

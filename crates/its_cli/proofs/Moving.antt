@@ -20,9 +20,11 @@ module _ (m n : Machine) (r s : Pass) (went : WentOn m r n s) where
   goes_on_with layout = record {
     fresh = record { of = went.of; layout = went.layout; view = went.view };
     limits = went.limits;
-    vcpus = sym (ap (λ (l : Layout). l.shape.vcpus) went.layout) ∙ (ap (λ (d : Desc). (layout_of d).shape.vcpus) went.desc ∙ ap (λ (l : Layout). l.shape.vcpus) layout);
+    vcpus = sym (ap (λ (l : Layout). l.shape.vcpus) went.layout) ∙ (ap (λ (d : Desc). (layout_of d).shape.vcpus) went.desc
+        ∙ ap (λ (l : Layout). l.shape.vcpus) layout);
   }
 
-  pub is_migrated : (leg : Leg) (number : ℕ) (old new : List ℕ) (w : IsLegWhole (setup m).limits.place_last (setup m).start leg number (Some Migrated) old new) → resting m r ≡ after (setup m).start w.history
+  pub is_migrated : (leg : Leg) (number : ℕ) (old new : List ℕ) (w : IsLegWhole (setup m).limits.place_last (setup m).start leg number (Some Migrated) old new)
+      → resting m r ≡ after (setup m).start w.history
       → IsLegMigrated (setup m).limits.place_last (setup m).start (setup n).start leg number old new
   is_migrated leg number old new w is = record { whole = w; can = subst (λ (u : Plain). IsSavable u) is went.savable; now_is = went.start ∙ ap moved is }

@@ -37,7 +37,8 @@ first_seen s v is = ap (λ (x : View). x.seen) is
 
 -- ---- its lines
 
-module _ (s : Setup) (leg : Leg) (lists : List ThreadList) (w : View) (lines : List EntryLine) (gives : MergeGives) (same : IsPermutation (all_lines lists) lines) (rises : IsNonDecreasingBy (λ (l : EntryLine). l.place) lines) where
+module _ (s : Setup) (leg : Leg) (lists : List ThreadList) (w : View) (lines : List EntryLine) (gives : MergeGives)
+    (same : IsPermutation (all_lines lists) lines) (rises : IsNonDecreasingBy (λ (l : EntryLine). l.place) lines) where
   lines_by_place : (stop : Option Stop) → RanLeg s leg lists stop w → lines ≡ history_lines (seat_of (thread_counts leg)) 0 w.seen
   lines_by_place stop ran =
       gives (seat_of (thread_counts leg)) 1 ran.count 0 w.seen lines ran.only (subst (λ (ls : List EntryLine). IsPermutation ls lines) ran.lines same) rises

@@ -26,13 +26,16 @@ module _ (script : Script) (first : Plain) (report : List ℕ) (legs : List Leg)
   read_is r e = ap (λ (k : ℕ). trace_of k script.desc.shape.vcpus report) (sym (count ∙ ap length same)) ∙ e
 
   -- a check may be made of it
-  pub has_shape : (told : List LegLines) → IsFirstState script.desc first → IsSound first → ReadReportsPrint → Read (Ok told) → HasShape (length first.redistributors) (length legs) told
+  pub has_shape : (told : List LegLines) → IsFirstState script.desc first → IsSound first → ReadReportsPrint → Read (Ok told)
+      → HasShape (length first.redistributors) (length legs) told
   has_shape told starts sound laws read =
       let shape : HasShape script.desc.shape.vcpus n told = (laws n script.desc.shape.vcpus report told read).shape in
-      let vcpus : length first.redistributors ≡ script.desc.shape.vcpus = sound.vcpus ∙ ap (λ (l : Layout). l.shape.vcpus) (first_layout script.desc first starts) in
+      let vcpus : length first.redistributors ≡ script.desc.shape.vcpus = sound.vcpus ∙ ap (λ (l : Layout). l.shape.vcpus)
+      (first_layout script.desc first starts) in
       subst (λ (k : ℕ). HasShape (length first.redistributors) k told) count (subst (λ (v : ℕ). HasShape v n told) (sym vcpus) shape)
 
-  pub agrees : (told : List LegLines) (text : List ℕ) → ReadReportsPrint → Read (Ok told) → IsReportOfRun first legs told → text ≡ codes "agrees\n" → IsAgreement script first report text
+  pub agrees : (told : List LegLines) (text : List ℕ) → ReadReportsPrint → Read (Ok told) → IsReportOfRun first legs told → text ≡ codes "agrees\n"
+      → IsAgreement script first report text
   agrees told text laws read run is =
       let here : IsReportOfRun first script.legs told = subst (λ (ls : List Leg). IsReportOfRun first ls told) same run in
       record {
@@ -43,7 +46,8 @@ module _ (script : Script) (first : Plain) (report : List ℕ) (legs : List Leg)
         text_is = is;
       }
 
-  pub differs : (told : List LegLines) (d : Difference) (text : List ℕ) → Read (Ok told) → IsDifference first legs told d → ¬ IsReportOfRun first legs told → text ≡ difference_text d
+  pub differs : (told : List LegLines) (d : Difference) (text : List ℕ) → Read (Ok told) → IsDifference first legs told d → ¬ IsReportOfRun first legs told
+      → text ≡ difference_text d
       → IsDiffering script first report text
   differs told d text read there none is = record {
     told = told;

@@ -1,5 +1,6 @@
 -- What came of a leg.
-use Rattle.std.proofs.Common.{◌≡◌, ℕ, zero, suc, ◌+◌, get_or, take, ◌<◌, ◌≤◌, Bool, true, false, nat_le, List, [], ◌∷◌, ◌++◌, length, map, Option, Some, None, Ok, Err, refl, sym, ap, subst, ◌∙◌, length-append, arith}
+use Rattle.std.proofs.Common.{◌≡◌, ℕ, zero, suc, ◌+◌, get_or, take, ◌<◌, ◌≤◌, Bool, true, false, nat_le, List, [], ◌∷◌, ◌++◌, length, map, Option, Some, None}
+use Rattle.std.proofs.Common.{Ok, Err, refl, sym, ap, subst, ◌∙◌, length-append, arith}
 use Rattle.std.specs.Prelude.{◌&&◌, slice_index_or}
 use Rattle.std.specs.List.{list_all, AllByRecursion}
 use Rattle.std.specs.String.{string_bytes}
@@ -30,8 +31,10 @@ use Rattle.its_cli.specs.declared.status.Status.TheVariants as status
 -- ---- a leg that was played from its start
 
 module _ (s : Setup) (leg : Leg) (number : ℕ) (lines : List EntryLine) (h : List Entry) (old new : List ℕ) where
-  pub is_whole : (now : Plain) (end : Option End) (pending : List (List ℕ)) → IsPlayed s leg lines false h → now ≡ after s.start h → pending ≡ map report.pending_text (pending_lists now)
-      → new ≡ old ++ report.leg_text number (record { entries = lines; pending = pending; end = end }) → (w : IsLegWhole s.limits.place_last s.start leg number end old new) × (now ≡ after s.start w.history)
+  pub is_whole : (now : Plain) (end : Option End) (pending : List (List ℕ)) → IsPlayed s leg lines false h → now ≡ after s.start h
+      → pending ≡ map report.pending_text (pending_lists now)
+      → new ≡ old ++ report.leg_text number (record { entries = lines; pending = pending; end = end })
+      → (w : IsLegWhole s.limits.place_last s.start leg number end old new) × (now ≡ after s.start w.history)
   is_whole now end pending played is texts added =
       let texts_are : pending ≡ map report.pending_text (pending_lists (after s.start h)) = texts ∙ ap (λ u. map report.pending_text (pending_lists u)) is in (
         record {
@@ -39,12 +42,17 @@ module _ (s : Setup) (leg : Leg) (number : ℕ) (lines : List EntryLine) (h : Li
           is_run = record { legal = played.legal; calls = played.whole refl };
           places = played.fits refl;
           added = added ∙ ap (λ (ls : List EntryLine). old ++ report.leg_text number (record { entries = ls; pending = pending; end = end })) played.lines_are
-              ∙ ap (λ (ts : List (List ℕ)). old ++ report.leg_text number (record { entries = history_lines (seat_of (thread_counts leg)) 0 h; pending = ts; end = end })) texts_are;
+              ∙ ap (λ (ts : List (List ℕ)). old ++ report.leg_text number (record {
+                entries = history_lines (seat_of (thread_counts leg)) 0 h;
+                pending = ts;
+                end = end;
+              })) texts_are;
         },
         is,
       )
 
-  pub is_spent : (e : Ending) → IsPlayed s leg lines true h → IsSpentEnding number lines old new e → IsLegSpent s.limits.place_last s.start leg number old new (string_bytes e.line)
+  pub is_spent : (e : Ending) → IsPlayed s leg lines true h → IsSpentEnding number lines old new e → IsLegSpent s.limits.place_last s.start leg number old new
+      (string_bytes e.line)
   is_spent e played told = record {
     history = h;
     is_part = record { legal = played.legal; calls = played.part };
@@ -54,15 +62,18 @@ module _ (s : Setup) (leg : Leg) (number : ℕ) (lines : List EntryLine) (h : Li
     line_is = told.line_is;
   }
 
-pub spent_stops : (last : ℕ) (before : Plain) (leg : Leg) (number : ℕ) (old new line : List ℕ) (s : Status) → s ≡ status.Spent → IsLegSpent last before leg number old new line → LegStops last before leg number old new s line
+pub spent_stops : (last : ℕ) (before : Plain) (leg : Leg) (number : ℕ) (old new line : List ℕ) (s : Status) → s ≡ status.Spent
+    → IsLegSpent last before leg number old new line → LegStops last before leg number old new s line
 spent_stops last before leg number old new line s is h = subst (λ (t : Status). LegStops last before leg number old new t line) (sym is) h
 
-pub spent_ends : (last : ℕ) (before : Plain) (leg : Leg) (number : ℕ) (old new line : List ℕ) (s : Status) → s ≡ status.Spent → IsLegSpent last before leg number old new line → LegEnds last before leg number old new s line
+pub spent_ends : (last : ℕ) (before : Plain) (leg : Leg) (number : ℕ) (old new line : List ℕ) (s : Status) → s ≡ status.Spent
+    → IsLegSpent last before leg number old new line → LegEnds last before leg number old new s line
 spent_ends last before leg number old new line s is h = subst (λ (t : Status). LegEnds last before leg number old new t line) (sym is) h
 
 -- the state can't be saved
 pub is_refused : (last : ℕ) (before u : Plain) (leg : Leg) (number : ℕ) (old new line : List ℕ) (f : SaveFault)
-    → (w : IsLegWhole last before leg number None old new) → u ≡ after before w.history → savable u ≡ Err f → line ≡ migration_refusal number f → IsLegRefused last before leg number old new line
+    → (w : IsLegWhole last before leg number None old new) → u ≡ after before w.history → savable u ≡ Err f → line ≡ migration_refusal number f
+    → IsLegRefused last before leg number old new line
 is_refused last before u leg number old new line f w is none line_is =
     record { whole = w; fault = f; refused = sym (ap savable is) ∙ none; line_is = line_is }
 
@@ -78,7 +89,8 @@ all_at f (y ∷ xs) zero x lt at e = ap f at ∙ (both (f y) (list_all f xs) e).
 all_at f (y ∷ xs) (suc i) x lt at e = all_at f xs i x (omega (arith, lt)) at (both (f y) (list_all f xs) e).1
 
 -- a leg of a script may be run on a machine with as many virtual processors
-pub leg_may : (script : Script) (i : ℕ) (leg phases : Leg) (s : Setup) → IsWithinLimits script → i < length script.legs → leg ≡ get_or script.legs i leg → phases ≡ leg → vcpu_count s ≡ script.desc.shape.vcpus
+pub leg_may : (script : Script) (i : ℕ) (leg phases : Leg) (s : Setup) → IsWithinLimits script → i < length script.legs → leg ≡ get_or script.legs i leg
+    → phases ≡ leg → vcpu_count s ≡ script.desc.shape.vcpus
     → (length phases ≤ 256) × AllByRecursion (λ threads. length threads ≤ 64) phases × MayRunLeg s phases
 leg_may script i leg phases s within lt at is same =
     let one : is_leg script.desc.shape.vcpus leg ≡ true = all_at (is_leg script.desc.shape.vcpus) script.legs i leg lt at within.legs in
@@ -87,7 +99,8 @@ leg_may script i leg phases s within lt at is same =
 -- ---- what is pending at one more virtual processor
 
 pub pending_more : (rs : List Redistributor) (i : ℕ) → i < length rs
-    → map report.pending_text (take (suc i) (map (λ (r : Redistributor). r.pending) rs)) ≡ map report.pending_text (take i (map (λ (r : Redistributor). r.pending) rs)) ++ report.pending_text (slice_index_or rs i no_redistributor).pending ∷ []
+    → map report.pending_text (take (suc i) (map (λ (r : Redistributor). r.pending) rs)) ≡ map report.pending_text
+    (take i (map (λ (r : Redistributor). r.pending) rs)) ++ report.pending_text (slice_index_or rs i no_redistributor).pending ∷ []
 pending_more [] i lt = absurd (omega (arith, lt))
 pending_more (r ∷ rs) zero lt = refl
 pending_more (r ∷ rs) (suc i) lt = ap (λ (l : List (List ℕ)). report.pending_text r.pending ∷ l) (pending_more rs i (omega (arith, lt)))

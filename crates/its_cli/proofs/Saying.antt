@@ -10,7 +10,8 @@ use Rattle.its_cli.specs.declared.status.Status.{Status}
 use Rattle.its_cli.proofs.Lines.{scripts_off}
 use Rattle.its_cli.specs.declared.status.Status.TheVariants as status
 
-module _ (input : List ℕ) (script : Script) (first made : Plain) (read : script_of input ≡ Ok script) (starts : IsFirstState script.desc made) (same : first ≡ made) where
+module _ (input : List ℕ) (script : Script) (first made : Plain) (read : script_of input ≡ Ok script) (starts : IsFirstState script.desc made)
+    (same : first ≡ made) where
   of_script : (Says : Script → Plain → List ℕ → Type 0) (text : List ℕ) → Says script first text → OfScript Says input text
   of_script Says text says = record {
     script = script;

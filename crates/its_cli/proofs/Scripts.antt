@@ -1,5 +1,6 @@
 -- What a script's run came to, leg by leg.
-use Rattle.std.proofs.Common.{◌≡◌, ℕ, suc, ◌+◌, ◌-◌, ◌<◌, ◌≤◌, List, [], ◌∷◌, ◌++◌, length, get_or, take, drop, Some, None, Result, Ok, Err, OnErr, add-one, refl, sym, ap, subst, ◌∙◌, arith}
+use Rattle.std.proofs.Common.{◌≡◌, ℕ, suc, ◌+◌, ◌-◌, ◌<◌, ◌≤◌, List, [], ◌∷◌, ◌++◌, length, get_or, take, drop, Some, None, Result, Ok, Err, OnErr, add-one}
+use Rattle.std.proofs.Common.{refl, sym, ap, subst, ◌∙◌, arith}
 use Rattle.std.proofs.lemmas.List.{append-nil, length-append, length-take, get_or-take}
 use Rattle.std.proofs.Math.Seq.{drop-cons, drop-length}
 use Rattle.its_plain.specs.Plain.{Plain}
@@ -32,13 +33,15 @@ at_start script first report none = record { histories = []; earlier = (refl, re
 -- ---- the legs that are left
 
 -- the next one, where the run goes over the first ones
-pub next_leg : (legs : List Leg) (n i : ℕ) (leg phases : Leg) → i < n → n ≤ length legs → leg ≡ get_or (take n legs) i leg → phases ≡ leg → drop i legs ≡ phases ∷ drop (i + 1) legs
+pub next_leg : (legs : List Leg) (n i : ℕ) (leg phases : Leg) → i < n → n ≤ length legs → leg ≡ get_or (take n legs) i leg → phases ≡ leg
+    → drop i legs ≡ phases ∷ drop (i + 1) legs
 next_leg legs n i leg phases lt le at is =
     drop-cons legs i leg (omega (arith, lt, le)) ∙ ap (λ (l : Leg). l ∷ drop (suc i) legs) (sym (get_or-take n legs i leg lt) ∙ sym at ∙ sym is)
     ∙ ap (λ k. phases ∷ drop k legs) (sym (add-one i))
 
 -- another behind it
-pub leg_behind : (legs : List Leg) (i : ℕ) (leg : Leg) → i + 1 < length legs → drop i legs ≡ leg ∷ drop (i + 1) legs → (next : Leg) × (later : List Leg) × (drop i legs ≡ leg ∷ next ∷ later)
+pub leg_behind : (legs : List Leg) (i : ℕ) (leg : Leg) → i + 1 < length legs → drop i legs ≡ leg ∷ drop (i + 1) legs → (next : Leg) × (later : List Leg)
+    × (drop i legs ≡ leg ∷ next ∷ later)
 leg_behind legs i leg lt e = (get_or legs (i + 1) leg, drop (suc (i + 1)) legs, e ∙ ap (λ (ls : List Leg). leg ∷ ls) (drop-cons legs (i + 1) leg lt))
 
 pub last_leg : (legs : List Leg) (i : ℕ) (leg phases : Leg) → i + 1 ≡ length legs → leg ≡ get_or legs i leg → phases ≡ leg → drop i legs ≡ phases ∷ []
@@ -53,7 +56,8 @@ pub record IsEarlier (legs : List Leg) (i : ℕ) (leg phases : Leg) : Type 0 whe
   pub left : drop i legs ≡ phases ∷ drop (i + 1) legs
   pub behind : i + 1 < length legs
 
-pub earlier_leg : (legs slice : List Leg) (i : ℕ) (leg phases : Leg) → slice ≡ legs → i < length (take (length slice - 1) slice) → leg ≡ get_or (take (length slice - 1) slice) i leg → phases ≡ leg → IsEarlier legs i leg phases
+pub earlier_leg : (legs slice : List Leg) (i : ℕ) (leg phases : Leg) → slice ≡ legs → i < length (take (length slice - 1) slice)
+    → leg ≡ get_or (take (length slice - 1) slice) i leg → phases ≡ leg → IsEarlier legs i leg phases
 earlier_leg legs slice i leg phases same lt at is =
     let low : i < length (take (length legs - 1) legs) = subst (λ (ls : List Leg). i < length (take (length ls - 1) ls)) same lt in
     let item : leg ≡ get_or (take (length legs - 1) legs) i leg = subst (λ (ls : List Leg). leg ≡ get_or (take (length ls - 1) ls) i leg) same at in
@@ -71,7 +75,8 @@ pub record IsLast (legs : List Leg) (i : ℕ) (leg phases : Leg) : Type 0 where
   pub at : leg ≡ get_or legs i leg
   pub left : drop i legs ≡ phases ∷ []
 
-pub final_leg : (legs slice : List Leg) (i : ℕ) (leg phases : Leg) → slice ≡ legs → 0 < length legs → length (take (length slice - 1) slice) ≤ i → i ≤ length (take (length slice - 1) slice)
+pub final_leg : (legs slice : List Leg) (i : ℕ) (leg phases : Leg) → slice ≡ legs → 0 < length legs → length (take (length slice - 1) slice) ≤ i
+    → i ≤ length (take (length slice - 1) slice)
     → leg ≡ get_or slice (length slice - 1) leg → phases ≡ leg → IsLast legs i leg phases
 final_leg legs slice i leg phases same some ge le at is =
     let low : length (take (length legs - 1) legs) ≤ i = subst (λ (ls : List Leg). length (take (length ls - 1) ls) ≤ i) same ge in
@@ -88,7 +93,8 @@ pub on_err : {X Y : Type 0} (r : Result X Y) (P : Type 0) → P → OnErr r P
 on_err (Ok x) P p = tt
 on_err (Err e) P p = p
 
-pub so_far : (script : Script) (first : Plain) (i : ℕ) (now : Plain) (report : List ℕ) (leg : Leg) (later : List Leg) → HasRunTo script first i now report → drop i script.legs ≡ leg ∷ later → IsSoFar script first report
+pub so_far : (script : Script) (first : Plain) (i : ℕ) (now : Plain) (report : List ℕ) (leg : Leg) (later : List Leg) → HasRunTo script first i now report
+    → drop i script.legs ≡ leg ∷ later → IsSoFar script first report
 so_far script first i now report leg later r e = record {
   histories = r.histories;
   now = now;
@@ -102,35 +108,43 @@ so_far script first i now report leg later r e = record {
 abbrev Placed : Script → Plain → List (List Entry) → LegLines → List ℕ → Type 0
 Placed script first histories x new = new ≡ report_text (migrated first script.legs histories ++ x ∷ [])
 
-placed : (script : Script) (first : Plain) (i number : ℕ) (now : Plain) (old new : List ℕ) (x : LegLines) → (r : HasRunTo script first i now old) → number ≡ i + 1 → new ≡ old ++ leg_text number x → Placed script first r.histories x new
+placed : (script : Script) (first : Plain) (i number : ℕ) (now : Plain) (old new : List ℕ) (x : LegLines) → (r : HasRunTo script first i now old)
+    → number ≡ i + 1 → new ≡ old ++ leg_text number x → Placed script first r.histories x new
 placed script first i number now old new x r n added =
     let count = as_many script.desc.limits.place_last first script.legs r.histories now (drop i script.legs) r.earlier in
     report_more number (migrated first script.legs r.histories) x old new r.same (omega (arith, n, count, r.count)) added
 
-pub goes_on : (script : Script) (first : Plain) (i number : ℕ) (now next : Plain) (old new : List ℕ) (leg : Leg) → HasRunTo script first i now old → number ≡ i + 1 → drop i script.legs ≡ leg ∷ drop (i + 1) script.legs
+pub goes_on : (script : Script) (first : Plain) (i number : ℕ) (now next : Plain) (old new : List ℕ) (leg : Leg) → HasRunTo script first i now old
+    → number ≡ i + 1 → drop i script.legs ≡ leg ∷ drop (i + 1) script.legs
     → IsLegMigrated script.desc.limits.place_last now next leg number old new → HasRunTo script first (i + 1) next new
 goes_on script first i number now next old new leg r n e m =
     let last = script.desc.limits.place_last in
     let h = m.whole.history in
     let left = drop (i + 1) script.legs in
-    let ran : HaveRun last first script.legs r.histories now (leg ∷ left) = subst (λ (ls : List Leg). HaveRun last first script.legs r.histories now ls) e r.earlier in
+    let ran : HaveRun last first script.legs r.histories now (leg ∷ left) = subst (λ (ls : List Leg). HaveRun last first script.legs r.histories now ls) e
+    r.earlier in
     let more = ran_more last first script.legs r.histories now leg left h ran m.whole.places m.whole.is_run m.can in
     record {
       histories = r.histories ++ h ∷ [];
       earlier = subst (λ (u : Plain). HaveRun last first script.legs (r.histories ++ h ∷ []) u left) (sym m.now_is) more;
       count = length-append r.histories (h ∷ []) ∙ omega (arith, r.count);
-      same = placed script first i number now old new (ended now leg h (Some Migrated)) r n m.whole.added ∙ ap report_text (sym (migrated_more last first script.legs r.histories now leg left h ran));
+      same = placed script first i number now old new (ended now leg h (Some Migrated)) r n m.whole.added
+          ∙ ap report_text (sym (migrated_more last first script.legs r.histories now leg left h ran));
     }
 
-is_spent : (script : Script) (first : Plain) (i number : ℕ) (now : Plain) (old new line : List ℕ) (leg : Leg) (later : List Leg) → HasRunTo script first i now old → number ≡ i + 1 → drop i script.legs ≡ leg ∷ later
+is_spent : (script : Script) (first : Plain) (i number : ℕ) (now : Plain) (old new line : List ℕ) (leg : Leg) (later : List Leg)
+    → HasRunTo script first i now old → number ≡ i + 1 → drop i script.legs ≡ leg ∷ later
     → IsLegSpent script.desc.limits.place_last now leg number old new line → IsSpentReport script first (new ++ line)
 is_spent script first i number now old new line leg later r n e s =
     let last = script.desc.limits.place_last in
-    let ran : HaveRun last first script.legs r.histories now (leg ∷ later) = subst (λ (ls : List Leg). HaveRun last first script.legs r.histories now ls) e r.earlier in
+    let ran : HaveRun last first script.legs r.histories now (leg ∷ later) = subst (λ (ls : List Leg). HaveRun last first script.legs r.histories now ls) e
+    r.earlier in
     let number_is : number ≡ length r.histories + 1 = omega (arith, n, r.count) in
     let line_is : line ≡ spent_refusal (length r.histories + 1) = s.line_is ∙ ap spent_refusal number_is in
-    let partial : IsPartialRun first script.legs (r.histories ++ s.history ∷ []) = partial_run last first script.legs r.histories now leg later s.history ran s.is_part in
-    let here : new ≡ report_text (migrated first script.legs r.histories ++ cut_leg leg s.history ∷ []) = placed script first i number now old new (cut_leg leg s.history) r n s.added in
+    let partial : IsPartialRun first script.legs (r.histories ++ s.history ∷ []) = partial_run last first script.legs r.histories now leg later s.history ran
+    s.is_part in
+    let here : new ≡ report_text (migrated first script.legs r.histories ++ cut_leg leg s.history ∷ []) = placed script first i number now old new
+    (cut_leg leg s.history) r n s.added in
     record {
       histories = r.histories;
       now = now;
@@ -143,19 +157,24 @@ is_spent script first i number now old new line leg later r n e s =
       lpis = partial_lpis script first (r.histories ++ s.history ∷ []) partial;
       all_places = s.all_places;
       more = s.more;
-      same = ap (λ (t : List ℕ). t ++ line) here ∙ ap (λ (t : List ℕ). report_text (migrated first script.legs r.histories ++ cut_leg leg s.history ∷ []) ++ t) line_is;
+      same = ap (λ (t : List ℕ). t ++ line) here ∙ ap (λ (t : List ℕ). report_text (migrated first script.legs r.histories ++ cut_leg leg s.history ∷ []) ++ t)
+          line_is;
     }
 
-is_refused : (script : Script) (first : Plain) (i number : ℕ) (now : Plain) (old new line : List ℕ) (leg next : Leg) (later : List Leg) → HasRunTo script first i now old → number ≡ i + 1 → drop i script.legs ≡ leg ∷ next ∷ later
+is_refused : (script : Script) (first : Plain) (i number : ℕ) (now : Plain) (old new line : List ℕ) (leg next : Leg) (later : List Leg)
+    → HasRunTo script first i now old → number ≡ i + 1 → drop i script.legs ≡ leg ∷ next ∷ later
     → IsLegRefused script.desc.limits.place_last now leg number old new line → IsMigrationRefusal script first (new ++ line)
 is_refused script first i number now old new line leg next later r n e s =
     let last = script.desc.limits.place_last in
     let h = s.whole.history in
-    let ran : HaveRun last first script.legs r.histories now (leg ∷ next ∷ later) = subst (λ (ls : List Leg). HaveRun last first script.legs r.histories now ls) e r.earlier in
+    let ran : HaveRun last first script.legs r.histories now (leg ∷ next ∷ later) = subst (λ (ls : List Leg). HaveRun last first script.legs r.histories now ls)
+    e r.earlier in
     let number_is : number ≡ length r.histories + 1 = omega (arith, n, r.count) in
     let line_is : line ≡ migration_refusal (length r.histories + 1) s.fault = s.line_is ∙ ap (λ k. migration_refusal k s.fault) number_is in
-    let partial : IsPartialRun first script.legs (r.histories ++ h ∷ []) = partial_run last first script.legs r.histories now leg (next ∷ later) h ran (part_of_whole now leg h s.whole.is_run) in
-    let here : new ≡ report_text (migrated first script.legs r.histories ++ ended now leg h None ∷ []) = placed script first i number now old new (ended now leg h None) r n s.whole.added in
+    let partial : IsPartialRun first script.legs (r.histories ++ h ∷ []) = partial_run last first script.legs r.histories now leg (next ∷ later) h ran
+    (part_of_whole now leg h s.whole.is_run) in
+    let here : new ≡ report_text (migrated first script.legs r.histories ++ ended now leg h None ∷ []) = placed script first i number now old new
+    (ended now leg h None) r n s.whole.added in
     record {
       histories = r.histories;
       now = now;
@@ -170,17 +189,21 @@ is_refused script first i number now old new line leg next later r n e s =
       places = s.whole.places;
       fault = s.fault;
       refused = s.refused;
-      same = ap (λ (t : List ℕ). t ++ line) here ∙ ap (λ (t : List ℕ). report_text (migrated first script.legs r.histories ++ ended now leg h None ∷ []) ++ t) line_is;
+      same = ap (λ (t : List ℕ). t ++ line) here ∙ ap (λ (t : List ℕ). report_text (migrated first script.legs r.histories ++ ended now leg h None ∷ []) ++ t)
+          line_is;
     }
 
-is_done : (script : Script) (first : Plain) (i number : ℕ) (now : Plain) (old new line : List ℕ) (leg : Leg) → HasRunTo script first i now old → number ≡ i + 1 → drop i script.legs ≡ leg ∷ []
+is_done : (script : Script) (first : Plain) (i number : ℕ) (now : Plain) (old new line : List ℕ) (leg : Leg) → HasRunTo script first i now old → number ≡ i + 1
+    → drop i script.legs ≡ leg ∷ []
     → IsLegDone script.desc.limits.place_last now leg number old new line → IsReport script first (new ++ line)
 is_done script first i number now old new line leg r n e d =
     let last = script.desc.limits.place_last in
     let h = d.whole.history in
-    let ran : HaveRun last first script.legs r.histories now (leg ∷ []) = subst (λ (ls : List Leg). HaveRun last first script.legs r.histories now ls) e r.earlier in
+    let ran : HaveRun last first script.legs r.histories now (leg ∷ []) = subst (λ (ls : List Leg). HaveRun last first script.legs r.histories now ls) e
+    r.earlier in
     let run : IsRun first script.legs (r.histories ++ h ∷ []) = whole_run last first script.legs r.histories now leg h ran d.whole.is_run in
-    let here : new ≡ report_text (migrated first script.legs r.histories ++ ended now leg h (Some Done) ∷ []) = placed script first i number now old new (ended now leg h (Some Done)) r n d.whole.added in
+    let here : new ≡ report_text (migrated first script.legs r.histories ++ ended now leg h (Some Done) ∷ []) = placed script first i number now old new
+    (ended now leg h (Some Done)) r n d.whole.added in
     record {
       histories = r.histories ++ h ∷ [];
       is_run = run;
@@ -190,7 +213,8 @@ is_done script first i number now old new line leg r n e d =
     }
 
 -- a leg that isn't the last ended the run
-pub stops_here : (script : Script) (first : Plain) (i number : ℕ) (now : Plain) (old new line : List ℕ) (leg next : Leg) (later : List Leg) (s : Status) → HasRunTo script first i now old → number ≡ i + 1
+pub stops_here : (script : Script) (first : Plain) (i number : ℕ) (now : Plain) (old new line : List ℕ) (leg next : Leg) (later : List Leg) (s : Status)
+    → HasRunTo script first i now old → number ≡ i + 1
     → drop i script.legs ≡ leg ∷ next ∷ later → LegStops script.desc.limits.place_last now leg number old new s line → RunEnds script first s (new ++ line)
 stops_here script first i number now old new line leg next later status.Ok r n e h = absurd h
 stops_here script first i number now old new line leg next later status.ScriptRefused r n e h = absurd h
@@ -199,14 +223,17 @@ stops_here script first i number now old new line leg next later status.ReadFaul
 stops_here script first i number now old new line leg next later status.WriteFault r n e h = absurd h
 stops_here script first i number now old new line leg next later status.Memory r n e h = absurd h
 stops_here script first i number now old new line leg next later status.MachineRefused r n e h = absurd h
-stops_here script first i number now old new line leg next later status.MigrationRefused r n e h = is_refused script first i number now old new line leg next later r n e h
-stops_here script first i number now old new line leg next later status.Spent r n e h = is_spent script first i number now old new line leg (next ∷ later) r n e h
+stops_here script first i number now old new line leg next later status.MigrationRefused r n e h = is_refused script first i number now old new line leg next
+    later r n e h
+stops_here script first i number now old new line leg next later status.Spent r n e h = is_spent script first i number now old new line leg
+    (next ∷ later) r n e h
 stops_here script first i number now old new line leg next later status.TooLong r n e h = absurd h
 stops_here script first i number now old new line leg next later status.TraceDiffers r n e h = absurd h
 stops_here script first i number now old new line leg next later status.BadTrace r n e h = absurd h
 
 -- the last one did
-pub ends_here : (script : Script) (first : Plain) (i number : ℕ) (now : Plain) (old new line : List ℕ) (leg : Leg) (s : Status) → HasRunTo script first i now old → number ≡ i + 1
+pub ends_here : (script : Script) (first : Plain) (i number : ℕ) (now : Plain) (old new line : List ℕ) (leg : Leg) (s : Status)
+    → HasRunTo script first i now old → number ≡ i + 1
     → drop i script.legs ≡ leg ∷ [] → LegEnds script.desc.limits.place_last now leg number old new s line → RunEnds script first s (new ++ line)
 ends_here script first i number now old new line leg status.Ok r n e h = is_done script first i number now old new line leg r n e h
 ends_here script first i number now old new line leg status.ScriptRefused r n e h = absurd h

@@ -23,7 +23,8 @@ parts_layout d u p is same = ap (λ (x : Plain). x.layout) same ∙ first_layout
 
 -- ---- it is ready for the script
 
-pub is_ready : (script : Script) (m : Machine) (r : Pass) (p : Parts) → IsWithinLimits script → p.layout ≡ layout_of script.desc → IsOf m r → setup m ≡ setup_from script.desc p → m.desc ≡ kept_of script.desc → view r ≡ first_view (setup m)
+pub is_ready : (script : Script) (m : Machine) (r : Pass) (p : Parts) → IsWithinLimits script → p.layout ≡ layout_of script.desc → IsOf m r
+    → setup m ≡ setup_from script.desc p → m.desc ≡ kept_of script.desc → view r ≡ first_view (setup m)
     → IsReady script (record { machine = m; root = r })
 is_ready script m r p within layout of from kept view_is = record {
   within = within;

@@ -31,15 +31,18 @@ use Rattle.its_cli.specs.Summarized.{IsCounted, IsMade, pending_counts}
 use Rattle.its_cli.proofs.Endings.{not_savable}
 
 -- the script's first leg
-pub first_of : (signals threads : ℕ) (script : Script) (leg phases : Leg) → script ≡ generated signals threads → leg ≡ get_or script.legs 0 leg → phases ≡ leg → phases ≡ first_leg signals threads
+pub first_of : (signals threads : ℕ) (script : Script) (leg phases : Leg) → script ≡ generated signals threads → leg ≡ get_or script.legs 0 leg → phases ≡ leg
+    → phases ≡ first_leg signals threads
 first_of signals threads script leg phases same at is = is ∙ at ∙ ap (λ (s : Script). get_or s.legs 0 leg) same
 
-module _ (signals threads : ℕ) (script : Script) (made : IsMade signals threads script) (s : Setup) (leg : Leg) (lists : List ThreadList) (w : View) (same : leg ≡ first_leg signals threads) where
+module _ (signals threads : ℕ) (script : Script) (made : IsMade signals threads script) (s : Setup) (leg : Leg) (lists : List ThreadList) (w : View)
+    (same : leg ≡ first_leg signals threads) where
   leg_run : RanLeg s leg lists None w → IsLegRun s.start (first_leg signals threads) w.seen
   leg_run ran = record { legal = ran.legal; calls = subst (λ (l : Leg). ArePhases 1 l w.seen) same (ran.whole refl) }
 
   -- the state can be saved
-  pub can_be_saved : {X : Type 0} (f : SaveFault) → CanMigrate → IsFirstState script.desc s.start → RanLeg s leg lists None w → savable (after s.start w.seen) ≡ Err f → X
+  pub can_be_saved : {X : Type 0} (f : SaveFault) → CanMigrate → IsFirstState script.desc s.start → RanLeg s leg lists None w
+      → savable (after s.start w.seen) ≡ Err f → X
   can_be_saved f can starts ran refused =
       not_savable (after s.start w.seen) f refused
       (can signals threads made.asked s.start w.seen (subst (λ (t : Script). IsFirstState t.desc s.start) made.same starts) (leg_run ran))
@@ -48,9 +51,11 @@ module _ (signals threads : ℕ) (script : Script) (made : IsMade signals thread
 
 lengths : (lists : List (List Intid)) → map (λ lpis. length lpis) lists ≡ map (λ lpis. length lpis) (map (map (λ i. i.0)) lists)
 lengths [] = refl
-lengths (x ∷ xs) = ap (λ n. n ∷ map (λ (lpis : List Intid). length lpis) xs) (sym (length-map x (λ i. i.0))) ∙ ap (λ rest. length (map (λ (i : Intid). i.0) x) ∷ rest) (lengths xs)
+lengths (x ∷ xs) = ap (λ n. n ∷ map (λ (lpis : List Intid). length lpis) xs) (sym (length-map x (λ i. i.0)))
+    ∙ ap (λ rest. length (map (λ (i : Intid). i.0) x) ∷ rest) (lengths xs)
 
-pub pending_are : (lists : List (List Intid)) (m : Machine) (r : Pass) → map (map (λ i. i.0)) lists ≡ pending_at_rest (resting m r) → view r ≡ first_view (setup m)
+pub pending_are : (lists : List (List Intid)) (m : Machine) (r : Pass) → map (map (λ i. i.0)) lists ≡ pending_at_rest (resting m r)
+    → view r ≡ first_view (setup m)
     → map (λ lpis. length lpis) lists ≡ pending_counts (setup m).start
 pending_are lists m r told fresh =
     lengths lists ∙ ap (map (λ lpis. length lpis)) told

@@ -169,20 +169,28 @@ Ends s expected = (s ≡ expected) ⊎ (s ≡ status.Memory)
 pub record IsRunDecided (input : List ℕ) (s : Status) : Type 0 where
   pub too_long : 16777216 < length input → Ends s status.TooLong
   pub script_refused : length input ≤ 16777216 → (fault : ScriptFault) → script_of input ≡ Err fault → Ends s status.ScriptRefused
-  pub machine_refused : length input ≤ 16777216 → (script : Script) (fault : DescFault) → script_of input ≡ Ok script → IsRefused script.desc fault → Ends s status.MachineRefused
-  pub spent : length input ≤ 16777216 → (script : Script) (first : Plain) → IsScript input script first → AllEnd script.desc.limits.place_last first script.legs status.Spent → Ends s status.Spent
-  pub migration_refused : length input ≤ 16777216 → (script : Script) (first : Plain) → IsScript input script first → AllEnd script.desc.limits.place_last first script.legs status.MigrationRefused → Ends s status.MigrationRefused
-  pub complete : length input ≤ 16777216 → (script : Script) (first : Plain) → IsScript input script first → HasPlaces script.desc.limits.place_last script.legs → CanMigrate first script.legs → Ends s status.Ok
+  pub machine_refused : length input ≤ 16777216 → (script : Script) (fault : DescFault) → script_of input ≡ Ok script → IsRefused script.desc fault
+      → Ends s status.MachineRefused
+  pub spent : length input ≤ 16777216 → (script : Script) (first : Plain) → IsScript input script first
+      → AllEnd script.desc.limits.place_last first script.legs status.Spent → Ends s status.Spent
+  pub migration_refused : length input ≤ 16777216 → (script : Script) (first : Plain) → IsScript input script first
+      → AllEnd script.desc.limits.place_last first script.legs status.MigrationRefused → Ends s status.MigrationRefused
+  pub complete : length input ≤ 16777216 → (script : Script) (first : Plain) → IsScript input script first → HasPlaces script.desc.limits.place_last script.legs
+      → CanMigrate first script.legs → Ends s status.Ok
 
 -- and that of `check`
 pub record IsCheckDecided (input : List ℕ) (s : Status) : Type 0 where
   pub too_long : 16777216 < length input → Ends s status.TooLong
   pub script_refused : length input ≤ 16777216 → (fault : ScriptFault) → check_of input ≡ Err fault → Ends s status.ScriptRefused
-  pub machine_refused : length input ≤ 16777216 → (script : Script) (lines : List (List ℕ)) (fault : DescFault) → check_of input ≡ Ok (script, lines) → IsRefused script.desc fault → Ends s status.MachineRefused
-  pub bad_trace : length input ≤ 16777216 → (script : Script) (first : Plain) (report : List ℕ) (line : ℕ) → IsCheckInput input script first report → read_report script report ≡ Err line → Ends s status.BadTrace
-  pub differs : length input ≤ 16777216 → (script : Script) (first : Plain) (report : List ℕ) (told : List LegLines) → IsCheckInput input script first report → read_report script report ≡ Ok told
+  pub machine_refused : length input ≤ 16777216 → (script : Script) (lines : List (List ℕ)) (fault : DescFault) → check_of input ≡ Ok (script, lines)
+      → IsRefused script.desc fault → Ends s status.MachineRefused
+  pub bad_trace : length input ≤ 16777216 → (script : Script) (first : Plain) (report : List ℕ) (line : ℕ) → IsCheckInput input script first report
+      → read_report script report ≡ Err line → Ends s status.BadTrace
+  pub differs : length input ≤ 16777216 → (script : Script) (first : Plain) (report : List ℕ) (told : List LegLines) → IsCheckInput input script first report
+      → read_report script report ≡ Ok told
       → ¬ IsReportOfRun first script.legs told → Ends s status.TraceDiffers
-  pub complete : length input ≤ 16777216 → (script : Script) (first : Plain) (report : List ℕ) (told : List LegLines) → IsCheckInput input script first report → read_report script report ≡ Ok told
+  pub complete : length input ≤ 16777216 → (script : Script) (first : Plain) (report : List ℕ) (told : List LegLines) → IsCheckInput input script first report
+      → read_report script report ≡ Ok told
       → IsReportOfRun first script.legs told → Ends s status.Ok
 
 abbrev pub AskedDecides : Option Asked → Option (List ℕ) → Status → Type 0

@@ -45,14 +45,16 @@ pub fn its<R: Threads + Wait + Sync, S: Source, K: Sink, G: Gate + Sync>(
 ) -> Status
     // At each status but a write's fault the sink has its old bytes and then this text.
     ensures printed { result ≢ Status.WriteFault → (text : List ℕ)
-        × Causes (map (λ w. string_bytes w) words.now) (S.left source.old) (Rose (S.faults source.old) (S.faults source.new)) result text
+        × Causes (map (λ w. string_bytes w) words.now) (S.left source.old)
+        (Rose (S.faults source.old) (S.faults source.new)) result text
         × Appends (K.held sink.old) (K.held sink.new) text }
 
     // A write's fault comes only where the sink's count rose. The sink has a front of a text that
     // another status allows.
     ensures write_fault { result ≡ Status.WriteFault → Rose (K.faults sink.old) (K.faults sink.new)
         × ((status : Status) × (text : List ℕ) × (n : ℕ)
-        × Causes (map (λ w. string_bytes w) words.now) (S.left source.old) (Rose (S.faults source.old) (S.faults source.new)) status text
+        × Causes (map (λ w. string_bytes w) words.now) (S.left source.old)
+        (Rose (S.faults source.old) (S.faults source.new)) status text
         × Appends (K.held sink.old) (K.held sink.new) (take n text)) }
 
     // Where it ends well, `run` and `check` have read the source to its end.
@@ -61,7 +63,8 @@ pub fn its<R: Threads + Wait + Sync, S: Source, K: Sink, G: Gate + Sync>(
 
     // Where no count of faults rose, what the words and the bytes are decides, unless memory runs
     // out.
-    ensures decided { ¬ Rose (S.faults source.old) (S.faults source.new) → ¬ Rose (K.faults sink.old) (K.faults sink.new) →
+    ensures decided { ¬ Rose (S.faults source.old) (S.faults source.new)
+        → ¬ Rose (K.faults sink.old) (K.faults sink.new) →
         IsDecided (map (λ w. string_bytes w) words.now) (S.left source.old) result }
 {
     command(rt, alloc, words, source, sink, gate)
@@ -78,14 +81,16 @@ fn command<R: Threads + Wait + Sync, S: Source, K: Sink, G: Gate + Sync>(
 ) -> Status
     // At each status but a write's fault the sink has its old bytes and then this text.
     ensures printed { result ≢ Status.WriteFault → (text : List ℕ)
-        × Causes (map (λ w. string_bytes w) words.now) (S.left source.old) (Rose (S.faults source.old) (S.faults source.new)) result text
+        × Causes (map (λ w. string_bytes w) words.now) (S.left source.old)
+        (Rose (S.faults source.old) (S.faults source.new)) result text
         × Appends (K.held sink.old) (K.held sink.new) text }
 
     // A write's fault comes only where the sink's count rose. The sink has a front of a text that
     // another status allows.
     ensures write_fault { result ≡ Status.WriteFault → Rose (K.faults sink.old) (K.faults sink.new)
         × ((status : Status) × (text : List ℕ) × (n : ℕ)
-        × Causes (map (λ w. string_bytes w) words.now) (S.left source.old) (Rose (S.faults source.old) (S.faults source.new)) status text
+        × Causes (map (λ w. string_bytes w) words.now) (S.left source.old)
+        (Rose (S.faults source.old) (S.faults source.new)) status text
         × Appends (K.held sink.old) (K.held sink.new) (take n text)) }
 
     ensures to_the_end { result ≡ Status.Ok →
@@ -108,7 +113,8 @@ fn answer_words<R: Threads + Wait + Sync, S: Source, G: Gate + Sync>(
     report: &mut String,
 ) -> Answer
     requires { string_bytes report.old ≡ [] }
-    ensures caused { AnswerIsCaused (Causes (map (λ w. string_bytes w) words.now) (S.left source.old)
+    ensures caused { AnswerIsCaused
+        (Causes (map (λ w. string_bytes w) words.now) (S.left source.old)
         (Rose (S.faults source.old) (S.faults source.new))) (string_bytes report.new) result }
     ensures to_the_end { MayEndWell result →
         Reads (map (λ w. string_bytes w) words.now) (S.left source.old) (S.left source.new) }
@@ -131,7 +137,8 @@ fn run_command<R: Threads + Wait + Sync, S: Source, G: Gate + Sync>(
     report: &mut String,
 ) -> Answer
     requires { string_bytes report.old ≡ [] }
-    ensures caused { AnswerIsCaused (RunCauses (S.left source.old) (Rose (S.faults source.old) (S.faults source.new)))
+    ensures caused { AnswerIsCaused
+        (RunCauses (S.left source.old) (Rose (S.faults source.old) (S.faults source.new)))
         (string_bytes report.new) result }
     ensures later { S.faults source.old ≤ S.faults source.new }
     ensures to_the_end { MayEndWell result → IsAtEnd (S.left source.old) (S.left source.new) }
@@ -150,7 +157,8 @@ fn run_command<R: Threads + Wait + Sync, S: Source, G: Gate + Sync>(
 
 // What the source says, checked.
 fn check_command<S: Source>(alloc: Global, source: &mut S) -> Answer
-    ensures caused { AnswerIsCaused (CheckCauses (S.left source.old) (Rose (S.faults source.old) (S.faults source.new)))
+    ensures caused { AnswerIsCaused
+        (CheckCauses (S.left source.old) (Rose (S.faults source.old) (S.faults source.new)))
         [] result }
     ensures to_the_end { MayEndWell result → IsAtEnd (S.left source.old) (S.left source.new) }
 {
@@ -205,7 +213,8 @@ fn print<K: Sink>(sink: &mut K, report: &str, line: &str, status: Status) -> Sta
     ensures printed { result ≢ Status.WriteFault →
         (result ≡ status) × Appends (K.held sink.old) (K.held sink.new) (report.now ++ line.now) }
     ensures write_fault { result ≡ Status.WriteFault → Rose (K.faults sink.old) (K.faults sink.new)
-        × ((n : ℕ) × Appends (K.held sink.old) (K.held sink.new) (take n (report.now ++ line.now))) }
+        × ((n : ℕ) × Appends (K.held sink.old) (K.held sink.new)
+        (take n (report.now ++ line.now))) }
 {
     match write_both(sink, report.as_bytes(), line.as_bytes()) {
         Ok(()) => status,

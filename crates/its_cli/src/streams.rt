@@ -35,8 +35,10 @@ pub fn read_all<S: Source>(
     ensures all { IfOk result (λ input. Tells (S.left source.old) input.items) }
     ensures to_the_end { OnOk result (IsAtEnd (S.left source.old) (S.left source.new)) }
     ensures short { IfOk result (λ input. length input.items ≤ limit) }
-    ensures too_long { IsErrOf result ReadAllError.TooLong → IfSome (S.left source.old) (λ all. limit < length all) }
-    ensures failed { IsErrOf result ReadAllError.Failed → Rose (S.faults source.old) (S.faults source.new) }
+    ensures too_long { IsErrOf result ReadAllError.TooLong
+        → IfSome (S.left source.old) (λ all. limit < length all) }
+    ensures failed { IsErrOf result ReadAllError.Failed
+        → Rose (S.faults source.old) (S.faults source.new) }
     ensures later { S.faults source.old ≤ S.faults source.new }
 {
     let mut input = Vec::new(alloc);
@@ -56,7 +58,8 @@ pub fn read_all<S: Source>(
 /// Writes the whole text. Where the sink fails, it has some front of it.
 fn write_all<K: Sink>(sink: &mut K, text: &[u8]) -> Result<(), Failed>
     ensures ok { OnOk result (Appends (K.held sink.old) (K.held sink.new) text.now) }
-    ensures err { OnErr result ((k : ℕ) × Appends (K.held sink.old) (K.held sink.new) (take k text.now)) }
+    ensures err { OnErr result ((k : ℕ) × Appends (K.held sink.old) (K.held sink.new)
+        (take k text.now)) }
     ensures cause { HasCause (K.faults sink.old) (K.faults sink.new) result }
 {
     let mut at = 0;
@@ -68,7 +71,8 @@ fn write_all<K: Sink>(sink: &mut K, text: &[u8]) -> Result<(), Failed>
 
 /// Writes a text and then another. Where the sink fails, it has some front of both.
 pub fn write_both<K: Sink>(sink: &mut K, first: &[u8], second: &[u8]) -> Result<(), Failed>
-    ensures ok { OnOk result (Appends (K.held sink.old) (K.held sink.new) (first.now ++ second.now)) }
+    ensures ok { OnOk result
+        (Appends (K.held sink.old) (K.held sink.new) (first.now ++ second.now)) }
     ensures err { OnErr result ((k : ℕ) ×
         Appends (K.held sink.old) (K.held sink.new) (take k (first.now ++ second.now))) }
     ensures cause { HasCause (K.faults sink.old) (K.faults sink.new) result }

@@ -72,7 +72,8 @@ fn count_leg<R: Threads + Wait + Sync, G: Gate + Sync>(
     requires made { spec.IsMade signals threads script.now }
     requires ready { IsReady script.now shared }
     requires first { IsFirstState script.now.desc (setup shared.machine).start }
-    ensures { IfOk result (λ r. spec.IsCounted signals threads (setup shared.machine).start r.0 r.1) }
+    ensures { IfOk result
+        (λ r. spec.IsCounted signals threads (setup shared.machine).start r.0 r.1) }
 {
     let Shared { machine, mut root } = shared;
     let leg = script.legs.as_slice()[0].as_slice();

@@ -99,5 +99,20 @@ is_decoded b =
     pick Is (nat_eq n 0x0C) _ _ (λ e. (eqb-true n 0x0C e, refl, refl)) (λ inv.
     pick Is (nat_eq n 0x0D) _ _ (λ e. (eqb-true n 0x0D e, refl)) (λ invall.
     pick Is (nat_eq n 0x0E) _ _ (λ e. (eqb-true n 0x0E e, refl, refl)) (λ movall.
-    pick Is (nat_eq n 0x0F) _ _ (λ e. (eqb-true n 0x0F e, refl, refl)) (λ discard.
-    (refl, unknown n (record { movi = movi; int = int; clear = clear; sync = sync; mapd = mapd; mapc = mapc; mapti = mapti; mapi = mapi; inv = inv; invall = invall; movall = movall; discard = discard }))))))))))))))
+    pick Is (nat_eq n 0x0F) _ _ (λ e. (eqb-true n 0x0F e, refl, refl)) (λ discard. (
+      refl,
+      unknown n (record {
+        movi = movi;
+        int = int;
+        clear = clear;
+        sync = sync;
+        mapd = mapd;
+        mapc = mapc;
+        mapti = mapti;
+        mapi = mapi;
+        inv = inv;
+        invall = invall;
+        movall = movall;
+        discard = discard;
+      }),
+    )))))))))))))

@@ -19,7 +19,8 @@ unfolding vcpu_text
 vcpu_flat vcpu pending = simp append_assoc
 
 pub leg_flat : (number : ℕ) (leg : Leg) (later : List ℕ)
-    → leg_text number leg ++ later ≡ (codes "leg " ++ decimal number) ++ (10 ∷ (entry_lines leg.entries ++ (vcpu_lines_from 0 leg.pending ++ (end_text leg.end ++ later))))
+    → leg_text number leg ++ later ≡ (codes "leg " ++ decimal number)
+    ++ (10 ∷ (entry_lines leg.entries ++ (vcpu_lines_from 0 leg.pending ++ (end_text leg.end ++ later))))
 unfolding leg_text
 leg_flat number leg later = simp append_assoc
 

@@ -4,7 +4,8 @@ use mathlib.Core.Logic.{dite}
 use native.Mathlib.Decide.{ℕ_discrete}
 use Rattle.std.specs.List.{AllByRecursion}
 use Rattle.std.specs.List.Sorted.{IsPermutation}
-use Rattle.std.proofs.lemmas.List.Sorted.{IsPermutation-refl, IsPermutation-cons, IsPermutation-append_right, IsPermutation-middle, IsPermutation-trans, IsPermutation-sym}
+use Rattle.std.proofs.lemmas.List.Sorted.{IsPermutation-refl, IsPermutation-cons, IsPermutation-append_right, IsPermutation-middle, IsPermutation-trans}
+use Rattle.std.proofs.lemmas.List.Sorted.{IsPermutation-sym}
 use Rattle.its_types.specs.declared.machine.Placed.{Placed}
 use Rattle.its_plain.specs.declared.call.Call.{Call}
 use Rattle.its_plain.specs.declared.call.Entry.{Entry}
@@ -19,7 +20,8 @@ use Rattle.its_history.proofs.Unique.{Each, Increasing, sorted_unique}
 
 -- ---- one pass
 
-lines_here : (seat : ℕ → Seat) (m n : ℕ) (e : Entry) (h : List Entry) → e.pass ≡ m → pass_lines seat m n (e ∷ h) ≡ entry_line seat n e ∷ pass_lines seat m (suc n) h
+lines_here : (seat : ℕ → Seat) (m n : ℕ) (e : Entry) (h : List Entry) → e.pass ≡ m → pass_lines seat m n (e ∷ h) ≡ entry_line seat n e ∷ pass_lines seat m
+    (suc n) h
 lines_here seat m n e h is = ap (λ b. cond b (entry_line seat n e ∷ pass_lines seat m (suc n) h) (pass_lines seat m (suc n) h)) (eq-eqb e.pass m is)
 
 lines_else : (seat : ℕ → Seat) (m n : ℕ) (e : Entry) (h : List Entry) → e.pass ≢ m → pass_lines seat m n (e ∷ h) ≡ pass_lines seat m (suc n) h
@@ -53,12 +55,14 @@ thread_gives_it seat m n (e ∷ h) later =
     (λ is. ap (λ cs. lines cs (replies_by m n (e ∷ h))) (calls_here m e h is) ∙ ap (lines (e.call ∷ calls_by m h)) (replies_here m n e h is)
     ∙ ap (λ (k : ℕ). line_of n (seat k).0 (seat k).1 e.call e.reply ∷ lines (calls_by m h) (replies_by m (suc n) h)) (sym is)
     ∙ ap (λ ls. entry_line seat n e ∷ ls) rest ∙ sym (lines_here seat m n e h is))
-    (λ ne. ap (λ cs. lines cs (replies_by m n (e ∷ h))) (calls_else m e h ne) ∙ ap (lines (calls_by m h)) (replies_else m n e h ne) ∙ rest ∙ sym (lines_else seat m n e h ne))
+    (λ ne. ap (λ cs. lines cs (replies_by m n (e ∷ h))) (calls_else m e h ne) ∙ ap (lines (calls_by m h)) (replies_else m n e h ne) ∙ rest
+    ∙ sym (lines_else seat m n e h ne))
 
 -- ---- all passes
 
 -- an entry of an earlier pass is in none of them
-passes_else : (seat : ℕ → Seat) (m count n : ℕ) (e : Entry) (h : List Entry) → e.pass < m → passes_lines seat m count n (e ∷ h) ≡ passes_lines seat m count (suc n) h
+passes_else : (seat : ℕ → Seat) (m count n : ℕ) (e : Entry) (h : List Entry) → e.pass < m → passes_lines seat m count n (e ∷ h) ≡ passes_lines seat m count
+    (suc n) h
 passes_else seat m zero n e h lt = refl
 passes_else seat m (suc count) n e h lt = let ne : e.pass ≢ m = λ s. absurd (omega arith) in
     λ d. lines_else seat m n e h ne d ++ passes_else seat (suc m) count n e h (omega arith) d
@@ -68,7 +72,8 @@ passes_nil seat m zero n = refl
 passes_nil seat m (suc count) n = passes_nil seat (suc m) count n
 
 -- an entry of one of the passes stands once among their lines
-passes_one : (seat : ℕ → Seat) (m count n : ℕ) (e : Entry) (h : List Entry) → m ≤ e.pass → e.pass < m + count → IsPermutation (passes_lines seat m count n (e ∷ h)) (entry_line seat n e ∷ passes_lines seat m count (suc n) h)
+passes_one : (seat : ℕ → Seat) (m count n : ℕ) (e : Entry) (h : List Entry) → m ≤ e.pass → e.pass < m + count
+    → IsPermutation (passes_lines seat m count n (e ∷ h)) (entry_line seat n e ∷ passes_lines seat m count (suc n) h)
 passes_one seat m zero n e h le lt = absurd (omega arith)
 passes_one seat m (suc count) n e h le lt =
     let line = entry_line seat n e in
@@ -86,12 +91,14 @@ passes_one seat m (suc count) n e h le lt =
     (IsPermutation-middle mine line later)))
 
 -- the lines of all passes are the history's in another order
-pub passes_all : (seat : ℕ → Seat) (m count n : ℕ) (h : List Entry) → AllByRecursion (IsOfPasses m count) h → IsPermutation (passes_lines seat m count n h) (history_lines seat n h)
+pub passes_all : (seat : ℕ → Seat) (m count n : ℕ) (h : List Entry) → AllByRecursion (IsOfPasses m count) h → IsPermutation (passes_lines seat m count n h)
+    (history_lines seat n h)
 passes_all seat m count n [] of = subst (λ (xs : List EntryLine). IsPermutation xs []) (sym (passes_nil seat m count n)) (IsPermutation-refl [])
 passes_all seat m count n (e ∷ h) of =
     let line = entry_line seat n e in
     IsPermutation-trans (passes_lines seat m count n (e ∷ h)) (line ∷ passes_lines seat m count (suc n) h) (history_lines seat n (e ∷ h))
-    (passes_one seat m count n e h of.0.0 of.0.1) (IsPermutation-cons line (passes_lines seat m count (suc n) h) (history_lines seat (suc n) h) (passes_all seat m count (suc n) h of.1))
+    (passes_one seat m count n e h of.0.0 of.0.1) (IsPermutation-cons line (passes_lines seat m count (suc n) h) (history_lines seat (suc n) h)
+    (passes_all seat m count (suc n) h of.1))
 
 increasing : (seat : ℕ → Seat) (n : ℕ) (h : List Entry) → Increasing (λ (l : EntryLine). l.place) (history_lines seat n h)
 increasing seat n [] = tt
@@ -105,4 +112,5 @@ pub merge_gives_it : MergeGives
 merge_gives_it seat m count n h lines of same rises =
     let passes = passes_lines seat m count n h in
     let whole = history_lines seat n h in
-    sorted_unique (λ (l : EntryLine). l.place) whole lines (increasing seat n h) (IsPermutation-trans whole passes lines (IsPermutation-sym passes whole (passes_all seat m count n h of)) same) rises
+    sorted_unique (λ (l : EntryLine). l.place) whole lines (increasing seat n h)
+    (IsPermutation-trans whole passes lines (IsPermutation-sym passes whole (passes_all seat m count n h of)) same) rises

@@ -1,5 +1,6 @@
 -- What is read prints as it was.
-use Rattle.std.proofs.Common.{◌≡◌, ℕ, zero, suc, ◌+◌, Bool, true, false, List, [], ◌∷◌, ◌++◌, length, Option, Some, None, Result, Ok, Err, refl, sym, ap, subst, ◌∙◌, append_assoc, append-nil, arith}
+use Rattle.std.proofs.Common.{◌≡◌, ℕ, zero, suc, ◌+◌, Bool, true, false, List, [], ◌∷◌, ◌++◌, length, Option, Some, None, Result, Ok, Err, refl, sym, ap}
+use Rattle.std.proofs.Common.{subst, ◌∙◌, append_assoc, append-nil, arith}
 use Rattle.std.specs.Prelude.{codes, if◌then◌else◌, nat_lt}
 use Rattle.std.specs.Option.{ok_or}
 use Rattle.std.specs.Str.{bytes_eq}
@@ -8,7 +9,9 @@ use Rattle.std.specs.Fmt.{decimal}
 use Rattle.std.proofs.lemmas.Bool.{eqb-true}
 use Rattle.std.proofs.lemmas.List.Splits.{join_with_byte-slice_split}
 use Rattle.its_history.specs.Report.{told_text, line_text, entry_lines, vcpu_text, vcpu_lines_from, end_text, leg_text, legs_from, report_text}
-use Rattle.its_history.specs.Reading.{◌>>=◌, only, is_printed, after, cut_at, pending_in, head_in, end_in, end_word, told_in, entry_in, LinesLeft, lines_left, next_of, next_line, said, read, ◌then◌, entry_then, entries_from, pending_from, leg_from, end_of, is_over, parts, trace_of}
+use Rattle.its_history.specs.Reading.{◌>>=◌, only, is_printed, after, cut_at, pending_in, head_in, end_in, end_word, told_in, entry_in, LinesLeft, lines_left}
+use Rattle.its_history.specs.Reading.{next_of, next_line, said, read, ◌then◌, entry_then, entries_from, pending_from, leg_from, end_of, is_over, parts}
+use Rattle.its_history.specs.Reading.{trace_of}
 use Rattle.its_history.specs.Reading as reading
 use Rattle.its_history.specs.ReadBack.{ArePlaced, HasLegShape, HasShape, ReadReportsPrint}
 use Rattle.its_history.specs.declared.trace.End.{End}
@@ -24,7 +27,8 @@ text_of l = join_with_byte 10 l.parts
 
 -- ---- lines
 
-next_is : (n : ℕ) (ps : List (List ℕ)) (line : List ℕ) (later : LinesLeft) → next_of n ps ≡ Some (line, later) → join_with_byte 10 ps ≡ line ++ 10 ∷ text_of later
+next_is : (n : ℕ) (ps : List (List ℕ)) (line : List ℕ) (later : LinesLeft) → next_of n ps ≡ Some (line, later) → join_with_byte 10 ps ≡ line
+    ++ 10 ∷ text_of later
 next_is n [] line later e = absurd cc
 next_is n (last ∷ []) line later e = absurd cc
 next_is n (text ∷ (next ∷ rest)) line later e =
@@ -76,7 +80,8 @@ entry_line_is place line e is =
     let thread = (number_printed t.rest.0 e.thread t.made.thread_is).1 in
     let told : l.told ≡ told_text e.phase e.thread e.text =
     cut_is 46 l.told t.seat t.seat_is ∙ ap (λ (p : List ℕ). p ++ 46 ∷ t.seat.1) (sym phase)
-    ∙ ap (λ (r : List ℕ). decimal e.phase ++ 46 ∷ r) (cut_is 32 t.seat.1 t.rest t.rest_is ∙ ap (λ (p : List ℕ). p ++ 32 ∷ t.rest.1) (sym thread) ∙ ap (λ (x : List ℕ). decimal e.thread ++ 32 ∷ x) t.made.text_is)
+    ∙ ap (λ (r : List ℕ). decimal e.phase ++ 46 ∷ r) (cut_is 32 t.seat.1 t.rest t.rest_is ∙ ap (λ (p : List ℕ). p ++ 32 ∷ t.rest.1) (sym thread)
+    ∙ ap (λ (x : List ℕ). decimal e.thread ++ 32 ∷ x) t.made.text_is)
     ∙ sym (told_flat e.phase e.thread e.text) in (
       after_is (decimal place) line l.numbered l.numbered_is
           ∙ ap (λ (x : List ℕ). decimal place ++ x) (after_is (codes " ") l.numbered l.told l.told_is ∙ ap (λ (x : List ℕ). 32 ∷ x) told)
@@ -100,7 +105,8 @@ head_line_is : (number : ℕ) (line : List ℕ) (x : Unit {0}) → head_in numbe
 unfolding head_in
 head_line_is number line x is =
     let a = bound (after (codes "leg ") line) (λ y. (let made : Option (Unit {0}) = only (bytes_eq y (decimal number)) tt in made)) x is in
-    after_is (codes "leg ") line a.x a.first ∙ ap (λ (y : List ℕ). codes "leg " ++ y) (same_text a.x (decimal number) (only_some (bytes_eq a.x (decimal number)) tt x a.second).0)
+    after_is (codes "leg ") line a.x a.first ∙ ap (λ (y : List ℕ). codes "leg " ++ y)
+    (same_text a.x (decimal number) (only_some (bytes_eq a.x (decimal number)) tt x a.second).0)
 
 end_line_is : (end : End) (line : List ℕ) (x : Unit {0}) → end_in end line ≡ Some x → line ++ line_end ≡ end_text (Some end)
 unfolding end_text
@@ -112,13 +118,15 @@ end_line_is Done line x is = ap (λ (y : List ℕ). y ++ line_end) (same_text li
 abbrev EntriesPrint : ℕ → List (List ℕ) → List EntryLine × LinesLeft → Type 0
 EntriesPrint place ps r = (join_with_byte 10 ps ≡ entry_lines r.0 ++ text_of r.1) × ArePlaced place r.0
 
-entry_prints : (place n : ℕ) (text next : List ℕ) (rest : List (List ℕ)) (o : Option EntryLine) (more : List EntryLine × LinesLeft) → ((e : EntryLine) → o ≡ Some e → (text ≡ line_text e) × (e.place ≡ place))
+entry_prints : (place n : ℕ) (text next : List ℕ) (rest : List (List ℕ)) (o : Option EntryLine) (more : List EntryLine × LinesLeft)
+    → ((e : EntryLine) → o ≡ Some e → (text ≡ line_text e) × (e.place ≡ place))
     → EntriesPrint (place + 1) (next ∷ rest) more → EntriesPrint place (text ∷ (next ∷ rest)) (entry_then o more (lines_left n (text ∷ (next ∷ rest))))
 entry_prints place n text next rest None more is h = (refl, tt)
 entry_prints place n text next rest (Some e) more is h =
     let line = is e refl in (
       ap (λ (t : List ℕ). t ++ 10 ∷ join_with_byte 10 (next ∷ rest)) line.0 ∙ ap (λ (t : List ℕ). line_text e ++ 10 ∷ t) h.0
-          ∙ sym (line_on (line_text e) (entry_lines more.0 ++ text_of more.1)) ∙ sym (append_assoc (line_text e ++ line_end) (entry_lines more.0) (text_of more.1)),
+          ∙ sym (line_on (line_text e) (entry_lines more.0 ++ text_of more.1))
+          ∙ sym (append_assoc (line_text e ++ line_end) (entry_lines more.0) (text_of more.1)),
       (line.1, h.1),
     )
 
@@ -139,14 +147,17 @@ PendingPrints vcpu count here r = (text_of here ≡ vcpu_lines_from vcpu r.0 ++ 
 pending_print : (vcpu count : ℕ) (here : LinesLeft) (r : List (List ℕ) × LinesLeft) → pending_from vcpu count here ≡ Ok r → PendingPrints vcpu count here r
 pending_print vcpu zero here r e = (let same : ([], here) ≡ r = cc in subst (PendingPrints vcpu 0 here) same (refl, refl))
 pending_print vcpu (suc count) here r e =
-    let a = then_ok (read (pending_in vcpu) here) (λ p. pending_from (vcpu + 1) count p.1 then λ q. (let made : Result (List (List ℕ) × LinesLeft) ℕ = Ok (p.0 ∷ q.0, q.1) in made)) r e in
+    let a = then_ok (read (pending_in vcpu) here) (λ p. pending_from (vcpu + 1) count p.1 then λ q.
+    (let made : Result (List (List ℕ) × LinesLeft) ℕ = Ok (p.0 ∷ q.0, q.1) in made)) r e in
     let b = then_ok (pending_from (vcpu + 1) count a.x.1) (λ q. (let made : Result (List (List ℕ) × LinesLeft) ℕ = Ok (a.x.0 ∷ q.0, q.1) in made)) r a.second in
     let same : (a.x.0 ∷ b.x.0, b.x.1) ≡ r = cc in
     let line = read_is (pending_in vcpu) here a.x.0 a.x.1 a.first in
     let more = pending_print (vcpu + 1) count a.x.1 b.x b.first in
     subst (PendingPrints vcpu (suc count) here) same (
-      line.text ∙ ap (λ (t : List ℕ). t ++ 10 ∷ text_of a.x.1) (pending_line_is vcpu line.line a.x.0 line.says) ∙ ap (λ (t : List ℕ). vcpu_text vcpu a.x.0 ++ 10 ∷ t) more.0
-          ∙ sym (line_on (vcpu_text vcpu a.x.0) (vcpu_lines_from (vcpu + 1) b.x.0 ++ text_of b.x.1)) ∙ sym (append_assoc (vcpu_text vcpu a.x.0 ++ line_end) (vcpu_lines_from (vcpu + 1) b.x.0) (text_of b.x.1)),
+      line.text ∙ ap (λ (t : List ℕ). t ++ 10 ∷ text_of a.x.1) (pending_line_is vcpu line.line a.x.0 line.says)
+          ∙ ap (λ (t : List ℕ). vcpu_text vcpu a.x.0 ++ 10 ∷ t) more.0
+          ∙ sym (line_on (vcpu_text vcpu a.x.0) (vcpu_lines_from (vcpu + 1) b.x.0 ++ text_of b.x.1))
+          ∙ sym (append_assoc (vcpu_text vcpu a.x.0 ++ line_end) (vcpu_lines_from (vcpu + 1) b.x.0) (text_of b.x.1)),
       ap suc more.1,
     )
 
@@ -162,10 +173,12 @@ pub record LegPrints (vcpus number : ℕ) (end : End) (here : LinesLeft) (r : Le
 leg_prints : (vcpus number : ℕ) (end : End) (here : LinesLeft) (r : Leg × LinesLeft) → leg_from vcpus number end here ≡ Ok r → LegPrints vcpus number end here r
 unfolding leg_from
 leg_prints vcpus number end here r e =
-    let a = then_ok (read (head_in number) here) (λ h. let es = entries_from 0 h.1.number h.1.parts in pending_from 0 vcpus es.1 then λ ps. read (end_in end) ps.1 then λ e.
+    let a = then_ok (read (head_in number) here) (λ h. let es = entries_from 0 h.1.number h.1.parts in pending_from 0 vcpus es.1 then λ ps.
+    read (end_in end) ps.1 then λ e.
     (let made : Result (Leg × LinesLeft) ℕ = Ok (made_leg es.0 ps.0 end, e.1) in made)) r e in
     let es = entries_from 0 a.x.1.number a.x.1.parts in
-    let b = then_ok (pending_from 0 vcpus es.1) (λ ps. read (end_in end) ps.1 then λ e. (let made : Result (Leg × LinesLeft) ℕ = Ok (made_leg es.0 ps.0 end, e.1) in made)) r a.second in
+    let b = then_ok (pending_from 0 vcpus es.1) (λ ps. read (end_in end) ps.1 then λ e.
+    (let made : Result (Leg × LinesLeft) ℕ = Ok (made_leg es.0 ps.0 end, e.1) in made)) r a.second in
     let d = then_ok (read (end_in end) b.x.1) (λ e. (let made : Result (Leg × LinesLeft) ℕ = Ok (made_leg es.0 b.x.0 end, e.1) in made)) r b.second in
     let same : (made_leg es.0 b.x.0 end, d.x.1) ≡ r = cc in
     let head = read_is (head_in number) here a.x.0 a.x.1 a.first in
@@ -175,7 +188,8 @@ leg_prints vcpus number end here r e =
     subst (λ (p : Leg × LinesLeft). LegPrints vcpus number end here p) same (record {
       text = head.text ∙ ap (λ (t : List ℕ). t ++ 10 ∷ text_of a.x.1) (head_line_is number head.line a.x.0 head.says)
           ∙ ap (λ (t : List ℕ). (codes "leg " ++ decimal number) ++ 10 ∷ t) (entries.0 ∙ ap (λ (t : List ℕ). entry_lines es.0 ++ t)
-          (pending.0 ∙ ap (λ (t : List ℕ). vcpu_lines_from 0 b.x.0 ++ t) (last.text ∙ sym (line_on last.line (text_of d.x.1)) ∙ ap (λ (t : List ℕ). t ++ text_of d.x.1) (end_line_is end last.line d.x.0 last.says))))
+          (pending.0 ∙ ap (λ (t : List ℕ). vcpu_lines_from 0 b.x.0 ++ t) (last.text ∙ sym (line_on last.line (text_of d.x.1))
+          ∙ ap (λ (t : List ℕ). t ++ text_of d.x.1) (end_line_is end last.line d.x.0 last.says))))
           ∙ sym (leg_flat number (made_leg es.0 b.x.0 end) (text_of d.x.1));
       shape = record { placed = entries.1; pending = pending.1; end_is = refl };
     })
@@ -183,16 +197,20 @@ leg_prints vcpus number end here r e =
 abbrev LegsPrint : ℕ → ℕ → ℕ → LinesLeft → List Leg × LinesLeft → Type 0
 LegsPrint vcpus number count here r = (text_of here ≡ legs_from number r.0 ++ text_of r.1) × HasShape vcpus count r.0
 
-legs_print : (vcpus number count : ℕ) (here : LinesLeft) (r : List Leg × LinesLeft) → reading.legs_from vcpus number count here ≡ Ok r → LegsPrint vcpus number count here r
+legs_print : (vcpus number count : ℕ) (here : LinesLeft) (r : List Leg × LinesLeft) → reading.legs_from vcpus number count here ≡ Ok r
+    → LegsPrint vcpus number count here r
 legs_print vcpus number zero here r e = (let same : ([], here) ≡ r = cc in subst (LegsPrint vcpus number 0 here) same (refl, tt))
 legs_print vcpus number (suc later) here r e =
-    let a = then_ok (leg_from vcpus number (end_of later) here) (λ p. reading.legs_from vcpus (number + 1) later p.1 then λ q. (let made : Result (List Leg × LinesLeft) ℕ = Ok (p.0 ∷ q.0, q.1) in made)) r e in
-    let b = then_ok (reading.legs_from vcpus (number + 1) later a.x.1) (λ q. (let made : Result (List Leg × LinesLeft) ℕ = Ok (a.x.0 ∷ q.0, q.1) in made)) r a.second in
+    let a = then_ok (leg_from vcpus number (end_of later) here) (λ p. reading.legs_from vcpus (number + 1) later p.1 then λ q.
+    (let made : Result (List Leg × LinesLeft) ℕ = Ok (p.0 ∷ q.0, q.1) in made)) r e in
+    let b = then_ok (reading.legs_from vcpus (number + 1) later a.x.1) (λ q. (let made : Result (List Leg × LinesLeft) ℕ = Ok (a.x.0 ∷ q.0, q.1) in made)) r
+    a.second in
     let same : (a.x.0 ∷ b.x.0, b.x.1) ≡ r = cc in
     let leg = leg_prints vcpus number (end_of later) here a.x a.first in
     let more = legs_print vcpus (number + 1) later a.x.1 b.x b.first in
     subst (LegsPrint vcpus number (suc later) here) same (
-      leg.text ∙ ap (λ (t : List ℕ). leg_text number a.x.0 ++ t) more.0 ∙ sym (append_assoc (leg_text number a.x.0) (legs_from (number + 1) b.x.0) (text_of b.x.1)),
+      leg.text ∙ ap (λ (t : List ℕ). leg_text number a.x.0 ++ t) more.0 ∙ sym (append_assoc (leg_text number a.x.0) (legs_from (number + 1) b.x.0)
+          (text_of b.x.1)),
       (leg.shape, more.1),
     )
 
@@ -204,7 +222,8 @@ nothing_left ([] ∷ []) e = refl
 nothing_left ((b ∷ bs) ∷ []) e = (let none : suc (length bs) ≡ 0 = eqb-true (suc (length bs)) 0 e in absurd (omega arith))
 nothing_left (text ∷ (next ∷ rest)) e = absurd cc
 
-over_by : (told ls : List Leg) (l : LinesLeft) (b : Bool) → is_over l.parts ≡ b → (let r : Result (List Leg) ℕ = if b then Ok ls else Err l.number in r) ≡ Ok told → (is_over l.parts ≡ true) × (ls ≡ told)
+over_by : (told ls : List Leg) (l : LinesLeft) (b : Bool) → is_over l.parts ≡ b → (let r : Result (List Leg) ℕ = if b then Ok ls else Err l.number in r)
+    ≡ Ok told → (is_over l.parts ≡ true) × (ls ≡ told)
 over_by told ls l true o e = (o, cc)
 over_by told ls l false o e = absurd cc
 
@@ -212,10 +231,12 @@ pub reports_print : ReadReportsPrint
 unfolding trace_of
 reports_print legs vcpus text told e =
     let here = lines_left 1 (parts text) in
-    let a = then_ok (reading.legs_from vcpus 1 legs here) (λ p. (let r : Result (List Leg) ℕ = if is_over p.1.parts then Ok p.0 else Err p.1.number in r)) told e in
+    let a = then_ok (reading.legs_from vcpus 1 legs here) (λ p. (let r : Result (List Leg) ℕ = if is_over p.1.parts then Ok p.0 else Err p.1.number in r)) told
+    e in
     let over = over_by told a.x.0 a.x.1 (is_over a.x.1.parts) refl a.second in
     let p = legs_print vcpus 1 legs here a.x a.first in
     record {
       shape = subst (λ (ls : List Leg). HasShape vcpus legs ls) over.1 p.1;
-      same = ap report_text (sym over.1) ∙ sym (append-nil (report_text a.x.0)) ∙ ap (λ (t : List ℕ). report_text a.x.0 ++ t) (sym (nothing_left a.x.1.parts over.0)) ∙ sym p.0 ∙ join_with_byte-slice_split 10 text;
+      same = ap report_text (sym over.1) ∙ sym (append-nil (report_text a.x.0)) ∙ ap (λ (t : List ℕ). report_text a.x.0 ++ t)
+          (sym (nothing_left a.x.1.parts over.0)) ∙ sym p.0 ∙ join_with_byte-slice_split 10 text;
     }

@@ -1,5 +1,6 @@
 -- What is printed is read as it is.
-use Rattle.std.proofs.Common.{◌≡◌, ◌≢◌, ℕ, zero, suc, ◌+◌, ◌^◌, ◌<◌, ◌≤◌, true, false, List, [], ◌∷◌, ◌++◌, length, take, drop, Option, Some, None, Result, Ok, Err, refl, sym, ap, subst, ◌∙◌, append_assoc, append-nil, eq-eqb, ne_eqb, arith}
+use Rattle.std.proofs.Common.{◌≡◌, ◌≢◌, ℕ, zero, suc, ◌+◌, ◌^◌, ◌<◌, ◌≤◌, true, false, List, [], ◌∷◌, ◌++◌, length, take, drop, Option, Some, None, Result, Ok}
+use Rattle.std.proofs.Common.{Err, refl, sym, ap, subst, ◌∙◌, append_assoc, append-nil, eq-eqb, ne_eqb, arith}
 use Rattle.std.specs.Prelude.{codes, if◌then◌else◌, ◌==◌, ◌&&◌, nat_lt, nat_le}
 use Rattle.std.specs.List.{position_or_len, All, AllByRecursion}
 use Rattle.std.specs.Str.{bytes_eq}
@@ -14,7 +15,9 @@ use Rattle.std.proofs.lemmas.List.Elements.{All-nil, All-cons}
 use Rattle.std.proofs.lemmas.List.Folds.{list_all-append}
 use Rattle.std.proofs.lemmas.List.Splits.{slice_split_at}
 use Rattle.its_history.specs.Report.{told_text, line_text, entry_lines, vcpu_text, vcpu_lines_from, end_text, leg_text, legs_from, report_text}
-use Rattle.its_history.specs.Reading.{◌>>=◌, only, is_printed, is_answered, after, cut, cut_at, small_number, pending_in, head_in, end_in, end_word, entry_with, told_in, entry_in, LinesLeft, lines_left, next_of, next_line, said, read, ◌then◌, entries_from, pending_from, leg_from, end_of, is_over, parts, trace_of}
+use Rattle.its_history.specs.Reading.{◌>>=◌, only, is_printed, is_answered, after, cut, cut_at, small_number, pending_in, head_in, end_in, end_word}
+use Rattle.its_history.specs.Reading.{entry_with, told_in, entry_in, LinesLeft, lines_left, next_of, next_line, said, read, ◌then◌, entries_from, pending_from}
+use Rattle.its_history.specs.Reading.{leg_from, end_of, is_over, parts, trace_of}
 use Rattle.its_history.specs.Reading as reading
 use Rattle.its_history.specs.ReadBack.{ArePlaced, HasLegShape, HasShape, IsReadable, IsSome, IsLegReadable, PrintedReportsAreRead}
 use Rattle.its_history.specs.declared.trace.End.{End}
@@ -42,7 +45,8 @@ digits_printed : (ds : List ℕ) → AllDigits 10 ds → is_printed ds ≡ true
 digits_printed [] all = refl
 digits_printed (d ∷ ds) all =
     let r = digit_from_value d all.0 in
-    both_true (nat_le 32 d && nat_le d 126) (is_printed ds) (both_true (nat_le 32 d) (nat_le d 126) (le-leb 32 d (omega (arith, r.0))) (le-leb d 126 (omega (arith, r.1)))) (digits_printed ds all.1)
+    both_true (nat_le 32 d && nat_le d 126) (is_printed ds) (both_true (nat_le 32 d) (nat_le d 126) (le-leb 32 d (omega (arith, r.0)))
+    (le-leb d 126 (omega (arith, r.1)))) (digits_printed ds all.1)
 
 pub decimal_printed : (n : ℕ) → n < 2 ^ 64 → is_printed (decimal n) ≡ true
 decimal_printed n small = digits_printed (decimal n) (decimal_is_IsNumeral n small).0.1
@@ -80,14 +84,17 @@ cut_on byte xs ys h =
     let text = xs ++ byte ∷ ys in
     let at : position_or_len (λ x. x == byte) text ≡ length xs = first_at byte xs ys h in
     let inside : nat_lt (length xs) (length text) ≡ true = lt-ltb (length xs) (length text) (omega (arith, length-append xs (byte ∷ ys))) in
-    let rest : drop (length xs + 1) text ≡ ys = ap (λ (zs : List ℕ). drop (length xs + 1) zs) (sym (append_assoc xs (byte ∷ []) ys)) ∙ ap (λ n. drop n ((xs ++ byte ∷ []) ++ ys)) (sym (length-append xs (byte ∷ []))) ∙ drop-append_seam (xs ++ byte ∷ []) ys in
-    rw at (rw inside (ap (λ (p : List ℕ × List ℕ). Some p) (let pair : (take (length xs) text, drop (length xs + 1) text) ≡ (xs, ys) = cc (take-append_seam xs (byte ∷ ys), rest) in pair)))
+    let rest : drop (length xs + 1) text ≡ ys = ap (λ (zs : List ℕ). drop (length xs + 1) zs) (sym (append_assoc xs (byte ∷ []) ys))
+    ∙ ap (λ n. drop n ((xs ++ byte ∷ []) ++ ys)) (sym (length-append xs (byte ∷ []))) ∙ drop-append_seam (xs ++ byte ∷ []) ys in
+    rw at (rw inside (ap (λ (p : List ℕ × List ℕ). Some p) (let pair : (take (length xs) text, drop (length xs + 1) text) ≡ (xs, ys) =
+    cc (take-append_seam xs (byte ∷ ys), rest) in pair)))
 
 told_on : (l : EntryLine) → IsReadable l → told_in l.place (told_text l.phase l.thread l.text) ≡ Some l
 unfolding told_in
 told_on l h =
     let rest = decimal l.thread ++ 32 ∷ l.text in
-    let seat = ap (cut_at 46) (told_flat l.phase l.thread l.text) ∙ cut_on 46 (decimal l.phase) rest (decimal_lacks 46 l.phase (omega arith) (omega (arith, h.phase))) in
+    let seat = ap (cut_at 46) (told_flat l.phase l.thread l.text) ∙ cut_on 46 (decimal l.phase) rest
+    (decimal_lacks 46 l.phase (omega arith) (omega (arith, h.phase))) in
     let own = cut_on 32 (decimal l.thread) l.text (decimal_lacks 32 l.thread (omega arith) (omega (arith, h.thread))) in
     let phase = number_is l.phase (decimal l.phase) h.phase refl in
     let thread = number_is l.thread (decimal l.thread) h.thread refl in
@@ -115,7 +122,8 @@ all_others [] p = All-nil (λ x. (x == 10) ≡ false)
 all_others (b ∷ bs) p =
     let here = left_true (nat_le 32 b && nat_le b 126) (is_printed bs) p in
     let low : 32 ≤ b = leb-true 32 b (left_true (nat_le 32 b) (nat_le b 126) here) in
-    All-cons (λ x. (x == 10) ≡ false) b bs (ne_eqb b 10 (λ e. absurd (omega (arith, low, e)))) (all_others bs (right_true (nat_le 32 b && nat_le b 126) (is_printed bs) p))
+    All-cons (λ x. (x == 10) ≡ false) b bs (ne_eqb b 10 (λ e. absurd (omega (arith, low, e))))
+    (all_others bs (right_true (nat_le 32 b && nat_le b 126) (is_printed bs) p))
 
 abbrev lines_of : ℕ → List ℕ → LinesLeft
 lines_of n text = lines_left n (parts text)
@@ -124,10 +132,12 @@ next_on : (n : ℕ) (line rest : List ℕ) → is_printed line ≡ true → next
 next_on n line rest p =
     ap (next_of n) (slice_split_at (λ b. b == 10) line 10 rest (all_others line p) refl) ∙ next_cons n line (parts rest) (some_part rest) ∙ rw p refl
 
-said_on : {A : Type 0} (f : List ℕ → Option A) (x : A) (n : ℕ) (line rest : List ℕ) → is_printed line ≡ true → f line ≡ Some x → said f (lines_of n (line ++ 10 ∷ rest)) ≡ Some (x, lines_of (n + 1) rest)
+said_on : {A : Type 0} (f : List ℕ → Option A) (x : A) (n : ℕ) (line rest : List ℕ) → is_printed line ≡ true → f line ≡ Some x
+    → said f (lines_of n (line ++ 10 ∷ rest)) ≡ Some (x, lines_of (n + 1) rest)
 said_on f x n line rest p e = rw (next_on n line rest p) (rw e refl)
 
-read_on : {A : Type 0} (f : List ℕ → Option A) (x : A) (n : ℕ) (line rest : List ℕ) → is_printed line ≡ true → f line ≡ Some x → read f (lines_of n (line ++ 10 ∷ rest)) ≡ Ok (x, lines_of (n + 1) rest)
+read_on : {A : Type 0} (f : List ℕ → Option A) (x : A) (n : ℕ) (line rest : List ℕ) → is_printed line ≡ true → f line ≡ Some x
+    → read f (lines_of n (line ++ 10 ∷ rest)) ≡ Ok (x, lines_of (n + 1) rest)
 read_on f x n line rest p e = rw (said_on f x n line rest p e) refl
 
 -- a line that doesn't begin with a digit is no entry
@@ -148,7 +158,8 @@ no_entry : (place : ℕ) (line : List ℕ) → place < 2 ^ 64 → IsHigh line �
 unfolding entry_in
 no_entry place line small high = rw (no_number (decimal place) line (decimal_low place small) high) refl
 
-stops : (place n : ℕ) (line rest : List ℕ) → place < 2 ^ 64 → is_printed line ≡ true → IsHigh line → said (entry_in place) (lines_of n (line ++ 10 ∷ rest)) ≡ None
+stops : (place n : ℕ) (line rest : List ℕ) → place < 2 ^ 64 → is_printed line ≡ true → IsHigh line → said (entry_in place) (lines_of n (line ++ 10 ∷ rest))
+    ≡ None
 stops place n line rest small p high = rw (next_on n line rest p) (rw (no_entry place line small high) refl)
 
 -- ---- the lines of a leg
@@ -163,13 +174,15 @@ entries_again place n [] tail placed all stop =
     let count : place + 0 ≡ place = omega arith in
     record {
       number = n;
-      entries = entries_step place n (parts tail) ∙ ap (after_entry place (lines_of n tail)) (ap (λ k. said (entry_in k) (lines_of n tail)) (sym count) ∙ stop n);
+      entries = entries_step place n (parts tail) ∙ ap (after_entry place (lines_of n tail)) (ap (λ k. said (entry_in k) (lines_of n tail)) (sym count)
+          ∙ stop n);
     }
 entries_again place n (e ∷ es) tail placed all stop =
     let rest = entry_lines es ++ tail in
     let count : place + 1 + length es ≡ place + suc (length es) = omega arith in
     let more = entries_again (place + 1) (n + 1) es tail placed.1 all.1 (λ m. ap (λ k. said (entry_in k) (lines_of m tail)) count ∙ stop m) in
-    let text : entry_lines (e ∷ es) ++ tail ≡ line_text e ++ 10 ∷ rest = append_assoc (line_text e ++ codes "\n") (entry_lines es) tail ∙ line_on (line_text e) rest in
+    let text : entry_lines (e ∷ es) ++ tail ≡ line_text e ++ 10 ∷ rest = append_assoc (line_text e ++ codes "\n") (entry_lines es) tail
+    ∙ line_on (line_text e) rest in
     let line : entry_in place (line_text e) ≡ Some e = ap (λ k. entry_in k (line_text e)) (sym placed.0) ∙ entry_on e all.0 in
     record {
       number = more.number;
@@ -187,7 +200,8 @@ pending_on : (vcpu : ℕ) (p : List ℕ) → 0 < length p → pending_in vcpu (v
 unfolding pending_in
 pending_on vcpu p some =
     let there : nat_lt 0 (length p) ≡ true = lt-ltb 0 (length p) some in
-    rw (vcpu_flat vcpu p) (rw (after_on (codes "vcpu ") (decimal vcpu ++ (codes " pending " ++ p))) (rw (after_on (decimal vcpu) (codes " pending " ++ p)) (rw (after_on (codes " pending ") p) (rw there refl))))
+    rw (vcpu_flat vcpu p) (rw (after_on (codes "vcpu ") (decimal vcpu ++ (codes " pending " ++ p))) (rw (after_on (decimal vcpu) (codes " pending " ++ p))
+    (rw (after_on (codes " pending ") p) (rw there refl))))
 
 pub record ArePending (vcpu n : ℕ) (ps : List (List ℕ)) (tail : List ℕ) : Type 0 where
   pub number : ℕ
@@ -198,13 +212,16 @@ pending_again vcpu n [] tail small all = record { number = n; pending = refl }
 pending_again vcpu n (p ∷ ps) tail small all =
     let rest = vcpu_lines_from (vcpu + 1) ps ++ tail in
     let more = pending_again (vcpu + 1) (n + 1) ps tail (omega arith) all.1 in
-    let text : vcpu_lines_from vcpu (p ∷ ps) ++ tail ≡ vcpu_text vcpu p ++ 10 ∷ rest = append_assoc (vcpu_text vcpu p ++ codes "\n") (vcpu_lines_from (vcpu + 1) ps) tail ∙ line_on (vcpu_text vcpu p) rest in
+    let text : vcpu_lines_from vcpu (p ∷ ps) ++ tail ≡ vcpu_text vcpu p ++ 10 ∷ rest = append_assoc (vcpu_text vcpu p ++ codes "\n")
+    (vcpu_lines_from (vcpu + 1) ps) tail ∙ line_on (vcpu_text vcpu p) rest in
     let line = read_on (pending_in vcpu) p n (vcpu_text vcpu p) rest (vcpu_printed vcpu p (omega arith) all.0.printed) (pending_on vcpu p all.0.some) in
     record {
       number = more.number;
       pending = ap (λ t. pending_from vcpu (suc (length ps)) (lines_of n t)) text
-          ∙ ap (λ (r : Result (List ℕ × LinesLeft) ℕ). r then λ a. pending_from (vcpu + 1) (length ps) a.1 then λ q. (let made : Result (List (List ℕ) × LinesLeft) ℕ = Ok (a.0 ∷ q.0, q.1) in made)) line
-          ∙ ap (λ (r : Result (List (List ℕ) × LinesLeft) ℕ). r then λ q. (let made : Result (List (List ℕ) × LinesLeft) ℕ = Ok (p ∷ q.0, q.1) in made)) more.pending;
+          ∙ ap (λ (r : Result (List ℕ × LinesLeft) ℕ). r then λ a. pending_from (vcpu + 1) (length ps) a.1 then λ q.
+          (let made : Result (List (List ℕ) × LinesLeft) ℕ = Ok (a.0 ∷ q.0, q.1) in made)) line
+          ∙ ap (λ (r : Result (List (List ℕ) × LinesLeft) ℕ). r then λ q. (let made : Result (List (List ℕ) × LinesLeft) ℕ = Ok (p ∷ q.0, q.1) in made))
+          more.pending;
     }
 
 -- ---- legs
@@ -235,11 +252,13 @@ unfolding end_text
 end_stops place m Migrated rest small = stops place m (codes "migrated") rest small refl (omega arith)
 end_stops place m Done rest small = stops place m (codes "done") rest small refl (omega arith)
 
-tail_stops : (place m : ℕ) (ps : List (List ℕ)) (end : End) (rest : List ℕ) → place < 2 ^ 64 → AllByRecursion IsSome ps → said (entry_in place) (lines_of m (ends_with ps end rest)) ≡ None
+tail_stops : (place m : ℕ) (ps : List (List ℕ)) (end : End) (rest : List ℕ) → place < 2 ^ 64 → AllByRecursion IsSome ps
+    → said (entry_in place) (lines_of m (ends_with ps end rest)) ≡ None
 tail_stops place m [] end rest small all = end_stops place m end rest small
 tail_stops place m (p ∷ ps) end rest small all =
     let later = vcpu_lines_from 1 ps ++ (end_text (Some end) ++ rest) in
-    let text : ends_with (p ∷ ps) end rest ≡ vcpu_text 0 p ++ 10 ∷ later = append_assoc (vcpu_text 0 p ++ codes "\n") (vcpu_lines_from 1 ps) (end_text (Some end) ++ rest) ∙ line_on (vcpu_text 0 p) later in
+    let text : ends_with (p ∷ ps) end rest ≡ vcpu_text 0 p ++ 10 ∷ later = append_assoc (vcpu_text 0 p ++ codes "\n") (vcpu_lines_from 1 ps)
+    (end_text (Some end) ++ rest) ∙ line_on (vcpu_text 0 p) later in
     let high : IsHigh (vcpu_text 0 p) = subst IsHigh (sym (vcpu_flat 0 p)) (omega arith) in
     ap (λ t. said (entry_in place) (lines_of m t)) text ∙ stops place m (vcpu_text 0 p) later small (vcpu_printed 0 p (omega arith) all.0.printed) high
 
@@ -250,14 +269,17 @@ pub record IsLegAgain (vcpus number n : ℕ) (end : End) (leg : Leg) (rest : Lis
   pub last : ℕ
   pub leg_is : leg_from vcpus number end (lines_of n (leg_text number leg ++ rest)) ≡ Ok (leg, lines_of last rest)
 
-made_again : (vcpus number n : ℕ) (end : End) (es : List EntryLine) (ps : List (List ℕ)) (rest : List ℕ) → number < 2 ^ 64 → vcpus < 2 ^ 32 → length ps ≡ vcpus → ArePlaced 0 es
+made_again : (vcpus number n : ℕ) (end : End) (es : List EntryLine) (ps : List (List ℕ)) (rest : List ℕ) → number < 2 ^ 64 → vcpus < 2 ^ 32 → length ps ≡ vcpus
+    → ArePlaced 0 es
     → IsLegReadable (made_leg es ps end) → IsLegAgain vcpus number n end (made_leg es ps end) rest
 unfolding leg_from
 made_again vcpus number n end es ps rest few small count placed can =
     let tail = ends_with ps end rest in
     let head = read_on (head_in number) tt n (head_text number) (entry_lines es ++ tail) (head_printed number few) (head_on number) in
-    let entries = entries_again 0 (n + 1) es tail placed can.entries (λ m. tail_stops (0 + length es) m ps end rest (let c : length es < 2 ^ 64 = can.count in omega (arith, c)) can.pending) in
-    let pending : ArePending 0 entries.number ps (end_text (Some end) ++ rest) = pending_again 0 entries.number ps (end_text (Some end) ++ rest) (omega (arith, count, small)) can.pending in
+    let entries = entries_again 0 (n + 1) es tail placed can.entries
+    (λ m. tail_stops (0 + length es) m ps end rest (let c : length es < 2 ^ 64 = can.count in omega (arith, c)) can.pending) in
+    let pending : ArePending 0 entries.number ps (end_text (Some end) ++ rest) = pending_again 0 entries.number ps (end_text (Some end) ++ rest)
+    (omega (arith, count, small)) can.pending in
     let lists : pending_from 0 vcpus (lines_of entries.number tail) ≡ Ok (ps, lines_of pending.number (end_text (Some end) ++ rest)) =
     ap (λ k. pending_from 0 k (lines_of entries.number tail)) (sym count) ∙ pending.pending in
     let last = end_on end pending.number rest in
@@ -266,9 +288,11 @@ made_again vcpus number n end es ps rest few small count placed can =
       leg_is = rw (leg_flat number (made_leg es ps end) rest) (rw head (rw entries.entries (rw lists (rw last refl))));
     }
 
-leg_again : (vcpus number n : ℕ) (end : End) (leg : Leg) (rest : List ℕ) → number < 2 ^ 64 → vcpus < 2 ^ 32 → HasLegShape vcpus end leg → IsLegReadable leg → IsLegAgain vcpus number n end leg rest
+leg_again : (vcpus number n : ℕ) (end : End) (leg : Leg) (rest : List ℕ) → number < 2 ^ 64 → vcpus < 2 ^ 32 → HasLegShape vcpus end leg → IsLegReadable leg
+    → IsLegAgain vcpus number n end leg rest
 leg_again vcpus number n end leg rest few small shape can =
-    let same : made_leg leg.entries leg.pending end ≡ leg = ap (λ e. (let l : Leg = record { entries = leg.entries; pending = leg.pending; end = e } in l)) (sym shape.end_is) in
+    let same : made_leg leg.entries leg.pending end ≡ leg = ap (λ e. (let l : Leg = record { entries = leg.entries; pending = leg.pending; end = e } in l))
+    (sym shape.end_is) in
     subst (λ (l : Leg). IsLegAgain vcpus number n end l rest) same
     (made_again vcpus number n end leg.entries leg.pending rest few small shape.pending shape.placed (subst IsLegReadable (sym same) can))
 
@@ -276,7 +300,8 @@ pub record AreLegsAgain (vcpus number n count : ℕ) (told : List Leg) (rest : L
   pub last : ℕ
   pub legs_are : reading.legs_from vcpus number count (lines_of n (legs_from number told ++ rest)) ≡ Ok (told, lines_of last rest)
 
-legs_again : (vcpus number n count : ℕ) (told : List Leg) (rest : List ℕ) → number + count < 2 ^ 64 → vcpus < 2 ^ 32 → HasShape vcpus count told → AllByRecursion IsLegReadable told → AreLegsAgain vcpus number n count told rest
+legs_again : (vcpus number n count : ℕ) (told : List Leg) (rest : List ℕ) → number + count < 2 ^ 64 → vcpus < 2 ^ 32 → HasShape vcpus count told
+    → AllByRecursion IsLegReadable told → AreLegsAgain vcpus number n count told rest
 legs_again vcpus number n zero [] rest few small shape can = record { last = n; legs_are = refl }
 legs_again vcpus number n zero (leg ∷ told) rest few small shape can = absurd shape
 legs_again vcpus number n (suc later) [] rest few small shape can = absurd shape
@@ -287,7 +312,8 @@ legs_again vcpus number n (suc later) (leg ∷ told) rest few small shape can =
     record {
       last = more.last;
       legs_are = ap (λ t. reading.legs_from vcpus number (suc later) (lines_of n t)) (append_assoc (leg_text number leg) (legs_from (number + 1) told) rest)
-          ∙ ap (λ (r : Result (Leg × LinesLeft) ℕ). r then λ p. reading.legs_from vcpus (number + 1) later p.1 then λ q. (let made : Result (List Leg × LinesLeft) ℕ = Ok (p.0 ∷ q.0, q.1) in made)) one.leg_is
+          ∙ ap (λ (r : Result (Leg × LinesLeft) ℕ). r then λ p. reading.legs_from vcpus (number + 1) later p.1 then λ q.
+          (let made : Result (List Leg × LinesLeft) ℕ = Ok (p.0 ∷ q.0, q.1) in made)) one.leg_is
           ∙ ap (λ (r : Result (List Leg × LinesLeft) ℕ). r then λ q. (let made : Result (List Leg × LinesLeft) ℕ = Ok (leg ∷ q.0, q.1) in made)) more.legs_are;
     }
 
@@ -296,5 +322,7 @@ unfolding trace_of
 reports_again legs vcpus told few small shape can =
     let all = legs_again vcpus 1 1 legs told [] (omega (arith, few)) small shape can in
     let text : report_text told ++ [] ≡ report_text told = append-nil (report_text told) in
-    ap (λ t. reading.legs_from vcpus 1 legs (lines_of 1 t) then λ p. (let r : Result (List Leg) ℕ = if is_over p.1.parts then Ok p.0 else Err p.1.number in r)) (sym text)
-    ∙ ap (λ (r : Result (List Leg × LinesLeft) ℕ). r then λ p. (let r : Result (List Leg) ℕ = if is_over p.1.parts then Ok p.0 else Err p.1.number in r)) all.legs_are
+    ap (λ t. reading.legs_from vcpus 1 legs (lines_of 1 t) then λ p. (let r : Result (List Leg) ℕ = if is_over p.1.parts then Ok p.0 else Err p.1.number in r))
+    (sym text)
+    ∙ ap (λ (r : Result (List Leg × LinesLeft) ℕ). r then λ p. (let r : Result (List Leg) ℕ = if is_over p.1.parts then Ok p.0 else Err p.1.number in r))
+    all.legs_are

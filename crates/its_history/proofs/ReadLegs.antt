@@ -27,7 +27,8 @@ pending_on ps p vcpu count here now lt is =
     ∙ ap (λ (r : Result (List ℕ × LinesLeft) ℕ). in_front ps (r then λ x. pending_from (vcpu + 1) (count - (vcpu + 1)) x.1 then λ q. Ok (x.0 ∷ q.0, q.1))) is
     ∙ one_more ps p rest
 
-pub pending_stops : (ps : List (List ℕ)) (vcpu count n : ℕ) (here : LinesLeft) → vcpu < count → read (pending_in vcpu) here ≡ Err n → in_front ps (pending_from vcpu (count - vcpu) here) ≡ Err n
+pub pending_stops : (ps : List (List ℕ)) (vcpu count n : ℕ) (here : LinesLeft) → vcpu < count → read (pending_in vcpu) here ≡ Err n
+    → in_front ps (pending_from vcpu (count - vcpu) here) ≡ Err n
 pending_stops ps vcpu count n here lt is =
     let left : count - vcpu ≡ suc (count - (vcpu + 1)) = omega arith in
     ap (λ k. in_front ps (pending_from vcpu k here)) left
@@ -36,28 +37,36 @@ pending_stops ps vcpu count n here lt is =
 pub pending_end : (ps : List (List ℕ)) (vcpu count : ℕ) (here : LinesLeft) → count ≤ vcpu → in_front ps (pending_from vcpu (count - vcpu) here) ≡ Ok (ps, here)
 pending_end ps vcpu count here le =
     let left : count - vcpu ≡ 0 = omega arith in
-    ap (λ k. in_front ps (pending_from vcpu k here)) left ∙ ap (λ (xs : List (List ℕ)). let whole : Result (List (List ℕ) × LinesLeft) ℕ = Ok (xs, here) in whole) (append-nil ps)
+    ap (λ k. in_front ps (pending_from vcpu k here)) left ∙ ap (λ (xs : List (List ℕ)). let whole : Result (List (List ℕ) × LinesLeft) ℕ =
+    Ok (xs, here) in whole) (append-nil ps)
 
 -- ---- legs
 
-pub legs_on : (ls : List Leg) (l : Leg) (vcpus earlier count : ℕ) (here now : LinesLeft) → earlier < count → leg_from vcpus (earlier + 1) (end_of (count - earlier - 1)) here ≡ Ok (l, now)
-    → in_front ls (legs_from vcpus (earlier + 1) (count - earlier) here) ≡ in_front (ls ++ l ∷ []) (legs_from vcpus (earlier + 1 + 1) (count - (earlier + 1)) now)
+pub legs_on : (ls : List Leg) (l : Leg) (vcpus earlier count : ℕ) (here now : LinesLeft) → earlier < count
+    → leg_from vcpus (earlier + 1) (end_of (count - earlier - 1)) here ≡ Ok (l, now)
+    → in_front ls (legs_from vcpus (earlier + 1) (count - earlier) here) ≡ in_front (ls ++ l ∷ [])
+    (legs_from vcpus (earlier + 1 + 1) (count - (earlier + 1)) now)
 legs_on ls l vcpus earlier count here now lt is =
     let left : count - earlier ≡ suc (count - earlier - 1) = omega arith in
     let others : count - earlier - 1 ≡ count - (earlier + 1) = omega arith in
     ap (λ n. in_front ls (legs_from vcpus (earlier + 1) n here)) left
-    ∙ ap (λ (r : Result (Leg × LinesLeft) ℕ). in_front ls (r then λ x. legs_from vcpus (earlier + 1 + 1) (count - earlier - 1) x.1 then λ q. Ok (x.0 ∷ q.0, q.1))) is
+    ∙ ap (λ (r : Result (Leg × LinesLeft) ℕ). in_front ls (r then λ x. legs_from vcpus (earlier + 1 + 1) (count - earlier - 1) x.1 then λ q.
+    Ok (x.0 ∷ q.0, q.1))) is
     ∙ one_more ls l (legs_from vcpus (earlier + 1 + 1) (count - earlier - 1) now)
     ∙ ap (λ n. in_front (ls ++ l ∷ []) (legs_from vcpus (earlier + 1 + 1) n now)) others
 
-pub legs_stop : (ls : List Leg) (vcpus earlier count n : ℕ) (here : LinesLeft) → earlier < count → leg_from vcpus (earlier + 1) (end_of (count - earlier - 1)) here ≡ Err n
+pub legs_stop : (ls : List Leg) (vcpus earlier count n : ℕ) (here : LinesLeft) → earlier < count
+    → leg_from vcpus (earlier + 1) (end_of (count - earlier - 1)) here ≡ Err n
     → in_front ls (legs_from vcpus (earlier + 1) (count - earlier) here) ≡ Err n
 legs_stop ls vcpus earlier count n here lt is =
     let left : count - earlier ≡ suc (count - earlier - 1) = omega arith in
     ap (λ k. in_front ls (legs_from vcpus (earlier + 1) k here)) left
-    ∙ ap (λ (r : Result (Leg × LinesLeft) ℕ). in_front ls (r then λ x. legs_from vcpus (earlier + 1 + 1) (count - earlier - 1) x.1 then λ q. Ok (x.0 ∷ q.0, q.1))) is
+    ∙ ap (λ (r : Result (Leg × LinesLeft) ℕ). in_front ls (r then λ x. legs_from vcpus (earlier + 1 + 1) (count - earlier - 1) x.1 then λ q.
+    Ok (x.0 ∷ q.0, q.1))) is
 
-pub legs_end : (ls : List Leg) (vcpus earlier count : ℕ) (here : LinesLeft) → count ≤ earlier → in_front ls (legs_from vcpus (earlier + 1) (count - earlier) here) ≡ Ok (ls, here)
+pub legs_end : (ls : List Leg) (vcpus earlier count : ℕ) (here : LinesLeft) → count ≤ earlier
+    → in_front ls (legs_from vcpus (earlier + 1) (count - earlier) here) ≡ Ok (ls, here)
 legs_end ls vcpus earlier count here le =
     let left : count - earlier ≡ 0 = omega arith in
-    ap (λ k. in_front ls (legs_from vcpus (earlier + 1) k here)) left ∙ ap (λ (xs : List Leg). let whole : Result (List Leg × LinesLeft) ℕ = Ok (xs, here) in whole) (append-nil ls)
+    ap (λ k. in_front ls (legs_from vcpus (earlier + 1) k here)) left ∙ ap (λ (xs : List Leg). let whole : Result (List Leg × LinesLeft) ℕ =
+    Ok (xs, here) in whole) (append-nil ls)

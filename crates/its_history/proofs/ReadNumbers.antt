@@ -1,5 +1,6 @@
 -- Numbers that are read as they are printed, and bytes that print are text.
-use Rattle.std.proofs.Common.{◌≡◌, ◌≢◌, ℕ, zero, suc, ◌^◌, ◌<◌, Bool, true, false, List, [], ◌∷◌, Option, Some, None, Result, Ok, refl, sym, ap, subst, ◌∙◌, arith}
+use Rattle.std.proofs.Common.{◌≡◌, ◌≢◌, ℕ, zero, suc, ◌^◌, ◌<◌, Bool, true, false, List, [], ◌∷◌, Option, Some, None, Result, Ok, refl, sym, ap, subst, ◌∙◌}
+use Rattle.std.proofs.Common.{arith}
 use Rattle.std.specs.Prelude.{◌&&◌, nat_lt, nat_le}
 use Rattle.std.specs.Fmt.{decimal}
 use Rattle.std.specs.Str.{bytes_eq, IsAscii, IsUtf8}
@@ -37,7 +38,8 @@ passes : (n : ℕ) (text : List ℕ) → n < 2 ^ 32 → decimal n ≡ text → (
 passes n text lt e =
     let value : digits_value 10 text ≡ n = ap (digits_value 10) (sym e) ∙ (decimal_is_IsNumeral n (omega (arith, lt))).1 in (
       value,
-      both_true (nat_lt (digits_value 10 text) (2 ^ 32)) (bytes_eq (decimal (digits_value 10 text)) text) (lt-ltb _ _ (omega (arith, value, lt))) (texts_equal _ text (ap decimal value ∙ e)),
+      both_true (nat_lt (digits_value 10 text) (2 ^ 32)) (bytes_eq (decimal (digits_value 10 text)) text) (lt-ltb _ _ (omega (arith, value, lt)))
+          (texts_equal _ text (ap decimal value ∙ e)),
     )
 
 pub number_is : (n : ℕ) (text : List ℕ) → n < 2 ^ 32 → decimal n ≡ text → small_number text ≡ Some n
@@ -48,8 +50,11 @@ number_is n text lt e = let p = passes n text lt e in rw (p.1, p.0) refl
 number_by : (text : List ℕ) (n : ℕ) (b : Bool) → test text ≡ b → only b (digits_value 10 text) ≡ Some n → (n < 2 ^ 32) × (decimal n ≡ text)
 number_by text n true t e =
     let value : digits_value 10 text ≡ n = cc in
-    let small = ltb-true (digits_value 10 text) (2 ^ 32) (left_true _ (bytes_eq (decimal (digits_value 10 text)) text) t) in
-    (omega (arith, value, small), ap decimal (sym value) ∙ same_text (decimal (digits_value 10 text)) text (right_true (nat_lt (digits_value 10 text) (2 ^ 32)) _ t))
+    let small = ltb-true (digits_value 10 text) (2 ^ 32) (left_true _ (bytes_eq (decimal (digits_value 10 text)) text) t) in (
+      omega (arith, value, small),
+      ap decimal (sym value) ∙ same_text (decimal (digits_value 10 text)) text
+          (right_true (nat_lt (digits_value 10 text) (2 ^ 32)) _ t),
+    )
 number_by text n false t e = absurd cc
 
 pub number_printed : (text : List ℕ) (n : ℕ) → small_number text ≡ Some n → (n < 2 ^ 32) × (decimal n ≡ text)

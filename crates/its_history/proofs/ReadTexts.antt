@@ -1,5 +1,6 @@
 -- What a line says, and the line that says it.
-use Rattle.std.proofs.Common.{◌≡◌, ℕ, zero, suc, ◌+◌, ◌<◌, Bool, true, false, cond, List, [], ◌∷◌, ◌++◌, length, drop, take, Option, Some, None, refl, sym, ap, subst, ◌∙◌, get_or, drop-cons, add-one}
+use Rattle.std.proofs.Common.{◌≡◌, ℕ, zero, suc, ◌+◌, ◌<◌, Bool, true, false, cond, List, [], ◌∷◌, ◌++◌, length, drop, take, Option, Some, None, refl, sym, ap}
+use Rattle.std.proofs.Common.{subst, ◌∙◌, get_or, drop-cons, add-one}
 use Rattle.std.specs.Prelude.{◌==◌, ◌&&◌, nat_le, nat_lt, position, codes}
 use Rattle.std.specs.List.{position_or_len}
 use Rattle.std.specs.Str.{bytes_eq}
@@ -37,7 +38,8 @@ pub after_is : (beginning text rest : List ℕ) → after beginning text ≡ Som
 unfolding after
 after_is beginning text rest e =
     let p = only_some (bytes_eq (take (length beginning) text) beginning) (drop (length beginning) text) rest e in
-    sym (take_drop (length beginning) text) ∙ ap (λ (ys : List ℕ). ys ++ drop (length beginning) text) (same_text (take (length beginning) text) beginning p.0) ∙ ap (λ (ys : List ℕ). beginning ++ ys) p.1
+    sym (take_drop (length beginning) text) ∙ ap (λ (ys : List ℕ). ys ++ drop (length beginning) text) (same_text (take (length beginning) text) beginning p.0)
+    ∙ ap (λ (ys : List ℕ). beginning ++ ys) p.1
 
 printed_behind : (xs ys : List ℕ) → is_printed (xs ++ ys) ≡ true → is_printed ys ≡ true
 printed_behind xs ys e = right_true (is_printed xs) (is_printed ys) (sym (list_all-append (λ b. nat_le 32 b && nat_le b 126) xs ys) ∙ e)
@@ -95,7 +97,8 @@ pub record IsEntryWith (place : ℕ) (phase thread : Option ℕ) (text : List �
   pub text_is : text ≡ entry.text
   pub answered : is_answered text ≡ true
 
-pub with_is : (place : ℕ) (phase thread : Option ℕ) (text : List ℕ) (entry : EntryLine) → entry_with place phase thread text ≡ Some entry → IsEntryWith place phase thread text entry
+pub with_is : (place : ℕ) (phase thread : Option ℕ) (text : List ℕ) (entry : EntryLine) → entry_with place phase thread text ≡ Some entry
+    → IsEntryWith place phase thread text entry
 with_is place (Some p) (Some t) text entry e =
     let made : EntryLine = record { place = place; phase = p; thread = t; text = text } in
     let d = only_some (is_answered text) made entry e in record {

@@ -48,14 +48,21 @@ module _ {X : Type 0} (key : X → ℕ) where
 
   lows_none : (n : ℕ) (v : List X) → All (λ y. n < key y) v → lows n v ≡ 0
   lows_none n [] all = refl
-  lows_none n (y ∷ v) all = omega (arith, sum_by-cons (λ (x : X). low n (key x)) y v, low_not n (key y) (All-head (λ (y : X). n < key y) y v all), lows_none n v (All-tail (λ (y : X). n < key y) y v all))
+  lows_none n (y ∷ v) all = omega (
+    arith,
+    sum_by-cons (λ (x : X). low n (key x)) y v,
+    low_not n (key y) (All-head (λ (y : X). n < key y) y v all),
+    lows_none n v
+        (All-tail (λ (y : X). n < key y) y v all),
+  )
 
   all_above : (n : ℕ) (v : List X) → lows n v ≡ 0 → All (λ y. n < key y) v
   all_above n [] e = All-nil (λ (y : X). n < key y)
   all_above n (y ∷ v) e = let split = sum_by-cons (λ (x : X). low n (key x)) y v in
       All-cons (λ (y : X). n < key y) y v (lt_of_not-le (λ le. absurd (omega (arith, split, e, low_is n (key y) le)))) (all_above n v (omega (arith, split, e)))
 
-  same_as : (xs v : List X) → Increasing xs → All (λ y. OneOf y xs) v → ((f : ℕ → ℕ) → sum_by (λ (x : X). f (key x)) v ≡ sum_by (λ (x : X). f (key x)) xs) → IsNonDecreasingBy key v → v ≡ xs
+  same_as : (xs v : List X) → Increasing xs → All (λ y. OneOf y xs) v → ((f : ℕ → ℕ) → sum_by (λ (x : X). f (key x)) v ≡ sum_by (λ (x : X). f (key x)) xs)
+      → IsNonDecreasingBy key v → v ≡ xs
   same_as [] [] inc all sums up = refl
   same_as [] (y ∷ v) inc all sums up = absurd (omega (arith, sums (λ _. 1), sum_by-cons (λ (x : X). 1) y v))
   same_as (e ∷ xs) [] inc all sums up = absurd (omega (arith, sums (λ _. 1), sum_by-cons (λ (x : X). 1) e xs))
@@ -63,13 +70,22 @@ module _ {X : Type 0} (key : X → ℕ) where
       let n : ℕ = key e in
       let P : X → Type 0 = λ z. OneOf z (e ∷ xs) in
       let whole : lows n (e ∷ xs) ≡ 1 = omega (arith, sum_by-cons (λ (x : X). low n (key x)) e xs, low_is n n (omega arith), lows_each n xs inc.0) in
-      let later : n < key y → ⊥ = λ lt. absurd (omega (arith, whole, sums (low n), lows_none n (y ∷ v) (λ k d below. let z = up 0 k d (omega arith) below in omega (arith, z, lt)))) in
+      let later : n < key y → ⊥ = λ lt.
+      absurd (omega (arith, whole, sums (low n), lows_none n (y ∷ v) (λ k d below. let z = up 0 k d (omega arith) below in omega (arith, z, lt)))) in
       let here : e ≡ y = ⊎_elim (λ (s : e ≡ y). s) (λ (s : OneOf y xs). absurd (later (one_each (λ y. key e < key y) xs y inc.0 s))) (All-head P y v all) in
       let at : n ≡ key y = ap key here in
-      let above : All (λ (z : X). n < key z) v = all_above n v (omega (arith, whole, sums (low n), sum_by-cons (λ (x : X). low n (key x)) y v, low_is n (key y) (omega (arith, at)))) in
+      let above : All (λ (z : X). n < key z) v =
+      all_above n v (omega (arith, whole, sums (low n), sum_by-cons (λ (x : X). low n (key x)) y v, low_is n (key y) (omega (arith, at)))) in
       let rest : v ≡ xs = same_as xs v inc.1
       (λ k d lt. pick (get_or v k d) (All-tail P y v all k d lt) (above k d lt))
-      (λ f. let one : f (key y) ≡ f n = ap f (sym at) in omega (arith, one, sums f, sum_by-cons (λ (x : X). f (key x)) y v, sum_by-cons (λ (x : X). f (key x)) e xs))
+      (λ f. let one : f (key y) ≡ f n = ap f (sym at) in omega (
+        arith,
+        one,
+        sums f,
+        sum_by-cons (λ (x : X). f (key x)) y v,
+        sum_by-cons
+            (λ (x : X). f (key x)) e xs,
+      ))
       (IsNonDecreasingBy-drop key 1 (y ∷ v) up) in
       λ d. sym here d ∷ rest d
     where

@@ -55,4 +55,5 @@ abbrev pub ReadReportsPrint : Type 0
 ReadReportsPrint = (legs vcpus : ℕ) (text : List ℕ) (told : List Leg) → trace_of legs vcpus text ≡ Ok told → IsReport legs vcpus text told
 
 abbrev pub PrintedReportsAreRead : Type 0
-PrintedReportsAreRead = (legs vcpus : ℕ) (told : List Leg) → legs < 2 ^ 32 → vcpus < 2 ^ 32 → HasShape vcpus legs told → AllByRecursion IsLegReadable told → trace_of legs vcpus (report_text told) ≡ Ok told
+PrintedReportsAreRead = (legs vcpus : ℕ) (told : List Leg) → legs < 2 ^ 32 → vcpus < 2 ^ 32 → HasShape vcpus legs told → AllByRecursion IsLegReadable told
+    → trace_of legs vcpus (report_text told) ≡ Ok told

@@ -31,7 +31,8 @@ pub fn restore_fault_text(alloc: Global, fault: &RestoreFault) -> Result<String,
 /// The first thing in the way of a save.
 #[tactic(auto, unfolding(crate::specs::Texts::save_fault_text))]
 fn push_save_fault(out: &mut String, fault: SaveFault) -> Result<(), AllocError>
-    ensures { OnOk result (string_bytes out.new ≡ string_bytes out.old ++ spec.save_fault_text fault) }
+    ensures { OnOk result (string_bytes out.new ≡ string_bytes out.old
+        ++ spec.save_fault_text fault) }
 {
     match fault {
         SaveFault::NoPlace(dev) => push_numbered(out, "no-place ", dev.0.into()),
@@ -77,7 +78,8 @@ fn push_region(out: &mut String, region: Region) -> Result<(), AllocError>
 /// The first offence of memory and registers.
 #[tactic(auto, unfolding(crate::specs::Texts::restore_fault_text))]
 fn push_restore_fault(out: &mut String, fault: RestoreFault) -> Result<(), AllocError>
-    ensures { OnOk result (string_bytes out.new ≡ string_bytes out.old ++ spec.restore_fault_text fault) }
+    ensures { OnOk result (string_bytes out.new ≡ string_bytes out.old
+        ++ spec.restore_fault_text fault) }
 {
     match fault {
         RestoreFault::NotValid(register) => write!(out, "not-valid {}", register_name(register)),
@@ -120,7 +122,8 @@ fn push_past_end(out: &mut String, table: Table, entry: u32, next: u32) -> Resul
 
 /// A number behind a text.
 fn push_numbered(out: &mut String, text: &str, number: u64) -> Result<(), AllocError>
-    ensures { OnOk result (string_bytes out.new ≡ string_bytes out.old ++ text.now ++ decimal number) }
+    ensures { OnOk result (string_bytes out.new ≡ string_bytes out.old ++ text.now
+        ++ decimal number) }
 {
     out.push_str(text)?;
     push_decimal(out, number)

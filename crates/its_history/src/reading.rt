@@ -76,7 +76,8 @@ fn copied(alloc: Global, bytes: &[u8]) -> Result<Text, AllocError>
 impl<'a> Lines<'a> {
     /// The next line, if it has an end and each of its bytes prints, and the lines after it.
     fn next(&self) -> Option<(&'a [u8], Lines<'a>)>
-        ensures next { option_map (λ p. (p.0.now, spec.left p.1)) result ≡ spec.next_line (spec.left self.now) }
+        ensures next { option_map (λ p. (p.0.now, spec.left p.1)) result ≡ spec.next_line
+            (spec.left self.now) }
         ensures shorter { IfSome result (λ p. length p.1.rest.now < length self.now.rest.now) }
         ensures printed { IfSome result (λ p. spec.is_printed p.0.now ≡ true) }
     {
@@ -91,8 +92,10 @@ impl<'a> Lines<'a> {
 
     /// Takes the next line, if it is the entry at a place.
     fn entry(&mut self, alloc: Global, place: u64) -> Result<Option<EntryLine>, AllocError>
-        ensures taken { IfOk result (λ e. spec.MayTake e place (spec.left self.old) (spec.left self.new)) }
-        ensures shorter { IfOk result (λ e. IfSome e (λ _. length self.new.rest.now < length self.old.rest.now)) }
+        ensures taken { IfOk result
+            (λ e. spec.MayTake e place (spec.left self.old) (spec.left self.new)) }
+        ensures shorter { IfOk result
+            (λ e. IfSome e (λ _. length self.new.rest.now < length self.old.rest.now)) }
     {
         let Some((line, after)) = self.next() else {
             return Ok(None);

@@ -133,7 +133,8 @@ fn room_for(legs: &[Leg]) -> usize {
 
 #[tactic(auto, unfolding(crate::specs::Report::leg_text))]
 fn push_leg(out: &mut String, number: u64, leg: &Leg) -> Result<(), AllocError>
-    ensures { OnOk result (string_bytes out.new ≡ string_bytes out.old ++ spec.leg_text number leg.now) }
+    ensures { OnOk result (string_bytes out.new ≡ string_bytes out.old
+        ++ spec.leg_text number leg.now) }
 {
     out.push_str("leg ")?;
     push_decimal(out, number)?;
@@ -144,7 +145,8 @@ fn push_leg(out: &mut String, number: u64, leg: &Leg) -> Result<(), AllocError>
 }
 
 fn push_lines(out: &mut String, lines: &[EntryLine]) -> Result<(), AllocError>
-    ensures { OnOk result (string_bytes out.new ≡ string_bytes out.old ++ spec.entry_lines lines.now) }
+    ensures { OnOk result (string_bytes out.new ≡ string_bytes out.old
+        ++ spec.entry_lines lines.now) }
 {
     for line in lines {
         push_line(out, line)?;
@@ -187,7 +189,8 @@ fn push_vcpus(out: &mut String, pending: &[Text]) -> Result<(), AllocError>
 
 #[tactic(auto, unfolding(crate::specs::Report::vcpu_text))]
 fn push_vcpu(out: &mut String, vcpu: u64, pending: &Text) -> Result<(), AllocError>
-    ensures { OnOk result (string_bytes out.new ≡ string_bytes out.old ++ spec.vcpu_text vcpu pending.now) }
+    ensures { OnOk result (string_bytes out.new ≡ string_bytes out.old
+        ++ spec.vcpu_text vcpu pending.now) }
 {
     out.push_str("vcpu ")?;
     push_decimal(out, vcpu)?;

@@ -59,7 +59,8 @@ impl Source for MemSource {
         ensures read { IfOk result (λ n.
             Reads (Some (bytes_left self.old)) (Some (bytes_left self.new)) buf.old buf.new n) }
         ensures failed { OnErr result (Some (bytes_left self.new) ≡ Some (bytes_left self.old)) }
-        ensures cause { HasCause (source_script self.old).faults (source_script self.new).faults result }
+        ensures cause { HasCause (source_script self.old).faults (source_script self.new).faults
+            result }
         ensures answer { result
             ≡ (if refuses (source_script self.old) then Err (record {}) else Ok
             (read_count self.old (length buf.old))) }
@@ -135,7 +136,8 @@ impl Sink for MemSink {
         ensures written { IfOk result (λ n.
             Writes (Some (bytes_held self.old)) (Some (bytes_held self.new)) piece.now n) }
         ensures failed { OnErr result (Some (bytes_held self.new) ≡ Some (bytes_held self.old)) }
-        ensures cause { HasCause (sink_script self.old).faults (sink_script self.new).faults result }
+        ensures cause { HasCause (sink_script self.old).faults (sink_script self.new).faults
+            result }
         ensures answer { result
             ≡ (if fails_to_write self.old (length piece.now) then Err (record {}) else Ok
             (write_count self.old (length piece.now))) }

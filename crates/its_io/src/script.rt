@@ -19,12 +19,18 @@ impl Model for Script {
 
     ghost Value = { spec.Script };
 
-    ghost view = { λ s. record { most = s.most; fail = s.fail.items; calls = s.calls; faults = s.faults } };
+    ghost view = { λ s. record {
+      most = s.most;
+      fail = s.fail.items;
+      calls = s.calls;
+      faults = s.faults;
+    } };
 }
 
 impl Script {
     pub fn new(alloc: Global, most: usize, fail: &[u64]) -> Result<Script, AllocError>
-        ensures { IfOk result (λ s. s ≡ record { most = most; fail = fail.now; calls = 0; faults = 0 }) }
+        ensures { IfOk result
+            (λ s. s ≡ record { most = most; fail = fail.now; calls = 0; faults = 0 }) }
     {
         Ok(Script {
             most,

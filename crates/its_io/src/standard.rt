@@ -38,7 +38,8 @@ impl<R: Read + Drop> Source for StdSource<R> {
         ensures read { IfOk result (λ n. Reads None None buf.old buf.new n) }
         ensures cause { HasCause self.old.faults self.new.faults result }
         // What its reader is known to give, it gives.
-        ensures reader { ReadConsumes (R.remaining self.old.reader) (R.remaining self.new.reader) result buf.new }
+        ensures reader { ReadConsumes (R.remaining self.old.reader) (R.remaining self.new.reader)
+            result buf.new }
     {
         match self.reader.read(buf) {
             Ok(count) => Ok(count),
@@ -85,7 +86,8 @@ impl<W: Write + Drop> Sink for StdSink<W> {
         ensures written { IfOk result (λ n. Writes None None piece.now n) }
         ensures cause { HasCause self.old.faults self.new.faults result }
         // What its writer is known to take, it takes.
-        ensures writer { WriteAppends (W.contents self.old.writer) (W.contents self.new.writer) result piece.now }
+        ensures writer { WriteAppends (W.contents self.old.writer) (W.contents self.new.writer)
+            result piece.now }
     {
         match self.writer.write(piece) {
             Ok(count) if count > 0 || piece.is_empty() => Ok(count),

@@ -102,7 +102,8 @@ impl Sink for SureSink {
     ghost faults_fit = { λ s. lit< tt };
 
     fn write(&mut self, piece: &[u8]) -> Result<usize, Failed>
-        ensures written { IfOk result (λ n. Writes (sure_held self.old) (sure_held self.new) piece.now n) }
+        ensures written { IfOk result
+            (λ n. Writes (sure_held self.old) (sure_held self.new) piece.now n) }
         ensures answer { result ≡ Ok (length piece.now) }
         ensures bytes { IfSome (sure_held self.old) (λ held.
             sure_held self.new

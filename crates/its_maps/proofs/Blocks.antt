@@ -47,7 +47,8 @@ module _ {K V B : Type 0} {R : K → K → Ordering} {part : K → ℕ} {show : 
   find_append : (q : K) (xs ys : List (K × V)) → find R q (xs ++ ys) ≡ cond (is_none (find R q xs)) (find R q ys) (find R q xs)
   find_append q [] ys = refl
   find_append q (x ∷ xs) ys =
-      elim (eq_by_cmp R q x.0) as (λ t. cond t (Some x.1) (find R q (xs ++ ys)) ≡ cond (is_none (cond t (Some x.1) (find R q xs))) (find R q ys) (cond t (Some x.1) (find R q xs))) [
+      elim (eq_by_cmp R q x.0) as (λ t. cond t (Some x.1) (find R q (xs ++ ys)) ≡ cond (is_none (cond t (Some x.1) (find R q xs))) (find R q ys)
+      (cond t (Some x.1) (find R q xs))) [
         | true ↦ refl
         | false ↦ find_append q xs ys
       ]
@@ -57,12 +58,14 @@ module _ {K V B : Type 0} {R : K → K → Ordering} {part : K → ℕ} {show : 
   find_all q (d ∷ es) t =
       let same = eqb (part q) d.0 in
       let rest = option_and_then (look q) (find nat_cmp (part q) es) in
-      let none : same ≡ true → rest ≡ None = λ is. ap (λ (n : ℕ). option_and_then (look q) (find nat_cmp n es)) (eqb-true (part q) d.0 is) ∙ ap (option_and_then (look q)) (find_below d.0 es (first _ _ t)) in
+      let none : same ≡ true → rest ≡ None = λ is. ap (λ (n : ℕ). option_and_then (look q) (find nat_cmp n es)) (eqb-true (part q) d.0 is)
+      ∙ ap (option_and_then (look q)) (find_below d.0 es (first _ _ t)) in
       find_append q (show d) (flat_map show es)
       ∙ ap (λ o. cond (is_none o) (find R q (flat_map show es)) o) (are.found q d)
       ∙ ap (λ r. cond (is_none (cond same (look q d.1) None)) r (cond same (look q d.1) None)) (find_all q es (second _ _ t))
       ∙ joined same (look q d.1) rest none
-      ∙ sym (ap (λ t. option_and_then (look q) (cond t (Some d.1) (find nat_cmp (part q) es))) (unsigned_tied (part q) d.0) ∙ then_cond (look q) same d.1 (find nat_cmp (part q) es))
+      ∙ sym (ap (λ t. option_and_then (look q) (cond t (Some d.1) (find nat_cmp (part q) es))) (unsigned_tied (part q) d.0) ∙ then_cond (look q) same d.1
+      (find nat_cmp (part q) es))
 
   -- ---- the keys rise
 
@@ -78,10 +81,13 @@ module _ {K V B : Type 0} {R : K → K → Ordering} {part : K → ℕ} {show : 
   below_append x [] ys p q = q
   below_append x (e ∷ xs) ys p q = both _ _ (first _ _ p) (below_append x xs ys (second _ _ p) q)
 
-  rise_append : (n : ℕ) (xs : List (K × V)) (es : List (ℕ × B)) → T (is_sorted R xs) → AllIn part n xs → T (below_all nat_cmp n es) → T (is_sorted R (flat_map show es)) → T (is_sorted R (xs ++ flat_map show es))
+  rise_append : (n : ℕ) (xs : List (K × V)) (es : List (ℕ × B)) → T (is_sorted R xs) → AllIn part n xs → T (below_all nat_cmp n es)
+      → T (is_sorted R (flat_map show es)) → T (is_sorted R (xs ++ flat_map show es))
   rise_append n [] es t in_block above later = later
   rise_append n (e ∷ xs) es t in_block above later =
-      both _ _ (below_append e.0 xs (flat_map show es) (first _ _ t) (below_later e.0 es (subst (λ (k : ℕ). T (below_all nat_cmp k es)) (sym in_block.0) above))) (rise_append n xs es (second _ _ t) in_block.1 above later)
+      both _ _ (below_append e.0 xs (flat_map show es) (first _ _ t)
+      (below_later e.0 es (subst (λ (k : ℕ). T (below_all nat_cmp k es)) (sym in_block.0) above)))
+      (rise_append n xs es (second _ _ t) in_block.1 above later)
 
   all_rise : (es : List (ℕ × B)) → T (is_sorted nat_cmp es) → T (is_sorted R (flat_map show es))
   all_rise [] t = tt
@@ -92,7 +98,8 @@ module _ {K V B : Type 0} {R : K → K → Ordering} {part : K → ℕ} {show : 
   pub entries-blocks : (m : FinMap nat_cmp B) → finmap.entries (from_sorted {R = R} (flat_map show (finmap.entries m))) ≡ flat_map show (finmap.entries m)
   entries-blocks m = entries-from_sorted R _ (all_rise (finmap.entries m) (entries_sorted m))
 
-  pub get-blocks : (m : FinMap nat_cmp B) (q : K) → finmap.get (from_sorted {R = R} (flat_map show (finmap.entries m))) q ≡ option_and_then (look q) (finmap.get m (part q))
+  pub get-blocks : (m : FinMap nat_cmp B) (q : K) → finmap.get (from_sorted {R = R} (flat_map show (finmap.entries m))) q ≡ option_and_then (look q)
+      (finmap.get m (part q))
   get-blocks m q =
       get-from_sorted R _ q (all_rise (finmap.entries m) (entries_sorted m))
       ∙ find_all q (finmap.entries m) (entries_sorted m)

@@ -44,7 +44,8 @@ module _ (m : FinMap nat_cmp DeviceRecord) (dev : ℕ) where
 -- ---- what is left of the maps
 
 -- the devices stay where a record keeps its own
-devices_left : (m : FinMap nat_cmp DeviceRecord) (dev : ℕ) (old r : DeviceRecord) → Some old ≡ finmap.get m dev → r.device ≡ old.device → devices_in (finmap.insert m dev r) ≡ devices_in m
+devices_left : (m : FinMap nat_cmp DeviceRecord) (dev : ℕ) (old r : DeviceRecord) → Some old ≡ finmap.get m dev → r.device ≡ old.device
+    → devices_in (finmap.insert m dev r) ≡ devices_in m
 devices_left m dev old r here same =
     values_by-insert (λ d. d.device) m dev r
     ∙ ap (finmap.insert (devices_in m) dev) same
@@ -61,18 +62,29 @@ module _ (m : FinMap nat_cmp DeviceRecord) (c : FinMap nat_cmp Vcpu) (dev : ℕ)
   after_unmap_nothing absent ev = λ i. record { devices = devices_in m; events = sym (nothing_taken m dev (sym (none_of _ absent)) ev) i; collections = c }
 
   module _ (old : DeviceRecord) (here : Some old ≡ finmap.get m dev) (r : DeviceRecord) (same : r.device ≡ old.device) where
-    pub after_map_event : (ev : ℕ) (event : Event) → r.events.map ≡ finmap.insert old.events.map ev event → shown (finmap.insert m dev r) c ≡ event_mapped (shown m c) dev ev event
-    after_map_event ev event is = λ i. record { devices = devices_left m dev old r here same i; events = event_put m dev old here r ev event is i; collections = c }
+    pub after_map_event : (ev : ℕ) (event : Event) → r.events.map ≡ finmap.insert old.events.map ev event → shown (finmap.insert m dev r) c ≡ event_mapped
+        (shown m c) dev ev event
+    after_map_event ev event is = λ i. record {
+      devices = devices_left m dev old r here same i;
+      events = event_put m dev old here r ev event is i;
+      collections = c;
+    }
 
-    pub after_move_event : (ev : ℕ) (icid : Icid) → IfSome (finmap.get old.events.map ev) (λ e. r.events.map ≡ finmap.insert old.events.map ev (record { intid = e.intid; icid = icid }))
-        → IfSome (event_of (shown m c) dev ev) (λ e. shown (finmap.insert m dev r) c ≡ event_mapped (shown m c) dev ev (record { intid = e.intid; icid = icid }))
-    after_move_event ev icid moved = subst (λ o. IfSome o (λ e. shown (finmap.insert m dev r) c ≡ event_mapped (shown m c) dev ev (record { intid = e.intid; icid = icid }))) (sym (event_here m dev old here ev)) (at (finmap.get old.events.map ev) moved)
+    pub after_move_event : (ev : ℕ) (icid : Icid) → IfSome (finmap.get old.events.map ev)
+        (λ e. r.events.map ≡ finmap.insert old.events.map ev (record { intid = e.intid; icid = icid }))
+        → IfSome (event_of (shown m c) dev ev) (λ e. shown (finmap.insert m dev r) c ≡ event_mapped (shown m c) dev ev
+        (record { intid = e.intid; icid = icid }))
+    after_move_event ev icid moved =
+        subst (λ o. IfSome o (λ e. shown (finmap.insert m dev r) c ≡ event_mapped (shown m c) dev ev (record { intid = e.intid; icid = icid })))
+        (sym (event_here m dev old here ev)) (at (finmap.get old.events.map ev) moved)
       where
-        at : (o : Option Event) → IfSome o (λ e. r.events.map ≡ finmap.insert old.events.map ev (record { intid = e.intid; icid = icid })) → IfSome o (λ e. shown (finmap.insert m dev r) c ≡ event_mapped (shown m c) dev ev (record { intid = e.intid; icid = icid }))
+        at : (o : Option Event) → IfSome o (λ e. r.events.map ≡ finmap.insert old.events.map ev (record { intid = e.intid; icid = icid }))
+            → IfSome o (λ e. shown (finmap.insert m dev r) c ≡ event_mapped (shown m c) dev ev (record { intid = e.intid; icid = icid }))
         at None h = tt
         at (Some e) h = after_map_event ev (record { intid = e.intid; icid = icid }) h
 
-    pub after_unmap_event : (ev : ℕ) → r.events.map ≡ finmap.retain_keys old.events.map (λ k. not (k == ev)) → shown (finmap.insert m dev r) c ≡ event_unmapped (shown m c) dev ev
+    pub after_unmap_event : (ev : ℕ) → r.events.map ≡ finmap.retain_keys old.events.map (λ k. not (k == ev)) → shown (finmap.insert m dev r) c ≡ event_unmapped
+        (shown m c) dev ev
     after_unmap_event ev is = λ i. record { devices = devices_left m dev old r here same i; events = event_taken m dev old here r ev is i; collections = c }
 
     pub after_room : r.events.map ≡ old.events.map → shown (finmap.insert m dev r) c ≡ shown m c
@@ -83,13 +95,16 @@ none_shown c = λ i. record { devices = values_by-empty (λ (d : DeviceRecord). 
 
 -- ---- what is read
 
-pub device_found : (m : FinMap nat_cmp DeviceRecord) (dev : ℕ) (o : Option DeviceRecord) → o ≡ finmap.get m dev → option_map (λ d. d.device) o ≡ finmap.get (devices_in m) dev
+pub device_found : (m : FinMap nat_cmp DeviceRecord) (dev : ℕ) (o : Option DeviceRecord) → o ≡ finmap.get m dev → option_map (λ d. d.device) o ≡ finmap.get
+    (devices_in m) dev
 device_found m dev o is = ap (option_map (λ (d : DeviceRecord). d.device)) is ∙ sym (get-values_by (λ (d : DeviceRecord). d.device) m dev)
 
-pub event_found : (m : FinMap nat_cmp DeviceRecord) (dev ev : ℕ) (o : Option DeviceRecord) → o ≡ finmap.get m dev → option_and_then (event_in ev) o ≡ finmap.get (events_in m) (dev, ev)
+pub event_found : (m : FinMap nat_cmp DeviceRecord) (dev ev : ℕ) (o : Option DeviceRecord) → o ≡ finmap.get m dev → option_and_then (event_in ev) o ≡ finmap.get
+    (events_in m) (dev, ev)
 event_found m dev ev o is = ap (option_and_then (event_in ev)) is ∙ sym (get-events_in m (dev, ev))
 
-pub looked : (m : FinMap nat_cmp DeviceRecord) (c : FinMap nat_cmp Vcpu) (dev ev : ℕ) (o : Option DeviceRecord) → o ≡ finmap.get m dev → found (option_map (λ d. d.device) o) (option_and_then (event_in ev) o) ≡ looked_up (shown m c) dev ev
+pub looked : (m : FinMap nat_cmp DeviceRecord) (c : FinMap nat_cmp Vcpu) (dev ev : ℕ) (o : Option DeviceRecord) → o ≡ finmap.get m dev
+    → found (option_map (λ d. d.device) o) (option_and_then (event_in ev) o) ≡ looked_up (shown m c) dev ev
 looked m c dev ev o is = λ i. found (device_found m dev o is i) (event_found m dev ev o is i)
 
 pub events_have_devices : (m : FinMap nat_cmp DeviceRecord) (c : FinMap nat_cmp Vcpu) → EventsHaveDevices (shown m c)

@@ -14,14 +14,16 @@ module _ {V : Type 0} where
   filled m [] = m
   filled m (e ∷ es) = filled (finmap.insert m e.0 e.1) es
 
-  get-filled : (q : ℕ) (es : List (ℕ × V)) (m : FinMap nat_cmp V) → T (is_sorted nat_cmp es) → finmap.get (filled m es) q ≡ cond (is_some (find nat_cmp q es)) (find nat_cmp q es) (finmap.get m q)
+  get-filled : (q : ℕ) (es : List (ℕ × V)) (m : FinMap nat_cmp V) → T (is_sorted nat_cmp es) → finmap.get (filled m es) q ≡ cond (is_some (find nat_cmp q es))
+      (find nat_cmp q es) (finmap.get m q)
   get-filled q [] m t = refl
   get-filled q (e ∷ es) m t =
       get-filled q es (finmap.insert m e.0 e.1) (second _ _ t)
       ∙ ap (λ r. cond (is_some (find nat_cmp q es)) (find nat_cmp q es) r) (get-insert nat_cmp_total m e.0 e.1 q)
       ∙ at (eq_by_cmp nat_cmp q e.0) refl
     where
-      at : (t : Bool) → eq_by_cmp nat_cmp q e.0 ≡ t → cond (is_some (find nat_cmp q es)) (find nat_cmp q es) (cond t (Some e.1) (finmap.get m q)) ≡ cond (is_some (cond t (Some e.1) (find nat_cmp q es))) (cond t (Some e.1) (find nat_cmp q es)) (finmap.get m q)
+      at : (t : Bool) → eq_by_cmp nat_cmp q e.0 ≡ t → cond (is_some (find nat_cmp q es)) (find nat_cmp q es) (cond t (Some e.1) (finmap.get m q)) ≡ cond
+          (is_some (cond t (Some e.1) (find nat_cmp q es))) (cond t (Some e.1) (find nat_cmp q es)) (finmap.get m q)
       at true tie =
           let none : find nat_cmp q es ≡ None = ap (λ (n : ℕ). find nat_cmp n es) (same_number q e.0 tie) ∙ find_below e.0 es (first _ _ t) in
           ap (λ o. cond (is_some o) o (Some e.1)) none

@@ -1,5 +1,6 @@
 -- What there is room for.
-use Rattle.std.proofs.Common.{◌≡◌, ℕ, ◌≤◌, Bool, true, false, cond, Some, None, Option, Result, Ok, Err, OnOk, OnErr, unwrap_or, refl, sym, ap, ◌∙◌, subst, arith}
+use Rattle.std.proofs.Common.{◌≡◌, ℕ, ◌≤◌, Bool, true, false, cond, Some, None, Option, Result, Ok, Err, OnOk, OnErr, unwrap_or, refl, sym, ap, ◌∙◌, subst}
+use Rattle.std.proofs.Common.{arith}
 use Rattle.std.specs.Option.{option_map}
 use Rattle.std.specs.Ordering.{nat_cmp, eq_by_cmp}
 use Rattle.std.specs.Cmp.{nat_cmp_total, unsigned_tied}
@@ -38,38 +39,50 @@ not_filled (Ok _) f p q = tt
 not_filled (Err _) f p q = f p q
 
 module _ (m : FinMap nat_cmp DeviceRecord) (dev : ℕ) where
-  pub room_here : (reserve : Bool) (old : DeviceRecord) → Some old ≡ finmap.get m dev → unwrap_or (finmap.get (event_room_in reserve m) dev) 0 ≡ room_of reserve old.events.spare
-  room_here reserve old here = ap (λ o. unwrap_or o 0) (get-values_by (λ d. room_of reserve d.events.spare) m dev ∙ ap (option_map (λ d. room_of reserve d.events.spare)) (sym here))
+  pub room_here : (reserve : Bool) (old : DeviceRecord) → Some old ≡ finmap.get m dev → unwrap_or (finmap.get (event_room_in reserve m) dev) 0
+      ≡ room_of reserve old.events.spare
+  room_here reserve old here = ap (λ o. unwrap_or o 0) (get-values_by (λ d. room_of reserve d.events.spare) m dev
+      ∙ ap (option_map (λ d. room_of reserve d.events.spare)) (sym here))
 
   -- with another record of the device
-  get_with : (reserve : Bool) (r : DeviceRecord) (q : ℕ) → finmap.get (event_room_in reserve (finmap.insert m dev r)) q ≡ cond (eq_by_cmp nat_cmp q dev) (Some (room_of reserve r.events.spare)) (option_map (λ d. room_of reserve d.events.spare) (finmap.get m q))
+  get_with : (reserve : Bool) (r : DeviceRecord) (q : ℕ) → finmap.get (event_room_in reserve (finmap.insert m dev r)) q ≡ cond (eq_by_cmp nat_cmp q dev)
+      (Some (room_of reserve r.events.spare)) (option_map (λ d. room_of reserve d.events.spare) (finmap.get m q))
   get_with reserve r q =
       get-values_by (λ d. room_of reserve d.events.spare) (finmap.insert m dev r) q
       ∙ ap (option_map (λ d. room_of reserve d.events.spare)) (get-insert nat_cmp_total m dev r q)
       ∙ mapped (eq_by_cmp nat_cmp q dev) (finmap.get m q)
     where
-      mapped : (t : Bool) (o : Option DeviceRecord) → option_map (λ d. room_of reserve d.events.spare) (cond t (Some r) o) ≡ cond t (Some (room_of reserve r.events.spare)) (option_map (λ d. room_of reserve d.events.spare) o)
+      mapped : (t : Bool) (o : Option DeviceRecord) → option_map (λ d. room_of reserve d.events.spare) (cond t (Some r) o) ≡ cond t
+          (Some (room_of reserve r.events.spare)) (option_map (λ d. room_of reserve d.events.spare) o)
       mapped true o = refl
       mapped false o = refl
 
-  pub room_at : (reserve : Bool) (r : DeviceRecord) → unwrap_or (finmap.get (event_room_in reserve (finmap.insert m dev r)) dev) 0 ≡ room_of reserve r.events.spare
+  pub room_at : (reserve : Bool) (r : DeviceRecord) → unwrap_or (finmap.get (event_room_in reserve (finmap.insert m dev r)) dev) 0
+      ≡ room_of reserve r.events.spare
   room_at reserve r =
       ap (λ o. unwrap_or o 0) (get_with reserve r dev)
-      ∙ ap (λ t. unwrap_or (cond t (Some (room_of reserve r.events.spare)) (option_map (λ d. room_of reserve d.events.spare) (finmap.get m dev))) 0) (unsigned_tied dev dev ∙ eq-eqb dev dev refl)
+      ∙ ap (λ t. unwrap_or (cond t (Some (room_of reserve r.events.spare)) (option_map (λ d. room_of reserve d.events.spare) (finmap.get m dev))) 0)
+      (unsigned_tied dev dev ∙ eq-eqb dev dev refl)
 
-  pub room_left : (reserve : Bool) (old r : DeviceRecord) → Some old ≡ finmap.get m dev → room_of reserve r.events.spare ≡ room_of reserve old.events.spare → event_room_in reserve (finmap.insert m dev r) ≡ event_room_in reserve m
+  pub room_left : (reserve : Bool) (old r : DeviceRecord) → Some old ≡ finmap.get m dev → room_of reserve r.events.spare ≡ room_of reserve old.events.spare
+      → event_room_in reserve (finmap.insert m dev r) ≡ event_room_in reserve m
   room_left reserve old r here same =
       values_by-insert (λ d. room_of reserve d.events.spare) m dev r
       ∙ ap (finmap.insert (event_room_in reserve m) dev) same
-      ∙ insert_same (event_room_in reserve m) dev (room_of reserve old.events.spare) (sym (get-values_by (λ d. room_of reserve d.events.spare) m dev ∙ ap (option_map (λ d. room_of reserve d.events.spare)) (sym here)))
+      ∙ insert_same (event_room_in reserve m) dev (room_of reserve old.events.spare)
+      (sym (get-values_by (λ d. room_of reserve d.events.spare) m dev ∙ ap (option_map (λ d. room_of reserve d.events.spare)) (sym here)))
 
   -- once there is a page, and a place for the device's next event, no device has less room
-  pub room_grows : (reserve : Bool) (r : DeviceRecord) → 1 ≤ r.events.spare → (q : ℕ) → unwrap_or (finmap.get (event_room_in reserve m) q) 0 ≤ unwrap_or (finmap.get (event_room_in true (finmap.insert m dev r)) q) 0
+  pub room_grows : (reserve : Bool) (r : DeviceRecord) → 1 ≤ r.events.spare → (q : ℕ) → unwrap_or (finmap.get (event_room_in reserve m) q) 0 ≤ unwrap_or
+      (finmap.get (event_room_in true (finmap.insert m dev r)) q) 0
   room_grows reserve r some q =
-      subst (λ o. unwrap_or o 0 ≤ unwrap_or (finmap.get (event_room_in true (finmap.insert m dev r)) q) 0) (sym (get-values_by (λ d. room_of reserve d.events.spare) m q))
-      (subst (λ o. unwrap_or (option_map (λ d. room_of reserve d.events.spare) (finmap.get m q)) 0 ≤ unwrap_or o 0) (sym (get_with true r q)) (at (eq_by_cmp nat_cmp q dev) (finmap.get m q)))
+      subst (λ o. unwrap_or o 0 ≤ unwrap_or (finmap.get (event_room_in true (finmap.insert m dev r)) q) 0)
+      (sym (get-values_by (λ d. room_of reserve d.events.spare) m q))
+      (subst (λ o. unwrap_or (option_map (λ d. room_of reserve d.events.spare) (finmap.get m q)) 0 ≤ unwrap_or o 0) (sym (get_with true r q))
+      (at (eq_by_cmp nat_cmp q dev) (finmap.get m q)))
     where
-      at : (t : Bool) (o : Option DeviceRecord) → unwrap_or (option_map (λ d. room_of reserve d.events.spare) o) 0 ≤ unwrap_or (cond t (Some (room_of true r.events.spare)) (option_map (λ d. room_of true d.events.spare) o)) 0
+      at : (t : Bool) (o : Option DeviceRecord) → unwrap_or (option_map (λ d. room_of reserve d.events.spare) o) 0 ≤ unwrap_or
+          (cond t (Some (room_of true r.events.spare)) (option_map (λ d. room_of true d.events.spare) o)) 0
       at true None = omega arith
       at true (Some d) = omega (arith, at_most_one reserve d.events.spare, gives_room r.events.spare some)
       at false None = omega arith
@@ -81,6 +94,8 @@ module _ (m : FinMap nat_cmp DeviceRecord) (dev : ℕ) where
     unfilled_left err lacking =
         ap (λ p. event_room_in p (finmap.insert m dev r)) (err ∙ lacking) ∙ room_left false old r here refl ∙ ap (λ p. event_room_in p m) (sym lacking)
 
-    pub filled_grows : {A E : Type 0} (result : Result A E) → OnOk result (after ≡ true) → OnErr result (after ≡ before) → OnErr result (before ≡ false) → (q : ℕ) → unwrap_or (finmap.get (event_room_in before m) q) 0 ≤ unwrap_or (finmap.get (event_room_in after (finmap.insert m dev r)) q) 0
-    filled_grows (Ok _) ok err lacking q = subst (λ p. unwrap_or (finmap.get (event_room_in before m) q) 0 ≤ unwrap_or (finmap.get (event_room_in p (finmap.insert m dev r)) q) 0) (sym ok) (room_grows before r some q)
+    pub filled_grows : {A E : Type 0} (result : Result A E) → OnOk result (after ≡ true) → OnErr result (after ≡ before) → OnErr result (before ≡ false)
+        → (q : ℕ) → unwrap_or (finmap.get (event_room_in before m) q) 0 ≤ unwrap_or (finmap.get (event_room_in after (finmap.insert m dev r)) q) 0
+    filled_grows (Ok _) ok err lacking q = subst (λ p. unwrap_or (finmap.get (event_room_in before m) q) 0 ≤ unwrap_or
+        (finmap.get (event_room_in p (finmap.insert m dev r)) q) 0) (sym ok) (room_grows before r some q)
     filled_grows (Err _) ok err lacking q = no_less _ _ (sym (unfilled_left err lacking)) q

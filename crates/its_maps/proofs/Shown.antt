@@ -5,7 +5,8 @@ use Rattle.std.specs.Ordering.{nat_cmp}
 use Rattle.std.specs.declared.cmp.Ordering.TheVariants.{Equal}
 use Rattle.std.specs.Cmp.{nat_cmp_total}
 use Rattle.std.specs.FinMap as map
-use Rattle.std.specs.FinMap.{FinMap, put, from_sorted, entries-from_sorted, entries-insert, same_entries_map, get-from_sorted, get-retain_keys, get-empty, same_map, nat_cmp-IsAntisymmetric}
+use Rattle.std.specs.FinMap.{FinMap, put, from_sorted, entries-from_sorted, entries-insert, same_entries_map, get-from_sorted, get-retain_keys, get-empty}
+use Rattle.std.specs.FinMap.{same_map, nat_cmp-IsAntisymmetric}
 use Rattle.std.specs.FinMap.Entries.{where_key, is_sorted-put, is_sorted-where_key, find-where_key}
 use Rattle.its_maps.specs.MapRoom.{MapRoom, without}
 use Rattle.its_maps.specs.Lending.{with_value}
@@ -57,7 +58,8 @@ module _ {V : Type 0} where
     pub shown_set : (v : V) → IsAt es k i → from_sorted {R = nat_cmp} (set es i (k, v)) ≡ map.insert (from_sorted es) k v
     shown_set v at = ap (λ (l : List (ℕ × V)). from_sorted l) (sym (put_at k v es i rises at)) ∙ from_put es k v rises
 
-    pub shown_insert : (v : V) (new : List (ℕ × V)) → IsGapFor es k i → new ≡ insert es i (k, v) → from_sorted {R = nat_cmp} new ≡ map.insert (from_sorted es) k v
+    pub shown_insert : (v : V) (new : List (ℕ × V)) → IsGapFor es k i → new ≡ insert es i (k, v) → from_sorted {R = nat_cmp} new ≡ map.insert
+        (from_sorted es) k v
     shown_insert v new gap is = ap (λ (l : List (ℕ × V)). from_sorted l) (is ∙ sym (put_gap k v es i gap)) ∙ from_put es k v rises
 
     pub shown_remove : (new : List (ℕ × V)) → IsAt es k i → new ≡ remove es i → from_sorted {R = nat_cmp} new ≡ without (from_sorted es) k
@@ -73,7 +75,9 @@ module _ {V : Type 0} where
     pub rises_lent : (x : ℕ × V) → x ≡ get_or es i x → IsAt es k i → (w : V) → Rises (set es i (x.0, w))
     rises_lent x is at w = subst (λ (q : ℕ). Rises (set es i (q, w))) (sym (same_key x is at)) (rises_set w at)
 
-    pub shown_lent : (x : ℕ × V) → x ≡ get_or es i x → (spare : ℕ) → IsAt es k i → (w : V) → ◌≡◌ {A = MapRoom V} (record { map = from_sorted (set es i (x.0, w)); spare = spare }) (with_value (record { map = from_sorted es; spare = spare }) k w)
+    pub shown_lent : (x : ℕ × V) → x ≡ get_or es i x → (spare : ℕ) → IsAt es k i → (w : V)
+        → ◌≡◌ {A = MapRoom V} (record { map = from_sorted (set es i (x.0, w)); spare = spare })
+        (with_value (record { map = from_sorted es; spare = spare }) k w)
     shown_lent x is spare at w = same_room _ _ spare spare (ap (λ (q : ℕ). from_sorted (set es i (q, w))) (same_key x is at) ∙ shown_set w at) refl
 
   pub shown_clear : (new : List (ℕ × V)) → new ≡ [] → from_sorted {R = nat_cmp} new ≡ map.empty

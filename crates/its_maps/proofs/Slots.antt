@@ -1,5 +1,6 @@
 -- Pages of places as one map: where a key is found.
-use Rattle.std.proofs.Common.{◌≡◌, ℕ, zero, suc, ◌+◌, ◌*◌, ◌/◌, ◌%◌, ◌<◌, ◌≤◌, ◌≢◌, Bool, true, false, cond, ◌&&◌, eqb, List, [], ◌∷◌, length, take, get_or, Some, None, Option, is_some, inl, inr, refl, ap, ◌∙◌, sym, arith}
+use Rattle.std.proofs.Common.{◌≡◌, ℕ, zero, suc, ◌+◌, ◌*◌, ◌/◌, ◌%◌, ◌<◌, ◌≤◌, ◌≢◌, Bool, true, false, cond, ◌&&◌, eqb, List, [], ◌∷◌, length, take, get_or}
+use Rattle.std.proofs.Common.{Some, None, Option, is_some, inl, inr, refl, ap, ◌∙◌, sym, arith}
 use Rattle.std.specs.Option.{option_and_then}
 use Rattle.std.specs.Ordering.{nat_cmp}
 use Rattle.std.specs.Cmp.{unsigned_tied}
@@ -74,7 +75,8 @@ module _ {V : Type 0} where
       at true is =
           let same = eqb-true (page_of q) n is in
           let whole : q ≡ n * PLACES + q % PLACES = omega (arith, same) in
-          ap (λ (k : ℕ). find nat_cmp k (slots_from (n * PLACES) (take PLACES xs))) whole ∙ find_nth (q % PLACES) (n * PLACES) (take PLACES xs) ∙ get_or-take PLACES xs (q % PLACES) None (omega arith)
+          ap (λ (k : ℕ). find nat_cmp k (slots_from (n * PLACES) (take PLACES xs))) whole ∙ find_nth (q % PLACES) (n * PLACES) (take PLACES xs)
+          ∙ get_or-take PLACES xs (q % PLACES) None (omega arith)
       at false is = outside (λ same. absurd (false≢true (sym is ∙ eq-eqb (page_of q) n same)))
 
   -- ---- the keys of a page rise, and are the page's

@@ -9,7 +9,8 @@ none_left [] is = refl
 none_left (x ∷ xs) is = absurd (omega (arith, is))
 
 module _ {V : Type 0} where
-  pub page_opens : (key : ℕ) (slots : List (Option V)) (d : ℕ × List (Option V)) (pages rest : List (ℕ × List (Option V))) (first : ℕ) (opened : List (Option V))
+  pub page_opens : (key : ℕ) (slots : List (Option V)) (d : ℕ × List (Option V)) (pages rest : List (ℕ × List (Option V))) (first : ℕ)
+      (opened : List (Option V))
       → length slots ≡ 0 → pages ≡ d ∷ rest → first ≡ d.0 * PLACES → opened ≡ d.1 → length opened ≡ PLACES
       → slots_from key slots ++ paged pages ≡ slots_from first opened ++ paged rest
   page_opens key slots d pages rest first opened none is number same full =

@@ -104,7 +104,10 @@ impl Maps {
         ensures maps { self.new.maps ≡ self.old.maps }
         ensures ok { OnOk result (1 ≤ self.new.room.collections) }
         ensures grows { self.old.room.collections ≤ self.new.room.collections }
-        ensures others { self.new.room ≡ record self.old.room { collections = self.new.room.collections } }
+        ensures others { self.new.room ≡ record self.old.room {
+          collections =
+              self.new.room.collections;
+        } }
         ensures err { OnErr result (self.new ≡ self.old) }
     {
         self.collections.make_room()?;
@@ -127,7 +130,8 @@ impl Maps {
     /// Maps an event of a mapped device.
     pub fn map_event(&mut self, dev: DeviceId, ev: EventId, event: Event)
         requires mapped { IsSome (device_of self.old.maps dev.0) }
-        requires room { event_of self.old.maps dev.0 ev.0 ≡ None → 1 ≤ event_room self.old.room dev.0 }
+        requires room { event_of self.old.maps dev.0 ev.0 ≡ None
+            → 1 ≤ event_room self.old.room dev.0 }
         ensures maps { self.new.maps ≡ event_mapped self.old.maps dev.0 ev.0 event }
         ensures room { self.new.room ≡ record self.old.room { events = self.new.room.events } }
     {
@@ -139,7 +143,10 @@ impl Maps {
     pub fn map_collection(&mut self, icid: Icid, vcpu: Vcpu)
         requires { collection_of self.old.maps icid.0 ≡ None → 1 ≤ self.old.room.collections }
         ensures maps { self.new.maps ≡ collection_mapped self.old.maps icid.0 vcpu }
-        ensures room { self.new.room ≡ record self.old.room { collections = self.new.room.collections } }
+        ensures room { self.new.room ≡ record self.old.room {
+          collections =
+              self.new.room.collections;
+        } }
     {
         let Icid(number) = icid;
         self.collections
@@ -180,7 +187,10 @@ impl Maps {
     /// Unmaps a collection, if it is mapped.
     pub fn unmap_collection(&mut self, icid: Icid)
         ensures maps { self.new.maps ≡ collection_unmapped self.old.maps icid.0 }
-        ensures room { self.new.room ≡ record self.old.room { collections = self.new.room.collections } }
+        ensures room { self.new.room ≡ record self.old.room {
+          collections =
+              self.new.room.collections;
+        } }
     {
         self.collections.remove(u32::from(icid.0));
     }
@@ -196,7 +206,10 @@ impl Maps {
     /// Unmaps all collections.
     pub fn empty_collections(&mut self)
         ensures maps { self.new.maps ≡ collections_emptied self.old.maps }
-        ensures room { self.new.room ≡ record self.old.room { collections = self.new.room.collections } }
+        ensures room { self.new.room ≡ record self.old.room {
+          collections =
+              self.new.room.collections;
+        } }
     {
         self.collections.clear();
     }

@@ -21,7 +21,8 @@ impl<'a, V> Model for PagedWalk<'a, V> {
 
     ghost view = { λ w. slots_from w.key w.slots.now ++ paged w.pages.now };
 
-    ghost invariant = { λ w. (w.key + length w.slots.now ≤ 4294967296) × EachNumberFits w.pages.now };
+    ghost invariant = { λ w. (w.key + length w.slots.now ≤ 4294967296)
+        × EachNumberFits w.pages.now };
 }
 
 impl<'a, V> PagedWalk<'a, V> {

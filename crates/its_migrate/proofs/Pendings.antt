@@ -23,7 +23,8 @@ pub one_more_list : (xs : List (List Intid)) (x : List Intid) (rs : List Redistr
     → lpis_in x ≡ (get_or rs n no_redistributor).pending
     → map lpis_in (xs ++ x ∷ []) ≡ map pending_in (take (n + 1) rs)
 one_more_list xs x rs n lt before here =
-    map-append lpis_in xs (x ∷ []) ∙ ((λ d. before d ++ here d ∷ []) ∙ (sym (map-append pending_in (take n rs) (get_or rs n no_redistributor ∷ [])) ∙ ap (λ (qs : List Redistributor). map pending_in qs) (sym (take_more rs n no_redistributor lt))))
+    map-append lpis_in xs (x ∷ []) ∙ ((λ d. before d ++ here d ∷ []) ∙ (sym (map-append pending_in (take n rs) (get_or rs n no_redistributor ∷ []))
+    ∙ ap (λ (qs : List Redistributor). map pending_in qs) (sym (take_more rs n no_redistributor lt))))
 
 pub all_lists : (rs : List Redistributor) (n : ℕ) → n ≡ length rs → map pending_in (take n rs) ≡ map pending_in rs
 all_lists rs n e = ap (λ (k : ℕ). map pending_in (take k rs)) e ∙ ap (λ (qs : List Redistributor). map pending_in qs) (take-length rs)

@@ -84,7 +84,8 @@ module _ (s : Setup) (v w : View) (x : Whole) (taken : HasTaken s v x w) (l : La
         let state : state_of_parts (parts_of s.start.layout after_it) ≡ record before { memory = memory } =
         λ d. state_of s.start.layout (tables d).value.regs (tables d).value.maps.maps memory (hands d) in
         owes_here s call.Save (save_reply r) Keep (whole_held u) (λ _. left_held) leaves w holds_all own z y made
-        ∙ (ap (λ (q : Plain). whole_held q) (sym (state ∙ saved_so u before (state_of_parts (parts_of l x)) r memory taken.state (taken_state s v w x taken l same) answered is))
+        ∙ (ap (λ (q : Plain). whole_held q)
+        (sym (state ∙ saved_so u before (state_of_parts (parts_of l x)) r memory taken.state (taken_state s v w x taken l same) answered is))
         ∙ sym (held_is s after_it (subst (λ (rs : List (Option Redist)). AreFirstOf s (vcpu_count s) rs) (sym hands) taken.hand)))
 
   -- ---- what the pass knows

@@ -76,7 +76,21 @@ exact_bytes = record {
 -- ---- enums
 
 abbrev each_op : Each Bool op_type.enum.parts
-each_op = (λ x y. true, (λ x y. true, (λ x y. true, (λ x y. true, (λ x y. true, (λ x y. true, (λ x y. true, (λ x y. true, (λ x y. true, (λ x y. true, (λ x y. true, (λ x y. true, (λ x y. x.0 == y.0, tt)))))))))))))
+each_op = (
+  λ x y. true,
+  (
+    λ x y.
+        true,
+    (
+      λ x y. true,
+      (
+        λ x y.
+            true,
+        (λ x y. true, (λ x y. true, (λ x y. true, (λ x y. true, (λ x y. true, (λ x y. true, (λ x y. true, (λ x y. true, (λ x y. x.0 == y.0, tt))))))))),
+      ),
+    ),
+  ),
+)
 
 abbrev same_op : Op → Op → Bool
 same_op x y = by false false op_type.enum.parts each_op (op_type.enum.as_values x) (op_type.enum.as_values y)
@@ -124,13 +138,23 @@ exact_step : Exact same_step
 exact_step = by_exact step_type.enum each_step (none, (one exact_op, (two exact_op exact_reason, (one exact_addr, tt))))
 
 abbrev each_region : Each Bool region_type.enum.parts
-each_region = (λ x y. true, (λ x y. true, (λ x y. x.0 == y.0, (λ x y. true, (λ x y. x.0.0 == y.0.0, (λ x y. x.0.0 == y.0.0, (λ x y. true, (λ x y. x.0.0 == y.0.0, (λ x y. true, tt)))))))))
+each_region = (
+  λ x y. true,
+  (
+    λ x y. true,
+    (
+      λ x y. x.0 == y.0,
+      (λ x y. true, (λ x y. x.0.0 == y.0.0, (λ x y. x.0.0 == y.0.0, (λ x y. true, (λ x y. x.0.0 == y.0.0, (λ x y. true, tt)))))),
+    ),
+  ),
+)
 
 abbrev same_region : Region → Region → Bool
 same_region x y = by false false region_type.enum.parts each_region (region_type.enum.as_values x) (region_type.enum.as_values y)
 
 exact_region : Exact same_region
-exact_region = by_exact region_type.enum each_region (none, (none, (one exact_number, (none, (one exact_deviceid, (one exact_vcpu, (none, (one exact_vcpu, (none, tt)))))))))
+exact_region = by_exact region_type.enum each_region
+    (none, (none, (one exact_number, (none, (one exact_deviceid, (one exact_vcpu, (none, (one exact_vcpu, (none, tt)))))))))
 
 abbrev each_fault : Each Bool fault_type.enum.parts
 each_fault = (λ x y. x.0.0 == y.0.0, (λ x y. same_region x.0 y.0, (λ x y. same_region x.0 y.0 && same_region x.1.0 y.1.0, tt)))
@@ -142,10 +166,17 @@ exact_fault : Exact same_fault
 exact_fault = by_exact fault_type.enum each_fault (one exact_deviceid, (one exact_region, (two exact_region exact_region, tt)))
 
 abbrev each_reply : Each Bool reply_type.enum.parts
-each_reply = (λ x y. same_signal x.0 y.0, (λ x y. same_ack x.0 y.0, (λ x y. true, (λ x y. true, (λ x y. same_bytes x.0 y.0, (λ x y. x.0 == y.0, (λ x y. same_step x.0 y.0, (λ x y. true, (λ x y. same_fault x.0 y.0, tt)))))))))
+each_reply = (
+  λ x y. same_signal x.0 y.0,
+  (
+    λ x y. same_ack x.0 y.0,
+    (λ x y. true, (λ x y. true, (λ x y. same_bytes x.0 y.0, (λ x y. x.0 == y.0, (λ x y. same_step x.0 y.0, (λ x y. true, (λ x y. same_fault x.0 y.0, tt))))))),
+  ),
+)
 
 abbrev pub same_reply : Reply → Reply → Bool
 same_reply x y = by false false reply_type.enum.parts each_reply (reply_type.enum.as_values x) (reply_type.enum.as_values y)
 
 pub exact_reply : Exact same_reply
-exact_reply = by_exact reply_type.enum each_reply (one exact_signal, (one exact_ack, (none, (none, (one exact_bytes, (one exact_number, (one exact_step, (none, (one exact_fault, tt)))))))))
+exact_reply = by_exact reply_type.enum each_reply
+    (one exact_signal, (one exact_ack, (none, (none, (one exact_bytes, (one exact_number, (one exact_step, (none, (one exact_fault, tt)))))))))

@@ -10,7 +10,8 @@ use Rattle.its_command.specs.declared.command.Command.{Command}
 use Rattle.its_command.specs.declared.command.Command.TheVariants as command
 use Rattle.its_types.specs.Ranges.{is_device_id, is_lpi}
 use Rattle.its_types.specs.Lpis.{is_pending, with_lpi, with_lpis, without_lpi}
-use Rattle.its_types.specs.Maps.{Maps, device_of, event_of, collection_of, device_mapped, device_unmapped, event_mapped, event_unmapped, collection_mapped, collection_unmapped}
+use Rattle.its_types.specs.Maps.{Maps, device_of, event_of, collection_of, device_mapped, device_unmapped, event_mapped, event_unmapped, collection_mapped}
+use Rattle.its_types.specs.Maps.{collection_unmapped}
 use Rattle.its_types.specs.declared.ids.Intid.{Intid}
 use Rattle.its_types.specs.declared.ids.Vcpu.{Vcpu}
 use Rattle.its_types.specs.declared.machine.Profile.{Profile}
@@ -18,7 +19,8 @@ use Rattle.its_types.specs.declared.machine.Profile.TheVariants.{One, Two}
 use Rattle.its_types.specs.declared.translation.Event.{Event}
 use Rattle.its_plain.specs.Plain.{Plain, regs_of, maps_of, pending_of, is_on, with_maps, with_pending}
 use Rattle.its_plain.specs.declared.call.Reason.{Reason}
-use Rattle.its_plain.specs.declared.call.Reason.TheVariants.{UnknownCommand, DeviceRange, SizeRange, TargetRange, CollectionRange, NoDevice, EventRange, IntidRange, NoEvent, NoCollection, LpisOff}
+use Rattle.its_plain.specs.declared.call.Reason.TheVariants.{UnknownCommand, DeviceRange, SizeRange, TargetRange, CollectionRange, NoDevice, EventRange}
+use Rattle.its_plain.specs.declared.call.Reason.TheVariants.{IntidRange, NoEvent, NoCollection, LpisOff}
 
 infixl 10 ◌>>=◌
 abbrev pub ◌>>=◌ : {A B : Type 0} → Result A Reason → (A → Result B Reason) → Result B Reason

@@ -14,7 +14,8 @@ abbrev pub padded : List ℕ → List ℕ
 padded xs = xs ++ replicate (64 - length xs) 0
 
 -- the fields come back from the bytes
-pub same_padded : (a : Inside) → IsPadded a.len a.bytes → (let x : Inside = record { bytes = padded (take a.len a.bytes); len = length (take a.len a.bytes) } in x) ≡ a
+pub same_padded : (a : Inside) → IsPadded a.len a.bytes
+    → (let x : Inside = record { bytes = padded (take a.len a.bytes); len = length (take a.len a.bytes) } in x) ≡ a
 same_padded a h =
     let n : length (take a.len a.bytes) ≡ a.len = omega (arith, length-take a.len a.bytes, h.fits, h.whole) in
     let bs : padded (take a.len a.bytes) ≡ a.bytes = rw (n, ← h.zeros) (take-append-drop a.len a.bytes) in

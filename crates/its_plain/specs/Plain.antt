@@ -100,7 +100,8 @@ coded_layout =
 
 abbrev pub plain_code : Coded Plain
 plain_code =
-    code_by ((Layout × List Translator) × (List Redistributor × List Window)) (coded× (coded× coded_layout (coded_list translator_code)) (coded× (coded_list redistributor_code) (coded_list coded_window)))
+    code_by ((Layout × List Translator) × (List Redistributor × List Window)) (coded× (coded× coded_layout (coded_list translator_code))
+    (coded× (coded_list redistributor_code) (coded_list coded_window)))
     (λ u. ((u.layout, u.translators), (u.redistributors, u.memory)))
     (λ p. record { layout = p.0.0; translators = p.0.1; redistributors = p.1.0; memory = p.1.1 })
     (λ _. refl)

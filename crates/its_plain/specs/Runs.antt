@@ -46,7 +46,8 @@ pub record IsPartOfPhase (pass : ℕ) (threads : Phase) (h : List Entry) : Type 
 
 abbrev pub ArePhases : ℕ → Leg → List Entry → Type 0
 ArePhases pass [] h = h ≡ []
-ArePhases pass (threads ∷ phases) h = (now : List Entry) × (rest : List Entry) × (h ≡ now ++ rest) × IsPhase pass threads now × ArePhases (pass + length threads) phases rest
+ArePhases pass (threads ∷ phases) h = (now : List Entry) × (rest : List Entry) × (h ≡ now ++ rest) × IsPhase pass threads now
+    × ArePhases (pass + length threads) phases rest
 
 -- some phases whole, and then the first calls of the threads of one more
 abbrev pub ArePartOfPhases : ℕ → Leg → List Entry → Type 0

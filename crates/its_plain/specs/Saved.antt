@@ -1,5 +1,6 @@
 -- What a save writes (KVM document arm-vgic-its, "ITS Table ABI REV0"), and the machine that a migration goes on with.
-use Rattle.std.specs.Prelude.{◌≡◌, ℕ, suc, zero, ◌+◌, ◌-◌, ◌*◌, ◌/◌, ◌^◌, not, ◌&&◌, ◌==◌, nat_lt, if◌then◌else◌, min, List, [], ◌∷◌, ◌++◌, map, find, Option, Some, None, unwrap_or, slice_get, Ok}
+use Rattle.std.specs.Prelude.{◌≡◌, ℕ, suc, zero, ◌+◌, ◌-◌, ◌*◌, ◌/◌, ◌^◌, not, ◌&&◌, ◌==◌, nat_lt, if◌then◌else◌, min, List, [], ◌∷◌, ◌++◌, map, find, Option}
+use Rattle.std.specs.Prelude.{Some, None, unwrap_or, slice_get, Ok}
 use Rattle.std.specs.Option.{option_map}
 use Rattle.std.specs.List.{flat_map}
 use Rattle.std.specs.FinMap.{entries, keys}
@@ -120,7 +121,11 @@ translator_words memory t = device_words t memory ++ collection_words t ++ itt_w
 -- a pending table but for the 1024 bytes that belong to no LPI, of each redistributor whose LPIs are on
 abbrev pub pending_words : Shape → Redistributor → List Words
 pending_words s r =
-    if r.bases.on then record { base = r.bases.pend.table.0 + 1024; count = (pending_bytes s.lpi_bits - 1024) / 8; word = λ i. pending_word r.pending (1024 + 8 * i) } ∷ []
+    if r.bases.on then record {
+      base = r.bases.pend.table.0 + 1024;
+      count = (pending_bytes s.lpi_bits - 1024) / 8;
+      word = λ i. pending_word r.pending (1024 + 8 * i);
+    } ∷ []
     else []
 
 unfoldable pub words_of : Plain → List Words

@@ -24,7 +24,8 @@ use Rattle.its_player.proofs.Seats.{pass_view, known_here, put_view}
 use Rattle.its_steps.proofs.Steps.{pass}
 
 -- the parts that a pass of a good world holds
-module _ (w : Shared) (good : IsGoodCore (core_of w)) (at : ℕ) (x : Known) (lt : at < length w.views.items) (is : x ≡ get_or w.views.items at x) (p : x.standing ≡ Pass) where
+module _ (w : Shared) (good : IsGoodCore (core_of w)) (at : ℕ) (x : Known) (lt : at < length w.views.items) (is : x ≡ get_or w.views.items at x)
+    (p : x.standing ≡ Pass) where
   abbrev s : Setup
   s = setup_of w
 
@@ -34,12 +35,14 @@ module _ (w : Shared) (good : IsGoodCore (core_of w)) (at : ℕ) (x : Known) (lt
   pub held_stand : AllByRecursion (λ y. Stands s y.part) x.held.items
   held_stand =
       let f = pass s w.history.items (core_of w).world good at (known s x) there p in
-      all_weaker (IsHeld s w.word (after w.start w.history.items) w.turns.items (core_of w).world.slots x.number) (λ y. Stands s y.part) x.held.items (λ y t. t.stands) f.holds.held
+      all_weaker (IsHeld s w.word (after w.start w.history.items) w.turns.items (core_of w).world.slots x.number) (λ y. Stands s y.part) x.held.items
+      (λ y t. t.stands) f.holds.held
 
   pub held_apart : Apart x.held.items
   held_apart = (pass s w.history.items (core_of w).world good at (known s x) there p).holds.apart
 
-module _ (w : Shared) (at : ℕ) (x : Known) (v : View) (lt : at < length w.views.items) (is : x ≡ get_or w.views.items at x) (there : get_elem? (core_of w).world.views at ≡ some v) (passes : v.standing ≡ Pass) where
+module _ (w : Shared) (at : ℕ) (x : Known) (v : View) (lt : at < length w.views.items) (is : x ≡ get_or w.views.items at x)
+    (there : get_elem? (core_of w).world.views at ≡ some v) (passes : v.standing ≡ Pass) where
   abbrev t : Setup
   t = setup_of w
 
@@ -50,7 +53,8 @@ module _ (w : Shared) (at : ℕ) (x : Known) (v : View) (lt : at < length w.view
   held_is = sym (ap (λ (u : View). u.held) v_is)
 
   -- what the commit leaves, told by the view before
-  pub makes : (a : Commit) (to : Word) (owed : List Held) (x' : Known) (history seen : List Entry) (views : List Known) → to ≡ word_after a → history ≡ w.history.items ++ entry x.number a.call a.reply ∷ [] → seen ≡ history
+  pub makes : (a : Commit) (to : Word) (owed : List Held) (x' : Known) (history seen : List Entry) (views : List Known) → to ≡ word_after a
+      → history ≡ w.history.items ++ entry x.number a.call a.reply ∷ [] → seen ≡ history
       → known t x' ≡ record (known t x) {
         seen = seen;
         mine = x.mine ++ (a.expected.place, entry x.number a.call a.reply) ∷ [];
@@ -59,11 +63,15 @@ module _ (w : Shared) (at : ℕ) (x : Known) (v : View) (lt : at < length w.view
         cache = record (known t x).cache { looked = looked_in owed (known t x).cache.looked };
         commit = record { base = a.expected; change = a.change };
       }
-      → views ≡ set w.views.items at x' → record (core_of w) { history = history; world = record (core_of w).world { word = to; views = map (view_of t) views } } ≡ made (core_of w) at v a owed
+      → views ≡ set w.views.items at x'
+      → record (core_of w) { history = history; world = record (core_of w).world { word = to; views = map (view_of t) views } } ≡ made
+      (core_of w) at v a owed
   makes a to owed x' history seen views next grown same new put =
       let number : x.number ≡ v.number = sym (ap (λ (u : View). u.number) v_is) in
-      let new' : known t x' ≡ committed (known t x) w.history.items a owed = new ∙ (λ d. record (committed (known t x) w.history.items a owed) { seen = (same ∙ grown) d; last = next d }) in
-      let e : map (view_of t) views ≡ set (map (view_of t) w.views.items) at (committed v w.history.items a owed) = ap (map (view_of t)) put ∙ put_view t w.views.items at x x' v (λ u. committed u w.history.items a owed) lt is there passes new' (λ u. refl) in
+      let new' : known t x' ≡ committed (known t x) w.history.items a owed = new
+      ∙ (λ d. record (committed (known t x) w.history.items a owed) { seen = (same ∙ grown) d; last = next d }) in
+      let e : map (view_of t) views ≡ set (map (view_of t) w.views.items) at (committed v w.history.items a owed) = ap (map (view_of t)) put
+      ∙ put_view t w.views.items at x x' v (λ u. committed u w.history.items a owed) lt is there passes new' (λ u. refl) in
       let h : history ≡ w.history.items ++ entry v.number a.call a.reply ∷ [] = grown ∙ ap (λ (n : ℕ). w.history.items ++ entry n a.call a.reply ∷ []) number in
       (λ d. record (core_of w) { history = h d; world = record (core_of w).world { word = next d; views = e d } })
 
@@ -74,7 +82,8 @@ module _ (w : Shared) (at : ℕ) (x : Known) (v : View) (lt : at < length w.view
     pub raced : MayCall t a x.held.items → w.word ≢ a.expected → (after : Core) → after ≡ loads (core_of w) at v → Commits (core_of w) at v a after
     raced may ne after e = record { may = subst (MayCall t a) held_is may; found = λ s. absurd (ne s); raced = λ _. e }
 
-    pub commits_it : MayCall t a x.held.items → w.word ≡ a.expected → (owed : List Held) → owed ≡ renewal t a x.held.items → (after : Core) → after ≡ made (core_of w) at v a owed → Commits (core_of w) at v a after
+    pub commits_it : MayCall t a x.held.items → w.word ≡ a.expected → (owed : List Held) → owed ≡ renewal t a x.held.items → (after : Core)
+        → after ≡ made (core_of w) at v a owed → Commits (core_of w) at v a after
     commits_it may same owed renewed after e = record {
       may = subst (MayCall t a) held_is may;
       found = λ s. e ∙ ap (λ (l : List Held). made (core_of w) at v a l) (renewed ∙ ap (renewal t a) held_is);

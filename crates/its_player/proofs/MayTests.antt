@@ -1,5 +1,6 @@
 -- What the tests of a commit tell.
-use Rattle.std.proofs.Common.{◌≡◌, ◌⊎◌, ℕ, zero, suc, ◌+◌, ◌<◌, ◌≤◌, length, take, arith, Bool, true, false, not, ◌&&◌, ◌||◌, eqb, List, [], ◌∷◌, get_or, Option, Some, None, is_some, Ok, refl, ap, sym, ◌∙◌, subst, inl, inr, ⊎_elim}
+use Rattle.std.proofs.Common.{◌≡◌, ◌⊎◌, ℕ, zero, suc, ◌+◌, ◌<◌, ◌≤◌, length, take, arith, Bool, true, false, not, ◌&&◌, ◌||◌, eqb, List, [], ◌∷◌, get_or}
+use Rattle.std.proofs.Common.{Option, Some, None, is_some, Ok, refl, ap, sym, ◌∙◌, subst, inl, inr, ⊎_elim}
 use Rattle.std.specs.Prelude.{Result, Err, IfOk}
 use Rattle.std.specs.Bool.{Decides}
 use Rattle.std.specs.List.{AllByRecursion, list_any}
@@ -54,11 +55,13 @@ owes_such_decides p test [] = ((λ e. absurd cc), (λ t. absurd t.1))
 owes_such_decides p test (x ∷ xs) = Decides-like ((same_part x.part p && test x.owed) || owes_such p test xs)
     (λ (t : ((x.part ≡ p) × (test x.owed ≡ true)) ⊎ ((c : Content) × Owes p c xs × (test c ≡ true))).
     let to : ((c : Content) × Owes p c (x ∷ xs) × (test c ≡ true)) =
-    ⊎_elim (λ (a : (x.part ≡ p) × (test x.owed ≡ true)). (x.owed, inl (a.0, refl), a.1)) (λ (a : (c : Content) × Owes p c xs × (test c ≡ true)). (a.0, inr a.1, a.2)) t in to)
+    ⊎_elim (λ (a : (x.part ≡ p) × (test x.owed ≡ true)). (x.owed, inl (a.0, refl), a.1)) (λ (a : (c : Content) × Owes p c xs × (test c ≡ true)).
+    (a.0, inr a.1, a.2)) t in to)
     (λ (t : (c : Content) × Owes p c (x ∷ xs) × (test c ≡ true)).
     let from : ((x.part ≡ p) × (test x.owed ≡ true)) ⊎ ((c : Content) × Owes p c xs × (test c ≡ true)) =
     ⊎_elim (λ (a : (x.part ≡ p) × (x.owed ≡ t.0)). inl (a.0, ap test a.1 ∙ t.2)) (λ (a : Owes p t.0 xs). inr (t.0, a, t.2)) t.1 in from)
-    (Decides-or (same_part x.part p && test x.owed) (owes_such p test xs) (Decides-and (same_part x.part p) (test x.owed) (same_part_decides x.part p) (itself (test x.owed))) (owes_such_decides p test xs))
+    (Decides-or (same_part x.part p && test x.owed) (owes_such p test xs) (Decides-and (same_part x.part p) (test x.owed) (same_part_decides x.part p)
+    (itself (test x.owed))) (owes_such_decides p test xs))
 
 pub covers_decides : (held : List Held) (ps : List Part) → Decides (covers held ps) (AllByRecursion (λ p. Holds p held) ps)
 covers_decides held [] = ((λ e. tt), (λ e. refl))
@@ -84,7 +87,8 @@ target_itself target =
     let i = (Decides-eqb target.intid.0 target.intid.0).1 refl in
     (λ d. v d && i d)
 
-finds_ways : (dev ev stamp : ℕ) (target : Target) (c : Content) → finds dev ev stamp target c ≡ true → (ways : List (Option Translation)) × (c ≡ Shard ways) × (found ways dev ev stamp ≡ Some target)
+finds_ways : (dev ev stamp : ℕ) (target : Target) (c : Content) → finds dev ev stamp target c ≡ true → (ways : List (Option Translation)) × (c ≡ Shard ways)
+    × (found ways dev ev stamp ≡ Some target)
 finds_ways dev ev stamp target (Shard ways) e = (ways, refl, target_is target (found ways dev ev stamp) e)
 finds_ways dev ev stamp target c e = absurd cc
 
@@ -93,19 +97,34 @@ module _ (s : Setup) (a : Commit) (held : List Held) where
   abbrev pub has : ℕ → DeviceId → EventId → Target → Bool
   has its dev ev target = owes_such (part.Shard its (shard_number dev.0 ev.0 s.shards)) (finds dev.0 ev.0 (stamp_of s a.expected its) target) held
 
-  pub found_as : (its : ℕ) (dev : DeviceId) (ev : EventId) (target : Target) (shard stamp : ℕ) (b : Bool) → shard ≡ shard_number dev.0 ev.0 s.shards → stamp ≡ stamp_of s a.expected its → b ≡ owes_such (part.Shard its shard) (finds dev.0 ev.0 stamp target) held → has its dev ev target ≡ b
+  pub found_as : (its : ℕ) (dev : DeviceId) (ev : EventId) (target : Target) (shard stamp : ℕ) (b : Bool) → shard ≡ shard_number dev.0 ev.0 s.shards
+      → stamp ≡ stamp_of s a.expected its → b ≡ owes_such (part.Shard its shard) (finds dev.0 ev.0 stamp target) held → has its dev ev target ≡ b
   found_as its dev ev target shard stamp b e f is = sym (is ∙ (λ d. owes_such (part.Shard its (e d)) (finds dev.0 ev.0 (f d) target) held))
 
-  pub hit_is : (its : ℕ) (dev : DeviceId) (ev : EventId) (target : Target) → a.call ≡ call.Signal its dev ev → a.reply ≡ reply.Signal (Delivered target.vcpu target.intid) → has its dev ev target ≡ true → holds (part.Redist target.vcpu) held ≡ true → IsHit s a held
+  pub hit_is : (its : ℕ) (dev : DeviceId) (ev : EventId) (target : Target) → a.call ≡ call.Signal its dev ev
+      → a.reply ≡ reply.Signal (Delivered target.vcpu target.intid) → has its dev ev target ≡ true → holds (part.Redist target.vcpu) held ≡ true
+      → IsHit s a held
   hit_is its dev ev target cis ris owes redist =
       let p : Part = part.Shard its (shard_number dev.0 ev.0 s.shards) in
       let stamp : ℕ = stamp_of s a.expected its in
       let o = (owes_such_decides p (finds dev.0 ev.0 stamp target) held).0 owes in
       let w = finds_ways dev.0 ev.0 stamp target o.0 o.2 in
-      record { its = its; dev = dev; ev = ev; target = target; call_is = cis; reply_is = ris; ways = w.0; owes = subst (λ (x : Content). Owes p x held) w.1 o.1; is_found = w.2; redist = holds_sure (part.Redist target.vcpu) held redist }
+      record {
+        its = its;
+        dev = dev;
+        ev = ev;
+        target = target;
+        call_is = cis;
+        reply_is = ris;
+        ways = w.0;
+        owes = subst (λ (x : Content). Owes p x held) w.1 o.1;
+        is_found = w.2;
+        redist = holds_sure (part.Redist target.vcpu) held redist;
+      }
 
   -- a hit passes both tests
-  pub hit_tests : (its : ℕ) (dev : DeviceId) (ev : EventId) (vcpu : Vcpu) (intid : Intid) → a.call ≡ call.Signal its dev ev → a.reply ≡ reply.Signal (Delivered vcpu intid) → IsHit s a held
+  pub hit_tests : (its : ℕ) (dev : DeviceId) (ev : EventId) (vcpu : Vcpu) (intid : Intid) → a.call ≡ call.Signal its dev ev
+      → a.reply ≡ reply.Signal (Delivered vcpu intid) → IsHit s a held
       → (has its dev ev (record { vcpu = vcpu; intid = intid }) ≡ true) × (holds (part.Redist vcpu) held ≡ true)
   hit_tests its dev ev vcpu intid cis ris h =
       let same : call.Signal h.its h.dev h.ev ≡ call.Signal its dev ev = sym h.call_is ∙ cis in
@@ -115,8 +134,17 @@ module _ (s : Setup) (a : Commit) (held : List Held) where
       let e : h.ev ≡ ev = cc in
       let v : h.target.vcpu ≡ vcpu = cc in
       let n : h.target.intid ≡ intid = cc in
-      let there : has h.its h.dev h.ev h.target ≡ true = (owes_such_decides (part.Shard h.its (shard_number h.dev.0 h.ev.0 s.shards)) (finds h.dev.0 h.ev.0 (stamp_of s a.expected h.its) h.target) held).1 (Shard h.ways, h.owes, ap (is_target h.target) h.is_found ∙ target_itself h.target) in
-      (subst (λ (k : ℕ × DeviceId × EventId × Target). has k.0 k.1 k.2 k.3 ≡ true) (λ x. (i x, d x, e x, record { vcpu = v x; intid = n x })) there, subst (λ (x : Vcpu). holds (part.Redist x) held ≡ true) v ((holds_decides (part.Redist h.target.vcpu) held).1 h.redist))
+      let there : has h.its h.dev h.ev h.target ≡ true = (owes_such_decides (part.Shard h.its (shard_number h.dev.0 h.ev.0 s.shards))
+      (finds h.dev.0 h.ev.0 (stamp_of s a.expected h.its) h.target) held).1 (
+        Shard h.ways,
+        h.owes,
+        ap (is_target h.target) h.is_found
+            ∙ target_itself h.target,
+      ) in (
+        subst (λ (k : ℕ × DeviceId × EventId × Target). has k.0 k.1 k.2 k.3 ≡ true) (λ x. (i x, d x, e x, record { vcpu = v x; intid = n x })) there,
+        subst
+            (λ (x : Vcpu). holds (part.Redist x) held ≡ true) v ((holds_decides (part.Redist h.target.vcpu) held).1 h.redist),
+      )
 
 -- ---- pairs that have left their shard
 
@@ -141,20 +169,25 @@ any_none : (dev ev : ℕ) (ways : List (Option Translation)) → ((i : ℕ) → 
 any_none dev ev [] f = refl
 any_none dev ev (way ∷ ways) f = (λ d. f 0 d || any_none dev ev ways (λ i. f (suc i)) d)
 
-pub without_decides : (s : Setup) (its dev ev : ℕ) (owed : List Held) → Decides (owes_such (part.Shard its (shard_number dev ev s.shards)) (lacks dev ev) owed) (IsWithout s its dev ev owed)
+pub without_decides : (s : Setup) (its dev ev : ℕ) (owed : List Held) → Decides (owes_such (part.Shard its (shard_number dev ev s.shards)) (lacks dev ev) owed)
+    (IsWithout s its dev ev owed)
 without_decides s its dev ev owed =
     let p : Part = part.Shard its (shard_number dev ev s.shards) in
     Decides-like (owes_such p (lacks dev ev) owed)
-    (λ (t : (c : Content) × Owes p c owed × (lacks dev ev c ≡ true)). let w = lacks_ways dev ev t.0 t.2 in let r : IsWithout s its dev ev owed = record { ways = w.0; owes = subst (λ (c : Content). Owes p c owed) w.1 t.1; none = none_of dev ev w.0 w.2 } in r)
-    (λ (w : IsWithout s its dev ev owed). let r : ((c : Content) × Owes p c owed × (lacks dev ev c ≡ true)) = (Shard w.ways, w.owes, ap not (any_none dev ev w.ways w.none)) in r)
+    (λ (t : (c : Content) × Owes p c owed × (lacks dev ev c ≡ true)). let w = lacks_ways dev ev t.0 t.2 in let r : IsWithout s its dev ev owed =
+    record { ways = w.0; owes = subst (λ (c : Content). Owes p c owed) w.1 t.1; none = none_of dev ev w.0 w.2 } in r)
+    (λ (w : IsWithout s its dev ev owed). let r : ((c : Content) × Owes p c owed × (lacks dev ev c ≡ true)) =
+    (Shard w.ways, w.owes, ap not (any_none dev ev w.ways w.none)) in r)
     (owes_such_decides p (lacks dev ev) owed)
 
 -- ---- pairs that are mapped
 
 abbrev pub KeepsPair : Setup → ℕ → List Held → Translator → Translator → DeviceId × EventId → Type 0
-KeepsPair s its owed t t' pair = (target : Target) → located t pair.0.0 pair.1.0 ≡ Ok target → (located t' pair.0.0 pair.1.0 ≡ Ok target) ⊎ IsWithout s its pair.0.0 pair.1.0 owed
+KeepsPair s its owed t t' pair = (target : Target) → located t pair.0.0 pair.1.0 ≡ Ok target → (located t' pair.0.0 pair.1.0 ≡ Ok target)
+    ⊎ IsWithout s its pair.0.0 pair.1.0 owed
 
-among_pairs : (P : ℕ → ℕ → Type 0) (pairs : List (DeviceId × EventId)) (dev ev : ℕ) → AllByRecursion (λ p. P p.0.0 p.1.0) pairs → is_among pairs dev ev ≡ true → P dev ev
+among_pairs : (P : ℕ → ℕ → Type 0) (pairs : List (DeviceId × EventId)) (dev ev : ℕ) → AllByRecursion (λ p. P p.0.0 p.1.0) pairs → is_among pairs dev ev ≡ true
+    → P dev ev
 among_pairs P [] dev ev all e = absurd cc
 among_pairs P (p ∷ pairs) dev ev all e = first (λ f. among_pairs P pairs dev ev all.1 f) (is_pair dev ev (p.0.0, p.1.0)) refl e
   where
@@ -170,20 +203,27 @@ located_event : (t : Translator) (dev ev : ℕ) (target : Target) → located t 
 unfolding located
 located_event t dev ev target e = enabled t.regs.enabled e
   where
-    rest : (o : Option Device) (x : Option Event) → (ok_or o NoDevice >>= (λ _. ok_or x NoEvent >>= (λ event. ok_or (collection_of t.maps event.icid.0) NoCollection >>= (λ vcpu. Ok (record { vcpu = vcpu; intid = event.intid }))))) ≡ Ok target → is_some x ≡ true
+    rest : (o : Option Device) (x : Option Event)
+        → (ok_or o NoDevice >>= (λ _. ok_or x NoEvent >>= (λ event. ok_or (collection_of t.maps event.icid.0) NoCollection >>=
+        (λ vcpu. Ok (record { vcpu = vcpu; intid = event.intid }))))) ≡ Ok target → is_some x ≡ true
     rest None x f = absurd cc
     rest (Some d) None f = absurd cc
     rest (Some d) (Some y) f = refl
 
-    enabled : (b : Bool) → (ensure b Disabled >>= (λ _. ok_or (device_of t.maps dev) NoDevice >>= (λ _. ok_or (event_of t.maps dev ev) NoEvent >>= (λ event. ok_or (collection_of t.maps event.icid.0) NoCollection >>= (λ vcpu. Ok (record { vcpu = vcpu; intid = event.intid })))))) ≡ Ok target
+    enabled : (b : Bool) → (ensure b Disabled >>=
+        (λ _. ok_or (device_of t.maps dev) NoDevice >>=
+        (λ _. ok_or (event_of t.maps dev ev) NoEvent >>= (λ event. ok_or (collection_of t.maps event.icid.0) NoCollection >>=
+        (λ vcpu. Ok (record { vcpu = vcpu; intid = event.intid })))))) ≡ Ok target
         → is_some (event_of t.maps dev ev) ≡ true
     enabled true f = rest (device_of t.maps dev) (event_of t.maps dev ev) f
     enabled false f = absurd cc
 
-pub all_pairs : (s : Setup) (its : ℕ) (owed : List Held) (t t' : Translator) (pairs : List (DeviceId × EventId)) → AreMapped t.maps pairs → AllByRecursion (KeepsPair s its owed t t') pairs
+pub all_pairs : (s : Setup) (its : ℕ) (owed : List Held) (t t' : Translator) (pairs : List (DeviceId × EventId)) → AreMapped t.maps pairs
+    → AllByRecursion (KeepsPair s its owed t t') pairs
     → (dev ev : ℕ) (target : Target) → located t dev ev ≡ Ok target → (located t' dev ev ≡ Ok target) ⊎ IsWithout s its dev ev owed
 all_pairs s its owed t t' pairs mapped all dev ev target loc =
-    among_pairs (λ d e. (g : Target) → located t d e ≡ Ok g → (located t' d e ≡ Ok g) ⊎ IsWithout s its d e owed) pairs dev ev all (mapped dev ev ∙ located_event t dev ev target loc) target loc
+    among_pairs (λ d e. (g : Target) → located t d e ≡ Ok g → (located t' d e ≡ Ok g) ⊎ IsWithout s its d e owed) pairs dev ev all
+    (mapped dev ev ∙ located_event t dev ev target loc) target loc
 
 -- ---- answers that are Ok
 
@@ -191,10 +231,12 @@ pub if_ok_more : {A E : Type 0} {P Q : A → Type 0} → ((x : A) → P x → Q 
 if_ok_more f (Ok x) p = f x p
 if_ok_more f (Err e) p = p
 
-pub all_more : {A : Type 0} (P : A → Type 0) (xs : List A) (k : ℕ) (d : A) → k < length xs → AllByRecursion P (take k xs) → P (get_or xs k d) → AllByRecursion P (take (k + 1) xs)
+pub all_more : {A : Type 0} (P : A → Type 0) (xs : List A) (k : ℕ) (d : A) → k < length xs → AllByRecursion P (take k xs) → P (get_or xs k d)
+    → AllByRecursion P (take (k + 1) xs)
 all_more P xs k d lt all here = subst (λ (n : ℕ). AllByRecursion P (take n xs)) (let e : suc k ≡ k + 1 = omega arith in e) (longer P xs k d lt all here)
   where
-    longer : {B : Type 0} (Q : B → Type 0) (ys : List B) (n : ℕ) (z : B) → n < length ys → AllByRecursion Q (take n ys) → Q (get_or ys n z) → AllByRecursion Q (take (suc n) ys)
+    longer : {B : Type 0} (Q : B → Type 0) (ys : List B) (n : ℕ) (z : B) → n < length ys → AllByRecursion Q (take n ys) → Q (get_or ys n z)
+        → AllByRecursion Q (take (suc n) ys)
     longer Q [] n z below a h = absurd (omega arith)
     longer Q (y ∷ ys) zero z below a h = (h, tt)
     longer Q (y ∷ ys) (suc n) z below a h = (a.0, longer Q ys n z (omega arith) a.1 h)

@@ -1,5 +1,6 @@
 -- Positions in lists, and the lists around them.
-use Rattle.std.proofs.Common.{◌≡◌, ℕ, zero, suc, ◌<◌, ◌≤◌, Bool, true, false, cond, nat_lt, List, [], ◌∷◌, ◌++◌, length, get_or, set, take, drop, Some, None, refl, ap, sym, ◌∙◌, arith}
+use Rattle.std.proofs.Common.{◌≡◌, ℕ, zero, suc, ◌<◌, ◌≤◌, Bool, true, false, cond, nat_lt, List, [], ◌∷◌, ◌++◌, length, get_or, set, take, drop, Some, None}
+use Rattle.std.proofs.Common.{refl, ap, sym, ◌∙◌, arith}
 use Rattle.std.specs.List.{position, position_or_len}
 use borrow.Author.Tests.{ltb-false}
 use Rattle.std.proofs.lemmas.List.Sums.{fails_before_first}
@@ -34,10 +35,12 @@ pub middle_below : {X : Type 0} (before : List X) (x : X) (behind : List X) → 
 middle_below [] x behind = omega arith
 middle_below (y ∷ before) x behind = let r = middle_below before x behind in omega (arith, r)
 
-pub none_between : {X : Type 0} (p : X → Bool) (xs before : List X) (x : X) (behind : List X) → position p xs ≡ None → xs ≡ before ++ x ∷ behind → p x ≡ true → ⊥
+pub none_between : {X : Type 0} (p : X → Bool) (xs before : List X) (x : X) (behind : List X) → position p xs ≡ None → xs ≡ before ++ x ∷ behind → p x ≡ true
+    → ⊥
 none_between p xs before x behind e is passes =
     let none : position p (before ++ x ∷ behind) ≡ None = ap (position p) (sym is) ∙ e in
-    let fails : p (get_or (before ++ x ∷ behind) (length before) x) ≡ false = none_passes p (before ++ x ∷ behind) none (length before) x (middle_below before x behind) in
+    let fails : p (get_or (before ++ x ∷ behind) (length before) x) ≡ false = none_passes p (before ++ x ∷ behind) none (length before) x
+    (middle_below before x behind) in
     let two : true ≡ false = sym passes ∙ (ap p (sym (middle_at before x behind x)) ∙ fails) in
     cc
 

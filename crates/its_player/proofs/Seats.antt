@@ -34,17 +34,21 @@ spent_view s x e = ap (λ (t : Standing). unless_spent t (known s x)) e
 
 -- ---- the view at an index
 
-pub here : (s : Setup) (items : List Known) (i : ℕ) (x : Known) (v : View) → i < length items → x ≡ get_or items i x → get_elem? (map (view_of s) items) i ≡ some v → v ≡ view_of s x
+pub here : (s : Setup) (items : List Known) (i : ℕ) (x : Known) (v : View) → i < length items → x ≡ get_or items i x → get_elem? (map (view_of s) items) i
+    ≡ some v → v ≡ view_of s x
 here s items i x v lt is at = some-injective v (view_of s x) (sym at ∙ at_map (view_of s) items i x (at_index items i x lt is))
 
-pub pass_here : (s : Setup) (items : List Known) (i : ℕ) (x : Known) (v : View) → i < length items → x ≡ get_or items i x → get_elem? (map (view_of s) items) i ≡ some v → v.standing ≡ Pass → x.standing ≡ Pass
+pub pass_here : (s : Setup) (items : List Known) (i : ℕ) (x : Known) (v : View) → i < length items → x ≡ get_or items i x → get_elem? (map (view_of s) items) i
+    ≡ some v → v.standing ≡ Pass → x.standing ≡ Pass
 pass_here s items i x v lt is at p = sym (ap (λ (u : View). u.standing) (here s items i x v lt is at) ∙ same_standing s x) ∙ p
 
-pub known_here : (s : Setup) (items : List Known) (i : ℕ) (x : Known) (v : View) → i < length items → x ≡ get_or items i x → get_elem? (map (view_of s) items) i ≡ some v → v.standing ≡ Pass → v ≡ known s x
+pub known_here : (s : Setup) (items : List Known) (i : ℕ) (x : Known) (v : View) → i < length items → x ≡ get_or items i x → get_elem? (map (view_of s) items) i
+    ≡ some v → v.standing ≡ Pass → v ≡ known s x
 known_here s items i x v lt is at p = here s items i x v lt is at ∙ pass_view s x (pass_here s items i x v lt is at p)
 
 -- another view in its place
-pub put_view : (s : Setup) (items : List Known) (i : ℕ) (x x' : Known) (v : View) (F : View → View) → i < length items → x ≡ get_or items i x → get_elem? (map (view_of s) items) i ≡ some v → v.standing ≡ Pass
+pub put_view : (s : Setup) (items : List Known) (i : ℕ) (x x' : Known) (v : View) (F : View → View) → i < length items → x ≡ get_or items i x
+    → get_elem? (map (view_of s) items) i ≡ some v → v.standing ≡ Pass
     → known s x' ≡ F (known s x) → ((u : View) → (F u).standing ≡ u.standing) → map (view_of s) (set items i x') ≡ set (map (view_of s) items) i (F v)
 put_view s items i x x' v F lt is at p e keeps =
     let k : v ≡ known s x = known_here s items i x v lt is at p in
@@ -52,9 +56,12 @@ put_view s items i x x' v F lt is at p e keeps =
     let p' : x'.standing ≡ Pass = ap (λ (u : View). u.standing) new ∙ (keeps v ∙ p) in
     map-set (view_of s) items i x' ∙ ap (set (map (view_of s) items) i) (pass_view s x' p' ∙ new)
 
-pub put_core : (w : Shared) (i : ℕ) (x x' : Known) (v : View) (F : View → View) → i < length w.views.items → x ≡ get_or w.views.items i x → get_elem? (core_of w).world.views i ≡ some v → v.standing ≡ Pass
-    → known (setup_of w) x' ≡ F (known (setup_of w) x) → ((u : View) → (F u).standing ≡ u.standing) → core_of (record w { views = with_item w.views i x' }) ≡ set_view (core_of w) i (F v)
-put_core w i x x' v F lt is at p e keeps = ap (λ (views : List View). record (core_of w) { world = record (core_of w).world { views = views } }) (put_view (setup_of w) w.views.items i x x' v F lt is at p e keeps)
+pub put_core : (w : Shared) (i : ℕ) (x x' : Known) (v : View) (F : View → View) → i < length w.views.items → x ≡ get_or w.views.items i x
+    → get_elem? (core_of w).world.views i ≡ some v → v.standing ≡ Pass
+    → known (setup_of w) x' ≡ F (known (setup_of w) x) → ((u : View) → (F u).standing ≡ u.standing) → core_of (record w { views = with_item w.views i x' })
+    ≡ set_view (core_of w) i (F v)
+put_core w i x x' v F lt is at p e keeps = ap (λ (views : List View). record (core_of w) { world = record (core_of w).world { views = views } })
+    (put_view (setup_of w) w.views.items i x x' v F lt is at p e keeps)
 
 -- ---- answers that are Ok
 

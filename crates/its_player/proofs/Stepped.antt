@@ -17,7 +17,8 @@ nobody w e none = inr ((λ d does. no_pass_at w e.pass does.index does.view none
 pub found_pass : (w : Shared) (n at : ℕ) → position (is_pass n) w.views.items ≡ Some at → IsPassAt w at
 found_pass w n at found = λ x is. (pass_at w n at x found is).passes
 
-pub stepped : (w : Shared) → IsGoodCore (core_of w) → (e : Event) (at : ℕ) (d : Known) (after : Core) → position (is_pass e.pass) w.views.items ≡ Some at → IsMove (core_of w) at e.kind after → IsStep (core_of w) e after
+pub stepped : (w : Shared) → IsGoodCore (core_of w) → (e : Event) (at : ℕ) (d : Known) (after : Core) → position (is_pass e.pass) w.views.items ≡ Some at
+    → IsMove (core_of w) at e.kind after → IsStep (core_of w) e after
 stepped w good e at d after found moves =
     let f = position-Some (is_pass e.pass) w.views.items at d found in
     let x : Known = get_or w.views.items at d in
@@ -26,7 +27,15 @@ stepped w good e at d after found moves =
     ⊎_elim
     (λ (m : Moves (core_of w) at v e.kind after). inl record { index = at; view = v; is_at = a; moves = m })
     (λ (n : ((t : Core) → ¬ Moves (core_of w) at v e.kind t) × (after ≡ core_of w)).
-    inr ((λ t does. n.0 t (subst (λ (k : ℕ × View). Moves (core_of w) k.0 k.1 e.kind t) (λ i. (one_seat (core_of w) good e.pass does.index at does.view v does.is_at a i, one_view (core_of w) good e.pass does.index at does.view v does.is_at a i)) does.moves)), n.1))
+    inr (
+      (λ t does. n.0 t (subst (λ (k : ℕ × View). Moves (core_of w) k.0 k.1 e.kind t)
+          (λ i. (
+            one_seat (core_of w) good e.pass does.index at does.view v does.is_at a i,
+            one_view (core_of w) good e.pass does.index at does.view v does.is_at
+                a i,
+          )) does.moves)),
+      n.1,
+    ))
     (moves v a.at a.passes)
 
 -- the same where nothing is known of any view
@@ -41,11 +50,14 @@ some_view : {P : Type 0} (xs : List Known) (k : ℕ) → k < length xs → (Know
 some_view [] k lt f = absurd (omega arith)
 some_view (x ∷ xs) k lt f = f x
 
-pub stepped_at : (w : Shared) → IsGoodCore (core_of w) → (e : Event) (at : ℕ) (after : Core) → position (is_pass e.pass) w.views.items ≡ Some at → IsMove (core_of w) at e.kind after → IsStep (core_of w) e after
-stepped_at w good e at after found moves = some_view w.views.items at (position_below (is_pass e.pass) w.views.items at found) (λ d. stepped w good e at d after found moves)
+pub stepped_at : (w : Shared) → IsGoodCore (core_of w) → (e : Event) (at : ℕ) (after : Core) → position (is_pass e.pass) w.views.items ≡ Some at
+    → IsMove (core_of w) at e.kind after → IsStep (core_of w) e after
+stepped_at w good e at after found moves = some_view w.views.items at (position_below (is_pass e.pass) w.views.items at found)
+    (λ d. stepped w good e at d after found moves)
 
 -- one event more
-pub run_more : (c : Core) (es : List Event) (i : ℕ) (x : Event) (d after : Core) → i < length es → x ≡ get_or es i x → IsRun c (take i es) d → IsStep d x after → IsRun c (take (suc i) es) after
+pub run_more : (c : Core) (es : List Event) (i : ℕ) (x : Event) (d after : Core) → i < length es → x ≡ get_or es i x → IsRun c (take i es) d → IsStep d x after
+    → IsRun c (take (suc i) es) after
 run_more c [] i x d after lt is r s = absurd (omega arith)
 run_more c (e ∷ es) zero x d after lt is r s = (after, subst (λ (k : Core × Event). IsStep k.0 k.1 after) (λ j. (r j, is j)) s, refl)
 run_more c (e ∷ es) (suc i) x d after lt is r s = (r.0, r.1, run_more r.0 es i x d after (omega arith) is r.2 s)

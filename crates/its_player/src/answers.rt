@@ -39,7 +39,8 @@ impl Shared {
     fn hit(&self, held: &[Held], commit: &Commit) -> Option<Target>
         requires { 1 ≤ self.now.shards }
         ensures { MatchOption result (¬ may.IsHit (setup_of self.now) commit.now held.now)
-            (λ t. may.IsHit (setup_of self.now) commit.now held.now × spec.IsDelivery commit.now.call commit.now.reply t) }
+            (λ t. may.IsHit (setup_of self.now) commit.now held.now
+            × spec.IsDelivery commit.now.call commit.now.reply t) }
     {
         let Call::Signal { its, dev, ev } = commit.call else {
             return None;
@@ -71,8 +72,10 @@ impl Shared {
         call: &Call,
         reply: &Reply,
     ) -> Result<Option<State>, AllocError>
-        ensures { IfOk result (λ o. MatchOption o (¬ may.IsAnswered state call.now reply.now held.now)
-            (λ u. may.IsAnswered state call.now reply.now held.now × (u ≡ left state call.now reply.now))) }
+        ensures { IfOk result
+            (λ o. MatchOption o (¬ may.IsAnswered state call.now reply.now held.now)
+            (λ u. may.IsAnswered state call.now reply.now held.now
+            × (u ≡ left state call.now reply.now))) }
     {
         let parts = state.footprint(alloc, call)?;
         if !covers(held, &parts) {
@@ -94,8 +97,10 @@ impl Shared {
     ) -> Result<Option<State>, AllocError>
         requires { 1 ≤ self.now.shards }
         ensures { let u = assembled (setup_of self.now) held.now in
-            let P = may.IsAnswered u commit.now.call commit.now.reply held.now ⊎ may.IsHit (setup_of self.now) commit.now held.now in
-            IfOk result (λ o. MatchOption o (¬ P) (λ z. P × (z ≡ left u commit.now.call commit.now.reply))) }
+            let P = may.IsAnswered u commit.now.call commit.now.reply held.now
+            ⊎ may.IsHit (setup_of self.now) commit.now held.now in
+            IfOk result (λ o. MatchOption o (¬ P)
+            (λ z. P × (z ≡ left u commit.now.call commit.now.reply))) }
     {
         let mut state = self.assembled(alloc, held)?;
         match self.hit(held, commit) {
@@ -110,7 +115,8 @@ impl Shared {
     /// Whether a commit whose call leaves a state may change the shards so.
     pub fn may_change(&self, held: &[Held], commit: &Commit, after: &State) -> bool
         requires { 1 ≤ self.now.shards }
-        ensures { Decides result (may.MayChange (setup_of self.now) commit.now.call commit.now.change after.now
+        ensures { Decides result
+            (may.MayChange (setup_of self.now) commit.now.call commit.now.change after.now
             held.now) }
     {
         match commit.change {

@@ -29,8 +29,10 @@ impl Shared {
         requires shards { 1 ≤ self.now.shards }
         requires stands { AllByRecursion (λ x. Stands (setup_of self.now) x.part) held.now }
         requires apart { Apart held.now }
-        ensures { IfOk result (λ o. MatchOption o (¬ MayCall (setup_of self.now) commit.now held.now)
-            (λ v. MayCall (setup_of self.now) commit.now held.now × (v.items ≡ renewal (setup_of self.now) commit.now held.now))) }
+        ensures { IfOk result
+            (λ o. MatchOption o (¬ MayCall (setup_of self.now) commit.now held.now)
+            (λ v. MayCall (setup_of self.now) commit.now held.now
+            × (v.items ≡ renewal (setup_of self.now) commit.now held.now))) }
     {
         if commit.expected.place >= self.limits.place_last {
             return Ok(None);
@@ -60,7 +62,8 @@ impl Shared {
         requires shards { 1 ≤ self.old.shards }
         requires at { at < length self.old.views.items }
         requires pass { IsPassAt self.old at }
-        ensures moves { OnOk result (IsMove (core_of self.old) at (Kind.Commit commit.now) (core_of self.new)) }
+        ensures moves { OnOk result (IsMove (core_of self.old) at (Kind.Commit commit.now)
+            (core_of self.new)) }
         ensures shards { OnOk result (self.new.shards ≡ self.old.shards) }
     {
         let held = &self.views[at].held;

@@ -33,7 +33,8 @@ impl Shared {
     pub fn put_home(&mut self, alloc: Global, at: usize, part: Part) -> Result<(), AllocError>
         requires good { IsGoodCore (core_of self.old) }
         requires at { at < length self.old.views.items }
-        ensures moves { OnOk result (IsMove (core_of self.old) at (Kind.PutHome part) (core_of self.new)) }
+        ensures moves { OnOk result
+            (IsMove (core_of self.old) at (Kind.PutHome part) (core_of self.new)) }
         ensures shards { OnOk result (self.new.shards ≡ self.old.shards) }
     {
         let Some(index) = self.index(part) else {

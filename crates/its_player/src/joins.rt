@@ -22,7 +22,8 @@ impl Shared {
     pub fn join(&mut self, alloc: Global, at: usize, number: u32) -> Result<(), AllocError>
         requires good { IsGoodCore (core_of self.old) }
         requires at { at < length self.old.views.items }
-        ensures moves { OnOk result (IsMove (core_of self.old) at (Kind.Join number) (core_of self.new)) }
+        ensures moves { OnOk result
+            (IsMove (core_of self.old) at (Kind.Join number) (core_of self.new)) }
         ensures shards { OnOk result (self.new.shards ≡ self.old.shards) }
     {
         if self.views[at].number != 0 {
@@ -49,7 +50,8 @@ impl Shared {
     /// The pass at an index meets the n-th note, if that was not met yet.
     pub fn meet(&mut self, alloc: Global, at: usize, n: u32) -> Result<(), AllocError>
         requires { at < length self.old.views.items }
-        ensures moves { OnOk result (IsMove (core_of self.old) at (Kind.Meet n) (core_of self.new)) }
+        ensures moves { OnOk result
+            (IsMove (core_of self.old) at (Kind.Meet n) (core_of self.new)) }
         ensures shards { OnOk result (self.new.shards ≡ self.old.shards) }
     {
         let n = n as usize;

@@ -122,7 +122,8 @@ fn add_redists(
     slots: &mut Vec<Option<Content>>,
     redists: &[RedistLists],
 ) -> Result<(), AllocError>
-    ensures { OnOk result (slots.new.items ≡ slots.old.items ++ map (λ r. std.Some (Content.Redist r)) redists.now) }
+    ensures { OnOk result
+        (slots.new.items ≡ slots.old.items ++ map (λ r. std.Some (Content.Redist r)) redists.now) }
 {
     for redist in redists {
         slots.push(Some(Content::Redist(redist.copy(alloc)?)))?;

@@ -77,7 +77,8 @@ impl Shared {
         to: Word,
         its: usize,
     ) -> bool
-        ensures { Decides result (may.HasFillsAlone (setup_of self.now) to commit.now.call commit.now.change its part
+        ensures { Decides result
+            (may.HasFillsAlone (setup_of self.now) to commit.now.call commit.now.change its part
             (content_of owed.now)) }
     {
         let Part::Shard(other, _) = part else {
@@ -94,7 +95,8 @@ impl Shared {
 
     fn have_fills_alone(&self, owed: &[Held], commit: &Commit, to: Word, its: usize) -> bool
         ensures { Decides result (AllByRecursion
-            (λ x. may.HasFillsAlone (setup_of self.now) to commit.now.call commit.now.change its x.part x.owed)
+            (λ x. may.HasFillsAlone (setup_of self.now) to commit.now.call commit.now.change its
+            x.part x.owed)
             owed.now) }
     {
         match owed {
@@ -150,7 +152,8 @@ impl Shared {
 
     fn renews(&self, commit: &Commit, to: Word, its: usize, held: &[Held], owed: &[Held]) -> bool
         requires { to ≡ world.word_after commit.now }
-        ensures { Decides result (may.StampRenews (setup_of self.now) commit.now its held.now owed.now) }
+        ensures { Decides result
+            (may.StampRenews (setup_of self.now) commit.now its held.now owed.now) }
     {
         if usize::from(its_of(&commit.call)) != its {
             return false;

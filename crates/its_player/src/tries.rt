@@ -38,7 +38,8 @@ impl Shared {
     pub fn try_part(&mut self, alloc: Global, at: usize, part: Part) -> Result<(), AllocError>
         requires wide { IsWide self.old }
         requires at { at < length self.old.views.items }
-        ensures moves { OnOk result (IsMove (core_of self.old) at (Kind.Try part) (core_of self.new)) }
+        ensures moves { OnOk result
+            (IsMove (core_of self.old) at (Kind.Try part) (core_of self.new)) }
         ensures shards { OnOk result (self.new.shards ≡ self.old.shards) }
     {
         let Some(index) = self.index(part) else {

@@ -121,7 +121,8 @@ impl View {
 
     /// The pass reads the word, and sees the history.
     pub fn load(&mut self, word: Word, history: Vec<Entry>)
-        ensures { (s : Setup) → known s self.new ≡ world.loaded (known s self.old) word history.items }
+        ensures { (s : Setup)
+            → known s self.new ≡ world.loaded (known s self.old) word history.items }
     {
         self.last = word;
         self.seen = history;
@@ -138,10 +139,16 @@ impl View {
     ) -> Result<(), AllocError>
         ensures { OnOk result ((s : Setup) → known s self.new ≡ record (known s self.old) {
           seen = seen.items;
-          mine = self.old.mine ++ (made.now.expected.place, world.entry self.old.number made.now.call made.now.reply) ∷ [];
+          mine = self.old.mine
+              ++ (
+                made.now.expected.place,
+                world.entry self.old.number made.now.call made.now.reply,
+              ) ∷ [];
           last = to;
           held = owed.items;
-          cache = record (known s self.old).cache { looked = world.looked_in owed.items (known s self.old).cache.looked };
+          cache = record (known s self.old).cache {
+            looked = world.looked_in owed.items (known s self.old).cache.looked;
+          };
           commit = record { base = made.now.expected; change = made.now.change };
         }) }
     {

@@ -36,9 +36,16 @@ pub hit_leaves : (s : Setup) (a : Commit) (held : List Held) (hit : IsHit s a he
 unfolding left
 hit_leaves s a held hit z = λ d. left z (sym hit.call_is d) (sym hit.reply_is d)
 
-module _ (s : Setup) (vcpus : HasVcpus s) (held : List Held) (stands : AllByRecursion (λ x. Stands s x.part) held) (x y : Plain) (sx : IsSized s x) (sy : IsSized s y) (agree : (p : Part) → Holds p held → SamePart x y p) where
+module _ (s : Setup) (vcpus : HasVcpus s) (held : List Held) (stands : AllByRecursion (λ x. Stands s x.part) held) (x y : Plain) (sx : IsSized s x)
+    (sy : IsSized s y) (agree : (p : Part) → Holds p held → SamePart x y p) where
   agrees : (ps : List Part) → ((p : Part) → IsIn p ps → Holds p held) → AgreesOn x y ps
-  agrees ps all = record { layout = sym sx.layout ∙ sy.layout; translators = sym sx.translators ∙ sy.translators; redistributors = sym sx.redistributors ∙ sy.redistributors; parts = λ p at. agree p (all p at) }
+  agrees ps all = record {
+    layout = sym sx.layout ∙ sy.layout;
+    translators = sym sx.translators ∙ sy.translators;
+    redistributors = sym sx.redistributors
+        ∙ sy.redistributors;
+    parts = λ p at. agree p (all p at);
+  }
 
   -- a call changes nothing outside its footprint
   stays : (z : Plain) → IsSized s z → (c : Call) (p : Part) → ¬ IsIn p (footprint z c) → SamePart z (answer z c).1 p
@@ -69,7 +76,8 @@ module _ (s : Setup) (vcpus : HasVcpus s) (held : List Held) (stands : AllByRecu
     answered_same p owns = ⊎_elim
         (λ (at : IsIn p (footprint x c)). (decides x y c in_common).1 p at)
         (λ (outside : ¬ IsIn p (footprint x c)).
-        same_through (answer x c).1 x (answer y c).1 p (same_back x (answer x c).1 p (stays x sx c p outside)) (same_through x y (answer y c).1 p (agree p owns) (stays y sy c p (λ at. outside (subst (IsIn p) (sym alike) at)))))
+        same_through (answer x c).1 x (answer y c).1 p (same_back x (answer x c).1 p (stays x sx c p outside))
+        (same_through x y (answer y c).1 p (agree p owns) (stays y sy c p (λ at. outside (subst (IsIn p) (sym alike) at)))))
         (in_or_not s p (standing p owns) (footprint x c) (all_weaker (λ p. Holds p held) (Stands s) (footprint x c) standing covers))
 
     pub others_same : (p : Part) → ¬ Holds p held → SamePart y (answer y c).1 p
@@ -79,17 +87,23 @@ module _ (s : Setup) (vcpus : HasVcpus s) (held : List Held) (stands : AllByRecu
 
   module _ (target : Target) (redist : Holds (part.Redist target.vcpu) held) where
     sent_same : (p : Part) → Holds p held → SamePart (sent target x) (sent target y) p
-    sent_same p owns = (agree_set (parts_of held) x y target.intid.0 target.vcpu.0 (holds_in (part.Redist target.vcpu) held redist) (agrees (parts_of held) (λ q at. in_holds q held at))).parts p (holds_in p held owns)
+    sent_same p owns = (agree_set (parts_of held) x y target.intid.0 target.vcpu.0 (holds_in (part.Redist target.vcpu) held redist)
+        (agrees (parts_of held) (λ q at. in_holds q held at))).parts p (holds_in p held owns)
 
     pub sent_others : (p : Part) → ¬ Holds p held → SamePart y (sent target y) p
     sent_others p lacks =
-        (stay_redist y y (part.Redist target.vcpu ∷ []) target.vcpu.0 (record (redistributor y target.vcpu.0) { pending = with_lpi target.intid.0 (pending_of y target.vcpu.0) }) (in_head (part.Redist target.vcpu) []) (stay y (part.Redist target.vcpu ∷ []))).parts p
+        (stay_redist y y (part.Redist target.vcpu ∷ []) target.vcpu.0
+        (record (redistributor y target.vcpu.0) { pending = with_lpi target.intid.0 (pending_of y target.vcpu.0) }) (in_head (part.Redist target.vcpu) [])
+        (stay y (part.Redist target.vcpu ∷ []))).parts p
         (λ at. lacks (all_in (λ q. Holds q held) (part.Redist target.vcpu ∷ []) p at (redist, tt)))
 
   -- ---- either
 
-  pub left_same : (a : Commit) → IsAnswered x a.call a.reply held ⊎ IsHit s a held → (p : Part) → Holds p held → SamePart (left x a.call a.reply) (left y a.call a.reply) p
+  pub left_same : (a : Commit) → IsAnswered x a.call a.reply held ⊎ IsHit s a held → (p : Part) → Holds p held
+      → SamePart (left x a.call a.reply) (left y a.call a.reply) p
   left_same a one p owns = ⊎_elim
       (λ (t : IsAnswered x a.call a.reply held).
-      subst (λ (r : Reply × Reply). SamePart (left x a.call r.0) (left y a.call r.1) p) (λ d. (sym t.reply_is d, sym (t.reply_is ∙ same_reply a.call t.covers) d)) (answered_same a.call t.covers p owns))
-      (λ (t : IsHit s a held). subst (λ (z : Plain × Plain). SamePart z.0 z.1 p) (λ d. (hit_leaves s a held t x d, hit_leaves s a held t y d)) (sent_same t.target t.redist p owns)) one
+      subst (λ (r : Reply × Reply). SamePart (left x a.call r.0) (left y a.call r.1) p)
+      (λ d. (sym t.reply_is d, sym (t.reply_is ∙ same_reply a.call t.covers) d)) (answered_same a.call t.covers p owns))
+      (λ (t : IsHit s a held). subst (λ (z : Plain × Plain). SamePart z.0 z.1 p) (λ d. (hit_leaves s a held t x d, hit_leaves s a held t y d))
+      (sent_same t.target t.redist p owns)) one

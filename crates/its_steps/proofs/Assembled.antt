@@ -1,5 +1,6 @@
 -- The state that the parts held stand for agrees with the machine's on them.
-use Rattle.std.proofs.Common.{◌≡◌, ◌≢◌, ◌⊎◌, ℕ, zero, suc, ◌<◌, List, [], ◌∷◌, length, set, slice_get, Some, refl, ap, sym, ◌∙◌, subst, inl, inr, ⊎_elim, arith, length-set}
+use Rattle.std.proofs.Common.{◌≡◌, ◌≢◌, ◌⊎◌, ℕ, zero, suc, ◌<◌, List, [], ◌∷◌, length, set, slice_get, Some, refl, ap, sym, ◌∙◌, subst, inl, inr, ⊎_elim}
+use Rattle.std.proofs.Common.{arith, length-set}
 use Rattle.std.specs.List.{AllByRecursion}
 use Rattle.std.proofs.lemmas.Option.{same_Some}
 use mathlib.Core.Logic.{dite}
@@ -45,7 +46,8 @@ in_holds p (x ∷ xs) (suc n, e) = inr (in_holds p xs (n, e))
 
 pub holds_in : (p : Part) (held : List Held) → Holds p held → IsIn p (parts_of held)
 holds_in p [] h = absurd h
-holds_in p (x ∷ xs) h = ⊎_elim (λ (e : x.part ≡ p). subst (λ (q : Part). IsIn p (q ∷ parts_of xs)) (sym e) (in_head p (parts_of xs))) (λ (t : Holds p xs). in_tail p x.part (parts_of xs) (holds_in p xs t)) h
+holds_in p (x ∷ xs) h = ⊎_elim (λ (e : x.part ≡ p). subst (λ (q : Part). IsIn p (q ∷ parts_of xs)) (sym e) (in_head p (parts_of xs)))
+    (λ (t : Holds p xs). in_tail p x.part (parts_of xs) (holds_in p xs t)) h
 
 pub all_in : (P : Part → Type 0) (ps : List Part) (p : Part) → IsIn p ps → AllByRecursion P ps → P p
 all_in P [] p (n, e) all = absurd cc
@@ -56,7 +58,8 @@ pub holds_or_not : (s : Setup) (p : Part) → Stands s p → (held : List Held) 
 holds_or_not s p st [] all = inr (λ h. h)
 holds_or_not s p st (x ∷ xs) all = dite (ℕ_discrete (index_of s x.part) (index_of s p))
     (λ e. inl (inl (index_injective s x.part p all.0 st e)))
-    (λ ne. ⊎_elim (λ (h : Holds p xs). inl (inr h)) (λ (n : ¬ Holds p xs). inr (λ h. ⊎_elim (λ (e : x.part ≡ p). ne (ap (index_of s) e)) n h)) (holds_or_not s p st xs all.1))
+    (λ ne. ⊎_elim (λ (h : Holds p xs). inl (inr h)) (λ (n : ¬ Holds p xs). inr (λ h. ⊎_elim (λ (e : x.part ≡ p). ne (ap (index_of s) e)) n h))
+    (holds_or_not s p st xs all.1))
 
 pub in_or_not : (s : Setup) (p : Part) → Stands s p → (ps : List Part) → AllByRecursion (Stands s) ps → IsIn p ps ⊎ (¬ IsIn p ps)
 in_or_not s p st [] all = inr (λ (n, e). cc)
@@ -78,10 +81,16 @@ no_part : (b : Plain) (p : Part) → IsPut b p b
 no_part b p = record { stays = stay b (p ∷ []); long = refl }
 
 pub is_put : (p : Part) (c : Content) (b : Plain) → IsPut b p (with_part p c b)
-is_put (part.Maps its) (Maps t) b = record { stays = stay_translator b b (part.Maps its ∷ []) its t (in_head (part.Maps its) []) (stay b (part.Maps its ∷ [])); long = refl }
+is_put (part.Maps its) (Maps t) b = record {
+  stays = stay_translator b b (part.Maps its ∷ []) its t (in_head (part.Maps its) []) (stay b (part.Maps its ∷ []));
+  long = refl;
+}
 is_put part.Mem (Mem memory) b = record { stays = stay_memory b b (part.Mem ∷ []) memory (in_head part.Mem []) (stay b (part.Mem ∷ [])); long = refl }
 is_put (part.Redist vcpu) (Redist r) b =
-    record { stays = stay_redist b b (part.Redist vcpu ∷ []) vcpu.0 r (in_head (part.Redist vcpu) []) (stay b (part.Redist vcpu ∷ [])); long = length-set b.redistributors vcpu.0 r }
+    record {
+      stays = stay_redist b b (part.Redist vcpu ∷ []) vcpu.0 r (in_head (part.Redist vcpu) []) (stay b (part.Redist vcpu ∷ []));
+      long = length-set b.redistributors vcpu.0 r;
+    }
 is_put p c b = no_part b p
 
 pub get_set_here : {A : Type 0} (xs : List A) (i : ℕ) (y : A) → i < length xs → slice_get (set xs i y) i ≡ Some y
@@ -90,7 +99,8 @@ get_set_here (x ∷ xs) zero y lt = refl
 get_set_here (x ∷ xs) (suc i) y lt = get_set_here xs i y (omega arith)
 
 -- the part then has it
-has_here : (s : Setup) (p : Part) (c : Content) (b : Plain) → length b.translators ≡ translator_count s → length b.redistributors ≡ vcpu_count s → Stands s p → Suits p c → Has (with_part p c b) p c
+has_here : (s : Setup) (p : Part) (c : Content) (b : Plain) → length b.translators ≡ translator_count s → length b.redistributors ≡ vcpu_count s → Stands s p
+    → Suits p c → Has (with_part p c b) p c
 has_here s (part.Maps its) (Maps t) b ts rs st suits = get_set_here b.translators its t (omega (arith, st, ts))
 has_here s part.Mem (Mem x) b ts rs st suits = refl
 has_here s (part.Shard its n) (Shard x) b ts rs st suits = tt
@@ -161,21 +171,26 @@ module _ (s : Setup) (vcpus : HasVcpus s) where
   same_behind : (x : Held) (xs : List Held) (p : Part) → ¬ Holds x.part xs → Holds p xs → SamePart (assembled s xs) (assembled s (x ∷ xs)) p
   same_behind x xs p lone h = (is_put x.part x.owed (assembled s xs)).stays.parts p (not_only x.part p (λ e. lone (subst (λ (q : Part). Holds q xs) (sym e) h)))
 
-  assembled_has_all : (held : List Held) → Apart held → AllByRecursion (λ x. Stands s x.part) held → (p : Part) (c : Content) → Suits p c → Owes p c held → Has (assembled s held) p c
+  assembled_has_all : (held : List Held) → Apart held → AllByRecursion (λ x. Stands s x.part) held → (p : Part) (c : Content) → Suits p c → Owes p c held
+      → Has (assembled s held) p c
   assembled_has_all [] apart st p c suits o = absurd o
   assembled_has_all (x ∷ xs) apart st p c suits o = ⊎_elim
       (λ (e : (x.part ≡ p) × (x.owed ≡ c)).
       let back : Suits x.part x.owed = subst (Suits x.part) (sym e.1) (subst (λ (q : Part). Suits q c) (sym e.0) suits) in
       subst (λ (q : Part). Has (assembled s (x ∷ xs)) q c) e.0 (subst (Has (assembled s (x ∷ xs)) x.part) e.1 (has_last x xs st.0 back)))
-      (λ (t : Owes p c xs). same_has (assembled s xs) (assembled s (x ∷ xs)) p c (same_behind x xs p apart.0 (owes_holds p c xs t)) (assembled_has_all xs apart.1 st.1 p c suits t))
+      (λ (t : Owes p c xs). same_has (assembled s xs) (assembled s (x ∷ xs)) p c (same_behind x xs p apart.0 (owes_holds p c xs t))
+      (assembled_has_all xs apart.1 st.1 p c suits t))
       o
 
   -- so it agrees on what is held with each state that has it
-  pub agree_held : (u : Plain) (held : List Held) → Apart held → AllByRecursion (λ x. Stands s x.part) held → HasAll u held → (p : Part) → Holds p held → SamePart (assembled s held) u p
+  pub agree_held : (u : Plain) (held : List Held) → Apart held → AllByRecursion (λ x. Stands s x.part) held → HasAll u held → (p : Part) → Holds p held
+      → SamePart (assembled s held) u p
   agree_held u [] apart st has p h = absurd h
   agree_held u (x ∷ xs) apart st has p h = ⊎_elim
-      (λ (e : x.part ≡ p). subst (SamePart (assembled s (x ∷ xs)) u) e (both_have (assembled s (x ∷ xs)) u x.part x.owed (has_last x xs st.0 (has_suits u x.part x.owed has.0)) has.0))
-      (λ (t : Holds p xs). same_through (assembled s (x ∷ xs)) (assembled s xs) u p (same_back (assembled s xs) (assembled s (x ∷ xs)) p (same_behind x xs p apart.0 t)) (agree_held u xs apart.1 st.1 has.1 p t))
+      (λ (e : x.part ≡ p). subst (SamePart (assembled s (x ∷ xs)) u) e
+      (both_have (assembled s (x ∷ xs)) u x.part x.owed (has_last x xs st.0 (has_suits u x.part x.owed has.0)) has.0))
+      (λ (t : Holds p xs). same_through (assembled s (x ∷ xs)) (assembled s xs) u p
+      (same_back (assembled s xs) (assembled s (x ∷ xs)) p (same_behind x xs p apart.0 t)) (agree_held u xs apart.1 st.1 has.1 p t))
       h
 
 pub assembled_has : AssembledHas

@@ -1,5 +1,6 @@
 -- Shards stay right: what a commit leaves in those held, and what every other one has.
-use Rattle.std.proofs.Common.{◌≡◌, ◌⊎◌, ℕ, ◌<◌, Bool, true, false, eqb, cond, List, [], length, get_or, Option, Some, None, Ok, refl, ap, sym, ◌∙◌, subst, inl, inr, ⊎_elim, arith, eq-eqb}
+use Rattle.std.proofs.Common.{◌≡◌, ◌⊎◌, ℕ, ◌<◌, Bool, true, false, eqb, cond, List, [], length, get_or, Option, Some, None, Ok, refl, ap, sym, ◌∙◌, subst, inl}
+use Rattle.std.proofs.Common.{inr, ⊎_elim, arith, eq-eqb}
 use Rattle.std.specs.List.{AllByRecursion}
 use Rattle.std.specs.Cmp.Derive.{both_true}
 use Rattle.std.proofs.lemmas.Bool.{both_ways, eqb-true}
@@ -29,7 +30,8 @@ use Rattle.its_steps.specs.Parts.{Setup, IsOfMachine, translator_count, vcpu_cou
 use Rattle.its_steps.specs.Contents.{Content, Maps, Shard, Redist, Held}
 use Rattle.its_steps.specs.Good.{Holds, Apart}
 use Rattle.its_steps.specs.MayCommit.{IsRight}
-use Rattle.its_steps.specs.MayCall.{Owes, MayFill, MayChange, IsWithout, IsSteady, AreSteady, IsFill, HasFillsAlone, StampStays, StampRises, StampRenews, MayCall}
+use Rattle.its_steps.specs.MayCall.{Owes, MayFill, MayChange, IsWithout, IsSteady, AreSteady, IsFill, HasFillsAlone, StampStays, StampRises, StampRenews}
+use Rattle.its_steps.specs.MayCall.{MayCall}
 use Rattle.its_steps.specs.World.{word_after}
 use Rattle.its_steps.specs.Renewal.{assembled, its_of, is_shard_of, changed, content_in, renewed}
 use Rattle.its_steps.specs.declared.change.ShardChange.{ShardChange}
@@ -51,7 +53,8 @@ if_shard : (b : Bool) (xs ys : List (Option Translation)) → IsShard xs → IsS
 if_shard true xs ys x y = x
 if_shard false xs ys x y = y
 
-module _ (s : Setup) (a : Commit) (held : List Held) (may : MayCall s a held) (u : Plain) (m : IsOfMachine s u) (right : AllByRecursion (IsRight s a.expected u) held) where
+module _ (s : Setup) (a : Commit) (held : List Held) (may : MayCall s a held) (u : Plain) (m : IsOfMachine s u)
+    (right : AllByRecursion (IsRight s a.expected u) held) where
   abbrev to : Word
   to = word_after a
 
@@ -92,7 +95,8 @@ module _ (s : Setup) (a : Commit) (held : List Held) (may : MayCall s a held) (u
 
   -- ---- translations that stay
 
-  maps_steady : (its : ℕ) (x : Content) → Right s a.expected u (part.Maps its) x → IsSteady s its owed (part.Maps its) x (content_in s a before (part.Maps its) x)
+  maps_steady : (its : ℕ) (x : Content) → Right s a.expected u (part.Maps its) x → IsSteady s its owed (part.Maps its) x
+      (content_in s a before (part.Maps its) x)
       → (dev ev : ℕ) (t : Target) → located (translator u its) dev ev ≡ Ok t → (located (translator before its) dev ev ≡ Ok t) ⊎ IsWithout s its dev ev owed
   maps_steady its (Maps x) is steady dev ev t e =
       let same : translator u its ≡ x = get_or_from_slice_get u.translators its x no_translator is in
@@ -100,7 +104,8 @@ module _ (s : Setup) (a : Commit) (held : List Held) (may : MayCall s a held) (u
   maps_steady its x is steady dev ev t e = absurd is
 
   redist_steady : (its v : ℕ) (x : Content) → Right s a.expected u (part.Redist (record { 0 = v })) x
-      → IsSteady s its owed (part.Redist (record { 0 = v })) x (content_in s a before (part.Redist (record { 0 = v })) x) → is_on u v ≡ true → is_on before v ≡ true
+      → IsSteady s its owed (part.Redist (record { 0 = v })) x (content_in s a before (part.Redist (record { 0 = v })) x) → is_on u v ≡ true
+      → is_on before v ≡ true
   redist_steady its v (Redist x) is steady on =
       let same : redistributor u v ≡ x = get_or_from_slice_get u.redistributors v x no_redistributor is in
       steady (ap (λ (y : Redistributor). y.bases.on) (sym same) ∙ on)
@@ -111,7 +116,8 @@ module _ (s : Setup) (a : Commit) (held : List Held) (may : MayCall s a held) (u
   still_located its lt steady dev ev t e = ⊎_elim
       (λ (h : Holds (part.Maps its) held).
       let x = steady_at s a before a.expected u its owed held steady right (part.Maps its) h in
-      ⊎_elim (λ (y : located (translator before its) dev ev ≡ Ok t). inl (subst (λ (z : Translator). located z dev ev ≡ Ok t) (translator_held its h) y)) (λ y. inr y) (maps_steady its x.0 x.1 x.2 dev ev t e))
+      ⊎_elim (λ (y : located (translator before its) dev ev ≡ Ok t). inl (subst (λ (z : Translator). located z dev ev ≡ Ok t) (translator_held its h) y))
+      (λ y. inr y) (maps_steady its x.0 x.1 x.2 dev ev t e))
       (λ (n : ¬ Holds (part.Maps its) held). inl (subst (λ (z : Translator). located z dev ev ≡ Ok t) (translator_other its n) e))
       (holds_or_not s (part.Maps its) lt held may.stands)
 
@@ -127,18 +133,21 @@ module _ (s : Setup) (a : Commit) (held : List Held) (may : MayCall s a held) (u
       → (translated u' its dev ev ≡ Ok t) ⊎ IsWithout s its dev ev owed
   still_translated its lt steady dev ev t e =
       let x = translated_is u its dev ev t e in
-      ⊎_elim (λ (y : located (translator u' its) dev ev ≡ Ok t). inl (translated_from u' its dev ev t y (still_on its t.vcpu.0 steady x.1))) (λ y. inr y) (still_located its lt steady dev ev t x.0)
+      ⊎_elim (λ (y : located (translator u' its) dev ev ≡ Ok t). inl (translated_from u' its dev ev t y (still_on its t.vcpu.0 steady x.1))) (λ y. inr y)
+      (still_located its lt steady dev ev t x.0)
 
   -- ---- entries
 
   -- what a fill puts in is what translation gives after the call
-  filled_is : (its n : ℕ) (dev : DeviceId) (ev : EventId) (t : Target) → MayFill s c before held dev ev t → its ≡ its_of c → shard_number dev.0 ev.0 s.shards ≡ n → IsCached s to u' its n (entry dev ev (stamp_of s to its) t)
+  filled_is : (its n : ℕ) (dev : DeviceId) (ev : EventId) (t : Target) → MayFill s c before held dev ev t → its ≡ its_of c
+      → shard_number dev.0 ev.0 s.shards ≡ n → IsCached s to u' its n (entry dev ev (stamp_of s to its) t)
   filled_is its n dev ev t f is here =
       let x = translated_is before (its_of c) dev.0 ev.0 t f.agrees in
       let sent : translated u' (its_of c) dev.0 ev.0 ≡ Ok t =
       translated_from u' (its_of c) dev.0 ev.0 t (subst (λ (z : Translator). located z dev.0 ev.0 ≡ Ok t) (translator_held (its_of c) f.maps) x.0)
       (ap (λ (y : Redistributor). y.bases.on) (sym (redist_held t.vcpu.0 f.redist)) ∙ x.1) in
-      let good = if_ok_at (λ (z : Target). IsLpi u' z.intid.0 × (is_on u' z.vcpu.0 ≡ true)) (translated u' (its_of c) dev.0 ev.0) t (goes_to_lpi u' (its_of c) dev.0 ev.0 m'.sound) sent in
+      let good = if_ok_at (λ (z : Target). IsLpi u' z.intid.0 × (is_on u' z.vcpu.0 ≡ true)) (translated u' (its_of c) dev.0 ev.0) t
+      (goes_to_lpi u' (its_of c) dev.0 ev.0 m'.sound) sent in
       record {
         shard = here;
         stamp = omega arith;
@@ -147,15 +156,18 @@ module _ (s : Setup) (a : Commit) (held : List Held) (may : MayCall s a held) (u
         current = λ _. subst (λ (i : ℕ). translated u' i dev.0 ev.0 ≡ Ok t) (sym is) sent;
       }
 
-  fill_is : (x : ShardChange) → MayChange s c x before held → (its n : ℕ) (e : Translation) → IsFill s to c x its e → shard_number e.dev.0 e.ev.0 s.shards ≡ n → IsCached s to u' its n e
-  fill_is (change.Fill dev ev t) f its n e is here = subst (IsCached s to u' its n) (sym is.1) (filled_is its n dev ev t f is.0 (ap (λ (y : Translation). shard_number y.dev.0 y.ev.0 s.shards) (sym is.1) ∙ here))
+  fill_is : (x : ShardChange) → MayChange s c x before held → (its n : ℕ) (e : Translation) → IsFill s to c x its e → shard_number e.dev.0 e.ev.0 s.shards ≡ n
+      → IsCached s to u' its n e
+  fill_is (change.Fill dev ev t) f its n e is here = subst (IsCached s to u' its n) (sym is.1)
+      (filled_is its n dev ev t f is.0 (ap (λ (y : Translation). shard_number y.dev.0 y.ev.0 s.shards) (sym is.1) ∙ here))
   fill_is x f its n e is here = absurd is
 
   is_fill : (its n : ℕ) (e : Translation) → IsFill s to c a.change its e → shard_number e.dev.0 e.ev.0 s.shards ≡ n → IsCached s to u' its n e
   is_fill its n e is here = fill_is a.change may.may_change its n e is here
 
   -- an entry that was there, where its pair's may not be gone
-  old_is : (its n : ℕ) (e : Translation) → its < translator_count s → IsCached s a.expected u its n e → ¬ IsWithout s its e.dev.0 e.ev.0 owed → (StampRenews s a its held owed → IsCached s to u' its n e) → IsCached s to u' its n e
+  old_is : (its n : ℕ) (e : Translation) → its < translator_count s → IsCached s a.expected u its n e → ¬ IsWithout s its e.dev.0 e.ev.0 owed
+      → (StampRenews s a its held owed → IsCached s to u' its n e) → IsCached s to u' its n e
   old_is its n e lt old kept renews = ⊎_elim
       (λ (t : StampStays s a its held owed). record {
         shard = old.shard;
@@ -166,7 +178,13 @@ module _ (s : Setup) (a : Commit) (held : List Held) (may : MayCall s a held) (u
             (still_translated its lt t.steady e.dev.0 e.ev.0 e.target (old.current (is ∙ t.same)));
       })
       (λ rest. ⊎_elim
-      (λ (t : StampRises s a its held). record { shard = old.shard; stamp = omega (arith, old.stamp, t.next); vcpu = old.vcpu; lpi = old.lpi; current = λ is. absurd (omega (arith, is, old.stamp, t.next)) })
+      (λ (t : StampRises s a its held). record {
+        shard = old.shard;
+        stamp = omega (arith, old.stamp, t.next);
+        vcpu = old.vcpu;
+        lpi = old.lpi;
+        current = λ is. absurd (omega (arith, is, old.stamp, t.next));
+      })
       renews rest)
       (may.stamps its lt)
 
@@ -181,14 +199,16 @@ module _ (s : Setup) (a : Commit) (held : List Held) (may : MayCall s a held) (u
   changed_shard : (x : ShardChange) (its n : ℕ) (ways : List (Option Translation)) → IsShard ways → IsShard (changed s to c x its n ways)
   unfolding changed
   changed_shard change.Keep its n ways h = h
-  changed_shard (change.Fill dev ev t) its n ways h = if_shard (is_shard_of s c dev ev its n) (filled ways (entry dev ev (stamp_of s to its) t)) ways (filled_lawful ways (entry dev ev (stamp_of s to its) t) h).shard h
+  changed_shard (change.Fill dev ev t) its n ways h = if_shard (is_shard_of s c dev ev its n) (filled ways (entry dev ev (stamp_of s to its) t)) ways
+      (filled_lawful ways (entry dev ev (stamp_of s to its) t) h).shard h
   changed_shard (change.Drop dev ev) its n ways h = if_shard (is_shard_of s c dev ev its n) (dropped ways dev.0 ev.0) ways (dropped_shard ways dev.0 ev.0 h) h
   changed_shard change.Empty its n ways h = if_shard (eqb its (its_of c)) no_entries ways empty_shard h
 
   abbrev Comes : ShardChange → ℕ → ℕ → List (Option Translation) → Translation → Type 0
   Comes x its n ways e = (IsFill s to c x its e × (shard_number e.dev.0 e.ev.0 s.shards ≡ n)) ⊎ ((k : ℕ) × (get_or ways k None ≡ Some e))
 
-  changed_entry : (x : ShardChange) (its n : ℕ) (ways : List (Option Translation)) → IsShard ways → (i : ℕ) (e : Translation) → get_or (changed s to c x its n ways) i None ≡ Some e → Comes x its n ways e
+  changed_entry : (x : ShardChange) (its n : ℕ) (ways : List (Option Translation)) → IsShard ways → (i : ℕ) (e : Translation)
+      → get_or (changed s to c x its n ways) i None ≡ Some e → Comes x its n ways e
   unfolding changed
   changed_entry change.Keep its n ways h i e there = inr (i, there)
   changed_entry (change.Fill dev ev t) its n ways h i e there = at (is_shard_of s c dev ev its n) refl there
@@ -196,12 +216,18 @@ module _ (s : Setup) (a : Commit) (held : List Held) (may : MayCall s a held) (u
       new : Translation
       new = entry dev ev (stamp_of s to its) t
 
-      at : (b : Bool) → is_shard_of s c dev ev its n ≡ b → get_or (cond b (filled ways (entry dev ev (stamp_of s to its) t)) ways) i None ≡ Some e → Comes (change.Fill dev ev t) its n ways e
+      at : (b : Bool) → is_shard_of s c dev ev its n ≡ b → get_or (cond b (filled ways (entry dev ev (stamp_of s to its) t)) ways) i None ≡ Some e
+          → Comes (change.Fill dev ev t) its n ways e
       at false is there = inr (i, there)
       at true is there =
           let tests = both_of (eqb its (its_of c)) (eqb n (shard_number dev.0 ev.0 s.shards)) is in
           ⊎_elim
-          (λ (f : e ≡ entry dev ev (stamp_of s to its) t). inl ((eqb-true its (its_of c) tests.0, f), (ap (λ (y : Translation). shard_number y.dev.0 y.ev.0 s.shards) f ∙ sym (eqb-true n (shard_number dev.0 ev.0 s.shards) tests.1))))
+          (λ (f : e ≡ entry dev ev (stamp_of s to its) t).
+          inl (
+            (eqb-true its (its_of c) tests.0, f),
+            (ap (λ (y : Translation). shard_number y.dev.0 y.ev.0 s.shards) f
+                ∙ sym (eqb-true n (shard_number dev.0 ev.0 s.shards) tests.1)),
+          ))
           (λ (o : get_or ways i None ≡ Some e). inr (i, o))
           ((filled_lawful ways (entry dev ev (stamp_of s to its) t) h).entries i e there)
   changed_entry (change.Drop dev ev) its n ways h i e there = at (is_shard_of s c dev ev its n) there
@@ -221,14 +247,17 @@ module _ (s : Setup) (a : Commit) (held : List Held) (may : MayCall s a held) (u
   is_own : (e : Translation) → is_of e.dev.0 e.ev.0 (Some e) ≡ true
   is_own e = both_true (eq-eqb e.dev.0 e.dev.0 refl) (eq-eqb e.ev.0 e.ev.0 refl)
 
-  pub cache_held : (its n : ℕ) (ways : List (Option Translation)) → its < translator_count s → Owes (part.Shard its n) (Shard ways) held → IsCache s a.expected u its n ways → IsCache s to u' its n (changed s to c a.change its n ways)
+  pub cache_held : (its n : ℕ) (ways : List (Option Translation)) → its < translator_count s → Owes (part.Shard its n) (Shard ways) held
+      → IsCache s a.expected u its n ways → IsCache s to u' its n (changed s to c a.change its n ways)
   cache_held its n ways lt owes h =
       let ways' : List (Option Translation) = changed s to c a.change its n ways in
       let own : Owes (part.Shard its n) (Shard ways') owed = owes_renewed s a before (part.Shard its n) (Shard ways) held owes in
-      let is_kept : (i : ℕ) (e : Translation) → get_or ways' i None ≡ Some e → shard_number e.dev.0 e.ev.0 s.shards ≡ n → ¬ IsWithout s its e.dev.0 e.ev.0 owed = λ i e there here w.
+      let is_kept : (i : ℕ) (e : Translation) → get_or ways' i None ≡ Some e → shard_number e.dev.0 e.ev.0 s.shards ≡ n
+      → ¬ IsWithout s its e.dev.0 e.ev.0 owed = λ i e there here w.
       let other : Owes (part.Shard its n) (Shard w.ways) owed = subst (λ (k : ℕ). Owes (part.Shard its k) (Shard w.ways) owed) here w.owes in
       let same : w.ways ≡ ways' = ap ways_in (owes_once (part.Shard its n) (Shard w.ways) (Shard ways') owed apart_owed other own) in
-      both_ways (is_of e.dev.0 e.ev.0 (Some e)) (ap (is_of e.dev.0 e.ev.0) (sym there) ∙ (ap (λ (ws : List (Option Translation)). is_of e.dev.0 e.ev.0 (get_or ws i None)) (sym same) ∙ w.none i)) (is_own e) in
+      both_ways (is_of e.dev.0 e.ev.0 (Some e)) (ap (is_of e.dev.0 e.ev.0) (sym there)
+      ∙ (ap (λ (ws : List (Option Translation)). is_of e.dev.0 e.ev.0 (get_or ws i None)) (sym same) ∙ w.none i)) (is_own e) in
       record {
         shard = changed_shard a.change its n ways h.shard;
         entries = λ i e there. ⊎_elim
@@ -240,12 +269,14 @@ module _ (s : Setup) (a : Commit) (held : List Held) (may : MayCall s a held) (u
             (changed_entry a.change its n ways h.shard i e there);
       }
 
-  pub cache_other : (its n : ℕ) (ways : List (Option Translation)) → its < translator_count s → n < s.shards → ¬ Holds (part.Shard its n) held → IsCache s a.expected u its n ways → IsCache s to u' its n ways
+  pub cache_other : (its n : ℕ) (ways : List (Option Translation)) → its < translator_count s → n < s.shards → ¬ Holds (part.Shard its n) held
+      → IsCache s a.expected u its n ways → IsCache s to u' its n ways
   cache_other its n ways lt ln lacks h = record {
     shard = h.shard;
     entries = λ i e there.
         let old = h.entries i e there in
         old_is its n e lt old
-        (λ w. lacks (owed_held (part.Shard its n) (subst (λ (k : ℕ). Holds (part.Shard its k) owed) old.shard (owes_holds (part.Shard its (shard_number e.dev.0 e.ev.0 s.shards)) (Shard w.ways) owed w.owes))))
+        (λ w. lacks (owed_held (part.Shard its n) (subst (λ (k : ℕ). Holds (part.Shard its k) owed) old.shard
+        (owes_holds (part.Shard its (shard_number e.dev.0 e.ev.0 s.shards)) (Shard w.ways) owed w.owes))))
         (λ t. absurd (lacks (t.shards n ln)));
   }

@@ -21,11 +21,13 @@ calm_none u (call.Step its) calm = absurd calm
 calm_none u c calm = refl
 
 -- where nothing ends, whatever has what is held stays steady
-pub steady_in : (s : Setup) (u : Plain) (a : Commit) (its : ℕ) (owed held : List Held) → ending_of u a.call ≡ Nothing → ((p : Part) (x : Content) → Suits p x → Owes p x held → Has u p x) → AreSteady s its owed held (renewal_in s u a held)
+pub steady_in : (s : Setup) (u : Plain) (a : Commit) (its : ℕ) (owed held : List Held) → ending_of u a.call ≡ Nothing
+    → ((p : Part) (x : Content) → Suits p x → Owes p x held → Has u p x) → AreSteady s its owed held (renewal_in s u a held)
 steady_in s u a its owed held none has = steady_all s u a its owed (λ dev ev own ends. absurd (none_ends (ending_of u a.call) none dev ev ends)) held has
 
 pub calm : CalmCallsAreSteady
-calm s a its owed held vcpus is apart st = steady_in s (assembled s held) a its owed held (calm_none (assembled s held) a.call is) (assembled_has s vcpus held apart st)
+calm s a its owed held vcpus is apart st = steady_in s (assembled s held) a its owed held (calm_none (assembled s held) a.call is)
+    (assembled_has s vcpus held apart st)
 
 pub calm_may : CalmCallsMayCommit
 calm_may s last c r ch held vcpus is room apart st outs answered may = record {

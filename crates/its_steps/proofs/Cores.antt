@@ -61,7 +61,9 @@ module _ (c : Core) (good : IsGoodCore c) (i : ℕ) (v : View) (at : get_elem? c
       (λ (m : Misses c i v p d). subst Keeps (sym m.leaves) (keeps_miss s h w good i v at passes p m.found)) t.does
 
   commits_keep : (d : Core) (a : Commit) → Commits c i v a d → IsGoodCore d
-  commits_keep d a t = dite (same_word w.word a.expected) (λ e. subst Keeps (sym (t.found e)) (keeps_commit s h w good i v at passes a (renewal s a v.held) e (holders s a v.held t.may))) (λ ne. subst Keeps (sym (t.raced ne)) loads_keep)
+  commits_keep d a t = dite (same_word w.word a.expected)
+      (λ e. subst Keeps (sym (t.found e)) (keeps_commit s h w good i v at passes a (renewal s a v.held) e (holders s a v.held t.may)))
+      (λ ne. subst Keeps (sym (t.raced ne)) loads_keep)
 
   splits_keep : (d : Core) → Splits c i v d → IsGoodCore d
   splits_keep d t =
@@ -72,23 +74,29 @@ module _ (c : Core) (good : IsGoodCore c) (i : ℕ) (v : View) (at : get_elem? c
       subst Keeps (sym t.leaves) (subst (λ (vs : List View). Good s h record w { views = vs ++ split_off v1 ∷ [] }) (set_over w.views i v1 (has_split v1)) two)
 
   -- the pass at i has a view more, one at j is spent, and then it loads the word
-  then_load : (j : ℕ) (v1 : View) → v1.standing ≡ Pass → j ≢ i → Good s h record w { views = set (set w.views i v1) j spent } → Good s h record w { views = set (set w.views i (loaded v1 w.word h)) j spent }
+  then_load : (j : ℕ) (v1 : View) → v1.standing ≡ Pass → j ≢ i → Good s h record w { views = set (set w.views i v1) j spent }
+      → Good s h record w { views = set (set w.views i (loaded v1 w.word h)) j spent }
   then_load j v1 passes1 ne g =
       let views1 : List View = set (set w.views i v1) j spent in
       let here : get_elem? views1 i ≡ some v1 = set_else (set w.views i v1) j i spent (λ e. ne (sym e)) ∙ set_here w.views i v1 (at_below w.views i v at) in
       let two = keeps_load s h _ g i v1 here passes1 in
       let same : set views1 i (loaded v1 w.word h) ≡ set (set w.views i (loaded v1 w.word h)) j spent =
-      set_apart (set w.views i v1) i j (loaded v1 w.word h) spent (λ e. ne (sym e)) ∙ ap (λ (vs : List View). set vs j spent) (set_over w.views i v1 (loaded v1 w.word h)) in
+      set_apart (set w.views i v1) i j (loaded v1 w.word h) spent (λ e. ne (sym e)) ∙ ap (λ (vs : List View). set vs j spent)
+      (set_over w.views i v1 (loaded v1 w.word h)) in
       subst (λ (vs : List View). Good s h record w { views = vs }) same two
 
   joins_keep : (d : Core) (number : ℕ) → Joins c i v number d → IsGoodCore d
   joins_keep d number t =
-      let ne : t.index ≢ i = λ e. t.other (sym t.is_at.number_is ∙ (ap (λ (x : View). x.number) (some-injective t.view v (sym t.is_at.at ∙ (ap (get_elem? w.views) e ∙ at))) ∙ t.root)) in
-      subst Keeps (sym t.leaves) (then_load t.index (has_joined v t.view) passes ne (joins s h w good i v at passes t.root t.index t.view ne t.is_at.at t.is_at.passes t.bare))
+      let ne : t.index ≢ i = λ e.
+      t.other (sym t.is_at.number_is ∙ (ap (λ (x : View). x.number) (some-injective t.view v (sym t.is_at.at ∙ (ap (get_elem? w.views) e ∙ at)))
+      ∙ t.root)) in
+      subst Keeps (sym t.leaves)
+      (then_load t.index (has_joined v t.view) passes ne (joins s h w good i v at passes t.root t.index t.view ne t.is_at.at t.is_at.passes t.bare))
 
   meets_keep : (d : Core) (n : ℕ) → Meets c i v n d → IsGoodCore d
   meets_keep d n t =
-      let ne : t.index ≢ i = λ e. no_pass t.note t.is_at.is_note (ap (λ (x : View). x.standing) (some-injective t.note v (sym t.is_at.at ∙ (ap (get_elem? w.views) e ∙ at))) ∙ passes) in
+      let ne : t.index ≢ i = λ e. no_pass t.note t.is_at.is_note
+      (ap (λ (x : View). x.standing) (some-injective t.note v (sym t.is_at.at ∙ (ap (get_elem? w.views) e ∙ at))) ∙ passes) in
       subst Keeps (sym t.leaves) (then_load t.index (has_met v t.note) passes ne (meets s h w good i v at passes t.index t.note t.is_at.at t.is_at.is_note))
 
   moves_keep : (k : Kind) (d : Core) → Moves c i v k d → IsGoodCore d

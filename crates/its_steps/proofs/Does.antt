@@ -26,7 +26,8 @@ use Rattle.its_steps.proofs.Assembled.{machine_sized, machine_vcpus, is_assemble
 use Rattle.its_steps.proofs.Found.{found_at}
 
 -- what is owed is right
-pub owes_right : (s : Setup) (word : Word) (u : Plain) (p : Part) (c : Content) (held : List Held) → Owes p c held → AllByRecursion (IsRight s word u) held → Right s word u p c
+pub owes_right : (s : Setup) (word : Word) (u : Plain) (p : Part) (c : Content) (held : List Held) → Owes p c held → AllByRecursion (IsRight s word u) held
+    → Right s word u p c
 owes_right s word u p c [] o right = absurd o
 owes_right s word u p c (x ∷ xs) o right = ⊎_elim
     (λ (e : (x.part ≡ p) × (x.owed ≡ c)). subst (λ (q : Part). Right s word u q c) e.0 (subst (λ (d : Content). Right s word u x.part d) e.1 right.0))
@@ -38,7 +39,8 @@ pub record Does (s : Setup) (a : Commit) (held : List Held) (u : Plain) : Type 0
   pub held_same : (p : Part) → Holds p held → SamePart (left (assembled s held) a.call a.reply) (answer u a.call).1 p
   pub others_same : (p : Part) → ¬ Holds p held → SamePart u (answer u a.call).1 p
 
-module _ (s : Setup) (a : Commit) (held : List Held) (stands : AllByRecursion (λ x. Stands s x.part) held) (apart : Apart held) (u : Plain) (m : IsOfMachine s u) (right : AllByRecursion (IsRight s a.expected u) held) where
+module _ (s : Setup) (a : Commit) (held : List Held) (stands : AllByRecursion (λ x. Stands s x.part) held) (apart : Apart held) (u : Plain)
+    (m : IsOfMachine s u) (right : AllByRecursion (IsRight s a.expected u) held) where
   abbrev b : Plain
   b = assembled s held
 
@@ -50,23 +52,29 @@ module _ (s : Setup) (a : Commit) (held : List Held) (stands : AllByRecursion (�
   hit_is hit =
       let stamp : ℕ = stamp_of s a.expected hit.its in
       let at = found_at hit.dev hit.ev stamp hit.target hit.ways hit.is_found in
-      ((owes_right s a.expected u (part.Shard hit.its (shard_number hit.dev.0 hit.ev.0 s.shards)) (Shard hit.ways) held hit.owes right).entries at.0 (entry hit.dev hit.ev stamp hit.target) at.1).current refl
+      ((owes_right s a.expected u (part.Shard hit.its (shard_number hit.dev.0 hit.ev.0 s.shards)) (Shard hit.ways) held hit.owes right).entries at.0
+      (entry hit.dev hit.ev stamp hit.target) at.1).current refl
 
   replied : IsAnswered b a.call a.reply held ⊎ IsHit s a held → a.reply ≡ reply_of u a.call
   unfolding reply_of
   replied one = ⊎_elim
-      (λ (t : IsAnswered b a.call a.reply held). t.reply_is ∙ same_reply s (machine_vcpus s u m) held stands b u (is_assembled s held) (machine_sized s u m) agree a.call t.covers)
-      (λ (t : IsHit s a held). t.reply_is ∙ (ap (λ (r : Result Target Cause). reply.Signal (signal_reply r)) (sym (hit_is t)) ∙ ap (reply_of u) (sym t.call_is))) one
+      (λ (t : IsAnswered b a.call a.reply held). t.reply_is ∙ same_reply s (machine_vcpus s u m) held stands b u (is_assembled s held)
+      (machine_sized s u m) agree a.call t.covers)
+      (λ (t : IsHit s a held). t.reply_is ∙ (ap (λ (r : Result Target Cause). reply.Signal (signal_reply r)) (sym (hit_is t))
+      ∙ ap (reply_of u) (sym t.call_is))) one
 
   others : IsAnswered b a.call a.reply held ⊎ IsHit s a held → (p : Part) → ¬ Holds p held → SamePart u (answer u a.call).1 p
   others one p lacks = ⊎_elim
-      (λ (t : IsAnswered b a.call a.reply held). others_same s (machine_vcpus s u m) held stands b u (is_assembled s held) (machine_sized s u m) agree a.call t.covers p lacks)
+      (λ (t : IsAnswered b a.call a.reply held). others_same s (machine_vcpus s u m) held stands b u (is_assembled s held) (machine_sized s u m) agree a.call
+      t.covers p lacks)
       (λ (t : IsHit s a held).
-      subst (λ (z : Plain). SamePart u z p) (hit_leaves s a held t u ∙ ap (left u a.call) (replied one)) (sent_others s (machine_vcpus s u m) held stands b u (is_assembled s held) (machine_sized s u m) agree t.target t.redist p lacks)) one
+      subst (λ (z : Plain). SamePart u z p) (hit_leaves s a held t u ∙ ap (left u a.call) (replied one))
+      (sent_others s (machine_vcpus s u m) held stands b u (is_assembled s held) (machine_sized s u m) agree t.target t.redist p lacks)) one
 
   pub does : IsAnswered b a.call a.reply held ⊎ IsHit s a held → Does s a held u
   does one = record {
     reply_is = replied one;
-    held_same = λ p owns. subst (λ (r : Reply). SamePart (left b a.call a.reply) (left u a.call r) p) (replied one) (left_same s (machine_vcpus s u m) held stands b u (is_assembled s held) (machine_sized s u m) agree a one p owns);
+    held_same = λ p owns. subst (λ (r : Reply). SamePart (left b a.call a.reply) (left u a.call r) p) (replied one)
+        (left_same s (machine_vcpus s u m) held stands b u (is_assembled s held) (machine_sized s u m) agree a one p owns);
     others_same = others one;
   }

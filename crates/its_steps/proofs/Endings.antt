@@ -1,10 +1,12 @@
 -- A call ends no more translations than its ending says.
-use Rattle.std.proofs.Common.{◌≡◌, ◌⊎◌, ℕ, Bool, true, false, not, ◌&&◌, eqb, nat_lt, nat_eq, ◌%◌, ◌-◌, List, [], ◌∷◌, Option, Some, None, Result, Ok, Err, refl, ap, sym, ◌∙◌, subst, inl, inr, if◌then◌else◌}
+use Rattle.std.proofs.Common.{◌≡◌, ◌⊎◌, ℕ, Bool, true, false, not, ◌&&◌, eqb, nat_lt, nat_eq, ◌%◌, ◌-◌, List, [], ◌∷◌, Option, Some, None, Result, Ok, Err}
+use Rattle.std.proofs.Common.{refl, ap, sym, ◌∙◌, subst, inl, inr, if◌then◌else◌}
 use Rattle.std.proofs.lemmas.Bool.{cond_both, both_ways}
 use Rattle.std.proofs.lemmas.Option.{get_or_from_slice_get}
 use mathlib.Core.Logic.{dite}
 use native.Mathlib.Decide.{ℕ_discrete}
-use Rattle.gits_regs.specs.Registers.{Registers, Written, write_ctlr, write_cbaser, write_cwriter, write_baser0, write_baser1, write_64, write_word, write_reg, is_32, kept_offset, queue_size, has_bases, low_half, read_64, with_low_half, with_high_half}
+use Rattle.gits_regs.specs.Registers.{Registers, Written, write_ctlr, write_cbaser, write_cwriter, write_baser0, write_baser1, write_64, write_word, write_reg}
+use Rattle.gits_regs.specs.Registers.{is_32, kept_offset, queue_size, has_bases, low_half, read_64, with_low_half, with_high_half}
 use Rattle.its_types.specs.Bits.{bit_of}
 use Rattle.its_command.specs.Commands.{decoded}
 use Rattle.its_command.specs.declared.command.Command.{Command}
@@ -38,7 +40,8 @@ record Empties (w : Written) : Type 0 where
 module _ (r : Registers) (on : r.enabled ≡ true) where
   ctlr : (value : ℕ) → Empties (write_ctlr r value)
   unfolding write_ctlr
-  ctlr value = cond_both (bit_of value 0) _ _ Empties (λ _. cond_both (not r.enabled && has_bases r) _ _ Empties (λ _. record { none = λ m. refl }) (λ _. record { none = λ m. refl })) (λ _. cond_both r.enabled _ _ Empties (λ _. record { none = λ m. refl }) (λ _. record { none = λ m. refl }))
+  ctlr value = cond_both (bit_of value 0) _ _ Empties (λ _. cond_both (not r.enabled && has_bases r) _ _ Empties (λ _. record { none = λ m. refl })
+      (λ _. record { none = λ m. refl })) (λ _. cond_both r.enabled _ _ Empties (λ _. record { none = λ m. refl }) (λ _. record { none = λ m. refl }))
 
   cbaser : (value : ℕ) → Empties (write_cbaser r value)
   unfolding write_cbaser
@@ -46,7 +49,8 @@ module _ (r : Registers) (on : r.enabled ≡ true) where
 
   cwriter : (value : ℕ) → Empties (write_cwriter r value)
   unfolding write_cwriter
-  cwriter value = cond_both (nat_lt (kept_offset value) (queue_size r) && not (eqb r.cwriter (kept_offset value))) _ _ Empties (λ _. record { none = λ m. refl }) (λ _. record { none = λ m. refl })
+  cwriter value = cond_both (nat_lt (kept_offset value) (queue_size r) && not (eqb r.cwriter (kept_offset value))) _ _ Empties
+      (λ _. record { none = λ m. refl }) (λ _. record { none = λ m. refl })
 
   baser0 : (value : ℕ) → Empties (write_baser0 r value)
   unfolding write_baser0
@@ -73,7 +77,8 @@ module _ (r : Registers) (on : r.enabled ≡ true) where
 
   keeps_maps : (off size value : ℕ) → Empties (write_reg r off size value)
   unfolding write_reg
-  keeps_maps off size value = cond_both (nat_eq size 8) _ _ Empties (λ _. sixty_four off value) (λ _. cond_both (nat_eq size 4) _ _ Empties (λ _. word off (low_half value)) (λ _. record { none = λ m. refl }))
+  keeps_maps off size value = cond_both (nat_eq size 8) _ _ Empties (λ _. sixty_four off value)
+      (λ _. cond_both (nat_eq size 4) _ _ Empties (λ _. word off (low_half value)) (λ _. record { none = λ m. refl }))
 
 -- ---- calls
 
@@ -83,7 +88,8 @@ turned_off true false dev ev on n = absurd (n tt)
 turned_off false b dev ev on n = absurd cc
 
 module _ (u : Plain) (i : ℕ) where
-  written_lasts : (off size value : ℕ) → Lasts u (written u i off size value) i (if (regs_of u i).enabled && not (write_reg (regs_of u i) off size value).regs.enabled then All else Nothing)
+  written_lasts : (off size value : ℕ) → Lasts u (written u i off size value) i
+      (if (regs_of u i).enabled && not (write_reg (regs_of u i) off size value).regs.enabled then All else Nothing)
   unfolding written
   written_lasts off size value =
       let w : Written = write_reg (regs_of u i) off size value in
@@ -91,9 +97,19 @@ module _ (u : Plain) (i : ℕ) where
       lasts_translator u u i e (translator_written (translator u i) w) (lasts_self u i e)
       (λ dev ev t n r.
       subst (λ (m : MapsOf). Route w.regs.enabled m dev ev t) (sym ((keeps_maps (regs_of u i) r.on off size value).none (maps_of u i)))
-      record { on = turned_off (regs_of u i).enabled w.regs.enabled dev ev r.on n; device = r.device; device_is = r.device_is; event = r.event; event_is = r.event_is; vcpu = r.vcpu; vcpu_is = r.vcpu_is; target_is = r.target_is })
+      record {
+        on = turned_off (regs_of u i).enabled w.regs.enabled dev ev r.on n;
+        device = r.device;
+        device_is = r.device_is;
+        event = r.event;
+        event_is = r.event_is;
+        vcpu = r.vcpu;
+        vcpu_is = r.vcpu_is;
+        target_is = r.target_is;
+      })
 
-  took : (c : Command) (r : Result Plain Reason) → LastsOk u i (ending_in (maps_of u i) c) r → Lasts u (went_on i (command_left u r)) i (ending_ran (maps_of u i) c r)
+  took : (c : Command) (r : Result Plain Reason) → LastsOk u i (ending_in (maps_of u i) c) r → Lasts u (went_on i (command_left u r)) i
+      (ending_ran (maps_of u i) c r)
   took c (Ok w) l = lasts_advanced u w i (ending_in (maps_of u i) c) l
   took c (Err reason) l = lasts_advanced u u i Nothing (lasts_self u i Nothing)
 
@@ -130,7 +146,8 @@ ends_or_not Nothing dev ev = inr (λ x. x)
 ends_or_not All dev ev = inl tt
 ends_or_not (Pair d v) dev ev = dite (ℕ_discrete dev d) (λ a. dite (ℕ_discrete ev v) (λ b. inl (a, b)) (λ ne. inr (λ x. ne x.1))) (λ ne. inr (λ x. ne x.0))
 
-module _ (s : Setup) (u : Plain) (a : Commit) (its : ℕ) (owed : List Held) (gone : (dev ev : ℕ) → its ≡ its_of a.call → Ends (ending_of u a.call) dev ev → IsWithout s its dev ev owed) where
+module _ (s : Setup) (u : Plain) (a : Commit) (its : ℕ) (owed : List Held) (gone : (dev ev : ℕ) → its ≡ its_of a.call → Ends (ending_of u a.call) dev ev
+    → IsWithout s its dev ev owed) where
   abbrev z : Plain
   z = left u a.call a.reply
 
@@ -141,20 +158,27 @@ module _ (s : Setup) (u : Plain) (a : Commit) (its : ℕ) (owed : List Held) (go
   maps_steady dev ev t e = dite (ℕ_discrete its (its_of a.call))
       (λ own. elim (ends_or_not (ending_of u a.call) dev ev) [
         | inl ends ↦ inr (gone dev ev own ends)
-        | inr lasts ↦ inl (subst (λ (i : ℕ). located (translator z i) dev ev ≡ Ok t) (sym own) (l.own dev ev t lasts (subst (λ (i : ℕ). located (translator u i) dev ev ≡ Ok t) own e)))
+        | inr lasts ↦ inl (subst (λ (i : ℕ). located (translator z i) dev ev ≡ Ok t) (sym own)
+            (l.own dev ev t lasts (subst (λ (i : ℕ). located (translator u i) dev ev ≡ Ok t) own e)))
       ])
       (λ ne. inl (subst (λ (x : Translator). located x dev ev ≡ Ok t) (l.others its ne) e))
 
   steady_one : (p : Part) (x : Content) → (Suits p x → Has u p x) → IsSteady s its owed p x (content_in s a z p x)
   steady_one (part.Maps i) (Maps t) h = λ is dev ev target e.
       subst (λ (j : ℕ). (located (translator z j) dev ev ≡ Ok target) ⊎ IsWithout s its dev ev owed) (sym is)
-      (maps_steady dev ev target (subst (λ (y : Translator). located y dev ev ≡ Ok target) (sym (get_or_from_slice_get u.translators i t no_translator (h tt)) ∙ ap (translator u) is) e))
-  steady_one (part.Redist vcpu) (Redist r) h = λ on. l.on vcpu.0 (ap (λ (y : Redistributor). y.bases.on) (get_or_from_slice_get u.redistributors vcpu.0 r no_redistributor (h tt)) ∙ on)
+      (maps_steady dev ev target (subst (λ (y : Translator). located y dev ev ≡ Ok target) (sym (get_or_from_slice_get u.translators i t no_translator (h tt))
+      ∙ ap (translator u) is) e))
+  steady_one (part.Redist vcpu) (Redist r) h = λ on.
+      l.on vcpu.0 (ap (λ (y : Redistributor). y.bases.on) (get_or_from_slice_get u.redistributors vcpu.0 r no_redistributor (h tt)) ∙ on)
   steady_one p x h = tt
 
   pub steady_all : (held : List Held) → ((p : Part) (x : Content) → Suits p x → Owes p x held → Has u p x) → AreSteady s its owed held (renewed s a z held)
   steady_all [] has = tt
-  steady_all (x ∷ xs) has = (steady_one x.part x.owed (λ suits. has x.part x.owed suits (inl (refl, refl))), steady_all xs (λ p y suits o. has p y suits (inr o)))
+  steady_all (x ∷ xs) has = (
+    steady_one x.part x.owed (λ suits. has x.part x.owed suits (inl (refl, refl))),
+    steady_all xs
+        (λ p y suits o. has p y suits (inr o)),
+  )
 
 pub dropped_endings : EndingsAreDropped
 dropped_endings s u a its owed held has gone = steady_all s u a its owed gone held (λ p x suits o. had u held has p x o)

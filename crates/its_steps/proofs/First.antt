@@ -1,5 +1,6 @@
 -- The first world is good.
-use Rattle.std.proofs.Common.{◌≡◌, ℕ, zero, suc, ◌+◌, ◌*◌, ◌<◌, List, [], ◌∷◌, ◌++◌, length, map, get_or, replicate, Some, None, refl, ap, sym, ◌∙◌, subst, inl, inr, arith, length-append}
+use Rattle.std.proofs.Common.{◌≡◌, ℕ, zero, suc, ◌+◌, ◌*◌, ◌<◌, List, [], ◌∷◌, ◌++◌, length, map, get_or, replicate, Some, None, refl, ap, sym, ◌∙◌, subst}
+use Rattle.std.proofs.Common.{inl, inr, arith, length-append}
 use Rattle.std.proofs.lemmas.List.{length-map, length-replicate, get_or-replicate, get_or_past}
 use Rattle.std.proofs.lemmas.Bool.{cases_lt}
 use Rattle.std.proofs.lemmas.Option.{slice_get-get_or, get_or_from_slice_get}
@@ -32,7 +33,8 @@ some_at : {A : Type 0} (xs : List A) (i : ℕ) (d : A) → i < length xs → get
 some_at xs i d lt = at_index xs i (get_or xs i d) lt (sym (get_or_from_slice_get xs i (get_or xs i d) (get_or xs i d) (slice_get-get_or xs i d lt)))
 
 copies_at : {A : Type 0} (n i : ℕ) (a : A) → i < n → get_elem? (replicate n a) i ≡ some a
-copies_at {A = A} n i a lt = let long : length (replicate n a) ≡ n = length-replicate {A = A} n a in at_index (replicate n a) i a (omega (arith, lt, long)) (sym (get_or-replicate n i a a lt))
+copies_at {A = A} n i a lt = let long : length (replicate n a) ≡ n = length-replicate {A = A} n a in at_index (replicate n a) i a (omega (arith, lt, long))
+    (sym (get_or-replicate n i a a lt))
 
 nothing : (s : Setup) (its n : ℕ) (e : Translation) (i : ℕ) → get_or no_entries i None ≡ Some e → ⊥
 nothing s its n e i there = let t : None ≡ Some e = sym (none_at i) ∙ there in cc
@@ -57,7 +59,14 @@ module _ (s : Setup) (sound : IsSound s.start) where
   redists_long = length-map s.start.redistributors (λ r. some (Redist r)) ∙ sound.vcpus
 
   pub slots_long : length (first_slots s) ≡ part_count s
-  slots_long = omega (arith, length-append maps (some (Mem s.start.memory) ∷ (shards ++ redists)), length-append shards redists, maps_long, shards_long, redists_long)
+  slots_long = omega (
+    arith,
+    length-append maps (some (Mem s.start.memory) ∷ (shards ++ redists)),
+    length-append shards redists,
+    maps_long,
+    shards_long,
+    redists_long,
+  )
 
   first_home : (p : Part) → Stands s p → IsHome s first_word s.start (first_slots s) p
   first_home (part.Maps its) st = record {
@@ -73,17 +82,21 @@ module _ (s : Setup) (sound : IsSound s.start) where
   }
   first_home (part.Shard its n) st = record {
     content = Shard no_entries;
-    slot = past maps (some (Mem s.start.memory) ∷ (shards ++ redists)) (translator_count s + 1 + (its * s.shards + n)) (suc (its * s.shards + n)) (some (Shard no_entries)) (omega (arith, maps_long))
-        (at_longer shards redists (its * s.shards + n) (some (Shard no_entries)) (copies_at (translator_count s * s.shards) (its * s.shards + n) (some (Shard no_entries)) (row_below (translator_count s) s.shards its n st.0 st.1)));
+    slot = past maps (some (Mem s.start.memory) ∷ (shards ++ redists)) (translator_count s + 1 + (its * s.shards + n)) (suc (its * s.shards + n))
+        (some (Shard no_entries)) (omega (arith, maps_long))
+        (at_longer shards redists (its * s.shards + n) (some (Shard no_entries)) (copies_at (translator_count s * s.shards) (its * s.shards + n)
+        (some (Shard no_entries)) (row_below (translator_count s) s.shards its n st.0 st.1)));
     right = record { shard = empty_shard; entries = λ i e there. absurd (nothing s its n e i there) };
   }
   first_home (part.Redist vcpu) st =
       let inside : vcpu.0 < length s.start.redistributors = omega (arith, st, sound.vcpus) in
       record {
         content = Redist (redistributor s.start vcpu.0);
-        slot = past maps (some (Mem s.start.memory) ∷ (shards ++ redists)) (translator_count s + 1 + translator_count s * s.shards + vcpu.0) (suc (translator_count s * s.shards + vcpu.0)) (some (Redist (redistributor s.start vcpu.0))) (omega (arith, maps_long))
+        slot = past maps (some (Mem s.start.memory) ∷ (shards ++ redists)) (translator_count s + 1 + translator_count s * s.shards + vcpu.0)
+            (suc (translator_count s * s.shards + vcpu.0)) (some (Redist (redistributor s.start vcpu.0))) (omega (arith, maps_long))
             (past shards redists (translator_count s * s.shards + vcpu.0) vcpu.0 (some (Redist (redistributor s.start vcpu.0))) (omega (arith, shards_long))
-            (at_map (λ r. some (Redist r)) s.start.redistributors vcpu.0 (redistributor s.start vcpu.0) (some_at s.start.redistributors vcpu.0 no_redistributor inside)));
+            (at_map (λ r. some (Redist r)) s.start.redistributors vcpu.0 (redistributor s.start vcpu.0)
+            (some_at s.start.redistributors vcpu.0 no_redistributor inside)));
         right = slice_get-get_or s.start.redistributors vcpu.0 no_redistributor inside;
       }
 
@@ -111,19 +124,30 @@ module _ (s : Setup) (sound : IsSound s.start) where
 
   first_good : Good s [] (first_world s)
   first_good = record {
-    history = record { sound = sound; legal = tt; place = refl; within = record { place = omega arith; stamps = λ its lt. omega (arith, stamp_zero (translator_count s) its) } };
+    history = record {
+      sound = sound;
+      legal = tt;
+      place = refl;
+      within = record { place = omega arith; stamps = λ its lt. omega (arith, stamp_zero (translator_count s) its) };
+    };
     seat = λ n. n;
     root = none_yet;
     numbers = record {
       bound = omega arith;
       first = record { view = first_view s; at = refl; passes = refl; is = (refl, refl) };
-      each = λ n lt. let z : 0 ≡ n = omega (arith, lt) in inl record { view = first_view s; at = ap (get_elem? (first_view s ∷ [])) (sym z); passes = refl; is = z };
+      each = λ n lt. let z : 0 ≡ n = omega (arith, lt) in inl record {
+        view = first_view s;
+        at = ap (get_elem? (first_view s ∷ [])) (sym z);
+        passes = refl;
+        is = z;
+      };
       distinct = tt;
       whole = tt;
       calls = tt;
       latest = (0, omega arith, record { view = first_view s; at = refl; passes = refl; is = refl });
     };
-    views = λ i v e pv. let o = one_view i v e in subst (λ (x : ℕ × View). IsPass s [] first_word (replicate (part_count s) 0) (first_slots s) (λ n. n) none_yet x.0 x.1) (λ d. (sym o.0 d, o.1 d)) first_pass;
+    views = λ i v e pv. let o = one_view i v e in subst (λ (x : ℕ × View). IsPass s [] first_word (replicate (part_count s) 0) (first_slots s)
+        (λ n. n) none_yet x.0 x.1) (λ d. (sym o.0 d, o.1 d)) first_pass;
     notes = λ i v e nv. absurd (no_pass v nv (ap (λ (x : View). x.standing) (sym (one_view i v e).1)));
     parts = record {
       wide = record { each_turn = length-replicate {A = ℕ} (part_count s) 0; each_slot = slots_long };

@@ -20,7 +20,8 @@ use Rattle.its_steps.proofs.Caches.{d, m', vcpus, translator_held, redist_held, 
 use Rattle.its_steps.proofs.Does.{Does}
 use Rattle.its_steps.proofs.Owed.{owes_holds, same_renewed, all_renewed}
 
-module _ (s : Setup) (a : Commit) (held : List Held) (may : MayCall s a held) (u : Plain) (m : IsOfMachine s u) (right : AllByRecursion (IsRight s a.expected u) held) where
+module _ (s : Setup) (a : Commit) (held : List Held) (may : MayCall s a held) (u : Plain) (m : IsOfMachine s u)
+    (right : AllByRecursion (IsRight s a.expected u) held) where
   abbrev to : Word
   to = word_after a
 
@@ -61,11 +62,19 @@ module _ (s : Setup) (a : Commit) (held : List Held) (may : MayCall s a held) (u
     others = λ p x st n is. other_right p x st n is;
   }
 
-most : (s : Setup) (a : Commit) (held : List Held) (may : MayCall s a held) (its : ℕ) → its < translator_count s → stamp_of s a.expected its ≤ s.limits.stamp_last → stamp_of s (word_after a) its ≤ s.limits.stamp_last
+most : (s : Setup) (a : Commit) (held : List Held) (may : MayCall s a held) (its : ℕ) → its < translator_count s
+    → stamp_of s a.expected its ≤ s.limits.stamp_last → stamp_of s (word_after a) its ≤ s.limits.stamp_last
 most s a held may its lt le = ⊎_elim
     (λ (t : StampStays s a its held (renewal s a held)). omega (arith, t.same, le))
     (λ rest. ⊎_elim (λ (t : StampRises s a its held). t.most) (λ (t : StampRenews s a its held (renewal s a held)). omega (arith, t.zero)) rest)
     (may.stamps its lt)
 
 pub holders : HoldersMayCommit
-holders s a held may = record { room = may.room; stamps = most s a held may; out = may.out; same = same_renewed s a (left (assembled s held) a.call a.reply) held may.out; answers = λ u m right. answers s a held may u m right }
+holders s a held may = record {
+  room = may.room;
+  stamps = most s a held may;
+  out = may.out;
+  same = same_renewed s a (left (assembled s held) a.call a.reply)
+      held may.out;
+  answers = λ u m right. answers s a held may u m right;
+}

@@ -1,5 +1,6 @@
 -- What each command leaves of where messages go.
-use Rattle.std.proofs.Common.{◌≡◌, ℕ, zero, suc, Bool, true, false, ◌&&◌, nat_lt, nat_le, eqb, ◌^◌, List, [], ◌∷◌, map, get_or, Option, Some, None, is_some, Result, Ok, Err, refl, ap, sym, ◌∙◌, subst, if◌then◌else◌, get_or-set_same, get_or-set_other}
+use Rattle.std.proofs.Common.{◌≡◌, ℕ, zero, suc, Bool, true, false, ◌&&◌, nat_lt, nat_le, eqb, ◌^◌, List, [], ◌∷◌, map, get_or, Option, Some, None, is_some}
+use Rattle.std.proofs.Common.{Result, Ok, Err, refl, ap, sym, ◌∙◌, subst, if◌then◌else◌, get_or-set_same, get_or-set_other}
 use Rattle.std.specs.Option.{ok_or}
 use Rattle.std.proofs.lemmas.Bool.{cond_both}
 use Rattle.guest_windows.specs.Windows.{Window, byte_at}
@@ -10,22 +11,27 @@ use Rattle.its_command.specs.declared.command.Command.TheVariants as command
 use Rattle.gicr_regs.specs.Redistributors.{all_reread_at, reread_at}
 use Rattle.its_types.specs.Ranges.{is_device_id, is_lpi}
 use Rattle.its_types.specs.Lpis.{is_pending, with_lpi, with_lpis, without_lpi, with_config_byte}
-use Rattle.its_types.specs.Maps.{Maps, device_of, event_of, collection_of, device_mapped, device_unmapped, event_mapped, event_unmapped, collection_mapped, collection_unmapped}
+use Rattle.its_types.specs.Maps.{Maps, device_of, event_of, collection_of, device_mapped, device_unmapped, event_mapped, event_unmapped, collection_mapped}
+use Rattle.its_types.specs.Maps.{collection_unmapped}
 use Rattle.its_types.specs.declared.ids.Target.{Target}
 use Rattle.its_types.specs.declared.ids.Vcpu.{Vcpu}
 use Rattle.its_types.specs.declared.machine.Profile.{Profile}
 use Rattle.its_types.specs.declared.machine.Profile.TheVariants.{One, Two}
 use Rattle.its_types.specs.declared.translation.Bases.{Bases}
 use Rattle.its_types.specs.declared.translation.Event.{Event}
-use Rattle.its_plain.specs.Plain.{Plain, Translator, Redistributor, translator, redistributor, no_translator, no_redistributor, regs_of, maps_of, pending_of, is_on, with_translator, with_maps, with_pending}
+use Rattle.its_plain.specs.Plain.{Plain, Translator, Redistributor, translator, redistributor, no_translator, no_redistributor, regs_of, maps_of, pending_of}
+use Rattle.its_plain.specs.Plain.{is_on, with_translator, with_maps, with_pending}
 use Rattle.its_plain.specs.Translation.{located}
-use Rattle.its_plain.specs.Commands.{◌>>=◌, ensure, lpi_set, lpi_cleared, lpi_moved, lpis_moved, all_moved, reread, event_at, target_at, intids_of, mapd, unmapd, followed, followed_in, mapc, unmapc, mapti, movi, lpi_at, int, clear, cleared_at, discard, inv, invall, movall, ran}
+use Rattle.its_plain.specs.Commands.{◌>>=◌, ensure, lpi_set, lpi_cleared, lpi_moved, lpis_moved, all_moved, reread, event_at, target_at, intids_of, mapd}
+use Rattle.its_plain.specs.Commands.{unmapd, followed, followed_in, mapc, unmapc, mapti, movi, lpi_at, int, clear, cleared_at, discard, inv, invall, movall}
+use Rattle.its_plain.specs.Commands.{ran}
 use Rattle.its_plain.specs.declared.call.Reason.{Reason}
 use Rattle.its_plain.specs.declared.call.Reason.TheVariants.{DeviceRange, SizeRange, TargetRange, CollectionRange, NoDevice, EventRange, IntidRange, LpisOff}
 use Rattle.plain_soundness.proofs.States.{enabled_within}
 use Rattle.its_steps.specs.Endings.{Ending, Nothing, Pair, All, ending_in, Ends, Lasts}
 use Rattle.its_steps.proofs.Leaving.{Leaves, all_left, leaves_if, one_redist, reread_bases}
-use Rattle.its_steps.proofs.Routes.{Route, route_of, located_by, with_device, without_device, with_other_event, with_event, without_event, with_collection, without_collection}
+use Rattle.its_steps.proofs.Routes.{Route, route_of, located_by, with_device, without_device, with_other_event, with_event, without_event, with_collection}
+use Rattle.its_steps.proofs.Routes.{without_collection}
 
 -- ---- pending LPIs and configurations: no map changes
 
@@ -38,18 +44,22 @@ pending_left a v xs = one_redist a v (record (redistributor a v) { pending = xs 
 moved_left : (a : Plain) (x from to : ℕ) → Leaves a (lpi_moved x from to a)
 moved_left a x from to =
     let b : Plain = lpi_cleared x from a in
-    leaves_if a (lpi_set x to b) a (is_pending x (pending_of a from)) (leaves_then a b (lpi_set x to b) (pending_left a from (without_lpi x (pending_of a from))) (pending_left b to (with_lpi x (pending_of b to)))) (all_left a)
+    leaves_if a (lpi_set x to b) a (is_pending x (pending_of a from))
+    (leaves_then a b (lpi_set x to b) (pending_left a from (without_lpi x (pending_of a from))) (pending_left b to (with_lpi x (pending_of b to))))
+    (all_left a)
 
 lpis_left : (xs : List ℕ) (from to : ℕ) (a : Plain) → Leaves a (lpis_moved xs from to a)
 lpis_left [] from to a = all_left a
-lpis_left (x ∷ xs) from to a = leaves_then a (lpi_moved x from to a) (lpis_moved xs from to (lpi_moved x from to a)) (moved_left a x from to) (lpis_left xs from to (lpi_moved x from to a))
+lpis_left (x ∷ xs) from to a = leaves_then a (lpi_moved x from to a) (lpis_moved xs from to (lpi_moved x from to a)) (moved_left a x from to)
+    (lpis_left xs from to (lpi_moved x from to a))
 
 all_moved_left : (from to : ℕ) (a : Plain) → Leaves a (all_moved from to a)
 unfolding all_moved
 all_moved_left from to a =
     let b : Plain = with_pending a from [] in
     leaves_if a a (with_pending b to (with_lpis (pending_of a from) (pending_of a to))) (eqb from to) (all_left a)
-    (leaves_then a b (with_pending b to (with_lpis (pending_of a from) (pending_of a to))) (pending_left a from []) (pending_left b to (with_lpis (pending_of a from) (pending_of a to))))
+    (leaves_then a b (with_pending b to (with_lpis (pending_of a from) (pending_of a to))) (pending_left a from [])
+    (pending_left b to (with_lpis (pending_of a from) (pending_of a to))))
 
 cleared_left : (x : ℕ) (o : Option Vcpu) (a : Plain) → Leaves a (cleared_at x o a)
 cleared_left x None a = all_left a
@@ -59,13 +69,18 @@ all_reread_bases : (memory : List Window) (intids : List ℕ) (r : Redistributor
 all_reread_bases memory [] r = refl
 all_reread_bases memory (intid ∷ intids) r = all_reread_bases memory intids (reread_at memory intid r) ∙ reread_bases memory intid r
 
-mapped_bases : (f : Redistributor → Redistributor) → ((r : Redistributor) → (f r).bases ≡ r.bases) → (rs : List Redistributor) (v : ℕ) → (get_or rs v no_redistributor).bases ≡ (get_or (map f rs) v no_redistributor).bases
+mapped_bases : (f : Redistributor → Redistributor) → ((r : Redistributor) → (f r).bases ≡ r.bases) → (rs : List Redistributor) (v : ℕ)
+    → (get_or rs v no_redistributor).bases ≡ (get_or (map f rs) v no_redistributor).bases
 mapped_bases f same [] v = refl
 mapped_bases f same (r ∷ rs) zero = sym (same r)
 mapped_bases f same (r ∷ rs) (suc v) = mapped_bases f same rs v
 
 reread_left : (intids : List ℕ) (a : Plain) → Leaves a (reread intids a)
-reread_left intids a = record { maps = λ i. refl; on = λ v on. ap (λ (b : Bases). b.on) (sym (mapped_bases (all_reread_at a.memory intids) (all_reread_bases a.memory intids) a.redistributors v)) ∙ on }
+reread_left intids a = record {
+  maps = λ i. refl;
+  on = λ v on. ap (λ (b : Bases). b.on)
+      (sym (mapped_bases (all_reread_at a.memory intids) (all_reread_bases a.memory intids) a.redistributors v)) ∙ on;
+}
 
 -- ---- what lasts
 
@@ -81,22 +96,35 @@ lasts_then u w z i e l k = record {
 
 -- the translator is another one, by which the routes lead as before
 pub lasts_translator : (u w : Plain) (i : ℕ) (e : Ending) (x : Translator) → Lasts u w i e
-    → ((dev ev : ℕ) (t : Target) → ¬ Ends e dev ev → Route (translator w i).regs.enabled (translator w i).maps dev ev t → Route x.regs.enabled x.maps dev ev t) → Lasts u (with_translator w i x) i e
+    → ((dev ev : ℕ) (t : Target) → ¬ Ends e dev ev → Route (translator w i).regs.enabled (translator w i).maps dev ev t → Route x.regs.enabled x.maps dev ev t)
+    → Lasts u (with_translator w i x) i e
 lasts_translator u w i e x l f = record {
   own = λ dev ev t n loc.
       let r = route_of (translator w i) dev ev t (l.own dev ev t n loc) in
-      subst (λ (y : Translator). located y dev ev ≡ Ok t) (sym (get_or-set_same w.translators i x no_translator (enabled_within w i r.on))) (located_by x dev ev t (f dev ev t n r));
+      subst (λ (y : Translator). located y dev ev ≡ Ok t) (sym (get_or-set_same w.translators i x no_translator (enabled_within w i r.on)))
+      (located_by x dev ev t (f dev ev t n r));
   others = λ j ne. l.others j ne ∙ sym (get_or-set_other w.translators i j x no_translator ne);
   on = l.on;
 }
 
 lasts_maps : (u w : Plain) (i : ℕ) (e : Ending) (m : Maps) → Lasts u w i e
-    → ((dev ev : ℕ) (t : Target) → ¬ Ends e dev ev → Route (translator w i).regs.enabled (maps_of w i) dev ev t → Route (translator w i).regs.enabled m dev ev t) → Lasts u (with_maps w i m) i e
+    → ((dev ev : ℕ) (t : Target) → ¬ Ends e dev ev → Route (translator w i).regs.enabled (maps_of w i) dev ev t
+    → Route (translator w i).regs.enabled m dev ev t) → Lasts u (with_maps w i m) i e
 lasts_maps u w i e m l f = lasts_translator u w i e (record (translator w i) { maps = m }) l f
 
-pub lasts_advanced : (u w : Plain) (i : ℕ) (e : Ending) → Lasts u w i e → Lasts u (with_translator w i (record (translator w i) { regs = advanced (regs_of w i) })) i e
+pub lasts_advanced : (u w : Plain) (i : ℕ) (e : Ending) → Lasts u w i e
+    → Lasts u (with_translator w i (record (translator w i) { regs = advanced (regs_of w i) })) i e
 lasts_advanced u w i e l = lasts_translator u w i e (record (translator w i) { regs = advanced (regs_of w i) }) l
-    (λ dev ev t n r. record { on = r.on; device = r.device; device_is = r.device_is; event = r.event; event_is = r.event_is; vcpu = r.vcpu; vcpu_is = r.vcpu_is; target_is = r.target_is })
+    (λ dev ev t n r. record {
+      on = r.on;
+      device = r.device;
+      device_is = r.device_is;
+      event = r.event;
+      event_is = r.event_is;
+      vcpu = r.vcpu;
+      vcpu_is = r.vcpu_is;
+      target_is = r.target_is;
+    })
 
 -- where a test decides whether all may end
 unless_all : (b : Bool) (dev ev : ℕ) (P : Type 0) → (b ≡ false → P) → ¬ Ends (if b then All else Nothing) dev ev → P
@@ -109,7 +137,8 @@ abbrev pub LastsOk : Plain → ℕ → Ending → Result Plain Reason → Type 0
 LastsOk u i e (Ok w) = Lasts u w i e
 LastsOk u i e (Err r) = Unit {0}
 
-ok_then : {A : Type 0} (u : Plain) (i : ℕ) (e : Ending) (x : Result A Reason) (f : A → Result Plain Reason) → ((a : A) → LastsOk u i e (f a)) → LastsOk u i e (x >>= f)
+ok_then : {A : Type 0} (u : Plain) (i : ℕ) (e : Ending) (x : Result A Reason) (f : A → Result Plain Reason) → ((a : A) → LastsOk u i e (f a))
+    → LastsOk u i e (x >>= f)
 ok_then u i e (Ok a) f h = h a
 ok_then u i e (Err r) f h = tt
 
@@ -128,7 +157,8 @@ module _ (u : Plain) (i : ℕ) where
       let x : Event = record event { icid = record { 0 = icid } } in
       let w : Plain = with_maps u i (event_mapped m dev ev x) in
       lasts_then u w (lpi_moved event.intid.0 from.0 to.0 w) i e
-      (lasts_maps u u i e (event_mapped m dev ev x) (lasts_self u i e) (λ d v t n r. with_other_event (translator u i).regs.enabled m d v t r dev ev x n)) (moved_left w event.intid.0 from.0 to.0)))))
+      (lasts_maps u u i e (event_mapped m dev ev x) (lasts_self u i e) (λ d v t n r. with_other_event (translator u i).regs.enabled m d v t r dev ev x n))
+      (moved_left w event.intid.0 from.0 to.0)))))
 
   discard_lasts : (dev ev : ℕ) → LastsOk u i (Pair dev ev) (discard u i dev ev)
   unfolding discard
@@ -137,29 +167,35 @@ module _ (u : Plain) (i : ℕ) where
       ok_then u i e (event_at m dev ev) _ (λ event.
       let w : Plain = with_maps u i (event_unmapped m dev ev) in
       lasts_then u w (cleared_at event.intid.0 (collection_of m event.icid.0) w) i e
-      (lasts_maps u u i e (event_unmapped m dev ev) (lasts_self u i e) (λ d v t n r. without_event (translator u i).regs.enabled m d v t r dev ev n)) (cleared_left event.intid.0 (collection_of m event.icid.0) w))
+      (lasts_maps u u i e (event_unmapped m dev ev) (lasts_self u i e) (λ d v t n r. without_event (translator u i).regs.enabled m d v t r dev ev n))
+      (cleared_left event.intid.0 (collection_of m event.icid.0) w))
 
   int_lasts : (dev ev : ℕ) → LastsOk u i Nothing (int u i dev ev)
   unfolding int
-  int_lasts dev ev = ok_then u i Nothing (lpi_at u i dev ev) _ (λ lpi. lasts_then u u (lpi_set lpi.0.0 lpi.1.0 u) i Nothing (lasts_self u i Nothing) (pending_left u lpi.1.0 (with_lpi lpi.0.0 (pending_of u lpi.1.0))))
+  int_lasts dev ev = ok_then u i Nothing (lpi_at u i dev ev) _ (λ lpi. lasts_then u u (lpi_set lpi.0.0 lpi.1.0 u) i Nothing (lasts_self u i Nothing)
+      (pending_left u lpi.1.0 (with_lpi lpi.0.0 (pending_of u lpi.1.0))))
 
   clear_lasts : (dev ev : ℕ) → LastsOk u i Nothing (clear u i dev ev)
   unfolding clear
-  clear_lasts dev ev = ok_then u i Nothing (lpi_at u i dev ev) _ (λ lpi. lasts_then u u (lpi_cleared lpi.0.0 lpi.1.0 u) i Nothing (lasts_self u i Nothing) (pending_left u lpi.1.0 (without_lpi lpi.0.0 (pending_of u lpi.1.0))))
+  clear_lasts dev ev = ok_then u i Nothing (lpi_at u i dev ev) _ (λ lpi. lasts_then u u (lpi_cleared lpi.0.0 lpi.1.0 u) i Nothing (lasts_self u i Nothing)
+      (pending_left u lpi.1.0 (without_lpi lpi.0.0 (pending_of u lpi.1.0))))
 
   inv_lasts : (dev ev : ℕ) → LastsOk u i Nothing (inv u i dev ev)
   unfolding inv
-  inv_lasts dev ev = ok_then u i Nothing (event_at m dev ev) _ (λ event. lasts_then u u (reread (event.intid.0 ∷ []) u) i Nothing (lasts_self u i Nothing) (reread_left (event.intid.0 ∷ []) u))
+  inv_lasts dev ev = ok_then u i Nothing (event_at m dev ev) _ (λ event. lasts_then u u (reread (event.intid.0 ∷ []) u) i Nothing (lasts_self u i Nothing)
+      (reread_left (event.intid.0 ∷ []) u))
 
   invall_lasts : (icid : ℕ) → LastsOk u i Nothing (invall u i icid)
   unfolding invall
-  invall_lasts icid = ok_then u i Nothing (target_at m icid) _ (λ _. lasts_then u u (reread (intids_of m icid) u) i Nothing (lasts_self u i Nothing) (reread_left (intids_of m icid) u))
+  invall_lasts icid = ok_then u i Nothing (target_at m icid) _ (λ _. lasts_then u u (reread (intids_of m icid) u) i Nothing (lasts_self u i Nothing)
+      (reread_left (intids_of m icid) u))
 
   movall_lasts : (from to : ℕ) → LastsOk u i Nothing (movall u from to)
   unfolding movall
   movall_lasts from to =
       ok_then u i Nothing (ensure (nat_lt from u.layout.shape.vcpus && nat_lt to u.layout.shape.vcpus) TargetRange) _ (λ _.
-      ok_then u i Nothing (ensure (is_on u from && is_on u to) LpisOff) _ (λ _. lasts_then u u (all_moved from to u) i Nothing (lasts_self u i Nothing) (all_moved_left from to u)))
+      ok_then u i Nothing (ensure (is_on u from && is_on u to) LpisOff) _ (λ _. lasts_then u u (all_moved from to u) i Nothing (lasts_self u i Nothing)
+      (all_moved_left from to u)))
 
   mapti_lasts : (dev ev intid icid : ℕ) → LastsOk u i Nothing (mapti u i dev ev intid icid)
   unfolding mapti
@@ -172,7 +208,8 @@ module _ (u : Plain) (i : ℕ) where
       ok_then u i Nothing (ensure (nat_lt icid (collection_places (regs_of u i))) CollectionRange) _ (λ _.
       cond_both (is_some (event_of m dev ev)) u (reread (intid ∷ []) w) (λ (z : Plain). Lasts u z i Nothing) (λ _. lasts_self u i Nothing)
       (λ none. lasts_then u w (reread (intid ∷ []) w) i Nothing
-      (lasts_maps u u i Nothing (event_mapped m dev ev x) (lasts_self u i Nothing) (λ d v t n r. with_event (translator u i).regs.enabled m d v t r dev ev x none)) (reread_left (intid ∷ []) w))))))
+      (lasts_maps u u i Nothing (event_mapped m dev ev x) (lasts_self u i Nothing)
+      (λ d v t n r. with_event (translator u i).regs.enabled m d v t r dev ev x none)) (reread_left (intid ∷ []) w))))))
 
   -- ---- devices and collections
 
@@ -183,7 +220,8 @@ module _ (u : Plain) (i : ℕ) where
       ok_then u i e (ensure (is_some (device_place (regs_of u i) u.memory dev)) DeviceRange) _ (λ _.
       ok_then u i e (ensure (nat_le bits 16) SizeRange) _ (λ _.
       lasts_maps u u i e (device_mapped m dev (record { itt = record { 0 = itt }; bits = bits })) (lasts_self u i e)
-      (λ d v t n r. unless_all (is_some (device_of m dev)) d v (Route (translator u i).regs.enabled (device_mapped m dev (record { itt = record { 0 = itt }; bits = bits })) d v t)
+      (λ d v t n r. unless_all (is_some (device_of m dev)) d v
+      (Route (translator u i).regs.enabled (device_mapped m dev (record { itt = record { 0 = itt }; bits = bits })) d v t)
       (λ none. with_device (translator u i).regs.enabled m d v t r dev (record { itt = record { 0 = itt }; bits = bits }) none) n)))
 
   unmapd_lasts : (dev : ℕ) → LastsOk u i (if is_some (device_of m dev) then All else Nothing) (unmapd u i dev)
@@ -192,10 +230,12 @@ module _ (u : Plain) (i : ℕ) where
       let e : Ending = (if is_some (device_of m dev) then All else Nothing) in
       ok_then u i e (ensure (is_device_id u.layout.shape.dev_bits dev) DeviceRange) _ (λ _.
       lasts_maps u u i e (device_unmapped m dev) (lasts_self u i e)
-      (λ d v t n r. unless_all (is_some (device_of m dev)) d v (Route (translator u i).regs.enabled (device_unmapped m dev) d v t) (λ none. without_device (translator u i).regs.enabled m d v t r dev none) n))
+      (λ d v t n r. unless_all (is_some (device_of m dev)) d v (Route (translator u i).regs.enabled (device_unmapped m dev) d v t)
+      (λ none. without_device (translator u i).regs.enabled m d v t r dev none) n))
 
   followed_left : (icid from to : ℕ) → Leaves u (followed u i icid from to)
-  followed_left icid from to = leaves_if u (lpis_moved (intids_of m icid) from to u) u (is_on u from && is_on u to) (lpis_left (intids_of m icid) from to u) (all_left u)
+  followed_left icid from to = leaves_if u (lpis_moved (intids_of m icid) from to u) u (is_on u from && is_on u to) (lpis_left (intids_of m icid) from to u)
+      (all_left u)
 
   followed_in_left : (p : Profile) (icid : ℕ) (before : Option Vcpu) (to : ℕ) → Leaves u (followed_in p u i icid before to)
   followed_in_left One icid before to = all_left u
@@ -212,14 +252,17 @@ module _ (u : Plain) (i : ℕ) where
       let k : Leaves u w = followed_in_left u.layout.shape.profile icid (collection_of m icid) target in
       let same : maps_of w i ≡ m = ap (λ (t : Translator). t.maps) (sym (k.maps i)) in
       lasts_maps u w i e (collection_mapped (maps_of w i) icid (record { 0 = target })) (lasts_then u u w i e (lasts_self u i e) k)
-      (λ d v t n r. unless_all (is_some (collection_of m icid)) d v (Route (translator w i).regs.enabled (collection_mapped (maps_of w i) icid (record { 0 = target })) d v t)
-      (λ none. with_collection (translator w i).regs.enabled (maps_of w i) d v t r icid (record { 0 = target }) (ap (λ (x : Maps). is_some (collection_of x icid)) same ∙ none)) n)))
+      (λ d v t n r. unless_all (is_some (collection_of m icid)) d v
+      (Route (translator w i).regs.enabled (collection_mapped (maps_of w i) icid (record { 0 = target })) d v t)
+      (λ none. with_collection (translator w i).regs.enabled (maps_of w i) d v t r icid (record { 0 = target })
+      (ap (λ (x : Maps). is_some (collection_of x icid)) same ∙ none)) n)))
 
   unmapc_lasts : (icid : ℕ) → Lasts u (unmapc u i icid) i (if is_some (collection_of m icid) then All else Nothing)
   unmapc_lasts icid =
       let e : Ending = (if is_some (collection_of m icid) then All else Nothing) in
       lasts_maps u u i e (collection_unmapped m icid) (lasts_self u i e)
-      (λ d v t n r. unless_all (is_some (collection_of m icid)) d v (Route (translator u i).regs.enabled (collection_unmapped m icid) d v t) (λ none. without_collection (translator u i).regs.enabled m d v t r icid none) n)
+      (λ d v t n r. unless_all (is_some (collection_of m icid)) d v (Route (translator u i).regs.enabled (collection_unmapped m icid) d v t)
+      (λ none. without_collection (translator u i).regs.enabled m d v t r icid none) n)
 
   either : (valid : Bool) (e : Ending) (a b : Result Plain Reason) → LastsOk u i e a → LastsOk u i e b → LastsOk u i e (if valid then a else b)
   either true e a b p q = p
@@ -231,8 +274,10 @@ module _ (u : Plain) (i : ℕ) where
   ran_lasts (command.Int dev ev) = int_lasts dev.0 ev.0
   ran_lasts (command.Clear dev ev) = clear_lasts dev.0 ev.0
   ran_lasts (command.Sync target) = lasts_self u i Nothing
-  ran_lasts (command.Mapd dev bits itt valid) = either valid (if is_some (device_of m dev.0) then All else Nothing) (mapd u i dev.0 bits itt) (unmapd u i dev.0) (mapd_lasts dev.0 bits itt) (unmapd_lasts dev.0)
-  ran_lasts (command.Mapc icid target valid) = either valid (if is_some (collection_of m icid.0) then All else Nothing) (mapc u i icid.0 target) (Ok (unmapc u i icid.0)) (mapc_lasts icid.0 target) (unmapc_lasts icid.0)
+  ran_lasts (command.Mapd dev bits itt valid) = either valid (if is_some (device_of m dev.0) then All else Nothing) (mapd u i dev.0 bits itt) (unmapd u i dev.0)
+      (mapd_lasts dev.0 bits itt) (unmapd_lasts dev.0)
+  ran_lasts (command.Mapc icid target valid) = either valid (if is_some (collection_of m icid.0) then All else Nothing) (mapc u i icid.0 target)
+      (Ok (unmapc u i icid.0)) (mapc_lasts icid.0 target) (unmapc_lasts icid.0)
   ran_lasts (command.Mapti dev ev intid icid) = mapti_lasts dev.0 ev.0 intid.0 icid.0
   ran_lasts (command.Mapi dev ev icid) = mapti_lasts dev.0 ev.0 ev.0 icid.0
   ran_lasts (command.Inv dev ev) = inv_lasts dev.0 ev.0

@@ -1,5 +1,6 @@
 -- What calls leave that change neither where maps send events nor whether LPIs are on.
-use Rattle.std.proofs.Common.{◌≡◌, ℕ, ◌<◌, Bool, true, false, not, ◌&&◌, ◌||◌, ◌==◌, List, length, Option, Some, None, Result, Ok, Err, refl, ap, sym, ◌∙◌, subst, if◌then◌else◌, get_or-set_same, get_or-set_other}
+use Rattle.std.proofs.Common.{◌≡◌, ℕ, ◌<◌, Bool, true, false, not, ◌&&◌, ◌||◌, ◌==◌, List, length, Option, Some, None, Result, Ok, Err, refl, ap, sym, ◌∙◌}
+use Rattle.std.proofs.Common.{subst, if◌then◌else◌, get_or-set_same, get_or-set_other}
 use Rattle.std.proofs.lemmas.Bool.{cond_both}
 use mathlib.Core.Logic.{dite}
 use native.Mathlib.Decide.{ℕ_discrete}
@@ -44,7 +45,8 @@ one_redist a v r stays = record {
   on = λ j on. dite (ℕ_discrete j v)
       (λ e.
       let there : is_on a v ≡ true = subst (λ (k : ℕ). is_on a k ≡ true) e on in
-      ap (λ (k : ℕ). is_on (with_redistributor a v r) k) e ∙ (ap (λ (x : Redistributor). x.bases.on) (get_or-set_same a.redistributors v r no_redistributor (on_within a v there)) ∙ stays there))
+      ap (λ (k : ℕ). is_on (with_redistributor a v r) k) e
+      ∙ (ap (λ (x : Redistributor). x.bases.on) (get_or-set_same a.redistributors v r no_redistributor (on_within a v there)) ∙ stays there))
       (λ ne. ap (λ (x : Redistributor). x.bases.on) (get_or-set_other a.redistributors v j r no_redistributor ne) ∙ on);
 }
 
@@ -59,12 +61,14 @@ sets_alike : (b : Bases) (off size value : ℕ) → Sets (λ c. c.on ≡ b.on) (
 unfolding asked_by asked_by_64 asked_by_word
 sets_alike b off size value =
     let P : Bases → Type 0 = λ c. c.on ≡ b.on in
-    let set : (c : Bases) → c.on ≡ b.on → Sets P (if b.on then writes.Ignored else writes.SetBases c) = λ c same. either P b.on writes.Ignored (writes.SetBases c) tt same in
+    let set : (c : Bases) → c.on ≡ b.on → Sets P (if b.on then writes.Ignored else writes.SetBases c) = λ c same. either P b.on writes.Ignored
+    (writes.SetBases c) tt same in
     either P (size == 8) _ _
     (either P (off == 0x70) _ _ (set _ refl) (either P (off == 0x78) _ _ (set _ refl) (either P (off == 0xA0) _ _ tt (either P (off == 0xB0) _ _ tt tt))))
     (either P (size == 4) _ _
     (either P (off == 0x0) _ _ (either P (bit_of (low_half value) 0 && not b.on) writes.Enable writes.Ignored tt tt)
-    (either P (off == 0x70) _ _ (set _ refl) (either P (off == 0x74) _ _ (set _ refl) (either P (off == 0x78) _ _ (set _ refl) (either P (off == 0x7C) _ _ (set _ refl)
+    (either P (off == 0x70) _ _ (set _ refl)
+    (either P (off == 0x74) _ _ (set _ refl) (either P (off == 0x78) _ _ (set _ refl) (either P (off == 0x7C) _ _ (set _ refl)
     (either P (off == 0xA0) _ _ tt (either P (off == 0xB0 || off == 0xB4) _ _ tt tt)))))))
     tt)
 
@@ -77,15 +81,19 @@ unfolding reread_at
 reread_bases memory intid r = cond_both r.bases.on _ r (λ (x : Redistributor). x.bases ≡ r.bases) (λ _. byte_bases intid r (byte_at memory _)) (λ _. refl)
 
 -- a write doesn't turn LPIs off
-done_on : (s : Shape) (memory : List Window) (w : GicrWrite) (r : Redistributor) → Sets (λ c. c.on ≡ r.bases.on) w → r.bases.on ≡ true → (done_by s memory w r).bases.on ≡ true
+done_on : (s : Shape) (memory : List Window) (w : GicrWrite) (r : Redistributor) → Sets (λ c. c.on ≡ r.bases.on) w → r.bases.on ≡ true
+    → (done_by s memory w r).bases.on ≡ true
 unfolding done_by turned_on
 done_on s memory writes.Ignored r sets on = on
 done_on s memory (writes.SetBases b) r sets on = sets ∙ on
 done_on s memory writes.Enable r sets on = cond_both (has_tables s memory r.bases) _ r (λ (x : Redistributor). x.bases.on ≡ true) (λ _. refl) (λ _. on)
-done_on s memory (writes.Reread intid) r sets on = cond_both (is_lpi s.lpi_bits intid.0) (reread_at memory intid.0 r) r (λ (x : Redistributor). x.bases.on ≡ true) (λ _. ap (λ (b : Bases). b.on) (reread_bases memory intid.0 r) ∙ on) (λ _. on)
-done_on s memory writes.RereadAll r sets on = cond_both r.bases.on (record r { config = config_in s memory r }) r (λ (x : Redistributor). x.bases.on ≡ true) (λ _. on) (λ _. on)
+done_on s memory (writes.Reread intid) r sets on = cond_both (is_lpi s.lpi_bits intid.0) (reread_at memory intid.0 r) r
+    (λ (x : Redistributor). x.bases.on ≡ true) (λ _. ap (λ (b : Bases). b.on) (reread_bases memory intid.0 r) ∙ on) (λ _. on)
+done_on s memory writes.RereadAll r sets on = cond_both r.bases.on (record r { config = config_in s memory r }) r (λ (x : Redistributor). x.bases.on ≡ true)
+    (λ _. on) (λ _. on)
 
-written_on : (s : Shape) (memory : List Window) (r : Redistributor) (off size value : ℕ) → r.bases.on ≡ true → (written_gicr s memory r off size value).bases.on ≡ true
+written_on : (s : Shape) (memory : List Window) (r : Redistributor) (off size value : ℕ) → r.bases.on ≡ true → (written_gicr s memory r off size value).bases.on
+    ≡ true
 unfolding written_gicr
 written_on s memory r off size value on = done_on s memory (asked_by r.bases off size value) r (sets_alike r.bases off size value) on
 
@@ -97,7 +105,8 @@ taken_bases r (Some intid) = refl
 
 signal_leaves : (a : Plain) (its : ℕ) (r : Reply) → (dev : DeviceId) (ev : EventId) → Leaves a (left a (call.Signal its dev ev) r)
 unfolding left
-signal_leaves a its (reply.Signal (Delivered vcpu intid)) dev ev = one_redist a vcpu.0 (record (redistributor a vcpu.0) { pending = with_lpi intid.0 (pending_of a vcpu.0) }) (λ on. on)
+signal_leaves a its (reply.Signal (Delivered vcpu intid)) dev ev = one_redist a vcpu.0
+    (record (redistributor a vcpu.0) { pending = with_lpi intid.0 (pending_of a vcpu.0) }) (λ on. on)
 signal_leaves a its r dev ev = all_left a
 
 save_leaves : (a : Plain) (r : Result (Unit {0}) SaveFault) → Leaves a (save_left a r)
@@ -107,7 +116,8 @@ save_leaves a (Err fault) = all_left a
 pub calm_leaves : (a : Plain) (c : Call) (r : Reply) → IsCalm c → Leaves a (left a c r)
 unfolding left
 calm_leaves a (call.Signal its dev ev) r calm = signal_leaves a its r dev ev
-calm_leaves a (call.Take vcpu) r calm = one_redist a vcpu.0 (taken (redistributor a vcpu.0) (lowest (redistributor a vcpu.0))) (λ on. ap (λ (b : Bases). b.on) (taken_bases (redistributor a vcpu.0) (lowest (redistributor a vcpu.0))) ∙ on)
+calm_leaves a (call.Take vcpu) r calm = one_redist a vcpu.0 (taken (redistributor a vcpu.0) (lowest (redistributor a vcpu.0)))
+    (λ on. ap (λ (b : Bases). b.on) (taken_bases (redistributor a vcpu.0) (lowest (redistributor a vcpu.0))) ∙ on)
 calm_leaves a (call.Show vcpu) r calm = all_left a
 calm_leaves a (call.Poke addr bytes) r calm = record { maps = λ i. refl; on = λ v on. on }
 calm_leaves a (call.Peek addr count) r calm = all_left a
@@ -116,6 +126,7 @@ calm_leaves a (call.WriteReg its off size value) r calm = absurd calm
 calm_leaves a (call.ReadGicr vcpu off size) r calm = all_left a
 calm_leaves a (call.WriteGicr vcpu off size value) r calm =
     let x : Redistributor = written_gicr a.layout.shape a.memory (redistributor a vcpu.0) off size value in
-    leaves_if a (with_redistributor a vcpu.0 x) a a.layout.gicr (one_redist a vcpu.0 x (written_on a.layout.shape a.memory (redistributor a vcpu.0) off size value)) (all_left a)
+    leaves_if a (with_redistributor a vcpu.0 x) a a.layout.gicr
+    (one_redist a vcpu.0 x (written_on a.layout.shape a.memory (redistributor a vcpu.0) off size value)) (all_left a)
 calm_leaves a (call.Step its) r calm = absurd calm
 calm_leaves a call.Save r calm = save_leaves a (savable a)

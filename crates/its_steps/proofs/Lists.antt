@@ -1,5 +1,6 @@
 -- Lists, their beginnings, and histories that are one entry longer.
-use Rattle.std.proofs.Common.{◌≡◌, ◌≢◌, ◌⊎◌, ℕ, zero, suc, ◌+◌, ◌<◌, ◌≤◌, eqb, cond, Bool, true, false, List, [], ◌∷◌, ◌++◌, length, refl, ap, sym, ◌∙◌, subst, inl, inr, ⊎_elim, arith, append_assoc, append-nil, length-append, eq-eqb, ne_eqb}
+use Rattle.std.proofs.Common.{◌≡◌, ◌≢◌, ◌⊎◌, ℕ, zero, suc, ◌+◌, ◌<◌, ◌≤◌, eqb, cond, Bool, true, false, List, [], ◌∷◌, ◌++◌, length, refl, ap, sym, ◌∙◌, subst}
+use Rattle.std.proofs.Common.{inl, inr, ⊎_elim, arith, append_assoc, append-nil, length-append, eq-eqb, ne_eqb}
 use Rattle.std.specs.List.{AllByRecursion}
 use mathlib.Core.Option.{some, some-injective, some-ne-none}
 use mathlib.Core.List.{IsPrefix}
@@ -95,7 +96,8 @@ pub placed_mine : (pass n : ℕ) (h : List Entry) (e : Entry) → e.pass ≡ pas
 placed_mine pass n h e is = placed_snoc pass n h e ∙ ap (λ b. placed pass n h ++ cond b ((n + length h, e) ∷ []) []) (eq-eqb e.pass pass is)
 
 pub placed_other : (pass n : ℕ) (h : List Entry) (e : Entry) → e.pass ≢ pass → placed pass n (h ++ e ∷ []) ≡ placed pass n h
-placed_other pass n h e ne = placed_snoc pass n h e ∙ (ap (λ b. placed pass n h ++ cond b ((n + length h, e) ∷ []) []) (ne_eqb e.pass pass ne) ∙ append-nil (placed pass n h))
+placed_other pass n h e ne = placed_snoc pass n h e ∙ (ap (λ b. placed pass n h ++ cond b ((n + length h, e) ∷ []) []) (ne_eqb e.pass pass ne)
+    ∙ append-nil (placed pass n h))
 
 -- a pass that made no call
 pub placed_none : (pass n : ℕ) (h : List Entry) → AllByRecursion (λ e. e.pass < pass) h → placed pass n h ≡ []

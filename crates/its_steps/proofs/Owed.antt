@@ -45,15 +45,23 @@ module _ (s : Setup) (a : Commit) (after : Plain) where
       (λ (e : (x.part ≡ p) × (x.owed ≡ d)). inl (e.0, (λ i. content_in s a after (e.0 i) (e.1 i))))
       (λ (t : Owes p d xs). inr (owes_renewed p d xs t)) o
 
-  pub all_renewed : (word : Word) (u u' : Plain) (held : List Held) → ((p : Part) (d : Content) → Stands s p → Owes p d held → Right s word u p d → Right s (word_after a) u' p (content_in s a after p d))
-      → AllByRecursion (λ x. Stands s x.part) held → AllByRecursion (IsRight s word u) held → AllByRecursion (IsRight s (word_after a) u') (renewed s a after held)
+  pub all_renewed : (word : Word) (u u' : Plain) (held : List Held) → ((p : Part) (d : Content) → Stands s p → Owes p d held → Right s word u p d
+      → Right s (word_after a) u' p (content_in s a after p d))
+      → AllByRecursion (λ x. Stands s x.part) held → AllByRecursion (IsRight s word u) held → AllByRecursion (IsRight s (word_after a) u')
+      (renewed s a after held)
   all_renewed word u u' [] f st right = tt
-  all_renewed word u u' (x ∷ xs) f st right = (f x.part x.owed st.0 (inl (refl, refl)) right.0, all_renewed word u u' xs (λ p d t o. f p d t (inr o)) st.1 right.1)
+  all_renewed word u u' (x ∷ xs) f st right = (
+    f x.part x.owed st.0 (inl (refl, refl)) right.0,
+    all_renewed word u u' xs (λ p d t o. f p d t (inr o)) st.1
+        right.1,
+  )
 
   -- of a part held, what was owed is right, and steadily renewed
-  pub steady_at : (word : Word) (u : Plain) (its : ℕ) (owed held : List Held) → AreSteady s its owed held (renewed s a after held) → AllByRecursion (IsRight s word u) held → (p : Part) → Holds p held
+  pub steady_at : (word : Word) (u : Plain) (its : ℕ) (owed held : List Held) → AreSteady s its owed held (renewed s a after held)
+      → AllByRecursion (IsRight s word u) held → (p : Part) → Holds p held
       → (d : Content) × Right s word u p d × IsSteady s its owed p d (content_in s a after p d)
   steady_at word u its owed [] steady right p h = absurd h
   steady_at word u its owed (x ∷ xs) steady right p h = ⊎_elim
-      (λ (e : x.part ≡ p). subst (λ (q : Part). (d : Content) × Right s word u q d × IsSteady s its owed q d (content_in s a after q d)) e (x.owed, right.0, steady.0))
+      (λ (e : x.part ≡ p). subst (λ (q : Part). (d : Content) × Right s word u q d × IsSteady s its owed q d (content_in s a after q d)) e
+      (x.owed, right.0, steady.0))
       (λ (t : Holds p xs). steady_at word u its owed xs steady.1 right.1 p t) h

@@ -1,5 +1,6 @@
 -- Calls that need one redistributor, memory, or one translator's maps.
-use Rattle.std.proofs.Common.{◌≡◌, ℕ, Bool, false, ◌+◌, ◌<◌, if◌then◌else◌, List, [], ◌∷◌, length, set, refl, ap, sym, ◌∙◌, inl, arith, length-set, get_or-set_same}
+use Rattle.std.proofs.Common.{◌≡◌, ℕ, Bool, false, ◌+◌, ◌<◌, if◌then◌else◌, List, [], ◌∷◌, length, set, refl, ap, sym, ◌∙◌, inl, arith, length-set}
+use Rattle.std.proofs.Common.{get_or-set_same}
 use Rattle.guest_windows.specs.Windows.{write_at}
 use Rattle.gits_regs.specs.Registers.{read_reg, write_reg}
 use Rattle.its_types.specs.declared.ids.Vcpu.{Vcpu}
@@ -13,7 +14,8 @@ use Rattle.its_plain.specs.declared.call.Call.{Call}
 use Rattle.its_plain.specs.declared.call.Call.TheVariants as call
 use Rattle.its_plain.specs.declared.call.Reply.{Reply}
 use Rattle.its_plain.specs.declared.call.Reply.TheVariants as reply
-use Rattle.its_steps.specs.Calls.{staying, stamping, IsCalm, turns_off, peeked_in, TakeMayCommit, ShowMayCommit, PokeMayCommit, PeekMayCommit, ReadMayCommit, WriteMayCommit, WriteMayRise}
+use Rattle.its_steps.specs.Calls.{staying, stamping, IsCalm, turns_off, peeked_in, TakeMayCommit, ShowMayCommit, PokeMayCommit, PeekMayCommit, ReadMayCommit}
+use Rattle.its_steps.specs.Calls.{WriteMayCommit, WriteMayRise}
 use Rattle.its_steps.specs.Contents.{Content, Maps, Mem, Redist, Held}
 use Rattle.its_steps.specs.Endings.{Nothing, All, ending_of}
 use Rattle.its_steps.specs.MayCall.{IsAnswered, MayCall}
@@ -36,11 +38,19 @@ module _ (s : Setup) (last : Word) (vcpus : HasVcpus s) (room : last.place < s.l
 
   -- and so may any other, where what it ends is known
   one_enough : (c : Call) (r : Reply) → IsAnswered (assembled s one) c r one → IsEnough s (assembled s one) last c r one
-  one_enough c r answered = record { has = assembled_has s vcpus one ((λ h. h), tt) (st, tt); room = room; stands = (st, tt); apart = ((λ h. h), tt); out = (refl, tt); answered = answered }
+  one_enough c r answered = record {
+    has = assembled_has s vcpus one ((λ h. h), tt) (st, tt);
+    room = room;
+    stands = (st, tt);
+    apart = ((λ h. h), tt);
+    out = (refl, tt);
+    answered = answered;
+  }
 
 -- ---- one redistributor
 
-module _ (s : Setup) (last : Word) (vcpu : Vcpu) (r : Redistributor) (vcpus : HasVcpus s) (st : vcpu.0 < vcpu_count s) (room : last.place < s.limits.place_last) where
+module _ (s : Setup) (last : Word) (vcpu : Vcpu) (r : Redistributor) (vcpus : HasVcpus s) (st : vcpu.0 < vcpu_count s)
+    (room : last.place < s.limits.place_last) where
   abbrev held : List Held
   held = out (part.Redist vcpu) (Redist r) ∷ []
 
@@ -68,7 +78,8 @@ module _ (s : Setup) (last : Word) (vcpu : Vcpu) (r : Redistributor) (vcpus : Ha
   take_leaves =
       let after : Redistributor → Redistributor = λ x. taken x (lowest x) in
       let long : vcpu.0 < length (set s.start.redistributors vcpu.0 r) = omega (arith, inside, length-set s.start.redistributors vcpu.0 r) in
-      λ d. out (part.Redist vcpu) (Redist ((get_or-set_same a.redistributors vcpu.0 (after (redistributor a vcpu.0)) no_redistributor long ∙ ap after has_one) d)) ∷ []
+      λ d. out (part.Redist vcpu)
+      (Redist ((get_or-set_same a.redistributors vcpu.0 (after (redistributor a vcpu.0)) no_redistributor long ∙ ap after has_one) d)) ∷ []
 
   show_answered : IsAnswered a (call.Show vcpu) ack held
   unfolding footprint reply_of
@@ -79,24 +90,40 @@ module _ (s : Setup) (last : Word) (vcpu : Vcpu) (r : Redistributor) (vcpus : Ha
   show_leaves = λ d. out (part.Redist vcpu) (Redist (has_one d)) ∷ []
 
 pub takes : TakeMayCommit
-takes s last vcpu r vcpus st room =
-    (one_may s last vcpus room (part.Redist vcpu) (Redist r) st (call.Take vcpu) (reply.Ack (ack_of r (lowest r))) tt (take_answered s last vcpu r vcpus st room), take_leaves s last vcpu r vcpus st room)
+takes s last vcpu r vcpus st room = (
+  one_may s last vcpus room (part.Redist vcpu) (Redist r) st (call.Take vcpu) (reply.Ack (ack_of r (lowest r))) tt
+      (take_answered s last vcpu r vcpus st room),
+  take_leaves s last vcpu r vcpus st room,
+)
 
 pub shows : ShowMayCommit
-shows s last vcpu r vcpus st room =
-    (one_may s last vcpus room (part.Redist vcpu) (Redist r) st (call.Show vcpu) (reply.Ack (ack_of r (lowest r))) tt (show_answered s last vcpu r vcpus st room), show_leaves s last vcpu r vcpus st room)
+shows s last vcpu r vcpus st room = (
+  one_may s last vcpus room (part.Redist vcpu) (Redist r) st (call.Show vcpu) (reply.Ack (ack_of r (lowest r))) tt
+      (show_answered s last vcpu r vcpus st room),
+  show_leaves s last vcpu r vcpus st room,
+)
 
 -- ---- memory
 
 pub pokes : PokeMayCommit
 unfolding footprint reply_of left
-pokes s last addr bytes memory vcpus room =
-    (one_may s last vcpus room part.Mem (Mem memory) tt (call.Poke addr bytes) (poke_reply (write_at memory addr.0 bytes)) tt record { covers = (inl refl, tt); reply_is = refl }, refl)
+pokes s last addr bytes memory vcpus room = (
+  one_may s last vcpus room part.Mem (Mem memory) tt (call.Poke addr bytes) (poke_reply (write_at memory addr.0 bytes)) tt record {
+    covers = (inl refl, tt);
+    reply_is = refl;
+  },
+  refl,
+)
 
 pub peeks : PeekMayCommit
 unfolding footprint reply_of left
-peeks s last addr count memory vcpus room =
-    (one_may s last vcpus room part.Mem (Mem memory) tt (call.Peek addr count) (peek_reply (peeked_in memory addr.0 count)) tt record { covers = (inl refl, tt); reply_is = refl }, refl)
+peeks s last addr count memory vcpus room = (
+  one_may s last vcpus room part.Mem (Mem memory) tt (call.Peek addr count) (peek_reply (peeked_in memory addr.0 count)) tt record {
+    covers = (inl refl, tt);
+    reply_is = refl;
+  },
+  refl,
+)
 
 -- ---- registers
 
@@ -114,7 +141,8 @@ module _ (s : Setup) (its : ℕ) (t : Translator) (it : its < translator_count s
   unfolding footprint reply_of
   read_answered off size = record { covers = (inl refl, tt); reply_is = ap (λ (x : Translator). reply.Value (read_reg x.regs off size)) (sym has_maps) }
 
-  read_leaves : (last : Word) (off size : ℕ) → renewal s (staying last (call.ReadReg its off size) (reply.Value (read_reg t.regs off size)) change.Keep) maps ≡ maps
+  read_leaves : (last : Word) (off size : ℕ) → renewal s (staying last (call.ReadReg its off size) (reply.Value (read_reg t.regs off size)) change.Keep) maps
+      ≡ maps
   unfolding left
   read_leaves last off size = λ d. out (part.Maps its) (Maps (has_maps d)) ∷ []
 
@@ -126,7 +154,8 @@ module _ (s : Setup) (its : ℕ) (t : Translator) (it : its < translator_count s
     unfolding footprint reply_of
     write_answered = record { covers = (inl refl, tt); reply_is = refl }
 
-    write_leaves : (last : Word) (stamp : ℕ) → renewal s (record { expected = last; stamp = stamp; call = write; reply = reply.Ok; change = change.Keep }) maps ≡ out (part.Maps its) (Maps (translator_written t (write_reg t.regs off size value))) ∷ []
+    write_leaves : (last : Word) (stamp : ℕ) → renewal s (record { expected = last; stamp = stamp; call = write; reply = reply.Ok; change = change.Keep }) maps
+        ≡ out (part.Maps its) (Maps (translator_written t (write_reg t.regs off size value))) ∷ []
     unfolding left written
     write_leaves last stamp =
         let after : Translator → Translator = λ x. translator_written x (write_reg x.regs off size value) in
@@ -135,22 +164,29 @@ module _ (s : Setup) (its : ℕ) (t : Translator) (it : its < translator_count s
 
     ends_nothing : turns_off t off size value ≡ false → ending_of b write ≡ Nothing
     unfolding ending_of
-    ends_nothing stays_on = ap (λ (x : Translator). if turns_off x off size value then All else Nothing) has_maps ∙ ap (λ (y : Bool). if y then All else Nothing) stays_on
+    ends_nothing stays_on = ap (λ (x : Translator). if turns_off x off size value then All else Nothing) has_maps
+        ∙ ap (λ (y : Bool). if y then All else Nothing) stays_on
 
 pub reads : ReadMayCommit
-reads s last its off size t vcpus it room =
-    (one_may s last vcpus room (part.Maps its) (Maps t) it (call.ReadReg its off size) (reply.Value (read_reg t.regs off size)) tt (read_answered s its t it off size), read_leaves s its t it last off size)
+reads s last its off size t vcpus it room = (
+  one_may s last vcpus room (part.Maps its) (Maps t) it (call.ReadReg its off size) (reply.Value (read_reg t.regs off size)) tt
+      (read_answered s its t it off size),
+  read_leaves s its t it last off size,
+)
 
 pub writes : WriteMayCommit
 writes s last its off size value t vcpus it room on =
     let answered = write_answered s its t it off size value in (
-      nothing_may s (assembled s (maps s its t it)) last (call.WriteReg its off size value) reply.Ok (maps s its t it) (one_enough s last vcpus room (part.Maps its) (Maps t) it (call.WriteReg its off size value) reply.Ok answered) change.Keep tt (ends_nothing s its t it off size value on),
+      nothing_may s (assembled s (maps s its t it)) last (call.WriteReg its off size value) reply.Ok (maps s its t it)
+          (one_enough s last vcpus room (part.Maps its) (Maps t) it (call.WriteReg its off size value) reply.Ok answered) change.Keep tt
+          (ends_nothing s its t it off size value on),
       write_leaves s its t it off size value last last.stamp,
     )
 
 pub rises : WriteMayRise
 rises s last its off size value t vcpus fits it room more =
     let answered = write_answered s its t it off size value in (
-      all_may s (assembled s (maps s its t it)) last (call.WriteReg its off size value) reply.Ok (maps s its t it) (one_enough s last vcpus room (part.Maps its) (Maps t) it (call.WriteReg its off size value) reply.Ok answered) fits (inl refl) more,
+      all_may s (assembled s (maps s its t it)) last (call.WriteReg its off size value) reply.Ok (maps s its t it)
+          (one_enough s last vcpus room (part.Maps its) (Maps t) it (call.WriteReg its off size value) reply.Ok answered) fits (inl refl) more,
       write_leaves s its t it off size value last (stamping s last (call.WriteReg its off size value) reply.Ok (stamp_of s last its + 1) change.Keep).stamp,
     )

@@ -6,7 +6,8 @@ use Rattle.std.specs.Cmp.{nat_cmp_total}
 use Rattle.std.specs.FinMap.{nat_cmp-IsAntisymmetric}
 use mathlib.Core.Logic.{dite}
 use native.Mathlib.Decide.{ℕ_discrete}
-use Rattle.its_types.specs.Maps.{Maps, pair_cmp, is_pair, device_of, event_of, collection_of, device_mapped, device_unmapped, event_mapped, event_unmapped, collection_mapped, collection_unmapped}
+use Rattle.its_types.specs.Maps.{Maps, pair_cmp, is_pair, device_of, event_of, collection_of, device_mapped, device_unmapped, event_mapped, event_unmapped}
+use Rattle.its_types.specs.Maps.{collection_mapped, collection_unmapped}
 use Rattle.its_types.specs.declared.ids.Target.{Target}
 use Rattle.its_types.specs.declared.ids.Vcpu.{Vcpu}
 use Rattle.its_types.specs.declared.translation.Device.{Device}
@@ -30,11 +31,13 @@ pub record Route (enabled : Bool) (m : Maps) (dev ev : ℕ) (t : Target) : Type 
 
 -- ---- a route is what is located
 
-passed : {A : Type 0} (b : Bool) (cause : Cause) (f : Unit {0} → Result A Cause) (a : A) (P : Type 0) → (ensure b cause >>= f) ≡ Ok a → (b ≡ true → f tt ≡ Ok a → P) → P
+passed : {A : Type 0} (b : Bool) (cause : Cause) (f : Unit {0} → Result A Cause) (a : A) (P : Type 0) → (ensure b cause >>= f) ≡ Ok a
+    → (b ≡ true → f tt ≡ Ok a → P) → P
 passed true cause f a P e k = k refl e
 passed false cause f a P e k = absurd cc
 
-got_some : {A B : Type 0} (o : Option A) (cause : Cause) (f : A → Result B Cause) (b : B) (P : Type 0) → (ok_or o cause >>= f) ≡ Ok b → ((a : A) → o ≡ Some a → f a ≡ Ok b → P) → P
+got_some : {A B : Type 0} (o : Option A) (cause : Cause) (f : A → Result B Cause) (b : B) (P : Type 0) → (ok_or o cause >>= f) ≡ Ok b
+    → ((a : A) → o ≡ Some a → f a ≡ Ok b → P) → P
 got_some None cause f b P e k = absurd cc
 got_some (Some a) cause f b P e k = k a refl e
 
@@ -48,15 +51,28 @@ route_of t dev ev target e =
     got_some (device_of t.maps dev) NoDevice _ target _ e1 (λ device device_is e2.
     got_some (event_of t.maps dev ev) NoEvent _ target _ e2 (λ event event_is e3.
     got_some (collection_of t.maps event.icid.0) NoCollection _ target _ e3 (λ vcpu vcpu_is e4.
-    record { on = on; device = device; device_is = device_is; event = event; event_is = event_is; vcpu = vcpu; vcpu_is = vcpu_is; target_is = same_ok (record { vcpu = vcpu; intid = event.intid }) target e4 }))))
+    record {
+      on = on;
+      device = device;
+      device_is = device_is;
+      event = event;
+      event_is = event_is;
+      vcpu = vcpu;
+      vcpu_is = vcpu_is;
+      target_is = same_ok (record { vcpu = vcpu; intid = event.intid }) target e4;
+    }))))
 
 pub located_by : (t : Translator) (dev ev : ℕ) (target : Target) → Route t.regs.enabled t.maps dev ev target → located t dev ev ≡ Ok target
 unfolding located
 located_by t dev ev target r =
-    ap (λ (b : Bool). ensure b Disabled >>= λ _. ok_or (device_of t.maps dev) NoDevice >>= λ _. ok_or (event_of t.maps dev ev) NoEvent >>= λ e. ok_or (collection_of t.maps e.icid.0) NoCollection >>= λ v. Ok (record { vcpu = v; intid = e.intid })) r.on
-    ∙ (ap (λ (o : Option Device). ok_or o NoDevice >>= λ _. ok_or (event_of t.maps dev ev) NoEvent >>= λ e. ok_or (collection_of t.maps e.icid.0) NoCollection >>= λ v. Ok (record { vcpu = v; intid = e.intid })) r.device_is
-    ∙ (ap (λ (o : Option Event). ok_or o NoEvent >>= λ e. ok_or (collection_of t.maps e.icid.0) NoCollection >>= λ v. Ok (record { vcpu = v; intid = e.intid })) r.event_is
-    ∙ (ap (λ (o : Option Vcpu). ok_or o NoCollection >>= λ v. Ok (record { vcpu = v; intid = r.event.intid })) r.vcpu_is ∙ ap (λ (x : Target). Ok x) r.target_is)))
+    ap (λ (b : Bool). ensure b Disabled >>= λ _. ok_or (device_of t.maps dev) NoDevice >>= λ _. ok_or (event_of t.maps dev ev) NoEvent >>= λ e.
+    ok_or (collection_of t.maps e.icid.0) NoCollection >>= λ v. Ok (record { vcpu = v; intid = e.intid })) r.on
+    ∙ (ap (λ (o : Option Device). ok_or o NoDevice >>= λ _. ok_or (event_of t.maps dev ev) NoEvent >>= λ e. ok_or (collection_of t.maps e.icid.0) NoCollection
+    >>= λ v. Ok (record { vcpu = v; intid = e.intid })) r.device_is
+    ∙ (ap (λ (o : Option Event). ok_or o NoEvent >>= λ e. ok_or (collection_of t.maps e.icid.0) NoCollection >>= λ v. Ok (record { vcpu = v; intid = e.intid }))
+    r.event_is
+    ∙ (ap (λ (o : Option Vcpu). ok_or o NoCollection >>= λ v. Ok (record { vcpu = v; intid = r.event.intid })) r.vcpu_is
+    ∙ ap (λ (x : Target). Ok x) r.target_is)))
 
 -- ---- look-ups that a route makes, after a change
 
@@ -109,7 +125,8 @@ module _ (b : Bool) (m : Maps) (dev ev : ℕ) (t : Target) (r : Route b m dev ev
     device = r.device;
     device_is = r.device_is;
     event = r.event;
-    event_is = not_inserted pair_cmp pair_total pair_same m.events (d, e) x (dev, ev) (λ same. ne (ap (λ (p : ℕ × ℕ). p.0) same, ap (λ (p : ℕ × ℕ). p.1) same)) ∙ r.event_is;
+    event_is = not_inserted pair_cmp pair_total pair_same m.events (d, e) x (dev, ev) (λ same. ne (ap (λ (p : ℕ × ℕ). p.0) same, ap (λ (p : ℕ × ℕ). p.1) same))
+        ∙ r.event_is;
     vcpu = r.vcpu;
     vcpu_is = r.vcpu_is;
     target_is = r.target_is;
@@ -150,6 +167,7 @@ module _ (b : Bool) (m : Maps) (dev ev : ℕ) (t : Target) (r : Route b m dev ev
     event = r.event;
     event_is = r.event_is;
     vcpu = r.vcpu;
-    vcpu_is = still_there nat_cmp nat_cmp_total nat_cmp-IsAntisymmetric m.collections (λ k. not (eqb k icid)) r.event.icid.0 (not_same r.event.icid.0 icid (apart_icid icid none)) ∙ r.vcpu_is;
+    vcpu_is = still_there nat_cmp nat_cmp_total nat_cmp-IsAntisymmetric m.collections (λ k. not (eqb k icid)) r.event.icid.0
+        (not_same r.event.icid.0 icid (apart_icid icid none)) ∙ r.vcpu_is;
     target_is = r.target_is;
   }

@@ -36,12 +36,15 @@ module _ (P : Held → Type 0) (u : Plain) where
   all_maps zero f = tt
   all_maps (suc n) f = (f n (omega arith), all_maps n (λ i lt. f i (omega (arith, lt))))
 
-  all_redists : (n : ℕ) (rest : List Held) → ((i : ℕ) → i < n → P (out (part.Redist (record { 0 = i })) (Redist (redistributor u i)))) → AllByRecursion P rest → AllByRecursion P (redists_held u n rest)
+  all_redists : (n : ℕ) (rest : List Held) → ((i : ℕ) → i < n → P (out (part.Redist (record { 0 = i })) (Redist (redistributor u i)))) → AllByRecursion P rest
+      → AllByRecursion P (redists_held u n rest)
   all_redists zero rest f ps = ps
   all_redists (suc n) rest f ps = (f n (omega arith), all_redists n rest (λ i lt. f i (omega (arith, lt))) ps)
 
-  all_whole : ((i : ℕ) → i < length u.translators → P (out (part.Maps i) (Maps (translator u i)))) → P (out part.Mem (Mem u.memory)) → ((i : ℕ) → i < length u.redistributors → P (out (part.Redist (record { 0 = i })) (Redist (redistributor u i)))) → AllByRecursion P (whole_held u)
-  all_whole f m g = all_redists (length u.redistributors) (out part.Mem (Mem u.memory) ∷ maps_held u (length u.translators)) g (m, all_maps (length u.translators) f)
+  all_whole : ((i : ℕ) → i < length u.translators → P (out (part.Maps i) (Maps (translator u i)))) → P (out part.Mem (Mem u.memory))
+      → ((i : ℕ) → i < length u.redistributors → P (out (part.Redist (record { 0 = i })) (Redist (redistributor u i)))) → AllByRecursion P (whole_held u)
+  all_whole f m g = all_redists (length u.redistributors) (out part.Mem (Mem u.memory) ∷ maps_held u (length u.translators)) g
+      (m, all_maps (length u.translators) f)
 
 -- ---- which are held
 
@@ -51,10 +54,12 @@ held_maps u zero p h = absurd h
 held_maps u (suc n) p (inl e) = (n, omega arith, e)
 held_maps u (suc n) p (inr h) = let r = held_maps u n p h in (r.0, (let lt = r.1 in omega (arith, lt)), r.2)
 
-held_redists : (u : Plain) (n : ℕ) (rest : List Held) (p : Part) → Holds p (redists_held u n rest) → ((i : ℕ) × (i < n) × (part.Redist (record { 0 = i }) ≡ p)) ⊎ Holds p rest
+held_redists : (u : Plain) (n : ℕ) (rest : List Held) (p : Part) → Holds p (redists_held u n rest) → ((i : ℕ) × (i < n) × (part.Redist (record { 0 = i }) ≡ p))
+    ⊎ Holds p rest
 held_redists u zero rest p h = inr h
 held_redists u (suc n) rest p (inl e) = inl (n, omega arith, e)
-held_redists u (suc n) rest p (inr h) = ⊎_elim (λ (t : (i : ℕ) × (i < n) × (part.Redist (record { 0 = i }) ≡ p)). inl (t.0, (let lt = t.1 in omega (arith, lt)), t.2)) (λ (t : Holds p rest). inr t) (held_redists u n rest p h)
+held_redists u (suc n) rest p (inr h) = ⊎_elim (λ (t : (i : ℕ) × (i < n) × (part.Redist (record { 0 = i }) ≡ p)).
+    inl (t.0, (let lt = t.1 in omega (arith, lt)), t.2)) (λ (t : Holds p rest). inr t) (held_redists u n rest p h)
 
 maps_apart : (u : Plain) (n : ℕ) → Apart (maps_held u n)
 maps_apart u zero = tt
@@ -67,7 +72,9 @@ redist_number p = 0
 redists_apart : (u : Plain) (n : ℕ) (rest : List Held) → ((i : ℕ) → ¬ Holds (part.Redist (record { 0 = i })) rest) → Apart rest → Apart (redists_held u n rest)
 redists_apart u zero rest none apart = apart
 redists_apart u (suc n) rest none apart = (
-  (λ h. ⊎_elim (λ (r : (i : ℕ) × (i < n) × (part.Redist (record { 0 = i }) ≡ part.Redist (record { 0 = n }))). let same : r.0 ≡ n = ap redist_number r.2 in absurd (omega (arith, r.1, same))) (λ (t : Holds (part.Redist (record { 0 = n })) rest). none n t) (held_redists u n rest (part.Redist (record { 0 = n })) h)),
+  (λ h. ⊎_elim (λ (r : (i : ℕ) × (i < n) × (part.Redist (record { 0 = i }) ≡ part.Redist (record { 0 = n }))). let same : r.0 ≡ n =
+      ap redist_number r.2 in absurd (omega (arith, r.1, same))) (λ (t : Holds (part.Redist (record { 0 = n })) rest). none n t)
+      (held_redists u n rest (part.Redist (record { 0 = n })) h)),
   redists_apart u n rest none apart,
 )
 
@@ -83,7 +90,8 @@ behind_there u (suc n) rest p h = inr (behind_there u n rest p h)
 
 redists_there : (u : Plain) (n : ℕ) (rest : List Held) (i : ℕ) → i < n → Holds (part.Redist (record { 0 = i })) (redists_held u n rest)
 redists_there u zero rest i lt = absurd (omega (arith, lt))
-redists_there u (suc n) rest i lt = dite (ℕ_discrete n i) (λ e. inl (λ d. part.Redist (record { 0 = e d }))) (λ ne. inr (redists_there u n rest i (omega (arith, lt, ne))))
+redists_there u (suc n) rest i lt = dite (ℕ_discrete n i) (λ e. inl (λ d. part.Redist (record { 0 = e d })))
+    (λ ne. inr (redists_there u n rest i (omega (arith, lt, ne))))
 
 all_append : (P : Part → Type 0) (xs ys : List Part) → AllByRecursion P xs → AllByRecursion P ys → AllByRecursion P (xs ++ ys)
 all_append P [] ys ps qs = qs
@@ -104,12 +112,14 @@ maps_renewed : (s : Setup) (a : Commit) (u z : Plain) (n : ℕ) → renewed s a 
 maps_renewed s a u z zero = refl
 maps_renewed s a u z (suc n) = λ d. out (part.Maps n) (Maps (translator z n)) ∷ maps_renewed s a u z n d
 
-redists_renewed : (s : Setup) (a : Commit) (u z : Plain) (n : ℕ) (rest : List Held) → renewed s a z (redists_held u n rest) ≡ redists_held z n (renewed s a z rest)
+redists_renewed : (s : Setup) (a : Commit) (u z : Plain) (n : ℕ) (rest : List Held) → renewed s a z (redists_held u n rest) ≡ redists_held z n
+    (renewed s a z rest)
 redists_renewed s a u z zero rest = refl
 redists_renewed s a u z (suc n) rest = λ d. out (part.Redist (record { 0 = n })) (Redist (redistributor z n)) ∷ redists_renewed s a u z n rest d
 
 -- a save leaves as many of all
-same_count : (u : Plain) (r : Result (Unit {0}) SaveFault) → let z : Plain = save_left u r in (length u.translators ≡ length z.translators) × (length u.redistributors ≡ length z.redistributors)
+same_count : (u : Plain) (r : Result (Unit {0}) SaveFault) → let z : Plain = save_left u r in (length u.translators ≡ length z.translators)
+    × (length u.redistributors ≡ length z.redistributors)
 same_count u (Ok done) = (refl, refl)
 same_count u (Err fault) = (refl, refl)
 
@@ -133,20 +143,24 @@ module _ (s : Setup) (u : Plain) (m : IsOfMachine s u) where
       let behind : List Held = out part.Mem (Mem u.memory) ∷ maps_held u (length u.translators) in (
         behind_there u (length u.redistributors) behind part.Mem (inl refl),
         all_append (λ p. Holds p held) (translators_below (length u.translators)) (redists_below (length u.redistributors))
-            (each_translator (λ p. Holds p held) (length u.translators) (λ i lt. behind_there u (length u.redistributors) behind (part.Maps i) (inr (maps_there u (length u.translators) i lt))))
+            (each_translator (λ p. Holds p held) (length u.translators) (λ i lt. behind_there u (length u.redistributors) behind (part.Maps i)
+            (inr (maps_there u (length u.translators) i lt))))
             (each_redist (λ p. Holds p held) (length u.redistributors) (redists_there u (length u.redistributors) behind)),
       )
 
   apart : Apart held
   apart = redists_apart u (length u.redistributors) (out part.Mem (Mem u.memory) ∷ maps_held u (length u.translators))
-      (λ i h. ⊎_elim (λ (e : part.Mem ≡ part.Redist (record { 0 = i })). cc) (λ (t : Holds (part.Redist (record { 0 = i })) (maps_held u (length u.translators))). let r = held_maps u (length u.translators) (part.Redist (record { 0 = i })) t in cc (r.2)) h)
+      (λ i h. ⊎_elim (λ (e : part.Mem ≡ part.Redist (record { 0 = i })). cc)
+      (λ (t : Holds (part.Redist (record { 0 = i })) (maps_held u (length u.translators))). let r = held_maps u (length u.translators)
+      (part.Redist (record { 0 = i })) t in cc (r.2)) h)
       ((λ h. let r = held_maps u (length u.translators) part.Mem h in cc (r.2)), maps_apart u (length u.translators))
 
   pub ready : (last : Word) → last.place < s.limits.place_last → IsReady s u last call.Save (save_reply (savable u)) held
   unfolding reply_of
   ready last room = record {
     machine = m;
-    has = all_whole (λ x. Has u x.part x.owed) u (λ i lt. slice_get-get_or u.translators i no_translator lt) refl (λ i lt. slice_get-get_or u.redistributors i no_redistributor lt);
+    has = all_whole (λ x. Has u x.part x.owed) u (λ i lt. slice_get-get_or u.translators i no_translator lt) refl
+        (λ i lt. slice_get-get_or u.redistributors i no_redistributor lt);
     room = room;
     stands = all_whole (λ x. Stands s x.part) u (λ i lt. omega (arith, lt, m.translators)) tt (λ i lt. omega (arith, lt, vcpus));
     apart = apart;

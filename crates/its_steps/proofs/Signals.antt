@@ -1,5 +1,6 @@
 -- Signals: found in the cache, or sent by the maps.
-use Rattle.std.proofs.Common.{◌≡◌, ℕ, ◌<◌, ◌&&◌, Bool, true, false, cond, eqb, List, [], ◌∷◌, length, set, get_or, Option, Some, Result, Ok, Err, refl, ap, sym, ◌∙◌, subst, inl, inr, arith, length-set, get_or-set_same, eq-eqb}
+use Rattle.std.proofs.Common.{◌≡◌, ℕ, ◌<◌, ◌&&◌, Bool, true, false, cond, eqb, List, [], ◌∷◌, length, set, get_or, Option, Some, Result, Ok, Err, refl, ap}
+use Rattle.std.proofs.Common.{sym, ◌∙◌, subst, inl, inr, arith, length-set, get_or-set_same, eq-eqb}
 use Rattle.std.specs.List.{AllByRecursion}
 use Rattle.std.specs.Option.{option_map}
 use Rattle.std.specs.Result.{result_ok}
@@ -42,7 +43,8 @@ sends on x = x >>= (λ t. ensure on LpisOff >>= (λ _. Ok t))
 abbrev with_sent : Target → Redistributor → Redistributor
 with_sent target r = record r { pending = with_lpi target.intid.0 r.pending }
 
-module _ (s : Setup) (last : Word) (its : ℕ) (dev : DeviceId) (ev : EventId) (vcpus : HasVcpus s) (it : its < translator_count s) (room : last.place < s.limits.place_last) where
+module _ (s : Setup) (last : Word) (its : ℕ) (dev : DeviceId) (ev : EventId) (vcpus : HasVcpus s) (it : its < translator_count s)
+    (room : last.place < s.limits.place_last) where
   abbrev c : Call
   c = call.Signal its dev ev
 
@@ -67,11 +69,13 @@ module _ (s : Setup) (last : Word) (its : ℕ) (dev : DeviceId) (ev : EventId) (
       sent_redist =
           let a : Plain = assembled s front in
           let still : target.vcpu.0 < length a.redistributors = omega (arith, long, length-set (assembled s rest).redistributors target.vcpu.0 r) in
-          get_or-set_same a.redistributors target.vcpu.0 (with_sent target (redistributor a target.vcpu.0)) no_redistributor still ∙ ap (with_sent target) here_redist
+          get_or-set_same a.redistributors target.vcpu.0 (with_sent target (redistributor a target.vcpu.0)) no_redistributor still
+          ∙ ap (with_sent target) here_redist
 
   -- ---- hits
 
-  module _ (target : Target) (ways : List (Option Translation)) (r : Redistributor) (st : target.vcpu.0 < vcpu_count s) (sh : n < s.shards) (has : found ways dev.0 ev.0 (stamp_of s last its) ≡ Some target) where
+  module _ (target : Target) (ways : List (Option Translation)) (r : Redistributor) (st : target.vcpu.0 < vcpu_count s) (sh : n < s.shards)
+      (has : found ways dev.0 ev.0 (stamp_of s last its) ≡ Some target) where
     abbrev shard : List Held
     shard = out (part.Shard its n) (Shard ways) ∷ []
 
@@ -91,7 +95,18 @@ module _ (s : Setup) (last : Word) (its : ℕ) (dev : DeviceId) (ev : EventId) (
 
     hit_may : MayCall s (staying last c (sent target r st shard) change.Keep) two
     hit_may = calm_may s last c (sent target r st shard) change.Keep two vcpus tt room two_apart (st, ((it, sh), tt)) (refl, (refl, tt))
-        (inr record { its = its; dev = dev; ev = ev; target = target; call_is = refl; reply_is = refl; ways = ways; owes = inr (inl (refl, refl)); is_found = has; redist = inl refl }) tt
+        (inr record {
+          its = its;
+          dev = dev;
+          ev = ev;
+          target = target;
+          call_is = refl;
+          reply_is = refl;
+          ways = ways;
+          owes = inr (inl (refl, refl));
+          is_found = has;
+          redist = inl refl;
+        }) tt
 
   -- ---- by the maps
 
@@ -103,7 +118,8 @@ module _ (s : Setup) (last : Word) (its : ℕ) (dev : DeviceId) (ev : EventId) (
     goes_where : (u : Plain) (x : Result Target Cause) → translator u its ≡ t → located t dev.0 ev.0 ≡ x → located (translator u its) dev.0 ev.0 ≡ x
     goes_where u x has is = ap (λ (y : Translator). located y dev.0 ev.0) has ∙ is
 
-    goes_to : (u : Plain) (target : Target) (on : Bool) → translator u its ≡ t → located t dev.0 ev.0 ≡ Ok target → is_on u target.vcpu.0 ≡ on → translated u its dev.0 ev.0 ≡ sends on (Ok target)
+    goes_to : (u : Plain) (target : Target) (on : Bool) → translator u its ≡ t → located t dev.0 ev.0 ≡ Ok target → is_on u target.vcpu.0 ≡ on
+        → translated u its dev.0 ev.0 ≡ sends on (Ok target)
     unfolding translated
     goes_to u target on has is on_is =
         ap (λ (x : Result Target Cause). x >>= (λ t. ensure (is_on u t.vcpu.0) LpisOff >>= (λ _. Ok t))) (goes_where u (Ok target) has is)
@@ -111,7 +127,8 @@ module _ (s : Setup) (last : Word) (its : ℕ) (dev : DeviceId) (ev : EventId) (
 
     goes_nowhere : (u : Plain) (cause : Cause) → translator u its ≡ t → located t dev.0 ev.0 ≡ Err cause → translated u its dev.0 ev.0 ≡ Err cause
     unfolding translated
-    goes_nowhere u cause has is = ap (λ (x : Result Target Cause). x >>= (λ t. ensure (is_on u t.vcpu.0) LpisOff >>= (λ _. Ok t))) (goes_where u (Err cause) has is)
+    goes_nowhere u cause has is = ap (λ (x : Result Target Cause). x >>= (λ t. ensure (is_on u t.vcpu.0) LpisOff >>= (λ _. Ok t)))
+        (goes_where u (Err cause) has is)
 
     answers_as : (u : Plain) (x : Result Target Cause) → translated u its dev.0 ev.0 ≡ x → reply.Signal (signal_reply x) ≡ reply_of u c
     unfolding reply_of
@@ -120,7 +137,8 @@ module _ (s : Setup) (last : Word) (its : ℕ) (dev : DeviceId) (ev : EventId) (
     covers_as : (u : Plain) (held : List Held) (x : Result Target Cause) → located (translator u its) dev.0 ev.0 ≡ x → Holds (part.Maps its) held
         → AllByRecursion (λ p. Holds p held) (redist_of (option_map (λ t. t.vcpu) (result_ok x))) → Covers u c held
     unfolding footprint
-    covers_as u held x is maps redists = (maps, subst (λ (y : Result Target Cause). AllByRecursion (λ p. Holds p held) (redist_of (option_map (λ t. t.vcpu) (result_ok y)))) (sym is) redists)
+    covers_as u held x is maps redists =
+        (maps, subst (λ (y : Result Target Cause). AllByRecursion (λ p. Holds p held) (redist_of (option_map (λ t. t.vcpu) (result_ok y)))) (sym is) redists)
 
     abbrev maps : List Held
     maps = out (part.Maps its) (Maps t) ∷ []
@@ -129,18 +147,26 @@ module _ (s : Setup) (last : Word) (its : ℕ) (dev : DeviceId) (ev : EventId) (
 
     module _ (cause : Cause) (lost : located t dev.0 ev.0 ≡ Err cause) where
       drop_answered : IsAnswered (assembled s maps) c (reply.Signal (Dropped cause)) maps
-      drop_answered = record { covers = covers_as (assembled s maps) maps (Err cause) (goes_where (assembled s maps) (Err cause) here_maps lost) (inl refl) tt; reply_is = answers_as (assembled s maps) (Err cause) (goes_nowhere (assembled s maps) cause here_maps lost) }
+      drop_answered = record {
+        covers = covers_as (assembled s maps) maps (Err cause) (goes_where (assembled s maps) (Err cause) here_maps lost) (inl refl) tt;
+        reply_is = answers_as (assembled s maps) (Err cause) (goes_nowhere (assembled s maps) cause here_maps lost);
+      }
 
       drop_leaves : renewal s (staying last c (reply.Signal (Dropped cause)) change.Keep) maps ≡ maps
       unfolding left
       drop_leaves = λ d. out (part.Maps its) (Maps (here_maps d)) ∷ []
 
       pub drop_may : MayLeave s (staying last c (reply.Signal (Dropped cause)) change.Keep) maps maps
-      drop_may = (calm_may s last c (reply.Signal (Dropped cause)) change.Keep maps vcpus tt room ((λ h. h), tt) (it, tt) (refl, tt) (inl drop_answered) tt, drop_leaves)
+      drop_may = (
+        calm_may s last c (reply.Signal (Dropped cause)) change.Keep maps vcpus tt room ((λ h. h), tt) (it, tt) (refl, tt)
+            (inl drop_answered) tt,
+        drop_leaves,
+      )
 
     -- ---- sent to a redistributor
 
-    module _ (target : Target) (r : Redistributor) (st : target.vcpu.0 < vcpu_count s) (goes : located t dev.0 ev.0 ≡ Ok target) (ways : List (Option Translation)) (sh : n < s.shards) where
+    module _ (target : Target) (r : Redistributor) (st : target.vcpu.0 < vcpu_count s) (goes : located t dev.0 ev.0 ≡ Ok target)
+        (ways : List (Option Translation)) (sh : n < s.shards) where
       abbrev behind : List Held
       behind = out (part.Shard its n) (Shard ways) ∷ maps
 
@@ -168,15 +194,21 @@ module _ (s : Setup) (last : Word) (its : ℕ) (dev : DeviceId) (ev : EventId) (
       goes_on : (on : Bool) (x : Result Target Cause) → r.bases.on ≡ on → sends on (Ok target) ≡ x → IsAnswered a c (reply.Signal (signal_reply x)) three
       goes_on on x is sent_as = record {
         covers = covers_as a three (Ok target) (goes_where a (Ok target) here_maps goes) (inr (inr (inl refl))) (inl refl, tt);
-        reply_is = answers_as a x (goes_to a target on here_maps goes (ap (λ (y : Redistributor). y.bases.on) (here_redist target r st behind long) ∙ is) ∙ sent_as);
+        reply_is = answers_as a x (goes_to a target on here_maps goes (ap (λ (y : Redistributor). y.bases.on) (here_redist target r st behind long) ∙ is)
+            ∙ sent_as);
       }
 
       off_leaves : renewal s (staying last c (reply.Signal (Dropped LpisOff)) change.Keep) three ≡ three
       unfolding left changed
-      off_leaves = λ d. out (part.Redist target.vcpu) (Redist (here_redist target r st behind long d)) ∷ out (part.Shard its n) (Shard ways) ∷ out (part.Maps its) (Maps (here_maps d)) ∷ []
+      off_leaves = λ d. out (part.Redist target.vcpu) (Redist (here_redist target r st behind long d)) ∷ out (part.Shard its n) (Shard ways) ∷ out
+          (part.Maps its) (Maps (here_maps d)) ∷ []
 
       pub off_may : r.bases.on ≡ false → MayLeave s (staying last c (reply.Signal (Dropped LpisOff)) change.Keep) three three
-      off_may off = (calm_may s last c (reply.Signal (Dropped LpisOff)) change.Keep three vcpus tt room three_apart (st, ((it, sh), (it, tt))) (refl, (refl, (refl, tt))) (inl (goes_on false (Err LpisOff) off refl)) tt, off_leaves)
+      off_may off = (
+        calm_may s last c (reply.Signal (Dropped LpisOff)) change.Keep three vcpus tt room three_apart (st, ((it, sh), (it, tt)))
+            (refl, (refl, (refl, tt))) (inl (goes_on false (Err LpisOff) off refl)) tt,
+        off_leaves,
+      )
 
       abbrev fill : Commit
       fill = staying last c (sent target r st behind) (change.Fill dev ev target)
@@ -190,7 +222,8 @@ module _ (s : Setup) (last : Word) (its : ℕ) (dev : DeviceId) (ev : EventId) (
         maps = inr (inr (inl refl));
         shard = inr (inl refl);
         redist = inl refl;
-        agrees = goes_to (left a c (sent target r st behind)) target true maps_after goes (ap (λ (x : Redistributor). x.bases.on) (sent_redist target r st behind long) ∙ on);
+        agrees = goes_to (left a c (sent target r st behind)) target true maps_after goes
+            (ap (λ (x : Redistributor). x.bases.on) (sent_redist target r st behind long) ∙ on);
       }
 
       its_own : (eqb its its && eqb n n) ≡ true
@@ -204,16 +237,20 @@ module _ (s : Setup) (last : Word) (its : ℕ) (dev : DeviceId) (ev : EventId) (
       shard_after = ap (λ (b : Bool). cond b full ways) its_own
 
       fill_leaves : renewal s fill three ≡ out (part.Redist target.vcpu) (Redist (with_sent target r)) ∷ out (part.Shard its n) (Shard full) ∷ maps
-      fill_leaves = λ d. out (part.Redist target.vcpu) (Redist (sent_redist target r st behind long d)) ∷ out (part.Shard its n) (Shard (shard_after d)) ∷ out (part.Maps its) (Maps (maps_after d)) ∷ []
+      fill_leaves = λ d. out (part.Redist target.vcpu) (Redist (sent_redist target r st behind long d)) ∷ out (part.Shard its n) (Shard (shard_after d)) ∷ out
+          (part.Maps its) (Maps (maps_after d)) ∷ []
 
       pub fill_may : r.bases.on ≡ true → MayCall s fill three
-      fill_may on = calm_may s last c (sent target r st behind) (change.Fill dev ev target) three vcpus tt room three_apart (st, ((it, sh), (it, tt))) (refl, (refl, (refl, tt))) (inl (goes_on true (Ok target) on refl)) (may_fill on)
+      fill_may on = calm_may s last c (sent target r st behind) (change.Fill dev ev target) three vcpus tt room three_apart (st, ((it, sh), (it, tt)))
+          (refl, (refl, (refl, tt))) (inl (goes_on true (Ok target) on refl)) (may_fill on)
 
 pub hits : HitMayCommit
-hits s last its dev ev target ways r vcpus it st sh room has = (hit_may s last its dev ev vcpus it room target ways r st sh has, hit_leaves s last its dev ev vcpus it room target ways r st sh has)
+hits s last its dev ev target ways r vcpus it st sh room has =
+    (hit_may s last its dev ev vcpus it room target ways r st sh has, hit_leaves s last its dev ev vcpus it room target ways r st sh has)
 
 pub fills : FillMayCommit
-fills s last its dev ev target t ways r vcpus it st sh room goes on = (fill_may s last its dev ev vcpus it room t target r st goes ways sh on, fill_leaves s last its dev ev vcpus it room t target r st goes ways sh)
+fills s last its dev ev target t ways r vcpus it st sh room goes on =
+    (fill_may s last its dev ev vcpus it room t target r st goes ways sh on, fill_leaves s last its dev ev vcpus it room t target r st goes ways sh)
 
 pub drops : DropMayCommit
 drops s last its dev ev cause t vcpus it room lost = drop_may s last its dev ev vcpus it room t cause lost

@@ -6,7 +6,8 @@ use Rattle.its_steps.specs.Parts.{translator_count, stamp_at, stamp_with}
 
 pub stamp_zero : (n its : ℕ) → stamp_at n 0 its ≡ 0
 unfolding stamp_at
-stamp_zero n its = cond_both (eqb n 2) (cond (eqb its 0) 0 0) 0 (λ (x : ℕ). x ≡ 0) (λ _. cond_both (eqb its 0) 0 0 (λ (x : ℕ). x ≡ 0) (λ _. refl) (λ _. refl)) (λ _. refl)
+stamp_zero n its = cond_both (eqb n 2) (cond (eqb its 0) 0 0) 0 (λ (x : ℕ). x ≡ 0) (λ _. cond_both (eqb its 0) 0 0 (λ (x : ℕ). x ≡ 0) (λ _. refl) (λ _. refl))
+    (λ _. refl)
 
 pub of_one : (n stamp its : ℕ) → n ≡ 1 → stamp_at n stamp its ≡ stamp
 unfolding stamp_at
@@ -45,5 +46,9 @@ are_apart s stamp its new (inl one) lt most = (
     n : ℕ
     n = translator_count s
 are_apart s stamp its new (inr two) lt most =
-    subst (λ (n : ℕ). (stamp_at n (stamp_with n stamp its new) its ≡ new) × ((j : ℕ) → j < n → j ≢ its → stamp_at n (stamp_with n stamp its new) j ≡ stamp_at n stamp j)) (sym two.0)
-    (two_own stamp its new (omega (arith, lt, two.0)) (omega (arith, most, two.1)), (λ j lj ne. two_other stamp its new j (omega (arith, lt, two.0)) (omega (arith, most, two.1)) lj ne))
+    subst (λ (n : ℕ). (stamp_at n (stamp_with n stamp its new) its ≡ new)
+    × ((j : ℕ) → j < n → j ≢ its → stamp_at n (stamp_with n stamp its new) j ≡ stamp_at n stamp j)) (sym two.0) (
+      two_own stamp its new (omega (arith, lt, two.0)) (omega (arith, most, two.1)),
+      (λ j lj ne. two_other stamp its new j (omega (arith, lt, two.0))
+          (omega (arith, most, two.1)) lj ne),
+    )

@@ -28,9 +28,11 @@ content_as s a z z' (part.Redist vcpu) x e = ap (λ (r : Redistributor). Redist 
 content_as s a z z' (part.Shard its n) (Shard ways) e = refl
 content_as s a z z' (part.Shard its n) x e = refl
 
-renewed_as : (s : Setup) (a : Commit) (z z' : Plain) (held : List Held) → ((p : Part) → Holds p held → SamePart z z' p) → renewed s a z held ≡ renewed s a z' held
+renewed_as : (s : Setup) (a : Commit) (z z' : Plain) (held : List Held) → ((p : Part) → Holds p held → SamePart z z' p)
+    → renewed s a z held ≡ renewed s a z' held
 renewed_as s a z z' [] same = refl
-renewed_as s a z z' (x ∷ xs) same = λ d. record x { owed = content_as s a z z' x.part x.owed (same x.part (inl refl)) d } ∷ renewed_as s a z z' xs (λ p h. same p (inr h)) d
+renewed_as s a z z' (x ∷ xs) same = λ d. record x { owed = content_as s a z z' x.part x.owed (same x.part (inl refl)) d } ∷ renewed_as s a z z' xs
+    (λ p h. same p (inr h)) d
 
 module _ (s : Setup) (u : Plain) (a : Commit) (held : List Held) (m : IsOfMachine s u) (has : HasAll u held) (may : MayCallIn s u a held) where
   abbrev b : Plain
@@ -60,8 +62,10 @@ module _ (s : Setup) (u : Plain) (a : Commit) (held : List Held) (m : IsOfMachin
         shard = f.shard;
         redist = f.redist;
         agrees = translated_from z' i dev.0 ev.0 target
-            (subst (λ (x : Translator). located x dev.0 ev.0 ≡ Ok target) (same_or z.translators z'.translators i no_translator (same (part.Maps i) f.maps)) t.0)
-            (ap (λ (x : Redistributor). x.bases.on) (sym (same_or z.redistributors z'.redistributors target.vcpu.0 no_redistributor (same (part.Redist target.vcpu) f.redist))) ∙ t.1);
+            (subst (λ (x : Translator). located x dev.0 ev.0 ≡ Ok target) (same_or z.translators z'.translators i no_translator (same (part.Maps i) f.maps))
+            t.0)
+            (ap (λ (x : Redistributor). x.bases.on)
+            (sym (same_or z.redistributors z'.redistributors target.vcpu.0 no_redistributor (same (part.Redist target.vcpu) f.redist))) ∙ t.1);
       }
   changes (change.Drop dev ev) f = f
   changes ch f = tt

@@ -23,19 +23,22 @@ takes s h w good i v at passes p c st free there =
     let k : ℕ = index_of s p in
     let one = tries s h w good i v at passes p c st free there in
     let two = takes_out s h _ one i (got v p c) (set_here w.views i (got v p c) (at_below w.views i v at)) passes p c [] v.held refl in
-    subst (λ (vs : List View). Good s h record w { turns = set w.turns (index_of s p) (suc v.number); slots = set w.slots (index_of s p) none; views = vs }) (set_over w.views i (got v p c) (took v p c)) two
+    subst (λ (vs : List View). Good s h record w { turns = set w.turns (index_of s p) (suc v.number); slots = set w.slots (index_of s p) none; views = vs })
+    (set_over w.views i (got v p c) (took v p c)) two
 
 pub gives : GiveKeeps
 gives s h w good i v at passes p c before behind e =
     let v1 : View = record v { held = before ++ kept p c ∷ behind } in
     let one = puts_home s h w good i v at passes p c before behind e in
     let two = releases s h _ one i v1 (set_here w.views i v1 (at_below w.views i v at)) passes p c before behind refl in
-    subst (λ (vs : List View). Good s h record w { turns = set w.turns (index_of s p) 0; slots = set w.slots (index_of s p) (some c); views = vs }) (set_over w.views i v1 (record v { held = before ++ behind })) two
+    subst (λ (vs : List View). Good s h record w { turns = set w.turns (index_of s p) 0; slots = set w.slots (index_of s p) (some c); views = vs })
+    (set_over w.views i v1 (record v { held = before ++ behind })) two
 
 pub brings : BringKeeps
 brings s h w good i v at passes x before behind e =
     let own = (pass s h w good i v at passes).holds in
-    let hs : AllByRecursion (IsHeld s w.word (after s.start h) w.turns w.slots v.number) (before ++ x ∷ behind) = subst (AllByRecursion (IsHeld s w.word (after s.start h) w.turns w.slots v.number)) e own.held in
+    let hs : AllByRecursion (IsHeld s w.word (after s.start h) w.turns w.slots v.number) (before ++ x ∷ behind) =
+    subst (AllByRecursion (IsHeld s w.word (after s.start h) w.turns w.slots v.number)) e own.held in
     let apart : Apart (before ++ x ∷ behind) = subst Apart e own.apart in
     holds s h w good i v at passes (x ∷ (before ++ behind)) v.cache v.tries w.turns w.slots
     record {
@@ -46,4 +49,5 @@ brings s h w good i v at passes x before behind e =
       );
     }
     (λ n xs ne t. t) good.parts.wide good.parts.home
-    (λ p n st t. ⊎_elim (λ (z : (n ≡ v.number) × Holds p v.held). inl (z.0, holds_but p before x behind (subst (Holds p) e z.1))) (λ z. inr z) (same_turn s h w good i v at passes p n st t))
+    (λ p n st t. ⊎_elim (λ (z : (n ≡ v.number) × Holds p v.held). inl (z.0, holds_but p before x behind (subst (Holds p) e z.1))) (λ z. inr z)
+    (same_turn s h w good i v at passes p n st t))

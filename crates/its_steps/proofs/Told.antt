@@ -32,7 +32,8 @@ told_step true bytes m r = Nothing
 told_step false None m r = Nothing
 told_step false (Some bytes) m r = ending_told m (decoded bytes) r
 
-told_met : (u : Plain) (i : ℕ) (idle : Bool) (bytes : Option (List ℕ)) → (if idle then Nothing else ending_met u i bytes) ≡ told_step idle bytes (maps_of u i) (if idle then Idle else met_reply u i bytes)
+told_met : (u : Plain) (i : ℕ) (idle : Bool) (bytes : Option (List ℕ)) → (if idle then Nothing else ending_met u i bytes) ≡ told_step idle bytes (maps_of u i)
+    (if idle then Idle else met_reply u i bytes)
 told_met u i true bytes = refl
 told_met u i false None = refl
 told_met u i false (Some bytes) = told_ran (maps_of u i) (decoded bytes) (ran u i (decoded bytes))
@@ -55,12 +56,15 @@ steps_alike u w its same = ap step_of (decides u w (call.Step its) same).0
 pub alike : EndingsAreAlike
 unfolding ending_of footprint
 alike u w (call.WriteReg its off size value) same =
-    let t : translator u its ≡ translator w its = same_or u.translators w.translators its no_translator (same.parts (part.Maps its) (in_head (part.Maps its) [])) in
+    let t : translator u its ≡ translator w its = same_or u.translators w.translators its no_translator
+    (same.parts (part.Maps its) (in_head (part.Maps its) [])) in
     ap (λ (x : Translator). if x.regs.enabled && not (write_reg x.regs off size value).regs.enabled then All else Nothing) t
 alike u w (call.Step its) same =
     let ps : List Part = part.Mem ∷ needed_next u its in
-    let t : translator u its ≡ translator w its = same_or u.translators w.translators its no_translator (same.parts (part.Maps its) (in_head (part.Maps its) ps)) in
+    let t : translator u its ≡ translator w its = same_or u.translators w.translators its no_translator
+    (same.parts (part.Maps its) (in_head (part.Maps its) ps)) in
     let m : u.memory ≡ w.memory = same.parts part.Mem (in_tail part.Mem (part.Maps its) ps (in_head part.Mem (needed_next u its))) in
     let r : step_reply u its ≡ step_reply w its = steps_alike u w its same in
-    step_told u its ∙ ((λ d. told_step (not (t d).regs.enabled || is_queue_empty (t d).regs) (read_at (m d) (queue_place (t d).regs) 32) (t d).maps (r d)) ∙ sym (step_told w its))
+    step_told u its ∙ ((λ d. told_step (not (t d).regs.enabled || is_queue_empty (t d).regs) (read_at (m d) (queue_place (t d).regs) 32) (t d).maps (r d))
+    ∙ sym (step_told w its))
 alike u w c same = refl

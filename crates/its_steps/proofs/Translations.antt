@@ -23,7 +23,8 @@ reached_is (Ok x) on t e = let both = at (on x) refl e in (ap (λ (y : Target). 
 reached_from : (found : Result Target Cause) (on : Target → Bool) (t : Target) → found ≡ Ok t → on t ≡ true → reached found on ≡ Ok t
 reached_from found on t e is = ap (λ (r : Result Target Cause). reached r on) e ∙ ap (λ (b : Bool). ensure b LpisOff >>= λ _. Ok t) is
 
-pub translated_is : (u : Plain) (i dev ev : ℕ) (t : Target) → translated u i dev ev ≡ Ok t → (located (translator u i) dev ev ≡ Ok t) × (is_on u t.vcpu.0 ≡ true)
+pub translated_is : (u : Plain) (i dev ev : ℕ) (t : Target) → translated u i dev ev ≡ Ok t → (located (translator u i) dev ev ≡ Ok t)
+    × (is_on u t.vcpu.0 ≡ true)
 unfolding translated
 translated_is u i dev ev t e = reached_is (located (translator u i) dev ev) (λ x. is_on u x.vcpu.0) t e
 
@@ -36,5 +37,6 @@ pub on_within : (u : Plain) (v : ℕ) → is_on u v ≡ true → v < length u.re
 on_within u v on =
     elim (cases_lt v (length u.redistributors)) [
       | inl within ↦ within
-      | inr past ↦ let none = ap (λ (r : Redistributor). r.bases.on) (get_or_past u.redistributors v no_redistributor past) in absurd (both_ways (is_on u v) none on)
+      | inr past ↦ let none = ap (λ (r : Redistributor). r.bases.on) (get_or_past u.redistributors v no_redistributor past) in absurd
+          (both_ways (is_on u v) none on)
     ]

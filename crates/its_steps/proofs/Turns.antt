@@ -1,5 +1,6 @@
 -- Turns that are got and given back, and values that leave their slots and come home.
-use Rattle.std.proofs.Common.{◌≡◌, ◌≢◌, ℕ, suc, ◌<◌, List, ◌∷◌, ◌++◌, length, set, get_or, refl, ap, sym, ◌∙◌, subst, inl, inr, ⊎_elim, arith, length-set, get_or-set_other, get_or-set_same}
+use Rattle.std.proofs.Common.{◌≡◌, ◌≢◌, ℕ, suc, ◌<◌, List, ◌∷◌, ◌++◌, length, set, get_or, refl, ap, sym, ◌∙◌, subst, inl, inr, ⊎_elim, arith, length-set}
+use Rattle.std.proofs.Common.{get_or-set_other, get_or-set_same}
 use Rattle.std.specs.List.{AllByRecursion}
 use mathlib.Core.Option.{Option, some, some-injective}
 use mathlib.Core.Logic.{dite}
@@ -27,23 +28,33 @@ record Elsewhere (k : ℕ) (turns turns' : List ℕ) (slots slots' : List (Optio
   turn : (j : ℕ) → j ≢ k → get_or turns' j 0 ≡ get_or turns j 0
   slot : (j : ℕ) → j ≢ k → get_elem? slots' j ≡ get_elem? slots j
 
-module _ (s : Setup) (word : Word) (u : Plain) (k : ℕ) (turns turns' : List ℕ) (slots slots' : List (Option Content)) (else : Elsewhere k turns turns' slots slots') where
+module _ (s : Setup) (word : Word) (u : Plain) (k : ℕ) (turns turns' : List ℕ) (slots slots' : List (Option Content))
+    (else : Elsewhere k turns turns' slots slots') where
   held_else : (n : ℕ) (x : Held) → index_of s x.part ≢ k → IsHeld s word u turns slots n x → IsHeld s word u turns' slots' n x
-  held_else n x ne t = record { stands = t.stands; turn = else.turn (index_of s x.part) ne ∙ t.turn; slot = else.slot (index_of s x.part) ne ∙ t.slot; right = t.right }
+  held_else n x ne t = record {
+    stands = t.stands;
+    turn = else.turn (index_of s x.part) ne ∙ t.turn;
+    slot = else.slot (index_of s x.part) ne ∙ t.slot;
+    right = t.right;
+  }
 
   home_else : (p : Part) → index_of s p ≢ k → IsHome s word u slots p → IsHome s word u slots' p
   home_else p ne t = record { content = t.content; slot = else.slot (index_of s p) ne ∙ t.slot; right = t.right }
 
   -- what a pass holds that has not the turn at the index
-  held_off : (n : ℕ) (held : List Held) → get_or turns k 0 ≢ suc n → AllByRecursion (IsHeld s word u turns slots n) held → AllByRecursion (IsHeld s word u turns' slots' n) held
-  held_off n held ne hs = all_change (IsHeld s word u turns slots n) (IsHeld s word u turns' slots' n) held (λ x _ t. held_else n x (λ e. ne (ap (λ (j : ℕ). get_or turns j 0) (sym e) ∙ t.turn)) t) hs
+  held_off : (n : ℕ) (held : List Held) → get_or turns k 0 ≢ suc n → AllByRecursion (IsHeld s word u turns slots n) held
+      → AllByRecursion (IsHeld s word u turns' slots' n) held
+  held_off n held ne hs = all_change (IsHeld s word u turns slots n) (IsHeld s word u turns' slots' n) held
+      (λ x _ t. held_else n x (λ e. ne (ap (λ (j : ℕ). get_or turns j 0) (sym e) ∙ t.turn)) t) hs
 
   -- what a pass holds beside a part
-  held_beside : (n : ℕ) (p : Part) (held : List Held) → Stands s p → index_of s p ≡ k → ¬ Holds p held → AllByRecursion (IsHeld s word u turns slots n) held → AllByRecursion (IsHeld s word u turns' slots' n) held
+  held_beside : (n : ℕ) (p : Part) (held : List Held) → Stands s p → index_of s p ≡ k → ¬ Holds p held → AllByRecursion (IsHeld s word u turns slots n) held
+      → AllByRecursion (IsHeld s word u turns' slots' n) held
   held_beside n p held st is lacks hs = all_change (IsHeld s word u turns slots n) (IsHeld s word u turns' slots' n) held
       (λ x owns t. held_else n x (λ e. lacks (subst (λ (q : Part). Holds q held) (index_injective s x.part p t.stands st (e ∙ sym is)) owns)) t) hs
 
-module _ (s : Setup) (h : List Entry) (w : World) (good : Good s h w) (i : ℕ) (v : View) (at : get_elem? w.views i ≡ some v) (passes : v.standing ≡ Pass) (p : Part) (st : Stands s p) where
+module _ (s : Setup) (h : List Entry) (w : World) (good : Good s h w) (i : ℕ) (v : View) (at : get_elem? w.views i ≡ some v) (passes : v.standing ≡ Pass)
+    (p : Part) (st : Stands s p) where
   abbrev u : Plain
   u = after s.start h
 
@@ -69,7 +80,8 @@ module _ (s : Setup) (h : List Entry) (w : World) (good : Good s h w) (i : ℕ) 
   slot_wide x = record { each_turn = good.parts.wide.each_turn; each_slot = length-set w.slots k x ∙ good.parts.wide.each_slot }
 
   -- another pass holds what it held, where it had not this turn
-  pass_off : (turns' : List ℕ) (slots' : List (Option Content)) → Elsewhere k w.turns turns' w.slots slots' → (n : ℕ) (xs : List Held) → turn_of s w.turns p ≢ suc n → AreHeld s w.word u w.turns w.slots n xs → AreHeld s w.word u turns' slots' n xs
+  pass_off : (turns' : List ℕ) (slots' : List (Option Content)) → Elsewhere k w.turns turns' w.slots slots' → (n : ℕ) (xs : List Held)
+      → turn_of s w.turns p ≢ suc n → AreHeld s w.word u w.turns w.slots n xs → AreHeld s w.word u turns' slots' n xs
   pass_off turns' slots' else n xs ne g = record { apart = g.apart; held = held_off s w.word u k w.turns turns' w.slots slots' else n xs ne g.held }
 
   own : AreHeld s w.word u w.turns w.slots v.number v.held
@@ -83,7 +95,10 @@ module _ (s : Setup) (h : List Entry) (w : World) (good : Good s h w) (i : ℕ) 
   this_turn : (x : ℕ) (q : Part) → index_of s q ≡ k → turn_of s (set w.turns k x) q ≡ x
   this_turn x q same = ap (λ (z : ℕ). get_or (set w.turns k x) z 0) same ∙ get_or-set_same w.turns k x 0 inside
 
-  pub keeps_try : (c : Content) → turn_of s w.turns p ≡ 0 → get_elem? w.slots k ≡ some (some c) → Good s h record w { turns = set w.turns k (suc v.number); views = set w.views i (got v p c) }
+  pub keeps_try : (c : Content) → turn_of s w.turns p ≡ 0 → get_elem? w.slots k ≡ some (some c) → Good s h record w {
+    turns = set w.turns k (suc v.number);
+    views = set w.views i (got v p c);
+  }
   keeps_try c free there =
       let n : ℕ = suc v.number in
       let v' : View = got v p c in
@@ -94,7 +109,11 @@ module _ (s : Setup) (h : List Entry) (w : World) (good : Good s h w) (i : ℕ) 
       holds_other s h w good i v at passes v'.held v'.cache v'.tries (set w.turns k n) w.slots
       record {
         apart = (lacks, own.apart);
-        held = (record { stands = st; turn = this_turn n p refl; slot = there; right = subst (Right s w.word u p) is home.right }, held_off s w.word u k w.turns (set w.turns k n) w.slots w.slots (turn_else n) v.number v.held (off v.number) own.held);
+        held = (
+          record { stands = st; turn = this_turn n p refl; slot = there; right = subst (Right s w.word u p) is home.right },
+          held_off s w.word u k w.turns
+              (set w.turns k n) w.slots w.slots (turn_else n) v.number v.held (off v.number) own.held,
+        );
       }
       (λ m xs ne g. pass_off (set w.turns k n) w.slots (turn_else n) m xs (off m) g)
       (turn_wide n)
@@ -103,20 +122,24 @@ module _ (s : Setup) (h : List Entry) (w : World) (good : Good s h w) (i : ℕ) 
       (λ ne. home_else s w.word u k w.turns (set w.turns k n) w.slots w.slots (turn_else n) q ne (good.parts.home q sq (sym (other_turn n q ne) ∙ e))))
       (λ q m sq e. dite (ℕ_discrete (index_of s q) k)
       (λ same. inl (let is_own : suc v.number ≡ suc m = sym (this_turn n q same) ∙ e in omega (arith, is_own), inl (index_injective s p q st sq (sym same))))
-      (λ ne. ⊎_elim (λ (t : (m ≡ v.number) × Holds q v.held). inl (t.0, inr t.1)) (λ t. inr t) (same_turn s h w good i v at passes q m sq (sym (other_turn n q ne) ∙ e))))
+      (λ ne. ⊎_elim (λ (t : (m ≡ v.number) × Holds q v.held). inl (t.0, inr t.1)) (λ t. inr t)
+      (same_turn s h w good i v at passes q m sq (sym (other_turn n q ne) ∙ e))))
 
   module _ (c : Content) (before behind : List Held) where
     -- what it holds beside the part is right, whatever happens at the part's index
-    beside : (x : Held) → x.part ≡ p → v.held ≡ before ++ x ∷ behind → (turns' : List ℕ) (slots' : List (Option Content)) → Elsewhere k w.turns turns' w.slots slots' → AllByRecursion (IsHeld s w.word u turns' slots' v.number) (before ++ behind)
+    beside : (x : Held) → x.part ≡ p → v.held ≡ before ++ x ∷ behind → (turns' : List ℕ) (slots' : List (Option Content))
+        → Elsewhere k w.turns turns' w.slots slots' → AllByRecursion (IsHeld s w.word u turns' slots' v.number) (before ++ behind)
     beside x is e turns' slots' else = held_beside s w.word u k w.turns turns' w.slots slots' else v.number p (before ++ behind) st refl
         (subst (λ (q : Part). ¬ Holds q (before ++ behind)) is (lone before x behind (subst Apart e own.apart)))
         (all_but (IsHeld s w.word u w.turns w.slots v.number) before x behind (subst (AllByRecursion (IsHeld s w.word u w.turns w.slots v.number)) e own.held))
 
     here : (x : Held) → v.held ≡ before ++ x ∷ behind → IsHeld s w.word u w.turns w.slots v.number x
-    here x e = all_here (IsHeld s w.word u w.turns w.slots v.number) before x behind (subst (AllByRecursion (IsHeld s w.word u w.turns w.slots v.number)) e own.held)
+    here x e = all_here (IsHeld s w.word u w.turns w.slots v.number) before x behind
+        (subst (AllByRecursion (IsHeld s w.word u w.turns w.slots v.number)) e own.held)
 
     -- the slot of a held part changes, and the pass knows
-    reslot : (x y : Held) → x.part ≡ p → y.part ≡ p → y.owed ≡ x.owed → v.held ≡ before ++ x ∷ behind → Good s h record w { slots = set w.slots k (slot_of y.out y.owed); views = set w.views i (record v { held = before ++ y ∷ behind }) }
+    reslot : (x y : Held) → x.part ≡ p → y.part ≡ p → y.owed ≡ x.owed → v.held ≡ before ++ x ∷ behind
+        → Good s h record w { slots = set w.slots k (slot_of y.out y.owed); views = set w.views i (record v { held = before ++ y ∷ behind }) }
     reslot x y xp yp owed e =
         let slot : Option Content = slot_of y.out y.owed in
         let slots' : List (Option Content) = set w.slots k slot in
@@ -136,10 +159,13 @@ module _ (s : Setup) (h : List Entry) (w : World) (good : Good s h w) (i : ℕ) 
         }
         (λ n xs ne g. pass_off w.turns slots' (slot_else slot) n xs (λ t. ne (omega (arith, own_turn, t))) g)
         (slot_wide slot)
-        (λ q sq t. home_else s w.word u k w.turns w.turns w.slots slots' (slot_else slot) q (λ is. absurd (omega (arith, t, ap (λ (z : ℕ). get_or w.turns z 0) is, own_turn))) (good.parts.home q sq t))
-        (λ q n sq t. ⊎_elim (λ (z : (n ≡ v.number) × Holds q v.held). inl (z.0, holds_as q before x y behind same (subst (Holds q) e z.1))) (λ z. inr z) (same_turn s h w good i v at passes q n sq t))
+        (λ q sq t. home_else s w.word u k w.turns w.turns w.slots slots' (slot_else slot) q
+        (λ is. absurd (omega (arith, t, ap (λ (z : ℕ). get_or w.turns z 0) is, own_turn))) (good.parts.home q sq t))
+        (λ q n sq t. ⊎_elim (λ (z : (n ≡ v.number) × Holds q v.held). inl (z.0, holds_as q before x y behind same (subst (Holds q) e z.1))) (λ z. inr z)
+        (same_turn s h w good i v at passes q n sq t))
 
-    keeps_release_here : v.held ≡ before ++ kept p c ∷ behind → Good s h record w { turns = set w.turns k 0; views = set w.views i (record v { held = before ++ behind }) }
+    keeps_release_here : v.held ≡ before ++ kept p c ∷ behind
+        → Good s h record w { turns = set w.turns k 0; views = set w.views i (record v { held = before ++ behind }) }
     keeps_release_here e =
         let was = here (kept p c) e in
         let turns' : List ℕ = set w.turns k 0 in
@@ -148,12 +174,21 @@ module _ (s : Setup) (h : List Entry) (w : World) (good : Good s h w) (i : ℕ) 
         (λ n xs ne g. pass_off turns' w.slots (turn_else 0) n xs (λ t. ne (omega (arith, was.turn, t))) g)
         (turn_wide 0)
         (λ q sq t. dite (ℕ_discrete (index_of s q) k)
-        (λ same. record { content = c; slot = ap (get_elem? w.slots) same ∙ was.slot; right = subst (λ (z : Part). Right s w.word u z c) (index_injective s p q st sq (sym same)) was.right })
+        (λ same. record {
+          content = c;
+          slot = ap (get_elem? w.slots) same ∙ was.slot;
+          right = subst (λ (z : Part). Right s w.word u z c)
+              (index_injective s p q st sq (sym same)) was.right;
+        })
         (λ ne. home_else s w.word u k w.turns turns' w.slots w.slots (turn_else 0) q ne (good.parts.home q sq (sym (other_turn 0 q ne) ∙ t))))
         (λ q n sq t. dite (ℕ_discrete (index_of s q) k)
         (λ same. absurd (omega (arith, sym t ∙ this_turn 0 q same)))
         (λ ne. ⊎_elim
-        (λ (z : (n ≡ v.number) × Holds q v.held). inl (z.0, ⊎_elim (λ (is : p ≡ q). absurd (ne (ap (index_of s) (sym is)))) (λ (r : Holds q (before ++ behind)). r) (holds_but q before (kept p c) behind (subst (Holds q) e z.1))))
+        (λ (z : (n ≡ v.number) × Holds q v.held). inl (
+          z.0,
+          ⊎_elim (λ (is : p ≡ q). absurd (ne (ap (index_of s) (sym is)))) (λ (r : Holds q (before ++ behind)).
+              r) (holds_but q before (kept p c) behind (subst (Holds q) e z.1)),
+        ))
         (λ z. inr z)
         (same_turn s h w good i v at passes q n sq (sym (other_turn 0 q ne) ∙ t))))
 
@@ -161,16 +196,20 @@ module _ (s : Setup) (h : List Entry) (w : World) (good : Good s h w) (i : ℕ) 
   -- what is held stands
   stands_there : (x : Held) (before behind : List Held) → v.held ≡ before ++ x ∷ behind → Stands s x.part
   stands_there x before behind e =
-      (all_here (IsHeld s w.word (after s.start h) w.turns w.slots v.number) before x behind (subst (AllByRecursion (IsHeld s w.word (after s.start h) w.turns w.slots v.number)) e (pass s h w good i v at passes).holds.held)).stands
+      (all_here (IsHeld s w.word (after s.start h) w.turns w.slots v.number) before x behind
+      (subst (AllByRecursion (IsHeld s w.word (after s.start h) w.turns w.slots v.number)) e (pass s h w good i v at passes).holds.held)).stands
 
 pub tries : TryKeeps
 tries s h w good i v at passes p c st free there = keeps_try s h w good i v at passes p st c free there
 
 pub takes_out : TakeOutKeeps
-takes_out s h w good i v at passes p c before behind e = reslot s h w good i v at passes p (stands_there s h w good i v at passes (kept p c) before behind e) c before behind (kept p c) (out p c) refl refl refl e
+takes_out s h w good i v at passes p c before behind e = reslot s h w good i v at passes p (stands_there s h w good i v at passes (kept p c) before behind e) c
+    before behind (kept p c) (out p c) refl refl refl e
 
 pub puts_home : PutHomeKeeps
-puts_home s h w good i v at passes p c before behind e = reslot s h w good i v at passes p (stands_there s h w good i v at passes (out p c) before behind e) c before behind (out p c) (kept p c) refl refl refl e
+puts_home s h w good i v at passes p c before behind e = reslot s h w good i v at passes p (stands_there s h w good i v at passes (out p c) before behind e) c
+    before behind (out p c) (kept p c) refl refl refl e
 
 pub releases : ReleaseKeeps
-releases s h w good i v at passes p c before behind e = keeps_release_here s h w good i v at passes p (stands_there s h w good i v at passes (kept p c) before behind e) c before behind e
+releases s h w good i v at passes p c before behind e = keeps_release_here s h w good i v at passes p
+    (stands_there s h w good i v at passes (kept p c) before behind e) c before behind e

@@ -23,7 +23,8 @@ same_view views i j v u a b e = some-injective v u (sym a ∙ (ap (get_elem? vie
 
 module _ (views : List View) (t : Standing) (P Q : ℕ → View → Type 0) (all : Each views t P) where
   -- one is another
-  pub each_set : (i : ℕ) (v : View) → (v.standing ≡ t → Q i v) → ((j : ℕ) (u : View) → j ≢ i → get_elem? views j ≡ some u → u.standing ≡ t → P j u → Q j u) → Each (set views i v) t Q
+  pub each_set : (i : ℕ) (v : View) → (v.standing ≡ t → Q i v) → ((j : ℕ) (u : View) → j ≢ i → get_elem? views j ≡ some u → u.standing ≡ t → P j u → Q j u)
+      → Each (set views i v) t Q
   each_set i v own others j u e is = ⊎_elim
       (λ (x : (j ≡ i) × (v ≡ u)). subst (λ (y : ℕ × View). Q y.0 y.1) (λ d. (sym x.0 d, x.1 d)) (own (ap (λ (y : View). y.standing) x.1 ∙ is)))
       (λ (x : (j ≢ i) × (get_elem? views j ≡ some u)). others j u x.0 x.1 is (all j u x.1 is))
@@ -40,9 +41,15 @@ module _ (views : List View) (t : Standing) (P Q : ℕ → View → Type 0) (all
 
 module _ (views : List View) (P : View → Type 0) where
   -- a pass has changed what it knows
-  pub seated_set : (i : ℕ) (v v' : View) → get_elem? views i ≡ some v → v'.standing ≡ Pass → (P v → P v') → (j : ℕ) → Seated views j P → Seated (set views i v') j P
+  pub seated_set : (i : ℕ) (v v' : View) → get_elem? views i ≡ some v → v'.standing ≡ Pass → (P v → P v') → (j : ℕ) → Seated views j P
+      → Seated (set views i v') j P
   seated_set i v v' at passes f j s = dite (ℕ_discrete j i)
-      (λ here. record { view = v'; at = ap (get_elem? (set views i v')) here ∙ set_here views i v' (at_below views i v at); passes = passes; is = f (subst P (same_view views j i s.view v s.at at here) s.is) })
+      (λ here. record {
+        view = v';
+        at = ap (get_elem? (set views i v')) here ∙ set_here views i v' (at_below views i v at);
+        passes = passes;
+        is = f (subst P (same_view views j i s.view v s.at at here) s.is);
+      })
       (λ other. record { view = s.view; at = set_else views i j v' other ∙ s.at; passes = s.passes; is = s.is })
 
   -- another view has changed
@@ -53,7 +60,8 @@ module _ (views : List View) (P : View → Type 0) where
   seated_more v j s = record { view = s.view; at = at_longer views (v ∷ []) j s.view s.at; passes = s.passes; is = s.is }
 
 -- the numbers are as they were where everyone sits where they sat
-pub numbered_as : (h : List Entry) (word : Word) (views views' : List View) (seat : ℕ → ℕ) (root : RootView) → ((P : View → Type 0) (k : ℕ) → Seated views k P → Seated views' k P) → AreNumbered h word views seat root → AreNumbered h word views' seat root
+pub numbered_as : (h : List Entry) (word : Word) (views views' : List View) (seat : ℕ → ℕ) (root : RootView)
+    → ((P : View → Type 0) (k : ℕ) → Seated views k P → Seated views' k P) → AreNumbered h word views seat root → AreNumbered h word views' seat root
 numbered_as h word views views' seat root up n = record {
   bound = n.bound;
   first = up (IsRoot root) (seat 0) n.first;

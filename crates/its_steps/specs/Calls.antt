@@ -1,5 +1,6 @@
 -- When each kind of call may be committed with the stamp as it is, told by the parts that it needs, and what it leaves in them.
-use Rattle.std.specs.Prelude.{◌≡◌, ◌⊎◌, ℕ, zero, suc, ◌+◌, ◌<◌, ◌≤◌, Bool, true, false, not, ◌&&◌, nat_lt, nat_le, if◌then◌else◌, Option, Some, None, unwrap_or, Ok, Err, List, [], ◌∷◌, length}
+use Rattle.std.specs.Prelude.{◌≡◌, ◌⊎◌, ℕ, zero, suc, ◌+◌, ◌<◌, ◌≤◌, Bool, true, false, not, ◌&&◌, nat_lt, nat_le, if◌then◌else◌, Option, Some, None}
+use Rattle.std.specs.Prelude.{unwrap_or, Ok, Err, List, [], ◌∷◌, length}
 use Rattle.std.specs.List.{AllByRecursion}
 use Rattle.guest_windows.specs.Windows.{Window, read_at, write_at}
 use Rattle.gits_regs.specs.Registers.{read_reg, write_reg}
@@ -42,7 +43,13 @@ staying last call reply change = record { expected = last; stamp = last.stamp; c
 
 -- one that leaves another stamp of the call's translator
 abbrev pub stamping : Setup → Word → Call → Reply → ℕ → ShardChange → Commit
-stamping s last call reply stamp change = record { expected = last; stamp = stamp_with (translator_count s) last.stamp (its_of call) stamp; call = call; reply = reply; change = change }
+stamping s last call reply stamp change = record {
+  expected = last;
+  stamp = stamp_with (translator_count s) last.stamp (its_of call) stamp;
+  call = call;
+  reply = reply;
+  change = change;
+}
 
 -- a pass that holds these parts may make the commit, and owes those from then on
 abbrev pub MayLeave : Setup → Commit → List Held → List Held → Type 0
@@ -58,31 +65,37 @@ IsCalm c = Unit {0}
 
 -- a calm call changes neither where maps send events nor whether LPIs are on, whatever parts are held
 abbrev pub CalmCallsAreSteady : Type 0
-CalmCallsAreSteady = (s : Setup) (a : Commit) (its : ℕ) (owed held : List Held) → HasVcpus s → IsCalm a.call → Apart held → AllByRecursion (λ x. Stands s x.part) held → AreSteady s its owed held (renewal s a held)
+CalmCallsAreSteady = (s : Setup) (a : Commit) (its : ℕ) (owed held : List Held) → HasVcpus s → IsCalm a.call → Apart held
+    → AllByRecursion (λ x. Stands s x.part) held → AreSteady s its owed held (renewal s a held)
 
 -- so whoever holds its parts may commit it with the stamp as it is, and fill the pair's shard with what the maps say
 abbrev pub CalmCallsMayCommit : Type 0
-CalmCallsMayCommit = (s : Setup) (last : Word) (c : Call) (r : Reply) (ch : ShardChange) (held : List Held) → HasVcpus s → IsCalm c → last.place < s.limits.place_last → Apart held → AllByRecursion (λ x. Stands s x.part) held
-    → AllByRecursion IsOut held → IsAnswered (assembled s held) c r held ⊎ IsHit s (staying last c r ch) held → MayChange s c ch (left (assembled s held) c r) held → MayCall s (staying last c r ch) held
+CalmCallsMayCommit = (s : Setup) (last : Word) (c : Call) (r : Reply) (ch : ShardChange) (held : List Held) → HasVcpus s → IsCalm c
+    → last.place < s.limits.place_last → Apart held → AllByRecursion (λ x. Stands s x.part) held
+    → AllByRecursion IsOut held → IsAnswered (assembled s held) c r held ⊎ IsHit s (staying last c r ch) held
+    → MayChange s c ch (left (assembled s held) c r) held → MayCall s (staying last c r ch) held
 
 -- ---- redistributors
 
 -- a redistributor alone is enough for an acknowledgement
 abbrev pub TakeMayCommit : Type 0
 TakeMayCommit = (s : Setup) (last : Word) (vcpu : Vcpu) (r : Redistributor) → HasVcpus s → vcpu.0 < vcpu_count s → last.place < s.limits.place_last
-    → MayLeave s (staying last (call.Take vcpu) (reply.Ack (ack_of r (lowest r))) change.Keep) (out (part.Redist vcpu) (Redist r) ∷ []) (out (part.Redist vcpu) (Redist (taken r (lowest r))) ∷ [])
+    → MayLeave s (staying last (call.Take vcpu) (reply.Ack (ack_of r (lowest r))) change.Keep) (out (part.Redist vcpu) (Redist r) ∷ [])
+    (out (part.Redist vcpu) (Redist (taken r (lowest r))) ∷ [])
 
 -- and to show what would be acknowledged
 abbrev pub ShowMayCommit : Type 0
 ShowMayCommit = (s : Setup) (last : Word) (vcpu : Vcpu) (r : Redistributor) → HasVcpus s → vcpu.0 < vcpu_count s → last.place < s.limits.place_last
-    → let held : List Held = out (part.Redist vcpu) (Redist r) ∷ [] in MayLeave s (staying last (call.Show vcpu) (reply.Ack (ack_of r (lowest r))) change.Keep) held held
+    → let held : List Held = out (part.Redist vcpu) (Redist r) ∷ [] in MayLeave s (staying last (call.Show vcpu) (reply.Ack (ack_of r (lowest r))) change.Keep)
+    held held
 
 -- ---- guest memory
 
 -- memory alone is enough for a write of it
 abbrev pub PokeMayCommit : Type 0
 PokeMayCommit = (s : Setup) (last : Word) (addr : Addr) (bytes : List ℕ) (memory : List Window) → HasVcpus s → last.place < s.limits.place_last
-    → MayLeave s (staying last (call.Poke addr bytes) (poke_reply (write_at memory addr.0 bytes)) change.Keep) (out part.Mem (Mem memory) ∷ []) (out part.Mem (Mem (unwrap_or (write_at memory addr.0 bytes) memory)) ∷ [])
+    → MayLeave s (staying last (call.Poke addr bytes) (poke_reply (write_at memory addr.0 bytes)) change.Keep) (out part.Mem (Mem memory) ∷ [])
+    (out part.Mem (Mem (unwrap_or (write_at memory addr.0 bytes) memory)) ∷ [])
 
 -- 1 to 64 bytes, where one window has them
 abbrev pub peeked_in : List Window → ℕ → ℕ → Option (List ℕ)
@@ -91,14 +104,16 @@ peeked_in memory address count = if nat_lt 0 count && nat_le count 64 then read_
 -- and for a read
 abbrev pub PeekMayCommit : Type 0
 PeekMayCommit = (s : Setup) (last : Word) (addr : Addr) (count : ℕ) (memory : List Window) → HasVcpus s → last.place < s.limits.place_last
-    → let held : List Held = out part.Mem (Mem memory) ∷ [] in MayLeave s (staying last (call.Peek addr count) (peek_reply (peeked_in memory addr.0 count)) change.Keep) held held
+    → let held : List Held = out part.Mem (Mem memory) ∷ [] in MayLeave s
+    (staying last (call.Peek addr count) (peek_reply (peeked_in memory addr.0 count)) change.Keep) held held
 
 -- ---- registers
 
 -- a translator's maps alone are enough for a read of its registers
 abbrev pub ReadMayCommit : Type 0
 ReadMayCommit = (s : Setup) (last : Word) (its off size : ℕ) (t : Translator) → HasVcpus s → its < translator_count s → last.place < s.limits.place_last
-    → let held : List Held = out (part.Maps its) (Maps t) ∷ [] in MayLeave s (staying last (call.ReadReg its off size) (reply.Value (read_reg t.regs off size)) change.Keep) held held
+    → let held : List Held = out (part.Maps its) (Maps t) ∷ [] in MayLeave s (staying last (call.ReadReg its off size) (reply.Value (read_reg t.regs off size))
+    change.Keep) held held
 
 -- the write turns the translator off
 abbrev pub turns_off : Translator → ℕ → ℕ → ℕ → Bool
@@ -106,43 +121,55 @@ turns_off t off size value = t.regs.enabled && not (write_reg t.regs off size va
 
 -- and for a write that doesn't turn it off
 abbrev pub WriteMayCommit : Type 0
-WriteMayCommit = (s : Setup) (last : Word) (its off size value : ℕ) (t : Translator) → HasVcpus s → its < translator_count s → last.place < s.limits.place_last → turns_off t off size value ≡ false
-    → MayLeave s (staying last (call.WriteReg its off size value) reply.Ok change.Keep) (out (part.Maps its) (Maps t) ∷ []) (out (part.Maps its) (Maps (translator_written t (write_reg t.regs off size value))) ∷ [])
+WriteMayCommit = (s : Setup) (last : Word) (its off size value : ℕ) (t : Translator) → HasVcpus s → its < translator_count s → last.place < s.limits.place_last
+    → turns_off t off size value ≡ false
+    → MayLeave s (staying last (call.WriteReg its off size value) reply.Ok change.Keep) (out (part.Maps its) (Maps t) ∷ [])
+    (out (part.Maps its) (Maps (translator_written t (write_reg t.regs off size value))) ∷ [])
 
 -- and for any write, with the stamp one higher
 abbrev pub WriteMayRise : Type 0
-WriteMayRise = (s : Setup) (last : Word) (its off size value : ℕ) (t : Translator) → HasVcpus s → HasStamps s → its < translator_count s → last.place < s.limits.place_last → stamp_of s last its + 1 ≤ s.limits.stamp_last
-    → MayLeave s (stamping s last (call.WriteReg its off size value) reply.Ok (stamp_of s last its + 1) change.Keep) (out (part.Maps its) (Maps t) ∷ []) (out (part.Maps its) (Maps (translator_written t (write_reg t.regs off size value))) ∷ [])
+WriteMayRise = (s : Setup) (last : Word) (its off size value : ℕ) (t : Translator) → HasVcpus s → HasStamps s → its < translator_count s
+    → last.place < s.limits.place_last → stamp_of s last its + 1 ≤ s.limits.stamp_last
+    → MayLeave s (stamping s last (call.WriteReg its off size value) reply.Ok (stamp_of s last its + 1) change.Keep) (out (part.Maps its) (Maps t) ∷ [])
+    (out (part.Maps its) (Maps (translator_written t (write_reg t.regs off size value))) ∷ [])
 
 -- ---- signals
 
 -- a signal that is found in its pair's shard needs that and the target's redistributor
 abbrev pub HitMayCommit : Type 0
-HitMayCommit = (s : Setup) (last : Word) (its : ℕ) (dev : DeviceId) (ev : EventId) (target : Target) (ways : List (Option Translation)) (r : Redistributor) → HasVcpus s → its < translator_count s → target.vcpu.0 < vcpu_count s
+HitMayCommit = (s : Setup) (last : Word) (its : ℕ) (dev : DeviceId) (ev : EventId) (target : Target) (ways : List (Option Translation)) (r : Redistributor)
+    → HasVcpus s → its < translator_count s → target.vcpu.0 < vcpu_count s
     → shard_number dev.0 ev.0 s.shards < s.shards → last.place < s.limits.place_last → found ways dev.0 ev.0 (stamp_of s last its) ≡ Some target
     → let shard : Held = out (part.Shard its (shard_number dev.0 ev.0 s.shards)) (Shard ways) in
     MayLeave s (staying last (call.Signal its dev ev) (reply.Signal (Delivered target.vcpu target.intid)) change.Keep)
-    (out (part.Redist target.vcpu) (Redist r) ∷ shard ∷ []) (out (part.Redist target.vcpu) (Redist (record r { pending = with_lpi target.intid.0 r.pending })) ∷ shard ∷ [])
+    (out (part.Redist target.vcpu) (Redist r) ∷ shard ∷ []) (out (part.Redist target.vcpu) (Redist (record r { pending = with_lpi target.intid.0 r.pending }))
+    ∷ shard ∷ [])
 
 -- one that the maps send to a redistributor whose LPIs are on needs the maps too, and may fill its pair's shard
 abbrev pub FillMayCommit : Type 0
-FillMayCommit = (s : Setup) (last : Word) (its : ℕ) (dev : DeviceId) (ev : EventId) (target : Target) (t : Translator) (ways : List (Option Translation)) (r : Redistributor) → HasVcpus s → its < translator_count s → target.vcpu.0 < vcpu_count s
+FillMayCommit = (s : Setup) (last : Word) (its : ℕ) (dev : DeviceId) (ev : EventId) (target : Target) (t : Translator) (ways : List (Option Translation))
+    (r : Redistributor) → HasVcpus s → its < translator_count s → target.vcpu.0 < vcpu_count s
     → shard_number dev.0 ev.0 s.shards < s.shards → last.place < s.limits.place_last → located t dev.0 ev.0 ≡ Ok target → r.bases.on ≡ true
     → let n : ℕ = shard_number dev.0 ev.0 s.shards in
     MayLeave s (staying last (call.Signal its dev ev) (reply.Signal (Delivered target.vcpu target.intid)) (change.Fill dev ev target))
     (out (part.Redist target.vcpu) (Redist r) ∷ out (part.Shard its n) (Shard ways) ∷ out (part.Maps its) (Maps t) ∷ [])
-    (out (part.Redist target.vcpu) (Redist (record r { pending = with_lpi target.intid.0 r.pending })) ∷ out (part.Shard its n) (Shard (filled ways (entry dev ev (stamp_of s last its) target))) ∷ out (part.Maps its) (Maps t) ∷ [])
+    (out (part.Redist target.vcpu) (Redist (record r { pending = with_lpi target.intid.0 r.pending })) ∷ out (part.Shard its n)
+    (Shard (filled ways (entry dev ev (stamp_of s last its) target))) ∷ out (part.Maps its) (Maps t) ∷ [])
 
 -- one that the maps send nowhere needs the maps alone
 abbrev pub DropMayCommit : Type 0
-DropMayCommit = (s : Setup) (last : Word) (its : ℕ) (dev : DeviceId) (ev : EventId) (cause : Cause) (t : Translator) → HasVcpus s → its < translator_count s → last.place < s.limits.place_last → located t dev.0 ev.0 ≡ Err cause
-    → let held : List Held = out (part.Maps its) (Maps t) ∷ [] in MayLeave s (staying last (call.Signal its dev ev) (reply.Signal (Dropped cause)) change.Keep) held held
+DropMayCommit = (s : Setup) (last : Word) (its : ℕ) (dev : DeviceId) (ev : EventId) (cause : Cause) (t : Translator) → HasVcpus s → its < translator_count s
+    → last.place < s.limits.place_last → located t dev.0 ev.0 ≡ Err cause
+    → let held : List Held = out (part.Maps its) (Maps t) ∷ [] in MayLeave s (staying last (call.Signal its dev ev) (reply.Signal (Dropped cause)) change.Keep)
+    held held
 
 -- one whose target's LPIs are off needs that redistributor too; the pair's shard was taken before that was seen, and stays as it was
 abbrev pub OffMayCommit : Type 0
-OffMayCommit = (s : Setup) (last : Word) (its : ℕ) (dev : DeviceId) (ev : EventId) (target : Target) (t : Translator) (ways : List (Option Translation)) (r : Redistributor) → HasVcpus s → its < translator_count s → target.vcpu.0 < vcpu_count s
+OffMayCommit = (s : Setup) (last : Word) (its : ℕ) (dev : DeviceId) (ev : EventId) (target : Target) (t : Translator) (ways : List (Option Translation))
+    (r : Redistributor) → HasVcpus s → its < translator_count s → target.vcpu.0 < vcpu_count s
     → shard_number dev.0 ev.0 s.shards < s.shards → last.place < s.limits.place_last → located t dev.0 ev.0 ≡ Ok target → r.bases.on ≡ false
-    → let held : List Held = out (part.Redist target.vcpu) (Redist r) ∷ out (part.Shard its (shard_number dev.0 ev.0 s.shards)) (Shard ways) ∷ out (part.Maps its) (Maps t) ∷ [] in
+    → let held : List Held = out (part.Redist target.vcpu) (Redist r) ∷ out (part.Shard its (shard_number dev.0 ev.0 s.shards)) (Shard ways) ∷ out
+    (part.Maps its) (Maps t) ∷ [] in
     MayLeave s (staying last (call.Signal its dev ev) (reply.Signal (Dropped LpisOff)) change.Keep) held held
 
 -- ---- saves
@@ -163,4 +190,5 @@ whole_held u = redists_held u (length u.redistributors) (out part.Mem (Mem u.mem
 
 -- a save needs all but the shards
 abbrev pub SaveMayCommit : Type 0
-SaveMayCommit = (s : Setup) (last : Word) (u : Plain) → IsOfMachine s u → last.place < s.limits.place_last → MayLeave s (staying last call.Save (save_reply (savable u)) change.Keep) (whole_held u) (whole_held (save_left u (savable u)))
+SaveMayCommit = (s : Setup) (last : Word) (u : Plain) → IsOfMachine s u → last.place < s.limits.place_last
+    → MayLeave s (staying last call.Save (save_reply (savable u)) change.Keep) (whole_held u) (whole_held (save_left u (savable u)))

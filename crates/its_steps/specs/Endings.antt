@@ -79,7 +79,8 @@ ending_told m c (step.Ran op) = ending_in m c
 ending_told m c r = Nothing
 
 abbrev pub RepliesTellEndings : Type 0
-RepliesTellEndings = (u : Plain) (its : ℕ) (bytes : List ℕ) → is_idle u its ≡ false → next_bytes u its ≡ Some bytes → ending_of u (call.Step its) ≡ ending_told (maps_of u its) (decoded bytes) (step_reply u its)
+RepliesTellEndings = (u : Plain) (its : ℕ) (bytes : List ℕ) → is_idle u its ≡ false → next_bytes u its ≡ Some bytes → ending_of u (call.Step its) ≡ ending_told
+    (maps_of u its) (decoded bytes) (step_reply u its)
 
 -- what a commit needs with the stamp as it was, where a state has what is held: each translation that ends there has left its shard
 abbrev pub EndingsAreDropped : Type 0

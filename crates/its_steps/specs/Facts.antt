@@ -14,7 +14,8 @@ use Rattle.xlate_cache.specs.declared.entry.Entry.{Entry as Translation}
 use Rattle.its_steps.specs.Contents.{Content, Held}
 use Rattle.its_steps.specs.Good.{Apart}
 use Rattle.its_steps.specs.MayCall.{Owes}
-use Rattle.its_steps.specs.Parts.{Setup, HasVcpus, HasStamps, Stands, Has, Suits, IsOfMachine, index_of, part_count, translator_count, stamp_at, stamp_of, stamp_with}
+use Rattle.its_steps.specs.Parts.{Setup, HasVcpus, HasStamps, Stands, Has, Suits, IsOfMachine, index_of, part_count, translator_count, stamp_at, stamp_of}
+use Rattle.its_steps.specs.Parts.{stamp_with}
 use Rattle.its_steps.specs.Renewal.{assembled}
 use Rattle.its_steps.specs.World.{first_slots}
 
@@ -24,7 +25,8 @@ HistoriesStayInMachine = (s : Setup) → IsSound s.start → (h : List Entry) �
 
 -- the first state with what is held put in has what is held
 abbrev pub AssembledHas : Type 0
-AssembledHas = (s : Setup) → HasVcpus s → (held : List Held) → Apart held → AllByRecursion (λ x. Stands s x.part) held → (p : Part) (c : Content) → Suits p c → Owes p c held → Has (assembled s held) p c
+AssembledHas = (s : Setup) → HasVcpus s → (held : List Held) → Apart held → AllByRecursion (λ x. Stands s x.part) held → (p : Part) (c : Content) → Suits p c
+    → Owes p c held → Has (assembled s held) p c
 
 -- each part has an index of its own below their count
 abbrev pub IndexesAreBelow : Type 0
@@ -39,11 +41,13 @@ FirstSlotsAreAll = (s : Setup) → IsSound s.start → length (first_slots s) �
 
 -- what is found in a shard stands in one of its ways
 abbrev pub FoundStandsThere : Type 0
-FoundStandsThere = (dev : DeviceId) (ev : EventId) (stamp : ℕ) (t : Target) (ways : List (Option Translation)) → found ways dev.0 ev.0 stamp ≡ Some t → (i : ℕ) × (slice_index_or ways i None ≡ Some (entry dev ev stamp t))
+FoundStandsThere = (dev : DeviceId) (ev : EventId) (stamp : ℕ) (t : Target) (ways : List (Option Translation)) → found ways dev.0 ev.0 stamp ≡ Some t → (i : ℕ)
+    × (slice_index_or ways i None ≡ Some (entry dev ev stamp t))
 
 -- the stamp of a machine's one translator is the word's
 abbrev pub OneHasAllBits : Type 0
-OneHasAllBits = (s : Setup) → translator_count s ≡ 1 → ((word : Word) (its : ℕ) → stamp_of s word its ≡ word.stamp) × ((stamp its new : ℕ) → stamp_with (translator_count s) stamp its new ≡ new)
+OneHasAllBits = (s : Setup) → translator_count s ≡ 1 → ((word : Word) (its : ℕ) → stamp_of s word its ≡ word.stamp)
+    × ((stamp its new : ℕ) → stamp_with (translator_count s) stamp its new ≡ new)
 
 -- where a translator gets another stamp, it has that, and each other has its own
 abbrev pub StampsAreApart : Type 0

@@ -98,7 +98,8 @@ pub record Sits (seat : ℕ → ℕ) (root : RootView) (i number : ℕ) : Type 0
   pub given : number < root.made
   pub present : ¬ IsEnded number root.ended
 
--- what the pass of this number has seen and was told are beginnings of the history, what it calls its own are its calls, and the word that it read is as old as what it has seen
+-- what the pass of this number has seen and was told are beginnings of the history, what it calls its own are its calls, and the
+-- word that it read is as old as what it has seen
 pub record Knows (h : List Entry) (word : Word) (number : ℕ) (sees hears : List Entry) (own : Placed) (read : Word) : Type 0 where
   pub seen : IsPrefix sees h
   pub told : IsPrefix hears h
@@ -112,7 +113,8 @@ pub record AreHeld (s : Setup) (word : Word) (u : Plain) (turns : List ℕ) (slo
   pub held : AllByRecursion (IsHeld s word u turns slots number) xs
 
 -- what the pass at index i knows is so. `seat` tells at which index each number is
-pub record IsPass (s : Setup) (h : List Entry) (word : Word) (turns : List ℕ) (slots : List (Option Content)) (seat : ℕ → ℕ) (root : RootView) (i : ℕ) (v : View) : Type 0 where
+pub record IsPass (s : Setup) (h : List Entry) (word : Word) (turns : List ℕ) (slots : List (Option Content)) (seat : ℕ → ℕ) (root : RootView) (i : ℕ)
+    (v : View) : Type 0 where
   pub setup : v.setup ≡ s
   pub sits : Sits seat root i v.number
   pub knows : Knows h word v.number v.seen v.told v.mine v.last

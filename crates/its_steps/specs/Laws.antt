@@ -12,7 +12,8 @@ use Rattle.its_steps.specs.MayCall.{MayCall}
 use Rattle.its_steps.specs.MayCommit.{MayCommit}
 use Rattle.its_steps.specs.Parts.{Setup, Stands, index_of}
 use Rattle.its_steps.specs.Renewal.{renewal}
-use Rattle.its_steps.specs.World.{View, World, first_world, loaded, missed, got, took, kept, out, word_after, entry_of, committed, has_split, split_off, note_of, has_joined, has_met, spent}
+use Rattle.its_steps.specs.World.{View, World, first_world, loaded, missed, got, took, kept, out, word_after, entry_of, committed, has_split, split_off}
+use Rattle.its_steps.specs.World.{note_of, has_joined, has_met, spent}
 use Rattle.its_steps.specs.declared.commit.Commit.{Commit}
 use Rattle.its_steps.specs.declared.standing.Standing.TheVariants.{Pass, Note}
 
@@ -69,16 +70,25 @@ ReleaseKeeps = AtPass (λ s h w i v. (p : Part) (c : Content) (before behind : L
 -- the turn is got and the value taken out
 abbrev pub TakeKeeps : Type 0
 TakeKeeps = AtPass (λ s h w i v. (p : Part) (c : Content) → Stands s p → turn_of s w.turns p ≡ 0 → get_elem? w.slots (index_of s p) ≡ some (some c)
-    → Good s h record w { turns = slice_set w.turns (index_of s p) (suc v.number); slots = slice_set w.slots (index_of s p) none; views = slice_set w.views i (took v p c) })
+    → Good s h record w {
+      turns = slice_set w.turns (index_of s p) (suc v.number);
+      slots = slice_set w.slots (index_of s p) none;
+      views = slice_set w.views i (took v p c);
+    })
 
 -- the value is put home and the turn given back
 abbrev pub GiveKeeps : Type 0
 GiveKeeps = AtPass (λ s h w i v. (p : Part) (c : Content) (before behind : List Held) → v.held ≡ before ++ out p c ∷ behind
-    → Good s h record w { turns = slice_set w.turns (index_of s p) 0; slots = slice_set w.slots (index_of s p) (some c); views = slice_set w.views i (record v { held = before ++ behind }) })
+    → Good s h record w {
+      turns = slice_set w.turns (index_of s p) 0;
+      slots = slice_set w.slots (index_of s p) (some c);
+      views = slice_set w.views i (record v { held = before ++ behind });
+    })
 
 -- the order in which parts are held is of no account
 abbrev pub BringKeeps : Type 0
-BringKeeps = AtPass (λ s h w i v. (x : Held) (before behind : List Held) → v.held ≡ before ++ x ∷ behind → Good s h record w { views = slice_set w.views i (record v { held = x ∷ (before ++ behind) }) })
+BringKeeps = AtPass (λ s h w i v. (x : Held) (before behind : List Held) → v.held ≡ before ++ x ∷ behind
+    → Good s h record w { views = slice_set w.views i (record v { held = x ∷ (before ++ behind) }) })
 
 -- ---- passes and notes
 
@@ -110,13 +120,15 @@ NumbersAreBounded = AtPass (λ s h w i v. v.number < 2 ^ 32)
 
 -- so has the one whose turn a part is; and a pass holds the parts that have its number
 abbrev pub TurnsAreHeld : Type 0
-TurnsAreHeld = AtPass (λ s h w i v. (p : Part) (n : ℕ) → Stands s p → turn_of s w.turns p ≡ suc n → (n < 2 ^ 32) × (((n ≡ v.number) × Holds p v.held) ⊎ (n ≢ v.number)))
+TurnsAreHeld = AtPass (λ s h w i v. (p : Part) (n : ℕ) → Stands s p → turn_of s w.turns p ≡ suc n → (n < 2 ^ 32)
+    × (((n ≡ v.number) × Holds p v.held) ⊎ (n ≢ v.number)))
 
 -- no pass but the root is out
 abbrev pub IsAlone : View → Type 0
 IsAlone v = (n : ℕ) → 0 < n → n < v.root.made → IsEnded n v.root.ended
 
--- The root knows which entries there can be, and all that the passes did that were joined, each of them once, and not the root. Alone it has read the word, has seen the whole history, and no other pass has a turn
+-- The root knows which entries there can be, and all that the passes did that were joined, each of them once, and not the root.
+-- Alone it has read the word, has seen the whole history, and no other pass has a turn
 pub record RootKnows (s : Setup) (h : List Entry) (w : World) (v : View) : Type 0 where
   pub bound : v.root.made ≤ 2 ^ 32
   pub given : AllByRecursion (λ e. e.pass < v.root.made) h

@@ -79,9 +79,11 @@ pub record IsWithout (s : Setup) (its dev ev : ℕ) (owed : List Held) : Type 0 
   pub owes : Owes (part.Shard its (shard_number dev ev s.shards)) (Shard ways) owed
   pub none : (i : ℕ) → is_of dev ev (slice_index_or ways i None) ≡ false
 
--- Each pair that the translator delivered is delivered as before, unless its translation is in no shard any more: the maps send it where they did, and no redistributor is turned off
+-- Each pair that the translator delivered is delivered as before, unless its translation is in no shard any more: the maps send
+-- it where they did, and no redistributor is turned off
 abbrev pub IsSteady : Setup → ℕ → List Held → Part → Content → Content → Type 0
-IsSteady s its owed (part.Maps i) (Maps t) (Maps t') = i ≡ its → (dev ev : ℕ) (target : Target) → located t dev ev ≡ Ok target → (located t' dev ev ≡ Ok target) ⊎ IsWithout s its dev ev owed
+IsSteady s its owed (part.Maps i) (Maps t) (Maps t') = i ≡ its → (dev ev : ℕ) (target : Target) → located t dev ev ≡ Ok target → (located t' dev ev ≡ Ok target)
+    ⊎ IsWithout s its dev ev owed
 IsSteady s its owed (part.Redist vcpu) (Redist r) (Redist r') = r.bases.on ≡ true → r'.bases.on ≡ true
 IsSteady s its owed p c c' = Unit {0}
 
@@ -97,7 +99,8 @@ IsFill s to call change its e = ⊥
 
 -- no entry was in the translator's shard before
 abbrev pub HasFillsAlone : Setup → Word → Call → ShardChange → ℕ → Part → Content → Type 0
-HasFillsAlone s to call change its (part.Shard i n) (Shard ways) = i ≡ its → (k : ℕ) (e : Translation) → slice_index_or ways k None ≡ Some e → IsFill s to call change its e
+HasFillsAlone s to call change its (part.Shard i n) (Shard ways) = i ≡ its → (k : ℕ) (e : Translation) → slice_index_or ways k None ≡ Some e
+    → IsFill s to call change its e
 HasFillsAlone s to call change its p c = Unit {0}
 
 -- The stamp of a translator stays, where no current translation ends

@@ -1,5 +1,6 @@
 -- The parts of a shared machine: which there are, where each has its turn and its slot, and what each may contain.
-use Rattle.std.specs.Prelude.{◌≡◌, ◌⊎◌, ℕ, ◌+◌, ◌*◌, ◌/◌, ◌%◌, ◌<◌, ◌≤◌, true, ◌==◌, if◌then◌else◌, List, length, slice_get, slice_index_or, Option, Some, None, Ok}
+use Rattle.std.specs.Prelude.{◌≡◌, ◌⊎◌, ℕ, ◌+◌, ◌*◌, ◌/◌, ◌%◌, ◌<◌, ◌≤◌, true, ◌==◌, if◌then◌else◌, List, length, slice_get, slice_index_or, Option, Some}
+use Rattle.std.specs.Prelude.{None, Ok}
 use Rattle.std.specs.List.{AllByRecursion}
 use Rattle.its_types.specs.Ranges.{is_lpi}
 use Rattle.its_types.specs.declared.machine.Limits.{Limits}
@@ -75,7 +76,8 @@ HasStamps s = (translator_count s ≡ 1) ⊎ ((translator_count s ≡ 2) × (s.l
 
 -- ---- what they contain
 
--- An entry in shard n of a translator's cache: it is of a pair of that shard, no stamp is of the future, and its target is one that the machine has, however old it is. One of the current stamp is what translation gives
+-- An entry in shard n of a translator's cache: it is of a pair of that shard, no stamp is of the future, and its target is one
+-- that the machine has, however old it is. One of the current stamp is what translation gives
 pub record IsCached (s : Setup) (word : Word) (u : Plain) (its n : ℕ) (e : Translation) : Type 0 where
   pub shard : shard_number e.dev.0 e.ev.0 s.shards ≡ n
   pub stamp : e.stamp ≤ stamp_of s word its

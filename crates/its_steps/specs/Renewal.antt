@@ -52,7 +52,8 @@ is_shard_of s call dev ev its n = its == its_of call && n == shard_number dev.0 
 -- shard n of a translator after a change, where the commit of the call leaves this word
 unfoldable pub changed : Setup → Word → Call → ShardChange → ℕ → ℕ → List (Option Translation) → List (Option Translation)
 changed s to call change.Keep its n ways = ways
-changed s to call (change.Fill dev ev target) its n ways = if is_shard_of s call dev ev its n then filled ways (entry dev ev (stamp_of s to its) target) else ways
+changed s to call (change.Fill dev ev target) its n ways = if is_shard_of s call dev ev its n then filled ways
+    (entry dev ev (stamp_of s to its) target) else ways
 changed s to call (change.Drop dev ev) its n ways = if is_shard_of s call dev ev its n then dropped ways dev.0 ev.0 else ways
 changed s to call change.Empty its n ways = if its == its_of call then no_entries else ways
 

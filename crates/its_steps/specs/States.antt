@@ -27,7 +27,8 @@ RightIsHad = (s : Setup) (word : Word) (u : Plain) (held : List Held) → AllByR
 
 -- what may be committed in such a state may be committed, and leaves what it leaves there
 abbrev pub StateMayCommit : Type 0
-StateMayCommit = (s : Setup) (u : Plain) (a : Commit) (held : List Held) → IsOfMachine s u → HasAll u held → MayCallIn s u a held → MayLeave s a held (renewal_in s u a held)
+StateMayCommit = (s : Setup) (u : Plain) (a : Commit) (held : List Held) → IsOfMachine s u → HasAll u held → MayCallIn s u a held
+    → MayLeave s a held (renewal_in s u a held)
 
 -- a state has the parts held, which are those of a call and out, and this is its reply there
 pub record IsReady (s : Setup) (u : Plain) (last : Word) (c : Call) (r : Reply) (held : List Held) : Type 0 where
@@ -54,15 +55,18 @@ NothingEnds = WhenReady (λ s u last c r held. ending_of u c ≡ Nothing → May
 
 -- one pair: its shard is held, and loses it; the stamp as before
 abbrev pub PairEnds : Type 0
-PairEnds = WhenReady (λ s u last c r held. (dev : DeviceId) (ev : EventId) → ending_of u c ≡ Pair dev.0 ev.0 → Holds (shard_of s c dev ev) held → MayLeaveIn s u (staying last c r (change.Drop dev ev)) held)
+PairEnds = WhenReady (λ s u last c r held. (dev : DeviceId) (ev : EventId) → ending_of u c ≡ Pair dev.0 ev.0 → Holds (shard_of s c dev ev) held
+    → MayLeaveIn s u (staying last c r (change.Drop dev ev)) held)
 
 -- all, or any: the maps are held, and the stamp is one higher
 abbrev pub AllEnd : Type 0
-AllEnd = WhenReady (λ s u last c r held. HasStamps s → Holds (part.Maps (its_of c)) held → stamp_of s last (its_of c) + 1 ≤ s.limits.stamp_last → MayLeaveIn s u (stamping s last c r (stamp_of s last (its_of c) + 1) change.Keep) held)
+AllEnd = WhenReady (λ s u last c r held. HasStamps s → Holds (part.Maps (its_of c)) held → stamp_of s last (its_of c) + 1 ≤ s.limits.stamp_last
+    → MayLeaveIn s u (stamping s last c r (stamp_of s last (its_of c) + 1) change.Keep) held)
 
 -- at the last stamp: every shard of the translator is held, and is emptied; the stamp is 0
 abbrev pub AllEndAtLast : Type 0
-AllEndAtLast = WhenReady (λ s u last c r held. HasStamps s → Holds (part.Maps (its_of c)) held → ((n : ℕ) → n < s.shards → Holds (part.Shard (its_of c) n) held) → MayLeaveIn s u (stamping s last c r 0 change.Empty) held)
+AllEndAtLast = WhenReady (λ s u last c r held. HasStamps s → Holds (part.Maps (its_of c)) held → ((n : ℕ) → n < s.shards → Holds (part.Shard (its_of c) n) held)
+    → MayLeaveIn s u (stamping s last c r 0 change.Empty) held)
 
 -- ---- by kinds of call
 

@@ -9,7 +9,8 @@ use Rattle.its_steps.specs.Good.{Holds, turn_of, Good}
 use Rattle.its_steps.specs.MayCall.{MayCall}
 use Rattle.its_steps.specs.Parts.{Setup, Stands, index_of}
 use Rattle.its_steps.specs.Renewal.{renewal}
-use Rattle.its_steps.specs.World.{View, World, first_world, loaded, missed, got, kept, out, word_after, entry_of, committed, has_split, split_off, note_of, has_joined, has_met, spent}
+use Rattle.its_steps.specs.World.{View, World, first_world, loaded, missed, got, kept, out, word_after, entry_of, committed, has_split, split_off, note_of}
+use Rattle.its_steps.specs.World.{has_joined, has_met, spent}
 use Rattle.its_steps.specs.declared.commit.Commit.{Commit}
 use Rattle.its_steps.specs.declared.event.Event.{Event}
 use Rattle.its_steps.specs.declared.event.Kind.{Kind}
@@ -58,7 +59,12 @@ pub record Gets (c : Core) (i : ℕ) (v : View) (p : Part) (after : Core) : Type
   pub free : turn_of c.setup c.world.turns p ≡ 0
   pub content : Content
   pub slot : get_elem? c.world.slots (index_of c.setup p) ≡ some (some content)
-  pub leaves : after ≡ record c { world = record c.world { turns = slice_set c.world.turns (index_of c.setup p) (suc v.number); views = slice_set c.world.views i (got v p content) } }
+  pub leaves : after ≡ record c {
+    world = record c.world {
+      turns = slice_set c.world.turns (index_of c.setup p) (suc v.number);
+      views = slice_set c.world.views i (got v p content);
+    };
+  }
 
 -- another pass has it
 pub record Misses (c : Core) (i : ℕ) (v : View) (p : Part) (after : Core) : Type 0 where
@@ -78,7 +84,12 @@ pub record TakesOut (c : Core) (i : ℕ) (v : View) (p : Part) (after : Core) : 
   pub before : List Held
   pub behind : List Held
   pub held : v.held ≡ before ++ kept p content ∷ behind
-  pub leaves : after ≡ record c { world = record c.world { slots = slice_set c.world.slots (index_of c.setup p) none; views = slice_set c.world.views i (record v { held = before ++ out p content ∷ behind }) } }
+  pub leaves : after ≡ record c {
+    world = record c.world {
+      slots = slice_set c.world.slots (index_of c.setup p) none;
+      views = slice_set c.world.views i (record v { held = before ++ out p content ∷ behind });
+    };
+  }
 
 pub record PutsHome (c : Core) (i : ℕ) (v : View) (p : Part) (after : Core) : Type 0 where
   pub content : Content
@@ -86,14 +97,24 @@ pub record PutsHome (c : Core) (i : ℕ) (v : View) (p : Part) (after : Core) : 
   pub behind : List Held
   pub held : v.held ≡ before ++ out p content ∷ behind
   pub leaves :
-      after ≡ record c { world = record c.world { slots = slice_set c.world.slots (index_of c.setup p) (some content); views = slice_set c.world.views i (record v { held = before ++ kept p content ∷ behind }) } }
+      after ≡ record c {
+        world = record c.world {
+          slots = slice_set c.world.slots (index_of c.setup p) (some content);
+          views = slice_set c.world.views i (record v { held = before ++ kept p content ∷ behind });
+        };
+      }
 
 pub record Releases (c : Core) (i : ℕ) (v : View) (p : Part) (after : Core) : Type 0 where
   pub content : Content
   pub before : List Held
   pub behind : List Held
   pub held : v.held ≡ before ++ kept p content ∷ behind
-  pub leaves : after ≡ record c { world = record c.world { turns = slice_set c.world.turns (index_of c.setup p) 0; views = slice_set c.world.views i (record v { held = before ++ behind }) } }
+  pub leaves : after ≡ record c {
+    world = record c.world {
+      turns = slice_set c.world.turns (index_of c.setup p) 0;
+      views = slice_set c.world.views i (record v { held = before ++ behind });
+    };
+  }
 
 -- ---- the word
 

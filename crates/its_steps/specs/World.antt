@@ -224,7 +224,12 @@ earlier v w = if nat_lt v.last.place w.last.place then v else w
 
 -- the root after a join with the pass w
 abbrev pub has_joined : View → View → View
-has_joined v w = record v { seen = (later v w).seen; told = (earlier v w).seen; last = (later v w).last; root = record v.root { ended = (w.number, w.mine) ∷ v.root.ended } }
+has_joined v w = record v {
+  seen = (later v w).seen;
+  told = (earlier v w).seen;
+  last = (later v w).last;
+  root = record v.root { ended = (w.number, w.mine) ∷ v.root.ended };
+}
 
 -- a pass after it met a note
 abbrev pub has_met : View → View → View
@@ -232,7 +237,12 @@ has_met v note = record v { told = note.seen }
 
 abbrev no_setup : Setup
 no_setup = record {
-  start = record { layout = record { shape = record { vcpus = 0; dev_bits = 0; lpi_bits = 0; profile = One }; gicr = false; described = [] }; translators = []; redistributors = []; memory = [] };
+  start = record {
+    layout = record { shape = record { vcpus = 0; dev_bits = 0; lpi_bits = 0; profile = One }; gicr = false; described = [] };
+    translators = [];
+    redistributors = [];
+    memory = [];
+  };
   limits = record { stamp_last = 0; place_last = 0 };
   shards = 0;
 }

@@ -31,14 +31,18 @@ module _ (s : Setup) (slots id : ℕ) (me : Me Value View) (passes : me.0.standi
     pub machine : IsOfMachine s (after s.start me.0.seen)
     pub right : Right s me.0.last (after s.start me.0.seen) p content
 
-  pub closes : (words : List ℕ) (xs : List Value) → Final (Seen (Kept s) id me.0) words xs → IsLone me.0 → me.0.held ≡ [] → (p : Part) (x : Value) → Stands s p → get_elem? xs (8 * index_of s p) ≡ some x → IsLast p x
+  pub closes : (words : List ℕ) (xs : List Value) → Final (Seen (Kept s) id me.0) words xs → IsLone me.0 → me.0.held ≡ [] → (p : Part) (x : Value) → Stands s p
+      → get_elem? xs (8 * index_of s p) ≡ some x → IsLast p x
   closes words xs end lone bare p x st there =
       let t = end.0 in let kp = end.1.0 in let at = end.1.1 in
       let w : World = world_of s t in
       let r = reads_last s slots id me passes t kp at lone in
       let k : ℕ = index_of s p in
-      let own : (n : ℕ) → turn_of s w.turns p ≡ suc n → ⊥ = λ n e. ⊎_elim (λ (z : (n ≡ me.0.number) × Holds p me.0.held). subst (Holds p) bare z.1) (λ (z : (n ≢ me.0.number) × (turn_of s w.turns p ≡ suc n)). z.0 (r.2 p n st e ∙ sym lone.0)) (same_turn s kp.history w kp.good id me.0 at passes p n st e) in
-      let free : turn_of s w.turns p ≡ 0 = dite (ℕ_discrete (turn_of s w.turns p) 0) (λ e. e) (λ ne. absurd (own (turn_of s w.turns p - 1) (omega (arith, ne)))) in
+      let own : (n : ℕ) → turn_of s w.turns p ≡ suc n → ⊥ = λ n e. ⊎_elim (λ (z : (n ≡ me.0.number) × Holds p me.0.held). subst (Holds p) bare z.1)
+      (λ (z : (n ≢ me.0.number) × (turn_of s w.turns p ≡ suc n)). z.0 (r.2 p n st e ∙ sym lone.0))
+      (same_turn s kp.history w kp.good id me.0 at passes p n st e) in
+      let free : turn_of s w.turns p ≡ 0 = dite (ℕ_discrete (turn_of s w.turns p) 0) (λ e. e)
+      (λ ne. absurd (own (turn_of s w.turns p - 1) (omega (arith, ne)))) in
       let home = kp.good.parts.home p st free in
       let hv = home_value t.homes (part_count s) k home.content (inside s p st) home.slot in
       let same : hv.0 ≡ x = some-injective hv.0 x (sym (end.4 (8 * k) hv.0 hv.1) ∙ there) in

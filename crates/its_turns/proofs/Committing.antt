@@ -28,7 +28,8 @@ use Rattle.its_turns.specs.declared.value.Value.{Value}
 
 module _ (s : Setup) (slots id : ℕ) (me : Me Value View) (passes : me.0.standing ≡ Pass) (first second : ℕ) (a : Commit) where
   abbrev Done : ℕ → ℕ → St → Type 0
-  Done n x t = (v : View) × (b : Act Value) × Valid t.homes me.1 b × Kept s (stepped t 0 x id me.1 v b) × committing a (step slots 0 first second none) me n (v, carried_after me.1 b)
+  Done n x t = (v : View) × (b : Act Value) × Valid t.homes me.1 b × Kept s (stepped t 0 x id me.1 v b) × committing a (step slots 0 first second none) me n
+      (v, carried_after me.1 b)
 
   abbrev to : Word
   to = word_after a
@@ -48,13 +49,16 @@ module _ (s : Setup) (slots id : ℕ) (me : Me Value View) (passes : me.0.standi
       let v' : View = committed_by me.0 a in
       let e : Entry = entry_of me.0 a in
       let same : v1 ≡ v' = λ d. committed me.0 (sym seen d) a (renewal (sym fits.setup d) a me.0.held) in
-      let good1 : Good s (h ++ e ∷ []) record w { word = to; views = set w.views id v1 } = keeps_commit s h w kp.good id me.0 at passes a owed now (holders s a me.0.held may) in
-      let good' : Good s (h ++ e ∷ []) record w { word = to; views = set w.views id v' } = subst (λ (v : View). Good s (h ++ e ∷ []) record w { word = to; views = set w.views id v }) same good1 in
+      let good1 : Good s (h ++ e ∷ []) record w { word = to; views = set w.views id v1 } = keeps_commit s h w kp.good id me.0 at passes a owed now
+      (holders s a me.0.held may) in
+      let good' : Good s (h ++ e ∷ []) record w { word = to; views = set w.views id v' } =
+      subst (λ (v : View). Good s (h ++ e ∷ []) record w { word = to; views = set w.views id v }) same good1 in
       let new_word : get_or (set t.words 0 second) 0 0 ≡ second = get_or-set_same t.words 0 second 0 (omega (arith, kp.wide)) in
       let new_turns : turns_in (set t.words 0 second) (part_count s) ≡ w.turns = turns_stay t.words (part_count s) second in
       let worlds : world_of s (stepped t 0 second id me.1 v' keeps) ≡ record w { word = to; views = set w.views id v' } =
       λ d. record { word = (ap unpacked new_word ∙ second_is) d; turns = new_turns d; slots = w.slots; views = set t.views id v' } in
-      let legal : IsLegal me.0.setup.start v'.seen = subst (λ (x : Setup × List Entry). IsLegal x.0.start x.1) (λ d. (sym fits.setup d, sym seen d ++ e ∷ [])) good'.history.legal in (
+      let legal : IsLegal me.0.setup.start v'.seen = subst (λ (x : Setup × List Entry). IsLegal x.0.start x.1) (λ d. (sym fits.setup d, sym seen d ++ e ∷ []))
+      good'.history.legal in (
         v',
         keeps,
         tt,
@@ -70,10 +74,12 @@ module _ (s : Setup) (slots id : ℕ) (me : Me Value View) (passes : me.0.standi
       )
 
   -- it is another
-  loses : unpacked first ≡ a.expected → (t : St) → Kept s t → get_elem? t.views id ≡ some me.0 → get_or t.words 0 0 ≢ first → Done (get_or t.words 0 0) (get_or t.words 0 0) t
+  loses : unpacked first ≡ a.expected → (t : St) → Kept s t → get_elem? t.views id ≡ some me.0 → get_or t.words 0 0 ≢ first
+      → Done (get_or t.words 0 0) (get_or t.words 0 0) t
   loses first_is t kp at other =
       let n : ℕ = get_or t.words 0 0 in
-      let later : a.expected ≡ me.0.last → (a.expected.place < (unpacked n).place) × _ = λ is. let z = later_word s slots id me passes t kp at first other (first_is ∙ is) in (subst (λ (x : Word). x.place < (unpacked n).place) (sym is) z.0, z.1) in (
+      let later : a.expected ≡ me.0.last → (a.expected.place < (unpacked n).place) × _ = λ is. let z = later_word s slots id me passes t kp at first other
+      (first_is ∙ is) in (subst (λ (x : Word). x.place < (unpacked n).place) (sym is) z.0, z.1) in (
         loaded me.0 (unpacked n) kp.history,
         keeps,
         tt,
@@ -85,4 +91,5 @@ module _ (s : Setup) (slots id : ℕ) (me : Me Value View) (passes : me.0.standi
       → Allows (Kept s) slots id me 0 (λ n. either (eqb n first) second n) (committing a (step slots 0 first second none) me)
   allows_commit first_is last second_is may t kp deep at small =
       let n : ℕ = get_or t.words 0 0 in
-      exchanged n first second (λ (x : ℕ). Done n x t) (λ (hit : n ≡ first). wins first_is last second_is may t kp at hit) (λ (other : n ≢ first). loses first_is t kp at other)
+      exchanged n first second (λ (x : ℕ). Done n x t) (λ (hit : n ≡ first). wins first_is last second_is may t kp at hit)
+      (λ (other : n ≢ first). loses first_is t kp at other)

@@ -1,5 +1,6 @@
 -- What stands in the slots at the end.
-use Rattle.std.proofs.Common.{◌≡◌, ◌≢◌, ℕ, zero, suc, ◌+◌, ◌<◌, ◌≤◌, List, length, replicate, Option, Some, None, Box, Global, set, get_or, slice_get, refl, ap, sym, ◌∙◌, subst, arith, inl, inr, get_or-set_same, get_or-set_other}
+use Rattle.std.proofs.Common.{◌≡◌, ◌≢◌, ℕ, zero, suc, ◌+◌, ◌<◌, ◌≤◌, List, length, replicate, Option, Some, None, Box, Global, set, get_or, slice_get, refl}
+use Rattle.std.proofs.Common.{ap, sym, ◌∙◌, subst, arith, inl, inr, get_or-set_same, get_or-set_other}
 use Rattle.std.proofs.lemmas.Bool.{cases_lt}
 use mathlib.Core.Logic.{dite}
 use native.Mathlib.Decide.{ℕ_discrete}
@@ -80,7 +81,8 @@ no_redist s u v (Mem b) i never = i
 no_redist s u v (Shard b) i never = i
 no_redist s u v (Redist b) i never = never b refl
 
-pub one_more_below : (s : Setup) (u : Plain) (v : ℕ) (xs : List (Option InHand)) (r : InHand) → IsOfMachine s u → v < length xs → AreBelow u v xs → HasLpisOf s.start.layout.shape r → slice_get u.redistributors v ≡ Some (redistributor_of r) → AreBelow u (v + 1) (set xs v (Some r))
+pub one_more_below : (s : Setup) (u : Plain) (v : ℕ) (xs : List (Option InHand)) (r : InHand) → IsOfMachine s u → v < length xs → AreBelow u v xs
+    → HasLpisOf s.start.layout.shape r → slice_get u.redistributors v ≡ Some (redistributor_of r) → AreBelow u (v + 1) (set xs v (Some r))
 one_more_below s u v xs r m inside are lpis same = record {
   below = λ k lt. dite (ℕ_discrete k v)
       (λ e. subst (λ (j : ℕ). (x : InHand) × (in_hand (set xs v (Some r)) j ≡ Some x) × IsRedistributorOf u j x) (sym e)

@@ -1,5 +1,6 @@
 -- What stands at home in the table, and in the world that it shows.
-use Rattle.std.proofs.Common.{◌≡◌, ◌≢◌, ℕ, zero, suc, ◌+◌, ◌*◌, ◌<◌, ◌≤◌, List, [], ◌∷◌, map, length, set, get_or, refl, ap, sym, ◌∙◌, subst, arith, length-set, get_or-set_other, ⊎_elim, inl, inr}
+use Rattle.std.proofs.Common.{◌≡◌, ◌≢◌, ℕ, zero, suc, ◌+◌, ◌*◌, ◌<◌, ◌≤◌, List, [], ◌∷◌, map, length, set, get_or, refl, ap, sym, ◌∙◌, subst, arith}
+use Rattle.std.proofs.Common.{length-set, get_or-set_other, ⊎_elim, inl, inr}
 use mathlib.Core.Option.{Option, none, some, some-injective, some-ne-none}
 use lib.ListN.{get_elem?}
 use lib.Seq.{map-set}
@@ -53,31 +54,37 @@ turns_stay words n x = spaced_before 0 16 two_gap words 0 x 1 n (omega arith)
 
 -- ---- slots
 
-pub slot_set : (homes : List (Option Value)) (n k : ℕ) (o : Option Value) → k < n → 8 * k < length homes → slots_in (set homes (8 * k) o) n ≡ set (slots_in homes n) k (shelved o)
+pub slot_set : (homes : List (Option Value)) (n k : ℕ) (o : Option Value) → k < n → 8 * k < length homes → slots_in (set homes (8 * k) o) n ≡ set
+    (slots_in homes n) k (shelved o)
 slot_set homes n k o lt long =
     subst (λ (j : ℕ). slots_in (set homes (8 * j) o) n ≡ set (slots_in homes n) k (shelved o)) (none_more k)
-    (ap (map shelved) (spaced_set none 8 one_gap homes 0 n k o lt (subst (λ (j : ℕ). 8 * j < length homes) (sym (none_more k)) long)) ∙ map-set shelved (spaced none 8 homes 0 n) k o)
+    (ap (map shelved) (spaced_set none 8 one_gap homes 0 n k o lt (subst (λ (j : ℕ). 8 * j < length homes) (sym (none_more k)) long))
+    ∙ map-set shelved (spaced none 8 homes 0 n) k o)
 
 -- a content in a list of slots is that of a value
-shelved_at : (os : List (Option Value)) (k : ℕ) (c : Content) → get_elem? (map shelved os) k ≡ some (some c) → (x : Value) × (get_elem? os k ≡ some (some x)) × (content_of x ≡ some c)
+shelved_at : (os : List (Option Value)) (k : ℕ) (c : Content) → get_elem? (map shelved os) k ≡ some (some c) → (x : Value) × (get_elem? os k ≡ some (some x))
+    × (content_of x ≡ some c)
 shelved_at [] k c e = absurd (some-ne-none (some c) (sym e))
 shelved_at (none ∷ os) zero c e = absurd (some-ne-none c (sym (some-injective none (some c) e)))
 shelved_at (some x ∷ os) zero c e = (x, refl, some-injective (content_of x) (some c) e)
 shelved_at (o ∷ os) (suc k) c e = shelved_at os k c e
 
 -- what stands at home in the world stands there in the table
-pub home_value : (homes : List (Option Value)) (n k : ℕ) (c : Content) → k < n → get_elem? (slots_in homes n) k ≡ some (some c) → (x : Value) × (get_elem? homes (8 * k) ≡ some (some x)) × (content_of x ≡ some c)
+pub home_value : (homes : List (Option Value)) (n k : ℕ) (c : Content) → k < n → get_elem? (slots_in homes n) k ≡ some (some c) → (x : Value)
+    × (get_elem? homes (8 * k) ≡ some (some x)) × (content_of x ≡ some c)
 home_value homes n k c lt e =
     let z = shelved_at (spaced none 8 homes 0 n) k c e in
     let there : get_or homes (8 * k) none ≡ some z.0 =
-    ap (λ (j : ℕ). get_or homes (8 * j) none) (sym (none_more k)) ∙ (sym (spaced_at none 8 one_gap homes 0 n k lt) ∙ at_item none (spaced none 8 homes 0 n) k (some z.0) z.1) in (
+    ap (λ (j : ℕ). get_or homes (8 * j) none) (sym (none_more k)) ∙ (sym (spaced_at none 8 one_gap homes 0 n k lt) ∙ at_item none (spaced none 8 homes 0 n) k
+    (some z.0) z.1) in (
       z.0,
       at_place homes (8 * k) z.0 there,
       z.2,
     )
 
 -- a value is fit that was so, or is new
-pub fit_set : (s : Setup) (homes : List (Option Value)) (i : ℕ) (a : Option Value) → ((x : Value) → a ≡ some x → IsFit s x) → ((k : ℕ) (x : Value) → get_elem? homes k ≡ some (some x) → IsFit s x)
+pub fit_set : (s : Setup) (homes : List (Option Value)) (i : ℕ) (a : Option Value) → ((x : Value) → a ≡ some x → IsFit s x)
+    → ((k : ℕ) (x : Value) → get_elem? homes k ≡ some (some x) → IsFit s x)
     → (k : ℕ) (x : Value) → get_elem? (set homes i a) k ≡ some (some x) → IsFit s x
 fit_set s homes i a new old k x e = elim (at_set homes i k a (some x) e) [ inl t ↦ new x t.1 | inr t ↦ old k x t.1 ]
 
@@ -110,7 +117,8 @@ module _ (s : Setup) (p : Part) (st : Stands s p) where
       λ d. record { word = unpacked (first d); turns = turns d; slots = slots d; views = set t.views id v }
 
   -- and no other turn
-  pub turn_other : (t : St) → Kept s t → (x j n : ℕ) → j ≢ k → get_or (turns_in (set t.words (turn_word k) x) (part_count s)) j 0 ≡ suc n → get_or (world_of s t).turns j 0 ≡ suc n
+  pub turn_other : (t : St) → Kept s t → (x j n : ℕ) → j ≢ k → get_or (turns_in (set t.words (turn_word k) x) (part_count s)) j 0 ≡ suc n
+      → get_or (world_of s t).turns j 0 ≡ suc n
   turn_other t kp x j n ne e = sym (ap (λ (ts : List ℕ). get_or ts j 0) (turns_after t kp x) ∙ get_or-set_other (world_of s t).turns k j x 0 ne) ∙ e
 
   -- nor another part's slot

@@ -1,5 +1,6 @@
 -- How many passes are out, counted by those that were joined.
-use Rattle.std.proofs.Common.{◌≡◌, ◌≢◌, ℕ, zero, suc, ◌+◌, ◌<◌, ◌≤◌, ◌==◌, ◌||◌, ◌&&◌, not, nat_lt, eqb, Bool, true, false, List, [], ◌∷◌, map, length, refl, ap, sym, ◌∙◌, subst, arith, inl, inr, ne_eqb, eqb-true, eq-eqb, ltb-true, lt-ltb}
+use Rattle.std.proofs.Common.{◌≡◌, ◌≢◌, ℕ, zero, suc, ◌+◌, ◌<◌, ◌≤◌, ◌==◌, ◌||◌, ◌&&◌, not, nat_lt, eqb, Bool, true, false, List, [], ◌∷◌, map, length, refl}
+use Rattle.std.proofs.Common.{ap, sym, ◌∙◌, subst, arith, inl, inr, ne_eqb, eqb-true, eq-eqb, ltb-true, lt-ltb}
 use Rattle.std.specs.List.{AllByRecursion, IsDistinct, list_any}
 use Rattle.std.proofs.lemmas.Map.Steps.{length-le_from_distinct_below}
 use Rattle.its_plain.specs.declared.call.Entry.{Entry}
@@ -32,7 +33,8 @@ lacks_each n (x ∷ es) e = let z = neither (eqb n x.0) (is_joined n es) e in (z
 
 joined_ended : (n : ℕ) (es : Ended) → is_joined n es ≡ true → IsEnded n es
 joined_ended n [] e = absurd cc
-joined_ended n (x ∷ es) e = by_test (eqb n x.0) (λ is. inl (sym (eqb-true n x.0 is))) (λ is. inr (joined_ended n es (either_is (eqb n x.0) (is_joined n es) e is)))
+joined_ended n (x ∷ es) e = by_test (eqb n x.0) (λ is. inl (sym (eqb-true n x.0 is)))
+    (λ is. inr (joined_ended n es (either_is (eqb n x.0) (is_joined n es) e is)))
 
 -- what the test says of its first pass, and of the others
 record First (made : ℕ) (x : ℕ × List (ℕ × Entry)) (es : Ended) : Type 0 where
@@ -57,14 +59,16 @@ each_given : (made : ℕ) (es : Ended) → are_joined made es ≡ true → (q : 
 each_given made [] e q among = absurd cc
 each_given made (x ∷ es) e q among =
     let f = first_of made x es e in
-    by_test (eqb q x.0) (λ is. subst (λ (n : ℕ). n < made) (sym (eqb-true q x.0 is)) f.given) (λ is. each_given made es f.others q (either_is (eqb q x.0) (list_any (eqb q) (numbers es)) among is))
+    by_test (eqb q x.0) (λ is. subst (λ (n : ℕ). n < made) (sym (eqb-true q x.0 is)) f.given)
+    (λ is. each_given made es f.others q (either_is (eqb q x.0) (list_any (eqb q) (numbers es)) among is))
 
 no_root : (made : ℕ) (es : Ended) → are_joined made es ≡ true → AllByRecursion (λ y. eqb 0 y ≡ false) (numbers es)
 no_root made [] e = tt
 no_root made (x ∷ es) e = let f = first_of made x es e in (ne_eqb 0 x.0 (λ z. absurd (omega (arith, f.some_number, z))), no_root made es f.others)
 
 with_one : (made n : ℕ) (ns : List ℕ) → n < made → ((q : ℕ) → list_any (eqb q) ns ≡ true → q < made) → (q : ℕ) → list_any (eqb q) (n ∷ ns) ≡ true → q < made
-with_one made n ns lt all q among = by_test (eqb q n) (λ is. subst (λ (m : ℕ). m < made) (sym (eqb-true q n is)) lt) (λ is. all q (either_is (eqb q n) (list_any (eqb q) ns) among is))
+with_one made n ns lt all q among = by_test (eqb q n) (λ is. subst (λ (m : ℕ). m < made) (sym (eqb-true q n is)) lt)
+    (λ is. all q (either_is (eqb q n) (list_any (eqb q) ns) among is))
 
 numbers_long : (es : Ended) → length (numbers es) ≡ length es
 numbers_long [] = refl
@@ -74,7 +78,8 @@ numbers_long (x ∷ es) = ap suc (numbers_long es)
 pub at_most : (made : ℕ) (es : Ended) → are_joined made es ≡ true → 0 < made → length es + 1 ≤ made
 unfolding IsDistinct
 at_most made es e some =
-    let most : suc (length (numbers es)) ≤ made = length-le_from_distinct_below (0 ∷ numbers es) made (no_root made es e, each_once made es e) (with_one made 0 (numbers es) some (each_given made es e)) in
+    let most : suc (length (numbers es)) ≤ made = length-le_from_distinct_below (0 ∷ numbers es) made (no_root made es e, each_once made es e)
+    (with_one made 0 (numbers es) some (each_given made es e)) in
     omega (arith, most, numbers_long es)
 
 -- where as many were joined as were split off, each was

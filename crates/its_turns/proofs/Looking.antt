@@ -1,5 +1,6 @@
 -- Loads of the word keep the rule of the table.
-use Rattle.std.proofs.Common.{◌≡◌, ◌≢◌, ℕ, suc, ◌+◌, ◌*◌, ◌^◌, ◌<◌, ◌≤◌, ◌==◌, ◌||◌, ◌&&◌, not, nat_lt, Bool, true, false, eqb, List, [], ◌∷◌, set, get_or, refl, ap, sym, ◌∙◌, subst, arith, div-add-mod', ⊎_elim, inl, inr, ne_eqb, lt-ltb}
+use Rattle.std.proofs.Common.{◌≡◌, ◌≢◌, ℕ, suc, ◌+◌, ◌*◌, ◌^◌, ◌<◌, ◌≤◌, ◌==◌, ◌||◌, ◌&&◌, not, nat_lt, Bool, true, false, eqb, List, [], ◌∷◌, set, get_or}
+use Rattle.std.proofs.Common.{refl, ap, sym, ◌∙◌, subst, arith, div-add-mod', ⊎_elim, inl, inr, ne_eqb, lt-ltb}
 use Rattle.std.specs.List.{AllByRecursion}
 use mathlib.Core.Option.{none, some, some-injective}
 use mathlib.Core.Logic.{dite}
@@ -80,14 +81,16 @@ module _ (s : Setup) (slots id : ℕ) (me : Me Value View) (passes : me.0.standi
       within = subst (λ (x : Setup). IsWithin x here) (sym is_pass.setup) kp.good.history.within;
       machine = subst (λ (x : Setup). IsOfMachine x (after x.start h)) (sym is_pass.setup) (of_machine s kp.good.history.sound h);
       right = subst (λ (x : Setup). AllByRecursion (IsRight x here (after x.start h)) me.0.held) (sym is_pass.setup)
-          (all_weaker (IsHeld s here (after s.start h) w.turns w.slots me.0.number) (IsRight s here (after s.start h)) me.0.held (λ x y. y.right) is_pass.holds.held);
+          (all_weaker (IsHeld s here (after s.start h) w.turns w.slots me.0.number) (IsRight s here (after s.start h)) me.0.held
+          (λ x y. y.right) is_pass.holds.held);
       still = λ a. sym (reads_last a).1;
       others = knows_others;
     }
 
     -- a step that leaves the word as it is, and after which the pass has looked
     pub looks_in : (n : ℕ) → n ≡ get_or t.words 0 0 → Kept s (stepped t 0 n id me.1 (loaded me.0 here h) keeps)
-    looks_in n same = subst (λ (ws : List ℕ). Kept s record { words = ws; homes = t.homes; views = set t.views id (loaded me.0 here h) }) (sym (ap (set t.words 0) same ∙ set-get_or t.words 0 0))
+    looks_in n same = subst (λ (ws : List ℕ). Kept s record { words = ws; homes = t.homes; views = set t.views id (loaded me.0 here h) })
+        (sym (ap (set t.words 0) same ∙ set-get_or t.words 0 0))
         record { history = h; good = keeps_load s h w kp.good id me.0 at passes; wide = kp.wide; deep = kp.deep; out = kp.out; fit = kp.fit }
 
     -- a word that is not the one read last is a later one
@@ -95,9 +98,16 @@ module _ (s : Setup) (slots id : ℕ) (me : Me Value View) (passes : me.0.standi
     later_word first ne is =
         let differ : me.0.last ≡ here → ⊥ = λ e. ne (unpacked_same (get_or t.words 0 0) first (sym e ∙ sym is)) in
         let place : ℕ = here.place in (
-          dite (ℕ_discrete me.0.last.place place) (λ e. absurd (differ (is_pass.knows.last e))) (λ other. omega (arith, is_pass.knows.place, prefix_length me.0.seen h is_pass.knows.seen, kp.good.history.place, other)),
+          dite (ℕ_discrete me.0.last.place place) (λ e. absurd (differ (is_pass.knows.last e)))
+              (λ other. omega (arith, is_pass.knows.place, prefix_length me.0.seen h is_pass.knows.seen, kp.good.history.place, other)),
           λ a. differ (reads_last a).0,
         )
 
   pub allows_look : Allows (Kept s) slots id me 0 (λ n. n) (looking (step slots 0 0 0 none) me)
-  allows_look t kp deep at small = (loaded me.0 (unpacked (get_or t.words 0 0)) kp.history, keeps, tt, looks_in t kp at (get_or t.words 0 0) refl, (refl, sees t kp at))
+  allows_look t kp deep at small = (
+    loaded me.0 (unpacked (get_or t.words 0 0)) kp.history,
+    keeps,
+    tt,
+    looks_in t kp at (get_or t.words 0 0) refl,
+    (refl, sees t kp at),
+  )

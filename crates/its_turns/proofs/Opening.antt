@@ -1,5 +1,6 @@
 -- The table that a machine begins with keeps the rule.
-use Rattle.std.proofs.Common.{◌≡◌, ℕ, zero, suc, ◌+◌, ◌*◌, ◌<◌, ◌≤◌, List, [], ◌∷◌, ◌++◌, map, replicate, take, length, set, get_or, refl, ap, sym, ◌∙◌, subst, arith, append_assoc, get_or-set_other}
+use Rattle.std.proofs.Common.{◌≡◌, ℕ, zero, suc, ◌+◌, ◌*◌, ◌<◌, ◌≤◌, List, [], ◌∷◌, ◌++◌, map, replicate, take, length, set, get_or, refl, ap, sym, ◌∙◌, subst}
+use Rattle.std.proofs.Common.{arith, append_assoc, get_or-set_other}
 use Rattle.std.specs.Prelude as std
 use Rattle.std.specs.List.{AllByRecursion}
 use mathlib.Core.Option.{Option, none, some, some-injective, some-ne-none}
@@ -79,14 +80,16 @@ apart_more : (xs : List Value) (x : Value) → apart (xs ++ x ∷ []) ≡ apart 
 apart_more [] x = refl
 apart_more (y ∷ ys) x = ap (λ (l : List Value). y ∷ (replicate 7 Vacant ++ l)) (apart_more ys x)
 
-pub one_more_apart : (xs : List Value) (x : Value) (slots more : List Value) → slots ≡ apart xs → more ≡ slots ++ x ∷ replicate 7 Vacant → more ≡ apart (xs ++ x ∷ [])
+pub one_more_apart : (xs : List Value) (x : Value) (slots more : List Value) → slots ≡ apart xs → more ≡ slots ++ x ∷ replicate 7 Vacant
+    → more ≡ apart (xs ++ x ∷ [])
 one_more_apart xs x slots more so_far is = is ∙ (ap (λ (l : List Value). l ++ x ∷ replicate 7 Vacant) so_far ∙ sym (apart_more xs x))
 
 -- there is a value for each part
 pub values_long : (s : Setup) (values : List Value) → IsSound s.start → AreFirst s values → length values ≡ part_count s
 values_long s values sound are = sym (length-map values content_of) ∙ (ap (λ (l : List (Option Content)). length l) are.contents ∙ slots_long s sound)
 
-pub opens : (s : Setup) (values : List Value) → IsSound s.start → AreFirst s values → Kept s (opening (first_words (part_count s)) (apart values) (first_view s))
+pub opens : (s : Setup) (values : List Value) → IsSound s.start → AreFirst s values
+    → Kept s (opening (first_words (part_count s)) (apart values) (first_view s))
 opens s values sound are =
     let n : ℕ = part_count s in
     let m : ℕ = 16 * (n + 1) in
@@ -95,13 +98,19 @@ opens s values sound are =
     let turns = zero_turns m 1 n in
     let slots : slots_in (map some (apart values)) n ≡ first_slots s =
     ap (λ (k : ℕ). slots_in (map some (apart values)) k) (sym long) ∙ (ap (map shelved) (first_of_each values) ∙ (all_shelved values ∙ are.contents)) in
-    let worlds : world_of s (opening (first_words n) (apart values) (first_view s)) ≡ first_world s = λ d. record { word = word d; turns = turns d; slots = slots d; views = first_view s ∷ [] } in
+    let worlds : world_of s (opening (first_words n) (apart values) (first_view s)) ≡ first_world s = λ d. record {
+      word = word d;
+      turns = turns d;
+      slots = slots d;
+      views = first_view s ∷ [];
+    } in
     record {
       history = [];
       good = subst (Good s []) (sym worlds) (first s sound);
       wide = omega (arith, length-replicate {A = ℕ} m 0);
       deep = omega (arith, length-map (apart values) (λ (x : Value). (let o : Option Value = some x in o)), apart_long values, long);
-      out = λ k j e. absurd (let z : get_or (turns_in (first_words n) n) k 0 ≡ 0 = ap (λ (ts : List ℕ). get_or ts k 0) turns ∙ zeros_at n k in omega (arith, z, e));
+      out = λ k j e. absurd (let z : get_or (turns_in (first_words n) n) k 0 ≡ 0 = ap (λ (ts : List ℕ). get_or ts k 0) turns ∙ zeros_at n k in omega
+          (arith, z, e));
       fit = all_fit s (apart values) (apart_fit s values are.fit);
     }
 
@@ -118,7 +127,8 @@ shown r = some (Redist r)
 abbrev listed : ℕ → List (std.Option InHand) → List Redistributor
 listed n xs = map redistributor_or (take n xs)
 
-one_more : (n v : ℕ) (xs : List (std.Option InHand)) (r : InHand) → v < n → in_hand xs v ≡ std.Some r → map shown (take (suc v) (listed n xs)) ≡ map shown (take v (listed n xs)) ++ shown (redistributor_of r) ∷ []
+one_more : (n v : ℕ) (xs : List (std.Option InHand)) (r : InHand) → v < n → in_hand xs v ≡ std.Some r → map shown (take (suc v) (listed n xs)) ≡ map shown
+    (take v (listed n xs)) ++ shown (redistributor_of r) ∷ []
 one_more n v [] r lt is = absurd cc
 one_more zero v (x ∷ xs) r lt is = absurd (omega arith)
 one_more (suc n) zero (x ∷ xs) r lt is = ap (λ (o : std.Option InHand). (let l : List (Option Content) = shown (redistributor_or o) ∷ [] in l)) is
@@ -132,17 +142,21 @@ all_listed (suc n) (x ∷ xs) = ap (λ (l : List Redistributor). redistributor_o
 abbrev front : Setup → TheTables → List Window → List (Option Content) → List (Option Content)
 front s t memory rest = some (Maps (record { regs = t.regs; maps = t.maps.maps })) ∷ some (Mem memory) ∷ (replicate s.shards (some (Shard no_entries)) ++ rest)
 
-pub next_value : (s : Setup) (t : TheTables) (memory : List Window) (n v : ℕ) (xs : List (std.Option InHand)) (r : InHand) (values : List Value) (x : Value) → v < n → in_hand xs v ≡ std.Some r → content_of x ≡ shown (redistributor_of r)
-    → map content_of values ≡ front s t memory (map shown (take v (listed n xs))) → map content_of (values ++ x ∷ []) ≡ front s t memory (map shown (take (v + 1) (listed n xs)))
+pub next_value : (s : Setup) (t : TheTables) (memory : List Window) (n v : ℕ) (xs : List (std.Option InHand)) (r : InHand) (values : List Value) (x : Value)
+    → v < n → in_hand xs v ≡ std.Some r → content_of x ≡ shown (redistributor_of r)
+    → map content_of values ≡ front s t memory (map shown (take v (listed n xs))) → map content_of (values ++ x ∷ []) ≡ front s t memory
+    (map shown (take (v + 1) (listed n xs)))
 next_value s t memory n v xs r values x lt is shows so_far =
     let more : suc v ≡ v + 1 = omega arith in
     let ms : List (Option Content) = map shown (take v (listed n xs)) in
     contents_more values x ∙ (λ d. so_far d ++ shows d ∷ [])
-    ∙ ap (λ (l : List (Option Content)). some (Maps (record { regs = t.regs; maps = t.maps.maps })) ∷ some (Mem memory) ∷ l) (append_assoc (replicate s.shards (some (Shard no_entries))) ms (shown (redistributor_of r) ∷ []))
+    ∙ ap (λ (l : List (Option Content)). some (Maps (record { regs = t.regs; maps = t.maps.maps })) ∷ some (Mem memory) ∷ l)
+    (append_assoc (replicate s.shards (some (Shard no_entries))) ms (shown (redistributor_of r) ∷ []))
     ∙ ap (front s t memory) (sym (one_more n v xs r lt is) ∙ ap (λ (j : ℕ). map shown (take j (listed n xs))) more)
 
 pub all_values : (d : Desc) (p : Parts) (v : ℕ) (values : List Value) → v ≡ p.layout.shape.vcpus → AllByRecursion (IsFit (setup_from d p)) values
-    → map content_of values ≡ front (setup_from d p) (record { regs = p.regs; maps = p.maps }) p.memory (map shown (take v (listed p.layout.shape.vcpus p.redists))) → AreFirst (setup_from d p) values
+    → map content_of values ≡ front (setup_from d p) (record { regs = p.regs; maps = p.maps }) p.memory
+    (map shown (take v (listed p.layout.shape.vcpus p.redists))) → AreFirst (setup_from d p) values
 all_values d p v values is fit so_far =
     let s : Setup = setup_from d p in
     let one : s.shards ≡ 1 * s.shards = omega arith in
@@ -150,12 +164,14 @@ all_values d p v values is fit so_far =
     ap (λ (j : ℕ). map shown (take j (listed p.layout.shape.vcpus p.redists))) is ∙ ap (map shown) (all_listed p.layout.shape.vcpus p.redists) in
     record {
       contents = so_far ∙ ap (front s (record { regs = p.regs; maps = p.maps }) p.memory) rest
-          ∙ ap (λ (j : ℕ). some (Maps (record { regs = p.regs; maps = p.maps.maps })) ∷ some (Mem p.memory) ∷ (replicate j (some (Shard no_entries)) ++ map shown s.start.redistributors)) one;
+          ∙ ap (λ (j : ℕ). some (Maps (record { regs = p.regs; maps = p.maps.maps })) ∷ some (Mem p.memory) ∷ (replicate j (some (Shard no_entries))
+          ++ map shown s.start.redistributors)) one;
       fit = fit;
     }
 
 -- a place that is emptied leaves the later ones
-pub later_same : (xs ys : List (std.Option InHand)) (v k : ℕ) → v + 1 ≤ k → ((j : ℕ) → v ≤ j → in_hand xs j ≡ in_hand ys j) → in_hand (set xs v std.None) k ≡ in_hand ys k
+pub later_same : (xs ys : List (std.Option InHand)) (v k : ℕ) → v + 1 ≤ k → ((j : ℕ) → v ≤ j → in_hand xs j ≡ in_hand ys j)
+    → in_hand (set xs v std.None) k ≡ in_hand ys k
 later_same xs ys v k le same = get_or-set_other xs v k std.None std.None (λ e. absurd (omega arith)) ∙ same k (omega arith)
 
 pub same_some : (x y : InHand) → std.Some x ≡ std.Some y → x ≡ y

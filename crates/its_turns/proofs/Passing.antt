@@ -16,7 +16,14 @@ use Rattle.its_turns.specs.declared.value.Value.{Value}
 
 module _ (s : Setup) (id : ℕ) (v : View) (passes : v.standing ≡ Pass) where
   pub allows_split : v.number ≡ 0 → v.root.made < 2 ^ 32 → Splits (Kept s) id v (has_split v) (split_off v)
-  allows_split root few t kp at = record { history = kp.history; good = splits s kp.history (world_of s t) kp.good id v at passes root few; wide = kp.wide; deep = kp.deep; out = kp.out; fit = kp.fit }
+  allows_split root few t kp at = record {
+    history = kp.history;
+    good = splits s kp.history (world_of s t) kp.good id v at passes root few;
+    wide = kp.wide;
+    deep = kp.deep;
+    out = kp.out;
+    fit = kp.fit;
+  }
 
   pub allows_join : v.number ≡ 0 → (other : ℕ) (u : View) → u.standing ≡ Pass → u.held ≡ [] → Joins (Kept s) id v other u (has_joined v u) spent
   allows_join root other u is bare t kp at ne there = record {
@@ -31,7 +38,8 @@ module _ (s : Setup) (id : ℕ) (v : View) (passes : v.standing ≡ Pass) where
   pub allows_note : Splits (Kept s) id v v (note_of v)
   allows_note t kp at = record {
     history = kp.history;
-    good = subst (λ (vs : List View). Good s kp.history record (world_of s t) { views = vs ++ note_of v ∷ [] }) (sym (set_again t.views id v at)) (notes s kp.history (world_of s t) kp.good id v at passes);
+    good = subst (λ (vs : List View). Good s kp.history record (world_of s t) { views = vs ++ note_of v ∷ [] }) (sym (set_again t.views id v at))
+        (notes s kp.history (world_of s t) kp.good id v at passes);
     wide = kp.wide;
     deep = kp.deep;
     out = kp.out;

@@ -19,7 +19,8 @@ use Rattle.its_steps.specs.declared.change.ShardChange.TheVariants.{Keep}
 use Rattle.its_steps.specs.Contents.{Content, Held}
 use Rattle.its_steps.proofs.Lists.{prefix_self, prefix_through}
 use Rattle.its_steps.proofs.Stamps.{one_has}
-use Rattle.its_turns.specs.Calls.{Stays, IsPlaced, Leaves, got_all, WasBusy, WasRaced, WasSpent, GotOnly, StillAsks, TriesPart, attempt_of, GoesOn, Makes, IsLost, IsMade}
+use Rattle.its_turns.specs.Calls.{Stays, IsPlaced, Leaves, got_all, WasBusy, WasRaced, WasSpent, GotOnly, StillAsks, TriesPart, attempt_of, GoesOn, Makes}
+use Rattle.its_turns.specs.Calls.{IsLost, IsMade}
 use Rattle.its_turns.specs.Contents.{held_before}
 use Rattle.its_turns.specs.Steps.{IsBusy, IsRaced}
 use Rattle.its_turns.specs.Told.{Looks, IsLone, released, Commits}
@@ -73,17 +74,27 @@ lost_held v x (lost.Raced r) raced = looked_held v x r.found raced.0
 
 -- ---- commits of what is held
 
-module _ (s : Setup) (c : Call) (r : Reply) (change : ShardChange) (held : List Held) (owed : Word → List Held) (may : (w : Word) → w.place < s.limits.place_last → MayLeave s (staying w c r change) held (owed w)) (x : View) (has : x.held ≡ held) where
+module _ (s : Setup) (c : Call) (r : Reply) (change : ShardChange) (held : List Held) (owed : Word → List Held)
+    (may : (w : Word) → w.place < s.limits.place_last → MayLeave s (staying w c r change) held (owed w)) (x : View) (has : x.held ≡ held) where
   pub may_here : (w : Word) → w.place < s.limits.place_last → MayCall s (staying w c r change) x.held
   may_here w room = subst (MayCall s (staying w c r change)) (sym has) (may w room).0
 
   pub owes_here : x.setup ≡ s → (w : Word) (y : View) → Makes x (staying w c r change) y → y.held ≡ owed w
   owes_here own w y made =
-      ap (λ (u : View). u.held) made.view ∙ ((λ d. renewal (own d) (staying w c r change) (has d)) ∙ (may w (subst (λ (z : Setup). w.place < z.limits.place_last) own made.room)).1)
+      ap (λ (u : View). u.held) made.view ∙ ((λ d. renewal (own d) (staying w c r change) (has d))
+      ∙ (may w (subst (λ (z : Setup). w.place < z.limits.place_last) own made.room)).1)
 
 -- a commit of the word that was read
-pub makes_of : (v : View) (a : Commit) (y : View) → Commits v a y → length v.seen ≡ a.expected.place → a.expected.place < v.setup.limits.place_last → Makes v a y
-makes_of v a y commits place room = record { seen = v.seen; longer = prefix_self v.seen; place = place; room = room; view = commits.view; legal = commits.legal }
+pub makes_of : (v : View) (a : Commit) (y : View) → Commits v a y → length v.seen ≡ a.expected.place → a.expected.place < v.setup.limits.place_last
+    → Makes v a y
+makes_of v a y commits place room = record {
+  seen = v.seen;
+  longer = prefix_self v.seen;
+  place = place;
+  room = room;
+  view = commits.view;
+  legal = commits.legal;
+}
 
 -- ---- a call goes on
 
@@ -116,7 +127,10 @@ module _ (v w : View) (t : Tries) (on : GoesOn v t w) where
 
   -- it ends without having been made
   pub stays_from : w.held ≡ v.held → Stays v w
-  stays_from held = record { same = on.same ∙ (λ d. record v { seen = w.seen; last = w.last; held = held d; cache = w.cache; tries = w.tries }); longer = on.longer }
+  stays_from held = record {
+    same = on.same ∙ (λ d. record v { seen = w.seen; last = w.last; held = held d; cache = w.cache; tries = w.tries });
+    longer = on.longer;
+  }
 
   -- it is made
   pub makes_from : (a : Commit) (x : View) → Makes w a x → IsMade v t a x
@@ -129,9 +143,18 @@ module _ (v w : View) (t : Tries) (on : GoesOn v t w) where
         between = more.0;
         seen = ap (λ (u : View). u.seen) made.view ∙ (let whole = sym more.1 in λ d. whole d ++ number d ∷ []);
         legal = subst (λ (u : View). IsLegal u.setup.start x.seen) on.same made.legal;
-        place_is = let long = ap (λ (u : View). length u.seen) made.view in omega (arith, long, made.place, length-append made.seen (entry w.number a.call a.reply ∷ []));
+        place_is = let long = ap (λ (u : View). length u.seen) made.view in omega
+            (arith, long, made.place, length-append made.seen (entry w.number a.call a.reply ∷ []));
         mine = ap (λ (u : View). u.mine) made.view ∙ (let old = ap (λ (u : View). u.mine) on.same in λ d. old d ++ (a.expected.place, number d) ∷ []);
-        same = subst (λ (z : View). z ≡ record v { seen = z.seen; mine = z.mine; last = z.last; held = z.held; cache = z.cache; tries = z.tries; commit = z.commit }) (sym made.view)
+        same = subst (λ (z : View). z ≡ record v {
+          seen = z.seen;
+          mine = z.mine;
+          last = z.last;
+          held = z.held;
+          cache = z.cache;
+          tries = z.tries;
+          commit = z.commit;
+        }) (sym made.view)
             (λ d. record y {
               setup = ap (λ (u : View). u.setup) on.same d;
               standing = ap (λ (u : View). u.standing) on.same d;
@@ -241,7 +264,8 @@ module _ (v : View) (p : Part) where
           out = λ alone. raced.3 (subst IsLone (sym took_is) alone);
         }
 
-    pub one_lost : {T : Type 0} (call : Call) (reply : T → Reply) (l : Lost) (y z : View) → IsLost x l y → z ≡ released y → TriesPart v p call reply z (attempt_of l)
+    pub one_lost : {T : Type 0} (call : Call) (reply : T → Reply) (l : Lost) (y z : View) → IsLost x l y → z ≡ released y
+        → TriesPart v p call reply z (attempt_of l)
     one_lost call reply lost.Spent y z spent home = one_spent y z spent home
     one_lost call reply (lost.Raced r) y z raced home = one_raced r y z raced home
 
@@ -260,13 +284,17 @@ pub stays_first : (v : View) → Stays v v
 stays_first v = record { same = refl; longer = prefix_self v.seen }
 
 pub stays_again : (v w x : View) → Stays v w → Stays w x → Stays v x
-stays_again v w x a b = record { same = b.same ∙ ap (λ (y : View). record y { seen = x.seen; last = x.last; cache = x.cache; tries = x.tries }) a.same; longer = prefix_through v.seen w.seen x.seen a.longer b.longer }
+stays_again v w x a b = record {
+  same = b.same ∙ ap (λ (y : View). record y { seen = x.seen; last = x.last; cache = x.cache; tries = x.tries }) a.same;
+  longer = prefix_through v.seen w.seen x.seen a.longer b.longer;
+}
 
 pub placed_again : (v w x : View) (c : Call) (r : Reply) (place : ℕ) → Stays v w → IsPlaced w c r place x → IsPlaced v c r place x
 placed_again v w x c r place a b =
     let number = ap (λ (y : View). y.number) a.same in
     let e : entry w.number c r ≡ entry v.number c r = ap (λ (n : ℕ). entry n c r) number in
-    let whole : w.seen ++ b.between ≡ v.seen ++ (a.longer.0 ++ b.between) = ap (λ (l : List Entry). l ++ b.between) (sym a.longer.1) ∙ append_assoc v.seen a.longer.0 b.between in
+    let whole : w.seen ++ b.between ≡ v.seen ++ (a.longer.0 ++ b.between) = ap (λ (l : List Entry). l ++ b.between) (sym a.longer.1)
+    ∙ append_assoc v.seen a.longer.0 b.between in
     record {
       between = a.longer.0 ++ b.between;
       seen = b.seen ∙ (λ d. whole d ++ e d ∷ []);
@@ -284,7 +312,8 @@ module _ (P : Part → Type 0) where
   pub got_first : (v : View) → GotOnly P v v
   got_first v = record { got = []; won = refl; only = tt; lost = le_refl v.tries.lost }
 
-  pub got_more : (v w x : View) (got : List Part) → GotOnly P v w → AllByRecursion P got → x.tries.won ≡ got ++ w.tries.won → w.tries.lost ≤ x.tries.lost → GotOnly P v x
+  pub got_more : (v w x : View) (got : List Part) → GotOnly P v w → AllByRecursion P got → x.tries.won ≡ got ++ w.tries.won → w.tries.lost ≤ x.tries.lost
+      → GotOnly P v x
   got_more v w x got before only won lost = record {
     got = got ++ before.got;
     won = won ∙ (ap (λ (l : List Part). got ++ l) before.won ∙ sym (append_assoc got before.got v.tries.won));
@@ -301,25 +330,30 @@ module _ (v w : View) (p : Part) (asks : StillAsks (λ q. q ≡ p) v w) where
   pub again_busy : (b : Busy) (x : View) → (b.part ≡ p) × WasBusy w [] b x → StillAsks (λ q. q ≡ p) v x
   again_busy b x busy = record {
     stays = stays_again v w x asks.stays busy.1.stays;
-    got = got_more (λ q. q ≡ p) v w x [] asks.got tt (ap (λ (t : Tries). t.won) busy.1.tries) (let more = ap (λ (t : Tries). t.lost) busy.1.tries in omega (arith, more));
+    got = got_more (λ q. q ≡ p) v w x [] asks.got tt (ap (λ (t : Tries). t.won) busy.1.tries) (let more = ap (λ (t : Tries). t.lost) busy.1.tries in omega
+        (arith, more));
   }
 
   pub again_raced : (r : Raced) (x : View) → WasRaced w (p ∷ []) r x → StillAsks (λ q. q ≡ p) v x
   again_raced r x raced = record {
     stays = stays_again v w x asks.stays raced.stays;
-    got = got_more (λ q. q ≡ p) v w x (p ∷ []) asks.got (refl, tt) (ap (λ (t : Tries). t.won) raced.tries) (let same = ap (λ (t : Tries). t.lost) raced.tries in omega (arith, same));
+    got = got_more (λ q. q ≡ p) v w x (p ∷ []) asks.got (refl, tt) (ap (λ (t : Tries). t.won) raced.tries)
+        (let same = ap (λ (t : Tries). t.lost) raced.tries in omega (arith, same));
   }
 
   pub asked_spent : (x : View) → WasSpent w (p ∷ []) x → Stays v x × (length x.seen ≡ v.setup.limits.place_last) × GotOnly (λ q. q ≡ p) v x
   asked_spent x spent = (
     stays_again v w x asks.stays spent.stays,
     spent.spent ∙ ap (λ (y : View). y.setup.limits.place_last) asks.stays.same,
-    got_more (λ q. q ≡ p) v w x (p ∷ []) asks.got (refl, tt) (ap (λ (t : Tries). t.won) spent.tries) (let same = ap (λ (t : Tries). t.lost) spent.tries in omega (arith, same)),
+    got_more (λ q. q ≡ p) v w x (p ∷ []) asks.got (refl, tt) (ap (λ (t : Tries). t.won) spent.tries) (let same = ap (λ (t : Tries). t.lost) spent.tries in omega
+        (arith, same)),
   )
 
-  pub asked_done : (c : Call) (r : Reply) (place : ℕ) (x : View) → IsPlaced w c r place x × Leaves Keep x × (x.tries ≡ got_all (p ∷ []) w.tries) → IsPlaced v c r place x × Leaves Keep x × GotOnly (λ q. q ≡ p) v x
+  pub asked_done : (c : Call) (r : Reply) (place : ℕ) (x : View) → IsPlaced w c r place x × Leaves Keep x × (x.tries ≡ got_all (p ∷ []) w.tries)
+      → IsPlaced v c r place x × Leaves Keep x × GotOnly (λ q. q ≡ p) v x
   asked_done c r place x done = (
     placed_again v w x c r place asks.stays done.0,
     done.1,
-    got_more (λ q. q ≡ p) v w x (p ∷ []) asks.got (refl, tt) (ap (λ (t : Tries). t.won) done.2) (let same = ap (λ (t : Tries). t.lost) done.2 in omega (arith, same)),
+    got_more (λ q. q ≡ p) v w x (p ∷ []) asks.got (refl, tt) (ap (λ (t : Tries). t.won) done.2) (let same = ap (λ (t : Tries). t.lost) done.2 in omega
+        (arith, same)),
   )

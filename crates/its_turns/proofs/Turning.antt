@@ -72,15 +72,21 @@ module _ (s : Setup) (slots id : ℕ) (me : Me Value View) (passes : me.0.standi
       let w : World = world_of s t in
       let good = kp.good in
       let f = pass s h w good id me.0 at passes in
-      changed s h w good id me.0 at passes h w.word w.turns w.slots v' passes refl refl (inr (refl, refl)) (prefix_self h) good.history good.numbers.whole good.numbers.calls
+      changed s h w good id me.0 at passes h w.word w.turns w.slots v' passes refl refl (inr (refl, refl)) (prefix_self h) good.history good.numbers.whole
+      good.numbers.calls
       record {
         setup = f.setup;
         sits = f.sits;
         knows = f.knows;
-        holds = record { apart = turned_apart me.0.held f.holds.apart; held = turned_all (IsHeld s w.word (after s.start h) w.turns w.slots me.0.number) me.0.held f.holds.held };
+        holds = record {
+          apart = turned_apart me.0.held f.holds.apart;
+          held = turned_all (IsHeld s w.word (after s.start h) w.turns w.slots me.0.number)
+              me.0.held f.holds.held;
+        };
       }
       (λ j u ne g. g) good.parts.wide good.parts.home
-      (λ p n st e. ⊎_elim (λ (z : (n ≡ me.0.number) × Holds p me.0.held). inl (z.0, turned_holds p me.0.held z.1)) (λ z. inr z) (same_turn s h w good id me.0 at passes p n st e))
+      (λ p n st e. ⊎_elim (λ (z : (n ≡ me.0.number) × Holds p me.0.held). inl (z.0, turned_holds p me.0.held z.1)) (λ z. inr z)
+      (same_turn s h w good id me.0 at passes p n st e))
 
   pub allows_turn : Allows (Kept s) slots id me 0 (λ n. n) (turning (step slots 0 0 0 none) me)
   allows_turn t kp deep at small = (

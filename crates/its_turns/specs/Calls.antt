@@ -31,7 +31,8 @@ pub record Stays (v w : View) : Type 0 where
   pub same : w ≡ record v { seen = w.seen; last = w.last; cache = w.cache; tries = w.tries }
   pub longer : IsPrefix v.seen w.seen
 
--- The call was made at this place, with this reply: what was seen goes on and ends with it, all of it is legal, and it is one more of the pass's own. The pass holds what it held
+-- The call was made at this place, with this reply: what was seen goes on and ends with it, all of it is legal, and it is one
+-- more of the pass's own. The pass holds what it held
 pub record IsPlaced (v : View) (call : Call) (reply : Reply) (place : ℕ) (w : View) : Type 0 where
   -- what was made by others meanwhile
   pub between : List Entry

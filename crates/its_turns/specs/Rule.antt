@@ -19,7 +19,12 @@ setup_of p = setup_from p.desc.value p.parts.value
 
 -- the world that a table shows
 abbrev pub world_of : Setup → State Value View → World
-world_of s t = record { word = unpacked (slice_index t.words 0); turns = turns_in t.words (part_count s); slots = slots_in t.homes (part_count s); views = t.views }
+world_of s t = record {
+  word = unpacked (slice_index t.words 0);
+  turns = turns_in t.words (part_count s);
+  slots = slots_in t.homes (part_count s);
+  views = t.views;
+}
 
 pub record Kept (s : Setup) (t : State Value View) : Type 0 where
   pub history : List Entry

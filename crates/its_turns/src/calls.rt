@@ -20,8 +20,11 @@ pub fn begin(machine: &Machine, pass: &mut Pass) -> Result<Word, Spent>
     requires { IsOf machine.now pass.old }
     ensures of { IsOf machine.now pass.new }
     ensures word { MatchResult result
-        (λ w. Looks (view pass.old) w (view pass.new) × (w.place < (setup machine.now).limits.place_last) × (w.stamp ≤ (setup machine.now).limits.stamp_last))
-        (λ _. (w : Word) × Looks (view pass.old) w (view pass.new) × (w.place ≡ (setup machine.now).limits.place_last)) }
+        (λ w. Looks (view pass.old) w (view pass.new)
+        × (w.place < (setup machine.now).limits.place_last)
+        × (w.stamp ≤ (setup machine.now).limits.stamp_last))
+        (λ _. (w : Word) × Looks (view pass.old) w (view pass.new)
+        × (w.place ≡ (setup machine.now).limits.place_last)) }
 {
     let word = look(machine, pass);
     if word.place == machine.place_last() {

@@ -32,7 +32,8 @@ pub fn commit(machine: &Machine, pass: &mut Pass, commit: &Commit) -> Result<u64
     requires may { MayCall (setup machine.now) commit.now (view pass.old).held }
     ensures of { IsOf machine.now pass.new }
     ensures result { MatchResult result
-        (λ place. (place ≡ commit.now.expected.place) × Commits (view pass.old) commit.now (view pass.new))
+        (λ place. (place ≡ commit.now.expected.place) × Commits (view pass.old) commit.now
+        (view pass.new))
         (λ raced. IsRaced (view pass.old) commit.now.expected raced (view pass.new)) }
 {
     let expected = commit.expected;
@@ -66,7 +67,8 @@ fn exchange<A: Announces>(
     requires new { unpacked new ≡ word_after commit.now }
     requires may { MayCall (setup machine.now) commit.now (view pass.old).held }
     ensures of { IsOf machine.now pass.new }
-    ensures tells { committing commit.now (step machine.now.table.shared.table_id.slots 0 old new none)
+    ensures tells { committing commit.now
+        (step machine.now.table.shared.table_id.slots 0 old new none)
         pass.old.seat.me result pass.new.seat.me }
 {
     machine

@@ -69,12 +69,14 @@ pub fn close(machine: Machine, root: Root) -> Parts
 fn take_part(closed: &mut Closed<Value, Global>, part: usize) -> Value
     requires low { part < 2048 }
     requires inside { 8 * part + 8 ≤ slots_len closed.old.slots }
-    requires front { AreTaken (8 * part) (slots_len closed.old.slots) (slots_filled closed.old.slots) }
+    requires front { AreTaken (8 * part) (slots_len closed.old.slots)
+        (slots_filled closed.old.slots) }
     ensures value { get_elem? (slots_items closed.old.slots) (8 * part) ≡ some result }
     ensures items { slots_items closed.new.slots ≡ slots_items closed.old.slots }
     ensures length { slots_len closed.new.slots ≡ slots_len closed.old.slots }
     ensures words { closed.new.words ≡ closed.old.words }
-    ensures front { AreTaken (8 * part + 8) (slots_len closed.new.slots) (slots_filled closed.new.slots) }
+    ensures front { AreTaken (8 * part + 8) (slots_len closed.new.slots)
+        (slots_filled closed.new.slots) }
 {
     let value = closed.take(8 * part);
     for behind in 8 * part + 1..8 * part + 8 {

@@ -26,10 +26,14 @@ pub struct Machine {
     // No redistributor is in hand: they go here when the machine is closed.
     pub(crate) places: Redists,
     pub ghost described: { desc ≡ kept_of table.shared.key.desc.value },
-    pub ghost built: { (layout ≡ (setup_of table.shared.key).start.layout) × (desc.shape ≡ layout.shape) },
-    pub ghost sized: { (table.shared.table_id.slots ≡ 8 * part_count (setup_of table.shared.key)) × (16 * part_count (setup_of table.shared.key) < table.shared.table_id.words) },
-    pub ghost laid: { (translator_count (setup_of table.shared.key) ≡ 1) × HasVcpus (setup_of table.shared.key) },
-    pub ghost small: { (1 ≤ desc.shards) × (desc.shards ≤ 64) × (desc.shape.vcpus ≤ 16) × (desc.limits.place_last < 2 ^ 40) × (desc.limits.stamp_last < 2 ^ 24) },
+    pub ghost built: { (layout ≡ (setup_of table.shared.key).start.layout)
+        × (desc.shape ≡ layout.shape) },
+    pub ghost sized: { (table.shared.table_id.slots ≡ 8 * part_count (setup_of table.shared.key))
+        × (16 * part_count (setup_of table.shared.key) < table.shared.table_id.words) },
+    pub ghost laid: { (translator_count (setup_of table.shared.key) ≡ 1)
+        × HasVcpus (setup_of table.shared.key) },
+    pub ghost small: { (1 ≤ desc.shards) × (desc.shards ≤ 64) × (desc.shape.vcpus ≤ 16)
+        × (desc.limits.place_last < 2 ^ 40) × (desc.limits.stamp_last < 2 ^ 24) },
     pub ghost bare: { places ≡ replicate 16 None },
 }
 

@@ -78,7 +78,8 @@ impl Pass {
         requires root { (view self.old).number ≡ 0 }
         requires free { (view pass).held ≡ [] }
         ensures of { IsOf machine.now self.new }
-        ensures view { (w : Word) × Looks (has_joined (view self.old) (view pass)) w (view self.new) }
+        ensures view { (w : Word) × Looks (has_joined (view self.old) (view pass)) w
+            (view self.new) }
         ensures seen { IsPrefix (view self.old).seen (view self.new).seen ×
             IsPrefix (view pass).seen (view self.new).seen }
     {

@@ -43,7 +43,8 @@ fn try_turn<A: Chooses>(
     requires low { at < 2048 }
     requires number { seat.old.me.0.number + 1 ≡ number }
     ensures of { seat.new.table_id ≡ seat.old.table_id }
-    ensures tries { trying part (step machine.now.table.shared.table_id.slots (16 * (at + 1)) 0 number none)
+    ensures tries { trying part
+        (step machine.now.table.shared.table_id.slots (16 * (at + 1)) 0 number none)
         seat.old.me result seat.new.me }
 {
     machine
@@ -84,7 +85,8 @@ pub fn take<R: Wait>(rt: &R, machine: &Machine, pass: &mut Pass, part: Part) -> 
     requires stands { Stands (setup machine.now) part }
     requires free { ¬ Holds part (view pass.old).held }
     ensures of { IsOf machine.now pass.new }
-    ensures takes { (w : View) × IsSameButLost (view pass.old) w × Takes w part result (view pass.new) }
+    ensures takes { (w : View) × IsSameButLost (view pass.old) w
+        × Takes w part result (view pass.new) }
 {
     for _ in rt.forever() {
         match try_take(machine, pass, part) {

@@ -23,7 +23,8 @@ pub fn try_take_maps(machine: &Machine, pass: &mut Pass, its: u8) -> Result<Box<
     requires free { ¬ Holds (part.Maps its) (view pass.old).held }
     ensures of { IsOf machine.now pass.new }
     ensures result { MatchResult result
-        (λ x. TakesPart (view pass.old) (part.Maps its) (content.Maps (translator_of x.value)) (view pass.new))
+        (λ x. TakesPart (view pass.old) (part.Maps its) (content.Maps (translator_of x.value))
+        (view pass.new))
         (λ b. IsBusy (view pass.old) (part.Maps its) b (view pass.new)) }
 {
     match try_take(machine, pass, Part::Maps(its)) {
@@ -78,7 +79,9 @@ pub fn try_take_redist(machine: &Machine, pass: &mut Pass, vcpu: Vcpu) -> Result
     requires free { ¬ Holds (part.Redist vcpu) (view pass.old).held }
     ensures of { IsOf machine.now pass.new }
     ensures result { MatchResult result
-        (λ x. TakesPart (view pass.old) (part.Redist vcpu) (content.Redist (redistributor_of x.value)) (view pass.new) × HasLpisOf (setup machine.now).start.layout.shape x.value)
+        (λ x. TakesPart (view pass.old) (part.Redist vcpu)
+        (content.Redist (redistributor_of x.value)) (view pass.new)
+        × HasLpisOf (setup machine.now).start.layout.shape x.value)
         (λ b. IsBusy (view pass.old) (part.Redist vcpu) b (view pass.new)) }
 {
     match try_take(machine, pass, Part::Redist(vcpu)) {

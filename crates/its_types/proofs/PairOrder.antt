@@ -13,4 +13,5 @@ pub pair_same : IsAntisymmetric pair_cmp
 pair_same = exact_pairs nat_cmp nat_cmp exact_unsigned exact_unsigned
 
 pub pair_tied : (a b : ℕ × ℕ) → eq_by_cmp pair_cmp a b ≡ (eqb a.0 b.0 && eqb a.1 b.1)
-pair_tied a b = sym (tied_then (nat_cmp a.0 b.0) (nat_cmp a.1 b.1)) ∙ ap (λ t. t && eq_by_cmp nat_cmp a.1 b.1) (unsigned_tied a.0 b.0) ∙ ap (λ t. eqb a.0 b.0 && t) (unsigned_tied a.1 b.1)
+pair_tied a b = sym (tied_then (nat_cmp a.0 b.0) (nat_cmp a.1 b.1)) ∙ ap (λ t. t && eq_by_cmp nat_cmp a.1 b.1) (unsigned_tied a.0 b.0)
+    ∙ ap (λ t. eqb a.0 b.0 && t) (unsigned_tied a.1 b.1)

@@ -1,6 +1,7 @@
 -- The LPIs of a redistributor (IHI 0069, section 5.1): a pending set, as its INTIDs in rising order, and a configuration,
 -- as its bytes from the first LPI on.
-use Rattle.std.specs.Prelude.{ℕ, ◌+◌, ◌-◌, ◌*◌, ◌/◌, ◌%◌, Bool, true, false, not, ◌==◌, nat_lt, if◌then◌else◌, bit_and, Option, List, [], ◌∷◌, ◌++◌, filter, find, slice_index, slice_set, refl}
+use Rattle.std.specs.Prelude.{ℕ, ◌+◌, ◌-◌, ◌*◌, ◌/◌, ◌%◌, Bool, true, false, not, ◌==◌, nat_lt, if◌then◌else◌, bit_and, Option, List, [], ◌∷◌, ◌++◌, filter}
+use Rattle.std.specs.Prelude.{find, slice_index, slice_set, refl}
 use Rattle.std.specs.List.{list_any}
 use Rattle.std.specs.Coded.{Coded, code_by, coded×, coded_ℕ, coded_bool}
 use Rattle.its_types.specs.Bits.{bit, bit_of}
@@ -40,7 +41,8 @@ if_bit n byte at = if bit_of byte at then (8 * n + at) ∷ [] else []
 
 -- the LPIs whose bits are set in byte n
 abbrev pub lpis_of_byte : ℕ → ℕ → List ℕ
-lpis_of_byte n byte = if_bit n byte 0 ++ if_bit n byte 1 ++ if_bit n byte 2 ++ if_bit n byte 3 ++ if_bit n byte 4 ++ if_bit n byte 5 ++ if_bit n byte 6 ++ if_bit n byte 7
+lpis_of_byte n byte = if_bit n byte 0 ++ if_bit n byte 1 ++ if_bit n byte 2 ++ if_bit n byte 3 ++ if_bit n byte 4 ++ if_bit n byte 5 ++ if_bit n byte 6
+    ++ if_bit n byte 7
 
 -- the set with byte n in place of the bits that it had
 abbrev pub with_byte : ℕ → ℕ → List ℕ → List ℕ
@@ -82,5 +84,9 @@ abbrev pub bases_code : Coded Bases
 bases_code =
     code_by (Bool × ((ℕ × ℕ) × (ℕ × Bool))) (coded× coded_bool (coded× (coded× coded_ℕ coded_ℕ) (coded× coded_ℕ coded_bool)))
     (λ b. (b.on, ((b.prop.table.0, b.prop.id_bits), (b.pend.table.0, b.pend.ptz))))
-    (λ p. record { on = p.0; prop = record { table = record { 0 = p.1.0.0 }; id_bits = p.1.0.1 }; pend = record { table = record { 0 = p.1.1.0 }; ptz = p.1.1.1 } })
+    (λ p. record {
+      on = p.0;
+      prop = record { table = record { 0 = p.1.0.0 }; id_bits = p.1.0.1 };
+      pend = record { table = record { 0 = p.1.1.0 }; ptz = p.1.1.1 };
+    })
     (λ _. refl)

@@ -81,7 +81,8 @@ abbrev pub device_code : Coded Device
 device_code = code_by (ℕ × ℕ) (coded× coded_ℕ coded_ℕ) (λ d. (d.itt.0, d.bits)) (λ p. record { itt = record { 0 = p.0 }; bits = p.1 }) (λ _. refl)
 
 abbrev pub event_code : Coded Event
-event_code = code_by (ℕ × ℕ) (coded× coded_ℕ coded_ℕ) (λ e. (e.intid.0, e.icid.0)) (λ p. record { intid = record { 0 = p.0 }; icid = record { 0 = p.1 } }) (λ _. refl)
+event_code = code_by (ℕ × ℕ) (coded× coded_ℕ coded_ℕ) (λ e. (e.intid.0, e.icid.0)) (λ p. record { intid = record { 0 = p.0 }; icid = record { 0 = p.1 } })
+    (λ _. refl)
 
 abbrev Parts : Type 0
 Parts = FinMap nat_cmp Device × (FinMap pair_cmp Event × FinMap nat_cmp Vcpu)
@@ -90,4 +91,5 @@ abbrev coded_parts : Coded Parts
 coded_parts = coded× (map.code coded_ℕ device_code) (coded× (map.code (coded× coded_ℕ coded_ℕ) event_code) (map.code coded_ℕ vcpu_code))
 
 abbrev pub maps_code : Coded Maps
-maps_code = code_by Parts coded_parts (λ m. (m.devices, (m.events, m.collections))) (λ p. record { devices = p.0; events = p.1.0; collections = p.1.1 }) (λ _. refl)
+maps_code = code_by Parts coded_parts (λ m. (m.devices, (m.events, m.collections))) (λ p. record { devices = p.0; events = p.1.0; collections = p.1.1 })
+    (λ _. refl)

@@ -18,7 +18,8 @@ built_below s = record s { disable_help_flag = true; disable_help_subcommand = t
 abbrev pub bare : Text → Shape
 bare name = built_below (new_shape name)
 
-other_word : (name word : Text) (rest : List Text) → bytes_eq word (codes "--") ≡ false → is_none (level_fault (bare name) [] nothing_held (word ∷ rest) false []) ≡ false
+other_word : (name word : Text) (rest : List Text) → bytes_eq word (codes "--") ≡ false
+    → is_none (level_fault (bare name) [] nothing_held (word ∷ rest) false []) ≡ false
 other_word name word rest other = first_word (bare name) [] nothing_held word rest false []
     (elim (kind_of_word (bare name) [] (λ _. refl) (λ _. refl) word refl other) [
       | inl v ↦ ap is_none (value_turn (bare name) [] word [] None 1 v)
@@ -35,8 +36,10 @@ unfolding clap_on_literals
 takes_none name [] = refl
 takes_none name (word ∷ rest) = go (bytes_eq word (codes "--")) refl
   where
-    go : (b : Bool) → bytes_eq word (codes "--") ≡ b → is_none (level_fault (bare name) [] nothing_held (word ∷ rest) false []) ≡ is_none (without_separator (word ∷ rest))
+    go : (b : Bool) → bytes_eq word (codes "--") ≡ b → is_none (level_fault (bare name) [] nothing_held (word ∷ rest) false []) ≡ is_none
+        (without_separator (word ∷ rest))
     go true e =
         let is : word ≡ codes "--" = (bytes_eq-Decides word (codes "--")).0 e in
-        subst (λ w. is_none (level_fault (bare name) [] nothing_held (w ∷ rest) false []) ≡ is_none (without_separator (w ∷ rest))) (sym is) (separator name rest)
+        subst (λ w. is_none (level_fault (bare name) [] nothing_held (w ∷ rest) false []) ≡ is_none (without_separator (w ∷ rest))) (sym is)
+        (separator name rest)
     go false e = other_word name word rest e ∙ rw e refl

@@ -37,7 +37,8 @@ parsed words = parsed_by (fault_of its_app words) (subcommand_of its_app words)
 -- the faults at a walk's end
 abbrev faults_at : Kinds → Walk → Kinds
 faults_at before end = or_else before (or_else (entered_fault its end.stopped) (or_else (settle_fault its.top.rules its.top.args_override_self end.held)
-    (or_else (defaults_fault (settled its.top.rules end.held).rows its.top.rules) (check_fault its.top (finished its.top.rules end.held) (is_some (entered its end.stopped))))))
+    (or_else (defaults_fault (settled its.top.rules end.held).rows its.top.rules) (check_fault its.top (finished its.top.rules end.held)
+    (is_some (entered its end.stopped))))))
 
 abbrev asked_at : Kinds → Walk → Option Asked
 asked_at before end = parsed_by (faults_at before end) (entered its end.stopped)
@@ -46,20 +47,24 @@ asked_at before end = parsed_by (faults_at before end) (entered its end.stopped)
 abbrev met : Text → List Text → Walk
 met name rest = record (walk_from nothing_held) { stopped = Some (name, rest) }
 
-goes_in : (program name : Text) (rest : List Text) → turn_fault its.top names (walk_from nothing_held) name ≡ [] → walked its.top.rules names (walk_from nothing_held) name ≡ met name []
+goes_in : (program name : Text) (rest : List Text) → turn_fault its.top names (walk_from nothing_held) name ≡ []
+    → walked its.top.rules names (walk_from nothing_held) name ≡ met name []
     → parsed (program ∷ name ∷ rest) ≡ asked_at [] (met name rest)
 unfolding parsed walk_fault
 goes_in program name rest fine to =
     ap₂ (λ (k : Kinds) (w : Walk). asked_at (or_else k (walk_fault its.top names w rest)) (fold (walked its.top.rules names) w rest)) fine to
-    ∙ ap₂ asked_at (stopped_fault its.top names (walk_from nothing_held) (name, []) rest) (stopped_walk its.top.rules names (walk_from nothing_held) name [] rest)
+    ∙ ap₂ asked_at (stopped_fault its.top names (walk_from nothing_held) (name, []) rest)
+    (stopped_walk its.top.rules names (walk_from nothing_held) name [] rest)
 
 alone_cond : (asked : Asked) (words : List Text) → cond (is_none words) (Some asked) None ≡ alone asked words
 alone_cond asked [] = refl
 alone_cond asked (word ∷ words) = refl
 
-bare_parsed : (name : Text) (asked : Asked) (rest : List Text) → cond (is_none (or_else (level_fault (bare name) [] nothing_held rest false []) [])) (Some asked) None ≡ alone asked (without_separator rest)
+bare_parsed : (name : Text) (asked : Asked) (rest : List Text) → cond (is_none (or_else (level_fault (bare name) [] nothing_held rest false []) []))
+    (Some asked) None ≡ alone asked (without_separator rest)
 bare_parsed name asked rest =
-    ap (λ (k : Kinds). cond (is_none k) (Some asked) None) (nothing_after _) ∙ ap (λ b. cond b (Some asked) None) (takes_none name rest) ∙ alone_cond asked (without_separator rest)
+    ap (λ (k : Kinds). cond (is_none k) (Some asked) None) (nothing_after _) ∙ ap (λ b. cond b (Some asked) None) (takes_none name rest) ∙ alone_cond asked
+    (without_separator rest)
 
 run_parsed : (program : Text) (rest : List Text) → parsed (program ∷ codes "run" ∷ rest) ≡ alone Run (without_separator rest)
 unfolding clap_on_literals
@@ -73,7 +78,8 @@ gen_parsed : (program : Text) (rest : List Text) → parsed (program ∷ codes "
 unfolding clap_on_literals
 gen_parsed program rest =
     goes_in program (codes "gen") rest refl refl
-    ∙ ap (λ (k : Kinds). cond (is_none k) (gen_by (first_of (codes "signals") (rows_after gen.rules [] rest)) (first_of (codes "threads") (rows_after gen.rules [] rest))) None) (nothing_after _)
+    ∙ ap (λ (k : Kinds). cond (is_none k) (gen_by (first_of (codes "signals") (rows_after gen.rules [] rest))
+    (first_of (codes "threads") (rows_after gen.rules [] rest))) None) (nothing_after _)
     ∙ takes_two rest
 
 -- ---- no command
@@ -87,7 +93,8 @@ unfolding clap_on_literals
 separator_parsed program [] = faulty (program ∷ codes "--" ∷ []) refl
 separator_parsed program (word ∷ rest) = faulty (program ∷ codes "--" ∷ word ∷ rest) refl
 
-other_parsed : (program name : Text) (rest : List Text) → bytes_eq name (codes "--") ≡ false → subcommand_met names idle name ≡ None → parsed (program ∷ name ∷ rest) ≡ None
+other_parsed : (program name : Text) (rest : List Text) → bytes_eq name (codes "--") ≡ false → subcommand_met names idle name ≡ None
+    → parsed (program ∷ name ∷ rest) ≡ None
 other_parsed program name rest other none = faulty (program ∷ name ∷ rest) (first_word its.top names nothing_held name rest _ _
     (elim (kind_of_word its.top names (λ _. refl) (λ _. refl) name none other) [
       | inl v ↦ ap is_none (value_turn its.top names name [] None 1 v)
@@ -99,7 +106,8 @@ other_parsed program name rest other none = faulty (program ∷ name ∷ rest) (
 text_is : (a b : Text) → bytes_eq a b ≡ true → b ≡ a
 text_is a b e = sym ((bytes_eq-Decides a b).0 e)
 
-by_name : (program name : Text) (rest : List Text) (r k g d : Bool) → bytes_eq (codes "run") name ≡ r → bytes_eq (codes "check") name ≡ k → bytes_eq (codes "gen") name ≡ g
+by_name : (program name : Text) (rest : List Text) (r k g d : Bool) → bytes_eq (codes "run") name ≡ r → bytes_eq (codes "check") name ≡ k
+    → bytes_eq (codes "gen") name ≡ g
     → bytes_eq name (codes "--") ≡ d → parsed (program ∷ name ∷ rest) ≡ asked_by name (without_separator rest)
 by_name program name rest true k g d er ek eg ed =
     subst (λ w. parsed (program ∷ w ∷ rest) ≡ asked_by w (without_separator rest)) (sym (text_is _ _ er)) (run_parsed program rest)
@@ -108,7 +116,8 @@ by_name program name rest false true g d er ek eg ed =
 by_name program name rest false false true d er ek eg ed =
     subst (λ w. parsed (program ∷ w ∷ rest) ≡ asked_by w (without_separator rest)) (sym (text_is _ _ eg)) (gen_parsed program rest)
 by_name program name rest false false false true er ek eg ed =
-    subst (λ w. parsed (program ∷ w ∷ rest) ≡ asked_by w (without_separator rest)) (sym ((bytes_eq-Decides name (codes "--")).0 ed)) (separator_parsed program rest)
+    subst (λ w. parsed (program ∷ w ∷ rest) ≡ asked_by w (without_separator rest)) (sym ((bytes_eq-Decides name (codes "--")).0 ed))
+    (separator_parsed program rest)
 by_name program name rest false false false false er ek eg ed = other_parsed program name rest ed (rw (er, ek, eg) refl) ∙ rw (er, ek, eg) refl
 
 -- the parser makes of words what they ask for

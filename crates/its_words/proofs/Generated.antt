@@ -37,7 +37,8 @@ at_end faults end = cond (is_none (or_else faults (or_else [] (or_else (settle_f
 abbrev outcome : Walk → List Text → Option Asked
 outcome w words = at_end (walk_fault gen [] w words) (fold (walked gen.rules []) w words)
 
-goes_on : (w next : Walk) (word : Text) (rest : List Text) → turn_fault gen [] w word ≡ [] → walked gen.rules [] w word ≡ next → outcome w (word ∷ rest) ≡ outcome next rest
+goes_on : (w next : Walk) (word : Text) (rest : List Text) → turn_fault gen [] w word ≡ [] → walked gen.rules [] w word ≡ next
+    → outcome w (word ∷ rest) ≡ outcome next rest
 unfolding walk_fault
 goes_on w next word rest fine to =
     ap₂ (λ (k : Kinds) (n : Walk). at_end (or_else k (walk_fault gen [] n rest)) (fold (walked gen.rules []) n rest)) fine to
@@ -140,5 +141,6 @@ from_none (x ∷ xs) = go (bytes_eq x (codes "--")) refl
           | inr f ↦ stops (none_met false) x xs (faulty_turn gen [] x _ _ 1 f) ∙ no_first x (without_separator xs) f.0
         ] in part ∙ ap gen_of (kept x xs e)
 
-pub takes_two : (rest : List Text) → cond (is_none (level_fault gen [] nothing_held rest false [])) (asked_of_rows (rows_after gen.rules [] rest)) None ≡ gen_of (without_separator rest)
+pub takes_two : (rest : List Text) → cond (is_none (level_fault gen [] nothing_held rest false [])) (asked_of_rows (rows_after gen.rules [] rest)) None ≡ gen_of
+    (without_separator rest)
 takes_two rest = from_none rest

@@ -11,7 +11,8 @@ use Rattle.its_words.specs.Words.{asked_in, gen_by}
 
 -- the name that a parse met stands beside its rows
 named : (m : ArgMatches) → subcommand_name_of m ≡ option_map (λ p. p.0) (subcommand_rows_of m)
-named m = elim (out-ArgMatches m).subcommand as (λ s. option_map (λ b. (out-SubCommand (box_value b)).name.now) s ≡ option_map (λ p. p.0) (subcommand_rows s)) [ None ↦ refl | Some b ↦ refl ]
+named m = elim (out-ArgMatches m).subcommand as (λ s. option_map (λ b. (out-SubCommand (box_value b)).name.now) s ≡ option_map (λ p. p.0)
+    (subcommand_rows s)) [ None ↦ refl | Some b ↦ refl ]
 
 differ : (a b : List ℕ) → (a ≡ b → ⊥) → bytes_eq a b ≡ false
 differ a b no-eq = go (bytes_eq a b) refl
@@ -31,7 +32,8 @@ asks_gen (Some (a, b)) name rows n r run check =
     let not_check : bytes_eq a (codes "check") ≡ false = subst (λ t. bytes_eq t (codes "check") ≡ false) same check in
     rw (not_run, not_check, rows_are) refl
 
-pub reads_gen : (m inner : ArgMatches) (name : Text) → Some name ≡ subcommand_name_of m → Some (rows_of (found_of inner)) ≡ option_map (λ p. p.1) (subcommand_rows_of m)
+pub reads_gen : (m inner : ArgMatches) (name : Text) → Some name ≡ subcommand_name_of m → Some (rows_of (found_of inner)) ≡ option_map (λ p. p.1)
+    (subcommand_rows_of m)
     → (name ≡ codes "run" → ⊥) → (name ≡ codes "check" → ⊥)
     → gen_by (first_value (found_of inner) (codes "signals")) (first_value (found_of inner) (codes "threads")) ≡ asked_in (subcommand_rows_of m)
 reads_gen m inner name n r run check =

@@ -1,5 +1,6 @@
 -- Numbers in form.
-use Rattle.std.proofs.Common.{◌≡◌, ◌<◌, ◌≤◌, ◌∙◌, ℕ, Bool, true, false, List, [], ◌∷◌, cond, nat_lt, nat_le, Some, None, Result, Ok, Err, slice_index, refl, sym, ap, arith, length, ◌^◌, ◌&&◌}
+use Rattle.std.proofs.Common.{◌≡◌, ◌<◌, ◌≤◌, ◌∙◌, ℕ, Bool, true, false, List, [], ◌∷◌, cond, nat_lt, nat_le, Some, None, Result, Ok, Err, slice_index, refl}
+use Rattle.std.proofs.Common.{sym, ap, arith, length, ◌^◌, ◌&&◌}
 use Rattle.std.specs.Str.{all_ascii_digits}
 use Rattle.std.specs.Str.Parse.{ParsesUnsigned, digits_value}
 use Rattle.std.specs.Result.{result_ok}
@@ -27,7 +28,8 @@ pub no_number : (last : ℕ) (text : List ℕ) → nat_lt 48 (slice_index text 0
 unfolding number_of
 no_number last text e = rw e refl
 
-pub bad_number : {E : Type 0} (last : ℕ) (text : List ℕ) (r : Result ℕ E) → ParsesUnsigned 32 10 text r → nat_lt 48 (slice_index text 0) ≡ true → last < 2 ^ 32 → result_ok r ≡ None
+pub bad_number : {E : Type 0} (last : ℕ) (text : List ℕ) (r : Result ℕ E) → ParsesUnsigned 32 10 text r → nat_lt 48 (slice_index text 0) ≡ true → last < 2 ^ 32
+    → result_ok r ≡ None
     → None ≡ number_of last text
 unfolding number_of
 bad_number {E} last text (Ok n) h above fits none = cc
@@ -46,7 +48,8 @@ bad_number {E} last text (Err e) h above fits none =
         let small = leb-true (digits_value 10 text) last le in
         absurd (bad (d, long, omega arith))
 
-pub a_number : {E : Type 0} (last n : ℕ) (text : List ℕ) (r : Result ℕ E) → ParsesUnsigned 32 10 text r → nat_lt 48 (slice_index text 0) ≡ true → r ≡ Ok n → n ≤ last
+pub a_number : {E : Type 0} (last n : ℕ) (text : List ℕ) (r : Result ℕ E) → ParsesUnsigned 32 10 text r → nat_lt 48 (slice_index text 0) ≡ true → r ≡ Ok n
+    → n ≤ last
     → Some n ≡ number_of last text
 unfolding number_of
 a_number {E} last n text (Err e) h above is le = cc
@@ -57,7 +60,8 @@ a_number {E} last n text (Ok m) h above is le =
     let fits : nat_le (digits_value 10 text) last ≡ true = le-leb _ last (omega arith) in
     rw (above, got.0.0, fits) (ap (λ k. Some k) same)
 
-pub large_number : {E : Type 0} (last n : ℕ) (text : List ℕ) (r : Result ℕ E) → ParsesUnsigned 32 10 text r → nat_lt 48 (slice_index text 0) ≡ true → r ≡ Ok n → last < n
+pub large_number : {E : Type 0} (last n : ℕ) (text : List ℕ) (r : Result ℕ E) → ParsesUnsigned 32 10 text r → nat_lt 48 (slice_index text 0) ≡ true → r ≡ Ok n
+    → last < n
     → None ≡ number_of last text
 unfolding number_of
 large_number {E} last n text (Err e) h above is lt = cc

@@ -1,6 +1,7 @@
 -- What a parse says of words.
 use Rattle.std.proofs.Common.{◌≡◌, ◌∙◌, true, false, List, [], ◌∷◌, cond, Option, None, Result, Ok, Err, IsErrAnd, refl, sym, ap, ap₂, subst, inl, inr}
-use Rattle.clap.specs.Words.{App, HasKind, HasMatchesOf, IsAmong, Kinds, Text, fault_of, is_simple, is_simple_and_free, kind_of, subcommand_of, subcommand_rows_of}
+use Rattle.clap.specs.Words.{App, HasKind, HasMatchesOf, IsAmong, Kinds, Text, fault_of, is_simple, is_simple_and_free, kind_of, subcommand_of}
+use Rattle.clap.specs.Words.{subcommand_rows_of}
 use Rattle.clap.specs.declared.ArgMatches.{ArgMatches}
 use Rattle.clap.specs.declared.Error.{Error}
 use Rattle.clap.specs.declared.error.ErrorKind.{ErrorKind}
@@ -19,7 +20,8 @@ simple : is_simple its_app ≡ true
 unfolding clap_on_literals
 simple = refl
 
-pub matched : (a : App) (words : List Text) (m : ArgMatches) → a ≡ its_app → (is_simple_and_free a ≡ true → fault_of a words ≡ []) → HasMatchesOf a words m → IsMatched words m
+pub matched : (a : App) (words : List Text) (m : ArgMatches) → a ≡ its_app → (is_simple_and_free a ≡ true → fault_of a words ≡ []) → HasMatchesOf a words m
+    → IsMatched words m
 unfolding is_taken
 matched a words m same none has = record {
   taken =
@@ -32,7 +34,8 @@ some_kind : (kinds : Kinds) (k : ErrorKind) → IsAmong k kinds → is_none kind
 some_kind [] k h = absurd h
 some_kind (x ∷ xs) k h = refl
 
-pub not_taken : (a : App) (words : List Text) (e : Error) → a ≡ its_app → (is_simple_and_free a ≡ true → HasKind (fault_of a words) e) → (kind_of e ≡ OutOfMemory → ⊥) → is_taken words ≡ false
+pub not_taken : (a : App) (words : List Text) (e : Error) → a ≡ its_app → (is_simple_and_free a ≡ true → HasKind (fault_of a words) e)
+    → (kind_of e ≡ OutOfMemory → ⊥) → is_taken words ≡ false
 unfolding is_taken
 not_taken a words e same has other =
     let here : HasKind (fault_of its_app words) e = subst (λ x. is_simple_and_free x ≡ true → HasKind (fault_of x words) e) same has free in

@@ -27,7 +27,8 @@ value_turn s names word rows pending position v =
     ap₂ (λ (k : Kinds) (met : Held × Step). or_else k (step_fault s position met.0 met.1)) (v rows pending position).0 (v rows pending position).1
 
 pub value_walk : (s : Shape) (names : Names) (word : Text) (rows : List Row) (pending : Option (Text × List Text)) (position : ℕ) → IsValue s names word
-    → walked s.rules names (standing rows pending position false) word ≡ after_step s.rules word (standing rows pending position false) (at_word rows pending) value
+    → walked s.rules names (standing rows pending position false) word ≡ after_step s.rules word (standing rows pending position false)
+    (at_word rows pending) value
 unfolding walked
 value_walk s names word rows pending position v =
     ap (λ (met : Held × Step). after_step s.rules word (standing rows pending position false) met.0 met.1) (v rows pending position).1
@@ -36,10 +37,12 @@ pub faulty_turn : (s : Shape) (names : Names) (word : Text) (rows : List Row) (p
     → is_none (turn_fault s names (standing rows pending position false) word) ≡ false
 faulty_turn s names word rows pending position f = faulty_first (word_fault s names false idle word (at_word rows pending)) _ (f.1 rows pending)
 
-pub first_word : (s : Shape) (names : Names) (h : Held) (word : Text) (rest : List Text) (has : Bool) (below : Kinds) → is_none (turn_fault s names (walk_from h) word) ≡ false
+pub first_word : (s : Shape) (names : Names) (h : Held) (word : Text) (rest : List Text) (has : Bool) (below : Kinds)
+    → is_none (turn_fault s names (walk_from h) word) ≡ false
     → is_none (level_fault s names h (word ∷ rest) has below) ≡ false
 unfolding walk_fault
-first_word s names h word rest has below e = faulty_first (or_else (turn_fault s names (walk_from h) word) (walk_fault s names (walked s.rules names (walk_from h) word) rest)) _ (faulty_first _ _ e)
+first_word s names h word rest has below e =
+    faulty_first (or_else (turn_fault s names (walk_from h) word) (walk_fault s names (walked s.rules names (walk_from h) word) rest)) _ (faulty_first _ _ e)
 
 -- a walk that stopped at a subcommand takes the words that are left with it
 pub stopped_walk : (c : List Rule) (names : Names) (w : Walk) (name : Text) (so_far rest : List Text)

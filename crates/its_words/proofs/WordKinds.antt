@@ -15,11 +15,13 @@ at_word rows pending = record { rows = rows; pending = pending; skip = 0 }
 -- the word is a value, with which there is no fault
 abbrev pub IsValue : Shape → Names → Text → Type 0
 IsValue s names word = (rows : List Row) (pending : Option (Text × List Text)) (position : ℕ)
-    → (word_fault s names false idle word (at_word rows pending) ≡ []) × (word_met s.rules names false idle position word (at_word rows pending) ≡ (at_word rows pending, value))
+    → (word_fault s names false idle word (at_word rows pending) ≡ [])
+    × (word_met s.rules names false idle position word (at_word rows pending) ≡ (at_word rows pending, value))
 
 -- there is a fault with the word, which is no number
 abbrev pub IsFaulty : Shape → Names → Text → Type 0
-IsFaulty s names word = (nat_lt 48 (slice_index word 0) ≡ false) × ((rows : List Row) (pending : Option (Text × List Text)) → is_none (word_fault s names false idle word (at_word rows pending)) ≡ false)
+IsFaulty s names word = (nat_lt 48 (slice_index word 0) ≡ false) × ((rows : List Row) (pending : Option (Text × List Text))
+    → is_none (word_fault s names false idle word (at_word rows pending)) ≡ false)
 
 module _ (s : Shape) (names : Names) (no_long : (name : Text) → arg_by_long s.rules name ≡ None) (no_short : (x : ℕ) → arg_by_short s.rules x ≡ None) where
   -- a bundle of flags
@@ -39,7 +41,8 @@ module _ (s : Shape) (names : Names) (no_long : (name : Text) → arg_by_long s.
       cc
   two_kind y (z ∷ zs) none other true two = inr (refl, λ rows pending. rw (none, two, no_long _) refl)
 
-  hyphen_kind : (xs : List ℕ) → subcommand_met names idle (45 ∷ xs) ≡ None → bytes_eq (45 ∷ xs) (45 ∷ 45 ∷ []) ≡ false → IsValue s names (45 ∷ xs) ⊎ IsFaulty s names (45 ∷ xs)
+  hyphen_kind : (xs : List ℕ) → subcommand_met names idle (45 ∷ xs) ≡ None → bytes_eq (45 ∷ xs) (45 ∷ 45 ∷ []) ≡ false → IsValue s names (45 ∷ xs)
+      ⊎ IsFaulty s names (45 ∷ xs)
   hyphen_kind [] none other = inl (λ rows pending position. (rw none refl, rw none refl))
   hyphen_kind (y ∷ ys) none other = two_kind y ys none other (y == 45) refl
 
@@ -50,6 +53,7 @@ module _ (s : Shape) (names : Names) (no_long : (name : Text) → arg_by_long s.
       go : (b : Bool) → (x == 45) ≡ b → IsValue s names (x ∷ xs) ⊎ IsFaulty s names (x ∷ xs)
       go true is =
           let same : x ≡ 45 = eqb-true x 45 is in
-          let here = hyphen_kind xs (subst (λ y. subcommand_met names idle (y ∷ xs) ≡ None) same none) (subst (λ y. bytes_eq (y ∷ xs) (45 ∷ 45 ∷ []) ≡ false) same other) in
+          let here = hyphen_kind xs (subst (λ y. subcommand_met names idle (y ∷ xs) ≡ None) same none)
+          (subst (λ y. bytes_eq (y ∷ xs) (45 ∷ 45 ∷ []) ≡ false) same other) in
           subst (λ y. IsValue s names (y ∷ xs) ⊎ IsFaulty s names (y ∷ xs)) (sym same) here
       go false plain = inl (λ rows pending position. (rw (none, plain, plain) refl, rw (none, plain, plain) refl))

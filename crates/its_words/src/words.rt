@@ -1,9 +1,11 @@
 //! What the words ask for.
-ghost use Rattle.std.specs.Prelude.{◌≡◌, ◌≤◌, IfOk, IfSome, Some, None, codes, false, true, map, nat_lt, slice_index};
+ghost use Rattle.std.specs.Prelude.{◌≡◌, ◌≤◌, IfOk, IfSome, Some, None, codes, false, true, map};
+ghost use Rattle.std.specs.Prelude.{nat_lt, slice_index};
 ghost use Rattle.std.specs.String.{string_bytes};
 ghost use Rattle.clap.specs.Words.{first_value, found_of, subcommand_of, subcommand_rows_of, takes};
 ghost use Rattle.its_words.specs.Command.{its_app};
-ghost use Rattle.its_words.specs.Words.{asked_in, asked_of, gen_by, is_taken, number_of, IsInRange, IsMatched};
+ghost use Rattle.its_words.specs.Words.{asked_in, asked_of, gen_by, is_taken, number_of, IsInRange};
+ghost use Rattle.its_words.specs.Words.{IsMatched};
 ghost use Rattle.its_words.specs.declared.words.WordsError.TheVariants.{NoMemory};
 
 use crate::command::its_command;

@@ -1,5 +1,6 @@
 -- Bit 0 of each of 64 bytes, as a mask, and of all bytes, 64 to a word.
-use Rattle.std.proofs.Common.{◌≡◌, ◌≢◌, ℕ, suc, zero, ◌+◌, ◌-◌, ◌*◌, ◌/◌, ◌%◌, ◌^◌, ◌<◌, Bool, true, false, cond, List, [], map, length, get_or, set, take, drop, bit_and, eqb, refl, sym, ap, ◌∙◌, inl, inr, arith}
+use Rattle.std.proofs.Common.{◌≡◌, ◌≢◌, ℕ, suc, zero, ◌+◌, ◌-◌, ◌*◌, ◌/◌, ◌%◌, ◌^◌, ◌<◌, Bool, true, false, cond, List, [], map, length, get_or, set, take}
+use Rattle.std.proofs.Common.{drop, bit_and, eqb, refl, sym, ap, ◌∙◌, inl, inr, arith}
 use Rattle.std.specs.Prelude.{replicate}
 use Rattle.std.specs.Simd.{first_chunks}
 use Rattle.std.specs.Int.{w8}
@@ -18,7 +19,8 @@ one_of false = refl
 
 pub bit_of-enabled :
     (xs : List ℕ) → length xs ≡ 64 → (k : ℕ) → k < 64
-    → bit_of (mask_l (map (top 7) (zip2 (λ a b. cond (eqb a b) (2 ^ 8 - 1) 0) (zip2 bit_and xs (replicate 64 1)) (replicate 64 1))) % 2 ^ 64) k ≡ bit_of (get_or xs k 0) 0
+    → bit_of (mask_l (map (top 7) (zip2 (λ a b. cond (eqb a b) (2 ^ 8 - 1) 0) (zip2 bit_and xs (replicate 64 1)) (replicate 64 1))) % 2 ^ 64) k ≡ bit_of
+    (get_or xs k 0) 0
 bit_of-enabled xs long k lt =
     let lows : zip2 bit_and xs (replicate 64 1) ≡ map (λ x. bit_and x 1) xs = zip2_splat bit_and xs 64 1 long in
     let long' : length (map (λ x. bit_and x 1) xs) ≡ 64 = length-map xs (λ x. bit_and x 1) ∙ long in
@@ -37,7 +39,8 @@ get_or-first_chunks n (suc k) xs (suc i) d lt =
 
 -- one word more
 pub enabled_more :
-    (bytes : List ℕ) (chunks : List (List ℕ)) (words : List ℕ) (i w : ℕ) → chunks ≡ first_chunks 64 (length bytes / 64) bytes → i < length bytes / 64 → i < length words
+    (bytes : List ℕ) (chunks : List (List ℕ)) (words : List ℕ) (i w : ℕ) → chunks ≡ first_chunks 64 (length bytes / 64) bytes → i < length bytes / 64
+    → i < length words
     → ((k : ℕ) → k < 64 * i → word_bit words k ≡ bit_of (get_or bytes k 0) 0)
     → ((k : ℕ) → k < 64 → bit_of w k ≡ bit_of (get_or (get_or chunks i []) k 0) 0)
     → (k : ℕ) → k < 64 * (i + 1) → word_bit (set words i w) k ≡ bit_of (get_or bytes k 0) 0
@@ -47,10 +50,12 @@ enabled_more bytes chunks words i w split lt there before here k below =
           let other : k / 64 ≢ i = omega arith in
           ap (λ n. bit_of n (k % 64)) (get_or-set_other words i (k / 64) w 0 other) ∙ before k low
       | inr high ↦
-          let chunk : get_or chunks i [] ≡ take 64 (drop (64 * i) bytes) = ap (λ (xs : List (List ℕ)). get_or xs i []) split ∙ get_or-first_chunks 64 (length bytes / 64) bytes i [] lt in
+          let chunk : get_or chunks i [] ≡ take 64 (drop (64 * i) bytes) = ap (λ (xs : List (List ℕ)). get_or xs i []) split ∙ get_or-first_chunks 64
+          (length bytes / 64) bytes i [] lt in
           let place : 64 * i + k % 64 ≡ k = omega arith in
           let index : k / 64 ≡ i = omega arith in
           let within : k % 64 < 64 = omega arith in
           ap (λ j. bit_of (get_or (set words i w) j 0) (k % 64)) index ∙ ap (λ n. bit_of n (k % 64)) (get_or-set_same words i w 0 there) ∙ here (k % 64) within
-          ∙ ap (λ n. bit_of n 0) (ap (λ (xs : List ℕ). get_or xs (k % 64) 0) chunk ∙ get_or-take 64 (drop (64 * i) bytes) (k % 64) 0 within ∙ get_or-drop (64 * i) bytes (k % 64) 0 ∙ ap (λ n. get_or bytes n 0) place)
+          ∙ ap (λ n. bit_of n 0) (ap (λ (xs : List ℕ). get_or xs (k % 64) 0) chunk ∙ get_or-take 64 (drop (64 * i) bytes) (k % 64) 0 within
+          ∙ get_or-drop (64 * i) bytes (k % 64) 0 ∙ ap (λ n. get_or bytes n 0) place)
     ]

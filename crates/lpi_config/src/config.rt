@@ -48,7 +48,8 @@ impl Config {
         requires high { lpi_bits ≤ 20 }
         requires inside { inside memory.now base.0 (lpi_count lpi_bits) ≡ true }
         ensures bits { IfOk result (λ c. c.lpi_bits ≡ lpi_bits) }
-        ensures bytes { IfOk result (λ c. read_at memory.now base.0 (lpi_count lpi_bits) ≡ Some c.bytes) }
+        ensures bytes { IfOk result
+            (λ c. read_at memory.now base.0 (lpi_count lpi_bits) ≡ Some c.bytes) }
     {
         let mut config = Config::zeros(alloc, lpi_bits)?;
         config.read_table(memory, base);
@@ -102,7 +103,10 @@ impl Config {
     /// Puts a byte that was read anew in the place of an LPI's.
     pub fn reload(&mut self, intid: Intid, byte: u8)
         requires { is_lpi self.old.lpi_bits intid.0 ≡ true }
-        ensures { self.new ≡ record self.old { bytes = with_config_byte self.old.bytes intid.0 byte } }
+        ensures { self.new ≡ record self.old {
+          bytes =
+              with_config_byte self.old.bytes intid.0 byte;
+        } }
     {
         let at = (intid.0 - 8192) as usize;
         self.bytes[at] = byte;
@@ -112,7 +116,8 @@ impl Config {
     /// Which of 64 LPIs are enabled, the lowest at bit 0: those from INTID 8192 + 64 * `at` on.
     pub fn enabled_word(&self, at: usize) -> u64
         requires { 64 * at < lpi_count self.now.lpi_bits }
-        ensures { (k : ℕ) → k < 64 → bit_of result k ≡ is_enabled self.now.bytes (8192 + 64 * at + k) }
+        ensures { (k : ℕ) → k < 64 → bit_of result k ≡ is_enabled self.now.bytes
+            (8192 + 64 * at + k) }
     {
         self.enabled[at]
     }

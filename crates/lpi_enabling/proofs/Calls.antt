@@ -1,5 +1,6 @@
 -- What each call does to whether LPIs are on, and which replies tell of an LPI.
-use Rattle.std.proofs.Common.{◌≡◌, ℕ, Bool, true, false, List, [], Option, Some, None, Result, Ok, Err, IfOk, if◌then◌else◌, refl, sym, ap, subst, ◌∙◌, inl, inr}
+use Rattle.std.proofs.Common.{◌≡◌, ℕ, Bool, true, false, List, [], Option, Some, None, Result, Ok, Err, IfOk, if◌then◌else◌, refl, sym, ap, subst, ◌∙◌, inl}
+use Rattle.std.proofs.Common.{inr}
 use Rattle.std.specs.Prelude.{◌⊎◌}
 use Rattle.std.proofs.lemmas.Bool.{both_ways, cases_Bool, cond_both, true_from_ne_false}
 use Rattle.gicr_regs.specs.Redistributors.{reloaded}
@@ -13,7 +14,8 @@ use Rattle.its_command.specs.Commands.{decoded}
 use Rattle.its_plain.specs.Plain.{Plain, Redistributor, redistributor, no_redistributor, translator, pending_of, is_on, with_redistributor}
 use Rattle.its_plain.specs.Translation.{translated, located, ensure, ◌>>=◌}
 use Rattle.its_plain.specs.Commands.{ran}
-use Rattle.its_plain.specs.Answer.{answer, reply_of, left, signal_left, signal_reply, ack_of, lowest, taken, written, is_idle, next_bytes, met_left, step_left, command_left, save_left}
+use Rattle.its_plain.specs.Answer.{answer, reply_of, left, signal_left, signal_reply, ack_of, lowest, taken, written, is_idle, next_bytes, met_left, step_left}
+use Rattle.its_plain.specs.Answer.{command_left, save_left}
 use Rattle.its_plain.specs.Regions.{savable}
 use Rattle.its_plain.specs.Saved.{saved, moved}
 use Rattle.its_plain.specs.declared.call.Call.{Call}
@@ -35,7 +37,8 @@ after_ok : {A B : Type 0} (P : B → Type 0) (r : Result A Cause) (f : A → Res
 after_ok P (Ok x) f h = h x
 after_ok P (Err e) f h = tt
 
-passed : {B : Type 0} (P : B → Type 0) (test : Bool) (cause : Cause) (f : Unit {0} → Result B Cause) → (test ≡ true → IfOk (f tt) P) → IfOk (ensure test cause >>= f) P
+passed : {B : Type 0} (P : B → Type 0) (test : Bool) (cause : Cause) (f : Unit {0} → Result B Cause) → (test ≡ true → IfOk (f tt) P)
+    → IfOk (ensure test cause >>= f) P
 passed P true cause f h = h refl
 passed P false cause f h = tt
 
@@ -57,7 +60,8 @@ taken_keeps r None = kept r
 taken_keeps r (Some intid) = kept_without r intid
 
 take_kept : (u : Plain) (v : ℕ) → AllKeep u (with_redistributor u v (taken (redistributor u v) (lowest (redistributor u v))))
-take_kept u v k = at_set (λ _. Keeps) u.redistributors v k (taken (redistributor u v) (lowest (redistributor u v))) no_redistributor (λ _ r. kept r) (taken_keeps (redistributor u v) (lowest (redistributor u v)))
+take_kept u v k = at_set (λ _. Keeps) u.redistributors v k (taken (redistributor u v) (lowest (redistributor u v))) no_redistributor (λ _ r. kept r)
+    (taken_keeps (redistributor u v) (lowest (redistributor u v)))
 
 -- ---- steps, saves and migrations
 
@@ -79,7 +83,8 @@ save_kept u (Err fault) = all_kept u
 
 pub migrated_kept : (u : Plain) → AllKeep u (moved u)
 unfolding moved
-migrated_kept u k = at_map Keeps (reloaded u.layout.shape (saved u)) u.redistributors k no_redistributor (reloaded_kept u.layout.shape (saved u)) (kept no_redistributor)
+migrated_kept u k = at_map Keeps (reloaded u.layout.shape (saved u)) u.redistributors k no_redistributor (reloaded_kept u.layout.shape (saved u))
+    (kept no_redistributor)
 
 -- ---- all calls
 
@@ -100,7 +105,8 @@ module _ (u : Plain) (vcpu : Vcpu) (off size value : ℕ) where
       goes_by (IsEnabling off size value) (WritesEnableLpis vcpu.0 c) (redistributor u vcpu.0) written_to (λ p. (refl, p.0, p.1, p.2))
       (written_goes u.layout.shape u.memory (redistributor u vcpu.0) off size value) in
       cond_both u.layout.gicr (with_redistributor u vcpu.0 written_to) u (AllGo u c)
-      (λ _ k. at_set (λ n. Goes (WritesEnableLpis n c)) u.redistributors vcpu.0 k written_to no_redistributor (λ n r. goes (WritesEnableLpis n c) r r (kept r)) here)
+      (λ _ k. at_set (λ n. Goes (WritesEnableLpis n c)) u.redistributors vcpu.0 k written_to no_redistributor (λ n r. goes (WritesEnableLpis n c) r r (kept r))
+      here)
       (λ _. all_go u c u (all_kept u))
 
 calls_keep : (u : Plain) (c : Call) → AllKeep u (answer u c).1 → AllGo u c (answer u c).1

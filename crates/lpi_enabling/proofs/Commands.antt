@@ -1,5 +1,6 @@
 -- No command turns LPIs on or off, or makes one pending where they are off.
-use Rattle.std.proofs.Common.{◌≡◌, ℕ, ◌^◌, Bool, true, false, ◌&&◌, is_some, nat_lt, nat_le, eqb, if◌then◌else◌, [], ◌∷◌, Option, Some, None, Result, Ok, Err, IfOk, refl}
+use Rattle.std.proofs.Common.{◌≡◌, ℕ, ◌^◌, Bool, true, false, ◌&&◌, is_some, nat_lt, nat_le, eqb, if◌then◌else◌, [], ◌∷◌, Option, Some, None, Result, Ok, Err}
+use Rattle.std.proofs.Common.{IfOk, refl}
 use Rattle.std.specs.Prelude.{ok_or}
 use Rattle.std.proofs.lemmas.Bool.{and_parts, cond_both}
 use Rattle.gits_regs.specs.Registers.{collection_places}
@@ -14,7 +15,8 @@ use Rattle.its_types.specs.declared.translation.Event.{Event}
 use Rattle.its_command.specs.declared.command.Command.{Command}
 use Rattle.its_command.specs.declared.command.Command.TheVariants as command
 use Rattle.its_plain.specs.Plain.{Plain, regs_of, maps_of, is_on, with_maps}
-use Rattle.its_plain.specs.Commands.{ensure, ◌>>=◌, event_at, target_at, lpi_at, cleared_at, followed, followed_in, intids_of, lpis_moved, reread, ran, mapd, unmapd, mapc, mapti, movi, discard, int, clear, inv, invall, movall}
+use Rattle.its_plain.specs.Commands.{ensure, ◌>>=◌, event_at, target_at, lpi_at, cleared_at, followed, followed_in, intids_of, lpis_moved, reread, ran, mapd}
+use Rattle.its_plain.specs.Commands.{unmapd, mapc, mapti, movi, discard, int, clear, inv, invall, movall}
 use Rattle.its_plain.specs.declared.call.Reason.{Reason}
 use Rattle.its_plain.specs.declared.call.Reason.TheVariants.{DeviceRange, SizeRange, TargetRange, CollectionRange, NoDevice, EventRange, IntidRange, LpisOff}
 use Rattle.lpi_enabling.proofs.Kept.{AllKeep, all_kept, set_kept, cleared_kept, moved_kept, all_lpis_kept, all_moved_kept, all_reread}
@@ -27,12 +29,14 @@ after_ok P (Ok x) f h = h x
 after_ok P (Err e) f h = tt
 
 -- after a test that holds
-passed : {B : Type 0} (P : B → Type 0) (test : Bool) (reason : Reason) (f : Unit {0} → Result B Reason) → (test ≡ true → IfOk (f tt) P) → IfOk (ensure test reason >>= f) P
+passed : {B : Type 0} (P : B → Type 0) (test : Bool) (reason : Reason) (f : Unit {0} → Result B Reason) → (test ≡ true → IfOk (f tt) P)
+    → IfOk (ensure test reason >>= f) P
 passed P true reason f h = h refl
 passed P false reason f h = tt
 
 -- with what is so of the value
-with_ok : {A B : Type 0} (Q : A → Type 0) (P : B → Type 0) (r : Result A Reason) (f : A → Result B Reason) → IfOk r Q → ((x : A) → Q x → IfOk (f x) P) → IfOk (r >>= f) P
+with_ok : {A B : Type 0} (Q : A → Type 0) (P : B → Type 0) (r : Result A Reason) (f : A → Result B Reason) → IfOk r Q → ((x : A) → Q x → IfOk (f x) P)
+    → IfOk (r >>= f) P
 with_ok Q P (Ok x) f q h = h x q
 with_ok Q P (Err e) f q h = tt
 
@@ -88,7 +92,8 @@ movi_kept u i dev ev icid =
     after_ok (AllKeep u) (target_at (maps_of u i) event.icid.0) _ (λ from.
     after_ok (AllKeep u) (target_at (maps_of u i) icid) _ (λ to.
     passed (AllKeep u) (is_on u from.0 && is_on u to.0) LpisOff _ (λ on.
-    moved_kept (with_maps u i (event_mapped (maps_of u i) dev ev (record event { icid = record { 0 = icid } }))) event.intid.0 from.0 to.0 (and_parts (is_on u from.0) (is_on u to.0) on).1))))
+    moved_kept (with_maps u i (event_mapped (maps_of u i) dev ev (record event { icid = record { 0 = icid } }))) event.intid.0 from.0 to.0
+    (and_parts (is_on u from.0) (is_on u to.0) on).1))))
 
 lpi_at_on : (u : Plain) (i dev ev : ℕ) → IfOk (lpi_at u i dev ev) (λ lpi. is_on u lpi.1.0 ≡ true)
 unfolding lpi_at

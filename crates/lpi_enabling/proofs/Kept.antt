@@ -20,7 +20,8 @@ at_set R (x ∷ xs) (suc i) zero y d same new = same zero x
 at_set R (x ∷ xs) (suc i) (suc k) y d same new = at_set (λ n. R (suc n)) xs i k y d (λ n. same (suc n)) new
 
 -- or where all were changed
-pub at_map : {X : Type 0} (R : X → X → Type 0) (f : X → X) (xs : List X) (k : ℕ) (d : X) → ((x : X) → R x (f x)) → R d d → R (get_or xs k d) (get_or (map f xs) k d)
+pub at_map : {X : Type 0} (R : X → X → Type 0) (f : X → X) (xs : List X) (k : ℕ) (d : X) → ((x : X) → R x (f x)) → R d d
+    → R (get_or xs k d) (get_or (map f xs) k d)
 at_map R f [] k d each none = none
 at_map R f (x ∷ xs) zero d each none = each x
 at_map R f (x ∷ xs) (suc k) d each none = at_map R f xs k d each none
@@ -52,15 +53,18 @@ byte_kept intid r (Some byte) = record { on = refl; none = λ _ e. e }
 pub reread_kept : (memory : List Window) (intid : ℕ) (r : Redistributor) → Keeps r (reread_at memory intid r)
 unfolding reread_at
 reread_kept memory intid r =
-    cond_both r.bases.on (reread_byte intid r (byte_at memory (r.bases.prop.table.0 + (intid - 8192)))) r (Keeps r) (λ _. byte_kept intid r (byte_at memory (r.bases.prop.table.0 + (intid - 8192)))) (λ _. kept r)
+    cond_both r.bases.on (reread_byte intid r (byte_at memory (r.bases.prop.table.0 + (intid - 8192)))) r (Keeps r)
+    (λ _. byte_kept intid r (byte_at memory (r.bases.prop.table.0 + (intid - 8192)))) (λ _. kept r)
 
 all_reread_kept : (memory : List Window) (intids : List ℕ) (r : Redistributor) → Keeps r (all_reread_at memory intids r)
 all_reread_kept memory [] r = kept r
 all_reread_kept memory (intid ∷ intids) r =
-    kept_then r (reread_at memory intid r) (all_reread_at memory intids (reread_at memory intid r)) (reread_kept memory intid r) (all_reread_kept memory intids (reread_at memory intid r))
+    kept_then r (reread_at memory intid r) (all_reread_at memory intids (reread_at memory intid r)) (reread_kept memory intid r)
+    (all_reread_kept memory intids (reread_at memory intid r))
 
 pub reloaded_kept : (s : Shape) (memory : List Window) (r : Redistributor) → Keeps r (reloaded s memory r)
-reloaded_kept s memory r = cond_both r.bases.on (record r { config = config_in s memory r }) r (Keeps r) (λ _. record { on = refl; none = λ _ e. e }) (λ _. kept r)
+reloaded_kept s memory r = cond_both r.bases.on (record r { config = config_in s memory r }) r (Keeps r) (λ _. record { on = refl; none = λ _ e. e })
+    (λ _. kept r)
 
 -- ---- states
 
@@ -73,8 +77,10 @@ all_kept u v = kept (redistributor u v)
 pub all_kept_then : (u w x : Plain) → AllKeep u w → AllKeep w x → AllKeep u x
 all_kept_then u w x a b v = kept_then (redistributor u v) (redistributor w v) (redistributor x v) (a v) (b v)
 
-pending_kept : (u : Plain) (v : ℕ) (pending : List ℕ) → Keeps (redistributor u v) (record (redistributor u v) { pending = pending }) → AllKeep u (with_pending u v pending)
-pending_kept u v pending new k = at_set (λ _. Keeps) u.redistributors v k (record (redistributor u v) { pending = pending }) no_redistributor (λ _ r. kept r) new
+pending_kept : (u : Plain) (v : ℕ) (pending : List ℕ) → Keeps (redistributor u v) (record (redistributor u v) { pending = pending })
+    → AllKeep u (with_pending u v pending)
+pending_kept u v pending new k = at_set (λ _. Keeps) u.redistributors v k (record (redistributor u v) { pending = pending }) no_redistributor
+    (λ _ r. kept r) new
 
 pub set_kept : (u : Plain) (intid v : ℕ) → is_on u v ≡ true → AllKeep u (lpi_set intid v u)
 set_kept u intid v on = pending_kept u v (with_lpi intid (pending_of u v)) (kept_on (redistributor u v) (with_lpi intid (pending_of u v)) on)
@@ -103,7 +109,9 @@ all_moved_kept u from to on =
     let empty : AllKeep u emptied = pending_kept u from [] (record { on = refl; none = λ _ _. refl }) in
     let all : List ℕ = with_lpis (pending_of u from) (pending_of u to) in
     cond_both (eqb from to) u (with_pending emptied to all) (AllKeep u) (λ _. all_kept u)
-    (λ _. all_kept_then u emptied (with_pending emptied to all) empty (pending_kept emptied to all (kept_on (redistributor emptied to) all ((empty to).on ∙ on))))
+    (λ _. all_kept_then u emptied (with_pending emptied to all) empty
+    (pending_kept emptied to all (kept_on (redistributor emptied to) all ((empty to).on ∙ on))))
 
 pub all_reread : (u : Plain) (intids : List ℕ) → AllKeep u (reread intids u)
-all_reread u intids k = at_map Keeps (all_reread_at u.memory intids) u.redistributors k no_redistributor (all_reread_kept u.memory intids) (kept no_redistributor)
+all_reread u intids k = at_map Keeps (all_reread_at u.memory intids) u.redistributors k no_redistributor (all_reread_kept u.memory intids)
+    (kept no_redistributor)

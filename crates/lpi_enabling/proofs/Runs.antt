@@ -42,7 +42,8 @@ on_in_state u v (h ∷ hs) before on =
       | inr turns ↦ inr (inr turns)
     ]
 
-turned_on : (u : Plain) (v : ℕ) (earlier : List (List Entry)) (before : List Entry) → AllOff u → is_on (state_after u earlier before) v ≡ true → TurnsOnInLegs u v (earlier ++ before ∷ [])
+turned_on : (u : Plain) (v : ℕ) (earlier : List (List Entry)) (before : List Entry) → AllOff u → is_on (state_after u earlier before) v ≡ true
+    → TurnsOnInLegs u v (earlier ++ before ∷ [])
 turned_on u v earlier before off on =
     elim (on_in_state u v earlier before on) [ inl was ↦ absurd (both_ways (is_on u v) (off v).off was) | inr turns ↦ turns ]
 

@@ -1,5 +1,6 @@
 -- The first state of a machine whose LPI registers the guest programs, unless it is restored with LPIs on.
-use Rattle.std.proofs.Common.{◌≡◌, ℕ, zero, suc, ◌<◌, false, List, [], ◌∷◌, length, map, replicate, take, get_or, Option, Some, None, Result, Ok, Err, IfOk, inl, inr, refl, sym, ap, subst, ◌∙◌}
+use Rattle.std.proofs.Common.{◌≡◌, ℕ, zero, suc, ◌<◌, false, List, [], ◌∷◌, length, map, replicate, take, get_or, Option, Some, None, Result, Ok, Err, IfOk}
+use Rattle.std.proofs.Common.{inl, inr, refl, sym, ap, subst, ◌∙◌}
 use Rattle.std.specs.Prelude.{slice_get}
 use Rattle.std.specs.List.{AllByRecursion}
 use Rattle.std.proofs.lemmas.Bool.{cases_lt}
@@ -37,7 +38,8 @@ after_ok : {A B : Type 0} (P : B → Type 0) (r : Result A DescFault) (f : A →
 after_ok P (Ok x) f h = h x
 after_ok P (Err e) f h = tt
 
-with_ok : {A B : Type 0} (Q : A → Type 0) (P : B → Type 0) (r : Result A DescFault) (f : A → Result B DescFault) → IfOk r Q → ((x : A) → Q x → IfOk (f x) P) → IfOk (r >>= f) P
+with_ok : {A B : Type 0} (Q : A → Type 0) (P : B → Type 0) (r : Result A DescFault) (f : A → Result B DescFault) → IfOk r Q → ((x : A) → Q x → IfOk (f x) P)
+    → IfOk (r >>= f) P
 with_ok Q P (Ok x) f q h = h x q
 with_ok Q P (Err e) f q h = tt
 
@@ -78,7 +80,8 @@ bases_off : (vcpus : ℕ) (t : LpiTables) → RestoresOff t → (k : ℕ) (b : B
 bases_off vcpus (Described config pending) h k b e = absurd h
 bases_off vcpus (Registers values) h k b e = registers_off vcpus values.registers h k b e
 
-standing_off : (memory : List Window) (values : RegValues) (l : Layout) (bases : List Bases) (u : Plain) → ((k : ℕ) (b : Bases) → slice_get bases k ≡ Some b → b.on ≡ false)
+standing_off : (memory : List Window) (values : RegValues) (l : Layout) (bases : List Bases) (u : Plain)
+    → ((k : ℕ) (b : Bases) → slice_get bases k ≡ Some b → b.on ≡ false)
     → Stands memory values l bases u → AllOff u
 standing_off memory values l bases u off h v =
     elim (cases_lt v (length u.redistributors)) [
@@ -92,7 +95,8 @@ standing_off memory values l bases u off h v =
       | inr past ↦ subst IsOff (sym (get_or_past u.redistributors v no_redistributor past)) none_off
     ]
 
-starts_off : (o : Option RegValues) (vcpus : ℕ) (t : LpiTables) (base u : Plain) → RestoresOff t → AllOff base → StartsAt o (bases_given vcpus t) base u → AllOff u
+starts_off : (o : Option RegValues) (vcpus : ℕ) (t : LpiTables) (base u : Plain) → RestoresOff t → AllOff base → StartsAt o (bases_given vcpus t) base u
+    → AllOff u
 starts_off None vcpus t base u h off is = subst AllOff (sym is) off
 starts_off (Some values) vcpus t base u h off is = standing_off base.memory values base.layout (bases_given vcpus t) u (bases_off vcpus t h) is
 

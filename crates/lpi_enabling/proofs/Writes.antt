@@ -68,12 +68,14 @@ module _ (b : Bases) (off size value : ℕ) where
       cond_both (off == 0x0) _ _ A
       (λ first. cond_both (bit_of (low_half value) 0 && not b.on) writes.Enable writes.Ignored A
       (λ on. (eqb-true off 0 first, four, sym (lowest_bit value) ∙ (and_parts (bit_of (low_half value) 0) (not b.on) on).0)) (λ _. tt))
-      (λ _. either (off == 0x70) _ _ (set _ refl) (either (off == 0x74) _ _ (set _ refl) (either (off == 0x78) _ _ (set _ refl) (either (off == 0x7C) _ _ (set _ refl)
+      (λ _. either (off == 0x70) _ _ (set _ refl)
+      (either (off == 0x74) _ _ (set _ refl) (either (off == 0x78) _ _ (set _ refl) (either (off == 0x7C) _ _ (set _ refl)
       (either (off == 0xA0) _ _ tt (either (off == 0xB0 || off == 0xB4) _ _ tt tt))))))
 
   asked : A (asked_by b off size value)
   unfolding asked_by
-  asked = either (size == 8) _ _ asked_64 (cond_both (size == 4) (asked_by_word b off (low_half value)) writes.Ignored A (λ e. asked_word (eqb-true size 4 e)) (λ _. tt))
+  asked = either (size == 8) _ _ asked_64 (cond_both (size == 4) (asked_by_word b off (low_half value)) writes.Ignored A (λ e. asked_word (eqb-true size 4 e))
+      (λ _. tt))
 
 -- ---- what it does
 
@@ -87,11 +89,14 @@ module _ (s : Shape) (memory : List Window) (P : Type 0) where
     none = λ h _. h a.0;
   }
   done r writes.Enable a =
-      cond_both (has_tables s memory r.bases) (turned_on s memory r) r (Goes P r) (λ _. record { stays = λ _. refl; turned = λ _ _. a; none = λ _ off. absurd cc }) (λ _. goes P r r (kept r))
+      cond_both (has_tables s memory r.bases) (turned_on s memory r) r (Goes P r)
+      (λ _. record { stays = λ _. refl; turned = λ _ _. a; none = λ _ off. absurd cc }) (λ _. goes P r r (kept r))
   done r (writes.Reread intid) a =
-      cond_both (is_lpi s.lpi_bits intid.0) (reread_at memory intid.0 r) r (Goes P r) (λ _. goes P r (reread_at memory intid.0 r) (reread_kept memory intid.0 r)) (λ _. goes P r r (kept r))
+      cond_both (is_lpi s.lpi_bits intid.0) (reread_at memory intid.0 r) r (Goes P r)
+      (λ _. goes P r (reread_at memory intid.0 r) (reread_kept memory intid.0 r)) (λ _. goes P r r (kept r))
   done r writes.RereadAll a = goes P r (done_by s memory writes.RereadAll r) (reloaded_kept s memory r)
 
-pub written_goes : (s : Shape) (memory : List Window) (r : Redistributor) (off size value : ℕ) → Goes (IsEnabling off size value) r (written_gicr s memory r off size value)
+pub written_goes : (s : Shape) (memory : List Window) (r : Redistributor) (off size value : ℕ) → Goes (IsEnabling off size value) r
+    (written_gicr s memory r off size value)
 unfolding written_gicr
 written_goes s memory r off size value = done s memory (IsEnabling off size value) r (asked_by r.bases off size value) (asked r.bases off size value)

@@ -33,8 +33,10 @@ MachinesStartOff = (d : Desc) (u : Plain) → IsFirstState d u → RestoresOff d
 -- ---- runs
 
 abbrev pub RunsFollowEnabling : Type 0
-RunsFollowEnabling = (first : Plain) (legs : List Leg) (histories : List (List Entry)) → AllOff first → IsRun first legs histories → FollowEnabling first histories
+RunsFollowEnabling = (first : Plain) (legs : List Leg) (histories : List (List Entry)) → AllOff first → IsRun first legs histories
+    → FollowEnabling first histories
 
 -- also those that were cut
 abbrev pub PartialRunsFollowEnabling : Type 0
-PartialRunsFollowEnabling = (first : Plain) (legs : List Leg) (histories : List (List Entry)) → AllOff first → IsPartialRun first legs histories → FollowEnabling first histories
+PartialRunsFollowEnabling = (first : Plain) (legs : List Leg) (histories : List (List Entry)) → AllOff first → IsPartialRun first legs histories
+    → FollowEnabling first histories

@@ -1,5 +1,6 @@
 -- A pending set as the bits of words.
-use Rattle.std.proofs.Common.{◌≡◌, ◌≢◌, ℕ, suc, zero, ◌+◌, ◌-◌, ◌*◌, ◌/◌, ◌%◌, ◌<◌, ◌≤◌, get_or, set, Bool, true, false, not, cond, List, [], length, eqb, refl, sym, ap, ◌∙◌, inl, inr, arith}
+use Rattle.std.proofs.Common.{◌≡◌, ◌≢◌, ℕ, suc, zero, ◌+◌, ◌-◌, ◌*◌, ◌/◌, ◌%◌, ◌<◌, ◌≤◌, get_or, set, Bool, true, false, not, cond, List, [], length, eqb}
+use Rattle.std.proofs.Common.{refl, sym, ap, ◌∙◌, inl, inr, arith}
 use Rattle.std.specs.Prelude.{◌||◌, ◌&&◌, replicate}
 use Rattle.std.proofs.lemmas.List.{length-set, length-replicate, get_or-replicate, get_or_past}
 use Rattle.its_types.specs.Bits.{bit_of}
@@ -85,7 +86,11 @@ lpis_of-zeros n =
     ∙ none 8192 (64 * length (replicate {A = ℕ} n 0))
   where
     zero_word : (n k : ℕ) → get_or (replicate {A = ℕ} n 0) k 0 ≡ 0
-    zero_word n k = elim (cases_lt k n) [ inl lt ↦ get_or-replicate n k 0 0 lt | inr le ↦ get_or_past (replicate {A = ℕ} n 0) k 0 (omega (arith, length-replicate {A = ℕ} n 0)) ]
+    zero_word n k = elim (cases_lt k n) [
+      | inl lt ↦ get_or-replicate n k 0 0 lt
+      | inr le ↦ get_or_past (replicate {A = ℕ} n 0) k 0
+          (omega (arith, length-replicate {A = ℕ} n 0))
+    ]
 
     none : (a n : ℕ) → those (λ _. false) a n ≡ []
     none a zero = refl

@@ -70,7 +70,9 @@ is_nonzero-or a b =
           let same : bit_or 0 b ≡ b = same_from_bits (bit_or 0 b) b (λ i. bit_at_or 0 b i ∙ zero_max (bit_at b i) (bit_at 0 i) (bit_at-zero i)) in
           rw (e, same) refl
       | inr ne ↦
-          let ne_or : bit_or a b ≢ 0 = λ none. ne (same_from_bits a 0 (λ i. left_zero (bit_at a i) (bit_at b i) (sym (bit_at_or a b i) ∙ ap (λ n. bit_at n i) none ∙ bit_at-zero i) ∙ sym (bit_at-zero i))) in
+          let ne_or : bit_or a b ≢ 0 = λ none.
+          ne (same_from_bits a 0 (λ i. left_zero (bit_at a i) (bit_at b i) (sym (bit_at_or a b i) ∙ ap (λ n. bit_at n i) none ∙ bit_at-zero i)
+          ∙ sym (bit_at-zero i))) in
           rw (nonzero_is (bit_or a b) ne_or, nonzero_is a ne) refl
     ]
   where

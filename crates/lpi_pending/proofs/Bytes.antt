@@ -1,5 +1,6 @@
 -- A byte of a word, and a byte of a pending table.
-use Rattle.std.proofs.Common.{◌≡◌, ◌≢◌, ℕ, suc, zero, ◌+◌, ◌-◌, ◌*◌, ◌/◌, ◌%◌, ◌^◌, ◌<◌, ◌≤◌, Bool, true, false, not, cond, min, max, List, [], ◌∷◌, ◌++◌, length, get_or, set, bit_and, bit_or, eqb, refl, sym, ap, ◌∙◌, inl, inr, arith}
+use Rattle.std.proofs.Common.{◌≡◌, ◌≢◌, ℕ, suc, zero, ◌+◌, ◌-◌, ◌*◌, ◌/◌, ◌%◌, ◌^◌, ◌<◌, ◌≤◌, Bool, true, false, not, cond, min, max, List, [], ◌∷◌, ◌++◌}
+use Rattle.std.proofs.Common.{length, get_or, set, bit_and, bit_or, eqb, refl, sym, ap, ◌∙◌, inl, inr, arith}
 use Rattle.std.specs.Prelude.{◌||◌, ◌&&◌}
 use Rattle.std.specs.List.{list_any}
 use Rattle.std.specs.Int.{w64, bit_at}
@@ -59,9 +60,11 @@ bits-with_byte word byte at_byte i small within lt =
     let mask : ℕ = 255 * 2 ^ (8 * at_byte) % 2 ^ 64 in
     let le : 8 * at_byte ≤ 56 = omega arith in
     let fits : 255 * 2 ^ (8 * at_byte) % 2 ^ 64 < 2 ^ 64 = omega arith in
-    let or_is : bit_at (bit_or (bit_and word (18446744073709551615 - mask)) (byte * 2 ^ (8 * at_byte) % 2 ^ 64)) i ≡ max (min (bit_at word i) (1 - bit_at mask i)) (bit_at (byte * 2 ^ (8 * at_byte) % 2 ^ 64) i) =
+    let or_is : bit_at (bit_or (bit_and word (18446744073709551615 - mask)) (byte * 2 ^ (8 * at_byte) % 2 ^ 64)) i ≡ max
+    (min (bit_at word i) (1 - bit_at mask i)) (bit_at (byte * 2 ^ (8 * at_byte) % 2 ^ 64) i) =
     bit_at_or (bit_and word (18446744073709551615 - mask)) (byte * 2 ^ (8 * at_byte) % 2 ^ 64) i
-    ∙ ap (λ n. max n (bit_at (byte * 2 ^ (8 * at_byte) % 2 ^ 64) i)) (bit_at_and word (18446744073709551615 - mask) i ∙ ap (min (bit_at word i)) (bit_at_not w64 mask i fits lt))
+    ∙ ap (λ n. max n (bit_at (byte * 2 ^ (8 * at_byte) % 2 ^ 64) i)) (bit_at_and word (18446744073709551615 - mask) i ∙ ap (min (bit_at word i))
+    (bit_at_not w64 mask i fits lt))
     in
     elim (cases_eq (i / 8) at_byte) [
       | inl e ↦
@@ -69,7 +72,8 @@ bits-with_byte word byte at_byte i small within lt =
           let below : i < 8 * at_byte + 8 = omega arith in
           let place : i - 8 * at_byte ≡ i % 8 = omega arith in
           let ones : bit_at mask i ≡ 1 = shifted_in 255 (8 * at_byte) i (omega arith) le from below ∙ bit_at_ones 8 (i - 8 * at_byte) (omega arith) in
-          let here : bit_at (byte * 2 ^ (8 * at_byte) % 2 ^ 64) i ≡ bit_at byte (i % 8) = shifted_in byte (8 * at_byte) i small le from below ∙ ap (bit_at byte) place in
+          let here : bit_at (byte * 2 ^ (8 * at_byte) % 2 ^ 64) i ≡ bit_at byte (i % 8) = shifted_in byte (8 * at_byte) i small le from below
+          ∙ ap (bit_at byte) place in
           rw (eq-eqb (i / 8) at_byte e) (ap (λ n. eqb n 1) (or_is ∙ kept_right (bit_at word i) (bit_at mask i) _ ones ∙ here))
       | inr ne ↦
           let out : (8 * at_byte ≤ i → i < 8 * at_byte + 8 → ⊥) = λ from below. ne (omega arith) in
@@ -105,29 +109,47 @@ pending_bit_is words n j s i b lt =
     let within : IsWithin 8192 (64 * length words) (8 * n + i) = record { from = omega (arith, b.first); below = omega (arith, b.inside, b.index, b.first) } in
     let index : (8 * n + i - 8192) / 64 ≡ j = omega (arith, b.index, b.first) in
     let place : (8 * n + i - 8192) % 64 ≡ s + i = omega (arith, b.place, b.first) in
-    let split : get_or words j 0 / 2 ^ (s + i) ≡ get_or words j 0 / 2 ^ s / 2 ^ i = ap (λ d. get_or words j 0 / d) (pow-add 2 s i) ∙ sym (div-div-eq-div-mul (get_or words j 0) (2 ^ s) (2 ^ i)) in
+    let split : get_or words j 0 / 2 ^ (s + i) ≡ get_or words j 0 / 2 ^ s / 2 ^ i = ap (λ d. get_or words j 0 / d) (pow-add 2 s i)
+    ∙ sym (div-div-eq-div-mul (get_or words j 0) (2 ^ s) (2 ^ i)) in
     ap bit (is_pending-lpis_of words (8 * n + i) within)
     ∙ ap (λ k. bit (bit_of (get_or words k 0) ((8 * n + i - 8192) % 64))) index
     ∙ ap (λ k. bit (bit_of (get_or words j 0) k)) place
     ∙ bit_is (get_or words j 0 / 2 ^ (s + i))
     ∙ ap (λ q. q % 2) split
 
-eight_bits : (m : ℕ) → m % 256 ≡ m / 1 % 2 + 2 * (m / 2 % 2) + 4 * (m / 4 % 2) + 8 * (m / 8 % 2) + 16 * (m / 16 % 2) + 32 * (m / 32 % 2) + 64 * (m / 64 % 2) + 128 * (m / 128 % 2)
+eight_bits : (m : ℕ) → m % 256 ≡ m / 1 % 2 + 2 * (m / 2 % 2) + 4 * (m / 4 % 2) + 8 * (m / 8 % 2) + 16 * (m / 16 % 2) + 32 * (m / 32 % 2) + 64 * (m / 64 % 2)
+    + 128 * (m / 128 % 2)
 eight_bits m = omega arith
 
 pub pending_byte_is : (words : List ℕ) (n j s : ℕ) → IsByte words n j s → field (get_or words j 0) s 8 ≡ pending_byte n (lpis_of words)
 pending_byte_is words n j s b =
     let m : ℕ = get_or words j 0 / 2 ^ s in
     let whole : 8 * n ≡ 8 * n + 0 = omega arith in
-    let first : pending_bit (8 * n) (lpis_of words) ≡ get_or words j 0 / 2 ^ s / 1 % 2 = ap (λ x. pending_bit x (lpis_of words)) whole ∙ pending_bit_is words n j s 0 b (omega arith) in
+    let first : pending_bit (8 * n) (lpis_of words) ≡ get_or words j 0 / 2 ^ s / 1 % 2 = ap (λ x. pending_bit x (lpis_of words)) whole
+    ∙ pending_bit_is words n j s 0 b (omega arith) in
     eight_bits (get_or words j 0 / 2 ^ s)
-    ∙ sym (rw (first, pending_bit_is words n j s 1 b (omega arith), pending_bit_is words n j s 2 b (omega arith), pending_bit_is words n j s 3 b (omega arith), pending_bit_is words n j s 4 b (omega arith), pending_bit_is words n j s 5 b (omega arith), pending_bit_is words n j s 6 b (omega arith), pending_bit_is words n j s 7 b (omega arith)) refl)
+    ∙ sym (rw (
+      first,
+      pending_bit_is words n j s 1 b (omega arith),
+      pending_bit_is words n j s 2 b (omega arith),
+      pending_bit_is words n j s 3 b
+          (omega arith),
+      pending_bit_is words n j s 4 b (omega arith),
+      pending_bit_is words n j s 5 b (omega arith),
+      pending_bit_is words n j s 6 b
+          (omega arith),
+      pending_bit_is words n j s 7 b (omega arith),
+    ) refl)
 
 -- ---- a byte of the table written
 
 any_append : (p : ℕ → Bool) (xs ys : List ℕ) → list_any p (xs ++ ys) ≡ (list_any p xs || list_any p ys)
 any_append p [] ys = refl
-any_append p (x ∷ xs) ys = elim (p x) as (λ b. (b || list_any p (xs ++ ys)) ≡ ((b || list_any p xs) || list_any p ys)) [ true ↦ refl | false ↦ any_append p xs ys ]
+any_append p (x ∷ xs) ys = elim (p x) as (λ b. (b || list_any p (xs ++ ys)) ≡ ((b || list_any p xs) || list_any p ys)) [
+  | true ↦ refl
+  | false ↦ any_append p xs
+      ys
+]
 
 one_lpi : ℕ → ℕ → ℕ → List ℕ
 one_lpi n byte i = cond (bit_of byte i) ((8 * n + i) ∷ []) []

@@ -1,5 +1,6 @@
 -- The first ready bit is the first LPI that is pending and enabled, and the words looked at have a pending one.
-use Rattle.std.proofs.Common.{◌≡◌, ℕ, ◌+◌, ◌-◌, ◌*◌, ◌/◌, ◌%◌, ◌^◌, ◌<◌, ◌≤◌, Bool, true, List, [], ◌∷◌, length, get_or, Some, None, eqb, sym, ap, ◌∙◌, inl, inr, arith}
+use Rattle.std.proofs.Common.{◌≡◌, ℕ, ◌+◌, ◌-◌, ◌*◌, ◌/◌, ◌%◌, ◌^◌, ◌<◌, ◌≤◌, Bool, true, List, [], ◌∷◌, length, get_or, Some, None, eqb, sym, ap, ◌∙◌, inl}
+use Rattle.std.proofs.Common.{inr, arith}
 use Rattle.std.specs.Prelude.{◌&&◌}
 use Rattle.std.specs.List.{list_any}
 use Rattle.std.specs.Int.{w64, trailing_zeros}
@@ -55,10 +56,12 @@ used_is_busy words k lt small used =
     let x : ℕ = 8192 + 64 * k + trailing_zeros w64 (get_or words k 0) in
     let word : (8192 + 64 * k + trailing_zeros w64 (get_or words k 0) - 8192) / 64 ≡ k = omega (arith, low.below) in
     let bit : (8192 + 64 * k + trailing_zeros w64 (get_or words k 0) - 8192) % 64 ≡ trailing_zeros w64 (get_or words k 0) = omega (arith, low.below) in
-    let within : IsWithin 8192 (64 * length words) (8192 + 64 * k + trailing_zeros w64 (get_or words k 0)) = record { from = omega arith; below = omega (arith, low.below) } in
+    let within : IsWithin 8192 (64 * length words) (8192 + 64 * k + trailing_zeros w64 (get_or words k 0)) =
+    record { from = omega arith; below = omega (arith, low.below) } in
     let is : is_pending (8192 + 64 * k + trailing_zeros w64 (get_or words k 0)) (lpis_of words) ≡ true =
     is_pending-lpis_of words (8192 + 64 * k + trailing_zeros w64 (get_or words k 0)) within
-    ∙ ap (λ j. bit_of (get_or words j 0) ((8192 + 64 * k + trailing_zeros w64 (get_or words k 0) - 8192) % 64)) word ∙ ap (bit_of (get_or words k 0)) bit ∙ low.met
+    ∙ ap (λ j. bit_of (get_or words j 0) ((8192 + 64 * k + trailing_zeros w64 (get_or words k 0) - 8192) % 64)) word ∙ ap (bit_of (get_or words k 0)) bit
+    ∙ low.met
     in
     any_weaker (λ y. eqb y (8192 + 64 * k + trailing_zeros w64 (get_or words k 0))) (λ y. eqb (y / 64) (128 + k)) (lpis_of words)
     (λ y same. let e : y ≡ 8192 + 64 * k + trailing_zeros w64 (get_or words k 0) = eqb-true y _ same in eq-eqb (y / 64) (128 + k) (omega (arith, low.below)))
@@ -75,6 +78,8 @@ cost_is words lpi_bits old new size small cost =
     let used : count_in (is_used words) 0 (length words) ≤ count_in (λ k. is_busy (lpis_of words) (128 + k)) 0 (length words) =
     count_in-le (is_used words) (λ k. is_busy (lpis_of words) (128 + k)) 0 (length words) (λ k w is. used_is_busy words k (omega (arith, w.below)) (small k) is)
     in
-    let shifted : count_in (λ k. is_busy (lpis_of words) (128 + k)) 0 (length words) ≡ count_in (is_busy (lpis_of words)) 128 (length words) = count_in-shift (is_busy (lpis_of words)) 128 0 (length words) in
-    let busy : count_in (is_busy (lpis_of words)) 128 (lpi_count lpi_bits / 64) ≡ count_in (is_busy (lpis_of words)) 128 (length words) = ap (count_in (is_busy (lpis_of words)) 128) n in
+    let shifted : count_in (λ k. is_busy (lpis_of words) (128 + k)) 0 (length words) ≡ count_in (is_busy (lpis_of words)) 128 (length words) =
+    count_in-shift (is_busy (lpis_of words)) 128 0 (length words) in
+    let busy : count_in (is_busy (lpis_of words)) 128 (lpi_count lpi_bits / 64) ≡ count_in (is_busy (lpis_of words)) 128 (length words) =
+    ap (count_in (is_busy (lpis_of words)) 128) n in
     omega (arith, used, shifted, busy, summaries, cost)

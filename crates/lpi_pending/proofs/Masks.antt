@@ -1,5 +1,6 @@
 -- The lowest bit of a mask of lanes.
-use Rattle.std.proofs.Common.{◌≡◌, ℕ, suc, zero, ◌+◌, ◌-◌, ◌*◌, ◌/◌, ◌^◌, ◌<◌, ◌≤◌, Bool, true, false, not, cond, List, [], map, length, get_or, take, drop, Some, None, refl, sym, ap, ◌∙◌, inl, inr, arith}
+use Rattle.std.proofs.Common.{◌≡◌, ℕ, suc, zero, ◌+◌, ◌-◌, ◌*◌, ◌/◌, ◌^◌, ◌<◌, ◌≤◌, Bool, true, false, not, cond, List, [], map, length, get_or, take, drop}
+use Rattle.std.proofs.Common.{Some, None, refl, sym, ap, ◌∙◌, inl, inr, arith}
 use Rattle.std.specs.Prelude.{position}
 use Rattle.std.specs.List.{prefix_len}
 use Rattle.std.specs.Simd.{first_chunks}
@@ -26,7 +27,8 @@ position_by_mask p xs m is small long some =
     elim (cases_lt (prefix_len (λ x. not (p x)) xs) (length xs)) [
       | inl lt ↦ rw (lt-ltb _ _ lt) (ap Some low)
       | inr le ↦
-          let past : get_or (map p xs) (prefix_len (λ x. not (p x)) xs) false ≡ false = get_or_past (map p xs) (prefix_len (λ x. not (p x)) xs) false (omega (arith, length-map xs p)) in
+          let past : get_or (map p xs) (prefix_len (λ x. not (p x)) xs) false ≡ false = get_or_past (map p xs) (prefix_len (λ x. not (p x)) xs) false
+          (omega (arith, length-map xs p)) in
           let none = rw past at bit' in
           absurd (omega (arith, none))
     ]
@@ -70,7 +72,8 @@ pub at_four :
     (words : List ℕ) (fours : List (List ℕ)) (i : ℕ) → fours ≡ first_chunks 4 (length words / 4) words → i < length words / 4
     → AtFour words (get_or fours i []) i
 at_four words fours i split lt =
-    let same : get_or fours i [] ≡ take 4 (drop (4 * i) words) = ap (λ (xs : List (List ℕ)). get_or xs i []) split ∙ get_or-first_chunks 4 (length words / 4) words i [] lt in
+    let same : get_or fours i [] ≡ take 4 (drop (4 * i) words) = ap (λ (xs : List (List ℕ)). get_or xs i []) split ∙ get_or-first_chunks 4
+    (length words / 4) words i [] lt in
     record {
       inside = omega arith;
       long = ap length same ∙ length-take-le 4 (drop (4 * i) words) (omega (arith, length-drop (4 * i) words));
@@ -89,7 +92,8 @@ found_in_four words four i lane here before e =
             | inl low ↦ before k low
             | inr high ↦
                 let split : 4 * i + (k - 4 * i) ≡ k = omega arith in
-                ap (λ j. is_nonzero (get_or words j 0)) (sym split) ∙ ap is_nonzero (sym (here.is (k - 4 * i) (omega arith))) ∙ parts.2 (k - 4 * i) (omega arith)
+                ap (λ j. is_nonzero (get_or words j 0)) (sym split) ∙ ap is_nonzero (sym (here.is (k - 4 * i) (omega arith))) ∙ parts.2 (k - 4 * i)
+                (omega arith)
           ]),
     )
 

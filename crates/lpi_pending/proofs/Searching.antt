@@ -1,5 +1,6 @@
 -- The search through a bitmap: a word, the 64 words of a group, all groups.
-use Rattle.std.proofs.Common.{◌≡◌, ◌≢◌, ℕ, ◌+◌, ◌-◌, ◌*◌, ◌/◌, ◌%◌, ◌^◌, ◌<◌, ◌≤◌, Bool, false, List, length, get_or, take, drop, Some, None, bit_and, refl, sym, ap, subst, ◌∙◌, inl, inr, arith}
+use Rattle.std.proofs.Common.{◌≡◌, ◌≢◌, ℕ, ◌+◌, ◌-◌, ◌*◌, ◌/◌, ◌%◌, ◌^◌, ◌<◌, ◌≤◌, Bool, false, List, length, get_or, take, drop, Some, None, bit_and, refl}
+use Rattle.std.proofs.Common.{sym, ap, subst, ◌∙◌, inl, inr, arith}
 use Rattle.std.specs.Prelude.{position}
 use Rattle.std.specs.Int.{w64, trailing_zeros}
 use Rattle.std.proofs.lemmas.List.{get_or-drop, length-drop, take_rest}
@@ -112,7 +113,8 @@ found_in_group words config group left place x s low first =
       met = first.met;
       before =
           none_and (is_ready words config) (4096 * group) (64 * (64 * group + place)) x
-          (λ y from below. none_pieces (is_ready words config) (64 * group) place (λ i lt. s.none i (omega (arith, low.below)) (low.before i lt)) y (omega arith) (omega arith))
+          (λ y from below. none_pieces (is_ready words config) (64 * group) place (λ i lt. s.none i (omega (arith, low.below)) (low.before i lt)) y
+          (omega arith) (omega arith))
           first.before;
     }
 
@@ -178,12 +180,15 @@ pub used_with_group :
     → count_in (is_used words) 0 (64 * a) + count_in (bit_of (get_or summary group 0)) 0 64 ≤ count_in (is_used words) 0 (64 * (group + 1))
 used_with_group summary words a group s le =
     let here : count_in (bit_of (get_or summary group 0)) 0 64 ≡ count_in (is_used words) (64 * group + 0) 64 =
-    count_in-same (bit_of (get_or summary group 0)) (λ k. is_used words (64 * group + k)) 0 64 (λ k w. summary_word summary words group s k (omega (arith, w.below)))
+    count_in-same (bit_of (get_or summary group 0)) (λ k. is_used words (64 * group + k)) 0 64
+    (λ k w. summary_word summary words group s k (omega (arith, w.below)))
     ∙ count_in-shift (is_used words) (64 * group) 0 64
     in
     let place : 64 * group + 0 ≡ 0 + 64 * group = omega arith in
-    let all : count_in (is_used words) 0 (64 * group + 64) ≡ count_in (is_used words) 0 (64 * group) + count_in (is_used words) (0 + 64 * group) 64 = count_in-add (is_used words) 0 (64 * group) 64 in
-    let end : count_in (is_used words) 0 (64 * (group + 1)) ≡ count_in (is_used words) 0 (64 * group + 64) = let e : 64 * (group + 1) ≡ 64 * group + 64 = omega arith in ap (count_in (is_used words) 0) e in
+    let all : count_in (is_used words) 0 (64 * group + 64) ≡ count_in (is_used words) 0 (64 * group) + count_in (is_used words) (0 + 64 * group) 64 =
+    count_in-add (is_used words) 0 (64 * group) 64 in
+    let end : count_in (is_used words) 0 (64 * (group + 1)) ≡ count_in (is_used words) 0 (64 * group + 64) = let e : 64 * (group + 1) ≡ 64 * group + 64 =
+    omega arith in ap (count_in (is_used words) 0) e in
     let moved : count_in (is_used words) (64 * group + 0) 64 ≡ count_in (is_used words) (0 + 64 * group) 64 = ap (λ k. count_in (is_used words) k 64) place in
     omega (arith, used_so_far (is_used words) (64 * a) (64 * group) (omega arith), here, all, end, moved)
 
@@ -225,7 +230,8 @@ none_so_far summary words group_words config a skipped s same zeros before none 
     subst (λ (ws : List ℕ). NoneIn (is_ready ws config) (4096 * (a + skipped)) (4096 * (a + skipped) + 4096)) same none
     in
     none_and (is_ready words config) 0 (4096 * a) (4096 * (a + skipped) + 4096) before
-    (none_and (is_ready words config) (4096 * a) (4096 * (a + skipped)) (4096 * (a + skipped) + 4096) (unused_groups summary words config a skipped s zeros) none')
+    (none_and (is_ready words config) (4096 * a) (4096 * (a + skipped)) (4096 * (a + skipped) + 4096) (unused_groups summary words config a skipped s zeros)
+    none')
     y from (omega arith)
 
 pub none_at_all :

@@ -1,5 +1,6 @@
 -- A set as the numbers of a range that pass a test.
-use Rattle.std.proofs.Common.{◌≡◌, ◌≢◌, ℕ, suc, zero, ◌+◌, ◌<◌, ◌≤◌, Bool, true, false, cond, List, [], ◌∷◌, length, get_or, Some, None, eqb, refl, sym, ap, ◌∙◌, inl, inr, arith}
+use Rattle.std.proofs.Common.{◌≡◌, ◌≢◌, ℕ, suc, zero, ◌+◌, ◌<◌, ◌≤◌, Bool, true, false, cond, List, [], ◌∷◌, length, get_or, Some, None, eqb, refl, sym, ap}
+use Rattle.std.proofs.Common.{◌∙◌, inl, inr, arith}
 use Rattle.std.specs.Prelude.{◌||◌, ◌&&◌, filter, find}
 use Rattle.std.specs.List.{range_with_len}
 use Rattle.std.proofs.lemmas.Bool.{cases_eq, cases_lt, cases_Bool, eq-eqb, ne_eqb, lt-ltb, le-ltb, or_left, or_right}
@@ -32,7 +33,8 @@ same_those p q a (suc n) same =
 pub those-filter : (q p : ℕ → Bool) (a n : ℕ) → filter q (those p a n) ≡ those (λ x. p x && q x) a n
 those-filter q p a zero = refl
 those-filter q p a (suc n) =
-    elim (p a) as (λ b. filter q (cond b (a ∷ those p (a + 1) n) (those p (a + 1) n)) ≡ cond (b && q a) (a ∷ those (λ x. p x && q x) (a + 1) n) (those (λ x. p x && q x) (a + 1) n)) [
+    elim (p a) as (λ b. filter q (cond b (a ∷ those p (a + 1) n) (those p (a + 1) n)) ≡ cond (b && q a) (a ∷ those (λ x. p x && q x) (a + 1) n)
+    (those (λ x. p x && q x) (a + 1) n)) [
       | true ↦ rw (those-filter q p (a + 1) n) refl
       | false ↦ those-filter q p (a + 1) n
     ]
@@ -90,7 +92,8 @@ within-those p a n x is =
 
 -- ---- each element of a set, and their order
 
-cons_within : (a n : ℕ) (xs : List ℕ) → ((j : ℕ) → j < length xs → IsWithin (a + 1) n (get_or xs j 0)) → (k : ℕ) → k < length (a ∷ xs) → IsWithin a (suc n) (get_or (a ∷ xs) k 0)
+cons_within : (a n : ℕ) (xs : List ℕ) → ((j : ℕ) → j < length xs → IsWithin (a + 1) n (get_or xs j 0)) → (k : ℕ) → k < length (a ∷ xs)
+    → IsWithin a (suc n) (get_or (a ∷ xs) k 0)
 cons_within a n xs each zero lt = within-first a n
 cons_within a n xs each (suc k) lt = within-next a n (get_or xs k 0) (each k (omega arith))
 
@@ -113,7 +116,8 @@ pub rising-those : (p : ℕ → Bool) (a n k : ℕ) → k + 1 < length (those p 
 rising-those p a zero k lt = absurd (omega arith)
 rising-those p a (suc n) k lt =
     let rest = λ (j : ℕ) (below : j + 1 < length (those p (a + 1) n)). rising-those p (a + 1) n j below in
-    let above = λ (j : ℕ) (below : j < length (those p (a + 1) n)). let w = get_or-those p (a + 1) n j below in let gt : a < get_or (those p (a + 1) n) j 0 = omega (arith, w.from) in gt in
+    let above = λ (j : ℕ) (below : j < length (those p (a + 1) n)). let w = get_or-those p (a + 1) n j below in let gt : a < get_or (those p (a + 1) n) j 0 =
+    omega (arith, w.from) in gt in
     elim (cases_Bool (p a)) [
       | inl t ↦ rw t (cons_rises a (those p (a + 1) n) above rest k (rw t at lt))
       | inr f ↦ rw f (rest k (rw f at lt))
@@ -150,7 +154,8 @@ with_lpi-those p a (suc n) x w =
           let rest = with_lpi-those p (a + 1) n x (within-later a n x w ne) in
           let lt : a < x = omega (arith, w.from) in
           rw (ne_eqb x a ne)
-          (elim (p a) as (λ b. with_lpi x (cond b (a ∷ those p (a + 1) n) (those p (a + 1) n)) ≡ cond b (a ∷ those (λ y. eqb x y || p y) (a + 1) n) (those (λ y. eqb x y || p y) (a + 1) n)) [
+          (elim (p a) as (λ b. with_lpi x (cond b (a ∷ those p (a + 1) n) (those p (a + 1) n)) ≡ cond b (a ∷ those (λ y. eqb x y || p y) (a + 1) n)
+          (those (λ y. eqb x y || p y) (a + 1) n)) [
             | true ↦ rw (lt-ltb a x lt, rest) refl
             | false ↦ rest
           ])
@@ -188,7 +193,8 @@ find-range_none q a (suc n) unmet = rw (unmet a (within-first a n)) (find-range_
 pub find-those : (q p : ℕ → Bool) (a n : ℕ) → find q (those p a n) ≡ find (λ x. p x && q x) (range_with_len a n)
 find-those q p a zero = refl
 find-those q p a (suc n) =
-    elim (p a) as (λ b. find q (cond b (a ∷ those p (a + 1) n) (those p (a + 1) n)) ≡ cond (b && q a) (Some a) (find (λ x. p x && q x) (range_with_len (a + 1) n))) [
+    elim (p a) as (λ b. find q (cond b (a ∷ those p (a + 1) n) (those p (a + 1) n)) ≡ cond (b && q a) (Some a)
+    (find (λ x. p x && q x) (range_with_len (a + 1) n))) [
       | true ↦ rw (find-those q p (a + 1) n) refl
       | false ↦ find-those q p (a + 1) n
     ]

@@ -1,5 +1,6 @@
 -- The words of a pending table, and the set that it has.
-use Rattle.std.proofs.Common.{◌≡◌, ◌≢◌, ℕ, ◌+◌, ◌-◌, ◌*◌, ◌/◌, ◌%◌, ◌^◌, ◌<◌, ◌≤◌, Bool, true, false, List, length, get_or, set, Option, Some, Result, Ok, eqb, refl, sym, ap, ◌∙◌, inl, inr, arith}
+use Rattle.std.proofs.Common.{◌≡◌, ◌≢◌, ℕ, ◌+◌, ◌-◌, ◌*◌, ◌/◌, ◌%◌, ◌^◌, ◌<◌, ◌≤◌, Bool, true, false, List, length, get_or, set, Option, Some, Result, Ok, eqb}
+use Rattle.std.proofs.Common.{refl, sym, ap, ◌∙◌, inl, inr, arith}
 use Rattle.std.specs.Prelude.{◌&&◌, unwrap_or, nat_le, nat_lt}
 use Rattle.std.specs.Option.{ok_or}
 use Rattle.std.specs.Int.{bit_at}
@@ -74,7 +75,8 @@ read_set lpi_bits memory base words size bits =
     let within : y - 8192 < 64 * length words = omega (arith, w.from, w.below, size) in
     let place : base + 1024 + (y - 8192) / 8 ≡ base + y / 8 = omega (arith, w.from) in
     let bit : (y - 8192) % 8 ≡ y % 8 = omega (arith, w.from) in
-    bits (y - 8192) within ∙ ap (λ a. bit_of (unwrap_or (byte_at memory a) 0) ((y - 8192) % 8)) place ∙ ap (bit_of (unwrap_or (byte_at memory (base + y / 8)) 0)) bit)
+    bits (y - 8192) within ∙ ap (λ a. bit_of (unwrap_or (byte_at memory a) 0) ((y - 8192) % 8)) place
+    ∙ ap (bit_of (unwrap_or (byte_at memory (base + y / 8)) 0)) bit)
 
 -- it rises
 pub pending_in_rises : (lpi_bits : ℕ) (memory : List Window) (base : ℕ) → IsStrictlyIncreasing (pending_in lpi_bits memory base)
@@ -83,7 +85,8 @@ pending_in_rises lpi_bits memory base k lt = rising-those (is_set memory base) 8
 
 -- and has just the LPIs whose bits are set
 pub is_pending-pending_in :
-    (lpi_bits : ℕ) (memory : List Window) (base intid : ℕ) → is_pending intid (pending_in lpi_bits memory base) ≡ (is_lpi lpi_bits intid && is_set memory base intid)
+    (lpi_bits : ℕ) (memory : List Window) (base intid : ℕ) → is_pending intid (pending_in lpi_bits memory base)
+    ≡ (is_lpi lpi_bits intid && is_set memory base intid)
 unfolding pending_in
 is_pending-pending_in lpi_bits memory base intid =
     elim (cases_Bool (is_lpi lpi_bits intid)) [

@@ -15,7 +15,8 @@ inside_part (w ∷ ws) a n b m low high is =
       | inl it ↦
           let fits = has-fits w a n it in
           let here : has w b m ≡ true =
-          ap (λ t. t && nat_le (b + m) (w.base + length w.bytes)) (le-leb w.base b (omega (arith, low, fits.above))) ∙ le-leb (b + m) (w.base + length w.bytes) (omega (arith, high, fits.below)) in
+          ap (λ t. t && nat_le (b + m) (w.base + length w.bytes)) (le-leb w.base b (omega (arith, low, fits.above))) ∙ le-leb (b + m) (w.base + length w.bytes)
+          (omega (arith, high, fits.below)) in
           ap (λ t. t || inside ws b m) here
       | inr later ↦ or_right (has w b m) (inside ws b m) (inside_part ws a n b m low high later)
     ]

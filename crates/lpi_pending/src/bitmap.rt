@@ -133,7 +133,8 @@ impl Bitmap {
     // summary leads to.
     pub fn first_ready<L: Ledger>(&self, config: &Config, steps: &mut Steps<L>) -> Option<usize>
         requires { 64 * length self.now ≡ lpi_count config.now.lpi_bits }
-        ensures found { FirstIn (is_ready self.now config.now.bytes) 0 (64 * length self.now) result }
+        ensures found { FirstIn (is_ready self.now config.now.bytes) 0
+            (64 * length self.now) result }
         ensures cost { steps.new ≤ steps.old + length self.now / 64 + count_in (is_used self.now) 0
             (length self.now) }
         ensures words { (k : ℕ) → slice_index self.now k < 2 ^ 64 }
@@ -166,7 +167,8 @@ fn first_in_group<L: Ledger>(
     requires small { length words.now ≤ 65536 }
     requires size { 64 * length words.now ≡ lpi_count config.now.lpi_bits }
     requires used { (k : ℕ) → k < 64 → bit_of used k ≡ is_used words.now (64 * group + k) }
-    ensures found { FirstIn (is_ready words.now config.now.bytes) (4096 * group) (4096 * group + 4096) result }
+    ensures found { FirstIn (is_ready words.now config.now.bytes) (4096 * group)
+        (4096 * group + 4096) result }
     ensures cost { steps.new ≤ steps.old + count_in (bit_of used) 0 64 }
 {
     let mut left = used;
@@ -213,7 +215,8 @@ fn move_words(from: &mut [u64], to: &mut [u64])
     requires { length from.old ≡ length to.old }
     ensures left { from.new ≡ replicate (length from.old) 0 }
     ensures size { length to.new ≡ length to.old }
-    ensures words { (k : ℕ) → slice_index to.new k ≡ bit_or (slice_index to.old k) (slice_index from.old k) }
+    ensures words { (k : ℕ) → slice_index to.new k ≡ bit_or (slice_index to.old k)
+        (slice_index from.old k) }
 {
     for at in 0..from.len() {
         to[at] |= from[at];

@@ -96,7 +96,8 @@ impl Pending {
     /// The lowest LPI that is pending and enabled.
     pub fn first_enabled(&self, config: &Config) -> Option<Intid>
         requires { self.now.lpi_bits ≡ config.now.lpi_bits }
-        ensures found { result ≡ option_map as_intid (spec.first_enabled config.now.bytes self.now.lpis) }
+        ensures found { result ≡ option_map as_intid
+            (spec.first_enabled config.now.bytes self.now.lpis) }
         ensures in_range { IfSome result (λ intid. is_lpi self.now.lpi_bits intid.0 ≡ true) }
     {
         self.first_enabled_from::<Brand>(config, Blank::new(1))
@@ -107,7 +108,8 @@ impl Pending {
         requires parts { blank.parts ≡ L.parts }
         requires some { 0 < L.parts }
         requires same_bits { self.now.lpi_bits ≡ config.now.lpi_bits }
-        ensures found { result ≡ option_map as_intid (spec.first_enabled config.now.bytes self.now.lpis) }
+        ensures found { result ≡ option_map as_intid
+            (spec.first_enabled config.now.bytes self.now.lpis) }
         ensures in_range { IfSome result (λ intid. is_lpi self.now.lpi_bits intid.0 ≡ true) }
     {
         let mut steps = Steps::<L>::new(blank);
@@ -123,9 +125,11 @@ impl Pending {
         steps: &mut Steps<L>,
     ) -> Option<Intid>
         requires { self.now.lpi_bits ≡ config.now.lpi_bits }
-        ensures found { result ≡ option_map as_intid (spec.first_enabled config.now.bytes self.now.lpis) }
+        ensures found { result ≡ option_map as_intid
+            (spec.first_enabled config.now.bytes self.now.lpis) }
         ensures in_range { IfSome result (λ intid. is_lpi self.now.lpi_bits intid.0 ≡ true) }
-        ensures cost { steps.new ≤ steps.old + summary_words self.now.lpi_bits + busy_words self.now }
+        ensures cost { steps.new ≤ steps.old + summary_words self.now.lpi_bits + busy_words
+            self.now }
     {
         match self.bitmap.first_ready(config, steps) {
             Some(at) => Some(Intid(8192 + at as u32)),
@@ -208,7 +212,8 @@ fn place(intid: Intid) -> (usize, u32)
 fn with_byte(word: u64, at: u32, byte: u8) -> u64
     requires { at < 8 }
     ensures { (i : ℕ) → i < 64
-        → bits.bit_of result i ≡ (if i / 8 == at then bits.bit_of byte (i % 8) else bits.bit_of word i) }
+        → bits.bit_of result i
+        ≡ (if i / 8 == at then bits.bit_of byte (i % 8) else bits.bit_of word i) }
 {
     let shift = 8 * at;
     word & !(0xff << shift) | u64::from(byte) << shift

@@ -1,5 +1,6 @@
 -- For tests: parts of which each was tried stand for a sound state.
-use Rattle.std.proofs.Common.{◌≡◌, ℕ, zero, suc, ◌+◌, ◌<◌, ◌≤◌, true, false, List, [], ◌∷◌, length, map, take, set, Option, Some, None, inl, inr, refl, sym, ap, subst, ◌∙◌, arith}
+use Rattle.std.proofs.Common.{◌≡◌, ℕ, zero, suc, ◌+◌, ◌<◌, ◌≤◌, true, false, List, [], ◌∷◌, length, map, take, set, Option, Some, None, inl, inr, refl, sym}
+use Rattle.std.proofs.Common.{ap, subst, ◌∙◌, arith}
 use Rattle.std.specs.Prelude.{slice_get, IsSome}
 use Rattle.std.specs.List.{AllByRecursion}
 use Rattle.std.specs.Ordering.{nat_cmp}
@@ -40,11 +41,13 @@ found {X} P k x (e ∷ es) all is =
       | inr other ↦ found P k x es all.1 (sym (find_skips k e es other) ∙ is)
     ]
 
-event_sound : (s : Shape) (m : Maps) (dev ev : ℕ) (e : Event) (device : Option Device) → device_of m dev ≡ device → IsSome device → AllByRecursion (AreEventsOf s m) (finmap.entries m.devices) → event_of m dev ev ≡ Some e → IsEvent s m dev ev e
+event_sound : (s : Shape) (m : Maps) (dev ev : ℕ) (e : Event) (device : Option Device) → device_of m dev ≡ device → IsSome device
+    → AllByRecursion (AreEventsOf s m) (finmap.entries m.devices) → event_of m dev ev ≡ Some e → IsEvent s m dev ev e
 event_sound s m dev ev e None is some all mapped = absurd (let e : false ≡ true = some in cc)
 event_sound s m dev ev e (Some d) is some all mapped =
     let mine = found (AreEventsOf s m) dev d (finmap.entries m.devices) all (sym (get-entries m.devices dev) ∙ is) in
-    let h = found (IsEventOf s d) ev e (events_at m dev) mine (find_of_device dev ev (finmap.entries m.events) ∙ sym (get-entries m.events (dev, ev)) ∙ mapped) in
+    let h = found (IsEventOf s d) ev e (events_at m dev) mine (find_of_device dev ev (finmap.entries m.events) ∙ sym (get-entries m.events (dev, ev))
+    ∙ mapped) in
     record { device = d; device_is = is; in_bits = h.in_bits; lpi = h.lpi; icid = h.icid }
 
 some_mapped : {X : Type 0} (o : Option X) (x : X) → o ≡ Some x → IsSome o
@@ -71,8 +74,10 @@ in_list (y ∷ xs) (suc v) x is = let lt = in_list xs v x is in omega (arith, lt
 
 module _ (l : Layout) (r : Registers) (m : Maps) (memory : List Window) (redists : List (Option Redist)) where
   pub sound_state : IsShape l.shape → l.gicr ≡ false → length l.described ≡ l.shape.vcpus → regs.IsSound r → r.dev_bits ≡ l.shape.dev_bits → EventsHaveDevices m
-      → AllByRecursion (IsDeviceOf r) (finmap.entries m.devices) → AllByRecursion (AreEventsOf l.shape m) (finmap.entries m.devices) → AllByRecursion (IsCollectionOf l.shape r) (finmap.entries m.collections)
-      → AreSoundRedistributors l memory redists → AreAllInHand l.shape redists → are_windows (map extent memory) ≡ true → IsSound (state_of l r m memory redists)
+      → AllByRecursion (IsDeviceOf r) (finmap.entries m.devices) → AllByRecursion (AreEventsOf l.shape m) (finmap.entries m.devices)
+      → AllByRecursion (IsCollectionOf l.shape r) (finmap.entries m.collections)
+      → AreSoundRedistributors l memory redists → AreAllInHand l.shape redists → are_windows (map extent memory) ≡ true
+      → IsSound (state_of l r m memory redists)
   sound_state shape none tables rules bits have devices events collections redistributors in_hands windows =
       let t : Translator = record { regs = r; maps = m } in
       let translator : IsTranslator l.shape t = record {
@@ -80,7 +85,8 @@ module _ (l : Layout) (r : Registers) (m : Maps) (memory : List Window) (redists
         dev_bits = bits;
         devices = λ dev x is. found (IsDeviceOf r) dev x (finmap.entries m.devices) devices (sym (get-entries m.devices dev) ∙ is);
         events = λ dev ev e is. event_sound l.shape m dev ev e (device_of m dev) refl (have dev ev (some_mapped (event_of m dev ev) e is)) events is;
-        collections = λ icid x is. found (IsCollectionOf l.shape r) icid x (finmap.entries m.collections) collections (sym (get-entries m.collections icid) ∙ is);
+        collections = λ icid x is. found (IsCollectionOf l.shape r) icid x (finmap.entries m.collections) collections (sym (get-entries m.collections icid)
+            ∙ is);
       } in
       let n = l.shape.vcpus in
       let long : n ≤ length redists = enough n redists (λ v lt. let h = in_hands v lt in below redists v h.0 h.1) in
@@ -113,19 +119,27 @@ extents_of_zeros : (windows : List (ℕ × ℕ)) → map extent (map zeros windo
 extents_of_zeros [] = refl
 extents_of_zeros (w ∷ windows) = ap (λ n. (w.0, n) ∷ map extent (map zeros windows)) (length-replicate w.1 0) ∙ ap (λ rest. w ∷ rest) (extents_of_zeros windows)
 
-pub zeros_are_windows : (memory : List Window) (windows : List (ℕ × ℕ)) → memory ≡ map zeros windows → are_windows windows ≡ true → are_windows (map extent memory) ≡ true
+pub zeros_are_windows : (memory : List Window) (windows : List (ℕ × ℕ)) → memory ≡ map zeros windows → are_windows windows ≡ true
+    → are_windows (map extent memory) ≡ true
 zeros_are_windows memory windows is fits = ap (λ m. are_windows (map extent m)) is ∙ ap are_windows (extents_of_zeros windows) ∙ fits
 
 -- ---- redistributors put into their places, one after another
 
 pub placed_more : (s : Shape) (redists now : List (Option Redist)) (k : ℕ) (r : Redist) → k < length redists → HasLpisOf s r → now ≡ set redists k (Some r)
-    → ((v : ℕ) → v < k → (x : Redist) × (in_hand redists v ≡ Some x) × HasLpisOf s x) → (v : ℕ) → v < k + 1 → (x : Redist) × (in_hand now v ≡ Some x) × HasLpisOf s x
+    → ((v : ℕ) → v < k → (x : Redist) × (in_hand redists v ≡ Some x) × HasLpisOf s x) → (v : ℕ) → v < k + 1 → (x : Redist) × (in_hand now v ≡ Some x)
+    × HasLpisOf s x
 placed_more s redists now k r inside lpis is before v lt =
     elim (cases_eq v k) [
       | inl same ↦ (r, ap (λ rs. in_hand rs v) is ∙ ap (in_hand (set redists k (Some r))) same ∙ get_or-set_same redists k (Some r) None inside, lpis)
-      | inr other ↦ let h = before v (omega (arith, lt, other)) in (h.0, ap (λ rs. in_hand rs v) is ∙ get_or-set_other redists k v (Some r) None other ∙ h.1, h.2)
+      | inr other ↦ let h = before v (omega (arith, lt, other)) in (
+        h.0,
+        ap (λ rs. in_hand rs v) is ∙ get_or-set_other redists k v (Some r) None other
+            ∙ h.1,
+        h.2,
+      )
     ]
 
-pub empty_more : (redists now : List (Option Redist)) (k : ℕ) (r : Redist) → now ≡ set redists k (Some r) → ((v : ℕ) → k ≤ v → in_hand redists v ≡ None) → (v : ℕ) → k + 1 ≤ v → in_hand now v ≡ None
+pub empty_more : (redists now : List (Option Redist)) (k : ℕ) (r : Redist) → now ≡ set redists k (Some r) → ((v : ℕ) → k ≤ v → in_hand redists v ≡ None)
+    → (v : ℕ) → k + 1 ≤ v → in_hand now v ≡ None
 empty_more redists now k r is before v le =
     ap (λ rs. in_hand rs v) is ∙ get_or-set_other redists k v (Some r) None (λ same. omega (arith, le, same)) ∙ before v (omega (arith, le))

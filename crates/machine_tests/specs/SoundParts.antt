@@ -31,4 +31,5 @@ abbrev pub IsCollectionOf : Shape → Registers → ℕ × Vcpu → Type 0
 IsCollectionOf s r c = IsCollection s r c.0 c.1
 
 abbrev pub AreSoundRedistributors : Layout → List Window → List (Option Redist) → Type 0
-AreSoundRedistributors l memory redists = (v : ℕ) (r : Redist) → v < l.shape.vcpus → in_hand redists v ≡ Some r → IsRedistributor l memory v (redistributor_of r)
+AreSoundRedistributors l memory redists = (v : ℕ) (r : Redist) → v < l.shape.vcpus → in_hand redists v ≡ Some r
+    → IsRedistributor l memory v (redistributor_of r)

@@ -10,7 +10,8 @@ ghost use Rattle.its_plain.specs.Sound as sound;
 ghost use Rattle.lpi_pending.specs.InHand.{in_hand};
 ghost use Rattle.lpi_pending.specs.declared.redist.Redist.{Redist};
 ghost use Rattle.owned_parts.specs.Owned.{AreAllInHand, HasLpisOf, state_of, redistributor_of};
-ghost use Rattle.machine_tests.specs.SoundParts.{IsDeviceOf, IsEventOf, AreEventsOf, IsCollectionOf};
+ghost use Rattle.machine_tests.specs.SoundParts.{IsDeviceOf, IsEventOf, AreEventsOf};
+ghost use Rattle.machine_tests.specs.SoundParts.{IsCollectionOf};
 ghost use Rattle.machine_tests.specs.SoundParts.{AreSoundRedistributors};
 
 use gits_regs::Regs;
@@ -95,7 +96,8 @@ fn are_events(maps: &Maps, shape: Shape) -> bool
 }
 
 fn are_events_of(maps: &Maps, shape: Shape, dev: DeviceId, device: Device) -> bool
-    ensures { OnTrue result (AllByRecursion (IsEventOf shape device) (events_at maps.now.maps dev.0)) }
+    ensures { OnTrue result
+        (AllByRecursion (IsEventOf shape device) (events_at maps.now.maps dev.0)) }
 {
     for (ev, event) in maps.events(dev) {
         if !is_event(shape, device, ev, event) {

@@ -1,5 +1,6 @@
 -- What each call leaves.
-use Rattle.std.proofs.Common.{◌≡◌, ℕ, zero, suc, ◌<◌, Bool, true, false, cond, List, [], ◌∷◌, Option, Some, None, Result, Ok, Err, IfOk, refl, sym, ap, subst, ◌∙◌}
+use Rattle.std.proofs.Common.{◌≡◌, ℕ, zero, suc, ◌<◌, Bool, true, false, cond, List, [], ◌∷◌, Option, Some, None, Result, Ok, Err, IfOk, refl, sym, ap, subst}
+use Rattle.std.proofs.Common.{◌∙◌}
 use Rattle.std.specs.Prelude.{ok_or, unwrap_or, MatchOption, slice_index_or}
 use Rattle.guest_windows.specs.Windows.{Window, write_at}
 use Rattle.gits_regs.specs.Registers.{Registers, write_reg}
@@ -17,7 +18,8 @@ use Rattle.its_plain.specs.Plain.{Plain, Translator, Redistributor, no_translato
 use Rattle.its_plain.specs.Sound.{IsTranslator}
 use Rattle.its_plain.specs.Translation.{translated, located, ensure, ◌>>=◌}
 use Rattle.its_plain.specs.Commands.{lpi_set}
-use Rattle.its_plain.specs.Answer.{answer, reply_of, left, step_left, met_left, next_bytes, signal_reply, signal_left, ack_of, lowest, taken, poked, written, translator_written, emptied, save_left}
+use Rattle.its_plain.specs.Answer.{answer, reply_of, left, step_left, met_left, next_bytes, signal_reply, signal_left, ack_of, lowest, taken, poked, written}
+use Rattle.its_plain.specs.Answer.{translator_written, emptied, save_left}
 use Rattle.its_plain.specs.Regions.{savable}
 use Rattle.its_plain.specs.Saved.{saved}
 use Rattle.its_plain.specs.declared.call.Ack.TheVariants as ack
@@ -39,11 +41,13 @@ use Rattle.owned_machine.proofs.Needed.{is_needed_below}
 
 -- ---- signals
 
-passed : {B : Type 0} (P : B → Type 0) (test : Bool) (cause : Cause) (f : Unit {0} → Result B Cause) → (test ≡ true → IfOk (f tt) P) → IfOk (ensure test cause >>= f) P
+passed : {B : Type 0} (P : B → Type 0) (test : Bool) (cause : Cause) (f : Unit {0} → Result B Cause) → (test ≡ true → IfOk (f tt) P)
+    → IfOk (ensure test cause >>= f) P
 passed P true cause f h = h refl
 passed P false cause f h = tt
 
-found : {A B : Type 0} (P : B → Type 0) (o : Option A) (cause : Cause) (f : A → Result B Cause) → ((x : A) → o ≡ Some x → IfOk (f x) P) → IfOk (ok_or o cause >>= f) P
+found : {A B : Type 0} (P : B → Type 0) (o : Option A) (cause : Cause) (f : A → Result B Cause) → ((x : A) → o ≡ Some x → IfOk (f x) P)
+    → IfOk (ok_or o cause >>= f) P
 found P None cause f h = tt
 found P (Some x) cause f h = h x refl
 
@@ -73,7 +77,8 @@ other_translator t (suc i) other = refl
 pub other_disabled : (p : Parts) (i dev ev : ℕ) → (i ≡ 0 → ⊥) → Err Disabled ≡ translated (state_of_parts p) i dev ev
 unfolding translated located
 other_disabled p i dev ev other =
-    sym (ap (λ (t : Translator). located t dev ev >>= (λ (target : Target). ensure (redistributor (state_of_parts p) target.vcpu.0).bases.on LpisOff >>= λ (_ : Unit {0}). Ok target)) (other_translator (record { regs = p.regs; maps = p.maps.maps }) i other))
+    sym (ap (λ (t : Translator). located t dev ev >>= (λ (target : Target). ensure (redistributor (state_of_parts p) target.vcpu.0).bases.on LpisOff >>=
+    λ (_ : Unit {0}). Ok target)) (other_translator (record { regs = p.regs; maps = p.maps.maps }) i other))
 
 pub signal_goes : (p : Parts) (its : ℕ) (dev : DeviceId) (ev : EventId) (t : Target) → IsMachine p → translated (state_of_parts p) its dev.0 ev.0 ≡ Ok t
     → GoesOn (record p { redists = changed t.vcpu.0 (with_set t.intid.0) p.redists }) (lpi_set t.intid.0 t.vcpu.0 (state_of_parts p))
@@ -90,12 +95,14 @@ acked r (Some x) intid priority e = cc
 
 pub take_goes : (p : Parts) (vcpu : Vcpu) (intid : Intid) (priority : ℕ) → IsMachine p
     → ack_of (redistributor (state_of_parts p) vcpu.0) (lowest (redistributor (state_of_parts p) vcpu.0)) ≡ ack.Some intid priority
-    → GoesOn (record p { redists = changed vcpu.0 (with_cleared intid.0) p.redists }) (with_redistributor (state_of_parts p) vcpu.0 (taken (redistributor (state_of_parts p) vcpu.0) (lowest (redistributor (state_of_parts p) vcpu.0))))
+    → GoesOn (record p { redists = changed vcpu.0 (with_cleared intid.0) p.redists })
+    (with_redistributor (state_of_parts p) vcpu.0 (taken (redistributor (state_of_parts p) vcpu.0) (lowest (redistributor (state_of_parts p) vcpu.0))))
 unfolding left
 take_goes p vcpu intid priority m e =
     let u = state_of_parts p in let r = redistributor u vcpu.0 in
     let is : lowest r ≡ Some intid.0 = acked r (lowest r) intid priority e in
-    let same : with_redistributor u vcpu.0 (taken r (lowest r)) ≡ with_redistributor u vcpu.0 (with_cleared intid.0 r) = ap (λ (o : Option ℕ). with_redistributor u vcpu.0 (taken r o)) is in
+    let same : with_redistributor u vcpu.0 (taken r (lowest r)) ≡ with_redistributor u vcpu.0 (with_cleared intid.0 r) =
+    ap (λ (o : Option ℕ). with_redistributor u vcpu.0 (taken r o)) is in
     subst (GoesOn (record p { redists = changed vcpu.0 (with_cleared intid.0) p.redists })) (sym same)
     (redist_goes p (call.Take vcpu) vcpu.0 (with_cleared intid.0) m same)
 
@@ -109,7 +116,13 @@ memory_goes : (p : Parts) (c : Call) (memory : List Window) → IsMachine p → 
     → GoesOn (record p { memory = memory }) (record (state_of_parts p) { memory = memory })
 memory_goes p c memory m is =
     goes_on p (record p { memory = memory }) c (record (state_of_parts p) { memory = memory }) m refl is (λ v. refl)
-    (record { shape_is = refl; translator_is = refl; memory_is = refl; redistributors_are = λ v r is. let h = (parts_are p m).redistributors_are v r is in record { lpis = h.lpis; same = h.same } })
+    (record {
+      shape_is = refl;
+      translator_is = refl;
+      memory_is = refl;
+      redistributors_are = λ v r is. let h =
+          (parts_are p m).redistributors_are v r is in record { lpis = h.lpis; same = h.same };
+    })
 
 pub poke_goes : (p : Parts) (addr : Addr) (bytes : List ℕ) (memory : List Window) → IsMachine p → memory ≡ unwrap_or (write_at p.memory addr.0 bytes) p.memory
     → GoesOn (record p { memory = memory }) (poked (state_of_parts p) addr.0 bytes)
@@ -155,8 +168,10 @@ step_is u c met =
     ∙ ap (λ (x : Command). left_by x u 0) met.command
 
 pub run_goes : (old new : Parts) (c : Command) → IsMachine old → new.layout ≡ old.layout → IsMet (state_of_parts old) c → AreHeldAlike new.redists old.redists
-    → ArePartsOf (left_by c (state_of_parts old) 0) 0 old.layout.shape new.regs new.maps.maps new.memory new.redists → GoesOn new (left_by c (state_of_parts old) 0)
-run_goes old new c m same met alike parts = goes_on old new (call.Step 0) (left_by c (state_of_parts old) 0) m same (step_is (state_of_parts old) c met) alike parts
+    → ArePartsOf (left_by c (state_of_parts old) 0) 0 old.layout.shape new.regs new.maps.maps new.memory new.redists
+    → GoesOn new (left_by c (state_of_parts old) 0)
+run_goes old new c m same met alike parts = goes_on old new (call.Step 0) (left_by c (state_of_parts old) 0) m same (step_is (state_of_parts old) c met) alike
+    parts
 
 pub needed_held : (p : Parts) (c : Command) → IsMachine p → AreNeededInHand p.layout.shape p.maps.maps c p.redists
 needed_held p c m = λ v e.

@@ -50,9 +50,11 @@ none_held (Some r) e = absurd cc
 abbrev built : Layout → List Translator → List Redistributor → List Window → Plain
 built l ts rs m = record { layout = l; translators = ts; redistributors = rs; memory = m }
 
-same_state : (l k : Layout) (ts us : List Translator) (rs qs : List Redistributor) (m n : List Window) → l ≡ k → ts ≡ us → rs ≡ qs → m ≡ n → built l ts rs m ≡ built k us qs n
+same_state : (l k : Layout) (ts us : List Translator) (rs qs : List Redistributor) (m n : List Window) → l ≡ k → ts ≡ us → rs ≡ qs → m ≡ n
+    → built l ts rs m ≡ built k us qs n
 same_state l k ts us rs qs m n el et er em =
-    ap (λ (x : Layout). built x ts rs m) el ∙ ap (λ (x : List Translator). built k x rs m) et ∙ ap (λ (x : List Redistributor). built k us x m) er ∙ ap (built k us qs) em
+    ap (λ (x : Layout). built x ts rs m) el ∙ ap (λ (x : List Translator). built k x rs m) et ∙ ap (λ (x : List Redistributor). built k us x m) er
+    ∙ ap (built k us qs) em
 
 module _ (old new : Parts) (w : Plain) (m : IsMachine old) (same : new.layout ≡ old.layout) (alike : AreHeldAlike new.redists old.redists)
     (parts : ArePartsOf w 0 old.layout.shape new.regs new.maps.maps new.memory new.redists) where
@@ -66,7 +68,8 @@ module _ (old new : Parts) (w : Plain) (m : IsMachine old) (same : new.layout �
       let n = old.layout.shape.vcpus in
       let many : length w.redistributors ≡ n = sound.vcpus ∙ ap (λ s. s.vcpus) parts.shape_is in
       ap (λ (l : Layout). state_of l new.regs new.maps.maps new.memory new.redists) same
-      ∙ same_state old.layout w.layout (record { regs = new.regs; maps = new.maps.maps } ∷ []) w.translators (map redistributor_or (take n new.redists)) w.redistributors new.memory w.memory
+      ∙ same_state old.layout w.layout (record { regs = new.regs; maps = new.maps.maps } ∷ []) w.translators (map redistributor_or (take n new.redists))
+      w.redistributors new.memory w.memory
       layout
       (one_is w.translators (record { regs = new.regs; maps = new.maps.maps }) one parts.translator_is)
       (hand_is n new.redists w.redistributors (λ v lt. let q = all_held v lt in (q.0, q.1, (parts.redistributors_are v q.0 q.1).same)) many)
@@ -86,7 +89,8 @@ module _ (old new : Parts) (w : Plain) (m : IsMachine old) (same : new.layout �
       }
 
 -- the state that a call leaves is gone on to, where its parts are in hand
-pub goes_on : (old new : Parts) (c : Call) (w : Plain) → IsMachine old → new.layout ≡ old.layout → (answer (state_of_parts old) c).1 ≡ w → AreHeldAlike new.redists old.redists
+pub goes_on : (old new : Parts) (c : Call) (w : Plain) → IsMachine old → new.layout ≡ old.layout → (answer (state_of_parts old) c).1 ≡ w
+    → AreHeldAlike new.redists old.redists
     → ArePartsOf w 0 old.layout.shape new.regs new.maps.maps new.memory new.redists → GoesOn new w
 goes_on old new c w m same is alike parts =
     let u = state_of_parts old in
@@ -108,7 +112,12 @@ redist_goes old c v f m is =
     let u = state_of_parts old in
     goes_on old (record old { redists = changed v f old.redists }) c (with_redistributor u v (f (redistributor u v))) m refl is
     (λ w. changed_held v w f old.redists)
-    (record { shape_is = refl; translator_is = refl; memory_is = refl; redistributors_are = changed_are u old.redists v f (parts_are old m).redistributors_are })
+    (record {
+      shape_is = refl;
+      translator_is = refl;
+      memory_is = refl;
+      redistributors_are = changed_are u old.redists v f (parts_are old m).redistributors_are;
+    })
 
 -- ---- a redistributor in hand
 
@@ -124,6 +133,7 @@ redistributor_here p v r m is = redistributor_is (state_of_parts p) p.redists v 
 pub takes : (rs : List (Option Redist)) (v x : ℕ) (r : Redist) → in_hand rs v ≡ Some r → is_lpi r.pending.lpi_bits x ≡ true → takes_lpi rs v x ≡ true
 takes rs v x r is lpi = ap (λ (o : Option Redist). takes_lpi (o ∷ []) 0 x) is ∙ lpi
 
-pub ack_takes : (rs : List (Option Redist)) (v : ℕ) (r : Redist) (a : Ack) → in_hand rs v ≡ Some r → IfAcked a (λ intid. is_lpi r.pending.lpi_bits intid ≡ true) → IfAcked a (λ intid. takes_lpi rs v intid ≡ true)
+pub ack_takes : (rs : List (Option Redist)) (v : ℕ) (r : Redist) (a : Ack) → in_hand rs v ≡ Some r → IfAcked a (λ intid. is_lpi r.pending.lpi_bits intid ≡ true)
+    → IfAcked a (λ intid. takes_lpi rs v intid ≡ true)
 ack_takes rs v r ack.None is h = tt
 ack_takes rs v r (ack.Some intid priority) is h = takes rs v intid.0 r is h

@@ -7,14 +7,16 @@ use Rattle.lpi_pending.specs.InHand.{in_hand}
 use Rattle.lpi_pending.specs.declared.redist.Redist.{Redist}
 use Rattle.owned_parts.specs.Owned.{redistributor_of, redistributor_or}
 
-pub hand_here : (n v : ℕ) (rs : List (Option Redist)) (r : Redist) → v < n → in_hand rs v ≡ Some r → slice_get (map redistributor_or (take n rs)) v ≡ Some (redistributor_of r)
+pub hand_here : (n v : ℕ) (rs : List (Option Redist)) (r : Redist) → v < n → in_hand rs v ≡ Some r → slice_get (map redistributor_or (take n rs)) v ≡ Some
+    (redistributor_of r)
 hand_here n v [] r lt is = absurd cc
 hand_here zero v (x ∷ xs) r lt is = absurd (omega arith)
 hand_here (suc n) zero (x ∷ xs) r lt is = ap (λ (o : Option Redist). Some (redistributor_or o)) is
 hand_here (suc n) (suc v) (x ∷ xs) r lt is = hand_here n v xs r (omega arith) is
 
 -- all n are in hand, so there are n
-pub hand_length : (n : ℕ) (rs : List (Option Redist)) → ((v : ℕ) → v < n → (r : Redist) × (in_hand rs v ≡ Some r)) → length (map redistributor_or (take n rs)) ≡ n
+pub hand_length : (n : ℕ) (rs : List (Option Redist)) → ((v : ℕ) → v < n → (r : Redist) × (in_hand rs v ≡ Some r)) → length (map redistributor_or (take n rs))
+    ≡ n
 hand_length zero [] h = refl
 hand_length zero (x ∷ xs) h = refl
 hand_length (suc n) [] h = let no = (h 0 (omega arith)).1 in absurd cc
@@ -31,7 +33,8 @@ same_lists {X} (x ∷ xs) (y ∷ ys) e h =
     ap (λ (z : X). z ∷ xs) (sym first) ∙ ap (λ (zs : List X). y ∷ zs) rest
 
 -- the list of those in hand is the one that has each of them
-pub hand_is : (n : ℕ) (rs : List (Option Redist)) (all : List Redistributor) → ((v : ℕ) → v < n → (r : Redist) × (in_hand rs v ≡ Some r) × (slice_get all v ≡ Some (redistributor_of r))) → length all ≡ n
+pub hand_is : (n : ℕ) (rs : List (Option Redist)) (all : List Redistributor)
+    → ((v : ℕ) → v < n → (r : Redist) × (in_hand rs v ≡ Some r) × (slice_get all v ≡ Some (redistributor_of r))) → length all ≡ n
     → map redistributor_or (take n rs) ≡ all
 hand_is n rs all h e =
     let long : length (map redistributor_or (take n rs)) ≡ n = hand_length n rs (λ v lt. let q = h v lt in (q.0, q.1)) in

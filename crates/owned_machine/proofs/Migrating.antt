@@ -1,5 +1,6 @@
 -- Machines that are restored from memory, and the ones that migrations go on with.
-use Rattle.std.proofs.Common.{◌≡◌, ℕ, zero, suc, ◌≤◌, Bool, true, false, if◌then◌else◌, List, [], ◌∷◌, length, map, take, Option, Some, None, Result, Ok, Err, refl, sym, ap, subst, ◌∙◌, arith}
+use Rattle.std.proofs.Common.{◌≡◌, ℕ, zero, suc, ◌≤◌, Bool, true, false, if◌then◌else◌, List, [], ◌∷◌, length, map, take, Option, Some, None, Result, Ok, Err}
+use Rattle.std.proofs.Common.{refl, sym, ap, subst, ◌∙◌, arith}
 use Rattle.std.specs.Prelude.{slice_get}
 use Rattle.std.specs.Result.{IsErrAnd}
 use Rattle.std.proofs.lemmas.List.{length-map}
@@ -53,7 +54,8 @@ map_at f (x ∷ xs) (suc i) y e = map_at f xs i y e
 pub described_are : (p : Parts) → IsMachine p → p.layout.gicr ≡ false → bases_of (state_of_parts p) ≡ p.layout.described
 described_are p m fixed =
     let rs = (state_of_parts p).redistributors in
-    same_lists (bases_of (state_of_parts p)) p.layout.described (length-map rs (λ (r : Redistributor). r.bases) ∙ m.sound.vcpus ∙ sym (m.sound.layout.described fixed)) (λ i b is.
+    same_lists (bases_of (state_of_parts p)) p.layout.described (length-map rs (λ (r : Redistributor). r.bases) ∙ m.sound.vcpus
+    ∙ sym (m.sound.layout.described fixed)) (λ i b is.
     let at = map_at (λ (r : Redistributor). r.bases) rs i b is in
     (m.sound.redistributors i at.0 at.1).described fixed ∙ ap (λ (x : Bases). Some x) at.2)
 
@@ -65,10 +67,12 @@ described_on p m fixed i b is =
     ap (λ (x : Bases). x.on) (sym at.2) ∙ (m.sound.redistributors i at.0 at.1).always_on fixed
 
 -- so a restore of the machine's own registers finds them
-pub restored_where : (p : Parts) (values : GicrValues) → IsMachine p → (p.layout.gicr ≡ true → all_restored_bases p.layout.shape.vcpus values ≡ bases_of (state_of_parts p))
+pub restored_where : (p : Parts) (values : GicrValues) → IsMachine p
+    → (p.layout.gicr ≡ true → all_restored_bases p.layout.shape.vcpus values ≡ bases_of (state_of_parts p))
     → bases_to_restore p.layout values ≡ bases_of (state_of_parts p)
 restored_where p values m own =
-    cond_both p.layout.gicr (all_restored_bases p.layout.shape.vcpus values) p.layout.described (λ bs. bs ≡ bases_of (state_of_parts p)) own (λ fixed. sym (described_are p m fixed))
+    cond_both p.layout.gicr (all_restored_bases p.layout.shape.vcpus values) p.layout.described (λ bs. bs ≡ bases_of (state_of_parts p)) own
+    (λ fixed. sym (described_are p m fixed))
 
 restored_kept : (v : GicrRegisters) → AreKept (restored_bases v)
 restored_kept v = record { prop_whole = omega arith; prop_low = omega arith; id_bits = omega arith; pend_whole = omega arith; pend_low = omega arith }
@@ -105,10 +109,12 @@ module _ (old new : Parts) (gicr : GicrValues) (values : RegValues) (m : IsMachi
     no_others = subst (λ (l : Layout). (v : ℕ) → l.shape.vcpus ≤ v → in_hand new.redists v ≡ None) (sym same) none;
   }
 
-  pub restored_begun : (d : Desc) → made d ≡ Ok (state_of_parts old) → d.restore ≡ Some values → bases_to_restore old.layout gicr ≡ described.restored_bases d → AreBegun d (Ok new)
+  pub restored_begun : (d : Desc) → made d ≡ Ok (state_of_parts old) → d.restore ≡ Some values → bases_to_restore old.layout gicr ≡ described.restored_bases d
+      → AreBegun d (Ok new)
   restored_begun d made_is restore_is where_is =
       let u = state_of_parts old in
-      let here : Stands old.memory values old.layout (described.restored_bases d) (state_of_parts new) = subst (λ (bs : List Bases). Stands old.memory values old.layout bs (state_of_parts new)) where_is stands in (
+      let here : Stands old.memory values old.layout (described.restored_bases d) (state_of_parts new) =
+      subst (λ (bs : List Bases). Stands old.memory values old.layout bs (state_of_parts new)) where_is stands in (
         record {
           base = u;
           made_is = made_is;
@@ -117,7 +123,8 @@ module _ (old new : Parts) (gicr : GicrValues) (values : RegValues) (m : IsMachi
         restored_whole,
       )
 
-pub where_given : (d : Desc) (p : Parts) (values : GicrValues) → p.layout ≡ layout_of d → AreGiven d.tables values → bases_to_restore p.layout values ≡ described.restored_bases d
+pub where_given : (d : Desc) (p : Parts) (values : GicrValues) → p.layout ≡ layout_of d → AreGiven d.tables values
+    → bases_to_restore p.layout values ≡ described.restored_bases d
 where_given d p values layout given = ap (λ (l : Layout). bases_to_restore l values) layout ∙ given_is d values given
 
 pub started_begun : (d : Desc) (p : Parts) → d.restore ≡ None → AreStarted d (Ok p) → AreBegun d (Ok p)
@@ -127,7 +134,8 @@ started_begun d p none h =
       h.whole,
     )
 
-pub restore_refused : (d : Desc) (p : Parts) (values : RegValues) (gicr : GicrValues) (f : RestoreFault) → made d ≡ Ok (state_of_parts p) → d.restore ≡ Some values → bases_to_restore p.layout gicr ≡ described.restored_bases d
+pub restore_refused : (d : Desc) (p : Parts) (values : RegValues) (gicr : GicrValues) (f : RestoreFault) → made d ≡ Ok (state_of_parts p)
+    → d.restore ≡ Some values → bases_to_restore p.layout gicr ≡ described.restored_bases d
     → IsFirstFault p.memory values p.layout.shape (bases_to_restore p.layout gicr) f → IsRefused d (Restore f)
 restore_refused d p values gicr f made_is restore_is where_is first =
     of_restore (state_of_parts p) values f made_is restore_is (subst (λ (bs : List Bases). IsFirstFault p.memory values p.layout.shape bs f) where_is first)
@@ -149,7 +157,8 @@ begun_with d (Err x) e is h = subst (λ (y : MakeError). AreBegun d (Err y)) (sy
 
 -- what was copied, and then saved into the copy
 module _ (old : Parts) (copy memory : List Window) (values : RegValues) (gicr : GicrValues) (m : IsMachine old) (copied : copy ≡ old.memory)
-    (answered : savable (state_of old.layout old.regs old.maps.maps copy old.redists) ≡ Ok tt) (written : memory ≡ saved (state_of old.layout old.regs old.maps.maps copy old.redists)) (read : values ≡ values_read old.regs)
+    (answered : savable (state_of old.layout old.regs old.maps.maps copy old.redists) ≡ Ok tt)
+    (written : memory ≡ saved (state_of old.layout old.regs old.maps.maps copy old.redists)) (read : values ≡ values_read old.regs)
     (own : old.layout.gicr ≡ true → all_restored_bases old.layout.shape.vcpus gicr ≡ bases_of (state_of_parts old)) where
   abbrev u : Plain
   u = state_of_parts old
@@ -164,12 +173,15 @@ module _ (old : Parts) (copy memory : List Window) (values : RegValues) (gicr : 
   is_saved = subst (λ (x : List Window). memory ≡ saved (state_of old.layout old.regs old.maps.maps x old.redists)) copied written
 
   -- what is said of the memory, the values and the bases that were restored from
-  there : (P : List Window → RegValues → List Bases → Type 0) → P memory values (bases_to_restore old.layout gicr) → P (saved u) (values_read old.regs) (bases_of u)
+  there : (P : List Window → RegValues → List Bases → Type 0) → P memory values (bases_to_restore old.layout gicr) → P (saved u) (values_read old.regs)
+      (bases_of u)
   there P h =
       subst (λ (bs : List Bases). P (saved u) (values_read old.regs) bs) (restored_where old gicr m own)
-      (subst (λ (v : RegValues). P (saved u) v (bases_to_restore old.layout gicr)) read (subst (λ (x : List Window). P x values (bases_to_restore old.layout gicr)) is_saved h))
+      (subst (λ (v : RegValues). P (saved u) v (bases_to_restore old.layout gicr)) read
+      (subst (λ (x : List Window). P x values (bases_to_restore old.layout gicr)) is_saved h))
 
-  pub moved_goes : (new : Parts) → new.layout ≡ old.layout → Stands memory values old.layout (bases_to_restore old.layout gicr) (state_of_parts new) → AreAllInHand old.layout.shape new.redists
+  pub moved_goes : (new : Parts) → new.layout ≡ old.layout → Stands memory values old.layout (bases_to_restore old.layout gicr) (state_of_parts new)
+      → AreAllInHand old.layout.shape new.redists
       → ((v : ℕ) → old.layout.shape.vcpus ≤ v → in_hand new.redists v ≡ None) → GoesOn new (moved (state_of_parts old))
   moved_goes new layout stands all none =
       let here : Stands (saved u) (values_read old.regs) old.layout (bases_of u) (state_of_parts new) =
@@ -186,4 +198,5 @@ module _ (old : Parts) (copy memory : List Window) (values : RegValues) (gicr : 
       }
 
   pub no_fault : (f : RestoreFault) → IsFirstFault memory values old.layout.shape (bases_to_restore old.layout gicr) f → ⊥
-  no_fault f first = saved_state.no_offence u t f m.sound is_savable refl (there (λ (x : List Window) (v : RegValues) (bs : List Bases). IsFirstFault x v old.layout.shape bs f) first)
+  no_fault f first = saved_state.no_offence u t f m.sound is_savable refl
+      (there (λ (x : List Window) (v : RegValues) (bs : List Bases). IsFirstFault x v old.layout.shape bs f) first)

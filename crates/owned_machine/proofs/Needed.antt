@@ -28,16 +28,18 @@ moved_below n v One o to h t e = absurd cc
 moved_below n v Two None to h t e = absurd cc
 moved_below n v Two (Some from) to h t e = either_below n from.0 to v (h from refl) t (and_parts (not (eqb from.0 to)) (is_either from.0 to v) e).1
 
-at_event : (s : Shape) (m : Maps) (o : Option Event) → AreTargets s m → (x : Vcpu) → elim o [ None ↦ None | Some event ↦ collection_of m event.icid.0 ] ≡ Some x → x.0 < s.vcpus
+at_event : (s : Shape) (m : Maps) (o : Option Event) → AreTargets s m → (x : Vcpu) → elim o [ None ↦ None | Some event ↦ collection_of m event.icid.0 ] ≡ Some x
+    → x.0 < s.vcpus
 at_event s m None targets x e = absurd cc
 at_event s m (Some event) targets x e = targets event.icid.0 x e
 
 pub needed_below : (s : Shape) (m : Maps) (c : Command) (v : ℕ) → AreTargets s m → needs_vcpu s m c v ≡ true → v < s.vcpus
 unfolding needs_vcpu
-needed_below s m (command.Movi dev ev icid) v targets e = elim (or_cases (is_target (target_of_event m dev.0 ev.0) v) (is_target (collection_of m icid.0) v) e) [
-  | inl old ↦ target_below s.vcpus v (target_of_event m dev.0 ev.0) (at_event s m (event_of m dev.0 ev.0) targets) old
-  | inr new ↦ target_below s.vcpus v (collection_of m icid.0) (targets icid.0) new
-]
+needed_below s m (command.Movi dev ev icid) v targets e =
+    elim (or_cases (is_target (target_of_event m dev.0 ev.0) v) (is_target (collection_of m icid.0) v) e) [
+      | inl old ↦ target_below s.vcpus v (target_of_event m dev.0 ev.0) (at_event s m (event_of m dev.0 ev.0) targets) old
+      | inr new ↦ target_below s.vcpus v (collection_of m icid.0) (targets icid.0) new
+    ]
 needed_below s m (command.Int dev ev) v targets e = target_below s.vcpus v (target_of_event m dev.0 ev.0) (at_event s m (event_of m dev.0 ev.0) targets) e
 needed_below s m (command.Clear dev ev) v targets e = target_below s.vcpus v (target_of_event m dev.0 ev.0) (at_event s m (event_of m dev.0 ev.0) targets) e
 needed_below s m (command.Discard dev ev) v targets e = target_below s.vcpus v (target_of_event m dev.0 ev.0) (at_event s m (event_of m dev.0 ev.0) targets) e

@@ -1,5 +1,6 @@
 -- The LPI registers of redistributors, where the guest programs them.
-use Rattle.std.proofs.Common.{◌≡◌, ℕ, ◌+◌, ◌<◌, Bool, true, if◌then◌else◌, List, length, map, take, set, get_or, Option, Some, inl, inr, sym, ap, subst, ◌∙◌, arith}
+use Rattle.std.proofs.Common.{◌≡◌, ℕ, ◌+◌, ◌<◌, Bool, true, if◌then◌else◌, List, length, map, take, set, get_or, Option, Some, inl, inr, sym, ap, subst, ◌∙◌}
+use Rattle.std.proofs.Common.{arith}
 use Rattle.std.specs.Prelude.{slice_set}
 use Rattle.std.specs.Option.{option_map}
 use Rattle.std.proofs.lemmas.Bool.{cases_eq}
@@ -32,7 +33,8 @@ bases_low p v r m gicr is = let k = bases_kept p v r m gicr is in record { prop 
 -- ---- a write
 
 module _ (p : Parts) (v : ℕ) (old new : Redist) (off size value : ℕ) (m : IsMachine p) (gicr : p.layout.gicr ≡ true) (is : in_hand p.redists v ≡ Some old)
-    (had : HasLpisOf p.layout.shape old) (has : HasLpisOf p.layout.shape new) (written : redistributor_of new ≡ written_gicr p.layout.shape p.memory (redistributor_of old) off size value) where
+    (had : HasLpisOf p.layout.shape old) (has : HasLpisOf p.layout.shape new) (written : redistributor_of new ≡ written_gicr p.layout.shape p.memory
+    (redistributor_of old) off size value) where
   abbrev f : Redistributor → Redistributor
   f x = written_gicr p.layout.shape p.memory x off size value
 
@@ -64,11 +66,13 @@ module _ (p : Parts) (v : ℕ) (old new : Redist) (off size value : ℕ) (m : Is
   pub gicr_goes : GoesOn (record p { redists = slice_set p.redists v (Some new) }) (gicr_written (state_of_parts p) v off size value)
   gicr_goes =
       subst (λ (rs : List (Option Redist)). GoesOn (record p { redists = rs }) (gicr_written (state_of_parts p) v off size value)) changed_is
-      (subst (λ (u : Plain). GoesOn (record p { redists = changed v f p.redists }) u) (sym opened) (redist_goes p (call.WriteGicr (record { 0 = v }) off size value) v f m left_is))
+      (subst (λ (u : Plain). GoesOn (record p { redists = changed v f p.redists }) u) (sym opened)
+      (redist_goes p (call.WriteGicr (record { 0 = v }) off size value) v f m left_is))
 
 -- ---- reads of all
 
-pub one_read : ValuesComeBack → (p : Parts) (registers : List GicrRegisters) (n : ℕ) (r : Redist) → IsMachine p → p.layout.gicr ≡ true → in_hand p.redists n ≡ Some r → n < 16 → AreRead p registers n → AreRead p (set registers n (values_of r.bases)) (n + 1)
+pub one_read : ValuesComeBack → (p : Parts) (registers : List GicrRegisters) (n : ℕ) (r : Redist) → IsMachine p → p.layout.gicr ≡ true
+    → in_hand p.redists n ≡ Some r → n < 16 → AreRead p registers n → AreRead p (set registers n (values_of r.bases)) (n + 1)
 one_read come_back p registers n r m gicr is small before =
     let u = state_of_parts p in
     let x = values_of r.bases in
@@ -85,18 +89,21 @@ one_read come_back p registers n r m gicr is small before =
       ];
     }
 
-pub all_read : (p : Parts) (registers : List GicrRegisters) → IsMachine p → AreRead p registers p.layout.shape.vcpus → all_restored_bases p.layout.shape.vcpus (record { registers = registers }) ≡ bases_of (state_of_parts p)
+pub all_read : (p : Parts) (registers : List GicrRegisters) → IsMachine p → AreRead p registers p.layout.shape.vcpus → all_restored_bases p.layout.shape.vcpus
+    (record { registers = registers }) ≡ bases_of (state_of_parts p)
 all_read p registers m read =
     let n = p.layout.shape.vcpus in
     let u = state_of_parts p in
     let d : GicrRegisters = record { ctlr = 0; propbaser = 0; pendbaser = 0 } in
     let xs : List Bases = map restored_bases (take n registers) in
     let ys : List Bases = map (λ (r : Redistributor). r.bases) u.redistributors in
-    let short : length (take n registers) ≡ n = length-take-le n registers (let long = read.sixteen in let most = m.sound.layout.shape.most_vcpus in omega (arith, long, most)) in
+    let short : length (take n registers) ≡ n = length-take-le n registers (let long = read.sixteen in let most = m.sound.layout.shape.most_vcpus in omega
+    (arith, long, most)) in
     let long : length xs ≡ n = length-map (take n registers) restored_bases ∙ short in
     let many : length ys ≡ n = length-map u.redistributors (λ (r : Redistributor). r.bases) ∙ m.sound.vcpus in
     ext_get_or no_redistributor.bases xs ys (long ∙ sym many) (λ i lt.
     get_or-map restored_bases (take n registers) i d no_redistributor.bases (omega (arith, lt, long, short))
     ∙ ap restored_bases (get_or-take n registers i d (omega (arith, lt, long)))
     ∙ read.each i d (omega (arith, lt, long))
-    ∙ sym (get_or-map (λ (r : Redistributor). r.bases) u.redistributors i no_redistributor no_redistributor.bases (let all = m.sound.vcpus in omega (arith, lt, long, all))))
+    ∙ sym (get_or-map (λ (r : Redistributor). r.bases) u.redistributors i no_redistributor no_redistributor.bases
+    (let all = m.sound.vcpus in omega (arith, lt, long, all))))

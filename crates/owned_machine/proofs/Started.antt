@@ -1,5 +1,6 @@
 -- The first state of a machine.
-use Rattle.std.proofs.Common.{◌≡◌, ℕ, ◌+◌, ◌<◌, ◌≤◌, true, false, List, [], ◌∷◌, length, map, replicate, take, get_or, zero, suc, Option, Some, None, Result, Ok, Err, inl, inr, refl, sym, ap, subst, ◌∙◌, arith}
+use Rattle.std.proofs.Common.{◌≡◌, ℕ, ◌+◌, ◌<◌, ◌≤◌, true, false, List, [], ◌∷◌, length, map, replicate, take, get_or, zero, suc, Option, Some, None, Result}
+use Rattle.std.proofs.Common.{Ok, Err, inl, inr, refl, sym, ap, subst, ◌∙◌, arith}
 use Rattle.std.specs.Prelude.{ok_or, is_some, slice_get, slice_set}
 use Rattle.std.proofs.lemmas.Bool.{cases_eq}
 use Rattle.std.proofs.lemmas.List.{get_or-set_same, get_or-set_other, length-map, length-replicate}
@@ -35,7 +36,8 @@ use Rattle.owned_machine.proofs.Lists.{hand_is}
 
 -- ---- one redistributor more
 
-idle_at : (config : List ℕ) (base : Addr) (xs : List Addr) (i : ℕ) (z : Addr) → i < length xs → slice_get (map (idle_redistributor config) (map (described_bases base) xs)) i ≡ Some (idle_redistributor config (described_bases base (get_or xs i z)))
+idle_at : (config : List ℕ) (base : Addr) (xs : List Addr) (i : ℕ) (z : Addr) → i < length xs
+    → slice_get (map (idle_redistributor config) (map (described_bases base) xs)) i ≡ Some (idle_redistributor config (described_bases base (get_or xs i z)))
 idle_at config base [] i z lt = absurd (omega arith)
 idle_at config base (y ∷ ys) zero z lt = refl
 idle_at config base (y ∷ ys) (suc i) z lt = idle_at config base ys i z (omega arith)
@@ -51,12 +53,15 @@ built p c b = record { pending = p; config = c; bases = b }
 same_ok : {A : Type 0} (x y : A) → ◌≡◌ {A = Result A DescFault} (Ok x) (Ok y) → x ≡ y
 same_ok x y e = cc
 
-pub described_first : (s : Shape) (memory : List Window) (config : Addr) (pending : List Addr) (v : ℕ) (z : Addr) (p : PendingSet) (c : Configuration) (b : Bases) → v < length pending → p ≡ none_pending s.lpi_bits → c.lpi_bits ≡ s.lpi_bits
-    → read_at memory config.0 (lpi_count s.lpi_bits) ≡ Some c.bytes → b ≡ described_bases config (get_or pending v z) → IsFirstOf s memory (Described config pending) v (built p c b)
+pub described_first : (s : Shape) (memory : List Window) (config : Addr) (pending : List Addr) (v : ℕ) (z : Addr) (p : PendingSet) (c : Configuration)
+    (b : Bases) → v < length pending → p ≡ none_pending s.lpi_bits → c.lpi_bits ≡ s.lpi_bits
+    → read_at memory config.0 (lpi_count s.lpi_bits) ≡ Some c.bytes → b ≡ described_bases config (get_or pending v z)
+    → IsFirstOf s memory (Described config pending) v (built p c b)
 described_first s memory config pending v z p c b lt none bits read is rs first =
     let these : List Redistributor = map (idle_redistributor c.bytes) (map (described_bases config) pending) in
     let same : these ≡ rs =
-    same_ok these rs (sym (ap (λ (o : Option (List ℕ)). ok_or o Config >>= λ bytes. Ok (map (idle_redistributor bytes) (map (described_bases config) pending))) read) ∙ first) in
+    same_ok these rs (sym (ap (λ (o : Option (List ℕ)). ok_or o Config >>= λ bytes. Ok (map (idle_redistributor bytes) (map (described_bases config) pending)))
+    read) ∙ first) in
     record {
       lpis = record { pending_bits = ap (λ (x : PendingSet). x.lpi_bits) none; config_bits = bits };
       same =
@@ -66,7 +71,8 @@ described_first s memory config pending v z p c b lt none bits read is rs first 
           ∙ ap (λ (x : PendingSet). Some (redistributor_of (built x c b))) (sym none);
     }
 
-pub off_first : (s : Shape) (memory : List Window) (values : GicrValues) (v : ℕ) (p : PendingSet) (c : Configuration) (b : Bases) → v < s.vcpus → p ≡ none_pending s.lpi_bits → c ≡ zeros s.lpi_bits
+pub off_first : (s : Shape) (memory : List Window) (values : GicrValues) (v : ℕ) (p : PendingSet) (c : Configuration) (b : Bases) → v < s.vcpus
+    → p ≡ none_pending s.lpi_bits → c ≡ zeros s.lpi_bits
     → b ≡ no_bases → IsFirstOf s memory (tables.Registers values) v (built p c b)
 off_first s memory values v p c b lt none blank is rs first =
     let these : List Redistributor = replicate s.vcpus (off_redistributor s no_bases) in
@@ -81,7 +87,8 @@ off_first s memory values v p c b lt none blank is rs first =
           ∙ ap (λ (x : PendingSet). Some (redistributor_of (built x c b))) (sym none);
     }
 
-module _ (s : Shape) (memory : List Window) (t : LpiTables) (redists now : List (Option Redist)) (n : ℕ) (r : Redist) (got : now ≡ slice_set redists n (Some r)) where
+module _ (s : Shape) (memory : List Window) (t : LpiTables) (redists now : List (Option Redist)) (n : ℕ) (r : Redist)
+    (got : now ≡ slice_set redists n (Some r)) where
   here : n < length redists → in_hand now n ≡ Some r
   here lt = ap (λ (xs : List (Option Redist)). in_hand xs n) got ∙ get_or-set_same redists n (Some r) None lt
 
@@ -120,9 +127,15 @@ some_first s memory (Described config pending) count has =
       ap (λ (o : Option (List ℕ)). ok_or o Config >>= λ bytes. Ok (map (idle_redistributor bytes) (map (described_bases config) pending))) read.1,
       length-map (map (described_bases config) pending) (idle_redistributor read.0) ∙ length-map pending (described_bases config) ∙ count,
     )
-some_first s memory (tables.Registers values) count has = (replicate s.vcpus (off_redistributor s no_bases), refl, length-replicate s.vcpus (off_redistributor s no_bases))
+some_first s memory (tables.Registers values) count has = (
+  replicate s.vcpus (off_redistributor s no_bases),
+  refl,
+  length-replicate s.vcpus
+      (off_redistributor s no_bases),
+)
 
-pub no_config : (s : Shape) (memory : List Window) (config : Addr) (pending : List Addr) → inside memory config.0 (lpi_count s.lpi_bits) ≡ false → first_redistributors s memory (Described config pending) ≡ Err Config
+pub no_config : (s : Shape) (memory : List Window) (config : Addr) (pending : List Addr) → inside memory config.0 (lpi_count s.lpi_bits) ≡ false
+    → first_redistributors s memory (Described config pending) ≡ Err Config
 no_config s memory config pending out =
     ap (λ (o : Option (List ℕ)). ok_or o Config >>= λ bytes. Ok (map (idle_redistributor bytes) (map (described_bases config) pending)))
     (no_read (read_at memory config.0 (lpi_count s.lpi_bits)) (is_some-read_at memory config.0 (lpi_count s.lpi_bits) ∙ out))
@@ -131,7 +144,8 @@ abbrev state : Layout → Registers → Maps → List Window → List Redistribu
 state l r m memory rs = record { layout = l; translators = record { regs = r; maps = m } ∷ []; redistributors = rs; memory = memory }
 
 module _ (d : Desc) (p : Parts) (description : IsDescription d) (filled : IsFilled d (Ok p.memory)) (has : HasConfig d.shape p.memory d.tables)
-    (first : AreFirst d.shape p.memory d.tables p.redists d.shape.vcpus) (layout_is : p.layout ≡ layout_of d) (regs_are : p.regs ≡ reset d.shape.dev_bits) (maps_are : p.maps.maps ≡ no_maps) where
+    (first : AreFirst d.shape p.memory d.tables p.redists d.shape.vcpus) (layout_is : p.layout ≡ layout_of d) (regs_are : p.regs ≡ reset d.shape.dev_bits)
+    (maps_are : p.maps.maps ≡ no_maps) where
   some : Some_first d.shape p.memory d.tables
   some = some_first d.shape p.memory d.tables description.tables has
 
@@ -154,10 +168,12 @@ module _ (d : Desc) (p : Parts) (description : IsDescription d) (filled : IsFill
         layout = layout_is;
         whole = record {
           sound = start_sound d (state_of_parts p) description is;
-          all_in_hand = subst (λ (l : Layout). AreAllInHand l.shape p.redists) (sym layout_is) (λ v lt. let q = first.each v lt in (q.0, q.1, (q.2 some.0 some.1).lpis));
+          all_in_hand = subst (λ (l : Layout). AreAllInHand l.shape p.redists) (sym layout_is)
+              (λ v lt. let q = first.each v lt in (q.0, q.1, (q.2 some.0 some.1).lpis));
           no_others = subst (λ (l : Layout). (v : ℕ) → l.shape.vcpus ≤ v → in_hand p.redists v ≡ None) (sym layout_is) first.rest;
         };
       }
 
-pub refused_config : (d : Desc) (memory : List Window) → IsFilled d (Ok memory) → first_redistributors d.shape memory d.tables ≡ Err Config → made d ≡ Err Config
+pub refused_config : (d : Desc) (memory : List Window) → IsFilled d (Ok memory) → first_redistributors d.shape memory d.tables ≡ Err Config
+    → made d ≡ Err Config
 refused_config d memory filled none = filled ∙ ap (λ (r : Result (List Redistributor) DescFault). r >>= λ rs. Ok (started d memory rs)) none

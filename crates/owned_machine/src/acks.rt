@@ -33,7 +33,8 @@ pub fn take(parts: &mut Parts, vcpu: Vcpu) -> Ack
     ensures ack { result
         ≡ answers.ack_of (plain.redistributor (state_of_parts parts.old) vcpu.0)
         (answers.lowest (plain.redistributor (state_of_parts parts.old) vcpu.0)) }
-    ensures left { GoesOn parts.new (plain.with_redistributor (state_of_parts parts.old) vcpu.0 (answers.taken (plain.redistributor (state_of_parts parts.old) vcpu.0)
+    ensures left { GoesOn parts.new (plain.with_redistributor (state_of_parts parts.old) vcpu.0
+        (answers.taken (plain.redistributor (state_of_parts parts.old) vcpu.0)
         (answers.lowest (plain.redistributor (state_of_parts parts.old) vcpu.0)))) }
 {
     let ack = show(parts, vcpu);

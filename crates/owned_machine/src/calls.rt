@@ -20,7 +20,8 @@ use std::alloc::{AllocError, Global};
 pub fn answered(parts: &mut Parts, alloc: Global, call: &Call) -> Result<Reply, AllocError>
     requires { IsMachine parts.old }
     ensures reply { IfOk result (λ r. r ≡ answers.reply_of (state_of_parts parts.old) call.now) }
-    ensures left { IfOk result (λ r. GoesOn parts.new (answers.left (state_of_parts parts.old) call.now r)) }
+    ensures left { IfOk result
+        (λ r. GoesOn parts.new (answers.left (state_of_parts parts.old) call.now r)) }
     ensures err { OnErr result (parts.new ≡ parts.old) }
     ensures rare { OnErr result (may_want_memory (state_of_parts parts.old) call.now ≡ true) }
 {

@@ -26,7 +26,8 @@ pub fn read(parts: &Parts, vcpu: Vcpu, off: u32, size: u8) -> u64
 /// Writes a register. What is written to that of a virtual processor that there isn't is dropped.
 pub fn write(parts: &mut Parts, vcpu: Vcpu, off: u32, size: u8, value: u64)
     requires { IsMachine parts.old }
-    ensures { GoesOn parts.new (answers.gicr_written (state_of_parts parts.old) vcpu.0 off size value) }
+    ensures { GoesOn parts.new
+        (answers.gicr_written (state_of_parts parts.old) vcpu.0 off size value) }
 {
     if !parts.layout.gicr || vcpu.0 >= parts.layout.shape.vcpus {
         return;

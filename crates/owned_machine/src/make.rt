@@ -142,7 +142,8 @@ fn redists_of(
     requires shape { IsShape shape.now }
     requires tables { HasTablesFor shape.now.vcpus tables.now }
     requires config { HasConfig shape.now memory.now tables.now }
-    ensures { IfOk result (λ redists. AreFirst shape.now memory.now tables.now redists shape.now.vcpus) }
+    ensures { IfOk result
+        (λ redists. AreFirst shape.now memory.now tables.now redists shape.now.vcpus) }
 {
     let mut redists = Redists::new();
     for vcpu in 0..shape.vcpus {

@@ -118,7 +118,8 @@ fn translator_values(regs: &Regs) -> RegValues
 fn registers_of(parts: &InPlace<'_>) -> GicrValues
     requires { IsMachine (parts_in parts.now) }
     ensures { parts.now.layout.now.gicr ≡ true
-        → all_restored_bases parts.now.layout.now.shape.vcpus result ≡ bases_of (state_of_parts (parts_in parts.now)) }
+        → all_restored_bases parts.now.layout.now.shape.vcpus result ≡ bases_of
+        (state_of_parts (parts_in parts.now)) }
 {
     values_come_back();
     let mut registers = [RESET; 16];

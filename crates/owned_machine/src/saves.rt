@@ -12,7 +12,8 @@ use std::alloc::{AllocError, Global};
 /// Writes the tables to guest memory, or answers why not. Out of memory, nothing is written.
 pub fn save(parts: &mut Parts, alloc: Global) -> Result<Reply, AllocError>
     requires { IsMachine parts.old }
-    ensures reply { IfOk result (λ r. r ≡ answers.save_reply (regions.savable (state_of_parts parts.old))) }
+    ensures reply { IfOk result
+        (λ r. r ≡ answers.save_reply (regions.savable (state_of_parts parts.old))) }
     ensures left { IfOk result (λ _.
         GoesOn parts.new (answers.save_left (state_of_parts parts.old)
         (regions.savable (state_of_parts parts.old)))) }

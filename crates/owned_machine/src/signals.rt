@@ -48,7 +48,8 @@ fn translate(parts: &Parts, its: u8, dev: DeviceId, ev: EventId) -> Result<Targe
 
 #[tactic(auto, unfolding(its_plain::specs::Translation::located))]
 fn locate(regs: &Regs, maps: &Maps, dev: DeviceId, ev: EventId) -> Result<Target, Cause>
-    ensures { result ≡ translation.located (record { regs = regs.now; maps = maps.now.maps }) dev.0 ev.0 }
+    ensures { result ≡ translation.located (record { regs = regs.now; maps = maps.now.maps }) dev.0
+        ev.0 }
 {
     if !regs.enabled() {
         return Err(Cause::Disabled);

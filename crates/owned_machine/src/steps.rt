@@ -20,7 +20,8 @@ use std::alloc::AllocError;
 pub fn step(parts: &mut Parts, its: u8) -> Result<StepReply, AllocError>
     requires { IsMachine parts.old }
     ensures reply { IfOk result (λ r. r ≡ answers.step_reply (state_of_parts parts.old) its) }
-    ensures left { IfOk result (λ _. GoesOn parts.new (answers.step_left (state_of_parts parts.old) its)) }
+    ensures left { IfOk result
+        (λ _. GoesOn parts.new (answers.step_left (state_of_parts parts.old) its)) }
     ensures err { OnErr result (parts.new ≡ parts.old) }
     ensures adding { OnErr result (step_adds (state_of_parts parts.old) its ≡ true) }
 {

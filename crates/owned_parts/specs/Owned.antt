@@ -24,7 +24,8 @@ abbrev pub AreRedistributorsOf : Plain → List (Option Redist) → Type 0
 AreRedistributorsOf u redists = (vcpu : ℕ) (r : Redist) → in_hand redists vcpu ≡ Some r → IsRedistributorOf u vcpu r
 
 -- what is in hand is what the state has: translator number i, guest memory, and some redistributors
-pub record ArePartsOf (u : Plain) (i : ℕ) (shape : Shape) (regs : Registers) (maps : Maps) (memory : List Window) (redists : List (Option Redist)) : Type 0 where
+pub record ArePartsOf (u : Plain) (i : ℕ) (shape : Shape) (regs : Registers) (maps : Maps) (memory : List Window) (redists : List (Option Redist)) : Type
+    0 where
   pub shape_is : u.layout.shape ≡ shape
   pub translator_is : slice_get u.translators i ≡ Some (record { regs = regs; maps = maps })
   pub memory_is : u.memory ≡ memory

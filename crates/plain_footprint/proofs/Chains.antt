@@ -12,7 +12,8 @@ use Rattle.its_plain.specs.declared.call.Reason.{Reason}
 use Rattle.its_plain.specs.declared.call.Reason.TheVariants.{NoDevice, EventRange, NoEvent, NoCollection, LpisOff}
 
 -- the first step ran too
-pub ran_first : {A B : Type 0} (x : Result A Reason) (f : A → Result B Reason) (b : B) (P : Type 0) → (x >>= f) ≡ Ok b → ((a : A) → x ≡ Ok a → f a ≡ Ok b → P) → P
+pub ran_first : {A B : Type 0} (x : Result A Reason) (f : A → Result B Reason) (b : B) (P : Type 0) → (x >>= f) ≡ Ok b → ((a : A) → x ≡ Ok a → f a ≡ Ok b → P)
+    → P
 ran_first (Ok a) f b P e h = h a refl e
 ran_first (Err r) f b P e h = absurd cc
 
@@ -36,7 +37,8 @@ abbrev target_in : Maps → Option Event → Option Vcpu
 target_in m None = None
 target_in m (Some event) = collection_of m event.icid.0
 
-pub target_of_event_is : (m : Maps) (dev ev : ℕ) (event : Event) (o : Option Vcpu) → event_at m dev ev ≡ Ok event → collection_of m event.icid.0 ≡ o → target_of_event m dev ev ≡ o
+pub target_of_event_is : (m : Maps) (dev ev : ℕ) (event : Event) (o : Option Vcpu) → event_at m dev ev ≡ Ok event → collection_of m event.icid.0 ≡ o
+    → target_of_event m dev ev ≡ o
 target_of_event_is m dev ev event o e c = ap (λ (x : Option Event). target_in m x) (event_at_is m dev ev event e) ∙ c
 
 pub target_at_is : (m : Maps) (icid : ℕ) (vcpu : Vcpu) → target_at m icid ≡ Ok vcpu → collection_of m icid ≡ Some vcpu
@@ -49,4 +51,5 @@ lpi_at_is u i dev ev lpi e =
     ran_first (target_at (maps_of u i) event.icid.0) _ lpi _ e1 (λ vcpu is e2.
     ran_first (ensure (is_on u vcpu.0) LpisOff) _ lpi _ e2 (λ _ _ e3.
     let pair : ◌≡◌ {A = Intid × Vcpu} (event.intid, vcpu) lpi = cc in
-    target_of_event_is (maps_of u i) dev ev event (Some lpi.1) at (target_at_is (maps_of u i) event.icid.0 vcpu is ∙ ap (λ (p : Intid × Vcpu). Some p.1) pair))))
+    target_of_event_is (maps_of u i) dev ev event (Some lpi.1) at (target_at_is (maps_of u i) event.icid.0 vcpu is
+    ∙ ap (λ (p : Intid × Vcpu). Some p.1) pair))))

@@ -1,5 +1,6 @@
 -- A call's footprint decides what is answered, and what is left in it.
-use Rattle.std.proofs.Common.{◌≡◌, ℕ, Bool, true, false, not, ◌||◌, ◌&&◌, nat_lt, nat_le, List, [], ◌∷◌, ◌++◌, length, Option, Some, None, Result, Ok, Err, refl, ap, subst, unwrap_or, if◌then◌else◌, ◌∙◌}
+use Rattle.std.proofs.Common.{◌≡◌, ℕ, Bool, true, false, not, ◌||◌, ◌&&◌, nat_lt, nat_le, List, [], ◌∷◌, ◌++◌, length, Option, Some, None, Result, Ok, Err}
+use Rattle.std.proofs.Common.{refl, ap, subst, unwrap_or, if◌then◌else◌, ◌∙◌}
 use Rattle.std.specs.Option.{option_map}
 use Rattle.std.specs.Result.{result_ok}
 use Rattle.guest_windows.specs.Windows.{Window, read_at, write_at}
@@ -14,7 +15,9 @@ use Rattle.its_plain.specs.declared.layout.Layout.{Layout}
 use Rattle.its_plain.specs.Plain.{Plain, Translator, Redistributor, translator, redistributor, regs_of, is_on, with_redistributor}
 use Rattle.its_plain.specs.Translation.{◌>>=◌, ensure, located, translated}
 use Rattle.its_plain.specs.Commands.{ran}
-use Rattle.its_plain.specs.Answer.{signal_reply, signal_left, ack_of, lowest, taken, poke_reply, peek_reply, translator_written, written, command_reply, command_left, save_reply, save_left, is_idle, next_bytes, met_reply, met_left, step_reply, step_left, reply_of, left, answer}
+use Rattle.its_plain.specs.Answer.{signal_reply, signal_left, ack_of, lowest, taken, poke_reply, peek_reply, translator_written, written, command_reply}
+use Rattle.its_plain.specs.Answer.{command_left, save_reply, save_left, is_idle, next_bytes, met_reply, met_left, step_reply, step_left, reply_of, left}
+use Rattle.its_plain.specs.Answer.{answer}
 use Rattle.its_plain.specs.Regions.{savable}
 use Rattle.its_plain.specs.Parts.{SamePart, IsIn, AgreesOn, redist, redist_of, translators_below, redists_below, needed, footprint}
 use Rattle.its_plain.specs.declared.call.Call.{Call}
@@ -57,7 +60,8 @@ module _ (u w : Plain) (its : ℕ) where
   sent_decided : (t : Target) (on on' : Bool) → on ≡ on' → AgreesOn u w (MapsOf its ∷ Redist t.vcpu ∷ [])
       → Decided (MapsOf its ∷ Redist t.vcpu ∷ []) (sent t on) (sent t on') (signal_left u (sent t on)) (signal_left w (sent t on'))
   sent_decided t true true e a =
-      let after = agree_set (MapsOf its ∷ Redist t.vcpu ∷ []) u w t.intid.0 t.vcpu.0 (in_tail (Redist t.vcpu) (MapsOf its) (Redist t.vcpu ∷ []) (in_head (Redist t.vcpu) [])) a in
+      let after = agree_set (MapsOf its ∷ Redist t.vcpu ∷ []) u w t.intid.0 t.vcpu.0 (in_tail (Redist t.vcpu) (MapsOf its) (Redist t.vcpu ∷ [])
+      (in_head (Redist t.vcpu) [])) a in
       (refl, after.parts)
   sent_decided t true false e a = absurd cc
   sent_decided t false true e a = absurd cc
@@ -66,8 +70,10 @@ module _ (u w : Plain) (its : ℕ) where
   found_decided : (found : Result Target Cause) → AgreesOn u w (parts_of_signal its found)
       → Decided (parts_of_signal its found) (signalled u found) (signalled w found) (signal_left u (signalled u found)) (signal_left w (signalled w found))
   found_decided (Ok t) a =
-      let listed : IsIn (Redist t.vcpu) (MapsOf its ∷ Redist t.vcpu ∷ []) = in_tail (Redist t.vcpu) (MapsOf its) (Redist t.vcpu ∷ []) (in_head (Redist t.vcpu) []) in
-      sent_decided t (is_on u t.vcpu.0) (is_on w t.vcpu.0) (ap (λ (r : Redistributor). r.bases.on) (redist_same u w (MapsOf its ∷ Redist t.vcpu ∷ []) t.vcpu.0 listed a)) a
+      let listed : IsIn (Redist t.vcpu) (MapsOf its ∷ Redist t.vcpu ∷ []) = in_tail (Redist t.vcpu) (MapsOf its) (Redist t.vcpu ∷ [])
+      (in_head (Redist t.vcpu) []) in
+      sent_decided t (is_on u t.vcpu.0) (is_on w t.vcpu.0)
+      (ap (λ (r : Redistributor). r.bases.on) (redist_same u w (MapsOf its ∷ Redist t.vcpu ∷ []) t.vcpu.0 listed a)) a
   found_decided (Err cause) a = (refl, a.parts)
 
   signal_decided : (dev ev : ℕ) → AgreesOn u w (parts_of_signal its (located (translator u its) dev ev))
@@ -77,7 +83,8 @@ module _ (u w : Plain) (its : ℕ) where
   signal_decided dev ev a =
       let ps : List Part = parts_of_signal its (located (translator u its) dev ev) in
       let here : IsIn (MapsOf its) ps = in_head (MapsOf its) (redist_of (option_map (λ t. t.vcpu) (result_ok (located (translator u its) dev ev)))) in
-      subst (λ (t : Translator). Decided ps (signalled u (located (translator u its) dev ev)) (signalled w (located t dev ev)) (signal_left u (signalled u (located (translator u its) dev ev))) (signal_left w (signalled w (located t dev ev))))
+      subst (λ (t : Translator). Decided ps (signalled u (located (translator u its) dev ev)) (signalled w (located t dev ev))
+      (signal_left u (signalled u (located (translator u its) dev ev))) (signal_left w (signalled w (located t dev ev))))
       (translator_same u w ps its here a) (found_decided (located (translator u its) dev ev) a)
 
 -- ---- steps
@@ -104,8 +111,11 @@ module _ (u w : Plain) (i : ℕ) where
   met_decided : (idle : Bool) (bytes : Option (List ℕ)) → AgreesOn u w (parts_of_step u i idle bytes)
       → Decided (parts_of_step u i idle bytes) (stepped u idle bytes) (stepped w idle bytes) (step_leaves u idle bytes) (step_leaves w idle bytes)
   met_decided true bytes a = (refl, a.parts)
-  met_decided false None a =
-      (ap (λ (t : Translator). QueueFault (record { 0 = queue_place t.regs })) (translator_same u w (parts_of_step u i false None) i (in_head (MapsOf i) (Mem ∷ [])) a), a.parts)
+  met_decided false None a = (
+    ap (λ (t : Translator). QueueFault (record { 0 = queue_place t.regs }))
+        (translator_same u w (parts_of_step u i false None) i (in_head (MapsOf i) (Mem ∷ [])) a),
+    a.parts,
+  )
   met_decided false (Some bytes) a =
       let rest : List Part = needed u i (decoded bytes) in
       let ps : List Part = MapsOf i ∷ Mem ∷ rest in
@@ -116,11 +126,13 @@ module _ (u w : Plain) (i : ℕ) where
       let v : Plain = command_left u (ran u i (decoded bytes)) in
       let x : Plain = command_left w (ran w i (decoded bytes)) in
       let after : AgreesOn v x ps = left_alike ps u w (ran u i (decoded bytes)) (ran w i (decoded bytes)) a both in
-      let went = agree_translator v x ps i (record (translator v i) { regs = advanced (regs_of v i) }) (record (translator x i) { regs = advanced (regs_of x i) })
+      let went = agree_translator v x ps i (record (translator v i) { regs = advanced (regs_of v i) })
+      (record (translator x i) { regs = advanced (regs_of x i) })
       (ap (λ (t : Translator). (let next : Translator = record t { regs = advanced t.regs } in next)) (translator_same v x ps i here after)) after in
       (same_reply ps (op_of (decoded bytes)) (ran u i (decoded bytes)) (ran w i (decoded bytes)) both, went.parts)
 
-  step_decided : AgreesOn u w (parts_of_step u i (is_idle u i) (next_bytes u i)) → Decided (parts_of_step u i (is_idle u i) (next_bytes u i)) (step_reply u i) (step_reply w i) (step_left u i) (step_left w i)
+  step_decided : AgreesOn u w (parts_of_step u i (is_idle u i) (next_bytes u i)) → Decided (parts_of_step u i (is_idle u i) (next_bytes u i)) (step_reply u i)
+      (step_reply w i) (step_left u i) (step_left w i)
   unfolding step_reply step_left
   step_decided a =
       let ps : List Part = parts_of_step u i (is_idle u i) (next_bytes u i) in
@@ -129,8 +141,10 @@ module _ (u w : Plain) (i : ℕ) where
       let memory : u.memory ≡ w.memory = a.parts Mem (in_tail Mem (MapsOf i) (Mem ∷ rest) (in_head Mem rest)) in
       let idle : is_idle u i ≡ is_idle w i = ap (λ (t : Translator). not t.regs.enabled || is_queue_empty t.regs) same in
       let bytes : next_bytes u i ≡ next_bytes w i = (λ d. read_at (memory d) (queue_place (same d).regs) 32) in
-      subst (λ (b : Bool). Decided ps (stepped u (is_idle u i) (next_bytes u i)) (stepped w b (next_bytes w i)) (step_leaves u (is_idle u i) (next_bytes u i)) (step_leaves w b (next_bytes w i))) idle
-      (subst (λ (o : Option (List ℕ)). Decided ps (stepped u (is_idle u i) (next_bytes u i)) (stepped w (is_idle u i) o) (step_leaves u (is_idle u i) (next_bytes u i)) (step_leaves w (is_idle u i) o)) bytes
+      subst (λ (b : Bool). Decided ps (stepped u (is_idle u i) (next_bytes u i)) (stepped w b (next_bytes w i)) (step_leaves u (is_idle u i) (next_bytes u i))
+      (step_leaves w b (next_bytes w i))) idle
+      (subst (λ (o : Option (List ℕ)). Decided ps (stepped u (is_idle u i) (next_bytes u i)) (stepped w (is_idle u i) o)
+      (step_leaves u (is_idle u i) (next_bytes u i)) (step_leaves w (is_idle u i) o)) bytes
       (met_decided (is_idle u i) (next_bytes u i) a))
 
 -- ---- saves
@@ -142,25 +156,32 @@ whole u w a =
     let ts : List Part = translators_below (length u.translators) in
     let rs : List Part = redists_below (length u.redistributors) in
     let translators : u.translators ≡ w.translators =
-    same_lists u.translators w.translators a.translators (λ i d low. same_or u.translators w.translators i d (a.parts (MapsOf i) (in_tail (MapsOf i) Mem (ts ++ rs) (in_left (MapsOf i) ts rs (translator_below (length u.translators) i low))))) in
+    same_lists u.translators w.translators a.translators
+    (λ i d low. same_or u.translators w.translators i d
+    (a.parts (MapsOf i) (in_tail (MapsOf i) Mem (ts ++ rs) (in_left (MapsOf i) ts rs (translator_below (length u.translators) i low))))) in
     let redistributors : u.redistributors ≡ w.redistributors =
-    same_lists u.redistributors w.redistributors a.redistributors (λ v d low. same_or u.redistributors w.redistributors v d (a.parts (redist v) (in_tail (redist v) Mem (ts ++ rs) (in_right (redist v) ts rs (redist_below (length u.redistributors) v low))))) in
+    same_lists u.redistributors w.redistributors a.redistributors (λ v d low. same_or u.redistributors w.redistributors v d
+    (a.parts (redist v) (in_tail (redist v) Mem (ts ++ rs) (in_right (redist v) ts rs (redist_below (length u.redistributors) v low))))) in
     let memory : u.memory ≡ w.memory = a.parts Mem (in_head Mem (ts ++ rs)) in
     λ d. record { layout = a.layout d; translators = translators d; redistributors = redistributors d; memory = memory d }
 
-save_decided : (u w : Plain) → u ≡ w → Decided (footprint u call.Save) (save_reply (savable u)) (save_reply (savable w)) (save_left u (savable u)) (save_left w (savable w))
+save_decided : (u w : Plain) → u ≡ w → Decided (footprint u call.Save) (save_reply (savable u)) (save_reply (savable w)) (save_left u (savable u))
+    (save_left w (savable w))
 save_decided u w e =
-    subst (λ (v : Plain). Decided (footprint u call.Save) (save_reply (savable u)) (save_reply (savable v)) (save_left u (savable u)) (save_left v (savable v))) e
+    subst (λ (v : Plain). Decided (footprint u call.Save) (save_reply (savable u)) (save_reply (savable v)) (save_left u (savable u)) (save_left v (savable v)))
+    e
     (refl, λ p here. same_part (save_left u (savable u)) p)
 
 -- ---- all calls
 
-pub decides : (u w : Plain) (c : Call) → AgreesOn u w (footprint u c) → (reply_of u c ≡ reply_of w c) × ((p : Part) → IsIn p (footprint u c) → SamePart (answer u c).1 (answer w c).1 p)
+pub decides : (u w : Plain) (c : Call) → AgreesOn u w (footprint u c) → (reply_of u c ≡ reply_of w c)
+    × ((p : Part) → IsIn p (footprint u c) → SamePart (answer u c).1 (answer w c).1 p)
 unfolding footprint reply_of left written
 decides u w (call.Signal its dev ev) a = let d = signal_decided u w its dev.0 ev.0 a in (ap (λ (s : Signal). reply.Signal s) d.0, d.1)
 decides u w (call.Take vcpu) a =
     let same : redistributor u vcpu.0 ≡ redistributor w vcpu.0 = redist_same u w (Redist vcpu ∷ []) vcpu.0 (in_head (Redist vcpu) []) a in
-    let after = agree_redist u w (Redist vcpu ∷ []) vcpu.0 (taken (redistributor u vcpu.0) (lowest (redistributor u vcpu.0))) (taken (redistributor w vcpu.0) (lowest (redistributor w vcpu.0)))
+    let after = agree_redist u w (Redist vcpu ∷ []) vcpu.0 (taken (redistributor u vcpu.0) (lowest (redistributor u vcpu.0)))
+    (taken (redistributor w vcpu.0) (lowest (redistributor w vcpu.0)))
     (ap (λ (r : Redistributor). taken r (lowest r)) same) a in
     (ap (λ (r : Redistributor). reply.Ack (ack_of r (lowest r))) same, after.parts)
 decides u w (call.Show vcpu) a =
@@ -177,8 +198,10 @@ decides u w (call.Peek addr count) a =
 decides u w (call.ReadReg its off size) a =
     (ap (λ (t : Translator). reply.Value (read_reg t.regs off size)) (translator_same u w (MapsOf its ∷ []) its (in_head (MapsOf its) []) a), a.parts)
 decides u w (call.WriteReg its off size value) a =
-    let after = agree_translator u w (MapsOf its ∷ []) its (translator_written (translator u its) (write_reg (regs_of u its) off size value)) (translator_written (translator w its) (write_reg (regs_of w its) off size value))
-    (ap (λ (t : Translator). translator_written t (write_reg t.regs off size value)) (translator_same u w (MapsOf its ∷ []) its (in_head (MapsOf its) []) a)) a in
+    let after = agree_translator u w (MapsOf its ∷ []) its (translator_written (translator u its) (write_reg (regs_of u its) off size value))
+    (translator_written (translator w its) (write_reg (regs_of w its) off size value))
+    (ap (λ (t : Translator). translator_written t (write_reg t.regs off size value)) (translator_same u w (MapsOf its ∷ []) its (in_head (MapsOf its) []) a))
+    a in
     (refl, after.parts)
 decides u w (call.ReadGicr vcpu off size) a =
     let same : redistributor u vcpu.0 ≡ redistributor w vcpu.0 = redist_same u w (Redist vcpu ∷ []) vcpu.0 (in_head (Redist vcpu) []) a in (
@@ -188,7 +211,8 @@ decides u w (call.ReadGicr vcpu off size) a =
     )
 decides u w (call.WriteGicr vcpu off size value) a =
     let ps : List Part = Mem ∷ Redist vcpu ∷ [] in
-    let same : redistributor u vcpu.0 ≡ redistributor w vcpu.0 = redist_same u w ps vcpu.0 (in_tail (Redist vcpu) Mem (Redist vcpu ∷ []) (in_head (Redist vcpu) [])) a in
+    let same : redistributor u vcpu.0 ≡ redistributor w vcpu.0 = redist_same u w ps vcpu.0
+    (in_tail (Redist vcpu) Mem (Redist vcpu ∷ []) (in_head (Redist vcpu) [])) a in
     let memory : u.memory ≡ w.memory = a.parts Mem (in_head Mem (Redist vcpu ∷ [])) in
     let after : (v : Plain) → Redistributor = λ v. written_gicr v.layout.shape v.memory (redistributor v vcpu.0) off size value in
     let new : after u ≡ after w =
@@ -196,7 +220,8 @@ decides u w (call.WriteGicr vcpu off size value) a =
     ∙ ap (λ (m : List Window). written_gicr w.layout.shape m (redistributor u vcpu.0) off size value) memory
     ∙ ap (λ (r : Redistributor). written_gicr w.layout.shape w.memory r off size value) same in (
       refl,
-      alike_if u.layout.gicr w.layout.gicr ps (with_redistributor u vcpu.0 (after u)) (with_redistributor w vcpu.0 (after w)) u w (ap (λ (l : Layout). l.gicr) a.layout)
+      alike_if u.layout.gicr w.layout.gicr ps (with_redistributor u vcpu.0 (after u)) (with_redistributor w vcpu.0 (after w)) u w
+          (ap (λ (l : Layout). l.gicr) a.layout)
           (agree_redist u w ps vcpu.0 (after u) (after w) new a).parts a.parts,
     )
 decides u w (call.Step its) a = let d = step_decided u w its a in (ap (λ (s : StepReply). reply.Step s) d.0, d.1)

@@ -1,5 +1,6 @@
 -- Elements of lists: what a write changes, and which parts a list names.
-use Rattle.std.proofs.Common.{◌≡◌, ◌≢◌, ◌⊎◌, ℕ, zero, suc, ◌<◌, ◌≤◌, List, [], ◌∷◌, ◌++◌, get_or, set, slice_get, Option, Some, None, refl, ap, sym, subst, arith, inl, inr}
+use Rattle.std.proofs.Common.{◌≡◌, ◌≢◌, ◌⊎◌, ℕ, zero, suc, ◌<◌, ◌≤◌, List, [], ◌∷◌, ◌++◌, get_or, set, slice_get, Option, Some, None, refl, ap, sym, subst}
+use Rattle.std.proofs.Common.{arith, inl, inr}
 use Rattle.std.proofs.lemmas.Bool.{cases_lt}
 use Rattle.its_types.specs.declared.ids.Vcpu.{Vcpu}
 use Rattle.its_types.specs.declared.machine.Part.{Part}
@@ -15,7 +16,8 @@ set_else (x ∷ xs) (suc i) zero y ne = refl
 set_else (x ∷ xs) (suc i) (suc j) y ne = set_else xs i j y (λ e. ne (ap suc e))
 
 -- the same write to both leaves the same element, wherever it is
-pub set_alike : {A : Type 0} (xs ys : List A) (i j : ℕ) (a b : A) → slice_get xs j ≡ slice_get ys j → a ≡ b → slice_get (set xs i a) j ≡ slice_get (set ys i b) j
+pub set_alike : {A : Type 0} (xs ys : List A) (i j : ℕ) (a b : A) → slice_get xs j ≡ slice_get ys j → a ≡ b → slice_get (set xs i a) j ≡ slice_get
+    (set ys i b) j
 set_alike [] [] i j a b e s = refl
 set_alike [] (y ∷ ys) zero zero a b e s = absurd cc
 set_alike [] (y ∷ ys) zero (suc j) a b e s = e
@@ -62,7 +64,8 @@ module _ (part : ℕ → Part) (below : ℕ → List Part) (more : (n : ℕ) →
   last_or_before n v low (inl before) h = subst (λ (ps : List Part). IsIn (part v) ps) (sym (more n)) (in_left (part v) (below n) (part n ∷ []) (h before))
   last_or_before n v low (inr last) h =
       let same : v ≡ n = omega (arith, low, last) in
-      subst (λ (k : ℕ). IsIn (part k) (below (suc n))) (sym same) (subst (λ (ps : List Part). IsIn (part n) ps) (sym (more n)) (in_right (part n) (below n) (part n ∷ []) (in_head (part n) [])))
+      subst (λ (k : ℕ). IsIn (part k) (below (suc n))) (sym same) (subst (λ (ps : List Part). IsIn (part n) ps) (sym (more n))
+      (in_right (part n) (below n) (part n ∷ []) (in_head (part n) [])))
 
   pub each_below : (n v : ℕ) → v < n → IsIn (part v) (below n)
   each_below zero v low = absurd (omega (arith, low))
@@ -83,4 +86,5 @@ pub not_below : (n v : ℕ) → ¬ IsIn (redist v) (redists_below n) → n ≤ v
 not_below zero v out = omega arith
 not_below (suc n) v out =
     let least : n ≤ v = not_below n v (λ h. out (in_left (redist v) (redists_below n) (redist n ∷ []) h)) in
-    let other : v ≢ n = (λ e. out (subst (λ (k : ℕ). IsIn (redist v) (redists_below n ++ redist k ∷ [])) e (in_right (redist v) (redists_below n) (redist v ∷ []) (in_head (redist v) [])))) in omega arith
+    let other : v ≢ n = (λ e. out (subst (λ (k : ℕ). IsIn (redist v) (redists_below n ++ redist k ∷ [])) e
+    (in_right (redist v) (redists_below n) (redist v ∷ []) (in_head (redist v) [])))) in omega arith

@@ -1,5 +1,6 @@
 -- A call changes no part outside its footprint.
-use Rattle.std.proofs.Common.{◌≡◌, ℕ, ◌≤◌, Bool, true, false, List, [], ◌∷◌, ◌++◌, length, Option, Some, None, Result, Ok, Err, sym, subst, unwrap_or, if◌then◌else◌}
+use Rattle.std.proofs.Common.{◌≡◌, ℕ, ◌≤◌, Bool, true, false, List, [], ◌∷◌, ◌++◌, length, Option, Some, None, Result, Ok, Err, sym, subst, unwrap_or}
+use Rattle.std.proofs.Common.{if◌then◌else◌}
 use Rattle.std.proofs.lemmas.Bool.{cond_both}
 use Rattle.std.proofs.lemmas.Option.{slice_get_past}
 use Rattle.guest_windows.specs.Windows.{write_at}
@@ -14,7 +15,8 @@ use Rattle.its_plain.specs.Plain.{Plain, translator, redistributor, regs_of, pen
 use Rattle.its_plain.specs.Sound.{IsSound}
 use Rattle.its_plain.specs.Translation.{◌>>=◌, ensure, located, translated}
 use Rattle.its_plain.specs.Commands.{ran}
-use Rattle.its_plain.specs.Answer.{signal_reply, signal_left, lowest, taken, translator_written, written, command_left, save_left, is_idle, next_bytes, met_left, step_left, reply_of, left, answer}
+use Rattle.its_plain.specs.Answer.{signal_reply, signal_left, lowest, taken, translator_written, written, command_left, save_left, is_idle, next_bytes}
+use Rattle.its_plain.specs.Answer.{met_left, step_left, reply_of, left, answer}
 use Rattle.its_plain.specs.Regions.{savable}
 use Rattle.its_plain.specs.Saved.{saved}
 use Rattle.its_plain.specs.declared.fault.SaveFault.{SaveFault}
@@ -39,7 +41,8 @@ module _ (u : Plain) (its : ℕ) where
       (in_tail (Redist t.vcpu) (MapsOf its) (Redist t.vcpu ∷ []) (in_head (Redist t.vcpu) [])) (stay u (MapsOf its ∷ Redist t.vcpu ∷ []))
   sent t false = stay u (MapsOf its ∷ Redist t.vcpu ∷ [])
 
-  delivered : (found : Result Target Cause) → Stay u (parts_of_signal its found) (signal_left u (signal_reply (found >>= λ t. ensure (is_on u t.vcpu.0) LpisOff >>= λ _. Ok t)))
+  delivered : (found : Result Target Cause) → Stay u (parts_of_signal its found)
+      (signal_left u (signal_reply (found >>= λ t. ensure (is_on u t.vcpu.0) LpisOff >>= λ _. Ok t)))
   delivered (Ok t) = sent t (is_on u t.vcpu.0)
   delivered (Err cause) = stay u (parts_of_signal its (Err cause))
 
@@ -68,7 +71,8 @@ module _ (u : Plain) (i : ℕ) (sound : HasRedistributors u) where
       let w : Plain = command_left u (ran u i (decoded bytes)) in
       stay_translator u w ps i (record (translator w i) { regs = advanced (regs_of w i) }) here
       (left_stays u ps (ran u i (decoded bytes))
-      (ran_stays u ps i (decoded bytes) here (λ p at. in_tail p (MapsOf i) (Mem ∷ needed u i (decoded bytes)) (in_tail p Mem (needed u i (decoded bytes)) at)) (has_all u ps sound)))
+      (ran_stays u ps i (decoded bytes) here (λ p at. in_tail p (MapsOf i) (Mem ∷ needed u i (decoded bytes)) (in_tail p Mem (needed u i (decoded bytes)) at))
+      (has_all u ps sound)))
 
   step_stays : Stay u (parts_of_step u i (is_idle u i) (next_bytes u i)) (step_left u i)
   unfolding step_left
@@ -89,18 +93,22 @@ others_stay : (u : Plain) (c : Call) → HasRedistributors u → Stay u (footpri
 unfolding footprint reply_of left written
 others_stay u (call.Signal its dev ev) sound = signal_stays u its dev.0 ev.0
 others_stay u (call.Take vcpu) sound =
-    stay_redist u u (Redist vcpu ∷ []) vcpu.0 (taken (redistributor u vcpu.0) (lowest (redistributor u vcpu.0))) (in_head (Redist vcpu) []) (stay u (Redist vcpu ∷ []))
+    stay_redist u u (Redist vcpu ∷ []) vcpu.0 (taken (redistributor u vcpu.0) (lowest (redistributor u vcpu.0))) (in_head (Redist vcpu) [])
+    (stay u (Redist vcpu ∷ []))
 others_stay u (call.Show vcpu) sound = stay u (Redist vcpu ∷ [])
-others_stay u (call.Poke addr bytes) sound = stay_memory u u (Mem ∷ []) (unwrap_or (write_at u.memory addr.0 bytes) u.memory) (in_head Mem []) (stay u (Mem ∷ []))
+others_stay u (call.Poke addr bytes) sound = stay_memory u u (Mem ∷ []) (unwrap_or (write_at u.memory addr.0 bytes) u.memory) (in_head Mem [])
+    (stay u (Mem ∷ []))
 others_stay u (call.Peek addr count) sound = stay u (Mem ∷ [])
 others_stay u (call.ReadReg its off size) sound = stay u (MapsOf its ∷ [])
 others_stay u (call.WriteReg its off size value) sound =
-    stay_translator u u (MapsOf its ∷ []) its (translator_written (translator u its) (write_reg (regs_of u its) off size value)) (in_head (MapsOf its) []) (stay u (MapsOf its ∷ []))
+    stay_translator u u (MapsOf its ∷ []) its (translator_written (translator u its) (write_reg (regs_of u its) off size value)) (in_head (MapsOf its) [])
+    (stay u (MapsOf its ∷ []))
 others_stay u (call.ReadGicr vcpu off size) sound = stay u (Redist vcpu ∷ [])
 others_stay u (call.WriteGicr vcpu off size value) sound =
     let ps : List Part = Mem ∷ Redist vcpu ∷ [] in
     cond_both u.layout.gicr (with_redistributor u vcpu.0 (written_gicr u.layout.shape u.memory (redistributor u vcpu.0) off size value)) u (Stay u ps)
-    (λ _. stay_redist u u ps vcpu.0 (written_gicr u.layout.shape u.memory (redistributor u vcpu.0) off size value) (in_tail (Redist vcpu) Mem (Redist vcpu ∷ []) (in_head (Redist vcpu) [])) (stay u ps))
+    (λ _. stay_redist u u ps vcpu.0 (written_gicr u.layout.shape u.memory (redistributor u vcpu.0) off size value)
+    (in_tail (Redist vcpu) Mem (Redist vcpu ∷ []) (in_head (Redist vcpu) [])) (stay u ps))
     (λ _. stay u ps)
 others_stay u (call.Step its) sound = step_stays u its sound
 others_stay u call.Save sound = save_stays u (savable u)

@@ -18,7 +18,8 @@ module _ (u : Plain) (i : ℕ) (op : Op) (reason : Reason) where
   met_refused None e = absurd cc
   met_refused (Some bytes) e = command_refused (op_of (decoded bytes)) (ran u i (decoded bytes)) e
 
-  idle_or_met : (idle : Bool) (bytes : Option (List ℕ)) → (if idle then Idle else met_reply u i bytes) ≡ Refused op reason → (if idle then u else met_left u i bytes) ≡ went_on i u
+  idle_or_met : (idle : Bool) (bytes : Option (List ℕ)) → (if idle then Idle else met_reply u i bytes) ≡ Refused op reason
+      → (if idle then u else met_left u i bytes) ≡ went_on i u
   idle_or_met true bytes e = absurd cc
   idle_or_met false bytes e = met_refused bytes e
 

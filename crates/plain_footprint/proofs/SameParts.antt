@@ -53,7 +53,8 @@ pub same_parts : (u w : Plain) (c : Call) → AgreesOn u w (footprint u c) → f
 unfolding footprint
 same_parts u w (call.Signal its dev ev) a =
     let ps : List Part = redist_of (option_map (λ t. t.vcpu) (result_ok (located (translator u its) dev.0 ev.0))) in
-    ap (λ (t : Translator). MapsOf its ∷ redist_of (option_map (λ t. t.vcpu) (result_ok (located t dev.0 ev.0)))) (translator_same u w (MapsOf its ∷ ps) its (in_head (MapsOf its) ps) a)
+    ap (λ (t : Translator). MapsOf its ∷ redist_of (option_map (λ t. t.vcpu) (result_ok (located t dev.0 ev.0))))
+    (translator_same u w (MapsOf its ∷ ps) its (in_head (MapsOf its) ps) a)
 same_parts u w (call.Take vcpu) a = refl
 same_parts u w (call.Show vcpu) a = refl
 same_parts u w (call.Poke addr bytes) a = refl

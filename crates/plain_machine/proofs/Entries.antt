@@ -4,7 +4,8 @@ use Rattle.std.specs.declared.cmp.Ordering.{Ordering}
 use Rattle.std.specs.declared.cmp.Ordering.TheVariants.{Equal}
 use Rattle.std.specs.Ordering.{nat_cmp}
 use Rattle.std.specs.Cmp.{IsTotalOrder, nat_cmp_total}
-use Rattle.std.specs.FinMap.{find, put, is_sorted, get, empty, entries, insert, retain_keys, from_sorted, get-empty, get-from_sorted, entries-from_sorted, entries-insert, get-retain_keys, same_entries_map, same_map, IsAntisymmetric}
+use Rattle.std.specs.FinMap.{find, put, is_sorted, get, empty, entries, insert, retain_keys, from_sorted, get-empty, get-from_sorted, entries-from_sorted}
+use Rattle.std.specs.FinMap.{entries-insert, get-retain_keys, same_entries_map, same_map, IsAntisymmetric}
 use Rattle.std.specs.FinMap.Entries.{where_key, find-where_key, is_sorted-put, is_sorted-where_key}
 use Rattle.std.proofs.lemmas.Cmp.{on_total, then_total}
 use Rattle.std.proofs.lemmas.Map.Lookups.{exact_pairs, exact_unsigned}
@@ -31,7 +32,8 @@ module _ {K X : Type 0} (R : K → K → Ordering) (total : IsTotalOrder R) (exa
   pub put_is : (es : List (K × X)) (k : K) (v : X) → T (is_sorted R es) → from_sorted {R = R} (put R k v es) ≡ insert (from_sorted es) k v
   put_is es k v h =
       same_entries_map _ _
-      (entries-from_sorted R (put R k v es) (is_sorted-put R total k v es h) ∙ sym (entries-insert total (from_sorted es) k v ∙ ap (put R k v) (entries-from_sorted R es h)))
+      (entries-from_sorted R (put R k v es) (is_sorted-put R total k v es h)
+      ∙ sym (entries-insert total (from_sorted es) k v ∙ ap (put R k v) (entries-from_sorted R es h)))
 
   -- the keys that pass a test
   pub kept_is : (es : List (K × X)) (p : K → Bool) → T (is_sorted R es) → from_sorted {R = R} (where_key R p es) ≡ retain_keys (from_sorted es) p

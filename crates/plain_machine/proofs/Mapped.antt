@@ -8,6 +8,7 @@ step f (z ∷ zs) zero x y lt at is = ap (λ v. v ∷ zs) (is ∙ ap f at)
 step f (z ∷ zs) (suc i) x y lt at is = ap (λ l. f z ∷ l) (step f zs i x y (omega arith) at is)
 
 -- the first i are changed, and now one more is
-pub mapped_more : {X : Type 0} (f : X → X) (xs all : List X) (i : ℕ) (x y : X) → i < length xs → all ≡ map f (take i xs) ++ drop i xs → x ≡ get_or all i x → y ≡ f x
+pub mapped_more : {X : Type 0} (f : X → X) (xs all : List X) (i : ℕ) (x y : X) → i < length xs → all ≡ map f (take i xs) ++ drop i xs → x ≡ get_or all i x
+    → y ≡ f x
     → set all i y ≡ map f (take (i + 1) xs) ++ drop (i + 1) xs
 mapped_more f xs all i x y lt same at is = rw (same, add-one i) (step f xs i x y lt (rw same at at) is)

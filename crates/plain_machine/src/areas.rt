@@ -16,7 +16,8 @@ const PAGE_SIZE: u64 = 65536;
 /// Adds the areas of a device table.
 #[tactic(auto, unfolding(its_plain::specs::Regions::device_areas))]
 pub fn add_devices(areas: &mut Vec<Area>, regs: &Regs, memory: &Memory) -> Result<(), AllocError>
-    ensures { OnOk result (areas.new.items ≡ areas.old.items ++ spec.device_areas regs.now memory.now) }
+    ensures { OnOk result
+        (areas.new.items ≡ areas.old.items ++ spec.device_areas regs.now memory.now) }
 {
     if !regs.table_valid(0) {
         return Ok(());
@@ -35,7 +36,8 @@ pub fn add_devices(areas: &mut Vec<Area>, regs: &Regs, memory: &Memory) -> Resul
 
 // The first level, and where it is in memory its pages.
 fn add_levels(areas: &mut Vec<Area>, regs: &Regs, memory: &Memory) -> Result<(), AllocError>
-    ensures { OnOk result (areas.new.items ≡ areas.old.items ++ spec.level1_areas regs.now memory.now) }
+    ensures { OnOk result
+        (areas.new.items ≡ areas.old.items ++ spec.level1_areas regs.now memory.now) }
 {
     let base = regs.table_base(0);
     let size = 8 * u64::from(level1_entries(regs));
@@ -63,7 +65,8 @@ fn add_pages(areas: &mut Vec<Area>, regs: &Regs, memory: &Memory) -> Result<(), 
 }
 
 fn add_page(areas: &mut Vec<Area>, k: u32, entry: Level1) -> Result<(), AllocError>
-    ensures { OnOk result (areas.new.items ≡ areas.old.items ++ spec.page_area k (places.page_of entry)) }
+    ensures { OnOk result (areas.new.items ≡ areas.old.items ++ spec.page_area k
+        (places.page_of entry)) }
 {
     if let Level1::Page(base) = entry {
         areas.push(Area {

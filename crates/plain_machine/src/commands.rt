@@ -172,7 +172,8 @@ impl State {
 
     #[tactic(auto, using(crate::proofs::Entries::no_intids))]
     fn intids(&self, alloc: Global, its: u8, icid: Icid) -> Result<Vec<u32>, AllocError>
-        ensures { IfOk result (λ v. v.items ≡ commands.intids_of (plain.maps_of self.now its) icid.0) }
+        ensures { IfOk result
+            (λ v. v.items ≡ commands.intids_of (plain.maps_of self.now its) icid.0) }
     {
         match self.translators.get(usize::from(its)) {
             Some(translator) => translator.maps().intids(alloc, icid),
@@ -197,7 +198,8 @@ impl State {
         intid: Intid,
         icid: Icid,
     ) -> Result<(), CommandError>
-        ensures { Runs self.old self.new result (commands.mapti self.old its dev.0 ev.0 intid.0 icid.0) }
+        ensures { Runs self.old self.new result
+            (commands.mapti self.old its dev.0 ev.0 intid.0 icid.0) }
     {
         let device = self.device(its, dev).ok_or(Reason::NoDevice)?;
         ensure_has_event(device, ev)?;

@@ -29,7 +29,8 @@ impl State {
 
     #[tactic(auto, unfolding(its_plain::specs::Parts::footprint))]
     fn add_footprint(&self, found: &mut Vec<Part>, call: &Call) -> Result<(), AllocError>
-        ensures { OnOk result (found.new.items ≡ found.old.items ++ parts.footprint self.now call.now) }
+        ensures { OnOk result
+            (found.new.items ≡ found.old.items ++ parts.footprint self.now call.now) }
     {
         match *call {
             Call::Signal { its, dev, ev } => {
@@ -62,7 +63,8 @@ impl State {
     // The virtual processor that a message would go to.
     #[tactic(auto, unfolding(its_plain::specs::Translation::located))]
     fn located_vcpu(&self, its: u8, dev: DeviceId, ev: EventId) -> Option<Vcpu>
-        ensures { result ≡ option_map (λ t. t.vcpu) (translation.located_target self.now its dev.0 ev.0) }
+        ensures { result ≡ option_map (λ t. t.vcpu)
+            (translation.located_target self.now its dev.0 ev.0) }
     {
         let translator = self.translators.get(usize::from(its))?;
         match translator.locate(dev, ev) {
@@ -73,7 +75,8 @@ impl State {
 
     // The parts of the command that a step meets.
     fn add_needed_next(&self, found: &mut Vec<Part>, its: u8) -> Result<(), AllocError>
-        ensures { OnOk result (found.new.items ≡ found.old.items ++ parts.needed_next self.now its) }
+        ensures { OnOk result
+            (found.new.items ≡ found.old.items ++ parts.needed_next self.now its) }
     {
         let regs: Regs = self.regs(its);
         if !regs.enabled() || regs.queue_is_empty() {
@@ -93,7 +96,8 @@ impl State {
         its: u8,
         command: &Command,
     ) -> Result<(), AllocError>
-        ensures { OnOk result (found.new.items ≡ found.old.items ++ parts.needed self.now its command.now) }
+        ensures { OnOk result
+            (found.new.items ≡ found.old.items ++ parts.needed self.now its command.now) }
     {
         match *command {
             Command::Movi { dev, ev, icid } => {
@@ -188,7 +192,8 @@ fn add_moved_targets(
     before: Option<Vcpu>,
     to: Vcpu,
 ) -> Result<(), AllocError>
-    ensures { OnOk result (found.new.items ≡ found.old.items ++ parts.moved_targets profile before to.0) }
+    ensures { OnOk result
+        (found.new.items ≡ found.old.items ++ parts.moved_targets profile before to.0) }
 {
     match (profile, before) {
         (Profile::Two, Some(from)) if from.0 != to.0 => {

@@ -157,7 +157,8 @@ impl MapLists {
     /// The first device whose level-1 entry isn't valid.
     pub fn first_unplaced(&self, regs: &Regs, memory: &Memory) -> Option<DeviceId>
         ensures { option_map (λ d. d.0) result
-            ≡ option_map (λ d. d.0) (regions.first_unplaced memory.now (record { regs = regs.now; maps = self.now })) }
+            ≡ option_map (λ d. d.0)
+            (regions.first_unplaced memory.now (record { regs = regs.now; maps = self.now })) }
     {
         first_unplaced(&self.devices, regs, memory)
     }

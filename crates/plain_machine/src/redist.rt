@@ -31,7 +31,11 @@ impl Model for RedistLists {
 
     ghost coded = { redistributor_code };
 
-    ghost view = { λ r. record { bases = r.bases; pending = r.pending.items; config = r.config.items } };
+    ghost view = { λ r. record {
+      bases = r.bases;
+      pending = r.pending.items;
+      config = r.config.items;
+    } };
 
     ghost invariant = { λ r. (r.bases.prop.table.0 < 2 ^ 52) × (r.bases.pend.table.0 < 2 ^ 52) };
 }
@@ -126,7 +130,8 @@ impl RedistLists {
     ) -> Result<(), AllocError>
         requires least { 14 ≤ shape.now.lpi_bits }
         requires most { shape.now.lpi_bits ≤ 20 }
-        ensures { OnOk result (areas.new.items ≡ areas.old.items ++ regions.pending_area shape.now vcpu.0 self.now) }
+        ensures { OnOk result
+            (areas.new.items ≡ areas.old.items ++ regions.pending_area shape.now vcpu.0 self.now) }
     {
         if self.bases.on {
             areas.push(Area {
@@ -166,7 +171,8 @@ impl RedistLists {
     pub(crate) fn write_pending(&self, memory: &mut Memory, shape: &Shape)
         requires least { 14 ≤ shape.now.lpi_bits }
         requires most { shape.now.lpi_bits ≤ 20 }
-        ensures { memory.new ≡ saved.put_tables memory.old (saved.pending_words shape.now self.now) }
+        ensures { memory.new ≡ saved.put_tables memory.old
+            (saved.pending_words shape.now self.now) }
     {
         if self.bases.on {
             saved_tables::write_pending(memory, self.bases.pend.table, shape.pending_bytes(), self);

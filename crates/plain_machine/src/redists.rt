@@ -26,7 +26,8 @@ pub fn set_at(all: &mut [RedistLists], vcpu: u64, intid: u32) -> Result<(), Allo
 /// Makes an LPI not pending at a virtual processor.
 pub fn clear_at(all: &mut [RedistLists], vcpu: u64, intid: u32)
     ensures { all.new
-        ≡ pending_set all.old vcpu (lpis.without_lpi intid (redistributor_in all.old vcpu).pending) }
+        ≡ pending_set all.old vcpu
+        (lpis.without_lpi intid (redistributor_in all.old vcpu).pending) }
 {
     let at = vcpu as usize;
     if at < all.len() {

@@ -19,7 +19,8 @@ impl State {
     /// Writes every table to memory, or tells the first thing in the way.
     pub(crate) fn save(&mut self, alloc: Global) -> Result<Reply, AllocError>
         ensures reply { IfOk result (λ r. r ≡ answers.save_reply (regions.savable self.old)) }
-        ensures left { IfOk result (λ _. self.new ≡ answers.save_left self.old (regions.savable self.old)) }
+        ensures left { IfOk result
+            (λ _. self.new ≡ answers.save_left self.old (regions.savable self.old)) }
     {
         match self.savable(alloc) {
             Ok(()) => {}
@@ -157,7 +158,8 @@ fn add_configurations(
 #[tactic(auto, using(crate::proofs::SavedTables::put_front))]
 fn write_translators(memory: &mut Memory, before: &Memory, translators: &[TranslatorLists])
     ensures { memory.new
-        ≡ saved.put_tables memory.old (flat_map (saved.translator_words before.now) translators.now) }
+        ≡ saved.put_tables memory.old
+        (flat_map (saved.translator_words before.now) translators.now) }
 {
     for translator in translators {
         translator.write_tables(memory, before);

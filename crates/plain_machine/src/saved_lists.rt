@@ -69,7 +69,11 @@ fn has_no_place(regs: &Regs, memory: &Memory, dev: u32) -> bool
 pub fn write_itts(memory: &mut Memory, devices: &[(u32, MappedDevice)], maps: &MapLists)
     ensures { memory.new
         ≡ saved.put_tables memory.old (flat_map
-        (λ d. record { base = d.1.itt.0; count = 2 ^ d.1.bits; word = saved.event_word maps.now d.0 } ∷ [])
+        (λ d. record {
+          base = d.1.itt.0;
+          count = 2 ^ d.1.bits;
+          word = saved.event_word maps.now d.0;
+        } ∷ [])
         devices.now) }
 {
     for entry in devices {

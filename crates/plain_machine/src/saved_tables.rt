@@ -42,7 +42,8 @@ pub fn write_devices(memory: &mut Memory, before: &Memory, regs: &Regs, maps: &M
 #[tactic(auto, using(crate::proofs::SavedTables::put_more))]
 fn write_pages(memory: &mut Memory, before: &Memory, regs: &Regs, maps: &MapLists)
     ensures { memory.new
-        ≡ spec.put_tables memory.old (spec.pages_words (record { regs = regs.now; maps = maps.now }) before.now
+        ≡ spec.put_tables memory.old
+        (spec.pages_words (record { regs = regs.now; maps = maps.now }) before.now
         (places.level1_entries regs.now.dev_bits)) }
 {
     for k in 0..level1_entries(regs) {
@@ -95,7 +96,8 @@ pub fn write_collections(memory: &mut Memory, regs: &Regs, maps: &MapLists)
 pub fn write_itt(memory: &mut Memory, base: Addr, bits: u8, dev: DeviceId, maps: &MapLists)
     requires low { base.0 < 2 ^ 53 }
     requires few { bits ≤ 16 }
-    ensures { memory.new ≡ spec.put_words memory.old base.0 (spec.event_word maps.now dev.0) (2 ^ bits) }
+    ensures { memory.new ≡ spec.put_words memory.old base.0 (spec.event_word maps.now dev.0)
+        (2 ^ bits) }
 {
     for ev in 0..1u32 << bits {
         put_word(memory, base, ev, maps.event_word(dev, ev));

@@ -36,7 +36,8 @@ impl Model for State {
     ghost use Rattle.std.specs.Prelude.{◌≤◌, length};
     ghost use Rattle.its_plain.specs.Sound.{IsShape};
 
-    ghost invariant = { λ s. IsShape s.layout.shape × (length s.redistributors.items ≤ 16) × (length s.translators.items ≤ 256) };
+    ghost invariant = { λ s. IsShape s.layout.shape × (length s.redistributors.items ≤ 16)
+        × (length s.translators.items ≤ 256) };
 }
 
 impl State {

@@ -72,7 +72,8 @@ pub fn remove_events<V: Drop>(entries: &mut Vec<((u32, u32), V)>, dev: u32)
 
 /// Takes an event away.
 pub fn remove_event<V: Drop>(entries: &mut Vec<((u32, u32), V)>, dev: u32, ev: u32)
-    ensures { entries.new.items ≡ where_key pair_cmp (λ k. not (is_pair dev ev k)) entries.old.items }
+    ensures { entries.new.items ≡ where_key pair_cmp (λ k. not (is_pair dev ev k))
+        entries.old.items }
 {
     entries.retain(|entry| !(entry.0.0 == dev && entry.0.1 == ev));
 }

@@ -106,7 +106,8 @@ impl TranslatorLists {
     /// Writes the tables. `before` is memory as it was before any table was written.
     #[tactic(auto, using(crate::proofs::SavedTables::put_more), unfolding(its_plain::specs::Saved::translator_words))]
     pub(crate) fn write_tables(&self, memory: &mut Memory, before: &Memory)
-        ensures { memory.new ≡ saved.put_tables memory.old (saved.translator_words before.now self.now) }
+        ensures { memory.new ≡ saved.put_tables memory.old
+            (saved.translator_words before.now self.now) }
     {
         saved_tables::write_devices(memory, before, &self.regs, &self.maps);
         saved_tables::write_collections(memory, &self.regs, &self.maps);
@@ -115,7 +116,8 @@ impl TranslatorLists {
 
     fn write(&mut self, off: u32, size: u8, value: u64)
         ensures { self.new
-            ≡ answers.translator_written self.old (registers.write_reg self.old.regs off size value) }
+            ≡ answers.translator_written self.old
+            (registers.write_reg self.old.regs off size value) }
     {
         match self.regs.write(off, size, value) {
             RegChange::DevicesEmptied => self.maps.empty_devices(),
@@ -132,7 +134,8 @@ impl TranslatorLists {
 
     fn map_device(&mut self, dev: DeviceId, device: Device) -> Result<(), AllocError>
         requires { HasTable device }
-        ensures { OnOk result (self.new ≡ record self.old { maps = maps.device_mapped self.old.maps dev.0 device }) }
+        ensures { OnOk result
+            (self.new ≡ record self.old { maps = maps.device_mapped self.old.maps dev.0 device }) }
     {
         self.maps.map_device(dev, device)
     }
@@ -152,7 +155,8 @@ impl TranslatorLists {
     }
 
     fn unmap_event(&mut self, dev: DeviceId, ev: EventId)
-        ensures { self.new ≡ record self.old { maps = maps.event_unmapped self.old.maps dev.0 ev.0 } }
+        ensures { self.new
+            ≡ record self.old { maps = maps.event_unmapped self.old.maps dev.0 ev.0 } }
     {
         self.maps.unmap_event(dev, ev);
     }
@@ -165,7 +169,8 @@ impl TranslatorLists {
     }
 
     fn unmap_collection(&mut self, icid: Icid)
-        ensures { self.new ≡ record self.old { maps = maps.collection_unmapped self.old.maps icid.0 } }
+        ensures { self.new
+            ≡ record self.old { maps = maps.collection_unmapped self.old.maps icid.0 } }
     {
         self.maps.unmap_collection(icid);
     }
@@ -216,7 +221,8 @@ pub fn map_device(
 
 /// Unmaps a device of a translator, and its events.
 pub fn unmap_device(all: &mut [TranslatorLists], its: u8, dev: DeviceId)
-    ensures { all.new ≡ maps_set all.old its (maps.device_unmapped (translator_in all.old its).maps dev.0) }
+    ensures { all.new ≡ maps_set all.old its
+        (maps.device_unmapped (translator_in all.old its).maps dev.0) }
 {
     let at = usize::from(its);
     if at < all.len() {

@@ -14,13 +14,16 @@ use Rattle.gits_regs.proofs.Kept.{write_keeps as regs_kept}
 use Rattle.its_types.specs.declared.ids.Target.{Target}
 use Rattle.its_plain.specs.Translation.{translated}
 use Rattle.its_plain.specs.declared.call.Cause.{Cause}
-use Rattle.its_plain.specs.Answer.{answer, left, reply_of, lowest, taken, written, translator_written, emptied, signal_left, signal_reply, step_left, met_left, command_left, went_on, is_idle, next_bytes}
+use Rattle.its_plain.specs.Answer.{answer, left, reply_of, lowest, taken, written, translator_written, emptied, signal_left, signal_reply, step_left, met_left}
+use Rattle.its_plain.specs.Answer.{command_left, went_on, is_idle, next_bytes}
 use Rattle.its_plain.specs.Commands.{ran}
 use Rattle.its_plain.specs.declared.call.Reason.{Reason}
 use Rattle.its_command.specs.Commands.{decoded}
 use Rattle.its_plain.specs.declared.call.Call.TheVariants as call
-use Rattle.plain_soundness.specs.Laws.{ShowKeepsSound, PeekKeepsSound, RegisterReadKeepsSound, TakeKeepsSound, PokeKeepsSound, RegisterWriteKeepsSound, SignalKeepsSound, StepKeepsSound, CallsKeepSound, HistoriesKeepSound}
-use Rattle.plain_soundness.proofs.States.{IsLpi, translator_replaced, translator_sound, redistributor_replaced, redistributor_sound, regs_replaced, memory_replaced}
+use Rattle.plain_soundness.specs.Laws.{ShowKeepsSound, PeekKeepsSound, RegisterReadKeepsSound, TakeKeepsSound, PokeKeepsSound, RegisterWriteKeepsSound}
+use Rattle.plain_soundness.specs.Laws.{SignalKeepsSound, StepKeepsSound, CallsKeepSound, HistoriesKeepSound}
+use Rattle.plain_soundness.proofs.States.{IsLpi, translator_replaced, translator_sound, redistributor_replaced, redistributor_sound, regs_replaced}
+use Rattle.plain_soundness.proofs.States.{memory_replaced}
 use Rattle.plain_soundness.proofs.Places.{decoded_fits}
 use Rattle.plain_soundness.proofs.Run.{commands_keep}
 use Rattle.plain_soundness.proofs.Pending.{set_sound, cleared_sound}
@@ -64,7 +67,8 @@ register_write_keeps u its off size value h =
     translator_replaced u its (translator_written (translator u its) w) h (λ within.
     let t = translator_sound u its h within in
     let after = write_keeps u.layout.shape (regs_of u its) (maps_of u its) (maps_sound u.layout.shape (translator u its) t) off size value in
-    translator_made u.layout.shape w.regs (emptied w.change (maps_of u its)) (regs_kept (regs_of u its) off size value t.regs) (after.dev_bits ∙ t.dev_bits) after.maps)
+    translator_made u.layout.shape w.regs (emptied w.change (maps_of u its)) (regs_kept (regs_of u its) off size value t.regs) (after.dev_bits ∙ t.dev_bits)
+    after.maps)
 
 signal_kept : (u : Plain) (r : Result Target Cause) → ((target : Target) → r ≡ Ok target → IsLpi u target.intid.0 × (is_on u target.vcpu.0 ≡ true)) → IsSound u
     → IsSound (signal_left u (signal_reply r))
@@ -73,7 +77,8 @@ signal_kept u (Ok target) goes h = let g = goes target refl in set_sound u targe
 
 pub signal_keeps : SignalKeepsSound
 unfolding left reply_of
-signal_keeps u its dev ev h = signal_kept u (translated u its dev.0 ev.0) (λ target e. if_ok_at (λ t. IsLpi u t.intid.0 × (is_on u t.vcpu.0 ≡ true)) (translated u its dev.0 ev.0) target (goes_to_lpi u its dev.0 ev.0 h) e) h
+signal_keeps u its dev ev h = signal_kept u (translated u its dev.0 ev.0) (λ target e. if_ok_at (λ t. IsLpi u t.intid.0 × (is_on u t.vcpu.0 ≡ true))
+    (translated u its dev.0 ev.0) target (goes_to_lpi u its dev.0 ev.0 h) e) h
 
 -- ---- steps
 
@@ -87,7 +92,8 @@ ran_sound u (Err reason) sound h = h
 met_sound : (u : Plain) (i : ℕ) (next : Option (List ℕ)) → (regs_of u i).enabled ≡ true → IsSound u → IsSound (met_left u i next)
 met_sound u i None on h = h
 met_sound u i (Some bytes) on h =
-    went_on_sound (command_left u (ran u i (decoded bytes))) i (ran_sound u (ran u i (decoded bytes)) (commands_keep u i (decoded bytes) (decoded_fits bytes) on h) h)
+    went_on_sound (command_left u (ran u i (decoded bytes))) i
+    (ran_sound u (ran u i (decoded bytes)) (commands_keep u i (decoded bytes) (decoded_fits bytes) on h) h)
 
 pub step_keeps : StepKeepsSound
 unfolding left step_left

@@ -1,5 +1,6 @@
 -- The first state of a machine.
-use Rattle.std.proofs.Common.{◌≡◌, ℕ, zero, suc, ◌+◌, ◌≤◌, Bool, true, false, cond, List, [], ◌∷◌, length, map, replicate, Option, Some, None, Result, Ok, Err, IfOk, refl, ap, subst, ◌∙◌, arith}
+use Rattle.std.proofs.Common.{◌≡◌, ℕ, zero, suc, ◌+◌, ◌≤◌, Bool, true, false, cond, List, [], ◌∷◌, length, map, replicate, Option, Some, None, Result, Ok, Err}
+use Rattle.std.proofs.Common.{IfOk, refl, ap, subst, ◌∙◌, arith}
 use Rattle.std.specs.Prelude.{slice_get, ok_or}
 use Rattle.std.specs.List.{AllByRecursion}
 use Rattle.std.proofs.lemmas.Bool.{both_ways}
@@ -22,7 +23,8 @@ use Rattle.its_plain.specs.Sound.{IsSound, IsTranslator, IsRedistributor, HasTab
 use Rattle.gicr_regs.specs.Redistributors.{off_redistributor}
 use Rattle.gicr_regs.specs.declared.values.GicrValues.{GicrValues}
 use Rattle.its_types.specs.Lpis.{no_bases}
-use Rattle.its_plain.specs.Machine.{made, started, pending_inside, tables_inside, filled, described_bases, described_in, are_programmed, layout_of, first_redistributors, idle_redistributor, ensure, ◌>>=◌, IsDescription, HasTablesFor}
+use Rattle.its_plain.specs.Machine.{made, started, pending_inside, tables_inside, filled, described_bases, described_in, are_programmed, layout_of}
+use Rattle.its_plain.specs.Machine.{first_redistributors, idle_redistributor, ensure, ◌>>=◌, IsDescription, HasTablesFor}
 use Rattle.its_plain.specs.declared.desc.LpiTables.{LpiTables}
 use Rattle.its_plain.specs.declared.desc.LpiTables.TheVariants.{Described, Registers}
 use Rattle.its_plain.specs.declared.desc.Desc.{Desc}
@@ -36,15 +38,18 @@ use Rattle.plain_soundness.proofs.Translated.{if_ok_at}
 
 -- ---- a description's steps
 
-passed : {B : Type 0} (P : B → Type 0) (test : Bool) (fault : DescFault) (f : Unit {0} → Result B DescFault) → (test ≡ true → IfOk (f tt) P) → IfOk (ensure test fault >>= f) P
+passed : {B : Type 0} (P : B → Type 0) (test : Bool) (fault : DescFault) (f : Unit {0} → Result B DescFault) → (test ≡ true → IfOk (f tt) P)
+    → IfOk (ensure test fault >>= f) P
 passed P true fault f h = h refl
 passed P false fault f h = tt
 
-found : {A B : Type 0} (P : B → Type 0) (o : Option A) (fault : DescFault) (f : A → Result B DescFault) → ((x : A) → o ≡ Some x → IfOk (f x) P) → IfOk (ok_or o fault >>= f) P
+found : {A B : Type 0} (P : B → Type 0) (o : Option A) (fault : DescFault) (f : A → Result B DescFault) → ((x : A) → o ≡ Some x → IfOk (f x) P)
+    → IfOk (ok_or o fault >>= f) P
 found P None fault f h = tt
 found P (Some x) fault f h = h x refl
 
-then_ok : {A B : Type 0} (Q : A → Type 0) (P : B → Type 0) (r : Result A DescFault) (f : A → Result B DescFault) → IfOk r Q → ((x : A) → Q x → IfOk (f x) P) → IfOk (r >>= f) P
+then_ok : {A B : Type 0} (Q : A → Type 0) (P : B → Type 0) (r : Result A DescFault) (f : A → Result B DescFault) → IfOk r Q → ((x : A) → Q x → IfOk (f x) P)
+    → IfOk (r >>= f) P
 then_ok Q P (Ok x) f q h = h x q
 then_ok Q P (Err e) f q h = tt
 
@@ -52,7 +57,8 @@ then_ok Q P (Err e) f q h = tt
 abbrev AllInside : List Window → ℕ → List Addr → Type 0
 AllInside memory size bases = AllByRecursion (λ base. inside memory base.0 size ≡ true) bases
 
-inside_each : (test : Bool) (P : Type 0) (fault : DescFault) (rest : Result (Unit {0}) DescFault) → (test ≡ true → IfOk rest (λ _. P)) → IfOk (cond test rest (Err fault)) (λ _. P)
+inside_each : (test : Bool) (P : Type 0) (fault : DescFault) (rest : Result (Unit {0}) DescFault) → (test ≡ true → IfOk rest (λ _. P))
+    → IfOk (cond test rest (Err fault)) (λ _. P)
 inside_each true P fault rest h = h refl
 inside_each false P fault rest h = tt
 
@@ -64,9 +70,11 @@ pending_tables : (memory : List Window) (size vcpu : ℕ) (bases : List Addr) �
 pending_tables memory size vcpu [] = tt
 pending_tables memory size vcpu (base ∷ bases) =
     inside_each (inside memory base.0 size) (AllInside memory size (base ∷ bases)) (Pending (record { 0 = vcpu })) (pending_inside memory size (vcpu + 1) bases)
-    (λ here. both_hold (inside memory base.0 size ≡ true) (AllInside memory size bases) (pending_inside memory size (vcpu + 1) bases) here (pending_tables memory size (vcpu + 1) bases))
+    (λ here. both_hold (inside memory base.0 size ≡ true) (AllInside memory size bases) (pending_inside memory size (vcpu + 1) bases) here
+    (pending_tables memory size (vcpu + 1) bases))
 
-then_same : (memory next : List Window) (r : Result (List Window) DescFault) → map extent next ≡ map extent memory → IfOk r (λ now. map extent now ≡ map extent next)
+then_same : (memory next : List Window) (r : Result (List Window) DescFault) → map extent next ≡ map extent memory
+    → IfOk r (λ now. map extent now ≡ map extent next)
     → IfOk r (λ now. map extent now ≡ map extent memory)
 then_same memory next (Ok now) e h = h ∙ e
 then_same memory next (Err fault) e h = tt
@@ -104,7 +112,8 @@ reset_sound dev_bits least most = record {
 }
 
 reset_translator : (s : Shape) → IsShape s → IsTranslator s (record { regs = reset s.dev_bits; maps = no_maps })
-reset_translator s h = translator_made s (reset s.dev_bits) no_maps (reset_sound s.dev_bits h.least_dev_bits h.most_dev_bits) refl (no_maps_sound s (reset s.dev_bits))
+reset_translator s h = translator_made s (reset s.dev_bits) no_maps (reset_sound s.dev_bits h.least_dev_bits h.most_dev_bits) refl
+    (no_maps_sound s (reset s.dev_bits))
 
 one_translator : (s : Shape) (t : Translator) → IsTranslator s t → (i : ℕ) (x : Translator) → slice_get (t ∷ []) i ≡ Some x → IsTranslator s x
 one_translator s t h zero x e = subst (IsTranslator s) (same_Some t x e) h
@@ -152,12 +161,17 @@ tables_are_inside s memory (Described config pending) =
     (pending_inside memory (pending_bytes s.lpi_bits) 0 pending) here (pending_tables memory (pending_bytes s.lpi_bits) 0 pending))
 tables_are_inside s memory (Registers values) = tt
 
-all_inside_now : (now before : List Window) (size : ℕ) (bases : List Addr) → map extent now ≡ map extent before → AllInside before size bases → AllInside now size bases
+all_inside_now : (now before : List Window) (size : ℕ) (bases : List Addr) → map extent now ≡ map extent before → AllInside before size bases
+    → AllInside now size bases
 all_inside_now now before size [] same h = tt
 all_inside_now now before size (base ∷ bases) same h = (inside-extents now before base.0 size same ∙ h.0, all_inside_now now before size bases same h.1)
 
 are_inside_now : (s : Shape) (now before : List Window) (t : LpiTables) → map extent now ≡ map extent before → AreInside s before t → AreInside s now t
-are_inside_now s now before (Described config pending) same h = (inside-extents now before config.0 (lpi_count s.lpi_bits) same ∙ h.0, all_inside_now now before (pending_bytes s.lpi_bits) pending same h.1)
+are_inside_now s now before (Described config pending) same h = (
+  inside-extents now before config.0 (lpi_count s.lpi_bits) same ∙ h.0,
+  all_inside_now now before
+      (pending_bytes s.lpi_bits) pending same h.1,
+)
 are_inside_now s now before (Registers values) same h = tt
 
 -- as many as virtual processors, and each sound
@@ -167,25 +181,37 @@ AreSound l memory rs = (length rs ≡ l.shape.vcpus) × ((v : ℕ) (r : Redistri
 abbrev layout_in : Shape → LpiTables → Layout
 layout_in s t = record { shape = s; gicr = are_programmed t; described = described_in t }
 
-described_sound : (s : Shape) (memory : List Window) (config : Addr) (pending : List Addr) (bytes : List ℕ) → AreInside s memory (Described config pending) → length pending ≡ s.vcpus
-    → length bytes ≡ lpi_count s.lpi_bits → AreSound (layout_in s (Described config pending)) memory (map (idle_redistributor bytes) (map (described_bases config) pending))
+described_sound : (s : Shape) (memory : List Window) (config : Addr) (pending : List Addr) (bytes : List ℕ) → AreInside s memory (Described config pending)
+    → length pending ≡ s.vcpus
+    → length bytes ≡ lpi_count s.lpi_bits → AreSound (layout_in s (Described config pending)) memory
+    (map (idle_redistributor bytes) (map (described_bases config) pending))
 described_sound s memory config pending bytes fit count size =
     let l : Layout = layout_in s (Described config pending) in (
       length-map l.described (idle_redistributor bytes) ∙ length-map pending (described_bases config) ∙ count,
       at_each_map (IsRedistributor l memory) (idle_redistributor bytes) l.described (λ v b is.
           let on_and_tables : (b.on ≡ true) × HasTables s memory b =
           at_each_map (λ _ x. (x.on ≡ true) × HasTables s memory x) (described_bases config) pending
-          (λ k base there. (refl, record { config = fit.0; pending = all_at (λ a. inside memory a.0 (pending_bytes s.lpi_bits) ≡ true) pending fit.1 k base there })) v b is in
+          (λ k base there. (
+            refl,
+            record {
+              config = fit.0;
+              pending = all_at (λ a. inside memory a.0 (pending_bytes s.lpi_bits) ≡ true) pending fit.1 k base
+                  there;
+            },
+          )) v b is in
           idle_sound l memory v bytes b refl is on_and_tables.0 size on_and_tables.1),
     )
 
-programmed_sound : (s : Shape) (memory : List Window) (values : GicrValues) → AreSound (layout_in s (Registers values)) memory (replicate s.vcpus (off_redistributor s no_bases))
+programmed_sound : (s : Shape) (memory : List Window) (values : GicrValues) → AreSound (layout_in s (Registers values)) memory
+    (replicate s.vcpus (off_redistributor s no_bases))
 programmed_sound s memory values = (
   length-replicate s.vcpus (off_redistributor s no_bases),
-  λ v r is. subst (IsRedistributor (layout_in s (Registers values)) memory v) (at_replicate s.vcpus (off_redistributor s no_bases) v r is) (off_sound (layout_in s (Registers values)) memory v refl),
+  λ v r is. subst (IsRedistributor (layout_in s (Registers values)) memory v) (at_replicate s.vcpus (off_redistributor s no_bases) v r is)
+      (off_sound (layout_in s (Registers values)) memory v refl),
 )
 
-first_sound : (s : Shape) (memory : List Window) (t : LpiTables) → AreInside s memory t → HasTablesFor s.vcpus t → IfOk (first_redistributors s memory t) (AreSound (layout_in s t) memory)
+first_sound : (s : Shape) (memory : List Window) (t : LpiTables) → AreInside s memory t → HasTablesFor s.vcpus t → IfOk (first_redistributors s memory t)
+    (AreSound (layout_in s t) memory)
 first_sound s memory (Described config pending) fit count =
     found (AreSound (layout_in s (Described config pending)) memory) (read_at memory config.0 (lpi_count s.lpi_bits)) Config _ (λ bytes read.
     described_sound s memory config pending bytes fit count (length-read_at memory config.0 (lpi_count s.lpi_bits) bytes read))
@@ -197,7 +223,8 @@ described_count : (s : Shape) (t : LpiTables) → HasTablesFor s.vcpus t → are
 described_count s (Described config pending) count fixed = length-map pending (described_bases config) ∙ count
 described_count s (Registers values) count fixed = absurd cc
 
-started_sound : (d : Desc) (memory : List Window) (rs : List Redistributor) → IsDescription d → are_windows (map extent memory) ≡ true → AreSound (layout_of d) memory rs → IsSound (started d memory rs)
+started_sound : (d : Desc) (memory : List Window) (rs : List Redistributor) → IsDescription d → are_windows (map extent memory) ≡ true
+    → AreSound (layout_of d) memory rs → IsSound (started d memory rs)
 started_sound d memory rs h windows sound = record {
   layout = record { shape = h.shape; described = described_count d.shape d.tables h.tables };
   translators = one_translator d.shape (record { regs = reset d.shape.dev_bits; maps = no_maps }) (reset_translator d.shape h.shape);
@@ -214,7 +241,8 @@ made_sound d h =
     passed IsSound (are_windows windows) Windows _ (λ good.
     then_ok (λ _. AreInside d.shape empty d.tables) IsSound (tables_inside d.shape empty d.tables) _ (tables_are_inside d.shape empty d.tables) (λ _ tables.
     then_ok (λ now. map extent now ≡ map extent empty) IsSound (filled empty 0 d.fills) _ (same_windows empty 0 d.fills) (λ memory same.
-    then_ok (AreSound (layout_of d) memory) IsSound (first_redistributors d.shape memory d.tables) _ (first_sound d.shape memory d.tables (are_inside_now d.shape memory empty d.tables same tables) h.tables) (λ rs sound.
+    then_ok (AreSound (layout_of d) memory) IsSound (first_redistributors d.shape memory d.tables) _
+    (first_sound d.shape memory d.tables (are_inside_now d.shape memory empty d.tables same tables) h.tables) (λ rs sound.
     started_sound d memory rs h (ap are_windows (same ∙ extents_of_zeros windows) ∙ good) sound))))
 
 pub start_sound : MachinesStartSound

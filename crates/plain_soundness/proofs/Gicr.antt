@@ -49,7 +49,8 @@ set_while_off b off size value =
     (either P (off == 0x70) _ _ (set _ refl) (either P (off == 0x78) _ _ (set _ refl) (either P (off == 0xA0) _ _ tt (either P (off == 0xB0) _ _ tt tt))))
     (either P (size == 4) _ _
     (either P (off == 0x0) _ _ (either P (bit_of (low_half value) 0 && not b.on) writes.Enable writes.Ignored tt tt)
-    (either P (off == 0x70) _ _ (set _ refl) (either P (off == 0x74) _ _ (set _ refl) (either P (off == 0x78) _ _ (set _ refl) (either P (off == 0x7C) _ _ (set _ refl)
+    (either P (off == 0x70) _ _ (set _ refl)
+    (either P (off == 0x74) _ _ (set _ refl) (either P (off == 0x78) _ _ (set _ refl) (either P (off == 0x7C) _ _ (set _ refl)
     (either P (off == 0xA0) _ _ tt (either P (off == 0xB0 || off == 0xB4) _ _ tt tt)))))))
     tt)
 
@@ -76,7 +77,8 @@ pending_in_set : (lpi_bits : ℕ) (memory : List Window) (base : ℕ) → 14 ≤
 unfolding pending_in
 pending_in_set lpi_bits memory base low = record {
   rising = IsStrictlyIncreasing-filter (is_set memory base) (range_with_len 8192 (lpi_count lpi_bits)) (range_rising 8192 (lpi_count lpi_bits));
-  all = all_filter (λ x. is_lpi lpi_bits x ≡ true) (is_set memory base) (range_with_len 8192 (lpi_count lpi_bits)) (all_range (λ x. is_lpi lpi_bits x ≡ true) 8192 (lpi_count lpi_bits) (λ x least most. in_range lpi_bits x low least most));
+  all = all_filter (λ x. is_lpi lpi_bits x ≡ true) (is_set memory base) (range_with_len 8192 (lpi_count lpi_bits))
+      (all_range (λ x. is_lpi lpi_bits x ≡ true) 8192 (lpi_count lpi_bits) (λ x least most. in_range lpi_bits x low least most));
 }
 
 -- ---- a redistributor after a write
@@ -102,44 +104,60 @@ module _ (l : Layout) (memory : List Window) (v : ℕ) (programmed : l.gicr ≡ 
       cond_both r.bases.pend.ptz r.pending (pending_in l.shape.lpi_bits memory r.bases.pend.table.0) (IsSet (λ x. is_lpi l.shape.lpi_bits x ≡ true))
       (λ _. record { rising = h.rising; all = h.lpis }) (λ _. pending_in_set l.shape.lpi_bits memory r.bases.pend.table.0 low)
 
-  turned : (r : Redistributor) → has_tables l.shape memory r.bases ≡ true → IsRedistributor l memory v r → IsRedistributor l memory v (turned_on l.shape memory r)
+  turned : (r : Redistributor) → has_tables l.shape memory r.bases ≡ true → IsRedistributor l memory v r
+      → IsRedistributor l memory v (turned_on l.shape memory r)
   unfolding turned_on
   turned r have h =
       let set = pending_read r h in
-      let tables = and_parts (inside memory r.bases.prop.table.0 (lpi_count l.shape.lpi_bits)) (inside memory r.bases.pend.table.0 (pending_bytes l.shape.lpi_bits)) have in
+      let tables = and_parts (inside memory r.bases.prop.table.0 (lpi_count l.shape.lpi_bits))
+      (inside memory r.bases.pend.table.0 (pending_bytes l.shape.lpi_bits)) have in
       let bits = h.kept programmed in record {
         rising = set.rising;
         lpis = set.all;
-        config = config_read r.config (lpi_count l.shape.lpi_bits) (read_at memory r.bases.prop.table.0 (lpi_count l.shape.lpi_bits)) h.config (length-read_at memory r.bases.prop.table.0 (lpi_count l.shape.lpi_bits));
+        config = config_read r.config (lpi_count l.shape.lpi_bits) (read_at memory r.bases.prop.table.0 (lpi_count l.shape.lpi_bits)) h.config
+            (length-read_at memory r.bases.prop.table.0 (lpi_count l.shape.lpi_bits));
         tables = λ _. record { config = tables.0; pending = tables.1 };
         off_pending = λ off. absurd cc;
         off_config = λ off. absurd cc;
-        kept = λ _. record { prop_whole = bits.prop_whole; prop_low = bits.prop_low; id_bits = bits.id_bits; pend_whole = bits.pend_whole; pend_low = bits.pend_low };
+        kept = λ _. record {
+          prop_whole = bits.prop_whole;
+          prop_low = bits.prop_low;
+          id_bits = bits.id_bits;
+          pend_whole = bits.pend_whole;
+          pend_low = bits.pend_low;
+        };
         described = λ fixed. absurd (both_ways l.gicr fixed programmed);
         always_on = λ _. refl;
       }
 
-  done : (r : Redistributor) (w : GicrWrite) → Sets (IsOff r.bases) w → Sets AreKept w → IsRedistributor l memory v r → IsRedistributor l memory v (done_by l.shape memory w r)
+  done : (r : Redistributor) (w : GicrWrite) → Sets (IsOff r.bases) w → Sets AreKept w → IsRedistributor l memory v r
+      → IsRedistributor l memory v (done_by l.shape memory w r)
   unfolding done_by
   done r writes.Ignored off bits h = h
   done r (writes.SetBases b) off bits h = bases_set r b off bits h
-  done r writes.Enable off bits h = cond_both (has_tables l.shape memory r.bases) (turned_on l.shape memory r) r (IsRedistributor l memory v) (λ have. turned r have h) (λ _. h)
+  done r writes.Enable off bits h = cond_both (has_tables l.shape memory r.bases) (turned_on l.shape memory r) r (IsRedistributor l memory v)
+      (λ have. turned r have h) (λ _. h)
   done r (writes.Reread intid) off bits h =
-      cond_both (is_lpi l.shape.lpi_bits intid.0) (reread_at memory intid.0 r) r (IsRedistributor l memory v) (λ _. reread_at_sound l memory v r intid.0 h) (λ _. h)
+      cond_both (is_lpi l.shape.lpi_bits intid.0) (reread_at memory intid.0 r) r (IsRedistributor l memory v) (λ _. reread_at_sound l memory v r intid.0 h)
+      (λ _. h)
   done r writes.RereadAll off bits h = reloaded_sound l memory v r h
 
-  written_sound : (r : Redistributor) (off size value : ℕ) → IsRedistributor l memory v r → IsRedistributor l memory v (written_gicr l.shape memory r off size value)
+  written_sound : (r : Redistributor) (off size value : ℕ) → IsRedistributor l memory v r
+      → IsRedistributor l memory v (written_gicr l.shape memory r off size value)
   unfolding written_gicr
-  written_sound r off size value h = done r (asked_by r.bases off size value) (set_while_off r.bases off size value) (kept r.bases off size value (h.kept programmed)) h
+  written_sound r off size value h = done r (asked_by r.bases off size value) (set_while_off r.bases off size value)
+      (kept r.bases off size value (h.kept programmed)) h
 
 -- ---- the call
 
 pub gicr_write_keeps : GicrWriteKeepsSound
 unfolding left
 gicr_write_keeps u vcpu off size value h =
-    cond_both u.layout.gicr (with_redistributor u vcpu.0 (written_gicr u.layout.shape u.memory (redistributor u vcpu.0) off size value)) u IsSound (λ programmed.
+    cond_both u.layout.gicr (with_redistributor u vcpu.0 (written_gicr u.layout.shape u.memory (redistributor u vcpu.0) off size value)) u IsSound
+    (λ programmed.
     redistributor_replaced u vcpu.0 (written_gicr u.layout.shape u.memory (redistributor u vcpu.0) off size value) h (λ within.
-    written_sound u.layout u.memory vcpu.0 programmed h.layout.shape.least_lpi_bits (redistributor u vcpu.0) off size value (redistributor_sound u vcpu.0 h within)))
+    written_sound u.layout u.memory vcpu.0 programmed h.layout.shape.least_lpi_bits (redistributor u vcpu.0) off size value
+    (redistributor_sound u vcpu.0 h within)))
     (λ _. h)
 
 pub gicr_read_keeps : GicrReadKeepsSound

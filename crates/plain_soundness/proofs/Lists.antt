@@ -1,5 +1,6 @@
 -- Lists: an element that is replaced, all elements changed, and lists of numbers that rise.
-use Rattle.std.proofs.Common.{◌≡◌, ℕ, zero, suc, ◌+◌, ◌<◌, ◌≤◌, Bool, true, cond, not, eqb, ltb, List, [], ◌∷◌, length, map, get_or, set, filter, Some, AllPairs, inl, inr, refl, subst, arith}
+use Rattle.std.proofs.Common.{◌≡◌, ℕ, zero, suc, ◌+◌, ◌<◌, ◌≤◌, Bool, true, cond, not, eqb, ltb, List, [], ◌∷◌, length, map, get_or, set, filter, Some}
+use Rattle.std.proofs.Common.{AllPairs, inl, inr, refl, subst, arith}
 use Rattle.std.specs.Prelude.{slice_get}
 use Rattle.std.specs.List.{AllByRecursion, list_any}
 use Rattle.std.specs.List.Sorted.{IsStrictlyIncreasing}
@@ -58,8 +59,11 @@ Rises (x ∷ xs) = AllByRecursion (λ y. x < y) xs × Rises xs
 
 rises_from_pairs : (xs : List ℕ) → AllPairs (λ x y. x < y) xs → Rises xs
 rises_from_pairs [] h = tt
-rises_from_pairs (x ∷ xs) h =
-    (recursion_from_All (λ y. x < y) xs (λ k d lt. h 0 (suc k) d (omega arith) (omega (arith, lt))), rises_from_pairs xs (λ i j d lt in_list. h (suc i) (suc j) d (omega (arith, lt)) (omega (arith, in_list))))
+rises_from_pairs (x ∷ xs) h = (
+  recursion_from_All (λ y. x < y) xs (λ k d lt. h 0 (suc k) d (omega arith) (omega (arith, lt))),
+  rises_from_pairs xs
+      (λ i j d lt in_list. h (suc i) (suc j) d (omega (arith, lt)) (omega (arith, in_list))),
+)
 
 pairs_from_rises : (xs : List ℕ) → Rises xs → AllPairs (λ x y. x < y) xs
 pairs_from_rises [] h = λ i j d lt in_list. absurd (omega (arith, in_list))

@@ -8,7 +8,8 @@ use Rattle.std.proofs.lemmas.Option.{none-some}
 use Rattle.its_types.specs.Ranges.{is_device_id}
 use Rattle.gits_regs.specs.Registers as regs
 use Rattle.gits_regs.specs.Registers.{Registers, is_valid, is_indirect, collection_places, pages}
-use Rattle.its_types.specs.Maps.{Maps, pair_cmp, is_pair, no_maps, device_of, event_of, collection_of, device_mapped, device_unmapped, event_mapped, event_unmapped, collection_mapped, collection_unmapped, devices_emptied, collections_emptied}
+use Rattle.its_types.specs.Maps.{Maps, pair_cmp, is_pair, no_maps, device_of, event_of, collection_of, device_mapped, device_unmapped, event_mapped}
+use Rattle.its_types.specs.Maps.{event_unmapped, collection_mapped, collection_unmapped, devices_emptied, collections_emptied}
 use Rattle.its_types.specs.declared.ids.Vcpu.{Vcpu}
 use Rattle.its_types.specs.declared.machine.Shape.{Shape}
 use Rattle.its_types.specs.declared.translation.Device.{Device}
@@ -39,7 +40,8 @@ pub record AreMaps (s : Shape) (r : Registers) (m : Maps) : Type 0 where
 pub maps_sound : (s : Shape) (t : Translator) → IsTranslator s t → AreMaps s t.regs t.maps
 maps_sound s t h = record { devices = h.devices; events = h.events; collections = h.collections }
 
-pub translator_made : (s : Shape) (r : Registers) (m : Maps) → regs.IsSound r → r.dev_bits ≡ s.dev_bits → AreMaps s r m → IsTranslator s (record { regs = r; maps = m })
+pub translator_made : (s : Shape) (r : Registers) (m : Maps) → regs.IsSound r → r.dev_bits ≡ s.dev_bits → AreMaps s r m
+    → IsTranslator s (record { regs = r; maps = m })
 translator_made s r m sound bits maps = record { regs = sound; dev_bits = bits; devices = maps.devices; events = maps.events; collections = maps.collections }
 
 -- ---- the registers change
@@ -96,7 +98,8 @@ event_in : (s : Shape) (m n : Maps) (dev ev : ℕ) (e : Event) → device_of n d
 event_in s m n dev ev e same h = record { device = h.device; device_is = same ∙ h.device_is; in_bits = h.in_bits; lpi = h.lpi; icid = h.icid }
 
 -- a new collection table: the devices and their events stay
-pub no_collections : (s : Shape) (r q : Registers) (m : Maps) → q.dev_bits ≡ r.dev_bits → q.baser0 ≡ r.baser0 → AreMaps s r m → AreMaps s q (collections_emptied m)
+pub no_collections : (s : Shape) (r q : Registers) (m : Maps) → q.dev_bits ≡ r.dev_bits → q.baser0 ≡ r.baser0 → AreMaps s r m
+    → AreMaps s q (collections_emptied m)
 no_collections s r q m bits base h = record {
   devices = λ dev d e. device_kept r q dev d bits base (h.devices dev d e);
   events = λ dev ev x e. event_in s m (collections_emptied m) dev ev x refl (h.events dev ev x e);
@@ -109,7 +112,8 @@ no_collections s r q m bits base h = record {
 other_device : (dev d : ℕ) → not (eqb d dev) ≡ true → d ≡ dev → ⊥
 other_device dev d e = eqb-false d dev (not-true (eqb d dev) e)
 
-pub device_added : (s : Shape) (r : Registers) (m : Maps) (dev : ℕ) (device : Device) → IsDevice r dev device → AreMaps s r m → AreMaps s r (device_mapped m dev device)
+pub device_added : (s : Shape) (r : Registers) (m : Maps) (dev : ℕ) (device : Device) → IsDevice r dev device → AreMaps s r m
+    → AreMaps s r (device_mapped m dev device)
 device_added s r m dev device fits h = record {
   devices = λ d x e. elim (inserted nat_cmp nat_cmp_total nat_cmp-IsAntisymmetric m.devices dev device d x e) [
     | new same is ↦ subst (IsDevice r d) is (subst (λ n. IsDevice r n device) (sym same) fits)
@@ -117,7 +121,8 @@ device_added s r m dev device fits h = record {
   ];
   events = λ d ev x e.
       let left = retained pair_cmp pair_total pair_same m.events (λ k. not (eqb k.0 dev)) (d, ev) x e in
-      event_in s m (device_mapped m dev device) d ev x (not_inserted nat_cmp nat_cmp_total nat_cmp-IsAntisymmetric m.devices dev device d (other_device dev d left.0)) (h.events d ev x left.1);
+      event_in s m (device_mapped m dev device) d ev x (not_inserted nat_cmp nat_cmp_total nat_cmp-IsAntisymmetric m.devices dev device d
+      (other_device dev d left.0)) (h.events d ev x left.1);
   collections = h.collections;
 }
 
@@ -126,13 +131,15 @@ device_removed s r m dev h = record {
   devices = λ d x e. h.devices d x (retained nat_cmp nat_cmp_total nat_cmp-IsAntisymmetric m.devices (λ k. not (eqb k dev)) d x e).1;
   events = λ d ev x e.
       let left = retained pair_cmp pair_total pair_same m.events (λ k. not (eqb k.0 dev)) (d, ev) x e in
-      event_in s m (device_unmapped m dev) d ev x (still_there nat_cmp nat_cmp_total nat_cmp-IsAntisymmetric m.devices (λ k. not (eqb k dev)) d left.0) (h.events d ev x left.1);
+      event_in s m (device_unmapped m dev) d ev x (still_there nat_cmp nat_cmp_total nat_cmp-IsAntisymmetric m.devices (λ k. not (eqb k dev)) d left.0)
+      (h.events d ev x left.1);
   collections = h.collections;
 }
 
 -- ---- events
 
-pub event_added : (s : Shape) (r : Registers) (m : Maps) (dev ev : ℕ) (event : Event) → IsEvent s m dev ev event → AreMaps s r m → AreMaps s r (event_mapped m dev ev event)
+pub event_added : (s : Shape) (r : Registers) (m : Maps) (dev ev : ℕ) (event : Event) → IsEvent s m dev ev event → AreMaps s r m
+    → AreMaps s r (event_mapped m dev ev event)
 event_added s r m dev ev event fits h = record {
   devices = h.devices;
   events = λ d v x e. elim (inserted pair_cmp pair_total pair_same m.events (dev, ev) event (d, v) x e) [
@@ -147,13 +154,15 @@ event_added s r m dev ev event fits h = record {
 pub event_removed : (s : Shape) (r : Registers) (m : Maps) (dev ev : ℕ) → AreMaps s r m → AreMaps s r (event_unmapped m dev ev)
 event_removed s r m dev ev h = record {
   devices = h.devices;
-  events = λ d v x e. event_in s m (event_unmapped m dev ev) d v x refl (h.events d v x (retained pair_cmp pair_total pair_same m.events (λ k. not (is_pair dev ev k)) (d, v) x e).1);
+  events = λ d v x e. event_in s m (event_unmapped m dev ev) d v x refl
+      (h.events d v x (retained pair_cmp pair_total pair_same m.events (λ k. not (is_pair dev ev k)) (d, v) x e).1);
   collections = h.collections;
 }
 
 -- ---- collections
 
-pub collection_added : (s : Shape) (r : Registers) (m : Maps) (icid : ℕ) (vcpu : Vcpu) → IsCollection s r icid vcpu → AreMaps s r m → AreMaps s r (collection_mapped m icid vcpu)
+pub collection_added : (s : Shape) (r : Registers) (m : Maps) (icid : ℕ) (vcpu : Vcpu) → IsCollection s r icid vcpu → AreMaps s r m
+    → AreMaps s r (collection_mapped m icid vcpu)
 collection_added s r m icid vcpu fits h = record {
   devices = h.devices;
   events = λ d v x e. event_in s m (collection_mapped m icid vcpu) d v x refl (h.events d v x e);

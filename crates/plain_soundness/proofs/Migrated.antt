@@ -19,7 +19,8 @@ use Rattle.plain_soundness.proofs.States.{memory_replaced, redistributors_mapped
 
 -- ---- a save leaves the windows where they are
 
-maybe_written : (memory : List Window) (o : Option (List Window)) → ((now : List Window) → o ≡ Some now → map extent now ≡ map extent memory) → map extent (unwrap_or o memory) ≡ map extent memory
+maybe_written : (memory : List Window) (o : Option (List Window)) → ((now : List Window) → o ≡ Some now → map extent now ≡ map extent memory)
+    → map extent (unwrap_or o memory) ≡ map extent memory
 maybe_written memory None same = refl
 maybe_written memory (Some now) same = same now refl
 
@@ -36,11 +37,13 @@ tables_kept memory (t ∷ ts) = tables_kept (put_words memory t.base t.word t.co
 
 -- ---- configurations
 
-pub config_read : (old : List ℕ) (n : ℕ) (o : Option (List ℕ)) → length old ≡ n → ((bytes : List ℕ) → o ≡ Some bytes → length bytes ≡ n) → length (unwrap_or o old) ≡ n
+pub config_read : (old : List ℕ) (n : ℕ) (o : Option (List ℕ)) → length old ≡ n → ((bytes : List ℕ) → o ≡ Some bytes → length bytes ≡ n)
+    → length (unwrap_or o old) ≡ n
 config_read old n None before now = before
 config_read old n (Some bytes) before now = now bytes refl
 
-pub reloaded_sound : (l : Layout) (memory : List Window) (v : ℕ) (r : Redistributor) → IsRedistributor l memory v r → IsRedistributor l memory v (reloaded l.shape memory r)
+pub reloaded_sound : (l : Layout) (memory : List Window) (v : ℕ) (r : Redistributor) → IsRedistributor l memory v r
+    → IsRedistributor l memory v (reloaded l.shape memory r)
 reloaded_sound l memory v r h =
     let n : ℕ = lpi_count l.shape.lpi_bits in
     let read : Option (List ℕ) = read_at memory r.bases.prop.table.0 n in
@@ -70,4 +73,5 @@ pub migrations_keep : MigrationsKeepSound
 unfolding moved
 migrations_keep u h =
     let stored : Plain = record u { memory = saved u } in
-    redistributors_mapped stored (reloaded u.layout.shape (saved u)) (reloaded_sound u.layout (saved u)) (memory_replaced u (saved u) (tables_kept u.memory (words_of u)) h)
+    redistributors_mapped stored (reloaded u.layout.shape (saved u)) (reloaded_sound u.layout (saved u))
+    (memory_replaced u (saved u) (tables_kept u.memory (words_of u)) h)

@@ -10,17 +10,20 @@ use Rattle.plain_soundness.proofs.States.{IsLpi, pending_set, none_pending, pend
 
 pub set_sound : (u : Plain) (intid v : ℕ) → IsSound u → IsLpi u intid → is_on u v ≡ true → IsSound (lpi_set intid v u)
 set_sound u intid v h lpi on =
-    pending_replaced u v (with_lpi intid (pending_of u v)) h (set_with (IsLpi u) intid (pending_of u v) lpi (pending_set u v h)) (λ off. absurd (both_ways (is_on u v) off on))
+    pending_replaced u v (with_lpi intid (pending_of u v)) h (set_with (IsLpi u) intid (pending_of u v) lpi (pending_set u v h))
+    (λ off. absurd (both_ways (is_on u v) off on))
 
 pub cleared_sound : (u : Plain) (intid v : ℕ) → IsSound u → IsSound (lpi_cleared intid v u)
 cleared_sound u intid v h =
-    pending_replaced u v (without_lpi intid (pending_of u v)) h (set_without (IsLpi u) intid (pending_of u v) (pending_set u v h)) (λ off. ap (without_lpi intid) (none_pending u v h off))
+    pending_replaced u v (without_lpi intid (pending_of u v)) h (set_without (IsLpi u) intid (pending_of u v) (pending_set u v h))
+    (λ off. ap (without_lpi intid) (none_pending u v h off))
 
 abbrev cleared : ℕ → ℕ → Plain → List ℕ
 cleared intid from u = without_lpi intid (pending_of u from)
 
 -- an LPI that is pending is one of the machine's
-moved_lpi_sound : (u : Plain) (intid from to : ℕ) → IsSound u → is_on u to ≡ true → is_pending intid (pending_of u from) ≡ true → IsSound (lpi_set intid to (lpi_cleared intid from u))
+moved_lpi_sound : (u : Plain) (intid from to : ℕ) → IsSound u → is_on u to ≡ true → is_pending intid (pending_of u from) ≡ true
+    → IsSound (lpi_set intid to (lpi_cleared intid from u))
 moved_lpi_sound u intid from to h on pending =
     let lpi : IsLpi u intid = set_has (IsLpi u) intid (pending_of u from) (pending_set u from h).all pending in
     set_sound (lpi_cleared intid from u) intid to (cleared_sound u intid from h) lpi (same_on u from to (cleared intid from u) ∙ on)
@@ -46,12 +49,17 @@ moved_followed u v intid from to h on =
     let once : Plain = lpi_cleared intid from v in
     let still : is_on once to ≡ true = same_on v from to (cleared intid from v) ∙ on in
     cond_both (is_pending intid (pending_of v from)) (lpi_set intid to once) v (IsFollowedTo u to)
-    (λ pending. (record { sound = moved_lpi_sound v intid from to h.sound on pending; translators = h.translators; layout = h.layout }, same_on once to to (with_lpi intid (pending_of once to)) ∙ still))
+    (λ pending. (
+      record { sound = moved_lpi_sound v intid from to h.sound on pending; translators = h.translators; layout = h.layout },
+      same_on once to to
+          (with_lpi intid (pending_of once to)) ∙ still,
+    ))
     (λ _. (h, on))
 
 pub all_followed : (u v : Plain) (intids : List ℕ) (from to : ℕ) → IsFollowed u v → is_on v to ≡ true → IsFollowed u (lpis_moved intids from to v)
 all_followed u v [] from to h on = h
-all_followed u v (intid ∷ intids) from to h on = let next = moved_followed u v intid from to h on in all_followed u (lpi_moved intid from to v) intids from to next.0 next.1
+all_followed u v (intid ∷ intids) from to h on = let next = moved_followed u v intid from to h on in all_followed u (lpi_moved intid from to v) intids from to
+    next.0 next.1
 
 pub all_moved_sound : (u : Plain) (from to : ℕ) → IsSound u → is_on u to ≡ true → IsSound (all_moved from to u)
 unfolding all_moved

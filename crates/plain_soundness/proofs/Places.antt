@@ -1,5 +1,6 @@
 -- What a device's place and a command's fields say.
-use Rattle.std.proofs.Common.{◌≡◌, ℕ, ◌+◌, ◌*◌, ◌/◌, ◌^◌, ◌<◌, ◌≤◌, min, Bool, true, false, cond, is_some, nat_lt, List, Option, Some, None, refl, sym, ap, subst, ◌∙◌, arith, pow_pos}
+use Rattle.std.proofs.Common.{◌≡◌, ℕ, ◌+◌, ◌*◌, ◌/◌, ◌^◌, ◌<◌, ◌≤◌, min, Bool, true, false, cond, is_some, nat_lt, List, Option, Some, None, refl, sym, ap}
+use Rattle.std.proofs.Common.{subst, ◌∙◌, arith, pow_pos}
 use Rattle.std.proofs.lemmas.Nat.{mod_below}
 use Rattle.std.proofs.lemmas.Bool.{ltb-true, cond-false}
 use Rattle.guest_windows.specs.Windows.{Window}
@@ -7,7 +8,8 @@ use Rattle.gits_regs.specs.Registers.{Registers, is_valid, is_indirect, collecti
 use Rattle.baser_place.specs.Places.{device_place, flat_place, flat_places, paged_place, ensure, ◌>>=◌}
 use Rattle.its_types.specs.Bits.{field}
 use Rattle.its_types.specs.Ranges.{is_device_id}
-use Rattle.its_command.specs.Commands.{decoded, IsCommand, IsWithinBits, IsEventIdBits, IsIttAddr, doubleword, dw, device_of, event_of, intid_of, icid_of, target_of, second_target_of, opcode_of, event_id_bits_of, itt_of}
+use Rattle.its_command.specs.Commands.{decoded, IsCommand, IsWithinBits, IsEventIdBits, IsIttAddr, doubleword, dw, device_of, event_of, intid_of, icid_of}
+use Rattle.its_command.specs.Commands.{target_of, second_target_of, opcode_of, event_id_bits_of, itt_of}
 use Rattle.its_command.proofs.Meaning.{is_decoded}
 use Rattle.its_command.specs.declared.command.Command.{Command}
 use Rattle.its_command.specs.declared.command.Command.TheVariants.{Movi, Int, Clear, Sync, Mapd, Mapc, Mapti, Mapi, Inv, Invall, Movall, Discard, Unknown}

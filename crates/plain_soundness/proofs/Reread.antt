@@ -16,7 +16,8 @@ with_read intid r (Some byte) = record r { config = with_config_byte r.config in
 
 module _ (l : Layout) (memory : List Window) (v : ℕ) where
   -- another byte, where LPIs are on
-  byte_replaced : (r : Redistributor) (intid byte : ℕ) → r.bases.on ≡ true → IsRedistributor l memory v r → IsRedistributor l memory v (record r { config = with_config_byte r.config intid byte })
+  byte_replaced : (r : Redistributor) (intid byte : ℕ) → r.bases.on ≡ true → IsRedistributor l memory v r
+      → IsRedistributor l memory v (record r { config = with_config_byte r.config intid byte })
   byte_replaced r intid byte on h = record {
     rising = h.rising;
     lpis = h.lpis;
@@ -29,7 +30,8 @@ module _ (l : Layout) (memory : List Window) (v : ℕ) where
     always_on = h.always_on;
   }
 
-  read_sound : (r : Redistributor) (intid : ℕ) (read : Option ℕ) → r.bases.on ≡ true → IsRedistributor l memory v r → IsRedistributor l memory v (with_read intid r read)
+  read_sound : (r : Redistributor) (intid : ℕ) (read : Option ℕ) → r.bases.on ≡ true → IsRedistributor l memory v r
+      → IsRedistributor l memory v (with_read intid r read)
   read_sound r intid None on h = h
   read_sound r intid (Some byte) on h = byte_replaced r intid byte on h
 

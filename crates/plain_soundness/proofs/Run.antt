@@ -1,11 +1,13 @@
 -- What each command keeps.
-use Rattle.std.proofs.Common.{◌≡◌, ℕ, ◌^◌, Bool, true, false, ◌&&◌, is_some, nat_lt, nat_le, eqb, List, [], ◌∷◌, Option, Some, None, Result, Ok, Err, IfOk, refl, sym, subst}
+use Rattle.std.proofs.Common.{◌≡◌, ℕ, ◌^◌, Bool, true, false, ◌&&◌, is_some, nat_lt, nat_le, eqb, List, [], ◌∷◌, Option, Some, None, Result, Ok, Err, IfOk}
+use Rattle.std.proofs.Common.{refl, sym, subst}
 use Rattle.std.specs.Prelude.{ok_or, slice_index_or}
 use Rattle.std.proofs.lemmas.Bool.{and_parts, cond_both, ltb-true, leb-true}
 use Rattle.gits_regs.specs.Registers.{Registers, is_valid, collection_places}
 use Rattle.baser_place.specs.Places.{device_place}
 use Rattle.its_types.specs.Ranges.{is_device_id, is_lpi}
-use Rattle.its_types.specs.Maps.{Maps, device_of, event_of, collection_of, device_mapped, device_unmapped, event_mapped, event_unmapped, collection_mapped, collection_unmapped}
+use Rattle.its_types.specs.Maps.{Maps, device_of, event_of, collection_of, device_mapped, device_unmapped, event_mapped, event_unmapped, collection_mapped}
+use Rattle.its_types.specs.Maps.{collection_unmapped}
 use Rattle.its_types.specs.declared.ids.Intid.{Intid}
 use Rattle.its_types.specs.declared.ids.Vcpu.{Vcpu}
 use Rattle.its_types.specs.declared.machine.Profile.{Profile}
@@ -16,10 +18,13 @@ use Rattle.its_command.specs.declared.command.Command.TheVariants as command
 use Rattle.its_plain.specs.Plain.{Plain, Translator, no_translator, regs_of, maps_of, is_on, with_maps}
 use Rattle.its_plain.specs.declared.layout.Layout.{Layout}
 use Rattle.its_plain.specs.Sound.{IsSound, IsCollection}
-use Rattle.its_plain.specs.Commands.{ensure, ◌>>=◌, event_at, lpi_at, cleared_at, followed, followed_in, intids_of, lpis_moved, reread, ran, mapd, unmapd, mapc, mapti, movi, discard, int, clear, inv, invall, movall}
+use Rattle.its_plain.specs.Commands.{ensure, ◌>>=◌, event_at, lpi_at, cleared_at, followed, followed_in, intids_of, lpis_moved, reread, ran, mapd, unmapd}
+use Rattle.its_plain.specs.Commands.{mapc, mapti, movi, discard, int, clear, inv, invall, movall}
 use Rattle.its_plain.specs.declared.call.Reason.{Reason}
-use Rattle.its_plain.specs.declared.call.Reason.TheVariants.{DeviceRange, SizeRange, TargetRange, CollectionRange, NoDevice, EventRange, IntidRange, NoEvent, NoCollection, LpisOff}
-use Rattle.plain_soundness.specs.Laws.{MapdKeepsSound, UnmapdKeepsSound, MapcKeepsSound, UnmapcKeepsSound, MaptiKeepsSound, MoviKeepsSound, DiscardKeepsSound, IntKeepsSound, ClearKeepsSound, InvKeepsSound, InvallKeepsSound, MovallKeepsSound, CommandsKeepSound}
+use Rattle.its_plain.specs.declared.call.Reason.TheVariants.{DeviceRange, SizeRange, TargetRange, CollectionRange, NoDevice, EventRange, IntidRange, NoEvent}
+use Rattle.its_plain.specs.declared.call.Reason.TheVariants.{NoCollection, LpisOff}
+use Rattle.plain_soundness.specs.Laws.{MapdKeepsSound, UnmapdKeepsSound, MapcKeepsSound, UnmapcKeepsSound, MaptiKeepsSound, MoviKeepsSound, DiscardKeepsSound}
+use Rattle.plain_soundness.specs.Laws.{IntKeepsSound, ClearKeepsSound, InvKeepsSound, InvallKeepsSound, MovallKeepsSound, CommandsKeepSound}
 use Rattle.plain_soundness.proofs.Mapped.{AreMaps, device_added, device_removed, event_added, event_removed, collection_added, collection_removed}
 use Rattle.plain_soundness.proofs.States.{IsLpi, translator_sound, enabled_within, are_maps, maps_replaced}
 use Rattle.plain_soundness.proofs.Pending.{set_sound, cleared_sound, moved_sound, all_moved_sound, IsFollowed, followed_itself, all_followed}
@@ -29,16 +34,19 @@ use Rattle.plain_soundness.proofs.Reread.{reread_sound}
 -- ---- a command's steps
 
 -- behind a test that holds
-passed : {B : Type 0} (P : B → Type 0) (test : Bool) (reason : Reason) (f : Unit {0} → Result B Reason) → (test ≡ true → IfOk (f tt) P) → IfOk (ensure test reason >>= f) P
+passed : {B : Type 0} (P : B → Type 0) (test : Bool) (reason : Reason) (f : Unit {0} → Result B Reason) → (test ≡ true → IfOk (f tt) P)
+    → IfOk (ensure test reason >>= f) P
 passed P true reason f h = h refl
 passed P false reason f h = tt
 
 -- with a value that was found
-found : {A B : Type 0} (P : B → Type 0) (o : Option A) (reason : Reason) (f : A → Result B Reason) → ((x : A) → o ≡ Some x → IfOk (f x) P) → IfOk (ok_or o reason >>= f) P
+found : {A B : Type 0} (P : B → Type 0) (o : Option A) (reason : Reason) (f : A → Result B Reason) → ((x : A) → o ≡ Some x → IfOk (f x) P)
+    → IfOk (ok_or o reason >>= f) P
 found P None reason f h = tt
 found P (Some x) reason f h = h x refl
 
-then_ok : {A B : Type 0} (Q : A → Type 0) (P : B → Type 0) (r : Result A Reason) (f : A → Result B Reason) → IfOk r Q → ((x : A) → Q x → IfOk (f x) P) → IfOk (r >>= f) P
+then_ok : {A B : Type 0} (Q : A → Type 0) (P : B → Type 0) (r : Result A Reason) (f : A → Result B Reason) → IfOk r Q → ((x : A) → Q x → IfOk (f x) P)
+    → IfOk (r >>= f) P
 then_ok Q P (Ok x) f q h = h x q
 then_ok Q P (Err e) f q h = tt
 
@@ -53,7 +61,8 @@ event_found m dev ev =
     found P (device_of m dev) NoDevice _ (λ device _. passed P (nat_lt ev (2 ^ device.bits)) EventRange _ (λ _. is_found (event_of m dev ev) NoEvent))
 
 -- what follows where an event is found
-with_found : {B : Type 0} (P : B → Type 0) (m : Maps) (dev ev : ℕ) (f : Event → Result B Reason) → ((event : Event) → event_of m dev ev ≡ Some event → IfOk (f event) P) → IfOk (event_at m dev ev >>= f) P
+with_found : {B : Type 0} (P : B → Type 0) (m : Maps) (dev ev : ℕ) (f : Event → Result B Reason)
+    → ((event : Event) → event_of m dev ev ≡ Some event → IfOk (f event) P) → IfOk (event_at m dev ev >>= f) P
 with_found P m dev ev f h = then_ok (λ event. event_of m dev ev ≡ Some event) P (event_at m dev ev) f (event_found m dev ev) h
 
 -- ---- devices
@@ -103,7 +112,8 @@ has_table u i on h =
     (and_parts (is_valid r.cbaser && is_valid r.baser0) (is_valid r.baser1) ((translator_sound u i h (enabled_within u i on)).regs.enabled on)).1
 
 -- a collection fits in any state with the same translators
-collection_fits : (u v : Plain) (i icid : ℕ) (vcpu : Vcpu) → IsFollowed u v → IsCollection u.layout.shape (regs_of u i) icid vcpu → IsCollection v.layout.shape (regs_of v i) icid vcpu
+collection_fits : (u v : Plain) (i icid : ℕ) (vcpu : Vcpu) → IsFollowed u v → IsCollection u.layout.shape (regs_of u i) icid vcpu
+    → IsCollection v.layout.shape (regs_of v i) icid vcpu
 collection_fits u v i icid vcpu same fits =
     subst (λ (ts : List Translator). IsCollection v.layout.shape (slice_index_or ts i no_translator).regs icid vcpu) (sym same.translators)
     (subst (λ (l : Layout). IsCollection l.shape (regs_of u i) icid vcpu) (sym same.layout) fits)
@@ -125,7 +135,8 @@ mapc_keeps u i icid target on h =
     (collection_added v.layout.shape (regs_of v i) (maps_of v i) icid vcpu (collection_fits u v i icid vcpu same fits) (are_maps v i same.sound))))
 
 pub unmapc_keeps : UnmapcKeepsSound
-unmapc_keeps u i icid h = maps_replaced u i (collection_unmapped (maps_of u i) icid) h (collection_removed u.layout.shape (regs_of u i) (maps_of u i) icid (are_maps u i h))
+unmapc_keeps u i icid h = maps_replaced u i (collection_unmapped (maps_of u i) icid) h (collection_removed u.layout.shape (regs_of u i) (maps_of u i) icid
+    (are_maps u i h))
 
 -- ---- events
 
@@ -198,12 +209,14 @@ lpi_found u i dev ev h =
 pub int_keeps : IntKeepsSound
 unfolding int
 int_keeps u i dev ev h =
-    then_ok (λ lpi. IsLpi u lpi.0.0 × (is_on u lpi.1.0 ≡ true)) IsSound (lpi_at u i dev ev) _ (lpi_found u i dev ev h) (λ lpi is. set_sound u lpi.0.0 lpi.1.0 h is.0 is.1)
+    then_ok (λ lpi. IsLpi u lpi.0.0 × (is_on u lpi.1.0 ≡ true)) IsSound (lpi_at u i dev ev) _ (lpi_found u i dev ev h)
+    (λ lpi is. set_sound u lpi.0.0 lpi.1.0 h is.0 is.1)
 
 pub clear_keeps : ClearKeepsSound
 unfolding clear
 clear_keeps u i dev ev h =
-    then_ok (λ lpi. IsLpi u lpi.0.0 × (is_on u lpi.1.0 ≡ true)) IsSound (lpi_at u i dev ev) _ (lpi_found u i dev ev h) (λ lpi _. cleared_sound u lpi.0.0 lpi.1.0 h)
+    then_ok (λ lpi. IsLpi u lpi.0.0 × (is_on u lpi.1.0 ≡ true)) IsSound (lpi_at u i dev ev) _ (lpi_found u i dev ev h)
+    (λ lpi _. cleared_sound u lpi.0.0 lpi.1.0 h)
 
 pub movall_keeps : MovallKeepsSound
 unfolding movall

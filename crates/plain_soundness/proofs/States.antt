@@ -11,7 +11,8 @@ use Rattle.its_types.specs.Maps.{Maps}
 use Rattle.its_types.specs.Ranges.{is_lpi, lpi_count, pending_bytes}
 use Rattle.its_types.specs.declared.machine.Shape.{Shape}
 use Rattle.its_types.specs.declared.translation.Bases.{Bases}
-use Rattle.its_plain.specs.Plain.{Plain, Translator, Redistributor, translator, redistributor, no_translator, no_redistributor, regs_of, maps_of, pending_of, is_on, with_translator, with_maps, with_regs, with_redistributor, with_pending}
+use Rattle.its_plain.specs.Plain.{Plain, Translator, Redistributor, translator, redistributor, no_translator, no_redistributor, regs_of, maps_of, pending_of}
+use Rattle.its_plain.specs.Plain.{is_on, with_translator, with_maps, with_regs, with_redistributor, with_pending}
 use Rattle.its_plain.specs.declared.layout.Layout.{Layout}
 use Rattle.its_plain.specs.Sound.{IsSound, IsTranslator, IsRedistributor, HasTables}
 use Rattle.plain_soundness.proofs.Lists.{at_each_set, at_each_map, same_after_set, IsSet, no_set}
@@ -19,7 +20,8 @@ use Rattle.plain_soundness.proofs.Mapped.{AreMaps, SameTables, same_tables, maps
 
 -- ---- translators
 
-pub translator_replaced : (u : Plain) (i : ℕ) (t : Translator) → IsSound u → (i < length u.translators → IsTranslator u.layout.shape t) → IsSound (with_translator u i t)
+pub translator_replaced : (u : Plain) (i : ℕ) (t : Translator) → IsSound u → (i < length u.translators → IsTranslator u.layout.shape t)
+    → IsSound (with_translator u i t)
 translator_replaced u i t h new = record {
   layout = h.layout;
   translators = at_each_set (λ _ x. IsTranslator u.layout.shape x) u.translators i t new h.translators;
@@ -36,7 +38,8 @@ pub enabled_within : (u : Plain) (i : ℕ) → (regs_of u i).enabled ≡ true �
 enabled_within u i on =
     elim (cases_lt i (length u.translators)) [
       | inl within ↦ within
-      | inr past ↦ let none = ap (λ (t : Translator). t.regs.enabled) (get_or_past u.translators i no_translator past) in absurd (both_ways (regs_of u i).enabled none on)
+      | inr past ↦ let none = ap (λ (t : Translator). t.regs.enabled) (get_or_past u.translators i no_translator past) in absurd
+          (both_ways (regs_of u i).enabled none on)
     ]
 
 -- the maps of any number, for no translator has none
@@ -56,7 +59,8 @@ maps_replaced u i m h maps =
     let t = translator_sound u i h within in translator_made u.layout.shape (regs_of u i) m t.regs t.dev_bits maps)
 
 -- with other registers and the same tables
-pub regs_replaced : (u : Plain) (i : ℕ) (r : Registers) → IsSound u → (regs.IsSound (regs_of u i) → regs.IsSound r) → SameTables (regs_of u i) r → IsSound (with_regs u i r)
+pub regs_replaced : (u : Plain) (i : ℕ) (r : Registers) → IsSound u → (regs.IsSound (regs_of u i) → regs.IsSound r) → SameTables (regs_of u i) r
+    → IsSound (with_regs u i r)
 regs_replaced u i r h new same =
     translator_replaced u i (record (translator u i) { regs = r }) h (λ within.
     let t = translator_sound u i h within in
@@ -65,7 +69,8 @@ regs_replaced u i r h new same =
 
 -- ---- redistributors
 
-pub redistributor_replaced : (u : Plain) (v : ℕ) (r : Redistributor) → IsSound u → (v < length u.redistributors → IsRedistributor u.layout u.memory v r) → IsSound (with_redistributor u v r)
+pub redistributor_replaced : (u : Plain) (v : ℕ) (r : Redistributor) → IsSound u → (v < length u.redistributors → IsRedistributor u.layout u.memory v r)
+    → IsSound (with_redistributor u v r)
 redistributor_replaced u v r h new = record {
   layout = h.layout;
   translators = h.translators;
@@ -97,7 +102,8 @@ pub pending_set : (u : Plain) (v : ℕ) → IsSound u → IsSet (IsLpi u) (pendi
 pending_set u v h =
     elim (cases_lt v (length u.redistributors)) [
       | inl within ↦ let r = redistributor_sound u v h within in record { rising = r.rising; all = r.lpis }
-      | inr past ↦ let none = ap (λ (r : Redistributor). r.pending) (get_or_past u.redistributors v no_redistributor past) in subst (IsSet (IsLpi u)) (sym none) (no_set (IsLpi u))
+      | inr past ↦ let none = ap (λ (r : Redistributor). r.pending) (get_or_past u.redistributors v no_redistributor past) in subst (IsSet (IsLpi u)) (sym none)
+          (no_set (IsLpi u))
     ]
 
 -- nothing is pending where LPIs are off
@@ -108,7 +114,8 @@ none_pending u v h off =
       | inr past ↦ ap (λ (r : Redistributor). r.pending) (get_or_past u.redistributors v no_redistributor past)
     ]
 
-pub pending_replaced : (u : Plain) (v : ℕ) (pending : List ℕ) → IsSound u → IsSet (IsLpi u) pending → (is_on u v ≡ false → pending ≡ []) → IsSound (with_pending u v pending)
+pub pending_replaced : (u : Plain) (v : ℕ) (pending : List ℕ) → IsSound u → IsSet (IsLpi u) pending → (is_on u v ≡ false → pending ≡ [])
+    → IsSound (with_pending u v pending)
 pending_replaced u v pending h set none =
     redistributor_replaced u v (record (redistributor u v) { pending = pending }) h (λ within.
     let r = redistributor_sound u v h within in record {

@@ -15,16 +15,19 @@ pub if_ok_at : {A E : Type 0} (P : A → Type 0) (r : Result A E) (x : A) → If
 if_ok_at P r x h e = subst (λ q. IfOk q P) e h
 
 -- behind a test that holds
-passed : {B : Type 0} (P : B → Type 0) (test : Bool) (cause : Cause) (f : Unit {0} → Result B Cause) → (test ≡ true → IfOk (f tt) P) → IfOk (ensure test cause >>= f) P
+passed : {B : Type 0} (P : B → Type 0) (test : Bool) (cause : Cause) (f : Unit {0} → Result B Cause) → (test ≡ true → IfOk (f tt) P)
+    → IfOk (ensure test cause >>= f) P
 passed P true cause f h = h refl
 passed P false cause f h = tt
 
 -- with a value that was found
-found : {A B : Type 0} (P : B → Type 0) (o : Option A) (cause : Cause) (f : A → Result B Cause) → ((x : A) → o ≡ Some x → IfOk (f x) P) → IfOk (ok_or o cause >>= f) P
+found : {A B : Type 0} (P : B → Type 0) (o : Option A) (cause : Cause) (f : A → Result B Cause) → ((x : A) → o ≡ Some x → IfOk (f x) P)
+    → IfOk (ok_or o cause >>= f) P
 found P None cause f h = tt
 found P (Some x) cause f h = h x refl
 
-then_ok : {A B : Type 0} (Q : A → Type 0) (P : B → Type 0) (r : Result A Cause) (f : A → Result B Cause) → IfOk r Q → ((x : A) → Q x → IfOk (f x) P) → IfOk (r >>= f) P
+then_ok : {A B : Type 0} (Q : A → Type 0) (P : B → Type 0) (r : Result A Cause) (f : A → Result B Cause) → IfOk r Q → ((x : A) → Q x → IfOk (f x) P)
+    → IfOk (r >>= f) P
 then_ok Q P (Ok x) f q h = h x q
 then_ok Q P (Err e) f q h = tt
 

@@ -4,7 +4,9 @@ use Rattle.std.proofs.lemmas.Bool.{cond_both}
 use Rattle.its_types.specs.Bits.{bit_of}
 use Rattle.its_types.specs.Maps.{Maps}
 use Rattle.its_types.specs.declared.machine.Shape.{Shape}
-use Rattle.gits_regs.specs.Registers.{Registers, Written, write_reg, write_64, write_word, write_ctlr, write_cbaser, write_cwriter, write_baser0, write_baser1, unchanged, kept_cbaser, kept_baser0, kept_baser1, kept_offset, has_bases, is_same_queue, is_32, queue_size, low_half, with_low_half, with_high_half, read_64}
+use Rattle.gits_regs.specs.Registers.{Registers, Written, write_reg, write_64, write_word, write_ctlr, write_cbaser, write_cwriter, write_baser0, write_baser1}
+use Rattle.gits_regs.specs.Registers.{unchanged, kept_cbaser, kept_baser0, kept_baser1, kept_offset, has_bases, is_same_queue, is_32, queue_size, low_half}
+use Rattle.gits_regs.specs.Registers.{with_low_half, with_high_half, read_64}
 use Rattle.its_plain.specs.Answer.{emptied}
 use Rattle.plain_soundness.proofs.Mapped.{AreMaps, SameTables, same_tables, no_devices, no_collections}
 
@@ -35,23 +37,30 @@ module _ (s : Shape) (r : Registers) (m : Maps) (h : AreMaps s r m) where
   write_cbaser_keeps value =
       cond_both r.enabled _ _ (Keeps s r m) (λ _. ignored)
       (λ _. cond_both (is_same_queue r (kept_cbaser value)) _ _ (Keeps s r m) (λ _. ignored)
-      (λ _. record { dev_bits = refl; maps = other (record r { cbaser = kept_cbaser value; creadr = 0; cwriter = 0 }) (record { dev_bits = refl; baser0 = refl; baser1 = refl }) }))
+      (λ _. record {
+        dev_bits = refl;
+        maps = other (record r { cbaser = kept_cbaser value; creadr = 0; cwriter = 0 })
+            (record { dev_bits = refl; baser0 = refl; baser1 = refl });
+      }))
 
   write_cwriter_keeps : (value : ℕ) → Keeps s r m (write_cwriter r value)
   unfolding write_cwriter
   write_cwriter_keeps value =
       cond_both (nat_lt (kept_offset value) (queue_size r) && not (nat_eq r.cwriter (kept_offset value))) _ _ (Keeps s r m)
-      (λ _. record { dev_bits = refl; maps = other (record r { cwriter = kept_offset value }) (record { dev_bits = refl; baser0 = refl; baser1 = refl }) }) (λ _. ignored)
+      (λ _. record { dev_bits = refl; maps = other (record r { cwriter = kept_offset value }) (record { dev_bits = refl; baser0 = refl; baser1 = refl }) })
+      (λ _. ignored)
 
   write_baser0_keeps : (value : ℕ) → Keeps s r m (write_baser0 r value)
   unfolding write_baser0
   write_baser0_keeps value =
-      cond_both r.enabled _ _ (Keeps s r m) (λ _. ignored) (λ _. record { dev_bits = refl; maps = no_devices s r (record r { baser0 = kept_baser0 value }) m refl h })
+      cond_both r.enabled _ _ (Keeps s r m) (λ _. ignored)
+      (λ _. record { dev_bits = refl; maps = no_devices s r (record r { baser0 = kept_baser0 value }) m refl h })
 
   write_baser1_keeps : (value : ℕ) → Keeps s r m (write_baser1 r value)
   unfolding write_baser1
   write_baser1_keeps value =
-      cond_both r.enabled _ _ (Keeps s r m) (λ _. ignored) (λ _. record { dev_bits = refl; maps = no_collections s r (record r { baser1 = kept_baser1 value }) m refl refl h })
+      cond_both r.enabled _ _ (Keeps s r m) (λ _. ignored)
+      (λ _. record { dev_bits = refl; maps = no_collections s r (record r { baser1 = kept_baser1 value }) m refl refl h })
 
   write_64_keeps : (off value : ℕ) → Keeps s r m (write_64 r off value)
   unfolding write_64

@@ -12,7 +12,8 @@ use Rattle.its_migrate.proofs.Fresh.{first_layout}
 use Rattle.ports_together.specs.Ready.{IsSmall, IsShared}
 use Rattle.ports_together.specs.Shared.{IsFirst, IsSharedFrom}
 
-pub if_shared : (d : Desc) (P : Machine × Pass → Type 0) (r : Result (Machine × Pass) MakeError) → IsSharedFrom d r → ((x : Machine × Pass) → IsFirst d x.0 x.1 → P x) → IfOk r P
+pub if_shared : (d : Desc) (P : Machine × Pass → Type 0) (r : Result (Machine × Pass) MakeError) → IsSharedFrom d r
+    → ((x : Machine × Pass) → IsFirst d x.0 x.1 → P x) → IfOk r P
 if_shared d P (Ok x) h f = f x h
 if_shared d P (Err (errors.Fault e)) h f = tt
 if_shared d P (Err errors.NoMemory) h f = tt

@@ -18,8 +18,10 @@ abbrev pub one : Vcpu → Redistributor → List Held
 one vcpu r = out (part.Redist vcpu) (Redist r) ∷ []
 
 module _ (s : Setup) (vcpu : Vcpu) (r : Redistributor) (vcpus : HasVcpus s) (st : vcpu.0 < vcpu_count s) where
-  pub takes_now : (w : Word) → w.place < s.limits.place_last → MayLeave s (staying w (call.Take vcpu) (reply.Ack (ack_of r (lowest r))) Keep) (one vcpu r) (one vcpu (taken r (lowest r)))
+  pub takes_now : (w : Word) → w.place < s.limits.place_last → MayLeave s (staying w (call.Take vcpu) (reply.Ack (ack_of r (lowest r))) Keep) (one vcpu r)
+      (one vcpu (taken r (lowest r)))
   takes_now w room = takes s w vcpu r vcpus st room
 
-  pub shows_now : (w : Word) → w.place < s.limits.place_last → MayLeave s (staying w (call.Show vcpu) (reply.Ack (ack_of r (lowest r))) Keep) (one vcpu r) (one vcpu r)
+  pub shows_now : (w : Word) → w.place < s.limits.place_last → MayLeave s (staying w (call.Show vcpu) (reply.Ack (ack_of r (lowest r))) Keep) (one vcpu r)
+      (one vcpu r)
   shows_now w room = shows s w vcpu r vcpus st room

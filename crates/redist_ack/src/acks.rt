@@ -19,7 +19,8 @@ pub fn try_take<G: Gate>(machine: &Machine, pass: &mut Pass, gate: &G, vcpu: Vcp
     requires free { (view pass.old).held ≡ [] }
     requires vcpu { vcpu.0 < vcpu_count (setup machine.now) }
     ensures of { IsOf machine.now pass.new }
-    ensures answer { TriesPart (view pass.old) (part.Redist vcpu) (call.Take vcpu) reply.Ack (view pass.new)
+    ensures answer { TriesPart (view pass.old) (part.Redist vcpu) (call.Take vcpu) reply.Ack
+        (view pass.new)
         result }
 {
     let mut redist = match try_take_redist(machine, pass, vcpu) {
@@ -56,7 +57,8 @@ pub fn try_show<G: Gate>(machine: &Machine, pass: &mut Pass, gate: &G, vcpu: Vcp
     requires free { (view pass.old).held ≡ [] }
     requires vcpu { vcpu.0 < vcpu_count (setup machine.now) }
     ensures of { IsOf machine.now pass.new }
-    ensures answer { TriesPart (view pass.old) (part.Redist vcpu) (call.Show vcpu) reply.Ack (view pass.new)
+    ensures answer { TriesPart (view pass.old) (part.Redist vcpu) (call.Show vcpu) reply.Ack
+        (view pass.new)
         result }
 {
     let redist = match try_take_redist(machine, pass, vcpu) {

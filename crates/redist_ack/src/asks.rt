@@ -32,7 +32,8 @@ pub fn take<R: Wait, G: Gate>(
     requires free { (view pass.old).held ≡ [] }
     requires vcpu { vcpu.0 < vcpu_count (setup machine.now) }
     ensures of { IsOf machine.now pass.new }
-    ensures answer { AsksPart (view pass.old) (part.Redist vcpu) (call.Take vcpu) reply.Ack (view pass.new)
+    ensures answer { AsksPart (view pass.old) (part.Redist vcpu) (call.Take vcpu) reply.Ack
+        (view pass.new)
         result }
 {
     for _ in rt.forever() {
@@ -62,7 +63,8 @@ pub fn show<R: Wait, G: Gate>(
     requires free { (view pass.old).held ≡ [] }
     requires vcpu { vcpu.0 < vcpu_count (setup machine.now) }
     ensures of { IsOf machine.now pass.new }
-    ensures answer { AsksPart (view pass.old) (part.Redist vcpu) (call.Show vcpu) reply.Ack (view pass.new)
+    ensures answer { AsksPart (view pass.old) (part.Redist vcpu) (call.Show vcpu) reply.Ack
+        (view pass.new)
         result }
 {
     for _ in rt.forever() {

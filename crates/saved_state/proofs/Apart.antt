@@ -1,5 +1,6 @@
 -- The tables that a save writes lie in memory and share no byte: what it wrote is read again.
-use Rattle.std.proofs.Common.{◌≡◌, ℕ, zero, suc, ◌+◌, ◌-◌, ◌*◌, ◌^◌, ◌<◌, ◌≤◌, true, false, cond, List, [], ◌∷◌, ◌++◌, append-nil, Some, refl, sym, subst, ap, ◌∙◌, arith}
+use Rattle.std.proofs.Common.{◌≡◌, ℕ, zero, suc, ◌+◌, ◌-◌, ◌*◌, ◌^◌, ◌<◌, ◌≤◌, true, false, cond, List, [], ◌∷◌, ◌++◌, append-nil, Some, refl, sym, subst, ap}
+use Rattle.std.proofs.Common.{◌∙◌, arith}
 use Rattle.std.specs.Prelude.{slice_get}
 use Rattle.std.specs.List.{AllByRecursion, flat_map}
 use Rattle.std.proofs.Math.Pow.{pow_mono}
@@ -28,7 +29,8 @@ use Rattle.saved_state.proofs.Written.{Spares, CanStand, AreApart, spares_part, 
 no_config : (s : Shape) (v : ℕ) (rs : List Redistributor) → written_spans (areas_from (config_area s) v rs) ≡ []
 no_config s v [] = refl
 no_config s v (r ∷ rs) = written_append (config_area s v r) (areas_from (config_area s) (suc v) rs) ∙ (elim r.bases.on as (λ on.
-    written_spans (cond on (record { region = ConfigOf (record { 0 = v }); base = r.bases.prop.table.0; size = lpi_count s.lpi_bits; is_written = false } ∷ []) []) ++ written_spans (areas_from (config_area s) (suc v) rs) ≡ []) [
+    written_spans (cond on (record { region = ConfigOf (record { 0 = v }); base = r.bases.prop.table.0; size = lpi_count s.lpi_bits; is_written = false } ∷ [])
+    []) ++ written_spans (areas_from (config_area s) (suc v) rs) ≡ []) [
       | true ↦ no_config s (suc v) rs
       | false ↦ no_config s (suc v) rs
     ])
@@ -43,14 +45,16 @@ no_configs u =
 
 no_queue : (r : Registers) → written_spans (queue_area r) ≡ []
 no_queue r =
-    elim (is_valid r.cbaser) as (λ b. written_spans (cond b (record { region = Queue; base = queue_base r; size = queue_size r; is_written = false } ∷ []) []) ≡ []) [
+    elim (is_valid r.cbaser) as (λ b. written_spans (cond b (record { region = Queue; base = queue_base r; size = queue_size r; is_written = false } ∷ []) [])
+    ≡ []) [
       | true ↦ refl
       | false ↦ refl
     ]
 
 no_queues : (ts : List Translator) → written_spans (flat_map queue_areas ts) ≡ []
 no_queues [] = refl
-no_queues (t ∷ ts) = written_append (queue_areas t) (flat_map queue_areas ts) ∙ ap (λ ss. ss ++ written_spans (flat_map queue_areas ts)) (no_queue t.regs) ∙ no_queues ts
+no_queues (t ∷ ts) = written_append (queue_areas t) (flat_map queue_areas ts) ∙ ap (λ ss. ss ++ written_spans (flat_map queue_areas ts)) (no_queue t.regs)
+    ∙ no_queues ts
 
 -- ---- the areas that are written
 
@@ -88,17 +92,25 @@ spans_inside memory (a ∷ areas) all =
       | false ↦ spans_inside memory areas all.1
     ]
 
-pending_part : (memory : List Window) (bits base : ℕ) → 14 ≤ bits → inside memory base (pending_bytes bits) ≡ true → inside memory (base + 1024) (pending_bytes bits - 1024) ≡ true
+pending_part : (memory : List Window) (bits base : ℕ) → 14 ≤ bits → inside memory base (pending_bytes bits) ≡ true
+    → inside memory (base + 1024) (pending_bytes bits - 1024) ≡ true
 pending_part memory bits base least h =
     let some : 2 ^ 11 ≤ 2 ^ (bits - 3) = pow_mono {i = 11} {j = bits - 3} (omega arith) in
     inside_part memory base (pending_bytes bits) (base + 1024) (pending_bytes bits - 1024) (omega arith) (omega arith) h
 
-pending_inside : (memory : List Window) (s : Shape) (v : ℕ) (rs : List Redistributor) → 14 ≤ s.lpi_bits → ((k : ℕ) (r : Redistributor) → slice_get rs k ≡ Some r → r.bases.on ≡ true → HasTables s memory r.bases)
+pending_inside : (memory : List Window) (s : Shape) (v : ℕ) (rs : List Redistributor) → 14 ≤ s.lpi_bits → ((k : ℕ) (r : Redistributor) → slice_get rs k ≡ Some r
+    → r.bases.on ≡ true → HasTables s memory r.bases)
     → AllInside memory (areas_from (pending_area s) v rs)
 pending_inside memory s v [] least h = tt
 pending_inside memory s v (r ∷ rs) least h =
     all_both (λ a. inside memory a.base a.size ≡ true) (pending_area s v r) (areas_from (pending_area s) (suc v) rs)
-    (elim r.bases.on as (λ on. r.bases.on ≡ on → AllInside memory (cond on (record { region = Pending (record { 0 = v }); base = r.bases.pend.table.0 + 1024; size = pending_bytes s.lpi_bits - 1024; is_written = true } ∷ []) [])) [
+    (elim r.bases.on as (λ on. r.bases.on ≡ on
+    → AllInside memory (cond on (record {
+      region = Pending (record { 0 = v });
+      base = r.bases.pend.table.0 + 1024;
+      size = pending_bytes s.lpi_bits - 1024;
+      is_written = true;
+    } ∷ []) [])) [
       | true ↦ λ e. (pending_part memory s.lpi_bits r.bases.pend.table.0 least (h 0 r refl e).pending, tt)
       | false ↦ λ e. tt
     ] refl)
@@ -142,7 +154,8 @@ module _ (u : Plain) (sound : IsSound u) (savable : IsSavable u) where
   stays b n all = spared b n (words_of u) (subst (AllByRecursion (Avoids (b, n))) alike all)
 
 -- the bytes of each word
-pub bytes_back : (u : Plain) (k i : ℕ) (t : Words) → IsSound u → IsSavable u → slice_get (words_of u) k ≡ Some t → i < t.count → read_at (saved u) (entry_address t.base i) 8 ≡ Some (little_bytes 8 (t.word i))
+pub bytes_back : (u : Plain) (k i : ℕ) (t : Words) → IsSound u → IsSavable u → slice_get (words_of u) k ≡ Some t → i < t.count
+    → read_at (saved u) (entry_address t.base i) 8 ≡ Some (little_bytes 8 (t.word i))
 bytes_back u k i t sound savable at lt =
     let tests = tested u savable in
     tables_read u.memory (words_of u) (can_stand u.memory (words_of u) (all_inside u sound tests.inside))

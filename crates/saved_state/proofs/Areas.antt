@@ -1,5 +1,6 @@
 -- The tables that a save writes are the areas that it tests.
-use Rattle.std.proofs.Common.{◌≡◌, ℕ, zero, suc, ◌+◌, ◌-◌, ◌*◌, ◌/◌, ◌^◌, ◌≤◌, Bool, true, false, not, cond, List, [], ◌∷◌, ◌++◌, map, Option, Some, None, refl, sym, ap, ◌∙◌, arith}
+use Rattle.std.proofs.Common.{◌≡◌, ℕ, zero, suc, ◌+◌, ◌-◌, ◌*◌, ◌/◌, ◌^◌, ◌≤◌, Bool, true, false, not, cond, List, [], ◌∷◌, ◌++◌, map, Option, Some, None}
+use Rattle.std.proofs.Common.{refl, sym, ap, ◌∙◌, arith}
 use Rattle.std.specs.List.{AllByRecursion, flat_map}
 use Rattle.std.specs.FinMap.{entries}
 use Rattle.std.proofs.lemmas.List.{map-append}
@@ -14,8 +15,10 @@ use Rattle.its_types.specs.declared.translation.Device.{Device}
 use Rattle.its_plain.specs.Plain.{Translator, Redistributor}
 use Rattle.its_plain.specs.declared.area.Area.{Area}
 use Rattle.its_plain.specs.declared.fault.Region.TheVariants.{Devices, Collections, Pending}
-use Rattle.its_plain.specs.Regions.{device_pages, collection_pages, page_area, pages_below, level1_areas, device_areas, collection_areas, itt_area, itt_areas, table_areas, pending_area, areas_from}
-use Rattle.its_plain.specs.Saved.{Words, page_words, pages_words, device_words, collection_words, itt_words, translator_words, pending_words, device_word, collection_word, event_word, pending_word}
+use Rattle.its_plain.specs.Regions.{device_pages, collection_pages, page_area, pages_below, level1_areas, device_areas, collection_areas, itt_area, itt_areas}
+use Rattle.its_plain.specs.Regions.{table_areas, pending_area, areas_from}
+use Rattle.its_plain.specs.Saved.{Words, page_words, pages_words, device_words, collection_words, itt_words, translator_words, pending_words, device_word}
+use Rattle.its_plain.specs.Saved.{collection_word, event_word, pending_word}
 use Rattle.saved_state.proofs.Tests.{span, written_spans, AllInside}
 
 abbrev pub stretch : Words → ℕ × ℕ
@@ -27,14 +30,17 @@ stretches ts = map stretch ts
 pub written_append : (xs ys : List Area) → written_spans (xs ++ ys) ≡ written_spans xs ++ written_spans ys
 written_append [] ys = refl
 written_append (x ∷ xs) ys =
-    elim x.is_written as (λ w. cond w (span x ∷ written_spans (xs ++ ys)) (written_spans (xs ++ ys)) ≡ cond w (span x ∷ written_spans xs) (written_spans xs) ++ written_spans ys) [
+    elim x.is_written as (λ w. cond w (span x ∷ written_spans (xs ++ ys)) (written_spans (xs ++ ys)) ≡ cond w (span x ∷ written_spans xs) (written_spans xs)
+    ++ written_spans ys) [
       | true ↦ ap (λ ss. span x ∷ ss) (written_append xs ys)
       | false ↦ written_append xs ys
     ]
 
 -- two parts that are alike
-both_alike : (xs ys : List Area) (ts us : List Words) → written_spans xs ≡ stretches ts → written_spans ys ≡ stretches us → written_spans (xs ++ ys) ≡ stretches (ts ++ us)
-both_alike xs ys ts us one two = written_append xs ys ∙ ap (λ ss. ss ++ written_spans ys) one ∙ ap (λ ss. stretches ts ++ ss) two ∙ sym (map-append stretch ts us)
+both_alike : (xs ys : List Area) (ts us : List Words) → written_spans xs ≡ stretches ts → written_spans ys ≡ stretches us → written_spans (xs ++ ys) ≡ stretches
+    (ts ++ us)
+both_alike xs ys ts us one two = written_append xs ys ∙ ap (λ ss. ss ++ written_spans ys) one ∙ ap (λ ss. stretches ts ++ ss) two
+    ∙ sym (map-append stretch ts us)
 
 pub all_left : {X : Type 0} (P : X → Type 0) (xs ys : List X) → AllByRecursion P (xs ++ ys) → AllByRecursion P xs
 all_left P [] ys all = tt
@@ -57,7 +63,8 @@ one_page m k (Some base) = refl
 pages_alike : (t : Translator) (memory : List Window) (n : ℕ) → written_spans (pages_below t.regs memory n) ≡ stretches (pages_words t memory n)
 pages_alike t memory zero = refl
 pages_alike t memory (suc n) =
-    both_alike (pages_below t.regs memory n) (page_area n (page_of (level1_of t.regs memory n))) (pages_words t memory n) (page_words t.maps n (page_of (level1_of t.regs memory n)))
+    both_alike (pages_below t.regs memory n) (page_area n (page_of (level1_of t.regs memory n))) (pages_words t memory n)
+    (page_words t.maps n (page_of (level1_of t.regs memory n)))
     (pages_alike t memory n) (one_page t.maps n (page_of (level1_of t.regs memory n)))
 
 flat_size : (pages : ℕ) → 65536 * pages ≡ 8 * (8192 * pages)
@@ -66,7 +73,8 @@ flat_size pages = omega arith
 level1_alike : (t : Translator) (memory : List Window) → inside memory (table_base t.regs.baser0) (8 * level1_entries t.regs.dev_bits) ≡ true
     → written_spans (level1_areas t.regs memory) ≡ stretches (pages_words t memory (level1_entries t.regs.dev_bits))
 level1_alike t memory h =
-    ap (λ (b : Bool). written_spans (cond b (pages_below t.regs memory (level1_entries t.regs.dev_bits)) [])) h ∙ pages_alike t memory (level1_entries t.regs.dev_bits)
+    ap (λ (b : Bool). written_spans (cond b (pages_below t.regs memory (level1_entries t.regs.dev_bits)) [])) h ∙ pages_alike t memory
+    (level1_entries t.regs.dev_bits)
 
 abbrev flat_area : Registers → Area
 flat_area r = record { region = Devices; base = table_base r.baser0; size = 65536 * device_pages r; is_written = true }
@@ -74,7 +82,8 @@ flat_area r = record { region = Devices; base = table_base r.baser0; size = 6553
 abbrev flat_words : Translator → Words
 flat_words s = record { base = table_base s.regs.baser0; count = 8192 * device_pages s.regs; word = device_word s.maps }
 
-devices_alike : (t : Translator) (memory : List Window) → AllInside memory (device_areas t.regs memory) → written_spans (device_areas t.regs memory) ≡ stretches (device_words t memory)
+devices_alike : (t : Translator) (memory : List Window) → AllInside memory (device_areas t.regs memory) → written_spans (device_areas t.regs memory) ≡ stretches
+    (device_words t memory)
 unfolding device_areas device_words
 devices_alike t memory =
     elim (is_valid t.regs.baser0) as (λ v.
@@ -83,7 +92,8 @@ devices_alike t memory =
     ≡ stretches (cond (not v) [] (cond (is_indirect t.regs.baser0) (pages_words t memory (level1_entries t.regs.dev_bits)) (flat_words t ∷ [])))) [
       | true ↦ elim (is_indirect t.regs.baser0) as (λ i.
           AllInside memory (cond i (level1_areas t.regs memory) (flat_area t.regs ∷ []))
-          → written_spans (cond i (level1_areas t.regs memory) (flat_area t.regs ∷ [])) ≡ stretches (cond i (pages_words t memory (level1_entries t.regs.dev_bits)) (flat_words t ∷ []))) [
+          → written_spans (cond i (level1_areas t.regs memory) (flat_area t.regs ∷ [])) ≡ stretches
+          (cond i (pages_words t memory (level1_entries t.regs.dev_bits)) (flat_words t ∷ []))) [
             | true ↦ λ all. level1_alike t memory all.0
             | false ↦ λ all. ap (λ (n : ℕ). (table_base t.regs.baser0, n) ∷ []) (flat_size (device_pages t.regs))
           ]
@@ -100,11 +110,13 @@ collections_alike t =
     ]
 
 itts_alike : (m : Maps) (ds : List (ℕ × Device))
-    → written_spans (flat_map (λ d. itt_area d ∷ []) ds) ≡ stretches (flat_map (λ d. record { base = d.1.itt.0; count = 2 ^ d.1.bits; word = event_word m d.0 } ∷ []) ds)
+    → written_spans (flat_map (λ d. itt_area d ∷ []) ds) ≡ stretches
+    (flat_map (λ d. record { base = d.1.itt.0; count = 2 ^ d.1.bits; word = event_word m d.0 } ∷ []) ds)
 itts_alike m [] = refl
 itts_alike m (d ∷ ds) = ap (λ ss. (d.1.itt.0, 8 * 2 ^ d.1.bits) ∷ ss) (itts_alike m ds)
 
-translator_alike : (memory : List Window) (t : Translator) → AllInside memory (table_areas memory t) → written_spans (table_areas memory t) ≡ stretches (translator_words memory t)
+translator_alike : (memory : List Window) (t : Translator) → AllInside memory (table_areas memory t) → written_spans (table_areas memory t) ≡ stretches
+    (translator_words memory t)
 unfolding table_areas translator_words
 translator_alike memory t all =
     let d = device_areas t.regs memory in
@@ -112,7 +124,8 @@ translator_alike memory t all =
     let i = itt_areas t.maps in
     let front = all_left (λ a. inside memory a.base a.size ≡ true) (d ++ c) i all in
     both_alike (d ++ c) i (device_words t memory ++ collection_words t) (itt_words t.maps)
-    (both_alike d c (device_words t memory) (collection_words t) (devices_alike t memory (all_left (λ a. inside memory a.base a.size ≡ true) d c front)) (collections_alike t))
+    (both_alike d c (device_words t memory) (collection_words t) (devices_alike t memory (all_left (λ a. inside memory a.base a.size ≡ true) d c front))
+    (collections_alike t))
     (itts_alike t.maps (entries t.maps.devices))
 
 pub translators_alike : (memory : List Window) (ts : List Translator) → AllInside memory (flat_map (table_areas memory) ts)
@@ -135,13 +148,24 @@ whole_words bits least =
 redistributor_alike : (s : Shape) (v : ℕ) (r : Redistributor) → 14 ≤ s.lpi_bits → written_spans (pending_area s v r) ≡ stretches (pending_words s r)
 redistributor_alike s v r least =
     elim r.bases.on as (λ on.
-    written_spans (cond on (record { region = Pending (record { 0 = v }); base = r.bases.pend.table.0 + 1024; size = pending_bytes s.lpi_bits - 1024; is_written = true } ∷ []) [])
-    ≡ stretches (cond on (record { base = r.bases.pend.table.0 + 1024; count = (pending_bytes s.lpi_bits - 1024) / 8; word = λ i. pending_word r.pending (1024 + 8 * i) } ∷ []) [])) [
+    written_spans (cond on (record {
+      region = Pending (record { 0 = v });
+      base = r.bases.pend.table.0 + 1024;
+      size = pending_bytes s.lpi_bits - 1024;
+      is_written = true;
+    } ∷ []) [])
+    ≡ stretches (cond on (record {
+      base = r.bases.pend.table.0 + 1024;
+      count = (pending_bytes s.lpi_bits - 1024) / 8;
+      word = λ i. pending_word r.pending (1024 + 8 * i);
+    } ∷ []) [])) [
       | true ↦ ap (λ (n : ℕ). (r.bases.pend.table.0 + 1024, n) ∷ []) (whole_words s.lpi_bits least)
       | false ↦ refl
     ]
 
-pub redistributors_alike : (s : Shape) (v : ℕ) (rs : List Redistributor) → 14 ≤ s.lpi_bits → written_spans (areas_from (pending_area s) v rs) ≡ stretches (flat_map (pending_words s) rs)
+pub redistributors_alike : (s : Shape) (v : ℕ) (rs : List Redistributor) → 14 ≤ s.lpi_bits → written_spans (areas_from (pending_area s) v rs) ≡ stretches
+    (flat_map (pending_words s) rs)
 redistributors_alike s v [] least = refl
 redistributors_alike s v (r ∷ rs) least =
-    both_alike (pending_area s v r) (areas_from (pending_area s) (suc v) rs) (pending_words s r) (flat_map (pending_words s) rs) (redistributor_alike s v r least) (redistributors_alike s (suc v) rs least)
+    both_alike (pending_area s v r) (areas_from (pending_area s) (suc v) rs) (pending_words s r) (flat_map (pending_words s) rs)
+    (redistributor_alike s v r least) (redistributors_alike s (suc v) rs least)

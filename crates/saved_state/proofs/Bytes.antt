@@ -1,5 +1,6 @@
 -- The bytes of a word that is read, and the bits of a pending table.
-use Rattle.std.proofs.Common.{◌≡◌, ℕ, zero, suc, ◌+◌, ◌-◌, ◌*◌, ◌/◌, ◌%◌, ◌^◌, ◌<◌, ◌≤◌, Bool, true, false, cond, eqb, nat_le, List, [], ◌∷◌, length, take, drop, map, Option, Some, refl, sym, ap, ◌∙◌, inl, inr, arith}
+use Rattle.std.proofs.Common.{◌≡◌, ℕ, zero, suc, ◌+◌, ◌-◌, ◌*◌, ◌/◌, ◌%◌, ◌^◌, ◌<◌, ◌≤◌, Bool, true, false, cond, eqb, nat_le, List, [], ◌∷◌, length, take}
+use Rattle.std.proofs.Common.{drop, map, Option, Some, refl, sym, ap, ◌∙◌, inl, inr, arith}
 use Rattle.std.specs.Prelude.{◌||◌, slice_index}
 use Rattle.std.specs.Option.{option_map}
 use Rattle.std.specs.List.{list_all}
@@ -54,7 +55,8 @@ both_have v w a n j lt apart here there =
       | inr e ↦ let le = leb-true (v.base + length v.bytes) w.base e in omega arith
     ]
 
-not_here : (w : Window) (ws : List Window) (a n j : ℕ) → j < n → list_all (are_apart (extent w)) (map extent ws) ≡ true → inside ws a n ≡ true → has w (a + j) 1 ≡ true → ⊥
+not_here : (w : Window) (ws : List Window) (a n j : ℕ) → j < n → list_all (are_apart (extent w)) (map extent ws) ≡ true → inside ws a n ≡ true
+    → has w (a + j) 1 ≡ true → ⊥
 not_here w [] a n j lt apart h there = absurd cc
 not_here w (v ∷ ws) a n j lt apart h there =
     let both = and_parts (are_apart (extent w) (extent v)) (list_all (are_apart (extent w)) (map extent ws)) apart in
@@ -75,11 +77,13 @@ read_inside (w ∷ ws) a n bs e =
     ] e
 
 -- windows share no byte, so the byte is found where the stretch is
-pub byte_read : (ws : List Window) (a n j : ℕ) (bs : List ℕ) → share_no_byte (map extent ws) ≡ true → read_at ws a n ≡ Some bs → j < n → windows.byte_at ws (a + j) ≡ Some (slice_index bs j)
+pub byte_read : (ws : List Window) (a n j : ℕ) (bs : List ℕ) → share_no_byte (map extent ws) ≡ true → read_at ws a n ≡ Some bs → j < n
+    → windows.byte_at ws (a + j) ≡ Some (slice_index bs j)
 byte_read [] a n j bs apart e lt = absurd cc
 byte_read (w ∷ ws) a n j bs apart e lt =
     let both = and_parts (list_all (are_apart (extent w)) (map extent ws)) (share_no_byte (map extent ws)) apart in
-    elim (has w a n) as (λ b. has w a n ≡ b → cond b (Some (piece w a n)) (read_at ws a n) ≡ Some bs → windows.byte_at (w ∷ ws) (a + j) ≡ Some (slice_index bs j)) [
+    elim (has w a n) as (λ b. has w a n ≡ b → cond b (Some (piece w a n)) (read_at ws a n) ≡ Some bs → windows.byte_at (w ∷ ws) (a + j) ≡ Some
+    (slice_index bs j)) [
       | true ↦ λ is s.
           let fits = has-fits w a n is in
           let same : piece w a n ≡ bs = same_Some (piece w a n) bs s in
@@ -160,14 +164,46 @@ module _ (a b c d e f g h : ℕ) (pa : a ≤ 1) (pb : b ≤ 1) (pc : c ≤ 1) (p
   bit_7 = omega arith
 
 pub byte_bit : (p : List ℕ) (n k : ℕ) → k < 8 → bit_of (pending_byte n p) k ≡ is_pending (8 * n + k) p
-byte_bit p n zero lt = ap (λ x. eqb x 1) (bit_0 (pending_bit (8 * n) p) (pending_bit (8 * n + 1) p) (pending_bit (8 * n + 2) p) (pending_bit (8 * n + 3) p) (pending_bit (8 * n + 4) p) (pending_bit (8 * n + 5) p) (pending_bit (8 * n + 6) p) (pending_bit (8 * n + 7) p) (bit_most (is_pending (8 * n) p)) (bit_most (is_pending (8 * n + 1) p)) (bit_most (is_pending (8 * n + 2) p)) (bit_most (is_pending (8 * n + 3) p)) (bit_most (is_pending (8 * n + 4) p)) (bit_most (is_pending (8 * n + 5) p)) (bit_most (is_pending (8 * n + 6) p)) (bit_most (is_pending (8 * n + 7) p))) ∙ bit_back (is_pending (8 * n) p) ∙ ap (λ y. is_pending y p) (let e : 8 * n ≡ 8 * n + 0 = omega arith in e)
-byte_bit p n (suc zero) lt = ap (λ x. eqb x 1) (bit_1 (pending_bit (8 * n) p) (pending_bit (8 * n + 1) p) (pending_bit (8 * n + 2) p) (pending_bit (8 * n + 3) p) (pending_bit (8 * n + 4) p) (pending_bit (8 * n + 5) p) (pending_bit (8 * n + 6) p) (pending_bit (8 * n + 7) p) (bit_most (is_pending (8 * n) p)) (bit_most (is_pending (8 * n + 1) p)) (bit_most (is_pending (8 * n + 2) p)) (bit_most (is_pending (8 * n + 3) p)) (bit_most (is_pending (8 * n + 4) p)) (bit_most (is_pending (8 * n + 5) p)) (bit_most (is_pending (8 * n + 6) p)) (bit_most (is_pending (8 * n + 7) p))) ∙ bit_back (is_pending (8 * n + 1) p)
-byte_bit p n (suc (suc zero)) lt = ap (λ x. eqb x 1) (bit_2 (pending_bit (8 * n) p) (pending_bit (8 * n + 1) p) (pending_bit (8 * n + 2) p) (pending_bit (8 * n + 3) p) (pending_bit (8 * n + 4) p) (pending_bit (8 * n + 5) p) (pending_bit (8 * n + 6) p) (pending_bit (8 * n + 7) p) (bit_most (is_pending (8 * n) p)) (bit_most (is_pending (8 * n + 1) p)) (bit_most (is_pending (8 * n + 2) p)) (bit_most (is_pending (8 * n + 3) p)) (bit_most (is_pending (8 * n + 4) p)) (bit_most (is_pending (8 * n + 5) p)) (bit_most (is_pending (8 * n + 6) p)) (bit_most (is_pending (8 * n + 7) p))) ∙ bit_back (is_pending (8 * n + 2) p)
-byte_bit p n (suc (suc (suc zero))) lt = ap (λ x. eqb x 1) (bit_3 (pending_bit (8 * n) p) (pending_bit (8 * n + 1) p) (pending_bit (8 * n + 2) p) (pending_bit (8 * n + 3) p) (pending_bit (8 * n + 4) p) (pending_bit (8 * n + 5) p) (pending_bit (8 * n + 6) p) (pending_bit (8 * n + 7) p) (bit_most (is_pending (8 * n) p)) (bit_most (is_pending (8 * n + 1) p)) (bit_most (is_pending (8 * n + 2) p)) (bit_most (is_pending (8 * n + 3) p)) (bit_most (is_pending (8 * n + 4) p)) (bit_most (is_pending (8 * n + 5) p)) (bit_most (is_pending (8 * n + 6) p)) (bit_most (is_pending (8 * n + 7) p))) ∙ bit_back (is_pending (8 * n + 3) p)
-byte_bit p n (suc (suc (suc (suc zero)))) lt = ap (λ x. eqb x 1) (bit_4 (pending_bit (8 * n) p) (pending_bit (8 * n + 1) p) (pending_bit (8 * n + 2) p) (pending_bit (8 * n + 3) p) (pending_bit (8 * n + 4) p) (pending_bit (8 * n + 5) p) (pending_bit (8 * n + 6) p) (pending_bit (8 * n + 7) p) (bit_most (is_pending (8 * n) p)) (bit_most (is_pending (8 * n + 1) p)) (bit_most (is_pending (8 * n + 2) p)) (bit_most (is_pending (8 * n + 3) p)) (bit_most (is_pending (8 * n + 4) p)) (bit_most (is_pending (8 * n + 5) p)) (bit_most (is_pending (8 * n + 6) p)) (bit_most (is_pending (8 * n + 7) p))) ∙ bit_back (is_pending (8 * n + 4) p)
-byte_bit p n (suc (suc (suc (suc (suc zero))))) lt = ap (λ x. eqb x 1) (bit_5 (pending_bit (8 * n) p) (pending_bit (8 * n + 1) p) (pending_bit (8 * n + 2) p) (pending_bit (8 * n + 3) p) (pending_bit (8 * n + 4) p) (pending_bit (8 * n + 5) p) (pending_bit (8 * n + 6) p) (pending_bit (8 * n + 7) p) (bit_most (is_pending (8 * n) p)) (bit_most (is_pending (8 * n + 1) p)) (bit_most (is_pending (8 * n + 2) p)) (bit_most (is_pending (8 * n + 3) p)) (bit_most (is_pending (8 * n + 4) p)) (bit_most (is_pending (8 * n + 5) p)) (bit_most (is_pending (8 * n + 6) p)) (bit_most (is_pending (8 * n + 7) p))) ∙ bit_back (is_pending (8 * n + 5) p)
-byte_bit p n (suc (suc (suc (suc (suc (suc zero)))))) lt = ap (λ x. eqb x 1) (bit_6 (pending_bit (8 * n) p) (pending_bit (8 * n + 1) p) (pending_bit (8 * n + 2) p) (pending_bit (8 * n + 3) p) (pending_bit (8 * n + 4) p) (pending_bit (8 * n + 5) p) (pending_bit (8 * n + 6) p) (pending_bit (8 * n + 7) p) (bit_most (is_pending (8 * n) p)) (bit_most (is_pending (8 * n + 1) p)) (bit_most (is_pending (8 * n + 2) p)) (bit_most (is_pending (8 * n + 3) p)) (bit_most (is_pending (8 * n + 4) p)) (bit_most (is_pending (8 * n + 5) p)) (bit_most (is_pending (8 * n + 6) p)) (bit_most (is_pending (8 * n + 7) p))) ∙ bit_back (is_pending (8 * n + 6) p)
-byte_bit p n (suc (suc (suc (suc (suc (suc (suc zero))))))) lt = ap (λ x. eqb x 1) (bit_7 (pending_bit (8 * n) p) (pending_bit (8 * n + 1) p) (pending_bit (8 * n + 2) p) (pending_bit (8 * n + 3) p) (pending_bit (8 * n + 4) p) (pending_bit (8 * n + 5) p) (pending_bit (8 * n + 6) p) (pending_bit (8 * n + 7) p) (bit_most (is_pending (8 * n) p)) (bit_most (is_pending (8 * n + 1) p)) (bit_most (is_pending (8 * n + 2) p)) (bit_most (is_pending (8 * n + 3) p)) (bit_most (is_pending (8 * n + 4) p)) (bit_most (is_pending (8 * n + 5) p)) (bit_most (is_pending (8 * n + 6) p)) (bit_most (is_pending (8 * n + 7) p))) ∙ bit_back (is_pending (8 * n + 7) p)
+byte_bit p n zero lt = ap (λ x. eqb x 1) (bit_0 (pending_bit (8 * n) p) (pending_bit (8 * n + 1) p) (pending_bit (8 * n + 2) p) (pending_bit (8 * n + 3) p)
+    (pending_bit (8 * n + 4) p) (pending_bit (8 * n + 5) p) (pending_bit (8 * n + 6) p) (pending_bit (8 * n + 7) p) (bit_most (is_pending (8 * n) p))
+    (bit_most (is_pending (8 * n + 1) p)) (bit_most (is_pending (8 * n + 2) p)) (bit_most (is_pending (8 * n + 3) p)) (bit_most (is_pending (8 * n + 4) p))
+    (bit_most (is_pending (8 * n + 5) p)) (bit_most (is_pending (8 * n + 6) p)) (bit_most (is_pending (8 * n + 7) p))) ∙ bit_back (is_pending (8 * n) p)
+    ∙ ap (λ y. is_pending y p) (let e : 8 * n ≡ 8 * n + 0 = omega arith in e)
+byte_bit p n (suc zero) lt = ap (λ x. eqb x 1) (bit_1 (pending_bit (8 * n) p) (pending_bit (8 * n + 1) p) (pending_bit (8 * n + 2) p)
+    (pending_bit (8 * n + 3) p) (pending_bit (8 * n + 4) p) (pending_bit (8 * n + 5) p) (pending_bit (8 * n + 6) p) (pending_bit (8 * n + 7) p)
+    (bit_most (is_pending (8 * n) p)) (bit_most (is_pending (8 * n + 1) p)) (bit_most (is_pending (8 * n + 2) p)) (bit_most (is_pending (8 * n + 3) p))
+    (bit_most (is_pending (8 * n + 4) p)) (bit_most (is_pending (8 * n + 5) p)) (bit_most (is_pending (8 * n + 6) p)) (bit_most (is_pending (8 * n + 7) p)))
+    ∙ bit_back (is_pending (8 * n + 1) p)
+byte_bit p n (suc (suc zero)) lt = ap (λ x. eqb x 1) (bit_2 (pending_bit (8 * n) p) (pending_bit (8 * n + 1) p) (pending_bit (8 * n + 2) p)
+    (pending_bit (8 * n + 3) p) (pending_bit (8 * n + 4) p) (pending_bit (8 * n + 5) p) (pending_bit (8 * n + 6) p) (pending_bit (8 * n + 7) p)
+    (bit_most (is_pending (8 * n) p)) (bit_most (is_pending (8 * n + 1) p)) (bit_most (is_pending (8 * n + 2) p)) (bit_most (is_pending (8 * n + 3) p))
+    (bit_most (is_pending (8 * n + 4) p)) (bit_most (is_pending (8 * n + 5) p)) (bit_most (is_pending (8 * n + 6) p)) (bit_most (is_pending (8 * n + 7) p)))
+    ∙ bit_back (is_pending (8 * n + 2) p)
+byte_bit p n (suc (suc (suc zero))) lt = ap (λ x. eqb x 1) (bit_3 (pending_bit (8 * n) p) (pending_bit (8 * n + 1) p) (pending_bit (8 * n + 2) p)
+    (pending_bit (8 * n + 3) p) (pending_bit (8 * n + 4) p) (pending_bit (8 * n + 5) p) (pending_bit (8 * n + 6) p) (pending_bit (8 * n + 7) p)
+    (bit_most (is_pending (8 * n) p)) (bit_most (is_pending (8 * n + 1) p)) (bit_most (is_pending (8 * n + 2) p)) (bit_most (is_pending (8 * n + 3) p))
+    (bit_most (is_pending (8 * n + 4) p)) (bit_most (is_pending (8 * n + 5) p)) (bit_most (is_pending (8 * n + 6) p)) (bit_most (is_pending (8 * n + 7) p)))
+    ∙ bit_back (is_pending (8 * n + 3) p)
+byte_bit p n (suc (suc (suc (suc zero)))) lt = ap (λ x. eqb x 1) (bit_4 (pending_bit (8 * n) p) (pending_bit (8 * n + 1) p) (pending_bit (8 * n + 2) p)
+    (pending_bit (8 * n + 3) p) (pending_bit (8 * n + 4) p) (pending_bit (8 * n + 5) p) (pending_bit (8 * n + 6) p) (pending_bit (8 * n + 7) p)
+    (bit_most (is_pending (8 * n) p)) (bit_most (is_pending (8 * n + 1) p)) (bit_most (is_pending (8 * n + 2) p)) (bit_most (is_pending (8 * n + 3) p))
+    (bit_most (is_pending (8 * n + 4) p)) (bit_most (is_pending (8 * n + 5) p)) (bit_most (is_pending (8 * n + 6) p)) (bit_most (is_pending (8 * n + 7) p)))
+    ∙ bit_back (is_pending (8 * n + 4) p)
+byte_bit p n (suc (suc (suc (suc (suc zero))))) lt = ap (λ x. eqb x 1) (bit_5 (pending_bit (8 * n) p) (pending_bit (8 * n + 1) p) (pending_bit (8 * n + 2) p)
+    (pending_bit (8 * n + 3) p) (pending_bit (8 * n + 4) p) (pending_bit (8 * n + 5) p) (pending_bit (8 * n + 6) p) (pending_bit (8 * n + 7) p)
+    (bit_most (is_pending (8 * n) p)) (bit_most (is_pending (8 * n + 1) p)) (bit_most (is_pending (8 * n + 2) p)) (bit_most (is_pending (8 * n + 3) p))
+    (bit_most (is_pending (8 * n + 4) p)) (bit_most (is_pending (8 * n + 5) p)) (bit_most (is_pending (8 * n + 6) p)) (bit_most (is_pending (8 * n + 7) p)))
+    ∙ bit_back (is_pending (8 * n + 5) p)
+byte_bit p n (suc (suc (suc (suc (suc (suc zero)))))) lt = ap (λ x. eqb x 1) (bit_6 (pending_bit (8 * n) p) (pending_bit (8 * n + 1) p)
+    (pending_bit (8 * n + 2) p) (pending_bit (8 * n + 3) p) (pending_bit (8 * n + 4) p) (pending_bit (8 * n + 5) p) (pending_bit (8 * n + 6) p)
+    (pending_bit (8 * n + 7) p) (bit_most (is_pending (8 * n) p)) (bit_most (is_pending (8 * n + 1) p)) (bit_most (is_pending (8 * n + 2) p))
+    (bit_most (is_pending (8 * n + 3) p)) (bit_most (is_pending (8 * n + 4) p)) (bit_most (is_pending (8 * n + 5) p)) (bit_most (is_pending (8 * n + 6) p))
+    (bit_most (is_pending (8 * n + 7) p))) ∙ bit_back (is_pending (8 * n + 6) p)
+byte_bit p n (suc (suc (suc (suc (suc (suc (suc zero))))))) lt = ap (λ x. eqb x 1) (bit_7 (pending_bit (8 * n) p) (pending_bit (8 * n + 1) p)
+    (pending_bit (8 * n + 2) p) (pending_bit (8 * n + 3) p) (pending_bit (8 * n + 4) p) (pending_bit (8 * n + 5) p) (pending_bit (8 * n + 6) p)
+    (pending_bit (8 * n + 7) p) (bit_most (is_pending (8 * n) p)) (bit_most (is_pending (8 * n + 1) p)) (bit_most (is_pending (8 * n + 2) p))
+    (bit_most (is_pending (8 * n + 3) p)) (bit_most (is_pending (8 * n + 4) p)) (bit_most (is_pending (8 * n + 5) p)) (bit_most (is_pending (8 * n + 6) p))
+    (bit_most (is_pending (8 * n + 7) p))) ∙ bit_back (is_pending (8 * n + 7) p)
 byte_bit p n (suc (suc (suc (suc (suc (suc (suc (suc k)))))))) lt = absurd (omega arith)
 
 -- ---- both together
@@ -175,13 +211,17 @@ byte_bit p n (suc (suc (suc (suc (suc (suc (suc (suc k)))))))) lt = absurd (omeg
 -- the bytes of a word of a pending table
 pub pending_bytes_of : (p : List ℕ) (n : ℕ)
     → little_bytes 8 (pending_word p n)
-    ≡ pending_byte n p ∷ pending_byte (n + 1) p ∷ pending_byte (n + 2) p ∷ pending_byte (n + 3) p ∷ pending_byte (n + 4) p ∷ pending_byte (n + 5) p ∷ pending_byte (n + 6) p ∷ pending_byte (n + 7) p ∷ []
+    ≡ pending_byte n p ∷ pending_byte (n + 1) p ∷ pending_byte (n + 2) p ∷ pending_byte (n + 3) p ∷ pending_byte (n + 4) p ∷ pending_byte (n + 5) p
+    ∷ pending_byte (n + 6) p ∷ pending_byte (n + 7) p ∷ []
 unfolding pending_word
 pending_bytes_of p n =
-    same_bytes (pending_byte n p) (pending_byte (n + 1) p) (pending_byte (n + 2) p) (pending_byte (n + 3) p) (pending_byte (n + 4) p) (pending_byte (n + 5) p) (pending_byte (n + 6) p) (pending_byte (n + 7) p)
-    (byte_most n p) (byte_most (n + 1) p) (byte_most (n + 2) p) (byte_most (n + 3) p) (byte_most (n + 4) p) (byte_most (n + 5) p) (byte_most (n + 6) p) (byte_most (n + 7) p)
+    same_bytes (pending_byte n p) (pending_byte (n + 1) p) (pending_byte (n + 2) p) (pending_byte (n + 3) p) (pending_byte (n + 4) p) (pending_byte (n + 5) p)
+    (pending_byte (n + 6) p) (pending_byte (n + 7) p)
+    (byte_most n p) (byte_most (n + 1) p) (byte_most (n + 2) p) (byte_most (n + 3) p) (byte_most (n + 4) p) (byte_most (n + 5) p) (byte_most (n + 6) p)
+    (byte_most (n + 7) p)
 
-one_of : (p : List ℕ) (n k : ℕ) → k < 8 → slice_index (pending_byte n p ∷ pending_byte (n + 1) p ∷ pending_byte (n + 2) p ∷ pending_byte (n + 3) p ∷ pending_byte (n + 4) p ∷ pending_byte (n + 5) p ∷ pending_byte (n + 6) p ∷ pending_byte (n + 7) p ∷ []) k ≡ pending_byte (n + k) p
+one_of : (p : List ℕ) (n k : ℕ) → k < 8 → slice_index (pending_byte n p ∷ pending_byte (n + 1) p ∷ pending_byte (n + 2) p ∷ pending_byte (n + 3) p
+    ∷ pending_byte (n + 4) p ∷ pending_byte (n + 5) p ∷ pending_byte (n + 6) p ∷ pending_byte (n + 7) p ∷ []) k ≡ pending_byte (n + k) p
 one_of p n zero lt = ap (λ m. pending_byte m p) (let e : n ≡ n + 0 = omega arith in e)
 one_of p n (suc zero) lt = refl
 one_of p n (suc (suc zero)) lt = refl

@@ -36,7 +36,8 @@ module _ {X : Type 0} where
   nothing x o none some = let two : None ≡ Some x = sym none ∙ some in cc
 
   -- the first entry, or one of the others
-  after_either : (C : Type 0) (i j : ℕ) (e : ℕ × X) (es : List (ℕ × X)) → key_after i (e ∷ es) ≡ Some j → (i < e.0 → e.0 ≡ j → C) → (e.0 ≤ i → key_after i es ≡ Some j → C) → C
+  after_either : (C : Type 0) (i j : ℕ) (e : ℕ × X) (es : List (ℕ × X)) → key_after i (e ∷ es) ≡ Some j → (i < e.0 → e.0 ≡ j → C)
+      → (e.0 ≤ i → key_after i es ≡ Some j → C) → C
   after_either C i j e es is here later =
       elim (nat_lt i e.0) as (λ b. nat_lt i e.0 ≡ b → cond b (Some e.0) (key_after i es) ≡ Some j → C) [
         | true ↦ λ t s. here (ltb-true i e.0 t) (same_Some e.0 j s)
@@ -68,7 +69,8 @@ module _ {X : Type 0} where
       after_either (j ≤ k) i j e es is
       (λ up same.
       elim (cases_lt k e.0) [
-        | inl below ↦ absurd (nothing x (finmap.find nat_cmp k (e ∷ es)) (find_skips k e es (λ s. omega arith) ∙ rises_none k (e.0 + 1) es r.1 (omega arith)) at)
+        | inl below ↦ absurd (nothing x (finmap.find nat_cmp k (e ∷ es)) (find_skips k e es (λ s. omega arith) ∙ rises_none k (e.0 + 1) es r.1 (omega arith))
+            at)
         | inr le ↦ omega arith
       ])
       (λ le later. after_least (e.0 + 1) i j k x es r.1 later (sym (find_skips k e es (λ s. omega arith)) ∙ at) lt)
@@ -88,7 +90,8 @@ module _ {X : Type 0} where
   }
 
   -- the same of whatever says the same
-  pub chain_of : (mapped : ℕ → Option X) (after : ℕ → Option ℕ) (es : List (ℕ × X)) → RisesFrom 0 es → ((k : ℕ) → mapped k ≡ finmap.find nat_cmp k es) → ((i : ℕ) → after i ≡ key_after i es) → IsChain mapped after
+  pub chain_of : (mapped : ℕ → Option X) (after : ℕ → Option ℕ) (es : List (ℕ × X)) → RisesFrom 0 es → ((k : ℕ) → mapped k ≡ finmap.find nat_cmp k es)
+      → ((i : ℕ) → after i ≡ key_after i es) → IsChain mapped after
   chain_of mapped after es r same next = record {
     up = λ i j is. after_up i j es (sym (next i) ∙ is);
     there = λ i j is. let h = after_there 0 i j es r (sym (next i) ∙ is) in (h.0, same j ∙ h.1);

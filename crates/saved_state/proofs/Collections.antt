@@ -1,5 +1,6 @@
 -- A collection table that was saved holds just the collections that are mapped.
-use Rattle.std.proofs.Common.{◌≡◌, ℕ, zero, suc, ◌+◌, ◌*◌, ◌^◌, ◌<◌, ◌≤◌, Bool, true, false, not, cond, nat_lt, List, Option, Some, None, Ok, refl, sym, subst, ap, ◌∙◌, arith, ◌↔◌, add-one}
+use Rattle.std.proofs.Common.{◌≡◌, ℕ, zero, suc, ◌+◌, ◌*◌, ◌^◌, ◌<◌, ◌≤◌, Bool, true, false, not, cond, nat_lt, List, Option, Some, None, Ok, refl, sym, subst}
+use Rattle.std.proofs.Common.{ap, ◌∙◌, arith, ◌↔◌, add-one}
 use Rattle.std.specs.Prelude.{◌||◌, slice_get}
 use Rattle.std.specs.Option.{option_and_then, option_map, ok_or}
 use Rattle.std.specs.FinMap.{entries, entries_sorted, get-entries}
@@ -13,7 +14,8 @@ use Rattle.table_entries.specs.Words.{packed_collection, unpacked_collection}
 use Rattle.its_types.specs.Maps.{Maps, collection_of}
 use Rattle.its_types.specs.declared.ids.Vcpu.{Vcpu}
 use Rattle.its_plain.specs.Walks.{within, ensure, ◌>>=◌}
-use Rattle.its_plain.specs.CollectionTables.{collection_address, collection_entry, collection_leads, next_collection, is_of, stands_before, collection_entry_check, collection_check, CollectionReached, AreCollectionsClear, HasCollection}
+use Rattle.its_plain.specs.CollectionTables.{collection_address, collection_entry, collection_leads, next_collection, is_of, stands_before}
+use Rattle.its_plain.specs.CollectionTables.{collection_entry_check, collection_check, CollectionReached, AreCollectionsClear, HasCollection}
 use Rattle.its_plain.specs.declared.fault.RestoreFault.{RestoreFault}
 use Rattle.its_plain.specs.declared.fault.RestoreFault.TheVariants.{OutsideTable}
 use Rattle.its_plain.specs.Saved as saved
@@ -29,7 +31,8 @@ fields_of c = record { vcpu_number = c.1.0; icid = c.0 }
 abbrev seen : Option (ℕ × Vcpu) → Option CollectionFields
 seen o = option_map fields_of o
 
-pub unpacks : (v icid : ℕ) → v < 2 ^ 36 → icid < 2 ^ 16 → unpacked_collection (packed_collection (record { vcpu_number = v; icid = icid })) ≡ Some (record { vcpu_number = v; icid = icid })
+pub unpacks : (v icid : ℕ) → v < 2 ^ 36 → icid < 2 ^ 16 → unpacked_collection (packed_collection (record { vcpu_number = v; icid = icid })) ≡ Some
+    (record { vcpu_number = v; icid = icid })
 unpacks v icid low small =
     let word : ℕ = 2 ^ 63 + v * 2 ^ 16 + icid in
     let valid : bit_of word 63 ≡ true = eq-eqb (field word 63 1) 1 (omega arith) in
@@ -86,7 +89,8 @@ module _ (memory : List Window) (vcpus : ℕ) (r : Registers) (m : Maps) (valid 
 
   reached_low : (i : ℕ) → CollectionReached memory r i → i < collection_places r
   reached_low i h =
-      stays_good (next_collection memory r) (λ k. k < collection_places r) (λ p q low e. leads_within p q (seen (slice_get es p)) (sym (next_at p low) ∙ e)) 0 i some_places h
+      stays_good (next_collection memory r) (λ k. k < collection_places r) (λ p q low e. leads_within p q (seen (slice_get es p)) (sym (next_at p low) ∙ e)) 0 i
+      some_places h
 
   reached_taken : (i : ℕ) (c : ℕ × Vcpu) → slice_get es i ≡ Some c → CollectionReached memory r i
   reached_taken zero c at = at_start (next_collection memory r) 0
@@ -95,11 +99,13 @@ module _ (memory : List Window) (vcpus : ℕ) (r : Registers) (m : Maps) (valid 
       let low = place_low es (entries_sorted m.collections) (suc i) c at in
       let in_table = (stand (suc i) c at).in_table in
       further (next_collection memory r) 0 i (suc i) (reached_taken i before.0 before.1)
-      (next_at i (omega arith) ∙ ap (λ (o : Option (ℕ × Vcpu)). collection_leads r i (seen o)) before.1 ∙ ap (within (collection_places r)) (add-one i) ∙ within_some (collection_places r) (suc i) (omega arith))
+      (next_at i (omega arith) ∙ ap (λ (o : Option (ℕ × Vcpu)). collection_leads r i (seen o)) before.1 ∙ ap (within (collection_places r)) (add-one i)
+      ∙ within_some (collection_places r) (suc i) (omega arith))
 
   -- ---- each collection has one entry
 
-  none_before : (n icid : ℕ) → n ≤ collection_places r → ((j : ℕ) (d : ℕ × Vcpu) → j < n → slice_get es j ≡ Some d → d.0 ≡ icid → ⊥) → stands_before memory r n icid ≡ false
+  none_before : (n icid : ℕ) → n ≤ collection_places r → ((j : ℕ) (d : ℕ × Vcpu) → j < n → slice_get es j ≡ Some d → d.0 ≡ icid → ⊥)
+      → stands_before memory r n icid ≡ false
   none_before zero icid le apart = refl
   none_before (suc n) icid le apart =
       ap (λ (o : Option CollectionFields). is_of icid o || stands_before memory r n icid) (entry_at n (omega arith))
@@ -112,7 +118,8 @@ module _ (memory : List Window) (vcpus : ℕ) (r : Registers) (m : Maps) (valid 
 
   all_tests : (a b d : Bool) (f g h : RestoreFault) → a ≡ true → b ≡ true → d ≡ false → (ensure a f >>= λ _. ensure b g >>= λ _. ensure (not d) h) ≡ Ok tt
   all_tests a b d f g h pa pb pd =
-      ap (λ (x : Bool). ensure x f >>= λ _. ensure b g >>= λ _. ensure (not d) h) pa ∙ ap (λ (x : Bool). ensure x g >>= λ _. ensure (not d) h) pb ∙ ap (λ (x : Bool). ensure (not x) h) pd
+      ap (λ (x : Bool). ensure x f >>= λ _. ensure b g >>= λ _. ensure (not d) h) pa ∙ ap (λ (x : Bool). ensure x g >>= λ _. ensure (not d) h) pb
+      ∙ ap (λ (x : Bool). ensure (not x) h) pd
 
   check_at : (i : ℕ) (o : Option (ℕ × Vcpu)) → i < collection_places r → slice_get es i ≡ o → collection_entry_check memory vcpus r i (seen o) ≡ Ok tt
   check_at i None lt at = refl
@@ -124,7 +131,8 @@ module _ (memory : List Window) (vcpus : ℕ) (r : Registers) (m : Maps) (valid 
 
   clear_at : (i : ℕ) → i < collection_places r → collection_check memory vcpus r i ≡ Ok tt
   clear_at i lt =
-      ap (λ (o : Option ℕ). ok_or o (OutsideTable (record { 0 = collection_address r i })) >>= λ word. collection_entry_check memory vcpus r i (unpacked_collection word)) (found i lt)
+      ap (λ (o : Option ℕ). ok_or o (OutsideTable (record { 0 = collection_address r i })) >>= λ word. collection_entry_check memory vcpus r i
+      (unpacked_collection word)) (found i lt)
       ∙ ap (collection_entry_check memory vcpus r i) (word_is i)
       ∙ check_at i (slice_get es i) lt refl
 

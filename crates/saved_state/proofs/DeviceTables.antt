@@ -1,5 +1,6 @@
 -- The device table of a translator, as saved memory has it.
-use Rattle.std.proofs.Common.{◌≡◌, ℕ, zero, suc, ◌+◌, ◌-◌, ◌*◌, ◌/◌, ◌^◌, ◌<◌, ◌≤◌, Bool, true, false, not, cond, List, [], ◌∷◌, ◌++◌, Option, Some, None, is_some, refl, sym, subst, ap, ◌∙◌, inl, inr, arith, ◌↔◌}
+use Rattle.std.proofs.Common.{◌≡◌, ℕ, zero, suc, ◌+◌, ◌-◌, ◌*◌, ◌/◌, ◌^◌, ◌<◌, ◌≤◌, Bool, true, false, not, cond, List, [], ◌∷◌, ◌++◌, Option, Some, None}
+use Rattle.std.proofs.Common.{is_some, refl, sym, subst, ap, ◌∙◌, inl, inr, arith, ◌↔◌}
 use Rattle.std.specs.Prelude.{◌&&◌, IsSome, slice_get}
 use Rattle.std.specs.Option.{option_map}
 use Rattle.std.specs.List.{AllByRecursion, flat_map}
@@ -17,8 +18,10 @@ use Rattle.its_plain.specs.Plain.{Plain, Translator}
 use Rattle.its_plain.specs.Sound.{IsSound, IsTranslator}
 use Rattle.its_plain.specs.declared.area.Area.{Area}
 use Rattle.its_plain.specs.declared.fault.Region.TheVariants.{Devices, Level1}
-use Rattle.its_plain.specs.Regions.{device_pages, pages_below, device_areas, collection_areas, itt_areas, table_areas, tables_of, areas_of, areas_from, pending_area, config_areas, queue_areas, has_no_place}
-use Rattle.its_plain.specs.Saved.{Words, saved, device_word, device_after, page_words, pages_words, device_words, collection_words, itt_words, translator_words, IsSavable}
+use Rattle.its_plain.specs.Regions.{device_pages, pages_below, device_areas, collection_areas, itt_areas, table_areas, tables_of, areas_of, areas_from}
+use Rattle.its_plain.specs.Regions.{pending_area, config_areas, queue_areas, has_no_place}
+use Rattle.its_plain.specs.Saved.{Words, saved, device_word, device_after, page_words, pages_words, device_words, collection_words, itt_words}
+use Rattle.its_plain.specs.Saved.{translator_words, IsSavable}
 use Rattle.its_plain.specs.DeviceTables.{flat_size, page_places, HasDevice, AreDevicesClear}
 use Rattle.standing_states.proofs.Rises.{sorted_rises}
 use Rattle.saved_state.specs.Laws.{DevicesStand}
@@ -36,22 +39,27 @@ use Rattle.saved_state.proofs.Maps.{itt_is_clear}
 
 -- what is read of an area that isn't written
 abbrev StaysRead : Plain → Area → Type 0
-StaysRead u a = a.is_written ≡ false → (address n : ℕ) → a.base ≤ address → address + n ≤ a.base + a.size → read_at (saved u) address n ≡ read_at u.memory address n
+StaysRead u a = a.is_written ≡ false → (address n : ℕ) → a.base ≤ address → address + n ≤ a.base + a.size
+    → read_at (saved u) address n ≡ read_at u.memory address n
 
 all_stay : (u : Plain) → IsSound u → IsSavable u → AllByRecursion (StaysRead u) (areas_of u)
-all_stay u sound savable = all_by_place (StaysRead u) (areas_of u) (λ k a at unwritten address n low high. read_stays u k a address n sound savable at unwritten low high)
+all_stay u sound savable = all_by_place (StaysRead u) (areas_of u) (λ k a at unwritten address n low high. read_stays u k a address n sound savable at unwritten
+    low high)
 
 -- what holds of all of a translator's tables holds of its device table
-of_devices : (P : Area → Type 0) (memory : List Window) (ts : List Translator) (k : ℕ) (t : Translator) → AllByRecursion P (flat_map (table_areas memory) ts) → slice_get ts k ≡ Some t → AllByRecursion P (device_areas t.regs memory)
+of_devices : (P : Area → Type 0) (memory : List Window) (ts : List Translator) (k : ℕ) (t : Translator) → AllByRecursion P (flat_map (table_areas memory) ts)
+    → slice_get ts k ≡ Some t → AllByRecursion P (device_areas t.regs memory)
 unfolding table_areas
 of_devices P memory ts k t all at =
     let own = of_flat P (table_areas memory) ts all k t at in
-    all_left P (device_areas t.regs memory) (collection_areas t.regs) (all_left P (device_areas t.regs memory ++ collection_areas t.regs) (itt_areas t.maps) own)
+    all_left P (device_areas t.regs memory) (collection_areas t.regs) (all_left P (device_areas t.regs memory ++ collection_areas t.regs)
+    (itt_areas t.maps) own)
 
 abbrev level1_area : Registers → Area
 level1_area r = record { region = Level1; base = table_base r.baser0; size = 8 * level1_entries r.dev_bits; is_written = false }
 
-of_level1 : (P : Area → Type 0) (memory : List Window) (r : Registers) → is_valid r.baser0 ≡ true → is_indirect r.baser0 ≡ true → AllByRecursion P (device_areas r memory) → P (level1_area r)
+of_level1 : (P : Area → Type 0) (memory : List Window) (r : Registers) → is_valid r.baser0 ≡ true → is_indirect r.baser0 ≡ true
+    → AllByRecursion P (device_areas r memory) → P (level1_area r)
 unfolding device_areas
 of_level1 P memory r valid two all =
     let rest : List Area = cond (inside memory (table_base r.baser0) (8 * level1_entries r.dev_bits)) (pages_below r memory (level1_entries r.dev_bits)) [] in
@@ -66,7 +74,8 @@ some_number (Some bytes) e = refl
 
 -- ---- entries
 
-flat_found : (memory old : List Window) (t : Translator) → is_valid t.regs.baser0 ≡ true → is_indirect t.regs.baser0 ≡ false → AllByRecursion (IsFound memory) (device_words t old)
+flat_found : (memory old : List Window) (t : Translator) → is_valid t.regs.baser0 ≡ true → is_indirect t.regs.baser0 ≡ false
+    → AllByRecursion (IsFound memory) (device_words t old)
     → (i : ℕ) → i < 8192 * device_pages t.regs → number_at memory (entry_address (table_base t.regs.baser0) i) ≡ Some (device_word t.maps i)
 unfolding device_words
 flat_found memory old t valid flat all =
@@ -76,7 +85,8 @@ flat_found memory old t valid flat all =
     let here = subst (λ (i : Bool). AllByRecursion (IsFound memory) (cond i paged table)) flat one in
     here.0
 
-paged_all : (memory old : List Window) (t : Translator) → is_valid t.regs.baser0 ≡ true → is_indirect t.regs.baser0 ≡ true → AllByRecursion (IsFound memory) (device_words t old)
+paged_all : (memory old : List Window) (t : Translator) → is_valid t.regs.baser0 ≡ true → is_indirect t.regs.baser0 ≡ true
+    → AllByRecursion (IsFound memory) (device_words t old)
     → AllByRecursion (IsFound memory) (pages_words t old (level1_entries t.regs.dev_bits))
 unfolding device_words
 paged_all memory old t valid two all =
@@ -91,7 +101,8 @@ page_found memory m k page o all is =
     let here = subst (λ (p : Option ℕ). AllByRecursion (IsFound memory) (page_words m k p)) is all in
     here.0
 
-pages_found : (memory old : List Window) (t : Translator) (n k page : ℕ) → AllByRecursion (IsFound memory) (pages_words t old n) → k < n → page_of (level1_of t.regs old k) ≡ Some page
+pages_found : (memory old : List Window) (t : Translator) (n k page : ℕ) → AllByRecursion (IsFound memory) (pages_words t old n) → k < n
+    → page_of (level1_of t.regs old k) ≡ Some page
     → (i : ℕ) → i < 8192 → number_at memory (entry_address page i) ≡ Some (device_word t.maps (8192 * k + i))
 pages_found memory old t zero k page all lt is = absurd (omega arith)
 pages_found memory old t (suc n) k page all lt is =
@@ -100,7 +111,8 @@ pages_found memory old t (suc n) k page all lt is =
           page_found memory t.maps k page (page_of (level1_of t.regs old k))
           (subst (λ (l : ℕ). AllByRecursion (IsFound memory) (page_words t.maps l (page_of (level1_of t.regs old l)))) (sym same)
           (all_right (IsFound memory) (pages_words t old n) (page_words t.maps n (page_of (level1_of t.regs old n))) all)) is
-      | inr apart ↦ pages_found memory old t n k page (all_left (IsFound memory) (pages_words t old n) (page_words t.maps n (page_of (level1_of t.regs old n))) all) (omega (arith, apart)) is
+      | inr apart ↦ pages_found memory old t n k page (all_left (IsFound memory) (pages_words t old n) (page_words t.maps n (page_of (level1_of t.regs old n)))
+          all) (omega (arith, apart)) is
     ]
 
 -- ---- the whole table
@@ -117,7 +129,8 @@ all_ids : (bits : ℕ) → 16 ≤ bits → 8192 * 2 ^ (bits - 13) ≡ 2 ^ bits
 all_ids bits least = let split : bits ≡ 13 + (bits - 13) = omega arith in sym (ap (λ k. 2 ^ k) split ∙ pow-add 2 13 (bits - 13))
 
 devices_linked : (m : Maps) → IsChain (device_of m) (device_after m)
-devices_linked m = chain_of (device_of m) (device_after m) (entries m.devices) (sorted_rises (entries m.devices) (entries_sorted m.devices)) (λ dev. get-entries m.devices dev) (λ dev. refl)
+devices_linked m = chain_of (device_of m) (device_after m) (entries m.devices) (sorted_rises (entries m.devices) (entries_sorted m.devices))
+    (λ dev. get-entries m.devices dev) (λ dev. refl)
 
 module _ (u : Plain) (k : ℕ) (t : Translator) (sound : IsSound u) (savable : IsSavable u) (at : slice_get u.translators k ≡ Some t) where
   own : IsTranslator u.layout.shape t
@@ -127,7 +140,8 @@ module _ (u : Plain) (k : ℕ) (t : Translator) (sound : IsSound u) (savable : I
   unfolding translator_words
   words_there =
       let all = translator_found u k t sound savable at in
-      all_left (IsFound (saved u)) (device_words t u.memory) (collection_words t) (all_left (IsFound (saved u)) (device_words t u.memory ++ collection_words t) (itt_words t.maps) all)
+      all_left (IsFound (saved u)) (device_words t u.memory) (collection_words t) (all_left (IsFound (saved u)) (device_words t u.memory ++ collection_words t)
+      (itt_words t.maps) all)
 
   stays : is_valid t.regs.baser0 ≡ true → is_indirect t.regs.baser0 ≡ true → StaysRead u (level1_area t.regs)
   unfolding areas_of
@@ -136,10 +150,12 @@ module _ (u : Plain) (k : ℕ) (t : Translator) (sound : IsSound u) (savable : I
       let pending = areas_from (pending_area u.layout.shape) 0 u.redistributors in
       let configs = config_areas u in
       let queues = flat_map queue_areas u.translators in
-      let all = all_left (StaysRead u) tables pending (all_left (StaysRead u) (tables ++ pending) configs (all_left (StaysRead u) (tables ++ pending ++ configs) queues (all_stay u sound savable))) in
+      let all = all_left (StaysRead u) tables pending
+      (all_left (StaysRead u) (tables ++ pending) configs (all_left (StaysRead u) (tables ++ pending ++ configs) queues (all_stay u sound savable))) in
       of_level1 (StaysRead u) u.memory t.regs valid two (of_devices (StaysRead u) u.memory u.translators k t all at)
 
-  level1_inside : is_valid t.regs.baser0 ≡ true → is_indirect t.regs.baser0 ≡ true → inside u.memory (table_base t.regs.baser0) (8 * level1_entries t.regs.dev_bits) ≡ true
+  level1_inside : is_valid t.regs.baser0 ≡ true → is_indirect t.regs.baser0 ≡ true → inside u.memory (table_base t.regs.baser0)
+      (8 * level1_entries t.regs.dev_bits) ≡ true
   level1_inside valid two =
       of_level1 (λ a. inside u.memory a.base a.size ≡ true) u.memory t.regs valid two
       (of_devices (λ a. inside u.memory a.base a.size ≡ true) u.memory u.translators k t (tested u savable).inside at)
@@ -150,26 +166,31 @@ module _ (u : Plain) (k : ℕ) (t : Translator) (sound : IsSound u) (savable : I
       let place = level1_inside valid two in (
         ap (option_map (λ bytes. little_number 8 bytes)) (stays valid two refl (level1_address t.regs i) 8 (omega arith) (omega (arith, lt))),
         some_number (read_at u.memory (level1_address t.regs i) 8)
-            (is_some-read_at u.memory (level1_address t.regs i) 8 ∙ inside_part u.memory (table_base t.regs.baser0) (8 * level1_entries t.regs.dev_bits) (level1_address t.regs i) 8 (omega arith) (omega (arith, lt)) place),
+            (is_some-read_at u.memory (level1_address t.regs i) 8 ∙ inside_part u.memory (table_base t.regs.baser0) (8 * level1_entries t.regs.dev_bits)
+            (level1_address t.regs i) 8 (omega arith) (omega (arith, lt)) place),
       )
 
-  entries_found : is_valid t.regs.baser0 ≡ true → (l page i : ℕ) → IsPage u.memory t.regs l page → i < page_places t.regs → number_at (saved u) (entry_address page i) ≡ Some (device_word t.maps (8192 * l + i))
+  entries_found : is_valid t.regs.baser0 ≡ true → (l page i : ℕ) → IsPage u.memory t.regs l page → i < page_places t.regs
+      → number_at (saved u) (entry_address page i) ≡ Some (device_word t.maps (8192 * l + i))
   unfolding flat_size
   entries_found valid l page i is lt =
       elim (cases_Bool (is_indirect t.regs.baser0)) [
         | inl two ↦
             let size = page_two t.regs two in
             let of_page = is.two two in
-            pages_found (saved u) u.memory t (level1_entries t.regs.dev_bits) l page (paged_all (saved u) u.memory t valid two words_there) of_page.0 of_page.1 i (omega arith)
+            pages_found (saved u) u.memory t (level1_entries t.regs.dev_bits) l page (paged_all (saved u) u.memory t valid two words_there) of_page.0 of_page.1
+            i (omega arith)
         | inr flat ↦
             let size = page_flat t.regs flat in
             let of_table = is.flat flat in
             let first = of_table.0 in
             let number : i ≡ 8192 * l + i = omega arith in
-            ap (λ (b : ℕ). number_at (saved u) (entry_address b i)) of_table.1 ∙ flat_found (saved u) u.memory t valid flat words_there i (omega arith) ∙ ap (λ (n : ℕ). Some (device_word t.maps n)) number
+            ap (λ (b : ℕ). number_at (saved u) (entry_address b i)) of_table.1 ∙ flat_found (saved u) u.memory t valid flat words_there i (omega arith)
+            ∙ ap (λ (n : ℕ). Some (device_word t.maps n)) number
       ]
 
-  placed : (dev : ℕ) (d : Device) → device_of t.maps dev ≡ Some d → is_indirect t.regs.baser0 ≡ true → (page : ℕ) × (page_of (level1_of t.regs u.memory (dev / 8192)) ≡ Some page)
+  placed : (dev : ℕ) (d : Device) → device_of t.maps dev ≡ Some d → is_indirect t.regs.baser0 ≡ true → (page : ℕ)
+      × (page_of (level1_of t.regs u.memory (dev / 8192)) ≡ Some page)
   placed dev d is two =
       let listed = found_listed (entries t.maps.devices) dev d (sym (get-entries t.maps.devices dev) ∙ is) in
       let all = at_place (AllPlaced u.memory) u.translators k t (tested u savable).placed at in

@@ -1,5 +1,6 @@
 -- A device table that was saved, flat or of two levels, holds just the devices that are mapped.
-use Rattle.std.proofs.Common.{◌≡◌, ◌⊎◌, ℕ, ◌+◌, ◌-◌, ◌*◌, ◌/◌, ◌%◌, ◌^◌, ◌<◌, ◌≤◌, Bool, true, false, cond, nat_lt, List, Option, Some, None, refl, sym, subst, ap, ◌∙◌, inl, inr, arith, ◌↔◌}
+use Rattle.std.proofs.Common.{◌≡◌, ◌⊎◌, ℕ, ◌+◌, ◌-◌, ◌*◌, ◌/◌, ◌%◌, ◌^◌, ◌<◌, ◌≤◌, Bool, true, false, cond, nat_lt, List, Option, Some, None, refl, sym, subst}
+use Rattle.std.proofs.Common.{ap, ◌∙◌, inl, inr, arith, ◌↔◌}
 use Rattle.std.specs.Prelude.{◌==◌, ◌&&◌, ◌||◌, IsSome}
 use Rattle.std.specs.Option.{option_and_then, option_map}
 use Rattle.std.proofs.lemmas.Bool.{eq-eqb, ne_eqb, lt-ltb, le-ltb, ltb-true, cases_lt, cases_eq, cases_Bool, and_parts}
@@ -14,7 +15,9 @@ use Rattle.table_entries.specs.Words.{packed_device, unpacked_device}
 use Rattle.its_types.specs.Maps.{Maps, device_of}
 use Rattle.its_types.specs.declared.translation.Device.{Device}
 use Rattle.its_plain.specs.EventTables.{itt_of, IsIttClear}
-use Rattle.its_plain.specs.DeviceTables.{DevicePlace, at_level1, at_entry, first_device, flat_size, page_places, id_of, following, goes_to, device_leads, word_leads, next_device, DeviceReached, device_entry, device_of_fields, device_in, ends_well, IsDeviceClear, AreDevicesClear, HasDevice}
+use Rattle.its_plain.specs.DeviceTables.{DevicePlace, at_level1, at_entry, first_device, flat_size, page_places, id_of, following, goes_to, device_leads}
+use Rattle.its_plain.specs.DeviceTables.{word_leads, next_device, DeviceReached, device_entry, device_of_fields, device_in, ends_well, IsDeviceClear}
+use Rattle.its_plain.specs.DeviceTables.{AreDevicesClear, HasDevice}
 use Rattle.its_plain.specs.Saved as saved
 use Rattle.its_plain.specs.Saved.{device_word, device_after, distance}
 use Rattle.saved_state.proofs.Small.{distance_most}
@@ -66,7 +69,8 @@ follows r k two lt =
 
 following_place : (old : List Window) (r : Registers) (k : ℕ) (q : DevicePlace) → following r k ≡ Some q → IsPlace old r q
 following_place old r k q e =
-    elim (is_indirect r.baser0 && nat_lt (k + 1) (level1_entries r.dev_bits)) as (λ b. (is_indirect r.baser0 && nat_lt (k + 1) (level1_entries r.dev_bits)) ≡ b → cond b (Some (at_level1 (k + 1))) None ≡ Some q → IsPlace old r q) [
+    elim (is_indirect r.baser0 && nat_lt (k + 1) (level1_entries r.dev_bits)) as (λ b. (is_indirect r.baser0 && nat_lt (k + 1) (level1_entries r.dev_bits)) ≡ b
+    → cond b (Some (at_level1 (k + 1))) None ≡ Some q → IsPlace old r q) [
       | true ↦ λ h s.
           let both = and_parts (is_indirect r.baser0) (nat_lt (k + 1) (level1_entries r.dev_bits)) h in
           subst (IsPlace old r) (same_Some (at_level1 (k + 1)) q s) (both.0, ltb-true (k + 1) (level1_entries r.dev_bits) both.1)
@@ -80,7 +84,8 @@ goes_place old r k page i q is e =
       | false ↦ λ h s. following_place old r k q s
     ] refl e
 
-leads_place : (old : List Window) (r : Registers) (k page i : ℕ) (o : Option DeviceFields) (q : DevicePlace) → IsPage old r k page → device_leads r k page i o ≡ Some q → IsPlace old r q
+leads_place : (old : List Window) (r : Registers) (k page i : ℕ) (o : Option DeviceFields) (q : DevicePlace) → IsPage old r k page
+    → device_leads r k page i o ≡ Some q → IsPlace old r q
 leads_place old r k page i None q is e = goes_place old r k page (i + 1) q is e
 leads_place old r k page i (Some f) q is e =
     elim (f.next == 0) as (λ b. cond b None (goes_to r k page (i + f.next)) ≡ Some q → IsPlace old r q) [
@@ -89,7 +94,8 @@ leads_place old r k page i (Some f) q is e =
     ] e
 
 -- the entries of two places, by their numbers
-ids_rise : (old : List Window) (r : Registers) (k page i l other j : ℕ) → IsPlace old r (at_entry k page i) → IsPlace old r (at_entry l other j) → rank (at_entry k page i) < rank (at_entry l other j) → 8192 * k + i < 8192 * l + j
+ids_rise : (old : List Window) (r : Registers) (k page i l other j : ℕ) → IsPlace old r (at_entry k page i) → IsPlace old r (at_entry l other j)
+    → rank (at_entry k page i) < rank (at_entry l other j) → 8192 * k + i < 8192 * l + j
 ids_rise old r k page i l other j p q lt =
     let low = p.1 in let high = q.1 in
     elim (cases_Bool (is_indirect r.baser0)) [
@@ -97,7 +103,8 @@ ids_rise old r k page i l other j p q lt =
       | inr flat ↦ let one = (p.0.flat flat).0 in let two = (q.0.flat flat).0 in omega arith
     ]
 
-same_place : (old : List Window) (r : Registers) (p : DevicePlace) (l other j : ℕ) → IsPlace old r p → IsPlace old r (at_entry l other j) → rank p ≡ rank (at_entry l other j) → p ≡ at_entry l other j
+same_place : (old : List Window) (r : Registers) (p : DevicePlace) (l other j : ℕ) → IsPlace old r p → IsPlace old r (at_entry l other j)
+    → rank p ≡ rank (at_entry l other j) → p ≡ at_entry l other j
 same_place old r (at_level1 k) l other j p q e = let size = page_two r p.0 in let high = q.1 in absurd (omega arith)
 same_place old r (at_entry k page i) l other j p q e =
     let low = p.1 in let high = q.1 in
@@ -120,7 +127,8 @@ same_place old r (at_entry k page i) l other j p q e =
 abbrev Towards : List Window → Registers → DevicePlace → DevicePlace → Option DevicePlace → Type 0
 Towards old r q p o = (s : DevicePlace) × (o ≡ Some s) × IsPlace old r s × (rank p < rank s) × (rank s ≤ rank q)
 
-goes_towards : (old : List Window) (r : Registers) (k page i d l other j : ℕ) → IsPlace old r (at_entry k page i) → IsPlace old r (at_entry l other j) → 0 < d → 8192 * k + i + d ≤ 8192 * l + j
+goes_towards : (old : List Window) (r : Registers) (k page i d l other j : ℕ) → IsPlace old r (at_entry k page i) → IsPlace old r (at_entry l other j) → 0 < d
+    → 8192 * k + i + d ≤ 8192 * l + j
     → Towards old r (at_entry l other j) (at_entry k page i) (goes_to r k page (i + d))
 goes_towards old r k page i d l other j p q some most =
     let low = p.1 in let high = q.1 in
@@ -152,18 +160,30 @@ goes_towards old r k page i d l other j p q some most =
 -- ---- level-1 entries
 
 -- a valid one leads to its page, and any other is passed over
-level1_read : (old memory : List Window) (r : Registers) (k : ℕ) → number_at memory (level1_address r k) ≡ number_at old (level1_address r k) → IsSome (number_at old (level1_address r k))
-    → ((page : ℕ) × (page_of (level1_of r old k) ≡ Some page) × (next_device memory r (at_level1 k) ≡ Some (at_entry k page 0))) ⊎ ((page_of (level1_of r old k) ≡ None) × (next_device memory r (at_level1 k) ≡ following r k))
+level1_read : (old memory : List Window) (r : Registers) (k : ℕ) → number_at memory (level1_address r k) ≡ number_at old (level1_address r k)
+    → IsSome (number_at old (level1_address r k))
+    → ((page : ℕ) × (page_of (level1_of r old k) ≡ Some page) × (next_device memory r (at_level1 k) ≡ Some (at_entry k page 0)))
+    ⊎ ((page_of (level1_of r old k) ≡ None) × (next_device memory r (at_level1 k) ≡ following r k))
 unfolding level1_of
 level1_read old memory r k same some =
     elim (number_at old (level1_address r k)) as (λ o. number_at memory (level1_address r k) ≡ o → IsSome o
-    → ((page : ℕ) × (page_of (level1_word (level1_address r k) o) ≡ Some page) × (next_device memory r (at_level1 k) ≡ Some (at_entry k page 0))) ⊎ ((page_of (level1_word (level1_address r k) o) ≡ None) × (next_device memory r (at_level1 k) ≡ following r k))) [
+    → ((page : ℕ) × (page_of (level1_word (level1_address r k) o) ≡ Some page) × (next_device memory r (at_level1 k) ≡ Some (at_entry k page 0)))
+    ⊎ ((page_of (level1_word (level1_address r k) o) ≡ None) × (next_device memory r (at_level1 k) ≡ following r k))) [
       | None ↦ λ e is. absurd cc
       | Some word ↦ λ e is.
           let leads = ap (option_and_then (word_leads r (at_level1 k))) e in
           elim (cases_Bool (bit_of word 63)) [
-            | inl valid ↦ inl (page_address word, ap (λ b. page_of (cond b (Page (record { 0 = page_address word })) Empty)) valid, leads ∙ ap (λ b. cond b (Some (at_entry k (page_address word) 0)) (following r k)) valid)
-            | inr invalid ↦ inr (ap (λ b. page_of (cond b (Page (record { 0 = page_address word })) Empty)) invalid, leads ∙ ap (λ b. cond b (Some (at_entry k (page_address word) 0)) (following r k)) invalid)
+            | inl valid ↦ inl (
+              page_address word,
+              ap (λ b. page_of (cond b (Page (record { 0 = page_address word })) Empty)) valid,
+              leads
+                  ∙ ap (λ b. cond b (Some (at_entry k (page_address word) 0)) (following r k)) valid,
+            )
+            | inr invalid ↦ inr (
+              ap (λ b. page_of (cond b (Page (record { 0 = page_address word })) Empty)) invalid,
+              leads
+                  ∙ ap (λ b. cond b (Some (at_entry k (page_address word) 0)) (following r k)) invalid,
+            )
           ]
     ] same some
 
@@ -181,7 +201,8 @@ pub record Fits (old : List Window) (r : Registers) (dev : ℕ) (d : Device) : T
 pub record IsStored (old memory : List Window) (lpi_bits : ℕ) (r : Registers) (m : Maps) : Type 0 where
   pub some_entries : 1 ≤ level1_entries r.dev_bits
   pub some_places : 1 ≤ flat_size r
-  pub level1 : is_indirect r.baser0 ≡ true → (k : ℕ) → k < level1_entries r.dev_bits → (number_at memory (level1_address r k) ≡ number_at old (level1_address r k)) × IsSome (number_at old (level1_address r k))
+  pub level1 : is_indirect r.baser0 ≡ true → (k : ℕ) → k < level1_entries r.dev_bits
+      → (number_at memory (level1_address r k) ≡ number_at old (level1_address r k)) × IsSome (number_at old (level1_address r k))
   pub found : (k page i : ℕ) → IsPage old r k page → i < page_places r → number_at memory (entry_address page i) ≡ Some (device_word m (8192 * k + i))
   pub fits : (dev : ℕ) (d : Device) → device_of m dev ≡ Some d → Fits old r dev d
   pub linked : IsChain (device_of m) (device_after m)
@@ -194,7 +215,8 @@ abbrev seen : Maps → ℕ → Option Device → Option DeviceFields
 seen m dev o = option_map (fields m dev) o
 
 module _ (old memory : List Window) (lpi_bits : ℕ) (r : Registers) (m : Maps) (valid : is_valid r.baser0 ≡ true) (h : IsStored old memory lpi_bits r m) where
-  entry_is : (dev : ℕ) (o : Option Device) → ((d : Device) → o ≡ Some d → Fits old r dev d) → unpacked_device (saved.device_entry dev o (device_after m dev)) ≡ seen m dev o
+  entry_is : (dev : ℕ) (o : Option Device) → ((d : Device) → o ≡ Some d → Fits old r dev d) → unpacked_device (saved.device_entry dev o (device_after m dev))
+      ≡ seen m dev o
   entry_is dev None fit = refl
   entry_is dev (Some d) fit =
       let f = fit d refl in
@@ -209,8 +231,10 @@ module _ (old memory : List Window) (lpi_bits : ℕ) (r : Registers) (m : Maps) 
   entry_at : (k page i : ℕ) → IsPlace old r (at_entry k page i) → device_entry memory (at_entry k page i) ≡ seen m (8192 * k + i) (device_of m (8192 * k + i))
   entry_at k page i p = ap (option_and_then unpacked_device) (h.found k page i p.0 p.1) ∙ word_is (8192 * k + i)
 
-  next_at : (k page i : ℕ) → IsPlace old r (at_entry k page i) → next_device memory r (at_entry k page i) ≡ device_leads r k page i (seen m (8192 * k + i) (device_of m (8192 * k + i)))
-  next_at k page i p = ap (option_and_then (word_leads r (at_entry k page i))) (h.found k page i p.0 p.1) ∙ ap (device_leads r k page i) (word_is (8192 * k + i))
+  next_at : (k page i : ℕ) → IsPlace old r (at_entry k page i) → next_device memory r (at_entry k page i) ≡ device_leads r k page i
+      (seen m (8192 * k + i) (device_of m (8192 * k + i)))
+  next_at k page i p = ap (option_and_then (word_leads r (at_entry k page i))) (h.found k page i p.0 p.1) ∙ ap (device_leads r k page i)
+      (word_is (8192 * k + i))
 
   back_again : (dev : ℕ) (o : Option Device) → option_map device_of_fields (seen m dev o) ≡ o
   back_again dev None = refl
@@ -247,7 +271,11 @@ module _ (old memory : List Window) (lpi_bits : ℕ) (r : Registers) (m : Maps) 
       ] refl
 
   start_rank : rank (first_device r) ≤ 1
-  start_rank = elim (is_indirect r.baser0) as (λ b. rank (cond b (at_level1 0) (at_entry 0 (table_base r.baser0) 0)) ≤ 1) [ true ↦ omega arith | false ↦ omega arith ]
+  start_rank = elim (is_indirect r.baser0) as (λ b. rank (cond b (at_level1 0) (at_entry 0 (table_base r.baser0) 0)) ≤ 1) [
+    | true ↦ omega arith
+    | false ↦ omega
+        arith
+  ]
 
   reached_place : (p : DevicePlace) → DeviceReached memory r p → IsPlace old r p
   reached_place p is = stays_good (next_device memory r) (IsPlace old r) keeps (first_device r) p starts is
@@ -255,18 +283,22 @@ module _ (old memory : List Window) (lpi_bits : ℕ) (r : Registers) (m : Maps) 
   -- ---- the walk arrives at each device
 
   module _ (l other j : ℕ) (d : Device) (q : IsPlace old r (at_entry l other j)) (mapped : device_of m (8192 * l + j) ≡ Some d) where
-    leads_far : (k page i : ℕ) (x : Device) (n : ℕ) → IsPlace old r (at_entry k page i) → device_of m (8192 * k + i) ≡ Some x → device_after m (8192 * k + i) ≡ Some n → 0 < distance 16383 (8192 * k + i) (Some n)
+    leads_far : (k page i : ℕ) (x : Device) (n : ℕ) → IsPlace old r (at_entry k page i) → device_of m (8192 * k + i) ≡ Some x
+        → device_after m (8192 * k + i) ≡ Some n → 0 < distance 16383 (8192 * k + i) (Some n)
         → next_device memory r (at_entry k page i) ≡ goes_to r k page (i + distance 16383 (8192 * k + i) (Some n))
     leads_far k page i x n p at after some =
         next_at k page i p
         ∙ ap (λ (o : Option Device). device_leads r k page i (seen m (8192 * k + i) o)) at
         ∙ ap (λ (o : Option ℕ). cond (distance 16383 (8192 * k + i) o == 0) None (goes_to r k page (i + distance 16383 (8192 * k + i) o))) after
-        ∙ ap (λ (b : Bool). cond b None (goes_to r k page (i + distance 16383 (8192 * k + i) (Some n)))) (ne_eqb (distance 16383 (8192 * k + i) (Some n)) 0 (λ e. omega arith))
+        ∙ ap (λ (b : Bool). cond b None (goes_to r k page (i + distance 16383 (8192 * k + i) (Some n))))
+        (ne_eqb (distance 16383 (8192 * k + i) (Some n)) 0 (λ e. omega arith))
 
-    moved : (p : DevicePlace) (o : Option DevicePlace) → next_device memory r p ≡ o → Towards old r (at_entry l other j) p o → Towards old r (at_entry l other j) p (next_device memory r p)
+    moved : (p : DevicePlace) (o : Option DevicePlace) → next_device memory r p ≡ o → Towards old r (at_entry l other j) p o
+        → Towards old r (at_entry l other j) p (next_device memory r p)
     moved p o e t = (t.0, e ∙ t.1, t.2, t.3, t.4)
 
-    step_after : (k page i : ℕ) (x : Device) → IsPlace old r (at_entry k page i) → 8192 * k + i < 8192 * l + j → device_of m (8192 * k + i) ≡ Some x → (o : Option ℕ) → device_after m (8192 * k + i) ≡ o
+    step_after : (k page i : ℕ) (x : Device) → IsPlace old r (at_entry k page i) → 8192 * k + i < 8192 * l + j → device_of m (8192 * k + i) ≡ Some x
+        → (o : Option ℕ) → device_after m (8192 * k + i) ≡ o
         → Towards old r (at_entry l other j) (at_entry k page i) (next_device memory r (at_entry k page i))
     step_after k page i x p lt at None none = absurd (h.linked.last (8192 * k + i) (8192 * l + j) d none mapped lt)
     step_after k page i x p lt at (Some n) after =
@@ -277,11 +309,14 @@ module _ (old memory : List Window) (lpi_bits : ℕ) (r : Registers) (m : Maps) 
         moved (at_entry k page i) (goes_to r k page (i + distance 16383 (8192 * k + i) (Some n))) (leads_far k page i x n p at after far.0)
         (goes_towards old r k page i (distance 16383 (8192 * k + i) (Some n)) l other j p q far.0 (omega arith))
 
-    step_entry : (k page i : ℕ) → IsPlace old r (at_entry k page i) → 8192 * k + i < 8192 * l + j → Towards old r (at_entry l other j) (at_entry k page i) (next_device memory r (at_entry k page i))
+    step_entry : (k page i : ℕ) → IsPlace old r (at_entry k page i) → 8192 * k + i < 8192 * l + j → Towards old r (at_entry l other j) (at_entry k page i)
+        (next_device memory r (at_entry k page i))
     step_entry k page i p lt =
-        elim (device_of m (8192 * k + i)) as (λ o. device_of m (8192 * k + i) ≡ o → Towards old r (at_entry l other j) (at_entry k page i) (next_device memory r (at_entry k page i))) [
+        elim (device_of m (8192 * k + i)) as (λ o. device_of m (8192 * k + i) ≡ o → Towards old r (at_entry l other j) (at_entry k page i)
+        (next_device memory r (at_entry k page i))) [
           | None ↦ λ e.
-              moved (at_entry k page i) (goes_to r k page (i + 1)) (next_at k page i p ∙ ap (λ (o : Option Device). device_leads r k page i (seen m (8192 * k + i) o)) e)
+              moved (at_entry k page i) (goes_to r k page (i + 1))
+              (next_at k page i p ∙ ap (λ (o : Option Device). device_leads r k page i (seen m (8192 * k + i) o)) e)
               (goes_towards old r k page i 1 l other j p q (omega arith) (omega arith))
           | Some x ↦ λ e. step_after k page i x p lt e (device_after m (8192 * k + i)) refl
         ] refl
@@ -318,12 +353,29 @@ module _ (old memory : List Window) (lpi_bits : ℕ) (r : Registers) (m : Maps) 
       elim (cases_Bool (is_indirect r.baser0)) [
         | inl two ↦
             let size = page_two r two in
-            let at = f.two two in
-            (dev / 8192, at.1.0, dev % 8192, (record { two = λ _. (at.0, at.1.1); flat = λ flat. absurd (let both : true ≡ false = sym two ∙ flat in cc) }, omega arith), omega arith)
+            let at = f.two two in (
+              dev / 8192,
+              at.1.0,
+              dev % 8192,
+              (
+                record { two = λ _. (at.0, at.1.1); flat = λ flat. absurd (let both : true ≡ false = sym two ∙ flat in cc) },
+                omega arith,
+              ),
+              omega arith,
+            )
         | inr flat ↦
             let size = page_flat r flat in
-            let low = f.flat flat in
-            (0, table_base r.baser0, dev, (record { two = λ two. absurd (let both : true ≡ false = sym two ∙ flat in cc); flat = λ _. (refl, refl) }, omega arith), omega arith)
+            let low = f.flat flat in (
+              0,
+              table_base r.baser0,
+              dev,
+              (
+                record { two = λ two. absurd (let both : true ≡ false = sym two ∙ flat in cc); flat = λ _. (refl, refl) },
+                omega
+                    arith,
+              ),
+              omega arith,
+            )
       ]
 
   pub devices_are : (dev : ℕ) (d : Device) → (device_of m dev ≡ Some d) ↔ HasDevice memory r dev d
@@ -344,7 +396,8 @@ module _ (old memory : List Window) (lpi_bits : ℕ) (r : Registers) (m : Maps) 
   some_is : (o : Option ℕ) (x : ℕ) → o ≡ Some x → IsSome o
   some_is o x e = subst IsSome (sym e) refl
 
-  next_low : (k page i : ℕ) → IsPlace old r (at_entry k page i) → is_indirect r.baser0 ≡ false → (o : Option ℕ) → device_after m (8192 * k + i) ≡ o → i + distance 16383 (8192 * k + i) o < flat_size r
+  next_low : (k page i : ℕ) → IsPlace old r (at_entry k page i) → is_indirect r.baser0 ≡ false → (o : Option ℕ) → device_after m (8192 * k + i) ≡ o
+      → i + distance 16383 (8192 * k + i) o < flat_size r
   next_low k page i p flat None is = let size = page_flat r flat in let low = p.1 in omega arith
   next_low k page i p flat (Some n) is =
       let first = (p.0.flat flat).0 in
@@ -361,11 +414,13 @@ module _ (old memory : List Window) (lpi_bits : ℕ) (r : Registers) (m : Maps) 
         | inl two ↦ ap (λ (b : Bool). b || nat_lt (i + distance 16383 (8192 * k + i) (device_after m (8192 * k + i))) (flat_size r)) two
         | inr flat ↦
             ap (λ (b : Bool). b || nat_lt (i + distance 16383 (8192 * k + i) (device_after m (8192 * k + i))) (flat_size r)) flat
-            ∙ lt-ltb (i + distance 16383 (8192 * k + i) (device_after m (8192 * k + i))) (flat_size r) (next_low k page i p flat (device_after m (8192 * k + i)) refl)
+            ∙ lt-ltb (i + distance 16383 (8192 * k + i) (device_after m (8192 * k + i))) (flat_size r)
+            (next_low k page i p flat (device_after m (8192 * k + i)) refl)
       ]
 
   -- what holds of the fields of each device holds of an entry
-  of_entry : (P : DeviceFields → Type 0) (dev : ℕ) (o : Option Device) (e : DeviceFields) → ((d : Device) → o ≡ Some d → P (fields m dev d)) → seen m dev o ≡ Some e → P e
+  of_entry : (P : DeviceFields → Type 0) (dev : ℕ) (o : Option Device) (e : DeviceFields) → ((d : Device) → o ≡ Some d → P (fields m dev d))
+      → seen m dev o ≡ Some e → P e
   of_entry P dev None e each is = absurd cc
   of_entry P dev (Some d) e each is = subst P (same_Some (fields m dev d) e is) (each d refl)
 
@@ -378,8 +433,10 @@ module _ (old memory : List Window) (lpi_bits : ℕ) (r : Registers) (m : Maps) 
       let at = entry_at k page i p in
       record {
         inside = some_is (number_at memory (entry_address page i)) (device_word m (8192 * k + i)) (h.found k page i p.0 p.1);
-        size = λ e is. of_entry (λ f. f.bits ≤ 16) (8192 * k + i) (device_of m (8192 * k + i)) e (λ d there. (h.fits (8192 * k + i) d there).most_bits) (sym at ∙ is);
-        itt = λ e is. of_entry (λ f. IsIttClear memory lpi_bits (itt_of (8192 * k + i) (device_of_fields f))) (8192 * k + i) (device_of m (8192 * k + i)) e (λ d there. h.itts (8192 * k + i) d there) (sym at ∙ is);
+        size = λ e is. of_entry (λ f. f.bits ≤ 16) (8192 * k + i) (device_of m (8192 * k + i)) e (λ d there. (h.fits (8192 * k + i) d there).most_bits)
+            (sym at ∙ is);
+        itt = λ e is. of_entry (λ f. IsIttClear memory lpi_bits (itt_of (8192 * k + i) (device_of_fields f))) (8192 * k + i) (device_of m (8192 * k + i)) e
+            (λ d there. h.itts (8192 * k + i) d there) (sym at ∙ is);
         ends = λ e is. of_entry (λ f. ends_well r i f.next ≡ true) (8192 * k + i) (device_of m (8192 * k + i)) e (λ d there. well k page i p) (sym at ∙ is);
       }
 

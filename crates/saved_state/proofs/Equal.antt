@@ -13,7 +13,11 @@ reloaded_bases : (s : Shape) (memory : List Window) (r : Redistributor) → r.ba
 reloaded_bases s memory r = elim r.bases.on as (λ b. r.bases ≡ (cond b (record r { config = config_in s memory r }) r).bases) [ true ↦ refl | false ↦ refl ]
 
 reloaded_pending : (s : Shape) (memory : List Window) (r : Redistributor) → r.pending ≡ (reloaded s memory r).pending
-reloaded_pending s memory r = elim r.bases.on as (λ b. r.pending ≡ (cond b (record r { config = config_in s memory r }) r).pending) [ true ↦ refl | false ↦ refl ]
+reloaded_pending s memory r = elim r.bases.on as (λ b. r.pending ≡ (cond b (record r { config = config_in s memory r }) r).pending) [
+  | true ↦ refl
+  | false ↦
+      refl
+]
 
 module _ (s : Shape) (memory : List Window) where
   bases_stay : (rs : List Redistributor) (v : ℕ) → (get_or rs v no_redistributor).bases ≡ (get_or (map (reloaded s memory) rs) v no_redistributor).bases

@@ -1,5 +1,6 @@
 -- An interrupt translation table that was saved holds just the events that are mapped.
-use Rattle.std.proofs.Common.{◌≡◌, ℕ, ◌+◌, ◌*◌, ◌^◌, ◌<◌, ◌≤◌, Bool, true, false, cond, nat_lt, nat_le, List, Option, Some, None, Ok, refl, sym, subst, ap, ◌∙◌, arith, ◌↔◌}
+use Rattle.std.proofs.Common.{◌≡◌, ℕ, ◌+◌, ◌*◌, ◌^◌, ◌<◌, ◌≤◌, Bool, true, false, cond, nat_lt, nat_le, List, Option, Some, None, Ok, refl, sym, subst, ap}
+use Rattle.std.proofs.Common.{◌∙◌, arith, ◌↔◌}
 use Rattle.std.specs.Prelude.{◌==◌}
 use Rattle.std.specs.Option.{option_and_then, option_map, ok_or}
 use Rattle.std.proofs.lemmas.Bool.{ne_eqb, lt-ltb, leb-true, and_parts}
@@ -11,7 +12,8 @@ use Rattle.its_types.specs.Maps.{Maps, event_of}
 use Rattle.its_types.specs.Ranges.{is_lpi}
 use Rattle.its_types.specs.declared.translation.Event.{Event}
 use Rattle.its_plain.specs.Walks.{Reached, within, ensure, ◌>>=◌}
-use Rattle.its_plain.specs.EventTables.{Itt, event_address, event_entry, event_of_fields, event_in, event_leads, next_event, event_entry_check, event_check, IsIttClear, HasEvent}
+use Rattle.its_plain.specs.EventTables.{Itt, event_address, event_entry, event_of_fields, event_in, event_leads, next_event, event_entry_check, event_check}
+use Rattle.its_plain.specs.EventTables.{IsIttClear, HasEvent}
 use Rattle.its_plain.specs.declared.fault.RestoreFault.{RestoreFault}
 use Rattle.its_plain.specs.declared.fault.RestoreFault.TheVariants.{OutsideTable}
 use Rattle.its_plain.specs.Saved as saved
@@ -56,7 +58,8 @@ module _ (memory : List Window) (lpi_bits : ℕ) (m : Maps) (dev : ℕ) (t : Itt
   seen : ℕ → Option Event → Option EventFields
   seen ev o = option_map (fields ev) o
 
-  entry_is : (ev : ℕ) (o : Option Event) → ((e : Event) → o ≡ Some e → Fits lpi_bits t ev e) → unpacked_event (saved.event_entry ev o (event_after m dev ev)) ≡ seen ev o
+  entry_is : (ev : ℕ) (o : Option Event) → ((e : Event) → o ≡ Some e → Fits lpi_bits t ev e) → unpacked_event (saved.event_entry ev o (event_after m dev ev))
+      ≡ seen ev o
   unfolding seen fields
   entry_is ev None fit = refl
   entry_is ev (Some e) fit =
@@ -96,7 +99,8 @@ module _ (memory : List Window) (lpi_bits : ℕ) (m : Maps) (dev : ℕ) (t : Itt
 
   reached_low : (ev : ℕ) → Reached (next_event memory t) 0 ev → ev < t.places
   reached_low ev h =
-      stays_good (next_event memory t) (λ k. k < t.places) (λ p q low e. leads_within p q (seen p (event_of m dev p)) (sym (next_at p low) ∙ e)) 0 ev some_places h
+      stays_good (next_event memory t) (λ k. k < t.places) (λ p q low e. leads_within p q (seen p (event_of m dev p)) (sym (next_at p low) ∙ e)) 0 ev
+      some_places h
 
   goes_far : (p d : ℕ) → 0 < d → p + d < t.places → cond (d == 0) None (within t.places (p + d)) ≡ Some (p + d)
   goes_far p d some lt = ap (λ (b : Bool). cond b None (within t.places (p + d))) (ne_eqb d 0 (λ e. omega arith)) ∙ within_some t.places (p + d) lt
@@ -104,7 +108,8 @@ module _ (memory : List Window) (lpi_bits : ℕ) (m : Maps) (dev : ℕ) (t : Itt
   Step : ℕ → ℕ → Type 0
   Step q p = (s : ℕ) × (next_event memory t p ≡ Some s) × (s < t.places) × (p < s) × (s ≤ q)
 
-  step_after : (q : ℕ) (x : Event) → event_of m dev q ≡ Some x → (p : ℕ) (e : Event) → p < t.places → p < q → event_of m dev p ≡ Some e → (o : Option ℕ) → event_after m dev p ≡ o → Step q p
+  step_after : (q : ℕ) (x : Event) → event_of m dev q ≡ Some x → (p : ℕ) (e : Event) → p < t.places → p < q → event_of m dev p ≡ Some e → (o : Option ℕ)
+      → event_after m dev p ≡ o → Step q p
   unfolding Step seen fields
   step_after q x at p e low lt is None none = absurd (linked.last p q x none at lt)
   step_after q x at p e low lt is (Some j) after =
@@ -117,21 +122,29 @@ module _ (memory : List Window) (lpi_bits : ℕ) (m : Maps) (dev : ℕ) (t : Itt
       (p + distance 65535 p (Some j), next_at p low ∙ leads ∙ goes_far p (distance 65535 p (Some j)) some (omega arith), omega arith, omega arith, omega arith)
     where
       leads : event_leads t p (seen p (event_of m dev p)) ≡ cond (distance 65535 p (Some j) == 0) None (within t.places (p + distance 65535 p (Some j)))
-      leads = ap (λ (o : Option Event). event_leads t p (seen p o)) is ∙ ap (λ (o : Option ℕ). cond (distance 65535 p o == 0) None (within t.places (p + distance 65535 p o))) after
+      leads = ap (λ (o : Option Event). event_leads t p (seen p o)) is
+          ∙ ap (λ (o : Option ℕ). cond (distance 65535 p o == 0) None (within t.places (p + distance 65535 p o))) after
 
   step : (q : ℕ) (x : Event) → event_of m dev q ≡ Some x → (p : ℕ) → p < t.places → p < q → Step q p
   unfolding Step seen
   step q x at p low lt =
       elim (event_of m dev p) as (λ o. event_of m dev p ≡ o → (s : ℕ) × (next_event memory t p ≡ Some s) × (s < t.places) × (p < s) × (s ≤ q)) [
         | None ↦ λ e.
-            let high = (fits q x at).in_table in
-            (p + 1, next_at p low ∙ ap (λ (o : Option Event). event_leads t p (option_map (fields p) o)) e ∙ within_some t.places (p + 1) (omega arith), omega arith, omega arith, omega arith)
+            let high = (fits q x at).in_table in (
+              p + 1,
+              next_at p low ∙ ap (λ (o : Option Event). event_leads t p (option_map (fields p) o)) e ∙ within_some t.places (p + 1)
+                  (omega arith),
+              omega arith,
+              omega arith,
+              omega arith,
+            )
         | Some e ↦ λ is. step_after q x at p e low lt is (event_after m dev p) refl
       ] refl
 
   reached : (q : ℕ) (x : Event) → event_of m dev q ≡ Some x → Reached (next_event memory t) 0 q
   unfolding Step
-  reached q x at = arrives (next_event memory t) (λ k. k) (λ k. k < t.places) q (λ p good same. same) (λ p good lt. step q x at p good lt) q 0 some_places (omega arith) (omega arith)
+  reached q x at = arrives (next_event memory t) (λ k. k) (λ k. k < t.places) q (λ p good same. same) (λ p good lt. step q x at p good lt) q 0 some_places
+      (omega arith) (omega arith)
 
   -- ---- offences
 
@@ -152,11 +165,13 @@ module _ (memory : List Window) (lpi_bits : ℕ) (m : Maps) (dev : ℕ) (t : Itt
   entry_clear ev None lt is = refl
   entry_clear ev (Some e) lt is =
       let low = next_low ev lt (event_after m dev ev) refl in
-      two_tests (is_lpi lpi_bits e.intid.0) (nat_lt (ev + distance 65535 ev (event_after m dev ev)) t.places) _ _ (fits ev e is).lpi (lt-ltb (ev + distance 65535 ev (event_after m dev ev)) t.places low)
+      two_tests (is_lpi lpi_bits e.intid.0) (nat_lt (ev + distance 65535 ev (event_after m dev ev)) t.places) _ _ (fits ev e is).lpi
+      (lt-ltb (ev + distance 65535 ev (event_after m dev ev)) t.places low)
 
   clear_at : (ev : ℕ) → ev < t.places → event_check memory lpi_bits t ev ≡ Ok tt
   clear_at ev lt =
-      ap (λ (o : Option ℕ). ok_or o (OutsideTable (record { 0 = event_address t ev })) >>= λ word. event_entry_check lpi_bits t ev (unpacked_event word)) (found ev lt)
+      ap (λ (o : Option ℕ). ok_or o (OutsideTable (record { 0 = event_address t ev })) >>= λ word. event_entry_check lpi_bits t ev (unpacked_event word))
+      (found ev lt)
       ∙ ap (event_entry_check lpi_bits t ev) (word_is ev)
       ∙ entry_clear ev (event_of m dev ev) lt refl
 

@@ -24,7 +24,8 @@ pub all_by_place : {X : Type 0} (P : X → Type 0) (xs : List X) → ((k : ℕ) 
 all_by_place P [] h = tt
 all_by_place P (x ∷ xs) h = (h 0 x refl, all_by_place P xs (λ k y at. h (suc k) y at))
 
-pub of_flat : {X Y : Type 0} (P : Y → Type 0) (f : X → List Y) (xs : List X) → AllByRecursion P (flat_map f xs) → (k : ℕ) (x : X) → slice_get xs k ≡ Some x → AllByRecursion P (f x)
+pub of_flat : {X Y : Type 0} (P : Y → Type 0) (f : X → List Y) (xs : List X) → AllByRecursion P (flat_map f xs) → (k : ℕ) (x : X) → slice_get xs k ≡ Some x
+    → AllByRecursion P (f x)
 of_flat P f [] all k x at = absurd cc
 of_flat {X} P f (y ∷ xs) all zero x at = subst (λ (z : X). AllByRecursion P (f z)) (same_Some y x at) (all_left P (f y) (flat_map f xs) all)
 of_flat P f (y ∷ xs) all (suc k) x at = of_flat P f xs (all_right P (f y) (flat_map f xs) all) k x at
@@ -32,13 +33,16 @@ of_flat P f (y ∷ xs) all (suc k) x at = of_flat P f xs (all_right P (f y) (fla
 all_found : (u : Plain) → IsSound u → IsSavable u → AllByRecursion (IsFound (saved u)) (words_of u)
 all_found u sound savable = all_by_place (IsFound (saved u)) (words_of u) (λ k t at i lt. words_back u k i t sound savable at lt)
 
-pub translator_found : (u : Plain) (k : ℕ) (t : Translator) → IsSound u → IsSavable u → slice_get u.translators k ≡ Some t → AllByRecursion (IsFound (saved u)) (translator_words u.memory t)
+pub translator_found : (u : Plain) (k : ℕ) (t : Translator) → IsSound u → IsSavable u → slice_get u.translators k ≡ Some t → AllByRecursion (IsFound (saved u))
+    (translator_words u.memory t)
 unfolding words_of
 translator_found u k t sound savable at =
     of_flat (IsFound (saved u)) (translator_words u.memory) u.translators
-    (all_left (IsFound (saved u)) (flat_map (translator_words u.memory) u.translators) (flat_map (pending_words u.layout.shape) u.redistributors) (all_found u sound savable)) k t at
+    (all_left (IsFound (saved u)) (flat_map (translator_words u.memory) u.translators) (flat_map (pending_words u.layout.shape) u.redistributors)
+    (all_found u sound savable)) k t at
 
-pub pending_found : (u : Plain) (k : ℕ) (r : Redistributor) → IsSound u → IsSavable u → slice_get u.redistributors k ≡ Some r → AllByRecursion (HasBytes (saved u)) (pending_words u.layout.shape r)
+pub pending_found : (u : Plain) (k : ℕ) (r : Redistributor) → IsSound u → IsSavable u → slice_get u.redistributors k ≡ Some r
+    → AllByRecursion (HasBytes (saved u)) (pending_words u.layout.shape r)
 unfolding words_of
 pending_found u k r sound savable at =
     of_flat (HasBytes (saved u)) (pending_words u.layout.shape) u.redistributors

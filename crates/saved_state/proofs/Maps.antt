@@ -35,7 +35,8 @@ use Rattle.saved_state.proofs.Collections.{Stands, collections_clear, collection
 collections_found : (memory : List Window) (t : Translator) → is_valid t.regs.baser1 ≡ true → AllByRecursion (IsFound memory) (collection_words t)
     → (i : ℕ) → i < collection_places t.regs → number_at memory (collection_address t.regs i) ≡ Some (collection_word t.maps i)
 collections_found memory t valid all =
-    let here = subst (λ (v : Bool). AllByRecursion (IsFound memory) (cond v (record { base = table_base t.regs.baser1; count = 8192 * collection_pages t.regs; word = collection_word t.maps } ∷ []) [])) valid all in
+    let here = subst (λ (v : Bool). AllByRecursion (IsFound memory)
+    (cond v (record { base = table_base t.regs.baser1; count = 8192 * collection_pages t.regs; word = collection_word t.maps } ∷ []) [])) valid all in
     here.0
 
 module _ (u : Plain) (k : ℕ) (t : Translator) (sound : IsSound u) (savable : IsSavable u) (at : slice_get u.translators k ≡ Some t) where
@@ -46,22 +47,26 @@ module _ (u : Plain) (k : ℕ) (t : Translator) (sound : IsSound u) (savable : I
   unfolding translator_words
   in_memory =
       let all = translator_found u k t sound savable at in
-      all_right (IsFound (saved u)) (device_words t u.memory) (collection_words t) (all_left (IsFound (saved u)) (device_words t u.memory ++ collection_words t) (itt_words t.maps) all)
+      all_right (IsFound (saved u)) (device_words t u.memory) (collection_words t) (all_left (IsFound (saved u)) (device_words t u.memory ++ collection_words t)
+      (itt_words t.maps) all)
 
   stand : (i : ℕ) (c : ℕ × Vcpu) → slice_get (entries t.maps.collections) i ≡ Some c → Stands u.layout.shape.vcpus (collection_places t.regs) c
   stand i c is =
-      let h = fits.collections c.0 c.1 (get-entries t.maps.collections c.0 ∙ listed_found (entries t.maps.collections) (entries_sorted t.maps.collections) i c is) in
+      let h = fits.collections c.0 c.1 (get-entries t.maps.collections c.0 ∙ listed_found (entries t.maps.collections) (entries_sorted t.maps.collections) i c
+      is) in
       let low = h.in_table in
       record { icid = omega arith; in_table = h.in_table; target = h.target }
 
   clear : AreCollectionsClear (saved u) u.layout.shape.vcpus t.regs
   clear valid =
-      collections_clear (saved u) u.layout.shape.vcpus t.regs t.maps valid sound.layout.shape.most_vcpus (collections_found (saved u) t valid in_memory) stand valid
+      collections_clear (saved u) u.layout.shape.vcpus t.regs t.maps valid sound.layout.shape.most_vcpus (collections_found (saved u) t valid in_memory) stand
+      valid
 
   are : (icid : ℕ) (v : Vcpu) → (collection_of t.maps icid ≡ Some v) ↔ HasCollection (saved u) t.regs icid v
   are icid v =
       let both : is_valid t.regs.baser1 ≡ true → (collection_of t.maps icid ≡ Some v) ↔ HasCollection (saved u) t.regs icid v =
-      λ valid. collections_are (saved u) u.layout.shape.vcpus t.regs t.maps valid sound.layout.shape.most_vcpus (collections_found (saved u) t valid in_memory) stand icid v in
+      λ valid. collections_are (saved u) u.layout.shape.vcpus t.regs t.maps valid sound.layout.shape.most_vcpus (collections_found (saved u) t valid in_memory)
+      stand icid v in
       (λ e. (both (fits.collections icid v e).table).0 e, λ h. (both h.0).1 h)
 
 pub collections_stand : CollectionsStand
@@ -73,14 +78,16 @@ itt_in : (m : Maps) (memory : List Window) → AllByRecursion (IsFound memory) (
     → (ev : ℕ) → ev < 2 ^ d.bits → number_at memory (entry_address d.itt.0 ev) ≡ Some (event_word m dev ev)
 itt_in m memory all dev d is =
     let at = found_listed (entries m.devices) dev d (sym (get-entries m.devices dev) ∙ is) in
-    (of_flat (IsFound memory) (λ d. record { base = d.1.itt.0; count = 2 ^ d.1.bits; word = event_word m d.0 } ∷ []) (entries m.devices) all at.0 (dev, d) at.1).0
+    (of_flat (IsFound memory) (λ d. record { base = d.1.itt.0; count = 2 ^ d.1.bits; word = event_word m d.0 } ∷ []) (entries m.devices) all at.0
+    (dev, d) at.1).0
 
 pub events_linked : (m : Maps) (dev : ℕ) → IsChain (event_of m dev) (event_after m dev)
 events_linked m dev =
     chain_of (event_of m dev) (event_after m dev) (events_at m dev) (events_rise m dev)
     (λ ev. get-entries m.events (dev, ev) ∙ sym (find_of_device dev ev (entries m.events))) (λ ev. sym (after_of_device dev ev (entries m.events)))
 
-module _ (u : Plain) (k : ℕ) (t : Translator) (sound : IsSound u) (savable : IsSavable u) (at : slice_get u.translators k ≡ Some t) (dev : ℕ) (d : Device) (is : device_of t.maps dev ≡ Some d) where
+module _ (u : Plain) (k : ℕ) (t : Translator) (sound : IsSound u) (savable : IsSavable u) (at : slice_get u.translators k ≡ Some t) (dev : ℕ) (d : Device)
+    (is : device_of t.maps dev ≡ Some d) where
   itts_in_memory : AllByRecursion (IsFound (saved u)) (itt_words t.maps)
   unfolding translator_words
   itts_in_memory =
@@ -99,11 +106,13 @@ module _ (u : Plain) (k : ℕ) (t : Translator) (sound : IsSound u) (savable : I
 
   pub itt_is_clear : IsIttClear (saved u) u.layout.shape.lpi_bits (itt_of dev d)
   itt_is_clear =
-      itt_clear (saved u) u.layout.shape.lpi_bits t.maps dev (itt_of dev d) some_events (itt_in t.maps (saved u) itts_in_memory dev d is) events_fit (events_linked t.maps dev)
+      itt_clear (saved u) u.layout.shape.lpi_bits t.maps dev (itt_of dev d) some_events (itt_in t.maps (saved u) itts_in_memory dev d is) events_fit
+      (events_linked t.maps dev)
 
   pub itt_has : (ev : ℕ) (e : Event) → (event_of t.maps dev ev ≡ Some e) ↔ HasEvent (saved u) (itt_of dev d) ev e
   itt_has =
-      events_are (saved u) u.layout.shape.lpi_bits t.maps dev (itt_of dev d) some_events (itt_in t.maps (saved u) itts_in_memory dev d is) events_fit (events_linked t.maps dev)
+      events_are (saved u) u.layout.shape.lpi_bits t.maps dev (itt_of dev d) some_events (itt_in t.maps (saved u) itts_in_memory dev d is) events_fit
+      (events_linked t.maps dev)
 
 pub events_stand : EventsStand
 events_stand u k t dev d sound savable at is = record { clear = itt_is_clear u k t sound savable at dev d is; are = itt_has u k t sound savable at dev d is }

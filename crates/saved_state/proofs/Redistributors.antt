@@ -1,5 +1,6 @@
 -- The pending tables and the configurations of redistributors, as saved memory has them.
-use Rattle.std.proofs.Common.{◌≡◌, ℕ, ◌+◌, ◌-◌, ◌*◌, ◌/◌, ◌%◌, ◌^◌, ◌<◌, ◌≤◌, Bool, true, false, cond, nat_lt, nat_le, List, [], ◌∷◌, map, length, Option, Some, None, is_some, refl, sym, subst, ap, ◌∙◌, inl, inr, arith}
+use Rattle.std.proofs.Common.{◌≡◌, ℕ, ◌+◌, ◌-◌, ◌*◌, ◌/◌, ◌%◌, ◌^◌, ◌<◌, ◌≤◌, Bool, true, false, cond, nat_lt, nat_le, List, [], ◌∷◌, map, length, Option}
+use Rattle.std.proofs.Common.{Some, None, is_some, refl, sym, subst, ap, ◌∙◌, inl, inr, arith}
 use Rattle.std.specs.Prelude.{◌&&◌, slice_get, unwrap_or}
 use Rattle.std.specs.List.{AllByRecursion, list_all}
 use Rattle.std.proofs.lemmas.Bool.{and_parts, ltb-true, leb-true, cases_Bool, cond_both}
@@ -31,8 +32,10 @@ eights : (bits : ℕ) → 14 ≤ bits → pending_bytes bits ≡ 8 * 2 ^ (bits -
 eights bits least = let split : bits - 3 ≡ 3 + (bits - 6) = omega arith in ap (λ k. 2 ^ k) split ∙ pow-add 2 3 (bits - 6)
 
 module _ (memory : List Window) (base bits : ℕ) (pending : List ℕ) (least : 14 ≤ bits) (apart : share_no_byte (map extent memory) ≡ true)
-    (found : (i : ℕ) → i < (pending_bytes bits - 1024) / 8 → read_at memory (entry_address (base + 1024) i) 8 ≡ Some (little_bytes 8 (pending_word pending (1024 + 8 * i)))) where
-  bit_there : (n i k : ℕ) → 1024 ≤ n → n < pending_bytes bits → i ≡ (n - 1024) / 8 → k ≡ (n - 1024) % 8 → byte_at memory (base + n) ≡ Some (pending_byte n pending)
+    (found : (i : ℕ) → i < (pending_bytes bits - 1024) / 8 → read_at memory (entry_address (base + 1024) i) 8 ≡ Some
+    (little_bytes 8 (pending_word pending (1024 + 8 * i)))) where
+  bit_there : (n i k : ℕ) → 1024 ≤ n → n < pending_bytes bits → i ≡ (n - 1024) / 8 → k ≡ (n - 1024) % 8
+      → byte_at memory (base + n) ≡ Some (pending_byte n pending)
   bit_there n i k low high row at =
       let multiple = eights bits least in
       let below : i < (pending_bytes bits - 1024) / 8 = omega (arith, multiple) in
@@ -47,11 +50,13 @@ module _ (memory : List Window) (base bits : ℕ) (pending : List ℕ) (least : 
   set_there intid low high =
       let all = whole bits least in
       let place : 8 * (intid / 8) + intid % 8 ≡ intid = omega arith in
-      ap (λ (o : Option ℕ). bit_of (unwrap_or o 0) (intid % 8)) (bit_there (intid / 8) ((intid / 8 - 1024) / 8) ((intid / 8 - 1024) % 8) (omega arith) (omega (arith, all)) refl refl)
+      ap (λ (o : Option ℕ). bit_of (unwrap_or o 0) (intid % 8)) (bit_there (intid / 8) ((intid / 8 - 1024) / 8) ((intid / 8 - 1024) % 8) (omega arith)
+      (omega (arith, all)) refl refl)
       ∙ byte_bit pending (intid / 8) (intid % 8) (omega arith)
       ∙ ap (λ y. is_pending y pending) place
 
-  pub are_there : AllByRecursion (λ intid. is_lpi bits intid ≡ true) pending → (intid : ℕ) → is_pending intid pending ≡ is_lpi bits intid && is_set memory base intid
+  pub are_there : AllByRecursion (λ intid. is_lpi bits intid ≡ true) pending → (intid : ℕ) → is_pending intid pending ≡ is_lpi bits intid
+      && is_set memory base intid
   are_there lpis intid =
       elim (cases_Bool (is_lpi bits intid)) [
         | inl is ↦
@@ -75,7 +80,8 @@ unfolding moved
 saved_apart u sound =
     let windows = (migrations_keep u sound).memory in
     let es = map extent (saved u) in
-    (and_parts (nat_lt 0 (length es) && nat_le (length es) 16 && list_all in_range es) (share_no_byte es) (and_parts (nat_lt 0 (length es) && nat_le (length es) 16 && list_all in_range es && share_no_byte es) (nat_le (total es) 67108864) windows).0).1
+    (and_parts (nat_lt 0 (length es) && nat_le (length es) 16 && list_all in_range es) (share_no_byte es)
+    (and_parts (nat_lt 0 (length es) && nat_le (length es) 16 && list_all in_range es && share_no_byte es) (nat_le (total es) 67108864) windows).0).1
 
 pub saved_inside : (u : Plain) (b n : ℕ) → inside (saved u) b n ≡ inside u.memory b n
 saved_inside u b n = tables_inside u.memory (words_of u) b n
@@ -84,23 +90,32 @@ module _ (u : Plain) (v : ℕ) (r : Redistributor) (sound : IsSound u) (savable 
   fits : IsRedistributor u.layout u.memory v r
   fits = sound.redistributors v r at
 
-  pending_at : r.bases.on ≡ true → (i : ℕ) → i < (pending_bytes u.layout.shape.lpi_bits - 1024) / 8 → read_at (saved u) (entry_address (r.bases.pend.table.0 + 1024) i) 8 ≡ Some (little_bytes 8 (pending_word r.pending (1024 + 8 * i)))
+  pending_at : r.bases.on ≡ true → (i : ℕ) → i < (pending_bytes u.layout.shape.lpi_bits - 1024) / 8
+      → read_at (saved u) (entry_address (r.bases.pend.table.0 + 1024) i) 8 ≡ Some (little_bytes 8 (pending_word r.pending (1024 + 8 * i)))
   pending_at on =
-      let all = subst (λ (b : Bool). AllByRecursion (HasBytes (saved u)) (cond b (record { base = r.bases.pend.table.0 + 1024; count = (pending_bytes u.layout.shape.lpi_bits - 1024) / 8; word = λ i. pending_word r.pending (1024 + 8 * i) } ∷ []) [])) on (pending_found u v r sound savable at) in
+      let all = subst (λ (b : Bool). AllByRecursion (HasBytes (saved u))
+      (cond b (record {
+        base = r.bases.pend.table.0 + 1024;
+        count = (pending_bytes u.layout.shape.lpi_bits - 1024) / 8;
+        word = λ i. pending_word r.pending (1024 + 8 * i);
+      } ∷ []) [])) on (pending_found u v r sound savable at) in
       all.0
 
   pending_is : r.bases.on ≡ true → ArePendingIn u.layout.shape.lpi_bits (saved u) r.bases.pend.table.0 r.pending
   pending_is on = record {
     rising = fits.rising;
-    are = are_there (saved u) r.bases.pend.table.0 u.layout.shape.lpi_bits r.pending sound.layout.shape.least_lpi_bits (saved_apart u sound) (pending_at on) fits.lpis;
+    are = are_there (saved u) r.bases.pend.table.0 u.layout.shape.lpi_bits r.pending sound.layout.shape.least_lpi_bits (saved_apart u sound)
+        (pending_at on) fits.lpis;
   }
 
-  when_on : r.bases.on ≡ true → IsRedistributorIn u.layout.shape (saved u) r.bases (record r { config = unwrap_or (read_at (saved u) r.bases.prop.table.0 (lpi_count u.layout.shape.lpi_bits)) r.config })
+  when_on : r.bases.on ≡ true → IsRedistributorIn u.layout.shape (saved u) r.bases
+      (record r { config = unwrap_or (read_at (saved u) r.bases.prop.table.0 (lpi_count u.layout.shape.lpi_bits)) r.config })
   when_on on = record {
     bases = refl;
     config = λ _.
         some_is (read_at (saved u) r.bases.prop.table.0 (lpi_count u.layout.shape.lpi_bits)) r.config
-        (is_some-read_at (saved u) r.bases.prop.table.0 (lpi_count u.layout.shape.lpi_bits) ∙ saved_inside u r.bases.prop.table.0 (lpi_count u.layout.shape.lpi_bits) ∙ (fits.tables on).config);
+        (is_some-read_at (saved u) r.bases.prop.table.0 (lpi_count u.layout.shape.lpi_bits) ∙ saved_inside u r.bases.prop.table.0
+        (lpi_count u.layout.shape.lpi_bits) ∙ (fits.tables on).config);
     pending = λ _. pending_is on;
     off_config = λ off. absurd (let two : true ≡ false = sym on ∙ off in cc);
     off_pending = λ off. absurd (let two : true ≡ false = sym on ∙ off in cc);

@@ -1,5 +1,6 @@
 -- What a save writes of a sound state are words of 64 bits.
-use Rattle.std.proofs.Common.{◌≡◌, ℕ, zero, suc, ◌+◌, ◌-◌, ◌*◌, ◌/◌, ◌^◌, ◌<◌, ◌≤◌, Bool, true, false, not, cond, nat_lt, nat_le, List, [], ◌∷◌, ◌++◌, Option, Some, None, refl, ◌∙◌, arith}
+use Rattle.std.proofs.Common.{◌≡◌, ℕ, zero, suc, ◌+◌, ◌-◌, ◌*◌, ◌/◌, ◌^◌, ◌<◌, ◌≤◌, Bool, true, false, not, cond, nat_lt, nat_le, List, [], ◌∷◌, ◌++◌, Option}
+use Rattle.std.proofs.Common.{Some, None, refl, ◌∙◌, arith}
 use Rattle.std.specs.Prelude.{slice_get}
 use Rattle.std.specs.List.{AllByRecursion, flat_map}
 use Rattle.std.specs.FinMap.{entries, entries_sorted, get-entries}
@@ -20,7 +21,9 @@ use Rattle.its_types.specs.declared.translation.Event.{Event}
 use Rattle.its_plain.specs.Plain.{Plain, Translator, Redistributor}
 use Rattle.its_plain.specs.Sound.{IsShape, IsSound, IsTranslator}
 use Rattle.its_plain.specs.Regions.{device_pages, collection_pages}
-use Rattle.its_plain.specs.Saved.{Words, distance, device_after, device_entry, device_word, collection_entry, collection_word, event_after, event_entry, event_word, pending_word, page_words, pages_words, device_words, collection_words, itt_words, translator_words, pending_words, words_of}
+use Rattle.its_plain.specs.Saved.{Words, distance, device_after, device_entry, device_word, collection_entry, collection_word, event_after, event_entry}
+use Rattle.its_plain.specs.Saved.{event_word, pending_word, page_words, pages_words, device_words, collection_words, itt_words, translator_words}
+use Rattle.its_plain.specs.Saved.{pending_words, words_of}
 use Rattle.saved_state.proofs.Areas.{all_both}
 use Rattle.saved_state.proofs.Keyed.{listed_found}
 
@@ -80,7 +83,8 @@ one_most n pending = bit_most (is_pending n pending)
 pub byte_most : (n : ℕ) (pending : List ℕ) → pending_byte n pending < 256
 byte_most n pending =
     let a = one_most (8 * n) pending in let b = one_most (8 * n + 1) pending in let c = one_most (8 * n + 2) pending in let d = one_most (8 * n + 3) pending in
-    let e = one_most (8 * n + 4) pending in let f = one_most (8 * n + 5) pending in let g = one_most (8 * n + 6) pending in let h = one_most (8 * n + 7) pending in
+    let e = one_most (8 * n + 4) pending in let f = one_most (8 * n + 5) pending in let g = one_most (8 * n + 6) pending in let h =
+    one_most (8 * n + 7) pending in
     omega arith
 
 eight_small : (a b c d e f g h : ℕ) → a < 256 → b < 256 → c < 256 → d < 256 → e < 256 → f < 256 → g < 256 → h < 256
@@ -108,7 +112,8 @@ module _ (s : Shape) (shape : IsShape s) (t : Translator) (sound : IsTranslator 
   events_fit dev ev e is =
       let h = sound.events dev ev e is in
       let most = shape.most_lpi_bits in
-      let low : e.intid.0 < 2 ^ s.lpi_bits = ltb-true e.intid.0 (2 ^ s.lpi_bits) (and_parts (nat_le 8192 e.intid.0) (nat_lt e.intid.0 (2 ^ s.lpi_bits)) h.lpi).1 in
+      let low : e.intid.0 < 2 ^ s.lpi_bits = ltb-true e.intid.0 (2 ^ s.lpi_bits)
+      (and_parts (nat_le 8192 e.intid.0) (nat_lt e.intid.0 (2 ^ s.lpi_bits)) h.lpi).1 in
       let all : 2 ^ s.lpi_bits ≤ 2 ^ 20 = pow_mono {i = s.lpi_bits} {j = 20} most in
       record { intid = omega arith; icid = h.icid }
 
@@ -126,12 +131,14 @@ module _ (s : Shape) (shape : IsShape s) (t : Translator) (sound : IsTranslator 
   pages_small : (memory : List Window) (n : ℕ) → AllByRecursion AreSmall (pages_words t memory n)
   pages_small memory zero = tt
   pages_small memory (suc n) =
-      all_both AreSmall (pages_words t memory n) (page_words t.maps n (page_of (level1_of t.regs memory n))) (pages_small memory n) (page_small n (page_of (level1_of t.regs memory n)))
+      all_both AreSmall (pages_words t memory n) (page_words t.maps n (page_of (level1_of t.regs memory n))) (pages_small memory n)
+      (page_small n (page_of (level1_of t.regs memory n)))
 
   devices_small : (memory : List Window) → AllByRecursion AreSmall (device_words t memory)
   unfolding device_words
   devices_small memory =
-      elim (is_valid t.regs.baser0) as (λ v. AllByRecursion AreSmall (cond (not v) [] (cond (is_indirect t.regs.baser0) (pages_words t memory (level1_entries t.regs.dev_bits))
+      elim (is_valid t.regs.baser0) as (λ v. AllByRecursion AreSmall
+      (cond (not v) [] (cond (is_indirect t.regs.baser0) (pages_words t memory (level1_entries t.regs.dev_bits))
       (record { base = table_base t.regs.baser0; count = 8192 * device_pages t.regs; word = device_word t.maps } ∷ [])))) [
         | true ↦ elim (is_indirect t.regs.baser0) as (λ i. AllByRecursion AreSmall (cond i (pages_words t memory (level1_entries t.regs.dev_bits))
             (record { base = table_base t.regs.baser0; count = 8192 * device_pages t.regs; word = device_word t.maps } ∷ []))) [
@@ -143,12 +150,14 @@ module _ (s : Shape) (shape : IsShape s) (t : Translator) (sound : IsTranslator 
 
   collections_small : AllByRecursion AreSmall (collection_words t)
   collections_small =
-      elim (is_valid t.regs.baser1) as (λ v. AllByRecursion AreSmall (cond v (record { base = table_base t.regs.baser1; count = 8192 * collection_pages t.regs; word = collection_word t.maps } ∷ []) [])) [
+      elim (is_valid t.regs.baser1) as (λ v. AllByRecursion AreSmall
+      (cond v (record { base = table_base t.regs.baser1; count = 8192 * collection_pages t.regs; word = collection_word t.maps } ∷ []) [])) [
         | true ↦ ((λ i. collection_small t.maps i (collections_fit i)), tt)
         | false ↦ tt
       ]
 
-  itts_small : (ds : List (ℕ × Device)) → AllByRecursion AreSmall (flat_map (λ d. record { base = d.1.itt.0; count = 2 ^ d.1.bits; word = event_word t.maps d.0 } ∷ []) ds)
+  itts_small : (ds : List (ℕ × Device))
+      → AllByRecursion AreSmall (flat_map (λ d. record { base = d.1.itt.0; count = 2 ^ d.1.bits; word = event_word t.maps d.0 } ∷ []) ds)
   itts_small [] = tt
   itts_small (d ∷ ds) = ((λ i. event_small t.maps d.0 i (events_fit d.0 i)), itts_small ds)
 
@@ -158,17 +167,24 @@ module _ (s : Shape) (shape : IsShape s) (t : Translator) (sound : IsTranslator 
       all_both AreSmall (device_words t memory ++ collection_words t) (itt_words t.maps)
       (all_both AreSmall (device_words t memory) (collection_words t) (devices_small memory) collections_small) (itts_small (entries t.maps.devices))
 
-translators_small : (s : Shape) → IsShape s → (memory : List Window) (ts : List Translator) → ((i : ℕ) (t : Translator) → slice_get ts i ≡ Some t → IsTranslator s t)
+translators_small : (s : Shape) → IsShape s → (memory : List Window) (ts : List Translator)
+    → ((i : ℕ) (t : Translator) → slice_get ts i ≡ Some t → IsTranslator s t)
     → AllByRecursion AreSmall (flat_map (translator_words memory) ts)
 translators_small s shape memory [] sound = tt
 translators_small s shape memory (t ∷ ts) sound =
-    all_both AreSmall (translator_words memory t) (flat_map (translator_words memory) ts) (translator_small s shape t (sound 0 t refl) memory) (translators_small s shape memory ts (λ i x at. sound (suc i) x at))
+    all_both AreSmall (translator_words memory t) (flat_map (translator_words memory) ts) (translator_small s shape t (sound 0 t refl) memory)
+    (translators_small s shape memory ts (λ i x at. sound (suc i) x at))
 
 redistributors_small : (s : Shape) (rs : List Redistributor) → AllByRecursion AreSmall (flat_map (pending_words s) rs)
 redistributors_small s [] = tt
 redistributors_small s (r ∷ rs) =
     all_both AreSmall (pending_words s r) (flat_map (pending_words s) rs)
-    (elim r.bases.on as (λ on. AllByRecursion AreSmall (cond on (record { base = r.bases.pend.table.0 + 1024; count = (pending_bytes s.lpi_bits - 1024) / 8; word = λ i. pending_word r.pending (1024 + 8 * i) } ∷ []) [])) [
+    (elim r.bases.on as (λ on. AllByRecursion AreSmall
+    (cond on (record {
+      base = r.bases.pend.table.0 + 1024;
+      count = (pending_bytes s.lpi_bits - 1024) / 8;
+      word = λ i. pending_word r.pending (1024 + 8 * i);
+    } ∷ []) [])) [
       | true ↦ ((λ i. pending_small r.pending (1024 + 8 * i)), tt)
       | false ↦ tt
     ])

@@ -1,5 +1,6 @@
 -- What the tests of a save say of its areas.
-use Rattle.std.proofs.Common.{◌≡◌, ◌⊎◌, ℕ, zero, suc, ◌+◌, Bool, true, false, not, cond, List, [], ◌∷◌, Option, Some, None, Result, Ok, Err, refl, sym, subst, ap, ◌∙◌, inl, inr}
+use Rattle.std.proofs.Common.{◌≡◌, ◌⊎◌, ℕ, zero, suc, ◌+◌, Bool, true, false, not, cond, List, [], ◌∷◌, Option, Some, None, Result, Ok, Err, refl, sym, subst}
+use Rattle.std.proofs.Common.{ap, ◌∙◌, inl, inr}
 use Rattle.std.specs.Prelude.{◌&&◌, ◌||◌, nat_lt, find, slice_get}
 use Rattle.std.specs.List.{AllByRecursion}
 use Rattle.std.specs.FinMap.{entries}
@@ -89,7 +90,8 @@ all_have_places memory (t ∷ ts) e =
 
 none_clash : (areas : List Area) → none_overlap areas ≡ Ok tt → NoneClash areas
 none_clash [] e = tt
-none_clash (a ∷ areas) e = let both = overlap_none a (find (clash a) areas) (none_overlap areas) e in (none_found (clash a) areas both.0, none_clash areas both.1)
+none_clash (a ∷ areas) e = let both = overlap_none a (find (clash a) areas)
+    (none_overlap areas) e in (none_found (clash a) areas both.0, none_clash areas both.1)
 
 pub tested : (u : Plain) → IsSavable u → Tested u
 unfolding savable
@@ -130,7 +132,8 @@ no_clash a b some e =
     sym (ap (λ (t : Bool). t && nat_lt a.base (b.base + b.size) && nat_lt b.base (a.base + a.size)) some) ∙ e in
     elim (cases_lt a.base (b.base + b.size)) [
       | inl one ↦ elim (cases_lt b.base (a.base + a.size)) [
-        | inl two ↦ absurd (let both : true ≡ false = sym (ap (λ (t : Bool). t && nat_lt b.base (a.base + a.size)) (lt-ltb a.base (b.base + b.size) one) ∙ lt-ltb b.base (a.base + a.size) two) ∙ tests in cc)
+        | inl two ↦ absurd (let both : true ≡ false = sym (ap (λ (t : Bool). t && nat_lt b.base (a.base + a.size)) (lt-ltb a.base (b.base + b.size) one)
+            ∙ lt-ltb b.base (a.base + a.size) two) ∙ tests in cc)
         | inr le ↦ inl le
       ]
       | inr le ↦ inr le
@@ -170,21 +173,28 @@ at_place P (y ∷ xs) zero x all e = subst P (same_Some y x e) all.0
 at_place P (y ∷ xs) (suc k) x all e = at_place P xs k x all.1 e
 
 -- one that isn't written shares no byte with any that is
-pub read_avoid : (areas : List Area) → NoneClash areas → (k : ℕ) (a : Area) → slice_get areas k ≡ Some a → a.is_written ≡ false → AllByRecursion (Avoids (span a)) (written_spans areas)
+pub read_avoid : (areas : List Area) → NoneClash areas → (k : ℕ) (a : Area) → slice_get areas k ≡ Some a → a.is_written ≡ false
+    → AllByRecursion (Avoids (span a)) (written_spans areas)
 read_avoid [] none k a at e = absurd cc
 read_avoid (b ∷ areas) none zero a at e =
     let same : b ≡ a = same_Some b a at in
     let unwritten : b.is_written ≡ false = ap (λ (x : Area). x.is_written) same ∙ e in
     subst (λ (x : Area). AllByRecursion (Avoids (span x)) (written_spans (b ∷ areas))) same
-    (subst (λ (w : Bool). AllByRecursion (Avoids (span b)) (cond w (span b ∷ written_spans areas) (written_spans areas))) (sym unwritten) (later_avoid b areas none.0))
+    (subst (λ (w : Bool). AllByRecursion (Avoids (span b)) (cond w (span b ∷ written_spans areas) (written_spans areas))) (sym unwritten)
+    (later_avoid b areas none.0))
 read_avoid (b ∷ areas) none (suc k) a at e =
     elim b.is_written as (λ w. b.is_written ≡ w → AllByRecursion (Avoids (span a)) (cond w (span b ∷ written_spans areas) (written_spans areas))) [
-      | true ↦ λ w. (no_clash b a (or_left b.is_written a.is_written w) (at_place (λ c. clash b c ≡ false) areas k a none.0 at), read_avoid areas none.1 k a at e)
+      | true ↦ λ w. (
+        no_clash b a (or_left b.is_written a.is_written w) (at_place (λ c. clash b c ≡ false) areas k a none.0 at),
+        read_avoid areas none.1 k a at
+            e,
+      )
       | false ↦ λ w. read_avoid areas none.1 k a at e
     ] refl
 
 -- a stretch that each written area leaves alone
-pub others_avoid : (b n : ℕ) (areas : List Area) → ((k : ℕ) (a : Area) → slice_get areas k ≡ Some a → a.is_written ≡ true → Apart a.base a.size b n) → AllByRecursion (Avoids (b, n)) (written_spans areas)
+pub others_avoid : (b n : ℕ) (areas : List Area) → ((k : ℕ) (a : Area) → slice_get areas k ≡ Some a → a.is_written ≡ true → Apart a.base a.size b n)
+    → AllByRecursion (Avoids (b, n)) (written_spans areas)
 others_avoid b n [] h = tt
 others_avoid b n (a ∷ areas) h =
     elim a.is_written as (λ w. a.is_written ≡ w → AllByRecursion (Avoids (b, n)) (cond w (span a ∷ written_spans areas) (written_spans areas))) [

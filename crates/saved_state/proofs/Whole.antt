@@ -54,8 +54,10 @@ stands_allowed false valid h = refl
 allowed : (r : Registers) → regs.IsSound r → chain r ≡ Ok r
 unfolding chain
 allowed r h =
-    let bases : r.enabled ≡ true → ((is_valid r.cbaser && is_valid r.baser0) ≡ true) × (is_valid r.baser1 ≡ true) = λ on. and_parts (is_valid r.cbaser && is_valid r.baser0) (is_valid r.baser1) (h.enabled on) in
-    all_pass (base_allowed r.enabled r.cbaser) (nat_lt r.creadr (queue_size r)) (nat_lt r.cwriter (queue_size r)) (base_allowed r.enabled r.baser0) (base_allowed r.enabled r.baser1)
+    let bases : r.enabled ≡ true → ((is_valid r.cbaser && is_valid r.baser0) ≡ true) × (is_valid r.baser1 ≡ true) = λ on.
+    and_parts (is_valid r.cbaser && is_valid r.baser0) (is_valid r.baser1) (h.enabled on) in
+    all_pass (base_allowed r.enabled r.cbaser) (nat_lt r.creadr (queue_size r)) (nat_lt r.cwriter (queue_size r)) (base_allowed r.enabled r.baser0)
+    (base_allowed r.enabled r.baser1)
     register.Cbaser register.Creadr register.Cwriter register.Baser0 register.Baser1 r
     (stands_allowed r.enabled (is_valid r.cbaser) (λ on. (and_parts (is_valid r.cbaser) (is_valid r.baser0) (bases on).0).0))
     (lt-ltb r.creadr (queue_size r) h.creadr.inside)
@@ -76,8 +78,11 @@ module _ (u : Plain) (k : ℕ) (t : Translator) (sound : IsSound u) (savable : I
   events : (dev ev : ℕ) (e : Event) → (event_of t.maps dev ev ≡ Some e) ↔ HasEventOf (saved u) t.regs dev ev e
   events dev ev e = (
     λ is.
-        let h = (sound.translators k t at).events dev ev e is in
-        (h.device, ((devices_stand u k t sound savable at).are dev h.device).0 h.device_is, ((events_stand u k t dev h.device sound savable at h.device_is).are ev e).0 is),
+        let h = (sound.translators k t at).events dev ev e is in (
+          h.device,
+          ((devices_stand u k t sound savable at).are dev h.device).0 h.device_is,
+          ((events_stand u k t dev h.device sound savable at h.device_is).are ev e).0 is,
+        ),
     λ has.
         let is = ((devices_stand u k t sound savable at).are dev has.0).1 has.1 in
         ((events_stand u k t dev has.0 sound savable at is).are ev e).1 has.2,
@@ -110,7 +115,8 @@ clear u sound =
 both_maps : {X Y Z : Type 0} (P : Y → Z → Type 0) (f : X → Y) (g : X → Z) (xs : List X) → ((k : ℕ) (x : X) → slice_get xs k ≡ Some x → P (f x) (g x))
     → (k : ℕ) (y : Y) (z : Z) → slice_get (map f xs) k ≡ Some y → slice_get (map g xs) k ≡ Some z → P y z
 both_maps P f g [] h k y z at to = absurd cc
-both_maps {X} {Y} {Z} P f g (x ∷ xs) h zero y z at to = subst (λ (b : Z). P y b) (same_Some (g x) z to) (subst (λ (a : Y). P a (g x)) (same_Some (f x) y at) (h 0 x refl))
+both_maps {X} {Y} {Z} P f g (x ∷ xs) h zero y z at to = subst (λ (b : Z). P y b) (same_Some (g x) z to)
+    (subst (λ (a : Y). P a (g x)) (same_Some (f x) y at) (h 0 x refl))
 both_maps P f g (x ∷ xs) h (suc k) y z at to = both_maps P f g xs (λ j w there. h (suc j) w there) k y z at to
 
 -- ---- the whole
@@ -129,6 +135,7 @@ saved_stands u t values sound savable one same =
       stands = record { allowed = is_allowed values u.layout.shape.dev_bits t.regs own.regs same; regs = sym same; maps = maps_in u 0 t sound savable at };
       vcpus = length-map u.redistributors (reloaded u.layout.shape (saved u)) ∙ sym (length-map u.redistributors (λ r. r.bases));
       redistributors =
-          both_maps (λ (b : Bases) (r : Redistributor). IsRedistributorIn u.layout.shape (saved u) b r) (λ r. r.bases) (reloaded u.layout.shape (saved u)) u.redistributors
+          both_maps (λ (b : Bases) (r : Redistributor). IsRedistributorIn u.layout.shape (saved u) b r) (λ r. r.bases) (reloaded u.layout.shape (saved u))
+          u.redistributors
           (λ v r there. redistributors_stand u v r sound savable there);
     }

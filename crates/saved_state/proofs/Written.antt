@@ -1,5 +1,6 @@
 -- Memory behind tables that were written: each word stands at its place, and other bytes are as before.
-use Rattle.std.proofs.Common.{◌≡◌, ℕ, zero, suc, ◌+◌, ◌*◌, ◌^◌, ◌<◌, ◌≤◌, Bool, true, false, List, [], ◌∷◌, length, Option, Some, None, is_some, refl, sym, subst, ap, ◌∙◌, inl, inr, arith, append-nil}
+use Rattle.std.proofs.Common.{◌≡◌, ℕ, zero, suc, ◌+◌, ◌*◌, ◌^◌, ◌<◌, ◌≤◌, Bool, true, false, List, [], ◌∷◌, length, Option, Some, None, is_some, refl, sym}
+use Rattle.std.proofs.Common.{subst, ap, ◌∙◌, inl, inr, arith, append-nil}
 use Rattle.std.specs.Prelude.{◌||◌, unwrap_or, slice_get}
 use Rattle.std.specs.Option.{option_map}
 use Rattle.std.specs.List.{AllByRecursion}
@@ -39,11 +40,14 @@ wrote_some memory (Some now) e = refl
 eight : (word : ℕ) → length (little_bytes 8 word) ≡ 8
 eight word = length-bytes_low_first 0 8 word
 
-written : (memory : List Window) (address word : ℕ) → inside memory address 8 ≡ true → write_at memory address (little_bytes 8 word) ≡ Some (put_word memory address word)
+written : (memory : List Window) (address word : ℕ) → inside memory address 8 ≡ true → write_at memory address (little_bytes 8 word) ≡ Some
+    (put_word memory address word)
 written memory address word h =
-    wrote_some memory (write_at memory address (little_bytes 8 word)) (is_some-write_at memory address (little_bytes 8 word) ∙ ap (inside memory address) (eight word) ∙ h)
+    wrote_some memory (write_at memory address (little_bytes 8 word)) (is_some-write_at memory address (little_bytes 8 word) ∙ ap (inside memory address)
+    (eight word) ∙ h)
 
-maybe : (P : List Window → Type 0) (memory : List Window) (o : Option (List Window)) → P memory → ((now : List Window) → o ≡ Some now → P now) → P (unwrap_or o memory)
+maybe : (P : List Window → Type 0) (memory : List Window) (o : Option (List Window)) → P memory → ((now : List Window) → o ≡ Some now → P now)
+    → P (unwrap_or o memory)
 maybe P memory None before after = before
 maybe P memory (Some now) before after = after now refl
 
@@ -54,16 +58,20 @@ word_stays memory address word b n apart =
 
 word_inside : (memory : List Window) (address word b n : ℕ) → inside (put_word memory address word) b n ≡ inside memory b n
 word_inside memory address word b n =
-    maybe (λ m. inside m b n ≡ inside memory b n) memory (write_at memory address (little_bytes 8 word)) refl (λ now e. inside-write_at memory address (little_bytes 8 word) now b n e)
+    maybe (λ m. inside m b n ≡ inside memory b n) memory (write_at memory address (little_bytes 8 word)) refl
+    (λ now e. inside-write_at memory address (little_bytes 8 word) now b n e)
 
-word_there : (memory : List Window) (address word : ℕ) → inside memory address 8 ≡ true → read_at (put_word memory address word) address 8 ≡ Some (little_bytes 8 word)
+word_there : (memory : List Window) (address word : ℕ) → inside memory address 8 ≡ true → read_at (put_word memory address word) address 8 ≡ Some
+    (little_bytes 8 word)
 word_there memory address word h =
     let bytes = little_bytes 8 word in
-    let same : read_at (put_word memory address word) address (length bytes) ≡ Some bytes = read_at-write_at_same memory address bytes (put_word memory address word) (written memory address word h) in
+    let same : read_at (put_word memory address word) address (length bytes) ≡ Some bytes = read_at-write_at_same memory address bytes
+    (put_word memory address word) (written memory address word h) in
     ap (read_at (put_word memory address word) address) (sym (eight word)) ∙ same
 
 -- the bytes of a word are its number
-pub number_read : (memory : List Window) (address word : ℕ) → word < 2 ^ 64 → read_at memory address 8 ≡ Some (little_bytes 8 word) → number_at memory address ≡ Some word
+pub number_read : (memory : List Window) (address word : ℕ) → word < 2 ^ 64 → read_at memory address 8 ≡ Some (little_bytes 8 word)
+    → number_at memory address ≡ Some word
 number_read memory address word small read =
     let bytes = little_bytes 8 word in
     let number : little_number 8 bytes ≡ word = ap (little_number 8) (sym (append-nil bytes)) ∙ little_number-reads_back 8 word [] small in
@@ -71,7 +79,8 @@ number_read memory address word small read =
 
 -- ---- a table
 
-words_stay : (memory : List Window) (base : ℕ) (word : ℕ → ℕ) (n b m : ℕ) → Apart base (8 * n) b m → read_at (put_words memory base word n) b m ≡ read_at memory b m
+words_stay : (memory : List Window) (base : ℕ) (word : ℕ → ℕ) (n b m : ℕ) → Apart base (8 * n) b m → read_at (put_words memory base word n) b m
+    ≡ read_at memory b m
 words_stay memory base word zero b m apart = refl
 words_stay memory base word (suc n) b m apart =
     let last : Apart (entry_address base n) 8 b m = elim apart [ inl e ↦ inl (omega arith) | inr e ↦ inr (omega arith) ] in
@@ -89,8 +98,10 @@ words_there memory base word (suc n) i h lt =
     let before = put_words memory base word n in
     elim (cases_eq i n) [
       | inl same ↦
-          let here : inside before (entry_address base n) 8 ≡ true = words_inside memory base word n (entry_address base n) 8 ∙ inside_part memory base (8 * suc n) (entry_address base n) 8 (omega arith) (omega arith) h in
-          subst (λ (k : ℕ). read_at (put_words memory base word (suc n)) (entry_address base k) 8 ≡ Some (little_bytes 8 (word k))) (sym same) (word_there before (entry_address base n) (word n) here)
+          let here : inside before (entry_address base n) 8 ≡ true = words_inside memory base word n (entry_address base n) 8 ∙ inside_part memory base
+          (8 * suc n) (entry_address base n) 8 (omega arith) (omega arith) h in
+          subst (λ (k : ℕ). read_at (put_words memory base word (suc n)) (entry_address base k) 8 ≡ Some (little_bytes 8 (word k))) (sym same)
+          (word_there before (entry_address base n) (word n) here)
       | inr other ↦
           let below : i < n = omega (arith, other) in
           word_stays before (entry_address base n) (word n) (entry_address base i) 8 (inr (omega arith))
@@ -105,7 +116,8 @@ Spares b n t = Apart t.base (8 * t.count) b n
 
 pub tables_stay : (memory : List Window) (ts : List Words) (b n : ℕ) → AllByRecursion (Spares b n) ts → read_at (put_tables memory ts) b n ≡ read_at memory b n
 tables_stay memory [] b n spared = refl
-tables_stay memory (t ∷ ts) b n spared = tables_stay (put_words memory t.base t.word t.count) ts b n spared.1 ∙ words_stay memory t.base t.word t.count b n spared.0
+tables_stay memory (t ∷ ts) b n spared = tables_stay (put_words memory t.base t.word t.count) ts b n spared.1
+    ∙ words_stay memory t.base t.word t.count b n spared.0
 
 -- it lies in memory
 abbrev pub CanStand : List Window → Words → Type 0
@@ -122,7 +134,8 @@ spares_part a n b m (t ∷ ts) low high all = ((elim all.0 [ inl e ↦ inl (omeg
 
 -- memory as it is now has the windows of the memory before
 there_now : (old memory : List Window) (ts : List Words) → ((b n : ℕ) → inside memory b n ≡ inside old b n) → AllByRecursion (CanStand old) ts → AreApart ts
-    → (k i : ℕ) (t : Words) → slice_get ts k ≡ Some t → i < t.count → read_at (put_tables memory ts) (entry_address t.base i) 8 ≡ Some (little_bytes 8 (t.word i))
+    → (k i : ℕ) (t : Words) → slice_get ts k ≡ Some t → i < t.count → read_at (put_tables memory ts) (entry_address t.base i) 8 ≡ Some
+    (little_bytes 8 (t.word i))
 there_now old memory [] same can apart k i t at lt = absurd cc
 there_now old memory (s ∷ ts) same can apart zero i t at lt =
     let now = put_words memory s.base s.word s.count in
@@ -136,7 +149,8 @@ there_now old memory (s ∷ ts) same can apart (suc k) i t at lt =
     there_now old (put_words memory s.base s.word s.count) ts (λ b n. words_inside memory s.base s.word s.count b n ∙ same b n) can.1 apart.1 k i t at lt
 
 pub tables_read : (memory : List Window) (ts : List Words) → AllByRecursion (CanStand memory) ts → AreApart ts
-    → (k i : ℕ) (t : Words) → slice_get ts k ≡ Some t → i < t.count → read_at (put_tables memory ts) (entry_address t.base i) 8 ≡ Some (little_bytes 8 (t.word i))
+    → (k i : ℕ) (t : Words) → slice_get ts k ≡ Some t → i < t.count → read_at (put_tables memory ts) (entry_address t.base i) 8 ≡ Some
+    (little_bytes 8 (t.word i))
 tables_read memory ts can apart = there_now memory memory ts (λ b n. refl) can apart
 
 pub tables_inside : (memory : List Window) (ts : List Words) (b n : ℕ) → inside (put_tables memory ts) b n ≡ inside memory b n

@@ -29,16 +29,19 @@ Apart a m b n = (a + m ≤ b) ⊎ (b + n ≤ a)
 
 -- each word of each table is read at its place
 abbrev pub WordsReadBack : Type 0
-WordsReadBack = (u : Plain) (k i : ℕ) (t : Words) → IsSound u → IsSavable u → slice_get (words_of u) k ≡ Some t → i < t.count → number_at (saved u) (entry_address t.base i) ≡ Some (t.word i)
+WordsReadBack = (u : Plain) (k i : ℕ) (t : Words) → IsSound u → IsSavable u → slice_get (words_of u) k ≡ Some t → i < t.count
+    → number_at (saved u) (entry_address t.base i) ≡ Some (t.word i)
 
 -- a stretch that shares no byte with an area that is written reads as before
 abbrev pub OtherBytesStay : Type 0
-OtherBytesStay = (u : Plain) (address n : ℕ) → IsSound u → IsSavable u → ((k : ℕ) (a : Area) → slice_get (areas_of u) k ≡ Some a → a.is_written ≡ true → Apart a.base a.size address n)
+OtherBytesStay = (u : Plain) (address n : ℕ) → IsSound u → IsSavable u → ((k : ℕ) (a : Area) → slice_get (areas_of u) k ≡ Some a → a.is_written ≡ true
+    → Apart a.base a.size address n)
     → read_at (saved u) address n ≡ read_at u.memory address n
 
 -- and so does every stretch of an area that is not written
 abbrev pub ReadAreasStay : Type 0
-ReadAreasStay = (u : Plain) (k : ℕ) (a : Area) (address n : ℕ) → IsSound u → IsSavable u → slice_get (areas_of u) k ≡ Some a → a.is_written ≡ false → a.base ≤ address → address + n ≤ a.base + a.size
+ReadAreasStay = (u : Plain) (k : ℕ) (a : Area) (address n : ℕ) → IsSound u → IsSavable u → slice_get (areas_of u) k ≡ Some a → a.is_written ≡ false
+    → a.base ≤ address → address + n ≤ a.base + a.size
     → read_at (saved u) address n ≡ read_at u.memory address n
 
 -- ---- collections
@@ -66,7 +69,8 @@ pub record AreEventsSaved (u : Plain) (t : Translator) (dev : ℕ) (d : Device) 
   pub are : (ev : ℕ) (e : Event) → (event_of t.maps dev ev ≡ Some e) ↔ HasEvent (saved u) (itt_of dev d) ev e
 
 abbrev pub EventsStand : Type 0
-EventsStand = (u : Plain) (k : ℕ) (t : Translator) (dev : ℕ) (d : Device) → IsSound u → IsSavable u → slice_get u.translators k ≡ Some t → device_of t.maps dev ≡ Some d → AreEventsSaved u t dev d
+EventsStand = (u : Plain) (k : ℕ) (t : Translator) (dev : ℕ) (d : Device) → IsSound u → IsSavable u → slice_get u.translators k ≡ Some t
+    → device_of t.maps dev ≡ Some d → AreEventsSaved u t dev d
 
 -- ---- devices
 
@@ -86,7 +90,8 @@ bases_of u = map (λ r. r.bases) u.redistributors
 -- saved memory, and values that the registers of the translator can be restored from, stand for the state that a migration
 -- goes on from
 abbrev pub SavedStands : Type 0
-SavedStands = (u : Plain) (t : Translator) (values : RegValues) → IsSound u → IsSavable u → u.translators ≡ t ∷ [] → masked values u.layout.shape.dev_bits ≡ t.regs
+SavedStands = (u : Plain) (t : Translator) (values : RegValues) → IsSound u → IsSavable u → u.translators ≡ t ∷ [] → masked values u.layout.shape.dev_bits
+    ≡ t.regs
     → Stands (saved u) values u.layout (bases_of u) (moved u)
 
 -- what is read of the registers (KVM document arm-vgic-its, "ITS Restore Sequence")
@@ -106,15 +111,18 @@ ReadValuesMask = (r : Registers) → regs.IsSound r → masked (values_read r) r
 
 -- so saved memory and what is read of the registers stand for that state
 abbrev pub SavedReadsStand : Type 0
-SavedReadsStand = (u : Plain) (t : Translator) → IsSound u → IsSavable u → u.translators ≡ t ∷ [] → Stands (saved u) (values_read t.regs) u.layout (bases_of u) (moved u)
+SavedReadsStand = (u : Plain) (t : Translator) → IsSound u → IsSavable u → u.translators ≡ t ∷ [] → Stands (saved u) (values_read t.regs) u.layout (bases_of u)
+    (moved u)
 
 -- no other state stands there
 abbrev pub OnlyThatStands : Type 0
-OnlyThatStands = (u : Plain) (t : Translator) (w : Plain) → IsSound u → IsSavable u → u.translators ≡ t ∷ [] → Stands (saved u) (values_read t.regs) u.layout (bases_of u) w → w ≡ moved u
+OnlyThatStands = (u : Plain) (t : Translator) (w : Plain) → IsSound u → IsSavable u → u.translators ≡ t ∷ [] → Stands (saved u) (values_read t.regs) u.layout
+    (bases_of u) w → w ≡ moved u
 
 -- and there is nothing that a restore would refuse
 abbrev pub NoOffenceIsFirst : Type 0
-NoOffenceIsFirst = (u : Plain) (t : Translator) (f : RestoreFault) → IsSound u → IsSavable u → u.translators ≡ t ∷ [] → IsFirstFault (saved u) (values_read t.regs) u.layout.shape (bases_of u) f → ⊥
+NoOffenceIsFirst = (u : Plain) (t : Translator) (f : RestoreFault) → IsSound u → IsSavable u → u.translators ≡ t ∷ []
+    → IsFirstFault (saved u) (values_read t.regs) u.layout.shape (bases_of u) f → ⊥
 
 -- ---- equal translators
 

@@ -1,5 +1,6 @@
 -- Each call of the script keeps the invariant.
-use Rattle.std.proofs.Common.{◌≡◌, ◌⊎◌, ℕ, ◌+◌, ◌*◌, ◌/◌, ◌%◌, ◌<◌, ◌≤◌, ◌^◌, true, not, ◌&&◌, List, [], ◌∷◌, length, map, Option, Some, None, Result, Ok, Err, IfOk, inl, inr, refl, sym, ap, subst, ◌∙◌, arith}
+use Rattle.std.proofs.Common.{◌≡◌, ◌⊎◌, ℕ, ◌+◌, ◌*◌, ◌/◌, ◌%◌, ◌<◌, ◌≤◌, ◌^◌, true, not, ◌&&◌, List, [], ◌∷◌, length, map, Option, Some, None, Result, Ok, Err}
+use Rattle.std.proofs.Common.{IfOk, inl, inr, refl, sym, ap, subst, ◌∙◌, arith}
 use Rattle.std.specs.Prelude.{unwrap_or, slice_index_or}
 use Rattle.std.specs.List.{AllByRecursion}
 use Rattle.std.proofs.lemmas.Bool.{cond_both, or_parts, and_parts, not-false, cases_eq, cases_lt}
@@ -13,7 +14,8 @@ use Rattle.its_command.specs.Commands.{decoded}
 use Rattle.its_types.specs.Bits.{field}
 use Rattle.its_types.specs.declared.machine.Profile.TheVariants.{One}
 use Rattle.its_plain.specs.Plain.{Plain, Translator, no_translator, translator, regs_of, maps_of, with_regs, with_translator}
-use Rattle.its_plain.specs.Answer.{answer, left, reply_of, written, translator_written, signal_left, signal_reply, step_left, met_left, command_left, went_on, is_idle, next_bytes}
+use Rattle.its_plain.specs.Answer.{answer, left, reply_of, written, translator_written, signal_left, signal_reply, step_left, met_left, command_left, went_on}
+use Rattle.its_plain.specs.Answer.{is_idle, next_bytes}
 use Rattle.its_plain.specs.Commands.{ran}
 use Rattle.its_plain.specs.History.{after}
 use Rattle.its_plain.specs.declared.layout.Layout.{Layout}
@@ -182,14 +184,16 @@ met_kept n u (Some bytes) is on h sound =
     let c = decoded bytes in
     let profile : u.layout.shape.profile ≡ One = ap (λ (l : Layout). l.shape.profile) h.layout ∙ profile_is in
     let nothing : IsRan n u u = record { layout = refl; one = h.one; memory = refl; regs = refl; devices = h.devices } in
-    let after : IsRan n u (command_left u (ran u 0 c)) = command_kept n u (ran u 0 c) (command_ran n u h.one h.devices c profile (next_allowed n u bytes h on is)) nothing in
+    let after : IsRan n u (command_left u (ran u 0 c)) = command_kept n u (ran u 0 c)
+    (command_ran n u h.one h.devices c profile (next_allowed n u bytes h on is)) nothing in
     went_on_kept n u (command_left u (ran u 0 c)) h after sound
 
 kept_step : (n : ℕ) (u : Plain) → IsKept n u → IsSound (step_left u 0) → IsKept n (step_left u 0)
 unfolding step_left
 kept_step n u h =
     cond_both (is_idle u 0) u (met_left u 0 (next_bytes u 0)) (λ v. IsSound v → IsKept n v) (λ _ _. h)
-    (λ busy. met_kept n u (next_bytes u 0) refl (not-false (regs_of u 0).enabled (or_parts (not (regs_of u 0).enabled) (is_queue_empty (regs_of u 0)) busy).0) h)
+    (λ busy. met_kept n u (next_bytes u 0) refl (not-false (regs_of u 0).enabled (or_parts (not (regs_of u 0).enabled) (is_queue_empty (regs_of u 0)) busy).0)
+    h)
 
 -- ---- all calls
 
@@ -199,11 +203,13 @@ at_0 P its e p = subst P (sym e) p
 pub call_kept : (n : ℕ) (u : Plain) (c : Call) → IsKept n u → IsGiven n c → IsKept n (answer u c).1
 unfolding left reply_of
 call_kept n u (call.Signal its dev ev) h given =
-    kept_beside n u (answer u (call.Signal its dev ev)).1 h (signalled u (signal_reply (translated u its dev.0 ev.0))) (calls_keep u (call.Signal its dev ev) h.sound)
+    kept_beside n u (answer u (call.Signal its dev ev)).1 h (signalled u (signal_reply (translated u its dev.0 ev.0)))
+    (calls_keep u (call.Signal its dev ev) h.sound)
 call_kept n u (call.Poke addr bytes) h given =
     kept_put n u addr.0 bytes (write_at u.memory addr.0 bytes) refl h given (calls_keep u (call.Poke addr bytes) h.sound)
 call_kept n u (call.WriteReg its off size value) h given =
-    at_0 (λ i. IsSound (written u i off size value) → IsKept n (written u i off size value)) its given.0 (kept_written n u off size value h given.1) (calls_keep u (call.WriteReg its off size value) h.sound)
+    at_0 (λ i. IsSound (written u i off size value) → IsKept n (written u i off size value)) its given.0 (kept_written n u off size value h given.1)
+    (calls_keep u (call.WriteReg its off size value) h.sound)
 call_kept n u (call.Step its) h given =
     at_0 (λ i. IsSound (step_left u i) → IsKept n (step_left u i)) its given (kept_step n u h) (calls_keep u (call.Step its) h.sound)
 call_kept n u (call.Take vcpu) h given = absurd given

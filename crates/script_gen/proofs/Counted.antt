@@ -1,5 +1,6 @@
 -- Counting one list after another: what is left still has room.
-use Rattle.std.proofs.Common.{◌≡◌, ℕ, suc, ◌+◌, ◌<◌, ◌≤◌, Bool, true, false, ◌&&◌, List, [], ◌∷◌, length, drop, get_or, refl, sym, ap, subst, ◌∙◌, add-one, arith}
+use Rattle.std.proofs.Common.{◌≡◌, ℕ, suc, ◌+◌, ◌<◌, ◌≤◌, Bool, true, false, ◌&&◌, List, [], ◌∷◌, length, drop, get_or, refl, sym, ap, subst, ◌∙◌, add-one}
+use Rattle.std.proofs.Common.{arith}
 use Rattle.std.proofs.Math.Seq.{drop-cons}
 use Rattle.std.proofs.lemmas.List.{length-append}
 use Rattle.its_types.specs.Bits.{bit}
@@ -42,7 +43,8 @@ room_after_list phase thread more [] rs n h = less_room (0 + more) more n (omega
 room_after_list phase thread more (c ∷ cs) [] n h = less_room (0 + more) more n (omega arith) h
 room_after_list phase thread more (c ∷ cs) (r ∷ rs) n h =
     let k = length (thread_lines phase thread cs rs) in
-    room_after_list phase thread more cs rs (with_call c r.reply n) (room_after (k + more) c r.reply n (less_room (suc k + more) (suc (k + more)) n (omega arith) h))
+    room_after_list phase thread more cs rs (with_call c r.reply n)
+    (room_after (k + more) c r.reply n (less_room (suc k + more) (suc (k + more)) n (omega arith) h))
 
 -- ---- at the end of a list
 
@@ -68,8 +70,10 @@ next_counted lists i l all n now within is made h =
     let rest : List ThreadList = drop (i + 1) lists in
     let next : i + 1 ≡ suc i = add-one i in
     let split : drop i lists ≡ l ∷ rest = drop-cons lists i l within ∙ ap (λ x. x ∷ drop (suc i) lists) (sym is) ∙ ap (λ k. l ∷ drop k lists) (sym next) in
-    let lines : length (all_lines (drop i lists)) ≡ length (list_lines l) + length (all_lines rest) = ap (λ ls. length (all_lines ls)) split ∙ length-append (list_lines l) (all_lines rest) in
+    let lines : length (all_lines (drop i lists)) ≡ length (list_lines l) + length (all_lines rest) = ap (λ ls. length (all_lines ls)) split
+    ∙ length-append (list_lines l) (all_lines rest) in
     record {
-      room = subst (HasRoomFor (length (all_lines rest))) (sym made) (room_after_list l.phase l.thread (length (all_lines rest)) l.calls.now l.replies n (subst (λ k. HasRoomFor k n) lines h.room));
+      room = subst (HasRoomFor (length (all_lines rest))) (sym made) (room_after_list l.phase l.thread (length (all_lines rest)) l.calls.now l.replies n
+          (subst (λ k. HasRoomFor k n) lines h.room));
       counts = ap (with_lists rest) made ∙ sym (ap (λ ls. with_lists ls n) split) ∙ h.counts;
     }

@@ -7,7 +7,8 @@ use Rattle.its_command.specs.declared.command.Command.TheVariants.{Movi, Int, Cl
 use Rattle.its_command.proofs.Encoded.{decodes_back}
 use Rattle.its_plain.specs.declared.call.Call.{Call}
 use Rattle.script_gen.specs.Commands.{map_collection, map_device, map_event, move_event, event_commands, device_commands, setup_commands, move_commands}
-use Rattle.script_gen.specs.Generated.{signal_call, queue, offset_of, queued, setup_thread, signal_thread, setup_count, move_thread, setup_phase, signal_phase, first_leg}
+use Rattle.script_gen.specs.Generated.{signal_call, queue, offset_of, queued, setup_thread, signal_thread, setup_count, move_thread, setup_phase, signal_phase}
+use Rattle.script_gen.specs.Generated.{first_leg}
 use Rattle.script_gen.proofs.Invariant.{IsGiven, IsAllowed, IsPut}
 use Rattle.script_gen.proofs.Invariant.IsWrite.{ctlr, cbaser, cwriter, baser0, baser1}
 use Rattle.script_gen.proofs.Lists.{all_append, all_map, all_flat_map, all_range}
@@ -52,8 +53,11 @@ move_good n j some most = record { within = (omega arith, omega arith, omega ari
 
 device_all_good : (n dev : ℕ) → n ≤ 63 → 1 ≤ dev → dev ≤ n → AllByRecursion (IsGood n) (device_commands dev)
 unfolding device_commands event_commands
-device_all_good n dev most first last =
-    (device_good n dev most first last, all_map (IsGood n) (map_event dev) (range_with_len 0 64) (all_range (λ ev. IsGood n (map_event dev ev)) 0 64 (λ ev _ low. event_good n dev ev most first last low)))
+device_all_good n dev most first last = (
+  device_good n dev most first last,
+  all_map (IsGood n) (map_event dev) (range_with_len 0 64)
+      (all_range (λ ev. IsGood n (map_event dev ev)) 0 64 (λ ev _ low. event_good n dev ev most first last low)),
+)
 
 setup_good : (n : ℕ) → n ≤ 63 → AllByRecursion (IsGood n) (setup_commands n)
 unfolding setup_commands
@@ -65,7 +69,8 @@ setup_good n most =
 
 moves_good : (n count : ℕ) → 1 ≤ n → n ≤ 63 → AllByRecursion (IsGood n) (move_commands n count)
 unfolding move_commands
-moves_good n count some most = all_map (IsGood n) (move_event n) (range_with_len 0 count) (all_range (λ j. IsGood n (move_event n j)) 0 count (λ j _ _. move_good n j some most))
+moves_good n count some most = all_map (IsGood n) (move_event n) (range_with_len 0 count)
+    (all_range (λ j. IsGood n (move_event n j)) 0 count (λ j _ _. move_good n j some most))
 
 -- ---- calls
 
@@ -106,7 +111,8 @@ signal_phase_given : (signals n : ℕ) → 1 ≤ n → n ≤ 63 → AllByRecursi
 unfolding signal_phase
 signal_phase_given signals n some most =
     all_append (AllGiven n) (map (signal_thread signals) (range_with_len 1 n)) (move_thread signals n ∷ [])
-    (all_map (AllGiven n) (signal_thread signals) (range_with_len 1 n) (all_range (λ dev. AllGiven n (signal_thread signals dev)) 1 n (λ dev _ _. signals_given signals n dev)))
+    (all_map (AllGiven n) (signal_thread signals) (range_with_len 1 n) (all_range (λ dev. AllGiven n (signal_thread signals dev)) 1 n
+    (λ dev _ _. signals_given signals n dev)))
     (move_given signals n some most, tt)
 
 pub leg_given : (signals n : ℕ) → 1 ≤ n → n ≤ 63 → AllByRecursion (λ threads. AllByRecursion (AllGiven n) threads) (first_leg signals n)

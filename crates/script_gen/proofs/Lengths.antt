@@ -18,7 +18,13 @@ device_length dev = ap suc (event_length dev 64)
 devices_length : (a n : ℕ) → length (flat_map device_commands (range_with_len a n)) ≡ 65 * n
 devices_length a zero = refl
 devices_length a (suc n) =
-    let rest = flat_map device_commands (range_with_len (a + 1) n) in omega (arith, length-append (device_commands a) rest, device_length a, devices_length (a + 1) n)
+    let rest = flat_map device_commands (range_with_len (a + 1) n) in omega (
+      arith,
+      length-append (device_commands a) rest,
+      device_length a,
+      devices_length
+          (a + 1) n,
+    )
 
 pub setup_length : (n : ℕ) → length (setup_commands n) ≡ 4 + 65 * n
 unfolding setup_commands

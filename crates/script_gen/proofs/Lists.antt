@@ -1,5 +1,6 @@
 -- What holds of each element of a list.
-use Rattle.std.proofs.Common.{◌≡◌, ℕ, zero, suc, ◌+◌, ◌-◌, ◌<◌, ◌≤◌, Bool, true, false, cond, List, [], ◌∷◌, ◌++◌, map, Option, Some, None, refl, ap, sym, ◌∙◌, append_assoc, arith}
+use Rattle.std.proofs.Common.{◌≡◌, ℕ, zero, suc, ◌+◌, ◌-◌, ◌<◌, ◌≤◌, Bool, true, false, cond, List, [], ◌∷◌, ◌++◌, map, Option, Some, None, refl, ap, sym, ◌∙◌}
+use Rattle.std.proofs.Common.{append_assoc, arith}
 use Rattle.std.specs.Prelude.{find}
 use Rattle.std.proofs.lemmas.Bool.{and_from}
 use Rattle.std.specs.List.{AllByRecursion, flat_map, range_with_len, list_all}
@@ -66,7 +67,8 @@ pub items_more : {Y : Type 0} (f : ℕ → Y) (now before all : List Y) (x : Y) 
     → now ++ map f (range_with_len (a + 1) (b - (a + 1))) ≡ all
 items_more f now before all x a b lt is one h =
     let rest = map f (range_with_len (a + 1) (b - (a + 1))) in
-    ap (λ xs. xs ++ rest) (one ∙ ap (λ y. before ++ y ∷ []) is) ∙ append_assoc before (f a ∷ []) rest ∙ sym (ap (λ ns. before ++ map f ns) (range_more a b lt)) ∙ h
+    ap (λ xs. xs ++ rest) (one ∙ ap (λ y. before ++ y ∷ []) is) ∙ append_assoc before (f a ∷ []) rest ∙ sym (ap (λ ns. before ++ map f ns) (range_more a b lt))
+    ∙ h
 
 -- ---- tests of each element
 

@@ -1,5 +1,6 @@
 -- Memory of one window, and memory of zeros.
-use Rattle.std.proofs.Common.{◌≡◌, ℕ, zero, suc, ◌+◌, ◌-◌, ◌≤◌, Bool, true, false, ◌||◌, List, [], ◌∷◌, length, take, drop, map, replicate, Some, refl, ap, subst, ◌∙◌, arith}
+use Rattle.std.proofs.Common.{◌≡◌, ℕ, zero, suc, ◌+◌, ◌-◌, ◌≤◌, Bool, true, false, ◌||◌, List, [], ◌∷◌, length, take, drop, map, replicate, Some, refl, ap}
+use Rattle.std.proofs.Common.{subst, ◌∙◌, arith}
 use Rattle.std.specs.Prelude.{nat_le}
 use Rattle.std.specs.List.{AllByRecursion}
 use Rattle.std.proofs.lemmas.Bool.{and_from, le-leb, cond_both}
@@ -15,7 +16,8 @@ inside_one (w ∷ []) base size a n e low high =
     let first : extent w ≡ (base, size) = cc in
     let starts : w.base ≡ base = ap (λ (x : ℕ × ℕ). x.0) first in
     let sized : length w.bytes ≡ size = ap (λ (x : ℕ × ℕ). x.1) first in
-    let lies : has w a n ≡ true = and_from (nat_le w.base a) (nat_le (a + n) (w.base + length w.bytes)) (le-leb w.base a (omega arith)) (le-leb (a + n) (w.base + length w.bytes) (omega arith)) in
+    let lies : has w a n ≡ true = and_from (nat_le w.base a) (nat_le (a + n) (w.base + length w.bytes)) (le-leb w.base a (omega arith))
+    (le-leb (a + n) (w.base + length w.bytes) (omega arith)) in
     ap (λ (b : Bool). b || false) lies
 
 -- ---- zeros
@@ -45,7 +47,8 @@ read_zero : (ws : List (ℕ × ℕ)) (a n : ℕ) (bytes : List ℕ) → read_at 
 read_zero [] a n bytes e = absurd cc
 read_zero (w ∷ ws) a n bytes e =
     cond_both (has (zeros w) a n) (Some (piece (zeros w) a n)) (read_at (map zeros ws) a n) (λ o. o ≡ Some bytes → AreZero bytes)
-    (λ _ is. subst AreZero (same_Some (piece (zeros w) a n) bytes is) (zeros_take n (drop (a - w.0) (replicate w.1 0)) (zeros_drop (a - w.0) (replicate w.1 0) (zeros_all w.1))))
+    (λ _ is. subst AreZero (same_Some (piece (zeros w) a n) bytes is)
+    (zeros_take n (drop (a - w.0) (replicate w.1 0)) (zeros_drop (a - w.0) (replicate w.1 0) (zeros_all w.1))))
     (λ _ is. read_zero ws a n bytes is) e
 
 pub zeros_read : (ws : List (ℕ × ℕ)) (a n : ℕ) (bytes : List ℕ) → read_at (map zeros ws) a n ≡ Some bytes → bytes ≡ replicate n 0

@@ -1,5 +1,6 @@
 -- The lines of all passes of a history are as many, and tell as much, as its entries.
-use Rattle.std.proofs.Common.{◌≡◌, ℕ, zero, suc, ◌+◌, ◌<◌, ◌≤◌, Bool, true, false, ◌&&◌, cond, eqb, List, [], ◌∷◌, ◌++◌, length, refl, sym, ap, ◌∙◌, inl, inr, zero-add, arith}
+use Rattle.std.proofs.Common.{◌≡◌, ℕ, zero, suc, ◌+◌, ◌<◌, ◌≤◌, Bool, true, false, ◌&&◌, cond, eqb, List, [], ◌∷◌, ◌++◌, length, refl, sym, ap, ◌∙◌, inl, inr}
+use Rattle.std.proofs.Common.{zero-add, arith}
 use Rattle.std.specs.Prelude.{count_by}
 use Rattle.std.specs.List.{AllByRecursion}
 use Rattle.std.proofs.lemmas.Bool.{cond_both, cases_eq, eqb-true, eqb-false}
@@ -14,7 +15,8 @@ use Rattle.its_history.specs.Histories.{Seat, entry_line, pass_lines, passes_lin
 use Rattle.its_history.specs.Merged.{thread_lines, list_lines, all_lines}
 use Rattle.its_history.specs.declared.threads.ThreadList.{ThreadList}
 use Rattle.its_history.specs.declared.trace.EntryLine.{EntryLine}
-use Rattle.script_gen.specs.Summary.{is_signal, is_step, is_delivered, has_run, none, with_call, with_replies, with_lists, counts_of, ListsTellCounts, ListsTellLength}
+use Rattle.script_gen.specs.Summary.{is_signal, is_step, is_delivered, has_run, none, with_call, with_replies, with_lists, counts_of, ListsTellCounts}
+use Rattle.script_gen.specs.Summary.{ListsTellLength}
 use Rattle.script_gen.specs.declared.counts.Counts.{Counts}
 use Rattle.script_gen.proofs.Told.{IsTold, tells_signal, tells_delivered, tells_step, tells_ran, signals_told, deliveries_told, steps_told, runs_told, any_told}
 
@@ -165,7 +167,8 @@ pub tell_counts : ListsTellCounts
 tell_counts seat pass count place h lists all same =
     same_counts (with_lists lists none) (counts_of h)
     (counted (λ c r. is_signal c) tells_signal signals_told (λ n. n.signals) (λ c r n. refl) seat pass count place h lists refl all same)
-    (counted (λ c r. is_signal c && is_delivered r) tells_delivered deliveries_told (λ n. n.delivered) (λ c r n. refl) seat pass count place h lists refl all same)
+    (counted (λ c r. is_signal c && is_delivered r) tells_delivered deliveries_told (λ n. n.delivered) (λ c r n. refl) seat pass count place h lists refl all
+    same)
     (counted (λ c r. is_step c) tells_step steps_told (λ n. n.commands) (λ c r n. refl) seat pass count place h lists refl all same)
     (counted (λ c r. is_step c && has_run r) tells_ran runs_told (λ n. n.ran) (λ c r n. refl) seat pass count place h lists refl all same)
 

@@ -1,5 +1,6 @@
 -- A command of the script maps no device but the script's own, and touches neither registers nor memory.
-use Rattle.std.proofs.Common.{◌≡◌, ℕ, ◌^◌, Bool, true, false, ◌&&◌, is_some, nat_lt, nat_le, List, [], ◌∷◌, length, Option, Some, None, Result, Ok, Err, IfOk, refl, sym, ap, subst, ◌∙◌, not, eqb, arith}
+use Rattle.std.proofs.Common.{◌≡◌, ℕ, ◌^◌, Bool, true, false, ◌&&◌, is_some, nat_lt, nat_le, List, [], ◌∷◌, length, Option, Some, None, Result, Ok, Err, IfOk}
+use Rattle.std.proofs.Common.{refl, sym, ap, subst, ◌∙◌, not, eqb, arith}
 use Rattle.std.specs.Prelude.{ok_or, slice_index_or}
 use Rattle.std.specs.Ordering.{nat_cmp}
 use Rattle.std.specs.Cmp.{nat_cmp_total}
@@ -11,7 +12,8 @@ use Rattle.baser_place.specs.Places.{device_place}
 use Rattle.its_command.specs.declared.command.Command.{Command}
 use Rattle.its_command.specs.declared.command.Command.TheVariants as command
 use Rattle.its_types.specs.Lpis.{is_pending}
-use Rattle.its_types.specs.Maps.{Maps, device_of, event_of, collection_of, device_mapped, device_unmapped, event_mapped, event_unmapped, collection_mapped, collection_unmapped}
+use Rattle.its_types.specs.Maps.{Maps, device_of, event_of, collection_of, device_mapped, device_unmapped, event_mapped, event_unmapped, collection_mapped}
+use Rattle.its_types.specs.Maps.{collection_unmapped}
 use Rattle.its_types.specs.Ranges.{is_device_id, is_lpi}
 use Rattle.its_types.specs.declared.ids.Vcpu.{Vcpu}
 use Rattle.its_types.specs.declared.machine.Profile.{Profile}
@@ -19,9 +21,11 @@ use Rattle.its_types.specs.declared.machine.Profile.TheVariants.{One, Two}
 use Rattle.its_types.specs.declared.translation.Device.{Device}
 use Rattle.its_types.specs.declared.translation.Event.{Event}
 use Rattle.its_plain.specs.Plain.{Plain, Translator, no_translator, translator, regs_of, maps_of, pending_of, is_on, with_translator, with_maps}
-use Rattle.its_plain.specs.Commands.{ensure, ◌>>=◌, event_at, lpi_at, target_at, cleared_at, lpi_moved, lpi_set, lpi_cleared, all_moved, followed_in, intids_of, reread, with_collection, ran, mapd, unmapd, mapc, mapti, movi, discard, int, clear, inv, invall, movall}
+use Rattle.its_plain.specs.Commands.{ensure, ◌>>=◌, event_at, lpi_at, target_at, cleared_at, lpi_moved, lpi_set, lpi_cleared, all_moved, followed_in}
+use Rattle.its_plain.specs.Commands.{intids_of, reread, with_collection, ran, mapd, unmapd, mapc, mapti, movi, discard, int, clear, inv, invall, movall}
 use Rattle.its_plain.specs.declared.call.Reason.{Reason}
-use Rattle.its_plain.specs.declared.call.Reason.TheVariants.{DeviceRange, SizeRange, TargetRange, CollectionRange, NoDevice, EventRange, IntidRange, NoCollection, LpisOff}
+use Rattle.its_plain.specs.declared.call.Reason.TheVariants.{DeviceRange, SizeRange, TargetRange, CollectionRange, NoDevice, EventRange, IntidRange}
+use Rattle.its_plain.specs.declared.call.Reason.TheVariants.{NoCollection, LpisOff}
 use Rattle.plain_soundness.proofs.FiniteMaps.{inserted, retained}
 use Rattle.plain_soundness.proofs.FiniteMaps.Found.{new, kept}
 use Rattle.script_gen.proofs.Invariant.{IsOwn, IsAllowed, AreDevices}
@@ -128,7 +132,8 @@ device_removed n m dev h q x e = h q x (retained nat_cmp nat_cmp_total nat_cmp-I
 module _ (n : ℕ) (u : Plain) (one : length u.translators ≡ 1) (devices : AreDevices n (maps_of u 0)) where
   -- where a part of the maps other than the devices changes
   same_devices : (m : Maps) → m.devices ≡ (maps_of u 0).devices → IsRan n u (with_maps u 0 m)
-  same_devices m same = with_maps_ran n u m one (subst (λ (ds : FinMap nat_cmp Device). (dev : ℕ) (d : Device) → get ds dev ≡ Some d → IsOwn n dev d.bits d.itt.0) (sym same) devices)
+  same_devices m same = with_maps_ran n u m one (subst (λ (ds : FinMap nat_cmp Device). (dev : ℕ) (d : Device) → get ds dev ≡ Some d
+      → IsOwn n dev d.bits d.itt.0) (sym same) devices)
 
   mapd_ran : (dev bits itt : ℕ) → IsOwn n dev bits itt → IfOk (mapd u 0 dev bits itt) (IsRan n u)
   unfolding mapd
@@ -156,7 +161,8 @@ module _ (n : ℕ) (u : Plain) (one : length u.translators ≡ 1) (devices : Are
       passed (IsRan n u) (nat_lt icid (collection_places (regs_of u 0))) CollectionRange _ (λ _.
       let stays : followed_in u.layout.shape.profile u 0 icid (collection_of (maps_of u 0) icid) target ≡ u =
       followed_beside u.layout.shape.profile icid (collection_of (maps_of u 0) icid) target profile in
-      subst (λ (w : Plain). IsRan n u (with_collection w 0 icid target)) (sym stays) (same_devices (collection_mapped (maps_of u 0) icid (record { 0 = target })) refl)))
+      subst (λ (w : Plain). IsRan n u (with_collection w 0 icid target)) (sym stays)
+      (same_devices (collection_mapped (maps_of u 0) icid (record { 0 = target })) refl)))
 
   mapti_ran : (dev ev intid icid : ℕ) → IfOk (mapti u 0 dev ev intid icid) (IsRan n u)
   unfolding mapti
@@ -178,7 +184,8 @@ module _ (n : ℕ) (u : Plain) (one : length u.translators ≡ 1) (devices : Are
       found (IsRan n u) (collection_of (maps_of u 0) icid) NoCollection _ (λ to.
       passed (IsRan n u) (is_on u from.0 && is_on u to.0) LpisOff _ (λ _.
       let m : Maps = event_mapped (maps_of u 0) dev ev (record event { icid = record { 0 = icid } }) in
-      then_beside n u (with_maps u 0 m) (lpi_moved event.intid.0 from.0 to.0 (with_maps u 0 m)) (same_devices m refl) (moved_beside (with_maps u 0 m) event.intid.0 from.0 to.0)))))
+      then_beside n u (with_maps u 0 m) (lpi_moved event.intid.0 from.0 to.0 (with_maps u 0 m)) (same_devices m refl)
+      (moved_beside (with_maps u 0 m) event.intid.0 from.0 to.0)))))
 
   discard_ran : (dev ev : ℕ) → IfOk (discard u 0 dev ev) (IsRan n u)
   unfolding discard
@@ -186,7 +193,8 @@ module _ (n : ℕ) (u : Plain) (one : length u.translators ≡ 1) (devices : Are
       given (IsRan n u) (event_at (maps_of u 0) dev ev) _ (λ event.
       let m : Maps = event_unmapped (maps_of u 0) dev ev in
       let at : Option Vcpu = collection_of (maps_of u 0) event.icid.0 in
-      then_beside n u (with_maps u 0 m) (cleared_at event.intid.0 at (with_maps u 0 m)) (same_devices m refl) (cleared_at_beside (with_maps u 0 m) event.intid.0 at))
+      then_beside n u (with_maps u 0 m) (cleared_at event.intid.0 at (with_maps u 0 m)) (same_devices m refl)
+      (cleared_at_beside (with_maps u 0 m) event.intid.0 at))
 
   int_ran : (dev ev : ℕ) → IfOk (int u 0 dev ev) (IsRan n u)
   unfolding int
@@ -194,15 +202,18 @@ module _ (n : ℕ) (u : Plain) (one : length u.translators ≡ 1) (devices : Are
 
   clear_ran : (dev ev : ℕ) → IfOk (clear u 0 dev ev) (IsRan n u)
   unfolding clear
-  clear_ran dev ev = given (IsRan n u) (lpi_at u 0 dev ev) _ (λ lpi. beside_ran n u (lpi_cleared lpi.0.0 lpi.1.0 u) one devices (cleared_beside u lpi.0.0 lpi.1.0))
+  clear_ran dev ev = given (IsRan n u) (lpi_at u 0 dev ev) _ (λ lpi. beside_ran n u (lpi_cleared lpi.0.0 lpi.1.0 u) one devices
+      (cleared_beside u lpi.0.0 lpi.1.0))
 
   inv_ran : (dev ev : ℕ) → IfOk (inv u 0 dev ev) (IsRan n u)
   unfolding inv
-  inv_ran dev ev = given (IsRan n u) (event_at (maps_of u 0) dev ev) _ (λ event. beside_ran n u (reread (event.intid.0 ∷ []) u) one devices (reread_beside u (event.intid.0 ∷ [])))
+  inv_ran dev ev = given (IsRan n u) (event_at (maps_of u 0) dev ev) _ (λ event. beside_ran n u (reread (event.intid.0 ∷ []) u) one devices
+      (reread_beside u (event.intid.0 ∷ [])))
 
   invall_ran : (icid : ℕ) → IfOk (invall u 0 icid) (IsRan n u)
   unfolding invall
-  invall_ran icid = given (IsRan n u) (target_at (maps_of u 0) icid) _ (λ _. beside_ran n u (reread (intids_of (maps_of u 0) icid) u) one devices (reread_beside u (intids_of (maps_of u 0) icid)))
+  invall_ran icid = given (IsRan n u) (target_at (maps_of u 0) icid) _ (λ _. beside_ran n u (reread (intids_of (maps_of u 0) icid) u) one devices
+      (reread_beside u (intids_of (maps_of u 0) icid)))
 
   movall_ran : (from to : ℕ) → IfOk (movall u from to) (IsRan n u)
   unfolding movall

@@ -15,12 +15,22 @@ size calls = length calls
 signals_below : (signals a n : ℕ) → signals ≤ 20000 → sum_by size (map (signal_thread signals) (range_with_len a n)) ≤ 20000 * n
 signals_below signals a zero most = omega arith
 signals_below signals a (suc n) most =
-    omega (arith, sum_by-cons size (signal_thread signals a) (map (signal_thread signals) (range_with_len (a + 1) n)), signal_thread_length signals a, signals_below signals (a + 1) n most)
+    omega (
+      arith,
+      sum_by-cons size (signal_thread signals a) (map (signal_thread signals) (range_with_len (a + 1) n)),
+      signal_thread_length signals a,
+      signals_below signals (a + 1) n most,
+    )
 
 signal_phase_below : (signals n : ℕ) → signals ≤ 20000 → n ≤ 63 → sum_by size (signal_phase signals n) ≤ 1266000
 unfolding signal_phase
 signal_phase_below signals n most few =
-    omega (arith, sum_by-append size (map (signal_thread signals) (range_with_len 1 n)) (move_thread signals n ∷ []), signals_below signals 1 n most, move_thread_length signals n)
+    omega (
+      arith,
+      sum_by-append size (map (signal_thread signals) (range_with_len 1 n)) (move_thread signals n ∷ []),
+      signals_below signals 1 n most,
+      move_thread_length signals n,
+    )
 
 pub has_room : HasRoom
 unfolding setup_phase description

@@ -1,5 +1,6 @@
 -- A state that the script reaches can be saved: its tables lie in memory, and share no byte.
-use Rattle.std.proofs.Common.{◌≡◌, ℕ, ◌/◌, ◌<◌, ◌≤◌, false, not, is_some, List, [], ◌∷◌, ◌++◌, append-nil, length, map, cond, None, Ok, refl, sym, ap, ◌∙◌, arith, lit≤}
+use Rattle.std.proofs.Common.{◌≡◌, ℕ, ◌/◌, ◌<◌, ◌≤◌, false, not, is_some, List, [], ◌∷◌, ◌++◌, append-nil, length, map, cond, None, Ok, refl, sym, ap, ◌∙◌}
+use Rattle.std.proofs.Common.{arith, lit≤}
 use Rattle.std.specs.Prelude.{find, slice_get, slice_index_or}
 use Rattle.std.specs.List.{AllByRecursion, flat_map}
 use Rattle.std.specs.FinMap.{entries}
@@ -12,7 +13,8 @@ use Rattle.its_types.specs.declared.translation.Device.{Device}
 use Rattle.its_plain.specs.Machine.{layout_of, described_in}
 use Rattle.its_plain.specs.Plain.{Plain, Translator, Redistributor, no_translator, no_redistributor, translator, regs_of, maps_of}
 use Rattle.its_plain.specs.Sound.{IsSound}
-use Rattle.its_plain.specs.Regions.{device_areas, collection_areas, itt_areas, table_areas, tables_of, areas_of, areas_from, pending_area, config_area, config_areas, queue_area, queue_areas, is_outside, has_no_place, all_placed, none_overlap, savable}
+use Rattle.its_plain.specs.Regions.{device_areas, collection_areas, itt_areas, table_areas, tables_of, areas_of, areas_from, pending_area, config_area}
+use Rattle.its_plain.specs.Regions.{config_areas, queue_area, queue_areas, is_outside, has_no_place, all_placed, none_overlap, savable}
 use Rattle.its_plain.specs.Saved.{IsSavable}
 use Rattle.its_plain.specs.declared.area.Area.{Area}
 use Rattle.its_plain.specs.declared.fault.Region.TheVariants.{Config}
@@ -63,24 +65,29 @@ module _ (ds cs is ps fs qs : List Area) (h : AreGroups ds cs is ps fs qs) where
       h.itts_lie.lie h.itts_lie.apart
 
   with_pending : AreSpread (((ds ++ cs) ++ is) ++ ps)
-  with_pending = with_group 0x80040000 0x80080000 ((ds ++ cs) ++ is) ps (tables_out 0x80040000 0x80080000 (lit≤ tt) (lit≤ tt)) tables_spread h.pending_lie.lie h.pending_lie.apart
+  with_pending = with_group 0x80040000 0x80080000 ((ds ++ cs) ++ is) ps (tables_out 0x80040000 0x80080000 (lit≤ tt) (lit≤ tt)) tables_spread h.pending_lie.lie
+      h.pending_lie.apart
 
   pending_out : (low high : ℕ) → 0x80020000 ≤ low → high ≤ 0x80040000 → AreOutOf low high (((ds ++ cs) ++ is) ++ ps)
-  pending_out low high le ge = all_append _ ((ds ++ cs) ++ is) ps (tables_out low high le (omega arith)) (out_above 0x80040000 0x80080000 low high ps ge h.pending_lie.lie)
+  pending_out low high le ge = all_append _ ((ds ++ cs) ++ is) ps (tables_out low high le (omega arith))
+      (out_above 0x80040000 0x80080000 low high ps ge h.pending_lie.lie)
 
   with_config : AreSpread ((((ds ++ cs) ++ is) ++ ps) ++ fs)
-  with_config = with_group 0x80030000 0x8003E000 (((ds ++ cs) ++ is) ++ ps) fs (pending_out 0x80030000 0x8003E000 (lit≤ tt) (lit≤ tt)) with_pending h.config_lies.lie h.config_lies.apart
+  with_config = with_group 0x80030000 0x8003E000 (((ds ++ cs) ++ is) ++ ps) fs (pending_out 0x80030000 0x8003E000 (lit≤ tt) (lit≤ tt)) with_pending
+      h.config_lies.lie h.config_lies.apart
 
   pub all_spread : AreSpread (((((ds ++ cs) ++ is) ++ ps) ++ fs) ++ qs)
   all_spread =
       with_group 0x80020000 0x80021000 ((((ds ++ cs) ++ is) ++ ps) ++ fs) qs
-      (all_append _ (((ds ++ cs) ++ is) ++ ps) fs (pending_out 0x80020000 0x80021000 (lit≤ tt) (lit≤ tt)) (out_above 0x80030000 0x8003E000 0x80020000 0x80021000 fs (lit≤ tt) h.config_lies.lie))
+      (all_append _ (((ds ++ cs) ++ is) ++ ps) fs (pending_out 0x80020000 0x80021000 (lit≤ tt) (lit≤ tt))
+      (out_above 0x80030000 0x8003E000 0x80020000 0x80021000 fs (lit≤ tt) h.config_lies.lie))
       with_config h.queue_lies.lie h.queue_lies.apart
 
   pub all_inside : (memory : List Window) → map extent memory ≡ extents → AllByRecursion (λ a. is_outside memory a ≡ false) ((ds ++ cs) ++ is)
   all_inside memory one =
       all_append _ (ds ++ cs) is
-      (all_append _ ds cs (lies_inside memory 0x80000000 0x80010000 ds one (lit≤ tt) (lit≤ tt) h.devices_lie.lie) (lies_inside memory 0x80010000 0x80020000 cs one (lit≤ tt) (lit≤ tt) h.collections_lie.lie))
+      (all_append _ ds cs (lies_inside memory 0x80000000 0x80010000 ds one (lit≤ tt) (lit≤ tt) h.devices_lie.lie)
+      (lies_inside memory 0x80010000 0x80020000 cs one (lit≤ tt) (lit≤ tt) h.collections_lie.lie))
       (lies_inside memory 0x800C0000 0x800C8000 is one (lit≤ tt) (lit≤ tt) h.itts_lie.lie)
 
 -- ---- the parts of a state
@@ -92,7 +99,8 @@ only_one (t ∷ s ∷ ts) e = absurd (omega arith)
 
 places_all : (memory : List Window) (t : Translator) → is_indirect t.regs.baser0 ≡ false → all_placed memory (t ∷ []) ≡ Ok tt
 places_all memory t flat =
-    let none : find (has_no_place t.regs memory) (entries t.maps.devices) ≡ None = find_none (has_no_place t.regs memory) (entries t.maps.devices) (each (entries t.maps.devices)) in
+    let none : find (has_no_place t.regs memory) (entries t.maps.devices) ≡ None = find_none (has_no_place t.regs memory) (entries t.maps.devices)
+    (each (entries t.maps.devices)) in
     rw none refl
   where
     each : (es : List (ℕ × Device)) → AllByRecursion (λ d. has_no_place t.regs memory d ≡ false) es
@@ -117,7 +125,12 @@ config_at rs = record { region = Config; base = (slice_index_or rs 0 no_redistri
 config_is : (u : Plain) → u.layout ≡ fixed → config_areas u ≡ config_at u.redistributors
 config_is u layout =
     ap (λ (l : Layout). cond l.gicr (areas_from (config_area l.shape) 0 u.redistributors)
-    (record { region = Config; base = (slice_index_or u.redistributors 0 no_redistributor).bases.prop.table.0; size = lpi_count l.shape.lpi_bits; is_written = false } ∷ [])) layout
+    (record {
+      region = Config;
+      base = (slice_index_or u.redistributors 0 no_redistributor).bases.prop.table.0;
+      size = lpi_count l.shape.lpi_bits;
+      is_written = false;
+    } ∷ [])) layout
 
 -- the areas of one translator and the redistributors
 tables_with : List Window → Translator → List Area
@@ -125,7 +138,8 @@ tables_with memory t = (device_areas t.regs memory ++ collection_areas t.regs) +
 
 tables_are : (u : Plain) (t : Translator) → u.translators ≡ t ∷ [] → tables_of u ≡ tables_with u.memory t
 unfolding table_areas tables_with
-tables_are u t one = ap (λ ts. flat_map (table_areas u.memory) ts) one ∙ append-nil ((device_areas t.regs u.memory ++ collection_areas t.regs) ++ itt_areas t.maps)
+tables_are u t one = ap (λ ts. flat_map (table_areas u.memory) ts) one ∙ append-nil ((device_areas t.regs u.memory ++ collection_areas t.regs)
+    ++ itt_areas t.maps)
 
 areas_are : (u : Plain) (t : Translator) → u.translators ≡ t ∷ [] → u.layout ≡ fixed
     → areas_of u ≡ ((tables_with u.memory t ++ areas_from (pending_area shape) 0 u.redistributors) ++ config_at u.redistributors) ++ queue_area t.regs
@@ -139,7 +153,8 @@ areas_are u t one layout =
     ∙ ap (λ areas. ((tables_with u.memory t ++ areas_from (pending_area shape) 0 rs) ++ config_at rs) ++ areas) queues
 
 groups_are : (n : ℕ) (u : Plain) → n ≤ 63 → IsKept n u → u.layout ≡ fixed
-    → AreGroups (device_areas (regs_of u 0) u.memory) (collection_areas (regs_of u 0)) (itt_areas (maps_of u 0)) (areas_from (pending_area shape) 0 u.redistributors) (config_at u.redistributors) (queue_area (regs_of u 0))
+    → AreGroups (device_areas (regs_of u 0) u.memory) (collection_areas (regs_of u 0)) (itt_areas (maps_of u 0))
+    (areas_from (pending_area shape) 0 u.redistributors) (config_at u.redistributors) (queue_area (regs_of u 0))
 groups_are n u most h layout =
     let within : 0 < length u.translators = omega (arith, h.one) in
     let bits : (regs_of u 0).dev_bits ≡ 16 = (translator_sound u 0 h.sound within).dev_bits ∙ ap (λ (l : Layout). l.shape.dev_bits) layout in
@@ -160,7 +175,8 @@ savable_kept n u most h =
     let one : u.translators ≡ t ∷ [] = only_one u.translators h.one in
     let groups = groups_are n u most h layout in
     let inside_all : find (is_outside u.memory) (tables_of u) ≡ None =
-    ap (find (is_outside u.memory)) (tables_are u t one) ∙ find_none (is_outside u.memory) (tables_with u.memory t) (all_inside _ _ _ _ _ _ groups u.memory h.windows) in
+    ap (find (is_outside u.memory)) (tables_are u t one) ∙ find_none (is_outside u.memory) (tables_with u.memory t)
+    (all_inside _ _ _ _ _ _ groups u.memory h.windows) in
     let placed : all_placed u.memory u.translators ≡ Ok tt = ap (all_placed u.memory) one ∙ places_all u.memory t (flat t.regs.baser0 h.regs.baser0) in
     let apart : none_overlap (areas_of u) ≡ Ok tt = ap none_overlap (areas_are u t one layout) ∙ none_shared _ (all_spread _ _ _ _ _ _ groups) in
     rw (inside_all, placed) apart

@@ -20,8 +20,10 @@ one_false true true false h = refl
 one_false false true false h = refl
 
 no_clash : (a b : Area) → AreApart a b → clash a b ≡ false
-no_clash a b (inl before) = one_false (a.is_written || b.is_written) (nat_lt a.base (b.base + b.size)) (nat_lt b.base (a.base + a.size)) (inr (le-ltb b.base (a.base + a.size) before))
-no_clash a b (inr after) = one_false (a.is_written || b.is_written) (nat_lt a.base (b.base + b.size)) (nat_lt b.base (a.base + a.size)) (inl (le-ltb a.base (b.base + b.size) after))
+no_clash a b (inl before) = one_false (a.is_written || b.is_written) (nat_lt a.base (b.base + b.size)) (nat_lt b.base (a.base + a.size))
+    (inr (le-ltb b.base (a.base + a.size) before))
+no_clash a b (inr after) = one_false (a.is_written || b.is_written) (nat_lt a.base (b.base + b.size)) (nat_lt b.base (a.base + a.size))
+    (inl (le-ltb a.base (b.base + b.size) after))
 
 -- each two are apart
 abbrev pub AreSpread : List Area → Type 0

@@ -1,5 +1,6 @@
 -- The machine of the script's description: it is made, and its first state keeps the invariant.
-use Rattle.std.proofs.Common.{◌≡◌, ℕ, ◌+◌, ◌*◌, ◌≤◌, Bool, true, false, List, [], ◌∷◌, length, map, replicate, Option, Some, None, Result, Ok, Err, IfOk, inl, refl, sym, ap, subst, ◌∙◌, lit<, lit≤}
+use Rattle.std.proofs.Common.{◌≡◌, ℕ, ◌+◌, ◌*◌, ◌≤◌, Bool, true, false, List, [], ◌∷◌, length, map, replicate, Option, Some, None, Result, Ok, Err, IfOk, inl}
+use Rattle.std.proofs.Common.{refl, sym, ap, subst, ◌∙◌, lit<, lit≤}
 use Rattle.std.specs.Prelude.{ok_or, slice_index_or}
 use Rattle.std.specs.Ordering.{nat_cmp}
 use Rattle.std.specs.FinMap.{get-empty}
@@ -65,11 +66,18 @@ module _ (memory : List Window) (one : map extent memory ≡ extents) where
   tables_in : tables_inside shape memory tables ≡ Ok tt
   tables_in =
       inside_then (inside memory 0x80030000 (lpi_count 16)) Config _ config_inside
-      (rw (pending_in 0x80040000 (lit≤ tt) (lit≤ tt), pending_in 0x80050000 (lit≤ tt) (lit≤ tt), pending_in 0x80060000 (lit≤ tt) (lit≤ tt), pending_in 0x80070000 (lit≤ tt) (lit≤ tt)) refl)
+      (rw (
+        pending_in 0x80040000 (lit≤ tt) (lit≤ tt),
+        pending_in 0x80050000 (lit≤ tt) (lit≤ tt),
+        pending_in 0x80060000 (lit≤ tt)
+            (lit≤ tt),
+        pending_in 0x80070000 (lit≤ tt) (lit≤ tt),
+      ) refl)
 
   redistributors_made : Makes (first_redistributors shape memory tables)
   redistributors_made =
-      goes_on (ok_or (read_at memory 0x80030000 (lpi_count 16)) Config) _ _ (is_found (read_at memory 0x80030000 (lpi_count 16)) _ Config (read_inside memory 0x80030000 (lpi_count 16) [] config_inside)) (_, refl)
+      goes_on (ok_or (read_at memory 0x80030000 (lpi_count 16)) Config) _ _ (is_found (read_at memory 0x80030000 (lpi_count 16)) _ Config
+      (read_inside memory 0x80030000 (lpi_count 16) [] config_inside)) (_, refl)
 
 windows_are : (ws : List (ℕ × ℕ)) → ws ≡ extents → are_windows ws ≡ true
 windows_are ws e = subst (λ w. are_windows w ≡ true) (sym e) refl
@@ -145,7 +153,8 @@ made_starts : (d : Desc) → d.fills ≡ [] → IfOk (made d) (IsStart d)
 unfolding made
 made_starts d unfilled =
     let empty : List Window = map zeros (pairs d.windows) in
-    let unchanged : IfOk (filled empty 0 d.fills) (λ now. now ≡ empty) = subst (λ (fills : List Fill). IfOk (filled empty 0 fills) (λ now. now ≡ empty)) (sym unfilled) refl in
+    let unchanged : IfOk (filled empty 0 d.fills) (λ now. now ≡ empty) = subst (λ (fills : List Fill). IfOk (filled empty 0 fills) (λ now. now ≡ empty))
+    (sym unfilled) refl in
     passed (IsStart d) (are_windows (pairs d.windows)) Windows _
     (then_ok (λ _. Unit {0}) (IsStart d) (tables_inside d.shape empty d.tables) _ (any_ok (tables_inside d.shape empty d.tables)) (λ _ _.
     then_ok (λ now. now ≡ empty) (IsStart d) (filled empty 0 d.fills) _ unchanged (λ memory same.
@@ -184,5 +193,7 @@ first_is u base h = h
 
 pub first_kept : (n : ℕ) (u : Plain) → IsFirstState description u → IsKept n u
 first_kept n u h =
-    let start : IsStart description h.base = if_ok_at (IsStart description) (made description) h.base (made_starts description description_plain.unfilled) h.made_is in
-    subst (IsKept n) (sym (first_is u h.base h.starts)) (started_kept n description h.base refl description_plain.windows start (start_sound description h.base description_is h.made_is))
+    let start : IsStart description h.base = if_ok_at (IsStart description) (made description) h.base (made_starts description description_plain.unfilled)
+    h.made_is in
+    subst (IsKept n) (sym (first_is u h.base h.starts)) (started_kept n description h.base refl description_plain.windows start
+    (start_sound description h.base description_is h.made_is))

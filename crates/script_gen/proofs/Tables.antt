@@ -1,5 +1,6 @@
 -- Between which addresses the tables of the script lie.
-use Rattle.std.proofs.Common.{◌≡◌, ℕ, suc, ◌+◌, ◌-◌, ◌*◌, ◌^◌, ◌≤◌, min, true, false, not, cond, List, [], ◌∷◌, ◌++◌, length, map, Some, inl, inr, refl, sym, ap, subst, ◌∙◌, arith, lit≤}
+use Rattle.std.proofs.Common.{◌≡◌, ℕ, suc, ◌+◌, ◌-◌, ◌*◌, ◌^◌, ◌≤◌, min, true, false, not, cond, List, [], ◌∷◌, ◌++◌, length, map, Some, inl, inr, refl, sym}
+use Rattle.std.proofs.Common.{ap, subst, ◌∙◌, arith, lit≤}
 use Rattle.std.specs.Prelude.{slice_get, slice_index_or}
 use Rattle.std.specs.List.{AllByRecursion, flat_map}
 use Rattle.std.specs.Ordering.{nat_cmp}
@@ -44,7 +45,12 @@ pub device_group : (r : Registers) (memory : List Window) → r.dev_bits ≡ 16 
 unfolding device_areas
 device_group r memory bits either =
     let P : ℕ → ℕ → Type 0 = λ n base. IsGroup 0x80000000 0x80010000 (cond (not (is_valid base)) []
-    (cond (is_indirect base) (level1_areas r memory) (record { region = Devices; base = table_base base; size = 65536 * min (pages base) (level1_entries n); is_written = true } ∷ []))) in
+    (cond (is_indirect base) (level1_areas r memory) (record {
+      region = Devices;
+      base = table_base base;
+      size = 65536 * min (pages base) (level1_entries n);
+      is_written = true;
+    } ∷ []))) in
     subst (λ n. P n r.baser0) (sym bits) (elim either [
       | inl is ↦ subst (P 16) (sym is) (no_group 0x80000000 0x80010000)
       | inr is ↦ subst (P 16) (sym is) (one_group 0x80000000 0x80010000 _ (lit≤ tt) (lit≤ tt))
@@ -106,7 +112,8 @@ itts_lie n i (e ∷ es) most rises own =
     let above = here.above in
     let below = here.below in (
       record { above = omega arith; below = omega arith },
-      all_weaker (Lies (itts_from (e.0 + 1)) 0x800C8000) (Lies (itts_from i) 0x800C8000) (λ a lies. let start = lies.above in record { above = omega arith; below = lies.below }) (flat_map (λ d. itt_area d ∷ []) es)
+      all_weaker (Lies (itts_from (e.0 + 1)) 0x800C8000) (Lies (itts_from i) 0x800C8000)
+          (λ a lies. let start = lies.above in record { above = omega arith; below = lies.below }) (flat_map (λ d. itt_area d ∷ []) es)
           (itts_lie n (e.0 + 1) es most rises.1 own.1),
     )
 
@@ -115,7 +122,8 @@ itts_apart n i [] most rises own = tt
 itts_apart n i (e ∷ es) most rises own =
     let here = itt_lies n e own.0 in
     let below = here.below in (
-      all_weaker (Lies (itts_from (e.0 + 1)) 0x800C8000) (AreApart (itt_area e)) (λ a lies. let start = lies.above in inl (omega arith)) (flat_map (λ d. itt_area d ∷ []) es) (itts_lie n (e.0 + 1) es most rises.1 own.1),
+      all_weaker (Lies (itts_from (e.0 + 1)) 0x800C8000) (AreApart (itt_area e)) (λ a lies. let start = lies.above in inl (omega arith))
+          (flat_map (λ d. itt_area d ∷ []) es) (itts_lie n (e.0 + 1) es most rises.1 own.1),
       itts_apart n (e.0 + 1) es most rises.1 own.1,
     )
 
@@ -169,7 +177,12 @@ first_config [] e = absurd cc
 first_config (r ∷ rs) e = let here : r.bases ≡ described_bases (at 0x80030000) (at 0x80040000) = cc in ap (λ (b : Bases). b.prop.table.0) here
 
 pub config_group : (rs : List Redistributor) → map (λ r. r.bases) rs ≡ described_in tables
-    → IsGroup 0x80030000 0x8003E000 (record { region = Config; base = (slice_index_or rs 0 no_redistributor).bases.prop.table.0; size = lpi_count 16; is_written = false } ∷ [])
+    → IsGroup 0x80030000 0x8003E000 (record {
+      region = Config;
+      base = (slice_index_or rs 0 no_redistributor).bases.prop.table.0;
+      size = lpi_count 16;
+      is_written = false;
+    } ∷ [])
 config_group rs bases =
     let P : ℕ → Type 0 = λ base. IsGroup 0x80030000 0x8003E000 (record { region = Config; base = base; size = lpi_count 16; is_written = false } ∷ []) in
     subst P (sym (first_config rs bases)) (one_group 0x80030000 0x8003E000 _ (lit≤ tt) (lit≤ tt))

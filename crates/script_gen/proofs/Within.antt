@@ -1,5 +1,6 @@
 -- The script has no more of anything than a script may have.
-use Rattle.std.proofs.Common.{◌≡◌, ℕ, ◌+◌, ◌/◌, ◌<◌, ◌≤◌, ◌^◌, Bool, true, false, ◌&&◌, List, [], ◌∷◌, ◌++◌, length, map, refl, sym, subst, ap, ◌∙◌, arith, lit<, lit≤}
+use Rattle.std.proofs.Common.{◌≡◌, ℕ, ◌+◌, ◌/◌, ◌<◌, ◌≤◌, ◌^◌, Bool, true, false, ◌&&◌, List, [], ◌∷◌, ◌++◌, length, map, refl, sym, subst, ap, ◌∙◌, arith}
+use Rattle.std.proofs.Common.{lit<, lit≤}
 use Rattle.std.specs.Prelude.{nat_lt, nat_le}
 use Rattle.std.specs.List.{AllByRecursion, range_with_len, list_all}
 use Rattle.std.proofs.lemmas.Bool.{and_from, lt-ltb, le-leb}
@@ -14,7 +15,8 @@ use Rattle.its_plain.specs.declared.call.Call.{Call}
 use Rattle.event_script.specs.Limits.{is_call, is_thread, is_phase, is_leg}
 use Rattle.script_gen.specs.Description.{description}
 use Rattle.script_gen.specs.Commands.{setup_commands, move_commands}
-use Rattle.script_gen.specs.Generated.{queued, offset_of, signal_call, setup_count, setup_phase, signal_phase, setup_thread, signal_thread, move_thread, first_leg}
+use Rattle.script_gen.specs.Generated.{queued, offset_of, signal_call, setup_count, setup_phase, signal_phase, setup_thread, signal_thread, move_thread}
+use Rattle.script_gen.specs.Generated.{first_leg}
 use Rattle.script_gen.specs.Laws.{StaysWithinLimits}
 use Rattle.script_gen.proofs.Given.{length-encoded}
 use Rattle.script_gen.proofs.Lengths.{setup_thread_length, signal_thread_length, move_thread_length}
@@ -38,7 +40,8 @@ queued_are k (c ∷ cs) = (poke_is (length (encoded c)) (length-encoded c), (off
 -- ---- threads
 
 a_thread : (calls : List Call) → length calls ≤ 65536 → AllByRecursion IsCall calls → is_thread 4 calls ≡ true
-a_thread calls few are = and_from (nat_le (length calls) 65536) (list_all (is_call 4) calls) (le-leb (length calls) 65536 few) (list_all_true (is_call 4) calls are)
+a_thread calls few are = and_from (nat_le (length calls) 65536) (list_all (is_call 4) calls) (le-leb (length calls) 65536 few)
+    (list_all_true (is_call 4) calls are)
 
 setup_is : (n : ℕ) → n ≤ 63 → is_thread 4 (setup_thread n) ≡ true
 unfolding setup_thread
@@ -52,7 +55,8 @@ signals_are signals dev most =
 
 moves_are : (signals n : ℕ) → signals ≤ 20000 → is_thread 4 (move_thread signals n) ≡ true
 unfolding move_thread
-moves_are signals n most = a_thread (move_thread signals n) (omega (arith, move_thread_length signals n)) (queued_are (setup_count n) (move_commands n (signals / 10)))
+moves_are signals n most = a_thread (move_thread signals n) (omega (arith, move_thread_length signals n))
+    (queued_are (setup_count n) (move_commands n (signals / 10)))
 
 -- ---- phases and legs
 
@@ -67,16 +71,19 @@ IsThread calls = is_thread 4 calls ≡ true
 
 a_phase : (threads : Phase) → 0 < length threads → length threads ≤ 64 → AllByRecursion IsThread threads → is_phase 4 threads ≡ true
 a_phase threads some few are =
-    both_and (nat_lt 0 (length threads)) (nat_le (length threads) 64) (list_all (is_thread 4) threads) (lt-ltb 0 (length threads) some) (le-leb (length threads) 64 few) (list_all_true (is_thread 4) threads are)
+    both_and (nat_lt 0 (length threads)) (nat_le (length threads) 64) (list_all (is_thread 4) threads) (lt-ltb 0 (length threads) some)
+    (le-leb (length threads) 64 few) (list_all_true (is_thread 4) threads are)
 
 signal_phase_is : (signals n : ℕ) → signals ≤ 20000 → n ≤ 63 → is_phase 4 (signal_phase signals n) ≡ true
 unfolding signal_phase
 signal_phase_is signals n most few =
     let signallers : Phase = map (signal_thread signals) (range_with_len 1 n) in
-    let count : length (signallers ++ move_thread signals n ∷ []) ≡ n + 1 = length-append signallers (move_thread signals n ∷ []) ∙ ap (λ k. k + 1) (length-map-range_with_len (signal_thread signals) 1 n) in
+    let count : length (signallers ++ move_thread signals n ∷ []) ≡ n + 1 = length-append signallers (move_thread signals n ∷ [])
+    ∙ ap (λ k. k + 1) (length-map-range_with_len (signal_thread signals) 1 n) in
     a_phase (signallers ++ move_thread signals n ∷ []) (omega arith) (omega arith)
     (all_append IsThread signallers (move_thread signals n ∷ [])
-    (all_map IsThread (signal_thread signals) (range_with_len 1 n) (all_range (λ dev. IsThread (signal_thread signals dev)) 1 n (λ dev _ _. signals_are signals dev most)))
+    (all_map IsThread (signal_thread signals) (range_with_len 1 n) (all_range (λ dev. IsThread (signal_thread signals dev)) 1 n
+    (λ dev _ _. signals_are signals dev most)))
     (moves_are signals n most, tt))
 
 setup_phase_is : (n : ℕ) → n ≤ 63 → is_phase 4 (setup_phase n) ≡ true
@@ -85,7 +92,8 @@ setup_phase_is n most = a_phase (setup_phase n) (lit< tt) (lit≤ tt) (setup_is 
 
 legs_are : (signals n : ℕ) → signals ≤ 20000 → n ≤ 63 → list_all (is_leg 4) (first_leg signals n ∷ [] ∷ []) ≡ true
 legs_are signals n most few =
-    list_all_true (is_leg 4) (first_leg signals n ∷ [] ∷ []) (list_all_true (is_phase 4) (first_leg signals n) (setup_phase_is n few, (signal_phase_is signals n most few, tt)), (refl, tt))
+    list_all_true (is_leg 4) (first_leg signals n ∷ [] ∷ [])
+    (list_all_true (is_phase 4) (first_leg signals n) (setup_phase_is n few, (signal_phase_is signals n most few, tt)), (refl, tt))
 
 shape_is : IsShape description.shape
 unfolding description

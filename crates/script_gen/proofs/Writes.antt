@@ -6,7 +6,8 @@ use Rattle.std.proofs.lemmas.Bool.{cond_both}
 use Rattle.std.proofs.lemmas.Option.{none-some}
 use Rattle.its_types.specs.Bits.{bit_of}
 use Rattle.its_types.specs.Maps.{Maps, devices_emptied}
-use Rattle.gits_regs.specs.Registers.{Registers, Written, write_reg, write_64, write_word, write_ctlr, write_cbaser, write_cwriter, write_baser0, write_baser1, unchanged, kept_cbaser, kept_offset, has_bases, is_same_queue, queue_size}
+use Rattle.gits_regs.specs.Registers.{Registers, Written, write_reg, write_64, write_word, write_ctlr, write_cbaser, write_cwriter, write_baser0, write_baser1}
+use Rattle.gits_regs.specs.Registers.{unchanged, kept_cbaser, kept_offset, has_bases, is_same_queue, queue_size}
 use Rattle.its_plain.specs.Answer.{emptied}
 use Rattle.script_gen.proofs.Invariant.{AreRegisters, AreDevices, IsWrite}
 use Rattle.script_gen.proofs.Invariant.IsWrite.{ctlr, cbaser, cwriter, baser0, baser1}

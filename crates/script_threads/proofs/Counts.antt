@@ -46,13 +46,15 @@ of_others m zero n e h lt = refl
 of_others m (suc count) n e h lt = let ne : e.pass ≢ m = λ s. absurd (omega arith) in
     λ d. replies_else m n e h ne d ∷ of_others (suc m) count n e h (omega arith) d
 
-one_more : (m count n : ℕ) (e : Entry) (h : List Entry) → m ≤ e.pass → e.pass < m + count → long (replies_of m count n (e ∷ h)) ≡ suc (long (replies_of m count (suc n) h))
+one_more : (m count n : ℕ) (e : Entry) (h : List Entry) → m ≤ e.pass → e.pass < m + count → long (replies_of m count n (e ∷ h)) ≡ suc
+    (long (replies_of m count (suc n) h))
 one_more m zero n e h le lt = absurd (omega arith)
 one_more m (suc count) n e h le lt =
     let first = replies_by m (suc n) h in
     let rest = replies_of (suc m) count (suc n) h in
     dite (ℕ_discrete e.pass m)
-    (λ is. (λ d. long (replies_here m n e h is d ∷ of_others (suc m) count n e h (omega arith) d)) ∙ omega (arith, long_cons (placed_reply n e ∷ first) rest, long_cons first rest))
+    (λ is. (λ d. long (replies_here m n e h is d ∷ of_others (suc m) count n e h (omega arith) d))
+    ∙ omega (arith, long_cons (placed_reply n e ∷ first) rest, long_cons first rest))
     (λ ne. ap (λ z. long (z ∷ replies_of (suc m) count n (e ∷ h))) (replies_else m n e h ne)
     ∙ omega (arith, long_cons first (replies_of (suc m) count n (e ∷ h)), long_cons first rest, one_more (suc m) count n e h (omega (arith, ne)) (omega arith)))
 
@@ -68,13 +70,21 @@ long_most m n h [] (done ∷ lists) e = absurd e
 long_most m n h (calls ∷ threads) [] e = absurd e
 long_most m n h (calls ∷ threads) (done ∷ lists) e = omega (arith, long_cons done lists, calls_cons calls threads, e.1, long_most (suc m) n h threads lists e.2)
 
-pub long_cut : (m n : ℕ) (h : List Entry) (threads : Phase) (lists : List Replies) → HaveEntries m n h threads lists → SomeThread IsCut threads lists → long lists < calls_of threads
+pub long_cut : (m n : ℕ) (h : List Entry) (threads : Phase) (lists : List Replies) → HaveEntries m n h threads lists → SomeThread IsCut threads lists
+    → long lists < calls_of threads
 long_cut m n h [] [] e t = absurd t
 long_cut m n h [] (done ∷ lists) e t = absurd t
 long_cut m n h (calls ∷ threads) [] e t = absurd t
 long_cut m n h (calls ∷ threads) (done ∷ lists) e t = ⊎_elim
     (λ (here : IsCut calls done). omega (arith, here, long_cons done lists, calls_cons calls threads, long_most (suc m) n h threads lists e.2))
-    (λ (later : SomeThread IsCut threads lists). omega (arith, long_cons done lists, calls_cons calls threads, e.1, long_cut (suc m) n h threads lists e.2 later)) t
+    (λ (later : SomeThread IsCut threads lists). omega (
+      arith,
+      long_cons done lists,
+      calls_cons calls threads,
+      e.1,
+      long_cut (suc m) n h threads lists e.2
+          later,
+    )) t
 
 pub long_whole : (threads : Phase) (lists : List Replies) → AreWhole threads lists → long lists ≡ calls_of threads
 long_whole [] [] w = refl
@@ -96,7 +106,8 @@ count_cons threads phases = sum_by-cons (λ (t : Phase). sum_by (λ (calls : Thr
 pub calls_more : (k : ℕ) (phases : Leg) (d : Phase) → k < length phases → calls_in (k + 1) phases ≡ calls_in k phases + calls_of (get_or phases k d)
 calls_more k [] d lt = absurd (omega arith)
 calls_more zero (threads ∷ phases) d lt = omega arith
-calls_more (suc k) (threads ∷ phases) d lt = let z : suc k + 1 ≡ suc (k + 1) = omega arith in ap (λ n. calls_in n (threads ∷ phases)) z ∙ omega (arith, calls_more k phases d (omega arith))
+calls_more (suc k) (threads ∷ phases) d lt = let z : suc k + 1 ≡ suc (k + 1) = omega arith in ap (λ n. calls_in n (threads ∷ phases)) z
+    ∙ omega (arith, calls_more k phases d (omega arith))
 
 pub calls_most : (k : ℕ) (phases : Leg) → calls_in k phases ≤ call_count phases
 calls_most zero phases = omega arith

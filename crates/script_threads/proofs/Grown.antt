@@ -1,5 +1,6 @@
 -- What the root has seen of a phase.
-use Rattle.std.proofs.Common.{◌≡◌, ◌≢◌, ℕ, zero, suc, ◌+◌, ◌<◌, ◌≤◌, eqb, cond, Bool, true, false, List, [], ◌∷◌, ◌++◌, map, length, refl, ap, sym, ◌∙◌, subst, inl, inr, ⊎_elim, arith, append_assoc, append-nil, eq-eqb, ne_eqb}
+use Rattle.std.proofs.Common.{◌≡◌, ◌≢◌, ℕ, zero, suc, ◌+◌, ◌<◌, ◌≤◌, eqb, cond, Bool, true, false, List, [], ◌∷◌, ◌++◌, map, length, refl, ap, sym, ◌∙◌, subst}
+use Rattle.std.proofs.Common.{inl, inr, ⊎_elim, arith, append_assoc, append-nil, eq-eqb, ne_eqb}
 use Rattle.std.specs.List.{AllByRecursion}
 use Rattle.std.proofs.lemmas.List.{append_cancel_left}
 use Rattle.std.proofs.lemmas.Bool.{cases_lt}
@@ -47,7 +48,8 @@ ended_new n m (x ∷ xs) ended c le lt = dite (ℕ_discrete n m)
     (λ same. ended_later n xs (x ∷ ended) (inl (c.0 ∙ sym same)))
     (λ ne. ended_new n (suc m) xs (x ∷ ended) c.1 (omega arith) (omega arith))
 
-same_whole : (h k : List Entry) (a b n : ℕ) (xs : Ended) → AllByRecursion (IsWhole h a) xs → AllByRecursion (IsWhole k b) xs → IsEnded n xs → placed n 0 h ≡ placed n 0 k
+same_whole : (h k : List Entry) (a b n : ℕ) (xs : Ended) → AllByRecursion (IsWhole h a) xs → AllByRecursion (IsWhole k b) xs → IsEnded n xs
+    → placed n 0 h ≡ placed n 0 k
 same_whole h k a b n [] ps qs t = absurd t
 same_whole h k a b n (x ∷ xs) ps qs t = ⊎_elim
     (λ (s : x.0 ≡ n). subst (λ (j : ℕ). placed j 0 h ≡ placed j 0 k) s (sym ps.0.1 ∙ qs.0.1))
@@ -81,12 +83,16 @@ all_last P [] ys ps = ps
 all_last P (x ∷ xs) ys ps = all_last P xs ys ps.1
 
 -- the lists of new passes are what the new entries give
-lists_new : (m made : ℕ) (h rest : List Entry) (xs : Ended) → AllByRecursion (λ e. e.pass < m) h → Counted m xs → AllByRecursion (IsWhole (h ++ rest) made) xs → map (λ (x : ℕ × Placed). x.1) xs ≡ listed m (length xs) (length h) rest
+lists_new : (m made : ℕ) (h rest : List Entry) (xs : Ended) → AllByRecursion (λ e. e.pass < m) h → Counted m xs → AllByRecursion (IsWhole (h ++ rest) made) xs
+    → map (λ (x : ℕ × Placed). x.1) xs ≡ listed m (length xs) (length h) rest
 lists_new m made h rest [] low c ws = refl
 lists_new m made h rest (x ∷ xs) low c ws =
     let zero_plus : 0 + length h ≡ length h = omega arith in
-    let one : x.1 ≡ placed m (length h) rest = ws.0.1 ∙ (ap (λ j. placed j 0 (h ++ rest)) c.0 ∙ (placed_append m 0 h rest ∙ ((λ d. placed_none m 0 h low d ++ placed m (0 + length h) rest) ∙ ap (λ j. placed m j rest) zero_plus))) in
-    λ d. one d ∷ lists_new (suc m) made h rest xs (all_weaker (λ (e : Entry). e.pass < m) (λ (e : Entry). e.pass < suc m) h (λ e t. omega (arith, t)) low) c.1 ws.1 d
+    let one : x.1 ≡ placed m (length h) rest = ws.0.1
+    ∙ (ap (λ j. placed j 0 (h ++ rest)) c.0
+    ∙ (placed_append m 0 h rest ∙ ((λ d. placed_none m 0 h low d ++ placed m (0 + length h) rest) ∙ ap (λ j. placed m j rest) zero_plus))) in
+    λ d. one d ∷ lists_new (suc m) made h rest xs (all_weaker (λ (e : Entry). e.pass < m) (λ (e : Entry). e.pass < suc m) h (λ e t. omega (arith, t)) low) c.1
+    ws.1 d
 
 pub record Grown (v : View) (xs : Ended) (w : View) : Type 0 where
   pub rests : Rests w
@@ -97,7 +103,8 @@ pub record Grown (v : View) (xs : Ended) (w : View) : Type 0 where
   pub lists : map (λ (x : ℕ × Placed). x.1) xs ≡ listed v.root.made (length xs) (length v.seen) more
 
 -- u is the root once the passes were split off, w once all were joined
-pub grown : (v u w : View) (xs : Ended) → Rests v → Knows v → u.number ≡ 0 → u.held ≡ [] → u.root.made ≡ v.root.made + length xs → u.mine ≡ v.mine → u.root.ended ≡ v.root.ended → IsPrefix v.seen u.seen → Knows u
+pub grown : (v u w : View) (xs : Ended) → Rests v → Knows v → u.number ≡ 0 → u.held ≡ [] → u.root.made ≡ v.root.made + length xs → u.mine ≡ v.mine
+    → u.root.ended ≡ v.root.ended → IsPrefix v.seen u.seen → Knows u
     → TookIn u xs w → Counted v.root.made xs → Grown v xs w
 grown v u w xs rests knew root held made mine ended longer knows took count =
     let know : Knows w = took.knows knows root in
@@ -105,15 +112,19 @@ grown v u w xs rests knew root held made mine ended longer knows took count =
     let seen : w.seen ≡ v.seen ++ more = sym took.longer.1 ∙ (ap (λ s. s ++ took.longer.0) (sym longer.1) ∙ append_assoc v.seen longer.0 took.longer.0) in
     let made' : w.root.made ≡ v.root.made + length xs = took.made ∙ made in
     let ended' : w.root.ended ≡ joined xs v.root.ended = took.ended ∙ ap (joined xs) ended in
-    let whole : AllByRecursion (IsWhole (v.seen ++ more) w.root.made) (joined xs v.root.ended) = subst (λ (z : List Entry × Ended). AllByRecursion (IsWhole z.0 w.root.made) z.1) (λ d. (seen d, ended' d)) know.whole in
+    let whole : AllByRecursion (IsWhole (v.seen ++ more) w.root.made) (joined xs v.root.ended) =
+    subst (λ (z : List Entry × Ended). AllByRecursion (IsWhole z.0 w.root.made) z.1) (λ d. (seen d, ended' d)) know.whole in
     let parts = all_joined (IsWhole (v.seen ++ more) w.root.made) xs v.root.ended whole in
     let zero_plus : 0 + length v.seen ≡ length v.seen = omega arith in
     let none : (p : ℕ) → p < v.root.made → placed p (length v.seen) more ≡ [] = λ p lt.
     let same : placed p 0 v.seen ≡ placed p 0 (v.seen ++ more) = dite (ℕ_discrete p 0)
-    (λ z. subst (λ (j : ℕ). placed j 0 v.seen ≡ placed j 0 (v.seen ++ more)) (sym z) (sym knew.mine ∙ (sym mine ∙ (sym took.mine ∙ (know.mine ∙ ap (placed 0 0) seen)))))
+    (λ z. subst (λ (j : ℕ). placed j 0 v.seen ≡ placed j 0 (v.seen ++ more)) (sym z)
+    (sym knew.mine ∙ (sym mine ∙ (sym took.mine ∙ (know.mine ∙ ap (placed 0 0) seen)))))
     (λ nz. same_whole v.seen (v.seen ++ more) v.root.made w.root.made p v.root.ended knew.whole parts.1 (rests.lone.1 p (omega arith) lt)) in
-    append_cancel_left (placed p 0 v.seen) (placed p (length v.seen) more) [] (ap (λ j. placed p 0 v.seen ++ placed p j more) (sym zero_plus) ∙ (sym (placed_append p 0 v.seen more) ∙ (sym same ∙ sym (append-nil (placed p 0 v.seen))))) in
-    let below : AllByRecursion (λ (e : Entry). e.pass < v.root.made + length xs) more = all_last (λ (e : Entry). e.pass < v.root.made + length xs) v.seen more (subst (λ (z : ℕ × List Entry). AllByRecursion (λ (e : Entry). e.pass < z.0) z.1) (λ d. (made' d, seen d)) know.given) in
+    append_cancel_left (placed p 0 v.seen) (placed p (length v.seen) more) [] (ap (λ j. placed p 0 v.seen ++ placed p j more) (sym zero_plus)
+    ∙ (sym (placed_append p 0 v.seen more) ∙ (sym same ∙ sym (append-nil (placed p 0 v.seen))))) in
+    let below : AllByRecursion (λ (e : Entry). e.pass < v.root.made + length xs) more = all_last (λ (e : Entry). e.pass < v.root.made + length xs) v.seen more
+    (subst (λ (z : ℕ × List Entry). AllByRecursion (λ (e : Entry). e.pass < z.0) z.1) (λ d. (made' d, seen d)) know.given) in
     record {
       rests = record {
         lone = (
@@ -128,6 +139,7 @@ grown v u w xs rests knew root held made mine ended longer knows took count =
       knows = know;
       more = more;
       seen = seen;
-      only = all_and (λ (e : Entry). v.root.made ≤ e.pass) (λ (e : Entry). e.pass < v.root.made + length xs) more (all_new v.root.made (length v.seen) more none) below;
+      only = all_and (λ (e : Entry). v.root.made ≤ e.pass) (λ (e : Entry). e.pass < v.root.made + length xs) more
+          (all_new v.root.made (length v.seen) more none) below;
       lists = lists_new v.root.made w.root.made v.seen more xs knew.given count parts.0;
     }

@@ -1,5 +1,6 @@
 -- A leg, phase by phase.
-use Rattle.std.proofs.Common.{◌≡◌, ℕ, suc, ◌+◌, ◌<◌, ◌≤◌, List, [], ◌∷◌, ◌++◌, map, length, get_or, drop, Option, None, refl, ap, sym, ◌∙◌, subst, inl, inr, arith, append_assoc, append-nil, length-append, drop-cons, true≢false}
+use Rattle.std.proofs.Common.{◌≡◌, ℕ, suc, ◌+◌, ◌<◌, ◌≤◌, List, [], ◌∷◌, ◌++◌, map, length, get_or, drop, Option, None, refl, ap, sym, ◌∙◌, subst, inl, inr}
+use Rattle.std.proofs.Common.{arith, append_assoc, append-nil, length-append, drop-cons, true≢false}
 use Rattle.std.specs.List.{AllByRecursion}
 use Rattle.std.proofs.lemmas.List.{drop_all}
 use Rattle.its_types.specs.declared.machine.Placed.{Placed}
@@ -37,7 +38,8 @@ pub record Going (s : Setup) (phases : Leg) (k : ℕ) (lists : List ThreadList) 
   pub only : AllByRecursion (IsOfPasses 1 (threads_in k phases)) w.seen
   pub lines : all_lines lists ≡ passes_lines (seat_of (map length phases)) 1 (threads_in k phases) 0 w.seen
 
-pub going_none : (s : Setup) (phases : Leg) (lists : List ThreadList) (w : View) → Rests w → w.setup ≡ s → w.root.made ≡ 1 → w.seen ≡ [] → lists ≡ [] → Going s phases 0 lists w
+pub going_none : (s : Setup) (phases : Leg) (lists : List ThreadList) (w : View) → Rests w → w.setup ≡ s → w.root.made ≡ 1 → w.seen ≡ [] → lists ≡ []
+    → Going s phases 0 lists w
 going_none s phases lists w rests same made seen none = record {
   rests = rests;
   setup = same;
@@ -51,8 +53,10 @@ going_none s phases lists w rests same made seen none = record {
   lines = ap all_lines none;
 }
 
-module _ (s : Setup) (phases : Leg) (k : ℕ) (threads : Phase) (below : k < length phases) (at : threads ≡ get_or phases k threads) (v w : View) (lists more : List ThreadList) (was : Going s phases k lists v)
-    (replies : List (List (Placed Reply))) (stop : Option Stop) (p : Phased v threads replies stop w) (added : all_lines more ≡ all_lines lists ++ phase_lines (k + 1) 1 threads replies) where
+module _ (s : Setup) (phases : Leg) (k : ℕ) (threads : Phase) (below : k < length phases) (at : threads ≡ get_or phases k threads) (v w : View)
+    (lists more : List ThreadList) (was : Going s phases k lists v)
+    (replies : List (List (Placed Reply))) (stop : Option Stop) (p : Phased v threads replies stop w) (added : all_lines more ≡ all_lines lists
+    ++ phase_lines (k + 1) 1 threads replies) where
   left : drop k phases ≡ threads ∷ drop (k + 1) phases
   left = let next : suc k ≡ k + 1 = omega arith in drop-cons phases k threads below ∙ (λ d. sym at d ∷ drop (next d) phases)
 
@@ -74,7 +78,8 @@ module _ (s : Setup) (phases : Leg) (k : ℕ) (threads : Phase) (below : k < len
   only_is : AllByRecursion (IsOfPasses 1 (threads_in (k + 1) phases)) w.seen
   only_is = subst (AllByRecursion (IsOfPasses 1 (threads_in (k + 1) phases))) (sym p.seen) (all_append (IsOfPasses 1 (threads_in (k + 1) phases)) v.seen p.more
       (all_weaker (IsOfPasses 1 count) (IsOfPasses 1 (threads_in (k + 1) phases)) v.seen (λ e o. (o.0, omega (arith, o.1, counts))) was.only)
-      (all_weaker (IsOfPasses (1 + count) (length threads)) (IsOfPasses 1 (threads_in (k + 1) phases)) p.more (λ e o. (omega (arith, o.0), omega (arith, o.1, counts))) new))
+      (all_weaker (IsOfPasses (1 + count) (length threads)) (IsOfPasses 1 (threads_in (k + 1) phases)) p.more
+      (λ e o. (omega (arith, o.0), omega (arith, o.1, counts))) new))
 
   seats : (i : ℕ) → i < length threads → seat_of (map length phases) (1 + count + i) ≡ (k + 1, 1 + i)
   seats i lt = let z : 1 + k ≡ k + 1 = omega arith in
@@ -83,7 +88,8 @@ module _ (s : Setup) (phases : Leg) (k : ℕ) (threads : Phase) (below : k < len
   phase_is : phase_lines (k + 1) 1 threads replies ≡ passes_lines (seat_of (map length phases)) (1 + count) (length threads) (length v.seen) p.more
   phase_is = ap (phase_lines (k + 1) 1 threads) p.lists_are
       ∙ (ap (λ m. phase_lines (k + 1) 1 threads (replies_of m (length threads) (length v.seen) p.more)) was.made
-      ∙ phase_passes (seat_of (map length phases)) (k + 1) 1 (1 + count) (length v.seen) threads p.more (subst (λ (m : ℕ). HasFirstCalls m threads p.more) was.made p.part.calls) seats)
+      ∙ phase_passes (seat_of (map length phases)) (k + 1) 1 (1 + count) (length v.seen) threads p.more
+      (subst (λ (m : ℕ). HasFirstCalls m threads p.more) was.made p.part.calls) seats)
 
   lines_are : all_lines more ≡ passes_lines (seat_of (map length phases)) 1 (threads_in (k + 1) phases) 0 w.seen
   lines_are =
@@ -111,9 +117,11 @@ module _ (s : Setup) (phases : Leg) (k : ℕ) (threads : Phase) (below : k < len
     setup = p.setup ∙ was.setup;
     legal = legal_is;
     run = λ rest r. subst (ArePhases 1 phases) (together rest)
-        (was.run (p.more ++ rest) (subst (λ (z : Leg). ArePhases v.root.made z (p.more ++ rest)) (sym left) (p.more, rest, refl, p.whole none, subst (λ (m : ℕ). ArePhases m (drop (k + 1) phases) rest) p.made r)));
+        (was.run (p.more ++ rest) (subst (λ (z : Leg). ArePhases v.root.made z (p.more ++ rest)) (sym left)
+        (p.more, rest, refl, p.whole none, subst (λ (m : ℕ). ArePhases m (drop (k + 1) phases) rest) p.made r)));
     part = λ rest r. subst (ArePartOfPhases 1 phases) (together rest)
-        (was.part (p.more ++ rest) (subst (λ (z : Leg). ArePartOfPhases v.root.made z (p.more ++ rest)) (sym left) (inr (p.more, rest, refl, p.whole none, subst (λ (m : ℕ). ArePartOfPhases m (drop (k + 1) phases) rest) p.made r))));
+        (was.part (p.more ++ rest) (subst (λ (z : Leg). ArePartOfPhases v.root.made z (p.more ++ rest)) (sym left)
+        (inr (p.more, rest, refl, p.whole none, subst (λ (m : ℕ). ArePartOfPhases m (drop (k + 1) phases) rest) p.made r))));
     fits = fits_is;
     all = omega (arith, long_is, calls_is, p.all none);
     made = made_is;
@@ -139,7 +147,8 @@ module _ (s : Setup) (phases : Leg) (k : ℕ) (threads : Phase) (below : k < len
     spent = λ e. (p.spent e).1 ∙ ap (λ (z : Setup). z.limits.place_last) was.setup;
   }
 
-pub went_through : (s : Setup) (phases : Leg) (k : ℕ) (lists : List ThreadList) (w : View) → Going s phases k lists w → length phases ≤ k → RanLeg s phases lists None w
+pub went_through : (s : Setup) (phases : Leg) (k : ℕ) (lists : List ThreadList) (w : View) → Going s phases k lists w → length phases ≤ k
+    → RanLeg s phases lists None w
 went_through s phases k lists w was le = let none : drop k phases ≡ [] = drop_all k phases le in record {
   rests = was.rests;
   setup = was.setup;

@@ -1,5 +1,6 @@
 -- A phase from its parts.
-use Rattle.std.proofs.Common.{◌≡◌, ℕ, suc, ◌+◌, ◌<◌, ◌≤◌, List, [], ◌∷◌, ◌++◌, map, take, drop, length, get_or, Option, Some, None, inl, inr, ⊎_elim, refl, sym, ap, ◌∙◌, subst, arith}
+use Rattle.std.proofs.Common.{◌≡◌, ℕ, suc, ◌+◌, ◌<◌, ◌≤◌, List, [], ◌∷◌, ◌++◌, map, take, drop, length, get_or, Option, Some, None, inl, inr, ⊎_elim, refl}
+use Rattle.std.proofs.Common.{sym, ap, ◌∙◌, subst, arith}
 use Rattle.std.proofs.Math.Seq.{take-append_seam}
 use Rattle.std.proofs.lemmas.List.{length-map}
 use Rattle.std.specs.Prelude.{IsSome}
@@ -34,7 +35,8 @@ use Rattle.script_threads.proofs.Threads.{HaveEntries, AreWhole, has_first, has_
 pub written_back : {A : Type 0} (old new : List A) (n : ℕ) → length old ≡ n → length new ≡ length old → take n (new ++ drop (length new) old) ≡ new
 written_back old new n is len = ap (λ k. take k (new ++ drop (length new) old)) (sym is ∙ sym len) ∙ take-append_seam new (drop (length new) old)
 
-pub both : {A : Type 0} (R : A → A → Type 0) (xs ys : List A) → length ys ≡ length xs → ((i : ℕ) (d : A) → i < length xs → R (get_or xs i d) (get_or ys i d)) → Both R xs ys
+pub both : {A : Type 0} (R : A → A → Type 0) (xs ys : List A) → length ys ≡ length xs → ((i : ℕ) (d : A) → i < length xs → R (get_or xs i d) (get_or ys i d))
+    → Both R xs ys
 both R [] [] len f = tt
 both R [] (y ∷ ys) len f = absurd (omega arith)
 both R (x ∷ xs) [] len f = absurd (omega arith)
@@ -66,13 +68,15 @@ module _ (m : Machine) where
   counted_after made (j ∷ js) [] new b = absurd b
   counted_after made (j ∷ js) (k ∷ ks) new b = (b.0.ran.free.number ∙ new.0, counted_after (suc made) js ks new.2 b.1)
 
-  entries_after : (made n : ℕ) (h : List Entry) (js ks : List Job) → AreNew made js → Both (Worked m) js ks → map (λ (x : ℕ × world.Placed). x.1) (map end_of ks) ≡ listed made (length (map end_of ks)) n h
+  entries_after : (made n : ℕ) (h : List Entry) (js ks : List Job) → AreNew made js → Both (Worked m) js ks → map (λ (x : ℕ × world.Placed). x.1)
+      (map end_of ks) ≡ listed made (length (map end_of ks)) n h
       → HaveEntries made n h (map call_list js) (map reply_list ks)
   entries_after made n h [] [] new b e = tt
   entries_after made n h [] (k ∷ ks) new b e = absurd b
   entries_after made n h (j ∷ js) [] new b e = absurd b
   entries_after made n h (j ∷ js) (k ∷ ks) new b e =
-      let mine : (view k.pass).mine ≡ entries_of made j.calls.now k.done.items = b.0.ran.mine ∙ (λ d. new.1 d ++ entries_of (new.0 d) j.calls.now k.done.items) in
+      let mine : (view k.pass).mine ≡ entries_of made j.calls.now k.done.items = b.0.ran.mine
+      ∙ (λ d. new.1 d ++ entries_of (new.0 d) j.calls.now k.done.items) in
       (sym (head e) ∙ mine, b.0.ran.most, entries_after (suc made) n h js ks new.2 b.1 (tail e))
     where
       head : {x y : world.Placed} {xs ys : List world.Placed} → x ∷ xs ≡ y ∷ ys → x ≡ y
@@ -113,22 +117,29 @@ module _ (m : Machine) where
   memory_after [] [] b t = absurd t
   memory_after [] (k ∷ ks) b t = absurd b
   memory_after (j ∷ js) [] b t = absurd b
-  memory_after (j ∷ js) (k ∷ ks) b t = ⊎_elim (λ (e : k.stop ≡ Some NoMemory). inl (b.0.ran.memory e)) (λ (e : SomeStopped NoMemory ks). inr (memory_after js ks b.1 e)) t
+  memory_after (j ∷ js) (k ∷ ks) b t = ⊎_elim (λ (e : k.stop ≡ Some NoMemory). inl (b.0.ran.memory e))
+      (λ (e : SomeStopped NoMemory ks). inr (memory_after js ks b.1 e)) t
 
-  pub phased : (threads : Phase) (lists : List (List (Placed Reply))) (stop : Option Stop) (v u w : View) (js ks : List Job) → Rests v → Knows v → Gave v (length threads) u → map call_list js ≡ threads → AreNew v.root.made js
+  pub phased : (threads : Phase) (lists : List (List (Placed Reply))) (stop : Option Stop) (v u w : View) (js ks : List Job) → Rests v → Knows v
+      → Gave v (length threads) u → map call_list js ≡ threads → AreNew v.root.made js
       → Both (Worked m) js ks → TookIn u (map end_of ks) w → lists ≡ map reply_list ks → stop ≡ worst_from None ks
       → AllByRecursion (SameSetup w) js → AllByRecursion (SeenBy w) ks → Phased v threads lists stop w
   phased threads lists stop v u w js ks rests knew gave calls new worked took lines is same told =
       let xs : Ended = map end_of ks in
       let count : length xs ≡ length threads = length-map ks end_of ∙ (length_after js ks worked ∙ (sym (length-map js call_list) ∙ ap length calls)) in
-      let g : Grown v xs w = grown v u w xs rests knew (gave.number ∙ rests.lone.0) (gave.held ∙ rests.held) (gave.made ∙ ap (λ n. v.root.made + n) (sym count)) gave.mine gave.ended gave.longer (gave.knows knew rests.lone.0) took
+      let g : Grown v xs w = grown v u w xs rests knew (gave.number ∙ rests.lone.0) (gave.held ∙ rests.held) (gave.made ∙ ap (λ n. v.root.made + n) (sym count))
+      gave.mine gave.ended gave.longer (gave.knows knew rests.lone.0) took
       (counted_after v.root.made js ks new worked) in
       let setup_is : w.setup ≡ v.setup = took.setup ∙ gave.setup in
       let last : w.setup.limits.place_last ≡ v.setup.limits.place_last = ap (λ (s : Setup). s.limits.place_last) setup_is in
-      let only : AllByRecursion (IsOfPasses v.root.made (length threads)) g.more = subst (λ (n : ℕ). AllByRecursion (IsOfPasses v.root.made n) g.more) count g.only in
-      let put : (P : Phase → List (List (Placed Reply)) → Type 0) → P (map call_list js) (map reply_list ks) → P threads lists = λ P p. subst (λ (z : Phase × List (List (Placed Reply))). P z.0 z.1) (λ d. (calls d, sym lines d)) p in
-      let have : HaveEntries v.root.made (length v.seen) g.more threads lists = put (HaveEntries v.root.made (length v.seen) g.more) (entries_after v.root.made (length v.seen) g.more js ks new worked g.lists) in
-      let lists_is : lists ≡ replies_of v.root.made (length threads) (length v.seen) g.more = replies_are v.root.made (length v.seen) g.more threads lists have in
+      let only : AllByRecursion (IsOfPasses v.root.made (length threads)) g.more = subst (λ (n : ℕ). AllByRecursion (IsOfPasses v.root.made n) g.more) count
+      g.only in
+      let put : (P : Phase → List (List (Placed Reply)) → Type 0) → P (map call_list js) (map reply_list ks) → P threads lists = λ P p.
+      subst (λ (z : Phase × List (List (Placed Reply))). P z.0 z.1) (λ d. (calls d, sym lines d)) p in
+      let have : HaveEntries v.root.made (length v.seen) g.more threads lists = put (HaveEntries v.root.made (length v.seen) g.more)
+      (entries_after v.root.made (length v.seen) g.more js ks new worked g.lists) in
+      let lists_is : lists ≡ replies_of v.root.made (length threads) (length v.seen) g.more = replies_are v.root.made (length v.seen) g.more threads lists
+      have in
       let long_is : length g.more ≡ long lists = entries_long v.root.made (length threads) (length v.seen) g.more only ∙ ap long (sym lists_is) in
       record {
         rests = g.rests;
@@ -138,17 +149,31 @@ module _ (m : Machine) where
         more = g.more;
         seen = g.seen;
         part = record { only = only; calls = has_first v.root.made (length v.seen) g.more threads lists have };
-        whole = λ none. record { only = only; calls = has_all v.root.made (length v.seen) g.more threads lists have (put AreWhole (whole_after js ks worked (never_stopped ks (sym is ∙ none)))) };
+        whole = λ none. record {
+          only = only;
+          calls = has_all v.root.made (length v.seen) g.more threads lists have
+              (put AreWhole (whole_after js ks worked (never_stopped ks (sym is ∙ none))));
+        };
         lists_are = lists_is;
         fits = omega (arith, g.knows.within, last);
         all = λ none. long_is ∙ long_whole threads lists (put AreWhole (whole_after js ks worked (never_stopped ks (sym is ∙ none))));
-        short = λ some. omega (arith, long_is, long_cut v.root.made (length v.seen) g.more threads lists have (put (SomeThread IsCut) (cut_after js ks worked (some_stop ks (subst (λ (o : Option Stop). IsSome o) is some)))));
-        spent = λ e. let r = spent_after w js ks worked same told (some_stopped ks Spent (sym is ∙ e)) in (put (SomeThread IsCut) r.0, omega (arith, r.1, g.knows.within, last));
+        short = λ some. omega (
+          arith,
+          long_is,
+          long_cut v.root.made (length v.seen) g.more threads lists have
+              (put (SomeThread IsCut) (cut_after js ks worked (some_stop ks (subst (λ (o : Option Stop). IsSome o) is some)))),
+        );
+        spent = λ e. let r = spent_after w js ks worked same told (some_stopped ks Spent (sym is ∙ e)) in (
+          put (SomeThread IsCut) r.0,
+          omega
+              (arith, r.1, g.knows.within, last),
+        );
         memory = λ e. put (SomeThread IsCutAtMemory) (memory_after js ks worked (some_stopped ks NoMemory (sym is ∙ e)));
       }
 
 -- the root looked first
-pub phased_before : (threads : Phase) (lists : List (List (Placed Reply))) (stop : Option Stop) (v b w : View) (word : Word) → Rests v → Looks v word b → Phased b threads lists stop w → Phased v threads lists stop w
+pub phased_before : (threads : Phase) (lists : List (List (Placed Reply))) (stop : Option Stop) (v b w : View) (word : Word) → Rests v → Looks v word b
+    → Phased b threads lists stop w → Phased v threads lists stop w
 phased_before threads lists stop v b w word rests looks p =
     let made : b.root.made ≡ v.root.made = ap (λ (x : View). x.root.made) looks.same in
     let seen : b.seen ≡ v.seen = looks.still rests.lone in

@@ -38,7 +38,17 @@ knows_split b k = record {
 }
 
 pub gave_none : (v : View) → Gave v 0 v
-gave_none v = record { setup = refl; number = refl; held = refl; made = omega arith; mine = refl; ended = refl; longer = prefix_self v.seen; knows = λ k root. k }
+gave_none v = record {
+  setup = refl;
+  number = refl;
+  held = refl;
+  made = omega arith;
+  mine = refl;
+  ended = refl;
+  longer = prefix_self v.seen;
+  knows = λ k root.
+      k;
+}
 
 pub gave_more : (v u b x : View) (n : ℕ) (w : Word) → Gave v n u → v.number ≡ 0 → Looks u w b → x ≡ has_split b → Gave v (n + 1) x
 gave_more v u b x n w was root looks is =
@@ -65,7 +75,8 @@ joined_snoc (y ∷ xs) x ended = joined_snoc xs x (y ∷ ended)
 pub took_none : (v : View) → TookIn v [] v
 took_none v = record { setup = refl; number = refl; held = refl; made = refl; mine = refl; longer = prefix_self v.seen; ended = refl; knows = λ k root. k }
 
-pub took_more : (v u p x : View) (xs : Ended) (w : Word) → TookIn v xs u → v.number ≡ 0 → Looks (has_joined u p) w x → IsPrefix u.seen x.seen → TookIn v (xs ++ (p.number, p.mine) ∷ []) x
+pub took_more : (v u p x : View) (xs : Ended) (w : Word) → TookIn v xs u → v.number ≡ 0 → Looks (has_joined u p) w x → IsPrefix u.seen x.seen
+    → TookIn v (xs ++ (p.number, p.mine) ∷ []) x
 took_more v u p x xs w was root looks longer = record {
   setup = ap (λ (y : View). y.setup) looks.same ∙ was.setup;
   number = ap (λ (y : View). y.number) looks.same ∙ was.number;

@@ -1,5 +1,6 @@
 -- A thread's calls, one by one.
-use Rattle.std.proofs.Common.{◌≡◌, ℕ, zero, suc, ◌+◌, ◌<◌, ◌≤◌, List, [], ◌∷◌, ◌++◌, length, get_or, Some, None, Ok, Err, refl, ap, sym, ◌∙◌, subst, arith, append_assoc, append-nil, length-append, true≢false}
+use Rattle.std.proofs.Common.{◌≡◌, ℕ, zero, suc, ◌+◌, ◌<◌, ◌≤◌, List, [], ◌∷◌, ◌++◌, length, get_or, Some, None, Ok, Err, refl, ap, sym, ◌∙◌, subst, arith}
+use Rattle.std.proofs.Common.{append_assoc, append-nil, length-append, true≢false}
 use Rattle.std.specs.List.{AllByRecursion}
 use Rattle.its_types.specs.declared.machine.Placed.{Placed}
 use Rattle.its_plain.specs.Runs.{Thread}
@@ -34,7 +35,8 @@ entries_snoc n [] done r d lt = absurd (omega arith)
 entries_snoc n (c ∷ calls) [] r d lt = one_entry n c calls r
 entries_snoc n (c ∷ calls) (x ∷ done) r d lt = ap (λ es. (x.place, entry n c x.reply) ∷ es) (entries_snoc n calls done r d (omega arith))
 
-cut_here : (calls : Thread) (done : List (Placed Reply)) (d : Call) → length done < length calls → TakesMemory (get_or calls (length done) d) → IsCutAtMemory calls done
+cut_here : (calls : Thread) (done : List (Placed Reply)) (d : Call) → length done < length calls → TakesMemory (get_or calls (length done) d)
+    → IsCutAtMemory calls done
 cut_here [] done d lt t = absurd (omega arith)
 cut_here (c ∷ calls) [] d lt t = t
 cut_here (c ∷ calls) (x ∷ done) d lt t = cut_here calls done d (omega arith) t
@@ -45,10 +47,18 @@ free_on : (u v w : View) → GoesFree u v → GoesFree v w → GoesFree u w
 free_on u v w p q = record { setup = q.setup ∙ p.setup; number = q.number ∙ p.number; held = q.held }
 
 placed_free : (v w : View) (c : Call) (r : Reply) (n : ℕ) → v.held ≡ [] → IsPlaced v c r n w → GoesFree v w
-placed_free v w c r n free now = record { setup = ap (λ (x : View). x.setup) now.same; number = ap (λ (x : View). x.number) now.same; held = ap (λ (x : View). x.held) now.same ∙ free }
+placed_free v w c r n free now = record {
+  setup = ap (λ (x : View). x.setup) now.same;
+  number = ap (λ (x : View). x.number) now.same;
+  held = ap (λ (x : View). x.held) now.same ∙ free;
+}
 
 stays_free : (v w : View) → v.held ≡ [] → Stays v w → GoesFree v w
-stays_free v w free now = record { setup = ap (λ (x : View). x.setup) now.same; number = ap (λ (x : View). x.number) now.same; held = ap (λ (x : View). x.held) now.same ∙ free }
+stays_free v w free now = record {
+  setup = ap (λ (x : View). x.setup) now.same;
+  number = ap (λ (x : View). x.number) now.same;
+  held = ap (λ (x : View). x.held) now.same ∙ free;
+}
 
 -- ---- the calls so far
 
@@ -60,20 +70,25 @@ doing_none v calls done free none = record {
   count = ap length none;
 }
 
-pub doing_more : (v w x : View) (calls : Thread) (k : ℕ) (d : Call) (done : List (Placed Reply)) (p : Placed Reply) → Doing v calls k done w → Answers w (get_or calls k d) x (Ok p) → k < length calls → Doing v calls (k + 1) (done ++ p ∷ []) x
+pub doing_more : (v w x : View) (calls : Thread) (k : ℕ) (d : Call) (done : List (Placed Reply)) (p : Placed Reply) → Doing v calls k done w
+    → Answers w (get_or calls k d) x (Ok p) → k < length calls → Doing v calls (k + 1) (done ++ p ∷ []) x
 doing_more v w x calls k d done p was now lt =
     let c : Call = get_or calls k d in
     let same : get_or calls (length done) d ≡ c = ap (λ n. get_or calls n d) was.count in
     let added : entries_of v.number calls (done ++ p ∷ []) ≡ entries_of v.number calls done ++ (p.place, entry v.number c p.reply) ∷ [] =
-    entries_snoc v.number calls done p d (omega (arith, was.count, lt)) ∙ ap (λ z. entries_of v.number calls done ++ (p.place, entry v.number z p.reply) ∷ []) same in
+    entries_snoc v.number calls done p d (omega (arith, was.count, lt)) ∙ ap (λ z. entries_of v.number calls done ++ (p.place, entry v.number z p.reply) ∷ [])
+    same in
     record {
       free = free_on v w x was.free (placed_free w x c p.reply p.place was.free.held now);
-      longer = prefix_through v.seen w.seen x.seen was.longer (now.between ++ entry w.number c p.reply ∷ [], sym (append_assoc w.seen now.between (entry w.number c p.reply ∷ [])) ∙ sym now.seen);
-      mine = now.mine ∙ ((λ i. was.mine i ++ (p.place, entry (was.free.number i) c p.reply) ∷ []) ∙ (append_assoc v.mine (entries_of v.number calls done) ((p.place, entry v.number c p.reply) ∷ []) ∙ ap (λ z. v.mine ++ z) (sym added)));
+      longer = prefix_through v.seen w.seen x.seen was.longer
+          (now.between ++ entry w.number c p.reply ∷ [], sym (append_assoc w.seen now.between (entry w.number c p.reply ∷ [])) ∙ sym now.seen);
+      mine = now.mine ∙ ((λ i. was.mine i ++ (p.place, entry (was.free.number i) c p.reply) ∷ [])
+          ∙ (append_assoc v.mine (entries_of v.number calls done) ((p.place, entry v.number c p.reply) ∷ []) ∙ ap (λ z. v.mine ++ z) (sym added)));
       count = omega (arith, length-append done (p ∷ []), was.count);
     }
 
-pub doing_all : (v w : View) (calls : Thread) (k : ℕ) (done : List (Placed Reply)) → Doing v calls k done w → k ≤ length calls → length calls ≤ k → Ran v calls None done w
+pub doing_all : (v w : View) (calls : Thread) (k : ℕ) (done : List (Placed Reply)) → Doing v calls k done w → k ≤ length calls → length calls ≤ k
+    → Ran v calls None done w
 doing_all v w calls k done was most le = record {
   free = was.free;
   longer = was.longer;
@@ -97,7 +112,8 @@ memory_of : (w x : View) (c : Call) (stop : Stop) → Answers w c x (Err stop) �
 memory_of w x c Spent r e = absurd (cc e)
 memory_of w x c NoMemory r e = r.1
 
-pub doing_cut : (v w x : View) (calls : Thread) (k : ℕ) (d : Call) (done : List (Placed Reply)) (stop : Stop) → Doing v calls k done w → Answers w (get_or calls k d) x (Err stop) → k < length calls → Ran v calls (Some stop) done x
+pub doing_cut : (v w x : View) (calls : Thread) (k : ℕ) (d : Call) (done : List (Placed Reply)) (stop : Stop) → Doing v calls k done w
+    → Answers w (get_or calls k d) x (Err stop) → k < length calls → Ran v calls (Some stop) done x
 doing_cut v w x calls k d done stop was answer lt =
     let now = stays_of w x (get_or calls k d) stop answer in
     let below : length done < length calls = omega (arith, was.count, lt) in
@@ -109,5 +125,6 @@ doing_cut v w x calls k d done stop was answer lt =
       whole = λ none. absurd (cc none);
       cut = λ _. below;
       spent = λ e. spent_of w x (get_or calls k d) stop answer (cc e) ∙ ap (λ s. s.limits.place_last) was.free.setup;
-      memory = λ e. cut_here calls done d below (subst (λ (n : ℕ). TakesMemory (get_or calls n d)) (sym was.count) (memory_of w x (get_or calls k d) stop answer (cc e)));
+      memory = λ e. cut_here calls done d below (subst (λ (n : ℕ). TakesMemory (get_or calls n d)) (sym was.count)
+          (memory_of w x (get_or calls k d) stop answer (cc e)));
     }

@@ -38,16 +38,19 @@ may_ask s call.Save e = tt
 
 module _ (s : Setup) where
   thread_runs : (calls : Thread) → is_thread (vcpu_count s) calls ≡ true → MayAskAll s calls
-  thread_runs calls e = all_so (is_call (vcpu_count s)) (MayAsk s) (may_ask s) calls (right_true (nat_le (length calls) MOST_CALLS) (list_all (is_call (vcpu_count s)) calls) e)
+  thread_runs calls e = all_so (is_call (vcpu_count s)) (MayAsk s) (may_ask s) calls
+      (right_true (nat_le (length calls) MOST_CALLS) (list_all (is_call (vcpu_count s)) calls) e)
 
   phase_runs : (threads : Phase) → is_phase (vcpu_count s) threads ≡ true → MayRun s threads
   phase_runs threads e =
-      all_so (is_thread (vcpu_count s)) (MayAskAll s) thread_runs threads (right_true (nat_lt 0 (length threads) && nat_le (length threads) MOST_THREADS) (list_all (is_thread (vcpu_count s)) threads) e)
+      all_so (is_thread (vcpu_count s)) (MayAskAll s) thread_runs threads (right_true (nat_lt 0 (length threads) && nat_le (length threads) MOST_THREADS)
+      (list_all (is_thread (vcpu_count s)) threads) e)
 
 phase_few : (n : ℕ) (threads : Phase) → is_phase n threads ≡ true → length threads ≤ 64
 phase_few n threads e =
     let counted = left_true (nat_lt 0 (length threads) && nat_le (length threads) MOST_THREADS) (list_all (is_thread n) threads) e in
-    let most : length threads ≤ MOST_THREADS = leb-true (length threads) MOST_THREADS (right_true (nat_lt 0 (length threads)) (nat_le (length threads) MOST_THREADS) counted) in
+    let most : length threads ≤ MOST_THREADS = leb-true (length threads) MOST_THREADS
+    (right_true (nat_lt 0 (length threads)) (nat_le (length threads) MOST_THREADS) counted) in
     omega (arith, most)
 
 pub legs_may_run_so : LegsMayRun

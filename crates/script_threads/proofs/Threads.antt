@@ -57,7 +57,8 @@ all_replies m (c ∷ calls) (r ∷ done) le = ap (λ z. r ∷ z) (all_replies m 
 -- pass by pass, from m on, the entries of the history are the thread's calls with these replies
 abbrev pub HaveEntries : ℕ → ℕ → List Entry → Phase → List (List (Placed Reply)) → Type 0
 HaveEntries m n h [] [] = Unit {0}
-HaveEntries m n h (calls ∷ threads) (done ∷ lists) = (placed m n h ≡ entries_of m calls done) × (length done ≤ length calls) × HaveEntries (suc m) n h threads lists
+HaveEntries m n h (calls ∷ threads) (done ∷ lists) = (placed m n h ≡ entries_of m calls done) × (length done ≤ length calls)
+    × HaveEntries (suc m) n h threads lists
 HaveEntries m n h _ _ = ⊥
 
 abbrev pub AreWhole : Phase → List (List (Placed Reply)) → Type 0
@@ -73,7 +74,8 @@ has_first m n h (calls ∷ threads) (done ∷ lists) e = (
   has_first (suc m) n h threads lists e.2,
 )
 
-pub has_all : (m n : ℕ) (h : List Entry) (threads : Phase) (lists : List (List (Placed Reply))) → HaveEntries m n h threads lists → AreWhole threads lists → HasCalls m threads h
+pub has_all : (m n : ℕ) (h : List Entry) (threads : Phase) (lists : List (List (Placed Reply))) → HaveEntries m n h threads lists → AreWhole threads lists
+    → HasCalls m threads h
 has_all m n h [] lists e whole = tt
 has_all m n h (calls ∷ threads) [] e whole = absurd e
 has_all m n h (calls ∷ threads) (done ∷ lists) e whole = (
@@ -81,7 +83,8 @@ has_all m n h (calls ∷ threads) (done ∷ lists) e whole = (
   has_all (suc m) n h threads lists e.2 whole.1,
 )
 
-pub replies_are : (m n : ℕ) (h : List Entry) (threads : Phase) (lists : List (List (Placed Reply))) → HaveEntries m n h threads lists → lists ≡ replies_of m (length threads) n h
+pub replies_are : (m n : ℕ) (h : List Entry) (threads : Phase) (lists : List (List (Placed Reply))) → HaveEntries m n h threads lists
+    → lists ≡ replies_of m (length threads) n h
 replies_are m n h [] [] e = refl
 replies_are m n h [] (done ∷ lists) e = absurd e
 replies_are m n h (calls ∷ threads) [] e = absurd e

@@ -18,7 +18,8 @@ may_repeat : (s : Setup) (call : Call) (calls : Thread) → MayAsk s call → Re
 may_repeat s call calls may all = all_weaker (λ x. x ≡ call) (MayAsk s) calls (λ x is. subst (MayAsk s) (sym is) may) all
 
 -- four threads that make one call, and then one thread that makes another
-pub small_leg : (one two : Call) (a b c d e : Thread) → ((s : Setup) → vcpu_count s ≡ 4 → MayAsk s one × MayAsk s two) → Repeats one a → Repeats one b → Repeats one c → Repeats one d → Repeats two e
+pub small_leg : (one two : Call) (a b c d e : Thread) → ((s : Setup) → vcpu_count s ≡ 4 → MayAsk s one × MayAsk s two) → Repeats one a → Repeats one b
+    → Repeats one c → Repeats one d → Repeats two e
     → IsSmallLeg ((a ∷ b ∷ c ∷ d ∷ []) ∷ (e ∷ []) ∷ [])
 small_leg one two a b c d e may pa pb pc pd pe = record {
   few = omega arith;

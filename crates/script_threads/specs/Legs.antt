@@ -31,7 +31,8 @@ threads_in (suc k) (threads ∷ phases) = length threads + threads_in k phases
 abbrev pub call_count : Leg → ℕ
 call_count phases = sum_by (λ threads. sum_by (λ calls. length calls) threads) phases
 
--- The root's history is that of the leg, or of its first calls where a phase was stopped. The lists' lines are those of its passes, of which there are `count`, by phase and thread
+-- The root's history is that of the leg, or of its first calls where a phase was stopped. The lists' lines are those of its
+-- passes, of which there are `count`, by phase and thread
 pub record RanLeg (s : Setup) (phases : Leg) (lists : List ThreadList) (stop : Option Stop) (w : View) : Type 0 where
   pub rests : Rests w
   pub setup : w.setup ≡ s

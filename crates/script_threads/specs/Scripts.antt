@@ -8,4 +8,5 @@ use Rattle.script_threads.specs.Asks.{MayRunLeg}
 
 -- a leg within limits may be run
 abbrev pub LegsMayRun : Type 0
-LegsMayRun = (s : Setup) (phases : Leg) → is_leg (vcpu_count s) phases ≡ true → (length phases ≤ 256) × AllByRecursion (λ threads. length threads ≤ 64) phases × MayRunLeg s phases
+LegsMayRun = (s : Setup) (phases : Leg) → is_leg (vcpu_count s) phases ≡ true → (length phases ≤ 256) × AllByRecursion (λ threads. length threads ≤ 64) phases
+    × MayRunLeg s phases

@@ -1,5 +1,6 @@
 -- The walk over the collection table.
-use Rattle.std.proofs.Common.{◌≡◌, ℕ, ◌+◌, ◌<◌, Bool, true, false, cond, eqb, List, Option, Some, None, Ok, Err, is_some, refl, sym, subst, ap, ◌∙◌, arith, add-one}
+use Rattle.std.proofs.Common.{◌≡◌, ℕ, ◌+◌, ◌<◌, Bool, true, false, cond, eqb, List, Option, Some, None, Ok, Err, is_some, refl, sym, subst, ap, ◌∙◌, arith}
+use Rattle.std.proofs.Common.{add-one}
 use Rattle.std.specs.Prelude.{◌||◌}
 use Rattle.std.specs.Option.{option_and_then, option_map}
 use Rattle.std.proofs.lemmas.Bool.{eqb-true, eq-eqb, ne_eqb}
@@ -20,7 +21,8 @@ use Rattle.standing_states.proofs.EventsWalked.{within_is, then_ok, then_err}
 use Rattle.standing_states.proofs.Filled.{collection-mapped, no_collection}
 
 -- where a place leads is told by its entry
-leads_by : (r : Registers) (i : ℕ) (o : Option ℕ) → option_and_then (λ word. collection_leads r i (unpacked_collection word)) o ≡ collection_leads r i (option_and_then unpacked_collection o)
+leads_by : (r : Registers) (i : ℕ) (o : Option ℕ) → option_and_then (λ word. collection_leads r i (unpacked_collection word)) o ≡ collection_leads r i
+    (option_and_then unpacked_collection o)
 leads_by r i None = refl
 leads_by r i (Some word) = refl
 
@@ -56,7 +58,8 @@ some_either : {X : Type 0} (t : Bool) (x : X) (o : Option X) → is_some (cond t
 some_either true x o = refl
 some_either false x o = refl
 
-pub one_more : (memory : List Window) (r : Registers) (m n : Maps) (i : ℕ) (c : CollectionFields) (v : Vcpu) → AreThoseBefore memory r m i → collection_entry memory r i ≡ Some c → n ≡ put_collection m (c.icid, v) → AreThoseBefore memory r n (i + 1)
+pub one_more : (memory : List Window) (r : Registers) (m n : Maps) (i : ℕ) (c : CollectionFields) (v : Vcpu) → AreThoseBefore memory r m i
+    → collection_entry memory r i ≡ Some c → n ≡ put_collection m (c.icid, v) → AreThoseBefore memory r n (i + 1)
 one_more memory r m n i c v before at got icid =
     ap (λ (u : Maps). is_some (collection_of u icid)) got
     ∙ ap is_some (collection-mapped m c.icid v icid)

@@ -1,5 +1,6 @@
 -- The walk over the device table: it only goes up, and each place is looked at as the definitions say.
-use Rattle.std.proofs.Common.{◌≡◌, ℕ, ◌+◌, ◌-◌, ◌*◌, ◌^◌, ◌<◌, ◌≤◌, true, false, cond, nat_lt, List, Option, Some, None, Ok, Err, refl, sym, subst, ap, ◌∙◌, arith}
+use Rattle.std.proofs.Common.{◌≡◌, ℕ, ◌+◌, ◌-◌, ◌*◌, ◌^◌, ◌<◌, ◌≤◌, true, false, cond, nat_lt, List, Option, Some, None, Ok, Err, refl, sym, subst, ap, ◌∙◌}
+use Rattle.std.proofs.Common.{arith}
 use Rattle.std.specs.Prelude.{◌==◌, ◌&&◌, IsSome}
 use Rattle.std.specs.Option.{option_and_then, option_map}
 use Rattle.std.proofs.lemmas.Bool.{ltb-true, eqb-false, and_parts}
@@ -11,7 +12,8 @@ use Rattle.gits_regs.specs.Registers.{Registers, is_indirect, table_base}
 use Rattle.baser_place.specs.Places.{level1_entries, page_address}
 use Rattle.table_entries.specs.Fields.{DeviceFields}
 use Rattle.table_entries.specs.Words.{unpacked_device}
-use Rattle.its_plain.specs.DeviceTables.{DevicePlace, at_level1, at_entry, first_device, flat_size, page_places, following, level1_leads, goes_to, device_leads, word_leads, next_device, device_address}
+use Rattle.its_plain.specs.DeviceTables.{DevicePlace, at_level1, at_entry, first_device, flat_size, page_places, following, level1_leads, goes_to}
+use Rattle.its_plain.specs.DeviceTables.{device_leads, word_leads, next_device, device_address}
 use Rattle.standing_states.specs.Found.{IsPlace, rank, reach}
 use Rattle.standing_states.proofs.Walks.{Rises}
 
@@ -55,7 +57,8 @@ record Up (r : Registers) (p q : DevicePlace) : Type 0 where
 
 follows : (r : Registers) (k : ℕ) (p q : DevicePlace) → IsSmall r → (is_indirect r.baser0 ≡ true → rank p < 8193 * (k + 1)) → following r k ≡ Some q → Up r p q
 follows r k p q small low e =
-    elim (is_indirect r.baser0 && nat_lt (k + 1) (level1_entries r.dev_bits)) as (λ b. (is_indirect r.baser0 && nat_lt (k + 1) (level1_entries r.dev_bits)) ≡ b → cond b (Some (at_level1 (k + 1))) None ≡ Some q → Up r p q) [
+    elim (is_indirect r.baser0 && nat_lt (k + 1) (level1_entries r.dev_bits)) as (λ b. (is_indirect r.baser0 && nat_lt (k + 1) (level1_entries r.dev_bits)) ≡ b
+    → cond b (Some (at_level1 (k + 1))) None ≡ Some q → Up r p q) [
       | true ↦ λ h s.
           let h2 = and_parts (is_indirect r.baser0) (nat_lt (k + 1) (level1_entries r.dev_bits)) h in
           let lt = ltb-true (k + 1) (level1_entries r.dev_bits) h2.1 in let up = low h2.0 in
@@ -64,16 +67,23 @@ follows r k p q small low e =
       | false ↦ λ h s. absurd cc
     ] refl e
 
-goes : (r : Registers) (k page i j : ℕ) (q : DevicePlace) → IsSmall r → IsPlace r (at_entry k page i) → i < j → goes_to r k page j ≡ Some q → Up r (at_entry k page i) q
+goes : (r : Registers) (k page i j : ℕ) (q : DevicePlace) → IsSmall r → IsPlace r (at_entry k page i) → i < j → goes_to r k page j ≡ Some q
+    → Up r (at_entry k page i) q
 goes r k page i j q small g lt e =
-    elim (nat_lt j (page_places r)) as (λ b. nat_lt j (page_places r) ≡ b → cond b (Some (at_entry k page j)) (following r k) ≡ Some q → Up r (at_entry k page i) q) [
+    elim (nat_lt j (page_places r)) as (λ b. nat_lt j (page_places r) ≡ b → cond b (Some (at_entry k page j)) (following r k) ≡ Some q
+    → Up r (at_entry k page i) q) [
       | true ↦ λ h s.
           let is : at_entry k page j ≡ q = cc in
-          subst (Up r (at_entry k page i)) is (record { up = omega arith; good = (g.0, ltb-true j (page_places r) h, g.2, g.3, g.4, (let lt2 = ltb-true j (page_places r) h in let most = page_most r small in omega arith)) })
+          subst (Up r (at_entry k page i)) is
+          (record {
+            up = omega arith;
+            good = (g.0, ltb-true j (page_places r) h, g.2, g.3, g.4, (let lt2 = ltb-true j (page_places r) h in let most = page_most r small in omega arith));
+          })
       | false ↦ λ h s. follows r k (at_entry k page i) q small (λ two. let most = page_of_two r two in let low = g.1 in omega arith) s
     ] refl e
 
-leads : (r : Registers) (k page i : ℕ) (o : Option DeviceFields) (q : DevicePlace) → IsSmall r → IsPlace r (at_entry k page i) → device_leads r k page i o ≡ Some q → Up r (at_entry k page i) q
+leads : (r : Registers) (k page i : ℕ) (o : Option DeviceFields) (q : DevicePlace) → IsSmall r → IsPlace r (at_entry k page i)
+    → device_leads r k page i o ≡ Some q → Up r (at_entry k page i) q
 leads r k page i None q small g e = goes r k page i (i + 1) q small g (omega arith) e
 leads r k page i (Some d) q small g e =
     elim (d.next == 0) as (λ b. (d.next == 0) ≡ b → cond b None (goes_to r k page (i + d.next)) ≡ Some q → Up r (at_entry k page i) q) [
@@ -90,7 +100,8 @@ opened r k word q small g e =
       | true ↦ λ z s.
           let is : at_entry k (page_address word) 0 ≡ q = cc in
           let most = page_of_two r g.0 in
-          subst (Up r (at_level1 k)) is (record { up = omega arith; good = (page_low word, omega arith, (λ two. g.1), (λ flat. absurd (let two = g.0 in cc)), g.2, omega arith) })
+          subst (Up r (at_level1 k)) is
+          (record { up = omega arith; good = (page_low word, omega arith, (λ two. g.1), (λ flat. absurd (let two = g.0 in cc)), g.2, omega arith) })
       | false ↦ λ z s. follows r k (at_level1 k) q small (λ two. omega arith) s
     ] refl e
 

@@ -30,7 +30,8 @@ later dev ev k same t =
 rises_above : (dev ev : ℕ) (es : Entries) → T (below_all pair_cmp (dev, ev) es) → T (finmap.is_sorted pair_cmp es) → RisesFrom (ev + 1) (of_device dev es)
 rises_above dev ev [] low sorted = tt
 rises_above dev ev (e ∷ es) low sorted =
-    elim (e.0.0 == dev) as (λ b. (e.0.0 == dev) ≡ b → RisesFrom (ev + 1) (map (λ e. (e.0.1, e.1)) (cond b (e ∷ filter (λ e. e.0.0 == dev) es) (filter (λ e. e.0.0 == dev) es)))) [
+    elim (e.0.0 == dev) as (λ b. (e.0.0 == dev) ≡ b
+    → RisesFrom (ev + 1) (map (λ e. (e.0.1, e.1)) (cond b (e ∷ filter (λ e. e.0.0 == dev) es) (filter (λ e. e.0.0 == dev) es)))) [
       | true ↦ λ is.
           let same : e.0.0 ≡ dev = eqb-true e.0.0 dev is in
           let lt = later dev ev e.0 same (first _ _ low) in
@@ -42,7 +43,8 @@ rises_above dev ev (e ∷ es) low sorted =
 rises : (dev : ℕ) (es : Entries) → T (finmap.is_sorted pair_cmp es) → RisesFrom 0 (of_device dev es)
 rises dev [] sorted = tt
 rises dev (e ∷ es) sorted =
-    elim (e.0.0 == dev) as (λ b. (e.0.0 == dev) ≡ b → RisesFrom 0 (map (λ e. (e.0.1, e.1)) (cond b (e ∷ filter (λ e. e.0.0 == dev) es) (filter (λ e. e.0.0 == dev) es)))) [
+    elim (e.0.0 == dev) as (λ b. (e.0.0 == dev) ≡ b
+    → RisesFrom 0 (map (λ e. (e.0.1, e.1)) (cond b (e ∷ filter (λ e. e.0.0 == dev) es) (filter (λ e. e.0.0 == dev) es)))) [
       | true ↦ λ is.
           let same : e.0.0 ≡ dev = eqb-true e.0.0 dev is in
           let next : T (below_all pair_cmp (dev, e.0.1) es) = subst (λ (n : ℕ). T (below_all pair_cmp (n, e.0.1) es)) same (first _ _ sorted) in
@@ -58,7 +60,9 @@ events_rise m dev = rises dev (finmap.entries m.events) (finmap.entries_sorted m
 pub find_of_device : (dev ev : ℕ) (es : Entries) → finmap.find nat_cmp ev (of_device dev es) ≡ finmap.find pair_cmp (dev, ev) es
 find_of_device dev ev [] = refl
 find_of_device dev ev (e ∷ es) =
-    elim (e.0.0 == dev) as (λ b. (e.0.0 == dev) ≡ b → finmap.find nat_cmp ev (map (λ e. (e.0.1, e.1)) (cond b (e ∷ filter (λ e. e.0.0 == dev) es) (filter (λ e. e.0.0 == dev) es))) ≡ finmap.find pair_cmp (dev, ev) (e ∷ es)) [
+    elim (e.0.0 == dev) as (λ b. (e.0.0 == dev) ≡ b
+    → finmap.find nat_cmp ev (map (λ e. (e.0.1, e.1)) (cond b (e ∷ filter (λ e. e.0.0 == dev) es) (filter (λ e. e.0.0 == dev) es))) ≡ finmap.find pair_cmp
+    (dev, ev) (e ∷ es)) [
       | true ↦ λ is.
           let same : (dev == e.0.0) ≡ true = eq-eqb dev e.0.0 (sym (eqb-true e.0.0 dev is)) in
           let key : eq_by_cmp pair_cmp (dev, ev) e.0 ≡ (ev == e.0.1) = pair_tied (dev, ev) e.0 ∙ ap (λ t. t && (ev == e.0.1)) same in
@@ -71,11 +75,17 @@ find_of_device dev ev (e ∷ es) =
           find_of_device dev ev es ∙ ap (λ t. cond t (Some e.1) (finmap.find pair_cmp (dev, ev) es)) (sym key)
     ] refl
 
-pub after_of_device : (dev ev : ℕ) (es : Entries) → key_after ev (of_device dev es) ≡ option_map (λ k. k.1) (find (λ k. k.0 == dev && nat_lt ev k.1) (map (λ e. e.0) es))
+pub after_of_device : (dev ev : ℕ) (es : Entries) → key_after ev (of_device dev es) ≡ option_map (λ k. k.1)
+    (find (λ k. k.0 == dev && nat_lt ev k.1) (map (λ e. e.0) es))
 after_of_device dev ev [] = refl
 after_of_device dev ev (e ∷ es) =
     let rest = find (λ k. k.0 == dev && nat_lt ev k.1) (map (λ e. e.0) es) in
-    elim (e.0.0 == dev) as (λ b. key_after ev (map (λ e. (e.0.1, e.1)) (cond b (e ∷ filter (λ e. e.0.0 == dev) es) (filter (λ e. e.0.0 == dev) es))) ≡ option_map (λ k. k.1) (cond (b && nat_lt ev e.0.1) (Some e.0) rest)) [
-      | true ↦ elim (nat_lt ev e.0.1) as (λ c. cond c (Some e.0.1) (key_after ev (of_device dev es)) ≡ option_map (λ k. k.1) (cond c (Some e.0) rest)) [ true ↦ refl | false ↦ after_of_device dev ev es ]
+    elim (e.0.0 == dev) as (λ b. key_after ev (map (λ e. (e.0.1, e.1)) (cond b (e ∷ filter (λ e. e.0.0 == dev) es) (filter (λ e. e.0.0 == dev) es)))
+    ≡ option_map (λ k. k.1) (cond (b && nat_lt ev e.0.1) (Some e.0) rest)) [
+      | true ↦ elim (nat_lt ev e.0.1) as (λ c. cond c (Some e.0.1) (key_after ev (of_device dev es)) ≡ option_map (λ k. k.1) (cond c (Some e.0) rest)) [
+        | true ↦
+            refl
+        | false ↦ after_of_device dev ev es
+      ]
       | false ↦ after_of_device dev ev es
     ]

@@ -1,5 +1,6 @@
 -- The walk over a device's interrupt translation table.
-use Rattle.std.proofs.Common.{◌≡◌, ℕ, ◌+◌, ◌-◌, ◌<◌, true, false, cond, nat_lt, List, Option, Some, None, Result, Ok, Err, refl, sym, subst, ap, ◌∙◌, inl, inr, arith, ◌↔◌}
+use Rattle.std.proofs.Common.{◌≡◌, ℕ, ◌+◌, ◌-◌, ◌<◌, true, false, cond, nat_lt, List, Option, Some, None, Result, Ok, Err, refl, sym, subst, ap, ◌∙◌, inl, inr}
+use Rattle.std.proofs.Common.{arith, ◌↔◌}
 use Rattle.std.specs.Prelude.{◌==◌}
 use Rattle.std.specs.Option.{option_and_then}
 use Rattle.std.proofs.lemmas.Bool.{ltb-true, eqb-false}
@@ -73,27 +74,37 @@ has_event memory n t i q d h =
     let w = checked (event_check memory n t i) (one_event i (event_in memory t i)) h.0 h.1 in
     among_one q i d (event_in memory t i) (subst (Among (q, d)) w.1 h.2)
 
-event_has : (memory : List Window) (n : ℕ) (t : Itt) (i : ℕ) (d : Event) → event_check memory n t i ≡ Ok tt → event_in memory t i ≡ Some d → HasAt (look_event memory n t) i (i, d)
-event_has memory n t i d ok is = (one_event i (event_in memory t i), then_ok (event_check memory n t i) (one_event i (event_in memory t i)) ok, one_among i d (event_in memory t i) is)
+event_has : (memory : List Window) (n : ℕ) (t : Itt) (i : ℕ) (d : Event) → event_check memory n t i ≡ Ok tt → event_in memory t i ≡ Some d
+    → HasAt (look_event memory n t) i (i, d)
+event_has memory n t i d ok is = (
+  one_event i (event_in memory t i),
+  then_ok (event_check memory n t i) (one_event i (event_in memory t i)) ok,
+  one_among i d
+      (event_in memory t i) is,
+)
 
 -- ---- the whole
 
 pub events_clear : (memory : List Window) (n : ℕ) (t : Itt) (es : List (ℕ × Event)) → 0 < t.places → events_read memory n t ≡ Ok es → IsIttClear memory n t
 events_clear memory n t es some e i r =
-    let w = walk_clear (look_event memory n t) (next_event memory t) (λ j. j) t.places (λ j. j < t.places) (events_rise memory t) (t.places - 0) 0 es e some (omega arith) r.0 i r.1 in
+    let w = walk_clear (look_event memory n t) (next_event memory t) (λ j. j) t.places (λ j. j < t.places) (events_rise memory t) (t.places - 0) 0 es e some
+    (omega arith) r.0 i r.1 in
     (checked (event_check memory n t i) (one_event i (event_in memory t i)) w.0 w.1).0
 
-pub events_among : (memory : List Window) (n : ℕ) (t : Itt) (es : List (ℕ × Event)) → 0 < t.places → events_read memory n t ≡ Ok es → (i : ℕ) (d : Event) → Among (i, d) es ↔ HasEvent memory t i d
+pub events_among : (memory : List Window) (n : ℕ) (t : Itt) (es : List (ℕ × Event)) → 0 < t.places → events_read memory n t ≡ Ok es → (i : ℕ) (d : Event)
+    → Among (i, d) es ↔ HasEvent memory t i d
 events_among memory n t es some e i d =
     let l = look_event memory n t in let s = next_event memory t in (
       λ a.
           let w = walk_found l s (t.places - 0) 0 es (i, d) e a in
           let h = has_event memory n t w.0 i d w.2 in
           (subst (Reached s 0) (sym h.0) w.1, ap (event_in memory t) h.0 ∙ h.1),
-      λ h. walk_has l s (λ j. j) t.places (λ j. j < t.places) (events_rise memory t) (t.places - 0) 0 es e some (omega arith) h.0.0 i (i, d) h.0.1 (event_has memory n t i d (events_clear memory n t es some e i h.0) h.1),
+      λ h. walk_has l s (λ j. j) t.places (λ j. j < t.places) (events_rise memory t) (t.places - 0) 0 es e some (omega arith) h.0.0 i (i, d) h.0.1
+          (event_has memory n t i d (events_clear memory n t es some e i h.0) h.1),
     )
 
 pub events_fault : (memory : List Window) (n : ℕ) (t : Itt) (f : RestoreFault) → events_read memory n t ≡ Err f → IttOffends memory n t f
 events_fault memory n t f e =
     walk_err (look_event memory n t) (next_event memory t) (λ i. event_check memory n t i ≡ Ok tt) (λ i g. event_check memory n t i ≡ Err g)
-    (λ i xs ok. (checked (event_check memory n t i) (one_event i (event_in memory t i)) xs ok).0) (λ i g is. checked_err (event_check memory n t i) (one_event i (event_in memory t i)) g is) (t.places - 0) 0 f e
+    (λ i xs ok. (checked (event_check memory n t i) (one_event i (event_in memory t i)) xs ok).0)
+    (λ i g is. checked_err (event_check memory n t i) (one_event i (event_in memory t i)) g is) (t.places - 0) 0 f e

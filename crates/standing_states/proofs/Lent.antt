@@ -16,7 +16,8 @@ use Rattle.its_plain.specs.declared.desc.LpiTables.{LpiTables}
 use Rattle.its_plain.specs.declared.desc.LpiTables.TheVariants.{Described, Registers}
 use Rattle.standing_states.specs.Laws.{bases_to_restore, AreGiven}
 
-tables_given : (s : Shape) (t : LpiTables) (values : GicrValues) → AreGiven t values → bases_to_restore (record { shape = s; gicr = are_programmed t; described = described_in t }) values ≡ bases_given s.vcpus t
+tables_given : (s : Shape) (t : LpiTables) (values : GicrValues) → AreGiven t values
+    → bases_to_restore (record { shape = s; gicr = are_programmed t; described = described_in t }) values ≡ bases_given s.vcpus t
 tables_given s (Described config pending) values given = refl
 tables_given s (Registers w) values given = ap (all_restored_bases s.vcpus) (sym given)
 
@@ -28,11 +29,13 @@ given_is d values given = tables_given d.shape d.tables values given
 pub as_many : (l : Layout) (values : GicrValues) → IsLayout l → length values.registers ≡ 16 → length (bases_to_restore l values) ≡ l.shape.vcpus
 as_many l values sound all =
     elim l.gicr as (λ b. l.gicr ≡ b → length (cond b (all_restored_bases l.shape.vcpus values) l.described) ≡ l.shape.vcpus) [
-      | true ↦ λ e. length-map (take l.shape.vcpus values.registers) restored_bases ∙ length-take l.shape.vcpus values.registers ∙ (let most = sound.shape.most_vcpus in omega (arith, all))
+      | true ↦ λ e. length-map (take l.shape.vcpus values.registers) restored_bases ∙ length-take l.shape.vcpus values.registers
+          ∙ (let most = sound.shape.most_vcpus in omega (arith, all))
       | false ↦ λ e. sound.described e
     ] refl
 
-there : (xs : List GicrRegisters) (n v : ℕ) (d : GicrRegisters) → v < n → n ≤ length xs → slice_get (map restored_bases (take n xs)) v ≡ Some (restored_bases (get_or xs v d))
+there : (xs : List GicrRegisters) (n v : ℕ) (d : GicrRegisters) → v < n → n ≤ length xs → slice_get (map restored_bases (take n xs)) v ≡ Some
+    (restored_bases (get_or xs v d))
 there xs zero v d lt le = absurd (omega arith)
 there [] (suc n) v d lt le = absurd (omega arith)
 there (x ∷ xs) (suc n) zero d lt le = refl
@@ -45,7 +48,9 @@ item (x ∷ xs) (suc v) d lt = item xs v d (omega arith)
 
 pub from_values : (l : Layout) (values : GicrValues) (v : ℕ) (d : GicrRegisters) → l.gicr ≡ true → v < l.shape.vcpus → l.shape.vcpus ≤ length values.registers
     → slice_get (bases_to_restore l values) v ≡ Some (restored_bases (get_or values.registers v d))
-from_values l values v d gicr lt le = ap (λ (b : Bool). slice_get (cond b (all_restored_bases l.shape.vcpus values) l.described) v) gicr ∙ there values.registers l.shape.vcpus v d lt le
+from_values l values v d gicr lt le = ap (λ (b : Bool). slice_get (cond b (all_restored_bases l.shape.vcpus values) l.described) v) gicr
+    ∙ there values.registers l.shape.vcpus v d lt le
 
-pub from_layout : (l : Layout) (values : GicrValues) (v : ℕ) (d : Bases) → l.gicr ≡ false → v < length l.described → slice_get (bases_to_restore l values) v ≡ Some (get_or l.described v d)
+pub from_layout : (l : Layout) (values : GicrValues) (v : ℕ) (d : Bases) → l.gicr ≡ false → v < length l.described → slice_get (bases_to_restore l values) v
+    ≡ Some (get_or l.described v d)
 from_layout l values v d gicr lt = ap (λ (b : Bool). slice_get (cond b (all_restored_bases l.shape.vcpus values) l.described) v) gicr ∙ item l.described v d lt

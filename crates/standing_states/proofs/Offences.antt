@@ -15,7 +15,8 @@ use Rattle.its_plain.specs.Plain.{Plain}
 use Rattle.its_plain.specs.declared.layout.Layout.{Layout}
 use Rattle.its_plain.specs.EventTables.{Itt, itt_of, event_check, next_event, IsIttClear, IttOffends}
 use Rattle.its_plain.specs.CollectionTables.{collection_check, next_collection, AreCollectionsClear, CollectionsOffend}
-use Rattle.its_plain.specs.DeviceTables.{DevicePlace, at_level1, at_entry, first_device, id_of, device_address, device_entry, device_of_fields, next_device, IsDeviceClear, DeviceFaults, is_outside, has_bad_size, has_bad_itt, leads_past, AreDevicesClear, DevicesOffend}
+use Rattle.its_plain.specs.DeviceTables.{DevicePlace, at_level1, at_entry, first_device, id_of, device_address, device_entry, device_of_fields, next_device}
+use Rattle.its_plain.specs.DeviceTables.{IsDeviceClear, DeviceFaults, is_outside, has_bad_size, has_bad_itt, leads_past, AreDevicesClear, DevicesOffend}
 use Rattle.its_plain.specs.Stands.{Stands, IsFirstFault, of_redistributor, of_register, of_collection, of_device, AreRedistributorsClear, RedistributorOffends}
 use Rattle.its_plain.specs.declared.fault.Table.TheVariants.{Devices}
 use Rattle.its_plain.specs.declared.fault.RestoreFault.{RestoreFault}
@@ -40,23 +41,27 @@ one_register (Err h) d e a b = let one : h ≡ d = cc in let two : h ≡ e = cc 
 
 itt_once : (memory : List Window) (n : ℕ) (t : Itt) (f g : RestoreFault) → IttOffends memory n t f → IttOffends memory n t g → f ≡ g
 itt_once memory n t f g a b =
-    first_once (λ ev. event_check memory n t ev ≡ Ok tt) (λ ev h. event_check memory n t ev ≡ Err h) (next_event memory t) (λ ev h. ok_or_err (event_check memory n t ev) tt h)
+    first_once (λ ev. event_check memory n t ev ≡ Ok tt) (λ ev h. event_check memory n t ev ≡ Err h) (next_event memory t)
+    (λ ev h. ok_or_err (event_check memory n t ev) tt h)
     (λ ev h k. one_err (event_check memory n t ev) h k) 0 a.0 b.0 f g a.1 b.1
 
 itt_apart : (memory : List Window) (n : ℕ) (t : Itt) (f : RestoreFault) → IsIttClear memory n t → IttOffends memory n t f → ⊥
 itt_apart memory n t f clear a =
-    none_where_clear (λ ev. event_check memory n t ev ≡ Ok tt) (λ ev h. event_check memory n t ev ≡ Err h) (next_event memory t) (λ ev h. ok_or_err (event_check memory n t ev) tt h) 0 a.0 f clear a.1
+    none_where_clear (λ ev. event_check memory n t ev ≡ Ok tt) (λ ev h. event_check memory n t ev ≡ Err h) (next_event memory t)
+    (λ ev h. ok_or_err (event_check memory n t ev) tt h) 0 a.0 f clear a.1
 
 -- ---- collections
 
 collections_once : (memory : List Window) (n : ℕ) (r : Registers) (f g : RestoreFault) → CollectionsOffend memory n r f → CollectionsOffend memory n r g → f ≡ g
 collections_once memory n r f g a b =
-    first_once (λ i. collection_check memory n r i ≡ Ok tt) (λ i h. collection_check memory n r i ≡ Err h) (next_collection memory r) (λ i h. ok_or_err (collection_check memory n r i) tt h)
+    first_once (λ i. collection_check memory n r i ≡ Ok tt) (λ i h. collection_check memory n r i ≡ Err h) (next_collection memory r)
+    (λ i h. ok_or_err (collection_check memory n r i) tt h)
     (λ i h k. one_err (collection_check memory n r i) h k) 0 a.1.0 b.1.0 f g a.1.1 b.1.1
 
 collections_apart : (memory : List Window) (n : ℕ) (r : Registers) (f : RestoreFault) → AreCollectionsClear memory n r → CollectionsOffend memory n r f → ⊥
 collections_apart memory n r f clear a =
-    none_where_clear (λ i. collection_check memory n r i ≡ Ok tt) (λ i h. collection_check memory n r i ≡ Err h) (next_collection memory r) (λ i h. ok_or_err (collection_check memory n r i) tt h) 0 a.1.0 f (clear a.0) a.1.1
+    none_where_clear (λ i. collection_check memory n r i ≡ Ok tt) (λ i h. collection_check memory n r i ≡ Err h) (next_collection memory r)
+    (λ i h. ok_or_err (collection_check memory n r i) tt h) 0 a.1.0 f (clear a.0) a.1.1
 
 -- ---- devices
 
@@ -81,10 +86,12 @@ module _ (memory : List Window) (n : ℕ) (r : Registers) where
   place_apart p _ clear (has_bad_itt e f is le bad) = itt_apart memory n (itt_of (id_of p) (device_of_fields e)) f (clear.itt e is) bad
   place_apart p _ clear (leads_past e is le itt past) = let two : true ≡ false = sym (clear.ends e is) ∙ past in cc
 
-  too_many : {A : Type 0} (p : DevicePlace) (d e : DeviceFields) → device_entry memory p ≡ Some d → device_entry memory p ≡ Some e → 16 < d.bits → e.bits ≤ 16 → A
+  too_many : {A : Type 0} (p : DevicePlace) (d e : DeviceFields) → device_entry memory p ≡ Some d → device_entry memory p ≡ Some e → 16 < d.bits → e.bits ≤ 16
+      → A
   too_many p d e a b gt le = absurd (let same = ap (λ (x : DeviceFields). x.bits) (same_entry p d e a b) in omega arith)
 
-  other_itt : (p : DevicePlace) (d e : DeviceFields) (f : RestoreFault) → device_entry memory p ≡ Some d → device_entry memory p ≡ Some e → IttOffends memory n (itt_of (id_of p) (device_of_fields e)) f → IttOffends memory n (itt_of (id_of p) (device_of_fields d)) f
+  other_itt : (p : DevicePlace) (d e : DeviceFields) (f : RestoreFault) → device_entry memory p ≡ Some d → device_entry memory p ≡ Some e
+      → IttOffends memory n (itt_of (id_of p) (device_of_fields e)) f → IttOffends memory n (itt_of (id_of p) (device_of_fields d)) f
   other_itt p d e f a b bad = subst (λ (x : DeviceFields). IttOffends memory n (itt_of (id_of p) (device_of_fields x)) f) (sym (same_entry p d e a b)) bad
 
   place_once : (p : DevicePlace) (f g : RestoreFault) → DeviceFaults memory n r p f → DeviceFaults memory n r p g → f ≡ g
@@ -98,18 +105,24 @@ module _ (memory : List Window) (n : ℕ) (r : Registers) where
   place_once p _ _ (has_bad_size d at gt) (leads_past e is le itt past) = too_many p d e at is gt le
   place_once p _ _ (has_bad_itt d f at le bad) (is_outside b) = none_outside p d b at
   place_once p _ _ (has_bad_itt d f at le bad) (has_bad_size e is gt) = too_many p e d is at gt le
-  place_once p _ _ (has_bad_itt d f at le bad) (has_bad_itt e g is less worse) = itt_once memory n (itt_of (id_of p) (device_of_fields d)) f g bad (other_itt p d e g at is worse)
-  place_once p _ _ (has_bad_itt d f at le bad) (leads_past e is less itt past) = absurd (itt_apart memory n (itt_of (id_of p) (device_of_fields e)) f itt (other_itt p e d f is at bad))
+  place_once p _ _ (has_bad_itt d f at le bad) (has_bad_itt e g is less worse) = itt_once memory n (itt_of (id_of p) (device_of_fields d)) f g bad
+      (other_itt p d e g at is worse)
+  place_once p _ _ (has_bad_itt d f at le bad) (leads_past e is less itt past) = absurd (itt_apart memory n (itt_of (id_of p) (device_of_fields e)) f itt
+      (other_itt p e d f is at bad))
   place_once p _ _ (leads_past d at le itt past) (is_outside b) = none_outside p d b at
   place_once p _ _ (leads_past d at le itt past) (has_bad_size e is gt) = too_many p e d is at gt le
-  place_once p _ _ (leads_past d at le itt past) (has_bad_itt e f is less bad) = absurd (itt_apart memory n (itt_of (id_of p) (device_of_fields d)) f itt (other_itt p d e f at is bad))
-  place_once p _ _ (leads_past d at le itt past) (leads_past e is less more late) = ap (λ (x : DeviceFields). PastEnd Devices (id_of p) x.next) (same_entry p d e at is)
+  place_once p _ _ (leads_past d at le itt past) (has_bad_itt e f is less bad) = absurd (itt_apart memory n (itt_of (id_of p) (device_of_fields d)) f itt
+      (other_itt p d e f at is bad))
+  place_once p _ _ (leads_past d at le itt past) (leads_past e is less more late) = ap (λ (x : DeviceFields). PastEnd Devices (id_of p) x.next)
+      (same_entry p d e at is)
 
   devices_once : (f g : RestoreFault) → DevicesOffend memory n r f → DevicesOffend memory n r g → f ≡ g
-  devices_once f g a b = first_once (IsDeviceClear memory n r) (DeviceFaults memory n r) (next_device memory r) place_apart place_once (first_device r) a.1.0 b.1.0 f g a.1.1 b.1.1
+  devices_once f g a b = first_once (IsDeviceClear memory n r) (DeviceFaults memory n r) (next_device memory r) place_apart place_once
+      (first_device r) a.1.0 b.1.0 f g a.1.1 b.1.1
 
   devices_apart : (f : RestoreFault) → AreDevicesClear memory n r → DevicesOffend memory n r f → ⊥
-  devices_apart f clear a = none_where_clear (IsDeviceClear memory n r) (DeviceFaults memory n r) (next_device memory r) place_apart (first_device r) a.1.0 f (clear a.0) a.1.1
+  devices_apart f clear a = none_where_clear (IsDeviceClear memory n r) (DeviceFaults memory n r) (next_device memory r) place_apart (first_device r) a.1.0 f
+      (clear a.0) a.1.1
 
 -- ---- the whole
 
@@ -139,7 +152,8 @@ module _ (memory : List Window) (values : RegValues) (s : Shape) (bases : List B
   fault_once _ _ (of_redistributor v a) (of_collection f clear ok bad) = redist_not v a clear
   fault_once _ _ (of_redistributor v a) (of_device f clear ok cs bad) = redist_not v a clear
   fault_once _ _ (of_register e clear is) (of_redistributor v a) = redist_not v a clear
-  fault_once _ _ (of_register d clear at) (of_register e also is) = ap (λ (x : NotValid). fault.NotValid x.0) (one_register (restored values s.dev_bits) d e at is)
+  fault_once _ _ (of_register d clear at) (of_register e also is) = ap (λ (x : NotValid). fault.NotValid x.0)
+      (one_register (restored values s.dev_bits) d e at is)
   fault_once _ _ (of_register e clear is) (of_collection f also ok bad) = not_ok (restored values s.dev_bits) e is ok
   fault_once _ _ (of_register e clear is) (of_device f also ok cs bad) = not_ok (restored values s.dev_bits) e is ok
   fault_once _ _ (of_collection f clear ok bad) (of_redistributor v a) = redist_not v a clear
@@ -148,16 +162,22 @@ module _ (memory : List Window) (values : RegValues) (s : Shape) (bases : List B
   fault_once _ _ (of_collection f clear ok bad) (of_device g also fine cs worse) = absurd (collections_apart memory s.vcpus (masked values s.dev_bits) f cs bad)
   fault_once _ _ (of_device f clear ok cs bad) (of_redistributor v a) = redist_not v a clear
   fault_once _ _ (of_device f clear ok cs bad) (of_register e also is) = not_ok (restored values s.dev_bits) e is ok
-  fault_once _ _ (of_device f clear ok cs bad) (of_collection g also fine worse) = absurd (collections_apart memory s.vcpus (masked values s.dev_bits) g cs worse)
+  fault_once _ _ (of_device f clear ok cs bad) (of_collection g also fine worse) =
+      absurd (collections_apart memory s.vcpus (masked values s.dev_bits) g cs worse)
   fault_once _ _ (of_device f clear ok cs bad) (of_device g also fine ds worse) = devices_once memory s.lpi_bits (masked values s.dev_bits) f g bad worse
 
-pub first_fault_once : (memory : List Window) (values : RegValues) (s : Shape) (bases : List Bases) (f g : RestoreFault) → IsFirstFault memory values s bases f → IsFirstFault memory values s bases g → f ≡ g
+pub first_fault_once : (memory : List Window) (values : RegValues) (s : Shape) (bases : List Bases) (f g : RestoreFault) → IsFirstFault memory values s bases f
+    → IsFirstFault memory values s bases g → f ≡ g
 first_fault_once memory values s bases f g a b = fault_once memory values s bases f g a b
 
-pub stands_without : (memory : List Window) (values : RegValues) (layout : Layout) (bases : List Bases) (u : Plain) (f : RestoreFault) → Stands memory values layout bases u → IsFirstFault memory values layout.shape bases f → ⊥
+pub stands_without : (memory : List Window) (values : RegValues) (layout : Layout) (bases : List Bases) (u : Plain) (f : RestoreFault)
+    → Stands memory values layout bases u → IsFirstFault memory values layout.shape bases f → ⊥
 stands_without memory values layout bases u _ a (of_redistributor v w) = redist_not memory values layout.shape bases v w a.clear
-stands_without memory values layout bases u _ a (of_register e clear is) = not_ok memory values layout.shape bases (restored values layout.shape.dev_bits) e is a.stands.allowed
+stands_without memory values layout bases u _ a (of_register e clear is) = not_ok memory values layout.shape bases (restored values layout.shape.dev_bits) e is
+    a.stands.allowed
 stands_without memory values layout bases u _ a (of_collection f clear ok bad) =
-    collections_apart memory layout.shape.vcpus (masked values layout.shape.dev_bits) f (subst (AreCollectionsClear memory layout.shape.vcpus) a.stands.regs a.stands.maps.collections_clear) bad
+    collections_apart memory layout.shape.vcpus (masked values layout.shape.dev_bits) f
+    (subst (AreCollectionsClear memory layout.shape.vcpus) a.stands.regs a.stands.maps.collections_clear) bad
 stands_without memory values layout bases u _ a (of_device f clear ok cs bad) =
-    devices_apart memory layout.shape.lpi_bits (masked values layout.shape.dev_bits) f (subst (AreDevicesClear memory layout.shape.lpi_bits) a.stands.regs a.stands.maps.devices_clear) bad
+    devices_apart memory layout.shape.lpi_bits (masked values layout.shape.dev_bits) f
+    (subst (AreDevicesClear memory layout.shape.lpi_bits) a.stands.regs a.stands.maps.devices_clear) bad

@@ -1,5 +1,6 @@
 -- One memory and one set of register values stand for at most one state.
-use Rattle.std.proofs.Common.{◌≡◌, ℕ, suc, ◌+◌, ◌<◌, true, false, eqb, List, [], ◌∷◌, length, Option, Some, None, refl, sym, subst, ap, ◌∙◌, inl, inr, arith, ◌↔◌}
+use Rattle.std.proofs.Common.{◌≡◌, ℕ, suc, ◌+◌, ◌<◌, true, false, eqb, List, [], ◌∷◌, length, Option, Some, None, refl, sym, subst, ap, ◌∙◌, inl, inr, arith}
+use Rattle.std.proofs.Common.{◌↔◌}
 use Rattle.std.specs.Prelude.{◌||◌, slice_get, slice_index}
 use Rattle.std.specs.List.Sorted.{IsStrictlyIncreasing}
 use Rattle.std.specs.Cmp.{nat_cmp_total}
@@ -21,7 +22,8 @@ use Rattle.gits_regs.specs.Registers.{Registers}
 -- ---- rising lists with the same elements
 
 rest_rises : (x : ℕ) (xs : List ℕ) → IsStrictlyIncreasing (x ∷ xs) → IsStrictlyIncreasing xs
-rest_rises x xs h k lt = let more : suc k + 1 ≡ suc (k + 1) = omega arith in subst (λ (j : ℕ). slice_index (x ∷ xs) (suc k) < slice_index (x ∷ xs) j) more (h (suc k) (omega arith))
+rest_rises x xs h k lt = let more : suc k + 1 ≡ suc (k + 1) = omega arith in subst (λ (j : ℕ). slice_index (x ∷ xs) (suc k) < slice_index (x ∷ xs) j) more
+    (h (suc k) (omega arith))
 
 above_first : (x : ℕ) (xs : List ℕ) → IsStrictlyIncreasing (x ∷ xs) → (y : ℕ) → is_pending y xs ≡ true → x < y
 above_first x [] h y is = absurd cc
@@ -43,7 +45,8 @@ not_smaller x y xs ys h same lt =
       | inr later ↦ let k = above_first y ys h x later in omega arith
     ]
 
-first_same : (x y : ℕ) (xs ys : List ℕ) → IsStrictlyIncreasing (x ∷ xs) → IsStrictlyIncreasing (y ∷ ys) → ((z : ℕ) → is_pending z (x ∷ xs) ≡ is_pending z (y ∷ ys)) → x ≡ y
+first_same : (x y : ℕ) (xs ys : List ℕ) → IsStrictlyIncreasing (x ∷ xs) → IsStrictlyIncreasing (y ∷ ys)
+    → ((z : ℕ) → is_pending z (x ∷ xs) ≡ is_pending z (y ∷ ys)) → x ≡ y
 first_same x y xs ys hx hy same =
     elim (cases_lt x y) [
       | inl lt ↦ absurd (not_smaller x y xs ys hy same lt)
@@ -60,7 +63,8 @@ absent x xs h =
       | false ↦ λ e. refl
     ] refl
 
-rest_same : (x : ℕ) (xs ys : List ℕ) → IsStrictlyIncreasing (x ∷ xs) → IsStrictlyIncreasing (x ∷ ys) → ((z : ℕ) → is_pending z (x ∷ xs) ≡ is_pending z (x ∷ ys)) → (z : ℕ) → is_pending z xs ≡ is_pending z ys
+rest_same : (x : ℕ) (xs ys : List ℕ) → IsStrictlyIncreasing (x ∷ xs) → IsStrictlyIncreasing (x ∷ ys) → ((z : ℕ) → is_pending z (x ∷ xs) ≡ is_pending z (x ∷ ys))
+    → (z : ℕ) → is_pending z xs ≡ is_pending z ys
 rest_same x xs ys hx hy same z =
     elim (cases_eq x z) [
       | inl e ↦ subst (λ (k : ℕ). is_pending k xs ≡ is_pending k ys) e (absent x xs hx ∙ sym (absent x ys hy))
@@ -80,7 +84,8 @@ same_set (x ∷ xs) (y ∷ ys) hx hy same =
 
 -- ---- lists of one length whose elements are equal
 
-same_each : {A B : Type 0} (bs : List A) (xs ys : List B) → length xs ≡ length bs → length ys ≡ length bs → ((v : ℕ) (b : A) (x y : B) → slice_get bs v ≡ Some b → slice_get xs v ≡ Some x → slice_get ys v ≡ Some y → x ≡ y) → xs ≡ ys
+same_each : {A B : Type 0} (bs : List A) (xs ys : List B) → length xs ≡ length bs → length ys ≡ length bs → ((v : ℕ) (b : A) (x y : B) → slice_get bs v ≡ Some b
+    → slice_get xs v ≡ Some x → slice_get ys v ≡ Some y → x ≡ y) → xs ≡ ys
 same_each [] [] [] lx ly same = refl
 same_each [] [] (y ∷ ys) lx ly same = absurd (omega arith)
 same_each [] (x ∷ xs) ys lx ly same = absurd (omega arith)
@@ -93,13 +98,15 @@ same_each (b ∷ bs) (x ∷ xs) (y ∷ ys) lx ly same =
 
 -- ---- redistributors
 
-redistributors_alike : (s : Shape) (memory : List Window) (b : Bases) (q r : Redistributor) → IsRedistributorIn s memory b q → IsRedistributorIn s memory b r → q ≡ r
+redistributors_alike : (s : Shape) (memory : List Window) (b : Bases) (q r : Redistributor) → IsRedistributorIn s memory b q → IsRedistributorIn s memory b r
+    → q ≡ r
 redistributors_alike s memory b q r x y =
     let bases : q.bases ≡ r.bases = x.bases ∙ sym y.bases in
     elim b.on as (λ t. b.on ≡ t → q ≡ r) [
       | true ↦ λ on.
           let config : q.config ≡ r.config = (let two : Some q.config ≡ Some r.config = sym (x.config on) ∙ y.config on in cc) in
-          let pending : q.pending ≡ r.pending = same_set q.pending r.pending (x.pending on).rising (y.pending on).rising (λ z. (x.pending on).are z ∙ sym ((y.pending on).are z)) in
+          let pending : q.pending ≡ r.pending = same_set q.pending r.pending (x.pending on).rising (y.pending on).rising
+          (λ z. (x.pending on).are z ∙ sym ((y.pending on).are z)) in
           λ i. record { bases = bases i; pending = pending i; config = config i }
       | false ↦ λ off.
           let config : q.config ≡ r.config = x.off_config off ∙ sym (y.off_config off) in
@@ -119,12 +126,16 @@ both_ways x y f g = alike x y (λ d e. (g d).1 ((f d).0 e)) (λ d e. (f d).1 ((g
 
 maps_alike : (s : Shape) (memory : List Window) (r : Registers) (m n : Maps) → AreMapsIn s memory r m → AreMapsIn s memory r n → m ≡ n
 maps_alike s memory r m n a b =
-    let devices : m.devices ≡ n.devices = same_map nat_cmp_total nat_cmp-IsAntisymmetric m.devices n.devices (λ q. both_ways (map.get m.devices q) (map.get n.devices q) (a.devices q) (b.devices q)) in
-    let events : m.events ≡ n.events = same_map pair_total pair_same m.events n.events (λ q. both_ways (map.get m.events q) (map.get n.events q) (a.events q.0 q.1) (b.events q.0 q.1)) in
-    let collections : m.collections ≡ n.collections = same_map nat_cmp_total nat_cmp-IsAntisymmetric m.collections n.collections (λ q. both_ways (map.get m.collections q) (map.get n.collections q) (a.collections q) (b.collections q)) in
+    let devices : m.devices ≡ n.devices = same_map nat_cmp_total nat_cmp-IsAntisymmetric m.devices n.devices
+    (λ q. both_ways (map.get m.devices q) (map.get n.devices q) (a.devices q) (b.devices q)) in
+    let events : m.events ≡ n.events = same_map pair_total pair_same m.events n.events (λ q. both_ways (map.get m.events q) (map.get n.events q)
+    (a.events q.0 q.1) (b.events q.0 q.1)) in
+    let collections : m.collections ≡ n.collections = same_map nat_cmp_total nat_cmp-IsAntisymmetric m.collections n.collections
+    (λ q. both_ways (map.get m.collections q) (map.get n.collections q) (a.collections q) (b.collections q)) in
     λ i. record { devices = devices i; events = events i; collections = collections i }
 
-translators_alike : (s : Shape) (memory : List Window) (values : RegValues) (t w : Translator) → IsTranslatorIn s memory values t → IsTranslatorIn s memory values w → t ≡ w
+translators_alike : (s : Shape) (memory : List Window) (values : RegValues) (t w : Translator) → IsTranslatorIn s memory values t
+    → IsTranslatorIn s memory values w → t ≡ w
 translators_alike s memory values t w a b =
     let regs : t.regs ≡ w.regs = a.regs ∙ sym b.regs in
     let maps : t.maps ≡ w.maps = maps_alike s memory t.regs t.maps w.maps a.maps (subst (λ (r : Registers). AreMapsIn s memory r w.maps) (sym regs) b.maps) in
@@ -132,7 +143,8 @@ translators_alike s memory values t w a b =
 
 -- ---- the machine
 
-pub stands_once : (memory : List Window) (values : RegValues) (layout : Layout) (bases : List Bases) (u v : Plain) → Stands memory values layout bases u → Stands memory values layout bases v → u ≡ v
+pub stands_once : (memory : List Window) (values : RegValues) (layout : Layout) (bases : List Bases) (u v : Plain) → Stands memory values layout bases u
+    → Stands memory values layout bases v → u ≡ v
 stands_once memory values layout bases u v a b =
     let layouts : u.layout ≡ v.layout = a.layout_is ∙ sym b.layout_is in
     let memories : u.memory ≡ v.memory = a.memory_is ∙ sym b.memory_is in

@@ -1,5 +1,6 @@
 -- A state that memory stands for is sound.
-use Rattle.std.proofs.Common.{◌≡◌, ℕ, zero, suc, ◌+◌, ◌-◌, ◌*◌, ◌%◌, ◌^◌, ◌<◌, ◌≤◌, Bool, true, false, not, cond, eqb, nat_lt, List, [], ◌∷◌, length, map, Option, Some, None, Result, Ok, Err, refl, sym, subst, ap, ◌∙◌, arith, pow_pos}
+use Rattle.std.proofs.Common.{◌≡◌, ℕ, zero, suc, ◌+◌, ◌-◌, ◌*◌, ◌%◌, ◌^◌, ◌<◌, ◌≤◌, Bool, true, false, not, cond, eqb, nat_lt, List, [], ◌∷◌, length, map}
+use Rattle.std.proofs.Common.{Option, Some, None, Result, Ok, Err, refl, sym, subst, ap, ◌∙◌, arith, pow_pos}
 use Rattle.std.specs.Prelude.{◌||◌, ◌&&◌, slice_get}
 use Rattle.std.specs.Option.{option_and_then, option_map, ok_or}
 use Rattle.std.specs.Result.{IsOk, IfOk}
@@ -28,9 +29,11 @@ use Rattle.baser_place.specs.Places.{level1_entries, flat_places, entry_address}
 use Rattle.table_entries.specs.Fields.{DeviceFields, EventFields, CollectionFields}
 use Rattle.table_entries.specs.Words.{unpacked_device, unpacked_event}
 use Rattle.its_plain.specs.Walks.{Path, ensure, ◌>>=◌}
-use Rattle.its_plain.specs.EventTables.{Itt, itt_of, event_address, event_entry, event_of_fields, event_check, event_entry_check, next_event, IsIttClear, HasEvent}
+use Rattle.its_plain.specs.EventTables.{Itt, itt_of, event_address, event_entry, event_of_fields, event_check, event_entry_check, next_event, IsIttClear}
+use Rattle.its_plain.specs.EventTables.{HasEvent}
 use Rattle.its_plain.specs.CollectionTables.{collection_address, AreCollectionsClear, HasCollection}
-use Rattle.its_plain.specs.DeviceTables.{DevicePlace, at_level1, at_entry, first_device, flat_size, id_of, device_entry, device_of_fields, device_in, AreDevicesClear, HasDevice}
+use Rattle.its_plain.specs.DeviceTables.{DevicePlace, at_level1, at_entry, first_device, flat_size, id_of, device_entry, device_of_fields, device_in}
+use Rattle.its_plain.specs.DeviceTables.{AreDevicesClear, HasDevice}
 use Rattle.its_plain.specs.Plain.{Plain, Translator, Redistributor}
 use Rattle.its_plain.specs.declared.layout.Layout.{Layout}
 use Rattle.its_plain.specs.Sound.{IsShape, IsLayout, IsDevice, IsEvent, IsCollection, IsTranslator, HasTables, IsRedistributor, IsSound}
@@ -54,7 +57,8 @@ record LowFields (e : DeviceFields) : Type 0 where
 
 low_fields : (word : ℕ) (e : DeviceFields) → unpacked_device word ≡ Some e → LowFields e
 low_fields word e is =
-    elim (bit_of word 63) as (λ b. cond b (Some (record { next = field word 49 14; itt = field word 5 44 * 2 ^ 8; bits = field word 0 5 + 1 })) None ≡ Some e → LowFields e) [
+    elim (bit_of word 63) as (λ b. cond b (Some (record { next = field word 49 14; itt = field word 5 44 * 2 ^ 8; bits = field word 0 5 + 1 })) None ≡ Some e
+    → LowFields e) [
       | true ↦ λ s.
           let f : DeviceFields = record { next = field word 49 14; itt = field word 5 44 * 2 ^ 8; bits = field word 0 5 + 1 } in
           let same : f ≡ e = cc in
@@ -68,7 +72,8 @@ low_entry (Some word) e is = low_fields word e is
 
 low_icid : (word : ℕ) (e : EventFields) → unpacked_event word ≡ Some e → e.icid < 65536
 low_icid word e is =
-    elim (eqb (field word 16 32) 0) as (λ b. cond b None (Some (record { next = field word 48 16; intid = field word 16 32; icid = field word 0 16 })) ≡ Some e → e.icid < 65536) [
+    elim (eqb (field word 16 32) 0) as (λ b. cond b None (Some (record { next = field word 48 16; intid = field word 16 32; icid = field word 0 16 })) ≡ Some e
+    → e.icid < 65536) [
       | true ↦ λ s. absurd cc
       | false ↦ λ s.
           let f : EventFields = record { next = field word 48 16; intid = field word 16 32; icid = field word 0 16 } in
@@ -94,7 +99,8 @@ unfolding flat_size
 flat_ids r = (omega arith, omega arith)
 
 module _ (memory : List Window) (s : Shape) (r : Registers) (least : 16 ≤ r.dev_bits) (most : r.dev_bits ≤ 20) where
-  id_low : (p : DevicePlace) (d : Device) → IsPlace r p → device_in memory p ≡ Some d → (id_of p < 2 ^ r.dev_bits) × (is_indirect r.baser0 ≡ false → id_of p < flat_places r)
+  id_low : (p : DevicePlace) (d : Device) → IsPlace r p → device_in memory p ≡ Some d → (id_of p < 2 ^ r.dev_bits)
+      × (is_indirect r.baser0 ≡ false → id_of p < flat_places r)
   id_low (at_level1 k) d g is = absurd cc
   id_low (at_entry k page i) d g is =
       let all = all_ids r least in let f = flat_ids r in
@@ -134,19 +140,24 @@ module _ (memory : List Window) (s : Shape) (r : Registers) (least : 16 ≤ r.de
   first_of true f rest e = refl
   first_of false f rest e = absurd cc
 
-  entry_checked : (t : Itt) (ev : ℕ) (e : EventFields) (f : RestoreFault) (o : Option ℕ) → (ok_or o f >>= λ w. event_entry_check s.lpi_bits t ev (unpacked_event w)) ≡ Ok tt → option_and_then unpacked_event o ≡ Some e → event_entry_check s.lpi_bits t ev (Some e) ≡ Ok tt
+  entry_checked : (t : Itt) (ev : ℕ) (e : EventFields) (f : RestoreFault) (o : Option ℕ)
+      → (ok_or o f >>= λ w. event_entry_check s.lpi_bits t ev (unpacked_event w)) ≡ Ok tt → option_and_then unpacked_event o ≡ Some e
+      → event_entry_check s.lpi_bits t ev (Some e) ≡ Ok tt
   entry_checked t ev e f None h is = absurd cc
   entry_checked t ev e f (Some w) h is = ap (event_entry_check s.lpi_bits t ev) (sym is) ∙ h
 
-  event_lpi : (t : Itt) (ev : ℕ) (e : EventFields) → event_check memory s.lpi_bits t ev ≡ Ok tt → event_entry memory t ev ≡ Some e → is_lpi s.lpi_bits e.intid ≡ true
-  event_lpi t ev e ok is = first_of (is_lpi s.lpi_bits e.intid) _ _ (entry_checked t ev e (OutsideTable (record { 0 = event_address t ev })) (number_at memory (event_address t ev)) ok is)
+  event_lpi : (t : Itt) (ev : ℕ) (e : EventFields) → event_check memory s.lpi_bits t ev ≡ Ok tt → event_entry memory t ev ≡ Some e
+      → is_lpi s.lpi_bits e.intid ≡ true
+  event_lpi t ev e ok is = first_of (is_lpi s.lpi_bits e.intid) _ _ (entry_checked t ev e (OutsideTable (record { 0 = event_address t ev }))
+      (number_at memory (event_address t ev)) ok is)
 
   itt_clear : AreDevicesClear memory s.lpi_bits r → (dev : ℕ) (d : Device) → HasDevice memory r dev d → IsIttClear memory s.lpi_bits (itt_of dev d)
   itt_clear clear dev d h =
       let e = with_fields device_of_fields (device_entry memory h.1) d h.4 in
       subst (λ (p : ℕ × Device). IsIttClear memory s.lpi_bits (itt_of p.0 p.1)) (λ i. (h.3 i, e.2 i)) ((clear h.0 h.1 h.2).itt e.0 e.1)
 
-  is_event : (m : Maps) → AreDevicesClear memory s.lpi_bits r → (dev ev : ℕ) (e : Event) (d : Device) → HasDevice memory r dev d → HasEvent memory (itt_of dev d) ev e → device_of m dev ≡ Some d → IsEvent s m dev ev e
+  is_event : (m : Maps) → AreDevicesClear memory s.lpi_bits r → (dev ev : ℕ) (e : Event) (d : Device) → HasDevice memory r dev d
+      → HasEvent memory (itt_of dev d) ev e → device_of m dev ≡ Some d → IsEvent s m dev ev e
   is_event m clear dev ev e d h k mapped =
       let f = with_fields event_of_fields (event_entry memory (itt_of dev d) ev) e k.1 in
       let lpi = event_lpi (itt_of dev d) ev f.0 (itt_clear clear dev d h ev k.0) f.1 in
@@ -161,7 +172,8 @@ module _ (memory : List Window) (s : Shape) (r : Registers) (least : 16 ≤ r.de
 
   -- ---- collections
 
-  second_of : (a b : Bool) (f g : RestoreFault) (rest : Result (Unit {0}) RestoreFault) → (ensure a f >>= λ _. ensure b g >>= λ _. rest) ≡ Ok tt → (a ≡ true) × (b ≡ true)
+  second_of : (a b : Bool) (f g : RestoreFault) (rest : Result (Unit {0}) RestoreFault) → (ensure a f >>= λ _. ensure b g >>= λ _. rest) ≡ Ok tt → (a ≡ true)
+      × (b ≡ true)
   second_of true true f g rest e = (refl, refl)
   second_of true false f g rest e = absurd cc
   second_of false b f g rest e = absurd cc
@@ -169,7 +181,8 @@ module _ (memory : List Window) (s : Shape) (r : Registers) (least : 16 ≤ r.de
   is_collection : AreCollectionsClear memory s.vcpus r → (icid : ℕ) (v : Vcpu) → HasCollection memory r icid v → IsCollection s r icid v
   is_collection clear icid v h =
       let c : CollectionFields = record { vcpu_number = v.0; icid = icid } in
-      let ok = entry_of_word memory s.vcpus r h.1 c (OutsideTable (record { 0 = collection_address r h.1 })) (number_at memory (collection_address r h.1)) (clear h.0 h.1 h.2) h.3 in
+      let ok = entry_of_word memory s.vcpus r h.1 c (OutsideTable (record { 0 = collection_address r h.1 })) (number_at memory (collection_address r h.1))
+      (clear h.0 h.1 h.2) h.3 in
       let two = second_of (nat_lt icid (collection_places r)) (nat_lt v.0 s.vcpus) _ _ _ ok in
       record { table = h.0; in_table = ltb-true icid (collection_places r) two.0; target = ltb-true v.0 s.vcpus two.1 }
 
@@ -212,7 +225,9 @@ none_in_it P xs e = subst (AllByRecursion P) (sym e) tt
 
 has_tables : (s : Shape) (memory : List Window) (b : Bases) → lacks_tables s memory b ≡ false → b.on ≡ true → HasTables s memory b
 has_tables s memory b lacks on =
-    let w = both (inside memory b.prop.table.0 (lpi_count s.lpi_bits)) (inside memory b.pend.table.0 (pending_bytes s.lpi_bits)) (sym (ap (λ t. t && not (inside memory b.prop.table.0 (lpi_count s.lpi_bits) && inside memory b.pend.table.0 (pending_bytes s.lpi_bits))) on) ∙ lacks) in
+    let w = both (inside memory b.prop.table.0 (lpi_count s.lpi_bits)) (inside memory b.pend.table.0 (pending_bytes s.lpi_bits))
+    (sym (ap (λ t. t && not (inside memory b.prop.table.0 (lpi_count s.lpi_bits) && inside memory b.pend.table.0 (pending_bytes s.lpi_bits))) on)
+    ∙ lacks) in
     record { config = w.0; pending = w.1 }
   where
     both : (x y : Bool) → not (x && y) ≡ false → (x ≡ true) × (y ≡ true)
@@ -220,13 +235,19 @@ has_tables s memory b lacks on =
     both true false e = absurd cc
     both false y e = absurd cc
 
-redistributor_sound : (l : Layout) (memory : List Window) (bases : List Bases) (v : ℕ) (b : Bases) (r : Redistributor) → AreBasesOf l bases → AreRedistributorsClear l.shape memory bases → slice_get bases v ≡ Some b → IsRedistributorIn l.shape memory b r → IsRedistributor l memory v r
+redistributor_sound : (l : Layout) (memory : List Window) (bases : List Bases) (v : ℕ) (b : Bases) (r : Redistributor) → AreBasesOf l bases
+    → AreRedistributorsClear l.shape memory bases → slice_get bases v ≡ Some b → IsRedistributorIn l.shape memory b r → IsRedistributor l memory v r
 redistributor_sound l memory bases v b r kept clear at a =
     let on_is : r.bases.on ≡ b.on = ap (λ (x : Bases). x.on) a.bases in
     record {
-      rising = elim b.on as (λ t. b.on ≡ t → IsStrictlyIncreasing r.pending) [ true ↦ λ on. (a.pending on).rising | false ↦ λ off. none_rises r.pending (a.off_pending off) ] refl;
+      rising = elim b.on as (λ t. b.on ≡ t → IsStrictlyIncreasing r.pending) [
+        | true ↦ λ on. (a.pending on).rising
+        | false ↦ λ off. none_rises r.pending
+            (a.off_pending off)
+      ] refl;
       lpis = elim b.on as (λ t. b.on ≡ t → AllByRecursion (λ intid. is_lpi l.shape.lpi_bits intid ≡ true) r.pending) [
-        | true ↦ λ on. all_of (λ intid. is_lpi l.shape.lpi_bits intid ≡ true) r.pending (λ y e. (and_parts (is_lpi l.shape.lpi_bits y) (is_set memory b.pend.table.0 y) (sym ((a.pending on).are y) ∙ e)).0)
+        | true ↦ λ on. all_of (λ intid. is_lpi l.shape.lpi_bits intid ≡ true) r.pending
+            (λ y e. (and_parts (is_lpi l.shape.lpi_bits y) (is_set memory b.pend.table.0 y) (sym ((a.pending on).are y) ∙ e)).0)
         | false ↦ λ off. none_in_it (λ intid. is_lpi l.shape.lpi_bits intid ≡ true) r.pending (a.off_pending off)
       ] refl;
       config = elim b.on as (λ t. b.on ≡ t → length r.config ≡ lpi_count l.shape.lpi_bits) [
@@ -257,12 +278,14 @@ only_one : (t : Translator) (i : ℕ) (w : Translator) → slice_get (t ∷ []) 
 only_one t zero w e = cc
 only_one t (suc i) w e = absurd cc
 
-pub standing_sound : (memory : List Window) (values : RegValues) (layout : Layout) (bases : List Bases) (u : Plain) → IsLayout layout → AreBasesOf layout bases → are_windows (map extent memory) ≡ true → Stands memory values layout bases u → IsSound u
+pub standing_sound : (memory : List Window) (values : RegValues) (layout : Layout) (bases : List Bases) (u : Plain) → IsLayout layout → AreBasesOf layout bases
+    → are_windows (map extent memory) ≡ true → Stands memory values layout bases u → IsSound u
 standing_sound memory values layout bases u sound kept windows a = record {
   layout = subst IsLayout (sym a.layout_is) sound;
   translators = λ i t e.
       let same : a.translator ≡ t = only_one a.translator i t (ap (λ (ts : List Translator). slice_get ts i) (sym a.translator_is) ∙ e) in
-      subst (λ (l : Layout). IsTranslator l.shape t) (sym a.layout_is) (subst (IsTranslator layout.shape) same (translator_sound memory layout.shape values a.translator sound.shape a.stands));
+      subst (λ (l : Layout). IsTranslator l.shape t) (sym a.layout_is)
+      (subst (IsTranslator layout.shape) same (translator_sound memory layout.shape values a.translator sound.shape a.stands));
   vcpus = a.vcpus ∙ kept.as_many ∙ ap (λ (l : Layout). l.shape.vcpus) (sym a.layout_is);
   redistributors = λ v r e.
       let lt : v < length bases = subst (λ (n : ℕ). v < n) a.vcpus (in_list u.redistributors v r e) in

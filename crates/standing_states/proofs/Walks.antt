@@ -1,5 +1,6 @@
 -- A walk finds what the places that are reached have, or the first offence.
-use Rattle.std.proofs.Common.{◌≡◌, ◌⊎◌, ℕ, suc, zero, ◌+◌, ◌-◌, ◌<◌, ◌≤◌, List, [], ◌∷◌, ◌++◌, Option, Some, None, Result, Ok, Err, refl, sym, subst, ap, ◌∙◌, inl, inr, arith}
+use Rattle.std.proofs.Common.{◌≡◌, ◌⊎◌, ℕ, suc, zero, ◌+◌, ◌-◌, ◌<◌, ◌≤◌, List, [], ◌∷◌, ◌++◌, Option, Some, None, Result, Ok, Err, refl, sym, subst, ap, ◌∙◌}
+use Rattle.std.proofs.Common.{inl, inr, arith}
 use Rattle.its_plain.specs.Walks.{Path, Reached, Offends, IsFirstOffence}
 use Rattle.standing_states.specs.Walked.{with_front, go_on, found_then, walk, Among, HasAt, after_all, after}
 
@@ -42,15 +43,18 @@ pub after_all-append : {S X : Type 0} (put : S → X → S) (s : S) (xs ys : Lis
 after_all-append put s [] ys = refl
 after_all-append put s (x ∷ xs) ys = after_all-append put (put s x) xs ys
 
-after-front : {S X F : Type 0} (put : S → X → S) (s : S) (xs : List X) (r : Result (List X) F) → after put s (with_front xs r) ≡ after put (after_all put s xs) r
+after-front : {S X F : Type 0} (put : S → X → S) (s : S) (xs : List X) (r : Result (List X) F) → after put s (with_front xs r) ≡ after put
+    (after_all put s xs) r
 after-front put s xs (Ok ys) = ap Ok (after_all-append put s xs ys)
 after-front put s xs (Err f) = refl
 
-after-then : {S X F : Type 0} (put : S → X → S) (s t : S) (r rest : Result (List X) F) → after put s r ≡ Ok t → after put s (found_then r rest) ≡ after put t rest
+after-then : {S X F : Type 0} (put : S → X → S) (s t : S) (r rest : Result (List X) F) → after put s r ≡ Ok t
+    → after put s (found_then r rest) ≡ after put t rest
 after-then {S} put s t (Ok xs) rest e = let is : after_all put s xs ≡ t = cc in after-front put s xs rest ∙ ap (λ (u : S). after put u rest) is
 after-then put s t (Err f) rest e = absurd cc
 
-pub after-ok : {S X F : Type 0} (put : S → X → S) (s t : S) (r : Result (List X) F) → after put s r ≡ Ok t → (xs : List X) × (r ≡ Ok xs) × (t ≡ after_all put s xs)
+pub after-ok : {S X F : Type 0} (put : S → X → S) (s t : S) (r : Result (List X) F) → after put s r ≡ Ok t → (xs : List X) × (r ≡ Ok xs)
+    × (t ≡ after_all put s xs)
 after-ok put s t (Ok xs) e = (xs, refl, cc)
 after-ok put s t (Err f) e = absurd cc
 
@@ -60,18 +64,22 @@ after-err put s (Err g) f e = cc
 
 -- ---- a step of the code
 
-module _ {S P X F : Type 0} (put : S → X → S) (look : P → Result (List X) F) (next : P → Option P) (rank : P → ℕ) (n : ℕ) (Good : P → Type 0) (rises : Rises next rank n Good) where
-  onward : (s t : S) (p : P) (o : Option P) (whole : Result S F) → Good p → after put s (walk look next (n - rank p) p) ≡ whole → after put s (look p) ≡ Ok t → next p ≡ o → after put t (go_on (λ q. walk look next (n - rank q) q) o) ≡ whole
+module _ {S P X F : Type 0} (put : S → X → S) (look : P → Result (List X) F) (next : P → Option P) (rank : P → ℕ) (n : ℕ) (Good : P → Type 0)
+    (rises : Rises next rank n Good) where
+  onward : (s t : S) (p : P) (o : Option P) (whole : Result S F) → Good p → after put s (walk look next (n - rank p) p) ≡ whole → after put s (look p) ≡ Ok t
+      → next p ≡ o → after put t (go_on (λ q. walk look next (n - rank q) q) o) ≡ whole
   onward s t p o whole g so is to =
       sym (after-then put s t (look p) (go_on (λ q. walk look next (n - rank q) q) o) is)
       ∙ ap (λ (q : Option P). after put s (found_then (look p) (go_on (λ r. walk look next (n - rank r) r) q))) (sym to)
       ∙ ap (after put s) (sym (walk_step look next rank n Good rises p g))
       ∙ so
 
-  pub goes_on : (s t : S) (p q : P) (o : Option P) (whole : Result S F) → Good p → after put s (walk look next (n - rank p) p) ≡ whole → after put s (look p) ≡ Ok t → next p ≡ o → o ≡ Some q → after put t (walk look next (n - rank q) q) ≡ whole
+  pub goes_on : (s t : S) (p q : P) (o : Option P) (whole : Result S F) → Good p → after put s (walk look next (n - rank p) p) ≡ whole
+      → after put s (look p) ≡ Ok t → next p ≡ o → o ≡ Some q → after put t (walk look next (n - rank q) q) ≡ whole
   goes_on s t p q o whole g so is to leads = onward s t p (Some q) whole g so is (to ∙ leads)
 
-  pub ends_here : (s t : S) (p : P) (o : Option P) (whole : Result S F) → Good p → after put s (walk look next (n - rank p) p) ≡ whole → after put s (look p) ≡ Ok t → next p ≡ o → o ≡ None → whole ≡ Ok t
+  pub ends_here : (s t : S) (p : P) (o : Option P) (whole : Result S F) → Good p → after put s (walk look next (n - rank p) p) ≡ whole
+      → after put s (look p) ≡ Ok t → next p ≡ o → o ≡ None → whole ≡ Ok t
   ends_here s t p o whole g so is to ends = sym (onward s t p None whole g so is (to ∙ ends))
 
   pub goes_wrong : (s : S) (p : P) (f : F) (whole : Result S F) → Good p → after put s (walk look next (n - rank p) p) ≡ whole → look p ≡ Err f → whole ≡ Err f
@@ -93,9 +101,11 @@ module _ {P X F : Type 0} (look : P → Result (List X) F) (next : P → Option 
   front_ok xs (Ok ys) zs e = (ys, refl, cc)
   front_ok xs (Err g) zs e = absurd cc
 
-  module _ (Clear : P → Type 0) (Faults : P → F → Type 0) (clear : (p : P) (xs : List X) → look p ≡ Ok xs → Clear p) (faults : (p : P) (f : F) → look p ≡ Err f → Faults p f) where
+  module _ (Clear : P → Type 0) (Faults : P → F → Type 0) (clear : (p : P) (xs : List X) → look p ≡ Ok xs → Clear p) (faults : (p : P) (f : F) → look p ≡ Err f
+      → Faults p f) where
     -- where the place has xs, what it leads to has the offence
-    later : (p : P) (xs : List X) (m : ℕ) (f : F) → look p ≡ Ok xs → ((q : P) → walk look next m q ≡ Err f → IsFirstOffence Clear Faults next q f) → (o : Option P) → next p ≡ o → go_on (walk look next m) o ≡ Err f → IsFirstOffence Clear Faults next p f
+    later : (p : P) (xs : List X) (m : ℕ) (f : F) → look p ≡ Ok xs → ((q : P) → walk look next m q ≡ Err f → IsFirstOffence Clear Faults next q f)
+        → (o : Option P) → next p ≡ o → go_on (walk look next m) o ≡ Err f → IsFirstOffence Clear Faults next p f
     later p xs m f ok more None is e = absurd cc
     later p xs m f ok more (Some q) is e = let r = more q e in (q ∷ r.0, (clear p xs ok, is, r.1))
 
@@ -119,11 +129,13 @@ module _ {P F : Type 0} (Clear : P → Type 0) (Faults : P → F → Type 0) (ne
   same_next p q r a b = let two : Some q ≡ Some r = sym a ∙ b in cc
 
   -- there is one at most
-  pub first_once : ((p : P) (f g : F) → Faults p f → Faults p g → f ≡ g) → (p : P) (rs qs : List P) (f g : F) → Offends Clear Faults next p rs f → Offends Clear Faults next p qs g → f ≡ g
+  pub first_once : ((p : P) (f g : F) → Faults p f → Faults p g → f ≡ g) → (p : P) (rs qs : List P) (f g : F) → Offends Clear Faults next p rs f
+      → Offends Clear Faults next p qs g → f ≡ g
   first_once one p [] [] f g a b = one p f g a b
   first_once one p [] (q ∷ qs) f g a b = absurd (apart p f b.0 a)
   first_once one p (r ∷ rs) [] f g a b = absurd (apart p g a.0 b)
-  first_once one p (r ∷ rs) (q ∷ qs) f g a b = first_once one q rs qs f g (subst (λ (x : P). Offends Clear Faults next x rs f) (same_next p r q a.1 b.1) a.2) b.2
+  first_once one p (r ∷ rs) (q ∷ qs) f g a b = first_once one q rs qs f g (subst (λ (x : P). Offends Clear Faults next x rs f) (same_next p r q a.1 b.1) a.2)
+      b.2
 
 -- ---- what is found
 
@@ -170,7 +182,8 @@ module _ {P X F : Type 0} (look : P → Result (List X) F) (next : P → Option 
       ]
 
 module _ {P X F : Type 0} (look : P → Result (List X) F) (next : P → Option P) (rank : P → ℕ) (n : ℕ) (Good : P → Type 0) (rises : Rises next rank n Good) where
-  pub walk_clear : (m : ℕ) (p : P) (es : List X) → walk look next m p ≡ Ok es → Good p → n ≤ m + rank p → (rs : List P) (q : P) → Path next p rs q → (xs : List X) × (look q ≡ Ok xs)
+  pub walk_clear : (m : ℕ) (p : P) (es : List X) → walk look next m p ≡ Ok es → Good p → n ≤ m + rank p → (rs : List P) (q : P) → Path next p rs q
+      → (xs : List X) × (look q ≡ Ok xs)
   walk_clear zero p es e g a rs q path = let lt = rises.below p g in absurd (omega arith)
   walk_clear (suc m) p es e g a [] q path =
       let w = parts look next (look p) (go_on (walk look next m) (next p)) es e in
@@ -180,7 +193,8 @@ module _ {P X F : Type 0} (look : P → Result (List X) F) (next : P → Option 
       let up = rises.up p r g path.0 in
       walk_clear m r w.ys (went look next m p r w.ys path.0 w.rest) (rises.good p r g path.0) (omega arith) rs q path.1
 
-  pub walk_has : (m : ℕ) (p : P) (es : List X) → walk look next m p ≡ Ok es → Good p → n ≤ m + rank p → (rs : List P) (q : P) (x : X) → Path next p rs q → HasAt look q x → Among x es
+  pub walk_has : (m : ℕ) (p : P) (es : List X) → walk look next m p ≡ Ok es → Good p → n ≤ m + rank p → (rs : List P) (q : P) (x : X) → Path next p rs q
+      → HasAt look q x → Among x es
   walk_has zero p es e g a rs q x path has = let lt = rises.below p g in absurd (omega arith)
   walk_has (suc m) p es e g a [] q x path has =
       let w = parts look next (look p) (go_on (walk look next m) (next p)) es e in
@@ -190,7 +204,8 @@ module _ {P X F : Type 0} (look : P → Result (List X) F) (next : P → Option 
   walk_has (suc m) p es e g a (r ∷ rs) q x path has =
       let w = parts look next (look p) (go_on (walk look next m) (next p)) es e in
       let up = rises.up p r g path.0 in
-      subst (Among x) (sym w.both) (among_right x w.xs w.ys (walk_has m r w.ys (went look next m p r w.ys path.0 w.rest) (rises.good p r g path.0) (omega arith) rs q x path.1 has))
+      subst (Among x) (sym w.both) (among_right x w.xs w.ys (walk_has m r w.ys (went look next m p r w.ys path.0 w.rest) (rises.good p r g path.0)
+      (omega arith) rs q x path.1 has))
 
 module _ {P : Type 0} (next : P → Option P) (rank : P → ℕ) (n : ℕ) (Good : P → Type 0) (rises : Rises next rank n Good) where
   -- no place that is reached stands below
@@ -201,8 +216,10 @@ module _ {P : Type 0} (next : P → Option P) (rank : P → ℕ) (n : ℕ) (Good
   -- two places of one rank are one
   pub reached_once : (p : P) (rs qs : List P) (q r : P) → Good p → Path next p rs q → Path next p qs r → rank q ≡ rank r → q ≡ r
   reached_once p [] [] q r g a b same = sym a ∙ b
-  reached_once p [] (t ∷ qs) q r g a b same = absurd (let up = above t qs r (rises.good p t g b.0) b.1 in let step = rises.up p t g b.0 in let is : rank p ≡ rank q = ap rank a in omega arith)
-  reached_once p (t ∷ rs) [] q r g a b same = absurd (let up = above t rs q (rises.good p t g a.0) a.1 in let step = rises.up p t g a.0 in let is : rank p ≡ rank r = ap rank b in omega arith)
+  reached_once p [] (t ∷ qs) q r g a b same = absurd (let up = above t qs r (rises.good p t g b.0) b.1 in let step = rises.up p t g b.0 in let is : rank p
+      ≡ rank q = ap rank a in omega arith)
+  reached_once p (t ∷ rs) [] q r g a b same = absurd (let up = above t rs q (rises.good p t g a.0) a.1 in let step = rises.up p t g a.0 in let is : rank p
+      ≡ rank r = ap rank b in omega arith)
   reached_once p (t ∷ rs) (u ∷ qs) q r g a b same =
       let is : t ≡ u = (let two : Some t ≡ Some u = sym a.0 ∙ b.0 in cc) in
       reached_once t rs qs q r (rises.good p t g a.0) a.1 (subst (λ (x : P). Path next x qs r) (sym is) b.1) same

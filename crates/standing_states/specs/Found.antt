@@ -13,7 +13,8 @@ use Rattle.its_types.specs.declared.translation.Event.{Event}
 use Rattle.its_plain.specs.Walks.{ensure, ◌>>=◌}
 use Rattle.its_plain.specs.EventTables.{Itt, itt_of, event_check, event_in, next_event}
 use Rattle.its_plain.specs.CollectionTables.{collection_check, collection_entry, next_collection, stands_before}
-use Rattle.its_plain.specs.DeviceTables.{DevicePlace, at_level1, at_entry, first_device, flat_size, page_places, id_of, index_of, device_address, device_entry, device_of_fields, ends_well, next_device}
+use Rattle.its_plain.specs.DeviceTables.{DevicePlace, at_level1, at_entry, first_device, flat_size, page_places, id_of, index_of, device_address, device_entry}
+use Rattle.its_plain.specs.DeviceTables.{device_of_fields, ends_well, next_device}
 use Rattle.its_plain.specs.declared.fault.Table.TheVariants.{Devices}
 use Rattle.its_plain.specs.declared.fault.RestoreFault.{RestoreFault}
 use Rattle.its_plain.specs.declared.fault.RestoreFault.TheVariants.{OutsideTable, BadSize, PastEnd}
@@ -85,7 +86,8 @@ look_device memory lpi_bits r p = do
 abbrev pub IsPlace : Registers → DevicePlace → Type 0
 IsPlace r (at_level1 k) = (is_indirect r.baser0 ≡ true) × (k < level1_entries r.dev_bits) × (k < 128)
 IsPlace r (at_entry k page index) =
-    (page < 2 ^ 52) × (index < page_places r) × (is_indirect r.baser0 ≡ true → k < level1_entries r.dev_bits) × (is_indirect r.baser0 ≡ false → k ≡ 0) × (k < 128) × (index < 1048576)
+    (page < 2 ^ 52) × (index < page_places r) × (is_indirect r.baser0 ≡ true → k < level1_entries r.dev_bits) × (is_indirect r.baser0 ≡ false → k ≡ 0)
+    × (k < 128) × (index < 1048576)
 
 -- how far a place is
 abbrev pub rank : DevicePlace → ℕ

@@ -1,5 +1,6 @@
 -- The LPIs of a pending table, byte by byte.
-use Rattle.std.proofs.Common.{◌≡◌, ℕ, Result, Ok, Err, ◌+◌, ◌-◌, ◌*◌, ◌/◌, ◌%◌, ◌^◌, ◌<◌, ◌≤◌, Bool, true, false, not, cond, eqb, nat_lt, nat_le, List, [], ◌∷◌, Option, Some, None, is_some, refl, sym, ap, ◌∙◌, inl, inr, arith}
+use Rattle.std.proofs.Common.{◌≡◌, ℕ, Result, Ok, Err, ◌+◌, ◌-◌, ◌*◌, ◌/◌, ◌%◌, ◌^◌, ◌<◌, ◌≤◌, Bool, true, false, not, cond, eqb, nat_lt, nat_le, List, []}
+use Rattle.std.proofs.Common.{◌∷◌, Option, Some, None, is_some, refl, sym, ap, ◌∙◌, inl, inr, arith}
 use Rattle.std.specs.Prelude.{◌||◌, ◌&&◌, filter, unwrap_or, slice_index}
 use Rattle.std.specs.Option.{option_map, ok_or}
 use Rattle.std.proofs.lemmas.Bool.{eqb-true, eq-eqb, ne_eqb, cases_eq, cases_lt, lt-ltb, le-ltb}
@@ -41,7 +42,8 @@ is_pending-with_lpi y x (z ∷ zs) =
 is_pending-with_lpis : (y : ℕ) (xs zs : List ℕ) → is_pending y (with_lpis xs zs) ≡ (is_pending y xs || is_pending y zs)
 is_pending-with_lpis y [] zs = refl
 is_pending-with_lpis y (x ∷ xs) zs =
-    is_pending-with_lpi y x (with_lpis xs zs) ∙ ap (λ b. eqb x y || b) (is_pending-with_lpis y xs zs) ∙ sym (or_assoc (eqb x y) (is_pending y xs) (is_pending y zs))
+    is_pending-with_lpi y x (with_lpis xs zs) ∙ ap (λ b. eqb x y || b) (is_pending-with_lpis y xs zs)
+    ∙ sym (or_assoc (eqb x y) (is_pending y xs) (is_pending y zs))
 
 is_pending-filter : (p : ℕ → Bool) (y : ℕ) (xs : List ℕ) → is_pending y (filter p xs) ≡ (is_pending y xs && p y)
 is_pending-filter p y [] = refl
@@ -49,12 +51,15 @@ is_pending-filter p y (x ∷ xs) =
     elim (cases_eq x y) [
       | inl same ↦
           elim (p x) as (λ b. p x ≡ b → is_pending y (cond b (x ∷ filter p xs) (filter p xs)) ≡ ((eqb x y || is_pending y xs) && p y)) [
-            | true ↦ λ e. ap (λ t. t || is_pending y (filter p xs)) (eq-eqb x y same) ∙ sym (ap (λ t. (t || is_pending y xs) && p y) (eq-eqb x y same) ∙ ap p (sym same) ∙ e)
-            | false ↦ λ e. is_pending-filter p y xs ∙ ap (λ t. is_pending y xs && t) (ap p (sym same) ∙ e) ∙ and_false (is_pending y xs) ∙ sym (and_false (eqb x y || is_pending y xs)) ∙ ap (λ t. (eqb x y || is_pending y xs) && t) (sym (ap p (sym same) ∙ e))
+            | true ↦ λ e. ap (λ t. t || is_pending y (filter p xs)) (eq-eqb x y same) ∙ sym (ap (λ t. (t || is_pending y xs) && p y) (eq-eqb x y same)
+                ∙ ap p (sym same) ∙ e)
+            | false ↦ λ e. is_pending-filter p y xs ∙ ap (λ t. is_pending y xs && t) (ap p (sym same) ∙ e) ∙ and_false (is_pending y xs)
+                ∙ sym (and_false (eqb x y || is_pending y xs)) ∙ ap (λ t. (eqb x y || is_pending y xs) && t) (sym (ap p (sym same) ∙ e))
           ] refl
       | inr apart ↦
           elim (p x) as (λ b. is_pending y (cond b (x ∷ filter p xs) (filter p xs)) ≡ ((eqb x y || is_pending y xs) && p y)) [
-            | true ↦ ap (λ t. t || is_pending y (filter p xs)) (ne_eqb x y apart) ∙ is_pending-filter p y xs ∙ sym (ap (λ t. (t || is_pending y xs) && p y) (ne_eqb x y apart))
+            | true ↦ ap (λ t. t || is_pending y (filter p xs)) (ne_eqb x y apart) ∙ is_pending-filter p y xs
+                ∙ sym (ap (λ t. (t || is_pending y xs) && p y) (ne_eqb x y apart))
             | false ↦ is_pending-filter p y xs ∙ sym (ap (λ t. (t || is_pending y xs) && p y) (ne_eqb x y apart))
           ]
     ]
@@ -63,8 +68,10 @@ is_pending-filter p y (x ∷ xs) =
     and_false true = refl
     and_false false = refl
 
-is_pending-with_byte : (y n byte : ℕ) (p : List ℕ) → is_pending y (with_byte n byte p) ≡ (is_pending y (lpis_of_byte n byte) || (is_pending y p && not (eqb (y / 8) n)))
-is_pending-with_byte y n byte p = is_pending-with_lpis y (lpis_of_byte n byte) (filter (λ x. not (eqb (x / 8) n)) p) ∙ ap (λ b. is_pending y (lpis_of_byte n byte) || b) (is_pending-filter (λ x. not (eqb (x / 8) n)) y p)
+is_pending-with_byte : (y n byte : ℕ) (p : List ℕ)
+    → is_pending y (with_byte n byte p) ≡ (is_pending y (lpis_of_byte n byte) || (is_pending y p && not (eqb (y / 8) n)))
+is_pending-with_byte y n byte p = is_pending-with_lpis y (lpis_of_byte n byte) (filter (λ x. not (eqb (x / 8) n)) p)
+    ∙ ap (λ b. is_pending y (lpis_of_byte n byte) || b) (is_pending-filter (λ x. not (eqb (x / 8) n)) y p)
 
 -- ---- one byte more
 
@@ -98,7 +105,8 @@ none_below memory base y =
     off true = refl
     off false = refl
 
-pub one_byte : (memory : List Window) (base n byte : ℕ) (pending : List ℕ) → 1024 ≤ n → byte_at memory (base + n) ≡ Some byte → AreThoseBelow memory base n pending → AreThoseBelow memory base (n + 1) (with_byte n byte pending)
+pub one_byte : (memory : List Window) (base n byte : ℕ) (pending : List ℕ) → 1024 ≤ n → byte_at memory (base + n) ≡ Some byte
+    → AreThoseBelow memory base n pending → AreThoseBelow memory base (n + 1) (with_byte n byte pending)
 one_byte memory base n byte pending least read before y =
     is_pending-with_byte y n byte pending ∙ (elim (cases_eq (y / 8) n) [
       | inl here ↦
@@ -106,7 +114,8 @@ one_byte memory base n byte pending least read before y =
           ∙ or_none (is_pending y (lpis_of_byte n byte)) (is_pending y pending)
           ∙ is_pending-byte_in n byte y here
           ∙ ap (λ o. bit_of (unwrap_or o 0) (y % 8)) (sym (ap (λ k. byte_at memory (base + k)) here ∙ read))
-          ∙ sym (ap (λ t. (t && nat_lt y (8 * (n + 1))) && is_set memory base y) (le_test 8192 y (omega arith)) ∙ ap (λ t. t && is_set memory base y) (lt-ltb y (8 * (n + 1)) (omega arith)))
+          ∙ sym (ap (λ t. (t && nat_lt y (8 * (n + 1))) && is_set memory base y) (le_test 8192 y (omega arith)) ∙ ap (λ t. t && is_set memory base y)
+          (lt-ltb y (8 * (n + 1)) (omega arith)))
       | inr other ↦
           ap (λ t. is_pending y (lpis_of_byte n byte) || (is_pending y pending && not t)) (ne_eqb (y / 8) n other)
           ∙ ap (λ t. t || (is_pending y pending && true)) (is_pending-byte_out n byte y other)
@@ -122,7 +131,8 @@ one_byte memory base n byte pending least read before y =
     ]
 
 -- the bits of all bytes
-pub all_bytes : (memory : List Window) (base bits n : ℕ) (pending : List ℕ) → 14 ≤ bits → n ≡ pending_bytes bits → AreThoseBelow memory base n pending → (y : ℕ) → is_pending y pending ≡ is_lpi bits y && is_set memory base y
+pub all_bytes : (memory : List Window) (base bits n : ℕ) (pending : List ℕ) → 14 ≤ bits → n ≡ pending_bytes bits → AreThoseBelow memory base n pending → (y : ℕ)
+    → is_pending y pending ≡ is_lpi bits y && is_set memory base y
 all_bytes memory base bits n pending least is all y =
     all y ∙ ap (λ k. (nat_le 8192 y && nat_lt y k) && is_set memory base y) (ap (λ k. 8 * k) is ∙ whole)
   where

@@ -1,5 +1,6 @@
 -- The redistributors, one after another.
-use Rattle.std.proofs.Common.{◌≡◌, ℕ, zero, suc, ◌+◌, ◌<◌, ◌≤◌, Bool, true, false, not, List, [], ◌∷◌, length, map, get_or, Option, Some, None, refl, sym, subst, ap, ◌∙◌, inl, inr, arith}
+use Rattle.std.proofs.Common.{◌≡◌, ℕ, zero, suc, ◌+◌, ◌<◌, ◌≤◌, Bool, true, false, not, List, [], ◌∷◌, length, map, get_or, Option, Some, None, refl, sym}
+use Rattle.std.proofs.Common.{subst, ap, ◌∙◌, inl, inr, arith}
 use Rattle.std.specs.Prelude.{◌&&◌, slice_get, slice_set}
 use Rattle.std.proofs.lemmas.Bool.{cases_eq}
 use Rattle.std.proofs.lemmas.List.{get_or-set_same, get_or-set_other}
@@ -19,7 +20,8 @@ pub record AreRestoredBelow (s : Shape) (memory : List Window) (bases : List Bas
   pub each : (vcpu : ℕ) (b : Bases) → vcpu < n → slice_get bases vcpu ≡ Some b → (r : Redist) × (in_hand redists vcpu ≡ Some r) × IsRestoredRedist s memory b r
   pub rest : (vcpu : ℕ) → n ≤ vcpu → in_hand redists vcpu ≡ None
 
-module _ (s : Shape) (memory : List Window) (bases : List Bases) (redists now : List (Option Redist)) (n : ℕ) (b : Bases) (r : Redist) (at : slice_get bases n ≡ Some b) (got : now ≡ slice_set redists n (Some r)) where
+module _ (s : Shape) (memory : List Window) (bases : List Bases) (redists now : List (Option Redist)) (n : ℕ) (b : Bases) (r : Redist)
+    (at : slice_get bases n ≡ Some b) (got : now ≡ slice_set redists n (Some r)) where
   same_base : (c : Bases) → slice_get bases n ≡ Some c → b ≡ c
   same_base c e = let two : Some b ≡ Some c = sym at ∙ e in cc
 
@@ -29,7 +31,8 @@ module _ (s : Shape) (memory : List Window) (bases : List Bases) (redists now : 
   others : (v : ℕ) → (v ≡ n → ⊥) → in_hand now v ≡ in_hand redists v
   others v apart = ap (λ (xs : List (Option Redist)). in_hand xs v) got ∙ get_or-set_other redists n v (Some r) None apart
 
-  pub one_more : n < 16 → lacks_tables s memory b ≡ false → IsRestoredRedist s memory b r → length now ≡ 16 → AreRestoredBelow s memory bases redists n → AreRestoredBelow s memory bases now (n + 1)
+  pub one_more : n < 16 → lacks_tables s memory b ≡ false → IsRestoredRedist s memory b r → length now ≡ 16 → AreRestoredBelow s memory bases redists n
+      → AreRestoredBelow s memory bases now (n + 1)
   one_more small has is size before = record {
     places = size;
     clear = λ v c lt e. elim (cases_eq v n) [
@@ -37,8 +40,12 @@ module _ (s : Shape) (memory : List Window) (bases : List Bases) (redists now : 
       | inr apart ↦ before.clear v c (omega (arith, apart)) e
     ];
     each = λ v c lt e. elim (cases_eq v n) [
-      | inl same ↦
-          (r, ap (in_hand now) same ∙ here (let full = before.places in omega arith), subst (λ (d : Bases). IsRestoredRedist s memory d r) (same_base c (ap (slice_get bases) (sym same) ∙ e)) is)
+      | inl same ↦ (
+        r,
+        ap (in_hand now) same ∙ here (let full = before.places in omega arith),
+        subst (λ (d : Bases). IsRestoredRedist s memory d r)
+            (same_base c (ap (slice_get bases) (sym same) ∙ e)) is,
+      )
       | inr apart ↦ let w = before.each v c (omega (arith, apart)) e in (w.0, others v apart ∙ w.1, w.2)
     ];
     rest = λ v le. others v (λ same. absurd (omega arith)) ∙ before.rest v (omega arith);
@@ -49,7 +56,8 @@ in_list [] i x e = absurd cc
 in_list (y ∷ ys) zero x e = omega arith
 in_list (y ∷ ys) (suc i) x e = let lt = in_list ys i x e in omega arith
 
-pub all_restored : (s : Shape) (memory : List Window) (bases : List Bases) (redists : List (Option Redist)) (n : ℕ) → length bases ≡ n → AreRestoredBelow s memory bases redists n → AreRestoredRedists s memory bases redists
+pub all_restored : (s : Shape) (memory : List Window) (bases : List Bases) (redists : List (Option Redist)) (n : ℕ) → length bases ≡ n
+    → AreRestoredBelow s memory bases redists n → AreRestoredRedists s memory bases redists
 all_restored s memory bases redists n all below = record {
   clear = λ v b e. below.clear v b (let lt = in_list bases v b e in omega arith) e;
   places = below.places;
@@ -59,7 +67,8 @@ all_restored s memory bases redists n all below = record {
 
 -- ---- a redistributor whose LPIs are off
 
-pub off_restored : (s : Shape) (memory : List Window) (vcpu : ℕ) (b : Bases) (r : Redist) → b.on ≡ false → IsOffRedist s b r → IsRestoredRedist s memory b r × (lacks_tables s memory b ≡ false)
+pub off_restored : (s : Shape) (memory : List Window) (vcpu : ℕ) (b : Bases) (r : Redist) → b.on ≡ false → IsOffRedist s b r → IsRestoredRedist s memory b r
+    × (lacks_tables s memory b ≡ false)
 off_restored s memory vcpu b r off h = (
   record {
     lpis = h.lpis;

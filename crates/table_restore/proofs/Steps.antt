@@ -18,7 +18,8 @@ use Rattle.its_plain.specs.CollectionTables.{collection_entry, collection_leads,
 use Rattle.its_plain.specs.DeviceTables.{DevicePlace, at_level1, at_entry, following, word_leads, next_device}
 use Rattle.its_plain.specs.declared.fault.RestoreFault.{RestoreFault}
 use Rattle.standing_states.specs.Walked.{after_all, after}
-use Rattle.standing_states.specs.Found.{one_event, look_event, one_collection, look_collection, put_collection, IsPlace, rank, reach, look_device, devices_from, put_found}
+use Rattle.standing_states.specs.Found.{one_event, look_event, one_collection, look_collection, put_collection, IsPlace, rank, reach, look_device}
+use Rattle.standing_states.specs.Found.{devices_from, put_found}
 use Rattle.standing_states.proofs.Walks.{goes_on, ends_here, goes_wrong, after-err}
 use Rattle.standing_states.proofs.EventsWalked.{then_ok, then_err}
 use Rattle.standing_states.proofs.CollectionsWalked.{next_is}
@@ -30,31 +31,38 @@ use Rattle.table_restore.specs.declared.place.DevicePlace as code
 
 -- ---- events
 
-pub event_put : (memory : List Window) (n : ℕ) (t : Itt) (i : ℕ) (o : Option Event) (put : Maps → ℕ × Event → Maps) (s u : Maps) → event_check memory n t i ≡ Ok tt → event_in memory t i ≡ o → u ≡ after_all put s (one_event i o)
+pub event_put : (memory : List Window) (n : ℕ) (t : Itt) (i : ℕ) (o : Option Event) (put : Maps → ℕ × Event → Maps) (s u : Maps)
+    → event_check memory n t i ≡ Ok tt → event_in memory t i ≡ o → u ≡ after_all put s (one_event i o)
     → after put s (look_event memory n t i) ≡ Ok u
 event_put memory n t i o put s u ok is got =
-    ap (after put s) (then_ok (event_check memory n t i) (one_event i (event_in memory t i)) ok) ∙ ap (λ (e : Option Event). Ok (after_all put s (one_event i e))) is ∙ ap Ok (sym got)
+    ap (after put s) (then_ok (event_check memory n t i) (one_event i (event_in memory t i)) ok)
+    ∙ ap (λ (e : Option Event). Ok (after_all put s (one_event i e))) is ∙ ap Ok (sym got)
 
 pub event_wrong : (memory : List Window) (n : ℕ) (t : Itt) (i : ℕ) (f : RestoreFault) → event_check memory n t i ≡ Err f → look_event memory n t i ≡ Err f
 event_wrong memory n t i f e = then_err (event_check memory n t i) (one_event i (event_in memory t i)) f e
 
 -- ---- collections
 
-pub collection_wrong : (memory : List Window) (n : ℕ) (r : Registers) (i : ℕ) (f : RestoreFault) → collection_check memory n r i ≡ Err f → look_collection memory n r i ≡ Err f
+pub collection_wrong : (memory : List Window) (n : ℕ) (r : Registers) (i : ℕ) (f : RestoreFault) → collection_check memory n r i ≡ Err f
+    → look_collection memory n r i ≡ Err f
 collection_wrong memory n r i f e = then_err (collection_check memory n r i) (one_collection (collection_entry memory r i)) f e
 
-module _ (memory : List Window) (n : ℕ) (r : Registers) (i : ℕ) (seen : Option (Icid × Vcpu)) (ok : collection_check memory n r i ≡ Ok tt) (at : collection_entry memory r i ≡ option_map fields_of seen) where
+module _ (memory : List Window) (n : ℕ) (r : Registers) (i : ℕ) (seen : Option (Icid × Vcpu)) (ok : collection_check memory n r i ≡ Ok tt)
+    (at : collection_entry memory r i ≡ option_map fields_of seen) where
   looked : look_collection memory n r i ≡ Ok (one_collection (option_map fields_of seen))
   looked = then_ok (collection_check memory n r i) (one_collection (collection_entry memory r i)) ok ∙ ap (λ o. Ok (one_collection o)) at
 
   pub took_none : (s : Maps) → seen ≡ None → after put_collection s (look_collection memory n r i) ≡ Ok s
-  took_none s none = ap (after put_collection s) looked ∙ ap (λ (o : Option (Icid × Vcpu)). Ok (after_all put_collection s (one_collection (option_map fields_of o)))) none
+  took_none s none = ap (after put_collection s) looked
+      ∙ ap (λ (o : Option (Icid × Vcpu)). Ok (after_all put_collection s (one_collection (option_map fields_of o)))) none
 
   pub leads_none : seen ≡ None → next_collection memory r i ≡ None
   leads_none none = next_is memory r i ∙ ap (collection_leads r i) at ∙ ap (λ (o : Option (Icid × Vcpu)). collection_leads r i (option_map fields_of o)) none
 
-  pub took_one : (s u : Maps) (c : Icid × Vcpu) → seen ≡ Some c → u ≡ put_collection s (c.0.0, c.1) → after put_collection s (look_collection memory n r i) ≡ Ok u
-  took_one s u c some got = ap (after put_collection s) looked ∙ ap (λ (o : Option (Icid × Vcpu)). Ok (after_all put_collection s (one_collection (option_map fields_of o)))) some ∙ ap Ok (sym got)
+  pub took_one : (s u : Maps) (c : Icid × Vcpu) → seen ≡ Some c → u ≡ put_collection s (c.0.0, c.1) → after put_collection s (look_collection memory n r i)
+      ≡ Ok u
+  took_one s u c some got = ap (after put_collection s) looked
+      ∙ ap (λ (o : Option (Icid × Vcpu)). Ok (after_all put_collection s (one_collection (option_map fields_of o)))) some ∙ ap Ok (sym got)
 
   pub leads_one : (c : Icid × Vcpu) → seen ≡ Some c → next_collection memory r i ≡ within (collection_places r) (i + 1)
   leads_one c some = next_is memory r i ∙ ap (collection_leads r i) at ∙ ap (λ (o : Option (Icid × Vcpu)). collection_leads r i (option_map fields_of o)) some
@@ -80,8 +88,16 @@ level1_read memory r k =
       | Some word ↦ λ e.
           let leads_to = ap (option_and_then (word_leads r (at_level1 k))) e in
           elim (bit_of word 63) as (λ b. bit_of word 63 ≡ b → LeadsAs memory r k (cond b (level1.Page (record { 0 = page_address word })) level1.Empty)) [
-            | true ↦ λ is. (some_is (number_at memory (level1_address r k)) word e, leads_to ∙ ap (λ b. cond b (Some (at_entry k (page_address word) 0)) (following r k)) is)
-            | false ↦ λ is. (some_is (number_at memory (level1_address r k)) word e, leads_to ∙ ap (λ b. cond b (Some (at_entry k (page_address word) 0)) (following r k)) is)
+            | true ↦ λ is. (
+              some_is (number_at memory (level1_address r k)) word e,
+              leads_to
+                  ∙ ap (λ b. cond b (Some (at_entry k (page_address word) 0)) (following r k)) is,
+            )
+            | false ↦ λ is. (
+              some_is (number_at memory (level1_address r k)) word e,
+              leads_to
+                  ∙ ap (λ b. cond b (Some (at_entry k (page_address word) 0)) (following r k)) is,
+            )
           ] refl
     ] refl
 
@@ -91,22 +107,30 @@ level1_is memory r k e f a b = subst (LeadsAs memory r k) (sym a ∙ b) (level1_
 -- ---- devices
 
 module _ (memory : List Window) (n : ℕ) (r : Registers) (s : IsSmall r) where
-  pub device_wrong : (old seen now new : Maps) (p q : DevicePlace) (error : RestoreError) → IsPlace r p → after put_found now (devices_from memory n r p) ≡ after put_found old (devices_from memory n r q) → LookedDevice memory n r p now seen (Err error)
+  pub device_wrong : (old seen now new : Maps) (p q : DevicePlace) (error : RestoreError) → IsPlace r p → after put_found now (devices_from memory n r p)
+      ≡ after put_found old (devices_from memory n r q) → LookedDevice memory n r p now seen (Err error)
       → Took put_found old new (Err error) (devices_from memory n r q)
   device_wrong old seen now new p q (errors.Fault f) g so is =
       after-err put_found old (devices_from memory n r q) f
-      (goes_wrong put_found (look_device memory n r) (next_device memory r) rank (reach r) (IsPlace r) (devices_rise memory r s) now p f (after put_found old (devices_from memory n r q)) g so is)
+      (goes_wrong put_found (look_device memory n r) (next_device memory r) rank (reach r) (IsPlace r) (devices_rise memory r s) now p f
+      (after put_found old (devices_from memory n r q)) g so is)
   device_wrong old seen now new p q errors.NoMemory g so is = tt
 
-  pub device_ends : (old now new : Maps) (p q : DevicePlace) (o : Option code.DevicePlace) → IsPlace r p → after put_found now (devices_from memory n r p) ≡ after put_found old (devices_from memory n r q) → LookedDevice memory n r p now new (Ok o) → o ≡ None
+  pub device_ends : (old now new : Maps) (p q : DevicePlace) (o : Option code.DevicePlace) → IsPlace r p → after put_found now (devices_from memory n r p)
+      ≡ after put_found old (devices_from memory n r q) → LookedDevice memory n r p now new (Ok o) → o ≡ None
       → after put_found old (devices_from memory n r q) ≡ Ok new
   device_ends old now new p q o g so is none =
-      ends_here put_found (look_device memory n r) (next_device memory r) rank (reach r) (IsPlace r) (devices_rise memory r s) now new p (next_device memory r p) (after put_found old (devices_from memory n r q)) g so is.0 refl (is.1 ∙ ap (option_map place_of) none)
+      ends_here put_found (look_device memory n r) (next_device memory r) rank (reach r) (IsPlace r) (devices_rise memory r s) now new p
+      (next_device memory r p) (after put_found old (devices_from memory n r q)) g so is.0 refl (is.1 ∙ ap (option_map place_of) none)
 
-  pub device_leads_to : (now new : Maps) (p : DevicePlace) (o : Option code.DevicePlace) (to : code.DevicePlace) → LookedDevice memory n r p now new (Ok o) → o ≡ Some to → next_device memory r p ≡ Some (place_of to)
+  pub device_leads_to : (now new : Maps) (p : DevicePlace) (o : Option code.DevicePlace) (to : code.DevicePlace) → LookedDevice memory n r p now new (Ok o)
+      → o ≡ Some to → next_device memory r p ≡ Some (place_of to)
   device_leads_to now new p o to is leads_on = is.1 ∙ ap (option_map place_of) leads_on
 
-  pub device_on : (old now new : Maps) (p q : DevicePlace) (o : Option code.DevicePlace) (to : code.DevicePlace) → IsPlace r p → after put_found now (devices_from memory n r p) ≡ after put_found old (devices_from memory n r q) → LookedDevice memory n r p now new (Ok o) → o ≡ Some to
+  pub device_on : (old now new : Maps) (p q : DevicePlace) (o : Option code.DevicePlace) (to : code.DevicePlace) → IsPlace r p
+      → after put_found now (devices_from memory n r p) ≡ after put_found old (devices_from memory n r q) → LookedDevice memory n r p now new (Ok o)
+      → o ≡ Some to
       → after put_found new (devices_from memory n r (place_of to)) ≡ after put_found old (devices_from memory n r q)
   device_on old now new p q o to g so is leads_on =
-      goes_on put_found (look_device memory n r) (next_device memory r) rank (reach r) (IsPlace r) (devices_rise memory r s) now new p (place_of to) (next_device memory r p) (after put_found old (devices_from memory n r q)) g so is.0 refl (device_leads_to now new p o to is leads_on)
+      goes_on put_found (look_device memory n r) (next_device memory r) rank (reach r) (IsPlace r) (devices_rise memory r s) now new p (place_of to)
+      (next_device memory r p) (after put_found old (devices_from memory n r q)) g so is.0 refl (device_leads_to now new p o to is leads_on)

@@ -1,5 +1,6 @@
 -- What a restore answers: the state that memory and register values stand for, or their first offence.
-use Rattle.std.proofs.Common.{◌≡◌, ℕ, zero, suc, ◌<◌, ◌≤◌, List, [], ◌∷◌, length, map, take, get_or, Option, Some, None, Result, Ok, Err, refl, sym, subst, ap, ◌∙◌, inl, inr, arith}
+use Rattle.std.proofs.Common.{◌≡◌, ℕ, zero, suc, ◌<◌, ◌≤◌, List, [], ◌∷◌, length, map, take, get_or, Option, Some, None, Result, Ok, Err, refl, sym, subst, ap}
+use Rattle.std.proofs.Common.{◌∙◌, inl, inr, arith}
 use Rattle.std.specs.Prelude.{slice_get}
 use Rattle.std.specs.Result.{IsOk, IsErrAnd}
 use Rattle.guest_windows.specs.Windows.{Window}
@@ -31,7 +32,8 @@ is_ok r x e = subst IsOk (sym e) refl
 
 -- ---- redistributors
 
-taken : (redists : List (Option Redist)) (n v : ℕ) (x : Redist) → v < n → in_hand redists v ≡ Some x → slice_get (map redistributor_or (take n redists)) v ≡ Some (redistributor_of x)
+taken : (redists : List (Option Redist)) (n v : ℕ) (x : Redist) → v < n → in_hand redists v ≡ Some x → slice_get (map redistributor_or (take n redists)) v
+    ≡ Some (redistributor_of x)
 taken [] n v x lt e = absurd cc
 taken (o ∷ os) zero v x lt e = absurd (omega arith)
 taken (o ∷ os) (suc n) zero x lt e = ap (λ p. Some (redistributor_or p)) e
@@ -54,8 +56,10 @@ there_is (x ∷ xs) (suc i) lt = there_is xs i (omega arith)
 
 -- ---- the whole
 
-module _ (l : Layout) (memory : List Window) (values : RegValues) (bases : List Bases) (shape : IsShape l.shape) (as_many : length bases ≡ l.shape.vcpus) (redists : List (Option Redist)) (all : AreRestoredRedists l.shape memory bases redists) where
-  each_stands : (v : ℕ) (b : Bases) (r : Redistributor) → slice_get bases v ≡ Some b → slice_get (map redistributor_or (take l.shape.vcpus redists)) v ≡ Some r → IsRedistributorIn l.shape memory b r
+module _ (l : Layout) (memory : List Window) (values : RegValues) (bases : List Bases) (shape : IsShape l.shape) (as_many : length bases ≡ l.shape.vcpus)
+    (redists : List (Option Redist)) (all : AreRestoredRedists l.shape memory bases redists) where
+  each_stands : (v : ℕ) (b : Bases) (r : Redistributor) → slice_get bases v ≡ Some b → slice_get (map redistributor_or (take l.shape.vcpus redists)) v ≡ Some r
+      → IsRedistributorIn l.shape memory b r
   each_stands v b r eb er =
       let w = all.each v b eb in
       let lt : v < l.shape.vcpus = subst (λ (n : ℕ). v < n) as_many (in_list bases v b eb) in
@@ -63,7 +67,8 @@ module _ (l : Layout) (memory : List Window) (values : RegValues) (bases : List 
       let is : redistributor_of w.0 ≡ r = cc in
       subst (IsRedistributorIn l.shape memory b) is w.2.stands
 
-  pub stands : (now : Layout) (regs : Registers) (m : Maps) → now ≡ l → restored values l.shape.dev_bits ≡ Ok regs → maps_read l.shape memory regs ≡ Ok m → Stands memory values l bases (state_of now regs m memory redists)
+  pub stands : (now : Layout) (regs : Registers) (m : Maps) → now ≡ l → restored values l.shape.dev_bits ≡ Ok regs → maps_read l.shape memory regs ≡ Ok m
+      → Stands memory values l bases (state_of now regs m memory redists)
   stands now regs m copied given read =
       let is = are_masked values l.shape.dev_bits regs given in
       let bits : regs.dev_bits ≡ l.shape.dev_bits = ap (λ (r : Registers). r.dev_bits) is in
@@ -96,16 +101,19 @@ module _ (l : Layout) (memory : List Window) (values : RegValues) (bases : List 
   pub register_fault : (f : RestoreFault) → RestoredRegs (Err f) (restored values l.shape.dev_bits) → IsFirstFault memory values l.shape bases f
   register_fault f w = subst (IsFirstFault memory values l.shape bases) (sym w.2) (of_register w.0 all.clear w.1)
 
-  pub table_fault : (regs : Registers) (e : RestoreError) → restored values l.shape.dev_bits ≡ Ok regs → RestoredMaps (Err e) (maps_read l.shape memory regs) → WhereFault e (IsFirstFault memory values l.shape bases)
+  pub table_fault : (regs : Registers) (e : RestoreError) → restored values l.shape.dev_bits ≡ Ok regs → RestoredMaps (Err e) (maps_read l.shape memory regs)
+      → WhereFault e (IsFirstFault memory values l.shape bases)
   table_fault regs errors.NoMemory given read = tt
   table_fault regs (errors.Fault g) given read =
       let ok = is_ok (restored values l.shape.dev_bits) regs given in
-      elim (maps_offend l.shape memory (masked values l.shape.dev_bits) g (ap (maps_read l.shape memory) (sym (are_masked values l.shape.dev_bits regs given)) ∙ read)) [
+      elim (maps_offend l.shape memory (masked values l.shape.dev_bits) g (ap (maps_read l.shape memory) (sym (are_masked values l.shape.dev_bits regs given))
+      ∙ read)) [
         | inl c ↦ of_collection g all.clear ok c
         | inr w ↦ of_device g all.clear ok w.0 w.1
       ]
 
-pub redist_fault : (s : Shape) (memory : List Window) (values : RegValues) (bases : List Bases) (e : RestoreError) → RestoredRedists s memory bases (Err e) → WhereFault e (IsFirstFault memory values s bases)
+pub redist_fault : (s : Shape) (memory : List Window) (values : RegValues) (bases : List Bases) (e : RestoreError) → RestoredRedists s memory bases (Err e)
+    → WhereFault e (IsFirstFault memory values s bases)
 redist_fault s memory values bases errors.NoMemory w = tt
 redist_fault s memory values bases (errors.Fault g) w = subst (IsFirstFault memory values s bases) (sym w.2) (of_redistributor w.0 w.1)
 

@@ -57,7 +57,8 @@ place_of (Entry k page index) = spec.at_entry k page.0 index
 
 -- the maps have what the place has, and it leads there
 abbrev pub LookedDevice : List Window → ℕ → Registers → spec.DevicePlace → Maps → Maps → Result (Option DevicePlace) RestoreError → Type 0
-LookedDevice memory lpi_bits r p old new (Ok to) = (after put_found old (look_device memory lpi_bits r p) ≡ Ok new) × (next_device memory r p ≡ option_map place_of to)
+LookedDevice memory lpi_bits r p old new (Ok to) = (after put_found old (look_device memory lpi_bits r p) ≡ Ok new)
+    × (next_device memory r p ≡ option_map place_of to)
 LookedDevice memory lpi_bits r p old new (Err (errors.Fault f)) = look_device memory lpi_bits r p ≡ Err f
 LookedDevice memory lpi_bits r p old new (Err errors.NoMemory) = Unit {0}
 

@@ -70,7 +70,8 @@ fn look(
 // Maps the event that a place has, if it has one.
 fn map_one(maps: &mut Maps, dev: DeviceId, ev: u32, event: Option<Event>) -> Result<(), AllocError>
     requires { IsSome (device_of maps.old.maps dev.0) }
-    ensures maps { OnOk result (maps.new.maps ≡ after_all (put_event dev.0) maps.old.maps (one_event ev event)) }
+    ensures maps { OnOk result (maps.new.maps ≡ after_all (put_event dev.0) maps.old.maps
+        (one_event ev event)) }
     ensures devices { OnOk result (maps.new.maps.devices ≡ maps.old.maps.devices) }
 {
     if let Some(event) = event {

@@ -122,8 +122,10 @@ pub fn redists_of(
     layout: &Layout,
 ) -> Result<Redists, RestoreError>
     requires { IsLayout layout.now }
-    ensures redists { RestoredRedists layout.now.shape memory.now (bases_to_restore layout.now gicr.now) result }
-    ensures many { OnOk result (length (bases_to_restore layout.now gicr.now) ≡ layout.now.shape.vcpus) }
+    ensures redists { RestoredRedists layout.now.shape memory.now
+        (bases_to_restore layout.now gicr.now) result }
+    ensures many { OnOk result
+        (length (bases_to_restore layout.now gicr.now) ≡ layout.now.shape.vcpus) }
 {
     let shape = layout.shape;
     let mut redists = Redists::new();

@@ -38,7 +38,8 @@ pub record Stepped (m : Maps) (i : ℕ) (taken : Option (Icid × Vcpu)) (after :
   pub word : collection_entry taken ≡ collection_word m i
   pub left : after ≡ drop (i + 1) (entries m.collections)
 
-pub stepped : (m : Maps) (i : ℕ) (before after : List (ℕ × Vcpu)) (taken : Option (Icid × Vcpu)) → before ≡ drop i (entries m.collections) → Given before taken after → Stepped m i taken after
+pub stepped : (m : Maps) (i : ℕ) (before after : List (ℕ × Vcpu)) (taken : Option (Icid × Vcpu)) → before ≡ drop i (entries m.collections)
+    → Given before taken after → Stepped m i taken after
 unfolding collection_word
 stepped m i before after None is given =
     let h = none_here (entries m.collections) i (sym is ∙ given.0) in

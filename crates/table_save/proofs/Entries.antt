@@ -1,5 +1,6 @@
 -- The words of the code are those of the definition.
-use Rattle.std.proofs.Common.{◌≡◌, ℕ, zero, suc, ◌+◌, ◌*◌, ◌<◌, ◌≤◌, ◌^◌, true, false, cond, not, List, [], ◌∷◌, ◌++◌, length, Option, Some, None, refl, sym, ap, ◌∙◌, arith, zero-add, le_refl, append-nil}
+use Rattle.std.proofs.Common.{◌≡◌, ℕ, zero, suc, ◌+◌, ◌*◌, ◌<◌, ◌≤◌, ◌^◌, true, false, cond, not, List, [], ◌∷◌, ◌++◌, length, Option, Some, None, refl, sym}
+use Rattle.std.proofs.Common.{ap, ◌∙◌, arith, zero-add, le_refl, append-nil}
 use Rattle.std.specs.Option.{option_map}
 use Rattle.std.specs.List.{flat_map}
 use Rattle.std.specs.FinMap as finmap
@@ -13,7 +14,8 @@ use Rattle.its_types.specs.declared.translation.Device.{Device}
 use Rattle.its_types.specs.declared.translation.Event.{Event}
 use Rattle.its_types.specs.Maps.{events_at}
 use Rattle.its_plain.specs.Plain.{Translator}
-use Rattle.its_plain.specs.Saved.{Words, put_words, put_tables, device_words, collection_words, pending_words, translator_words, words_of, distance, device_after, event_after, device_entry, event_entry, page_words, device_word, event_word, itt_words, pages_words}
+use Rattle.its_plain.specs.Saved.{Words, put_words, put_tables, device_words, collection_words, pending_words, translator_words, words_of, distance}
+use Rattle.its_plain.specs.Saved.{device_after, event_after, device_entry, event_entry, page_words, device_word, event_word, itt_words, pages_words}
 use Rattle.table_save.specs.Pass.{packed_if, pack_device, pack_event, key_after, device_entry_word, event_entry_word}
 use Rattle.table_save.specs.Tables.{all_tables, ArePages, address_of, page_at, page_table, page_tables, itt_tables}
 use Rattle.its_plain.specs.declared.layout.Layout.{Layout}
@@ -26,7 +28,8 @@ use Rattle.standing_states.proofs.EventsOf.{find_of_device, after_of_device}
 
 -- ---- devices
 
-same_device : (m : Maps) (dev : ℕ) (o : Option Device) → packed_if pack_device o (distance 16383 dev (key_after dev (finmap.entries m.devices))) ≡ device_entry dev o (device_after m dev)
+same_device : (m : Maps) (dev : ℕ) (o : Option Device) → packed_if pack_device o (distance 16383 dev (key_after dev (finmap.entries m.devices)))
+    ≡ device_entry dev o (device_after m dev)
 same_device m dev None = refl
 same_device m dev (Some d) = refl
 
@@ -38,14 +41,16 @@ device_is m dev =
 
 -- ---- events
 
-same_event : (m : Maps) (dev ev : ℕ) (o : Option Event) → packed_if pack_event o (distance 65535 ev (event_after m dev ev)) ≡ event_entry ev o (event_after m dev ev)
+same_event : (m : Maps) (dev ev : ℕ) (o : Option Event) → packed_if pack_event o (distance 65535 ev (event_after m dev ev)) ≡ event_entry ev o
+    (event_after m dev ev)
 same_event m dev ev None = refl
 same_event m dev ev (Some e) = refl
 
 pub event_is : (m : Maps) (dev ev : ℕ) → event_entry_word (events_at m dev) ev ≡ event_word m dev ev
 unfolding event_word
 event_is m dev ev =
-    ap (λ o. packed_if pack_event o (distance 65535 ev (key_after ev (events_at m dev)))) (find_of_device dev ev (finmap.entries m.events) ∙ sym (get-entries m.events (dev, ev)))
+    ap (λ o. packed_if pack_event o (distance 65535 ev (key_after ev (events_at m dev)))) (find_of_device dev ev (finmap.entries m.events)
+    ∙ sym (get-entries m.events (dev, ev)))
     ∙ ap (λ o. packed_if pack_event (event_of m dev ev) (distance 65535 ev o)) (after_of_device dev ev (finmap.entries m.events))
     ∙ same_event m dev ev (event_of m dev ev)
 
@@ -67,7 +72,8 @@ pages_are t memory pages (suc n) h le =
 
 -- ---- the device table
 
-pub pages_written : (t : Translator) (memory now : List Window) (pages : List (Option Addr)) → is_valid t.regs.baser0 ≡ true → is_indirect t.regs.baser0 ≡ true → ArePages t.regs memory pages
+pub pages_written : (t : Translator) (memory now : List Window) (pages : List (Option Addr)) → is_valid t.regs.baser0 ≡ true → is_indirect t.regs.baser0 ≡ true
+    → ArePages t.regs memory pages
     → now ≡ put_tables memory (page_tables (finmap.entries t.maps.devices) 8192 pages (length pages)) → now ≡ put_tables memory (device_words t memory)
 unfolding device_words
 pages_written t memory now pages valid indirect h wrote =
@@ -75,9 +81,11 @@ pages_written t memory now pages valid indirect h wrote =
     let one : List Words = record { base = table_base t.regs.baser0; count = 8192 * device_pages t.regs; word = device_word t.maps } ∷ [] in
     let counted : page_tables (finmap.entries t.maps.devices) 8192 pages (length pages) ≡ two =
     pages_are t memory pages (length pages) h (le_refl (length pages)) ∙ ap (pages_words t memory) h.count in
-    wrote ∙ ap (put_tables memory) (counted ∙ sym (ap (λ b. cond (not b) [] (cond (is_indirect t.regs.baser0) two one)) valid ∙ ap (λ b. cond b two one) indirect))
+    wrote ∙ ap (put_tables memory) (counted ∙ sym (ap (λ b. cond (not b) [] (cond (is_indirect t.regs.baser0) two one)) valid
+    ∙ ap (λ b. cond b two one) indirect))
 
-pub flat_written : (t : Translator) (memory now : List Window) (base count : ℕ) (front : List (ℕ × Device)) → is_valid t.regs.baser0 ≡ true → is_indirect t.regs.baser0 ≡ false
+pub flat_written : (t : Translator) (memory now : List Window) (base count : ℕ) (front : List (ℕ × Device)) → is_valid t.regs.baser0 ≡ true
+    → is_indirect t.regs.baser0 ≡ false
     → base ≡ table_base t.regs.baser0 → count ≡ 8192 * device_pages t.regs → front ≡ finmap.entries t.maps.devices
     → now ≡ put_words memory base (λ i. device_entry_word front (0 + i)) count → now ≡ put_tables memory (device_words t memory)
 unfolding device_words
@@ -93,10 +101,12 @@ flat_written t memory now base count front valid flat at size all wrote =
 
 -- ---- all tables
 
-pub all_written : (memory one two three four : List Window) (ds cs is ps : List Words) → one ≡ put_tables memory ds → two ≡ put_tables one cs → three ≡ put_tables two is → four ≡ put_tables three ps
+pub all_written : (memory one two three four : List Window) (ds cs is ps : List Words) → one ≡ put_tables memory ds → two ≡ put_tables one cs
+    → three ≡ put_tables two is → four ≡ put_tables three ps
     → four ≡ put_tables memory (ds ++ cs ++ is ++ ps)
 all_written memory one two three four ds cs is ps a b c d =
-    d ∙ ap (λ m. put_tables m ps) (c ∙ ap (λ m. put_tables m is) (b ∙ ap (λ m. put_tables m cs) a ∙ sym (tables_append memory ds cs)) ∙ sym (tables_append memory (ds ++ cs) is))
+    d ∙ ap (λ m. put_tables m ps) (c ∙ ap (λ m. put_tables m is) (b ∙ ap (λ m. put_tables m cs) a ∙ sym (tables_append memory ds cs))
+    ∙ sym (tables_append memory (ds ++ cs) is))
     ∙ sym (tables_append memory (ds ++ cs ++ is) ps)
 
 pub words_are : (l : Layout) (r : Registers) (m : Maps) (memory : List Window) (redists : List (Option Redist))

@@ -1,5 +1,6 @@
 -- The pages of a first level, in an array that has places to spare.
-use Rattle.std.proofs.Common.{◌≡◌, ◌≢◌, ℕ, zero, suc, ◌+◌, ◌<◌, ◌≤◌, ◌^◌, List, take, replicate, Option, Some, None, refl, sym, subst, ◌∙◌, inl, inr, arith, below_more}
+use Rattle.std.proofs.Common.{◌≡◌, ◌≢◌, ℕ, zero, suc, ◌+◌, ◌<◌, ◌≤◌, ◌^◌, List, take, replicate, Option, Some, None, refl, sym, subst, ◌∙◌, inl, inr, arith}
+use Rattle.std.proofs.Common.{below_more}
 use Rattle.std.specs.Prelude.{slice_set, length, IfSome}
 use Rattle.std.specs.Option.{option_map}
 use Rattle.std.proofs.lemmas.Bool.{cases_lt}
@@ -20,7 +21,8 @@ some_low : (p : Option Addr) (a : Addr) → IfSome p (λ b. b.0 < 2 ^ 52) → p 
 some_low None a low is = absurd cc
 some_low (Some b) a low is = subst (λ (x : Addr). x.0 < 2 ^ 52) (same_Some b a is) low
 
-set_low : (pages : List (Option Addr)) (n : ℕ) (p : Option Addr) → n < length pages → IfSome p (λ a. a.0 < 2 ^ 52) → AreLowPages pages → AreLowPages (slice_set pages n p)
+set_low : (pages : List (Option Addr)) (n : ℕ) (p : Option Addr) → n < length pages → IfSome p (λ a. a.0 < 2 ^ 52) → AreLowPages pages
+    → AreLowPages (slice_set pages n p)
 set_low pages n p room here low = λ k a is.
     let other : k ≢ n → a.0 < 2 ^ 52 = λ (ne : k ≢ n). low k a (sym (get_or-set_other pages n k p None ne) ∙ is) in
     elim (cases_lt k n) [
@@ -49,7 +51,8 @@ module _ (r : Registers) (memory : List Window) where
     low = λ k a is. absurd (let none : page_at (replicate 128 None) k ≡ None = no_page 128 k in cc);
   }
 
-  pub one_more : (n : ℕ) (pages : List (Option Addr)) (p : Option Addr) → n < 128 → option_map address_of p ≡ page_of (level1_of r memory n) → IfSome p (λ a. a.0 < 2 ^ 52)
+  pub one_more : (n : ℕ) (pages : List (Option Addr)) (p : Option Addr) → n < 128 → option_map address_of p ≡ page_of (level1_of r memory n)
+      → IfSome p (λ a. a.0 < 2 ^ 52)
       → AreFirstPages r memory n pages → AreFirstPages r memory (n + 1) (slice_set pages n p)
   one_more n pages p lt here low first =
       let room : n < length pages = omega (arith, first.places) in
@@ -62,7 +65,8 @@ module _ (r : Registers) (memory : List Window) where
         low = set_low pages n p room low first.low;
       }
 
-  pub all_first : (n : ℕ) (pages : List (Option Addr)) → n ≡ level1_entries r.dev_bits → n ≤ 128 → AreFirstPages r memory n pages → ArePages r memory (take n pages)
+  pub all_first : (n : ℕ) (pages : List (Option Addr)) → n ≡ level1_entries r.dev_bits → n ≤ 128 → AreFirstPages r memory n pages
+      → ArePages r memory (take n pages)
   all_first n pages is le first =
       let fits : n ≤ length pages = omega (arith, first.places) in
       let size = length-take-le n pages fits in

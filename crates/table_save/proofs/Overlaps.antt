@@ -1,5 +1,6 @@
 -- How many areas one meets is told by sorted bases and ends; one that meets no other clashes with none.
-use Rattle.std.proofs.Common.{◌≡◌, ℕ, zero, suc, ◌+◌, ◌-◌, ◌<◌, ◌≤◌, Bool, true, false, cond, List, [], ◌∷◌, ◌++◌, map, take, drop, length, get_or, Option, Some, None, Result, Ok, Err, refl, sym, ap, ◌∙◌, inl, inr, arith}
+use Rattle.std.proofs.Common.{◌≡◌, ℕ, zero, suc, ◌+◌, ◌-◌, ◌<◌, ◌≤◌, Bool, true, false, cond, List, [], ◌∷◌, ◌++◌, map, take, drop, length, get_or, Option}
+use Rattle.std.proofs.Common.{Some, None, Result, Ok, Err, refl, sym, ap, ◌∙◌, inl, inr, arith}
 use Rattle.std.specs.Prelude.{◌&&◌, ◌||◌, nat_lt, find, count_by}
 use Rattle.std.specs.List.{AllWithin}
 use Rattle.std.proofs.Math.Seq.{take-length}
@@ -31,7 +32,8 @@ counted_more : (p : ℕ → Bool) (x : ℕ) (xs : List ℕ) (b : Bool) → p x �
 counted_more p x xs b is = sum_by-cons (λ y. cond (p y) 1 0) x xs ∙ ap (λ t. cond t 1 0 + count_by p xs) is
 
 -- where those that pass stand first, there are as many as the place at which they end
-pub counted : (p : ℕ → Bool) (xs : List ℕ) (i : ℕ) → i ≤ length xs → AllWithin (λ x. p x ≡ true) xs 0 i → AllWithin (λ x. p x ≡ false) xs i (length xs) → i ≡ count_by p xs
+pub counted : (p : ℕ → Bool) (xs : List ℕ) (i : ℕ) → i ≤ length xs → AllWithin (λ x. p x ≡ true) xs 0 i → AllWithin (λ x. p x ≡ false) xs i (length xs)
+    → i ≡ count_by p xs
 counted p [] zero le pass fail = refl
 counted p [] (suc i) le pass fail = absurd (omega arith)
 counted p (x ∷ xs) zero le pass fail =
@@ -46,7 +48,8 @@ counted p (x ∷ xs) (suc i) le pass fail =
 counted_map : (p : ℕ → Bool) (f : Area → ℕ) (areas : List Area) → count_by p (map f areas) ≡ count_by (λ a. p (f a)) areas
 counted_map p f [] = refl
 counted_map p f (a ∷ areas) =
-    sum_by-cons (λ y. cond (p y) 1 0) (f a) (map f areas) ∙ ap (λ n. cond (p (f a)) 1 0 + n) (counted_map p f areas) ∙ sym (sum_by-cons (λ b. cond (p (f b)) 1 0) a areas)
+    sum_by-cons (λ y. cond (p y) 1 0) (f a) (map f areas) ∙ ap (λ n. cond (p (f a)) 1 0 + n) (counted_map p f areas)
+    ∙ sym (sum_by-cons (λ b. cond (p (f b)) 1 0) a areas)
 
 module _ (a : Area) (some : a.base < end_of a) where
   -- an area begins before the end of this one where it ends by its base, or meets it
@@ -74,15 +77,19 @@ module _ (a : Area) (some : a.base < end_of a) where
       let rest = all_begun areas in
       omega (arith, one, two, three, here, rest)
 
-  met_is : (areas : List Area) (e : Edges) → AreEdges areas e → count_by (λ x. nat_lt x (end_of a)) e.bases - count_by (λ x. nat_lt x (a.base + 1)) e.ends ≡ met a areas
+  met_is : (areas : List Area) (e : Edges) → AreEdges areas e → count_by (λ x. nat_lt x (end_of a)) e.bases - count_by (λ x. nat_lt x (a.base + 1)) e.ends
+      ≡ met a areas
   met_is areas e edges =
-      let begun = sum_by-IsPermutation (λ x. cond (nat_lt x (end_of a)) 1 0) (map (λ b. b.base) areas) e.bases edges.bases ∙ counted_map (λ x. nat_lt x (end_of a)) (λ b. b.base) areas in
-      let over = sum_by-IsPermutation (λ x. cond (nat_lt x (a.base + 1)) 1 0) (map end_of areas) e.ends edges.ends ∙ counted_map (λ x. nat_lt x (a.base + 1)) end_of areas in
+      let begun = sum_by-IsPermutation (λ x. cond (nat_lt x (end_of a)) 1 0) (map (λ b. b.base) areas) e.bases edges.bases
+      ∙ counted_map (λ x. nat_lt x (end_of a)) (λ b. b.base) areas in
+      let over = sum_by-IsPermutation (λ x. cond (nat_lt x (a.base + 1)) 1 0) (map end_of areas) e.ends edges.ends
+      ∙ counted_map (λ x. nat_lt x (a.base + 1)) end_of areas in
       let all = all_begun areas in
       omega (arith, begun, over, all)
 
   -- the same of numbers that were counted
-  pub met_so : (areas : List Area) (e : Edges) (bases ends : List ℕ) (low high begun ended : ℕ) → AreEdges areas e → bases ≡ e.bases → ends ≡ e.ends → low ≡ a.base → high ≡ end_of a
+  pub met_so : (areas : List Area) (e : Edges) (bases ends : List ℕ) (low high begun ended : ℕ) → AreEdges areas e → bases ≡ e.bases → ends ≡ e.ends
+      → low ≡ a.base → high ≡ end_of a
       → begun ≡ count_by (λ x. nat_lt x high) bases → ended ≡ count_by (λ x. nat_lt x (low + 1)) ends → begun - ended ≡ met a areas
   met_so areas e bases ends low high begun ended edges bases_are ends_are low_is high_is begun_so ended_so =
       let one = begun_so ∙ ap (λ n. count_by (λ x. nat_lt x n) bases) high_is ∙ ap (count_by (λ x. nat_lt x (end_of a))) bases_are in
@@ -100,13 +107,20 @@ module _ (a : Area) (some : a.base < end_of a) where
   clear w is [] none = refl
   clear w is (b ∷ areas) none =
       let one : clash a b ≡ false × (met a (chosen w areas) ≡ 0) =
-      elim (w || b.is_written) as (λ t. (w || b.is_written) ≡ t → met a (cond t (b ∷ chosen w areas) (chosen w areas)) ≡ 0 → (clash a b ≡ false) × (met a (chosen w areas) ≡ 0)) [
+      elim (w || b.is_written) as (λ t. (w || b.is_written) ≡ t → met a (cond t (b ∷ chosen w areas) (chosen w areas)) ≡ 0 → (clash a b ≡ false)
+      × (met a (chosen w areas) ≡ 0)) [
         | true ↦ λ e zero_is.
             let split = sum_by-cons (λ c. cond (meets a c) 1 0) b (chosen w areas) in
-            let here : weight (meets a b) ≡ 0 = omega (arith, split, zero_is) in
-            (apart (a.is_written || b.is_written) (nat_lt a.base (end_of b)) (nat_lt b.base (end_of a)) (counts_none (meets a b) here), omega (arith, split, zero_is))
-        | false ↦ λ e zero_is.
-            (ap (λ v. (v || b.is_written) && nat_lt a.base (end_of b) && nat_lt b.base (end_of a)) is ∙ ap (λ v. v && nat_lt a.base (end_of b) && nat_lt b.base (end_of a)) e, zero_is)
+            let here : weight (meets a b) ≡ 0 = omega (arith, split, zero_is) in (
+              apart (a.is_written || b.is_written) (nat_lt a.base (end_of b)) (nat_lt b.base (end_of a)) (counts_none (meets a b) here),
+              omega
+                  (arith, split, zero_is),
+            )
+        | false ↦ λ e zero_is. (
+          ap (λ v. (v || b.is_written) && nat_lt a.base (end_of b) && nat_lt b.base (end_of a)) is
+              ∙ ap (λ v. v && nat_lt a.base (end_of b) && nat_lt b.base (end_of a)) e,
+          zero_is,
+        )
       ] refl none
       in ap (λ t. cond t (Some b) (find (clash a) areas)) one.0 ∙ clear w is areas one.1
 
@@ -152,7 +166,8 @@ front (b ∷ rest) a some is =
     let n : length (b ∷ rest) - 1 ≡ length rest = omega arith in
     ap (λ k. a ∷ take k rest) n ∙ ap (λ x. x ∷ take (length rest) rest) is ∙ ap (λ xs. b ∷ xs) (take-length rest)
 
-module _ (areas before rest : List Area) (a : Area) (some : 1 ≤ length rest) (is : a ≡ get_or rest 0 a) (at : areas ≡ before ++ rest) (so_far : none_overlap rest ≡ none_overlap areas) where
+module _ (areas before rest : List Area) (a : Area) (some : 1 ≤ length rest) (is : a ≡ get_or rest 0 a) (at : areas ≡ before ++ rest)
+    (so_far : none_overlap rest ≡ none_overlap areas) where
   abbrev pub others : List Area
   others = take (length rest - 1) (drop 1 rest)
 

@@ -1,5 +1,6 @@
 -- The redistributors in hand, as the plain machine has them.
-use Rattle.std.proofs.Common.{◌≡◌, ℕ, zero, suc, ◌+◌, ◌<◌, List, [], ◌∷◌, ◌++◌, map, take, drop, Option, Some, sym, ap, subst, ◌∙◌, arith, add-one, append_assoc}
+use Rattle.std.proofs.Common.{◌≡◌, ℕ, zero, suc, ◌+◌, ◌<◌, List, [], ◌∷◌, ◌++◌, map, take, drop, Option, Some, sym, ap, subst, ◌∙◌, arith, add-one}
+use Rattle.std.proofs.Common.{append_assoc}
 use Rattle.std.proofs.lemmas.Option.{same_Some}
 use Rattle.its_types.specs.declared.machine.Shape.{Shape}
 use Rattle.its_plain.specs.Plain.{Redistributor}
@@ -22,7 +23,8 @@ drop_in_hand (suc n) zero (x ∷ xs) r lt is = ap (λ (o : Option Redist). redis
 drop_in_hand (suc n) (suc v) (x ∷ xs) r lt is = drop_in_hand n v xs r (omega arith) is
 
 -- one redistributor's area more
-pub area_more : (area : ℕ → Redistributor → List Area) (shape : Shape) (v : ℕ) (redists : List (Option Redist)) (r : Redist) (old now whole : List Area) → v < shape.vcpus → in_hand redists v ≡ Some r
+pub area_more : (area : ℕ → Redistributor → List Area) (shape : Shape) (v : ℕ) (redists : List (Option Redist)) (r : Redist) (old now whole : List Area)
+    → v < shape.vcpus → in_hand redists v ≡ Some r
     → now ≡ old ++ area v (redistributor_of r)
     → old ++ areas_from area v (drop v (redistributors_of shape redists)) ≡ whole
     → now ++ areas_from area (v + 1) (drop (v + 1) (redistributors_of shape redists)) ≡ whole
@@ -34,7 +36,8 @@ area_more area shape v redists r old now whole lt is added so_far =
     ∙ ap (λ (ds : List Redistributor). old ++ areas_from area v ds) (sym (drop_in_hand shape.vcpus v redists r lt is)) ∙ so_far)
 
 -- one redistributor's table more
-pub table_more : (shape : Shape) (v : ℕ) (redists : List (Option Redist)) (r : Redist) (before now : List Window) (whole : List Window) → v < shape.vcpus → in_hand redists v ≡ Some r
+pub table_more : (shape : Shape) (v : ℕ) (redists : List (Option Redist)) (r : Redist) (before now : List Window) (whole : List Window) → v < shape.vcpus
+    → in_hand redists v ≡ Some r
     → now ≡ put_tables before (pending_words shape (redistributor_of r))
     → put_tables before (flat_map (pending_words shape) (drop v (redistributors_of shape redists))) ≡ whole
     → put_tables now (flat_map (pending_words shape) (drop (v + 1) (redistributors_of shape redists))) ≡ whole
@@ -46,5 +49,6 @@ table_more shape v redists r before now whole lt is wrote so_far =
     ∙ ap (λ (ds : List Redistributor). put_tables before (flat_map (pending_words shape) ds)) (sym (drop_in_hand shape.vcpus v redists r lt is)) ∙ so_far)
 
 -- what holds of the one in hand holds of the one that was lent
-pub lent_too : (P : Redist → Type 0) (redists : List (Option Redist)) (v : ℕ) (r s : Redist) → in_hand redists v ≡ Some r → in_hand redists v ≡ Some s → P r → P s
+pub lent_too : (P : Redist → Type 0) (redists : List (Option Redist)) (v : ℕ) (r s : Redist) → in_hand redists v ≡ Some r → in_hand redists v ≡ Some s → P r
+    → P s
 lent_too P redists v r s is now h = let e : r ≡ s = same_Some r s (sym is ∙ now) in subst P e h

@@ -76,7 +76,8 @@ module _ {X : Type 0} where
       fit = past_fit Fits i rest p.fit;
     })
 
-    pub passed_then : (i j : ℕ) (all some rest : List (ℕ × X)) → i ≤ j → Passed Fits pack cap i all some → Passed Fits pack cap j some rest → Passed Fits pack cap j all rest
+    pub passed_then : (i j : ℕ) (all some rest : List (ℕ × X)) → i ≤ j → Passed Fits pack cap i all some → Passed Fits pack cap j some rest
+        → Passed Fits pack cap j all rest
     passed_then i j all some rest le p q = record {
       rises = q.rises;
       words = λ k from. q.words k from ∙ p.words k (omega arith);
@@ -91,7 +92,8 @@ module _ {X : Type 0} where
         ∙ ap (λ o. packed_if pack (finmap.find nat_cmp k es) (distance cap k o)) (after_skips k e es (omega arith))
 
     -- the first one is passed over
-    pub skipped_one : (id : ℕ) (all rest : List (ℕ × X)) → begins_below id rest ≡ true → Skipping Fits pack cap id all rest → Skipping Fits pack cap id all (drop 1 rest)
+    pub skipped_one : (id : ℕ) (all rest : List (ℕ × X)) → begins_below id rest ≡ true → Skipping Fits pack cap id all rest
+        → Skipping Fits pack cap id all (drop 1 rest)
     skipped_one id all [] below s = absurd cc
     skipped_one id all (e ∷ es) below s = record {
       rises = later_rises (e.0 + 1) 0 es s.rises.1 (omega arith);

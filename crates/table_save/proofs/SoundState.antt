@@ -1,5 +1,6 @@
 -- What a sound state says of the parts in hand.
-use Rattle.std.proofs.Common.{◌≡◌, ℕ, zero, suc, ◌+◌, ◌-◌, ◌<◌, ◌≤◌, ◌^◌, true, false, List, [], ◌∷◌, map, take, Option, Some, None, inl, inr, refl, sym, ap, ◌∙◌, arith}
+use Rattle.std.proofs.Common.{◌≡◌, ℕ, zero, suc, ◌+◌, ◌-◌, ◌<◌, ◌≤◌, ◌^◌, true, false, List, [], ◌∷◌, map, take, Option, Some, None, inl, inr, refl, sym, ap}
+use Rattle.std.proofs.Common.{◌∙◌, arith}
 use Rattle.std.specs.Prelude.{◌&&◌, nat_lt, nat_le, length, slice_get}
 use Rattle.std.specs.List.{AllByRecursion, list_all}
 use Rattle.std.specs.Ordering.{nat_cmp}
@@ -26,7 +27,8 @@ use Rattle.table_save.proofs.Rises.{find_here, find_skips, rises_none, map_rises
 
 -- ---- each entry of a list that rises
 
-each_found : {X : Type 0} (P : ℕ × X → Type 0) (i : ℕ) (es : List (ℕ × X)) → RisesFrom i es → ((k : ℕ) (x : X) → finmap.find nat_cmp k es ≡ Some x → P (k, x)) → AllByRecursion P es
+each_found : {X : Type 0} (P : ℕ × X → Type 0) (i : ℕ) (es : List (ℕ × X)) → RisesFrom i es → ((k : ℕ) (x : X) → finmap.find nat_cmp k es ≡ Some x → P (k, x))
+    → AllByRecursion P es
 each_found P i [] r h = tt
 each_found {X} P i (e ∷ es) r h = (
   h e.0 e.1 (find_here e.0 e es refl),
@@ -66,7 +68,8 @@ some_bytes bits least =
 
 -- ---- the parts
 
-pub in_hand_here : (n v : ℕ) (redists : List (Option Redist)) (r : Redist) → v < n → in_hand redists v ≡ Some r → slice_get (map redistributor_or (take n redists)) v ≡ Some (redistributor_of r)
+pub in_hand_here : (n v : ℕ) (redists : List (Option Redist)) (r : Redist) → v < n → in_hand redists v ≡ Some r
+    → slice_get (map redistributor_or (take n redists)) v ≡ Some (redistributor_of r)
 in_hand_here n v [] r lt is = absurd cc
 in_hand_here zero v (x ∷ xs) r lt is = absurd (omega arith)
 in_hand_here (suc n) zero (x ∷ xs) r lt is = ap (λ (o : Option Redist). Some (redistributor_or o)) is

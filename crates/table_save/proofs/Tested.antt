@@ -55,7 +55,8 @@ module _ (l : Layout) (r : Registers) (m : Maps) (memory : List Window) (redists
   unfolding savable table_areas
   savable_is =
       let t : Translator = record { regs = r; maps = m } in
-      ap (λ (ts : List Area). outside_fault (find (is_outside memory) ts) >>= λ _. all_placed memory (t ∷ []) >>= λ _. none_overlap (areas_of state)) (append-nil tables)
+      ap (λ (ts : List Area). outside_fault (find (is_outside memory) ts) >>= λ _. all_placed memory (t ∷ []) >>= λ _. none_overlap (areas_of state))
+      (append-nil tables)
       ∙ ap (λ (p : Result (Unit {0}) SaveFault). inside_test >>= λ _. p >>= λ _. none_overlap (areas_of state)) (placed_is memory t)
       ∙ ap (λ (areas : List Area). inside_test >>= λ _. placed_test >>= λ _. none_overlap areas) all_is
 

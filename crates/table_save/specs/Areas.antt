@@ -1,5 +1,6 @@
 -- The areas that a save looks at, each kind from what decides it.
-use Rattle.std.specs.Prelude.{◌≡◌, ℕ, ◌+◌, ◌-◌, ◌*◌, ◌^◌, ◌<◌, ◌≤◌, true, false, if◌then◌else◌, List, [], ◌∷◌, ◌++◌, map, take, Option, Some, None, slice_index_or}
+use Rattle.std.specs.Prelude.{◌≡◌, ℕ, ◌+◌, ◌-◌, ◌*◌, ◌^◌, ◌<◌, ◌≤◌, true, false, if◌then◌else◌, List, [], ◌∷◌, ◌++◌, map, take, Option, Some, None}
+use Rattle.std.specs.Prelude.{slice_index_or}
 use Rattle.std.specs.List.{flat_map}
 use Rattle.guest_windows.specs.Windows.{Window, inside}
 use Rattle.gits_regs.specs.Registers.{Registers, is_valid, table_base, queue_base, queue_size}
@@ -51,13 +52,15 @@ pending_area shape vcpu b =
 
 -- a configuration table of a virtual processor's own, where LPIs are on
 abbrev pub own_config_area : Shape → Vcpu → Bases → List Area
-own_config_area shape vcpu b = if b.on then record { region = ConfigOf vcpu; base = b.prop.table.0; size = lpi_count shape.lpi_bits; is_written = false } ∷ [] else []
+own_config_area shape vcpu b = if b.on then record { region = ConfigOf vcpu; base = b.prop.table.0; size = lpi_count shape.lpi_bits; is_written = false }
+    ∷ [] else []
 
 -- that of the first, which all share, unless each virtual processor has its own
 abbrev pub config_areas : Layout → List Redistributor → List Area
 config_areas l rs =
     if l.gicr then areas_from (regions.config_area l.shape) 0 rs
-    else record { region = Config; base = (slice_index_or rs 0 no_redistributor).bases.prop.table.0; size = lpi_count l.shape.lpi_bits; is_written = false } ∷ []
+    else record { region = Config; base = (slice_index_or rs 0 no_redistributor).bases.prop.table.0; size = lpi_count l.shape.lpi_bits; is_written = false }
+    ∷ []
 
 abbrev pub queue_areas : Registers → List Area
 queue_areas r = if is_valid r.cbaser then record { region = Queue; base = queue_base r; size = queue_size r; is_written = false } ∷ [] else []
@@ -79,4 +82,5 @@ tables_in memory r m = device_areas r memory ++ collection_areas r ++ itt_areas 
 -- with the others behind them
 abbrev pub all_areas : List Area → Layout → Registers → List (Option Redist) → List Area
 all_areas tables l r redists =
-    tables ++ areas_from (regions.pending_area l.shape) 0 (redistributors_of l.shape redists) ++ config_areas l (redistributors_of l.shape redists) ++ queue_areas r
+    tables ++ areas_from (regions.pending_area l.shape) 0 (redistributors_of l.shape redists) ++ config_areas l (redistributors_of l.shape redists)
+    ++ queue_areas r

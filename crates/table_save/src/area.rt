@@ -45,7 +45,12 @@ impl Stretch {
     pub fn read_only(region: Region, base: u64, size: u64) -> Stretch
         requires some { 0 < size }
         requires fits { base + size < 2 ^ 64 }
-        ensures { result ≡ record { region = region; base = base; size = size; is_written = false } }
+        ensures { result ≡ record {
+          region = region;
+          base = base;
+          size = size;
+          is_written = false;
+        } }
     {
         Stretch {
             area: Area {

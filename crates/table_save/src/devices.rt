@@ -118,7 +118,8 @@ pub fn put_places(memory: &mut Memory, base: u64, first: u32, count: u32, front:
     requires few { first + count < 2 ^ 32 }
     requires rises { RisesFrom first front.old }
     requires fit { AllByRecursion FitsDevice front.old }
-    ensures memory { memory.new ≡ put_words memory.old base (λ i. device_entry_word front.old (first + i)) count }
+    ensures memory { memory.new ≡ put_words memory.old base
+        (λ i. device_entry_word front.old (first + i)) count }
     ensures rest { PassedDevices (first + count) front.old front.new }
 {
     for i in 0..count {

@@ -26,7 +26,11 @@ impl Model for Edges {
 
     ghost Value = { spec.Edges };
 
-    ghost view = { λ e. record { bases = e.bases.items; ends = e.ends.items; room = min (vec_capacity e.bases) (vec_capacity e.ends) } };
+    ghost view = { λ e. record {
+      bases = e.bases.items;
+      ends = e.ends.items;
+      room = min (vec_capacity e.bases) (vec_capacity e.ends);
+    } };
 
     ghost invariant = { λ e. IsNonDecreasing e.bases.items × IsNonDecreasing e.ends.items };
 }
@@ -62,7 +66,8 @@ impl Edges {
     /// How many of the areas share a byte with one: those that begin before its end, but for those
     /// that end by its base.
     pub fn met_by(&self, area: &Stretch) -> usize
-        ensures met { (areas : List plain.Area) → AreEdges areas self.now → result ≡ met area.now areas }
+        ensures met { (areas : List plain.Area) → AreEdges areas self.now
+            → result ≡ met area.now areas }
         ensures some { area.now.base < end_of area.now }
     {
         let begun = count_below(&self.bases, area.end());

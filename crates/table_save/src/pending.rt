@@ -33,7 +33,8 @@ fn put_table(memory: &mut Memory, redist: &Redist, shape: Shape)
     requires shape { IsShape shape }
     requires lpis { HasLpisOf shape redist.now }
     requires low { AreLow redist.now.bases }
-    ensures { memory.new ≡ put_tables memory.old (pending_words shape (redistributor_of redist.now)) }
+    ensures { memory.new ≡ put_tables memory.old
+        (pending_words shape (redistributor_of redist.now)) }
 {
     if redist.bases.on {
         let count = (shape.pending_bytes() - 1024) / 8;

@@ -188,7 +188,8 @@ fn put_all(
     requires events { (dev : ℕ) → AllByRecursion FitsEvent (events_at maps.now.maps dev) }
     requires pages { is_indirect regs.now.baser0 ≡ true → ArePages regs.now memory.old pages.now }
     ensures { memory.new
-        ≡ put_tables memory.old (all_tables memory.old regs.now maps.now.maps (redistributors_of shape redists.now)
+        ≡ put_tables memory.old
+        (all_tables memory.old regs.now maps.now.maps (redistributors_of shape redists.now)
         shape) }
 {
     put_devices(memory, regs, pages, maps);

@@ -50,7 +50,8 @@ module _ (u : Plain) (leg : Leg) (t : LegLines) where
     lines = elim (e.differs t refl) [ inl x ↦ inl x | inr y ↦ inr (inl y) ];
   }
 
-  pub pending_differs : (n : ℕ) (w : Plain) (d : Difference) → (a : AreEntries u leg t.entries w) → IsOtherPending w t.pending d.said d.is → d.leg ≡ n → d.place ≡ length t.entries → IsHere n u leg t d
+  pub pending_differs : (n : ℕ) (w : Plain) (d : Difference) → (a : AreEntries u leg t.entries w) → IsOtherPending w t.pending d.said d.is → d.leg ≡ n
+      → d.place ≡ length t.entries → IsHere n u leg t d
   pending_differs n w d a o leg_is place = record {
     leg_is = leg_is;
     lines = inr (inr (record {
@@ -76,7 +77,8 @@ module _ (u : Plain) (leg : Leg) (t : LegLines) where
       let pending : t.pending ≡ pending_texts (after u r.are_entries.history) = r.pending_is ∙ ap pending_texts r.are_entries.now_is in
       λ i. record { entries = r.are_entries.lines_are i; pending = pending i; end = e i }
 
-  pub cannot : (n : ℕ) (w : Plain) (d : Difference) → (r : IsLegRight u leg t.entries t.pending w) → t.end ≡ Some Migrated → IsFault n (length t.entries) w d → IsAtEnd n u leg t d
+  pub cannot : (n : ℕ) (w : Plain) (d : Difference) → (r : IsLegRight u leg t.entries t.pending w) → t.end ≡ Some Migrated → IsFault n (length t.entries) w d
+      → IsAtEnd n u leg t d
   cannot n w d r e f = record {
     leg_is = f.leg_is;
     end = record {
@@ -99,26 +101,35 @@ shape_long vcpus zero (t ∷ told) s = absurd s
 shape_long vcpus (suc n) [] s = absurd s
 shape_long vcpus (suc n) (t ∷ told) s = ap suc (shape_long vcpus n told s.1)
 
-here_is : (n : ℕ) (u : Plain) (leg : Leg) (rest : List Leg) (t : LegLines) (told : List LegLines) (d : Difference) → IsHere n u leg t d → DiffersFrom n u (leg ∷ rest) (t ∷ told) d
+here_is : (n : ℕ) (u : Plain) (leg : Leg) (rest : List Leg) (t : LegLines) (told : List LegLines) (d : Difference) → IsHere n u leg t d
+    → DiffersFrom n u (leg ∷ rest) (t ∷ told) d
 here_is n u leg [] t told d h = h
 here_is n u leg (next ∷ rest) t told d h = inl h
 
-end_is : (n : ℕ) (u : Plain) (leg : Leg) (rest : List Leg) (t : LegLines) (told : List LegLines) (d : Difference) → 0 < length rest → IsAtEnd n u leg t d → DiffersFrom n u (leg ∷ rest) (t ∷ told) d
+end_is : (n : ℕ) (u : Plain) (leg : Leg) (rest : List Leg) (t : LegLines) (told : List LegLines) (d : Difference) → 0 < length rest → IsAtEnd n u leg t d
+    → DiffersFrom n u (leg ∷ rest) (t ∷ told) d
 end_is n u leg [] t told d some e = absurd (omega arith)
 end_is n u leg (next ∷ rest) t told d some e = inr (inl e)
 
 -- a leg is right, the state after it was moved, and so it is for the legs that follow
-module _ (n : ℕ) (u w : Plain) (leg : Leg) (t : LegLines) (h : List Entry) (run : IsLegRun u leg h) (can : IsSavable (after u h)) (now : w ≡ moved (after u h)) (right : t ≡ ended u leg h (Some Migrated)) where
-  goes_on : (rest : List Leg) (told : List LegLines) (v : Verdict) → 0 < length rest → IsVerdictFrom (n + 1) w rest told v → IsVerdictFrom n u (leg ∷ rest) (t ∷ told) v
+module _ (n : ℕ) (u w : Plain) (leg : Leg) (t : LegLines) (h : List Entry) (run : IsLegRun u leg h) (can : IsSavable (after u h)) (now : w ≡ moved (after u h))
+    (right : t ≡ ended u leg h (Some Migrated)) where
+  goes_on : (rest : List Leg) (told : List LegLines) (v : Verdict) → 0 < length rest → IsVerdictFrom (n + 1) w rest told v
+      → IsVerdictFrom n u (leg ∷ rest) (t ∷ told) v
   goes_on [] told v some later = absurd (omega arith)
   goes_on (next ∷ rest) told Agrees some later =
       let moved_on : IsReportOfRun (moved (after u h)) (next ∷ rest) told = subst (λ (x : Plain). IsReportOfRun x (next ∷ rest) told) now later in
-      record { histories = h ∷ moved_on.histories; is_run = (h, moved_on.histories, refl, run, can, moved_on.is_run); told_is = λ i. right i ∷ moved_on.told_is i }
+      record {
+        histories = h ∷ moved_on.histories;
+        is_run = (h, moved_on.histories, refl, run, can, moved_on.is_run);
+        told_is = λ i. right i ∷ moved_on.told_is i;
+      }
   goes_on (next ∷ rest) told (Differs d) some later =
       inr (inr (h, record { is_run = run; right = right; savable = can }, subst (λ (x : Plain). DiffersFrom (n + 1) x (next ∷ rest) told d) now later))
 
 -- the last leg is right
-ends : (n : ℕ) (u w : Plain) (leg : Leg) (t : LegLines) (h : List Entry) → IsLegRun u leg h → t ≡ ended u leg h (Some Done) → (v : Verdict) → IsVerdictFrom (n + 1) w [] [] v → IsVerdictFrom n u (leg ∷ []) (t ∷ []) v
+ends : (n : ℕ) (u w : Plain) (leg : Leg) (t : LegLines) (h : List Entry) → IsLegRun u leg h → t ≡ ended u leg h (Some Done) → (v : Verdict)
+    → IsVerdictFrom (n + 1) w [] [] v → IsVerdictFrom n u (leg ∷ []) (t ∷ []) v
 ends n u w leg t h run right Agrees later = record { histories = h ∷ []; is_run = (h, refl, run); told_is = λ i. right i ∷ [] }
 ends n u w leg t h run right (Differs d) later = absurd later
 
@@ -129,7 +140,8 @@ pub record Checking (first : Plain) (legs : List Leg) (told : List LegLines) (i 
   pub shape : HasShape (length first.redistributors) (length (drop i legs)) (drop i told)
   pub goes : (v : Verdict) → IsVerdictFrom (i + 1) u (drop i legs) (drop i told) v → IsVerdictFrom 1 first legs told v
 
-pub checking_none : (first : Plain) (legs : List Leg) (told : List LegLines) → HasShape (length first.redistributors) (length legs) told → Checking first legs told 0 first
+pub checking_none : (first : Plain) (legs : List Leg) (told : List LegLines) → HasShape (length first.redistributors) (length legs) told
+    → Checking first legs told 0 first
 checking_none first legs told shape = record {
   vcpus = refl;
   long = shape_long (length first.redistributors) (length legs) told shape;
@@ -147,7 +159,8 @@ pub record InHand (legs : List Leg) (told : List LegLines) (i : ℕ) (leg : Leg)
   pub lists_are : lists ≡ told
   pub lines_at : t ≡ get_or lists i t
 
-module _ (first : Plain) (legs : List Leg) (told : List LegLines) (i : ℕ) (u : Plain) (leg : Leg) (t : LegLines) (c : Checking first legs told i u) (has : InHand legs told i leg t) where
+module _ (first : Plain) (legs : List Leg) (told : List LegLines) (i : ℕ) (u : Plain) (leg : Leg) (t : LegLines) (c : Checking first legs told i u)
+    (has : InHand legs told i leg t) where
   lt : i < length legs
   lt = has.below
 
@@ -195,7 +208,8 @@ module _ (first : Plain) (legs : List Leg) (told : List LegLines) (i : ℕ) (u :
       after_one zero some = absurd (omega arith)
       after_one (suc n) some = refl
 
-  pub differs_after : (w : Plain) (d : Difference) → i + 1 < length legs → IsLegRight u leg t.entries t.pending w → IsFault (i + 1) (length t.entries) w d → IsVerdictFrom 1 first legs told (Differs d)
+  pub differs_after : (w : Plain) (d : Difference) → i + 1 < length legs → IsLegRight u leg t.entries t.pending w → IsFault (i + 1) (length t.entries) w d
+      → IsVerdictFrom 1 first legs told (Differs d)
   differs_after w d more right fault =
       whole (Differs d) (end_is (i + 1) u leg rest t later d (omega (arith, rest_long, more)) (cannot u leg t (i + 1) w d right (end_migrated more) fault))
 
@@ -207,7 +221,8 @@ module _ (first : Plain) (legs : List Leg) (told : List LegLines) (i : ℕ) (u :
         vcpus = ap (λ (z : Plain). length z.redistributors) now ∙ (moved_vcpus (after u a.history) ∙ (after_vcpus u a.history ∙ c.vcpus));
         long = c.long;
         shape = both.1;
-        goes = λ v h. whole v (goes_on (i + 1) u x leg t a.history a.is_run (subst IsSavable a.now_is m.is_savable) now (told_is u leg t w Migrated right (end_migrated more)) rest later v (omega (arith, rest_long, more)) h);
+        goes = λ v h. whole v (goes_on (i + 1) u x leg t a.history a.is_run (subst IsSavable a.now_is m.is_savable) now
+            (told_is u leg t w Migrated right (end_migrated more)) rest later v (omega (arith, rest_long, more)) h);
       }
 
   pub checking_last : (w : Plain) → length legs ≤ i + 1 → IsLegRight u leg t.entries t.pending w → Checking first legs told (i + 1) w
@@ -221,10 +236,12 @@ module _ (first : Plain) (legs : List Leg) (told : List LegLines) (i : ℕ) (u :
         long = c.long;
         shape = both.1;
         goes = λ v h. whole v (subst (λ (p : List Leg × List LegLines). IsVerdictFrom (i + 1) u (leg ∷ p.0) (t ∷ p.1) v) (λ j. (sym none j, sym gone j))
-            (ends (i + 1) u w leg t a.history a.is_run (told_is u leg t w Done right done) v (subst (λ (p : List Leg × List LegLines). IsVerdictFrom (i + 1 + 1) w p.0 p.1 v) (λ j. (none j, gone j)) h)));
+            (ends (i + 1) u w leg t a.history a.is_run (told_is u leg t w Done right done) v
+            (subst (λ (p : List Leg × List LegLines). IsVerdictFrom (i + 1 + 1) w p.0 p.1 v) (λ j. (none j, gone j)) h)));
       }
 
-pub checking_all : (first : Plain) (legs : List Leg) (told : List LegLines) (i : ℕ) (u : Plain) → Checking first legs told i u → length legs ≤ i → IsReportOfRun first legs told
+pub checking_all : (first : Plain) (legs : List Leg) (told : List LegLines) (i : ℕ) (u : Plain) → Checking first legs told i u → length legs ≤ i
+    → IsReportOfRun first legs told
 checking_all first legs told i u c le =
     let none : drop i legs ≡ [] = drop_all i legs le in
     let gone : drop i told ≡ [] = drop_all i told (omega (arith, le, c.long)) in
@@ -232,5 +249,6 @@ checking_all first legs told i u c le =
     c.goes Agrees (subst (λ (p : List Leg × List LegLines). IsReportOfRun u p.0 p.1) (λ j. (sym none j, sym gone j)) nothing)
 
 -- a difference leaves no run
-pub no_run : (first : Plain) (legs : List Leg) (told : List LegLines) (d : Difference) → IsVerdictFrom 1 first legs told (Differs d) → IsReportOfRun first legs told → ⊥
+pub no_run : (first : Plain) (legs : List Leg) (told : List LegLines) (d : Difference) → IsVerdictFrom 1 first legs told (Differs d)
+    → IsReportOfRun first legs told → ⊥
 no_run first legs told d h run = exact_from 1 first legs told d h run

@@ -1,5 +1,6 @@
 -- How the program's counts show which calls are left.
-use Rattle.std.proofs.Common.{◌≡◌, ◌≢◌, ℕ, zero, suc, ◌+◌, ◌-◌, ◌<◌, ◌≤◌, ltb, cond, eqb, Bool, false, not, List, [], ◌∷◌, length, take, drop, set, get_or, count_by, Option, Some, None, IfSome, is_some, option_map, Bor, refl, sym, ap, ◌∙◌, inl, inr, arith, lt-ltb, eq-eqb, ne_eqb}
+use Rattle.std.proofs.Common.{◌≡◌, ◌≢◌, ℕ, zero, suc, ◌+◌, ◌-◌, ◌<◌, ◌≤◌, ltb, cond, eqb, Bool, false, not, List, [], ◌∷◌, length, take, drop, set, get_or}
+use Rattle.std.proofs.Common.{count_by, Option, Some, None, IfSome, is_some, option_map, Bor, refl, sym, ap, ◌∙◌, inl, inr, arith, lt-ltb, eq-eqb, ne_eqb}
 use Rattle.std.specs.Prelude.{slice_get}
 use Rattle.std.proofs.lemmas.Bool.{cases_lt, le-ltb, false≢true}
 use Rattle.std.proofs.lemmas.List.{take_all, get_or_read}
@@ -17,7 +18,8 @@ none_past (calls ∷ threads) [] i le = refl
 none_past (calls ∷ threads) (n ∷ ns) zero le = absurd (omega arith)
 none_past (calls ∷ threads) (n ∷ ns) (suc i) le = none_past threads ns i (omega arith)
 
-call_is : (threads : Phase) (ns : List ℕ) (i n : ℕ) (calls : Thread) → i < length threads → length ns ≡ length threads → calls ≡ get_or threads i calls → n ≡ get_or ns i n → call_of threads ns i ≡ slice_get calls n
+call_is : (threads : Phase) (ns : List ℕ) (i n : ℕ) (calls : Thread) → i < length threads → length ns ≡ length threads → calls ≡ get_or threads i calls
+    → n ≡ get_or ns i n → call_of threads ns i ≡ slice_get calls n
 call_is [] ns i n calls lt long at here = absurd (omega arith)
 call_is (x ∷ threads) [] i n calls lt long at here = absurd (omega arith)
 call_is (x ∷ threads) (m ∷ ns) zero n calls lt long at here = λ d. slice_get (sym at d) (sym here d)
@@ -33,7 +35,8 @@ get_past [] n le = refl
 get_past (x ∷ cs) zero le = absurd (omega arith)
 get_past (x ∷ cs) (suc n) le = get_past cs n (omega arith)
 
-get_is : (cs : List Call) (n : ℕ) (o : Option (Bor Call)) → is_some o ≡ ltb n (length cs) → IfSome o (λ x. x.now ≡ get_or cs n x.now) → option_map (λ x. x.now) o ≡ slice_get cs n
+get_is : (cs : List Call) (n : ℕ) (o : Option (Bor Call)) → is_some o ≡ ltb n (length cs) → IfSome o (λ x. x.now ≡ get_or cs n x.now)
+    → option_map (λ x. x.now) o ≡ slice_get cs n
 get_is cs n None e at =
     elim (cases_lt n (length cs)) [
       | inl lt ↦ absurd (false≢true (e ∙ lt-ltb n (length cs) lt))
@@ -45,7 +48,8 @@ get_is cs n (Some x) e at =
       | inr le ↦ absurd (false≢true (sym (e ∙ le-ltb n (length cs) le)))
     ]
 
-pub looked_up : (threads : Phase) (ns : List ℕ) (i n : ℕ) (calls : Thread) (o : Option (Bor Call)) → i < length threads → length ns ≡ length threads → calls ≡ get_or threads i calls → n ≡ get_or ns i n
+pub looked_up : (threads : Phase) (ns : List ℕ) (i n : ℕ) (calls : Thread) (o : Option (Bor Call)) → i < length threads → length ns ≡ length threads
+    → calls ≡ get_or threads i calls → n ≡ get_or ns i n
     → is_some o ≡ ltb n (length calls) → IfSome o (λ x. x.now ≡ get_or calls n x.now) → option_map (λ x. x.now) o ≡ call_of threads ns i
 looked_up threads ns i n calls o lt long at here e found = get_is calls n o e found ∙ sym (call_is threads ns i n calls lt long at here)
 
@@ -68,7 +72,8 @@ pub zeros_open : (threads : Phase) → open_count threads (zeros threads) ≡ co
 zeros_open threads = is_count_by opened_count has_calls refl count_one threads
 
 -- one more call of a thread is answered, and the thread has more
-pub count_left : (threads : Phase) (ns : List ℕ) (i : ℕ) → i < length threads → length ns ≡ length threads → get_or ns i 0 + 1 < length (get_or threads i []) → open_count threads (set ns i (get_or ns i 0 + 1)) ≡ open_count threads ns
+pub count_left : (threads : Phase) (ns : List ℕ) (i : ℕ) → i < length threads → length ns ≡ length threads → get_or ns i 0 + 1 < length (get_or threads i [])
+    → open_count threads (set ns i (get_or ns i 0 + 1)) ≡ open_count threads ns
 count_left [] ns i lt long more = absurd (omega arith)
 count_left (calls ∷ threads) [] i lt long more = absurd (omega arith)
 count_left (calls ∷ threads) (n ∷ ns) zero lt long more =
@@ -78,7 +83,8 @@ count_left (calls ∷ threads) (n ∷ ns) zero lt long more =
 count_left (calls ∷ threads) (n ∷ ns) (suc i) lt long more = ap (λ k. one_if n (length calls) + k) (count_left threads ns i (omega arith) (omega arith) more)
 
 -- or it was its last
-pub count_last : (threads : Phase) (ns : List ℕ) (i : ℕ) → i < length threads → length ns ≡ length threads → get_or ns i 0 + 1 ≡ length (get_or threads i []) → open_count threads ns ≡ suc (open_count threads (set ns i (get_or ns i 0 + 1)))
+pub count_last : (threads : Phase) (ns : List ℕ) (i : ℕ) → i < length threads → length ns ≡ length threads → get_or ns i 0 + 1 ≡ length (get_or threads i [])
+    → open_count threads ns ≡ suc (open_count threads (set ns i (get_or ns i 0 + 1)))
 count_last [] ns i lt long more = absurd (omega arith)
 count_last (calls ∷ threads) [] i lt long more = absurd (omega arith)
 count_last (calls ∷ threads) (n ∷ ns) zero lt long more =
@@ -97,13 +103,15 @@ pub later_is : (phases : Leg) → take (length phases - 1) (drop 1 phases) ≡ l
 later_is [] = refl
 later_is (threads ∷ later) = take_all (suc (length later) - 1) later (omega arith)
 
-pub opened_over : (n : ℕ) (phases : Leg) (threads : Phase) → 0 < length phases → threads ≡ get_or phases 0 threads → opened_count threads ≡ 0 → opened n phases ≡ opened (n + 1) (later_of phases)
+pub opened_over : (n : ℕ) (phases : Leg) (threads : Phase) → 0 < length phases → threads ≡ get_or phases 0 threads → opened_count threads ≡ 0
+    → opened n phases ≡ opened (n + 1) (later_of phases)
 opened_over n [] threads some first none = absurd (omega arith)
 opened_over n (x ∷ later) threads some first none =
     let count : opened_count x ≡ 0 = ap opened_count (sym first) ∙ none in
     ap (λ b. cond b (opened (n + 1) later) (at n (x ∷ later) (zeros x))) (eq-eqb (opened_count x) 0 count)
 
-pub opened_here : (n : ℕ) (phases : Leg) (threads : Phase) (ns : List ℕ) → 0 < length phases → threads ≡ get_or phases 0 threads → 0 < opened_count threads → ns ≡ zeros threads → at n phases ns ≡ opened n phases
+pub opened_here : (n : ℕ) (phases : Leg) (threads : Phase) (ns : List ℕ) → 0 < length phases → threads ≡ get_or phases 0 threads → 0 < opened_count threads
+    → ns ≡ zeros threads → at n phases ns ≡ opened n phases
 opened_here n [] threads ns some first left is = absurd (omega arith)
 opened_here n (x ∷ later) threads ns some first left is =
     let count : opened_count x ≢ 0 = λ e. absurd (let same : opened_count threads ≡ opened_count x = ap opened_count first in omega (arith, e, same, left)) in
@@ -115,7 +123,8 @@ first_of (x ∷ later) threads some first = sym first
 
 -- ---- one more call is counted
 
-module _ (threads : Phase) (ns : List ℕ) (i n len : ℕ) (calls : Thread) (below : i < length threads) (long : length ns ≡ length threads) (at_thread : calls ≡ get_or threads i calls) (here : n ≡ get_or ns i n) (long_is : len ≡ length calls) where
+module _ (threads : Phase) (ns : List ℕ) (i n len : ℕ) (calls : Thread) (below : i < length threads) (long : length ns ≡ length threads)
+    (at_thread : calls ≡ get_or threads i calls) (here : n ≡ get_or ns i n) (long_is : len ≡ length calls) where
   n_is : n ≡ get_or ns i 0
   n_is = get_or_read ns i n (omega (arith, below, long)) here 0
 
@@ -137,7 +146,8 @@ later_fits [] some = absurd (omega arith)
 later_fits (x ∷ later) some = refl
 
 -- a thread that has a next call has a call left
-pub has_left : (threads : Phase) (ns : List ℕ) (i : ℕ) (c : Call) → call_of threads ns i ≡ Some c → (i < length threads) × (get_or ns i 0 < length (get_or threads i []))
+pub has_left : (threads : Phase) (ns : List ℕ) (i : ℕ) (c : Call) → call_of threads ns i ≡ Some c → (i < length threads)
+    × (get_or ns i 0 < length (get_or threads i []))
 has_left [] ns i c e = absurd (cc e)
 has_left (calls ∷ threads) [] i c e = absurd (cc e)
 has_left (calls ∷ threads) (n ∷ ns) zero c e = (omega arith, get_within calls n c e)

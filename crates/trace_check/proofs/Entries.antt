@@ -1,5 +1,6 @@
 -- The entries of a leg, one after another.
-use Rattle.std.proofs.Common.{◌≡◌, ℕ, zero, suc, ◌+◌, ◌<◌, ◌≤◌, List, [], ◌∷◌, ◌++◌, length, take, drop, get_or, Some, None, refl, sym, ap, subst, ◌∙◌, inl, inr, arith, length-append}
+use Rattle.std.proofs.Common.{◌≡◌, ℕ, zero, suc, ◌+◌, ◌<◌, ◌≤◌, List, [], ◌∷◌, ◌++◌, length, take, drop, get_or, Some, None, refl, sym, ap, subst, ◌∙◌, inl}
+use Rattle.std.proofs.Common.{inr, arith, length-append}
 use Rattle.std.specs.Prelude.{codes}
 use Rattle.std.proofs.lemmas.List.{take_more, take_all, take-append-drop, drop_more}
 use Rattle.its_plain.specs.Plain.{Plain}
@@ -82,20 +83,28 @@ module _ (first : Plain) (leg : Leg) (entries : List EntryLine) (k : ℕ) (u : P
   text_is i call g = (λ d. answered_text (g.is_entry d).call (g.is_entry d).reply) ∙ ap (answered_text call) (reply_is call)
 
   -- its line
-  told_is : (i : ℕ) (call : Call) → (g : Goes first leg went.history (progress c) i call) → entry_told leg g.entry ≡ told_text c.number (suc i) (right_text u call)
+  told_is : (i : ℕ) (call : Call) → (g : Goes first leg went.history (progress c) i call) → entry_told leg g.entry ≡ told_text c.number (suc i)
+      (right_text u call)
   told_is i call g = (λ d. told_text (g.seat_is d).0 (g.seat_is d).1 (text_is i call g d))
 
-  seat_line : (line : EntryLine) (i : ℕ) (call : Call) → (g : Goes first leg went.history (progress c) i call) → IsNext (progress c) line.phase line.thread i call → seat leg g.entry.pass ≡ (line.phase, line.thread)
+  seat_line : (line : EntryLine) (i : ℕ) (call : Call) → (g : Goes first leg went.history (progress c) i call)
+      → IsNext (progress c) line.phase line.thread i call → seat leg g.entry.pass ≡ (line.phase, line.thread)
   seat_line line i call g n = g.seat_is ∙ (λ d. (sym n.phase_is d, sym n.thread_is d))
 
-  pub went_more : (line : EntryLine) (w : Plain) (d : Cursor) → ArePlaced 0 entries → k < length entries → line ≡ get_or entries k line → IsRight u (progress c) line w (progress d) → IsCounted d → Went first leg entries (k + 1) w d
+  pub went_more : (line : EntryLine) (w : Plain) (d : Cursor) → ArePlaced 0 entries → k < length entries → line ≡ get_or entries k line
+      → IsRight u (progress c) line w (progress d) → IsCounted d → Went first leg entries (k + 1) w d
   went_more line w d placed lt at_k right counted =
       let n = next_means (progress c) line.phase line.thread right.thread right.call right.next in
       let g = going right.thread right.call n.call_is in
       let place : line.place ≡ length went.history = placed_at 0 entries k line placed lt at_k ∙ omega (arith, went.count) in
       let here = seat_line line right.thread right.call g n in
       let text : line.text ≡ answered_text g.entry.call g.entry.reply = right.text ∙ sym (text_is right.thread right.call g) in
-      let line_is : line ≡ entry_line (λ pass. seat leg pass) (length went.history) g.entry = λ j. record { place = place j; phase = (sym here j).0; thread = (sym here j).1; text = text j } in
+      let line_is : line ≡ entry_line (λ pass. seat leg pass) (length went.history) g.entry = λ j. record {
+        place = place j;
+        phase = (sym here j).0;
+        thread = (sym here j).1;
+        text = text j;
+      } in
       let z : 0 + length went.history ≡ length went.history = omega arith in
       let call : g.entry.call ≡ right.call = λ j. (g.is_entry j).call in
       record {
@@ -105,7 +114,8 @@ module _ (first : Plain) (leg : Leg) (entries : List EntryLine) (k : ℕ) (u : P
         now_is = right.state ∙ ((λ j. (answer (went.now_is j) (sym call j)).1) ∙ sym (after_more first went.history g.entry));
         lines_are = take_more entries k line lt
             ∙ ((λ j. went.lines_are j ++ (sym at_k ∙ line_is) j ∷ [])
-            ∙ sym (lines_more (λ pass. seat leg pass) 0 went.history g.entry ∙ ap (λ m. lines leg went.history ++ entry_line (λ pass. seat leg pass) m g.entry ∷ []) z));
+            ∙ sym (lines_more (λ pass. seat leg pass) 0 went.history g.entry ∙ ap (λ m. lines leg went.history ++ entry_line (λ pass. seat leg pass) m g.entry
+            ∷ []) z));
         is_at = subst (IsAt leg (went.history ++ g.entry ∷ [])) (sym right.progress) g.now;
         is_settled = subst IsSettled (sym right.progress) (settled_settled c.number c.phases.now (more c.answered.items right.thread));
         counted = counted;
@@ -131,7 +141,8 @@ module _ (first : Plain) (leg : Leg) (entries : List EntryLine) (k : ℕ) (u : P
     is_nothing = o.is_nothing;
   }
 
-  pub differs_here : (n : ℕ) (line : EntryLine) (d : Difference) → k < length entries → line ≡ get_or entries k line → IsWrong u (progress c) line d.is → d.leg ≡ n → d.place ≡ k → d.said ≡ line_told line → EntriesDiffer n first leg entries d
+  pub differs_here : (n : ℕ) (line : EntryLine) (d : Difference) → k < length entries → line ≡ get_or entries k line → IsWrong u (progress c) line d.is
+      → d.leg ≡ n → d.place ≡ k → d.said ≡ line_told line → EntriesDiffer n first leg entries d
   differs_here n line d lt at_k wrong leg_is place said = record {
     leg_is = leg_is;
     differs = λ told same. inl (record {
@@ -151,8 +162,10 @@ module _ (first : Plain) (leg : Leg) (entries : List EntryLine) (k : ℕ) (u : P
   all_lines : length entries ≤ k → entries ≡ lines leg went.history
   all_lines le = sym (take_all k entries le) ∙ went.lines_are
 
-  pub ends_early : (n i : ℕ) (call : Call) (d : Difference) → length entries ≤ k → k ≤ length entries → call_in c i ≡ Some call → ((j : ℕ) → j < i → call_in c j ≡ None)
-      → d.leg ≡ n → d.place ≡ length entries → d.said ≡ codes "nothing" → d.is ≡ told_text c.number (suc i) (right_text u call) → EntriesDiffer n first leg entries d
+  pub ends_early : (n i : ℕ) (call : Call) (d : Difference) → length entries ≤ k → k ≤ length entries → call_in c i ≡ Some call
+      → ((j : ℕ) → j < i → call_in c j ≡ None)
+      → d.leg ≡ n → d.place ≡ length entries → d.said ≡ codes "nothing" → d.is ≡ told_text c.number (suc i) (right_text u call)
+      → EntriesDiffer n first leg entries d
   ends_early n i call d le ge found least leg_is place said is =
       let g = going i call found in
       record {

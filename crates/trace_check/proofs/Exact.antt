@@ -1,5 +1,6 @@
 -- A report with a difference is that of no run.
-use Rattle.std.proofs.Common.{◌≡◌, ℕ, suc, ◌+◌, List, [], ◌∷◌, ◌++◌, length, Option, Some, Ok, Err, refl, sym, ap, subst, ◌∙◌, inl, inr, arith, append_assoc, append-nil}
+use Rattle.std.proofs.Common.{◌≡◌, ℕ, suc, ◌+◌, List, [], ◌∷◌, ◌++◌, length, Option, Some, Ok, Err, refl, sym, ap, subst, ◌∙◌, inl, inr, arith, append_assoc}
+use Rattle.std.proofs.Common.{append-nil}
 use Rattle.std.proofs.lemmas.List.{append_cancel_left}
 use Rattle.its_plain.specs.Plain.{Plain}
 use Rattle.its_plain.specs.Answer.{answer}
@@ -17,7 +18,8 @@ use Rattle.its_history.specs.declared.trace.End.TheVariants.{Migrated, Done}
 use Rattle.its_history.specs.declared.trace.EntryLine.{EntryLine}
 use Rattle.its_history.specs.declared.trace.Leg.{Leg as LegLines}
 use Rattle.trace_check.specs.Cursors.{Progress, threads_of, call_of, opened, taken, more}
-use Rattle.trace_check.specs.Differences.{seat, lines, MayFollow, EntryDiffers, EndsEarly, PendingDiffers, CannotMigrate, LinesDiffer, DiffersFrom, pending_texts}
+use Rattle.trace_check.specs.Differences.{seat, lines, MayFollow, EntryDiffers, EndsEarly, PendingDiffers, CannotMigrate, LinesDiffer, DiffersFrom}
+use Rattle.trace_check.specs.Differences.{pending_texts}
 use Rattle.trace_check.specs.Verdicts.{IsReportOfRun}
 use Rattle.trace_check.specs.declared.verdict.Difference.{Difference}
 use Rattle.trace_check.proofs.Lists.{head_is, tail_is, legal_front, legal_reply}
@@ -43,7 +45,8 @@ module _ (first : Plain) (leg : Leg) where
 
   -- ---- one entry of a thread alone may follow
 
-  same_entry : (pre : List Entry) (p : Progress) → IsAt leg pre p → IsSettled p → (x y : Entry) → MayFollow first leg pre x → MayFollow first leg pre y → seat leg y.pass ≡ seat leg x.pass → y ≡ x
+  same_entry : (pre : List Entry) (p : Progress) → IsAt leg pre p → IsSettled p → (x y : Entry) → MayFollow first leg pre x → MayFollow first leg pre y
+      → seat leg y.pass ≡ seat leg x.pass → y ≡ x
   same_entry pre p a settled x y mx my same =
       let n : HasNext leg pre p a x = has_next leg pre p a settled x mx.calls in
       let m : HasNext leg pre p a y = has_next leg pre p a settled y my.calls in
@@ -51,7 +54,8 @@ module _ (first : Plain) (leg : Leg) where
       let thread : m.thread ≡ n.thread = same_thread m.thread n.thread p.number places in
       let pass : y.pass ≡ x.pass = m.pass ∙ (ap (λ k. suc a.base + k) thread ∙ sym n.pass) in
       let call : y.call ≡ x.call = same_call y.call x.call (sym m.call ∙ (ap (call_of (threads_of p.phases) p.answered) thread ∙ n.call)) in
-      let reply : y.reply ≡ x.reply = legal_reply first pre y [] my.legal ∙ (ap (λ c. (answer (after first pre) c).0) call ∙ sym (legal_reply first pre x [] mx.legal)) in
+      let reply : y.reply ≡ x.reply = legal_reply first pre y [] my.legal
+      ∙ (ap (λ c. (answer (after first pre) c).0) call ∙ sym (legal_reply first pre x [] mx.legal)) in
       λ d. record { pass = pass d; call = call d; reply = reply d }
 
   -- ---- a history of a part of the leg says how far its calls are answered
@@ -67,7 +71,8 @@ module _ (first : Plain) (leg : Leg) where
       let one : pre ++ x ∷ h ≡ (pre ++ x ∷ []) ++ h = sym (append_assoc pre (x ∷ []) h) in
       let long : IsPartOfLegRun first leg ((pre ++ x ∷ []) ++ h) = subst (IsPartOfLegRun first leg) one part in
       let n = has_next leg pre p a settled x (part_of (pre ++ x ∷ []) h long).calls in
-      subst Reaches (sym one) (reaches (pre ++ x ∷ []) (taken n.thread p) (at_taken leg pre p n.thread x a n.call n.pass) (settled_settled p.number p.phases (more p.answered n.thread)) h long)
+      subst Reaches (sym one) (reaches (pre ++ x ∷ []) (taken n.thread p) (at_taken leg pre p n.thread x a n.call n.pass)
+      (settled_settled p.number p.phases (more p.answered n.thread)) h long)
 
   reach : (h : List Entry) → IsPartOfLegRun first leg h → Reaches h
   reach h part = reaches [] (opened 1 leg) (at_opened leg [] 1 leg (at_first leg)) (opened_settled 1 leg) h part
@@ -78,7 +83,8 @@ module _ (first : Plain) (leg : Leg) where
 
   -- ---- histories with the same lines
 
-  begins : (pre : List Entry) (n : ℕ) (h g : List Entry) (ls : List EntryLine) → IsPartOfLegRun first leg (pre ++ h) → IsPartOfLegRun first leg (pre ++ g) → history_lines seats n g ≡ history_lines seats n h ++ ls
+  begins : (pre : List Entry) (n : ℕ) (h g : List Entry) (ls : List EntryLine) → IsPartOfLegRun first leg (pre ++ h) → IsPartOfLegRun first leg (pre ++ g)
+      → history_lines seats n g ≡ history_lines seats n h ++ ls
       → (rest : List Entry) × (g ≡ h ++ rest) × (history_lines seats (n + length h) rest ≡ ls)
   begins pre n [] g ls ph pg e = let z : n + 0 ≡ n = omega arith in (g, refl, ap (λ k. history_lines seats k g) z ∙ e)
   begins pre n (x ∷ h) [] ls ph pg e = absurd (cc e)
@@ -119,12 +125,17 @@ module _ (first : Plain) (leg : Leg) where
     pub may : MayFollow first leg h entry
     pub line_is : entry_line seats (length h) entry ≡ line
 
-  follows_as : (h g : List Entry) (line : EntryLine) (later : List EntryLine) → IsPartOfLegRun first leg h → IsPartOfLegRun first leg g → lines leg g ≡ lines leg h ++ line ∷ later → FollowsAs h line
+  follows_as : (h g : List Entry) (line : EntryLine) (later : List EntryLine) → IsPartOfLegRun first leg h → IsPartOfLegRun first leg g
+      → lines leg g ≡ lines leg h ++ line ∷ later → FollowsAs h line
   follows_as h g line later ph pg same = (let r = run_begins h g (line ∷ later) ph pg same in one r.0 r.1 r.2)
     where
       one : (rest : List Entry) → g ≡ h ++ rest → history_lines seats (length h) rest ≡ line ∷ later → FollowsAs h line
       one [] is e = absurd (cc e)
-      one (x ∷ rest) is e = record { entry = x; may = part_of (h ++ x ∷ []) rest (subst (IsPartOfLegRun first leg) (is ∙ sym (append_assoc h (x ∷ []) rest)) pg); line_is = head_is e }
+      one (x ∷ rest) is e = record {
+        entry = x;
+        may = part_of (h ++ x ∷ []) rest (subst (IsPartOfLegRun first leg) (is ∙ sym (append_assoc h (x ∷ []) rest)) pg);
+        line_is = head_is e;
+      }
 
   entry_exact : (told : LegLines) (d : Difference) (g : List Entry) → EntryDiffers first leg told d → IsLegRun first leg g → told.entries ≡ lines leg g → ⊥
   entry_exact told d g w run same =
@@ -145,13 +156,16 @@ module _ (first : Plain) (leg : Leg) where
   early_exact : (told : LegLines) (d : Difference) (g : List Entry) → EndsEarly first leg told d → IsLegRun first leg g → told.entries ≡ lines leg g → ⊥
   early_exact told d g w run same = over g w.history w.entry run (run_same w.history g w.is_part (run_part g run) (sym same ∙ w.entries)) w.next
 
-  pending_exact : (told : LegLines) (d : Difference) (g : List Entry) → PendingDiffers first leg told d → IsLegRun first leg g → told.entries ≡ lines leg g → told.pending ≡ pending_texts (after first g) → ⊥
+  pending_exact : (told : LegLines) (d : Difference) (g : List Entry) → PendingDiffers first leg told d → IsLegRun first leg g → told.entries ≡ lines leg g
+      → told.pending ≡ pending_texts (after first g) → ⊥
   pending_exact told d g w run same pending =
       let is : g ≡ w.history = run_same w.history g (run_part w.history w.is_run) (run_part g run) (sym same ∙ w.entries) in
-      let texts : w.before ++ w.said_text ∷ w.said_later ≡ w.before ++ w.is_text ∷ w.is_later = sym w.pending_said ∙ (pending ∙ (ap (λ (h : List Entry). pending_texts (after first h)) is ∙ w.pending_is)) in
+      let texts : w.before ++ w.said_text ∷ w.said_later ≡ w.before ++ w.is_text ∷ w.is_later = sym w.pending_said
+      ∙ (pending ∙ (ap (λ (h : List Entry). pending_texts (after first h)) is ∙ w.pending_is)) in
       w.differs (head_is (append_cancel_left w.before (w.said_text ∷ w.said_later) (w.is_text ∷ w.is_later) texts))
 
-  pub lines_exact : (told : LegLines) (d : Difference) (g : List Entry) (end : Option End) → LinesDiffer first leg told d → IsLegRun first leg g → told ≡ ended first leg g end → ⊥
+  pub lines_exact : (told : LegLines) (d : Difference) (g : List Entry) (end : Option End) → LinesDiffer first leg told d → IsLegRun first leg g
+      → told ≡ ended first leg g end → ⊥
   lines_exact told d g end w run same =
       let entries : told.entries ≡ lines leg g = λ i. (same i).entries in
       elim w [
@@ -159,10 +173,12 @@ module _ (first : Plain) (leg : Leg) where
         | inr v ↦ elim v [ inl e ↦ early_exact told d g e run entries | inr p ↦ pending_exact told d g p run entries (λ i. (same i).pending) ]
       ]
 
-  pub same_history : (told : LegLines) (h g : List Entry) (end last : Option End) → IsLegRun first leg h → IsLegRun first leg g → told ≡ ended first leg h end → told ≡ ended first leg g last → g ≡ h
+  pub same_history : (told : LegLines) (h g : List Entry) (end last : Option End) → IsLegRun first leg h → IsLegRun first leg g → told ≡ ended first leg h end
+      → told ≡ ended first leg g last → g ≡ h
   same_history told h g end last hr gr he ge = run_same h g (run_part h hr) (run_part g gr) (λ i. ((sym ge ∙ he) i).entries)
 
-  pub end_exact : (told : LegLines) (d : Difference) (g : List Entry) (end : Option End) → CannotMigrate first leg told d → IsLegRun first leg g → IsSavable (after first g) → told ≡ ended first leg g end → ⊥
+  pub end_exact : (told : LegLines) (d : Difference) (g : List Entry) (end : Option End) → CannotMigrate first leg told d → IsLegRun first leg g
+      → IsSavable (after first g) → told ≡ ended first leg g end → ⊥
   end_exact told d g end w run can same =
       let is : g ≡ w.history = same_history told w.history g (Some Migrated) end w.is_run run w.right same in
       let both : Ok tt ≡ Err w.fault = sym can ∙ (ap (λ (h : List Entry). savable (after first h)) is ∙ w.not_savable) in
@@ -170,7 +186,8 @@ module _ (first : Plain) (leg : Leg) where
 
 -- ---- legs
 
-pub exact_from : (n : ℕ) (first : Plain) (legs : List Leg) (told : List LegLines) (d : Difference) → DiffersFrom n first legs told d → IsReportOfRun first legs told → ⊥
+pub exact_from : (n : ℕ) (first : Plain) (legs : List Leg) (told : List LegLines) (d : Difference) → DiffersFrom n first legs told d
+    → IsReportOfRun first legs told → ⊥
 exact_from n first [] told d w r = w
 exact_from n first (leg ∷ legs) [] d w r = absurd w
 exact_from n first (leg ∷ []) (t ∷ told) d w r =
@@ -179,7 +196,8 @@ exact_from n first (leg ∷ []) (t ∷ told) d w r =
     lines_exact first leg t d run.0 (Some Done) w.lines run.2 (head_is one)
 exact_from n first (leg ∷ (next ∷ legs)) (t ∷ told) d w r =
     let run = r.is_run in
-    let whole : t ∷ told ≡ ended first leg run.0 (Some Migrated) ∷ reported (moved (after first run.0)) (next ∷ legs) run.1 = r.told_is ∙ ap (reported first (leg ∷ (next ∷ legs))) run.2 in
+    let whole : t ∷ told ≡ ended first leg run.0 (Some Migrated) ∷ reported (moved (after first run.0)) (next ∷ legs) run.1 = r.told_is
+    ∙ ap (reported first (leg ∷ (next ∷ legs))) run.2 in
     let here : t ≡ ended first leg run.0 (Some Migrated) = head_is whole in
     elim w [
       | inl h ↦ lines_exact first leg t d run.0 (Some Migrated) h.lines run.3 here
@@ -188,7 +206,12 @@ exact_from n first (leg ∷ (next ∷ legs)) (t ∷ told) d w r =
             | inl m ↦ end_exact first leg t d run.0 (Some Migrated) m.end run.3 run.4 here
             | inr x ↦
                 let same : run.0 ≡ x.0 = same_history first leg t x.0 run.0 (Some Migrated) (Some Migrated) x.1.is_run run.3 x.1.right here in
-                let later : IsReportOfRun (moved (after first run.0)) (next ∷ legs) told = record { histories = run.1; is_run = run.5; told_is = tail_is whole } in
-                exact_from (n + 1) (moved (after first x.0)) (next ∷ legs) told d x.2 (subst (λ (h : List Entry). IsReportOfRun (moved (after first h)) (next ∷ legs) told) same later)
+                let later : IsReportOfRun (moved (after first run.0)) (next ∷ legs) told = record {
+                  histories = run.1;
+                  is_run = run.5;
+                  told_is = tail_is whole;
+                } in
+                exact_from (n + 1) (moved (after first x.0)) (next ∷ legs) told d x.2
+                (subst (λ (h : List Entry). IsReportOfRun (moved (after first h)) (next ∷ legs) told) same later)
           ]
     ]

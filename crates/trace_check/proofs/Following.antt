@@ -1,5 +1,6 @@
 -- Which entries may follow a history.
-use Rattle.std.proofs.Common.{◌≡◌, ◌⊎◌, ℕ, zero, suc, ◌+◌, ◌-◌, ◌<◌, cond, List, [], ◌∷◌, ◌++◌, length, Option, Some, None, refl, sym, ap, subst, ◌∙◌, inl, inr, arith, append-nil, length-append, le-leb, eq-eqb, ne_eqb}
+use Rattle.std.proofs.Common.{◌≡◌, ◌⊎◌, ℕ, zero, suc, ◌+◌, ◌-◌, ◌<◌, cond, List, [], ◌∷◌, ◌++◌, length, Option, Some, None, refl, sym, ap, subst, ◌∙◌, inl}
+use Rattle.std.proofs.Common.{inr, arith, append-nil, length-append, le-leb, eq-eqb, ne_eqb}
 use mathlib.Core.Logic.{dite}
 use native.Mathlib.Decide.{ℕ_discrete}
 use Rattle.its_plain.specs.Plain.{Plain}
@@ -19,7 +20,8 @@ use Rattle.trace_check.proofs.Going.{IsAt, IsSettled, at_taken, at_part}
 
 -- ---- an entry that follows is of the phase that has calls left
 
-in_phase : (pass : ℕ) (threads : Phase) (later : Leg) (now : List Entry) (ns : List ℕ) (e : Entry) → IsTaken pass threads now ns → 0 < open_count threads ns → ArePartOfPhases pass (threads ∷ later) (now ++ e ∷ []) → IsPartOfPhase pass threads (now ++ e ∷ [])
+in_phase : (pass : ℕ) (threads : Phase) (later : Leg) (now : List Entry) (ns : List ℕ) (e : Entry) → IsTaken pass threads now ns → 0 < open_count threads ns
+    → ArePartOfPhases pass (threads ∷ later) (now ++ e ∷ []) → IsPartOfPhase pass threads (now ++ e ∷ [])
 in_phase pass threads later now ns e t left p =
     elim p [
       | inl part ↦ part
@@ -55,7 +57,8 @@ pub record HasNext (leg : Leg) (h : List Entry) (p : Progress) (a : IsAt leg h p
 here_seat : (n count t : ℕ) (counts : List ℕ) → t < count → seat_from n (count ∷ counts) (suc t) ≡ (n, suc t)
 here_seat n count t counts lt = ap (λ b. cond b (n, suc t) (seat_from (n + 1) counts (suc t - count))) (le-leb (suc t) count (omega arith))
 
-pub seat_is_here : (leg : Leg) (h : List Entry) (p : Progress) → (a : IsAt leg h p) → (i : ℕ) (c : Call) → call_of (threads_of p.phases) p.answered i ≡ Some c → seat leg (suc a.base + i) ≡ (p.number, suc i)
+pub seat_is_here : (leg : Leg) (h : List Entry) (p : Progress) → (a : IsAt leg h p) → (i : ℕ) (c : Call) → call_of (threads_of p.phases) p.answered i ≡ Some c
+    → seat leg (suc a.base + i) ≡ (p.number, suc i)
 seat_is_here leg h p a i c call =
     let same : suc a.base + i ≡ a.base + suc i = omega arith in
     ap (seat leg) same ∙ (a.seats (suc i) (omega arith) ∙ of_phases p.phases p.answered call)
@@ -64,10 +67,12 @@ seat_is_here leg h p a i c call =
     of_phases [] ns found = absurd (cc found)
     of_phases (threads ∷ later) ns found = here_seat p.number (length threads) i (thread_counts later) (call_below threads ns i c found)
 
-pub has_next : (leg : Leg) (h : List Entry) (p : Progress) → (a : IsAt leg h p) → IsSettled p → (e : Entry) → ArePartOfPhases 1 leg (h ++ e ∷ []) → HasNext leg h p a e
+pub has_next : (leg : Leg) (h : List Entry) (p : Progress) → (a : IsAt leg h p) → IsSettled p → (e : Entry) → ArePartOfPhases 1 leg (h ++ e ∷ [])
+    → HasNext leg h p a e
 has_next leg h p a left e part = found (of_phases p.phases p.answered left a.is_taken (a.back (e ∷ []) part))
   where
-    of_phases : (phases : Leg) (ns : List ℕ) → (phases ≡ []) ⊎ (0 < open_count (threads_of phases) ns) → IsTaken (suc a.base) (threads_of phases) a.now ns → ArePartOfPhases (suc a.base) phases (a.now ++ e ∷ [])
+    of_phases : (phases : Leg) (ns : List ℕ) → (phases ≡ []) ⊎ (0 < open_count (threads_of phases) ns) → IsTaken (suc a.base) (threads_of phases) a.now ns
+        → ArePartOfPhases (suc a.base) phases (a.now ++ e ∷ [])
         → (i : ℕ) × (e.pass ≡ suc a.base + i) × (call_of (threads_of phases) ns i ≡ Some e.call)
     of_phases [] ns some t more = absurd (omega (arith, ap length more, length-append a.now (e ∷ [])))
     of_phases (threads ∷ later) ns some t more =
@@ -95,10 +100,12 @@ next_means p phase zero i c e = absurd (cc e)
 next_means p phase (suc t) i c e =
     dite (ℕ_discrete phase p.number)
     (λ same.
-    let found : with_thread t (call_of (threads_of p.phases) p.answered t) ≡ Some (i, c) = ap (λ b. cond b (with_thread t (call_of (threads_of p.phases) p.answered t)) None) (sym (eq-eqb phase p.number same)) ∙ e in
+    let found : with_thread t (call_of (threads_of p.phases) p.answered t) ≡ Some (i, c) =
+    ap (λ b. cond b (with_thread t (call_of (threads_of p.phases) p.answered t)) None) (sym (eq-eqb phase p.number same)) ∙ e in
     let w = of_thread t (call_of (threads_of p.phases) p.answered t) found in
     record { phase_is = same; thread_is = ap suc w.0; call_is = ap (call_of (threads_of p.phases) p.answered) (sym w.0) ∙ w.1 })
-    (λ other. absurd (let none : None ≡ Some (i, c) = ap (λ b. cond b (with_thread t (call_of (threads_of p.phases) p.answered t)) None) (sym (ne_eqb phase p.number other)) ∙ e in cc none))
+    (λ other. absurd (let none : None ≡ Some (i, c) = ap (λ b. cond b (with_thread t (call_of (threads_of p.phases) p.answered t)) None)
+    (sym (ne_eqb phase p.number other)) ∙ e in cc none))
   where
     of_thread : (k : ℕ) (o : Option Call) → with_thread k o ≡ Some (i, c) → (k ≡ i) × (o ≡ Some c)
     of_thread k None same = absurd (cc same)
@@ -108,7 +115,8 @@ no_such : {A : Type 0} (x : A) → None ≡ Some x → ⊥
 no_such x e = cc e
 
 -- where there is none, no entry of the thread may follow
-pub none_follows : (leg : Leg) (h : List Entry) (p : Progress) → (a : IsAt leg h p) → IsSettled p → (phase thread : ℕ) → next_call p phase thread ≡ None → (e : Entry) → seat leg e.pass ≡ (phase, thread) → ArePartOfPhases 1 leg (h ++ e ∷ []) → ⊥
+pub none_follows : (leg : Leg) (h : List Entry) (p : Progress) → (a : IsAt leg h p) → IsSettled p → (phase thread : ℕ) → next_call p phase thread ≡ None
+    → (e : Entry) → seat leg e.pass ≡ (phase, thread) → ArePartOfPhases 1 leg (h ++ e ∷ []) → ⊥
 none_follows leg h p a left phase thread none e here part =
     let n = has_next leg h p a left e part in
     let same : (phase, thread) ≡ (p.number, suc n.thread) = sym here ∙ n.seat_is in
@@ -126,9 +134,11 @@ pub record Goes (first : Plain) (leg : Leg) (h : List Entry) (p : Progress) (i :
   pub next : MayFollow first leg h entry
   pub seat_is : seat leg entry.pass ≡ (p.number, suc i)
   pub now : IsAt leg (h ++ entry ∷ []) (taken i p)
-  pub least : ((j : ℕ) → j < i → call_of (threads_of p.phases) p.answered j ≡ None) → IsSettled p → (e : Entry) → e.pass < entry.pass → ¬ MayFollow first leg h e
+  pub least : ((j : ℕ) → j < i → call_of (threads_of p.phases) p.answered j ≡ None) → IsSettled p → (e : Entry) → e.pass < entry.pass
+      → ¬ MayFollow first leg h e
 
-pub goes : (first : Plain) (leg : Leg) (h : List Entry) (p : Progress) → IsLegal first h → IsAt leg h p → (i : ℕ) (c : Call) → call_of (threads_of p.phases) p.answered i ≡ Some c → Goes first leg h p i c
+pub goes : (first : Plain) (leg : Leg) (h : List Entry) (p : Progress) → IsLegal first h → IsAt leg h p → (i : ℕ) (c : Call)
+    → call_of (threads_of p.phases) p.answered i ≡ Some c → Goes first leg h p i c
 goes first leg h p legal a i c call =
     let e : Entry = entry_of (suc a.base + i) (after first h) c in
     let now : IsAt leg (h ++ e ∷ []) (taken i p) = at_taken leg h p i e a call refl in
@@ -145,7 +155,8 @@ goes first leg h p legal a i c call =
     }
 
 -- where no thread has a call left, no phase is left
-pub all_answered : (leg : Leg) (h : List Entry) (p : Progress) → IsAt leg h p → IsSettled p → ((i : ℕ) → call_of (threads_of p.phases) p.answered i ≡ None) → p.phases ≡ []
+pub all_answered : (leg : Leg) (h : List Entry) (p : Progress) → IsAt leg h p → IsSettled p → ((i : ℕ) → call_of (threads_of p.phases) p.answered i ≡ None)
+    → p.phases ≡ []
 all_answered leg h p a left none =
     elim left [
       | inl over ↦ over

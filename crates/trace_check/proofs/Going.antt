@@ -1,5 +1,6 @@
 -- A history of a part of a leg, and how far the leg's calls are answered after it.
-use Rattle.std.proofs.Common.{◌≡◌, ◌⊎◌, ℕ, suc, ◌+◌, ◌-◌, ◌<◌, leb, cond, false, List, [], ◌∷◌, ◌++◌, length, Some, refl, sym, ap, subst, ◌∙◌, inl, inr, arith, append_assoc, append-nil, eq-eqb, ne_eqb}
+use Rattle.std.proofs.Common.{◌≡◌, ◌⊎◌, ℕ, suc, ◌+◌, ◌-◌, ◌<◌, leb, cond, false, List, [], ◌∷◌, ◌++◌, length, Some, refl, sym, ap, subst, ◌∙◌, inl, inr, arith}
+use Rattle.std.proofs.Common.{append_assoc, append-nil, eq-eqb, ne_eqb}
 use Rattle.std.proofs.lemmas.Bool.{lt-leb}
 use Rattle.std.specs.List.{AllByRecursion}
 use mathlib.Core.Logic.{dite}
@@ -48,7 +49,8 @@ later_seat n count t counts some =
     let rest : count + t - count ≡ t = omega arith in
     ap (λ b. cond b (n, count + t) (seat_from (n + 1) counts (count + t - count))) past ∙ ap (seat_from (n + 1) counts) rest
 
-pub at_later : (leg : Leg) (h : List Entry) (n : ℕ) (threads : Phase) (later : Leg) (ns : List ℕ) → IsAt leg h (at n (threads ∷ later) ns) → open_count threads ns ≡ 0 → IsAt leg h (at (n + 1) later (zeros (threads_of later)))
+pub at_later : (leg : Leg) (h : List Entry) (n : ℕ) (threads : Phase) (later : Leg) (ns : List ℕ) → IsAt leg h (at n (threads ∷ later) ns)
+    → open_count threads ns ≡ 0 → IsAt leg h (at (n + 1) later (zeros (threads_of later)))
 at_later leg h n threads later ns a none =
     let phase : IsPhase (suc a.base) threads a.now = whole_taken (suc a.base) threads a.now ns a.is_taken none in
     let next : suc a.base + length threads ≡ suc (a.base + length threads) = omega arith in
@@ -72,10 +74,12 @@ at_opened leg h n (threads ∷ later) a =
     let count : ℕ = open_count threads (zeros threads) in
     dite (ℕ_discrete count 0)
     (λ none.
-    let same : opened n (threads ∷ later) ≡ opened (n + 1) later = ap (λ b. cond b (opened (n + 1) later) (at n (threads ∷ later) (zeros threads))) (eq-eqb count 0 none) in
+    let same : opened n (threads ∷ later) ≡ opened (n + 1) later = ap (λ b. cond b (opened (n + 1) later) (at n (threads ∷ later) (zeros threads)))
+    (eq-eqb count 0 none) in
     subst (IsAt leg h) (sym same) (at_opened leg h (n + 1) later (at_later leg h n threads later (zeros threads) a none)))
     (λ some.
-    let same : opened n (threads ∷ later) ≡ at n (threads ∷ later) (zeros threads) = ap (λ b. cond b (opened (n + 1) later) (at n (threads ∷ later) (zeros threads))) (ne_eqb count 0 some) in
+    let same : opened n (threads ∷ later) ≡ at n (threads ∷ later) (zeros threads) =
+    ap (λ b. cond b (opened (n + 1) later) (at n (threads ∷ later) (zeros threads))) (ne_eqb count 0 some) in
     subst (IsAt leg h) (sym same) a)
 
 pub opened_settled : (n : ℕ) (phases : Leg) → IsSettled (opened n phases)
@@ -84,21 +88,26 @@ opened_settled n (threads ∷ later) =
     let count : ℕ = open_count threads (zeros threads) in
     dite (ℕ_discrete count 0)
     (λ none.
-    let same : opened n (threads ∷ later) ≡ opened (n + 1) later = ap (λ b. cond b (opened (n + 1) later) (at n (threads ∷ later) (zeros threads))) (eq-eqb count 0 none) in
+    let same : opened n (threads ∷ later) ≡ opened (n + 1) later = ap (λ b. cond b (opened (n + 1) later) (at n (threads ∷ later) (zeros threads)))
+    (eq-eqb count 0 none) in
     subst IsSettled (sym same) (opened_settled (n + 1) later))
     (λ some.
-    let same : opened n (threads ∷ later) ≡ at n (threads ∷ later) (zeros threads) = ap (λ b. cond b (opened (n + 1) later) (at n (threads ∷ later) (zeros threads))) (ne_eqb count 0 some) in
+    let same : opened n (threads ∷ later) ≡ at n (threads ∷ later) (zeros threads) =
+    ap (λ b. cond b (opened (n + 1) later) (at n (threads ∷ later) (zeros threads))) (ne_eqb count 0 some) in
     subst IsSettled (sym same) (inr (omega (arith, some))))
 
-pub at_settled : (leg : Leg) (h : List Entry) (n : ℕ) (threads : Phase) (later : Leg) (ns : List ℕ) → IsAt leg h (at n (threads ∷ later) ns) → IsAt leg h (settled n (threads ∷ later) ns)
+pub at_settled : (leg : Leg) (h : List Entry) (n : ℕ) (threads : Phase) (later : Leg) (ns : List ℕ) → IsAt leg h (at n (threads ∷ later) ns)
+    → IsAt leg h (settled n (threads ∷ later) ns)
 at_settled leg h n threads later ns a =
     let count : ℕ = open_count threads ns in
     dite (ℕ_discrete count 0)
     (λ none.
-    let same : settled n (threads ∷ later) ns ≡ opened (n + 1) later = ap (λ b. cond b (opened (n + 1) later) (at n (threads ∷ later) ns)) (eq-eqb count 0 none) in
+    let same : settled n (threads ∷ later) ns ≡ opened (n + 1) later = ap (λ b. cond b (opened (n + 1) later) (at n (threads ∷ later) ns))
+    (eq-eqb count 0 none) in
     subst (IsAt leg h) (sym same) (at_opened leg h (n + 1) later (at_later leg h n threads later ns a none)))
     (λ some.
-    let same : settled n (threads ∷ later) ns ≡ at n (threads ∷ later) ns = ap (λ b. cond b (opened (n + 1) later) (at n (threads ∷ later) ns)) (ne_eqb count 0 some) in
+    let same : settled n (threads ∷ later) ns ≡ at n (threads ∷ later) ns = ap (λ b. cond b (opened (n + 1) later) (at n (threads ∷ later) ns))
+    (ne_eqb count 0 some) in
     subst (IsAt leg h) (sym same) a)
 
 pub settled_settled : (n : ℕ) (phases : Leg) (ns : List ℕ) → IsSettled (settled n phases ns)
@@ -106,7 +115,8 @@ settled_settled n phases ns =
     let count : ℕ = open_count (threads_of phases) ns in
     dite (ℕ_discrete count 0)
     (λ none.
-    let same : settled n phases ns ≡ opened (n + 1) (later_of phases) = ap (λ b. cond b (opened (n + 1) (later_of phases)) (at n phases ns)) (eq-eqb count 0 none) in
+    let same : settled n phases ns ≡ opened (n + 1) (later_of phases) = ap (λ b. cond b (opened (n + 1) (later_of phases)) (at n phases ns))
+    (eq-eqb count 0 none) in
     subst IsSettled (sym same) (opened_settled (n + 1) (later_of phases)))
     (λ some.
     let same : settled n phases ns ≡ at n phases ns = ap (λ b. cond b (opened (n + 1) (later_of phases)) (at n phases ns)) (ne_eqb count 0 some) in
@@ -114,7 +124,8 @@ settled_settled n phases ns =
 
 -- ---- one more entry
 
-at_more : (leg : Leg) (h : List Entry) (n : ℕ) (phases : Leg) (ns : List ℕ) (i : ℕ) (e : Entry) → (a : IsAt leg h (at n phases ns)) → call_of (threads_of phases) ns i ≡ Some e.call → e.pass ≡ suc a.base + i
+at_more : (leg : Leg) (h : List Entry) (n : ℕ) (phases : Leg) (ns : List ℕ) (i : ℕ) (e : Entry) → (a : IsAt leg h (at n phases ns))
+    → call_of (threads_of phases) ns i ≡ Some e.call → e.pass ≡ suc a.base + i
     → IsAt leg (h ++ e ∷ []) (at n phases (more ns i))
 at_more leg h n phases ns i e a call is =
     let one : (x g : List Entry) → (x ++ e ∷ []) ++ g ≡ x ++ (e ∷ g) = λ x g. append_assoc x (e ∷ []) g in
@@ -128,25 +139,31 @@ at_more leg h n phases ns i e a call is =
       is_taken = taken_more (suc a.base) (threads_of phases) a.now ns i e a.is_taken call is;
     }
 
-pub at_taken : (leg : Leg) (h : List Entry) (p : Progress) (i : ℕ) (e : Entry) → (a : IsAt leg h p) → call_of (threads_of p.phases) p.answered i ≡ Some e.call → e.pass ≡ suc a.base + i → IsAt leg (h ++ e ∷ []) (taken i p)
+pub at_taken : (leg : Leg) (h : List Entry) (p : Progress) (i : ℕ) (e : Entry) → (a : IsAt leg h p) → call_of (threads_of p.phases) p.answered i ≡ Some e.call
+    → e.pass ≡ suc a.base + i → IsAt leg (h ++ e ∷ []) (taken i p)
 at_taken leg h p i e a call is = taken_in p.phases p.number p.answered a call is
   where
-    taken_in : (phases : Leg) (n : ℕ) (ns : List ℕ) → (b : IsAt leg h (at n phases ns)) → call_of (threads_of phases) ns i ≡ Some e.call → e.pass ≡ suc b.base + i → IsAt leg (h ++ e ∷ []) (settled n phases (more ns i))
+    taken_in : (phases : Leg) (n : ℕ) (ns : List ℕ) → (b : IsAt leg h (at n phases ns)) → call_of (threads_of phases) ns i ≡ Some e.call
+        → e.pass ≡ suc b.base + i → IsAt leg (h ++ e ∷ []) (settled n phases (more ns i))
     taken_in [] n ns b found same = absurd (cc found)
-    taken_in (threads ∷ later) n ns b found same = at_settled leg (h ++ e ∷ []) n threads later (more ns i) (at_more leg h n (threads ∷ later) ns i e b found same)
+    taken_in (threads ∷ later) n ns b found same = at_settled leg (h ++ e ∷ []) n threads later (more ns i)
+        (at_more leg h n (threads ∷ later) ns i e b found same)
 
 -- the history is a part of the leg
 pub at_part : (leg : Leg) (h : List Entry) (p : Progress) → IsAt leg h p → ArePartOfPhases 1 leg h
-at_part leg h p a = subst (ArePartOfPhases 1 leg) (append-nil h) (a.part [] (subst (ArePartOfPhases (suc a.base) p.phases) (sym (append-nil a.now)) (now_part p.phases p.answered a.base a.now a.is_taken)))
+at_part leg h p a = subst (ArePartOfPhases 1 leg) (append-nil h)
+    (a.part [] (subst (ArePartOfPhases (suc a.base) p.phases) (sym (append-nil a.now)) (now_part p.phases p.answered a.base a.now a.is_taken)))
   where
-    now_part : (phases : Leg) (ns : List ℕ) (base : ℕ) (now : List Entry) → IsTaken (suc base) (threads_of phases) now ns → ArePartOfPhases (suc base) phases now
+    now_part : (phases : Leg) (ns : List ℕ) (base : ℕ) (now : List Entry) → IsTaken (suc base) (threads_of phases) now ns
+        → ArePartOfPhases (suc base) phases now
     now_part [] ns base [] t = refl
     now_part [] ns base (e ∷ now) t = absurd (omega (arith, t.only.0.0, t.only.0.1))
     now_part (threads ∷ later) ns base now t = inl (taken_part (suc base) threads now ns t)
 
 -- where no phase is left, it is the whole leg
 pub at_end : (leg : Leg) (h : List Entry) (p : Progress) → IsAt leg h p → p.phases ≡ [] → ArePhases 1 leg h
-at_end leg h p a over = subst (ArePhases 1 leg) (append-nil h) (a.whole [] (subst (λ (phases : Leg). ArePhases (suc a.base) phases (a.now ++ [])) (sym over) (ap (λ (x : List Entry). x ++ []) none)))
+at_end leg h p a over = subst (ArePhases 1 leg) (append-nil h)
+    (a.whole [] (subst (λ (phases : Leg). ArePhases (suc a.base) phases (a.now ++ [])) (sym over) (ap (λ (x : List Entry). x ++ []) none)))
   where
     nothing : (now : List Entry) → AllByRecursion (IsOfPasses (suc a.base) 0) now → now ≡ []
     nothing [] all = refl

@@ -32,12 +32,14 @@ first_none pass [] = tt
 first_none pass (calls ∷ threads) = ((calls, refl), first_none (suc pass) threads)
 
 -- a thread whose calls are all made makes no other
-no_other : (pass : ℕ) (threads : Phase) (a : List Entry) (e : Entry) (x : List Entry) → HasCalls pass threads a → HasFirstCalls pass threads (a ++ e ∷ x) → pass ≤ e.pass → e.pass < pass + length threads → ⊥
+no_other : (pass : ℕ) (threads : Phase) (a : List Entry) (e : Entry) (x : List Entry) → HasCalls pass threads a → HasFirstCalls pass threads (a ++ e ∷ x)
+    → pass ≤ e.pass → e.pass < pass + length threads → ⊥
 no_other pass [] a e x all some le lt = omega arith
 no_other pass (calls ∷ threads) a e x all some le lt =
     dite (ℕ_discrete e.pass pass)
     (λ is.
-    let split : calls_by pass (a ++ e ∷ x) ≡ calls_by pass a ++ e.call ∷ calls_by pass x = calls_append pass a (e ∷ x) ∙ ap (λ cs. calls_by pass a ++ cs) (calls_here pass e x is) in
+    let split : calls_by pass (a ++ e ∷ x) ≡ calls_by pass a ++ e.call ∷ calls_by pass x = calls_append pass a (e ∷ x) ∙ ap (λ cs. calls_by pass a ++ cs)
+    (calls_here pass e x is) in
     no_longer (calls_by pass a) e.call (calls_by pass x) calls all.0 (subst (λ (z : List Call). IsPrefix z calls) split some.0))
     (λ ne. no_other (suc pass) threads a e x all.1 some.1 (omega (arith, ne)) (omega arith))
 
@@ -71,7 +73,8 @@ whole_part pass [] h p = p
 whole_part pass (threads ∷ phases) h p = inr (p.0, p.1, p.2, p.3, whole_part (pass + length threads) phases p.1 p.4)
 
 -- what follows a whole phase is of later phases
-pub behind : (pass : ℕ) (threads : Phase) (phases : Leg) (now g : List Entry) → IsPhase pass threads now → ArePartOfPhases pass (threads ∷ phases) (now ++ g) → ArePartOfPhases (pass + length threads) phases g
+pub behind : (pass : ℕ) (threads : Phase) (phases : Leg) (now g : List Entry) → IsPhase pass threads now → ArePartOfPhases pass (threads ∷ phases) (now ++ g)
+    → ArePartOfPhases (pass + length threads) phases g
 behind pass threads phases now g whole p =
     let later : List Entry → Type 0 = ArePartOfPhases (pass + length threads) phases in
     elim p [

@@ -1,5 +1,6 @@
 -- No call changes how many redistributors there are.
-use Rattle.std.proofs.Common.{◌≡◌, ℕ, Bool, true, false, ◌&&◌, ◌==◌, nat_lt, nat_le, ◌^◌, List, [], ◌∷◌, length, Option, Some, None, is_some, Result, Ok, Err, refl, ◌∙◌, if◌then◌else◌}
+use Rattle.std.proofs.Common.{◌≡◌, ℕ, Bool, true, false, ◌&&◌, ◌==◌, nat_lt, nat_le, ◌^◌, List, [], ◌∷◌, length, Option, Some, None, is_some, Result, Ok, Err}
+use Rattle.std.proofs.Common.{refl, ◌∙◌, if◌then◌else◌}
 use Rattle.std.specs.Option.{ok_or}
 use Rattle.std.proofs.lemmas.List.{length-map, length-set}
 use Rattle.gits_regs.specs.Registers.{collection_places}
@@ -17,8 +18,11 @@ use Rattle.its_types.specs.declared.machine.Profile.TheVariants.{One, Two}
 use Rattle.its_types.specs.declared.translation.Event.{Event}
 use Rattle.its_plain.specs.Plain.{Plain, Redistributor, redistributor, regs_of, maps_of, pending_of, is_on, with_maps, with_pending, with_redistributor}
 use Rattle.its_plain.specs.Translation.{translated}
-use Rattle.its_plain.specs.Commands.{◌>>=◌, ensure, lpi_set, lpi_cleared, lpi_moved, lpis_moved, all_moved, all_reread_at, reread, event_at, target_at, intids_of, mapd, unmapd, followed, followed_in, mapc, unmapc, mapti, movi, lpi_at, int, clear, cleared_at, discard, inv, invall, movall, ran}
-use Rattle.its_plain.specs.Answer.{signal_reply, signal_left, lowest, taken, written, command_left, save_left, is_idle, next_bytes, met_left, step_left, reply_of, left, answer}
+use Rattle.its_plain.specs.Commands.{◌>>=◌, ensure, lpi_set, lpi_cleared, lpi_moved, lpis_moved, all_moved, all_reread_at, reread, event_at, target_at}
+use Rattle.its_plain.specs.Commands.{intids_of, mapd, unmapd, followed, followed_in, mapc, unmapc, mapti, movi, lpi_at, int, clear, cleared_at, discard, inv}
+use Rattle.its_plain.specs.Commands.{invall, movall, ran}
+use Rattle.its_plain.specs.Answer.{signal_reply, signal_left, lowest, taken, written, command_left, save_left, is_idle, next_bytes, met_left, step_left}
+use Rattle.its_plain.specs.Answer.{reply_of, left, answer}
 use Rattle.its_plain.specs.Regions.{savable}
 use Rattle.its_plain.specs.declared.call.Call.{Call}
 use Rattle.its_plain.specs.declared.call.Call.TheVariants as call
@@ -59,7 +63,8 @@ module _ (u : Plain) (i : ℕ) where
   many_moved : (w : Plain) (x from to : ℕ) → AsMany u w → AsMany u (lpi_moved x from to w)
   many_moved w x from to s =
       many_if u (lpi_set x to (lpi_cleared x from w)) w (is_pending x (pending_of w from))
-      (many_pending u (lpi_cleared x from w) to (with_lpi x (pending_of (lpi_cleared x from w) to)) (many_pending u w from (without_lpi x (pending_of w from)) s)) s
+      (many_pending u (lpi_cleared x from w) to (with_lpi x (pending_of (lpi_cleared x from w) to))
+      (many_pending u w from (without_lpi x (pending_of w from)) s)) s
 
   many_all_moved : (w : Plain) (xs : List ℕ) (from to : ℕ) → AsMany u w → AsMany u (lpis_moved xs from to w)
   many_all_moved w [] from to s = s
@@ -127,7 +132,8 @@ module _ (u : Plain) (i : ℕ) where
   followed_many Two icid None to = refl
   followed_many Two icid (Some from) to =
       many_if u u (followed u i icid from.0 to) (from.0 == to) refl
-      (many_if u (lpis_moved (intids_of (maps_of u i) icid) from.0 to u) u (is_on u from.0 && is_on u to) (many_all_moved u (intids_of (maps_of u i) icid) from.0 to refl) refl)
+      (many_if u (lpis_moved (intids_of (maps_of u i) icid) from.0 to u) u (is_on u from.0 && is_on u to)
+      (many_all_moved u (intids_of (maps_of u i) icid) from.0 to refl) refl)
 
   mapc_many : (icid target : ℕ) → Keeps u (mapc u i icid target)
   unfolding mapc

@@ -1,5 +1,6 @@
 -- How many calls of each thread of a phase are answered.
-use Rattle.std.proofs.Common.{◌≡◌, ◌≢◌, ℕ, zero, suc, ◌+◌, ◌<◌, ◌≤◌, cond, List, [], ◌∷◌, ◌++◌, length, take, Some, refl, sym, ap, subst, ◌∙◌, inl, inr, arith, length-take, lt-ltb}
+use Rattle.std.proofs.Common.{◌≡◌, ◌≢◌, ℕ, zero, suc, ◌+◌, ◌<◌, ◌≤◌, cond, List, [], ◌∷◌, ◌++◌, length, take, Some, refl, sym, ap, subst, ◌∙◌, inl, inr, arith}
+use Rattle.std.proofs.Common.{length-take, lt-ltb}
 use Rattle.std.specs.Prelude.{slice_get}
 use Rattle.std.specs.List.{AllByRecursion}
 use Rattle.std.proofs.lemmas.Bool.{cases_lt, le-ltb}
@@ -93,7 +94,8 @@ some_open pass (calls ∷ threads) h (n ∷ ns) lt =
     ]
 
 -- and then the phase isn't whole
-pub not_whole : (pass : ℕ) (threads : Phase) (h : List Entry) (ns : List ℕ) (i : ℕ) (c : Call) → HasTaken pass threads h ns → call_of threads ns i ≡ Some c → HasCalls pass threads h → ⊥
+pub not_whole : (pass : ℕ) (threads : Phase) (h : List Entry) (ns : List ℕ) (i : ℕ) (c : Call) → HasTaken pass threads h ns → call_of threads ns i ≡ Some c
+    → HasCalls pass threads h → ⊥
 not_whole pass [] h ns i c t e whole = absurd (cc e)
 not_whole pass (calls ∷ threads) h [] i c t e whole = absurd t
 not_whole pass (calls ∷ threads) h (n ∷ ns) zero c t e whole =
@@ -104,7 +106,8 @@ not_whole pass (calls ∷ threads) h (n ∷ ns) (suc i) c t e whole = not_whole 
 -- ---- one more call
 
 -- the entries of an earlier pass count in none of these threads
-still_taken : (pass : ℕ) (threads : Phase) (h : List Entry) (ns : List ℕ) (e : Entry) → HasTaken pass threads h ns → e.pass < pass → HasTaken pass threads (h ++ e ∷ []) ns
+still_taken : (pass : ℕ) (threads : Phase) (h : List Entry) (ns : List ℕ) (e : Entry) → HasTaken pass threads h ns → e.pass < pass
+    → HasTaken pass threads (h ++ e ∷ []) ns
 still_taken pass [] h [] e t lt = tt
 still_taken pass [] h (n ∷ ns) e t lt = absurd t
 still_taken pass (calls ∷ threads) h [] e t lt = absurd t
@@ -119,12 +122,17 @@ take_one (x ∷ cs) (suc n) c e =
     let next : suc n + 1 ≡ suc (n + 1) = omega arith in
     ap (λ z. x ∷ z) (take_one cs n c e) ∙ ap (λ (k : ℕ). take k (x ∷ cs)) (sym next)
 
-has_more : (pass : ℕ) (threads : Phase) (h : List Entry) (ns : List ℕ) (i : ℕ) (e : Entry) → HasTaken pass threads h ns → call_of threads ns i ≡ Some e.call → e.pass ≡ pass + i → HasTaken pass threads (h ++ e ∷ []) (more ns i)
+has_more : (pass : ℕ) (threads : Phase) (h : List Entry) (ns : List ℕ) (i : ℕ) (e : Entry) → HasTaken pass threads h ns → call_of threads ns i ≡ Some e.call
+    → e.pass ≡ pass + i → HasTaken pass threads (h ++ e ∷ []) (more ns i)
 has_more pass [] h ns i e t call is = absurd (cc call)
 has_more pass (calls ∷ threads) h [] i e t call is = absurd t
 has_more pass (calls ∷ threads) h (n ∷ ns) zero e t call is =
-    let here : e.pass ≡ pass = omega (arith, is) in
-    (calls_more pass h e here ∙ (ap (λ cs. cs ++ e.call ∷ []) t.0 ∙ take_one calls n e.call call), omega (arith, get_within calls n e.call call), still_taken (suc pass) threads h ns e t.2 (omega (arith, here)))
+    let here : e.pass ≡ pass = omega (arith, is) in (
+      calls_more pass h e here ∙ (ap (λ cs. cs ++ e.call ∷ []) t.0 ∙ take_one calls n e.call call),
+      omega (arith, get_within calls n e.call call),
+      still_taken
+          (suc pass) threads h ns e t.2 (omega (arith, here)),
+    )
 has_more pass (calls ∷ threads) h (n ∷ ns) (suc i) e t call is =
     let ne : e.pass ≢ pass = λ s. absurd (omega (arith, s, is)) in
     (calls_same pass h e ne ∙ t.0, t.1, has_more (suc pass) threads h ns i e t.2 call (omega (arith, is)))
@@ -135,7 +143,8 @@ call_below (calls ∷ threads) [] i c e = absurd (cc e)
 call_below (calls ∷ threads) (n ∷ ns) zero c e = omega arith
 call_below (calls ∷ threads) (n ∷ ns) (suc i) c e = omega (arith, call_below threads ns i c e)
 
-pub taken_more : (pass : ℕ) (threads : Phase) (h : List Entry) (ns : List ℕ) (i : ℕ) (e : Entry) → IsTaken pass threads h ns → call_of threads ns i ≡ Some e.call → e.pass ≡ pass + i → IsTaken pass threads (h ++ e ∷ []) (more ns i)
+pub taken_more : (pass : ℕ) (threads : Phase) (h : List Entry) (ns : List ℕ) (i : ℕ) (e : Entry) → IsTaken pass threads h ns
+    → call_of threads ns i ≡ Some e.call → e.pass ≡ pass + i → IsTaken pass threads (h ++ e ∷ []) (more ns i)
 taken_more pass threads h ns i e t call is =
     let below = call_below threads ns i e.call call in
     record {
@@ -151,7 +160,8 @@ take_next [] (suc n) c le p = absurd (omega arith)
 take_next (x ∷ cs) zero c le p = let same : c ≡ x = cc (p.1) in ap (λ z. Some z) (sym same)
 take_next (x ∷ cs) (suc n) c le p = take_next cs n c (omega arith) (p.0, cc (p.1))
 
-has_next : (pass : ℕ) (threads : Phase) (h : List Entry) (ns : List ℕ) (e : Entry) → HasTaken pass threads h ns → HasFirstCalls pass threads (h ++ e ∷ []) → pass ≤ e.pass → e.pass < pass + length threads
+has_next : (pass : ℕ) (threads : Phase) (h : List Entry) (ns : List ℕ) (e : Entry) → HasTaken pass threads h ns → HasFirstCalls pass threads (h ++ e ∷ [])
+    → pass ≤ e.pass → e.pass < pass + length threads
     → (i : ℕ) × (e.pass ≡ pass + i) × (call_of threads ns i ≡ Some e.call)
 has_next pass [] h ns e t some le lt = absurd (omega arith)
 has_next pass (calls ∷ threads) h [] e t some le lt = absurd t
@@ -164,7 +174,8 @@ has_next pass (calls ∷ threads) h (n ∷ ns) e t some le lt =
     let rest = has_next (suc pass) threads h ns e t.2 some.1 (omega (arith, ne)) (omega arith) in
     (suc rest.0, omega (arith, rest.1), rest.2))
 
-pub next_taken : (pass : ℕ) (threads : Phase) (h : List Entry) (ns : List ℕ) (e : Entry) → IsTaken pass threads h ns → IsPartOfPhase pass threads (h ++ e ∷ []) → (i : ℕ) × (e.pass ≡ pass + i) × (call_of threads ns i ≡ Some e.call)
+pub next_taken : (pass : ℕ) (threads : Phase) (h : List Entry) (ns : List ℕ) (e : Entry) → IsTaken pass threads h ns → IsPartOfPhase pass threads (h ++ e ∷ [])
+    → (i : ℕ) × (e.pass ≡ pass + i) × (call_of threads ns i ≡ Some e.call)
 next_taken pass threads h ns e t part =
     let of = (all_rest (IsOfPasses pass (length threads)) h (e ∷ []) part.only).0 in
     has_next pass threads h ns e t.taken part.calls of.0 of.1

@@ -1,5 +1,6 @@
 -- The lines of virtual processors.
-use Rattle.std.proofs.Common.{◌≡◌, ◌≢◌, ℕ, ◌+◌, ◌<◌, ◌≤◌, List, [], ◌∷◌, ◌++◌, length, take, drop, get_or, Bool, true, false, not, true≢false, refl, sym, ap, ◌∙◌, arith}
+use Rattle.std.proofs.Common.{◌≡◌, ◌≢◌, ℕ, ◌+◌, ◌<◌, ◌≤◌, List, [], ◌∷◌, ◌++◌, length, take, drop, get_or, Bool, true, false, not, true≢false, refl, sym, ap}
+use Rattle.std.proofs.Common.{◌∙◌, arith}
 use Rattle.std.specs.Str.{bytes_eq}
 use Rattle.std.proofs.lemmas.Slice.Eq.{bytes_eq-Decides}
 use Rattle.std.proofs.lemmas.List.{take_all, take-append-drop, drop_more, get_or-map, length-map, length-take-le, take_more_same, get_or_read}
@@ -20,7 +21,8 @@ text_at u i lt =
 cut_at : (ls : List (List ℕ)) (k : ℕ) (line : List ℕ) → k < length ls → line ≡ get_or ls k [] → ls ≡ take k ls ++ line ∷ drop (k + 1) ls
 cut_at ls k line lt is = sym (take-append-drop k ls) ∙ ap (λ rest. take k ls ++ rest) (drop_more ls k [] lt ∙ ap (λ l. l ∷ drop (k + 1) ls) (sym is))
 
-module _ (u : Plain) (told : List (List ℕ)) (i : ℕ) (said is : List ℕ) (long : length told ≡ length u.redistributors) (lt : i < length told) (said_is : said ≡ get_or told i said) (is_text : is ≡ pending_text (pending_of u i))
+module _ (u : Plain) (told : List (List ℕ)) (i : ℕ) (said is : List ℕ) (long : length told ≡ length u.redistributors) (lt : i < length told)
+    (said_is : said ≡ get_or told i said) (is_text : is ≡ pending_text (pending_of u i))
     (same : take i told ≡ take i (pending_texts u)) where
   said_at : said ≡ get_or told i []
   said_at = get_or_read told i said lt said_is []
@@ -28,7 +30,8 @@ module _ (u : Plain) (told : List (List ℕ)) (i : ℕ) (said is : List ℕ) (lo
   is_at : is ≡ get_or (pending_texts u) i []
   is_at = is_text ∙ sym (text_at u i (omega (arith, lt, long)))
 
-  pub other_pending : (said_line is_line : List ℕ) → said ≢ is → said_line ≡ vcpu_text i said → is_line ≡ vcpu_text i is → IsOtherPending u told said_line is_line
+  pub other_pending : (said_line is_line : List ℕ) → said ≢ is → said_line ≡ vcpu_text i said → is_line ≡ vcpu_text i is
+      → IsOtherPending u told said_line is_line
   other_pending said_line is_line ne said_l is_l =
       let count : length (take i told) ≡ i = length-take-le i told (omega arith) in
       record {
@@ -38,7 +41,8 @@ module _ (u : Plain) (told : List (List ℕ)) (i : ℕ) (said is : List ℕ) (lo
         pending_said = cut_at told i said lt said_at;
         is_text = is;
         is_later = drop (i + 1) (pending_texts u);
-        pending_is = cut_at (pending_texts u) i is (omega (arith, lt, long, texts_long u)) is_at ∙ ap (λ ls. ls ++ is ∷ drop (i + 1) (pending_texts u)) (sym same);
+        pending_is = cut_at (pending_texts u) i is (omega (arith, lt, long, texts_long u)) is_at ∙ ap (λ ls. ls ++ is ∷ drop (i + 1) (pending_texts u))
+            (sym same);
         differs = ne;
         said_line = said_l ∙ ap (λ k. vcpu_text k said) (sym count);
         is_line = is_l ∙ ap (λ k. vcpu_text k is) (sym count);
@@ -47,7 +51,8 @@ module _ (u : Plain) (told : List (List ℕ)) (i : ℕ) (said is : List ℕ) (lo
   pub more_pending : said ≡ is → take (i + 1) told ≡ take (i + 1) (pending_texts u)
   more_pending e = take_more_same told (pending_texts u) i [] lt (omega (arith, lt, long, texts_long u)) same (sym said_at ∙ (e ∙ is_at))
 
-pub all_pending : (u : Plain) (told : List (List ℕ)) (i : ℕ) → length told ≡ length u.redistributors → length told ≤ i → take i told ≡ take i (pending_texts u) → told ≡ pending_texts u
+pub all_pending : (u : Plain) (told : List (List ℕ)) (i : ℕ) → length told ≡ length u.redistributors → length told ≤ i → take i told ≡ take i (pending_texts u)
+    → told ≡ pending_texts u
 all_pending u told i long le same = sym (take_all i told le) ∙ (same ∙ take_all i (pending_texts u) (omega (arith, le, long, texts_long u)))
 
 -- ---- texts that were compared

@@ -1,5 +1,6 @@
 -- How far the calls of a leg are answered.
-use Rattle.std.specs.Prelude.{ℕ, zero, suc, ◌+◌, ◌==◌, nat_lt, if◌then◌else◌, List, [], ◌∷◌, length, replicate, slice_get, slice_index, slice_set, Option, Some, None}
+use Rattle.std.specs.Prelude.{ℕ, zero, suc, ◌+◌, ◌==◌, nat_lt, if◌then◌else◌, List, [], ◌∷◌, length, replicate, slice_get, slice_index, slice_set, Option}
+use Rattle.std.specs.Prelude.{Some, None}
 use Rattle.its_plain.specs.Runs.{Phase, Leg}
 use Rattle.its_plain.specs.declared.call.Call.{Call}
 

@@ -1,5 +1,6 @@
 //! How far the calls of a leg are answered.
-ghost use Rattle.std.specs.Prelude.{◌≡◌, ◌<◌, ◌+◌, ◌^◌, ℕ, Some, None, IsSome, IfOk, IfSome, IfNone};
+ghost use Rattle.std.specs.Prelude.{◌≡◌, ◌<◌, ◌+◌, ◌^◌, ℕ, Some, None, IsSome, IfOk, IfSome};
+ghost use Rattle.std.specs.Prelude.{IfNone};
 ghost use Rattle.std.specs.Prelude.{OnOk, ◌==◌, count_by, length, not, option_map};
 ghost use Rattle.trace_check.specs.Cursors as spec;
 ghost use Rattle.trace_check.specs.Fields.{IsCounted, HasCall, progress, call_in, next_in};

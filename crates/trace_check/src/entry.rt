@@ -25,7 +25,8 @@ pub fn check_entry(
 ) -> Result<Option<Text>, AllocError>
     requires { IsCounted cursor.old }
     ensures right { IfOk result (λ r.
-        IfNone r (IsRight machine.old (progress cursor.old) line.now machine.new (progress cursor.new))) }
+        IfNone r (IsRight machine.old (progress cursor.old) line.now machine.new
+        (progress cursor.new))) }
     ensures counted { IfOk result (λ r. IfNone r (IsCounted cursor.new)) }
     ensures wrong { IfOk result (λ r.
         IfSome r (λ is. IsWrong machine.old (progress cursor.old) line.now is)) }

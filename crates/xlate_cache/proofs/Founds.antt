@@ -1,5 +1,6 @@
 -- What is found in some ways.
-use Rattle.std.proofs.Common.{◌≡◌, ℕ, zero, suc, ◌<◌, Bool, true, false, cond, ◌&&◌, eqb, List, [], ◌∷◌, ◌++◌, length, get_or, set, Some, None, Option, MatchOption, refl, sym, ap, ◌∙◌, arith}
+use Rattle.std.proofs.Common.{◌≡◌, ℕ, zero, suc, ◌<◌, Bool, true, false, cond, ◌&&◌, eqb, List, [], ◌∷◌, ◌++◌, length, get_or, set, Some, None, Option}
+use Rattle.std.proofs.Common.{MatchOption, refl, sym, ap, ◌∙◌, arith}
 use mathlib.Core.Bool.{false≢true}
 use Rattle.std.proofs.lemmas.Bool.{eqb-true}
 use Rattle.its_types.specs.declared.ids.Target.{Target}
@@ -29,7 +30,8 @@ module _ (dev ev stamp : ℕ) where
   found_front (x ∷ xs) ys unheld = ap (λ r. cond (holds dev ev stamp x) (target_in x) r) (found_front xs ys unheld)
 
   -- the first that holds it
-  pub found_at : (ws : List (Option Entry)) (i : ℕ) → i < length ws → holds dev ev stamp (get_or ws i None) ≡ true → ((j : ℕ) → j < i → holds dev ev stamp (get_or ws j None) ≡ false) → found ws dev ev stamp ≡ target_in (get_or ws i None)
+  pub found_at : (ws : List (Option Entry)) (i : ℕ) → i < length ws → holds dev ev stamp (get_or ws i None) ≡ true
+      → ((j : ℕ) → j < i → holds dev ev stamp (get_or ws j None) ≡ false) → found ws dev ev stamp ≡ target_in (get_or ws i None)
   found_at [] i lt here before = absurd (omega arith)
   found_at (w ∷ ws) zero lt here before = ap (λ t. cond t (target_in w) (found ws dev ev stamp)) here
   found_at (w ∷ ws) (suc i) lt here before =
@@ -37,7 +39,8 @@ module _ (dev ev stamp : ℕ) where
       ∙ found_at ws i (omega arith) here (λ j less. before (suc j) (omega arith))
 
   -- a way that doesn't hold it gets another that doesn't
-  pub found_set : (ws : List (Option Entry)) (i : ℕ) (x : Option Entry) → holds dev ev stamp x ≡ false → holds dev ev stamp (get_or ws i None) ≡ false → found (set ws i x) dev ev stamp ≡ found ws dev ev stamp
+  pub found_set : (ws : List (Option Entry)) (i : ℕ) (x : Option Entry) → holds dev ev stamp x ≡ false → holds dev ev stamp (get_or ws i None) ≡ false
+      → found (set ws i x) dev ev stamp ≡ found ws dev ev stamp
   found_set [] i x new old = refl
   found_set (w ∷ ws) zero x new old =
       ap (λ t. cond t (target_in x) (found ws dev ev stamp)) new
@@ -49,13 +52,16 @@ module _ (dev ev stamp : ℕ) where
   finds [] = λ i. refl
   finds (w ∷ ws) = first (holds dev ev stamp w) refl (finds ws)
     where
-      here : (o : Option Entry) → holds dev ev stamp o ≡ true → MatchOption (target_in o) ((i : ℕ) → holds dev ev stamp (get_or (o ∷ ws) i None) ≡ false) (λ target. (i : ℕ) × (holds dev ev stamp (get_or (o ∷ ws) i None) ≡ true) × (target_in (get_or (o ∷ ws) i None) ≡ Some target))
+      here : (o : Option Entry) → holds dev ev stamp o ≡ true → MatchOption (target_in o) ((i : ℕ) → holds dev ev stamp (get_or (o ∷ ws) i None) ≡ false)
+          (λ target. (i : ℕ) × (holds dev ev stamp (get_or (o ∷ ws) i None) ≡ true) × (target_in (get_or (o ∷ ws) i None) ≡ Some target))
       here None held = absurd (false≢true held)
       here (Some e) held = (0, held, refl)
 
       later : (o : Option Target) → holds dev ev stamp w ≡ false
-          → MatchOption o ((i : ℕ) → holds dev ev stamp (get_or ws i None) ≡ false) (λ target. (i : ℕ) × (holds dev ev stamp (get_or ws i None) ≡ true) × (target_in (get_or ws i None) ≡ Some target))
-          → MatchOption o ((i : ℕ) → holds dev ev stamp (get_or (w ∷ ws) i None) ≡ false) (λ target. (i : ℕ) × (holds dev ev stamp (get_or (w ∷ ws) i None) ≡ true) × (target_in (get_or (w ∷ ws) i None) ≡ Some target))
+          → MatchOption o ((i : ℕ) → holds dev ev stamp (get_or ws i None) ≡ false) (λ target. (i : ℕ) × (holds dev ev stamp (get_or ws i None) ≡ true)
+          × (target_in (get_or ws i None) ≡ Some target))
+          → MatchOption o ((i : ℕ) → holds dev ev stamp (get_or (w ∷ ws) i None) ≡ false)
+          (λ target. (i : ℕ) × (holds dev ev stamp (get_or (w ∷ ws) i None) ≡ true) × (target_in (get_or (w ∷ ws) i None) ≡ Some target))
       later None unheld rest = after
         where
           after : (i : ℕ) → holds dev ev stamp (get_or (w ∷ ws) i None) ≡ false
@@ -64,7 +70,8 @@ module _ (dev ev stamp : ℕ) where
       later (Some target) unheld rest = (suc rest.0, rest.1, rest.2)
 
       first : (t : Bool) → holds dev ev stamp w ≡ t → FindsEntry ws dev ev stamp
-          → MatchOption (cond t (target_in w) (found ws dev ev stamp)) ((i : ℕ) → holds dev ev stamp (get_or (w ∷ ws) i None) ≡ false) (λ target. (i : ℕ) × (holds dev ev stamp (get_or (w ∷ ws) i None) ≡ true) × (target_in (get_or (w ∷ ws) i None) ≡ Some target))
+          → MatchOption (cond t (target_in w) (found ws dev ev stamp)) ((i : ℕ) → holds dev ev stamp (get_or (w ∷ ws) i None) ≡ false)
+          (λ target. (i : ℕ) × (holds dev ev stamp (get_or (w ∷ ws) i None) ≡ true) × (target_in (get_or (w ∷ ws) i None) ≡ Some target))
       first true held rest = here w held
       first false unheld rest = later (found ws dev ev stamp) unheld rest
 
@@ -103,11 +110,13 @@ pub dropped_others : (dev ev d e stamp : ℕ) (ws : List (Option Entry)) → (d 
 dropped_others dev ev d e stamp [] apart = refl
 dropped_others dev ev d e stamp (w ∷ ws) apart = at (is_of dev ev w) refl (dropped_others dev ev d e stamp ws apart)
   where
-    at : (t : Bool) → is_of dev ev w ≡ t → found (dropped ws dev ev) d e stamp ≡ found ws d e stamp → cond (holds d e stamp (cond t None w)) (target_in (cond t None w)) (found (dropped ws dev ev) d e stamp) ≡ cond (holds d e stamp w) (target_in w) (found ws d e stamp)
+    at : (t : Bool) → is_of dev ev w ≡ t → found (dropped ws dev ev) d e stamp ≡ found ws d e stamp → cond (holds d e stamp (cond t None w))
+        (target_in (cond t None w)) (found (dropped ws dev ev) d e stamp) ≡ cond (holds d e stamp w) (target_in w) (found ws d e stamp)
     at true is rest = rest ∙ sym (ap (λ t. cond t (target_in w) (found ws d e stamp)) (other_pair dev ev d e stamp w apart is))
     at false is rest = ap (λ r. cond (holds d e stamp w) (target_in w) r) rest
 
-pub dropped_kept : (dev ev : ℕ) (ws : List (Option Entry)) (i : ℕ) (f : Entry) → get_or (dropped ws dev ev) i None ≡ Some f → (get_or ws i None ≡ Some f) × (is_of dev ev (Some f) ≡ false)
+pub dropped_kept : (dev ev : ℕ) (ws : List (Option Entry)) (i : ℕ) (f : Entry) → get_or (dropped ws dev ev) i None ≡ Some f → (get_or ws i None ≡ Some f)
+    × (is_of dev ev (Some f) ≡ false)
 dropped_kept dev ev [] i f is = absurd (false≢true (ap is_some_entry is))
   where
     is_some_entry : Option Entry → Bool

@@ -1,5 +1,6 @@
 -- The laws of fills, drops and emptying.
-use Rattle.std.proofs.Common.{◌≡◌, ℕ, ◌+◌, ◌-◌, ◌/◌, ◌<◌, ◌≤◌, true, false, cond, ◌&&◌, List, length, get_or, set, Some, None, Option, unwrap_or, refl, sym, ap, ◌∙◌, subst, inl, inr, arith}
+use Rattle.std.proofs.Common.{◌≡◌, ℕ, ◌+◌, ◌-◌, ◌/◌, ◌<◌, ◌≤◌, true, false, cond, ◌&&◌, List, length, get_or, set, Some, None, Option, unwrap_or, refl, sym}
+use Rattle.std.proofs.Common.{ap, ◌∙◌, subst, inl, inr, arith}
 use Rattle.std.proofs.lemmas.Bool.{eq-eqb, cases_eq, cases_lt}
 use Rattle.std.proofs.lemmas.List.{get_or-set_same, get_or-set_other, length-set, length-map, get_or-map, get_or_default, same_lists}
 use Rattle.xlate_cache.specs.declared.entry.Entry.{Entry}
@@ -46,7 +47,8 @@ module _ (ways : List (Option Entry)) (shard : IsShard ways) (e : Entry) where
       let here = get_or-set_same ways place (Some e) None taken_in_range in
       found_at e.dev.0 e.ev.0 e.stamp (filled ways e) place (subst (λ n. place < n) (sym (length-set ways place (Some e))) taken_in_range)
       (ap (holds e.dev.0 e.ev.0 e.stamp) here ∙ holds_itself e)
-      (λ j lt. ap (holds e.dev.0 e.ev.0 e.stamp) (get_or-set_other ways place j (Some e) None (λ same. omega arith)) ∙ ap (λ t. t && has_stamp e.stamp (get_or ways j None)) (none_before j lt))
+      (λ j lt. ap (holds e.dev.0 e.ev.0 e.stamp) (get_or-set_other ways place j (Some e) None (λ same. omega arith))
+      ∙ ap (λ t. t && has_stamp e.stamp (get_or ways j None)) (none_before j lt))
       ∙ ap target_in here
 
   pub leaves_others : LeavesOthers ways e
@@ -56,7 +58,8 @@ module _ (ways : List (Option Entry)) (shard : IsShard ways) (e : Entry) where
   takes_current_if_full other current n lt =
       let here = set_at ways shard e.dev.0 e.ev.0 (chosen (set_of ways e.dev.0 e.ev.0) e.dev.0 e.ev.0 e.stamp) of_four in
       let there = set_at ways shard e.dev.0 e.ev.0 n lt in
-      let all = choice.full (ap (is_of e.dev.0 e.ev.0) here ∙ other) (ap (has_stamp e.stamp) here ∙ current) n (omega (arith, set_length ways shard e.dev.0 e.ev.0)) in
+      let all = choice.full (ap (is_of e.dev.0 e.ev.0) here ∙ other) (ap (has_stamp e.stamp) here ∙ current) n
+      (omega (arith, set_length ways shard e.dev.0 e.ev.0)) in
       (ap (is_of e.dev.0 e.ev.0) (sym there) ∙ all.0, ap (has_stamp e.stamp) (sym there) ∙ all.1)
 
 pub filled_lawful : (ways : List (Option Entry)) (e : Entry) → IsShard ways → IsLawfulFill ways e
@@ -83,7 +86,8 @@ filled_lawful ways e shard = record {
 
     stands : (i : ℕ) (f : Entry) → get_or (filled ways e) i None ≡ Some f → i / 4 ≡ set_number f.dev.0 f.ev.0
     stands i f is = elim (cases_eq i (way_taken ways e.dev.0 e.ev.0 e.stamp)) [
-      | inl at ↦ ap (λ k. k / 4) at ∙ takes_from_set ways shard e ∙ ap (λ g. set_number g.dev.0 g.ev.0) (sym (same_entry f e (sym is ∙ ap (λ k. get_or (filled ways e) k None) at ∙ here)))
+      | inl at ↦ ap (λ k. k / 4) at ∙ takes_from_set ways shard e ∙ ap (λ g. set_number g.dev.0 g.ev.0)
+          (sym (same_entry f e (sym is ∙ ap (λ k. get_or (filled ways e) k None) at ∙ here)))
       | inr other ↦ shard.placed i f (sym (get_or-set_other ways (way_taken ways e.dev.0 e.ev.0 e.stamp) i (Some e) None other) ∙ is)
     ]
 
@@ -106,7 +110,8 @@ drop_begins ways shard dev ev = record {
 }
 
 -- a way of the pair is emptied
-pub drop_more : (old new : List (Option Entry)) (dev ev way : ℕ) → IsPartlyDropped old new dev ev way → way < 256 → is_of dev ev (get_or new way None) ≡ true → IsPartlyDropped old (set new way None) dev ev (way + 1)
+pub drop_more : (old new : List (Option Entry)) (dev ev way : ℕ) → IsPartlyDropped old new dev ev way → way < 256 → is_of dev ev (get_or new way None) ≡ true
+    → IsPartlyDropped old (set new way None) dev ev (way + 1)
 drop_more old new dev ev way part lt is = record {
   size = length-set new way None ∙ part.size;
   done = done;
@@ -114,7 +119,8 @@ drop_more old new dev ev way part lt is = record {
 }
   where
     here : get_or (set new way None) way None ≡ cond (is_of dev ev (get_or old way None)) None (get_or old way None)
-    here = get_or-set_same new way None None (omega (arith, part.size)) ∙ sym (ap (λ t. cond t None (get_or old way None)) (ap (is_of dev ev) (sym (part.left way (omega arith))) ∙ is))
+    here = get_or-set_same new way None None (omega (arith, part.size))
+        ∙ sym (ap (λ t. cond t None (get_or old way None)) (ap (is_of dev ev) (sym (part.left way (omega arith))) ∙ is))
 
     done : (k : ℕ) → k < way + 1 → get_or (set new way None) k None ≡ cond (is_of dev ev (get_or old k None)) None (get_or old k None)
     done k less = elim (cases_eq k way) [
@@ -123,7 +129,8 @@ drop_more old new dev ev way part lt is = record {
     ]
 
 -- another way stays
-pub keep_more : (old new : List (Option Entry)) (dev ev way : ℕ) → IsPartlyDropped old new dev ev way → is_of dev ev (get_or new way None) ≡ false → IsPartlyDropped old new dev ev (way + 1)
+pub keep_more : (old new : List (Option Entry)) (dev ev way : ℕ) → IsPartlyDropped old new dev ev way → is_of dev ev (get_or new way None) ≡ false
+    → IsPartlyDropped old new dev ev (way + 1)
 keep_more old new dev ev way part is = record { size = part.size; done = done; left = λ k le. part.left k (omega arith) }
   where
     here : get_or new way None ≡ cond (is_of dev ev (get_or old way None)) None (get_or old way None)

@@ -40,4 +40,5 @@ all_given given (w ∷ ws) p (suc k) e is = all_given given ws (rest (is_only gi
 
 pub given_all : (given : Option Entry) (ways : List (Option Entry)) → HoldsOnly ways given → holds_only ways given ≡ true
 given_all given [] h = refl
-given_all given (w ∷ ws) h = both (is_only given w) (holds_only ws given) (given_only given w (λ e is. h 0 e is)) (given_all given ws (λ k e is. h (suc k) e is))
+given_all given (w ∷ ws) h = both (is_only given w) (holds_only ws given) (given_only given w (λ e is. h 0 e is))
+    (given_all given ws (λ k e is. h (suc k) e is))

@@ -1,12 +1,14 @@
 -- The set of a pair in a shard whose entries stand in their sets.
-use Rattle.std.proofs.Common.{◌≡◌, ℕ, suc, ◌+◌, ◌-◌, ◌/◌, ◌<◌, ◌≤◌, Bool, true, false, ◌&&◌, ◌||◌, eqb, List, [], ◌∷◌, ◌++◌, length, get_or, take, drop, slice_range, Some, None, Option, refl, sym, ap, ◌∙◌, inl, inr, arith}
+use Rattle.std.proofs.Common.{◌≡◌, ℕ, suc, ◌+◌, ◌-◌, ◌/◌, ◌<◌, ◌≤◌, Bool, true, false, ◌&&◌, ◌||◌, eqb, List, [], ◌∷◌, ◌++◌, length, get_or, take, drop}
+use Rattle.std.proofs.Common.{slice_range, Some, None, Option, refl, sym, ap, ◌∙◌, inl, inr, arith}
 use mathlib.Core.Bool.{false≢true}
 use Rattle.std.specs.Prelude.{replicate}
 use Rattle.std.specs.List.{list_any}
 use Rattle.std.proofs.Math.Bool.{or-false}
 use Rattle.std.proofs.lemmas.List.Folds.{list_any-append}
 use Rattle.std.proofs.lemmas.Bool.{eqb-true, cases_lt}
-use Rattle.std.proofs.lemmas.List.{take-append-drop, drop-drop, get_or-take, get_or-drop, get_or-replicate, get_or_past, length-take, length-take-le, length-drop, length-replicate, length-map}
+use Rattle.std.proofs.lemmas.List.{take-append-drop, drop-drop, get_or-take, get_or-drop, get_or-replicate, get_or_past, length-take, length-take-le}
+use Rattle.std.proofs.lemmas.List.{length-drop, length-replicate, length-map}
 use Rattle.xlate_cache.specs.declared.entry.Entry.{Entry}
 use Rattle.xlate_cache.specs.Pairs.{set_number}
 use Rattle.xlate_cache.specs.Ways.{is_of, has_stamp, holds, found, first_way, dropped, no_entries, IsShard}
@@ -44,7 +46,8 @@ not_held dev ev stamp w is = ap (λ t. t && has_stamp stamp w) is
 
 none_any : (dev ev : ℕ) (ws : List (Option Entry)) → ((i : ℕ) → i < length ws → is_of dev ev (get_or ws i None) ≡ false) → list_any (is_of dev ev) ws ≡ false
 none_any dev ev [] none = refl
-none_any dev ev (w ∷ ws) none = ap (λ (t : Bool). t || list_any (is_of dev ev) ws) (none 0 (omega arith)) ∙ none_any dev ev ws (λ i lt. none (suc i) (omega arith))
+none_any dev ev (w ∷ ws) none = ap (λ (t : Bool). t || list_any (is_of dev ev) ws) (none 0 (omega arith)) ∙ none_any dev ev ws
+    (λ i lt. none (suc i) (omega arith))
 
 module _ (ways : List (Option Entry)) (shard : IsShard ways) (dev ev : ℕ) where
   front_range : (i : ℕ) → i < first_way dev ev → i / 4 ≡ set_number dev ev → ⊥
@@ -63,7 +66,8 @@ module _ (ways : List (Option Entry)) (shard : IsShard ways) (dev ev : ℕ) wher
   set_length = rw four (length-take-le 4 (drop (first_way dev ev) ways) (omega (arith, length-drop (first_way dev ev) ways, in_range)))
 
   pub set_at : (n : ℕ) → n < 4 → get_or (set_of ways dev ev) n None ≡ get_or ways (first_way dev ev + n) None
-  set_at n lt = get_or-take (first_way dev ev + 4 - first_way dev ev) (drop (first_way dev ev) ways) n None (omega arith) ∙ get_or-drop (first_way dev ev) ways n None
+  set_at n lt = get_or-take (first_way dev ev + 4 - first_way dev ev) (drop (first_way dev ev) ways) n None (omega arith)
+      ∙ get_or-drop (first_way dev ev) ways n None
 
   parts : ways ≡ take (first_way dev ev) ways ++ (set_of ways dev ev ++ drop (first_way dev ev + 4) ways)
   parts =
@@ -80,7 +84,8 @@ module _ (ways : List (Option Entry)) (shard : IsShard ways) (dev ev : ℕ) wher
 
   rest_none : (i : ℕ) → i < length (drop (first_way dev ev + 4) ways) → is_of dev ev (get_or (drop (first_way dev ev + 4) ways) i None) ≡ false
   rest_none i lt =
-      ap (is_of dev ev) (get_or-drop (first_way dev ev + 4) ways i None) ∙ outside ways shard dev ev (first_way dev ev + 4 + i) (rest_range (first_way dev ev + 4 + i) (omega arith))
+      ap (is_of dev ev) (get_or-drop (first_way dev ev + 4) ways i None) ∙ outside ways shard dev ev (first_way dev ev + 4 + i)
+      (rest_range (first_way dev ev + 4 + i) (omega arith))
 
   pub any_in_set : list_any (is_of dev ev) (set_of ways dev ev) ≡ list_any (is_of dev ev) ways
   any_in_set =
@@ -108,7 +113,11 @@ module _ (ways : List (Option Entry)) (shard : IsShard ways) (dev ev : ℕ) wher
 
 pub none_at : (i : ℕ) → get_or no_entries i None ≡ None
 unfolding no_entries
-none_at i = elim (cases_lt i 256) [ inl lt ↦ get_or-replicate 256 i None None lt | inr le ↦ get_or_past (replicate 256 None) i None (omega (arith, length-replicate {A = Option Entry} 256 None)) ]
+none_at i = elim (cases_lt i 256) [
+  | inl lt ↦ get_or-replicate 256 i None None lt
+  | inr le ↦ get_or_past (replicate 256 None) i None
+      (omega (arith, length-replicate {A = Option Entry} 256 None))
+]
 
 pub nothing_found : FindsNothing no_entries
 nothing_found dev ev stamp = found_none dev ev stamp no_entries (λ i lt. ap (holds dev ev stamp) (none_at i))

@@ -15,7 +15,8 @@ FindsFill ways e = found (filled ways e) e.dev.0 e.ev.0 e.stamp ≡ Some e.targe
 -- a fill leaves every other translation found as it was, but the one that it takes away
 abbrev pub LeavesOthers : List (Option Entry) → Entry → Type 0
 LeavesOthers ways e =
-    (dev ev stamp : ℕ) → holds dev ev stamp (Some e) ≡ false → holds dev ev stamp (taken ways e) ≡ false → found (filled ways e) dev ev stamp ≡ found ways dev ev stamp
+    (dev ev stamp : ℕ) → holds dev ev stamp (Some e) ≡ false → holds dev ev stamp (taken ways e) ≡ false
+    → found (filled ways e) dev ev stamp ≡ found ways dev ev stamp
 
 -- it takes from its own set
 abbrev pub TakesFromSet : List (Option Entry) → Entry → Type 0
@@ -46,7 +47,8 @@ FillsAreLawful = (ways : List (Option Entry)) (e : Entry) → IsShard ways → I
 
 -- the entries after a drop are old ones, and none is the pair's
 abbrev pub KeepsOthers : List (Option Entry) → ℕ → ℕ → Type 0
-KeepsOthers ways dev ev = (i : ℕ) (f : Entry) → slice_index_or (dropped ways dev ev) i None ≡ Some f → (slice_index_or ways i None ≡ Some f) × (is_of dev ev (Some f) ≡ false)
+KeepsOthers ways dev ev = (i : ℕ) (f : Entry) → slice_index_or (dropped ways dev ev) i None ≡ Some f → (slice_index_or ways i None ≡ Some f)
+    × (is_of dev ev (Some f) ≡ false)
 
 -- what is found is an entry of the pair and the stamp
 abbrev pub FindsEntry : List (Option Entry) → ℕ → ℕ → ℕ → Type 0
@@ -61,7 +63,11 @@ pub record Drops (ways : List (Option Entry)) (dev ev : ℕ) : Type 0 where
 
 -- drops from shards are lawful
 abbrev pub DropsAreLawful : Type 0
-DropsAreLawful = (ways : List (Option Entry)) (dev ev : ℕ) → IsShard ways → record { found : Drops ways dev ev; entries : KeepsOthers ways dev ev; shard : IsShard (dropped ways dev ev) }
+DropsAreLawful = (ways : List (Option Entry)) (dev ev : ℕ) → IsShard ways → record {
+  found : Drops ways dev ev;
+  entries : KeepsOthers ways dev ev;
+  shard : IsShard (dropped ways dev ev);
+}
 
 -- nothing is found
 abbrev pub FindsNothing : List (Option Entry) → Type 0

@@ -1,5 +1,6 @@
 -- A shard of a cache of translations: 64 sets of four ways, one set after another. A way has an entry or none.
-use Rattle.std.specs.Prelude.{◌≡◌, ℕ, ◌+◌, ◌*◌, ◌/◌, Bool, false, not, ◌&&◌, ◌==◌, if◌then◌else◌, Option, Some, None, unwrap_or, List, [], ◌∷◌, length, map, position, replicate, slice_index_or, slice_range, slice_set}
+use Rattle.std.specs.Prelude.{◌≡◌, ℕ, ◌+◌, ◌*◌, ◌/◌, Bool, false, not, ◌&&◌, ◌==◌, if◌then◌else◌, Option, Some, None, unwrap_or, List, [], ◌∷◌, length, map}
+use Rattle.std.specs.Prelude.{position, replicate, slice_index_or, slice_range, slice_set}
 use Rattle.std.specs.Option.{is_none, option_or}
 use Rattle.its_types.specs.declared.ids.DeviceId.{DeviceId}
 use Rattle.its_types.specs.declared.ids.EventId.{EventId}
@@ -37,7 +38,8 @@ found (way ∷ ways) dev ev stamp = if holds dev ev stamp way then target_in way
 
 -- which of the ways of a set an entry takes: that of its pair, else an empty one, else one of another stamp, else the first
 abbrev pub chosen : List (Option Entry) → ℕ → ℕ → ℕ → ℕ
-chosen set dev ev stamp = unwrap_or (option_or (option_or (position (is_of dev ev) set) (position is_none set)) (position (λ way. not (has_stamp stamp way)) set)) 0
+chosen set dev ev stamp = unwrap_or (option_or (option_or (position (is_of dev ev) set) (position is_none set))
+    (position (λ way. not (has_stamp stamp way)) set)) 0
 
 -- the first way of a pair's set
 abbrev pub first_way : ℕ → ℕ → ℕ

@@ -17,13 +17,15 @@ use Rattle.its_turns.proofs.Telling.{may_here, owes_here, one_held, one_lost}
 use Rattle.cmd_engine.specs.Registers.{maps_held}
 use Rattle.cmd_engine.proofs.registers.try_read_reg.Goals as goal
 
-reads_now : (m : Machine) (t : Translator) (off size : ℕ) (w : Word) → w.place < (setup m).limits.place_last → MayLeave (setup m) (staying w (call.ReadReg 0 off size) (reply.Value (read_reg t.regs off size)) Keep) (maps_held t) (maps_held t)
+reads_now : (m : Machine) (t : Translator) (off size : ℕ) (w : Word) → w.place < (setup m).limits.place_last
+    → MayLeave (setup m) (staying w (call.ReadReg 0 off size) (reply.Value (read_reg t.regs off size)) Keep) (maps_held t) (maps_held t)
 reads_now m t off size w room = reads (setup m) w 0 off size t m.laid.1 (let one : translator_count (setup m) ≡ 1 = m.laid.0 in omega (arith, one)) room
 
 pub try_commit-made-requires-clause-may : goal.try_commit-made-requires-clause-may
 try_commit-made-requires-clause-may g c =
     let m = c.args.machine.now in let v = view c.args.pass.now in let x = view c.try_take_maps.new.pass in let t = translator_of c.in-Ok.tables.value in
-    rw (c.read_register-value.ensures, c.deref.ensures) (may_here (setup m) (call.ReadReg 0 c.args.off c.args.size) (reply.Value (read_reg t.regs c.args.off c.args.size)) Keep (maps_held t) (λ _. maps_held t) (reads_now m t c.args.off c.args.size) x
+    rw (c.read_register-value.ensures, c.deref.ensures) (may_here (setup m) (call.ReadReg 0 c.args.off c.args.size)
+    (reply.Value (read_reg t.regs c.args.off c.args.size)) Keep (maps_held t) (λ _. maps_held t) (reads_now m t c.args.off c.args.size) x
     (one_held v (part.Maps 0) (Maps t) x c.in-Ok.ensures.result.view c.requires.free))
 
 pub put-requires-clause-owed : goal.put-requires-clause-owed
@@ -33,12 +35,15 @@ put-requires-clause-owed g c =
       content = Maps t;
       content_is = refl;
       before = [];
-      last = owes_here (setup m) (call.ReadReg 0 c.args.off c.args.size) (reply.Value (read_reg t.regs c.args.off c.args.size)) Keep (maps_held t) (λ _. maps_held t) (reads_now m t c.args.off c.args.size) x
-          (one_held v (part.Maps 0) (Maps t) x c.in-Ok.ensures.result.view c.requires.free) c.try_take_maps.ensures.of.1 c.in-Ok-made.word (view c.try_commit-made.new.pass)
+      last = owes_here (setup m) (call.ReadReg 0 c.args.off c.args.size) (reply.Value (read_reg t.regs c.args.off c.args.size)) Keep (maps_held t)
+          (λ _. maps_held t) (reads_now m t c.args.off c.args.size) x
+          (one_held v (part.Maps 0) (Maps t) x c.in-Ok.ensures.result.view c.requires.free) c.try_take_maps.ensures.of.1 c.in-Ok-made.word
+          (view c.try_commit-made.new.pass)
           (rw (c.read_register-value.ensures, c.deref.ensures) at c.in-Ok-made.ensures.result);
     }
 
 pub returns-in-Err-made-clause-answer : goal.returns-in-Err-made-clause-answer
 returns-in-Err-made-clause-answer g c = let v = view c.args.pass.now in let x = view c.try_take_maps.new.pass in let t = translator_of c.in-Ok.tables.value in
-    rw (c.attempt.ensures) (one_lost v (part.Maps 0) (Maps t) x c.in-Ok.ensures.result.view (call.ReadReg 0 c.args.off c.args.size) (λ (k : ℕ). reply.Value k) c.in-Err-made.lost (view c.try_commit-made.new.pass) (view c.put-in-Err-made.new.pass)
+    rw (c.attempt.ensures) (one_lost v (part.Maps 0) (Maps t) x c.in-Ok.ensures.result.view (call.ReadReg 0 c.args.off c.args.size)
+    (λ (k : ℕ). reply.Value k) c.in-Err-made.lost (view c.try_commit-made.new.pass) (view c.put-in-Err-made.new.pass)
     c.in-Err-made.ensures.result c.put-in-Err-made.ensures.view)

@@ -17,8 +17,11 @@ shard_of_translator (part.Redist vcpu) is = absurd is
 
 pub returns-clause-comes : goal.returns-clause-comes
 returns-clause-comes g c =
-    let v = view c.args.pass.now in let y = view c.take_shards.new.pass in let w = view c.begin_renewal-result.new.pass in let left = maps_held (translator_of c.begin_renewal-result.new.tables) in
+    let v = view c.args.pass.now in let y = view c.take_shards.new.pass in let w = view c.begin_renewal-result.new.pass in let left =
+    maps_held (translator_of c.begin_renewal-result.new.tables) in
     came_home IsOfTranslator v w (view c.put_shards.new.pass) (write_call c.args.write) (λ (t : Unit {0}). reply.Ok) c.begin_renewal-result.result left
-    (came_from IsOfTranslator v y (going_takes IsOfTranslator v v y (going_first IsOfTranslator v) (takes_wider IsShardOfFirst IsOfTranslator shard_of_translator v y c.take_shards.ensures.takes)) (write_call c.args.write) (λ (t : Unit {0}). reply.Ok) w c.begin_renewal-result.result
+    (came_from IsOfTranslator v y (going_takes IsOfTranslator v v y (going_first IsOfTranslator v)
+    (takes_wider IsShardOfFirst IsOfTranslator shard_of_translator v y c.take_shards.ensures.takes)) (write_call c.args.write) (λ (t : Unit {0}). reply.Ok)
+    w c.begin_renewal-result.result
     c.begin_renewal-result.ensures.comes)
     (c.put_shards.ensures.home left c.begin_renewal-result.ensures.held)

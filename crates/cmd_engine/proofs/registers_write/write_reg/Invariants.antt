@@ -6,4 +6,5 @@ use Rattle.cmd_engine.proofs.registers_write.write_reg.Given as goal
 
 abbrev pub invariant-loop : goal.invariant-loop
 invariant-loop g l =
-    (goal.iterator-loop g).can_next l.iterator' × (goal.iterator-loop g).is_finite l.iterator' × IsOf l.machine l.pass × Goes IsOfTranslator (view l.fn.pass) (view l.pass) × ((view l.pass).held ≡ [])
+    (goal.iterator-loop g).can_next l.iterator' × (goal.iterator-loop g).is_finite l.iterator' × IsOf l.machine l.pass × Goes IsOfTranslator (view l.fn.pass)
+    (view l.pass) × ((view l.pass).held ≡ [])

@@ -9,4 +9,5 @@ pub take_shard-requires-clause-free : goal.take_shard-requires-clause-free
 take_shard-requires-clause-free g c = c.requires.free c.shard_of-number.result
 
 pub returns-in-Movi-clause-goes : goal.returns-in-Movi-clause-goes
-returns-in-Movi-clause-goes g c = goes_one (view c.args.pass.now) (view c.take_shard.new.pass) (part.Shard 0 c.shard_of-number.result) (content.Shard c.take_shard.result) refl c.take_shard.ensures.takes
+returns-in-Movi-clause-goes g c = goes_one (view c.args.pass.now) (view c.take_shard.new.pass) (part.Shard 0 c.shard_of-number.result)
+    (content.Shard c.take_shard.result) refl c.take_shard.ensures.takes

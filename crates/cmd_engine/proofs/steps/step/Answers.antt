@@ -13,7 +13,8 @@ loop-preserved g c =
     (tt, tt, e.of, bare_still v x c.requires.free more.0, e.empty, more.0, more.1)
 
 pub returns-in-Ok-clause-answer : goal.returns-in-Ok-clause-answer
-returns-in-Ok-clause-answer g c = let i = c.loop.invariant in made_again (view c.args.pass.now) (view c.loop.pass) (view c.try_step.new.pass) i.5 i.6 c.in-Ok.placed c.in-Ok.ensures.tried.0 c.in-Ok.ensures.tried.1
+returns-in-Ok-clause-answer g c = let i = c.loop.invariant in made_again (view c.args.pass.now) (view c.loop.pass) (view c.try_step.new.pass) i.5 i.6
+    c.in-Ok.placed c.in-Ok.ensures.tried.0 c.in-Ok.ensures.tried.1
 
 pub returns-in-Err-Never-clause-answer : goal.returns-in-Err-Never-clause-answer
 returns-in-Err-Never-clause-answer g c =

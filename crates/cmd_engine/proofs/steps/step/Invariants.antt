@@ -7,4 +7,5 @@ use Rattle.cmd_engine.proofs.steps.step.Given as goal
 
 abbrev pub invariant-loop : goal.invariant-loop
 invariant-loop g l =
-    (goal.iterator-loop g).can_next l.iterator' × (goal.iterator-loop g).is_finite l.iterator' × IsOf l.machine l.pass × ((view l.pass).held ≡ []) × AreNoRedists l.redists × Stays (view l.fn.pass) (view l.pass) × GotOnly IsOfStep (view l.fn.pass) (view l.pass)
+    (goal.iterator-loop g).can_next l.iterator' × (goal.iterator-loop g).is_finite l.iterator' × IsOf l.machine l.pass × ((view l.pass).held ≡ [])
+    × AreNoRedists l.redists × Stays (view l.fn.pass) (view l.pass) × GotOnly IsOfStep (view l.fn.pass) (view l.pass)

@@ -13,7 +13,8 @@ returns-in-Still-clause-tried g c = let v = view c.args.pass.now in let v1 = vie
     (goes_one v1 v2 part.Mem (content.Mem c.take_memory-memory.result.value.memory) tt c.take_memory-memory.ensures.takes))
 
 pub returns-in-Command-clause-tried : goal.returns-in-Command-clause-tried
-returns-in-Command-clause-tried g c = let v = view c.args.pass.now in let v1 = view c.take_maps-tables.new.pass in let v2 = view c.take_memory-memory.new.pass in
+returns-in-Command-clause-tried g c = let v = view c.args.pass.now in let v1 = view c.take_maps-tables.new.pass in let v2 =
+    view c.take_memory-memory.new.pass in
     c.command_step.ensures.tries v c.requires.free
     (goes_then v v1 v2 (goes_one v v1 (part.Maps 0) (content.Maps (translator_of c.take_maps-tables.result.value)) refl c.take_maps-tables.ensures.takes)
     (goes_one v1 v2 part.Mem (content.Mem c.take_memory-memory.result.value.memory) tt c.take_memory-memory.ensures.takes))

@@ -14,7 +14,8 @@ pub loop-dev-init : goal.loop-dev-init
 loop-dev-init c =
     let m = c.args.maps.now.maps in let icid = c.args.icid.0 in let rs = c.args.redists.now in let from = c.args.from.0 in let to = c.args.to.0 in
     let is : c.into_iter-dev-iterator.result ≡ entries m.devices = c.into_iter-dev-iterator.ensures.into_iter_gives ∙ c.devices-dev-items.ensures in
-    let all : lpis_of_all m c.into_iter-dev-iterator.result icid ≡ lpis_of_all m (entries m.devices) icid = ap (λ (ds : List (ℕ × Device)). lpis_of_all m ds icid) is in
+    let all : lpis_of_all m c.into_iter-dev-iterator.result icid ≡ lpis_of_all m (entries m.devices) icid =
+    ap (λ (ds : List (ℕ × Device)). lpis_of_all m ds icid) is in
     record {
       rest = ap (λ (xs : List ℕ). lpis_moved_in xs from to rs) all;
       from = subst (TakesAll rs from) (intids_are m icid c.requires.devices ∙ sym all) c.requires.from;
@@ -43,7 +44,8 @@ loop-dev-preserved c =
     let rs = c.loop-dev.redists in let now = c.move_lpis_of.new.redists in
     let here = lpis_of (events_at m c.in-Some.dev.0) icid in let rest = lpis_of_all m c.next.new.self icid in
     let is : lpis_of_all m c.loop-dev.dev-iterator icid ≡ here ++ rest = ap (λ (ds : List (ℕ × Device)). lpis_of_all m ds icid) c.in-Some.ensures.steps in
-    let moved : now ≡ lpis_moved_in here from to rs = c.move_lpis_of.ensures ∙ ap (λ (es : List (ℕ × Event)). lpis_moved_in (lpis_of es icid) from to rs) c.events.ensures in
+    let moved : now ≡ lpis_moved_in here from to rs = c.move_lpis_of.ensures ∙ ap (λ (es : List (ℕ × Event)). lpis_moved_in (lpis_of es icid) from to rs)
+    c.events.ensures in
     record {
       rest = moved_some here rest from to rs now moved ∙ ap (λ (xs : List ℕ). lpis_moved_in xs from to rs) (sym is) ∙ c.loop-dev.invariant.rest;
       from = takes_more here rest from to from rs now moved (subst (TakesAll rs from) is c.loop-dev.invariant.from);

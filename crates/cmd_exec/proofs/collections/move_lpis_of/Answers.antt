@@ -12,9 +12,11 @@ loop-event-preserved-then-eq c =
     let rs = c.loop-event.redists in let now = c.move_lpi.new.redists in
     let event = c.in-Some.event in let x = event.intid.0 in let rest = lpis_of c.next.new.self icid in
     let is : lpis_of c.loop-event.event-iterator icid ≡ x ∷ rest =
-    ap (λ (es : List (ℕ × Event)). lpis_of es icid) c.in-Some.ensures.steps ∙ lpis_first c.in-Some.field-0-0.0 event c.next.new.self icid (sym c.if-eq.ensures) in
+    ap (λ (es : List (ℕ × Event)). lpis_of es icid) c.in-Some.ensures.steps ∙ lpis_first c.in-Some.field-0-0.0 event c.next.new.self icid
+    (sym c.if-eq.ensures) in
     record {
-      rest = moved_some (x ∷ []) rest from to rs now c.move_lpi.ensures ∙ ap (λ (xs : List ℕ). lpis_moved_in xs from to rs) (sym is) ∙ c.loop-event.invariant.rest;
+      rest = moved_some (x ∷ []) rest from to rs now c.move_lpi.ensures ∙ ap (λ (xs : List ℕ). lpis_moved_in xs from to rs) (sym is)
+          ∙ c.loop-event.invariant.rest;
       from = takes_more (x ∷ []) rest from to from rs now c.move_lpi.ensures (subst (TakesAll rs from) is c.loop-event.invariant.from);
       to = takes_more (x ∷ []) rest from to to rs now c.move_lpi.ensures (subst (TakesAll rs to) is c.loop-event.invariant.to);
     }

@@ -6,7 +6,8 @@ use Rattle.cmd_exec.proofs.collections.move_lpis_of.Given as goal
 
 abbrev pub invariant-loop-event : goal.invariant-loop-event
 invariant-loop-event l = record {
-  rest : lpis_moved_in (lpis_of l.event-iterator l.icid.0) l.from.0 l.to.0 l.redists ≡ lpis_moved_in (lpis_of l.fn.events l.icid.0) l.from.0 l.to.0 l.initial.redists;
+  rest : lpis_moved_in (lpis_of l.event-iterator l.icid.0) l.from.0 l.to.0 l.redists ≡ lpis_moved_in (lpis_of l.fn.events l.icid.0) l.from.0 l.to.0
+      l.initial.redists;
   from : TakesAll l.redists l.from.0 (lpis_of l.event-iterator l.icid.0);
   to : TakesAll l.redists l.to.0 (lpis_of l.event-iterator l.icid.0);
 }

@@ -14,7 +14,8 @@ pub loop-dev-init : goal.loop-dev-init
 loop-dev-init c =
     let m = c.args.maps.now.maps in let icid = c.args.icid.0 in let memory = c.args.memory.now in let r = c.args.redist.now in
     let is : c.into_iter-dev-iterator.result ≡ entries m.devices = c.into_iter-dev-iterator.ensures.into_iter_gives ∙ c.devices-dev-items.ensures in
-    let all : lpis_of_all m c.into_iter-dev-iterator.result icid ≡ lpis_of_all m (entries m.devices) icid = ap (λ (ds : List (ℕ × Device)). lpis_of_all m ds icid) is in
+    let all : lpis_of_all m c.into_iter-dev-iterator.result icid ≡ lpis_of_all m (entries m.devices) icid =
+    ap (λ (ds : List (ℕ × Device)). lpis_of_all m ds icid) is in
     record {
       rest = ap (λ (xs : List ℕ). redist_by (all_reread_at memory xs) r) all;
       can = subst (CanRereadAll r) (intids_are m icid c.requires.devices ∙ sym all) c.requires.can;
@@ -30,7 +31,8 @@ reread_all_of-requires c =
 
 pub loop-dev-preserved : goal.loop-dev-preserved
 loop-dev-preserved c =
-    let m = c.args.maps.now.maps in let icid = c.args.icid.0 in let memory = c.args.memory.now in let r = c.loop-dev.redist in let now = c.reread_all_of.new.redist in
+    let m = c.args.maps.now.maps in let icid = c.args.icid.0 in let memory = c.args.memory.now in let r = c.loop-dev.redist in let now =
+    c.reread_all_of.new.redist in
     let here = lpis_of (events_at m c.in-Some.dev.0) icid in let rest = lpis_of_all m c.next.new.self icid in
     let is : lpis_of_all m c.loop-dev.dev-iterator icid ≡ here ++ rest = ap (λ (ds : List (ℕ × Device)). lpis_of_all m ds icid) c.in-Some.ensures.steps in
     let read : now ≡ redist_by (all_reread_at memory here) r =

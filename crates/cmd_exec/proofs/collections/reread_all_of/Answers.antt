@@ -12,7 +12,8 @@ loop-event-preserved-then-eq c =
     let r = c.loop-event.redist in let now = c.reread.new.redist in
     let event = c.in-Some.event in let x = event.intid.0 in let rest = lpis_of c.next.new.self icid in
     let is : lpis_of c.loop-event.event-iterator icid ≡ x ∷ rest =
-    ap (λ (es : List (ℕ × Event)). lpis_of es icid) c.in-Some.ensures.steps ∙ lpis_first c.in-Some.field-0-0.0 event c.next.new.self icid (sym c.if-eq.ensures) in
+    ap (λ (es : List (ℕ × Event)). lpis_of es icid) c.in-Some.ensures.steps ∙ lpis_first c.in-Some.field-0-0.0 event c.next.new.self icid
+    (sym c.if-eq.ensures) in
     record {
       rest =
           read_some memory (x ∷ []) rest r now c.reread.ensures

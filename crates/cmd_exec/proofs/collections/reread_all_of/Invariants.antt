@@ -6,6 +6,7 @@ use Rattle.cmd_exec.proofs.collections.reread_all_of.Given as goal
 
 abbrev pub invariant-loop-event : goal.invariant-loop-event
 invariant-loop-event l = record {
-  rest : redist_by (all_reread_at l.memory (lpis_of l.event-iterator l.icid.0)) l.redist ≡ redist_by (all_reread_at l.memory (lpis_of l.fn.events l.icid.0)) l.initial.redist;
+  rest : redist_by (all_reread_at l.memory (lpis_of l.event-iterator l.icid.0)) l.redist ≡ redist_by (all_reread_at l.memory (lpis_of l.fn.events l.icid.0))
+      l.initial.redist;
   can : CanRereadAll l.redist (lpis_of l.event-iterator l.icid.0);
 }

@@ -8,7 +8,8 @@ use Rattle.cmd_exec.proofs.collections.reread_collection.Goals as goal
 pub redist_mut-redist-requires : goal.redist_mut-redist-requires
 redist_mut-redist-requires c =
     let v = c.loop-vcpu.vcpu in let rs = c.args.redists.now in let xs = intids_of c.args.maps.now.maps c.args.icid.0 in
-    ap is_some (below_now v (all_reread_at c.args.memory.now xs) rs c.loop-vcpu.redists c.loop-vcpu.invariant) ∙ held_some (in_hand rs v) xs (c.requires.each v c.loop-vcpu-test.true)
+    ap is_some (below_now v (all_reread_at c.args.memory.now xs) rs c.loop-vcpu.redists c.loop-vcpu.invariant) ∙ held_some (in_hand rs v) xs
+    (c.requires.each v c.loop-vcpu-test.true)
 
 pub reread_all-requires-clause-can : goal.reread_all-requires-clause-can
 reread_all-requires-clause-can c =
@@ -19,4 +20,5 @@ reread_all-requires-clause-can c =
 pub loop-vcpu-preserved : goal.loop-vcpu-preserved
 loop-vcpu-preserved c =
     let v = c.loop-vcpu.vcpu in let rs = c.args.redists.now in let xs = intids_of c.args.maps.now.maps c.args.icid.0 in
-    below_step v (all_reread_at c.args.memory.now xs) rs c.loop-vcpu.redists c.redist_mut-redist.result.now c.reread_all.new.redist c.loop-vcpu.invariant c.redist_mut-redist.ensures.value c.reread_all.ensures
+    below_step v (all_reread_at c.args.memory.now xs) rs c.loop-vcpu.redists c.redist_mut-redist.result.now c.reread_all.new.redist c.loop-vcpu.invariant
+    c.redist_mut-redist.ensures.value c.reread_all.ensures

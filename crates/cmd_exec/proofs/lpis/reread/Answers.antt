@@ -12,8 +12,10 @@ returns-in-Ok c =
     let r = c.args.redist.now in
     let same : Configuration → Redist = λ (x : Configuration). record r { config = x } in
     ap same c.reload.ensures
-    ∙ reread_some c.args.memory.now c.args.intid.0 r _ c.from-place.result c.in-Ok.byte c.if-not-redist.false c.from-place.ensures (sym c.read_u8.ensures ∙ c.in-Ok.is)
+    ∙ reread_some c.args.memory.now c.args.intid.0 r _ c.from-place.result c.in-Ok.byte c.if-not-redist.false c.from-place.ensures
+    (sym c.read_u8.ensures ∙ c.in-Ok.is)
 
 pub returns-in_default : goal.returns-in_default
 returns-in_default c =
-    reread_none c.args.memory.now c.args.intid.0 c.args.redist.now _ _ c.from-place.result c.if-not-redist.false c.from-place.ensures (sym c.read_u8.ensures ∙ c.in_default.is)
+    reread_none c.args.memory.now c.args.intid.0 c.args.redist.now _ _ c.from-place.result c.if-not-redist.false c.from-place.ensures
+    (sym c.read_u8.ensures ∙ c.in_default.is)

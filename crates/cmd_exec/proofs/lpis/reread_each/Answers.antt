@@ -8,7 +8,8 @@ use Rattle.cmd_exec.proofs.lpis.reread_each.Goals as goal
 pub redist_mut-redist-requires : goal.redist_mut-redist-requires
 redist_mut-redist-requires c =
     let v = c.loop-vcpu.vcpu in let rs = c.args.redists.now in let xs = c.args.intid.0 ∷ [] in
-    ap is_some (below_now v (all_reread_at c.args.memory.now xs) rs c.loop-vcpu.redists c.loop-vcpu.invariant) ∙ held_some (in_hand rs v) xs (c.requires v c.loop-vcpu-test.true)
+    ap is_some (below_now v (all_reread_at c.args.memory.now xs) rs c.loop-vcpu.redists c.loop-vcpu.invariant) ∙ held_some (in_hand rs v) xs
+    (c.requires v c.loop-vcpu-test.true)
 
 pub reread-requires : goal.reread-requires
 reread-requires c =
@@ -19,4 +20,5 @@ reread-requires c =
 pub loop-vcpu-preserved : goal.loop-vcpu-preserved
 loop-vcpu-preserved c =
     let v = c.loop-vcpu.vcpu in let rs = c.args.redists.now in let xs = c.args.intid.0 ∷ [] in
-    below_step v (all_reread_at c.args.memory.now xs) rs c.loop-vcpu.redists c.redist_mut-redist.result.now c.reread.new.redist c.loop-vcpu.invariant c.redist_mut-redist.ensures.value c.reread.ensures
+    below_step v (all_reread_at c.args.memory.now xs) rs c.loop-vcpu.redists c.redist_mut-redist.result.now c.reread.new.redist c.loop-vcpu.invariant
+    c.redist_mut-redist.ensures.value c.reread.ensures

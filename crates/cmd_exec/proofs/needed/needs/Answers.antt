@@ -7,7 +7,8 @@ pub returns-clause-redists : goal.returns-clause-redists
 returns-clause-redists c = λ v. c.redists_of.ensures v ∙ needs_same c.args.shape.now c.args.maps.now.maps c.args.command.now v
 
 pub returns-clause-below : goal.returns-clause-below
-returns-clause-below c = λ v held. needs_below c.args.shape.now c.args.maps.now.maps c.requires.targets c.args.command.now v (sym (c.redists_of.ensures v) ∙ held)
+returns-clause-below c = λ v held. needs_below c.args.shape.now c.args.maps.now.maps c.requires.targets c.args.command.now v
+    (sym (c.redists_of.ensures v) ∙ held)
 
 pub returns-clause-parts : goal.returns-clause-parts
 returns-clause-parts c =

@@ -15,43 +15,57 @@ use Rattle.device_port.proofs.hits.try_signal.Goals as goal
 
 pub returns-in-Err-clause-answer : goal.returns-in-Err-clause-answer
 returns-in-Err-clause-answer g c =
-    let m = c.args.machine.now in let s = setup m in let v = view c.args.pass.now in let v1 = view c.begin.new.pass in let w = c.in-Ok.word in let looks = c.in-Ok.ensures.word.0 in let is = c.shard_of-number.ensures.number in
-    (busy_shard s m.laid.0 c.args.dev c.args.ev v v1 w c.requires.of.1 c.requires.free looks c.in-Err.busy (view c.try_take_shard.new.pass) (rw (is) at c.in-Err.ensures.result)).0
+    let m = c.args.machine.now in let s = setup m in let v = view c.args.pass.now in let v1 = view c.begin.new.pass in let w = c.in-Ok.word in let looks =
+    c.in-Ok.ensures.word.0 in let is = c.shard_of-number.ensures.number in
+    (busy_shard s m.laid.0 c.args.dev c.args.ev v v1 w c.requires.of.1 c.requires.free looks c.in-Err.busy (view c.try_take_shard.new.pass)
+    (rw (is) at c.in-Err.ensures.result)).0
 
 pub returns-in_default-find-clause-answer : goal.returns-in_default-find-clause-answer
 returns-in_default-find-clause-answer g c =
-    let m = c.args.machine.now in let s = setup m in let v = view c.args.pass.now in let v1 = view c.begin.new.pass in let w = c.in-Ok.word in let looks = c.in-Ok.ensures.word.0 in let is = c.shard_of-number.ensures.number in
+    let m = c.args.machine.now in let s = setup m in let v = view c.args.pass.now in let v1 = view c.begin.new.pass in let w = c.in-Ok.word in let looks =
+    c.in-Ok.ensures.word.0 in let is = c.shard_of-number.ensures.number in
     let took = rw (is) at c.in-Ok-try_take_shard.ensures.result.view in
-    (missed_now s m.laid.0 c.args.dev c.args.ev v v1 w c.requires.of.1 c.requires.free looks (view c.try_take_shard.new.pass) c.in-Ok-try_take_shard.shard took (view c.put.new.pass) (search rules) c.in-Ok.ensures.word.1 c.put.ensures.view).0
+    (missed_now s m.laid.0 c.args.dev c.args.ev v v1 w c.requires.of.1 c.requires.free looks (view c.try_take_shard.new.pass) c.in-Ok-try_take_shard.shard took
+    (view c.put.new.pass) (search rules) c.in-Ok.ensures.word.1 c.put.ensures.view).0
 
 pub returns-in-Err-try_take_redist-clause-answer : goal.returns-in-Err-try_take_redist-clause-answer
 returns-in-Err-try_take_redist-clause-answer g c =
-    let m = c.args.machine.now in let s = setup m in let v = view c.args.pass.now in let v1 = view c.begin.new.pass in let w = c.in-Ok.word in let looks = c.in-Ok.ensures.word.0 in let is = c.shard_of-number.ensures.number in
+    let m = c.args.machine.now in let s = setup m in let v = view c.args.pass.now in let v1 = view c.begin.new.pass in let w = c.in-Ok.word in let looks =
+    c.in-Ok.ensures.word.0 in let is = c.shard_of-number.ensures.number in
     let took = rw (is) at c.in-Ok-try_take_shard.ensures.result.view in
-    (busy_redist s m.laid.0 c.args.dev c.args.ev v v1 w c.requires.of.1 c.requires.free looks (view c.try_take_shard.new.pass) c.in-Ok-try_take_shard.shard took c.in-Some.target c.in-Err-try_take_redist.busy (view c.put-in-Err-try_take_redist.new.pass) (view c.try_take_redist.new.pass)
+    (busy_redist s m.laid.0 c.args.dev c.args.ev v v1 w c.requires.of.1 c.requires.free looks (view c.try_take_shard.new.pass) c.in-Ok-try_take_shard.shard took
+    c.in-Some.target c.in-Err-try_take_redist.busy (view c.put-in-Err-try_take_redist.new.pass) (view c.try_take_redist.new.pass)
     (search rules) c.in-Err-try_take_redist.ensures.result c.put-in-Err-try_take_redist.ensures.view).0
 
 pub try_take_redist-requires-clause-stands : goal.try_take_redist-requires-clause-stands
 try_take_redist-requires-clause-stands g c =
-    let m = c.args.machine.now in let s = setup m in let v = view c.args.pass.now in let v1 = view c.begin.new.pass in let w = c.in-Ok.word in let looks = c.in-Ok.ensures.word.0 in let is = c.shard_of-number.ensures.number in
-    let stood = subst (λ (z : Setup). HasStood z (part.Shard 0 c.shard_of-number.result) (Shard c.in-Ok-try_take_shard.shard)) (ap (λ (y : View). y.setup) looks.same ∙ c.requires.of.1) c.in-Ok-try_take_shard.ensures.result.stood in
+    let m = c.args.machine.now in let s = setup m in let v = view c.args.pass.now in let v1 = view c.begin.new.pass in let w = c.in-Ok.word in let looks =
+    c.in-Ok.ensures.word.0 in let is = c.shard_of-number.ensures.number in
+    let stood = subst (λ (z : Setup). HasStood z (part.Shard 0 c.shard_of-number.result) (Shard c.in-Ok-try_take_shard.shard))
+    (ap (λ (y : View). y.setup) looks.same ∙ c.requires.of.1) c.in-Ok-try_take_shard.ensures.result.stood in
     (cached_target s c.shard_of-number.result c.args.dev c.args.ev w.stamp c.in-Some.target c.in-Ok-try_take_shard.shard stood (search rules)).vcpu
 
 pub hit-requires-clause-vcpu : goal.hit-requires-clause-vcpu
 hit-requires-clause-vcpu g c =
-    let m = c.args.machine.now in let s = setup m in let v = view c.args.pass.now in let v1 = view c.begin.new.pass in let w = c.in-Ok.word in let looks = c.in-Ok.ensures.word.0 in let is = c.shard_of-number.ensures.number in
-    let stood = subst (λ (z : Setup). HasStood z (part.Shard 0 c.shard_of-number.result) (Shard c.in-Ok-try_take_shard.shard)) (ap (λ (y : View). y.setup) looks.same ∙ c.requires.of.1) c.in-Ok-try_take_shard.ensures.result.stood in
+    let m = c.args.machine.now in let s = setup m in let v = view c.args.pass.now in let v1 = view c.begin.new.pass in let w = c.in-Ok.word in let looks =
+    c.in-Ok.ensures.word.0 in let is = c.shard_of-number.ensures.number in
+    let stood = subst (λ (z : Setup). HasStood z (part.Shard 0 c.shard_of-number.result) (Shard c.in-Ok-try_take_shard.shard))
+    (ap (λ (y : View). y.setup) looks.same ∙ c.requires.of.1) c.in-Ok-try_take_shard.ensures.result.stood in
     (cached_target s c.shard_of-number.result c.args.dev c.args.ev w.stamp c.in-Some.target c.in-Ok-try_take_shard.shard stood (search rules)).vcpu
 
 pub hit-requires-clause-lpi : goal.hit-requires-clause-lpi
 hit-requires-clause-lpi g c =
-    let m = c.args.machine.now in let s = setup m in let v = view c.args.pass.now in let v1 = view c.begin.new.pass in let w = c.in-Ok.word in let looks = c.in-Ok.ensures.word.0 in let is = c.shard_of-number.ensures.number in
-    let stood = subst (λ (z : Setup). HasStood z (part.Shard 0 c.shard_of-number.result) (Shard c.in-Ok-try_take_shard.shard)) (ap (λ (y : View). y.setup) looks.same ∙ c.requires.of.1) c.in-Ok-try_take_shard.ensures.result.stood in
+    let m = c.args.machine.now in let s = setup m in let v = view c.args.pass.now in let v1 = view c.begin.new.pass in let w = c.in-Ok.word in let looks =
+    c.in-Ok.ensures.word.0 in let is = c.shard_of-number.ensures.number in
+    let stood = subst (λ (z : Setup). HasStood z (part.Shard 0 c.shard_of-number.result) (Shard c.in-Ok-try_take_shard.shard))
+    (ap (λ (y : View). y.setup) looks.same ∙ c.requires.of.1) c.in-Ok-try_take_shard.ensures.result.stood in
     (cached_target s c.shard_of-number.result c.args.dev c.args.ev w.stamp c.in-Some.target c.in-Ok-try_take_shard.shard stood (search rules)).lpi
 
 pub returns-clause-answer : goal.returns-clause-answer
 returns-clause-answer g c =
-    let m = c.args.machine.now in let s = setup m in let v = view c.args.pass.now in let v1 = view c.begin.new.pass in let w = c.in-Ok.word in let looks = c.in-Ok.ensures.word.0 in let is = c.shard_of-number.ensures.number in
+    let m = c.args.machine.now in let s = setup m in let v = view c.args.pass.now in let v1 = view c.begin.new.pass in let w = c.in-Ok.word in let looks =
+    c.in-Ok.ensures.word.0 in let is = c.shard_of-number.ensures.number in
     let took = rw (is) at c.in-Ok-try_take_shard.ensures.result.view in let r = redistributor_of c.in-Ok-try_take_redist.redist.value in
-    (hit_now s m.laid.0 c.args.dev c.args.ev v v1 w c.requires.of.1 c.requires.free looks (view c.try_take_shard.new.pass) c.in-Ok-try_take_shard.shard took (view c.try_take_redist.new.pass) c.in-Some.target r (search rules) c.in-Ok.ensures.word.1
+    (hit_now s m.laid.0 c.args.dev c.args.ev v v1 w c.requires.of.1 c.requires.free looks (view c.try_take_shard.new.pass) c.in-Ok-try_take_shard.shard took
+    (view c.try_take_redist.new.pass) c.in-Some.target r (search rules) c.in-Ok.ensures.word.1
     c.in-Ok-try_take_redist.ensures.result.0.view (view c.hit.new.pass) c.hit.result c.hit.ensures.answer).0

@@ -16,54 +16,76 @@ use Rattle.device_port.proofs.maps.send_signal.Goals as goal
 
 pub returns-in-Err-clause-answer : goal.returns-in-Err-clause-answer
 returns-in-Err-clause-answer g c v bare first =
-    let s = setup c.args.machine.now in let dev = c.args.dev in let ev = c.args.ev in let y = view c.args.pass.now in let n = c.shard_of-number.result in let m = Maps (translator_of c.args.maps.value) in
+    let s = setup c.args.machine.now in let dev = c.args.dev in let ev = c.args.ev in let y = view c.args.pass.now in let n =
+    c.shard_of-number.result in let m = Maps (translator_of c.args.maps.value) in
     let own : v.setup ≡ s = sym (ap (λ (u : View). u.setup) first) ∙ c.requires.of.1 in
-    let p_is : part.Shard 0 n ≡ shard_of v.setup dev ev = ap (λ (k : ℕ). part.Shard 0 k) c.shard_of-number.ensures.number ∙ ap (λ (q : Setup). shard_of q dev ev) (sym own) in
+    let p_is : part.Shard 0 n ≡ shard_of v.setup dev ev = ap (λ (k : ℕ). part.Shard 0 k) c.shard_of-number.ensures.number
+    ∙ ap (λ (q : Setup). shard_of q dev ev) (sym own) in
     let b1 = view c.try_take_shard.new.pass in let busy = c.in-Err.ensures.result in
-    busy_later dev ev v bare (part.Maps 0 ∷ []) (inl refl, tt) (inl refl) y (first_on v y m first) (first_early v y m first) (part.Shard 0 n) c.in-Err.busy b1 (view c.put.new.pass) (inr (inl p_is)) busy
-    (emptied_one b1 (view c.put.new.pass) c.put.ensures.view (ap (λ (u : View). held_before u.held) busy.view ∙ ap (λ (l : List Held). held_before l) c.requires.held))
+    busy_later dev ev v bare (part.Maps 0 ∷ []) (inl refl, tt) (inl refl) y (first_on v y m first) (first_early v y m first) (part.Shard 0 n) c.in-Err.busy b1
+    (view c.put.new.pass) (inr (inl p_is)) busy
+    (emptied_one b1 (view c.put.new.pass) c.put.ensures.view (ap (λ (u : View). held_before u.held) busy.view
+    ∙ ap (λ (l : List Held). held_before l) c.requires.held))
 
 pub try_take_redist-requires-clause-stands : goal.try_take_redist-requires-clause-stands
-try_take_redist-requires-clause-stands g c = (target_in (setup c.args.machine.now) (translator_of c.args.maps.value) c.args.dev.0 c.args.ev.0 c.args.target c.requires.stood c.requires.goes).vcpu
+try_take_redist-requires-clause-stands g c = (target_in (setup c.args.machine.now) (translator_of c.args.maps.value) c.args.dev.0 c.args.ev.0 c.args.target
+    c.requires.stood c.requires.goes).vcpu
 
 pub returns-in-Err-try_take_redist-clause-answer : goal.returns-in-Err-try_take_redist-clause-answer
 returns-in-Err-try_take_redist-clause-answer g c v bare first =
-    let s = setup c.args.machine.now in let dev = c.args.dev in let ev = c.args.ev in let y = view c.args.pass.now in let n = c.shard_of-number.result in let m = Maps (translator_of c.args.maps.value) in
+    let s = setup c.args.machine.now in let dev = c.args.dev in let ev = c.args.ev in let y = view c.args.pass.now in let n =
+    c.shard_of-number.result in let m = Maps (translator_of c.args.maps.value) in
     let own : v.setup ≡ s = sym (ap (λ (u : View). u.setup) first) ∙ c.requires.of.1 in
-    let p_is : part.Shard 0 n ≡ shard_of v.setup dev ev = ap (λ (k : ℕ). part.Shard 0 k) c.shard_of-number.ensures.number ∙ ap (λ (q : Setup). shard_of q dev ev) (sym own) in
+    let p_is : part.Shard 0 n ≡ shard_of v.setup dev ev = ap (λ (k : ℕ). part.Shard 0 k) c.shard_of-number.ensures.number
+    ∙ ap (λ (q : Setup). shard_of q dev ev) (sym own) in
     let z = view c.try_take_shard.new.pass in let second = c.in-Ok.ensures.result.view in let d = Shard c.in-Ok.shard in
     let b1 = view c.try_take_redist.new.pass in let busy = c.in-Err-try_take_redist.ensures.result in let u = c.args.target.vcpu in
-    let held = ap (λ (w : View). held_before (held_before w.held)) busy.view ∙ (ap (λ (w : View). held_before (held_before w.held)) second ∙ ap (λ (l : List Held). held_before l) c.requires.held) in
-    busy_later dev ev v bare (part.Shard 0 n ∷ part.Maps 0 ∷ []) (inr (inl p_is), (inl refl, tt)) (inr (inl refl)) z (second_on v y m first n z d second) (second_early v y m first n z d second) (part.Redist u) c.in-Err-try_take_redist.busy b1
+    let held = ap (λ (w : View). held_before (held_before w.held)) busy.view ∙ (ap (λ (w : View). held_before (held_before w.held)) second
+    ∙ ap (λ (l : List Held). held_before l) c.requires.held) in
+    busy_later dev ev v bare (part.Shard 0 n ∷ part.Maps 0 ∷ []) (inr (inl p_is), (inl refl, tt)) (inr (inl refl)) z (second_on v y m first n z d second)
+    (second_early v y m first n z d second) (part.Redist u) c.in-Err-try_take_redist.busy b1
     (view c.put-in-Err-try_take_redist-2.new.pass) (inr (inr (u, refl))) busy
-    (emptied_two b1 (view c.put-in-Err-try_take_redist.new.pass) (view c.put-in-Err-try_take_redist-2.new.pass) c.put-in-Err-try_take_redist.ensures.view c.put-in-Err-try_take_redist-2.ensures.view held)
+    (emptied_two b1 (view c.put-in-Err-try_take_redist.new.pass) (view c.put-in-Err-try_take_redist-2.new.pass) c.put-in-Err-try_take_redist.ensures.view
+    c.put-in-Err-try_take_redist-2.ensures.view held)
 
 pub fill_signal-requires-clause-vcpu : goal.fill_signal-requires-clause-vcpu
-fill_signal-requires-clause-vcpu g c = (target_in (setup c.args.machine.now) (translator_of c.args.maps.value) c.args.dev.0 c.args.ev.0 c.args.target c.requires.stood c.requires.goes).vcpu
+fill_signal-requires-clause-vcpu g c = (target_in (setup c.args.machine.now) (translator_of c.args.maps.value) c.args.dev.0 c.args.ev.0 c.args.target
+    c.requires.stood c.requires.goes).vcpu
 
 pub fill_signal-requires-clause-lpi : goal.fill_signal-requires-clause-lpi
-fill_signal-requires-clause-lpi g c = (target_in (setup c.args.machine.now) (translator_of c.args.maps.value) c.args.dev.0 c.args.ev.0 c.args.target c.requires.stood c.requires.goes).lpi
+fill_signal-requires-clause-lpi g c = (target_in (setup c.args.machine.now) (translator_of c.args.maps.value) c.args.dev.0 c.args.ev.0 c.args.target
+    c.requires.stood c.requires.goes).lpi
 
 pub off_signal-requires-clause-vcpu : goal.off_signal-requires-clause-vcpu
-off_signal-requires-clause-vcpu g c = (target_in (setup c.args.machine.now) (translator_of c.args.maps.value) c.args.dev.0 c.args.ev.0 c.args.target c.requires.stood c.requires.goes).vcpu
+off_signal-requires-clause-vcpu g c = (target_in (setup c.args.machine.now) (translator_of c.args.maps.value) c.args.dev.0 c.args.ev.0 c.args.target
+    c.requires.stood c.requires.goes).vcpu
 
 pub returns-then-deref-clause-answer : goal.returns-then-deref-clause-answer
 returns-then-deref-clause-answer g c v bare first =
-    let s = setup c.args.machine.now in let dev = c.args.dev in let ev = c.args.ev in let y = view c.args.pass.now in let n = c.shard_of-number.result in let m = Maps (translator_of c.args.maps.value) in
+    let s = setup c.args.machine.now in let dev = c.args.dev in let ev = c.args.ev in let y = view c.args.pass.now in let n =
+    c.shard_of-number.result in let m = Maps (translator_of c.args.maps.value) in
     let own : v.setup ≡ s = sym (ap (λ (u : View). u.setup) first) ∙ c.requires.of.1 in
-    let p_is : part.Shard 0 n ≡ shard_of v.setup dev ev = ap (λ (k : ℕ). part.Shard 0 k) c.shard_of-number.ensures.number ∙ ap (λ (q : Setup). shard_of q dev ev) (sym own) in
+    let p_is : part.Shard 0 n ≡ shard_of v.setup dev ev = ap (λ (k : ℕ). part.Shard 0 k) c.shard_of-number.ensures.number
+    ∙ ap (λ (q : Setup). shard_of q dev ev) (sym own) in
     let z = view c.try_take_shard.new.pass in let second = c.in-Ok.ensures.result.view in let d = Shard c.in-Ok.shard in let u = c.args.target.vcpu in
-    let w = view c.try_take_redist.new.pass in let third = c.in-Ok-try_take_redist.ensures.result.0.view in let e = Redist (redistributor_of c.in-Ok-try_take_redist.redist.value) in
+    let w = view c.try_take_redist.new.pass in let third = c.in-Ok-try_take_redist.ensures.result.0.view in let e =
+    Redist (redistributor_of c.in-Ok-try_take_redist.redist.value) in
     let x = view c.fill_signal.new.pass in
-    finished dev ev v bare (part.Redist u ∷ part.Shard 0 n ∷ part.Maps 0 ∷ []) (inr (inr (u, refl)), (inr (inl p_is), (inl refl, tt))) (inr (inr (inl refl))) w (third_on v y m first n z d second u w e third) (third_early v y m first n z d second u w e third)
-    (Delivered u c.args.target.intid) (Fill dev ev c.args.target) x c.fill_signal.result (λ p is l. (inr l, subst (FindsIfDone dev ev x (Some c.args.target)) is c.fill_signal.ensures.finds)) c.fill_signal.ensures.answer
+    finished dev ev v bare (part.Redist u ∷ part.Shard 0 n ∷ part.Maps 0 ∷ []) (inr (inr (u, refl)), (inr (inl p_is), (inl refl, tt))) (inr (inr (inl refl))) w
+    (third_on v y m first n z d second u w e third) (third_early v y m first n z d second u w e third)
+    (Delivered u c.args.target.intid) (Fill dev ev c.args.target) x c.fill_signal.result
+    (λ p is l. (inr l, subst (FindsIfDone dev ev x (Some c.args.target)) is c.fill_signal.ensures.finds)) c.fill_signal.ensures.answer
 
 pub returns-else-deref-clause-answer : goal.returns-else-deref-clause-answer
 returns-else-deref-clause-answer g c v bare first =
-    let s = setup c.args.machine.now in let dev = c.args.dev in let ev = c.args.ev in let y = view c.args.pass.now in let n = c.shard_of-number.result in let m = Maps (translator_of c.args.maps.value) in
+    let s = setup c.args.machine.now in let dev = c.args.dev in let ev = c.args.ev in let y = view c.args.pass.now in let n =
+    c.shard_of-number.result in let m = Maps (translator_of c.args.maps.value) in
     let own : v.setup ≡ s = sym (ap (λ (u : View). u.setup) first) ∙ c.requires.of.1 in
-    let p_is : part.Shard 0 n ≡ shard_of v.setup dev ev = ap (λ (k : ℕ). part.Shard 0 k) c.shard_of-number.ensures.number ∙ ap (λ (q : Setup). shard_of q dev ev) (sym own) in
+    let p_is : part.Shard 0 n ≡ shard_of v.setup dev ev = ap (λ (k : ℕ). part.Shard 0 k) c.shard_of-number.ensures.number
+    ∙ ap (λ (q : Setup). shard_of q dev ev) (sym own) in
     let z = view c.try_take_shard.new.pass in let second = c.in-Ok.ensures.result.view in let d = Shard c.in-Ok.shard in let u = c.args.target.vcpu in
-    let w = view c.try_take_redist.new.pass in let third = c.in-Ok-try_take_redist.ensures.result.0.view in let e = Redist (redistributor_of c.in-Ok-try_take_redist.redist.value) in
-    finished dev ev v bare (part.Redist u ∷ part.Shard 0 n ∷ part.Maps 0 ∷ []) (inr (inr (u, refl)), (inr (inl p_is), (inl refl, tt))) (inr (inr (inl refl))) w (third_on v y m first n z d second u w e third) (third_early v y m first n z d second u w e third)
+    let w = view c.try_take_redist.new.pass in let third = c.in-Ok-try_take_redist.ensures.result.0.view in let e =
+    Redist (redistributor_of c.in-Ok-try_take_redist.redist.value) in
+    finished dev ev v bare (part.Redist u ∷ part.Shard 0 n ∷ part.Maps 0 ∷ []) (inr (inr (u, refl)), (inr (inl p_is), (inl refl, tt))) (inr (inr (inl refl))) w
+    (third_on v y m first n z d second u w e third) (third_early v y m first n z d second u w e third)
     (Dropped LpisOff) Keep (view c.off_signal.new.pass) c.off_signal.result (λ p is l. l) c.off_signal.ensures.answer

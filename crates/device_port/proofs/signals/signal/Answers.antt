@@ -11,19 +11,23 @@ loop-init g c =
 pub loop-preserved-in-Busy : goal.loop-preserved-in-Busy
 loop-preserved-in-Busy g c =
     let e = c.in-Busy.ensures in
-    let again = again_busy c.args.dev c.args.ev (view c.args.pass.now) (view c.loop.pass) c.loop.invariant.3 c.loop.invariant.4 c.in-Busy.field-0 (view c.signal_once.new.pass) e.answer in
+    let again = again_busy c.args.dev c.args.ev (view c.args.pass.now) (view c.loop.pass) c.loop.invariant.3 c.loop.invariant.4 c.in-Busy.field-0
+    (view c.signal_once.new.pass) e.answer in
     (tt, tt, e.of, again.0, again.1)
 
 pub loop-preserved : goal.loop-preserved
 loop-preserved g c =
     let e = c.in-Raced.ensures in
-    let again = again_raced c.args.dev c.args.ev (view c.args.pass.now) (view c.loop.pass) c.loop.invariant.3 c.loop.invariant.4 c.in-Raced.field-0 (view c.signal_once.new.pass) e.answer in
+    let again = again_raced c.args.dev c.args.ev (view c.args.pass.now) (view c.loop.pass) c.loop.invariant.3 c.loop.invariant.4 c.in-Raced.field-0
+    (view c.signal_once.new.pass) e.answer in
     (tt, tt, e.of, again.0, again.1)
 
 pub returns-in-Done-clause-answer : goal.returns-in-Done-clause-answer
 returns-in-Done-clause-answer g c =
-    asked_done c.args.dev c.args.ev (view c.args.pass.now) (view c.loop.pass) c.loop.invariant.3 c.loop.invariant.4 c.in-Done.placed (view c.signal_once.new.pass) c.in-Done.ensures.answer
+    asked_done c.args.dev c.args.ev (view c.args.pass.now) (view c.loop.pass) c.loop.invariant.3 c.loop.invariant.4 c.in-Done.placed
+    (view c.signal_once.new.pass) c.in-Done.ensures.answer
 
 pub returns-in-Spent-clause-answer : goal.returns-in-Spent-clause-answer
 returns-in-Spent-clause-answer g c =
-    asked_spent c.args.dev c.args.ev (view c.args.pass.now) (view c.loop.pass) c.loop.invariant.3 c.loop.invariant.4 (view c.signal_once.new.pass) c.in-Spent.ensures.answer
+    asked_spent c.args.dev c.args.ev (view c.args.pass.now) (view c.loop.pass) c.loop.invariant.3 c.loop.invariant.4 (view c.signal_once.new.pass)
+    c.in-Spent.ensures.answer

@@ -5,4 +5,5 @@ use Rattle.device_port.proofs.signals.signal.Given as goal
 
 abbrev pub invariant-loop : goal.invariant-loop
 invariant-loop g l =
-    (goal.iterator-loop g).can_next l.iterator' × (goal.iterator-loop g).is_finite l.iterator' × IsOf l.machine l.pass × Stays (view l.fn.pass) (view l.pass) × SignalAsks (view l.fn.pass) l.dev l.ev (view l.pass)
+    (goal.iterator-loop g).can_next l.iterator' × (goal.iterator-loop g).is_finite l.iterator' × IsOf l.machine l.pass × Stays (view l.fn.pass) (view l.pass)
+    × SignalAsks (view l.fn.pass) l.dev l.ev (view l.pass)

@@ -3,17 +3,22 @@ use Rattle.device_port.proofs.Asked.{by_maps_then, done_then, busy_then, raced_t
 use Rattle.device_port.proofs.signals.signal_once.Goals as goal
 
 pub returns-in-Done-clause-answer : goal.returns-in-Done-clause-answer
-returns-in-Done-clause-answer g c = done_then c.args.dev c.args.ev (view c.args.pass.now) (view c.try_signal.new.pass) c.try_signal.ensures.early c.in-Done.placed c.in-Done.ensures.answer
+returns-in-Done-clause-answer g c = done_then c.args.dev c.args.ev (view c.args.pass.now) (view c.try_signal.new.pass) c.try_signal.ensures.early
+    c.in-Done.placed c.in-Done.ensures.answer
 
 pub returns-in-Busy-clause-answer : goal.returns-in-Busy-clause-answer
-returns-in-Busy-clause-answer g c = busy_then c.args.dev c.args.ev (view c.args.pass.now) (view c.try_signal.new.pass) c.try_signal.ensures.early c.in-Busy.busy c.in-Busy.ensures.answer
+returns-in-Busy-clause-answer g c = busy_then c.args.dev c.args.ev (view c.args.pass.now) (view c.try_signal.new.pass) c.try_signal.ensures.early c.in-Busy.busy
+    c.in-Busy.ensures.answer
 
 pub returns-in-Raced-clause-answer : goal.returns-in-Raced-clause-answer
-returns-in-Raced-clause-answer g c = raced_then c.args.dev c.args.ev (view c.args.pass.now) (view c.try_signal.new.pass) c.try_signal.ensures.early c.in-Raced.raced c.in-Raced.ensures.answer
+returns-in-Raced-clause-answer g c = raced_then c.args.dev c.args.ev (view c.args.pass.now) (view c.try_signal.new.pass) c.try_signal.ensures.early
+    c.in-Raced.raced c.in-Raced.ensures.answer
 
 pub returns-in-Spent-clause-answer : goal.returns-in-Spent-clause-answer
-returns-in-Spent-clause-answer g c = spent_then c.args.dev c.args.ev (view c.args.pass.now) (view c.try_signal.new.pass) c.try_signal.ensures.early c.in-Spent.ensures.answer
+returns-in-Spent-clause-answer g c = spent_then c.args.dev c.args.ev (view c.args.pass.now) (view c.try_signal.new.pass) c.try_signal.ensures.early
+    c.in-Spent.ensures.answer
 
 pub returns-in-Miss-clause-answer : goal.returns-in-Miss-clause-answer
 returns-in-Miss-clause-answer g c = let a = c.in-Miss.ensures.answer in
-    by_maps_then c.args.dev c.args.ev (view c.args.pass.now) (view c.try_signal.new.pass) (view c.signal_by_maps.new.pass) a.0 a.1 a.3 c.try_signal.ensures.early c.signal_by_maps.result c.signal_by_maps.ensures.answer
+    by_maps_then c.args.dev c.args.ev (view c.args.pass.now) (view c.try_signal.new.pass) (view c.signal_by_maps.new.pass) a.0 a.1 a.3
+    c.try_signal.ensures.early c.signal_by_maps.result c.signal_by_maps.ensures.answer

@@ -7,10 +7,12 @@ pub returns-in-Err : goal.returns-in-Err
 unfolding script_of
 returns-in-Err c =
     rw (c.at.ensures, c.loop-line.invariant.read)
-    (read_fails c.loop-line.number c.loop-line.draft c.loop-line.rest.now c.in-Some.line.now c.in-Some.more.now c.in-Err.error c.in-Some.ensures.first c.in-Err.ensures)
+    (read_fails c.loop-line.number c.loop-line.draft c.loop-line.rest.now c.in-Some.line.now c.in-Some.more.now c.in-Err.error c.in-Some.ensures.first
+    c.in-Err.ensures)
 
 pub loop-line-preserved : goal.loop-line-preserved
 loop-line-preserved c = record {
-  read = c.loop-line.invariant.read ∙ read_on c.loop-line.number c.loop-line.draft c.line.new.self c.loop-line.rest.now c.in-Some.line.now c.in-Some.more.now c.in-Some.ensures.first c.in_default-line.ensures;
+  read = c.loop-line.invariant.read ∙ read_on c.loop-line.number c.loop-line.draft c.line.new.self c.loop-line.rest.now c.in-Some.line.now c.in-Some.more.now
+      c.in-Some.ensures.first c.in_default-line.ensures;
   small = omega (arith, c.loop-line.invariant.small, c.in-Some.ensures.shorter);
 }

@@ -11,9 +11,11 @@ returns-then-branch c =
     let l = c.loop-line in
     let first = c.in-Some.line.now in
     let begins : begins_report l.draft first ≡ true = sym c.in_ok-begins_report.ensures.value ∙ c.if-branch.true in
-    let same : map (λ f. f.now) c.deref.result.now ≡ fields first = ap (map (λ f. f.now)) c.deref.ensures.value ∙ c.in_ok-begins_report.ensures.split c.if-branch.true in
+    let same : map (λ f. f.now) c.deref.result.now ≡ fields first = ap (map (λ f. f.now)) c.deref.ensures.value
+    ∙ c.in_ok-begins_report.ensures.split c.if-branch.true in
     subst (IsCheckAnswer c.trace_line.result)
-    (sym (l.invariant.read ∙ begun l.number l.draft l.rest.now first c.in-Some.more.now (map (λ f. f.now) c.deref.result.now) c.in-Some.ensures.first begins same))
+    (sym (l.invariant.read ∙ begun l.number l.draft l.rest.now first c.in-Some.more.now (map (λ f. f.now) c.deref.result.now) c.in-Some.ensures.first begins
+    same))
     c.trace_line.ensures
 
 pub returns-in-Err : goal.returns-in-Err
@@ -22,7 +24,8 @@ returns-in-Err c =
     let l = c.loop-line in
     let first = c.in-Some.line.now in
     let other : begins_report l.draft first ≡ false = sym c.in_ok-begins_report.ensures.value ∙ c.if-branch.false in
-    rw c.at.ensures (fails_at l.number c.in-Err.error (line l.draft l.number first) (λ (e : Draft). check_from (l.number + 1) e (parts c.in-Some.more.now)) _ c.in-Err.ensures
+    rw c.at.ensures (fails_at l.number c.in-Err.error (line l.draft l.number first) (λ (e : Draft). check_from (l.number + 1) e (parts c.in-Some.more.now)) _
+    c.in-Err.ensures
     (l.invariant.read ∙ goes_on l.number l.draft l.rest.now first c.in-Some.more.now c.in-Some.ensures.first other))
 
 pub loop-line-preserved : goal.loop-line-preserved

@@ -33,20 +33,29 @@ is_so : (m : Machine) (programmed : Bool) (desc : Desc) → HasItsLayout m → d
 is_so m programmed desc own same is = is ∙ (ap (λ (d : Desc). are_programmed d.tables) same ∙ ap (λ (l : Layout). l.gicr) own)
 
 reads_now : (m : Machine) (vcpu : Vcpu) (r : Redistributor) (off size : ℕ) → vcpu.0 < vcpu_count (setup m) → (w : Word) → w.place < (setup m).limits.place_last
-    → MayLeave (setup m) (staying w (call.ReadGicr vcpu off size) (reply.Value (read_by (setup m).start.layout.gicr r off size)) Keep) (held_one vcpu r) (held_one vcpu r)
+    → MayLeave (setup m) (staying w (call.ReadGicr vcpu off size) (reply.Value (read_by (setup m).start.layout.gicr r off size)) Keep) (held_one vcpu r)
+    (held_one vcpu r)
 reads_now m vcpu r off size st w room = may_read (setup m) m.laid.1 w room vcpu st r off size
 
 pub read_from-value-requires : goal.read_from-value-requires
 read_from-value-requires g c = let m = c.args.machine.now in record {
-  low = λ e. rw (c.deref.ensures) (low_bases (setup m) c.args.vcpu (redistributor_of c.in-Ok.redist.value) (subst (λ (s : Setup). HasStood s (part.Redist c.args.vcpu) (Redist (redistributor_of c.in-Ok.redist.value))) c.requires.of.1 c.in-Ok.ensures.result.0.stood)
+  low = λ e. rw (c.deref.ensures) (low_bases (setup m) c.args.vcpu (redistributor_of c.in-Ok.redist.value)
+      (subst (λ (s : Setup). HasStood s (part.Redist c.args.vcpu) (Redist (redistributor_of c.in-Ok.redist.value))) c.requires.of.1
+      c.in-Ok.ensures.result.0.stood)
       (sym (is_so m c.are_programmed-programmed.result c.desc.result.now c.requires.layout c.desc.ensures.desc c.are_programmed-programmed.ensures) ∙ e));
 }
 
 pub try_commit-made-requires-clause-may : goal.try_commit-made-requires-clause-may
 try_commit-made-requires-clause-may g c =
     let m = c.args.machine.now in let v = view c.args.pass.now in let x = view c.try_take_redist.new.pass in let r = redistributor_of c.in-Ok.redist.value in
-    rw (c.read_from-value.ensures, c.deref.ensures, is_so m c.are_programmed-programmed.result c.desc.result.now c.requires.layout c.desc.ensures.desc c.are_programmed-programmed.ensures)
-    (may_here (setup m) (call.ReadGicr c.args.vcpu c.args.off c.args.size) (reply.Value (read_by (setup m).start.layout.gicr r c.args.off c.args.size)) Keep (held_one c.args.vcpu r) (λ _. held_one c.args.vcpu r) (reads_now m c.args.vcpu r c.args.off c.args.size c.requires.vcpu) x
+    rw (
+      c.read_from-value.ensures,
+      c.deref.ensures,
+      is_so m c.are_programmed-programmed.result c.desc.result.now c.requires.layout c.desc.ensures.desc
+          c.are_programmed-programmed.ensures,
+    )
+    (may_here (setup m) (call.ReadGicr c.args.vcpu c.args.off c.args.size) (reply.Value (read_by (setup m).start.layout.gicr r c.args.off c.args.size)) Keep
+    (held_one c.args.vcpu r) (λ _. held_one c.args.vcpu r) (reads_now m c.args.vcpu r c.args.off c.args.size c.requires.vcpu) x
     (one_held v (part.Redist c.args.vcpu) (Redist r) x c.in-Ok.ensures.result.0.view c.requires.free))
 
 pub put-requires-clause-owed : goal.put-requires-clause-owed
@@ -56,12 +65,21 @@ put-requires-clause-owed g c =
       content = Redist r;
       content_is = refl;
       before = [];
-      last = owes_here (setup m) (call.ReadGicr c.args.vcpu c.args.off c.args.size) (reply.Value (read_by (setup m).start.layout.gicr r c.args.off c.args.size)) Keep (held_one c.args.vcpu r) (λ _. held_one c.args.vcpu r) (reads_now m c.args.vcpu r c.args.off c.args.size c.requires.vcpu) x
-          (one_held v (part.Redist c.args.vcpu) (Redist r) x c.in-Ok.ensures.result.0.view c.requires.free) c.try_take_redist.ensures.of.1 c.in-Ok-made.word (view c.try_commit-made.new.pass)
-          (rw (c.read_from-value.ensures, c.deref.ensures, is_so m c.are_programmed-programmed.result c.desc.result.now c.requires.layout c.desc.ensures.desc c.are_programmed-programmed.ensures) at c.in-Ok-made.ensures.result);
+      last = owes_here (setup m) (call.ReadGicr c.args.vcpu c.args.off c.args.size) (reply.Value (read_by (setup m).start.layout.gicr r c.args.off c.args.size))
+          Keep (held_one c.args.vcpu r) (λ _. held_one c.args.vcpu r) (reads_now m c.args.vcpu r c.args.off c.args.size c.requires.vcpu) x
+          (one_held v (part.Redist c.args.vcpu) (Redist r) x c.in-Ok.ensures.result.0.view c.requires.free) c.try_take_redist.ensures.of.1 c.in-Ok-made.word
+          (view c.try_commit-made.new.pass)
+          (rw (
+            c.read_from-value.ensures,
+            c.deref.ensures,
+            is_so m c.are_programmed-programmed.result c.desc.result.now c.requires.layout c.desc.ensures.desc
+                c.are_programmed-programmed.ensures,
+          ) at c.in-Ok-made.ensures.result);
     }
 
 pub returns-in-Err-made-clause-answer : goal.returns-in-Err-made-clause-answer
-returns-in-Err-made-clause-answer g c = let v = view c.args.pass.now in let x = view c.try_take_redist.new.pass in let r = redistributor_of c.in-Ok.redist.value in
-    rw (c.attempt.ensures) (one_lost v (part.Redist c.args.vcpu) (Redist r) x c.in-Ok.ensures.result.0.view (call.ReadGicr c.args.vcpu c.args.off c.args.size) (λ (k : ℕ). reply.Value k) c.in-Err-made.lost (view c.try_commit-made.new.pass) (view c.put-in-Err-made.new.pass)
+returns-in-Err-made-clause-answer g c = let v = view c.args.pass.now in let x = view c.try_take_redist.new.pass in let r =
+    redistributor_of c.in-Ok.redist.value in
+    rw (c.attempt.ensures) (one_lost v (part.Redist c.args.vcpu) (Redist r) x c.in-Ok.ensures.result.0.view (call.ReadGicr c.args.vcpu c.args.off c.args.size)
+    (λ (k : ℕ). reply.Value k) c.in-Err-made.lost (view c.try_commit-made.new.pass) (view c.put-in-Err-made.new.pass)
     c.in-Err-made.ensures.result c.put-in-Err-made.ensures.view)

@@ -5,4 +5,5 @@ use Rattle.gicr_lpi.proofs.writes.write_gicr.Given as goal
 
 abbrev pub invariant-loop : goal.invariant-loop
 invariant-loop g l =
-    (goal.iterator-loop g).can_next l.iterator' × (goal.iterator-loop g).is_finite l.iterator' × IsOf l.machine l.pass × StillAsks (IsOfWrite l.fn.vcpu) (view l.fn.pass) (view l.pass)
+    (goal.iterator-loop g).can_next l.iterator' × (goal.iterator-loop g).is_finite l.iterator' × IsOf l.machine l.pass × StillAsks (IsOfWrite l.fn.vcpu)
+    (view l.fn.pass) (view l.pass)

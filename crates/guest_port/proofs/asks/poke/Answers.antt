@@ -6,10 +6,18 @@ use Rattle.guest_port.proofs.asks.poke.Goals as goal
 
 pub returns-in-Done-clause-answer : goal.returns-in-Done-clause-answer
 returns-in-Done-clause-answer g c = let x = c.in-Done.placed in
-    asked_done (view c.args.pass.now) (view c.loop.pass) part.Mem c.loop.invariant.3 (call.Poke c.args.addr c.args.bytes.now) x.reply x.place (view c.try_poke.new.pass) c.in-Done.ensures.answer
+    asked_done (view c.args.pass.now) (view c.loop.pass) part.Mem c.loop.invariant.3 (call.Poke c.args.addr c.args.bytes.now) x.reply x.place
+    (view c.try_poke.new.pass) c.in-Done.ensures.answer
 
 pub returns-in-Spent-clause-answer : goal.returns-in-Spent-clause-answer
-returns-in-Spent-clause-answer g c = asked_spent (view c.args.pass.now) (view c.loop.pass) part.Mem c.loop.invariant.3 (view c.try_poke.new.pass) c.in-Spent.ensures.answer
+returns-in-Spent-clause-answer g c = asked_spent (view c.args.pass.now) (view c.loop.pass) part.Mem c.loop.invariant.3
+    (view c.try_poke.new.pass) c.in-Spent.ensures.answer
 
 pub loop-preserved : goal.loop-preserved
-loop-preserved g c = (tt, tt, c.try_poke.ensures.of, again_raced (view c.args.pass.now) (view c.loop.pass) part.Mem c.loop.invariant.3 c.in-Raced.field-0 (view c.try_poke.new.pass) c.in-Raced.ensures.answer)
+loop-preserved g c = (
+  tt,
+  tt,
+  c.try_poke.ensures.of,
+  again_raced (view c.args.pass.now) (view c.loop.pass) part.Mem c.loop.invariant.3 c.in-Raced.field-0
+      (view c.try_poke.new.pass) c.in-Raced.ensures.answer,
+)

@@ -13,13 +13,15 @@ use Rattle.held_parts.proofs.redists.put_wanted.Goals as goal
 use Rattle.held_parts.proofs.redists.put_wanted.Goals.{then-is_wanted, else-is_wanted}
 
 pub put-requires-clause-owed : goal.put-requires-clause-owed
-put-requires-clause-owed c = let old = c.args.redists.now in let before = c.requires.held.0 in let l = c.loop-k in let k = 15 - l.k in let r = c.take_out-redist.result.value in record {
-  content = Redist (redistributor_of r);
-  content_is = refl;
-  before = redists_held old k before;
-  last = ap (λ (y : View). y.held) (l.invariant.home before c.requires.held.1)
-      ∙ row_first (redist_row old) before (16 - l.k) k (redist_held k r) (omega (arith, c.loop-k-test.true)) (ap (held_if_in k) (sym (l.invariant.left.below k (omega (arith, c.loop-k-test.true))) ∙ c.take_out-redist.ensures.value));
-}
+put-requires-clause-owed c = let old = c.args.redists.now in let before = c.requires.held.0 in let l = c.loop-k in let k = 15 - l.k in let r =
+    c.take_out-redist.result.value in record {
+      content = Redist (redistributor_of r);
+      content_is = refl;
+      before = redists_held old k before;
+      last = ap (λ (y : View). y.held) (l.invariant.home before c.requires.held.1)
+          ∙ row_first (redist_row old) before (16 - l.k) k (redist_held k r) (omega (arith, c.loop-k-test.true))
+          (ap (held_if_in k) (sym (l.invariant.left.below k (omega (arith, c.loop-k-test.true))) ∙ c.take_out-redist.ensures.value));
+    }
 
 pub loop-k-preserved : goal.loop-k-preserved
 loop-k-preserved c = let s = setup c.args.machine.now in let l = c.loop-k in let old = c.args.redists.now in let k = 15 - l.k in
@@ -29,17 +31,21 @@ loop-k-preserved c = let s = setup c.args.machine.now in let l = c.loop-k in let
       | then-is_wanted w ↦ let r = w.take_out-redist.result.value in rw (w.pass-is, w.redists-is, e) record {
         of = w.put.ensures.of;
         home = λ before is. w.put.ensures.view ∙ (ap released (l.invariant.home before is)
-            ∙ ap (λ (h : List Held). holding (view c.args.pass.now) (held_before h)) (row_first (redist_row old) before (16 - l.k) k (redist_held k r) next (ap (held_if_in k) (sym (l.invariant.left.below k (omega (arith, next))) ∙ w.take_out-redist.ensures.value))));
+            ∙ ap (λ (h : List Held). holding (view c.args.pass.now) (held_before h)) (row_first (redist_row old) before (16 - l.k) k (redist_held k r) next
+            (ap (held_if_in k) (sym (l.invariant.left.below k (omega (arith, next))) ∙ w.take_out-redist.ensures.value))));
         left = rw (w.take_out-redist.ensures.taken) (one_left (16 - l.k) k old l.redists next l.invariant.left);
       }
       | else-is_wanted w ↦
-          let out = not_in_hand s c.args.set.now old k c.requires.hand (ap (λ (n : ℕ). is_wanted c.args.set.now k && nat_lt k n) (sym c.vcpus-vcpus.ensures.vcpus) ∙ (sym c.is_wanted.ensures ∙ w.if-is_wanted.false)) in
+          let out = not_in_hand s c.args.set.now old k c.requires.hand (ap (λ (n : ℕ). is_wanted c.args.set.now k && nat_lt k n)
+          (sym c.vcpus-vcpus.ensures.vcpus) ∙ (sym c.is_wanted.ensures ∙ w.if-is_wanted.false)) in
           rw (w.pass-is, w.redists-is, e) record {
             of = l.invariant.of;
-            home = λ before is. l.invariant.home before is ∙ ap (λ (h : List Held). holding (view c.args.pass.now) h) (row_skips (redist_row old) before (16 - l.k) k next (ap (held_if_in k) out));
+            home = λ before is. l.invariant.home before is ∙ ap (λ (h : List Held). holding (view c.args.pass.now) h)
+                (row_skips (redist_row old) before (16 - l.k) k next (ap (held_if_in k) out));
             left = none_left (16 - l.k) k old l.redists next l.invariant.left out;
           }
     ]
 
 pub returns-clause-home : goal.returns-clause-home
-returns-clause-home c = let l = c.loop-k in λ before is. l.invariant.home before is ∙ ap (λ (h : List Held). holding (view c.args.pass.now) h) (row_none (redist_row c.args.redists.now) before (16 - l.k) (omega (arith, c.loop-k-test.false)))
+returns-clause-home c = let l = c.loop-k in λ before is. l.invariant.home before is ∙ ap (λ (h : List Held). holding (view c.args.pass.now) h)
+    (row_none (redist_row c.args.redists.now) before (16 - l.k) (omega (arith, c.loop-k-test.false)))

@@ -9,6 +9,7 @@ use Rattle.held_parts.proofs.redists.put_wanted.Given as goal
 abbrev pub invariant-loop-k : goal.invariant-loop-k
 invariant-loop-k l = record {
   of : IsOf l.machine l.pass;
-  home : (before : List Held) → (view l.fn.pass).held ≡ redists_held l.fn.redists 16 before → view l.pass ≡ holding (view l.fn.pass) (redists_held l.fn.redists (16 - l.k) before);
+  home : (before : List Held) → (view l.fn.pass).held ≡ redists_held l.fn.redists 16 before → view l.pass ≡ holding (view l.fn.pass)
+      (redists_held l.fn.redists (16 - l.k) before);
   left : AreLeft (16 - l.k) l.fn.redists l.redists;
 }

@@ -21,23 +21,30 @@ loop-vcpu-init g c = record {
 
 pub take_redist-redist-requires-clause-free : goal.take_redist-redist-requires-clause-free
 take_redist-redist-requires-clause-free g c =
-    let l = c.loop-vcpu in is_free (setup c.args.machine.now) c.args.set.now l.vcpu (l.vcpu + 1) l.redists (view c.args.pass.now).held (view l.pass).held l.invariant.taken (omega arith) l.vcpu (omega arith) c.requires.free
+    let l = c.loop-vcpu in is_free (setup c.args.machine.now) c.args.set.now l.vcpu (l.vcpu + 1) l.redists (view c.args.pass.now).held
+    (view l.pass).held l.invariant.taken (omega arith) l.vcpu (omega arith) c.requires.free
 
 pub loop-vcpu-preserved : goal.loop-vcpu-preserved
-loop-vcpu-preserved g c = let s = setup c.args.machine.now in let l = c.loop-vcpu in let before = (view c.args.pass.now).held in let want = c.args.set.now in elim c.if-is_wanted.branch [
-  | then-is_wanted w ↦
-      let t = w.take_redist-redist in let r = t.result.value in
-      let inside : (is_wanted want l.vcpu && nat_lt l.vcpu (vcpu_count s)) ≡ true = ap (λ (n : ℕ). is_wanted want l.vcpu && nat_lt l.vcpu n) (sym c.vcpus-vcpus.ensures.vcpus) ∙ (sym c.is_wanted.ensures ∙ w.if-is_wanted.true) in
-      rw (w.pass-is, w.redists-is) record {
-        of = t.ensures.of;
-        takes = takes_then (IsWantedRedist want) (view c.args.pass.now) (view l.pass) (view t.new.pass) l.invariant.takes
-            (takes_one (IsWantedRedist want) (view l.pass) (view t.new.pass) (part.Redist (record { 0 = l.vcpu })) (Redist (redistributor_of r)) (and_parts (is_wanted want l.vcpu) (nat_lt l.vcpu (vcpu_count s)) inside).0 t.ensures.takes);
-        taken = rw (w.place.ensures.placed) (one_taken s want l.vcpu (l.vcpu + 1) l.redists before (view l.pass).held l.invariant.taken (omega arith) r (view t.new.pass).held (sym (length-set l.redists l.vcpu (Some r)) ∙ (ap length (sym w.place.ensures.placed) ∙ w.place.ensures.size)) (search rules) inside t.ensures.lpis
-            (took_held (view l.pass) (view t.new.pass) (part.Redist (record { 0 = l.vcpu })) (Redist (redistributor_of r)) t.ensures.takes));
+loop-vcpu-preserved g c = let s = setup c.args.machine.now in let l = c.loop-vcpu in let before = (view c.args.pass.now).held in let want =
+    c.args.set.now in elim c.if-is_wanted.branch [
+      | then-is_wanted w ↦
+          let t = w.take_redist-redist in let r = t.result.value in
+          let inside : (is_wanted want l.vcpu && nat_lt l.vcpu (vcpu_count s)) ≡ true = ap (λ (n : ℕ). is_wanted want l.vcpu && nat_lt l.vcpu n)
+          (sym c.vcpus-vcpus.ensures.vcpus) ∙ (sym c.is_wanted.ensures ∙ w.if-is_wanted.true) in
+          rw (w.pass-is, w.redists-is) record {
+            of = t.ensures.of;
+            takes = takes_then (IsWantedRedist want) (view c.args.pass.now) (view l.pass) (view t.new.pass) l.invariant.takes
+                (takes_one (IsWantedRedist want) (view l.pass) (view t.new.pass) (part.Redist (record { 0 = l.vcpu })) (Redist (redistributor_of r))
+                (and_parts (is_wanted want l.vcpu) (nat_lt l.vcpu (vcpu_count s)) inside).0 t.ensures.takes);
+            taken = rw (w.place.ensures.placed) (one_taken s want l.vcpu (l.vcpu + 1) l.redists before (view l.pass).held l.invariant.taken (omega arith) r
+                (view t.new.pass).held (sym (length-set l.redists l.vcpu (Some r)) ∙ (ap length (sym w.place.ensures.placed) ∙ w.place.ensures.size))
+                (search rules) inside t.ensures.lpis
+                (took_held (view l.pass) (view t.new.pass) (part.Redist (record { 0 = l.vcpu })) (Redist (redistributor_of r)) t.ensures.takes));
+          }
+      | else-is_wanted w ↦ rw (w.pass-is, w.redists-is) record {
+        of = l.invariant.of;
+        takes = l.invariant.takes;
+        taken = not_taken s want l.vcpu (l.vcpu + 1) l.redists before (view l.pass).held l.invariant.taken (omega arith)
+            (ap (λ (n : ℕ). is_wanted want l.vcpu && nat_lt l.vcpu n) (sym c.vcpus-vcpus.ensures.vcpus) ∙ (sym c.is_wanted.ensures ∙ w.if-is_wanted.false));
       }
-  | else-is_wanted w ↦ rw (w.pass-is, w.redists-is) record {
-    of = l.invariant.of;
-    takes = l.invariant.takes;
-    taken = not_taken s want l.vcpu (l.vcpu + 1) l.redists before (view l.pass).held l.invariant.taken (omega arith) (ap (λ (n : ℕ). is_wanted want l.vcpu && nat_lt l.vcpu n) (sym c.vcpus-vcpus.ensures.vcpus) ∙ (sym c.is_wanted.ensures ∙ w.if-is_wanted.false));
-  }
-]
+    ]

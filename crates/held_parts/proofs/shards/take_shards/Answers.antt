@@ -16,12 +16,16 @@ loop-number-init g c = record {
 }
 
 pub take_shard-shard-requires-clause-free : goal.take_shard-shard-requires-clause-free
-take_shard-shard-requires-clause-free g c = let l = c.loop-number in is_free l.number (l.number + 1) l.shards (view c.args.pass.now).held (view l.pass).held l.invariant.taken (omega arith) c.requires.free
+take_shard-shard-requires-clause-free g c = let l = c.loop-number in is_free l.number (l.number + 1) l.shards (view c.args.pass.now).held
+    (view l.pass).held l.invariant.taken (omega arith) c.requires.free
 
 pub loop-number-preserved : goal.loop-number-preserved
 loop-number-preserved g c = let l = c.loop-number in let t = c.take_shard-shard in record {
   of = t.ensures.of;
-  takes = takes_then IsShardOfFirst (view c.args.pass.now) (view l.pass) (view t.new.pass) l.invariant.takes (takes_one IsShardOfFirst (view l.pass) (view t.new.pass) (part.Shard 0 l.number) (Shard t.result) refl t.ensures.takes);
+  takes = takes_then IsShardOfFirst (view c.args.pass.now) (view l.pass) (view t.new.pass) l.invariant.takes
+      (takes_one IsShardOfFirst (view l.pass) (view t.new.pass) (part.Shard 0 l.number) (Shard t.result) refl t.ensures.takes);
   taken = rw (c.place.ensures.placed)
-      (one_taken l.number (l.number + 1) l.shards (view c.args.pass.now).held (view l.pass).held l.invariant.taken (omega arith) t.result (view t.new.pass).held (sym (length-set l.shards l.number (Some t.result)) ∙ (ap length (sym c.place.ensures.placed) ∙ c.place.ensures.size)) (search rules) (took_held (view l.pass) (view t.new.pass) (part.Shard 0 l.number) (Shard t.result) t.ensures.takes));
+      (one_taken l.number (l.number + 1) l.shards (view c.args.pass.now).held (view l.pass).held l.invariant.taken (omega arith) t.result (view t.new.pass).held
+      (sym (length-set l.shards l.number (Some t.result)) ∙ (ap length (sym c.place.ensures.placed) ∙ c.place.ensures.size)) (search rules)
+      (took_held (view l.pass) (view t.new.pass) (part.Shard 0 l.number) (Shard t.result) t.ensures.takes));
 }

@@ -12,4 +12,5 @@ returns-clause-caused g c =
     let report = string_bytes c.say.new.report in
     let read = c.in-Ok.ensures in
     let short = subst (λ (bytes : List ℕ). StopsShort bytes report) c.deref.ensures.value c.in-Err.ensures.err in
-    short_causes (left c.args.source.now) (Rose (faults c.args.source.now) (faults c.read_all.new.source)) c.in-Ok.input.items report (record { whole = read.all; short = read.short }) short
+    short_causes (left c.args.source.now) (Rose (faults c.args.source.now) (faults c.read_all.new.source)) c.in-Ok.input.items report
+    (record { whole = read.all; short = read.short }) short

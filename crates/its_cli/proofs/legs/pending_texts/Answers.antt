@@ -14,4 +14,5 @@ returns-clause-texts c =
     let told : List Intid → List ℕ = λ lpis. report.pending_text (map (λ i. i.0) lpis) in
     let whole : take c.loop-lpis.lpis-index items ≡ items = take_all c.loop-lpis.lpis-index items c.loop-lpis-test.false in
     c.loop-lpis.invariant ∙ ap (map told) whole ∙ texts_of report.pending_text items
-    ∙ ap (λ (ls : List (List Intid)). map report.pending_text (map (map (λ i. i.0)) ls)) c.as_slice-lpis-items.ensures ∙ ap (map report.pending_text) c.in_ok-lists.ensures.lists
+    ∙ ap (λ (ls : List (List Intid)). map report.pending_text (map (map (λ i. i.0)) ls)) c.as_slice-lpis-items.ensures
+    ∙ ap (map report.pending_text) c.in_ok-lists.ensures.lists

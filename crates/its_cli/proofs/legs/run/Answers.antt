@@ -10,39 +10,50 @@ use Rattle.its_cli.proofs.legs.run.Goals as goal
 pub run_leg-requires-clause-phases : goal.run_leg-requires-clause-phases
 run_leg-requires-clause-phases g c κs within =
     let script = c.args.script.now in let l = c.loop-leg in let i = l.leg-index in
-    let at = earlier_leg script.legs c.as_slice-legs.result.now i c.leg-item.result c.as_slice.result.now c.as_slice-legs.ensures c.loop-leg-test.true c.leg-item.is c.as_slice.ensures in
-    (leg_may script i c.leg-item.result c.as_slice.result.now (setup l.now.machine) l.invariant.ready.within at.lt at.at c.as_slice.ensures l.invariant.ready.vcpus).0
+    let at = earlier_leg script.legs c.as_slice-legs.result.now i c.leg-item.result c.as_slice.result.now c.as_slice-legs.ensures c.loop-leg-test.true
+    c.leg-item.is c.as_slice.ensures in
+    (leg_may script i c.leg-item.result c.as_slice.result.now (setup l.now.machine) l.invariant.ready.within at.lt at.at c.as_slice.ensures
+    l.invariant.ready.vcpus).0
 
 pub run_leg-requires-clause-threads : goal.run_leg-requires-clause-threads
 run_leg-requires-clause-threads g c κs within =
     let script = c.args.script.now in let l = c.loop-leg in let i = l.leg-index in
-    let at = earlier_leg script.legs c.as_slice-legs.result.now i c.leg-item.result c.as_slice.result.now c.as_slice-legs.ensures c.loop-leg-test.true c.leg-item.is c.as_slice.ensures in
-    (leg_may script i c.leg-item.result c.as_slice.result.now (setup l.now.machine) l.invariant.ready.within at.lt at.at c.as_slice.ensures l.invariant.ready.vcpus).1
+    let at = earlier_leg script.legs c.as_slice-legs.result.now i c.leg-item.result c.as_slice.result.now c.as_slice-legs.ensures c.loop-leg-test.true
+    c.leg-item.is c.as_slice.ensures in
+    (leg_may script i c.leg-item.result c.as_slice.result.now (setup l.now.machine) l.invariant.ready.within at.lt at.at c.as_slice.ensures
+    l.invariant.ready.vcpus).1
 
 pub run_leg-requires-clause-may : goal.run_leg-requires-clause-may
 run_leg-requires-clause-may g c κs within =
     let script = c.args.script.now in let l = c.loop-leg in let i = l.leg-index in
-    let at = earlier_leg script.legs c.as_slice-legs.result.now i c.leg-item.result c.as_slice.result.now c.as_slice-legs.ensures c.loop-leg-test.true c.leg-item.is c.as_slice.ensures in
-    (leg_may script i c.leg-item.result c.as_slice.result.now (setup l.now.machine) l.invariant.ready.within at.lt at.at c.as_slice.ensures l.invariant.ready.vcpus).2
+    let at = earlier_leg script.legs c.as_slice-legs.result.now i c.leg-item.result c.as_slice.result.now c.as_slice-legs.ensures c.loop-leg-test.true
+    c.leg-item.is c.as_slice.ensures in
+    (leg_may script i c.leg-item.result c.as_slice.result.now (setup l.now.machine) l.invariant.ready.within at.lt at.at c.as_slice.ensures
+    l.invariant.ready.vcpus).2
 
 pub returns-in-Ends-clause-ok : goal.returns-in-Ends-clause-ok
 returns-in-Ends-clause-ok g c =
     let script = c.args.script.now in let l = c.loop-leg in let leg = c.as_slice.result.now in let u = (setup l.now.machine).start in
     let old = string_bytes l.report in let new = string_bytes c.run_leg.new.report in let e = c.in-Ends.ending in
-    let at = earlier_leg script.legs c.as_slice-legs.result.now l.leg-index c.leg-item.result leg c.as_slice-legs.ensures c.loop-leg-test.true c.leg-item.is c.as_slice.ensures in
+    let at = earlier_leg script.legs c.as_slice-legs.result.now l.leg-index c.leg-item.result leg c.as_slice-legs.ensures c.loop-leg-test.true c.leg-item.is
+    c.as_slice.ensures in
     let next = leg_behind script.legs l.leg-index leg at.behind at.left in
     let told = rw c.in-Ends.is at c.in_ok-next.ensures.ok in
     let stops : LegStops script.desc.limits.place_last u leg l.number old new e.status (string_bytes e.line) =
     subst (λ (x : Limits). LegStops x.place_last u leg l.number old new e.status (string_bytes e.line)) l.invariant.ready.limits told in
-    stops_here script (setup c.args.first.machine).start l.leg-index l.number u old new (string_bytes e.line) leg next.0 next.1 e.status l.invariant.ran l.invariant.number next.2 stops
+    stops_here script (setup c.args.first.machine).start l.leg-index l.number u old new (string_bytes e.line) leg next.0 next.1 e.status l.invariant.ran
+    l.invariant.number next.2 stops
 
 pub loop-leg-preserved : goal.loop-leg-preserved
 loop-leg-preserved g c =
-    let script = c.args.script.now in let l = c.loop-leg in let leg = c.as_slice.result.now in let u = (setup l.now.machine).start in let w = (setup c.in-On.next.machine).start in
+    let script = c.args.script.now in let l = c.loop-leg in let leg = c.as_slice.result.now in let u = (setup l.now.machine).start in let w =
+    (setup c.in-On.next.machine).start in
     let old = string_bytes l.report in let new = string_bytes c.run_leg.new.report in let ready = l.invariant.ready in
-    let at = earlier_leg script.legs c.as_slice-legs.result.now l.leg-index c.leg-item.result leg c.as_slice-legs.ensures c.loop-leg-test.true c.leg-item.is c.as_slice.ensures in
+    let at = earlier_leg script.legs c.as_slice-legs.result.now l.leg-index c.leg-item.result leg c.as_slice-legs.ensures c.loop-leg-test.true c.leg-item.is
+    c.as_slice.ensures in
     let told = rw c.in-On.is at c.in_ok-next.ensures.ok in
-    let moved : IsLegMigrated script.desc.limits.place_last u w leg l.number old new = subst (λ (x : Limits). IsLegMigrated x.place_last u w leg l.number old new) ready.limits told.1 in
+    let moved : IsLegMigrated script.desc.limits.place_last u w leg l.number old new =
+    subst (λ (x : Limits). IsLegMigrated x.place_last u w leg l.number old new) ready.limits told.1 in
     record {
       number = omega (arith, l.invariant.number);
       ready = record { within = ready.within; fresh = told.0.fresh; limits = told.0.limits ∙ ready.limits; vcpus = told.0.vcpus ∙ ready.vcpus };
@@ -52,40 +63,53 @@ loop-leg-preserved g c =
 pub run_last_leg-requires-clause-phases : goal.run_last_leg-requires-clause-phases
 run_last_leg-requires-clause-phases g c κs within =
     let script = c.args.script.now in let l = c.loop-leg in let ready = l.invariant.ready in
-    let at = final_leg script.legs c.as_slice-legs.result.now l.leg-index c.index-legs-end.result c.as_slice-leg.result.now c.as_slice-legs.ensures ready.within.some_legs c.loop-leg-test.false l.auto.leg-index-end c.index-legs-end.is c.as_slice-leg.ensures in
-    (leg_may script l.leg-index c.index-legs-end.result c.as_slice-leg.result.now (setup l.now.machine) ready.within at.lt at.at c.as_slice-leg.ensures ready.vcpus).0
+    let at = final_leg script.legs c.as_slice-legs.result.now l.leg-index c.index-legs-end.result c.as_slice-leg.result.now c.as_slice-legs.ensures
+    ready.within.some_legs c.loop-leg-test.false l.auto.leg-index-end c.index-legs-end.is c.as_slice-leg.ensures in
+    (leg_may script l.leg-index c.index-legs-end.result c.as_slice-leg.result.now (setup l.now.machine) ready.within at.lt at.at c.as_slice-leg.ensures
+    ready.vcpus).0
 
 pub run_last_leg-requires-clause-threads : goal.run_last_leg-requires-clause-threads
 run_last_leg-requires-clause-threads g c κs within =
     let script = c.args.script.now in let l = c.loop-leg in let ready = l.invariant.ready in
-    let at = final_leg script.legs c.as_slice-legs.result.now l.leg-index c.index-legs-end.result c.as_slice-leg.result.now c.as_slice-legs.ensures ready.within.some_legs c.loop-leg-test.false l.auto.leg-index-end c.index-legs-end.is c.as_slice-leg.ensures in
-    (leg_may script l.leg-index c.index-legs-end.result c.as_slice-leg.result.now (setup l.now.machine) ready.within at.lt at.at c.as_slice-leg.ensures ready.vcpus).1
+    let at = final_leg script.legs c.as_slice-legs.result.now l.leg-index c.index-legs-end.result c.as_slice-leg.result.now c.as_slice-legs.ensures
+    ready.within.some_legs c.loop-leg-test.false l.auto.leg-index-end c.index-legs-end.is c.as_slice-leg.ensures in
+    (leg_may script l.leg-index c.index-legs-end.result c.as_slice-leg.result.now (setup l.now.machine) ready.within at.lt at.at c.as_slice-leg.ensures
+    ready.vcpus).1
 
 pub run_last_leg-requires-clause-may : goal.run_last_leg-requires-clause-may
 run_last_leg-requires-clause-may g c κs within =
     let script = c.args.script.now in let l = c.loop-leg in let ready = l.invariant.ready in
-    let at = final_leg script.legs c.as_slice-legs.result.now l.leg-index c.index-legs-end.result c.as_slice-leg.result.now c.as_slice-legs.ensures ready.within.some_legs c.loop-leg-test.false l.auto.leg-index-end c.index-legs-end.is c.as_slice-leg.ensures in
-    (leg_may script l.leg-index c.index-legs-end.result c.as_slice-leg.result.now (setup l.now.machine) ready.within at.lt at.at c.as_slice-leg.ensures ready.vcpus).2
+    let at = final_leg script.legs c.as_slice-legs.result.now l.leg-index c.index-legs-end.result c.as_slice-leg.result.now c.as_slice-legs.ensures
+    ready.within.some_legs c.loop-leg-test.false l.auto.leg-index-end c.index-legs-end.is c.as_slice-leg.ensures in
+    (leg_may script l.leg-index c.index-legs-end.result c.as_slice-leg.result.now (setup l.now.machine) ready.within at.lt at.at c.as_slice-leg.ensures
+    ready.vcpus).2
 
 pub returns-clause-ok : goal.returns-clause-ok
 returns-clause-ok g c =
-    let script = c.args.script.now in let l = c.loop-leg in let leg = c.as_slice-leg.result.now in let u = (setup l.now.machine).start in let ready = l.invariant.ready in
+    let script = c.args.script.now in let l = c.loop-leg in let leg = c.as_slice-leg.result.now in let u = (setup l.now.machine).start in let ready =
+    l.invariant.ready in
     let old = string_bytes l.report in let new = string_bytes c.run_last_leg.new.report in let e = c.in_ok-ending.ending in
-    let at = final_leg script.legs c.as_slice-legs.result.now l.leg-index c.index-legs-end.result leg c.as_slice-legs.ensures ready.within.some_legs c.loop-leg-test.false l.auto.leg-index-end c.index-legs-end.is c.as_slice-leg.ensures in
+    let at = final_leg script.legs c.as_slice-legs.result.now l.leg-index c.index-legs-end.result leg c.as_slice-legs.ensures ready.within.some_legs
+    c.loop-leg-test.false l.auto.leg-index-end c.index-legs-end.is c.as_slice-leg.ensures in
     let ends : LegEnds script.desc.limits.place_last u leg l.number old new e.status (string_bytes e.line) =
     subst (λ (x : Limits). LegEnds x.place_last u leg l.number old new e.status (string_bytes e.line)) ready.limits c.in_ok-ending.ensures.ok in
-    ends_here script (setup c.args.first.machine).start l.leg-index l.number u old new (string_bytes e.line) leg e.status l.invariant.ran l.invariant.number at.left ends
+    ends_here script (setup c.args.first.machine).start l.leg-index l.number u old new (string_bytes e.line) leg e.status l.invariant.ran l.invariant.number
+    at.left ends
 
 pub returns-in_err-next-clause-err : goal.returns-in_err-next-clause-err
 returns-in_err-next-clause-err g c =
     let script = c.args.script.now in let l = c.loop-leg in let leg = c.as_slice.result.now in let first = (setup c.args.first.machine).start in
-    let at = earlier_leg script.legs c.as_slice-legs.result.now l.leg-index c.leg-item.result leg c.as_slice-legs.ensures c.loop-leg-test.true c.leg-item.is c.as_slice.ensures in
-    let told = so_far script first l.leg-index (setup l.now.machine).start (string_bytes l.report) leg (drop (l.leg-index + 1) script.legs) l.invariant.ran at.left in
+    let at = earlier_leg script.legs c.as_slice-legs.result.now l.leg-index c.leg-item.result leg c.as_slice-legs.ensures c.loop-leg-test.true c.leg-item.is
+    c.as_slice.ensures in
+    let told = so_far script first l.leg-index (setup l.now.machine).start (string_bytes l.report) leg (drop (l.leg-index + 1) script.legs) l.invariant.ran
+    at.left in
     on_err _ (IsSoFar script first (string_bytes c.run_leg.new.report)) (subst (λ (t : List ℕ). IsSoFar script first t) (sym c.in_err-next.ensures.err) told)
 
 pub returns-in_err-ending-clause-err : goal.returns-in_err-ending-clause-err
 returns-in_err-ending-clause-err g c =
     let script = c.args.script.now in let l = c.loop-leg in let leg = c.as_slice-leg.result.now in let first = (setup c.args.first.machine).start in
-    let at = final_leg script.legs c.as_slice-legs.result.now l.leg-index c.index-legs-end.result leg c.as_slice-legs.ensures l.invariant.ready.within.some_legs c.loop-leg-test.false l.auto.leg-index-end c.index-legs-end.is c.as_slice-leg.ensures in
+    let at = final_leg script.legs c.as_slice-legs.result.now l.leg-index c.index-legs-end.result leg c.as_slice-legs.ensures l.invariant.ready.within.some_legs
+    c.loop-leg-test.false l.auto.leg-index-end c.index-legs-end.is c.as_slice-leg.ensures in
     let told = so_far script first l.leg-index (setup l.now.machine).start (string_bytes l.report) leg [] l.invariant.ran at.left in
-    on_err _ (IsSoFar script first (string_bytes c.run_last_leg.new.report)) (subst (λ (t : List ℕ). IsSoFar script first t) (sym c.in_err-ending.ensures.err) told)
+    on_err _ (IsSoFar script first (string_bytes c.run_last_leg.new.report))
+    (subst (λ (t : List ℕ). IsSoFar script first t) (sym c.in_err-ending.ensures.err) told)

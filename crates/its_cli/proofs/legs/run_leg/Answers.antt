@@ -12,7 +12,8 @@ returns-in_ok-add_leg-in-Ok-clause-ok g c =
     let m = c.args.now.machine in let s = setup m in let leg = c.args.leg.now in let h = (view c.play_leg.new.root).seen in
     let old = string_bytes c.args.report.now in let new = string_bytes c.add_leg.new.report in
     let played = rw c.if-played.false at c.in_ok-played.ensures.played in
-    let w = is_whole s leg c.args.number c.in_ok-played.played.lines.items h old new (resting m c.play_leg.new.root) (Some Migrated) c.in_ok-texts.texts played refl c.in_ok-texts.ensures.texts c.in_ok-add_leg-in-Ok.ensures.ok in
+    let w = is_whole s leg c.args.number c.in_ok-played.played.lines.items h old new (resting m c.play_leg.new.root) (Some Migrated) c.in_ok-texts.texts played
+    refl c.in_ok-texts.ensures.texts c.in_ok-add_leg-in-Ok.ensures.ok in
     let went = c.in-Ok.ensures in (
       goes_on_with m c.in-Ok.machine c.pending_texts.new.root c.in-Ok.root went c.requires.fresh.layout,
       is_migrated m c.in-Ok.machine c.pending_texts.new.root c.in-Ok.root went leg c.args.number old new w.0 (c.in_ok-texts.ensures.same ∙ w.1),
@@ -24,6 +25,9 @@ returns-in_ok-add_leg-in-Err-default-default-Fault-clause-ok g c =
     let old = string_bytes c.args.report.now in let new = string_bytes c.add_leg-in-Err-default-default-Fault.new.report in
     let x = c.in-Err-default-default-Fault in
     let played = rw c.if-played.false at c.in_ok-played.ensures.played in
-    let w = is_whole s leg c.args.number c.in_ok-played.played.lines.items h old new (resting m c.play_leg.new.root) None c.in_ok-texts.texts played refl c.in_ok-texts.ensures.texts c.in_ok-add_leg-in-Err-default-default-Fault.ensures.ok in
+    let w = is_whole s leg c.args.number c.in_ok-played.played.lines.items h old new (resting m c.play_leg.new.root) None c.in_ok-texts.texts played refl
+    c.in_ok-texts.ensures.texts c.in_ok-add_leg-in-Err-default-default-Fault.ensures.ok in
     let refused = rw x.field-0-2-is at x.ensures in
-    is_refused s.limits.place_last s.start (resting m c.pending_texts.new.root) leg c.args.number old new (string_bytes c.in_ok-line-in-Err-default-default-Fault.line) x.fault w.0 (c.in_ok-texts.ensures.same ∙ w.1) refused.3 c.in_ok-line-in-Err-default-default-Fault.ensures
+    is_refused s.limits.place_last s.start (resting m c.pending_texts.new.root) leg c.args.number old new
+    (string_bytes c.in_ok-line-in-Err-default-default-Fault.line) x.fault w.0 (c.in_ok-texts.ensures.same ∙ w.1) refused.3
+    c.in_ok-line-in-Err-default-default-Fault.ensures

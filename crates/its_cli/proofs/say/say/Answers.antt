@@ -8,7 +8,8 @@ use Rattle.its_cli.proofs.say.say.Goals as goal
 
 pub new-requires : goal.new-requires
 new-requires g c =
-    let fits : IsWithinLimits c.in-Ok.script = subst (λ (r : Result Script ScriptFault). IfOk r IsWithinLimits) c.in-Ok.ensures (scripts_fit c.args.input.now) in
+    let fits : IsWithinLimits c.in-Ok.script = subst (λ (r : Result Script ScriptFault). IfOk r IsWithinLimits) c.in-Ok.ensures
+    (scripts_fit c.args.input.now) in
     fits.description
 
 pub share-requires-clause-within : goal.share-requires-clause-within
@@ -16,9 +17,11 @@ share-requires-clause-within g c = subst (λ (r : Result Script ScriptFault). If
 
 pub returns-in_err-ending-clause-err : goal.returns-in_err-ending-clause-err
 returns-in_err-ending-clause-err g c =
-    let e = so_far_said c.args.input.now c.in-Ok.script _ c.in-Ok-new.machine c.in-Ok.ensures c.in-Ok-new.ensures c.in_ok-first.ensures.start _ c.in_err-ending.ensures.err in
+    let e = so_far_said c.args.input.now c.in-Ok.script _ c.in-Ok-new.machine c.in-Ok.ensures c.in-Ok-new.ensures c.in_ok-first.ensures.start _
+    c.in_err-ending.ensures.err in
     search rules
 
 pub returns-clause-ok : goal.returns-clause-ok
 returns-clause-ok g c =
-    run_said c.args.input.now c.in-Ok.script _ c.in-Ok-new.machine c.in-Ok.ensures c.in-Ok-new.ensures c.in_ok-first.ensures.start c.in_ok-ending.ending.status _ c.in_ok-ending.ensures.ok
+    run_said c.args.input.now c.in-Ok.script _ c.in-Ok-new.machine c.in-Ok.ensures c.in-Ok-new.ensures c.in_ok-first.ensures.start c.in_ok-ending.ending.status
+    _ c.in_ok-ending.ensures.ok

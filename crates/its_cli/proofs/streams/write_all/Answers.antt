@@ -9,7 +9,14 @@ loop-at-preserved g c =
     let held = g.K.Sink.held in
     let sent = c.in_ok-at.ensures.cause in
     record {
-      appended = Appends-more (held c.args.sink.now) (held c.loop-at.sink) (held c.write.new.self) c.args.text.now c.loop-at.at c.in_ok-at.field-0 c.loop-at.invariant.appended w.appended;
+      appended = Appends-more (held c.args.sink.now) (held c.loop-at.sink) (held c.write.new.self) c.args.text.now c.loop-at.at c.in_ok-at.field-0
+          c.loop-at.invariant.appended w.appended;
       same = sent.same refl ∙ c.loop-at.invariant.same;
-      within = omega (arith, w.fits, length-take (length c.args.text.now - c.loop-at.at) (drop c.loop-at.at c.args.text.now), length-drop c.loop-at.at c.args.text.now);
+      within = omega (
+        arith,
+        w.fits,
+        length-take (length c.args.text.now - c.loop-at.at) (drop c.loop-at.at c.args.text.now),
+        length-drop c.loop-at.at
+            c.args.text.now,
+      );
     }

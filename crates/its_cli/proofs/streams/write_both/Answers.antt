@@ -21,5 +21,6 @@ pub returns-clause-err : goal.returns-clause-err
 returns-clause-err g c =
     let held = g.K.Sink.held in
     on_err c.write_all-2.result
-    (λ w. front-of-second (held c.args.sink.now) (held c.write_all.new.sink) (held c.write_all-2.new.sink) w.0 c.args.first.now c.args.second.now c.in_ok-write_all.ensures.ok w.1)
+    (λ w. front-of-second (held c.args.sink.now) (held c.write_all.new.sink) (held c.write_all-2.new.sink) w.0 c.args.first.now c.args.second.now
+    c.in_ok-write_all.ensures.ok w.1)
     c.write_all-2.ensures.err

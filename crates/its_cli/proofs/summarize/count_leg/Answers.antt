@@ -13,7 +13,9 @@ run_leg-requires-clause-may g c κs met =
 pub unreachable-requires-in-Err-default-default-Fault : goal.unreachable-requires-in-Err-default-default-Fault
 unreachable-requires-in-Err-default-default-Fault g c =
     let m = c.args.shared.machine in let leg = c.index-as_slice-0.result in let x = c.in-Err-default-default-Fault in
-    let same = first_of c.args.signals c.args.threads c.args.script.now leg c.as_slice-leg.result.now c.requires.made.same (c.index-as_slice-0.is ∙ ap (λ ls. get_or ls 0 leg) c.as_slice.ensures) c.as_slice-leg.ensures in
+    let same = first_of c.args.signals c.args.threads c.args.script.now leg c.as_slice-leg.result.now c.requires.made.same
+    (c.index-as_slice-0.is ∙ ap (λ ls. get_or ls 0 leg) c.as_slice.ensures) c.as_slice-leg.ensures in
     let ran = rw c.in-None.is at c.in_ok-end.ensures.leg in
     let refused = rw x.field-0-2-is at x.ensures in
-    can_be_saved c.args.signals c.args.threads c.args.script.now c.requires.made (setup m) c.as_slice-leg.result.now c.in_ok-end.end.lists.items (view c.run_leg.new.root) same _ c.can_migrate.ensures c.requires.first ran refused.3
+    can_be_saved c.args.signals c.args.threads c.args.script.now c.requires.made (setup m) c.as_slice-leg.result.now c.in_ok-end.end.lists.items
+    (view c.run_leg.new.root) same _ c.can_migrate.ensures c.requires.first ran refused.3

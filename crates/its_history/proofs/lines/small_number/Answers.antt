@@ -5,7 +5,8 @@ use Rattle.its_history.proofs.ReadNumbers.{number_is, number_none, same_text, te
 use Rattle.its_history.proofs.lines.small_number.Goals as goal
 
 pub returns-in_err-number : goal.returns-in_err-number
-returns-in_err-number c = c.from_residual.ensures ∙ sym (number_none c.args.text.now (λ n lt e. (let other : None ≡ Some n = c.in_err-number.ensures n lt e in cc)))
+returns-in_err-number c = c.from_residual.ensures
+    ∙ sym (number_none c.args.text.now (λ n lt e. (let other : None ≡ Some n = c.in_err-number.ensures n lt e in cc)))
 
 pub returns-then-eq : goal.returns-then-eq
 returns-then-eq c =
@@ -16,6 +17,7 @@ pub returns-else-eq : goal.returns-else-eq
 returns-else-eq c =
     sym (number_none c.args.text.now (λ n lt e.
     let is : c.in_ok-number.number ≡ n = (let one : Some c.in_ok-number.number ≡ Some n = c.in_ok-number.ensures n lt e in cc) in
-    let same : bytes_eq c.as_bytes.result.now c.args.text.now ≡ true = texts_equal c.as_bytes.result.now c.args.text.now (c.as_bytes.ensures.value ∙ c.format.ensures.text ∙ ap decimal is ∙ e) in
+    let same : bytes_eq c.as_bytes.result.now c.args.text.now ≡ true = texts_equal c.as_bytes.result.now c.args.text.now
+    (c.as_bytes.ensures.value ∙ c.format.ensures.text ∙ ap decimal is ∙ e) in
     let differ : bytes_eq c.as_bytes.result.now c.args.text.now ≡ false = sym c.eq.ensures ∙ c.if-eq.false in
     cc))

@@ -4,4 +4,5 @@ use Rattle.its_history.proofs.ReadLegs.{in_front}
 use Rattle.its_history.proofs.reading.parse_trace.Given as goal
 
 abbrev pub invariant-loop-earlier : goal.invariant-loop-earlier
-invariant-loop-earlier l = legs_from l.vcpus 1 l.legs (lines_left 1 (parts l.report)) ≡ in_front l.read (legs_from l.vcpus (l.earlier + 1) (l.legs - l.earlier) (left l.lines))
+invariant-loop-earlier l = legs_from l.vcpus 1 l.legs (lines_left 1 (parts l.report)) ≡ in_front l.read (legs_from l.vcpus (l.earlier + 1) (l.legs - l.earlier)
+    (left l.lines))

@@ -5,4 +5,5 @@ use Rattle.std.specs.String.{string_bytes}
 use Rattle.its_history.proofs.report.pending_text.Given as goal
 
 abbrev pub invariant-loop-intid : goal.invariant-loop-intid
-invariant-loop-intid l = string_bytes l.out ≡ string_bytes l.initial.out ++ flat_map (λ m. codes " " ++ decimal m) (map (λ i. i.0) (take l.intid-index l.others))
+invariant-loop-intid l = string_bytes l.out ≡ string_bytes l.initial.out ++ flat_map (λ m. codes " " ++ decimal m)
+    (map (λ i. i.0) (take l.intid-index l.others))

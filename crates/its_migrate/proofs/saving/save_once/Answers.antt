@@ -13,7 +13,8 @@ pub saves-requires-clause-hand : goal.saves-requires-clause-hand
 saves-requires-clause-hand g c =
     let m = c.args.machine.now in
     let same = c.in_ok-layout.ensures ∙ (ap (λ (d : Desc). layout_of d) c.desc.ensures.desc ∙ c.requires.layout) in
-    taken_hand (setup m) (view c.args.pass.now) (view c.take_all-whole.new.pass) c.take_all-whole.result c.take_all-whole.ensures.taken c.in_ok-layout.layout same
+    taken_hand (setup m) (view c.args.pass.now) (view c.take_all-whole.new.pass) c.take_all-whole.result c.take_all-whole.ensures.taken c.in_ok-layout.layout
+    same
 
 pub try_commit-requires-clause-may : goal.try_commit-requires-clause-may
 try_commit-requires-clause-may g c =
@@ -26,7 +27,8 @@ pub write-requires-clause-hand : goal.write-requires-clause-hand
 write-requires-clause-hand g c =
     let m = c.args.machine.now in
     let same = c.in_ok-layout.ensures ∙ (ap (λ (d : Desc). layout_of d) c.desc.ensures.desc ∙ c.requires.layout) in
-    taken_hand (setup m) (view c.args.pass.now) (view c.take_all-whole.new.pass) c.take_all-whole.result c.take_all-whole.ensures.taken c.in_ok-layout.layout same
+    taken_hand (setup m) (view c.args.pass.now) (view c.take_all-whole.new.pass) c.take_all-whole.result c.take_all-whole.ensures.taken c.in_ok-layout.layout
+    same
 
 pub put_all-requires-in-Ok-try_commit-clause-held : goal.put_all-requires-in-Ok-try_commit-clause-held
 put_all-requires-in-Ok-try_commit-clause-held g c =

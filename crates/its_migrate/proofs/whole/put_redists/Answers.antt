@@ -59,7 +59,8 @@ pub loop-done-preserved : goal.loop-done-preserved
 loop-done-preserved c = let l = c.loop-done in let n = c.vcpus-count.result in let rs = c.args.redists.now in let v = view c.args.pass.now in
     let test = c.loop-done-test.true in (
       c.put.ensures.of,
-      (λ rest e. c.put.ensures.view ∙ (ap (λ (w : View). released w) (l.invariant.1 rest e) ∙ ap (λ (h : List Held). record v { held = h }) (out_before rs (n - (l.done + 1)) (n - l.done) rest (omega (arith, test))))),
+      (λ rest e. c.put.ensures.view ∙ (ap (λ (w : View). released w) (l.invariant.1 rest e) ∙ ap (λ (h : List Held). record v { held = h })
+          (out_before rs (n - (l.done + 1)) (n - l.done) rest (omega (arith, test))))),
       (λ k lt. rw (c.take_out-redist.ensures.taken)
           (get_or-set_other l.redists (n - 1 - l.done) k None None (λ e. absurd (omega (arith, e, lt, test))) ∙ l.invariant.2 k (omega (arith, lt)))),
     )

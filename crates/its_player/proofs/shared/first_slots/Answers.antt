@@ -13,16 +13,21 @@ X = Some (Shard no_entries)
 row_more : (i n : ℕ) → i * n + n ≡ (i + 1) * n
 row_more i n = let s : suc i ≡ i + 1 = omega arith in (let e : i * n + n ≡ suc i * n = omega (arith, suc-mul i n) in e ∙ ap (λ (k : ℕ). k * n) s)
 
-shards_more : (base : List (Option Content)) (slots new : List (Option Content)) (i n : ℕ) → slots ≡ base ++ replicate (i * n) X → new ≡ slots ++ replicate n X → new ≡ base ++ replicate ((i + 1) * n) X
+shards_more : (base : List (Option Content)) (slots new : List (Option Content)) (i n : ℕ) → slots ≡ base ++ replicate (i * n) X → new ≡ slots ++ replicate n X
+    → new ≡ base ++ replicate ((i + 1) * n) X
 shards_more base slots new i n e f =
-    f ∙ (ap (λ (l : List (Option Content)). l ++ replicate n X) e ∙ (append_assoc base (replicate (i * n) X) (replicate n X) ∙ ap (λ (l : List (Option Content)). base ++ l) (replicate-append-replicate (i * n) n X ∙ ap (λ (k : ℕ). replicate k X) (row_more i n))))
+    f ∙ (ap (λ (l : List (Option Content)). l ++ replicate n X) e ∙ (append_assoc base (replicate (i * n) X) (replicate n X)
+    ∙ ap (λ (l : List (Option Content)). base ++ l) (replicate-append-replicate (i * n) n X ∙ ap (λ (k : ℕ). replicate k X) (row_more i n))))
 
 pub loop-translator-preserved : goal.loop-translator-preserved
-loop-translator-preserved c = shards_more c.push.new.self.items c.loop-translator.slots.items c.add_shards.new.slots.items c.loop-translator._translator-index c.args.shards c.loop-translator.invariant c.in_ok-add_shards.ensures
+loop-translator-preserved c = shards_more c.push.new.self.items c.loop-translator.slots.items c.add_shards.new.slots.items c.loop-translator._translator-index
+    c.args.shards c.loop-translator.invariant c.in_ok-add_shards.ensures
 
-all_slots : (maps shards redists : List (Option Content)) (mem : Option Content) (none first pushed looped all : List (Option Content)) → none ≡ [] → first ≡ none ++ maps → pushed ≡ first ++ mem ∷ [] → looped ≡ pushed ++ shards → all ≡ looped ++ redists → all ≡ maps ++ (mem ∷ (shards ++ redists))
+all_slots : (maps shards redists : List (Option Content)) (mem : Option Content) (none first pushed looped all : List (Option Content)) → none ≡ []
+    → first ≡ none ++ maps → pushed ≡ first ++ mem ∷ [] → looped ≡ pushed ++ shards → all ≡ looped ++ redists → all ≡ maps ++ (mem ∷ (shards ++ redists))
 all_slots maps shards redists mem none first pushed looped all a b p l e =
-    e ∙ ((λ d. (l ∙ ap (λ (x : List (Option Content)). x ++ shards) (p ∙ ap (λ (x : List (Option Content)). x ++ mem ∷ []) (b ∙ ap (λ (x : List (Option Content)). x ++ maps) a))) d ++ redists)
+    e ∙ ((λ d. (l ∙ ap (λ (x : List (Option Content)). x ++ shards) (p ∙ ap (λ (x : List (Option Content)). x ++ mem ∷ [])
+    (b ∙ ap (λ (x : List (Option Content)). x ++ maps) a))) d ++ redists)
     ∙ (append_assoc (maps ++ mem ∷ []) shards redists ∙ append_assoc maps (mem ∷ []) (shards ++ redists)))
 
 pub returns : goal.returns
@@ -30,8 +35,10 @@ returns c =
     let short = c.loop-translator-test.false in
     let high = c.loop-translator.auto._translator-index-end in
     let count : c.loop-translator._translator-index ≡ length c.args.start.now.translators = omega (arith, ap length c.translators-translator-items.ensures) in
-    all_slots (map (λ t. Some (Maps t)) c.args.start.now.translators) (replicate (length c.args.start.now.translators * c.args.shards) X) (map (λ r. Some (Redist r)) c.args.start.now.redistributors) (Some (Mem c.args.start.now.memory))
-    c.new-slots.result.items c.add_maps.new.slots.items c.push.new.self.items c.loop-translator.slots.items c.add_redists.new.slots.items c.new-slots.ensures.items
+    all_slots (map (λ t. Some (Maps t)) c.args.start.now.translators) (replicate (length c.args.start.now.translators * c.args.shards) X)
+    (map (λ r. Some (Redist r)) c.args.start.now.redistributors) (Some (Mem c.args.start.now.memory))
+    c.new-slots.result.items c.add_maps.new.slots.items c.push.new.self.items c.loop-translator.slots.items c.add_redists.new.slots.items
+    c.new-slots.ensures.items
     (c.in_ok-add_maps.ensures ∙ ap (λ (l : List Translator). c.new-slots.result.items ++ map (λ t. Some (Maps t)) l) c.translators.ensures)
     (c.in_ok-push.ensures.items ∙ ap (λ (m : List Window). c.add_maps.new.slots.items ++ Some (Mem m) ∷ []) (c.in_ok-copy.ensures ∙ c.memory.ensures))
     (c.loop-translator.invariant ∙ ap (λ (k : ℕ). c.push.new.self.items ++ replicate (k * c.args.shards) X) count)

@@ -17,13 +17,17 @@ pub compare_exchange-requires : goal.compare_exchange-requires
 compare_exchange-requires g c = let m = c.args.machine.now in let p = c.args.pass.now in let z = m.table.shared.table_id.slots in (
   c.requires.of.0,
   omega (arith, m.sized.1),
-  subst (λ (a : Commit). Allows (Kept (setup m)) z p.seat.id p.seat.me 0 (λ n. either (eqb n c.args.old) c.args.new n) (committing a (step z 0 c.args.old c.args.new none) p.seat.me)) (sym c.requires.what)
-      (allows_commit (setup m) z p.seat.id p.seat.me p.live c.args.old c.args.new c.args.commit.now c.requires.old c.requires.last c.requires.new c.requires.may),
+  subst (λ (a : Commit). Allows (Kept (setup m)) z p.seat.id p.seat.me 0 (λ n. either (eqb n c.args.old) c.args.new n)
+      (committing a (step z 0 c.args.old c.args.new none) p.seat.me)) (sym c.requires.what)
+      (allows_commit (setup m) z p.seat.id p.seat.me p.live c.args.old c.args.new c.args.commit.now c.requires.old c.requires.last c.requires.new
+      c.requires.may),
 )
 
 pub invariant_of-pass : goal.invariant_of-pass
 invariant_of-pass g c = let p = c.args.pass.now in let e = c.compare_exchange.ensures.2 in let q = c.compare_exchange.new.seat in
-    let same = same_pass c.args.commit.now c.args.machine.now.table.shared.table_id.slots c.args.old c.args.new c.compare_exchange.result p.seat.me q.me (subst (λ (a : Commit). committing a (step c.args.machine.now.table.shared.table_id.slots 0 c.args.old c.args.new none) p.seat.me c.compare_exchange.result q.me) c.requires.what e) in record {
+    let same = same_pass c.args.commit.now c.args.machine.now.table.shared.table_id.slots c.args.old c.args.new c.compare_exchange.result p.seat.me q.me
+    (subst (λ (a : Commit). committing a (step c.args.machine.now.table.shared.table_id.slots 0 c.args.old c.args.new none) p.seat.me
+    c.compare_exchange.result q.me) c.requires.what e) in record {
       live = same.standing ∙ p.live;
       numbered = (same.number ∙ p.numbered.0, ap (λ (r : RootView). r.made) same.root ∙ p.numbered.1);
       joined = ap (λ (r : RootView). are_joined r.made r.ended) same.root ∙ p.joined;

@@ -17,22 +17,27 @@ use Rattle.its_turns.proofs.ending.close.Goals as goal
 
 pub unreachable-requires : goal.unreachable-requires
 unreachable-requires c = let m = c.args.machine in let p = c.args.root in let s = setup m in let u = after s.start (view p).seen in
-    let l = closes s m.table.shared.table_id.slots p.seat.id p.seat.me p.live _ _ c.close_with-closed.ensures.values.2 c.requires.lone c.requires.free (part.Maps 0) c.take_part.result (omega (arith, m.laid.0)) c.take_part.ensures.value in
+    let l = closes s m.table.shared.table_id.slots p.seat.id p.seat.me p.live _ _ c.close_with-closed.ensures.values.2 c.requires.lone c.requires.free
+    (part.Maps 0) c.take_part.result (omega (arith, m.laid.0)) c.take_part.ensures.value in
     no_maps u c.take_part.result (is_maps s (view p).last u c.take_part.result l.content l.content_is l.right) c.in_default.not-Maps
 
 pub unreachable-requires-in_default-take_part : goal.unreachable-requires-in_default-take_part
 unreachable-requires-in_default-take_part c = let m = c.args.machine in let p = c.args.root in let s = setup m in let u = after s.start (view p).seen in
     let there : get_elem? (slots_items c.close_with-closed.result.slots) (8 * index_of s part.Mem) ≡ some c.take_part-2.result =
     (let items = sym c.take_part.ensures.items in let one = m.laid.0 in (λ d. get_elem? (items d) (8 * one d)) ∙ c.take_part-2.ensures.value) in
-    let l = closes s m.table.shared.table_id.slots p.seat.id p.seat.me p.live _ _ c.close_with-closed.ensures.values.2 c.requires.lone c.requires.free part.Mem c.take_part-2.result tt there in
+    let l = closes s m.table.shared.table_id.slots p.seat.id p.seat.me p.live _ _ c.close_with-closed.ensures.values.2 c.requires.lone c.requires.free part.Mem
+    c.take_part-2.result tt there in
     no_mem u c.take_part-2.result (is_mem s (view p).last u c.take_part-2.result l.content l.content_is l.right) c.in_default-take_part.not-Mem
 
 pub unreachable-requires-in_default-take_part-2 : goal.unreachable-requires-in_default-take_part-2
-unreachable-requires-in_default-take_part-2 c = let m = c.args.machine in let p = c.args.root in let s = setup m in let l = c.loop-vcpu in let u = after s.start (view p).seen in
+unreachable-requires-in_default-take_part-2 c = let m = c.args.machine in let p = c.args.root in let s = setup m in let l = c.loop-vcpu in let u =
+    after s.start (view p).seen in
     let shards : m.desc.shards ≡ s.shards = ap (λ d. d.shards) m.described in
     let vcpus : m.desc.shape.vcpus ≡ vcpu_count s = ap (λ x. x.vcpus) m.built.1 ∙ ap (λ (l : Layout). l.shape.vcpus) m.built.0 in
-    let z = closes s m.table.shared.table_id.slots p.seat.id p.seat.me p.live _ _ l.invariant.1 c.requires.lone c.requires.free (part.Redist (record { 0 = l.vcpu })) c.take_part-in-loop-vcpu.result (omega (arith, c.loop-vcpu-test.true, vcpus))
-    (let same : 8 * (2 + m.desc.shards + c.from.result) ≡ 8 * index_of s (part.Redist (record { 0 = l.vcpu })) = omega (arith, m.laid.0, shards, c.from.ensures) in ap (get_elem? (slots_items l.closed.slots)) (sym same) ∙ c.take_part-in-loop-vcpu.ensures.value) in
+    let z = closes s m.table.shared.table_id.slots p.seat.id p.seat.me p.live _ _ l.invariant.1 c.requires.lone c.requires.free
+    (part.Redist (record { 0 = l.vcpu })) c.take_part-in-loop-vcpu.result (omega (arith, c.loop-vcpu-test.true, vcpus))
+    (let same : 8 * (2 + m.desc.shards + c.from.result) ≡ 8 * index_of s (part.Redist (record { 0 = l.vcpu })) =
+    omega (arith, m.laid.0, shards, c.from.ensures) in ap (get_elem? (slots_items l.closed.slots)) (sym same) ∙ c.take_part-in-loop-vcpu.ensures.value) in
     let r = is_redist s (view p).last u (record { 0 = l.vcpu }) c.take_part-in-loop-vcpu.result z.content z.content_is z.fit z.right in
     no_redist s u l.vcpu c.take_part-in-loop-vcpu.result r c.in_default-take_part-2.not-Redist
 
@@ -59,14 +64,17 @@ pub loop-vcpu-preserved : goal.loop-vcpu-preserved
 loop-vcpu-preserved c = let m = c.args.machine in let p = c.args.root in let s = setup m in let l = c.loop-vcpu in let u = after s.start (view p).seen in
     let shards : m.desc.shards ≡ s.shards = ap (λ d. d.shards) m.described in
     let vcpus : m.desc.shape.vcpus ≡ vcpu_count s = ap (λ x. x.vcpus) m.built.1 ∙ ap (λ (l : Layout). l.shape.vcpus) m.built.0 in
-    let z = closes s m.table.shared.table_id.slots p.seat.id p.seat.me p.live _ _ l.invariant.1 c.requires.lone c.requires.free (part.Redist (record { 0 = l.vcpu })) c.take_part-in-loop-vcpu.result (omega (arith, c.loop-vcpu-test.true, vcpus))
-    (let same : 8 * (2 + m.desc.shards + c.from.result) ≡ 8 * index_of s (part.Redist (record { 0 = l.vcpu })) = omega (arith, m.laid.0, shards, c.from.ensures) in ap (get_elem? (slots_items l.closed.slots)) (sym same) ∙ c.take_part-in-loop-vcpu.ensures.value) in
+    let z = closes s m.table.shared.table_id.slots p.seat.id p.seat.me p.live _ _ l.invariant.1 c.requires.lone c.requires.free
+    (part.Redist (record { 0 = l.vcpu })) c.take_part-in-loop-vcpu.result (omega (arith, c.loop-vcpu-test.true, vcpus))
+    (let same : 8 * (2 + m.desc.shards + c.from.result) ≡ 8 * index_of s (part.Redist (record { 0 = l.vcpu })) =
+    omega (arith, m.laid.0, shards, c.from.ensures) in ap (get_elem? (slots_items l.closed.slots)) (sym same) ∙ c.take_part-in-loop-vcpu.ensures.value) in
     let r = is_redist s (view p).last u (record { 0 = l.vcpu }) c.take_part-in-loop-vcpu.result z.content z.content_is z.fit z.right in
     let both = subst (IsRedist s u l.vcpu) c.in-Redist.is r in
     let words = ap (λ w. slots_items w) (sym c.take_part-in-loop-vcpu.ensures.words) in
     let items = sym c.take_part-in-loop-vcpu.ensures.items in
     let next : 8 * (2 + m.desc.shards + c.from.result) + 8 ≡ 8 * (2 + m.desc.shards + (l.vcpu + 1)) = omega (arith, c.from.ensures) in (
-      subst (λ (n : ℕ). AreTaken n (slots_len c.take_part-in-loop-vcpu.new.closed.slots) (slots_filled c.take_part-in-loop-vcpu.new.closed.slots)) next c.take_part-in-loop-vcpu.ensures.front,
+      subst (λ (n : ℕ). AreTaken n (slots_len c.take_part-in-loop-vcpu.new.closed.slots) (slots_filled c.take_part-in-loop-vcpu.new.closed.slots)) next
+          c.take_part-in-loop-vcpu.ensures.front,
       subst (λ (x : List ℕ × List Value). Final (Seen (Kept s) p.seat.id (view p)) x.0 x.1) (λ d. (words d, items d)) l.invariant.1,
       search rules,
       rw (c.place.ensures.placed) (one_more_below s u l.vcpu l.redists c.in-Redist.redist.value z.machine (search rules) l.invariant.3 both.0 both.1),
@@ -74,18 +82,22 @@ loop-vcpu-preserved c = let m = c.args.machine in let p = c.args.root in let s =
 
 pub returns : goal.returns
 returns c = let m = c.args.machine in let p = c.args.root in let s = setup m in let l = c.loop-vcpu in let u = after s.start (view p).seen in
-    let a = closes s m.table.shared.table_id.slots p.seat.id p.seat.me p.live _ _ c.close_with-closed.ensures.values.2 c.requires.lone c.requires.free (part.Maps 0) c.take_part.result (omega (arith, m.laid.0)) c.take_part.ensures.value in
+    let a = closes s m.table.shared.table_id.slots p.seat.id p.seat.me p.live _ _ c.close_with-closed.ensures.values.2 c.requires.lone c.requires.free
+    (part.Maps 0) c.take_part.result (omega (arith, m.laid.0)) c.take_part.ensures.value in
     let there : get_elem? (slots_items c.close_with-closed.result.slots) (8 * index_of s part.Mem) ≡ some c.take_part-2.result =
     (let items = sym c.take_part.ensures.items in let one = m.laid.0 in (λ d. get_elem? (items d) (8 * one d)) ∙ c.take_part-2.ensures.value) in
-    let b = closes s m.table.shared.table_id.slots p.seat.id p.seat.me p.live _ _ c.close_with-closed.ensures.values.2 c.requires.lone c.requires.free part.Mem c.take_part-2.result tt there in
+    let b = closes s m.table.shared.table_id.slots p.seat.id p.seat.me p.live _ _ c.close_with-closed.ensures.values.2 c.requires.lone c.requires.free part.Mem
+    c.take_part-2.result tt there in
     let vcpus : m.desc.shape.vcpus ≡ vcpu_count s = ap (λ x. x.vcpus) m.built.1 ∙ ap (λ (l : Layout). l.shape.vcpus) m.built.0 in
     let count : l.vcpu ≡ vcpu_count s = omega (arith, l.auto.vcpu-end, c.loop-vcpu-test.false, vcpus) in
     record {
       layout = m.built.0 ∙ a.machine.layout;
       parts = record {
         shape_is = ap (λ (x : Layout). x.shape) (sym a.machine.layout);
-        translator_is = rw (c.into_inner-regs.ensures) (subst (IsMaps u) c.in-Maps.is (is_maps s (view p).last u c.take_part.result a.content a.content_is a.right));
-        memory_is = rw (c.into_inner-memory.ensures) (subst (IsMem u) c.in-Mem.is (is_mem s (view p).last u c.take_part-2.result b.content b.content_is b.right));
+        translator_is = rw (c.into_inner-regs.ensures)
+            (subst (IsMaps u) c.in-Maps.is (is_maps s (view p).last u c.take_part.result a.content a.content_is a.right));
+        memory_is = rw (c.into_inner-memory.ensures)
+            (subst (IsMem u) c.in-Mem.is (is_mem s (view p).last u c.take_part-2.result b.content b.content_is b.right));
         redistributors_are = each_of u l.vcpu l.redists l.invariant.3;
       };
       redists = subst (λ (n : ℕ). AreBelow u n l.redists) count l.invariant.3;

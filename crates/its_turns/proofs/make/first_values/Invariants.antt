@@ -11,12 +11,14 @@ use Rattle.its_turns.proofs.make.first_values.Given as goal
 -- translators and memory, with shards behind them
 abbrev pub invariant-loop-shard : goal.invariant-loop-shard
 invariant-loop-shard l =
-    (map content_of l.values.items ≡ some (Maps (record { regs = l.fn.parts.regs; maps = l.fn.parts.maps.maps })) ∷ some (Mem l.fn.parts.memory) ∷ replicate l._shard (some (Shard no_entries)))
+    (map content_of l.values.items ≡ some (Maps (record { regs = l.fn.parts.regs; maps = l.fn.parts.maps.maps })) ∷ some (Mem l.fn.parts.memory)
+    ∷ replicate l._shard (some (Shard no_entries)))
     × AllByRecursion (IsFit (setup_from l.desc l.fn.parts)) l.values.items
 
 abbrev pub invariant-loop-vcpu : goal.invariant-loop-vcpu
 invariant-loop-vcpu l =
     (map content_of l.values.items
     ≡ some (Maps (record { regs = l.fn.parts.regs; maps = l.fn.parts.maps.maps }))
-    ∷ some (Mem l.fn.parts.memory) ∷ (replicate l.desc.shards (some (Shard no_entries)) ++ map (λ r. some (Redist r)) (take l.vcpu (setup_from l.desc l.fn.parts).start.redistributors)))
+    ∷ some (Mem l.fn.parts.memory) ∷ (replicate l.desc.shards (some (Shard no_entries)) ++ map (λ r. some (Redist r))
+    (take l.vcpu (setup_from l.desc l.fn.parts).start.redistributors)))
     × AllByRecursion (IsFit (setup_from l.desc l.fn.parts)) l.values.items × ((k : ℕ) → l.vcpu ≤ k → in_hand l.redists k ≡ in_hand l.fn.parts.redists k)

@@ -6,4 +6,5 @@ pub returns-in-Ok-clause-ok : goal.returns-in-Ok-clause-ok
 returns-in-Ok-clause-ok c = matched _ _ c.in-Ok.matches c.in_ok-command.ensures c.in-Ok.ensures.kinds c.in-Ok.ensures.matches
 
 pub returns-clause-refused : goal.returns-clause-refused
-returns-clause-refused c = λ _. not_taken _ _ c.in-Err.error c.in_ok-command.ensures c.in-Err.ensures.kinds (λ memory. let bad : false ≡ true = rw (c.kind.ensures ∙ memory) at c.if-eq.ensures in cc)
+returns-clause-refused c = λ _. not_taken _ _ c.in-Err.error c.in_ok-command.ensures c.in-Err.ensures.kinds (λ memory. let bad : false ≡ true =
+    rw (c.kind.ensures ∙ memory) at c.if-eq.ensures in cc)

@@ -3,7 +3,8 @@ use Rattle.its_words.proofs.Parsed.{asks, asks_none, same_error}
 use Rattle.its_words.proofs.words.parse_words.Goals as goal
 
 pub returns-in_err-matches-clause-refused : goal.returns-in_err-matches-clause-refused
-returns-in_err-matches-clause-refused c = λ e. asks_none _ (c.in_err-matches.ensures.refused (ap (λ x. Err x) (same_error c.from_residual.result _ _ c.from_residual.ensures.1 e)))
+returns-in_err-matches-clause-refused c = λ e.
+    asks_none _ (c.in_err-matches.ensures.refused (ap (λ x. Err x) (same_error c.from_residual.result _ _ c.from_residual.ensures.1 e)))
 
 pub returns-in-Some-clause-ok : goal.returns-in-Some-clause-ok
 returns-in-Some-clause-ok c = asks _ c.in_ok-matches.matches _ c.in_ok-matches.ensures.ok c.in-Some.ensures.value

@@ -55,9 +55,16 @@ loop-left-preserved g c =
     let low = lowest c.loop-left.left some c.loop-left.invariant.fits in
     record {
       fits = omega arith;
-      searched = searched_next c.args.words.now c.args.config.now.bytes c.args.group c.loop-left.left c.with_bit-left.result _ c.loop-left.invariant.searched low.below
+      searched = searched_next c.args.words.now c.args.config.now.bytes c.args.group c.loop-left.left c.with_bit-left.result _ c.loop-left.invariant.searched
+          low.below
           (c.in_default.ensures c.args.words.now refl) c.with_bit-left.ensures.others;
-      cost = omega (arith, c.loop-left.invariant.cost, c.add.ensures, one_less c.loop-left.left c.with_bit-left.result _ low c.with_bit-left.ensures.same c.with_bit-left.ensures.others);
+      cost = omega (
+        arith,
+        c.loop-left.invariant.cost,
+        c.add.ensures,
+        one_less c.loop-left.left c.with_bit-left.result _ low c.with_bit-left.ensures.same
+            c.with_bit-left.ensures.others,
+      );
     }
 
 pub returns-clause-found : goal.returns-clause-found

@@ -27,7 +27,8 @@ returns-in-Some-first_word c =
     let rest : Some c.in-Some-first_word.at ≡ position is_nonzero (drop (4 * length c.as_chunks.result.0.now) words) =
     c.in-Some-first_word.ensures ∙ ap (position is_nonzero) (c.as_chunks.ensures.back ∙ ap (λ n. drop n words) (sym at_end))
     in
-    (found_after words (4 * length c.as_chunks.result.0.now) c.in-Some-first_word.at (λ k lt. c.loop-at.invariant k (omega (arith, lt, c.loop-at-test.false))) rest).1
+    (found_after words (4 * length c.as_chunks.result.0.now) c.in-Some-first_word.at (λ k lt. c.loop-at.invariant k (omega (arith, lt, c.loop-at-test.false)))
+    rest).1
 
 pub returns-in-None : goal.returns-in-None
 returns-in-None c =

@@ -13,7 +13,14 @@ apply-requires-clause-parts g c =
     let shape : Shape = record { vcpus = 4; dev_bits = 16; lpi_bits = 16; profile = One } in
     let windows : List (ℕ × ℕ) = (0x8000_0000, 0x1000) ∷ [] in
     starts_sound shape c.reset-regs.result _ c.in_ok-memory.memory c.new-redists.result
-    (record { some_vcpus = lit≤ tt; most_vcpus = lit≤ tt; least_dev_bits = lit≤ tt; most_dev_bits = lit≤ tt; least_lpi_bits = lit≤ tt; most_lpi_bits = lit≤ tt })
+    (record {
+      some_vcpus = lit≤ tt;
+      most_vcpus = lit≤ tt;
+      least_dev_bits = lit≤ tt;
+      most_dev_bits = lit≤ tt;
+      least_lpi_bits = lit≤ tt;
+      most_lpi_bits = lit≤ tt;
+    })
     c.keeps_rules.ensures (ap (λ (r : Registers). r.dev_bits) c.reset-regs.ensures)
     (good_windows windows c.in_ok-memory.memory c.in_ok-memory.ensures.ok c.in_ok-memory.ensures.fits)
     (c.make_room.ensures.maps ∙ c.new-maps.ensures) c.new-redists.ensures

@@ -16,7 +16,8 @@ is_redistributor-requires-clause-lpis c =
 
 pub loop-vcpu-preserved : goal.loop-vcpu-preserved
 loop-vcpu-preserved c =
-    one_more (λ v r. IsRedistributor c.args.layout.now c.args.memory.now v (redistributor_of r)) c.args.redists.now c.loop-vcpu.vcpu c.redist.result.now c.redist.ensures
+    one_more (λ v r. IsRedistributor c.args.layout.now c.args.memory.now v (redistributor_of r)) c.args.redists.now c.loop-vcpu.vcpu c.redist.result.now
+    c.redist.ensures
     c.if-not-is_redistributor.ensures c.loop-vcpu.invariant
 
 pub returns : goal.returns

@@ -10,10 +10,12 @@ use Rattle.owned_machine.proofs.Answered.{take_goes}
 use Rattle.owned_machine.proofs.acks.take.Goals as goal
 
 pub clear_lpi-requires : goal.clear_lpi-requires
-clear_lpi-requires c = subst (λ (a : Ack). IfAcked a (λ intid. takes_lpi c.args.parts.now.redists c.args.vcpu.0 intid ≡ true)) c.in-Some.is c.show-ack.ensures.takes
+clear_lpi-requires c = subst (λ (a : Ack). IfAcked a (λ intid. takes_lpi c.args.parts.now.redists c.args.vcpu.0 intid ≡ true)) c.in-Some.is
+    c.show-ack.ensures.takes
 
 pub returns-in-Some-clause-left : goal.returns-in-Some-clause-left
 returns-in-Some-clause-left c =
     let p = c.args.parts.now in let r = redistributor (state_of_parts p) c.args.vcpu.0 in
-    subst (λ (rs : List (Option Redist)). GoesOn (record p { redists = rs }) (with_redistributor (state_of_parts p) c.args.vcpu.0 (taken r (lowest r)))) (sym c.clear_lpi.ensures)
+    subst (λ (rs : List (Option Redist)). GoesOn (record p { redists = rs }) (with_redistributor (state_of_parts p) c.args.vcpu.0 (taken r (lowest r))))
+    (sym c.clear_lpi.ensures)
     (take_goes p c.args.vcpu c.in-Some.intid _ c.requires (sym c.show-ack.ensures.ack ∙ c.in-Some.is))

@@ -10,5 +10,6 @@ loop-vcpu-preserved c =
     let v = c.loop-vcpu.vcpu in
     let rs = c.loop-vcpu.redists in
     let lt : v < 16 = let test = c.loop-vcpu-test.true in let most = c.requires.shape.most_vcpus in omega (arith, test, most) in
-    one_more s c.args.memory.now c.args.tables.now rs c.place.new.self v c.in_ok-redist.redist (c.place.ensures.placed ∙ ap (λ (x : Redist). slice_set rs v (Some x)) c.in_ok-new.ensures.ok) lt
+    one_more s c.args.memory.now c.args.tables.now rs c.place.new.self v c.in_ok-redist.redist
+    (c.place.ensures.placed ∙ ap (λ (x : Redist). slice_set rs v (Some x)) c.in_ok-new.ensures.ok) lt
     c.in_ok-redist.ensures c.place.ensures.size c.loop-vcpu.invariant

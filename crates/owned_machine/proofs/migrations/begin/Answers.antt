@@ -11,7 +11,8 @@ returns-in-Ok c =
     let h = c.in_ok-parts.ensures in
     let given = c.values_given-given in
     let e = c.in-Ok.ensures in
-    restored_begun p c.in-Ok.restored given.result c.in-Some.values h.whole e.layout e.stands e.in_hand e.no_others d h.made_is c.in-Some.is (where_given d p given.result h.layout given.ensures)
+    restored_begun p c.in-Ok.restored given.result c.in-Some.values h.whole e.layout e.stands e.in_hand e.no_others d h.made_is c.in-Some.is
+    (where_given d p given.result h.layout given.ensures)
 
 pub returns-in-Err-default-Fault : goal.returns-in-Err-default-Fault
 returns-in-Err-default-Fault c =
@@ -20,4 +21,5 @@ returns-in-Err-default-Fault c =
     let h = c.in_ok-parts.ensures in
     let given = c.values_given-given in
     let e = c.in-Err-default-Fault in
-    restore_refused d p c.in-Some.values given.result e.fault h.made_is c.in-Some.is (where_given d p given.result h.layout given.ensures) (where_fault e.field-0-1 e.fault _ e.field-0-1-is e.ensures.fault)
+    restore_refused d p c.in-Some.values given.result e.fault h.made_is c.in-Some.is (where_given d p given.result h.layout given.ensures)
+    (where_fault e.field-0-1 e.fault _ e.field-0-1-is e.ensures.fault)

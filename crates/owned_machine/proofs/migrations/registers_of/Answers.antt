@@ -27,7 +27,8 @@ loop-vcpu-preserved c =
     let same : slice_set rs n (values_of r.bases) ≡ slice_set rs c.from.result c.values_of.result =
     ap (λ (k : ℕ). slice_set rs k (values_of r.bases)) (sym c.from.ensures) ∙ ap (λ (x : GicrRegisters). slice_set rs c.from.result x) (sym c.values_of.ensures)
     in
-    subst (λ (xs : List GicrRegisters). AreRead p xs (n + 1)) same (one_read c.values_come_back.ensures p rs n r c.requires c.if-parts.true c.redist-redist.ensures lt c.loop-vcpu.invariant)
+    subst (λ (xs : List GicrRegisters). AreRead p xs (n + 1)) same
+    (one_read c.values_come_back.ensures p rs n r c.requires c.if-parts.true c.redist-redist.ensures lt c.loop-vcpu.invariant)
 
 pub returns-after-loop-vcpu : goal.returns-after-loop-vcpu
 returns-after-loop-vcpu c =

@@ -35,12 +35,14 @@ apply-requires-clause-in_hand c =
 
 pub returns-clause-reply : goal.returns-clause-reply
 returns-clause-reply c =
-    let p = c.args.parts.now in c.as_step.ensures ∙ ap as_step c.reply.ensures ∙ c.plan-planned.ensures.reply (state_of_parts p) 0 (parts_are p c.requires.whole)
+    let p = c.args.parts.now in c.as_step.ensures ∙ ap as_step c.reply.ensures ∙ c.plan-planned.ensures.reply (state_of_parts p) 0
+    (parts_are p c.requires.whole)
 
 pub returns-clause-left : goal.returns-clause-left
 returns-clause-left c =
     let p = c.args.parts.now in let u = state_of_parts p in
     let parts = subst (λ (m : Maps). ArePartsOf u 0 p.layout.shape p.regs m p.memory p.redists) (sym c.make_room.ensures.maps) (parts_are p c.requires.whole) in
     run_goes p _ c.args.command.now c.requires.whole refl c.requires.met c.apply.ensures.hand
-    (subst (λ (x : Command). ArePartsOf (left_by x u 0) 0 p.layout.shape c.apply.new.regs c.apply.new.maps.maps p.memory c.apply.new.redists) c.plan-planned.ensures.plan.command
+    (subst (λ (x : Command). ArePartsOf (left_by x u 0) 0 p.layout.shape c.apply.new.regs c.apply.new.maps.maps p.memory c.apply.new.redists)
+    c.plan-planned.ensures.plan.command
     (c.apply.ensures.left u 0 parts))

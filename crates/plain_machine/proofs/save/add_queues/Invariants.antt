@@ -4,4 +4,5 @@ use Rattle.its_plain.specs.Regions as spec
 use Rattle.plain_machine.proofs.save.add_queues.Given as goal
 
 abbrev pub invariant-loop-translator : goal.invariant-loop-translator
-invariant-loop-translator l = l.areas.items ++ flat_map spec.queue_areas (drop l.translator-index l.translators) ≡ l.initial.areas.items ++ flat_map spec.queue_areas l.translators
+invariant-loop-translator l = l.areas.items ++ flat_map spec.queue_areas (drop l.translator-index l.translators) ≡ l.initial.areas.items
+    ++ flat_map spec.queue_areas l.translators

@@ -4,4 +4,5 @@ use Rattle.its_plain.specs.Saved as spec
 use Rattle.plain_machine.proofs.save.write_pending.Given as goal
 
 abbrev pub invariant-loop-redist : goal.invariant-loop-redist
-invariant-loop-redist l = spec.put_tables l.memory (flat_map (spec.pending_words l.shape) (drop l.redist-index l.redists)) ≡ spec.put_tables l.initial.memory (flat_map (spec.pending_words l.shape) l.redists)
+invariant-loop-redist l = spec.put_tables l.memory (flat_map (spec.pending_words l.shape) (drop l.redist-index l.redists)) ≡ spec.put_tables l.initial.memory
+    (flat_map (spec.pending_words l.shape) l.redists)

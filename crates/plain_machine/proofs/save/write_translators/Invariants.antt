@@ -4,4 +4,5 @@ use Rattle.its_plain.specs.Saved as spec
 use Rattle.plain_machine.proofs.save.write_translators.Given as goal
 
 abbrev pub invariant-loop-translator : goal.invariant-loop-translator
-invariant-loop-translator l = spec.put_tables l.memory (flat_map (spec.translator_words l.before) (drop l.translator-index l.translators)) ≡ spec.put_tables l.initial.memory (flat_map (spec.translator_words l.before) l.translators)
+invariant-loop-translator l = spec.put_tables l.memory (flat_map (spec.translator_words l.before) (drop l.translator-index l.translators))
+    ≡ spec.put_tables l.initial.memory (flat_map (spec.translator_words l.before) l.translators)

@@ -4,4 +4,6 @@ use Rattle.its_plain.specs.Saved as spec
 use Rattle.plain_machine.proofs.saved_lists.write_itts.Given as goal
 
 abbrev pub invariant-loop-entry : goal.invariant-loop-entry
-invariant-loop-entry l = spec.put_tables l.memory (flat_map (λ d. record { base = d.1.itt.0; count = 2 ^ d.1.bits; word = spec.event_word l.maps d.0 } ∷ []) (drop l.entry-index l.devices)) ≡ spec.put_tables l.initial.memory (flat_map (λ d. record { base = d.1.itt.0; count = 2 ^ d.1.bits; word = spec.event_word l.maps d.0 } ∷ []) l.devices)
+invariant-loop-entry l = spec.put_tables l.memory (flat_map (λ d. record { base = d.1.itt.0; count = 2 ^ d.1.bits; word = spec.event_word l.maps d.0 } ∷ [])
+    (drop l.entry-index l.devices)) ≡ spec.put_tables l.initial.memory
+    (flat_map (λ d. record { base = d.1.itt.0; count = 2 ^ d.1.bits; word = spec.event_word l.maps d.0 } ∷ []) l.devices)

@@ -13,7 +13,8 @@ new-requires-2-clause-layout c =
 pub returns-in-Ok : goal.returns-in-Ok
 returns-in-Ok c =
     let d = c.args.desc.now in let e = c.in-Ok.ensures in let parts = c.into_parts-parts.result in
-    let layout : parts.layout ≡ layout_of d = ap (λ (u : Plain). u.layout) c.into_parts-parts.ensures.state ∙ first_layout d c.in_ok-new.field-0 c.in_ok-new.ensures in
+    let layout : parts.layout ≡ layout_of d = ap (λ (u : Plain). u.layout) c.into_parts-parts.ensures.state
+    ∙ first_layout d c.in_ok-new.field-0 c.in_ok-new.ensures in
     record {
       start = subst (IsFirstState d) (sym (ap (λ (s : Setup). s.start) e.setup ∙ c.into_parts-parts.ensures.state)) c.in_ok-new.ensures;
       limits = ap (λ (s : Setup). s.limits) e.setup;

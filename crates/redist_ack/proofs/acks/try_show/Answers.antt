@@ -16,23 +16,30 @@ use Rattle.redist_ack.proofs.acks.try_show.Goals as goal
 
 pub try_commit-requires-clause-may : goal.try_commit-requires-clause-may
 try_commit-requires-clause-may g c =
-    let m = c.args.machine.now in let v = view c.args.pass.now in let x = view c.try_take_redist.new.pass in let r = redistributor_of c.in-Ok.redist.value in let a = reply.Ack (ack_of r (lowest r)) in
-    rw (c.offered-ack.ensures, c.deref.ensures) (may_here (setup m) (call.Show c.args.vcpu) a Keep (one c.args.vcpu r) (λ _. one c.args.vcpu r) (shows_now (setup m) c.args.vcpu r m.laid.1 c.requires.vcpu) x
+    let m = c.args.machine.now in let v = view c.args.pass.now in let x = view c.try_take_redist.new.pass in let r =
+    redistributor_of c.in-Ok.redist.value in let a = reply.Ack (ack_of r (lowest r)) in
+    rw (c.offered-ack.ensures, c.deref.ensures) (may_here (setup m) (call.Show c.args.vcpu) a Keep (one c.args.vcpu r) (λ _. one c.args.vcpu r)
+    (shows_now (setup m) c.args.vcpu r m.laid.1 c.requires.vcpu) x
     (one_held v (part.Redist c.args.vcpu) (Redist r) x c.in-Ok.ensures.result.0.view c.requires.free))
 
 pub put-requires-clause-owed : goal.put-requires-clause-owed
 put-requires-clause-owed g c =
-    let m = c.args.machine.now in let v = view c.args.pass.now in let x = view c.try_take_redist.new.pass in let r = redistributor_of c.in-Ok.redist.value in let a = reply.Ack (ack_of r (lowest r)) in
+    let m = c.args.machine.now in let v = view c.args.pass.now in let x = view c.try_take_redist.new.pass in let r =
+    redistributor_of c.in-Ok.redist.value in let a = reply.Ack (ack_of r (lowest r)) in
     record {
       content = Redist r;
       content_is = refl;
       before = [];
-      last = owes_here (setup m) (call.Show c.args.vcpu) a Keep (one c.args.vcpu r) (λ _. one c.args.vcpu r) (shows_now (setup m) c.args.vcpu r m.laid.1 c.requires.vcpu) x
-          (one_held v (part.Redist c.args.vcpu) (Redist r) x c.in-Ok.ensures.result.0.view c.requires.free) c.try_take_redist.ensures.of.1 c.in-Ok-try_commit.word (view c.try_commit.new.pass)
+      last = owes_here (setup m) (call.Show c.args.vcpu) a Keep (one c.args.vcpu r) (λ _. one c.args.vcpu r)
+          (shows_now (setup m) c.args.vcpu r m.laid.1 c.requires.vcpu) x
+          (one_held v (part.Redist c.args.vcpu) (Redist r) x c.in-Ok.ensures.result.0.view c.requires.free) c.try_take_redist.ensures.of.1
+          c.in-Ok-try_commit.word (view c.try_commit.new.pass)
           (rw (c.offered-ack.ensures, c.deref.ensures) at c.in-Ok-try_commit.ensures.result);
     }
 
 pub returns-in-Err-try_commit-clause-answer : goal.returns-in-Err-try_commit-clause-answer
-returns-in-Err-try_commit-clause-answer g c = let v = view c.args.pass.now in let x = view c.try_take_redist.new.pass in let r = redistributor_of c.in-Ok.redist.value in
-    rw (c.attempt.ensures) (one_lost v (part.Redist c.args.vcpu) (Redist r) x c.in-Ok.ensures.result.0.view (call.Show c.args.vcpu) (λ k. reply.Ack k) c.in-Err-try_commit.lost (view c.try_commit.new.pass) (view c.put-in-Err-try_commit.new.pass)
+returns-in-Err-try_commit-clause-answer g c = let v = view c.args.pass.now in let x = view c.try_take_redist.new.pass in let r =
+    redistributor_of c.in-Ok.redist.value in
+    rw (c.attempt.ensures) (one_lost v (part.Redist c.args.vcpu) (Redist r) x c.in-Ok.ensures.result.0.view (call.Show c.args.vcpu)
+    (λ k. reply.Ack k) c.in-Err-try_commit.lost (view c.try_commit.new.pass) (view c.put-in-Err-try_commit.new.pass)
     c.in-Err-try_commit.ensures.result c.put-in-Err-try_commit.ensures.view)

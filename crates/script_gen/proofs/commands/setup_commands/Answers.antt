@@ -8,7 +8,8 @@ use Rattle.script_gen.proofs.commands.setup_commands.Goals as goal
 pub loop-dev-init : goal.loop-dev-init
 unfolding spec.setup_commands
 loop-dev-init c =
-    pieces_none spec.device_commands c.in_ok-out.out.items (map spec.map_collection (range_with_len 0 4)) (spec.setup_commands c.args.devices) c.args.devices c.in_ok-out.ensures refl
+    pieces_none spec.device_commands c.in_ok-out.out.items (map spec.map_collection (range_with_len 0 4)) (spec.setup_commands c.args.devices) c.args.devices
+    c.in_ok-out.ensures refl
 
 pub loop-dev-preserved : goal.loop-dev-preserved
 loop-dev-preserved c =

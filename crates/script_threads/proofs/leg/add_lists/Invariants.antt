@@ -6,5 +6,6 @@ use Rattle.script_threads.proofs.leg.add_lists.Given as goal
 abbrev pub invariant-loop-replies : goal.invariant-loop-replies
 invariant-loop-replies l =
     (goal.iterator-loop-replies).can_next l.replies-iterator × (goal.iterator-loop-replies).is_finite l.replies-iterator
-    × (all_lines l.all.items ++ phase_lines l.phase (suc l.thread) (drop l.thread l.threads) l.replies-iterator.rest.items ≡ all_lines l.fn.all.items ++ phase_lines l.phase 1 l.threads l.fn.lists.items)
+    × (all_lines l.all.items ++ phase_lines l.phase (suc l.thread) (drop l.thread l.threads) l.replies-iterator.rest.items ≡ all_lines l.fn.all.items
+    ++ phase_lines l.phase 1 l.threads l.fn.lists.items)
     × (l.thread + l.replies-iterator.rest.len ≡ length l.threads)

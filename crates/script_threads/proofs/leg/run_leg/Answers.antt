@@ -23,7 +23,8 @@ pub run_phase-requires-clause-few : goal.run_phase-requires-clause-few
 run_phase-requires-clause-few g c κs within =
     let k = c.loop-threads.threads-index in let ps = c.args.phases.now in let one = c.threads-item.result in
     let most : length (get_or ps k one) ≤ 64 = all_at (λ (t : Phase). length t ≤ 64) ps k one c.requires.threads c.loop-threads-test.true in
-    let here : length c.as_slice-threads.result.now ≡ length (get_or ps k one) = ap (λ (t : Phase). length t) (c.as_slice-threads.ensures ∙ c.threads-item.is) in
+    let here : length c.as_slice-threads.result.now ≡ length (get_or ps k one) = ap (λ (t : Phase). length t)
+    (c.as_slice-threads.ensures ∙ c.threads-item.is) in
     omega (arith, most, here, c.loop-threads.invariant.1.made, threads_most k ps c.requires.threads, c.loop-threads-test.true, c.requires.phases)
 
 pub add_lists-requires-clause-len : goal.add_lists-requires-clause-len
@@ -42,7 +43,8 @@ returns-then-is_some-clause-leg g c =
     let replies = c.in_ok-end.end.lists.items in
     let at : ts ≡ get_or ps k ts = search rules in
     let added : all_lines more ≡ all_lines lists ++ phase_lines (k + 1) 1 ts replies = search rules in
-    cut_short s ps k ts c.loop-threads-test.true at v w lists more c.loop-threads.invariant.1 replies stop c.in_ok-end.ensures.phase added (some_stop stop (search rules))
+    cut_short s ps k ts c.loop-threads-test.true at v w lists more c.loop-threads.invariant.1 replies stop c.in_ok-end.ensures.phase added
+    (some_stop stop (search rules))
 
 pub loop-threads-preserved : goal.loop-threads-preserved
 loop-threads-preserved g c =
@@ -53,10 +55,12 @@ loop-threads-preserved g c =
     let at : ts ≡ get_or ps k ts = search rules in
     let added : all_lines more ≡ all_lines lists ++ phase_lines (k + 1) 1 ts replies = search rules in (
       c.run_phase.ensures.of,
-      going_more s ps k ts c.loop-threads-test.true at v w lists more c.loop-threads.invariant.1 replies stop c.in_ok-end.ensures.phase added (no_stop stop (search rules)),
+      going_more s ps k ts c.loop-threads-test.true at v w lists more c.loop-threads.invariant.1 replies stop c.in_ok-end.ensures.phase added
+          (no_stop stop (search rules)),
       omega (arith, c.loop-threads.invariant.2),
     )
 
 pub returns-clause-leg : goal.returns-clause-leg
 returns-clause-leg g c =
-    went_through (setup c.args.machine.now) c.args.phases.now c.loop-threads.threads-index c.loop-threads.lists.items (view c.loop-threads.root) c.loop-threads.invariant.1 (omega (arith, c.loop-threads-test.false))
+    went_through (setup c.args.machine.now) c.args.phases.now c.loop-threads.threads-index c.loop-threads.lists.items
+    (view c.loop-threads.root) c.loop-threads.invariant.1 (omega (arith, c.loop-threads-test.false))

@@ -17,9 +17,11 @@ loop-job-preserved c =
       tt,
       tt,
       c.join.ensures.of,
-      subst (λ (xs : Ended). TookIn v xs x) (sym (map_snoc end_of js j)) (took_more v u (view j.pass) x (map end_of js) s.0 w.3 c.requires.root s.1 c.join.ensures.seen.0),
+      subst (λ (xs : Ended). TookIn v xs x) (sym (map_snoc end_of js j))
+          (took_more v u (view j.pass) x (map end_of js) s.0 w.3 c.requires.root s.1 c.join.ensures.seen.0),
       pushed ∙ ((λ i. w.4 i ++ j.done.items ∷ []) ∙ sym (map_snoc reply_list js j)),
       c.worse-worst.ensures ∙ (ap (λ z. worse z j.stop) w.5 ∙ sym (worst_snoc None js j)),
       omega (arith, w.6, c.push.ensures.capacity),
-      all_snoc (SeenBy x) js j (all_weaker (SeenBy u) (SeenBy x) js (λ y t. prefix_through (view y.pass).seen u.seen x.seen t c.join.ensures.seen.0) w.7) c.join.ensures.seen.1,
+      all_snoc (SeenBy x) js j (all_weaker (SeenBy u) (SeenBy x) js (λ y t. prefix_through (view y.pass).seen u.seen x.seen t c.join.ensures.seen.0) w.7)
+          c.join.ensures.seen.1,
     )

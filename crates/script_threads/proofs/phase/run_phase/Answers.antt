@@ -7,7 +7,9 @@ pub run_rested-requires-clause-rests : goal.run_rested-requires-clause-rests
 run_rested-requires-clause-rests g c κs within = rests_looked (view c.args.root.now) (view c.look.new.pass) c.look.result c.requires.rests c.look.ensures.looks
 
 pub run_rested-requires-clause-knows : goal.run_rested-requires-clause-knows
-run_rested-requires-clause-knows g c κs within = knows_looked (view c.args.root.now) (view c.look.new.pass) c.look.result c.requires.rests.lone.0 c.look.ensures.looks
+run_rested-requires-clause-knows g c κs within = knows_looked (view c.args.root.now) (view c.look.new.pass) c.look.result c.requires.rests.lone.0
+    c.look.ensures.looks
 
 pub returns-clause-phase : goal.returns-clause-phase
-returns-clause-phase g c = phased_before _ _ _ (view c.args.root.now) (view c.look.new.pass) (view c.run_rested.new.root) c.look.result c.requires.rests c.look.ensures.looks c.run_rested.ensures.phase
+returns-clause-phase g c = phased_before _ _ _ (view c.args.root.now) (view c.look.new.pass) (view c.run_rested.new.root) c.look.result c.requires.rests
+    c.look.ensures.looks c.run_rested.ensures.phase

@@ -18,7 +18,8 @@ loop-done-preserved c =
     let pushed : c.push.new.self.items ≡ js ++ j ∷ [] = search rules in
     let below : length js < length ts = omega (arith, w.5, c.in-Some.ensures.steps.1) in
     let at : one ≡ get_or ts (length js) one = search rules in
-    let next = room_next ts (length js) one c.loop-done.done-iterator.rest.items c.next.new.self.rest.items c.in-Some.done w.4 c.in-Some.ensures.steps.0 at below in
+    let next = room_next ts (length js) one c.loop-done.done-iterator.rest.items c.next.new.self.rest.items c.in-Some.done w.4 c.in-Some.ensures.steps.0 at
+    below in
     let more : length c.push.new.self.items ≡ length js + 1 = omega (arith, ap length pushed, length-append js (j ∷ [])) in
     let ready : IsReady m j = record {
       of = c.split-pass.ensures.of.1;
@@ -32,7 +33,8 @@ loop-done-preserved c =
       tt,
       c.split-pass.ensures.of.0,
       subst (λ (z : List Job). Made m ts (view c.args.root.now) z (view c.split-pass.new.self)) (sym pushed)
-          (made_more m ts (view c.args.root.now) (view c.loop-done.root) s.0 (view c.split-pass.new.self) s.1 js j one w.3 c.requires.root s.2 s.3 s.4 ready c.as_slice-calls.ensures at below),
+          (made_more m ts (view c.args.root.now) (view c.loop-done.root) s.0 (view c.split-pass.new.self) s.1 js j one w.3 c.requires.root s.2 s.3 s.4 ready
+          c.as_slice-calls.ensures at below),
       subst (λ (n : ℕ). HasRoom (drop n ts) c.next.new.self.rest.items) (sym more) next.2,
       omega (arith, more, w.5, c.in-Some.ensures.steps.1),
       omega (arith, w.6, c.push.ensures.capacity),

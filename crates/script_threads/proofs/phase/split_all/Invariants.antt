@@ -7,5 +7,6 @@ use Rattle.script_threads.proofs.phase.split_all.Given as goal
 abbrev pub invariant-loop-done : goal.invariant-loop-done
 invariant-loop-done l =
     (goal.iterator-loop-done).can_next l.done-iterator × (goal.iterator-loop-done).is_finite l.done-iterator
-    × IsOf l.machine l.root × Made l.machine l.threads (view l.fn.root) l.jobs.items (view l.root) × HasRoom (drop (length l.jobs.items) l.threads) l.done-iterator.rest.items
+    × IsOf l.machine l.root × Made l.machine l.threads (view l.fn.root) l.jobs.items (view l.root)
+    × HasRoom (drop (length l.jobs.items) l.threads) l.done-iterator.rest.items
     × (vec_len l.jobs + l.done-iterator.rest.len ≡ length l.threads) × (length l.threads ≤ vec_capacity l.jobs)

@@ -16,7 +16,8 @@ places-init c = record { inside = omega arith; before = none_before c.args.memor
 pub returns-in_default : goal.returns-in_default
 returns-in_default c =
     let memory = c.args.memory.now in let r = c.args.regs.now in let n = c.args.vcpus in let i = c.places.place in
-    ends_here put_collection (look_collection memory n r) (next_collection memory r) (λ j. j) (collection_places r) (λ j. j < collection_places r) (collections_rise memory r) c.places.maps.maps c.places.maps.maps i (next_collection memory r i)
+    ends_here put_collection (look_collection memory n r) (next_collection memory r) (λ j. j) (collection_places r) (λ j. j < collection_places r)
+    (collections_rise memory r) c.places.maps.maps c.places.maps.maps i (next_collection memory r i)
     (after put_collection c.args.maps.now.maps (collections_from memory n r 0)) c.places.invariant.inside c.places.invariant.rest
     (took_none memory n r i c.in-Ok.one c.in-Ok.ensures.0 c.in-Ok.ensures.1 c.places.maps.maps c.in_default.is) refl
     (leads_none memory n r i c.in-Ok.one c.in-Ok.ensures.0 c.in-Ok.ensures.1 c.in_default.is)
@@ -30,9 +31,12 @@ places-preserved c =
     record {
       inside = subst (λ (k : ℕ). k < collection_places r) (sym w.0) w.1;
       before = subst (AreThoseBefore memory r c.map_one.new.maps.maps) (sym w.0)
-          (one_more memory r c.places.maps.maps c.map_one.new.maps.maps i _ c.in-Some.vcpu c.places.invariant.before (entry_one memory n r i c.in-Ok.one c.in-Ok.ensures.0 c.in-Ok.ensures.1 (c.in-Some.icid, c.in-Some.vcpu) c.in-Some.is) c.in_ok-map_one.ensures);
+          (one_more memory r c.places.maps.maps c.map_one.new.maps.maps i _ c.in-Some.vcpu c.places.invariant.before
+          (entry_one memory n r i c.in-Ok.one c.in-Ok.ensures.0 c.in-Ok.ensures.1 (c.in-Some.icid, c.in-Some.vcpu) c.in-Some.is) c.in_ok-map_one.ensures);
       rest =
-          goes_on put_collection (look_collection memory n r) (next_collection memory r) (λ j. j) (collection_places r) (λ j. j < collection_places r) (collections_rise memory r) c.places.maps.maps c.map_one.new.maps.maps i c.in-Some-within.to (next_collection memory r i)
+          goes_on put_collection (look_collection memory n r) (next_collection memory r) (λ j. j) (collection_places r) (λ j. j < collection_places r)
+          (collections_rise memory r) c.places.maps.maps c.map_one.new.maps.maps i c.in-Some-within.to (next_collection memory r i)
           (after put_collection c.args.maps.now.maps (collections_from memory n r 0)) c.places.invariant.inside c.places.invariant.rest
-          (took_one memory n r i c.in-Ok.one c.in-Ok.ensures.0 c.in-Ok.ensures.1 c.places.maps.maps c.map_one.new.maps.maps (c.in-Some.icid, c.in-Some.vcpu) c.in-Some.is c.in_ok-map_one.ensures) refl (next ∙ to);
+          (took_one memory n r i c.in-Ok.one c.in-Ok.ensures.0 c.in-Ok.ensures.1 c.places.maps.maps c.map_one.new.maps.maps (c.in-Some.icid, c.in-Some.vcpu)
+          c.in-Some.is c.in_ok-map_one.ensures) refl (next ∙ to);
     }

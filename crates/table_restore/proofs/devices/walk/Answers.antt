@@ -20,24 +20,33 @@ places-init c =
 pub returns-in-Err : goal.returns-in-Err
 returns-in-Err c =
     let r = c.args.regs.now in
-    device_wrong c.args.memory.now c.args.lpi_bits r (small r c.keeps_rules.ensures.least_bits c.keeps_rules.ensures.most_bits) c.args.maps.now.maps c.look.new.maps.maps c.places.maps.maps c.look.new.maps.maps (place_of c.places.place) (first_device r) c.in-Err.error c.places.invariant.inside c.places.invariant.rest c.in-Err.ensures
+    device_wrong c.args.memory.now c.args.lpi_bits r (small r c.keeps_rules.ensures.least_bits c.keeps_rules.ensures.most_bits) c.args.maps.now.maps
+    c.look.new.maps.maps c.places.maps.maps c.look.new.maps.maps (place_of c.places.place) (first_device r) c.in-Err.error c.places.invariant.inside
+    c.places.invariant.rest c.in-Err.ensures
 
 pub returns-in_default : goal.returns-in_default
 returns-in_default c =
     let r = c.args.regs.now in
-    device_ends c.args.memory.now c.args.lpi_bits r (small r c.keeps_rules.ensures.least_bits c.keeps_rules.ensures.most_bits) c.args.maps.now.maps c.places.maps.maps c.look.new.maps.maps (place_of c.places.place) (first_device r) c.in-Ok.next c.places.invariant.inside c.places.invariant.rest c.in-Ok.ensures c.in_default.is
+    device_ends c.args.memory.now c.args.lpi_bits r (small r c.keeps_rules.ensures.least_bits c.keeps_rules.ensures.most_bits) c.args.maps.now.maps
+    c.places.maps.maps c.look.new.maps.maps (place_of c.places.place) (first_device r) c.in-Ok.next c.places.invariant.inside c.places.invariant.rest
+    c.in-Ok.ensures c.in_default.is
 
 pub places-smaller : goal.places-smaller
 places-smaller c =
     let r = c.args.regs.now in let memory = c.args.memory.now in let s = small r c.keeps_rules.ensures.least_bits c.keeps_rules.ensures.most_bits in
-    is_smaller (next_device memory r) rank (reach r) (IsPlace r) (devices_rise memory r s) (place_of c.places.place) (place_of c.in-Some.to) (next_device memory r (place_of c.places.place)) c.places.invariant.inside refl
-    (device_leads_to memory c.args.lpi_bits r s c.places.maps.maps c.look.new.maps.maps (place_of c.places.place) c.in-Ok.next c.in-Some.to c.in-Ok.ensures c.in-Some.is)
+    is_smaller (next_device memory r) rank (reach r) (IsPlace r) (devices_rise memory r s) (place_of c.places.place) (place_of c.in-Some.to)
+    (next_device memory r (place_of c.places.place)) c.places.invariant.inside refl
+    (device_leads_to memory c.args.lpi_bits r s c.places.maps.maps c.look.new.maps.maps (place_of c.places.place) c.in-Ok.next c.in-Some.to c.in-Ok.ensures
+    c.in-Some.is)
 
 pub places-preserved : goal.places-preserved
 places-preserved c =
-    let r = c.args.regs.now in let memory = c.args.memory.now in let n = c.args.lpi_bits in let s = small r c.keeps_rules.ensures.least_bits c.keeps_rules.ensures.most_bits in
+    let r = c.args.regs.now in let memory = c.args.memory.now in let n = c.args.lpi_bits in let s =
+    small r c.keeps_rules.ensures.least_bits c.keeps_rules.ensures.most_bits in
     record {
       inside = (devices_rise memory r s).good (place_of c.places.place) (place_of c.in-Some.to) c.places.invariant.inside
-          (device_leads_to memory n r s c.places.maps.maps c.look.new.maps.maps (place_of c.places.place) c.in-Ok.next c.in-Some.to c.in-Ok.ensures c.in-Some.is);
-      rest = device_on memory n r s c.args.maps.now.maps c.places.maps.maps c.look.new.maps.maps (place_of c.places.place) (first_device r) c.in-Ok.next c.in-Some.to c.places.invariant.inside c.places.invariant.rest c.in-Ok.ensures c.in-Some.is;
+          (device_leads_to memory n r s c.places.maps.maps c.look.new.maps.maps (place_of c.places.place) c.in-Ok.next c.in-Some.to c.in-Ok.ensures
+          c.in-Some.is);
+      rest = device_on memory n r s c.args.maps.now.maps c.places.maps.maps c.look.new.maps.maps (place_of c.places.place) (first_device r) c.in-Ok.next
+          c.in-Some.to c.places.invariant.inside c.places.invariant.rest c.in-Ok.ensures c.in-Some.is;
     }

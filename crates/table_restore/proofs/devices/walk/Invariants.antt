@@ -9,7 +9,8 @@ use Rattle.table_restore.proofs.devices.walk.Given as goal
 abbrev pub invariant-places : goal.invariant-places
 invariant-places l = record {
   inside : IsPlace l.regs (place_of l.place);
-  rest : after put_found l.maps.maps (devices_from l.memory l.lpi_bits l.regs (place_of l.place)) ≡ after put_found l.fn.maps.maps (devices_from l.memory l.lpi_bits l.regs (first_device l.regs));
+  rest : after put_found l.maps.maps (devices_from l.memory l.lpi_bits l.regs (place_of l.place)) ≡ after put_found l.fn.maps.maps
+      (devices_from l.memory l.lpi_bits l.regs (first_device l.regs));
 }
 
 abbrev pub decreases-places : goal.decreases-places

@@ -9,7 +9,8 @@ abbrev pub invariant-places : goal.invariant-places
 invariant-places l = record {
   inside : l.ev < 2 ^ l.device.bits;
   mapped : IsSome (device_of l.maps.maps l.dev.0);
-  rest : after (put_event l.dev.0) l.maps.maps (events_from l.memory l.lpi_bits (itt_of l.dev.0 l.device) l.ev) ≡ after (put_event l.dev.0) l.fn.maps.maps (events_read l.memory l.lpi_bits (itt_of l.dev.0 l.device));
+  rest : after (put_event l.dev.0) l.maps.maps (events_from l.memory l.lpi_bits (itt_of l.dev.0 l.device) l.ev) ≡ after (put_event l.dev.0) l.fn.maps.maps
+      (events_read l.memory l.lpi_bits (itt_of l.dev.0 l.device));
 }
 
 abbrev pub decreases-places : goal.decreases-places

@@ -8,9 +8,11 @@ use Rattle.table_restore.proofs.redists.pending_of.Goals as goal
 
 pub unreachable-requires : goal.unreachable-requires
 unreachable-requires c =
-    let at : byte_at c.args.memory.now (c.args.base.0 + c.from.result) ≡ byte_at c.args.memory.now (c.args.base.0 + c.loop-n.n) = ap (λ (k : ℕ). byte_at c.args.memory.now (c.args.base.0 + k)) c.from.ensures in
+    let at : byte_at c.args.memory.now (c.args.base.0 + c.from.result) ≡ byte_at c.args.memory.now (c.args.base.0 + c.loop-n.n) =
+    ap (λ (k : ℕ). byte_at c.args.memory.now (c.args.base.0 + k)) c.from.ensures in
     no_error (byte_at c.args.memory.now (c.args.base.0 + c.from.result)) _ c.in_default.field-0 c.read_u8.result
-    (subst (λ (o : Option ℕ). is_some o ≡ true) (sym at) (byte_inside c.args.memory.now c.args.base.0 (pending_bytes c.args.shape.lpi_bits) c.loop-n.n (omega arith) c.requires.inside)) c.read_u8.ensures c.in_default.is
+    (subst (λ (o : Option ℕ). is_some o ≡ true) (sym at) (byte_inside c.args.memory.now c.args.base.0 (pending_bytes c.args.shape.lpi_bits) c.loop-n.n
+    (omega arith) c.requires.inside)) c.read_u8.ensures c.in_default.is
 
 pub loop-n-init : goal.loop-n-init
 loop-n-init c = record {
@@ -20,15 +22,18 @@ loop-n-init c = record {
 
 pub loop-n-preserved : goal.loop-n-preserved
 loop-n-preserved c =
-    let at : byte_at c.args.memory.now (c.args.base.0 + c.from.result) ≡ byte_at c.args.memory.now (c.args.base.0 + c.loop-n.n) = ap (λ (k : ℕ). byte_at c.args.memory.now (c.args.base.0 + k)) c.from.ensures in
+    let at : byte_at c.args.memory.now (c.args.base.0 + c.from.result) ≡ byte_at c.args.memory.now (c.args.base.0 + c.loop-n.n) =
+    ap (λ (k : ℕ). byte_at c.args.memory.now (c.args.base.0 + k)) c.from.ensures in
     record {
       bits = ap (λ (p : PendingSet). p.lpi_bits) c.set_byte.ensures ∙ c.loop-n.invariant.bits;
       are = subst (AreThoseBelow c.args.memory.now c.args.base.0 (c.loop-n.n + 1)) (sym (ap (λ (p : PendingSet). p.lpis) c.set_byte.ensures))
-          (one_byte c.args.memory.now c.args.base.0 c.loop-n.n c.in-Ok.byte c.loop-n.pending.lpis (omega arith) (sym at ∙ is_read _ _ c.read_u8.result c.in-Ok.byte c.read_u8.ensures c.in-Ok.is) c.loop-n.invariant.are);
+          (one_byte c.args.memory.now c.args.base.0 c.loop-n.n c.in-Ok.byte c.loop-n.pending.lpis (omega arith)
+          (sym at ∙ is_read _ _ c.read_u8.result c.in-Ok.byte c.read_u8.ensures c.in-Ok.is) c.loop-n.invariant.are);
     }
 
 pub returns-clause-pending : goal.returns-clause-pending
 returns-clause-pending c = record {
   rising = c.lpi_bits-bits.ensures.rising;
-  are = all_bytes c.args.memory.now c.args.base.0 c.args.shape.lpi_bits c.loop-n.n c.loop-n.pending.lpis c.requires.shape.least_lpi_bits (omega arith) c.loop-n.invariant.are;
+  are = all_bytes c.args.memory.now c.args.base.0 c.args.shape.lpi_bits c.loop-n.n c.loop-n.pending.lpis c.requires.shape.least_lpi_bits
+      (omega arith) c.loop-n.invariant.are;
 }

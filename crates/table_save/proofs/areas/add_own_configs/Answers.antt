@@ -12,7 +12,8 @@ loop-vcpu-preserved c =
     let v = c.loop-vcpu.invariant in
     let more = c.add_own_config.ensures in
     record {
-      items = area_more (config_area c.args.shape) c.args.shape c.loop-vcpu.vcpu c.args.redists.now c.redist-redist.result.now c.loop-vcpu.areas.items c.add_own_config.new.areas.items _ c.loop-vcpu-test.true c.redist-redist.ensures more.items v.items;
+      items = area_more (config_area c.args.shape) c.args.shape c.loop-vcpu.vcpu c.args.redists.now c.redist-redist.result.now c.loop-vcpu.areas.items
+          c.add_own_config.new.areas.items _ c.loop-vcpu-test.true c.redist-redist.ensures more.items v.items;
       few = omega (arith, more.few, v.few);
       capacity = omega (arith, more.capacity, v.capacity);
     }

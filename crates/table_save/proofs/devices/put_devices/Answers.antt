@@ -10,7 +10,8 @@ put_pages-requires-clause-few c = (c.requires.pages (sym c.indirect.ensures ∙ 
 pub returns-then-indirect : goal.returns-then-indirect
 returns-then-indirect c =
     let two = sym c.indirect.ensures ∙ c.if-indirect.true in
-    pages_written (record { regs = c.args.regs.now; maps = c.args.maps.now.maps }) c.args.memory.now c.put_pages.new.memory c.args.pages.now (sym c.table_valid.ensures ∙ c.if-not-table_valid.false) two
+    pages_written (record { regs = c.args.regs.now; maps = c.args.maps.now.maps }) c.args.memory.now c.put_pages.new.memory c.args.pages.now
+    (sym c.table_valid.ensures ∙ c.if-not-table_valid.false) two
     (c.requires.pages two) c.put_pages.ensures
 
 pub put_places-requires-clause-rises : goal.put_places-requires-clause-rises
@@ -18,6 +19,9 @@ put_places-requires-clause-rises c = rw c.new-front.ensures (map_rises c.args.ma
 
 pub returns : goal.returns
 returns c =
-    let size = ap (λ n. 8192 * n) (c.min-count.ensures ∙ ap (λ p. min p c.level1_entries.result) c.pages.ensures.pages ∙ ap (min (pages c.args.regs.now.baser0)) c.level1_entries.ensures.entries) in
-    flat_written (record { regs = c.args.regs.now; maps = c.args.maps.now.maps }) c.args.memory.now c.put_places.new.memory c.table_base.result.0 (8192 * c.min-count.result) c.new-front.result
-    (sym c.table_valid.ensures ∙ c.if-not-table_valid.false) (sym c.indirect.ensures ∙ c.if-indirect.false) c.table_base.ensures size c.new-front.ensures c.put_places.ensures.memory
+    let size = ap (λ n. 8192 * n) (c.min-count.ensures ∙ ap (λ p. min p c.level1_entries.result) c.pages.ensures.pages
+    ∙ ap (min (pages c.args.regs.now.baser0)) c.level1_entries.ensures.entries) in
+    flat_written (record { regs = c.args.regs.now; maps = c.args.maps.now.maps }) c.args.memory.now c.put_places.new.memory c.table_base.result.0
+    (8192 * c.min-count.result) c.new-front.result
+    (sym c.table_valid.ensures ∙ c.if-not-table_valid.false) (sym c.indirect.ensures ∙ c.if-indirect.false) c.table_base.ensures size c.new-front.ensures
+    c.put_places.ensures.memory

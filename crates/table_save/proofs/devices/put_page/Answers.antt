@@ -8,4 +8,5 @@ skip_below-requires-clause-rises c = later_rises c.args.first 0 c.args.front.now
 
 pub returns-in-Some-clause-memory : goal.returns-in-Some-clause-memory
 returns-in-Some-clause-memory c =
-    this_page c.args.memory.now c.put_places.new.memory c.args.front.now c.args.first c.args.count c.args.page c.in-Some.base c.in-Some.is c.put_places.ensures.memory
+    this_page c.args.memory.now c.put_places.new.memory c.args.front.now c.args.first c.args.count c.args.page c.in-Some.base c.in-Some.is
+    c.put_places.ensures.memory

@@ -10,7 +10,8 @@ loop-k-init c = none_first c.args.regs.now c.args.memory.now
 pub loop-k-preserved : goal.loop-k-preserved
 loop-k-preserved c =
     let lt : c.loop-k.k < 128 = omega (arith, c.loop-k-test.true, c.level1_entries-k-end.ensures.most) in
-    one_more c.args.regs.now c.args.memory.now c.loop-k.k c.loop-k.pages c.page_of.result lt (c.page_of.ensures.page ∙ ap page_of c.level1.ensures.entry) c.page_of.ensures.low c.loop-k.invariant
+    one_more c.args.regs.now c.args.memory.now c.loop-k.k c.loop-k.pages c.page_of.result lt (c.page_of.ensures.page ∙ ap page_of c.level1.ensures.entry)
+    c.page_of.ensures.low c.loop-k.invariant
 
 pub returns-after-loop-k : goal.returns-after-loop-k
 returns-after-loop-k c =

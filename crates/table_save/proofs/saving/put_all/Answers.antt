@@ -11,5 +11,6 @@ pub returns : goal.returns
 returns c =
     let t : Translator = record { regs = c.args.regs.now; maps = c.args.maps.now.maps } in
     all_written c.args.memory.now c.put_devices.new.memory c.put_collections.new.memory c.put_itts.new.memory c.put_pending.new.memory
-    (device_words t c.args.memory.now) (collection_words t) (itt_tables t.maps (entries t.maps.devices)) (flat_map (pending_words c.args.shape) (redistributors_of c.args.shape c.args.redists.now))
+    (device_words t c.args.memory.now) (collection_words t) (itt_tables t.maps (entries t.maps.devices))
+    (flat_map (pending_words c.args.shape) (redistributors_of c.args.shape c.args.redists.now))
     c.put_devices.ensures c.put_collections.ensures c.put_itts.ensures c.put_pending.ensures

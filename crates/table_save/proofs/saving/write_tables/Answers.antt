@@ -14,4 +14,5 @@ pub put_all-requires-clause-events : goal.put_all-requires-clause-events
 put_all-requires-clause-events c = events_fit c.args.layout.now c.args.regs.now c.args.maps.now.maps c.args.memory.now c.args.redists.now c.requires.sound
 
 pub returns : goal.returns
-returns c = c.put_all.ensures ∙ ap (put_tables c.args.memory.now) (words_are c.args.layout.now c.args.regs.now c.args.maps.now.maps c.args.memory.now c.args.redists.now)
+returns c = c.put_all.ensures ∙ ap (put_tables c.args.memory.now) (words_are c.args.layout.now c.args.regs.now c.args.maps.now.maps c.args.memory.now
+    c.args.redists.now)

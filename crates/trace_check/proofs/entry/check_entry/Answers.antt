@@ -9,6 +9,7 @@ pub take-requires-clause-call : goal.take-requires-clause-call
 take-requires-clause-call c =
     let n = c.in-Some.next in let p = progress c.args.cursor.now in
     let said : Some (n.thread, n.call.now) ≡ next_call p c.from-phase.result c.from-thread.result = c.in-Some.ensures in
-    let next : next_call p c.args.line.now.phase c.args.line.now.thread ≡ Some (n.thread, n.call.now) = (λ d. next_call p (sym c.from-phase.ensures d) (sym c.from-thread.ensures d)) ∙ sym said in
+    let next : next_call p c.args.line.now.phase c.args.line.now.thread ≡ Some (n.thread, n.call.now) =
+    (λ d. next_call p (sym c.from-phase.ensures d) (sym c.from-thread.ensures d)) ∙ sym said in
     let is = next_means p c.args.line.now.phase c.args.line.now.thread n.thread n.call.now next in
     has_call c.args.cursor.now n.thread n.call.now is.call_is

@@ -1,7 +1,8 @@
 use Rattle.std.proofs.Common.{◌+◌, ℕ, length, sym, subst}
 use Rattle.its_plain.specs.Plain.{Plain}
 use Rattle.trace_check.specs.Steps.{IsLegRight, IsMigrated, IsFault}
-use Rattle.trace_check.proofs.Checked.{Checking, InHand, checking_none, placed, pending_long, differs_now, differs_after, checking_more, checking_last, checking_all, no_run}
+use Rattle.trace_check.proofs.Checked.{Checking, InHand, checking_none, placed, pending_long, differs_now, differs_after, checking_more, checking_last}
+use Rattle.trace_check.proofs.Checked.{checking_all, no_run}
 use Rattle.trace_check.proofs.legs.check.Goals as goal
 use Rattle.trace_check.proofs.legs.check.Goals.{After-as_slice, then-index-legs+in_ok-difference-2+in_default-2, else-index-legs}
 
@@ -23,24 +24,28 @@ loop-index-init c = checking_none c.args.machine c.args.legs.now c.args.trace.no
 pub check_leg-requires-clause-placed : goal.check_leg-requires-clause-placed
 check_leg-requires-clause-placed c =
     let l = c.loop-index in
-    placed c.args.machine c.args.legs.now c.args.trace.now.legs l.index l.machine c.as_slice.result.now c.index-lines-index.result l.invariant (in_hand (goal.at.check_leg-requires-clause-placed c).After-as_slice)
+    placed c.args.machine c.args.legs.now c.args.trace.now.legs l.index l.machine c.as_slice.result.now c.index-lines-index.result l.invariant
+    (in_hand (goal.at.check_leg-requires-clause-placed c).After-as_slice)
 
 pub check_leg-requires-clause-vcpus : goal.check_leg-requires-clause-vcpus
 check_leg-requires-clause-vcpus c =
     let l = c.loop-index in
-    pending_long c.args.machine c.args.legs.now c.args.trace.now.legs l.index l.machine c.as_slice.result.now c.index-lines-index.result l.invariant (in_hand (goal.at.check_leg-requires-clause-vcpus c).After-as_slice)
+    pending_long c.args.machine c.args.legs.now c.args.trace.now.legs l.index l.machine c.as_slice.result.now c.index-lines-index.result l.invariant
+    (in_hand (goal.at.check_leg-requires-clause-vcpus c).After-as_slice)
 
 pub returns-in-Some-clause-differs : goal.returns-in-Some-clause-differs
 returns-in-Some-clause-differs c =
     let l = c.loop-index in
-    differs_now c.args.machine c.args.legs.now c.args.trace.now.legs l.index l.machine c.as_slice.result.now c.index-lines-index.result l.invariant (in_hand (goal.at.returns-in-Some-clause-differs c).After-as_slice)
+    differs_now c.args.machine c.args.legs.now c.args.trace.now.legs l.index l.machine c.as_slice.result.now c.index-lines-index.result l.invariant
+    (in_hand (goal.at.returns-in-Some-clause-differs c).After-as_slice)
     c.in-Some.difference (rw c.in-Some.is at c.in_ok-difference.ensures.wrong)
 
 pub returns-in-Some-clause-exact : goal.returns-in-Some-clause-exact
 returns-in-Some-clause-exact c =
     let l = c.loop-index in
     no_run c.args.machine c.args.legs.now c.args.trace.now.legs c.in-Some.difference
-    (differs_now c.args.machine c.args.legs.now c.args.trace.now.legs l.index l.machine c.as_slice.result.now c.index-lines-index.result l.invariant (in_hand (goal.at.returns-in-Some-clause-exact c).After-as_slice)
+    (differs_now c.args.machine c.args.legs.now c.args.trace.now.legs l.index l.machine c.as_slice.result.now c.index-lines-index.result l.invariant
+    (in_hand (goal.at.returns-in-Some-clause-exact c).After-as_slice)
     c.in-Some.difference (rw c.in-Some.is at c.in_ok-difference.ensures.wrong))
 
 pub returns-in-Some-2-clause-differs : goal.returns-in-Some-2-clause-differs
@@ -48,8 +53,10 @@ returns-in-Some-2-clause-differs c =
     let l = c.loop-index in let w = c.check_leg.new.machine in let t = c.index-lines-index.result in
     let right : IsLegRight l.machine c.as_slice.result.now t.entries t.pending w = rw c.in_default.is at c.in_ok-difference.ensures.right in
     let fault : IsFault (l.index + 1) c.len-place.result w c.in-Some-2.difference = rw c.in-Some-2.is at c.in_ok-difference-2.ensures.wrong in
-    let here : IsFault (l.index + 1) (length t.entries) w c.in-Some-2.difference = subst (λ (k : ℕ). IsFault (l.index + 1) k w c.in-Some-2.difference) c.len-place.ensures fault in
-    differs_after c.args.machine c.args.legs.now c.args.trace.now.legs l.index l.machine c.as_slice.result.now c.index-lines-index.result l.invariant (in_hand (goal.at.returns-in-Some-2-clause-differs c).After-as_slice)
+    let here : IsFault (l.index + 1) (length t.entries) w c.in-Some-2.difference = subst (λ (k : ℕ). IsFault (l.index + 1) k w c.in-Some-2.difference)
+    c.len-place.ensures fault in
+    differs_after c.args.machine c.args.legs.now c.args.trace.now.legs l.index l.machine c.as_slice.result.now c.index-lines-index.result l.invariant
+    (in_hand (goal.at.returns-in-Some-2-clause-differs c).After-as_slice)
     w c.in-Some-2.difference c.if-index-legs.true right here
 
 pub returns-in-Some-2-clause-exact : goal.returns-in-Some-2-clause-exact
@@ -57,9 +64,11 @@ returns-in-Some-2-clause-exact c =
     let l = c.loop-index in let w = c.check_leg.new.machine in let t = c.index-lines-index.result in
     let right : IsLegRight l.machine c.as_slice.result.now t.entries t.pending w = rw c.in_default.is at c.in_ok-difference.ensures.right in
     let fault : IsFault (l.index + 1) c.len-place.result w c.in-Some-2.difference = rw c.in-Some-2.is at c.in_ok-difference-2.ensures.wrong in
-    let here : IsFault (l.index + 1) (length t.entries) w c.in-Some-2.difference = subst (λ (k : ℕ). IsFault (l.index + 1) k w c.in-Some-2.difference) c.len-place.ensures fault in
+    let here : IsFault (l.index + 1) (length t.entries) w c.in-Some-2.difference = subst (λ (k : ℕ). IsFault (l.index + 1) k w c.in-Some-2.difference)
+    c.len-place.ensures fault in
     no_run c.args.machine c.args.legs.now c.args.trace.now.legs c.in-Some-2.difference
-    (differs_after c.args.machine c.args.legs.now c.args.trace.now.legs l.index l.machine c.as_slice.result.now c.index-lines-index.result l.invariant (in_hand (goal.at.returns-in-Some-2-clause-exact c).After-as_slice)
+    (differs_after c.args.machine c.args.legs.now c.args.trace.now.legs l.index l.machine c.as_slice.result.now c.index-lines-index.result l.invariant
+    (in_hand (goal.at.returns-in-Some-2-clause-exact c).After-as_slice)
     w c.in-Some-2.difference c.if-index-legs.true right here)
 
 pub loop-index-preserved : goal.loop-index-preserved
@@ -71,13 +80,16 @@ loop-index-preserved c =
       | then-index-legs+in_ok-difference-2+in_default-2 b ↦
           let m : IsMigrated w b.migrate.new.machine = rw b.in_default-2.is at b.in_ok-difference-2.ensures.right in
           subst going (sym b.machine-is)
-          (checking_more c.args.machine c.args.legs.now c.args.trace.now.legs l.index l.machine c.as_slice.result.now c.index-lines-index.result l.invariant (in_hand (goal.at.loop-index-preserved c).After-as_slice)
+          (checking_more c.args.machine c.args.legs.now c.args.trace.now.legs l.index l.machine c.as_slice.result.now c.index-lines-index.result l.invariant
+          (in_hand (goal.at.loop-index-preserved c).After-as_slice)
           w b.migrate.new.machine b.if-index-legs.true right m)
       | else-index-legs b ↦
           subst going (sym b.machine-is)
-          (checking_last c.args.machine c.args.legs.now c.args.trace.now.legs l.index l.machine c.as_slice.result.now c.index-lines-index.result l.invariant (in_hand (goal.at.loop-index-preserved c).After-as_slice)
+          (checking_last c.args.machine c.args.legs.now c.args.trace.now.legs l.index l.machine c.as_slice.result.now c.index-lines-index.result l.invariant
+          (in_hand (goal.at.loop-index-preserved c).After-as_slice)
           w b.if-index-legs.false right)
     ]
 
 pub returns-clause-agrees : goal.returns-clause-agrees
-returns-clause-agrees c = checking_all c.args.machine c.args.legs.now c.args.trace.now.legs c.loop-index.index c.loop-index.machine c.loop-index.invariant c.loop-index-test.false
+returns-clause-agrees c = checking_all c.args.machine c.args.legs.now c.args.trace.now.legs c.loop-index.index c.loop-index.machine c.loop-index.invariant
+    c.loop-index-test.false

@@ -28,7 +28,8 @@ clear-requires c =
 pub mapc-requires : goal.mapc-requires
 mapc-requires c =
     let s = c.args.self.now.shape.now in let m = c.args.self.now.maps.now.maps in let rs = c.args.self.now.redists.now in
-    let is : c.args.command.now ≡ Mapc c.in-Mapc.icid c.in-Mapc.target true = c.in-Mapc.is ∙ ap (λ (v : Bool). Mapc c.in-Mapc.icid c.in-Mapc.target v) c.if-valid-2.true in
+    let is : c.args.command.now ≡ Mapc c.in-Mapc.icid c.in-Mapc.target true = c.in-Mapc.is ∙ ap (λ (v : Bool). Mapc c.in-Mapc.icid c.in-Mapc.target v)
+    c.if-valid-2.true in
     mapc_targets s m rs c.in-Mapc.icid c.in-Mapc.target (subst (λ (x : Command). AreNeededInHand s m x rs) is c.requires)
 
 pub movall-requires : goal.movall-requires

@@ -40,4 +40,5 @@ invariant_of-self c =
     let bytes = c.args.bytes.now in
     let e : place_from 0 (windows fs) c.args.addr.0 (length bytes) ≡ Some c.in-Some.at = cc in
     let there : AtFrame fs c.args.addr.0 (length bytes) c.in-Some.at = at_frame fs c.args.addr.0 (length bytes) c.in-Some.at e in
-    ap are_windows (extents-write_at (windows fs) c.args.addr.0 bytes _ (there.writes _ c.write.new.self bytes c.index_mut.ensures.value refl c.write.ensures.written)) ∙ c.self.invariant
+    ap are_windows (extents-write_at (windows fs) c.args.addr.0 bytes _
+    (there.writes _ c.write.new.self bytes c.index_mut.ensures.value refl c.write.ensures.written)) ∙ c.self.invariant

@@ -10,9 +10,11 @@ returns-in_err-line-clause-next c =
 pub returns-then-is_printed-clause-next : goal.returns-then-is_printed-clause-next
 returns-then-is_printed-clause-next c =
     let printed : is_printed c.in_ok-line.line.now ≡ true = sym c.is_printed.ensures ∙ c.if-is_printed.true in
-    sym (next_at c.args.self.now.number c.args.self.now.rest.now (Some (c.in_ok-line.line.now, c.in_ok-line.rest.now)) c.in_ok-line.ensures.parts ∙ rw printed refl)
+    sym (next_at c.args.self.now.number c.args.self.now.rest.now (Some (c.in_ok-line.line.now, c.in_ok-line.rest.now)) c.in_ok-line.ensures.parts
+    ∙ rw printed refl)
 
 pub returns-else-is_printed-clause-next : goal.returns-else-is_printed-clause-next
 returns-else-is_printed-clause-next c =
     let printed : is_printed c.in_ok-line.line.now ≡ false = sym c.is_printed.ensures ∙ c.if-is_printed.false in
-    sym (next_at c.args.self.now.number c.args.self.now.rest.now (Some (c.in_ok-line.line.now, c.in_ok-line.rest.now)) c.in_ok-line.ensures.parts ∙ rw printed refl)
+    sym (next_at c.args.self.now.number c.args.self.now.rest.now (Some (c.in_ok-line.line.now, c.in_ok-line.rest.now)) c.in_ok-line.ensures.parts
+    ∙ rw printed refl)

@@ -6,10 +6,12 @@ use Rattle.its_maps.proofs.maps.Maps.look_up.Goals as goal
 
 pub returns-in-None-clause-found : goal.returns-in-None-clause-found
 returns-in-None-clause-found c =
-    looked c.self.inside.devices.map c.self.inside.collections.map c.args.dev.0 c.args.ev.0 None c.in-None.ensures ∙ ap (λ m. looked_up m.maps c.args.dev.0 c.args.ev.0) c.self.view_is
+    looked c.self.inside.devices.map c.self.inside.collections.map c.args.dev.0 c.args.ev.0 None c.in-None.ensures
+    ∙ ap (λ m. looked_up m.maps c.args.dev.0 c.args.ev.0) c.self.view_is
 
 pub returns-in-None-clause-mapped : goal.returns-in-None-clause-mapped
-returns-in-None-clause-mapped c = subst (λ m. EventsHaveDevices m.maps) c.self.view_is (events_have_devices c.self.inside.devices.map c.self.inside.collections.map)
+returns-in-None-clause-mapped c = subst (λ m. EventsHaveDevices m.maps) c.self.view_is
+    (events_have_devices c.self.inside.devices.map c.self.inside.collections.map)
 
 pub returns-in-None-get-clause-found : goal.returns-in-None-get-clause-found
 returns-in-None-get-clause-found c =
@@ -18,7 +20,8 @@ returns-in-None-get-clause-found c =
     ∙ ap (λ m. looked_up m.maps c.args.dev.0 c.args.ev.0) c.self.view_is
 
 pub returns-in-None-get-clause-mapped : goal.returns-in-None-get-clause-mapped
-returns-in-None-get-clause-mapped c = subst (λ m. EventsHaveDevices m.maps) c.self.view_is (events_have_devices c.self.inside.devices.map c.self.inside.collections.map)
+returns-in-None-get-clause-mapped c = subst (λ m. EventsHaveDevices m.maps) c.self.view_is
+    (events_have_devices c.self.inside.devices.map c.self.inside.collections.map)
 
 pub returns-in-Some-get-clause-found : goal.returns-in-Some-get-clause-found
 returns-in-Some-get-clause-found c =
@@ -27,4 +30,5 @@ returns-in-Some-get-clause-found c =
     ∙ ap (λ m. looked_up m.maps c.args.dev.0 c.args.ev.0) c.self.view_is
 
 pub returns-in-Some-get-clause-mapped : goal.returns-in-Some-get-clause-mapped
-returns-in-Some-get-clause-mapped c = subst (λ m. EventsHaveDevices m.maps) c.self.view_is (events_have_devices c.self.inside.devices.map c.self.inside.collections.map)
+returns-in-Some-get-clause-mapped c = subst (λ m. EventsHaveDevices m.maps) c.self.view_is
+    (events_have_devices c.self.inside.devices.map c.self.inside.collections.map)

@@ -11,4 +11,5 @@ returns-then-contains-clause-maps c =
 
 pub returns-else-contains-clause-maps : goal.returns-else-contains-clause-maps
 returns-else-contains-clause-maps c =
-    subst (λ m. m.maps ≡ event_unmapped m.maps c.args.dev.0 c.args.ev.0) c.self.view_is (after_unmap_nothing c.self.inside.devices.map c.self.inside.collections.map c.args.dev.0 (sym c.if-contains.ensures) c.args.ev.0)
+    subst (λ m. m.maps ≡ event_unmapped m.maps c.args.dev.0 c.args.ev.0) c.self.view_is
+    (after_unmap_nothing c.self.inside.devices.map c.self.inside.collections.map c.args.dev.0 (sym c.if-contains.ensures) c.args.ev.0)

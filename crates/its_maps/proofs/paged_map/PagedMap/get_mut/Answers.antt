@@ -13,7 +13,8 @@ pub get_mut-requires-clause-there : goal.get_mut-requires-clause-there
 get_mut-requires-clause-there g c =
     let m = c.self.inside.pages.map in
     let page = c.get_mut-page.result.now in
-    sym (key_in m c.args.key page (page_there m c.args.key page c.get_mut-page.ensures.value)) ∙ ap (λ s. map.contains_key s.map c.args.key) c.self.view_is ∙ c.requires
+    sym (key_in m c.args.key page (page_there m c.args.key page c.get_mut-page.ensures.value)) ∙ ap (λ s. map.contains_key s.map c.args.key) c.self.view_is
+    ∙ c.requires
 
 pub invariant_of-self-lent : goal.invariant_of-self-lent
 invariant_of-self-lent g c = λ w. numbers_insert c.self.inside.pages.map (c.args.key / PLACES) _ c.self.invariant (omega arith)

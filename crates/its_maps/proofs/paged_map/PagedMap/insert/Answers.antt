@@ -19,7 +19,8 @@ returns-then-contains g c =
 
 -- the page is new
 pub take-page-requires : goal.take-page-requires
-take-page-requires g c = c.requires.reserve (ap (λ s. map.contains_key s.map c.args.key) (sym c.self.view_is) ∙ key_out c.self.inside.pages.map c.args.key (sym c.if-contains.ensures))
+take-page-requires g c = c.requires.reserve (ap (λ s. map.contains_key s.map c.args.key) (sym c.self.view_is) ∙ key_out c.self.inside.pages.map c.args.key
+    (sym c.if-contains.ensures))
 
 pub insert-requires : goal.insert-requires
 insert-requires g c = λ absent.
@@ -28,7 +29,8 @@ insert-requires g c = λ absent.
 
 pub invariant_of-self-else-contains : goal.invariant_of-self-else-contains
 invariant_of-self-else-contains g c =
-    subst NumbersFit (sym c.insert.ensures) (numbers_insert c.self.inside.pages.map (c.args.key / PLACES) c.put-else-contains.new.self c.self.invariant (omega arith))
+    subst NumbersFit (sym c.insert.ensures) (numbers_insert c.self.inside.pages.map (c.args.key / PLACES) c.put-else-contains.new.self c.self.invariant
+    (omega arith))
 
 pub returns-else-contains : goal.returns-else-contains
 returns-else-contains g c =

@@ -11,7 +11,8 @@ pub invariant_of-self : goal.invariant_of-self
 invariant_of-self g c =
     let m = c.self.inside.pages.map in
     subst NumbersFit (sym c.remove.ensures)
-    (numbers_retain (map.insert m (c.args.key / PLACES) c.take.new.self) (λ k. not (k == c.args.key / PLACES)) (numbers_insert m (c.args.key / PLACES) c.take.new.self c.self.invariant (omega arith)))
+    (numbers_retain (map.insert m (c.args.key / PLACES) c.take.new.self) (λ k. not (k == c.args.key / PLACES))
+    (numbers_insert m (c.args.key / PLACES) c.take.new.self c.self.invariant (omega arith)))
 
 pub returns-then-is_blank : goal.returns-then-is_blank
 returns-then-is_blank g c =
@@ -38,4 +39,5 @@ returns-else-is_blank g c =
 -- it wasn't there
 pub returns-else-contains : goal.returns-else-contains
 returns-else-contains g c =
-    ap (λ s. s.map) (sym c.self.view_is) ∙ after_nothing c.self.inside.pages.map c.args.key (sym c.if-contains.ensures) ∙ ap (λ s. without s.map c.args.key) c.self.view_is
+    ap (λ s. s.map) (sym c.self.view_is) ∙ after_nothing c.self.inside.pages.map c.args.key (sym c.if-contains.ensures)
+    ∙ ap (λ s. without s.map c.args.key) c.self.view_is

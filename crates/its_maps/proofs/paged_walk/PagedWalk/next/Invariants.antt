@@ -6,7 +6,8 @@ use Rattle.its_maps.proofs.paged_walk.PagedWalk.next.Given as goal
 -- what is passed over has no entry
 abbrev pub invariant-loop-slot : goal.invariant-loop-slot
 invariant-loop-slot g l =
-    (slots_from l.initial.self-inside.key l.initial.self-inside.slots.now ++ paged l.initial.self-inside.pages.now ≡ slots_from l.self-inside.key l.self-inside.slots.now ++ paged l.self-inside.pages.now)
+    (slots_from l.initial.self-inside.key l.initial.self-inside.slots.now ++ paged l.initial.self-inside.pages.now ≡ slots_from l.self-inside.key
+    l.self-inside.slots.now ++ paged l.self-inside.pages.now)
     × (l.self-inside.key + length l.self-inside.slots.now ≤ 4294967296)
     × EachNumberFits l.self-inside.pages.now
 

@@ -22,4 +22,5 @@ returns-else-is_shard_of c =
     let s = setup_of c.args.self.now in
     let new = filled c.args.shard.now (entry c.in-Fill.dev c.in-Fill.ev (stamp_of s c.args.to c.args.its) c.in-Fill.target) in
     let own = sym c.is_shard_of.ensures ∙ c.if-is_shard_of.false in
-    sym (λ d. cond (own d) new c.args.shard.now) ∙ ap (λ (ch : ShardChange). changed s c.args.to c.args.commit.now.call ch c.args.its c.args.number c.args.shard.now) (sym c.in-Fill.is)
+    sym (λ d. cond (own d) new c.args.shard.now)
+    ∙ ap (λ (ch : ShardChange). changed s c.args.to c.args.commit.now.call ch c.args.its c.args.number c.args.shard.now) (sym c.in-Fill.is)

@@ -13,6 +13,7 @@ returns-else-is_located c =
     let w = without_decides s c.args.its c.args.dev.0 c.args.ev.0 c.args.owed.now in
     let same = c.lacks_in.ensures ∙ ap (λ (n : ℕ). owes_such (part.Shard c.args.its n) (lacks c.args.dev.0 c.args.ev.0) c.args.owed.now) c.shard_of.ensures in (
       (λ e. λ target loc. inr (w.0 (sym same ∙ e))),
-      (λ f. ⊎_elim (λ (there : located c.args.after.now c.args.dev.0 c.args.ev.0 ≡ Ok c.in-Ok.target). absurd (let two : true ≡ false = sym (c.is_located.ensures.1 there) ∙ c.if-is_located.false in cc))
+      (λ f. ⊎_elim (λ (there : located c.args.after.now c.args.dev.0 c.args.ev.0 ≡ Ok c.in-Ok.target).
+          absurd (let two : true ≡ false = sym (c.is_located.ensures.1 there) ∙ c.if-is_located.false in cc))
           (λ (wo : IsWithout s c.args.its c.args.dev.0 c.args.ev.0 c.args.owed.now). same ∙ w.1 wo) (f c.in-Ok.target (sym c.locate.ensures ∙ c.in-Ok.is))),
     )

@@ -11,7 +11,8 @@ use Rattle.its_player.proofs.MayTests.{all_out_decides}
 use Rattle.its_player.proofs.shared.Shared.may_call.Goals as goal
 
 pub returns-then-not-all_out : goal.returns-then-not-all_out
-returns-then-not-all_out c = λ m. let two : true ≡ false = sym ((all_out_decides c.args.held.now).1 m.out) ∙ (sym c.all_out.ensures ∙ c.if-not-all_out.true) in cc
+returns-then-not-all_out c = λ m. let two : true ≡ false = sym ((all_out_decides c.args.held.now).1 m.out)
+    ∙ (sym c.all_out.ensures ∙ c.if-not-all_out.true) in cc
 
 pub returns : goal.returns
 returns c =
@@ -30,7 +31,8 @@ returns c =
         out = (all_out_decides held).0 (sym c.all_out.ensures ∙ c.if-not-all_out.false);
         answered = h.0;
         may_change = subst (λ (w : Plain). MayChange s a.call a.change w held) is_left (c.may_change.ensures.0 c.if-not-may_change.false);
-        stamps = subst (λ (l : List Held). (its : ℕ) → its < translator_count s → MayStamp s a held l its) seen (c.in_ok-may_stamps.ensures.0 c.if-not-may_stamps.false);
+        stamps = subst (λ (l : List Held). (its : ℕ) → its < translator_count s → MayStamp s a held l its) seen
+            (c.in_ok-may_stamps.ensures.0 c.if-not-may_stamps.false);
       },
       owed,
     )

@@ -14,15 +14,21 @@ pub returns-in_default-clause-moves : goal.returns-in_default-clause-moves
 returns-in_default-clause-moves c = λ v at p. no_part_home c.args.self.now c.requires.good c.args.at v at p c.args.part c.in_default.ensures
 
 pub returns-in_default-find_out-clause-moves : goal.returns-in_default-find_out-clause-moves
-returns-in_default-find_out-clause-moves c = λ v at p. nothing_home c.args.self.now c.args.at c.index-2.result.now v c.args.part c.requires.at c.index-2.ensures at p
+returns-in_default-find_out-clause-moves c = λ v at p. nothing_home c.args.self.now c.args.at c.index-2.result.now v c.args.part c.requires.at c.index-2.ensures
+    at p
     (ap (position (is_out c.args.part)) (sym c.deref.ensures.value) ∙ (sym c.find_out.ensures ∙ c.in_default-find_out.is))
 
 pub returns-clause-moves : goal.returns-clause-moves
 returns-clause-moves c = λ v at p.
     let w = c.args.self.now in
     let x : Known = c.index_mut-view.result.now in
-    let same : c.index-2.result.now ≡ x = same_read w.views.items c.args.at c.index-2.result.now x c.requires.at c.index-2.ensures c.index_mut-view.ensures.value in
+    let same : c.index-2.result.now ≡ x = same_read w.views.items c.args.at c.index-2.result.now x c.requires.at c.index-2.ensures
+    c.index_mut-view.ensures.value in
     let found : position (is_out c.args.part) x.held.items ≡ Some c.in-Some-find_out.n =
-    ap (λ (u : Known). position (is_out c.args.part) u.held.items) (sym same) ∙ (ap (position (is_out c.args.part)) (sym c.deref.ensures.value) ∙ (sym c.find_out.ensures ∙ c.in-Some-find_out.is)) in
-    puts_home w c.args.at x v c.args.part c.requires.at c.index_mut-view.ensures.value at p c.in-Some.index c.in-Some-find_out.n c.index_mut-held.result.now c.in_ok-content.content
-    (record x { held = with_item x.held c.in-Some-find_out.n c.put_home.new.self }) c.in-Some.ensures found c.index_mut-held.ensures.value (ap content_of c.in_ok-content.ensures ∙ c.owed.ensures) (ap (λ (y : Held). record (known (setup_of w) x) { held = set x.held.items c.in-Some-find_out.n y }) c.put_home.ensures)
+    ap (λ (u : Known). position (is_out c.args.part) u.held.items) (sym same) ∙ (ap (position (is_out c.args.part)) (sym c.deref.ensures.value)
+    ∙ (sym c.find_out.ensures ∙ c.in-Some-find_out.is)) in
+    puts_home w c.args.at x v c.args.part c.requires.at c.index_mut-view.ensures.value at p c.in-Some.index c.in-Some-find_out.n c.index_mut-held.result.now
+    c.in_ok-content.content
+    (record x { held = with_item x.held c.in-Some-find_out.n c.put_home.new.self }) c.in-Some.ensures found c.index_mut-held.ensures.value
+    (ap content_of c.in_ok-content.ensures ∙ c.owed.ensures)
+    (ap (λ (y : Held). record (known (setup_of w) x) { held = set x.held.items c.in-Some-find_out.n y }) c.put_home.ensures)

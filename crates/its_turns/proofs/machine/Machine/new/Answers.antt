@@ -19,8 +19,10 @@ new-requires c =
     let count : 16 * (c.args.desc.now.shards + 3 + c.args.desc.now.shape.vcpus) ≡ 16 * (part_count s + 1) = omega (arith, vcpus) in
     let ws : c.as_slice.result.now ≡ first_words (part_count s) = c.as_slice.ensures.value ∙ (search rules) ∙ ap (λ (n : ℕ). replicate n 0) count in
     let here : Kept s (opening c.as_slice.result.now c.in_ok-slots.slots.items (first_view s)) =
-    subst (λ (x : List ℕ × List Value). Kept s (opening x.0 x.1 (first_view s))) (λ d. (sym ws d, sym c.in_ok-slots.ensures d)) (opens s values c.requires.sound c.in_ok-first_values.ensures) in
-    subst (λ (x : Desc × Parts). Kept (setup_from x.0 x.1) (opening c.as_slice.result.now c.in_ok-slots.slots.items (first_view (setup_from x.0 x.1)))) (λ d. (sym c.of.ensures d, sym c.of-2.ensures d)) here
+    subst (λ (x : List ℕ × List Value). Kept s (opening x.0 x.1 (first_view s))) (λ d. (sym ws d, sym c.in_ok-slots.ensures d))
+    (opens s values c.requires.sound c.in_ok-first_values.ensures) in
+    subst (λ (x : Desc × Parts). Kept (setup_from x.0 x.1) (opening c.as_slice.result.now c.in_ok-slots.slots.items (first_view (setup_from x.0 x.1))))
+    (λ d. (sym c.of.ensures d, sym c.of-2.ensures d)) here
 
 pub invariant_of-result : goal.invariant_of-result
 invariant_of-result c =
@@ -29,17 +31,23 @@ invariant_of-result c =
     let e = c.in-Ok.ensures.ok in
     let key : setup_of c.in-Ok.table.shared.key ≡ s = ap setup_of e.5 ∙ (λ d. setup_from (c.of.ensures d) (c.of-2.ensures d)) in
     let long : length c.in_ok-slots.slots.items ≡ 8 * part_count s =
-    ap (λ (l : List Value). length l) c.in_ok-slots.ensures ∙ (apart_long values ∙ ap (λ (n : ℕ). 8 * n) (values_long s values c.requires.sound c.in_ok-first_values.ensures)) in
+    ap (λ (l : List Value). length l) c.in_ok-slots.ensures
+    ∙ (apart_long values ∙ ap (λ (n : ℕ). 8 * n) (values_long s values c.requires.sound c.in_ok-first_values.ensures)) in
     let parts : part_count (setup_of c.in-Ok.table.shared.key) ≡ part_count s = ap (λ (x : Setup). part_count x) key in
     let vcpus : c.args.parts.layout.shape.vcpus ≡ c.args.desc.now.shape.vcpus = ap (λ (l : Layout). l.shape.vcpus) c.requires.layout in
     let layout : c.in_ok-layout.layout ≡ c.args.parts.layout = c.in_ok-layout.ensures in
     let words : length c.as_slice.result.now ≡ 16 * (c.args.desc.now.shards + 3 + c.args.desc.now.shape.vcpus) = search rules in
     record {
       described = search rules;
-      built = (layout ∙ sym (ap (λ (x : Setup). x.start.layout) key), ap (λ (d : Desc). d.shape) c.in_ok-kept.ensures ∙ sym (ap (λ (l : Layout). l.shape) (layout ∙ c.requires.layout)));
+      built = (
+        layout ∙ sym (ap (λ (x : Setup). x.start.layout) key),
+        ap (λ (d : Desc). d.shape) c.in_ok-kept.ensures
+            ∙ sym (ap (λ (l : Layout). l.shape) (layout ∙ c.requires.layout)),
+      );
       sized = (e.1 ∙ (long ∙ ap (λ (n : ℕ). 8 * n) (sym parts)), omega (arith, e.0, words, parts, vcpus));
       laid = (ap (λ (x : Setup). length x.start.translators) key, subst HasVcpus (sym key) c.requires.sound.vcpus);
-      small = subst (λ (d : Desc). (1 ≤ d.shards) × (d.shards ≤ 64) × (d.shape.vcpus ≤ 16) × (d.limits.place_last < 2 ^ 40) × (d.limits.stamp_last < 2 ^ 24)) (sym c.in_ok-kept.ensures)
+      small = subst (λ (d : Desc). (1 ≤ d.shards) × (d.shards ≤ 64) × (d.shape.vcpus ≤ 16) × (d.limits.place_last < 2 ^ 40) × (d.limits.stamp_last < 2 ^ 24))
+          (sym c.in_ok-kept.ensures)
           (c.requires.some_shards, c.requires.most_shards, c.requires.vcpus, c.requires.places, c.requires.stamps);
       bare = c.new-places.ensures;
     }

@@ -50,7 +50,11 @@ pub load-requires-clause-live : goal.load-requires-clause-live
 load-requires-clause-live c = ap (λ m. m.0.standing) c.join_seat.ensures.2 ∙ c.args.self.now.live
 
 pub returns-clause-view : goal.returns-clause-view
-returns-clause-view c = let is = ap (λ m. m.0) c.join_seat.ensures.2 in (c.load.result, subst (λ (w : View). Looks w c.load.result c.load.new.seat.me.0) is c.load.ensures.looks)
+returns-clause-view c = let is = ap (λ m. m.0) c.join_seat.ensures.2 in (
+  c.load.result,
+  subst (λ (w : View). Looks w c.load.result c.load.new.seat.me.0) is
+      c.load.ensures.looks,
+)
 
 pub returns-clause-seen : goal.returns-clause-seen
 returns-clause-seen c =

@@ -8,8 +8,12 @@ use Rattle.its_turns.proofs.Passing.{allows_split}
 use Rattle.its_turns.proofs.machine.Pass.split.Goals as goal
 
 pub split_seat-requires : goal.split_seat-requires
-split_seat-requires c = let m = c.args.machine.now in let p = c.look.new.pass in
-    (c.look.ensures.of.0, omega (arith, m.sized.1), allows_split (setup m) p.seat.id p.seat.me.0 p.live (ap (λ (v : View). v.number) c.look.ensures.looks.same ∙ c.requires.root) (subst (λ (v : View). v.root.made < 2 ^ 32) (sym c.look.ensures.looks.same) c.requires.few))
+split_seat-requires c = let m = c.args.machine.now in let p = c.look.new.pass in (
+  c.look.ensures.of.0,
+  omega (arith, m.sized.1),
+  allows_split (setup m) p.seat.id p.seat.me.0 p.live (ap (λ (v : View). v.number) c.look.ensures.looks.same
+      ∙ c.requires.root) (subst (λ (v : View). v.root.made < 2 ^ 32) (sym c.look.ensures.looks.same) c.requires.few),
+)
 
 pub invariant_of-self : goal.invariant_of-self
 invariant_of-self c =

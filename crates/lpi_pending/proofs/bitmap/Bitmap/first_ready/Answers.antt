@@ -9,7 +9,8 @@ returns-in-Some-first_in_group-clause-found g c =
     let i = c.self.inside in
     let next = next_group i.summary.items c.deref.result.now c.loop-skipped.at c.in-Some.skipped c.deref.ensures.value c.in-Some.ensures in
     rw (← c.self.view_is)
-    (found_first i.summary.items i.words.items c.deref-words.result.now c.args.config.now.bytes c.loop-skipped.at c.in-Some.skipped c.in-Some-first_in_group.first
+    (found_first i.summary.items i.words.items c.deref-words.result.now c.args.config.now.bytes c.loop-skipped.at c.in-Some.skipped
+    c.in-Some-first_in_group.first
     c.self.invariant c.deref-words.ensures.value next.0 next.1 c.loop-skipped.invariant.before c.in-Some-first_in_group.ensures.found)
 
 pub returns-in-Some-first_in_group-clause-cost : goal.returns-in-Some-first_in_group-clause-cost
@@ -18,8 +19,10 @@ returns-in-Some-first_in_group-clause-cost g c =
     let next = next_group i.summary.items c.deref.result.now c.loop-skipped.at c.in-Some.skipped c.deref.ensures.value c.in-Some.ensures in
     let used = c.index-used.ensures ∙ get_or_default i.summary.items (c.loop-skipped.at + c.in-Some.skipped) c.index-used.result.now 0 next.0 in
     rw (← c.self.view_is)
-    (cost_in_all i.summary.items i.words.items (c.loop-skipped.at + c.in-Some.skipped + 1) c.args.steps.now c.first_in_group.new.steps c.self.invariant (omega (arith, next.0))
-    (cost_so_far i.summary.items i.words.items c.loop-skipped.at c.in-Some.skipped c.index-used.result.now c.args.steps.now c.loop-skipped.steps c.first_in_group.new.steps
+    (cost_in_all i.summary.items i.words.items (c.loop-skipped.at + c.in-Some.skipped + 1) c.args.steps.now c.first_in_group.new.steps c.self.invariant
+    (omega (arith, next.0))
+    (cost_so_far i.summary.items i.words.items c.loop-skipped.at c.in-Some.skipped c.index-used.result.now c.args.steps.now c.loop-skipped.steps
+    c.first_in_group.new.steps
     c.self.invariant used c.loop-skipped.invariant.cost (omega (arith, c.first_in_group.ensures.cost, c.add.ensures))))
 
 pub loop-skipped-preserved : goal.loop-skipped-preserved
@@ -31,7 +34,8 @@ loop-skipped-preserved g c =
       within = omega (arith, next.0);
       before = none_so_far i.summary.items i.words.items c.deref-words.result.now c.args.config.now.bytes c.loop-skipped.at c.in-Some.skipped
           c.self.invariant c.deref-words.ensures.value next.1 c.loop-skipped.invariant.before c.in_default-first_in_group.ensures.found;
-      cost = cost_so_far i.summary.items i.words.items c.loop-skipped.at c.in-Some.skipped c.index-used.result.now c.args.steps.now c.loop-skipped.steps c.first_in_group.new.steps
+      cost = cost_so_far i.summary.items i.words.items c.loop-skipped.at c.in-Some.skipped c.index-used.result.now c.args.steps.now c.loop-skipped.steps
+          c.first_in_group.new.steps
           c.self.invariant used c.loop-skipped.invariant.cost (omega (arith, c.first_in_group.ensures.cost, c.add.ensures));
     }
 

@@ -13,7 +13,8 @@ invariant_of-to c =
     let moved' = rw (c.deref_mut-3.ensures.value, c.deref_mut-4.ensures.value) at c.move_words-2.ensures.words in
     let size = rw c.deref_mut-2.ensures.value at c.move_words.ensures.size in
     let size' = rw c.deref_mut-4.ensures.value at c.move_words-2.ensures.size in
-    rw (words, summary) (moved_summary to.summary.items to.words.items from.summary.items from.words.items c.move_words-2.new.to c.move_words.new.to c.to.invariant c.self.invariant moved' moved size' size)
+    rw (words, summary) (moved_summary to.summary.items to.words.items from.summary.items from.words.items c.move_words-2.new.to c.move_words.new.to
+    c.to.invariant c.self.invariant moved' moved size' size)
 
 pub returns-clause-bits : goal.returns-clause-bits
 returns-clause-bits c =

@@ -12,7 +12,8 @@ pub returns : goal.returns
 returns c =
     let words = c.self.inside.words.items in let from = c.args.from in let used = c.in-Some-next_used.used in
     let here : c.index.result.now ≡ get_or words (c.args.from / 64) 0 = c.index.ensures ∙ get_or_default words (from / 64) c.index.result.now 0 (omega arith) in
-    let none : NoneIn (bit_of (get_or words (c.args.from / 64) 0)) (c.args.from % 64) 64 = subst (λ (w : ℕ). NoneIn (bit_of w) (c.args.from % 64) 64) here c.in_default.ensures in
+    let none : NoneIn (bit_of (get_or words (c.args.from / 64) 0)) (c.args.from % 64) 64 = subst (λ (w : ℕ). NoneIn (bit_of w) (c.args.from % 64) 64) here
+    c.in_default.ensures in
     let first : IsFirstIn (is_used words) (c.args.from / 64 + 1) (length words) used =
     subst (λ (ws : List ℕ). IsFirstIn (is_used ws) (c.args.from / 64 + 1) (length ws) used) (sym c.self.view_is) c.in-Some-next_used.ensures
     in

@@ -10,8 +10,10 @@ use Rattle.lpi_pending.proofs.bitmap.Bitmap.next_used.Goals as goal
 pub returns-in_default-first_nonzero : goal.returns-in_default-first_nonzero
 returns-in_default-first_nonzero c =
     let i = c.self.inside in let from = c.args.from in
-    let here : c.index.result.now ≡ get_or i.summary.items (c.args.from / 64) 0 = c.index.ensures ∙ get_or_default i.summary.items (from / 64) c.index.result.now 0 (omega arith) in
-    let none : NoneIn (bit_of (get_or i.summary.items (c.args.from / 64) 0)) (c.args.from % 64) 64 = subst (λ (w : ℕ). NoneIn (bit_of w) (c.args.from % 64) 64) here c.in_default.ensures in
+    let here : c.index.result.now ≡ get_or i.summary.items (c.args.from / 64) 0 = c.index.ensures ∙ get_or_default i.summary.items
+    (from / 64) c.index.result.now 0 (omega arith) in
+    let none : NoneIn (bit_of (get_or i.summary.items (c.args.from / 64) 0)) (c.args.from % 64) 64 = subst (λ (w : ℕ). NoneIn (bit_of w) (c.args.from % 64) 64)
+    here c.in_default.ensures in
     rw (← c.self.view_is)
     (summary_none i.summary.items i.words.items from c.self.invariant
     (none_next i.summary.items from (length i.summary.items) none
@@ -20,10 +22,14 @@ returns-in_default-first_nonzero c =
 pub returns : goal.returns
 returns c =
     let i = c.self.inside in let from = c.args.from in let used : ℕ = c.args.from / 64 + 1 + c.in-Some-first_nonzero.skipped in
-    let here : c.index.result.now ≡ get_or i.summary.items (c.args.from / 64) 0 = c.index.ensures ∙ get_or_default i.summary.items (from / 64) c.index.result.now 0 (omega arith) in
-    let none : NoneIn (bit_of (get_or i.summary.items (c.args.from / 64) 0)) (c.args.from % 64) 64 = subst (λ (w : ℕ). NoneIn (bit_of w) (c.args.from % 64) 64) here c.in_default.ensures in
-    let first = used_word i.summary.items c.deref.result.now (from / 64 + 1) c.in-Some-first_nonzero.skipped c.deref.ensures.value (omega arith) c.in-Some-first_nonzero.ensures in
-    let word : c.index-2.result.now ≡ get_or i.summary.items used 0 = c.index-2.ensures ∙ get_or_default i.summary.items used c.index-2.result.now 0 first.below in
+    let here : c.index.result.now ≡ get_or i.summary.items (c.args.from / 64) 0 = c.index.ensures ∙ get_or_default i.summary.items
+    (from / 64) c.index.result.now 0 (omega arith) in
+    let none : NoneIn (bit_of (get_or i.summary.items (c.args.from / 64) 0)) (c.args.from % 64) 64 = subst (λ (w : ℕ). NoneIn (bit_of w) (c.args.from % 64) 64)
+    here c.in_default.ensures in
+    let first = used_word i.summary.items c.deref.result.now (from / 64 + 1) c.in-Some-first_nonzero.skipped c.deref.ensures.value
+    (omega arith) c.in-Some-first_nonzero.ensures in
+    let word : c.index-2.result.now ≡ get_or i.summary.items used 0 = c.index-2.ensures ∙ get_or_default i.summary.items used c.index-2.result.now 0
+    first.below in
     let fits : c.index-2.result.now < 2 ^ 64 = omega arith in
     rw (← c.self.view_is)
     (summary_first i.summary.items i.words.items from (64 * used + trailing_zeros w64 c.index-2.result.now) c.self.invariant

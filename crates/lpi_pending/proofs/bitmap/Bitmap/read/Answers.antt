@@ -11,7 +11,8 @@ unreachable-requires c =
     let first = c.args.first.0 in
     let words = length c.args.self.now in
     let here : c.loop-at.at < words = omega (arith, c.self.inside.words.ok.0, ap length c.self.view_is) in
-    let word : inside memory (first + 8 * c.loop-at.at) 8 ≡ true = inside_part memory first (8 * words) (first + 8 * c.loop-at.at) 8 (omega arith) (omega (arith, here)) c.requires.inside in
+    let word : inside memory (first + 8 * c.loop-at.at) 8 ≡ true = inside_part memory first (8 * words) (first + 8 * c.loop-at.at) 8 (omega arith)
+    (omega (arith, here)) c.requires.inside in
     c.in_default.not-Ok _ (read_answers _ _ _ c.read_u64.result (number_inside memory (first + 8 * c.loop-at.at) word) c.read_u64.ensures.number)
 
 pub loop-at-preserved : goal.loop-at-preserved

@@ -10,7 +10,8 @@ returns-in-Some-clause-found g c =
 
 pub returns-in-Some-clause-cost : goal.returns-in-Some-clause-cost
 returns-in-Some-clause-cost g c =
-    rw (← c.self.view_is) (cost_is c.self.inside.bitmap c.self.inside.lpi_bits c.args.steps.now c.first_ready.new.steps c.self.invariant.size c.first_ready.ensures.words c.first_ready.ensures.cost)
+    rw (← c.self.view_is) (cost_is c.self.inside.bitmap c.self.inside.lpi_bits c.args.steps.now c.first_ready.new.steps c.self.invariant.size
+    c.first_ready.ensures.words c.first_ready.ensures.cost)
 
 pub returns-in-None-clause-found : goal.returns-in-None-clause-found
 returns-in-None-clause-found g c =
@@ -18,4 +19,5 @@ returns-in-None-clause-found g c =
 
 pub returns-in-None-clause-cost : goal.returns-in-None-clause-cost
 returns-in-None-clause-cost g c =
-    rw (← c.self.view_is) (cost_is c.self.inside.bitmap c.self.inside.lpi_bits c.args.steps.now c.first_ready.new.steps c.self.invariant.size c.first_ready.ensures.words c.first_ready.ensures.cost)
+    rw (← c.self.view_is) (cost_is c.self.inside.bitmap c.self.inside.lpi_bits c.args.steps.now c.first_ready.new.steps c.self.invariant.size
+    c.first_ready.ensures.words c.first_ready.ensures.cost)

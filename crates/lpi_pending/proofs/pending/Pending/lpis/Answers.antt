@@ -7,7 +7,8 @@ loop-at-preserved c =
     let words = c.self.inside.bitmap in
     record {
       within = let lt = c.in-Some.ensures.below in omega arith;
-      are = pushed words c.loop-at.from (64 * length words) c.in-Some.at _ c.loop-at.lpis.items c.push.new.self.items c.in-Some.ensures (omega arith) c.in_ok-push.ensures.items c.loop-at.invariant.are;
+      are = pushed words c.loop-at.from (64 * length words) c.in-Some.at _ c.loop-at.lpis.items c.push.new.self.items c.in-Some.ensures
+          (omega arith) c.in_ok-push.ensures.items c.loop-at.invariant.are;
     }
 
 pub returns : goal.returns

@@ -27,4 +27,5 @@ returns-then-inside c =
     let size = table_size bits (length c.self.inside.bitmap) c.self.invariant.low c.self.invariant.high c.self.invariant.size in
     let there : inside memory base (pending_bytes bits) ≡ true = ap (inside memory base) (sym size.shifted) ∙ sym c.inside.ensures.inside ∙ c.if-inside.true in
     rw (← c.self.view_is, there)
-    (ap rebuilt (read_set bits memory base c.read.new.self (ap (λ n. 64 * n) c.read.ensures.size ∙ c.self.invariant.size) (λ k lt. c.read.ensures.bits k (omega (arith, lt, c.read.ensures.size)))))
+    (ap rebuilt (read_set bits memory base c.read.new.self (ap (λ n. 64 * n) c.read.ensures.size ∙ c.self.invariant.size)
+    (λ k lt. c.read.ensures.bits k (omega (arith, lt, c.read.ensures.size)))))

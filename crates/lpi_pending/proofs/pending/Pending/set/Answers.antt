@@ -13,4 +13,5 @@ returns c =
     in
     let rebuilt : List ℕ → PendingSet = λ lpis. record { lpi_bits = i.lpi_bits; lpis = lpis } in
     rw (← c.self.view_is)
-    (ap rebuilt (set_lpi i.bitmap c.put_word.new.self c.args.intid.0 _ _ _ c.with_bit.result place c.with_bit.ensures.same c.with_bit.ensures.others c.put_word.ensures))
+    (ap rebuilt (set_lpi i.bitmap c.put_word.new.self c.args.intid.0 _ _ _ c.with_bit.result place c.with_bit.ensures.same c.with_bit.ensures.others
+    c.put_word.ensures))

@@ -7,5 +7,6 @@ use Rattle.owned_machine.proofs.machine.Machine.pending.Goals as goal
 pub redist-redist-requires : goal.redist-redist-requires
 redist-redist-requires c =
     let i = c.self.inside in
-    let within : c.args.vcpu < length (state_of_parts i.parts).redistributors = subst (λ (u : Plain). c.args.vcpu < length u.redistributors) (sym c.self.view_is) c.requires in
+    let within : c.args.vcpu < length (state_of_parts i.parts).redistributors = subst (λ (u : Plain). c.args.vcpu < length u.redistributors)
+    (sym c.self.view_is) c.requires in
     held i.parts c.args.vcpu c.self.invariant (subst (λ (n : ℕ). c.args.vcpu < n) c.self.invariant.sound.vcpus within)

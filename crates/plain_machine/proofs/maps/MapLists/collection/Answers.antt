@@ -7,4 +7,5 @@ use Rattle.plain_machine.proofs.Entries.{got}
 use Rattle.plain_machine.proofs.maps.MapLists.collection.Goals as goal
 
 pub returns : goal.returns
-returns c = c.find.ensures ∙ ap (find nat_cmp c.args.icid.0) c.deref.ensures.value ∙ got nat_cmp nat_cmp_total nat_cmp-IsAntisymmetric c.self.inside.collections.items c.args.icid.0 c.self.invariant.collections ∙ ap (λ (m : Maps). collection_of m c.args.icid.0) c.self.view_is
+returns c = c.find.ensures ∙ ap (find nat_cmp c.args.icid.0) c.deref.ensures.value ∙ got nat_cmp nat_cmp_total nat_cmp-IsAntisymmetric
+    c.self.inside.collections.items c.args.icid.0 c.self.invariant.collections ∙ ap (λ (m : Maps). collection_of m c.args.icid.0) c.self.view_is

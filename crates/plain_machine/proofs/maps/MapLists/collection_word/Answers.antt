@@ -5,4 +5,5 @@ use Rattle.plain_machine.proofs.maps.MapLists.collection_word.Goals as goal
 
 pub returns : goal.returns
 unfolding collection_word
-returns c = rw (← c.self.view_is, listed_collections c.self.inside c.self.invariant) (c.collection_entry.ensures ∙ ap collection_entry (rw (← c.deref.ensures.value) c.collection_at.ensures))
+returns c = rw (← c.self.view_is, listed_collections c.self.inside c.self.invariant)
+    (c.collection_entry.ensures ∙ ap collection_entry (rw (← c.deref.ensures.value) c.collection_at.ensures))

@@ -7,4 +7,5 @@ use Rattle.plain_machine.proofs.Entries.{got}
 use Rattle.plain_machine.proofs.maps.MapLists.device.Goals as goal
 
 pub returns : goal.returns
-returns c = c.find.ensures ∙ ap (find nat_cmp c.args.dev.0) c.deref.ensures.value ∙ got nat_cmp nat_cmp_total nat_cmp-IsAntisymmetric c.self.inside.devices.items c.args.dev.0 c.self.invariant.devices ∙ ap (λ (m : Maps). device_of m c.args.dev.0) c.self.view_is
+returns c = c.find.ensures ∙ ap (find nat_cmp c.args.dev.0) c.deref.ensures.value ∙ got nat_cmp nat_cmp_total nat_cmp-IsAntisymmetric
+    c.self.inside.devices.items c.args.dev.0 c.self.invariant.devices ∙ ap (λ (m : Maps). device_of m c.args.dev.0) c.self.view_is

@@ -7,4 +7,11 @@ use Rattle.plain_machine.proofs.Entries.{none_is, pair_total, pair_exact}
 use Rattle.plain_machine.proofs.maps.MapLists.empty_devices.Goals as goal
 
 pub returns : goal.returns
-returns c = rw (← c.self.view_is, c.clear.ensures.items, c.clear-2.ensures.items, none_is nat_cmp nat_cmp_total nat_cmp-IsAntisymmetric, none_is pair_cmp pair_total pair_exact) refl
+returns c = rw (
+  ← c.self.view_is,
+  c.clear.ensures.items,
+  c.clear-2.ensures.items,
+  none_is nat_cmp nat_cmp_total nat_cmp-IsAntisymmetric,
+  none_is pair_cmp
+      pair_total pair_exact,
+) refl

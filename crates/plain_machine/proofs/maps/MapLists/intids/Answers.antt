@@ -11,4 +11,5 @@ entries_of m = entries m.events
 pub returns : goal.returns
 returns c =
     let same = c.deref.ensures.value ∙ sym (entries-from_sorted pair_cmp c.self.inside.events.items c.self.invariant.events) ∙ ap entries_of c.self.view_is in
-    subst (λ (x : List ℕ). IfOk c.intids.result (λ v. v.items ≡ x)) (ap (λ (es : List ((ℕ × ℕ) × Event)). map (λ e. e.1.intid.0) (filter (λ e. e.1.icid.0 == c.args.icid.0) es)) same) c.intids.ensures
+    subst (λ (x : List ℕ). IfOk c.intids.result (λ v. v.items ≡ x))
+    (ap (λ (es : List ((ℕ × ℕ) × Event)). map (λ e. e.1.intid.0) (filter (λ e. e.1.icid.0 == c.args.icid.0) es)) same) c.intids.ensures

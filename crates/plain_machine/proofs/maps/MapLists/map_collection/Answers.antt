@@ -9,8 +9,14 @@ pub invariant_of-self-2 : goal.invariant_of-self-2
 invariant_of-self-2 c = record {
   devices = c.self.invariant.devices;
   events = c.self.invariant.events;
-  collections = rw c.in_ok-put.ensures.ok (put_rises nat_cmp nat_cmp_total nat_cmp-IsAntisymmetric c.self.inside.collections.items c.args.icid.0 c.args.vcpu c.self.invariant.collections);
+  collections = rw c.in_ok-put.ensures.ok (put_rises nat_cmp nat_cmp_total nat_cmp-IsAntisymmetric c.self.inside.collections.items c.args.icid.0 c.args.vcpu
+      c.self.invariant.collections);
 }
 
 pub returns : goal.returns
-returns c = rw (← c.self.view_is, c.in_ok-put.ensures.ok, put_is nat_cmp nat_cmp_total nat_cmp-IsAntisymmetric c.self.inside.collections.items c.args.icid.0 c.args.vcpu c.self.invariant.collections) refl
+returns c = rw (
+  ← c.self.view_is,
+  c.in_ok-put.ensures.ok,
+  put_is nat_cmp nat_cmp_total nat_cmp-IsAntisymmetric c.self.inside.collections.items c.args.icid.0
+      c.args.vcpu c.self.invariant.collections,
+) refl

@@ -7,4 +7,12 @@ use Rattle.plain_machine.proofs.Entries.{none_is, pair_total, pair_exact}
 use Rattle.plain_machine.proofs.maps.MapLists.new.Goals as goal
 
 pub returns : goal.returns
-returns c = rw (c.new.ensures.items, c.new-2.ensures.items, c.new-3.ensures.items, none_is nat_cmp nat_cmp_total nat_cmp-IsAntisymmetric, none_is pair_cmp pair_total pair_exact, none_is nat_cmp nat_cmp_total nat_cmp-IsAntisymmetric) refl
+returns c = rw (
+  c.new.ensures.items,
+  c.new-2.ensures.items,
+  c.new-3.ensures.items,
+  none_is nat_cmp nat_cmp_total nat_cmp-IsAntisymmetric,
+  none_is pair_cmp
+      pair_total pair_exact,
+  none_is nat_cmp nat_cmp_total nat_cmp-IsAntisymmetric,
+) refl

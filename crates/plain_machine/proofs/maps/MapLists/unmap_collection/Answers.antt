@@ -10,8 +10,14 @@ pub invariant_of-self : goal.invariant_of-self
 invariant_of-self c = record {
   devices = c.self.invariant.devices;
   events = c.self.invariant.events;
-  collections = rw c.remove_collection.ensures (kept_rise nat_cmp nat_cmp_total nat_cmp-IsAntisymmetric c.self.inside.collections.items (λ k. not (k == c.args.icid.0)) c.self.invariant.collections);
+  collections = rw c.remove_collection.ensures (kept_rise nat_cmp nat_cmp_total nat_cmp-IsAntisymmetric c.self.inside.collections.items
+      (λ k. not (k == c.args.icid.0)) c.self.invariant.collections);
 }
 
 pub returns : goal.returns
-returns c = rw (← c.self.view_is, c.remove_collection.ensures, kept_is nat_cmp nat_cmp_total nat_cmp-IsAntisymmetric c.self.inside.collections.items (λ k. not (k == c.args.icid.0)) c.self.invariant.collections) refl
+returns c = rw (
+  ← c.self.view_is,
+  c.remove_collection.ensures,
+  kept_is nat_cmp nat_cmp_total nat_cmp-IsAntisymmetric c.self.inside.collections.items
+      (λ k. not (k == c.args.icid.0)) c.self.invariant.collections,
+) refl

@@ -10,7 +10,8 @@ overflow_sub-self c =
     let self = c.args.self.now in let i = c.args.thread in
     let at : Thread = c.index-threads-thread.result in
     let threads = c.threads.ensures in
-    let last = counted_last (threads_of self.phases.now) self.answered.items i c.index.result.now c.len-calls.result at c.requires.call.below c.requires.counted.answered
+    let last = counted_last (threads_of self.phases.now) self.answered.items i c.index.result.now c.len-calls.result at c.requires.call.below
+    c.requires.counted.answered
     (subst (λ (t : Phase). at ≡ get_or t i at) threads c.index-threads-thread.is) c.index.ensures c.len-calls.ensures c.if-answered-calls.true in
     omega (arith, last, c.requires.counted.open_is)
 
@@ -18,7 +19,8 @@ pub returns-then-answered-calls-clause-counted : goal.returns-then-answered-call
 returns-then-answered-calls-clause-counted c =
     let self = c.args.self.now in let i = c.args.thread in
     let at : Thread = c.index-threads-thread.result in
-    let last = counted_last (threads_of self.phases.now) self.answered.items i c.index.result.now c.len-calls.result at c.requires.call.below c.requires.counted.answered
+    let last = counted_last (threads_of self.phases.now) self.answered.items i c.index.result.now c.len-calls.result at c.requires.call.below
+    c.requires.counted.answered
     (subst (λ (t : Phase). at ≡ get_or t i at) c.threads.ensures c.index-threads-thread.is) c.index.ensures c.len-calls.ensures c.if-answered-calls.true in
     record {
       answered = length-set self.answered.items i (c.index.result.now + 1) ∙ c.requires.counted.answered;
@@ -30,8 +32,10 @@ pub returns-else-answered-calls-clause-counted : goal.returns-else-answered-call
 returns-else-answered-calls-clause-counted c =
     let self = c.args.self.now in let i = c.args.thread in
     let at : Thread = c.index-threads-thread.result in
-    let left = counted_left (threads_of self.phases.now) self.answered.items i c.index.result.now c.len-calls.result at c.requires.call.below c.requires.counted.answered
-    (subst (λ (t : Phase). at ≡ get_or t i at) c.threads.ensures c.index-threads-thread.is) c.index.ensures c.len-calls.ensures c.requires.call.left c.if-answered-calls.false in
+    let left = counted_left (threads_of self.phases.now) self.answered.items i c.index.result.now c.len-calls.result at c.requires.call.below
+    c.requires.counted.answered
+    (subst (λ (t : Phase). at ≡ get_or t i at) c.threads.ensures c.index-threads-thread.is) c.index.ensures c.len-calls.ensures c.requires.call.left
+    c.if-answered-calls.false in
     record {
       answered = length-set self.answered.items i (c.index.result.now + 1) ∙ c.requires.counted.answered;
       open_is = c.requires.counted.open_is ∙ sym left;

@@ -8,5 +8,6 @@ pub returns-clause-none : goal.returns-clause-none
 returns-clause-none c = λ i.
     elim (cases_lt i c.loop-thread.thread) [
       | inl lt ↦ c.loop-thread.invariant i lt
-      | inr le ↦ none_past (threads_of c.args.self.now.phases.now) c.args.self.now.answered.items i (omega (arith, le, c.loop-thread-test.false, ap length c.threads-thread-end.ensures))
+      | inr le ↦ none_past (threads_of c.args.self.now.phases.now) c.args.self.now.answered.items i
+          (omega (arith, le, c.loop-thread-test.false, ap length c.threads-thread-end.ensures))
     ]

@@ -7,7 +7,8 @@ use Rattle.xlate_cache.proofs.shard.Shard.drop_event.Goals as goal
 use Rattle.xlate_cache.proofs.shard.Shard.drop_event.Goals.{then-is_of, else-is_of}
 
 pub loop-way-init : goal.loop-way-init
-loop-way-init c = subst (λ way. IsPartlyDropped c.self.inside.ways.value c.self.inside.ways.value c.args.dev.0 c.args.ev.0 way) (sym c.first_way-first.ensures) (drop_begins c.self.inside.ways.value c.self.invariant c.args.dev.0 c.args.ev.0)
+loop-way-init c = subst (λ way. IsPartlyDropped c.self.inside.ways.value c.self.inside.ways.value c.args.dev.0 c.args.ev.0 way) (sym c.first_way-first.ensures)
+    (drop_begins c.self.inside.ways.value c.self.invariant c.args.dev.0 c.args.ev.0)
 
 pub loop-way-preserved : goal.loop-way-preserved
 loop-way-preserved c =
@@ -21,20 +22,25 @@ loop-way-preserved c =
       | then-is_of w ↦ subst (λ s. IsPartlyDropped old s.ways.value c.args.dev.0 c.args.ev.0 (c.loop-way.way + 1)) (sym w.self-inside-is)
           (subst (λ ways. IsPartlyDropped old (set ways c.loop-way.way None) c.args.dev.0 c.args.ev.0 (c.loop-way.way + 1)) (sym w.deref_mut.ensures.value)
           (drop_more old new c.args.dev.0 c.args.ev.0 c.loop-way.way part in_range (tested ∙ w.if-is_of.true)))
-      | else-is_of w ↦ subst (λ s. IsPartlyDropped old s.ways.value c.args.dev.0 c.args.ev.0 (c.loop-way.way + 1)) (sym w.self-inside-is) (keep_more old new c.args.dev.0 c.args.ev.0 c.loop-way.way part (tested ∙ w.if-is_of.false))
+      | else-is_of w ↦ subst (λ s. IsPartlyDropped old s.ways.value c.args.dev.0 c.args.ev.0 (c.loop-way.way + 1)) (sym w.self-inside-is)
+          (keep_more old new c.args.dev.0 c.args.ev.0 c.loop-way.way part (tested ∙ w.if-is_of.false))
     ]
 
 pub invariant_of-self : goal.invariant_of-self
 invariant_of-self c =
     let last : c.loop-way.way ≡ first_way c.args.dev.0 c.args.ev.0 + 4 = omega (arith, c.first_way-first.ensures) in
-    let part = subst (λ way. IsPartlyDropped c.self.inside.ways.value c.loop-way.self-inside.ways.value c.args.dev.0 c.args.ev.0 way) last c.loop-way.invariant in
-    subst IsShard (sym (drop_ends c.self.inside.ways.value c.loop-way.self-inside.ways.value c.self.invariant c.args.dev.0 c.args.ev.0 part)) (dropped_shard c.self.inside.ways.value c.args.dev.0 c.args.ev.0 c.self.invariant)
+    let part = subst (λ way. IsPartlyDropped c.self.inside.ways.value c.loop-way.self-inside.ways.value c.args.dev.0 c.args.ev.0 way) last
+    c.loop-way.invariant in
+    subst IsShard (sym (drop_ends c.self.inside.ways.value c.loop-way.self-inside.ways.value c.self.invariant c.args.dev.0 c.args.ev.0 part))
+    (dropped_shard c.self.inside.ways.value c.args.dev.0 c.args.ev.0 c.self.invariant)
 
 pub returns-clause-ways : goal.returns-clause-ways
 returns-clause-ways c =
     let last : c.loop-way.way ≡ first_way c.args.dev.0 c.args.ev.0 + 4 = omega (arith, c.first_way-first.ensures) in
-    let part = subst (λ way. IsPartlyDropped c.self.inside.ways.value c.loop-way.self-inside.ways.value c.args.dev.0 c.args.ev.0 way) last c.loop-way.invariant in
-    drop_ends c.self.inside.ways.value c.loop-way.self-inside.ways.value c.self.invariant c.args.dev.0 c.args.ev.0 part ∙ ap (λ ways. dropped ways c.args.dev.0 c.args.ev.0) c.self.view_is
+    let part = subst (λ way. IsPartlyDropped c.self.inside.ways.value c.loop-way.self-inside.ways.value c.args.dev.0 c.args.ev.0 way) last
+    c.loop-way.invariant in
+    drop_ends c.self.inside.ways.value c.loop-way.self-inside.ways.value c.self.invariant c.args.dev.0 c.args.ev.0 part
+    ∙ ap (λ ways. dropped ways c.args.dev.0 c.args.ev.0) c.self.view_is
 
 pub returns-clause-found : goal.returns-clause-found
 returns-clause-found c = drops c.args.self.now c.args.dev.0 c.args.ev.0
