@@ -1,11 +1,12 @@
 //! Measures the calls of the machine that threads share, and those of the machine of one caller.
 //!
-//! | Words | What it does |
-//! |---|---|
-//! | none | a few calls of each kind, and a few signals of real threads, of which each reply is checked |
-//! | `time COUNT [NAME]` | prints how many nanoseconds a call took, of each kind or of the one named |
-//! | `stress COUNT` | so many signals of two threads while a third rewrites the maps, of which each reply is checked |
-//! | `events COUNT`, `devices COUNT` | signals of the machine of one caller, for a clock outside: see play |
+//! - Without words: a few calls of each kind, and a few signals of real threads, of which each
+//!   reply is checked.
+//! - `time COUNT [NAME]` prints how many nanoseconds a call took, of each kind or of the one named.
+//! - `stress COUNT`: so many signals of two threads while a third rewrites the maps, of which each
+//!   reply is checked.
+//! - `events COUNT`, `devices COUNT`: signals of the machine of one caller, for a clock outside
+//!   (see play).
 #![tactic(auto)]
 
 mod actors;
