@@ -19,7 +19,7 @@ use Rattle.its_types.specs.declared.machine.Profile.TheVariants.{One, Two}
 use Rattle.its_plain.specs.Plain.{Plain, regs_of, maps_of, is_on, with_maps}
 use Rattle.its_plain.specs.Parts.{target_of_event}
 use Rattle.its_plain.specs.Commands as plain
-use Rattle.its_plain.specs.Commands.{◌>>=◌, event_at, intids_of, lpis_moved, followed_in, with_collection, with_event, reread, lpi_set, lpi_cleared}
+use Rattle.its_plain.specs.Commands.{◌>>=◌, event_at, intids_of, lpis_moved, followed_in, with_collection, reread, lpi_set, lpi_cleared}
 use Rattle.its_plain.specs.declared.call.Reason.{Reason}
 use Rattle.its_plain.specs.declared.call.Reason.TheVariants.{DeviceRange, SizeRange, TargetRange, CollectionRange, NoDevice, EventRange, IntidRange}
 use Rattle.its_plain.specs.declared.call.Reason.TheVariants.{NoCollection, LpisOff}
@@ -30,7 +30,7 @@ use Rattle.cmd_exec.specs.declared.effect.Effect.{Effect}
 use Rattle.cmd_exec.specs.declared.effect.Effect.TheVariants as effect
 use Rattle.cmd_exec.specs.InHand.{is_on_in}
 use Rattle.cmd_exec.specs.Effects as parts
-use Rattle.cmd_exec.specs.Effects.{targeted, moved, added}
+use Rattle.cmd_exec.specs.Effects.{targeted, moved}
 use Rattle.cmd_exec.specs.Needs.{AreNeededInHand}
 use Rattle.cmd_exec.specs.Ready.{IsTargetInHand, AreBothInHand, AreTargetsInHand}
 use Rattle.cmd_exec.proofs.Steps.{by, test_same, test_when, option_same, result_same, itself, by_itself, target_is}

@@ -1,12 +1,11 @@
 -- Signals by the cache and then by the maps, and again.
-use Rattle.std.proofs.Common.{◌≡◌, ◌≢◌, ◌⊎◌, ℕ, ◌+◌, ◌<◌, ◌≤◌, List, [], ◌∷◌, ◌++◌, length, Option, Some, None, Result, Ok, Err, refl, ap, sym, ◌∙◌, subst}
+use Rattle.std.proofs.Common.{◌≡◌, ◌≢◌, ◌⊎◌, ℕ, ◌+◌, ◌<◌, ◌≤◌, List, [], ◌∷◌, ◌++◌, length, None, refl, ap, sym, ◌∙◌, subst}
 use Rattle.std.proofs.Common.{arith, inl, inr, ⊎_elim, append_assoc, le_refl}
 use Rattle.std.specs.List.{AllByRecursion}
 use mathlib.Core.Logic.{dite}
 use native.Mathlib.Decide.{ℕ_discrete}
 use Rattle.its_types.specs.declared.ids.DeviceId.{DeviceId}
 use Rattle.its_types.specs.declared.ids.EventId.{EventId}
-use Rattle.its_types.specs.declared.ids.Target.{Target}
 use Rattle.its_types.specs.declared.ids.Vcpu.{Vcpu}
 use Rattle.its_types.specs.declared.machine.Part.{Part}
 use Rattle.its_types.specs.declared.machine.Part.TheVariants as part
@@ -17,15 +16,15 @@ use Rattle.its_plain.specs.declared.call.Signal.{Signal}
 use Rattle.its_steps.specs.Contents.{Looked}
 use Rattle.its_steps.specs.Parts.{Setup}
 use Rattle.its_steps.specs.World.{View, Tries, lost_to}
-use Rattle.its_turns.proofs.Telling.{stays_first, stays_again, placed_again}
-use Rattle.its_turns.specs.Calls.{Stays, IsPlaced, Leaves, got_all, WasBusy, WasRaced, WasSpent}
+use Rattle.its_turns.proofs.Telling.{stays_again, placed_again}
+use Rattle.its_turns.specs.Calls.{Stays, IsPlaced, got_all, WasBusy, WasRaced, WasSpent}
 use Rattle.its_turns.specs.Told.{IsLone}
 use Rattle.its_turns.specs.declared.attempts.Attempt.{Attempt}
 use Rattle.its_turns.specs.declared.attempts.Attempt.TheVariants as attempt
 use Rattle.its_turns.specs.declared.commits.Raced.{Raced}
 use Rattle.its_turns.specs.declared.turns.Busy.{Busy}
-use Rattle.device_port.specs.ByMaps.{EarlyIs, MapsGot, AsksMaps}
-use Rattle.device_port.specs.Signals.{signal, shard_of, IsOfSignal, Among, Finds, FindsLast, KeepsEarly, Sends, SignalGot, SignalsOnce, SignalAsks, Signals}
+use Rattle.device_port.specs.ByMaps.{MapsGot, AsksMaps}
+use Rattle.device_port.specs.Signals.{signal, shard_of, IsOfSignal, Among, Finds, FindsLast, KeepsEarly, Sends, SignalGot, SignalsOnce, SignalAsks}
 use Rattle.device_port.specs.Signals.{SignalsNow}
 use Rattle.device_port.specs.declared.hits.Now.TheVariants as now
 

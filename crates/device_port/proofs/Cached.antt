@@ -1,7 +1,6 @@
 -- Signals by the cache: from what each step tells to what the call says.
-use Rattle.std.proofs.Common.{◌≡◌, ◌⊎◌, ℕ, ◌+◌, ◌<◌, ◌≤◌, ◌==◌, ◌&&◌, Bool, true, false, cond, eqb, List, [], ◌∷◌, Option, Some, None, length, refl, ap, sym}
+use Rattle.std.proofs.Common.{◌≡◌, ℕ, ◌+◌, ◌<◌, ◌&&◌, true, cond, eqb, List, [], ◌∷◌, Option, Some, None, length, refl, ap, sym}
 use Rattle.std.proofs.Common.{◌∙◌, subst, inl, inr, arith, eq-eqb}
-use mathlib.Core.List.{IsPrefix}
 use Rattle.its_types.specs.Lpis.{with_lpi}
 use Rattle.its_types.specs.declared.ids.DeviceId.{DeviceId}
 use Rattle.its_types.specs.declared.ids.EventId.{EventId}
@@ -23,22 +22,22 @@ use Rattle.its_steps.proofs.Stamps.{one_has}
 use Rattle.its_steps.specs.MayCall.{MayCall}
 use Rattle.its_steps.specs.Renewal.{renewal}
 use Rattle.its_steps.specs.Calls.{staying, MayLeave}
-use Rattle.its_steps.specs.Contents.{Content, Shard, Redist, Held, Looked}
+use Rattle.its_steps.specs.Contents.{Shard, Redist, Held, Looked}
 use Rattle.its_steps.specs.Parts.{Setup, HasVcpus, translator_count, vcpu_count, stamp_of}
 use Rattle.its_steps.specs.World.{View, Tries, took, out, lost_to, looked_in}
 use Rattle.its_steps.specs.declared.change.ShardChange.TheVariants.{Keep}
 use Rattle.its_steps.specs.declared.commit.Commit.{Commit}
-use Rattle.its_turns.proofs.Telling.{looks_again, looked_held, goes_first, goes_looked, goes_took, goes_missed, goes_released, goes_emptied, stays_from}
+use Rattle.its_turns.proofs.Telling.{looked_held, goes_first, goes_looked, goes_took, goes_missed, goes_released, goes_emptied, stays_from}
 use Rattle.its_turns.proofs.Telling.{lone_on, makes_of, makes_from, made_emptied, placed_from, leaves_from}
 use Rattle.its_turns.specs.Contents.{held_before}
-use Rattle.its_turns.specs.Calls.{Stays, IsPlaced, Leaves, got_all, WasBusy, WasRaced, GoesOn}
-use Rattle.its_turns.specs.Steps.{IsBusy, IsRaced}
-use Rattle.its_turns.specs.Told.{Looks, IsLone, released, committed_by, Commits}
+use Rattle.its_turns.specs.Calls.{got_all, GoesOn}
+use Rattle.its_turns.specs.Steps.{IsBusy}
+use Rattle.its_turns.specs.Told.{Looks, IsLone, released, Commits}
 use Rattle.its_turns.specs.declared.commits.Raced.{Raced as Race}
 use Rattle.its_turns.specs.declared.turns.Busy.{Busy as Found}
 use Rattle.device_port.specs.Hands.{two_before}
 use Rattle.device_port.specs.Hits.{HitMade, HitRaced, HitsNow}
-use Rattle.device_port.specs.Signals.{signal, shard_of, Finds, FindsLast, SignalsNow, KeepsEarly}
+use Rattle.device_port.specs.Signals.{signal, shard_of, FindsLast, SignalsNow, KeepsEarly}
 use Rattle.device_port.specs.declared.hits.Now.{Now}
 use Rattle.device_port.specs.declared.hits.Now.TheVariants.{Done, Miss, Busy, Raced, Spent}
 

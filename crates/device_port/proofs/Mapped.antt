@@ -1,5 +1,5 @@
 -- Signals by the maps: from what each step tells to what the call says.
-use Rattle.std.proofs.Common.{◌≡◌, ◌⊎◌, ℕ, ◌<◌, true, List, [], ◌∷◌, Option, Some, None, Ok, length, refl, ap, sym, ◌∙◌, subst, arith, inl, inr}
+use Rattle.std.proofs.Common.{◌≡◌, ℕ, ◌<◌, true, List, [], Option, Some, Ok, ap, sym, ◌∙◌, arith}
 use Rattle.its_types.specs.Lpis.{with_lpi}
 use Rattle.its_types.specs.declared.ids.DeviceId.{DeviceId}
 use Rattle.its_types.specs.declared.ids.EventId.{EventId}
@@ -15,9 +15,9 @@ use Rattle.xlate_cache.specs.Ways.{entry, filled}
 use Rattle.xlate_cache.specs.declared.entry.Entry.{Entry as Translation}
 use Rattle.its_steps.proofs.Signals.{fills}
 use Rattle.its_steps.specs.Calls.{staying, MayLeave}
-use Rattle.its_steps.specs.Contents.{Held, Looked}
+use Rattle.its_steps.specs.Contents.{Held}
 use Rattle.its_steps.specs.MayCall.{MayCall}
-use Rattle.its_steps.specs.Parts.{Setup, HasVcpus, translator_count, vcpu_count, stamp_of}
+use Rattle.its_steps.specs.Parts.{Setup, HasVcpus, translator_count, vcpu_count}
 use Rattle.its_steps.specs.World.{View, looked_in}
 use Rattle.its_steps.specs.declared.change.ShardChange.TheVariants.{Fill}
 use Rattle.its_turns.proofs.Telling.{may_here, owes_here}

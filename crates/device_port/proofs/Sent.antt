@@ -1,5 +1,5 @@
 -- Signals by the maps, from the first turn on.
-use Rattle.std.proofs.Common.{◌≡◌, ◌⊎◌, ℕ, ◌+◌, ◌<◌, List, [], ◌∷◌, length, refl, ap, sym, ◌∙◌, subst, inl, inr}
+use Rattle.std.proofs.Common.{◌≡◌, ℕ, ◌<◌, List, [], ◌∷◌, length, refl, ap, sym, ◌∙◌, subst, inl}
 use Rattle.std.specs.List.{AllByRecursion}
 use Rattle.its_types.specs.declared.ids.DeviceId.{DeviceId}
 use Rattle.its_types.specs.declared.ids.EventId.{EventId}
@@ -12,25 +12,23 @@ use Rattle.its_plain.specs.declared.call.Reply.TheVariants as reply
 use Rattle.its_plain.specs.declared.call.Signal.{Signal}
 use Rattle.its_steps.specs.Calls.{staying}
 use Rattle.its_steps.specs.Contents.{Content, Held}
-use Rattle.its_steps.specs.Parts.{Setup}
 use Rattle.its_steps.specs.World.{View, Tries, took, out, lost_to}
 use Rattle.its_steps.specs.declared.change.ShardChange.{ShardChange}
 use Rattle.its_steps.specs.declared.commit.Commit.{Commit}
-use Rattle.its_turns.proofs.Telling.{looked_held, lost_held, goes_first, goes_looked, goes_took, goes_missed, goes_released, goes_emptied, stays_from, lone_on}
+use Rattle.its_turns.proofs.Telling.{goes_first, goes_looked, goes_took, goes_missed, goes_emptied, stays_from, lone_on}
 use Rattle.its_turns.proofs.Telling.{makes_from, made_emptied, placed_from, leaves_from}
-use Rattle.its_turns.specs.Calls.{IsPlaced, Leaves, got_all, WasBusy, WasRaced, WasSpent, GoesOn, IsLost}
+use Rattle.its_turns.specs.Calls.{Leaves, got_all, GoesOn}
 use Rattle.its_turns.specs.Contents.{held_before}
 use Rattle.its_turns.specs.Steps.{IsBusy}
-use Rattle.its_turns.specs.Told.{IsLone, released}
+use Rattle.its_turns.specs.Told.{released}
 use Rattle.its_turns.specs.declared.attempts.Attempt.{Attempt}
 use Rattle.its_turns.specs.declared.attempts.Attempt.TheVariants as attempt
-use Rattle.its_turns.specs.declared.attempts.Lost.{Lost}
 use Rattle.its_turns.specs.declared.attempts.Lost.TheVariants as lost
 use Rattle.its_turns.specs.declared.commits.Raced.{Raced}
 use Rattle.its_turns.specs.declared.turns.Busy.{Busy}
 use Rattle.device_port.specs.ByMaps.{EarlyIs, MapsGot, AsksMaps}
 use Rattle.device_port.specs.Finishes.{MadeAt, LostFor, Finishes}
-use Rattle.device_port.specs.Signals.{signal, shard_of, IsOfSignal, Among, Sends}
+use Rattle.device_port.specs.Signals.{signal, IsOfSignal, Among, Sends}
 
 module _ (dev : DeviceId) (ev : EventId) (v : View) (bare : v.held ≡ []) where
   -- the maps' turn is another's

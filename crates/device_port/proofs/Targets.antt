@@ -1,5 +1,5 @@
 -- Where translations of a sound machine lead: to a processor and an LPI that it has.
-use Rattle.std.proofs.Common.{◌≡◌, ℕ, ◌<◌, Bool, true, false, Option, Some, None, Result, Ok, Err, IfOk, List, refl, sym, subst}
+use Rattle.std.proofs.Common.{◌≡◌, ℕ, ◌<◌, Bool, true, false, Option, Some, None, Result, Ok, IfOk, List, refl, sym, subst}
 use Rattle.std.specs.Prelude.{ok_or, slice_get}
 use Rattle.its_types.specs.Maps.{device_of, event_of, collection_of}
 use Rattle.its_types.specs.Ranges.{is_lpi}
@@ -17,7 +17,7 @@ use Rattle.xlate_cache.specs.Ways.{found, entry}
 use Rattle.xlate_cache.specs.declared.entry.Entry.{Entry as Translation}
 use Rattle.its_steps.proofs.Found.{found_at}
 use Rattle.its_steps.specs.Contents.{Maps, Shard}
-use Rattle.its_steps.specs.Parts.{Setup, vcpu_count}
+use Rattle.its_steps.specs.Parts.{Setup}
 use Rattle.its_turns.specs.Told.{HasStood}
 
 pub record IsTarget (s : Shape) (t : Target) : Type 0 where

@@ -1,18 +1,16 @@
 -- What the last steps of a signal by the cache come to: from the commit on.
-use Rattle.std.specs.Prelude.{◌≡◌, Some, Option, List, []}
+use Rattle.std.specs.Prelude.{◌≡◌, Option, List, []}
 use Rattle.its_types.specs.declared.ids.DeviceId.{DeviceId}
 use Rattle.its_types.specs.declared.ids.EventId.{EventId}
 use Rattle.its_types.specs.declared.ids.Target.{Target}
-use Rattle.its_types.specs.declared.machine.Part.TheVariants as part
 use Rattle.its_types.specs.declared.machine.Word.{Word}
 use Rattle.its_plain.specs.declared.call.Reply.TheVariants as reply
 use Rattle.its_plain.specs.declared.call.Signal.TheVariants.{Delivered}
 use Rattle.xlate_cache.specs.Pairs.{shard_number}
 use Rattle.xlate_cache.specs.declared.entry.Entry.{Entry as Translation}
 use Rattle.its_steps.specs.Calls.{staying}
-use Rattle.its_steps.specs.Contents.{Shard, Redist}
 use Rattle.its_plain.specs.Plain.{Redistributor}
-use Rattle.its_steps.specs.World.{View, out}
+use Rattle.its_steps.specs.World.{View}
 use Rattle.its_steps.specs.declared.change.ShardChange.TheVariants.{Keep}
 use Rattle.its_turns.specs.Steps.{IsRaced}
 use Rattle.its_turns.specs.Told.{Commits}

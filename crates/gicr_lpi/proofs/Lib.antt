@@ -1,3 +1,2 @@
 pub mod Alone
 pub mod Asked
-pub mod Described

@@ -6,19 +6,12 @@ use Rattle.its_types.specs.declared.ids.Vcpu.{Vcpu}
 use Rattle.its_types.specs.declared.machine.Part.{Part}
 use Rattle.its_types.specs.declared.machine.Part.TheVariants as part
 use Rattle.its_types.specs.declared.machine.Shape.{Shape}
-use Rattle.its_plain.specs.Machine.{layout_of}
 use Rattle.its_plain.specs.Plain.{Redistributor}
 use Rattle.its_plain.specs.declared.call.Call.{Call}
 use Rattle.its_plain.specs.declared.call.Call.TheVariants as call
 use Rattle.its_steps.specs.Contents.{Held, Mem, Redist}
 use Rattle.its_steps.specs.World.{out}
-use Rattle.its_turns.specs.Machines.{setup}
-use Rattle.its_turns.specs.declared.machine.Machine.{Machine}
 use Rattle.gicr_lpi.specs.declared.access.GicrAccess.{GicrAccess}
-
--- The machine has the layout of its description. So has each machine that was made of the parts of its description
-abbrev pub HasItsLayout : Machine → Type 0
-HasItsLayout m = layout_of m.desc ≡ (setup m).start.layout
 
 -- what a read gives
 abbrev pub read_by : Bool → Redistributor → ℕ → ℕ → ℕ

@@ -6,7 +6,6 @@ ghost use Rattle.its_plain.specs.declared.call.Reply.TheVariants as reply;
 ghost use Rattle.its_steps.specs.Parts.{vcpu_count};
 ghost use Rattle.its_turns.specs.Calls.{TriesPart, AsksPart};
 ghost use Rattle.its_turns.specs.Machines.{setup, view, IsOf};
-ghost use Rattle.gicr_lpi.specs.Accesses.{HasItsLayout};
 
 use crate::access::read_from;
 use its_plain::{Call, Reply};
@@ -28,7 +27,6 @@ pub fn try_read_gicr<G: Gate>(
     size: u8,
 ) -> Attempt<u64>
     requires of { IsOf machine.now pass.old }
-    requires layout { HasItsLayout machine.now }
     requires free { (view pass.old).held ≡ [] }
     requires vcpu { vcpu.0 < vcpu_count (setup machine.now) }
     ensures of { IsOf machine.now pass.new }
@@ -82,7 +80,6 @@ pub fn read_gicr<R: Wait, G: Gate>(
     size: u8,
 ) -> Result<Placed<u64>, Spent>
     requires of { IsOf machine.now pass.old }
-    requires layout { HasItsLayout machine.now }
     requires free { (view pass.old).held ≡ [] }
     requires vcpu { vcpu.0 < vcpu_count (setup machine.now) }
     ensures of { IsOf machine.now pass.new }

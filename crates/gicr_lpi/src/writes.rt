@@ -4,7 +4,7 @@ ghost use Rattle.its_plain.specs.declared.call.Call.TheVariants as call;
 ghost use Rattle.its_plain.specs.declared.call.Reply.TheVariants as reply;
 ghost use Rattle.its_steps.specs.Parts.{vcpu_count};
 ghost use Rattle.its_turns.specs.Machines.{setup, view, IsOf};
-ghost use Rattle.gicr_lpi.specs.Accesses.{HasItsLayout, IsOfWrite, write_call};
+ghost use Rattle.gicr_lpi.specs.Accesses.{IsOfWrite, write_call};
 ghost use Rattle.gicr_lpi.specs.Asking.{AsksOnce, AsksParts};
 
 use crate::access::GicrAccess;
@@ -34,7 +34,6 @@ pub fn write_gicr<R: Wait, G: Gate>(
     value: u64,
 ) -> Result<Placed<()>, Spent>
     requires of { IsOf machine.now pass.old }
-    requires layout { HasItsLayout machine.now }
     requires free { (view pass.old).held ≡ [] }
     requires vcpu { vcpu.0 < vcpu_count (setup machine.now) }
     ensures of { IsOf machine.now pass.new }
@@ -66,7 +65,6 @@ fn write_once<R: Wait, G: Gate>(
     access: GicrAccess,
 ) -> Result<Placed<()>, Lost>
     requires of { IsOf machine.now pass.old }
-    requires layout { HasItsLayout machine.now }
     requires free { (view pass.old).held ≡ [] }
     requires vcpu { access.vcpu.0 < vcpu_count (setup machine.now) }
     ensures of { IsOf machine.now pass.new }

@@ -2,7 +2,6 @@
 ghost use Rattle.std.specs.Prelude.{◌≡◌, ◌+◌, ◌^◌, ◌<◌, IfOk};
 ghost use Rattle.its_plain.specs.Machine.{IsDescription};
 ghost use Rattle.its_turns.specs.Machines.{view};
-ghost use Rattle.its_migrate.specs.Resting.{HasItsLayout};
 ghost use Rattle.its_bench.specs.Ready.{IsReady, IsRoot};
 
 use its_plain::{Desc, Fill, LpiTables};
@@ -66,7 +65,6 @@ pub fn shared(alloc: Global, stamp_last: u32) -> Result<(Machine, Root), AllocEr
     requires { stamp_last < 2 ^ 24 }
     ensures root { IfOk result (λ made. IsRoot made.0 made.1) }
     ensures made { IfOk result (λ made. (view made.1).root.made ≡ 1) }
-    ensures layout { IfOk result (λ made. HasItsLayout made.0) }
 {
     let desc = desc(alloc, stamp_last)?;
     let Ok(owned) = Owned::new(alloc, &desc) else {

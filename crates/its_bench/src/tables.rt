@@ -1,6 +1,5 @@
 //! A device with many events: signals by the maps, acknowledgements, steps, saves, migrations.
 ghost use Rattle.std.specs.Prelude.{◌≤◌, IfOk};
-ghost use Rattle.its_migrate.specs.Resting.{HasItsLayout};
 ghost use Rattle.its_bench.specs.Ready.{IsReady, IsRoot};
 
 use crate::actors::make_all;
@@ -40,7 +39,6 @@ fn with_device<R: Wait>(
     requires least { 1 ≤ bits }
     requires most { bits ≤ 16 }
     ensures root { IfOk result (λ m. IsRoot m.0 m.1) }
-    ensures layout { IfOk result (λ m. HasItsLayout m.0) }
     ensures pass { IfOk result (λ m. IsReady m.0 m.2) }
 {
     let (machine, mut root) = shared(alloc, 16_777_215)?;
@@ -119,7 +117,6 @@ fn with_events<R: Clock + Wait>(
     requires least { 1 ≤ bits }
     requires most { bits ≤ 16 }
     ensures root { IfOk result (λ m. IsRoot m.0 m.1) }
-    ensures layout { IfOk result (λ m. HasItsLayout m.0) }
     ensures pass { IfOk result (λ m. IsReady m.0 m.2) }
 {
     let (machine, root, mut pass, mut queue) = with_device(rt, alloc, bits)?;
@@ -154,7 +151,6 @@ pub fn time_saves<R: Clock + Wait>(rt: &R, alloc: Global, bits: u8, count: u32) 
 // So many saves. Answers how many were made.
 fn saves<R: Wait>(rt: &R, alloc: Global, machine: &Machine, pass: &mut Pass, count: u32) -> u64
     requires ready { IsReady machine.now pass.old }
-    requires layout { HasItsLayout machine.now }
     ensures { IsReady machine.now pass.new }
 {
     let mut saved = 0u64;
@@ -191,7 +187,6 @@ fn join(machine: &Machine, root: &mut Root, pass: Pass)
 // How many migrations were made: one or none.
 fn migrated(alloc: Global, machine: Machine, root: Root) -> u64
     requires root { IsRoot machine root }
-    requires layout { HasItsLayout machine }
 {
     if root.out() != 0 {
         return 0;

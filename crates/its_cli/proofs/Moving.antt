@@ -9,19 +9,20 @@ use Rattle.its_plain.specs.Saved.{moved, IsSavable}
 use Rattle.its_plain.specs.declared.desc.Desc.{Desc}
 use Rattle.its_plain.specs.declared.layout.Layout.{Layout}
 use Rattle.its_history.specs.declared.trace.End.TheVariants.{Migrated}
-use Rattle.its_migrate.specs.Resting.{HasItsLayout, WentOn, resting}
+use Rattle.its_migrate.specs.Resting.{WentOn, resting}
 use Rattle.its_turns.specs.Machines.{setup}
 use Rattle.its_turns.specs.declared.machine.Machine.{Machine}
 use Rattle.its_turns.specs.declared.machine.Pass.{Pass}
+use Rattle.its_turns.proofs.Described.{its_layout}
 use Rattle.its_cli.specs.Answered.{GoesOnWith, IsLegWhole, IsLegMigrated}
 
 module _ (m n : Machine) (r s : Pass) (went : WentOn m r n s) where
-  pub goes_on_with : HasItsLayout m → GoesOnWith (setup m) (record { machine = n; root = s })
-  goes_on_with layout = record {
-    fresh = record { of = went.of; layout = went.layout; view = went.view };
+  pub goes_on_with : GoesOnWith (setup m) (record { machine = n; root = s })
+  goes_on_with = record {
+    fresh = record { of = went.of; view = went.view };
     limits = went.limits;
-    vcpus = sym (ap (λ (l : Layout). l.shape.vcpus) went.layout) ∙ (ap (λ (d : Desc). (layout_of d).shape.vcpus) went.desc
-        ∙ ap (λ (l : Layout). l.shape.vcpus) layout);
+    vcpus = sym (ap (λ (l : Layout). l.shape.vcpus) (its_layout n)) ∙ (ap (λ (d : Desc). (layout_of d).shape.vcpus) went.desc
+        ∙ ap (λ (l : Layout). l.shape.vcpus) (its_layout m));
   }
 
   pub is_migrated : (leg : Leg) (number : ℕ) (old new : List ℕ) (w : IsLegWhole (setup m).limits.place_last (setup m).start leg number (Some Migrated) old new)

@@ -13,7 +13,6 @@ use Rattle.its_turns.specs.Machines.{setup, view, IsOf}
 use Rattle.its_turns.specs.Told.{IsLone}
 use Rattle.its_turns.specs.declared.machine.Machine.{Machine}
 use Rattle.its_turns.specs.declared.machine.Pass.{Pass}
-use Rattle.its_migrate.specs.Resting.{HasItsLayout}
 use Rattle.script_threads.specs.Legs.{call_count}
 use Rattle.its_history.specs.Reports.{thread_counts}
 use Rattle.its_cli.specs.declared.legs.Shared.{Shared}
@@ -21,7 +20,6 @@ use Rattle.its_cli.specs.declared.legs.Shared.{Shared}
 -- a machine with its root, and no call was made
 pub record IsFresh (m : Machine) (r : Pass) : Type 0 where
   pub of : IsOf m r
-  pub layout : HasItsLayout m
   pub view : view r ≡ first_view (setup m)
 
 -- a script, and a machine of its description that no call was made on

@@ -1,5 +1,5 @@
 -- A machine that was just made of the parts that a description tells.
-use Rattle.std.proofs.Common.{◌≡◌, List, map, Option, Some, None, Result, Ok, Err, refl, sym, ap, ◌∙◌, subst, arith}
+use Rattle.std.proofs.Common.{◌≡◌, List, map, Option, Some, None, Result, Ok, Err, refl, ap, ◌∙◌, subst, arith}
 use Rattle.std.specs.Prelude.{IfOk}
 use Rattle.guest_windows.specs.Windows.{are_windows, zeros}
 use Rattle.guest_windows.specs.Fields.{pairs}
@@ -11,14 +11,9 @@ use Rattle.its_plain.specs.Plain.{Plain}
 use Rattle.its_plain.specs.declared.desc.Desc.{Desc}
 use Rattle.its_plain.specs.declared.desc.DescFault.{DescFault}
 use Rattle.its_plain.specs.declared.desc.DescFault.TheVariants.{Windows}
-use Rattle.owned_parts.specs.declared.parts.Parts.{Parts}
 use Rattle.its_steps.specs.Parts.{Setup}
 use Rattle.its_steps.specs.World.{first_view}
-use Rattle.its_turns.specs.Machines.{setup}
-use Rattle.its_turns.specs.Opening.{setup_from, kept_of}
 use Rattle.its_turns.specs.Told.{IsLone}
-use Rattle.its_turns.specs.declared.machine.Machine.{Machine}
-use Rattle.its_migrate.specs.Resting.{HasItsLayout}
 
 -- ---- first states have the layout that their descriptions tell
 
@@ -46,9 +41,6 @@ first_layout d u first = starts_layout d.restore (restored_bases d) first.base u
     (λ (r : Result Plain DescFault). IfOk r (HasLayoutOf d)) first.made_is (made_layout d)
 
 -- ---- machines
-
-pub fresh_layout : (m : Machine) (d : Desc) (p : Parts) → p.layout ≡ layout_of d → setup m ≡ setup_from d p → m.desc ≡ kept_of d → HasItsLayout m
-fresh_layout m d p layout made desc = ap (λ (x : Desc). layout_of x) desc ∙ (sym layout ∙ ap (λ (s : Setup). s.start.layout) (sym made))
 
 pub first_lone : (s : Setup) → IsLone (first_view s)
 first_lone s = (refl, λ n low high. absurd (omega (arith, low, high)))

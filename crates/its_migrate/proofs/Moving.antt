@@ -2,7 +2,6 @@
 use Rattle.std.proofs.Common.{◌≡◌, Result, Ok, Err, refl, ap, sym, ◌∙◌, subst}
 use Rattle.std.specs.Prelude.{IfOk}
 use Rattle.its_plain.specs.History.{after}
-use Rattle.its_plain.specs.Machine.{layout_of}
 use Rattle.its_plain.specs.Plain.{Plain}
 use Rattle.its_plain.specs.Saved.{moved}
 use Rattle.its_plain.specs.declared.desc.Desc.{Desc}
@@ -19,7 +18,7 @@ use Rattle.its_turns.specs.Machines.{setup, view, IsOf}
 use Rattle.its_turns.specs.Opening.{setup_from, kept_of}
 use Rattle.its_turns.specs.declared.machine.Machine.{Machine}
 use Rattle.its_turns.specs.declared.machine.Pass.{Pass}
-use Rattle.its_migrate.specs.Resting.{HasItsLayout, WentOn, resting}
+use Rattle.its_migrate.specs.Resting.{WentOn, resting}
 use Rattle.its_migrate.specs.Wholes.{HasTaken, parts_of}
 use Rattle.its_migrate.specs.declared.whole.Whole.{Whole}
 use Rattle.its_migrate.proofs.Hands.{machine_is}
@@ -50,7 +49,7 @@ module _ (s : Setup) (v w : View) (x : Whole) (taken : HasTaken s v x w) (l : La
 
 -- ---- the new machine
 
-module _ (m n : Machine) (r q : Pass) (p : Parts) (layout : HasItsLayout m) (own : p.layout ≡ (setup m).start.layout) (are : AreMoved (resting m r) (Ok p))
+module _ (m n : Machine) (r q : Pass) (p : Parts) (own : p.layout ≡ (setup m).start.layout) (are : AreMoved (resting m r) (Ok p))
     (of : IsOf n q) (made : setup n ≡ setup_from m.desc p) (desc : n.desc ≡ kept_of m.desc)
     (fresh : view q ≡ first_view (setup n)) where
   same_desc : n.desc ≡ m.desc
@@ -67,6 +66,5 @@ module _ (m n : Machine) (r q : Pass) (p : Parts) (layout : HasItsLayout m) (own
     limits = ap (λ (s : Setup). s.limits) made ∙ ap (λ (d : Desc). d.limits) m.described;
     shards = ap (λ (s : Setup). s.shards) made ∙ ap (λ (d : Desc). d.shards) m.described;
     desc = same_desc;
-    layout = ap (λ (d : Desc). layout_of d) same_desc ∙ (layout ∙ (sym own ∙ sym (ap (λ (u : Plain). u.layout) same_start)));
     view = fresh;
   }

@@ -1,7 +1,6 @@
 -- A machine at rest, which the root has alone, and what a migration comes to (KVM document arm-vgic-its, "ITS Restore Sequence").
 use Rattle.std.specs.Prelude.{◌≡◌, ℕ, List, map, Result, Ok, Err}
 use Rattle.its_plain.specs.History.{after}
-use Rattle.its_plain.specs.Machine.{layout_of}
 use Rattle.its_plain.specs.Plain.{Plain, Redistributor}
 use Rattle.its_plain.specs.Regions.{savable}
 use Rattle.its_plain.specs.Saved.{moved}
@@ -11,10 +10,6 @@ use Rattle.its_steps.specs.World.{View, first_view}
 use Rattle.its_turns.specs.Machines.{setup, view, IsOf}
 use Rattle.its_turns.specs.declared.machine.Machine.{Machine}
 use Rattle.its_turns.specs.declared.machine.Pass.{Pass}
-
--- the layout that the machine's description tells is that of its first state
-abbrev pub HasItsLayout : Machine → Type 0
-HasItsLayout m = layout_of m.desc ≡ (setup m).start.layout
 
 -- the state that the history leaves which the root has seen
 abbrev pub resting : Machine → Pass → Plain
@@ -38,7 +33,6 @@ pub record WentOn (m : Machine) (r : Pass) (n : Machine) (s : Pass) : Type 0 whe
   pub limits : (setup n).limits ≡ (setup m).limits
   pub shards : (setup n).shards ≡ (setup m).shards
   pub desc : n.desc ≡ m.desc
-  pub layout : HasItsLayout n
   pub view : view s ≡ first_view (setup n)
 
 -- why none does

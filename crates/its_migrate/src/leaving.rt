@@ -4,7 +4,7 @@ ghost use Rattle.std.specs.Prelude.{◌≡◌, [], IfOk};
 ghost use Rattle.owned_machine.specs.Migrations.{AreMoved};
 ghost use Rattle.its_turns.specs.Machines.{setup, view, IsOf};
 ghost use Rattle.its_turns.specs.Told.{IsLone};
-ghost use Rattle.its_migrate.specs.Resting.{HasItsLayout, Migrates, Rests, resting};
+ghost use Rattle.its_migrate.specs.Resting.{Migrates, Rests, resting};
 
 use crate::getting::AtRest;
 use crate::whole::{put_all, take_all};
@@ -31,7 +31,6 @@ pub fn migrate(
     root: Root,
 ) -> Result<(Machine, Root), (Machine, Root, SaveError)>
     requires of { IsOf machine root }
-    requires layout { HasItsLayout machine }
     requires lone { IsLone (view root) }
     requires free { (view root).held ≡ [] }
     ensures { Migrates machine root result }
@@ -50,7 +49,6 @@ pub fn migrate(
 // The parts of the machine to go on with.
 fn moved_parts(alloc: Global, machine: &Machine, root: &mut Root) -> Result<Parts, SaveError>
     requires of { IsOf machine.now root.old }
-    requires layout { HasItsLayout machine.now }
     requires lone { IsLone (view root.old) }
     requires free { (view root.old).held ≡ [] }
     ensures of { IsOf machine.now root.new }

@@ -6,7 +6,6 @@ ghost use Rattle.its_plain.specs.Regions as regions;
 ghost use Rattle.its_plain.specs.Sound.{IsSound};
 ghost use Rattle.owned_parts.specs.Owned.{AreAllInHand, state_of_parts};
 ghost use Rattle.its_turns.specs.Machines.{view, IsOf};
-ghost use Rattle.its_migrate.specs.Resting.{HasItsLayout};
 ghost use Rattle.its_migrate.specs.Saving.{IsSaved, IsTried, unmade_by};
 ghost use Rattle.its_migrate.specs.Wholes.{parts_of};
 
@@ -65,7 +64,6 @@ pub fn save<R: Wait, G: Gate>(
     gate: &G,
 ) -> Result<Placed<Result<(), SaveFault>>, NoSave>
     requires of { IsOf machine.now pass.old }
-    requires layout { HasItsLayout machine.now }
     requires free { (view pass.old).held ≡ [] }
     ensures of { IsOf machine.now pass.new }
     ensures answer { IsSaved (view pass.old) result (view pass.new) }
@@ -89,7 +87,6 @@ fn save_once<R: Wait, G: Gate>(
     gate: &G,
 ) -> Result<Placed<Result<(), SaveFault>>, Unmade>
     requires of { IsOf machine.now pass.old }
-    requires layout { HasItsLayout machine.now }
     requires free { (view pass.old).held ≡ [] }
     ensures of { IsOf machine.now pass.new }
     ensures answer { IsTried (view pass.old) result (view pass.new) }

@@ -21,16 +21,13 @@ use Rattle.its_types.specs.declared.ids.Target.{Target}
 use Rattle.its_types.specs.declared.ids.Vcpu.{Vcpu}
 use Rattle.its_types.specs.declared.machine.Part.{Part}
 use Rattle.its_types.specs.declared.machine.Part.TheVariants as part
-use Rattle.its_types.specs.declared.machine.Word.{Word}
-use Rattle.its_plain.specs.declared.call.Call.{Call}
 use Rattle.its_plain.specs.declared.call.Call.TheVariants as call
-use Rattle.its_plain.specs.declared.call.Reply.{Reply}
 use Rattle.its_plain.specs.declared.call.Reply.TheVariants as reply
 use Rattle.its_plain.specs.declared.call.Signal.TheVariants.{Delivered}
 use Rattle.xlate_cache.specs.Pairs.{shard_number}
 use Rattle.xlate_cache.specs.Ways.{is_of, found}
 use Rattle.xlate_cache.specs.declared.entry.Entry.{Entry as Translation}
-use Rattle.its_steps.specs.Contents.{Content, Maps, Mem, Shard, Redist, Held}
+use Rattle.its_steps.specs.Contents.{Content, Shard, Redist, Held}
 use Rattle.its_steps.specs.Good.{Holds}
 use Rattle.its_player.specs.Held.{same_part, holds, owes_such, is_target, finds, lacks, all_out, covers}
 use Rattle.its_steps.specs.MayCall.{Owes, IsHit, IsWithout}

@@ -11,7 +11,7 @@ use Rattle.its_steps.specs.Contents as steps
 use Rattle.its_steps.specs.Good.{AreWide}
 use Rattle.its_steps.specs.Parts.{Setup, Stands, index_of}
 use Rattle.its_steps.specs.Steps.{Core, Moves}
-use Rattle.its_steps.specs.World.{View, CacheView, Tries, spent, word_after, entry_of, committed}
+use Rattle.its_steps.specs.World.{View, CacheView, spent, word_after, entry_of, committed}
 use Rattle.its_steps.specs.declared.commit.Commit.{Commit}
 use Rattle.its_steps.specs.declared.event.Kind.{Kind}
 use Rattle.its_steps.specs.declared.standing.Standing.{Standing}

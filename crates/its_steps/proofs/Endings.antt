@@ -14,7 +14,6 @@ use Rattle.its_types.specs.Maps.{Maps as MapsOf}
 use Rattle.its_types.specs.declared.ids.Target.{Target}
 use Rattle.its_types.specs.declared.machine.Part.{Part}
 use Rattle.its_types.specs.declared.machine.Part.TheVariants as part
-use Rattle.its_types.specs.declared.translation.Bases.{Bases}
 use Rattle.its_plain.specs.Answer.{emptied, translator_written, written, command_left, is_idle, next_bytes, met_left, step_left, went_on, left}
 use Rattle.its_plain.specs.Commands.{ran}
 use Rattle.its_plain.specs.Plain.{Plain, Translator, Redistributor, translator, no_translator, no_redistributor, regs_of, maps_of}

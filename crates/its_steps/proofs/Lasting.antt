@@ -3,14 +3,14 @@ use Rattle.std.proofs.Common.{◌≡◌, ℕ, zero, suc, Bool, true, false, ◌&
 use Rattle.std.proofs.Common.{Result, Ok, Err, refl, ap, sym, ◌∙◌, subst, if◌then◌else◌, get_or-set_same, get_or-set_other}
 use Rattle.std.specs.Option.{ok_or}
 use Rattle.std.proofs.lemmas.Bool.{cond_both}
-use Rattle.guest_windows.specs.Windows.{Window, byte_at}
+use Rattle.guest_windows.specs.Windows.{Window}
 use Rattle.gits_regs.specs.Registers.{collection_places, advanced}
 use Rattle.baser_place.specs.Places.{device_place}
 use Rattle.its_command.specs.declared.command.Command.{Command}
 use Rattle.its_command.specs.declared.command.Command.TheVariants as command
 use Rattle.gicr_regs.specs.Redistributors.{all_reread_at, reread_at}
 use Rattle.its_types.specs.Ranges.{is_device_id, is_lpi}
-use Rattle.its_types.specs.Lpis.{is_pending, with_lpi, with_lpis, without_lpi, with_config_byte}
+use Rattle.its_types.specs.Lpis.{is_pending, with_lpi, with_lpis, without_lpi}
 use Rattle.its_types.specs.Maps.{Maps, device_of, event_of, collection_of, device_mapped, device_unmapped, event_mapped, event_unmapped, collection_mapped}
 use Rattle.its_types.specs.Maps.{collection_unmapped}
 use Rattle.its_types.specs.declared.ids.Target.{Target}

@@ -21,7 +21,7 @@ use Rattle.its_steps.proofs.Words.{keeps_commit, reader}
 use Rattle.its_turns.proofs.Homes.{St, turns_stay}
 use Rattle.its_turns.proofs.Looking.{sees, looks_in, later_word}
 use Rattle.its_turns.specs.Rule.{Kept, world_of}
-use Rattle.its_turns.specs.Told.{committed_by, Commits, Loses, committing}
+use Rattle.its_turns.specs.Told.{committed_by, committing}
 use Rattle.its_turns.specs.Words.{unpacked, turns_in}
 use Rattle.its_steps.specs.declared.commit.Commit.{Commit}
 use Rattle.its_turns.specs.declared.value.Value.{Value}

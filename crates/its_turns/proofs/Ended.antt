@@ -1,10 +1,10 @@
 -- What stands in the slots at the end.
-use Rattle.std.proofs.Common.{◌≡◌, ◌≢◌, ℕ, zero, suc, ◌+◌, ◌<◌, ◌≤◌, List, length, replicate, Option, Some, None, Box, Global, set, get_or, slice_get, refl}
+use Rattle.std.proofs.Common.{◌≡◌, ℕ, zero, suc, ◌+◌, ◌<◌, List, length, replicate, Option, Some, None, Box, Global, set, get_or, slice_get, refl}
 use Rattle.std.proofs.Common.{ap, sym, ◌∙◌, subst, arith, inl, inr, get_or-set_same, get_or-set_other}
 use Rattle.std.proofs.lemmas.Bool.{cases_lt}
 use mathlib.Core.Logic.{dite}
 use native.Mathlib.Decide.{ℕ_discrete}
-use mathlib.Core.Option.{some, none, some-injective, some-ne-none}
+use mathlib.Core.Option.{some, some-injective, some-ne-none}
 use Rattle.its_types.specs.declared.ids.Vcpu.{Vcpu}
 use Rattle.its_types.specs.declared.machine.Part.TheVariants as part
 use Rattle.its_types.specs.declared.machine.Word.{Word}
@@ -15,7 +15,6 @@ use Rattle.lpi_pending.specs.declared.redist.Redist.{Redist as InHand}
 use Rattle.owned_parts.specs.Owned.{redistributor_of, HasLpisOf, IsRedistributorOf}
 use Rattle.its_steps.specs.Parts.{Setup, IsOfMachine, Right}
 use Rattle.its_steps.specs.Contents.{Content}
-use Rattle.its_steps.specs.Contents as content
 use Rattle.its_turns.specs.declared.value.GuestMemory.{GuestMemory}
 use Rattle.its_turns.specs.declared.value.Tables.{Tables}
 use Rattle.its_turns.specs.declared.value.Value.{Value}

@@ -1,18 +1,14 @@
 -- What a pass has in hand after a commit.
-use Rattle.std.proofs.Common.{◌≡◌, ◌≢◌, ℕ, ◌*◌, List, [], ◌∷◌, length, refl, ap, sym, ◌∙◌, subst}
+use Rattle.std.proofs.Common.{◌≡◌, ℕ, ◌*◌, List, [], ◌∷◌, refl, ap, ◌∙◌}
 use mathlib.Core.Option.{none}
 use mathlib.Core.Logic.{dite}
 use native.Mathlib.Decide.{ℕ_discrete}
 use Rattle.atomic_table.specs.Table.{Me, step}
-use Rattle.its_types.specs.declared.machine.Word.{Word}
 use Rattle.its_plain.specs.Answer.{left}
 use Rattle.its_plain.specs.Plain.{Plain}
-use Rattle.its_plain.specs.declared.call.Call.{Call}
-use Rattle.its_steps.specs.Good.{Ended}
 use Rattle.its_steps.specs.Parts.{Setup, index_of}
 use Rattle.its_steps.specs.Renewal.{assembled, renewed}
-use Rattle.its_steps.specs.World.{View, RootView}
-use Rattle.its_steps.specs.declared.change.ShardChange.{ShardChange}
+use Rattle.its_steps.specs.World.{View}
 use Rattle.its_steps.specs.Contents.{Held}
 use Rattle.its_turns.specs.Contents.{emptied}
 use Rattle.its_turns.specs.Told.{committing}

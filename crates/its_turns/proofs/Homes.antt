@@ -1,6 +1,6 @@
 -- What stands at home in the table, and in the world that it shows.
-use Rattle.std.proofs.Common.{◌≡◌, ◌≢◌, ℕ, zero, suc, ◌+◌, ◌*◌, ◌<◌, ◌≤◌, List, [], ◌∷◌, map, length, set, get_or, refl, ap, sym, ◌∙◌, subst, arith}
-use Rattle.std.proofs.Common.{length-set, get_or-set_other, ⊎_elim, inl, inr}
+use Rattle.std.proofs.Common.{◌≡◌, ◌≢◌, ℕ, zero, suc, ◌+◌, ◌*◌, ◌<◌, List, [], ◌∷◌, map, length, set, get_or, refl, ap, sym, ◌∙◌, subst, arith}
+use Rattle.std.proofs.Common.{get_or-set_other, inl, inr}
 use mathlib.Core.Option.{Option, none, some, some-injective, some-ne-none}
 use lib.ListN.{get_elem?}
 use lib.Seq.{map-set}
@@ -8,7 +8,7 @@ use Rattle.atomic_table.specs.Table.{State}
 use Rattle.atomic_table.proofs.Lists.{at_set}
 use Rattle.its_types.specs.declared.machine.Part.{Part}
 use Rattle.its_steps.specs.Parts.{Setup, Stands, index_of, part_count}
-use Rattle.its_steps.specs.World.{View, World}
+use Rattle.its_steps.specs.World.{View}
 use Rattle.its_steps.specs.Good.{turn_of}
 use Rattle.its_steps.specs.Contents.{Content}
 use Rattle.its_steps.proofs.Indexes.{index_below}

@@ -1,6 +1,6 @@
 -- How many passes are out, counted by those that were joined.
-use Rattle.std.proofs.Common.{◌≡◌, ◌≢◌, ℕ, zero, suc, ◌+◌, ◌<◌, ◌≤◌, ◌==◌, ◌||◌, ◌&&◌, not, nat_lt, eqb, Bool, true, false, List, [], ◌∷◌, map, length, refl}
-use Rattle.std.proofs.Common.{ap, sym, ◌∙◌, subst, arith, inl, inr, ne_eqb, eqb-true, eq-eqb, ltb-true, lt-ltb}
+use Rattle.std.proofs.Common.{◌≡◌, ℕ, suc, ◌+◌, ◌<◌, ◌≤◌, ◌||◌, ◌&&◌, not, nat_lt, eqb, Bool, true, false, List, [], ◌∷◌, map, length, refl}
+use Rattle.std.proofs.Common.{ap, sym, subst, arith, inl, inr, ne_eqb, eqb-true, ltb-true, lt-ltb}
 use Rattle.std.specs.List.{AllByRecursion, IsDistinct, list_any}
 use Rattle.std.proofs.lemmas.Map.Steps.{length-le_from_distinct_below}
 use Rattle.its_plain.specs.declared.call.Entry.{Entry}

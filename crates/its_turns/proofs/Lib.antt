@@ -11,3 +11,4 @@ pub mod Opening
 pub mod Exchanged
 pub mod Joined
 pub mod Telling
+pub mod Described

@@ -1,8 +1,8 @@
 -- Loads of the word keep the rule of the table.
-use Rattle.std.proofs.Common.{◌≡◌, ◌≢◌, ℕ, suc, ◌+◌, ◌*◌, ◌^◌, ◌<◌, ◌≤◌, ◌==◌, ◌||◌, ◌&&◌, not, nat_lt, Bool, true, false, eqb, List, [], ◌∷◌, set, get_or}
-use Rattle.std.proofs.Common.{refl, ap, sym, ◌∙◌, subst, arith, div-add-mod', ⊎_elim, inl, inr, ne_eqb, lt-ltb}
+use Rattle.std.proofs.Common.{◌≡◌, ◌≢◌, ℕ, suc, ◌+◌, ◌*◌, ◌^◌, ◌<◌, ◌||◌, ◌&&◌, not, nat_lt, true, false, List, [], ◌∷◌, set, get_or}
+use Rattle.std.proofs.Common.{refl, ap, sym, ◌∙◌, subst, arith, div-add-mod', inl, inr, ne_eqb, lt-ltb}
 use Rattle.std.specs.List.{AllByRecursion}
-use mathlib.Core.Option.{none, some, some-injective}
+use mathlib.Core.Option.{none, some}
 use mathlib.Core.Logic.{dite}
 use native.Mathlib.Decide.{ℕ_discrete}
 use lib.ListN.{get_elem?}

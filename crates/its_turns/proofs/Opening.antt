@@ -6,7 +6,6 @@ use Rattle.std.specs.List.{AllByRecursion}
 use mathlib.Core.Option.{Option, none, some, some-injective, some-ne-none}
 use lib.ListN.{get_elem?, length-map, length-replicate}
 use Rattle.atomic_table.specs.Table.{opening}
-use Rattle.its_types.specs.declared.machine.Word.{Word}
 use Rattle.guest_windows.specs.Windows.{Window}
 use Rattle.its_plain.specs.Plain.{Redistributor}
 use Rattle.its_plain.specs.Sound.{IsSound}
@@ -18,7 +17,7 @@ use Rattle.owned_parts.specs.declared.parts.Parts.{Parts}
 use Rattle.xlate_cache.specs.Ways.{no_entries}
 use Rattle.its_steps.specs.Parts.{Setup, part_count}
 use Rattle.its_steps.specs.Contents.{Content, Maps, Mem, Shard, Redist}
-use Rattle.its_steps.specs.World.{View, World, first_word, first_view, first_slots, first_world}
+use Rattle.its_steps.specs.World.{first_word, first_view, first_slots, first_world}
 use Rattle.its_steps.specs.Good.{Good}
 use Rattle.its_steps.proofs.First.{first, slots_long}
 use Rattle.its_turns.specs.declared.value.Tables.{Tables as TheTables}

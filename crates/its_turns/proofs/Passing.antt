@@ -1,9 +1,7 @@
 -- Passes and notes that come and go keep the rule of the table.
 use Rattle.std.proofs.Common.{◌≡◌, ℕ, ◌<◌, ◌^◌, List, [], ◌∷◌, ◌++◌, Bool, true, false, cond, sym, ◌∙◌, subst}
 use mathlib.Core.List.{IsPrefix}
-use mathlib.Core.Option.{some}
-use lib.ListN.{get_elem?}
-use Rattle.atomic_table.specs.Table.{Me, Splits, Joins}
+use Rattle.atomic_table.specs.Table.{Splits, Joins}
 use Rattle.atomic_table.proofs.Lists.{set_else, set_again}
 use Rattle.its_plain.specs.declared.call.Entry.{Entry}
 use Rattle.its_steps.specs.Parts.{Setup}
@@ -12,7 +10,6 @@ use Rattle.its_steps.specs.Good.{Good}
 use Rattle.its_steps.specs.declared.standing.Standing.TheVariants.{Pass, Note as Noted}
 use Rattle.its_steps.proofs.Passes.{splits, joins, notes, meets}
 use Rattle.its_turns.specs.Rule.{Kept, world_of}
-use Rattle.its_turns.specs.declared.value.Value.{Value}
 
 module _ (s : Setup) (id : ℕ) (v : View) (passes : v.standing ≡ Pass) where
   pub allows_split : v.number ≡ 0 → v.root.made < 2 ^ 32 → Splits (Kept s) id v (has_split v) (split_off v)

@@ -1,7 +1,6 @@
 -- From what each step tells to what a call says.
-use Rattle.std.proofs.Common.{◌≡◌, ◌≢◌, ℕ, ◌+◌, ◌<◌, ◌≤◌, List, [], ◌∷◌, ◌++◌, length, refl, ap, sym, ◌∙◌, subst, arith, length-append, append_assoc, le_refl}
+use Rattle.std.proofs.Common.{◌≡◌, ℕ, ◌+◌, ◌<◌, ◌≤◌, List, [], ◌∷◌, ◌++◌, length, refl, ap, sym, ◌∙◌, subst, arith, length-append, append_assoc, le_refl}
 use Rattle.std.specs.List.{AllByRecursion}
-use mathlib.Core.List.{IsPrefix}
 use Rattle.its_types.specs.declared.machine.Part.{Part}
 use Rattle.its_types.specs.declared.machine.Word.{Word}
 use Rattle.its_plain.specs.History.{IsLegal}
@@ -13,7 +12,7 @@ use Rattle.its_steps.specs.Parts.{Setup, translator_count, stamp_of}
 use Rattle.its_steps.specs.Calls.{staying, MayLeave}
 use Rattle.its_steps.specs.MayCall.{MayCall}
 use Rattle.its_steps.specs.Renewal.{renewal}
-use Rattle.its_steps.specs.World.{View, Tries, LastCommit, loaded, took, missed, out, entry, lost_to, committed, word_after}
+use Rattle.its_steps.specs.World.{View, Tries, LastCommit, loaded, took, missed, out, entry, lost_to, committed}
 use Rattle.its_steps.specs.declared.change.ShardChange.{ShardChange}
 use Rattle.its_steps.specs.declared.change.ShardChange.TheVariants.{Keep}
 use Rattle.its_steps.specs.Contents.{Content, Held}

@@ -1,5 +1,5 @@
 -- Tries of a turn, and turns given back, keep the rule of the table.
-use Rattle.std.proofs.Common.{◌≡◌, ◌≢◌, ℕ, suc, ◌+◌, ◌-◌, ◌*◌, ◌<◌, eqb, List, [], ◌∷◌, length, set, get_or, refl, ap, sym, ◌∙◌, subst, arith, length-set}
+use Rattle.std.proofs.Common.{◌≡◌, ◌≢◌, ℕ, suc, ◌+◌, ◌-◌, ◌*◌, eqb, List, [], ◌∷◌, set, get_or, refl, ap, sym, ◌∙◌, subst, arith, length-set}
 use Rattle.std.proofs.Common.{get_or-set_same, ⊎_elim}
 use mathlib.Core.Option.{none, some, some-injective, some-ne-none}
 use mathlib.Core.Logic.{dite}
@@ -10,7 +10,6 @@ use prog.Atomic.{either}
 use Rattle.atomic_table.specs.Table.{Me, step, Act, keeps, takes, gives, stepped, carried_after, Valid, Allows}
 use Rattle.atomic_table.proofs.Lists.{set_here, set_else, exchanged}
 use Rattle.its_types.specs.declared.machine.Part.{Part}
-use Rattle.its_plain.specs.History.{after}
 use Rattle.its_steps.specs.Parts.{Setup, Stands, index_of, part_count}
 use Rattle.its_steps.specs.Contents.{Content, Held}
 use Rattle.its_steps.specs.declared.standing.Standing.TheVariants.{Pass}
@@ -25,7 +24,7 @@ use Rattle.its_turns.proofs.Homes.{St, turn_word, turns_long, home_value, fit_se
 use Rattle.its_turns.proofs.Looking.{reads_last}
 use Rattle.its_turns.specs.Contents.{content_of, IsFit, held_before}
 use Rattle.its_turns.specs.Rule.{Kept, world_of}
-use Rattle.its_turns.specs.Told.{IsLone, HasStood, Gets, Misses, trying, released, releasing}
+use Rattle.its_turns.specs.Told.{HasStood, Gets, Misses, trying, released, releasing}
 use Rattle.its_turns.specs.Words.{turns_in}
 use Rattle.its_turns.specs.declared.value.Value.{Value}
 

@@ -1,10 +1,10 @@
 -- Parts held in another order keep the rule of the table.
-use Rattle.std.proofs.Common.{◌≡◌, ◌⊎◌, ℕ, ◌*◌, List, [], ◌∷◌, ◌++◌, set, get_or, refl, ap, sym, ◌∙◌, subst, inl, inr, ⊎_elim}
+use Rattle.std.proofs.Common.{◌≡◌, ◌⊎◌, ℕ, ◌*◌, List, [], ◌∷◌, ◌++◌, set, refl, ap, sym, subst, inl, inr, ⊎_elim}
 use Rattle.std.specs.List.{AllByRecursion}
 use mathlib.Core.Option.{none, some}
 use lib.ListN.{get_elem?}
 use lib.Seq.{set-get_or}
-use Rattle.atomic_table.specs.Table.{Me, step, keeps, stepped, turned as turned_hand, Allows}
+use Rattle.atomic_table.specs.Table.{Me, step, keeps, turned as turned_hand, Allows}
 use Rattle.its_types.specs.declared.machine.Part.{Part}
 use Rattle.its_plain.specs.History.{after}
 use Rattle.its_steps.specs.Parts.{Setup, index_of}

@@ -4,12 +4,10 @@ use Rattle.std.specs.List.{AllByRecursion}
 use mathlib.Core.List.{IsPrefix}
 use Rattle.its_types.specs.declared.machine.Part.{Part}
 use Rattle.its_types.specs.declared.machine.Placed.{Placed}
-use Rattle.its_types.specs.declared.machine.Word.{Word}
 use Rattle.its_plain.specs.History.{IsLegal}
 use Rattle.its_plain.specs.declared.call.Call.{Call}
 use Rattle.its_plain.specs.declared.call.Entry.{Entry}
 use Rattle.its_plain.specs.declared.call.Reply.{Reply}
-use Rattle.its_steps.specs.Parts.{Setup}
 use Rattle.its_steps.specs.Renewal.{renewal}
 use Rattle.its_steps.specs.World.{View, Tries, loaded, lost_to, entry, committed, word_after}
 use Rattle.its_steps.specs.declared.change.ShardChange.{ShardChange}

@@ -1,5 +1,5 @@
 -- The words and slots that a machine begins with.
-use Rattle.std.specs.Prelude.{◌≡◌, ℕ, ◌+◌, ◌*◌, List, [], ◌∷◌, ◌++◌, map, replicate, Option, None}
+use Rattle.std.specs.Prelude.{◌≡◌, ℕ, ◌+◌, ◌*◌, List, [], ◌∷◌, ◌++◌, map, replicate, None}
 use Rattle.std.specs.List.{AllByRecursion}
 use Rattle.its_plain.specs.declared.desc.Desc.{Desc}
 use Rattle.owned_parts.specs.Owned.{state_of_parts}

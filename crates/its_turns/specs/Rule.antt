@@ -1,6 +1,6 @@
 -- The rule of the table: words, slots at home and views show a good world.
 use Rattle.std.specs.Prelude.{suc, ◌≡◌, ℕ, ◌*◌, ◌<◌, ◌≤◌, List, length, slice_index}
-use mathlib.Core.Option.{Option, none, some}
+use mathlib.Core.Option.{none, some}
 use lib.ListN.{get_elem?}
 use Rattle.atomic_table.specs.Table.{State}
 use Rattle.its_plain.specs.declared.call.Entry.{Entry}

@@ -1,5 +1,5 @@
 -- How the word, the turns and the slots stand in the table.
-use Rattle.std.specs.Prelude.{ℕ, zero, suc, ◌+◌, ◌*◌, ◌/◌, ◌%◌, ◌^◌, List, [], ◌∷◌, map, slice_index_or}
+use Rattle.std.specs.Prelude.{ℕ, zero, suc, ◌*◌, ◌/◌, ◌%◌, ◌^◌, List, [], ◌∷◌, map, slice_index_or}
 use mathlib.Core.Option.{Option, none}
 use Rattle.its_types.specs.declared.machine.Word.{Word}
 use Rattle.its_steps.specs.Contents.{Content}

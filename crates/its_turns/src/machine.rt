@@ -1,6 +1,7 @@
 //! The machine and its passes.
 ghost use Rattle.std.specs.Prelude.{◌≡◌, ◌+◌, ◌*◌, ◌^◌, ◌<◌, ◌≤◌, true, [], None, replicate};
 ghost use Rattle.std.specs.Prelude.{length};
+ghost use Rattle.its_plain.specs.Machine.{layout_of};
 ghost use Rattle.its_steps.specs.Parts.{part_count, translator_count, vcpu_count};
 ghost use Rattle.its_steps.specs.Parts.{HasVcpus};
 ghost use Rattle.its_steps.specs.declared.standing.Standing.TheVariants as standing;
@@ -27,7 +28,7 @@ pub struct Machine {
     pub(crate) places: Redists,
     pub ghost described: { desc ≡ kept_of table.shared.key.desc.value },
     pub ghost built: { (layout ≡ (setup_of table.shared.key).start.layout)
-        × (desc.shape ≡ layout.shape) },
+        × (layout_of desc ≡ layout) },
     pub ghost sized: { (table.shared.table_id.slots ≡ 8 * part_count (setup_of table.shared.key))
         × (16 * part_count (setup_of table.shared.key) < table.shared.table_id.words) },
     pub ghost laid: { (translator_count (setup_of table.shared.key) ≡ 1)

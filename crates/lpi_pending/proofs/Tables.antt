@@ -1,7 +1,7 @@
 -- The words of a pending table, and the set that it has.
-use Rattle.std.proofs.Common.{◌≡◌, ◌≢◌, ℕ, ◌+◌, ◌-◌, ◌*◌, ◌/◌, ◌%◌, ◌^◌, ◌<◌, ◌≤◌, Bool, true, false, List, length, get_or, set, Option, Some, Result, Ok, eqb}
+use Rattle.std.proofs.Common.{◌≡◌, ◌≢◌, ℕ, ◌+◌, ◌-◌, ◌*◌, ◌/◌, ◌%◌, ◌^◌, ◌<◌, true, false, List, length, get_or, set, Option, Some, Result, Ok, eqb}
 use Rattle.std.proofs.Common.{refl, sym, ap, ◌∙◌, inl, inr, arith}
-use Rattle.std.specs.Prelude.{◌&&◌, unwrap_or, nat_le, nat_lt}
+use Rattle.std.specs.Prelude.{◌&&◌, unwrap_or}
 use Rattle.std.specs.Option.{ok_or}
 use Rattle.std.specs.Int.{bit_at}
 use Rattle.std.specs.List.Sorted.{IsStrictlyIncreasing}
@@ -9,14 +9,14 @@ use Rattle.std.proofs.Math.Nat.{div-div-eq-div-mul}
 use Rattle.std.proofs.lemmas.Nat.{pow-add}
 use Rattle.std.proofs.lemmas.Nat.Bits.{bit_at_cat_low}
 use Rattle.std.proofs.lemmas.Bool.{cases_lt, cases_Bool, and_from, le-leb, lt-ltb}
-use Rattle.std.proofs.lemmas.List.{length-set, get_or-set_same, get_or-set_other}
+use Rattle.std.proofs.lemmas.List.{get_or-set_same, get_or-set_other}
 use Rattle.guest_windows.specs.Windows.{Window, byte_at}
 use Rattle.its_types.specs.Bits.{bit_of, field}
 use Rattle.its_types.specs.Lpis.{is_pending}
 use Rattle.its_types.specs.Ranges.{is_lpi, lpi_count}
 use Rattle.gicr_regs.specs.Redistributors.{is_set, pending_in}
 use Rattle.lpi_config.specs.Bitmap.{word_bit}
-use Rattle.lpi_pending.specs.PendingSets.{lpi_bit, lpis_of, table_bit}
+use Rattle.lpi_pending.specs.PendingSets.{lpis_of, table_bit}
 use Rattle.lpi_pending.proofs.Bitmaps.{lpi_within, lpis_of-same}
 use Rattle.lpi_pending.proofs.Sets.{IsWithin, those, is_pending-those, within-those, rising-those}
 

@@ -14,7 +14,7 @@ use Rattle.gicr_regs.specs.Registers.{AreKept, restored_bases, all_restored_base
 use Rattle.gicr_regs.specs.declared.values.GicrRegisters.{GicrRegisters}
 use Rattle.gicr_regs.specs.declared.values.GicrValues.{GicrValues}
 use Rattle.its_plain.specs.Described as described
-use Rattle.its_plain.specs.Described.{IsFirstState, IsRefused, of_description, of_restore, StartsAt}
+use Rattle.its_plain.specs.Described.{IsRefused, of_description, of_restore, StartsAt}
 use Rattle.its_plain.specs.Machine.{made, layout_of}
 use Rattle.its_plain.specs.declared.layout.Layout.{Layout}
 use Rattle.its_plain.specs.Regions.{savable}

@@ -7,7 +7,7 @@ use Rattle.std.proofs.lemmas.Bool.{not-true, eqb-false}
 use Rattle.std.proofs.lemmas.Option.{none-some}
 use Rattle.its_types.specs.Ranges.{is_device_id}
 use Rattle.gits_regs.specs.Registers as regs
-use Rattle.gits_regs.specs.Registers.{Registers, is_valid, is_indirect, collection_places, pages}
+use Rattle.gits_regs.specs.Registers.{Registers, is_valid, is_indirect, pages}
 use Rattle.its_types.specs.Maps.{Maps, pair_cmp, is_pair, no_maps, device_of, event_of, collection_of, device_mapped, device_unmapped, event_mapped}
 use Rattle.its_types.specs.Maps.{event_unmapped, collection_mapped, collection_unmapped, devices_emptied, collections_emptied}
 use Rattle.its_types.specs.declared.ids.Vcpu.{Vcpu}

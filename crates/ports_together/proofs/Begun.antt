@@ -21,7 +21,6 @@ if_shared d P (Err errors.NoMemory) h f = tt
 pub shared : (d : Desc) → IsSmall d → (x : Machine × Pass) → IsFirst d x.0 x.1 → IsShared x.0 x.1
 shared d small x h = record {
   of = h.of;
-  layout = h.layout;
   view_is = h.view;
   vcpus = ap (λ (l : Layout). l.shape.vcpus) (first_layout d (setup x.0).start h.start) ∙ small.vcpus;
 }

@@ -8,7 +8,6 @@ use Rattle.its_turns.specs.Machines.{setup, view, IsOf}
 use Rattle.its_turns.specs.Told.{IsLone}
 use Rattle.its_turns.specs.declared.machine.Machine.{Machine}
 use Rattle.its_turns.specs.declared.machine.Pass.{Pass}
-use Rattle.its_migrate.specs.Resting.{HasItsLayout}
 
 -- the pass is one of the machine, and holds nothing
 pub record IsReady (m : Machine) (p : Pass) : Type 0 where
@@ -31,13 +30,11 @@ pub record IsSmall (d : Desc) : Type 0 where
 -- a machine at rest with its root
 pub record IsAtRest (m : Machine) (r : Pass) : Type 0 where
   pub of : IsOf m r
-  pub layout : HasItsLayout m
   pub lone : IsLone (view r)
   pub free : (view r).held ≡ []
 
 -- a machine of four processors with an empty history, and its root
 pub record IsShared (m : Machine) (r : Pass) : Type 0 where
   pub of : IsOf m r
-  pub layout : HasItsLayout m
   pub view_is : view r ≡ first_view (setup m)
   pub vcpus : vcpu_count (setup m) ≡ 4

@@ -8,16 +8,14 @@ use Rattle.its_steps.specs.World.{first_view}
 use Rattle.its_turns.specs.Machines.{setup, view, IsOf}
 use Rattle.its_turns.specs.declared.machine.Machine.{Machine}
 use Rattle.its_turns.specs.declared.machine.Pass.{Pass}
-use Rattle.its_migrate.specs.Resting.{HasItsLayout}
 
--- it starts in the first state of the description, with the description's limits, shards and layout, and the pass is its root
+-- it starts in the first state of the description, with the description's limits and shards, and the pass is its root
 pub record IsFirst (d : Desc) (m : Machine) (root : Pass) : Type 0 where
   pub start : IsFirstState d (setup m).start
   pub limits : (setup m).limits ≡ d.limits
   pub shards : (setup m).shards ≡ d.shards
   pub of : IsOf m root
   pub view : view root ≡ first_view (setup m)
-  pub layout : HasItsLayout m
 
 -- or the first thing that is wrong with the description, unless memory ran out
 abbrev pub IsSharedFrom : Desc → Result (Machine × Pass) MakeError → Type 0

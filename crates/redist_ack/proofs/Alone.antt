@@ -1,5 +1,5 @@
 -- A redistributor alone is enough.
-use Rattle.std.proofs.Common.{◌≡◌, ◌<◌, List, [], ◌∷◌}
+use Rattle.std.proofs.Common.{◌<◌, List, [], ◌∷◌}
 use Rattle.its_types.specs.declared.ids.Vcpu.{Vcpu}
 use Rattle.its_types.specs.declared.machine.Part.TheVariants as part
 use Rattle.its_types.specs.declared.machine.Word.{Word}

@@ -24,7 +24,6 @@ use Rattle.saved_state.specs.Laws.{CollectionsStand, EventsStand}
 use Rattle.saved_state.proofs.Chains.{IsChain, chain_of}
 use Rattle.saved_state.proofs.Events.{Fits, itt_clear, events_are}
 use Rattle.saved_state.proofs.Small as small
-use Rattle.saved_state.proofs.Small.{FitsEvent}
 use Rattle.saved_state.proofs.Areas.{all_left, all_right}
 use Rattle.saved_state.proofs.Keyed.{listed_found, found_listed}
 use Rattle.saved_state.proofs.Found.{IsFound, of_flat, translator_found}

@@ -6,6 +6,7 @@ use Rattle.std.specs.List.{AllByRecursion, list_all}
 use Rattle.std.proofs.lemmas.Bool.{and_parts, ltb-true, leb-true, cases_Bool, cond_both}
 use Rattle.std.proofs.lemmas.Nat.{pow-add}
 use Rattle.byteorder.specs.Endian.{little_bytes}
+use Rattle.guest_windows.proofs.Bytes.{byte_read}
 use Rattle.guest_windows.specs.Windows.{Window, inside, read_at, byte_at, extent, in_range, share_no_byte, total}
 use Rattle.guest_windows.proofs.Laws.{is_some-read_at}
 use Rattle.baser_place.specs.Places.{entry_address}
@@ -21,7 +22,7 @@ use Rattle.plain_soundness.proofs.Migrated.{migrations_keep}
 use Rattle.saved_state.specs.Laws.{RedistributorsStand}
 use Rattle.saved_state.proofs.Written.{tables_inside}
 use Rattle.saved_state.proofs.Found.{HasBytes, pending_found}
-use Rattle.saved_state.proofs.Bytes.{byte_read, byte_bit, pending_byte_of}
+use Rattle.saved_state.proofs.Bytes.{byte_bit, pending_byte_of}
 
 -- ---- pending LPIs
 

@@ -6,7 +6,7 @@ use Rattle.std.proofs.lemmas.Bool.{and_parts, lt-ltb}
 use Rattle.std.proofs.lemmas.List.{length-map}
 use Rattle.std.proofs.lemmas.Option.{same_Some}
 use Rattle.guest_windows.specs.Windows.{inside}
-use Rattle.gits_regs.specs.Registers.{Registers, is_valid, queue_size, has_bases, ◌>>=◌, ensure, base_allowed, masked, restored}
+use Rattle.gits_regs.specs.Registers.{Registers, is_valid, queue_size, ◌>>=◌, ensure, base_allowed, masked, restored}
 use Rattle.gits_regs.specs.Registers as regs
 use Rattle.gits_regs.specs.declared.values.NotValid.{NotValid}
 use Rattle.gits_regs.specs.declared.values.RegValues.{RegValues}

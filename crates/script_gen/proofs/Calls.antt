@@ -9,7 +9,7 @@ use Rattle.std.proofs.lemmas.Option.{same_Some}
 use Rattle.guest_windows.specs.Windows.{Window, extent, read_at, write_at}
 use Rattle.guest_windows.proofs.Laws.{extents-write_at, read_at-write_at_same, read_at-write_at_apart}
 use Rattle.gits_regs.specs.Registers as regs
-use Rattle.gits_regs.specs.Registers.{Registers, write_reg, is_valid, has_bases, queue_place, queue_base, queue_size, size_of, is_queue_empty, advanced}
+use Rattle.gits_regs.specs.Registers.{Registers, write_reg, is_valid, queue_place, queue_base, queue_size, size_of, is_queue_empty, advanced}
 use Rattle.its_command.specs.Commands.{decoded}
 use Rattle.its_types.specs.Bits.{field}
 use Rattle.its_types.specs.declared.machine.Profile.TheVariants.{One}

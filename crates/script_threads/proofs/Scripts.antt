@@ -1,14 +1,14 @@
 -- Legs within limits may be run.
-use Rattle.std.proofs.Common.{◌≡◌, ℕ, ◌<◌, ◌≤◌, ◌==◌, ◌&&◌, nat_lt, nat_le, Bool, true, false, List, [], ◌∷◌, length, refl, sym, arith, true≢false}
+use Rattle.std.proofs.Common.{◌≡◌, ℕ, ◌≤◌, ◌==◌, ◌&&◌, nat_lt, nat_le, Bool, true, false, List, [], ◌∷◌, length, refl, sym, arith, true≢false}
 use Rattle.std.specs.List.{AllByRecursion, list_all}
 use Rattle.std.proofs.lemmas.Bool.{eqb-true, ltb-true, leb-true}
-use Rattle.its_plain.specs.Runs.{Thread, Phase, Leg}
+use Rattle.its_plain.specs.Runs.{Thread, Phase}
 use Rattle.its_plain.specs.declared.call.Call.{Call}
 use Rattle.its_plain.specs.declared.call.Call.TheVariants as call
-use Rattle.event_script.specs.Limits.{is_call, is_thread, is_phase, is_leg}
+use Rattle.event_script.specs.Limits.{is_call, is_thread, is_phase}
 use Rattle.event_script.specs.declared.draft.TheConstants.{MOST_PHASES, MOST_THREADS, MOST_CALLS}
 use Rattle.its_steps.specs.Parts.{Setup, vcpu_count}
-use Rattle.script_threads.specs.Asks.{MayAsk, MayAskAll, MayRun, MayRunLeg}
+use Rattle.script_threads.specs.Asks.{MayAsk, MayAskAll, MayRun}
 use Rattle.script_threads.specs.Scripts.{LegsMayRun}
 
 left_true : (a b : Bool) → (a && b) ≡ true → a ≡ true

@@ -9,7 +9,6 @@ use Rattle.its_plain.specs.declared.call.Reply.{Reply}
 use Rattle.its_steps.specs.World.{View, entry}
 use Rattle.its_turns.specs.Machines.{setup, view, IsOf}
 use Rattle.its_turns.specs.declared.machine.Machine.{Machine}
-use Rattle.its_migrate.specs.Resting.{HasItsLayout}
 use Rattle.script_threads.specs.Asks.{MayAskAll}
 use Rattle.script_threads.specs.Phases.{IsCutAtMemory}
 use Rattle.script_threads.specs.declared.job.Job.{Job}
@@ -48,7 +47,6 @@ pub record Doing (v : View) (calls : Thread) (k : ℕ) (done : List (Placed Repl
 
 pub record IsReady (m : Machine) (j : Job) : Type 0 where
   pub of : IsOf m j.pass
-  pub layout : HasItsLayout m
   pub free : (view j.pass).held ≡ []
   pub may : MayAskAll (setup m) j.calls.now
   pub empty : j.done.items ≡ []

@@ -3,7 +3,6 @@ ghost use Rattle.std.specs.Prelude.{◌≡◌, ◌<◌, []};
 ghost use Rattle.its_plain.specs.declared.call.Call.TheVariants as call;
 ghost use Rattle.its_plain.specs.Answer.{save_reply};
 ghost use Rattle.its_steps.specs.Parts.{vcpu_count};
-ghost use Rattle.its_migrate.specs.Resting.{HasItsLayout};
 ghost use Rattle.its_turns.specs.Machines.{setup, view, IsOf};
 ghost use Rattle.script_threads.specs.Asks.{MayAsk, Answers};
 
@@ -199,7 +198,6 @@ fn ask_save<R: Wait, G: Gate>(
     gate: &G,
 ) -> Result<Placed<Reply>, Stop>
     requires of { IsOf machine.now pass.old }
-    requires layout { HasItsLayout machine.now }
     requires free { (view pass.old).held ≡ [] }
     ensures of { IsOf machine.now pass.new }
     ensures answer { Answers (view pass.old) call.Save (view pass.new) result }
@@ -224,7 +222,6 @@ fn ask_read_gicr<R: Wait, G: Gate>(
     size: u8,
 ) -> Result<Placed<Reply>, Stop>
     requires of { IsOf machine.now pass.old }
-    requires layout { HasItsLayout machine.now }
     requires free { (view pass.old).held ≡ [] }
     requires vcpu { vcpu.0 < vcpu_count (setup machine.now) }
     ensures of { IsOf machine.now pass.new }
@@ -250,7 +247,6 @@ fn ask_write_gicr<R: Wait, G: Gate>(
     value: u64,
 ) -> Result<Placed<Reply>, Stop>
     requires of { IsOf machine.now pass.old }
-    requires layout { HasItsLayout machine.now }
     requires free { (view pass.old).held ≡ [] }
     requires vcpu { vcpu.0 < vcpu_count (setup machine.now) }
     ensures of { IsOf machine.now pass.new }
@@ -285,7 +281,6 @@ pub fn call_once<R: Wait, G: Gate>(
     call: &Call,
 ) -> Result<Placed<Reply>, Stop>
     requires of { IsOf machine.now pass.old }
-    requires layout { HasItsLayout machine.now }
     requires free { (view pass.old).held ≡ [] }
     requires may { MayAsk (setup machine.now) call.now }
     ensures of { IsOf machine.now pass.new }

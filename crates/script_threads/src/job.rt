@@ -1,7 +1,6 @@
 //! What one thread of a phase has to do.
 ghost use Rattle.std.specs.Prelude.{◌≡◌, ◌≤◌, [], length, vec_capacity};
 ghost use Rattle.its_turns.specs.Machines.{setup, view, IsOf};
-ghost use Rattle.its_migrate.specs.Resting.{HasItsLayout};
 ghost use Rattle.script_threads.specs.Asks.{MayAskAll};
 ghost use Rattle.script_threads.specs.Jobs.{IsReady, Ran, Worked};
 
@@ -33,7 +32,6 @@ fn ask_all<R: Wait, G: Gate>(
     done: &mut Vec<Placed<Reply>>,
 ) -> Option<Stop>
     requires of { IsOf machine.now pass.old }
-    requires layout { HasItsLayout machine.now }
     requires free { (view pass.old).held ≡ [] }
     requires may { MayAskAll (setup machine.now) calls.now }
     requires empty { done.old.items ≡ [] }

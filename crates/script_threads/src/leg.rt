@@ -3,7 +3,6 @@ ghost use Rattle.std.specs.Prelude.{◌≡◌, ◌≤◌, ◌++◌, [], length, 
 ghost use Rattle.std.specs.List.{AllByRecursion};
 ghost use Rattle.its_history.specs.Merged.{all_lines};
 ghost use Rattle.its_turns.specs.Machines.{setup, view, IsOf};
-ghost use Rattle.its_migrate.specs.Resting.{HasItsLayout};
 ghost use Rattle.script_threads.specs.Asks.{MayRunLeg};
 ghost use Rattle.script_threads.specs.Legs.{RanLeg, phase_lines};
 ghost use Rattle.script_threads.specs.Rests.{Rests};
@@ -65,7 +64,6 @@ pub fn run_leg<'a, R: Threads + Wait + Sync, G: Gate + Sync>(
     phases: &'a [Phase],
 ) -> Result<LegEnd<'a>, AllocError>
     requires of { IsOf machine.now root.old }
-    requires layout { HasItsLayout machine.now }
     requires rests { Rests (view root.old) }
     requires made { (view root.old).root.made ≡ 1 }
     requires fresh { (view root.old).seen ≡ [] }

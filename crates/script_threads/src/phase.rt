@@ -3,7 +3,6 @@ ghost use Rattle.std.specs.Prelude.{◌≡◌, ◌+◌, ◌^◌, ◌<◌, ◌≤
 ghost use Rattle.std.specs.Prelude.{map, length, vec_len, vec_capacity};
 ghost use Rattle.std.specs.List.{AllByRecursion};
 ghost use Rattle.its_turns.specs.Machines.{setup, view, IsOf};
-ghost use Rattle.its_migrate.specs.Resting.{HasItsLayout};
 ghost use Rattle.script_threads.specs.Asks.{MayRun};
 ghost use Rattle.script_threads.specs.Jobs.{AreNew, Both, HasRoom, IsFreeJob, IsReady, SeenBy};
 ghost use Rattle.script_threads.specs.Jobs.{Worked, call_list, end_of, reply_list, worst_from};
@@ -95,7 +94,6 @@ fn split_all<'a>(
     jobs: &mut Vec<Job<'a>>,
 )
     requires of { IsOf machine.now root.old }
-    requires layout { HasItsLayout machine.now }
     requires root { (view root.old).number ≡ 0 }
     requires few { (view root.old).root.made + length threads.now < 2 ^ 32 }
     requires len { vec_len lists ≡ length threads.now }
@@ -198,7 +196,6 @@ pub fn run_phase<R: Threads + Wait + Sync, G: Gate + Sync>(
     threads: &[Thread],
 ) -> Result<PhaseEnd, AllocError>
     requires of { IsOf machine.now root.old }
-    requires layout { HasItsLayout machine.now }
     requires rests { Rests (view root.old) }
     requires few { (view root.old).root.made + length threads.now < 2 ^ 32 }
     requires may { MayRun (setup machine.now) threads.now }
@@ -223,7 +220,6 @@ fn run_rested<'a, R: Threads + Wait + Sync, G: Gate + Sync>(
     room: Room<'a>,
 ) -> PhaseEnd
     requires of { IsOf machine.now root.old }
-    requires layout { HasItsLayout machine.now }
     requires rests { Rests (view root.old) }
     requires knows { Knows (view root.old) }
     requires few { (view root.old).root.made + length threads.now < 2 ^ 32 }

@@ -1,23 +1,19 @@
 -- The walk over the collection table.
-use Rattle.std.proofs.Common.{◌≡◌, ℕ, ◌+◌, ◌<◌, Bool, true, false, cond, eqb, List, Option, Some, None, Ok, Err, is_some, refl, sym, subst, ap, ◌∙◌, arith}
+use Rattle.std.proofs.Common.{◌≡◌, ℕ, ◌+◌, ◌<◌, Bool, true, false, cond, eqb, List, Option, Some, None, is_some, refl, sym, subst, ap, ◌∙◌, arith}
 use Rattle.std.proofs.Common.{add-one}
 use Rattle.std.specs.Prelude.{◌||◌}
-use Rattle.std.specs.Option.{option_and_then, option_map}
+use Rattle.std.specs.Option.{option_and_then}
 use Rattle.std.proofs.lemmas.Bool.{eqb-true, eq-eqb, ne_eqb}
 use Rattle.guest_windows.specs.Windows.{Window, number_at}
 use Rattle.gits_regs.specs.Registers.{Registers, collection_places}
 use Rattle.table_entries.specs.Fields.{CollectionFields}
 use Rattle.table_entries.specs.Words.{unpacked_collection}
 use Rattle.its_types.specs.Maps.{Maps, collection_of, no_maps}
-use Rattle.its_types.specs.declared.ids.Icid.{Icid}
 use Rattle.its_types.specs.declared.ids.Vcpu.{Vcpu}
-use Rattle.its_plain.specs.Walks.{within}
-use Rattle.its_plain.specs.CollectionTables.{collection_address, collection_entry, collection_leads, next_collection, collection_check, is_of, stands_before}
-use Rattle.its_plain.specs.declared.fault.RestoreFault.{RestoreFault}
-use Rattle.standing_states.specs.Walked.{after_all, after}
-use Rattle.standing_states.specs.Found.{one_collection, look_collection, put_collection, AreThoseBefore}
+use Rattle.its_plain.specs.CollectionTables.{collection_address, collection_entry, collection_leads, next_collection, is_of, stands_before}
+use Rattle.standing_states.specs.Found.{put_collection, AreThoseBefore}
 use Rattle.standing_states.proofs.Walks.{Rises}
-use Rattle.standing_states.proofs.EventsWalked.{within_is, then_ok, then_err}
+use Rattle.standing_states.proofs.EventsWalked.{within_is}
 use Rattle.standing_states.proofs.Filled.{collection-mapped, no_collection}
 
 -- where a place leads is told by its entry

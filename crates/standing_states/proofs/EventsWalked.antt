@@ -7,12 +7,11 @@ use Rattle.std.proofs.lemmas.Bool.{ltb-true, eqb-false}
 use Rattle.guest_windows.specs.Windows.{Window, number_at}
 use Rattle.table_entries.specs.Fields.{EventFields}
 use Rattle.table_entries.specs.Words.{unpacked_event}
-use Rattle.its_types.specs.Maps.{Maps}
 use Rattle.its_types.specs.declared.translation.Event.{Event}
 use Rattle.its_plain.specs.Walks.{Reached, within, ◌>>=◌}
 use Rattle.its_plain.specs.EventTables.{Itt, event_address, event_leads, next_event, event_check, event_in, IsIttClear, IttOffends, HasEvent}
 use Rattle.its_plain.specs.declared.fault.RestoreFault.{RestoreFault}
-use Rattle.standing_states.specs.Walked.{Among, HasAt, after_all, after}
+use Rattle.standing_states.specs.Walked.{Among, HasAt}
 use Rattle.standing_states.specs.Found.{one_event, look_event, events_read}
 use Rattle.standing_states.proofs.Walks.{Rises, walk_found, walk_clear, walk_has, walk_err}
 

@@ -1,5 +1,5 @@
 -- Registers that can be restored are the values with their masks.
-use Rattle.std.proofs.Common.{◌≡◌, ℕ, Bool, true, false, nat_lt, Result, Ok}
+use Rattle.std.proofs.Common.{◌≡◌, ℕ, Bool, true, false, nat_lt, Ok}
 use Rattle.gits_regs.specs.Registers.{Registers, masked, restored, base_allowed, queue_size}
 use Rattle.gits_regs.specs.Registers as registers
 use Rattle.gits_regs.specs.declared.values.Register.{Register}

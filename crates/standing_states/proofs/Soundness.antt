@@ -21,7 +21,7 @@ use Rattle.its_types.specs.declared.translation.Event.{Event}
 use Rattle.guest_windows.specs.Windows.{Window, inside, number_at, extent, are_windows}
 use Rattle.guest_windows.proofs.Laws.{length-read_at}
 use Rattle.gits_regs.specs.Registers as regs
-use Rattle.gits_regs.specs.Registers.{Registers, is_valid, is_indirect, collection_places, masked, restored}
+use Rattle.gits_regs.specs.Registers.{Registers, is_indirect, collection_places, restored}
 use Rattle.gits_regs.specs.declared.values.RegValues.{RegValues}
 use Rattle.gits_regs.proofs.Kept.{restored_keeps}
 use Rattle.gicr_regs.specs.Registers.{AreKept}

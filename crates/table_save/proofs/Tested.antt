@@ -1,5 +1,5 @@
 -- The tests of the code are those of the definition.
-use Rattle.std.proofs.Common.{◌≡◌, ℕ, List, [], ◌∷◌, ◌++◌, Option, Some, None, Result, Ok, Err, refl, sym, ap, ◌∙◌, append-nil}
+use Rattle.std.proofs.Common.{◌≡◌, ℕ, List, [], ◌∷◌, ◌++◌, Option, Some, None, Result, Ok, Err, refl, ap, ◌∙◌, append-nil}
 use Rattle.std.specs.Prelude.{find}
 use Rattle.std.specs.FinMap.{entries}
 use Rattle.guest_windows.specs.Windows.{Window}

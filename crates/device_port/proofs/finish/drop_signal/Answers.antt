@@ -1,20 +1,13 @@
-use Rattle.std.proofs.Common.{rules, arith, refl, sym, ◌∙◌, ap, subst, List, [], ◌∷◌, ◌<◌, ◌≡◌, ℕ}
-use Rattle.its_types.specs.Lpis.{with_lpi}
-use Rattle.its_types.specs.declared.machine.Word.{Word}
-use Rattle.its_plain.specs.declared.call.Cause.TheVariants.{LpisOff}
+use Rattle.std.proofs.Common.{arith, refl, []}
 use Rattle.its_plain.specs.declared.call.Reply.TheVariants as reply
-use Rattle.its_plain.specs.declared.call.Signal.TheVariants.{Delivered, Dropped}
-use Rattle.owned_parts.specs.Owned.{redistributor_of}
-use Rattle.xlate_cache.specs.Pairs.{shard_number}
-use Rattle.xlate_cache.specs.Ways.{entry, filled}
-use Rattle.its_steps.proofs.Signals.{fills, drops, offs}
-use Rattle.its_steps.specs.Contents.{Maps, Held}
-use Rattle.its_steps.specs.declared.change.ShardChange.TheVariants.{Keep, Fill}
+use Rattle.its_plain.specs.declared.call.Signal.TheVariants.{Dropped}
+use Rattle.its_steps.proofs.Signals.{drops}
+use Rattle.its_steps.specs.Contents.{Maps}
+use Rattle.its_steps.specs.declared.change.ShardChange.TheVariants.{Keep}
 use Rattle.its_turns.proofs.Telling.{may_here, owes_here}
 use Rattle.its_turns.specs.Contents.{translator_of}
 use Rattle.its_turns.specs.Machines.{setup, view}
-use Rattle.device_port.proofs.Cached.{at_stamp}
-use Rattle.device_port.specs.Hands.{one_held, three_held}
+use Rattle.device_port.specs.Hands.{one_held}
 use Rattle.device_port.specs.Signals.{signal}
 use Rattle.device_port.proofs.finish.drop_signal.Goals as goal
 

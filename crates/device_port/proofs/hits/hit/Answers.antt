@@ -1,21 +1,7 @@
-use Rattle.std.proofs.Common.{rules, arith, refl, sym, ◌∙◌, ap, subst, List, [], ◌∷◌, ◌<◌, ◌≡◌, ℕ, Some, Option}
-use Rattle.its_types.specs.Lpis.{with_lpi}
-use Rattle.its_types.specs.declared.ids.Target.{Target}
-use Rattle.its_plain.specs.declared.call.Reply.TheVariants as reply
-use Rattle.its_plain.specs.declared.call.Signal.TheVariants.{Delivered}
-use Rattle.xlate_cache.specs.Pairs.{shard_number}
+use Rattle.std.proofs.Common.{refl, subst, [], ◌<◌, ℕ}
 use Rattle.xlate_cache.specs.Ways.{found}
 use Rattle.owned_parts.specs.Owned.{redistributor_of}
-use Rattle.its_steps.specs.Calls.{staying}
-use Rattle.its_steps.specs.Contents.{Held}
-use Rattle.its_steps.specs.MayCall.{MayCall}
-use Rattle.its_steps.specs.Parts.{Setup}
-use Rattle.its_steps.specs.Renewal.{renewal}
-use Rattle.its_steps.specs.World.{View}
-use Rattle.its_steps.specs.declared.change.ShardChange.TheVariants.{Keep}
 use Rattle.its_turns.specs.Machines.{setup, view}
-use Rattle.device_port.specs.Hands.{two_before}
-use Rattle.device_port.specs.Signals.{signal}
 use Rattle.device_port.proofs.Cached.{hit_may, hit_owes, hit_made}
 use Rattle.device_port.proofs.hits.hit.Goals as goal
 

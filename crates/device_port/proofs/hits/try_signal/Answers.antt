@@ -1,14 +1,11 @@
-use Rattle.std.proofs.Common.{rules, arith, refl, sym, ◌∙◌, ap, subst, List, [], ◌∷◌, ◌<◌, ◌≡◌, ℕ, Some, None, Option}
+use Rattle.std.proofs.Common.{rules, ◌∙◌, ap, subst}
 use Rattle.its_types.specs.declared.machine.Part.TheVariants as part
-use Rattle.its_plain.specs.declared.call.Signal.TheVariants.{Delivered}
 use Rattle.owned_parts.specs.Owned.{redistributor_of}
-use Rattle.its_steps.specs.Contents.{Shard, Redist}
+use Rattle.its_steps.specs.Contents.{Shard}
 use Rattle.its_steps.specs.Parts.{Setup}
 use Rattle.its_steps.specs.World.{View, took}
 use Rattle.its_turns.specs.Machines.{setup, view}
-use Rattle.its_turns.specs.Steps.{IsBusy}
-use Rattle.its_turns.specs.Told.{HasStood, Looks}
-use Rattle.device_port.specs.Signals.{SignalsNow, KeepsEarly}
+use Rattle.its_turns.specs.Told.{HasStood}
 use Rattle.device_port.proofs.Cached.{busy_shard, missed_now, busy_redist, hit_now}
 use Rattle.device_port.proofs.Targets.{cached_target}
 use Rattle.device_port.proofs.hits.try_signal.Goals as goal

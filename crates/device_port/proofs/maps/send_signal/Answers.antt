@@ -1,4 +1,4 @@
-use Rattle.std.proofs.Common.{rules, refl, sym, ◌∙◌, ap, subst, List, [], ◌∷◌, inl, inr, ◌≡◌, ℕ, Some}
+use Rattle.std.proofs.Common.{refl, sym, ◌∙◌, ap, subst, List, [], ◌∷◌, inl, inr, ◌≡◌, ℕ, Some}
 use Rattle.its_types.specs.declared.machine.Part.TheVariants as part
 use Rattle.its_plain.specs.declared.call.Cause.TheVariants.{LpisOff}
 use Rattle.its_plain.specs.declared.call.Signal.TheVariants.{Delivered, Dropped}

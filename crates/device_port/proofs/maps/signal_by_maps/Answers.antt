@@ -1,10 +1,10 @@
-use Rattle.std.proofs.Common.{rules, refl, sym, ◌∙◌, ap, subst, [], ◌∷◌, inl, ◌≡◌}
+use Rattle.std.proofs.Common.{refl, [], ◌∷◌, inl}
 use Rattle.its_types.specs.declared.machine.Part.TheVariants as part
 use Rattle.its_plain.specs.declared.call.Signal.TheVariants.{Dropped}
 use Rattle.its_steps.specs.Contents.{Maps}
 use Rattle.its_steps.specs.declared.change.ShardChange.TheVariants.{Keep}
 use Rattle.its_turns.specs.Contents.{translator_of}
-use Rattle.its_turns.specs.Machines.{setup, view}
+use Rattle.its_turns.specs.Machines.{view}
 use Rattle.device_port.proofs.Sent.{busy_maps, finished, first_on, first_early}
 use Rattle.device_port.proofs.maps.signal_by_maps.Goals as goal
 

@@ -2,7 +2,7 @@ use Rattle.std.proofs.Common.{refl, sym, ◌∙◌, ap, subst, ℕ, Bool, List, 
 use Rattle.its_types.specs.declared.ids.Vcpu.{Vcpu}
 use Rattle.its_types.specs.declared.machine.Part.TheVariants as part
 use Rattle.its_types.specs.declared.machine.Word.{Word}
-use Rattle.its_plain.specs.Machine.{are_programmed}
+use Rattle.its_plain.specs.Machine.{are_programmed, layout_of}
 use Rattle.its_plain.specs.Plain.{Redistributor}
 use Rattle.its_plain.specs.declared.desc.Desc.{Desc}
 use Rattle.its_plain.specs.declared.layout.Layout.{Layout}
@@ -18,7 +18,7 @@ use Rattle.its_turns.specs.Machines.{setup, view}
 use Rattle.its_turns.specs.Told.{HasStood}
 use Rattle.its_turns.specs.declared.machine.Machine.{Machine}
 use Rattle.its_turns.proofs.Telling.{may_here, owes_here, one_held, one_lost}
-use Rattle.gicr_lpi.specs.Accesses.{HasItsLayout, read_by}
+use Rattle.gicr_lpi.specs.Accesses.{read_by}
 use Rattle.gicr_lpi.proofs.Alone.{low_bases, may_read}
 use Rattle.gicr_lpi.proofs.reads.try_read_gicr.Goals as goal
 
@@ -29,8 +29,8 @@ held_one vcpu r = out (part.Redist vcpu) (Redist r) ∷ []
 abbrev IsSo : Machine → Bool → Type 0
 IsSo m programmed = programmed ≡ (setup m).start.layout.gicr
 
-is_so : (m : Machine) (programmed : Bool) (desc : Desc) → HasItsLayout m → desc ≡ m.desc → programmed ≡ are_programmed desc.tables → IsSo m programmed
-is_so m programmed desc own same is = is ∙ (ap (λ (d : Desc). are_programmed d.tables) same ∙ ap (λ (l : Layout). l.gicr) own)
+is_so : (m : Machine) (programmed : Bool) (desc : Desc) → layout_of desc ≡ (setup m).start.layout → programmed ≡ are_programmed desc.tables → IsSo m programmed
+is_so m programmed desc layout is = is ∙ ap (λ (l : Layout). l.gicr) layout
 
 reads_now : (m : Machine) (vcpu : Vcpu) (r : Redistributor) (off size : ℕ) → vcpu.0 < vcpu_count (setup m) → (w : Word) → w.place < (setup m).limits.place_last
     → MayLeave (setup m) (staying w (call.ReadGicr vcpu off size) (reply.Value (read_by (setup m).start.layout.gicr r off size)) Keep) (held_one vcpu r)
@@ -42,7 +42,7 @@ read_from-value-requires g c = let m = c.args.machine.now in record {
   low = λ e. rw (c.deref.ensures) (low_bases (setup m) c.args.vcpu (redistributor_of c.in-Ok.redist.value)
       (subst (λ (s : Setup). HasStood s (part.Redist c.args.vcpu) (Redist (redistributor_of c.in-Ok.redist.value))) c.requires.of.1
       c.in-Ok.ensures.result.0.stood)
-      (sym (is_so m c.are_programmed-programmed.result c.desc.result.now c.requires.layout c.desc.ensures.desc c.are_programmed-programmed.ensures) ∙ e));
+      (sym (is_so m c.are_programmed-programmed.result c.desc.result.now c.desc.ensures.layout c.are_programmed-programmed.ensures) ∙ e));
 }
 
 pub try_commit-made-requires-clause-may : goal.try_commit-made-requires-clause-may
@@ -51,7 +51,7 @@ try_commit-made-requires-clause-may g c =
     rw (
       c.read_from-value.ensures,
       c.deref.ensures,
-      is_so m c.are_programmed-programmed.result c.desc.result.now c.requires.layout c.desc.ensures.desc
+      is_so m c.are_programmed-programmed.result c.desc.result.now c.desc.ensures.layout
           c.are_programmed-programmed.ensures,
     )
     (may_here (setup m) (call.ReadGicr c.args.vcpu c.args.off c.args.size) (reply.Value (read_by (setup m).start.layout.gicr r c.args.off c.args.size)) Keep
@@ -72,7 +72,7 @@ put-requires-clause-owed g c =
           (rw (
             c.read_from-value.ensures,
             c.deref.ensures,
-            is_so m c.are_programmed-programmed.result c.desc.result.now c.requires.layout c.desc.ensures.desc
+            is_so m c.are_programmed-programmed.result c.desc.result.now c.desc.ensures.layout
                 c.are_programmed-programmed.ensures,
           ) at c.in-Ok-made.ensures.result);
     }

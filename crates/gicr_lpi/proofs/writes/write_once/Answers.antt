@@ -2,7 +2,7 @@ use Rattle.std.proofs.Common.{refl, sym, ◌∙◌, ap, Bool, List, [], ◌∷�
 use Rattle.its_types.specs.declared.machine.Part.TheVariants as part
 use Rattle.its_types.specs.declared.machine.Word.{Word}
 use Rattle.guest_windows.specs.Windows.{Window}
-use Rattle.its_plain.specs.Machine.{are_programmed}
+use Rattle.its_plain.specs.Machine.{are_programmed, layout_of}
 use Rattle.its_plain.specs.Plain.{Redistributor}
 use Rattle.its_plain.specs.declared.desc.Desc.{Desc}
 use Rattle.its_plain.specs.declared.layout.Layout.{Layout}
@@ -22,16 +22,16 @@ use Rattle.its_turns.specs.Told.{released}
 use Rattle.its_turns.specs.declared.machine.Machine.{Machine}
 use Rattle.its_turns.proofs.Telling.{may_here, owes_here, lost_held}
 use Rattle.held_parts.proofs.Going.{took_held}
-use Rattle.gicr_lpi.specs.Accesses.{HasItsLayout, write_call, after_write, both_held, IsOfWrite}
+use Rattle.gicr_lpi.specs.Accesses.{write_call, after_write, both_held, IsOfWrite}
 use Rattle.gicr_lpi.specs.declared.access.GicrAccess.{GicrAccess}
 use Rattle.gicr_lpi.proofs.Alone.{low_bases, may_write}
 use Rattle.gicr_lpi.proofs.Asked.{took_stood, took_two, once_made, once_lost}
 use Rattle.gicr_lpi.proofs.writes.write_once.Goals as goal
 use Rattle.gicr_lpi.proofs.writes.write_once.Goals.{in-Ok, in-Err}
 
-is_so : (m : Machine) (programmed : Bool) (desc : Desc) → HasItsLayout m → desc ≡ m.desc → programmed ≡ are_programmed desc.tables
+is_so : (m : Machine) (programmed : Bool) (desc : Desc) → layout_of desc ≡ (setup m).start.layout → programmed ≡ are_programmed desc.tables
     → programmed ≡ (setup m).start.layout.gicr
-is_so m programmed desc own same is = is ∙ (ap (λ (d : Desc). are_programmed d.tables) same ∙ ap (λ (l : Layout). l.gicr) own)
+is_so m programmed desc layout is = is ∙ ap (λ (l : Layout). l.gicr) layout
 
 -- what the write leaves, where it is made
 abbrev left_of : Machine → GicrAccess → Redistributor → List Window → Redistributor
@@ -64,7 +64,7 @@ apply-requires-clause-low g c = λ e.
     rw (c.deref_mut.ensures.value)
     (low_bases (setup m) a.vcpu r (took_stood (setup m) y x (part.Redist a.vcpu) (Redist r) c.take_memory-memory.ensures.of.1
     c.take_redist-redist.ensures.takes)
-    (sym (is_so m c.are_programmed-programmed.result c.desc-desc.result.now c.requires.layout c.desc-desc.ensures.desc c.are_programmed-programmed.ensures)
+    (sym (is_so m c.are_programmed-programmed.result c.desc-desc.result.now c.desc-desc.ensures.layout c.are_programmed-programmed.ensures)
     ∙ e))
 
 -- what is held once it was made
@@ -81,7 +81,7 @@ put-requires-clause-owed g c =
     let memory = c.take_memory-memory.result.value.memory in let r = redistributor_of c.take_redist-redist.result.value in
     let has = two_held v y x a r memory c.requires.free (took_held v y part.Mem (Mem memory) c.take_memory-memory.ensures.takes)
     (took_held y x (part.Redist a.vcpu) (Redist r) c.take_redist-redist.ensures.takes) in
-    let so = is_so m c.are_programmed-programmed.result c.desc-desc.result.now c.requires.layout c.desc-desc.ensures.desc c.are_programmed-programmed.ensures in
+    let so = is_so m c.are_programmed-programmed.result c.desc-desc.result.now c.desc-desc.ensures.layout c.are_programmed-programmed.ensures in
     record {
       content = Redist (redistributor_of c.match-made.redist.value);
       content_is = refl;

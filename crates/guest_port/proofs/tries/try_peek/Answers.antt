@@ -1,16 +1,14 @@
-use Rattle.std.proofs.Common.{rules, refl, sym, ◌∙◌, ap, subst, [], ◌∷◌, ◌<◌}
-use Rattle.std.specs.Prelude.{unwrap_or}
-use Rattle.guest_windows.specs.Windows.{write_at}
+use Rattle.std.proofs.Common.{refl, []}
 use Rattle.its_types.specs.declared.machine.Part.TheVariants as part
 use Rattle.its_plain.specs.declared.call.Call.TheVariants as call
 use Rattle.its_plain.specs.declared.call.Reply.{Reply}
-use Rattle.its_plain.specs.Answer.{poke_reply, peek_reply}
+use Rattle.its_plain.specs.Answer.{peek_reply}
 use Rattle.its_steps.specs.Calls.{peeked_in}
 use Rattle.its_steps.specs.declared.change.ShardChange.TheVariants.{Keep}
 use Rattle.its_steps.specs.Contents.{Mem}
 use Rattle.its_turns.specs.Machines.{setup, view}
 use Rattle.its_turns.proofs.Telling.{may_here, owes_here, one_held, one_lost}
-use Rattle.guest_port.proofs.Alone.{one, pokes_now, peeks_now}
+use Rattle.guest_port.proofs.Alone.{one, peeks_now}
 use Rattle.guest_port.proofs.tries.try_peek.Goals as goal
 
 pub try_commit-requires-clause-may : goal.try_commit-requires-clause-may

@@ -1,15 +1,8 @@
 use Rattle.std.proofs.Common.{ap, ◌∙◌}
 use Rattle.its_plain.specs.Plain.{Plain}
-use Rattle.its_migrate.proofs.Fresh.{first_layout, fresh_layout}
+use Rattle.its_migrate.proofs.Fresh.{first_layout}
 use Rattle.its_bench.proofs.shared.shared.Goals as goal
 
 pub new-requires-2-clause-layout : goal.new-requires-2-clause-layout
 new-requires-2-clause-layout c =
     ap (λ (u : Plain). u.layout) c.into_parts.ensures.state ∙ first_layout c.in_ok-desc.desc c.in-Ok.owned c.in-Ok.ensures
-
-pub returns-clause-layout : goal.returns-clause-layout
-returns-clause-layout c =
-    let m = c.in_ok-machine in
-    fresh_layout m.machine c.in_ok-desc.desc c.into_parts.result
-    (ap (λ (u : Plain). u.layout) c.into_parts.ensures.state ∙ first_layout c.in_ok-desc.desc c.in-Ok.owned c.in-Ok.ensures)
-    m.ensures.setup m.ensures.desc

@@ -15,7 +15,7 @@ returns-in_ok-add_leg-in-Ok-clause-ok g c =
     let w = is_whole s leg c.args.number c.in_ok-played.played.lines.items h old new (resting m c.play_leg.new.root) (Some Migrated) c.in_ok-texts.texts played
     refl c.in_ok-texts.ensures.texts c.in_ok-add_leg-in-Ok.ensures.ok in
     let went = c.in-Ok.ensures in (
-      goes_on_with m c.in-Ok.machine c.pending_texts.new.root c.in-Ok.root went c.requires.fresh.layout,
+      goes_on_with m c.in-Ok.machine c.pending_texts.new.root c.in-Ok.root went,
       is_migrated m c.in-Ok.machine c.pending_texts.new.root c.in-Ok.root went leg c.args.number old new w.0 (c.in_ok-texts.ensures.same ∙ w.1),
     )
 

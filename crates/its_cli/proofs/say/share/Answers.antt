@@ -8,5 +8,4 @@ pub returns-clause-ready : goal.returns-clause-ready
 returns-clause-ready c =
     let m = c.in_ok-machine in let p = c.into_parts.result in
     is_ready c.args.script.now m.machine m.root p c.requires.within
-    (parts_layout c.args.script.now.desc c.args.made p c.requires.first c.into_parts.ensures.state) m.ensures.of m.ensures.setup m.ensures.desc
-    m.ensures.view
+    (parts_layout c.args.script.now.desc c.args.made p c.requires.first c.into_parts.ensures.state) m.ensures.of m.ensures.setup m.ensures.view

@@ -1,8 +1,6 @@
-use Rattle.std.proofs.Common.{sym, subst, ◌∙◌, ap}
+use Rattle.std.proofs.Common.{sym, subst, ◌∙◌}
 use Rattle.owned_machine.specs.Whole.{IsMachine}
 use Rattle.its_turns.specs.Machines.{setup, view}
-use Rattle.its_plain.specs.Machine.{layout_of}
-use Rattle.its_plain.specs.declared.desc.Desc.{Desc}
 use Rattle.owned_machine.specs.Placed.{parts_in}
 use Rattle.its_migrate.proofs.Moving.{taken_machine, taken_layout}
 use Rattle.its_migrate.proofs.leaving.moved_parts.Goals as goal
@@ -10,7 +8,7 @@ use Rattle.its_migrate.proofs.leaving.moved_parts.Goals as goal
 pub moved-moved-requires : goal.moved-moved-requires
 moved-moved-requires c =
     let m = c.args.machine.now in
-    let same = c.in_ok-layout.ensures ∙ (ap (λ (d : Desc). layout_of d) c.desc.ensures.desc ∙ c.requires.layout) in
+    let same = c.in_ok-layout.ensures ∙ c.desc.ensures.layout in
     subst IsMachine (sym c.in_place.ensures)
     (taken_machine (setup m) (view c.args.root.now) (view c.take_all-whole.new.pass) c.take_all-whole.result c.take_all-whole.ensures.taken
     c.in_ok-layout.layout same)
@@ -18,6 +16,6 @@ moved-moved-requires c =
 pub returns-clause-layout : goal.returns-clause-layout
 returns-clause-layout c =
     let m = c.args.machine.now in
-    let same = c.in_ok-layout.ensures ∙ (ap (λ (d : Desc). layout_of d) c.desc.ensures.desc ∙ c.requires.layout) in
+    let same = c.in_ok-layout.ensures ∙ c.desc.ensures.layout in
     taken_layout (setup m) (view c.args.root.now) (view c.take_all-whole.new.pass) c.take_all-whole.result c.take_all-whole.ensures.taken
     c.in_ok-layout.layout same (parts_in c.in_place.result) c.moved-moved.result c.in_place.ensures c.moved-moved.ensures

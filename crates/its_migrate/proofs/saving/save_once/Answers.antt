@@ -1,7 +1,5 @@
-use Rattle.std.proofs.Common.{refl, ap, ◌∙◌}
-use Rattle.its_plain.specs.Machine.{layout_of}
+use Rattle.std.proofs.Common.{refl, ◌∙◌}
 use Rattle.its_plain.specs.declared.call.Call.TheVariants as call
-use Rattle.its_plain.specs.declared.desc.Desc.{Desc}
 use Rattle.its_plain.specs.Answer.{save_reply}
 use Rattle.its_steps.specs.Calls.{staying}
 use Rattle.its_steps.specs.declared.change.ShardChange.TheVariants.{Keep}
@@ -12,28 +10,28 @@ use Rattle.its_migrate.proofs.saving.save_once.Goals as goal
 pub saves-requires-clause-hand : goal.saves-requires-clause-hand
 saves-requires-clause-hand g c =
     let m = c.args.machine.now in
-    let same = c.in_ok-layout.ensures ∙ (ap (λ (d : Desc). layout_of d) c.desc.ensures.desc ∙ c.requires.layout) in
+    let same = c.in_ok-layout.ensures ∙ c.desc.ensures.layout in
     taken_hand (setup m) (view c.args.pass.now) (view c.take_all-whole.new.pass) c.take_all-whole.result c.take_all-whole.ensures.taken c.in_ok-layout.layout
     same
 
 pub try_commit-requires-clause-may : goal.try_commit-requires-clause-may
 try_commit-requires-clause-may g c =
     let m = c.args.machine.now in
-    let same = c.in_ok-layout.ensures ∙ (ap (λ (d : Desc). layout_of d) c.desc.ensures.desc ∙ c.requires.layout) in
+    let same = c.in_ok-layout.ensures ∙ c.desc.ensures.layout in
     rw (c.reply_to.ensures) (save_may (setup m) (view c.args.pass.now) (view c.take_all-whole.new.pass) c.take_all-whole.result
     c.take_all-whole.ensures.taken c.in_ok-layout.layout same c.in-Ok.reply c.in-Ok.ensures)
 
 pub write-requires-clause-hand : goal.write-requires-clause-hand
 write-requires-clause-hand g c =
     let m = c.args.machine.now in
-    let same = c.in_ok-layout.ensures ∙ (ap (λ (d : Desc). layout_of d) c.desc.ensures.desc ∙ c.requires.layout) in
+    let same = c.in_ok-layout.ensures ∙ c.desc.ensures.layout in
     taken_hand (setup m) (view c.args.pass.now) (view c.take_all-whole.new.pass) c.take_all-whole.result c.take_all-whole.ensures.taken c.in_ok-layout.layout
     same
 
 pub put_all-requires-in-Ok-try_commit-clause-held : goal.put_all-requires-in-Ok-try_commit-clause-held
 put_all-requires-in-Ok-try_commit-clause-held g c =
     let m = c.args.machine.now in
-    let same = c.in_ok-layout.ensures ∙ (ap (λ (d : Desc). layout_of d) c.desc.ensures.desc ∙ c.requires.layout) in
+    let same = c.in_ok-layout.ensures ∙ c.desc.ensures.layout in
     save_owes (setup m) (view c.args.pass.now) (view c.take_all-whole.new.pass) c.take_all-whole.result c.take_all-whole.ensures.taken c.in_ok-layout.layout
     same c.in-Ok.reply c.in-Ok.ensures c.take_all-whole.ensures.of.1 c.in-Ok-try_commit.word (view c.try_commit.new.pass) c.write.new.whole
     c.write.ensures.tables c.write.ensures.redists c.write.ensures.memory (rw (c.reply_to.ensures) at c.in-Ok-try_commit.ensures.result)
@@ -41,7 +39,7 @@ put_all-requires-in-Ok-try_commit-clause-held g c =
 pub returns-in-Ok-try_commit-clause-answer : goal.returns-in-Ok-try_commit-clause-answer
 returns-in-Ok-try_commit-clause-answer g c =
     let m = c.args.machine.now in
-    let same = c.in_ok-layout.ensures ∙ (ap (λ (d : Desc). layout_of d) c.desc.ensures.desc ∙ c.requires.layout) in
+    let same = c.in_ok-layout.ensures ∙ c.desc.ensures.layout in
     save_placed (setup m) (view c.args.pass.now) (view c.take_all-whole.new.pass) c.take_all-whole.result c.take_all-whole.ensures.taken
     c.in_ok-layout.layout same (view c.try_commit.new.pass) (view c.put_all-in-Ok-try_commit.new.pass)
     c.put_all-in-Ok-try_commit.ensures.home c.requires.free (staying c.in-Ok-try_commit.word call.Save (save_reply c.in-Ok.reply) Keep) refl
@@ -50,7 +48,7 @@ returns-in-Ok-try_commit-clause-answer g c =
 pub returns-clause-answer : goal.returns-clause-answer
 returns-clause-answer g c =
     let m = c.args.machine.now in
-    let same = c.in_ok-layout.ensures ∙ (ap (λ (d : Desc). layout_of d) c.desc.ensures.desc ∙ c.requires.layout) in
+    let same = c.in_ok-layout.ensures ∙ c.desc.ensures.layout in
     rw (c.cause_of.ensures) (save_lost (setup m) (view c.args.pass.now) (view c.take_all-whole.new.pass) c.take_all-whole.result
     c.take_all-whole.ensures.taken c.in_ok-layout.layout same (view c.try_commit.new.pass) (view c.put_all-in-Err.new.pass)
     c.put_all-in-Err.ensures.home c.requires.free c.in-Err.lost c.in-Err.ensures.result)

@@ -1,4 +1,4 @@
-use Rattle.std.proofs.Common.{arith, sym, ◌∙◌, subst, ◌<◌, ◌≤◌}
+use Rattle.std.proofs.Common.{arith, subst, ◌≤◌}
 use Rattle.its_steps.specs.Parts.{Setup}
 use Rattle.its_turns.specs.Machines.{setup, view}
 use Rattle.its_turns.proofs.Telling.{low}

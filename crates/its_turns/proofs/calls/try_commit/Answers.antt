@@ -1,4 +1,4 @@
-use Rattle.std.proofs.Common.{ap, sym, subst, ◌<◌, List}
+use Rattle.std.proofs.Common.{sym, subst, ◌<◌, List}
 use Rattle.its_steps.specs.Calls.{staying}
 use Rattle.its_steps.specs.MayCall.{MayCall}
 use Rattle.its_steps.specs.Parts.{Setup}

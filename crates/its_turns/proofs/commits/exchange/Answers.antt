@@ -1,4 +1,4 @@
-use Rattle.std.proofs.Common.{arith, subst, sym, eqb, ap, ◌∙◌, length, ◌+◌, ◌≡◌, ℕ}
+use Rattle.std.proofs.Common.{arith, subst, sym, eqb, ap, ◌∙◌, length, ◌+◌}
 use mathlib.Core.Option.{none}
 use prog.Atomic.{either}
 use Rattle.atomic_table.specs.Table.{step, Allows}

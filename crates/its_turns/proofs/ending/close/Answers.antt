@@ -1,4 +1,4 @@
-use Rattle.std.proofs.Common.{rules, arith, ap, sym, ◌∙◌, subst, refl, ◌≡◌, ◌+◌, ◌*◌, ℕ, List}
+use Rattle.std.proofs.Common.{rules, arith, ap, sym, ◌∙◌, subst, ◌≡◌, ◌+◌, ◌*◌, ℕ, List}
 use Rattle.std.specs.Slots.{slots_items, slots_filled, slots_len}
 use mathlib.Core.Option.{some}
 use lib.ListN.{get_elem?}
@@ -33,7 +33,7 @@ pub unreachable-requires-in_default-take_part-2 : goal.unreachable-requires-in_d
 unreachable-requires-in_default-take_part-2 c = let m = c.args.machine in let p = c.args.root in let s = setup m in let l = c.loop-vcpu in let u =
     after s.start (view p).seen in
     let shards : m.desc.shards ≡ s.shards = ap (λ d. d.shards) m.described in
-    let vcpus : m.desc.shape.vcpus ≡ vcpu_count s = ap (λ x. x.vcpus) m.built.1 ∙ ap (λ (l : Layout). l.shape.vcpus) m.built.0 in
+    let vcpus : m.desc.shape.vcpus ≡ vcpu_count s = ap (λ (l : Layout). l.shape.vcpus) m.built.1 ∙ ap (λ (l : Layout). l.shape.vcpus) m.built.0 in
     let z = closes s m.table.shared.table_id.slots p.seat.id p.seat.me p.live _ _ l.invariant.1 c.requires.lone c.requires.free
     (part.Redist (record { 0 = l.vcpu })) c.take_part-in-loop-vcpu.result (omega (arith, c.loop-vcpu-test.true, vcpus))
     (let same : 8 * (2 + m.desc.shards + c.from.result) ≡ 8 * index_of s (part.Redist (record { 0 = l.vcpu })) =
@@ -63,7 +63,7 @@ loop-vcpu-init c = let m = c.args.machine in let p = c.args.root in let s = setu
 pub loop-vcpu-preserved : goal.loop-vcpu-preserved
 loop-vcpu-preserved c = let m = c.args.machine in let p = c.args.root in let s = setup m in let l = c.loop-vcpu in let u = after s.start (view p).seen in
     let shards : m.desc.shards ≡ s.shards = ap (λ d. d.shards) m.described in
-    let vcpus : m.desc.shape.vcpus ≡ vcpu_count s = ap (λ x. x.vcpus) m.built.1 ∙ ap (λ (l : Layout). l.shape.vcpus) m.built.0 in
+    let vcpus : m.desc.shape.vcpus ≡ vcpu_count s = ap (λ (l : Layout). l.shape.vcpus) m.built.1 ∙ ap (λ (l : Layout). l.shape.vcpus) m.built.0 in
     let z = closes s m.table.shared.table_id.slots p.seat.id p.seat.me p.live _ _ l.invariant.1 c.requires.lone c.requires.free
     (part.Redist (record { 0 = l.vcpu })) c.take_part-in-loop-vcpu.result (omega (arith, c.loop-vcpu-test.true, vcpus))
     (let same : 8 * (2 + m.desc.shards + c.from.result) ≡ 8 * index_of s (part.Redist (record { 0 = l.vcpu })) =
@@ -88,7 +88,7 @@ returns c = let m = c.args.machine in let p = c.args.root in let s = setup m in 
     (let items = sym c.take_part.ensures.items in let one = m.laid.0 in (λ d. get_elem? (items d) (8 * one d)) ∙ c.take_part-2.ensures.value) in
     let b = closes s m.table.shared.table_id.slots p.seat.id p.seat.me p.live _ _ c.close_with-closed.ensures.values.2 c.requires.lone c.requires.free part.Mem
     c.take_part-2.result tt there in
-    let vcpus : m.desc.shape.vcpus ≡ vcpu_count s = ap (λ x. x.vcpus) m.built.1 ∙ ap (λ (l : Layout). l.shape.vcpus) m.built.0 in
+    let vcpus : m.desc.shape.vcpus ≡ vcpu_count s = ap (λ (l : Layout). l.shape.vcpus) m.built.1 ∙ ap (λ (l : Layout). l.shape.vcpus) m.built.0 in
     let count : l.vcpu ≡ vcpu_count s = omega (arith, l.auto.vcpu-end, c.loop-vcpu-test.false, vcpus) in
     record {
       layout = m.built.0 ∙ a.machine.layout;

@@ -1,4 +1,4 @@
-use Rattle.std.proofs.Common.{◌≡◌, ◌*◌}
+use Rattle.std.proofs.Common.{◌≡◌}
 use Rattle.std.specs.Slots.{slots_items, slots_filled, slots_len}
 use Rattle.its_turns.specs.Closed.{AreTaken}
 use Rattle.its_turns.proofs.ending.take_part.Given as goal

@@ -1,6 +1,5 @@
 use Rattle.std.proofs.Common.{rules, arith, ap, sym, ◌∙◌, ◌≡◌, subst, Some}
 use Rattle.std.specs.Option.{is_some}
-use Rattle.lpi_pending.specs.declared.redist.Redist.{Redist}
 use Rattle.owned_parts.specs.Owned.{HasLpisOf}
 use Rattle.its_steps.proofs.Lists.{all_snoc}
 use Rattle.its_turns.specs.Contents.{IsFit}

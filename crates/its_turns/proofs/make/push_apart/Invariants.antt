@@ -1,4 +1,4 @@
-use Rattle.std.proofs.Common.{◌≡◌, [], ◌∷◌, ◌++◌, replicate}
+use Rattle.std.proofs.Common.{◌≡◌, ◌∷◌, ◌++◌, replicate}
 use Rattle.its_turns.specs.declared.value.Value.TheVariants.{Vacant}
 use Rattle.its_turns.proofs.make.push_apart.Given as goal
 

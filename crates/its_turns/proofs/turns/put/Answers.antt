@@ -1,7 +1,6 @@
 use Rattle.std.proofs.Common.{arith, ℕ, ◌+◌, ◌*◌, ◌∷◌, List, ap, ◌∙◌}
 use Rattle.atomic_table.specs.Table.{rest}
 use Rattle.its_steps.specs.World.{View}
-use Rattle.its_steps.specs.Contents.{Held}
 use Rattle.its_turns.specs.Contents.{emptied}
 use Rattle.its_turns.specs.Machines.{setup}
 use Rattle.its_turns.specs.declared.value.Value.{Value}

@@ -1,7 +1,6 @@
 use Rattle.std.proofs.Common.{ap, sym, subst, ◌∙◌}
 use Rattle.its_steps.specs.World.{View}
 use Rattle.its_turns.specs.Told.{IsLone}
-use Rattle.its_migrate.specs.Resting.{HasItsLayout}
 use Rattle.ports_together.proofs.migrations.tables_that_overlap.Goals as goal
 
 pub is_one_pending-requires : goal.is_one_pending-requires
@@ -10,7 +9,6 @@ is_one_pending-requires g c =
     let stays = c.in-Err.ensures in
     record {
       of = stays.1;
-      layout = subst HasItsLayout (sym stays.0) before.layout;
       lone = subst IsLone (sym stays.2.same) before.lone;
       free = ap (λ (v : View). v.held) stays.2.same ∙ before.free;
     }

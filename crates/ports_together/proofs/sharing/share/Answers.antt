@@ -1,9 +1,8 @@
 use Rattle.std.proofs.Common.{◌≡◌, ap, sym, subst, ◌∙◌}
 use Rattle.its_plain.specs.Described.{IsFirstState}
-use Rattle.its_plain.specs.Machine.{layout_of}
 use Rattle.its_plain.specs.Plain.{Plain}
 use Rattle.its_steps.specs.Parts.{Setup}
-use Rattle.its_migrate.proofs.Fresh.{first_layout, fresh_layout}
+use Rattle.its_migrate.proofs.Fresh.{first_layout}
 use Rattle.ports_together.proofs.sharing.share.Goals as goal
 
 pub new-requires-2-clause-layout : goal.new-requires-2-clause-layout
@@ -12,14 +11,11 @@ new-requires-2-clause-layout c =
 
 pub returns-in-Ok : goal.returns-in-Ok
 returns-in-Ok c =
-    let d = c.args.desc.now in let e = c.in-Ok.ensures in let parts = c.into_parts-parts.result in
-    let layout : parts.layout ≡ layout_of d = ap (λ (u : Plain). u.layout) c.into_parts-parts.ensures.state
-    ∙ first_layout d c.in_ok-new.field-0 c.in_ok-new.ensures in
+    let d = c.args.desc.now in let e = c.in-Ok.ensures in
     record {
       start = subst (IsFirstState d) (sym (ap (λ (s : Setup). s.start) e.setup ∙ c.into_parts-parts.ensures.state)) c.in_ok-new.ensures;
       limits = ap (λ (s : Setup). s.limits) e.setup;
       shards = ap (λ (s : Setup). s.shards) e.setup;
       of = e.of;
       view = e.view;
-      layout = fresh_layout c.in-Ok.made.0 d parts layout e.setup e.desc;
     }

@@ -1,16 +1,13 @@
-use Rattle.std.proofs.Common.{rules, refl, sym, ◌∙◌, ap, subst, [], ◌∷◌, ◌<◌}
+use Rattle.std.proofs.Common.{refl, []}
 use Rattle.its_types.specs.declared.machine.Part.TheVariants as part
-use Rattle.its_types.specs.declared.machine.Shape.{Shape}
 use Rattle.its_plain.specs.declared.call.Call.TheVariants as call
 use Rattle.its_plain.specs.declared.call.Reply.TheVariants as reply
-use Rattle.its_plain.specs.Answer.{ack_of, lowest, taken}
-use Rattle.owned_parts.specs.Owned.{redistributor_of, HasLpisOf}
-use Rattle.its_steps.specs.Parts.{Setup}
-use Rattle.its_steps.specs.World.{View}
+use Rattle.its_plain.specs.Answer.{ack_of, lowest}
+use Rattle.owned_parts.specs.Owned.{redistributor_of}
 use Rattle.its_steps.specs.declared.change.ShardChange.TheVariants.{Keep}
 use Rattle.its_steps.specs.Contents.{Redist}
 use Rattle.its_turns.specs.Machines.{setup, view}
-use Rattle.its_turns.proofs.Telling.{may_here, owes_here, lost_held, one_held, one_lost, one_done}
+use Rattle.its_turns.proofs.Telling.{may_here, owes_here, one_held, one_lost}
 use Rattle.redist_ack.proofs.Alone.{one, shows_now}
 use Rattle.redist_ack.proofs.acks.try_show.Goals as goal
 

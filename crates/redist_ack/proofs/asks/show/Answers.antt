@@ -2,7 +2,7 @@ use Rattle.its_types.specs.declared.machine.Part.TheVariants as part
 use Rattle.its_plain.specs.declared.call.Call.TheVariants as call
 use Rattle.its_plain.specs.declared.call.Reply.TheVariants as reply
 use Rattle.its_turns.specs.Machines.{view}
-use Rattle.its_turns.proofs.Telling.{asks_first, again_busy, again_raced, asked_spent, asked_done}
+use Rattle.its_turns.proofs.Telling.{again_raced, asked_spent, asked_done}
 use Rattle.redist_ack.proofs.asks.show.Goals as goal
 
 pub returns-in-Done-clause-answer : goal.returns-in-Done-clause-answer

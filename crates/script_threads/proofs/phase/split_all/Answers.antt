@@ -23,7 +23,6 @@ loop-done-preserved c =
     let more : length c.push.new.self.items ≡ length js + 1 = omega (arith, ap length pushed, length-append js (j ∷ [])) in
     let ready : IsReady m j = record {
       of = c.split-pass.ensures.of.1;
-      layout = c.requires.layout;
       free = ap (λ (z : View). z.held) s.4;
       may = subst (MayAskAll (setup m)) (sym at ∙ sym c.as_slice-calls.ensures) (all_at (MayAskAll (setup m)) ts (length js) one c.requires.may below);
       empty = next.0;

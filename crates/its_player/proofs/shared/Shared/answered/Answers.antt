@@ -1,12 +1,9 @@
 use Rattle.std.proofs.Common.{◌≡◌, true, false, sym, ap, subst, ◌∙◌}
 use Rattle.std.specs.List.{AllByRecursion}
 use Rattle.its_types.specs.declared.machine.Part.{Part}
-use Rattle.its_plain.specs.Answer.{reply_of, left}
+use Rattle.its_plain.specs.Answer.{left}
 use Rattle.its_plain.specs.Parts.{footprint}
-use Rattle.its_plain.specs.Plain.{Plain}
 use Rattle.its_steps.specs.Good.{Holds}
-use Rattle.its_steps.specs.Renewal.{assembled}
-use Rattle.its_player.specs.Shared.{setup_of}
 use Rattle.its_player.proofs.MayTests.{covers_decides}
 use Rattle.its_player.proofs.shared.Shared.answered.Goals as goal
 

@@ -1,4 +1,4 @@
-use Rattle.std.proofs.Common.{◌≡◌, ℕ, ◌<◌, List, true, false, refl, sym, ap, subst, ◌∙◌}
+use Rattle.std.proofs.Common.{◌≡◌, ℕ, ◌<◌, List, true, false, sym, ap, subst, ◌∙◌}
 use Rattle.its_plain.specs.Answer.{left}
 use Rattle.its_plain.specs.Plain.{Plain}
 use Rattle.its_steps.specs.MayCall.{MayChange, MayStamp}

@@ -1,4 +1,4 @@
-use Rattle.std.proofs.Common.{set, ◌≡◌, false, Some, refl, ap, sym, ◌∙◌}
+use Rattle.std.proofs.Common.{set, ◌≡◌, Some, ap, sym, ◌∙◌}
 use Rattle.std.specs.Vec.{with_item}
 use Rattle.its_steps.specs.Contents.{Held}
 use Rattle.its_player.specs.Contents.{content_of}

@@ -1,7 +1,6 @@
-use Rattle.std.proofs.Common.{set, ◌≡◌, true, Some, refl, ap, sym, ◌∙◌}
+use Rattle.std.proofs.Common.{set, ◌≡◌, Some, ap, sym, ◌∙◌}
 use Rattle.std.specs.Vec.{with_item}
 use Rattle.its_steps.specs.Contents.{Held}
-use Rattle.its_player.specs.Contents.{content_of}
 use Rattle.its_player.specs.Shared.{setup_of, known}
 use Rattle.its_player.specs.declared.view.View.{View as Known}
 use Rattle.its_player.proofs.Positions.{same_read}

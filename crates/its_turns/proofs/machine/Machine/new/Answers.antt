@@ -1,11 +1,12 @@
 use Rattle.std.proofs.Common.{rules, arith, ◌≡◌, ℕ, ◌+◌, ◌*◌, ◌<◌, ◌≤◌, ◌^◌, List, length, replicate, ap, sym, ◌∙◌, subst}
 use Rattle.atomic_table.specs.Table.{opening}
+use Rattle.its_plain.specs.Machine.{layout_of}
 use Rattle.its_plain.specs.declared.desc.Desc.{Desc}
 use Rattle.its_plain.specs.declared.layout.Layout.{Layout}
 use Rattle.its_steps.specs.Parts.{HasVcpus, Setup, part_count}
 use Rattle.its_steps.specs.World.{first_view}
 use Rattle.owned_parts.specs.declared.parts.Parts.{Parts}
-use Rattle.its_turns.specs.Opening.{setup_from, kept_of, apart, first_words}
+use Rattle.its_turns.specs.Opening.{setup_from, first_words}
 use Rattle.its_turns.specs.Rule.{Kept, setup_of}
 use Rattle.its_turns.specs.declared.value.Value.{Value}
 use Rattle.its_turns.proofs.Opening.{opens, values_long, apart_long}
@@ -41,8 +42,7 @@ invariant_of-result c =
       described = search rules;
       built = (
         layout ∙ sym (ap (λ (x : Setup). x.start.layout) key),
-        ap (λ (d : Desc). d.shape) c.in_ok-kept.ensures
-            ∙ sym (ap (λ (l : Layout). l.shape) (layout ∙ c.requires.layout)),
+        ap (λ (d : Desc). layout_of d) c.in_ok-kept.ensures ∙ sym (layout ∙ c.requires.layout),
       );
       sized = (e.1 ∙ (long ∙ ap (λ (n : ℕ). 8 * n) (sym parts)), omega (arith, e.0, words, parts, vcpus));
       laid = (ap (λ (x : Setup). length x.start.translators) key, subst HasVcpus (sym key) c.requires.sound.vcpus);

@@ -1,4 +1,4 @@
-use Rattle.std.proofs.Common.{arith, ◌∙◌, ap, ℕ, ◌+◌, ◌<◌, ◌≤◌, List, length, nat_lt, subst, sym, rules, ◌≡◌, true}
+use Rattle.std.proofs.Common.{arith, ◌∙◌, ap, List, length, nat_lt, subst, sym}
 use mathlib.Core.List.{IsPrefix}
 use Rattle.its_steps.specs.World.{View, loaded, has_joined}
 use Rattle.its_steps.specs.Contents.{Held}

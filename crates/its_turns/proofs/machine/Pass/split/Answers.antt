@@ -1,7 +1,7 @@
-use Rattle.std.proofs.Common.{arith, ◌∙◌, ap, ℕ, ◌+◌, ◌<◌, ◌^◌, length, subst, sym, rules}
+use Rattle.std.proofs.Common.{arith, ◌∙◌, ap, ℕ, ◌+◌, ◌<◌, ◌^◌, length, subst, sym}
 use Rattle.its_steps.specs.World.{View}
 use Rattle.its_turns.specs.Contents.{emptied}
-use Rattle.its_turns.specs.Machines.{setup, view}
+use Rattle.its_turns.specs.Machines.{setup}
 use Rattle.its_turns.specs.Told.{are_joined}
 use Rattle.its_turns.proofs.Joined.{still_joined}
 use Rattle.its_turns.proofs.Passing.{allows_split}
