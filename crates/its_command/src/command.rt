@@ -76,17 +76,29 @@ pub enum Command {
 /// The name of a command.
 #[derive(Clone, Copy, Debug, PartialEq, Eq)]
 pub enum Op {
+    /// An event to another collection.
     Movi,
+    /// An interrupt pending.
     Int,
+    /// An interrupt not pending.
     Clear,
+    /// Wait for effects at a processor.
     Sync,
+    /// Map or unmap a device.
     Mapd,
+    /// Map or unmap a collection.
     Mapc,
+    /// Map an event to an interrupt.
     Mapti,
+    /// Map an event to the interrupt of its own number.
     Mapi,
+    /// Read an interrupt's configuration again.
     Inv,
+    /// Read those of a collection again.
     Invall,
+    /// Move all pending interrupts of a processor.
     Movall,
+    /// Unmap an event.
     Discard,
     /// The opcode of a command that has no name.
     Unknown(u8),

@@ -14,6 +14,7 @@ pub enum Region {
     Level1,
     /// The page of a valid level-1 entry.
     Page(u32),
+    /// The collection table.
     Collections,
     /// A device's interrupt translation table.
     Itt(DeviceId),
@@ -74,7 +75,9 @@ impl From<SaveFault> for SaveError {
 /// A table that is walked from entry to entry.
 #[derive(Clone, Copy, Debug, PartialEq, Eq)]
 pub enum Table {
+    /// The device table.
     Devices,
+    /// The interrupt translation table of a device.
     Itt(DeviceId),
 }
 
