@@ -76,29 +76,29 @@ pub enum Command {
 /// The name of a command.
 #[derive(Clone, Copy, Debug, PartialEq, Eq)]
 pub enum Op {
-    /// An event to another collection.
+    /// MOVI, opcode 0x01.
     Movi,
-    /// An interrupt pending.
+    /// INT, opcode 0x03.
     Int,
-    /// An interrupt not pending.
+    /// CLEAR, opcode 0x04.
     Clear,
-    /// Wait for effects at a processor.
+    /// SYNC, opcode 0x05.
     Sync,
-    /// Map or unmap a device.
+    /// MAPD, opcode 0x08.
     Mapd,
-    /// Map or unmap a collection.
+    /// MAPC, opcode 0x09.
     Mapc,
-    /// Map an event to an interrupt.
+    /// MAPTI, opcode 0x0A.
     Mapti,
-    /// Map an event to the interrupt of its own number.
+    /// MAPI, opcode 0x0B.
     Mapi,
-    /// Read an interrupt's configuration again.
+    /// INV, opcode 0x0C.
     Inv,
-    /// Read those of a collection again.
+    /// INVALL, opcode 0x0D.
     Invall,
-    /// Move all pending interrupts of a processor.
+    /// MOVALL, opcode 0x0E.
     Movall,
-    /// Unmap an event.
+    /// DISCARD, opcode 0x0F.
     Discard,
     /// The opcode of a command that has no name.
     Unknown(u8),

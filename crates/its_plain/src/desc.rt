@@ -51,7 +51,7 @@ pub struct Desc {
 /// Why a description makes no machine: the first that applies.
 #[derive(Clone, Copy, Debug, PartialEq, Eq)]
 pub enum DescFault {
-    /// The windows of guest memory can't be so.
+    /// No memory can have these windows.
     Windows,
     /// The configuration table doesn't lie in one window.
     Config,
@@ -59,7 +59,7 @@ pub enum DescFault {
     Pending(Vcpu),
     /// The bytes of this fill, counted from 0, don't lie in one window.
     Bytes(u64),
-    /// Memory and the registers to restore stand for no state: their first offence.
+    /// Memory and the registers to restore stand for no state: their first fault.
     Restore(RestoreFault),
 }
 

@@ -81,7 +81,7 @@ pub enum Table {
     Itt(DeviceId),
 }
 
-/// Why memory and registers stand for no state: the first offence.
+/// Why memory and registers stand for no state: the first fault.
 #[derive(Clone, Copy, Debug, PartialEq, Eq)]
 pub enum RestoreFault {
     /// The entry at this address doesn't lie in one window.

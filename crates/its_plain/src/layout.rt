@@ -17,7 +17,7 @@ pub struct Layout {
 }
 
 impl Layout {
-    /// The same once more.
+    /// A copy of it.
     pub fn copy(&self, alloc: Global) -> Result<Layout, AllocError>
         ensures { IfOk result (λ l. l ≡ self.now) }
     {

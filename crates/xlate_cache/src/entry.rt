@@ -3,9 +3,9 @@ use its_types::{DeviceId, EventId, Target};
 /// A translation of a pair, as it was at a stamp.
 #[derive(Clone, Copy, Debug, PartialEq, Eq)]
 pub struct Entry {
-    /// The pair's first part.
+    /// The DeviceID of the pair.
     pub dev: DeviceId,
-    /// The pair's second part.
+    /// The EventID of the pair.
     pub ev: EventId,
     /// The entry counts only while the word has this stamp.
     pub stamp: u32,
