@@ -12,6 +12,7 @@ pub struct SaveFaultOut {
     /// 1: the level-1 entry of `device` isn't valid. 2: `region` doesn't lie in one window. 3:
     /// `region` and `other_region` share a byte, and one of them is written.
     pub kind: u32,
+    /// A DeviceID, of kind 1.
     pub device: u32,
     /// 1 the flat device table, 2 the first level of a device table, 3 a page of its second level,
     /// 4 the collection table, 5 a device's interrupt translation table, 6 a pending table, 7 the
@@ -19,7 +20,9 @@ pub struct SaveFaultOut {
     pub region: u32,
     /// Of region 3 the level-1 entry, of 5 the device, of 6 and 8 the virtual processor.
     pub number: u32,
+    /// The second region of kind 3, numbered as `region` is.
     pub other_region: u32,
+    /// Its number, as `number` is that of `region`.
     pub other_number: u32,
 }
 
@@ -38,17 +41,27 @@ pub struct MakeFaultOut {
     /// the register at `register_offset` can't stand beside the others; 12 `collection` has no
     /// place in the table; 13 a table of the redistributor of `vcpu` doesn't lie in one window.
     pub kind: u32,
+    /// The number of a virtual processor.
     pub vcpu: u32,
+    /// A DeviceID.
     pub device: u32,
+    /// An EventID.
     pub event: u32,
+    /// An INTID that is no LPI's.
     pub intid: u32,
+    /// An ICID.
     pub collection: u32,
     /// 1 the device table, 2 the interrupt translation table of `device`.
     pub table: u32,
+    /// Counted from 0, in the table.
     pub entry: u32,
+    /// In entries.
     pub distance: u32,
+    /// In bytes, from the beginning of the translator's control frame.
     pub register_offset: u32,
+    /// Of kind 4 a fill, counted from 0; of kind 9 a processor's number as the entry has it.
     pub number: u64,
+    /// A guest physical address.
     pub address: u64,
 }
 

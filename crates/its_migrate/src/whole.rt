@@ -16,8 +16,11 @@ use owned_machine::InPlace;
 /// Registers and maps, guest memory, and the redistributors of all virtual processors.
 #[derive(Drop)]
 pub struct Whole {
+    /// Registers and maps of the translator.
     pub tables: Box<Tables>,
+    /// Guest memory.
     pub memory: Box<GuestMemory>,
+    /// Those of all virtual processors.
     pub redists: Redists,
 }
 

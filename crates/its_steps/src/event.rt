@@ -6,6 +6,7 @@ use its_types::Part;
 pub struct Event {
     /// The number of the pass.
     pub pass: u32,
+    /// What it does.
     pub kind: Kind,
 }
 

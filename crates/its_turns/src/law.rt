@@ -17,7 +17,9 @@ use std::snapshot::Snapshot;
 /// What the table is told once.
 #[derive(Drop)]
 pub struct Plan {
+    /// What the machine is made from.
     pub desc: Snapshot<Desc>,
+    /// Its parts as they begin.
     pub parts: Snapshot<Parts>,
 }
 

@@ -23,6 +23,7 @@ use std::sync::Wait;
 /// Another pass has the turn of the part.
 #[derive(Clone, Copy, Debug, PartialEq, Eq)]
 pub struct Busy {
+    /// Whose turn was tried.
     pub part: Part,
     /// The number of that pass.
     pub holder: u32,
