@@ -78,7 +78,7 @@ pub enum Effect {
     },
 }
 
-/// What a command comes to on the parts that it was planned on: its effect, or the first reason to
+/// The outcome of a command on the parts that it was planned on: its effect, or the first reason to
 /// refuse it (IHI 0069, section 5.3).
 #[derive(Clone, Copy)]
 pub struct Planned {

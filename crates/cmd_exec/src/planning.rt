@@ -1,4 +1,4 @@
-//! What a command comes to: its first refusal, or its effect. Nothing is changed.
+//! The outcome of a command: its first refusal, or its effect. Nothing is changed.
 ghost use Rattle.std.specs.Prelude.{◌≡◌, ◌<◌, true, is_some, IfOk};
 ghost use Rattle.its_types.specs.Maps as maps;
 ghost use Rattle.its_plain.specs.Commands as commands;

@@ -21,7 +21,7 @@ pub enum Stage {
     Start,
     /// In the description, after its first line.
     Description,
-    /// A leg is open behind a migration, and none of its phases.
+    /// A leg is open after a migration, and none of its phases.
     Leg,
     /// A phase is open, and none of its threads.
     Phase,

@@ -16,7 +16,7 @@ pub enum Kind {
     Text,
     /// An unknown first word.
     Word,
-    /// It may not stand here, or not once more.
+    /// It may not stand here, or not a second time.
     Order,
     /// A line that must stand before it is missing.
     Missing,

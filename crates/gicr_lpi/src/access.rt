@@ -1,4 +1,4 @@
-//! What a read and a write of the LPI registers come to, on parts in hand.
+//! The outcome of a read and of a write of the LPI registers, on parts in hand.
 ghost use Rattle.std.specs.Prelude.{◌≡◌, true, if◌then◌else◌};
 ghost use Rattle.gicr_regs.specs.Registers as registers;
 ghost use Rattle.gicr_regs.specs.Registers.{AreLow};

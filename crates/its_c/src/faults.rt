@@ -31,8 +31,8 @@ pub struct SaveFaultOut {
 #[repr(C)]
 #[derive(Clone, Copy)]
 pub struct MakeFaultOut {
-    /// Of the description: 1 the windows can't be so; 2 the configuration table doesn't lie in one
-    /// window; 3 the pending table of `vcpu` doesn't; 4 the fill `number`, from 0, doesn't.
+    /// Of the description: 1 no memory can have the windows; 2 the configuration table doesn't lie
+    /// in one window; 3 the pending table of `vcpu` doesn't; 4 the fill `number`, from 0, doesn't.
     ///
     /// Of what is restored: 5 the entry at `address` doesn't lie in one window; 6 `device` has more
     /// than 16 EventID bits; 7 the interrupt `intid` of `device` and `event` is no LPI; 8 entry

@@ -58,7 +58,7 @@ impl Play<Value, Known> for Look {
     ghost then = { looking };
 }
 
-/// A load of the word after which the part taken last is held behind the others.
+/// A load of the word after which the part taken last is held after the others.
 pub struct Turn;
 
 impl Play<Value, Known> for Turn {

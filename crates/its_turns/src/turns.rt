@@ -98,7 +98,7 @@ pub fn take<R: Wait>(rt: &R, machine: &Machine, pass: &mut Pass, part: Part) -> 
     unreachable!()
 }
 
-/// Puts home the value that was taken out last, as it is owed, and gives its turn back.
+/// Puts the value that was taken out last back, as it is owed, and gives its turn back.
 pub fn put(machine: &Machine, pass: &mut Pass, part: Part, value: Value)
     requires of { IsOf machine.now pass.old }
     requires stands { Stands (setup machine.now) part }

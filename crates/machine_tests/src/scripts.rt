@@ -284,7 +284,7 @@ fn peek(addr: u64) -> Call {
     }
 }
 
-/// The calls that put a command behind the last one. The queue has one page.
+/// The calls that put a command after the last one. The queue has one page.
 pub fn queueing(
     alloc: Global,
     machine: &mut Machine,
