@@ -2,4 +2,3 @@ pub mod Getting
 pub mod Wholes
 pub mod Resting
 pub mod Saving
-pub mod Tried

@@ -9,4 +9,3 @@ pub mod Runs
 pub mod Scripts
 pub mod Stops
 pub mod Threads
-pub mod Tried

@@ -5,4 +5,3 @@ pub mod Phases
 pub mod Rests
 pub mod Roots
 pub mod Scripts
-pub mod Tried
