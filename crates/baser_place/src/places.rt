@@ -26,7 +26,7 @@ pub fn level1_entries(regs: &Regs) -> u32
     1 << (regs.dev_bits() - 13)
 }
 
-/// Entry `k` of the first level of a device table, which stands at eight times `k` behind the
+/// Entry `k` of the first level of a device table, which stands at eight times `k` after the
 /// table's base.
 #[tactic(auto, unfolding(crate::specs::Places::level1_of))]
 pub fn level1(regs: &Regs, memory: &Memory, k: u32) -> Level1

@@ -1,4 +1,4 @@
--- What a call comes to that waits for its turns.
+-- The outcome of a call that waits for its turns.
 use Rattle.std.specs.Prelude.{◌≡◌, ℕ, ◌<◌, ◌≤◌, ◌++◌, length, Result, Ok, Err}
 use Rattle.its_types.specs.declared.machine.Part.{Part}
 use Rattle.its_types.specs.declared.machine.Placed.{Placed}

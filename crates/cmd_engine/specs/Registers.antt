@@ -16,7 +16,7 @@ use Rattle.its_steps.specs.declared.change.ShardChange.{ShardChange}
 use Rattle.its_steps.specs.declared.commit.Commit.{Commit}
 use Rattle.cmd_engine.specs.declared.registers_commit.RegWrite.{RegWrite}
 
--- the maps, in front of other parts
+-- the maps, before other parts
 abbrev pub maps_held : Translator → List Held
 maps_held t = out (part.Maps 0) (Maps t) ∷ []
 

@@ -21,7 +21,7 @@ ending_as (cached.Pair dev ev ways) = Pair dev.0 ev.0
 ending_as cached.Any = All
 ending_as (cached.Every shards) = All
 
--- of n shards those in hand, in front of other parts
+-- of n shards those in hand, before other parts
 abbrev pub cached_held : ℕ → Cached → List Held → List Held
 cached_held n cached.Nothing others = others
 cached_held n (cached.Pair dev ev ways) others = shard_held (shard_number dev.0 ev.0 n) ways ∷ others

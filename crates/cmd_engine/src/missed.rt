@@ -5,6 +5,6 @@
 pub enum Missed {
     /// All places are used.
     Spent,
-    /// Another call was made first, and it may begin anew.
+    /// Another call was made first, and it may start again.
     Again,
 }

@@ -17,8 +17,11 @@ use its_types::{Gate, Placed, Point, Word};
 /// A write of `size` bytes at an offset of the control frame.
 #[derive(Clone, Copy, Debug, PartialEq, Eq)]
 pub struct RegWrite {
+    /// In bytes, from the control frame's beginning.
     pub off: u32,
+    /// 4 or 8 bytes; a write of any other size is ignored.
     pub size: u8,
+    /// Of a write of 4 bytes its low 32 bits count.
     pub value: u64,
 }
 

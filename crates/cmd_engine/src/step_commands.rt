@@ -37,8 +37,9 @@ fn as_step(reply: CmdReply) -> StepReply
     }
 }
 
-/// Takes what a command needs beside maps and memory: shards, and redistributors, the lowest first.
-/// Tries it once, and puts all home. No redistributor is in its place before and after.
+/// Takes what a command needs besides maps and memory: shards, and redistributors, the lowest
+/// first. Tries it once, and puts all of them back. No redistributor is in its place before and
+/// after.
 pub(crate) fn command_step<R: Wait, G: Gate>(
     rt: &R,
     machine: &Machine,

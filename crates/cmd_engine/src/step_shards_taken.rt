@@ -1,4 +1,4 @@
-//! The shards of a command, taken and put home.
+//! The shards of a command, taken and put back.
 ghost use Rattle.std.specs.Prelude.{◌≡◌, List};
 ghost use Rattle.its_steps.specs.Contents.{Held};
 ghost use Rattle.its_steps.specs.Endings.{ending_in, All};
@@ -66,7 +66,7 @@ fn take_any<R: Wait>(rt: &R, machine: &Machine, pass: &mut Pass) -> Cached
     Cached::Every(shards)
 }
 
-/// Puts them home.
+/// Puts them back.
 pub(crate) fn put_cached(machine: &Machine, pass: &mut Pass, cached: Cached)
     requires of { IsOf machine.now pass.old }
     requires whole { AreWhole (setup machine.now).shards cached }

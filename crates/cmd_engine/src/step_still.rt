@@ -12,7 +12,7 @@ use its_steps::{Commit, ShardChange};
 use its_turns::{GuestMemory, Machine, Pass, Tables, Value, begin, commit, put};
 use its_types::{Gate, Part, Placed, Point};
 
-/// The maps and memory go home.
+/// Puts the maps and memory back.
 pub(crate) fn put_base(
     machine: &Machine,
     pass: &mut Pass,

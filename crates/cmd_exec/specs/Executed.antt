@@ -1,5 +1,5 @@
--- What is promised of a command (IHI 0069, section 5.3) that is executed on parts in hand: in each state that has them, it
--- comes to what the plain machine says.
+-- What is promised of a command (IHI 0069, section 5.3) that is executed on parts in hand: in each state that has them, its outcome is what the plain machine
+-- says.
 use Rattle.std.specs.Prelude.{◌≡◌, ℕ, List, Option, Result, Ok, Err}
 use Rattle.guest_windows.specs.Windows.{Window}
 use Rattle.gits_regs.specs.Registers.{Registers}
@@ -22,12 +22,12 @@ use Rattle.cmd_exec.specs.declared.effect.Effect.{Effect}
 use Rattle.cmd_exec.specs.declared.effect.Planned.{Planned}
 use Rattle.cmd_exec.specs.Effects.{planned}
 
--- it is what the command comes to on these parts
+-- it is the outcome of the command on these parts
 pub record IsPlanOf (c : Command) (s : Shape) (r : Registers) (m : Maps) (memory : List Window) (redists : List (Option Redist)) (p : Planned) : Type 0 where
   pub command : p.command ≡ c
   pub outcome : p.outcome ≡ planned s r m memory redists c
 
--- what a command is answered that comes to this
+-- what a command with this outcome is answered
 abbrev pub outcome_reply : Op → Result Effect Reason → CmdReply
 outcome_reply op (Ok effect) = reply.Ran op
 outcome_reply op (Err reason) = reply.Refused op reason

@@ -60,7 +60,7 @@ is_in set vcpu = nat_lt vcpu 16 && bit_of set vcpu
 abbrev pub vcpus_from : ℕ → ℕ → ℕ → List ℕ
 vcpus_from set low n = filter (is_in set) (range_with_len low n)
 
--- the parts that such a set stands for: beside the redistributors the maps of a translator and guest memory
+-- the parts that such a set stands for: besides the redistributors the maps of a translator and guest memory
 abbrev pub has_part : ℕ → Part → Bool
 has_part set (MapsOf its) = true
 has_part set Mem = true

@@ -10,7 +10,7 @@ use its_maps::Maps;
 use its_types::Shape;
 use lpi_pending::Redists;
 
-/// Has an effect on the parts in hand.
+/// Carries out an effect on the parts in hand.
 #[tactic(auto, unfolding(crate::specs::Effects::maps_after, crate::specs::Effects::redists_after, crate::specs::Ready::IsReady))]
 pub fn carry_out(
     effect: Effect,

@@ -5,14 +5,18 @@ use its_types::{Device, DeviceId, Event, EventId, Icid, Intid, Vcpu};
 /// What a command does that isn't refused.
 #[derive(Clone, Copy)]
 pub enum Effect {
+    /// Of a SYNC, and of a MAPTI or MAPI of a mapped event.
     Nothing,
+    /// It then has no event.
     MapDevice {
         dev: DeviceId,
         device: Device,
     },
+    /// Its events go with it. Pending LPIs stay.
     UnmapDevice {
         dev: DeviceId,
     },
+    /// Pending LPIs stay.
     MapCollection {
         icid: Icid,
         vcpu: Vcpu,
@@ -23,6 +27,7 @@ pub enum Effect {
         from: Vcpu,
         to: Vcpu,
     },
+    /// Events and pending LPIs stay.
     UnmapCollection {
         icid: Icid,
     },
@@ -48,27 +53,32 @@ pub enum Effect {
         intid: Intid,
         target: Option<Vcpu>,
     },
+    /// The LPI becomes pending.
     SetLpi {
         intid: Intid,
         vcpu: Vcpu,
     },
+    /// The LPI is not pending any more.
     ClearLpi {
         intid: Intid,
         vcpu: Vcpu,
     },
+    /// The LPI's configuration is read again.
     Reread {
         intid: Intid,
     },
+    /// Those of the LPIs of all its events are.
     RereadCollection {
         icid: Icid,
     },
+    /// All pending LPIs go to the other virtual processor.
     MoveAll {
         from: Vcpu,
         to: Vcpu,
     },
 }
 
-/// What a command comes to on the parts that it was planned on: its effect, or the first reason to
+/// The outcome of a command on the parts that it was planned on: its effect, or the first reason to
 /// refuse it (IHI 0069, section 5.3).
 #[derive(Clone, Copy)]
 pub struct Planned {

@@ -16,7 +16,7 @@ use its_maps::Maps;
 use its_types::Shape;
 use lpi_pending::Redists;
 
-/// What a command comes to (IHI 0069, section 5.3). Nothing is changed. The redistributors that
+/// The outcome of a command (IHI 0069, section 5.3). Nothing is changed. The redistributors that
 /// `needs` names are in hand. The reply is that of every state that has these parts.
 pub fn plan(
     command: &Command,

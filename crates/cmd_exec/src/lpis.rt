@@ -11,6 +11,7 @@ use guest_windows::Memory;
 use its_types::{Addr, Intid, Vcpu};
 use lpi_pending::{Redist, Redists};
 
+/// Makes an LPI pending at a virtual processor, whose redistributor is in hand.
 #[tactic(auto, unfolding(crate::specs::InHand::changed))]
 pub fn set_lpi(redists: &mut Redists, vcpu: Vcpu, intid: Intid)
     requires { takes_lpi redists.old vcpu.0 intid.0 ≡ true }
@@ -20,6 +21,7 @@ pub fn set_lpi(redists: &mut Redists, vcpu: Vcpu, intid: Intid)
     redist.pending.set(intid);
 }
 
+/// Makes an LPI not pending at a virtual processor, whose redistributor is in hand.
 #[tactic(auto, unfolding(crate::specs::InHand::changed))]
 pub fn clear_lpi(redists: &mut Redists, vcpu: Vcpu, intid: Intid)
     requires { takes_lpi redists.old vcpu.0 intid.0 ≡ true }

@@ -10,7 +10,7 @@ use its_maps::{LookUp, Maps};
 use its_types::{DeviceId, EventId, Profile, Shape, Vcpu};
 
 /// The parts that a step which meets a command reads or changes: its translator's maps and guest
-/// memory always, and these redistributors. The registers have no say in it.
+/// memory always, and these redistributors. They don't depend on the registers.
 pub fn needs(command: &Command, _regs: &Regs, maps: &Maps, shape: &Shape) -> PartSet
     requires vcpus { shape.now.vcpus ≤ 16 }
     requires targets { AreTargets shape.now maps.now.maps }

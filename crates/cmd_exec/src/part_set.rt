@@ -6,7 +6,7 @@ use its_types::{Part, Vcpu, bit_of};
 use lpi_config::with_bit;
 use std::marker::Model;
 
-/// Parts of a machine: the redistributors of some virtual processors, beside a translator's maps
+/// Parts of a machine: the redistributors of some virtual processors, besides a translator's maps
 /// and guest memory. It is seen as a number, of whose first 16 bits bit v is 1 where the
 /// redistributor of virtual processor v is in it.
 #[derive(Clone, Copy, Debug, PartialEq, Eq)]

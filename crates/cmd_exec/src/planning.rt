@@ -1,4 +1,4 @@
-//! What a command comes to: its first refusal, or its effect. Nothing is changed.
+//! The outcome of a command: its first refusal, or its effect. Nothing is changed.
 ghost use Rattle.std.specs.Prelude.{◌≡◌, ◌<◌, true, is_some, IfOk};
 ghost use Rattle.its_types.specs.Maps as maps;
 ghost use Rattle.its_plain.specs.Commands as commands;
@@ -24,10 +24,15 @@ use lpi_pending::Redists;
 /// The parts that a command reads.
 #[derive(Clone, Copy)]
 pub struct InHand<'a> {
+    /// The registers of the translator.
     pub regs: &'a Regs,
+    /// What is mapped.
     pub maps: &'a Maps,
+    /// Guest memory, for the first level of the device table.
     pub memory: &'a Memory,
+    /// Those that the command needs are in hand.
     pub redists: &'a Redists,
+    /// How large the machine is.
     pub shape: &'a Shape,
 }
 
@@ -266,6 +271,8 @@ impl<'a> InHand<'a> {
 
     // ---- all commands
 
+    /// The command's effect on these parts, or the first reason to refuse it (IHI 0069, section
+    /// 5.3).
     #[tactic(auto, unfolding(crate::specs::Effects::planned))]
     pub fn plan(&self, command: &Command) -> Result<Effect, Reason>
         requires { AreNeededInHand self.now.shape.now self.now.maps.now.maps command.now

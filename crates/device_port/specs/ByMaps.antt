@@ -1,4 +1,4 @@
--- What a signal by the maps comes to.
+-- The outcome of a signal by the maps.
 use Rattle.std.specs.Prelude.{◌≡◌, List}
 use Rattle.std.specs.List.{AllByRecursion}
 use Rattle.its_types.specs.declared.ids.DeviceId.{DeviceId}

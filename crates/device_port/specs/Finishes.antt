@@ -1,4 +1,4 @@
--- What the last steps of a signal by the maps come to: from the commit on.
+-- The outcome of the last steps of a signal by the maps: from the commit on.
 use Rattle.std.specs.Prelude.{◌≡◌, []}
 use Rattle.its_types.specs.declared.ids.DeviceId.{DeviceId}
 use Rattle.its_types.specs.declared.ids.EventId.{EventId}
@@ -15,13 +15,13 @@ use Rattle.its_turns.specs.declared.attempts.Lost.{Lost}
 use Rattle.its_turns.specs.declared.attempts.Lost.TheVariants as lost
 use Rattle.device_port.specs.Signals.{signal}
 
--- it was made at this word, and all parts went home
+-- it was made at this word, and all parts were put back
 pub record MadeAt (y : View) (dev : DeviceId) (ev : EventId) (s : Signal) (change : ShardChange) (w : Word) (x : View) : Type 0 where
   pub made : View
   pub makes : Makes y (staying w (signal dev ev) (reply.Signal s) change) made
   pub home : x ≡ record made { held = [] }
 
--- it was not made, and all parts went home
+-- it was not made, and all parts were put back
 pub record LostFor (y : View) (l : Lost) (x : View) : Type 0 where
   pub left : View
   pub loses : IsLost y l left

@@ -1,4 +1,4 @@
--- What the last steps of a signal by the cache come to: from the commit on.
+-- The outcome of the last steps of a signal by the cache: from the commit on.
 use Rattle.std.specs.Prelude.{◌≡◌, Option, List, []}
 use Rattle.its_types.specs.declared.ids.DeviceId.{DeviceId}
 use Rattle.its_types.specs.declared.ids.EventId.{EventId}
@@ -20,7 +20,7 @@ use Rattle.device_port.specs.Signals.{signal}
 use Rattle.device_port.specs.declared.hits.Now.{Now}
 use Rattle.device_port.specs.declared.hits.Now.TheVariants as now
 
--- it was made, and both parts went home
+-- it was made, and both parts were put back
 pub record HitMade (y : View) (w : Word) (dev : DeviceId) (ev : EventId) (t : Target) (ways : List (Option Translation)) (x : View) : Type 0 where
   pub made : View
   pub commits : Commits y (staying w (signal dev ev) (reply.Signal (Delivered t.vcpu t.intid)) Keep) made
@@ -28,7 +28,7 @@ pub record HitMade (y : View) (w : Word) (dev : DeviceId) (ev : EventId) (t : Ta
   pub owes : made.held ≡ two_before (shard_number dev.0 ev.0 y.setup.shards) t.vcpu ways left []
   pub home : x ≡ record made { held = [] }
 
--- another was made first, and both parts went home
+-- another was made first, and both parts were put back
 pub record HitRaced (y : View) (w : Word) (r : Raced) (x : View) : Type 0 where
   pub left : View
   pub raced : IsRaced y w r left

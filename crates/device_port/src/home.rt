@@ -1,4 +1,4 @@
-//! Parts that go home.
+//! Parts that are put back.
 ghost use Rattle.std.specs.Prelude.{◌≡◌, ◌<◌, List, []};
 ghost use Rattle.owned_parts.specs.Owned.{redistributor_of, HasLpisOf};
 ghost use Rattle.its_steps.specs.Contents.{Held};

@@ -91,7 +91,7 @@ script_from d = do
   desc ← desc_of d
   Ok (record { desc = desc; fill_lines = d.fill_lines; legs = d.legs })
 
--- what stands behind the last line end is no line
+-- what stands after the last line end is no line
 unfoldable pub finished : Draft → List ℕ → Result Script Kind
 finished d last = do
   _ ← ensure (length last == 0) kind.Cut

@@ -5,7 +5,7 @@ use Rattle.std.specs.Char.{digit_value}
 use Rattle.std.specs.Str.{bytes_eq}
 use Rattle.std.specs.Str.Parse.{digits_value}
 
--- what stands before each line end, and behind the last
+-- what stands before each line end, and after the last
 abbrev pub parts : List ℕ → List (List ℕ)
 parts bytes = slice_split (λ b. b == 10) bytes
 

@@ -9,6 +9,7 @@ use crate::words::command_word_of;
 use its_command::encode;
 use its_plain::{Bytes64, Call};
 
+/// `signal DEVICE EVENT`
 #[tactic(auto, unfolding(crate::specs::Calls::signal_of))]
 pub fn signal_of(fields: &[&[u8]]) -> Result<Call, Kind>
     ensures { result ≡ spec.signal_of (map (λ f. f.now) fields.now) }
@@ -21,6 +22,7 @@ pub fn signal_of(fields: &[&[u8]]) -> Result<Call, Kind>
     })
 }
 
+/// `take VCPU`
 #[tactic(auto, unfolding(crate::specs::Calls::take_of))]
 pub fn take_of(vcpus: u8, fields: &[&[u8]]) -> Result<Call, Kind>
     ensures { result ≡ spec.take_of vcpus (map (λ f. f.now) fields.now) }
@@ -29,6 +31,7 @@ pub fn take_of(vcpus: u8, fields: &[&[u8]]) -> Result<Call, Kind>
     Ok(Call::Take(processor(vcpus, arg(fields, 1))?))
 }
 
+/// `show VCPU`
 #[tactic(auto, unfolding(crate::specs::Calls::show_of))]
 pub fn show_of(vcpus: u8, fields: &[&[u8]]) -> Result<Call, Kind>
     ensures { result ≡ spec.show_of vcpus (map (λ f. f.now) fields.now) }
@@ -37,6 +40,7 @@ pub fn show_of(vcpus: u8, fields: &[&[u8]]) -> Result<Call, Kind>
     Ok(Call::Show(processor(vcpus, arg(fields, 1))?))
 }
 
+/// `poke ADDRESS BYTES`, of 1 to 64 bytes.
 #[tactic(auto, unfolding(crate::specs::Calls::poke_of))]
 pub fn poke_of(fields: &[&[u8]]) -> Result<Call, Kind>
     ensures { result ≡ spec.poke_of (map (λ f. f.now) fields.now) }
@@ -48,6 +52,7 @@ pub fn poke_of(fields: &[&[u8]]) -> Result<Call, Kind>
     })
 }
 
+/// `word ADDRESS VALUE`: a write of 8 bytes, least significant byte first.
 #[tactic(auto, unfolding(crate::specs::Calls::word_of))]
 pub fn word_of(fields: &[&[u8]]) -> Result<Call, Kind>
     ensures { result ≡ spec.word_of (map (λ f. f.now) fields.now) }
@@ -61,6 +66,7 @@ pub fn word_of(fields: &[&[u8]]) -> Result<Call, Kind>
     })
 }
 
+/// `command ADDRESS NAME ..`: a write of the command's 32 bytes.
 #[tactic(auto, unfolding(crate::specs::Calls::command_call_of))]
 pub fn command_call_of(fields: &[&[u8]]) -> Result<Call, Kind>
     ensures { result ≡ spec.command_call_of (map (λ f. f.now) fields.now) }
@@ -75,6 +81,7 @@ pub fn command_call_of(fields: &[&[u8]]) -> Result<Call, Kind>
     })
 }
 
+/// `peek ADDRESS COUNT`, of 1 to 64 bytes.
 #[tactic(auto, unfolding(crate::specs::Calls::peek_of))]
 pub fn peek_of(fields: &[&[u8]]) -> Result<Call, Kind>
     ensures { result ≡ spec.peek_of (map (λ f. f.now) fields.now) }
@@ -111,6 +118,7 @@ fn largest(size: u8) -> u64
     }
 }
 
+/// `read OFFSET SIZE`, of 4 or 8 bytes.
 #[tactic(auto, unfolding(crate::specs::Calls::read_of))]
 pub fn read_of(fields: &[&[u8]]) -> Result<Call, Kind>
     ensures { result ≡ spec.read_of (map (λ f. f.now) fields.now) }
@@ -125,6 +133,7 @@ pub fn read_of(fields: &[&[u8]]) -> Result<Call, Kind>
     })
 }
 
+/// `write OFFSET SIZE VALUE`, of 4 or 8 bytes. The value has at most that many.
 #[tactic(auto, unfolding(crate::specs::Calls::write_of))]
 pub fn write_of(fields: &[&[u8]]) -> Result<Call, Kind>
     ensures { result ≡ spec.write_of (map (λ f. f.now) fields.now) }
@@ -157,6 +166,7 @@ pub fn rread_of(vcpus: u8, fields: &[&[u8]]) -> Result<Call, Kind>
     })
 }
 
+/// `rwrite VCPU OFFSET SIZE VALUE`: a write of an LPI register of a processor's redistributor.
 #[tactic(auto, unfolding(crate::specs::Calls::rwrite_of))]
 pub fn rwrite_of(vcpus: u8, fields: &[&[u8]]) -> Result<Call, Kind>
     ensures { result ≡ spec.rwrite_of vcpus (map (λ f. f.now) fields.now) }
@@ -174,6 +184,7 @@ pub fn rwrite_of(vcpus: u8, fields: &[&[u8]]) -> Result<Call, Kind>
     })
 }
 
+/// `step`
 #[tactic(auto, unfolding(crate::specs::Calls::step_of))]
 pub fn step_of(fields: &[&[u8]]) -> Result<Call, Kind>
     ensures { result ≡ spec.step_of (map (λ f. f.now) fields.now) }
@@ -182,6 +193,7 @@ pub fn step_of(fields: &[&[u8]]) -> Result<Call, Kind>
     Ok(Call::Step { its: 0 })
 }
 
+/// `save`
 #[tactic(auto, unfolding(crate::specs::Calls::save_of))]
 pub fn save_of(fields: &[&[u8]]) -> Result<Call, Kind>
     ensures { result ≡ spec.save_of (map (λ f. f.now) fields.now) }

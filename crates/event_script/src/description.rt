@@ -23,6 +23,7 @@ impl Draft {
         self.stage == Stage::Description
     }
 
+    /// `vcpus COUNT`, 1 to 16: the first line of a script.
     #[tactic(auto, unfolding(crate::specs::Description::vcpus_line))]
     pub fn vcpus_line(&mut self, alloc: Global, fields: &[&[u8]]) -> Result<(), LineError>
         ensures { Gives (λ _. self.new) result
@@ -36,6 +37,7 @@ impl Draft {
         Ok(())
     }
 
+    /// `shards COUNT`, a power of two from 1 to 64; at most once.
     #[tactic(auto, unfolding(crate::specs::Description::shards_line))]
     pub fn shards_line(&mut self, fields: &[&[u8]]) -> Result<(), LineError>
         ensures { Gives (λ _. self.new) result
@@ -50,6 +52,7 @@ impl Draft {
         Ok(())
     }
 
+    /// `limits STAMP PLACE`, at most once.
     #[tactic(auto, unfolding(crate::specs::Description::limits_line))]
     pub fn limits_line(&mut self, fields: &[&[u8]]) -> Result<(), LineError>
         ensures { Gives (λ _. self.new) result
@@ -67,6 +70,7 @@ impl Draft {
         Ok(())
     }
 
+    /// `ids DEVICE LPI`, the bits of a DeviceID and of an LPI's INTID; at most once.
     #[tactic(auto, unfolding(crate::specs::Description::ids_line))]
     pub fn ids_line(&mut self, fields: &[&[u8]]) -> Result<(), LineError>
         ensures { Gives (λ _. self.new) result
@@ -84,6 +88,7 @@ impl Draft {
         Ok(())
     }
 
+    /// `profile NUMBER`, 1 or 2; at most once.
     #[tactic(auto, unfolding(crate::specs::Description::profile_line))]
     pub fn profile_line(&mut self, fields: &[&[u8]]) -> Result<(), LineError>
         ensures { Gives (λ _. self.new) result
@@ -97,6 +102,7 @@ impl Draft {
         Ok(())
     }
 
+    /// `window BASE LENGTH`, at most 16 times. Whether memory can have the windows is found later.
     #[tactic(auto, unfolding(crate::specs::Description::window_line))]
     pub fn window_line(&mut self, fields: &[&[u8]]) -> Result<(), LineError>
         ensures { Gives (λ _. self.new) result
@@ -118,6 +124,7 @@ impl Draft {
         self.describes() && !self.gicr
     }
 
+    /// `config ADDRESS`, once, unless the guest programs the tables.
     #[tactic(auto, unfolding(crate::specs::Description::config_line))]
     pub fn config_line(&mut self, fields: &[&[u8]]) -> Result<(), LineError>
         ensures { Gives (λ _. self.new) result
@@ -130,6 +137,7 @@ impl Draft {
         Ok(())
     }
 
+    /// `pending VCPU ADDRESS`, once for each processor, unless the guest programs the tables.
     #[tactic(auto, unfolding(crate::specs::Description::pending_line))]
     pub fn pending_line(&mut self, fields: &[&[u8]]) -> Result<(), LineError>
         ensures { Gives (λ _. self.new) result
@@ -144,6 +152,7 @@ impl Draft {
         Ok(())
     }
 
+    /// `gicr`: the guest programs the tables.
     #[tactic(auto, unfolding(crate::specs::Description::gicr_line))]
     pub fn gicr_line(&mut self, fields: &[&[u8]]) -> Result<(), LineError>
         ensures { Gives (λ _. self.new) result
@@ -156,6 +165,7 @@ impl Draft {
         Ok(())
     }
 
+    /// `restore CTLR CBASER CREADR CWRITER BASER0 BASER1`, at most once.
     #[tactic(auto, unfolding(crate::specs::Description::restore_line))]
     pub fn restore_line(&mut self, fields: &[&[u8]]) -> Result<(), LineError>
         ensures { Gives (λ _. self.new) result
@@ -175,6 +185,8 @@ impl Draft {
         self.describes() && self.gicr && self.restore.is_some()
     }
 
+    /// `rrestore VCPU CTLR PROPBASER PENDBASER`, after `gicr` and `restore`, at most once for each
+    /// processor.
     #[tactic(auto, unfolding(crate::specs::Description::rrestore_line))]
     pub fn rrestore_line(&mut self, fields: &[&[u8]]) -> Result<(), LineError>
         ensures { Gives (λ _. self.new) result
@@ -200,6 +212,7 @@ impl Draft {
         Ok(())
     }
 
+    /// `bytes ADDRESS BYTES`, of 1 to 4096 bytes.
     #[tactic(auto, unfolding(crate::specs::Description::bytes_line))]
     pub fn bytes_line(
         &mut self,
@@ -217,6 +230,7 @@ impl Draft {
         self.add_fill(number, Fill { addr, bytes })
     }
 
+    /// `word ADDRESS VALUE` of the description: 8 bytes, least significant byte first.
     #[tactic(auto, unfolding(crate::specs::Description::word_fill_line))]
     pub fn word_fill_line(
         &mut self,

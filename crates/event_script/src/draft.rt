@@ -21,19 +21,22 @@ pub enum Stage {
     Start,
     /// In the description, after its first line.
     Description,
-    /// A leg is open behind a migration, and none of its phases.
+    /// A leg is open after a migration, and none of its phases.
     Leg,
     /// A phase is open, and none of its threads.
     Phase,
     /// A thread is open.
     Thread,
+    /// The line `end` was read.
     Ended,
 }
 
 /// How many bits a DeviceID has, and the INTID of an LPI.
 #[derive(Clone, Copy, Debug, PartialEq, Eq)]
 pub struct IdBits {
+    /// 16 to 20.
     pub dev: u8,
+    /// 14 to 20.
     pub lpi: u8,
 }
 
@@ -54,9 +57,11 @@ pub struct Draft {
     pub registers: GicrValues,
     /// Whether a line gave those of each virtual processor.
     pub given: [bool; 16],
+    /// What the description puts into memory, in the order of its lines.
     pub fills: Listed<Fill>,
     /// The line of each of them.
     pub fill_lines: Listed<u64>,
+    /// The registers of the translator to restore.
     pub restore: Option<RegValues>,
     /// The legs that are closed.
     pub legs: Listed<Leg>,

@@ -16,7 +16,7 @@ pub enum Kind {
     Text,
     /// An unknown first word.
     Word,
-    /// It may not stand here, or not once more.
+    /// It may not stand here, or not a second time.
     Order,
     /// A line that must stand before it is missing.
     Missing,
@@ -34,15 +34,19 @@ pub enum Kind {
 #[derive(Clone, Copy, Debug, PartialEq, Eq, Error)]
 #[error("line {line} is not one of a script: {kind:?}")]
 pub struct ScriptFault {
+    /// Counted from 1.
     pub line: u64,
+    /// What is wrong with the line.
     pub kind: Kind,
 }
 
 /// Why bytes were not read as a script.
 #[derive(Clone, Copy, Debug, PartialEq, Eq, Error)]
 pub enum ParseError {
+    /// The bytes are no script.
     #[error("{0}")]
     Fault(ScriptFault),
+    /// The host ran out of memory. Nothing is said of the bytes.
     #[error("memory ran out")]
     NoMemory,
 }
@@ -58,7 +62,9 @@ impl From<AllocError> for ParseError {
 /// Why a line isn't read.
 #[derive(Debug, Drop)]
 pub enum LineError {
+    /// The host ran out of memory.
     Memory,
+    /// The line can't stand in a script.
     Fault(Kind),
 }
 

@@ -19,6 +19,7 @@ pub fn arg<'a>(fields: &[&'a [u8]], at: usize) -> &'a [u8]
     }
 }
 
+/// A number from `low` to `high`, both included.
 #[tactic(auto, unfolding(crate::specs::Fields::number_within))]
 pub fn number_within(low: u64, high: u64, field: &[u8]) -> Result<u64, Kind>
     ensures value { result ≡ spec.number_within low high field.now }
@@ -30,12 +31,14 @@ pub fn number_within(low: u64, high: u64, field: &[u8]) -> Result<u64, Kind>
     }
 }
 
+/// A number of 64 bits.
 pub fn any_number(field: &[u8]) -> Result<u64, Kind>
     ensures { result ≡ spec.any_number field.now }
 {
     number_within(0, u64::MAX, field)
 }
 
+/// A guest physical address of 64 bits. Whether memory is there is found later.
 #[tactic(auto, unfolding(crate::specs::Fields::address))]
 pub fn address(field: &[u8]) -> Result<Addr, Kind>
     ensures { result ≡ spec.address field.now }
@@ -43,6 +46,7 @@ pub fn address(field: &[u8]) -> Result<Addr, Kind>
     Ok(Addr(any_number(field)?))
 }
 
+/// A DeviceID of 32 bits, in range or not.
 #[tactic(auto, unfolding(crate::specs::Fields::device))]
 pub fn device(field: &[u8]) -> Result<DeviceId, Kind>
     ensures { result ≡ spec.device field.now }
@@ -50,6 +54,7 @@ pub fn device(field: &[u8]) -> Result<DeviceId, Kind>
     Ok(DeviceId(number_within(0, u64::from(u32::MAX), field)? as u32))
 }
 
+/// An EventID of 32 bits, in range or not.
 #[tactic(auto, unfolding(crate::specs::Fields::event))]
 pub fn event(field: &[u8]) -> Result<EventId, Kind>
     ensures { result ≡ spec.event field.now }
@@ -57,6 +62,7 @@ pub fn event(field: &[u8]) -> Result<EventId, Kind>
     Ok(EventId(number_within(0, u64::from(u32::MAX), field)? as u32))
 }
 
+/// An INTID of 32 bits, in range or not.
 #[tactic(auto, unfolding(crate::specs::Fields::interrupt))]
 pub fn interrupt(field: &[u8]) -> Result<Intid, Kind>
     ensures { result ≡ spec.interrupt field.now }
@@ -64,6 +70,7 @@ pub fn interrupt(field: &[u8]) -> Result<Intid, Kind>
     Ok(Intid(number_within(0, u64::from(u32::MAX), field)? as u32))
 }
 
+/// A number of a collection, of 16 bits.
 #[tactic(auto, unfolding(crate::specs::Fields::collection))]
 pub fn collection(field: &[u8]) -> Result<Icid, Kind>
     ensures { result ≡ spec.collection field.now }

@@ -61,6 +61,7 @@ impl PendingTables {
         vcpu < self.places.len() as u64 && self.places[vcpu as usize].is_some()
     }
 
+    /// Sets a processor's table.
     pub fn give(&mut self, vcpu: u8, table: Addr)
         requires { vcpu < length self.old }
         ensures { self.new ≡ slice_set self.old vcpu (Some table) }

@@ -145,7 +145,7 @@ fn line_end(text: &[u8]) -> Option<usize>
     text.iter().position(|b| *b == b'\n')
 }
 
-/// The script of a draft, if it ended and nothing stands behind its last line end.
+/// The script of a draft, if it ended and nothing stands after its last line end.
 fn finish(alloc: Global, number: u64, draft: Draft, last: &[u8]) -> Result<Script, ParseError>
     ensures { spec.IsAnswer result (spec.at_line number (spec.finished draft last.now)) }
 {

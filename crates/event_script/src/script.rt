@@ -13,6 +13,7 @@ pub type Leg = Listed<Phase>;
 /// What a script says.
 #[derive(Debug, Drop)]
 pub struct Script {
+    /// The machine that its calls are made on.
     pub desc: Desc,
     /// The line of each fill of the description, counted from 1.
     pub fill_lines: Listed<u64>,
@@ -23,6 +24,7 @@ pub struct Script {
 /// A script, and the report that follows it.
 #[derive(Debug, Drop)]
 pub struct CheckInput<'a> {
+    /// What was to be run.
     pub script: Script,
     /// What follows the line `trace`.
     pub report: &'a [u8],

@@ -49,7 +49,7 @@ fn number_in(base: u32, digits: &[u8]) -> Option<u64>
     Some(value)
 }
 
-/// The number that a field is, in decimal digits, or behind 0x in 1 to 16 hexadecimal ones.
+/// The number that a field is, in decimal digits, or after 0x in 1 to 16 hexadecimal ones.
 pub fn number(field: &[u8]) -> Option<u64>
     ensures { result ≡ spec.number field.now }
 {

@@ -1,4 +1,4 @@
--- What a call comes to that needs some parts, waits for them, and leaves the stamp and the shards as they were.
+-- The outcome of a call that needs some parts, waits for them, and leaves the stamp and the shards as they were.
 use Rattle.std.specs.Prelude.{◌≡◌, length, Result, Ok, Err}
 use Rattle.its_types.specs.declared.machine.Part.{Part}
 use Rattle.its_types.specs.declared.machine.Placed.{Placed}

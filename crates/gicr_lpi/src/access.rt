@@ -1,4 +1,4 @@
-//! What a read and a write of the LPI registers come to, on parts in hand.
+//! The outcome of a read and of a write of the LPI registers, on parts in hand.
 ghost use Rattle.std.specs.Prelude.{◌≡◌, true, if◌then◌else◌};
 ghost use Rattle.gicr_regs.specs.Registers as registers;
 ghost use Rattle.gicr_regs.specs.Registers.{AreLow};
@@ -26,9 +26,13 @@ pub fn read_from(redist: &Redist, programmed: bool, off: u32, size: u8) -> u64
 /// A write of `size` bytes at an offset of a redistributor's LPI registers.
 #[derive(Clone, Copy, Debug, PartialEq, Eq)]
 pub struct GicrAccess {
+    /// Whose redistributor it is.
     pub vcpu: Vcpu,
+    /// In bytes, from the control frame's beginning.
     pub off: u32,
+    /// 4 or 8 bytes; a write of any other size is ignored.
     pub size: u8,
+    /// Of a write of 4 bytes its low 32 bits count.
     pub value: u64,
 }
 

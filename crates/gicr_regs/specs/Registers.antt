@@ -52,7 +52,7 @@ read_word b off =
 unfoldable pub read_64 : Bases → ℕ → ℕ
 read_64 b off = if off == 0x70 then propbaser_value b.prop else (if off == 0x78 then pendbaser_value b.pend else 0)
 
--- a read of so many bytes at an offset: what can't be reached so reads zero
+-- a read of so many bytes at an offset: all else reads zero
 unfoldable pub read_gicr : Bases → ℕ → ℕ → ℕ
 read_gicr b off size = if size == 8 then read_64 b off else (if size == 4 then read_word b off else 0)
 
@@ -120,7 +120,7 @@ pub record AreKept (b : Bases) : Type 0 where
   pub pend_whole : b.pend.table.0 % 65536 ≡ 0
   pub pend_low : b.pend.table.0 < 2 ^ 52
 
--- a base that is written is so
+-- it holds of the bases that are written
 abbrev pub Sets : (Bases → Type 0) → GicrWrite → Type 0
 Sets P (writes.SetBases b) = P b
 Sets P writes.Ignored = Unit {0}

@@ -8,6 +8,7 @@ use its_types::{Addr, Bases, Pendbaser, Propbaser, bit_of, field};
 pub struct GicrRegisters {
     /// Bit 0, EnableLPIs, counts.
     pub ctlr: u64,
+    /// GICR_PROPBASER. Only its kept bits count (section 12.11).
     pub propbaser: u64,
     /// Bit 62, Pending Table Zero, is the one that was stored.
     pub pendbaser: u64,
@@ -16,6 +17,7 @@ pub struct GicrRegisters {
 /// Those of each virtual processor, of which there are at most 16; all zero where there is none.
 #[derive(Clone, Copy, Debug, PartialEq, Eq)]
 pub struct GicrValues {
+    /// By the number of the virtual processor.
     pub registers: [GicrRegisters; 16],
 }
 

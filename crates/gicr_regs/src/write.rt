@@ -9,6 +9,7 @@ use its_types::{Bases, Intid, Pendbaser, Propbaser, bit_of};
 /// What a write of an LPI register asks for.
 #[derive(Clone, Copy, Debug, PartialEq, Eq)]
 pub enum GicrWrite {
+    /// Nothing changes.
     Ignored,
     /// Another base, while LPIs are off.
     SetBases(Bases),

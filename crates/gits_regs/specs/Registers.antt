@@ -164,7 +164,7 @@ read_word r off =
     else (if off % 8 == 4 then high_half (read_64 r (off - 4))
     else 0))
 
--- a read of so many bytes at an offset: what can't be reached so reads zero
+-- a read of so many bytes at an offset: all else reads zero
 unfoldable pub read_reg : Registers → ℕ → ℕ → ℕ
 read_reg r off size =
     if size == 8 then read_64 r off
@@ -193,7 +193,7 @@ write_ctlr r value =
 abbrev pub is_same_queue : Registers → ℕ → Bool
 is_same_queue r base = r.cbaser == base && r.creadr == 0 && r.cwriter == 0
 
--- a write of CBASER, ignored while enabled: the queue begins anew
+-- a write of CBASER, ignored while enabled: the queue starts again
 unfoldable pub write_cbaser : Registers → ℕ → Written
 write_cbaser r value =
     if r.enabled then unchanged r
@@ -281,7 +281,7 @@ masked values dev_bits = record {
 abbrev pub base_allowed : Bool → ℕ → Bool
 base_allowed enabled base = not enabled || is_valid base
 
--- the registers that saved values give (Linux, arm-vgic-its: "ITS Restore Sequence"), or the first that can't be so
+-- the registers that saved values give (Linux, arm-vgic-its: "ITS Restore Sequence"), or the first that isn't allowed beside the others
 unfoldable pub restored : RegValues → ℕ → Result Registers NotValid
 restored values dev_bits =
     let r = masked values dev_bits in do

@@ -68,12 +68,14 @@ pub fn is_32(off: u32) -> bool
     off == offsets::CTLR || off == offsets::IIDR || off == offsets::PIDR2
 }
 
+/// Bits 31 to 0.
 pub fn low_half(whole: u64) -> u32
     ensures { result ≡ spec.low_half whole }
 {
     (whole % (1 << 32)) as u32
 }
 
+/// Bits 63 to 32.
 pub fn high_half(whole: u64) -> u32
     ensures { result ≡ spec.high_half whole }
 {

@@ -12,6 +12,8 @@ pub struct Outside(pub Addr);
 /// Why a memory wasn't made.
 #[derive(Clone, Copy, Debug, PartialEq, Eq, Error)]
 pub enum NewError {
+    /// There is none, or more than 16, or one is empty or ends above 2^52, or two share a byte, or
+    /// all have more than 64 MiB together.
     #[error("no memory can have these windows")]
     BadWindows,
     /// The host ran out of memory.

@@ -7,7 +7,9 @@ use std::alloc::{AllocError, Global};
 /// A window: its bytes, and the address of the first.
 #[derive(Drop)]
 pub struct Frame {
+    /// A guest physical address.
     pub base: u64,
+    /// As many as the window is long.
     pub bytes: Vec<u8>,
     ghost ends: { base + vec_len bytes ≤ 2 ^ 52 },
 }
@@ -17,6 +19,7 @@ impl Frame {
     ghost use Rattle.guest_windows.specs.Windows.{has, piece, put, zeros};
     ghost use Rattle.guest_windows.specs.Fields.{window};
 
+    /// A window of so many zero bytes.
     pub fn new(alloc: Global, base: Addr, len: u64) -> Result<Frame, AllocError>
         requires { base.0 + len ≤ 2 ^ 52 }
         ensures { IfOk result (λ f. window f ≡ zeros (base.0, len)) }
@@ -27,6 +30,7 @@ impl Frame {
         })
     }
 
+    /// Another window with the same bytes, at the same address.
     pub fn copy(&self, alloc: Global) -> Result<Frame, AllocError>
         ensures { IfOk result (λ f. window f ≡ window self.now) }
     {
@@ -36,6 +40,7 @@ impl Frame {
         })
     }
 
+    /// Whether it has all the bytes from an address on.
     pub fn has(&self, addr: Addr, len: u64) -> bool
         ensures { result ≡ has (window self.now) addr.0 len }
     {
@@ -43,6 +48,7 @@ impl Frame {
         self.base <= addr.0 && addr.0 - self.base <= size && len <= size - (addr.0 - self.base)
     }
 
+    /// So many bytes from an address on, without a copy.
     pub fn bytes_at(&self, addr: Addr, len: usize) -> &[u8]
         requires { has (window self.now) addr.0 len ≡ true }
         ensures bytes { result.now ≡ piece (window self.now) addr.0 len }
@@ -53,6 +59,7 @@ impl Frame {
         &self.bytes[start..start + len]
     }
 
+    /// Writes the bytes at an address.
     pub fn write(&mut self, addr: Addr, bytes: &[u8])
         requires { has (window self.old) addr.0 (length bytes.now) ≡ true }
         ensures written { window self.new ≡ put (window self.old) addr.0 bytes.now }

@@ -25,7 +25,7 @@ held_if_in vcpu (Some r) = Some (redist_held vcpu r)
 abbrev pub redist_row : List (Option Owned) → Row
 redist_row redists vcpu = held_if_in vcpu (in_hand redists vcpu)
 
--- those in hand of the first n in front of other parts, the highest first
+-- those in hand of the first n before other parts, the highest first
 abbrev pub redists_held : List (Option Owned) → ℕ → List Held → List Held
 redists_held redists n others = in_row (redist_row redists) n others
 

@@ -10,7 +10,7 @@ abbrev pub with_one : Option Held → List Held → List Held
 with_one None others = others
 with_one (Some x) others = x ∷ others
 
--- those of the first n numbers in front of others, the highest first
+-- those of the first n numbers before others, the highest first
 unfoldable pub in_row : Row → ℕ → List Held → List Held
 in_row row zero others = others
 in_row row (suc n) others = with_one (row n) (in_row row n others)

@@ -28,7 +28,7 @@ held_if_in number (Some ways) = Some (shard_held number ways)
 abbrev pub shard_row : List (Option Ways) → Row
 shard_row shards number = held_if_in number (in_place shards number)
 
--- those in hand of the first n in front of other parts, the highest first
+-- those in hand of the first n before other parts, the highest first
 abbrev pub shards_held : List (Option Ways) → ℕ → List Held → List Held
 shards_held shards n others = in_row (shard_row shards) n others
 

@@ -24,7 +24,7 @@ pub record TakesOnly (P : Part → Type 0) (v w : View) : Type 0 where
   pub same : w ≡ record v { held = w.held; cache = w.cache; tries = w.tries }
   pub got : GotOnly P v w
 
--- A call goes on: none was made so far, more may have been seen, and parts been taken and put home. Only such turns were got
+-- A call goes on: none was made so far, more may have been seen, and parts may have been taken and put back. Only such turns were got
 pub record Goes (P : Part → Type 0) (v w : View) : Type 0 where
   pub on : GoesOn v w.tries w
   pub got : GotOnly P v w
@@ -34,6 +34,6 @@ pub record WasMade (P : Part → Type 0) (v : View) (a : Commit) (w : View) : Ty
   pub made : IsMade v w.tries a w
   pub got : GotOnly P v w
 
--- the parts taken last went home, and those are left
+-- the parts taken last were put back, and those are left
 abbrev pub holding : View → List Held → View
 holding v left = record v { held = left }

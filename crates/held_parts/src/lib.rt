@@ -1,5 +1,5 @@
 //! Several parts that a pass holds at once: redistributors and shards, taken in the order of their
-//! numbers, and put home in the opposite order.
+//! numbers, and put back in the opposite order.
 #![tactic(auto)]
 
 mod redists;

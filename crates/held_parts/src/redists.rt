@@ -34,7 +34,7 @@ pub fn take_redists<R: Wait>(
     take_wanted(rt, machine, pass, &Some(set), redists);
 }
 
-/// Puts them home, the highest first. Their places are empty then.
+/// Puts them back, the highest first. Their places are empty then.
 pub fn put_redists(machine: &Machine, pass: &mut Pass, set: PartSet, redists: &mut Redists)
     requires of { IsOf machine.now pass.old }
     requires hand { AreOfSet (setup machine.now) set redists.old }
@@ -62,7 +62,7 @@ pub fn take_all_redists<R: Wait>(rt: &R, machine: &Machine, pass: &mut Pass, red
     take_wanted(rt, machine, pass, &None, redists);
 }
 
-/// Puts them home, the highest first. Their places are empty then.
+/// Puts them back, the highest first. Their places are empty then.
 pub fn put_all_redists(machine: &Machine, pass: &mut Pass, redists: &mut Redists)
     requires of { IsOf machine.now pass.old }
     requires hand { AreAllRedists (setup machine.now) redists.old }

@@ -110,7 +110,7 @@ pub fn take_shards<R: Wait>(rt: &R, machine: &Machine, pass: &mut Pass, shards: 
     }
 }
 
-/// Puts them home, the last one first. Their places are empty then.
+/// Puts them back, the last one first. Their places are empty then.
 pub fn put_shards(machine: &Machine, pass: &mut Pass, shards: &mut Shards)
     requires of { IsOf machine.now pass.old }
     requires hand { AreShards (setup machine.now).shards shards.old }

@@ -1,4 +1,4 @@
--- What saves and migrations come to.
+-- The outcome of saves and of migrations.
 use Rattle.std.specs.Prelude.{◌≡◌, ◌≢◌, ◌≤◌, ℕ, Ok, Err}
 use Rattle.its_plain.specs.Plain.{Plain}
 use Rattle.its_plain.specs.Regions.{savable}

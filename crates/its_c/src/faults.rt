@@ -12,6 +12,7 @@ pub struct SaveFaultOut {
     /// 1: the level-1 entry of `device` isn't valid. 2: `region` doesn't lie in one window. 3:
     /// `region` and `other_region` share a byte, and one of them is written.
     pub kind: u32,
+    /// A DeviceID, of kind 1.
     pub device: u32,
     /// 1 the flat device table, 2 the first level of a device table, 3 a page of its second level,
     /// 4 the collection table, 5 a device's interrupt translation table, 6 a pending table, 7 the
@@ -19,7 +20,9 @@ pub struct SaveFaultOut {
     pub region: u32,
     /// Of region 3 the level-1 entry, of 5 the device, of 6 and 8 the virtual processor.
     pub number: u32,
+    /// The second region of kind 3, numbered as `region` is.
     pub other_region: u32,
+    /// Its number, as `number` is that of `region`.
     pub other_number: u32,
 }
 
@@ -28,8 +31,8 @@ pub struct SaveFaultOut {
 #[repr(C)]
 #[derive(Clone, Copy)]
 pub struct MakeFaultOut {
-    /// Of the description: 1 the windows can't be so; 2 the configuration table doesn't lie in one
-    /// window; 3 the pending table of `vcpu` doesn't; 4 the fill `number`, from 0, doesn't.
+    /// Of the description: 1 no memory can have the windows; 2 the configuration table doesn't lie
+    /// in one window; 3 the pending table of `vcpu` doesn't; 4 the fill `number`, from 0, doesn't.
     ///
     /// Of what is restored: 5 the entry at `address` doesn't lie in one window; 6 `device` has more
     /// than 16 EventID bits; 7 the interrupt `intid` of `device` and `event` is no LPI; 8 entry
@@ -38,17 +41,27 @@ pub struct MakeFaultOut {
     /// the register at `register_offset` can't stand beside the others; 12 `collection` has no
     /// place in the table; 13 a table of the redistributor of `vcpu` doesn't lie in one window.
     pub kind: u32,
+    /// The number of a virtual processor.
     pub vcpu: u32,
+    /// A DeviceID.
     pub device: u32,
+    /// An EventID.
     pub event: u32,
+    /// An INTID that is no LPI's.
     pub intid: u32,
+    /// An ICID.
     pub collection: u32,
     /// 1 the device table, 2 the interrupt translation table of `device`.
     pub table: u32,
+    /// Counted from 0, in the table.
     pub entry: u32,
+    /// In entries.
     pub distance: u32,
+    /// In bytes, from the beginning of the translator's control frame.
     pub register_offset: u32,
+    /// Of kind 4 a fill, counted from 0; of kind 9 a processor's number as the entry has it.
     pub number: u64,
+    /// A guest physical address.
     pub address: u64,
 }
 

@@ -21,10 +21,15 @@ pub struct DescriptionIn {
     pub config: u64,
     /// The registers to restore: GITS_CTLR, of which bit 0 counts.
     pub ctlr: u64,
+    /// GITS_CBASER.
     pub cbaser: u64,
+    /// GITS_CREADR, a byte offset in the queue.
     pub creadr: u64,
+    /// GITS_CWRITER, a byte offset in the queue.
     pub cwriter: u64,
+    /// GITS_BASER0, of the device table.
     pub baser0: u64,
+    /// GITS_BASER1, of the collection table.
     pub baser1: u64,
 }
 
@@ -54,6 +59,7 @@ pub struct FillIn {
 pub struct RedistributorIn {
     /// GICR_CTLR, of which bit 0 counts.
     pub ctlr: u64,
+    /// GICR_PROPBASER.
     pub propbaser: u64,
     /// GICR_PENDBASER. Bit 62, Pending Table Zero, is taken as it is given.
     pub pendbaser: u64,

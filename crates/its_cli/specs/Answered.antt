@@ -1,4 +1,4 @@
--- What was answered to a leg, to a script, to some bytes, and to what a source says: a report, and the line of a refusal behind it.
+-- What was answered to a leg, to a script, to some bytes, and to what a source says: a report, and the line of a refusal after it.
 use Rattle.std.specs.Prelude.{◌≡◌, ◌⊎◌, ℕ, ◌<◌, ◌≤◌, List, [], ◌∷◌, ◌++◌, length, codes, Option, Some, None, Err}
 use Rattle.std.specs.String.{string_bytes}
 use Rattle.its_plain.specs.Plain.{Plain}

@@ -94,7 +94,7 @@ CheckSays input _ text = ⊥
 
 -- ---- causes
 
--- what reading and checking come to at each status, and the text
+-- the outcome of reading and checking at each status, and the text
 abbrev pub CheckCauses : Option (List ℕ) → Type 0 → Status → List ℕ → Type 0
 CheckCauses told rose status.Ok text = (input : List ℕ) × (WasRead told input × OfReport IsAgreement input text)
 CheckCauses told rose status.ScriptRefused text = (input : List ℕ) × (WasRead told input × IsNoScript input text)

@@ -117,7 +117,7 @@ pub record IsCutShort (script : Script) (first : Plain) (text : List ℕ) : Type
 
 -- ---- causes
 
--- what reading and running come to at each status, and the text
+-- the outcome of reading and running at each status, and the text
 abbrev pub RunCauses : Option (List ℕ) → Type 0 → Status → List ℕ → Type 0
 RunCauses told rose status.Ok text = (input : List ℕ) × (WasRead told input × OfScript IsReport input text)
 RunCauses told rose status.ScriptRefused text = (input : List ℕ) × (WasRead told input × IsScriptRefusal input text)

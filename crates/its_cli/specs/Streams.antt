@@ -1,7 +1,7 @@
 -- What came from a source, where it tells its bytes.
 use Rattle.std.specs.Prelude.{◌≡◌, ◌≤◌, ℕ, List, [], ◌++◌, length, Option, Some, IfSome}
 
--- these bytes were taken from the front
+-- these bytes were the first that were taken
 abbrev pub Taken : Option (List ℕ) → Option (List ℕ) → List ℕ → Type 0
 Taken before now bytes = IfSome before (λ all. (rest : List ℕ) × (all ≡ bytes ++ rest) × (now ≡ Some rest))
 

@@ -49,7 +49,7 @@ pub fn its<R: Threads + Wait + Sync, S: Source, K: Sink, G: Gate + Sync>(
         (Rose (S.faults source.old) (S.faults source.new)) result text
         × Appends (K.held sink.old) (K.held sink.new) text }
 
-    // A write's fault comes only where the sink's count rose. The sink has a front of a text that
+    // A write's fault comes only where the sink's count rose. The sink has a prefix of a text that
     // another status allows.
     ensures write_fault { result ≡ Status.WriteFault → Rose (K.faults sink.old) (K.faults sink.new)
         × ((status : Status) × (text : List ℕ) × (n : ℕ)
@@ -85,7 +85,7 @@ fn command<R: Threads + Wait + Sync, S: Source, K: Sink, G: Gate + Sync>(
         (Rose (S.faults source.old) (S.faults source.new)) result text
         × Appends (K.held sink.old) (K.held sink.new) text }
 
-    // A write's fault comes only where the sink's count rose. The sink has a front of a text that
+    // A write's fault comes only where the sink's count rose. The sink has a prefix of a text that
     // another status allows.
     ensures write_fault { result ≡ Status.WriteFault → Rose (K.faults sink.old) (K.faults sink.new)
         × ((status : Status) × (text : List ℕ) × (n : ℕ)

@@ -114,7 +114,7 @@ const LEVEL1: &str = "word 0x80000000 0x8000000080080000
 word 0x80000010 0x8000000080090000
 ";
 
-/// Devices 0 and 16384, behind a write of GITS_BASER0.
+/// Devices 0 and 16384, after a write of GITS_BASER0.
 const FAR_APART: &str = "write 0x108 8 0x8407000080010200
 write 0x80 8 0x8000000080020000
 write 0 4 1

@@ -55,7 +55,7 @@ pub fn read_all<S: Source>(
     Err(ReadAllError::TooLong)
 }
 
-/// Writes the whole text. Where the sink fails, it has some front of it.
+/// Writes the whole text. Where the sink fails, it has a prefix of it.
 fn write_all<K: Sink>(sink: &mut K, text: &[u8]) -> Result<(), Failed>
     ensures ok { OnOk result (Appends (K.held sink.old) (K.held sink.new) text.now) }
     ensures err { OnErr result ((k : ℕ) × Appends (K.held sink.old) (K.held sink.new)
@@ -69,7 +69,7 @@ fn write_all<K: Sink>(sink: &mut K, text: &[u8]) -> Result<(), Failed>
     Ok(())
 }
 
-/// Writes a text and then another. Where the sink fails, it has some front of both.
+/// Writes a text and then another. Where the sink fails, it has a prefix of both.
 pub fn write_both<K: Sink>(sink: &mut K, first: &[u8], second: &[u8]) -> Result<(), Failed>
     ensures ok { OnOk result
         (Appends (K.held sink.old) (K.held sink.new) (first.now ++ second.now)) }

@@ -1,4 +1,4 @@
-//! A run of a script that is made for it, and what its calls came to.
+//! A run of a script that is made for it, and how its calls ended.
 ghost use Rattle.std.specs.Prelude.{◌≡◌, IfOk, length, map};
 ghost use Rattle.std.specs.String.{string_bytes};
 ghost use Rattle.its_plain.specs.Described.{IsFirstState};

@@ -76,17 +76,29 @@ pub enum Command {
 /// The name of a command.
 #[derive(Clone, Copy, Debug, PartialEq, Eq)]
 pub enum Op {
+    /// MOVI, opcode 0x01.
     Movi,
+    /// INT, opcode 0x03.
     Int,
+    /// CLEAR, opcode 0x04.
     Clear,
+    /// SYNC, opcode 0x05.
     Sync,
+    /// MAPD, opcode 0x08.
     Mapd,
+    /// MAPC, opcode 0x09.
     Mapc,
+    /// MAPTI, opcode 0x0A.
     Mapti,
+    /// MAPI, opcode 0x0B.
     Mapi,
+    /// INV, opcode 0x0C.
     Inv,
+    /// INVALL, opcode 0x0D.
     Invall,
+    /// MOVALL, opcode 0x0E.
     Movall,
+    /// DISCARD, opcode 0x0F.
     Discard,
     /// The opcode of a command that has no name.
     Unknown(u8),

@@ -22,6 +22,7 @@ impl Model for EventIdBits {
 }
 
 impl EventIdBits {
+    /// The number of bits itself, which is one more than the field Size of a MAPD.
     pub fn new(bits: u8) -> EventIdBits
         requires least { 1 ≤ bits }
         requires most { bits ≤ 32 }
@@ -30,6 +31,7 @@ impl EventIdBits {
         EventIdBits { bits }
     }
 
+    /// How many bits.
     pub fn get(&self) -> u8
         ensures same { result ≡ self.now }
         ensures least { 1 ≤ self.now }
@@ -58,6 +60,7 @@ impl Model for IttAddr {
 }
 
 impl IttAddr {
+    /// An address in bytes, as bits 51 to 8 of a MAPD's third doubleword give it.
     pub fn new(addr: u64) -> IttAddr
         requires whole { addr % 256 ≡ 0 }
         requires below { addr < 2 ^ 52 }
@@ -66,6 +69,7 @@ impl IttAddr {
         IttAddr { addr }
     }
 
+    /// The address in bytes.
     pub fn get(&self) -> u64
         ensures same { result ≡ self.now }
         ensures whole { self.now % 256 ≡ 0 }
@@ -94,6 +98,7 @@ impl Model for RdBase {
 }
 
 impl RdBase {
+    /// The number of a processor, since GITS_TYPER.PTA is 0.
     pub fn new(number: u64) -> RdBase
         requires { number < 2 ^ 36 }
         ensures { result ≡ number }
@@ -101,6 +106,7 @@ impl RdBase {
         RdBase { number }
     }
 
+    /// The number of the processor.
     pub fn get(&self) -> u64
         ensures same { result ≡ self.now }
         ensures below { self.now < 2 ^ 36 }
@@ -129,6 +135,7 @@ impl Model for UnknownOp {
 }
 
 impl UnknownOp {
+    /// The first byte of a command that is none of the twelve.
     pub fn new(opcode: u8) -> UnknownOp
         requires { is_known opcode ≡ false }
         ensures { result ≡ opcode }
@@ -136,6 +143,7 @@ impl UnknownOp {
         UnknownOp { opcode }
     }
 
+    /// The opcode.
     pub fn get(&self) -> u8
         ensures same { result ≡ self.now }
         ensures unknown { is_known self.now ≡ false }

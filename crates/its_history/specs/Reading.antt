@@ -188,7 +188,7 @@ trace_of legs vcpus text =
 abbrev pub left : Lines → LinesLeft
 left l = lines_left l.number (parts l.rest.now)
 
--- what reading came to, unless memory ran out: what was read, and the lines after it
+-- the outcome of reading, unless memory ran out: what was read, and the lines after it
 abbrev pub Reads : {X A : Type 0} → (X → A) → Result X TraceError → LinesLeft → Result (A × LinesLeft) ℕ → Type 0
 Reads view (Ok x) now read = read ≡ Ok (view x, now)
 Reads view (Err (error.BadLine n)) now read = read ≡ Err n
@@ -199,7 +199,7 @@ abbrev pub MayTake : Option EntryLine → ℕ → LinesLeft → LinesLeft → Ty
 MayTake None place before now = (said (entry_in place) before ≡ None) × (now ≡ before)
 MayTake (Some e) place before now = said (entry_in place) before ≡ Some (e, now)
 
--- what reading a report came to, unless memory ran out
+-- the outcome of reading a report, unless memory ran out
 abbrev pub IsReadAs : Result Trace TraceError → Result (List Leg) ℕ → Type 0
 IsReadAs (Ok t) read = read ≡ Ok t.legs
 IsReadAs (Err (error.BadLine n)) read = read ≡ Err n

@@ -7,6 +7,7 @@ use crate::numbers::{push_bytes, push_decimal, push_hexadecimal};
 use its_plain::Call;
 use std::alloc::{AllocError, Global};
 
+/// Appends the text of a call.
 #[tactic(auto, unfolding(crate::specs::Texts::call_text))]
 pub fn push_call(alloc: Global, out: &mut String, call: &Call) -> Result<(), AllocError>
     ensures { OnOk result (string_bytes out.new ≡ string_bytes out.old ++ call_text call.now) }

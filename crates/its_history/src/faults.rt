@@ -28,7 +28,7 @@ pub fn restore_fault_text(alloc: Global, fault: &RestoreFault) -> Result<String,
     Ok(out)
 }
 
-/// The first thing in the way of a save.
+/// The first reason why a state can't be saved.
 #[tactic(auto, unfolding(crate::specs::Texts::save_fault_text))]
 fn push_save_fault(out: &mut String, fault: SaveFault) -> Result<(), AllocError>
     ensures { OnOk result (string_bytes out.new ≡ string_bytes out.old
@@ -75,7 +75,7 @@ fn push_region(out: &mut String, region: Region) -> Result<(), AllocError>
     }
 }
 
-/// The first offence of memory and registers.
+/// The first fault of memory and registers.
 #[tactic(auto, unfolding(crate::specs::Texts::restore_fault_text))]
 fn push_restore_fault(out: &mut String, fault: RestoreFault) -> Result<(), AllocError>
     ensures { OnOk result (string_bytes out.new ≡ string_bytes out.old
@@ -120,7 +120,7 @@ fn push_past_end(out: &mut String, table: Table, entry: u32, next: u32) -> Resul
     }
 }
 
-/// A number behind a text.
+/// A number after a text.
 fn push_numbered(out: &mut String, text: &str, number: u64) -> Result<(), AllocError>
     ensures { OnOk result (string_bytes out.new ≡ string_bytes out.old ++ text.now
         ++ decimal number) }

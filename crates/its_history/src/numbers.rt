@@ -9,18 +9,21 @@ use itoa::Buffer;
 use std::alloc::{AllocError, Global};
 use std::fmt::Write;
 
+/// Appends a number in decimal.
 pub fn push_decimal(out: &mut String, number: u64) -> Result<(), AllocError>
     ensures { OnOk result (string_bytes out.new ≡ string_bytes out.old ++ decimal number) }
 {
     out.push_str(Buffer::new().format(number))
 }
 
+/// Appends a number in hexadecimal, after 0x.
 pub fn push_hexadecimal(out: &mut String, number: u64) -> Result<(), AllocError>
     ensures { OnOk result (string_bytes out.new ≡ string_bytes out.old ++ hexadecimal number) }
 {
     write!(out, "0x{number:x}")
 }
 
+/// Appends bytes in hexadecimal, two digits each.
 pub fn push_bytes(alloc: Global, out: &mut String, bytes: &[u8]) -> Result<(), AllocError>
     ensures { OnOk result (string_bytes out.new ≡ string_bytes out.old ++ encode_lower bytes.now) }
 {

@@ -16,6 +16,7 @@ use std::str;
 pub enum TraceError {
     /// The line with this number, counted from 1, isn't as it must be, or isn't there.
     BadLine(u64),
+    /// The host ran out of memory. Nothing is said of the text.
     NoMemory,
 }
 

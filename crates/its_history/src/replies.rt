@@ -10,6 +10,7 @@ use its_plain::{Ack, Cause, Reason, Reply, Signal, StepReply};
 use std::alloc::{AllocError, Global};
 use std::fmt::Write;
 
+/// Appends the text of a reply.
 #[tactic(auto, unfolding(crate::specs::Texts::reply_text))]
 pub fn push_reply(alloc: Global, out: &mut String, reply: &Reply) -> Result<(), AllocError>
     ensures { OnOk result (string_bytes out.new ≡ string_bytes out.old ++ reply_text reply.now) }

@@ -19,12 +19,14 @@ impl Model for Text {
 }
 
 impl Text {
+    /// The same text, without a copy.
     pub fn new(text: String) -> Text
         ensures { result ≡ string_bytes text }
     {
         Text { text }
     }
 
+    /// The text, without a copy.
     pub fn as_str(&self) -> &str
         ensures { result.now ≡ self.now }
     {

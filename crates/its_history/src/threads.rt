@@ -18,7 +18,9 @@ pub struct ThreadList<'a> {
     pub phase: u32,
     /// Counted from 1 in each phase.
     pub thread: u32,
+    /// All calls of the thread, made or not.
     pub calls: &'a [Call],
+    /// At most as many as there are calls, in their order.
     pub replies: Listed<Placed<Reply>>,
 }
 

@@ -11,6 +11,7 @@ pub struct EntryLine {
     pub phase: u32,
     /// Counted from 1 in each phase.
     pub thread: u32,
+    /// The call, ` -> ` and the reply.
     pub text: Text,
 }
 
@@ -26,6 +27,7 @@ pub enum End {
 /// What happened from one migration to the next.
 #[derive(Debug, Drop)]
 pub struct Leg {
+    /// By place.
     pub entries: Listed<EntryLine>,
     /// What is pending at each virtual processor at the end. A leg that was cut off has none.
     pub pending: Listed<Text>,
@@ -36,5 +38,6 @@ pub struct Leg {
 /// What happened in a run, or in its first legs.
 #[derive(Debug, Drop)]
 pub struct Trace {
+    /// In their order. A migration stands between each two.
     pub legs: Listed<Leg>,
 }

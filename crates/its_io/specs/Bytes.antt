@@ -1,7 +1,7 @@
 -- What a source has left and a sink holds, where they tell it.
 use Rattle.std.specs.Prelude.{◌≡◌, ◌↔◌, ℕ, ◌<◌, ◌≤◌, List, [], ◌++◌, length, take, drop, Option, Some, None, IfSome}
 
--- n bytes came from the front of what was left, to the front of the buffer
+-- the first n bytes of what was left came to the beginning of the buffer
 pub record Reads (left_before left_now : Option (List ℕ)) (buffer_before buffer_now : List ℕ) (n : ℕ) : Type 0 where
   pub fits : n ≤ length buffer_before
   pub taken : IfSome left_before (λ bytes. (n ≤ length bytes) × (take n buffer_now ≡ take n bytes) × (left_now ≡ Some (drop n bytes)))

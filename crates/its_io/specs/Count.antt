@@ -1,11 +1,11 @@
--- A count of faults: it never falls, and stands still at its type's end.
+-- A count of faults: it never falls, and stays at the largest number of its type.
 use Rattle.std.specs.Prelude.{◌≡◌, ◌⊎◌, ℕ, ◌+◌, ◌-◌, ◌<◌, ◌≤◌, ◌^◌, min, Result, IsOk, IsErr}
 
--- the count rose, or stands at its type's end
+-- the count rose, or is the largest number of its type
 abbrev pub Rose : ℕ → ℕ → Type 0
 Rose before now = (before < now) ⊎ (now ≡ 2 ^ 64 - 1)
 
--- one more, up to the type's end
+-- one more, up to the largest number of the type
 abbrev pub one_more : ℕ → ℕ
 one_more count = min (count + 1) (2 ^ 64 - 1)
 

@@ -44,7 +44,7 @@ after_call s failed = if failed then with_fault (with_call s) else with_call s
 abbrev pub sure_left : SureSource → List ℕ
 sure_left s = drop s.at s.bytes.items
 
--- none once more bytes came than there is room for
+-- none after more bytes came than there is room for
 abbrev pub sure_held : SureSink → Option (List ℕ)
 sure_held s = if s.over then None else Some s.bytes.items
 

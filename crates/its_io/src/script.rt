@@ -28,6 +28,7 @@ impl Model for Script {
 }
 
 impl Script {
+    /// Each call moves at most `most` bytes. Those with a number in `fail`, counted from 1, fail.
     pub fn new(alloc: Global, most: usize, fail: &[u64]) -> Result<Script, AllocError>
         ensures { IfOk result
             (λ s. s ≡ record { most = most; fail = fail.now; calls = 0; faults = 0 }) }

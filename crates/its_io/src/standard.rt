@@ -15,6 +15,7 @@ pub struct StdSource<R: Read + Drop> {
 impl<R: Read + Drop> StdSource<R> {
     ghost use Rattle.std.specs.Prelude.{◌≡◌};
 
+    /// No read of it has failed yet.
     pub fn new(reader: R) -> Self
         ensures { ⟦<StdSource<R> as Source>⟧.faults result ≡ 0 }
     {
@@ -62,6 +63,7 @@ pub struct StdSink<W: Write + Drop> {
 impl<W: Write + Drop> StdSink<W> {
     ghost use Rattle.std.specs.Prelude.{◌≡◌};
 
+    /// No write of it has failed yet.
     pub fn new(writer: W) -> Self
         ensures { ⟦<StdSink<W> as Sink>⟧.faults result ≡ 0 }
     {

@@ -17,6 +17,7 @@ impl SureSource {
     ghost use Rattle.std.specs.Prelude.{◌≡◌, IfOk};
     ghost use Rattle.its_io.specs.Ends.{sure_left};
 
+    /// Copies the bytes, and reads them from the first one on.
     pub fn new(alloc: Global, bytes: &[u8]) -> Result<SureSource, AllocError>
         ensures { IfOk result (λ s. sure_left s ≡ bytes.now) }
     {

@@ -12,8 +12,8 @@ pub trait Source {
     /// How often it has failed.
     ghost faults: { Self → ℕ };
 
-    /// Puts the next bytes at the buffer's front, and says how many. None, into a buffer that has
-    /// room, is the end of input.
+    /// Puts the next bytes at the beginning of the buffer, and says how many. None, into a buffer
+    /// that has room, is the end of input.
     fn read(&mut self, buf: &mut [u8]) -> Result<usize, Failed>
         ensures read { IfOk result (λ n. Reads (left self.old) (left self.new) buf.old buf.new n) }
         ensures failed { OnErr result (left self.new ≡ left self.old) }
@@ -30,7 +30,7 @@ pub trait Sink {
     /// How often it has failed.
     ghost faults: { Self → ℕ };
 
-    /// Appends bytes of the piece's front, at least one where there is one, and says how many.
+    /// Appends a prefix of the piece, at least one byte where there is one, and says how many.
     fn write(&mut self, piece: &[u8]) -> Result<usize, Failed>
         ensures written { IfOk result (λ n. Writes (held self.old) (held self.new) piece.now n) }
         ensures failed { OnErr result (held self.new ≡ held self.old) }

@@ -44,6 +44,7 @@ impl Model for EventTable {
 }
 
 impl EventTable {
+    /// No event, and no memory.
     pub fn new(alloc: Global) -> Self
         ensures { result.map ≡ map.empty }
     {
@@ -69,6 +70,7 @@ impl EventTable {
         }
     }
 
+    /// What an event is mapped to, if it is.
     pub fn get(&self, ev: u32) -> Option<&Event>
         ensures { option_copied result ≡ map.get self.now.map ev }
     {

@@ -214,6 +214,7 @@ impl Maps {
         self.collections.clear();
     }
 
+    /// What a device is mapped to, if it is.
     pub fn device(&self, dev: DeviceId) -> Option<Device>
         ensures { result ≡ device_of self.now.maps dev.0 }
     {

@@ -43,6 +43,7 @@ impl<V: Drop> Page<V> {
         Ok(Page { slots })
     }
 
+    /// The value of a place, if it has one.
     pub fn get(&self, at: usize) -> Option<&V>
         requires { at < PLACES }
         ensures { option_copied result ≡ slice_index_or self.now at None }
@@ -79,6 +80,7 @@ impl<V: Drop> Page<V> {
         self.slots[at] = None;
     }
 
+    /// Whether no place has a value.
     pub fn is_blank(&self) -> bool
         ensures { IsTrue result ↔ IsBlank self.now }
     {

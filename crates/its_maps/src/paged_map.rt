@@ -36,6 +36,7 @@ impl<V: Drop> PagedMap<V> {
     ghost use Rattle.std.specs.Borrow.{sem};
     ghost use Rattle.its_maps.specs.Lending.{LendsPaged};
 
+    /// No keys, and no memory.
     pub fn new(alloc: Global) -> Self
         ensures { result.map ≡ map.empty }
     {
@@ -53,6 +54,7 @@ impl<V: Drop> PagedMap<V> {
         self.pages.make_room()
     }
 
+    /// A key's value, if it has one.
     pub fn get(&self, key: u32) -> Option<&V>
         ensures { option_copied result ≡ map.get self.now.map key }
     {
@@ -60,6 +62,7 @@ impl<V: Drop> PagedMap<V> {
         page.get((key % PLACES) as usize)
     }
 
+    /// Whether a key has a value.
     pub fn contains(&self, key: u32) -> bool
         ensures { result ≡ map.contains_key self.now.map key }
     {
@@ -84,6 +87,7 @@ impl<V: Drop> PagedMap<V> {
         }
     }
 
+    /// The value of a key that has one.
     pub fn get_mut(&mut self, key: u32) -> &mut V
         requires { map.contains_key self.old.map key ≡ true }
         ensures* writes_back { sem 𝓛 (LendsPaged V.row self.entry key result) }

@@ -41,6 +41,7 @@ impl<'a, V> PagedWalk<'a, V> {
         }
     }
 
+    /// The next key that has a value. Places without one are passed over.
     pub fn next(&mut self) -> Option<(u32, &'a V)>
         ensures { YieldsFirstBy (λ e. (e.0, e.1.now)) (λ w. w) self.old result self.new }
     {

@@ -25,6 +25,7 @@ impl<V> Model for Reserve<V> {
 }
 
 impl<V: Drop> Reserve<V> {
+    /// No page.
     pub fn empty() -> Self
         ensures { result ≡ false }
     {
@@ -44,6 +45,7 @@ impl<V: Drop> Reserve<V> {
         Ok(())
     }
 
+    /// Takes the page that is there.
     pub fn take(&mut self) -> Page<V>
         requires { self.old ≡ true }
         ensures { IsBlank result }

@@ -19,7 +19,7 @@ use Rattle.its_turns.specs.declared.value.Value.{Value}
 pub record Holding (v : View) (held : List Held) (w : View) : Type 0 where
   pub same : w ≡ record v { held = held; cache = w.cache; tries = w.tries }
 
--- the part is held in front of the others
+-- the part is held before the others
 abbrev pub Gets : View → Part → Content → View → Type 0
 Gets v p c w = Holding v (out p c ∷ v.held) w
 
@@ -33,7 +33,7 @@ pub record GetsValue (v : View) (p : Part) (x : Value) (w : View) : Type 0 where
 
 -- ---- redistributors
 
--- the first n in hand in front of other parts, each got after the one behind it
+-- the first n in hand before other parts, each got after the one that follows it here
 unfoldable pub redists_out : List (Option InHand) → ℕ → List Held → List Held
 redists_out redists zero rest = rest
 redists_out redists (suc n) rest = out (part.Redist (record { 0 = n })) (Redist (redistributor_or (in_hand redists n))) ∷ redists_out redists n rest

@@ -1,4 +1,4 @@
--- A machine at rest, which the root has alone, and what a migration comes to (KVM document arm-vgic-its, "ITS Restore Sequence").
+-- A machine at rest, which the root has alone, and the outcome of a migration (KVM document arm-vgic-its, "ITS Restore Sequence").
 use Rattle.std.specs.Prelude.{◌≡◌, ℕ, List, map, Result, Ok, Err}
 use Rattle.its_plain.specs.History.{after}
 use Rattle.its_plain.specs.Plain.{Plain, Redistributor}

@@ -1,4 +1,4 @@
--- What a save comes to that is made while other passes go on.
+-- The outcome of a save that is made while other passes go on.
 use Rattle.std.specs.Prelude.{◌≡◌, length, Result, Ok, Err}
 use Rattle.its_types.specs.declared.machine.Placed.{Placed}
 use Rattle.its_plain.specs.Answer.{save_reply}

@@ -19,11 +19,11 @@ use Rattle.its_migrate.specs.declared.whole.Whole.{Whole}
 abbrev pub parts_of : Layout → Whole → Parts
 parts_of l x = record { layout = l; regs = x.tables.value.regs; maps = x.tables.value.maps; memory = x.memory.value.memory; redists = x.redists }
 
--- memory in front of the maps
+-- memory before the maps
 abbrev pub memory_held : Tables → List Window → List Held
 memory_held t memory = out part.Mem (Mem memory) ∷ out (part.Maps 0) (Maps (translator_of t)) ∷ []
 
--- n redistributors in front of memory and the maps
+-- n redistributors before memory and the maps
 abbrev pub held_whole : ℕ → Whole → List Held
 held_whole n x = redists_out x.redists n (memory_held x.tables.value x.memory.value.memory)
 

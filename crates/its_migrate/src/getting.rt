@@ -52,6 +52,7 @@ impl Turns for AtRest {
 /// Any pass waits.
 #[derive(Drop)]
 pub struct Waiting<'a, R: Wait> {
+    /// What a thread waits with.
     pub rt: &'a R,
 }
 

@@ -46,9 +46,9 @@ impl From<AllocError> for Unmade {
     }
 }
 
-/// Writes the tables and the pending LPIs to guest memory, or answers what is in the way: one call
-/// of the history, for which it waits until it has all parts but the shards. Where it answers an
-/// error no call was made, and memory is as it was.
+/// Writes the tables and the pending LPIs to guest memory, or answers why they can't be saved: one
+/// call of the history, for which it waits until it has all parts but the shards. Where it answers
+/// an error no call was made, and memory is as it was.
 ///
 /// ```
 /// let in_the_way = match save(rt, alloc, machine, pass, &Open)?.reply {

@@ -16,8 +16,11 @@ use owned_machine::InPlace;
 /// Registers and maps, guest memory, and the redistributors of all virtual processors.
 #[derive(Drop)]
 pub struct Whole {
+    /// Registers and maps of the translator.
     pub tables: Box<Tables>,
+    /// Guest memory.
     pub memory: Box<GuestMemory>,
+    /// Those of all virtual processors.
     pub redists: Redists,
 }
 
@@ -78,7 +81,7 @@ fn get_redists<T: Turns>(how: &T, machine: &Machine, pass: &mut Pass, redists: &
     }
 }
 
-/// Puts all of them home, what was taken last first.
+/// Puts all of them back, what was taken last first.
 pub fn put_all(machine: &Machine, pass: &mut Pass, whole: Whole)
     requires of { IsOf machine.now pass.old }
     requires held { (view pass.old).held ≡ held_whole (vcpu_count (setup machine.now)) whole }

@@ -28,7 +28,7 @@ collection_leads r i (Some c) = within (collection_places r) (i + 1)
 abbrev pub next_collection : List Window → Registers → ℕ → Option ℕ
 next_collection memory r i = option_and_then (λ word. collection_leads r i (unpacked_collection word)) (number_at memory (collection_address r i))
 
--- ---- offences
+-- ---- faults
 
 abbrev pub is_of : ℕ → Option CollectionFields → Bool
 is_of icid None = false

@@ -28,13 +28,13 @@ pub record IsFirstState (d : Desc) (u : Plain) : Type 0 where
   pub made_is : made d ≡ Ok base
   pub starts : StartsAt d.restore (restored_bases d) base u
 
--- the first thing that is wrong with the description, or else the first offence of what is to be restored
+-- the first thing that is wrong with the description, or else the first fault of what is to be restored
 pub data IsRefused (d : Desc) : DescFault → Type 0 where
   of_description : (f : DescFault) → made d ≡ Err f → IsRefused d f
   of_restore : (base : Plain) (values : RegValues) (f : RestoreFault) → made d ≡ Ok base → d.restore ≡ Some values
       → IsFirstFault base.memory values base.layout.shape (restored_bases d) f → IsRefused d (Restore f)
 
--- what making the machine came to, unless memory ran out
+-- the outcome of making the machine, unless memory ran out
 abbrev pub IsMadeFrom : Desc → Result Plain MakeError → Type 0
 IsMadeFrom d (Ok u) = IsFirstState d u
 IsMadeFrom d (Err (errors.Fault f)) = IsRefused d f

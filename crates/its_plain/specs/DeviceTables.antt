@@ -55,7 +55,7 @@ device_address r (at_entry k page index) = entry_address page index
 
 -- ---- where a place leads
 
--- the level-1 entry behind one
+-- the level-1 entry after one
 abbrev pub following : Registers → ℕ → Option DevicePlace
 following r k = if is_indirect r.baser0 && nat_lt (k + 1) (level1_entries r.dev_bits) then Some (at_level1 (k + 1)) else None
 
@@ -63,7 +63,7 @@ following r k = if is_indirect r.baser0 && nat_lt (k + 1) (level1_entries r.dev_
 abbrev pub level1_leads : Registers → ℕ → ℕ → Option DevicePlace
 level1_leads r k word = if bit_of word 63 then Some (at_entry k (page_address word) 0) else following r k
 
--- a place of the page, or what comes behind the page
+-- a place of the page, or what comes after the page
 abbrev pub goes_to : Registers → ℕ → ℕ → ℕ → Option DevicePlace
 goes_to r k page index = if nat_lt index (page_places r) then Some (at_entry k page index) else following r k
 
@@ -95,20 +95,20 @@ device_of_fields e = record { itt = record { 0 = e.itt }; bits = e.bits }
 abbrev pub device_in : List Window → DevicePlace → Option Device
 device_in memory p = option_map device_of_fields (device_entry memory p)
 
--- ---- offences
+-- ---- faults
 
 -- only in a flat table `next` can lead too far
 abbrev pub ends_well : Registers → ℕ → ℕ → Bool
 ends_well r index next = is_indirect r.baser0 || nat_lt (index + next) (flat_size r)
 
--- a place has no offence
+-- a place has no fault
 pub record IsDeviceClear (memory : List Window) (lpi_bits : ℕ) (r : Registers) (p : DevicePlace) : Type 0 where
   pub inside : IsSome (number_at memory (device_address r p))
   pub size : (e : DeviceFields) → device_entry memory p ≡ Some e → e.bits ≤ 16
   pub itt : (e : DeviceFields) → device_entry memory p ≡ Some e → IsIttClear memory lpi_bits (itt_of (id_of p) (device_of_fields e))
   pub ends : (e : DeviceFields) → device_entry memory p ≡ Some e → ends_well r (index_of p) e.next ≡ true
 
--- the first offence of a place
+-- the first fault of a place
 pub data DeviceFaults (memory : List Window) (lpi_bits : ℕ) (r : Registers) (p : DevicePlace) : RestoreFault → Type 0 where
   is_outside : number_at memory (device_address r p) ≡ None → DeviceFaults memory lpi_bits r p (OutsideTable (record { 0 = device_address r p }))
   has_bad_size : (e : DeviceFields) → device_entry memory p ≡ Some e → 16 < e.bits → DeviceFaults memory lpi_bits r p (BadSize (record { 0 = id_of p }))

@@ -46,7 +46,7 @@ event_leads t ev (Some e) = if e.next == 0 then None else within t.places (ev + 
 abbrev pub next_event : List Window → Itt → ℕ → Option ℕ
 next_event memory t ev = option_and_then (λ word. event_leads t ev (unpacked_event word)) (number_at memory (event_address t ev))
 
--- ---- offences
+-- ---- faults
 
 -- of a valid entry, in their order
 abbrev pub event_entry_check : ℕ → Itt → ℕ → Option EventFields → Result (Unit {0}) RestoreFault

@@ -1,4 +1,4 @@
--- Some bytes in front of zeros, 64 in all.
+-- Some bytes followed by zeros, 64 in all.
 use Rattle.std.specs.Prelude.{◌≡◌, ℕ, ◌-◌, ◌<◌, ◌≤◌, ◌++◌, List, length, take, drop, replicate}
 use Rattle.std.proofs.Common.{arith}
 use Rattle.std.proofs.lemmas.List.{take-append-drop, length-take}

@@ -1,4 +1,4 @@
--- Which state guest memory and register values stand for, and what their first offence is where they stand for none (KVM
+-- Which state guest memory and register values stand for, and what their first fault is where they stand for none (KVM
 -- document arm-vgic-its, "ITS Restore Sequence").
 use Rattle.std.specs.Prelude.{◌≡◌, ◌<◌, ℕ, Bool, true, false, not, ◌&&◌, List, [], ◌∷◌, length, replicate, slice_get, Some, Err, ◌↔◌}
 use Rattle.std.specs.Result.{IsOk}
@@ -32,7 +32,7 @@ lacks_tables s memory b = b.on && not (has_tables s memory b)
 abbrev pub AreRedistributorsClear : Shape → List Window → List Bases → Type 0
 AreRedistributorsClear s memory bases = (vcpu : ℕ) (b : Bases) → slice_get bases vcpu ≡ Some b → lacks_tables s memory b ≡ false
 
--- the first virtual processor of which it is so
+-- the first virtual processor of which it holds
 pub record RedistributorOffends (s : Shape) (memory : List Window) (bases : List Bases) (vcpu : ℕ) : Type 0 where
   pub base : Bases
   pub base_is : slice_get bases vcpu ≡ Some base
@@ -54,7 +54,7 @@ pub record IsRedistributorIn (s : Shape) (memory : List Window) (b : Bases) (r :
 
 -- ---- a translator
 
--- nothing that is read has an offence, and the maps are just the valid entries at places that are reached
+-- nothing that is read has a fault, and the maps are just the valid entries at places that are reached
 pub record AreMapsIn (s : Shape) (memory : List Window) (r : Registers) (m : Maps) : Type 0 where
   pub collections_clear : AreCollectionsClear memory s.vcpus r
   pub devices_clear : AreDevicesClear memory s.lpi_bits r
@@ -81,7 +81,7 @@ pub record Stands (memory : List Window) (values : RegValues) (layout : Layout) 
   pub redistributors : (vcpu : ℕ) (b : Bases) (r : Redistributor) → slice_get bases vcpu ≡ Some b → slice_get u.redistributors vcpu ≡ Some r
       → IsRedistributorIn layout.shape memory b r
 
--- the first offence: of the redistributors, of the registers, of the collections, and then of the devices with their events
+-- the first fault: of the redistributors, of the registers, of the collections, and then of the devices with their events
 pub data IsFirstFault (memory : List Window) (values : RegValues) (s : Shape) (bases : List Bases) : RestoreFault → Type 0 where
   of_redistributor : (vcpu : ℕ) → RedistributorOffends s memory bases vcpu → IsFirstFault memory values s bases (fault.BadRedist (record { 0 = vcpu }))
   of_register : (e : NotValid) → AreRedistributorsClear s memory bases → restored values s.dev_bits ≡ Err e

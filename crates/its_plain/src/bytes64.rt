@@ -40,6 +40,7 @@ impl Bytes64 {
         }
     }
 
+    /// The bytes, without a copy.
     pub fn as_slice(&self) -> &[u8]
         ensures bytes { result.now ≡ self.now }
         ensures some { 0 < length self.now }

@@ -79,7 +79,9 @@ pub enum Cause {
 /// Where a signal went.
 #[derive(Clone, Copy, Debug, PartialEq, Eq)]
 pub enum Signal {
+    /// The LPI is pending at the processor.
     Delivered { vcpu: Vcpu, intid: Intid },
+    /// Nothing changed.
     Dropped(Cause),
 }
 
@@ -88,29 +90,44 @@ pub enum Signal {
 pub enum Ack {
     /// The priority has bits 1 and 0 clear.
     Some { intid: Intid, priority: u8 },
+    /// No LPI is pending and enabled.
     None,
 }
 
 /// Why a command was refused: the first that applies.
 #[derive(Clone, Copy, Debug, PartialEq, Eq)]
 pub enum Reason {
+    /// The opcode is none of a translator's twelve.
     UnknownCommand,
+    /// A MAPD whose device has no place in the device table, or with V = 0 one whose DeviceID has
+    /// too many bits.
     DeviceRange,
+    /// A MAPD with more than 16 EventID bits.
     SizeRange,
+    /// There is no processor of this number.
     TargetRange,
+    /// The collection has no place in the collection table.
     CollectionRange,
+    /// The device isn't mapped.
     NoDevice,
+    /// The EventID has more bits than its device was mapped with.
     EventRange,
+    /// The INTID isn't that of an LPI.
     IntidRange,
+    /// The event isn't mapped.
     NoEvent,
+    /// The collection isn't mapped.
     NoCollection,
+    /// LPIs are off at a processor that the command needs.
     LpisOff,
 }
 
 /// What became of a command.
 #[derive(Clone, Copy, Debug, PartialEq, Eq)]
 pub enum CmdReply {
+    /// The command had its effect.
     Ran(Op),
+    /// The command had none.
     Refused(Op, Reason),
 }
 
@@ -119,7 +136,9 @@ pub enum CmdReply {
 pub enum StepReply {
     /// The translator is not enabled, or its queue is empty.
     Idle,
+    /// The command had its effect, and the queue goes on.
     Ran(Op),
+    /// The command had none, and the queue goes on.
     Refused(Op, Reason),
     /// The next command's bytes don't lie in one window.
     QueueFault(Addr),
@@ -128,15 +147,21 @@ pub enum StepReply {
 /// What a call is answered.
 #[derive(Clone, Copy, Debug, PartialEq, Eq)]
 pub enum Reply {
+    /// Of a signal.
     Signal(Signal),
+    /// Of a `Take` or a `Show`.
     Ack(Ack),
     /// A write that was taken, or ignored.
     Ok,
     /// The bytes don't lie in one window.
     Outside,
+    /// What a `Peek` read.
     Bytes(Bytes64),
+    /// What a register read. One of 4 bytes is in the low 32 bits.
     Value(u64),
+    /// Of a step.
     Step(StepReply),
+    /// All tables are written.
     Saved,
     /// Nothing was written.
     SaveFault(SaveFault),
@@ -145,7 +170,10 @@ pub enum Reply {
 /// A call of a pass, and what it was answered.
 #[derive(Clone, Copy, Debug, PartialEq, Eq)]
 pub struct Entry {
+    /// The number of the pass that made the call.
     pub pass: u32,
+    /// What it asked.
     pub call: Call,
+    /// What the translator answered.
     pub reply: Reply,
 }

@@ -12,7 +12,9 @@ use std::alloc::{AllocError, Global};
 /// Bytes that a description puts into guest memory.
 #[derive(Debug, Drop)]
 pub struct Fill {
+    /// Where the first byte goes.
     pub addr: Addr,
+    /// They must lie in one window.
     pub bytes: Listed<u8>,
 }
 
@@ -30,12 +32,15 @@ pub enum LpiTables {
 /// What a machine is made from.
 #[derive(Debug, Drop)]
 pub struct Desc {
+    /// How many processors, bits of identifiers, and which profile.
     pub shape: Shape,
     /// How many shards a translator's cache has: 1, 2, 4, .. or 64.
     pub shards: u32,
+    /// The cache's last stamp, and how many calls a history may have.
     pub limits: Limits,
     /// The base and the length of each window of guest memory.
     pub windows: Listed<(Addr, u64)>,
+    /// Where the LPI tables are, or the registers that say so.
     pub tables: LpiTables,
     /// Put into memory in their order, before anything is read there.
     pub fills: Listed<Fill>,
@@ -46,7 +51,7 @@ pub struct Desc {
 /// Why a description makes no machine: the first that applies.
 #[derive(Clone, Copy, Debug, PartialEq, Eq)]
 pub enum DescFault {
-    /// The windows of guest memory can't be so.
+    /// No memory can have these windows.
     Windows,
     /// The configuration table doesn't lie in one window.
     Config,
@@ -54,7 +59,7 @@ pub enum DescFault {
     Pending(Vcpu),
     /// The bytes of this fill, counted from 0, don't lie in one window.
     Bytes(u64),
-    /// Memory and the registers to restore stand for no state: their first offence.
+    /// Memory and the registers to restore stand for no state: their first fault.
     Restore(RestoreFault),
 }
 

@@ -14,6 +14,7 @@ pub enum Region {
     Level1,
     /// The page of a valid level-1 entry.
     Page(u32),
+    /// The collection table.
     Collections,
     /// A device's interrupt translation table.
     Itt(DeviceId),
@@ -74,11 +75,13 @@ impl From<SaveFault> for SaveError {
 /// A table that is walked from entry to entry.
 #[derive(Clone, Copy, Debug, PartialEq, Eq)]
 pub enum Table {
+    /// The device table.
     Devices,
+    /// The interrupt translation table of a device.
     Itt(DeviceId),
 }
 
-/// Why memory and registers stand for no state: the first offence.
+/// Why memory and registers stand for no state: the first fault.
 #[derive(Clone, Copy, Debug, PartialEq, Eq)]
 pub enum RestoreFault {
     /// The entry at this address doesn't lie in one window.

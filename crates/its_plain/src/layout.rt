@@ -6,6 +6,7 @@ use std::alloc::{AllocError, Global};
 /// What no call changes.
 #[derive(Debug, Drop)]
 pub struct Layout {
+    /// How large the machine is.
     pub shape: Shape,
     /// Whether the guest programs the LPI registers of the redistributors. Otherwise LPIs are on at
     /// the tables described.
@@ -16,7 +17,7 @@ pub struct Layout {
 }
 
 impl Layout {
-    /// The same once more.
+    /// A copy of it.
     pub fn copy(&self, alloc: Global) -> Result<Layout, AllocError>
         ensures { IfOk result (λ l. l ≡ self.now) }
     {

@@ -7,6 +7,7 @@ use std::alloc::{AllocError, AllocFailed};
 /// Why a machine wasn't made.
 #[derive(Clone, Copy, Debug, PartialEq, Eq)]
 pub enum MakeError {
+    /// The description makes none: the first fault.
     Fault(DescFault),
     /// The host ran out of memory.
     NoMemory,

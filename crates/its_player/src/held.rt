@@ -43,7 +43,7 @@ impl Held {
         self.part
     }
 
-    /// What has to be put home.
+    /// What has to be put back into the slot.
     pub fn owed(&self) -> &Content
         ensures { content_of result.now ≡ self.now.owed }
     {

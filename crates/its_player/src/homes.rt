@@ -1,4 +1,4 @@
-//! Parts that are held: out of their slots, home again, and given back.
+//! Parts that are held: out of their slots, in them again, and given back.
 ghost use Rattle.std.specs.Prelude.{◌≡◌, ◌<◌, OnOk, length};
 ghost use Rattle.its_player.specs.Shared.{core_of, IsMove};
 ghost use Rattle.its_steps.specs.Steps.{IsGoodCore};

@@ -71,7 +71,7 @@ fn free_turns(alloc: Global, count: usize) -> Result<Vec<u64>, AllocError>
     Ok(vec![in alloc; 0; count]?)
 }
 
-// Each part at home, and every shard empty.
+// Each part in its slot, and every shard empty.
 fn first_slots(
     alloc: Global,
     start: &State,

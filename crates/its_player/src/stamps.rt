@@ -170,7 +170,7 @@ impl Shared {
         self.have_fills_alone(owed, commit, to, its)
     }
 
-    // Whether the stamp of one translator may be so.
+    // Whether one translator may have this stamp.
     fn may_stamp(
         &self,
         alloc: Global,
@@ -194,7 +194,7 @@ impl Shared {
         Ok(self.renews(commit, to, its, held, owed))
     }
 
-    /// Whether the stamp may be so.
+    /// Whether the word may have this stamp.
     pub fn may_stamps(
         &self,
         alloc: Global,

@@ -37,8 +37,8 @@ impl Model for World {
 }
 
 impl World {
-    /// The world before any step: word (0, 0), no history, each part home as the first state has
-    /// it, empty shards, and the root alone. Each translator's cache has `shards` shards.
+    /// The world before any step: word (0, 0), no history, each part in its slot as the first state
+    /// has it, empty shards, and the root alone. Each translator's cache has `shards` shards.
     pub fn new(
         alloc: Global,
         start: State,

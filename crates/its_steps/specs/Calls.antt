@@ -179,12 +179,12 @@ abbrev pub maps_held : Plain → ℕ → List Held
 maps_held u zero = []
 maps_held u (suc n) = out (part.Maps n) (Maps (translator u n)) ∷ maps_held u n
 
--- and n redistributors in front of other parts
+-- and n redistributors before other parts
 abbrev pub redists_held : Plain → ℕ → List Held → List Held
 redists_held u zero rest = rest
 redists_held u (suc n) rest = out (part.Redist (record { 0 = n })) (Redist (redistributor u n)) ∷ redists_held u n rest
 
--- all maps of a state, its memory, and all redistributors, each got after the one behind it
+-- all maps of a state, its memory, and all redistributors, each got after the one that follows it here
 abbrev pub whole_held : Plain → List Held
 whole_held u = redists_held u (length u.redistributors) (out part.Mem (Mem u.memory) ∷ maps_held u (length u.translators))
 

@@ -112,7 +112,7 @@ pub record AreHeld (s : Setup) (word : Word) (u : Plain) (turns : List ℕ) (slo
   pub apart : Apart xs
   pub held : AllByRecursion (IsHeld s word u turns slots number) xs
 
--- what the pass at index i knows is so. `seat` tells at which index each number is
+-- what the pass at index i knows is true. `seat` tells at which index each number is
 pub record IsPass (s : Setup) (h : List Entry) (word : Word) (turns : List ℕ) (slots : List (Option Content)) (seat : ℕ → ℕ) (root : RootView) (i : ℕ)
     (v : View) : Type 0 where
   pub setup : v.setup ≡ s
@@ -154,7 +154,7 @@ pub record AreWide (s : Setup) (turns : List ℕ) (slots : List (Option Content)
   pub each_turn : length turns ≡ part_count s
   pub each_slot : length slots ≡ part_count s
 
--- each part is free and at home, or a pass that has its turn holds it
+-- each part is free and in its slot, or a pass that has its turn holds it
 pub record AreShared (s : Setup) (word : Word) (u : Plain) (turns : List ℕ) (slots : List (Option Content)) (views : List View) (seat : ℕ → ℕ) : Type 0 where
   pub wide : AreWide s turns slots
   pub home : (p : Part) → Stands s p → turn_of s turns p ≡ 0 → IsHome s word u slots p

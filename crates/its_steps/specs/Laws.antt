@@ -76,7 +76,7 @@ TakeKeeps = AtPass (λ s h w i v. (p : Part) (c : Content) → Stands s p → tu
       views = slice_set w.views i (took v p c);
     })
 
--- the value is put home and the turn given back
+-- the value is put back into its slot, and the turn given back
 abbrev pub GiveKeeps : Type 0
 GiveKeeps = AtPass (λ s h w i v. (p : Part) (c : Content) (before behind : List Held) → v.held ≡ before ++ out p c ∷ behind
     → Good s h record w {

@@ -120,7 +120,7 @@ fresh s number made seen last = record {
 abbrev pub first_view : Setup → View
 first_view s = fresh s 0 1 [] first_word
 
--- each part at home as the first state has it, and every shard empty
+-- each part in its slot as the first state has it, and every shard empty
 abbrev pub first_slots : Setup → List (Option Content)
 first_slots s =
     map (λ t. some (Maps t)) s.start.translators

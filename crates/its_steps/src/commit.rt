@@ -9,7 +9,10 @@ pub struct Commit {
     pub expected: Word,
     /// The stamp of the word that it leaves.
     pub stamp: u32,
+    /// What the pass asks.
     pub call: Call,
+    /// What it is answered.
     pub reply: Reply,
+    /// What becomes of the shards that the pass holds.
     pub change: ShardChange,
 }

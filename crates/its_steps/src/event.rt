@@ -6,6 +6,7 @@ use its_types::Part;
 pub struct Event {
     /// The number of the pass.
     pub pass: u32,
+    /// What it does.
     pub kind: Kind,
 }
 
@@ -22,7 +23,7 @@ pub enum Kind {
     Commit(Commit),
     /// It puts what a part owes into the slot.
     PutHome(Part),
-    /// It gives the turn of a part back that is at home.
+    /// It gives back the turn of a part that is in its slot.
     Release(Part),
     /// The root makes a pass of the next number.
     Split,
@@ -30,6 +31,7 @@ pub enum Kind {
     Note,
     /// The root takes back the pass of a number, which holds nothing.
     Join(u32),
-    /// It meets the note that was made as the so manieth, counted from 0.
+    /// It meets the note with this number. Notes are counted from 0, in the order in which they
+    /// were made.
     Meet(u32),
 }

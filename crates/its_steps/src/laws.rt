@@ -14,7 +14,7 @@ pub fn first_is_good()
 {}
 
 /// Each step of a pass, or two of them in one, leads from a good world to a good world: it reads
-/// the word; it tries a turn, and gets it or not; it takes a value out of its slot, puts it home,
+/// the word; it tries a turn, and gets it or not; it takes a value out of its slot, puts it back,
 /// and gives the turn back; it commits a call. What it holds may be in another order.
 pub fn passes_keep()
     ensures load { laws.LoadKeeps }
@@ -57,7 +57,7 @@ pub fn worlds_tell()
     ensures root { laws.RootKnowsAll }
 {}
 
-/// What is so of every machine: a history leaves a state of it; each part has an index of its own,
+/// What holds of every machine: a history leaves a state of it; each part has an index of its own,
 /// and a slot at first; what is found in a shard stands in one of its ways; and each translator has
 /// a stamp of its own in the word's.
 pub fn machines_tell()

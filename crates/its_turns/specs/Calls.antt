@@ -22,7 +22,7 @@ use Rattle.its_turns.specs.declared.commits.Raced.{Raced}
 use Rattle.its_steps.specs.declared.commit.Commit.{Commit}
 use Rattle.its_turns.specs.declared.turns.Busy.{Busy}
 
--- ---- what a whole call comes to
+-- ---- the outcome of a whole call
 
 -- No call was made: the pass is as it was, but that it may have seen more and tried turns
 pub record Stays (v w : View) : Type 0 where

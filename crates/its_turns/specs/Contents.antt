@@ -26,7 +26,7 @@ abbrev pub IsFit : Setup → Value → Type 0
 IsFit s (Redist b) = HasLpisOf s.start.layout.shape b.value
 IsFit s x = Unit {0}
 
--- in a slot, at home or out
+-- in a slot, or out of it
 abbrev pub shelved : Option Value → Option Content
 shelved none = none
 shelved (some x) = content_of x

@@ -23,7 +23,7 @@ pub record AreFirst (s : Setup) (values : List Value) : Type 0 where
   pub contents : map content_of values ≡ first_slots s
   pub fit : AllByRecursion (IsFit s) values
 
--- each value with seven empty slots behind it
+-- each value with seven empty slots after it
 abbrev pub apart : List Value → List Value
 apart [] = []
 apart (x ∷ xs) = x ∷ (replicate 7 Vacant ++ apart xs)

@@ -1,4 +1,4 @@
--- The rule of the table: words, slots at home and views show a good world.
+-- The rule of the table: words, slots and views show a good world.
 use Rattle.std.specs.Prelude.{suc, ◌≡◌, ℕ, ◌*◌, ◌<◌, ◌≤◌, List, length, slice_index}
 use mathlib.Core.Option.{none, some}
 use lib.ListN.{get_elem?}
@@ -34,5 +34,5 @@ pub record Kept (s : Setup) (t : State Value View) : Type 0 where
   pub deep : 8 * part_count s ≤ length t.homes
   -- a part that a pass has the turn of is out
   pub out : (k n : ℕ) → slice_index (world_of s t).turns k ≡ suc n → get_elem? t.homes (8 * k) ≡ some none
-  -- each value at home is one of this machine
+  -- each value in its slot is one of this machine
   pub fit : (k : ℕ) (x : Value) → get_elem? t.homes k ≡ some (some x) → IsFit s x

@@ -68,7 +68,7 @@ pub record Looks (v : View) (w : Word) (v' : View) : Type 0 where
 abbrev pub looking : Step Value → Sat → ℕ → Sat → Type 0
 looking st m n m' = (m'.1 ≡ m.1) × Looks m.0 (unpacked n) m'.0
 
--- the part taken last goes behind the others
+-- the part taken last goes after the others
 abbrev pub turned : List Held → List Held
 turned [] = []
 turned (x ∷ xs) = xs ++ x ∷ []
@@ -105,7 +105,7 @@ pub record Misses (p : Part) (m : Sat) (n : ℕ) (m' : Sat) : Type 0 where
 abbrev pub trying : Part → Step Value → Sat → ℕ → Sat → Type 0
 trying p st m n m' = (n ≡ 0 → Gets p m m') × (n ≢ 0 → Misses p m n m')
 
--- the part taken last is home
+-- the part taken last is in its slot
 abbrev pub released : View → View
 released v = record v { held = held_before v.held }
 

@@ -10,12 +10,12 @@ use Rattle.its_turns.specs.declared.value.Value.{Value}
 abbrev pub unpacked : ℕ → Word
 unpacked n = record { stamp = n / 2 ^ 40; place = n % 2 ^ 40 }
 
--- n items, each `gap` places behind the one before, the first at place k * gap
+-- n items, each `gap` places after the one before, the first at place k * gap
 abbrev pub spaced : {A : Type 0} → A → ℕ → List A → ℕ → ℕ → List A
 spaced filler gap xs k zero = []
 spaced filler gap xs k (suc n) = slice_index_or xs (gap * k) filler ∷ spaced filler gap xs (suc k) n
 
--- each turn stands 16 words from the next, behind the word, and each slot 8 from the next: no two share a line of the processor's cache
+-- each turn stands 16 words from the next, after the word, and each slot 8 from the next: no two share a line of the processor's cache
 abbrev pub turns_in : List ℕ → ℕ → List ℕ
 turns_in words parts = spaced 0 16 words 1 parts
 

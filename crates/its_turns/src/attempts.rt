@@ -1,4 +1,4 @@
-//! What a call comes to that is tried once.
+//! The outcome of a call that is tried once.
 use crate::commits::Raced;
 use crate::turns::Busy;
 use its_types::Placed;
@@ -33,7 +33,7 @@ impl Lost {
     ghost use Rattle.std.specs.Prelude.{◌≡◌};
     ghost use Rattle.its_turns.specs.Calls.{attempt_of};
 
-    /// What the whole call comes to.
+    /// The outcome of the whole call.
     pub fn attempt<T>(self) -> Attempt<T>
         ensures { result ≡ attempt_of self }
     {

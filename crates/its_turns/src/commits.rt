@@ -19,7 +19,9 @@ use std::marker::Brand;
 /// Another call was made first.
 #[derive(Clone, Copy, Debug, PartialEq, Eq)]
 pub struct Raced {
+    /// The word that the pass read last.
     pub expected: Word,
+    /// The word that was there instead.
     pub found: Word,
 }
 

@@ -65,7 +65,7 @@ pub fn close(machine: Machine, root: Root) -> Parts
     }
 }
 
-// The value of the next part, and with it the empty slots behind.
+// The value of the next part, with the empty slots after it.
 fn take_part(closed: &mut Closed<Value, Global>, part: usize) -> Value
     requires low { part < 2048 }
     requires inside { 8 * part + 8 ≤ slots_len closed.old.slots }

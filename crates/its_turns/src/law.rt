@@ -17,7 +17,9 @@ use std::snapshot::Snapshot;
 /// What the table is told once.
 #[derive(Drop)]
 pub struct Plan {
+    /// What the machine is made from.
     pub desc: Snapshot<Desc>,
+    /// Its parts as they begin.
     pub parts: Snapshot<Parts>,
 }
 
@@ -56,7 +58,7 @@ impl Play<Value, Known> for Look {
     ghost then = { looking };
 }
 
-/// A load of the word after which the part taken last is held behind the others.
+/// A load of the word after which the part taken last is held after the others.
 pub struct Turn;
 
 impl Play<Value, Known> for Turn {

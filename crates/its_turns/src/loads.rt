@@ -30,8 +30,8 @@ pub(crate) fn load(machine: &Machine, seat: &mut Seat<Value, Known>) -> Word
     unpack(machine.table.shared.load::<Look>(seat, 0))
 }
 
-/// Puts the part that was taken last behind all others that the pass holds, so that the one taken
-/// before it is the next to go home.
+/// Puts the part that was taken last after all others that the pass holds, so that the one taken
+/// before it is the next to be put back.
 pub fn bring(machine: &Machine, pass: &mut Pass)
     requires { IsOf machine.now pass.old }
     ensures of { IsOf machine.now pass.new }

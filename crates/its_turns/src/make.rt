@@ -22,8 +22,8 @@ use std::snapshot::Snapshot;
 use xlate_cache::Shard;
 
 impl Machine {
-    /// A machine with an empty history, stamp and place at 0 and every part at home, and its root.
-    /// The shards are empty. Where memory runs out the parts are dropped.
+    /// A machine with an empty history, stamp and place at 0 and every part in its slot, and its
+    /// root. The shards are empty. Where memory runs out the parts are dropped.
     ///
     /// ```
     /// let parts = owned_machine::Machine::new(alloc, &desc)?.into_parts();
@@ -129,7 +129,7 @@ fn first_values(alloc: Global, desc: &Desc, parts: Parts) -> Result<Vec<Value>, 
     Ok(values)
 }
 
-// Each value with seven empty slots behind it.
+// Each value with seven empty slots after it.
 fn spread(alloc: Global, values: Vec<Value>) -> Result<Vec<Value>, AllocError>
     ensures { IfOk result (λ v. v.items ≡ apart values.items) }
 {

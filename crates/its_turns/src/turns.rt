@@ -23,6 +23,7 @@ use std::sync::Wait;
 /// Another pass has the turn of the part.
 #[derive(Clone, Copy, Debug, PartialEq, Eq)]
 pub struct Busy {
+    /// Whose turn was tried.
     pub part: Part,
     /// The number of that pass.
     pub holder: u32,
@@ -97,7 +98,7 @@ pub fn take<R: Wait>(rt: &R, machine: &Machine, pass: &mut Pass, part: Part) -> 
     unreachable!()
 }
 
-/// Puts home the value that was taken out last, as it is owed, and gives its turn back.
+/// Puts the value that was taken out last back, as it is owed, and gives its turn back.
 pub fn put(machine: &Machine, pass: &mut Pass, part: Part, value: Value)
     requires of { IsOf machine.now pass.old }
     requires stands { Stands (setup machine.now) part }

@@ -38,7 +38,7 @@ no_maps = record { devices = map.empty; events = map.empty; collections = map.em
 abbrev pub events_but : Maps → ℕ → FinMap pair_cmp Event
 events_but m dev = map.retain_keys m.events (λ k. not (k.0 == dev))
 
--- a device that is mapped anew has no event
+-- a device that is mapped again has no event
 abbrev pub device_mapped : Maps → ℕ → Device → Maps
 device_mapped m dev device = record m { devices = map.insert m.devices dev device; events = events_but m dev }
 

@@ -1,5 +1,6 @@
 /// A place in a call where a test may hold it. It answers nothing and can't fail.
 pub trait Gate {
+    /// Called where the pass of this number stands at the point. A test may let it wait.
     fn at(&self, pass: u32, point: Point);
 }
 

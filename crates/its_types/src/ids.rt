@@ -33,7 +33,9 @@ pub struct Addr(pub u64);
 /// Where a translation leads.
 #[derive(Clone, Copy, Debug, PartialEq, Eq)]
 pub struct Target {
+    /// Whose redistributor it is pending at.
     pub vcpu: Vcpu,
+    /// The LPI.
     pub intid: Intid,
 }
 

@@ -45,18 +45,21 @@ impl<T> Listed<T> {
         Ok(())
     }
 
+    /// How many elements it has.
     pub fn len(&self) -> usize
         ensures { result ≡ length self.now }
     {
         self.items.len()
     }
 
+    /// Whether it has none.
     pub fn is_empty(&self) -> bool
         ensures { result ≡ (length self.now == 0) }
     {
         self.items.is_empty()
     }
 
+    /// The elements, without a copy.
     pub fn as_slice(&self) -> &[T]
         ensures { result.now ≡ self.now }
     {

@@ -4,14 +4,18 @@ use crate::ids::{FIRST_LPI, Vcpu};
 /// history that the next call gets.
 #[derive(Clone, Copy, Debug, PartialEq, Eq)]
 pub struct Word {
+    /// A translation in the cache counts only where it has this stamp.
     pub stamp: u32,
+    /// Counted from 0.
     pub place: u64,
 }
 
 /// The last stamp before it is renewed, and the last place of a history.
 #[derive(Clone, Copy, Debug, PartialEq, Eq)]
 pub struct Limits {
+    /// 1 to 2^24 - 1. The stamp after it is 0 again.
     pub stamp_last: u32,
+    /// 1 to 2^40 - 1. Calls have the places below it.
     pub place_last: u64,
 }
 
@@ -31,7 +35,9 @@ pub enum Part {
 /// A reply with its place in the history, counted from 0.
 #[derive(Clone, Copy, Debug, PartialEq, Eq)]
 pub struct Placed<T> {
+    /// Where the call stands in the history.
     pub place: u64,
+    /// What it was answered.
     pub reply: T,
 }
 
@@ -53,6 +59,7 @@ pub struct Shape {
     pub dev_bits: u8,
     /// How many bits the INTID of an LPI has, 14 to 20.
     pub lpi_bits: u8,
+    /// What a MAPC of a mapped collection does.
     pub profile: Profile,
 }
 

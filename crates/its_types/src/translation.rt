@@ -17,7 +17,9 @@ pub struct Device {
 /// 0069, section 5.2.4).
 #[derive(Clone, Copy, Debug, PartialEq, Eq)]
 pub struct Event {
+    /// An LPI.
     pub intid: Intid,
+    /// The collection need not be mapped.
     pub icid: Icid,
 }
 
@@ -47,7 +49,9 @@ pub struct Pendbaser {
 pub struct Bases {
     /// EnableLPIs of GICR_CTLR.
     pub on: bool,
+    /// Where the configuration table stands.
     pub prop: Propbaser,
+    /// Where the pending table stands.
     pub pend: Pendbaser,
 }
 

@@ -126,7 +126,7 @@ fn number(text: &str, last: u32) -> Option<u32>
     if number <= last { Some(number) } else { None }
 }
 
-// Whether the first byte is none of a sign and a zero.
+// Whether the first byte is neither a sign nor a zero.
 fn begins_above_zero(text: &str) -> bool
     ensures { result ≡ nat_lt 48 (slice_index text.now 0) }
 {

@@ -100,7 +100,7 @@ impl Config {
         self.bytes[(intid.0 - 8192) as usize]
     }
 
-    /// Puts a byte that was read anew in the place of an LPI's.
+    /// Replaces an LPI's byte by one that was read again.
     pub fn reload(&mut self, intid: Intid, byte: u8)
         requires { is_lpi self.old.lpi_bits intid.0 ≡ true }
         ensures { self.new ≡ record self.old {

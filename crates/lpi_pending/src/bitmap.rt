@@ -49,6 +49,7 @@ impl Bitmap {
         })
     }
 
+    /// The 64 bits from bit 64 * `at` on.
     pub fn word(&self, at: usize) -> u64
         requires { at < length self.now }
         ensures { result ≡ slice_index self.now at }
@@ -56,6 +57,7 @@ impl Bitmap {
         self.words[at]
     }
 
+    /// Sets the 64 bits from bit 64 * `at` on.
     pub fn put_word(&mut self, at: usize, word: u64)
         requires { at < length self.old }
         ensures { self.new ≡ slice_set self.old at word }

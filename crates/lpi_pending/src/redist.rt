@@ -6,7 +6,10 @@ use lpi_config::Config;
 /// where both tables stand.
 #[derive(Drop)]
 pub struct Redist {
+    /// The LPIs that are pending.
     pub pending: Pending,
+    /// The configuration bytes, as they were when last read.
     pub config: Config,
+    /// Whether LPIs are on, and where both tables stand.
     pub bases: Bases,
 }

@@ -10,8 +10,10 @@ use its_types::{Addr, DeviceId, EventId, Icid, Intid, Limits, Listed, Profile, S
 use owned_machine::Machine;
 use std::alloc::{AllocError, Global};
 
+/// Where the command queue begins.
 pub const QUEUE: u64 = 0x8002_0000;
 
+/// Where the configuration table begins.
 pub const CONFIG: Addr = Addr(0x8003_0000);
 
 /// Four virtual processors, and two MiB of memory with these words.
@@ -119,6 +121,7 @@ pub enum Asked {
 }
 
 impl Line {
+    /// The calls of the line, with the replies that it expects.
     pub fn asked(&self) -> Asked {
         match *self {
             Line::Runs(given) => Asked::Command(command(given), StepReply::Ran(op(given))),
@@ -281,7 +284,7 @@ fn peek(addr: u64) -> Call {
     }
 }
 
-/// The calls that put a command behind the last one. The queue has one page.
+/// The calls that put a command after the last one. The queue has one page.
 pub fn queueing(
     alloc: Global,
     machine: &mut Machine,

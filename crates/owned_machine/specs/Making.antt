@@ -1,4 +1,4 @@
--- What the steps of making a machine came to, against their definitions.
+-- The outcome of the steps of making a machine, against their definitions.
 use Rattle.std.specs.Prelude.{◌≡◌, Bool, false, List, Result, Ok, Err}
 use Rattle.guest_windows.specs.Windows.{Window}
 use Rattle.its_plain.specs.declared.desc.DescFault.{DescFault}

@@ -1,4 +1,4 @@
--- What migrations come to (KVM document arm-vgic-its, "ITS Restore Sequence"): the machine goes on from what its saved memory
+-- The outcome of migrations (KVM document arm-vgic-its, "ITS Restore Sequence"): the machine goes on from what its saved memory
 -- and its registers stand for, or stays as it is.
 use Rattle.std.specs.Prelude.{◌≡◌, ◌<◌, ℕ, List, length, get_or, Result, Ok, Err}
 use Rattle.gicr_regs.specs.Registers.{restored_bases}

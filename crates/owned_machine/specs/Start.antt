@@ -1,4 +1,4 @@
--- What making a machine comes to: registers at reset, nothing mapped, nothing pending, and the configuration as memory has it
+-- The outcome of making a machine: registers at reset, nothing mapped, nothing pending, and the configuration as memory has it
 -- (IHI 0069, section 5.1).
 use Rattle.std.specs.Prelude.{◌≡◌, ℕ, ◌<◌, ◌≤◌, true, List, length, slice_get, Option, Some, None, Result, Ok, Err}
 use Rattle.guest_windows.specs.Windows.{Window, inside}

@@ -32,10 +32,15 @@ const RESET: GicrRegisters = GicrRegisters {
 /// All parts of a machine, each where it stands.
 #[derive(Clone, Copy)]
 pub struct InPlace<'a> {
+    /// What no call changes.
     pub layout: &'a Layout,
+    /// The registers of the translator.
     pub regs: &'a Regs,
+    /// Its devices, events and collections.
     pub maps: &'a Maps,
+    /// Guest memory.
     pub memory: &'a Memory,
+    /// Those of all virtual processors, in hand.
     pub redists: &'a Redists,
 }
 

@@ -8,9 +8,14 @@ use lpi_pending::Redists;
 /// processors are in hand.
 #[derive(Drop)]
 pub struct Parts {
+    /// What no call changes.
     pub layout: Layout,
+    /// The registers of the translator.
     pub regs: Regs,
+    /// Its devices, events and collections.
     pub maps: Maps,
+    /// Guest memory.
     pub memory: Memory,
+    /// Those of all virtual processors, in hand.
     pub redists: Redists,
 }

@@ -179,7 +179,7 @@ fn all_pending_lpis_are_moved(rt: HostRuntime) -> Result<(), Fail> {
     Ok(())
 }
 
-// The list that these LPIs make where they come to be pending one after another.
+// The list that these LPIs make where they become pending one after another.
 fn listed(alloc: Global, lpis: &[u32]) -> Result<Vec<Intid>, AllocError> {
     let mut pending = Pending::new(alloc, 14)?;
     for lpi in lpis {

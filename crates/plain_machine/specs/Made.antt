@@ -1,4 +1,4 @@
--- What making a machine came to, against its definition.
+-- The outcome of making a machine, against its definition.
 use Rattle.std.specs.Prelude.{◌≡◌, ◌<◌, ◌^◌, ℕ, All, Bool, false, List, Option, Some, None, Result, Ok, Err}
 use Rattle.std.specs.Global.{Vec}
 use Rattle.guest_windows.specs.Windows.{Window}

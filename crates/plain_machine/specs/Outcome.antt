@@ -1,4 +1,4 @@
--- What a command of the plain machine came to, against its definition.
+-- The outcome of a command of the plain machine, against its definition.
 use Rattle.std.specs.Prelude.{◌≡◌, Result, Ok, Err}
 use Rattle.its_plain.specs.Plain.{Plain}
 use Rattle.its_plain.specs.declared.call.Reason.{Reason}
@@ -17,7 +17,7 @@ abbrev pub Runs : Plain → Plain → Result (Unit {0}) CommandError → Result 
 Runs old new (Ok done) ran = ran ≡ Ok new
 Runs old new (Err e) ran = Fails old new e ran
 
--- what a test whether the state can be saved came to
+-- the outcome of a test whether the state can be saved
 abbrev pub IsTested : Result (Unit {0}) SaveError → Result (Unit {0}) SaveFault → Type 0
 IsTested (Ok done) savable = savable ≡ Ok done
 IsTested (Err (save_errors.Fault fault)) savable = savable ≡ Err fault

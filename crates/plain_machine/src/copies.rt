@@ -10,7 +10,7 @@ use std::alloc::{AllocError, Global};
 impl State {
     ghost use Rattle.std.specs.Prelude.{◌≡◌, IfOk};
 
-    /// The same state once more.
+    /// A copy of the state.
     pub fn copy(&self, alloc: Global) -> Result<State, AllocError>
         ensures { IfOk result (λ s. s ≡ self.now) }
     {
@@ -26,7 +26,7 @@ impl State {
 impl TranslatorLists {
     ghost use Rattle.std.specs.Prelude.{◌≡◌, IfOk};
 
-    /// The same registers and maps once more.
+    /// A copy of the registers and maps.
     pub fn copy(&self, alloc: Global) -> Result<TranslatorLists, AllocError>
         ensures { IfOk result (λ t. t ≡ self.now) }
     {
@@ -54,7 +54,7 @@ impl MapLists {
 impl RedistLists {
     ghost use Rattle.std.specs.Prelude.{◌≡◌, IfOk};
 
-    /// The same pending set and configuration once more.
+    /// A copy of the pending set and the configuration.
     pub fn copy(&self, alloc: Global) -> Result<RedistLists, AllocError>
         ensures { IfOk result (λ r. r ≡ self.now) }
     {

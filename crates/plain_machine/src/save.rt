@@ -16,7 +16,7 @@ use its_types::{Shape, Vcpu};
 use std::alloc::{AllocError, Global};
 
 impl State {
-    /// Writes every table to memory, or tells the first thing in the way.
+    /// Writes every table to memory, or tells the first reason why not.
     pub(crate) fn save(&mut self, alloc: Global) -> Result<Reply, AllocError>
         ensures reply { IfOk result (λ r. r ≡ answers.save_reply (regions.savable self.old)) }
         ensures left { IfOk result
@@ -34,7 +34,7 @@ impl State {
         Ok(Reply::Saved)
     }
 
-    // Whether every table can be written, or the first thing in the way.
+    // Whether every table can be written, or the first reason why not.
     #[tactic(auto, unfolding(its_plain::specs::Regions::savable, its_plain::specs::Regions::areas_of))]
     fn savable(&self, alloc: Global) -> Result<(), SaveError>
         ensures { IsTested result (regions.savable self.now) }

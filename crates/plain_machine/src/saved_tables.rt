@@ -1,5 +1,5 @@
-//! The words that a save writes (KVM document arm-vgic-its, "ITS Table ABI REV0"), each found anew
-//! in the plain lists.
+//! The words that a save writes (KVM document arm-vgic-its, "ITS Table ABI REV0"), each searched
+//! for in the plain lists.
 ghost use Rattle.std.specs.Prelude.{◌≡◌, ◌≤◌, ◌+◌, ◌-◌, ◌*◌, ◌/◌, ◌<◌, ◌^◌, ℕ};
 ghost use Rattle.baser_place.specs.Places as places;
 ghost use Rattle.its_types.specs.Lpis as lpis;

@@ -1,4 +1,4 @@
--- What making a machine that threads share comes to.
+-- The outcome of making a machine that threads share.
 use Rattle.std.specs.Prelude.{◌≡◌, Result, Ok, Err}
 use Rattle.its_plain.specs.Described.{IsFirstState, IsRefused}
 use Rattle.its_plain.specs.declared.desc.Desc.{Desc}

@@ -1,4 +1,4 @@
-//! What passes make of one machine, by hand and on threads.
+//! Passes over one machine, call by call in one thread, and on threads.
 ghost use Rattle.std.specs.Prelude.{◌≡◌, ◌+◌, ◌^◌, ◌<◌, length};
 ghost use Rattle.its_turns.specs.Machines.{view};
 ghost use Rattle.ports_together.specs.Ready.{IsReady, IsRoot};

@@ -46,7 +46,7 @@ ReadAreasStay = (u : Plain) (k : ℕ) (a : Area) (address n : ℕ) → IsSound u
 
 -- ---- collections
 
--- the collection table of saved memory has no offence, and just the collections that are mapped
+-- the collection table of saved memory has no fault, and just the collections that are mapped
 pub record AreCollectionsSaved (u : Plain) (t : Translator) : Type 0 where
   pub clear : AreCollectionsClear (saved u) u.layout.shape.vcpus t.regs
   pub are : (icid : ℕ) (vcpu : Vcpu) → (collection_of t.maps icid ≡ Some vcpu) ↔ HasCollection (saved u) t.regs icid vcpu
@@ -63,7 +63,7 @@ RedistributorsStand = (u : Plain) (vcpu : ℕ) (r : Redistributor) → IsSound u
 
 -- ---- events
 
--- the interrupt translation table of a device has no offence, and just the events that are mapped
+-- the interrupt translation table of a device has no fault, and just the events that are mapped
 pub record AreEventsSaved (u : Plain) (t : Translator) (dev : ℕ) (d : Device) : Type 0 where
   pub clear : IsIttClear (saved u) u.layout.shape.lpi_bits (itt_of dev d)
   pub are : (ev : ℕ) (e : Event) → (event_of t.maps dev ev ≡ Some e) ↔ HasEvent (saved u) (itt_of dev d) ev e
@@ -74,7 +74,7 @@ EventsStand = (u : Plain) (k : ℕ) (t : Translator) (dev : ℕ) (d : Device) �
 
 -- ---- devices
 
--- the device table has no offence, and just the devices that are mapped
+-- the device table has no fault, and just the devices that are mapped
 pub record AreDevicesSaved (u : Plain) (t : Translator) : Type 0 where
   pub clear : AreDevicesClear (saved u) u.layout.shape.lpi_bits t.regs
   pub are : (dev : ℕ) (d : Device) → (device_of t.maps dev ≡ Some d) ↔ HasDevice (saved u) t.regs dev d

@@ -5,7 +5,7 @@ ghost use Rattle.script_gen.specs.Summary as spec;
 use its_history::ThreadList;
 use its_plain::{Call, Reply, Signal, StepReply};
 
-/// What a run's calls came to.
+/// How the calls of a run ended.
 #[derive(Clone, Copy, Debug, PartialEq, Eq)]
 pub struct Counts {
     /// How many signals were sent.
@@ -27,7 +27,7 @@ impl Counts {
         ran: 0,
     };
 
-    /// What the calls of all lists came to.
+    /// How the calls of all lists ended.
     pub fn of(lists: &[ThreadList]) -> Counts
         requires { length (all_lines lists.now) < 2 ^ 64 }
         ensures { result ≡ spec.with_lists lists.now spec.none }

@@ -29,8 +29,7 @@ pub fn can_migrate()
     ensures { laws.CanMigrate }
 {}
 
-/// Where lists have just the lines of a history's passes, what their calls came to is what the
-/// history's did.
+/// Where lists have just the lines of a history's passes, their calls are counted as the history's.
 pub fn lists_tell_counts()
     ensures { ListsTellCounts }
 {}

@@ -41,7 +41,7 @@ TakesMemory (call.Step its) = Unit {0}
 TakesMemory call.Save = Unit {0}
 TakesMemory other = ⊥
 
--- The call was made, or nothing was: where all places are used, or for want of memory
+-- The call was made, or nothing was: where all places are used, or memory ran out
 abbrev pub Answers : View → Call → View → Result (Placed Reply) Stop → Type 0
 Answers v c w (Ok p) = IsPlaced v c p.reply p.place w
 Answers v c w (Err Spent) = Stays v w × (length w.seen ≡ v.setup.limits.place_last)

@@ -92,7 +92,7 @@ HasRoom _ _ = ⊥
 abbrev pub SeenBy : View → Job → Type 0
 SeenBy w j = IsPrefix (view j.pass).seen w.seen
 
--- of two threads' stops, one for want of memory comes first
+-- of two threads' stops, one where memory ran out comes first
 abbrev pub worse : Option Stop → Option Stop → Option Stop
 worse (Some NoMemory) later = Some NoMemory
 worse first None = first

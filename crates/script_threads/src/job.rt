@@ -15,9 +15,13 @@ use std::sync::Wait;
 /// A thread's pass and its calls, the replies of those that were made, and why the next was not.
 #[derive(Drop)]
 pub struct Job<'a> {
+    /// The thread's own.
     pub pass: Pass,
+    /// All calls of the thread.
     pub calls: &'a [Call],
+    /// The first calls' replies, each with its place.
     pub done: Vec<Placed<Reply>>,
+    /// None where every call was made.
     pub stop: Option<Stop>,
 }
 

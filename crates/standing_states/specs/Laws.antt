@@ -40,7 +40,7 @@ StandingIsSound = (memory : List Window) (values : RegValues) (layout : Layout) 
     → are_windows (map extent memory) ≡ true
     → Stands memory values layout bases u → IsSound u
 
--- there is at most one first offence, and none where a state stands
+-- there is at most one first fault, and none where a state stands
 pub record OffencesAreDecided : Type 0 where
   pub one : (memory : List Window) (values : RegValues) (s : Shape) (bases : List Bases) (f g : RestoreFault) → IsFirstFault memory values s bases f
       → IsFirstFault memory values s bases g → f ≡ g

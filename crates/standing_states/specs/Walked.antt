@@ -14,7 +14,7 @@ abbrev pub found_then : {X F : Type 0} → Result (List X) F → Result (List X)
 found_then (Ok xs) rest = with_front xs rest
 found_then (Err f) rest = Err f
 
--- what the places have, for n places at most, or the first offence
+-- what the places have, for n places at most, or the first fault
 abbrev pub walk : {P X F : Type 0} → (P → Result (List X) F) → (P → Option P) → ℕ → P → Result (List X) F
 walk look next zero p = Ok []
 walk look next (suc n) p = found_then (look p) (go_on (walk look next n) (next p))

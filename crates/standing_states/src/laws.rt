@@ -11,7 +11,7 @@ pub fn standing_is_sound()
     ensures { laws.StandingIsSound }
 {}
 
-/// One memory and one set of register values have at most one first offence, and none where they
+/// One memory and one set of register values have at most one first fault, and none where they
 /// stand for a state.
 pub fn offences_are_decided()
     ensures { laws.OffencesAreDecided }

@@ -1,5 +1,5 @@
-//! Which state guest memory and register values stand for, and what their first offence is where
-//! they stand for none: there is one such state at most, it is sound, and no offence is met in it.
+//! Which state guest memory and register values stand for, and what their first fault is where they
+//! stand for none: there is one such state at most, it is sound, and no fault is met in it.
 #![tactic(auto)]
 
 mod laws;

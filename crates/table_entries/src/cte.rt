@@ -7,6 +7,7 @@ use its_types::{Icid, bit_of, field};
 pub struct Cte {
     /// The number of the processor that the collection goes to, of 36 bits.
     pub vcpu_number: u64,
+    /// The number of the collection.
     pub icid: Icid,
     pub ghost vcpu_number_fits: { vcpu_number < 2 ^ 36 },
 }

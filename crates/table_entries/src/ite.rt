@@ -9,6 +9,7 @@ pub struct Ite {
     pub next: u16,
     /// The physical interrupt, which isn't zero.
     pub intid: Intid,
+    /// The collection of the event, mapped or not.
     pub icid: Icid,
     pub ghost some_intid: { 1 ≤ intid.0 },
 }

@@ -43,7 +43,7 @@ abbrev pub LookedCollection : List Window → ℕ → Registers → ℕ → Resu
 LookedCollection memory vcpus r i (Ok seen) = (collection_check memory vcpus r i ≡ Ok tt) × (collection_entry memory r i ≡ option_map fields_of seen)
 LookedCollection memory vcpus r i (Err f) = collection_check memory vcpus r i ≡ Err f
 
--- what was to be read is in the maps, but for want of memory
+-- what was to be read is in the maps, unless memory ran out
 abbrev pub Took : {X : Type 0} → (Maps → X → Maps) → Maps → Maps → Result (Unit {0}) RestoreError → Result (List X) RestoreFault → Type 0
 Took put old new (Ok done) read = after put old read ≡ Ok new
 Took put old new (Err (errors.Fault f)) read = read ≡ Err f

@@ -79,7 +79,7 @@ HaveLowTables shape redists = (vcpu : ℕ) (r : Redist) → in_hand redists vcpu
 abbrev pub tables_in : List Window → Registers → Maps → List Area
 tables_in memory r m = device_areas r memory ++ collection_areas r ++ itt_areas (entries m.devices)
 
--- with the others behind them
+-- with the others after them
 abbrev pub all_areas : List Area → Layout → Registers → List (Option Redist) → List Area
 all_areas tables l r redists =
     tables ++ areas_from (regions.pending_area l.shape) 0 (redistributors_of l.shape redists) ++ config_areas l (redistributors_of l.shape redists)

@@ -28,6 +28,7 @@ impl AreaList {
         Ok(AreaList { list })
     }
 
+    /// Takes all areas away, and keeps the room.
     pub fn clear(&mut self)
         ensures items { self.new.items ≡ [] }
         ensures capacity { self.old.capacity ≤ self.new.capacity }
@@ -47,6 +48,7 @@ impl AreaList {
         }
     }
 
+    /// The areas, in the order in which they were appended.
     pub fn as_slice(&self) -> &[Stretch]
         ensures { result.now ≡ self.now.items }
     {

@@ -36,7 +36,7 @@ use its_types::{Addr, Shape};
 use lpi_pending::Redists;
 use std::alloc::Global;
 
-/// Whether the tables can be saved to guest memory, or the first thing that is in the way.
+/// Whether the tables can be saved to guest memory, or the first reason why not.
 pub fn savable(
     alloc: Global,
     regs: &Regs,
@@ -153,8 +153,8 @@ pub fn save_in(
     Ok(())
 }
 
-/// Writes what a save writes. For a state that was found savable: it doesn't look for anything that
-/// is in the way, and takes no memory.
+/// Writes what a save writes. For a state that was found savable: it checks nothing, and takes no
+/// memory.
 pub fn write_tables(
     regs: &Regs,
     maps: &Maps,

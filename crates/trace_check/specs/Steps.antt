@@ -1,4 +1,4 @@
--- What the check of a line, of the entries of a leg, and of a leg came to.
+-- The outcome of the check of a line, of the entries of a leg, and of a leg.
 use Rattle.std.specs.Prelude.{◌≡◌, ◌≢◌, ◌⊎◌, ℕ, List, ◌∷◌, ◌++◌, length, codes, Some, None, Err}
 use Rattle.its_plain.specs.Plain.{Plain}
 use Rattle.its_plain.specs.Answer.{answer}

@@ -27,6 +27,7 @@ pub struct Cursor<'a> {
 pub struct Next<'a> {
     /// Counted from 0 in each phase.
     pub thread: usize,
+    /// The first that isn't answered yet.
     pub call: &'a Call,
 }
 

@@ -10,7 +10,9 @@ use std::alloc::{AllocError, Global};
 /// The line of a virtual processor, as it is said and as it is.
 #[derive(Drop)]
 pub struct OtherLine {
+    /// As the report has it.
     pub said: Text,
+    /// As the machine has it.
     pub is: Text,
 }
 

@@ -1,6 +1,6 @@
 use its_history::Text;
 
-/// What a check of a report came to.
+/// The outcome of a check of a report.
 #[derive(Debug, Drop)]
 pub enum Verdict {
     /// It is the report of a run.

@@ -13,7 +13,7 @@ impl Shard {
     ghost use Rattle.xlate_cache.specs.Observed as spec;
     ghost use Rattle.xlate_cache.specs.Ways.{IsShard};
 
-    /// The same entries in the same ways once more.
+    /// A copy: the same entries in the same ways.
     pub fn copy(&self, alloc: Global) -> Result<Shard, AllocError>
         ensures { IfOk result (λ s. s ≡ self.now) }
     {
