@@ -80,8 +80,8 @@ struct its_redistributor_in {
 /* Why a description makes no machine: the first that applies. What a kind doesn't name is 0. */
 struct its_make_fault_out {
     /*
-     * Of the description: 1 the windows can't be so; 2 the configuration table doesn't lie in one
-     * window; 3 the pending table of `vcpu` doesn't; 4 the fill `number`, from 0, doesn't.
+     * Of the description: 1 no memory can have the windows; 2 the configuration table doesn't lie in
+     * one window; 3 the pending table of `vcpu` doesn't; 4 the fill `number`, from 0, doesn't.
      * Of what is restored: 5 the entry at `address` doesn't lie in one window; 6 `device` has more
      * than 16 EventID bits; 7 `intid` of `device` and `event` is no LPI; 8 `entry` of `table` leads
      * `distance` entries on, past its end; 9 `collection` goes to `number`, which is no virtual
@@ -241,8 +241,8 @@ uint32_t its_step(struct its_handle *handle, struct its_step_out *out);
 uint32_t its_save(struct its_handle *handle, struct its_save_fault_out *fault);
 
 /*
- * Saves into a copy of guest memory, and goes on from what that copy and the registers say: what a
- * save and a new machine come to, in place. Errors as for its_save.
+ * Saves into a copy of guest memory, and goes on from what that copy and the registers say: as
+ * a save and a new machine do, in place. Errors as for its_save.
  */
 uint32_t its_migrate(struct its_handle *handle, struct its_save_fault_out *fault);
 

@@ -49,7 +49,7 @@ void rattle_dealloc(void *at)
     free(at);
 }
 
-/* Makes a call, and the same once more where memory ran out. */
+/* Makes a call, and the same again where memory ran out. */
 #define CALL(call)                                   \
     do {                                             \
         uint32_t answer = (call);                    \

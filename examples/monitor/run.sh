@@ -17,7 +17,7 @@ work=$(mktemp -d)
 trap 'rm -rf "$work"' EXIT
 failed=0
 
-# What came to what end.
+# Prints whether a step passed.
 tell() {
     if [ "$2" -eq 0 ]; then
         echo "$1: passed"
