@@ -51,7 +51,7 @@ impl From<AllocError> for Unmade {
 /// an error no call was made, and memory is as it was.
 ///
 /// ```
-/// let in_the_way = match save(rt, alloc, machine, pass, &Open)?.reply {
+/// let refused = match save(rt, alloc, machine, pass, &Open)?.reply {
 ///     Ok(()) => None,
 ///     Err(fault) => Some(fault),
 /// };

@@ -98,7 +98,7 @@ fn play(alloc: Global, machine: &mut Machine, acts: &[Act]) -> Result<usize, All
     Ok(count)
 }
 
-// Where a device table is told, the machine is enabled with it first.
+// Where a device table is given, the machine is enabled with it first.
 fn play_on(
     alloc: Global,
     machine: &mut Machine,

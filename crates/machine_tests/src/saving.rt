@@ -215,7 +215,7 @@ fn an_event_as_far_as_can_be(rt: HostRuntime) -> Result<(), Fail> {
     Ok(())
 }
 
-// The next device is 16384 on, which is told as 16383.
+// The next device is 16384 on, which is saved as 16383.
 #[test]
 fn a_device_further_than_can_be_told(rt: HostRuntime) -> Result<(), Fail> {
     let case = Case {

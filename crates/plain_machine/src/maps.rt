@@ -83,7 +83,7 @@ impl MapLists {
         tables::intids(alloc, &self.events, icid)
     }
 
-    /// Maps a device, which then has no event. Out of memory, the maps aren't told.
+    /// Maps a device, which then has no event. Out of memory, nothing is said of the maps.
     pub fn map_device(&mut self, dev: DeviceId, device: Device) -> Result<(), AllocError>
         requires { HasTable device }
         ensures { OnOk result (self.new ≡ spec.device_mapped self.old dev.0 device) }
@@ -101,7 +101,7 @@ impl MapLists {
         tables::remove_events(&mut self.events, dev.0);
     }
 
-    /// Maps an event. Out of memory, the maps aren't told.
+    /// Maps an event. Out of memory, nothing is said of the maps.
     pub fn map_event(&mut self, dev: DeviceId, ev: EventId, event: Event) -> Result<(), AllocError>
         requires { 1 ≤ event.intid.0 }
         ensures { OnOk result (self.new ≡ spec.event_mapped self.old dev.0 ev.0 event) }
@@ -117,7 +117,7 @@ impl MapLists {
         tables::remove_event(&mut self.events, dev.0, ev.0);
     }
 
-    /// Maps a collection. Out of memory, the maps aren't told.
+    /// Maps a collection. Out of memory, nothing is said of the maps.
     pub fn map_collection(&mut self, icid: Icid, vcpu: Vcpu) -> Result<(), AllocError>
         ensures { OnOk result (self.new ≡ spec.collection_mapped self.old icid.0 vcpu) }
     {

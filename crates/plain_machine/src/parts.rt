@@ -66,8 +66,8 @@ impl State {
         self.memory = memory;
     }
 
-    /// Makes the interrupt pending at its target, as a delivered message does. Out of memory, the
-    /// state isn't told.
+    /// Makes the interrupt pending at its target, as a delivered message does. Out of memory,
+    /// nothing is said of the state.
     pub fn deliver(&mut self, target: Target) -> Result<(), AllocError>
         ensures { OnOk result
             (self.new ≡ answers.signal_left self.old (Delivered target.vcpu target.intid)) }

@@ -75,7 +75,7 @@ impl RedistLists {
         self.pending.iter().any(|x| *x == intid)
     }
 
-    /// Makes an LPI pending. Out of memory, the pending set isn't told.
+    /// Makes an LPI pending. Out of memory, nothing is said of the pending set.
     pub fn set(&mut self, intid: u32) -> Result<(), AllocError>
         ensures { OnOk result
             (self.new ≡ record self.old { pending = lpis.with_lpi intid self.old.pending }) }

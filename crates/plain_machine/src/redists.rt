@@ -10,7 +10,7 @@ use guest_windows::Memory;
 use its_plain::Ack;
 use std::alloc::{AllocError, Global};
 
-/// Makes an LPI pending at a virtual processor. Out of memory, its pending set isn't told.
+/// Makes an LPI pending at a virtual processor. Out of memory, nothing is said of its pending set.
 pub fn set_at(all: &mut [RedistLists], vcpu: u64, intid: u32) -> Result<(), AllocError>
     ensures { OnOk result (all.new
         ≡ pending_set all.old vcpu
@@ -48,7 +48,7 @@ pub fn take_all_at(alloc: Global, all: &mut [RedistLists], vcpu: u64) -> Vec<u32
     }
 }
 
-/// Makes LPIs pending at a virtual processor. Out of memory, its pending set isn't told.
+/// Makes LPIs pending at a virtual processor. Out of memory, nothing is said of its pending set.
 pub fn set_all_at(all: &mut [RedistLists], vcpu: u64, intids: Vec<u32>) -> Result<(), AllocError>
     ensures { OnOk result (all.new
         ≡ pending_set all.old vcpu

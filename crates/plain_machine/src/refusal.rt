@@ -6,7 +6,7 @@ ghost use Rattle.plain_machine.specs.declared.refusal.CommandError.TheVariants.{
 use its_plain::Reason;
 use std::alloc::AllocError;
 
-/// Why a command left the state as it was, or, out of memory, in a state that isn't told.
+/// Why a command left the state as it was, or, out of memory, in a state of which nothing is said.
 #[derive(Clone, Copy, Debug, PartialEq, Eq)]
 pub enum CommandError {
     Memory,

@@ -22,7 +22,7 @@ pub fn add_rising(list: &mut Vec<u32>, number: u32) -> Result<(), AllocError>
     Ok(())
 }
 
-/// Adds numbers to a rising list. Out of memory, the list isn't told.
+/// Adds numbers to a rising list. Out of memory, nothing is said of the list.
 #[tactic(auto, using(crate::proofs::Pending::with_lpis_push))]
 pub fn add_all_rising(list: &mut Vec<u32>, mut numbers: Vec<u32>) -> Result<(), AllocError>
     ensures { OnOk result (list.new.items ≡ lpis.with_lpis numbers.items list.old.items) }

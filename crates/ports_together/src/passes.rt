@@ -145,7 +145,7 @@ fn asked<R: Wait>(rt: &R, machine: &Machine, pass: &mut Pass, ask: Ask) -> Said
     }
 }
 
-// How many of the rows come true, up to the first that doesn't.
+// How many of the rows hold, up to the first that doesn't.
 fn play<R: Wait>(rt: &R, machine: &Machine, pass: &mut Pass, rows: &[(Ask, Said)]) -> usize
     requires { IsReady machine.now pass.old }
     ensures { IsReady machine.now pass.new }
