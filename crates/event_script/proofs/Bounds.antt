@@ -15,7 +15,7 @@ use Rattle.event_script.specs.Fields.{arg}
 use Rattle.event_script.specs.Words.{keyword_of}
 use Rattle.event_script.specs.Description.{empty, at_start, is_ended, is_shard_count}
 use Rattle.event_script.specs.Body.{has_tables, is_described}
-use Rattle.event_script.specs.Limits.{IsWithinLimits, are_limits}
+use Rattle.event_script.specs.Limits.{IsWithinLimits, HasRegisters, are_limits}
 use Rattle.event_script.specs.Script.{is_skipped, words_line, line, default_limits, described_tables, tables_of, desc_of, script_from, finished, at_line}
 use Rattle.event_script.specs.Script.{◌then◌, parts_from, script_of, default_ids, begins_report, trace_with, without_report, check_from, check_of}
 use Rattle.event_script.specs.declared.fault.Kind.{Kind}
@@ -27,7 +27,7 @@ use Rattle.event_script.specs.declared.draft.IdBits.{IdBits}
 use Rattle.event_script.specs.declared.draft.Stage.{Stage}
 use Rattle.event_script.specs.declared.draft.Stage.TheVariants as stage
 use Rattle.event_script.proofs.Steps.{left_true, right_true, bound, bound_by, ensured, chosen, IsBetween}
-use Rattle.event_script.proofs.Good.{IsGood, given_shards, given_limits, given_ids, in_body, empty_is_good}
+use Rattle.event_script.proofs.Good.{IsFair, IsGood, given_shards, given_limits, given_ids, in_body, empty_is_good}
 use Rattle.event_script.proofs.GoodBody.{keyword_good}
 
 words_good : (d : Draft) (n : ℕ) (fs : List (List ℕ)) → IsGood d → IfOk (words_line d n fs) IsGood
@@ -62,20 +62,23 @@ all_there [] e = refl
 all_there (None ∷ tables) e = absurd (cc)
 all_there (Some table ∷ tables) e = omega (arith, all_there tables e)
 
-described_there : (d : Draft) → (is_some d.config && list_all is_some d.pending) ≡ true → IfOk (described_tables d) (HasTablesFor (length d.pending))
+abbrev AreThere : Draft → LpiTables → Type 0
+AreThere d t = HasTablesFor (length d.pending) t × HasRegisters t
+
+described_there : (d : Draft) → (is_some d.config && list_all is_some d.pending) ≡ true → IfOk (described_tables d) (AreThere d)
 unfolding described_tables
 described_there d e =
-    bound (HasTablesFor (length d.pending)) (ok_or d.config kind.Missing) _ (λ config.
-    all_there d.pending (right_true (is_some d.config) (list_all is_some d.pending) e))
+    bound (AreThere d) (ok_or d.config kind.Missing) _ (λ config.
+    (all_there d.pending (right_true (is_some d.config) (list_all is_some d.pending) e), tt))
 
 -- the guest programs the tables, or there is one for each processor
-by_choice : (d : Draft) (gicr : Bool) → (gicr || (is_some d.config && list_all is_some d.pending)) ≡ true
-    → IfOk (let r : Result LpiTables Kind = if gicr then Ok (Registers d.registers) else described_tables d in r) (HasTablesFor (length d.pending))
-by_choice d true e = tt
-by_choice d false e = described_there d e
+by_choice : (d : Draft) (gicr : Bool) → IsFair d → (gicr || (is_some d.config && list_all is_some d.pending)) ≡ true
+    → IfOk (let r : Result LpiTables Kind = if gicr then Ok (Registers d.registers) else described_tables d in r) (AreThere d)
+by_choice d true fair e = (tt, fair.registers)
+by_choice d false fair e = described_there d e
 
-tables_there : (d : Draft) → has_tables d ≡ true → IfOk (tables_of d) (HasTablesFor (length d.pending))
-tables_there d e = by_choice d d.gicr e
+tables_there : (d : Draft) → IsFair d → has_tables d ≡ true → IfOk (tables_of d) (AreThere d)
+tables_there d fair e = by_choice d d.gicr fair e
 
 ended : (s : Stage) → is_ended s ≡ true → (in_body s ≡ true) × (at_start s ≡ false)
 ended stage.Start e = absurd (cc)
@@ -97,7 +100,7 @@ desc_fits d h over =
     let some_windows : windows ≡ true = right_true (is_some d.shards) windows (left_true (is_some d.shards && windows) (has_tables d) is) in
     let there : has_tables d ≡ true = right_true (is_some d.shards && windows) (has_tables d) is in
     bound_by (IsFit d) (ok_or d.shards kind.Missing) (λ n. is_shard_count n ≡ true) _ (shards_known d.shards h.fair.shards) (λ shards known.
-    bound_by (IsFit d) (tables_of d) (HasTablesFor (length d.pending)) _ (tables_there d there) (λ tables enough.
+    bound_by (IsFit d) (tables_of d) (AreThere d) _ (tables_there d h.fair there) (λ tables enough.
     record {
       description = record {
         shape = record {
@@ -108,7 +111,7 @@ desc_fits d h over =
           least_lpi_bits = bits.1.0;
           most_lpi_bits = bits.1.1;
         };
-        tables = enough;
+        tables = enough.0;
       };
       shards = known;
       limits = limits_known d.limits h.fair.limits;
@@ -116,6 +119,7 @@ desc_fits d h over =
       most_windows = h.fair.windows;
       fills = h.fair.fills;
       fill_lines = h.fair.fill_lines;
+      registers = enough.1;
       some_legs = omega (arith, h.body.some_legs over);
       most_legs = omega (arith, h.body.leg_room);
       legs = h.body.legs;

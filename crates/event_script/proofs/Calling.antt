@@ -8,9 +8,10 @@ use Rattle.event_script.specs.Fields.{arg, number_within, any_number, address, d
 use Rattle.event_script.specs.Commands.{command_word_of, command_fields, command_of}
 use Rattle.event_script.specs.Calls.{signal_of, take_of, show_of, poke_of, word_of, command_call_of, peek_of, read_of, write_of, rread_of, rwrite_of, step_of}
 use Rattle.event_script.specs.Calls.{save_of, access_size}
-use Rattle.event_script.specs.Limits.{is_call, is_access_size}
+use Rattle.event_script.specs.Limits.{are_bytes, has_bytes, is_call, is_access_size}
 use Rattle.event_script.specs.declared.fault.Kind.TheVariants as kind
-use Rattle.event_script.proofs.Steps.{both_true, below, bound, bound_by, ensured, number_in_range, processor_below, are_bytes, bytes_in_range, length-encoded}
+use Rattle.event_script.proofs.Steps.{both_true, below, bound, bound_by, ensured, number_in_range, processor_below, bytes_in_range, length-encoded}
+use Rattle.event_script.proofs.Bytes.{little_bytes_small, encoded_bytes}
 
 abbrev IsCall : ℕ → Call → Type 0
 IsCall vcpus c = is_call vcpus c ≡ true
@@ -37,16 +38,16 @@ pub poke_is_call : (vcpus : ℕ) (fs : List (List ℕ)) → IfOk (poke_of fs) (I
 unfolding poke_of
 poke_is_call vcpus fs =
     ensured (IsCall vcpus) (nat_eq (length fs) 3) kind.Fields _ (λ _. bound (IsCall vcpus) (address (arg fs 1)) _ (λ addr.
-    bound_by (IsCall vcpus) (bytes_within 64 (arg fs 2)) (λ b. are_bytes 64 b ≡ true) _ (bytes_in_range 64 (arg fs 2)) (λ b e. e)))
+    bound_by (IsCall vcpus) (bytes_within 64 (arg fs 2)) (λ b. has_bytes 64 b ≡ true) _ (bytes_in_range 64 (arg fs 2)) (λ b e. e)))
 
 pub word_is_call : (vcpus : ℕ) (fs : List (List ℕ)) → IfOk (word_of fs) (IsCall vcpus)
 unfolding word_of
 word_is_call vcpus fs =
     ensured (IsCall vcpus) (nat_eq (length fs) 3) kind.Fields _
-    (λ _. bound (IsCall vcpus) (address (arg fs 1)) _ (λ addr. bound (IsCall vcpus) (any_number (arg fs 2)) _ (λ value. refl)))
+    (λ _. bound (IsCall vcpus) (address (arg fs 1)) _ (λ addr. bound (IsCall vcpus) (any_number (arg fs 2)) _ (λ value. little_bytes_small 8 value)))
 
-few : (bytes : List ℕ) → length bytes ≡ 32 → are_bytes 64 bytes ≡ true
-few bytes e = rw e refl
+few : (bytes : List ℕ) → length bytes ≡ 32 → are_bytes bytes ≡ true → has_bytes 64 bytes ≡ true
+few bytes e small = rw e small
 
 pub command_is_call : (vcpus : ℕ) (fs : List (List ℕ)) → IfOk (command_call_of fs) (IsCall vcpus)
 unfolding command_call_of
@@ -54,7 +55,7 @@ command_is_call vcpus fs =
     bound (IsCall vcpus) (command_word_of (arg fs 2)) _ (λ word.
     ensured (IsCall vcpus) (nat_eq (length fs) (command_fields word)) kind.Fields _ (λ _.
     bound (IsCall vcpus) (address (arg fs 1)) _ (λ addr.
-    bound (IsCall vcpus) (command_of word fs) _ (λ c. few (encoded c) (length-encoded c)))))
+    bound (IsCall vcpus) (command_of word fs) _ (λ c. few (encoded c) (length-encoded c) (encoded_bytes c)))))
 
 pub peek_is_call : (vcpus : ℕ) (fs : List (List ℕ)) → IfOk (peek_of fs) (IsCall vcpus)
 unfolding peek_of

@@ -15,14 +15,15 @@ use Rattle.event_script.specs.Description.{window_line, describes_tables, config
 use Rattle.event_script.specs.Description.{redistributor_values, with_registers, has_registers, restores_registers, rrestore_line, bytes_line, word_fill_line}
 use Rattle.event_script.specs.Description.{is_given, is_shard_count, with_fill}
 use Rattle.event_script.specs.Body.{is_described}
-use Rattle.event_script.specs.Limits.{is_thread, is_phase, is_leg, are_limits, is_fill}
+use Rattle.event_script.specs.Limits.{has_bytes, is_thread, is_phase, is_leg, are_limits, is_fill}
 use Rattle.event_script.specs.declared.fault.Kind.TheVariants as kind
 use Rattle.event_script.specs.declared.draft.Draft.{Draft}
 use Rattle.event_script.specs.declared.draft.IdBits.{IdBits}
 use Rattle.event_script.specs.declared.draft.Stage.{Stage}
 use Rattle.event_script.specs.declared.draft.Stage.TheVariants as stage
 use Rattle.event_script.specs.declared.draft.TheConstants.{MOST_LEGS, MOST_PHASES, MOST_THREADS}
-use Rattle.event_script.proofs.Steps.{left_true, both_true, below, all_pushed, bound, bound_by, ensured, IsBetween, number_in_range, are_bytes, bytes_in_range}
+use Rattle.event_script.proofs.Steps.{left_true, both_true, below, all_pushed, bound, bound_by, ensured, IsBetween, number_in_range, bytes_in_range}
+use Rattle.event_script.proofs.Bytes.{little_bytes_small}
 
 -- ---- stages
 
@@ -145,6 +146,7 @@ pub record IsFair (d : Draft) : Type 0 where
   pub windows : length d.windows ≤ 16
   pub fills : list_all is_fill d.fills ≡ true
   pub fill_lines : length d.fill_lines ≡ length d.fills
+  pub registers : length d.registers.registers ≡ 16
 
 -- no call was read
 pub record IsEarly (d : Draft) : Type 0 where
@@ -172,7 +174,17 @@ pub record IsGood (d : Draft) : Type 0 where
 
 pub empty_is_good : IsGood empty
 empty_is_good = record {
-  fair = record { few = omega arith; some = λ e. absurd (cc); shards = refl; limits = refl; ids = tt; windows = omega arith; fills = refl; fill_lines = refl };
+  fair = record {
+    few = omega arith;
+    some = λ e. absurd (cc);
+    shards = refl;
+    limits = refl;
+    ids = tt;
+    windows = omega arith;
+    fills = refl;
+    fill_lines = refl;
+    registers = refl;
+  };
   described = λ e. absurd (cc);
   early = λ e. record { legs = refl; phases = refl; threads = refl; calls = refl };
   body = record {
@@ -229,6 +241,7 @@ shards_good d fs h =
       windows = h.fair.windows;
       fills = h.fair.fills;
       fill_lines = h.fair.fill_lines;
+      registers = h.fair.registers;
     })
     (record {
       legs = (h.early (not_started d.stage here)).legs;
@@ -261,6 +274,7 @@ vcpus_good d fs h =
       windows = h.fair.windows;
       fills = h.fair.fills;
       fill_lines = h.fair.fill_lines;
+      registers = h.fair.registers;
     })
     (still_early d e (h.early (start_first d.stage start)) refl refl refl refl) refl)))
 
@@ -292,6 +306,7 @@ limits_good d fs h =
       windows = h.fair.windows;
       fills = h.fair.fills;
       fill_lines = h.fair.fill_lines;
+      registers = h.fair.registers;
     })
     (still_early d e (h.early off) refl refl refl refl) off))))
 
@@ -314,6 +329,7 @@ ids_good d fs h =
       windows = h.fair.windows;
       fills = h.fair.fills;
       fill_lines = h.fair.fill_lines;
+      registers = h.fair.registers;
     })
     (still_early d e (h.early off) refl refl refl refl) off))))
 
@@ -335,6 +351,7 @@ profile_good d fs h =
       windows = h.fair.windows;
       fills = h.fair.fills;
       fill_lines = h.fair.fill_lines;
+      registers = h.fair.registers;
     })
     (still_early d e (h.early off) refl refl refl refl) off)))
 
@@ -358,6 +375,7 @@ window_good d fs h =
       windows = omega (arith, length-append d.windows ((base, len) ∷ []), ltb-true (length d.windows) 16 room);
       fills = h.fair.fills;
       fill_lines = h.fair.fill_lines;
+      registers = h.fair.registers;
     })
     (still_early d e (h.early off) refl refl refl refl) off)))))
 
@@ -382,6 +400,7 @@ config_good d fs h =
       windows = h.fair.windows;
       fills = h.fair.fills;
       fill_lines = h.fair.fill_lines;
+      registers = h.fair.registers;
     })
     (still_early d e (h.early off) refl refl refl refl) off)))
 
@@ -405,6 +424,7 @@ pending_good d fs h =
       windows = h.fair.windows;
       fills = h.fair.fills;
       fill_lines = h.fair.fill_lines;
+      registers = h.fair.registers;
     })
     (still_early d e (h.early off) refl refl refl refl) off))))
 
@@ -426,13 +446,15 @@ restore_good d fs h =
       windows = h.fair.windows;
       fills = h.fair.fills;
       fill_lines = h.fair.fill_lines;
+      registers = h.fair.registers;
     })
     (still_early d e (h.early off) refl refl refl refl) off)))
 
--- what the registers of redistributors are is no matter
+-- which the registers of redistributors are is no matter, but how many
 same_but_registers : (d e : Draft) → IsFair d → e.stage ≡ d.stage → e.pending ≡ d.pending → e.shards ≡ d.shards
-    → e.limits ≡ d.limits → e.ids ≡ d.ids → e.windows ≡ d.windows → e.fills ≡ d.fills → e.fill_lines ≡ d.fill_lines → IsFair e
-same_but_registers d e h t p sh l i w f fl = record {
+    → e.limits ≡ d.limits → e.ids ≡ d.ids → e.windows ≡ d.windows → e.fills ≡ d.fills → e.fill_lines ≡ d.fill_lines
+    → length e.registers.registers ≡ length d.registers.registers → IsFair e
+same_but_registers d e h t p sh l i w f fl r = record {
   few = rw p h.few;
   some = rw (t, p) h.some;
   shards = rw sh h.shards;
@@ -441,6 +463,7 @@ same_but_registers d e h t p sh l i w f fl = record {
   windows = rw w h.windows;
   fills = rw f h.fills;
   fill_lines = rw (f, fl) h.fill_lines;
+  registers = r ∙ h.registers;
 }
 
 pub gicr_good : (d : Draft) (fs : List (List ℕ)) → IsGood d → IfOk (gicr_line d fs) IsGood
@@ -451,7 +474,7 @@ gicr_good d fs h =
     let off = no_body d (left_true (describes_tables d) (is_none d.config) none) in
     ensured IsGood (nat_eq (length fs) 1) kind.Fields _ (λ _.
     let e : Draft = record d { gicr = true } in
-    described_more e (same_but_registers d e h.fair refl refl refl refl refl refl refl refl) (still_early d e (h.early off) refl refl refl refl) off))
+    described_more e (same_but_registers d e h.fair refl refl refl refl refl refl refl refl refl) (still_early d e (h.early off) refl refl refl refl) off))
 
 pub rrestore_good : (d : Draft) (fs : List (List ℕ)) → IsGood d → IfOk (rrestore_line d fs) IsGood
 unfolding rrestore_line
@@ -463,10 +486,11 @@ rrestore_good d fs h =
     bound IsGood (processor (length d.pending) (arg fs 1)) _ (λ vcpu.
     bound IsGood (redistributor_values fs) _ (λ values.
     let e : Draft = record d { registers = with_registers d.registers vcpu.0 values; given = set d.given vcpu.0 true } in
-    described_more e (same_but_registers d e h.fair refl refl refl refl refl refl refl refl) (still_early d e (h.early off) refl refl refl refl) off))))
+    let count = length-set d.registers.registers vcpu.0 values in
+    described_more e (same_but_registers d e h.fair refl refl refl refl refl refl refl refl count) (still_early d e (h.early off) refl refl refl refl) off))))
 
 -- with more bytes for the memory
-pub fill_good : (d : Draft) (n : ℕ) (addr : Addr) (bytes : List ℕ) → IsGood d → in_description d.stage ≡ true → are_bytes 4096 bytes ≡ true
+pub fill_good : (d : Draft) (n : ℕ) (addr : Addr) (bytes : List ℕ) → IsGood d → in_description d.stage ≡ true → has_bytes 4096 bytes ≡ true
     → IsGood (with_fill d n addr bytes)
 fill_good d n addr bytes h here sized =
     let off = not_started d.stage here in
@@ -482,6 +506,7 @@ fill_good d n addr bytes h here sized =
       windows = h.fair.windows;
       fills = all_pushed is_fill d.fills (record { addr = addr; bytes = bytes }) h.fair.fills sized;
       fill_lines = omega (arith, h.fair.fill_lines, length-append d.fills (fill ∷ []), length-append d.fill_lines (n ∷ []));
+      registers = h.fair.registers;
     })
     (still_early d e (h.early off) refl refl refl refl) off
 
@@ -491,7 +516,7 @@ bytes_good d n fs h =
     ensured IsGood (in_description d.stage) kind.Order _ (λ here.
     ensured IsGood (nat_eq (length fs) 3) kind.Fields _ (λ _.
     bound IsGood (address (arg fs 1)) _ (λ addr.
-    bound_by IsGood (bytes_within 4096 (arg fs 2)) (λ b. are_bytes 4096 b ≡ true) _ (bytes_in_range 4096 (arg fs 2)) (λ bytes sized.
+    bound_by IsGood (bytes_within 4096 (arg fs 2)) (λ b. has_bytes 4096 b ≡ true) _ (bytes_in_range 4096 (arg fs 2)) (λ bytes sized.
     fill_good d n addr bytes h here sized))))
 
 pub word_fill_good : (d : Draft) (n : ℕ) (fs : List (List ℕ)) → IsGood d → in_description d.stage ≡ true → IfOk (word_fill_line d n fs) IsGood
@@ -500,4 +525,4 @@ word_fill_good d n fs h here =
     ensured IsGood (nat_eq (length fs) 3) kind.Fields _ (λ _.
     bound IsGood (address (arg fs 1)) _ (λ addr.
     bound IsGood (any_number (arg fs 2)) _ (λ value.
-    fill_good d n addr (little_bytes 8 value) h here refl)))
+    fill_good d n addr (little_bytes 8 value) h here (little_bytes_small 8 value))))

@@ -114,8 +114,8 @@ threads_all d h =
 
 -- what the description has is the same at a later stage
 later : (d e : Draft) → IsFair d → at_start d.stage ≡ false → e.pending ≡ d.pending → e.shards ≡ d.shards → e.limits ≡ d.limits → e.ids ≡ d.ids
-    → e.windows ≡ d.windows → e.fills ≡ d.fills → e.fill_lines ≡ d.fill_lines → IsFair e
-later d e h s p sh l i w f fl = record {
+    → e.windows ≡ d.windows → e.fills ≡ d.fills → e.fill_lines ≡ d.fill_lines → e.registers ≡ d.registers → IsFair e
+later d e h s p sh l i w f fl r = record {
   few = rw p h.few;
   some = λ _. rw p (h.some s);
   shards = rw sh h.shards;
@@ -124,6 +124,7 @@ later d e h s p sh l i w f fl = record {
   windows = rw w h.windows;
   fills = rw f h.fills;
   fill_lines = rw (f, fl) h.fill_lines;
+  registers = rw r h.registers;
 }
 
 phase_good : (d : Draft) (fs : List (List ℕ)) → IsGood d → IfOk (phase_line d fs) IsGood
@@ -135,7 +136,7 @@ phase_good d fs h =
     ensured IsGood (nat_lt (length (phases_so_far d)) MOST_PHASES) kind.Many _ (λ room.
     record {
       fair = later d (record d { stage = stage.Phase; phases = phases_so_far d; threads = []; calls = [] }) h.fair (started d.stage on) refl refl refl refl refl
-          refl refl;
+          refl refl refl;
       described = λ _. left_true (is_described d) (not (in_phase d.stage)) whole;
       early = λ off. clash off refl;
       body = record {
@@ -159,7 +160,7 @@ migrate_good d fs h =
     ensured IsGood (nat_lt (length (legs_so_far d)) MOST_LEGS) kind.Many _ (λ room.
     record {
       fair = later d (record d { stage = stage.Leg; legs = legs_so_far d; phases = []; threads = []; calls = [] }) h.fair (started d.stage on) refl refl refl
-          refl refl refl refl;
+          refl refl refl refl refl;
       described = λ _. left_true (is_described d) (not (in_phase d.stage)) whole;
       early = λ off. clash off refl;
       body = record {
@@ -182,7 +183,7 @@ end_good d fs h =
     ensured IsGood (nat_eq (length fs) 1) kind.Fields _ (λ _.
     record {
       fair = later d (record d { stage = stage.Ended; legs = legs_so_far d; phases = []; threads = []; calls = [] }) h.fair (started d.stage on) refl refl refl
-          refl refl refl refl;
+          refl refl refl refl refl;
       described = λ _. left_true (is_described d) (not (in_phase d.stage)) whole;
       early = λ off. clash off refl;
       body = record {
@@ -205,7 +206,8 @@ thread_good d fs h =
     ensured IsGood (nat_eq (length fs) 1) kind.Fields _ (λ _.
     ensured IsGood (nat_lt (length (threads_so_far d)) MOST_THREADS) kind.Many _ (λ room.
     record {
-      fair = later d (record d { stage = stage.Thread; threads = threads_so_far d; calls = [] }) h.fair open_now.started refl refl refl refl refl refl refl;
+      fair = later d (record d { stage = stage.Thread; threads = threads_so_far d; calls = [] }) h.fair open_now.started refl refl refl refl refl refl refl
+          refl;
       described = λ _. h.described open_now.body;
       early = λ off. clash off refl;
       body = record {
@@ -242,6 +244,7 @@ call_good d read h reads =
         windows = h.fair.windows;
         fills = h.fair.fills;
         fill_lines = h.fair.fill_lines;
+        registers = h.fair.registers;
       };
       described = h.described;
       early = λ off. clash off (thread_in_body d.stage here);

@@ -10,8 +10,10 @@ use Rattle.its_command.specs.declared.command.Command.TheVariants as command
 use Rattle.event_script.specs.Text.{number}
 use Rattle.event_script.specs.Outcome.{◌>>=◌, ensure}
 use Rattle.event_script.specs.Fields.{number_within, within, any_number, processor, bytes_within, sized}
+use Rattle.event_script.specs.Limits.{are_bytes, has_bytes}
 use Rattle.event_script.specs.declared.fault.Kind.{Kind}
 use Rattle.event_script.specs.declared.fault.Kind.TheVariants as kind
+use Rattle.event_script.proofs.Bytes.{decoded_bytes}
 
 -- ---- tests
 
@@ -83,18 +85,16 @@ unfolding processor
 processor_below vcpus f =
     bound (λ v. nat_lt v.0 vcpus ≡ true) (any_number f) _ (λ n. ensured (λ v. nat_lt v.0 vcpus ≡ true) (nat_lt n vcpus) kind.Number _ (λ e. e))
 
--- some bytes, and no more than so many
-abbrev pub are_bytes : ℕ → List ℕ → Bool
-are_bytes most bytes = nat_lt 0 (length bytes) && nat_le (length bytes) most
+sized_in_range : (most : ℕ) (r : Result (List ℕ) FromHexError) → IfOk r (λ bytes. are_bytes bytes ≡ true)
+    → IfOk (sized most r) (λ bytes. has_bytes most bytes ≡ true)
+sized_in_range most (Err e) small = tt
+sized_in_range most (Ok bytes) small =
+    let few : Bool = nat_lt 0 (length bytes) && nat_le (length bytes) most in
+    chosen (λ r. IfOk r (λ b. has_bytes most b ≡ true)) few (Ok bytes) (Err kind.Hex) (λ e. both_true few (are_bytes bytes) e small) (λ _. tt)
 
-sized_in_range : (most : ℕ) (r : Result (List ℕ) FromHexError) → IfOk (sized most r) (λ bytes. are_bytes most bytes ≡ true)
-sized_in_range most (Err e) = tt
-sized_in_range most (Ok bytes) =
-    chosen (λ r. IfOk r (λ b. are_bytes most b ≡ true)) (are_bytes most bytes) (Ok bytes) (Err kind.Hex) (λ e. e) (λ _. tt)
-
-pub bytes_in_range : (most : ℕ) (f : List ℕ) → IfOk (bytes_within most f) (λ bytes. are_bytes most bytes ≡ true)
+pub bytes_in_range : (most : ℕ) (f : List ℕ) → IfOk (bytes_within most f) (λ bytes. has_bytes most bytes ≡ true)
 unfolding bytes_within
-bytes_in_range most f = sized_in_range most (decode_of f)
+bytes_in_range most f = sized_in_range most (decode_of f) (decoded_bytes f)
 
 -- a command has 32 bytes
 pub length-encoded : (c : Command) → length (encoded c) ≡ 32

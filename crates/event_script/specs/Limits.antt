@@ -6,9 +6,21 @@ use Rattle.its_plain.specs.declared.call.Call.{Call}
 use Rattle.its_plain.specs.declared.call.Call.TheVariants as call
 use Rattle.its_plain.specs.Machine.{IsDescription}
 use Rattle.its_plain.specs.declared.desc.Fill.{Fill}
+use Rattle.its_plain.specs.declared.desc.LpiTables.{LpiTables}
+use Rattle.its_plain.specs.declared.desc.LpiTables.TheVariants.{Described, Registers}
 use Rattle.event_script.specs.Description.{is_shard_count}
 use Rattle.event_script.specs.declared.draft.TheConstants.{MOST_LEGS, MOST_PHASES, MOST_THREADS, MOST_CALLS}
 use Rattle.event_script.specs.declared.script.Script.{Script}
+
+-- ---- bytes
+
+-- each is below 256
+abbrev pub are_bytes : List ℕ → Bool
+are_bytes bytes = list_all (λ b. nat_lt b 256) bytes
+
+-- bytes, one or more, and no more than so many
+abbrev pub has_bytes : ℕ → List ℕ → Bool
+has_bytes most bytes = nat_lt 0 (length bytes) && nat_le (length bytes) most && are_bytes bytes
 
 -- ---- calls
 
@@ -21,7 +33,7 @@ abbrev pub is_call : ℕ → Call → Bool
 is_call vcpus (call.Signal its dev ev) = its == 0
 is_call vcpus (call.Take vcpu) = nat_lt vcpu.0 vcpus
 is_call vcpus (call.Show vcpu) = nat_lt vcpu.0 vcpus
-is_call vcpus (call.Poke addr bytes) = nat_lt 0 (length bytes) && nat_le (length bytes) 64
+is_call vcpus (call.Poke addr bytes) = has_bytes 64 bytes
 is_call vcpus (call.Peek addr count) = nat_le 1 count && nat_le count 64
 is_call vcpus (call.ReadReg its off size) = its == 0 && is_access_size size
 is_call vcpus (call.WriteReg its off size value) = its == 0 && is_access_size size && nat_lt value (2 ^ (8 * size))
@@ -45,7 +57,12 @@ abbrev pub are_limits : Limits → Bool
 are_limits l = nat_le 1 l.stamp_last && nat_lt l.stamp_last (2 ^ 24) && nat_le 1 l.place_last && nat_lt l.place_last (2 ^ 40)
 
 abbrev pub is_fill : Fill → Bool
-is_fill f = nat_lt 0 (length f.bytes) && nat_le (length f.bytes) 4096
+is_fill f = has_bytes 4096 f.bytes
+
+-- values to restore are there for 16 redistributors, where the guest programs their tables
+abbrev pub HasRegisters : LpiTables → Type 0
+HasRegisters (Described config pending) = Unit {0}
+HasRegisters (Registers values) = length values.registers ≡ 16
 
 pub record IsWithinLimits (s : Script) : Type 0 where
   pub description : IsDescription s.desc
@@ -55,6 +72,7 @@ pub record IsWithinLimits (s : Script) : Type 0 where
   pub most_windows : length s.desc.windows ≤ 16
   pub fills : list_all is_fill s.desc.fills ≡ true
   pub fill_lines : length s.fill_lines ≡ length s.desc.fills
+  pub registers : HasRegisters s.desc.tables
   pub some_legs : 0 < length s.legs
   pub most_legs : length s.legs ≤ MOST_LEGS
   pub legs : list_all (is_leg s.desc.shape.vcpus) s.legs ≡ true
