@@ -1,7 +1,7 @@
 //! One machine of four virtual processors that is restored from words in its memory, and shared
 //! from then on. The words are those of the table format (KVM document arm-vgic-its, "ITS Table ABI
 //! REV0").
-ghost use Rattle.std.specs.Prelude.{◌≡◌, IfOk};
+ghost use Rattle.std.specs.Prelude.{◌≡◌, ◌<◌, ◌^◌, IfOk};
 ghost use Rattle.its_turns.specs.Machines.{view};
 ghost use Rattle.ports_together.specs.Ready.{IsSmall, IsRoot, IsAtRest, IsShared};
 
@@ -22,7 +22,8 @@ const VALUES: RegValues = RegValues {
     baser1: 0x8407_0000_8001_0200,
 };
 
-fn described(alloc: Global, words: &[(u64, u64)]) -> Result<Desc, AllocError>
+fn described(alloc: Global, words: &[(u64, u64)], stamp_last: u32) -> Result<Desc, AllocError>
+    requires { stamp_last < 2 ^ 24 }
     ensures { IfOk result IsSmall }
 {
     let mut windows = Listed::new(alloc);
@@ -43,7 +44,7 @@ fn described(alloc: Global, words: &[(u64, u64)]) -> Result<Desc, AllocError>
         },
         shards: 4,
         limits: Limits {
-            stamp_last: 16_777_215,
+            stamp_last,
             place_last: 1_099_511_627_775,
         },
         windows,
@@ -72,7 +73,22 @@ pub fn made(alloc: Global, words: &[(u64, u64)]) -> Result<(Machine, Root), Make
     ensures at_rest { IfOk result (λ made. IsAtRest made.0 made.1) }
     ensures shared { IfOk result (λ made. IsShared made.0 made.1) }
 {
-    let Ok(desc) = described(alloc, words) else {
+    made_with(alloc, words, 16_777_215)
+}
+
+/// The same, with this as the last stamp.
+pub fn made_with(
+    alloc: Global,
+    words: &[(u64, u64)],
+    stamp_last: u32,
+) -> Result<(Machine, Root), MakeError>
+    requires { stamp_last < 2 ^ 24 }
+    ensures root { IfOk result (λ made. IsRoot made.0 made.1) }
+    ensures passes { IfOk result (λ made. (view made.1).root.made ≡ 1) }
+    ensures at_rest { IfOk result (λ made. IsAtRest made.0 made.1) }
+    ensures shared { IfOk result (λ made. IsShared made.0 made.1) }
+{
+    let Ok(desc) = described(alloc, words, stamp_last) else {
         return Err(MakeError::NoMemory);
     };
     share(alloc, &desc)
