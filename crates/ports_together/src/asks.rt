@@ -1,13 +1,13 @@
 //! What a row of a table asks of a machine by its ports, and what it is answered. Each device is
 //! number 16.
 ghost use Rattle.std.specs.Prelude.{◌≡◌, ◌+◌, ◌^◌, ◌<◌};
-ghost use Rattle.its_migrate.specs.Resting.{HasItsLayout};
 ghost use Rattle.its_turns.specs.Machines.{view};
 ghost use Rattle.ports_together.specs.Ready.{IsReady, IsRoot};
 
 use crate::given::{Given, command};
 use cmd_engine::{read_reg, step, write_reg};
 use device_port::{Now, signal, try_signal};
+use gicr_lpi::{read_gicr, write_gicr};
 use guest_port::{peek, poke};
 use its_command::{Op, encode};
 use its_migrate::save;
@@ -36,6 +36,9 @@ pub enum Ask {
     /// A read of a register of so many bytes.
     Read(u32, u8),
     Write(u32, u8, u64),
+    /// A read of a processor's LPI register of so many bytes.
+    ReadGicr(u8, u32, u8),
+    WriteGicr(u8, u32, u8, u64),
     /// A command at this place of the queue, counted from 0: it is poked, CWRITER is moved past it,
     /// and the translator steps. These are three calls, and the last one answers.
     Run(u8, Given),
@@ -197,6 +200,47 @@ fn written<R: Wait>(
     }
 }
 
+fn read_lpi<R: Wait>(
+    rt: &R,
+    machine: &Machine,
+    pass: &mut Pass,
+    vcpu: u8,
+    off: u32,
+    size: u8,
+) -> Said
+    requires { IsReady machine.now pass.old }
+    ensures { IsReady machine.now pass.new }
+{
+    if vcpu >= machine.vcpus() {
+        return Said::Nothing;
+    }
+    match read_gicr(rt, machine, pass, &Open, Vcpu(vcpu), off, size) {
+        Ok(Placed { place, reply }) => at(place, Reply::Value(reply)),
+        Err(_) => Said::Nothing,
+    }
+}
+
+fn written_lpi<R: Wait>(
+    rt: &R,
+    machine: &Machine,
+    pass: &mut Pass,
+    vcpu: u8,
+    off: u32,
+    size: u8,
+    value: u64,
+) -> Said
+    requires { IsReady machine.now pass.old }
+    ensures { IsReady machine.now pass.new }
+{
+    if vcpu >= machine.vcpus() {
+        return Said::Nothing;
+    }
+    match write_gicr(rt, machine, pass, &Open, Vcpu(vcpu), off, size, value) {
+        Ok(Placed { place, reply: () }) => at(place, Reply::Ok),
+        Err(_) => Said::Nothing,
+    }
+}
+
 /// The translator takes its next command.
 pub fn stepped<R: Wait, G: Gate>(rt: &R, machine: &Machine, pass: &mut Pass, gate: &G) -> Said
     requires { IsReady machine.now pass.old }
@@ -220,8 +264,7 @@ pub fn queue<R: Wait>(rt: &R, machine: &Machine, pass: &mut Pass, place: u8, giv
 }
 
 fn saved<R: Wait>(rt: &R, alloc: Global, machine: &Machine, pass: &mut Pass) -> Said
-    requires layout { HasItsLayout machine.now }
-    requires pass { IsReady machine.now pass.old }
+    requires { IsReady machine.now pass.old }
     ensures { IsReady machine.now pass.new }
 {
     match save(rt, alloc, machine, pass, &Open) {
@@ -251,8 +294,7 @@ pub fn looked(machine: &Machine, pass: &mut Pass) -> Said
 }
 
 fn asked<R: Wait>(rt: &R, alloc: Global, machine: &Machine, pass: &mut Pass, ask: Ask) -> Said
-    requires layout { HasItsLayout machine.now }
-    requires pass { IsReady machine.now pass.old }
+    requires { IsReady machine.now pass.old }
     ensures { IsReady machine.now pass.new }
 {
     match ask {
@@ -264,6 +306,10 @@ fn asked<R: Wait>(rt: &R, alloc: Global, machine: &Machine, pass: &mut Pass, ask
         Ask::Peek(addr, count) => peeked(rt, machine, pass, addr, count),
         Ask::Read(off, size) => read(rt, machine, pass, off, size),
         Ask::Write(off, size, value) => written(rt, machine, pass, off, size, value),
+        Ask::ReadGicr(vcpu, off, size) => read_lpi(rt, machine, pass, vcpu, off, size),
+        Ask::WriteGicr(vcpu, off, size, value) => {
+            written_lpi(rt, machine, pass, vcpu, off, size, value)
+        }
         Ask::Run(place, given) => {
             queue(rt, machine, pass, place, given);
             stepped(rt, machine, pass, &Open)
@@ -281,8 +327,7 @@ pub fn play<R: Wait>(
     pass: &mut Pass,
     rows: &[(Ask, Said)],
 ) -> usize
-    requires layout { HasItsLayout machine.now }
-    requires pass { IsReady machine.now pass.old }
+    requires { IsReady machine.now pass.old }
     ensures { IsReady machine.now pass.new }
 {
     for (row, &(ask, expected)) in rows.iter().enumerate() {

@@ -1,12 +1,13 @@
 //! Commands, registers and saves, by calls of the ports: what they answer, and what they leave of
 //! the cache.
-ghost use Rattle.std.specs.Prelude.{◌<◌, ◌^◌};
+ghost use Rattle.ports_together.specs.Ready.{IsReady};
 
 use crate::asks::{Ask, Said, play};
 use crate::given::Given;
-use crate::made::made_with;
+use crate::made::{made, made_with};
 use its_command::Op;
-use its_plain::{Cause, MakeError, Reason, Reply};
+use its_plain::{Cause, Reason, Reply};
+use its_turns::{Machine, Root};
 use std::alloc::Global;
 use std::sync::Wait;
 use std::test::Fail;
@@ -24,21 +25,16 @@ pub const MAPPED: [(Ask, Said); 3] = [
     ),
 ];
 
-// How many rows come true on a machine with this last stamp, after those that map event 3.
-fn played<R: Wait>(
-    rt: &R,
-    alloc: Global,
-    stamp_last: u32,
-    rows: &[(Ask, Said)],
-) -> Result<usize, MakeError>
-    requires { stamp_last < 2 ^ 24 }
+// How many rows come true on a machine that was just made, after those that map event 3.
+fn played<R: Wait>(rt: &R, alloc: Global, made: (Machine, Root), rows: &[(Ask, Said)]) -> usize
+    requires { IsReady made.0 made.1 }
 {
-    let (machine, mut root) = made_with(alloc, &CONFIGURED, stamp_last)?;
+    let (machine, mut root) = made;
     let mapped = play(rt, alloc, &machine, &mut root, &MAPPED);
     if mapped < MAPPED.len() {
-        return Ok(mapped);
+        return mapped;
     }
-    Ok(play(rt, alloc, &machine, &mut root, rows))
+    play(rt, alloc, &machine, &mut root, rows)
 }
 
 // A move and then a discard of event 3. Event 4 stays in the cache.
@@ -67,7 +63,8 @@ const ONE_ENDS: [(Ask, Said); 17] = [
 
 #[test]
 fn one_translation_ends(rt: HostRuntime) -> Result<(), Fail> {
-    assert_eq!(rt; played(&rt, rt.alloc(), 16_777_215, &ONE_ENDS)?, 17);
+    let made = made(rt.alloc(), &CONFIGURED)?;
+    assert_eq!(rt; played(&rt, rt.alloc(), made, &ONE_ENDS), 17);
     Ok(())
 }
 
@@ -91,7 +88,8 @@ const ALL_END: [(Ask, Said); 14] = [
 
 #[test]
 fn all_translations_end(rt: HostRuntime) -> Result<(), Fail> {
-    assert_eq!(rt; played(&rt, rt.alloc(), 2, &ALL_END)?, 14);
+    let made = made_with(rt.alloc(), &CONFIGURED, 2, false)?;
+    assert_eq!(rt; played(&rt, rt.alloc(), made, &ALL_END), 14);
     Ok(())
 }
 
@@ -181,7 +179,39 @@ fn calls_by_the_ports(rt: HostRuntime) -> Result<(), Fail> {
         OFF_AND_ON.as_slice(),
     ];
     for rows in tables {
-        assert_eq!(rt; played(&rt, rt.alloc(), 16_777_215, rows)?, rows.len());
+        let made = made(rt.alloc(), &CONFIGURED)?;
+        assert_eq!(rt; played(&rt, rt.alloc(), made, rows), rows.len());
     }
+    Ok(())
+}
+
+// The guest turns LPIs on at processor 2.
+const TURNED_ON: [(Ask, Said); 11] = [
+    (Ask::Send(3), Said::Dropped(9, Cause::LpisOff)),
+    (Ask::ReadGicr(2, 0x0, 4), Said::At(10, Reply::Value(0))),
+    (
+        Ask::WriteGicr(2, 0x70, 8, 0x8003_000f),
+        Said::At(11, Reply::Ok),
+    ),
+    (
+        Ask::WriteGicr(2, 0x78, 8, 0x4000_0000_8006_0000),
+        Said::At(12, Reply::Ok),
+    ),
+    (
+        Ask::ReadGicr(2, 0x78, 8),
+        Said::At(13, Reply::Value(0x8006_0000)),
+    ),
+    (Ask::WriteGicr(2, 0x0, 4, 1), Said::At(14, Reply::Ok)),
+    (Ask::ReadGicr(2, 0x0, 4), Said::At(15, Reply::Value(1))),
+    (Ask::Hit(3), Said::Miss),
+    (Ask::Send(3), Said::Sent(16, 2, 8200)),
+    (Ask::Hit(3), Said::Sent(17, 2, 8200)),
+    (Ask::Take(2), Said::Lpi(18, 8200, 0xa0)),
+];
+
+#[test]
+fn lpis_are_turned_on(rt: HostRuntime) -> Result<(), Fail> {
+    let made = made_with(rt.alloc(), &CONFIGURED, 16_777_215, true)?;
+    assert_eq!(rt; played(&rt, rt.alloc(), made, &TURNED_ON), 11);
     Ok(())
 }

@@ -2,7 +2,6 @@
 //! before the signal is made.
 ghost use mathlib.Core.List.{IsPrefix};
 ghost use Rattle.its_turns.specs.Machines.{view};
-ghost use Rattle.its_migrate.specs.Resting.{HasItsLayout};
 ghost use Rattle.ports_together.specs.Ready.{IsReady};
 
 use crate::asks::{Ask, Said, hit, play, queue, split, stepped};
@@ -116,8 +115,7 @@ const CACHED: [(Ask, Said); 2] = [
 
 // Whether event 3 is cached, and the command that unmaps its device is the queue's next.
 fn is_cached<R: Wait>(rt: &R, alloc: Global, machine: &Machine, pass: &mut Pass) -> bool
-    requires layout { HasItsLayout machine.now }
-    requires pass { IsReady machine.now pass.old }
+    requires { IsReady machine.now pass.old }
     ensures { IsReady machine.now pass.new }
 {
     let mapped = play(rt, alloc, machine, pass, &MAPPED);
