@@ -124,7 +124,9 @@ fn is_cached<R: Wait>(rt: &R, alloc: Global, machine: &Machine, pass: &mut Pass)
     mapped == 3 && cached == 2
 }
 
-const RACED: Raced = Raced {
+const STEPPED: Said = Said::At(13, Reply::Step(StepReply::Ran(Op::Mapd)));
+
+const RACED: Said = Said::Raced(Raced {
     expected: Word {
         stamp: 0,
         place: 13,
@@ -133,13 +135,33 @@ const RACED: Raced = Raced {
         stamp: 1,
         place: 14,
     },
-};
+});
 
 const AFTER: [(Ask, Said); 3] = [
     (Ask::Look, Said::Stamp(1, 14)),
     (Ask::Hit(3), Said::Miss),
     (Ask::Send(3), Said::Dropped(14, Cause::NoDevice)),
 ];
+
+// What the step and the signal are answered, and how many rows come true after them.
+fn overtaken<R: Threads + Wait + Sync>(
+    rt: &R,
+    alloc: Global,
+    machine: &Machine,
+    mut first: Pass,
+    second: Pass,
+    gate: &Overtaking,
+) -> Option<(Said, Said, usize)>
+    requires first { IsReady machine.now first }
+    requires second { IsReady machine.now second }
+{
+    if !is_cached(rt, alloc, machine, &mut first) {
+        return None;
+    }
+    let (step, signal, mut second) = beside(rt, machine, first, second, gate);
+    let after = play(rt, alloc, machine, &mut second, &AFTER);
+    Some((step, signal, after))
+}
 
 #[test]
 fn a_command_overtakes_a_signal(rt: HostRuntime) -> Result<(), Fail> {
@@ -149,13 +171,10 @@ fn a_command_overtakes_a_signal(rt: HostRuntime) -> Result<(), Fail> {
         ran_out: AtomicU64::new(0),
     };
     let (machine, mut root) = made(rt.alloc(), &CONFIGURED)?;
-    let mut first = split(&machine, &mut root);
+    let first = split(&machine, &mut root);
     let second = split(&machine, &mut root);
-    assert!(rt; is_cached(&rt, rt.alloc(), &machine, &mut first));
-    let (step, signal, mut second) = beside(&rt, &machine, first, second, &gate);
-    assert!(rt; step == Said::At(13, Reply::Step(StepReply::Ran(Op::Mapd))));
-    assert!(rt; signal == Said::Raced(RACED));
-    assert_eq!(rt; play(&rt, rt.alloc(), &machine, &mut second, &AFTER), 3);
+    let answers = overtaken(&rt, rt.alloc(), &machine, first, second, &gate);
+    assert!(rt; answers == Some((STEPPED, RACED, 3)));
     assert_eq!(rt; gate.ran_out.load(Ordering::SeqCst), 0);
     Ok(())
 }
