@@ -116,6 +116,11 @@ fn machines_are_refused(rt: HostRuntime) {
             "window 0 0x20000\nwindow 0x20000 0x1000\nconfig 0\npending 0 0x10000\n# skipped\n\nword 0x1fffc 0",
             "refused machine bytes 9\n",
         ),
+        // The page of the device table leaves its window after 256 places without an entry.
+        (
+            "window 0x80000000 0x40000\nwindow 0x90000000 0x800\nconfig 0x80000000\npending 0 0x80010000\nrestore 1 0x8000000080020000 0 0 0x8107000090000200 0x8407000080030200",
+            "refused machine restore outside-table 0x90000800\n",
+        ),
     ] {
         let parts = ["vcpus 1\nshards 1", lines, "end"];
         let ended = tells(&rt, rt.alloc(), &parts, Status::MachineRefused, text);

@@ -1,5 +1,5 @@
 -- Passes between calls, and machines that have only begun.
-use Rattle.std.specs.Prelude.{◌≡◌, []}
+use Rattle.std.specs.Prelude.{◌≡◌, ◌<◌, ◌^◌, []}
 use Rattle.its_plain.specs.Machine.{IsDescription}
 use Rattle.its_plain.specs.declared.desc.Desc.{Desc}
 use Rattle.its_steps.specs.Parts.{vcpu_count}
@@ -24,7 +24,7 @@ pub record IsSmall (d : Desc) : Type 0 where
   pub description : IsDescription d
   pub shards : d.shards ≡ 4
   pub vcpus : d.shape.vcpus ≡ 4
-  pub stamps : d.limits.stamp_last ≡ 16777215
+  pub stamps : d.limits.stamp_last < 2 ^ 24
   pub places : d.limits.place_last ≡ 1099511627775
 
 -- a machine at rest with its root

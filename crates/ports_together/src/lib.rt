@@ -2,11 +2,19 @@
 #![tactic(auto)]
 
 #[cfg(test)]
+mod asks;
+#[cfg(test)]
+mod commands;
+#[cfg(test)]
+mod given;
+#[cfg(test)]
 mod legs;
 #[cfg(test)]
 mod made;
 #[cfg(test)]
 mod migrations;
+#[cfg(test)]
+mod overtaking;
 #[cfg(test)]
 mod passes;
 mod sharing;

@@ -1,11 +1,13 @@
 //! One machine of four virtual processors that is restored from words in its memory, and shared
 //! from then on. The words are those of the table format (KVM document arm-vgic-its, "ITS Table ABI
 //! REV0").
-ghost use Rattle.std.specs.Prelude.{◌≡◌, IfOk};
+ghost use Rattle.std.specs.Prelude.{◌≡◌, ◌<◌, ◌^◌, IfOk};
+ghost use Rattle.its_plain.specs.Machine.{HasTablesFor};
 ghost use Rattle.its_turns.specs.Machines.{view};
 ghost use Rattle.ports_together.specs.Ready.{IsSmall, IsRoot, IsAtRest, IsShared};
 
 use crate::share;
+use gicr_regs::{GicrRegisters, GicrValues};
 use gits_regs::RegValues;
 use its_plain::{Desc, Fill, LpiTables, MakeError};
 use its_turns::{Machine, Root};
@@ -22,17 +24,42 @@ const VALUES: RegValues = RegValues {
     baser1: 0x8407_0000_8001_0200,
 };
 
-fn described(alloc: Global, words: &[(u64, u64)]) -> Result<Desc, AllocError>
-    ensures { IfOk result IsSmall }
+const OFF: GicrRegisters = GicrRegisters {
+    ctlr: 0,
+    propbaser: 0,
+    pendbaser: 0,
+};
+
+// LPIs are on at tables of their own, or the guest programs the LPI registers.
+fn tables(alloc: Global, gicr: bool) -> Result<LpiTables, AllocError>
+    ensures { IfOk result (HasTablesFor 4) }
 {
-    let mut windows = Listed::new(alloc);
-    windows.push((Addr(0x8000_0000), 0x20_0000))?;
+    if gicr {
+        return Ok(LpiTables::Registers(GicrValues {
+            registers: [OFF; 16],
+        }));
+    }
     let mut pending = Listed::new(alloc);
     pending.push(Addr(0x8004_0000))?;
     pending.push(Addr(0x8005_0000))?;
     pending.push(Addr(0x8006_0000))?;
     pending.push(Addr(0x8007_0000))?;
     let config = Addr(0x8003_0000);
+    Ok(LpiTables::Described { config, pending })
+}
+
+fn described(
+    alloc: Global,
+    words: &[(u64, u64)],
+    stamp_last: u32,
+    gicr: bool,
+) -> Result<Desc, AllocError>
+    requires { stamp_last < 2 ^ 24 }
+    ensures { IfOk result IsSmall }
+{
+    let mut windows = Listed::new(alloc);
+    windows.push((Addr(0x8000_0000), 0x20_0000))?;
+    let tables = tables(alloc, gicr)?;
     let fills = fills(alloc, words)?;
     Ok(Desc {
         shape: Shape {
@@ -43,11 +70,11 @@ fn described(alloc: Global, words: &[(u64, u64)]) -> Result<Desc, AllocError>
         },
         shards: 4,
         limits: Limits {
-            stamp_last: 16_777_215,
+            stamp_last,
             place_last: 1_099_511_627_775,
         },
         windows,
-        tables: LpiTables::Described { config, pending },
+        tables,
         fills,
         restore: Some(VALUES),
     })
@@ -72,7 +99,23 @@ pub fn made(alloc: Global, words: &[(u64, u64)]) -> Result<(Machine, Root), Make
     ensures at_rest { IfOk result (λ made. IsAtRest made.0 made.1) }
     ensures shared { IfOk result (λ made. IsShared made.0 made.1) }
 {
-    let Ok(desc) = described(alloc, words) else {
+    made_with(alloc, words, 16_777_215, false)
+}
+
+/// The same with this as the last stamp. Its guest may program the LPI registers, which are off.
+pub fn made_with(
+    alloc: Global,
+    words: &[(u64, u64)],
+    stamp_last: u32,
+    gicr: bool,
+) -> Result<(Machine, Root), MakeError>
+    requires { stamp_last < 2 ^ 24 }
+    ensures root { IfOk result (λ made. IsRoot made.0 made.1) }
+    ensures passes { IfOk result (λ made. (view made.1).root.made ≡ 1) }
+    ensures at_rest { IfOk result (λ made. IsAtRest made.0 made.1) }
+    ensures shared { IfOk result (λ made. IsShared made.0 made.1) }
+{
+    let Ok(desc) = described(alloc, words, stamp_last, gicr) else {
         return Err(MakeError::NoMemory);
     };
     share(alloc, &desc)
