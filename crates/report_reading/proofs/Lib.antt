@@ -1,0 +1,9 @@
+pub mod Kept
+pub mod Commands
+pub mod Memory
+pub mod Calls
+pub mod Start
+pub mod Texts
+pub mod Entries
+pub mod Lines
+pub mod Reports

@@ -1,0 +1,108 @@
+-- The first state of a machine: what is in memory, and how many redistributors there are.
+use Rattle.std.proofs.Common.{◌≡◌, ℕ, ◌+◌, ◌≤◌, List, [], ◌∷◌, length, map, take, Option, Some, None, Result, Ok, Err, IfOk, sym, subst, ◌∙◌}
+use Rattle.std.proofs.Common.{arith}
+use Rattle.std.specs.Prelude.{IfSome, ok_or}
+use Rattle.std.proofs.lemmas.List.{length-map, length-replicate, length-take-le}
+use Rattle.guest_windows.specs.Windows.{Window, are_windows, zeros, read_at, write_at}
+use Rattle.guest_windows.specs.Fields.{pairs}
+use Rattle.gicr_regs.specs.Redistributors.{off_redistributor}
+use Rattle.gicr_regs.specs.Registers.{restored_bases}
+use Rattle.gits_regs.specs.declared.values.RegValues.{RegValues}
+use Rattle.its_types.specs.Lpis.{no_bases, described_bases}
+use Rattle.its_types.specs.Ranges.{lpi_count}
+use Rattle.its_types.specs.declared.machine.Shape.{Shape}
+use Rattle.its_plain.specs.Plain.{Plain, Redistributor}
+use Rattle.its_plain.specs.Described.{IsFirstState, StartsAt}
+use Rattle.its_plain.specs.Machine.{made, ensure, ◌>>=◌, tables_inside, filled, first_redistributors, idle_redistributor, bases_given, HasTablesFor}
+use Rattle.its_plain.specs.declared.desc.Desc.{Desc}
+use Rattle.its_plain.specs.declared.desc.DescFault.{DescFault}
+use Rattle.its_plain.specs.declared.desc.DescFault.TheVariants.{Windows, Config, Bytes}
+use Rattle.its_plain.specs.declared.desc.Fill.{Fill}
+use Rattle.its_plain.specs.declared.desc.LpiTables.{LpiTables}
+use Rattle.its_plain.specs.declared.desc.LpiTables.TheVariants.{Described, Registers}
+use Rattle.event_script.specs.Limits.{HasRegisters}
+use Rattle.report_reading.specs.Bytes.{AllBytes, HasBytes, FillBytes}
+use Rattle.report_reading.specs.Laws.{MachinesStartWithBytes}
+use Rattle.report_reading.proofs.Memory.{empty_windows, written_small}
+
+-- ---- steps
+
+with_ok : {A B : Type 0} (Q : A → Type 0) (P : B → Type 0) (r : Result A DescFault) (f : A → Result B DescFault) → IfOk r Q → ((x : A) → Q x → IfOk (f x) P)
+    → IfOk (r >>= f) P
+with_ok Q P (Ok x) f q h = h x q
+with_ok Q P (Err e) f q h = tt
+
+after_ok : {A B : Type 0} (P : B → Type 0) (r : Result A DescFault) (f : A → Result B DescFault) → ((x : A) → IfOk (f x) P) → IfOk (r >>= f) P
+after_ok P (Ok x) f h = h x
+after_ok P (Err e) f h = tt
+
+if_ok_at : {A E : Type 0} (P : A → Type 0) (r : Result A E) (x : A) → IfOk r P → r ≡ Ok x → P x
+if_ok_at P r x h e = subst (λ q. IfOk q P) e h
+
+found : {A : Type 0} (P : A → Type 0) (o : Option A) (fault : DescFault) → IfSome o P → IfOk (ok_or o fault) P
+found P None fault h = tt
+found P (Some x) fault h = h
+
+-- ---- memory
+
+filled_small : (memory : List Window) (n : ℕ) (fills : List Fill) → AllBytes memory → FillBytes fills → IfOk (filled memory n fills) AllBytes
+filled_small memory n [] h f = h
+filled_small memory n (x ∷ fills) h f =
+    with_ok AllBytes AllBytes (ok_or (write_at memory x.addr.0 x.bytes) (Bytes n)) _
+    (found AllBytes (write_at memory x.addr.0 x.bytes) (Bytes n) (written_small memory x.addr.0 x.bytes h f.0))
+    (λ m small. filled_small m (n + 1) fills small f.1)
+
+made_small : (d : Desc) → FillBytes d.fills → IfOk (made d) HasBytes
+unfolding made
+made_small d f =
+    let empty : List Window = map zeros (pairs d.windows) in
+    after_ok HasBytes (ensure (are_windows (pairs d.windows)) Windows) _ (λ _.
+    after_ok HasBytes (tables_inside d.shape empty d.tables) _ (λ _.
+    with_ok AllBytes HasBytes (filled empty 0 d.fills) _ (filled_small empty 0 d.fills (empty_windows (pairs d.windows)) f) (λ memory small.
+    after_ok HasBytes (first_redistributors d.shape memory d.tables) _ (λ rs. small))))
+
+starts_small : (o : Option RegValues) (d : Desc) (base u : Plain) → HasBytes base → StartsAt o (bases_given d.shape.vcpus d.tables) base u → HasBytes u
+starts_small None d base u h is = subst HasBytes (sym is) h
+starts_small (Some values) d base u h is = subst AllBytes (sym is.memory_is) h
+
+pub start_bytes : MachinesStartWithBytes
+start_bytes d u f is = starts_small d.restore d is.base u (if_ok_at HasBytes (made d) is.base (made_small d f) is.made_is) is.starts
+
+-- ---- redistributors
+
+abbrev HasAsMany : ℕ → List Redistributor → Type 0
+HasAsMany n rs = length rs ≡ n
+
+first_count : (s : Shape) (memory : List Window) (t : LpiTables) → HasTablesFor s.vcpus t → IfOk (first_redistributors s memory t) (HasAsMany s.vcpus)
+first_count s memory (Described config pending) h =
+    after_ok (HasAsMany s.vcpus) (ok_or (read_at memory config.0 (lpi_count s.lpi_bits)) Config) _ (λ bytes.
+    length-map (map (described_bases config) pending) (idle_redistributor bytes) ∙ (length-map pending (described_bases config) ∙ h))
+first_count s memory (Registers values) h = length-replicate s.vcpus (off_redistributor s no_bases)
+
+abbrev HasAll : ℕ → Plain → Type 0
+HasAll n u = HasAsMany n u.redistributors
+
+made_count : (d : Desc) → HasTablesFor d.shape.vcpus d.tables → IfOk (made d) (HasAll d.shape.vcpus)
+unfolding made
+made_count d h =
+    let P : Plain → Type 0 = HasAll d.shape.vcpus in
+    let empty : List Window = map zeros (pairs d.windows) in
+    after_ok P (ensure (are_windows (pairs d.windows)) Windows) _ (λ _.
+    after_ok P (tables_inside d.shape empty d.tables) _ (λ _.
+    after_ok P (filled empty 0 d.fills) _ (λ memory.
+    with_ok (HasAsMany d.shape.vcpus) P (first_redistributors d.shape memory d.tables) _ (first_count d.shape memory d.tables h) (λ rs count. count))))
+
+given_count : (vcpus : ℕ) (t : LpiTables) → vcpus ≤ 16 → HasTablesFor vcpus t → HasRegisters t → length (bases_given vcpus t) ≡ vcpus
+given_count vcpus (Described config pending) few h r = length-map pending (described_bases config) ∙ h
+given_count vcpus (Registers values) few h r =
+    length-map (take vcpus values.registers) restored_bases ∙ length-take-le vcpus values.registers (omega (arith, few, r))
+
+starts_count : (o : Option RegValues) (vcpus : ℕ) (t : LpiTables) (base u : Plain) → vcpus ≤ 16 → HasTablesFor vcpus t → HasRegisters t → HasAll vcpus base
+    → StartsAt o (bases_given vcpus t) base u → HasAll vcpus u
+starts_count None vcpus t base u few h r made is = subst (HasAll vcpus) (sym is) made
+starts_count (Some values) vcpus t base u few h r made is = is.vcpus ∙ given_count vcpus t few h r
+
+pub start_count : (d : Desc) (u : Plain) → d.shape.vcpus ≤ 16 → HasTablesFor d.shape.vcpus d.tables → HasRegisters d.tables → IsFirstState d u
+    → length u.redistributors ≡ d.shape.vcpus
+start_count d u few h r is =
+    starts_count d.restore d.shape.vcpus d.tables is.base u few h r (if_ok_at (HasAll d.shape.vcpus) (made d) is.base (made_count d h) is.made_is) is.starts
