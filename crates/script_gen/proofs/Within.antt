@@ -1,5 +1,5 @@
 -- The script has no more of anything than a script may have.
-use Rattle.std.proofs.Common.{◌≡◌, ℕ, ◌+◌, ◌/◌, ◌<◌, ◌≤◌, ◌^◌, Bool, true, false, ◌&&◌, List, [], ◌∷◌, ◌++◌, length, map, refl, sym, subst, ap, ◌∙◌, arith}
+use Rattle.std.proofs.Common.{◌≡◌, ℕ, ◌+◌, ◌/◌, ◌<◌, ◌≤◌, ◌^◌, Bool, true, false, ◌&&◌, List, [], ◌∷◌, ◌++◌, length, map, refl, ap, ◌∙◌, arith}
 use Rattle.std.proofs.Common.{lit<, lit≤}
 use Rattle.std.specs.Prelude.{nat_lt, nat_le}
 use Rattle.std.specs.List.{AllByRecursion, range_with_len, list_all}
@@ -12,7 +12,8 @@ use Rattle.its_plain.specs.Machine.{IsDescription}
 use Rattle.its_plain.specs.Sound.{IsShape}
 use Rattle.its_plain.specs.Runs.{Thread, Phase}
 use Rattle.its_plain.specs.declared.call.Call.{Call}
-use Rattle.event_script.specs.Limits.{is_call, is_thread, is_phase, is_leg}
+use Rattle.event_script.specs.Limits.{are_bytes, has_bytes, is_call, is_thread, is_phase, is_leg}
+use Rattle.event_script.proofs.Bytes.{encoded_bytes}
 use Rattle.script_gen.specs.Description.{description}
 use Rattle.script_gen.specs.Commands.{setup_commands, move_commands}
 use Rattle.script_gen.specs.Generated.{queued, offset_of, signal_call, setup_count, setup_phase, signal_phase, setup_thread, signal_thread, move_thread}
@@ -27,15 +28,15 @@ use Rattle.script_gen.proofs.Lists.{all_append, all_map, all_range, list_all_tru
 abbrev IsCall : Call → Type 0
 IsCall c = is_call 4 c ≡ true
 
-poke_is : (n : ℕ) → n ≡ 32 → (nat_lt 0 n && nat_le n 64) ≡ true
-poke_is n e = subst (λ k. (nat_lt 0 k && nat_le k 64) ≡ true) (sym e) refl
+poke_is : (bytes : List ℕ) → length bytes ≡ 32 → are_bytes bytes ≡ true → has_bytes 64 bytes ≡ true
+poke_is bytes e small = rw e small
 
 offset_fits : (k : ℕ) → nat_lt (offset_of k) (2 ^ 64) ≡ true
 offset_fits k = let low : offset_of k < 2 ^ 64 = omega arith in lt-ltb (offset_of k) (2 ^ 64) low
 
 queued_are : (k : ℕ) (cs : List Command) → AllByRecursion IsCall (queued k cs)
 queued_are k [] = tt
-queued_are k (c ∷ cs) = (poke_is (length (encoded c)) (length-encoded c), (offset_fits (k + 1), (refl, queued_are (k + 1) cs)))
+queued_are k (c ∷ cs) = (poke_is (encoded c) (length-encoded c) (encoded_bytes c), (offset_fits (k + 1), (refl, queued_are (k + 1) cs)))
 
 -- ---- threads
 
@@ -120,6 +121,7 @@ within signals threads asked = record {
   most_windows = lit≤ tt;
   fills = refl;
   fill_lines = refl;
+  registers = tt;
   some_legs = lit< tt;
   most_legs = lit≤ tt;
   legs = legs_are signals threads asked.most_signals asked.most_threads;
