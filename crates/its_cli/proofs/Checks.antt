@@ -1,8 +1,11 @@
 -- What a status of `check` says, by what was read.
-use Rattle.std.proofs.Common.{◌≡◌, ◌⊎◌, ℕ, ◌<◌, ◌≤◌, List, length, Option, Some, Result, Ok, Err, if◌then◌else◌, refl, sym, ap, subst, ◌∙◌, inl, inr, arith}
+use Rattle.std.proofs.Common.{◌≡◌, ◌⊎◌, ℕ, ◌<◌, ◌≤◌, List, length, Option, Some, Result, Ok, Err, IfOk, if◌then◌else◌, refl, sym, ap, subst, ◌∙◌, inl, inr}
+use Rattle.std.proofs.Common.{arith}
 use Rattle.its_plain.specs.Described.{IsFirstState, IsRefused}
 use Rattle.its_plain.specs.Plain.{Plain}
 use Rattle.its_plain.specs.declared.desc.DescFault.{DescFault}
+use Rattle.event_script.proofs.Bounds.{checked_scripts_fit}
+use Rattle.event_script.specs.Limits.{IsWithinLimits}
 use Rattle.event_script.specs.Script.{check_of}
 use Rattle.event_script.specs.Text.{parts}
 use Rattle.event_script.specs.declared.fault.ScriptFault.{ScriptFault}
@@ -11,6 +14,7 @@ use Rattle.its_history.specs.Reading.{trace_of, legs_from, lines_left, is_over, 
 use Rattle.its_history.specs.Reports.{reported}
 use Rattle.its_history.specs.declared.trace.Leg.{Leg as LegLines}
 use Rattle.trace_check.specs.Verdicts.{IsReportOfRun}
+use Rattle.report_reading.proofs.Reports.{run_reports}
 use Rattle.its_cli.specs.Checked.{CheckCauses, CheckSays, ReportCauses, OfReport, IsAgreement, IsDiffering, IsBadTrace, IsNoScript, IsNoMachine, IsCheckInput}
 use Rattle.its_cli.specs.Checked.{read_report}
 use Rattle.its_cli.specs.Its.{IsCheckDecided}
@@ -240,6 +244,9 @@ is_well script first read status.BadTrace told e run h = not_both read told h.0 
 ended : (s expected : Status) (P : Type 0) → (P → s ≡ expected) → (s ≡ status.Memory) ⊎ P → Ended s expected
 ended s expected P f h = elim h [ inl memory ↦ inr memory | inr p ↦ inl (f p) ]
 
+abbrev Fits : Result (Script × List (List ℕ)) ScriptFault → Type 0
+Fits r = IfOk r (λ p. IsWithinLimits p.0)
+
 pub check_decided : (input : List ℕ) (rose : Type 0) (s : Status) (text : List ℕ) → ¬ rose → CheckCauses (Some input) rose s text → IsCheckDecided input s
 check_decided input rose s text calm h = record {
   too_long = λ lt. long input rose s text calm h lt;
@@ -249,6 +256,11 @@ check_decided input rose s text calm h = record {
       (by_report input rose s text calm h le script first report is);
   differs = λ le script first report told is e none. ended s status.TraceDiffers _ (is_other script first (read_report script report) s told e none)
       (by_report input rose s text calm h le script first report is);
-  complete = λ le script first report told is e run. ended s status.Ok _ (is_well script first (read_report script report) s told e run)
+  complete = λ le script first report hs is run same.
+      let within : IsWithinLimits script = subst Fits is.read (checked_scripts_fit input) in
+      let read : read_report script report ≡ Ok (reported first script.legs hs) = ap (read_report script) same
+          ∙ run_reports script first hs within is.starts run in
+      let told : IsReportOfRun first script.legs (reported first script.legs hs) = record { histories = hs; is_run = run; told_is = refl } in
+      ended s status.Ok _ (is_well script first (read_report script report) s (reported first script.legs hs) read told)
       (by_report input rose s text calm h le script first report is);
 }

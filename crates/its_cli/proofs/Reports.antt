@@ -2,10 +2,12 @@
 use Rattle.std.proofs.Common.{◌≡◌, ℕ, List, length, Result, Ok, Err, codes, sym, ap, subst, ◌∙◌}
 use Rattle.its_plain.specs.Described.{IsFirstState}
 use Rattle.its_plain.specs.Plain.{Plain}
-use Rattle.its_plain.specs.Runs.{Leg}
+use Rattle.its_plain.specs.Runs.{Leg, IsRun}
 use Rattle.its_plain.specs.Sound.{IsSound}
+use Rattle.its_plain.specs.declared.call.Entry.{Entry}
 use Rattle.its_plain.specs.declared.layout.Layout.{Layout}
 use Rattle.its_migrate.proofs.Fresh.{first_layout}
+use Rattle.event_script.specs.Limits.{IsWithinLimits}
 use Rattle.event_script.specs.declared.script.Script.{Script}
 use Rattle.its_history.specs.ReadBack.{HasShape, ReadReportsPrint}
 use Rattle.its_history.specs.Reading.{trace_of}
@@ -15,8 +17,10 @@ use Rattle.its_history.specs.declared.trace.Leg.{Leg as LegLines}
 use Rattle.trace_check.specs.Differences.{IsDifference}
 use Rattle.trace_check.specs.Verdicts.{IsReportOfRun}
 use Rattle.trace_check.specs.declared.verdict.Difference.{Difference}
+use Rattle.report_reading.proofs.Reports.{run_reports}
 use Rattle.its_cli.specs.Checked.{IsAgreement, IsBadTrace, IsDiffering, read_report}
 use Rattle.its_cli.specs.Refusals.{difference_text, trace_refusal}
+use Rattle.its_cli.proofs.Once.{same_ok, not_both}
 
 module _ (script : Script) (first : Plain) (report : List ℕ) (legs : List Leg) (n : ℕ) (same : legs ≡ script.legs) (count : n ≡ length legs) where
   abbrev Read : Result (List LegLines) ℕ → Type 0
@@ -46,17 +50,37 @@ module _ (script : Script) (first : Plain) (report : List ℕ) (legs : List Leg)
         text_is = is;
       }
 
-  pub differs : (told : List LegLines) (d : Difference) (text : List ℕ) → Read (Ok told) → IsDifference first legs told d → ¬ IsReportOfRun first legs told
-      → text ≡ difference_text d
-      → IsDiffering script first report text
-  differs told d text read there none is = record {
-    told = told;
-    read = read_is (Ok told) read;
-    none = subst (λ (ls : List Leg). ¬ IsReportOfRun first ls told) same none;
-    difference = d;
-    differs = subst (λ (ls : List Leg). IsDifference first ls told d) same there;
-    text_is = is;
-  }
+  -- what was read of the report of a run is that report
+  module _ (within : IsWithinLimits script) (starts : IsFirstState script.desc first) where
+    read_of_run : (hs : List (List Entry)) → IsRun first script.legs hs → report ≡ report_text (reported first script.legs hs)
+        → read_report script report ≡ Ok (reported first script.legs hs)
+    read_of_run hs run is = ap (read_report script) is ∙ run_reports script first hs within starts run
 
-  pub is_bad : (line : ℕ) (text : List ℕ) → Read (Err line) → text ≡ trace_refusal line → IsBadTrace script first report text
-  is_bad line text read is = record { line = line; read = read_is (Err line) read; text_is = is }
+    pub differs : (told : List LegLines) (d : Difference) (text : List ℕ) → Read (Ok told) → IsDifference first legs told d
+        → ¬ IsReportOfRun first legs told → text ≡ difference_text d → IsDiffering script first report text
+    differs told d text read there none is =
+        let here : read_report script report ≡ Ok told = read_is (Ok told) read in
+        let not_run : ¬ IsReportOfRun first script.legs told = subst (λ (ls : List Leg). ¬ IsReportOfRun first ls told) same none in
+        record {
+          told = told;
+          read = here;
+          none = not_run;
+          no_run = λ hs run e. not_run (record {
+            histories = hs;
+            is_run = run;
+            told_is = same_ok (read_report script report) told (reported first script.legs hs) here (read_of_run hs run e);
+          });
+          difference = d;
+          differs = subst (λ (ls : List Leg). IsDifference first ls told d) same there;
+          text_is = is;
+        }
+
+    pub is_bad : (line : ℕ) (text : List ℕ) → Read (Err line) → text ≡ trace_refusal line → IsBadTrace script first report text
+    is_bad line text read is =
+        let here : read_report script report ≡ Err line = read_is (Err line) read in
+        record {
+          line = line;
+          read = here;
+          no_run = λ hs run e. not_both (read_report script report) (reported first script.legs hs) line (read_of_run hs run e) here;
+          text_is = is;
+        }

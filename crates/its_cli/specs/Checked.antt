@@ -1,5 +1,5 @@
 -- What `check` says of a script and a report.
-use Rattle.std.specs.Prelude.{◌≡◌, ℕ, ◌<◌, List, length, codes, Option, Result, Ok, Err, IfSome}
+use Rattle.std.specs.Prelude.{◌≡◌, ◌≢◌, ℕ, ◌<◌, List, length, codes, Option, Result, Ok, Err, IfSome}
 use Rattle.its_plain.specs.Plain.{Plain}
 use Rattle.its_plain.specs.Described.{IsFirstState, IsRefused}
 use Rattle.its_plain.specs.Runs.{IsRun}
@@ -27,6 +27,11 @@ read_report script report = trace_of (length script.legs) script.desc.shape.vcpu
 
 -- ---- a report
 
+-- no run of the script has a report of these bytes
+abbrev pub IsOfNoRun : Script → Plain → List ℕ → Type 0
+IsOfNoRun script first report = (histories : List (List Entry)) → IsRun first script.legs histories
+    → report ≢ report_text (reported first script.legs histories)
+
 -- it is that of a run: it reads as the legs of one, and has just the bytes that they print
 pub record IsAgreement (script : Script) (first : Plain) (report text : List ℕ) : Type 0 where
   pub histories : List (List Entry)
@@ -35,18 +40,21 @@ pub record IsAgreement (script : Script) (first : Plain) (report text : List ℕ
   pub same : report ≡ report_text (reported first script.legs histories)
   pub text_is : text ≡ codes "agrees\n"
 
--- it has the shape, but is that of no run; this is its first line that isn't right
+-- it is that of no run, but has the shape of one; this is its first line that isn't right
 pub record IsDiffering (script : Script) (first : Plain) (report text : List ℕ) : Type 0 where
   pub told : List LegLines
   pub read : read_report script report ≡ Ok told
   pub none : ¬ IsReportOfRun first script.legs told
+  pub no_run : IsOfNoRun script first report
   pub difference : Difference
   pub differs : IsDifference first script.legs told difference
   pub text_is : text ≡ difference_text difference
 
+-- it is that of no run, and hasn't the shape of one; this is its first line that is at fault
 pub record IsBadTrace (script : Script) (first : Plain) (report text : List ℕ) : Type 0 where
   pub line : ℕ
   pub read : read_report script report ≡ Err line
+  pub no_run : IsOfNoRun script first report
   pub text_is : text ≡ trace_refusal line
 
 abbrev pub ReportCauses : Script → Plain → List ℕ → Status → List ℕ → Type 0

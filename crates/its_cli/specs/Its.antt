@@ -189,9 +189,10 @@ pub record IsCheckDecided (input : List ℕ) (s : Status) : Type 0 where
   pub differs : length input ≤ 16777216 → (script : Script) (first : Plain) (report : List ℕ) (told : List LegLines) → IsCheckInput input script first report
       → read_report script report ≡ Ok told
       → ¬ IsReportOfRun first script.legs told → Ends s status.TraceDiffers
-  pub complete : length input ≤ 16777216 → (script : Script) (first : Plain) (report : List ℕ) (told : List LegLines) → IsCheckInput input script first report
-      → read_report script report ≡ Ok told
-      → IsReportOfRun first script.legs told → Ends s status.Ok
+  -- the report of a run, byte for byte
+  pub complete : length input ≤ 16777216 → (script : Script) (first : Plain) (report : List ℕ) (histories : List (List Entry))
+      → IsCheckInput input script first report → IsRun first script.legs histories → report ≡ report_text (reported first script.legs histories)
+      → Ends s status.Ok
 
 abbrev pub AskedDecides : Option Asked → Option (List ℕ) → Status → Type 0
 AskedDecides None told s = Ends s status.WordsRefused
