@@ -1,14 +1,9 @@
 -- What a status says, by what the words are and by what was read.
-use Rattle.std.proofs.Common.{◌≡◌, ◌⊎◌, ℕ, ◌<◌, ◌≤◌, List, [], ◌∷◌, ◌++◌, length, codes, Bool, true, false, Option, Some, None, Result, Ok, Err, refl, sym, ap}
-use Rattle.std.proofs.Common.{subst, ◌∙◌, inl, inr, arith}
-use Rattle.std.specs.Prelude.{MatchBool}
-use Rattle.gits_regs.specs.declared.values.RegValues.{RegValues}
-use Rattle.its_types.specs.declared.translation.Bases.{Bases}
-use Rattle.its_plain.specs.Described.{IsFirstState, IsRefused, StartsAt, restored_bases}
-use Rattle.its_plain.specs.Machine.{made}
+use Rattle.std.proofs.Common.{◌≡◌, ◌⊎◌, ℕ, ◌<◌, ◌≤◌, List, [], ◌∷◌, ◌++◌, length, codes, Option, Some, None, Ok, Err, refl, sym, ap}
+use Rattle.std.proofs.Common.{subst, inl, inr, arith}
+use Rattle.its_plain.specs.Described.{IsFirstState, IsRefused}
 use Rattle.its_plain.specs.Plain.{Plain}
 use Rattle.its_plain.specs.Runs.{IsPartialRun}
-use Rattle.its_plain.specs.declared.desc.Desc.{Desc}
 use Rattle.its_plain.specs.declared.desc.DescFault.{DescFault}
 use Rattle.event_script.specs.Script.{script_of}
 use Rattle.event_script.specs.declared.fault.ScriptFault.{ScriptFault}

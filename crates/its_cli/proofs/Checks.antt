@@ -1,5 +1,5 @@
 -- What a status of `check` says, by what was read.
-use Rattle.std.proofs.Common.{◌≡◌, ◌⊎◌, ℕ, ◌<◌, ◌≤◌, List, length, Option, Some, Result, Ok, Err, IfOk, if◌then◌else◌, refl, sym, ap, subst, ◌∙◌, inl, inr}
+use Rattle.std.proofs.Common.{◌≡◌, ◌⊎◌, ℕ, ◌<◌, ◌≤◌, List, length, Option, Some, Result, Ok, Err, IfOk, if◌then◌else◌, refl, ap, subst, ◌∙◌, inl, inr}
 use Rattle.std.proofs.Common.{arith}
 use Rattle.its_plain.specs.Described.{IsFirstState, IsRefused}
 use Rattle.its_plain.specs.Plain.{Plain}
@@ -15,7 +15,7 @@ use Rattle.its_history.specs.Reports.{reported}
 use Rattle.its_history.specs.declared.trace.Leg.{Leg as LegLines}
 use Rattle.trace_check.specs.Verdicts.{IsReportOfRun}
 use Rattle.report_reading.proofs.Reports.{run_reports}
-use Rattle.its_cli.specs.Checked.{CheckCauses, CheckSays, ReportCauses, OfReport, IsAgreement, IsDiffering, IsBadTrace, IsNoScript, IsNoMachine, IsCheckInput}
+use Rattle.its_cli.specs.Checked.{CheckCauses, CheckSays, ReportCauses, OfReport, IsAgreement, IsDiffering, IsBadTrace, IsNoMachine, IsCheckInput}
 use Rattle.its_cli.specs.Checked.{read_report}
 use Rattle.its_cli.specs.Its.{IsCheckDecided}
 use Rattle.its_cli.specs.Streams.{WasRead}
@@ -259,7 +259,7 @@ check_decided input rose s text calm h = record {
   complete = λ le script first report hs is run same.
       let within : IsWithinLimits script = subst Fits is.read (checked_scripts_fit input) in
       let read : read_report script report ≡ Ok (reported first script.legs hs) = ap (read_report script) same
-          ∙ run_reports script first hs within is.starts run in
+      ∙ run_reports script first hs within is.starts run in
       let told : IsReportOfRun first script.legs (reported first script.legs hs) = record { histories = hs; is_run = run; told_is = refl } in
       ended s status.Ok _ (is_well script first (read_report script report) s (reported first script.legs hs) read told)
       (by_report input rose s text calm h le script first report is);

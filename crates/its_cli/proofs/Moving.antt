@@ -1,5 +1,5 @@
 -- A machine that was migrated after a leg.
-use Rattle.std.proofs.Common.{◌≡◌, ℕ, List, Option, Some, Ok, sym, ap, subst, ◌∙◌}
+use Rattle.std.proofs.Common.{◌≡◌, ℕ, List, Some, sym, ap, subst, ◌∙◌}
 use Rattle.its_plain.specs.History.{after}
 use Rattle.its_plain.specs.Machine.{layout_of}
 use Rattle.its_plain.specs.Plain.{Plain}

@@ -1,9 +1,8 @@
 -- A leg that was run, and its lines put together by place.
-use Rattle.std.proofs.Common.{◌≡◌, ℕ, ◌<◌, ◌≤◌, Bool, true, false, List, [], ◌∷◌, length, map, Option, Some, None, refl, sym, ap, subst, ◌∙◌, arith}
+use Rattle.std.proofs.Common.{◌≡◌, ℕ, true, false, List, [], ◌∷◌, map, Option, Some, None, refl, sym, ap, subst, ◌∙◌, arith}
 use Rattle.std.specs.List.Sorted.{IsPermutation, IsNonDecreasingBy}
 use Rattle.its_plain.specs.Runs.{Leg}
-use Rattle.its_plain.specs.declared.call.Entry.{Entry}
-use Rattle.its_history.specs.Histories.{MergeGives, seat_of, passes_lines, history_lines}
+use Rattle.its_history.specs.Histories.{MergeGives, seat_of, history_lines}
 use Rattle.its_history.specs.Merged.{all_lines}
 use Rattle.its_history.specs.declared.threads.ThreadList.{ThreadList}
 use Rattle.its_history.specs.declared.trace.EntryLine.{EntryLine}

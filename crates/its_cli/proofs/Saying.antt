@@ -1,5 +1,5 @@
 -- What was said of a script's run, said of the bytes.
-use Rattle.std.proofs.Common.{◌≡◌, ℕ, List, Result, Ok, sym, subst, inr}
+use Rattle.std.proofs.Common.{◌≡◌, ℕ, List, Ok, sym, subst, inr}
 use Rattle.its_plain.specs.Described.{IsFirstState}
 use Rattle.its_plain.specs.Plain.{Plain}
 use Rattle.event_script.specs.Script.{script_of}

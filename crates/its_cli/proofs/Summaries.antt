@@ -1,33 +1,24 @@
 -- A run of a script that was made, counted.
-use Rattle.std.proofs.Common.{◌≡◌, ℕ, ◌<◌, ◌^◌, List, [], ◌∷◌, length, map, get_or, Some, None, Ok, Err, refl, sym, ap, subst, ◌∙◌, lit<, arith}
+use Rattle.std.proofs.Common.{◌≡◌, ℕ, List, [], ◌∷◌, length, map, get_or, None, Err, refl, sym, ap, subst, ◌∙◌}
 use Rattle.std.proofs.lemmas.List.{length-map}
 use Rattle.its_types.specs.declared.ids.Intid.{Intid}
 use Rattle.its_plain.specs.Described.{IsFirstState}
 use Rattle.its_plain.specs.History.{after}
-use Rattle.its_plain.specs.Plain.{Plain}
 use Rattle.its_plain.specs.Regions.{savable}
 use Rattle.its_plain.specs.Runs.{Leg, ArePhases, IsLegRun}
-use Rattle.its_plain.specs.declared.call.Entry.{Entry}
 use Rattle.its_plain.specs.declared.fault.SaveFault.{SaveFault}
 use Rattle.event_script.specs.declared.script.Script.{Script}
-use Rattle.its_history.specs.Histories.{seat_of}
-use Rattle.its_history.specs.Merged.{all_lines}
-use Rattle.its_history.specs.Reports.{pending_lists}
 use Rattle.its_history.specs.declared.threads.ThreadList.{ThreadList}
 use Rattle.its_steps.specs.Parts.{Setup}
 use Rattle.its_steps.specs.World.{View, first_view}
 use Rattle.its_turns.specs.Machines.{setup, view}
 use Rattle.its_turns.specs.declared.machine.Machine.{Machine}
 use Rattle.its_turns.specs.declared.machine.Pass.{Pass}
-use Rattle.its_migrate.specs.Resting.{WentOn, pending_at_rest, resting}
-use Rattle.script_threads.specs.Legs.{RanLeg, call_count}
-use Rattle.script_threads.specs.declared.stop.Stop.TheVariants.{Spent}
-use Rattle.script_gen.specs.Description.{description}
+use Rattle.its_migrate.specs.Resting.{pending_at_rest, resting}
+use Rattle.script_threads.specs.Legs.{RanLeg}
 use Rattle.script_gen.specs.Generated.{first_leg, generated}
-use Rattle.script_gen.specs.Laws.{CanMigrate, HasRoom}
-use Rattle.script_gen.specs.Summary.{ListsTellCounts, ListsTellLength, counts_of, none, with_lists}
-use Rattle.script_gen.specs.declared.counts.Counts.{Counts}
-use Rattle.its_cli.specs.Summarized.{IsCounted, IsMade, pending_counts}
+use Rattle.script_gen.specs.Laws.{CanMigrate}
+use Rattle.its_cli.specs.Summarized.{IsMade, pending_counts}
 use Rattle.its_cli.proofs.Endings.{not_savable}
 
 -- the script's first leg

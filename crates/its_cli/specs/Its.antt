@@ -13,7 +13,7 @@ use Rattle.event_script.specs.Script.{script_of, check_of}
 use Rattle.event_script.specs.declared.fault.ScriptFault.{ScriptFault}
 use Rattle.event_script.specs.declared.script.Script.{Script}
 use Rattle.its_history.specs.Report.{report_text}
-use Rattle.its_cli.specs.Streams.{Tells, IsAtEnd, WasRead}
+use Rattle.its_cli.specs.Streams.{IsAtEnd, WasRead}
 use Rattle.its_cli.specs.Lines.{StartsOff}
 use Rattle.its_history.specs.declared.trace.Leg.{Leg as LegLines}
 use Rattle.its_words.specs.Words.{asked_of}

@@ -1,5 +1,5 @@
 -- A leg whose phases run on a machine that its threads share.
-use Rattle.std.specs.Prelude.{◌≡◌, ℕ, ◌<◌, ◌≤◌, Bool, true, false, List, [], length}
+use Rattle.std.specs.Prelude.{◌≡◌, ◌<◌, ◌≤◌, Bool, true, false, List, [], length}
 use Rattle.its_plain.specs.History.{IsLegal}
 use Rattle.its_plain.specs.Runs.{Leg, ArePhases, ArePartOfPhases}
 use Rattle.its_plain.specs.declared.call.Entry.{Entry}

@@ -1,4 +1,4 @@
-use Rattle.std.proofs.Common.{arith, ◌≡◌, ℕ, List, [], drop, ◌+◌, ap, sym, subst, ◌∙◌}
+use Rattle.std.proofs.Common.{arith, ℕ, List, [], drop, ◌+◌, sym, subst, ◌∙◌}
 use Rattle.std.specs.String.{string_bytes}
 use Rattle.its_types.specs.declared.machine.Limits.{Limits}
 use Rattle.its_turns.specs.Machines.{setup}

@@ -1,4 +1,4 @@
-use Rattle.std.proofs.Common.{◌≡◌, refl, ◌∙◌, Some, None}
+use Rattle.std.proofs.Common.{refl, ◌∙◌, Some, None}
 use Rattle.std.specs.String.{string_bytes}
 use Rattle.its_history.specs.declared.trace.End.TheVariants.{Migrated}
 use Rattle.its_migrate.specs.Resting.{resting}

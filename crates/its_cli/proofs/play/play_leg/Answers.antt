@@ -1,6 +1,5 @@
-use Rattle.std.proofs.Common.{rules}
 use Rattle.its_turns.specs.Machines.{setup, view}
-use Rattle.its_cli.proofs.Playing.{first_rests, first_made, first_seen, all_played, spent_played}
+use Rattle.its_cli.proofs.Playing.{first_rests, first_made, first_seen}
 use Rattle.its_cli.proofs.play.play_leg.Goals as goal
 
 pub run_leg-requires-clause-rests : goal.run_leg-requires-clause-rests

@@ -1,4 +1,4 @@
-use Rattle.std.proofs.Common.{◌≡◌, ap, sym, subst, ◌∙◌}
+use Rattle.std.proofs.Common.{ap, sym, subst, ◌∙◌}
 use Rattle.its_plain.specs.Described.{IsFirstState}
 use Rattle.its_plain.specs.Plain.{Plain}
 use Rattle.its_steps.specs.Parts.{Setup}
