@@ -21,9 +21,9 @@ use Rattle.event_script.specs.declared.draft.TheConstants.{MOST_LEGS, MOST_PHASE
 use Rattle.event_script.proofs.Steps.{left_true, right_true, both_true, below, all_pushed, bound_by, ensured, chosen}
 use Rattle.event_script.proofs.Calling.{signal_is_call, take_is_call, show_is_call, poke_is_call, word_is_call, command_is_call, peek_is_call, read_is_call}
 use Rattle.event_script.proofs.Calling.{write_is_call, rread_is_call, rwrite_is_call, step_is_call, save_is_call}
-use Rattle.event_script.proofs.Good.{in_body, open_legs, open_phases, open_threads, clash, IsFair, HasCalls, IsGood, shards_good, vcpus_good, limits_good}
-use Rattle.event_script.proofs.Good.{ids_good, profile_good, window_good, config_good, pending_good, gicr_good, restore_good, rrestore_good, bytes_good}
-use Rattle.event_script.proofs.Good.{word_fill_good}
+use Rattle.event_script.proofs.Good.{in_body, open_legs, open_phases, open_threads, clash, IsFair, HasCalls, IsGood}
+use Rattle.event_script.proofs.GoodDescription.{shards_good, vcpus_good, limits_good, ids_good, profile_good, window_good, config_good, pending_good}
+use Rattle.event_script.proofs.GoodDescription.{gicr_good, restore_good, rrestore_good, bytes_good, word_fill_good}
 
 one_open : (s : Stage) → in_thread s ≡ true → (open_phases s ≡ 1) × (open_threads s ≡ 1)
 one_open stage.Start e = absurd (cc)

@@ -6,5 +6,6 @@ pub mod Reports
 pub mod Steps
 pub mod Calling
 pub mod Good
+pub mod GoodDescription
 pub mod GoodBody
 pub mod Bounds

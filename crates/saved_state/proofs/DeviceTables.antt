@@ -32,7 +32,8 @@ use Rattle.saved_state.proofs.Apart.{read_stays}
 use Rattle.saved_state.proofs.Keyed.{found_listed}
 use Rattle.saved_state.proofs.Found.{IsFound, all_by_place, of_flat, translator_found}
 use Rattle.saved_state.proofs.Chains.{IsChain, chain_of}
-use Rattle.saved_state.proofs.Devices.{IsPage, Fits, IsStored, devices_are, devices_clear, page_flat, page_two}
+use Rattle.saved_state.proofs.DevicePlaces.{IsPage, page_flat, page_two}
+use Rattle.saved_state.proofs.Devices.{Fits, IsStored, devices_are, devices_clear}
 use Rattle.saved_state.proofs.Maps.{itt_is_clear}
 
 -- ---- the first level

@@ -10,6 +10,7 @@ pub mod Collections
 pub mod Bytes
 pub mod Chains
 pub mod Events
+pub mod DevicePlaces
 pub mod Devices
 pub mod Maps
 pub mod Redistributors
