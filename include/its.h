@@ -3,8 +3,8 @@
  *
  * A handle has one machine: a translator, the LPI side of 1 to 16 redistributors, and its own copy
  * of the guest memory that they use. The library starts no thread, takes no lock and calls nothing
- * but the three functions of a heap (docs/LIBRARY.md). Calls with one handle are made one at a
- * time; two handles have nothing in common.
+ * but the three functions of a heap (docs/LIBRARY.md), memcpy, memmove and memset. Calls with one
+ * handle are made one at a time; two handles have nothing in common.
  *
  * Every pointer is borrowed for the call alone, and nothing is kept of it. A list is a pointer and
  * how many elements it has; at none the pointer isn't read. No two pointers of a call point into the
