@@ -77,7 +77,10 @@ struct its_redistributor_in {
     uint64_t pendbaser; /* bit 62, Pending Table Zero, as it was stored */
 };
 
-/* Why a description makes no machine: the first that applies. What a kind doesn't name is 0. */
+/*
+ * Why a description makes no machine: the first that applies, in the order of docs/FORMATS.md
+ * (sections 1 and 7). What a kind doesn't name is 0.
+ */
 struct its_make_fault_out {
     /*
      * Of the description: 1 no memory can have the windows; 2 the configuration table doesn't lie in
@@ -103,7 +106,10 @@ struct its_make_fault_out {
     uint64_t address;
 };
 
-/* Why a state can't be saved: the first that applies. What a kind doesn't name is 0. */
+/*
+ * Why a state can't be saved: the first that applies, in the order of docs/FORMATS.md (section 6).
+ * What a kind doesn't name is 0.
+ */
 struct its_save_fault_out {
     /*
      * 1 the level-1 entry of `device` isn't valid; 2 `region` doesn't lie in one window; 3 `region`
