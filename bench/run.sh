@@ -2,7 +2,7 @@
 # Prints the time and the peak memory of `its run` on scripts that grow: with their calls, and with what is mapped.
 #
 # signals      250,000, 500,000 and 1,000,000 signals
-# mixed        lines of every call but `save`, a quarter, a half and the whole of 16 MiB
+# mixed        lines of every call but `save`, `rread` and `rwrite`, a quarter, a half and the whole of 16 MiB
 # events       a restore of 16,384, 32,768 and 65,536 events of one device, and eight migrations
 # devices      the same of as many devices
 # overlap      the same devices, of which the last two tables overlap, and one save that is refused

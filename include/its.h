@@ -3,8 +3,8 @@
  *
  * A handle has one machine: a translator, the LPI side of 1 to 16 redistributors, and its own copy
  * of the guest memory that they use. The library starts no thread, takes no lock and calls nothing
- * but the three functions of a heap (docs/LIBRARY.md). Calls with one handle are made one at a
- * time; two handles have nothing in common.
+ * but the three functions of a heap (docs/LIBRARY.md), memcpy, memmove and memset. Calls with one
+ * handle are made one at a time; two handles have nothing in common.
  *
  * Every pointer is borrowed for the call alone, and nothing is kept of it. A list is a pointer and
  * how many elements it has; at none the pointer isn't read. No two pointers of a call point into the
@@ -77,7 +77,10 @@ struct its_redistributor_in {
     uint64_t pendbaser; /* bit 62, Pending Table Zero, as it was stored */
 };
 
-/* Why a description makes no machine: the first that applies. What a kind doesn't name is 0. */
+/*
+ * Why a description makes no machine: the first that applies, in the order of docs/FORMATS.md
+ * (sections 1 and 7). What a kind doesn't name is 0.
+ */
 struct its_make_fault_out {
     /*
      * Of the description: 1 no memory can have the windows; 2 the configuration table doesn't lie in
@@ -103,7 +106,10 @@ struct its_make_fault_out {
     uint64_t address;
 };
 
-/* Why a state can't be saved: the first that applies. What a kind doesn't name is 0. */
+/*
+ * Why a state can't be saved: the first that applies, in the order of docs/FORMATS.md (section 6).
+ * What a kind doesn't name is 0.
+ */
 struct its_save_fault_out {
     /*
      * 1 the level-1 entry of `device` isn't valid; 2 `region` doesn't lie in one window; 3 `region`
