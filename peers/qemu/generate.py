@@ -1,0 +1,183 @@
+#!/usr/bin/env python3
+"""Writes the operations that guest.c plays: registers, tables, random commands good and bad, and acknowledgements.
+
+usage: generate.py SEED BATCHES OUT [--levels] [--quiet]
+
+--levels uses a device table of two levels. --quiet leaves out what QEMU and `its run` are known to answer differently
+(README.md), so that all else can be compared to the last reply.
+"""
+import argparse
+import random
+import struct
+
+ITS, TRANSLATER, GICR = 0x08080000, 0x08090040, 0x080A0000
+DEVICES, COLLECTIONS, QUEUE, CONFIG = 0x44000000, 0x44010000, 0x44020000, 0x44030000
+PENDING, PAGES, ITTS = 0x44040000, 0x44080000, 0x440C0000
+PROCESSORS, PLACES = 4, 128
+WRITE32, WRITE64, READ32, READ64, TAKE, DRAIN = range(1, 7)
+LPIS = range(8192, 8216)
+
+
+class Player:
+    """The list of operations, and the queue's next place."""
+
+    def __init__(self, seed, quiet):
+        self.random = random.Random(seed)
+        self.ops = []
+        self.next = 0
+        self.quiet = quiet
+
+    def op(self, what, a=0, b=0):
+        self.ops.append((what, a, b))
+
+    def its64(self, offset, value):
+        self.op(WRITE64, ITS + offset, value)
+
+    def queue(self, *words):
+        """Puts one command into the queue; it runs at the next `kick`."""
+        for i, word in enumerate(words + (0,) * (4 - len(words))):
+            self.op(WRITE64, QUEUE + 32 * self.next + 8 * i, word)
+        self.next = (self.next + 1) % PLACES
+
+    def kick(self):
+        self.its64(0x88, 32 * self.next)
+        self.op(READ64, ITS + 0x90)
+
+    def drain(self):
+        for cpu in range(PROCESSORS):
+            self.op(DRAIN, cpu)
+
+
+def configure(p):
+    """The configuration table and the redistributors: most LPIs enabled, all of one priority."""
+    for i in range(0, 64, 8):
+        word = bytes(0xA0 if (i + k) % 7 == 5 else 0xA1 for k in range(8))
+        p.op(WRITE64, CONFIG + i, int.from_bytes(word, "little"))
+    for cpu in range(PROCESSORS):
+        frame = GICR + 0x20000 * cpu
+        p.op(WRITE64, frame + 0x70, CONFIG | 15)
+        p.op(WRITE64, frame + 0x78, (PENDING + 0x10000 * cpu) | 1 << 62)
+        p.op(WRITE32, frame, 1)
+        for offset in (0x70, 0x78):
+            p.op(READ64, frame + offset)
+
+
+def tables(p, levels):
+    """The translator's registers, some of the writes refused or masked, and the first level of a device table."""
+    if levels:
+        for k, page in ((0, PAGES), (2, PAGES + 0x10000)):
+            p.op(WRITE64, DEVICES + 8 * k, page | 1 << 63)
+    p.its64(0x100, DEVICES | 1 << 63 | (1 << 62 if levels else 0) | 2 << 8)
+    p.its64(0x108, COLLECTIONS | 1 << 63 | 2 << 8)
+    p.its64(0x80, QUEUE | 1 << 63)
+    for offset in (0x80, 0x88, 0x90, 0x100, 0x108):
+        p.op(READ64, ITS + offset)
+    p.op(WRITE32, ITS, 1)
+    p.op(READ32, ITS)
+    p.next = 0
+
+
+def device(p):
+    return p.random.choice([0, 0, 1, 1, 2, 3, 7, 8191, 8192, 16384, 16385, 24576, 65535, 65536])
+
+
+def event(p):
+    return p.random.choice([0, 1, 2, 3, 4, 5, 6, 7, 8, 15, 31, 65535, 65536])
+
+
+def good(p, what):
+    """A device or an event that is more often mapped than not."""
+    return p.random.choice([0, 1, 2, 3]) if p.random.random() < 0.75 else what(p)
+
+
+def icid(p):
+    return p.random.choice([0, 1, 2, 3, 4] if p.random.random() < 0.9 else [8191, 8192, 65535])
+
+
+def intid(p):
+    return p.random.choice(LPIS) if p.random.random() < 0.85 else p.random.choice([0, 1023, 8191, 65535, 65536])
+
+
+def target(p):
+    return p.random.choice(range(PROCESSORS)) if p.random.random() < 0.9 else p.random.choice([4, 100, 65535])
+
+
+def mapd(p, d):
+    size = p.random.choice([0, 1, 2, 3, 4] if p.random.random() < 0.9 else [15, 16, 31])
+    valid = p.random.random() < 0.8
+    p.queue(8 | d << 32, size, (ITTS + 0x1000 * (d % 8) if size < 15 else 0x45000000) | valid << 63)
+
+
+def mapc(p):
+    p.queue(9, 0, icid(p) | target(p) << 16 | (p.random.random() < 0.8) << 63)
+
+
+def command(p):
+    """One random command."""
+    d, e = good(p, device), good(p, event)
+    kind = p.random.choices(range(11), [3, 3, 9, 2, 6, 12, 3, 3, 2, 2, 1])[0]
+    if kind == 0:
+        mapd(p, good(p, device))
+    elif kind == 1:
+        mapc(p)
+    elif kind == 2:
+        p.queue(10 | d << 32, e | intid(p) << 32, icid(p))
+    elif kind == 3:
+        p.queue(11 | d << 32, p.random.choice(list(LPIS) + [1, 65536]), icid(p))
+    elif kind == 4:
+        p.queue(1 | d << 32, e, icid(p))
+    elif kind in (5, 6, 7):
+        p.queue({5: 3, 6: 4, 7: 15}[kind] | d << 32, e)
+    elif kind == 8:
+        p.queue(14, 0, target(p) << 16, target(p) << 16)
+    elif kind == 9:
+        p.queue(*p.random.choice([(12 | d << 32, e), (13, 0, icid(p)), (5, 0, target(p) << 16)]))
+    else:
+        p.queue(p.random.choice([0, 2, 6, 7, 16, 0x20, 0x40, 0xFF]))
+
+
+def begin(p):
+    """What most commands need: devices 0 to 3 with eight events each, collections 0 to 3, some events."""
+    for d in range(4):
+        p.queue(8 | d << 32, 2, (ITTS + 0x1000 * d) | 1 << 63)
+        p.queue(9, 0, d | d << 16 | 1 << 63)
+    for d in range(4):
+        for e in range(4):
+            p.queue(10 | d << 32, e | (8192 + 4 * d + e) << 32, p.random.randrange(4))
+    p.kick()
+
+
+def batch(p):
+    for _ in range(p.random.randrange(1, 12)):
+        command(p)
+    p.kick()
+    for _ in range(p.random.randrange(3)):
+        p.op(WRITE32, TRANSLATER, event(p))
+    if p.random.random() < 0.3:
+        p.op(TAKE, p.random.randrange(PROCESSORS))
+    if p.random.random() < 0.5:
+        p.drain()
+
+
+def main():
+    parser = argparse.ArgumentParser()
+    parser.add_argument("seed", type=int)
+    parser.add_argument("batches", type=int)
+    parser.add_argument("out")
+    parser.add_argument("--levels", action="store_true")
+    parser.add_argument("--quiet", action="store_true")
+    args = parser.parse_args()
+    p = Player(args.seed, args.quiet)
+    configure(p)
+    tables(p, args.levels)
+    begin(p)
+    for _ in range(args.batches):
+        batch(p)
+    p.drain()
+    with open(args.out, "wb") as out:
+        for op in p.ops:
+            out.write(struct.pack("<3Q", *op))
+        out.write(bytes(24))
+
+
+main()

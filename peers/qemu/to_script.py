@@ -1,0 +1,133 @@
+#!/usr/bin/env python3
+"""Turns a log of record.py into a script of `its run`, and a list of what QEMU answered.
+
+usage: to_script.py LOG SCRIPT ANSWERS [--title TEXT] [--calls N] [--legs N]
+
+Line k of ANSWERS is the answer to the script's k-th call. --calls ends the script after N calls. --legs cuts it by
+migrations into N legs of about the same length, so the second and later legs go on from tables that a save wrote.
+"""
+import argparse
+import re
+
+import trace
+
+UNIT = 0x10000
+
+
+def stretches(calls):
+    """The places of guest memory that the calls name, as (base, end), each rounded to 64 KiB."""
+    found = set()
+
+    def add(base, length):
+        found.add((base & -UNIT, (base + length + UNIT - 1) & -UNIT))
+
+    for text, _, _ in calls:
+        f = text.split()
+        if f[0] == "poke":
+            data = bytes.fromhex(f[2])
+            add(int(f[1], 0), len(data))
+            if len(data) == 32 and data[0] == 8 and data[23] & 0x80:
+                words = [int.from_bytes(data[i:i + 8], "little") for i in (0, 8, 16)]
+                add(words[2] & 0x000FFFFFFFFFFF00, 8 << (words[1] & 31) + 1)
+            if len(data) == 8 and data[7] & 0x80:
+                add(int.from_bytes(data, "little") & 0x000FFFFFFFFF0000, UNIT)
+        elif f[0] == "write" and int(f[1], 0) in (0x80, 0x100, 0x108) and int(f[3], 0) >> 63:
+            add(int(f[3], 0) & 0x0000FFFFFFFF0000, UNIT)
+        elif f[0] == "rwrite" and int(f[2], 0) in (0x70, 0x78):
+            add(int(f[4], 0) & 0x000FFFFFFFFF0000, UNIT)
+    return sorted(found)
+
+
+def windows(places, most=12):
+    """The fewest bytes in at most so many windows that hold all places."""
+    merged = []
+    for base, end in places:
+        if merged and base <= merged[-1][1]:
+            merged[-1][1] = max(end, merged[-1][1])
+        else:
+            merged.append([base, end])
+    while len(merged) > most:
+        gaps = [merged[i + 1][0] - merged[i][1] for i in range(len(merged) - 1)]
+        i = gaps.index(min(gaps))
+        merged[i:i + 2] = [[merged[i][0], merged[i + 1][1]]]
+    return merged
+
+
+def needed(calls):
+    """The calls without the configuration bytes of LPIs after the last that a MAPTI or MAPI names.
+
+    Linux writes the whole table, and a script of all its bytes would be long.
+    """
+    last, table = 8192, None
+    for text, _, _ in calls:
+        f = text.split()
+        if f[0] == "rwrite" and int(f[2], 0) == 0x70:
+            table = int(f[4], 0) & 0x000FFFFFFFFFF000
+        if f[0] == "poke" and len(f[2]) == 64 and f[2][:2] in ("0a", "0b"):
+            data = bytes.fromhex(f[2])
+            last = max(last, int.from_bytes(data[12:16] if data[0] == 10 else data[8:12], "little"))
+    kept = []
+    for call in calls:
+        f = call[0].split()
+        if f[0] == "poke" and table is not None and table <= int(f[1], 0) < table + 57344:
+            left = table + min(last, 65535) - 8192 + 1 - int(f[1], 0)
+            if left <= 0:
+                continue
+            call = (f"poke {f[1]} {f[2][:2 * left]}",) + call[1:]
+        kept.append(call)
+    return kept
+
+
+def description(calls, title):
+    lines = [f"# {line}" for line in title]
+    cpus = 1 + max([int(t.split()[1]) for t, _, _ in calls if t.split()[0] in ("take", "rwrite", "rread")] + [0])
+    lines += [f"vcpus {cpus}", "shards 16", "ids 16 16", "gicr"]
+    lines += [f"window {base:#x} {end - base:#x}" for base, end in windows(stretches(calls))]
+    return lines
+
+
+def note(text):
+    """A comment before a command's bytes, so that a reader sees what they say."""
+    f = text.split()
+    names = {1: "movi", 3: "int", 4: "clear", 5: "sync", 8: "mapd", 9: "mapc", 10: "mapti", 11: "mapi",
+             12: "inv", 13: "invall", 14: "movall", 15: "discard"}
+    if f[0] == "poke" and len(f[2]) == 64:
+        return [f"# {names.get(int(f[2][:2], 16), 'unknown')}"]
+    return []
+
+
+def body(calls, legs):
+    lines = []
+    for leg in range(legs):
+        if leg:
+            lines.append("migrate")
+        lines += ["phase", "thread"]
+        for text, _, _ in calls[len(calls) * leg // legs:len(calls) * (leg + 1) // legs]:
+            lines += note(text) + [text]
+    return lines + ["end"]
+
+
+def main():
+    parser = argparse.ArgumentParser()
+    parser.add_argument("log")
+    parser.add_argument("script")
+    parser.add_argument("answers")
+    parser.add_argument("--title", default="")
+    parser.add_argument("--calls", type=int)
+    parser.add_argument("--legs", type=int, default=1)
+    args = parser.parse_args()
+    calls, left = trace.read_log(args.log)
+    calls = needed(calls)
+    if args.calls is not None:
+        calls, left = calls[:args.calls], {}
+    title = [line for line in re.split(r"\s*\|\s*", args.title) if line]
+    with open(args.script, "w") as script:
+        script.write("\n".join(description(calls, title) + [""] + body(calls, args.legs)) + "\n")
+    with open(args.answers, "w") as answers:
+        for text, answer, remark in calls:
+            answers.write(f"{text}\t{answer}\t{remark}\n")
+        for cpu, lpis in sorted(left.items()):
+            answers.write(f"vcpu {cpu} pending\t{' '.join(map(str, lpis)) or 'none'}\t\n")
+
+
+main()
