@@ -12,6 +12,7 @@ import sys
 
 # Bits of registers that differ, each for a reason that README.md gives: offset of the register, and the bits.
 ITS_BITS = {
+    0x0000: ("CTLR: Quiescent while enabled", 1 << 31),
     0x0004: ("IIDR", 0xFFFFFFFF),
     0x0008: ("TYPER: bytes of an ITT entry, collections in hardware, PTA", 0x0000001F0000FFF0 | 0xFF << 24),
     0xFFE8: ("PIDR2: the designer's bits", 0x0F),
@@ -20,7 +21,7 @@ BASER_BITS = ("BASER: page size while the table isn't valid", 0x300)
 REDIST_BITS = {
     0x0000: ("GICR_CTLR: CES", 0x2),
     0x0070: ("GICR_PROPBASER: attributes", 0x0700000000000F80),
-    0x0078: ("GICR_PENDBASER: attributes", 0x0700000000000F80),
+    0x0078: ("GICR_PENDBASER: attributes, PTZ", 0x4700000000000F80),
 }
 
 
@@ -34,6 +35,21 @@ def named(call, theirs, ours):
     else:
         name, bits = REDIST_BITS.get(offset, ("", 0))
     return name if (low ^ high) & ~bits == 0 else ""
+
+
+def named_step(command, theirs, ours):
+    """The name of the difference of two steps that took a command of these bytes, if it is a known one."""
+    valid = len(command) == 32 and command[23] >> 7
+    pair = theirs, ours
+    if pair == ("ran invall", "refused invall no-collection"):
+        return "INVALL of a collection that isn't mapped: QEMU doesn't look"
+    if pair == ("ran mapd", "refused mapd device-range") and valid:
+        return "MAPD where the level-1 entry isn't valid: QEMU tells no error, and maps nothing"
+    if pair == ("refused mapd", "ran mapd") and not valid:
+        return "MAPD with V = 0 of a device without a place: QEMU refuses it"
+    if pair == ("refused mapc", "ran mapc") and not valid:
+        return "MAPC with V = 0 of a collection without a place: QEMU refuses it"
+    return ""
 
 
 def report_lines(path):
@@ -69,6 +85,7 @@ def kind(call, answer):
 def main():
     replies, pending = report_lines(sys.argv[2])
     counts, differences, wrong, place = collections.Counter(), collections.Counter(), [], 0
+    queue = collections.deque()
     with open(sys.argv[1]) as answers:
         for line in answers:
             call, theirs, remark = line.rstrip("\n").split("\t")
@@ -81,6 +98,10 @@ def main():
             name = ""
             if not same(call, theirs, ours) and call.split()[0] in ("read", "rread"):
                 name = named(call, theirs, ours)
+            if call.startswith("poke ") and len(call.split()[2]) == 64:
+                queue.append(bytes.fromhex(call.split()[2]))
+            if call == "step":
+                name = named_step(queue.popleft(), theirs, ours)
             if same(call, theirs, ours) or name:
                 counts[label] += 1
             else:

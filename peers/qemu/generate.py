@@ -12,7 +12,7 @@ import struct
 
 ITS, TRANSLATER, GICR = 0x08080000, 0x08090040, 0x080A0000
 DEVICES, COLLECTIONS, QUEUE, CONFIG = 0x44000000, 0x44010000, 0x44020000, 0x44030000
-PENDING, PAGES, ITTS = 0x44040000, 0x44080000, 0x440C0000
+PENDING, PAGES, ITTS, WIDE_ITTS = 0x44040000, 0x44080000, 0x440C0000, 0x45000000
 PROCESSORS, PLACES = 4, 128
 WRITE32, WRITE64, READ32, READ64, TAKE, DRAIN = range(1, 7)
 LPIS = range(8192, 8216)
@@ -26,6 +26,9 @@ class Player:
         self.ops = []
         self.next = 0
         self.quiet = quiet
+        self.itts = 0
+        self.wide = 0
+        self.unmapped = {4, 8191}
 
     def op(self, what, a=0, b=0):
         self.ops.append((what, a, b))
@@ -102,14 +105,51 @@ def target(p):
     return p.random.choice(range(PROCESSORS)) if p.random.random() < 0.9 else p.random.choice([4, 100, 65535])
 
 
+def fresh_itt(p):
+    """Memory that was no ITT before, so it is zero, as the standard wants it."""
+    p.itts += 1
+    return ITTS + 0x400 * (p.itts - 1 if p.quiet else p.random.randrange(8))
+
+
 def mapd(p, d):
-    size = p.random.choice([0, 1, 2, 3, 4] if p.random.random() < 0.9 else [15, 16, 31])
+    size = p.random.choice([0, 1, 2, 3, 4] if p.random.random() < 0.9 or p.wide == 15 else [15, 16, 31])
     valid = p.random.random() < 0.8
-    p.queue(8 | d << 32, size, (ITTS + 0x1000 * (d % 8) if size < 15 else 0x45000000) | valid << 63)
+    if not valid and p.quiet:
+        size = 0
+    itt = fresh_itt(p) if size < 15 else WIDE_ITTS + 0x100000 * p.wide
+    p.wide += size == 15
+    p.queue(8 | d << 32, size, itt | valid << 63)
 
 
 def mapc(p):
-    p.queue(9, 0, icid(p) | target(p) << 16 | (p.random.random() < 0.8) << 63)
+    valid = p.random.random() < 0.8
+    c, t = icid(p), target(p) if valid or not p.quiet else 0
+    if c < 8192 and t < PROCESSORS:
+        (p.unmapped.discard if valid else p.unmapped.add)(c)
+    p.queue(9, 0, c | t << 16 | valid << 63)
+
+
+def discard(p, d, e):
+    """A DISCARD. QEMU refuses it where the event's collection isn't mapped, so all collections are mapped before."""
+    if p.quiet:
+        for c in sorted(p.unmapped):
+            p.queue(9, 0, c | p.random.randrange(PROCESSORS) << 16 | 1 << 63)
+        p.unmapped.clear()
+    p.queue(15 | d << 32, e)
+
+
+def mapti(p, d, e):
+    """A MAPTI. QEMU gives an event that is mapped its new LPI, so the event is discarded before."""
+    if p.quiet:
+        discard(p, d, e)
+    p.queue(10 | d << 32, e | intid(p) << 32, icid(p))
+
+
+def mapi(p, d):
+    e = p.random.choice(list(LPIS) + [1, 65536])
+    if p.quiet:
+        discard(p, d, e)
+    p.queue(11 | d << 32, e, icid(p))
 
 
 def command(p):
@@ -121,13 +161,15 @@ def command(p):
     elif kind == 1:
         mapc(p)
     elif kind == 2:
-        p.queue(10 | d << 32, e | intid(p) << 32, icid(p))
+        mapti(p, d, e)
     elif kind == 3:
-        p.queue(11 | d << 32, p.random.choice(list(LPIS) + [1, 65536]), icid(p))
+        mapi(p, d)
     elif kind == 4:
         p.queue(1 | d << 32, e, icid(p))
-    elif kind in (5, 6, 7):
-        p.queue({5: 3, 6: 4, 7: 15}[kind] | d << 32, e)
+    elif kind in (5, 6):
+        p.queue({5: 3, 6: 4}[kind] | d << 32, e)
+    elif kind == 7:
+        discard(p, d, e)
     elif kind == 8:
         p.queue(14, 0, target(p) << 16, target(p) << 16)
     elif kind == 9:
@@ -139,7 +181,7 @@ def command(p):
 def begin(p):
     """What most commands need: devices 0 to 3 with eight events each, collections 0 to 3, some events."""
     for d in range(4):
-        p.queue(8 | d << 32, 2, (ITTS + 0x1000 * d) | 1 << 63)
+        p.queue(8 | d << 32, 2, fresh_itt(p) | 1 << 63)
         p.queue(9, 0, d | d << 16 | 1 << 63)
     for d in range(4):
         for e in range(4):

@@ -18,6 +18,7 @@ import sys
 F_SETPIPE_SZ = 1031
 WRITE = re.compile(r"gicv3_its_write .*offset 0x([0-9a-f]+) data 0x([0-9a-f]+) size (\d+)")
 REDIST = re.compile(r"gicv3_redist_write .*redistributor 0x([0-9a-f]+) write: offset 0x([0-9a-f]+) data 0x([0-9a-f]+) size (\d+)")
+JOINED = re.compile(r"(?<=.)(?=gicv3_\w+ GICv3 )")
 COMMAND = re.compile(r"gicv3_its_process_command .*offset 0x([0-9a-f]+)")
 
 
@@ -93,11 +94,18 @@ class Watch:
             ram.tell_changes(baser & 0x0000FFFFFFFF0000, 64, 8)
 
 
+def lines_of(stream):
+    """QEMU's lines. Some of its error messages lack their end of line, and the next event follows in the same line."""
+    for line in stream:
+        for part in JOINED.split(line):
+            yield part.rstrip("\n") + "\n"
+
+
 def follow(stream, log, path, base):
     """Copies QEMU's lines to the log, and adds the bytes that the guest's commands stand for."""
     ram = None
     watch = Watch()
-    for line in stream:
+    for line in lines_of(stream):
         if ram is None:
             ram = Ram(path, base, log)
         watch.write(line)

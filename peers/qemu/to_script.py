@@ -26,7 +26,7 @@ def stretches(calls):
         if f[0] == "poke":
             data = bytes.fromhex(f[2])
             add(int(f[1], 0), len(data))
-            if len(data) == 32 and data[0] == 8 and data[23] & 0x80:
+            if len(data) == 32 and data[0] == 8 and data[23] & 0x80 and data[8] & 31 < 16:
                 words = [int.from_bytes(data[i:i + 8], "little") for i in (0, 8, 16)]
                 add(words[2] & 0x000FFFFFFFFFFF00, 8 << (words[1] & 31) + 1)
             if len(data) == 8 and data[7] & 0x80:

@@ -7,7 +7,6 @@ reasons that could be compared word by word, so these stand beside the reply as 
 import re
 
 FIELDS = re.compile(r"(?:0x([0-9a-f]+)|\b(\d+)\b)")
-JOINED = re.compile(r"(?<=.)(?=gicv3_its_process_command )")
 LPI_REGISTERS = (0x00, 0x70, 0x74, 0x78, 0x7C, 0xA0, 0xA4, 0xB0, 0xB4, 0xC0)
 # lines of gicv3_its_* that tell of a look-up and not of a call
 LOOKUP = ("dte", "ite", "cte", "vte")
@@ -79,7 +78,10 @@ class Reader:
         if what[:3] in LOOKUP:
             self.look_up(line)
         elif what.startswith("cmd_"):
-            self.command["name"] = what[4:]
+            if what == "cmd_unknown" or what.startswith("cmd_v"):
+                self.command["wrong"] = what
+            else:
+                self.command["name"] = what[4:]
         else:
             self.close()
             if what == "write":
@@ -130,9 +132,7 @@ def read_log(path):
     reader = Reader()
     with open(path) as log:
         for line in log:
-            # one of QEMU's errors lacks its end of line
-            for part in JOINED.split(line):
-                reader.line(part)
+            reader.line(line)
     reader.close()
     left = {}
     for cpu, data in reader.pending.items():
