@@ -15,6 +15,7 @@ ITS_BITS = {
     0x0000: ("CTLR: Quiescent while enabled", 1 << 31),
     0x0004: ("IIDR", 0xFFFFFFFF),
     0x0008: ("TYPER: bytes of an ITT entry, collections in hardware, PTA", 0x0000001F0000FFF0 | 0xFF << 24),
+    0x000C: ("TYPER: bytes of an ITT entry, collections in hardware, PTA", 0x1F),
     0xFFE8: ("PIDR2: the designer's bits", 0x0F),
 }
 BASER_BITS = ("BASER: page size while the table isn't valid", 0x300)
@@ -39,14 +40,16 @@ def named(call, theirs, ours):
 
 def named_step(command, theirs, ours):
     """The name of the difference of two steps that took a command of these bytes, if it is a known one."""
-    valid = len(command) == 32 and command[23] >> 7
+    valid = command[23] >> 7
     pair = theirs, ours
     if pair == ("ran invall", "refused invall no-collection"):
         return "INVALL of a collection that isn't mapped: QEMU doesn't look"
     if pair == ("ran mapd", "refused mapd device-range") and valid:
         return "MAPD where the level-1 entry isn't valid: QEMU tells no error, and maps nothing"
-    if pair == ("refused mapd", "ran mapd") and not valid:
+    if pair == ("refused mapd", "ran mapd") and not valid and command[8] & 31 < 16:
         return "MAPD with V = 0 of a device without a place: QEMU refuses it"
+    if pair == ("refused inv", "ran inv"):
+        return "INV of an event whose collection isn't mapped: QEMU refuses it"
     if pair == ("refused mapc", "ran mapc") and not valid:
         return "MAPC with V = 0 of a collection without a place: QEMU refuses it"
     return ""
@@ -85,7 +88,7 @@ def kind(call, answer):
 def main():
     replies, pending = report_lines(sys.argv[2])
     counts, differences, wrong, place = collections.Counter(), collections.Counter(), [], 0
-    queue = collections.deque()
+    queue, kept = collections.deque(), False
     with open(sys.argv[1]) as answers:
         for line in answers:
             call, theirs, remark = line.rstrip("\n").split("\t")
@@ -98,8 +101,12 @@ def main():
             name = ""
             if not same(call, theirs, ours) and call.split()[0] in ("read", "rread"):
                 name = named(call, theirs, ours)
-            if call.startswith("poke ") and len(call.split()[2]) == 64:
+            if remark == "command":
                 queue.append(bytes.fromhex(call.split()[2]))
+            if call.startswith(("write 0x80 ", "write 0x88 ")):
+                kept = call.startswith("write 0x80 ")
+            if call.startswith("read 0x88 ") and kept and ours == "value 0x0" and theirs != ours:
+                name = "CWRITER after a write of CBASER: QEMU keeps it"
             if call == "step":
                 name = named_step(queue.popleft(), theirs, ours)
             if same(call, theirs, ours) or name:

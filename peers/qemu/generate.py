@@ -53,8 +53,9 @@ class Player:
 
 def configure(p):
     """The configuration table and the redistributors: most LPIs enabled, all of one priority."""
+    p.config = {8192 + i: 0xA0 if i % 7 == 5 else 0xA1 for i in range(64)}
     for i in range(0, 64, 8):
-        word = bytes(0xA0 if (i + k) % 7 == 5 else 0xA1 for k in range(8))
+        word = bytes(p.config[8192 + i + k] for k in range(8))
         p.op(WRITE64, CONFIG + i, int.from_bytes(word, "little"))
     for cpu in range(PROCESSORS):
         frame = GICR + 0x20000 * cpu
@@ -155,7 +156,7 @@ def mapi(p, d):
 def command(p):
     """One random command."""
     d, e = good(p, device), good(p, event)
-    kind = p.random.choices(range(11), [3, 3, 9, 2, 6, 12, 3, 3, 2, 2, 1])[0]
+    kind = p.random.choices(range(11), [1, 3, 12, 2, 6, 12, 3, 3, 2, 2, 1])[0]
     if kind == 0:
         mapd(p, good(p, device))
     elif kind == 1:
@@ -179,22 +180,79 @@ def command(p):
 
 
 def begin(p):
-    """What most commands need: devices 0 to 3 with eight events each, collections 0 to 3, some events."""
-    for d in range(4):
+    """What most commands need: devices 0 to 3 and 5 with eight events each, collections 0 to 3, some events."""
+    for d in (0, 1, 2, 3, 5):
         p.queue(8 | d << 32, 2, fresh_itt(p) | 1 << 63)
-        p.queue(9, 0, d | d << 16 | 1 << 63)
+    for c in range(4):
+        p.queue(9, 0, c | c << 16 | 1 << 63)
     for d in range(4):
         for e in range(4):
             p.queue(10 | d << 32, e | (8192 + 4 * d + e) << 32, p.random.randrange(4))
     p.kick()
 
 
+def configure_again(p):
+    """Enables or disables an LPI, and has that read.
+
+    QEMU keeps no copy of a configuration; here one stands till an INV. So the INV has to name an event of the LPI:
+    device 5, which no random command names, is given one.
+    """
+    lpi = p.random.choice(LPIS)
+    p.config[lpi] = p.random.choice([0xA0, 0xA1])
+    base = lpi & -8
+    word = bytes(p.config.get(base + k, 0) for k in range(8))
+    p.op(WRITE64, CONFIG + base - 8192, int.from_bytes(word, "little"))
+    discard(p, 5, 0)
+    p.queue(10 | 5 << 32, lpi << 32, 0)
+    p.queue(12 | 5 << 32, 0)
+    p.kick()
+
+
+def access(p):
+    """A read of any register, in whole or by half, or a write that a translator which is enabled ignores."""
+    offset = p.random.choice([0, 4, 8, 12, 0x80, 0x84, 0x88, 0x8C, 0x90, 0x94, 0x100, 0x104, 0x108, 0x10C, 0x110, 0xFFE8])
+    if p.random.random() < 0.7:
+        wide = offset % 8 == 0 and offset not in (0, 0xFFE8) and p.random.random() < 0.5
+        p.op(READ64 if wide else READ32, ITS + offset)
+    elif p.random.random() < 0.5:
+        p.its64(p.random.choice([0x80, 0x100, 0x108, 0x110]), p.random.getrandbits(64))
+    else:
+        p.op(READ64, GICR + 0x20000 * p.random.randrange(PROCESSORS) + p.random.choice([0x70, 0x78]))
+
+
+def off_and_on(p):
+    """The translator is turned off; signals and commands come; a new queue begins; it is turned on."""
+    p.op(WRITE32, ITS, 0)
+    p.op(READ32, ITS)
+    p.op(WRITE32, TRANSLATER, p.random.randrange(4))
+    for _ in range(p.random.randrange(4)):
+        command(p)
+    p.kick()
+    if p.random.random() < 0.5:
+        p.its64(0x80, QUEUE | 1 << 63 | p.random.getrandbits(64) & 0x3800000000000C00)
+        for offset in (0x80, 0x88, 0x90):
+            p.op(READ64, ITS + offset)
+        p.next = 0
+        # QEMU leaves CWRITER as it was
+        p.its64(0x88, 0)
+    p.op(WRITE32, ITS, 1)
+    p.op(READ64, ITS + 0x90)
+
+
 def batch(p):
+    if p.registers:
+        for _ in range(p.random.randrange(4)):
+            access(p)
+        if p.random.random() < 0.1:
+            off_and_on(p)
+    if p.random.random() < 0.1:
+        p.drain()
+        configure_again(p)
     for _ in range(p.random.randrange(1, 12)):
         command(p)
     p.kick()
-    for _ in range(p.random.randrange(3)):
-        p.op(WRITE32, TRANSLATER, event(p))
+    for _ in range(p.random.randrange(6)):
+        p.op(WRITE32, TRANSLATER, good(p, event))
     if p.random.random() < 0.3:
         p.op(TAKE, p.random.randrange(PROCESSORS))
     if p.random.random() < 0.5:
@@ -207,9 +265,11 @@ def main():
     parser.add_argument("batches", type=int)
     parser.add_argument("out")
     parser.add_argument("--levels", action="store_true")
+    parser.add_argument("--registers", action="store_true")
     parser.add_argument("--quiet", action="store_true")
     args = parser.parse_args()
     p = Player(args.seed, args.quiet)
+    p.registers = args.registers
     configure(p)
     tables(p, args.levels)
     begin(p)
@@ -222,4 +282,5 @@ def main():
         out.write(bytes(24))
 
 
-main()
+if __name__ == "__main__":
+    main()

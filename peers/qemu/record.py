@@ -5,8 +5,9 @@ usage: record.py LOG RAMFILE RAMBASE -- QEMU ARGUMENTS..
 
 QEMU's trace comes through a pipe that holds one line: QEMU waits until each line has been read, so the bytes of
 guest memory (RAMFILE, which QEMU shares) are read here while the write of the register that made QEMU look at them
-is still under way. Lines `mem ADDR HEX` are added: the 32 bytes of each command, the configuration table where it
-changed, and the first level of the device table where it changed.
+is still under way. Lines are added: `command ADDR HEX` with the 32 bytes of each command, `mem ADDR HEX` where the
+configuration table or the first level of the device table changed, and `pending V HEX` with the bytes of each
+pending table at the end, from that of LPI 8192 on.
 """
 import fcntl
 import mmap
@@ -36,8 +37,8 @@ class Ram:
         start = address - self.base
         return self.map[start:start + length]
 
-    def tell(self, address, data):
-        self.log.write(f"mem {address:#x} {data.hex()}\n")
+    def tell(self, word, address, data):
+        self.log.write(f"{word} {address:#x} {data.hex()}\n")
 
     def tell_changes(self, address, length, unit):
         """Tells a stretch where it isn't what was told of it last (zero at first), in runs of at most 64 bytes."""
@@ -49,7 +50,7 @@ class Ram:
             while end < min(length, i + 64) and now[end:end + unit] != old[end:end + unit]:
                 end += unit
             if end > i:
-                self.tell(address + i, now[i:end])
+                self.tell("mem", address + i, now[i:end])
             i = max(end, i + unit)
         self.told[address] = now
 
@@ -72,14 +73,19 @@ class Watch:
         self.registers = {}
 
     def write(self, line):
+        """Takes a write, unless it is one of a base that is in use: QEMU then ignores it."""
         found = WRITE.search(line)
+        key = "its"
         if found:
-            offset, value = int(found[1], 16), int(found[2], 16)
-            merge(self.registers, "its", offset, value, int(found[3]))
-        found = REDIST.search(line)
-        if found:
-            offset, value = int(found[2], 16), int(found[3], 16)
-            merge(self.registers, int(found[1], 16), offset, value, int(found[4]))
+            offset, value, size = int(found[1], 16), int(found[2], 16), int(found[3])
+        else:
+            found = REDIST.search(line)
+            if not found:
+                return
+            key = int(found[1], 16)
+            offset, value, size = int(found[2], 16), int(found[3], 16), int(found[4])
+        if self.get(key, 0) & 1 == 0 or offset & ~7 in (0, 0x88):
+            merge(self.registers, key, offset, value, size)
 
     def get(self, key, offset):
         return self.registers.get((key, offset), 0)
@@ -114,7 +120,7 @@ def follow(stream, log, path, base):
             # QEMU counts the offset in commands
             place = (watch.get("its", 0x80) & 0x000FFFFFFFFFF000) + 32 * int(command[1], 16)
             watch.look(ram)
-            ram.tell(place, ram.bytes(place, 32))
+            ram.tell("command", place, ram.bytes(place, 32))
         if "gicv3_redist_write" in line or "gicv3_its_translation_write" in line:
             watch.look(ram)
         log.write(line)

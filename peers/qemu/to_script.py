@@ -1,10 +1,11 @@
 #!/usr/bin/env python3
 """Turns a log of record.py into a script of `its run`, and a list of what QEMU answered.
 
-usage: to_script.py LOG SCRIPT ANSWERS [--title TEXT] [--calls N] [--legs N]
+usage: to_script.py LOG SCRIPT ANSWERS [--title TEXT] [--calls N] [--legs N] [--lpis-alone]
 
 Line k of ANSWERS is the answer to the script's k-th call. --calls ends the script after N calls. --legs cuts it by
 migrations into N legs of about the same length, so the second and later legs go on from tables that a save wrote.
+--lpis-alone is for a guest that has no other interrupts: its acknowledgement that gets none is then compared too.
 """
 import argparse
 import re
@@ -21,12 +22,12 @@ def stretches(calls):
     def add(base, length):
         found.add((base & -UNIT, (base + length + UNIT - 1) & -UNIT))
 
-    for text, _, _ in calls:
+    for text, _, remark in calls:
         f = text.split()
         if f[0] == "poke":
             data = bytes.fromhex(f[2])
             add(int(f[1], 0), len(data))
-            if len(data) == 32 and data[0] == 8 and data[23] & 0x80 and data[8] & 31 < 16:
+            if remark == "command" and data[0] == 8 and data[23] & 0x80 and data[8] & 31 < 16:
                 words = [int.from_bytes(data[i:i + 8], "little") for i in (0, 8, 16)]
                 add(words[2] & 0x000FFFFFFFFFFF00, 8 << (words[1] & 31) + 1)
             if len(data) == 8 and data[7] & 0x80:
@@ -59,17 +60,17 @@ def needed(calls):
     Linux writes the whole table, and a script of all its bytes would be long.
     """
     last, table = 8192, None
-    for text, _, _ in calls:
+    for text, _, remark in calls:
         f = text.split()
         if f[0] == "rwrite" and int(f[2], 0) == 0x70:
             table = int(f[4], 0) & 0x000FFFFFFFFFF000
-        if f[0] == "poke" and len(f[2]) == 64 and f[2][:2] in ("0a", "0b"):
+        if remark == "command" and f[2][:2] in ("0a", "0b"):
             data = bytes.fromhex(f[2])
             last = max(last, int.from_bytes(data[12:16] if data[0] == 10 else data[8:12], "little"))
     kept = []
     for call in calls:
         f = call[0].split()
-        if f[0] == "poke" and table is not None and table <= int(f[1], 0) < table + 57344:
+        if f[0] == "poke" and call[2] != "command" and table is not None and table <= int(f[1], 0) < table + 57344:
             left = table + min(last, 65535) - 8192 + 1 - int(f[1], 0)
             if left <= 0:
                 continue
@@ -86,12 +87,12 @@ def description(calls, title):
     return lines
 
 
-def note(text):
+def note(text, remark):
     """A comment before a command's bytes, so that a reader sees what they say."""
     f = text.split()
     names = {1: "movi", 3: "int", 4: "clear", 5: "sync", 8: "mapd", 9: "mapc", 10: "mapti", 11: "mapi",
              12: "inv", 13: "invall", 14: "movall", 15: "discard"}
-    if f[0] == "poke" and len(f[2]) == 64:
+    if remark == "command":
         return [f"# {names.get(int(f[2][:2], 16), 'unknown')}"]
     return []
 
@@ -102,8 +103,8 @@ def body(calls, legs):
         if leg:
             lines.append("migrate")
         lines += ["phase", "thread"]
-        for text, _, _ in calls[len(calls) * leg // legs:len(calls) * (leg + 1) // legs]:
-            lines += note(text) + [text]
+        for text, _, remark in calls[len(calls) * leg // legs:len(calls) * (leg + 1) // legs]:
+            lines += note(text, remark) + [text]
     return lines + ["end"]
 
 
@@ -115,8 +116,9 @@ def main():
     parser.add_argument("--title", default="")
     parser.add_argument("--calls", type=int)
     parser.add_argument("--legs", type=int, default=1)
+    parser.add_argument("--lpis-alone", action="store_true")
     args = parser.parse_args()
-    calls, left = trace.read_log(args.log)
+    calls, left = trace.read_log(args.log, args.lpis_alone)
     calls = needed(calls)
     if args.calls is not None:
         calls, left = calls[:args.calls], {}

@@ -26,7 +26,8 @@ def after(line, word):
 class Reader:
     """Turns lines into calls. Commands come before the register write that made QEMU take them, so they wait."""
 
-    def __init__(self):
+    def __init__(self, lpis_alone):
+        self.lpis_alone = lpis_alone
         self.calls = []
         self.waiting = []
         self.command = None
@@ -97,10 +98,10 @@ class Reader:
         event = line.split(" ", 1)[0]
         if event.startswith("gicv3_its_"):
             self.its(event, line)
-        elif event == "mem":
+        elif event in ("mem", "command"):
             self.close()
             address, data = line.split()[1:3]
-            self.calls.append((f"poke {address} {data}", "ok", ""))
+            self.calls.append((f"poke {address} {data}", "ok", event if event == "command" else ""))
         elif event == "pending":
             self.close()
             cpu, data = line.split()[1:3]
@@ -118,6 +119,8 @@ class Reader:
         cpu, intid = after(line, "cpu"), after(line, "value")
         if intid >= 8192:
             self.calls.append((f"take {cpu}", f"lpi {intid}", ""))
+        elif self.lpis_alone and intid == 1023:
+            self.calls.append((f"take {cpu}", "none", ""))
 
     def remark(self, line):
         """A line that is no trace event: an error of the guest, as QEMU sees it."""
@@ -127,9 +130,12 @@ class Reader:
             self.signal[4] = line.strip()
 
 
-def read_log(path):
-    """All calls of a log, and the LPIs that QEMU's pending tables held at the end, by processor."""
-    reader = Reader()
+def read_log(path, lpis_alone):
+    """All calls of a log, and the LPIs that QEMU's pending tables held at the end, by processor.
+
+    Where the guest has no interrupts but LPIs, an acknowledgement that gets none says that none is pending.
+    """
+    reader = Reader(lpis_alone)
     with open(path) as log:
         for line in log:
             reader.line(line)
