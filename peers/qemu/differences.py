@@ -9,7 +9,7 @@ import struct
 import sys
 
 import generate
-from generate import CONFIG, COLLECTIONS, DEVICES, GICR, ITS, READ64, WRITE32, WRITE64
+from generate import CONFIG, COLLECTIONS, DEVICES, GICR, ITS, READ32, READ64, WRITE32, WRITE64
 
 ITT = 0x440C0000
 
@@ -77,6 +77,15 @@ def configuration(p):
     p.queue(3 | 15 << 32, 0)
 
 
+def inv_elsewhere(p):
+    """LPI 8218 is pending at processor 2 and disabled; it is enabled by an INV while its event goes to processor 1."""
+    p.queue(3 | 10 << 32, 0)
+    p.queue(9, 0, 2 | 1 << 16 | 1 << 63)
+    p.kick()
+    p.op(WRITE64, CONFIG + 24, 0xA1A1A1A1A1A1A1A1)
+    p.queue(12 | 10 << 32, 0)
+
+
 def priority(p):
     """LPIs 8216 and 8220 at processor 0, the higher one of the higher priority."""
     p.op(WRITE64, CONFIG + 24, 0x50 << 32 | 0xA1 | 1 << 32)
@@ -89,6 +98,14 @@ def pendbaser(p):
     p.op(WRITE64, GICR + 0x78, generate.PENDING + 0x50000)
     p.op(READ64, GICR + 0x78)
     p.op(WRITE64, GICR + 0x78, generate.PENDING)
+
+
+def invlpir(p):
+    """LPI 8223 is turned off, and GICR_INVLPIR and GICR_INVALLR of its processor are written; then it comes."""
+    p.op(WRITE64, CONFIG + 24, 0xA0A1A1A1A1A1A1A1)
+    p.op(WRITE64, GICR + 0x20000 * 3 + 0xA0, 8223)
+    p.op(WRITE64, GICR + 0x20000 * 3 + 0xB0, 0)
+    p.queue(3 | 15 << 32, 0)
 
 
 def cwriter(p):
@@ -106,8 +123,24 @@ def baser_again(p):
     p.queue(3 | 6 << 32, 0)
 
 
+def page_size(p):
+    """BASER0 and BASER1 with pages of 4 KiB. No command comes after it."""
+    p.op(WRITE32, ITS, 0)
+    for offset, base in ((0x100, DEVICES), (0x108, COLLECTIONS)):
+        p.its64(offset, base | 1 << 63)
+        p.op(READ64, ITS + offset)
+
+
+def lpis_off(p):
+    """LPIs of processor 3 are turned off, and an event of it comes."""
+    p.op(WRITE32, GICR + 0x60000, 0)
+    p.op(READ32, GICR + 0x60000)
+    p.queue(3 | 15 << 32, 0)
+
+
 CASES = [mapd_again, mapti_again, discard_unmapped, inv_unmapped, unmapd_size, unmapc_target, unmap_no_place,
-         priority, configuration, pendbaser, cwriter, baser_again]
+         inv_elsewhere, priority, configuration, pendbaser, invlpir, cwriter, baser_again, lpis_off,
+         page_size]
 
 
 def main():

@@ -36,6 +36,15 @@ class Player:
     def its64(self, offset, value):
         self.op(WRITE64, ITS + offset, value)
 
+    def base(self, offset, value):
+        """A write in whole, or by half."""
+        if self.random.random() < 0.5:
+            self.its64(offset, value)
+        else:
+            self.op(WRITE32, ITS + offset, value & 0xFFFFFFFF)
+            self.op(READ64, ITS + offset)
+            self.op(WRITE32, ITS + offset + 4, value >> 32)
+
     def queue(self, *words):
         """Puts one command into the queue; it runs at the next `kick`."""
         for i, word in enumerate(words + (0,) * (4 - len(words))):
@@ -71,9 +80,9 @@ def tables(p, levels):
     if levels:
         for k, page in ((0, PAGES), (2, PAGES + 0x10000)):
             p.op(WRITE64, DEVICES + 8 * k, page | 1 << 63)
-    p.its64(0x100, DEVICES | 1 << 63 | (1 << 62 if levels else 0) | 2 << 8)
-    p.its64(0x108, COLLECTIONS | 1 << 63 | 2 << 8)
-    p.its64(0x80, QUEUE | 1 << 63)
+    p.base(0x100, DEVICES | 1 << 63 | (1 << 62 if levels else 0) | 2 << 8)
+    p.base(0x108, COLLECTIONS | 1 << 63 | 2 << 8)
+    p.base(0x80, QUEUE | 1 << 63)
     for offset in (0x80, 0x88, 0x90, 0x100, 0x108):
         p.op(READ64, ITS + offset)
     p.op(WRITE32, ITS, 1)
@@ -195,7 +204,8 @@ def configure_again(p):
     """Enables or disables an LPI, and has that read.
 
     QEMU keeps no copy of a configuration; here one stands till an INV. So the INV has to name an event of the LPI:
-    device 5, which no random command names, is given one.
+    device 5, which no random command names, is given one. After an INV, QEMU looks at the processor of the event's
+    collection alone, so an INVALL follows.
     """
     lpi = p.random.choice(LPIS)
     p.config[lpi] = p.random.choice([0xA0, 0xA1])
@@ -205,6 +215,7 @@ def configure_again(p):
     discard(p, 5, 0)
     p.queue(10 | 5 << 32, lpi << 32, 0)
     p.queue(12 | 5 << 32, 0)
+    p.queue(13, 0, 0)
     p.kick()
 
 

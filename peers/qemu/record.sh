@@ -2,13 +2,14 @@
 # Records QEMU's translator at work. README.md says what for.
 #
 # usage: record.sh linux DIR [ROUNDS]             downloads a Linux and records a boot of it: DIR/linux.log
+#        record.sh hibernate DIR                 the same, of a Linux that writes a hibernation image and goes on
 #        record.sh guest DIR SEED BATCHES [OPTIONS OF generate.py]      the same with guest.c: DIR/guest.log
 #        record.sh differences DIR [CASE]         the same with differences.py
 #        record.sh play PROGRAM LOG [OPTIONS OF to_script.py]           plays a log as a script, and compares
 set -eu
 
 here=$(dirname "$(realpath "$0")")
-events=(-d guest_errors -trace 'gicv3_its*' -trace gicv3_redist_write -trace gicv3_redist_read -trace gicv3_icc_iar1_read)
+events=(-d guest_errors -trace 'gicv3_its*' -trace gicv3_redist_write -trace gicv3_redist_badwrite -trace gicv3_redist_read -trace gicv3_icc_iar1_read)
 kernel=6.1.0-50-cloud-arm64
 
 # One QEMU at a time: DIR, the log's name, megabytes of memory, the other arguments.
@@ -42,15 +43,16 @@ fetch_linux() {
 }
 
 record_linux() {
-    local dir=$1 rounds=${2:-1}
+    local dir=$1 words=$2
     [ -d "$dir/root" ] || fetch_linux "$dir"
     cp "$here/init" "$dir/root/init"
     chmod +x "$dir/root/init"
     (cd "$dir/root" && find . | cpio -o -H newc --quiet | gzip -1 >../initrd.gz)
-    truncate -s 32M "$dir/disk0" "$dir/disk1"
+    rm -f "$dir/disk0"
+    truncate -s 512M "$dir/disk0" "$dir/disk1"
     run_qemu "$dir" linux 512 -serial "file:$dir/console.txt" -no-reboot \
         -kernel "$dir/kernel/boot/vmlinuz-$kernel" -initrd "$dir/initrd.gz" \
-        -append "console=ttyAMA0 quiet panic=-1 rounds=$rounds" \
+        -append "console=ttyAMA0 quiet panic=-1 $words" \
         -drive "if=none,id=d0,file=$dir/disk0,format=raw" -device virtio-blk-pci,drive=d0,num-queues=4 \
         -drive "if=none,id=d1,file=$dir/disk1,format=raw" -device nvme,drive=d1,serial=n1 \
         -netdev user,id=n0 -device virtio-net-pci,netdev=n0,romfile= -device virtio-rng-pci
@@ -74,10 +76,11 @@ play() {
 }
 
 case "${1:-}" in
-linux) mkdir -p "$2" && record_linux "$(realpath "$2")" "${3:-1}" ;;
+linux) mkdir -p "$2" && record_linux "$(realpath "$2")" "rounds=${3:-1}" ;;
+hibernate) mkdir -p "$2" && record_linux "$(realpath "$2")" "rounds=0 hibernate" ;;
 guest) mkdir -p "$2" && python3 "$here/generate.py" "${@:3:2}" "$2/ops" "${@:5}" && record_guest "$(realpath "$2")" ;;
 differences) mkdir -p "$2" && python3 "$here/differences.py" "$2/ops" "${@:3}" && record_guest "$(realpath "$2")" ;;
 qemu_guest) run_qemu "$2" guest 256 -kernel "$2/guest.elf" -device "loader,file=$2/ops,addr=0x48000000,force-raw=on" ;;
 play) play "${@:2}" ;;
-*) sed -n '4,7s/^# //p' "$0" >&2 && exit 2 ;;
+*) sed -n '4,8s/^# //p' "$0" >&2 && exit 2 ;;
 esac

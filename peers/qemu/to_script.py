@@ -10,9 +10,17 @@ migrations into N legs of about the same length, so the second and later legs go
 import argparse
 import re
 
+import commands
 import trace
 
 UNIT = 0x10000
+
+
+def halves(low, offset, value):
+    """The register of 8 bytes after a write of 4."""
+    old = low.get(offset & ~7, 0)
+    low[offset & ~7] = old & 0xFFFFFFFF | value << 32 if offset & 4 else old & ~0xFFFFFFFF | value
+    return low[offset & ~7]
 
 
 def stretches(calls):
@@ -22,8 +30,12 @@ def stretches(calls):
     def add(base, length):
         found.add((base & -UNIT, (base + length + UNIT - 1) & -UNIT))
 
+    low = {}
     for text, _, remark in calls:
         f = text.split()
+        if f[0] == "write" and f[2] == "4":
+            # a base that is written by half stands in its register as a whole
+            f = ["write", str(int(f[1], 0) & ~7), "8", str(halves(low, int(f[1], 0), int(f[3], 0)))]
         if f[0] == "poke":
             data = bytes.fromhex(f[2])
             add(int(f[1], 0), len(data))
@@ -87,14 +99,13 @@ def description(calls, title):
     return lines
 
 
-def note(text, remark):
-    """A comment before a command's bytes, so that a reader sees what they say."""
-    f = text.split()
-    names = {1: "movi", 3: "int", 4: "clear", 5: "sync", 8: "mapd", 9: "mapc", 10: "mapti", 11: "mapi",
-             12: "inv", 13: "invall", 14: "movall", 15: "discard"}
-    if remark == "command":
-        return [f"# {names.get(int(f[2][:2], 16), 'unknown')}"]
-    return []
+def line_of(text, remark):
+    """A call's line. A command's bytes are spelled where the script can, and told in a comment elsewhere."""
+    if remark != "command":
+        return [text]
+    address, data = text.split()[1:]
+    words, exact = commands.spelled(bytes.fromhex(data))
+    return [f"command {address} {words}"] if exact else [f"# {words}", text]
 
 
 def body(calls, legs):
@@ -104,7 +115,7 @@ def body(calls, legs):
             lines.append("migrate")
         lines += ["phase", "thread"]
         for text, _, remark in calls[len(calls) * leg // legs:len(calls) * (leg + 1) // legs]:
-            lines += note(text, remark) + [text]
+            lines += line_of(text, remark)
     return lines + ["end"]
 
 

@@ -106,7 +106,7 @@ class Reader:
             self.close()
             cpu, data = line.split()[1:3]
             self.pending[int(cpu)] = bytes.fromhex(data)
-        elif event in ("gicv3_redist_write", "gicv3_redist_read"):
+        elif event in ("gicv3_redist_write", "gicv3_redist_badwrite", "gicv3_redist_read"):
             self.close()
             self.redist(line, event.endswith("write"))
         elif event == "gicv3_icc_iar1_read":
