@@ -153,7 +153,8 @@ def main():
         print(f"{count:7} named difference: {name}")
     for text in wrong:
         print(f"DIFFERS {text}")
-    print(f"{sum(counts.values())} agree, {sum(differences.values())} of them with a named difference; {len(wrong)} differ")
+    known = sum(differences.values())
+    print(f"{sum(counts.values())} agree, {known} of them with a named difference; {len(wrong)} differ")
     sys.exit(1 if wrong else 0)
 
 

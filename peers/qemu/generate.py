@@ -221,7 +221,8 @@ def configure_again(p):
 
 def access(p):
     """A read of any register, in whole or by half, or a write that a translator which is enabled ignores."""
-    offset = p.random.choice([0, 4, 8, 12, 0x80, 0x84, 0x88, 0x8C, 0x90, 0x94, 0x100, 0x104, 0x108, 0x10C, 0x110, 0xFFE8])
+    offset = p.random.choice([0, 4, 8, 12, 0x80, 0x84, 0x88, 0x8C, 0x90, 0x94,
+                              0x100, 0x104, 0x108, 0x10C, 0x110, 0xFFE8])
     if p.random.random() < 0.7:
         wide = offset % 8 == 0 and offset not in (0, 0xFFE8) and p.random.random() < 0.5
         p.op(READ64 if wide else READ32, ITS + offset)
@@ -244,8 +245,9 @@ def off_and_on(p):
         for offset in (0x80, 0x88, 0x90):
             p.op(READ64, ITS + offset)
         p.next = 0
-        # QEMU leaves CWRITER as it was
+        # QEMU leaves CWRITER as it was. The commands are lost, so that no collection is sure to be mapped.
         p.its64(0x88, 0)
+        p.unmapped.update([0, 1, 2, 3, 4, 8191])
     p.op(WRITE32, ITS, 1)
     p.op(READ64, ITS + 0x90)
 

@@ -18,7 +18,8 @@ import sys
 
 F_SETPIPE_SZ = 1031
 WRITE = re.compile(r"gicv3_its_write .*offset 0x([0-9a-f]+) data 0x([0-9a-f]+) size (\d+)")
-REDIST = re.compile(r"gicv3_redist_write .*redistributor 0x([0-9a-f]+) write: offset 0x([0-9a-f]+) data 0x([0-9a-f]+) size (\d+)")
+REDIST = re.compile(r"gicv3_redist_write .*redistributor 0x([0-9a-f]+) write: "
+                    r"offset 0x([0-9a-f]+) data 0x([0-9a-f]+) size (\d+)")
 JOINED = re.compile(r"(?<=.)(?=gicv3_\w+ GICv3 )")
 COMMAND = re.compile(r"gicv3_its_process_command .*offset 0x([0-9a-f]+)")
 

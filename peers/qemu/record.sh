@@ -9,7 +9,8 @@
 set -eu
 
 here=$(dirname "$(realpath "$0")")
-events=(-d guest_errors -trace 'gicv3_its*' -trace gicv3_redist_write -trace gicv3_redist_badwrite -trace gicv3_redist_read -trace gicv3_icc_iar1_read)
+events=(-d guest_errors -trace 'gicv3_its*' -trace gicv3_redist_write -trace gicv3_redist_badwrite
+    -trace gicv3_redist_read -trace gicv3_icc_iar1_read)
 kernel=6.1.0-50-cloud-arm64
 
 # One QEMU at a time: DIR, the log's name, megabytes of memory, the other arguments.
@@ -20,7 +21,7 @@ run_qemu() {
     truncate -s "${size}M" "$dir/ram"
     nice -n 15 python3 "$here/record.py" "$dir/$name.log" "$dir/ram" 0x40000000 -- \
         qemu-system-aarch64 -M virt,gic-version=3,its=on,memory-backend=ram -cpu cortex-a57 -smp 4 -m "${size}M" \
-        -object memory-backend-file,id=ram,size="${size}M",mem-path="$dir/ram",share=on -nographic -nodefaults \
+        -object "memory-backend-file,id=ram,size=${size}M,mem-path=$dir/ram,share=on" -nographic -nodefaults \
         "${events[@]}" "$@"
     rm -f "$dir/ram"
 }

@@ -23,32 +23,54 @@ def halves(low, offset, value):
     return low[offset & ~7]
 
 
-def stretches(calls):
-    """The places of guest memory that the calls name, as (base, end), each rounded to 64 KiB."""
-    found = set()
+class Stretches:
+    """The places of guest memory that calls name, as (base, end), each rounded to 64 KiB."""
 
-    def add(base, length):
-        found.add((base & -UNIT, (base + length + UNIT - 1) & -UNIT))
+    def __init__(self):
+        self.found = set()
+        self.low = {}
+        self.on = False
+        self.devices = None
 
-    low = {}
-    for text, _, remark in calls:
+    def add(self, base, length):
+        self.found.add((base & -UNIT, (base + length + UNIT - 1) & -UNIT))
+
+    def poke(self, address, data, remark):
+        self.add(address, len(data))
+        words = [int.from_bytes(data[i:i + 8], "little") for i in range(0, len(data), 8)]
+        if remark == "command":
+            if data[0] == 8 and words[2] >> 63 and words[1] & 31 < 16:
+                self.add(words[2] & 0x000FFFFFFFFFFF00, 8 << (words[1] & 31) + 1)
+        elif self.devices is not None and address & -UNIT == self.devices:
+            for word in words:
+                self.add(word & 0x000FFFFFFFFF0000, UNIT)
+
+    def write(self, offset, size, value):
+        """A base counts while the translator is off. One that is written by half stands in its register whole."""
+        if size == 4:
+            value = halves(self.low, offset, value)
+        if offset == 0:
+            self.on = value & 1
+        elif offset & ~7 in (0x80, 0x100, 0x108) and value >> 63 and not self.on:
+            self.add(value & 0x0000FFFFFFFF0000, UNIT)
+            if offset & ~7 == 0x100:
+                self.devices = value & 0x0000FFFFFFFF0000
+
+    def call(self, text, remark):
         f = text.split()
-        if f[0] == "write" and f[2] == "4":
-            # a base that is written by half stands in its register as a whole
-            f = ["write", str(int(f[1], 0) & ~7), "8", str(halves(low, int(f[1], 0), int(f[3], 0)))]
         if f[0] == "poke":
-            data = bytes.fromhex(f[2])
-            add(int(f[1], 0), len(data))
-            if remark == "command" and data[0] == 8 and data[23] & 0x80 and data[8] & 31 < 16:
-                words = [int.from_bytes(data[i:i + 8], "little") for i in (0, 8, 16)]
-                add(words[2] & 0x000FFFFFFFFFFF00, 8 << (words[1] & 31) + 1)
-            if len(data) == 8 and data[7] & 0x80:
-                add(int.from_bytes(data, "little") & 0x000FFFFFFFFF0000, UNIT)
-        elif f[0] == "write" and int(f[1], 0) in (0x80, 0x100, 0x108) and int(f[3], 0) >> 63:
-            add(int(f[3], 0) & 0x0000FFFFFFFF0000, UNIT)
+            self.poke(int(f[1], 0), bytes.fromhex(f[2]), remark)
+        elif f[0] == "write":
+            self.write(int(f[1], 0), int(f[2]), int(f[3], 0))
         elif f[0] == "rwrite" and int(f[2], 0) in (0x70, 0x78):
-            add(int(f[4], 0) & 0x000FFFFFFFFF0000, UNIT)
-    return sorted(found)
+            self.add(int(f[4], 0) & 0x000FFFFFFFFF0000, UNIT)
+
+
+def stretches(calls):
+    places = Stretches()
+    for text, _, remark in calls:
+        places.call(text, remark)
+    return sorted(places.found)
 
 
 def windows(places, most=12):

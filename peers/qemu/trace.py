@@ -1,8 +1,8 @@
 """Reads a log of record.py: each line of QEMU's trace as a call of a script, with what QEMU answered.
 
-A call is a pair (text, answer). The answer is the reply that a report of `its run` gives where both translators do
-the same, `None` where QEMU shows none, or the text `refused` or `dropped` where QEMU told an error: its log names no
-reasons that could be compared word by word, so these stand beside the reply as a remark.
+A call is its text in the script, what QEMU answered, and a remark. The answer is written as a report of `its run`
+would have it, without a refusal's reason and an LPI's priority: QEMU names its errors in words of its own, which are
+the remark. The remark `command` says that a poke writes a command.
 """
 import re
 
@@ -49,6 +49,7 @@ class Reader:
             self.signal = None
 
     def its_write(self, line):
+        """QEMU tells of a write after the commands that it took for it."""
         offset, value, size = (after(line, w) for w in ("offset", "data", "size"))
         self.calls.append((f"write {offset:#x} {size} {value:#x}", "ok", ""))
         self.calls += self.waiting
