@@ -4,7 +4,7 @@ ghost use Rattle.its_types.specs.declared.machine.Part.TheVariants as part;
 ghost use Rattle.its_steps.specs.World.{first_view, split_off, has_split, has_joined, note_of};
 ghost use Rattle.its_steps.specs.World.{has_met, spent};
 ghost use Rattle.its_turns.specs.Rule.{setup_of, Kept};
-ghost use Rattle.its_turns.specs.Told.{looking, turning, trying, releasing, committing, no_commit};
+ghost use Rattle.its_turns.specs.Told.{looking, trying, releasing, committing, no_commit};
 ghost use Rattle.its_steps.specs.declared.commit.Commit.{Commit};
 
 use crate::value::Value;
@@ -56,13 +56,6 @@ pub struct Look;
 
 impl Play<Value, Known> for Look {
     ghost then = { looking };
-}
-
-/// A load of the word after which the part taken last is held after the others.
-pub struct Turn;
-
-impl Play<Value, Known> for Turn {
-    ghost then = { turning };
 }
 
 /// Which part a try is of.

@@ -2,9 +2,9 @@
 ghost use Rattle.std.specs.Prelude.{◌≡◌};
 ghost use Rattle.its_steps.specs.declared.standing.Standing.TheVariants as standing;
 ghost use Rattle.its_turns.specs.Machines.{view, IsOf};
-ghost use Rattle.its_turns.specs.Told.{Looks, turned};
+ghost use Rattle.its_turns.specs.Told.{Looks};
 
-use crate::law::{Known, Look, Turn};
+use crate::law::{Known, Look};
 use crate::machine::{Machine, Pass};
 use crate::value::Value;
 use crate::word::unpack;
@@ -28,15 +28,4 @@ pub(crate) fn load(machine: &Machine, seat: &mut Seat<Value, Known>) -> Word
     ensures looks { Looks seat.old.me.0 result seat.new.me.0 }
 {
     unpack(machine.table.shared.load::<Look>(seat, 0))
-}
-
-/// Puts the part that was taken last after all others that the pass holds, so that the one taken
-/// before it is the next to be put back.
-pub fn bring(machine: &Machine, pass: &mut Pass)
-    requires { IsOf machine.now pass.old }
-    ensures of { IsOf machine.now pass.new }
-    ensures view { view pass.new ≡ record (view pass.old) { held = turned (view pass.old).held } }
-{
-    machine.table.shared.load::<Turn>(&mut pass.seat, 0);
-    pass.seat.turn();
 }
