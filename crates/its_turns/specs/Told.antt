@@ -65,8 +65,12 @@ pub record Looks (v : View) (w : Word) (v' : View) : Type 0 where
   pub still : IsLone v → v'.seen ≡ v.seen
   pub others : v.number ≡ 0 → KnowsOthers v v'.seen
 
+-- a word that is not the one read before is a later one, and then another pass is out
+abbrev pub IsLastOrLater : View → Word → Type 0
+IsLastOrLater v w = w ≢ v.last → (v.last.place < w.place) × ¬ IsLone v
+
 abbrev pub looking : Step Value → Sat → ℕ → Sat → Type 0
-looking st m n m' = (m'.1 ≡ m.1) × Looks m.0 (unpacked n) m'.0
+looking st m n m' = (m'.1 ≡ m.1) × Looks m.0 (unpacked n) m'.0 × IsLastOrLater m.0 (unpacked n)
 
 -- ---- turns
 
