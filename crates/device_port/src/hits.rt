@@ -76,7 +76,9 @@ pub fn try_signal<G: Gate>(
             return Now::Busy(busy);
         }
     };
-    hit(machine, pass, gate, word, dev, ev, target, shard, redist)
+    hit(
+        machine, pass, gate, word, dev, ev, number, target, shard, redist,
+    )
 }
 
 // The pair was found, and both parts are in hand.
@@ -87,11 +89,14 @@ fn hit<G: Gate>(
     word: Word,
     dev: DeviceId,
     ev: EventId,
+    number: u32,
     target: Target,
     shard: Shard,
     mut redist: Box<Redist>,
 ) -> Now
     requires of { IsOf machine.now pass.old }
+    requires number { (number ≡ shard_number dev.0 ev.0 (setup machine.now).shards)
+        × (number < (setup machine.now).shards) }
     requires held { (view pass.old).held
         ≡ two_before (shard_number dev.0 ev.0 (setup machine.now).shards) target.vcpu shard
         (redistributor_of redist.value) [] }
@@ -105,7 +110,6 @@ fn hit<G: Gate>(
     ensures of { IsOf machine.now pass.new }
     ensures answer { HitsNow (view pass.old) word dev ev target shard (view pass.new) result }
 {
-    let number = machine.shard_of(dev, ev);
     let signal = Signal::Delivered {
         vcpu: target.vcpu,
         intid: target.intid,
