@@ -63,6 +63,7 @@ pub trait Chooses {
     ghost part: { Part };
 }
 
+// So that a call can pass `Brand`. It picks its own part in its proof, and not this one.
 impl Chooses for Brand {
     ghost part = { part.Mem };
 }
@@ -88,6 +89,7 @@ pub trait Announces {
     ghost what: { Commit };
 }
 
+// So that a call can pass `Brand`. It picks its own commit in its proof, and not this one.
 impl Announces for Brand {
     ghost what = { no_commit };
 }
