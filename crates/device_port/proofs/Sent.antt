@@ -12,7 +12,7 @@ use Rattle.its_plain.specs.declared.call.Reply.TheVariants as reply
 use Rattle.its_plain.specs.declared.call.Signal.{Signal}
 use Rattle.its_steps.specs.Calls.{staying}
 use Rattle.its_steps.specs.Contents.{Content, Held}
-use Rattle.its_steps.specs.World.{View, Tries, took, out, lost_to}
+use Rattle.its_steps.specs.World.{View, Tries, took, lost_to}
 use Rattle.its_steps.specs.declared.change.ShardChange.{ShardChange}
 use Rattle.its_steps.specs.declared.commit.Commit.{Commit}
 use Rattle.its_turns.proofs.Telling.{goes_first, goes_looked, goes_took, goes_missed, goes_emptied, stays_from, lone_on}

@@ -71,12 +71,15 @@ pub fn fill_signal<G: Gate>(
     gate: &G,
     dev: DeviceId,
     ev: EventId,
+    number: u32,
     target: Target,
     maps: Box<Tables>,
     mut shard: Shard,
     mut redist: Box<Redist>,
 ) -> Attempt<Signal>
     requires of { IsOf machine.now pass.old }
+    requires number { (number ≡ shard_number dev.0 ev.0 (setup machine.now).shards)
+        × (number < (setup machine.now).shards) }
     requires held { (view pass.old).held
         ≡ three_held (shard_number dev.0 ev.0 (setup machine.now).shards) target.vcpu maps.value
         shard (redistributor_of redist.value) }
@@ -92,7 +95,6 @@ pub fn fill_signal<G: Gate>(
         (change.Fill dev ev target) (view pass.new) result }
     ensures finds { FindsIfDone dev ev (view pass.new) (Some target) result }
 {
-    let number = machine.shard_of(dev, ev);
     let signal = Signal::Delivered {
         vcpu: target.vcpu,
         intid: target.intid,
@@ -123,12 +125,15 @@ pub fn off_signal<G: Gate>(
     gate: &G,
     dev: DeviceId,
     ev: EventId,
+    number: u32,
     target: Target,
     maps: Box<Tables>,
     shard: Shard,
     redist: Box<Redist>,
 ) -> Attempt<Signal>
     requires of { IsOf machine.now pass.old }
+    requires number { (number ≡ shard_number dev.0 ev.0 (setup machine.now).shards)
+        × (number < (setup machine.now).shards) }
     requires held { (view pass.old).held
         ≡ three_held (shard_number dev.0 ev.0 (setup machine.now).shards) target.vcpu maps.value
         shard (redistributor_of redist.value) }
@@ -141,7 +146,6 @@ pub fn off_signal<G: Gate>(
         (view pass.new)
         result }
 {
-    let number = machine.shard_of(dev, ev);
     let signal = Signal::Dropped(Cause::LpisOff);
     let call = Call::Signal { its: 0, dev, ev };
     match try_commit(

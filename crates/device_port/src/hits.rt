@@ -1,11 +1,13 @@
 //! Signals by the cache, which wait for nobody.
-ghost use Rattle.std.specs.Prelude.{◌≡◌, ◌≤◌, ◌<◌, true, Some, []};
+ghost use Rattle.std.specs.Prelude.{◌≡◌, ◌≤◌, ◌<◌, true, Some, [], MatchResult};
 ghost use Rattle.its_types.specs.Ranges.{is_lpi};
 ghost use Rattle.owned_parts.specs.Owned.{redistributor_of, HasLpisOf};
 ghost use Rattle.xlate_cache.specs.Pairs.{shard_number};
 ghost use Rattle.xlate_cache.specs.Ways.{found};
 ghost use Rattle.its_steps.specs.Parts.{vcpu_count};
 ghost use Rattle.its_turns.specs.Machines.{setup, view, IsOf};
+ghost use Rattle.its_turns.specs.Steps.{IsRaced};
+ghost use Rattle.its_turns.specs.Told.{Looks};
 ghost use Rattle.device_port.specs.Hands.{two_before};
 ghost use Rattle.device_port.specs.Hits.{HitsNow};
 ghost use Rattle.device_port.specs.Signals.{SignalsNow, KeepsEarly};
@@ -14,7 +16,7 @@ use crate::home::put_two;
 use its_plain::{Call, Reply, Signal};
 use its_steps::{Commit, ShardChange};
 use its_turns::{
-    Busy, Machine, Pass, Raced, Value, begin, commit, put, try_take_redist, try_take_shard,
+    Busy, Machine, Pass, Raced, Value, begin, commit, look, put, try_take_redist, try_take_shard,
 };
 use its_types::{DeviceId, EventId, Gate, Part, Placed, Point, Target, Word};
 use lpi_pending::Redist;
@@ -76,7 +78,38 @@ pub fn try_signal<G: Gate>(
             return Now::Busy(busy);
         }
     };
-    hit(machine, pass, gate, word, dev, ev, target, shard, redist)
+    match again(machine, pass, word) {
+        Ok(now) => hit(
+            machine, pass, gate, now, dev, ev, number, target, shard, redist,
+        ),
+        Err(raced) => {
+            put_two(machine, pass, number, target.vcpu, shard, redist);
+            Now::Raced(raced)
+        }
+    }
+}
+
+// Loads the word again, since others may have made calls while the turns were tried. A commit then
+// seldom loses. What is found under its stamp is current as long as the stamp is the same.
+fn again(machine: &Machine, pass: &mut Pass, word: Word) -> Result<Word, Raced>
+    requires of { IsOf machine.now pass.old }
+    requires last { word ≡ (view pass.old).last }
+    requires room { word.place < (setup machine.now).limits.place_last }
+    ensures of { IsOf machine.now pass.new }
+    ensures result { MatchResult result
+        (λ w. Looks (view pass.old) w (view pass.new) × (w.stamp ≡ word.stamp)
+        × (w.place < (setup machine.now).limits.place_last))
+        (λ r. IsRaced (view pass.old) word r (view pass.new)) }
+{
+    let found = look(machine, pass);
+    if found.stamp == word.stamp && found.place != machine.place_last() {
+        Ok(found)
+    } else {
+        Err(Raced {
+            expected: word,
+            found,
+        })
+    }
 }
 
 // The pair was found, and both parts are in hand.
@@ -87,11 +120,14 @@ fn hit<G: Gate>(
     word: Word,
     dev: DeviceId,
     ev: EventId,
+    number: u32,
     target: Target,
     shard: Shard,
     mut redist: Box<Redist>,
 ) -> Now
     requires of { IsOf machine.now pass.old }
+    requires number { (number ≡ shard_number dev.0 ev.0 (setup machine.now).shards)
+        × (number < (setup machine.now).shards) }
     requires held { (view pass.old).held
         ≡ two_before (shard_number dev.0 ev.0 (setup machine.now).shards) target.vcpu shard
         (redistributor_of redist.value) [] }
@@ -105,7 +141,6 @@ fn hit<G: Gate>(
     ensures of { IsOf machine.now pass.new }
     ensures answer { HitsNow (view pass.old) word dev ev target shard (view pass.new) result }
 {
-    let number = machine.shard_of(dev, ev);
     let signal = Signal::Delivered {
         vcpu: target.vcpu,
         intid: target.intid,

@@ -80,8 +80,12 @@ fn send_signal<G: Gate>(
         }
     };
     if redist.bases.on {
-        fill_signal(machine, pass, gate, dev, ev, target, maps, shard, redist)
+        fill_signal(
+            machine, pass, gate, dev, ev, number, target, maps, shard, redist,
+        )
     } else {
-        off_signal(machine, pass, gate, dev, ev, target, maps, shard, redist)
+        off_signal(
+            machine, pass, gate, dev, ev, number, target, maps, shard, redist,
+        )
     }
 }

@@ -1,7 +1,6 @@
 pub mod Spaced
 pub mod Homes
 pub mod Looking
-pub mod Turning
 pub mod Trying
 pub mod Committing
 pub mod Passing

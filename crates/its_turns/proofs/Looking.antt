@@ -24,7 +24,7 @@ use Rattle.its_steps.proofs.Passes.{knows}
 use Rattle.its_steps.proofs.Steps.{pass}
 use Rattle.its_turns.proofs.Homes.{St}
 use Rattle.its_turns.specs.Rule.{Kept, world_of}
-use Rattle.its_turns.specs.Told.{Looks, looking, IsLone, is_joined, are_joined, KnowsOthers}
+use Rattle.its_turns.specs.Told.{Looks, IsLastOrLater, looking, IsLone, is_joined, are_joined, KnowsOthers}
 use Rattle.its_turns.specs.Words.{unpacked}
 use Rattle.its_turns.specs.declared.value.Value.{Value}
 
@@ -93,15 +93,15 @@ module _ (s : Setup) (slots id : ℕ) (me : Me Value View) (passes : me.0.standi
         (sym (ap (set t.words 0) same ∙ set-get_or t.words 0 0))
         record { history = h; good = keeps_load s h w kp.good id me.0 at passes; wide = kp.wide; deep = kp.deep; out = kp.out; fit = kp.fit }
 
-    -- a word that is not the one read last is a later one
+    pub last_or_later : IsLastOrLater me.0 here
+    last_or_later differ = let place : ℕ = here.place in (
+      dite (ℕ_discrete me.0.last.place place) (λ e. absurd (differ (sym (is_pass.knows.last e))))
+          (λ other. omega (arith, is_pass.knows.place, prefix_length me.0.seen h is_pass.knows.seen, kp.good.history.place, other)),
+      λ a. differ (sym (reads_last a).0),
+    )
+
     pub later_word : (first : ℕ) → get_or t.words 0 0 ≢ first → unpacked first ≡ me.0.last → (me.0.last.place < here.place) × ¬ IsLone me.0
-    later_word first ne is =
-        let differ : me.0.last ≡ here → ⊥ = λ e. ne (unpacked_same (get_or t.words 0 0) first (sym e ∙ sym is)) in
-        let place : ℕ = here.place in (
-          dite (ℕ_discrete me.0.last.place place) (λ e. absurd (differ (is_pass.knows.last e)))
-              (λ other. omega (arith, is_pass.knows.place, prefix_length me.0.seen h is_pass.knows.seen, kp.good.history.place, other)),
-          λ a. differ (reads_last a).0,
-        )
+    later_word first ne is = last_or_later (λ e. ne (unpacked_same (get_or t.words 0 0) first (e ∙ sym is)))
 
   pub allows_look : Allows (Kept s) slots id me 0 (λ n. n) (looking (step slots 0 0 0 none) me)
   allows_look t kp deep at small = (
@@ -109,5 +109,5 @@ module _ (s : Setup) (slots id : ℕ) (me : Me Value View) (passes : me.0.standi
     keeps,
     tt,
     looks_in t kp at (get_or t.words 0 0) refl,
-    (refl, sees t kp at),
+    (refl, sees t kp at, last_or_later t kp at),
   )

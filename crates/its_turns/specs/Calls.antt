@@ -58,7 +58,7 @@ pub record WasBusy (v : View) (got : List Part) (b : Busy) (w : View) : Type 0 w
   pub another : b.holder ≢ v.number
   pub out : ¬ IsLone v
 
--- another call was made between the call's load and its commit, so another pass is out
+-- another call was made after the call's first load and before its commit, so another pass is out
 pub record WasRaced (v : View) (got : List Part) (r : Raced) (w : View) : Type 0 where
   pub stays : Stays v w
   pub tries : w.tries ≡ got_all got v.tries

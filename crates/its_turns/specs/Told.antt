@@ -1,5 +1,5 @@
 -- What each step tells its pass.
-use Rattle.std.specs.Prelude.{◌≡◌, ◌≢◌, ℕ, ◌-◌, ◌*◌, ◌^◌, ◌<◌, Bool, true, false, not, ◌==◌, ◌||◌, ◌&&◌, nat_lt, List, [], ◌∷◌, ◌++◌, length}
+use Rattle.std.specs.Prelude.{◌≡◌, ◌≢◌, ℕ, ◌-◌, ◌*◌, ◌^◌, ◌<◌, Bool, true, false, not, ◌==◌, ◌||◌, ◌&&◌, nat_lt, List, [], ◌∷◌, length}
 use Rattle.std.specs.List.{AllByRecursion}
 use mathlib.Core.Option.{some}
 use mathlib.Core.List.{IsPrefix}
@@ -11,7 +11,7 @@ use Rattle.its_plain.specs.declared.call.Call.TheVariants.{Save}
 use Rattle.its_plain.specs.declared.call.Entry.{Entry}
 use Rattle.its_plain.specs.declared.call.Reply.TheVariants.{Saved}
 use Rattle.its_steps.specs.Parts.{Setup, Right, IsOfMachine, index_of}
-use Rattle.its_steps.specs.Contents.{Content, Held}
+use Rattle.its_steps.specs.Contents.{Content}
 use Rattle.its_steps.specs.declared.change.ShardChange.TheVariants.{Keep}
 use Rattle.its_steps.specs.World.{View, loaded, took, missed, committed, first_word}
 use Rattle.its_steps.specs.Good.{Ended, Holds, IsWhole, IsWithin}
@@ -65,16 +65,12 @@ pub record Looks (v : View) (w : Word) (v' : View) : Type 0 where
   pub still : IsLone v → v'.seen ≡ v.seen
   pub others : v.number ≡ 0 → KnowsOthers v v'.seen
 
+-- a word that is not the one read before is a later one, and then another pass is out
+abbrev pub IsLastOrLater : View → Word → Type 0
+IsLastOrLater v w = w ≢ v.last → (v.last.place < w.place) × ¬ IsLone v
+
 abbrev pub looking : Step Value → Sat → ℕ → Sat → Type 0
-looking st m n m' = (m'.1 ≡ m.1) × Looks m.0 (unpacked n) m'.0
-
--- the part taken last goes after the others
-abbrev pub turned : List Held → List Held
-turned [] = []
-turned (x ∷ xs) = xs ++ x ∷ []
-
-abbrev pub turning : Step Value → Sat → ℕ → Sat → Type 0
-turning st m n m' = (m'.1 ≡ m.1) × (m'.0 ≡ record m.0 { held = turned m.0.held })
+looking st m n m' = (m'.1 ≡ m.1) × Looks m.0 (unpacked n) m'.0 × IsLastOrLater m.0 (unpacked n)
 
 -- ---- turns
 

@@ -19,7 +19,7 @@ use std::marker::Brand;
 /// Another call was made first.
 #[derive(Clone, Copy, Debug, PartialEq, Eq)]
 pub struct Raced {
-    /// The word that the pass read last.
+    /// The word that the pass had read.
     pub expected: Word,
     /// The word that was there instead.
     pub found: Word,
@@ -44,6 +44,7 @@ pub fn commit(machine: &Machine, pass: &mut Pass, commit: &Commit) -> Result<u64
         stamp: commit.stamp,
         place: expected.place + 1,
     });
+    // `Brand` stands for this commit.
     let found = exchange::<Brand>(machine, pass, old, new, commit);
     if found == old {
         Ok(expected.place)

@@ -4,7 +4,7 @@ ghost use Rattle.its_types.specs.declared.machine.Part.TheVariants as part;
 ghost use Rattle.its_steps.specs.World.{first_view, split_off, has_split, has_joined, note_of};
 ghost use Rattle.its_steps.specs.World.{has_met, spent};
 ghost use Rattle.its_turns.specs.Rule.{setup_of, Kept};
-ghost use Rattle.its_turns.specs.Told.{looking, turning, trying, releasing, committing, no_commit};
+ghost use Rattle.its_turns.specs.Told.{looking, trying, releasing, committing, no_commit};
 ghost use Rattle.its_steps.specs.declared.commit.Commit.{Commit};
 
 use crate::value::Value;
@@ -58,18 +58,12 @@ impl Play<Value, Known> for Look {
     ghost then = { looking };
 }
 
-/// A load of the word after which the part taken last is held after the others.
-pub struct Turn;
-
-impl Play<Value, Known> for Turn {
-    ghost then = { turning };
-}
-
 /// Which part a try is of.
 pub trait Chooses {
     ghost part: { Part };
 }
 
+// So that a call can pass `Brand`. It picks its own part in its proof, and not this one.
 impl Chooses for Brand {
     ghost part = { part.Mem };
 }
@@ -95,6 +89,7 @@ pub trait Announces {
     ghost what: { Commit };
 }
 
+// So that a call can pass `Brand`. It picks its own commit in its proof, and not this one.
 impl Announces for Brand {
     ghost what = { no_commit };
 }

@@ -24,7 +24,7 @@ pub use calls::{begin, try_commit};
 pub use commits::{Raced, commit};
 pub use ending::close;
 pub use law::{Known, Plan};
-pub use loads::{bring, look};
+pub use loads::look;
 pub use machine::{Machine, Note, Pass, Root};
 pub use passes::{meet, note};
 pub use turns::{Busy, put, take, try_take};

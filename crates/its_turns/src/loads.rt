@@ -2,9 +2,9 @@
 ghost use Rattle.std.specs.Prelude.{◌≡◌};
 ghost use Rattle.its_steps.specs.declared.standing.Standing.TheVariants as standing;
 ghost use Rattle.its_turns.specs.Machines.{view, IsOf};
-ghost use Rattle.its_turns.specs.Told.{Looks, turned};
+ghost use Rattle.its_turns.specs.Told.{Looks, IsLastOrLater};
 
-use crate::law::{Known, Look, Turn};
+use crate::law::{Known, Look};
 use crate::machine::{Machine, Pass};
 use crate::value::Value;
 use crate::word::unpack;
@@ -16,6 +16,7 @@ pub fn look(machine: &Machine, pass: &mut Pass) -> Word
     requires { IsOf machine.now pass.old }
     ensures of { IsOf machine.now pass.new }
     ensures looks { Looks (view pass.old) result (view pass.new) }
+    ensures later { IsLastOrLater (view pass.old) result }
 {
     load(machine, &mut pass.seat)
 }
@@ -26,17 +27,7 @@ pub(crate) fn load(machine: &Machine, seat: &mut Seat<Value, Known>) -> Word
     ensures of { seat.new.table_id ≡ seat.old.table_id }
     ensures hand { seat.new.me.1 ≡ seat.old.me.1 }
     ensures looks { Looks seat.old.me.0 result seat.new.me.0 }
+    ensures later { IsLastOrLater seat.old.me.0 result }
 {
     unpack(machine.table.shared.load::<Look>(seat, 0))
-}
-
-/// Puts the part that was taken last after all others that the pass holds, so that the one taken
-/// before it is the next to be put back.
-pub fn bring(machine: &Machine, pass: &mut Pass)
-    requires { IsOf machine.now pass.old }
-    ensures of { IsOf machine.now pass.new }
-    ensures view { view pass.new ≡ record (view pass.old) { held = turned (view pass.old).held } }
-{
-    machine.table.shared.load::<Turn>(&mut pass.seat, 0);
-    pass.seat.turn();
 }

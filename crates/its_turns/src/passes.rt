@@ -25,6 +25,13 @@ impl Pass {
         self.number
     }
 
+    /// Of the root: how many numbers were given, its own among them. A split needs fewer than 2^32.
+    pub fn made(&self) -> u64
+        ensures { result ≡ (view self.now).root.made }
+    {
+        self.made
+    }
+
     /// Of the root: how many passes were split off and not joined yet.
     pub fn out(&self) -> u64
         requires { (view self.now).number ≡ 0 }

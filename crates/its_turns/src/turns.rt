@@ -65,6 +65,7 @@ pub fn try_take(machine: &Machine, pass: &mut Pass, part: Part) -> Result<Value,
 {
     let at = machine.index(part);
     let number = u64::from(pass.number) + 1;
+    // `Brand` stands for this part.
     let found = try_turn::<Brand>(machine, &mut pass.seat, part, at, number);
     if found != 0 {
         return Err(Busy {

@@ -37,7 +37,7 @@ pub fn try_take<G: Gate>(machine: &Machine, pass: &mut Pass, gate: &G, vcpu: Vcp
         ShardChange::Keep,
     ) {
         Ok(word) => {
-            acknowledge(&mut redist);
+            acknowledge(&mut redist, ack);
             put(machine, pass, Part::Redist(vcpu), Value::Redist(redist));
             Attempt::Done(Placed {
                 place: word.place,

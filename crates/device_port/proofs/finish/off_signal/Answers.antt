@@ -16,7 +16,7 @@ use Rattle.device_port.proofs.finish.off_signal.Goals as goal
 pub try_commit-requires-clause-may : goal.try_commit-requires-clause-may
 try_commit-requires-clause-may g c = let m = c.args.machine.now in let s = setup m in let t = c.args.maps.value in let r =
     redistributor_of c.args.redist.value in
-    let sh = subst (λ (n : ℕ). n < s.shards) c.shard_of-number.ensures.number c.shard_of-number.ensures.stands.1 in
+    let sh = subst (λ (n : ℕ). n < s.shards) c.requires.number.0 c.requires.number.1 in
     let held = three_held (shard_number c.args.dev.0 c.args.ev.0 s.shards) c.args.target.vcpu t c.args.shard r in
     may_here s (signal c.args.dev c.args.ev) (reply.Signal (Dropped LpisOff)) Keep held (λ _. held)
     (λ w room. offs s w 0 c.args.dev c.args.ev c.args.target (translator_of t) c.args.shard r m.laid.1 (omega (arith, m.laid.0)) c.requires.vcpu sh room
@@ -25,9 +25,9 @@ try_commit-requires-clause-may g c = let m = c.args.machine.now in let s = setup
 pub put_three-requires-clause-held : goal.put_three-requires-clause-held
 put_three-requires-clause-held g c = let m = c.args.machine.now in let s = setup m in let t = c.args.maps.value in let r =
     redistributor_of c.args.redist.value in
-    let sh = subst (λ (n : ℕ). n < s.shards) c.shard_of-number.ensures.number c.shard_of-number.ensures.stands.1 in
+    let sh = subst (λ (n : ℕ). n < s.shards) c.requires.number.0 c.requires.number.1 in
     let held = three_held (shard_number c.args.dev.0 c.args.ev.0 s.shards) c.args.target.vcpu t c.args.shard r in
-    rw (c.shard_of-number.ensures.number) (owes_here s (signal c.args.dev c.args.ev) (reply.Signal (Dropped LpisOff)) Keep held (λ _. held)
+    rw (c.requires.number.0) (owes_here s (signal c.args.dev c.args.ev) (reply.Signal (Dropped LpisOff)) Keep held (λ _. held)
     (λ w room. offs s w 0 c.args.dev c.args.ev c.args.target (translator_of t) c.args.shard r m.laid.1 (omega (arith, m.laid.0)) c.requires.vcpu sh room
     c.requires.goes c.requires.off) (view c.args.pass.now) c.requires.held c.requires.of.1 c.in-Ok.word
     (view c.try_commit.new.pass) c.in-Ok.ensures.result)

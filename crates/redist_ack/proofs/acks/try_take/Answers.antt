@@ -15,7 +15,7 @@ pub try_commit-requires-clause-may : goal.try_commit-requires-clause-may
 try_commit-requires-clause-may g c =
     let m = c.args.machine.now in let v = view c.args.pass.now in let x = view c.try_take_redist.new.pass in let r =
     redistributor_of c.in-Ok.redist.value in let a = reply.Ack (ack_of r (lowest r)) in
-    rw (c.offered-ack.ensures, c.deref.ensures) (may_here (setup m) (call.Take c.args.vcpu) a Keep (one c.args.vcpu r)
+    rw (c.offered-ack.ensures.answer, c.deref.ensures) (may_here (setup m) (call.Take c.args.vcpu) a Keep (one c.args.vcpu r)
     (λ _. one c.args.vcpu (taken r (lowest r))) (takes_now (setup m) c.args.vcpu r m.laid.1 c.requires.vcpu) x
     (one_held v (part.Redist c.args.vcpu) (Redist r) x c.in-Ok.ensures.result.0.view c.requires.free))
 
@@ -31,7 +31,7 @@ put-requires-clause-owed g c =
           (takes_now (setup m) c.args.vcpu r m.laid.1 c.requires.vcpu) x
           (one_held v (part.Redist c.args.vcpu) (Redist r) x c.in-Ok.ensures.result.0.view c.requires.free) c.try_take_redist.ensures.of.1
           c.in-Ok-try_commit.word (view c.try_commit.new.pass)
-          (rw (c.offered-ack.ensures, c.deref.ensures) at c.in-Ok-try_commit.ensures.result);
+          (rw (c.offered-ack.ensures.answer, c.deref.ensures) at c.in-Ok-try_commit.ensures.result);
     }
 
 pub put-requires-clause-fit : goal.put-requires-clause-fit
