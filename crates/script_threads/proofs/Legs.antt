@@ -1,5 +1,5 @@
 -- A leg, phase by phase.
-use Rattle.std.proofs.Common.{◌≡◌, ℕ, suc, ◌+◌, ◌<◌, ◌≤◌, List, [], ◌∷◌, ◌++◌, map, length, get_or, drop, Option, None, refl, ap, sym, ◌∙◌, subst, inl, inr}
+use Rattle.std.proofs.Common.{◌≡◌, ℕ, suc, ◌+◌, ◌<◌, ◌≤◌, List, [], ◌∷◌, ◌++◌, map, length, get_or, drop, Option, None, Any, refl, ap, sym, ◌∙◌, subst, inl, inr}
 use Rattle.std.proofs.Common.{arith, append_assoc, append-nil, length-append, drop-cons, true≢false}
 use Rattle.std.specs.List.{AllByRecursion}
 use Rattle.std.proofs.lemmas.List.{drop_all}
@@ -14,8 +14,8 @@ use Rattle.its_history.specs.Merged.{all_lines}
 use Rattle.its_steps.specs.Parts.{Setup}
 use Rattle.its_steps.specs.World.{View}
 use Rattle.its_steps.proofs.Lists.{all_weaker}
-use Rattle.script_threads.specs.Legs.{RanLeg, phase_lines, threads_in}
-use Rattle.script_threads.specs.Phases.{Phased, calls_of, replies_of}
+use Rattle.script_threads.specs.Legs.{RanLeg, StopsAtMemory, phase_lines, threads_in}
+use Rattle.script_threads.specs.Phases.{IsCutAtMemory, Phased, SomeThread, calls_of, replies_of}
 use Rattle.script_threads.specs.Rests.{Rests}
 use Rattle.script_threads.specs.declared.stop.Stop.{Stop}
 use Rattle.script_threads.proofs.Counts.{calls_in, calls_more, calls_most, calls_all}
@@ -56,7 +56,7 @@ going_none s phases lists w rests same made seen none = record {
 module _ (s : Setup) (phases : Leg) (k : ℕ) (threads : Phase) (below : k < length phases) (at : threads ≡ get_or phases k threads) (v w : View)
     (lists more : List ThreadList) (was : Going s phases k lists v)
     (replies : List (List (Placed Reply))) (stop : Option Stop) (p : Phased v threads replies stop w) (added : all_lines more ≡ all_lines lists
-    ++ phase_lines (k + 1) 1 threads replies) where
+    ++ phase_lines (k + 1) 1 threads replies) (stops : SomeThread IsCutAtMemory threads replies → Any StopsAtMemory more) where
   left : drop k phases ≡ threads ∷ drop (k + 1) phases
   left = let next : suc k ≡ k + 1 = omega arith in drop-cons phases k threads below ∙ (λ d. sym at d ∷ drop (next d) phases)
 
@@ -145,6 +145,7 @@ module _ (s : Setup) (phases : Leg) (k : ℕ) (threads : Phase) (below : k < len
     all = λ none. absurd (stopped none);
     short = λ some. omega (arith, long_is, calls_is, p.short some, calls_most (k + 1) phases);
     spent = λ e. (p.spent e).1 ∙ ap (λ (z : Setup). z.limits.place_last) was.setup;
+    memory = λ e. stops (p.memory e);
   }
 
 pub went_through : (s : Setup) (phases : Leg) (k : ℕ) (lists : List ThreadList) (w : View) → Going s phases k lists w → length phases ≤ k
@@ -163,4 +164,5 @@ went_through s phases k lists w was le = let none : drop k phases ≡ [] = drop_
   all = λ _. was.all ∙ calls_all k phases le;
   short = λ some. absurd (true≢false (sym some));
   spent = λ e. absurd (cc e);
+  memory = λ e. absurd (cc e);
 }

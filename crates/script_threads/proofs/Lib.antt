@@ -1,4 +1,5 @@
 pub mod Counts
+pub mod Cuts
 pub mod Grown
 pub mod Legs
 pub mod Lines

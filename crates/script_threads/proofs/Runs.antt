@@ -3,13 +3,16 @@ use Rattle.std.proofs.Common.{◌≡◌, ℕ, zero, suc, ◌+◌, ◌<◌, ◌�
 use Rattle.std.proofs.Common.{append_assoc, append-nil, length-append, true≢false}
 use Rattle.std.specs.List.{AllByRecursion}
 use Rattle.its_types.specs.declared.machine.Placed.{Placed}
+use Rattle.its_plain.specs.History.{after}
+use Rattle.its_plain.specs.Plain.{Plain}
 use Rattle.its_plain.specs.Runs.{Thread}
 use Rattle.its_plain.specs.declared.call.Call.{Call}
+use Rattle.its_plain.specs.declared.call.Call.TheVariants as call
 use Rattle.its_plain.specs.declared.call.Reply.{Reply}
 use Rattle.its_steps.specs.World.{View, entry}
 use Rattle.its_steps.proofs.Lists.{prefix_self, prefix_through}
 use Rattle.its_turns.specs.Calls.{IsPlaced, Stays}
-use Rattle.script_threads.specs.Asks.{Answers, TakesMemory}
+use Rattle.script_threads.specs.Asks.{Answers, TakesMemory, TakesMemoryIn}
 use Rattle.script_threads.specs.Jobs.{entries_of, GoesFree, Ran, Doing}
 use Rattle.script_threads.specs.Phases.{IsCutAtMemory}
 use Rattle.script_threads.specs.declared.stop.Stop.{Stop}
@@ -108,9 +111,22 @@ spent_of : (w x : View) (c : Call) (stop : Stop) → Answers w c x (Err stop) �
 spent_of w x c Spent r e = r.1
 spent_of w x c NoMemory r e = absurd (cc e)
 
+takes_memory : (u : Plain) (c : Call) → TakesMemoryIn u c → TakesMemory c
+takes_memory u (call.Step its) t = tt
+takes_memory u call.Save t = tt
+takes_memory u (call.Signal its dev ev) t = absurd t
+takes_memory u (call.Take vcpu) t = absurd t
+takes_memory u (call.Show vcpu) t = absurd t
+takes_memory u (call.Poke addr bytes) t = absurd t
+takes_memory u (call.Peek addr count) t = absurd t
+takes_memory u (call.ReadReg its off size) t = absurd t
+takes_memory u (call.WriteReg its off size value) t = absurd t
+takes_memory u (call.ReadGicr vcpu off size) t = absurd t
+takes_memory u (call.WriteGicr vcpu off size value) t = absurd t
+
 memory_of : (w x : View) (c : Call) (stop : Stop) → Answers w c x (Err stop) → stop ≡ NoMemory → TakesMemory c
 memory_of w x c Spent r e = absurd (cc e)
-memory_of w x c NoMemory r e = r.1
+memory_of w x c NoMemory r e = takes_memory (after w.setup.start x.seen) c r.1
 
 pub doing_cut : (v w x : View) (calls : Thread) (k : ℕ) (d : Call) (done : List (Placed Reply)) (stop : Stop) → Doing v calls k done w
     → Answers w (get_or calls k d) x (Err stop) → k < length calls → Ran v calls (Some stop) done x

@@ -2,6 +2,8 @@
 use Rattle.std.specs.Prelude.{◌≡◌, ◌<◌, length, Result, Ok, Err}
 use Rattle.std.specs.List.{AllByRecursion}
 use Rattle.its_types.specs.declared.machine.Placed.{Placed}
+use Rattle.its_plain.specs.History.{after}
+use Rattle.its_plain.specs.Plain.{Plain}
 use Rattle.its_plain.specs.Runs.{Thread, Phase, Leg}
 use Rattle.its_plain.specs.declared.call.Call.{Call}
 use Rattle.its_plain.specs.declared.call.Call.TheVariants as call
@@ -9,6 +11,7 @@ use Rattle.its_plain.specs.declared.call.Reply.{Reply}
 use Rattle.its_steps.specs.Parts.{Setup, vcpu_count}
 use Rattle.its_steps.specs.World.{View}
 use Rattle.its_turns.specs.Calls.{IsPlaced, Stays}
+use Rattle.cmd_engine.specs.StepTells.{WantsMemory}
 use Rattle.script_threads.specs.declared.stop.Stop.{Stop}
 use Rattle.script_threads.specs.declared.stop.Stop.TheVariants.{Spent, NoMemory}
 
@@ -41,8 +44,14 @@ TakesMemory (call.Step its) = Unit {0}
 TakesMemory call.Save = Unit {0}
 TakesMemory other = ⊥
 
--- The call was made, or nothing was: where all places are used, or memory ran out
+-- in this state the call takes memory: a step only where its command isn't refused and adds a device, a collection or an event
+abbrev pub TakesMemoryIn : Plain → Call → Type 0
+TakesMemoryIn u (call.Step its) = WantsMemory u
+TakesMemoryIn u call.Save = Unit {0}
+TakesMemoryIn u other = ⊥
+
+-- The call was made, or nothing was: where all places are used, or where it takes memory in the state that the pass has seen
 abbrev pub Answers : View → Call → View → Result (Placed Reply) Stop → Type 0
 Answers v c w (Ok p) = IsPlaced v c p.reply p.place w
 Answers v c w (Err Spent) = Stays v w × (length w.seen ≡ v.setup.limits.place_last)
-Answers v c w (Err NoMemory) = Stays v w × TakesMemory c
+Answers v c w (Err NoMemory) = Stays v w × TakesMemoryIn (after v.setup.start w.seen) c

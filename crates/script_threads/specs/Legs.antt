@@ -1,5 +1,5 @@
 -- What a leg does.
-use Rattle.std.specs.Prelude.{◌≡◌, ◌<◌, ◌≤◌, ℕ, zero, suc, ◌+◌, List, [], ◌∷◌, ◌++◌, map, length, sum_by, Option, Some, None, IsSome}
+use Rattle.std.specs.Prelude.{◌≡◌, ◌<◌, ◌≤◌, ℕ, zero, suc, ◌+◌, List, [], ◌∷◌, ◌++◌, map, length, sum_by, Option, Some, None, IsSome, Any}
 use Rattle.std.specs.List.{AllByRecursion}
 use Rattle.its_plain.specs.History.{IsLegal}
 use Rattle.its_types.specs.declared.machine.Placed.{Placed}
@@ -11,9 +11,10 @@ use Rattle.its_history.specs.declared.trace.EntryLine.{EntryLine}
 use Rattle.its_history.specs.Merged.{all_lines, thread_lines}
 use Rattle.its_steps.specs.Parts.{Setup}
 use Rattle.its_steps.specs.World.{View}
+use Rattle.script_threads.specs.Phases.{IsCutAtMemory}
 use Rattle.script_threads.specs.Rests.{Rests}
 use Rattle.script_threads.specs.declared.stop.Stop.{Stop}
-use Rattle.script_threads.specs.declared.stop.Stop.TheVariants.{Spent}
+use Rattle.script_threads.specs.declared.stop.Stop.TheVariants.{Spent, NoMemory}
 
 -- the lines of a phase's threads, counted from `thread` on, with these replies
 abbrev pub phase_lines : ℕ → ℕ → Phase → List (List (Placed Reply)) → List EntryLine
@@ -31,6 +32,10 @@ threads_in (suc k) (threads ∷ phases) = length threads + threads_in k phases
 abbrev pub call_count : Leg → ℕ
 call_count phases = sum_by (λ threads. sum_by (λ calls. length calls) threads) phases
 
+-- the thread's first call without a reply takes memory
+abbrev pub StopsAtMemory : ThreadList → Type 0
+StopsAtMemory l = IsCutAtMemory l.calls.now l.replies
+
 -- The root's history is that of the leg, or of its first calls where a phase was stopped. The lists' lines are those of its
 -- passes, of which there are `count`, by phase and thread
 pub record RanLeg (s : Setup) (phases : Leg) (lists : List ThreadList) (stop : Option Stop) (w : View) : Type 0 where
@@ -47,3 +52,4 @@ pub record RanLeg (s : Setup) (phases : Leg) (lists : List ThreadList) (stop : O
   pub all : stop ≡ None → length w.seen ≡ call_count phases
   pub short : IsSome stop → length w.seen < call_count phases
   pub spent : stop ≡ Some Spent → length w.seen ≡ s.limits.place_last
+  pub memory : stop ≡ Some NoMemory → Any StopsAtMemory lists

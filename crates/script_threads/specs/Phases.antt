@@ -38,7 +38,8 @@ abbrev pub calls_of : Phase → ℕ
 calls_of threads = sum_by (λ calls. length calls) threads
 
 -- The root's history grew by the first calls of these threads, by all of them where nothing stopped a thread, and by no other
--- entry. Each list is the replies of one thread, with their places. Want of memory is told before spent places
+-- entry. Each list is the replies of one thread, with their places. A thread that ran out of memory is told before one that
+-- found all places used
 pub record Phased (v : View) (threads : Phase) (lists : List (List (Placed Reply))) (stop : Option Stop) (w : View) : Type 0 where
   pub rests : Rests w
   pub setup : w.setup ≡ v.setup

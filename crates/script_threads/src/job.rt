@@ -10,6 +10,7 @@ use its_plain::{Call, Reply};
 use its_turns::{Machine, Pass};
 use its_types::{Gate, Placed};
 use std::alloc::Global;
+use std::mem;
 use std::sync::Wait;
 
 /// A thread's pass and its calls, the replies of those that were made, and why the next was not.
@@ -62,13 +63,8 @@ pub fn run<R: Wait, G: Gate>(rt: &R, alloc: Global, machine: &Machine, gate: &G,
     ensures { Worked machine.now job.old job.new }
 {
     let calls = job.calls;
-    job.stop = ask_all(
-        rt,
-        alloc,
-        machine,
-        &mut job.pass,
-        gate,
-        calls,
-        &mut job.done,
-    );
+    // Jobs stand side by side, and each call writes the list's length: here it is this thread's.
+    let mut done = mem::replace(&mut job.done, Vec::new(alloc));
+    job.stop = ask_all(rt, alloc, machine, &mut job.pass, gate, calls, &mut done);
+    job.done = done;
 }

@@ -1,10 +1,12 @@
 //! The phases of a leg, one after another.
-ghost use Rattle.std.specs.Prelude.{◌≡◌, ◌≤◌, ◌++◌, [], length, vec_len, IfOk, OnOk};
+ghost use Rattle.std.specs.Prelude.{◌≡◌, ◌≤◌, ◌++◌, [], length, vec_len, Any, IfOk, OnOk, OnErr};
 ghost use Rattle.std.specs.List.{AllByRecursion};
 ghost use Rattle.its_history.specs.Merged.{all_lines};
+ghost use Rattle.its_plain.specs.History.{IsLegal};
 ghost use Rattle.its_turns.specs.Machines.{setup, view, IsOf};
 ghost use Rattle.script_threads.specs.Asks.{MayRunLeg};
-ghost use Rattle.script_threads.specs.Legs.{RanLeg, phase_lines};
+ghost use Rattle.script_threads.specs.Legs.{RanLeg, StopsAtMemory, phase_lines};
+ghost use Rattle.script_threads.specs.Phases.{IsCutAtMemory, SomeThread};
 ghost use Rattle.script_threads.specs.Rests.{Rests};
 
 use crate::phase::{PhaseEnd, run_phase};
@@ -36,9 +38,11 @@ fn add_lists<'a>(
 ) -> Result<(), AllocError>
     requires few { length threads.now ≤ 64 }
     requires len { vec_len lists ≡ length threads.now }
-    ensures { OnOk result
+    ensures lines { OnOk result
         (all_lines all.new.items
         ≡ all_lines all.old.items ++ phase_lines phase 1 threads.now lists.items) }
+    ensures memory { OnOk result
+        (SomeThread IsCutAtMemory threads.now lists.items → Any StopsAtMemory all.new.items) }
 {
     let mut thread = 0u32;
     for replies in lists {
@@ -73,6 +77,8 @@ pub fn run_leg<'a, R: Threads + Wait + Sync, G: Gate + Sync>(
     ensures of { IsOf machine.now root.new }
     ensures leg { IfOk result (λ e.
         RanLeg (setup machine.now) phases.now e.lists.items e.stop (view root.new)) }
+    ensures rests { OnErr result (Rests (view root.new)) }
+    ensures legal { OnErr result (IsLegal (setup machine.now).start (view root.new).seen) }
 {
     let mut lists = Vec::new(alloc);
     let mut number = 0u32;

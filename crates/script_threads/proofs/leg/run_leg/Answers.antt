@@ -44,7 +44,7 @@ returns-then-is_some-clause-leg g c =
     let at : ts ≡ get_or ps k ts = search rules in
     let added : all_lines more ≡ all_lines lists ++ phase_lines (k + 1) 1 ts replies = search rules in
     cut_short s ps k ts c.loop-threads-test.true at v w lists more c.loop-threads.invariant.1 replies stop c.in_ok-end.ensures.phase added
-    (some_stop stop (search rules))
+    c.in_ok-add_lists.ensures.memory (some_stop stop (search rules))
 
 pub loop-threads-preserved : goal.loop-threads-preserved
 loop-threads-preserved g c =
@@ -56,7 +56,7 @@ loop-threads-preserved g c =
     let added : all_lines more ≡ all_lines lists ++ phase_lines (k + 1) 1 ts replies = search rules in (
       c.run_phase.ensures.of,
       going_more s ps k ts c.loop-threads-test.true at v w lists more c.loop-threads.invariant.1 replies stop c.in_ok-end.ensures.phase added
-          (no_stop stop (search rules)),
+          c.in_ok-add_lists.ensures.memory (no_stop stop (search rules)),
       omega (arith, c.loop-threads.invariant.2),
     )
 
