@@ -126,7 +126,7 @@ module _ (s : Setup) (one : translator_count s ≡ 1) (t : Tables) (memory : Lis
 
   out : AreOut s held
   out = record {
-    stands = redists_stand redists rest s (Some needed.set) 16 needed.hand rest_out.stands;
+    stands = redists_stand redists rest s needed.set 16 needed.hand rest_out.stands;
     apart = redists_apart redists rest 16 lacks rest_out.apart;
     out = redists_out redists rest 16 rest_out.out;
   }

@@ -7,21 +7,22 @@ use Rattle.its_types.specs.declared.machine.Part.TheVariants as part
 use Rattle.lpi_pending.specs.InHand.{in_hand}
 use Rattle.lpi_pending.specs.declared.redist.Redist.{Redist as Owned}
 use Rattle.owned_parts.specs.Owned.{HasLpisOf}
+use Rattle.cmd_exec.specs.Needs.{is_in}
 use Rattle.its_steps.specs.Contents.{Held}
 use Rattle.its_steps.specs.Good.{Holds}
 use Rattle.its_steps.specs.Parts.{Setup, vcpu_count}
-use Rattle.held_parts.specs.Redists.{redist_held, held_if_in, redist_row, redists_held, is_wanted, AreNoRedists, AreWanted, HoldsNoRedist}
+use Rattle.held_parts.specs.Redists.{redist_held, held_if_in, redist_row, redists_held, AreNoRedists, AreOfSet, HoldsNoRedist}
 use Rattle.held_parts.proofs.InRows.{row_agrees, row_none, row_first, row_skips}
 use Rattle.held_parts.proofs.RedistRows.{redist_above}
 
 -- of the first n those wanted are in hand, taken since some parts were held
-pub record AreTaken (s : Setup) (wanted : Option ℕ) (n : ℕ) (redists : List (Option Owned)) (before now : List Held) : Type 0 where
+pub record AreTaken (s : Setup) (wanted : ℕ) (n : ℕ) (redists : List (Option Owned)) (before now : List Held) : Type 0 where
   pub held : now ≡ redists_held redists n before
-  pub hand : (k : ℕ) → k < n → is_some (in_hand redists k) ≡ (is_wanted wanted k && nat_lt k (vcpu_count s))
+  pub hand : (k : ℕ) → k < n → is_some (in_hand redists k) ≡ (is_in wanted k && nat_lt k (vcpu_count s))
   pub above : (k : ℕ) → n ≤ k → in_hand redists k ≡ None
   pub lpis : (k : ℕ) (r : Owned) → in_hand redists k ≡ Some r → HasLpisOf s.start.layout.shape r
 
-pub none_taken : (s : Setup) (wanted : Option ℕ) (redists : List (Option Owned)) (xs : List Held) → AreNoRedists redists → AreTaken s wanted 0 redists xs xs
+pub none_taken : (s : Setup) (wanted : ℕ) (redists : List (Option Owned)) (xs : List Held) → AreNoRedists redists → AreTaken s wanted 0 redists xs xs
 none_taken s wanted redists xs none = record {
   held = sym (row_none (redist_row redists) xs 0 refl);
   hand = λ k lt. absurd (omega (arith, lt));
@@ -32,24 +33,24 @@ none_taken s wanted redists xs none = record {
     no_some : (r : Owned) → None ≡ Some r → ⊥
     no_some r e = cc
 
-module _ (s : Setup) (wanted : Option ℕ) (n m : ℕ) (redists : List (Option Owned)) (before now : List Held) (h : AreTaken s wanted n redists before now)
+module _ (s : Setup) (wanted : ℕ) (n m : ℕ) (redists : List (Option Owned)) (before now : List Held) (h : AreTaken s wanted n redists before now)
     (next : m ≡ suc n) where
   pub is_free : (k : ℕ) → n ≤ k → HoldsNoRedist before → Holds (part.Redist (record { 0 = k })) now → ⊥
   is_free k le lacks holds = redist_above redists before n k le (lacks (record { 0 = k })) (subst (Holds (part.Redist (record { 0 = k }))) h.held holds)
 
-  pub not_taken : (is_wanted wanted n && nat_lt n (vcpu_count s)) ≡ false → AreTaken s wanted m redists before now
+  pub not_taken : (is_in wanted n && nat_lt n (vcpu_count s)) ≡ false → AreTaken s wanted m redists before now
   not_taken out_of = record {
     held = h.held ∙ sym (row_skips (redist_row redists) before m n next (ap (held_if_in n) (h.above n (omega arith))));
     hand = λ k lt. elim (cases_lt k n) [
       | inl less ↦ h.hand k less
-      | inr le ↦ let e : n ≡ k = omega (arith, lt, le, next) in subst (λ (j : ℕ). is_some (in_hand redists j) ≡ (is_wanted wanted j && nat_lt j (vcpu_count s)))
+      | inr le ↦ let e : n ≡ k = omega (arith, lt, le, next) in subst (λ (j : ℕ). is_some (in_hand redists j) ≡ (is_in wanted j && nat_lt j (vcpu_count s)))
           e (ap (λ (o : Option Owned). is_some o) (h.above n (omega arith)) ∙ sym out_of)
     ];
     above = λ k le. h.above k (omega (arith, le, next));
     lpis = h.lpis;
   }
 
-  module _ (r : Owned) (now' : List Held) (size : length redists ≡ 16) (lt : n < 16) (inside : (is_wanted wanted n && nat_lt n (vcpu_count s)) ≡ true)
+  module _ (r : Owned) (now' : List Held) (size : length redists ≡ 16) (lt : n < 16) (inside : (is_in wanted n && nat_lt n (vcpu_count s)) ≡ true)
       (lpis : HasLpisOf s.start.layout.shape r) (more : now' ≡ redist_held n r ∷ now) where
     abbrev then : List (Option Owned)
     then = set redists n (Some r)
@@ -69,7 +70,7 @@ module _ (s : Setup) (wanted : Option ℕ) (n m : ℕ) (redists : List (Option O
       hand = λ k less. elim (cases_lt k n) [
         | inl below ↦ ap (λ (o : Option Owned). is_some o) (others k (λ e. omega (arith, below, e))) ∙ h.hand k below
         | inr le ↦ let e : n ≡ k = omega (arith, less, le, next) in subst
-            (λ (j : ℕ). is_some (in_hand then j) ≡ (is_wanted wanted j && nat_lt j (vcpu_count s))) e (ap (λ (o : Option Owned). is_some o) here ∙ sym inside)
+            (λ (j : ℕ). is_some (in_hand then j) ≡ (is_in wanted j && nat_lt j (vcpu_count s))) e (ap (λ (o : Option Owned). is_some o) here ∙ sym inside)
       ];
       above = λ k le. others k (λ e. omega (arith, le, e, next)) ∙ h.above k (omega (arith, le, next));
       lpis = λ k q is. elim (cases_eq k n) [
@@ -81,15 +82,15 @@ module _ (s : Setup) (wanted : Option ℕ) (n m : ℕ) (redists : List (Option O
         some_same : (a b : Owned) → Some a ≡ Some b → a ≡ b
         some_same a b e = cc
 
-pub all_taken : (s : Setup) (wanted : Option ℕ) (n : ℕ) (redists : List (Option Owned)) (before now : List Held) → n ≡ 16 → vcpu_count s ≤ 16
-    → AreTaken s wanted n redists before now → (now ≡ redists_held redists 16 before) × AreWanted s wanted redists
+pub all_taken : (s : Setup) (wanted : ℕ) (n : ℕ) (redists : List (Option Owned)) (before now : List Held) → n ≡ 16 → vcpu_count s ≤ 16
+    → AreTaken s wanted n redists before now → (now ≡ redists_held redists 16 before) × AreOfSet s wanted redists
 all_taken s wanted n redists before now is few h = (
   h.held ∙ ap (λ (k : ℕ). redists_held redists k before) is,
   record {
     hand = λ k. elim (cases_lt k n) [
       | inl lt ↦ h.hand k lt
       | inr le ↦ ap (λ (o : Option Owned). is_some o) (h.above k le)
-          ∙ sym (and_right (is_wanted wanted k) (nat_lt k (vcpu_count s)) (le-ltb k (vcpu_count s) (omega (arith, le, is, few))))
+          ∙ sym (and_right (is_in wanted k) (nat_lt k (vcpu_count s)) (le-ltb k (vcpu_count s) (omega (arith, le, is, few))))
     ];
     lpis = h.lpis;
   },
@@ -110,10 +111,10 @@ not_some : (o : Option Owned) → is_some o ≡ false → o ≡ None
 not_some None e = refl
 not_some (Some r) e = absurd cc
 
-pub all_left : (s : Setup) (wanted : Option ℕ) (redists : List (Option Owned)) → vcpu_count s ≤ 16 → AreWanted s wanted redists → AreLeft 16 redists redists
+pub all_left : (s : Setup) (wanted : ℕ) (redists : List (Option Owned)) → vcpu_count s ≤ 16 → AreOfSet s wanted redists → AreLeft 16 redists redists
 all_left s wanted redists few are = record {
   below = λ k lt. refl;
-  above = λ k le. not_some (in_hand redists k) (are.hand k ∙ and_right (is_wanted wanted k) (nat_lt k (vcpu_count s))
+  above = λ k le. not_some (in_hand redists k) (are.hand k ∙ and_right (is_in wanted k) (nat_lt k (vcpu_count s))
       (le-ltb k (vcpu_count s) (omega (arith, le, few))));
 }
   where
@@ -146,6 +147,6 @@ module _ (n m : ℕ) (old redists : List (Option Owned)) (next : n ≡ suc m) (h
   }
 
 -- one that isn't wanted is not in hand
-pub not_in_hand : (s : Setup) (wanted : Option ℕ) (redists : List (Option Owned)) (k : ℕ) → AreWanted s wanted redists
-    → (is_wanted wanted k && nat_lt k (vcpu_count s)) ≡ false → in_hand redists k ≡ None
+pub not_in_hand : (s : Setup) (wanted : ℕ) (redists : List (Option Owned)) (k : ℕ) → AreOfSet s wanted redists
+    → (is_in wanted k && nat_lt k (vcpu_count s)) ≡ false → in_hand redists k ≡ None
 not_in_hand s wanted redists k are out_of = not_some (in_hand redists k) (are.hand k ∙ out_of)

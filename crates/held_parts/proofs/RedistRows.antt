@@ -1,31 +1,28 @@
 -- Redistributors held in front of other parts.
-use Rattle.std.proofs.Common.{◌≡◌, ◌≢◌, ℕ, zero, suc, ◌<◌, ◌≤◌, true, ◌&&◌, nat_lt, List, ◌∷◌, Option, Some, None, replicate, slice_get, refl, ap, sym, ◌∙◌}
+use Rattle.std.proofs.Common.{◌≡◌, ◌≢◌, ℕ, ◌<◌, ◌≤◌, true, ◌&&◌, nat_lt, List, Option, Some, None, refl, ap, sym, ◌∙◌}
 use Rattle.std.proofs.Common.{subst, arith}
 use Rattle.std.proofs.lemmas.Bool.{and_parts, ltb-true}
 use Rattle.std.proofs.lemmas.Option.{get_or_from_slice_get}
 use Rattle.std.specs.Prelude.{is_some}
 use Rattle.std.specs.List.{AllByRecursion}
-use Rattle.its_types.specs.declared.ids.Vcpu.{Vcpu}
 use Rattle.its_types.specs.declared.machine.Part.{Part}
 use Rattle.its_types.specs.declared.machine.Part.TheVariants as part
 use Rattle.its_plain.specs.Plain.{Plain, Redistributor, redistributor, no_redistributor}
-use Rattle.its_plain.specs.declared.layout.Layout.{Layout}
 use Rattle.lpi_pending.specs.InHand.{in_hand}
 use Rattle.lpi_pending.specs.declared.redist.Redist.{Redist as Owned}
-use Rattle.owned_parts.specs.Owned.{redistributor_of, HasLpisOf, AreRedistributorsOf}
-use Rattle.its_steps.specs.Calls as calls
+use Rattle.owned_parts.specs.Owned.{redistributor_of, AreRedistributorsOf}
+use Rattle.cmd_exec.specs.Needs.{is_in}
 use Rattle.its_steps.specs.Contents.{Content, Held, Redist}
 use Rattle.its_steps.specs.Good.{Holds, Apart}
 use Rattle.its_steps.specs.MayCall.{Owes}
 use Rattle.its_steps.specs.MayCommit.{IsOut}
-use Rattle.its_steps.specs.Parts.{Setup, Stands, Has, HasAll, vcpu_count}
+use Rattle.its_steps.specs.Parts.{Setup, Stands, vcpu_count}
 use Rattle.its_steps.specs.Renewal.{renewed, content_in}
 use Rattle.its_steps.specs.World.{out}
 use Rattle.its_steps.specs.declared.commit.Commit.{Commit}
 use Rattle.its_steps.proofs.Owed.{owes_holds}
-use Rattle.held_parts.specs.Rows.{in_row, with_one}
-use Rattle.held_parts.specs.Redists.{redist_held, held_if_in, redist_row, redists_held, is_wanted, AreWanted, HoldsNoRedist}
-use Rattle.held_parts.proofs.InRows.{row_holds, row_owes, row_has, row_lacks, row_all, row_apart, row_each, row_renewed}
+use Rattle.held_parts.specs.Redists.{redist_held, held_if_in, redist_row, redists_held, AreOfSet, HoldsNoRedist}
+use Rattle.held_parts.proofs.InRows.{row_holds, row_owes, row_has, row_lacks, row_all, row_apart, row_renewed}
 
 -- ---- what stands in the row
 
@@ -83,13 +80,7 @@ module _ (redists : List (Option Owned)) (others : List Held) where
   pub redist_holds : (n k : ℕ) → k < n → is_some (in_hand redists k) ≡ true → Holds (part.Redist (record { 0 = k })) (redists_held redists n others)
   redist_holds n k lt some = some_held n k (in_hand redists k) refl lt some
 
-  -- a part that is no redistributor is held only where the others have it
-  pub redists_lack : (n : ℕ) (p : Part) → ((vcpu : Vcpu) → part.Redist vcpu ≢ p) → (Holds p others → ⊥) → Holds p (redists_held redists n others) → ⊥
-  redists_lack n p other lacks h =
-      row_lacks (redist_row redists) others n p (λ k x lt is e. let i = in_row_is redists k x is in other (record { 0 = k })
-      (ap (λ (y : Held). y.part) i.is ∙ e)) lacks h
-
-  -- nor is one of n on
+  -- one of n on is held only where the others have it
   pub redist_above : (n k : ℕ) → n ≤ k → (Holds (part.Redist (record { 0 = k })) others → ⊥) → Holds (part.Redist (record { 0 = k }))
       (redists_held redists n others) → ⊥
   unfolding number_of
@@ -106,36 +97,12 @@ module _ (redists : List (Option Owned)) (others : List Held) where
       row_apart (redist_row redists) others n (differ redists) (λ k x is holds. let i = in_row_is redists k x is in lacks (record { 0 = k })
       (subst (λ (y : Held). Holds y.part others) (sym i.is) holds)) apart
 
-  pub redists_stand : (s : Setup) (set : Option ℕ) (n : ℕ) → AreWanted s set redists → AllByRecursion (λ x. Stands s x.part) others
+  pub redists_stand : (s : Setup) (set : ℕ) (n : ℕ) → AreOfSet s set redists → AllByRecursion (λ x. Stands s x.part) others
       → AllByRecursion (λ x. Stands s x.part) (redists_held redists n others)
   redists_stand s set n are all = row_all (redist_row redists) others (λ x. Stands s x.part) n (λ k x lt is.
       let i = in_row_is redists k x is in
-      let some : (is_wanted set k && nat_lt k (vcpu_count s)) ≡ true = sym (are.hand k) ∙ some_is i.redist (in_hand redists k) i.there in
-      subst (λ (y : Held). Stands s y.part) i.is (ltb-true k (vcpu_count s) (and_parts (is_wanted set k) (nat_lt k (vcpu_count s)) some).1)) all
-
-  -- ---- what a state has
-
-  -- it has all that is held, where it has each redistributor in hand and the others
-  pub redists_had : (u : Plain) (n : ℕ) → ((k : ℕ) (r : Owned) → in_hand redists k ≡ Some r → slice_get u.redistributors k ≡ Some (redistributor_of r))
-      → HasAll u others → HasAll u (redists_held redists n others)
-  redists_had u n each all = row_all (redist_row redists) others (λ x. Has u x.part x.owed) n (λ k x lt is. let i = in_row_is redists k x is in subst
-      (λ (y : Held). Has u y.part y.owed) i.is (each k i.redist i.there)) all
-
-  -- and the other way round
-  pub redists_are : (u : Plain) (n : ℕ) → HasAll u (redists_held redists n others) → ((k : ℕ) (r : Owned) → k < n → in_hand redists k ≡ Some r
-      → slice_get u.redistributors k ≡ Some (redistributor_of r)) × HasAll u others
-  redists_are u n all = let each = row_each (redist_row redists) others (λ x. Has u x.part x.owed) n all in (
-    (λ k r lt is. each.0 k (redist_held k r) lt (ap (held_if_in k) is)),
-    each.1,
-  )
-
-  -- as the plain machine has them
-  pub redists_of : (s : Setup) (set : Option ℕ) (u : Plain) → AreWanted s set redists → s.start.layout ≡ u.layout → vcpu_count s ≤ 16
-      → HasAll u (redists_held redists 16 others) → AreRedistributorsOf u redists
-  redists_of s set u are same few all = λ k r is.
-      let some : (is_wanted set k && nat_lt k (vcpu_count s)) ≡ true = sym (are.hand k) ∙ some_is r (in_hand redists k) is in
-      let low : k < vcpu_count s = ltb-true k (vcpu_count s) (and_parts (is_wanted set k) (nat_lt k (vcpu_count s)) some).1 in
-      record { lpis = subst (λ (l : Layout). HasLpisOf l.shape r) same (are.lpis k r is); same = (redists_are u 16 all).0 k r (omega (arith, low, few)) is }
+      let some : (is_in set k && nat_lt k (vcpu_count s)) ≡ true = sym (are.hand k) ∙ some_is i.redist (in_hand redists k) i.there in
+      subst (λ (y : Held). Stands s y.part) i.is (ltb-true k (vcpu_count s) (and_parts (is_in set k) (nat_lt k (vcpu_count s)) some).1)) all
 
 -- ---- after a commit
 
@@ -168,24 +135,3 @@ pub redists_left : (s : Setup) (a : Commit) (z : Plain) (redists redists' : List
 redists_left s a z redists redists' others n same are =
     redists_renewed s a z redists redists' others n same (λ k r is. get_or_from_slice_get z.redistributors k (redistributor_of r) no_redistributor
     (are k r is).same)
-
--- ---- all redistributors of a state
-
--- as its_steps has them for a save
-pub redists_whole : (u : Plain) (redists : List (Option Owned)) (others : List Held) (n : ℕ) → ((k : ℕ) → k < n → (r : Owned) × (in_hand redists k ≡ Some r)
-    × (redistributor u k ≡ redistributor_of r)) → redists_held redists n others ≡ calls.redists_held u n others
-unfolding in_row
-redists_whole u redists others zero each = refl
-redists_whole u redists others (suc n) each =
-    let one = each n (omega arith) in
-    ap (λ (o : Option Owned). with_one (held_if_in n o) (redists_held redists n others)) one.1
-    ∙ (ap (λ (r : Redistributor). (let l : List Held = out (part.Redist (record { 0 = n })) (Redist r) ∷ redists_held redists n others in l)) (sym one.2)
-    ∙ ap (λ (l : List Held). (let l' : List Held = out (part.Redist (record { 0 = n })) (Redist (redistributor u n)) ∷ l in l'))
-    (redists_whole u redists others n (λ k lt. each k (omega (arith, lt)))))
-
--- ---- empty places
-
-pub no_redists : (n k : ℕ) → in_hand (replicate n None) k ≡ None
-no_redists zero k = refl
-no_redists (suc n) zero = refl
-no_redists (suc n) (suc k) = no_redists n k

@@ -1,5 +1,5 @@
 -- Redistributors that a pass holds.
-use Rattle.std.specs.Prelude.{◌≡◌, ◌&&◌, ℕ, Bool, true, nat_lt, Option, Some, None, is_some, List}
+use Rattle.std.specs.Prelude.{◌≡◌, ◌&&◌, ℕ, true, nat_lt, Option, Some, None, is_some, List}
 use Rattle.its_types.specs.declared.ids.Vcpu.{Vcpu}
 use Rattle.its_types.specs.declared.machine.Part.{Part}
 use Rattle.its_types.specs.declared.machine.Part.TheVariants as part
@@ -37,31 +37,14 @@ AreNoRedists redists = (vcpu : ℕ) → in_hand redists vcpu ≡ None
 abbrev pub HoldsNoRedist : List Held → Type 0
 HoldsNoRedist held = (vcpu : Vcpu) → ¬ Holds (part.Redist vcpu) held
 
--- ---- of a set, or all
+-- ---- of a set
 
--- of a set those that are in it, and without a set all
-abbrev pub is_wanted : Option ℕ → ℕ → Bool
-is_wanted None vcpu = true
-is_wanted (Some set) vcpu = is_in set vcpu
-
--- those wanted that the machine has are in hand, and no other; they have the machine's LPIs
-pub record AreWanted (s : Setup) (set : Option ℕ) (redists : List (Option Owned)) : Type 0 where
-  pub hand : (vcpu : ℕ) → is_some (in_hand redists vcpu) ≡ (is_wanted set vcpu && nat_lt vcpu (vcpu_count s))
+-- those of the set that the machine has are in hand, and no other; they have the machine's LPIs
+pub record AreOfSet (s : Setup) (set : ℕ) (redists : List (Option Owned)) : Type 0 where
+  pub hand : (vcpu : ℕ) → is_some (in_hand redists vcpu) ≡ (is_in set vcpu && nat_lt vcpu (vcpu_count s))
   pub lpis : (vcpu : ℕ) (r : Owned) → in_hand redists vcpu ≡ Some r → HasLpisOf s.start.layout.shape r
 
-abbrev pub AreOfSet : Setup → ℕ → List (Option Owned) → Type 0
-AreOfSet s set redists = AreWanted s (Some set) redists
-
-abbrev pub AreAllRedists : Setup → List (Option Owned) → Type 0
-AreAllRedists s redists = AreWanted s None redists
-
--- the part is a redistributor that is wanted
-abbrev pub IsWantedRedist : Option ℕ → Part → Type 0
-IsWantedRedist set (part.Redist vcpu) = is_wanted set vcpu.0 ≡ true
-IsWantedRedist set p = ⊥
-
+-- the part is a redistributor of the set
 abbrev pub IsRedistOf : ℕ → Part → Type 0
-IsRedistOf set = IsWantedRedist (Some set)
-
-abbrev pub IsRedist : Part → Type 0
-IsRedist = IsWantedRedist None
+IsRedistOf set (part.Redist vcpu) = is_in set vcpu.0 ≡ true
+IsRedistOf set p = ⊥

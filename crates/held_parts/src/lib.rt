@@ -6,6 +6,6 @@ mod redists;
 mod shards;
 mod waits;
 
-pub use redists::{put_all_redists, put_redists, take_all_redists, take_redists};
+pub use redists::{put_redists, take_redists};
 pub use shards::{Shards, put_shards, take_shards};
 pub use waits::{take_maps, take_memory, take_redist, take_shard};

@@ -1,10 +1,10 @@
 //! Redistributors, taken the lowest first.
-ghost use Rattle.std.specs.Prelude.{◌≡◌, ◌&&◌, ℕ, List, Some, None, nat_lt};
+ghost use Rattle.std.specs.Prelude.{◌≡◌, ◌&&◌, List, nat_lt};
+ghost use Rattle.cmd_exec.specs.Needs.{is_in};
 ghost use Rattle.its_steps.specs.Contents.{Held};
 ghost use Rattle.its_turns.specs.Machines.{setup, view, IsOf};
-ghost use Rattle.held_parts.specs.Redists.{redists_held, is_wanted, AreNoRedists, AreWanted};
-ghost use Rattle.held_parts.specs.Redists.{AreOfSet, AreAllRedists, HoldsNoRedist};
-ghost use Rattle.held_parts.specs.Redists.{IsWantedRedist, IsRedistOf, IsRedist};
+ghost use Rattle.held_parts.specs.Redists.{redists_held, AreNoRedists, AreOfSet};
+ghost use Rattle.held_parts.specs.Redists.{HoldsNoRedist, IsRedistOf};
 ghost use Rattle.held_parts.specs.Taking.{TakesOnly, holding};
 
 use crate::waits::take_redist;
@@ -31,78 +31,6 @@ pub fn take_redists<R: Wait>(
     ensures held { (view pass.new).held ≡ redists_held redists.new 16 (view pass.old).held }
     ensures hand { AreOfSet (setup machine.now) set redists.new }
 {
-    take_wanted(rt, machine, pass, &Some(set), redists);
-}
-
-/// Puts them back, the highest first. Their places are empty then.
-pub fn put_redists(machine: &Machine, pass: &mut Pass, set: PartSet, redists: &mut Redists)
-    requires of { IsOf machine.now pass.old }
-    requires hand { AreOfSet (setup machine.now) set redists.old }
-    requires held { (before : List Held) ×
-        ((view pass.old).held ≡ redists_held redists.old 16 before) }
-    ensures of { IsOf machine.now pass.new }
-    ensures empty { AreNoRedists redists.new }
-    ensures home { (before : List Held) →
-        (view pass.old).held ≡ redists_held redists.old 16 before →
-        view pass.new ≡ holding (view pass.old) before }
-{
-    put_wanted(machine, pass, &Some(set), redists);
-}
-
-/// Waits for the turns of all redistributors, the lowest first, and puts them in their places.
-pub fn take_all_redists<R: Wait>(rt: &R, machine: &Machine, pass: &mut Pass, redists: &mut Redists)
-    requires of { IsOf machine.now pass.old }
-    requires empty { AreNoRedists redists.old }
-    requires free { HoldsNoRedist (view pass.old).held }
-    ensures of { IsOf machine.now pass.new }
-    ensures takes { TakesOnly IsRedist (view pass.old) (view pass.new) }
-    ensures held { (view pass.new).held ≡ redists_held redists.new 16 (view pass.old).held }
-    ensures hand { AreAllRedists (setup machine.now) redists.new }
-{
-    take_wanted(rt, machine, pass, &None, redists);
-}
-
-/// Puts them back, the highest first. Their places are empty then.
-pub fn put_all_redists(machine: &Machine, pass: &mut Pass, redists: &mut Redists)
-    requires of { IsOf machine.now pass.old }
-    requires hand { AreAllRedists (setup machine.now) redists.old }
-    requires held { (before : List Held) ×
-        ((view pass.old).held ≡ redists_held redists.old 16 before) }
-    ensures of { IsOf machine.now pass.new }
-    ensures empty { AreNoRedists redists.new }
-    ensures home { (before : List Held) →
-        (view pass.old).held ≡ redists_held redists.old 16 before →
-        view pass.new ≡ holding (view pass.old) before }
-{
-    put_wanted(machine, pass, &None, redists);
-}
-
-// Without a set, all are wanted.
-fn is_wanted(set: &Option<PartSet>, vcpus: u8, vcpu: u8) -> bool
-    ensures { result ≡ (is_wanted set.now vcpu && nat_lt vcpu vcpus) }
-{
-    let inside = match set {
-        Some(set) => set.contains(Part::Redist(Vcpu(vcpu))),
-        None => true,
-    };
-    inside && vcpu < vcpus
-}
-
-fn take_wanted<R: Wait>(
-    rt: &R,
-    machine: &Machine,
-    pass: &mut Pass,
-    set: &Option<PartSet>,
-    redists: &mut Redists,
-)
-    requires of { IsOf machine.now pass.old }
-    requires empty { AreNoRedists redists.old }
-    requires free { HoldsNoRedist (view pass.old).held }
-    ensures of { IsOf machine.now pass.new }
-    ensures takes { TakesOnly (IsWantedRedist set.now) (view pass.old) (view pass.new) }
-    ensures held { (view pass.new).held ≡ redists_held redists.new 16 (view pass.old).held }
-    ensures hand { AreWanted (setup machine.now) set.now redists.new }
-{
     let vcpus = machine.vcpus();
     for vcpu in 0..16u8 {
         if is_wanted(set, vcpus, vcpu) {
@@ -112,9 +40,10 @@ fn take_wanted<R: Wait>(
     }
 }
 
-fn put_wanted(machine: &Machine, pass: &mut Pass, set: &Option<PartSet>, redists: &mut Redists)
+/// Puts them back, the highest first. Their places are empty then.
+pub fn put_redists(machine: &Machine, pass: &mut Pass, set: PartSet, redists: &mut Redists)
     requires of { IsOf machine.now pass.old }
-    requires hand { AreWanted (setup machine.now) set.now redists.old }
+    requires hand { AreOfSet (setup machine.now) set redists.old }
     requires held { (before : List Held) ×
         ((view pass.old).held ≡ redists_held redists.old 16 before) }
     ensures of { IsOf machine.now pass.new }
@@ -136,4 +65,11 @@ fn put_wanted(machine: &Machine, pass: &mut Pass, set: &Option<PartSet>, redists
             );
         }
     }
+}
+
+// Whether it is in the set, and the machine has it.
+fn is_wanted(set: PartSet, vcpus: u8, vcpu: u8) -> bool
+    ensures { result ≡ (is_in set vcpu && nat_lt vcpu vcpus) }
+{
+    set.contains(Part::Redist(Vcpu(vcpu))) && vcpu < vcpus
 }

@@ -1,5 +1,5 @@
 -- What a machine is asked in numbers: which numbers are in their ranges, and what the plain machine answers and leaves.
-use Rattle.std.specs.Prelude.{◌≡◌, ◌<◌, List, slice_index, ℕ, Bool, ◌&&◌, ◌||◌, ◌==◌, nat_lt, length}
+use Rattle.std.specs.Prelude.{◌≡◌, ◌<◌, ◌≤◌, List, slice_index, ℕ, Bool, ◌&&◌, ◌||◌, ◌==◌, nat_lt, length}
 use Rattle.its_plain.specs.Plain.{Plain, redistributor, with_redistributor}
 use Rattle.its_plain.specs.Answer.{ack_of, lowest, taken, signal_reply}
 use Rattle.its_plain.specs.Translation.{translated}
@@ -33,3 +33,7 @@ acknowledged u vcpu = with_redistributor u vcpu (taken (redistributor u vcpu) (l
 -- a list has the first of some numbers, as many as it takes
 abbrev pub HasFirst : List ℕ → List ℕ → Type 0
 HasFirst numbers list = (i : ℕ) → i < length numbers → i < length list → slice_index list i ≡ slice_index numbers i
+
+-- a list is as it was from a place on
+abbrev pub SameFrom : ℕ → List ℕ → List ℕ → Type 0
+SameFrom n before after = (i : ℕ) → n ≤ i → slice_index after i ≡ slice_index before i

@@ -1,4 +1,4 @@
--- What a call says of the machine behind a handle.
+-- What a call says of the machine of a handle.
 use Rattle.std.specs.Prelude.{◌≡◌, Some}
 use Rattle.its_plain.specs.Plain.{Plain}
 use Rattle.its_c.specs.declared.handle.Handle.{Handle}

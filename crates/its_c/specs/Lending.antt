@@ -1,4 +1,4 @@
--- What the loan of the machine behind a handle leaves of the handle.
+-- What the loan of the machine of a handle leaves of the handle.
 use Rattle.std.specs.Prelude.{Some}
 use base.Fml.{Fml}
 use denote.Ref.{MutBor}

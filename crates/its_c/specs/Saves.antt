@@ -16,10 +16,11 @@ IsSaved u w = (savable u ≡ Ok tt) × (w ≡ record u { memory = saved u })
 abbrev pub IsMoved : Plain → Plain → Type 0
 IsMoved u w = (savable u ≡ Ok tt) × (w ≡ moved u)
 
--- what each other answer says: the machine is as it was, and a fault is the state's
+-- what each answer says: the machine is as it was but where it was done, and what is told is as it was but for a fault, which is
+-- the state's
 pub record IsUnsaved (code : ℕ) (u w : Plain) (before after : SaveFaultOut) : Type 0 where
   pub same : code ≢ codes.done → w ≡ u
-  pub no_memory : code ≡ codes.no_memory → after ≡ before
+  pub untold : code ≢ codes.fault → after ≡ before
   pub fault : code ≡ codes.fault → (f : SaveFault) × (savable u ≡ Err f) × (after ≡ save_fault_out f)
   pub known : code ≤ codes.fault
   pub not_outside : code ≢ codes.outside

@@ -6,7 +6,7 @@ ghost use Rattle.its_plain.specs.Answer.{step_reply, step_left};
 ghost use Rattle.its_plain.specs.Plain.{regs_of, pending_of};
 ghost use Rattle.owned_machine.specs.Whole.{step_adds};
 ghost use Rattle.its_c.specs.Asked.{has_vcpu as has, is_size as is, has_register};
-ghost use Rattle.its_c.specs.Asked.{signalled, shown, acknowledged, HasFirst};
+ghost use Rattle.its_c.specs.Asked.{signalled, shown, acknowledged, HasFirst, SameFrom};
 ghost use Rattle.its_c.specs.Codes as codes;
 ghost use Rattle.its_c.specs.Held.{InMachine};
 ghost use Rattle.its_c.specs.Pieces.{IsStretch, IsRead, written_to};
@@ -231,8 +231,8 @@ pub extern "C" fn its_show(handle: &mut Handle, alloc: Global, vcpu: u32, out: &
     show(handle.lent(), alloc, vcpu, out)
 }
 
-/// The LPIs that are pending at a virtual processor, rising, as many as the list takes; and how
-/// many there are.
+/// The LPIs that are pending at a virtual processor, rising, as many as the list takes, whose rest
+/// stays; and how many there are.
 #[unsafe(no_mangle)]
 pub extern "C" fn its_pending(
     handle: &mut Handle,
@@ -248,6 +248,8 @@ pub extern "C" fn its_pending(
         has u vcpu ≡ false → result ≡ codes.range) }
     ensures told { InMachine handle.old handle.new (λ u w.
         result ≡ codes.done → HasFirst (pending_of u vcpu) list.new) }
+    ensures rest { InMachine handle.old handle.new (λ u w.
+        result ≡ codes.done → SameFrom (length (pending_of u vcpu)) list.old list.new) }
     ensures length { length list.new ≡ length list.old }
     ensures count { InMachine handle.old handle.new (λ u w.
         result ≡ codes.done → count.new ≡ length (pending_of u vcpu)) }

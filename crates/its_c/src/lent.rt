@@ -1,4 +1,4 @@
-//! A machine behind a handle, lent for a call.
+//! The machine of a handle, lent for a call.
 ghost use Rattle.std.specs.Prelude.{◌≡◌, Some, IsSome};
 ghost use types.Logic.{sem};
 ghost use Rattle.its_c.specs.Lending.{machine_follows};

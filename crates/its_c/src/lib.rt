@@ -1,4 +1,4 @@
-//! The translator for machine monitors in other languages: a machine behind a handle, and calls
+//! The translator for machine monitors in other languages: the machine of a handle, and calls
 //! that take and answer numbers and bytes.
 #![tactic(auto)]
 

@@ -1,7 +1,7 @@
 //! The LPIs that are pending.
 ghost use Rattle.std.specs.Prelude.{◌≡◌, ◌≢◌, ◌≤◌, true, false, length, map};
 ghost use Rattle.its_plain.specs.Plain.{pending_of};
-ghost use Rattle.its_c.specs.Asked.{has_vcpu as has, HasFirst};
+ghost use Rattle.its_c.specs.Asked.{has_vcpu as has, HasFirst, SameFrom};
 ghost use Rattle.its_c.specs.Codes as codes;
 
 use crate::codes::{DONE, NO_MEMORY, RANGE};
@@ -10,8 +10,8 @@ use its_types::Intid;
 use owned_machine::Machine;
 use std::alloc::Global;
 
-/// The LPIs that are pending at a virtual processor, rising, as many as the list takes; and how
-/// many there are.
+/// The LPIs that are pending at a virtual processor, rising, as many as the list takes, whose rest
+/// stays; and how many there are.
 pub fn pending(
     machine: &mut Machine,
     alloc: Global,
@@ -21,6 +21,8 @@ pub fn pending(
 ) -> u32
     ensures range { has machine.old vcpu ≡ false → result ≡ codes.range }
     ensures told { result ≡ codes.done → HasFirst (pending_of machine.old vcpu) list.new }
+    ensures rest { result ≡ codes.done
+        → SameFrom (length (pending_of machine.old vcpu)) list.old list.new }
     ensures length { length list.new ≡ length list.old }
     ensures count { result ≡ codes.done
         → count.new ≡ length (pending_of machine.old vcpu) }
@@ -44,6 +46,7 @@ pub fn pending(
 // As many of the LPIs as the list takes.
 fn copy(lpis: &[Intid], list: &mut [u32])
     ensures copied { HasFirst (map (λ i. i.0) lpis.now) list.new }
+    ensures rest { SameFrom (length lpis.now) list.old list.new }
     ensures length { length list.new ≡ length list.old }
 {
     let mut at = 0;

@@ -4,7 +4,7 @@ use Rattle.its_turns.specs.Machines.{view, IsOf}
 use Rattle.held_parts.specs.Redists.{redists_held}
 use Rattle.held_parts.specs.Taking.{holding}
 use Rattle.held_parts.proofs.RedistLoops.{AreLeft}
-use Rattle.held_parts.proofs.redists.put_wanted.Given as goal
+use Rattle.held_parts.proofs.redists.put_redists.Given as goal
 
 abbrev pub invariant-loop-k : goal.invariant-loop-k
 invariant-loop-k l = record {

@@ -3,39 +3,40 @@ use Rattle.std.proofs.Common.{length, rules, arith, ap, sym, ◌∙◌, ◌≡�
 use Rattle.std.proofs.lemmas.Bool.{and_parts}
 use Rattle.its_types.specs.declared.machine.Part.TheVariants as part
 use Rattle.owned_parts.specs.Owned.{redistributor_of}
+use Rattle.cmd_exec.specs.Needs.{is_in}
 use Rattle.its_steps.specs.Contents.{Redist}
 use Rattle.its_steps.specs.Parts.{vcpu_count}
 use Rattle.its_turns.specs.Machines.{setup, view}
-use Rattle.held_parts.specs.Redists.{is_wanted, IsWantedRedist}
+use Rattle.held_parts.specs.Redists.{IsRedistOf}
 use Rattle.held_parts.proofs.Going.{takes_first, takes_one, takes_then, took_held}
 use Rattle.held_parts.proofs.RedistLoops.{none_taken, is_free, not_taken, one_taken}
-use Rattle.held_parts.proofs.redists.take_wanted.Goals as goal
-use Rattle.held_parts.proofs.redists.take_wanted.Goals.{then-is_wanted, else-is_wanted}
+use Rattle.held_parts.proofs.redists.take_redists.Goals as goal
+use Rattle.held_parts.proofs.redists.take_redists.Goals.{then-is_wanted, else-is_wanted}
 
 pub loop-vcpu-init : goal.loop-vcpu-init
 loop-vcpu-init g c = record {
   of = c.requires.of;
-  takes = takes_first (IsWantedRedist c.args.set.now) (view c.args.pass.now);
-  taken = none_taken (setup c.args.machine.now) c.args.set.now c.args.redists.now (view c.args.pass.now).held c.requires.empty;
+  takes = takes_first (IsRedistOf c.args.set) (view c.args.pass.now);
+  taken = none_taken (setup c.args.machine.now) c.args.set c.args.redists.now (view c.args.pass.now).held c.requires.empty;
 }
 
 pub take_redist-redist-requires-clause-free : goal.take_redist-redist-requires-clause-free
 take_redist-redist-requires-clause-free g c =
-    let l = c.loop-vcpu in is_free (setup c.args.machine.now) c.args.set.now l.vcpu (l.vcpu + 1) l.redists (view c.args.pass.now).held
+    let l = c.loop-vcpu in is_free (setup c.args.machine.now) c.args.set l.vcpu (l.vcpu + 1) l.redists (view c.args.pass.now).held
     (view l.pass).held l.invariant.taken (omega arith) l.vcpu (omega arith) c.requires.free
 
 pub loop-vcpu-preserved : goal.loop-vcpu-preserved
 loop-vcpu-preserved g c = let s = setup c.args.machine.now in let l = c.loop-vcpu in let before = (view c.args.pass.now).held in let want =
-    c.args.set.now in elim c.if-is_wanted.branch [
+    c.args.set in elim c.if-is_wanted.branch [
       | then-is_wanted w ↦
           let t = w.take_redist-redist in let r = t.result.value in
-          let inside : (is_wanted want l.vcpu && nat_lt l.vcpu (vcpu_count s)) ≡ true = ap (λ (n : ℕ). is_wanted want l.vcpu && nat_lt l.vcpu n)
+          let inside : (is_in want l.vcpu && nat_lt l.vcpu (vcpu_count s)) ≡ true = ap (λ (n : ℕ). is_in want l.vcpu && nat_lt l.vcpu n)
           (sym c.vcpus-vcpus.ensures.vcpus) ∙ (sym c.is_wanted.ensures ∙ w.if-is_wanted.true) in
           rw (w.pass-is, w.redists-is) record {
             of = t.ensures.of;
-            takes = takes_then (IsWantedRedist want) (view c.args.pass.now) (view l.pass) (view t.new.pass) l.invariant.takes
-                (takes_one (IsWantedRedist want) (view l.pass) (view t.new.pass) (part.Redist (record { 0 = l.vcpu })) (Redist (redistributor_of r))
-                (and_parts (is_wanted want l.vcpu) (nat_lt l.vcpu (vcpu_count s)) inside).0 t.ensures.takes);
+            takes = takes_then (IsRedistOf want) (view c.args.pass.now) (view l.pass) (view t.new.pass) l.invariant.takes
+                (takes_one (IsRedistOf want) (view l.pass) (view t.new.pass) (part.Redist (record { 0 = l.vcpu })) (Redist (redistributor_of r))
+                (and_parts (is_in want l.vcpu) (nat_lt l.vcpu (vcpu_count s)) inside).0 t.ensures.takes);
             taken = rw (w.place.ensures.placed) (one_taken s want l.vcpu (l.vcpu + 1) l.redists before (view l.pass).held l.invariant.taken (omega arith) r
                 (view t.new.pass).held (sym (length-set l.redists l.vcpu (Some r)) ∙ (ap length (sym w.place.ensures.placed) ∙ w.place.ensures.size))
                 (search rules) inside t.ensures.lpis
@@ -45,6 +46,6 @@ loop-vcpu-preserved g c = let s = setup c.args.machine.now in let l = c.loop-vcp
         of = l.invariant.of;
         takes = l.invariant.takes;
         taken = not_taken s want l.vcpu (l.vcpu + 1) l.redists before (view l.pass).held l.invariant.taken (omega arith)
-            (ap (λ (n : ℕ). is_wanted want l.vcpu && nat_lt l.vcpu n) (sym c.vcpus-vcpus.ensures.vcpus) ∙ (sym c.is_wanted.ensures ∙ w.if-is_wanted.false));
+            (ap (λ (n : ℕ). is_in want l.vcpu && nat_lt l.vcpu n) (sym c.vcpus-vcpus.ensures.vcpus) ∙ (sym c.is_wanted.ensures ∙ w.if-is_wanted.false));
       }
     ]

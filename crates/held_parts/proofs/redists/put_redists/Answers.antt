@@ -1,16 +1,17 @@
 use Rattle.std.proofs.Common.{arith, ap, sym, ◌∙◌, refl, ◌≡◌, ◌-◌, ◌+◌, ◌&&◌, ℕ, suc, nat_lt, List}
 use Rattle.owned_parts.specs.Owned.{redistributor_of}
+use Rattle.cmd_exec.specs.Needs.{is_in}
 use Rattle.its_steps.specs.Contents.{Held, Redist}
 use Rattle.its_steps.specs.World.{View}
 use Rattle.its_turns.specs.Contents.{held_before}
 use Rattle.its_turns.specs.Machines.{setup, view}
 use Rattle.its_turns.specs.Told.{released}
-use Rattle.held_parts.specs.Redists.{is_wanted, redist_row, redist_held, held_if_in, redists_held}
+use Rattle.held_parts.specs.Redists.{redist_row, redist_held, held_if_in, redists_held}
 use Rattle.held_parts.specs.Taking.{holding}
 use Rattle.held_parts.proofs.InRows.{row_first, row_skips, row_none}
 use Rattle.held_parts.proofs.RedistLoops.{one_left, none_left, not_in_hand}
-use Rattle.held_parts.proofs.redists.put_wanted.Goals as goal
-use Rattle.held_parts.proofs.redists.put_wanted.Goals.{then-is_wanted, else-is_wanted}
+use Rattle.held_parts.proofs.redists.put_redists.Goals as goal
+use Rattle.held_parts.proofs.redists.put_redists.Goals.{then-is_wanted, else-is_wanted}
 
 pub put-requires-clause-owed : goal.put-requires-clause-owed
 put-requires-clause-owed c = let old = c.args.redists.now in let before = c.requires.held.0 in let l = c.loop-k in let k = 15 - l.k in let r =
@@ -36,7 +37,7 @@ loop-k-preserved c = let s = setup c.args.machine.now in let l = c.loop-k in let
         left = rw (w.take_out-redist.ensures.taken) (one_left (16 - l.k) k old l.redists next l.invariant.left);
       }
       | else-is_wanted w ↦
-          let out = not_in_hand s c.args.set.now old k c.requires.hand (ap (λ (n : ℕ). is_wanted c.args.set.now k && nat_lt k n)
+          let out = not_in_hand s c.args.set old k c.requires.hand (ap (λ (n : ℕ). is_in c.args.set k && nat_lt k n)
           (sym c.vcpus-vcpus.ensures.vcpus) ∙ (sym c.is_wanted.ensures ∙ w.if-is_wanted.false)) in
           rw (w.pass-is, w.redists-is, e) record {
             of = l.invariant.of;
