@@ -31,7 +31,7 @@ use Rattle.its_turns.proofs.Telling.{looked_held, goes_first, goes_looked, goes_
 use Rattle.its_turns.proofs.Telling.{lone_on, makes_of, makes_from, made_emptied, placed_from, leaves_from}
 use Rattle.its_turns.specs.Contents.{held_before}
 use Rattle.its_turns.specs.Calls.{got_all, GoesOn}
-use Rattle.its_turns.specs.Steps.{IsBusy, IsRaced}
+use Rattle.its_turns.specs.Steps.{IsBusy}
 use Rattle.its_turns.specs.Told.{Looks, IsLone, released, Commits}
 use Rattle.its_turns.specs.declared.commits.Raced.{Raced as Race}
 use Rattle.its_turns.specs.declared.turns.Busy.{Busy as Found}
@@ -64,77 +64,6 @@ module _ (s : Setup) (one : translator_count s ≡ 1) (dev : DeviceId) (ev : Eve
     number = ap (λ (l : Looked). l.number) looked ∙ ap (λ (z : Setup). shard_number dev.0 ev.0 z.shards) (sym own);
     finds = (λ d. found (looked d).ways dev.0 ev.0 (stamp_of (own d) x.last 0)) ∙ (ap (found ways dev.0 ev.0) (at_stamp s one x.last ∙ last) ∙ finds);
   }
-
-  -- both turns were got, and this word was read last
-  module _ (v z : View) (ways : List (Option Translation)) (target : Target) (w : Word) (own : v.setup ≡ s) (bare : v.held ≡ [])
-      (on : GoesOn v (got_all (part.Redist target.vcpu ∷ shard_of v.setup dev ev ∷ []) v.tries) z) (early : KeepsEarly v z)
-      (looked : z.cache.looked ≡ record { its = 0; number = n; ways = ways }) (seen : length z.seen ≡ w.place)
-      (finds : found ways dev.0 ev.0 w.stamp ≡ Some target) (room : w.place < s.limits.place_last) where
-    abbrev t2 : Tries
-    t2 = got_all (part.Redist target.vcpu ∷ shard_of v.setup dev ev ∷ []) v.tries
-
-    pub raced_now : (x : View) (c : Race) → HitRaced z w c x → SignalsNow v dev ev x (Raced c) × KeepsEarly v x
-    raced_now x c hit =
-        let y = hit.left in
-        let gone = goes_emptied v y t2 (goes_looked v z t2 on y c.found hit.raced.looks) x hit.home in
-        let expected = subst (λ (q : Word). q.place < s.limits.place_last) (sym hit.raced.expected_is) room in (
-          (
-            target,
-            record {
-              stays = stays_from v x t2 gone (ap (λ (u : View). u.held) hit.home ∙ sym bare);
-              tries = gone.tries;
-              room = subst (λ (q : Setup). c.expected.place < q.limits.place_last) (sym own) expected;
-              later = subst (λ (q : Word). q.place < c.found.place) (sym hit.raced.expected_is) hit.raced.later;
-              last = ap (λ (u : View). u.last) hit.home ∙ ap (λ (u : View). u.last) hit.raced.looks.same;
-              out = λ alone. hit.raced.out (lone_on v z t2 on alone);
-            },
-          ),
-          record {
-            early = ap (λ (u : View). u.cache.early) hit.home ∙ (ap (λ (u : View). u.cache.early) hit.raced.looks.same ∙ early.early);
-            word = ap (λ (u : View). u.cache.early_word) hit.home ∙ (ap (λ (u : View). u.cache.early_word) hit.raced.looks.same ∙ early.word);
-          },
-        )
-
-    abbrev a : Commit
-    a = staying w (signal dev ev) (reply.Signal (Delivered target.vcpu target.intid)) Keep
-
-    own_z : z.setup ≡ s
-    own_z = ap (λ (y : View). y.setup) on.same ∙ own
-
-    pub done_now : (x : View) → HitMade z w dev ev target ways x
-        → SignalsNow v dev ev x (Done (record { place = w.place; reply = Delivered target.vcpu target.intid })) × KeepsEarly v x
-    done_now x hit =
-        let y = hit.made in
-        let makes = makes_of z a y hit.commits seen (subst (λ (q : Setup). w.place < q.limits.place_last) (sym own_z) room) in
-        let made = made_emptied v y t2 a (makes_from v z t2 on a y makes) x hit.home in
-        let owes : y.held ≡ two_before n target.vcpu ways hit.left [] = hit.owes
-        ∙ ap (λ (q : Setup). two_before (shard_number dev.0 ev.0 q.shards) target.vcpu ways hit.left []) own_z in
-        let still : y.cache.looked ≡ record { its = 0; number = n; ways = ways } =
-        ap (λ (u : View). u.cache.looked) hit.commits.view
-        ∙ (ap (λ (l : List Held). looked_in l z.cache.looked) (sym (ap (λ (u : View). u.held) hit.commits.view) ∙ owes)
-        ∙ looked_there target.vcpu hit.left n ways [] z.cache.looked (ap (λ (l : Looked). l.its) looked) (ap (λ (l : Looked). l.number) looked)) in (
-          (
-            target,
-            refl,
-            placed_from v x t2 a made (ap (λ (u : View). u.held) hit.home ∙ sym bare),
-            leaves_from v x t2 a made refl,
-            made.tries,
-            finds_last x ways w (Some target) (ap (λ (u : View). u.setup) made.same ∙ own) (ap (λ (u : View). u.cache.looked) hit.home ∙ still)
-                (ap (λ (q : Word). q.stamp) made.last) finds,
-          ),
-          record {
-            early = ap (λ (u : View). u.cache.early) hit.home ∙ (ap (λ (u : View). u.cache.early) hit.commits.view ∙ early.early);
-            word = ap (λ (u : View). u.cache.early_word) hit.home ∙ (ap (λ (u : View). u.cache.early_word) hit.commits.view ∙ early.word);
-          },
-        )
-
-    pub hit_now : (x : View) (now : Now) → HitsNow z w dev ev target ways x now → SignalsNow v dev ev x now × KeepsEarly v x
-    hit_now x (Done p) h = let place = sym h.1 in let reply = sym h.0 in subst (λ (q : Placed Signal). SignalsNow v dev ev x (Done q) × KeepsEarly v x)
-        (λ d. record { place = place d; reply = reply d }) (done_now x h.2)
-    hit_now x (Raced c) h = raced_now x c h
-    hit_now x Miss h = absurd h
-    hit_now x (Busy b) h = absurd h
-    hit_now x Spent h = absurd h
 
   module _ (v v1 : View) (w : Word) (own : v.setup ≡ s) (bare : v.held ≡ []) (looks : Looks v w v1) where
     abbrev p : Part
@@ -241,11 +170,11 @@ module _ (s : Setup) (one : translator_count s ≡ 1) (dev : DeviceId) (ev : Eve
         on3 : GoesOn v t3 v3
         on3 = goes_took v v2 t on2 v3 (part.Redist target.vcpu) (Redist r) third
 
-        pub last3 : v3.last ≡ w
-        last3 = ap (λ (y : View). y.last) third ∙ last2
+        own3 : v3.setup ≡ s
+        own3 = ap (λ (y : View). y.setup) on3.same ∙ own
 
-        seen3 : length v3.seen ≡ w.place
-        seen3 = ap (λ (u : View). length u.seen) (third ∙ ap (λ (u : View). took u (part.Redist target.vcpu) (Redist r)) took_is) ∙ looks.place
+        last3 : v3.last ≡ w
+        last3 = ap (λ (y : View). y.last) third ∙ last2
 
         pub held3 : v3.held ≡ two_before n target.vcpu ways r []
         held3 = ap (λ (y : View). y.held) third ∙ (ap (λ (l : List Held). out (part.Redist target.vcpu) (Redist r) ∷ l) held2
@@ -257,29 +186,67 @@ module _ (s : Setup) (one : translator_count s ≡ 1) (dev : DeviceId) (ev : Eve
         early3 : KeepsEarly v v3
         early3 = record { early = ap (λ (y : View). y.cache.early) third ∙ early2.early; word = ap (λ (y : View). y.cache.early_word) third ∙ early2.word }
 
-        -- others made calls meanwhile, and the stamp is another, or all places are used
-        pub raced_again : (x y : View) (c : Race) → IsRaced v3 w c y → x ≡ record y { held = [] } → SignalsNow v dev ev x (Raced c) × KeepsEarly v x
-        raced_again x y c raced home = raced_now v v3 ways target w own bare on3 early3 looked3 seen3 finds room x c
-            record { left = y; raced = raced; home = home }
+        pub raced_now : (x : View) (c : Race) → HitRaced v3 w c x → SignalsNow v dev ev x (Raced c) × KeepsEarly v x
+        raced_now x c hit =
+            let y = hit.left in
+            let gone = goes_emptied v y t3 (goes_looked v v3 t3 on3 y c.found hit.raced.looks) x hit.home in
+            let expected = subst (λ (z : Word). z.place < s.limits.place_last) (sym hit.raced.expected_is) room in (
+              (
+                target,
+                record {
+                  stays = stays_from v x t3 gone (ap (λ (u : View). u.held) hit.home ∙ sym bare);
+                  tries = gone.tries;
+                  room = subst (λ (z : Setup). c.expected.place < z.limits.place_last) (sym own) expected;
+                  later = subst (λ (z : Word). z.place < c.found.place) (sym hit.raced.expected_is) hit.raced.later;
+                  last = ap (λ (u : View). u.last) hit.home ∙ ap (λ (u : View). u.last) hit.raced.looks.same;
+                  out = λ alone. hit.raced.out (lone_on v v3 t3 on3 alone);
+                },
+              ),
+              record {
+                early = ap (λ (u : View). u.cache.early) hit.home ∙ (ap (λ (u : View). u.cache.early) hit.raced.looks.same ∙ early3.early);
+                word = ap (λ (u : View). u.cache.early_word) hit.home ∙ (ap (λ (u : View). u.cache.early_word) hit.raced.looks.same ∙ early3.word);
+              },
+            )
 
-        -- the word was read again, and the stamp is the same
-        module _ (v4 : View) (z : Word) (again : Looks v3 z v4) (stamp : z.stamp ≡ w.stamp) where
-          pub held4 : v4.held ≡ two_before n target.vcpu ways r []
-          held4 = looked_held v3 v4 z again ∙ held3
+        abbrev a : Commit
+        a = staying w (signal dev ev) (reply.Signal (Delivered target.vcpu target.intid)) Keep
 
-          pub finds4 : found ways dev.0 ev.0 z.stamp ≡ Some target
-          finds4 = ap (found ways dev.0 ev.0) stamp ∙ finds
+        pub done_now : (x : View) → HitMade v3 w dev ev target ways x
+            → SignalsNow v dev ev x (Done (record { place = w.place; reply = Delivered target.vcpu target.intid })) × KeepsEarly v x
+        done_now x hit =
+            let y = hit.made in
+            let seen : length v3.seen ≡ w.place = ap (λ (u : View). length u.seen)
+            (third ∙ ap (λ (u : View). took u (part.Redist target.vcpu) (Redist r)) took_is) ∙ looks.place in
+            let makes = makes_of v3 a y hit.commits seen (subst (λ (z : Setup). w.place < z.limits.place_last) (sym own3) room) in
+            let made = made_emptied v y t3 a (makes_from v v3 t3 on3 a y makes) x hit.home in
+            let owes : y.held ≡ two_before n target.vcpu ways hit.left [] = hit.owes
+            ∙ ap (λ (z : Setup). two_before (shard_number dev.0 ev.0 z.shards) target.vcpu ways hit.left []) own3 in
+            let looked : y.cache.looked ≡ record { its = 0; number = n; ways = ways } =
+            ap (λ (u : View). u.cache.looked) hit.commits.view
+            ∙ (ap (λ (l : List Held). looked_in l v3.cache.looked) (sym (ap (λ (u : View). u.held) hit.commits.view) ∙ owes)
+            ∙ looked_there target.vcpu hit.left n ways [] v3.cache.looked (ap (λ (l : Looked). l.its) looked3) (ap (λ (l : Looked). l.number) looked3)) in (
+              (
+                target,
+                refl,
+                placed_from v x t3 a made (ap (λ (u : View). u.held) hit.home ∙ sym bare),
+                leaves_from v x t3 a made refl,
+                made.tries,
+                finds_last x ways w (Some target) (ap (λ (u : View). u.setup) made.same ∙ own) (ap (λ (u : View). u.cache.looked) hit.home ∙ looked)
+                    (ap (λ (z : Word). z.stamp) made.last) finds,
+              ),
+              record {
+                early = ap (λ (u : View). u.cache.early) hit.home ∙ (ap (λ (u : View). u.cache.early) hit.commits.view ∙ early3.early);
+                word = ap (λ (u : View). u.cache.early_word) hit.home ∙ (ap (λ (u : View). u.cache.early_word) hit.commits.view ∙ early3.word);
+              },
+            )
 
-          early4 : KeepsEarly v v4
-          early4 = record {
-            early = ap (λ (y : View). y.cache.early) again.same ∙ early3.early;
-            word = ap (λ (y : View). y.cache.early_word) again.same ∙ early3.word;
-          }
-
-          pub hit_again : z.place < s.limits.place_last → (x : View) (now : Now) → HitsNow v4 z dev ev target ways x now → SignalsNow v dev ev x now
-              × KeepsEarly v x
-          hit_again here x now hits = hit_now v v4 ways target z own bare (goes_looked v v3 t3 on3 v4 z again) early4
-              (ap (λ (y : View). y.cache.looked) again.same ∙ looked3) again.place finds4 here x now hits
+        pub hit_now : (x : View) (now : Now) → HitsNow v3 w dev ev target ways x now → SignalsNow v dev ev x now × KeepsEarly v x
+        hit_now x (Done p) h = let place = sym h.1 in let reply = sym h.0 in subst (λ (q : Placed Signal). SignalsNow v dev ev x (Done q) × KeepsEarly v x)
+            (λ d. record { place = place d; reply = reply d }) (done_now x h.2)
+        hit_now x (Raced c) h = raced_now x c h
+        hit_now x Miss h = absurd h
+        hit_now x (Busy b) h = absurd h
+        hit_now x Spent h = absurd h
 
 -- ---- the commit
 

@@ -1,13 +1,11 @@
 //! Signals by the cache, which wait for nobody.
-ghost use Rattle.std.specs.Prelude.{◌≡◌, ◌≤◌, ◌<◌, true, Some, [], MatchResult};
+ghost use Rattle.std.specs.Prelude.{◌≡◌, ◌≤◌, ◌<◌, true, Some, []};
 ghost use Rattle.its_types.specs.Ranges.{is_lpi};
 ghost use Rattle.owned_parts.specs.Owned.{redistributor_of, HasLpisOf};
 ghost use Rattle.xlate_cache.specs.Pairs.{shard_number};
 ghost use Rattle.xlate_cache.specs.Ways.{found};
 ghost use Rattle.its_steps.specs.Parts.{vcpu_count};
 ghost use Rattle.its_turns.specs.Machines.{setup, view, IsOf};
-ghost use Rattle.its_turns.specs.Steps.{IsRaced};
-ghost use Rattle.its_turns.specs.Told.{Looks};
 ghost use Rattle.device_port.specs.Hands.{two_before};
 ghost use Rattle.device_port.specs.Hits.{HitsNow};
 ghost use Rattle.device_port.specs.Signals.{SignalsNow, KeepsEarly};
@@ -16,7 +14,7 @@ use crate::home::put_two;
 use its_plain::{Call, Reply, Signal};
 use its_steps::{Commit, ShardChange};
 use its_turns::{
-    Busy, Machine, Pass, Raced, Value, begin, commit, look, put, try_take_redist, try_take_shard,
+    Busy, Machine, Pass, Raced, Value, begin, commit, put, try_take_redist, try_take_shard,
 };
 use its_types::{DeviceId, EventId, Gate, Part, Placed, Point, Target, Word};
 use lpi_pending::Redist;
@@ -78,38 +76,9 @@ pub fn try_signal<G: Gate>(
             return Now::Busy(busy);
         }
     };
-    match again(machine, pass, word) {
-        Ok(now) => hit(
-            machine, pass, gate, now, dev, ev, number, target, shard, redist,
-        ),
-        Err(raced) => {
-            put_two(machine, pass, number, target.vcpu, shard, redist);
-            Now::Raced(raced)
-        }
-    }
-}
-
-// Loads the word again, since others may have made calls while the turns were tried. A commit then
-// seldom loses. What is found under its stamp is current as long as the stamp is the same.
-fn again(machine: &Machine, pass: &mut Pass, word: Word) -> Result<Word, Raced>
-    requires of { IsOf machine.now pass.old }
-    requires last { word ≡ (view pass.old).last }
-    requires room { word.place < (setup machine.now).limits.place_last }
-    ensures of { IsOf machine.now pass.new }
-    ensures result { MatchResult result
-        (λ w. Looks (view pass.old) w (view pass.new) × (w.stamp ≡ word.stamp)
-        × (w.place < (setup machine.now).limits.place_last))
-        (λ r. IsRaced (view pass.old) word r (view pass.new)) }
-{
-    let found = look(machine, pass);
-    if found.stamp == word.stamp && found.place != machine.place_last() {
-        Ok(found)
-    } else {
-        Err(Raced {
-            expected: word,
-            found,
-        })
-    }
+    hit(
+        machine, pass, gate, word, dev, ev, number, target, shard, redist,
+    )
 }
 
 // The pair was found, and both parts are in hand.
