@@ -29,7 +29,9 @@ const LIMIT: usize = 16_777_216;
 /// What the source says, answered.
 #[derive(Drop)]
 pub enum Answer {
+    /// A status with the line after the report, if there is one.
     Answered(Ending),
+    /// A status whose line, if it has one, is always the same.
     Refused(Status),
 }
 

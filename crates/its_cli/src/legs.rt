@@ -27,21 +27,27 @@ use std::thread::Threads;
 /// bytes.
 #[derive(Drop)]
 pub struct Ending {
+    /// What the command ends with.
     pub status: Status,
+    /// With its line feed, or without a byte.
     pub line: String,
 }
 
 /// A machine that the threads of a leg share, with its root.
 #[derive(Drop)]
 pub struct Shared {
+    /// What the threads share.
     pub machine: Machine,
+    /// The pass that each thread's is split off.
     pub root: Root,
 }
 
 /// What came of a leg that isn't the last: the machine goes on, or the run ends.
 #[derive(Drop)]
 enum Goes {
+    /// With the machine as it was migrated.
     On(Shared),
+    /// No later leg runs.
     Ends(Ending),
 }
 
@@ -180,7 +186,7 @@ fn end_spent(
     })
 }
 
-/// Adds the text of a leg.
+/// Adds the text of a leg. The first leg's is the report so far, without a copy.
 fn add_leg(
     alloc: Global,
     report: &mut String,
@@ -201,6 +207,10 @@ fn add_leg(
         end,
     };
     let text = leg_text(alloc, number, &leg)?;
+    if report.is_empty() {
+        *report = text;
+        return Ok(());
+    }
     report.push_str(text.as_str())
 }
 

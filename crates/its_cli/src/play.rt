@@ -9,7 +9,7 @@ use event_script::Phase;
 use its_history::{EntryLine, merge_gives, merge_lines};
 use its_turns::{Machine, Root};
 use its_types::Gate;
-use script_threads::{Stop, run_leg};
+use script_threads::{LegEnd, Stop, run_leg};
 use std::alloc::{AllocError, Global};
 use std::sync::Wait;
 use std::thread::Threads;
@@ -17,7 +17,9 @@ use std::thread::Threads;
 /// The entries of a leg by place, and whether a call had no place left.
 #[derive(Drop)]
 pub struct Played {
+    /// Those of the calls that were made.
     pub lines: Vec<EntryLine>,
+    /// Whether a call wasn't made since all places of the history were used.
     pub spent: bool,
 }
 
@@ -38,13 +40,13 @@ pub fn play_leg<R: Threads + Wait + Sync, G: Gate + Sync>(
     ensures played { IfOk result (λ p.
         IsPlayed (setup machine.now) leg.now p.lines.items p.spent (view root.new).seen) }
 {
-    let end = run_leg(rt, alloc, machine, root, gate, leg)?;
-    let spent = match end.stop {
+    let LegEnd { lists, stop } = run_leg(rt, alloc, machine, root, gate, leg)?;
+    let spent = match stop {
         None => false,
         Some(Stop::Spent) => true,
         Some(Stop::NoMemory) => return Err(AllocError),
     };
     merge_gives();
-    let lines = merge_lines(alloc, end.lists.as_slice())?;
+    let lines = merge_lines(alloc, lists)?;
     Ok(Played { lines, spent })
 }

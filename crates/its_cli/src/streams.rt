@@ -12,8 +12,11 @@ use std::alloc::{AllocError, Global};
 /// Why not all was read.
 #[derive(Clone, Copy, Debug, PartialEq, Eq)]
 pub enum ReadAllError {
+    /// The host ran out of memory.
     Memory,
+    /// A read of the source failed.
     Failed,
+    /// The source has more bytes than the limit.
     TooLong,
 }
 

@@ -5,6 +5,7 @@ ghost use Rattle.std.specs.Prelude.{◌<◌, ◌+◌, ◌^◌, length};
 pub struct Lines<'a> {
     /// That of the first of them.
     pub number: u64,
+    /// From the beginning of a line on.
     pub rest: &'a [u8],
     ghost numbers_fit: { number + length rest.now < 2 ^ 64 },
 }

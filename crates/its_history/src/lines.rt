@@ -10,8 +10,11 @@ use std::str;
 /// What the line of an entry says after its place.
 #[derive(Clone, Copy)]
 pub struct EntryText<'a> {
+    /// Counted from 1 in each leg.
     pub phase: u32,
+    /// Counted from 1 in each phase.
     pub thread: u32,
+    /// The call, an arrow, and the reply.
     pub text: &'a [u8],
 }
 

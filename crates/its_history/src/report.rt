@@ -71,7 +71,7 @@ pub fn reply_text(alloc: Global, reply: &Reply) -> Result<Text, AllocError>
 pub fn answered_text(alloc: Global, call: &Call, reply: &Reply) -> Result<Text, AllocError>
     ensures { IfOk result (λ text. text ≡ answered_text call.now reply.now) }
 {
-    let mut out = String::with_capacity(alloc, 48)?;
+    let mut out = String::with_capacity(alloc, 40)?;
     push_call(alloc, &mut out, call)?;
     out.push_str(" -> ")?;
     push_reply(alloc, &mut out, reply)?;

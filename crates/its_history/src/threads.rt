@@ -30,7 +30,11 @@ pub fn merge(alloc: Global, lists: &[ThreadList]) -> Result<Trace, AllocError>
     ensures same { IfOk result (λ t. IsPermutation (all_lines lists.now) (first_entries t.legs)) }
     ensures rises { IfOk result (λ t. IsNonDecreasingBy (λ l. l.place) (first_entries t.legs)) }
 {
-    let lines = merge_lines(alloc, lists)?;
+    let mut lines = Vec::with_capacity(alloc, count_replies(lists))?;
+    for list in lists {
+        push_list(alloc, &mut lines, list)?;
+    }
+    let lines = by_place(lines)?;
     let mut legs = Listed::new(alloc);
     legs.push(Leg {
         entries: Listed::from_vec(lines),
@@ -40,15 +44,23 @@ pub fn merge(alloc: Global, lists: &[ThreadList]) -> Result<Trace, AllocError>
     Ok(Trace { legs })
 }
 
-/// The lines of the entries of all lists, by place.
-pub fn merge_lines(alloc: Global, lists: &[ThreadList]) -> Result<Vec<EntryLine>, AllocError>
-    ensures same { IfOk result (λ lines. IsPermutation (all_lines lists.now) lines.items) }
+/// The lines of the entries of all lists, by place. Each list goes once its lines stand.
+pub fn merge_lines(alloc: Global, lists: Vec<ThreadList>) -> Result<Vec<EntryLine>, AllocError>
+    ensures same { IfOk result (λ lines.
+        IsPermutation (all_lines lists.entry.items) lines.items) }
     ensures rises { IfOk result (λ lines. IsNonDecreasingBy (λ l. l.place) lines.items) }
 {
-    let mut lines = Vec::with_capacity(alloc, count_replies(lists))?;
+    let mut lines = Vec::with_capacity(alloc, count_replies(lists.as_slice()))?;
     for list in lists {
-        push_list(alloc, &mut lines, list)?;
+        push_list(alloc, &mut lines, &list)?;
     }
+    by_place(lines)
+}
+
+fn by_place(mut lines: Vec<EntryLine>) -> Result<Vec<EntryLine>, AllocError>
+    ensures same { IfOk result (λ sorted. IsPermutation lines.items sorted.items) }
+    ensures rises { IfOk result (λ sorted. IsNonDecreasingBy (λ l. l.place) sorted.items) }
+{
     lines.sort_by_key(|line| line.place)?;
     Ok(lines)
 }

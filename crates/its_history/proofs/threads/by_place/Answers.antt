@@ -1,8 +1,7 @@
-use Rattle.std.proofs.Common.{◌≡◌, ℕ, List, rules}
-use Rattle.std.specs.List.Sorted.{IsNonDecreasingBy}
+use Rattle.std.proofs.Common.{ℕ, rules}
 use Rattle.std.proofs.lemmas.List.Sorted.{IsNonDecreasingBy-from_sort_by_key}
 use Rattle.its_history.specs.declared.trace.EntryLine.{EntryLine}
-use Rattle.its_history.proofs.threads.merge_lines.Goals as goal
+use Rattle.its_history.proofs.threads.by_place.Goals as goal
 
 pub returns-clause-rises : goal.returns-clause-rises
 returns-clause-rises c =
