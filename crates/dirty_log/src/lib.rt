@@ -1,0 +1,12 @@
+//! Which pages of guest memory were written since they were last copied, and the copy.
+#![tactic(auto)]
+
+mod laws;
+mod log;
+mod page;
+mod tracked;
+
+pub use laws::copies_agree;
+pub use log::DirtyLog;
+pub use page::Page;
+pub use tracked::Tracked;
