@@ -1,5 +1,5 @@
 -- A write leaves kept bits alone.
-use Rattle.std.proofs.Common.{ℕ, Bool, true, false, ◌&&◌, ◌||◌, ◌==◌, not, if◌then◌else◌, arith}
+use Rattle.std.proofs.Common.{ℕ, Bool, true, false, ◌||◌, ◌==◌, if◌then◌else◌, arith}
 use Rattle.its_types.specs.Bits.{bit_of}
 use Rattle.its_types.specs.declared.translation.Bases.{Bases}
 use Rattle.gicr_regs.specs.Registers.{AreKept, Sets, WritesKeepBits, asked_by, asked_by_64, asked_by_word, kept_propbaser, kept_pendbaser, with_prop}
@@ -32,7 +32,7 @@ by_64 b k off value =
 by_word : (b : Bases) → AreKept b → (off value : ℕ) → Sets AreKept (asked_by_word b off value)
 unfolding asked_by_word
 by_word b k off value =
-    either (off == 0x0) _ _ (either (bit_of value 0 && not b.on) writes.Enable writes.Ignored tt tt)
+    either (off == 0x0) _ _ (either (bit_of value 0) _ _ (either b.on writes.Ignored writes.Enable tt tt) (either b.on writes.Disable writes.Ignored tt tt))
     (either (off == 0x70) _ _ (set_prop b k (with_low_half (propbaser_value b.prop) value))
     (either (off == 0x74) _ _ (set_prop b k (with_high_half (propbaser_value b.prop) value))
     (either (off == 0x78) _ _ (set_pend b k (with_low_half (pendbaser_value b.pend) value) b.pend.ptz)

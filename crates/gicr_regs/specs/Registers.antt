@@ -1,5 +1,5 @@
 -- The LPI registers of a redistributor (IHI 0069, section 12.11): how each reads, and what a write does.
-use Rattle.std.specs.Prelude.{◌≡◌, ◌<◌, ℕ, ◌+◌, ◌*◌, ◌/◌, ◌%◌, ◌^◌, true, not, ◌&&◌, ◌||◌, ◌==◌, if◌then◌else◌, List, map, take}
+use Rattle.std.specs.Prelude.{◌≡◌, ◌<◌, ℕ, ◌+◌, ◌*◌, ◌/◌, ◌%◌, ◌^◌, Bool, true, false, ◌||◌, ◌==◌, if◌then◌else◌, List, map, take}
 use Rattle.guest_windows.specs.Windows.{Window}
 use Rattle.its_types.specs.Bits.{field, bit_of, bit}
 use Rattle.its_types.specs.Ranges.{is_lpi}
@@ -7,7 +7,7 @@ use Rattle.its_types.specs.declared.machine.Shape.{Shape}
 use Rattle.its_types.specs.declared.translation.Bases.{Bases}
 use Rattle.its_types.specs.declared.translation.Propbaser.{Propbaser}
 use Rattle.its_types.specs.declared.translation.Pendbaser.{Pendbaser}
-use Rattle.gicr_regs.specs.Redistributors.{Redistributor, has_tables, pending_in, config_in, reread_at, reloaded}
+use Rattle.gicr_regs.specs.Redistributors.{Redistributor, has_tables, off_redistributor, pending_in, config_in, reread_at, reloaded}
 use Rattle.gicr_regs.specs.declared.values.GicrRegisters.{GicrRegisters}
 use Rattle.gicr_regs.specs.declared.values.GicrValues.{GicrValues}
 use Rattle.gicr_regs.specs.declared.write.GicrWrite.{GicrWrite}
@@ -38,29 +38,36 @@ low_half whole = whole % 2 ^ 32
 abbrev pub high_half : ℕ → ℕ
 high_half whole = whole / 2 ^ 32
 
+-- What a read has where LPIs can be turned off: bit 1 of GICR_CTLR, which says so, and in both bases bits 11 to 7, Inner Shareable and write-back
+abbrev pub shown_ctlr : Bool → ℕ
+shown_ctlr linux = if linux then 0x2 else 0
+
+abbrev pub shown_base : Bool → ℕ
+shown_base linux = if linux then 0x780 else 0
+
 -- of 4 bytes: GICR_CTLR, or a half of a base
-unfoldable pub read_word : Bases → ℕ → ℕ
-read_word b off =
-    if off == 0x0 then bit b.on
-    else (if off == 0x70 then low_half (propbaser_value b.prop)
-    else (if off == 0x74 then high_half (propbaser_value b.prop)
-    else (if off == 0x78 then low_half (pendbaser_value b.pend)
-    else (if off == 0x7C then high_half (pendbaser_value b.pend)
+unfoldable pub read_word : Bool → Bases → ℕ → ℕ
+read_word linux b off =
+    if off == 0x0 then bit b.on + shown_ctlr linux
+    else (if off == 0x70 then low_half (propbaser_value b.prop + shown_base linux)
+    else (if off == 0x74 then high_half (propbaser_value b.prop + shown_base linux)
+    else (if off == 0x78 then low_half (pendbaser_value b.pend + shown_base linux)
+    else (if off == 0x7C then high_half (pendbaser_value b.pend + shown_base linux)
     else 0))))
 
 -- of 8 bytes: GICR_PROPBASER or GICR_PENDBASER
-unfoldable pub read_64 : Bases → ℕ → ℕ
-read_64 b off = if off == 0x70 then propbaser_value b.prop else (if off == 0x78 then pendbaser_value b.pend else 0)
+unfoldable pub read_64 : Bool → Bases → ℕ → ℕ
+read_64 linux b off = if off == 0x70 then propbaser_value b.prop + shown_base linux else (if off == 0x78 then pendbaser_value b.pend + shown_base linux else 0)
 
 -- a read of so many bytes at an offset: all else reads zero
-unfoldable pub read_gicr : Bases → ℕ → ℕ → ℕ
-read_gicr b off size = if size == 8 then read_64 b off else (if size == 4 then read_word b off else 0)
+unfoldable pub read_gicr : Bool → Bases → ℕ → ℕ → ℕ
+read_gicr linux b off size = if size == 8 then read_64 linux b off else (if size == 4 then read_word linux b off else 0)
 
 -- ---- what a write asks for
 
--- GICR_CTLR: LPIs can be turned on and not off
+-- GICR_CTLR: LPIs are to be on, or off
 abbrev pub asked_by_ctlr : Bases → ℕ → GicrWrite
-asked_by_ctlr b value = if bit_of value 0 && not b.on then writes.Enable else writes.Ignored
+asked_by_ctlr b value = if bit_of value 0 then (if b.on then writes.Ignored else writes.Enable) else (if b.on then writes.Disable else writes.Ignored)
 
 -- the bases are written while LPIs are off
 abbrev pub with_prop : Bases → Propbaser → GicrWrite
@@ -125,6 +132,7 @@ abbrev pub Sets : (Bases → Type 0) → GicrWrite → Type 0
 Sets P (writes.SetBases b) = P b
 Sets P writes.Ignored = Unit {0}
 Sets P writes.Enable = Unit {0}
+Sets P writes.Disable = Unit {0}
 Sets P (writes.Reread intid) = Unit {0}
 Sets P writes.RereadAll = Unit {0}
 
@@ -138,10 +146,15 @@ turned_on s memory r = record {
   config = config_in s memory r;
 }
 
+-- LPIs are off: none is pending, and the bases stay and can be written
+abbrev pub turned_off : Shape → Redistributor → Redistributor
+turned_off s r = off_redistributor s (record r.bases { on = false })
+
 unfoldable pub done_by : Shape → List Window → GicrWrite → Redistributor → Redistributor
 done_by s memory writes.Ignored r = r
 done_by s memory (writes.SetBases b) r = record r { bases = b }
 done_by s memory writes.Enable r = if has_tables s memory r.bases then turned_on s memory r else r
+done_by s memory writes.Disable r = if s.linux then turned_off s r else r
 done_by s memory (writes.Reread intid) r = if is_lpi s.lpi_bits intid.0 then reread_at memory intid.0 r else r
 done_by s memory writes.RereadAll r = reloaded s memory r
 

@@ -1,54 +1,72 @@
-ghost use Rattle.std.specs.Prelude.{◌≡◌, ◌<◌, ◌^◌};
+ghost use Rattle.std.specs.Prelude.{◌≡◌, ◌<◌, ◌≤◌, ◌^◌};
 ghost use Rattle.gicr_regs.specs.Registers as spec;
 
 use crate::offsets;
 use its_types::{Bases, Pendbaser, Propbaser};
 
 /// A read of `size` bytes at an offset of the LPI registers: of 8 bytes a base, of 4 GICR_CTLR or
-/// half of a base. Everything else reads zero, as Pending Table Zero does.
+/// half of a base. Everything else reads zero, as Pending Table Zero does. With `linux` GICR_CTLR
+/// says that LPIs can be turned off, and both bases have the attributes that Linux looks at.
 #[tactic(auto, unfolding(crate::specs::Registers::read_gicr))]
-pub fn read_gicr(bases: &Bases, off: u32, size: u8) -> u64
+pub fn read_gicr(linux: bool, bases: &Bases, off: u32, size: u8) -> u64
     requires { spec.AreLow bases.now }
-    ensures { result ≡ spec.read_gicr bases.now off size }
+    ensures { result ≡ spec.read_gicr linux bases.now off size }
 {
     match size {
-        8 => read_64(bases, off),
-        4 => u64::from(read_word(bases, off)),
+        8 => read_64(linux, bases, off),
+        4 => u64::from(read_word(linux, bases, off)),
         _ => 0,
     }
 }
 
 #[tactic(auto, unfolding(crate::specs::Registers::read_word))]
-fn read_word(bases: &Bases, off: u32) -> u32
+fn read_word(linux: bool, bases: &Bases, off: u32) -> u32
     requires { spec.AreLow bases.now }
-    ensures { result ≡ spec.read_word bases.now off }
+    ensures { result ≡ spec.read_word linux bases.now off }
 {
     match off {
-        offsets::CTLR => u32::from(bases.on),
-        offsets::PROPBASER => low_half(propbaser_value(bases.prop)),
-        offsets::PROPBASER_HIGH => high_half(propbaser_value(bases.prop)),
-        offsets::PENDBASER => low_half(pendbaser_value(bases.pend)),
-        offsets::PENDBASER_HIGH => high_half(pendbaser_value(bases.pend)),
+        offsets::CTLR => u32::from(bases.on) + shown_ctlr(linux),
+        offsets::PROPBASER => low_half(propbaser_value(bases.prop) + shown_base(linux)),
+        offsets::PROPBASER_HIGH => high_half(propbaser_value(bases.prop) + shown_base(linux)),
+        offsets::PENDBASER => low_half(pendbaser_value(bases.pend) + shown_base(linux)),
+        offsets::PENDBASER_HIGH => high_half(pendbaser_value(bases.pend) + shown_base(linux)),
         _ => 0,
     }
 }
 
 #[tactic(auto, unfolding(crate::specs::Registers::read_64))]
-fn read_64(bases: &Bases, off: u32) -> u64
+fn read_64(linux: bool, bases: &Bases, off: u32) -> u64
     requires { spec.AreLow bases.now }
-    ensures { result ≡ spec.read_64 bases.now off }
+    ensures { result ≡ spec.read_64 linux bases.now off }
 {
     match off {
-        offsets::PROPBASER => propbaser_value(bases.prop),
-        offsets::PENDBASER => pendbaser_value(bases.pend),
+        offsets::PROPBASER => propbaser_value(bases.prop) + shown_base(linux),
+        offsets::PENDBASER => pendbaser_value(bases.pend) + shown_base(linux),
         _ => 0,
     }
+}
+
+// Bit 1 of GICR_CTLR: LPIs can be turned off.
+fn shown_ctlr(linux: bool) -> u32
+    ensures shown { result ≡ spec.shown_ctlr linux }
+    ensures low { result ≤ 2 }
+{
+    if linux { 0x2 } else { 0 }
+}
+
+// Bits 11 to 7 of both bases: Inner Shareable and write-back.
+fn shown_base(linux: bool) -> u64
+    ensures shown { result ≡ spec.shown_base linux }
+    ensures low { result ≤ 0x780 }
+{
+    if linux { 0x780 } else { 0 }
 }
 
 /// How GICR_PROPBASER reads.
 pub fn propbaser_value(prop: Propbaser) -> u64
     requires { prop.table.0 < 2 ^ 52 }
-    ensures { result ≡ spec.propbaser_value prop }
+    ensures value { result ≡ spec.propbaser_value prop }
+    ensures low { result < 2 ^ 53 }
 {
     prop.table.0 + u64::from(prop.id_bits)
 }

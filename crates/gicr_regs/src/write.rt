@@ -15,6 +15,8 @@ pub enum GicrWrite {
     SetBases(Bases),
     /// LPIs are to be turned on, where both tables lie in memory.
     Enable,
+    /// LPIs are to be turned off, where the machine lets them.
+    Disable,
     /// The configuration of this LPI is to be read again, where LPIs are on and it is one.
     Reread(Intid),
     /// That of all LPIs is, where LPIs are on.
@@ -75,15 +77,15 @@ fn asked_by_64(bases: &Bases, off: u32, value: u64) -> GicrWrite
     }
 }
 
-// LPIs can be turned on and not off.
+// LPIs are to be on, or off.
 fn asked_by_ctlr(bases: &Bases, value: u32) -> GicrWrite
     ensures asked { result ≡ spec.asked_by_ctlr bases.now value }
     ensures low { spec.Sets spec.AreLow result }
 {
-    if bit_of(u64::from(value), 0) && !bases.on {
-        GicrWrite::Enable
-    } else {
-        GicrWrite::Ignored
+    match (bit_of(u64::from(value), 0), bases.on) {
+        (true, false) => GicrWrite::Enable,
+        (false, true) => GicrWrite::Disable,
+        _ => GicrWrite::Ignored,
     }
 }
 

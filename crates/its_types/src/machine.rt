@@ -61,6 +61,10 @@ pub struct Shape {
     pub lpi_bits: u8,
     /// What a MAPC of a mapped collection does.
     pub profile: Profile,
+    /// Whether it has what a Linux guest counts on: a base register that is written with its own
+    /// value leaves what is mapped as it was; a restore passes over the entry of a collection that
+    /// was named and never mapped, as KVM saves it; LPIs can be turned off.
+    pub linux: bool,
 }
 
 impl Shape {

@@ -71,6 +71,14 @@ impl Config {
         })
     }
 
+    /// Makes all bytes zero.
+    pub fn clear(&mut self)
+        ensures { self.new ≡ spec.zeros self.old.lpi_bits }
+    {
+        self.bytes.fill(0);
+        self.enabled.fill(0);
+    }
+
     /// Reads the configuration table that begins at an address, in place of the bytes of all LPIs.
     /// Where it doesn't lie in one window nothing changes.
     pub fn read_table(&mut self, memory: &Memory, base: Addr)

@@ -49,6 +49,14 @@ impl Bitmap {
         })
     }
 
+    // Makes all bits zero.
+    pub fn clear(&mut self)
+        ensures { self.new ≡ replicate (length self.old) 0 }
+    {
+        self.words.fill(0);
+        self.summary.fill(0);
+    }
+
     /// The 64 bits from bit 64 * `at` on.
     pub fn word(&self, at: usize) -> u64
         requires { at < length self.now }

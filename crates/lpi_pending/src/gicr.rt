@@ -1,6 +1,6 @@
 //! The LPI registers of a redistributor, and what their writes make it read (IHI 0069, section
 //! 12.11).
-ghost use Rattle.std.specs.Prelude.{◌≡◌};
+ghost use Rattle.std.specs.Prelude.{◌≡◌, if◌then◌else◌};
 ghost use Rattle.gicr_regs.specs.Registers.{AreLow};
 ghost use Rattle.gicr_regs.specs.Registers as spec;
 ghost use Rattle.lpi_pending.specs.InHand.{redistributor_of, HasLpisOf};
@@ -12,11 +12,11 @@ use its_types::{Addr, Bases, FIRST_LPI, Intid, Shape};
 
 /// A read of `size` bytes at an offset of a redistributor's LPI registers: of 8 bytes a base, of 4
 /// GICR_CTLR or half of a base. Everything else reads zero, as Pending Table Zero does.
-pub fn gicr_read(redist: &Redist, off: u32, size: u8) -> u64
+pub fn gicr_read(linux: bool, redist: &Redist, off: u32, size: u8) -> u64
     requires { AreLow redist.now.bases }
-    ensures { result ≡ spec.read_gicr redist.now.bases off size }
+    ensures { result ≡ spec.read_gicr linux redist.now.bases off size }
 {
-    read_gicr(&redist.bases, off, size)
+    read_gicr(linux, &redist.bases, off, size)
 }
 
 /// A write of `size` bytes at an offset of a redistributor's LPI registers: what it asks for
@@ -42,6 +42,7 @@ pub fn gicr_write(
         GicrWrite::Ignored => {}
         GicrWrite::SetBases(bases) => redist.bases = bases,
         GicrWrite::Enable => turn_on(redist, memory, shape),
+        GicrWrite::Disable => turn_off(redist, shape),
         GicrWrite::Reread(intid) => reread(redist, memory, shape, intid),
         GicrWrite::RereadAll => reload(redist, memory, shape),
     }
@@ -67,6 +68,22 @@ fn turn_on(redist: &mut Redist, memory: &Memory, shape: &Shape)
             redist.pending.read_table(memory, pend.table);
         }
         redist.bases.on = true;
+    }
+}
+
+// LPIs are off from now on, where the machine lets them.
+fn turn_off(redist: &mut Redist, shape: &Shape)
+    requires { HasLpisOf shape.now redist.old }
+    ensures done { redistributor_of redist.new ≡ (if shape.now.linux
+        then spec.turned_off shape.now (redistributor_of redist.old)
+        else redistributor_of redist.old) }
+    ensures low { AreLow redist.old.bases → AreLow redist.new.bases }
+    ensures lpis { HasLpisOf shape.now redist.new }
+{
+    if shape.linux {
+        redist.config.clear();
+        redist.pending.clear_all();
+        redist.bases.on = false;
     }
 }
 

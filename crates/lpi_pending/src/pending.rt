@@ -160,6 +160,13 @@ impl Pending {
         self.bitmap.move_to(&mut to.bitmap);
     }
 
+    /// Makes none pending.
+    pub fn clear_all(&mut self)
+        ensures { self.new ≡ none_pending self.old.lpi_bits }
+    {
+        self.bitmap.clear();
+    }
+
     /// Makes pending what the pending table that begins at an address says, and nothing else. Where
     /// it doesn't lie in one window nothing changes.
     pub fn read_table(&mut self, memory: &Memory, base: Addr)
