@@ -139,12 +139,15 @@ exact_step = by_exact step_type.enum each_step (none, (one exact_op, (two exact_
 
 abbrev each_region : Each Bool region_type.enum.parts
 each_region = (
-  λ x y. true,
+  λ x y. x.0 == y.0,
   (
-    λ x y. true,
+    λ x y. x.0 == y.0,
     (
-      λ x y. x.0 == y.0,
-      (λ x y. true, (λ x y. x.0.0 == y.0.0, (λ x y. x.0.0 == y.0.0, (λ x y. true, (λ x y. x.0.0 == y.0.0, (λ x y. true, tt)))))),
+      λ x y. x.0 == y.0 && x.1.0 == y.1.0,
+      (
+        λ x y. x.0 == y.0,
+        (λ x y. x.0 == y.0 && x.1.0.0 == y.1.0.0, (λ x y. x.0.0 == y.0.0, (λ x y. true, (λ x y. x.0.0 == y.0.0, (λ x y. x.0 == y.0, tt))))),
+      ),
     ),
   ),
 )
@@ -154,23 +157,29 @@ same_region x y = by false false region_type.enum.parts each_region (region_type
 
 exact_region : Exact same_region
 exact_region = by_exact region_type.enum each_region
-    (none, (none, (one exact_number, (none, (one exact_deviceid, (one exact_vcpu, (none, (one exact_vcpu, (none, tt)))))))))
+    (
+      one exact_number,
+      (
+        one exact_number,
+        (two exact_number exact_number, (one exact_number, (two exact_number exact_deviceid, (one exact_vcpu, (none, (one exact_vcpu, (one exact_number, tt))))))),
+      ),
+    )
 
 abbrev each_fault : Each Bool fault_type.enum.parts
-each_fault = (λ x y. x.0.0 == y.0.0, (λ x y. same_region x.0 y.0, (λ x y. same_region x.0 y.0 && same_region x.1.0 y.1.0, tt)))
+each_fault = (λ x y. x.0 == y.0 && x.1.0.0 == y.1.0.0, (λ x y. same_region x.0 y.0, (λ x y. same_region x.0 y.0 && same_region x.1.0 y.1.0, tt)))
 
 abbrev same_fault : SaveFault → SaveFault → Bool
 same_fault x y = by false false fault_type.enum.parts each_fault (fault_type.enum.as_values x) (fault_type.enum.as_values y)
 
 exact_fault : Exact same_fault
-exact_fault = by_exact fault_type.enum each_fault (one exact_deviceid, (one exact_region, (two exact_region exact_region, tt)))
+exact_fault = by_exact fault_type.enum each_fault (two exact_number exact_deviceid, (one exact_region, (two exact_region exact_region, tt)))
 
 abbrev each_reply : Each Bool reply_type.enum.parts
 each_reply = (
   λ x y. same_signal x.0 y.0,
   (
     λ x y. same_ack x.0 y.0,
-    (λ x y. true, (λ x y. true, (λ x y. same_bytes x.0 y.0, (λ x y. x.0 == y.0, (λ x y. same_step x.0 y.0, (λ x y. true, (λ x y. same_fault x.0 y.0, tt))))))),
+    (λ x y. true, (λ x y. true, (λ x y. same_bytes x.0 y.0, (λ x y. x.0 == y.0, (λ x y. same_step x.0 y.0, (λ x y. true, (λ x y. same_fault x.0 y.0, (λ x y. x.0 == y.0, (λ x y. true, tt))))))))),
   ),
 )
 
@@ -179,4 +188,4 @@ same_reply x y = by false false reply_type.enum.parts each_reply (reply_type.enu
 
 pub exact_reply : Exact same_reply
 exact_reply = by_exact reply_type.enum each_reply
-    (one exact_signal, (one exact_ack, (none, (none, (one exact_bytes, (one exact_number, (one exact_step, (none, (one exact_fault, tt)))))))))
+    (one exact_signal, (one exact_ack, (none, (none, (one exact_bytes, (one exact_number, (one exact_step, (none, (one exact_fault, (one exact_number, (none, tt)))))))))))

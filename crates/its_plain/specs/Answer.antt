@@ -1,20 +1,27 @@
 -- What each call is answered, and the state that it leaves.
-use Rattle.std.specs.Prelude.{ℕ, Bool, not, ◌&&◌, ◌||◌, nat_lt, nat_le, if◌then◌else◌, Option, Some, None, Result, Ok, Err, List, unwrap_or}
+use Rattle.std.specs.Prelude.{ℕ, Bool, not, ◌&&◌, ◌||◌, ◌==◌, nat_lt, nat_le, if◌then◌else◌, Option, Some, None, Result, Ok, Err, List, [], ◌∷◌, length, unwrap_or}
+use Rattle.std.specs.Option.{option_map}
 use Rattle.guest_windows.specs.Windows.{Window, read_at, write_at}
+use Rattle.dirty_log.specs.Pages.{dirty_count, marked}
+use Rattle.dirty_log.specs.Copies.{wrote, caught_up}
+use Rattle.dirty_log.specs.declared.page.Page.{Page}
+use Rattle.dirty_log.specs.declared.tracked.Tracked.{Tracked}
 use Rattle.gicr_regs.specs.Registers.{read_gicr, written_gicr}
-use Rattle.gits_regs.specs.Registers.{Written, read_reg, write_reg, queue_place, is_queue_empty, advanced}
+use Rattle.gits_regs.specs.Registers.{Registers, Written, read_reg, write_reg, queue_place, is_queue_empty, advanced}
 use Rattle.gits_regs.specs.declared.change.RegChange.{RegChange}
 use Rattle.gits_regs.specs.declared.change.RegChange.TheVariants as change
 use Rattle.its_command.specs.Commands.{decoded, op_of}
 use Rattle.its_command.specs.declared.command.Op.{Op}
 use Rattle.its_types.specs.Lpis.{first_enabled, priority_of, without_lpi}
 use Rattle.its_types.specs.Maps.{Maps, devices_emptied, collections_emptied}
+use Rattle.its_types.specs.declared.ids.Addr.{Addr}
+use Rattle.its_types.specs.declared.machine.Shape.{Shape}
 use Rattle.its_types.specs.declared.ids.Target.{Target}
 use Rattle.its_plain.specs.Plain.{Plain, Translator, Redistributor, translator, redistributor, regs_of, with_translator, with_regs, with_redistributor}
 use Rattle.its_plain.specs.Translation.{translated}
 use Rattle.its_plain.specs.Commands.{ran, lpi_set}
 use Rattle.its_plain.specs.Regions.{savable}
-use Rattle.its_plain.specs.Saved.{saved}
+use Rattle.its_plain.specs.Saved.{saved, words_of, wrote_tables}
 use Rattle.its_plain.specs.declared.call.Ack.{Ack}
 use Rattle.its_plain.specs.declared.call.Ack.TheVariants as ack
 use Rattle.its_plain.specs.declared.call.Call.{Call}
@@ -23,6 +30,8 @@ use Rattle.its_plain.specs.declared.call.Cause.{Cause}
 use Rattle.its_plain.specs.declared.call.Reason.{Reason}
 use Rattle.its_plain.specs.declared.call.Reply.{Reply}
 use Rattle.its_plain.specs.declared.call.Reply.TheVariants as reply
+use Rattle.its_plain.specs.declared.call.Route.{Route}
+use Rattle.its_plain.specs.declared.call.Route.TheVariants as route
 use Rattle.its_plain.specs.declared.call.Signal.{Signal}
 use Rattle.its_plain.specs.declared.call.Signal.TheVariants.{Delivered, Dropped}
 use Rattle.its_plain.specs.declared.call.StepReply.{StepReply}
@@ -60,8 +69,13 @@ abbrev pub poke_reply : Option (List Window) → Reply
 poke_reply None = reply.Outside
 poke_reply (Some memory) = reply.Ok
 
+-- where the bytes were written, their pages are dirty
+abbrev pub poke_left : Plain → ℕ → List ℕ → Option (List Window) → Plain
+poke_left u address bytes None = u
+poke_left u address bytes (Some memory) = record u { memory = memory; track = option_map (wrote address (length bytes)) u.track }
+
 abbrev pub poked : Plain → ℕ → List ℕ → Plain
-poked u address bytes = record u { memory = unwrap_or (write_at u.memory address bytes) u.memory }
+poked u address bytes = poke_left u address bytes (write_at u.memory address bytes)
 
 -- 1 to 64 bytes, where one window has them
 abbrev pub peeked : Plain → ℕ → ℕ → Option (List ℕ)
@@ -79,16 +93,21 @@ emptied change.DevicesEmptied m = devices_emptied m
 emptied change.CollectionsEmptied m = collections_emptied m
 emptied _ m = m
 
-abbrev pub translator_written : Translator → Written → Translator
-translator_written t w = record { regs = w.regs; maps = emptied w.change t.maps }
+-- both tables are the same
+abbrev pub has_same_tables : Registers → Registers → Bool
+has_same_tables r r' = r.baser0 == r'.baser0 && r.baser1 == r'.baser1
+
+-- where the shape says so, a table that is named again keeps what is mapped
+abbrev pub translator_written : Shape → Translator → Written → Translator
+translator_written s t w = record { regs = w.regs; maps = if s.linux && has_same_tables t.regs w.regs then t.maps else emptied w.change t.maps }
 
 unfoldable pub written : Plain → ℕ → ℕ → ℕ → ℕ → Plain
-written u i off size value = with_translator u i (translator_written (translator u i) (write_reg (regs_of u i) off size value))
+written u i off size value = with_translator u i (translator_written u.layout.shape (translator u i) (write_reg (regs_of u i) off size value))
 
 -- ---- the LPI registers of redistributors, where the guest programs them
 
 abbrev pub gicr_read : Plain → ℕ → ℕ → ℕ → ℕ
-gicr_read u vcpu off size = if u.layout.gicr then read_gicr (redistributor u vcpu).bases off size else 0
+gicr_read u vcpu off size = if u.layout.gicr then read_gicr u.layout.shape.linux (redistributor u vcpu).bases off size else 0
 
 abbrev pub gicr_written : Plain → ℕ → ℕ → ℕ → ℕ → Plain
 gicr_written u vcpu off size value =
@@ -138,8 +157,26 @@ save_reply (Err fault) = reply.SaveFault fault
 
 -- a refused save changes nothing
 abbrev pub save_left : Plain → Result (Unit {0}) SaveFault → Plain
-save_left u (Ok done) = record u { memory = saved u }
+save_left u (Ok done) = record u { memory = saved u; track = option_map (wrote_tables (words_of u)) u.track }
 save_left u (Err fault) = u
+
+-- ---- copies
+
+-- how many pages are dirty; none is where the machine has no second memory
+abbrev pub copy_count : Option Tracked → ℕ
+copy_count None = 0
+copy_count (Some t) = dirty_count t.log
+
+abbrev pub copy_left : Plain → Plain
+copy_left u = record u { track = option_map (caught_up u.memory) u.track }
+
+-- ---- writes by address
+
+abbrev pub route_reply : Plain → Addr → List ℕ → Route → Reply
+route_reply u addr bytes (route.Signal its dev ev) = reply.Signal (signal_reply (translated u its dev.0 ev.0))
+route_reply u addr bytes route.Poke = poke_reply (write_at u.memory addr.0 bytes)
+route_reply u addr bytes route.NoRequester = reply.NoRequester
+route_reply u addr bytes route.Frame = reply.Outside
 
 -- ---- all calls
 
@@ -155,10 +192,16 @@ reply_of u (call.ReadGicr vcpu off size) = reply.Value (gicr_read u vcpu.0 off s
 reply_of u (call.WriteGicr vcpu off size value) = reply.Ok
 reply_of u (call.Step its) = reply.Step (step_reply u its)
 reply_of u call.Save = save_reply (savable u)
+reply_of u call.Copy = reply.Copied (copy_count u.track)
+reply_of u (call.Dma req addr bytes to) = route_reply u addr bytes to
 
-abbrev replied : Plain → Reply → Plain
+abbrev pub replied : Plain → Reply → Plain
 replied u (reply.Signal s) = signal_left u s
 replied u _ = u
+
+abbrev pub route_left : Plain → Addr → List ℕ → Route → Reply → Plain
+route_left u addr bytes route.Poke r = poked u addr.0 bytes
+route_left u addr bytes to r = replied u r
 
 -- what a call leaves that was answered so
 unfoldable pub left : Plain → Call → Reply → Plain
@@ -173,6 +216,8 @@ left u (call.ReadGicr vcpu off size) r = u
 left u (call.WriteGicr vcpu off size value) r = gicr_written u vcpu.0 off size value
 left u (call.Step its) r = step_left u its
 left u call.Save r = save_left u (savable u)
+left u call.Copy r = copy_left u
+left u (call.Dma req addr bytes to) r = route_left u addr bytes to r
 
 abbrev pub answer : Plain → Call → Reply × Plain
 answer u c = (reply_of u c, left u c (reply_of u c))

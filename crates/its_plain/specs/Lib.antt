@@ -3,6 +3,7 @@ pub mod Plain
 pub mod Translation
 pub mod Commands
 pub mod Answer
+pub mod Doorbells
 pub mod Sound
 pub mod Parts
 pub mod History

@@ -1,5 +1,6 @@
 -- The machine that a description makes, or why it makes none.
-use Rattle.std.specs.Prelude.{◌≡◌, ℕ, ◌+◌, length, replicate, Bool, true, false, if◌then◌else◌, List, [], ◌∷◌, map, Result, Ok, Err}
+use Rattle.std.specs.Prelude.{◌≡◌, ◌≤◌, ℕ, suc, ◌+◌, ◌-◌, ◌^◌, length, replicate, Bool, true, false, not, ◌&&◌, ◌||◌, nat_lt, nat_le, if◌then◌else◌, List, [], ◌∷◌, map, Option, Some, None, Result, Ok, Err}
+use Rattle.std.specs.List.{list_any}
 use Rattle.std.specs.Option.{ok_or}
 use Rattle.guest_windows.specs.Windows.{Window, are_windows, zeros, inside, read_at, write_at}
 use Rattle.guest_windows.specs.Fields.{pairs}
@@ -21,7 +22,11 @@ use Rattle.its_plain.specs.declared.desc.Fill.{Fill}
 use Rattle.its_plain.specs.declared.desc.LpiTables.{LpiTables}
 use Rattle.its_plain.specs.declared.desc.LpiTables.TheVariants.{Described, Registers}
 use Rattle.its_plain.specs.declared.desc.DescFault.{DescFault}
-use Rattle.its_plain.specs.declared.desc.DescFault.TheVariants.{Windows, Config, Pending, Bytes}
+use Rattle.its_plain.specs.declared.desc.DescFault.TheVariants.{Windows, Config, Pending, Bytes, Frames, Requesters as BadRequesters}
+use Rattle.its_plain.specs.declared.desc.Its.{Its}
+use Rattle.its_plain.specs.declared.desc.Requesters.{Requesters}
+use Rattle.its_plain.specs.Doorbells.{frames_size}
+use Rattle.its_plain.specs.Saved.{track_of}
 
 infixl 10 ◌>>=◌
 abbrev pub ◌>>=◌ : {A B : Type 0} → Result A DescFault → (A → Result B DescFault) → Result B DescFault
@@ -53,7 +58,7 @@ registers values = Registers values
 
 -- what a description fixes for good
 abbrev pub layout_of : Desc → Layout
-layout_of d = record { shape = d.shape; gicr = are_programmed d.tables; described = described_in d.tables }
+layout_of d = record { shape = d.shape; gicr = are_programmed d.tables; described = described_in d.tables; track = d.track }
 
 -- each virtual processor has a pending table, unless the guest programs them
 abbrev pub HasTablesFor : ℕ → LpiTables → Type 0
@@ -64,6 +69,8 @@ HasTablesFor vcpus (Registers values) = Unit {0}
 pub record IsDescription (d : Desc) : Type 0 where
   pub shape : IsShape d.shape
   pub tables : HasTablesFor d.shape.vcpus d.tables
+  pub some_translator : 1 ≤ length d.translators
+  pub most_translators : length d.translators ≤ 2
 
 -- ---- checks
 
@@ -78,6 +85,36 @@ abbrev pub tables_inside : Shape → List Window → LpiTables → Result (Unit 
 tables_inside s memory (Described config pending) =
     ensure (inside memory config.0 (lpi_count s.lpi_bits)) Config >>= λ _. pending_inside memory (pending_bytes s.lpi_bits) 0 pending
 tables_inside s memory (Registers values) = Ok tt
+
+-- ---- frames and requesters
+
+-- two stretches share a byte
+abbrev pub share : ℕ × ℕ → ℕ × ℕ → Bool
+share v w = nat_lt v.0 (w.0 + w.1) && nat_lt w.0 (v.0 + v.1)
+
+-- the frames that stand here lie below 2^52, and share no byte with a stretch of the list
+abbrev pub frames_fit : List (ℕ × ℕ) → Addr → Bool
+frames_fit taken base = nat_le (base.0 + frames_size) (2 ^ 52) && not (list_any (share (base.0, frames_size)) taken)
+
+-- each translator's frames fit beside the windows and the frames before them, or the first whose frames don't
+abbrev pub all_frames_fit : List (ℕ × ℕ) → ℕ → List Its → Result (Unit {0}) DescFault
+all_frames_fit taken i [] = Ok tt
+all_frames_fit taken i (t ∷ ts) = elim t.frames [
+  | None ↦ all_frames_fit taken (suc i) ts
+  | Some base ↦ if frames_fit taken base then all_frames_fit ((base.0, frames_size) ∷ taken) (suc i) ts else Err (Frames i)
+]
+
+-- a number of both
+abbrev pub meet : Requesters → Requesters → Bool
+meet r q = nat_le r.first q.last && nat_le q.first r.last
+
+-- there are some, each is a device, and none is one of those before
+abbrev pub are_new : List Requesters → Requesters → Bool
+are_new before r = nat_le r.first r.last && nat_lt (r.dev.0 + (r.last - r.first)) (2 ^ 32) && not (list_any (meet r) before)
+
+abbrev pub all_new : List Requesters → ℕ → List Requesters → Result (Unit {0}) DescFault
+all_new before n [] = Ok tt
+all_new before n (r ∷ rs) = if are_new before r then all_new (r ∷ before) (suc n) rs else Err (BadRequesters n)
 
 -- memory with the bytes that the description puts there, or the first of these fills, from number n on, that doesn't lie in one window
 abbrev pub filled : List Window → ℕ → List Fill → Result (List Window) DescFault
@@ -100,9 +137,10 @@ first_redistributors s memory (Registers values) = Ok (replicate s.vcpus (off_re
 abbrev pub started : Desc → List Window → List Redistributor → Plain
 started d memory redistributors = record {
   layout = layout_of d;
-  translators = record { regs = reset d.shape.dev_bits; maps = no_maps } ∷ [];
+  translators = replicate (length d.translators) (record { regs = reset d.shape.dev_bits; maps = no_maps });
   redistributors = redistributors;
   memory = memory;
+  track = track_of d.track memory;
 }
 
 -- the first state of the machine, or the first thing that is wrong with the description
@@ -111,5 +149,7 @@ made d = do
   _ ← ensure (are_windows (pairs d.windows)) Windows
   _ ← tables_inside d.shape (map zeros (pairs d.windows)) d.tables
   memory ← filled (map zeros (pairs d.windows)) 0 d.fills
+  _ ← all_frames_fit (pairs d.windows) 0 d.translators
+  _ ← all_new [] 0 d.requesters
   redistributors ← first_redistributors d.shape memory d.tables
   Ok (started d memory redistributors)

@@ -15,13 +15,15 @@ use Rattle.its_plain.specs.Translation.{located_target}
 use Rattle.its_plain.specs.Answer.{is_idle, next_bytes}
 use Rattle.its_plain.specs.declared.call.Call.{Call}
 use Rattle.its_plain.specs.declared.call.Call.TheVariants as call
+use Rattle.its_plain.specs.declared.call.Route.{Route}
+use Rattle.its_plain.specs.declared.call.Route.TheVariants as route
 
 -- ---- what a part is
 
--- the part is the same in both states: a translator's registers and maps, guest memory, or a redistributor
+-- the part is the same in both states: a translator's registers and maps, guest memory with its copy, or a redistributor
 abbrev pub SamePart : Plain → Plain → Part → Type 0
 SamePart u w (MapsOf its) = slice_get u.translators its ≡ slice_get w.translators its
-SamePart u w Mem = u.memory ≡ w.memory
+SamePart u w Mem = (u.memory ≡ w.memory) × (u.track ≡ w.track)
 SamePart u w (Shard its n) = Unit {0}
 SamePart u w (Redist vcpu) = slice_get u.redistributors vcpu.0 ≡ slice_get w.redistributors vcpu.0
 
@@ -87,8 +89,19 @@ needed_by u i (Some bytes) = needed u i (decoded bytes)
 abbrev pub needed_next : Plain → ℕ → List Part
 needed_next u i = if is_idle u i then [] else needed_by u i (next_bytes u i)
 
+-- those of a message
+abbrev pub signal_parts : Plain → ℕ → ℕ → ℕ → List Part
+signal_parts u its dev ev = MapsOf its ∷ redist_of (option_map (λ t. t.vcpu) (located_target u its dev ev))
+
+-- those of a write by address
+abbrev pub route_parts : Plain → Route → List Part
+route_parts u (route.Signal its dev ev) = signal_parts u its dev.0 ev.0
+route_parts u route.Poke = Mem ∷ []
+route_parts u route.NoRequester = []
+route_parts u route.Frame = []
+
 unfoldable pub footprint : Plain → Call → List Part
-footprint u (call.Signal its dev ev) = MapsOf its ∷ redist_of (option_map (λ t. t.vcpu) (located_target u its dev.0 ev.0))
+footprint u (call.Signal its dev ev) = signal_parts u its dev.0 ev.0
 footprint u (call.Take vcpu) = Redist vcpu ∷ []
 footprint u (call.Show vcpu) = Redist vcpu ∷ []
 footprint u (call.Poke addr bytes) = Mem ∷ []
@@ -99,6 +112,8 @@ footprint u (call.ReadGicr vcpu off size) = Redist vcpu ∷ []
 footprint u (call.WriteGicr vcpu off size value) = Mem ∷ Redist vcpu ∷ []
 footprint u (call.Step its) = MapsOf its ∷ Mem ∷ needed_next u its
 footprint u call.Save = Mem ∷ translators_below (length u.translators) ++ redists_below (length u.redistributors)
+footprint u call.Copy = Mem ∷ []
+footprint u (call.Dma req addr bytes to) = route_parts u to
 
 -- ---- agreement
 

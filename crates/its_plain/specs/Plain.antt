@@ -1,7 +1,10 @@
 -- The state of the plain translators: no cache, no lock, no table walk.
-use Rattle.std.specs.Prelude.{ℕ, Bool, true, false, List, slice_index_or, slice_set, ◌≡◌, refl}
-use Rattle.std.specs.Coded.{Coded, code_by, coded×, coded_ℕ, coded_list, coded_bool}
+use Rattle.std.specs.Prelude.{ℕ, Bool, true, false, List, slice_index_or, slice_set, Option, ◌≡◌, refl}
+use Rattle.std.specs.Coded.{Coded, code_by, coded×, coded_ℕ, coded_list, coded_bool, coded_option}
 use Rattle.guest_windows.specs.Windows.{Window}
+use Rattle.dirty_log.specs.Pages.{page_code}
+use Rattle.dirty_log.specs.declared.page.Page.{Page}
+use Rattle.dirty_log.specs.declared.tracked.Tracked.{Tracked}
 use Rattle.gits_regs.specs.Registers.{Registers, registers_code, reset}
 use Rattle.its_types.specs.Maps.{Maps, no_maps, maps_code}
 use Rattle.its_types.specs.Lpis.{bases_code}
@@ -25,6 +28,8 @@ pub record Plain : Type 0 where
   pub redistributors : List Redistributor
   -- guest memory
   pub memory : List Window
+  -- its copy, and the pages in which the two may differ, where the machine has one
+  pub track : Option Tracked
 
 -- ---- parts of a state
 
@@ -84,8 +89,16 @@ coded_profile = code_by Bool coded_bool is_two profile_of profile_back
 
 abbrev coded_shape : Coded Shape
 coded_shape =
-    code_by ((ℕ × ℕ) × (ℕ × Profile)) (coded× (coded× coded_ℕ coded_ℕ) (coded× coded_ℕ coded_profile)) (λ s. ((s.vcpus, s.dev_bits), (s.lpi_bits, s.profile)))
-    (λ p. record { vcpus = p.0.0; dev_bits = p.0.1; lpi_bits = p.1.0; profile = p.1.1 }) (λ _. refl)
+    code_by (((ℕ × ℕ) × (ℕ × Profile)) × Bool) (coded× (coded× (coded× coded_ℕ coded_ℕ) (coded× coded_ℕ coded_profile)) coded_bool)
+    (λ s. (((s.vcpus, s.dev_bits), (s.lpi_bits, s.profile)), s.linux))
+    (λ p. record {
+      vcpus = p.0.0.0;
+      dev_bits = p.0.0.1;
+      lpi_bits = p.0.1.0;
+      profile = p.0.1.1;
+      linux = p.1;
+    })
+    (λ _. refl)
 
 abbrev coded_window : Coded Window
 coded_window = code_by (ℕ × List ℕ) (coded× coded_ℕ (coded_list coded_ℕ)) (λ w. (w.base, w.bytes)) (λ p. record { base = p.0; bytes = p.1 }) (λ _. refl)
@@ -95,13 +108,18 @@ translator_code = code_by (Registers × Maps) (coded× registers_code maps_code)
 
 abbrev coded_layout : Coded Layout
 coded_layout =
-    code_by (Shape × (Bool × List Bases)) (coded× coded_shape (coded× coded_bool (coded_list bases_code))) (λ l. (l.shape, (l.gicr, l.described)))
-    (λ p. record { shape = p.0; gicr = p.1.0; described = p.1.1 }) (λ _. refl)
+    code_by (Shape × (Bool × (List Bases × Bool))) (coded× coded_shape (coded× coded_bool (coded× (coded_list bases_code) coded_bool)))
+    (λ l. (l.shape, (l.gicr, (l.described, l.track)))) (λ p. record { shape = p.0; gicr = p.1.0; described = p.1.1.0; track = p.1.1.1 }) (λ _. refl)
+
+abbrev coded_tracked : Coded Tracked
+coded_tracked =
+    code_by (List Window × List Page) (coded× (coded_list coded_window) (coded_list page_code)) (λ t. (t.copy, t.log)) (λ p. record { copy = p.0; log = p.1 })
+    (λ _. refl)
 
 abbrev pub plain_code : Coded Plain
 plain_code =
-    code_by ((Layout × List Translator) × (List Redistributor × List Window)) (coded× (coded× coded_layout (coded_list translator_code))
-    (coded× (coded_list redistributor_code) (coded_list coded_window)))
-    (λ u. ((u.layout, u.translators), (u.redistributors, u.memory)))
-    (λ p. record { layout = p.0.0; translators = p.0.1; redistributors = p.1.0; memory = p.1.1 })
+    code_by ((Layout × List Translator) × (List Redistributor × (List Window × Option Tracked))) (coded× (coded× coded_layout (coded_list translator_code))
+    (coded× (coded_list redistributor_code) (coded× (coded_list coded_window) (coded_option coded_tracked))))
+    (λ u. ((u.layout, u.translators), (u.redistributors, (u.memory, u.track))))
+    (λ p. record { layout = p.0.0; translators = p.0.1; redistributors = p.1.0; memory = p.1.1.0; track = p.1.1.1 })
     (λ _. refl)

@@ -43,46 +43,51 @@ device_pages r = min (pages r.baser0) (level1_entries r.dev_bits)
 abbrev pub collection_pages : Registers → ℕ
 collection_pages r = min (pages r.baser1) 8
 
-abbrev pub page_area : ℕ → Option ℕ → List Area
-page_area k None = []
-page_area k (Some base) = written_area (Page k) base page_size ∷ []
+abbrev pub page_area : ℕ → ℕ → Option ℕ → List Area
+page_area i k None = []
+page_area i k (Some base) = written_area (Page i k) base page_size ∷ []
 
 -- the pages of the first n level-1 entries
-abbrev pub pages_below : Registers → List Window → ℕ → List Area
-pages_below r memory zero = []
-pages_below r memory (suc n) = pages_below r memory n ++ page_area n (page_of (level1_of r memory n))
+abbrev pub pages_below : ℕ → Registers → List Window → ℕ → List Area
+pages_below i r memory zero = []
+pages_below i r memory (suc n) = pages_below i r memory n ++ page_area i n (page_of (level1_of r memory n))
 
 abbrev level1_size : Registers → ℕ
 level1_size r = 8 * level1_entries r.dev_bits
 
-abbrev pub level1_areas : Registers → List Window → List Area
-level1_areas r memory =
-    read_area Level1 (table_base r.baser0) (level1_size r)
-    ∷ (if inside memory (table_base r.baser0) (level1_size r) then pages_below r memory (level1_entries r.dev_bits) else [])
+abbrev pub level1_areas : ℕ → Registers → List Window → List Area
+level1_areas i r memory =
+    read_area (Level1 i) (table_base r.baser0) (level1_size r)
+    ∷ (if inside memory (table_base r.baser0) (level1_size r) then pages_below i r memory (level1_entries r.dev_bits) else [])
 
-unfoldable pub device_areas : Registers → List Window → List Area
-device_areas r memory =
+unfoldable pub device_areas : ℕ → Registers → List Window → List Area
+device_areas i r memory =
     if not (is_valid r.baser0) then []
-    else (if is_indirect r.baser0 then level1_areas r memory else written_area Devices (table_base r.baser0) (page_size * device_pages r) ∷ [])
+    else (if is_indirect r.baser0 then level1_areas i r memory else written_area (Devices i) (table_base r.baser0) (page_size * device_pages r) ∷ [])
 
-abbrev pub collection_areas : Registers → List Area
-collection_areas r = if is_valid r.baser1 then written_area Collections (table_base r.baser1) (page_size * collection_pages r) ∷ [] else []
+abbrev pub collection_areas : ℕ → Registers → List Area
+collection_areas i r = if is_valid r.baser1 then written_area (Collections i) (table_base r.baser1) (page_size * collection_pages r) ∷ [] else []
 
-abbrev pub itt_area : ℕ × Device → Area
-itt_area d = written_area (Itt (record { 0 = d.0 })) d.1.itt.0 (8 * 2 ^ d.1.bits)
+abbrev pub itt_area : ℕ → ℕ × Device → Area
+itt_area i d = written_area (Itt i (record { 0 = d.0 })) d.1.itt.0 (8 * 2 ^ d.1.bits)
 
-abbrev pub itt_areas : Maps → List Area
-itt_areas m = flat_map (λ d. itt_area d ∷ []) (entries m.devices)
+abbrev pub itt_areas : ℕ → Maps → List Area
+itt_areas i m = flat_map (λ d. itt_area i d ∷ []) (entries m.devices)
 
--- the tables of a translator, which have to lie in one window each
-unfoldable pub table_areas : List Window → Translator → List Area
-table_areas memory t = device_areas t.regs memory ++ collection_areas t.regs ++ itt_areas t.maps
+-- the tables of translator number i, which have to lie in one window each
+unfoldable pub table_areas : List Window → ℕ → Translator → List Area
+table_areas memory i t = device_areas i t.regs memory ++ collection_areas i t.regs ++ itt_areas i t.maps
 
-abbrev pub queue_area : Registers → List Area
-queue_area r = if is_valid r.cbaser then read_area Queue (queue_base r) (queue_size r) ∷ [] else []
+abbrev pub queue_area : ℕ → Registers → List Area
+queue_area i r = if is_valid r.cbaser then read_area (Queue i) (queue_base r) (queue_size r) ∷ [] else []
 
-abbrev pub queue_areas : Translator → List Area
-queue_areas t = queue_area t.regs
+abbrev pub queue_areas : ℕ → Translator → List Area
+queue_areas i t = queue_area i t.regs
+
+-- those of each translator, from number i on
+abbrev pub each_areas : (ℕ → Translator → List Area) → ℕ → List Translator → List Area
+each_areas areas i [] = []
+each_areas areas i (t ∷ ts) = areas i t ++ each_areas areas (suc i) ts
 
 -- ---- the areas of the redistributors
 
@@ -108,10 +113,10 @@ config_areas u =
 -- ---- refusals
 
 abbrev pub tables_of : Plain → List Area
-tables_of u = flat_map (table_areas u.memory) u.translators
+tables_of u = each_areas (table_areas u.memory) 0 u.translators
 
 unfoldable pub areas_of : Plain → List Area
-areas_of u = tables_of u ++ areas_from (pending_area u.layout.shape) 0 u.redistributors ++ config_areas u ++ flat_map queue_areas u.translators
+areas_of u = tables_of u ++ areas_from (pending_area u.layout.shape) 0 u.redistributors ++ config_areas u ++ each_areas queue_areas 0 u.translators
 
 abbrev pub is_outside : List Window → Area → Bool
 is_outside memory a = not (inside memory a.base a.size)
@@ -128,13 +133,14 @@ has_no_place r memory d = is_indirect r.baser0 && not (is_some (page_of (level1_
 abbrev pub first_unplaced : List Window → Translator → Option (ℕ × Device)
 first_unplaced memory t = find (has_no_place t.regs memory) (entries t.maps.devices)
 
-abbrev placed_or : Option (ℕ × Device) → Result (Unit {0}) SaveFault → Result (Unit {0}) SaveFault
-placed_or None rest = rest
-placed_or (Some d) rest = Err (NoPlace (record { 0 = d.0 }))
+abbrev placed_or : ℕ → Option (ℕ × Device) → Result (Unit {0}) SaveFault → Result (Unit {0}) SaveFault
+placed_or i None rest = rest
+placed_or i (Some d) rest = Err (NoPlace i (record { 0 = d.0 }))
 
-abbrev pub all_placed : List Window → List Translator → Result (Unit {0}) SaveFault
-all_placed memory [] = Ok tt
-all_placed memory (t ∷ ts) = placed_or (first_unplaced memory t) (all_placed memory ts)
+-- of the translators from number i on
+abbrev pub all_placed : List Window → ℕ → List Translator → Result (Unit {0}) SaveFault
+all_placed memory i [] = Ok tt
+all_placed memory i (t ∷ ts) = placed_or i (first_unplaced memory t) (all_placed memory (suc i) ts)
 
 -- two areas share a byte, and one of them is written
 abbrev pub clash : Area → Area → Bool
@@ -153,5 +159,5 @@ none_overlap (a ∷ areas) = overlap_or a (find (clash a) areas) (none_overlap a
 unfoldable pub savable : Plain → Result (Unit {0}) SaveFault
 savable u = do
   _ ← outside_fault (find (is_outside u.memory) (tables_of u))
-  _ ← all_placed u.memory u.translators
+  _ ← all_placed u.memory 0 u.translators
   none_overlap (areas_of u)

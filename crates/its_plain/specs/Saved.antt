@@ -1,11 +1,13 @@
 -- What a save writes (KVM document arm-vgic-its, "ITS Table ABI REV0"), and the machine that a migration goes on with.
-use Rattle.std.specs.Prelude.{◌≡◌, ℕ, suc, zero, ◌+◌, ◌-◌, ◌*◌, ◌/◌, ◌^◌, not, ◌&&◌, ◌==◌, nat_lt, if◌then◌else◌, min, List, [], ◌∷◌, ◌++◌, map, find, Option}
+use Rattle.std.specs.Prelude.{◌≡◌, ℕ, Bool, suc, zero, ◌+◌, ◌-◌, ◌*◌, ◌/◌, ◌^◌, not, ◌&&◌, ◌==◌, nat_lt, if◌then◌else◌, min, List, [], ◌∷◌, ◌++◌, map, find, Option}
 use Rattle.std.specs.Prelude.{Some, None, unwrap_or, slice_get, Ok}
 use Rattle.std.specs.Option.{option_map}
 use Rattle.std.specs.List.{flat_map}
 use Rattle.std.specs.FinMap.{entries, keys}
 use Rattle.byteorder.specs.Endian.{little_number, little_bytes}
-use Rattle.guest_windows.specs.Windows.{Window, write_at}
+use Rattle.guest_windows.specs.Windows.{Window, write_at, extent}
+use Rattle.dirty_log.specs.Copies.{untouched, wrote}
+use Rattle.dirty_log.specs.declared.tracked.Tracked.{Tracked}
 pub use Rattle.gicr_regs.specs.Redistributors.{reloaded}
 use Rattle.gits_regs.specs.Registers.{is_valid, is_indirect, table_base}
 use Rattle.baser_place.specs.Places.{level1_entries, level1_of, page_of, entry_address}
@@ -36,6 +38,11 @@ put_word memory address word = unwrap_or (write_at memory address (little_bytes 
 abbrev pub put_words : List Window → ℕ → (ℕ → ℕ) → ℕ → List Window
 put_words memory base word zero = memory
 put_words memory base word (suc n) = put_word (put_words memory base word n) (entry_address base n) (word n)
+
+-- the pages of each table are dirty
+abbrev pub wrote_tables : List Words → Tracked → Tracked
+wrote_tables [] t = t
+wrote_tables (w ∷ ws) t = wrote_tables ws (wrote w.base (8 * w.count) t)
 
 abbrev pub put_tables : List Window → List Words → List Window
 put_tables memory [] = memory
@@ -140,9 +147,17 @@ saved u = put_tables u.memory (words_of u)
 abbrev pub IsSavable : Plain → Type 0
 IsSavable u = savable u ≡ Ok tt
 
+-- a copy of zeros, and every page dirty, where there is a copy
+abbrev pub track_of : Bool → List Window → Option Tracked
+track_of tracks memory = if tracks then Some (untouched (map extent memory)) else None
+
 -- the state that a migration goes on from
 unfoldable pub moved : Plain → Plain
-moved u = record u { memory = saved u; redistributors = map (reloaded u.layout.shape (saved u)) u.redistributors }
+moved u = record u {
+  memory = saved u;
+  redistributors = map (reloaded u.layout.shape (saved u)) u.redistributors;
+  track = track_of u.layout.track (saved u);
+}
 
 abbrev pub bases_and_pending : Redistributor → Bases × List ℕ
 bases_and_pending r = (r.bases, r.pending)

@@ -1,8 +1,10 @@
 -- Which states are reached: what holds of every machine, whatever its guest asked.
-use Rattle.std.specs.Prelude.{◌≡◌, ℕ, ◌%◌, ◌^◌, ◌<◌, ◌≤◌, true, false, List, [], length, map, replicate, slice_get, Some}
+use Rattle.std.specs.Prelude.{◌≡◌, ℕ, ◌%◌, ◌^◌, ◌<◌, ◌≤◌, true, false, List, [], length, map, replicate, slice_get, Some, is_some}
 use Rattle.std.specs.List.{AllByRecursion}
 use Rattle.std.specs.List.Sorted.{IsStrictlyIncreasing}
 use Rattle.guest_windows.specs.Windows.{Window, inside, are_windows, extent}
+use Rattle.dirty_log.specs.Copies.{IsTracked}
+use Rattle.dirty_log.specs.declared.tracked.Tracked.{Tracked}
 use Rattle.gicr_regs.specs.Registers.{AreKept}
 use Rattle.gits_regs.specs.Registers as regs
 use Rattle.gits_regs.specs.Registers.{Registers, is_valid, is_indirect, collection_places}
@@ -91,3 +93,5 @@ pub record IsSound (u : Plain) : Type 0 where
   pub vcpus : length u.redistributors ≡ u.layout.shape.vcpus
   pub redistributors : (v : ℕ) (r : Redistributor) → slice_get u.redistributors v ≡ Some r → IsRedistributor u.layout u.memory v r
   pub memory : are_windows (map extent u.memory) ≡ true
+  pub tracks : is_some u.track ≡ u.layout.track
+  pub tracked : (t : Tracked) → u.track ≡ Some t → IsTracked u.memory t

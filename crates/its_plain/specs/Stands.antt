@@ -1,16 +1,16 @@
 -- Which state guest memory and register values stand for, and what their first fault is where they stand for none (KVM
 -- document arm-vgic-its, "ITS Restore Sequence").
-use Rattle.std.specs.Prelude.{◌≡◌, ◌<◌, ℕ, Bool, true, false, not, ◌&&◌, List, [], ◌∷◌, length, replicate, slice_get, Some, Err, ◌↔◌}
+use Rattle.std.specs.Prelude.{◌≡◌, ◌<◌, ℕ, Bool, true, false, not, ◌&&◌, List, [], length, replicate, slice_get, Option, Some, None, Err, ◌↔◌}
 use Rattle.std.specs.Result.{IsOk}
 use Rattle.std.specs.List.Sorted.{IsStrictlyIncreasing}
 use Rattle.guest_windows.specs.Windows.{Window, read_at}
 pub use Rattle.gicr_regs.specs.Redistributors.{is_set}
 use Rattle.gicr_regs.specs.Redistributors.{has_tables}
-use Rattle.gits_regs.specs.Registers.{Registers, masked, restored}
+use Rattle.gits_regs.specs.Registers.{Registers, masked, restored, reset}
 use Rattle.gits_regs.specs.declared.values.NotValid.{NotValid}
 use Rattle.gits_regs.specs.declared.values.RegValues.{RegValues}
 use Rattle.its_types.specs.Lpis.{is_pending}
-use Rattle.its_types.specs.Maps.{Maps, device_of, event_of, collection_of}
+use Rattle.its_types.specs.Maps.{Maps, no_maps, device_of, event_of, collection_of}
 use Rattle.its_types.specs.Ranges.{is_lpi, lpi_count}
 use Rattle.its_types.specs.declared.ids.Vcpu.{Vcpu}
 use Rattle.its_types.specs.declared.machine.Shape.{Shape}
@@ -18,6 +18,7 @@ use Rattle.its_types.specs.declared.translation.Bases.{Bases}
 use Rattle.its_types.specs.declared.translation.Device.{Device}
 use Rattle.its_types.specs.declared.translation.Event.{Event}
 use Rattle.its_plain.specs.Plain.{Plain, Layout, Translator, Redistributor}
+use Rattle.its_plain.specs.Saved.{track_of}
 use Rattle.its_plain.specs.CollectionTables.{AreCollectionsClear, CollectionsOffend, HasCollection}
 use Rattle.its_plain.specs.DeviceTables.{AreDevicesClear, DevicesOffend, HasDevice, HasEventOf}
 use Rattle.its_plain.specs.declared.fault.RestoreFault.{RestoreFault}
@@ -56,9 +57,9 @@ pub record IsRedistributorIn (s : Shape) (memory : List Window) (b : Bases) (r :
 
 -- nothing that is read has a fault, and the maps are just the valid entries at places that are reached
 pub record AreMapsIn (s : Shape) (memory : List Window) (r : Registers) (m : Maps) : Type 0 where
-  pub collections_clear : AreCollectionsClear memory s.vcpus r
+  pub collections_clear : AreCollectionsClear s memory r
   pub devices_clear : AreDevicesClear memory s.lpi_bits r
-  pub collections : (icid : ℕ) (vcpu : Vcpu) → (collection_of m icid ≡ Some vcpu) ↔ HasCollection memory r icid vcpu
+  pub collections : (icid : ℕ) (vcpu : Vcpu) → (collection_of m icid ≡ Some vcpu) ↔ HasCollection s memory r icid vcpu
   pub devices : (dev : ℕ) (d : Device) → (device_of m dev ≡ Some d) ↔ HasDevice memory r dev d
   pub events : (dev ev : ℕ) (e : Event) → (event_of m dev ev ≡ Some e) ↔ HasEventOf memory r dev ev e
 
@@ -67,27 +68,43 @@ pub record IsTranslatorIn (s : Shape) (memory : List Window) (values : RegValues
   pub regs : t.regs ≡ masked values s.dev_bits
   pub maps : AreMapsIn s memory t.regs t.maps
 
+-- one without values starts at reset
+abbrev pub IsTranslatorFrom : Shape → List Window → Option RegValues → Translator → Type 0
+IsTranslatorFrom s memory None t = t ≡ record { regs = reset s.dev_bits; maps = no_maps }
+IsTranslatorFrom s memory (Some values) t = IsTranslatorIn s memory values t
+
+-- the first fault of a translator: of its registers, of its collections, and then of its devices with their events
+pub data TranslatorOffends (s : Shape) (memory : List Window) (values : RegValues) : RestoreFault → Type 0 where
+  of_register : (e : NotValid) → restored values s.dev_bits ≡ Err e → TranslatorOffends s memory values (fault.NotValid e.0)
+  of_collection : (f : RestoreFault) → IsOk (restored values s.dev_bits) → CollectionsOffend s memory (masked values s.dev_bits) f
+      → TranslatorOffends s memory values f
+  of_device : (f : RestoreFault) → IsOk (restored values s.dev_bits) → AreCollectionsClear s memory (masked values s.dev_bits)
+      → DevicesOffend memory s.lpi_bits (masked values s.dev_bits) f → TranslatorOffends s memory values f
+
+-- nothing of it has a fault
+pub record IsTranslatorClear (s : Shape) (memory : List Window) (values : RegValues) : Type 0 where
+  pub registers : IsOk (restored values s.dev_bits)
+  pub collections : AreCollectionsClear s memory (masked values s.dev_bits)
+  pub devices : AreDevicesClear memory s.lpi_bits (masked values s.dev_bits)
+
 -- ---- the machine
 
--- memory and the values of a translator's registers stand for this state, where the redistributors have these bases
-pub record Stands (memory : List Window) (values : RegValues) (layout : Layout) (bases : List Bases) (u : Plain) : Type 0 where
+-- memory and the values of the translators' registers stand for this state, where the redistributors have these bases
+pub record Stands (memory : List Window) (values : List (Option RegValues)) (layout : Layout) (bases : List Bases) (u : Plain) : Type 0 where
   pub clear : AreRedistributorsClear layout.shape memory bases
   pub layout_is : u.layout ≡ layout
   pub memory_is : u.memory ≡ memory
-  pub translator : Translator
-  pub translator_is : u.translators ≡ translator ∷ []
-  pub stands : IsTranslatorIn layout.shape memory values translator
+  pub track_is : u.track ≡ track_of layout.track memory
+  pub count : length u.translators ≡ length values
+  pub translators : (i : ℕ) (v : Option RegValues) (t : Translator) → slice_get values i ≡ Some v → slice_get u.translators i ≡ Some t
+      → IsTranslatorFrom layout.shape memory v t
   pub vcpus : length u.redistributors ≡ length bases
   pub redistributors : (vcpu : ℕ) (b : Bases) (r : Redistributor) → slice_get bases vcpu ≡ Some b → slice_get u.redistributors vcpu ≡ Some r
       → IsRedistributorIn layout.shape memory b r
 
--- the first fault: of the redistributors, of the registers, of the collections, and then of the devices with their events
-pub data IsFirstFault (memory : List Window) (values : RegValues) (s : Shape) (bases : List Bases) : RestoreFault → Type 0 where
-  of_redistributor : (vcpu : ℕ) → RedistributorOffends s memory bases vcpu → IsFirstFault memory values s bases (fault.BadRedist (record { 0 = vcpu }))
-  of_register : (e : NotValid) → AreRedistributorsClear s memory bases → restored values s.dev_bits ≡ Err e
-      → IsFirstFault memory values s bases (fault.NotValid e.0)
-  of_collection : (f : RestoreFault) → AreRedistributorsClear s memory bases → IsOk (restored values s.dev_bits)
-      → CollectionsOffend memory s.vcpus (masked values s.dev_bits) f → IsFirstFault memory values s bases f
-  of_device : (f : RestoreFault) → AreRedistributorsClear s memory bases → IsOk (restored values s.dev_bits)
-      → AreCollectionsClear memory s.vcpus (masked values s.dev_bits) → DevicesOffend memory s.lpi_bits (masked values s.dev_bits) f
-      → IsFirstFault memory values s bases f
+-- The first fault, with the number of its translator: of the redistributors, and then of one translator after another
+pub data IsFirstFault (memory : List Window) (values : List (Option RegValues)) (s : Shape) (bases : List Bases) : ℕ → RestoreFault → Type 0 where
+  of_redistributor : (vcpu : ℕ) → RedistributorOffends s memory bases vcpu → IsFirstFault memory values s bases 0 (fault.BadRedist (record { 0 = vcpu }))
+  of_translator : (i : ℕ) (v : RegValues) (f : RestoreFault) → AreRedistributorsClear s memory bases
+      → ((j : ℕ) (w : RegValues) → j < i → slice_get values j ≡ Some (Some w) → IsTranslatorClear s memory w)
+      → slice_get values i ≡ Some (Some v) → TranslatorOffends s memory v f → IsFirstFault memory values s bases i f

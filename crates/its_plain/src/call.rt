@@ -59,6 +59,36 @@ pub enum Call {
     },
     /// The tables of every translator and redistributor are written to guest memory.
     Save,
+    /// The pages of guest memory that are dirty go to the second memory.
+    Copy,
+    /// A device's write of guest memory by address, which may be a message.
+    Dma {
+        /// The number of the requester.
+        req: u32,
+        /// Where the first byte goes.
+        addr: Addr,
+        /// 1 to 64 bytes.
+        bytes: Bytes64,
+        /// What it is by the description.
+        route: Route,
+    },
+}
+
+/// What a device's write by address is, by the description of the machine.
+#[derive(Clone, Copy, Debug, PartialEq, Eq)]
+pub enum Route {
+    /// A message to a translator.
+    Signal {
+        its: u8,
+        dev: DeviceId,
+        ev: EventId,
+    },
+    /// A write of guest memory.
+    Poke,
+    /// A message of a requester that is no device.
+    NoRequester,
+    /// It meets a frame of a translator, and is no message.
+    Frame,
 }
 
 /// Why a signal went nowhere: the first that applies.
@@ -165,6 +195,10 @@ pub enum Reply {
     Saved,
     /// Nothing was written.
     SaveFault(SaveFault),
+    /// So many pages went to the second memory.
+    Copied(u64),
+    /// Of a message by address whose requester is no device.
+    NoRequester,
 }
 
 /// A call of a pass, and what it was answered.

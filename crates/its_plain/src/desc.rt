@@ -6,7 +6,7 @@ use crate::fault::RestoreFault;
 use crate::layout::Layout;
 use gicr_regs::{GicrValues, restored_bases};
 use gits_regs::RegValues;
-use its_types::{Addr, Bases, Limits, Listed, Shape, Vcpu};
+use its_types::{Addr, Bases, DeviceId, Limits, Listed, Shape, Vcpu};
 use std::alloc::{AllocError, Global};
 
 /// Bytes that a description puts into guest memory.
@@ -29,6 +29,26 @@ pub enum LpiTables {
     Registers(GicrValues),
 }
 
+/// A translator of a machine.
+#[derive(Clone, Copy, Debug)]
+pub struct Its {
+    /// The registers that it is restored with, if it is.
+    pub restore: Option<RegValues>,
+    /// Where its two frames stand, if a device can write there: 131,072 bytes.
+    pub frames: Option<Addr>,
+}
+
+/// Which devices some requesters are.
+#[derive(Clone, Copy, Debug, PartialEq, Eq)]
+pub struct Requesters {
+    /// The first of them.
+    pub first: u32,
+    /// The last of them.
+    pub last: u32,
+    /// The device that the first is. Those after it are the devices after that.
+    pub dev: DeviceId,
+}
+
 /// What a machine is made from.
 #[derive(Debug, Drop)]
 pub struct Desc {
@@ -44,8 +64,12 @@ pub struct Desc {
     pub tables: LpiTables,
     /// Put into memory in their order, before anything is read there.
     pub fills: Listed<Fill>,
-    /// The registers that the machine is restored with, if it is.
-    pub restore: Option<RegValues>,
+    /// One or two.
+    pub translators: Listed<Its>,
+    /// Which devices write by address, in the order of their lines.
+    pub requesters: Listed<Requesters>,
+    /// Whether the machine has a second memory, and knows which pages were written.
+    pub track: bool,
 }
 
 /// Why a description makes no machine: the first that applies.
@@ -59,8 +83,14 @@ pub enum DescFault {
     Pending(Vcpu),
     /// The bytes of this fill, counted from 0, don't lie in one window.
     Bytes(u64),
-    /// Memory and the registers to restore stand for no state: their first fault.
-    Restore(RestoreFault),
+    /// The frames of the translator end past 2^52, or share a byte with a window or with the other
+    /// frames.
+    Frames(u8),
+    /// The requesters of this line, counted from 0, are none, or a device of theirs is past 2^32 - 1,
+    /// or a requester is one of an earlier line.
+    Requesters(u64),
+    /// Memory and the registers to restore of the translator stand for no state: their first fault.
+    Restore(u8, RestoreFault),
 }
 
 impl Desc {
@@ -72,6 +102,7 @@ impl Desc {
             shape: self.shape,
             gicr: self.tables.are_programmed(),
             described: Listed::from_vec(self.tables.described(alloc)?),
+            track: self.track,
         })
     }
 }

@@ -5,19 +5,19 @@ use gits_regs::Register;
 use its_types::{Addr, DeviceId, EventId, Icid, Intid, Vcpu};
 use std::alloc::{AllocError, AllocFailed};
 
-/// A stretch of guest memory that a save looks at.
+/// A stretch of guest memory that a save looks at. Those of a translator begin with its number.
 #[derive(Clone, Copy, Debug, PartialEq, Eq)]
 pub enum Region {
     /// A flat device table.
-    Devices,
+    Devices(u8),
     /// The first level of a device table of two levels.
-    Level1,
+    Level1(u8),
     /// The page of a valid level-1 entry.
-    Page(u32),
+    Page(u8, u32),
     /// The collection table.
-    Collections,
+    Collections(u8),
     /// A device's interrupt translation table.
-    Itt(DeviceId),
+    Itt(u8, DeviceId),
     /// A pending table, from the first LPI's byte on.
     Pending(Vcpu),
     /// The configuration table that all virtual processors share.
@@ -25,14 +25,14 @@ pub enum Region {
     /// A virtual processor's own configuration table.
     ConfigOf(Vcpu),
     /// The command queue.
-    Queue,
+    Queue(u8),
 }
 
 /// Why a state can't be saved: the first that applies.
 #[derive(Clone, Copy, Debug, PartialEq, Eq)]
 pub enum SaveFault {
-    /// The level-1 entry of the device isn't valid.
-    NoPlace(DeviceId),
+    /// The level-1 entry of a translator's device isn't valid.
+    NoPlace(u8, DeviceId),
     /// The region doesn't lie in one window.
     Outside(Region),
     /// The two regions share a byte, and one of them is written.

@@ -14,6 +14,8 @@ pub struct Layout {
     /// For each virtual processor, where its tables are described; none where the guest programs
     /// them.
     pub described: Listed<Bases>,
+    /// Whether the machine has a second memory, and knows which pages were written.
+    pub track: bool,
 }
 
 impl Layout {
@@ -25,6 +27,7 @@ impl Layout {
             shape: self.shape,
             gicr: self.gicr,
             described: Listed::from_vec(Vec::from_slice(alloc, self.described.as_slice())?),
+            track: self.track,
         })
     }
 }

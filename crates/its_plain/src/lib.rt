@@ -13,8 +13,8 @@ mod make;
 
 pub use area::Area;
 pub use bytes64::Bytes64;
-pub use call::{Ack, Call, Cause, CmdReply, Entry, Reason, Reply, Signal, StepReply};
-pub use desc::{Desc, DescFault, Fill, LpiTables};
+pub use call::{Ack, Call, Cause, CmdReply, Entry, Reason, Reply, Route, Signal, StepReply};
+pub use desc::{Desc, DescFault, Fill, Its, LpiTables, Requesters};
 pub use fault::{Region, RestoreFault, SaveError, SaveFault, Table};
 pub use layout::Layout;
 pub use make::MakeError;
