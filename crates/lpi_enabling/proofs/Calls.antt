@@ -1,11 +1,14 @@
 -- What each call does to whether LPIs are on, and which replies tell of an LPI.
 use Rattle.std.proofs.Common.{◌≡◌, ℕ, Bool, true, false, List, [], Option, Some, None, Result, Ok, Err, IfOk, if◌then◌else◌, refl, sym, ap, subst, ◌∙◌, inl}
-use Rattle.std.proofs.Common.{inr}
+use Rattle.std.proofs.Common.{inr, ⊎_elim, length, set, length-set, get_or-set_same, arith}
+use Rattle.std.proofs.lemmas.List.{get_or_past}
 use Rattle.std.specs.Prelude.{◌⊎◌}
-use Rattle.std.proofs.lemmas.Bool.{both_ways, cases_Bool, cond_both, true_from_ne_false}
+use Rattle.std.proofs.lemmas.Bool.{both_ways, cases_Bool, cases_lt, cond_both, true_from_ne_false}
 use Rattle.gicr_regs.specs.Redistributors.{reloaded}
 use Rattle.gicr_regs.specs.Registers.{written_gicr}
+use Rattle.guest_windows.specs.Windows.{Window, write_at}
 use Rattle.its_types.specs.Lpis.{first_enabled, is_pending}
+use Rattle.its_types.specs.declared.ids.Addr.{Addr}
 use Rattle.its_types.specs.declared.ids.DeviceId.{DeviceId}
 use Rattle.its_types.specs.declared.ids.EventId.{EventId}
 use Rattle.its_types.specs.declared.ids.Target.{Target}
@@ -15,21 +18,23 @@ use Rattle.its_plain.specs.Plain.{Plain, Redistributor, redistributor, no_redist
 use Rattle.its_plain.specs.Translation.{translated, located, ensure, ◌>>=◌}
 use Rattle.its_plain.specs.Commands.{ran}
 use Rattle.its_plain.specs.Answer.{answer, reply_of, left, signal_left, signal_reply, ack_of, lowest, taken, written, is_idle, next_bytes, met_left, step_left}
-use Rattle.its_plain.specs.Answer.{command_left, save_left}
+use Rattle.its_plain.specs.Answer.{command_left, save_left, poke_reply, poke_left, route_reply, route_left}
 use Rattle.its_plain.specs.Regions.{savable}
 use Rattle.its_plain.specs.Saved.{saved, moved}
 use Rattle.its_plain.specs.declared.call.Call.{Call}
 use Rattle.its_plain.specs.declared.call.Call.TheVariants as call
+use Rattle.its_plain.specs.declared.call.Route.{Route}
+use Rattle.its_plain.specs.declared.call.Route.TheVariants as route
 use Rattle.its_plain.specs.declared.call.Cause.{Cause}
 use Rattle.its_plain.specs.declared.call.Cause.TheVariants.{LpisOff}
 use Rattle.its_plain.specs.declared.call.Reason.{Reason}
 use Rattle.its_plain.specs.declared.call.Reply.TheVariants as reply
 use Rattle.its_plain.specs.declared.fault.SaveFault.{SaveFault}
-use Rattle.lpi_enabling.specs.Enabling.{WritesEnableLpis, TurnsOn, TellsLpi}
-use Rattle.lpi_enabling.specs.Laws.{LpisStayOn, OnlyAWriteTurnsOn, MigrationsKeepOn}
+use Rattle.lpi_enabling.specs.Enabling.{WritesEnableLpis, Disables, TurnsOn, TellsLpi}
+use Rattle.lpi_enabling.specs.Laws.{LpisStayOn, LpisAreTurnedOff, OnlyAWriteTurnsOn, MigrationsKeepOn}
 use Rattle.lpi_enabling.proofs.Kept.{Keeps, kept, kept_without, AllKeep, all_kept, at_set, at_map, set_kept, reloaded_kept}
 use Rattle.lpi_enabling.proofs.Commands.{ran_kept}
-use Rattle.lpi_enabling.proofs.Writes.{Goes, goes, goes_by, IsEnabling, written_goes}
+use Rattle.lpi_enabling.proofs.Writes.{Goes, goes, goes_by, IsEnabling, IsDisabling, written_goes, written_off}
 
 -- ---- signals
 
@@ -86,13 +91,24 @@ unfolding moved
 migrated_kept u k = at_map Keeps (reloaded u.layout.shape (saved u)) u.redistributors k no_redistributor (reloaded_kept u.layout.shape (saved u))
     (kept no_redistributor)
 
+poke_kept : (u : Plain) (address : ℕ) (bytes : List ℕ) (o : Option (List Window)) → AllKeep u (poke_left u address bytes o)
+poke_kept u address bytes None = all_kept u
+poke_kept u address bytes (Some memory) = all_kept u
+
+-- a write by address does what its route does
+route_kept : (u : Plain) (addr : Addr) (bytes : List ℕ) (to : Route) → AllKeep u (route_left u addr bytes to (route_reply u addr bytes to))
+route_kept u addr bytes (route.Signal its dev ev) = signal_kept u (translated u its dev.0 ev.0) (goes_where_on u its dev.0 ev.0)
+route_kept u addr bytes route.Poke = poke_kept u addr.0 bytes (write_at u.memory addr.0 bytes)
+route_kept u addr bytes route.NoRequester = all_kept u
+route_kept u addr bytes route.Frame = all_kept u
+
 -- ---- all calls
 
 abbrev AllGo : Plain → Call → Plain → Type 0
-AllGo u c w = (v : ℕ) → Goes (WritesEnableLpis v c) (redistributor u v) (redistributor w v)
+AllGo u c w = (v : ℕ) → Goes (WritesEnableLpis v c) (Disables u v c) (redistributor u v) (redistributor w v)
 
 all_go : (u : Plain) (c : Call) (w : Plain) → AllKeep u w → AllGo u c w
-all_go u c w k v = goes (WritesEnableLpis v c) (redistributor u v) (redistributor w v) (k v)
+all_go u c w k v = goes (WritesEnableLpis v c) (Disables u v c) (redistributor u v) (redistributor w v) (k v)
 
 module _ (u : Plain) (vcpu : Vcpu) (off size value : ℕ) where
   abbrev written_to : Redistributor
@@ -101,12 +117,13 @@ module _ (u : Plain) (vcpu : Vcpu) (off size value : ℕ) where
   gicr_goes : AllGo u (call.WriteGicr vcpu off size value) (if u.layout.gicr then with_redistributor u vcpu.0 written_to else u)
   gicr_goes =
       let c : Call = call.WriteGicr vcpu off size value in
-      let here : Goes (WritesEnableLpis vcpu.0 c) (redistributor u vcpu.0) written_to =
-      goes_by (IsEnabling off size value) (WritesEnableLpis vcpu.0 c) (redistributor u vcpu.0) written_to (λ p. (refl, p.0, p.1, p.2))
+      let here : u.layout.gicr ≡ true → Goes (WritesEnableLpis vcpu.0 c) (Disables u vcpu.0 c) (redistributor u vcpu.0) written_to = λ gicr.
+      goes_by (IsEnabling off size value) ((u.layout.shape.linux ≡ true) × IsDisabling off size value) (WritesEnableLpis vcpu.0 c) (Disables u vcpu.0 c)
+      (redistributor u vcpu.0) written_to (λ p. (refl, p.0, p.1, p.2)) (λ q. (gicr, q.0, (refl, q.1.0, q.1.1, q.1.2)))
       (written_goes u.layout.shape u.memory (redistributor u vcpu.0) off size value) in
       cond_both u.layout.gicr (with_redistributor u vcpu.0 written_to) u (AllGo u c)
-      (λ _ k. at_set (λ n. Goes (WritesEnableLpis n c)) u.redistributors vcpu.0 k written_to no_redistributor (λ n r. goes (WritesEnableLpis n c) r r (kept r))
-      here)
+      (λ gicr k. at_set (λ n. Goes (WritesEnableLpis n c) (Disables u n c)) u.redistributors vcpu.0 k written_to no_redistributor
+      (λ n r. goes (WritesEnableLpis n c) (Disables u n c) r r (kept r)) (here gicr))
       (λ _. all_go u c u (all_kept u))
 
 calls_keep : (u : Plain) (c : Call) → AllKeep u (answer u c).1 → AllGo u c (answer u c).1
@@ -117,7 +134,7 @@ unfolding reply_of left written
 calls_go u (call.Signal its dev ev) = calls_keep u (call.Signal its dev ev) (signal_kept u (translated u its dev.0 ev.0) (goes_where_on u its dev.0 ev.0))
 calls_go u (call.Take vcpu) = calls_keep u (call.Take vcpu) (take_kept u vcpu.0)
 calls_go u (call.Show vcpu) = calls_keep u (call.Show vcpu) (all_kept u)
-calls_go u (call.Poke addr bytes) = calls_keep u (call.Poke addr bytes) (all_kept u)
+calls_go u (call.Poke addr bytes) = calls_keep u (call.Poke addr bytes) (poke_kept u addr.0 bytes (write_at u.memory addr.0 bytes))
 calls_go u (call.Peek addr count) = calls_keep u (call.Peek addr count) (all_kept u)
 calls_go u (call.ReadReg its off size) = calls_keep u (call.ReadReg its off size) (all_kept u)
 calls_go u (call.WriteReg its off size value) = calls_keep u (call.WriteReg its off size value) (all_kept u)
@@ -125,9 +142,28 @@ calls_go u (call.ReadGicr vcpu off size) = calls_keep u (call.ReadGicr vcpu off 
 calls_go u (call.WriteGicr vcpu off size value) = gicr_goes u vcpu off size value
 calls_go u (call.Step its) = calls_keep u (call.Step its) (step_kept u its)
 calls_go u call.Save = calls_keep u call.Save (save_kept u (savable u))
+calls_go u call.Copy = calls_keep u call.Copy (all_kept u)
+calls_go u (call.Dma req addr bytes to) = calls_keep u (call.Dma req addr bytes to) (route_kept u addr bytes to)
 
 pub stay_on : LpisStayOn
-stay_on u v c on = (calls_go u c v).stays on
+stay_on u v c on none = ⊎_elim (λ x. x) (λ q. absurd (none q)) ((calls_go u c v).stays on)
+
+off_there : (u : Plain) (v k : ℕ) (r : Redistributor) → k ≡ v → r.bases.on ≡ false → is_on (with_redistributor u k r) v ≡ false
+off_there u v k r e off =
+    subst (λ (n : ℕ). is_on (with_redistributor u k r) n ≡ false) e
+    (elim (cases_lt k (length u.redistributors)) [
+      | inl within ↦ ap (λ (x : Redistributor). x.bases.on) (get_or-set_same u.redistributors k r no_redistributor within) ∙ off
+      | inr past ↦ ap (λ (x : Redistributor). x.bases.on) (get_or_past (set u.redistributors k r) k no_redistributor
+          (let size = length-set u.redistributors k r in omega (arith, size, past)))
+    ])
+
+pub turned_off : LpisAreTurnedOff
+unfolding left
+turned_off u v (call.WriteGicr vcpu off size value) d =
+    let x : Redistributor = written_gicr u.layout.shape u.memory (redistributor u vcpu.0) off size value in
+    ap (λ (b : Bool). is_on (if b then with_redistributor u vcpu.0 x else u) v) d.0
+    ∙ off_there u v vcpu.0 x d.2.0 (written_off u.layout.shape u.memory (redistributor u vcpu.0) off size value d.1 (d.2.1, d.2.2, d.2.3))
+turned_off u v c d = absurd d.2
 
 pub only_a_write : OnlyAWriteTurnsOn
 only_a_write u v c off on = record { write = (calls_go u c v).turned off on; off_before = off; on_after = on }
@@ -144,7 +180,7 @@ pub silent_after : (u : Plain) (c : Call) → Silent u → Silent (answer u c).1
 silent_after u c h v off = (calls_go u c v).none (h v) off
 
 pub silent_moved : (u : Plain) → Silent u → Silent (moved u)
-silent_moved u h v off = (goes (Unit {0}) (redistributor u v) (redistributor (moved u) v) (migrated_kept u v)).none (h v) off
+silent_moved u h v off = (goes (Unit {0}) (Unit {0}) (redistributor u v) (redistributor (moved u) v) (migrated_kept u v)).none (h v) off
 
 -- on after a call: they were, or it turned them on
 pub on_after : (u : Plain) (v : ℕ) (c : Call) → is_on (answer u c).1 v ≡ true → (is_on u v ≡ true) ⊎ TurnsOn u v c
@@ -173,6 +209,24 @@ show_tells : (u : Plain) (v : ℕ) (shown : Vcpu) (o : Option ℕ) → Silent u 
 show_tells u v shown None silent e h = absurd h
 show_tells u v shown (Some intid) silent e same = subst (λ k. is_on u k ≡ true) same (lowest_on u shown.0 intid silent e)
 
+module _ (u : Plain) (v req : ℕ) (addr : Addr) (bytes : List ℕ) (to : Route) where
+  message_tells : (r : Result Target Cause) → IfOk r (λ target. is_on u target.vcpu.0 ≡ true)
+      → TellsLpi v (call.Dma req addr bytes to) (reply.Signal (signal_reply r)) → is_on u v ≡ true
+  message_tells (Ok target) on same = subst (λ k. is_on u k ≡ true) same on
+  message_tells (Err cause) on h = absurd h
+
+  poke_tells : (o : Option (List Window)) → TellsLpi v (call.Dma req addr bytes to) (poke_reply o) → is_on u v ≡ true
+  poke_tells None h = absurd h
+  poke_tells (Some memory) h = absurd h
+
+dma_tells : (u : Plain) (v req : ℕ) (addr : Addr) (bytes : List ℕ) (to : Route) → TellsLpi v (call.Dma req addr bytes to) (route_reply u addr bytes to)
+    → is_on u v ≡ true
+dma_tells u v req addr bytes (route.Signal its dev ev) h =
+    message_tells u v req addr bytes (route.Signal its dev ev) (translated u its dev.0 ev.0) (goes_where_on u its dev.0 ev.0) h
+dma_tells u v req addr bytes route.Poke h = poke_tells u v req addr bytes route.Poke (write_at u.memory addr.0 bytes) h
+dma_tells u v req addr bytes route.NoRequester h = absurd h
+dma_tells u v req addr bytes route.Frame h = absurd h
+
 -- a reply that tells of an LPI is given where LPIs are on
 pub tells_on : (u : Plain) (v : ℕ) (c : Call) → Silent u → TellsLpi v c (reply_of u c) → is_on u v ≡ true
 unfolding reply_of
@@ -187,6 +241,8 @@ tells_on u v (call.ReadGicr vcpu off size) silent h = absurd h
 tells_on u v (call.WriteGicr vcpu off size value) silent h = absurd h
 tells_on u v (call.Step its) silent h = absurd h
 tells_on u v call.Save silent h = absurd h
+tells_on u v call.Copy silent h = absurd h
+tells_on u v (call.Dma req addr bytes to) silent h = dma_tells u v req addr bytes to h
 
 -- and an LPI is pending only there
 pub pending_on : (u : Plain) (v intid : ℕ) → Silent u → is_pending intid (pending_of u v) ≡ true → is_on u v ≡ true

@@ -9,9 +9,9 @@ use Rattle.its_plain.specs.Saved.{moved}
 use Rattle.its_plain.specs.Runs.{Leg, IsRun, IsPartialRun}
 use Rattle.its_plain.specs.declared.call.Entry.{Entry}
 use Rattle.its_plain.specs.declared.call.Reply.{Reply}
-use Rattle.lpi_enabling.specs.Enabling.{AllOff, TurnsOnIn, TurnsOnInLegs, state_after, TellsLpi, FollowEnabling}
+use Rattle.lpi_enabling.specs.Enabling.{AllOff, NoneDisables, NoneDisablesInLegs, TurnsOnIn, TurnsOnInLegs, state_after, TellsLpi, FollowEnabling}
 use Rattle.lpi_enabling.specs.Laws.{RunsFollowEnabling, PartialRunsFollowEnabling}
-use Rattle.lpi_enabling.proofs.Calls.{Silent, silent_after, silent_moved, on_after, migrations_keep, tells_on, pending_on}
+use Rattle.lpi_enabling.proofs.Calls.{Silent, silent_after, silent_moved, on_after, turned_off, migrations_keep, tells_on, pending_on}
 
 -- ---- the state before an entry
 
@@ -25,27 +25,34 @@ silent_state u (h ∷ hs) before s = silent_state (moved (after u h)) hs before 
 
 -- ---- what is on was on, or was turned on
 
-on_after_history : (u : Plain) (v : ℕ) (h : List Entry) → is_on (after u h) v ≡ true → (is_on u v ≡ true) ⊎ TurnsOnIn u v h
-on_after_history u v [] on = inl on
+on_after_history : (u : Plain) (v : ℕ) (h : List Entry) → is_on (after u h) v ≡ true
+    → ((is_on u v ≡ true) × NoneDisables u v h) ⊎ TurnsOnIn u v h
+on_after_history u v [] on = inl (on, tt)
 on_after_history u v (e ∷ h) on =
     elim (on_after_history (answer u e.call).1 v h on) [
-      | inl there ↦ elim (on_after u v e.call there) [ inl was ↦ inl was | inr turns ↦ inr (inl turns) ]
+      | inl there ↦ elim (on_after u v e.call there.0) [
+        | inl was ↦ inl (was, ((λ d. both_ways (is_on (answer u e.call).1 v) (turned_off u v e.call d) there.0), there.1))
+        | inr turns ↦ inr (inl (turns, there.1))
+      ]
       | inr turns ↦ inr (inr turns)
     ]
 
 on_in_state : (u : Plain) (v : ℕ) (earlier : List (List Entry)) (before : List Entry) → is_on (state_after u earlier before) v ≡ true
-    → (is_on u v ≡ true) ⊎ TurnsOnInLegs u v (earlier ++ before ∷ [])
-on_in_state u v [] before on = elim (on_after_history u v before on) [ inl was ↦ inl was | inr turns ↦ inr (inl turns) ]
+    → ((is_on u v ≡ true) × NoneDisablesInLegs u v (earlier ++ before ∷ [])) ⊎ TurnsOnInLegs u v (earlier ++ before ∷ [])
+on_in_state u v [] before on = elim (on_after_history u v before on) [ inl was ↦ inl (was.0, (was.1, tt)) | inr turns ↦ inr (inl (turns, tt)) ]
 on_in_state u v (h ∷ hs) before on =
     elim (on_in_state (moved (after u h)) v hs before on) [
-      | inl there ↦ elim (on_after_history u v h (sym (migrations_keep (after u h) v) ∙ there)) [ inl was ↦ inl was | inr turns ↦ inr (inl turns) ]
+      | inl there ↦ elim (on_after_history u v h (sym (migrations_keep (after u h) v) ∙ there.0)) [
+        | inl was ↦ inl (was.0, (was.1, there.1))
+        | inr turns ↦ inr (inl (turns, there.1))
+      ]
       | inr turns ↦ inr (inr turns)
     ]
 
 turned_on : (u : Plain) (v : ℕ) (earlier : List (List Entry)) (before : List Entry) → AllOff u → is_on (state_after u earlier before) v ≡ true
     → TurnsOnInLegs u v (earlier ++ before ∷ [])
 turned_on u v earlier before off on =
-    elim (on_in_state u v earlier before on) [ inl was ↦ absurd (both_ways (is_on u v) (off v).off was) | inr turns ↦ turns ]
+    elim (on_in_state u v earlier before on) [ inl was ↦ absurd (both_ways (is_on u v) (off v).off was.0) | inr turns ↦ turns ]
 
 -- ---- legal legs
 

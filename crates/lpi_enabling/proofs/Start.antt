@@ -1,5 +1,5 @@
 -- The first state of a machine whose LPI registers the guest programs, unless it is restored with LPIs on.
-use Rattle.std.proofs.Common.{◌≡◌, ℕ, zero, suc, ◌<◌, false, List, [], ◌∷◌, length, map, replicate, take, get_or, Option, Some, None, Result, Ok, Err, IfOk}
+use Rattle.std.proofs.Common.{◌≡◌, ℕ, zero, suc, ◌<◌, Bool, true, false, List, [], ◌∷◌, length, map, replicate, take, get_or, Option, Some, None, Result, Ok, Err, IfOk}
 use Rattle.std.proofs.Common.{inl, inr, refl, sym, ap, subst, ◌∙◌}
 use Rattle.std.specs.Prelude.{slice_get}
 use Rattle.std.specs.List.{AllByRecursion}
@@ -17,8 +17,8 @@ use Rattle.its_types.specs.Lpis.{no_bases}
 use Rattle.its_types.specs.declared.machine.Shape.{Shape}
 use Rattle.its_types.specs.declared.translation.Bases.{Bases}
 use Rattle.its_plain.specs.Plain.{Plain, Redistributor, redistributor, no_redistributor}
-use Rattle.its_plain.specs.Described.{StartsAt}
-use Rattle.its_plain.specs.Machine.{made, ensure, ◌>>=◌, tables_inside, filled, first_redistributors, bases_given}
+use Rattle.its_plain.specs.Described.{StartsAt, is_restored, values_of}
+use Rattle.its_plain.specs.Machine.{made, ensure, ◌>>=◌, tables_inside, filled, all_frames_fit, all_new, first_redistributors, bases_given}
 use Rattle.its_plain.specs.Stands.{Stands}
 use Rattle.its_plain.specs.declared.desc.Desc.{Desc}
 use Rattle.its_plain.specs.declared.desc.DescFault.{DescFault}
@@ -65,7 +65,9 @@ made_off d h =
     after_ok AllOff (ensure (are_windows (pairs d.windows)) Windows) _ (λ _.
     after_ok AllOff (tables_inside d.shape empty d.tables) _ (λ _.
     after_ok AllOff (filled empty 0 d.fills) _ (λ memory.
-    with_ok AreOff AllOff (first_redistributors d.shape memory d.tables) _ (first_off d.shape memory d.tables h) (λ rs off. off))))
+    after_ok AllOff (all_frames_fit (pairs d.windows) 0 d.translators) _ (λ _.
+    after_ok AllOff (all_new [] 0 d.requesters) _ (λ _.
+    with_ok AreOff AllOff (first_redistributors d.shape memory d.tables) _ (first_off d.shape memory d.tables h) (λ rs off. off))))))
 
 -- ---- restored
 
@@ -80,7 +82,7 @@ bases_off : (vcpus : ℕ) (t : LpiTables) → RestoresOff t → (k : ℕ) (b : B
 bases_off vcpus (Described config pending) h k b e = absurd h
 bases_off vcpus (Registers values) h k b e = registers_off vcpus values.registers h k b e
 
-standing_off : (memory : List Window) (values : RegValues) (l : Layout) (bases : List Bases) (u : Plain)
+standing_off : (memory : List Window) (values : List (Option RegValues)) (l : Layout) (bases : List Bases) (u : Plain)
     → ((k : ℕ) (b : Bases) → slice_get bases k ≡ Some b → b.on ≡ false)
     → Stands memory values l bases u → AllOff u
 standing_off memory values l bases u off h v =
@@ -95,10 +97,10 @@ standing_off memory values l bases u off h v =
       | inr past ↦ subst IsOff (sym (get_or_past u.redistributors v no_redistributor past)) none_off
     ]
 
-starts_off : (o : Option RegValues) (vcpus : ℕ) (t : LpiTables) (base u : Plain) → RestoresOff t → AllOff base → StartsAt o (bases_given vcpus t) base u
+starts_off : (restored : Bool) (values : List (Option RegValues)) (vcpus : ℕ) (t : LpiTables) (base u : Plain) → RestoresOff t → AllOff base → StartsAt restored values (bases_given vcpus t) base u
     → AllOff u
-starts_off None vcpus t base u h off is = subst AllOff (sym is) off
-starts_off (Some values) vcpus t base u h off is = standing_off base.memory values base.layout (bases_given vcpus t) u (bases_off vcpus t h) is
+starts_off false values vcpus t base u h off is = subst AllOff (sym is) off
+starts_off true values vcpus t base u h off is = standing_off base.memory values base.layout (bases_given vcpus t) u (bases_off vcpus t h) is
 
 pub start_off : MachinesStartOff
-start_off d u is h = starts_off d.restore d.shape.vcpus d.tables is.base u h (if_ok_at AllOff (made d) is.base (made_off d h) is.made_is) is.starts
+start_off d u is h = starts_off (is_restored d) (values_of d) d.shape.vcpus d.tables is.base u h (if_ok_at AllOff (made d) is.base (made_off d h) is.made_is) is.starts

@@ -42,21 +42,39 @@ abbrev pub WritesEnableLpis : ℕ → Call → Type 0
 WritesEnableLpis vcpu (call.WriteGicr written off size value) = (written.0 ≡ vcpu) × (off ≡ 0) × (size ≡ 4) × (bit_of value 0 ≡ true)
 WritesEnableLpis vcpu _ = ⊥
 
+-- the guest writes 0 to it, of a machine that lets it turn LPIs off
+abbrev pub WritesDisableLpis : ℕ → Call → Type 0
+WritesDisableLpis vcpu (call.WriteGicr written off size value) = (written.0 ≡ vcpu) × (off ≡ 0) × (size ≡ 4) × (bit_of value 0 ≡ false)
+WritesDisableLpis vcpu _ = ⊥
+
+abbrev pub Disables : Plain → ℕ → Call → Type 0
+Disables u vcpu c = (u.layout.gicr ≡ true) × (u.layout.shape.linux ≡ true) × WritesDisableLpis vcpu c
+
+-- no call of a history does that, which begins in this state
+abbrev pub NoneDisables : Plain → ℕ → List Entry → Type 0
+NoneDisables u vcpu [] = Unit {0}
+NoneDisables u vcpu (e ∷ h) = (¬ Disables u vcpu e.call) × NoneDisables (answer u e.call).1 vcpu h
+
+-- nor of these legs
+abbrev pub NoneDisablesInLegs : Plain → ℕ → List (List Entry) → Type 0
+NoneDisablesInLegs u vcpu [] = Unit {0}
+NoneDisablesInLegs u vcpu (h ∷ hs) = NoneDisables u vcpu h × NoneDisablesInLegs (moved (after u h)) vcpu hs
+
 -- the write takes effect: LPIs were off before it, and are on after it
 pub record TurnsOn (u : Plain) (vcpu : ℕ) (c : Call) : Type 0 where
   pub write : WritesEnableLpis vcpu c
   pub off_before : is_on u vcpu ≡ false
   pub on_after : is_on (answer u c).1 vcpu ≡ true
 
--- one of the calls of a history does so, which begins in this state
+-- one of the calls of a history does so, which begins in this state, and no later one of it writes 0
 abbrev pub TurnsOnIn : Plain → ℕ → List Entry → Type 0
 TurnsOnIn u vcpu [] = ⊥
-TurnsOnIn u vcpu (e ∷ h) = TurnsOn u vcpu e.call ⊎ TurnsOnIn (answer u e.call).1 vcpu h
+TurnsOnIn u vcpu (e ∷ h) = (TurnsOn u vcpu e.call × NoneDisables (answer u e.call).1 vcpu h) ⊎ TurnsOnIn (answer u e.call).1 vcpu h
 
 -- one of the calls of these legs, of which each but the first goes on from the machine moved
 abbrev pub TurnsOnInLegs : Plain → ℕ → List (List Entry) → Type 0
 TurnsOnInLegs u vcpu [] = ⊥
-TurnsOnInLegs u vcpu (h ∷ hs) = TurnsOnIn u vcpu h ⊎ TurnsOnInLegs (moved (after u h)) vcpu hs
+TurnsOnInLegs u vcpu (h ∷ hs) = (TurnsOnIn u vcpu h × NoneDisablesInLegs (moved (after u h)) vcpu hs) ⊎ TurnsOnInLegs (moved (after u h)) vcpu hs
 
 -- the state that a leg begins in, and then so many calls of it
 abbrev pub state_after : Plain → List (List Entry) → List Entry → Plain
@@ -68,6 +86,7 @@ state_after u (h ∷ hs) before = state_after (moved (after u h)) hs before
 -- an LPI was delivered to the virtual processor, or is the one that it takes or is shown
 abbrev pub TellsLpi : ℕ → Call → Reply → Type 0
 TellsLpi vcpu (call.Signal its dev ev) (reply.Signal (Delivered target intid)) = target.0 ≡ vcpu
+TellsLpi vcpu (call.Dma req addr bytes to) (reply.Signal (Delivered target intid)) = target.0 ≡ vcpu
 TellsLpi vcpu (call.Take taker) (reply.Ack (ack.Some intid priority)) = taker.0 ≡ vcpu
 TellsLpi vcpu (call.Show shown) (reply.Ack (ack.Some intid priority)) = shown.0 ≡ vcpu
 TellsLpi vcpu _ _ = ⊥

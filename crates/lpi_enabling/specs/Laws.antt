@@ -8,13 +8,17 @@ use Rattle.its_plain.specs.Saved.{moved}
 use Rattle.its_plain.specs.declared.call.Call.{Call}
 use Rattle.its_plain.specs.declared.call.Entry.{Entry}
 use Rattle.its_plain.specs.declared.desc.Desc.{Desc}
-use Rattle.lpi_enabling.specs.Enabling.{AllOff, RestoresOff, TurnsOn, FollowEnabling}
+use Rattle.lpi_enabling.specs.Enabling.{AllOff, RestoresOff, TurnsOn, Disables, FollowEnabling}
 
 -- ---- one call, and a migration
 
--- no call turns LPIs off
+-- no call turns LPIs off but a write of 0 to the processor's GICR_CTLR.EnableLPIs, where the machine lets it
 abbrev pub LpisStayOn : Type 0
-LpisStayOn = (u : Plain) (vcpu : ℕ) (c : Call) → is_on u vcpu ≡ true → is_on (answer u c).1 vcpu ≡ true
+LpisStayOn = (u : Plain) (vcpu : ℕ) (c : Call) → is_on u vcpu ≡ true → ¬ Disables u vcpu c → is_on (answer u c).1 vcpu ≡ true
+
+-- after that they are off
+abbrev pub LpisAreTurnedOff : Type 0
+LpisAreTurnedOff = (u : Plain) (vcpu : ℕ) (c : Call) → Disables u vcpu c → is_on (answer u c).1 vcpu ≡ false
 
 -- where they are off before a call and on after it, it wrote 1 to the processor's GICR_CTLR.EnableLPIs
 abbrev pub OnlyAWriteTurnsOn : Type 0

@@ -4,6 +4,7 @@ use Rattle.std.specs.Option.{option_map}
 use Rattle.std.proofs.lemmas.List.{length-set, length-map}
 use Rattle.std.proofs.lemmas.Option.{slice_get-map}
 use Rattle.guest_windows.specs.Windows.{Window}
+use Rattle.dirty_log.specs.declared.tracked.Tracked.{Tracked}
 use Rattle.its_types.specs.Lpis.{is_pending, with_lpi, without_lpi}
 use Rattle.its_types.specs.Maps.{Maps}
 use Rattle.its_types.specs.declared.ids.Vcpu.{Vcpu}
@@ -57,20 +58,21 @@ agree_redist u w ps v r s e a = record {
   parts = λ p here. redists_alike u w v r s p e (a.parts p here);
 }
 
-memories_alike : (u w : Plain) (m n : List Window) (p : Part) → m ≡ n → SamePart u w p → SamePart (record u { memory = m }) (record w { memory = n }) p
-memories_alike u w m n (MapsOf j) e a = a
-memories_alike u w m n Mem e a = e
-memories_alike u w m n (Shard its k) e a = tt
-memories_alike u w m n (Redist v) e a = a
+memories_alike : (u w : Plain) (m n : List Window) (s t : Option Tracked) (p : Part) → m ≡ n → s ≡ t → SamePart u w p
+    → SamePart (record u { memory = m; track = s }) (record w { memory = n; track = t }) p
+memories_alike u w m n s t (MapsOf j) e f a = a
+memories_alike u w m n s t Mem e f a = (e, f)
+memories_alike u w m n s t (Shard its k) e f a = tt
+memories_alike u w m n s t (Redist v) e f a = a
 
-pub agree_memory : (u w : Plain) (ps : List Part) (m n : List Window) → m ≡ n → AgreesOn u w ps → AgreesOn (record u { memory = m })
-    (record w { memory = n }) ps
-agree_memory u w ps m n e a = record {
+pub agree_memory : (u w : Plain) (ps : List Part) (m n : List Window) (s t : Option Tracked) → m ≡ n → s ≡ t → AgreesOn u w ps
+    → AgreesOn (record u { memory = m; track = s }) (record w { memory = n; track = t }) ps
+agree_memory u w ps m n s t e f a = record {
   layout = a.layout;
   translators = a.translators;
   redistributors = a.redistributors;
   parts = λ p here.
-      memories_alike u w m n p e (a.parts p here);
+      memories_alike u w m n s t p e f (a.parts p here);
 }
 
 -- ---- every redistributor changed

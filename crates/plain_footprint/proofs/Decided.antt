@@ -1,9 +1,12 @@
 -- A call's footprint decides what is answered, and what is left in it.
 use Rattle.std.proofs.Common.{◌≡◌, ℕ, Bool, true, false, not, ◌||◌, ◌&&◌, nat_lt, nat_le, List, [], ◌∷◌, ◌++◌, length, Option, Some, None, Result, Ok, Err}
-use Rattle.std.proofs.Common.{refl, ap, subst, unwrap_or, if◌then◌else◌, ◌∙◌}
+use Rattle.std.proofs.Common.{refl, ap, subst, if◌then◌else◌, ◌∙◌}
 use Rattle.std.specs.Option.{option_map}
 use Rattle.std.specs.Result.{result_ok}
 use Rattle.guest_windows.specs.Windows.{Window, read_at, write_at}
+use Rattle.dirty_log.specs.Copies.{wrote, caught_up}
+use Rattle.dirty_log.specs.declared.tracked.Tracked.{Tracked}
+use Rattle.its_types.specs.declared.ids.Addr.{Addr}
 use Rattle.gits_regs.specs.Registers.{queue_place, is_queue_empty, read_reg, write_reg, advanced}
 use Rattle.its_command.specs.Commands.{decoded, op_of}
 use Rattle.its_command.specs.declared.command.Op.{Op}
@@ -17,9 +20,11 @@ use Rattle.its_plain.specs.Translation.{◌>>=◌, ensure, located, translated}
 use Rattle.its_plain.specs.Commands.{ran}
 use Rattle.its_plain.specs.Answer.{signal_reply, signal_left, ack_of, lowest, taken, poke_reply, peek_reply, translator_written, written, command_reply}
 use Rattle.its_plain.specs.Answer.{command_left, save_reply, save_left, is_idle, next_bytes, met_reply, met_left, step_reply, step_left, reply_of, left}
-use Rattle.its_plain.specs.Answer.{answer}
+use Rattle.its_plain.specs.Answer.{answer, poke_left, poked, copy_count, copy_left, route_reply, route_left}
+use Rattle.its_plain.specs.declared.call.Route.{Route}
+use Rattle.its_plain.specs.declared.call.Route.TheVariants as route
 use Rattle.its_plain.specs.Regions.{savable}
-use Rattle.its_plain.specs.Parts.{SamePart, IsIn, AgreesOn, redist, redist_of, translators_below, redists_below, needed, footprint}
+use Rattle.its_plain.specs.Parts.{SamePart, IsIn, AgreesOn, redist, redist_of, translators_below, redists_below, needed, route_parts, footprint}
 use Rattle.its_plain.specs.declared.call.Call.{Call}
 use Rattle.its_plain.specs.declared.call.Call.TheVariants as call
 use Rattle.its_plain.specs.declared.call.Cause.{Cause}
@@ -120,7 +125,7 @@ module _ (u w : Plain) (i : ℕ) where
       let rest : List Part = needed u i (decoded bytes) in
       let ps : List Part = MapsOf i ∷ Mem ∷ rest in
       let here : IsIn (MapsOf i) ps = in_head (MapsOf i) (Mem ∷ rest) in
-      let memory : u.memory ≡ w.memory = a.parts Mem (in_tail Mem (MapsOf i) (Mem ∷ rest) (in_head Mem rest)) in
+      let memory : u.memory ≡ w.memory = (a.parts Mem (in_tail Mem (MapsOf i) (Mem ∷ rest) (in_head Mem rest))).0 in
       let both : Alike ps (ran u i (decoded bytes)) (ran w i (decoded bytes)) =
       ran_alike ps i here u w a memory (decoded bytes) (λ p at. in_tail p (MapsOf i) (Mem ∷ rest) (in_tail p Mem rest at)) in
       let v : Plain = command_left u (ran u i (decoded bytes)) in
@@ -138,7 +143,7 @@ module _ (u w : Plain) (i : ℕ) where
       let ps : List Part = parts_of_step u i (is_idle u i) (next_bytes u i) in
       let rest : List Part = (if is_idle u i then [] else needed_at u i (next_bytes u i)) in
       let same : translator u i ≡ translator w i = translator_same u w ps i (in_head (MapsOf i) (Mem ∷ rest)) a in
-      let memory : u.memory ≡ w.memory = a.parts Mem (in_tail Mem (MapsOf i) (Mem ∷ rest) (in_head Mem rest)) in
+      let memory : u.memory ≡ w.memory = (a.parts Mem (in_tail Mem (MapsOf i) (Mem ∷ rest) (in_head Mem rest))).0 in
       let idle : is_idle u i ≡ is_idle w i = ap (λ (t : Translator). not t.regs.enabled || is_queue_empty t.regs) same in
       let bytes : next_bytes u i ≡ next_bytes w i = (λ d. read_at (memory d) (queue_place (same d).regs) 32) in
       subst (λ (b : Bool). Decided ps (stepped u (is_idle u i) (next_bytes u i)) (stepped w b (next_bytes w i)) (step_leaves u (is_idle u i) (next_bytes u i))
@@ -162,8 +167,8 @@ whole u w a =
     let redistributors : u.redistributors ≡ w.redistributors =
     same_lists u.redistributors w.redistributors a.redistributors (λ v d low. same_or u.redistributors w.redistributors v d
     (a.parts (redist v) (in_tail (redist v) Mem (ts ++ rs) (in_right (redist v) ts rs (redist_below (length u.redistributors) v low))))) in
-    let memory : u.memory ≡ w.memory = a.parts Mem (in_head Mem (ts ++ rs)) in
-    λ d. record { layout = a.layout d; translators = translators d; redistributors = redistributors d; memory = memory d }
+    let both = a.parts Mem (in_head Mem (ts ++ rs)) in
+    λ d. record { layout = a.layout d; translators = translators d; redistributors = redistributors d; memory = both.0 d; track = both.1 d }
 
 save_decided : (u w : Plain) → u ≡ w → Decided (footprint u call.Save) (save_reply (savable u)) (save_reply (savable w)) (save_left u (savable u))
     (save_left w (savable w))
@@ -171,6 +176,45 @@ save_decided u w e =
     subst (λ (v : Plain). Decided (footprint u call.Save) (save_reply (savable u)) (save_reply (savable v)) (save_left u (savable u)) (save_left v (savable v)))
     e
     (refl, λ p here. same_part (save_left u (savable u)) p)
+
+-- ---- guest memory
+
+module _ (u w : Plain) (a : AgreesOn u w (Mem ∷ [])) where
+  memory_is : u.memory ≡ w.memory
+  memory_is = (a.parts Mem (in_head Mem [])).0
+
+  track_is : u.track ≡ w.track
+  track_is = (a.parts Mem (in_head Mem [])).1
+
+  poked_alike : (address : ℕ) (bytes : List ℕ) (o : Option (List Window)) (p : Part) → IsIn p (Mem ∷ [])
+      → SamePart (poke_left u address bytes o) (poke_left w address bytes o) p
+  poked_alike address bytes None = a.parts
+  poked_alike address bytes (Some m) =
+      let marks : Option Tracked → Option Tracked = option_map (wrote address (length bytes)) in
+      (agree_memory u w (Mem ∷ []) m m (marks u.track) (marks w.track) refl (ap marks track_is) a).parts
+
+  copy_decided : Decided (Mem ∷ []) (reply.Copied (copy_count u.track)) (reply.Copied (copy_count w.track)) (copy_left u) (copy_left w)
+  copy_decided = (
+    ap (λ (t : Option Tracked). reply.Copied (copy_count t)) track_is,
+    (agree_memory u w (Mem ∷ []) u.memory w.memory (option_map (caught_up u.memory) u.track) (option_map (caught_up w.memory) w.track) memory_is
+        (λ d. option_map (caught_up (memory_is d)) (track_is d)) a).parts,
+  )
+
+poke_decided : (u w : Plain) (address : ℕ) (bytes : List ℕ) → AgreesOn u w (Mem ∷ [])
+    → Decided (Mem ∷ []) (poke_reply (write_at u.memory address bytes)) (poke_reply (write_at w.memory address bytes)) (poked u address bytes)
+    (poked w address bytes)
+poke_decided u w address bytes a =
+    let same : write_at u.memory address bytes ≡ write_at w.memory address bytes = ap (λ (m : List Window). write_at m address bytes) (memory_is u w a) in
+    subst (λ (o : Option (List Window)). Decided (Mem ∷ []) (poke_reply (write_at u.memory address bytes)) (poke_reply o) (poked u address bytes)
+    (poke_left w address bytes o)) same (refl, poked_alike u w a address bytes (write_at u.memory address bytes))
+
+route_decided : (u w : Plain) (addr : Addr) (bytes : List ℕ) (to : Route) → AgreesOn u w (route_parts u to)
+    → Decided (route_parts u to) (route_reply u addr bytes to) (route_reply w addr bytes to) (route_left u addr bytes to (route_reply u addr bytes to))
+    (route_left w addr bytes to (route_reply w addr bytes to))
+route_decided u w addr bytes (route.Signal its dev ev) a = let d = signal_decided u w its dev.0 ev.0 a in (ap (λ (s : Signal). reply.Signal s) d.0, d.1)
+route_decided u w addr bytes route.Poke a = poke_decided u w addr.0 bytes a
+route_decided u w addr bytes route.NoRequester a = (refl, a.parts)
+route_decided u w addr bytes route.Frame a = (refl, a.parts)
 
 -- ---- all calls
 
@@ -188,32 +232,29 @@ decides u w (call.Show vcpu) a =
     let same : redistributor u vcpu.0 ≡ redistributor w vcpu.0 = redist_same u w (Redist vcpu ∷ []) vcpu.0 (in_head (Redist vcpu) []) a in
     (ap (λ (r : Redistributor). reply.Ack (ack_of r (lowest r))) same, a.parts)
 decides u w (call.Poke addr bytes) a =
-    let same : u.memory ≡ w.memory = a.parts Mem (in_head Mem []) in
-    let after = agree_memory u w (Mem ∷ []) (unwrap_or (write_at u.memory addr.0 bytes) u.memory) (unwrap_or (write_at w.memory addr.0 bytes) w.memory)
-    (ap (λ (m : List Window). unwrap_or (write_at m addr.0 bytes) m) same) a in
-    (ap (λ (m : List Window). poke_reply (write_at m addr.0 bytes)) same, after.parts)
+    poke_decided u w addr.0 bytes a
 decides u w (call.Peek addr count) a =
-    let same : u.memory ≡ w.memory = a.parts Mem (in_head Mem []) in
+    let same : u.memory ≡ w.memory = (a.parts Mem (in_head Mem [])).0 in
     (ap (λ (m : List Window). peek_reply (if nat_lt 0 count && nat_le count 64 then read_at m addr.0 count else None)) same, a.parts)
 decides u w (call.ReadReg its off size) a =
     (ap (λ (t : Translator). reply.Value (read_reg t.regs off size)) (translator_same u w (MapsOf its ∷ []) its (in_head (MapsOf its) []) a), a.parts)
 decides u w (call.WriteReg its off size value) a =
-    let after = agree_translator u w (MapsOf its ∷ []) its (translator_written (translator u its) (write_reg (regs_of u its) off size value))
-    (translator_written (translator w its) (write_reg (regs_of w its) off size value))
-    (ap (λ (t : Translator). translator_written t (write_reg t.regs off size value)) (translator_same u w (MapsOf its ∷ []) its (in_head (MapsOf its) []) a))
-    a in
+    let same : translator u its ≡ translator w its = translator_same u w (MapsOf its ∷ []) its (in_head (MapsOf its) []) a in
+    let after = agree_translator u w (MapsOf its ∷ []) its (translator_written u.layout.shape (translator u its) (write_reg (regs_of u its) off size value))
+    (translator_written w.layout.shape (translator w its) (write_reg (regs_of w its) off size value))
+    (λ d. translator_written (a.layout d).shape (same d) (write_reg (same d).regs off size value)) a in
     (refl, after.parts)
 decides u w (call.ReadGicr vcpu off size) a =
     let same : redistributor u vcpu.0 ≡ redistributor w vcpu.0 = redist_same u w (Redist vcpu ∷ []) vcpu.0 (in_head (Redist vcpu) []) a in (
-      ap (λ (r : Redistributor). reply.Value (if u.layout.gicr then read_gicr r.bases off size else 0)) same
-          ∙ ap (λ (l : Layout). reply.Value (if l.gicr then read_gicr (redistributor w vcpu.0).bases off size else 0)) a.layout,
+      ap (λ (r : Redistributor). reply.Value (if u.layout.gicr then read_gicr u.layout.shape.linux r.bases off size else 0)) same
+          ∙ ap (λ (l : Layout). reply.Value (if l.gicr then read_gicr l.shape.linux (redistributor w vcpu.0).bases off size else 0)) a.layout,
       a.parts,
     )
 decides u w (call.WriteGicr vcpu off size value) a =
     let ps : List Part = Mem ∷ Redist vcpu ∷ [] in
     let same : redistributor u vcpu.0 ≡ redistributor w vcpu.0 = redist_same u w ps vcpu.0
     (in_tail (Redist vcpu) Mem (Redist vcpu ∷ []) (in_head (Redist vcpu) [])) a in
-    let memory : u.memory ≡ w.memory = a.parts Mem (in_head Mem (Redist vcpu ∷ [])) in
+    let memory : u.memory ≡ w.memory = (a.parts Mem (in_head Mem (Redist vcpu ∷ []))).0 in
     let after : (v : Plain) → Redistributor = λ v. written_gicr v.layout.shape v.memory (redistributor v vcpu.0) off size value in
     let new : after u ≡ after w =
     ap (λ (l : Layout). written_gicr l.shape u.memory (redistributor u vcpu.0) off size value) a.layout
@@ -226,3 +267,5 @@ decides u w (call.WriteGicr vcpu off size value) a =
     )
 decides u w (call.Step its) a = let d = step_decided u w its a in (ap (λ (s : StepReply). reply.Step s) d.0, d.1)
 decides u w call.Save a = save_decided u w (whole u w a)
+decides u w call.Copy a = copy_decided u w a
+decides u w (call.Dma req addr bytes to) a = route_decided u w addr bytes to a

@@ -1,9 +1,11 @@
 -- A call changes no part outside its footprint.
-use Rattle.std.proofs.Common.{◌≡◌, ℕ, ◌≤◌, Bool, true, false, List, [], ◌∷◌, ◌++◌, length, Option, Some, None, Result, Ok, Err, sym, subst, unwrap_or}
+use Rattle.std.proofs.Common.{◌≡◌, ℕ, ◌≤◌, Bool, true, false, List, [], ◌∷◌, ◌++◌, length, Option, Some, None, Result, Ok, Err, sym, subst}
 use Rattle.std.proofs.Common.{if◌then◌else◌}
 use Rattle.std.proofs.lemmas.Bool.{cond_both}
 use Rattle.std.proofs.lemmas.Option.{slice_get_past}
-use Rattle.guest_windows.specs.Windows.{write_at}
+use Rattle.guest_windows.specs.Windows.{Window, write_at}
+use Rattle.dirty_log.specs.Copies.{wrote, caught_up}
+use Rattle.std.specs.Option.{option_map}
 use Rattle.gits_regs.specs.Registers.{write_reg, advanced}
 use Rattle.its_command.specs.Commands.{decoded}
 use Rattle.its_types.specs.Lpis.{with_lpi}
@@ -16,11 +18,14 @@ use Rattle.its_plain.specs.Sound.{IsSound}
 use Rattle.its_plain.specs.Translation.{◌>>=◌, ensure, located, translated}
 use Rattle.its_plain.specs.Commands.{ran}
 use Rattle.its_plain.specs.Answer.{signal_reply, signal_left, lowest, taken, translator_written, written, command_left, save_left, is_idle, next_bytes}
-use Rattle.its_plain.specs.Answer.{met_left, step_left, reply_of, left, answer}
+use Rattle.its_plain.specs.Answer.{met_left, step_left, poke_left, route_reply, route_left, reply_of, left, answer}
+use Rattle.its_types.specs.declared.ids.Addr.{Addr}
+use Rattle.its_plain.specs.declared.call.Route.{Route}
+use Rattle.its_plain.specs.declared.call.Route.TheVariants as route
 use Rattle.its_plain.specs.Regions.{savable}
-use Rattle.its_plain.specs.Saved.{saved}
+use Rattle.its_plain.specs.Saved.{saved, words_of, wrote_tables}
 use Rattle.its_plain.specs.declared.fault.SaveFault.{SaveFault}
-use Rattle.its_plain.specs.Parts.{SamePart, IsIn, every_redist, translators_below, redists_below, needed, footprint}
+use Rattle.its_plain.specs.Parts.{SamePart, IsIn, every_redist, translators_below, redists_below, needed, route_parts, footprint}
 use Rattle.its_plain.specs.declared.call.Call.{Call}
 use Rattle.its_plain.specs.declared.call.Call.TheVariants as call
 use Rattle.its_plain.specs.declared.call.Cause.{Cause}
@@ -84,8 +89,21 @@ save_stays : (u : Plain) (r : Result (Unit {0}) SaveFault) → Stay u (footprint
 unfolding footprint
 save_stays u (Ok done) =
     let ps : List Part = translators_below (length u.translators) ++ redists_below (length u.redistributors) in
-    stay_memory u u (Mem ∷ ps) (saved u) (in_head Mem ps) (stay u (Mem ∷ ps))
+    stay_memory u u (Mem ∷ ps) (saved u) (option_map (wrote_tables (words_of u)) u.track) (in_head Mem ps) (stay u (Mem ∷ ps))
 save_stays u (Err fault) = stay u (Mem ∷ translators_below (length u.translators) ++ redists_below (length u.redistributors))
+
+-- ---- guest memory
+
+poke_stays : (u : Plain) (address : ℕ) (bytes : List ℕ) (o : Option (List Window)) → Stay u (Mem ∷ []) (poke_left u address bytes o)
+poke_stays u address bytes None = stay u (Mem ∷ [])
+poke_stays u address bytes (Some memory) = stay_memory u u (Mem ∷ []) memory (option_map (wrote address (length bytes)) u.track) (in_head Mem [])
+    (stay u (Mem ∷ []))
+
+route_stays : (u : Plain) (addr : Addr) (bytes : List ℕ) (to : Route) → Stay u (route_parts u to) (route_left u addr bytes to (route_reply u addr bytes to))
+route_stays u addr bytes (route.Signal its dev ev) = signal_stays u its dev.0 ev.0
+route_stays u addr bytes route.Poke = poke_stays u addr.0 bytes (write_at u.memory addr.0 bytes)
+route_stays u addr bytes route.NoRequester = stay u []
+route_stays u addr bytes route.Frame = stay u []
 
 -- ---- all calls
 
@@ -96,12 +114,11 @@ others_stay u (call.Take vcpu) sound =
     stay_redist u u (Redist vcpu ∷ []) vcpu.0 (taken (redistributor u vcpu.0) (lowest (redistributor u vcpu.0))) (in_head (Redist vcpu) [])
     (stay u (Redist vcpu ∷ []))
 others_stay u (call.Show vcpu) sound = stay u (Redist vcpu ∷ [])
-others_stay u (call.Poke addr bytes) sound = stay_memory u u (Mem ∷ []) (unwrap_or (write_at u.memory addr.0 bytes) u.memory) (in_head Mem [])
-    (stay u (Mem ∷ []))
+others_stay u (call.Poke addr bytes) sound = poke_stays u addr.0 bytes (write_at u.memory addr.0 bytes)
 others_stay u (call.Peek addr count) sound = stay u (Mem ∷ [])
 others_stay u (call.ReadReg its off size) sound = stay u (MapsOf its ∷ [])
 others_stay u (call.WriteReg its off size value) sound =
-    stay_translator u u (MapsOf its ∷ []) its (translator_written (translator u its) (write_reg (regs_of u its) off size value)) (in_head (MapsOf its) [])
+    stay_translator u u (MapsOf its ∷ []) its (translator_written u.layout.shape (translator u its) (write_reg (regs_of u its) off size value)) (in_head (MapsOf its) [])
     (stay u (MapsOf its ∷ []))
 others_stay u (call.ReadGicr vcpu off size) sound = stay u (Redist vcpu ∷ [])
 others_stay u (call.WriteGicr vcpu off size value) sound =
@@ -112,6 +129,8 @@ others_stay u (call.WriteGicr vcpu off size value) sound =
     (λ _. stay u ps)
 others_stay u (call.Step its) sound = step_stays u its sound
 others_stay u call.Save sound = save_stays u (savable u)
+others_stay u call.Copy sound = stay_memory u u (Mem ∷ []) u.memory (option_map (caught_up u.memory) u.track) (in_head Mem []) (stay u (Mem ∷ []))
+others_stay u (call.Dma req addr bytes to) sound = route_stays u addr bytes to
 
 pub other_parts : (u : Plain) (c : Call) (p : Part) → IsSound u → ¬ IsIn p (footprint u c) → SamePart u (answer u c).1 p
 other_parts u c p sound out = (others_stay u c record { vcpus = sound.vcpus }).parts p out

@@ -14,9 +14,11 @@ use Rattle.its_plain.specs.Plain.{Plain, Translator, translator, maps_of}
 use Rattle.its_plain.specs.declared.layout.Layout.{Layout}
 use Rattle.its_plain.specs.Translation.{located}
 use Rattle.its_plain.specs.Answer.{is_idle, next_bytes}
-use Rattle.its_plain.specs.Parts.{AgreesOn, translators_below, redists_below, redist_of, target_of_event, moved_targets, both_targets, needed, footprint}
+use Rattle.its_plain.specs.Parts.{AgreesOn, translators_below, redists_below, redist_of, target_of_event, moved_targets, both_targets, needed, signal_parts, route_parts, footprint}
 use Rattle.its_plain.specs.declared.call.Call.{Call}
 use Rattle.its_plain.specs.declared.call.Call.TheVariants as call
+use Rattle.its_plain.specs.declared.call.Route.{Route}
+use Rattle.its_plain.specs.declared.call.Route.TheVariants as route
 use Rattle.plain_footprint.proofs.Footprints.{needed_at}
 use Rattle.plain_footprint.proofs.Alike.{translator_same}
 use Rattle.plain_footprint.proofs.Listed.{in_head, in_tail}
@@ -49,12 +51,21 @@ module _ (u w : Plain) (i : ℕ) (layout : u.layout ≡ w.layout) (maps : maps_o
   needed_at_alike None = refl
   needed_at_alike (Some bytes) = needed_alike (decoded bytes)
 
+signal_alike : (u w : Plain) (its dev ev : ℕ) → AgreesOn u w (signal_parts u its dev ev) → signal_parts u its dev ev ≡ signal_parts w its dev ev
+signal_alike u w its dev ev a =
+    let ps : List Part = redist_of (option_map (λ t. t.vcpu) (result_ok (located (translator u its) dev ev))) in
+    ap (λ (t : Translator). MapsOf its ∷ redist_of (option_map (λ t. t.vcpu) (result_ok (located t dev ev))))
+    (translator_same u w (MapsOf its ∷ ps) its (in_head (MapsOf its) ps) a)
+
+route_alike : (u w : Plain) (to : Route) → AgreesOn u w (route_parts u to) → route_parts u to ≡ route_parts w to
+route_alike u w (route.Signal its dev ev) a = signal_alike u w its dev.0 ev.0 a
+route_alike u w route.Poke a = refl
+route_alike u w route.NoRequester a = refl
+route_alike u w route.Frame a = refl
+
 pub same_parts : (u w : Plain) (c : Call) → AgreesOn u w (footprint u c) → footprint u c ≡ footprint w c
 unfolding footprint
-same_parts u w (call.Signal its dev ev) a =
-    let ps : List Part = redist_of (option_map (λ t. t.vcpu) (result_ok (located (translator u its) dev.0 ev.0))) in
-    ap (λ (t : Translator). MapsOf its ∷ redist_of (option_map (λ t. t.vcpu) (result_ok (located t dev.0 ev.0))))
-    (translator_same u w (MapsOf its ∷ ps) its (in_head (MapsOf its) ps) a)
+same_parts u w (call.Signal its dev ev) a = signal_alike u w its dev.0 ev.0 a
 same_parts u w (call.Take vcpu) a = refl
 same_parts u w (call.Show vcpu) a = refl
 same_parts u w (call.Poke addr bytes) a = refl
@@ -67,10 +78,12 @@ same_parts u w (call.Step its) a =
     let rest : List Part = (if is_idle u its then [] else needed_at u its (next_bytes u its)) in
     let ps : List Part = Mem ∷ rest in
     let same : translator u its ≡ translator w its = translator_same u w (MapsOf its ∷ ps) its (in_head (MapsOf its) ps) a in
-    let memory : u.memory ≡ w.memory = a.parts Mem (in_tail Mem (MapsOf its) ps (in_head Mem rest)) in
+    let memory : u.memory ≡ w.memory = (a.parts Mem (in_tail Mem (MapsOf its) ps (in_head Mem rest))).0 in
     let idle : is_idle u its ≡ is_idle w its = ap (λ (t : Translator). not t.regs.enabled || is_queue_empty t.regs) same in
     let bytes : next_bytes u its ≡ next_bytes w its = (λ d. read_at (memory d) (queue_place (same d).regs) 32) in
     let more : needed_at u its (next_bytes u its) ≡ needed_at w its (next_bytes w its) =
     needed_at_alike u w its a.layout (ap (λ (t : Translator). t.maps) same) (next_bytes u its) ∙ ap (needed_at w its) bytes in
     (λ d. MapsOf its ∷ Mem ∷ (if idle d then [] else more d))
+same_parts u w call.Copy a = refl
+same_parts u w (call.Dma req addr bytes to) a = route_alike u w to a
 same_parts u w call.Save a = (λ d. Mem ∷ translators_below (a.translators d) ++ redists_below (a.redistributors d))

@@ -3,6 +3,7 @@ use Rattle.std.proofs.Common.{◌≡◌, ℕ, Bool, true, false, List, length, l
 use Rattle.std.specs.Option.{option_map}
 use Rattle.std.proofs.lemmas.Option.{slice_get-map}
 use Rattle.guest_windows.specs.Windows.{Window}
+use Rattle.dirty_log.specs.declared.tracked.Tracked.{Tracked}
 use Rattle.its_types.specs.declared.ids.Vcpu.{Vcpu}
 use Rattle.its_types.specs.declared.machine.Part.{Part}
 use Rattle.its_types.specs.declared.machine.Part.TheVariants.{Maps as MapsOf, Mem, Shard, Redist}
@@ -18,7 +19,7 @@ pub record Stay (u : Plain) (ps : List Part) (w : Plain) : Type 0 where
 
 pub same_part : (u : Plain) (p : Part) → SamePart u u p
 same_part u (MapsOf its) = refl
-same_part u Mem = refl
+same_part u Mem = (refl, refl)
 same_part u (Shard its n) = tt
 same_part u (Redist vcpu) = refl
 
@@ -51,17 +52,19 @@ stay_redist u w ps v r here s = record {
   parts = λ p out. redist_else u w v r p (λ e. out (subst (λ (q : Part). IsIn q ps) (sym e) here)) (s.parts p out);
 }
 
-memory_else : (u w : Plain) (memory : List Window) (p : Part) → ¬ (p ≡ Mem) → SamePart u w p → SamePart u (record w { memory = memory }) p
-memory_else u w memory (MapsOf j) other s = s
-memory_else u w memory Mem other s = absurd (other refl)
-memory_else u w memory (Shard its n) other s = tt
-memory_else u w memory (Redist x) other s = s
+memory_else : (u w : Plain) (memory : List Window) (track : Option Tracked) (p : Part) → ¬ (p ≡ Mem) → SamePart u w p
+    → SamePart u (record w { memory = memory; track = track }) p
+memory_else u w memory track (MapsOf j) other s = s
+memory_else u w memory track Mem other s = absurd (other refl)
+memory_else u w memory track (Shard its n) other s = tt
+memory_else u w memory track (Redist x) other s = s
 
-pub stay_memory : (u w : Plain) (ps : List Part) (memory : List Window) → IsIn Mem ps → Stay u ps w → Stay u ps (record w { memory = memory })
-stay_memory u w ps memory here s = record {
+pub stay_memory : (u w : Plain) (ps : List Part) (memory : List Window) (track : Option Tracked) → IsIn Mem ps → Stay u ps w
+    → Stay u ps (record w { memory = memory; track = track })
+stay_memory u w ps memory track here s = record {
   layout = s.layout;
   translators = s.translators;
-  parts = λ p out. memory_else u w memory p (λ e. out (subst (λ (q : Part). IsIn q ps) (sym e) here)) (s.parts p out);
+  parts = λ p out. memory_else u w memory track p (λ e. out (subst (λ (q : Part). IsIn q ps) (sym e) here)) (s.parts p out);
 }
 
 -- outside the parts there is no redistributor

@@ -24,7 +24,7 @@ use Rattle.gicr_regs.specs.Redistributors.{off_redistributor}
 use Rattle.gicr_regs.specs.declared.values.GicrValues.{GicrValues}
 use Rattle.its_types.specs.Lpis.{no_bases}
 use Rattle.its_plain.specs.Machine.{made, started, pending_inside, tables_inside, filled, described_bases, described_in, are_programmed, layout_of}
-use Rattle.its_plain.specs.Machine.{first_redistributors, idle_redistributor, ensure, ◌>>=◌, IsDescription, HasTablesFor}
+use Rattle.its_plain.specs.Machine.{all_frames_fit, all_new, first_redistributors, idle_redistributor, ensure, ◌>>=◌, IsDescription, HasTablesFor}
 use Rattle.its_plain.specs.declared.desc.LpiTables.{LpiTables}
 use Rattle.its_plain.specs.declared.desc.LpiTables.TheVariants.{Described, Registers}
 use Rattle.its_plain.specs.declared.desc.Desc.{Desc}
@@ -32,6 +32,7 @@ use Rattle.its_plain.specs.declared.desc.DescFault.{DescFault}
 use Rattle.its_plain.specs.declared.desc.DescFault.TheVariants.{Windows, Config, Pending, Bytes}
 use Rattle.its_plain.specs.declared.desc.Fill.{Fill}
 use Rattle.plain_soundness.specs.Laws.{MachinesStartSound}
+use Rattle.plain_soundness.proofs.Migrated.{tracks_of, tracked_of}
 use Rattle.plain_soundness.proofs.Lists.{at_each_map, all_at, no_set}
 use Rattle.plain_soundness.proofs.Mapped.{translator_made, no_maps_sound}
 use Rattle.plain_soundness.proofs.Translated.{if_ok_at}
@@ -52,6 +53,10 @@ then_ok : {A B : Type 0} (Q : A → Type 0) (P : B → Type 0) (r : Result A Des
     → IfOk (r >>= f) P
 then_ok Q P (Ok x) f q h = h x q
 then_ok Q P (Err e) f q h = tt
+
+any_ok : {A : Type 0} (r : Result A DescFault) → IfOk r (λ _. Unit {0})
+any_ok (Ok x) = tt
+any_ok (Err e) = tt
 
 -- every pending table lies in memory
 abbrev AllInside : List Window → ℕ → List Addr → Type 0
@@ -111,13 +116,12 @@ reset_sound dev_bits least most = record {
   cwriter = record { inside = size_of_some 0; whole = refl };
 }
 
-reset_translator : (s : Shape) → IsShape s → IsTranslator s (record { regs = reset s.dev_bits; maps = no_maps })
+pub reset_translator : (s : Shape) → IsShape s → IsTranslator s (record { regs = reset s.dev_bits; maps = no_maps })
 reset_translator s h = translator_made s (reset s.dev_bits) no_maps (reset_sound s.dev_bits h.least_dev_bits h.most_dev_bits) refl
     (no_maps_sound s (reset s.dev_bits))
 
-one_translator : (s : Shape) (t : Translator) → IsTranslator s t → (i : ℕ) (x : Translator) → slice_get (t ∷ []) i ≡ Some x → IsTranslator s x
-one_translator s t h zero x e = subst (IsTranslator s) (same_Some t x e) h
-one_translator s t h (suc i) x e = absurd cc
+each_translator : (s : Shape) (n : ℕ) (t : Translator) → IsTranslator s t → (i : ℕ) (x : Translator) → slice_get (replicate n t) i ≡ Some x → IsTranslator s x
+each_translator s n t h i x e = subst (IsTranslator s) (at_replicate n t i x e) h
 
 idle_sound : (l : Layout) (memory : List Window) (v : ℕ) (config : List ℕ) (b : Bases) → l.gicr ≡ false → slice_get l.described v ≡ Some b → b.on ≡ true
     → length config ≡ lpi_count l.shape.lpi_bits → HasTables l.shape memory b → IsRedistributor l memory v (idle_redistributor config b)
@@ -178,15 +182,15 @@ are_inside_now s now before (Registers values) same h = tt
 abbrev AreSound : Layout → List Window → List Redistributor → Type 0
 AreSound l memory rs = (length rs ≡ l.shape.vcpus) × ((v : ℕ) (r : Redistributor) → slice_get rs v ≡ Some r → IsRedistributor l memory v r)
 
-abbrev layout_in : Shape → LpiTables → Layout
-layout_in s t = record { shape = s; gicr = are_programmed t; described = described_in t }
+abbrev layout_in : Shape → Bool → LpiTables → Layout
+layout_in s track t = record { shape = s; gicr = are_programmed t; described = described_in t; track = track }
 
-described_sound : (s : Shape) (memory : List Window) (config : Addr) (pending : List Addr) (bytes : List ℕ) → AreInside s memory (Described config pending)
+described_sound : (s : Shape) (track : Bool) (memory : List Window) (config : Addr) (pending : List Addr) (bytes : List ℕ) → AreInside s memory (Described config pending)
     → length pending ≡ s.vcpus
-    → length bytes ≡ lpi_count s.lpi_bits → AreSound (layout_in s (Described config pending)) memory
+    → length bytes ≡ lpi_count s.lpi_bits → AreSound (layout_in s track (Described config pending)) memory
     (map (idle_redistributor bytes) (map (described_bases config) pending))
-described_sound s memory config pending bytes fit count size =
-    let l : Layout = layout_in s (Described config pending) in (
+described_sound s track memory config pending bytes fit count size =
+    let l : Layout = layout_in s track (Described config pending) in (
       length-map l.described (idle_redistributor bytes) ∙ length-map pending (described_bases config) ∙ count,
       at_each_map (IsRedistributor l memory) (idle_redistributor bytes) l.described (λ v b is.
           let on_and_tables : (b.on ≡ true) × HasTables s memory b =
@@ -202,20 +206,20 @@ described_sound s memory config pending bytes fit count size =
           idle_sound l memory v bytes b refl is on_and_tables.0 size on_and_tables.1),
     )
 
-programmed_sound : (s : Shape) (memory : List Window) (values : GicrValues) → AreSound (layout_in s (Registers values)) memory
+programmed_sound : (s : Shape) (track : Bool) (memory : List Window) (values : GicrValues) → AreSound (layout_in s track (Registers values)) memory
     (replicate s.vcpus (off_redistributor s no_bases))
-programmed_sound s memory values = (
+programmed_sound s track memory values = (
   length-replicate s.vcpus (off_redistributor s no_bases),
-  λ v r is. subst (IsRedistributor (layout_in s (Registers values)) memory v) (at_replicate s.vcpus (off_redistributor s no_bases) v r is)
-      (off_sound (layout_in s (Registers values)) memory v refl),
+  λ v r is. subst (IsRedistributor (layout_in s track (Registers values)) memory v) (at_replicate s.vcpus (off_redistributor s no_bases) v r is)
+      (off_sound (layout_in s track (Registers values)) memory v refl),
 )
 
-first_sound : (s : Shape) (memory : List Window) (t : LpiTables) → AreInside s memory t → HasTablesFor s.vcpus t → IfOk (first_redistributors s memory t)
-    (AreSound (layout_in s t) memory)
-first_sound s memory (Described config pending) fit count =
-    found (AreSound (layout_in s (Described config pending)) memory) (read_at memory config.0 (lpi_count s.lpi_bits)) Config _ (λ bytes read.
-    described_sound s memory config pending bytes fit count (length-read_at memory config.0 (lpi_count s.lpi_bits) bytes read))
-first_sound s memory (Registers values) fit count = programmed_sound s memory values
+first_sound : (s : Shape) (track : Bool) (memory : List Window) (t : LpiTables) → AreInside s memory t → HasTablesFor s.vcpus t → IfOk (first_redistributors s memory t)
+    (AreSound (layout_in s track t) memory)
+first_sound s track memory (Described config pending) fit count =
+    found (AreSound (layout_in s track (Described config pending)) memory) (read_at memory config.0 (lpi_count s.lpi_bits)) Config _ (λ bytes read.
+    described_sound s track memory config pending bytes fit count (length-read_at memory config.0 (lpi_count s.lpi_bits) bytes read))
+first_sound s track memory (Registers values) fit count = programmed_sound s track memory values
 
 -- ---- the whole
 
@@ -227,10 +231,12 @@ started_sound : (d : Desc) (memory : List Window) (rs : List Redistributor) → 
     → AreSound (layout_of d) memory rs → IsSound (started d memory rs)
 started_sound d memory rs h windows sound = record {
   layout = record { shape = h.shape; described = described_count d.shape d.tables h.tables };
-  translators = one_translator d.shape (record { regs = reset d.shape.dev_bits; maps = no_maps }) (reset_translator d.shape h.shape);
+  translators = each_translator d.shape (length d.translators) (record { regs = reset d.shape.dev_bits; maps = no_maps }) (reset_translator d.shape h.shape);
   vcpus = sound.0;
   redistributors = sound.1;
   memory = windows;
+  tracks = tracks_of d.track memory;
+  tracked = tracked_of d.track memory;
 }
 
 made_sound : (d : Desc) → IsDescription d → IfOk (made d) IsSound
@@ -241,9 +247,11 @@ made_sound d h =
     passed IsSound (are_windows windows) Windows _ (λ good.
     then_ok (λ _. AreInside d.shape empty d.tables) IsSound (tables_inside d.shape empty d.tables) _ (tables_are_inside d.shape empty d.tables) (λ _ tables.
     then_ok (λ now. map extent now ≡ map extent empty) IsSound (filled empty 0 d.fills) _ (same_windows empty 0 d.fills) (λ memory same.
+    then_ok (λ _. Unit {0}) IsSound (all_frames_fit windows 0 d.translators) _ (any_ok (all_frames_fit windows 0 d.translators)) (λ _ _.
+    then_ok (λ _. Unit {0}) IsSound (all_new [] 0 d.requesters) _ (any_ok (all_new [] 0 d.requesters)) (λ _ _.
     then_ok (AreSound (layout_of d) memory) IsSound (first_redistributors d.shape memory d.tables) _
-    (first_sound d.shape memory d.tables (are_inside_now d.shape memory empty d.tables same tables) h.tables) (λ rs sound.
-    started_sound d memory rs h (ap are_windows (same ∙ extents_of_zeros windows) ∙ good) sound))))
+    (first_sound d.shape d.track memory d.tables (are_inside_now d.shape memory empty d.tables same tables) h.tables) (λ rs sound.
+    started_sound d memory rs h (ap are_windows (same ∙ extents_of_zeros windows) ∙ good) sound))))))
 
 pub start_sound : MachinesStartSound
 start_sound d u h is = if_ok_at IsSound (made d) u (made_sound d h) is

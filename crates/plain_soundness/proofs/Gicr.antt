@@ -1,9 +1,10 @@
 -- Writes of the LPI registers of a redistributor.
-use Rattle.std.proofs.Common.{◌≡◌, ℕ, zero, suc, ◌+◌, ◌<◌, ◌≤◌, ◌^◌, Bool, true, false, ◌&&◌, ◌||◌, ◌==◌, not, if◌then◌else◌, List, refl, subst, ◌∙◌, arith}
+use Rattle.std.proofs.Common.{◌≡◌, ℕ, zero, suc, ◌+◌, ◌<◌, ◌≤◌, ◌^◌, Bool, true, false, ◌||◌, ◌==◌, if◌then◌else◌, List, refl, subst, ◌∙◌, arith}
 use Rattle.std.proofs.Math.Nat.{pow-le-pow_right}
 use Rattle.std.specs.List.{range_with_len, AllByRecursion}
 use Rattle.std.specs.List.Sorted.{IsStrictlyIncreasing}
 use Rattle.std.proofs.lemmas.Bool.{both_ways, cond_both, and_parts}
+use Rattle.std.proofs.lemmas.List.{length-replicate}
 use Rattle.std.proofs.lemmas.List.FromFn.{length-range_with_len, get_or-range_with_len}
 use Rattle.std.proofs.lemmas.List.Kept.{IsStrictlyIncreasing-filter}
 use Rattle.guest_windows.specs.Windows.{Window, inside, read_at}
@@ -12,7 +13,7 @@ use Rattle.its_types.specs.Bits.{bit_of}
 use Rattle.its_types.specs.Ranges.{is_lpi, lpi_count, pending_bytes}
 use Rattle.its_types.specs.declared.translation.Bases.{Bases}
 use Rattle.gicr_regs.specs.Redistributors.{has_tables, is_set, pending_in, reread_at}
-use Rattle.gicr_regs.specs.Registers.{AreKept, Sets, asked_by, asked_by_64, asked_by_word, done_by, turned_on, written_gicr, low_half}
+use Rattle.gicr_regs.specs.Registers.{AreKept, Sets, asked_by, asked_by_64, asked_by_word, done_by, turned_on, turned_off, written_gicr, low_half}
 use Rattle.gicr_regs.proofs.Kept.{kept}
 use Rattle.gicr_regs.specs.declared.write.GicrWrite.{GicrWrite}
 use Rattle.gicr_regs.specs.declared.write.GicrWrite.TheVariants as writes
@@ -21,7 +22,7 @@ use Rattle.its_plain.specs.Answer.{left}
 use Rattle.plain_soundness.specs.Laws.{GicrReadKeepsSound, GicrWriteKeepsSound}
 use Rattle.its_plain.specs.Sound.{IsSound, IsRedistributor}
 use Rattle.its_plain.specs.declared.layout.Layout.{Layout}
-use Rattle.plain_soundness.proofs.Lists.{IsSet, all_filter}
+use Rattle.plain_soundness.proofs.Lists.{IsSet, no_set, all_filter}
 use Rattle.plain_soundness.proofs.Migrated.{config_read, reloaded_sound}
 use Rattle.plain_soundness.proofs.Reread.{reread_at_sound}
 use Rattle.plain_soundness.proofs.States.{redistributor_replaced, redistributor_sound}
@@ -48,7 +49,7 @@ set_while_off b off size value =
     either P (size == 8) _ _
     (either P (off == 0x70) _ _ (set _ refl) (either P (off == 0x78) _ _ (set _ refl) (either P (off == 0xA0) _ _ tt (either P (off == 0xB0) _ _ tt tt))))
     (either P (size == 4) _ _
-    (either P (off == 0x0) _ _ (either P (bit_of (low_half value) 0 && not b.on) writes.Enable writes.Ignored tt tt)
+    (either P (off == 0x0) _ _ (either P (bit_of (low_half value) 0) _ _ (either P b.on writes.Ignored writes.Enable tt tt) (either P b.on writes.Disable writes.Ignored tt tt))
     (either P (off == 0x70) _ _ (set _ refl)
     (either P (off == 0x74) _ _ (set _ refl) (either P (off == 0x78) _ _ (set _ refl) (either P (off == 0x7C) _ _ (set _ refl)
     (either P (off == 0xA0) _ _ tt (either P (off == 0xB0 || off == 0xB4) _ _ tt tt)))))))
@@ -130,6 +131,25 @@ module _ (l : Layout) (memory : List Window) (v : ℕ) (programmed : l.gicr ≡ 
         always_on = λ _. refl;
       }
 
+  off_sound : (r : Redistributor) → IsRedistributor l memory v r → IsRedistributor l memory v (turned_off l.shape r)
+  off_sound r h = let bits = h.kept programmed in record {
+    rising = (no_set (λ _. Unit {0})).rising;
+    lpis = tt;
+    config = length-replicate (lpi_count l.shape.lpi_bits) 0;
+    tables = λ on. absurd cc;
+    off_pending = λ _. refl;
+    off_config = λ _. refl;
+    kept = λ _. record {
+      prop_whole = bits.prop_whole;
+      prop_low = bits.prop_low;
+      id_bits = bits.id_bits;
+      pend_whole = bits.pend_whole;
+      pend_low = bits.pend_low;
+    };
+    described = λ fixed. absurd (both_ways l.gicr fixed programmed);
+    always_on = λ fixed. absurd (both_ways l.gicr fixed programmed);
+  }
+
   done : (r : Redistributor) (w : GicrWrite) → Sets (IsOff r.bases) w → Sets AreKept w → IsRedistributor l memory v r
       → IsRedistributor l memory v (done_by l.shape memory w r)
   unfolding done_by
@@ -137,6 +157,7 @@ module _ (l : Layout) (memory : List Window) (v : ℕ) (programmed : l.gicr ≡ 
   done r (writes.SetBases b) off bits h = bases_set r b off bits h
   done r writes.Enable off bits h = cond_both (has_tables l.shape memory r.bases) (turned_on l.shape memory r) r (IsRedistributor l memory v)
       (λ have. turned r have h) (λ _. h)
+  done r writes.Disable off bits h = cond_both l.shape.linux (turned_off l.shape r) r (IsRedistributor l memory v) (λ _. off_sound r h) (λ _. h)
   done r (writes.Reread intid) off bits h =
       cond_both (is_lpi l.shape.lpi_bits intid.0) (reread_at memory intid.0 r) r (IsRedistributor l memory v) (λ _. reread_at_sound l memory v r intid.0 h)
       (λ _. h)

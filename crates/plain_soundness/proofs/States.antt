@@ -1,10 +1,14 @@
 -- A sound state with one part replaced by a sound one is sound.
-use Rattle.std.proofs.Common.{◌≡◌, ℕ, ◌<◌, true, false, List, [], length, map, set, inl, inr, refl, sym, ap, subst, ◌∙◌, length-set}
+use Rattle.std.proofs.Common.{◌≡◌, ℕ, ◌<◌, true, false, List, [], length, map, set, Option, Some, None, inl, inr, refl, sym, ap, subst, ◌∙◌, length-set}
+use Rattle.std.specs.Prelude.{is_some}
+use Rattle.std.specs.Option.{option_map}
 use Rattle.std.proofs.lemmas.Bool.{cases_lt, both_ways}
 use Rattle.std.proofs.lemmas.List.{get_or_past, length-map}
-use Rattle.std.proofs.lemmas.Option.{slice_get-get_or}
+use Rattle.std.proofs.lemmas.Option.{slice_get-get_or, same_Some}
 use Rattle.guest_windows.specs.Windows.{Window, extent, are_windows}
 use Rattle.guest_windows.proofs.Laws.{inside-extents}
+use Rattle.dirty_log.specs.Copies.{IsTracked}
+use Rattle.dirty_log.specs.declared.tracked.Tracked.{Tracked}
 use Rattle.gits_regs.specs.Registers as regs
 use Rattle.gits_regs.specs.Registers.{Registers}
 use Rattle.its_types.specs.Maps.{Maps}
@@ -28,6 +32,8 @@ translator_replaced u i t h new = record {
   vcpus = h.vcpus;
   redistributors = h.redistributors;
   memory = h.memory;
+  tracks = h.tracks;
+  tracked = h.tracked;
 }
 
 pub translator_sound : (u : Plain) (i : ℕ) → IsSound u → i < length u.translators → IsTranslator u.layout.shape (translator u i)
@@ -77,6 +83,8 @@ redistributor_replaced u v r h new = record {
   vcpus = length-set u.redistributors v r ∙ h.vcpus;
   redistributors = at_each_set (IsRedistributor u.layout u.memory) u.redistributors v r new h.redistributors;
   memory = h.memory;
+  tracks = h.tracks;
+  tracked = h.tracked;
 }
 
 pub redistributor_sound : (u : Plain) (v : ℕ) → IsSound u → v < length u.redistributors → IsRedistributor u.layout u.memory v (redistributor u v)
@@ -91,6 +99,8 @@ redistributors_mapped u f keeps h = record {
   vcpus = length-map u.redistributors f ∙ h.vcpus;
   redistributors = at_each_map (IsRedistributor u.layout u.memory) f u.redistributors (λ v r e. keeps v r (h.redistributors v r e));
   memory = h.memory;
+  tracks = h.tracks;
+  tracked = h.tracked;
 }
 
 -- ---- pending sets
@@ -157,12 +167,26 @@ redistributor_kept l now before v r same h = record {
   always_on = h.always_on;
 }
 
--- other bytes in the same windows
-pub memory_replaced : (u : Plain) (now : List Window) → map extent now ≡ map extent u.memory → IsSound u → IsSound (record u { memory = now })
-memory_replaced u now same h = record {
+-- ---- the copy of memory
+
+pub some_map : (o : Option Tracked) (f : Tracked → Tracked) → is_some (option_map f o) ≡ is_some o
+some_map None f = refl
+some_map (Some t) f = refl
+
+pub each_map : (o : Option Tracked) (f : Tracked → Tracked) (P Q : Tracked → Type 0) → ((t : Tracked) → o ≡ Some t → P t) → ((t : Tracked) → P t → Q (f t))
+    → (t : Tracked) → option_map f o ≡ Some t → Q t
+each_map None f P Q before after t e = absurd cc
+each_map (Some x) f P Q before after t e = subst Q (same_Some (f x) t e) (after x (before x refl))
+
+-- other bytes in the same windows, with what is known of the copy then
+pub memory_replaced : (u : Plain) (now : List Window) (track : Option Tracked) → map extent now ≡ map extent u.memory → is_some track ≡ u.layout.track
+    → ((t : Tracked) → track ≡ Some t → IsTracked now t) → IsSound u → IsSound (record u { memory = now; track = track })
+memory_replaced u now track same tracks tracked h = record {
   layout = h.layout;
   translators = h.translators;
   vcpus = h.vcpus;
   redistributors = λ v r e. redistributor_kept u.layout now u.memory v r same (h.redistributors v r e);
   memory = ap are_windows same ∙ h.memory;
+  tracks = tracks;
+  tracked = tracked;
 }

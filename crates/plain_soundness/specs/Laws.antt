@@ -17,6 +17,7 @@ use Rattle.its_plain.specs.Machine.{IsDescription}
 use Rattle.its_plain.specs.declared.desc.Desc.{Desc}
 use Rattle.its_plain.specs.Commands.{ran, mapd, unmapd, mapc, unmapc, mapti, movi, discard, int, clear, inv, invall, movall}
 use Rattle.its_plain.specs.declared.call.Call.{Call}
+use Rattle.its_plain.specs.declared.call.Route.{Route}
 use Rattle.its_plain.specs.declared.call.Call.TheVariants as call
 
 -- the state that a call leaves is sound, if the one before it was
@@ -54,6 +55,13 @@ SignalKeepsSound = (u : Plain) (its : ℕ) (dev : DeviceId) (ev : EventId) → K
 
 abbrev pub SaveKeepsSound : Type 0
 SaveKeepsSound = (u : Plain) → KeepsSound u call.Save
+
+abbrev pub CopyKeepsSound : Type 0
+CopyKeepsSound = (u : Plain) → KeepsSound u call.Copy
+
+-- whatever the write is by the description
+abbrev pub DmaKeepsSound : Type 0
+DmaKeepsSound = (u : Plain) (req : ℕ) (addr : Addr) (bytes : List ℕ) (to : Route) → KeepsSound u (call.Dma req addr bytes to)
 
 -- ---- commands: each is refused, or leaves a sound state
 

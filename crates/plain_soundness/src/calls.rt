@@ -57,6 +57,16 @@ pub fn save_keeps_soundness()
     ensures { laws.SaveKeepsSound }
 {}
 
+/// A copy leaves no byte in which memory and its copy differ.
+pub fn copy_keeps_soundness()
+    ensures { laws.CopyKeepsSound }
+{}
+
+/// A write by address is a message, a write of guest memory, or nothing.
+pub fn dma_keeps_soundness()
+    ensures { laws.DmaKeepsSound }
+{}
+
 /// Every call leaves a sound state sound.
 pub fn calls_keep_soundness()
     ensures { laws.CallsKeepSound }

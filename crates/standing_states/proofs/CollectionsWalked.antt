@@ -10,6 +10,7 @@ use Rattle.table_entries.specs.Fields.{CollectionFields}
 use Rattle.table_entries.specs.Words.{unpacked_collection}
 use Rattle.its_types.specs.Maps.{Maps, collection_of, no_maps}
 use Rattle.its_types.specs.declared.ids.Vcpu.{Vcpu}
+use Rattle.its_types.specs.declared.machine.Shape.{Shape}
 use Rattle.its_plain.specs.CollectionTables.{collection_address, collection_entry, collection_leads, next_collection, is_of, stands_before}
 use Rattle.standing_states.specs.Found.{put_collection, AreThoseBefore}
 use Rattle.standing_states.proofs.Walks.{Rises}
@@ -22,7 +23,7 @@ leads_by : (r : Registers) (i : ℕ) (o : Option ℕ) → option_and_then (λ wo
 leads_by r i None = refl
 leads_by r i (Some word) = refl
 
-pub next_is : (memory : List Window) (r : Registers) (i : ℕ) → next_collection memory r i ≡ collection_leads r i (collection_entry memory r i)
+pub next_is : (memory : List Window) (r : Registers) (i : ℕ) → next_collection memory r i ≡ collection_leads r i (option_and_then unpacked_collection (number_at memory (collection_address r i)))
 next_is memory r i = leads_by r i (number_at memory (collection_address r i))
 
 leads_up : (r : Registers) (i q : ℕ) (o : Option CollectionFields) → collection_leads r i o ≡ Some q → (q ≡ i + 1) × (i + 1 < collection_places r)
@@ -30,7 +31,7 @@ leads_up r i q None e = absurd cc
 leads_up r i q (Some c) e = within_is (collection_places r) (i + 1) q e
 
 step_up : (memory : List Window) (r : Registers) (i q : ℕ) → next_collection memory r i ≡ Some q → (q ≡ i + 1) × (i + 1 < collection_places r)
-step_up memory r i q e = leads_up r i q (collection_entry memory r i) (sym (next_is memory r i) ∙ e)
+step_up memory r i q e = leads_up r i q (option_and_then unpacked_collection (number_at memory (collection_address r i))) (sym (next_is memory r i) ∙ e)
 
 pub collections_rise : (memory : List Window) (r : Registers) → Rises (next_collection memory r) (λ i. i) (collection_places r) (λ i. i < collection_places r)
 collections_rise memory r = record {
@@ -41,8 +42,8 @@ collections_rise memory r = record {
 
 -- ---- the collections that are mapped
 
-pub none_before : (memory : List Window) (r : Registers) (m : Maps) → m ≡ no_maps → AreThoseBefore memory r m 0
-none_before memory r m is icid = ap (λ (n : Maps). is_some (collection_of n icid)) is ∙ ap is_some (no_collection icid)
+pub none_before : (s : Shape) (memory : List Window) (r : Registers) (m : Maps) → m ≡ no_maps → AreThoseBefore s memory r m 0
+none_before s memory r m is icid = ap (λ (n : Maps). is_some (collection_of n icid)) is ∙ ap is_some (no_collection icid)
 
 turned : (a b : ℕ) → eqb a b ≡ eqb b a
 turned a b = elim (eqb a b) as (λ t. eqb a b ≡ t → t ≡ eqb b a) [
@@ -54,13 +55,13 @@ some_either : {X : Type 0} (t : Bool) (x : X) (o : Option X) → is_some (cond t
 some_either true x o = refl
 some_either false x o = refl
 
-pub one_more : (memory : List Window) (r : Registers) (m n : Maps) (i : ℕ) (c : CollectionFields) (v : Vcpu) → AreThoseBefore memory r m i
-    → collection_entry memory r i ≡ Some c → n ≡ put_collection m (c.icid, v) → AreThoseBefore memory r n (i + 1)
-one_more memory r m n i c v before at got icid =
+pub one_more : (s : Shape) (memory : List Window) (r : Registers) (m n : Maps) (i : ℕ) (c : CollectionFields) (v : Vcpu) → AreThoseBefore s memory r m i
+    → collection_entry s memory r i ≡ Some c → n ≡ put_collection m (c.icid, v) → AreThoseBefore s memory r n (i + 1)
+one_more s memory r m n i c v before at got icid =
     ap (λ (u : Maps). is_some (collection_of u icid)) got
     ∙ ap is_some (collection-mapped m c.icid v icid)
     ∙ some_either (eqb icid c.icid) v (collection_of m icid)
     ∙ ap (λ t. t || is_some (collection_of m icid)) (turned icid c.icid)
     ∙ ap (λ t. eqb c.icid icid || t) (before icid)
-    ∙ ap (λ o. is_of icid o || stands_before memory r i icid) (sym at)
-    ∙ ap (λ k. stands_before memory r k icid) (sym (add-one i))
+    ∙ ap (λ o. is_of icid o || stands_before s memory r i icid) (sym at)
+    ∙ ap (λ k. stands_before s memory r k icid) (sym (add-one i))

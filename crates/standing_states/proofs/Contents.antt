@@ -18,7 +18,7 @@ use Rattle.its_types.specs.declared.translation.Device.{Device}
 use Rattle.its_types.specs.declared.translation.Event.{Event}
 use Rattle.its_plain.specs.Walks.{ensure, ◌>>=◌}
 use Rattle.its_plain.specs.EventTables.{itt_of, HasEvent}
-use Rattle.its_plain.specs.CollectionTables.{collection_address, collection_entry, collection_check, collection_entry_check, next_collection, is_of}
+use Rattle.its_plain.specs.CollectionTables.{collection_address, collection_entry, collection_check, collection_entry_check, next_collection, is_of, counted}
 use Rattle.its_plain.specs.CollectionTables.{stands_before, CollectionReached, AreCollectionsClear, CollectionsOffend, HasCollection}
 use Rattle.its_plain.specs.DeviceTables.{DevicePlace, first_device, next_device, DeviceReached, IsDeviceClear, DeviceFaults, AreDevicesClear, DevicesOffend}
 use Rattle.its_plain.specs.DeviceTables.{HasDevice, HasEventOf}
@@ -53,42 +53,42 @@ abbrev number_of : Option CollectionFields → Vcpu
 number_of None = record { 0 = 0 }
 number_of (Some c) = record { 0 = c.vcpu_number }
 
-module _ (memory : List Window) (n : ℕ) (r : Registers) where
+module _ (s : Shape) (memory : List Window) (r : Registers) where
   pub entry_of_word : (j : ℕ) (c : CollectionFields) (f : RestoreFault) (o : Option ℕ)
-      → (ok_or o f >>= λ w. collection_entry_check memory n r j (unpacked_collection w)) ≡ Ok tt → option_and_then unpacked_collection o ≡ Some c
-      → collection_entry_check memory n r j (Some c) ≡ Ok tt
+      → (ok_or o f >>= λ w. collection_entry_check s memory r j (counted s (unpacked_collection w))) ≡ Ok tt → option_and_then (λ w. counted s (unpacked_collection w)) o ≡ Some c
+      → collection_entry_check s memory r j (Some c) ≡ Ok tt
   entry_of_word j c f None h e = absurd cc
-  entry_of_word j c f (Some w) h e = ap (collection_entry_check memory n r j) (sym e) ∙ h
+  entry_of_word j c f (Some w) h e = ap (collection_entry_check s memory r j) (sym e) ∙ h
 
-  not_double : (j : ℕ) (c : CollectionFields) → collection_check memory n r j ≡ Ok tt → collection_entry memory r j ≡ Some c
-      → stands_before memory r j c.icid ≡ false
+  not_double : (j : ℕ) (c : CollectionFields) → collection_check s memory r j ≡ Ok tt → collection_entry s memory r j ≡ Some c
+      → stands_before s memory r j c.icid ≡ false
   not_double j c ok at =
-      three (nat_lt c.icid (collection_places r)) (nat_lt c.vcpu_number n) (stands_before memory r j c.icid) _ _ _
+      three (nat_lt c.icid (collection_places r)) (nat_lt c.vcpu_number s.vcpus) (stands_before s memory r j c.icid) _ _ _
       (entry_of_word j c (OutsideTable (record { 0 = collection_address r j })) (number_at memory (collection_address r j)) ok at)
 
-  is_before : (j i : ℕ) (c : CollectionFields) → i < j → collection_entry memory r i ≡ Some c → stands_before memory r j c.icid ≡ true
+  is_before : (j i : ℕ) (c : CollectionFields) → i < j → collection_entry s memory r i ≡ Some c → stands_before s memory r j c.icid ≡ true
   is_before zero i c lt at = absurd (omega arith)
   is_before (suc j) i c lt at =
       elim (cases_eq i j) [
-        | inl same ↦ ap (λ o. is_of c.icid o || stands_before memory r j c.icid) (ap (collection_entry memory r) (sym same) ∙ at)
-            ∙ ap (λ t. t || stands_before memory r j c.icid) (eq-eqb c.icid c.icid refl)
-        | inr apart ↦ ap (λ t. is_of c.icid (collection_entry memory r j) || t) (is_before j i c (omega (arith, apart)) at)
-            ∙ or_true (is_of c.icid (collection_entry memory r j))
+        | inl same ↦ ap (λ o. is_of c.icid o || stands_before s memory r j c.icid) (ap (collection_entry s memory r) (sym same) ∙ at)
+            ∙ ap (λ t. t || stands_before s memory r j c.icid) (eq-eqb c.icid c.icid refl)
+        | inr apart ↦ ap (λ t. is_of c.icid (collection_entry s memory r j) || t) (is_before j i c (omega (arith, apart)) at)
+            ∙ or_true (is_of c.icid (collection_entry s memory r j))
       ]
 
-  apart_not : (i j : ℕ) (c d : CollectionFields) → c.icid ≡ d.icid → i < j → collection_check memory n r j ≡ Ok tt → collection_entry memory r i ≡ Some c
-      → collection_entry memory r j ≡ Some d → ⊥
-  apart_not i j c d same lt ok a b = let two : true ≡ false = sym (is_before j i c lt a) ∙ ap (stands_before memory r j) same ∙ not_double j d ok b in cc
+  apart_not : (i j : ℕ) (c d : CollectionFields) → c.icid ≡ d.icid → i < j → collection_check s memory r j ≡ Ok tt → collection_entry s memory r i ≡ Some c
+      → collection_entry s memory r j ≡ Some d → ⊥
+  apart_not i j c d same lt ok a b = let two : true ≡ false = sym (is_before j i c lt a) ∙ ap (stands_before s memory r j) same ∙ not_double j d ok b in cc
 
-  one_entry : (icid : ℕ) (v w : Vcpu) (i j : ℕ) → collection_check memory n r i ≡ Ok tt → collection_check memory n r j ≡ Ok tt
-      → collection_entry memory r i ≡ Some (record { vcpu_number = v.0; icid = icid }) → collection_entry memory r j ≡ Some
+  one_entry : (icid : ℕ) (v w : Vcpu) (i j : ℕ) → collection_check s memory r i ≡ Ok tt → collection_check s memory r j ≡ Ok tt
+      → collection_entry s memory r i ≡ Some (record { vcpu_number = v.0; icid = icid }) → collection_entry s memory r j ≡ Some
       (record { vcpu_number = w.0; icid = icid }) → v ≡ w
   one_entry icid v w i j oki okj a b =
       elim (cases_eq i j) [
         | inl same ↦
             let f : CollectionFields = record { vcpu_number = v.0; icid = icid } in
             let g : CollectionFields = record { vcpu_number = w.0; icid = icid } in
-            let two : Some f ≡ Some g = sym a ∙ ap (collection_entry memory r) same ∙ b in
+            let two : Some f ≡ Some g = sym a ∙ ap (collection_entry s memory r) same ∙ b in
             ap number_of two
         | inr apart ↦ elim (cases_lt i j) [
           | inl lt ↦ absurd (apart_not i j (record { vcpu_number = v.0; icid = icid }) (record { vcpu_number = w.0; icid = icid }) refl lt okj a b)
@@ -99,54 +99,54 @@ module _ (memory : List Window) (n : ℕ) (r : Registers) where
 
 -- ---- collections
 
-module _ (memory : List Window) (n : ℕ) (r : Registers) (cs : List (ℕ × Vcpu)) (valid : is_valid r.baser1 ≡ true)
-    (read : collections_from memory n r 0 ≡ Ok cs) where
+module _ (s : Shape) (memory : List Window) (r : Registers) (cs : List (ℕ × Vcpu)) (valid : is_valid r.baser1 ≡ true)
+    (read : collections_from s memory r 0 ≡ Ok cs) where
   some_places : 0 < collection_places r
   some_places = omega arith
 
-  collection_clear : (i : ℕ) → CollectionReached memory r i → collection_check memory n r i ≡ Ok tt
+  collection_clear : (i : ℕ) → CollectionReached memory r i → collection_check s memory r i ≡ Ok tt
   collection_clear i at =
-      let w = walk_clear (look_collection memory n r) (next_collection memory r) (λ j. j) (collection_places r) (λ j. j < collection_places r)
+      let w = walk_clear (look_collection s memory r) (next_collection memory r) (λ j. j) (collection_places r) (λ j. j < collection_places r)
       (collections_rise memory r) (collection_places r - 0) 0 cs read some_places (omega arith) at.0 i at.1 in
-      (checked (collection_check memory n r i) (one_collection (collection_entry memory r i)) w.0 w.1).0
+      (checked (collection_check s memory r i) (one_collection (collection_entry s memory r i)) w.0 w.1).0
 
   among_one : (c : ℕ × Vcpu) (o : Option CollectionFields) → Among c (one_collection o) → o ≡ Some (record { vcpu_number = c.1.0; icid = c.0 })
   among_one c None a = absurd a
   among_one c (Some f) (inl e) = ap (λ (d : ℕ × Vcpu). Some (record { vcpu_number = d.1.0; icid = d.0 })) (sym e)
   among_one c (Some f) (inr a) = absurd a
 
-  collection_from : (c : ℕ × Vcpu) → Among c cs → HasCollection memory r c.0 c.1
+  collection_from : (c : ℕ × Vcpu) → Among c cs → HasCollection s memory r c.0 c.1
   collection_from c a =
-      let w = walk_found (look_collection memory n r) (next_collection memory r) (collection_places r - 0) 0 cs c read a in
-      let v = checked (collection_check memory n r w.0) (one_collection (collection_entry memory r w.0)) w.2.0 w.2.1 in
-      (valid, w.0, w.1, among_one c (collection_entry memory r w.0) (subst (Among c) v.1 w.2.2))
+      let w = walk_found (look_collection s memory r) (next_collection memory r) (collection_places r - 0) 0 cs c read a in
+      let v = checked (collection_check s memory r w.0) (one_collection (collection_entry s memory r w.0)) w.2.0 w.2.1 in
+      (valid, w.0, w.1, among_one c (collection_entry s memory r w.0) (subst (Among c) v.1 w.2.2))
 
-  collection_among : (icid : ℕ) (v : Vcpu) → HasCollection memory r icid v → Among (icid, v) cs
+  collection_among : (icid : ℕ) (v : Vcpu) → HasCollection s memory r icid v → Among (icid, v) cs
   collection_among icid v h =
-      walk_has (look_collection memory n r) (next_collection memory r) (λ j. j) (collection_places r) (λ j. j < collection_places r) (collections_rise memory r)
+      walk_has (look_collection s memory r) (next_collection memory r) (λ j. j) (collection_places r) (λ j. j < collection_places r) (collections_rise memory r)
       (collection_places r - 0) 0 cs read some_places (omega arith) h.2.0 h.1 (icid, v) h.2.1 (
-        one_collection (collection_entry memory r h.1),
-        then_ok (collection_check memory n r h.1) (one_collection (collection_entry memory r h.1))
+        one_collection (collection_entry s memory r h.1),
+        then_ok (collection_check s memory r h.1) (one_collection (collection_entry s memory r h.1))
             (collection_clear h.1 h.2),
         subst (λ (o : Option CollectionFields). Among (icid, v) (one_collection o)) (sym h.3) (inl refl),
       )
 
-  collection_once : (icid : ℕ) (v w : Vcpu) → HasCollection memory r icid v → HasCollection memory r icid w → v ≡ w
-  collection_once icid v w h k = one_entry memory n r icid v w h.1 k.1 (collection_clear h.1 h.2) (collection_clear k.1 k.2) h.3 k.3
+  collection_once : (icid : ℕ) (v w : Vcpu) → HasCollection s memory r icid v → HasCollection s memory r icid w → v ≡ w
+  collection_once icid v w h k = one_entry s memory r icid v w h.1 k.1 (collection_clear h.1 h.2) (collection_clear k.1 k.2) h.3 k.3
 
-  pub collections_clear : AreCollectionsClear memory n r
+  pub collections_clear : AreCollectionsClear s memory r
   collections_clear _ i at = collection_clear i at
 
-  pub collections_are : (icid : ℕ) (v : Vcpu) → (collection_of (after_all put_collection no_maps cs) icid ≡ Some v) ↔ HasCollection memory r icid v
+  pub collections_are : (icid : ℕ) (v : Vcpu) → (collection_of (after_all put_collection no_maps cs) icid ≡ Some v) ↔ HasCollection s memory r icid v
   collections_are icid v = (
     λ e. elim (put_before collection_of put_collection (λ c. c.0) (λ c. Some c.1) (λ m c q. collection-mapped m c.0 c.1 q) no_maps cs icid v e) [
-      | inl s ↦
-          let same : s.0.1 ≡ v = (let two = s.3 in cc) in
-          subst (λ (c : ℕ × Vcpu). HasCollection memory r c.0 c.1) (λ i. (sym s.2 i, same i)) (collection_from s.0 s.1)
+      | inl x ↦
+          let same : x.0.1 ≡ v = (let two = x.3 in cc) in
+          subst (λ (c : ℕ × Vcpu). HasCollection s memory r c.0 c.1) (λ i. (sym x.2 i, same i)) (collection_from x.0 x.1)
       | inr old ↦ absurd (let two : None ≡ Some v = sym (no_collection icid) ∙ old in cc)
     ],
     λ h. stays_put collection_of put_collection (λ c. c.0) (λ c. Some c.1) (λ m c q. collection-mapped m c.0 c.1 q) no_maps cs icid v
-        (λ c a same. ap Some (collection_once icid c.1 v (subst (λ (k : ℕ). HasCollection memory r k c.1) (sym same) (collection_from c a)) h))
+        (λ c a same. ap Some (collection_once icid c.1 v (subst (λ (k : ℕ). HasCollection s memory r k c.1) (sym same) (collection_from c a)) h))
         (inl ((icid, v), collection_among icid v h, refl)),
   )
 
@@ -249,12 +249,12 @@ module _ (memory : List Window) (n : ℕ) (r : Registers) (small : IsSmall r) (f
 none_of : {A : Type 0} (b : Bool) → b ≡ false → b ≡ true → A
 none_of b f t = absurd (let two : false ≡ true = sym f ∙ t in cc)
 
-collection_facts : (memory : List Window) (n : ℕ) (r : Registers) (cs : List (ℕ × Vcpu)) (b : Bool) → is_valid r.baser1 ≡ b
-    → cond b (collections_from memory n r 0) (Ok []) ≡ Ok cs
-    → AreCollectionsClear memory n r × ((icid : ℕ) (v : Vcpu) → (collection_of (after_all put_collection no_maps cs) icid ≡ Some v) ↔ HasCollection memory r
+collection_facts : (s : Shape) (memory : List Window) (r : Registers) (cs : List (ℕ × Vcpu)) (b : Bool) → is_valid r.baser1 ≡ b
+    → cond b (collections_from s memory r 0) (Ok []) ≡ Ok cs
+    → AreCollectionsClear s memory r × ((icid : ℕ) (v : Vcpu) → (collection_of (after_all put_collection no_maps cs) icid ≡ Some v) ↔ HasCollection s memory r
     icid v)
-collection_facts memory n r cs true is e = (collections_clear memory n r cs is e, collections_are memory n r cs is e)
-collection_facts memory n r cs false is e =
+collection_facts s memory r cs true is e = (collections_clear s memory r cs is e, collections_are s memory r cs is e)
+collection_facts s memory r cs false is e =
     let none : [] ≡ cs = cc in (
       λ yes. none_of (is_valid r.baser1) is yes,
       λ icid v. (
@@ -299,16 +299,16 @@ err_parts (Err h) f g e = inl cc
 
 pub maps_stand : (s : Shape) (memory : List Window) (r : Registers) (m : Maps) → IsSmall r → maps_read s memory r ≡ Ok m → AreMapsIn s memory r m
 maps_stand s memory r m small e =
-    let w = ok_parts (after put_collection no_maps (collections_read memory s.vcpus r)) (λ u. after put_found u (devices_read memory s.lpi_bits r)) m e in
-    let c = after-ok put_collection no_maps w.0 (collections_read memory s.vcpus r) w.1 in
+    let w = ok_parts (after put_collection no_maps (collections_read s memory r)) (λ u. after put_found u (devices_read memory s.lpi_bits r)) m e in
+    let c = after-ok put_collection no_maps w.0 (collections_read s memory r) w.1 in
     let d = after-ok put_found w.0 m (devices_read memory s.lpi_bits r) w.2 in
-    let cf = collection_facts memory s.vcpus r c.0 (is_valid r.baser1) refl c.1 in
+    let cf = collection_facts s memory r c.0 (is_valid r.baser1) refl c.1 in
     let df = device_facts memory s.lpi_bits r small d.0 w.0 (is_valid r.baser0) refl d.1 (ap (λ (u : Maps). u.devices) c.2 ∙ devices-collections c.0 no_maps)
     (ap (λ (u : Maps). u.events) c.2 ∙ events-collections c.0 no_maps) in
     subst (AreMapsIn s memory r) (sym d.2) (record {
       collections_clear = cf.0;
       devices_clear = df.0;
-      collections = λ icid v. subst (λ (cs : FinMap nat_cmp Vcpu). (map.get cs icid ≡ Some v) ↔ HasCollection memory r icid v)
+      collections = λ icid v. subst (λ (cs : FinMap nat_cmp Vcpu). (map.get cs icid ≡ Some v) ↔ HasCollection s memory r icid v)
           (sym (collections-devices d.0 w.0 ∙ ap (λ (u : Maps). u.collections) c.2)) (cf.1 icid v);
       devices = df.1;
       events = df.2;
@@ -316,15 +316,15 @@ maps_stand s memory r m small e =
 
 -- ---- the first offence
 
-collections_offend : (memory : List Window) (n : ℕ) (r : Registers) (f : RestoreFault) (b : Bool) → is_valid r.baser1 ≡ b
-    → cond b (collections_from memory n r 0) (Ok []) ≡ Err f → CollectionsOffend memory n r f
-collections_offend memory n r f true is e = (
+collections_offend : (s : Shape) (memory : List Window) (r : Registers) (f : RestoreFault) (b : Bool) → is_valid r.baser1 ≡ b
+    → cond b (collections_from s memory r 0) (Ok []) ≡ Err f → CollectionsOffend s memory r f
+collections_offend s memory r f true is e = (
   is,
-  walk_err (look_collection memory n r) (next_collection memory r) (λ i. collection_check memory n r i ≡ Ok tt) (λ i g. collection_check memory n r i ≡ Err g)
-      (λ i xs ok. (checked (collection_check memory n r i) (one_collection (collection_entry memory r i)) xs ok).0)
-      (λ i g wrong. checked_err (collection_check memory n r i) (one_collection (collection_entry memory r i)) g wrong) (collection_places r - 0) 0 f e,
+  walk_err (look_collection s memory r) (next_collection memory r) (λ i. collection_check s memory r i ≡ Ok tt) (λ i g. collection_check s memory r i ≡ Err g)
+      (λ i xs ok. (checked (collection_check s memory r i) (one_collection (collection_entry s memory r i)) xs ok).0)
+      (λ i g wrong. checked_err (collection_check s memory r i) (one_collection (collection_entry s memory r i)) g wrong) (collection_places r - 0) 0 f e,
 )
-collections_offend memory n r f false is e = absurd cc
+collections_offend s memory r f false is e = absurd cc
 
 devices_offend : (memory : List Window) (n : ℕ) (r : Registers) (f : RestoreFault) (b : Bool) → is_valid r.baser0 ≡ b
     → cond b (devices_from memory n r (first_device r)) (Ok []) ≡ Err f → DevicesOffend memory n r f
@@ -336,15 +336,15 @@ devices_offend memory n r f true is e = (
 devices_offend memory n r f false is e = absurd cc
 
 pub maps_offend : (s : Shape) (memory : List Window) (r : Registers) (f : RestoreFault) → maps_read s memory r ≡ Err f
-    → CollectionsOffend memory s.vcpus r f ⊎ (AreCollectionsClear memory s.vcpus r × DevicesOffend memory s.lpi_bits r f)
+    → CollectionsOffend s memory r f ⊎ (AreCollectionsClear s memory r × DevicesOffend memory s.lpi_bits r f)
 maps_offend s memory r f e =
-    elim (err_parts (after put_collection no_maps (collections_read memory s.vcpus r)) (λ u. after put_found u (devices_read memory s.lpi_bits r)) f e) [
-      | inl wrong ↦ inl (collections_offend memory s.vcpus r f (is_valid r.baser1) refl
-          (after-err put_collection no_maps (collections_read memory s.vcpus r) f wrong))
+    elim (err_parts (after put_collection no_maps (collections_read s memory r)) (λ u. after put_found u (devices_read memory s.lpi_bits r)) f e) [
+      | inl wrong ↦ inl (collections_offend s memory r f (is_valid r.baser1) refl
+          (after-err put_collection no_maps (collections_read s memory r) f wrong))
       | inr w ↦
-          let c = after-ok put_collection no_maps w.0 (collections_read memory s.vcpus r) w.1 in
+          let c = after-ok put_collection no_maps w.0 (collections_read s memory r) w.1 in
           inr (
-            (collection_facts memory s.vcpus r c.0 (is_valid r.baser1) refl c.1).0,
+            (collection_facts s memory r c.0 (is_valid r.baser1) refl c.1).0,
             devices_offend memory s.lpi_bits r f (is_valid r.baser0) refl
                 (after-err put_found w.0 (devices_read memory s.lpi_bits r) f w.2),
           )

@@ -16,13 +16,13 @@ use Rattle.its_plain.specs.declared.desc.LpiTables.{LpiTables}
 use Rattle.its_plain.specs.declared.desc.LpiTables.TheVariants.{Described, Registers}
 use Rattle.standing_states.specs.Laws.{bases_to_restore, AreGiven}
 
-tables_given : (s : Shape) (t : LpiTables) (values : GicrValues) → AreGiven t values
-    → bases_to_restore (record { shape = s; gicr = are_programmed t; described = described_in t }) values ≡ bases_given s.vcpus t
-tables_given s (Described config pending) values given = refl
-tables_given s (Registers w) values given = ap (all_restored_bases s.vcpus) (sym given)
+tables_given : (s : Shape) (track : Bool) (t : LpiTables) (values : GicrValues) → AreGiven t values
+    → bases_to_restore (record { shape = s; gicr = are_programmed t; described = described_in t; track = track }) values ≡ bases_given s.vcpus t
+tables_given s track (Described config pending) values given = refl
+tables_given s track (Registers w) values given = ap (all_restored_bases s.vcpus) (sym given)
 
 pub given_is : (d : Desc) (values : GicrValues) → AreGiven d.tables values → bases_to_restore (layout_of d) values ≡ described.restored_bases d
-given_is d values given = tables_given d.shape d.tables values given
+given_is d values given = tables_given d.shape d.track d.tables values given
 
 -- ---- there are as many as virtual processors
 

@@ -1,8 +1,10 @@
 -- There is at most one first offence, and none where a state stands.
-use Rattle.std.proofs.Common.{◌≡◌, ℕ, ◌<◌, ◌≤◌, true, false, List, Option, Some, None, Result, Ok, Err, refl, sym, subst, ap, ◌∙◌, inl, inr, arith}
+use Rattle.std.proofs.Common.{◌≡◌, ℕ, zero, suc, ◌<◌, ◌≤◌, true, false, List, [], ◌∷◌, length, Option, Some, None, Result, Ok, Err, refl, sym, subst, ap, ◌∙◌, inl, inr, arith}
 use Rattle.std.specs.Option.{option_and_then, IsSome}
 use Rattle.std.specs.Result.{IsOk}
 use Rattle.std.proofs.lemmas.Bool.{cases_lt}
+use Rattle.std.proofs.lemmas.Option.{same_Some}
+use Rattle.std.specs.Prelude.{slice_get}
 use Rattle.guest_windows.specs.Windows.{Window, number_at}
 use Rattle.gits_regs.specs.Registers.{Registers, masked, restored}
 use Rattle.gits_regs.specs.declared.values.NotValid.{NotValid}
@@ -11,13 +13,14 @@ use Rattle.table_entries.specs.Fields.{DeviceFields}
 use Rattle.table_entries.specs.Words.{unpacked_device}
 use Rattle.its_types.specs.declared.machine.Shape.{Shape}
 use Rattle.its_types.specs.declared.translation.Bases.{Bases}
-use Rattle.its_plain.specs.Plain.{Plain}
+use Rattle.its_plain.specs.Plain.{Plain, Translator}
 use Rattle.its_plain.specs.declared.layout.Layout.{Layout}
 use Rattle.its_plain.specs.EventTables.{Itt, itt_of, event_check, next_event, IsIttClear, IttOffends}
 use Rattle.its_plain.specs.CollectionTables.{collection_check, next_collection, AreCollectionsClear, CollectionsOffend}
 use Rattle.its_plain.specs.DeviceTables.{DevicePlace, at_level1, at_entry, first_device, id_of, device_address, device_entry, device_of_fields, next_device}
 use Rattle.its_plain.specs.DeviceTables.{IsDeviceClear, DeviceFaults, is_outside, has_bad_size, has_bad_itt, leads_past, AreDevicesClear, DevicesOffend}
-use Rattle.its_plain.specs.Stands.{Stands, IsFirstFault, of_redistributor, of_register, of_collection, of_device, AreRedistributorsClear, RedistributorOffends}
+use Rattle.its_plain.specs.Stands.{Stands, IsFirstFault, IsTranslatorIn, IsTranslatorClear, TranslatorOffends, of_redistributor, of_translator, of_register, of_collection, of_device}
+use Rattle.its_plain.specs.Stands.{AreRedistributorsClear, RedistributorOffends}
 use Rattle.its_plain.specs.declared.fault.Table.TheVariants.{Devices}
 use Rattle.its_plain.specs.declared.fault.RestoreFault.{RestoreFault}
 use Rattle.its_plain.specs.declared.fault.RestoreFault.TheVariants.{BadRedist, PastEnd}
@@ -52,16 +55,16 @@ itt_apart memory n t f clear a =
 
 -- ---- collections
 
-collections_once : (memory : List Window) (n : ℕ) (r : Registers) (f g : RestoreFault) → CollectionsOffend memory n r f → CollectionsOffend memory n r g → f ≡ g
-collections_once memory n r f g a b =
-    first_once (λ i. collection_check memory n r i ≡ Ok tt) (λ i h. collection_check memory n r i ≡ Err h) (next_collection memory r)
-    (λ i h. ok_or_err (collection_check memory n r i) tt h)
-    (λ i h k. one_err (collection_check memory n r i) h k) 0 a.1.0 b.1.0 f g a.1.1 b.1.1
+collections_once : (s : Shape) (memory : List Window) (r : Registers) (f g : RestoreFault) → CollectionsOffend s memory r f → CollectionsOffend s memory r g → f ≡ g
+collections_once s memory r f g a b =
+    first_once (λ i. collection_check s memory r i ≡ Ok tt) (λ i h. collection_check s memory r i ≡ Err h) (next_collection memory r)
+    (λ i h. ok_or_err (collection_check s memory r i) tt h)
+    (λ i h k. one_err (collection_check s memory r i) h k) 0 a.1.0 b.1.0 f g a.1.1 b.1.1
 
-collections_apart : (memory : List Window) (n : ℕ) (r : Registers) (f : RestoreFault) → AreCollectionsClear memory n r → CollectionsOffend memory n r f → ⊥
-collections_apart memory n r f clear a =
-    none_where_clear (λ i. collection_check memory n r i ≡ Ok tt) (λ i h. collection_check memory n r i ≡ Err h) (next_collection memory r)
-    (λ i h. ok_or_err (collection_check memory n r i) tt h) 0 a.1.0 f (clear a.0) a.1.1
+collections_apart : (s : Shape) (memory : List Window) (r : Registers) (f : RestoreFault) → AreCollectionsClear s memory r → CollectionsOffend s memory r f → ⊥
+collections_apart s memory r f clear a =
+    none_where_clear (λ i. collection_check s memory r i ≡ Ok tt) (λ i h. collection_check s memory r i ≡ Err h) (next_collection memory r)
+    (λ i h. ok_or_err (collection_check s memory r i) tt h) 0 a.1.0 f (clear a.0) a.1.1
 
 -- ---- devices
 
@@ -124,9 +127,40 @@ module _ (memory : List Window) (n : ℕ) (r : Registers) where
   devices_apart f clear a = none_where_clear (IsDeviceClear memory n r) (DeviceFaults memory n r) (next_device memory r) place_apart (first_device r) a.1.0 f
       (clear a.0) a.1.1
 
+-- ---- a translator
+
+not_ok : {A X : Type 0} (x : Result X NotValid) (e : NotValid) → x ≡ Err e → IsOk x → A
+not_ok (Ok y) e is ok = absurd cc
+not_ok (Err g) e is ok = absurd cc
+
+module _ (s : Shape) (memory : List Window) (values : RegValues) where
+  translator_once : (f g : RestoreFault) → TranslatorOffends s memory values f → TranslatorOffends s memory values g → f ≡ g
+  translator_once _ _ (of_register d at) (of_register e is) = ap (λ (x : NotValid). fault.NotValid x.0) (one_register (restored values s.dev_bits) d e at is)
+  translator_once _ _ (of_register e is) (of_collection f ok bad) = not_ok (restored values s.dev_bits) e is ok
+  translator_once _ _ (of_register e is) (of_device f ok cs bad) = not_ok (restored values s.dev_bits) e is ok
+  translator_once _ _ (of_collection f ok bad) (of_register e is) = not_ok (restored values s.dev_bits) e is ok
+  translator_once _ _ (of_collection f ok bad) (of_collection g fine worse) = collections_once s memory (masked values s.dev_bits) f g bad worse
+  translator_once _ _ (of_collection f ok bad) (of_device g fine cs worse) = absurd (collections_apart s memory (masked values s.dev_bits) f cs bad)
+  translator_once _ _ (of_device f ok cs bad) (of_register e is) = not_ok (restored values s.dev_bits) e is ok
+  translator_once _ _ (of_device f ok cs bad) (of_collection g fine worse) = absurd (collections_apart s memory (masked values s.dev_bits) g cs worse)
+  translator_once _ _ (of_device f ok cs bad) (of_device g fine ds worse) = devices_once memory s.lpi_bits (masked values s.dev_bits) f g bad worse
+
+  translator_apart : (f : RestoreFault) → IsTranslatorClear s memory values → TranslatorOffends s memory values f → ⊥
+  translator_apart _ clear (of_register e is) = not_ok (restored values s.dev_bits) e is clear.registers
+  translator_apart _ clear (of_collection f ok bad) = collections_apart s memory (masked values s.dev_bits) f clear.collections bad
+  translator_apart _ clear (of_device f ok cs bad) = devices_apart memory s.lpi_bits (masked values s.dev_bits) f clear.devices bad
+
+  -- one that stands has no fault
+  standing_clear : (t : Translator) → IsTranslatorIn s memory values t → IsTranslatorClear s memory values
+  standing_clear t a = record {
+    registers = a.allowed;
+    collections = subst (AreCollectionsClear s memory) a.regs a.maps.collections_clear;
+    devices = subst (AreDevicesClear memory s.lpi_bits) a.regs a.maps.devices_clear;
+  }
+
 -- ---- the whole
 
-module _ (memory : List Window) (values : RegValues) (s : Shape) (bases : List Bases) where
+module _ (memory : List Window) (s : Shape) (bases : List Bases) where
   redist_not : {A : Type 0} (v : ℕ) → RedistributorOffends s memory bases v → AreRedistributorsClear s memory bases → A
   redist_not v w clear = absurd (let two : true ≡ false = sym w.lacks ∙ clear v w.base w.base_is in cc)
 
@@ -142,42 +176,43 @@ module _ (memory : List Window) (values : RegValues) (s : Shape) (bases : List B
     ]
   ]
 
-  not_ok : {A X : Type 0} (x : Result X NotValid) (e : NotValid) → x ≡ Err e → IsOk x → A
-  not_ok (Ok y) e is ok = absurd cc
-  not_ok (Err g) e is ok = absurd cc
+  -- two faults at one translator
+  same_place : (values : List (Option RegValues)) (i j : ℕ) (v w : RegValues) (f g : RestoreFault) → i ≡ j → slice_get values i ≡ Some (Some v)
+      → slice_get values j ≡ Some (Some w) → TranslatorOffends s memory v f → TranslatorOffends s memory w g → f ≡ g
+  same_place values i j v w f g e at there bad worse =
+      let two : Some (Some v) ≡ Some (Some w) = sym at ∙ ap (slice_get values) e ∙ there in
+      let same : v ≡ w = same_Some v w (same_Some (Some v) (Some w) two) in
+      translator_once s memory v f g bad (subst (λ (x : RegValues). TranslatorOffends s memory x g) (sym same) worse)
 
-  fault_once : (f g : RestoreFault) → IsFirstFault memory values s bases f → IsFirstFault memory values s bases g → f ≡ g
-  fault_once _ _ (of_redistributor v a) (of_redistributor w b) = ap (λ k. BadRedist (record { 0 = k })) (one_redist v w a b)
-  fault_once _ _ (of_redistributor v a) (of_register e clear is) = redist_not v a clear
-  fault_once _ _ (of_redistributor v a) (of_collection f clear ok bad) = redist_not v a clear
-  fault_once _ _ (of_redistributor v a) (of_device f clear ok cs bad) = redist_not v a clear
-  fault_once _ _ (of_register e clear is) (of_redistributor v a) = redist_not v a clear
-  fault_once _ _ (of_register d clear at) (of_register e also is) = ap (λ (x : NotValid). fault.NotValid x.0)
-      (one_register (restored values s.dev_bits) d e at is)
-  fault_once _ _ (of_register e clear is) (of_collection f also ok bad) = not_ok (restored values s.dev_bits) e is ok
-  fault_once _ _ (of_register e clear is) (of_device f also ok cs bad) = not_ok (restored values s.dev_bits) e is ok
-  fault_once _ _ (of_collection f clear ok bad) (of_redistributor v a) = redist_not v a clear
-  fault_once _ _ (of_collection f clear ok bad) (of_register e also is) = not_ok (restored values s.dev_bits) e is ok
-  fault_once _ _ (of_collection f clear ok bad) (of_collection g also fine worse) = collections_once memory s.vcpus (masked values s.dev_bits) f g bad worse
-  fault_once _ _ (of_collection f clear ok bad) (of_device g also fine cs worse) = absurd (collections_apart memory s.vcpus (masked values s.dev_bits) f cs bad)
-  fault_once _ _ (of_device f clear ok cs bad) (of_redistributor v a) = redist_not v a clear
-  fault_once _ _ (of_device f clear ok cs bad) (of_register e also is) = not_ok (restored values s.dev_bits) e is ok
-  fault_once _ _ (of_device f clear ok cs bad) (of_collection g also fine worse) =
-      absurd (collections_apart memory s.vcpus (masked values s.dev_bits) g cs worse)
-  fault_once _ _ (of_device f clear ok cs bad) (of_device g also fine ds worse) = devices_once memory s.lpi_bits (masked values s.dev_bits) f g bad worse
+pub first_fault_once : (memory : List Window) (values : List (Option RegValues)) (s : Shape) (bases : List Bases) (i j : ℕ) (f g : RestoreFault)
+    → IsFirstFault memory values s bases i f → IsFirstFault memory values s bases j g → (i ≡ j) × (f ≡ g)
+first_fault_once memory values s bases _ _ _ _ (of_redistributor v a) (of_redistributor w b) =
+    (refl, ap (λ k. BadRedist (record { 0 = k })) (one_redist memory s bases v w a b))
+first_fault_once memory values s bases _ _ _ _ (of_redistributor v a) (of_translator j w g clear before at bad) = redist_not memory s bases v a clear
+first_fault_once memory values s bases _ _ _ _ (of_translator i w f clear before at bad) (of_redistributor v a) = redist_not memory s bases v a clear
+first_fault_once memory values s bases _ _ _ _ (of_translator i v f clear before at bad) (of_translator j w g also earlier there worse) =
+    elim (cases_lt i j) [
+      | inl lt ↦ absurd (translator_apart s memory v f (earlier i v lt at) bad)
+      | inr le ↦ elim (cases_lt j i) [
+        | inl lt ↦ absurd (translator_apart s memory w g (before j w lt there) worse)
+        | inr ge ↦ let e : i ≡ j = omega arith in (e, same_place memory s bases values i j v w f g e at there bad worse)
+      ]
+    ]
 
-pub first_fault_once : (memory : List Window) (values : RegValues) (s : Shape) (bases : List Bases) (f g : RestoreFault) → IsFirstFault memory values s bases f
-    → IsFirstFault memory values s bases g → f ≡ g
-first_fault_once memory values s bases f g a b = fault_once memory values s bases f g a b
+pub exists_at : {X : Type 0} (xs : List X) (i : ℕ) → i < length xs → (x : X) × (slice_get xs i ≡ Some x)
+exists_at [] i lt = absurd (omega arith)
+exists_at (x ∷ xs) zero lt = (x, refl)
+exists_at (x ∷ xs) (suc i) lt = exists_at xs i (omega arith)
 
-pub stands_without : (memory : List Window) (values : RegValues) (layout : Layout) (bases : List Bases) (u : Plain) (f : RestoreFault)
-    → Stands memory values layout bases u → IsFirstFault memory values layout.shape bases f → ⊥
-stands_without memory values layout bases u _ a (of_redistributor v w) = redist_not memory values layout.shape bases v w a.clear
-stands_without memory values layout bases u _ a (of_register e clear is) = not_ok memory values layout.shape bases (restored values layout.shape.dev_bits) e is
-    a.stands.allowed
-stands_without memory values layout bases u _ a (of_collection f clear ok bad) =
-    collections_apart memory layout.shape.vcpus (masked values layout.shape.dev_bits) f
-    (subst (AreCollectionsClear memory layout.shape.vcpus) a.stands.regs a.stands.maps.collections_clear) bad
-stands_without memory values layout bases u _ a (of_device f clear ok cs bad) =
-    devices_apart memory layout.shape.lpi_bits (masked values layout.shape.dev_bits) f
-    (subst (AreDevicesClear memory layout.shape.lpi_bits) a.stands.regs a.stands.maps.devices_clear) bad
+pub in_list : {X : Type 0} (xs : List X) (i : ℕ) (x : X) → slice_get xs i ≡ Some x → i < length xs
+in_list [] i x e = absurd cc
+in_list (y ∷ ys) zero x e = omega arith
+in_list (y ∷ ys) (suc i) x e = let lt = in_list ys i x e in omega arith
+
+pub stands_without : (memory : List Window) (values : List (Option RegValues)) (layout : Layout) (bases : List Bases) (u : Plain) (i : ℕ) (f : RestoreFault)
+    → Stands memory values layout bases u → IsFirstFault memory values layout.shape bases i f → ⊥
+stands_without memory values layout bases u _ _ a (of_redistributor v w) = redist_not memory layout.shape bases v w a.clear
+stands_without memory values layout bases u _ _ a (of_translator i v f clear before at bad) =
+    let lt : i < length u.translators = subst (λ (n : ℕ). i < n) (sym a.count) (in_list values i (Some v) at) in
+    let t = exists_at u.translators i lt in
+    translator_apart layout.shape memory v f (standing_clear layout.shape memory v t.0 (a.translators i (Some v) t.0 at t.1)) bad

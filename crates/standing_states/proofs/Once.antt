@@ -16,7 +16,7 @@ use Rattle.its_types.specs.declared.translation.Bases.{Bases}
 use Rattle.its_types.proofs.PairOrder.{pair_total, pair_same}
 use Rattle.its_plain.specs.Plain.{Plain, Translator, Redistributor}
 use Rattle.its_plain.specs.declared.layout.Layout.{Layout}
-use Rattle.its_plain.specs.Stands.{Stands, IsTranslatorIn, AreMapsIn, IsRedistributorIn}
+use Rattle.its_plain.specs.Stands.{Stands, IsTranslatorIn, IsTranslatorFrom, AreMapsIn, IsRedistributorIn}
 use Rattle.gits_regs.specs.Registers.{Registers}
 
 -- ---- rising lists with the same elements
@@ -141,15 +141,22 @@ translators_alike s memory values t w a b =
     let maps : t.maps ≡ w.maps = maps_alike s memory t.regs t.maps w.maps a.maps (subst (λ (r : Registers). AreMapsIn s memory r w.maps) (sym regs) b.maps) in
     λ i. record { regs = regs i; maps = maps i }
 
+-- from values, or at reset
+from_alike : (s : Shape) (memory : List Window) (values : Option RegValues) (t w : Translator) → IsTranslatorFrom s memory values t
+    → IsTranslatorFrom s memory values w → t ≡ w
+from_alike s memory None t w a b = a ∙ sym b
+from_alike s memory (Some values) t w a b = translators_alike s memory values t w a b
+
 -- ---- the machine
 
-pub stands_once : (memory : List Window) (values : RegValues) (layout : Layout) (bases : List Bases) (u v : Plain) → Stands memory values layout bases u
-    → Stands memory values layout bases v → u ≡ v
+pub stands_once : (memory : List Window) (values : List (Option RegValues)) (layout : Layout) (bases : List Bases) (u v : Plain)
+    → Stands memory values layout bases u → Stands memory values layout bases v → u ≡ v
 stands_once memory values layout bases u v a b =
     let layouts : u.layout ≡ v.layout = a.layout_is ∙ sym b.layout_is in
     let memories : u.memory ≡ v.memory = a.memory_is ∙ sym b.memory_is in
-    let one : a.translator ≡ b.translator = translators_alike layout.shape memory values a.translator b.translator a.stands b.stands in
-    let translators : u.translators ≡ v.translators = a.translator_is ∙ ap (λ (t : Translator). t ∷ []) one ∙ sym b.translator_is in
+    let tracks : u.track ≡ v.track = a.track_is ∙ sym b.track_is in
+    let translators : u.translators ≡ v.translators = same_each values u.translators v.translators a.count b.count
+    (λ i o t w at et ew. from_alike layout.shape memory o t w (a.translators i o t at et) (b.translators i o w at ew)) in
     let redistributors : u.redistributors ≡ v.redistributors = same_each bases u.redistributors v.redistributors a.vcpus b.vcpus
     (λ w c x y at ex ey. redistributors_alike layout.shape memory c x y (a.redistributors w c x at ex) (b.redistributors w c y at ey)) in
-    λ i. record { layout = layouts i; translators = translators i; redistributors = redistributors i; memory = memories i }
+    λ i. record { layout = layouts i; translators = translators i; redistributors = redistributors i; memory = memories i; track = tracks i }

@@ -1,7 +1,7 @@
 -- A state that memory stands for is sound.
 use Rattle.std.proofs.Common.{◌≡◌, ℕ, zero, suc, ◌+◌, ◌-◌, ◌*◌, ◌%◌, ◌^◌, ◌<◌, ◌≤◌, Bool, true, false, not, cond, eqb, nat_lt, List, [], ◌∷◌, length, map}
 use Rattle.std.proofs.Common.{Option, Some, None, Result, Ok, Err, refl, sym, subst, ap, ◌∙◌, arith, pow_pos}
-use Rattle.std.specs.Prelude.{◌||◌, ◌&&◌, slice_get}
+use Rattle.std.specs.Prelude.{◌||◌, ◌&&◌, is_some, slice_get}
 use Rattle.std.specs.Option.{option_and_then, option_map, ok_or}
 use Rattle.std.specs.Result.{IsOk, IfOk}
 use Rattle.std.specs.List.{AllByRecursion}
@@ -37,7 +37,7 @@ use Rattle.its_plain.specs.DeviceTables.{AreDevicesClear, HasDevice}
 use Rattle.its_plain.specs.Plain.{Plain, Translator, Redistributor}
 use Rattle.its_plain.specs.declared.layout.Layout.{Layout}
 use Rattle.its_plain.specs.Sound.{IsShape, IsLayout, IsDevice, IsEvent, IsCollection, IsTranslator, HasTables, IsRedistributor, IsSound}
-use Rattle.its_plain.specs.Stands.{Stands, IsTranslatorIn, AreMapsIn, IsRedistributorIn, AreRedistributorsClear, lacks_tables, is_set}
+use Rattle.its_plain.specs.Stands.{Stands, IsTranslatorIn, IsTranslatorFrom, AreMapsIn, IsRedistributorIn, AreRedistributorsClear, lacks_tables, is_set}
 use Rattle.its_plain.specs.declared.fault.RestoreFault.{RestoreFault}
 use Rattle.its_plain.specs.declared.fault.RestoreFault.TheVariants.{OutsideTable}
 use Rattle.standing_states.specs.Laws.{AreBasesOf}
@@ -47,6 +47,10 @@ use Rattle.standing_states.proofs.DevicesWalked.{small, device_starts, page_of_t
 use Rattle.standing_states.proofs.EventsWalked.{events_rise}
 use Rattle.standing_states.proofs.Standing.{good_along}
 use Rattle.standing_states.proofs.Masked.{are_masked}
+use Rattle.standing_states.proofs.Offences.{exists_at, in_list}
+use Rattle.plain_soundness.proofs.First.{reset_translator}
+use Rattle.plain_soundness.proofs.Migrated.{tracks_of, tracked_of}
+use Rattle.dirty_log.specs.Copies.{IsTracked}
 
 -- ---- fields of entries
 
@@ -178,10 +182,10 @@ module _ (memory : List Window) (s : Shape) (r : Registers) (least : 16 ≤ r.de
   second_of true false f g rest e = absurd cc
   second_of false b f g rest e = absurd cc
 
-  is_collection : AreCollectionsClear memory s.vcpus r → (icid : ℕ) (v : Vcpu) → HasCollection memory r icid v → IsCollection s r icid v
+  is_collection : AreCollectionsClear s memory r → (icid : ℕ) (v : Vcpu) → HasCollection s memory r icid v → IsCollection s r icid v
   is_collection clear icid v h =
       let c : CollectionFields = record { vcpu_number = v.0; icid = icid } in
-      let ok = entry_of_word memory s.vcpus r h.1 c (OutsideTable (record { 0 = collection_address r h.1 })) (number_at memory (collection_address r h.1))
+      let ok = entry_of_word s memory r h.1 c (OutsideTable (record { 0 = collection_address r h.1 })) (number_at memory (collection_address r h.1))
       (clear h.0 h.1 h.2) h.3 in
       let two = second_of (nat_lt icid (collection_places r)) (nat_lt v.0 s.vcpus) _ _ _ ok in
       record { table = h.0; in_table = ltb-true icid (collection_places r) two.0; target = ltb-true v.0 s.vcpus two.1 }
@@ -264,28 +268,20 @@ redistributor_sound l memory bases v b r kept clear at a =
 
 -- ---- the machine
 
-exists_at : {X : Type 0} (xs : List X) (i : ℕ) → i < length xs → (x : X) × (slice_get xs i ≡ Some x)
-exists_at [] i lt = absurd (omega arith)
-exists_at (x ∷ xs) zero lt = (x, refl)
-exists_at (x ∷ xs) (suc i) lt = exists_at xs i (omega arith)
+-- of values, or at reset
+from_sound : (memory : List Window) (s : Shape) (o : Option RegValues) (t : Translator) → IsShape s → IsTranslatorFrom s memory o t → IsTranslator s t
+from_sound memory s None t shape a = subst (IsTranslator s) (sym a) (reset_translator s shape)
+from_sound memory s (Some values) t shape a = translator_sound memory s values t shape a
 
-in_list : {X : Type 0} (xs : List X) (i : ℕ) (x : X) → slice_get xs i ≡ Some x → i < length xs
-in_list [] i x e = absurd cc
-in_list (y ∷ ys) zero x e = omega arith
-in_list (y ∷ ys) (suc i) x e = let lt = in_list ys i x e in omega arith
-
-only_one : (t : Translator) (i : ℕ) (w : Translator) → slice_get (t ∷ []) i ≡ Some w → t ≡ w
-only_one t zero w e = cc
-only_one t (suc i) w e = absurd cc
-
-pub standing_sound : (memory : List Window) (values : RegValues) (layout : Layout) (bases : List Bases) (u : Plain) → IsLayout layout → AreBasesOf layout bases
-    → are_windows (map extent memory) ≡ true → Stands memory values layout bases u → IsSound u
+pub standing_sound : (memory : List Window) (values : List (Option RegValues)) (layout : Layout) (bases : List Bases) (u : Plain) → IsLayout layout
+    → AreBasesOf layout bases → are_windows (map extent memory) ≡ true → Stands memory values layout bases u → IsSound u
 standing_sound memory values layout bases u sound kept windows a = record {
   layout = subst IsLayout (sym a.layout_is) sound;
   translators = λ i t e.
-      let same : a.translator ≡ t = only_one a.translator i t (ap (λ (ts : List Translator). slice_get ts i) (sym a.translator_is) ∙ e) in
+      let lt : i < length values = subst (λ (n : ℕ). i < n) a.count (in_list u.translators i t e) in
+      let v = exists_at values i lt in
       subst (λ (l : Layout). IsTranslator l.shape t) (sym a.layout_is)
-      (subst (IsTranslator layout.shape) same (translator_sound memory layout.shape values a.translator sound.shape a.stands));
+      (from_sound memory layout.shape v.0 t sound.shape (a.translators i v.0 t v.1 e));
   vcpus = a.vcpus ∙ kept.as_many ∙ ap (λ (l : Layout). l.shape.vcpus) (sym a.layout_is);
   redistributors = λ v r e.
       let lt : v < length bases = subst (λ (n : ℕ). v < n) a.vcpus (in_list u.redistributors v r e) in
@@ -293,4 +289,6 @@ standing_sound memory values layout bases u sound kept windows a = record {
       let s = redistributor_sound layout memory bases v b.0 r kept a.clear b.1 (a.redistributors v b.0 r b.1 e) in
       subst (λ (m : List Window). IsRedistributor u.layout m v r) (sym a.memory_is) (subst (λ (l : Layout). IsRedistributor l memory v r) (sym a.layout_is) s);
   memory = ap (λ (m : List Window). are_windows (map extent m)) a.memory_is ∙ windows;
+  tracks = ap is_some a.track_is ∙ tracks_of layout.track memory ∙ ap (λ (l : Layout). l.track) (sym a.layout_is);
+  tracked = λ t e. subst (λ (m : List Window). IsTracked m t) (sym a.memory_is) (tracked_of layout.track memory t (sym a.track_is ∙ e));
 }

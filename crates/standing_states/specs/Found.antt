@@ -45,21 +45,21 @@ abbrev pub one_collection : Option CollectionFields → List (ℕ × Vcpu)
 one_collection None = []
 one_collection (Some c) = (c.icid, record { 0 = c.vcpu_number }) ∷ []
 
-abbrev pub look_collection : List Window → ℕ → Registers → ℕ → Result (List (ℕ × Vcpu)) RestoreFault
-look_collection memory vcpus r i = collection_check memory vcpus r i >>= λ _. Ok (one_collection (collection_entry memory r i))
+abbrev pub look_collection : Shape → List Window → Registers → ℕ → Result (List (ℕ × Vcpu)) RestoreFault
+look_collection s memory r i = collection_check s memory r i >>= λ _. Ok (one_collection (collection_entry s memory r i))
 
-abbrev pub collections_from : List Window → ℕ → Registers → ℕ → Result (List (ℕ × Vcpu)) RestoreFault
-collections_from memory vcpus r i = walk (look_collection memory vcpus r) (next_collection memory r) (collection_places r - i) i
+abbrev pub collections_from : Shape → List Window → Registers → ℕ → Result (List (ℕ × Vcpu)) RestoreFault
+collections_from s memory r i = walk (look_collection s memory r) (next_collection memory r) (collection_places r - i) i
 
-abbrev pub collections_read : List Window → ℕ → Registers → Result (List (ℕ × Vcpu)) RestoreFault
-collections_read memory vcpus r = if is_valid r.baser1 then collections_from memory vcpus r 0 else Ok []
+abbrev pub collections_read : Shape → List Window → Registers → Result (List (ℕ × Vcpu)) RestoreFault
+collections_read s memory r = if is_valid r.baser1 then collections_from s memory r 0 else Ok []
 
 abbrev pub put_collection : Maps → ℕ × Vcpu → Maps
 put_collection m c = collection_mapped m c.0 c.1
 
 -- just the collections of the first n places are mapped
-abbrev pub AreThoseBefore : List Window → Registers → Maps → ℕ → Type 0
-AreThoseBefore memory r m n = (icid : ℕ) → is_some (collection_of m icid) ≡ stands_before memory r n icid
+abbrev pub AreThoseBefore : Shape → List Window → Registers → Maps → ℕ → Type 0
+AreThoseBefore s memory r m n = (icid : ℕ) → is_some (collection_of m icid) ≡ stands_before s memory r n icid
 
 -- ---- devices
 
@@ -110,4 +110,4 @@ put_found m x = after_all (put_event x.dev) (device_mapped m x.dev x.device) x.e
 -- ---- all maps
 
 abbrev pub maps_read : Shape → List Window → Registers → Result Maps RestoreFault
-maps_read s memory r = after put_collection no_maps (collections_read memory s.vcpus r) >>= λ m. after put_found m (devices_read memory s.lpi_bits r)
+maps_read s memory r = after put_collection no_maps (collections_read s memory r) >>= λ m. after put_found m (devices_read memory s.lpi_bits r)
