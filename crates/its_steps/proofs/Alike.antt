@@ -1,11 +1,11 @@
 -- Two states of a machine that have what is held answer a call alike, and leave it alike.
-use Rattle.std.proofs.Common.{◌≡◌, ◌⊎◌, List, [], ◌∷◌, ap, sym, ◌∙◌, subst, ⊎_elim}
+use Rattle.std.proofs.Common.{◌≡◌, ◌⊎◌, Bool, true, false, List, [], ◌∷◌, ap, sym, ◌∙◌, subst, ⊎_elim}
 use Rattle.std.specs.List.{AllByRecursion}
 use Rattle.its_types.specs.Lpis.{with_lpi}
 use Rattle.its_types.specs.declared.ids.Target.{Target}
 use Rattle.its_types.specs.declared.machine.Part.{Part}
 use Rattle.its_types.specs.declared.machine.Part.TheVariants as part
-use Rattle.its_plain.specs.Answer.{answer, left, reply_of}
+use Rattle.its_plain.specs.Answer.{answer, left, signal_left, reply_of}
 use Rattle.its_plain.specs.Commands.{lpi_set}
 use Rattle.its_plain.specs.Parts.{AgreesOn, IsIn, SamePart, footprint}
 use Rattle.its_plain.specs.Plain.{Plain, pending_of, redistributor}
@@ -18,23 +18,27 @@ use Rattle.plain_footprint.proofs.Listed.{in_head}
 use Rattle.plain_footprint.proofs.OtherParts.{leaves}
 use Rattle.plain_footprint.proofs.SameParts.{same_parts}
 use Rattle.plain_footprint.proofs.Stays.{stay, stay_redist}
-use Rattle.its_steps.specs.Contents.{Held, parts_of}
+use Rattle.its_steps.specs.Contents.{Redist, Held, parts_of}
 use Rattle.its_steps.specs.Good.{Holds}
-use Rattle.its_steps.specs.MayCall.{Covers, IsAnswered, IsHit}
+use Rattle.its_steps.specs.MayCall.{Covers, IsAnswered, IsHit, met}
 use Rattle.its_steps.specs.Parts.{Setup, HasVcpus, Stands}
 use Rattle.its_steps.specs.declared.commit.Commit.{Commit}
 use Rattle.its_steps.proofs.Assembled.{IsSized, same_back, same_through, in_holds, holds_in, all_in, in_or_not}
 use Rattle.its_steps.proofs.Helds.{all_held}
 use Rattle.its_steps.proofs.Lists.{all_weaker}
+use Rattle.its_steps.proofs.Messages.{is_message}
+use Rattle.its_steps.proofs.Owed.{owes_holds}
 
 -- an LPI of a target is pending from then on
 abbrev pub sent : Target → Plain → Plain
 sent target z = lpi_set target.intid.0 target.vcpu.0 z
 
--- which is what a hit leaves
-pub hit_leaves : (s : Setup) (a : Commit) (held : List Held) (hit : IsHit s a held) (z : Plain) → sent hit.target z ≡ left z a.call a.reply
-unfolding left
-hit_leaves s a held hit z = λ d. left z (sym hit.call_is d) (sym hit.reply_is d)
+-- what a hit leaves
+pub hit_leaves : (s : Setup) (a : Commit) (held : List Held) (hit : IsHit s a held) (z : Plain)
+    → signal_left z (met hit.redist.bases.on hit.target) ≡ left z a.call a.reply
+hit_leaves s a held hit z =
+    let m = is_message a.call hit.its hit.dev hit.ev hit.message in
+    sym (m.leaves z (met hit.redist.bases.on hit.target)) ∙ (λ d. left z a.call (sym hit.reply_is d))
 
 module _ (s : Setup) (vcpus : HasVcpus s) (held : List Held) (stands : AllByRecursion (λ x. Stands s x.part) held) (x y : Plain) (sx : IsSized s x)
     (sy : IsSized s y) (agree : (p : Part) → Holds p held → SamePart x y p) where
@@ -97,6 +101,15 @@ module _ (s : Setup) (vcpus : HasVcpus s) (held : List Held) (stands : AllByRecu
         (stay y (part.Redist target.vcpu ∷ []))).parts p
         (λ at. lacks (all_in (λ q. Holds q held) (part.Redist target.vcpu ∷ []) p at (redist, tt)))
 
+    met_same : (on : Bool) (p : Part) → Holds p held → SamePart (signal_left x (met on target)) (signal_left y (met on target)) p
+    met_same true p owns = sent_same p owns
+    met_same false p owns = agree p owns
+
+    pub met_others : (on : Bool) (p : Part) → ¬ Holds p held → SamePart y (signal_left y (met on target)) p
+    met_others true p lacks = sent_others p lacks
+    met_others false p lacks = (stay y (part.Redist target.vcpu ∷ [])).parts p (λ at. lacks
+        (all_in (λ q. Holds q held) (part.Redist target.vcpu ∷ []) p at (redist, tt)))
+
   -- ---- either
 
   pub left_same : (a : Commit) → IsAnswered x a.call a.reply held ⊎ IsHit s a held → (p : Part) → Holds p held
@@ -106,4 +119,4 @@ module _ (s : Setup) (vcpus : HasVcpus s) (held : List Held) (stands : AllByRecu
       subst (λ (r : Reply × Reply). SamePart (left x a.call r.0) (left y a.call r.1) p)
       (λ d. (sym t.reply_is d, sym (t.reply_is ∙ same_reply a.call t.covers) d)) (answered_same a.call t.covers p owns))
       (λ (t : IsHit s a held). subst (λ (z : Plain × Plain). SamePart z.0 z.1 p) (λ d. (hit_leaves s a held t x d, hit_leaves s a held t y d))
-      (sent_same t.target t.redist p owns)) one
+      (met_same t.target (owes_holds (part.Redist t.target.vcpu) (Redist t.redist) held t.target_owes) t.redist.bases.on p owns)) one

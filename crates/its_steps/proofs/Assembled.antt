@@ -27,13 +27,13 @@ use Rattle.its_steps.proofs.Owed.{owes_holds}
 
 pub same_back : (u w : Plain) (p : Part) → SamePart u w p → SamePart w u p
 same_back u w (part.Maps its) e = sym e
-same_back u w part.Mem e = sym e
+same_back u w part.Mem e = (sym e.0, sym e.1)
 same_back u w (part.Shard its n) e = tt
 same_back u w (part.Redist vcpu) e = sym e
 
 pub same_through : (u w x : Plain) (p : Part) → SamePart u w p → SamePart w x p → SamePart u x p
 same_through u w x (part.Maps its) e f = e ∙ f
-same_through u w x part.Mem e f = e ∙ f
+same_through u w x part.Mem e f = (e.0 ∙ f.0, e.1 ∙ f.1)
 same_through u w x (part.Shard its n) e f = tt
 same_through u w x (part.Redist vcpu) e f = e ∙ f
 
@@ -85,7 +85,7 @@ is_put (part.Maps its) (Maps t) b = record {
   stays = stay_translator b b (part.Maps its ∷ []) its t (in_head (part.Maps its) []) (stay b (part.Maps its ∷ []));
   long = refl;
 }
-is_put part.Mem (Mem memory) b = record { stays = stay_memory b b (part.Mem ∷ []) memory (in_head part.Mem []) (stay b (part.Mem ∷ [])); long = refl }
+is_put part.Mem (Mem memory track) b = record { stays = stay_memory b b (part.Mem ∷ []) memory track (in_head part.Mem []) (stay b (part.Mem ∷ [])); long = refl }
 is_put (part.Redist vcpu) (Redist r) b =
     record {
       stays = stay_redist b b (part.Redist vcpu ∷ []) vcpu.0 r (in_head (part.Redist vcpu) []) (stay b (part.Redist vcpu ∷ []));
@@ -102,7 +102,7 @@ get_set_here (x ∷ xs) (suc i) y lt = get_set_here xs i y (omega arith)
 has_here : (s : Setup) (p : Part) (c : Content) (b : Plain) → length b.translators ≡ translator_count s → length b.redistributors ≡ vcpu_count s → Stands s p
     → Suits p c → Has (with_part p c b) p c
 has_here s (part.Maps its) (Maps t) b ts rs st suits = get_set_here b.translators its t (omega (arith, st, ts))
-has_here s part.Mem (Mem x) b ts rs st suits = refl
+has_here s part.Mem (Mem x y) b ts rs st suits = (refl, refl)
 has_here s (part.Shard its n) (Shard x) b ts rs st suits = tt
 has_here s (part.Redist vcpu) (Redist x) b ts rs st suits = get_set_here b.redistributors vcpu.0 x (omega (arith, st, rs))
 has_here s p c b ts rs st suits = absurd suits
@@ -110,7 +110,7 @@ has_here s p c b ts rs st suits = absurd suits
 -- two states that have the same in a part
 both_have : (u w : Plain) (p : Part) (c : Content) → Has u p c → Has w p c → SamePart u w p
 both_have u w (part.Maps its) (Maps t) a b = a ∙ sym b
-both_have u w part.Mem (Mem x) a b = a ∙ sym b
+both_have u w part.Mem (Mem x y) a b = (a.0 ∙ sym b.0, a.1 ∙ sym b.1)
 both_have u w (part.Shard its n) c a b = tt
 both_have u w (part.Redist vcpu) (Redist r) a b = a ∙ sym b
 both_have u w p c a b = absurd a
@@ -118,7 +118,7 @@ both_have u w p c a b = absurd a
 -- what is had suits its part
 pub has_suits : (u : Plain) (p : Part) (c : Content) → Has u p c → Suits p c
 has_suits u (part.Maps its) (Maps t) h = tt
-has_suits u part.Mem (Mem x) h = tt
+has_suits u part.Mem (Mem x y) h = tt
 has_suits u (part.Shard its n) (Shard x) h = tt
 has_suits u (part.Redist vcpu) (Redist r) h = tt
 has_suits u p c h = absurd h
@@ -126,7 +126,7 @@ has_suits u p c h = absurd h
 -- the same part has what it had
 same_has : (u w : Plain) (p : Part) (c : Content) → SamePart u w p → Has u p c → Has w p c
 same_has u w (part.Maps its) (Maps t) e h = sym e ∙ h
-same_has u w part.Mem (Mem x) e h = sym e ∙ h
+same_has u w part.Mem (Mem x y) e h = (sym e.0 ∙ h.0, sym e.1 ∙ h.1)
 same_has u w (part.Shard its n) (Shard x) e h = tt
 same_has u w (part.Redist vcpu) (Redist r) e h = sym e ∙ h
 same_has u w p c e h = absurd h
@@ -199,7 +199,7 @@ assembled_has s vcpus held apart st p c suits o = assembled_has_all s vcpus held
 -- what is right is had
 right_has : (s : Setup) (word : Word) (u : Plain) (p : Part) (c : Content) → Right s word u p c → Has u p c
 right_has s word u (part.Maps its) (Maps t) r = r
-right_has s word u part.Mem (Mem x) r = r
+right_has s word u part.Mem (Mem x y) r = r
 right_has s word u (part.Shard its n) (Shard ways) r = tt
 right_has s word u (part.Redist vcpu) (Redist x) r = r
 right_has s word u p c r = absurd r

@@ -27,7 +27,7 @@ use Rattle.xlate_cache.proofs.Founds.{dropped_kept}
 use Rattle.xlate_cache.proofs.Lawful.{filled_lawful}
 use Rattle.xlate_cache.proofs.Sets.{none_at, empty_shard, dropped_shard}
 use Rattle.its_steps.specs.Parts.{Setup, IsOfMachine, translator_count, vcpu_count, stamp_of, IsCached, IsCache, Right}
-use Rattle.its_steps.specs.Contents.{Content, Maps, Shard, Redist, Held}
+use Rattle.its_steps.specs.Contents.{Content, Maps, Shard, Held}
 use Rattle.its_steps.specs.Good.{Holds, Apart}
 use Rattle.its_steps.specs.MayCommit.{IsRight}
 use Rattle.its_steps.specs.MayCall.{Owes, MayFill, MayChange, IsWithout, IsSteady, AreSteady, IsFill, HasFillsAlone, StampStays, StampRises, StampRenews}
@@ -90,10 +90,7 @@ module _ (s : Setup) (a : Commit) (held : List Held) (may : MayCall s a held) (u
   translator_other : (its : ℕ) → ¬ Holds (part.Maps its) held → translator u its ≡ translator u' its
   translator_other its n = same_or u.translators u'.translators its no_translator (d.others_same (part.Maps its) n)
 
-  redist_other : (v : ℕ) → ¬ Holds (part.Redist (record { 0 = v })) held → redistributor u v ≡ redistributor u' v
-  redist_other v n = same_or u.redistributors u'.redistributors v no_redistributor (d.others_same (part.Redist (record { 0 = v })) n)
-
-  -- ---- translations that stay
+  -- ---- where the maps send pairs stays
 
   maps_steady : (its : ℕ) (x : Content) → Right s a.expected u (part.Maps its) x → IsSteady s its owed (part.Maps its) x
       (content_in s a before (part.Maps its) x)
@@ -102,14 +99,6 @@ module _ (s : Setup) (a : Commit) (held : List Held) (may : MayCall s a held) (u
       let same : translator u its ≡ x = get_or_from_slice_get u.translators its x no_translator is in
       steady refl dev ev t (subst (λ (y : Translator). located y dev ev ≡ Ok t) same e)
   maps_steady its x is steady dev ev t e = absurd is
-
-  redist_steady : (its v : ℕ) (x : Content) → Right s a.expected u (part.Redist (record { 0 = v })) x
-      → IsSteady s its owed (part.Redist (record { 0 = v })) x (content_in s a before (part.Redist (record { 0 = v })) x) → is_on u v ≡ true
-      → is_on before v ≡ true
-  redist_steady its v (Redist x) is steady on =
-      let same : redistributor u v ≡ x = get_or_from_slice_get u.redistributors v x no_redistributor is in
-      steady (ap (λ (y : Redistributor). y.bases.on) (sym same) ∙ on)
-  redist_steady its v x is steady on = absurd is
 
   still_located : (its : ℕ) → its < translator_count s → AreSteady s its owed held owed → (dev ev : ℕ) (t : Target) → located (translator u its) dev ev ≡ Ok t
       → (located (translator u' its) dev ev ≡ Ok t) ⊎ IsWithout s its dev ev owed
@@ -121,39 +110,24 @@ module _ (s : Setup) (a : Commit) (held : List Held) (may : MayCall s a held) (u
       (λ (n : ¬ Holds (part.Maps its) held). inl (subst (λ (z : Translator). located z dev ev ≡ Ok t) (translator_other its n) e))
       (holds_or_not s (part.Maps its) lt held may.stands)
 
-  still_on : (its v : ℕ) → AreSteady s its owed held owed → is_on u v ≡ true → is_on u' v ≡ true
-  still_on its v steady on = ⊎_elim
-      (λ (h : Holds (part.Redist (record { 0 = v })) held).
-      let x = steady_at s a before a.expected u its owed held steady right (part.Redist (record { 0 = v })) h in
-      ap (λ (y : Redistributor). y.bases.on) (sym (redist_held v h)) ∙ redist_steady its v x.0 x.1 x.2 on)
-      (λ (n : ¬ Holds (part.Redist (record { 0 = v })) held). ap (λ (y : Redistributor). y.bases.on) (sym (redist_other v n)) ∙ on)
-      (holds_or_not s (part.Redist (record { 0 = v })) (let within = on_within u v on in omega (arith, within, vcpus u m)) held may.stands)
-
-  still_translated : (its : ℕ) → its < translator_count s → AreSteady s its owed held owed → (dev ev : ℕ) (t : Target) → translated u its dev ev ≡ Ok t
-      → (translated u' its dev ev ≡ Ok t) ⊎ IsWithout s its dev ev owed
-  still_translated its lt steady dev ev t e =
-      let x = translated_is u its dev ev t e in
-      ⊎_elim (λ (y : located (translator u' its) dev ev ≡ Ok t). inl (translated_from u' its dev ev t y (still_on its t.vcpu.0 steady x.1))) (λ y. inr y)
-      (still_located its lt steady dev ev t x.0)
-
   -- ---- entries
 
-  -- what a fill puts in is what translation gives after the call
+  -- what a fill puts in is where the maps send the pair after the call
   filled_is : (its n : ℕ) (dev : DeviceId) (ev : EventId) (t : Target) → MayFill s c before held dev ev t → its ≡ its_of c
       → shard_number dev.0 ev.0 s.shards ≡ n → IsCached s to u' its n (entry dev ev (stamp_of s to its) t)
   filled_is its n dev ev t f is here =
       let x = translated_is before (its_of c) dev.0 ev.0 t f.agrees in
-      let sent : translated u' (its_of c) dev.0 ev.0 ≡ Ok t =
-      translated_from u' (its_of c) dev.0 ev.0 t (subst (λ (z : Translator). located z dev.0 ev.0 ≡ Ok t) (translator_held (its_of c) f.maps) x.0)
-      (ap (λ (y : Redistributor). y.bases.on) (sym (redist_held t.vcpu.0 f.redist)) ∙ x.1) in
+      let sent : located (translator u' (its_of c)) dev.0 ev.0 ≡ Ok t =
+      subst (λ (z : Translator). located z dev.0 ev.0 ≡ Ok t) (translator_held (its_of c) f.maps) x.0 in
+      let on : is_on u' t.vcpu.0 ≡ true = ap (λ (y : Redistributor). y.bases.on) (sym (redist_held t.vcpu.0 f.redist)) ∙ x.1 in
       let good = if_ok_at (λ (z : Target). IsLpi u' z.intid.0 × (is_on u' z.vcpu.0 ≡ true)) (translated u' (its_of c) dev.0 ev.0) t
-      (goes_to_lpi u' (its_of c) dev.0 ev.0 m'.sound) sent in
+      (goes_to_lpi u' (its_of c) dev.0 ev.0 m'.sound) (translated_from u' (its_of c) dev.0 ev.0 t sent on) in
       record {
         shard = here;
         stamp = omega arith;
-        vcpu = let within = on_within u' t.vcpu.0 good.1 in omega (arith, within, vcpus u' m');
+        vcpu = let within = on_within u' t.vcpu.0 on in omega (arith, within, vcpus u' m');
         lpi = ap (λ (l : Layout). is_lpi l.shape.lpi_bits t.intid.0) m'.layout ∙ good.0;
-        current = λ _. subst (λ (i : ℕ). translated u' i dev.0 ev.0 ≡ Ok t) (sym is) sent;
+        current = λ _. subst (λ (i : ℕ). located (translator u' i) dev.0 ev.0 ≡ Ok t) (sym is) sent;
       }
 
   fill_is : (x : ShardChange) → MayChange s c x before held → (its n : ℕ) (e : Translation) → IsFill s to c x its e → shard_number e.dev.0 e.ev.0 s.shards ≡ n
@@ -174,8 +148,8 @@ module _ (s : Setup) (a : Commit) (held : List Held) (may : MayCall s a held) (u
         stamp = omega (arith, old.stamp, t.same);
         vcpu = old.vcpu;
         lpi = old.lpi;
-        current = λ is. ⊎_elim (λ (y : translated u' its e.dev.0 e.ev.0 ≡ Ok e.target). y) (λ (w : IsWithout s its e.dev.0 e.ev.0 owed). absurd (kept w))
-            (still_translated its lt t.steady e.dev.0 e.ev.0 e.target (old.current (is ∙ t.same)));
+        current = λ is. ⊎_elim (λ (y : located (translator u' its) e.dev.0 e.ev.0 ≡ Ok e.target). y) (λ (w : IsWithout s its e.dev.0 e.ev.0 owed). absurd (kept w))
+            (still_located its lt t.steady e.dev.0 e.ev.0 e.target (old.current (is ∙ t.same)));
       })
       (λ rest. ⊎_elim
       (λ (t : StampRises s a its held). record {

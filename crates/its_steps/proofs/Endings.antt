@@ -14,14 +14,14 @@ use Rattle.its_types.specs.Maps.{Maps as MapsOf}
 use Rattle.its_types.specs.declared.ids.Target.{Target}
 use Rattle.its_types.specs.declared.machine.Part.{Part}
 use Rattle.its_types.specs.declared.machine.Part.TheVariants as part
-use Rattle.its_plain.specs.Answer.{emptied, translator_written, written, command_left, is_idle, next_bytes, met_left, step_left, went_on, left}
+use Rattle.its_plain.specs.Answer.{emptied, has_same_tables, translator_written, written, command_left, is_idle, next_bytes, met_left, step_left, went_on, left}
 use Rattle.its_plain.specs.Commands.{ran}
-use Rattle.its_plain.specs.Plain.{Plain, Translator, Redistributor, translator, no_translator, no_redistributor, regs_of, maps_of}
+use Rattle.its_plain.specs.Plain.{Plain, Translator, translator, no_translator, regs_of, maps_of}
 use Rattle.its_plain.specs.Translation.{located}
 use Rattle.its_plain.specs.declared.call.Call.TheVariants as call
 use Rattle.its_plain.specs.declared.call.Reason.{Reason}
 use Rattle.its_steps.specs.Endings.{Ending, Nothing, Pair, All, ending_in, ending_ran, ending_met, ending_of, Ends, Lasts, EndingsAreAll, EndingsAreDropped}
-use Rattle.its_steps.specs.Contents.{Content, Maps, Redist, Held}
+use Rattle.its_steps.specs.Contents.{Content, Maps, Held}
 use Rattle.its_steps.specs.MayCall.{Owes, IsWithout, IsSteady, AreSteady}
 use Rattle.its_steps.specs.Parts.{Setup, Has, Suits}
 use Rattle.its_steps.specs.Renewal.{its_of, content_in, renewed}
@@ -86,6 +86,10 @@ turned_off true true dev ev on n = refl
 turned_off true false dev ev on n = absurd (n tt)
 turned_off false b dev ev on n = absurd cc
 
+either_way : (b : Bool) (m n : MapsOf) → n ≡ m → (if b then m else n) ≡ m
+either_way true m n e = refl
+either_way false m n e = e
+
 module _ (u : Plain) (i : ℕ) where
   written_lasts : (off size value : ℕ) → Lasts u (written u i off size value) i
       (if (regs_of u i).enabled && not (write_reg (regs_of u i) off size value).regs.enabled then All else Nothing)
@@ -93,9 +97,11 @@ module _ (u : Plain) (i : ℕ) where
   written_lasts off size value =
       let w : Written = write_reg (regs_of u i) off size value in
       let e : Ending = (if (regs_of u i).enabled && not w.regs.enabled then All else Nothing) in
-      lasts_translator u u i e (translator_written (translator u i) w) (lasts_self u i e)
+      let keeps : Bool = u.layout.shape.linux && has_same_tables (regs_of u i) w.regs in
+      lasts_translator u u i e (translator_written u.layout.shape (translator u i) w) (lasts_self u i e)
       (λ dev ev t n r.
-      subst (λ (m : MapsOf). Route w.regs.enabled m dev ev t) (sym ((keeps_maps (regs_of u i) r.on off size value).none (maps_of u i)))
+      subst (λ (m : MapsOf). Route w.regs.enabled m dev ev t)
+      (sym (either_way keeps (maps_of u i) (emptied w.change (maps_of u i)) ((keeps_maps (regs_of u i) r.on off size value).none (maps_of u i))))
       record {
         on = turned_off (regs_of u i).enabled w.regs.enabled dev ev r.on n;
         device = r.device;
@@ -137,6 +143,8 @@ all_endings u (call.ReadGicr vcpu off size) r = lasts_self u 0 Nothing
 all_endings u (call.WriteGicr vcpu off size value) r = calm_lasts u _ 0 (calm_leaves u (call.WriteGicr vcpu off size value) r tt)
 all_endings u (call.Step its) r = step_lasts u its
 all_endings u call.Save r = calm_lasts u _ 0 (calm_leaves u call.Save r tt)
+all_endings u call.Copy r = calm_lasts u _ 0 (calm_leaves u call.Copy r tt)
+all_endings u (call.Dma req addr bytes to) r = calm_lasts u _ (its_of (call.Dma req addr bytes to)) (calm_leaves u (call.Dma req addr bytes to) r tt)
 
 -- ---- what the parts held owe
 
@@ -167,8 +175,6 @@ module _ (s : Setup) (u : Plain) (a : Commit) (its : ℕ) (owed : List Held) (go
       subst (λ (j : ℕ). (located (translator z j) dev ev ≡ Ok target) ⊎ IsWithout s its dev ev owed) (sym is)
       (maps_steady dev ev target (subst (λ (y : Translator). located y dev ev ≡ Ok target) (sym (get_or_from_slice_get u.translators i t no_translator (h tt))
       ∙ ap (translator u) is) e))
-  steady_one (part.Redist vcpu) (Redist r) h = λ on.
-      l.on vcpu.0 (ap (λ (y : Redistributor). y.bases.on) (get_or_from_slice_get u.redistributors vcpu.0 r no_redistributor (h tt)) ∙ on)
   steady_one p x h = tt
 
   pub steady_all : (held : List Held) → ((p : Part) (x : Content) → Suits p x → Owes p x held → Has u p x) → AreSteady s its owed held (renewed s a z held)

@@ -61,7 +61,7 @@ module _ (s : Setup) (sound : IsSound s.start) where
   pub slots_long : length (first_slots s) ≡ part_count s
   slots_long = omega (
     arith,
-    length-append maps (some (Mem s.start.memory) ∷ (shards ++ redists)),
+    length-append maps (some (Mem s.start.memory s.start.track) ∷ (shards ++ redists)),
     length-append shards redists,
     maps_long,
     shards_long,
@@ -71,18 +71,18 @@ module _ (s : Setup) (sound : IsSound s.start) where
   first_home : (p : Part) → Stands s p → IsHome s first_word s.start (first_slots s) p
   first_home (part.Maps its) st = record {
     content = Maps (translator s.start its);
-    slot = at_longer maps (some (Mem s.start.memory) ∷ (shards ++ redists)) its (some (Maps (translator s.start its)))
+    slot = at_longer maps (some (Mem s.start.memory s.start.track) ∷ (shards ++ redists)) its (some (Maps (translator s.start its)))
         (at_map (λ t. some (Maps t)) s.start.translators its (translator s.start its) (some_at s.start.translators its no_translator st));
     right = slice_get-get_or s.start.translators its no_translator st;
   }
   first_home part.Mem st = record {
-    content = Mem s.start.memory;
-    slot = past maps (some (Mem s.start.memory) ∷ (shards ++ redists)) (translator_count s) 0 (some (Mem s.start.memory)) (omega (arith, maps_long)) refl;
-    right = refl;
+    content = Mem s.start.memory s.start.track;
+    slot = past maps (some (Mem s.start.memory s.start.track) ∷ (shards ++ redists)) (translator_count s) 0 (some (Mem s.start.memory s.start.track)) (omega (arith, maps_long)) refl;
+    right = (refl, refl);
   }
   first_home (part.Shard its n) st = record {
     content = Shard no_entries;
-    slot = past maps (some (Mem s.start.memory) ∷ (shards ++ redists)) (translator_count s + 1 + (its * s.shards + n)) (suc (its * s.shards + n))
+    slot = past maps (some (Mem s.start.memory s.start.track) ∷ (shards ++ redists)) (translator_count s + 1 + (its * s.shards + n)) (suc (its * s.shards + n))
         (some (Shard no_entries)) (omega (arith, maps_long))
         (at_longer shards redists (its * s.shards + n) (some (Shard no_entries)) (copies_at (translator_count s * s.shards) (its * s.shards + n)
         (some (Shard no_entries)) (row_below (translator_count s) s.shards its n st.0 st.1)));
@@ -92,7 +92,7 @@ module _ (s : Setup) (sound : IsSound s.start) where
       let inside : vcpu.0 < length s.start.redistributors = omega (arith, st, sound.vcpus) in
       record {
         content = Redist (redistributor s.start vcpu.0);
-        slot = past maps (some (Mem s.start.memory) ∷ (shards ++ redists)) (translator_count s + 1 + translator_count s * s.shards + vcpu.0)
+        slot = past maps (some (Mem s.start.memory s.start.track) ∷ (shards ++ redists)) (translator_count s + 1 + translator_count s * s.shards + vcpu.0)
             (suc (translator_count s * s.shards + vcpu.0)) (some (Redist (redistributor s.start vcpu.0))) (omega (arith, maps_long))
             (past shards redists (translator_count s * s.shards + vcpu.0) vcpu.0 (some (Redist (redistributor s.start vcpu.0))) (omega (arith, shards_long))
             (at_map (λ r. some (Redist r)) s.start.redistributors vcpu.0 (redistributor s.start vcpu.0)

@@ -41,7 +41,7 @@ module _ (s : Setup) (a : Commit) (held : List Held) (may : MayCall s a held) (u
   owed_right (part.Maps its) x st h o is =
       let inside : its < length u'.translators = omega (arith, st, after_is.translators) in
       slice_get-get_or u'.translators its no_translator inside ∙ ap (λ (t : Translator). Some t) (sym (translator_held s a held may u m right its h))
-  owed_right part.Mem x st h o is = sym (does_so.held_same part.Mem h)
+  owed_right part.Mem x st h o is = let same = does_so.held_same part.Mem h in (sym same.0, sym same.1)
   owed_right (part.Redist vcpu) x st h o is =
       let inside : vcpu.0 < length u'.redistributors = omega (arith, st, vcpus s a held may u m right u' after_is) in
       slice_get-get_or u'.redistributors vcpu.0 no_redistributor inside ∙ ap (λ (t : Redistributor). Some t) (sym (redist_held s a held may u m right vcpu.0 h))
@@ -50,7 +50,7 @@ module _ (s : Setup) (a : Commit) (held : List Held) (may : MayCall s a held) (u
 
   other_right : (p : Part) (x : Content) → Stands s p → ¬ Holds p held → Right s a.expected u p x → Right s to u' p x
   other_right (part.Maps its) (Maps x) st n is = sym (does_so.others_same (part.Maps its) n) ∙ is
-  other_right part.Mem (Mem x) st n is = sym (does_so.others_same part.Mem n) ∙ is
+  other_right part.Mem (Mem x y) st n is = let same = does_so.others_same part.Mem n in (sym same.0 ∙ is.0, sym same.1 ∙ is.1)
   other_right (part.Shard its k) (Shard ways) st n is = cache_other s a held may u m right its k ways st.0 st.1 n is
   other_right (part.Redist vcpu) (Redist x) st n is = sym (does_so.others_same (part.Redist vcpu) n) ∙ is
   other_right p x st n is = absurd is

@@ -1,14 +1,12 @@
 -- What each command leaves of where messages go.
-use Rattle.std.proofs.Common.{◌≡◌, ℕ, zero, suc, Bool, true, false, ◌&&◌, nat_lt, nat_le, eqb, ◌^◌, List, [], ◌∷◌, map, get_or, Option, Some, None, is_some}
+use Rattle.std.proofs.Common.{◌≡◌, ℕ, Bool, true, false, ◌&&◌, nat_lt, nat_le, eqb, ◌^◌, List, [], ◌∷◌, map, get_or, Option, Some, None, is_some}
 use Rattle.std.proofs.Common.{Result, Ok, Err, refl, ap, sym, ◌∙◌, subst, if◌then◌else◌, get_or-set_same, get_or-set_other}
 use Rattle.std.specs.Option.{ok_or}
 use Rattle.std.proofs.lemmas.Bool.{cond_both}
-use Rattle.guest_windows.specs.Windows.{Window}
 use Rattle.gits_regs.specs.Registers.{collection_places, advanced}
 use Rattle.baser_place.specs.Places.{device_place}
 use Rattle.its_command.specs.declared.command.Command.{Command}
 use Rattle.its_command.specs.declared.command.Command.TheVariants as command
-use Rattle.gicr_regs.specs.Redistributors.{all_reread_at, reread_at}
 use Rattle.its_types.specs.Ranges.{is_device_id, is_lpi}
 use Rattle.its_types.specs.Lpis.{is_pending, with_lpi, with_lpis, without_lpi}
 use Rattle.its_types.specs.Maps.{Maps, device_of, event_of, collection_of, device_mapped, device_unmapped, event_mapped, event_unmapped, collection_mapped}
@@ -17,9 +15,8 @@ use Rattle.its_types.specs.declared.ids.Target.{Target}
 use Rattle.its_types.specs.declared.ids.Vcpu.{Vcpu}
 use Rattle.its_types.specs.declared.machine.Profile.{Profile}
 use Rattle.its_types.specs.declared.machine.Profile.TheVariants.{One, Two}
-use Rattle.its_types.specs.declared.translation.Bases.{Bases}
 use Rattle.its_types.specs.declared.translation.Event.{Event}
-use Rattle.its_plain.specs.Plain.{Plain, Translator, Redistributor, translator, redistributor, no_translator, no_redistributor, regs_of, maps_of, pending_of}
+use Rattle.its_plain.specs.Plain.{Plain, Translator, translator, redistributor, no_translator, regs_of, maps_of, pending_of}
 use Rattle.its_plain.specs.Plain.{is_on, with_translator, with_maps, with_pending}
 use Rattle.its_plain.specs.Translation.{located}
 use Rattle.its_plain.specs.Commands.{◌>>=◌, ensure, lpi_set, lpi_cleared, lpi_moved, lpis_moved, all_moved, reread, event_at, target_at, intids_of, mapd}
@@ -29,17 +26,17 @@ use Rattle.its_plain.specs.declared.call.Reason.{Reason}
 use Rattle.its_plain.specs.declared.call.Reason.TheVariants.{DeviceRange, SizeRange, TargetRange, CollectionRange, NoDevice, EventRange, IntidRange, LpisOff}
 use Rattle.plain_soundness.proofs.States.{enabled_within}
 use Rattle.its_steps.specs.Endings.{Ending, Nothing, Pair, All, ending_in, Ends, Lasts}
-use Rattle.its_steps.proofs.Leaving.{Leaves, all_left, leaves_if, one_redist, reread_bases}
+use Rattle.its_steps.proofs.Leaving.{Leaves, all_left, leaves_if, one_redist}
 use Rattle.its_steps.proofs.Routes.{Route, route_of, located_by, with_device, without_device, with_other_event, with_event, without_event, with_collection}
 use Rattle.its_steps.proofs.Routes.{without_collection}
 
 -- ---- pending LPIs and configurations: no map changes
 
 leaves_then : (a b z : Plain) → Leaves a b → Leaves b z → Leaves a z
-leaves_then a b z p q = record { maps = λ i. p.maps i ∙ q.maps i; on = λ v x. q.on v (p.on v x) }
+leaves_then a b z p q = record { maps = λ i. p.maps i ∙ q.maps i }
 
 pending_left : (a : Plain) (v : ℕ) (xs : List ℕ) → Leaves a (with_pending a v xs)
-pending_left a v xs = one_redist a v (record (redistributor a v) { pending = xs }) (λ on. on)
+pending_left a v xs = one_redist a v (record (redistributor a v) { pending = xs })
 
 moved_left : (a : Plain) (x from to : ℕ) → Leaves a (lpi_moved x from to a)
 moved_left a x from to =
@@ -65,33 +62,18 @@ cleared_left : (x : ℕ) (o : Option Vcpu) (a : Plain) → Leaves a (cleared_at 
 cleared_left x None a = all_left a
 cleared_left x (Some v) a = pending_left a v.0 (without_lpi x (pending_of a v.0))
 
-all_reread_bases : (memory : List Window) (intids : List ℕ) (r : Redistributor) → (all_reread_at memory intids r).bases ≡ r.bases
-all_reread_bases memory [] r = refl
-all_reread_bases memory (intid ∷ intids) r = all_reread_bases memory intids (reread_at memory intid r) ∙ reread_bases memory intid r
-
-mapped_bases : (f : Redistributor → Redistributor) → ((r : Redistributor) → (f r).bases ≡ r.bases) → (rs : List Redistributor) (v : ℕ)
-    → (get_or rs v no_redistributor).bases ≡ (get_or (map f rs) v no_redistributor).bases
-mapped_bases f same [] v = refl
-mapped_bases f same (r ∷ rs) zero = sym (same r)
-mapped_bases f same (r ∷ rs) (suc v) = mapped_bases f same rs v
-
 reread_left : (intids : List ℕ) (a : Plain) → Leaves a (reread intids a)
-reread_left intids a = record {
-  maps = λ i. refl;
-  on = λ v on. ap (λ (b : Bases). b.on)
-      (sym (mapped_bases (all_reread_at a.memory intids) (all_reread_bases a.memory intids) a.redistributors v)) ∙ on;
-}
+reread_left intids a = record { maps = λ i. refl }
 
 -- ---- what lasts
 
 pub lasts_self : (u : Plain) (i : ℕ) (e : Ending) → Lasts u u i e
-lasts_self u i e = record { own = λ dev ev t n l. l; others = λ j ne. refl; on = λ v on. on }
+lasts_self u i e = record { own = λ dev ev t n l. l; others = λ j ne. refl }
 
 pub lasts_then : (u w z : Plain) (i : ℕ) (e : Ending) → Lasts u w i e → Leaves w z → Lasts u z i e
 lasts_then u w z i e l k = record {
   own = λ dev ev t n loc. subst (λ (x : Translator). located x dev ev ≡ Ok t) (k.maps i) (l.own dev ev t n loc);
   others = λ j ne. l.others j ne ∙ k.maps j;
-  on = λ v on. k.on v (l.on v on);
 }
 
 -- the translator is another one, by which the routes lead as before
@@ -104,7 +86,6 @@ lasts_translator u w i e x l f = record {
       subst (λ (y : Translator). located y dev ev ≡ Ok t) (sym (get_or-set_same w.translators i x no_translator (enabled_within w i r.on)))
       (located_by x dev ev t (f dev ev t n r));
   others = λ j ne. l.others j ne ∙ sym (get_or-set_other w.translators i j x no_translator ne);
-  on = l.on;
 }
 
 lasts_maps : (u w : Plain) (i : ℕ) (e : Ending) (m : Maps) → Lasts u w i e

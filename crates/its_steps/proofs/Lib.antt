@@ -13,6 +13,7 @@ pub mod First
 pub mod Assembled
 pub mod Found
 pub mod Translations
+pub mod Messages
 pub mod Alike
 pub mod Owed
 pub mod Does
@@ -28,5 +29,6 @@ pub mod Calm
 pub mod States
 pub mod Stamping
 pub mod Ports
+pub mod Gicr
 pub mod Signals
 pub mod Saves

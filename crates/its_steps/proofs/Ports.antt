@@ -1,20 +1,23 @@
 -- Calls that need one redistributor, memory, or one translator's maps.
-use Rattle.std.proofs.Common.{◌≡◌, ℕ, Bool, false, ◌+◌, ◌<◌, if◌then◌else◌, List, [], ◌∷◌, length, set, refl, ap, sym, ◌∙◌, inl, arith, length-set}
+use Rattle.std.proofs.Common.{◌≡◌, ℕ, Bool, false, ◌+◌, ◌<◌, if◌then◌else◌, List, [], ◌∷◌, length, set, Option, Some, None, refl, ap, sym, ◌∙◌, inl, arith, length-set}
 use Rattle.std.proofs.Common.{get_or-set_same}
-use Rattle.guest_windows.specs.Windows.{write_at}
+use Rattle.guest_windows.specs.Windows.{Window, write_at}
+use Rattle.dirty_log.specs.declared.tracked.Tracked.{Tracked}
+use Rattle.its_types.specs.declared.ids.Addr.{Addr}
+use Rattle.its_plain.specs.declared.call.Route.TheVariants as route
 use Rattle.gits_regs.specs.Registers.{read_reg, write_reg}
 use Rattle.its_types.specs.declared.ids.Vcpu.{Vcpu}
 use Rattle.its_types.specs.declared.machine.Part.{Part}
 use Rattle.its_types.specs.declared.machine.Part.TheVariants as part
 use Rattle.its_types.specs.declared.machine.Word.{Word}
-use Rattle.its_plain.specs.Answer.{ack_of, lowest, taken, poke_reply, peek_reply, written, translator_written, reply_of, left}
+use Rattle.its_plain.specs.Answer.{ack_of, lowest, taken, poke_reply, peek_reply, written, translator_written, poke_left, poked, copy_count, reply_of, left}
 use Rattle.its_plain.specs.Parts.{footprint}
 use Rattle.its_plain.specs.Plain.{Plain, Translator, Redistributor, translator, redistributor, no_translator, no_redistributor}
 use Rattle.its_plain.specs.declared.call.Call.{Call}
 use Rattle.its_plain.specs.declared.call.Call.TheVariants as call
 use Rattle.its_plain.specs.declared.call.Reply.{Reply}
 use Rattle.its_plain.specs.declared.call.Reply.TheVariants as reply
-use Rattle.its_steps.specs.Calls.{staying, stamping, IsCalm, turns_off, peeked_in, TakeMayCommit, ShowMayCommit, PokeMayCommit, PeekMayCommit, ReadMayCommit}
+use Rattle.its_steps.specs.Calls.{staying, stamping, IsCalm, turns_off, poked_content, peeked_in, DmaMayCommit, NothingMayCommit, CopyMayCommit, TakeMayCommit, ShowMayCommit, PokeMayCommit, PeekMayCommit, ReadMayCommit}
 use Rattle.its_steps.specs.Calls.{WriteMayCommit, WriteMayRise}
 use Rattle.its_steps.specs.Contents.{Content, Maps, Mem, Redist, Held}
 use Rattle.its_steps.specs.Endings.{Nothing, All, ending_of}
@@ -105,20 +108,65 @@ shows s last vcpu r vcpus st room = (
 
 -- ---- memory
 
+-- what a write leaves of memory
+poked_is : (u : Plain) (address : ℕ) (bytes : List ℕ) (o : Option (List Window)) → let z : Plain = poke_left u address bytes o in
+    Mem z.memory z.track ≡ poked_content u.memory u.track address bytes o
+poked_is u address bytes None = refl
+poked_is u address bytes (Some now) = refl
+
+one_poked : (s : Setup) (addr : Addr) (bytes : List ℕ) (memory : List Window) (track : Option Tracked)
+    → let b : Plain = assembled s (out part.Mem (Mem memory track) ∷ []) in
+    let z : Plain = poked b addr.0 bytes in
+    (let xs : List Held = out part.Mem (Mem z.memory z.track) ∷ [] in xs)
+    ≡ out part.Mem (poked_content memory track addr.0 bytes (write_at memory addr.0 bytes)) ∷ []
+one_poked s addr bytes memory track =
+    λ d. out part.Mem (poked_is (assembled s (out part.Mem (Mem memory track) ∷ [])) addr.0 bytes (write_at memory addr.0 bytes) d) ∷ []
+
 pub pokes : PokeMayCommit
 unfolding footprint reply_of left
-pokes s last addr bytes memory vcpus room = (
-  one_may s last vcpus room part.Mem (Mem memory) tt (call.Poke addr bytes) (poke_reply (write_at memory addr.0 bytes)) tt record {
+pokes s last addr bytes memory track vcpus room = (
+  one_may s last vcpus room part.Mem (Mem memory track) tt (call.Poke addr bytes) (poke_reply (write_at memory addr.0 bytes)) tt record {
     covers = (inl refl, tt);
     reply_is = refl;
   },
+  one_poked s addr bytes memory track,
+)
+
+pub dmas : DmaMayCommit
+unfolding footprint reply_of left
+dmas s last req addr bytes memory track vcpus room = (
+  one_may s last vcpus room part.Mem (Mem memory track) tt (call.Dma req addr bytes route.Poke) (poke_reply (write_at memory addr.0 bytes)) tt record {
+    covers = (inl refl, tt);
+    reply_is = refl;
+  },
+  one_poked s addr bytes memory track,
+)
+
+pub copies : CopyMayCommit
+unfolding footprint reply_of left
+copies s last memory track vcpus room = (
+  one_may s last vcpus room part.Mem (Mem memory track) tt call.Copy (reply.Copied (copy_count track)) tt record { covers = (inl refl, tt); reply_is = refl },
   refl,
+)
+
+pub nothings : NothingMayCommit
+unfolding footprint reply_of left
+nothings s last req addr bytes vcpus room = (
+  (
+    calm_may s last (call.Dma req addr bytes route.NoRequester) reply.NoRequester change.Keep [] vcpus tt room tt tt tt (inl record { covers = tt; reply_is = refl })
+        tt,
+    refl,
+  ),
+  (
+    calm_may s last (call.Dma req addr bytes route.Frame) reply.Outside change.Keep [] vcpus tt room tt tt tt (inl record { covers = tt; reply_is = refl }) tt,
+    refl,
+  ),
 )
 
 pub peeks : PeekMayCommit
 unfolding footprint reply_of left
-peeks s last addr count memory vcpus room = (
-  one_may s last vcpus room part.Mem (Mem memory) tt (call.Peek addr count) (peek_reply (peeked_in memory addr.0 count)) tt record {
+peeks s last addr count memory track vcpus room = (
+  one_may s last vcpus room part.Mem (Mem memory track) tt (call.Peek addr count) (peek_reply (peeked_in memory addr.0 count)) tt record {
     covers = (inl refl, tt);
     reply_is = refl;
   },
@@ -155,10 +203,10 @@ module _ (s : Setup) (its : ℕ) (t : Translator) (it : its < translator_count s
     write_answered = record { covers = (inl refl, tt); reply_is = refl }
 
     write_leaves : (last : Word) (stamp : ℕ) → renewal s (record { expected = last; stamp = stamp; call = write; reply = reply.Ok; change = change.Keep }) maps
-        ≡ out (part.Maps its) (Maps (translator_written t (write_reg t.regs off size value))) ∷ []
+        ≡ out (part.Maps its) (Maps (translator_written s.start.layout.shape t (write_reg t.regs off size value))) ∷ []
     unfolding left written
     write_leaves last stamp =
-        let after : Translator → Translator = λ x. translator_written x (write_reg x.regs off size value) in
+        let after : Translator → Translator = λ x. translator_written s.start.layout.shape x (write_reg x.regs off size value) in
         let there : its < length (set s.start.translators its t) = omega (arith, it, length-set s.start.translators its t) in
         λ d. out (part.Maps its) (Maps ((get_or-set_same b.translators its (after (translator b its)) no_translator there ∙ ap after has_maps) d)) ∷ []
 

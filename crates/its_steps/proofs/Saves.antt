@@ -41,9 +41,9 @@ module _ (P : Held → Type 0) (u : Plain) where
   all_redists zero rest f ps = ps
   all_redists (suc n) rest f ps = (f n (omega arith), all_redists n rest (λ i lt. f i (omega (arith, lt))) ps)
 
-  all_whole : ((i : ℕ) → i < length u.translators → P (out (part.Maps i) (Maps (translator u i)))) → P (out part.Mem (Mem u.memory))
+  all_whole : ((i : ℕ) → i < length u.translators → P (out (part.Maps i) (Maps (translator u i)))) → P (out part.Mem (Mem u.memory u.track))
       → ((i : ℕ) → i < length u.redistributors → P (out (part.Redist (record { 0 = i })) (Redist (redistributor u i)))) → AllByRecursion P (whole_held u)
-  all_whole f m g = all_redists (length u.redistributors) (out part.Mem (Mem u.memory) ∷ maps_held u (length u.translators)) g
+  all_whole f m g = all_redists (length u.redistributors) (out part.Mem (Mem u.memory u.track) ∷ maps_held u (length u.translators)) g
       (m, all_maps (length u.translators) f)
 
 -- ---- which are held
@@ -127,8 +127,8 @@ whole_renewed : (s : Setup) (a : Commit) (u : Plain) (r : Result (Unit {0}) Save
 whole_renewed s a u r =
     let z : Plain = save_left u r in
     let k = same_count u r in
-    redists_renewed s a u z (length u.redistributors) (out part.Mem (Mem u.memory) ∷ maps_held u (length u.translators))
-    ∙ (λ d. redists_held z (k.1 d) (out part.Mem (Mem z.memory) ∷ (maps_renewed s a u z (length u.translators) ∙ ap (maps_held z) k.0) d))
+    redists_renewed s a u z (length u.redistributors) (out part.Mem (Mem u.memory u.track) ∷ maps_held u (length u.translators))
+    ∙ (λ d. redists_held z (k.1 d) (out part.Mem (Mem z.memory z.track) ∷ (maps_renewed s a u z (length u.translators) ∙ ap (maps_held z) k.0) d))
 
 module _ (s : Setup) (u : Plain) (m : IsOfMachine s u) where
   abbrev held : List Held
@@ -140,7 +140,7 @@ module _ (s : Setup) (u : Plain) (m : IsOfMachine s u) where
   covers : Covers u call.Save held
   unfolding footprint
   covers =
-      let behind : List Held = out part.Mem (Mem u.memory) ∷ maps_held u (length u.translators) in (
+      let behind : List Held = out part.Mem (Mem u.memory u.track) ∷ maps_held u (length u.translators) in (
         behind_there u (length u.redistributors) behind part.Mem (inl refl),
         all_append (λ p. Holds p held) (translators_below (length u.translators)) (redists_below (length u.redistributors))
             (each_translator (λ p. Holds p held) (length u.translators) (λ i lt. behind_there u (length u.redistributors) behind (part.Maps i)
@@ -149,7 +149,7 @@ module _ (s : Setup) (u : Plain) (m : IsOfMachine s u) where
       )
 
   apart : Apart held
-  apart = redists_apart u (length u.redistributors) (out part.Mem (Mem u.memory) ∷ maps_held u (length u.translators))
+  apart = redists_apart u (length u.redistributors) (out part.Mem (Mem u.memory u.track) ∷ maps_held u (length u.translators))
       (λ i h. ⊎_elim (λ (e : part.Mem ≡ part.Redist (record { 0 = i })). cc)
       (λ (t : Holds (part.Redist (record { 0 = i })) (maps_held u (length u.translators))). let r = held_maps u (length u.translators)
       (part.Redist (record { 0 = i })) t in cc (r.2)) h)
@@ -159,7 +159,7 @@ module _ (s : Setup) (u : Plain) (m : IsOfMachine s u) where
   unfolding reply_of
   ready last room = record {
     machine = m;
-    has = all_whole (λ x. Has u x.part x.owed) u (λ i lt. slice_get-get_or u.translators i no_translator lt) refl
+    has = all_whole (λ x. Has u x.part x.owed) u (λ i lt. slice_get-get_or u.translators i no_translator lt) (refl, refl)
         (λ i lt. slice_get-get_or u.redistributors i no_redistributor lt);
     room = room;
     stands = all_whole (λ x. Stands s x.part) u (λ i lt. omega (arith, lt, m.translators)) tt (λ i lt. omega (arith, lt, vcpus));

@@ -11,11 +11,10 @@ use Rattle.its_types.specs.declared.ids.Target.{Target}
 use Rattle.its_types.specs.declared.machine.Part.TheVariants as part
 use Rattle.its_types.specs.declared.machine.Word.{Word}
 use Rattle.its_plain.specs.Answer.{signal_reply, reply_of, left}
-use Rattle.its_plain.specs.Parts.{footprint, redist_of}
+use Rattle.its_plain.specs.Parts.{redist_of}
 use Rattle.its_plain.specs.Plain.{Plain, Translator, Redistributor, translator, redistributor, is_on, no_translator, no_redistributor}
 use Rattle.its_plain.specs.Translation.{located, translated, ◌>>=◌, ensure}
 use Rattle.its_plain.specs.declared.call.Call.{Call}
-use Rattle.its_plain.specs.declared.call.Call.TheVariants as call
 use Rattle.its_plain.specs.declared.call.Cause.{Cause}
 use Rattle.its_plain.specs.declared.call.Cause.TheVariants.{LpisOff}
 use Rattle.its_plain.specs.declared.call.Reply.{Reply}
@@ -24,16 +23,18 @@ use Rattle.its_plain.specs.declared.call.Signal.TheVariants.{Delivered, Dropped}
 use Rattle.xlate_cache.specs.Pairs.{shard_number}
 use Rattle.xlate_cache.specs.Ways.{entry, filled, found}
 use Rattle.xlate_cache.specs.declared.entry.Entry.{Entry as Translation}
-use Rattle.its_steps.specs.Calls.{staying, MayLeave, HitMayCommit, FillMayCommit, DropMayCommit, OffMayCommit}
+use Rattle.its_steps.specs.Calls.{staying, MayLeave, HitMayCommit, HitOffMayCommit, FillMayCommit, DropMayCommit, OffMayCommit}
 use Rattle.its_steps.specs.Contents.{Maps, Shard, Redist, Held}
 use Rattle.its_steps.specs.Good.{Holds, Apart}
-use Rattle.its_steps.specs.MayCall.{MayCall, Covers, IsAnswered, MayFill}
+use Rattle.its_steps.specs.MayCall.{MayCall, Covers, IsAnswered, MayFill, message_of, met}
 use Rattle.its_steps.specs.Parts.{Setup, HasVcpus, translator_count, vcpu_count, stamp_of}
-use Rattle.its_steps.specs.Renewal.{assembled, changed, renewal}
+use Rattle.its_steps.specs.Renewal.{assembled, its_of, changed, renewal}
 use Rattle.its_steps.specs.World.{out, word_after}
 use Rattle.its_steps.specs.declared.change.ShardChange.TheVariants as change
 use Rattle.its_steps.specs.declared.commit.Commit.{Commit}
 use Rattle.its_steps.proofs.Calm.{calm_may}
+use Rattle.its_steps.proofs.Messages.{IsMessage, is_message}
+use Rattle.its_types.specs.declared.machine.Part.{Part}
 
 -- on to the redistributor
 abbrev sends : Bool → Result Target Cause → Result Target Cause
@@ -43,10 +44,10 @@ sends on x = x >>= (λ t. ensure on LpisOff >>= (λ _. Ok t))
 abbrev with_sent : Target → Redistributor → Redistributor
 with_sent target r = record r { pending = with_lpi target.intid.0 r.pending }
 
-module _ (s : Setup) (last : Word) (its : ℕ) (dev : DeviceId) (ev : EventId) (vcpus : HasVcpus s) (it : its < translator_count s)
-    (room : last.place < s.limits.place_last) where
-  abbrev c : Call
-  c = call.Signal its dev ev
+module _ (s : Setup) (last : Word) (c : Call) (its : ℕ) (dev : DeviceId) (ev : EventId) (message : message_of c ≡ Some (its, (dev, ev))) (vcpus : HasVcpus s)
+    (it : its < translator_count s) (room : last.place < s.limits.place_last) where
+  abbrev is : IsMessage c its dev ev
+  is = is_message c its dev ev message
 
   abbrev n : ℕ
   n = shard_number dev.0 ev.0 s.shards
@@ -65,11 +66,11 @@ module _ (s : Setup) (last : Word) (its : ℕ) (dev : DeviceId) (ev : EventId) (
       here_redist = get_or-set_same (assembled s rest).redistributors target.vcpu.0 r no_redistributor long
 
       pub sent_redist : redistributor (left (assembled s front) c sent) target.vcpu.0 ≡ with_sent target r
-      unfolding left
       sent_redist =
           let a : Plain = assembled s front in
           let still : target.vcpu.0 < length a.redistributors = omega (arith, long, length-set (assembled s rest).redistributors target.vcpu.0 r) in
-          get_or-set_same a.redistributors target.vcpu.0 (with_sent target (redistributor a target.vcpu.0)) no_redistributor still
+          ap (λ (z : Plain). redistributor z target.vcpu.0) (is.leaves a (Delivered target.vcpu target.intid))
+          ∙ get_or-set_same a.redistributors target.vcpu.0 (with_sent target (redistributor a target.vcpu.0)) no_redistributor still
           ∙ ap (with_sent target) here_redist
 
   -- ---- hits
@@ -90,23 +91,51 @@ module _ (s : Setup) (last : Word) (its : ℕ) (dev : DeviceId) (ev : EventId) (
         no_shard (inr h) = h
 
     hit_leaves : renewal s (staying last c (sent target r st shard) change.Keep) two ≡ out (part.Redist target.vcpu) (Redist (with_sent target r)) ∷ shard
-    unfolding left changed
+    unfolding changed
     hit_leaves = λ d. out (part.Redist target.vcpu) (Redist (sent_redist target r st shard (omega (arith, st, vcpus)) d)) ∷ shard
 
-    hit_may : MayCall s (staying last c (sent target r st shard) change.Keep) two
-    hit_may = calm_may s last c (sent target r st shard) change.Keep two vcpus tt room two_apart (st, ((it, sh), tt)) (refl, (refl, tt))
+    hit_may : r.bases.on ≡ true → MayCall s (staying last c (sent target r st shard) change.Keep) two
+    hit_may on = calm_may s last c (sent target r st shard) change.Keep two vcpus is.calm room two_apart (st, ((it, sh), tt)) (refl, (refl, tt))
         (inr record {
           its = its;
           dev = dev;
           ev = ev;
           target = target;
-          call_is = refl;
-          reply_is = refl;
+          message = message;
           ways = ways;
           owes = inr (inl (refl, refl));
           is_found = has;
-          redist = inl refl;
+          redist = r;
+          target_owes = inl (refl, refl);
+          reply_is = ap (λ (b : Bool). reply.Signal (met b target)) (sym on);
         }) tt
+
+    abbrev dropped : Reply
+    dropped = reply.Signal (Dropped LpisOff)
+
+    hit_off_may : r.bases.on ≡ false → MayCall s (staying last c dropped change.Keep) two
+    hit_off_may off = calm_may s last c dropped change.Keep two vcpus is.calm room two_apart (st, ((it, sh), tt)) (refl, (refl, tt))
+        (inr record {
+          its = its;
+          dev = dev;
+          ev = ev;
+          target = target;
+          message = message;
+          ways = ways;
+          owes = inr (inl (refl, refl));
+          is_found = has;
+          redist = r;
+          target_owes = inl (refl, refl);
+          reply_is = ap (λ (b : Bool). reply.Signal (met b target)) (sym off);
+        }) tt
+
+    hit_off_leaves : renewal s (staying last c dropped change.Keep) two ≡ two
+    unfolding changed
+    hit_off_leaves =
+        let a : Plain = assembled s two in
+        let long : target.vcpu.0 < length (assembled s shard).redistributors = omega (arith, st, vcpus) in
+        let same : left a c dropped ≡ a = is.leaves a (Dropped LpisOff) in
+        λ d. out (part.Redist target.vcpu) (Redist ((ap (λ (y : Plain). redistributor y target.vcpu.0) same ∙ here_redist target r st shard long) d)) ∷ shard
 
   -- ---- by the maps
 
@@ -116,29 +145,28 @@ module _ (s : Setup) (last : Word) (its : ℕ) (dev : DeviceId) (ev : EventId) (
 
     -- in a state that has these maps
     goes_where : (u : Plain) (x : Result Target Cause) → translator u its ≡ t → located t dev.0 ev.0 ≡ x → located (translator u its) dev.0 ev.0 ≡ x
-    goes_where u x has is = ap (λ (y : Translator). located y dev.0 ev.0) has ∙ is
+    goes_where u x has e = ap (λ (y : Translator). located y dev.0 ev.0) has ∙ e
 
     goes_to : (u : Plain) (target : Target) (on : Bool) → translator u its ≡ t → located t dev.0 ev.0 ≡ Ok target → is_on u target.vcpu.0 ≡ on
         → translated u its dev.0 ev.0 ≡ sends on (Ok target)
     unfolding translated
-    goes_to u target on has is on_is =
-        ap (λ (x : Result Target Cause). x >>= (λ t. ensure (is_on u t.vcpu.0) LpisOff >>= (λ _. Ok t))) (goes_where u (Ok target) has is)
+    goes_to u target on has e on_is =
+        ap (λ (x : Result Target Cause). x >>= (λ t. ensure (is_on u t.vcpu.0) LpisOff >>= (λ _. Ok t))) (goes_where u (Ok target) has e)
         ∙ ap (λ (b : Bool). sends b (Ok target)) on_is
 
     goes_nowhere : (u : Plain) (cause : Cause) → translator u its ≡ t → located t dev.0 ev.0 ≡ Err cause → translated u its dev.0 ev.0 ≡ Err cause
     unfolding translated
-    goes_nowhere u cause has is = ap (λ (x : Result Target Cause). x >>= (λ t. ensure (is_on u t.vcpu.0) LpisOff >>= (λ _. Ok t)))
-        (goes_where u (Err cause) has is)
+    goes_nowhere u cause has e = ap (λ (x : Result Target Cause). x >>= (λ t. ensure (is_on u t.vcpu.0) LpisOff >>= (λ _. Ok t)))
+        (goes_where u (Err cause) has e)
 
     answers_as : (u : Plain) (x : Result Target Cause) → translated u its dev.0 ev.0 ≡ x → reply.Signal (signal_reply x) ≡ reply_of u c
-    unfolding reply_of
-    answers_as u x is = ap (λ (y : Result Target Cause). reply.Signal (signal_reply y)) (sym is)
+    answers_as u x e = ap (λ (y : Result Target Cause). reply.Signal (signal_reply y)) (sym e) ∙ sym (is.replies u)
 
     covers_as : (u : Plain) (held : List Held) (x : Result Target Cause) → located (translator u its) dev.0 ev.0 ≡ x → Holds (part.Maps its) held
         → AllByRecursion (λ p. Holds p held) (redist_of (option_map (λ t. t.vcpu) (result_ok x))) → Covers u c held
-    unfolding footprint
-    covers_as u held x is maps redists =
-        (maps, subst (λ (y : Result Target Cause). AllByRecursion (λ p. Holds p held) (redist_of (option_map (λ t. t.vcpu) (result_ok y)))) (sym is) redists)
+    covers_as u held x e maps redists =
+        subst (λ (ps : List Part). AllByRecursion (λ p. Holds p held) ps) (sym (is.parts u))
+        (maps, subst (λ (y : Result Target Cause). AllByRecursion (λ p. Holds p held) (redist_of (option_map (λ t. t.vcpu) (result_ok y)))) (sym e) redists)
 
     abbrev maps : List Held
     maps = out (part.Maps its) (Maps t) ∷ []
@@ -153,12 +181,11 @@ module _ (s : Setup) (last : Word) (its : ℕ) (dev : DeviceId) (ev : EventId) (
       }
 
       drop_leaves : renewal s (staying last c (reply.Signal (Dropped cause)) change.Keep) maps ≡ maps
-      unfolding left
-      drop_leaves = λ d. out (part.Maps its) (Maps (here_maps d)) ∷ []
+      drop_leaves = λ d. out (part.Maps its) (Maps ((ap (λ (z : Plain). translator z its) (is.leaves (assembled s maps) (Dropped cause)) ∙ here_maps) d)) ∷ []
 
       pub drop_may : MayLeave s (staying last c (reply.Signal (Dropped cause)) change.Keep) maps maps
       drop_may = (
-        calm_may s last c (reply.Signal (Dropped cause)) change.Keep maps vcpus tt room ((λ h. h), tt) (it, tt) (refl, tt)
+        calm_may s last c (reply.Signal (Dropped cause)) change.Keep maps vcpus is.calm room ((λ h. h), tt) (it, tt) (refl, tt)
             (inl drop_answered) tt,
         drop_leaves,
       )
@@ -192,20 +219,23 @@ module _ (s : Setup) (last : Word) (its : ℕ) (dev : DeviceId) (ev : EventId) (
           no_redist (inr (inr h)) = h
 
       goes_on : (on : Bool) (x : Result Target Cause) → r.bases.on ≡ on → sends on (Ok target) ≡ x → IsAnswered a c (reply.Signal (signal_reply x)) three
-      goes_on on x is sent_as = record {
+      goes_on on x e sent_as = record {
         covers = covers_as a three (Ok target) (goes_where a (Ok target) here_maps goes) (inr (inr (inl refl))) (inl refl, tt);
-        reply_is = answers_as a x (goes_to a target on here_maps goes (ap (λ (y : Redistributor). y.bases.on) (here_redist target r st behind long) ∙ is)
+        reply_is = answers_as a x (goes_to a target on here_maps goes (ap (λ (y : Redistributor). y.bases.on) (here_redist target r st behind long) ∙ e)
             ∙ sent_as);
       }
 
       off_leaves : renewal s (staying last c (reply.Signal (Dropped LpisOff)) change.Keep) three ≡ three
-      unfolding left changed
-      off_leaves = λ d. out (part.Redist target.vcpu) (Redist (here_redist target r st behind long d)) ∷ out (part.Shard its n) (Shard ways) ∷ out
-          (part.Maps its) (Maps (here_maps d)) ∷ []
+      unfolding changed
+      off_leaves =
+          let z : Plain = left a c (reply.Signal (Dropped LpisOff)) in
+          let same : z ≡ a = is.leaves a (Dropped LpisOff) in
+          λ d. out (part.Redist target.vcpu) (Redist ((ap (λ (y : Plain). redistributor y target.vcpu.0) same ∙ here_redist target r st behind long) d))
+          ∷ out (part.Shard its n) (Shard ways) ∷ out (part.Maps its) (Maps ((ap (λ (y : Plain). translator y its) same ∙ here_maps) d)) ∷ []
 
       pub off_may : r.bases.on ≡ false → MayLeave s (staying last c (reply.Signal (Dropped LpisOff)) change.Keep) three three
       off_may off = (
-        calm_may s last c (reply.Signal (Dropped LpisOff)) change.Keep three vcpus tt room three_apart (st, ((it, sh), (it, tt)))
+        calm_may s last c (reply.Signal (Dropped LpisOff)) change.Keep three vcpus is.calm room three_apart (st, ((it, sh), (it, tt)))
             (refl, (refl, (refl, tt))) (inl (goes_on false (Err LpisOff) off refl)) tt,
         off_leaves,
       )
@@ -214,20 +244,19 @@ module _ (s : Setup) (last : Word) (its : ℕ) (dev : DeviceId) (ev : EventId) (
       fill = staying last c (sent target r st behind) (change.Fill dev ev target)
 
       maps_after : translator (left a c (sent target r st behind)) its ≡ t
-      unfolding left
-      maps_after = here_maps
+      maps_after = ap (λ (z : Plain). translator z its) (is.leaves a (Delivered target.vcpu target.intid)) ∙ here_maps
 
       may_fill : r.bases.on ≡ true → MayFill s c (left a c (sent target r st behind)) three dev ev target
       may_fill on = record {
-        maps = inr (inr (inl refl));
-        shard = inr (inl refl);
+        maps = subst (λ (i : ℕ). Holds (part.Maps i) three) (sym is.its_is) (inr (inr (inl refl)));
+        shard = subst (λ (i : ℕ). Holds (part.Shard i n) three) (sym is.its_is) (inr (inl refl));
         redist = inl refl;
-        agrees = goes_to (left a c (sent target r st behind)) target true maps_after goes
+        agrees = ap (λ (i : ℕ). translated (left a c (sent target r st behind)) i dev.0 ev.0) is.its_is ∙ goes_to (left a c (sent target r st behind)) target true maps_after goes
             (ap (λ (x : Redistributor). x.bases.on) (sent_redist target r st behind long) ∙ on);
       }
 
-      its_own : (eqb its its && eqb n n) ≡ true
-      its_own = ap (λ (b : Bool). b && eqb n n) (eq-eqb its its refl) ∙ eq-eqb n n refl
+      its_own : (eqb its (its_of c) && eqb n n) ≡ true
+      its_own = ap (λ (b : Bool). b && eqb n n) (eq-eqb its (its_of c) (sym is.its_is)) ∙ eq-eqb n n refl
 
       abbrev full : List (Option Translation)
       full = filled ways (entry dev ev (stamp_of s last its) target)
@@ -241,19 +270,25 @@ module _ (s : Setup) (last : Word) (its : ℕ) (dev : DeviceId) (ev : EventId) (
           (part.Maps its) (Maps (maps_after d)) ∷ []
 
       pub fill_may : r.bases.on ≡ true → MayCall s fill three
-      fill_may on = calm_may s last c (sent target r st behind) (change.Fill dev ev target) three vcpus tt room three_apart (st, ((it, sh), (it, tt)))
+      fill_may on = calm_may s last c (sent target r st behind) (change.Fill dev ev target) three vcpus is.calm room three_apart (st, ((it, sh), (it, tt)))
           (refl, (refl, (refl, tt))) (inl (goes_on true (Ok target) on refl)) (may_fill on)
 
 pub hits : HitMayCommit
-hits s last its dev ev target ways r vcpus it st sh room has =
-    (hit_may s last its dev ev vcpus it room target ways r st sh has, hit_leaves s last its dev ev vcpus it room target ways r st sh has)
+hits s last c its dev ev target ways r message vcpus it st sh room has on =
+    (hit_may s last c its dev ev message vcpus it room target ways r st sh has on, hit_leaves s last c its dev ev message vcpus it room target ways r st sh has)
+
+pub hits_off : HitOffMayCommit
+hits_off s last c its dev ev target ways r message vcpus it st sh room has off = (
+  hit_off_may s last c its dev ev message vcpus it room target ways r st sh has off,
+  hit_off_leaves s last c its dev ev message vcpus it room target ways r st sh has,
+)
 
 pub fills : FillMayCommit
-fills s last its dev ev target t ways r vcpus it st sh room goes on =
-    (fill_may s last its dev ev vcpus it room t target r st goes ways sh on, fill_leaves s last its dev ev vcpus it room t target r st goes ways sh)
+fills s last c its dev ev target t ways r message vcpus it st sh room goes on =
+    (fill_may s last c its dev ev message vcpus it room t target r st goes ways sh on, fill_leaves s last c its dev ev message vcpus it room t target r st goes ways sh)
 
 pub drops : DropMayCommit
-drops s last its dev ev cause t vcpus it room lost = drop_may s last its dev ev vcpus it room t cause lost
+drops s last c its dev ev cause t message vcpus it room lost = drop_may s last c its dev ev message vcpus it room t cause lost
 
 pub offs : OffMayCommit
-offs s last its dev ev target t ways r vcpus it st sh room goes off = off_may s last its dev ev vcpus it room t target r st goes ways sh off
+offs s last c its dev ev target t ways r message vcpus it st sh room goes off = off_may s last c its dev ev message vcpus it room t target r st goes ways sh off

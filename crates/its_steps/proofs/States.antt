@@ -23,7 +23,7 @@ use Rattle.its_steps.proofs.Translations.{translated_is, translated_from}
 -- where a call leaves the same in the parts held, they owe the same
 content_as : (s : Setup) (a : Commit) (z z' : Plain) (p : Part) (x : Content) → SamePart z z' p → content_in s a z p x ≡ content_in s a z' p x
 content_as s a z z' (part.Maps its) x e = ap (λ (t : Translator). Maps t) (same_or z.translators z'.translators its no_translator e)
-content_as s a z z' part.Mem x e = λ d. Mem (e d)
+content_as s a z z' part.Mem x e = λ d. Mem (e.0 d) (e.1 d)
 content_as s a z z' (part.Redist vcpu) x e = ap (λ (r : Redistributor). Redist r) (same_or z.redistributors z'.redistributors vcpu.0 no_redistributor e)
 content_as s a z z' (part.Shard its n) (Shard ways) e = refl
 content_as s a z z' (part.Shard its n) x e = refl

@@ -63,7 +63,7 @@ alike u w (call.Step its) same =
     let ps : List Part = part.Mem ∷ needed_next u its in
     let t : translator u its ≡ translator w its = same_or u.translators w.translators its no_translator
     (same.parts (part.Maps its) (in_head (part.Maps its) ps)) in
-    let m : u.memory ≡ w.memory = same.parts part.Mem (in_tail part.Mem (part.Maps its) ps (in_head part.Mem (needed_next u its))) in
+    let m : u.memory ≡ w.memory = (same.parts part.Mem (in_tail part.Mem (part.Maps its) ps (in_head part.Mem (needed_next u its)))).0 in
     let r : step_reply u its ≡ step_reply w its = steps_alike u w its same in
     step_told u its ∙ ((λ d. told_step (not (t d).regs.enabled || is_queue_empty (t d).regs) (read_at (m d) (queue_place (t d).regs) 32) (t d).maps (r d))
     ∙ sym (step_told w its))

@@ -9,7 +9,7 @@ use Rattle.its_plain.specs.declared.call.Cause.{Cause}
 use Rattle.its_plain.specs.declared.call.Cause.TheVariants.{LpisOff}
 
 -- the target, if its LPIs are on
-abbrev reached : Result Target Cause → (Target → Bool) → Result Target Cause
+abbrev pub reached : Result Target Cause → (Target → Bool) → Result Target Cause
 reached found on = found >>= λ target. ensure (on target) LpisOff >>= λ _. Ok target
 
 reached_is : (found : Result Target Cause) (on : Target → Bool) (t : Target) → reached found on ≡ Ok t → (found ≡ Ok t) × (on t ≡ true)

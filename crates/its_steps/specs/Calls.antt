@@ -1,8 +1,12 @@
 -- When each kind of call may be committed with the stamp as it is, told by the parts that it needs, and what it leaves in them.
 use Rattle.std.specs.Prelude.{◌≡◌, ◌⊎◌, ℕ, zero, suc, ◌+◌, ◌<◌, ◌≤◌, Bool, true, false, not, ◌&&◌, nat_lt, nat_le, if◌then◌else◌, Option, Some, None}
-use Rattle.std.specs.Prelude.{unwrap_or, Ok, Err, List, [], ◌∷◌, length}
+use Rattle.std.specs.Prelude.{Ok, Err, List, [], ◌∷◌, length}
+use Rattle.std.specs.Option.{option_map}
+use Rattle.dirty_log.specs.Copies.{wrote, caught_up}
+use Rattle.dirty_log.specs.declared.tracked.Tracked.{Tracked}
 use Rattle.std.specs.List.{AllByRecursion}
 use Rattle.guest_windows.specs.Windows.{Window, read_at, write_at}
+use Rattle.gicr_regs.specs.Registers.{written_gicr, turned_off}
 use Rattle.gits_regs.specs.Registers.{read_reg, write_reg}
 use Rattle.its_types.specs.Lpis.{with_lpi}
 use Rattle.its_types.specs.declared.ids.Addr.{Addr}
@@ -11,8 +15,9 @@ use Rattle.its_types.specs.declared.ids.EventId.{EventId}
 use Rattle.its_types.specs.declared.ids.Target.{Target}
 use Rattle.its_types.specs.declared.ids.Vcpu.{Vcpu}
 use Rattle.its_types.specs.declared.machine.Part.TheVariants as part
+use Rattle.its_types.specs.declared.machine.Shape.{Shape}
 use Rattle.its_types.specs.declared.machine.Word.{Word}
-use Rattle.its_plain.specs.Answer.{ack_of, lowest, taken, poke_reply, peek_reply, translator_written, save_reply, save_left, left}
+use Rattle.its_plain.specs.Answer.{ack_of, lowest, taken, poke_reply, peek_reply, translator_written, save_reply, save_left, copy_count, left}
 use Rattle.its_plain.specs.Plain.{Plain, Translator, Redistributor, translator, redistributor}
 use Rattle.its_plain.specs.Regions.{savable}
 use Rattle.its_plain.specs.Translation.{located}
@@ -20,15 +25,16 @@ use Rattle.its_plain.specs.declared.call.Call.{Call}
 use Rattle.its_plain.specs.declared.call.Call.TheVariants as call
 use Rattle.its_plain.specs.declared.call.Cause.{Cause}
 use Rattle.its_plain.specs.declared.call.Cause.TheVariants.{LpisOff}
+use Rattle.its_plain.specs.declared.call.Route.TheVariants as route
 use Rattle.its_plain.specs.declared.call.Reply.{Reply}
 use Rattle.its_plain.specs.declared.call.Reply.TheVariants as reply
 use Rattle.its_plain.specs.declared.call.Signal.TheVariants.{Delivered, Dropped}
 use Rattle.xlate_cache.specs.Pairs.{shard_number}
 use Rattle.xlate_cache.specs.Ways.{entry, filled, found}
 use Rattle.xlate_cache.specs.declared.entry.Entry.{Entry as Translation}
-use Rattle.its_steps.specs.Contents.{Maps, Mem, Shard, Redist, Held}
+use Rattle.its_steps.specs.Contents.{Content, Maps, Mem, Shard, Redist, Held}
 use Rattle.its_steps.specs.Good.{Apart}
-use Rattle.its_steps.specs.MayCall.{AreSteady, IsAnswered, IsHit, MayChange, MayCall}
+use Rattle.its_steps.specs.MayCall.{message_of, AreSteady, IsAnswered, IsHit, MayChange, MayCall}
 use Rattle.its_steps.specs.MayCommit.{IsOut}
 use Rattle.its_steps.specs.Parts.{Setup, HasVcpus, HasStamps, Stands, IsOfMachine, translator_count, vcpu_count, stamp_of, stamp_with}
 use Rattle.its_steps.specs.Renewal.{assembled, its_of, renewal}
@@ -63,7 +69,7 @@ IsCalm (call.WriteReg its off size value) = ⊥
 IsCalm (call.Step its) = ⊥
 IsCalm c = Unit {0}
 
--- a calm call changes neither where maps send events nor whether LPIs are on, whatever parts are held
+-- a calm call doesn't change where maps send events, whatever parts are held
 abbrev pub CalmCallsAreSteady : Type 0
 CalmCallsAreSteady = (s : Setup) (a : Commit) (its : ℕ) (owed held : List Held) → HasVcpus s → IsCalm a.call → Apart held
     → AllByRecursion (λ x. Stands s x.part) held → AreSteady s its owed held (renewal s a held)
@@ -89,13 +95,51 @@ ShowMayCommit = (s : Setup) (last : Word) (vcpu : Vcpu) (r : Redistributor) → 
     → let held : List Held = out (part.Redist vcpu) (Redist r) ∷ [] in MayLeave s (staying last (call.Show vcpu) (reply.Ack (ack_of r (lowest r))) change.Keep)
     held held
 
+-- with memory, it is enough for a write of its registers, whatever that does to LPIs: the stamp stays and no shard is held
+abbrev pub GicrMayCommit : Type 0
+GicrMayCommit = (s : Setup) (last : Word) (vcpu : Vcpu) (off size value : ℕ) (r : Redistributor) (memory : List Window) (track : Option Tracked) → HasVcpus s
+    → vcpu.0 < vcpu_count s → last.place < s.limits.place_last → s.start.layout.gicr ≡ true
+    → let mem : Held = out part.Mem (Mem memory track) in
+    MayLeave s (staying last (call.WriteGicr vcpu off size value) reply.Ok change.Keep) (out (part.Redist vcpu) (Redist r) ∷ mem ∷ [])
+    (out (part.Redist vcpu) (Redist (written_gicr s.start.layout.shape memory r off size value)) ∷ mem ∷ [])
+
+-- the write of 0 to GICR_CTLR turns LPIs off that are on, where the layout lets it
+abbrev pub WriteTurnsOff : Type 0
+WriteTurnsOff = (s : Shape) (memory : List Window) (r : Redistributor) → s.linux ≡ true → r.bases.on ≡ true → written_gicr s memory r 0x0 4 0 ≡ turned_off s r
+
 -- ---- guest memory
+
+-- memory where so many bytes were written, or not
+abbrev pub poked_content : List Window → Option Tracked → ℕ → List ℕ → Option (List Window) → Content
+poked_content memory track address bytes None = Mem memory track
+poked_content memory track address bytes (Some now) = Mem now (option_map (wrote address (length bytes)) track)
 
 -- memory alone is enough for a write of it
 abbrev pub PokeMayCommit : Type 0
-PokeMayCommit = (s : Setup) (last : Word) (addr : Addr) (bytes : List ℕ) (memory : List Window) → HasVcpus s → last.place < s.limits.place_last
-    → MayLeave s (staying last (call.Poke addr bytes) (poke_reply (write_at memory addr.0 bytes)) change.Keep) (out part.Mem (Mem memory) ∷ [])
-    (out part.Mem (Mem (unwrap_or (write_at memory addr.0 bytes) memory)) ∷ [])
+PokeMayCommit = (s : Setup) (last : Word) (addr : Addr) (bytes : List ℕ) (memory : List Window) (track : Option Tracked) → HasVcpus s
+    → last.place < s.limits.place_last
+    → MayLeave s (staying last (call.Poke addr bytes) (poke_reply (write_at memory addr.0 bytes)) change.Keep) (out part.Mem (Mem memory track) ∷ [])
+    (out part.Mem (poked_content memory track addr.0 bytes (write_at memory addr.0 bytes)) ∷ [])
+
+-- for a write by address too
+abbrev pub DmaMayCommit : Type 0
+DmaMayCommit = (s : Setup) (last : Word) (req : ℕ) (addr : Addr) (bytes : List ℕ) (memory : List Window) (track : Option Tracked) → HasVcpus s
+    → last.place < s.limits.place_last
+    → MayLeave s (staying last (call.Dma req addr bytes route.Poke) (poke_reply (write_at memory addr.0 bytes)) change.Keep)
+    (out part.Mem (Mem memory track) ∷ [])
+    (out part.Mem (poked_content memory track addr.0 bytes (write_at memory addr.0 bytes)) ∷ [])
+
+-- one that is nothing needs no part
+abbrev pub NothingMayCommit : Type 0
+NothingMayCommit = (s : Setup) (last : Word) (req : ℕ) (addr : Addr) (bytes : List ℕ) → HasVcpus s → last.place < s.limits.place_last
+    → MayLeave s (staying last (call.Dma req addr bytes route.NoRequester) reply.NoRequester change.Keep) [] []
+    × MayLeave s (staying last (call.Dma req addr bytes route.Frame) reply.Outside change.Keep) [] []
+
+-- and for a copy
+abbrev pub CopyMayCommit : Type 0
+CopyMayCommit = (s : Setup) (last : Word) (memory : List Window) (track : Option Tracked) → HasVcpus s → last.place < s.limits.place_last
+    → MayLeave s (staying last call.Copy (reply.Copied (copy_count track)) change.Keep) (out part.Mem (Mem memory track) ∷ [])
+    (out part.Mem (Mem memory (option_map (caught_up memory) track)) ∷ [])
 
 -- 1 to 64 bytes, where one window has them
 abbrev pub peeked_in : List Window → ℕ → ℕ → Option (List ℕ)
@@ -103,8 +147,8 @@ peeked_in memory address count = if nat_lt 0 count && nat_le count 64 then read_
 
 -- and for a read
 abbrev pub PeekMayCommit : Type 0
-PeekMayCommit = (s : Setup) (last : Word) (addr : Addr) (count : ℕ) (memory : List Window) → HasVcpus s → last.place < s.limits.place_last
-    → let held : List Held = out part.Mem (Mem memory) ∷ [] in MayLeave s
+PeekMayCommit = (s : Setup) (last : Word) (addr : Addr) (count : ℕ) (memory : List Window) (track : Option Tracked) → HasVcpus s
+    → last.place < s.limits.place_last → let held : List Held = out part.Mem (Mem memory track) ∷ [] in MayLeave s
     (staying last (call.Peek addr count) (peek_reply (peeked_in memory addr.0 count)) change.Keep) held held
 
 -- ---- registers
@@ -124,53 +168,61 @@ abbrev pub WriteMayCommit : Type 0
 WriteMayCommit = (s : Setup) (last : Word) (its off size value : ℕ) (t : Translator) → HasVcpus s → its < translator_count s → last.place < s.limits.place_last
     → turns_off t off size value ≡ false
     → MayLeave s (staying last (call.WriteReg its off size value) reply.Ok change.Keep) (out (part.Maps its) (Maps t) ∷ [])
-    (out (part.Maps its) (Maps (translator_written t (write_reg t.regs off size value))) ∷ [])
+    (out (part.Maps its) (Maps (translator_written s.start.layout.shape t (write_reg t.regs off size value))) ∷ [])
 
 -- and for any write, with the stamp one higher
 abbrev pub WriteMayRise : Type 0
 WriteMayRise = (s : Setup) (last : Word) (its off size value : ℕ) (t : Translator) → HasVcpus s → HasStamps s → its < translator_count s
     → last.place < s.limits.place_last → stamp_of s last its + 1 ≤ s.limits.stamp_last
     → MayLeave s (stamping s last (call.WriteReg its off size value) reply.Ok (stamp_of s last its + 1) change.Keep) (out (part.Maps its) (Maps t) ∷ [])
-    (out (part.Maps its) (Maps (translator_written t (write_reg t.regs off size value))) ∷ [])
+    (out (part.Maps its) (Maps (translator_written s.start.layout.shape t (write_reg t.regs off size value))) ∷ [])
 
--- ---- signals
+-- ---- messages: signals, and writes by address that are such
 
--- a signal that is found in its pair's shard needs that and the target's redistributor
+-- a signal that is found in its pair's shard needs that and the target's redistributor, whose LPIs are on
 abbrev pub HitMayCommit : Type 0
-HitMayCommit = (s : Setup) (last : Word) (its : ℕ) (dev : DeviceId) (ev : EventId) (target : Target) (ways : List (Option Translation)) (r : Redistributor)
-    → HasVcpus s → its < translator_count s → target.vcpu.0 < vcpu_count s
-    → shard_number dev.0 ev.0 s.shards < s.shards → last.place < s.limits.place_last → found ways dev.0 ev.0 (stamp_of s last its) ≡ Some target
+HitMayCommit = (s : Setup) (last : Word) (c : Call) (its : ℕ) (dev : DeviceId) (ev : EventId) (target : Target) (ways : List (Option Translation)) (r : Redistributor)
+    → message_of c ≡ Some (its, (dev, ev)) → HasVcpus s → its < translator_count s → target.vcpu.0 < vcpu_count s
+    → shard_number dev.0 ev.0 s.shards < s.shards → last.place < s.limits.place_last → found ways dev.0 ev.0 (stamp_of s last its) ≡ Some target → r.bases.on ≡ true
     → let shard : Held = out (part.Shard its (shard_number dev.0 ev.0 s.shards)) (Shard ways) in
-    MayLeave s (staying last (call.Signal its dev ev) (reply.Signal (Delivered target.vcpu target.intid)) change.Keep)
+    MayLeave s (staying last c (reply.Signal (Delivered target.vcpu target.intid)) change.Keep)
     (out (part.Redist target.vcpu) (Redist r) ∷ shard ∷ []) (out (part.Redist target.vcpu) (Redist (record r { pending = with_lpi target.intid.0 r.pending }))
     ∷ shard ∷ [])
 
+-- also where its LPIs are off: it is dropped
+abbrev pub HitOffMayCommit : Type 0
+HitOffMayCommit = (s : Setup) (last : Word) (c : Call) (its : ℕ) (dev : DeviceId) (ev : EventId) (target : Target) (ways : List (Option Translation)) (r : Redistributor)
+    → message_of c ≡ Some (its, (dev, ev)) → HasVcpus s → its < translator_count s → target.vcpu.0 < vcpu_count s
+    → shard_number dev.0 ev.0 s.shards < s.shards → last.place < s.limits.place_last → found ways dev.0 ev.0 (stamp_of s last its) ≡ Some target → r.bases.on ≡ false
+    → let held : List Held = out (part.Redist target.vcpu) (Redist r) ∷ out (part.Shard its (shard_number dev.0 ev.0 s.shards)) (Shard ways) ∷ [] in
+    MayLeave s (staying last c (reply.Signal (Dropped LpisOff)) change.Keep) held held
+
 -- one that the maps send to a redistributor whose LPIs are on needs the maps too, and may fill its pair's shard
 abbrev pub FillMayCommit : Type 0
-FillMayCommit = (s : Setup) (last : Word) (its : ℕ) (dev : DeviceId) (ev : EventId) (target : Target) (t : Translator) (ways : List (Option Translation))
-    (r : Redistributor) → HasVcpus s → its < translator_count s → target.vcpu.0 < vcpu_count s
+FillMayCommit = (s : Setup) (last : Word) (c : Call) (its : ℕ) (dev : DeviceId) (ev : EventId) (target : Target) (t : Translator) (ways : List (Option Translation))
+    (r : Redistributor) → message_of c ≡ Some (its, (dev, ev)) → HasVcpus s → its < translator_count s → target.vcpu.0 < vcpu_count s
     → shard_number dev.0 ev.0 s.shards < s.shards → last.place < s.limits.place_last → located t dev.0 ev.0 ≡ Ok target → r.bases.on ≡ true
     → let n : ℕ = shard_number dev.0 ev.0 s.shards in
-    MayLeave s (staying last (call.Signal its dev ev) (reply.Signal (Delivered target.vcpu target.intid)) (change.Fill dev ev target))
+    MayLeave s (staying last c (reply.Signal (Delivered target.vcpu target.intid)) (change.Fill dev ev target))
     (out (part.Redist target.vcpu) (Redist r) ∷ out (part.Shard its n) (Shard ways) ∷ out (part.Maps its) (Maps t) ∷ [])
     (out (part.Redist target.vcpu) (Redist (record r { pending = with_lpi target.intid.0 r.pending })) ∷ out (part.Shard its n)
     (Shard (filled ways (entry dev ev (stamp_of s last its) target))) ∷ out (part.Maps its) (Maps t) ∷ [])
 
 -- one that the maps send nowhere needs the maps alone
 abbrev pub DropMayCommit : Type 0
-DropMayCommit = (s : Setup) (last : Word) (its : ℕ) (dev : DeviceId) (ev : EventId) (cause : Cause) (t : Translator) → HasVcpus s → its < translator_count s
+DropMayCommit = (s : Setup) (last : Word) (c : Call) (its : ℕ) (dev : DeviceId) (ev : EventId) (cause : Cause) (t : Translator) → message_of c ≡ Some (its, (dev, ev)) → HasVcpus s → its < translator_count s
     → last.place < s.limits.place_last → located t dev.0 ev.0 ≡ Err cause
-    → let held : List Held = out (part.Maps its) (Maps t) ∷ [] in MayLeave s (staying last (call.Signal its dev ev) (reply.Signal (Dropped cause)) change.Keep)
+    → let held : List Held = out (part.Maps its) (Maps t) ∷ [] in MayLeave s (staying last c (reply.Signal (Dropped cause)) change.Keep)
     held held
 
 -- one whose target's LPIs are off needs that redistributor too; the pair's shard was taken before that was seen, and stays as it was
 abbrev pub OffMayCommit : Type 0
-OffMayCommit = (s : Setup) (last : Word) (its : ℕ) (dev : DeviceId) (ev : EventId) (target : Target) (t : Translator) (ways : List (Option Translation))
-    (r : Redistributor) → HasVcpus s → its < translator_count s → target.vcpu.0 < vcpu_count s
+OffMayCommit = (s : Setup) (last : Word) (c : Call) (its : ℕ) (dev : DeviceId) (ev : EventId) (target : Target) (t : Translator) (ways : List (Option Translation))
+    (r : Redistributor) → message_of c ≡ Some (its, (dev, ev)) → HasVcpus s → its < translator_count s → target.vcpu.0 < vcpu_count s
     → shard_number dev.0 ev.0 s.shards < s.shards → last.place < s.limits.place_last → located t dev.0 ev.0 ≡ Ok target → r.bases.on ≡ false
     → let held : List Held = out (part.Redist target.vcpu) (Redist r) ∷ out (part.Shard its (shard_number dev.0 ev.0 s.shards)) (Shard ways) ∷ out
     (part.Maps its) (Maps t) ∷ [] in
-    MayLeave s (staying last (call.Signal its dev ev) (reply.Signal (Dropped LpisOff)) change.Keep) held held
+    MayLeave s (staying last c (reply.Signal (Dropped LpisOff)) change.Keep) held held
 
 -- ---- saves
 
@@ -186,7 +238,7 @@ redists_held u (suc n) rest = out (part.Redist (record { 0 = n })) (Redist (redi
 
 -- all maps of a state, its memory, and all redistributors, each got after the one that follows it here
 abbrev pub whole_held : Plain → List Held
-whole_held u = redists_held u (length u.redistributors) (out part.Mem (Mem u.memory) ∷ maps_held u (length u.translators))
+whole_held u = redists_held u (length u.redistributors) (out part.Mem (Mem u.memory u.track) ∷ maps_held u (length u.translators))
 
 -- a save needs all but the shards
 abbrev pub SaveMayCommit : Type 0

@@ -1,6 +1,7 @@
 -- What parts contain, and what a pass has that holds some.
 use Rattle.std.specs.Prelude.{ℕ, Bool, Option, List, map}
 use Rattle.guest_windows.specs.Windows.{Window}
+use Rattle.dirty_log.specs.declared.tracked.Tracked.{Tracked}
 use Rattle.its_types.specs.declared.machine.Part.{Part}
 use Rattle.its_plain.specs.Plain.{Translator, Redistributor}
 use Rattle.xlate_cache.specs.declared.entry.Entry.{Entry as Translation}
@@ -8,8 +9,8 @@ use Rattle.xlate_cache.specs.declared.entry.Entry.{Entry as Translation}
 pub data Content : Type 0 where
   -- a translator's registers and maps
   Maps : Translator → Content
-  -- guest memory
-  Mem : List Window → Content
+  -- guest memory with its copy
+  Mem : List Window → Option Tracked → Content
   -- the ways of a shard of a translator's cache
   Shard : List (Option Translation) → Content
   -- what a redistributor knows of LPIs

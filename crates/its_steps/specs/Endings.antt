@@ -1,5 +1,5 @@
 -- Which calls end translations that were current. With these the stamp rises or is renewed, or the pair's translation leaves its shard.
-use Rattle.std.specs.Prelude.{◌≡◌, ◌≢◌, ℕ, not, ◌&&◌, if◌then◌else◌, true, false, Option, Some, None, is_some, Result, Ok, Err, List}
+use Rattle.std.specs.Prelude.{◌≡◌, ◌≢◌, ℕ, not, ◌&&◌, if◌then◌else◌, false, Option, Some, None, is_some, Result, Ok, Err, List}
 use Rattle.gits_regs.specs.Registers.{write_reg}
 use Rattle.its_command.specs.Commands.{decoded}
 use Rattle.its_command.specs.declared.command.Command.{Command}
@@ -9,7 +9,7 @@ use Rattle.its_types.specs.declared.ids.Target.{Target}
 use Rattle.its_plain.specs.Answer.{left, is_idle, next_bytes, step_reply}
 use Rattle.its_plain.specs.Commands.{ran}
 use Rattle.its_plain.specs.Parts.{AgreesOn, footprint}
-use Rattle.its_plain.specs.Plain.{Plain, translator, regs_of, maps_of, is_on}
+use Rattle.its_plain.specs.Plain.{Plain, translator, regs_of, maps_of}
 use Rattle.its_plain.specs.Translation.{located}
 use Rattle.its_plain.specs.declared.call.Call.{Call}
 use Rattle.its_plain.specs.declared.call.Call.TheVariants as call
@@ -59,11 +59,10 @@ Ends Nothing dev ev = ⊥
 Ends (Pair d e) dev ev = (dev ≡ d) × (ev ≡ e)
 Ends All dev ev = Unit {0}
 
--- where the translator's maps sent an event they send it after, but for the ending; the others are the same, and no redistributor is turned off
+-- where the translator's maps sent an event they send it after, but for the ending; the others are the same
 pub record Lasts (u w : Plain) (its : ℕ) (ending : Ending) : Type 0 where
   pub own : (dev ev : ℕ) (t : Target) → ¬ Ends ending dev ev → located (translator u its) dev ev ≡ Ok t → located (translator w its) dev ev ≡ Ok t
   pub others : (i : ℕ) → i ≢ its → translator u i ≡ translator w i
-  pub on : (v : ℕ) → is_on u v ≡ true → is_on w v ≡ true
 
 -- a call ends no more than this, in any state
 abbrev pub EndingsAreAll : Type 0

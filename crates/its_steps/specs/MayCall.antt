@@ -1,5 +1,5 @@
 -- When a pass may commit a call, told by what it holds.
-use Rattle.std.specs.Prelude.{◌≡◌, ◌⊎◌, ℕ, ◌+◌, ◌<◌, ◌≤◌, true, false, Option, Some, None, Ok, List, [], ◌∷◌, slice_index_or}
+use Rattle.std.specs.Prelude.{◌≡◌, ◌⊎◌, ℕ, ◌+◌, ◌<◌, ◌≤◌, Bool, true, false, Option, Some, None, Ok, List, [], ◌∷◌, slice_index_or}
 use Rattle.std.specs.List.{AllByRecursion}
 use Rattle.its_types.specs.declared.ids.DeviceId.{DeviceId}
 use Rattle.its_types.specs.declared.ids.EventId.{EventId}
@@ -9,13 +9,17 @@ use Rattle.its_types.specs.declared.machine.Part.TheVariants as part
 use Rattle.its_types.specs.declared.machine.Word.{Word}
 use Rattle.its_plain.specs.Answer.{reply_of, left}
 use Rattle.its_plain.specs.Parts.{footprint}
-use Rattle.its_plain.specs.Plain.{Plain}
+use Rattle.its_plain.specs.Plain.{Plain, Redistributor}
 use Rattle.its_plain.specs.Translation.{located, translated}
 use Rattle.its_plain.specs.declared.call.Call.{Call}
 use Rattle.its_plain.specs.declared.call.Call.TheVariants as call
+use Rattle.its_plain.specs.declared.call.Route.{Route}
+use Rattle.its_plain.specs.declared.call.Route.TheVariants as route
 use Rattle.its_plain.specs.declared.call.Reply.{Reply}
 use Rattle.its_plain.specs.declared.call.Reply.TheVariants as reply
-use Rattle.its_plain.specs.declared.call.Signal.TheVariants.{Delivered}
+use Rattle.its_plain.specs.declared.call.Cause.TheVariants.{LpisOff}
+use Rattle.its_plain.specs.declared.call.Signal.{Signal}
+use Rattle.its_plain.specs.declared.call.Signal.TheVariants.{Delivered, Dropped}
 use Rattle.xlate_cache.specs.Pairs.{shard_number}
 use Rattle.xlate_cache.specs.Ways.{is_of, entry, found}
 use Rattle.xlate_cache.specs.declared.entry.Entry.{Entry as Translation}
@@ -45,18 +49,35 @@ pub record IsAnswered (u : Plain) (call : Call) (reply : Reply) (held : List Hel
   pub covers : Covers u call held
   pub reply_is : reply ≡ reply_of u call
 
--- A signal that is found in the cache: its pair's shard has the translation under the stamp expected, and the target's redistributor is held. No maps need be
+abbrev message_in : Route → Option (ℕ × (DeviceId × EventId))
+message_in (route.Signal its dev ev) = Some (its, (dev, ev))
+message_in to = None
+
+-- the message that a call is, to a translator, from a device with an event: a signal, or a write by address
+abbrev pub message_of : Call → Option (ℕ × (DeviceId × EventId))
+message_of (call.Signal its dev ev) = Some (its, (dev, ev))
+message_of (call.Dma req addr bytes to) = message_in to
+message_of c = None
+
+-- what a redistributor makes of a message that is for it
+abbrev pub met : Bool → Target → Signal
+met true target = Delivered target.vcpu target.intid
+met false target = Dropped LpisOff
+
+-- A signal that is found in the cache: its pair's shard has the translation under the stamp expected, and the target's redistributor is held, which says
+-- whether its LPIs are on. No maps need be
 pub record IsHit (s : Setup) (a : Commit) (held : List Held) : Type 0 where
   pub its : ℕ
   pub dev : DeviceId
   pub ev : EventId
   pub target : Target
-  pub call_is : a.call ≡ call.Signal its dev ev
-  pub reply_is : a.reply ≡ reply.Signal (Delivered target.vcpu target.intid)
+  pub message : message_of a.call ≡ Some (its, (dev, ev))
   pub ways : List (Option Translation)
   pub owes : Owes (part.Shard its (shard_number dev.0 ev.0 s.shards)) (Shard ways) held
   pub is_found : found ways dev.0 ev.0 (stamp_of s a.expected its) ≡ Some target
-  pub redist : Holds (part.Redist target.vcpu) held
+  pub redist : Redistributor
+  pub target_owes : Owes (part.Redist target.vcpu) (Redist redist) held
+  pub reply_is : a.reply ≡ reply.Signal (met redist.bases.on target)
 
 -- ---- the change of the shards, where the call leaves this state
 
@@ -79,12 +100,10 @@ pub record IsWithout (s : Setup) (its dev ev : ℕ) (owed : List Held) : Type 0 
   pub owes : Owes (part.Shard its (shard_number dev ev s.shards)) (Shard ways) owed
   pub none : (i : ℕ) → is_of dev ev (slice_index_or ways i None) ≡ false
 
--- Each pair that the translator delivered is delivered as before, unless its translation is in no shard any more: the maps send
--- it where they did, and no redistributor is turned off
+-- Each pair that the maps sent somewhere they send there as before, unless its translation is in no shard any more
 abbrev pub IsSteady : Setup → ℕ → List Held → Part → Content → Content → Type 0
 IsSteady s its owed (part.Maps i) (Maps t) (Maps t') = i ≡ its → (dev ev : ℕ) (target : Target) → located t dev ev ≡ Ok target → (located t' dev ev ≡ Ok target)
     ⊎ IsWithout s its dev ev owed
-IsSteady s its owed (part.Redist vcpu) (Redist r) (Redist r') = r.bases.on ≡ true → r'.bases.on ≡ true
 IsSteady s its owed p c c' = Unit {0}
 
 abbrev pub AreSteady : Setup → ℕ → List Held → List Held → List Held → Type 0

@@ -7,9 +7,9 @@ use Rattle.its_types.specs.declared.machine.Limits.{Limits}
 use Rattle.its_types.specs.declared.machine.Part.{Part}
 use Rattle.its_types.specs.declared.machine.Part.TheVariants as part
 use Rattle.its_types.specs.declared.machine.Word.{Word}
-use Rattle.its_plain.specs.Plain.{Plain}
+use Rattle.its_plain.specs.Plain.{Plain, translator}
 use Rattle.its_plain.specs.Sound.{IsSound}
-use Rattle.its_plain.specs.Translation.{translated}
+use Rattle.its_plain.specs.Translation.{located}
 use Rattle.xlate_cache.specs.Pairs.{shard_number}
 use Rattle.xlate_cache.specs.Ways.{IsShard}
 use Rattle.xlate_cache.specs.declared.entry.Entry.{Entry as Translation}
@@ -77,13 +77,14 @@ HasStamps s = (translator_count s ≡ 1) ⊎ ((translator_count s ≡ 2) × (s.l
 -- ---- what they contain
 
 -- An entry in shard n of a translator's cache: it is of a pair of that shard, no stamp is of the future, and its target is one
--- that the machine has, however old it is. One of the current stamp is what translation gives
+-- that the machine has, however old it is. One of the current stamp is where registers and maps send its pair, whether or not the
+-- target's LPIs are on
 pub record IsCached (s : Setup) (word : Word) (u : Plain) (its n : ℕ) (e : Translation) : Type 0 where
   pub shard : shard_number e.dev.0 e.ev.0 s.shards ≡ n
   pub stamp : e.stamp ≤ stamp_of s word its
   pub vcpu : e.target.vcpu.0 < vcpu_count s
   pub lpi : is_lpi s.start.layout.shape.lpi_bits e.target.intid.0 ≡ true
-  pub current : e.stamp ≡ stamp_of s word its → translated u its e.dev.0 e.ev.0 ≡ Ok e.target
+  pub current : e.stamp ≡ stamp_of s word its → located (translator u its) e.dev.0 e.ev.0 ≡ Ok e.target
 
 pub record IsCache (s : Setup) (word : Word) (u : Plain) (its n : ℕ) (ways : List (Option Translation)) : Type 0 where
   pub shard : IsShard ways
@@ -92,7 +93,7 @@ pub record IsCache (s : Setup) (word : Word) (u : Plain) (its n : ℕ) (ways : L
 -- What a part may contain, where the machine's state is u: of maps, memory and redistributors just what the state has
 abbrev pub Right : Setup → Word → Plain → Part → Content → Type 0
 Right s word u (part.Maps its) (Maps t) = slice_get u.translators its ≡ Some t
-Right s word u part.Mem (Mem memory) = u.memory ≡ memory
+Right s word u part.Mem (Mem memory track) = (u.memory ≡ memory) × (u.track ≡ track)
 Right s word u (part.Shard its n) (Shard ways) = IsCache s word u its n ways
 Right s word u (part.Redist vcpu) (Redist r) = slice_get u.redistributors vcpu.0 ≡ Some r
 Right s word u p c = ⊥
@@ -100,7 +101,7 @@ Right s word u p c = ⊥
 -- The state has this in the part. Of a shard it has nothing
 abbrev pub Has : Plain → Part → Content → Type 0
 Has u (part.Maps its) (Maps t) = slice_get u.translators its ≡ Some t
-Has u part.Mem (Mem memory) = u.memory ≡ memory
+Has u part.Mem (Mem memory track) = (u.memory ≡ memory) × (u.track ≡ track)
 Has u (part.Shard its n) (Shard ways) = Unit {0}
 Has u (part.Redist vcpu) (Redist r) = slice_get u.redistributors vcpu.0 ≡ Some r
 Has u p c = ⊥
@@ -112,7 +113,7 @@ HasAll u held = AllByRecursion (λ x. Has u x.part x.owed) held
 -- the content is of the part's kind
 abbrev pub Suits : Part → Content → Type 0
 Suits (part.Maps its) (Maps t) = Unit {0}
-Suits part.Mem (Mem memory) = Unit {0}
+Suits part.Mem (Mem memory track) = Unit {0}
 Suits (part.Shard its n) (Shard ways) = Unit {0}
 Suits (part.Redist vcpu) (Redist r) = Unit {0}
 Suits p c = ⊥

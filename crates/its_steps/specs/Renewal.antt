@@ -9,6 +9,8 @@ use Rattle.its_plain.specs.Answer.{left}
 use Rattle.its_plain.specs.Plain.{Plain, translator, redistributor, with_translator, with_redistributor}
 use Rattle.its_plain.specs.declared.call.Call.{Call}
 use Rattle.its_plain.specs.declared.call.Call.TheVariants as call
+use Rattle.its_plain.specs.declared.call.Route.{Route}
+use Rattle.its_plain.specs.declared.call.Route.TheVariants as route
 use Rattle.xlate_cache.specs.Pairs.{shard_number}
 use Rattle.xlate_cache.specs.Ways.{entry, filled, dropped, no_entries}
 use Rattle.xlate_cache.specs.declared.entry.Entry.{Entry as Translation}
@@ -23,7 +25,7 @@ use Rattle.its_steps.specs.declared.commit.Commit.{Commit}
 
 abbrev pub with_part : Part → Content → Plain → Plain
 with_part (part.Maps its) (Maps t) u = with_translator u its t
-with_part part.Mem (Mem memory) u = record u { memory = memory }
+with_part part.Mem (Mem memory track) u = record u { memory = memory; track = track }
 with_part (part.Redist vcpu) (Redist r) u = with_redistributor u vcpu.0 r
 with_part p c u = u
 
@@ -34,12 +36,17 @@ assembled s (x ∷ xs) = with_part x.part x.owed (assembled s xs)
 
 -- ---- shards
 
+abbrev its_of_route : Route → ℕ
+its_of_route (route.Signal its dev ev) = its
+its_of_route to = 0
+
 -- the translator that a call is of
 abbrev pub its_of : Call → ℕ
 its_of (call.Signal its dev ev) = its
 its_of (call.ReadReg its off size) = its
 its_of (call.WriteReg its off size value) = its
 its_of (call.Step its) = its
+its_of (call.Dma req addr bytes to) = its_of_route to
 its_of c = 0
 
 -- the shard of a pair, of the call's translator
@@ -62,7 +69,7 @@ changed s to call change.Empty its n ways = if its == its_of call then no_entrie
 -- what a part owes where the commit's call leaves this state
 abbrev pub content_in : Setup → Commit → Plain → Part → Content → Content
 content_in s a after (part.Maps its) c = Maps (translator after its)
-content_in s a after part.Mem c = Mem after.memory
+content_in s a after part.Mem c = Mem after.memory after.track
 content_in s a after (part.Redist vcpu) c = Redist (redistributor after vcpu.0)
 content_in s a after (part.Shard its n) (Shard ways) = Shard (changed s (word_after a) a.call a.change its n ways)
 content_in s a after (part.Shard its n) c = c

@@ -1,5 +1,5 @@
 -- A world: the word that commits exchange, the turns and slots of the parts, and what each pass knows. Each step of a pass changes its view as said here.
-use Rattle.std.specs.Prelude.{ℕ, ◌+◌, ◌*◌, Bool, true, false, ◌==◌, ◌&&◌, nat_lt, if◌then◌else◌, List, [], ◌∷◌, ◌++◌, map, replicate}
+use Rattle.std.specs.Prelude.{None, ℕ, ◌+◌, ◌*◌, Bool, true, false, ◌==◌, ◌&&◌, nat_lt, if◌then◌else◌, List, [], ◌∷◌, ◌++◌, map, replicate}
 use mathlib.Core.Option.{Option, some}
 use Rattle.its_types.specs.declared.machine.Part.{Part}
 use Rattle.its_types.specs.declared.machine.Part.TheVariants as part
@@ -124,7 +124,7 @@ first_view s = fresh s 0 1 [] first_word
 abbrev pub first_slots : Setup → List (Option Content)
 first_slots s =
     map (λ t. some (Maps t)) s.start.translators
-    ++ (some (Mem s.start.memory) ∷ (replicate (translator_count s * s.shards) (some (Shard no_entries)) ++ map (λ r. some (Redist r)) s.start.redistributors))
+    ++ (some (Mem s.start.memory s.start.track) ∷ (replicate (translator_count s * s.shards) (some (Shard no_entries)) ++ map (λ r. some (Redist r)) s.start.redistributors))
 
 abbrev pub first_world : Setup → World
 first_world s = record { word = first_word; turns = replicate (part_count s) 0; slots = first_slots s; views = first_view s ∷ [] }
@@ -238,10 +238,16 @@ has_met v note = record v { told = note.seen }
 abbrev no_setup : Setup
 no_setup = record {
   start = record {
-    layout = record { shape = record { vcpus = 0; dev_bits = 0; lpi_bits = 0; profile = One }; gicr = false; described = [] };
+    layout = record {
+      shape = record { vcpus = 0; dev_bits = 0; lpi_bits = 0; profile = One; linux = false };
+      gicr = false;
+      described = [];
+      track = false;
+    };
     translators = [];
     redistributors = [];
     memory = [];
+    track = None;
   };
   limits = record { stamp_last = 0; place_last = 0 };
   shards = 0;

@@ -117,6 +117,11 @@ pub fn ports_may_commit()
     ensures show { calls.ShowMayCommit }
     ensures poke { calls.PokeMayCommit }
     ensures peek { calls.PeekMayCommit }
+    ensures dma { calls.DmaMayCommit }
+    ensures nothing { calls.NothingMayCommit }
+    ensures copy { calls.CopyMayCommit }
+    ensures gicr { calls.GicrMayCommit }
+    ensures off { calls.WriteTurnsOff }
     ensures read { calls.ReadMayCommit }
     ensures write { calls.WriteMayCommit }
     ensures rise { calls.WriteMayRise }
@@ -126,6 +131,7 @@ pub fn ports_may_commit()
 /// What a signal needs that is found in the cache, or goes by the maps, and what it leaves there.
 pub fn signals_may_commit()
     ensures hit { calls.HitMayCommit }
+    ensures hit_off { calls.HitOffMayCommit }
     ensures fill { calls.FillMayCommit }
     ensures drop { calls.DropMayCommit }
     ensures off { calls.OffMayCommit }

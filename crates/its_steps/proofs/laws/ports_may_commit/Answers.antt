@@ -1,4 +1,5 @@
-use Rattle.its_steps.proofs.Ports.{takes, shows, pokes, peeks, reads, writes, rises}
+use Rattle.its_steps.proofs.Ports.{takes, shows, pokes, peeks, dmas, nothings, copies, reads, writes, rises}
+use Rattle.its_steps.proofs.Gicr.{gicrs, turns_off}
 use Rattle.its_steps.proofs.Saves.{saves}
 use Rattle.its_steps.proofs.laws.ports_may_commit.Goals as goal
 
@@ -8,6 +9,11 @@ returns c = record {
   show = shows;
   poke = pokes;
   peek = peeks;
+  dma = dmas;
+  nothing = nothings;
+  copy = copies;
+  gicr = gicrs;
+  off = turns_off;
   read = reads;
   write = writes;
   rise = rises;
