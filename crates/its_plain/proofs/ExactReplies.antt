@@ -45,7 +45,7 @@ exact_deviceid = record { same = λ x y p i. record { 0 = eqb-true x.0 y.0 p i }
 pub exact_eventid : Exact {K = EventId} (λ x y. x.0 == y.0)
 exact_eventid = record { same = λ x y p i. record { 0 = eqb-true x.0 y.0 p i }; self = λ x. eq-eqb x.0 x.0 refl }
 
-exact_intid : Exact {K = Intid} (λ x y. x.0 == y.0)
+pub exact_intid : Exact {K = Intid} (λ x y. x.0 == y.0)
 exact_intid = record { same = λ x y p i. record { 0 = eqb-true x.0 y.0 p i }; self = λ x. eq-eqb x.0 x.0 refl }
 
 pub exact_vcpu : Exact {K = Vcpu} (λ x y. x.0 == y.0)

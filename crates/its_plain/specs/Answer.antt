@@ -12,7 +12,7 @@ use Rattle.gits_regs.specs.declared.change.RegChange.{RegChange}
 use Rattle.gits_regs.specs.declared.change.RegChange.TheVariants as change
 use Rattle.its_command.specs.Commands.{decoded, op_of}
 use Rattle.its_command.specs.declared.command.Op.{Op}
-use Rattle.its_types.specs.Lpis.{first_enabled, priority_of, without_lpi}
+use Rattle.its_types.specs.Lpis.{first_enabled, first_by_priority, claimable, priority_of, without_lpi}
 use Rattle.its_types.specs.Maps.{Maps, devices_emptied, collections_emptied}
 use Rattle.its_types.specs.declared.ids.Addr.{Addr}
 use Rattle.its_types.specs.declared.machine.Shape.{Shape}
@@ -54,6 +54,13 @@ signal_left u (Dropped cause) = u
 -- the lowest LPI that is pending and enabled at a redistributor
 abbrev pub lowest : Redistributor → Option ℕ
 lowest r = first_enabled r.config r.pending
+
+-- the first by priority of those below a mask
+abbrev pub best : Redistributor → ℕ → Option ℕ
+best r mask = first_by_priority r.config mask r.pending
+
+abbrev pub claimed : Redistributor → ℕ → Option ℕ
+claimed r intid = claimable r.config intid r.pending
 
 abbrev pub ack_of : Redistributor → Option ℕ → Ack
 ack_of r None = ack.None
@@ -184,6 +191,8 @@ unfoldable pub reply_of : Plain → Call → Reply
 reply_of u (call.Signal its dev ev) = reply.Signal (signal_reply (translated u its dev.0 ev.0))
 reply_of u (call.Take vcpu) = reply.Ack (ack_of (redistributor u vcpu.0) (lowest (redistributor u vcpu.0)))
 reply_of u (call.Show vcpu) = reply.Ack (ack_of (redistributor u vcpu.0) (lowest (redistributor u vcpu.0)))
+reply_of u (call.Best vcpu mask) = reply.Ack (ack_of (redistributor u vcpu.0) (best (redistributor u vcpu.0) mask))
+reply_of u (call.Claim vcpu intid) = reply.Ack (ack_of (redistributor u vcpu.0) (claimed (redistributor u vcpu.0) intid.0))
 reply_of u (call.Poke addr bytes) = poke_reply (write_at u.memory addr.0 bytes)
 reply_of u (call.Peek addr count) = peek_reply (peeked u addr.0 count)
 reply_of u (call.ReadReg its off size) = reply.Value (read_reg (regs_of u its) off size)
@@ -208,6 +217,8 @@ unfoldable pub left : Plain → Call → Reply → Plain
 left u (call.Signal its dev ev) r = replied u r
 left u (call.Take vcpu) r = with_redistributor u vcpu.0 (taken (redistributor u vcpu.0) (lowest (redistributor u vcpu.0)))
 left u (call.Show vcpu) r = u
+left u (call.Best vcpu mask) r = u
+left u (call.Claim vcpu intid) r = with_redistributor u vcpu.0 (taken (redistributor u vcpu.0) (claimed (redistributor u vcpu.0) intid.0))
 left u (call.Poke addr bytes) r = poked u addr.0 bytes
 left u (call.Peek addr count) r = u
 left u (call.ReadReg its off size) r = u

@@ -1,5 +1,5 @@
 -- The machine that a description makes, or why it makes none.
-use Rattle.std.specs.Prelude.{◌≡◌, ◌≤◌, ℕ, suc, ◌+◌, ◌-◌, ◌^◌, length, replicate, Bool, true, false, not, ◌&&◌, ◌||◌, nat_lt, nat_le, if◌then◌else◌, List, [], ◌∷◌, map, Option, Some, None, Result, Ok, Err}
+use Rattle.std.specs.Prelude.{◌≡◌, ◌≤◌, ℕ, suc, ◌+◌, ◌-◌, ◌^◌, length, replicate, slice_get, sum, Bool, true, false, not, ◌&&◌, ◌||◌, nat_lt, nat_le, if◌then◌else◌, List, [], ◌∷◌, map, Option, Some, None, Result, Ok, Err}
 use Rattle.std.specs.List.{list_any}
 use Rattle.std.specs.Option.{ok_or}
 use Rattle.guest_windows.specs.Windows.{Window, are_windows, zeros, inside, read_at, write_at}
@@ -71,6 +71,13 @@ pub record IsDescription (d : Desc) : Type 0 where
   pub tables : HasTablesFor d.shape.vcpus d.tables
   pub some_translator : 1 ≤ length d.translators
   pub most_translators : length d.translators ≤ 2
+
+-- one translator, no second memory, and no device that writes by address
+pub record IsSingle (d : Desc) : Type 0 where
+  pub translator : length d.translators ≡ 1
+  pub frames : (t : Its) → slice_get d.translators 0 ≡ Some t → t.frames ≡ None
+  pub requesters : d.requesters ≡ []
+  pub track : d.track ≡ false
 
 -- ---- checks
 
@@ -146,7 +153,7 @@ started d memory redistributors = record {
 -- the first state of the machine, or the first thing that is wrong with the description
 unfoldable pub made : Desc → Result Plain DescFault
 made d = do
-  _ ← ensure (are_windows (pairs d.windows)) Windows
+  _ ← ensure (are_windows (pairs d.windows) && nat_le (sum (map (λ w. w.1) (pairs d.windows))) d.memory_limit) Windows
   _ ← tables_inside d.shape (map zeros (pairs d.windows)) d.tables
   memory ← filled (map zeros (pairs d.windows)) 0 d.fills
   _ ← all_frames_fit (pairs d.windows) 0 d.translators

@@ -104,6 +104,8 @@ unfoldable pub footprint : Plain → Call → List Part
 footprint u (call.Signal its dev ev) = signal_parts u its dev.0 ev.0
 footprint u (call.Take vcpu) = Redist vcpu ∷ []
 footprint u (call.Show vcpu) = Redist vcpu ∷ []
+footprint u (call.Best vcpu mask) = Redist vcpu ∷ []
+footprint u (call.Claim vcpu intid) = Redist vcpu ∷ []
 footprint u (call.Poke addr bytes) = Mem ∷ []
 footprint u (call.Peek addr count) = Mem ∷ []
 footprint u (call.ReadReg its off size) = MapsOf its ∷ []

@@ -7,6 +7,7 @@ use Rattle.std.specs.FinMap.{entries, keys}
 use Rattle.byteorder.specs.Endian.{little_number, little_bytes}
 use Rattle.guest_windows.specs.Windows.{Window, write_at, extent}
 use Rattle.dirty_log.specs.Copies.{untouched, wrote}
+use Rattle.dirty_log.specs.Pages.{dirty_count}
 use Rattle.dirty_log.specs.declared.tracked.Tracked.{Tracked}
 pub use Rattle.gicr_regs.specs.Redistributors.{reloaded}
 use Rattle.gits_regs.specs.Registers.{is_valid, is_indirect, table_base}
@@ -158,6 +159,10 @@ moved u = record u {
   redistributors = map (reloaded u.layout.shape (saved u)) u.redistributors;
   track = track_of u.layout.track (saved u);
 }
+
+-- how many pages a migration copies while the machine is at rest: the dirty ones, and those of the tables that it saves
+abbrev pub moved_count : Plain → ℕ
+moved_count u = elim u.track [ None ↦ 0 | Some t ↦ dirty_count (wrote_tables (words_of u) t).log ]
 
 abbrev pub bases_and_pending : Redistributor → Bases × List ℕ
 bases_and_pending r = (r.bases, r.pending)

@@ -17,6 +17,16 @@ pub enum Call {
     Take(Vcpu),
     /// The LPI that it would acknowledge.
     Show(Vcpu),
+    /// The LPI that comes first by priority, of those whose priority is below the mask.
+    Best {
+        vcpu: Vcpu,
+        mask: u8,
+    },
+    /// A virtual processor acknowledges this LPI, if it is pending and enabled.
+    Claim {
+        vcpu: Vcpu,
+        intid: Intid,
+    },
     /// A write of guest memory.
     Poke {
         addr: Addr,
@@ -115,12 +125,12 @@ pub enum Signal {
     Dropped(Cause),
 }
 
-/// The LPI that a virtual processor acknowledges: the lowest that is pending and enabled.
+/// An LPI that a virtual processor acknowledges, or would.
 #[derive(Clone, Copy, Debug, PartialEq, Eq)]
 pub enum Ack {
-    /// The priority has bits 1 and 0 clear.
+    /// It is pending and enabled. The priority has bits 1 and 0 clear.
     Some { intid: Intid, priority: u8 },
-    /// No LPI is pending and enabled.
+    /// No LPI that was asked for is pending and enabled.
     None,
 }
 
@@ -179,7 +189,7 @@ pub enum StepReply {
 pub enum Reply {
     /// Of a signal.
     Signal(Signal),
-    /// Of a `Take` or a `Show`.
+    /// Of a `Take`, a `Show`, a `Best` or a `Claim`.
     Ack(Ack),
     /// A write that was taken, or ignored.
     Ok,

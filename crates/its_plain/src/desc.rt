@@ -60,6 +60,8 @@ pub struct Desc {
     pub limits: Limits,
     /// The base and the length of each window of guest memory.
     pub windows: Listed<(Addr, u64)>,
+    /// How many bytes the windows may have together.
+    pub memory_limit: u64,
     /// Where the LPI tables are, or the registers that say so.
     pub tables: LpiTables,
     /// Put into memory in their order, before anything is read there.
@@ -75,7 +77,7 @@ pub struct Desc {
 /// Why a description makes no machine: the first that applies.
 #[derive(Clone, Copy, Debug, PartialEq, Eq)]
 pub enum DescFault {
-    /// No memory can have these windows.
+    /// No memory can have these windows, or they have more bytes together than the limit.
     Windows,
     /// The configuration table doesn't lie in one window.
     Config,

@@ -1,6 +1,6 @@
 -- The LPIs of a redistributor (IHI 0069, section 5.1): a pending set, as its INTIDs in rising order, and a configuration,
 -- as its bytes from the first LPI on.
-use Rattle.std.specs.Prelude.{ℕ, ◌+◌, ◌-◌, ◌*◌, ◌/◌, ◌%◌, Bool, true, false, not, ◌==◌, nat_lt, if◌then◌else◌, bit_and, Option, List, [], ◌∷◌, ◌++◌, filter}
+use Rattle.std.specs.Prelude.{ℕ, ◌+◌, ◌-◌, ◌*◌, ◌/◌, ◌%◌, Bool, true, false, not, ◌&&◌, ◌==◌, nat_lt, if◌then◌else◌, bit_and, Option, Some, None, List, [], ◌∷◌, ◌++◌, filter}
 use Rattle.std.specs.Prelude.{find, slice_index, slice_set, refl}
 use Rattle.std.specs.List.{list_any}
 use Rattle.std.specs.Coded.{Coded, code_by, coded×, coded_ℕ, coded_bool}
@@ -67,6 +67,27 @@ priority_of config intid = bit_and (config_byte config intid) 252
 -- the lowest LPI that is pending and enabled
 abbrev pub first_enabled : List ℕ → List ℕ → Option ℕ
 first_enabled config pending = find (is_enabled config) pending
+
+-- ---- priorities: a lower number comes first
+
+-- enabled, and of a priority below the mask
+abbrev pub is_unmasked : List ℕ → ℕ → ℕ → Bool
+is_unmasked config mask intid = is_enabled config intid && nat_lt (priority_of config intid) mask
+
+-- the LPI x, or one of higher INTIDs whose priority comes before that of x
+abbrev pub first_of : List ℕ → ℕ → Option ℕ → ℕ
+first_of config x None = x
+first_of config x (Some y) = if nat_lt (priority_of config y) (priority_of config x) then y else x
+
+-- of those that are pending, enabled and below the mask, the first by priority, and among equal ones the lowest
+abbrev pub first_by_priority : List ℕ → ℕ → List ℕ → Option ℕ
+first_by_priority config mask [] = None
+first_by_priority config mask (x ∷ xs) =
+    if is_unmasked config mask x then Some (first_of config x (first_by_priority config mask xs)) else first_by_priority config mask xs
+
+-- the LPI, where it is pending and enabled
+abbrev pub claimable : List ℕ → ℕ → List ℕ → Option ℕ
+claimable config intid pending = if is_pending intid pending && is_enabled config intid then Some intid else None
 
 -- ---- where the tables stand
 
