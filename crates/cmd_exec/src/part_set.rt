@@ -2,8 +2,7 @@ ghost use Rattle.std.specs.Prelude.{◌≡◌, ◌<◌, ◌||◌, ℕ, false, If
 ghost use Rattle.cmd_exec.specs.Needs.{has_part, is_in, is_target, vcpus_from};
 
 use crate::walk::RedistWalk;
-use its_types::{Part, Vcpu, bit_of};
-use lpi_config::with_bit;
+use its_types::{Part, Vcpu, bit_of, with_bit};
 use std::marker::Model;
 
 /// Parts of a machine: the redistributors of some virtual processors, besides a translator's maps

@@ -3,7 +3,8 @@ use Rattle.std.proofs.Common.{ℕ, Bool, true, false, ◌||◌, ◌==◌, if◌t
 use Rattle.its_types.specs.Bits.{bit_of}
 use Rattle.its_types.specs.declared.translation.Bases.{Bases}
 use Rattle.gicr_regs.specs.Registers.{AreKept, Sets, WritesKeepBits, asked_by, asked_by_64, asked_by_word, kept_propbaser, kept_pendbaser, with_prop}
-use Rattle.gicr_regs.specs.Registers.{with_pend, with_low_half, with_high_half, propbaser_value, pendbaser_value, low_half}
+use Rattle.gicr_regs.specs.Registers.{with_pend, propbaser_value, pendbaser_value}
+use Rattle.its_types.specs.Halves.{with_low_half, with_high_half, low_half}
 use Rattle.gicr_regs.specs.declared.write.GicrWrite.{GicrWrite}
 use Rattle.gicr_regs.specs.declared.write.GicrWrite.TheVariants as writes
 

@@ -1,7 +1,8 @@
 -- The LPI registers of a redistributor (IHI 0069, section 12.11): how each reads, and what a write does.
-use Rattle.std.specs.Prelude.{◌≡◌, ◌<◌, ℕ, ◌+◌, ◌*◌, ◌/◌, ◌%◌, ◌^◌, Bool, true, false, ◌||◌, ◌==◌, if◌then◌else◌, List, map, take}
+use Rattle.std.specs.Prelude.{◌≡◌, ◌<◌, ℕ, ◌+◌, ◌*◌, ◌%◌, ◌^◌, Bool, true, false, ◌||◌, ◌==◌, if◌then◌else◌, List, map, take}
 use Rattle.guest_windows.specs.Windows.{Window}
 use Rattle.its_types.specs.Bits.{field, bit_of, bit}
+use Rattle.its_types.specs.Halves.{low_half, high_half, with_low_half, with_high_half}
 use Rattle.its_types.specs.Ranges.{is_lpi}
 use Rattle.its_types.specs.declared.machine.Shape.{Shape}
 use Rattle.its_types.specs.declared.translation.Bases.{Bases}
@@ -31,12 +32,6 @@ propbaser_value p = p.table.0 + p.id_bits
 -- Pending Table Zero reads zero
 abbrev pub pendbaser_value : Pendbaser → ℕ
 pendbaser_value p = p.table.0
-
-abbrev pub low_half : ℕ → ℕ
-low_half whole = whole % 2 ^ 32
-
-abbrev pub high_half : ℕ → ℕ
-high_half whole = whole / 2 ^ 32
 
 -- What a read has where LPIs can be turned off: bit 1 of GICR_CTLR, which says so, and in both bases bits 11 to 7, Inner Shareable and write-back
 abbrev pub shown_ctlr : Bool → ℕ
@@ -75,13 +70,6 @@ with_prop b prop = if b.on then writes.Ignored else writes.SetBases (record b { 
 
 abbrev pub with_pend : Bases → Pendbaser → GicrWrite
 with_pend b pend = if b.on then writes.Ignored else writes.SetBases (record b { pend = pend })
-
--- a number of a new lower half, or a new upper half, and the other half of a number
-abbrev pub with_low_half : ℕ → ℕ → ℕ
-with_low_half whole value = high_half whole * 2 ^ 32 + value
-
-abbrev pub with_high_half : ℕ → ℕ → ℕ
-with_high_half whole value = value * 2 ^ 32 + low_half whole
 
 -- a write of half of GICR_PENDBASER keeps Pending Table Zero as it was stored
 abbrev pub half_pendbaser : Pendbaser → ℕ → Pendbaser

@@ -2,7 +2,7 @@ ghost use Rattle.std.specs.Prelude.{◌≡◌, ◌<◌, ◌≤◌, ◌^◌};
 ghost use Rattle.gicr_regs.specs.Registers as spec;
 
 use crate::offsets;
-use its_types::{Bases, Pendbaser, Propbaser};
+use its_types::{Bases, Pendbaser, Propbaser, high_half, low_half};
 
 /// A read of `size` bytes at an offset of the LPI registers: of 8 bytes a base, of 4 GICR_CTLR or
 /// half of a base. Everything else reads zero, as Pending Table Zero does. With `linux` GICR_CTLR
@@ -76,18 +76,4 @@ pub fn pendbaser_value(pend: Pendbaser) -> u64
     ensures { result ≡ spec.pendbaser_value pend }
 {
     pend.table.0
-}
-
-/// Bits 31 to 0.
-pub fn low_half(whole: u64) -> u32
-    ensures { result ≡ spec.low_half whole }
-{
-    (whole % (1 << 32)) as u32
-}
-
-/// Bits 63 to 32.
-pub fn high_half(whole: u64) -> u32
-    ensures { result ≡ spec.high_half whole }
-{
-    (whole >> 32) as u32
 }

@@ -1,10 +1,10 @@
-ghost use Rattle.std.specs.Prelude.{◌≡◌, ◌+◌, ◌*◌, ◌<◌, ◌^◌};
+ghost use Rattle.std.specs.Prelude.{◌≡◌, ◌<◌, ◌^◌};
 ghost use Rattle.gicr_regs.specs.Registers as spec;
 
 use crate::offsets;
-use crate::read::{high_half, low_half, pendbaser_value, propbaser_value};
+use crate::read::{pendbaser_value, propbaser_value};
 use crate::values::{kept_pendbaser, kept_propbaser};
-use its_types::{Bases, Intid, Pendbaser, Propbaser, bit_of};
+use its_types::{Bases, Intid, Pendbaser, Propbaser, bit_of, high_half, join_halves, low_half};
 
 /// What a write of an LPI register asks for.
 #[derive(Clone, Copy, Debug, PartialEq, Eq)]
@@ -49,12 +49,18 @@ fn asked_by_word(bases: &Bases, off: u32, value: u32) -> GicrWrite
     let pend = pendbaser_value(bases.pend);
     match off {
         offsets::CTLR => asked_by_ctlr(bases, value),
-        offsets::PROPBASER => with_prop(bases, kept_propbaser(join(value, high_half(prop)))),
-        offsets::PROPBASER_HIGH => with_prop(bases, kept_propbaser(join(low_half(prop), value))),
-        offsets::PENDBASER => with_pend(bases, half_pendbaser(bases, join(value, high_half(pend)))),
+        offsets::PROPBASER => with_prop(bases, kept_propbaser(join_halves(value, high_half(prop)))),
+        offsets::PROPBASER_HIGH => with_prop(
+            bases,
+            kept_propbaser(join_halves(low_half(prop), value)),
+        ),
+        offsets::PENDBASER => with_pend(
+            bases,
+            half_pendbaser(bases, join_halves(value, high_half(pend))),
+        ),
         offsets::PENDBASER_HIGH => with_pend(
             bases,
-            half_pendbaser(bases, join(low_half(pend), value)),
+            half_pendbaser(bases, join_halves(low_half(pend), value)),
         ),
         offsets::INVLPIR => GicrWrite::Reread(Intid(value)),
         offsets::INVALLR | offsets::INVALLR_HIGH => GicrWrite::RereadAll,
@@ -122,11 +128,4 @@ fn half_pendbaser(bases: &Bases, whole: u64) -> Pendbaser
         ptz: bases.pend.ptz,
         ..kept_pendbaser(whole)
     }
-}
-
-/// A 64-bit number of its two halves.
-fn join(low: u32, high: u32) -> u64
-    ensures { result ≡ high * 2 ^ 32 + low }
-{
-    u64::from(high) * (1 << 32) + u64::from(low)
 }

@@ -4,7 +4,8 @@ use Rattle.std.proofs.lemmas.Bool.{ltb-true}
 use Rattle.its_types.specs.Bits.{bit_of}
 use Rattle.gits_regs.specs.Registers.{Registers, IsSound, Written, write_reg, write_64, write_word, write_ctlr, write_cbaser, write_cwriter, write_baser0}
 use Rattle.gits_regs.specs.Registers.{write_baser1, restored, masked, kept_cbaser, kept_baser0, kept_baser1, kept_offset, has_bases, is_same_queue, is_32}
-use Rattle.gits_regs.specs.Registers.{queue_size, low_half, with_low_half, with_high_half, read_64, ensure, ◌>>=◌, base_allowed, is_valid}
+use Rattle.gits_regs.specs.Registers.{queue_size, read_64, ensure, ◌>>=◌, base_allowed, is_valid}
+use Rattle.its_types.specs.Halves.{low_half, with_low_half, with_high_half}
 use Rattle.gits_regs.specs.declared.values.RegValues.{RegValues}
 use Rattle.gits_regs.specs.declared.values.NotValid.{NotValid}
 use Rattle.gits_regs.specs.declared.values.Register.{Register}

@@ -1,8 +1,9 @@
 -- The registers of a translator (IHI 0069, section 12.19): how each reads, and what a write leaves.
-use Rattle.std.specs.Prelude.{◌≡◌, ◌<◌, ◌≤◌, ℕ, ◌+◌, ◌-◌, ◌*◌, ◌/◌, ◌%◌, ◌^◌, Bool, true, false, not, ◌&&◌, ◌||◌, ◌==◌, nat_lt, if◌then◌else◌, min, bit_and}
+use Rattle.std.specs.Prelude.{◌≡◌, ◌<◌, ◌≤◌, ℕ, ◌+◌, ◌-◌, ◌*◌, ◌%◌, ◌^◌, Bool, true, false, not, ◌&&◌, ◌||◌, ◌==◌, nat_lt, if◌then◌else◌, min, bit_and}
 use Rattle.std.specs.Prelude.{bit_or, Result, Ok, Err, refl}
 use Rattle.std.specs.Coded.{Coded, code_by, coded×, coded_ℕ, coded_bool}
 use Rattle.its_types.specs.Bits.{field, bit_of}
+use Rattle.its_types.specs.Halves.{low_half, high_half, with_low_half, with_high_half}
 use Rattle.gits_regs.specs.declared.change.RegChange.{RegChange}
 use Rattle.gits_regs.specs.declared.change.RegChange.TheVariants as change
 use Rattle.gits_regs.specs.declared.values.NotValid.{NotValid}
@@ -149,14 +150,7 @@ read_64 r off =
 abbrev pub is_32 : ℕ → Bool
 is_32 off = off == 0x0 || off == 0x4 || off == 0xFFE8
 
--- the lower half of a 64-bit register stands at its offset, the upper half at that and 4
-abbrev pub low_half : ℕ → ℕ
-low_half whole = whole % 2 ^ 32
-
-abbrev pub high_half : ℕ → ℕ
-high_half whole = whole / 2 ^ 32
-
--- a read of 4 bytes: a 32-bit register, or half of a 64-bit one
+-- a read of 4 bytes: a 32-bit register, or half of a 64-bit one, whose lower half stands at its offset and whose upper half at that and 4
 unfoldable pub read_word : Registers → ℕ → ℕ
 read_word r off =
     if is_32 off then read_32 r off
@@ -227,13 +221,6 @@ write_64 r off value =
     else (if off == 0x100 then write_baser0 r value
     else (if off == 0x108 then write_baser1 r value
     else unchanged r)))
-
--- a number with another lower half, or another upper half
-abbrev pub with_low_half : ℕ → ℕ → ℕ
-with_low_half whole value = high_half whole * 2 ^ 32 + value
-
-abbrev pub with_high_half : ℕ → ℕ → ℕ
-with_high_half whole value = value * 2 ^ 32 + low_half whole
 
 -- a write of 4 bytes: CTLR, or a 64-bit register with its other half as it reads
 unfoldable pub write_word : Registers → ℕ → ℕ → Written

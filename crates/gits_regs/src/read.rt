@@ -3,6 +3,7 @@ ghost use Rattle.gits_regs.specs.Registers as spec;
 
 use crate::offsets;
 use crate::regs::Regs;
+use its_types::{high_half, low_half};
 
 impl Regs {
     /// A read of `size` bytes at an offset of the control frame: of 8 bytes a 64-bit register, of 4
@@ -66,18 +67,4 @@ pub fn is_32(off: u32) -> bool
     ensures { result ≡ spec.is_32 off }
 {
     off == offsets::CTLR || off == offsets::IIDR || off == offsets::PIDR2
-}
-
-/// Bits 31 to 0.
-pub fn low_half(whole: u64) -> u32
-    ensures { result ≡ spec.low_half whole }
-{
-    (whole % (1 << 32)) as u32
-}
-
-/// Bits 63 to 32.
-pub fn high_half(whole: u64) -> u32
-    ensures { result ≡ spec.high_half whole }
-{
-    (whole >> 32) as u32
 }

@@ -1,12 +1,12 @@
-ghost use Rattle.std.specs.Prelude.{◌≡◌, ◌+◌, ◌*◌, ◌^◌};
+ghost use Rattle.std.specs.Prelude.{◌≡◌};
 ghost use Rattle.gits_regs.specs.Registers as spec;
 
 use crate::change::RegChange;
 use crate::masks::{kept_baser0, kept_baser1, kept_cbaser, kept_offset};
 use crate::offsets;
-use crate::read::{high_half, is_32, low_half};
+use crate::read::is_32;
 use crate::regs::Regs;
-use its_types::bit_of;
+use its_types::{bit_of, high_half, join_halves, low_half};
 
 impl Regs {
     /// A write of `size` bytes at an offset of the control frame, which tells what it changed: of 8
@@ -36,10 +36,10 @@ impl Regs {
             }
         } else if off % 8 == 0 {
             let whole = self.read_64(off);
-            self.write_64(off, join(value, high_half(whole)))
+            self.write_64(off, join_halves(value, high_half(whole)))
         } else if off % 8 == 4 {
             let whole = self.read_64(off - 4);
-            self.write_64(off - 4, join(low_half(whole), value))
+            self.write_64(off - 4, join_halves(low_half(whole), value))
         } else {
             RegChange::None
         }
@@ -122,11 +122,4 @@ impl Regs {
         self.baser1 = kept_baser1(value);
         RegChange::CollectionsEmptied
     }
-}
-
-/// A 64-bit number of its two halves.
-fn join(low: u32, high: u32) -> u64
-    ensures { result ≡ high * 2 ^ 32 + low }
-{
-    u64::from(high) * (1 << 32) + u64::from(low)
 }

@@ -6,7 +6,8 @@ use Rattle.std.proofs.lemmas.Option.{get_or_from_slice_get}
 use mathlib.Core.Logic.{dite}
 use native.Mathlib.Decide.{ℕ_discrete}
 use Rattle.gits_regs.specs.Registers.{Registers, Written, write_ctlr, write_cbaser, write_cwriter, write_baser0, write_baser1, write_64, write_word, write_reg}
-use Rattle.gits_regs.specs.Registers.{is_32, kept_offset, queue_size, has_bases, low_half, read_64, with_low_half, with_high_half}
+use Rattle.gits_regs.specs.Registers.{is_32, kept_offset, queue_size, has_bases, read_64}
+use Rattle.its_types.specs.Halves.{low_half, with_low_half, with_high_half}
 use Rattle.its_types.specs.Bits.{bit_of}
 use Rattle.its_command.specs.Commands.{decoded}
 use Rattle.its_command.specs.declared.command.Command.{Command}

@@ -1,3 +1,4 @@
 pub mod Powers
 pub mod PairOrder
 pub mod Rising
+pub mod Words

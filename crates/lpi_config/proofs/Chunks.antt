@@ -11,7 +11,7 @@ use Rattle.std.proofs.lemmas.Nat.{and_mask}
 use Rattle.std.proofs.lemmas.Nat.Bits.{bit_at_lowest}
 use Rattle.std.proofs.lemmas.Simd.{zip2_splat, bitmask_splat, bit_mask_l}
 use Rattle.its_types.specs.Bits.{bit_of}
-use Rattle.lpi_config.specs.Bitmap.{word_bit}
+use Rattle.its_types.specs.Bitmap.{word_bit}
 
 one_of : (b : Bool) → eqb (cond b 1 0) 1 ≡ b
 one_of true = refl

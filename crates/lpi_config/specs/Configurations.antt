@@ -3,7 +3,7 @@ use Rattle.std.specs.Prelude.{◌≡◌, ℕ, ◌*◌, ◌<◌, ◌≤◌, List,
 use Rattle.std.specs.Coded.{Coded, code_by, coded×, coded_list, coded_ℕ}
 use Rattle.its_types.specs.Bits.{bit_of}
 use Rattle.its_types.specs.Ranges.{lpi_count}
-use Rattle.lpi_config.specs.Bitmap.{word_bit}
+use Rattle.its_types.specs.Bitmap.{word_bit}
 
 pub record Configuration : Type 0 where
   -- how many bits the INTID of an LPI has

@@ -6,10 +6,9 @@ ghost use Rattle.its_types.specs.Lpis.{config_byte, with_config_byte, is_enabled
 ghost use Rattle.guest_windows.specs.Windows.{inside, read_at};
 ghost use Rattle.lpi_config.specs.Configurations as spec;
 
-use crate::bitmap::put_bit;
 use crate::enabled::put_enabled_bits;
 use guest_windows::Memory;
-use its_types::{Addr, Intid};
+use its_types::{Addr, Intid, put_bit};
 use std::alloc::{AllocError, Global};
 use std::marker::Model;
 

@@ -2,9 +2,7 @@
 //! enabled.
 #![tactic(auto)]
 
-mod bitmap;
 mod config;
 mod enabled;
 
-pub use bitmap::{has_bit, put_bit, with_bit};
 pub use config::Config;

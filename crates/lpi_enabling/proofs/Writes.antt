@@ -8,7 +8,8 @@ use Rattle.its_types.specs.Ranges.{is_lpi}
 use Rattle.its_types.specs.declared.machine.Shape.{Shape}
 use Rattle.its_types.specs.declared.translation.Bases.{Bases}
 use Rattle.gicr_regs.specs.Redistributors.{Redistributor, has_tables, reread_at}
-use Rattle.gicr_regs.specs.Registers.{asked_by, asked_by_64, asked_by_word, done_by, turned_on, turned_off, written_gicr, low_half}
+use Rattle.gicr_regs.specs.Registers.{asked_by, asked_by_64, asked_by_word, done_by, turned_on, turned_off, written_gicr}
+use Rattle.its_types.specs.Halves.{low_half}
 use Rattle.gicr_regs.specs.declared.write.GicrWrite.{GicrWrite}
 use Rattle.gicr_regs.specs.declared.write.GicrWrite.TheVariants as writes
 use Rattle.lpi_enabling.proofs.Kept.{Keeps, kept, reread_kept, reloaded_kept}

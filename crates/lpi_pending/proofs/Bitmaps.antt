@@ -4,12 +4,12 @@ use Rattle.std.proofs.Common.{refl, sym, ap, ◌∙◌, inl, inr, arith}
 use Rattle.std.specs.Prelude.{◌||◌, ◌&&◌, replicate}
 use Rattle.std.proofs.lemmas.List.{length-set, length-replicate, get_or-replicate, get_or_past}
 use Rattle.its_types.specs.Bits.{bit_of}
-use Rattle.lpi_config.proofs.Words.{word_bit-set}
+use Rattle.its_types.proofs.Words.{word_bit-set}
 use Rattle.lpi_pending.proofs.Bits.{bit_of-zero}
 use Rattle.std.proofs.lemmas.Bool.{cases_eq, cases_lt, and_parts, leb-true, ltb-true, eq-eqb, ne_eqb}
 use Rattle.its_types.specs.Ranges.{is_lpi, lpi_count}
 use Rattle.its_types.specs.Lpis.{is_pending, with_lpi, without_lpi}
-use Rattle.lpi_config.specs.Bitmap.{word_bit}
+use Rattle.its_types.specs.Bitmap.{word_bit}
 use Rattle.lpi_pending.specs.PendingSets.{lpi_bit, lpis_of}
 use Rattle.lpi_pending.proofs.Sets.{IsWithin, those, same_those, those-filter, is_pending-those, with_lpi-those}
 

@@ -8,7 +8,7 @@ use Rattle.std.proofs.lemmas.List.{get_or_default}
 use Rattle.its_types.specs.Bits.{bit_of}
 use Rattle.its_types.specs.Ranges.{is_lpi, lpi_count}
 use Rattle.its_types.specs.Lpis.{is_pending, with_lpis}
-use Rattle.lpi_config.specs.Bitmap.{word_bit}
+use Rattle.its_types.specs.Bitmap.{word_bit}
 use Rattle.lpi_pending.specs.Summaries.{is_nonzero, is_used, IsSummary}
 use Rattle.lpi_pending.specs.PendingSets.{lpi_bit, lpis_of}
 use Rattle.lpi_pending.proofs.Bits.{bit_of-or, is_nonzero-or}

@@ -11,7 +11,7 @@ use Rattle.std.proofs.lemmas.List.{get_or-drop, length-drop, take_rest, append-n
 use Rattle.std.proofs.lemmas.List.Quantifiers.{position-Some}
 use Rattle.its_types.specs.Bits.{bit_of}
 use Rattle.its_types.specs.declared.ids.Intid.{Intid}
-use Rattle.lpi_config.specs.Bitmap.{word_bit}
+use Rattle.its_types.specs.Bitmap.{word_bit}
 use Rattle.lpi_pending.specs.PendingSets.{lpi_bit, lpis_of}
 use Rattle.lpi_pending.specs.Searches.{NoneIn, IsFirstIn}
 use Rattle.lpi_pending.specs.Summaries.{is_nonzero, is_used, IsSummary}

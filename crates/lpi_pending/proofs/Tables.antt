@@ -15,7 +15,7 @@ use Rattle.its_types.specs.Bits.{bit_of, field}
 use Rattle.its_types.specs.Lpis.{is_pending}
 use Rattle.its_types.specs.Ranges.{is_lpi, lpi_count}
 use Rattle.gicr_regs.specs.Redistributors.{is_set, pending_in}
-use Rattle.lpi_config.specs.Bitmap.{word_bit}
+use Rattle.its_types.specs.Bitmap.{word_bit}
 use Rattle.lpi_pending.specs.PendingSets.{lpis_of, table_bit}
 use Rattle.lpi_pending.proofs.Bitmaps.{lpi_within, lpis_of-same}
 use Rattle.lpi_pending.proofs.Sets.{IsWithin, those, is_pending-those, within-those, rising-those}

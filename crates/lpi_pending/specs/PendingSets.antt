@@ -6,7 +6,7 @@ use Rattle.guest_windows.specs.Windows.{Window, byte_at}
 use Rattle.its_types.specs.Bits.{bit_of}
 use Rattle.its_types.specs.Ranges.{lpi_count}
 use Rattle.its_types.specs.declared.ids.Intid.{Intid}
-use Rattle.lpi_config.specs.Bitmap.{word_bit}
+use Rattle.its_types.specs.Bitmap.{word_bit}
 use Rattle.lpi_pending.specs.Searches.{count_in}
 
 pub record PendingSet : Type 0 where

@@ -1,7 +1,7 @@
 -- A bitmap with a summary: one bit for each word, 1 where the word isn't zero.
 use Rattle.std.specs.Prelude.{◌≡◌, ℕ, ◌+◌, ◌*◌, ◌≤◌, Bool, not, ◌==◌, ◌&&◌, List, length, slice_index}
 use Rattle.its_types.specs.Lpis.{is_enabled}
-use Rattle.lpi_config.specs.Bitmap.{word_bit}
+use Rattle.its_types.specs.Bitmap.{word_bit}
 
 abbrev pub is_nonzero : ℕ → Bool
 is_nonzero word = not (word == 0)

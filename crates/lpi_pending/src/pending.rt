@@ -12,8 +12,8 @@ ghost use Rattle.lpi_pending.specs.PendingSets.{none_pending, as_intid, busy_wor
 use crate::bitmap::Bitmap;
 use crate::steps::Steps;
 use guest_windows::Memory;
-use its_types::{Addr, Intid, bit_of, field};
-use lpi_config::{Config, with_bit};
+use its_types::{Addr, Intid, bit_of, field, with_bit};
+use lpi_config::Config;
 use std::alloc::{AllocError, Global};
 use std::marker::{Brand, Model};
 use std::sync::ledger::{Blank, Ledger};

@@ -1,8 +1,8 @@
 ghost use Rattle.std.specs.Prelude.{◌≡◌};
 
 use guest_windows::Memory;
-use its_types::{Addr, Intid};
-use lpi_config::{Config, has_bit, put_bit};
+use its_types::{Addr, Intid, has_bit, put_bit};
+use lpi_config::Config;
 use std::test::Fail;
 
 const BASE: Addr = Addr(0x8003_0000);

@@ -13,7 +13,8 @@ use Rattle.its_types.specs.Bits.{bit_of}
 use Rattle.its_types.specs.Ranges.{is_lpi, lpi_count, pending_bytes}
 use Rattle.its_types.specs.declared.translation.Bases.{Bases}
 use Rattle.gicr_regs.specs.Redistributors.{has_tables, is_set, pending_in, reread_at}
-use Rattle.gicr_regs.specs.Registers.{AreKept, Sets, asked_by, asked_by_64, asked_by_word, done_by, turned_on, turned_off, written_gicr, low_half}
+use Rattle.gicr_regs.specs.Registers.{AreKept, Sets, asked_by, asked_by_64, asked_by_word, done_by, turned_on, turned_off, written_gicr}
+use Rattle.its_types.specs.Halves.{low_half}
 use Rattle.gicr_regs.proofs.Kept.{kept}
 use Rattle.gicr_regs.specs.declared.write.GicrWrite.{GicrWrite}
 use Rattle.gicr_regs.specs.declared.write.GicrWrite.TheVariants as writes

@@ -1,6 +1,6 @@
 use Rattle.std.proofs.Common.{◌≡◌, ℕ, ◌*◌, ◌<◌, get_or}
 use Rattle.its_types.specs.Bits.{bit_of}
-use Rattle.lpi_config.specs.Bitmap.{word_bit}
+use Rattle.its_types.specs.Bitmap.{word_bit}
 use Rattle.lpi_config.proofs.enabled.put_enabled_bits.Given as goal
 
 abbrev pub invariant-loop-at : goal.invariant-loop-at

@@ -2,7 +2,7 @@ use Rattle.std.proofs.Common.{◌≡◌, ◌+◌, ◌*◌, ◌/◌, ◌%◌, ◌
 use Rattle.std.specs.Int.{w64, trailing_zeros}
 use Rattle.std.proofs.lemmas.List.{get_or_default}
 use Rattle.its_types.specs.Bits.{bit_of}
-use Rattle.lpi_config.specs.Bitmap.{word_bit}
+use Rattle.its_types.specs.Bitmap.{word_bit}
 use Rattle.lpi_pending.specs.Searches.{NoneIn, IsFirstIn}
 use Rattle.lpi_pending.proofs.Nexts.{found_next, none_next, used_word, no_used_word, summary_first, summary_none}
 use Rattle.lpi_pending.proofs.bitmap.Bitmap.next_used.Goals as goal

@@ -1,5 +1,5 @@
 use Rattle.std.proofs.Common.{◌≡◌, ℕ, ◌*◌, ◌<◌, length}
-use Rattle.lpi_config.specs.Bitmap.{word_bit}
+use Rattle.its_types.specs.Bitmap.{word_bit}
 use Rattle.lpi_pending.specs.PendingSets.{table_bit}
 use Rattle.lpi_pending.proofs.bitmap.Bitmap.read.Given as goal
 

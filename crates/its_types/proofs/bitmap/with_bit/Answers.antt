@@ -1,7 +1,7 @@
 use Rattle.std.proofs.Common.{eqb, sym, ap, ◌∙◌}
 use Rattle.std.specs.Int.{w64}
 use Rattle.std.proofs.lemmas.Nat.Bits.{bit_at_set_same, bit_at_set_other, bit_at_clear_same, bit_at_clear_other}
-use Rattle.lpi_config.proofs.bitmap.with_bit.Goals as goal
+use Rattle.its_types.proofs.bitmap.with_bit.Goals as goal
 
 pub returns-then-on-clause-same : goal.returns-then-on-clause-same
 returns-then-on-clause-same c = ap (λ n. eqb n 1) (bit_at_set_same w64 c.args.word c.args.at c.requires) ∙ sym c.if-on.true

@@ -1,8 +1,8 @@
 ghost use Rattle.std.specs.Prelude.{◌≡◌, ◌≢◌, ◌*◌, ◌<◌, ℕ, ◌==◌, if◌then◌else◌, length};
 ghost use Rattle.its_types.specs.Bits as spec;
-ghost use Rattle.lpi_config.specs.Bitmap.{word_bit};
+ghost use Rattle.its_types.specs.Bitmap.{word_bit};
 
-use its_types::bit_of;
+use crate::bits::bit_of;
 
 /// Whether a bit is 1, of bits in words of 64.
 pub fn has_bit(words: &[u64], at: usize) -> bool
