@@ -24,7 +24,8 @@ use Rattle.lpi_pending.specs.InHand.{in_hand}
 use Rattle.lpi_pending.specs.declared.redist.Redist.{Redist as Owned}
 use Rattle.owned_parts.specs.Owned.{HasLpisOf, ArePartsOf, ArePartsOfSound}
 use Rattle.cmd_exec.specs.Executed.{as_step, IsReplyTo, AreLeftBy}
-use Rattle.cmd_exec.specs.Needs.{IsPartOf, is_in}
+use Rattle.cmd_exec.specs.Needs.{IsPartOf}
+use Rattle.owned_parts.specs.RedistSets.{is_in}
 use Rattle.cmd_exec.specs.Room.{adds_to}
 use Rattle.its_steps.specs.Contents.{Maps, Mem, Held}
 use Rattle.its_steps.specs.Endings.{Ending, ending_in, ending_of, ending_told}

@@ -6,7 +6,8 @@ use Rattle.its_types.specs.Maps.{Maps as MapsOf}
 use Rattle.its_types.specs.declared.machine.Part.{Part}
 use Rattle.its_types.specs.declared.machine.Part.TheVariants as part
 use Rattle.lpi_pending.specs.declared.redist.Redist.{Redist as Owned}
-use Rattle.cmd_exec.specs.Needs.{is_in, is_needed, ArePartsOfStep}
+use Rattle.cmd_exec.specs.Needs.{is_needed, ArePartsOfStep}
+use Rattle.owned_parts.specs.RedistSets.{is_in}
 use Rattle.its_steps.specs.Contents.{Maps, Mem, Held}
 use Rattle.its_steps.specs.Parts.{Setup, vcpu_count}
 use Rattle.its_steps.specs.World.{out}

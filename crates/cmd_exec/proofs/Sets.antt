@@ -1,4 +1,4 @@
--- Sets of redistributors, and those that a command reads or changes.
+-- The redistributors that a command reads or changes, as a set.
 use Rattle.std.proofs.Common.{◌≡◌, ◌≢◌, ◌↔◌, ℕ, zero, suc, ◌+◌, ◌-◌, ◌<◌, Bool, true, false, not, ◌&&◌, ◌||◌, cond, eqb, nat_lt, List, [], ◌∷◌, ◌++◌, Option}
 use Rattle.std.proofs.Common.{Some, None, inl, inr, refl, sym, ap, subst, ◌∙◌, arith}
 use Rattle.std.specs.Prelude.{slice_get}
@@ -17,33 +17,14 @@ use Rattle.its_types.specs.declared.machine.Shape.{Shape}
 use Rattle.its_plain.specs.Plain.{Plain, maps_of}
 use Rattle.its_plain.specs.Parts.{redist, redist_of, target_of_event, moved_targets, redists_below, needed, IsIn}
 use Rattle.its_types.specs.Bits.{bit_of}
-use Rattle.cmd_exec.specs.Needs.{bare, is_redist, has_redist, is_needed, is_in, vcpus_from, is_target, is_either, is_moved, needs_vcpu, IsPartOf}
+use Rattle.cmd_exec.specs.Needs.{bare, is_redist, has_redist, is_needed, is_either, is_moved, needs_vcpu, IsPartOf}
 use Rattle.cmd_exec.specs.Needs.{ArePartsOfStep}
+use Rattle.owned_parts.specs.RedistSets.{is_in, is_target}
 use Rattle.cmd_exec.proofs.Targets.{has_append, has_below}
 
 or_false : (b : Bool) → (b || false) ≡ b
 or_false true = refl
 or_false false = refl
-
--- a set whose bit is made 1 has one virtual processor more
-pub bit_added : (set now vcpu : ℕ) → vcpu < 16 → bit_of now vcpu ≡ true → ((i : ℕ) → i < 64 → i ≢ vcpu → bit_of now i ≡ bit_of set i) → (v : ℕ)
-    → is_in now v ≡ (is_in set v || eqb vcpu v)
-bit_added set now vcpu small here there v =
-    elim (cases_lt v 16) [
-      | inl within ↦
-          elim (cases_eq v vcpu) [
-            | inl same ↦
-                ap (λ (b : Bool). b && bit_of now v) (lt-ltb v 16 within) ∙ ap (bit_of now) same ∙ here
-                ∙ sym (or_right (is_in set v) (eqb vcpu v) (eq-eqb vcpu v (sym same)))
-            | inr other ↦
-                ap (λ (b : Bool). nat_lt v 16 && b) (there v (omega (arith, within)) other) ∙ sym (or_false (is_in set v))
-                ∙ ap (λ (b : Bool). is_in set v || b) (sym (ne_eqb vcpu v (λ (e : vcpu ≡ v). other (sym e))))
-          ]
-      | inr past ↦
-          ap (λ (b : Bool). b && bit_of now v) (le-ltb v 16 past)
-          ∙ sym (or_from (is_in set v) (eqb vcpu v) (ap (λ (b : Bool). b && bit_of set v) (le-ltb v 16 past))
-          (ne_eqb vcpu v (λ (e : vcpu ≡ v). omega (arith, e, small, past))))
-    ]
 
 -- ---- the virtual processors that a command needs
 
@@ -206,20 +187,3 @@ parts_same s m c set h = λ u its same_shape same_maps.
     has_it its Mem e = (1, refl)
     has_it its (Shard j n) e = absurd e
     has_it its (Redist v) e = let n = found_redist its set v (needed (bare s m) 0 c) (sym (h v.0) ∙ e) in (suc (suc n.0), n.1)
-
--- ---- a set walked in rising order
-
-pub walk_step : (set at : ℕ) → at < 16 → vcpus_from set at (16 - at) ≡ cond (bit_of set at) (at ∷ vcpus_from set (at + 1) (16 - (at + 1)))
-    (vcpus_from set (at + 1) (16 - (at + 1)))
-walk_step set at lt =
-    let more : 16 - at ≡ suc (16 - (at + 1)) = omega (arith, lt) in
-    let rest = vcpus_from set (at + 1) (16 - (at + 1)) in
-    ap (vcpus_from set at) more ∙ ap (λ (b : Bool). cond (b && bit_of set at) (at ∷ rest) rest) (lt-ltb at 16 lt)
-
-pub walk_has : (set at : ℕ) → at < 16 → bit_of set at ≡ true → vcpus_from set at (16 - at) ≡ at ∷ vcpus_from set (at + 1) (16 - (at + 1))
-walk_has set at lt on =
-    let rest = vcpus_from set (at + 1) (16 - (at + 1)) in walk_step set at lt ∙ ap (λ (b : Bool). cond b (at ∷ rest) rest) on
-
-pub walk_hasnt : (set at : ℕ) → at < 16 → bit_of set at ≡ false → vcpus_from set at (16 - at) ≡ vcpus_from set (at + 1) (16 - (at + 1))
-walk_hasnt set at lt off =
-    let rest = vcpus_from set (at + 1) (16 - (at + 1)) in walk_step set at lt ∙ ap (λ (b : Bool). cond b (at ∷ rest) rest) off

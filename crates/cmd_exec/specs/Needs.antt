@@ -15,6 +15,7 @@ use Rattle.gits_regs.specs.Registers.{reset}
 use Rattle.its_plain.specs.Plain.{Plain, maps_of}
 use Rattle.its_plain.specs.Parts.{target_of_event, needed, IsIn}
 use Rattle.lpi_pending.specs.InHand.{in_hand}
+use Rattle.owned_parts.specs.RedistSets.{is_in, is_target}
 use Rattle.lpi_pending.specs.declared.redist.Redist.{Redist as Owned}
 
 -- ---- the needed redistributors are those of these maps alone
@@ -22,10 +23,11 @@ use Rattle.lpi_pending.specs.declared.redist.Redist.{Redist as Owned}
 -- a state of this shape with a translator that has these maps
 abbrev pub bare : Shape → Maps → Plain
 bare s m = record {
-  layout = record { shape = s; gicr = false; described = [] };
+  layout = record { shape = s; gicr = false; described = []; track = false };
   translators = record { regs = reset 16; maps = m } ∷ [];
   redistributors = [];
   memory = [];
+  track = None;
 }
 
 abbrev pub is_redist : ℕ → Part → Bool
@@ -51,21 +53,7 @@ AreNeededInHand s m c redists = (vcpu : ℕ) → is_needed s m c vcpu ≡ true �
 abbrev pub AreTargets : Shape → Maps → Type 0
 AreTargets s m = (icid : ℕ) (vcpu : Vcpu) → collection_of m icid ≡ Some vcpu → vcpu.0 < s.vcpus
 
--- ---- sets of redistributors, as numbers: of the first 16 bits, bit v is 1 where that of virtual processor v is in the set
-
-abbrev pub is_in : ℕ → ℕ → Bool
-is_in set vcpu = nat_lt vcpu 16 && bit_of set vcpu
-
--- the n virtual processors from low on whose redistributors are in the set, rising
-abbrev pub vcpus_from : ℕ → ℕ → ℕ → List ℕ
-vcpus_from set low n = filter (is_in set) (range_with_len low n)
-
--- the parts that such a set stands for: besides the redistributors the maps of a translator and guest memory
-abbrev pub has_part : ℕ → Part → Bool
-has_part set (MapsOf its) = true
-has_part set Mem = true
-has_part set (Shard its n) = false
-has_part set (Redist vcpu) = is_in set vcpu.0
+-- ---- the parts that a set of redistributors stands for: besides them the maps of a translator and guest memory
 
 abbrev pub IsPartOf : ℕ → ℕ → Part → Type 0
 IsPartOf its set (MapsOf i) = i ≡ its
@@ -79,11 +67,6 @@ ArePartsOfStep s m c set = (u : Plain) (its : ℕ) → u.layout.shape ≡ s → 
     → IsIn p (MapsOf its ∷ Mem ∷ needed u its c) ↔ IsPartOf its set p
 
 -- ---- which virtual processors, command by command
-
--- the virtual processor is the target, if there is one
-abbrev pub is_target : Option Vcpu → ℕ → Bool
-is_target None vcpu = false
-is_target (Some v) vcpu = v.0 == vcpu
 
 abbrev pub is_either : ℕ → ℕ → ℕ → Bool
 is_either from to vcpu = from == vcpu || to == vcpu

@@ -7,7 +7,7 @@ use Rattle.its_types.specs.declared.machine.Part.TheVariants as part
 use Rattle.lpi_pending.specs.InHand.{in_hand}
 use Rattle.lpi_pending.specs.declared.redist.Redist.{Redist as Owned}
 use Rattle.owned_parts.specs.Owned.{HasLpisOf}
-use Rattle.cmd_exec.specs.Needs.{is_in}
+use Rattle.owned_parts.specs.RedistSets.{is_in}
 use Rattle.its_steps.specs.Contents.{Held}
 use Rattle.its_steps.specs.Good.{Holds}
 use Rattle.its_steps.specs.Parts.{Setup, vcpu_count}

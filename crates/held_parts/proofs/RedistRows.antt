@@ -11,7 +11,7 @@ use Rattle.its_plain.specs.Plain.{Plain, Redistributor, redistributor, no_redist
 use Rattle.lpi_pending.specs.InHand.{in_hand}
 use Rattle.lpi_pending.specs.declared.redist.Redist.{Redist as Owned}
 use Rattle.owned_parts.specs.Owned.{redistributor_of, AreRedistributorsOf}
-use Rattle.cmd_exec.specs.Needs.{is_in}
+use Rattle.owned_parts.specs.RedistSets.{is_in}
 use Rattle.its_steps.specs.Contents.{Content, Held, Redist}
 use Rattle.its_steps.specs.Good.{Holds, Apart}
 use Rattle.its_steps.specs.MayCall.{Owes}

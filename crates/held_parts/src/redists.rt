@@ -1,6 +1,6 @@
 //! Redistributors, taken the lowest first.
 ghost use Rattle.std.specs.Prelude.{◌≡◌, ◌&&◌, List, nat_lt};
-ghost use Rattle.cmd_exec.specs.Needs.{is_in};
+ghost use Rattle.owned_parts.specs.RedistSets.{is_in};
 ghost use Rattle.its_steps.specs.Contents.{Held};
 ghost use Rattle.its_turns.specs.Machines.{setup, view, IsOf};
 ghost use Rattle.held_parts.specs.Redists.{redists_held, AreNoRedists, AreOfSet};
@@ -8,10 +8,10 @@ ghost use Rattle.held_parts.specs.Redists.{HoldsNoRedist, IsRedistOf};
 ghost use Rattle.held_parts.specs.Taking.{TakesOnly, holding};
 
 use crate::waits::take_redist;
-use cmd_exec::PartSet;
 use its_turns::{Machine, Pass, Value, put};
 use its_types::{Part, Vcpu};
 use lpi_pending::Redists;
+use owned_parts::RedistSet;
 use std::sync::Wait;
 
 /// Waits for the turns of the redistributors of a set that the machine has, the lowest first, and
@@ -20,7 +20,7 @@ pub fn take_redists<R: Wait>(
     rt: &R,
     machine: &Machine,
     pass: &mut Pass,
-    set: PartSet,
+    set: RedistSet,
     redists: &mut Redists,
 )
     requires of { IsOf machine.now pass.old }
@@ -41,7 +41,7 @@ pub fn take_redists<R: Wait>(
 }
 
 /// Puts them back, the highest first. Their places are empty then.
-pub fn put_redists(machine: &Machine, pass: &mut Pass, set: PartSet, redists: &mut Redists)
+pub fn put_redists(machine: &Machine, pass: &mut Pass, set: RedistSet, redists: &mut Redists)
     requires of { IsOf machine.now pass.old }
     requires hand { AreOfSet (setup machine.now) set redists.old }
     requires held { (before : List Held) ×
@@ -68,8 +68,8 @@ pub fn put_redists(machine: &Machine, pass: &mut Pass, set: PartSet, redists: &m
 }
 
 // Whether it is in the set, and the machine has it.
-fn is_wanted(set: PartSet, vcpus: u8, vcpu: u8) -> bool
+fn is_wanted(set: RedistSet, vcpus: u8, vcpu: u8) -> bool
     ensures { result ≡ (is_in set vcpu && nat_lt vcpu vcpus) }
 {
-    set.contains(Part::Redist(Vcpu(vcpu))) && vcpu < vcpus
+    set.has(Vcpu(vcpu)) && vcpu < vcpus
 }

@@ -51,6 +51,7 @@ state_of layout regs maps memory redists = record {
   translators = record { regs = regs; maps = maps } ∷ [];
   redistributors = map redistributor_or (take layout.shape.vcpus redists);
   memory = memory;
+  track = None;
 }
 
 abbrev pub state_of_parts : Parts → Plain

@@ -1,7 +1,11 @@
-//! The parts of a machine with one translator, in hand, and the state of the plain translators that
-//! they stand for.
+//! The parts of a machine with one translator, in hand, the state of the plain translators that
+//! they stand for, and sets of redistributors.
 #![tactic(auto)]
 
 mod parts;
+mod redist_set;
+mod redist_walk;
 
 pub use parts::Parts;
+pub use redist_set::RedistSet;
+pub use redist_walk::RedistWalk;

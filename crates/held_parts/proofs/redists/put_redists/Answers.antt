@@ -1,6 +1,6 @@
 use Rattle.std.proofs.Common.{arith, ap, sym, ◌∙◌, refl, ◌≡◌, ◌-◌, ◌+◌, ◌&&◌, ℕ, suc, nat_lt, List}
 use Rattle.owned_parts.specs.Owned.{redistributor_of}
-use Rattle.cmd_exec.specs.Needs.{is_in}
+use Rattle.owned_parts.specs.RedistSets.{is_in}
 use Rattle.its_steps.specs.Contents.{Held, Redist}
 use Rattle.its_steps.specs.World.{View}
 use Rattle.its_turns.specs.Contents.{held_before}

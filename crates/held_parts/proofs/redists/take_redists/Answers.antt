@@ -3,7 +3,7 @@ use Rattle.std.proofs.Common.{length, rules, arith, ap, sym, ◌∙◌, ◌≡�
 use Rattle.std.proofs.lemmas.Bool.{and_parts}
 use Rattle.its_types.specs.declared.machine.Part.TheVariants as part
 use Rattle.owned_parts.specs.Owned.{redistributor_of}
-use Rattle.cmd_exec.specs.Needs.{is_in}
+use Rattle.owned_parts.specs.RedistSets.{is_in}
 use Rattle.its_steps.specs.Contents.{Redist}
 use Rattle.its_steps.specs.Parts.{vcpu_count}
 use Rattle.its_turns.specs.Machines.{setup, view}

@@ -12,7 +12,7 @@ pub struct RedistWalk {
 
 impl Model for RedistWalk {
     ghost use Rattle.std.specs.Prelude.{ℕ, ◌-◌, List};
-    ghost use Rattle.cmd_exec.specs.Needs.{vcpus_from};
+    ghost use Rattle.owned_parts.specs.RedistSets.{vcpus_from};
 
     ghost Value = { List ℕ };
 

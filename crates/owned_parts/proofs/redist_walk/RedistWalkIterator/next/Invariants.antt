@@ -1,6 +1,6 @@
 use Rattle.std.proofs.Common.{◌≡◌, ◌-◌}
-use Rattle.cmd_exec.specs.Needs.{vcpus_from}
-use Rattle.cmd_exec.proofs.walk.RedistWalkIterator.next.Given as goal
+use Rattle.owned_parts.specs.RedistSets.{vcpus_from}
+use Rattle.owned_parts.proofs.redist_walk.RedistWalkIterator.next.Given as goal
 
 abbrev pub invariant-loop-self : goal.invariant-loop-self
 invariant-loop-self l =

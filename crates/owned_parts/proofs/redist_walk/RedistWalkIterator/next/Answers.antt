@@ -1,7 +1,7 @@
 use Rattle.std.proofs.Common.{◌≡◌, true, false, sym, ap, ◌∙◌, rules}
 use Rattle.its_types.specs.Bits.{bit_of}
-use Rattle.cmd_exec.proofs.Sets.{walk_has, walk_hasnt}
-use Rattle.cmd_exec.proofs.walk.RedistWalkIterator.next.Goals as goal
+use Rattle.owned_parts.proofs.RedistSets.{walk_has, walk_hasnt}
+use Rattle.owned_parts.proofs.redist_walk.RedistWalkIterator.next.Goals as goal
 
 pub returns-then-bit_of-clause-steps : goal.returns-then-bit_of-clause-steps
 returns-then-bit_of-clause-steps c =
