@@ -45,7 +45,7 @@ use Rattle.its_turns.specs.declared.value.Tables.{Tables}
 use Rattle.its_turns.proofs.Telling.{looked_held}
 use Rattle.held_parts.specs.Redists.{redists_held, AreOfSet, HoldsNoRedist}
 use Rattle.held_parts.proofs.RedistRows.{redists_hold, redists_owe, redist_owed, redist_holds, redists_out, redists_apart, redists_stand, redists_left}
-use Rattle.cmd_engine.specs.Steps.{MeetsCommand}
+use Rattle.cmd_exec.specs.Met.{MeetsCommand}
 use Rattle.cmd_engine.specs.StepHands.{base_held, step_held, HasNeeded}
 use Rattle.cmd_engine.specs.StepShards.{ending_as, ending_said, cached_held, AreWhole, LeavesBy, MayMark, AreChanged}
 use Rattle.cmd_engine.specs.StepTells.{MakesStep, WantsMemory}

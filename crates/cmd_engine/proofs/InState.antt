@@ -38,7 +38,7 @@ use Rattle.its_steps.specs.States.{IsReady}
 use Rattle.its_steps.proofs.Assembled.{right_had}
 use Rattle.its_steps.proofs.Owed.{owes_all, owes_holds}
 use Rattle.its_steps.proofs.Told.{told}
-use Rattle.cmd_engine.specs.Steps.{MeetsCommand, MeetsNone}
+use Rattle.cmd_exec.specs.Met.{MeetsCommand, MeetsNone}
 
 -- the parts held are different parts of the machine, all out of their slots
 pub record AreOut (s : Setup) (held : List Held) : Type 0 where

@@ -19,7 +19,7 @@ use Rattle.held_parts.specs.Taking.{Goes}
 use Rattle.guest_windows.specs.Windows.{Window}
 use Rattle.its_turns.specs.declared.value.Tables.{Tables}
 use Rattle.cmd_engine.specs.Leaving.{EndsAs}
-use Rattle.cmd_engine.specs.Steps.{MeetsNone}
+use Rattle.cmd_exec.specs.Met.{MeetsNone}
 use Rattle.cmd_engine.specs.StepHands.{IsOfStep, base_held}
 use Rattle.cmd_engine.specs.StepShards.{LeavesBy}
 use Rattle.cmd_engine.specs.declared.step_tells.NoStep.{NoStep}

@@ -2,7 +2,6 @@
 //! and its control frame (IHI 0069, sections 5.3 and 12.19).
 #![tactic(auto)]
 
-mod met;
 mod missed;
 mod registers;
 mod registers_commit;

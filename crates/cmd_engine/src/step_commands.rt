@@ -6,9 +6,8 @@ ghost use Rattle.its_turns.specs.Contents.{translator_of};
 ghost use Rattle.its_turns.specs.Machines.{setup, view, IsOf};
 ghost use Rattle.its_turns.specs.Told.{HasStood};
 ghost use Rattle.its_types.specs.declared.machine.Part.TheVariants as part;
-ghost use Rattle.cmd_exec.specs.Executed.{as_step};
 ghost use Rattle.held_parts.specs.Redists.{AreOfSet, AreNoRedists};
-ghost use Rattle.cmd_engine.specs.Steps.{MeetsCommand};
+ghost use Rattle.cmd_exec.specs.Met.{MeetsCommand};
 ghost use Rattle.cmd_engine.specs.StepHands.{base_held, step_held, HasNeeded};
 ghost use Rattle.cmd_engine.specs.StepShards.{ending_as, AreWhole};
 ghost use Rattle.cmd_engine.specs.StepTells.{Runs, TriesFrom};
@@ -21,21 +20,12 @@ use cmd_exec::{apply, make_room, needs, plan};
 use guest_windows::Memory;
 use held_parts::{put_redists, take_redists};
 use its_command::Command;
-use its_plain::{Call, CmdReply, Reply, StepReply};
+use its_plain::{Call, Reply, StepReply};
 use its_steps::Commit;
 use its_turns::{GuestMemory, Machine, Pass, Tables, begin, commit};
 use its_types::{Gate, Placed, Point};
 use lpi_pending::Redists;
 use std::sync::Wait;
-
-fn as_step(reply: CmdReply) -> StepReply
-    ensures { result ≡ as_step reply }
-{
-    match reply {
-        CmdReply::Ran(op) => StepReply::Ran(op),
-        CmdReply::Refused(op, reason) => StepReply::Refused(op, reason),
-    }
-}
 
 /// Takes what a command needs besides maps and memory: shards, and redistributors, the lowest
 /// first. Tries it once, and puts all of them back. No redistributor is in its place before and
@@ -117,7 +107,7 @@ fn run_command<G: Gate>(
     let Some(mark) = cached.mark(word, machine.stamp_last(), planned.reply()) else {
         return Err(Unmade::Again);
     };
-    let reply = as_step(planned.reply());
+    let reply = planned.step_reply();
     let made = Commit {
         expected: word,
         stamp: mark.stamp,

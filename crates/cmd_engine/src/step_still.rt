@@ -2,7 +2,7 @@
 ghost use Rattle.std.specs.Prelude.{◌≡◌, []};
 ghost use Rattle.its_turns.specs.Machines.{setup, view, IsOf};
 ghost use Rattle.held_parts.specs.Taking.{holding};
-ghost use Rattle.cmd_engine.specs.Steps.{MeetsNone};
+ghost use Rattle.cmd_exec.specs.Met.{MeetsNone};
 ghost use Rattle.cmd_engine.specs.StepHands.{base_held};
 ghost use Rattle.cmd_engine.specs.StepTells.{HoldsStill, Runs, TriesFrom};
 

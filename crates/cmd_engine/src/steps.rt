@@ -4,10 +4,10 @@ ghost use Rattle.its_turns.specs.Machines.{view, IsOf};
 ghost use Rattle.held_parts.specs.Redists.{AreNoRedists};
 ghost use Rattle.cmd_engine.specs.StepTells.{Steps, Tried};
 
-use crate::met::{Met, meet};
 use crate::step_commands::command_step;
 use crate::step_still::still_step;
 use crate::step_tells::{NoStep, Unmade};
+use cmd_exec::{Met, meet};
 use held_parts::{take_maps, take_memory};
 use its_plain::StepReply;
 use its_turns::{Machine, Pass, pause};

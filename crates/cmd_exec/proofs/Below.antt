@@ -10,7 +10,8 @@ use Rattle.its_types.specs.declared.machine.Profile.TheVariants.{One, Two}
 use Rattle.its_types.specs.declared.machine.Shape.{Shape}
 use Rattle.its_types.specs.declared.translation.Event.{Event}
 use Rattle.its_plain.specs.Parts.{target_of_event}
-use Rattle.cmd_exec.specs.Needs.{AreTargets, is_target, is_either, is_moved, needs_vcpu}
+use Rattle.owned_parts.specs.RedistSets.{is_target}
+use Rattle.cmd_exec.specs.Needs.{AreTargets, is_either, is_moved, needs_vcpu}
 
 or_else : (a b : Bool) (P : Type 0) → (a ≡ true → P) → (b ≡ true → P) → (a || b) ≡ true → P
 or_else true b P f g h = f refl

@@ -51,10 +51,11 @@ off s = record { bases = no_bases; pending = []; config = replicate (lpi_count s
 
 abbrev first : Shape → Registers → List Window → Plain
 first s r memory = record {
-  layout = record { shape = s; gicr = true; described = replicate s.vcpus no_bases };
+  layout = record { shape = s; gicr = true; described = replicate s.vcpus no_bases; track = false };
   translators = record { regs = r; maps = no_maps } ∷ [];
   redistributors = replicate s.vcpus (off s);
   memory = memory;
+  track = None;
 }
 
 from_replicate : {X : Type 0} (n : ℕ) (x y : X) (v : ℕ) → slice_get (replicate n x) v ≡ Some y → x ≡ y
@@ -105,6 +106,8 @@ first_sound s r memory shape sound bits windows = record {
   vcpus = length-replicate s.vcpus (off s);
   redistributors = λ v x e. subst (IsRedistributor (first s r memory).layout memory v) (from_replicate s.vcpus (off s) x v e) (off_sound s r memory v);
   memory = windows;
+  tracks = refl;
+  tracked = λ t e. absurd cc;
 }
 
 pub starts_sound : (s : Shape) (r : Registers) (m : Maps) (memory : List Window) (rs : List (Option Redist)) → IsShape s → regs.IsSound r

@@ -5,3 +5,4 @@ pub mod Room
 pub mod Ready
 pub mod Walked
 pub mod Executed
+pub mod Met

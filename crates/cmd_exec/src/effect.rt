@@ -1,5 +1,5 @@
 use its_command::Command;
-use its_plain::{CmdReply, Reason};
+use its_plain::{CmdReply, Reason, StepReply};
 use its_types::{Device, DeviceId, Event, EventId, Icid, Intid, Vcpu};
 
 /// What a command does that isn't refused.
@@ -89,7 +89,7 @@ pub struct Planned {
 
 impl Planned {
     ghost use Rattle.std.specs.Prelude.{◌≡◌};
-    ghost use Rattle.cmd_exec.specs.Executed.{planned_reply};
+    ghost use Rattle.cmd_exec.specs.Executed.{planned_reply, as_step};
 
     /// What the command is answered.
     pub fn reply(&self) -> CmdReply
@@ -98,6 +98,16 @@ impl Planned {
         match self.outcome {
             Ok(_) => CmdReply::Ran(self.command.op()),
             Err(reason) => CmdReply::Refused(self.command.op(), reason),
+        }
+    }
+
+    /// What a step is answered that met the command.
+    pub fn step_reply(&self) -> StepReply
+        ensures { result ≡ as_step (planned_reply self.now) }
+    {
+        match self.reply() {
+            CmdReply::Ran(op) => StepReply::Ran(op),
+            CmdReply::Refused(op, reason) => StepReply::Refused(op, reason),
         }
     }
 }

@@ -1,17 +1,18 @@
 ghost use Rattle.std.specs.Prelude.{◌≡◌, ◌<◌, ◌≤◌, ℕ, true, nat_lt, IfSome};
 ghost use Rattle.its_plain.specs.Parts.{target_of_event};
-ghost use Rattle.cmd_exec.specs.Needs.{is_in, is_needed, is_either, is_moved, needs_vcpu};
+ghost use Rattle.cmd_exec.specs.Needs.{is_needed, is_either, is_moved, needs_vcpu};
 ghost use Rattle.cmd_exec.specs.Needs.{AreTargets, ArePartsOfStep};
+ghost use Rattle.owned_parts.specs.RedistSets.{is_in};
 
-use crate::part_set::PartSet;
 use gits_regs::Regs;
 use its_command::Command;
 use its_maps::{LookUp, Maps};
 use its_types::{DeviceId, EventId, Profile, Shape, Vcpu};
+use owned_parts::RedistSet;
 
 /// The parts that a step which meets a command reads or changes: its translator's maps and guest
 /// memory always, and these redistributors. They don't depend on the registers.
-pub fn needs(command: &Command, _regs: &Regs, maps: &Maps, shape: &Shape) -> PartSet
+pub fn needs(command: &Command, _regs: &Regs, maps: &Maps, shape: &Shape) -> RedistSet
     requires vcpus { shape.now.vcpus ≤ 16 }
     requires targets { AreTargets shape.now maps.now.maps }
     ensures redists { (vcpu : ℕ) → is_in result vcpu ≡ is_needed shape.now maps.now.maps command.now
@@ -23,7 +24,7 @@ pub fn needs(command: &Command, _regs: &Regs, maps: &Maps, shape: &Shape) -> Par
 }
 
 #[tactic(auto, unfolding(crate::specs::Needs::needs_vcpu))]
-fn redists_of(command: &Command, maps: &Maps, shape: &Shape) -> PartSet
+fn redists_of(command: &Command, maps: &Maps, shape: &Shape) -> RedistSet
     requires vcpus { shape.now.vcpus ≤ 16 }
     requires targets { AreTargets shape.now maps.now.maps }
     ensures { (vcpu : ℕ) → is_in result vcpu ≡ needs_vcpu shape.now maps.now.maps command.now vcpu }
@@ -32,11 +33,11 @@ fn redists_of(command: &Command, maps: &Maps, shape: &Shape) -> PartSet
     match *command {
         Command::Movi { dev, ev, icid } => {
             let old = target_of(maps, shape, dev, ev);
-            PartSet::new().with(old).with(maps.collection(icid))
+            RedistSet::new().with(old).with(maps.collection(icid))
         }
-        Command::Int { dev, ev } => PartSet::new().with(target_of(maps, shape, dev, ev)),
-        Command::Clear { dev, ev } => PartSet::new().with(target_of(maps, shape, dev, ev)),
-        Command::Discard { dev, ev } => PartSet::new().with(target_of(maps, shape, dev, ev)),
+        Command::Int { dev, ev } => RedistSet::new().with(target_of(maps, shape, dev, ev)),
+        Command::Clear { dev, ev } => RedistSet::new().with(target_of(maps, shape, dev, ev)),
+        Command::Discard { dev, ev } => RedistSet::new().with(target_of(maps, shape, dev, ev)),
         Command::Mapc {
             icid,
             target,
@@ -46,21 +47,21 @@ fn redists_of(command: &Command, maps: &Maps, shape: &Shape) -> PartSet
                 let to = Vcpu(target.get() as u8);
                 moved(shape.profile, maps.collection(icid), to)
             } else {
-                PartSet::new()
+                RedistSet::new()
             }
         }
         Command::Movall { from, to } => {
             if from.get() < vcpus && to.get() < vcpus {
                 either(Vcpu(from.get() as u8), Vcpu(to.get() as u8))
             } else {
-                PartSet::new()
+                RedistSet::new()
             }
         }
         Command::Mapti { .. } => every(shape.vcpus),
         Command::Mapi { .. } => every(shape.vcpus),
         Command::Inv { .. } => every(shape.vcpus),
         Command::Invall { .. } => every(shape.vcpus),
-        Command::Mapd { .. } | Command::Sync { .. } | Command::Unknown(_) => PartSet::new(),
+        Command::Mapd { .. } | Command::Sync { .. } | Command::Unknown(_) => RedistSet::new(),
     }
 }
 
@@ -78,30 +79,30 @@ fn target_of(maps: &Maps, shape: &Shape, dev: DeviceId, ev: EventId) -> Option<V
 }
 
 // The old target and the new one, where in profile 2 a mapped collection gets another.
-fn moved(profile: Profile, before: Option<Vcpu>, to: Vcpu) -> PartSet
+fn moved(profile: Profile, before: Option<Vcpu>, to: Vcpu) -> RedistSet
     requires old { IfSome before (λ t. t.0 < 16) }
     requires new { to.0 < 16 }
     ensures { (vcpu : ℕ) → is_in result vcpu ≡ is_moved profile before to.0 vcpu }
 {
     match before {
         Some(from) if profile == Profile::Two && from != to => either(from, to),
-        _ => PartSet::new(),
+        _ => RedistSet::new(),
     }
 }
 
-fn either(from: Vcpu, to: Vcpu) -> PartSet
+fn either(from: Vcpu, to: Vcpu) -> RedistSet
     requires from { from.0 < 16 }
     requires to { to.0 < 16 }
     ensures { (vcpu : ℕ) → is_in result vcpu ≡ is_either from.0 to.0 vcpu }
 {
-    PartSet::new().with(Some(from)).with(Some(to))
+    RedistSet::new().with(Some(from)).with(Some(to))
 }
 
-fn every(vcpus: u8) -> PartSet
+fn every(vcpus: u8) -> RedistSet
     requires { vcpus ≤ 16 }
     ensures { (vcpu : ℕ) → is_in result vcpu ≡ nat_lt vcpu vcpus }
 {
-    let mut set = PartSet::new();
+    let mut set = RedistSet::new();
     for vcpu in 0..vcpus {
         set = set.with(Some(Vcpu(vcpu)));
     }

@@ -5,7 +5,6 @@
 mod finish;
 mod hits;
 mod home;
-mod locate;
 mod maps;
 mod signals;
 

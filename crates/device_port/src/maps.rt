@@ -11,12 +11,12 @@ ghost use Rattle.device_port.specs.ByMaps.{AsksMaps};
 ghost use Rattle.device_port.specs.Hands.{one_held};
 
 use crate::finish::{drop_signal, fill_signal, off_signal};
-use crate::locate::locate;
 use its_plain::Signal;
 use its_turns::{
     Attempt, Machine, Pass, Tables, Value, put, try_take_maps, try_take_redist, try_take_shard,
 };
 use its_types::{DeviceId, EventId, Gate, Part, Point, Target};
+use owned_parts::locate;
 
 /// Signals by the maps, and fills the pair's shard where the message is delivered. Tries each turn
 /// once.

@@ -6,12 +6,10 @@ ghost use Rattle.cmd_exec.specs.InHand.{changed, with_set, takes_lpi};
 ghost use Rattle.owned_parts.specs.Owned.{state_of_parts};
 ghost use Rattle.owned_machine.specs.Whole.{IsMachine, GoesOn};
 
-use gits_regs::Regs;
-use its_maps::{LookUp, Maps};
 use its_plain::{Cause, Signal};
 use its_types::{DeviceId, EventId, Intid, Target, Vcpu};
 use lpi_pending::Redists;
-use owned_parts::Parts;
+use owned_parts::{Parts, locate};
 
 /// A device's message.
 pub fn signal(parts: &mut Parts, its: u8, dev: DeviceId, ev: EventId) -> Signal
@@ -44,26 +42,6 @@ fn translate(parts: &Parts, its: u8, dev: DeviceId, ev: EventId) -> Result<Targe
         return Err(Cause::LpisOff);
     }
     Ok(target)
-}
-
-#[tactic(auto, unfolding(its_plain::specs::Translation::located))]
-fn locate(regs: &Regs, maps: &Maps, dev: DeviceId, ev: EventId) -> Result<Target, Cause>
-    ensures { result ≡ translation.located (record { regs = regs.now; maps = maps.now.maps }) dev.0
-        ev.0 }
-{
-    if !regs.enabled() {
-        return Err(Cause::Disabled);
-    }
-    let event = match maps.look_up(dev, ev) {
-        LookUp::NoDevice => return Err(Cause::NoDevice),
-        LookUp::NoEvent(_) => return Err(Cause::NoEvent),
-        LookUp::Mapped(_, event) => event,
-    };
-    let vcpu = maps.collection(event.icid).ok_or(Cause::NoCollection)?;
-    Ok(Target {
-        vcpu,
-        intid: event.intid,
-    })
 }
 
 #[tactic(auto, unfolding(cmd_exec::specs::InHand::changed))]

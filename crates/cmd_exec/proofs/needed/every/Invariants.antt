@@ -1,5 +1,5 @@
 use Rattle.std.proofs.Common.{◌≡◌, ℕ, nat_lt}
-use Rattle.cmd_exec.specs.Needs.{is_in}
+use Rattle.owned_parts.specs.RedistSets.{is_in}
 use Rattle.cmd_exec.proofs.needed.every.Given as goal
 
 abbrev pub invariant-loop-vcpu : goal.invariant-loop-vcpu

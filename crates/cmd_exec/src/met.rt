@@ -1,5 +1,5 @@
 //! What a step meets in the queue.
-ghost use Rattle.cmd_engine.specs.Steps.{Meets};
+ghost use Rattle.cmd_exec.specs.Met.{Meets};
 
 use gits_regs::Regs;
 use guest_windows::Memory;

@@ -1,4 +1,4 @@
-//! Translation by the maps.
+//! Translation by the maps (IHI 0069, section 5.2).
 ghost use Rattle.std.specs.Prelude.{◌≡◌};
 ghost use Rattle.its_plain.specs.Translation as spec;
 
@@ -7,7 +7,7 @@ use its_maps::{LookUp, Maps};
 use its_plain::Cause;
 use its_types::{DeviceId, EventId, Target};
 
-/// Where the maps send an event.
+/// Where registers and maps send an event, whether or not the LPIs of the target are on.
 #[tactic(auto, unfolding(its_plain::specs::Translation::located))]
 pub fn locate(regs: &Regs, maps: &Maps, dev: DeviceId, ev: EventId) -> Result<Target, Cause>
     ensures { result ≡ spec.located (record { regs = regs.now; maps = maps.now.maps }) dev.0 ev.0 }

@@ -6,8 +6,8 @@ use Rattle.its_command.specs.Commands.{decoded}
 use Rattle.its_command.specs.declared.command.Command.{Command}
 use Rattle.its_plain.specs.declared.call.StepReply.{StepReply}
 use Rattle.its_plain.specs.declared.call.StepReply.TheVariants.{Idle, QueueFault}
-use Rattle.cmd_engine.specs.declared.met.Met.{Met}
-use Rattle.cmd_engine.specs.declared.met.Met.TheVariants as met
+use Rattle.cmd_exec.specs.declared.met.Met.{Met}
+use Rattle.cmd_exec.specs.declared.met.Met.TheVariants as met
 
 -- the translator is enabled and has a command, whose 32 bytes are in memory (IHI 0069, section 5.3)
 pub record MeetsCommand (r : Registers) (memory : List Window) (c : Command) : Type 0 where
