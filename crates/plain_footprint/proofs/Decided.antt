@@ -18,7 +18,7 @@ use Rattle.its_plain.specs.declared.layout.Layout.{Layout}
 use Rattle.its_plain.specs.Plain.{Plain, Translator, Redistributor, translator, redistributor, regs_of, is_on, with_redistributor}
 use Rattle.its_plain.specs.Translation.{◌>>=◌, ensure, located, translated}
 use Rattle.its_plain.specs.Commands.{ran}
-use Rattle.its_plain.specs.Answer.{signal_reply, signal_left, ack_of, lowest, taken, poke_reply, peek_reply, translator_written, written, command_reply}
+use Rattle.its_plain.specs.Answer.{signal_reply, signal_left, ack_of, lowest, best, claimed, taken, poke_reply, peek_reply, translator_written, written, command_reply}
 use Rattle.its_plain.specs.Answer.{command_left, save_reply, save_left, is_idle, next_bytes, met_reply, met_left, step_reply, step_left, reply_of, left}
 use Rattle.its_plain.specs.Answer.{answer, poke_left, poked, copy_count, copy_left, route_reply, route_left}
 use Rattle.its_plain.specs.declared.call.Route.{Route}
@@ -231,6 +231,15 @@ decides u w (call.Take vcpu) a =
 decides u w (call.Show vcpu) a =
     let same : redistributor u vcpu.0 ≡ redistributor w vcpu.0 = redist_same u w (Redist vcpu ∷ []) vcpu.0 (in_head (Redist vcpu) []) a in
     (ap (λ (r : Redistributor). reply.Ack (ack_of r (lowest r))) same, a.parts)
+decides u w (call.Best vcpu mask) a =
+    let same : redistributor u vcpu.0 ≡ redistributor w vcpu.0 = redist_same u w (Redist vcpu ∷ []) vcpu.0 (in_head (Redist vcpu) []) a in
+    (ap (λ (r : Redistributor). reply.Ack (ack_of r (best r mask))) same, a.parts)
+decides u w (call.Claim vcpu intid) a =
+    let same : redistributor u vcpu.0 ≡ redistributor w vcpu.0 = redist_same u w (Redist vcpu ∷ []) vcpu.0 (in_head (Redist vcpu) []) a in
+    let after = agree_redist u w (Redist vcpu ∷ []) vcpu.0 (taken (redistributor u vcpu.0) (claimed (redistributor u vcpu.0) intid.0))
+    (taken (redistributor w vcpu.0) (claimed (redistributor w vcpu.0) intid.0))
+    (ap (λ (r : Redistributor). taken r (claimed r intid.0)) same) a in
+    (ap (λ (r : Redistributor). reply.Ack (ack_of r (claimed r intid.0))) same, after.parts)
 decides u w (call.Poke addr bytes) a =
     poke_decided u w addr.0 bytes a
 decides u w (call.Peek addr count) a =

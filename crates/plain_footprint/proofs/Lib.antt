@@ -9,3 +9,4 @@ pub mod AlikeRan
 pub mod Decided
 pub mod SameParts
 pub mod Refused
+pub mod Kept

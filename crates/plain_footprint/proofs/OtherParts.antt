@@ -17,7 +17,7 @@ use Rattle.its_plain.specs.Plain.{Plain, translator, redistributor, regs_of, pen
 use Rattle.its_plain.specs.Sound.{IsSound}
 use Rattle.its_plain.specs.Translation.{◌>>=◌, ensure, located, translated}
 use Rattle.its_plain.specs.Commands.{ran}
-use Rattle.its_plain.specs.Answer.{signal_reply, signal_left, lowest, taken, translator_written, written, command_left, save_left, is_idle, next_bytes}
+use Rattle.its_plain.specs.Answer.{signal_reply, signal_left, lowest, claimed, taken, translator_written, written, command_left, save_left, is_idle, next_bytes}
 use Rattle.its_plain.specs.Answer.{met_left, step_left, poke_left, route_reply, route_left, reply_of, left, answer}
 use Rattle.its_types.specs.declared.ids.Addr.{Addr}
 use Rattle.its_plain.specs.declared.call.Route.{Route}
@@ -114,6 +114,10 @@ others_stay u (call.Take vcpu) sound =
     stay_redist u u (Redist vcpu ∷ []) vcpu.0 (taken (redistributor u vcpu.0) (lowest (redistributor u vcpu.0))) (in_head (Redist vcpu) [])
     (stay u (Redist vcpu ∷ []))
 others_stay u (call.Show vcpu) sound = stay u (Redist vcpu ∷ [])
+others_stay u (call.Best vcpu mask) sound = stay u (Redist vcpu ∷ [])
+others_stay u (call.Claim vcpu intid) sound =
+    stay_redist u u (Redist vcpu ∷ []) vcpu.0 (taken (redistributor u vcpu.0) (claimed (redistributor u vcpu.0) intid.0)) (in_head (Redist vcpu) [])
+    (stay u (Redist vcpu ∷ []))
 others_stay u (call.Poke addr bytes) sound = poke_stays u addr.0 bytes (write_at u.memory addr.0 bytes)
 others_stay u (call.Peek addr count) sound = stay u (Mem ∷ [])
 others_stay u (call.ReadReg its off size) sound = stay u (MapsOf its ∷ [])

@@ -68,6 +68,8 @@ unfolding footprint
 same_parts u w (call.Signal its dev ev) a = signal_alike u w its dev.0 ev.0 a
 same_parts u w (call.Take vcpu) a = refl
 same_parts u w (call.Show vcpu) a = refl
+same_parts u w (call.Best vcpu mask) a = refl
+same_parts u w (call.Claim vcpu intid) a = refl
 same_parts u w (call.Poke addr bytes) a = refl
 same_parts u w (call.Peek addr count) a = refl
 same_parts u w (call.ReadReg its off size) a = refl
