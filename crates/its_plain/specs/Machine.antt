@@ -150,10 +150,14 @@ started d memory redistributors = record {
   track = track_of d.track memory;
 }
 
+-- memory can have these windows, and they have no more bytes together than the limit
+abbrev pub windows_fit : Desc → Bool
+windows_fit d = are_windows (pairs d.windows) && nat_le (sum (map (λ w. w.1) (pairs d.windows))) d.memory_limit
+
 -- the first state of the machine, or the first thing that is wrong with the description
 unfoldable pub made : Desc → Result Plain DescFault
 made d = do
-  _ ← ensure (are_windows (pairs d.windows) && nat_le (sum (map (λ w. w.1) (pairs d.windows))) d.memory_limit) Windows
+  _ ← ensure (windows_fit d) Windows
   _ ← tables_inside d.shape (map zeros (pairs d.windows)) d.tables
   memory ← filled (map zeros (pairs d.windows)) 0 d.fills
   _ ← all_frames_fit (pairs d.windows) 0 d.translators
