@@ -1,11 +1,11 @@
 -- What each kind of call keeps.
 use Rattle.plain_soundness.proofs.Migrated.{saves_keep}
 use Rattle.plain_soundness.proofs.Gicr.{gicr_read_keeps, gicr_write_keeps}
-use Rattle.std.proofs.Common.{◌≡◌, ℕ, Bool, true, cond, List, [], ◌∷◌, length, Option, Some, None, not, Result, Ok, Err, IfOk, ◌∙◌, refl, sym, map}
+use Rattle.std.proofs.Common.{◌≡◌, ℕ, Bool, true, cond, List, [], ◌∷◌, length, Option, Some, None, not, Result, Ok, Err, IfOk, ◌∙◌, refl, sym}
 use Rattle.std.specs.Prelude.{◌&&◌, nat_eq}
 use Rattle.std.specs.Option.{option_map}
 use Rattle.std.proofs.lemmas.Bool.{and_parts, cond_both, eqb-true, not-false, or_parts}
-use Rattle.guest_windows.specs.Windows.{Window, write_at, extent}
+use Rattle.guest_windows.specs.Windows.{Window, write_at}
 use Rattle.guest_windows.proofs.Laws.{extents-write_at}
 use Rattle.dirty_log.specs.Copies.{IsTracked, wrote, caught_up}
 use Rattle.dirty_log.specs.declared.tracked.Tracked.{Tracked}
@@ -23,7 +23,7 @@ use Rattle.its_types.specs.declared.ids.Target.{Target}
 use Rattle.its_types.specs.declared.machine.Shape.{Shape}
 use Rattle.its_plain.specs.Translation.{translated}
 use Rattle.its_plain.specs.declared.call.Cause.{Cause}
-use Rattle.its_plain.specs.Answer.{answer, left, reply_of, lowest, taken, written, translator_written, emptied, signal_left, signal_reply, step_left, met_left}
+use Rattle.its_plain.specs.Answer.{answer, left, reply_of, lowest, claimed, taken, written, translator_written, emptied, signal_left, signal_reply, step_left, met_left}
 use Rattle.its_plain.specs.Answer.{command_left, went_on, is_idle, next_bytes, poke_left, poked, has_same_tables, route_reply, route_left}
 use Rattle.its_plain.specs.declared.call.Route.{Route}
 use Rattle.its_plain.specs.declared.call.Route.TheVariants as route
@@ -31,7 +31,7 @@ use Rattle.its_plain.specs.Commands.{ran}
 use Rattle.its_plain.specs.declared.call.Reason.{Reason}
 use Rattle.its_command.specs.Commands.{decoded}
 use Rattle.its_plain.specs.declared.call.Call.TheVariants as call
-use Rattle.plain_soundness.specs.Laws.{ShowKeepsSound, PeekKeepsSound, RegisterReadKeepsSound, TakeKeepsSound, PokeKeepsSound, RegisterWriteKeepsSound}
+use Rattle.plain_soundness.specs.Laws.{ShowKeepsSound, BestKeepsSound, ClaimKeepsSound, PeekKeepsSound, RegisterReadKeepsSound, TakeKeepsSound, PokeKeepsSound, RegisterWriteKeepsSound}
 use Rattle.plain_soundness.specs.Laws.{SignalKeepsSound, StepKeepsSound, CallsKeepSound, HistoriesKeepSound, CopyKeepsSound, DmaKeepsSound}
 use Rattle.plain_soundness.proofs.States.{IsLpi, translator_replaced, translator_sound, redistributor_replaced, redistributor_sound, regs_replaced}
 use Rattle.plain_soundness.proofs.States.{memory_replaced, some_map, each_map}
@@ -45,6 +45,10 @@ use Rattle.plain_soundness.proofs.Translated.{goes_to_lpi, if_ok_at}
 pub show_keeps : ShowKeepsSound
 unfolding left
 show_keeps u vcpu h = h
+
+pub best_keeps : BestKeepsSound
+unfolding left
+best_keeps u vcpu mask h = h
 
 pub peek_keeps : PeekKeepsSound
 unfolding left
@@ -61,6 +65,10 @@ taken_sound u v (Some intid) h = cleared_sound u intid v h
 pub take_keeps : TakeKeepsSound
 unfolding left
 take_keeps u vcpu h = taken_sound u vcpu.0 (lowest (redistributor u vcpu.0)) h
+
+pub claim_keeps : ClaimKeepsSound
+unfolding left
+claim_keeps u vcpu intid h = taken_sound u vcpu.0 (claimed (redistributor u vcpu.0) intid.0) h
 
 write_kept : (u : Plain) (address : ℕ) (bytes : List ℕ) (o : Option (List Window)) → write_at u.memory address bytes ≡ o → IsSound u
     → IsSound (poke_left u address bytes o)
@@ -157,6 +165,8 @@ pub calls_keep : CallsKeepSound
 calls_keep u (call.Signal its dev ev) h = signal_keeps u its dev ev h
 calls_keep u (call.Take vcpu) h = take_keeps u vcpu h
 calls_keep u (call.Show vcpu) h = show_keeps u vcpu h
+calls_keep u (call.Best vcpu mask) h = best_keeps u vcpu mask h
+calls_keep u (call.Claim vcpu intid) h = claim_keeps u vcpu intid h
 calls_keep u (call.Poke addr bytes) h = poke_keeps u addr bytes h
 calls_keep u (call.Peek addr count) h = peek_keeps u addr count h
 calls_keep u (call.ReadReg its off size) h = register_read_keeps u its off size h

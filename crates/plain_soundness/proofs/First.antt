@@ -1,9 +1,9 @@
 -- The first state of a machine.
 use Rattle.std.proofs.Common.{◌≡◌, ℕ, zero, suc, ◌+◌, ◌≤◌, Bool, true, false, cond, List, [], ◌∷◌, length, map, replicate, Option, Some, None, Result, Ok, Err}
 use Rattle.std.proofs.Common.{IfOk, refl, ap, subst, ◌∙◌, arith}
-use Rattle.std.specs.Prelude.{slice_get, ok_or}
+use Rattle.std.specs.Prelude.{slice_get, ok_or, nat_le, sum}
+use Rattle.std.proofs.lemmas.Bool.{and_parts, both_ways}
 use Rattle.std.specs.List.{AllByRecursion}
-use Rattle.std.proofs.lemmas.Bool.{both_ways}
 use Rattle.std.proofs.lemmas.List.{length-map, length-replicate}
 use Rattle.std.proofs.lemmas.Option.{same_Some}
 use Rattle.guest_windows.specs.Windows.{Window, are_windows, zeros, inside, read_at, write_at, extent}
@@ -23,7 +23,7 @@ use Rattle.its_plain.specs.Sound.{IsSound, IsTranslator, IsRedistributor, HasTab
 use Rattle.gicr_regs.specs.Redistributors.{off_redistributor}
 use Rattle.gicr_regs.specs.declared.values.GicrValues.{GicrValues}
 use Rattle.its_types.specs.Lpis.{no_bases}
-use Rattle.its_plain.specs.Machine.{made, started, pending_inside, tables_inside, filled, described_bases, described_in, are_programmed, layout_of}
+use Rattle.its_plain.specs.Machine.{made, windows_fit, started, pending_inside, tables_inside, filled, described_bases, described_in, are_programmed, layout_of}
 use Rattle.its_plain.specs.Machine.{all_frames_fit, all_new, first_redistributors, idle_redistributor, ensure, ◌>>=◌, IsDescription, HasTablesFor}
 use Rattle.its_plain.specs.declared.desc.LpiTables.{LpiTables}
 use Rattle.its_plain.specs.declared.desc.LpiTables.TheVariants.{Described, Registers}
@@ -244,7 +244,8 @@ unfolding made
 made_sound d h =
     let windows : List (ℕ × ℕ) = pairs d.windows in
     let empty : List Window = map zeros windows in
-    passed IsSound (are_windows windows) Windows _ (λ good.
+    passed IsSound (windows_fit d) Windows _ (λ fit.
+    let good = (and_parts (are_windows windows) (nat_le (sum (map (λ w. w.1) windows)) d.memory_limit) fit).0 in
     then_ok (λ _. AreInside d.shape empty d.tables) IsSound (tables_inside d.shape empty d.tables) _ (tables_are_inside d.shape empty d.tables) (λ _ tables.
     then_ok (λ now. map extent now ≡ map extent empty) IsSound (filled empty 0 d.fills) _ (same_windows empty 0 d.fills) (λ memory same.
     then_ok (λ _. Unit {0}) IsSound (all_frames_fit windows 0 d.translators) _ (any_ok (all_frames_fit windows 0 d.translators)) (λ _ _.

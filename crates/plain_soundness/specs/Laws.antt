@@ -3,6 +3,7 @@ use Rattle.std.specs.Prelude.{◌≡◌, ℕ, ◌%◌, ◌^◌, ◌<◌, ◌≤�
 use Rattle.its_types.specs.declared.ids.Addr.{Addr}
 use Rattle.its_types.specs.declared.ids.DeviceId.{DeviceId}
 use Rattle.its_types.specs.declared.ids.EventId.{EventId}
+use Rattle.its_types.specs.declared.ids.Intid.{Intid}
 use Rattle.its_types.specs.declared.ids.Vcpu.{Vcpu}
 use Rattle.its_command.specs.Commands.{IsWithinBits}
 use Rattle.its_command.specs.declared.command.Command.{Command}
@@ -29,6 +30,9 @@ KeepsSound u c = IsSound u → IsSound (answer u c).1
 abbrev pub ShowKeepsSound : Type 0
 ShowKeepsSound = (u : Plain) (vcpu : Vcpu) → KeepsSound u (call.Show vcpu)
 
+abbrev pub BestKeepsSound : Type 0
+BestKeepsSound = (u : Plain) (vcpu : Vcpu) (mask : ℕ) → KeepsSound u (call.Best vcpu mask)
+
 abbrev pub PeekKeepsSound : Type 0
 PeekKeepsSound = (u : Plain) (addr : Addr) (count : ℕ) → KeepsSound u (call.Peek addr count)
 
@@ -37,6 +41,9 @@ RegisterReadKeepsSound = (u : Plain) (its off size : ℕ) → KeepsSound u (call
 
 abbrev pub TakeKeepsSound : Type 0
 TakeKeepsSound = (u : Plain) (vcpu : Vcpu) → KeepsSound u (call.Take vcpu)
+
+abbrev pub ClaimKeepsSound : Type 0
+ClaimKeepsSound = (u : Plain) (vcpu : Vcpu) (intid : Intid) → KeepsSound u (call.Claim vcpu intid)
 
 abbrev pub PokeKeepsSound : Type 0
 PokeKeepsSound = (u : Plain) (addr : Addr) (bytes : List ℕ) → KeepsSound u (call.Poke addr bytes)

@@ -6,6 +6,11 @@ pub fn show_keeps_soundness()
     ensures { laws.ShowKeepsSound }
 {}
 
+/// The LPI that comes first by priority is only read.
+pub fn best_keeps_soundness()
+    ensures { laws.BestKeepsSound }
+{}
+
 /// Guest memory is only read.
 pub fn peek_keeps_soundness()
     ensures { laws.PeekKeepsSound }
@@ -19,6 +24,11 @@ pub fn register_read_keeps_soundness()
 /// An acknowledged LPI leaves a pending set that is still in order.
 pub fn take_keeps_soundness()
     ensures { laws.TakeKeepsSound }
+{}
+
+/// An LPI that was claimed leaves a pending set that is still in order.
+pub fn claim_keeps_soundness()
+    ensures { laws.ClaimKeepsSound }
 {}
 
 /// A write of guest memory leaves every table in one window.
