@@ -7,20 +7,22 @@ use Rattle.std.proofs.lemmas.Bool.{both_ways, cases_Bool, cases_lt, cond_both, t
 use Rattle.gicr_regs.specs.Redistributors.{reloaded}
 use Rattle.gicr_regs.specs.Registers.{written_gicr}
 use Rattle.guest_windows.specs.Windows.{Window, write_at}
-use Rattle.its_types.specs.Lpis.{first_enabled, is_pending}
+use Rattle.its_types.specs.Lpis.{first_enabled, first_by_priority, claimable, priority_of, is_pending}
 use Rattle.its_types.specs.declared.ids.Addr.{Addr}
 use Rattle.its_types.specs.declared.ids.DeviceId.{DeviceId}
 use Rattle.its_types.specs.declared.ids.EventId.{EventId}
+use Rattle.its_types.specs.declared.ids.Intid.{Intid}
 use Rattle.its_types.specs.declared.ids.Target.{Target}
 use Rattle.its_types.specs.declared.ids.Vcpu.{Vcpu}
 use Rattle.its_command.specs.Commands.{decoded}
 use Rattle.its_plain.specs.Plain.{Plain, Redistributor, redistributor, no_redistributor, translator, pending_of, is_on, with_redistributor}
 use Rattle.its_plain.specs.Translation.{translated, located, ensure, ◌>>=◌}
 use Rattle.its_plain.specs.Commands.{ran}
-use Rattle.its_plain.specs.Answer.{answer, reply_of, left, signal_left, signal_reply, ack_of, lowest, taken, written, is_idle, next_bytes, met_left, step_left}
+use Rattle.its_plain.specs.Answer.{answer, reply_of, left, signal_left, signal_reply, ack_of, lowest, best, claimed, taken, written, is_idle, next_bytes, met_left, step_left}
 use Rattle.its_plain.specs.Answer.{command_left, save_left, poke_reply, poke_left, route_reply, route_left}
 use Rattle.its_plain.specs.Regions.{savable}
 use Rattle.its_plain.specs.Saved.{saved, moved}
+use Rattle.its_plain.specs.declared.call.Ack.TheVariants as ack
 use Rattle.its_plain.specs.declared.call.Call.{Call}
 use Rattle.its_plain.specs.declared.call.Call.TheVariants as call
 use Rattle.its_plain.specs.declared.call.Route.{Route}
@@ -64,9 +66,8 @@ taken_keeps : (r : Redistributor) (o : Option ℕ) → Keeps r (taken r o)
 taken_keeps r None = kept r
 taken_keeps r (Some intid) = kept_without r intid
 
-take_kept : (u : Plain) (v : ℕ) → AllKeep u (with_redistributor u v (taken (redistributor u v) (lowest (redistributor u v))))
-take_kept u v k = at_set (λ _. Keeps) u.redistributors v k (taken (redistributor u v) (lowest (redistributor u v))) no_redistributor (λ _ r. kept r)
-    (taken_keeps (redistributor u v) (lowest (redistributor u v)))
+take_kept : (u : Plain) (v : ℕ) (o : Option ℕ) → AllKeep u (with_redistributor u v (taken (redistributor u v) o))
+take_kept u v o k = at_set (λ _. Keeps) u.redistributors v k (taken (redistributor u v) o) no_redistributor (λ _ r. kept r) (taken_keeps (redistributor u v) o)
 
 -- ---- steps, saves and migrations
 
@@ -132,8 +133,10 @@ calls_keep u c k = all_go u c (answer u c).1 k
 pub calls_go : (u : Plain) (c : Call) → AllGo u c (answer u c).1
 unfolding reply_of left written
 calls_go u (call.Signal its dev ev) = calls_keep u (call.Signal its dev ev) (signal_kept u (translated u its dev.0 ev.0) (goes_where_on u its dev.0 ev.0))
-calls_go u (call.Take vcpu) = calls_keep u (call.Take vcpu) (take_kept u vcpu.0)
+calls_go u (call.Take vcpu) = calls_keep u (call.Take vcpu) (take_kept u vcpu.0 (lowest (redistributor u vcpu.0)))
 calls_go u (call.Show vcpu) = calls_keep u (call.Show vcpu) (all_kept u)
+calls_go u (call.Best vcpu mask) = calls_keep u (call.Best vcpu mask) (all_kept u)
+calls_go u (call.Claim vcpu intid) = calls_keep u (call.Claim vcpu intid) (take_kept u vcpu.0 (claimed (redistributor u vcpu.0) intid.0))
 calls_go u (call.Poke addr bytes) = calls_keep u (call.Poke addr bytes) (poke_kept u addr.0 bytes (write_at u.memory addr.0 bytes))
 calls_go u (call.Peek addr count) = calls_keep u (call.Peek addr count) (all_kept u)
 calls_go u (call.ReadReg its off size) = calls_keep u (call.ReadReg its off size) (all_kept u)
@@ -193,21 +196,24 @@ signal_tells : (u : Plain) (v : ℕ) (its : ℕ) (dev : DeviceId) (ev : EventId)
 signal_tells u v its dev ev (Ok target) on same = subst (λ k. is_on u k ≡ true) same on
 signal_tells u v its dev ev (Err cause) on h = absurd h
 
--- where an LPI is pending and enabled, LPIs are on
-lowest_on : (u : Plain) (v intid : ℕ) → Silent u → lowest (redistributor u v) ≡ Some intid → is_on u v ≡ true
-lowest_on u v intid silent e =
-    let none : is_on u v ≡ false → lowest (redistributor u v) ≡ None = λ off. ap (first_enabled (redistributor u v).config) (silent v off) in
-    true_from_ne_false (is_on u v) (λ off. let both : Some intid ≡ None = sym e ∙ none off in cc both)
+-- where an LPI is picked among the pending ones, LPIs are on
+module _ (u : Plain) (v : ℕ) (at : Vcpu) (silent : Silent u) (pick : List ℕ → List ℕ → Option ℕ) (none : (config : List ℕ) → pick config [] ≡ None) where
+  abbrev picked : Redistributor → Option ℕ
+  picked r = pick r.config r.pending
 
-take_tells : (u : Plain) (v : ℕ) (taker : Vcpu) (o : Option ℕ) → Silent u → lowest (redistributor u taker.0) ≡ o
-    → TellsLpi v (call.Take taker) (reply.Ack (ack_of (redistributor u taker.0) o)) → is_on u v ≡ true
-take_tells u v taker None silent e h = absurd h
-take_tells u v taker (Some intid) silent e same = subst (λ k. is_on u k ≡ true) same (lowest_on u taker.0 intid silent e)
+  picked_on : (intid : ℕ) → picked (redistributor u at.0) ≡ Some intid → is_on u at.0 ≡ true
+  picked_on intid e =
+      let off_none : is_on u at.0 ≡ false → picked (redistributor u at.0) ≡ None = λ off.
+      ap (pick (redistributor u at.0).config) (silent at.0 off) ∙ none (redistributor u at.0).config in
+      true_from_ne_false (is_on u at.0) (λ off. let both : Some intid ≡ None = sym e ∙ off_none off in cc both)
 
-show_tells : (u : Plain) (v : ℕ) (shown : Vcpu) (o : Option ℕ) → Silent u → lowest (redistributor u shown.0) ≡ o
-    → TellsLpi v (call.Show shown) (reply.Ack (ack_of (redistributor u shown.0) o)) → is_on u v ≡ true
-show_tells u v shown None silent e h = absurd h
-show_tells u v shown (Some intid) silent e same = subst (λ k. is_on u k ≡ true) same (lowest_on u shown.0 intid silent e)
+  -- a call that tells of the one that is picked
+  picked_tells : (c : Call) → ((intid : Intid) (priority : ℕ) → TellsLpi v c (reply.Ack (ack.Some intid priority)) → at.0 ≡ v)
+      → (TellsLpi v c (reply.Ack ack.None) → ⊥) → (o : Option ℕ) → picked (redistributor u at.0) ≡ o
+      → TellsLpi v c (reply.Ack (ack_of (redistributor u at.0) o)) → is_on u v ≡ true
+  picked_tells c some unsaid None e h = absurd (unsaid h)
+  picked_tells c some unsaid (Some intid) e h =
+      subst (λ k. is_on u k ≡ true) (some (record { 0 = intid }) (priority_of (redistributor u at.0).config intid) h) (picked_on intid e)
 
 module _ (u : Plain) (v req : ℕ) (addr : Addr) (bytes : List ℕ) (to : Route) where
   message_tells : (r : Result Target Cause) → IfOk r (λ target. is_on u target.vcpu.0 ≡ true)
@@ -231,8 +237,16 @@ dma_tells u v req addr bytes route.Frame h = absurd h
 pub tells_on : (u : Plain) (v : ℕ) (c : Call) → Silent u → TellsLpi v c (reply_of u c) → is_on u v ≡ true
 unfolding reply_of
 tells_on u v (call.Signal its dev ev) silent h = signal_tells u v its dev ev (translated u its dev.0 ev.0) (goes_where_on u its dev.0 ev.0) h
-tells_on u v (call.Take taker) silent h = take_tells u v taker (lowest (redistributor u taker.0)) silent refl h
-tells_on u v (call.Show shown) silent h = show_tells u v shown (lowest (redistributor u shown.0)) silent refl h
+tells_on u v (call.Take taker) silent h =
+    picked_tells u v taker silent first_enabled (λ config. refl) (call.Take taker) (λ _ _ same. same) (λ x. x) (lowest (redistributor u taker.0)) refl h
+tells_on u v (call.Show shown) silent h =
+    picked_tells u v shown silent first_enabled (λ config. refl) (call.Show shown) (λ _ _ same. same) (λ x. x) (lowest (redistributor u shown.0)) refl h
+tells_on u v (call.Best shown mask) silent h =
+    picked_tells u v shown silent (λ config. first_by_priority config mask) (λ config. refl) (call.Best shown mask) (λ _ _ same. same) (λ x. x)
+    (best (redistributor u shown.0) mask) refl h
+tells_on u v (call.Claim taker intid) silent h =
+    picked_tells u v taker silent (λ config. claimable config intid.0) (λ config. refl) (call.Claim taker intid) (λ _ _ same. same) (λ x. x)
+    (claimed (redistributor u taker.0) intid.0) refl h
 tells_on u v (call.Poke addr bytes) silent h = absurd h
 tells_on u v (call.Peek addr count) silent h = absurd h
 tells_on u v (call.ReadReg its off size) silent h = absurd h

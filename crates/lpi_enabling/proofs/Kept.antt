@@ -3,10 +3,10 @@ use Rattle.std.proofs.Common.{◌≡◌, ℕ, zero, suc, ◌+◌, ◌-◌, true,
 use Rattle.std.proofs.lemmas.Bool.{both_ways, cond_both}
 use Rattle.guest_windows.specs.Windows.{Window, byte_at}
 use Rattle.gicr_regs.specs.Redistributors.{reread_byte, reread_at, all_reread_at, reloaded, config_in}
-use Rattle.its_types.specs.Lpis.{is_pending, with_lpi, with_lpis, without_lpi}
+use Rattle.its_types.specs.Lpis.{with_lpi, with_lpis, without_lpi}
 use Rattle.its_types.specs.declared.machine.Shape.{Shape}
 use Rattle.its_plain.specs.Plain.{Plain, Redistributor, redistributor, no_redistributor, pending_of, is_on, with_pending}
-use Rattle.its_plain.specs.Commands.{lpi_set, lpi_cleared, lpi_moved, lpis_moved, all_moved, reread}
+use Rattle.its_plain.specs.Commands.{lpi_set, lpi_cleared, all_moved, reread}
 
 -- ---- lists
 
@@ -87,20 +87,6 @@ set_kept u intid v on = pending_kept u v (with_lpi intid (pending_of u v)) (kept
 
 pub cleared_kept : (u : Plain) (intid v : ℕ) → AllKeep u (lpi_cleared intid v u)
 cleared_kept u intid v = pending_kept u v (without_lpi intid (pending_of u v)) (kept_without (redistributor u v) intid)
-
-pub moved_kept : (u : Plain) (intid from to : ℕ) → is_on u to ≡ true → AllKeep u (lpi_moved intid from to u)
-moved_kept u intid from to on =
-    let once : Plain = lpi_cleared intid from u in
-    let cleared : AllKeep u once = cleared_kept u intid from in
-    cond_both (is_pending intid (pending_of u from)) (lpi_set intid to once) u (AllKeep u)
-    (λ _. all_kept_then u once (lpi_set intid to once) cleared (set_kept once intid to ((cleared to).on ∙ on))) (λ _. all_kept u)
-
-pub all_lpis_kept : (u : Plain) (intids : List ℕ) (from to : ℕ) → is_on u to ≡ true → AllKeep u (lpis_moved intids from to u)
-all_lpis_kept u [] from to on = all_kept u
-all_lpis_kept u (intid ∷ intids) from to on =
-    let next : Plain = lpi_moved intid from to u in
-    let once : AllKeep u next = moved_kept u intid from to on in
-    all_kept_then u next (lpis_moved intids from to next) once (all_lpis_kept next intids from to ((once to).on ∙ on))
 
 pub all_moved_kept : (u : Plain) (from to : ℕ) → is_on u to ≡ true → AllKeep u (all_moved from to u)
 unfolding all_moved

@@ -1,12 +1,12 @@
 -- The first state of a machine whose LPI registers the guest programs, unless it is restored with LPIs on.
-use Rattle.std.proofs.Common.{◌≡◌, ℕ, zero, suc, ◌<◌, Bool, true, false, List, [], ◌∷◌, length, map, replicate, take, get_or, Option, Some, None, Result, Ok, Err, IfOk}
+use Rattle.std.proofs.Common.{◌≡◌, ℕ, zero, suc, ◌<◌, Bool, true, false, List, [], ◌∷◌, length, map, replicate, take, get_or, Option, Some, Result, Ok, Err, IfOk}
 use Rattle.std.proofs.Common.{inl, inr, refl, sym, ap, subst, ◌∙◌}
 use Rattle.std.specs.Prelude.{slice_get}
 use Rattle.std.specs.List.{AllByRecursion}
 use Rattle.std.proofs.lemmas.Bool.{cases_lt}
 use Rattle.std.proofs.lemmas.List.{get_or_past}
 use Rattle.std.proofs.lemmas.Option.{slice_get-get_or, same_Some}
-use Rattle.guest_windows.specs.Windows.{Window, are_windows, zeros}
+use Rattle.guest_windows.specs.Windows.{Window, zeros}
 use Rattle.guest_windows.specs.Fields.{pairs}
 use Rattle.gicr_regs.specs.Redistributors.{off_redistributor}
 use Rattle.gicr_regs.specs.Registers.{restored_bases}
@@ -18,7 +18,7 @@ use Rattle.its_types.specs.declared.machine.Shape.{Shape}
 use Rattle.its_types.specs.declared.translation.Bases.{Bases}
 use Rattle.its_plain.specs.Plain.{Plain, Redistributor, redistributor, no_redistributor}
 use Rattle.its_plain.specs.Described.{StartsAt, is_restored, values_of}
-use Rattle.its_plain.specs.Machine.{made, ensure, ◌>>=◌, tables_inside, filled, all_frames_fit, all_new, first_redistributors, bases_given}
+use Rattle.its_plain.specs.Machine.{windows_fit, made, ensure, ◌>>=◌, tables_inside, filled, all_frames_fit, all_new, first_redistributors, bases_given}
 use Rattle.its_plain.specs.Stands.{Stands}
 use Rattle.its_plain.specs.declared.desc.Desc.{Desc}
 use Rattle.its_plain.specs.declared.desc.DescFault.{DescFault}
@@ -62,7 +62,7 @@ made_off : (d : Desc) → RestoresOff d.tables → IfOk (made d) AllOff
 unfolding made
 made_off d h =
     let empty : List Window = map zeros (pairs d.windows) in
-    after_ok AllOff (ensure (are_windows (pairs d.windows)) Windows) _ (λ _.
+    after_ok AllOff (ensure (windows_fit d) Windows) _ (λ _.
     after_ok AllOff (tables_inside d.shape empty d.tables) _ (λ _.
     after_ok AllOff (filled empty 0 d.fills) _ (λ memory.
     after_ok AllOff (all_frames_fit (pairs d.windows) 0 d.translators) _ (λ _.

@@ -89,6 +89,8 @@ TellsLpi vcpu (call.Signal its dev ev) (reply.Signal (Delivered target intid)) =
 TellsLpi vcpu (call.Dma req addr bytes to) (reply.Signal (Delivered target intid)) = target.0 ≡ vcpu
 TellsLpi vcpu (call.Take taker) (reply.Ack (ack.Some intid priority)) = taker.0 ≡ vcpu
 TellsLpi vcpu (call.Show shown) (reply.Ack (ack.Some intid priority)) = shown.0 ≡ vcpu
+TellsLpi vcpu (call.Best shown mask) (reply.Ack (ack.Some intid priority)) = shown.0 ≡ vcpu
+TellsLpi vcpu (call.Claim taker asked) (reply.Ack (ack.Some intid priority)) = taker.0 ≡ vcpu
 TellsLpi vcpu _ _ = ⊥
 
 -- before each reply that tells of an LPI, and wherever one is pending, an earlier call of the same leg or of an earlier one turned
