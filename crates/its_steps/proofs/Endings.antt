@@ -136,6 +136,8 @@ unfolding left ending_of
 all_endings u (call.Signal its dev ev) r = calm_lasts u _ its (calm_leaves u (call.Signal its dev ev) r tt)
 all_endings u (call.Take vcpu) r = calm_lasts u _ 0 (calm_leaves u (call.Take vcpu) r tt)
 all_endings u (call.Show vcpu) r = lasts_self u 0 Nothing
+all_endings u (call.Best vcpu mask) r = lasts_self u 0 Nothing
+all_endings u (call.Claim vcpu intid) r = calm_lasts u _ 0 (calm_leaves u (call.Claim vcpu intid) r tt)
 all_endings u (call.Poke addr bytes) r = calm_lasts u _ 0 (calm_leaves u (call.Poke addr bytes) r tt)
 all_endings u (call.Peek addr count) r = lasts_self u 0 Nothing
 all_endings u (call.ReadReg its off size) r = lasts_self u its Nothing

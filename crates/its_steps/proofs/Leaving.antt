@@ -4,7 +4,7 @@ use Rattle.std.proofs.Common.{if◌then◌else◌}
 use Rattle.guest_windows.specs.Windows.{Window, write_at}
 use Rattle.gicr_regs.specs.Registers.{written_gicr}
 use Rattle.its_types.specs.Lpis.{with_lpi}
-use Rattle.its_plain.specs.Answer.{lowest, taken, replied, poke_left, save_left, route_left, left}
+use Rattle.its_plain.specs.Answer.{lowest, claimed, taken, replied, poke_left, save_left, route_left, left}
 use Rattle.its_types.specs.declared.ids.Addr.{Addr}
 use Rattle.its_plain.specs.declared.call.Route.{Route}
 use Rattle.its_plain.specs.declared.call.Route.TheVariants as route
@@ -57,6 +57,8 @@ unfolding left
 calm_leaves a (call.Signal its dev ev) r calm = replied_leaves a r
 calm_leaves a (call.Take vcpu) r calm = one_redist a vcpu.0 (taken (redistributor a vcpu.0) (lowest (redistributor a vcpu.0)))
 calm_leaves a (call.Show vcpu) r calm = all_left a
+calm_leaves a (call.Best vcpu mask) r calm = all_left a
+calm_leaves a (call.Claim vcpu intid) r calm = one_redist a vcpu.0 (taken (redistributor a vcpu.0) (claimed (redistributor a vcpu.0) intid.0))
 calm_leaves a (call.Poke addr bytes) r calm = poke_leaves a addr.0 bytes (write_at a.memory addr.0 bytes)
 calm_leaves a (call.Peek addr count) r calm = all_left a
 calm_leaves a (call.ReadReg its off size) r calm = all_left a

@@ -1,5 +1,5 @@
 -- Calls that are messages, by what they are.
-use Rattle.std.proofs.Common.{◌≡◌, ℕ, List, Option, Some, None, refl, ap, subst, sym, ◌∙◌}
+use Rattle.std.proofs.Common.{◌≡◌, ℕ, List, Option, Some, None, refl, subst}
 use Rattle.its_types.specs.declared.ids.Addr.{Addr}
 use Rattle.its_types.specs.declared.ids.DeviceId.{DeviceId}
 use Rattle.its_types.specs.declared.ids.EventId.{EventId}
@@ -10,7 +10,6 @@ use Rattle.its_plain.specs.Translation.{translated}
 use Rattle.its_plain.specs.declared.call.Call.{Call}
 use Rattle.its_plain.specs.declared.call.Call.TheVariants as call
 use Rattle.its_plain.specs.declared.call.Reply.TheVariants as reply
-use Rattle.its_plain.specs.declared.call.Route.{Route}
 use Rattle.its_plain.specs.declared.call.Route.TheVariants as route
 use Rattle.its_plain.specs.declared.call.Signal.{Signal}
 use Rattle.its_steps.specs.Calls.{IsCalm}
@@ -52,6 +51,8 @@ is_message (call.Dma req addr bytes route.NoRequester) its dev ev is = absurd cc
 is_message (call.Dma req addr bytes route.Frame) its dev ev is = absurd cc
 is_message (call.Take vcpu) its dev ev is = absurd cc
 is_message (call.Show vcpu) its dev ev is = absurd cc
+is_message (call.Best vcpu mask) its dev ev is = absurd cc
+is_message (call.Claim vcpu intid) its dev ev is = absurd cc
 is_message (call.Poke addr bytes) its dev ev is = absurd cc
 is_message (call.Peek addr count) its dev ev is = absurd cc
 is_message (call.ReadReg i off size) its dev ev is = absurd cc

@@ -6,18 +6,19 @@ use Rattle.dirty_log.specs.declared.tracked.Tracked.{Tracked}
 use Rattle.its_types.specs.declared.ids.Addr.{Addr}
 use Rattle.its_plain.specs.declared.call.Route.TheVariants as route
 use Rattle.gits_regs.specs.Registers.{read_reg, write_reg}
+use Rattle.its_types.specs.declared.ids.Intid.{Intid}
 use Rattle.its_types.specs.declared.ids.Vcpu.{Vcpu}
 use Rattle.its_types.specs.declared.machine.Part.{Part}
 use Rattle.its_types.specs.declared.machine.Part.TheVariants as part
 use Rattle.its_types.specs.declared.machine.Word.{Word}
-use Rattle.its_plain.specs.Answer.{ack_of, lowest, taken, poke_reply, peek_reply, written, translator_written, poke_left, poked, copy_count, reply_of, left}
+use Rattle.its_plain.specs.Answer.{ack_of, lowest, best, claimed, taken, poke_reply, peek_reply, written, translator_written, poke_left, poked, copy_count, reply_of, left}
 use Rattle.its_plain.specs.Parts.{footprint}
-use Rattle.its_plain.specs.Plain.{Plain, Translator, Redistributor, translator, redistributor, no_translator, no_redistributor}
+use Rattle.its_plain.specs.Plain.{Plain, Translator, Redistributor, translator, redistributor, with_redistributor, no_translator, no_redistributor}
 use Rattle.its_plain.specs.declared.call.Call.{Call}
 use Rattle.its_plain.specs.declared.call.Call.TheVariants as call
 use Rattle.its_plain.specs.declared.call.Reply.{Reply}
 use Rattle.its_plain.specs.declared.call.Reply.TheVariants as reply
-use Rattle.its_steps.specs.Calls.{staying, stamping, IsCalm, turns_off, poked_content, peeked_in, DmaMayCommit, NothingMayCommit, CopyMayCommit, TakeMayCommit, ShowMayCommit, PokeMayCommit, PeekMayCommit, ReadMayCommit}
+use Rattle.its_steps.specs.Calls.{staying, stamping, IsCalm, turns_off, poked_content, peeked_in, DmaMayCommit, NothingMayCommit, CopyMayCommit, TakeMayCommit, ShowMayCommit, BestMayCommit, ClaimMayCommit, PokeMayCommit, PeekMayCommit, ReadMayCommit}
 use Rattle.its_steps.specs.Calls.{WriteMayCommit, WriteMayRise}
 use Rattle.its_steps.specs.Contents.{Content, Maps, Mem, Redist, Held}
 use Rattle.its_steps.specs.Endings.{Nothing, All, ending_of}
@@ -60,37 +61,58 @@ module _ (s : Setup) (last : Word) (vcpu : Vcpu) (r : Redistributor) (vcpus : Ha
   abbrev a : Plain
   a = assembled s held
 
-  abbrev ack : Reply
-  ack = reply.Ack (ack_of r (lowest r))
-
   inside : vcpu.0 < length s.start.redistributors
   inside = omega (arith, st, vcpus)
 
   has_one : redistributor a vcpu.0 ≡ r
   has_one = get_or-set_same s.start.redistributors vcpu.0 r no_redistributor inside
 
-  acked : ack ≡ reply.Ack (ack_of (redistributor a vcpu.0) (lowest (redistributor a vcpu.0)))
-  acked = ap (λ (x : Redistributor). reply.Ack (ack_of x (lowest x))) (sym has_one)
+  -- what is told of an LPI that is picked there, and what is left once it is taken
+  module _ (pick : Redistributor → Option ℕ) where
+    abbrev ack : Reply
+    ack = reply.Ack (ack_of r (pick r))
 
-  take_answered : IsAnswered a (call.Take vcpu) ack held
+    acked : ack ≡ reply.Ack (ack_of (redistributor a vcpu.0) (pick (redistributor a vcpu.0)))
+    acked = ap (λ (x : Redistributor). reply.Ack (ack_of x (pick x))) (sym has_one)
+
+    took : redistributor (with_redistributor a vcpu.0 (taken (redistributor a vcpu.0) (pick (redistributor a vcpu.0)))) vcpu.0 ≡ taken r (pick r)
+    took =
+        let after : Redistributor → Redistributor = λ x. taken x (pick x) in
+        let long : vcpu.0 < length (set s.start.redistributors vcpu.0 r) = omega (arith, inside, length-set s.start.redistributors vcpu.0 r) in
+        get_or-set_same a.redistributors vcpu.0 (after (redistributor a vcpu.0)) no_redistributor long ∙ ap after has_one
+
+  take_answered : IsAnswered a (call.Take vcpu) (ack lowest) held
   unfolding footprint reply_of
-  take_answered = record { covers = (inl refl, tt); reply_is = acked }
+  take_answered = record { covers = (inl refl, tt); reply_is = acked lowest }
 
-  take_leaves : renewal s (staying last (call.Take vcpu) ack change.Keep) held ≡ out (part.Redist vcpu) (Redist (taken r (lowest r))) ∷ []
+  take_leaves : renewal s (staying last (call.Take vcpu) (ack lowest) change.Keep) held ≡ out (part.Redist vcpu) (Redist (taken r (lowest r))) ∷ []
   unfolding left
-  take_leaves =
-      let after : Redistributor → Redistributor = λ x. taken x (lowest x) in
-      let long : vcpu.0 < length (set s.start.redistributors vcpu.0 r) = omega (arith, inside, length-set s.start.redistributors vcpu.0 r) in
-      λ d. out (part.Redist vcpu)
-      (Redist ((get_or-set_same a.redistributors vcpu.0 (after (redistributor a vcpu.0)) no_redistributor long ∙ ap after has_one) d)) ∷ []
+  take_leaves = λ d. out (part.Redist vcpu) (Redist (took lowest d)) ∷ []
 
-  show_answered : IsAnswered a (call.Show vcpu) ack held
+  show_answered : IsAnswered a (call.Show vcpu) (ack lowest) held
   unfolding footprint reply_of
-  show_answered = record { covers = (inl refl, tt); reply_is = acked }
+  show_answered = record { covers = (inl refl, tt); reply_is = acked lowest }
 
-  show_leaves : renewal s (staying last (call.Show vcpu) ack change.Keep) held ≡ held
+  show_leaves : renewal s (staying last (call.Show vcpu) (ack lowest) change.Keep) held ≡ held
   unfolding left
   show_leaves = λ d. out (part.Redist vcpu) (Redist (has_one d)) ∷ []
+
+  best_answered : (mask : ℕ) → IsAnswered a (call.Best vcpu mask) (ack (λ x. best x mask)) held
+  unfolding footprint reply_of
+  best_answered mask = record { covers = (inl refl, tt); reply_is = acked (λ x. best x mask) }
+
+  best_leaves : (mask : ℕ) → renewal s (staying last (call.Best vcpu mask) (ack (λ x. best x mask)) change.Keep) held ≡ held
+  unfolding left
+  best_leaves mask = λ d. out (part.Redist vcpu) (Redist (has_one d)) ∷ []
+
+  claim_answered : (intid : Intid) → IsAnswered a (call.Claim vcpu intid) (ack (λ x. claimed x intid.0)) held
+  unfolding footprint reply_of
+  claim_answered intid = record { covers = (inl refl, tt); reply_is = acked (λ x. claimed x intid.0) }
+
+  claim_leaves : (intid : Intid) → renewal s (staying last (call.Claim vcpu intid) (ack (λ x. claimed x intid.0)) change.Keep) held
+      ≡ out (part.Redist vcpu) (Redist (taken r (claimed r intid.0))) ∷ []
+  unfolding left
+  claim_leaves intid = λ d. out (part.Redist vcpu) (Redist (took (λ x. claimed x intid.0) d)) ∷ []
 
 pub takes : TakeMayCommit
 takes s last vcpu r vcpus st room = (
@@ -104,6 +126,20 @@ shows s last vcpu r vcpus st room = (
   one_may s last vcpus room (part.Redist vcpu) (Redist r) st (call.Show vcpu) (reply.Ack (ack_of r (lowest r))) tt
       (show_answered s last vcpu r vcpus st room),
   show_leaves s last vcpu r vcpus st room,
+)
+
+pub bests : BestMayCommit
+bests s last vcpu mask r vcpus st room = (
+  one_may s last vcpus room (part.Redist vcpu) (Redist r) st (call.Best vcpu mask) (reply.Ack (ack_of r (best r mask))) tt
+      (best_answered s last vcpu r vcpus st room mask),
+  best_leaves s last vcpu r vcpus st room mask,
+)
+
+pub claims : ClaimMayCommit
+claims s last vcpu intid r vcpus st room = (
+  one_may s last vcpus room (part.Redist vcpu) (Redist r) st (call.Claim vcpu intid) (reply.Ack (ack_of r (claimed r intid.0))) tt
+      (claim_answered s last vcpu r vcpus st room intid),
+  claim_leaves s last vcpu r vcpus st room intid,
 )
 
 -- ---- memory

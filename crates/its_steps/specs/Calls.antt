@@ -13,11 +13,12 @@ use Rattle.its_types.specs.declared.ids.Addr.{Addr}
 use Rattle.its_types.specs.declared.ids.DeviceId.{DeviceId}
 use Rattle.its_types.specs.declared.ids.EventId.{EventId}
 use Rattle.its_types.specs.declared.ids.Target.{Target}
+use Rattle.its_types.specs.declared.ids.Intid.{Intid}
 use Rattle.its_types.specs.declared.ids.Vcpu.{Vcpu}
 use Rattle.its_types.specs.declared.machine.Part.TheVariants as part
 use Rattle.its_types.specs.declared.machine.Shape.{Shape}
 use Rattle.its_types.specs.declared.machine.Word.{Word}
-use Rattle.its_plain.specs.Answer.{ack_of, lowest, taken, poke_reply, peek_reply, translator_written, save_reply, save_left, copy_count, left}
+use Rattle.its_plain.specs.Answer.{ack_of, lowest, best, claimed, taken, poke_reply, peek_reply, translator_written, save_reply, save_left, copy_count, left}
 use Rattle.its_plain.specs.Plain.{Plain, Translator, Redistributor, translator, redistributor}
 use Rattle.its_plain.specs.Regions.{savable}
 use Rattle.its_plain.specs.Translation.{located}
@@ -94,6 +95,19 @@ abbrev pub ShowMayCommit : Type 0
 ShowMayCommit = (s : Setup) (last : Word) (vcpu : Vcpu) (r : Redistributor) → HasVcpus s → vcpu.0 < vcpu_count s → last.place < s.limits.place_last
     → let held : List Held = out (part.Redist vcpu) (Redist r) ∷ [] in MayLeave s (staying last (call.Show vcpu) (reply.Ack (ack_of r (lowest r))) change.Keep)
     held held
+
+-- and to show the first by priority
+abbrev pub BestMayCommit : Type 0
+BestMayCommit = (s : Setup) (last : Word) (vcpu : Vcpu) (mask : ℕ) (r : Redistributor) → HasVcpus s → vcpu.0 < vcpu_count s
+    → last.place < s.limits.place_last → let held : List Held = out (part.Redist vcpu) (Redist r) ∷ [] in
+    MayLeave s (staying last (call.Best vcpu mask) (reply.Ack (ack_of r (best r mask))) change.Keep) held held
+
+-- and for an acknowledgement of one LPI
+abbrev pub ClaimMayCommit : Type 0
+ClaimMayCommit = (s : Setup) (last : Word) (vcpu : Vcpu) (intid : Intid) (r : Redistributor) → HasVcpus s → vcpu.0 < vcpu_count s
+    → last.place < s.limits.place_last
+    → MayLeave s (staying last (call.Claim vcpu intid) (reply.Ack (ack_of r (claimed r intid.0))) change.Keep) (out (part.Redist vcpu) (Redist r) ∷ [])
+    (out (part.Redist vcpu) (Redist (taken r (claimed r intid.0))) ∷ [])
 
 -- with memory, it is enough for a write of its registers, whatever that does to LPIs: the stamp stays and no shard is held
 abbrev pub GicrMayCommit : Type 0

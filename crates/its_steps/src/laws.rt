@@ -115,6 +115,8 @@ pub fn calm_calls_may_commit()
 pub fn ports_may_commit()
     ensures take { calls.TakeMayCommit }
     ensures show { calls.ShowMayCommit }
+    ensures best { calls.BestMayCommit }
+    ensures claim { calls.ClaimMayCommit }
     ensures poke { calls.PokeMayCommit }
     ensures peek { calls.PeekMayCommit }
     ensures dma { calls.DmaMayCommit }

@@ -1,4 +1,4 @@
-use Rattle.its_steps.proofs.Ports.{takes, shows, pokes, peeks, dmas, nothings, copies, reads, writes, rises}
+use Rattle.its_steps.proofs.Ports.{takes, shows, bests, claims, pokes, peeks, dmas, nothings, copies, reads, writes, rises}
 use Rattle.its_steps.proofs.Gicr.{gicrs, turns_off}
 use Rattle.its_steps.proofs.Saves.{saves}
 use Rattle.its_steps.proofs.laws.ports_may_commit.Goals as goal
@@ -7,6 +7,8 @@ pub returns : goal.returns
 returns c = record {
   take = takes;
   show = shows;
+  best = bests;
+  claim = claims;
   poke = pokes;
   peek = peeks;
   dma = dmas;
