@@ -1,6 +1,6 @@
 -- The script that good drafts end in is within its limits.
 use Rattle.std.proofs.Common.{◌≡◌, ℕ, ◌+◌, Bool, true, false, ◌&&◌, ◌||◌, nat_lt, nat_eq, if◌then◌else◌, List, [], ◌∷◌, length, filter_map, Option, Some, None}
-use Rattle.std.proofs.Common.{is_some, ok_or, Result, Ok, Err, IfOk, refl, arith}
+use Rattle.std.proofs.Common.{is_some, ok_or, Result, Ok, Err, IfOk, refl, sym, ap, slice_get, arith}
 use Rattle.std.specs.List.{list_all}
 use Rattle.std.specs.Option.{unwrap_or}
 use Rattle.std.proofs.lemmas.Bool.{ltb-true}
@@ -8,6 +8,7 @@ use Rattle.its_types.specs.declared.ids.Addr.{Addr}
 use Rattle.its_types.specs.declared.machine.Limits.{Limits}
 use Rattle.its_plain.specs.Machine.{HasTablesFor}
 use Rattle.its_plain.specs.declared.desc.Desc.{Desc}
+use Rattle.its_plain.specs.declared.desc.Its.{Its}
 use Rattle.its_plain.specs.declared.desc.LpiTables.{LpiTables}
 use Rattle.its_plain.specs.declared.desc.LpiTables.TheVariants.{Registers}
 use Rattle.event_script.specs.Text.{parts, fields, is_text}
@@ -16,8 +17,8 @@ use Rattle.event_script.specs.Words.{keyword_of}
 use Rattle.event_script.specs.Description.{empty, at_start, is_ended, is_shard_count}
 use Rattle.event_script.specs.Body.{has_tables, is_described}
 use Rattle.event_script.specs.Limits.{IsWithinLimits, HasRegisters, are_limits}
-use Rattle.event_script.specs.Script.{is_skipped, words_line, line, default_limits, described_tables, tables_of, desc_of, script_from, finished, at_line}
-use Rattle.event_script.specs.Script.{◌then◌, parts_from, script_of, default_ids, begins_report, trace_with, without_report, check_from, check_of}
+use Rattle.event_script.specs.Script.{is_skipped, words_line, line, default_limits, described_tables, tables_of, translators_of, desc_of, script_from}
+use Rattle.event_script.specs.Script.{finished, at_line, ◌then◌, parts_from, script_of, default_ids, begins_report, trace_with, without_report, check_from, check_of}
 use Rattle.event_script.specs.declared.fault.Kind.{Kind}
 use Rattle.event_script.specs.declared.fault.Kind.TheVariants as kind
 use Rattle.event_script.specs.declared.fault.ScriptFault.{ScriptFault}
@@ -88,6 +89,9 @@ ended stage.Phase e = absurd (cc)
 ended stage.Thread e = absurd (cc)
 ended stage.Ended e = (refl, refl)
 
+no_frames : (d : Draft) (t : Its) → slice_get (translators_of d) 0 ≡ Some t → t.frames ≡ None
+no_frames d t e = ap (λ (o : Option Its). elim o [ None ↦ None | Some x ↦ x.frames ]) (sym e)
+
 abbrev IsFit : Draft → Desc → Type 0
 IsFit d desc = IsWithinLimits (record { desc = desc; fill_lines = d.fill_lines; legs = d.legs })
 
@@ -112,7 +116,10 @@ desc_fits d h over =
           most_lpi_bits = bits.1.1;
         };
         tables = enough.0;
+        some_translator = omega arith;
+        most_translators = omega arith;
       };
+      single = record { translator = refl; frames = no_frames d; requesters = refl; track = refl };
       shards = known;
       limits = limits_known d.limits h.fair.limits;
       some_windows = ltb-true 0 (length d.windows) some_windows;

@@ -4,10 +4,10 @@ use Rattle.std.proofs.lemmas.Bool.{lt-ltb}
 use Rattle.std.proofs.Math.Pow.{pow-sub-lt}
 use Rattle.its_command.specs.Commands.{encoded}
 use Rattle.its_plain.specs.declared.call.Call.{Call}
-use Rattle.event_script.specs.Fields.{arg, number_within, any_number, address, device, event, processor, bytes_within}
+use Rattle.event_script.specs.Fields.{arg, number_within, any_number, address, device, event, interrupt, processor, bytes_within}
 use Rattle.event_script.specs.Commands.{command_word_of, command_fields, command_of}
 use Rattle.event_script.specs.Calls.{signal_of, take_of, show_of, poke_of, word_of, command_call_of, peek_of, read_of, write_of, rread_of, rwrite_of, step_of}
-use Rattle.event_script.specs.Calls.{save_of, access_size}
+use Rattle.event_script.specs.Calls.{save_of, best_of, claim_of, access_size}
 use Rattle.event_script.specs.Limits.{are_bytes, has_bytes, is_call, is_access_size}
 use Rattle.event_script.specs.declared.fault.Kind.TheVariants as kind
 use Rattle.event_script.proofs.Steps.{both_true, below, bound, bound_by, ensured, number_in_range, processor_below, bytes_in_range, length-encoded}
@@ -33,6 +33,18 @@ unfolding show_of
 show_is_call vcpus fs =
     ensured (IsCall vcpus) (nat_eq (length fs) 2) kind.Fields _ (λ _. bound_by (IsCall vcpus) (processor vcpus (arg fs 1)) (λ v. nat_lt v.0 vcpus ≡ true) _
     (processor_below vcpus (arg fs 1)) (λ v e. e))
+
+pub best_is_call : (vcpus : ℕ) (fs : List (List ℕ)) → IfOk (best_of vcpus fs) (IsCall vcpus)
+unfolding best_of
+best_is_call vcpus fs =
+    ensured (IsCall vcpus) (nat_eq (length fs) 3) kind.Fields _ (λ _. bound_by (IsCall vcpus) (processor vcpus (arg fs 1)) (λ v. nat_lt v.0 vcpus ≡ true) _
+    (processor_below vcpus (arg fs 1)) (λ v e. bound (IsCall vcpus) (number_within 0 (2 ^ 8 - 1) (arg fs 2)) _ (λ mask. e)))
+
+pub claim_is_call : (vcpus : ℕ) (fs : List (List ℕ)) → IfOk (claim_of vcpus fs) (IsCall vcpus)
+unfolding claim_of
+claim_is_call vcpus fs =
+    ensured (IsCall vcpus) (nat_eq (length fs) 3) kind.Fields _ (λ _. bound_by (IsCall vcpus) (processor vcpus (arg fs 1)) (λ v. nat_lt v.0 vcpus ≡ true) _
+    (processor_below vcpus (arg fs 1)) (λ v e. bound (IsCall vcpus) (interrupt (arg fs 2)) _ (λ intid. e)))
 
 pub poke_is_call : (vcpus : ℕ) (fs : List (List ℕ)) → IfOk (poke_of fs) (IsCall vcpus)
 unfolding poke_of

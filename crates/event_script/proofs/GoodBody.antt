@@ -6,7 +6,7 @@ use Rattle.std.proofs.lemmas.List.{length-append}
 use Rattle.its_plain.specs.declared.call.Call.{Call}
 use Rattle.event_script.specs.Description.{at_start, in_description, in_phase, in_thread, is_ended}
 use Rattle.event_script.specs.Calls.{signal_of, take_of, show_of, poke_of, word_of, command_call_of, peek_of, read_of, write_of, rread_of, rwrite_of, step_of}
-use Rattle.event_script.specs.Calls.{save_of}
+use Rattle.event_script.specs.Calls.{save_of, best_of, claim_of}
 use Rattle.event_script.specs.Body.{is_described, is_whole, may_go_on, threads_so_far, phases_so_far, legs_so_far, phase_line, thread_line, migrate_line}
 use Rattle.event_script.specs.Body.{end_line, call_line, gicr_call_line, word_line, keyword_line}
 use Rattle.event_script.specs.Limits.{is_call, is_thread, is_phase, is_leg}
@@ -20,10 +20,10 @@ use Rattle.event_script.specs.declared.draft.Stage.TheVariants as stage
 use Rattle.event_script.specs.declared.draft.TheConstants.{MOST_LEGS, MOST_PHASES, MOST_THREADS, MOST_CALLS}
 use Rattle.event_script.proofs.Steps.{left_true, right_true, both_true, below, all_pushed, bound_by, ensured, chosen}
 use Rattle.event_script.proofs.Calling.{signal_is_call, take_is_call, show_is_call, poke_is_call, word_is_call, command_is_call, peek_is_call, read_is_call}
-use Rattle.event_script.proofs.Calling.{write_is_call, rread_is_call, rwrite_is_call, step_is_call, save_is_call}
+use Rattle.event_script.proofs.Calling.{write_is_call, rread_is_call, rwrite_is_call, step_is_call, save_is_call, best_is_call, claim_is_call}
 use Rattle.event_script.proofs.Good.{in_body, open_legs, open_phases, open_threads, clash, IsFair, HasCalls, IsGood}
 use Rattle.event_script.proofs.GoodDescription.{shards_good, vcpus_good, limits_good, ids_good, profile_good, window_good, config_good, pending_good}
-use Rattle.event_script.proofs.GoodDescription.{gicr_good, restore_good, rrestore_good, bytes_good, word_fill_good}
+use Rattle.event_script.proofs.GoodDescription.{gicr_good, linux_good, restore_good, rrestore_good, bytes_good, word_fill_good}
 
 one_open : (s : Stage) → in_thread s ≡ true → (open_phases s ≡ 1) × (open_threads s ≡ 1)
 one_open stage.Start e = absurd (cc)
@@ -286,6 +286,7 @@ keyword_good d n on.Word fs h = word_good d n fs h
 keyword_good d n on.Restore fs h = restore_good d fs h
 keyword_good d n on.Gicr fs h = gicr_good d fs h
 keyword_good d n on.Rrestore fs h = rrestore_good d fs h
+keyword_good d n on.Linux fs h = linux_good d fs h
 keyword_good d n on.Phase fs h = phase_good d fs h
 keyword_good d n on.Thread fs h = thread_good d fs h
 keyword_good d n on.Migrate fs h = migrate_good d fs h
@@ -293,6 +294,8 @@ keyword_good d n on.End fs h = end_good d fs h
 keyword_good d n on.Signal fs h = call_good d (signal_of fs) h (signal_is_call (length d.pending) fs)
 keyword_good d n on.Take fs h = call_good d (take_of (length d.pending) fs) h (take_is_call (length d.pending) fs)
 keyword_good d n on.Show fs h = call_good d (show_of (length d.pending) fs) h (show_is_call (length d.pending) fs)
+keyword_good d n on.Best fs h = call_good d (best_of (length d.pending) fs) h (best_is_call (length d.pending) fs)
+keyword_good d n on.Claim fs h = call_good d (claim_of (length d.pending) fs) h (claim_is_call (length d.pending) fs)
 keyword_good d n on.Poke fs h = call_good d (poke_of fs) h (poke_is_call (length d.pending) fs)
 keyword_good d n on.Peek fs h = call_good d (peek_of fs) h (peek_is_call (length d.pending) fs)
 keyword_good d n on.Command fs h = call_good d (command_call_of fs) h (command_is_call (length d.pending) fs)

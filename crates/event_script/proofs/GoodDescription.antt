@@ -1,5 +1,5 @@
 -- Each line of the description leaves a good draft.
-use Rattle.std.proofs.Common.{◌≡◌, ℕ, ◌+◌, ◌-◌, ◌^◌, true, false, not, ◌&&◌, nat_lt, nat_le, nat_eq, List, [], ◌∷◌, ◌++◌, length, set, replicate}
+use Rattle.std.proofs.Common.{◌≡◌, ℕ, ◌-◌, ◌^◌, true, false, not, ◌&&◌, nat_lt, nat_le, nat_eq, List, [], ◌∷◌, ◌++◌, length, set, replicate}
 use Rattle.std.proofs.Common.{Option, Some, None, is_some, is_none, IfOk, ◌∙◌, refl, arith}
 use Rattle.std.specs.List.{list_all}
 use Rattle.std.proofs.lemmas.Bool.{ltb-true, lt-ltb}
@@ -12,7 +12,7 @@ use Rattle.event_script.specs.Fields.{arg, number_within, any_number, address, p
 use Rattle.event_script.specs.Description.{at_start, in_description, vcpus_line, shards_line, limits_line, ids_line, profile_of, profile_line}
 use Rattle.event_script.specs.Description.{window_line, describes_tables, config_line, pending_line, gicr_line, register_values, restore_line}
 use Rattle.event_script.specs.Description.{redistributor_values, with_registers, has_registers, restores_registers, rrestore_line, bytes_line, word_fill_line}
-use Rattle.event_script.specs.Description.{is_given, is_shard_count, with_fill}
+use Rattle.event_script.specs.Description.{is_given, is_shard_count, with_fill, linux_line}
 use Rattle.event_script.specs.Limits.{has_bytes, are_limits, is_fill}
 use Rattle.event_script.specs.declared.fault.Kind.TheVariants as kind
 use Rattle.event_script.specs.declared.draft.Draft.{Draft}
@@ -274,6 +274,15 @@ gicr_good d fs h =
     let off = no_body d (left_true (describes_tables d) (is_none d.config) none) in
     ensured IsGood (nat_eq (length fs) 1) kind.Fields _ (λ _.
     let e : Draft = record d { gicr = true } in
+    described_more e (same_but_registers d e h.fair refl refl refl refl refl refl refl refl refl) (still_early d e (h.early off) refl refl refl refl) off))
+
+pub linux_good : (d : Draft) (fs : List (List ℕ)) → IsGood d → IfOk (linux_line d fs) IsGood
+unfolding linux_line
+linux_good d fs h =
+    ensured IsGood (in_description d.stage && not d.linux) kind.Order _ (λ order.
+    let off = not_started d.stage (left_true (in_description d.stage) (not d.linux) order) in
+    ensured IsGood (nat_eq (length fs) 1) kind.Fields _ (λ _.
+    let e : Draft = record d { linux = true } in
     described_more e (same_but_registers d e h.fair refl refl refl refl refl refl refl refl refl) (still_early d e (h.early off) refl refl refl refl) off))
 
 pub rrestore_good : (d : Draft) (fs : List (List ℕ)) → IsGood d → IfOk (rrestore_line d fs) IsGood

@@ -5,9 +5,9 @@ use Rattle.its_plain.specs.declared.call.Call.{Call}
 use Rattle.event_script.specs.Outcome.{◌>>=◌, ensure}
 use Rattle.event_script.specs.Description.{at_start, in_description, in_phase, in_thread, is_ended, vcpus_line, shards_line, limits_line, ids_line}
 use Rattle.event_script.specs.Description.{profile_line, window_line, config_line, pending_line, gicr_line, restore_line, rrestore_line, bytes_line}
-use Rattle.event_script.specs.Description.{word_fill_line}
+use Rattle.event_script.specs.Description.{word_fill_line, linux_line}
 use Rattle.event_script.specs.Calls.{signal_of, take_of, show_of, poke_of, word_of, command_call_of, peek_of, read_of, write_of, rread_of, rwrite_of, step_of}
-use Rattle.event_script.specs.Calls.{save_of}
+use Rattle.event_script.specs.Calls.{save_of, best_of, claim_of}
 use Rattle.event_script.specs.declared.fault.Kind.{Kind}
 use Rattle.event_script.specs.declared.fault.Kind.TheVariants as kind
 use Rattle.event_script.specs.declared.words.Keyword.{Keyword}
@@ -108,6 +108,7 @@ keyword_line d n on.Word fs = word_line d n fs
 keyword_line d n on.Restore fs = restore_line d fs
 keyword_line d n on.Gicr fs = gicr_line d fs
 keyword_line d n on.Rrestore fs = rrestore_line d fs
+keyword_line d n on.Linux fs = linux_line d fs
 keyword_line d n on.Phase fs = phase_line d fs
 keyword_line d n on.Thread fs = thread_line d fs
 keyword_line d n on.Migrate fs = migrate_line d fs
@@ -115,6 +116,8 @@ keyword_line d n on.End fs = end_line d fs
 keyword_line d n on.Signal fs = call_line d (signal_of fs)
 keyword_line d n on.Take fs = call_line d (take_of (length d.pending) fs)
 keyword_line d n on.Show fs = call_line d (show_of (length d.pending) fs)
+keyword_line d n on.Best fs = call_line d (best_of (length d.pending) fs)
+keyword_line d n on.Claim fs = call_line d (claim_of (length d.pending) fs)
 keyword_line d n on.Poke fs = call_line d (poke_of fs)
 keyword_line d n on.Peek fs = call_line d (peek_of fs)
 keyword_line d n on.Command fs = call_line d (command_call_of fs)

@@ -5,7 +5,7 @@ use Rattle.its_command.specs.Commands.{encoded}
 use Rattle.its_plain.specs.declared.call.Call.{Call}
 use Rattle.its_plain.specs.declared.call.Call.TheVariants as call
 use Rattle.event_script.specs.Outcome.{◌>>=◌, ensure}
-use Rattle.event_script.specs.Fields.{arg, number_within, any_number, address, device, event, processor, bytes_within}
+use Rattle.event_script.specs.Fields.{arg, number_within, any_number, address, device, event, interrupt, processor, bytes_within}
 use Rattle.event_script.specs.Commands.{command_word_of, command_fields, command_of}
 use Rattle.event_script.specs.declared.fault.Kind.{Kind}
 use Rattle.event_script.specs.declared.fault.Kind.TheVariants as kind
@@ -28,6 +28,21 @@ show_of vcpus fs = do
   _ ← ensure (length fs == 2) kind.Fields
   vcpu ← processor vcpus (arg fs 1)
   Ok (call.Show vcpu)
+
+-- the mask is a priority
+unfoldable pub best_of : ℕ → List (List ℕ) → Result Call Kind
+best_of vcpus fs = do
+  _ ← ensure (length fs == 3) kind.Fields
+  vcpu ← processor vcpus (arg fs 1)
+  mask ← number_within 0 (2 ^ 8 - 1) (arg fs 2)
+  Ok (call.Best vcpu mask)
+
+unfoldable pub claim_of : ℕ → List (List ℕ) → Result Call Kind
+claim_of vcpus fs = do
+  _ ← ensure (length fs == 3) kind.Fields
+  vcpu ← processor vcpus (arg fs 1)
+  intid ← interrupt (arg fs 2)
+  Ok (call.Claim vcpu intid)
 
 unfoldable pub poke_of : List (List ℕ) → Result Call Kind
 poke_of fs = do

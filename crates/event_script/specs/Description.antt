@@ -56,6 +56,7 @@ empty = record {
   config = None;
   pending = [];
   gicr = false;
+  linux = false;
   registers = record { registers = replicate 16 no_registers };
   given = replicate 16 false;
   fills = [];
@@ -154,6 +155,13 @@ gicr_line d fs = do
   _ ← ensure (describes_tables d && is_none d.config && list_all is_none d.pending) kind.Order
   _ ← ensure (length fs == 1) kind.Fields
   Ok (record d { gicr = true })
+
+-- the machine has what a Linux guest counts on
+unfoldable pub linux_line : Draft → List (List ℕ) → Result Draft Kind
+linux_line d fs = do
+  _ ← ensure (in_description d.stage && not d.linux) kind.Order
+  _ ← ensure (length fs == 1) kind.Fields
+  Ok (record d { linux = true })
 
 -- the registers to restore, in the order of a line's fields
 unfoldable pub register_values : List (List ℕ) → Result RegValues Kind

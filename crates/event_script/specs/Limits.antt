@@ -1,10 +1,10 @@
 -- What each script keeps to: how many there may be of each thing, and in which range each field of its calls is.
-use Rattle.std.specs.Prelude.{◌≡◌, ◌<◌, ◌≤◌, ℕ, ◌*◌, ◌^◌, Bool, true, ◌&&◌, ◌||◌, ◌==◌, nat_lt, nat_le, List, length}
+use Rattle.std.specs.Prelude.{◌≡◌, ◌<◌, ◌≤◌, ℕ, ◌*◌, ◌^◌, Bool, true, false, ◌&&◌, ◌||◌, ◌==◌, nat_lt, nat_le, List, length}
 use Rattle.std.specs.List.{list_all}
 use Rattle.its_types.specs.declared.machine.Limits.{Limits}
 use Rattle.its_plain.specs.declared.call.Call.{Call}
 use Rattle.its_plain.specs.declared.call.Call.TheVariants as call
-use Rattle.its_plain.specs.Machine.{IsDescription}
+use Rattle.its_plain.specs.Machine.{IsDescription, IsSingle}
 use Rattle.its_plain.specs.declared.desc.Fill.{Fill}
 use Rattle.its_plain.specs.declared.desc.LpiTables.{LpiTables}
 use Rattle.its_plain.specs.declared.desc.LpiTables.TheVariants.{Described, Registers}
@@ -28,11 +28,13 @@ has_bytes most bytes = nat_lt 0 (length bytes) && nat_le (length bytes) most && 
 abbrev pub is_access_size : ℕ → Bool
 is_access_size size = size == 4 || size == 8
 
--- a call of a machine with so many processors and one translator
+-- a call of a machine with so many processors and one translator, no second memory and no requesters
 abbrev pub is_call : ℕ → Call → Bool
 is_call vcpus (call.Signal its dev ev) = its == 0
 is_call vcpus (call.Take vcpu) = nat_lt vcpu.0 vcpus
 is_call vcpus (call.Show vcpu) = nat_lt vcpu.0 vcpus
+is_call vcpus (call.Best vcpu mask) = nat_lt vcpu.0 vcpus
+is_call vcpus (call.Claim vcpu intid) = nat_lt vcpu.0 vcpus
 is_call vcpus (call.Poke addr bytes) = has_bytes 64 bytes
 is_call vcpus (call.Peek addr count) = nat_le 1 count && nat_le count 64
 is_call vcpus (call.ReadReg its off size) = its == 0 && is_access_size size
@@ -41,6 +43,8 @@ is_call vcpus (call.ReadGicr vcpu off size) = nat_lt vcpu.0 vcpus && is_access_s
 is_call vcpus (call.WriteGicr vcpu off size value) = nat_lt vcpu.0 vcpus && is_access_size size && nat_lt value (2 ^ (8 * size))
 is_call vcpus (call.Step its) = its == 0
 is_call vcpus call.Save = true
+is_call vcpus call.Copy = false
+is_call vcpus (call.Dma req addr bytes route) = false
 
 abbrev pub is_thread : ℕ → List Call → Bool
 is_thread vcpus calls = nat_le (length calls) MOST_CALLS && list_all (is_call vcpus) calls
@@ -66,6 +70,7 @@ HasRegisters (Registers values) = length values.registers ≡ 16
 
 pub record IsWithinLimits (s : Script) : Type 0 where
   pub description : IsDescription s.desc
+  pub single : IsSingle s.desc
   pub shards : is_shard_count s.desc.shards ≡ true
   pub limits : are_limits s.desc.limits ≡ true
   pub some_windows : 0 < length s.desc.windows

@@ -1,12 +1,13 @@
 -- Scripts: what the bytes of one say, or its first faulty line with that line's first kind.
-use Rattle.std.specs.Prelude.{◌≡◌, ℕ, ◌+◌, ◌-◌, ◌^◌, Bool, ◌&&◌, ◌||◌, ◌==◌, if◌then◌else◌, List, [], ◌∷◌, length, slice_index, filter_map, codes, Result, Ok}
-use Rattle.std.specs.Prelude.{Err}
+use Rattle.std.specs.Prelude.{◌≡◌, ℕ, ◌+◌, ◌-◌, ◌^◌, Bool, false, ◌&&◌, ◌||◌, ◌==◌, if◌then◌else◌, List, [], ◌∷◌, length, slice_index, filter_map, codes, Result, Ok}
+use Rattle.std.specs.Prelude.{Err, None}
 use Rattle.std.specs.Str.{bytes_eq}
 use Rattle.std.specs.Option.{ok_or, unwrap_or}
 use Rattle.its_types.specs.declared.machine.Limits.{Limits}
 use Rattle.its_types.specs.declared.machine.Profile.TheVariants.{One}
 use Rattle.its_types.specs.declared.machine.Shape.{Shape}
 use Rattle.its_plain.specs.declared.desc.Desc.{Desc}
+use Rattle.its_plain.specs.declared.desc.Its.{Its}
 use Rattle.its_plain.specs.declared.desc.LpiTables.{LpiTables}
 use Rattle.its_plain.specs.declared.desc.LpiTables.TheVariants.{Described, Registers}
 use Rattle.event_script.specs.Text.{parts, fields, is_text}
@@ -57,6 +58,7 @@ shape_of d = record {
   dev_bits = (unwrap_or d.ids default_ids).dev;
   lpi_bits = (unwrap_or d.ids default_ids).lpi;
   profile = unwrap_or d.profile One;
+  linux = d.linux;
 }
 
 -- the tables that the description has, where all of them are there
@@ -69,6 +71,14 @@ described_tables d = do
 abbrev pub tables_of : Draft → Result LpiTables Kind
 tables_of d = if d.gicr then Ok (Registers d.registers) else described_tables d
 
+-- one translator, no device of which writes by address
+abbrev pub translators_of : Draft → List Its
+translators_of d = record { restore = d.restore; frames = None } ∷ []
+
+-- how many bytes the windows may have together
+abbrev pub memory_limit : ℕ
+memory_limit = 67108864
+
 -- the description, where all of it is there
 unfoldable pub desc_of : Draft → Result Desc Kind
 desc_of d = do
@@ -79,9 +89,12 @@ desc_of d = do
     shards = shards;
     limits = unwrap_or d.limits default_limits;
     windows = d.windows;
+    memory_limit = memory_limit;
     tables = tables;
     fills = d.fills;
-    restore = d.restore;
+    translators = translators_of d;
+    requesters = [];
+    track = false;
   })
 
 -- the script of a draft that ended

@@ -23,10 +23,11 @@ outline_keyword_of word =
     else (if bytes_eq word (codes "restore") then Ok on.Restore
     else (if bytes_eq word (codes "gicr") then Ok on.Gicr
     else (if bytes_eq word (codes "rrestore") then Ok on.Rrestore
+    else (if bytes_eq word (codes "linux") then Ok on.Linux
     else (if bytes_eq word (codes "migrate") then Ok on.Migrate
     else (if bytes_eq word (codes "end") then Ok on.End
     else (if bytes_eq word (codes "trace") then Ok on.Trace
-    else Err kind.Word))))))))))))))))
+    else Err kind.Word)))))))))))))))))
 
 -- those and the words of calls
 unfoldable pub keyword_of : List ℕ → Result Keyword Kind
@@ -44,4 +45,6 @@ keyword_of word =
     else (if bytes_eq word (codes "save") then Ok on.Save
     else (if bytes_eq word (codes "rread") then Ok on.Rread
     else (if bytes_eq word (codes "rwrite") then Ok on.Rwrite
-    else outline_keyword_of word))))))))))))
+    else (if bytes_eq word (codes "best") then Ok on.Best
+    else (if bytes_eq word (codes "claim") then Ok on.Claim
+    else outline_keyword_of word))))))))))))))

@@ -4,8 +4,8 @@ ghost use Rattle.event_script.specs.Outcome.{Gives};
 ghost use Rattle.event_script.specs.Body as spec;
 
 use crate::calls::{
-    command_call_of, peek_of, poke_of, read_of, rread_of, rwrite_of, save_of, show_of, signal_of,
-    step_of, take_of, word_of, write_of,
+    best_of, claim_of, command_call_of, peek_of, poke_of, read_of, rread_of, rwrite_of, save_of,
+    show_of, signal_of, step_of, take_of, word_of, write_of,
 };
 use crate::draft::{Draft, MOST_CALLS, MOST_LEGS, MOST_PHASES, MOST_THREADS, Stage};
 use crate::fault::{Kind, LineError, ensure};
@@ -192,6 +192,7 @@ impl Draft {
             Keyword::Restore => self.restore_line(fields),
             Keyword::Gicr => self.gicr_line(fields),
             Keyword::Rrestore => self.rrestore_line(fields),
+            Keyword::Linux => self.linux_line(fields),
             Keyword::Phase => self.phase_line(alloc, fields),
             Keyword::Thread => self.thread_line(alloc, fields),
             Keyword::Migrate => self.migrate_line(alloc, fields),
@@ -199,6 +200,8 @@ impl Draft {
             Keyword::Signal => self.call_line(signal_of(fields)),
             Keyword::Take => self.call_line(take_of(vcpus, fields)),
             Keyword::Show => self.call_line(show_of(vcpus, fields)),
+            Keyword::Best => self.call_line(best_of(vcpus, fields)),
+            Keyword::Claim => self.call_line(claim_of(vcpus, fields)),
             Keyword::Poke => self.call_line(poke_of(fields)),
             Keyword::Peek => self.call_line(peek_of(fields)),
             Keyword::Command => self.call_line(command_call_of(fields)),

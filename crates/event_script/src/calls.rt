@@ -4,7 +4,9 @@ ghost use Rattle.event_script.specs.Calls as spec;
 
 use crate::commands::{command_fields, command_of};
 use crate::fault::{Kind, ensure};
-use crate::fields::{address, any_number, arg, device, event, few_bytes, number_within, processor};
+use crate::fields::{
+    address, any_number, arg, device, event, few_bytes, interrupt, number_within, processor,
+};
 use crate::words::command_word_of;
 use its_command::encode;
 use its_plain::{Bytes64, Call};
@@ -38,6 +40,31 @@ pub fn show_of(vcpus: u8, fields: &[&[u8]]) -> Result<Call, Kind>
 {
     ensure(fields.len() == 2, Kind::Fields)?;
     Ok(Call::Show(processor(vcpus, arg(fields, 1))?))
+}
+
+/// `best VCPU MASK`, a mask below 256.
+#[tactic(auto, unfolding(crate::specs::Calls::best_of))]
+pub fn best_of(vcpus: u8, fields: &[&[u8]]) -> Result<Call, Kind>
+    ensures { result ≡ spec.best_of vcpus (map (λ f. f.now) fields.now) }
+{
+    ensure(fields.len() == 3, Kind::Fields)?;
+    let vcpu = processor(vcpus, arg(fields, 1))?;
+    let mask = number_within(0, u64::from(u8::MAX), arg(fields, 2))?;
+    Ok(Call::Best {
+        vcpu,
+        mask: mask as u8,
+    })
+}
+
+/// `claim VCPU INTID`
+#[tactic(auto, unfolding(crate::specs::Calls::claim_of))]
+pub fn claim_of(vcpus: u8, fields: &[&[u8]]) -> Result<Call, Kind>
+    ensures { result ≡ spec.claim_of vcpus (map (λ f. f.now) fields.now) }
+{
+    ensure(fields.len() == 3, Kind::Fields)?;
+    let vcpu = processor(vcpus, arg(fields, 1))?;
+    let intid = interrupt(arg(fields, 2))?;
+    Ok(Call::Claim { vcpu, intid })
 }
 
 /// `poke ADDRESS BYTES`, of 1 to 64 bytes.

@@ -165,6 +165,18 @@ impl Draft {
         Ok(())
     }
 
+    /// `linux`: the machine has what a Linux guest counts on; at most once.
+    #[tactic(auto, unfolding(crate::specs::Description::linux_line))]
+    pub fn linux_line(&mut self, fields: &[&[u8]]) -> Result<(), LineError>
+        ensures { Gives (λ _. self.new) result
+            (spec.linux_line self.old (map (λ f. f.now) fields.now)) }
+    {
+        ensure(self.describes() && !self.linux, Kind::Order)?;
+        ensure(fields.len() == 1, Kind::Fields)?;
+        self.linux = true;
+        Ok(())
+    }
+
     /// `restore CTLR CBASER CREADR CWRITER BASER0 BASER1`, at most once.
     #[tactic(auto, unfolding(crate::specs::Description::restore_line))]
     pub fn restore_line(&mut self, fields: &[&[u8]]) -> Result<(), LineError>

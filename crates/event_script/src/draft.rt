@@ -53,7 +53,9 @@ pub struct Draft {
     pub pending: PendingTables,
     /// Whether the guest programs the LPI registers of the redistributors.
     pub gicr: bool,
-    /// What they are restored with.
+    /// Whether the machine has what a Linux guest counts on.
+    pub linux: bool,
+    /// What the redistributors are restored with.
     pub registers: GicrValues,
     /// Whether a line gave those of each virtual processor.
     pub given: [bool; 16],

@@ -15,7 +15,7 @@ use crate::script::{CheckInput, Script};
 use crate::text;
 use crate::words::keyword_of;
 use gicr_regs::{GicrRegisters, GicrValues};
-use its_plain::{Desc, LpiTables};
+use its_plain::{Desc, Its, LpiTables};
 use its_types::{Limits, Listed, Profile, Shape};
 use std::alloc::{AllocError, Global};
 
@@ -24,6 +24,9 @@ const DEFAULT_LIMITS: Limits = Limits {
     stamp_last: 16_777_215,
     place_last: 1_099_511_627_775,
 };
+
+/// How many bytes the windows of a script may have together.
+const MEMORY_LIMIT: u64 = 67_108_864;
 
 /// The numbers of bits where no line gives others.
 const DEFAULT_IDS: IdBits = IdBits { dev: 16, lpi: 16 };
@@ -170,15 +173,19 @@ fn script_from(alloc: Global, draft: Draft) -> Result<Script, LineError>
     ensure(draft.is_ended(), Kind::Missing)?;
     let shards = draft.shards.ok_or(Kind::Missing)?;
     let tables = draft.tables(alloc)?;
+    let translators = draft.translators(alloc)?;
     let shape = draft.shape();
     let desc = Desc {
         shape,
         shards,
         limits: draft.limits.unwrap_or(DEFAULT_LIMITS),
         windows: draft.windows,
+        memory_limit: MEMORY_LIMIT,
         tables,
         fills: draft.fills,
-        restore: draft.restore,
+        translators,
+        requesters: Listed::new(alloc),
+        track: false,
     };
     Ok(Script {
         desc,
@@ -201,6 +208,7 @@ impl Draft {
             config: None,
             pending: PendingTables::none(alloc),
             gicr: false,
+            linux: false,
             registers: GicrValues {
                 registers: [NO_REGISTERS; 16],
             },
@@ -230,6 +238,7 @@ impl Draft {
             dev_bits: ids.dev,
             lpi_bits: ids.lpi,
             profile: self.profile.unwrap_or(Profile::One),
+            linux: self.linux,
         }
     }
 
@@ -251,6 +260,18 @@ impl Draft {
         } else {
             self.described_tables(alloc)
         }
+    }
+
+    /// The one translator, no device of which writes by address.
+    fn translators(&self, alloc: Global) -> Result<Listed<Its>, AllocError>
+        ensures { IfOk result (λ translators. translators ≡ spec.translators_of self.now) }
+    {
+        let mut translators = Listed::new(alloc);
+        translators.push(Its {
+            restore: self.restore,
+            frames: None,
+        })?;
+        Ok(translators)
     }
 
     /// Whether it is a line `trace` after the script. The list is for its fields.

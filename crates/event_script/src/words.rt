@@ -21,6 +21,7 @@ pub enum Keyword {
     Restore,
     Gicr,
     Rrestore,
+    Linux,
     Phase,
     Thread,
     Migrate,
@@ -28,6 +29,8 @@ pub enum Keyword {
     Signal,
     Take,
     Show,
+    Best,
+    Claim,
     Poke,
     Peek,
     Command,
@@ -90,6 +93,10 @@ pub fn keyword_of(word: &[u8]) -> Result<Keyword, Kind>
         Ok(Keyword::Rread)
     } else if word == b"rwrite".as_slice() {
         Ok(Keyword::Rwrite)
+    } else if word == b"best".as_slice() {
+        Ok(Keyword::Best)
+    } else if word == b"claim".as_slice() {
+        Ok(Keyword::Claim)
     } else {
         outline_keyword_of(word)
     }
@@ -128,6 +135,8 @@ fn outline_keyword_of(word: &[u8]) -> Result<Keyword, Kind>
         Ok(Keyword::Gicr)
     } else if word == b"rrestore".as_slice() {
         Ok(Keyword::Rrestore)
+    } else if word == b"linux".as_slice() {
+        Ok(Keyword::Linux)
     } else if word == b"migrate".as_slice() {
         Ok(Keyword::Migrate)
     } else if word == b"end".as_slice() {
