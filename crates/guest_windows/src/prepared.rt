@@ -1,0 +1,180 @@
+//! Writes that take no memory, since the pages that they may need were held before.
+ghost use Rattle.std.specs.Prelude.{◌≡◌, ◌≤◌, ◌^◌, ◌+◌, true, IfOk, OnOk, MatchOption, Ok, Err, length};
+ghost use Rattle.guest_windows.specs.Pages.{IsZeroPage};
+ghost use Rattle.guest_windows.specs.Windows.{write_at};
+
+use crate::errors::Outside;
+use crate::frame::Frame;
+use crate::memory::{Memory, place};
+use crate::page::Page;
+use its_types::Addr;
+use std::alloc::{AllocError, Global};
+use std::marker::Model;
+use std::mem::replace;
+
+/// Two pages of zeros, for a write of at most 65,536 bytes. Some may be missing: it is seen as
+/// whether none is.
+#[derive(Drop)]
+pub struct Spare {
+    first: Option<Page>,
+    last: Option<Page>,
+}
+
+impl Model for Spare {
+    ghost use Rattle.std.specs.Prelude.{Bool, ◌&&◌, is_some, IfSome};
+    ghost use Rattle.guest_windows.specs.Pages.{IsZeroPage};
+
+    ghost Value = { Bool };
+
+    ghost view = { λ s. is_some s.first && is_some s.last };
+
+    ghost invariant = { λ s. IfSome s.first (λ p. IsZeroPage p.bytes.items)
+        × IfSome s.last (λ p. IsZeroPage p.bytes.items) };
+}
+
+impl Spare {
+    ghost use Rattle.std.specs.Prelude.{◌≡◌, true, false, OnOk};
+
+    /// Both are missing. Takes no memory.
+    pub fn new() -> Spare
+        ensures { result ≡ false }
+    {
+        Spare {
+            first: None,
+            last: None,
+        }
+    }
+
+    // Holds those that are missing.
+    fn fill(&mut self, alloc: Global) -> Result<(), AllocError>
+        ensures { OnOk result (self.new ≡ true) }
+    {
+        if self.first.is_none() {
+            self.first = Some(zero_page(alloc)?);
+        }
+        if self.last.is_none() {
+            self.last = Some(zero_page(alloc)?);
+        }
+        Ok(())
+    }
+}
+
+fn zero_page(alloc: Global) -> Result<Page, AllocError>
+    ensures { IfOk result (λ p. IsZeroPage p.bytes.items) }
+{
+    let mut page = Page::none(alloc);
+    page.hold(alloc)?;
+    Ok(page)
+}
+
+impl Frame {
+    ghost use Rattle.std.specs.Prelude.{◌≡◌, ◌+◌, ◌-◌, ◌/◌, ◌<◌, ◌≤◌, ◌^◌, ℕ, true, length, IfSome};
+    ghost use Rattle.std.specs.Vec.{vec_len};
+    ghost use Rattle.guest_windows.specs.Windows.{has, put};
+    ghost use Rattle.guest_windows.specs.Fields.{window};
+    ghost use Rattle.guest_windows.specs.Pages.{rows, row_at, AreHeld, StillHeld, SameBytes};
+    ghost use Rattle.guest_windows.specs.Pages.{IsZeroPage};
+
+    // Writes the bytes at an address. Answers what is left of the spare pages.
+    fn store_with(&mut self, spare: Spare, addr: Addr, bytes: &[u8]) -> Spare
+        requires has { has (window self.old) addr.0 (length bytes.now) ≡ true }
+        requires few { length bytes.now ≤ 65536 }
+        requires spare { spare ≡ true }
+        ensures written { window self.new ≡ put (window self.old) addr.0 bytes.now }
+        ensures low { addr.0 + length bytes.now ≤ 2 ^ 52 }
+    {
+        let left = self.hold_with(spare, addr, bytes.len() as u64);
+        self.write(addr, bytes);
+        left
+    }
+
+    // Holds the pages of a stretch, spare ones where they weren't held. Answers what is left.
+    fn hold_with(&mut self, spare: Spare, addr: Addr, len: u64) -> Spare
+        requires has { has (window self.old) addr.0 len ≡ true }
+        requires few { len ≤ 65536 }
+        requires spare { spare ≡ true }
+        ensures same { window self.new ≡ window self.old }
+        ensures held { AreHeld (rows self.new.pages.items) (addr.0 - self.new.base) len }
+    {
+        if len == 0 {
+            return spare;
+        }
+        let Spare { first, last } = spare;
+        let Some(first) = first else { unreachable!() };
+        let Some(last) = last else { unreachable!() };
+        let start = addr.0 - self.base;
+        let first = self.hold_page_with((start / 65_536) as usize, first);
+        let last = self.hold_page_with(((start + (len - 1)) / 65_536) as usize, last);
+        Spare { first, last }
+    }
+
+    // Holds a page: this one, if it isn't held. Answers it otherwise.
+    fn hold_page_with(&mut self, page: usize, fresh: Page) -> Option<Page>
+        requires inside { page < vec_len self.old.pages }
+        requires zero { IsZeroPage fresh.bytes.items }
+        ensures left { IfSome result (λ p. IsZeroPage p.bytes.items) }
+        ensures same { SameBytes (rows self.old.pages.items) (rows self.new.pages.items) }
+        ensures still { StillHeld (rows self.old.pages.items) (rows self.new.pages.items) }
+        ensures held { (i : ℕ) → i / 65536 ≡ page
+            → length (row_at (rows self.new.pages.items) i) ≡ 65536 }
+        ensures base { self.new.base ≡ self.old.base }
+        ensures len { self.new.len ≡ self.old.len }
+        ensures count { vec_len self.new.pages ≡ vec_len self.old.pages }
+    {
+        self.pages[page].hold_with(fresh)
+    }
+}
+
+impl Page {
+    ghost use Rattle.std.specs.Prelude.{◌≡◌, ℕ, length, slice_index, IfSome};
+    ghost use Rattle.guest_windows.specs.Pages.{IsZeroPage};
+
+    // Holds it: as this one, if it isn't held. Answers it otherwise.
+    fn hold_with(&mut self, fresh: Page) -> Option<Page>
+        requires { IsZeroPage fresh.bytes.items }
+        ensures left { IfSome result (λ p. IsZeroPage p.bytes.items) }
+        ensures held { length self.new.bytes.items ≡ 65536 }
+        ensures same { (k : ℕ) → slice_index self.new.bytes.items k
+            ≡ slice_index self.old.bytes.items k }
+    {
+        if !self.bytes.is_empty() {
+            return Some(fresh);
+        }
+        *self = fresh;
+        None
+    }
+}
+
+impl Memory {
+    ghost use Rattle.std.specs.Prelude.{◌≡◌, ◌≤◌, ◌^◌, ◌+◌, true, OnOk, MatchOption, Ok, Err, length};
+    ghost use Rattle.guest_windows.specs.Windows.{write_at};
+
+    /// Holds the pages that a write may need.
+    pub fn prepare(&self, spare: &mut Spare) -> Result<(), AllocError>
+        ensures { OnOk result (spare.new ≡ true) }
+    {
+        spare.fill(self.alloc)
+    }
+
+    /// Writes all the bytes, or none. Takes no memory but the spare pages.
+    pub fn write_prepared(
+        &mut self,
+        spare: &mut Spare,
+        addr: Addr,
+        bytes: &[u8],
+    ) -> Result<(), Outside>
+        requires few { length bytes.now ≤ 65536 }
+        requires spare { spare.old ≡ true }
+        ensures written { MatchOption (write_at self.old addr.0 bytes.now)
+            ((result ≡ Err (record { 0 = addr })) × (self.new ≡ self.old))
+            (λ memory. (result ≡ Ok tt) × (self.new ≡ memory)) }
+        ensures low { OnOk result (addr.0 + length bytes.now ≤ 2 ^ 52) }
+    {
+        let Some(at) = place(&self.frames, addr, bytes.len() as u64) else {
+            return Err(Outside(addr));
+        };
+        let pages = replace(spare, Spare::new());
+        *spare = self.frames[at].store_with(pages, addr, bytes);
+        Ok(())
+    }
+}
