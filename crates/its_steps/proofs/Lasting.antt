@@ -1,30 +1,29 @@
 -- What each command leaves of where messages go.
-use Rattle.std.proofs.Common.{◌≡◌, ℕ, Bool, true, false, ◌&&◌, nat_lt, nat_le, eqb, ◌^◌, List, [], ◌∷◌, Option, Some, None, is_some}
+use Rattle.std.proofs.Common.{◌≡◌, ℕ, Bool, true, false, ◌&&◌, nat_lt, nat_le, eqb, ◌^◌, List, [], ◌∷◌, is_some}
 use Rattle.std.proofs.Common.{Result, Ok, Err, refl, ap, sym, ◌∙◌, subst, if◌then◌else◌, get_or-set_same, get_or-set_other}
 use Rattle.std.specs.Option.{ok_or}
-use Rattle.std.proofs.lemmas.Bool.{cond_both}
+use Rattle.std.proofs.lemmas.Bool.{and_parts, cond_both}
 use Rattle.gits_regs.specs.Registers.{collection_places, advanced}
 use Rattle.baser_place.specs.Places.{device_place}
 use Rattle.its_command.specs.declared.command.Command.{Command}
 use Rattle.its_command.specs.declared.command.Command.TheVariants as command
 use Rattle.its_types.specs.Ranges.{is_device_id, is_lpi}
-use Rattle.its_types.specs.Lpis.{is_pending, with_lpi, with_lpis, without_lpi}
+use Rattle.its_types.specs.Lpis.{with_lpi, with_lpis, without_lpi}
 use Rattle.its_types.specs.Maps.{Maps, device_of, event_of, collection_of, device_mapped, device_unmapped, event_mapped, event_unmapped, collection_mapped}
 use Rattle.its_types.specs.Maps.{collection_unmapped}
 use Rattle.its_types.specs.declared.ids.Target.{Target}
-use Rattle.its_types.specs.declared.ids.Vcpu.{Vcpu}
-use Rattle.its_types.specs.declared.machine.Profile.{Profile}
-use Rattle.its_types.specs.declared.machine.Profile.TheVariants.{One, Two}
 use Rattle.its_types.specs.declared.translation.Event.{Event}
 use Rattle.its_plain.specs.Plain.{Plain, Translator, translator, redistributor, no_translator, regs_of, maps_of, pending_of}
 use Rattle.its_plain.specs.Plain.{is_on, with_translator, with_maps, with_pending}
 use Rattle.its_plain.specs.Translation.{located}
-use Rattle.its_plain.specs.Commands.{◌>>=◌, ensure, lpi_set, lpi_cleared, lpi_moved, lpis_moved, all_moved, reread, event_at, target_at, intids_of, mapd}
-use Rattle.its_plain.specs.Commands.{unmapd, followed, followed_in, mapc, unmapc, mapti, movi, lpi_at, int, clear, cleared_at, discard, inv, invall, movall}
+use Rattle.its_plain.specs.Commands.{◌>>=◌, ensure, lpi_set, lpi_cleared, lpi_moved, all_moved, reread, event_at, target_at, intids_of, mapd}
+use Rattle.its_plain.specs.Commands.{unmapd, followed_in, mapc, unmapc, mapti, movi, lpi_at, int, clear, cleared_at, discard, inv, invall, movall}
 use Rattle.its_plain.specs.Commands.{ran}
 use Rattle.its_plain.specs.declared.call.Reason.{Reason}
 use Rattle.its_plain.specs.declared.call.Reason.TheVariants.{DeviceRange, SizeRange, TargetRange, CollectionRange, NoDevice, EventRange, IntidRange, LpisOff}
 use Rattle.plain_soundness.proofs.States.{enabled_within}
+use Rattle.plain_footprint.specs.Commands.{AreLpisKept}
+use Rattle.plain_footprint.proofs.Kept.{moved_kept, cleared_at_kept, followed_in_kept}
 use Rattle.its_steps.specs.Endings.{Ending, Nothing, Pair, All, ending_in, Ends, Lasts}
 use Rattle.its_steps.proofs.Leaving.{Leaves, all_left, leaves_if, one_redist}
 use Rattle.its_steps.proofs.Routes.{Route, route_of, located_by, with_device, without_device, with_other_event, with_event, without_event, with_collection}
@@ -38,32 +37,19 @@ leaves_then a b z p q = record { maps = λ i. p.maps i ∙ q.maps i }
 pending_left : (a : Plain) (v : ℕ) (xs : List ℕ) → Leaves a (with_pending a v xs)
 pending_left a v xs = one_redist a v (record (redistributor a v) { pending = xs })
 
-moved_left : (a : Plain) (x from to : ℕ) → Leaves a (lpi_moved x from to a)
-moved_left a x from to =
-    let b : Plain = lpi_cleared x from a in
-    leaves_if a (lpi_set x to b) a (is_pending x (pending_of a from))
-    (leaves_then a b (lpi_set x to b) (pending_left a from (without_lpi x (pending_of a from))) (pending_left b to (with_lpi x (pending_of b to))))
-    (all_left a)
-
-lpis_left : (xs : List ℕ) (from to : ℕ) (a : Plain) → Leaves a (lpis_moved xs from to a)
-lpis_left [] from to a = all_left a
-lpis_left (x ∷ xs) from to a = leaves_then a (lpi_moved x from to a) (lpis_moved xs from to (lpi_moved x from to a)) (moved_left a x from to)
-    (lpis_left xs from to (lpi_moved x from to a))
-
-all_moved_left : (from to : ℕ) (a : Plain) → Leaves a (all_moved from to a)
+-- what is done to pending sets and configurations
+lpis_leave : (a : Plain) → AreLpisKept (Leaves a)
 unfolding all_moved
-all_moved_left from to a =
-    let b : Plain = with_pending a from [] in
-    leaves_if a a (with_pending b to (with_lpis (pending_of a from) (pending_of a to))) (eqb from to) (all_left a)
-    (leaves_then a b (with_pending b to (with_lpis (pending_of a from) (pending_of a to))) (pending_left a from [])
-    (pending_left b to (with_lpis (pending_of a from) (pending_of a to))))
-
-cleared_left : (x : ℕ) (o : Option Vcpu) (a : Plain) → Leaves a (cleared_at x o a)
-cleared_left x None a = all_left a
-cleared_left x (Some v) a = pending_left a v.0 (without_lpi x (pending_of a v.0))
-
-reread_left : (intids : List ℕ) (a : Plain) → Leaves a (reread intids a)
-reread_left intids a = record { maps = λ i. refl }
+lpis_leave a = record {
+  set = λ b x v on k. leaves_then a b (lpi_set x v b) k (pending_left b v (with_lpi x (pending_of b v)));
+  cleared = λ b x v k. leaves_then a b (lpi_cleared x v b) k (pending_left b v (without_lpi x (pending_of b v)));
+  all_moved = λ b from to on k.
+      let once : Plain = with_pending b from [] in
+      let all : List ℕ = with_lpis (pending_of b from) (pending_of b to) in
+      leaves_if a b (with_pending once to all) (eqb from to) k
+      (leaves_then a b (with_pending once to all) k (leaves_then b once (with_pending once to all) (pending_left b from []) (pending_left once to all)));
+  reread = λ b intids k. leaves_then a b (reread intids b) k (record { maps = λ i. refl });
+}
 
 -- ---- what lasts
 
@@ -123,6 +109,11 @@ ok_then : {A : Type 0} (u : Plain) (i : ℕ) (e : Ending) (x : Result A Reason) 
 ok_then u i e (Ok a) f h = h a
 ok_then u i e (Err r) f h = tt
 
+passed_then : (u : Plain) (i : ℕ) (e : Ending) (test : Bool) (reason : Reason) (f : Unit {0} → Result Plain Reason) → (test ≡ true → LastsOk u i e (f tt))
+    → LastsOk u i e (ensure test reason >>= f)
+passed_then u i e true reason f h = h refl
+passed_then u i e false reason f h = tt
+
 module _ (u : Plain) (i : ℕ) where
   abbrev m : Maps
   m = maps_of u i
@@ -134,12 +125,12 @@ module _ (u : Plain) (i : ℕ) where
       ok_then u i e (event_at m dev ev) _ (λ event.
       ok_then u i e (target_at m event.icid.0) _ (λ from.
       ok_then u i e (target_at m icid) _ (λ to.
-      ok_then u i e (ensure (is_on u from.0 && is_on u to.0) LpisOff) _ (λ _.
+      passed_then u i e (is_on u from.0 && is_on u to.0) LpisOff _ (λ on.
       let x : Event = record event { icid = record { 0 = icid } } in
       let w : Plain = with_maps u i (event_mapped m dev ev x) in
       lasts_then u w (lpi_moved event.intid.0 from.0 to.0 w) i e
       (lasts_maps u u i e (event_mapped m dev ev x) (lasts_self u i e) (λ d v t n r. with_other_event (translator u i).regs.enabled m d v t r dev ev x n))
-      (moved_left w event.intid.0 from.0 to.0)))))
+      (moved_kept (Leaves w) (lpis_leave w) w event.intid.0 from.0 to.0 (and_parts (is_on u from.0) (is_on u to.0) on).1 (all_left w))))))
 
   discard_lasts : (dev ev : ℕ) → LastsOk u i (Pair dev ev) (discard u i dev ev)
   unfolding discard
@@ -149,7 +140,7 @@ module _ (u : Plain) (i : ℕ) where
       let w : Plain = with_maps u i (event_unmapped m dev ev) in
       lasts_then u w (cleared_at event.intid.0 (collection_of m event.icid.0) w) i e
       (lasts_maps u u i e (event_unmapped m dev ev) (lasts_self u i e) (λ d v t n r. without_event (translator u i).regs.enabled m d v t r dev ev n))
-      (cleared_left event.intid.0 (collection_of m event.icid.0) w))
+      (cleared_at_kept (Leaves w) (lpis_leave w) w event.intid.0 (collection_of m event.icid.0) (all_left w)))
 
   int_lasts : (dev ev : ℕ) → LastsOk u i Nothing (int u i dev ev)
   unfolding int
@@ -164,19 +155,19 @@ module _ (u : Plain) (i : ℕ) where
   inv_lasts : (dev ev : ℕ) → LastsOk u i Nothing (inv u i dev ev)
   unfolding inv
   inv_lasts dev ev = ok_then u i Nothing (event_at m dev ev) _ (λ event. lasts_then u u (reread (event.intid.0 ∷ []) u) i Nothing (lasts_self u i Nothing)
-      (reread_left (event.intid.0 ∷ []) u))
+      ((lpis_leave u).reread u (event.intid.0 ∷ []) (all_left u)))
 
   invall_lasts : (icid : ℕ) → LastsOk u i Nothing (invall u i icid)
   unfolding invall
   invall_lasts icid = ok_then u i Nothing (target_at m icid) _ (λ _. lasts_then u u (reread (intids_of m icid) u) i Nothing (lasts_self u i Nothing)
-      (reread_left (intids_of m icid) u))
+      ((lpis_leave u).reread u (intids_of m icid) (all_left u)))
 
   movall_lasts : (from to : ℕ) → LastsOk u i Nothing (movall u from to)
   unfolding movall
   movall_lasts from to =
       ok_then u i Nothing (ensure (nat_lt from u.layout.shape.vcpus && nat_lt to u.layout.shape.vcpus) TargetRange) _ (λ _.
-      ok_then u i Nothing (ensure (is_on u from && is_on u to) LpisOff) _ (λ _. lasts_then u u (all_moved from to u) i Nothing (lasts_self u i Nothing)
-      (all_moved_left from to u)))
+      passed_then u i Nothing (is_on u from && is_on u to) LpisOff _ (λ on. lasts_then u u (all_moved from to u) i Nothing (lasts_self u i Nothing)
+      ((lpis_leave u).all_moved u from to (and_parts (is_on u from) (is_on u to) on).1 (all_left u))))
 
   mapti_lasts : (dev ev intid icid : ℕ) → LastsOk u i Nothing (mapti u i dev ev intid icid)
   unfolding mapti
@@ -190,7 +181,7 @@ module _ (u : Plain) (i : ℕ) where
       cond_both (is_some (event_of m dev ev)) u (reread (intid ∷ []) w) (λ (z : Plain). Lasts u z i Nothing) (λ _. lasts_self u i Nothing)
       (λ none. lasts_then u w (reread (intid ∷ []) w) i Nothing
       (lasts_maps u u i Nothing (event_mapped m dev ev x) (lasts_self u i Nothing)
-      (λ d v t n r. with_event (translator u i).regs.enabled m d v t r dev ev x none)) (reread_left (intid ∷ []) w))))))
+      (λ d v t n r. with_event (translator u i).regs.enabled m d v t r dev ev x none)) ((lpis_leave w).reread w (intid ∷ []) (all_left w)))))))
 
   -- ---- devices and collections
 
@@ -214,15 +205,6 @@ module _ (u : Plain) (i : ℕ) where
       (λ d v t n r. unless_all (is_some (device_of m dev)) d v (Route (translator u i).regs.enabled (device_unmapped m dev) d v t)
       (λ none. without_device (translator u i).regs.enabled m d v t r dev none) n))
 
-  followed_left : (icid from to : ℕ) → Leaves u (followed u i icid from to)
-  followed_left icid from to = leaves_if u (lpis_moved (intids_of m icid) from to u) u (is_on u from && is_on u to) (lpis_left (intids_of m icid) from to u)
-      (all_left u)
-
-  followed_in_left : (p : Profile) (icid : ℕ) (before : Option Vcpu) (to : ℕ) → Leaves u (followed_in p u i icid before to)
-  followed_in_left One icid before to = all_left u
-  followed_in_left Two icid None to = all_left u
-  followed_in_left Two icid (Some from) to = leaves_if u u (followed u i icid from.0 to) (eqb from.0 to) (all_left u) (followed_left icid from.0 to)
-
   mapc_lasts : (icid target : ℕ) → LastsOk u i (if is_some (collection_of m icid) then All else Nothing) (mapc u i icid target)
   unfolding mapc
   mapc_lasts icid target =
@@ -230,7 +212,7 @@ module _ (u : Plain) (i : ℕ) where
       ok_then u i e (ensure (nat_lt target u.layout.shape.vcpus) TargetRange) _ (λ _.
       ok_then u i e (ensure (nat_lt icid (collection_places (regs_of u i))) CollectionRange) _ (λ _.
       let w : Plain = followed_in u.layout.shape.profile u i icid (collection_of m icid) target in
-      let k : Leaves u w = followed_in_left u.layout.shape.profile icid (collection_of m icid) target in
+      let k : Leaves u w = followed_in_kept (Leaves u) (lpis_leave u) u.layout.shape.profile u i icid (collection_of m icid) target (all_left u) in
       let same : maps_of w i ≡ m = ap (λ (t : Translator). t.maps) (sym (k.maps i)) in
       lasts_maps u w i e (collection_mapped (maps_of w i) icid (record { 0 = target })) (lasts_then u u w i e (lasts_self u i e) k)
       (λ d v t n r. unless_all (is_some (collection_of m icid)) d v

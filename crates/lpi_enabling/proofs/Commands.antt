@@ -9,11 +9,13 @@ use Rattle.lpi_enabling.proofs.Kept.{AllKeep, all_kept, all_kept_then, set_kept,
 
 parts_keep : (u : Plain) → IsKept (AllKeep u)
 parts_keep u = record {
+  lpis = record {
+    set = λ w intid vcpu on k. all_kept_then u w (lpi_set intid vcpu w) k (set_kept w intid vcpu on);
+    cleared = λ w intid vcpu k. all_kept_then u w (lpi_cleared intid vcpu w) k (cleared_kept w intid vcpu);
+    all_moved = λ w from to on k. all_kept_then u w (all_moved from to w) k (all_moved_kept w from to on);
+    reread = λ w intids k. all_kept_then u w (reread intids w) k (all_reread w intids);
+  };
   maps = λ w i m k. k;
-  set = λ w intid vcpu on k. all_kept_then u w (lpi_set intid vcpu w) k (set_kept w intid vcpu on);
-  cleared = λ w intid vcpu k. all_kept_then u w (lpi_cleared intid vcpu w) k (cleared_kept w intid vcpu);
-  all_moved = λ w from to on k. all_kept_then u w (all_moved from to w) k (all_moved_kept w from to on);
-  reread = λ w intids k. all_kept_then u w (reread intids w) k (all_reread w intids);
 }
 
 pub ran_kept : (u : Plain) (i : ℕ) (c : Command) → IfOk (ran u i c) (AllKeep u)

@@ -14,14 +14,13 @@ use Rattle.its_types.specs.declared.ids.Vcpu.{Vcpu}
 use Rattle.its_types.specs.declared.machine.Profile.{Profile}
 use Rattle.its_types.specs.declared.machine.Profile.TheVariants.{One, Two}
 use Rattle.its_types.specs.declared.translation.Event.{Event}
-use Rattle.its_command.specs.declared.command.Command.{Command}
 use Rattle.its_command.specs.declared.command.Command.TheVariants as command
-use Rattle.its_plain.specs.Plain.{Plain, Redistributor, redistributor, no_redistributor, pending_of, regs_of, maps_of, is_on, with_maps, with_pending}
+use Rattle.its_plain.specs.Plain.{Plain, Redistributor, no_redistributor, pending_of, regs_of, maps_of, is_on, with_maps, with_pending}
 use Rattle.its_plain.specs.Commands.{ensure, ◌>>=◌, event_at, target_at, lpi_at, cleared_at, followed, followed_in, intids_of, lpi_set, lpi_cleared}
 use Rattle.its_plain.specs.Commands.{lpi_moved, lpis_moved, reread, ran, mapd, unmapd, mapc, mapti, movi, discard, int, clear, inv, invall, movall}
 use Rattle.its_plain.specs.declared.call.Reason.{Reason}
 use Rattle.its_plain.specs.declared.call.Reason.TheVariants.{DeviceRange, SizeRange, TargetRange, CollectionRange, NoDevice, EventRange, IntidRange, LpisOff}
-use Rattle.plain_footprint.specs.Commands.{IsKept, CommandsKeep}
+use Rattle.plain_footprint.specs.Commands.{AreLpisKept, IsKept, CommandsKeep}
 
 -- ---- a command's steps
 
@@ -61,31 +60,38 @@ moved_on u intid from to k =
     cond_both (is_pending intid (pending_of u from)) (lpi_set intid to once) u (λ w. is_on w k ≡ is_on u k)
     (λ _. stays_on once to k (with_lpi intid (pending_of once to)) ∙ stays_on u from k (without_lpi intid (pending_of u from))) (λ _. refl)
 
--- ---- commands
+-- ---- what is pending
 
-module _ (P : Plain → Type 0) (keeps : IsKept P) where
-  moved_kept : (u : Plain) (intid from to : ℕ) → is_on u to ≡ true → P u → P (lpi_moved intid from to u)
+module _ (P : Plain → Type 0) (keeps : AreLpisKept P) where
+  pub moved_kept : (u : Plain) (intid from to : ℕ) → is_on u to ≡ true → P u → P (lpi_moved intid from to u)
   moved_kept u intid from to on h =
       let once : Plain = lpi_cleared intid from u in
       cond_both (is_pending intid (pending_of u from)) (lpi_set intid to once) u P
       (λ _. keeps.set once intid to (stays_on u from to (without_lpi intid (pending_of u from)) ∙ on) (keeps.cleared u intid from h)) (λ _. h)
 
-  all_lpis_kept : (u : Plain) (intids : List ℕ) (from to : ℕ) → is_on u to ≡ true → P u → P (lpis_moved intids from to u)
+  pub all_lpis_kept : (u : Plain) (intids : List ℕ) (from to : ℕ) → is_on u to ≡ true → P u → P (lpis_moved intids from to u)
   all_lpis_kept u [] from to on h = h
   all_lpis_kept u (intid ∷ intids) from to on h =
       all_lpis_kept (lpi_moved intid from to u) intids from to (moved_on u intid from to to ∙ on) (moved_kept u intid from to on h)
 
-  followed_kept : (u : Plain) (i icid from to : ℕ) → P u → P (followed u i icid from to)
+  pub followed_kept : (u : Plain) (i icid from to : ℕ) → P u → P (followed u i icid from to)
   followed_kept u i icid from to h =
       cond_both (is_on u from && is_on u to) (lpis_moved (intids_of (maps_of u i) icid) from to u) u P
       (λ on. all_lpis_kept u (intids_of (maps_of u i) icid) from to (and_parts (is_on u from) (is_on u to) on).1 h) (λ _. h)
 
-  followed_in_kept : (p : Profile) (u : Plain) (i icid : ℕ) (before : Option Vcpu) (to : ℕ) → P u → P (followed_in p u i icid before to)
+  pub followed_in_kept : (p : Profile) (u : Plain) (i icid : ℕ) (before : Option Vcpu) (to : ℕ) → P u → P (followed_in p u i icid before to)
   followed_in_kept One u i icid before to h = h
   followed_in_kept Two u i icid None to h = h
   followed_in_kept Two u i icid (Some from) to h =
       cond_both (eqb from.0 to) u (followed u i icid from.0 to) P (λ _. h) (λ _. followed_kept u i icid from.0 to h)
 
+  pub cleared_at_kept : (u : Plain) (intid : ℕ) (o : Option Vcpu) → P u → P (cleared_at intid o u)
+  cleared_at_kept u intid None h = h
+  cleared_at_kept u intid (Some vcpu) h = keeps.cleared u intid vcpu.0 h
+
+-- ---- commands
+
+module _ (P : Plain → Type 0) (keeps : IsKept P) where
   mapc_kept : (u : Plain) (i icid target : ℕ) → P u → IfOk (mapc u i icid target) P
   unfolding mapc
   mapc_kept u i icid target h =
@@ -93,7 +99,7 @@ module _ (P : Plain → Type 0) (keeps : IsKept P) where
       after_ok P (ensure (nat_lt target u.layout.shape.vcpus) TargetRange) _ (λ _.
       after_ok P (ensure (nat_lt icid (collection_places (regs_of u i))) CollectionRange) _ (λ _.
       keeps.maps w i (collection_mapped (maps_of w i) icid (record { 0 = target }))
-      (followed_in_kept u.layout.shape.profile u i icid (collection_of (maps_of u i) icid) target h)))
+      (followed_in_kept P keeps.lpis u.layout.shape.profile u i icid (collection_of (maps_of u i) icid) target h)))
 
   mapd_kept : (u : Plain) (i dev bits itt : ℕ) → P u → IfOk (mapd u i dev bits itt) P
   unfolding mapd
@@ -117,7 +123,7 @@ module _ (P : Plain → Type 0) (keeps : IsKept P) where
       after_ok P (ensure (is_lpi u.layout.shape.lpi_bits intid) IntidRange) _ (λ _.
       after_ok P (ensure (nat_lt icid (collection_places (regs_of u i))) CollectionRange) _ (λ _.
       cond_both (is_some (event_of (maps_of u i) dev ev)) u (reread (intid ∷ []) mapped) P (λ _. h)
-      (λ _. keeps.reread mapped (intid ∷ []) (keeps.maps u i (event_mapped (maps_of u i) dev ev event) h))))))
+      (λ _. keeps.lpis.reread mapped (intid ∷ []) (keeps.maps u i (event_mapped (maps_of u i) dev ev event) h))))))
 
   movi_kept : (u : Plain) (i dev ev icid : ℕ) → P u → IfOk (movi u i dev ev icid) P
   unfolding movi
@@ -127,7 +133,7 @@ module _ (P : Plain → Type 0) (keeps : IsKept P) where
       after_ok P (target_at (maps_of u i) icid) _ (λ to.
       passed P (is_on u from.0 && is_on u to.0) LpisOff _ (λ on.
       let m = event_mapped (maps_of u i) dev ev (record event { icid = record { 0 = icid } }) in
-      moved_kept (with_maps u i m) event.intid.0 from.0 to.0 (and_parts (is_on u from.0) (is_on u to.0) on).1 (keeps.maps u i m h)))))
+      moved_kept P keeps.lpis (with_maps u i m) event.intid.0 from.0 to.0 (and_parts (is_on u from.0) (is_on u to.0) on).1 (keeps.maps u i m h)))))
 
   lpi_at_on : (u : Plain) (i dev ev : ℕ) → IfOk (lpi_at u i dev ev) (λ lpi. is_on u lpi.1.0 ≡ true)
   unfolding lpi_at
@@ -139,36 +145,32 @@ module _ (P : Plain → Type 0) (keeps : IsKept P) where
 
   int_kept : (u : Plain) (i dev ev : ℕ) → P u → IfOk (int u i dev ev) P
   unfolding int
-  int_kept u i dev ev h = with_ok (λ lpi. is_on u lpi.1.0 ≡ true) P (lpi_at u i dev ev) _ (lpi_at_on u i dev ev) (λ lpi on. keeps.set u lpi.0.0 lpi.1.0 on h)
+  int_kept u i dev ev h = with_ok (λ lpi. is_on u lpi.1.0 ≡ true) P (lpi_at u i dev ev) _ (lpi_at_on u i dev ev) (λ lpi on. keeps.lpis.set u lpi.0.0 lpi.1.0 on h)
 
   clear_kept : (u : Plain) (i dev ev : ℕ) → P u → IfOk (clear u i dev ev) P
   unfolding clear
-  clear_kept u i dev ev h = after_ok P (lpi_at u i dev ev) _ (λ lpi. keeps.cleared u lpi.0.0 lpi.1.0 h)
-
-  cleared_at_kept : (u : Plain) (intid : ℕ) (o : Option Vcpu) → P u → P (cleared_at intid o u)
-  cleared_at_kept u intid None h = h
-  cleared_at_kept u intid (Some vcpu) h = keeps.cleared u intid vcpu.0 h
+  clear_kept u i dev ev h = after_ok P (lpi_at u i dev ev) _ (λ lpi. keeps.lpis.cleared u lpi.0.0 lpi.1.0 h)
 
   discard_kept : (u : Plain) (i dev ev : ℕ) → P u → IfOk (discard u i dev ev) P
   unfolding discard
   discard_kept u i dev ev h =
       after_ok P (event_at (maps_of u i) dev ev) _ (λ event.
-      cleared_at_kept (with_maps u i (event_unmapped (maps_of u i) dev ev)) event.intid.0 (collection_of (maps_of u i) event.icid.0)
+      cleared_at_kept P keeps.lpis (with_maps u i (event_unmapped (maps_of u i) dev ev)) event.intid.0 (collection_of (maps_of u i) event.icid.0)
       (keeps.maps u i (event_unmapped (maps_of u i) dev ev) h))
 
   inv_kept : (u : Plain) (i dev ev : ℕ) → P u → IfOk (inv u i dev ev) P
   unfolding inv
-  inv_kept u i dev ev h = after_ok P (event_at (maps_of u i) dev ev) _ (λ event. keeps.reread u (event.intid.0 ∷ []) h)
+  inv_kept u i dev ev h = after_ok P (event_at (maps_of u i) dev ev) _ (λ event. keeps.lpis.reread u (event.intid.0 ∷ []) h)
 
   invall_kept : (u : Plain) (i icid : ℕ) → P u → IfOk (invall u i icid) P
   unfolding invall
-  invall_kept u i icid h = after_ok P (target_at (maps_of u i) icid) _ (λ _. keeps.reread u (intids_of (maps_of u i) icid) h)
+  invall_kept u i icid h = after_ok P (target_at (maps_of u i) icid) _ (λ _. keeps.lpis.reread u (intids_of (maps_of u i) icid) h)
 
   movall_kept : (u : Plain) (from to : ℕ) → P u → IfOk (movall u from to) P
   unfolding movall
   movall_kept u from to h =
       after_ok P (ensure (nat_lt from u.layout.shape.vcpus && nat_lt to u.layout.shape.vcpus) TargetRange) _ (λ _.
-      passed P (is_on u from && is_on u to) LpisOff _ (λ on. keeps.all_moved u from to (and_parts (is_on u from) (is_on u to) on).1 h))
+      passed P (is_on u from && is_on u to) LpisOff _ (λ on. keeps.lpis.all_moved u from to (and_parts (is_on u from) (is_on u to) on).1 h))
 
   -- whichever a test takes
   either : (test : Bool) (x y : Result Plain Reason) → IfOk x P → IfOk y P → IfOk (if test then x else y) P
