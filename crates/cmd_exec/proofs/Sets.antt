@@ -1,9 +1,9 @@
 -- The redistributors that a command reads or changes, as a set.
-use Rattle.std.proofs.Common.{◌≡◌, ◌≢◌, ◌↔◌, ℕ, zero, suc, ◌+◌, ◌-◌, ◌<◌, Bool, true, false, not, ◌&&◌, ◌||◌, cond, eqb, nat_lt, List, [], ◌∷◌, ◌++◌, Option}
-use Rattle.std.proofs.Common.{Some, None, inl, inr, refl, sym, ap, subst, ◌∙◌, arith}
+use Rattle.std.proofs.Common.{◌≡◌, ◌↔◌, ℕ, zero, suc, Bool, true, false, not, ◌&&◌, ◌||◌, cond, eqb, nat_lt, List, [], ◌∷◌, ◌++◌, Option}
+use Rattle.std.proofs.Common.{Some, None, inl, inr, refl, sym, ap, subst, ◌∙◌}
 use Rattle.std.specs.Prelude.{slice_get}
 use Rattle.std.specs.List.{AllByRecursion}
-use Rattle.std.proofs.lemmas.Bool.{cases_lt, cases_eq, eq-eqb, ne_eqb, lt-ltb, le-ltb, eqb-true, or_left, or_right, or_from, or_cases, cond_both}
+use Rattle.std.proofs.lemmas.Bool.{eq-eqb, eqb-true, or_left, or_right, or_cases, cond_both}
 use Rattle.std.proofs.lemmas.Option.{same_Some}
 use Rattle.its_command.specs.declared.command.Command.{Command}
 use Rattle.its_command.specs.declared.command.Command.TheVariants as command
@@ -16,7 +16,6 @@ use Rattle.its_types.specs.declared.machine.Profile.TheVariants.{One, Two}
 use Rattle.its_types.specs.declared.machine.Shape.{Shape}
 use Rattle.its_plain.specs.Plain.{Plain, maps_of}
 use Rattle.its_plain.specs.Parts.{redist, redist_of, target_of_event, moved_targets, redists_below, needed, IsIn}
-use Rattle.its_types.specs.Bits.{bit_of}
 use Rattle.cmd_exec.specs.Needs.{bare, is_redist, has_redist, is_needed, is_either, is_moved, needs_vcpu, IsPartOf}
 use Rattle.cmd_exec.specs.Needs.{ArePartsOfStep}
 use Rattle.owned_parts.specs.RedistSets.{is_in, is_target}

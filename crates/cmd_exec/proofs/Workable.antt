@@ -44,8 +44,7 @@ stretch_is_low (w ∷ ws) a n range inner =
 ranges : (ws : List Window) → are_windows (map extent ws) ≡ true → list_all in_range (map extent ws) ≡ true
 ranges ws e =
     let p = and_parts _ _ e in
-    let q = and_parts _ _ p.0 in
-    (and_parts _ _ q.0).1
+    (and_parts _ _ p.0).1
 
 -- ---- parts
 
