@@ -1,6 +1,7 @@
 -- The steps of the walks: what a place has goes into the maps, and the rest of the walk is as it was.
 use Rattle.std.proofs.Common.{◌≡◌, ℕ, ◌+◌, true, false, cond, List, Option, Some, None, Ok, Err, refl, sym, subst, ap, ◌∙◌}
-use Rattle.std.specs.Prelude.{IsSome}
+use Rattle.std.proofs.Common.{add-one, is_some}
+use Rattle.std.specs.Prelude.{IsSome, ◌||◌}
 use Rattle.std.specs.Option.{option_and_then, option_map}
 use Rattle.its_types.specs.Bits.{bit_of}
 use Rattle.guest_windows.specs.Windows.{Window, number_at}
@@ -8,21 +9,23 @@ use Rattle.gits_regs.specs.Registers.{Registers, collection_places}
 use Rattle.baser_place.specs.Places.{level1_address, page_address, level1_word, level1_of}
 use Rattle.baser_place.specs.declared.entry.Level1.{Level1}
 use Rattle.baser_place.specs.declared.entry.Level1.TheVariants as level1
-use Rattle.its_types.specs.Maps.{Maps}
+use Rattle.its_types.specs.Maps.{Maps, collection_of}
 use Rattle.its_types.specs.declared.ids.Icid.{Icid}
 use Rattle.its_types.specs.declared.ids.Vcpu.{Vcpu}
+use Rattle.its_types.specs.declared.machine.Shape.{Shape}
+use Rattle.table_entries.specs.Fields.{CollectionFields}
+use Rattle.table_entries.specs.Words.{unpacked_collection}
 use Rattle.its_types.specs.declared.translation.Event.{Event}
-use Rattle.its_plain.specs.Walks.{within}
 use Rattle.its_plain.specs.EventTables.{Itt, event_check, event_in}
-use Rattle.its_plain.specs.CollectionTables.{collection_entry, collection_leads, next_collection, collection_check}
+use Rattle.its_plain.specs.CollectionTables.{collection_address, collection_entry, collection_leads, next_collection, collection_check, is_of, stands_before}
 use Rattle.its_plain.specs.DeviceTables.{DevicePlace, at_level1, at_entry, following, word_leads, next_device}
 use Rattle.its_plain.specs.declared.fault.RestoreFault.{RestoreFault}
 use Rattle.standing_states.specs.Walked.{after_all, after}
-use Rattle.standing_states.specs.Found.{one_event, look_event, one_collection, look_collection, put_collection, IsPlace, rank, reach, look_device}
+use Rattle.standing_states.specs.Found.{one_event, look_event, one_collection, look_collection, put_collection, AreThoseBefore, IsPlace, rank, reach, look_device}
 use Rattle.standing_states.specs.Found.{devices_from, put_found}
 use Rattle.standing_states.proofs.Walks.{goes_on, ends_here, goes_wrong, after-err}
-use Rattle.standing_states.proofs.EventsWalked.{then_ok, then_err}
-use Rattle.standing_states.proofs.CollectionsWalked.{next_is}
+use Rattle.standing_states.proofs.EventsWalked.{within_is, then_ok, then_err}
+use Rattle.standing_states.proofs.CollectionsWalked.{next_is, one_more}
 use Rattle.standing_states.proofs.DevicesWalked.{IsSmall, devices_rise}
 use Rattle.table_restore.specs.Outcome.{fields_of, LookedDevice, Took, place_of}
 use Rattle.table_restore.specs.declared.error.RestoreError.{RestoreError}
@@ -43,32 +46,36 @@ event_wrong memory n t i f e = then_err (event_check memory n t i) (one_event i 
 
 -- ---- collections
 
-pub collection_wrong : (memory : List Window) (n : ℕ) (r : Registers) (i : ℕ) (f : RestoreFault) → collection_check memory n r i ≡ Err f
-    → look_collection memory n r i ≡ Err f
-collection_wrong memory n r i f e = then_err (collection_check memory n r i) (one_collection (collection_entry memory r i)) f e
+pub collection_wrong : (s : Shape) (memory : List Window) (r : Registers) (i : ℕ) (f : RestoreFault) → collection_check s memory r i ≡ Err f
+    → look_collection s memory r i ≡ Err f
+collection_wrong s memory r i f e = then_err (collection_check s memory r i) (one_collection (collection_entry s memory r i)) f e
 
-module _ (memory : List Window) (n : ℕ) (r : Registers) (i : ℕ) (seen : Option (Icid × Vcpu)) (ok : collection_check memory n r i ≡ Ok tt)
-    (at : collection_entry memory r i ≡ option_map fields_of seen) where
-  looked : look_collection memory n r i ≡ Ok (one_collection (option_map fields_of seen))
-  looked = then_ok (collection_check memory n r i) (one_collection (collection_entry memory r i)) ok ∙ ap (λ o. Ok (one_collection o)) at
+pub collection_put : (s : Shape) (memory : List Window) (r : Registers) (i : ℕ) (o : Option (Icid × Vcpu)) (m n : Maps) → collection_check s memory r i ≡ Ok tt
+    → collection_entry s memory r i ≡ option_map fields_of o → n ≡ after_all put_collection m (one_collection (option_map fields_of o))
+    → after put_collection m (look_collection s memory r i) ≡ Ok n
+collection_put s memory r i o m n ok is got =
+    ap (after put_collection m) (then_ok (collection_check s memory r i) (one_collection (collection_entry s memory r i)) ok)
+    ∙ ap (λ (e : Option CollectionFields). Ok (after_all put_collection m (one_collection e))) is ∙ ap Ok (sym got)
 
-  pub took_none : (s : Maps) → seen ≡ None → after put_collection s (look_collection memory n r i) ≡ Ok s
-  took_none s none = ap (after put_collection s) looked
-      ∙ ap (λ (o : Option (Icid × Vcpu)). Ok (after_all put_collection s (one_collection (option_map fields_of o)))) none
+up_by_one : (r : Registers) (i to : ℕ) (o : Option CollectionFields) → collection_leads r i o ≡ Some to → to ≡ i + 1
+up_by_one r i to None e = absurd cc
+up_by_one r i to (Some c) e = (within_is (collection_places r) (i + 1) to e).0
 
-  pub leads_none : seen ≡ None → next_collection memory r i ≡ None
-  leads_none none = next_is memory r i ∙ ap (collection_leads r i) at ∙ ap (λ (o : Option (Icid × Vcpu)). collection_leads r i (option_map fields_of o)) none
+-- a place leads to the one after it
+pub leads_up : (memory : List Window) (r : Registers) (i to : ℕ) → next_collection memory r i ≡ Some to → to ≡ i + 1
+leads_up memory r i to e = up_by_one r i to (option_and_then unpacked_collection (number_at memory (collection_address r i))) (sym (next_is memory r i) ∙ e)
 
-  pub took_one : (s u : Maps) (c : Icid × Vcpu) → seen ≡ Some c → u ≡ put_collection s (c.0.0, c.1) → after put_collection s (look_collection memory n r i)
-      ≡ Ok u
-  took_one s u c some got = ap (after put_collection s) looked
-      ∙ ap (λ (o : Option (Icid × Vcpu)). Ok (after_all put_collection s (one_collection (option_map fields_of o)))) some ∙ ap Ok (sym got)
-
-  pub leads_one : (c : Icid × Vcpu) → seen ≡ Some c → next_collection memory r i ≡ within (collection_places r) (i + 1)
-  leads_one c some = next_is memory r i ∙ ap (collection_leads r i) at ∙ ap (λ (o : Option (Icid × Vcpu)). collection_leads r i (option_map fields_of o)) some
-
-  pub entry_one : (c : Icid × Vcpu) → seen ≡ Some c → collection_entry memory r i ≡ Some (fields_of c)
-  entry_one c some = at ∙ ap (option_map fields_of) some
+-- with what the place has, the maps have those of one place more
+pub before_next : (s : Shape) (memory : List Window) (r : Registers) (i to : ℕ) (o : Option (Icid × Vcpu)) (m n : Maps) → AreThoseBefore s memory r m i
+    → collection_entry s memory r i ≡ option_map fields_of o → n ≡ after_all put_collection m (one_collection (option_map fields_of o)) → to ≡ i + 1
+    → AreThoseBefore s memory r n to
+before_next s memory r i to None m n before is got at = λ icid.
+    ap (λ (u : Maps). is_some (collection_of u icid)) got
+    ∙ before icid
+    ∙ ap (λ (e : Option CollectionFields). is_of icid e || stands_before s memory r i icid) (sym is)
+    ∙ ap (λ k. stands_before s memory r k icid) (sym (at ∙ add-one i))
+before_next s memory r i to (Some c) m n before is got at =
+    subst (AreThoseBefore s memory r n) (sym at) (one_more s memory r m n i (fields_of c) c.1 before is got)
 
 -- ---- a level-1 entry, as baser_place reads it
 

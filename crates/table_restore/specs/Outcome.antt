@@ -11,7 +11,7 @@ use Rattle.its_types.specs.declared.ids.Icid.{Icid}
 use Rattle.its_types.specs.declared.ids.Vcpu.{Vcpu}
 use Rattle.its_types.specs.declared.translation.Event.{Event}
 use Rattle.its_plain.specs.EventTables.{Itt, event_check, event_in, next_event}
-use Rattle.its_plain.specs.CollectionTables.{collection_check, collection_entry}
+use Rattle.its_plain.specs.CollectionTables.{collection_check, collection_entry, next_collection}
 use Rattle.its_plain.specs.DeviceTables as spec
 use Rattle.its_plain.specs.DeviceTables.{next_device}
 use Rattle.its_plain.specs.declared.fault.RestoreFault.{RestoreFault}
@@ -39,9 +39,10 @@ LookedEvent memory lpi_bits t ev (Err f) = event_check memory lpi_bits t ev ≡ 
 abbrev pub fields_of : Icid × Vcpu → CollectionFields
 fields_of c = record { vcpu_number = c.1.0; icid = c.0.0 }
 
-abbrev pub LookedCollection : List Window → ℕ → Registers → ℕ → Result (Option (Icid × Vcpu)) RestoreFault → Type 0
-LookedCollection memory vcpus r i (Ok seen) = (collection_check memory vcpus r i ≡ Ok tt) × (collection_entry memory r i ≡ option_map fields_of seen)
-LookedCollection memory vcpus r i (Err f) = collection_check memory vcpus r i ≡ Err f
+abbrev pub LookedCollection : Shape → List Window → Registers → ℕ → Result (Option (Icid × Vcpu) × Option ℕ) RestoreFault → Type 0
+LookedCollection s memory r i (Ok seen) =
+    (collection_check s memory r i ≡ Ok tt) × (collection_entry s memory r i ≡ option_map fields_of seen.0) × (next_collection memory r i ≡ seen.1)
+LookedCollection s memory r i (Err f) = collection_check s memory r i ≡ Err f
 
 -- what was to be read is in the maps, unless memory ran out
 abbrev pub Took : {X : Type 0} → (Maps → X → Maps) → Maps → Maps → Result (Unit {0}) RestoreError → Result (List X) RestoreFault → Type 0

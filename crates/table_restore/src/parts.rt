@@ -1,4 +1,4 @@
-ghost use Rattle.std.specs.Prelude.{◌≡◌, ◌≤◌, ℕ, None, IfOk, IfErr};
+ghost use Rattle.std.specs.Prelude.{◌≡◌, ◌≤◌, ◌∷◌, [], ℕ, Some, None, false, IfOk, IfErr};
 ghost use Rattle.gits_regs.specs.Registers as registers;
 ghost use Rattle.its_plain.specs.Sound.{IsShape, IsLayout};
 ghost use Rattle.its_plain.specs.Stands.{Stands, IsFirstFault};
@@ -38,7 +38,7 @@ fn maps_of(alloc: Global, regs: &Regs, memory: &Memory, shape: Shape) -> Result<
     ensures { RestoredMaps result (maps_read shape memory.now regs.now) }
 {
     let mut maps = Maps::new(alloc);
-    map_collections(regs, memory, shape.vcpus, &mut maps)?;
+    map_collections(regs, memory, shape, &mut maps)?;
     map_devices(regs, memory, shape.lpi_bits, &mut maps)?;
     Ok(maps)
 }
@@ -59,17 +59,18 @@ fn find(
     memory: &Memory,
     layout: &Layout,
 ) -> Result<Found, RestoreError>
-    requires { IsLayout layout.now }
+    requires layout { IsLayout layout.now }
+    requires track { layout.now.track ≡ false }
     ensures stands { IfOk result (λ f.
-        Stands memory.now values layout.now (bases_to_restore layout.now gicr.now)
+        Stands memory.now (Some values ∷ []) layout.now (bases_to_restore layout.now gicr.now)
         (state_of f.layout f.regs f.maps.maps memory.now f.redists)) }
     ensures layout { IfOk result (λ f. f.layout ≡ layout.now) }
     ensures in_hand { IfOk result (λ f. AreAllInHand layout.now.shape f.redists) }
     ensures no_others { IfOk result (λ f.
         (vcpu : ℕ) → layout.now.shape.vcpus ≤ vcpu → in_hand f.redists vcpu ≡ None) }
     ensures fault { IfFault result (λ f.
-        IsFirstFault memory.now values layout.now.shape (bases_to_restore layout.now gicr.now)
-        f) }
+        IsFirstFault memory.now (Some values ∷ []) layout.now.shape
+        (bases_to_restore layout.now gicr.now) 0 f) }
 {
     let redists = redists_of(alloc, memory, gicr, layout)?;
     let regs = regs_of(values, layout.shape)?;
@@ -94,9 +95,10 @@ pub fn restore(
     memory: &Memory,
     layout: &Layout,
 ) -> Result<Parts, RestoreError>
-    requires { IsLayout layout.now }
+    requires layout { IsLayout layout.now }
+    requires track { layout.now.track ≡ false }
     ensures stands { IfOk result (λ p.
-        Stands memory.now values layout.now (bases_to_restore layout.now gicr.now)
+        Stands memory.now (Some values ∷ []) layout.now (bases_to_restore layout.now gicr.now)
         (state_of_parts p)) }
     ensures layout { IfOk result (λ p. p.layout ≡ layout.now) }
     ensures copy { IfOk result (λ p. p.memory ≡ memory.now) }
@@ -104,8 +106,8 @@ pub fn restore(
     ensures no_others { IfOk result (λ p.
         (vcpu : ℕ) → layout.now.shape.vcpus ≤ vcpu → in_hand p.redists vcpu ≡ None) }
     ensures fault { IfFault result (λ f.
-        IsFirstFault memory.now values layout.now.shape (bases_to_restore layout.now gicr.now)
-        f) }
+        IsFirstFault memory.now (Some values ∷ []) layout.now.shape
+        (bases_to_restore layout.now gicr.now) 0 f) }
 {
     let memory = memory.copy(alloc)?;
     match restore_in(alloc, values, gicr, memory, layout) {
@@ -122,9 +124,10 @@ pub fn restore_in(
     memory: Memory,
     layout: &Layout,
 ) -> Result<Parts, (Memory, RestoreError)>
-    requires { IsLayout layout.now }
+    requires layout { IsLayout layout.now }
+    requires track { layout.now.track ≡ false }
     ensures stands { IfOk result (λ p.
-        Stands memory values layout.now (bases_to_restore layout.now gicr.now)
+        Stands memory (Some values ∷ []) layout.now (bases_to_restore layout.now gicr.now)
         (state_of_parts p)) }
     ensures layout { IfOk result (λ p. p.layout ≡ layout.now) }
     ensures memory { IfOk result (λ p. p.memory ≡ memory) }
@@ -133,8 +136,8 @@ pub fn restore_in(
         (vcpu : ℕ) → layout.now.shape.vcpus ≤ vcpu → in_hand p.redists vcpu ≡ None) }
     ensures fault { IfErr result (λ e.
         WhereFault e.1 (λ f.
-        IsFirstFault memory values layout.now.shape (bases_to_restore layout.now gicr.now)
-        f)) }
+        IsFirstFault memory (Some values ∷ []) layout.now.shape
+        (bases_to_restore layout.now gicr.now) 0 f)) }
     ensures back { IfErr result (λ e. e.0 ≡ memory) }
 {
     match find(alloc, values, gicr, &memory, layout) {
