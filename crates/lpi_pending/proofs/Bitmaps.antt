@@ -1,17 +1,17 @@
 -- A pending set as the bits of words.
-use Rattle.std.proofs.Common.{◌≡◌, ◌≢◌, ℕ, suc, zero, ◌+◌, ◌-◌, ◌*◌, ◌/◌, ◌%◌, ◌<◌, ◌≤◌, get_or, set, Bool, true, false, not, cond, List, [], length, eqb}
+use Rattle.std.proofs.Common.{◌≡◌, ◌≢◌, ℕ, suc, zero, ◌+◌, ◌-◌, ◌*◌, ◌/◌, ◌%◌, ◌^◌, ◌<◌, ◌≤◌, get_or, set, Bool, true, false, not, cond, List, [], length, eqb}
 use Rattle.std.proofs.Common.{refl, sym, ap, ◌∙◌, inl, inr, arith}
 use Rattle.std.specs.Prelude.{◌||◌, ◌&&◌, replicate}
 use Rattle.std.proofs.lemmas.List.{length-set, length-replicate, get_or-replicate, get_or_past}
 use Rattle.its_types.specs.Bits.{bit_of}
 use Rattle.its_types.proofs.Words.{word_bit-set}
 use Rattle.lpi_pending.proofs.Bits.{bit_of-zero}
-use Rattle.std.proofs.lemmas.Bool.{cases_eq, cases_lt, and_parts, leb-true, ltb-true, eq-eqb, ne_eqb}
+use Rattle.std.proofs.lemmas.Bool.{cases_eq, cases_lt, and_parts, leb-true, ltb-true, eq-eqb, ne_eqb, le-leb, lt-ltb, cases_Bool, both_ways}
 use Rattle.its_types.specs.Ranges.{is_lpi, lpi_count}
 use Rattle.its_types.specs.Lpis.{is_pending, with_lpi, without_lpi}
 use Rattle.its_types.specs.Bitmap.{word_bit}
 use Rattle.lpi_pending.specs.PendingSets.{lpi_bit, lpis_of}
-use Rattle.lpi_pending.proofs.Sets.{IsWithin, those, same_those, those-filter, is_pending-those, with_lpi-those}
+use Rattle.lpi_pending.proofs.Sets.{IsWithin, those, same_those, those-filter, is_pending-those, within-those, with_lpi-those}
 
 -- an LPI has a bit
 pub lpi_within : (lpi_bits x n : ℕ) → is_lpi lpi_bits x ≡ true → n ≡ lpi_count lpi_bits → IsWithin 8192 n x
@@ -135,3 +135,16 @@ pub has_lpi : (words : List ℕ) (x j bit word : ℕ) → IsPlace words x j bit 
 has_lpi words x j bit word p =
     ap (λ n. bit_of n bit) (p.word_is ∙ ap (λ k. get_or words k 0) p.index) ∙ ap (bit_of (get_or words ((x - 8192) / 64) 0)) p.place
     ∙ sym (is_pending-lpis_of words x p.within)
+
+-- a number that is no LPI's isn't pending
+pub not_pending : (lpi_bits : ℕ) (words : List ℕ) (x : ℕ) → 64 * length words ≡ lpi_count lpi_bits → is_lpi lpi_bits x ≡ false
+    → is_pending x (lpis_of words) ≡ false
+not_pending lpi_bits words x size isnt =
+    elim (cases_Bool (is_pending x (lpis_of words))) [
+      | inl is ↦
+          let w = within-those (lpi_bit words) 8192 (64 * length words) x is in
+          let high : x < 2 ^ lpi_bits = omega (arith, w.below, w.from, size) in
+          let lpi : is_lpi lpi_bits x ≡ true = rw (le-leb 8192 x w.from, lt-ltb _ _ high) refl in
+          absurd (both_ways (is_lpi lpi_bits x) isnt lpi)
+      | inr isnt' ↦ isnt'
+    ]

@@ -67,14 +67,12 @@ used_is_busy words k lt small used =
     (λ y same. let e : y ≡ 8192 + 64 * k + trailing_zeros w64 (get_or words k 0) = eqb-true y _ same in eq-eqb (y / 64) (128 + k) (omega (arith, low.below)))
     is
 
-pub cost_is :
-    (words : List ℕ) (lpi_bits : ℕ) (old new : ℕ) → 64 * length words ≡ lpi_count lpi_bits → ((k : ℕ) → get_or words k 0 < 2 ^ 64)
-    → new ≤ old + length words / 64 + count_in (is_used words) 0 (length words)
-    → new ≤ old + summary_words lpi_bits + busy_words (record { lpi_bits = lpi_bits; lpis = lpis_of words })
-cost_is words lpi_bits old new size small cost =
+-- the words that are used have a pending LPI
+pub used_words : (words : List ℕ) (lpi_bits : ℕ) → 64 * length words ≡ lpi_count lpi_bits → ((k : ℕ) → get_or words k 0 < 2 ^ 64)
+    → count_in (is_used words) 0 (length words) ≤ busy_words (record { lpi_bits = lpi_bits; lpis = lpis_of words })
+used_words words lpi_bits size small =
     let lpis = lpis_of words in
     let n : lpi_count lpi_bits / 64 ≡ length words = omega arith in
-    let summaries : lpi_count lpi_bits / 4096 ≡ length words / 64 = omega arith in
     let used : count_in (is_used words) 0 (length words) ≤ count_in (λ k. is_busy (lpis_of words) (128 + k)) 0 (length words) =
     count_in-le (is_used words) (λ k. is_busy (lpis_of words) (128 + k)) 0 (length words) (λ k w is. used_is_busy words k (omega (arith, w.below)) (small k) is)
     in
@@ -82,4 +80,13 @@ cost_is words lpi_bits old new size small cost =
     count_in-shift (is_busy (lpis_of words)) 128 0 (length words) in
     let busy : count_in (is_busy (lpis_of words)) 128 (lpi_count lpi_bits / 64) ≡ count_in (is_busy (lpis_of words)) 128 (length words) =
     ap (count_in (is_busy (lpis_of words)) 128) n in
-    omega (arith, used, shifted, busy, summaries, cost)
+    omega (arith, used, shifted, busy)
+
+pub cost_is :
+    (words : List ℕ) (lpi_bits : ℕ) (old new : ℕ) → 64 * length words ≡ lpi_count lpi_bits → ((k : ℕ) → get_or words k 0 < 2 ^ 64)
+    → new ≤ old + length words / 64 + count_in (is_used words) 0 (length words)
+    → new ≤ old + summary_words lpi_bits + busy_words (record { lpi_bits = lpi_bits; lpis = lpis_of words })
+cost_is words lpi_bits old new size small cost =
+    let used = used_words words lpi_bits size small in
+    let summaries : lpi_count lpi_bits / 4096 ≡ length words / 64 = omega arith in
+    omega (arith, used, summaries, cost)

@@ -10,3 +10,4 @@ pub mod Firsts
 pub mod Moves
 pub mod Nexts
 pub mod Tables
+pub mod Bests

@@ -32,7 +32,7 @@ none_pieces test a n each y from below =
 
 -- ---- a word
 
-ready_bit :
+pub ready_bit :
     (words config : List ℕ) (j enabled i : ℕ) → i < 64 → bit_of enabled i ≡ is_enabled config (8192 + 64 * j + i)
     → is_ready words config (64 * j + i) ≡ bit_of (bit_and (get_or words j 0) enabled) i
 ready_bit words config j enabled i lt is =

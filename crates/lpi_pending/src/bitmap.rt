@@ -5,9 +5,11 @@ ghost use Rattle.its_types.specs.Ranges.{lpi_count};
 ghost use Rattle.its_types.specs.Bits.{bit_of};
 ghost use Rattle.its_types.specs.Bitmap.{word_bit};
 ghost use Rattle.lpi_pending.specs.PendingSets.{table_bit};
+ghost use Rattle.lpi_pending.specs.Priorities.{IsBest};
 ghost use Rattle.lpi_pending.specs.Searches.{FirstIn, count_in};
 ghost use Rattle.lpi_pending.specs.Summaries.{is_used, is_ready};
 
+use crate::best::{Best, best_with_word};
 use crate::lanes::first_nonzero;
 use crate::steps::Steps;
 use guest_windows::Memory;
@@ -163,6 +165,37 @@ impl Bitmap {
         steps.add((self.summary.len() - at) as u64);
         None
     }
+
+    // Of the bits that are 1 and whose LPIs are enabled, the first by priority below a mask. A step
+    // is a word looked at, as in `first_ready`, or an LPI's byte. A word of the summary is looked
+    // at again for each word that it leads to.
+    pub fn first_by_priority<L: Ledger>(
+        &self,
+        config: &Config,
+        mask: u8,
+        steps: &mut Steps<L>,
+    ) -> Best
+        requires { 64 * length self.now ≡ lpi_count config.now.lpi_bits }
+        ensures best { IsBest self.now config.now.bytes mask (64 * length self.now) result }
+        ensures cost { steps.new ≤ steps.old + length self.now / 64
+            + 2 * count_in (is_used self.now) 0 (length self.now)
+            + count_in (is_ready self.now config.now.bytes) 0 (64 * length self.now) }
+        ensures words { (k : ℕ) → slice_index self.now k < 2 ^ 64 }
+    {
+        let words: &[u64] = &self.words;
+        let mut best = Best {
+            at: None,
+            limit: mask,
+        };
+        let mut from = 0;
+        while let Some(at) = self.next_used(from) {
+            steps.add((at / 64 - from / 64) as u64 + 2);
+            best = best_with_word(words, config, at, best, steps);
+            from = at + 1;
+        }
+        steps.add((self.summary.len() - from / 64) as u64);
+        best
+    }
 }
 
 // Of the 64 words that one word of the summary stands for.
@@ -209,7 +242,7 @@ fn first_in_word(word: u64, config: &Config, at: usize) -> Option<usize>
 }
 
 // The first bit of a word from this one on that is 1.
-fn bit_from(word: u64, from: u32) -> Option<u32>
+pub fn bit_from(word: u64, from: u32) -> Option<u32>
     requires { from < 64 }
     ensures { FirstIn (bit_of word) from 64 result }
 {

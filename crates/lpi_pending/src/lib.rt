@@ -1,6 +1,7 @@
 //! The pending LPIs of a redistributor, and the redistributors of a machine.
 #![tactic(auto)]
 
+mod best;
 mod bitmap;
 mod gicr;
 mod lanes;

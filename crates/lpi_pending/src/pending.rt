@@ -8,6 +8,7 @@ ghost use Rattle.its_types.specs.Bits as bits;
 ghost use Rattle.its_types.specs.Ranges.{is_lpi, lpi_count, pending_bytes};
 ghost use Rattle.its_types.specs.Lpis as spec;
 ghost use Rattle.lpi_pending.specs.PendingSets.{none_pending, as_intid, busy_words, summary_words};
+ghost use Rattle.lpi_pending.specs.PendingSets.{ready_lpis};
 
 use crate::bitmap::Bitmap;
 use crate::steps::Steps;
@@ -134,6 +135,74 @@ impl Pending {
         match self.bitmap.first_ready(config, steps) {
             Some(at) => Some(Intid(8192 + at as u32)),
             None => None,
+        }
+    }
+
+    /// The LPI that comes first by priority, of those that are pending and enabled and whose
+    /// priority is below the mask. Among equal priorities it is the lowest LPI.
+    pub fn first_by_priority(&self, config: &Config, mask: u8) -> Option<Intid>
+        requires { self.now.lpi_bits ≡ config.now.lpi_bits }
+        ensures found { result ≡ option_map as_intid
+            (spec.first_by_priority config.now.bytes mask self.now.lpis) }
+        ensures in_range { IfSome result (λ intid. is_lpi self.now.lpi_bits intid.0 ≡ true) }
+    {
+        self.first_by_priority_from::<Brand>(config, mask, Blank::new(1))
+    }
+
+    fn first_by_priority_from<L: Ledger>(
+        &self,
+        config: &Config,
+        mask: u8,
+        blank: Blank,
+    ) -> Option<Intid>
+        requires name { blank.name ≡ L.name }
+        requires parts { blank.parts ≡ L.parts }
+        requires some { 0 < L.parts }
+        requires same_bits { self.now.lpi_bits ≡ config.now.lpi_bits }
+        ensures found { result ≡ option_map as_intid
+            (spec.first_by_priority config.now.bytes mask self.now.lpis) }
+        ensures in_range { IfSome result (λ intid. is_lpi self.now.lpi_bits intid.0 ≡ true) }
+    {
+        let mut steps = Steps::<L>::new(blank);
+        self.first_by_priority_in(config, mask, &mut steps)
+    }
+
+    /// The LPI that comes first by priority below a mask, and how much was looked at to find it:
+    /// each word of the summary once, each word of 64 LPIs that has a pending one, and with each
+    /// of these a word of the summary again, and the byte of each LPI that is pending and enabled.
+    pub fn first_by_priority_in<L: Ledger>(
+        &self,
+        config: &Config,
+        mask: u8,
+        steps: &mut Steps<L>,
+    ) -> Option<Intid>
+        requires { self.now.lpi_bits ≡ config.now.lpi_bits }
+        ensures found { result ≡ option_map as_intid
+            (spec.first_by_priority config.now.bytes mask self.now.lpis) }
+        ensures in_range { IfSome result (λ intid. is_lpi self.now.lpi_bits intid.0 ≡ true) }
+        ensures cost { steps.new ≤ steps.old + summary_words self.now.lpi_bits
+            + 2 * busy_words self.now + ready_lpis config.now.bytes self.now }
+    {
+        match self.bitmap.first_by_priority(config, mask, steps).at {
+            Some(at) => Some(Intid(8192 + at as u32)),
+            None => None,
+        }
+    }
+
+    /// This LPI, if it is pending and enabled. A number that is no LPI's is neither.
+    pub fn claimable(&self, config: &Config, intid: Intid) -> Option<Intid>
+        requires { self.now.lpi_bits ≡ config.now.lpi_bits }
+        ensures found { result ≡ option_map as_intid
+            (spec.claimable config.now.bytes intid.0 self.now.lpis) }
+        ensures in_range { IfSome result (λ intid. is_lpi self.now.lpi_bits intid.0 ≡ true) }
+    {
+        if !intid.in_range(self.lpi_bits) {
+            return None;
+        }
+        if self.has(intid) && config.byte(intid) % 2 == 1 {
+            Some(intid)
+        } else {
+            None
         }
     }
 

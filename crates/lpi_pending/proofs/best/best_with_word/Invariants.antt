@@ -1,0 +1,15 @@
+use Rattle.std.proofs.Common.{◌-◌, ◌+◌, ◌*◌, ◌≤◌, ℕ}
+use Rattle.lpi_pending.specs.Priorities.{IsBest}
+use Rattle.lpi_pending.specs.Searches.{count_in}
+use Rattle.lpi_pending.specs.Summaries.{is_ready}
+use Rattle.lpi_pending.proofs.best.best_with_word.Given as goal
+
+abbrev pub invariant-loop-from : goal.invariant-loop-from
+invariant-loop-from g l = record {
+  within : l.from ≤ 64;
+  best : (mask : ℕ) → IsBest l.words l.config.bytes mask (64 * l.at) l.fn.before → IsBest l.words l.config.bytes mask (64 * l.at + l.from) l.best;
+  cost : l.steps ≤ l.initial.steps + count_in (is_ready l.words l.config.bytes) (64 * l.at) l.from;
+}
+
+abbrev pub decreases-loop-from : goal.decreases-loop-from
+decreases-loop-from g l = 64 - l.from

@@ -1,0 +1,18 @@
+-- The search for the LPI that comes first by priority: what was found among the first n bits.
+use Rattle.std.specs.Prelude.{◌≡◌, ℕ, ◌+◌, ◌≤◌, ◌<◌, true, List, MatchOption}
+use Rattle.its_types.specs.Lpis.{priority_of}
+use Rattle.lpi_pending.specs.Summaries.{is_ready}
+use Rattle.lpi_pending.specs.declared.best.Best.{Best}
+
+-- bit x is ready and below the mask, of this priority, and each ready one before it comes after it by priority
+pub record IsFound (words config : List ℕ) (mask n priority x : ℕ) : Type 0 where
+  pub within : x < n
+  pub ready : is_ready words config x ≡ true
+  pub same : priority_of config (8192 + x) ≡ priority
+  pub unmasked : priority < mask
+  pub before : (y : ℕ) → y < x → is_ready words config y ≡ true → priority < priority_of config (8192 + y)
+
+-- no ready bit comes before what was found
+pub record IsBest (words config : List ℕ) (mask n : ℕ) (best : Best) : Type 0 where
+  pub least : (y : ℕ) → y < n → is_ready words config y ≡ true → best.limit ≤ priority_of config (8192 + y)
+  pub found : MatchOption best.at (best.limit ≡ mask) (λ x. IsFound words config mask n best.limit x)
