@@ -18,24 +18,94 @@ exact_route : Exact same_route
 exact_route = by_exact route_type.enum each_route (on_rest exact_number (on_rest exact_deviceid (one exact_eventid)), (none, (none, (none, tt))))
 
 abbrev each_call : Each Bool call_type.enum.parts
-each_call = (λ x y. x.0 == y.0 && (x.1.0.0 == y.1.0.0 && (x.1.1.0.0 == y.1.1.0.0)), (λ x y. x.0.0 == y.0.0, (λ x y. x.0.0 == y.0.0,
-    (λ x y. x.0.0 == y.0.0 && (x.1.0 == y.1.0), (λ x y. x.0.0 == y.0.0 && (x.1.0.0 == y.1.0.0),
-    (λ x y. x.0.0 == y.0.0 && (same_bytes x.1.0 y.1.0), (λ x y. x.0.0 == y.0.0 && (x.1.0 == y.1.0),
-    (λ x y. x.0 == y.0 && (x.1.0 == y.1.0 && (x.1.1.0 == y.1.1.0)),
-    (λ x y. x.0 == y.0 && (x.1.0 == y.1.0 && (x.1.1.0 == y.1.1.0 && (x.1.1.1.0 == y.1.1.1.0))),
-    (λ x y. x.0.0 == y.0.0 && (x.1.0 == y.1.0 && (x.1.1.0 == y.1.1.0)),
-    (λ x y. x.0.0 == y.0.0 && (x.1.0 == y.1.0 && (x.1.1.0 == y.1.1.0 && (x.1.1.1.0 == y.1.1.1.0))),
-    (λ x y. x.0 == y.0, (λ x y. true, (λ x y. true,
-    (λ x y. x.0 == y.0 && (x.1.0.0 == y.1.0.0 && (same_bytes x.1.1.0 y.1.1.0 && (same_route x.1.1.1.0 y.1.1.1.0))), tt)))))))))))))))
+each_call = (
+  λ x y. x.0 == y.0 && (x.1.0.0 == y.1.0.0 && (x.1.1.0.0 == y.1.1.0.0)),
+  (
+    λ x y. x.0.0 == y.0.0,
+    (
+      λ x y. x.0.0 == y.0.0,
+      (
+        λ x y. x.0.0 == y.0.0 && (x.1.0 == y.1.0),
+        (
+          λ x y. x.0.0 == y.0.0 && (x.1.0.0 == y.1.0.0),
+          (
+            λ x y. x.0.0 == y.0.0 && (same_bytes x.1.0 y.1.0),
+            (
+              λ x y. x.0.0 == y.0.0 && (x.1.0 == y.1.0),
+              (
+                λ x y. x.0 == y.0 && (x.1.0 == y.1.0 && (x.1.1.0 == y.1.1.0)),
+                (
+                  λ x y. x.0 == y.0 && (x.1.0 == y.1.0 && (x.1.1.0 == y.1.1.0 && (x.1.1.1.0 == y.1.1.1.0))),
+                  (
+                    λ x y. x.0.0 == y.0.0 && (x.1.0 == y.1.0 && (x.1.1.0 == y.1.1.0)),
+                    (
+                      λ x y. x.0.0 == y.0.0 && (x.1.0 == y.1.0 && (x.1.1.0 == y.1.1.0 && (x.1.1.1.0 == y.1.1.1.0))),
+                      (
+                        λ x y. x.0 == y.0,
+                        (
+                          λ x y. true,
+                          (
+                            λ x y. true,
+                            (λ x y. x.0 == y.0 && (x.1.0.0 == y.1.0.0 && (same_bytes x.1.1.0 y.1.1.0 && (same_route x.1.1.1.0 y.1.1.1.0))), tt),
+                          ),
+                        ),
+                      ),
+                    ),
+                  ),
+                ),
+              ),
+            ),
+          ),
+        ),
+      ),
+    ),
+  ),
+)
 
 abbrev pub same_call : Call → Call → Bool
 same_call x y = by false false call_type.enum.parts each_call (call_type.enum.as_values x) (call_type.enum.as_values y)
 
 pub exact_call : Exact same_call
-exact_call = by_exact call_type.enum each_call (on_rest exact_number (on_rest exact_deviceid (one exact_eventid)), (one exact_vcpu, (one exact_vcpu,
-    (on_rest exact_vcpu (one exact_number), (on_rest exact_vcpu (one exact_intid),
-    (on_rest exact_addr (one exact_bytes), (on_rest exact_addr (one exact_number),
-    (on_rest exact_number (on_rest exact_number (one exact_number)), (on_rest exact_number (on_rest exact_number (on_rest exact_number (one exact_number))),
-    (on_rest exact_vcpu (on_rest exact_number (one exact_number)), (on_rest exact_vcpu (on_rest exact_number (on_rest exact_number (one exact_number))),
-    (one exact_number, (none, (none,
-    (on_rest exact_number (on_rest exact_addr (on_rest exact_bytes (one exact_route))), tt)))))))))))))))
+exact_call = by_exact call_type.enum each_call (
+  on_rest exact_number (on_rest exact_deviceid (one exact_eventid)),
+  (
+    one exact_vcpu,
+    (
+      one exact_vcpu,
+      (
+        on_rest exact_vcpu (one exact_number),
+        (
+          on_rest exact_vcpu (one exact_intid),
+          (
+            on_rest exact_addr (one exact_bytes),
+            (
+              on_rest exact_addr (one exact_number),
+              (
+                on_rest exact_number (on_rest exact_number (one exact_number)),
+                (
+                  on_rest exact_number (on_rest exact_number (on_rest exact_number (one exact_number))),
+                  (
+                    on_rest exact_vcpu (on_rest exact_number (one exact_number)),
+                    (
+                      on_rest exact_vcpu (on_rest exact_number (on_rest exact_number (one exact_number))),
+                      (
+                        one exact_number,
+                        (
+                          none,
+                          (
+                            none,
+                            (on_rest exact_number (on_rest exact_addr (on_rest exact_bytes (one exact_route))), tt),
+                          ),
+                        ),
+                      ),
+                    ),
+                  ),
+                ),
+              ),
+            ),
+          ),
+        ),
+      ),
+    ),
+  ),
+)

@@ -156,14 +156,31 @@ abbrev same_region : Region → Region → Bool
 same_region x y = by false false region_type.enum.parts each_region (region_type.enum.as_values x) (region_type.enum.as_values y)
 
 exact_region : Exact same_region
-exact_region = by_exact region_type.enum each_region
+exact_region = by_exact region_type.enum each_region (
+  one exact_number,
+  (
+    one exact_number,
     (
-      one exact_number,
+      two exact_number exact_number,
       (
         one exact_number,
-        (two exact_number exact_number, (one exact_number, (two exact_number exact_deviceid, (one exact_vcpu, (none, (one exact_vcpu, (one exact_number, tt))))))),
+        (
+          two exact_number exact_deviceid,
+          (
+            one exact_vcpu,
+            (
+              none,
+              (
+                one exact_vcpu,
+                (one exact_number, tt),
+              ),
+            ),
+          ),
+        ),
       ),
-    )
+    ),
+  ),
+)
 
 abbrev each_fault : Each Bool fault_type.enum.parts
 each_fault = (λ x y. x.0 == y.0 && x.1.0.0 == y.1.0.0, (λ x y. same_region x.0 y.0, (λ x y. same_region x.0 y.0 && same_region x.1.0 y.1.0, tt)))
@@ -179,7 +196,28 @@ each_reply = (
   λ x y. same_signal x.0 y.0,
   (
     λ x y. same_ack x.0 y.0,
-    (λ x y. true, (λ x y. true, (λ x y. same_bytes x.0 y.0, (λ x y. x.0 == y.0, (λ x y. same_step x.0 y.0, (λ x y. true, (λ x y. same_fault x.0 y.0, (λ x y. x.0 == y.0, (λ x y. true, tt))))))))),
+    (
+      λ x y. true,
+      (
+        λ x y. true,
+        (
+          λ x y. same_bytes x.0 y.0,
+          (
+            λ x y. x.0 == y.0,
+            (
+              λ x y. same_step x.0 y.0,
+              (
+                λ x y. true,
+                (
+                  λ x y. same_fault x.0 y.0,
+                  (λ x y. x.0 == y.0, (λ x y. true, tt)),
+                ),
+              ),
+            ),
+          ),
+        ),
+      ),
+    ),
   ),
 )
 
@@ -187,5 +225,34 @@ abbrev pub same_reply : Reply → Reply → Bool
 same_reply x y = by false false reply_type.enum.parts each_reply (reply_type.enum.as_values x) (reply_type.enum.as_values y)
 
 pub exact_reply : Exact same_reply
-exact_reply = by_exact reply_type.enum each_reply
-    (one exact_signal, (one exact_ack, (none, (none, (one exact_bytes, (one exact_number, (one exact_step, (none, (one exact_fault, (one exact_number, (none, tt)))))))))))
+exact_reply = by_exact reply_type.enum each_reply (
+  one exact_signal,
+  (
+    one exact_ack,
+    (
+      none,
+      (
+        none,
+        (
+          one exact_bytes,
+          (
+            one exact_number,
+            (
+              one exact_step,
+              (
+                none,
+                (
+                  one exact_fault,
+                  (
+                    one exact_number,
+                    (none, tt),
+                  ),
+                ),
+              ),
+            ),
+          ),
+        ),
+      ),
+    ),
+  ),
+)

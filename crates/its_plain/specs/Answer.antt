@@ -1,10 +1,9 @@
 -- What each call is answered, and the state that it leaves.
-use Rattle.std.specs.Prelude.{ℕ, Bool, not, ◌&&◌, ◌||◌, ◌==◌, nat_lt, nat_le, if◌then◌else◌, Option, Some, None, Result, Ok, Err, List, [], ◌∷◌, length, unwrap_or}
+use Rattle.std.specs.Prelude.{ℕ, Bool, not, ◌&&◌, ◌||◌, ◌==◌, nat_lt, nat_le, if◌then◌else◌, Option, Some, None, Result, Ok, Err, List, length}
 use Rattle.std.specs.Option.{option_map}
 use Rattle.guest_windows.specs.Windows.{Window, read_at, write_at}
-use Rattle.dirty_log.specs.Pages.{dirty_count, marked}
+use Rattle.dirty_log.specs.Pages.{dirty_count}
 use Rattle.dirty_log.specs.Copies.{wrote, caught_up}
-use Rattle.dirty_log.specs.declared.page.Page.{Page}
 use Rattle.dirty_log.specs.declared.tracked.Tracked.{Tracked}
 use Rattle.gicr_regs.specs.Registers.{read_gicr, written_gicr}
 use Rattle.gits_regs.specs.Registers.{Registers, Written, read_reg, write_reg, queue_place, is_queue_empty, advanced}

@@ -1,6 +1,7 @@
 -- What a restore reads in the collection table (IHI 0069, section 5.2.5; KVM document arm-vgic-its, "ITS Table ABI REV0"):
 -- the places from the first on, up to the first entry that isn't valid.
-use Rattle.std.specs.Prelude.{◌≡◌, ℕ, zero, suc, ◌+◌, Bool, true, false, not, ◌&&◌, ◌||◌, ◌==◌, nat_lt, if◌then◌else◌, List, Option, Some, None, Result, Ok, Err}
+use Rattle.std.specs.Prelude.{◌≡◌, ℕ, zero, suc, ◌+◌, Bool, true, false, not, ◌&&◌, ◌||◌, ◌==◌, nat_lt, if◌then◌else◌, List, Option, Some, None, Result, Ok}
+use Rattle.std.specs.Prelude.{Err}
 use Rattle.std.specs.Option.{option_and_then, ok_or}
 use Rattle.guest_windows.specs.Windows.{Window, number_at}
 use Rattle.gits_regs.specs.Registers.{Registers, is_valid, table_base, collection_places}

@@ -1,5 +1,6 @@
 -- What each command does (IHI 0069, section 5.3): its first refusal, or what it leaves.
-use Rattle.std.specs.Prelude.{ℕ, ◌^◌, Bool, ◌&&◌, ◌==◌, nat_lt, nat_le, if◌then◌else◌, Option, Some, None, is_some, Result, Ok, Err, List, [], ◌∷◌, map, filter}
+use Rattle.std.specs.Prelude.{ℕ, ◌^◌, Bool, ◌&&◌, ◌==◌, nat_lt, nat_le, if◌then◌else◌, Option, Some, None, is_some, Result, Ok, Err, List, [], ◌∷◌, map}
+use Rattle.std.specs.Prelude.{filter}
 use Rattle.std.specs.Option.{ok_or}
 use Rattle.std.specs.FinMap.{entries}
 pub use Rattle.gicr_regs.specs.Redistributors.{all_reread_at}

@@ -1,5 +1,6 @@
 -- What a save writes (KVM document arm-vgic-its, "ITS Table ABI REV0"), and the machine that a migration goes on with.
-use Rattle.std.specs.Prelude.{◌≡◌, ℕ, Bool, suc, zero, ◌+◌, ◌-◌, ◌*◌, ◌/◌, ◌^◌, not, ◌&&◌, ◌==◌, nat_lt, if◌then◌else◌, min, List, [], ◌∷◌, ◌++◌, map, find, Option}
+use Rattle.std.specs.Prelude.{◌≡◌, ℕ, Bool, suc, zero, ◌+◌, ◌-◌, ◌*◌, ◌/◌, ◌^◌, not, ◌&&◌, ◌==◌, nat_lt, if◌then◌else◌, min, List, [], ◌∷◌, ◌++◌, map, find}
+use Rattle.std.specs.Prelude.{Option}
 use Rattle.std.specs.Prelude.{Some, None, unwrap_or, slice_get, Ok}
 use Rattle.std.specs.Option.{option_map}
 use Rattle.std.specs.List.{flat_map}

@@ -88,11 +88,7 @@ pub enum Call {
 #[derive(Clone, Copy, Debug, PartialEq, Eq)]
 pub enum Route {
     /// A message to a translator.
-    Signal {
-        its: u8,
-        dev: DeviceId,
-        ev: EventId,
-    },
+    Signal { its: u8, dev: DeviceId, ev: EventId },
     /// A write of guest memory.
     Poke,
     /// A message of a requester that is no device.

@@ -85,7 +85,11 @@ is_put (part.Maps its) (Maps t) b = record {
   stays = stay_translator b b (part.Maps its ∷ []) its t (in_head (part.Maps its) []) (stay b (part.Maps its ∷ []));
   long = refl;
 }
-is_put part.Mem (Mem memory track) b = record { stays = stay_memory b b (part.Mem ∷ []) memory track (in_head part.Mem []) (stay b (part.Mem ∷ [])); long = refl }
+is_put part.Mem (Mem memory track) b = record {
+  stays = stay_memory b b (part.Mem ∷ []) memory track (in_head part.Mem []) (stay b
+      (part.Mem ∷ []));
+  long = refl;
+}
 is_put (part.Redist vcpu) (Redist r) b =
     record {
       stays = stay_redist b b (part.Redist vcpu ∷ []) vcpu.0 r (in_head (part.Redist vcpu) []) (stay b (part.Redist vcpu ∷ []));

@@ -1,5 +1,6 @@
 -- Shards stay right: what a commit leaves in those held, and what every other one has.
-use Rattle.std.proofs.Common.{◌≡◌, ◌⊎◌, ℕ, ◌<◌, Bool, true, false, eqb, cond, List, [], length, get_or, Option, Some, None, Ok, refl, ap, sym, ◌∙◌, subst, inl}
+use Rattle.std.proofs.Common.{◌≡◌, ◌⊎◌, ℕ, ◌<◌, Bool, true, false, eqb, cond, List, [], length, get_or, Option, Some, None, Ok, refl, ap, sym, ◌∙◌, subst}
+use Rattle.std.proofs.Common.{inl}
 use Rattle.std.proofs.Common.{inr, ⊎_elim, arith, eq-eqb}
 use Rattle.std.specs.List.{AllByRecursion}
 use Rattle.std.specs.Cmp.Derive.{both_true}
@@ -148,7 +149,8 @@ module _ (s : Setup) (a : Commit) (held : List Held) (may : MayCall s a held) (u
         stamp = omega (arith, old.stamp, t.same);
         vcpu = old.vcpu;
         lpi = old.lpi;
-        current = λ is. ⊎_elim (λ (y : located (translator u' its) e.dev.0 e.ev.0 ≡ Ok e.target). y) (λ (w : IsWithout s its e.dev.0 e.ev.0 owed). absurd (kept w))
+        current = λ is. ⊎_elim (λ (y : located (translator u' its) e.dev.0 e.ev.0 ≡ Ok e.target). y) (λ (w : IsWithout s its e.dev.0 e.ev.0 owed). absurd
+            (kept w))
             (still_located its lt t.steady e.dev.0 e.ev.0 e.target (old.current (is ∙ t.same)));
       })
       (λ rest. ⊎_elim

@@ -5,7 +5,8 @@ use Rattle.std.proofs.lemmas.Bool.{cond_both, both_ways}
 use Rattle.std.proofs.lemmas.Option.{get_or_from_slice_get}
 use mathlib.Core.Logic.{dite}
 use native.Mathlib.Decide.{ℕ_discrete}
-use Rattle.gits_regs.specs.Registers.{Registers, Written, write_ctlr, write_cbaser, write_cwriter, write_baser0, write_baser1, write_64, write_word, write_reg}
+use Rattle.gits_regs.specs.Registers.{Registers, Written, write_ctlr, write_cbaser, write_cwriter, write_baser0, write_baser1, write_64, write_word}
+use Rattle.gits_regs.specs.Registers.{write_reg}
 use Rattle.gits_regs.specs.Registers.{is_32, kept_offset, queue_size, has_bases, read_64}
 use Rattle.its_types.specs.Halves.{low_half, with_low_half, with_high_half}
 use Rattle.its_types.specs.Bits.{bit_of}
@@ -15,7 +16,8 @@ use Rattle.its_types.specs.Maps.{Maps as MapsOf}
 use Rattle.its_types.specs.declared.ids.Target.{Target}
 use Rattle.its_types.specs.declared.machine.Part.{Part}
 use Rattle.its_types.specs.declared.machine.Part.TheVariants as part
-use Rattle.its_plain.specs.Answer.{emptied, has_same_tables, translator_written, written, command_left, is_idle, next_bytes, met_left, step_left, went_on, left}
+use Rattle.its_plain.specs.Answer.{emptied, has_same_tables, translator_written, written, command_left, is_idle, next_bytes, met_left, step_left, went_on}
+use Rattle.its_plain.specs.Answer.{left}
 use Rattle.its_plain.specs.Commands.{ran}
 use Rattle.its_plain.specs.Plain.{Plain, Translator, translator, no_translator, regs_of, maps_of}
 use Rattle.its_plain.specs.Translation.{located}

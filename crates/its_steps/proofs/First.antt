@@ -77,7 +77,8 @@ module _ (s : Setup) (sound : IsSound s.start) where
   }
   first_home part.Mem st = record {
     content = Mem s.start.memory s.start.track;
-    slot = past maps (some (Mem s.start.memory s.start.track) ∷ (shards ++ redists)) (translator_count s) 0 (some (Mem s.start.memory s.start.track)) (omega (arith, maps_long)) refl;
+    slot = past maps (some (Mem s.start.memory s.start.track) ∷ (shards ++ redists)) (translator_count s) 0 (some (Mem s.start.memory s.start.track))
+        (omega (arith, maps_long)) refl;
     right = (refl, refl);
   }
   first_home (part.Shard its n) st = record {

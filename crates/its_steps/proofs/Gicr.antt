@@ -1,5 +1,6 @@
 -- Writes of the LPI registers of a redistributor.
-use Rattle.std.proofs.Common.{◌≡◌, ℕ, Bool, true, ◌<◌, if◌then◌else◌, List, [], ◌∷◌, length, Option, refl, ap, ◌∙◌, inl, inr, arith, length-set, get_or-set_same}
+use Rattle.std.proofs.Common.{◌≡◌, ℕ, Bool, true, ◌<◌, if◌then◌else◌, List, [], ◌∷◌, length, Option, refl, ap, ◌∙◌, inl, inr, arith, length-set}
+use Rattle.std.proofs.Common.{get_or-set_same}
 use Rattle.guest_windows.specs.Windows.{Window}
 use Rattle.dirty_log.specs.declared.tracked.Tracked.{Tracked}
 use Rattle.gicr_regs.specs.Registers.{asked_by, asked_by_word, done_by, written_gicr, turned_off}

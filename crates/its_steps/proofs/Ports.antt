@@ -1,5 +1,6 @@
 -- Calls that need one redistributor, memory, or one translator's maps.
-use Rattle.std.proofs.Common.{◌≡◌, ℕ, Bool, false, ◌+◌, ◌<◌, if◌then◌else◌, List, [], ◌∷◌, length, set, Option, Some, None, refl, ap, sym, ◌∙◌, inl, arith, length-set}
+use Rattle.std.proofs.Common.{◌≡◌, ℕ, Bool, false, ◌+◌, ◌<◌, if◌then◌else◌, List, [], ◌∷◌, length, set, Option, Some, None, refl, ap, sym, ◌∙◌, inl, arith}
+use Rattle.std.proofs.Common.{length-set}
 use Rattle.std.proofs.Common.{get_or-set_same}
 use Rattle.guest_windows.specs.Windows.{Window, write_at}
 use Rattle.dirty_log.specs.declared.tracked.Tracked.{Tracked}
@@ -11,14 +12,16 @@ use Rattle.its_types.specs.declared.ids.Vcpu.{Vcpu}
 use Rattle.its_types.specs.declared.machine.Part.{Part}
 use Rattle.its_types.specs.declared.machine.Part.TheVariants as part
 use Rattle.its_types.specs.declared.machine.Word.{Word}
-use Rattle.its_plain.specs.Answer.{ack_of, lowest, best, claimed, taken, poke_reply, peek_reply, written, translator_written, poke_left, poked, copy_count, reply_of, left}
+use Rattle.its_plain.specs.Answer.{ack_of, lowest, best, claimed, taken, poke_reply, peek_reply, written, translator_written, poke_left, poked, copy_count}
+use Rattle.its_plain.specs.Answer.{reply_of, left}
 use Rattle.its_plain.specs.Parts.{footprint}
 use Rattle.its_plain.specs.Plain.{Plain, Translator, Redistributor, translator, redistributor, with_redistributor, no_translator, no_redistributor}
 use Rattle.its_plain.specs.declared.call.Call.{Call}
 use Rattle.its_plain.specs.declared.call.Call.TheVariants as call
 use Rattle.its_plain.specs.declared.call.Reply.{Reply}
 use Rattle.its_plain.specs.declared.call.Reply.TheVariants as reply
-use Rattle.its_steps.specs.Calls.{staying, stamping, IsCalm, turns_off, poked_content, peeked_in, DmaMayCommit, NothingMayCommit, CopyMayCommit, TakeMayCommit, ShowMayCommit, BestMayCommit, ClaimMayCommit, PokeMayCommit, PeekMayCommit, ReadMayCommit}
+use Rattle.its_steps.specs.Calls.{staying, stamping, IsCalm, turns_off, poked_content, peeked_in, DmaMayCommit, NothingMayCommit, CopyMayCommit}
+use Rattle.its_steps.specs.Calls.{TakeMayCommit, ShowMayCommit, BestMayCommit, ClaimMayCommit, PokeMayCommit, PeekMayCommit, ReadMayCommit}
 use Rattle.its_steps.specs.Calls.{WriteMayCommit, WriteMayRise}
 use Rattle.its_steps.specs.Contents.{Content, Maps, Mem, Redist, Held}
 use Rattle.its_steps.specs.Endings.{Nothing, All, ending_of}
@@ -189,7 +192,8 @@ pub nothings : NothingMayCommit
 unfolding footprint reply_of left
 nothings s last req addr bytes vcpus room = (
   (
-    calm_may s last (call.Dma req addr bytes route.NoRequester) reply.NoRequester change.Keep [] vcpus tt room tt tt tt (inl record { covers = tt; reply_is = refl })
+    calm_may s last (call.Dma req addr bytes route.NoRequester) reply.NoRequester change.Keep [] vcpus tt room tt tt tt
+        (inl record { covers = tt; reply_is = refl })
         tt,
     refl,
   ),

@@ -251,7 +251,8 @@ module _ (s : Setup) (last : Word) (c : Call) (its : ℕ) (dev : DeviceId) (ev :
         maps = subst (λ (i : ℕ). Holds (part.Maps i) three) (sym is.its_is) (inr (inr (inl refl)));
         shard = subst (λ (i : ℕ). Holds (part.Shard i n) three) (sym is.its_is) (inr (inl refl));
         redist = inl refl;
-        agrees = ap (λ (i : ℕ). translated (left a c (sent target r st behind)) i dev.0 ev.0) is.its_is ∙ goes_to (left a c (sent target r st behind)) target true maps_after goes
+        agrees = ap (λ (i : ℕ). translated (left a c (sent target r st behind)) i dev.0 ev.0) is.its_is
+            ∙ goes_to (left a c (sent target r st behind)) target true maps_after goes
             (ap (λ (x : Redistributor). x.bases.on) (sent_redist target r st behind long) ∙ on);
       }
 

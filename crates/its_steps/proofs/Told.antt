@@ -1,5 +1,6 @@
 -- What a step ends is told by its reply, and two states that agree on a call's footprint end the same.
-use Rattle.std.proofs.Common.{◌≡◌, ℕ, Bool, true, false, not, ◌&&◌, ◌||◌, List, [], ◌∷◌, Option, Some, None, Result, Ok, Err, refl, ap, sym, ◌∙◌, if◌then◌else◌}
+use Rattle.std.proofs.Common.{◌≡◌, ℕ, Bool, true, false, not, ◌&&◌, ◌||◌, List, [], ◌∷◌, Option, Some, None, Result, Ok, Err, refl, ap, sym, ◌∙◌}
+use Rattle.std.proofs.Common.{if◌then◌else◌}
 use Rattle.guest_windows.specs.Windows.{read_at}
 use Rattle.gits_regs.specs.Registers.{write_reg, queue_place, is_queue_empty}
 use Rattle.its_command.specs.Commands.{decoded, op_of}

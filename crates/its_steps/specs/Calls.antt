@@ -195,9 +195,11 @@ WriteMayRise = (s : Setup) (last : Word) (its off size value : ℕ) (t : Transla
 
 -- a signal that is found in its pair's shard needs that and the target's redistributor, whose LPIs are on
 abbrev pub HitMayCommit : Type 0
-HitMayCommit = (s : Setup) (last : Word) (c : Call) (its : ℕ) (dev : DeviceId) (ev : EventId) (target : Target) (ways : List (Option Translation)) (r : Redistributor)
+HitMayCommit = (s : Setup) (last : Word) (c : Call) (its : ℕ) (dev : DeviceId) (ev : EventId) (target : Target) (ways : List (Option Translation))
+    (r : Redistributor)
     → message_of c ≡ Some (its, (dev, ev)) → HasVcpus s → its < translator_count s → target.vcpu.0 < vcpu_count s
-    → shard_number dev.0 ev.0 s.shards < s.shards → last.place < s.limits.place_last → found ways dev.0 ev.0 (stamp_of s last its) ≡ Some target → r.bases.on ≡ true
+    → shard_number dev.0 ev.0 s.shards < s.shards → last.place < s.limits.place_last → found ways dev.0 ev.0 (stamp_of s last its) ≡ Some target
+    → r.bases.on ≡ true
     → let shard : Held = out (part.Shard its (shard_number dev.0 ev.0 s.shards)) (Shard ways) in
     MayLeave s (staying last c (reply.Signal (Delivered target.vcpu target.intid)) change.Keep)
     (out (part.Redist target.vcpu) (Redist r) ∷ shard ∷ []) (out (part.Redist target.vcpu) (Redist (record r { pending = with_lpi target.intid.0 r.pending }))
@@ -205,15 +207,18 @@ HitMayCommit = (s : Setup) (last : Word) (c : Call) (its : ℕ) (dev : DeviceId)
 
 -- also where its LPIs are off: it is dropped
 abbrev pub HitOffMayCommit : Type 0
-HitOffMayCommit = (s : Setup) (last : Word) (c : Call) (its : ℕ) (dev : DeviceId) (ev : EventId) (target : Target) (ways : List (Option Translation)) (r : Redistributor)
+HitOffMayCommit = (s : Setup) (last : Word) (c : Call) (its : ℕ) (dev : DeviceId) (ev : EventId) (target : Target) (ways : List (Option Translation))
+    (r : Redistributor)
     → message_of c ≡ Some (its, (dev, ev)) → HasVcpus s → its < translator_count s → target.vcpu.0 < vcpu_count s
-    → shard_number dev.0 ev.0 s.shards < s.shards → last.place < s.limits.place_last → found ways dev.0 ev.0 (stamp_of s last its) ≡ Some target → r.bases.on ≡ false
+    → shard_number dev.0 ev.0 s.shards < s.shards → last.place < s.limits.place_last → found ways dev.0 ev.0 (stamp_of s last its) ≡ Some target
+    → r.bases.on ≡ false
     → let held : List Held = out (part.Redist target.vcpu) (Redist r) ∷ out (part.Shard its (shard_number dev.0 ev.0 s.shards)) (Shard ways) ∷ [] in
     MayLeave s (staying last c (reply.Signal (Dropped LpisOff)) change.Keep) held held
 
 -- one that the maps send to a redistributor whose LPIs are on needs the maps too, and may fill its pair's shard
 abbrev pub FillMayCommit : Type 0
-FillMayCommit = (s : Setup) (last : Word) (c : Call) (its : ℕ) (dev : DeviceId) (ev : EventId) (target : Target) (t : Translator) (ways : List (Option Translation))
+FillMayCommit = (s : Setup) (last : Word) (c : Call) (its : ℕ) (dev : DeviceId) (ev : EventId) (target : Target) (t : Translator) (ways : List
+    (Option Translation))
     (r : Redistributor) → message_of c ≡ Some (its, (dev, ev)) → HasVcpus s → its < translator_count s → target.vcpu.0 < vcpu_count s
     → shard_number dev.0 ev.0 s.shards < s.shards → last.place < s.limits.place_last → located t dev.0 ev.0 ≡ Ok target → r.bases.on ≡ true
     → let n : ℕ = shard_number dev.0 ev.0 s.shards in
@@ -224,14 +229,18 @@ FillMayCommit = (s : Setup) (last : Word) (c : Call) (its : ℕ) (dev : DeviceId
 
 -- one that the maps send nowhere needs the maps alone
 abbrev pub DropMayCommit : Type 0
-DropMayCommit = (s : Setup) (last : Word) (c : Call) (its : ℕ) (dev : DeviceId) (ev : EventId) (cause : Cause) (t : Translator) → message_of c ≡ Some (its, (dev, ev)) → HasVcpus s → its < translator_count s
+DropMayCommit = (s : Setup) (last : Word) (c : Call) (its : ℕ) (dev : DeviceId) (ev : EventId) (cause : Cause) (t : Translator) → message_of c ≡ Some (
+  its,
+  (dev, ev),
+) → HasVcpus s → its < translator_count s
     → last.place < s.limits.place_last → located t dev.0 ev.0 ≡ Err cause
     → let held : List Held = out (part.Maps its) (Maps t) ∷ [] in MayLeave s (staying last c (reply.Signal (Dropped cause)) change.Keep)
     held held
 
 -- one whose target's LPIs are off needs that redistributor too; the pair's shard was taken before that was seen, and stays as it was
 abbrev pub OffMayCommit : Type 0
-OffMayCommit = (s : Setup) (last : Word) (c : Call) (its : ℕ) (dev : DeviceId) (ev : EventId) (target : Target) (t : Translator) (ways : List (Option Translation))
+OffMayCommit = (s : Setup) (last : Word) (c : Call) (its : ℕ) (dev : DeviceId) (ev : EventId) (target : Target) (t : Translator) (ways : List
+    (Option Translation))
     (r : Redistributor) → message_of c ≡ Some (its, (dev, ev)) → HasVcpus s → its < translator_count s → target.vcpu.0 < vcpu_count s
     → shard_number dev.0 ev.0 s.shards < s.shards → last.place < s.limits.place_last → located t dev.0 ev.0 ≡ Ok target → r.bases.on ≡ false
     → let held : List Held = out (part.Redist target.vcpu) (Redist r) ∷ out (part.Shard its (shard_number dev.0 ev.0 s.shards)) (Shard ways) ∷ out

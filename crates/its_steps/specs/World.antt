@@ -124,7 +124,8 @@ first_view s = fresh s 0 1 [] first_word
 abbrev pub first_slots : Setup → List (Option Content)
 first_slots s =
     map (λ t. some (Maps t)) s.start.translators
-    ++ (some (Mem s.start.memory s.start.track) ∷ (replicate (translator_count s * s.shards) (some (Shard no_entries)) ++ map (λ r. some (Redist r)) s.start.redistributors))
+    ++ (some (Mem s.start.memory s.start.track) ∷ (replicate (translator_count s * s.shards) (some (Shard no_entries)) ++ map (λ r. some
+    (Redist r)) s.start.redistributors))
 
 abbrev pub first_world : Setup → World
 first_world s = record { word = first_word; turns = replicate (part_count s) 0; slots = first_slots s; views = first_view s ∷ [] }

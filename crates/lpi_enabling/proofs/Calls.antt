@@ -18,7 +18,8 @@ use Rattle.its_command.specs.Commands.{decoded}
 use Rattle.its_plain.specs.Plain.{Plain, Redistributor, redistributor, no_redistributor, translator, pending_of, is_on, with_redistributor}
 use Rattle.its_plain.specs.Translation.{translated, located, ensure, ◌>>=◌}
 use Rattle.its_plain.specs.Commands.{ran}
-use Rattle.its_plain.specs.Answer.{answer, reply_of, left, signal_left, signal_reply, ack_of, lowest, best, claimed, taken, written, is_idle, next_bytes, met_left, step_left}
+use Rattle.its_plain.specs.Answer.{answer, reply_of, left, signal_left, signal_reply, ack_of, lowest, best, claimed, taken, written, is_idle, next_bytes}
+use Rattle.its_plain.specs.Answer.{met_left, step_left}
 use Rattle.its_plain.specs.Answer.{command_left, save_left, poke_reply, poke_left, route_reply, route_left}
 use Rattle.its_plain.specs.Regions.{savable}
 use Rattle.its_plain.specs.Saved.{saved, moved}

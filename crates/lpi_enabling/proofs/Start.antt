@@ -1,5 +1,6 @@
 -- The first state of a machine whose LPI registers the guest programs, unless it is restored with LPIs on.
-use Rattle.std.proofs.Common.{◌≡◌, ℕ, zero, suc, ◌<◌, Bool, true, false, List, [], ◌∷◌, length, map, replicate, take, get_or, Option, Some, Result, Ok, Err, IfOk}
+use Rattle.std.proofs.Common.{◌≡◌, ℕ, zero, suc, ◌<◌, Bool, true, false, List, [], ◌∷◌, length, map, replicate, take, get_or, Option, Some, Result, Ok, Err}
+use Rattle.std.proofs.Common.{IfOk}
 use Rattle.std.proofs.Common.{inl, inr, refl, sym, ap, subst, ◌∙◌}
 use Rattle.std.specs.Prelude.{slice_get}
 use Rattle.std.specs.List.{AllByRecursion}
@@ -97,10 +98,12 @@ standing_off memory values l bases u off h v =
       | inr past ↦ subst IsOff (sym (get_or_past u.redistributors v no_redistributor past)) none_off
     ]
 
-starts_off : (restored : Bool) (values : List (Option RegValues)) (vcpus : ℕ) (t : LpiTables) (base u : Plain) → RestoresOff t → AllOff base → StartsAt restored values (bases_given vcpus t) base u
+starts_off : (restored : Bool) (values : List (Option RegValues)) (vcpus : ℕ) (t : LpiTables) (base u : Plain) → RestoresOff t → AllOff base
+    → StartsAt restored values (bases_given vcpus t) base u
     → AllOff u
 starts_off false values vcpus t base u h off is = subst AllOff (sym is) off
 starts_off true values vcpus t base u h off is = standing_off base.memory values base.layout (bases_given vcpus t) u (bases_off vcpus t h) is
 
 pub start_off : MachinesStartOff
-start_off d u is h = starts_off (is_restored d) (values_of d) d.shape.vcpus d.tables is.base u h (if_ok_at AllOff (made d) is.base (made_off d h) is.made_is) is.starts
+start_off d u is h = starts_off (is_restored d) (values_of d) d.shape.vcpus d.tables is.base u h (if_ok_at AllOff (made d) is.base
+    (made_off d h) is.made_is) is.starts

@@ -116,7 +116,8 @@ module _ (s : Shape) (memory : List Window) (P Q : Type 0) where
 pub written_goes : (s : Shape) (memory : List Window) (r : Redistributor) (off size value : ℕ) → Goes (IsEnabling off size value)
     ((s.linux ≡ true) × IsDisabling off size value) r (written_gicr s memory r off size value)
 unfolding written_gicr
-written_goes s memory r off size value = done s memory (IsEnabling off size value) (IsDisabling off size value) r (asked_by r.bases off size value) (asked r.bases off size value)
+written_goes s memory r off size value = done s memory (IsEnabling off size value) (IsDisabling off size value) r (asked_by r.bases off size value)
+    (asked r.bases off size value)
 
 -- with 0 written, where the machine lets it, they are off
 pub written_off : (s : Shape) (memory : List Window) (r : Redistributor) (off size value : ℕ) → s.linux ≡ true → IsDisabling off size value

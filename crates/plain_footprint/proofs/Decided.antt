@@ -18,7 +18,8 @@ use Rattle.its_plain.specs.declared.layout.Layout.{Layout}
 use Rattle.its_plain.specs.Plain.{Plain, Translator, Redistributor, translator, redistributor, regs_of, is_on, with_redistributor}
 use Rattle.its_plain.specs.Translation.{◌>>=◌, ensure, located, translated}
 use Rattle.its_plain.specs.Commands.{ran}
-use Rattle.its_plain.specs.Answer.{signal_reply, signal_left, ack_of, lowest, best, claimed, taken, poke_reply, peek_reply, translator_written, written, command_reply}
+use Rattle.its_plain.specs.Answer.{signal_reply, signal_left, ack_of, lowest, best, claimed, taken, poke_reply, peek_reply, translator_written, written}
+use Rattle.its_plain.specs.Answer.{command_reply}
 use Rattle.its_plain.specs.Answer.{command_left, save_reply, save_left, is_idle, next_bytes, met_reply, met_left, step_reply, step_left, reply_of, left}
 use Rattle.its_plain.specs.Answer.{answer, poke_left, poked, copy_count, copy_left, route_reply, route_left}
 use Rattle.its_plain.specs.declared.call.Route.{Route}

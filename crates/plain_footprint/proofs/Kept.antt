@@ -1,5 +1,6 @@
 -- One induction over commands: what their parts keep, every command keeps.
-use Rattle.std.proofs.Common.{◌≡◌, ℕ, zero, suc, ◌^◌, Bool, true, false, ◌&&◌, is_some, nat_lt, nat_le, eqb, if◌then◌else◌, List, [], ◌∷◌, get_or, set, Option, Some, None}
+use Rattle.std.proofs.Common.{◌≡◌, ℕ, zero, suc, ◌^◌, Bool, true, false, ◌&&◌, is_some, nat_lt, nat_le, eqb, if◌then◌else◌, List, [], ◌∷◌, get_or, set}
+use Rattle.std.proofs.Common.{Option, Some, None}
 use Rattle.std.proofs.Common.{Result, Ok, Err, IfOk, refl, ◌∙◌}
 use Rattle.std.specs.Prelude.{ok_or}
 use Rattle.std.proofs.lemmas.Bool.{and_parts, cond_both}
@@ -145,7 +146,8 @@ module _ (P : Plain → Type 0) (keeps : IsKept P) where
 
   int_kept : (u : Plain) (i dev ev : ℕ) → P u → IfOk (int u i dev ev) P
   unfolding int
-  int_kept u i dev ev h = with_ok (λ lpi. is_on u lpi.1.0 ≡ true) P (lpi_at u i dev ev) _ (lpi_at_on u i dev ev) (λ lpi on. keeps.lpis.set u lpi.0.0 lpi.1.0 on h)
+  int_kept u i dev ev h = with_ok (λ lpi. is_on u lpi.1.0 ≡ true) P (lpi_at u i dev ev) _ (lpi_at_on u i dev ev)
+      (λ lpi on. keeps.lpis.set u lpi.0.0 lpi.1.0 on h)
 
   clear_kept : (u : Plain) (i dev ev : ℕ) → P u → IfOk (clear u i dev ev) P
   unfolding clear

@@ -17,7 +17,8 @@ use Rattle.its_plain.specs.Plain.{Plain, translator, redistributor, regs_of, pen
 use Rattle.its_plain.specs.Sound.{IsSound}
 use Rattle.its_plain.specs.Translation.{◌>>=◌, ensure, located, translated}
 use Rattle.its_plain.specs.Commands.{ran}
-use Rattle.its_plain.specs.Answer.{signal_reply, signal_left, lowest, claimed, taken, translator_written, written, command_left, save_left, is_idle, next_bytes}
+use Rattle.its_plain.specs.Answer.{signal_reply, signal_left, lowest, claimed, taken, translator_written, written, command_left, save_left, is_idle}
+use Rattle.its_plain.specs.Answer.{next_bytes}
 use Rattle.its_plain.specs.Answer.{met_left, step_left, poke_left, route_reply, route_left, reply_of, left, answer}
 use Rattle.its_types.specs.declared.ids.Addr.{Addr}
 use Rattle.its_plain.specs.declared.call.Route.{Route}
@@ -122,7 +123,8 @@ others_stay u (call.Poke addr bytes) sound = poke_stays u addr.0 bytes (write_at
 others_stay u (call.Peek addr count) sound = stay u (Mem ∷ [])
 others_stay u (call.ReadReg its off size) sound = stay u (MapsOf its ∷ [])
 others_stay u (call.WriteReg its off size value) sound =
-    stay_translator u u (MapsOf its ∷ []) its (translator_written u.layout.shape (translator u its) (write_reg (regs_of u its) off size value)) (in_head (MapsOf its) [])
+    stay_translator u u (MapsOf its ∷ []) its (translator_written u.layout.shape (translator u its) (write_reg (regs_of u its) off size value)) (in_head
+    (MapsOf its) [])
     (stay u (MapsOf its ∷ []))
 others_stay u (call.ReadGicr vcpu off size) sound = stay u (Redist vcpu ∷ [])
 others_stay u (call.WriteGicr vcpu off size value) sound =

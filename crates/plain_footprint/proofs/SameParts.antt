@@ -14,7 +14,8 @@ use Rattle.its_plain.specs.Plain.{Plain, Translator, translator, maps_of}
 use Rattle.its_plain.specs.declared.layout.Layout.{Layout}
 use Rattle.its_plain.specs.Translation.{located}
 use Rattle.its_plain.specs.Answer.{is_idle, next_bytes}
-use Rattle.its_plain.specs.Parts.{AgreesOn, translators_below, redists_below, redist_of, target_of_event, moved_targets, both_targets, needed, signal_parts, route_parts, footprint}
+use Rattle.its_plain.specs.Parts.{AgreesOn, translators_below, redists_below, redist_of, target_of_event, moved_targets, both_targets, needed, signal_parts}
+use Rattle.its_plain.specs.Parts.{route_parts, footprint}
 use Rattle.its_plain.specs.declared.call.Call.{Call}
 use Rattle.its_plain.specs.declared.call.Call.TheVariants as call
 use Rattle.its_plain.specs.declared.call.Route.{Route}

@@ -23,7 +23,8 @@ use Rattle.its_types.specs.declared.ids.Target.{Target}
 use Rattle.its_types.specs.declared.machine.Shape.{Shape}
 use Rattle.its_plain.specs.Translation.{translated}
 use Rattle.its_plain.specs.declared.call.Cause.{Cause}
-use Rattle.its_plain.specs.Answer.{answer, left, reply_of, lowest, claimed, taken, written, translator_written, emptied, signal_left, signal_reply, step_left, met_left}
+use Rattle.its_plain.specs.Answer.{answer, left, reply_of, lowest, claimed, taken, written, translator_written, emptied, signal_left, signal_reply}
+use Rattle.its_plain.specs.Answer.{step_left, met_left}
 use Rattle.its_plain.specs.Answer.{command_left, went_on, is_idle, next_bytes, poke_left, poked, has_same_tables, route_reply, route_left}
 use Rattle.its_plain.specs.declared.call.Route.{Route}
 use Rattle.its_plain.specs.declared.call.Route.TheVariants as route
@@ -31,7 +32,8 @@ use Rattle.its_plain.specs.Commands.{ran}
 use Rattle.its_plain.specs.declared.call.Reason.{Reason}
 use Rattle.its_command.specs.Commands.{decoded}
 use Rattle.its_plain.specs.declared.call.Call.TheVariants as call
-use Rattle.plain_soundness.specs.Laws.{ShowKeepsSound, BestKeepsSound, ClaimKeepsSound, PeekKeepsSound, RegisterReadKeepsSound, TakeKeepsSound, PokeKeepsSound, RegisterWriteKeepsSound}
+use Rattle.plain_soundness.specs.Laws.{ShowKeepsSound, BestKeepsSound, ClaimKeepsSound, PeekKeepsSound, RegisterReadKeepsSound, TakeKeepsSound}
+use Rattle.plain_soundness.specs.Laws.{PokeKeepsSound, RegisterWriteKeepsSound}
 use Rattle.plain_soundness.specs.Laws.{SignalKeepsSound, StepKeepsSound, CallsKeepSound, HistoriesKeepSound, CopyKeepsSound, DmaKeepsSound}
 use Rattle.plain_soundness.proofs.States.{IsLpi, translator_replaced, translator_sound, redistributor_replaced, redistributor_sound, regs_replaced}
 use Rattle.plain_soundness.proofs.States.{memory_replaced, some_map, each_map}

@@ -1,5 +1,6 @@
 -- The first state of a machine.
-use Rattle.std.proofs.Common.{◌≡◌, ℕ, zero, suc, ◌+◌, ◌≤◌, Bool, true, false, cond, List, [], ◌∷◌, length, map, replicate, Option, Some, None, Result, Ok, Err}
+use Rattle.std.proofs.Common.{◌≡◌, ℕ, zero, suc, ◌+◌, ◌≤◌, Bool, true, false, cond, List, [], ◌∷◌, length, map, replicate, Option, Some, None, Result, Ok}
+use Rattle.std.proofs.Common.{Err}
 use Rattle.std.proofs.Common.{IfOk, refl, ap, subst, ◌∙◌, arith}
 use Rattle.std.specs.Prelude.{slice_get, ok_or, nat_le, sum}
 use Rattle.std.proofs.lemmas.Bool.{and_parts, both_ways}
@@ -23,7 +24,8 @@ use Rattle.its_plain.specs.Sound.{IsSound, IsTranslator, IsRedistributor, HasTab
 use Rattle.gicr_regs.specs.Redistributors.{off_redistributor}
 use Rattle.gicr_regs.specs.declared.values.GicrValues.{GicrValues}
 use Rattle.its_types.specs.Lpis.{no_bases}
-use Rattle.its_plain.specs.Machine.{made, windows_fit, started, pending_inside, tables_inside, filled, described_bases, described_in, are_programmed, layout_of}
+use Rattle.its_plain.specs.Machine.{made, windows_fit, started, pending_inside, tables_inside, filled, described_bases, described_in, are_programmed}
+use Rattle.its_plain.specs.Machine.{layout_of}
 use Rattle.its_plain.specs.Machine.{all_frames_fit, all_new, first_redistributors, idle_redistributor, ensure, ◌>>=◌, IsDescription, HasTablesFor}
 use Rattle.its_plain.specs.declared.desc.LpiTables.{LpiTables}
 use Rattle.its_plain.specs.declared.desc.LpiTables.TheVariants.{Described, Registers}
@@ -185,7 +187,8 @@ AreSound l memory rs = (length rs ≡ l.shape.vcpus) × ((v : ℕ) (r : Redistri
 abbrev layout_in : Shape → Bool → LpiTables → Layout
 layout_in s track t = record { shape = s; gicr = are_programmed t; described = described_in t; track = track }
 
-described_sound : (s : Shape) (track : Bool) (memory : List Window) (config : Addr) (pending : List Addr) (bytes : List ℕ) → AreInside s memory (Described config pending)
+described_sound : (s : Shape) (track : Bool) (memory : List Window) (config : Addr) (pending : List Addr) (bytes : List ℕ)
+    → AreInside s memory (Described config pending)
     → length pending ≡ s.vcpus
     → length bytes ≡ lpi_count s.lpi_bits → AreSound (layout_in s track (Described config pending)) memory
     (map (idle_redistributor bytes) (map (described_bases config) pending))
@@ -214,7 +217,8 @@ programmed_sound s track memory values = (
       (off_sound (layout_in s track (Registers values)) memory v refl),
 )
 
-first_sound : (s : Shape) (track : Bool) (memory : List Window) (t : LpiTables) → AreInside s memory t → HasTablesFor s.vcpus t → IfOk (first_redistributors s memory t)
+first_sound : (s : Shape) (track : Bool) (memory : List Window) (t : LpiTables) → AreInside s memory t → HasTablesFor s.vcpus t
+    → IfOk (first_redistributors s memory t)
     (AreSound (layout_in s track t) memory)
 first_sound s track memory (Described config pending) fit count =
     found (AreSound (layout_in s track (Described config pending)) memory) (read_at memory config.0 (lpi_count s.lpi_bits)) Config _ (λ bytes read.

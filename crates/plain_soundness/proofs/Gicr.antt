@@ -50,7 +50,8 @@ set_while_off b off size value =
     either P (size == 8) _ _
     (either P (off == 0x70) _ _ (set _ refl) (either P (off == 0x78) _ _ (set _ refl) (either P (off == 0xA0) _ _ tt (either P (off == 0xB0) _ _ tt tt))))
     (either P (size == 4) _ _
-    (either P (off == 0x0) _ _ (either P (bit_of (low_half value) 0) _ _ (either P b.on writes.Ignored writes.Enable tt tt) (either P b.on writes.Disable writes.Ignored tt tt))
+    (either P (off == 0x0) _ _ (either P (bit_of (low_half value) 0) _ _ (either P b.on writes.Ignored writes.Enable tt tt)
+    (either P b.on writes.Disable writes.Ignored tt tt))
     (either P (off == 0x70) _ _ (set _ refl)
     (either P (off == 0x74) _ _ (set _ refl) (either P (off == 0x78) _ _ (set _ refl) (either P (off == 0x7C) _ _ (set _ refl)
     (either P (off == 0xA0) _ _ tt (either P (off == 0xB0 || off == 0xB4) _ _ tt tt)))))))

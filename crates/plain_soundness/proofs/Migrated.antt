@@ -1,5 +1,6 @@
 -- A migration goes on from a sound state.
-use Rattle.std.proofs.Common.{◌≡◌, ℕ, zero, suc, ◌*◌, Bool, true, false, List, [], ◌∷◌, length, map, Option, Some, None, Result, Ok, Err, inl, inr, refl, sym, ap, subst}
+use Rattle.std.proofs.Common.{◌≡◌, ℕ, zero, suc, ◌*◌, Bool, true, false, List, [], ◌∷◌, length, map, Option, Some, None, Result, Ok, Err, inl, inr, refl}
+use Rattle.std.proofs.Common.{sym, ap, subst}
 use Rattle.std.proofs.Common.{◌∙◌, arith}
 use Rattle.std.specs.Prelude.{unwrap_or, is_some, slice_index}
 use Rattle.std.specs.Option.{option_map}
@@ -51,7 +52,8 @@ word_stays memory address word a apart = maybe (write_at memory address (little_
     (read_at-write_at_apart memory address (little_bytes 8 word) now a 1 e
     (subst (λ (k : ℕ). Apart address k a 1) (sym (length-bytes_low_first 0 8 word)) apart)))
   where
-    maybe : (o : Option (List Window)) → ((now : List Window) → o ≡ Some now → byte_at now a ≡ byte_at memory a) → byte_at (unwrap_or o memory) a ≡ byte_at memory a
+    maybe : (o : Option (List Window)) → ((now : List Window) → o ≡ Some now → byte_at now a ≡ byte_at memory a) → byte_at (unwrap_or o memory) a
+        ≡ byte_at memory a
     maybe None after = refl
     maybe (Some now) after = after now refl
 

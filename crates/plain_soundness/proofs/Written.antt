@@ -4,7 +4,8 @@ use Rattle.std.proofs.lemmas.Bool.{cond_both}
 use Rattle.its_types.specs.Bits.{bit_of}
 use Rattle.its_types.specs.Maps.{Maps}
 use Rattle.its_types.specs.declared.machine.Shape.{Shape}
-use Rattle.gits_regs.specs.Registers.{Registers, Written, write_reg, write_64, write_word, write_ctlr, write_cbaser, write_cwriter, write_baser0, write_baser1}
+use Rattle.gits_regs.specs.Registers.{Registers, Written, write_reg, write_64, write_word, write_ctlr, write_cbaser, write_cwriter, write_baser0}
+use Rattle.gits_regs.specs.Registers.{write_baser1}
 use Rattle.gits_regs.specs.Registers.{unchanged, kept_cbaser, kept_baser0, kept_baser1, kept_offset, has_bases, is_same_queue, is_32, queue_size}
 use Rattle.its_types.specs.Halves.{low_half, with_low_half, with_high_half}
 use Rattle.gits_regs.specs.Registers.{read_64}

@@ -23,7 +23,8 @@ leads_by : (r : Registers) (i : ℕ) (o : Option ℕ) → option_and_then (λ wo
 leads_by r i None = refl
 leads_by r i (Some word) = refl
 
-pub next_is : (memory : List Window) (r : Registers) (i : ℕ) → next_collection memory r i ≡ collection_leads r i (option_and_then unpacked_collection (number_at memory (collection_address r i)))
+pub next_is : (memory : List Window) (r : Registers) (i : ℕ) → next_collection memory r i ≡ collection_leads r i (option_and_then unpacked_collection
+    (number_at memory (collection_address r i)))
 next_is memory r i = leads_by r i (number_at memory (collection_address r i))
 
 leads_up : (r : Registers) (i q : ℕ) (o : Option CollectionFields) → collection_leads r i o ≡ Some q → (q ≡ i + 1) × (i + 1 < collection_places r)

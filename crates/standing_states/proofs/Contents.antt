@@ -1,5 +1,6 @@
 -- The maps of what the walks find are those that memory stands for.
-use Rattle.std.proofs.Common.{◌≡◌, ◌⊎◌, ℕ, zero, suc, ◌-◌, ◌<◌, Bool, true, false, not, cond, nat_lt, List, [], Option, Some, None, Result, Ok, Err, refl, sym}
+use Rattle.std.proofs.Common.{◌≡◌, ◌⊎◌, ℕ, zero, suc, ◌-◌, ◌<◌, Bool, true, false, not, cond, nat_lt, List, [], Option, Some, None, Result, Ok, Err, refl}
+use Rattle.std.proofs.Common.{sym}
 use Rattle.std.proofs.Common.{subst, ap, ◌∙◌, inl, inr, arith, ◌↔◌}
 use Rattle.std.specs.Prelude.{◌||◌}
 use Rattle.std.specs.Option.{option_and_then, ok_or}
@@ -55,7 +56,8 @@ number_of (Some c) = record { 0 = c.vcpu_number }
 
 module _ (s : Shape) (memory : List Window) (r : Registers) where
   pub entry_of_word : (j : ℕ) (c : CollectionFields) (f : RestoreFault) (o : Option ℕ)
-      → (ok_or o f >>= λ w. collection_entry_check s memory r j (counted s (unpacked_collection w))) ≡ Ok tt → option_and_then (λ w. counted s (unpacked_collection w)) o ≡ Some c
+      → (ok_or o f >>= λ w. collection_entry_check s memory r j (counted s (unpacked_collection w))) ≡ Ok tt → option_and_then (λ w. counted s
+      (unpacked_collection w)) o ≡ Some c
       → collection_entry_check s memory r j (Some c) ≡ Ok tt
   entry_of_word j c f None h e = absurd cc
   entry_of_word j c f (Some w) h e = ap (collection_entry_check s memory r j) (sym e) ∙ h

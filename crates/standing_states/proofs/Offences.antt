@@ -1,5 +1,6 @@
 -- There is at most one first offence, and none where a state stands.
-use Rattle.std.proofs.Common.{◌≡◌, ℕ, zero, suc, ◌<◌, ◌≤◌, true, false, List, [], ◌∷◌, length, Option, Some, None, Result, Ok, Err, refl, sym, subst, ap, ◌∙◌, inl, inr, arith}
+use Rattle.std.proofs.Common.{◌≡◌, ℕ, zero, suc, ◌<◌, ◌≤◌, true, false, List, [], ◌∷◌, length, Option, Some, None, Result, Ok, Err, refl, sym, subst, ap}
+use Rattle.std.proofs.Common.{◌∙◌, inl, inr, arith}
 use Rattle.std.specs.Option.{option_and_then, IsSome}
 use Rattle.std.specs.Result.{IsOk}
 use Rattle.std.proofs.lemmas.Bool.{cases_lt}
@@ -19,7 +20,8 @@ use Rattle.its_plain.specs.EventTables.{Itt, itt_of, event_check, next_event, Is
 use Rattle.its_plain.specs.CollectionTables.{collection_check, next_collection, AreCollectionsClear, CollectionsOffend}
 use Rattle.its_plain.specs.DeviceTables.{DevicePlace, at_level1, at_entry, first_device, id_of, device_address, device_entry, device_of_fields, next_device}
 use Rattle.its_plain.specs.DeviceTables.{IsDeviceClear, DeviceFaults, is_outside, has_bad_size, has_bad_itt, leads_past, AreDevicesClear, DevicesOffend}
-use Rattle.its_plain.specs.Stands.{Stands, IsFirstFault, IsTranslatorIn, IsTranslatorClear, TranslatorOffends, of_redistributor, of_translator, of_register, of_collection, of_device}
+use Rattle.its_plain.specs.Stands.{Stands, IsFirstFault, IsTranslatorIn, IsTranslatorClear, TranslatorOffends, of_redistributor, of_translator, of_register}
+use Rattle.its_plain.specs.Stands.{of_collection, of_device}
 use Rattle.its_plain.specs.Stands.{AreRedistributorsClear, RedistributorOffends}
 use Rattle.its_plain.specs.declared.fault.Table.TheVariants.{Devices}
 use Rattle.its_plain.specs.declared.fault.RestoreFault.{RestoreFault}
@@ -55,7 +57,8 @@ itt_apart memory n t f clear a =
 
 -- ---- collections
 
-collections_once : (s : Shape) (memory : List Window) (r : Registers) (f g : RestoreFault) → CollectionsOffend s memory r f → CollectionsOffend s memory r g → f ≡ g
+collections_once : (s : Shape) (memory : List Window) (r : Registers) (f g : RestoreFault) → CollectionsOffend s memory r f
+    → CollectionsOffend s memory r g → f ≡ g
 collections_once s memory r f g a b =
     first_once (λ i. collection_check s memory r i ≡ Ok tt) (λ i h. collection_check s memory r i ≡ Err h) (next_collection memory r)
     (λ i h. ok_or_err (collection_check s memory r i) tt h)

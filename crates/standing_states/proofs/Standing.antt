@@ -1,5 +1,6 @@
 -- What a look at a place of the device table tells: that it is clear and what it has, or its first offence.
-use Rattle.std.proofs.Common.{◌≡◌, ℕ, ◌+◌, ◌*◌, ◌^◌, ◌<◌, ◌≤◌, Bool, true, false, nat_le, List, [], ◌∷◌, Option, Some, None, Result, Ok, Err, refl, sym, subst}
+use Rattle.std.proofs.Common.{◌≡◌, ℕ, ◌+◌, ◌*◌, ◌^◌, ◌<◌, ◌≤◌, Bool, true, false, nat_le, List, [], ◌∷◌, Option, Some, None, Result, Ok, Err, refl, sym}
+use Rattle.std.proofs.Common.{subst}
 use Rattle.std.proofs.Common.{ap, ◌∙◌, inl, inr, arith, pow_pos}
 use Rattle.std.specs.Option.{option_map, ok_or, IsSome}
 use Rattle.std.proofs.lemmas.Bool.{leb-true, leb-false}

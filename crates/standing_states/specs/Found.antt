@@ -13,7 +13,8 @@ use Rattle.its_types.specs.declared.translation.Event.{Event}
 use Rattle.its_plain.specs.Walks.{ensure, ◌>>=◌}
 use Rattle.its_plain.specs.EventTables.{Itt, itt_of, event_check, event_in, next_event}
 use Rattle.its_plain.specs.CollectionTables.{collection_check, collection_entry, next_collection, stands_before}
-use Rattle.its_plain.specs.DeviceTables.{DevicePlace, at_level1, at_entry, first_device, flat_size, page_places, id_of, index_of, device_address, device_entry}
+use Rattle.its_plain.specs.DeviceTables.{DevicePlace, at_level1, at_entry, first_device, flat_size, page_places, id_of, index_of, device_address}
+use Rattle.its_plain.specs.DeviceTables.{device_entry}
 use Rattle.its_plain.specs.DeviceTables.{device_of_fields, ends_well, next_device}
 use Rattle.its_plain.specs.declared.fault.Table.TheVariants.{Devices}
 use Rattle.its_plain.specs.declared.fault.RestoreFault.{RestoreFault}

@@ -25,7 +25,8 @@ AreGiven (Registers given) values = given ≡ values
 
 -- one memory and one set of registers stand for at most one state
 abbrev pub AtMostOneStands : Type 0
-AtMostOneStands = (memory : List Window) (values : List (Option RegValues)) (layout : Layout) (bases : List Bases) (u v : Plain) → Stands memory values layout bases u
+AtMostOneStands = (memory : List Window) (values : List (Option RegValues)) (layout : Layout) (bases : List Bases) (u v : Plain)
+    → Stands memory values layout bases u
     → Stands memory values layout bases v → u ≡ v
 
 -- the redistributors of such a machine can have these bases
@@ -36,13 +37,15 @@ pub record AreBasesOf (layout : Layout) (bases : List Bases) : Type 0 where
 
 -- a state that memory stands for is sound
 abbrev pub StandingIsSound : Type 0
-StandingIsSound = (memory : List Window) (values : List (Option RegValues)) (layout : Layout) (bases : List Bases) (u : Plain) → IsLayout layout → AreBasesOf layout bases
+StandingIsSound = (memory : List Window) (values : List (Option RegValues)) (layout : Layout) (bases : List Bases) (u : Plain) → IsLayout layout
+    → AreBasesOf layout bases
     → are_windows (map extent memory) ≡ true
     → Stands memory values layout bases u → IsSound u
 
 -- there is at most one first fault, and none where a state stands
 pub record OffencesAreDecided : Type 0 where
-  pub one : (memory : List Window) (values : List (Option RegValues)) (s : Shape) (bases : List Bases) (i j : ℕ) (f g : RestoreFault) → IsFirstFault memory values s bases i f
+  pub one : (memory : List Window) (values : List (Option RegValues)) (s : Shape) (bases : List Bases) (i j : ℕ) (f g : RestoreFault)
+      → IsFirstFault memory values s bases i f
       → IsFirstFault memory values s bases j g → (i ≡ j) × (f ≡ g)
   pub apart : (memory : List Window) (values : List (Option RegValues)) (layout : Layout) (bases : List Bases) (u : Plain) (i : ℕ) (f : RestoreFault)
       → Stands memory values layout bases u → IsFirstFault memory values layout.shape bases i f → ⊥
