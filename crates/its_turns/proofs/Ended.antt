@@ -27,7 +27,7 @@ IsMaps u (Maps b) = slice_get u.translators 0 ≡ Some (record { regs = b.value.
 IsMaps u x = ⊥
 
 abbrev pub IsMem : Plain → Value → Type 0
-IsMem u (Mem b) = u.memory ≡ b.value.memory
+IsMem u (Mem b) = (u.memory ≡ b.value.memory) × (u.track ≡ None)
 IsMem u x = ⊥
 
 abbrev pub IsRedist : Setup → Plain → ℕ → Value → Type 0

@@ -139,7 +139,7 @@ all_listed (suc n) [] = refl
 all_listed (suc n) (x ∷ xs) = ap (λ (l : List Redistributor). redistributor_or x ∷ l) (all_listed n xs)
 
 abbrev front : Setup → TheTables → List Window → List (Option Content) → List (Option Content)
-front s t memory rest = some (Maps (record { regs = t.regs; maps = t.maps.maps })) ∷ some (Mem memory) ∷ (replicate s.shards (some (Shard no_entries)) ++ rest)
+front s t memory rest = some (Maps (record { regs = t.regs; maps = t.maps.maps })) ∷ some (Mem memory std.None) ∷ (replicate s.shards (some (Shard no_entries)) ++ rest)
 
 pub next_value : (s : Setup) (t : TheTables) (memory : List Window) (n v : ℕ) (xs : List (std.Option InHand)) (r : InHand) (values : List Value) (x : Value)
     → v < n → in_hand xs v ≡ std.Some r → content_of x ≡ shown (redistributor_of r)
@@ -149,7 +149,7 @@ next_value s t memory n v xs r values x lt is shows so_far =
     let more : suc v ≡ v + 1 = omega arith in
     let ms : List (Option Content) = map shown (take v (listed n xs)) in
     contents_more values x ∙ (λ d. so_far d ++ shows d ∷ [])
-    ∙ ap (λ (l : List (Option Content)). some (Maps (record { regs = t.regs; maps = t.maps.maps })) ∷ some (Mem memory) ∷ l)
+    ∙ ap (λ (l : List (Option Content)). some (Maps (record { regs = t.regs; maps = t.maps.maps })) ∷ some (Mem memory std.None) ∷ l)
     (append_assoc (replicate s.shards (some (Shard no_entries))) ms (shown (redistributor_of r) ∷ []))
     ∙ ap (front s t memory) (sym (one_more n v xs r lt is) ∙ ap (λ (j : ℕ). map shown (take j (listed n xs))) more)
 
@@ -163,7 +163,7 @@ all_values d p v values is fit so_far =
     ap (λ (j : ℕ). map shown (take j (listed p.layout.shape.vcpus p.redists))) is ∙ ap (map shown) (all_listed p.layout.shape.vcpus p.redists) in
     record {
       contents = so_far ∙ ap (front s (record { regs = p.regs; maps = p.maps }) p.memory) rest
-          ∙ ap (λ (j : ℕ). some (Maps (record { regs = p.regs; maps = p.maps.maps })) ∷ some (Mem p.memory) ∷ (replicate j (some (Shard no_entries))
+          ∙ ap (λ (j : ℕ). some (Maps (record { regs = p.regs; maps = p.maps.maps })) ∷ some (Mem p.memory std.None) ∷ (replicate j (some (Shard no_entries))
           ++ map shown s.start.redistributors)) one;
       fit = fit;
     }

@@ -1,13 +1,15 @@
 -- From what each step tells to what a call says.
 use Rattle.std.proofs.Common.{◌≡◌, ℕ, ◌<◌, ◌≤◌, List, [], ◌∷◌, ◌++◌, length, refl, ap, sym, ◌∙◌, subst, arith, length-append, append_assoc, le_refl}
 use Rattle.std.specs.List.{AllByRecursion}
+use mathlib.Core.List.{IsPrefix}
 use Rattle.its_types.specs.declared.machine.Part.{Part}
 use Rattle.its_types.specs.declared.machine.Word.{Word}
-use Rattle.its_plain.specs.History.{IsLegal}
+use Rattle.its_plain.specs.History.{IsLegal, after}
 use Rattle.its_plain.specs.declared.call.Call.{Call}
 use Rattle.its_plain.specs.declared.call.Entry.{Entry}
 use Rattle.its_plain.specs.declared.call.Reply.{Reply}
 use Rattle.its_steps.specs.Good.{IsWithin}
+use Rattle.its_steps.specs.MayCommit.{IsRight}
 use Rattle.its_steps.specs.Parts.{Setup, translator_count, stamp_of}
 use Rattle.its_steps.specs.Calls.{staying, MayLeave}
 use Rattle.its_steps.specs.MayCall.{MayCall}
@@ -19,7 +21,7 @@ use Rattle.its_steps.specs.Contents.{Content, Held}
 use Rattle.its_steps.proofs.Lists.{prefix_self, prefix_through}
 use Rattle.its_steps.proofs.Stamps.{one_has}
 use Rattle.its_turns.specs.Calls.{Stays, IsPlaced, Leaves, got_all, WasBusy, WasRaced, WasSpent, GotOnly, StillAsks, TriesPart, attempt_of, GoesOn, Makes}
-use Rattle.its_turns.specs.Calls.{IsLost, IsMade}
+use Rattle.its_turns.specs.Calls.{IsLost, IsMade, HasLooked}
 use Rattle.its_turns.specs.Contents.{held_before}
 use Rattle.its_turns.specs.Steps.{IsBusy, IsRaced}
 use Rattle.its_turns.specs.Told.{Looks, IsLone, released, Commits}
@@ -65,6 +67,7 @@ lost_after v x y w r a room raced = (
   subst (λ (z : Word). z.place < v.setup.limits.place_last) (sym raced.expected_is) room,
   subst (λ (z : Word). z.place < r.found.place) (sym raced.expected_is) raced.later,
   (λ alone. raced.out (subst IsLone (sym a.same) alone)),
+  record { mid = x; looks = subst (λ (z : Word). Looks v z x) (sym raced.expected_is) a; before = raced.looks.longer },
 )
 
 pub lost_held : (v x : View) (l : Lost) → IsLost v l x → x.held ≡ v.held
@@ -124,6 +127,30 @@ module _ (v w : View) (t : Tries) (on : GoesOn v t w) where
   pub lone_on : IsLone v → IsLone w
   lone_on alone = subst IsLone (sym on.same) alone
 
+  -- what it read later it read
+  pub looked_from : ((P : Held → Type 0) → AllByRecursion P w.held → AllByRecursion P v.held) → ¬ IsLone v → (word : Word) (y z : View) → HasLooked w word y
+      → y.seen ≡ z.seen → HasLooked v word z
+  looked_from all out word y z has same =
+      let a : Looks (record v { seen = w.seen; last = w.last; held = w.held; cache = w.cache; tries = w.tries }) word has.mid =
+      subst (λ (u : View). Looks u word has.mid) on.same has.looks in
+      record {
+        mid = loaded v word has.mid.seen;
+        looks = record {
+          same = refl;
+          longer = prefix_through v.seen w.seen has.mid.seen on.longer a.longer;
+          told = a.told;
+          legal = a.legal;
+          mine = a.mine;
+          place = a.place;
+          within = a.within;
+          machine = a.machine;
+          right = all (IsRight v.setup word (after v.setup.start has.mid.seen)) a.right;
+          still = λ alone. absurd (out alone);
+          others = λ root. let k = a.others root in record { given = k.given; whole = k.whole; joined = k.joined };
+        };
+        before = subst (λ (h : List Entry). IsPrefix has.mid.seen h) same has.before;
+      }
+
   -- it ends without having been made
   pub stays_from : w.held ≡ v.held → Stays v w
   stays_from held = record {
@@ -145,6 +172,7 @@ module _ (v w : View) (t : Tries) (on : GoesOn v t w) where
         place_is = let long = ap (λ (u : View). length u.seen) made.view in omega
             (arith, long, made.place, length-append made.seen (entry w.number a.call a.reply ∷ []));
         mine = ap (λ (u : View). u.mine) made.view ∙ (let old = ap (λ (u : View). u.mine) on.same in λ d. old d ++ (a.expected.place, number d) ∷ []);
+        room = subst (λ (u : View). a.expected.place < u.setup.limits.place_last) on.same made.room;
         same = subst (λ (z : View). z ≡ record v {
           seen = z.seen;
           mine = z.mine;
@@ -177,6 +205,7 @@ module _ (v w : View) (t : Tries) (a : Commit) (made : IsMade v t a w) where
         legal = made.legal;
         place_is = made.place_is;
         mine = made.mine;
+        room = made.room;
         same = ap (λ (y : View). released y) made.same;
         tries = made.tries;
         last = made.last;
@@ -191,6 +220,7 @@ module _ (v w : View) (t : Tries) (a : Commit) (made : IsMade v t a w) where
         legal = made.legal;
         place_is = made.place_is;
         mine = made.mine;
+        room = made.room;
         same = ap (λ (y : View). record y { held = [] }) made.same;
         tries = made.tries;
         last = made.last;
@@ -204,6 +234,9 @@ module _ (v w : View) (t : Tries) (a : Commit) (made : IsMade v t a w) where
     legal = made.legal;
     place_is = made.place_is;
     mine = made.mine;
+    room = made.room;
+    base = ap (λ (x : LastCommit). x.base.place) made.commit;
+    last = ap (λ (x : Word). x.place) made.last;
     same = made.same ∙ (λ d. record v { seen = w.seen; mine = w.mine; last = w.last; held = held d; cache = w.cache; tries = w.tries; commit = w.commit });
   }
 
@@ -259,6 +292,8 @@ module _ (v : View) (p : Part) where
           tries = here.tries;
           room = subst (λ (u : View). r.expected.place < u.setup.limits.place_last) took_is raced.1;
           later = raced.2;
+          read = looked_from v x t on (λ P all. (subst (λ (u : View). AllByRecursion P u.held) took_is all).1)
+              (λ alone. raced.3 (subst IsLone (sym took_is) alone)) r.expected y z raced.4 (sym (ap (λ (u : View). u.seen) home));
           last = ap (λ (u : View). u.last) home ∙ ap (λ (u : View). u.last) raced.0.same;
           out = λ alone. raced.3 (subst IsLone (sym took_is) alone);
         }
@@ -300,6 +335,9 @@ placed_again v w x c r place a b =
       legal = subst (λ (y : View). IsLegal y.setup.start x.seen) a.same b.legal;
       place_is = b.place_is;
       mine = b.mine ∙ (let old = ap (λ (y : View). y.mine) a.same in λ d. old d ++ (place, e d) ∷ []);
+      room = subst (λ (y : View). place < y.setup.limits.place_last) a.same b.room;
+      base = b.base;
+      last = b.last;
       same = b.same ∙ ap (λ (y : View). record y { seen = x.seen; mine = x.mine; last = x.last; cache = x.cache; tries = x.tries; commit = x.commit }) a.same;
     }
 

@@ -4,6 +4,7 @@ use Rattle.std.specs.List.{AllByRecursion}
 use mathlib.Core.List.{IsPrefix}
 use Rattle.its_types.specs.declared.machine.Part.{Part}
 use Rattle.its_types.specs.declared.machine.Placed.{Placed}
+use Rattle.its_types.specs.declared.machine.Word.{Word}
 use Rattle.its_plain.specs.History.{IsLegal}
 use Rattle.its_plain.specs.declared.call.Call.{Call}
 use Rattle.its_plain.specs.declared.call.Entry.{Entry}
@@ -38,6 +39,10 @@ pub record IsPlaced (v : View) (call : Call) (reply : Reply) (place : ℕ) (w : 
   pub legal : IsLegal v.setup.start w.seen
   pub place_is : length w.seen ≡ place + 1
   pub mine : w.mine ≡ v.mine ++ (place, entry v.number call reply) ∷ []
+  -- the place is none that no call gets; the pass's last commit found the word there, and left the next one
+  pub room : place < v.setup.limits.place_last
+  pub base : w.commit.base.place ≡ place
+  pub last : w.last.place ≡ place + 1
   pub same : w ≡ record v { seen = w.seen; mine = w.mine; last = w.last; cache = w.cache; tries = w.tries; commit = w.commit }
 
 -- it left the stamp as it was, and did this to the shards
@@ -58,12 +63,19 @@ pub record WasBusy (v : View) (got : List Part) (b : Busy) (w : View) : Type 0 w
   pub another : b.holder ≢ v.number
   pub out : ¬ IsLone v
 
--- another call was made after the call's first load and before its commit, so another pass is out
+-- this call read the word, when it had seen a beginning of what it has seen now
+pub record HasLooked (v : View) (word : Word) (w : View) : Type 0 where
+  pub mid : View
+  pub looks : Looks v word mid
+  pub before : IsPrefix mid.seen w.seen
+
+-- another call was made after this call read the word and before its commit, so another pass is out
 pub record WasRaced (v : View) (got : List Part) (r : Raced) (w : View) : Type 0 where
   pub stays : Stays v w
   pub tries : w.tries ≡ got_all got v.tries
   pub room : r.expected.place < v.setup.limits.place_last
   pub later : r.expected.place < r.found.place
+  pub read : HasLooked v r.expected w
   pub last : w.last ≡ r.found
   pub out : ¬ IsLone v
 
@@ -124,6 +136,7 @@ pub record Makes (v : View) (a : Commit) (w : View) : Type 0 where
 abbrev pub IsLost : View → Lost → View → Type 0
 IsLost v lost.Spent w = Looks v w.last w × (w.last.place ≡ v.setup.limits.place_last)
 IsLost v (lost.Raced r) w = Looks v r.found w × (r.expected.place < v.setup.limits.place_last) × (r.expected.place < r.found.place) × (¬ IsLone v)
+    × HasLooked v r.expected w
 
 -- the call was made, whatever is held
 pub record IsMade (v : View) (t : Tries) (a : Commit) (w : View) : Type 0 where
@@ -132,6 +145,7 @@ pub record IsMade (v : View) (t : Tries) (a : Commit) (w : View) : Type 0 where
   pub legal : IsLegal v.setup.start w.seen
   pub place_is : length w.seen ≡ a.expected.place + 1
   pub mine : w.mine ≡ v.mine ++ (a.expected.place, entry v.number a.call a.reply) ∷ []
+  pub room : a.expected.place < v.setup.limits.place_last
   pub same : w ≡ record v { seen = w.seen; mine = w.mine; last = w.last; held = w.held; cache = w.cache; tries = w.tries; commit = w.commit }
   pub tries : w.tries ≡ t
   pub last : w.last ≡ word_after a

@@ -20,4 +20,5 @@ pub record AreBelow (u : Plain) (n : ℕ) (redists : List (Option Redist)) : Typ
 pub record AreAllParts (s : Setup) (u : Plain) (p : Parts) : Type 0 where
   pub layout : p.layout ≡ u.layout
   pub parts : ArePartsOf u 0 s.start.layout.shape p.regs p.maps.maps p.memory p.redists
+  pub track : u.track ≡ None
   pub redists : AreBelow u (vcpu_count s) p.redists

@@ -1,5 +1,5 @@
 -- What the values in slots stand for.
-use Rattle.std.specs.Prelude.{ℕ, ◌*◌, List, [], ◌∷◌}
+use Rattle.std.specs.Prelude.{ℕ, ◌*◌, List, [], ◌∷◌, None}
 use mathlib.Core.Option.{Option, none, some}
 use Rattle.its_plain.specs.Plain.{Translator}
 use Rattle.owned_parts.specs.Owned.{redistributor_of, HasLpisOf}
@@ -14,10 +14,11 @@ use Rattle.its_turns.specs.declared.value.Value.TheVariants.{Vacant, Maps, Mem, 
 abbrev pub translator_of : Tables → Translator
 translator_of t = record { regs = t.regs; maps = t.maps.maps }
 
+-- a machine that runs has no second memory
 abbrev pub content_of : Value → Option Content
 content_of Vacant = none
 content_of (Maps b) = some (content.Maps (translator_of b.value))
-content_of (Mem b) = some (content.Mem b.value.memory)
+content_of (Mem b) = some (content.Mem b.value.memory None)
 content_of (Shard s) = some (content.Shard s)
 content_of (Redist b) = some (content.Redist (redistributor_of b.value))
 

@@ -2,6 +2,7 @@
 use Rattle.std.specs.Prelude.{◌≡◌, ℕ, ◌+◌, ◌*◌, List, [], ◌∷◌, ◌++◌, map, replicate, None}
 use Rattle.std.specs.List.{AllByRecursion}
 use Rattle.its_plain.specs.declared.desc.Desc.{Desc}
+use Rattle.its_plain.specs.declared.desc.Its.{Its}
 use Rattle.owned_parts.specs.Owned.{state_of_parts}
 use Rattle.owned_parts.specs.declared.parts.Parts.{Parts}
 use Rattle.its_steps.specs.Parts.{Setup}
@@ -14,9 +15,13 @@ use Rattle.its_turns.specs.declared.value.Value.TheVariants.{Vacant}
 abbrev pub setup_from : Desc → Parts → Setup
 setup_from d p = record { start = state_of_parts p; limits = d.limits; shards = d.shards }
 
+-- what a translator was restored with is done with
+abbrev pub kept_its : Its → Its
+kept_its t = record t { restore = None }
+
 -- what a machine keeps of its description: what bytes were put into memory, and what it was restored with, is done with
 abbrev pub kept_of : Desc → Desc
-kept_of d = record d { fills = []; restore = None }
+kept_of d = record d { fills = []; translators = map kept_its d.translators }
 
 -- the values of all parts, in the order of their numbers
 pub record AreFirst (s : Setup) (values : List Value) : Type 0 where

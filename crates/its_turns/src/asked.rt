@@ -8,7 +8,7 @@ impl Machine {
     ghost use Rattle.std.specs.Prelude.{◌≡◌, ◌<◌, ◌≤◌};
     ghost use Rattle.its_types.specs.declared.machine.Part.TheVariants as part;
     ghost use Rattle.xlate_cache.specs.Pairs.{shard_number};
-    ghost use Rattle.its_plain.specs.Machine.{layout_of};
+    ghost use Rattle.its_plain.specs.Machine.{layout_of, IsSingle};
     ghost use Rattle.its_steps.specs.Parts.{Stands, vcpu_count};
     ghost use Rattle.its_turns.specs.Machines.{setup};
 
@@ -20,6 +20,7 @@ impl Machine {
         ensures shards { result.now.shards ≡ (setup self.now).shards }
         ensures shape { result.now.shape ≡ (setup self.now).start.layout.shape }
         ensures layout { layout_of result.now ≡ (setup self.now).start.layout }
+        ensures single { IsSingle result.now }
     {
         &self.desc
     }

@@ -20,6 +20,15 @@ pub enum Attempt<T> {
 #[derive(Clone, Copy, Debug, PartialEq, Eq)]
 pub struct Spent;
 
+/// Why a call was not made that may take memory.
+#[derive(Clone, Copy, Debug, PartialEq, Eq)]
+pub enum NotMade {
+    /// All places are used, and no call can be made any more.
+    Spent,
+    /// There was no memory for it. Every part is as it was.
+    NoMemory,
+}
+
 /// Why a call was not made that has the parts that it needs.
 #[derive(Clone, Copy, Debug, PartialEq, Eq)]
 pub enum Lost {

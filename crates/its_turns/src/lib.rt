@@ -19,7 +19,7 @@ mod value;
 mod waiting;
 mod word;
 
-pub use attempts::{Attempt, Lost, Spent};
+pub use attempts::{Attempt, Lost, NotMade, Spent};
 pub use calls::{begin, try_commit};
 pub use commits::{Raced, commit};
 pub use ending::close;

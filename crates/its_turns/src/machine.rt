@@ -1,7 +1,7 @@
 //! The machine and its passes.
 ghost use Rattle.std.specs.Prelude.{◌≡◌, ◌+◌, ◌*◌, ◌^◌, ◌<◌, ◌≤◌, true, [], None, replicate};
 ghost use Rattle.std.specs.Prelude.{length};
-ghost use Rattle.its_plain.specs.Machine.{layout_of};
+ghost use Rattle.its_plain.specs.Machine.{layout_of, IsSingle};
 ghost use Rattle.its_steps.specs.Parts.{part_count, translator_count, vcpu_count};
 ghost use Rattle.its_steps.specs.Parts.{HasVcpus};
 ghost use Rattle.its_steps.specs.declared.standing.Standing.TheVariants as standing;
@@ -27,6 +27,7 @@ pub struct Machine {
     // No redistributor is in hand: they go here when the machine is closed.
     pub(crate) places: Redists,
     pub ghost described: { desc ≡ kept_of table.shared.key.desc.value },
+    pub ghost single: { IsSingle desc },
     pub ghost built: { (layout ≡ (setup_of table.shared.key).start.layout)
         × (layout_of desc ≡ layout) },
     pub ghost sized: { (table.shared.table_id.slots ≡ 8 * part_count (setup_of table.shared.key))

@@ -1,11 +1,11 @@
 //! How a machine is made.
-ghost use Rattle.std.specs.Prelude.{◌≡◌, ◌+◌, ◌^◌, ◌<◌, ◌≤◌, ◌++◌, ◌∷◌, replicate, length, IfOk};
+ghost use Rattle.std.specs.Prelude.{◌≡◌, ◌+◌, ◌^◌, ◌<◌, ◌≤◌, ◌++◌, ◌∷◌, map, replicate, length, IfOk};
 ghost use Rattle.std.specs.Prelude.{OnOk};
 ghost use Rattle.owned_parts.specs.Owned.{AreAllInHand};
-ghost use Rattle.its_plain.specs.Machine.{layout_of};
+ghost use Rattle.its_plain.specs.Machine.{layout_of, IsSingle};
 ghost use Rattle.its_plain.specs.Sound.{IsSound};
 ghost use Rattle.its_steps.specs.World.{first_view};
-ghost use Rattle.its_turns.specs.Opening.{setup_from, kept_of, apart, AreFirst};
+ghost use Rattle.its_turns.specs.Opening.{setup_from, kept_its, kept_of, apart, AreFirst};
 ghost use Rattle.its_turns.specs.Machines.{setup, view, IsOf};
 ghost use Rattle.its_turns.specs.declared.value.Value.TheVariants.{Vacant};
 
@@ -13,7 +13,7 @@ use crate::law::Plan;
 use crate::machine::{Machine, Pass, Root};
 use crate::value::{GuestMemory, Tables, Value};
 use atomic_table::{Refused, Table};
-use its_plain::{Desc, LpiTables};
+use its_plain::{Desc, Its, LpiTables};
 use its_types::{Listed, Vcpu};
 use lpi_pending::Redists;
 use owned_parts::Parts;
@@ -35,6 +35,7 @@ impl Machine {
         requires vcpus { desc.now.shape.vcpus ≤ 16 }
         requires stamps { desc.now.limits.stamp_last < 2 ^ 24 }
         requires places { desc.now.limits.place_last < 2 ^ 40 }
+        requires single { IsSingle desc.now }
         requires layout { parts.layout ≡ layout_of desc.now }
         requires hand { AreAllInHand parts.layout.shape parts.redists }
         requires sound { IsSound (setup_from desc.now parts).start }
@@ -78,15 +79,32 @@ fn copy_of(alloc: Global, desc: &Desc) -> Result<Desc, AllocError>
     ensures { IfOk result (λ d. d ≡ kept_of desc.now) }
 {
     let windows = Vec::from_slice(alloc, desc.windows.as_slice())?;
+    let requesters = Vec::from_slice(alloc, desc.requesters.as_slice())?;
+    let translators = kept_translators(alloc, desc.translators.as_slice())?;
     Ok(Desc {
         shape: desc.shape,
         shards: desc.shards,
         limits: desc.limits,
         windows: Listed::from_vec(windows),
+        memory_limit: desc.memory_limit,
         tables: tables_of(alloc, &desc.tables)?,
         fills: Listed::new(alloc),
-        restore: None,
+        translators: Listed::from_vec(translators),
+        requesters: Listed::from_vec(requesters),
+        track: desc.track,
     })
+}
+
+fn kept_translators(alloc: Global, translators: &[Its]) -> Result<Vec<Its>, AllocError>
+    ensures { IfOk result (λ v. v.items ≡ map kept_its translators.now) }
+{
+    translators
+        .iter()
+        .map(|its| Its {
+            restore: None,
+            frames: its.frames,
+        })
+        .collect(alloc)
 }
 
 fn tables_of(alloc: Global, tables: &LpiTables) -> Result<LpiTables, AllocError>

@@ -1,5 +1,5 @@
 //! Parts taken as what they are.
-ghost use Rattle.std.specs.Prelude.{◌≡◌, ◌<◌, MatchResult};
+ghost use Rattle.std.specs.Prelude.{◌≡◌, ◌<◌, None, MatchResult};
 ghost use Rattle.its_types.specs.declared.machine.Part.TheVariants as part;
 ghost use Rattle.owned_parts.specs.Owned.{redistributor_of, HasLpisOf};
 ghost use Rattle.its_steps.specs.Good.{Holds};
@@ -40,7 +40,7 @@ pub fn try_take_memory(machine: &Machine, pass: &mut Pass) -> Result<Box<GuestMe
     requires free { ¬ Holds part.Mem (view pass.old).held }
     ensures of { IsOf machine.now pass.new }
     ensures result { MatchResult result
-        (λ x. TakesPart (view pass.old) part.Mem (content.Mem x.value.memory) (view pass.new))
+        (λ x. TakesPart (view pass.old) part.Mem (content.Mem x.value.memory None) (view pass.new))
         (λ b. IsBusy (view pass.old) part.Mem b (view pass.new)) }
 {
     match try_take(machine, pass, Part::Mem) {

@@ -90,15 +90,16 @@ returns c = let m = c.args.machine in let p = c.args.root in let s = setup m in 
     c.take_part-2.result tt there in
     let vcpus : m.desc.shape.vcpus ≡ vcpu_count s = ap (λ (l : Layout). l.shape.vcpus) m.built.1 ∙ ap (λ (l : Layout). l.shape.vcpus) m.built.0 in
     let count : l.vcpu ≡ vcpu_count s = omega (arith, l.auto.vcpu-end, c.loop-vcpu-test.false, vcpus) in
+    let memory = subst (IsMem u) c.in-Mem.is (is_mem s (view p).last u c.take_part-2.result b.content b.content_is b.right) in
     record {
       layout = m.built.0 ∙ a.machine.layout;
       parts = record {
         shape_is = ap (λ (x : Layout). x.shape) (sym a.machine.layout);
         translator_is = rw (c.into_inner-regs.ensures)
             (subst (IsMaps u) c.in-Maps.is (is_maps s (view p).last u c.take_part.result a.content a.content_is a.right));
-        memory_is = rw (c.into_inner-memory.ensures)
-            (subst (IsMem u) c.in-Mem.is (is_mem s (view p).last u c.take_part-2.result b.content b.content_is b.right));
+        memory_is = rw (c.into_inner-memory.ensures) memory.0;
         redistributors_are = each_of u l.vcpu l.redists l.invariant.3;
       };
+      track = memory.1;
       redists = subst (λ (n : ℕ). AreBelow u n l.redists) count l.invariant.3;
     }
