@@ -1,6 +1,6 @@
 use Rattle.std.proofs.Common.{rules, arith, ◌≡◌, ℕ, ◌+◌, ◌*◌, ◌<◌, ◌≤◌, ◌^◌, List, length, replicate, ap, sym, ◌∙◌, subst}
 use Rattle.atomic_table.specs.Table.{opening}
-use Rattle.its_plain.specs.Machine.{layout_of}
+use Rattle.its_plain.specs.Machine.{layout_of, IsSingle}
 use Rattle.its_plain.specs.declared.desc.Desc.{Desc}
 use Rattle.its_plain.specs.declared.layout.Layout.{Layout}
 use Rattle.its_steps.specs.Parts.{HasVcpus, Setup, part_count}
@@ -9,6 +9,7 @@ use Rattle.owned_parts.specs.declared.parts.Parts.{Parts}
 use Rattle.its_turns.specs.Opening.{setup_from, first_words}
 use Rattle.its_turns.specs.Rule.{Kept, setup_of}
 use Rattle.its_turns.specs.declared.value.Value.{Value}
+use Rattle.its_turns.proofs.Described.{single_kept}
 use Rattle.its_turns.proofs.Opening.{opens, values_long, apart_long}
 use Rattle.its_turns.proofs.machine.Machine.new.Goals as goal
 
@@ -40,6 +41,7 @@ invariant_of-result c =
     let words : length c.as_slice.result.now ≡ 16 * (c.args.desc.now.shards + 3 + c.args.desc.now.shape.vcpus) = search rules in
     record {
       described = search rules;
+      single = subst IsSingle (sym c.in_ok-kept.ensures) (single_kept c.args.desc.now c.requires.single);
       built = (
         layout ∙ sym (ap (λ (x : Setup). x.start.layout) key),
         ap (λ (d : Desc). layout_of d) c.in_ok-kept.ensures ∙ sym (layout ∙ c.requires.layout),
