@@ -21,7 +21,7 @@ use Rattle.its_steps.specs.Contents.{Content, Held}
 use Rattle.its_steps.proofs.Lists.{prefix_self, prefix_through}
 use Rattle.its_steps.proofs.Stamps.{one_has}
 use Rattle.its_turns.specs.Calls.{Stays, IsPlaced, Leaves, got_all, WasBusy, WasRaced, WasSpent, GotOnly, StillAsks, TriesPart, attempt_of, GoesOn, Makes}
-use Rattle.its_turns.specs.Calls.{IsLost, IsMade, HasLooked}
+use Rattle.its_turns.specs.Calls.{IsLost, IsMade, HasLooked, GaveUp}
 use Rattle.its_turns.specs.Contents.{held_before}
 use Rattle.its_turns.specs.Steps.{IsBusy, IsRaced}
 use Rattle.its_turns.specs.Told.{Looks, IsLone, released, Commits}
@@ -275,6 +275,10 @@ module _ (v : View) (p : Part) where
     home_again : (y z : View) → y.held ≡ x.held → z ≡ released y → z.held ≡ v.held
     home_again y z same home = ap (λ (u : View). u.held) home ∙ ap (λ (l : List Held). held_before l) (same ∙ ap (λ (u : View). u.held) took_is)
 
+    pub one_given_up : (z : View) → z ≡ released x → GaveUp v (p ∷ []) z
+    one_given_up z home = let here = goes_released v x t on z home in
+        record { stays = stays_from v z t here (home_again x z refl home); tries = here.tries }
+
     pub one_spent : (y z : View) → IsLost x lost.Spent y → z ≡ released y → WasSpent v (p ∷ []) z
     one_spent y z spent home =
         let here = goes_released v y t (goes_looked v x t on y y.last spent.0) z home in
@@ -313,6 +317,17 @@ module _ (v : View) (p : Part) where
         )
 
 -- ---- and again
+
+goes_stayed : (v w : View) → Stays v w → GoesOn v w.tries w
+goes_stayed v w stays = record {
+  same = stays.same ∙ (let held = sym (ap (λ (u : View). u.held) stays.same) in λ d. record v { seen = w.seen; last = w.last; held = held d; cache = w.cache; tries = w.tries });
+  longer = stays.longer;
+  tries = refl;
+}
+
+pub looked_again : (v w : View) → Stays v w → ¬ IsLone v → (word : Word) (x : View) → HasLooked w word x → HasLooked v word x
+looked_again v w stays out word x has = looked_from v w w.tries (goes_stayed v w stays)
+    (λ P all. subst (AllByRecursion P) (ap (λ (u : View). u.held) stays.same) all) out word x x has refl
 
 pub stays_first : (v : View) → Stays v v
 stays_first v = record { same = refl; longer = prefix_self v.seen }
@@ -383,6 +398,13 @@ module _ (v w : View) (p : Part) (asks : StillAsks (λ q. q ≡ p) v w) where
     stays_again v w x asks.stays spent.stays,
     spent.spent ∙ ap (λ (y : View). y.setup.limits.place_last) asks.stays.same,
     got_more (λ q. q ≡ p) v w x (p ∷ []) asks.got (refl, tt) (ap (λ (t : Tries). t.won) spent.tries) (let same = ap (λ (t : Tries). t.lost) spent.tries in omega
+        (arith, same)),
+  )
+
+  pub asked_given_up : (x : View) → GaveUp w (p ∷ []) x → Stays v x × GotOnly (λ q. q ≡ p) v x
+  asked_given_up x up = (
+    stays_again v w x asks.stays up.stays,
+    got_more (λ q. q ≡ p) v w x (p ∷ []) asks.got (refl, tt) (ap (λ (t : Tries). t.won) up.tries) (let same = ap (λ (t : Tries). t.lost) up.tries in omega
         (arith, same)),
   )
 

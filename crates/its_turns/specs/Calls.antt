@@ -85,6 +85,11 @@ pub record WasSpent (v : View) (got : List Part) (w : View) : Type 0 where
   pub tries : w.tries ≡ got_all got v.tries
   pub spent : length w.seen ≡ v.setup.limits.place_last
 
+-- it was given up before it was made: these turns were got and given back, and nothing else was done
+pub record GaveUp (v : View) (got : List Part) (w : View) : Type 0 where
+  pub stays : Stays v w
+  pub tries : w.tries ≡ got_all got v.tries
+
 -- only such turns were got, and tries may have been lost
 pub record GotOnly (P : Part → Type 0) (v w : View) : Type 0 where
   pub got : List Part

@@ -55,7 +55,7 @@ pub fn close(machine: Machine, root: Root) -> Parts
     }
     closed.free();
     let Tables { regs, maps } = Box::into_inner(tables);
-    let GuestMemory { memory } = Box::into_inner(memory);
+    let GuestMemory { memory, .. } = Box::into_inner(memory);
     Parts {
         layout,
         regs,

@@ -13,6 +13,7 @@ use crate::law::Plan;
 use crate::machine::{Machine, Pass, Root};
 use crate::value::{GuestMemory, Tables, Value};
 use atomic_table::{Refused, Table};
+use guest_windows::Spare;
 use its_plain::{Desc, Its, LpiTables};
 use its_types::{Listed, Vcpu};
 use lpi_pending::Redists;
@@ -137,7 +138,11 @@ fn first_values(alloc: Global, desc: &Desc, parts: Parts) -> Result<Vec<Value>, 
     } = parts;
     let mut values = Vec::new(alloc);
     values.push(Value::Maps(Box::new(alloc, Tables { regs, maps })?))?;
-    values.push(Value::Mem(Box::new(alloc, GuestMemory { memory })?))?;
+    let memory = GuestMemory {
+        memory,
+        spare: Spare::new(),
+    };
+    values.push(Value::Mem(Box::new(alloc, memory)?))?;
     for _shard in 0..desc.shards {
         values.push(Value::Shard(Shard::new(alloc)?))?;
     }

@@ -1,6 +1,6 @@
 //! What the slots hold.
 use gits_regs::Regs;
-use guest_windows::Memory;
+use guest_windows::{Memory, Spare};
 use its_maps::Maps;
 use lpi_pending::Redist;
 use xlate_cache::Shard;
@@ -19,6 +19,8 @@ pub struct Tables {
 pub struct GuestMemory {
     /// All windows.
     pub memory: Memory,
+    /// Pages for a write that may not fail.
+    pub spare: Spare,
 }
 
 /// The value of a part, or nothing where it is out of its slot. It takes 16 bytes.

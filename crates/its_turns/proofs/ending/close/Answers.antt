@@ -103,3 +103,13 @@ returns c = let m = c.args.machine in let p = c.args.root in let s = setup m in 
       track = memory.1;
       redists = subst (λ (n : ℕ). AreBelow u n l.redists) count l.invariant.3;
     }
+
+pub loop-shard-init : goal.loop-shard-init
+loop-shard-init c = let p = c.args.root in let s = setup c.args.machine in
+    let t = c.take_part in let t2 = c.take_part-2 in let closed = c.close_with-closed.ensures in
+    let words = ap (λ w. slots_items w) (sym (t2.ensures.words ∙ t.ensures.words)) in
+    let items = sym (t2.ensures.items ∙ t.ensures.items) in (
+      t2.ensures.front,
+      subst (λ (x : List ℕ × List Value). Final (Seen (Kept s) p.seat.id (view p)) x.0 x.1) (λ d. (words d, items d)) closed.values.2,
+      t2.ensures.length ∙ (t.ensures.length ∙ closed.counts.1),
+    )
