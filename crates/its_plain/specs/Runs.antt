@@ -77,7 +77,7 @@ IsRun first (leg ∷ next ∷ legs) hs =
 
 -- some legs whole, each with a state after it that can be saved, and then part of one more
 abbrev pub IsPartialRun : Plain → List Leg → List (List Entry) → Type 0
-IsPartialRun first [] hs = hs ≡ []
+IsPartialRun first [] hs = ⊥
 IsPartialRun first (leg ∷ legs) hs =
     ((h : List Entry) × (hs ≡ h ∷ []) × IsPartOfLegRun first leg h)
     ⊎ ((h : List Entry) × (rest : List (List Entry)) × (hs ≡ h ∷ rest) × IsLegRun first leg h × IsSavable (after first h)

@@ -88,7 +88,7 @@ run_legal u (leg ∷ []) hs r = subst (AreLegal u) (sym r.1) (r.2.legal, tt)
 run_legal u (leg ∷ next ∷ legs) hs r = subst (AreLegal u) (sym r.2) (r.3.legal, run_legal (moved (after u r.0)) (next ∷ legs) r.1 r.5)
 
 partial_legal : (u : Plain) (legs : List Leg) (hs : List (List Entry)) → IsPartialRun u legs hs → AreLegal u hs
-partial_legal u [] hs r = subst (AreLegal u) (sym r) tt
+partial_legal u [] hs r = absurd r
 partial_legal u (leg ∷ legs) hs r =
     elim r [
       | inl part ↦ subst (AreLegal u) (sym part.1) (part.2.legal, tt)
