@@ -7,7 +7,7 @@ use Rattle.std.specs.Ordering.{nat_cmp}
 use Rattle.std.specs.FinMap as finmap
 use Rattle.std.specs.FinMap.{get-entries}
 use Rattle.std.proofs.lemmas.Bool.{and_parts, or_cases, leb-true, cases_lt}
-use Rattle.guest_windows.specs.Windows.{Window, has, inside, are_windows, in_range, share_no_byte, total, extent}
+use Rattle.guest_windows.specs.Windows.{Window, has, inside, are_windows, in_range, share_no_byte, extent}
 use Rattle.guest_windows.proofs.Laws.{has-fits}
 use Rattle.gits_regs.specs.Registers.{Registers}
 use Rattle.gicr_regs.specs.Registers.{AreLow}
@@ -55,8 +55,7 @@ window_low (w ∷ ws) a n windows is =
 are_in_range : (ws : List (ℕ × ℕ)) → are_windows ws ≡ true → list_all in_range ws ≡ true
 are_in_range ws h =
     let few = nat_lt 0 (length ws) && nat_le (length ws) 16 in
-    let apart = and_parts (few && list_all in_range ws && share_no_byte ws) (nat_le (total ws) 67108864) h in
-    let ranges = and_parts (few && list_all in_range ws) (share_no_byte ws) apart.0 in
+    let ranges = and_parts (few && list_all in_range ws) (share_no_byte ws) h in
     (and_parts few (list_all in_range ws) ranges.0).1
 
 -- tables of LPIs have bytes

@@ -2,6 +2,9 @@
 use Rattle.std.specs.Prelude.{◌≡◌, ℕ, Option, Some, None, Result, Ok, Err, List}
 use Rattle.guest_windows.specs.Windows.{Window}
 use Rattle.its_types.specs.declared.translation.Device.{Device}
+use Rattle.its_plain.specs.Plain.{Plain}
+use Rattle.its_plain.specs.Regions.{savable}
+use Rattle.its_plain.specs.Saved.{saved}
 use Rattle.its_plain.specs.declared.area.Area.{Area}
 use Rattle.its_plain.specs.declared.fault.SaveFault.{SaveFault}
 use Rattle.its_plain.specs.declared.fault.SaveFault.TheVariants.{Outside, NoPlace, Overlap}
@@ -13,10 +16,10 @@ abbrev pub outside_fault : Option Area → Result (Unit {0}) SaveFault
 outside_fault None = Ok tt
 outside_fault (Some area) = Err (Outside area.region)
 
--- the first device without a place
-abbrev pub unplaced_fault : Option (ℕ × Device) → Result (Unit {0}) SaveFault
-unplaced_fault None = Ok tt
-unplaced_fault (Some d) = Err (NoPlace (record { 0 = d.0 }))
+-- the first device of a translator without a place
+abbrev pub unplaced_fault : ℕ → Option (ℕ × Device) → Result (Unit {0}) SaveFault
+unplaced_fault its None = Ok tt
+unplaced_fault its (Some d) = Err (NoPlace its (record { 0 = d.0 }))
 
 -- the first area that clashes with one
 abbrev pub clash_fault : Area → Option Area → Result (Unit {0}) SaveFault
@@ -28,6 +31,12 @@ abbrev pub Answers : Result (Unit {0}) SaveError → Result (Unit {0}) SaveFault
 Answers (Ok done) tested = tested ≡ Ok tt
 Answers (Err (errors.Fault f)) tested = tested ≡ Err f
 Answers (Err errors.NoMemory) tested = Unit {0}
+
+-- memory once all is written, where the state can be saved
+abbrev pub Saves : Plain → Result (List Window) SaveError → Type 0
+Saves u (Ok memory) = (savable u ≡ Ok tt) × (memory ≡ saved u)
+Saves u (Err (errors.Fault f)) = savable u ≡ Err f
+Saves u (Err errors.NoMemory) = Unit {0}
 
 -- memory once all is written, or as it was
 abbrev pub Leaves : Result (Unit {0}) SaveError → List Window → List Window → List Window → Type 0

@@ -8,8 +8,8 @@ ghost use Rattle.gicr_regs.specs.Registers.{AreLow};
 ghost use Rattle.its_plain.specs.Regions as spec;
 ghost use Rattle.its_plain.specs.Sound.{IsShape};
 ghost use Rattle.owned_parts.specs.Owned.{AreAllInHand};
-ghost use Rattle.table_save.specs.Areas.{page_area, level1_areas, itt_areas, redistributors_of};
-ghost use Rattle.table_save.specs.Areas.{pending_area, own_config_area, config_areas, queue_areas};
+ghost use Rattle.table_save.specs.Areas.{itt_areas, redistributors_of};
+ghost use Rattle.table_save.specs.Areas.{pending_area, own_config_area, config_areas};
 ghost use Rattle.table_save.specs.Areas.{HasLowTable, HaveLowTables};
 ghost use Rattle.table_save.specs.Rooms.{Appended, HasRoom};
 
@@ -26,89 +26,89 @@ use lpi_pending::Redists;
 // A page of 64 KiB.
 const PAGE: u64 = 65536;
 
-/// Appends those of the device table.
+/// Appends those of a translator's device table.
 #[tactic(auto, unfolding(its_plain::specs::Regions::device_areas))]
-pub fn add_devices(areas: &mut AreaList, regs: &Regs, memory: &Memory)
+pub fn add_devices(areas: &mut AreaList, its: u8, regs: &Regs, memory: &Memory)
     requires room { HasRoom 129 areas.old }
-    ensures { Appended 129 (spec.device_areas regs.now memory.now) areas.old areas.new }
+    ensures { Appended 129 (spec.device_areas its regs.now memory.now) areas.old areas.new }
 {
     if !regs.table_valid(0) {
         return;
     }
     if regs.indirect() {
-        add_levels(areas, regs, memory);
+        add_levels(areas, its, regs, memory);
         return;
     }
     let pages = regs.pages(0).min(level1_entries(regs));
     let size = PAGE * u64::from(pages);
-    areas.push(Stretch::written(Region::Devices, regs.table_base(0).0, size));
+    areas.push(Stretch::written(Region::Devices(its), regs.table_base(0).0, size));
 }
 
 // Those of a device table of two levels: its first level, and the page of each valid level-1 entry.
-fn add_levels(areas: &mut AreaList, regs: &Regs, memory: &Memory)
+fn add_levels(areas: &mut AreaList, its: u8, regs: &Regs, memory: &Memory)
     requires room { HasRoom 129 areas.old }
-    ensures { Appended 129 (level1_areas regs.now memory.now) areas.old areas.new }
+    ensures { Appended 129 (spec.level1_areas its regs.now memory.now) areas.old areas.new }
 {
     let base = regs.table_base(0);
     let size = 8 * u64::from(level1_entries(regs));
-    areas.push(Stretch::read_only(Region::Level1, base.0, size));
+    areas.push(Stretch::read_only(Region::Level1(its), base.0, size));
     if memory.inside(base, size) {
-        add_pages(areas, regs, memory);
+        add_pages(areas, its, regs, memory);
     }
 }
 
-fn add_pages(areas: &mut AreaList, regs: &Regs, memory: &Memory)
+fn add_pages(areas: &mut AreaList, its: u8, regs: &Regs, memory: &Memory)
     requires room { HasRoom (places.level1_entries regs.now.dev_bits) areas.old }
     ensures { let count = places.level1_entries regs.now.dev_bits in Appended count
-        (spec.pages_below regs.now memory.now count) areas.old areas.new }
+        (spec.pages_below its regs.now memory.now count) areas.old areas.new }
 {
     for k in 0..level1_entries(regs) {
-        add_page(areas, k, level1(regs, memory, k));
+        add_page(areas, its, k, level1(regs, memory, k));
     }
 }
 
-fn add_page(areas: &mut AreaList, k: u32, entry: Level1)
+fn add_page(areas: &mut AreaList, its: u8, k: u32, entry: Level1)
     requires room { HasRoom 1 areas.old }
     requires entry { places.HasLowPage entry }
-    ensures { Appended 1 (page_area k (places.page_of entry)) areas.old areas.new }
+    ensures { Appended 1 (spec.page_area its k (places.page_of entry)) areas.old areas.new }
 {
     match entry {
         Level1::Page(page) => {
-            areas.push(Stretch::written(Region::Page(k), page.0, PAGE));
+            areas.push(Stretch::written(Region::Page(its, k), page.0, PAGE));
         }
         Level1::Empty | Level1::Outside(_) => {}
     }
 }
 
-/// Appends that of the collection table.
-pub fn add_collections(areas: &mut AreaList, regs: &Regs)
+/// Appends that of a translator's collection table.
+pub fn add_collections(areas: &mut AreaList, its: u8, regs: &Regs)
     requires room { HasRoom 1 areas.old }
-    ensures { Appended 1 (spec.collection_areas regs.now) areas.old areas.new }
+    ensures { Appended 1 (spec.collection_areas its regs.now) areas.old areas.new }
 {
     if regs.table_valid(1) {
         let size = PAGE * u64::from(regs.pages(1).min(8));
-        areas.push(Stretch::written(Region::Collections, regs.table_base(1).0, size));
+        areas.push(Stretch::written(Region::Collections(its), regs.table_base(1).0, size));
     }
 }
 
-/// Appends those of the interrupt translation tables, by rising DeviceID.
-pub fn add_itts(areas: &mut AreaList, maps: &Maps)
+/// Appends those of a translator's interrupt translation tables, by rising DeviceID.
+pub fn add_itts(areas: &mut AreaList, its: u8, maps: &Maps)
     requires room { HasRoom (length (entries maps.now.maps.devices)) areas.old }
     requires devices { AllByRecursion HasLowTable (entries maps.now.maps.devices) }
     ensures { Appended (length (entries maps.now.maps.devices))
-        (itt_areas (entries maps.now.maps.devices)) areas.old areas.new }
+        (itt_areas its (entries maps.now.maps.devices)) areas.old areas.new }
 {
     for (dev, device) in maps.devices() {
-        areas.push(itt_area(dev, device));
+        areas.push(itt_area(its, dev, device));
     }
 }
 
-fn itt_area(dev: DeviceId, device: Device) -> Stretch
+fn itt_area(its: u8, dev: DeviceId, device: Device) -> Stretch
     requires low { device.itt.0 < 2 ^ 52 }
     requires few { device.bits ≤ 16 }
-    ensures { result ≡ spec.itt_area (dev.0, device) }
+    ensures { result ≡ spec.itt_area its (dev.0, device) }
 {
-    Stretch::written(Region::Itt(dev), device.itt.0, 8 * (1 << device.bits))
+    Stretch::written(Region::Itt(its, dev), device.itt.0, 8 * (1 << device.bits))
 }
 
 /// Appends those of the pending tables, but for the bytes that belong to no LPI.
@@ -184,12 +184,12 @@ fn add_own_config(areas: &mut AreaList, vcpu: Vcpu, bases: Bases, shape: Shape)
     }
 }
 
-/// Appends that of the command queue.
-pub fn add_queue(areas: &mut AreaList, regs: &Regs)
+/// Appends that of a translator's command queue.
+pub fn add_queue(areas: &mut AreaList, its: u8, regs: &Regs)
     requires room { HasRoom 1 areas.old }
-    ensures { Appended 1 (queue_areas regs.now) areas.old areas.new }
+    ensures { Appended 1 (spec.queue_area its regs.now) areas.old areas.new }
 {
     if regs.queue_valid() {
-        areas.push(Stretch::read_only(Region::Queue, regs.queue_base().0, regs.queue_size()));
+        areas.push(Stretch::read_only(Region::Queue(its), regs.queue_base().0, regs.queue_size()));
     }
 }

@@ -23,15 +23,16 @@ pub fn all_inside(memory: &Memory, areas: &[Stretch]) -> Result<(), SaveFault>
     Ok(())
 }
 
-/// The level-1 entry of each mapped device is valid, or the first device whose entry isn't.
-pub fn all_placed(regs: &Regs, memory: &Memory, maps: &Maps) -> Result<(), SaveFault>
+/// The level-1 entry of each mapped device of a translator is valid, or the first device whose
+/// entry isn't.
+pub fn all_placed(its: u8, regs: &Regs, memory: &Memory, maps: &Maps) -> Result<(), SaveFault>
     ensures { result
-        ≡ unplaced_fault
+        ≡ unplaced_fault its
         (find (spec.has_no_place regs.now memory.now) (entries maps.now.maps.devices)) }
 {
     for (dev, _) in maps.devices() {
         if regs.indirect() && !is_page(level1(regs, memory, dev.0 / 8192)) {
-            return Err(SaveFault::NoPlace(dev));
+            return Err(SaveFault::NoPlace(its, dev));
         }
     }
     Ok(())

@@ -1,6 +1,6 @@
 //! The device table.
 
-ghost use Rattle.std.specs.Prelude.{◌≡◌, ◌+◌, ◌*◌, ◌<◌, ◌≤◌, ◌^◌, true, length, IfSome};
+ghost use Rattle.std.specs.Prelude.{◌≡◌, ◌+◌, ◌*◌, ◌<◌, ◌≤◌, ◌^◌, true, length, IfSome, OnOk};
 ghost use Rattle.std.specs.FinMap.{entries};
 ghost use Rattle.gits_regs.specs.Registers.{is_indirect};
 ghost use Rattle.its_plain.specs.Saved.{put_words, put_tables, device_words};
@@ -14,6 +14,7 @@ use gits_regs::Regs;
 use guest_windows::Memory;
 use its_maps::{DeviceWalk, Maps};
 use its_types::{Addr, Device, DeviceId};
+use std::alloc::AllocError;
 use std::marker::Model;
 use table_entries::Dte;
 
@@ -113,35 +114,48 @@ impl<'a> DeviceFront<'a> {
 
 /// Writes so many places of a device table, of which the first is that of a DeviceID and stands at
 /// an address.
-pub fn put_places(memory: &mut Memory, base: u64, first: u32, count: u32, front: &mut DeviceFront)
+pub fn put_places(
+    memory: &mut Memory,
+    base: u64,
+    first: u32,
+    count: u32,
+    front: &mut DeviceFront,
+) -> Result<(), AllocError>
     requires low { base < 2 ^ 53 }
     requires few { first + count < 2 ^ 32 }
     requires rises { RisesFrom first front.old }
     requires fit { AllByRecursion FitsDevice front.old }
-    ensures memory { memory.new ≡ put_words memory.old base
-        (λ i. device_entry_word front.old (first + i)) count }
-    ensures rest { PassedDevices (first + count) front.old front.new }
+    ensures memory { OnOk result (memory.new ≡ put_words memory.old base
+        (λ i. device_entry_word front.old (first + i)) count) }
+    ensures rest { OnOk result (PassedDevices (first + count) front.old front.new) }
 {
     for i in 0..count {
         let word = front.word_at(first + i);
-        put_word(memory, base + 8 * u64::from(i), word);
+        put_word(memory, base + 8 * u64::from(i), word)?;
     }
+    Ok(())
 }
 
 /// Writes the pages of a device table of two levels, which have so many places each.
-pub fn put_pages(memory: &mut Memory, pages: &[Option<Addr>], per_page: u32, maps: &Maps)
+pub fn put_pages(
+    memory: &mut Memory,
+    pages: &[Option<Addr>],
+    per_page: u32,
+    maps: &Maps,
+) -> Result<(), AllocError>
     requires few { length pages.now ≤ 128 }
     requires short { per_page ≤ 8192 }
     requires low { AreLowPages pages.now }
     requires fit { AllByRecursion FitsDevice (entries maps.now.maps.devices) }
-    ensures { memory.new
+    ensures { OnOk result (memory.new
         ≡ put_tables memory.old
-        (page_tables (entries maps.now.maps.devices) per_page pages.now (length pages.now)) }
+        (page_tables (entries maps.now.maps.devices) per_page pages.now (length pages.now))) }
 {
     let mut front = DeviceFront::new(maps);
     for (k, page) in pages.iter().enumerate() {
-        put_page(memory, *page, per_page * k as u32, per_page, &mut front);
+        put_page(memory, *page, per_page * k as u32, per_page, &mut front)?;
     }
+    Ok(())
 }
 
 // Writes a page, if there is one, and passes over its places.
@@ -151,37 +165,45 @@ fn put_page(
     first: u32,
     count: u32,
     front: &mut DeviceFront,
-)
+) -> Result<(), AllocError>
     requires few { first + count < 2 ^ 24 }
     requires low { IfSome page (λ a. a.0 < 2 ^ 52) }
     requires rises { RisesFrom first front.old }
     requires fit { AllByRecursion FitsDevice front.old }
-    ensures memory { memory.new ≡ put_tables memory.old (page_table front.old first count page) }
-    ensures rest { PassedDevices (first + count) front.old front.new }
+    ensures memory { OnOk result (memory.new
+        ≡ put_tables memory.old (page_table front.old first count page)) }
+    ensures rest { OnOk result (PassedDevices (first + count) front.old front.new) }
 {
     match page {
         Some(base) => put_places(memory, base.0, first, count, front),
-        None => front.skip_below(first + count),
+        None => {
+            front.skip_below(first + count);
+            Ok(())
+        }
     }
 }
 
 /// Writes the device table: a flat one, or the pages of one of two levels.
 #[tactic(auto, unfolding(its_plain::specs::Saved::device_words))]
-pub fn put_devices(memory: &mut Memory, regs: &Regs, pages: &[Option<Addr>], maps: &Maps)
+pub fn put_devices(
+    memory: &mut Memory,
+    regs: &Regs,
+    pages: &[Option<Addr>],
+    maps: &Maps,
+) -> Result<(), AllocError>
     requires pages { is_indirect regs.now.baser0 ≡ true → ArePages regs.now memory.old pages.now }
     requires fit { AllByRecursion FitsDevice (entries maps.now.maps.devices) }
-    ensures { memory.new
+    ensures { OnOk result (memory.new
         ≡ put_tables memory.old
-        (device_words (record { regs = regs.now; maps = maps.now.maps }) memory.old) }
+        (device_words (record { regs = regs.now; maps = maps.now.maps }) memory.old)) }
 {
     if !regs.table_valid(0) {
-        return;
+        return Ok(());
     }
     if regs.indirect() {
-        put_pages(memory, pages, 8192, maps);
-        return;
+        return put_pages(memory, pages, 8192, maps);
     }
     let count = 8192 * regs.pages(0).min(level1_entries(regs));
     let mut front = DeviceFront::new(maps);
-    put_places(memory, regs.table_base(0).0, 0, count, &mut front);
+    put_places(memory, regs.table_base(0).0, 0, count, &mut front)
 }

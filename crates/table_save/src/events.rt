@@ -1,6 +1,6 @@
 //! The interrupt translation tables.
 
-ghost use Rattle.std.specs.Prelude.{◌≡◌, ◌<◌, ◌≤◌, ◌^◌, ℕ};
+ghost use Rattle.std.specs.Prelude.{◌≡◌, ◌<◌, ◌≤◌, ◌^◌, ℕ, OnOk};
 ghost use Rattle.std.specs.FinMap.{entries};
 ghost use Rattle.std.specs.List.{AllByRecursion};
 ghost use Rattle.its_types.specs.Maps.{events_at};
@@ -12,6 +12,7 @@ use crate::words::put_word;
 use guest_windows::Memory;
 use its_maps::{EventWalk, Maps};
 use its_types::{Device, DeviceId, Event, EventId};
+use std::alloc::AllocError;
 use std::marker::Model;
 use table_entries::Ite;
 
@@ -83,29 +84,36 @@ impl<'a> EventFront<'a> {
 }
 
 /// Writes the table of each mapped device.
-pub fn put_itts(memory: &mut Memory, maps: &Maps)
+pub fn put_itts(memory: &mut Memory, maps: &Maps) -> Result<(), AllocError>
     requires devices { AllByRecursion FitsDevice (entries maps.now.maps.devices) }
     requires events { (dev : ℕ) → AllByRecursion FitsEvent (events_at maps.now.maps dev) }
-    ensures { memory.new
-        ≡ put_tables memory.old (itt_tables maps.now.maps (entries maps.now.maps.devices)) }
+    ensures { OnOk result (memory.new
+        ≡ put_tables memory.old (itt_tables maps.now.maps (entries maps.now.maps.devices))) }
 {
     for (dev, device) in maps.devices() {
-        put_itt(memory, maps, dev, device);
+        put_itt(memory, maps, dev, device)?;
     }
+    Ok(())
 }
 
-fn put_itt(memory: &mut Memory, maps: &Maps, dev: DeviceId, device: Device)
+fn put_itt(
+    memory: &mut Memory,
+    maps: &Maps,
+    dev: DeviceId,
+    device: Device,
+) -> Result<(), AllocError>
     requires low { device.itt.0 < 2 ^ 52 }
     requires few { device.bits ≤ 16 }
     requires events { AllByRecursion FitsEvent (events_at maps.now.maps dev.0) }
-    ensures { memory.new
+    ensures { OnOk result (memory.new
         ≡ put_words memory.old device.itt.0 (event_entry_word (events_at maps.now.maps dev.0))
-        (2 ^ device.bits) }
+        (2 ^ device.bits)) }
 {
     let mut front = EventFront::new(maps, dev);
     let count = 1u32 << device.bits;
     for ev in 0..count {
         let word = front.word_at(ev);
-        put_word(memory, device.itt.0 + 8 * u64::from(ev), word);
+        put_word(memory, device.itt.0 + 8 * u64::from(ev), word)?;
     }
+    Ok(())
 }

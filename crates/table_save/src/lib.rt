@@ -17,5 +17,4 @@ mod room;
 mod saving;
 mod words;
 
-pub use room::SaveRoom;
-pub use saving::{savable, savable_in, save, save_in, write_tables};
+pub use saving::{savable, save, saved_memory, write_tables};

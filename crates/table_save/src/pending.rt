@@ -1,6 +1,6 @@
 //! The pending tables.
 
-ghost use Rattle.std.specs.Prelude.{◌≡◌, ◌+◌, ◌*◌, ◌<◌, ◌≤◌, ◌^◌};
+ghost use Rattle.std.specs.Prelude.{◌≡◌, ◌+◌, ◌*◌, ◌<◌, ◌≤◌, ◌^◌, OnOk};
 ghost use Rattle.std.specs.List.{flat_map};
 ghost use Rattle.its_types.specs.Ranges.{pending_bytes};
 ghost use Rattle.its_plain.specs.Saved.{put_words, put_tables, pending_word, pending_words};
@@ -13,52 +13,61 @@ use crate::words::put_word;
 use guest_windows::Memory;
 use its_types::{Shape, Vcpu, le_u64};
 use lpi_pending::{Pending, Redist, Redists};
+use std::alloc::AllocError;
 
 /// Writes the pending tables, but for the bytes that belong to no LPI.
-pub fn put_pending(memory: &mut Memory, redists: &Redists, shape: Shape)
+pub fn put_pending(memory: &mut Memory, redists: &Redists, shape: Shape) -> Result<(), AllocError>
     requires shape { IsShape shape }
     requires in_hand { AreAllInHand shape redists.now }
     requires low { HaveLowTables shape redists.now }
-    ensures { memory.new
+    ensures { OnOk result (memory.new
         ≡ put_tables memory.old
-        (flat_map (pending_words shape) (redistributors_of shape redists.now)) }
+        (flat_map (pending_words shape) (redistributors_of shape redists.now))) }
 {
     for vcpu in 0..shape.vcpus {
-        put_table(memory, redists.redist(Vcpu(vcpu)), shape);
+        put_table(memory, redists.redist(Vcpu(vcpu)), shape)?;
     }
+    Ok(())
 }
 
 // Writes a redistributor's table, where its LPIs are on.
-fn put_table(memory: &mut Memory, redist: &Redist, shape: Shape)
+fn put_table(memory: &mut Memory, redist: &Redist, shape: Shape) -> Result<(), AllocError>
     requires shape { IsShape shape }
     requires lpis { HasLpisOf shape redist.now }
     requires low { AreLow redist.now.bases }
-    ensures { memory.new ≡ put_tables memory.old
-        (pending_words shape (redistributor_of redist.now)) }
+    ensures { OnOk result (memory.new ≡ put_tables memory.old
+        (pending_words shape (redistributor_of redist.now))) }
 {
-    if redist.bases.on {
-        let count = (shape.pending_bytes() - 1024) / 8;
-        put_words_of(
-            memory,
-            redist.bases.pend.table.0 + 1024,
-            count as u32,
-            &redist.pending,
-        );
+    if !redist.bases.on {
+        return Ok(());
     }
+    let count = (shape.pending_bytes() - 1024) / 8;
+    put_words_of(
+        memory,
+        redist.bases.pend.table.0 + 1024,
+        count as u32,
+        &redist.pending,
+    )
 }
 
 // Writes so many words, of which the first has the bits of the first LPIs.
-fn put_words_of(memory: &mut Memory, base: u64, count: u32, pending: &Pending)
+fn put_words_of(
+    memory: &mut Memory,
+    base: u64,
+    count: u32,
+    pending: &Pending,
+) -> Result<(), AllocError>
     requires low { base < 2 ^ 53 }
     requires few { count ≤ 16384 }
     requires in_table { 1024 + 8 * count ≤ pending_bytes pending.now.lpi_bits }
-    ensures { memory.new
-        ≡ put_words memory.old base (λ i. pending_word pending.now.lpis (1024 + 8 * i)) count }
+    ensures { OnOk result (memory.new
+        ≡ put_words memory.old base (λ i. pending_word pending.now.lpis (1024 + 8 * i)) count) }
 {
     for i in 0..count {
         let word = word_of(pending, 1024 + 8 * i);
-        put_word(memory, base + 8 * u64::from(i), word);
+        put_word(memory, base + 8 * u64::from(i), word)?;
     }
+    Ok(())
 }
 
 // Eight bytes of the table from byte `n` on.

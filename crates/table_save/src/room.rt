@@ -9,8 +9,7 @@ use std::marker::Model;
 // of 16 virtual processors, and the command queue.
 const OTHERS: usize = 163;
 
-/// Room for the saves of a translator that has so many mapped devices. In it a save takes no
-/// memory.
+/// Room for the tests before a save of a translator that has so many mapped devices.
 #[derive(Drop)]
 pub struct SaveRoom {
     spare: usize,

@@ -1,12 +1,16 @@
-ghost use Rattle.std.specs.Prelude.{◌≡◌};
+ghost use Rattle.std.specs.Prelude.{◌≡◌, OnOk};
 ghost use Rattle.its_plain.specs.Saved.{put_word};
 
-use guest_windows::Memory;
+use guest_windows::{Memory, WriteError};
 use its_types::Addr;
+use std::alloc::AllocError;
 
 /// Writes eight bytes, where they lie in one window.
-pub fn put_word(memory: &mut Memory, address: u64, word: u64)
-    ensures { memory.new ≡ put_word memory.old address word }
+pub fn put_word(memory: &mut Memory, address: u64, word: u64) -> Result<(), AllocError>
+    ensures { OnOk result (memory.new ≡ put_word memory.old address word) }
 {
-    let _written = memory.write_u64(Addr(address), word);
+    match memory.write_u64(Addr(address), word) {
+        Err(WriteError::NoMemory) => Err(AllocError),
+        Ok(()) | Err(WriteError::Outside(_)) => Ok(()),
+    }
 }

@@ -6,11 +6,11 @@ use Rattle.its_plain.specs.Regions.{itt_area}
 use Rattle.table_save.specs.Areas.{itt_areas, HasLowTable}
 use Rattle.table_save.proofs.areas.add_itts.Goals as goal
 
-one_more : (old now whole : List Area) (it next : List (ℕ × Device)) (d : ℕ × Device) (a : Area) → it ≡ d ∷ next → a ≡ itt_area d → now ≡ old ++ a ∷ []
-    → old ++ itt_areas it ≡ whole → now ++ itt_areas next ≡ whole
-one_more old now whole it next d a steps is pushed so_far =
-    ap (λ xs. xs ++ itt_areas next) pushed ∙ append_assoc old (a ∷ []) (itt_areas next) ∙ ap (λ b. old ++ b ∷ itt_areas next) is
-    ∙ ap (λ ds. old ++ itt_areas ds) (sym steps) ∙ so_far
+one_more : (its : ℕ) (old now whole : List Area) (it next : List (ℕ × Device)) (d : ℕ × Device) (a : Area) → it ≡ d ∷ next → a ≡ itt_area its d → now ≡ old ++ a ∷ []
+    → old ++ itt_areas its it ≡ whole → now ++ itt_areas its next ≡ whole
+one_more its old now whole it next d a steps is pushed so_far =
+    ap (λ xs. xs ++ itt_areas its next) pushed ∙ append_assoc old (a ∷ []) (itt_areas its next) ∙ ap (λ b. old ++ b ∷ itt_areas its next) is
+    ∙ ap (λ ds. old ++ itt_areas its ds) (sym steps) ∙ so_far
 
 pub loop-dev-preserved : goal.loop-dev-preserved
 loop-dev-preserved c =
@@ -19,7 +19,7 @@ loop-dev-preserved c =
       can_next = tt;
       is_finite = tt;
       low = (subst (AllByRecursion HasLowTable) c.in-Some.ensures.steps v.low).1;
-      areas = one_more c.loop-dev.areas.items c.push.new.self.items _ c.loop-dev.dev-iterator c.next.new.self (c.in-Some.dev.0, c.in-Some.device)
+      areas = one_more c.args.its c.loop-dev.areas.items c.push.new.self.items _ c.loop-dev.dev-iterator c.next.new.self (c.in-Some.dev.0, c.in-Some.device)
           c.itt_area.result c.in-Some.ensures.steps c.itt_area.ensures c.push.ensures.items v.areas;
       few = let steps = ap length c.in-Some.ensures.steps in omega (arith, steps, c.push.ensures.one, v.few);
       capacity = omega (arith, c.push.ensures.capacity, v.capacity);

@@ -9,7 +9,7 @@ invariant-loop-dev l = record {
   can_next : (goal.iterator-loop-dev).can_next l.dev-iterator;
   is_finite : (goal.iterator-loop-dev).is_finite l.dev-iterator;
   low : AllByRecursion HasLowTable l.dev-iterator;
-  areas : l.areas.items ++ itt_areas l.dev-iterator ≡ l.fn.areas.items ++ itt_areas (entries l.fn.maps.maps.devices);
+  areas : l.areas.items ++ itt_areas l.its l.dev-iterator ≡ l.fn.areas.items ++ itt_areas l.its (entries l.fn.maps.maps.devices);
   few : length l.areas.items + length l.dev-iterator ≤ length l.fn.areas.items + length (entries l.fn.maps.maps.devices);
   capacity : l.fn.areas.capacity ≤ l.areas.capacity;
 }

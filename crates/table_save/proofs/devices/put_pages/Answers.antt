@@ -14,6 +14,6 @@ loop-k-preserved c =
     let all = entries c.args.maps.now.maps.devices in let v = c.loop-k.invariant in
     record {
       written = page_more c.args.memory.now c.loop-k.memory c.put_page.new.memory all c.loop-k.front c.args.per_page c.args.pages.now c.loop-k.k v.written
-          v.passed c.put_page.ensures.memory;
-      passed = past_page all c.loop-k.front c.put_page.new.front c.args.per_page c.loop-k.k v.passed c.put_page.ensures.rest;
+          v.passed c.in_ok-put_page.ensures.memory;
+      passed = past_page all c.loop-k.front c.put_page.new.front c.args.per_page c.loop-k.k v.passed c.in_ok-put_page.ensures.rest;
     }

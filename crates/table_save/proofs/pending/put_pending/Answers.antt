@@ -15,4 +15,4 @@ put_table-requires-clause-lpis c =
 pub loop-vcpu-preserved : goal.loop-vcpu-preserved
 loop-vcpu-preserved c =
     table_more c.args.shape c.loop-vcpu.vcpu c.args.redists.now c.redist.result.now c.loop-vcpu.memory c.put_table.new.memory _ c.loop-vcpu-test.true
-    c.redist.ensures c.put_table.ensures c.loop-vcpu.invariant
+    c.redist.ensures c.in_ok-put_table.ensures c.loop-vcpu.invariant

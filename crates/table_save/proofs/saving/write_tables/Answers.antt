@@ -1,4 +1,5 @@
 use Rattle.std.proofs.Common.{◌∙◌, ap}
+use Rattle.std.proofs.lemmas.Result.{on_ok_weaker}
 use Rattle.its_plain.specs.Saved.{put_tables}
 use Rattle.table_save.proofs.Entries.{words_are}
 use Rattle.table_save.proofs.SoundState.{devices_fit, events_fit, redistributors_low}
@@ -14,5 +15,5 @@ pub put_all-requires-clause-events : goal.put_all-requires-clause-events
 put_all-requires-clause-events c = events_fit c.args.layout.now c.args.regs.now c.args.maps.now.maps c.args.memory.now c.args.redists.now c.requires.sound
 
 pub returns : goal.returns
-returns c = c.put_all.ensures ∙ ap (put_tables c.args.memory.now) (words_are c.args.layout.now c.args.regs.now c.args.maps.now.maps c.args.memory.now
-    c.args.redists.now)
+returns c = on_ok_weaker c.put_all.result (λ written. written ∙ ap (put_tables c.args.memory.now) (words_are c.args.layout.now c.args.regs.now
+    c.args.maps.now.maps c.args.memory.now c.args.redists.now)) c.put_all.ensures
