@@ -13,7 +13,7 @@ use Rattle.dirty_log.specs.declared.tracked.Tracked.{Tracked}
 use Rattle.dirty_log.proofs.Marks.{clean_after, dirty_or_clean, none_clean}
 use Rattle.dirty_log.specs.Listing.{is_in}
 use Rattle.dirty_log.proofs.Members.{page_listed, byte_there, listed_clean}
-use Rattle.dirty_log.proofs.Mixed.{byte_mixed, extents_mixed}
+use Rattle.guest_windows.proofs.Mixed.{byte_mixed, extents_mixed}
 
 numbers_marked : (address len : ℕ) (pages : List Page) → map number_of (marked address len pages) ≡ map number_of pages
 numbers_marked address len [] = refl

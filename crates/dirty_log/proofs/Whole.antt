@@ -8,7 +8,7 @@ use Rattle.std.proofs.lemmas.Option.{same_Some}
 use Rattle.guest_windows.specs.Windows.{Window, has, inside, read_at, byte_at, extent, are_apart, share_no_byte}
 use Rattle.guest_windows.proofs.Laws.{has-fits, inside-extents, is_some-read_at}
 use Rattle.dirty_log.specs.Copies.{caught_up, in_dirty, CopyIsMemory}
-use Rattle.dirty_log.proofs.Mixed.{byte_here, byte_later, has_extent, extents_mixed}
+use Rattle.guest_windows.proofs.Mixed.{byte_here, byte_later, has_extent, extents_mixed}
 use Rattle.dirty_log.proofs.Tracks.{copy_has_all, nothing}
 
 same_items : (xs ys : List ℕ) → length xs ≡ length ys → ((i : ℕ) → i < length xs → slice_index xs i ≡ slice_index ys i) → xs ≡ ys

@@ -1,24 +1,12 @@
 -- Guest memory with a copy of it, and which of its pages differ at most.
-use Rattle.std.specs.Prelude.{◌≡◌, ℕ, suc, Bool, true, false, if◌then◌else◌, List, ◌∷◌, map, length, Some}
+use Rattle.std.specs.Prelude.{◌≡◌, ℕ, Bool, true, false, List, map, length, Some}
 use Rattle.guest_windows.specs.Windows.{Window, extent, zeros, byte_at, write_at, share_no_byte}
+use Rattle.guest_windows.specs.Mixed.{mixed_windows}
 use Rattle.dirty_log.specs.Pages.{page_of, pages_of, is_dirty, is_clean, set_all, marked, all_pages}
 use Rattle.dirty_log.specs.declared.page.Page.{Page}
 use Rattle.dirty_log.specs.declared.tracked.Tracked.{Tracked}
 
 -- ---- what a copy leaves
-
--- the bytes from an address on, of which those come from the first list whose addresses the test passes
-abbrev pub mixed : (ℕ → Bool) → ℕ → List ℕ → List ℕ → List ℕ
-mixed test address (x ∷ xs) (y ∷ ys) = (if test address then x else y) ∷ mixed test (suc address) xs ys
-mixed test address xs ys = ys
-
-abbrev pub mixed_window : (ℕ → Bool) → Window → Window → Window
-mixed_window test from to = record to { bytes = mixed test to.base from.bytes to.bytes }
-
--- the same in each window
-abbrev pub mixed_windows : (ℕ → Bool) → List Window → List Window → List Window
-mixed_windows test (v ∷ vs) (w ∷ ws) = mixed_window test v w ∷ mixed_windows test vs ws
-mixed_windows test vs ws = ws
 
 abbrev pub in_dirty : List Page → ℕ → Bool
 in_dirty pages address = is_dirty pages (page_of address)

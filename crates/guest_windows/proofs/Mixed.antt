@@ -6,14 +6,14 @@ use Rattle.std.specs.Option.{option_map}
 use Rattle.std.proofs.lemmas.Bool.{cases_Bool}
 use Rattle.guest_windows.specs.Windows.{Window, has, piece, read_at, byte_at, extent}
 use Rattle.guest_windows.proofs.Laws.{has-fits}
-use Rattle.dirty_log.specs.Copies.{mixed, mixed_window, mixed_windows}
+use Rattle.guest_windows.specs.Mixed.{mixed, mixed_window, mixed_windows}
 
 pub length-mixed : (test : ℕ → Bool) (a : ℕ) (xs ys : List ℕ) → length (mixed test a xs ys) ≡ length ys
 length-mixed test a [] ys = refl
 length-mixed test a (x ∷ xs) [] = refl
 length-mixed test a (x ∷ xs) (y ∷ ys) = ap suc (length-mixed test (suc a) xs ys)
 
-item_mixed : (test : ℕ → Bool) (a i : ℕ) (xs ys : List ℕ) → i < length xs → i < length ys
+pub item_mixed : (test : ℕ → Bool) (a i : ℕ) (xs ys : List ℕ) → i < length xs → i < length ys
     → slice_index (mixed test a xs ys) i ≡ cond (test (a + i)) (slice_index xs i) (slice_index ys i)
 item_mixed test a i [] ys lt less = absurd (omega arith)
 item_mixed test a i (x ∷ xs) [] lt less = absurd (omega arith)
@@ -22,7 +22,7 @@ item_mixed test a (suc i) (x ∷ xs) (y ∷ ys) lt less =
     let e : suc a + i ≡ a + suc i = omega arith in
     item_mixed test (suc a) i xs ys (omega arith) (omega arith) ∙ ap (λ (k : ℕ). cond (test k) (slice_index xs i) (slice_index ys i)) e
 
-first_of : (i : ℕ) (xs : List ℕ) → slice_index (take 1 (drop i xs)) 0 ≡ slice_index xs i
+pub first_of : (i : ℕ) (xs : List ℕ) → slice_index (take 1 (drop i xs)) 0 ≡ slice_index xs i
 first_of zero [] = refl
 first_of (suc i) [] = refl
 first_of zero (x ∷ xs) = refl

@@ -1,0 +1,15 @@
+use Rattle.std.proofs.Common.{◌≡◌, ◌<◌, ◌≤◌, ◌^◌, true, take}
+use Rattle.std.specs.List.{AllByRecursion}
+use Rattle.guest_windows.specs.Windows.{inside}
+use Rattle.guest_windows.specs.Zeros.{IsZeroIn}
+use Rattle.guest_windows.specs.Fields.{windows}
+use Rattle.guest_windows.proofs.pages.first_page.Given as goal
+
+abbrev pub invariant-loop-frame : goal.invariant-loop-frame
+invariant-loop-frame l = record {
+  zero : AllByRecursion (IsZeroIn l.from.0 l.first.0.0) (windows (take l.frame-index l.frames));
+  from : 0 < l.first.1 → l.from.0 ≤ l.first.0.0;
+  part : 0 < l.first.1 → inside (windows l.frames) l.first.0.0 l.first.1 ≡ true;
+  few : l.first.1 ≤ 65536;
+  none : l.first.1 ≡ 0 → l.first.0.0 ≡ 2 ^ 52;
+}
