@@ -1,6 +1,6 @@
 -- How calls, replies and faults are printed: addresses, register offsets and values, priorities and opcodes without a name as 0x and
 -- hexadecimal digits, bytes as hexadecimal digits, all other numbers in decimal.
-use Rattle.std.specs.Prelude.{ℕ, false, List, ◌++◌, codes}
+use Rattle.std.specs.Prelude.{ℕ, false, ◌==◌, if◌then◌else◌, List, [], ◌++◌, codes}
 use Rattle.std.specs.Fmt.{decimal, digits}
 use Rattle.gits_regs.specs.declared.values.Register.{Register}
 use Rattle.gits_regs.specs.declared.values.Register.TheVariants as register
@@ -33,19 +33,31 @@ use Rattle.its_plain.specs.declared.fault.Table.TheVariants as table
 abbrev pub hexadecimal : ℕ → List ℕ
 hexadecimal n = codes "0x" ++ digits 16 false n
 
+-- what the calls and faults of a translator begin with, and the names of its tables
+unfoldable pub its_mark : ℕ → List ℕ
+its_mark its = if its == 0 then [] else codes "b "
+
+unfoldable pub table_mark : ℕ → List ℕ
+table_mark its = if its == 0 then [] else codes "b-"
+
 unfoldable pub call_text : Call → List ℕ
-call_text (call.Signal its dev ev) = codes "signal " ++ decimal dev.0 ++ codes " " ++ decimal ev.0
+call_text (call.Signal its dev ev) = its_mark its ++ codes "signal " ++ decimal dev.0 ++ codes " " ++ decimal ev.0
 call_text (call.Take vcpu) = codes "take " ++ decimal vcpu.0
 call_text (call.Show vcpu) = codes "show " ++ decimal vcpu.0
+call_text (call.Best vcpu mask) = codes "best " ++ decimal vcpu.0 ++ codes " " ++ hexadecimal mask
+call_text (call.Claim vcpu intid) = codes "claim " ++ decimal vcpu.0 ++ codes " " ++ decimal intid.0
 call_text (call.Poke addr bytes) = codes "poke " ++ hexadecimal addr.0 ++ codes " " ++ encode_lower bytes
 call_text (call.Peek addr count) = codes "peek " ++ hexadecimal addr.0 ++ codes " " ++ decimal count
-call_text (call.ReadReg its off size) = codes "read " ++ hexadecimal off ++ codes " " ++ decimal size
-call_text (call.WriteReg its off size value) = codes "write " ++ hexadecimal off ++ codes " " ++ decimal size ++ codes " " ++ hexadecimal value
+call_text (call.ReadReg its off size) = its_mark its ++ codes "read " ++ hexadecimal off ++ codes " " ++ decimal size
+call_text (call.WriteReg its off size value) =
+    its_mark its ++ codes "write " ++ hexadecimal off ++ codes " " ++ decimal size ++ codes " " ++ hexadecimal value
 call_text (call.ReadGicr vcpu off size) = codes "rread " ++ decimal vcpu.0 ++ codes " " ++ hexadecimal off ++ codes " " ++ decimal size
 call_text (call.WriteGicr vcpu off size value) =
     codes "rwrite " ++ decimal vcpu.0 ++ codes " " ++ hexadecimal off ++ codes " " ++ decimal size ++ codes " " ++ hexadecimal value
-call_text (call.Step its) = codes "step"
+call_text (call.Step its) = its_mark its ++ codes "step"
 call_text call.Save = codes "save"
+call_text call.Copy = codes "copy"
+call_text (call.Dma req addr bytes route) = codes "dma " ++ decimal req ++ codes " " ++ hexadecimal addr.0 ++ codes " " ++ encode_lower bytes
 
 unfoldable pub op_text : Op → List ℕ
 op_text op.Movi = codes "movi"
@@ -97,18 +109,18 @@ step_text (step.Refused name why) = codes "refused " ++ op_text name ++ codes " 
 step_text (step.QueueFault addr) = codes "queue-fault " ++ hexadecimal addr.0
 
 unfoldable pub region_text : Region → List ℕ
-region_text region.Devices = codes "devices"
-region_text region.Level1 = codes "level1"
-region_text (region.Page k) = codes "page " ++ decimal k
-region_text region.Collections = codes "collections"
-region_text (region.Itt dev) = codes "itt " ++ decimal dev.0
+region_text (region.Devices its) = table_mark its ++ codes "devices"
+region_text (region.Level1 its) = table_mark its ++ codes "level1"
+region_text (region.Page its k) = table_mark its ++ codes "page " ++ decimal k
+region_text (region.Collections its) = table_mark its ++ codes "collections"
+region_text (region.Itt its dev) = table_mark its ++ codes "itt " ++ decimal dev.0
 region_text (region.Pending vcpu) = codes "pending " ++ decimal vcpu.0
 region_text region.Config = codes "config"
 region_text (region.ConfigOf vcpu) = codes "config " ++ decimal vcpu.0
-region_text region.Queue = codes "queue"
+region_text (region.Queue its) = table_mark its ++ codes "queue"
 
 unfoldable pub save_fault_text : SaveFault → List ℕ
-save_fault_text (save.NoPlace dev) = codes "no-place " ++ decimal dev.0
+save_fault_text (save.NoPlace its dev) = codes "no-place " ++ its_mark its ++ decimal dev.0
 save_fault_text (save.Outside r) = codes "outside " ++ region_text r
 save_fault_text (save.Overlap r s) = codes "overlap " ++ region_text r ++ codes " " ++ region_text s
 
@@ -145,6 +157,8 @@ reply_text (reply.Value value) = codes "value " ++ hexadecimal value
 reply_text (reply.Step s) = step_text s
 reply_text reply.Saved = codes "saved"
 reply_text (reply.SaveFault fault) = codes "save-fault " ++ save_fault_text fault
+reply_text (reply.Copied pages) = codes "copied " ++ decimal pages
+reply_text reply.NoRequester = codes "dropped no-requester"
 
 -- a call and what it was answered
 unfoldable pub answered_text : Call → Reply → List ℕ

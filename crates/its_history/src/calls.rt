@@ -4,6 +4,7 @@ ghost use Rattle.std.specs.String.{string_bytes};
 ghost use Rattle.its_history.specs.Texts.{call_text, hexadecimal};
 
 use crate::numbers::{push_bytes, push_decimal, push_hexadecimal};
+use crate::text::its_mark;
 use its_plain::Call;
 use std::alloc::{AllocError, Global};
 
@@ -13,7 +14,8 @@ pub fn push_call(alloc: Global, out: &mut String, call: &Call) -> Result<(), All
     ensures { OnOk result (string_bytes out.new ≡ string_bytes out.old ++ call_text call.now) }
 {
     match call {
-        Call::Signal { its: _, dev, ev } => {
+        Call::Signal { its, dev, ev } => {
+            out.push_str(its_mark(*its))?;
             out.push_str("signal ")?;
             push_decimal(out, dev.0.into())?;
             out.push_str(" ")?;
@@ -27,6 +29,18 @@ pub fn push_call(alloc: Global, out: &mut String, call: &Call) -> Result<(), All
             out.push_str("show ")?;
             push_decimal(out, vcpu.0.into())
         }
+        Call::Best { vcpu, mask } => {
+            out.push_str("best ")?;
+            push_decimal(out, vcpu.0.into())?;
+            out.push_str(" ")?;
+            push_hexadecimal(out, (*mask).into())
+        }
+        Call::Claim { vcpu, intid } => {
+            out.push_str("claim ")?;
+            push_decimal(out, vcpu.0.into())?;
+            out.push_str(" ")?;
+            push_decimal(out, intid.0.into())
+        }
         Call::Poke { addr, bytes } => {
             out.push_str("poke ")?;
             push_hexadecimal(out, addr.0)?;
@@ -39,13 +53,17 @@ pub fn push_call(alloc: Global, out: &mut String, call: &Call) -> Result<(), All
             out.push_str(" ")?;
             push_decimal(out, (*count).into())
         }
-        Call::ReadReg { its: _, off, size } => push_access(out, "read ", *off, *size),
+        Call::ReadReg { its, off, size } => {
+            out.push_str(its_mark(*its))?;
+            push_access(out, "read ", *off, *size)
+        }
         Call::WriteReg {
-            its: _,
+            its,
             off,
             size,
             value,
         } => {
+            out.push_str(its_mark(*its))?;
             push_access(out, "write ", *off, *size)?;
             out.push_str(" ")?;
             push_hexadecimal(out, *value)
@@ -67,8 +85,25 @@ pub fn push_call(alloc: Global, out: &mut String, call: &Call) -> Result<(), All
             out.push_str(" ")?;
             push_hexadecimal(out, *value)
         }
-        Call::Step { its: _ } => out.push_str("step"),
+        Call::Step { its } => {
+            out.push_str(its_mark(*its))?;
+            out.push_str("step")
+        }
         Call::Save => out.push_str("save"),
+        Call::Copy => out.push_str("copy"),
+        Call::Dma {
+            req,
+            addr,
+            bytes,
+            route: _,
+        } => {
+            out.push_str("dma ")?;
+            push_decimal(out, (*req).into())?;
+            out.push_str(" ")?;
+            push_hexadecimal(out, addr.0)?;
+            out.push_str(" ")?;
+            push_bytes(alloc, out, bytes.as_slice())
+        }
     }
 }
 

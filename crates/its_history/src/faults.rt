@@ -5,6 +5,7 @@ ghost use Rattle.std.specs.String.{string_bytes};
 ghost use Rattle.its_history.specs.Texts as spec;
 
 use crate::numbers::push_decimal;
+use crate::text::its_mark;
 use gits_regs::Register;
 use its_plain::{Region, RestoreFault, SaveFault, Table};
 use std::alloc::{AllocError, Global};
@@ -35,7 +36,10 @@ fn push_save_fault(out: &mut String, fault: SaveFault) -> Result<(), AllocError>
         ++ spec.save_fault_text fault) }
 {
     match fault {
-        SaveFault::NoPlace(dev) => push_numbered(out, "no-place ", dev.0.into()),
+        SaveFault::NoPlace(its, dev) => {
+            out.push_str("no-place ")?;
+            push_numbered(out, its_mark(its), dev.0.into())
+        }
         SaveFault::Outside(region) => {
             out.push_str("outside ")?;
             push_region(out, region)
@@ -63,16 +67,39 @@ fn push_region(out: &mut String, region: Region) -> Result<(), AllocError>
     ensures { OnOk result (string_bytes out.new ≡ string_bytes out.old ++ spec.region_text region) }
 {
     match region {
-        Region::Devices => out.push_str("devices"),
-        Region::Level1 => out.push_str("level1"),
-        Region::Page(k) => push_numbered(out, "page ", k.into()),
-        Region::Collections => out.push_str("collections"),
-        Region::Itt(dev) => push_numbered(out, "itt ", dev.0.into()),
+        Region::Devices(its) => push_table(out, its, "devices"),
+        Region::Level1(its) => push_table(out, its, "level1"),
+        Region::Page(its, k) => {
+            push_table(out, its, "page ")?;
+            push_decimal(out, k.into())
+        }
+        Region::Collections(its) => push_table(out, its, "collections"),
+        Region::Itt(its, dev) => {
+            push_table(out, its, "itt ")?;
+            push_decimal(out, dev.0.into())
+        }
         Region::Pending(vcpu) => push_numbered(out, "pending ", vcpu.0.into()),
         Region::Config => out.push_str("config"),
         Region::ConfigOf(vcpu) => push_numbered(out, "config ", vcpu.0.into()),
-        Region::Queue => out.push_str("queue"),
+        Region::Queue(its) => push_table(out, its, "queue"),
     }
+}
+
+/// The name of a translator's table.
+fn push_table(out: &mut String, its: u8, name: &str) -> Result<(), AllocError>
+    ensures { OnOk result (string_bytes out.new
+        ≡ string_bytes out.old ++ spec.table_mark its ++ name.now) }
+{
+    out.push_str(table_mark(its))?;
+    out.push_str(name)
+}
+
+/// What the name of a translator's table begins with.
+#[tactic(auto, unfolding(crate::specs::Texts::table_mark))]
+fn table_mark(its: u8) -> &'static str
+    ensures { result.now ≡ spec.table_mark its }
+{
+    if its == 0 { "" } else { "b-" }
 }
 
 /// The first fault of memory and registers.

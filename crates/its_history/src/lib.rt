@@ -22,6 +22,6 @@ pub use report::{
     answered_text, entry_text, leg_text, pending_text, reply_text, report_text, told_text,
     vcpu_text,
 };
-pub use text::Text;
+pub use text::{Text, its_mark};
 pub use threads::{ThreadList, merge, merge_gives, merge_lines, thread_gives};
 pub use trace::{End, EntryLine, Leg, Trace};

@@ -31,6 +31,11 @@ pub fn push_reply(alloc: Global, out: &mut String, reply: &Reply) -> Result<(), 
         Reply::Step(step) => push_step(out, *step),
         Reply::Saved => out.push_str("saved"),
         Reply::SaveFault(fault) => push_refused_save(out, *fault),
+        Reply::Copied(pages) => {
+            out.push_str("copied ")?;
+            push_decimal(out, *pages)
+        }
+        Reply::NoRequester => out.push_str("dropped no-requester"),
     }
 }
 

@@ -1,5 +1,6 @@
 ghost use Rattle.std.specs.Prelude.{◌≡◌};
 ghost use Rattle.std.specs.String.{string_bytes};
+ghost use Rattle.its_history.specs.Texts as spec;
 
 use std::marker::Model;
 
@@ -32,4 +33,12 @@ impl Text {
     {
         self.text.as_str()
     }
+}
+
+/// What the calls and faults of a translator begin with: nothing for the first.
+#[tactic(auto, unfolding(crate::specs::Texts::its_mark))]
+pub fn its_mark(its: u8) -> &'static str
+    ensures { result.now ≡ spec.its_mark its }
+{
+    if its == 0 { "" } else { "b " }
 }

@@ -1,6 +1,5 @@
 use event_script::{Kind, Leg, ParseError, Script, ScriptFault, parse, parse_check};
-use gits_regs::RegValues;
-use its_plain::LpiTables;
+use its_plain::{Its, LpiTables};
 use std::alloc::{AllocError, Global};
 use std::fmt::Write;
 use std::test::Fail;
@@ -56,6 +55,9 @@ fn faulty_descriptions(rt: HostRuntime) {
         ("vcpus 4\nids 16 16\nids 16 16\n", 3, Kind::Order),
         ("vcpus 4\nprofile 3\n", 2, Kind::Number),
         ("vcpus 4\nprofile 1\nprofile 2\n", 3, Kind::Order),
+        ("linux\n", 1, Kind::Order),
+        ("vcpus 4\nlinux x\n", 2, Kind::Fields),
+        ("vcpus 4\nlinux\nlinux x\n", 3, Kind::Order),
         ("vcpus 4\nwindow 0x11111111111111111 1\n", 2, Kind::Number),
         ("vcpus 4\nwindow 18446744073709551616 1\n", 2, Kind::Number),
         ("trace\n", 1, Kind::Order),
@@ -164,6 +166,14 @@ fn faulty_bodies(rt: HostRuntime) -> Result<(), Fail> {
         ("migrate\nphase\nmigrate\n", 8, Kind::Missing),
         ("migrate\nthread\n", 7, Kind::Order),
         ("phase\nthread\ntake 1\n", 8, Kind::Number),
+        ("phase\nthread\nbest 1 0\n", 8, Kind::Number),
+        ("phase\nthread\nbest 0 256\n", 8, Kind::Number),
+        ("phase\nthread\nbest 0\n", 8, Kind::Fields),
+        ("phase\nthread\nclaim 1 8200\n", 8, Kind::Number),
+        ("phase\nthread\nclaim 0 0x100000000\n", 8, Kind::Number),
+        ("phase\nthread\nclaim 0 8200 1\n", 8, Kind::Fields),
+        ("claim 0 8200\n", 6, Kind::Order),
+        ("phase\nlinux\n", 7, Kind::Order),
         ("phase\nthread\nread 0 5\n", 8, Kind::Number),
         ("phase\nthread\nwrite 0 4 0x100000000\n", 8, Kind::Number),
         ("phase\nthread\npeek 0 65\n", 8, Kind::Number),
@@ -230,9 +240,11 @@ fn push_tables(said: &mut String, tables: &LpiTables) -> Result<(), Fail> {
     Ok(())
 }
 
-fn push_restored(said: &mut String, restore: Option<RegValues>) -> Result<(), Fail> {
-    if let Some(values) = restore {
-        write!(said, " restore {} {:x}", values.creadr, values.baser1)?;
+fn push_restored(said: &mut String, translators: &[Its]) -> Result<(), Fail> {
+    for its in translators {
+        if let Some(values) = its.restore {
+            write!(said, " restore {} {:x}", values.creadr, values.baser1)?;
+        }
     }
     Ok(())
 }
@@ -256,8 +268,11 @@ fn push_script(said: &mut String, script: &Script) -> Result<(), Fail> {
         "{} {} {} {:?}",
         shape.vcpus, shape.dev_bits, shape.lpi_bits, shape.profile
     )?;
+    if shape.linux {
+        said.push_str(" linux")?;
+    }
     push_tables(said, &script.desc.tables)?;
-    push_restored(said, script.desc.restore)?;
+    push_restored(said, script.desc.translators.as_slice())?;
     push_legs(said, script.legs.as_slice())
 }
 
@@ -293,6 +308,12 @@ fn scripts_are_read(rt: HostRuntime) -> Result<(), Fail> {
             "phase\nthread\nstep\nmigrate\n# nothing\nmigrate\nphase\nthread\nsave\nend\n",
             "1 16 16 One leg 1 leg leg 1",
         ),
+        (
+            HEAD,
+            "linux\nphase\nthread\nbest 0 255\nclaim 0 0xffffffff\nend\n",
+            "1 16 16 One linux leg 2",
+        ),
+        (PROGRAMMED, "linux\nend\n", "2 16 16 One linux gicr 0 0 0 leg"),
         (PROGRAMMED, "end\n", "2 16 16 One gicr 0 0 0 leg"),
         (
             PROGRAMMED,

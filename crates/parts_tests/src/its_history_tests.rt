@@ -41,6 +41,22 @@ fn entries_as_they_are_printed(rt: HostRuntime) -> Result<(), Fail> {
             "7 2.1 show 2 -> none",
         ),
         (
+            Call::Best {
+                vcpu: Vcpu(2),
+                mask: 240,
+            },
+            lpi(),
+            "7 2.1 best 2 0xf0 -> lpi 8200 0xa0",
+        ),
+        (
+            Call::Claim {
+                vcpu: Vcpu(2),
+                intid: Intid(8200),
+            },
+            Reply::Ack(Ack::None),
+            "7 2.1 claim 2 8200 -> none",
+        ),
+        (
             Call::Poke {
                 addr: Addr(0x8003_0008),
                 bytes: Bytes64::new(&[0x4a]),
@@ -208,19 +224,34 @@ fn last_leg(alloc: Global) -> Result<Leg, AllocError> {
 #[test]
 fn causes_of_refused_saves(rt: HostRuntime) -> Result<(), Fail> {
     let alloc = rt.alloc();
-    let first = Region::Itt(DeviceId(16));
-    let second = Region::Itt(DeviceId(17));
+    let first = Region::Itt(0, DeviceId(16));
+    let second = Region::Itt(0, DeviceId(17));
     for (fault, want) in [
         (SaveFault::Overlap(first, second), "overlap itt 16 itt 17"),
-        (SaveFault::NoPlace(DeviceId(16384)), "no-place 16384"),
-        (SaveFault::Outside(Region::Page(2)), "outside page 2"),
+        (SaveFault::NoPlace(0, DeviceId(16384)), "no-place 16384"),
+        (SaveFault::Outside(Region::Page(0, 2)), "outside page 2"),
+        (
+            SaveFault::Overlap(first, Region::Itt(1, DeviceId(16))),
+            "overlap itt 16 b-itt 16",
+        ),
+        (SaveFault::NoPlace(1, DeviceId(3)), "no-place b 3"),
+        (SaveFault::Outside(Region::Page(1, 2)), "outside b-page 2"),
+        (SaveFault::Outside(Region::Level1(1)), "outside b-level1"),
+        (
+            SaveFault::Overlap(Region::Devices(1), Region::Collections(1)),
+            "overlap b-devices b-collections",
+        ),
         (
             SaveFault::Overlap(Region::Pending(Vcpu(3)), Region::Config),
             "overlap pending 3 config",
         ),
         (
-            SaveFault::Overlap(Region::ConfigOf(Vcpu(1)), Region::Queue),
+            SaveFault::Overlap(Region::ConfigOf(Vcpu(1)), Region::Queue(0)),
             "overlap config 1 queue",
+        ),
+        (
+            SaveFault::Overlap(Region::Config, Region::Queue(1)),
+            "overlap config b-queue",
         ),
     ] {
         assert_eq!(rt; save_fault_text(alloc, &fault)?.as_str(), want);
