@@ -16,7 +16,7 @@ use Rattle.its_plain.specs.Plain.{Plain, Translator, Redistributor, redistributo
 use Rattle.its_plain.specs.Sound.{IsSound, HasTables}
 use Rattle.its_plain.specs.declared.area.Area.{Area}
 use Rattle.its_plain.specs.declared.fault.Region.TheVariants.{Pending, Config, ConfigOf, Queue}
-use Rattle.its_plain.specs.Regions.{areas_of, tables_of, areas_from, pending_area, config_area, config_areas, queue_area, queue_areas}
+use Rattle.its_plain.specs.Regions.{areas_of, tables_of, areas_from, pending_area, config_area, config_areas, queue_area, queue_areas, each_areas}
 use Rattle.its_plain.specs.Saved.{Words, words_of, translator_words, pending_words, saved, IsSavable}
 use Rattle.saved_state.specs.Laws.{WordsReadBack, OtherBytesStay, ReadAreasStay}
 use Rattle.saved_state.proofs.Tests.{tested, AllInside, written_spans, span, Avoids, AllAvoid, all_avoid, read_avoid, others_avoid}
@@ -43,18 +43,19 @@ no_configs u =
       | false ↦ refl
     ]
 
-no_queue : (r : Registers) → written_spans (queue_area r) ≡ []
-no_queue r =
-    elim (is_valid r.cbaser) as (λ b. written_spans (cond b (record { region = Queue; base = queue_base r; size = queue_size r; is_written = false } ∷ []) [])
+no_queue : (i : ℕ) (r : Registers) → written_spans (queue_area i r) ≡ []
+no_queue i r =
+    elim (is_valid r.cbaser) as (λ b. written_spans (cond b (record { region = Queue i; base = queue_base r; size = queue_size r; is_written = false } ∷ []) [])
     ≡ []) [
       | true ↦ refl
       | false ↦ refl
     ]
 
-no_queues : (ts : List Translator) → written_spans (flat_map queue_areas ts) ≡ []
-no_queues [] = refl
-no_queues (t ∷ ts) = written_append (queue_areas t) (flat_map queue_areas ts) ∙ ap (λ ss. ss ++ written_spans (flat_map queue_areas ts)) (no_queue t.regs)
-    ∙ no_queues ts
+no_queues : (i : ℕ) (ts : List Translator) → written_spans (each_areas queue_areas i ts) ≡ []
+no_queues i [] = refl
+no_queues i (t ∷ ts) =
+    written_append (queue_areas i t) (each_areas queue_areas (suc i) ts) ∙ ap (λ ss. ss ++ written_spans (each_areas queue_areas (suc i) ts)) (no_queue i t.regs)
+    ∙ no_queues (suc i) ts
 
 -- ---- the areas that are written
 
@@ -65,17 +66,17 @@ all_alike u least inside =
     let tables = tables_of u in
     let pending = areas_from (pending_area s) 0 u.redistributors in
     let configs = config_areas u in
-    let queues = flat_map queue_areas u.translators in
+    let queues = each_areas queue_areas 0 u.translators in
     let ts = flat_map (translator_words u.memory) u.translators in
     let ps = flat_map (pending_words s) u.redistributors in
     written_append (tables ++ pending ++ configs) queues
-    ∙ ap (λ ss. written_spans (tables ++ pending ++ configs) ++ ss) (no_queues u.translators)
+    ∙ ap (λ ss. written_spans (tables ++ pending ++ configs) ++ ss) (no_queues 0 u.translators)
     ∙ append-nil (written_spans (tables ++ pending ++ configs))
     ∙ written_append (tables ++ pending) configs
     ∙ ap (λ ss. written_spans (tables ++ pending) ++ ss) (no_configs u)
     ∙ append-nil (written_spans (tables ++ pending))
     ∙ written_append tables pending
-    ∙ ap (λ ss. ss ++ written_spans pending) (translators_alike u.memory u.translators inside)
+    ∙ ap (λ ss. ss ++ written_spans pending) (translators_alike u.memory 0 u.translators inside)
     ∙ ap (λ ss. stretches ts ++ ss) (redistributors_alike s 0 u.redistributors least)
     ∙ sym (map-append stretch ts ps)
 
@@ -126,7 +127,7 @@ all_inside u sound inside =
     let ps = flat_map (pending_words s) u.redistributors in
     subst (AllByRecursion (IsIn u.memory)) (sym (map-append stretch ts ps))
     (all_both (IsIn u.memory) (stretches ts) (stretches ps)
-    (subst (AllByRecursion (IsIn u.memory)) (translators_alike u.memory u.translators inside) (spans_inside u.memory (tables_of u) inside))
+    (subst (AllByRecursion (IsIn u.memory)) (translators_alike u.memory 0 u.translators inside) (spans_inside u.memory (tables_of u) inside))
     (subst (AllByRecursion (IsIn u.memory)) (redistributors_alike s 0 u.redistributors least)
     (spans_inside u.memory pending (pending_inside u.memory s 0 u.redistributors least (λ k r at on. (sound.redistributors k r at).tables on)))))
 

@@ -16,7 +16,7 @@ use Rattle.its_plain.specs.Plain.{Translator, Redistributor}
 use Rattle.its_plain.specs.declared.area.Area.{Area}
 use Rattle.its_plain.specs.declared.fault.Region.TheVariants.{Devices, Collections, Pending}
 use Rattle.its_plain.specs.Regions.{device_pages, collection_pages, page_area, pages_below, level1_areas, device_areas, collection_areas, itt_area, itt_areas}
-use Rattle.its_plain.specs.Regions.{table_areas, pending_area, areas_from}
+use Rattle.its_plain.specs.Regions.{table_areas, each_areas, pending_area, areas_from}
 use Rattle.its_plain.specs.Saved.{Words, page_words, pages_words, device_words, collection_words, itt_words, translator_words, pending_words, device_word}
 use Rattle.its_plain.specs.Saved.{collection_word, event_word, pending_word}
 use Rattle.saved_state.proofs.Tests.{span, written_spans, AllInside}
@@ -56,86 +56,87 @@ all_both P (x ∷ xs) ys one two = (one.0, all_both P xs ys one.1 two)
 
 -- ---- a translator
 
-one_page : (m : Maps) (k : ℕ) (o : Option ℕ) → written_spans (page_area k o) ≡ stretches (page_words m k o)
-one_page m k None = refl
-one_page m k (Some base) = refl
+one_page : (i : ℕ) (m : Maps) (k : ℕ) (o : Option ℕ) → written_spans (page_area i k o) ≡ stretches (page_words m k o)
+one_page i m k None = refl
+one_page i m k (Some base) = refl
 
-pages_alike : (t : Translator) (memory : List Window) (n : ℕ) → written_spans (pages_below t.regs memory n) ≡ stretches (pages_words t memory n)
-pages_alike t memory zero = refl
-pages_alike t memory (suc n) =
-    both_alike (pages_below t.regs memory n) (page_area n (page_of (level1_of t.regs memory n))) (pages_words t memory n)
+pages_alike : (i : ℕ) (t : Translator) (memory : List Window) (n : ℕ) → written_spans (pages_below i t.regs memory n) ≡ stretches (pages_words t memory n)
+pages_alike i t memory zero = refl
+pages_alike i t memory (suc n) =
+    both_alike (pages_below i t.regs memory n) (page_area i n (page_of (level1_of t.regs memory n))) (pages_words t memory n)
     (page_words t.maps n (page_of (level1_of t.regs memory n)))
-    (pages_alike t memory n) (one_page t.maps n (page_of (level1_of t.regs memory n)))
+    (pages_alike i t memory n) (one_page i t.maps n (page_of (level1_of t.regs memory n)))
 
 flat_size : (pages : ℕ) → 65536 * pages ≡ 8 * (8192 * pages)
 flat_size pages = omega arith
 
-level1_alike : (t : Translator) (memory : List Window) → inside memory (table_base t.regs.baser0) (8 * level1_entries t.regs.dev_bits) ≡ true
-    → written_spans (level1_areas t.regs memory) ≡ stretches (pages_words t memory (level1_entries t.regs.dev_bits))
-level1_alike t memory h =
-    ap (λ (b : Bool). written_spans (cond b (pages_below t.regs memory (level1_entries t.regs.dev_bits)) [])) h ∙ pages_alike t memory
+level1_alike : (i : ℕ) (t : Translator) (memory : List Window) → inside memory (table_base t.regs.baser0) (8 * level1_entries t.regs.dev_bits) ≡ true
+    → written_spans (level1_areas i t.regs memory) ≡ stretches (pages_words t memory (level1_entries t.regs.dev_bits))
+level1_alike i t memory h =
+    ap (λ (b : Bool). written_spans (cond b (pages_below i t.regs memory (level1_entries t.regs.dev_bits)) [])) h ∙ pages_alike i t memory
     (level1_entries t.regs.dev_bits)
 
-abbrev flat_area : Registers → Area
-flat_area r = record { region = Devices; base = table_base r.baser0; size = 65536 * device_pages r; is_written = true }
+abbrev flat_area : ℕ → Registers → Area
+flat_area i r = record { region = Devices i; base = table_base r.baser0; size = 65536 * device_pages r; is_written = true }
 
 abbrev flat_words : Translator → Words
 flat_words s = record { base = table_base s.regs.baser0; count = 8192 * device_pages s.regs; word = device_word s.maps }
 
-devices_alike : (t : Translator) (memory : List Window) → AllInside memory (device_areas t.regs memory) → written_spans (device_areas t.regs memory) ≡ stretches
+devices_alike : (k : ℕ) (t : Translator) (memory : List Window) → AllInside memory (device_areas k t.regs memory) → written_spans (device_areas k t.regs memory)
+    ≡ stretches
     (device_words t memory)
 unfolding device_areas device_words
-devices_alike t memory =
+devices_alike k t memory =
     elim (is_valid t.regs.baser0) as (λ v.
-    AllInside memory (cond (not v) [] (cond (is_indirect t.regs.baser0) (level1_areas t.regs memory) (flat_area t.regs ∷ [])))
-    → written_spans (cond (not v) [] (cond (is_indirect t.regs.baser0) (level1_areas t.regs memory) (flat_area t.regs ∷ [])))
+    AllInside memory (cond (not v) [] (cond (is_indirect t.regs.baser0) (level1_areas k t.regs memory) (flat_area k t.regs ∷ [])))
+    → written_spans (cond (not v) [] (cond (is_indirect t.regs.baser0) (level1_areas k t.regs memory) (flat_area k t.regs ∷ [])))
     ≡ stretches (cond (not v) [] (cond (is_indirect t.regs.baser0) (pages_words t memory (level1_entries t.regs.dev_bits)) (flat_words t ∷ [])))) [
       | true ↦ elim (is_indirect t.regs.baser0) as (λ i.
-          AllInside memory (cond i (level1_areas t.regs memory) (flat_area t.regs ∷ []))
-          → written_spans (cond i (level1_areas t.regs memory) (flat_area t.regs ∷ [])) ≡ stretches
+          AllInside memory (cond i (level1_areas k t.regs memory) (flat_area k t.regs ∷ []))
+          → written_spans (cond i (level1_areas k t.regs memory) (flat_area k t.regs ∷ [])) ≡ stretches
           (cond i (pages_words t memory (level1_entries t.regs.dev_bits)) (flat_words t ∷ []))) [
-            | true ↦ λ all. level1_alike t memory all.0
+            | true ↦ λ all. level1_alike k t memory all.0
             | false ↦ λ all. ap (λ (n : ℕ). (table_base t.regs.baser0, n) ∷ []) (flat_size (device_pages t.regs))
           ]
       | false ↦ λ all. refl
     ]
 
-collections_alike : (t : Translator) → written_spans (collection_areas t.regs) ≡ stretches (collection_words t)
-collections_alike t =
+collections_alike : (i : ℕ) (t : Translator) → written_spans (collection_areas i t.regs) ≡ stretches (collection_words t)
+collections_alike i t =
     elim (is_valid t.regs.baser1) as (λ v.
-    written_spans (cond v (record { region = Collections; base = table_base t.regs.baser1; size = 65536 * collection_pages t.regs; is_written = true } ∷ []) [])
+    written_spans (cond v (record { region = Collections i; base = table_base t.regs.baser1; size = 65536 * collection_pages t.regs; is_written = true } ∷ []) [])
     ≡ stretches (cond v (record { base = table_base t.regs.baser1; count = 8192 * collection_pages t.regs; word = collection_word t.maps } ∷ []) [])) [
       | true ↦ ap (λ (n : ℕ). (table_base t.regs.baser1, n) ∷ []) (flat_size (collection_pages t.regs))
       | false ↦ refl
     ]
 
-itts_alike : (m : Maps) (ds : List (ℕ × Device))
-    → written_spans (flat_map (λ d. itt_area d ∷ []) ds) ≡ stretches
+itts_alike : (i : ℕ) (m : Maps) (ds : List (ℕ × Device))
+    → written_spans (flat_map (λ d. itt_area i d ∷ []) ds) ≡ stretches
     (flat_map (λ d. record { base = d.1.itt.0; count = 2 ^ d.1.bits; word = event_word m d.0 } ∷ []) ds)
-itts_alike m [] = refl
-itts_alike m (d ∷ ds) = ap (λ ss. (d.1.itt.0, 8 * 2 ^ d.1.bits) ∷ ss) (itts_alike m ds)
+itts_alike i m [] = refl
+itts_alike i m (d ∷ ds) = ap (λ ss. (d.1.itt.0, 8 * 2 ^ d.1.bits) ∷ ss) (itts_alike i m ds)
 
-translator_alike : (memory : List Window) (t : Translator) → AllInside memory (table_areas memory t) → written_spans (table_areas memory t) ≡ stretches
+translator_alike : (memory : List Window) (k : ℕ) (t : Translator) → AllInside memory (table_areas memory k t) → written_spans (table_areas memory k t) ≡ stretches
     (translator_words memory t)
 unfolding table_areas translator_words
-translator_alike memory t all =
-    let d = device_areas t.regs memory in
-    let c = collection_areas t.regs in
-    let i = itt_areas t.maps in
+translator_alike memory k t all =
+    let d = device_areas k t.regs memory in
+    let c = collection_areas k t.regs in
+    let i = itt_areas k t.maps in
     let front = all_left (λ a. inside memory a.base a.size ≡ true) (d ++ c) i all in
     both_alike (d ++ c) i (device_words t memory ++ collection_words t) (itt_words t.maps)
-    (both_alike d c (device_words t memory) (collection_words t) (devices_alike t memory (all_left (λ a. inside memory a.base a.size ≡ true) d c front))
-    (collections_alike t))
-    (itts_alike t.maps (entries t.maps.devices))
+    (both_alike d c (device_words t memory) (collection_words t) (devices_alike k t memory (all_left (λ a. inside memory a.base a.size ≡ true) d c front))
+    (collections_alike k t))
+    (itts_alike k t.maps (entries t.maps.devices))
 
-pub translators_alike : (memory : List Window) (ts : List Translator) → AllInside memory (flat_map (table_areas memory) ts)
-    → written_spans (flat_map (table_areas memory) ts) ≡ stretches (flat_map (translator_words memory) ts)
-translators_alike memory [] all = refl
-translators_alike memory (t ∷ ts) all =
+pub translators_alike : (memory : List Window) (k : ℕ) (ts : List Translator) → AllInside memory (each_areas (table_areas memory) k ts)
+    → written_spans (each_areas (table_areas memory) k ts) ≡ stretches (flat_map (translator_words memory) ts)
+translators_alike memory k [] all = refl
+translators_alike memory k (t ∷ ts) all =
     let P : Area → Type 0 = λ a. inside memory a.base a.size ≡ true in
-    both_alike (table_areas memory t) (flat_map (table_areas memory) ts) (translator_words memory t) (flat_map (translator_words memory) ts)
-    (translator_alike memory t (all_left P (table_areas memory t) (flat_map (table_areas memory) ts) all))
-    (translators_alike memory ts (all_right P (table_areas memory t) (flat_map (table_areas memory) ts) all))
+    both_alike (table_areas memory k t) (each_areas (table_areas memory) (suc k) ts) (translator_words memory t) (flat_map (translator_words memory) ts)
+    (translator_alike memory k t (all_left P (table_areas memory k t) (each_areas (table_areas memory) (suc k) ts) all))
+    (translators_alike memory (suc k) ts (all_right P (table_areas memory k t) (each_areas (table_areas memory) (suc k) ts) all))
 
 -- ---- redistributors
 

@@ -1,7 +1,7 @@
 -- A collection table that was saved holds just the collections that are mapped.
 use Rattle.std.proofs.Common.{◌≡◌, ℕ, zero, suc, ◌+◌, ◌*◌, ◌^◌, ◌<◌, ◌≤◌, Bool, true, false, not, cond, nat_lt, List, Option, Some, None, Ok, refl, sym, subst}
 use Rattle.std.proofs.Common.{ap, ◌∙◌, arith, ◌↔◌, add-one}
-use Rattle.std.specs.Prelude.{◌||◌, slice_get}
+use Rattle.std.specs.Prelude.{◌||◌, ◌&&◌, slice_get}
 use Rattle.std.specs.Option.{option_and_then, option_map, ok_or}
 use Rattle.std.specs.FinMap.{entries, entries_sorted, get-entries}
 use Rattle.std.proofs.lemmas.Bool.{eq-eqb, ne_eqb, lt-ltb, ltb-true}
@@ -13,8 +13,9 @@ use Rattle.table_entries.specs.Fields.{CollectionFields}
 use Rattle.table_entries.specs.Words.{packed_collection, unpacked_collection}
 use Rattle.its_types.specs.Maps.{Maps, collection_of}
 use Rattle.its_types.specs.declared.ids.Vcpu.{Vcpu}
+use Rattle.its_types.specs.declared.machine.Shape.{Shape}
 use Rattle.its_plain.specs.Walks.{within, ensure, ◌>>=◌}
-use Rattle.its_plain.specs.CollectionTables.{collection_address, collection_entry, collection_leads, next_collection, is_of, stands_before}
+use Rattle.its_plain.specs.CollectionTables.{collection_address, collection_entry, collection_leads, next_collection, counted, is_of, stands_before}
 use Rattle.its_plain.specs.CollectionTables.{collection_entry_check, collection_check, CollectionReached, AreCollectionsClear, HasCollection}
 use Rattle.its_plain.specs.declared.fault.RestoreFault.{RestoreFault}
 use Rattle.its_plain.specs.declared.fault.RestoreFault.TheVariants.{OutsideTable}
@@ -56,15 +57,23 @@ within_is n i q e =
       | false ↦ λ ge s. absurd cc
     ] refl e
 
+-- an entry whose processor is below 16 counts
+all_count : (s : Shape) (o : Option (ℕ × Vcpu)) → ((c : ℕ × Vcpu) → o ≡ Some c → c.1.0 < 16) → counted s (seen o) ≡ seen o
+all_count s None low = refl
+all_count s (Some c) low =
+    let small = low c refl in
+    ap (λ (b : Bool). cond (s.linux && b) None (Some (fields_of c))) (ne_eqb c.1.0 0xFFFFFFFF (λ e. omega arith))
+    ∙ (elim s.linux as (λ b. cond (b && false) None (Some (fields_of c)) ≡ Some (fields_of c)) [ true ↦ refl | false ↦ refl ])
+
 -- what is asked of a collection that is mapped
 pub record Stands (vcpus places : ℕ) (c : ℕ × Vcpu) : Type 0 where
   pub icid : c.0 < 65536
   pub in_table : c.0 < places
   pub target : c.1.0 < vcpus
 
-module _ (memory : List Window) (vcpus : ℕ) (r : Registers) (m : Maps) (valid : is_valid r.baser1 ≡ true) (few : vcpus ≤ 16)
+module _ (s : Shape) (memory : List Window) (r : Registers) (m : Maps) (valid : is_valid r.baser1 ≡ true) (few : s.vcpus ≤ 16)
     (found : (i : ℕ) → i < collection_places r → number_at memory (collection_address r i) ≡ Some (collection_word m i))
-    (stand : (i : ℕ) (c : ℕ × Vcpu) → slice_get (entries m.collections) i ≡ Some c → Stands vcpus (collection_places r) c) where
+    (stand : (i : ℕ) (c : ℕ × Vcpu) → slice_get (entries m.collections) i ≡ Some c → Stands s.vcpus (collection_places r) c) where
   abbrev es : List (ℕ × Vcpu)
   es = entries m.collections
 
@@ -73,10 +82,17 @@ module _ (memory : List Window) (vcpus : ℕ) (r : Registers) (m : Maps) (valid 
 
   word_is : (i : ℕ) → unpacked_collection (collection_word m i) ≡ seen (slice_get es i)
   unfolding collection_word
-  word_is i = entry_is (slice_get es i) (λ c at. let s = stand i c at in let icid = s.icid in let target = s.target in (omega arith, omega arith))
+  word_is i = entry_is (slice_get es i) (λ c at. let w = stand i c at in let icid = w.icid in let target = w.target in (omega arith, omega arith))
 
-  entry_at : (i : ℕ) → i < collection_places r → collection_entry memory r i ≡ seen (slice_get es i)
-  entry_at i lt = ap (option_and_then unpacked_collection) (found i lt) ∙ word_is i
+  -- a mapped collection is one that counts: its processor is no 0xFFFFFFFF
+  counts : (i : ℕ) → counted s (seen (slice_get es i)) ≡ seen (slice_get es i)
+  counts i = all_count s (slice_get es i) (λ c at. let w = stand i c at in let target = w.target in omega arith)
+
+  counted_word : (i : ℕ) → counted s (unpacked_collection (collection_word m i)) ≡ seen (slice_get es i)
+  counted_word i = ap (counted s) (word_is i) ∙ counts i
+
+  entry_at : (i : ℕ) → i < collection_places r → collection_entry s memory r i ≡ seen (slice_get es i)
+  entry_at i lt = ap (option_and_then (λ word. counted s (unpacked_collection word))) (found i lt) ∙ counted_word i
 
   next_at : (i : ℕ) → i < collection_places r → next_collection memory r i ≡ collection_leads r i (seen (slice_get es i))
   next_at i lt = ap (option_and_then (λ word. collection_leads r i (unpacked_collection word))) (found i lt) ∙ ap (collection_leads r i) (word_is i)
@@ -105,11 +121,11 @@ module _ (memory : List Window) (vcpus : ℕ) (r : Registers) (m : Maps) (valid 
   -- ---- each collection has one entry
 
   none_before : (n icid : ℕ) → n ≤ collection_places r → ((j : ℕ) (d : ℕ × Vcpu) → j < n → slice_get es j ≡ Some d → d.0 ≡ icid → ⊥)
-      → stands_before memory r n icid ≡ false
+      → stands_before s memory r n icid ≡ false
   none_before zero icid le apart = refl
   none_before (suc n) icid le apart =
-      ap (λ (o : Option CollectionFields). is_of icid o || stands_before memory r n icid) (entry_at n (omega arith))
-      ∙ ap (λ (b : Bool). b || stands_before memory r n icid) (other (slice_get es n) (λ d at. apart n d (omega arith) at))
+      ap (λ (o : Option CollectionFields). is_of icid o || stands_before s memory r n icid) (entry_at n (omega arith))
+      ∙ ap (λ (b : Bool). b || stands_before s memory r n icid) (other (slice_get es n) (λ d at. apart n d (omega arith) at))
       ∙ none_before n icid (omega arith) (λ j d lt at. apart j d (omega arith) at)
     where
       other : (o : Option (ℕ × Vcpu)) → ((d : ℕ × Vcpu) → o ≡ Some d → d.0 ≡ icid → ⊥) → is_of icid (seen o) ≡ false
@@ -121,22 +137,22 @@ module _ (memory : List Window) (vcpus : ℕ) (r : Registers) (m : Maps) (valid 
       ap (λ (x : Bool). ensure x f >>= λ _. ensure b g >>= λ _. ensure (not d) h) pa ∙ ap (λ (x : Bool). ensure x g >>= λ _. ensure (not d) h) pb
       ∙ ap (λ (x : Bool). ensure (not x) h) pd
 
-  check_at : (i : ℕ) (o : Option (ℕ × Vcpu)) → i < collection_places r → slice_get es i ≡ o → collection_entry_check memory vcpus r i (seen o) ≡ Ok tt
+  check_at : (i : ℕ) (o : Option (ℕ × Vcpu)) → i < collection_places r → slice_get es i ≡ o → collection_entry_check s memory r i (seen o) ≡ Ok tt
   check_at i None lt at = refl
   check_at i (Some c) lt at =
-      let s = stand i c at in
-      all_tests (nat_lt c.0 (collection_places r)) (nat_lt c.1.0 vcpus) (stands_before memory r i c.0) _ _ _
-      (lt-ltb c.0 (collection_places r) s.in_table) (lt-ltb c.1.0 vcpus s.target)
+      let w = stand i c at in
+      all_tests (nat_lt c.0 (collection_places r)) (nat_lt c.1.0 s.vcpus) (stands_before s memory r i c.0) _ _ _
+      (lt-ltb c.0 (collection_places r) w.in_table) (lt-ltb c.1.0 s.vcpus w.target)
       (none_before i c.0 (omega arith) (λ j d below there same. let up = rising es (entries_sorted m.collections) j i d c below there at in omega arith))
 
-  clear_at : (i : ℕ) → i < collection_places r → collection_check memory vcpus r i ≡ Ok tt
+  clear_at : (i : ℕ) → i < collection_places r → collection_check s memory r i ≡ Ok tt
   clear_at i lt =
-      ap (λ (o : Option ℕ). ok_or o (OutsideTable (record { 0 = collection_address r i })) >>= λ word. collection_entry_check memory vcpus r i
-      (unpacked_collection word)) (found i lt)
-      ∙ ap (collection_entry_check memory vcpus r i) (word_is i)
+      ap (λ (o : Option ℕ). ok_or o (OutsideTable (record { 0 = collection_address r i })) >>= λ word. collection_entry_check s memory r i
+      (counted s (unpacked_collection word))) (found i lt)
+      ∙ ap (collection_entry_check s memory r i) (counted_word i)
       ∙ check_at i (slice_get es i) lt refl
 
-  pub collections_clear : AreCollectionsClear memory vcpus r
+  pub collections_clear : AreCollectionsClear s memory r
   collections_clear is i h = clear_at i (reached_low i h)
 
   -- ---- content
@@ -147,7 +163,7 @@ module _ (memory : List Window) (vcpus : ℕ) (r : Registers) (m : Maps) (valid 
       let same : fields_of c ≡ record { vcpu_number = v.0; icid = icid } = same_Some (fields_of c) (record { vcpu_number = v.0; icid = icid }) e in
       ap (λ (f : CollectionFields). Some (f.icid, record { 0 = f.vcpu_number })) same
 
-  pub collections_are : (icid : ℕ) (v : Vcpu) → (collection_of m icid ≡ Some v) ↔ HasCollection memory r icid v
+  pub collections_are : (icid : ℕ) (v : Vcpu) → (collection_of m icid ≡ Some v) ↔ HasCollection s memory r icid v
   collections_are icid v = (
     λ e.
         let at = found_listed es icid v (sym (get-entries m.collections icid) ∙ e) in

@@ -7,6 +7,7 @@ use Rattle.std.specs.List.{AllByRecursion, flat_map}
 use Rattle.std.specs.FinMap.{entries, entries_sorted, get-entries}
 use Rattle.std.proofs.lemmas.Bool.{ltb-true, cases_Bool, cases_eq}
 use Rattle.std.proofs.lemmas.Nat.{pow-add, pow_pos}
+use Rattle.std.proofs.lemmas.Option.{same_Some}
 use Rattle.byteorder.specs.Endian.{little_number}
 use Rattle.guest_windows.specs.Windows.{Window, inside, read_at, number_at}
 use Rattle.guest_windows.proofs.Laws.{is_some-read_at}
@@ -19,7 +20,7 @@ use Rattle.its_plain.specs.Sound.{IsSound, IsTranslator}
 use Rattle.its_plain.specs.declared.area.Area.{Area}
 use Rattle.its_plain.specs.declared.fault.Region.TheVariants.{Devices, Level1}
 use Rattle.its_plain.specs.Regions.{device_pages, pages_below, device_areas, collection_areas, itt_areas, table_areas, tables_of, areas_of, areas_from}
-use Rattle.its_plain.specs.Regions.{pending_area, config_areas, queue_areas, has_no_place}
+use Rattle.its_plain.specs.Regions.{pending_area, config_areas, queue_areas, each_areas, has_no_place}
 use Rattle.its_plain.specs.Saved.{Words, saved, device_word, device_after, page_words, pages_words, device_words, collection_words, itt_words}
 use Rattle.its_plain.specs.Saved.{translator_words, IsSavable}
 use Rattle.its_plain.specs.DeviceTables.{flat_size, page_places, HasDevice, AreDevicesClear}
@@ -48,25 +49,33 @@ all_stay u sound savable = all_by_place (StaysRead u) (areas_of u) (λ k a at un
     low high)
 
 -- what holds of all of a translator's tables holds of its device table
-of_devices : (P : Area → Type 0) (memory : List Window) (ts : List Translator) (k : ℕ) (t : Translator) → AllByRecursion P (flat_map (table_areas memory) ts)
-    → slice_get ts k ≡ Some t → AllByRecursion P (device_areas t.regs memory)
+of_devices : (P : Area → Type 0) (memory : List Window) (i : ℕ) (ts : List Translator) (k : ℕ) (t : Translator)
+    → AllByRecursion P (each_areas (table_areas memory) i ts) → slice_get ts k ≡ Some t → AllByRecursion P (device_areas (k + i) t.regs memory)
 unfolding table_areas
-of_devices P memory ts k t all at =
-    let own = of_flat P (table_areas memory) ts all k t at in
-    all_left P (device_areas t.regs memory) (collection_areas t.regs) (all_left P (device_areas t.regs memory ++ collection_areas t.regs)
-    (itt_areas t.maps) own)
+of_devices P memory i [] k t all at = absurd cc
+of_devices P memory i (s ∷ ts) zero t all at =
+    let own = all_left P (table_areas memory i s) (each_areas (table_areas memory) (suc i) ts) all in
+    let same : i ≡ 0 + i = omega arith in
+    subst (λ (n : ℕ). AllByRecursion P (device_areas n t.regs memory)) same
+    (subst (λ (x : Translator). AllByRecursion P (device_areas i x.regs memory)) (same_Some s t at)
+    (all_left P (device_areas i s.regs memory) (collection_areas i s.regs) (all_left P (device_areas i s.regs memory ++ collection_areas i s.regs)
+    (itt_areas i s.maps) own)))
+of_devices P memory i (s ∷ ts) (suc k) t all at =
+    let rest = all_right P (table_areas memory i s) (each_areas (table_areas memory) (suc i) ts) all in
+    let same : k + suc i ≡ suc k + i = omega arith in
+    subst (λ (n : ℕ). AllByRecursion P (device_areas n t.regs memory)) same (of_devices P memory (suc i) ts k t rest at)
 
-abbrev level1_area : Registers → Area
-level1_area r = record { region = Level1; base = table_base r.baser0; size = 8 * level1_entries r.dev_bits; is_written = false }
+abbrev level1_area : ℕ → Registers → Area
+level1_area i r = record { region = Level1 i; base = table_base r.baser0; size = 8 * level1_entries r.dev_bits; is_written = false }
 
-of_level1 : (P : Area → Type 0) (memory : List Window) (r : Registers) → is_valid r.baser0 ≡ true → is_indirect r.baser0 ≡ true
-    → AllByRecursion P (device_areas r memory) → P (level1_area r)
+of_level1 : (P : Area → Type 0) (memory : List Window) (i : ℕ) (r : Registers) → is_valid r.baser0 ≡ true → is_indirect r.baser0 ≡ true
+    → AllByRecursion P (device_areas i r memory) → P (level1_area i r)
 unfolding device_areas
-of_level1 P memory r valid two all =
-    let rest : List Area = cond (inside memory (table_base r.baser0) (8 * level1_entries r.dev_bits)) (pages_below r memory (level1_entries r.dev_bits)) [] in
-    let flat : List Area = record { region = Devices; base = table_base r.baser0; size = 65536 * device_pages r; is_written = true } ∷ [] in
-    let one = subst (λ (v : Bool). AllByRecursion P (cond (not v) [] (cond (is_indirect r.baser0) (level1_area r ∷ rest) flat))) valid all in
-    let here = subst (λ (i : Bool). AllByRecursion P (cond i (level1_area r ∷ rest) flat)) two one in
+of_level1 P memory i r valid two all =
+    let rest : List Area = cond (inside memory (table_base r.baser0) (8 * level1_entries r.dev_bits)) (pages_below i r memory (level1_entries r.dev_bits)) [] in
+    let flat : List Area = record { region = Devices i; base = table_base r.baser0; size = 65536 * device_pages r; is_written = true } ∷ [] in
+    let one = subst (λ (v : Bool). AllByRecursion P (cond (not v) [] (cond (is_indirect r.baser0) (level1_area i r ∷ rest) flat))) valid all in
+    let here = subst (λ (b : Bool). AllByRecursion P (cond b (level1_area i r ∷ rest) flat)) two one in
     here.0
 
 some_number : (o : Option (List ℕ)) → is_some o ≡ true → IsSome (option_map (λ bytes. little_number 8 bytes) o)
@@ -144,22 +153,22 @@ module _ (u : Plain) (k : ℕ) (t : Translator) (sound : IsSound u) (savable : I
       all_left (IsFound (saved u)) (device_words t u.memory) (collection_words t) (all_left (IsFound (saved u)) (device_words t u.memory ++ collection_words t)
       (itt_words t.maps) all)
 
-  stays : is_valid t.regs.baser0 ≡ true → is_indirect t.regs.baser0 ≡ true → StaysRead u (level1_area t.regs)
+  stays : is_valid t.regs.baser0 ≡ true → is_indirect t.regs.baser0 ≡ true → StaysRead u (level1_area (k + 0) t.regs)
   unfolding areas_of
   stays valid two =
       let tables = tables_of u in
       let pending = areas_from (pending_area u.layout.shape) 0 u.redistributors in
       let configs = config_areas u in
-      let queues = flat_map queue_areas u.translators in
+      let queues = each_areas queue_areas 0 u.translators in
       let all = all_left (StaysRead u) tables pending
       (all_left (StaysRead u) (tables ++ pending) configs (all_left (StaysRead u) (tables ++ pending ++ configs) queues (all_stay u sound savable))) in
-      of_level1 (StaysRead u) u.memory t.regs valid two (of_devices (StaysRead u) u.memory u.translators k t all at)
+      of_level1 (StaysRead u) u.memory (k + 0) t.regs valid two (of_devices (StaysRead u) u.memory 0 u.translators k t all at)
 
   level1_inside : is_valid t.regs.baser0 ≡ true → is_indirect t.regs.baser0 ≡ true → inside u.memory (table_base t.regs.baser0)
       (8 * level1_entries t.regs.dev_bits) ≡ true
   level1_inside valid two =
-      of_level1 (λ a. inside u.memory a.base a.size ≡ true) u.memory t.regs valid two
-      (of_devices (λ a. inside u.memory a.base a.size ≡ true) u.memory u.translators k t (tested u savable).inside at)
+      of_level1 (λ a. inside u.memory a.base a.size ≡ true) u.memory (k + 0) t.regs valid two
+      (of_devices (λ a. inside u.memory a.base a.size ≡ true) u.memory 0 u.translators k t (tested u savable).inside at)
 
   level1_kept : is_valid t.regs.baser0 ≡ true → is_indirect t.regs.baser0 ≡ true → (i : ℕ) → i < level1_entries t.regs.dev_bits
       → (number_at (saved u) (level1_address t.regs i) ≡ number_at u.memory (level1_address t.regs i)) × IsSome (number_at u.memory (level1_address t.regs i))

@@ -56,15 +56,15 @@ module _ (u : Plain) (k : ℕ) (t : Translator) (sound : IsSound u) (savable : I
       let low = h.in_table in
       record { icid = omega arith; in_table = h.in_table; target = h.target }
 
-  clear : AreCollectionsClear (saved u) u.layout.shape.vcpus t.regs
+  clear : AreCollectionsClear u.layout.shape (saved u) t.regs
   clear valid =
-      collections_clear (saved u) u.layout.shape.vcpus t.regs t.maps valid sound.layout.shape.most_vcpus (collections_found (saved u) t valid in_memory) stand
+      collections_clear u.layout.shape (saved u) t.regs t.maps valid sound.layout.shape.most_vcpus (collections_found (saved u) t valid in_memory) stand
       valid
 
-  are : (icid : ℕ) (v : Vcpu) → (collection_of t.maps icid ≡ Some v) ↔ HasCollection (saved u) t.regs icid v
+  are : (icid : ℕ) (v : Vcpu) → (collection_of t.maps icid ≡ Some v) ↔ HasCollection u.layout.shape (saved u) t.regs icid v
   are icid v =
-      let both : is_valid t.regs.baser1 ≡ true → (collection_of t.maps icid ≡ Some v) ↔ HasCollection (saved u) t.regs icid v =
-      λ valid. collections_are (saved u) u.layout.shape.vcpus t.regs t.maps valid sound.layout.shape.most_vcpus (collections_found (saved u) t valid in_memory)
+      let both : is_valid t.regs.baser1 ≡ true → (collection_of t.maps icid ≡ Some v) ↔ HasCollection u.layout.shape (saved u) t.regs icid v =
+      λ valid. collections_are u.layout.shape (saved u) t.regs t.maps valid sound.layout.shape.most_vcpus (collections_found (saved u) t valid in_memory)
       stand icid v in
       (λ e. (both (fits.collections icid v e).table).0 e, λ h. (both h.0).1 h)
 

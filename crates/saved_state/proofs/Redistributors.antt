@@ -7,7 +7,7 @@ use Rattle.std.proofs.lemmas.Bool.{and_parts, ltb-true, leb-true, cases_Bool, co
 use Rattle.std.proofs.lemmas.Nat.{pow-add}
 use Rattle.byteorder.specs.Endian.{little_bytes}
 use Rattle.guest_windows.proofs.Bytes.{byte_read}
-use Rattle.guest_windows.specs.Windows.{Window, inside, read_at, byte_at, extent, in_range, share_no_byte, total}
+use Rattle.guest_windows.specs.Windows.{Window, inside, read_at, byte_at, extent, in_range, share_no_byte}
 use Rattle.guest_windows.proofs.Laws.{is_some-read_at}
 use Rattle.baser_place.specs.Places.{entry_address}
 use Rattle.its_types.specs.Bits.{bit_of}
@@ -81,8 +81,7 @@ unfolding moved
 saved_apart u sound =
     let windows = (migrations_keep u sound).memory in
     let es = map extent (saved u) in
-    (and_parts (nat_lt 0 (length es) && nat_le (length es) 16 && list_all in_range es) (share_no_byte es)
-    (and_parts (nat_lt 0 (length es) && nat_le (length es) 16 && list_all in_range es && share_no_byte es) (nat_le (total es) 67108864) windows).0).1
+    (and_parts (nat_lt 0 (length es) && nat_le (length es) 16 && list_all in_range es) (share_no_byte es) windows).1
 
 pub saved_inside : (u : Plain) (b n : ℕ) → inside (saved u) b n ≡ inside u.memory b n
 saved_inside u b n = tables_inside u.memory (words_of u) b n

@@ -32,9 +32,9 @@ abbrev outside_fault : Option Area → Result (Unit {0}) SaveFault
 outside_fault None = Ok tt
 outside_fault (Some a) = Err (Outside a.region)
 
-abbrev placed_or : Option (ℕ × Device) → Result (Unit {0}) SaveFault → Result (Unit {0}) SaveFault
-placed_or None rest = rest
-placed_or (Some d) rest = Err (NoPlace (record { 0 = d.0 }))
+abbrev placed_or : ℕ → Option (ℕ × Device) → Result (Unit {0}) SaveFault → Result (Unit {0}) SaveFault
+placed_or i None rest = rest
+placed_or i (Some d) rest = Err (NoPlace i (record { 0 = d.0 }))
 
 abbrev overlap_or : Area → Option Area → Result (Unit {0}) SaveFault → Result (Unit {0}) SaveFault
 overlap_or a None rest = rest
@@ -48,9 +48,9 @@ then_both : (r rest : Result (Unit {0}) SaveFault) → (r >>= λ _. rest) ≡ Ok
 then_both (Ok done) rest e = (refl, e)
 then_both (Err f) rest e = absurd cc
 
-placed_none : (o : Option (ℕ × Device)) (rest : Result (Unit {0}) SaveFault) → placed_or o rest ≡ Ok tt → (o ≡ None) × (rest ≡ Ok tt)
-placed_none None rest e = (refl, e)
-placed_none (Some d) rest e = absurd cc
+placed_none : (i : ℕ) (o : Option (ℕ × Device)) (rest : Result (Unit {0}) SaveFault) → placed_or i o rest ≡ Ok tt → (o ≡ None) × (rest ≡ Ok tt)
+placed_none i None rest e = (refl, e)
+placed_none i (Some d) rest e = absurd cc
 
 overlap_none : (a : Area) (o : Option Area) (rest : Result (Unit {0}) SaveFault) → overlap_or a o rest ≡ Ok tt → (o ≡ None) × (rest ≡ Ok tt)
 overlap_none a None rest e = (refl, e)
@@ -82,11 +82,11 @@ all_inside : (memory : List Window) (areas : List Area) → AllByRecursion (λ a
 all_inside memory [] all = tt
 all_inside memory (a ∷ areas) all = (not_false (inside memory a.base a.size) all.0, all_inside memory areas all.1)
 
-all_have_places : (memory : List Window) (ts : List Translator) → all_placed memory ts ≡ Ok tt → AllByRecursion (AllPlaced memory) ts
-all_have_places memory [] e = tt
-all_have_places memory (t ∷ ts) e =
-    let both = placed_none (first_unplaced memory t) (all_placed memory ts) e in
-    (none_found (has_no_place t.regs memory) (entries t.maps.devices) both.0, all_have_places memory ts both.1)
+all_have_places : (memory : List Window) (i : ℕ) (ts : List Translator) → all_placed memory i ts ≡ Ok tt → AllByRecursion (AllPlaced memory) ts
+all_have_places memory i [] e = tt
+all_have_places memory i (t ∷ ts) e =
+    let both = placed_none i (first_unplaced memory t) (all_placed memory (suc i) ts) e in
+    (none_found (has_no_place t.regs memory) (entries t.maps.devices) both.0, all_have_places memory (suc i) ts both.1)
 
 none_clash : (areas : List Area) → none_overlap areas ≡ Ok tt → NoneClash areas
 none_clash [] e = tt
@@ -96,11 +96,11 @@ none_clash (a ∷ areas) e = let both = overlap_none a (find (clash a) areas)
 pub tested : (u : Plain) → IsSavable u → Tested u
 unfolding savable
 tested u e =
-    let one = outside_none (find (is_outside u.memory) (tables_of u)) (all_placed u.memory u.translators >>= λ _. none_overlap (areas_of u)) e in
-    let two = then_both (all_placed u.memory u.translators) (none_overlap (areas_of u)) one.1 in
+    let one = outside_none (find (is_outside u.memory) (tables_of u)) (all_placed u.memory 0 u.translators >>= λ _. none_overlap (areas_of u)) e in
+    let two = then_both (all_placed u.memory 0 u.translators) (none_overlap (areas_of u)) one.1 in
     record {
       inside = all_inside u.memory (tables_of u) (none_found (is_outside u.memory) (tables_of u) one.0);
-      placed = all_have_places u.memory u.translators two.0;
+      placed = all_have_places u.memory 0 u.translators two.0;
       apart = none_clash (areas_of u) two.1;
     }
 

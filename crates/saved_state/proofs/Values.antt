@@ -1,11 +1,12 @@
 -- The values that sound registers read mask to the registers.
-use Rattle.std.proofs.Common.{◌≡◌, ℕ, ◌*◌, ◌/◌, ◌^◌, ◌<◌, true, false, cond, List, refl, sym, ap, ◌∙◌, arith}
+use Rattle.std.proofs.Common.{◌≡◌, ℕ, ◌*◌, ◌/◌, ◌^◌, ◌<◌, true, false, cond, suc, List, [], ◌∷◌, map, Some, refl, sym, ap, ◌∙◌, arith}
 use Rattle.std.specs.Prelude.{slice_get}
 use Rattle.std.proofs.lemmas.Nat.Bits.{and_high_mask}
 use Rattle.its_types.specs.Bits.{bit_of}
 use Rattle.gits_regs.specs.Registers.{Registers, IsOffset, ctlr, kept_offset, masked, read_32, read_64}
+use Rattle.gits_regs.specs.Registers as regs
 use Rattle.its_plain.specs.Plain.{Translator}
-use Rattle.saved_state.specs.Laws.{values_read, ReadValuesMask, SavedReadsStand}
+use Rattle.saved_state.specs.Laws.{values_read, reads_of, ReadValuesMask, SavedReadsStand}
 use Rattle.saved_state.proofs.Whole.{saved_stands}
 
 enabled_is : (r : Registers) → bit_of (ctlr r) 0 ≡ r.enabled
@@ -31,7 +32,17 @@ read_values_mask r h i = record {
   baser1 = h.baser1 i;
 }
 
+-- of each translator
+each_masks : (n : ℕ) (ts : List Translator) → ((i : ℕ) (t : Translator) → slice_get ts i ≡ Some t → (t.regs.dev_bits ≡ n) × regs.IsSound t.regs)
+    → map (λ v. masked v n) (map (λ t. values_read t.regs) ts) ≡ map (λ t. t.regs) ts
+each_masks n [] h = refl
+each_masks n (t ∷ ts) h =
+    let own = h 0 t refl in
+    let here : masked (values_read t.regs) n ≡ t.regs = ap (masked (values_read t.regs)) (sym own.0) ∙ read_values_mask t.regs own.1 in
+    ap (λ (r : Registers). r ∷ map (λ v. masked v n) (map (λ t. values_read t.regs) ts)) here
+    ∙ ap (λ (rs : List Registers). t.regs ∷ rs) (each_masks n ts (λ i s at. h (suc i) s at))
+
 pub reads_stand : SavedReadsStand
-reads_stand u t sound savable one =
-    let own = sound.translators 0 t (ap (λ (ts : List Translator). slice_get ts 0) one) in
-    saved_stands u t (values_read t.regs) sound savable one (ap (masked (values_read t.regs)) (sym own.dev_bits) ∙ read_values_mask t.regs own.regs)
+reads_stand u sound savable =
+    saved_stands u (reads_of u) sound savable
+    (each_masks u.layout.shape.dev_bits u.translators (λ i t at. let own = sound.translators i t at in (own.dev_bits, own.regs)))

@@ -1,5 +1,5 @@
 -- Saved memory and the values of the registers stand for the state that a migration goes on from.
-use Rattle.std.proofs.Common.{◌≡◌, ℕ, zero, suc, Bool, true, false, not, nat_lt, List, [], ◌∷◌, map, Some, Result, Ok, refl, sym, subst, ap, ◌∙◌, ◌↔◌}
+use Rattle.std.proofs.Common.{◌≡◌, ℕ, zero, suc, Bool, true, false, not, nat_lt, List, [], ◌∷◌, map, drop, length, get_or, Option, Some, Result, Ok, refl, sym, subst, ap, ◌∙◌, ◌↔◌}
 use Rattle.std.specs.Prelude.{◌&&◌, ◌||◌, slice_get}
 use Rattle.std.specs.Result.{IsOk}
 use Rattle.std.proofs.lemmas.Bool.{and_parts, lt-ltb}
@@ -20,7 +20,7 @@ use Rattle.its_plain.specs.Plain.{Plain, Translator, Redistributor}
 use Rattle.its_plain.specs.Sound.{IsSound}
 use Rattle.its_plain.specs.Saved.{saved, moved, reloaded, IsSavable}
 use Rattle.its_plain.specs.DeviceTables.{HasEventOf}
-use Rattle.its_plain.specs.Stands.{lacks_tables, AreRedistributorsClear, IsRedistributorIn, AreMapsIn}
+use Rattle.its_plain.specs.Stands.{lacks_tables, AreRedistributorsClear, IsRedistributorIn, IsTranslatorFrom, AreMapsIn}
 use Rattle.plain_soundness.proofs.Lists.{at_each_map}
 use Rattle.saved_state.specs.Laws.{bases_of, SavedStands}
 use Rattle.saved_state.proofs.Redistributors.{saved_inside, redistributors_stand}
@@ -119,20 +119,42 @@ both_maps {X} {Y} {Z} P f g (x ∷ xs) h zero y z at to = subst (λ (b : Z). P y
     (subst (λ (a : Y). P a (g x)) (same_Some (f x) y at) (h 0 x refl))
 both_maps P f g (x ∷ xs) h (suc k) y z at to = both_maps P f g xs (λ j w there. h (suc j) w there) k y z at to
 
+-- ---- translators
+
+-- where registers are what values mask to, it holds of each translator with its values
+module _ (n : ℕ) (P : Option RegValues → Translator → Type 0) where
+  each_pair : (vs : List RegValues) (ts : List Translator) → map (λ v. masked v n) vs ≡ map (λ t. t.regs) ts
+      → ((i : ℕ) (v : RegValues) (t : Translator) → slice_get ts i ≡ Some t → masked v n ≡ t.regs → P (Some v) t)
+      → (i : ℕ) (o : Option RegValues) (t : Translator) → slice_get (map Some vs) i ≡ Some o → slice_get ts i ≡ Some t → P o t
+  each_pair [] ts e h i o t at to = absurd cc
+  each_pair (v ∷ vs) [] e h i o t at to = absurd cc
+  each_pair (v ∷ vs) (w ∷ ts) e h zero o t at to =
+      let first : masked v n ≡ w.regs = ap (λ (rs : List Registers). get_or rs 0 w.regs) e in
+      subst (λ (x : Option RegValues). P x t) (same_Some (Some v) o at) (subst (P (Some v)) (same_Some w t to) (h 0 v w refl first))
+  each_pair (v ∷ vs) (w ∷ ts) e h (suc i) o t at to =
+      each_pair vs ts (ap (λ (rs : List Registers). drop 1 rs) e) (λ j x y there. h (suc j) x y there) i o t at to
+
+as_many : (n : ℕ) (vs : List RegValues) (ts : List Translator) → map (λ v. masked v n) vs ≡ map (λ t. t.regs) ts → length ts ≡ length (map Some vs)
+as_many n vs ts e =
+    sym (length-map ts (λ t. t.regs)) ∙ ap (λ (rs : List Registers). length rs) (sym e) ∙ length-map vs (λ v. masked v n) ∙ sym (length-map vs Some)
+
 -- ---- the whole
 
 pub saved_stands : SavedStands
 unfolding moved
-saved_stands u t values sound savable one same =
-    let at : slice_get u.translators 0 ≡ Some t = ap (λ (ts : List Translator). slice_get ts 0) one in
-    let own = sound.translators 0 t at in
+saved_stands u values sound savable same =
     record {
       clear = clear u sound;
       layout_is = refl;
       memory_is = refl;
-      translator = t;
-      translator_is = one;
-      stands = record { allowed = is_allowed values u.layout.shape.dev_bits t.regs own.regs same; regs = sym same; maps = maps_in u 0 t sound savable at };
+      track_is = refl;
+      count = as_many u.layout.shape.dev_bits values u.translators same;
+      translators =
+          each_pair u.layout.shape.dev_bits (IsTranslatorFrom u.layout.shape (saved u)) values u.translators same (λ i v t at is. record {
+            allowed = is_allowed v u.layout.shape.dev_bits t.regs (sound.translators i t at).regs is;
+            regs = sym is;
+            maps = maps_in u i t sound savable at;
+          });
       vcpus = length-map u.redistributors (reloaded u.layout.shape (saved u)) ∙ sym (length-map u.redistributors (λ r. r.bases));
       redistributors =
           both_maps (λ (b : Bases) (r : Redistributor). IsRedistributorIn u.layout.shape (saved u) b r) (λ r. r.bases) (reloaded u.layout.shape (saved u))

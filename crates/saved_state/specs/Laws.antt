@@ -48,8 +48,8 @@ ReadAreasStay = (u : Plain) (k : ℕ) (a : Area) (address n : ℕ) → IsSound u
 
 -- the collection table of saved memory has no fault, and just the collections that are mapped
 pub record AreCollectionsSaved (u : Plain) (t : Translator) : Type 0 where
-  pub clear : AreCollectionsClear (saved u) u.layout.shape.vcpus t.regs
-  pub are : (icid : ℕ) (vcpu : Vcpu) → (collection_of t.maps icid ≡ Some vcpu) ↔ HasCollection (saved u) t.regs icid vcpu
+  pub clear : AreCollectionsClear u.layout.shape (saved u) t.regs
+  pub are : (icid : ℕ) (vcpu : Vcpu) → (collection_of t.maps icid ≡ Some vcpu) ↔ HasCollection u.layout.shape (saved u) t.regs icid vcpu
 
 abbrev pub CollectionsStand : Type 0
 CollectionsStand = (u : Plain) (k : ℕ) (t : Translator) → IsSound u → IsSavable u → slice_get u.translators k ≡ Some t → AreCollectionsSaved u t
@@ -87,12 +87,12 @@ DevicesStand = (u : Plain) (k : ℕ) (t : Translator) → IsSound u → IsSavabl
 abbrev pub bases_of : Plain → List Bases
 bases_of u = map (λ r. r.bases) u.redistributors
 
--- saved memory, and values that the registers of the translator can be restored from, stand for the state that a migration
+-- saved memory, and values that the registers of each translator can be restored from, stand for the state that a migration
 -- goes on from
 abbrev pub SavedStands : Type 0
-SavedStands = (u : Plain) (t : Translator) (values : RegValues) → IsSound u → IsSavable u → u.translators ≡ t ∷ [] → masked values u.layout.shape.dev_bits
-    ≡ t.regs
-    → Stands (saved u) values u.layout (bases_of u) (moved u)
+SavedStands = (u : Plain) (values : List RegValues) → IsSound u → IsSavable u → map (λ v. masked v u.layout.shape.dev_bits) values
+    ≡ map (λ t. t.regs) u.translators
+    → Stands (saved u) (map Some values) u.layout (bases_of u) (moved u)
 
 -- what is read of the registers (KVM document arm-vgic-its, "ITS Restore Sequence")
 unfoldable pub values_read : Registers → RegValues
@@ -109,20 +109,22 @@ values_read r = record {
 abbrev pub ReadValuesMask : Type 0
 ReadValuesMask = (r : Registers) → regs.IsSound r → masked (values_read r) r.dev_bits ≡ r
 
+-- what is read of the registers of each translator
+abbrev pub reads_of : Plain → List RegValues
+reads_of u = map (λ t. values_read t.regs) u.translators
+
 -- so saved memory and what is read of the registers stand for that state
 abbrev pub SavedReadsStand : Type 0
-SavedReadsStand = (u : Plain) (t : Translator) → IsSound u → IsSavable u → u.translators ≡ t ∷ [] → Stands (saved u) (values_read t.regs) u.layout (bases_of u)
-    (moved u)
+SavedReadsStand = (u : Plain) → IsSound u → IsSavable u → Stands (saved u) (map Some (reads_of u)) u.layout (bases_of u) (moved u)
 
 -- no other state stands there
 abbrev pub OnlyThatStands : Type 0
-OnlyThatStands = (u : Plain) (t : Translator) (w : Plain) → IsSound u → IsSavable u → u.translators ≡ t ∷ [] → Stands (saved u) (values_read t.regs) u.layout
-    (bases_of u) w → w ≡ moved u
+OnlyThatStands = (u w : Plain) → IsSound u → IsSavable u → Stands (saved u) (map Some (reads_of u)) u.layout (bases_of u) w → w ≡ moved u
 
 -- and there is nothing that a restore would refuse
 abbrev pub NoOffenceIsFirst : Type 0
-NoOffenceIsFirst = (u : Plain) (t : Translator) (f : RestoreFault) → IsSound u → IsSavable u → u.translators ≡ t ∷ []
-    → IsFirstFault (saved u) (values_read t.regs) u.layout.shape (bases_of u) f → ⊥
+NoOffenceIsFirst = (u : Plain) (i : ℕ) (f : RestoreFault) → IsSound u → IsSavable u
+    → IsFirstFault (saved u) (map Some (reads_of u)) u.layout.shape (bases_of u) i f → ⊥
 
 -- ---- equal translators
 
