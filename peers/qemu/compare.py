@@ -26,7 +26,10 @@ REDIST_BITS = {
 }
 
 
-def named_value(call, theirs, ours):
+LINUX_BASE = 0x780      # what PROPBASER and PENDBASER read besides, with `linux`
+
+
+def named_value(call, theirs, ours, linux):
     """The name of the difference of two values that were read, if it is a known one."""
     fields = call.split()
     low, high = int(theirs.split()[1], 0), int(ours.split()[1], 0)
@@ -35,13 +38,18 @@ def named_value(call, theirs, ours):
         name, bits = ITS_BITS.get(offset, BASER_BITS if 0x100 <= offset < 0x110 and not low >> 63 else ("", 0))
     else:
         name, bits = REDIST_BITS.get(offset, ("", 0))
+        if linux and (offset == 0 or high & 0xF80 != LINUX_BASE):
+            name = ""
     return name if (low ^ high) & ~bits == 0 else ""
 
 
-def named_step(command, theirs, ours, levels):
+def named_step(command, theirs, ours, levels, lpis):
     """The name of the difference of two steps that took a command of these bytes, if it is a known one."""
     valid = command[23] >> 7
     pair = theirs, ours
+    for what in ("int", "clear", "movall"):
+        if pair == (f"ran {what}", f"refused {what} lpis-off") and not all(lpis.values()):
+            return "INT, CLEAR or MOVALL where LPIs are off: QEMU does nothing, and tells no error"
     if pair == ("ran invall", "refused invall no-collection"):
         return "INVALL of a collection that isn't mapped: QEMU doesn't look"
     if pair == ("ran mapd", "refused mapd device-range") and valid and levels:
@@ -63,11 +71,15 @@ class Seen:
         self.on = False
         self.levels = False
         self.new_queue = False
+        self.linux = False
+        self.lpis = {}
 
     def note(self, call, remark):
         fields = call.split()
         if remark == "command":
             self.queue.append(bytes.fromhex(fields[2]))
+        if fields[0] == "rwrite" and int(fields[2], 0) == 0:
+            self.lpis[fields[1]] = int(fields[4], 0) & 1
         if fields[0] == "write":
             offset, value = int(fields[1], 0), int(fields[3], 0)
             if offset == 0:
@@ -82,12 +94,12 @@ class Seen:
     def name(self, call, theirs, ours):
         """The name of a difference, if it is a known one. A step takes its command from the queue."""
         if call == "step":
-            return named_step(self.queue.popleft(), theirs, ours, self.levels)
+            return named_step(self.queue.popleft(), theirs, ours, self.levels, self.lpis)
         if theirs == ours or call.split()[0] not in ("read", "rread"):
             return ""
         if call.startswith("read 0x88 ") and self.new_queue and ours == "value 0x0":
             return "CWRITER after a write of CBASER: QEMU keeps it"
-        return named_value(call, theirs, ours)
+        return named_value(call, theirs, ours, self.linux)
 
 
 def report_lines(path):
@@ -127,6 +139,9 @@ def compare(path, replies, pending):
     with open(path) as answers:
         for line in answers:
             call, theirs, remark = line.rstrip("\n").split("\t")
+            if call == "linux":
+                seen.linux = True
+                continue
             if call.startswith("vcpu "):
                 ours, label, name = pending[call.rsplit(" ", 1)[0]], "vcpu: what is pending at the end", ""
             else:

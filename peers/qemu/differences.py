@@ -123,6 +123,15 @@ def baser_again(p):
     p.queue(3 | 6 << 32, 0)
 
 
+def movi_off(p):
+    """LPIs of processor 0 are off as an event of it moves to processor 1."""
+    p.op(WRITE32, GICR, 0)
+    p.queue(1 | 4 << 32, 0, 1)
+    p.kick()
+    p.op(WRITE32, GICR, 1)
+    p.queue(3 | 4 << 32, 0)
+
+
 def page_size(p):
     """BASER0 and BASER1 with pages of 4 KiB. No command comes after it."""
     p.op(WRITE32, ITS, 0)
@@ -132,15 +141,19 @@ def page_size(p):
 
 
 def lpis_off(p):
-    """LPIs of processor 3 are turned off, and an event of it comes."""
+    """LPIs of processor 3 are turned off, and an event of it comes; they are turned on with another pending table."""
     p.op(WRITE32, GICR + 0x60000, 0)
     p.op(READ32, GICR + 0x60000)
+    p.queue(3 | 15 << 32, 0)
+    p.kick()
+    p.op(WRITE64, GICR + 0x60078, generate.PENDING_TOO)
+    p.op(WRITE32, GICR + 0x60000, 1)
     p.queue(3 | 15 << 32, 0)
 
 
 CASES = [mapd_again, mapti_again, discard_unmapped, inv_unmapped, unmapd_size, unmapc_target, unmap_no_place,
          inv_elsewhere, priority, configuration, pendbaser, invlpir, cwriter, baser_again, lpis_off,
-         page_size]
+         movi_off, page_size]
 
 
 def main():

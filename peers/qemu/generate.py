@@ -1,9 +1,11 @@
 #!/usr/bin/env python3
 """Writes the operations that guest.c plays: registers, tables, random commands good and bad, and acknowledgements.
 
-usage: generate.py SEED BATCHES OUT [--levels] [--quiet]
+usage: generate.py SEED BATCHES OUT [--levels] [--registers] [--linux] [--quiet]
 
---levels uses a device table of two levels. --quiet leaves out what QEMU and `its run` are known to answer differently
+--levels uses a device table of two levels. --registers accesses registers between the commands, and turns the
+translator off and on. --linux does what is for scripts with the line `linux`: base registers are written with their
+own values, and LPIs are turned off and on. --quiet leaves out what QEMU and `its run` are known to answer differently
 (README.md), so that all else can be compared to the last reply.
 """
 import argparse
@@ -13,6 +15,7 @@ import struct
 ITS, TRANSLATER, GICR = 0x08080000, 0x08090040, 0x080A0000
 DEVICES, COLLECTIONS, QUEUE, CONFIG = 0x44000000, 0x44010000, 0x44020000, 0x44030000
 PENDING, PAGES, ITTS, WIDE_ITTS = 0x44040000, 0x44080000, 0x440C0000, 0x45000000
+PENDING_TOO = 0x44800000
 PROCESSORS, PLACES = 4, 128
 WRITE32, WRITE64, READ32, READ64, TAKE, DRAIN = range(1, 7)
 LPIS = range(8192, 8216)
@@ -75,13 +78,18 @@ def configure(p):
             p.op(READ64, frame + offset)
 
 
+def bases(p, levels):
+    """The device table's base register, and the collection table's."""
+    p.base(0x100, DEVICES | 1 << 63 | (1 << 62 if levels else 0) | 2 << 8)
+    p.base(0x108, COLLECTIONS | 1 << 63 | 2 << 8)
+
+
 def tables(p, levels):
     """The translator's registers, some of the writes refused or masked, and the first level of a device table."""
     if levels:
         for k, page in ((0, PAGES), (2, PAGES + 0x10000)):
             p.op(WRITE64, DEVICES + 8 * k, page | 1 << 63)
-    p.base(0x100, DEVICES | 1 << 63 | (1 << 62 if levels else 0) | 2 << 8)
-    p.base(0x108, COLLECTIONS | 1 << 63 | 2 << 8)
+    bases(p, levels)
     p.base(0x80, QUEUE | 1 << 63)
     for offset in (0x80, 0x88, 0x90, 0x100, 0x108):
         p.op(READ64, ITS + offset)
@@ -240,6 +248,8 @@ def off_and_on(p):
     for _ in range(p.random.randrange(4)):
         command(p)
     p.kick()
+    if p.linux and p.random.random() < 0.7:
+        bases(p, p.levels)
     if p.random.random() < 0.5:
         p.its64(0x80, QUEUE | 1 << 63 | p.random.getrandbits(64) & 0x3800000000000C00)
         for offset in (0x80, 0x88, 0x90):
@@ -252,12 +262,42 @@ def off_and_on(p):
     p.op(READ64, ITS + 0x90)
 
 
+def lpis_off_and_on(p):
+    """LPIs of a processor are turned off; signals and commands come; they are turned on with tables of either place.
+
+    QEMU keeps what is pending in the table, and the translator here forgets it. So the processor is drained before,
+    and the table's bits of the LPIs that a generated event may have are cleared. A MOVI doesn't come while they are
+    off: QEMU moves the event then.
+    """
+    cpu = p.random.randrange(PROCESSORS)
+    frame, there = GICR + 0x20000 * cpu, p.random.random() < 0.5
+    pending = (PENDING_TOO if there else PENDING) + 0x10000 * cpu
+    p.op(DRAIN, cpu)
+    p.op(WRITE32, frame, 0)
+    for _ in range(p.random.randrange(4)):
+        p.op(WRITE32, TRANSLATER, good(p, event))
+        p.queue(p.random.choice([3, 4]) | p.random.randrange(4) << 32, good(p, event))
+    p.queue(14, 0, cpu << 16, target(p) << 16)
+    p.kick()
+    for offset in (1024, 8184):
+        p.op(WRITE64, pending + offset, 0)
+    p.op(WRITE64, frame + 0x70, CONFIG | 15 | p.random.choice([0, 0x780]))
+    p.op(WRITE64, frame + 0x78, pending | p.random.choice([0, 0x780, 1 << 62]))
+    for offset in (0x70, 0x78):
+        p.op(READ64, frame + offset)
+    p.op(READ32, frame)
+    p.op(WRITE32, frame, p.random.choice([1, 3]))
+    p.op(READ32, frame)
+
+
 def batch(p):
     if p.registers:
         for _ in range(p.random.randrange(4)):
             access(p)
         if p.random.random() < 0.1:
             off_and_on(p)
+    if p.linux and p.random.random() < 0.15:
+        lpis_off_and_on(p)
     if p.random.random() < 0.1:
         p.drain()
         configure_again(p)
@@ -279,10 +319,11 @@ def main():
     parser.add_argument("out")
     parser.add_argument("--levels", action="store_true")
     parser.add_argument("--registers", action="store_true")
+    parser.add_argument("--linux", action="store_true")
     parser.add_argument("--quiet", action="store_true")
     args = parser.parse_args()
     p = Player(args.seed, args.quiet)
-    p.registers = args.registers
+    p.registers, p.levels, p.linux = args.registers, args.levels, args.linux
     configure(p)
     tables(p, args.levels)
     begin(p)

@@ -1,16 +1,19 @@
 #!/usr/bin/env python3
 """Turns a log of record.py into a script of `its run`, and a list of what QEMU answered.
 
-usage: to_script.py LOG SCRIPT ANSWERS [--title TEXT] [--calls N] [--legs N] [--lpis-alone]
+usage: to_script.py LOG SCRIPT ANSWERS [--title TEXT] [--linux] [--short N] [--calls N] [--legs N] [--lpis-alone]
 
-Line k of ANSWERS is the answer to the script's k-th call. --calls ends the script after N calls. --legs cuts it by
-migrations into N legs of about the same length, so the second and later legs go on from tables that a save wrote.
---lpis-alone is for a guest that has no other interrupts: its acknowledgement that gets none is then compared too.
+Line k of ANSWERS is the answer to the script's k-th call; before them stands a line `linux` where the script has one.
+--linux gives the script the line `linux`. --short leaves out reads that tell nothing new, and of the signals of an
+event that are acknowledged at once all but N. --calls ends the script after N calls. --legs cuts it by migrations into
+N legs of about the same length, so the second and later legs go on from tables that a save wrote. --lpis-alone is for
+a guest that has no other interrupts: its acknowledgement that gets none is then compared too.
 """
 import argparse
 import re
 
 import commands
+import fewer
 import trace
 
 UNIT = 0x10000
@@ -88,35 +91,10 @@ def windows(places, most=12):
     return merged
 
 
-def needed(calls):
-    """The calls without the configuration bytes of LPIs after the last that a MAPTI or MAPI names.
-
-    Linux writes the whole table, and a script of all its bytes would be long.
-    """
-    last, table = 8192, None
-    for text, _, remark in calls:
-        f = text.split()
-        if f[0] == "rwrite" and int(f[2], 0) == 0x70:
-            table = int(f[4], 0) & 0x000FFFFFFFFFF000
-        if remark == "command" and f[2][:2] in ("0a", "0b"):
-            data = bytes.fromhex(f[2])
-            last = max(last, int.from_bytes(data[12:16] if data[0] == 10 else data[8:12], "little"))
-    kept = []
-    for call in calls:
-        f = call[0].split()
-        if f[0] == "poke" and call[2] != "command" and table is not None and table <= int(f[1], 0) < table + 57344:
-            left = table + min(last, 65535) - 8192 + 1 - int(f[1], 0)
-            if left <= 0:
-                continue
-            call = (f"poke {f[1]} {f[2][:2 * left]}",) + call[1:]
-        kept.append(call)
-    return kept
-
-
-def description(calls, title):
+def description(calls, title, linux):
     lines = [f"# {line}" for line in title]
     cpus = 1 + max([int(t.split()[1]) for t, _, _ in calls if t.split()[0] in ("take", "rwrite", "rread")] + [0])
-    lines += [f"vcpus {cpus}", "shards 16", "ids 16 16", "gicr"]
+    lines += [f"vcpus {cpus}", "shards 16", "ids 16 16", "gicr"] + ["linux"] * linux
     lines += [f"window {base:#x} {end - base:#x}" for base, end in windows(stretches(calls))]
     return lines
 
@@ -147,18 +125,23 @@ def main():
     parser.add_argument("script")
     parser.add_argument("answers")
     parser.add_argument("--title", default="")
+    parser.add_argument("--linux", action="store_true")
+    parser.add_argument("--short", type=int)
     parser.add_argument("--calls", type=int)
     parser.add_argument("--legs", type=int, default=1)
     parser.add_argument("--lpis-alone", action="store_true")
     args = parser.parse_args()
     calls, left = trace.read_log(args.log, args.lpis_alone)
-    calls = needed(calls)
+    calls = fewer.configuration(calls)
+    if args.short is not None:
+        calls = fewer.short(calls, args.short)
     if args.calls is not None:
         calls, left = calls[:args.calls], {}
     title = [line for line in re.split(r"\s*\|\s*", args.title) if line]
     with open(args.script, "w") as script:
-        script.write("\n".join(description(calls, title) + [""] + body(calls, args.legs)) + "\n")
+        script.write("\n".join(description(calls, title, args.linux) + [""] + body(calls, args.legs)) + "\n")
     with open(args.answers, "w") as answers:
+        answers.write("linux\t\t\n" * args.linux)
         for text, answer, remark in calls:
             answers.write(f"{text}\t{answer}\t{remark}\n")
         for cpu, lpis in sorted(left.items()):

@@ -24,7 +24,10 @@ def after(line, word):
 
 
 class Reader:
-    """Turns lines into calls. Commands come before the register write that made QEMU take them, so they wait."""
+    """Turns lines into calls. Commands come before the register write that made QEMU take them, so they wait.
+
+    QEMU tells nothing of a signal whose processor's LPIs are off, and drops it: so it is known where they are on.
+    """
 
     def __init__(self, lpis_alone):
         self.lpis_alone = lpis_alone
@@ -33,6 +36,7 @@ class Reader:
         self.command = None
         self.signal = None
         self.pending = {}
+        self.lpis = {}
 
     def close(self):
         """Ends the command or the signal that is under way."""
@@ -43,7 +47,7 @@ class Reader:
             self.command = None
         if self.signal is not None:
             device, event, target, intid, wrong = self.signal
-            done = target is not None and intid is not None and not wrong
+            done = self.lpis.get(target) and intid is not None and not wrong
             answer = f"delivered {target} {intid}" if done else "dropped"
             self.calls.append((f"signal {device} {event}", answer, wrong))
             self.signal = None
@@ -61,6 +65,8 @@ class Reader:
 
     def redist(self, line, write):
         cpu, offset, value, size = (after(line, w) for w in ("redistributor", "offset", "data", "size"))
+        if offset == 0 and write:
+            self.lpis[cpu] = value & 1
         if offset in LPI_REGISTERS and write:
             self.calls.append((f"rwrite {cpu} {offset:#x} {size} {value:#x}", "ok", ""))
         elif offset in LPI_REGISTERS:
