@@ -1,23 +1,27 @@
 -- Signals by the cache and then by the maps, and again.
-use Rattle.std.proofs.Common.{◌≡◌, ◌≢◌, ◌⊎◌, ℕ, ◌<◌, ◌≤◌, List, [], ◌∷◌, ◌++◌, length, None, refl, ap, sym, ◌∙◌, subst}
+use Rattle.std.proofs.Common.{◌≡◌, ◌≢◌, ◌⊎◌, ℕ, ◌<◌, ◌≤◌, Bool, true, false, List, [], ◌∷◌, ◌++◌, length, Some, None, refl, ap, sym, ◌∙◌, subst}
 use Rattle.std.proofs.Common.{arith, inl, inr, ⊎_elim, append_assoc, le_refl}
 use Rattle.std.specs.List.{AllByRecursion}
 use mathlib.Core.Logic.{dite}
 use native.Mathlib.Decide.{ℕ_discrete}
 use Rattle.its_types.specs.declared.ids.DeviceId.{DeviceId}
 use Rattle.its_types.specs.declared.ids.EventId.{EventId}
+use Rattle.its_types.specs.declared.ids.Target.{Target}
 use Rattle.its_types.specs.declared.ids.Vcpu.{Vcpu}
 use Rattle.its_types.specs.declared.machine.Part.{Part}
 use Rattle.its_types.specs.declared.machine.Part.TheVariants as part
 use Rattle.its_types.specs.declared.machine.Placed.{Placed}
 use Rattle.its_types.specs.declared.machine.Word.{Word}
+use Rattle.its_plain.specs.declared.call.Entry.{Entry}
 use Rattle.its_plain.specs.declared.call.Reply.TheVariants as reply
 use Rattle.its_plain.specs.declared.call.Signal.{Signal}
 use Rattle.its_steps.specs.Contents.{Looked}
+use Rattle.its_steps.specs.MayCall.{met}
 use Rattle.its_steps.specs.Parts.{Setup}
 use Rattle.its_steps.specs.World.{View, Tries, lost_to}
-use Rattle.its_turns.proofs.Telling.{stays_again, placed_again}
-use Rattle.its_turns.specs.Calls.{Stays, IsPlaced, got_all, WasBusy, WasRaced, WasSpent}
+use Rattle.its_turns.proofs.Telling.{stays_again, looked_again, placed_again}
+use Rattle.its_steps.specs.declared.change.ShardChange.TheVariants.{Keep}
+use Rattle.its_turns.specs.Calls.{Stays, IsPlaced, Leaves, got_all, WasBusy, WasRaced, WasSpent}
 use Rattle.its_turns.specs.Told.{IsLone}
 use Rattle.its_turns.specs.declared.attempts.Attempt.{Attempt}
 use Rattle.its_turns.specs.declared.attempts.Attempt.TheVariants as attempt
@@ -97,6 +101,7 @@ module _ (v w x : View) (got : List Part) (stays : Stays v w) (tries : w.tries �
     tries = more_tries v.tries x.tries w.tries more got tries raced.tries;
     room = subst (λ (s : Setup). r.expected.place < s.limits.place_last) setups raced.room;
     later = raced.later;
+    read = looked_again v w stays (λ alone. raced.out (subst IsLone (sym stays.same) alone)) r.expected x raced.read;
     last = raced.last;
     out = λ alone. raced.out (subst IsLone (sym stays.same) alone);
   }
@@ -111,7 +116,7 @@ module _ (v w x : View) (got : List Part) (stays : Stays v w) (tries : w.tries �
 -- ---- by the maps after the cache had nothing
 
 module _ (dev : DeviceId) (ev : EventId) (v w x : View) (stays : Stays v w) (tries : w.tries ≡ got_all (shard_of v.setup dev ev ∷ []) v.tries)
-    (none : FindsLast dev ev w None) (early : KeepsEarly v w) where
+    (room : length w.seen < v.setup.limits.place_last) (none : FindsLast dev ev w None) (early : KeepsEarly v w) where
   abbrev shard : Part
   shard = shard_of v.setup dev ev
 
@@ -146,6 +151,7 @@ module _ (dev : DeviceId) (ev : EventId) (v w x : View) (stays : Stays v w) (tri
     busy_again v w x
         (shard ∷ []) stays tries b a.0 a.2,
     subst (λ (s : Setup). IsOfSignal s dev ev b.part) own a.3,
+    subst (λ (h : List Entry). length h < v.setup.limits.place_last) (sym a.4) room,
   )
   by_maps_then (attempt.Raced r) a = (
     a.0 ++ shard ∷ [],
@@ -177,19 +183,22 @@ module _ (dev : DeviceId) (ev : EventId) (v w : View) (early : KeepsEarly v w) w
     kept = λ _. early;
   }
 
+  sends_met : (t : Target) (on : Bool) → Leaves Keep w → FindsLast dev ev w (Some t) → Sends dev ev (met on t) w
+  sends_met t true leaves finds = (inl leaves, finds)
+  sends_met t false leaves finds = leaves
+
   pub done_then : (p : Placed Signal) → SignalsNow v dev ev w (now.Done p) → SignalsOnce v dev ev w (attempt.Done p)
   done_then p a = let t = a.0 in (
     part.Redist t.vcpu ∷ shard_of v.setup dev ev ∷ [],
     two_got t.vcpu,
-    a.2,
-    subst (λ (s : Signal). Sends dev ev s w) (sym a.1)
-        (inl a.3, a.5),
-    a.4,
+    a.3,
+    subst (λ (s : Signal). Sends dev ev s w) (sym a.2) (sends_met t a.1 a.4 a.6),
+    a.5,
   )
 
   pub busy_then : (b : Busy) → SignalsNow v dev ev w (now.Busy b) → SignalsOnce v dev ev w (attempt.Busy b)
-  busy_then b (inl a) = ([], none_got, a.1, inr (inl a.0))
-  busy_then b (inr a) = (shard_of v.setup dev ev ∷ [], shard_got, a.2, inr (inr (a.0.vcpu, a.1)))
+  busy_then b (room, inl a) = ([], none_got, a.1, inr (inl a.0), room)
+  busy_then b (room, inr a) = (shard_of v.setup dev ev ∷ [], shard_got, a.2, inr (inr (a.0.vcpu, a.1)), room)
 
   pub raced_then : (r : Raced) → SignalsNow v dev ev w (now.Raced r) → SignalsOnce v dev ev w (attempt.Raced r)
   raced_then r a = (part.Redist a.0.vcpu ∷ shard_of v.setup dev ev ∷ [], two_got a.0.vcpu, a.1)

@@ -1,7 +1,7 @@
 -- Signals by the cache: from what each step tells to what the call says.
-use Rattle.std.proofs.Common.{◌≡◌, ℕ, ◌+◌, ◌<◌, ◌&&◌, true, cond, eqb, List, [], ◌∷◌, Option, Some, None, length, refl, ap, sym}
+use Rattle.std.proofs.Common.{◌≡◌, ℕ, ◌+◌, ◌<◌, ◌&&◌, Bool, true, false, cond, eqb, List, [], ◌∷◌, Option, Some, None, length, refl, ap, sym}
 use Rattle.std.proofs.Common.{◌∙◌, subst, inl, inr, arith, eq-eqb}
-use Rattle.its_types.specs.Lpis.{with_lpi}
+use mathlib.Core.List.{IsPrefix}
 use Rattle.its_types.specs.declared.ids.DeviceId.{DeviceId}
 use Rattle.its_types.specs.declared.ids.EventId.{EventId}
 use Rattle.its_types.specs.declared.ids.Target.{Target}
@@ -13,13 +13,13 @@ use Rattle.its_types.specs.declared.machine.Word.{Word}
 use Rattle.its_plain.specs.Plain.{Redistributor}
 use Rattle.its_plain.specs.declared.call.Reply.TheVariants as reply
 use Rattle.its_plain.specs.declared.call.Signal.{Signal}
-use Rattle.its_plain.specs.declared.call.Signal.TheVariants.{Delivered}
+use Rattle.its_plain.specs.declared.call.Entry.{Entry}
 use Rattle.xlate_cache.specs.Pairs.{shard_number}
 use Rattle.xlate_cache.specs.Ways.{found}
 use Rattle.xlate_cache.specs.declared.entry.Entry.{Entry as Translation}
-use Rattle.its_steps.proofs.Signals.{hits}
+use Rattle.its_steps.proofs.Signals.{hits, hits_off}
 use Rattle.its_steps.proofs.Stamps.{one_has}
-use Rattle.its_steps.specs.MayCall.{MayCall}
+use Rattle.its_steps.specs.MayCall.{MayCall, met}
 use Rattle.its_steps.specs.Renewal.{renewal}
 use Rattle.its_steps.specs.Calls.{staying, MayLeave}
 use Rattle.its_steps.specs.Contents.{Shard, Redist, Held, Looked}
@@ -36,7 +36,7 @@ use Rattle.its_turns.specs.Told.{Looks, IsLone, released, Commits}
 use Rattle.its_turns.specs.declared.commits.Raced.{Raced as Race}
 use Rattle.its_turns.specs.declared.turns.Busy.{Busy as Found}
 use Rattle.device_port.specs.Hands.{two_before}
-use Rattle.device_port.specs.Hits.{HitMade, HitRaced, HitsNow}
+use Rattle.device_port.specs.Hits.{HitMade, HitRaced, HitsNow, delivered}
 use Rattle.device_port.specs.Signals.{signal, shard_of, FindsLast, SignalsNow, KeepsEarly}
 use Rattle.device_port.specs.declared.hits.Now.{Now}
 use Rattle.device_port.specs.declared.hits.Now.TheVariants.{Done, Miss, Busy, Raced, Spent}
@@ -65,7 +65,7 @@ module _ (s : Setup) (one : translator_count s ≡ 1) (dev : DeviceId) (ev : Eve
     finds = (λ d. found (looked d).ways dev.0 ev.0 (stamp_of (own d) x.last 0)) ∙ (ap (found ways dev.0 ev.0) (at_stamp s one x.last ∙ last) ∙ finds);
   }
 
-  module _ (v v1 : View) (w : Word) (own : v.setup ≡ s) (bare : v.held ≡ []) (looks : Looks v w v1) where
+  module _ (v v1 : View) (w : Word) (own : v.setup ≡ s) (bare : v.held ≡ []) (looks : Looks v w v1) (room : w.place < s.limits.place_last) where
     abbrev p : Part
     p = part.Shard 0 n
 
@@ -75,17 +75,25 @@ module _ (s : Setup) (one : translator_count s ≡ 1) (dev : DeviceId) (ev : Eve
     on : GoesOn v v.tries v1
     on = goes_looked v v v.tries (goes_first v) v1 w looks
 
+    -- as the load said, where no more was seen since
+    room_at : (x : View) → x.seen ≡ v1.seen → length x.seen < v.setup.limits.place_last
+    room_at x same = subst (λ (k : ℕ). k < v.setup.limits.place_last) (sym (ap (λ (h : List Entry). length h) same ∙ looks.place))
+        (subst (λ (z : Setup). w.place < z.limits.place_last) (sym own) room)
+
     pub busy_shard : (b : Found) (x : View) → IsBusy v1 p b x → SignalsNow v dev ev x (Busy b) × KeepsEarly v x
     busy_shard b x busy =
         let gone = goes_missed v v1 v.tries on x p b.holder busy.view in (
-          inl (
-            busy.part ∙ p_is,
-            record {
-              stays = stays_from v x _ gone (ap (λ (y : View). y.held) busy.view ∙ looked_held v v1 w looks);
-              tries = gone.tries ∙ ap (λ (q : Part). record v.tries { lost = v.tries.lost + 1; met = (q, b.holder) }) (sym busy.part);
-              another = λ e. busy.another (e ∙ ap (λ (y : View). y.number) (sym looks.same));
-              out = λ alone. busy.out (subst IsLone (sym looks.same) alone);
-            },
+          (
+            room_at x (ap (λ (y : View). y.seen) busy.view),
+            inl (
+              busy.part ∙ p_is,
+              record {
+                stays = stays_from v x _ gone (ap (λ (y : View). y.held) busy.view ∙ looked_held v v1 w looks);
+                tries = gone.tries ∙ ap (λ (q : Part). record v.tries { lost = v.tries.lost + 1; met = (q, b.holder) }) (sym busy.part);
+                another = λ e. busy.another (e ∙ ap (λ (y : View). y.number) (sym looks.same));
+                out = λ alone. busy.out (subst IsLone (sym looks.same) alone);
+              },
+            ),
           ),
           record {
             early = ap (λ (y : View). y.cache.early) (busy.view) ∙ ap (λ (y : View). y.cache.early) looks.same;
@@ -121,16 +129,16 @@ module _ (s : Setup) (one : translator_count s ≡ 1) (dev : DeviceId) (ev : Eve
       last2 : v2.last ≡ w
       last2 = ap (λ (y : View). y.last) took_is ∙ ap (λ (y : View). y.last) looks.same
 
-      pub missed_now : (x : View) → found ways dev.0 ev.0 w.stamp ≡ None → w.place < s.limits.place_last → x ≡ released v2 → SignalsNow v dev ev x Miss
-          × KeepsEarly v x
-      missed_now x none room home =
+      seen2 : v2.seen ≡ v1.seen
+      seen2 = ap (λ (y : View). y.seen) took_is
+
+      pub missed_now : (x : View) → found ways dev.0 ev.0 w.stamp ≡ None → x ≡ released v2 → SignalsNow v dev ev x Miss × KeepsEarly v x
+      missed_now x none home =
           let gone = goes_released v v2 t on2 x home in (
             (
               stays_from v x t gone (ap (λ (y : View). y.held) home ∙ ap (λ (l : List Held). held_before l) held2),
               gone.tries,
-              subst (λ (k : ℕ). k < v.setup.limits.place_last)
-                  (sym (ap (λ (y : View). length y.seen) (home ∙ ap (λ (y : View). released y) took_is) ∙ looks.place))
-                  (subst (λ (z : Setup). w.place < z.limits.place_last) (sym own) room),
+              room_at x (ap (λ (y : View). y.seen) home ∙ seen2),
               finds_last x ways w None (ap (λ (y : View). y.setup) home ∙ own2) (ap (λ (y : View). y.cache.looked) home ∙ looked2)
                   (ap (λ (y : View). y.last.stamp) home ∙ ap (λ (z : Word). z.stamp) last2) none,
             ),
@@ -142,19 +150,22 @@ module _ (s : Setup) (one : translator_count s ≡ 1) (dev : DeviceId) (ev : Eve
       busy_redist target b x y finds busy home =
           let q : Part = part.Redist target.vcpu in
           let gone = goes_released v y (lost_to t q b.holder) (goes_missed v v2 t on2 y q b.holder busy.view) x home in (
-            inr (
-              target,
-              busy.part,
-              record {
-                stays = stays_from v x _ gone
-                    (ap (λ (u : View). u.held) home ∙ (ap (λ (u : View). held_before u.held) busy.view ∙ ap (λ (l : List Held). held_before l) held2));
-                tries = gone.tries ∙ ap (λ (r : Part). lost_to t r b.holder) (sym busy.part);
-                another = λ e. busy.another (e ∙ ap (λ (u : View). u.number) (sym on2.same));
-                out = λ alone. busy.out (lone_on v v2 t on2 alone);
-              },
-              finds_last x ways w (Some target) (ap (λ (u : View). u.setup) home ∙ (ap (λ (u : View). u.setup) busy.view ∙ own2))
-                  (ap (λ (u : View). u.cache.looked) home ∙ (ap (λ (u : View). u.cache.looked) busy.view ∙ looked2))
-                  (ap (λ (u : View). u.last.stamp) home ∙ (ap (λ (u : View). u.last.stamp) busy.view ∙ ap (λ (z : Word). z.stamp) last2)) finds,
+            (
+              room_at x (ap (λ (u : View). u.seen) home ∙ (ap (λ (u : View). u.seen) busy.view ∙ seen2)),
+              inr (
+                target,
+                busy.part,
+                record {
+                  stays = stays_from v x _ gone
+                      (ap (λ (u : View). u.held) home ∙ (ap (λ (u : View). held_before u.held) busy.view ∙ ap (λ (l : List Held). held_before l) held2));
+                  tries = gone.tries ∙ ap (λ (r : Part). lost_to t r b.holder) (sym busy.part);
+                  another = λ e. busy.another (e ∙ ap (λ (u : View). u.number) (sym on2.same));
+                  out = λ alone. busy.out (lone_on v v2 t on2 alone);
+                },
+                finds_last x ways w (Some target) (ap (λ (u : View). u.setup) home ∙ (ap (λ (u : View). u.setup) busy.view ∙ own2))
+                    (ap (λ (u : View). u.cache.looked) home ∙ (ap (λ (u : View). u.cache.looked) busy.view ∙ looked2))
+                    (ap (λ (u : View). u.last.stamp) home ∙ (ap (λ (u : View). u.last.stamp) busy.view ∙ ap (λ (z : Word). z.stamp) last2)) finds,
+              ),
             ),
             record {
               early = ap (λ (u : View). u.cache.early) home ∙ (ap (λ (u : View). u.cache.early) busy.view ∙ early2.early);
@@ -162,7 +173,7 @@ module _ (s : Setup) (one : translator_count s ≡ 1) (dev : DeviceId) (ev : Eve
             },
           )
 
-      module _ (v3 : View) (target : Target) (r : Redistributor) (finds : found ways dev.0 ev.0 w.stamp ≡ Some target) (room : w.place < s.limits.place_last)
+      module _ (v3 : View) (target : Target) (r : Redistributor) (finds : found ways dev.0 ev.0 w.stamp ≡ Some target)
           (third : v3 ≡ took v2 (part.Redist target.vcpu) (Redist r)) where
         abbrev t3 : Tries
         t3 = got_all (part.Redist target.vcpu ∷ shard_of v.setup dev ev ∷ []) v.tries
@@ -198,6 +209,13 @@ module _ (s : Setup) (one : translator_count s ≡ 1) (dev : DeviceId) (ev : Eve
                   tries = gone.tries;
                   room = subst (λ (z : Setup). c.expected.place < z.limits.place_last) (sym own) expected;
                   later = subst (λ (z : Word). z.place < c.found.place) (sym hit.raced.expected_is) hit.raced.later;
+                  read = record {
+                    mid = v1;
+                    looks = subst (λ (z : Word). Looks v z v1) (sym hit.raced.expected_is) looks;
+                    before = subst (λ (z : List Entry × List Entry). IsPrefix z.0 z.1)
+                        (let old = ap (λ (u : View). u.seen) third ∙ seen2 in let now = sym (ap (λ (u : View). u.seen) hit.home) in λ d. (old d, now d))
+                        hit.raced.looks.longer;
+                  };
                   last = ap (λ (u : View). u.last) hit.home ∙ ap (λ (u : View). u.last) hit.raced.looks.same;
                   out = λ alone. hit.raced.out (lone_on v v3 t3 on3 alone);
                 },
@@ -208,17 +226,17 @@ module _ (s : Setup) (one : translator_count s ≡ 1) (dev : DeviceId) (ev : Eve
               },
             )
 
-        abbrev a : Commit
-        a = staying w (signal dev ev) (reply.Signal (Delivered target.vcpu target.intid)) Keep
+        abbrev a : Bool → Commit
+        a sent = staying w (signal dev ev) (reply.Signal (met sent target)) Keep
 
-        pub done_now : (x : View) → HitMade v3 w dev ev target ways x
-            → SignalsNow v dev ev x (Done (record { place = w.place; reply = Delivered target.vcpu target.intid })) × KeepsEarly v x
-        done_now x hit =
+        pub done_now : (sent : Bool) (x : View) → HitMade v3 w dev ev target ways sent x
+            → SignalsNow v dev ev x (Done (record { place = w.place; reply = met sent target })) × KeepsEarly v x
+        done_now sent x hit =
             let y = hit.made in
             let seen : length v3.seen ≡ w.place = ap (λ (u : View). length u.seen)
             (third ∙ ap (λ (u : View). took u (part.Redist target.vcpu) (Redist r)) took_is) ∙ looks.place in
-            let makes = makes_of v3 a y hit.commits seen (subst (λ (z : Setup). w.place < z.limits.place_last) (sym own3) room) in
-            let made = made_emptied v y t3 a (makes_from v v3 t3 on3 a y makes) x hit.home in
+            let makes = makes_of v3 (a sent) y hit.commits seen (subst (λ (z : Setup). w.place < z.limits.place_last) (sym own3) room) in
+            let made = made_emptied v y t3 (a sent) (makes_from v v3 t3 on3 (a sent) y makes) x hit.home in
             let owes : y.held ≡ two_before n target.vcpu ways hit.left [] = hit.owes
             ∙ ap (λ (z : Setup). two_before (shard_number dev.0 ev.0 z.shards) target.vcpu ways hit.left []) own3 in
             let looked : y.cache.looked ≡ record { its = 0; number = n; ways = ways } =
@@ -227,9 +245,10 @@ module _ (s : Setup) (one : translator_count s ≡ 1) (dev : DeviceId) (ev : Eve
             ∙ looked_there target.vcpu hit.left n ways [] v3.cache.looked (ap (λ (l : Looked). l.its) looked3) (ap (λ (l : Looked). l.number) looked3)) in (
               (
                 target,
+                sent,
                 refl,
-                placed_from v x t3 a made (ap (λ (u : View). u.held) hit.home ∙ sym bare),
-                leaves_from v x t3 a made refl,
+                placed_from v x t3 (a sent) made (ap (λ (u : View). u.held) hit.home ∙ sym bare),
+                leaves_from v x t3 (a sent) made refl,
                 made.tries,
                 finds_last x ways w (Some target) (ap (λ (u : View). u.setup) made.same ∙ own) (ap (λ (u : View). u.cache.looked) hit.home ∙ looked)
                     (ap (λ (z : Word). z.stamp) made.last) finds,
@@ -241,8 +260,8 @@ module _ (s : Setup) (one : translator_count s ≡ 1) (dev : DeviceId) (ev : Eve
             )
 
         pub hit_now : (x : View) (now : Now) → HitsNow v3 w dev ev target ways x now → SignalsNow v dev ev x now × KeepsEarly v x
-        hit_now x (Done p) h = let place = sym h.1 in let reply = sym h.0 in subst (λ (q : Placed Signal). SignalsNow v dev ev x (Done q) × KeepsEarly v x)
-            (λ d. record { place = place d; reply = reply d }) (done_now x h.2)
+        hit_now x (Done p) h = let place = sym h.2 in let reply = sym h.1 in subst (λ (q : Placed Signal). SignalsNow v dev ev x (Done q) × KeepsEarly v x)
+            (λ d. record { place = place d; reply = reply d }) (done_now h.0 x h.3)
         hit_now x (Raced c) h = raced_now x c h
         hit_now x Miss h = absurd h
         hit_now x (Busy b) h = absurd h
@@ -254,26 +273,30 @@ module _ (s : Setup) (one : translator_count s ≡ 1) (vcpus : HasVcpus s) (dev 
     (r : Redistributor) (w : Word) (st : target.vcpu.0 < vcpu_count s)
     (sh : shard_number dev.0 ev.0 s.shards < s.shards) (room : w.place < s.limits.place_last) (finds : found ways dev.0 ev.0 w.stamp ≡ Some target) (y : View)
     (held : y.held ≡ two_before (shard_number dev.0 ev.0 s.shards) target.vcpu ways r []) where
-  abbrev hit_call : Commit
-  hit_call = staying w (signal dev ev) (reply.Signal (Delivered target.vcpu target.intid)) Keep
+  abbrev hit_call : Bool → Commit
+  hit_call on = staying w (signal dev ev) (reply.Signal (met on target)) Keep
 
-  both : MayLeave s hit_call (two_before (shard_number dev.0 ev.0 s.shards) target.vcpu ways r [])
-      (two_before (shard_number dev.0 ev.0 s.shards) target.vcpu ways (record r { pending = with_lpi target.intid.0 r.pending }) [])
-  both = hits s w 0 dev ev target ways r vcpus (omega (arith, one)) st sh room (ap (found ways dev.0 ev.0) (at_stamp s one w) ∙ finds)
+  abbrev two : Redistributor → List Held
+  two x = two_before (shard_number dev.0 ev.0 s.shards) target.vcpu ways x []
 
-  pub hit_may : MayCall s hit_call y.held
-  hit_may = subst (MayCall s hit_call) (sym held) both.0
+  both : (on : Bool) → r.bases.on ≡ on → MayLeave s (hit_call on) (two r) (two (delivered on r target))
+  both true is = hits s w (signal dev ev) 0 dev ev target ways r refl vcpus (omega (arith, one)) st sh room
+      (ap (found ways dev.0 ev.0) (at_stamp s one w) ∙ finds) is
+  both false is = hits_off s w (signal dev ev) 0 dev ev target ways r refl vcpus (omega (arith, one)) st sh room
+      (ap (found ways dev.0 ev.0) (at_stamp s one w) ∙ finds) is
 
-  pub hit_owes : y.setup ≡ s → (x : View) → Commits y hit_call x → x.held ≡ two_before (shard_number dev.0 ev.0 s.shards) target.vcpu ways
-      (record r { pending = with_lpi target.intid.0 r.pending }) []
-  hit_owes own x commits = ap (λ (u : View). u.held) commits.view ∙ ((λ d. renewal (own d) hit_call (held d)) ∙ both.1)
+  pub hit_may : (on : Bool) → r.bases.on ≡ on → MayCall s (hit_call on) y.held
+  hit_may on is = subst (MayCall s (hit_call on)) (sym held) (both on is).0
 
-  pub hit_made : y.setup ≡ s → (x z : View) → Commits y hit_call x → z ≡ record x { held = [] } → HitMade y w dev ev target ways z
-  hit_made own x z commits home = record {
+  pub hit_owes : (on : Bool) → r.bases.on ≡ on → y.setup ≡ s → (x : View) → Commits y (hit_call on) x → x.held ≡ two (delivered on r target)
+  hit_owes on is own x commits = ap (λ (u : View). u.held) commits.view ∙ ((λ d. renewal (own d) (hit_call on) (held d)) ∙ (both on is).1)
+
+  pub hit_made : (on : Bool) → r.bases.on ≡ on → y.setup ≡ s → (x z : View) → Commits y (hit_call on) x → z ≡ record x { held = [] }
+      → HitMade y w dev ev target ways on z
+  hit_made on is own x z commits home = record {
     made = x;
     commits = commits;
-    left = record r { pending = with_lpi target.intid.0 r.pending };
-    owes = hit_owes own x commits ∙ ap (λ (q : Setup). two_before (shard_number dev.0 ev.0 q.shards) target.vcpu ways
-        (record r { pending = with_lpi target.intid.0 r.pending }) []) (sym own);
+    left = delivered on r target;
+    owes = hit_owes on is own x commits ∙ ap (λ (q : Setup). two_before (shard_number dev.0 ev.0 q.shards) target.vcpu ways (delivered on r target) []) (sym own);
     home = home;
   }

@@ -1,5 +1,5 @@
 -- Signals by the maps: from what each step tells to what the call says.
-use Rattle.std.proofs.Common.{◌≡◌, ℕ, ◌<◌, true, List, [], Option, Some, Ok, ap, sym, ◌∙◌, arith}
+use Rattle.std.proofs.Common.{◌≡◌, ℕ, ◌<◌, true, List, [], Option, Some, Ok, refl, ap, sym, ◌∙◌, arith}
 use Rattle.its_types.specs.Lpis.{with_lpi}
 use Rattle.its_types.specs.declared.ids.DeviceId.{DeviceId}
 use Rattle.its_types.specs.declared.ids.EventId.{EventId}
@@ -47,7 +47,7 @@ module _ (s : Setup) (one : translator_count s ≡ 1) (vcpus : HasVcpus s) (dev 
   fill_leaves : (w : Word) → w.place < s.limits.place_last → MayLeave s (staying w (signal dev ev) (reply.Signal (Delivered target.vcpu target.intid))
       (Fill dev ev target)) three (owed w)
   fill_leaves w room =
-      let both = fills s w 0 dev ev target (translator_of t) ways r vcpus (omega (arith, one)) st sh room goes on in
+      let both = fills s w (signal dev ev) 0 dev ev target (translator_of t) ways r refl vcpus (omega (arith, one)) st sh room goes on in
       (both.0, both.1 ∙ ap (λ (k : ℕ). three_held n target.vcpu t (filled ways (entry dev ev k target)) after) (at_stamp s one w))
 
   pub fill_may : (w : Word) → w.place < s.limits.place_last → MayCall s (staying w (signal dev ev) (reply.Signal (Delivered target.vcpu target.intid))

@@ -15,7 +15,7 @@ use Rattle.its_steps.specs.Contents.{Content, Held}
 use Rattle.its_steps.specs.World.{View, Tries, took, lost_to}
 use Rattle.its_steps.specs.declared.change.ShardChange.{ShardChange}
 use Rattle.its_steps.specs.declared.commit.Commit.{Commit}
-use Rattle.its_turns.proofs.Telling.{goes_first, goes_looked, goes_took, goes_missed, goes_emptied, stays_from, lone_on}
+use Rattle.its_turns.proofs.Telling.{goes_first, goes_looked, goes_took, goes_missed, goes_emptied, stays_from, looked_from, lone_on}
 use Rattle.its_turns.proofs.Telling.{makes_from, made_emptied, placed_from, leaves_from}
 use Rattle.its_turns.specs.Calls.{Leaves, got_all, GoesOn}
 use Rattle.its_turns.specs.Contents.{held_before}
@@ -48,6 +48,7 @@ module _ (dev : DeviceId) (ev : EventId) (v : View) (bare : v.held ≡ []) where
           out = busy.out;
         },
         inl busy.part,
+        ap (λ (u : View). u.seen) busy.view,
       )
 
   maps_got : (got : List Part) (x : View) → AllByRecursion (IsOfSignal v.setup dev ev) got → Among (part.Maps 0) got → EarlyIs v x → MapsGot v dev ev got x
@@ -55,7 +56,7 @@ module _ (dev : DeviceId) (ev : EventId) (v : View) (bare : v.held ≡ []) where
 
   -- these turns were got, and now others are tried or the call is made
   module _ (got : List Part) (only : AllByRecursion (IsOfSignal v.setup dev ev) got) (among : Among (part.Maps 0) got) (z : View)
-      (on : GoesOn v (got_all got v.tries) z) (early : EarlyIs v z) where
+      (on : GoesOn v (got_all got v.tries) z) (seen : z.seen ≡ v.seen) (early : EarlyIs v z) where
     abbrev t : Tries
     t = got_all got v.tries
 
@@ -76,6 +77,7 @@ module _ (dev : DeviceId) (ev : EventId) (v : View) (bare : v.held ≡ []) where
             out = λ alone. busy.out (lone_on v z t on alone);
           },
           subst (IsOfSignal v.setup dev ev) (sym busy.part) of,
+          ap (λ (u : View). u.seen) home ∙ (ap (λ (u : View). u.seen) busy.view ∙ seen),
         )
 
     spent_later : (x : View) → LostFor z lost.Spent x → AsksMaps v dev ev x attempt.Spent
@@ -108,6 +110,8 @@ module _ (dev : DeviceId) (ev : EventId) (v : View) (bare : v.held ≡ []) where
             tries = gone.tries;
             room = subst (λ (u : View). r.expected.place < u.setup.limits.place_last) on.same l.loses.1;
             later = l.loses.2;
+            read = looked_from v z t on (λ P _. subst (AllByRecursion P) (sym bare) tt) (λ alone. l.loses.3 (lone_on v z t on alone)) r.expected y x l.loses.4
+                (sym (ap (λ (u : View). u.seen) l.home));
             last = ap (λ (u : View). u.last) l.home ∙ ap (λ (u : View). u.last) l.loses.0.same;
             out = λ alone. l.loses.3 (lone_on v z t on alone);
           },
@@ -153,12 +157,18 @@ module _ (v : View) (y : View) (c : Content) (first : y ≡ took v (part.Maps 0)
   pub first_on : GoesOn v (got_all (part.Maps 0 ∷ []) v.tries) y
   first_on = goes_took v v v.tries (goes_first v) y (part.Maps 0) c first
 
+  pub first_seen : y.seen ≡ v.seen
+  first_seen = ap (λ (u : View). u.seen) first
+
   pub first_early : EarlyIs v y
   first_early = record { early = ap (λ (u : View). u.cache.early) first; word = ap (λ (u : View). u.cache.early_word) first }
 
   module _ (n : ℕ) (z : View) (d : Content) (second : z ≡ took y (part.Shard 0 n) d) where
     pub second_on : GoesOn v (got_all (part.Shard 0 n ∷ part.Maps 0 ∷ []) v.tries) z
     second_on = goes_took v y (got_all (part.Maps 0 ∷ []) v.tries) first_on z (part.Shard 0 n) d second
+
+    pub second_seen : z.seen ≡ v.seen
+    second_seen = ap (λ (u : View). u.seen) second ∙ first_seen
 
     pub second_early : EarlyIs v z
     second_early = record {
@@ -170,6 +180,9 @@ module _ (v : View) (y : View) (c : Content) (first : y ≡ took v (part.Maps 0)
     module _ (u : Vcpu) (x : View) (e : Content) (third : x ≡ took z (part.Redist u) e) where
       pub third_on : GoesOn v (got_all (part.Redist u ∷ part.Shard 0 n ∷ part.Maps 0 ∷ []) v.tries) x
       third_on = goes_took v z (got_all (part.Shard 0 n ∷ part.Maps 0 ∷ []) v.tries) second_on x (part.Redist u) e third
+
+      pub third_seen : x.seen ≡ v.seen
+      third_seen = ap (λ (w : View). w.seen) third ∙ second_seen
 
       pub third_early : EarlyIs v x
       third_early = record {

@@ -28,5 +28,6 @@ abbrev pub AsksMaps : View → DeviceId → EventId → View → Attempt Signal 
 AsksMaps v dev ev x (attempt.Done p) = (got : List Part) × MapsGot v dev ev got x × IsPlaced v (signal dev ev) (reply.Signal p.reply) p.place x
     × Sends dev ev p.reply x × (x.tries ≡ got_all got v.tries)
 AsksMaps v dev ev x (attempt.Busy b) = (got : List Part) × MapsGot v dev ev got x × WasBusy v got b x × IsOfSignal v.setup dev ev b.part
+    × (x.seen ≡ v.seen)
 AsksMaps v dev ev x (attempt.Raced r) = (got : List Part) × MapsGot v dev ev got x × WasRaced v got r x
 AsksMaps v dev ev x attempt.Spent = (got : List Part) × MapsGot v dev ev got x × WasSpent v got x

@@ -1,14 +1,15 @@
 -- The outcome of the last steps of a signal by the cache: from the commit on.
-use Rattle.std.specs.Prelude.{◌≡◌, Option, List, []}
+use Rattle.std.specs.Prelude.{◌≡◌, Bool, true, false, Option, List, []}
+use Rattle.its_types.specs.Lpis.{with_lpi}
 use Rattle.its_types.specs.declared.ids.DeviceId.{DeviceId}
 use Rattle.its_types.specs.declared.ids.EventId.{EventId}
 use Rattle.its_types.specs.declared.ids.Target.{Target}
 use Rattle.its_types.specs.declared.machine.Word.{Word}
 use Rattle.its_plain.specs.declared.call.Reply.TheVariants as reply
-use Rattle.its_plain.specs.declared.call.Signal.TheVariants.{Delivered}
 use Rattle.xlate_cache.specs.Pairs.{shard_number}
 use Rattle.xlate_cache.specs.declared.entry.Entry.{Entry as Translation}
 use Rattle.its_steps.specs.Calls.{staying}
+use Rattle.its_steps.specs.MayCall.{met}
 use Rattle.its_plain.specs.Plain.{Redistributor}
 use Rattle.its_steps.specs.World.{View}
 use Rattle.its_steps.specs.declared.change.ShardChange.TheVariants.{Keep}
@@ -20,10 +21,15 @@ use Rattle.device_port.specs.Signals.{signal}
 use Rattle.device_port.specs.declared.hits.Now.{Now}
 use Rattle.device_port.specs.declared.hits.Now.TheVariants as now
 
+-- a redistributor that a message was sent to: the LPI is pending, where LPIs are on
+abbrev pub delivered : Bool → Redistributor → Target → Redistributor
+delivered true r t = record r { pending = with_lpi t.intid.0 r.pending }
+delivered false r t = r
+
 -- it was made, and both parts were put back
-pub record HitMade (y : View) (w : Word) (dev : DeviceId) (ev : EventId) (t : Target) (ways : List (Option Translation)) (x : View) : Type 0 where
+pub record HitMade (y : View) (w : Word) (dev : DeviceId) (ev : EventId) (t : Target) (ways : List (Option Translation)) (on : Bool) (x : View) : Type 0 where
   pub made : View
-  pub commits : Commits y (staying w (signal dev ev) (reply.Signal (Delivered t.vcpu t.intid)) Keep) made
+  pub commits : Commits y (staying w (signal dev ev) (reply.Signal (met on t)) Keep) made
   pub left : Redistributor
   pub owes : made.held ≡ two_before (shard_number dev.0 ev.0 y.setup.shards) t.vcpu ways left []
   pub home : x ≡ record made { held = [] }
@@ -35,6 +41,6 @@ pub record HitRaced (y : View) (w : Word) (r : Raced) (x : View) : Type 0 where
   pub home : x ≡ record left { held = [] }
 
 abbrev pub HitsNow : View → Word → DeviceId → EventId → Target → List (Option Translation) → View → Now → Type 0
-HitsNow y w dev ev t ways x (now.Done p) = (p.reply ≡ Delivered t.vcpu t.intid) × (p.place ≡ w.place) × HitMade y w dev ev t ways x
+HitsNow y w dev ev t ways x (now.Done p) = (on : Bool) × (p.reply ≡ met on t) × (p.place ≡ w.place) × HitMade y w dev ev t ways on x
 HitsNow y w dev ev t ways x (now.Raced r) = HitRaced y w r x
 HitsNow y w dev ev t ways x other = ⊥

@@ -1,5 +1,5 @@
 -- What the port of the devices answers.
-use Rattle.std.specs.Prelude.{◌≡◌, ◌⊎◌, ◌<◌, ◌≤◌, List, [], ◌∷◌, ◌++◌, length, Option, Some, None, Result, Ok, Err}
+use Rattle.std.specs.Prelude.{◌≡◌, ◌⊎◌, Bool, ◌<◌, ◌≤◌, List, [], ◌∷◌, ◌++◌, length, Option, Some, None, Result, Ok, Err}
 use Rattle.std.specs.List.{AllByRecursion}
 use Rattle.its_types.specs.declared.ids.DeviceId.{DeviceId}
 use Rattle.its_types.specs.declared.ids.EventId.{EventId}
@@ -17,6 +17,7 @@ use Rattle.its_plain.specs.declared.call.Signal.TheVariants.{Delivered, Dropped}
 use Rattle.xlate_cache.specs.Pairs.{shard_number}
 use Rattle.xlate_cache.specs.Ways.{found}
 use Rattle.its_steps.specs.Contents.{Looked}
+use Rattle.its_steps.specs.MayCall.{met}
 use Rattle.its_steps.specs.Parts.{Setup, stamp_of}
 use Rattle.its_steps.specs.World.{View}
 use Rattle.its_steps.specs.declared.change.ShardChange.TheVariants as change
@@ -47,14 +48,15 @@ FindsLast dev ev w target = Finds w.setup dev ev w.cache.looked w.last target
 
 -- ---- by the cache, tried once
 
+-- The word is read first. What is in the cache is delivered, or dropped where the target's LPIs are off
 abbrev pub SignalsNow : View → DeviceId → EventId → View → Now → Type 0
-SignalsNow v dev ev w (Done p) = (t : Target) × (p.reply ≡ Delivered t.vcpu t.intid) × IsPlaced v (signal dev ev) (reply.Signal p.reply) p.place w
+SignalsNow v dev ev w (Done p) = (t : Target) × (on : Bool) × (p.reply ≡ met on t) × IsPlaced v (signal dev ev) (reply.Signal p.reply) p.place w
     × Leaves change.Keep w
     × (w.tries ≡ got_all (part.Redist t.vcpu ∷ shard_of v.setup dev ev ∷ []) v.tries) × FindsLast dev ev w (Some t)
 SignalsNow v dev ev w Miss = Stays v w × (w.tries ≡ got_all (shard_of v.setup dev ev ∷ []) v.tries) × (length w.seen < v.setup.limits.place_last)
     × FindsLast dev ev w None
-SignalsNow v dev ev w (Busy b) = ((b.part ≡ shard_of v.setup dev ev) × WasBusy v [] b w)
-    ⊎ ((t : Target) × (b.part ≡ part.Redist t.vcpu) × WasBusy v (shard_of v.setup dev ev ∷ []) b w × FindsLast dev ev w (Some t))
+SignalsNow v dev ev w (Busy b) = (length w.seen < v.setup.limits.place_last) × (((b.part ≡ shard_of v.setup dev ev) × WasBusy v [] b w)
+    ⊎ ((t : Target) × (b.part ≡ part.Redist t.vcpu) × WasBusy v (shard_of v.setup dev ev ∷ []) b w × FindsLast dev ev w (Some t)))
 SignalsNow v dev ev w (Raced r) = (t : Target) × WasRaced v (part.Redist t.vcpu ∷ shard_of v.setup dev ev ∷ []) r w
 SignalsNow v dev ev w Spent = WasSpent v [] w
 
@@ -92,6 +94,7 @@ abbrev pub SignalsOnce : View → DeviceId → EventId → View → Attempt Sign
 SignalsOnce v dev ev w (attempt.Done p) = (got : List Part) × SignalGot v dev ev got w × IsPlaced v (signal dev ev) (reply.Signal p.reply) p.place w
     × Sends dev ev p.reply w × (w.tries ≡ got_all got v.tries)
 SignalsOnce v dev ev w (attempt.Busy b) = (got : List Part) × SignalGot v dev ev got w × WasBusy v got b w × IsOfSignal v.setup dev ev b.part
+    × (length w.seen < v.setup.limits.place_last)
 SignalsOnce v dev ev w (attempt.Raced r) = (got : List Part) × SignalGot v dev ev got w × WasRaced v got r w
 SignalsOnce v dev ev w attempt.Spent = (got : List Part) × SignalGot v dev ev got w × WasSpent v got w
 

@@ -1,17 +1,19 @@
 //! Signals by the cache, which wait for nobody.
 ghost use Rattle.std.specs.Prelude.{◌≡◌, ◌≤◌, ◌<◌, true, Some, []};
 ghost use Rattle.its_types.specs.Ranges.{is_lpi};
+ghost use Rattle.its_types.specs.declared.machine.Shape.{Shape};
 ghost use Rattle.owned_parts.specs.Owned.{redistributor_of, HasLpisOf};
 ghost use Rattle.xlate_cache.specs.Pairs.{shard_number};
 ghost use Rattle.xlate_cache.specs.Ways.{found};
+ghost use Rattle.its_steps.specs.MayCall as spec;
 ghost use Rattle.its_steps.specs.Parts.{vcpu_count};
 ghost use Rattle.its_turns.specs.Machines.{setup, view, IsOf};
 ghost use Rattle.device_port.specs.Hands.{two_before};
-ghost use Rattle.device_port.specs.Hits.{HitsNow};
+ghost use Rattle.device_port.specs.Hits.{HitsNow, delivered};
 ghost use Rattle.device_port.specs.Signals.{SignalsNow, KeepsEarly};
 
 use crate::home::put_two;
-use its_plain::{Call, Reply, Signal};
+use its_plain::{Call, Cause, Reply, Signal};
 use its_steps::{Commit, ShardChange};
 use its_turns::{
     Busy, Machine, Pass, Raced, Value, begin, commit, put, try_take_redist, try_take_shard,
@@ -23,7 +25,7 @@ use xlate_cache::Shard;
 /// What became of a signal by the cache.
 #[derive(Clone, Copy, Debug, PartialEq, Eq)]
 pub enum Now {
-    /// It was delivered.
+    /// It was delivered, or dropped where the LPIs of its target are off.
     Done(Placed<Signal>),
     /// The pair has no translation in the cache that is current.
     Miss,
@@ -110,10 +112,8 @@ fn hit<G: Gate>(
     ensures of { IsOf machine.now pass.new }
     ensures answer { HitsNow (view pass.old) word dev ev target shard (view pass.new) result }
 {
-    let signal = Signal::Delivered {
-        vcpu: target.vcpu,
-        intid: target.intid,
-    };
+    let on = redist.bases.on;
+    let signal = met(on, target);
     let made = Commit {
         expected: word,
         stamp: word.stamp,
@@ -125,7 +125,7 @@ fn hit<G: Gate>(
     match commit(machine, pass, &made) {
         Ok(place) => {
             gate.at(pass.number(), Point::AfterCommit);
-            redist.pending.set(target.intid);
+            deliver(&mut redist, on, target);
             put_two(machine, pass, number, target.vcpu, shard, redist);
             Now::Done(Placed {
                 place,
@@ -136,5 +136,31 @@ fn hit<G: Gate>(
             put_two(machine, pass, number, target.vcpu, shard, redist);
             Now::Raced(raced)
         }
+    }
+}
+
+// What becomes of a message for a target, by whether its LPIs are on.
+fn met(on: bool, target: Target) -> Signal
+    ensures { result ≡ spec.met on target }
+{
+    if on {
+        Signal::Delivered {
+            vcpu: target.vcpu,
+            intid: target.intid,
+        }
+    } else {
+        Signal::Dropped(Cause::LpisOff)
+    }
+}
+
+// The LPI is pending, where LPIs are on.
+fn deliver(redist: &mut Redist, on: bool, target: Target)
+    requires { is_lpi redist.old.pending.lpi_bits target.intid.0 ≡ true }
+    ensures left { redistributor_of redist.new
+        ≡ delivered on (redistributor_of redist.old) target }
+    ensures lpis { (s : Shape) → HasLpisOf s redist.old → HasLpisOf s redist.new }
+{
+    if on {
+        redist.pending.set(target.intid);
     }
 }

@@ -1,4 +1,4 @@
-use Rattle.std.proofs.Common.{arith, subst, ◌<◌, ℕ}
+use Rattle.std.proofs.Common.{arith, subst, refl, ◌<◌, ℕ}
 use Rattle.its_plain.specs.declared.call.Cause.TheVariants.{LpisOff}
 use Rattle.its_plain.specs.declared.call.Reply.TheVariants as reply
 use Rattle.its_plain.specs.declared.call.Signal.TheVariants.{Dropped}
@@ -19,7 +19,7 @@ try_commit-requires-clause-may g c = let m = c.args.machine.now in let s = setup
     let sh = subst (λ (n : ℕ). n < s.shards) c.requires.number.0 c.requires.number.1 in
     let held = three_held (shard_number c.args.dev.0 c.args.ev.0 s.shards) c.args.target.vcpu t c.args.shard r in
     may_here s (signal c.args.dev c.args.ev) (reply.Signal (Dropped LpisOff)) Keep held (λ _. held)
-    (λ w room. offs s w 0 c.args.dev c.args.ev c.args.target (translator_of t) c.args.shard r m.laid.1 (omega (arith, m.laid.0)) c.requires.vcpu sh room
+    (λ w room. offs s w (signal c.args.dev c.args.ev) 0 c.args.dev c.args.ev c.args.target (translator_of t) c.args.shard r refl m.laid.1 (omega (arith, m.laid.0)) c.requires.vcpu sh room
     c.requires.goes c.requires.off) (view c.args.pass.now) c.requires.held
 
 pub put_three-requires-clause-held : goal.put_three-requires-clause-held
@@ -28,6 +28,6 @@ put_three-requires-clause-held g c = let m = c.args.machine.now in let s = setup
     let sh = subst (λ (n : ℕ). n < s.shards) c.requires.number.0 c.requires.number.1 in
     let held = three_held (shard_number c.args.dev.0 c.args.ev.0 s.shards) c.args.target.vcpu t c.args.shard r in
     rw (c.requires.number.0) (owes_here s (signal c.args.dev c.args.ev) (reply.Signal (Dropped LpisOff)) Keep held (λ _. held)
-    (λ w room. offs s w 0 c.args.dev c.args.ev c.args.target (translator_of t) c.args.shard r m.laid.1 (omega (arith, m.laid.0)) c.requires.vcpu sh room
+    (λ w room. offs s w (signal c.args.dev c.args.ev) 0 c.args.dev c.args.ev c.args.target (translator_of t) c.args.shard r refl m.laid.1 (omega (arith, m.laid.0)) c.requires.vcpu sh room
     c.requires.goes c.requires.off) (view c.args.pass.now) c.requires.held c.requires.of.1 c.in-Ok.word
     (view c.try_commit.new.pass) c.in-Ok.ensures.result)

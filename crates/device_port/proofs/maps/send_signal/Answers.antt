@@ -9,7 +9,7 @@ use Rattle.its_steps.specs.World.{View}
 use Rattle.its_steps.specs.declared.change.ShardChange.TheVariants.{Keep, Fill}
 use Rattle.its_turns.specs.Contents.{translator_of, held_before}
 use Rattle.its_turns.specs.Machines.{setup, view}
-use Rattle.device_port.proofs.Sent.{busy_later, finished, first_on, first_early, second_on, second_early, third_on, third_early, emptied_one, emptied_two}
+use Rattle.device_port.proofs.Sent.{busy_later, finished, first_on, first_seen, first_early, second_on, second_seen, second_early, third_on, third_seen, third_early, emptied_one, emptied_two}
 use Rattle.device_port.proofs.Targets.{target_in}
 use Rattle.device_port.specs.Signals.{shard_of, FindsIfDone}
 use Rattle.device_port.proofs.maps.send_signal.Goals as goal
@@ -22,7 +22,7 @@ returns-in-Err-clause-answer g c v bare first =
     let p_is : part.Shard 0 n ≡ shard_of v.setup dev ev = ap (λ (k : ℕ). part.Shard 0 k) c.shard_of-number.ensures.number
     ∙ ap (λ (q : Setup). shard_of q dev ev) (sym own) in
     let b1 = view c.try_take_shard.new.pass in let busy = c.in-Err.ensures.result in
-    busy_later dev ev v bare (part.Maps 0 ∷ []) (inl refl, tt) (inl refl) y (first_on v y m first) (first_early v y m first) (part.Shard 0 n) c.in-Err.busy b1
+    busy_later dev ev v bare (part.Maps 0 ∷ []) (inl refl, tt) (inl refl) y (first_on v y m first) (first_seen v y m first) (first_early v y m first) (part.Shard 0 n) c.in-Err.busy b1
     (view c.put.new.pass) (inr (inl p_is)) busy
     (emptied_one b1 (view c.put.new.pass) c.put.ensures.view (ap (λ (u : View). held_before u.held) busy.view
     ∙ ap (λ (l : List Held). held_before l) c.requires.held))
@@ -43,7 +43,7 @@ returns-in-Err-try_take_redist-clause-answer g c v bare first =
     let held = ap (λ (w : View). held_before (held_before w.held)) busy.view ∙ (ap (λ (w : View). held_before (held_before w.held)) second
     ∙ ap (λ (l : List Held). held_before l) c.requires.held) in
     busy_later dev ev v bare (part.Shard 0 n ∷ part.Maps 0 ∷ []) (inr (inl p_is), (inl refl, tt)) (inr (inl refl)) z (second_on v y m first n z d second)
-    (second_early v y m first n z d second) (part.Redist u) c.in-Err-try_take_redist.busy b1
+    (second_seen v y m first n z d second) (second_early v y m first n z d second) (part.Redist u) c.in-Err-try_take_redist.busy b1
     (view c.put-in-Err-try_take_redist-2.new.pass) (inr (inr (u, refl))) busy
     (emptied_two b1 (view c.put-in-Err-try_take_redist.new.pass) (view c.put-in-Err-try_take_redist-2.new.pass) c.put-in-Err-try_take_redist.ensures.view
     c.put-in-Err-try_take_redist-2.ensures.view held)
@@ -72,7 +72,7 @@ returns-then-deref-clause-answer g c v bare first =
     Redist (redistributor_of c.in-Ok-try_take_redist.redist.value) in
     let x = view c.fill_signal.new.pass in
     finished dev ev v bare (part.Redist u ∷ part.Shard 0 n ∷ part.Maps 0 ∷ []) (inr (inr (u, refl)), (inr (inl p_is), (inl refl, tt))) (inr (inr (inl refl))) w
-    (third_on v y m first n z d second u w e third) (third_early v y m first n z d second u w e third)
+    (third_on v y m first n z d second u w e third) (third_seen v y m first n z d second u w e third) (third_early v y m first n z d second u w e third)
     (Delivered u c.args.target.intid) (Fill dev ev c.args.target) x c.fill_signal.result
     (λ p is l. (inr l, subst (FindsIfDone dev ev x (Some c.args.target)) is c.fill_signal.ensures.finds)) c.fill_signal.ensures.answer
 
@@ -87,5 +87,5 @@ returns-else-deref-clause-answer g c v bare first =
     let w = view c.try_take_redist.new.pass in let third = c.in-Ok-try_take_redist.ensures.result.0.view in let e =
     Redist (redistributor_of c.in-Ok-try_take_redist.redist.value) in
     finished dev ev v bare (part.Redist u ∷ part.Shard 0 n ∷ part.Maps 0 ∷ []) (inr (inr (u, refl)), (inr (inl p_is), (inl refl, tt))) (inr (inr (inl refl))) w
-    (third_on v y m first n z d second u w e third) (third_early v y m first n z d second u w e third)
+    (third_on v y m first n z d second u w e third) (third_seen v y m first n z d second u w e third) (third_early v y m first n z d second u w e third)
     (Dropped LpisOff) Keep (view c.off_signal.new.pass) c.off_signal.result (λ p is l. l) c.off_signal.ensures.answer

@@ -5,7 +5,7 @@ use Rattle.its_steps.specs.Contents.{Maps}
 use Rattle.its_steps.specs.declared.change.ShardChange.TheVariants.{Keep}
 use Rattle.its_turns.specs.Contents.{translator_of}
 use Rattle.its_turns.specs.Machines.{view}
-use Rattle.device_port.proofs.Sent.{busy_maps, finished, first_on, first_early}
+use Rattle.device_port.proofs.Sent.{busy_maps, finished, first_on, first_seen, first_early}
 use Rattle.device_port.proofs.maps.signal_by_maps.Goals as goal
 
 pub returns-in-Err-clause-answer : goal.returns-in-Err-clause-answer
@@ -15,7 +15,7 @@ returns-in-Err-clause-answer g c = busy_maps c.args.dev c.args.ev (view c.args.p
 pub returns-in-Err-locate-clause-answer : goal.returns-in-Err-locate-clause-answer
 returns-in-Err-locate-clause-answer g c = let v = view c.args.pass.now in let y = view c.try_take_maps.new.pass in let m =
     Maps (translator_of c.in-Ok.maps.value) in let e = c.in-Ok.ensures.result.view in
-    finished c.args.dev c.args.ev v c.requires.free (part.Maps 0 ∷ []) (inl refl, tt) (inl refl) y (first_on v y m e) (first_early v y m e)
+    finished c.args.dev c.args.ev v c.requires.free (part.Maps 0 ∷ []) (inl refl, tt) (inl refl) y (first_on v y m e) (first_seen v y m e) (first_early v y m e)
     (Dropped c.in-Err-locate.cause) Keep (view c.drop_signal.new.pass) c.drop_signal.result (λ p is l. l) c.drop_signal.ensures.answer
 
 pub returns-in-Ok-locate-clause-answer : goal.returns-in-Ok-locate-clause-answer

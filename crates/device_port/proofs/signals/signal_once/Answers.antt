@@ -20,5 +20,5 @@ returns-in-Spent-clause-answer g c = spent_then c.args.dev c.args.ev (view c.arg
 
 pub returns-in-Miss-clause-answer : goal.returns-in-Miss-clause-answer
 returns-in-Miss-clause-answer g c = let a = c.in-Miss.ensures.answer in
-    by_maps_then c.args.dev c.args.ev (view c.args.pass.now) (view c.try_signal.new.pass) (view c.signal_by_maps.new.pass) a.0 a.1 a.3
+    by_maps_then c.args.dev c.args.ev (view c.args.pass.now) (view c.try_signal.new.pass) (view c.signal_by_maps.new.pass) a.0 a.1 a.2 a.3
     c.try_signal.ensures.early c.signal_by_maps.result c.signal_by_maps.ensures.answer
