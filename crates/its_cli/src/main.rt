@@ -1,48 +1,39 @@
 //! The command `its`.
 #![tactic(auto)]
 
-mod check;
-#[cfg(test)]
-mod check_tests;
-#[cfg(test)]
-mod command_tests;
-#[cfg(test)]
-mod gicr_tests;
-#[cfg(test)]
-mod hostile_tests;
-mod its;
-mod legs;
-#[cfg(test)]
-mod migration_tests;
-mod play;
-mod refusals;
-mod say;
-mod status;
-mod streams;
-mod summarize;
-#[cfg(test)]
-mod tests;
-#[cfg(test)]
-mod thread_tests;
-
-use its::its;
 use its_io::{StdSink, StdSource};
+use its_top::{Status, its, refuse};
 use its_types::Open;
-use its_words::usage;
-use status::Status;
+use std::io::ErrorKind;
 use std::process::ExitCode;
 use std::{env, io};
 
-fn main(rt: HostRuntime) -> io::Result<ExitCode> {
+fn main(rt: HostRuntime) -> ExitCode {
+    let mut sink = StdSink::new(rt.stdout());
+    let status = match words(&rt) {
+        Ok(words) => {
+            let mut source = StdSource::new(rt.stdin());
+            its(&rt, rt.alloc(), &words, &mut source, &mut sink, &Open)
+        }
+        Err(error) => refuse(&mut sink, status_of(&error)),
+    };
+    ExitCode::from(status as u8)
+}
+
+/// The words of the command line.
+fn words(rt: &HostRuntime) -> io::Result<Vec<String>> {
     let mut words = Vec::new(rt.alloc());
-    for word in env::args(&rt)? {
+    for word in env::args(rt)? {
         words.push(word)?;
     }
-    let mut source = StdSource::new(rt.stdin());
-    let mut sink = StdSink::new(rt.stdout());
-    let status = its(&rt, rt.alloc(), &words, &mut source, &mut sink, &Open);
-    if status == Status::WordsRefused {
-        let _ = eprint!(rt; "{}", usage());
+    Ok(words)
+}
+
+/// How the command ends where its words can't be had: one isn't UTF-8, or memory ran out.
+fn status_of(error: &io::Error) -> Status {
+    if error.kind() == ErrorKind::InvalidData {
+        Status::WordsRefused
+    } else {
+        Status::Memory
     }
-    Ok(ExitCode::from(status as u8))
 }

@@ -8,24 +8,24 @@ use Rattle.its_plain.specs.declared.desc.DescFault.{DescFault}
 use Rattle.event_script.specs.Script.{script_of}
 use Rattle.event_script.specs.declared.fault.ScriptFault.{ScriptFault}
 use Rattle.event_script.specs.declared.script.Script.{Script}
-use Rattle.its_cli.specs.Legs.{AllEnd}
+use Rattle.its_top.specs.Legs.{AllEnd}
 use Rattle.its_words.specs.Words.{asked_of}
 use Rattle.its_words.specs.declared.words.Asked.{Asked}
 use Rattle.its_words.specs.declared.words.Asked.TheVariants.{Run, Check, Gen}
-use Rattle.its_cli.specs.Checked.{CheckCauses}
-use Rattle.its_cli.specs.Its.{Causes, RunCauses, WordsCauses, AskedCauses, IsScript, OfScript, IsReport, IsMigrationRefusal, IsSpentReport, IsCutShort}
-use Rattle.its_cli.specs.Its.{IsDecided, IsRunDecided, AskedDecides}
-use Rattle.its_cli.specs.Streams.{WasRead}
-use Rattle.its_cli.specs.Summarized.{GenCauses}
-use Rattle.its_cli.specs.Answered.{InputCauses, RunEnds, IsSoFar, StopsShort}
-use Rattle.its_cli.specs.declared.status.Status.{Status}
-use Rattle.its_cli.specs.declared.status.Status.TheVariants as status
-use Rattle.its_cli.proofs.Enabling.{partial_lpis}
-use Rattle.its_cli.proofs.Lines.{scripts_off}
-use Rattle.its_cli.proofs.Checks.{check_decided}
-use Rattle.its_cli.proofs.Once.{same_ok, not_both, first_once, made_once, too_short}
-use Rattle.its_cli.proofs.Migrations.{partial_run, part_of_none}
-use Rattle.its_cli.proofs.Endings.{ends_well, ends_spent, ends_refused, all_end_well}
+use Rattle.its_top.specs.Checked.{CheckCauses}
+use Rattle.its_top.specs.Its.{Causes, RunCauses, WordsCauses, AskedCauses, IsScript, OfScript, IsReport, IsMigrationRefusal, IsSpentReport, IsCutShort}
+use Rattle.its_top.specs.Its.{IsDecided, IsRunDecided, AskedDecides}
+use Rattle.its_top.specs.Streams.{WasRead}
+use Rattle.its_top.specs.Summarized.{GenCauses}
+use Rattle.its_top.specs.Answered.{InputCauses, RunEnds, IsSoFar, StopsShort}
+use Rattle.its_top.specs.declared.status.Status.{Status}
+use Rattle.its_top.specs.declared.status.Status.TheVariants as status
+use Rattle.its_top.proofs.Enabling.{partial_lpis}
+use Rattle.its_top.proofs.Lines.{scripts_off}
+use Rattle.its_top.proofs.Checks.{check_decided}
+use Rattle.its_top.proofs.Once.{same_ok, not_both, first_once, made_once, too_short}
+use Rattle.its_top.proofs.Migrations.{partial_run, part_of_none}
+use Rattle.its_top.proofs.Endings.{ends_well, ends_spent, ends_refused, all_end_well}
 
 -- ---- by what the words ask for
 

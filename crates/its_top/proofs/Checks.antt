@@ -15,13 +15,13 @@ use Rattle.its_history.specs.Reports.{reported}
 use Rattle.its_history.specs.declared.trace.Leg.{Leg as LegLines}
 use Rattle.trace_check.specs.Verdicts.{IsReportOfRun}
 use Rattle.report_reading.proofs.Reports.{run_reports}
-use Rattle.its_cli.specs.Checked.{CheckCauses, CheckSays, ReportCauses, OfReport, IsAgreement, IsDiffering, IsBadTrace, IsNoMachine, IsCheckInput}
-use Rattle.its_cli.specs.Checked.{read_report}
-use Rattle.its_cli.specs.Its.{IsCheckDecided}
-use Rattle.its_cli.specs.Streams.{WasRead}
-use Rattle.its_cli.specs.declared.status.Status.{Status}
-use Rattle.its_cli.specs.declared.status.Status.TheVariants as status
-use Rattle.its_cli.proofs.Once.{same_ok, not_both, first_once, made_once, too_short}
+use Rattle.its_top.specs.Checked.{CheckCauses, CheckSays, ReportCauses, OfReport, IsAgreement, IsDiffering, IsBadTrace, IsNoMachine, IsCheckInput}
+use Rattle.its_top.specs.Checked.{read_report}
+use Rattle.its_top.specs.Its.{IsCheckDecided}
+use Rattle.its_top.specs.Streams.{WasRead}
+use Rattle.its_top.specs.declared.status.Status.{Status}
+use Rattle.its_top.specs.declared.status.Status.TheVariants as status
+use Rattle.its_top.proofs.Once.{same_ok, not_both, first_once, made_once, too_short}
 
 -- ---- what was read and what it says
 

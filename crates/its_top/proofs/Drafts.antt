@@ -8,9 +8,9 @@ use Rattle.event_script.specs.Fields.{arg, number_within, any_number, address, p
 use Rattle.event_script.specs.Outcome.{ensure}
 use Rattle.event_script.specs.Description.{at_start, in_description, in_phase, in_thread, is_shard_count, describes_tables, is_given, register_values}
 use Rattle.event_script.specs.Description.{vcpus_line, shards_line, limits_line, ids_line, profile_line, window_line, config_line, pending_line, gicr_line}
-use Rattle.event_script.specs.Description.{restore_line, bytes_line, word_fill_line}
+use Rattle.event_script.specs.Description.{linux_line, restore_line, bytes_line, word_fill_line}
 use Rattle.event_script.specs.Calls.{signal_of, take_of, show_of, poke_of, word_of, command_call_of, peek_of, read_of, write_of, rread_of, rwrite_of, step_of}
-use Rattle.event_script.specs.Calls.{save_of}
+use Rattle.event_script.specs.Calls.{save_of, best_of, claim_of}
 use Rattle.event_script.specs.Body.{is_whole, may_go_on, threads_so_far, phases_so_far, legs_so_far, phase_line, thread_line, migrate_line, end_line}
 use Rattle.event_script.specs.Body.{call_line, gicr_call_line, word_line, keyword_line}
 use Rattle.event_script.specs.declared.fault.Kind.{Kind}
@@ -97,6 +97,12 @@ module _ (d : Draft) where
       bound P (ensure (describes_tables d && is_none d.config && list_all is_none d.pending) kind.Order) _ (λ _.
       bound P (ensure (nat_eq (length fs) 1) kind.Fields) _ (λ _. (record { registers = refl; gicr = λ _. refl }, refl)))
 
+  linux : (fs : List (List ℕ)) → IfOk (linux_line d fs) F
+  unfolding linux_line
+  linux fs =
+      bound F (ensure (in_description d.stage && not d.linux) kind.Order) _ (λ _.
+      bound F (ensure (nat_eq (length fs) 1) kind.Fields) _ (λ _. record { registers = refl; gicr = λ g. g }))
+
   restore : (fs : List (List ℕ)) → IfOk (restore_line d fs) F
   unfolding restore_line
   restore fs =
@@ -177,6 +183,7 @@ module _ (d : Draft) where
   line_follows n on.Restore fs other = restore fs
   line_follows n on.Gicr fs other = if_ok_both (λ e. e.gicr ≡ true) (gicr_line d fs) (gicr fs)
   line_follows n on.Rrestore fs other = absurd other
+  line_follows n on.Linux fs other = linux fs
   line_follows n on.Phase fs other = phase fs
   line_follows n on.Thread fs other = thread fs
   line_follows n on.Migrate fs other = migrate fs
@@ -184,6 +191,8 @@ module _ (d : Draft) where
   line_follows n on.Signal fs other = call (signal_of fs)
   line_follows n on.Take fs other = call (take_of (length d.pending) fs)
   line_follows n on.Show fs other = call (show_of (length d.pending) fs)
+  line_follows n on.Best fs other = call (best_of (length d.pending) fs)
+  line_follows n on.Claim fs other = call (claim_of (length d.pending) fs)
   line_follows n on.Poke fs other = call (poke_of fs)
   line_follows n on.Peek fs other = call (peek_of fs)
   line_follows n on.Command fs other = call (command_call_of fs)

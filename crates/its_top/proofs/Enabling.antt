@@ -6,7 +6,7 @@ use Rattle.its_plain.specs.declared.call.Entry.{Entry}
 use Rattle.lpi_enabling.proofs.Runs.{runs_follow, partial_runs_follow}
 use Rattle.lpi_enabling.proofs.Start.{start_off}
 use Rattle.event_script.specs.declared.script.Script.{Script}
-use Rattle.its_cli.specs.Its.{LpisFollow}
+use Rattle.its_top.specs.Its.{LpisFollow}
 
 pub run_lpis : (script : Script) (first : Plain) (histories : List (List Entry)) → IsRun first script.legs histories → LpisFollow script first histories
 run_lpis script first histories run starts off = runs_follow first script.legs histories (start_off script.desc first starts off) run

@@ -8,10 +8,10 @@ use Rattle.its_plain.specs.Runs.{Leg, IsLegRun, IsRun}
 use Rattle.its_plain.specs.declared.call.Entry.{Entry}
 use Rattle.its_plain.specs.declared.fault.SaveFault.{SaveFault}
 use Rattle.script_threads.specs.Legs.{call_count}
-use Rattle.its_cli.specs.Legs.{HasPlaces, HaveRun, CanMigrate, AllEnd}
-use Rattle.its_cli.specs.declared.status.Status.{Status}
-use Rattle.its_cli.specs.declared.status.Status.TheVariants as status
-use Rattle.its_cli.proofs.Migrations.{not_empty}
+use Rattle.its_top.specs.Legs.{HasPlaces, HaveRun, CanMigrate, AllEnd}
+use Rattle.its_top.specs.declared.status.Status.{Status}
+use Rattle.its_top.specs.declared.status.Status.TheVariants as status
+use Rattle.its_top.proofs.Migrations.{not_empty}
 
 pub not_savable : {X : Type 0} (u : Plain) (f : SaveFault) → savable u ≡ Err f → IsSavable u → X
 not_savable u f e can =

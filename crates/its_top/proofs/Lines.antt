@@ -29,8 +29,8 @@ use Rattle.event_script.specs.declared.words.Keyword.{Keyword}
 use Rattle.event_script.specs.declared.words.Keyword.TheVariants as on
 use Rattle.event_script.proofs.Steps.{bound, bound_by, ensured, chosen}
 use Rattle.lpi_enabling.specs.Enabling.{RestoresOff}
-use Rattle.its_cli.specs.Lines.{begins_with, StartsOff}
-use Rattle.its_cli.proofs.Drafts.{Follows, same, IsOther, line_follows, gicr_follows}
+use Rattle.its_top.specs.Lines.{begins_with, StartsOff}
+use Rattle.its_top.proofs.Drafts.{Follows, same, IsOther, line_follows, gicr_follows}
 
 -- ---- words
 
@@ -55,8 +55,9 @@ outline_other word none =
     (either (bytes_eq word (codes "config")) on.Config _ tt (either (bytes_eq word (codes "pending")) on.Pending _ tt
     (either (bytes_eq word (codes "restore")) on.Restore _ tt
     (either (bytes_eq word (codes "gicr")) on.Gicr _ tt
-    (not_here (bytes_eq word (codes "rrestore")) _ none (either (bytes_eq word (codes "migrate")) on.Migrate _ tt
-    (either (bytes_eq word (codes "end")) on.End _ tt (either (bytes_eq word (codes "trace")) on.Trace _ tt tt))))))))))))))))
+    (not_here (bytes_eq word (codes "rrestore")) _ none (either (bytes_eq word (codes "linux")) on.Linux _ tt
+    (either (bytes_eq word (codes "migrate")) on.Migrate _ tt
+    (either (bytes_eq word (codes "end")) on.End _ tt (either (bytes_eq word (codes "trace")) on.Trace _ tt tt)))))))))))))))))
 
 other : (word : List ℕ) → bytes_eq word (codes "rrestore") ≡ false → IfOk (keyword_of word) IsOther
 unfolding keyword_of
@@ -68,7 +69,8 @@ other word none =
     (either (bytes_eq word (codes "read")) on.Read _ tt (either (bytes_eq word (codes "poke")) on.Poke _ tt (either (bytes_eq word (codes "peek")) on.Peek _ tt
     (either (bytes_eq word (codes "word")) on.Word _ tt
     (either (bytes_eq word (codes "save")) on.Save _ tt (either (bytes_eq word (codes "rread")) on.Rread _ tt
-    (either (bytes_eq word (codes "rwrite")) on.Rwrite _ tt (outline_other word none)))))))))))))
+    (either (bytes_eq word (codes "rwrite")) on.Rwrite _ tt (either (bytes_eq word (codes "best")) on.Best _ tt
+    (either (bytes_eq word (codes "claim")) on.Claim _ tt (outline_other word none)))))))))))))))
 
 gicr_keyword : keyword_of (codes "gicr") ≡ Ok on.Gicr
 unfolding keyword_of outline_keyword_of

@@ -10,7 +10,7 @@ use Rattle.its_history.specs.Report.{leg_text, legs_from, report_text}
 use Rattle.its_history.specs.declared.trace.End.TheVariants.{Migrated, Done}
 use Rattle.its_history.specs.declared.trace.Leg.{Leg as LegLines}
 use Rattle.script_threads.specs.Legs.{call_count}
-use Rattle.its_cli.specs.Legs.{HasPlaces, HaveRun}
+use Rattle.its_top.specs.Legs.{HasPlaces, HaveRun}
 use Rattle.its_history.specs.Reports.{reported, migrated, ended}
 
 pub head_of : {X : Type 0} (x y : X) (xs ys : List X) → x ∷ xs ≡ y ∷ ys → x ≡ y

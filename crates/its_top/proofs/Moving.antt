@@ -14,7 +14,7 @@ use Rattle.its_turns.specs.Machines.{setup}
 use Rattle.its_turns.specs.declared.machine.Machine.{Machine}
 use Rattle.its_turns.specs.declared.machine.Pass.{Pass}
 use Rattle.its_turns.proofs.Described.{its_layout}
-use Rattle.its_cli.specs.Answered.{GoesOnWith, IsLegWhole, IsLegMigrated}
+use Rattle.its_top.specs.Answered.{GoesOnWith, IsLegWhole, IsLegMigrated}
 
 module _ (m n : Machine) (r s : Pass) (went : WentOn m r n s) where
   pub goes_on_with : GoesOnWith (setup m) (record { machine = n; root = s })

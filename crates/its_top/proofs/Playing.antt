@@ -20,7 +20,7 @@ use Rattle.script_threads.specs.Legs.{RanLeg}
 use Rattle.script_threads.specs.Rests.{Rests}
 use Rattle.script_threads.specs.declared.stop.Stop.{Stop}
 use Rattle.script_threads.specs.declared.stop.Stop.TheVariants.{Spent}
-use Rattle.its_cli.specs.Played.{IsAtRest, IsPlayed}
+use Rattle.its_top.specs.Played.{IsAtRest, IsPlayed}
 use Rattle.its_history.specs.Reports.{thread_counts}
 
 -- ---- a fresh machine

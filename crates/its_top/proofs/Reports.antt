@@ -18,9 +18,9 @@ use Rattle.trace_check.specs.Differences.{IsDifference}
 use Rattle.trace_check.specs.Verdicts.{IsReportOfRun}
 use Rattle.trace_check.specs.declared.verdict.Difference.{Difference}
 use Rattle.report_reading.proofs.Reports.{run_reports}
-use Rattle.its_cli.specs.Checked.{IsAgreement, IsBadTrace, IsDiffering, read_report}
-use Rattle.its_cli.specs.Refusals.{difference_text, trace_refusal}
-use Rattle.its_cli.proofs.Once.{same_ok, not_both}
+use Rattle.its_top.specs.Checked.{IsAgreement, IsBadTrace, IsDiffering, read_report}
+use Rattle.its_top.specs.Refusals.{difference_text, trace_refusal}
+use Rattle.its_top.proofs.Once.{same_ok, not_both}
 
 module _ (script : Script) (first : Plain) (report : List ℕ) (legs : List Leg) (n : ℕ) (same : legs ≡ script.legs) (count : n ≡ length legs) where
   abbrev Read : Result (List LegLines) ℕ → Type 0

@@ -17,16 +17,16 @@ use Rattle.its_history.specs.Report as report
 use Rattle.its_history.specs.declared.trace.End.{End}
 use Rattle.its_history.specs.declared.trace.EntryLine.{EntryLine}
 use Rattle.its_history.specs.Reports.{pending_lists, thread_counts}
-use Rattle.its_cli.specs.Played.{IsPlayed}
+use Rattle.its_top.specs.Played.{IsPlayed}
 use Rattle.its_steps.specs.Parts.{Setup, vcpu_count}
 use Rattle.its_plain.specs.declared.call.Entry.{Entry}
 use Rattle.script_threads.specs.Asks.{MayRunLeg}
 use Rattle.script_threads.proofs.Scripts.{legs_may_run_so}
-use Rattle.its_cli.specs.Refusals.{migration_refusal}
-use Rattle.its_cli.specs.Answered.{IsLegSpent, IsLegWhole, IsLegRefused, LegStops, LegEnds, IsSpentEnding}
-use Rattle.its_cli.specs.declared.legs.Ending.{Ending}
-use Rattle.its_cli.specs.declared.status.Status.{Status}
-use Rattle.its_cli.specs.declared.status.Status.TheVariants as status
+use Rattle.its_top.specs.Refusals.{migration_refusal}
+use Rattle.its_top.specs.Answered.{IsLegSpent, IsLegWhole, IsLegRefused, LegStops, LegEnds, IsSpentEnding}
+use Rattle.its_top.specs.declared.legs.Ending.{Ending}
+use Rattle.its_top.specs.declared.status.Status.{Status}
+use Rattle.its_top.specs.declared.status.Status.TheVariants as status
 
 -- ---- a leg that was played from its start
 

@@ -4,11 +4,11 @@ use Rattle.its_plain.specs.Described.{IsFirstState}
 use Rattle.its_plain.specs.Plain.{Plain}
 use Rattle.event_script.specs.Script.{script_of}
 use Rattle.event_script.specs.declared.script.Script.{Script}
-use Rattle.its_cli.specs.Its.{OfScript, IsReport, IsMigrationRefusal, IsSpentReport}
-use Rattle.its_cli.specs.Answered.{RunEnds, InputCauses, StopsShort, IsSoFar}
-use Rattle.its_cli.specs.declared.status.Status.{Status}
-use Rattle.its_cli.proofs.Lines.{scripts_off}
-use Rattle.its_cli.specs.declared.status.Status.TheVariants as status
+use Rattle.its_top.specs.Its.{OfScript, IsReport, IsMigrationRefusal, IsSpentReport}
+use Rattle.its_top.specs.Answered.{RunEnds, InputCauses, StopsShort, IsSoFar}
+use Rattle.its_top.specs.declared.status.Status.{Status}
+use Rattle.its_top.proofs.Lines.{scripts_off}
+use Rattle.its_top.specs.declared.status.Status.TheVariants as status
 
 module _ (input : List ℕ) (script : Script) (first made : Plain) (read : script_of input ≡ Ok script) (starts : IsFirstState script.desc made)
     (same : first ≡ made) where

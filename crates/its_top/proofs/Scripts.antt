@@ -10,15 +10,15 @@ use Rattle.event_script.specs.declared.script.Script.{Script}
 use Rattle.its_history.specs.Report.{leg_text, report_text}
 use Rattle.its_history.specs.declared.trace.End.TheVariants.{Migrated, Done}
 use Rattle.its_history.specs.declared.trace.Leg.{Leg as LegLines}
-use Rattle.its_cli.specs.Legs.{HaveRun}
+use Rattle.its_top.specs.Legs.{HaveRun}
 use Rattle.its_history.specs.Reports.{migrated, ended, cut_leg}
-use Rattle.its_cli.specs.Refusals.{spent_refusal, migration_refusal}
-use Rattle.its_cli.specs.Its.{IsReport, IsMigrationRefusal, IsSpentReport}
-use Rattle.its_cli.specs.Answered.{IsLegSpent, IsLegMigrated, IsLegRefused, IsLegDone, LegStops, LegEnds, RunEnds, IsSoFar}
-use Rattle.its_cli.specs.declared.status.Status.{Status}
-use Rattle.its_cli.specs.declared.status.Status.TheVariants as status
-use Rattle.its_cli.proofs.Enabling.{run_lpis, partial_lpis}
-use Rattle.its_cli.proofs.Migrations.{ran_more, migrated_more, as_many, report_more, whole_run, whole_places, whole_report, part_of_whole, partial_run}
+use Rattle.its_top.specs.Refusals.{spent_refusal, migration_refusal}
+use Rattle.its_top.specs.Its.{IsReport, IsMigrationRefusal, IsSpentReport}
+use Rattle.its_top.specs.Answered.{IsLegSpent, IsLegMigrated, IsLegRefused, IsLegDone, LegStops, LegEnds, RunEnds, IsSoFar}
+use Rattle.its_top.specs.declared.status.Status.{Status}
+use Rattle.its_top.specs.declared.status.Status.TheVariants as status
+use Rattle.its_top.proofs.Enabling.{run_lpis, partial_lpis}
+use Rattle.its_top.proofs.Migrations.{ran_more, migrated_more, as_many, report_more, whole_run, whole_places, whole_report, part_of_whole, partial_run}
 
 -- the first i legs ran, and the report is theirs
 pub record HasRunTo (script : Script) (first : Plain) (i : ℕ) (now : Plain) (report : List ℕ) : Type 0 where

@@ -16,7 +16,7 @@ use Rattle.its_turns.specs.Machines.{setup, view, IsOf}
 use Rattle.its_turns.specs.Opening.{setup_from}
 use Rattle.its_turns.specs.declared.machine.Machine.{Machine}
 use Rattle.its_turns.specs.declared.machine.Pass.{Pass}
-use Rattle.its_cli.specs.Played.{IsReady}
+use Rattle.its_top.specs.Played.{IsReady}
 
 pub parts_layout : (d : Desc) (u : Plain) (p : Parts) → IsFirstState d u → state_of_parts p ≡ u → p.layout ≡ layout_of d
 parts_layout d u p is same = ap (λ (x : Plain). x.layout) same ∙ first_layout d u is

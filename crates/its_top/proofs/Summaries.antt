@@ -18,8 +18,8 @@ use Rattle.its_migrate.specs.Resting.{pending_at_rest, resting}
 use Rattle.script_threads.specs.Legs.{RanLeg}
 use Rattle.script_gen.specs.Generated.{first_leg, generated}
 use Rattle.script_gen.specs.Laws.{CanMigrate}
-use Rattle.its_cli.specs.Summarized.{IsMade, pending_counts}
-use Rattle.its_cli.proofs.Endings.{not_savable}
+use Rattle.its_top.specs.Summarized.{IsMade, pending_counts}
+use Rattle.its_top.proofs.Endings.{not_savable}
 
 -- the script's first leg
 pub first_of : (signals threads : ℕ) (script : Script) (leg phases : Leg) → script ≡ generated signals threads → leg ≡ get_or script.legs 0 leg → phases ≡ leg

@@ -15,21 +15,21 @@ use Rattle.its_history.specs.declared.trace.End.{End}
 use Rattle.its_history.specs.declared.trace.End.TheVariants.{Migrated, Done}
 use Rattle.its_history.specs.declared.trace.EntryLine.{EntryLine}
 use Rattle.script_threads.specs.Legs.{call_count}
-use Rattle.its_cli.specs.Legs.{HaveRun}
+use Rattle.its_top.specs.Legs.{HaveRun}
 use Rattle.its_history.specs.Reports.{migrated, ended, cut_leg}
-use Rattle.its_cli.specs.Refusals.{spent_refusal, migration_refusal}
-use Rattle.its_cli.specs.Its.{OfScript, IsReport, IsScriptRefusal, IsMachineRefusal, IsMigrationRefusal, IsSpentReport}
-use Rattle.its_cli.specs.declared.its.Answer.{Answer}
-use Rattle.its_cli.specs.declared.its.Answer.TheVariants.{Answered, Refused}
+use Rattle.its_top.specs.Refusals.{spent_refusal, migration_refusal}
+use Rattle.its_top.specs.Its.{OfScript, IsReport, IsScriptRefusal, IsMachineRefusal, IsMigrationRefusal, IsSpentReport}
+use Rattle.its_top.specs.declared.its.Answer.{Answer}
+use Rattle.its_top.specs.declared.its.Answer.TheVariants.{Answered, Refused}
 use Rattle.its_steps.specs.Parts.{Setup, vcpu_count}
 use Rattle.its_turns.specs.Machines.{setup}
-use Rattle.its_cli.specs.Played.{IsFresh}
-use Rattle.its_cli.specs.declared.legs.Ending.{Ending}
-use Rattle.its_cli.specs.declared.legs.Goes.{Goes}
-use Rattle.its_cli.specs.declared.legs.Goes.TheVariants.{On, Ends}
-use Rattle.its_cli.specs.declared.legs.Shared.{Shared}
-use Rattle.its_cli.specs.declared.status.Status.{Status}
-use Rattle.its_cli.specs.declared.status.Status.TheVariants as status
+use Rattle.its_top.specs.Played.{IsFresh}
+use Rattle.its_top.specs.declared.legs.Ending.{Ending}
+use Rattle.its_top.specs.declared.legs.Goes.{Goes}
+use Rattle.its_top.specs.declared.legs.Goes.TheVariants.{On, Ends}
+use Rattle.its_top.specs.declared.legs.Shared.{Shared}
+use Rattle.its_top.specs.declared.status.Status.{Status}
+use Rattle.its_top.specs.declared.status.Status.TheVariants as status
 
 -- ---- a leg with a number, from a state on, and what its text makes of a report
 

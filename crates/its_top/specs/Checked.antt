@@ -1,5 +1,5 @@
 -- What `check` says of a script and a report.
-use Rattle.std.specs.Prelude.{◌≡◌, ◌≢◌, ℕ, ◌<◌, List, length, codes, Option, Result, Ok, Err, IfSome}
+use Rattle.std.specs.Prelude.{◌≡◌, ◌≢◌, ℕ, ◌<◌, List, [], length, codes, Option, Result, Ok, Err, IfSome}
 use Rattle.its_plain.specs.Plain.{Plain}
 use Rattle.its_plain.specs.Described.{IsFirstState, IsRefused}
 use Rattle.its_plain.specs.Runs.{IsRun}
@@ -16,10 +16,10 @@ use Rattle.its_history.specs.declared.trace.Leg.{Leg as LegLines}
 use Rattle.trace_check.specs.Differences.{IsDifference}
 use Rattle.trace_check.specs.Verdicts.{IsReportOfRun}
 use Rattle.trace_check.specs.declared.verdict.Difference.{Difference}
-use Rattle.its_cli.specs.Refusals.{script_refusal, machine_refusal, trace_refusal, difference_text}
-use Rattle.its_cli.specs.Streams.{WasRead}
-use Rattle.its_cli.specs.declared.status.Status.{Status}
-use Rattle.its_cli.specs.declared.status.Status.TheVariants as status
+use Rattle.its_top.specs.Refusals.{script_refusal, machine_refusal, trace_refusal, difference_text}
+use Rattle.its_top.specs.Streams.{WasRead}
+use Rattle.its_top.specs.declared.status.Status.{Status}
+use Rattle.its_top.specs.declared.status.Status.TheVariants as status
 
 -- the report of a run of the script, or its first line that hasn't the shape of one
 abbrev pub read_report : Script → List ℕ → Result (List LegLines) ℕ
@@ -89,7 +89,7 @@ pub record IsNoMachine (input text : List ℕ) : Type 0 where
   pub fault : DescFault
   pub read : check_of input ≡ Ok (script, lines)
   pub refused : IsRefused script.desc fault
-  pub same : text ≡ machine_refusal script.fill_lines fault
+  pub same : text ≡ machine_refusal script.fill_lines [] fault
 
 -- what is said to bytes that were read
 abbrev pub CheckSays : List ℕ → Status → List ℕ → Type 0

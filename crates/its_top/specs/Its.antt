@@ -13,21 +13,21 @@ use Rattle.event_script.specs.Script.{script_of, check_of}
 use Rattle.event_script.specs.declared.fault.ScriptFault.{ScriptFault}
 use Rattle.event_script.specs.declared.script.Script.{Script}
 use Rattle.its_history.specs.Report.{report_text}
-use Rattle.its_cli.specs.Streams.{IsAtEnd, WasRead}
-use Rattle.its_cli.specs.Lines.{StartsOff}
+use Rattle.its_top.specs.Streams.{IsAtEnd, WasRead}
+use Rattle.its_top.specs.Lines.{StartsOff}
 use Rattle.its_history.specs.declared.trace.Leg.{Leg as LegLines}
 use Rattle.its_words.specs.Words.{asked_of}
 use Rattle.its_words.specs.declared.words.Asked.{Asked}
 use Rattle.its_words.specs.declared.words.Asked.TheVariants.{Run, Check, Gen}
 use Rattle.script_threads.specs.Legs.{call_count}
-use Rattle.its_cli.specs.Legs.{HasPlaces, HaveRun, CanMigrate, AllEnd}
+use Rattle.its_top.specs.Legs.{HasPlaces, HaveRun, CanMigrate, AllEnd}
 use Rattle.its_history.specs.Reports.{reported, migrated, ended, cut_leg}
-use Rattle.its_cli.specs.Refusals.{script_refusal, machine_refusal, spent_refusal, migration_refusal}
+use Rattle.its_top.specs.Refusals.{script_refusal, machine_refusal, spent_refusal, migration_refusal}
 use Rattle.trace_check.specs.Verdicts.{IsReportOfRun}
-use Rattle.its_cli.specs.Checked.{CheckCauses, IsCheckInput, read_report}
-use Rattle.its_cli.specs.Summarized.{GenCauses}
-use Rattle.its_cli.specs.declared.status.Status.{Status}
-use Rattle.its_cli.specs.declared.status.Status.TheVariants as status
+use Rattle.its_top.specs.Checked.{CheckCauses, IsCheckInput, read_report}
+use Rattle.its_top.specs.Summarized.{GenCauses}
+use Rattle.its_top.specs.declared.status.Status.{Status}
+use Rattle.its_top.specs.declared.status.Status.TheVariants as status
 
 -- ---- some bytes
 
@@ -41,7 +41,7 @@ pub record IsMachineRefusal (input text : List ℕ) : Type 0 where
   pub fault : DescFault
   pub read : script_of input ≡ Ok script
   pub refused : IsRefused script.desc fault
-  pub same : text ≡ machine_refusal script.fill_lines fault
+  pub same : text ≡ machine_refusal script.fill_lines [] fault
 
 -- the bytes are a script, whose description makes a machine that starts in this state
 pub record IsScript (input : List ℕ) (script : Script) (first : Plain) : Type 0 where

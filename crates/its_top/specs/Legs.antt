@@ -6,8 +6,8 @@ use Rattle.its_plain.specs.Saved.{moved, IsSavable}
 use Rattle.its_plain.specs.Runs.{Leg, IsLegRun}
 use Rattle.its_plain.specs.declared.call.Entry.{Entry}
 use Rattle.script_threads.specs.Legs.{call_count}
-use Rattle.its_cli.specs.declared.status.Status.{Status}
-use Rattle.its_cli.specs.declared.status.Status.TheVariants as status
+use Rattle.its_top.specs.declared.status.Status.{Status}
+use Rattle.its_top.specs.declared.status.Status.TheVariants as status
 
 -- no leg has more calls than there are places
 abbrev pub HasPlaces : ℕ → List Leg → Type 0

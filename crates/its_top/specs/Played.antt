@@ -15,7 +15,7 @@ use Rattle.its_turns.specs.declared.machine.Machine.{Machine}
 use Rattle.its_turns.specs.declared.machine.Pass.{Pass}
 use Rattle.script_threads.specs.Legs.{call_count}
 use Rattle.its_history.specs.Reports.{thread_counts}
-use Rattle.its_cli.specs.declared.legs.Shared.{Shared}
+use Rattle.its_top.specs.declared.legs.Shared.{Shared}
 
 -- a machine with its root, and no call was made
 pub record IsFresh (m : Machine) (r : Pass) : Type 0 where

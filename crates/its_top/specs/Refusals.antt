@@ -1,5 +1,5 @@
 -- The lines of refusals.
-use Rattle.std.specs.Prelude.{ℕ, List, ◌++◌, codes, slice_index}
+use Rattle.std.specs.Prelude.{ℕ, ◌==◌, if◌then◌else◌, List, ◌++◌, codes, slice_index}
 use Rattle.std.specs.Fmt.{decimal}
 use Rattle.its_plain.specs.declared.desc.DescFault.{DescFault}
 use Rattle.its_plain.specs.declared.desc.DescFault.TheVariants as desc_fault
@@ -7,7 +7,7 @@ use Rattle.its_plain.specs.declared.fault.SaveFault.{SaveFault}
 use Rattle.event_script.specs.declared.fault.Kind.{Kind}
 use Rattle.event_script.specs.declared.fault.Kind.TheVariants as kind
 use Rattle.event_script.specs.declared.fault.ScriptFault.{ScriptFault}
-use Rattle.its_history.specs.Texts.{save_fault_text, restore_fault_text}
+use Rattle.its_history.specs.Texts.{its_mark, save_fault_text, restore_fault_text}
 use Rattle.trace_check.specs.declared.verdict.Difference.{Difference}
 
 unfoldable pub kind_text : Kind → List ℕ
@@ -24,16 +24,22 @@ kind_text kind.Many = codes "many"
 unfoldable pub script_refusal : ScriptFault → List ℕ
 script_refusal fault = codes "refused script " ++ decimal fault.line ++ codes " " ++ kind_text fault.kind ++ codes "\n"
 
--- of a script, whose fills stand in these lines
-unfoldable pub cause_text : List ℕ → DescFault → List ℕ
-cause_text lines desc_fault.Windows = codes "windows"
-cause_text lines desc_fault.Config = codes "config"
-cause_text lines (desc_fault.Pending vcpu) = codes "pending " ++ decimal vcpu.0
-cause_text lines (desc_fault.Bytes fill) = codes "bytes " ++ decimal (slice_index lines fill)
-cause_text lines (desc_fault.Restore fault) = codes "restore " ++ restore_fault_text fault
+-- where a translator's frames are described
+unfoldable pub frames_text : ℕ → List ℕ
+frames_text its = if its == 0 then codes "its-base" else codes "b-base"
 
-unfoldable pub machine_refusal : List ℕ → DescFault → List ℕ
-machine_refusal lines fault = codes "refused machine " ++ cause_text lines fault ++ codes "\n"
+-- of a script, whose fills stand in the first lines, and its requesters in the second
+unfoldable pub cause_text : List ℕ → List ℕ → DescFault → List ℕ
+cause_text fills requesters desc_fault.Windows = codes "windows"
+cause_text fills requesters desc_fault.Config = codes "config"
+cause_text fills requesters (desc_fault.Pending vcpu) = codes "pending " ++ decimal vcpu.0
+cause_text fills requesters (desc_fault.Bytes fill) = codes "bytes " ++ decimal (slice_index fills fill)
+cause_text fills requesters (desc_fault.Frames its) = frames_text its
+cause_text fills requesters (desc_fault.Requesters n) = codes "requester " ++ decimal (slice_index requesters n)
+cause_text fills requesters (desc_fault.Restore its fault) = codes "restore " ++ its_mark its ++ restore_fault_text fault
+
+unfoldable pub machine_refusal : List ℕ → List ℕ → DescFault → List ℕ
+machine_refusal fills requesters fault = codes "refused machine " ++ cause_text fills requesters fault ++ codes "\n"
 
 -- of a leg, by its number from 1
 

@@ -14,10 +14,10 @@ use Rattle.script_gen.specs.Generated.{generated, first_leg}
 use Rattle.script_gen.specs.Laws.{IsAsked}
 use Rattle.script_gen.specs.Summary.{counts_of, summary}
 use Rattle.script_gen.specs.declared.counts.Counts.{Counts}
-use Rattle.its_cli.specs.Played.{IsFresh}
-use Rattle.its_cli.specs.declared.legs.Shared.{Shared}
-use Rattle.its_cli.specs.declared.status.Status.{Status}
-use Rattle.its_cli.specs.declared.status.Status.TheVariants as status
+use Rattle.its_top.specs.Played.{IsFresh}
+use Rattle.its_top.specs.declared.legs.Shared.{Shared}
+use Rattle.its_top.specs.declared.status.Status.{Status}
+use Rattle.its_top.specs.declared.status.Status.TheVariants as status
 
 -- how many LPIs are pending at each virtual processor
 abbrev pub pending_counts : Plain → List ℕ

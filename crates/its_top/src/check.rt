@@ -3,7 +3,7 @@ ghost use Rattle.std.specs.Prelude.{IfOk};
 ghost use Rattle.std.specs.String.{string_bytes};
 ghost use Rattle.event_script.specs.Limits.{IsWithinLimits};
 ghost use Rattle.its_plain.specs.Described.{IsFirstState};
-ghost use Rattle.its_cli.specs.Checked.{CheckSays, ReportCauses};
+ghost use Rattle.its_top.specs.Checked.{CheckSays, ReportCauses};
 
 use crate::legs::Ending;
 use crate::refusals::{difference_text, machine_refusal, script_refusal, trace_refusal};
@@ -32,7 +32,7 @@ pub fn say_check(alloc: Global, input: &[u8]) -> Result<Ending, AllocError>
         Ok(machine) => machine,
         Err(MakeError::NoMemory) => return Err(AllocError),
         Err(MakeError::Fault(fault)) => {
-            let line = machine_refusal(alloc, input.script.fill_lines.as_slice(), fault)?;
+            let line = machine_refusal(alloc, input.script.fill_lines.as_slice(), &[], fault)?;
             let status = Status::MachineRefused;
             return Ok(Ending { status, line });
         }

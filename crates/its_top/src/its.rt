@@ -3,11 +3,11 @@ ghost use Rattle.std.specs.Prelude.{◌≡◌, ◌≢◌, ◌≤◌, ◌++◌, �
 ghost use Rattle.std.specs.String.{string_bytes};
 ghost use Rattle.its_io.specs.Bytes.{Appends};
 ghost use Rattle.its_io.specs.Count.{Rose};
-ghost use Rattle.its_cli.specs.Checked.{CheckCauses};
-ghost use Rattle.its_cli.specs.Its.{Causes, RunCauses, Reads, IsDecided};
-ghost use Rattle.its_cli.specs.Streams.{IsAtEnd};
-ghost use Rattle.its_cli.specs.Summarized.{GenCauses};
-ghost use Rattle.its_cli.specs.Answered.{AnswerIsCaused, MayEndWell, refusal_text};
+ghost use Rattle.its_top.specs.Checked.{CheckCauses};
+ghost use Rattle.its_top.specs.Its.{Causes, RunCauses, Reads, IsDecided};
+ghost use Rattle.its_top.specs.Streams.{IsAtEnd};
+ghost use Rattle.its_top.specs.Summarized.{GenCauses};
+ghost use Rattle.its_top.specs.Answered.{AnswerIsCaused, MayEndWell, refusal_text};
 ghost use Rattle.script_gen.specs.Laws.{IsAsked};
 
 use crate::check::say_check;
@@ -194,6 +194,18 @@ fn gen_command<R: Threads + Wait + Sync, G: Gate + Sync>(
         }),
         Err(AllocError) => Answer::Refused(Status::Memory),
     }
+}
+
+/// Ends with this status before the command's words are known, if its line is printed.
+pub fn refuse<K: Sink>(sink: &mut K, status: Status) -> Status
+    requires { status ≢ Status.WriteFault }
+    ensures printed { result ≢ Status.WriteFault →
+        (result ≡ status) × Appends (K.held sink.old) (K.held sink.new) (refusal_text status) }
+    ensures write_fault { result ≡ Status.WriteFault → Rose (K.faults sink.old) (K.faults sink.new)
+        × ((n : ℕ) × Appends (K.held sink.old) (K.held sink.new)
+        (take n (refusal_text status))) }
+{
+    print(sink, "", refusal(status), status)
 }
 
 // The line of a status that needs no more words.

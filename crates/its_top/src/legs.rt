@@ -1,13 +1,13 @@
 //! A run of a script: its legs, with a migration of the machine between each two.
-ghost use Rattle.std.specs.Prelude.{◌≡◌, ◌++◌, ◌≤◌, [], IfOk, OnErr, length, map};
+ghost use Rattle.std.specs.Prelude.{◌≡◌, ◌++◌, ◌≤◌, [], None, IfOk, OnErr, OnOk, codes, length, map};
 ghost use Rattle.std.specs.List.{AllByRecursion};
 ghost use Rattle.std.specs.String.{string_bytes};
 ghost use Rattle.its_turns.specs.Machines.{setup};
 ghost use Rattle.script_threads.specs.Asks.{MayRunLeg};
 ghost use Rattle.its_history.specs.Report as history;
 ghost use Rattle.its_migrate.specs.Resting.{resting};
-ghost use Rattle.its_cli.specs.Answered.{RunEnds, IsSoFar, LegGoes, LegIsLast, IsSpentEnding};
-ghost use Rattle.its_cli.specs.Played.{IsFresh, IsAtRest, IsReady};
+ghost use Rattle.its_top.specs.Answered.{RunEnds, IsSoFar, LegGoes, LegIsLast, IsSpentEnding};
+ghost use Rattle.its_top.specs.Played.{IsFresh, IsAtRest, IsReady};
 ghost use Rattle.its_history.specs.Reports as spec;
 
 use crate::play::play_leg;
@@ -22,6 +22,9 @@ use its_types::{Gate, Listed};
 use std::alloc::{AllocError, Global};
 use std::sync::Wait;
 use std::thread::Threads;
+
+/// The last line of a leg after which the machine was migrated.
+const MIGRATED: &str = "migrated\n";
 
 /// How a run ended: its status, and the line after the report, which is a refusal's or has no
 /// bytes.
@@ -112,21 +115,15 @@ fn run_leg<R: Threads + Wait + Sync, G: Gate + Sync>(
         return Ok(Goes::Ends(ending));
     }
     let texts = pending_texts(alloc, &machine, &mut root)?;
+    let text = open_text(alloc, report, number, played.lines, texts)?;
     match migrate(alloc, machine, root) {
         Ok((machine, root)) => {
-            add_leg(
-                alloc,
-                report,
-                number,
-                played.lines,
-                texts,
-                Some(End::Migrated),
-            )?;
+            add_migrated(report, text)?;
             Ok(Goes::On(Shared { machine, root }))
         }
         Err((_, _, SaveError::Fault(fault))) => {
             let line = migration_refusal(alloc, number, fault)?;
-            add_leg(alloc, report, number, played.lines, texts, None)?;
+            add_text(report, text)?;
             let status = Status::MigrationRefused;
             Ok(Goes::Ends(Ending { status, line }))
         }
@@ -186,7 +183,57 @@ fn end_spent(
     })
 }
 
+/// The text of a leg but for its last line. It has room for that line, and the report for both, so
+/// that neither is lost once the machine is migrated.
+fn open_text(
+    alloc: Global,
+    report: &mut String,
+    number: u64,
+    lines: Vec<EntryLine>,
+    pending: Listed<Text>,
+) -> Result<String, AllocError>
+    ensures text { IfOk result (λ text.
+        string_bytes text ≡ history.leg_text number
+        (record { entries = lines.items; pending = pending; end = None })) }
+    ensures same { string_bytes report.new ≡ string_bytes report.old }
+{
+    let leg = Leg {
+        entries: Listed::from_vec(lines),
+        pending,
+        end: None,
+    };
+    let mut text = leg_text(alloc, number, &leg)?;
+    text.reserve(MIGRATED.len())?;
+    if !report.is_empty() {
+        report.reserve(text.capacity())?;
+    }
+    Ok(text)
+}
+
+/// Adds the text of a leg after which the machine was migrated.
+fn add_migrated(report: &mut String, mut text: String) -> Result<(), AllocError>
+    ensures ok { OnOk result (string_bytes report.new
+        ≡ string_bytes report.old ++ (string_bytes text ++ codes "migrated\n")) }
+    ensures err { OnErr result (string_bytes report.new ≡ string_bytes report.old) }
+{
+    text.push_str(MIGRATED)?;
+    add_text(report, text)
+}
+
 /// Adds the text of a leg. The first leg's is the report so far, without a copy.
+fn add_text(report: &mut String, text: String) -> Result<(), AllocError>
+    ensures ok { OnOk result
+        (string_bytes report.new ≡ string_bytes report.old ++ string_bytes text) }
+    ensures err { OnErr result (string_bytes report.new ≡ string_bytes report.old) }
+{
+    if report.is_empty() {
+        *report = text;
+        return Ok(());
+    }
+    report.push_str(text.as_str())
+}
+
+/// Adds a leg.
 fn add_leg(
     alloc: Global,
     report: &mut String,
@@ -207,11 +254,7 @@ fn add_leg(
         end,
     };
     let text = leg_text(alloc, number, &leg)?;
-    if report.is_empty() {
-        *report = text;
-        return Ok(());
-    }
-    report.push_str(text.as_str())
+    add_text(report, text)
 }
 
 /// What is pending at each virtual processor of a machine at rest.

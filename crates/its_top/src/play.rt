@@ -3,7 +3,7 @@ ghost use Rattle.std.specs.Prelude.{◌≡◌, ◌≤◌, IfOk, length};
 ghost use Rattle.std.specs.List.{AllByRecursion};
 ghost use Rattle.its_turns.specs.Machines.{setup, view};
 ghost use Rattle.script_threads.specs.Asks.{MayRunLeg};
-ghost use Rattle.its_cli.specs.Played.{IsFresh, IsAtRest, IsPlayed};
+ghost use Rattle.its_top.specs.Played.{IsFresh, IsAtRest, IsPlayed};
 
 use event_script::Phase;
 use its_history::{EntryLine, merge_gives, merge_lines};

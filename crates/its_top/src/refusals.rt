@@ -2,10 +2,10 @@
 ghost use Rattle.std.specs.Prelude.{◌≡◌, ◌++◌, IfOk, OnOk, slice_index};
 ghost use Rattle.std.specs.String.{string_bytes};
 ghost use Rattle.its_history.specs.Texts as history;
-ghost use Rattle.its_cli.specs.Refusals as spec;
+ghost use Rattle.its_top.specs.Refusals as spec;
 
 use event_script::{Kind, ScriptFault};
-use its_history::{restore_fault_text, save_fault_text};
+use its_history::{its_mark, restore_fault_text, save_fault_text};
 use its_plain::{DescFault, RestoreFault, SaveFault};
 use std::alloc::{AllocError, Global};
 use std::fmt::Write;
@@ -40,17 +40,19 @@ fn kind_name(kind: Kind) -> &'static str
     }
 }
 
-/// Of a script, whose fills stand in these lines.
+/// Of a script, whose fills and whose requesters stand in these lines.
 #[tactic(auto, unfolding(crate::specs::Refusals::machine_refusal))]
 pub fn machine_refusal(
     alloc: Global,
     fill_lines: &[u64],
+    requester_lines: &[u64],
     fault: DescFault,
 ) -> Result<String, AllocError>
-    ensures { IfOk result (λ text. string_bytes text ≡ spec.machine_refusal fill_lines.now fault) }
+    ensures { IfOk result (λ text. string_bytes text
+        ≡ spec.machine_refusal fill_lines.now requester_lines.now fault) }
 {
     let mut text = String::from_str(alloc, "refused machine ")?;
-    push_cause(alloc, &mut text, fill_lines, fault)?;
+    push_cause(alloc, &mut text, fill_lines, requester_lines, fault)?;
     text.push_str("\n")?;
     Ok(text)
 }
@@ -60,10 +62,11 @@ fn push_cause(
     alloc: Global,
     text: &mut String,
     fill_lines: &[u64],
+    requester_lines: &[u64],
     fault: DescFault,
 ) -> Result<(), AllocError>
-    ensures { OnOk result
-        (string_bytes text.new ≡ string_bytes text.old ++ spec.cause_text fill_lines.now fault) }
+    ensures { OnOk result (string_bytes text.new ≡ string_bytes text.old
+        ++ spec.cause_text fill_lines.now requester_lines.now fault) }
 {
     match fault {
         DescFault::Windows => text.push_str("windows"),
@@ -73,18 +76,32 @@ fn push_cause(
             let line = line_of(fill_lines, fill);
             write!(text, "bytes {line}")
         }
-        DescFault::Restore(fault) => {
+        DescFault::Frames(its) => text.push_str(frames_name(its)),
+        DescFault::Requesters(number) => {
+            let line = line_of(requester_lines, number);
+            write!(text, "requester {line}")
+        }
+        DescFault::Restore(its, fault) => {
             text.push_str("restore ")?;
+            text.push_str(its_mark(its))?;
             push_offence(alloc, text, fault)
         }
     }
 }
 
-// The line of a fill by its number from 0.
-fn line_of(fill_lines: &[u64], fill: u64) -> u64
-    ensures { result ≡ slice_index fill_lines.now fill }
+// Where a translator's frames are described.
+#[tactic(auto, unfolding(crate::specs::Refusals::frames_text))]
+fn frames_name(its: u8) -> &'static str
+    ensures { result.now ≡ spec.frames_text its }
 {
-    match fill_lines.get(fill as usize) {
+    if its == 0 { "its-base" } else { "b-base" }
+}
+
+// The line of a fill, or of requesters, by their number from 0.
+fn line_of(lines: &[u64], number: u64) -> u64
+    ensures { result ≡ slice_index lines.now number }
+{
+    match lines.get(number as usize) {
         Some(line) => *line,
         None => 0,
     }

@@ -4,8 +4,8 @@ ghost use Rattle.std.specs.String.{string_bytes};
 ghost use Rattle.event_script.specs.Limits.{IsWithinLimits};
 ghost use Rattle.its_plain.specs.Described.{IsFirstState};
 ghost use Rattle.its_turns.specs.Machines.{setup};
-ghost use Rattle.its_cli.specs.Answered.{InputCauses, StopsShort};
-ghost use Rattle.its_cli.specs.Played.{IsReady};
+ghost use Rattle.its_top.specs.Answered.{InputCauses, StopsShort};
+ghost use Rattle.its_top.specs.Played.{IsReady};
 
 use crate::legs::{Ending, Shared, run};
 use crate::refusals::{machine_refusal, script_refusal};
@@ -45,7 +45,7 @@ pub fn say<R: Threads + Wait + Sync, G: Gate + Sync>(
         Ok(machine) => machine,
         Err(MakeError::NoMemory) => return Err(AllocError),
         Err(MakeError::Fault(fault)) => {
-            let line = machine_refusal(alloc, script.fill_lines.as_slice(), fault)?;
+            let line = machine_refusal(alloc, script.fill_lines.as_slice(), &[], fault)?;
             let status = Status::MachineRefused;
             return Ok(Ending { status, line });
         }

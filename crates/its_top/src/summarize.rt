@@ -4,8 +4,8 @@ ghost use Rattle.std.specs.String.{string_bytes};
 ghost use Rattle.its_plain.specs.Described.{IsFirstState};
 ghost use Rattle.its_turns.specs.Machines.{setup};
 ghost use Rattle.script_gen.specs.Laws.{IsAsked};
-ghost use Rattle.its_cli.specs.Played.{IsFresh, IsReady};
-ghost use Rattle.its_cli.specs.Summarized as spec;
+ghost use Rattle.its_top.specs.Played.{IsFresh, IsReady};
+ghost use Rattle.its_top.specs.Summarized as spec;
 
 use crate::legs::Shared;
 use crate::say::share;

@@ -1,6 +1,6 @@
 //! Reports that are checked, as they were printed and spoiled, and summaries.
-use crate::status::Status;
-use crate::tests::{MACHINE, MAPPED, answer, script};
+use its_top::Status;
+use crate::runs::{MACHINE, MAPPED, answer, script};
 use std::alloc::{AllocError, Global};
 use std::str;
 use std::sync::Wait;

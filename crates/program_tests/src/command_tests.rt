@@ -1,6 +1,6 @@
 //! Registers and commands, by short runs.
-use crate::status::Status;
-use crate::tests::{MACHINE, MAPPED, tells};
+use its_top::Status;
+use crate::runs::{MACHINE, MAPPED, tells};
 
 #[test]
 fn registers_answer(rt: HostRuntime) {

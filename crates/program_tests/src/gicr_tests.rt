@@ -1,6 +1,6 @@
 //! Redistributors whose LPI registers the guest programs, by short runs.
-use crate::status::Status;
-use crate::tests::{MAPPED, tells};
+use its_top::Status;
+use crate::runs::{MAPPED, tells};
 
 /// A machine with four processors, whose LPIs are off.
 const PROGRAMMED: &str = "vcpus 4

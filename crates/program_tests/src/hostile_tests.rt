@@ -1,7 +1,7 @@
 //! Scripts, machines and tables that are refused, and streams that fail.
-use crate::its::its;
-use crate::status::Status;
-use crate::tests::{MACHINE, MAPPED, answer, script, tells, words};
+use its_top::its;
+use its_top::Status;
+use crate::runs::{MACHINE, MAPPED, answer, script, tells, words};
 use its_io::{MemSink, MemSource, SureSink, SureSource};
 use its_types::Open;
 use std::alloc::Global;

@@ -1,6 +1,6 @@
 //! Live saves, migrations and restored machines, by short runs.
-use crate::status::Status;
-use crate::tests::{MACHINE, MAPPED, tells};
+use its_top::Status;
+use crate::runs::{MACHINE, MAPPED, tells};
 
 #[test]
 fn tables_are_saved_and_restored(rt: HostRuntime) {

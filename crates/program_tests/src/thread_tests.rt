@@ -1,7 +1,7 @@
 //! Threads beside each other, and what a gate shows of them.
-use crate::its::its;
-use crate::status::Status;
-use crate::tests::{MACHINE, MAPPED, tells, words};
+use its_top::its;
+use its_top::Status;
+use crate::runs::{MACHINE, MAPPED, tells, words};
 use its_io::{SureSink, SureSource};
 use its_types::{Gate, Open, Point};
 use std::alloc::{AllocError, Global};

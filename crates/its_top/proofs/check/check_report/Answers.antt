@@ -1,7 +1,7 @@
 use Rattle.std.proofs.Common.{refl, rules}
 use Rattle.its_plain.specs.Sound.{IsSound}
-use Rattle.its_cli.proofs.Reports.{has_shape, agrees, differs, is_bad}
-use Rattle.its_cli.proofs.check.check_report.Goals as goal
+use Rattle.its_top.proofs.Reports.{has_shape, agrees, differs, is_bad}
+use Rattle.its_top.proofs.check.check_report.Goals as goal
 
 pub check-requires : goal.check-requires
 check-requires c =

@@ -2,8 +2,8 @@ use Rattle.std.proofs.Common.{◌≡◌, map, take, List, ℕ, ap, ◌∙◌}
 use Rattle.std.proofs.lemmas.List.{take_all}
 use Rattle.its_types.specs.declared.ids.Intid.{Intid}
 use Rattle.its_history.specs.Report as report
-use Rattle.its_cli.proofs.Playing.{still_rests, texts_of}
-use Rattle.its_cli.proofs.legs.pending_texts.Goals as goal
+use Rattle.its_top.proofs.Playing.{still_rests, texts_of}
+use Rattle.its_top.proofs.legs.pending_texts.Goals as goal
 
 pub returns-clause-rests : goal.returns-clause-rests
 returns-clause-rests c = still_rests c.args.machine.now c.args.root.now c.pending.new.root c.requires.rests c.pending.ensures.of c.pending.ensures.rests

@@ -2,10 +2,10 @@ use Rattle.std.proofs.Common.{arith, ℕ, List, [], drop, ◌+◌, sym, subst, �
 use Rattle.std.specs.String.{string_bytes}
 use Rattle.its_types.specs.declared.machine.Limits.{Limits}
 use Rattle.its_turns.specs.Machines.{setup}
-use Rattle.its_cli.specs.Answered.{IsSoFar, IsLegMigrated, LegStops, LegEnds}
-use Rattle.its_cli.proofs.Runs.{leg_may}
-use Rattle.its_cli.proofs.Scripts.{earlier_leg, final_leg, leg_behind, stops_here, ends_here, goes_on, so_far, on_err}
-use Rattle.its_cli.proofs.legs.run.Goals as goal
+use Rattle.its_top.specs.Answered.{IsSoFar, IsLegMigrated, LegStops, LegEnds}
+use Rattle.its_top.proofs.Runs.{leg_may}
+use Rattle.its_top.proofs.Scripts.{earlier_leg, final_leg, leg_behind, stops_here, ends_here, goes_on, so_far, on_err}
+use Rattle.its_top.proofs.legs.run.Goals as goal
 
 pub run_leg-requires-clause-phases : goal.run_leg-requires-clause-phases
 run_leg-requires-clause-phases g c κs within =

@@ -1,9 +1,9 @@
 use Rattle.std.proofs.Common.{◌≡◌, ◌+◌}
 use Rattle.std.specs.String.{string_bytes}
 use Rattle.its_turns.specs.Machines.{setup}
-use Rattle.its_cli.specs.Played.{IsReady}
-use Rattle.its_cli.proofs.Scripts.{HasRunTo}
-use Rattle.its_cli.proofs.legs.run.Given as goal
+use Rattle.its_top.specs.Played.{IsReady}
+use Rattle.its_top.proofs.Scripts.{HasRunTo}
+use Rattle.its_top.proofs.legs.run.Given as goal
 
 abbrev pub invariant-loop-leg : goal.invariant-loop-leg
 invariant-loop-leg g l = record {

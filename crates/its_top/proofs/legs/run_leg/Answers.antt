@@ -3,9 +3,9 @@ use Rattle.std.specs.String.{string_bytes}
 use Rattle.its_history.specs.declared.trace.End.TheVariants.{Migrated}
 use Rattle.its_migrate.specs.Resting.{resting}
 use Rattle.its_turns.specs.Machines.{setup, view}
-use Rattle.its_cli.proofs.Moving.{goes_on_with, is_migrated}
-use Rattle.its_cli.proofs.Runs.{is_whole, is_refused}
-use Rattle.its_cli.proofs.legs.run_leg.Goals as goal
+use Rattle.its_top.proofs.Moving.{goes_on_with, is_migrated}
+use Rattle.its_top.proofs.Runs.{is_whole, is_refused}
+use Rattle.its_top.proofs.legs.run_leg.Goals as goal
 
 pub returns-in_ok-add_leg-in-Ok-clause-ok : goal.returns-in_ok-add_leg-in-Ok-clause-ok
 returns-in_ok-add_leg-in-Ok-clause-ok g c =

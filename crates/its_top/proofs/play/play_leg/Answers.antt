@@ -1,6 +1,6 @@
 use Rattle.its_turns.specs.Machines.{setup, view}
-use Rattle.its_cli.proofs.Playing.{first_rests, first_made, first_seen}
-use Rattle.its_cli.proofs.play.play_leg.Goals as goal
+use Rattle.its_top.proofs.Playing.{first_rests, first_made, first_seen}
+use Rattle.its_top.proofs.play.play_leg.Goals as goal
 
 pub run_leg-requires-clause-rests : goal.run_leg-requires-clause-rests
 run_leg-requires-clause-rests g c κs within = first_rests (setup c.args.machine.now) (view c.args.root.now) c.requires.fresh.view

@@ -3,8 +3,8 @@ use Rattle.event_script.proofs.Bounds.{scripts_fit}
 use Rattle.event_script.specs.Limits.{IsWithinLimits}
 use Rattle.event_script.specs.declared.fault.ScriptFault.{ScriptFault}
 use Rattle.event_script.specs.declared.script.Script.{Script}
-use Rattle.its_cli.proofs.Saying.{run_said, so_far_said}
-use Rattle.its_cli.proofs.say.say.Goals as goal
+use Rattle.its_top.proofs.Saying.{run_said, so_far_said}
+use Rattle.its_top.proofs.say.say.Goals as goal
 
 pub new-requires : goal.new-requires
 new-requires g c =

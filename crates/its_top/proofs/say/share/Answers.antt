@@ -1,5 +1,5 @@
-use Rattle.its_cli.proofs.Sharing.{parts_layout, is_ready}
-use Rattle.its_cli.proofs.say.share.Goals as goal
+use Rattle.its_top.proofs.Sharing.{parts_layout, is_ready}
+use Rattle.its_top.proofs.say.share.Goals as goal
 
 pub new-requires-clause-layout : goal.new-requires-clause-layout
 new-requires-clause-layout c = parts_layout c.args.script.now.desc c.args.made c.into_parts.result c.requires.first c.into_parts.ensures.state

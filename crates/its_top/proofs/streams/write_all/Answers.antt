@@ -1,7 +1,7 @@
 use Rattle.std.proofs.Common.{arith, ◌-◌, ◌∙◌, refl, length, drop, length-drop}
 use Rattle.std.proofs.lemmas.List.{length-take}
-use Rattle.its_cli.proofs.Pieces.{Appends-more}
-use Rattle.its_cli.proofs.streams.write_all.Goals as goal
+use Rattle.its_top.proofs.Pieces.{Appends-more}
+use Rattle.its_top.proofs.streams.write_all.Goals as goal
 
 pub loop-at-preserved : goal.loop-at-preserved
 loop-at-preserved g c =

@@ -1,6 +1,6 @@
 use Rattle.std.proofs.Common.{◌≤◌, ◌-◌, ◌≡◌, length, take}
 use Rattle.its_io.specs.Bytes.{Appends}
-use Rattle.its_cli.proofs.streams.write_all.Given as goal
+use Rattle.its_top.proofs.streams.write_all.Given as goal
 
 abbrev pub invariant-loop-at : goal.invariant-loop-at
 invariant-loop-at g l = record {

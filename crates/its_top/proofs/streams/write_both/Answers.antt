@@ -1,7 +1,7 @@
 use Rattle.std.specs.Prelude.{OnErr}
 use Rattle.std.proofs.Common.{Result, Ok, Err}
-use Rattle.its_cli.proofs.Pieces.{front-of-first, front-of-second}
-use Rattle.its_cli.proofs.streams.write_both.Goals as goal
+use Rattle.its_top.proofs.Pieces.{front-of-first, front-of-second}
+use Rattle.its_top.proofs.streams.write_both.Goals as goal
 
 on_err : {A E : Type 0} {P Q : Type 0} (r : Result A E) → (P → Q) → OnErr r P → OnErr r Q
 on_err (Ok a) f h = tt

@@ -1,8 +1,8 @@
 use Rattle.std.proofs.Common.{ap, get_or, ◌∙◌}
 use Rattle.its_turns.specs.Machines.{setup, view}
-use Rattle.its_cli.proofs.Runs.{leg_may}
-use Rattle.its_cli.proofs.Summaries.{first_of, can_be_saved}
-use Rattle.its_cli.proofs.summarize.count_leg.Goals as goal
+use Rattle.its_top.proofs.Runs.{leg_may}
+use Rattle.its_top.proofs.Summaries.{first_of, can_be_saved}
+use Rattle.its_top.proofs.summarize.count_leg.Goals as goal
 
 pub run_leg-requires-clause-may : goal.run_leg-requires-clause-may
 run_leg-requires-clause-may g c κs met =

@@ -1,7 +1,7 @@
 use Rattle.std.proofs.Common.{List, ap, length, map, ◌∙◌}
 use Rattle.its_types.specs.declared.ids.Intid.{Intid}
-use Rattle.its_cli.proofs.Summaries.{pending_are}
-use Rattle.its_cli.proofs.summarize.count_pending.Goals as goal
+use Rattle.its_top.proofs.Summaries.{pending_are}
+use Rattle.its_top.proofs.summarize.count_pending.Goals as goal
 
 pub returns : goal.returns
 returns c =

@@ -1,0 +1,16 @@
+//! The command `its` over streams: the top call, which the program makes on its own words and
+//! standard streams.
+#![tactic(auto)]
+
+mod check;
+mod its;
+mod legs;
+mod play;
+mod refusals;
+mod say;
+mod status;
+mod streams;
+mod summarize;
+
+pub use its::{its, refuse};
+pub use status::Status;

@@ -1,0 +1,17 @@
+//! Tests of the whole program, over streams in memory and on real threads.
+#![tactic(auto)]
+
+#[cfg(test)]
+mod check_tests;
+#[cfg(test)]
+mod command_tests;
+#[cfg(test)]
+mod gicr_tests;
+#[cfg(test)]
+mod hostile_tests;
+#[cfg(test)]
+mod migration_tests;
+#[cfg(test)]
+mod runs;
+#[cfg(test)]
+mod thread_tests;
