@@ -21,6 +21,8 @@ call_gives : (vcpus : ℕ) (c : Call) → is_call vcpus c ≡ true → GivesByte
 call_gives vcpus (call.Signal its dev ev) e = tt
 call_gives vcpus (call.Take vcpu) e = tt
 call_gives vcpus (call.Show vcpu) e = tt
+call_gives vcpus (call.Best vcpu mask) e = tt
+call_gives vcpus (call.Claim vcpu intid) e = tt
 call_gives vcpus (call.Poke addr bytes) e = (and_parts (nat_lt 0 (length bytes) && nat_le (length bytes) 64) (are_bytes bytes) e).1
 call_gives vcpus (call.Peek addr count) e = tt
 call_gives vcpus (call.ReadReg its off size) e = tt
@@ -29,6 +31,8 @@ call_gives vcpus (call.ReadGicr vcpu off size) e = tt
 call_gives vcpus (call.WriteGicr vcpu off size value) e = tt
 call_gives vcpus (call.Step its) e = tt
 call_gives vcpus call.Save e = tt
+call_gives vcpus call.Copy e = absurd cc
+call_gives vcpus (call.Dma req addr bytes route) e = absurd cc
 
 all_give : (vcpus : ℕ) (calls : Thread) → list_all (is_call vcpus) calls ≡ true → AllByRecursion GivesBytes calls
 all_give vcpus [] e = tt

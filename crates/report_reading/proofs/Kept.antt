@@ -1,11 +1,11 @@
 -- What leaves memory as it is, and as many redistributors.
-use Rattle.std.proofs.Common.{◌≡◌, ℕ, eqb, List, [], ◌∷◌, length, map, refl, ◌∙◌}
+use Rattle.std.proofs.Common.{◌≡◌, ℕ, eqb, List, [], length, map, refl, ◌∙◌}
 use Rattle.std.proofs.lemmas.Bool.{cond_both}
 use Rattle.std.proofs.lemmas.List.{length-set, length-map}
 use Rattle.gicr_regs.specs.Redistributors.{Redistributor}
-use Rattle.its_types.specs.Lpis.{is_pending, with_lpi, with_lpis, without_lpi}
+use Rattle.its_types.specs.Lpis.{with_lpi, with_lpis, without_lpi}
 use Rattle.its_plain.specs.Plain.{Plain, redistributor, pending_of, with_redistributor, with_pending}
-use Rattle.its_plain.specs.Commands.{lpi_set, lpi_cleared, lpi_moved, lpis_moved, all_moved, all_reread_at, reread}
+use Rattle.its_plain.specs.Commands.{lpi_set, lpi_cleared, all_moved, all_reread_at, reread}
 
 abbrev pub Keeps : Plain → Plain → Type 0
 Keeps u w = (w.memory ≡ u.memory) × (length w.redistributors ≡ length u.redistributors)
@@ -30,18 +30,6 @@ set_kept u intid vcpu = kept_pending u vcpu (with_lpi intid (pending_of u vcpu))
 
 pub cleared_kept : (u : Plain) (intid vcpu : ℕ) → Keeps u (lpi_cleared intid vcpu u)
 cleared_kept u intid vcpu = kept_pending u vcpu (without_lpi intid (pending_of u vcpu))
-
-pub moved_kept : (u : Plain) (intid from to : ℕ) → Keeps u (lpi_moved intid from to u)
-moved_kept u intid from to =
-    let once : Plain = lpi_cleared intid from u in
-    cond_both (is_pending intid (pending_of u from)) (lpi_set intid to once) u (Keeps u)
-    (λ _. kept_then u once (lpi_set intid to once) (cleared_kept u intid from) (set_kept once intid to)) (λ _. kept u)
-
-pub all_lpis_kept : (u : Plain) (intids : List ℕ) (from to : ℕ) → Keeps u (lpis_moved intids from to u)
-all_lpis_kept u [] from to = kept u
-all_lpis_kept u (intid ∷ intids) from to =
-    let next : Plain = lpi_moved intid from to u in
-    kept_then u next (lpis_moved intids from to next) (moved_kept u intid from to) (all_lpis_kept next intids from to)
 
 pub all_moved_kept : (u : Plain) (from to : ℕ) → Keeps u (all_moved from to u)
 unfolding all_moved

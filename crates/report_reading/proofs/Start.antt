@@ -1,9 +1,9 @@
 -- The first state of a machine: what is in memory, and how many redistributors there are.
-use Rattle.std.proofs.Common.{◌≡◌, ℕ, ◌+◌, ◌≤◌, List, [], ◌∷◌, length, map, take, Option, Some, None, Result, Ok, Err, IfOk, sym, subst, ◌∙◌}
+use Rattle.std.proofs.Common.{◌≡◌, ℕ, ◌+◌, ◌≤◌, Bool, true, false, List, [], ◌∷◌, length, map, take, Option, Some, None, Result, Ok, Err, IfOk, sym, subst, ◌∙◌}
 use Rattle.std.proofs.Common.{arith}
 use Rattle.std.specs.Prelude.{IfSome, ok_or}
 use Rattle.std.proofs.lemmas.List.{length-map, length-replicate, length-take-le}
-use Rattle.guest_windows.specs.Windows.{Window, are_windows, zeros, read_at, write_at}
+use Rattle.guest_windows.specs.Windows.{Window, zeros, read_at, write_at}
 use Rattle.guest_windows.specs.Fields.{pairs}
 use Rattle.gicr_regs.specs.Redistributors.{off_redistributor}
 use Rattle.gicr_regs.specs.Registers.{restored_bases}
@@ -11,9 +11,11 @@ use Rattle.gits_regs.specs.declared.values.RegValues.{RegValues}
 use Rattle.its_types.specs.Lpis.{no_bases, described_bases}
 use Rattle.its_types.specs.Ranges.{lpi_count}
 use Rattle.its_types.specs.declared.machine.Shape.{Shape}
+use Rattle.its_types.specs.declared.translation.Bases.{Bases}
 use Rattle.its_plain.specs.Plain.{Plain, Redistributor}
-use Rattle.its_plain.specs.Described.{IsFirstState, StartsAt}
-use Rattle.its_plain.specs.Machine.{made, ensure, ◌>>=◌, tables_inside, filled, first_redistributors, idle_redistributor, bases_given, HasTablesFor}
+use Rattle.its_plain.specs.Described.{IsFirstState, StartsAt, values_of, is_restored}
+use Rattle.its_plain.specs.Machine.{made, ensure, ◌>>=◌, windows_fit, tables_inside, filled, all_frames_fit, all_new, first_redistributors}
+use Rattle.its_plain.specs.Machine.{idle_redistributor, bases_given, HasTablesFor}
 use Rattle.its_plain.specs.declared.desc.Desc.{Desc}
 use Rattle.its_plain.specs.declared.desc.DescFault.{DescFault}
 use Rattle.its_plain.specs.declared.desc.DescFault.TheVariants.{Windows, Config, Bytes}
@@ -56,17 +58,21 @@ made_small : (d : Desc) → FillBytes d.fills → IfOk (made d) HasBytes
 unfolding made
 made_small d f =
     let empty : List Window = map zeros (pairs d.windows) in
-    after_ok HasBytes (ensure (are_windows (pairs d.windows)) Windows) _ (λ _.
+    after_ok HasBytes (ensure (windows_fit d) Windows) _ (λ _.
     after_ok HasBytes (tables_inside d.shape empty d.tables) _ (λ _.
     with_ok AllBytes HasBytes (filled empty 0 d.fills) _ (filled_small empty 0 d.fills (empty_windows (pairs d.windows)) f) (λ memory small.
-    after_ok HasBytes (first_redistributors d.shape memory d.tables) _ (λ rs. small))))
+    after_ok HasBytes (all_frames_fit (pairs d.windows) 0 d.translators) _ (λ _.
+    after_ok HasBytes (all_new [] 0 d.requesters) _ (λ _.
+    after_ok HasBytes (first_redistributors d.shape memory d.tables) _ (λ rs. small))))))
 
-starts_small : (o : Option RegValues) (d : Desc) (base u : Plain) → HasBytes base → StartsAt o (bases_given d.shape.vcpus d.tables) base u → HasBytes u
-starts_small None d base u h is = subst HasBytes (sym is) h
-starts_small (Some values) d base u h is = subst AllBytes (sym is.memory_is) h
+starts_small : (restored : Bool) (values : List (Option RegValues)) (bases : List Bases) (base u : Plain) → HasBytes base
+    → StartsAt restored values bases base u → HasBytes u
+starts_small false values bases base u h is = subst HasBytes (sym is) h
+starts_small true values bases base u h is = subst AllBytes (sym is.memory_is) h
 
 pub start_bytes : MachinesStartWithBytes
-start_bytes d u f is = starts_small d.restore d is.base u (if_ok_at HasBytes (made d) is.base (made_small d f) is.made_is) is.starts
+start_bytes d u f is =
+    starts_small (is_restored d) (values_of d) (bases_given d.shape.vcpus d.tables) is.base u (if_ok_at HasBytes (made d) is.base (made_small d f) is.made_is) is.starts
 
 -- ---- redistributors
 
@@ -87,22 +93,25 @@ unfolding made
 made_count d h =
     let P : Plain → Type 0 = HasAll d.shape.vcpus in
     let empty : List Window = map zeros (pairs d.windows) in
-    after_ok P (ensure (are_windows (pairs d.windows)) Windows) _ (λ _.
+    after_ok P (ensure (windows_fit d) Windows) _ (λ _.
     after_ok P (tables_inside d.shape empty d.tables) _ (λ _.
     after_ok P (filled empty 0 d.fills) _ (λ memory.
-    with_ok (HasAsMany d.shape.vcpus) P (first_redistributors d.shape memory d.tables) _ (first_count d.shape memory d.tables h) (λ rs count. count))))
+    after_ok P (all_frames_fit (pairs d.windows) 0 d.translators) _ (λ _.
+    after_ok P (all_new [] 0 d.requesters) _ (λ _.
+    with_ok (HasAsMany d.shape.vcpus) P (first_redistributors d.shape memory d.tables) _ (first_count d.shape memory d.tables h) (λ rs count. count))))))
 
 given_count : (vcpus : ℕ) (t : LpiTables) → vcpus ≤ 16 → HasTablesFor vcpus t → HasRegisters t → length (bases_given vcpus t) ≡ vcpus
 given_count vcpus (Described config pending) few h r = length-map pending (described_bases config) ∙ h
 given_count vcpus (Registers values) few h r =
     length-map (take vcpus values.registers) restored_bases ∙ length-take-le vcpus values.registers (omega (arith, few, r))
 
-starts_count : (o : Option RegValues) (vcpus : ℕ) (t : LpiTables) (base u : Plain) → vcpus ≤ 16 → HasTablesFor vcpus t → HasRegisters t → HasAll vcpus base
-    → StartsAt o (bases_given vcpus t) base u → HasAll vcpus u
-starts_count None vcpus t base u few h r made is = subst (HasAll vcpus) (sym is) made
-starts_count (Some values) vcpus t base u few h r made is = is.vcpus ∙ given_count vcpus t few h r
+starts_count : (restored : Bool) (values : List (Option RegValues)) (vcpus : ℕ) (t : LpiTables) (base u : Plain) → vcpus ≤ 16 → HasTablesFor vcpus t
+    → HasRegisters t → HasAll vcpus base → StartsAt restored values (bases_given vcpus t) base u → HasAll vcpus u
+starts_count false values vcpus t base u few h r made is = subst (HasAll vcpus) (sym is) made
+starts_count true values vcpus t base u few h r made is = is.vcpus ∙ given_count vcpus t few h r
 
 pub start_count : (d : Desc) (u : Plain) → d.shape.vcpus ≤ 16 → HasTablesFor d.shape.vcpus d.tables → HasRegisters d.tables → IsFirstState d u
     → length u.redistributors ≡ d.shape.vcpus
 start_count d u few h r is =
-    starts_count d.restore d.shape.vcpus d.tables is.base u few h r (if_ok_at (HasAll d.shape.vcpus) (made d) is.base (made_count d h) is.made_is) is.starts
+    starts_count (is_restored d) (values_of d) d.shape.vcpus d.tables is.base u few h r
+    (if_ok_at (HasAll d.shape.vcpus) (made d) is.base (made_count d h) is.made_is) is.starts

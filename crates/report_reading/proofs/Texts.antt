@@ -7,6 +7,7 @@ use Rattle.std.specs.List.{flat_map}
 use Rattle.std.specs.Fmt.{digit_glyph, digits_onto, decimal}
 unfoldable use Rattle.std.specs.Fmt.{digits}
 use Rattle.std.proofs.lemmas.Bool.{and_from, and_parts, cond_both, lt-ltb, ltb-true, le-leb}
+use Rattle.std.proofs.lemmas.List.{length-append}
 use Rattle.hex.specs.Hex.{encode_with, encode_lower, lower_digits}
 use Rattle.its_command.specs.declared.command.Op.{Op}
 use Rattle.its_command.specs.declared.command.Op.TheVariants as op
@@ -32,7 +33,7 @@ use Rattle.event_script.specs.Limits.{are_bytes}
 use Rattle.its_history.specs.Reading.{is_printed, is_answered}
 use Rattle.its_history.specs.ReadBack.{IsSome}
 use Rattle.its_history.specs.Report.{pending_text}
-use Rattle.its_history.specs.Texts.{hexadecimal, call_text, op_text, cause_text, reason_text, signal_text, ack_text, step_text, region_text, save_fault_text}
+use Rattle.its_history.specs.Texts.{hexadecimal, its_mark, table_mark, call_text, op_text, cause_text, reason_text, signal_text, ack_text, step_text, region_text, save_fault_text}
 use Rattle.its_history.specs.Texts.{reply_text, answered_text}
 use Rattle.its_history.proofs.ReadAgain.{append_printed}
 use Rattle.report_reading.specs.Bytes.{GivesBytes, TellsBytes}
@@ -119,20 +120,49 @@ bytes_print (b ∷ bytes) h =
 
 -- ---- calls
 
+mark_prints : (its : ℕ) → Prints (its_mark its)
+unfolding its_mark
+mark_prints its = cond_both (its == 0) [] (codes "b ") Prints (λ _. refl) (λ _. refl)
+
+table_prints : (its : ℕ) (name : List ℕ) → Prints name → Prints (table_mark its ++ name)
+unfolding table_mark
+table_prints its name h =
+    append_printed (table_mark its) name (cond_both (its == 0) [] (codes "b-") Prints (λ _. refl) (λ _. refl)) h
+
+-- the word of a translator's call
+its_word : (its : ℕ) (word : List ℕ) → Prints word → Prints (its_mark its ++ word)
+its_word its word h = append_printed (its_mark its) word (mark_prints its) h
+
+some_first : (xs ys : List ℕ) → 0 < length xs → 0 < length (xs ++ ys)
+some_first [] ys h = absurd (omega arith)
+some_first (x ∷ xs) ys h = omega arith
+
+some_later : (xs ys : List ℕ) → 0 < length ys → 0 < length (xs ++ ys)
+some_later xs ys h = omega (arith, length-append xs ys, h)
+
 pub call_prints : (c : Call) → GivesBytes c → Prints (call_text c)
 unfolding call_text
-call_prints (call.Signal its dev ev) g = then_dec (codes "signal " ++ decimal dev.0 ++ codes " ") ev.0 (space (codes "signal " ++ decimal dev.0) (dec dev.0))
+call_prints (call.Signal its dev ev) g =
+    let at : List ℕ = its_mark its ++ codes "signal " in
+    let of : List ℕ = at ++ decimal dev.0 in
+    then_dec (of ++ codes " ") ev.0 (space of (then_dec at dev.0 (its_word its (codes "signal ") refl)))
 call_prints (call.Take vcpu) g = dec vcpu.0
 call_prints (call.Show vcpu) g = dec vcpu.0
+call_prints (call.Best vcpu mask) g = (let of : List ℕ = codes "best " ++ decimal vcpu.0 in then_hex (of ++ codes " ") mask (space of (dec vcpu.0)))
+call_prints (call.Claim vcpu intid) g = (let of : List ℕ = codes "claim " ++ decimal vcpu.0 in then_dec (of ++ codes " ") intid.0 (space of (dec vcpu.0)))
 call_prints (call.Poke addr bytes) g =
     let at : List ℕ = codes "poke " ++ hexadecimal addr.0 in
     append_printed (at ++ codes " ") (encode_lower bytes) (space at (hex addr.0)) (bytes_print bytes g)
 call_prints (call.Peek addr count) g = (let at : List ℕ = codes "peek " ++ hexadecimal addr.0 in then_dec (at ++ codes " ") count (space at (hex addr.0)))
-call_prints (call.ReadReg its off size) g = (let at : List ℕ = codes "read " ++ hexadecimal off in then_dec (at ++ codes " ") size (space at (hex off)))
+call_prints (call.ReadReg its off size) g =
+    let word : List ℕ = its_mark its ++ codes "read " in
+    let at : List ℕ = word ++ hexadecimal off in
+    then_dec (at ++ codes " ") size (space at (then_hex word off (its_word its (codes "read ") refl)))
 call_prints (call.WriteReg its off size value) g =
-    let at : List ℕ = codes "write " ++ hexadecimal off in
+    let word : List ℕ = its_mark its ++ codes "write " in
+    let at : List ℕ = word ++ hexadecimal off in
     let sized : List ℕ = at ++ codes " " ++ decimal size in
-    then_hex (sized ++ codes " ") value (space sized (then_dec (at ++ codes " ") size (space at (hex off))))
+    then_hex (sized ++ codes " ") value (space sized (then_dec (at ++ codes " ") size (space at (then_hex word off (its_word its (codes "write ") refl)))))
 call_prints (call.ReadGicr vcpu off size) g =
     let of : List ℕ = codes "rread " ++ decimal vcpu.0 in
     let at : List ℕ = of ++ codes " " ++ hexadecimal off in
@@ -143,22 +173,44 @@ call_prints (call.WriteGicr vcpu off size value) g =
     let sized : List ℕ = at ++ codes " " ++ decimal size in
     then_hex (sized ++ codes " ") value
     (space sized (then_dec (at ++ codes " ") size (space at (then_hex (of ++ codes " ") off (space of (dec vcpu.0))))))
-call_prints (call.Step its) g = refl
+call_prints (call.Step its) g = its_word its (codes "step") refl
 call_prints call.Save g = refl
+call_prints call.Copy g = refl
+call_prints (call.Dma req addr bytes route) g =
+    let of : List ℕ = codes "dma " ++ decimal req in
+    let at : List ℕ = of ++ codes " " ++ hexadecimal addr.0 in
+    append_printed (at ++ codes " ") (encode_lower bytes) (space at (then_hex (of ++ codes " ") addr.0 (space of (dec req)))) (bytes_print bytes g)
+
+-- the word of a register's access, its offset and its size
+word_some : (its : ℕ) (word : List ℕ) (off size : ℕ) → 0 < length word
+    → 0 < length (its_mark its ++ word ++ hexadecimal off ++ codes " " ++ decimal size)
+word_some its word off size h =
+    let at : List ℕ = its_mark its ++ word in
+    some_first (at ++ hexadecimal off ++ codes " ") (decimal size) (some_first (at ++ hexadecimal off) (codes " ")
+    (some_first at (hexadecimal off) (some_later (its_mark its) word h)))
 
 call_some : (c : Call) → 0 < length (call_text c)
 unfolding call_text
-call_some (call.Signal its dev ev) = omega arith
+call_some (call.Signal its dev ev) =
+    let at : List ℕ = its_mark its ++ codes "signal " in
+    some_first (at ++ decimal dev.0 ++ codes " ") (decimal ev.0) (some_first (at ++ decimal dev.0) (codes " ")
+    (some_first at (decimal dev.0) (some_later (its_mark its) (codes "signal ") (omega arith))))
 call_some (call.Take vcpu) = omega arith
 call_some (call.Show vcpu) = omega arith
+call_some (call.Best vcpu mask) = omega arith
+call_some (call.Claim vcpu intid) = omega arith
 call_some (call.Poke addr bytes) = omega arith
 call_some (call.Peek addr count) = omega arith
-call_some (call.ReadReg its off size) = omega arith
-call_some (call.WriteReg its off size value) = omega arith
+call_some (call.ReadReg its off size) = word_some its (codes "read ") off size (omega arith)
+call_some (call.WriteReg its off size value) =
+    let at : List ℕ = its_mark its ++ codes "write " ++ hexadecimal off ++ codes " " ++ decimal size in
+    some_first (at ++ codes " ") (hexadecimal value) (some_first at (codes " ") (word_some its (codes "write ") off size (omega arith)))
 call_some (call.ReadGicr vcpu off size) = omega arith
 call_some (call.WriteGicr vcpu off size value) = omega arith
-call_some (call.Step its) = omega arith
+call_some (call.Step its) = some_later (its_mark its) (codes "step") (omega arith)
 call_some call.Save = omega arith
+call_some call.Copy = omega arith
+call_some (call.Dma req addr bytes route) = omega arith
 
 -- ---- replies
 
@@ -226,19 +278,20 @@ step_is_text (step.QueueFault addr) = (omega arith, hex addr.0)
 
 region_prints : (r : Region) → Prints (region_text r)
 unfolding region_text
-region_prints region.Devices = refl
-region_prints region.Level1 = refl
-region_prints (region.Page k) = dec k
-region_prints region.Collections = refl
-region_prints (region.Itt dev) = dec dev.0
+region_prints (region.Devices its) = table_prints its (codes "devices") refl
+region_prints (region.Level1 its) = table_prints its (codes "level1") refl
+region_prints (region.Page its k) = then_dec (table_mark its ++ codes "page ") k (table_prints its (codes "page ") refl)
+region_prints (region.Collections its) = table_prints its (codes "collections") refl
+region_prints (region.Itt its dev) = then_dec (table_mark its ++ codes "itt ") dev.0 (table_prints its (codes "itt ") refl)
 region_prints (region.Pending vcpu) = dec vcpu.0
 region_prints region.Config = refl
 region_prints (region.ConfigOf vcpu) = dec vcpu.0
-region_prints region.Queue = refl
+region_prints (region.Queue its) = table_prints its (codes "queue") refl
 
 fault_prints : (f : SaveFault) → Prints (save_fault_text f)
 unfolding save_fault_text
-fault_prints (save.NoPlace dev) = dec dev.0
+fault_prints (save.NoPlace its dev) =
+    then_dec (codes "no-place " ++ its_mark its) dev.0 (append_printed (codes "no-place ") (its_mark its) refl (mark_prints its))
 fault_prints (save.Outside r) = region_prints r
 fault_prints (save.Overlap r s) =
     let one : List ℕ = codes "overlap " ++ region_text r in
@@ -255,6 +308,8 @@ reply_is_text (reply.Value value) t = (omega arith, hex value)
 reply_is_text (reply.Step s) t = step_is_text s
 reply_is_text reply.Saved t = (omega arith, refl)
 reply_is_text (reply.SaveFault fault) t = (omega arith, fault_prints fault)
+reply_is_text (reply.Copied pages) t = (omega arith, dec pages)
+reply_is_text reply.NoRequester t = (omega arith, refl)
 
 -- ---- a call and its reply
 
@@ -289,10 +344,6 @@ answered_answers c r t = answered_by (call_text c) (reply_text r) (call_some c) 
 others_print : (ns : List ℕ) → Prints (flat_map (λ m. codes " " ++ decimal m) ns)
 others_print [] = refl
 others_print (n ∷ ns) = append_printed (codes " " ++ decimal n) (flat_map (λ m. codes " " ++ decimal m) ns) (dec n) (others_print ns)
-
-some_first : (xs ys : List ℕ) → 0 < length xs → 0 < length (xs ++ ys)
-some_first [] ys h = absurd (omega arith)
-some_first (x ∷ xs) ys h = omega arith
 
 pub pending_is_text : (ns : List ℕ) → IsSome (pending_text ns)
 pending_is_text [] = record { some = omega arith; printed = refl }

@@ -25,6 +25,7 @@ FillBytes fills = AllByRecursion (λ f. are_bytes f.bytes ≡ true) fills
 -- what a call puts into memory
 abbrev pub GivesBytes : Call → Type 0
 GivesBytes (call.Poke addr bytes) = are_bytes bytes ≡ true
+GivesBytes (call.Dma req addr bytes route) = are_bytes bytes ≡ true
 GivesBytes _ = Unit {0}
 
 -- what a reply tells of memory
