@@ -6,11 +6,13 @@ ghost use Rattle.its_plain.specs.declared.call.Reply.TheVariants as reply;
 ghost use Rattle.its_steps.specs.Parts.{vcpu_count};
 ghost use Rattle.its_turns.specs.Calls.{AsksPart};
 ghost use Rattle.its_turns.specs.Machines.{setup, view, IsOf};
+ghost use Rattle.redist_ack.specs.Offers.{call_of};
 
-use crate::acks::{try_show, try_take};
+use crate::acks::try_ask;
+use crate::asked::Asked;
 use its_plain::Ack;
 use its_turns::{Attempt, Machine, Pass, Spent, give_way, pause};
-use its_types::{Gate, Placed, Vcpu};
+use its_types::{Gate, Intid, Placed, Vcpu};
 use std::sync::Wait;
 
 /// Acknowledges the lowest LPI that is pending and enabled at a virtual processor.
@@ -36,15 +38,7 @@ pub fn take<R: Wait, G: Gate>(
         (view pass.new)
         result }
 {
-    for _ in rt.forever() {
-        match try_take(machine, pass, gate, vcpu) {
-            Attempt::Done(placed) => return Ok(placed),
-            Attempt::Spent => return Err(Spent),
-            Attempt::Busy(_) => give_way(),
-            Attempt::Raced(_) => pause(),
-        }
-    }
-    unreachable!()
+    ask(rt, machine, pass, gate, vcpu, Asked::Take)
 }
 
 /// Shows the LPI that the virtual processor would acknowledge.
@@ -67,8 +61,79 @@ pub fn show<R: Wait, G: Gate>(
         (view pass.new)
         result }
 {
+    ask(rt, machine, pass, gate, vcpu, Asked::Show)
+}
+
+/// Shows the LPI that comes first by priority, of those that are pending and enabled at a virtual
+/// processor and whose priority is below the mask.
+///
+/// ```
+/// let signalled = best(rt, machine, pass, &Open, Vcpu(2), running)?.reply != Ack::None;
+/// ```
+pub fn best<R: Wait, G: Gate>(
+    rt: &R,
+    machine: &Machine,
+    pass: &mut Pass,
+    gate: &G,
+    vcpu: Vcpu,
+    mask: u8,
+) -> Result<Placed<Ack>, Spent>
+    requires of { IsOf machine.now pass.old }
+    requires free { (view pass.old).held ≡ [] }
+    requires vcpu { vcpu.0 < vcpu_count (setup machine.now) }
+    ensures of { IsOf machine.now pass.new }
+    ensures answer { AsksPart (view pass.old) (part.Redist vcpu) (call.Best vcpu mask) reply.Ack
+        (view pass.new)
+        result }
+{
+    ask(rt, machine, pass, gate, vcpu, Asked::Best(mask))
+}
+
+/// Acknowledges this LPI, if it is pending and enabled at a virtual processor.
+///
+/// ```
+/// if let Ack::Some { intid, .. } = best(rt, machine, pass, &Open, Vcpu(2), running)?.reply {
+///     let taken = claim(rt, machine, pass, &Open, Vcpu(2), intid)?.reply != Ack::None;
+/// }
+/// ```
+pub fn claim<R: Wait, G: Gate>(
+    rt: &R,
+    machine: &Machine,
+    pass: &mut Pass,
+    gate: &G,
+    vcpu: Vcpu,
+    intid: Intid,
+) -> Result<Placed<Ack>, Spent>
+    requires of { IsOf machine.now pass.old }
+    requires free { (view pass.old).held ≡ [] }
+    requires vcpu { vcpu.0 < vcpu_count (setup machine.now) }
+    ensures of { IsOf machine.now pass.new }
+    ensures answer { AsksPart (view pass.old) (part.Redist vcpu) (call.Claim vcpu intid) reply.Ack
+        (view pass.new)
+        result }
+{
+    ask(rt, machine, pass, gate, vcpu, Asked::Claim(intid))
+}
+
+// Any of the four.
+fn ask<R: Wait, G: Gate>(
+    rt: &R,
+    machine: &Machine,
+    pass: &mut Pass,
+    gate: &G,
+    vcpu: Vcpu,
+    asked: Asked,
+) -> Result<Placed<Ack>, Spent>
+    requires of { IsOf machine.now pass.old }
+    requires free { (view pass.old).held ≡ [] }
+    requires vcpu { vcpu.0 < vcpu_count (setup machine.now) }
+    ensures of { IsOf machine.now pass.new }
+    ensures answer { AsksPart (view pass.old) (part.Redist vcpu) (call_of vcpu asked) reply.Ack
+        (view pass.new)
+        result }
+{
     for _ in rt.forever() {
-        match try_show(machine, pass, gate, vcpu) {
+        match try_ask(machine, pass, gate, vcpu, asked) {
             Attempt::Done(placed) => return Ok(placed),
             Attempt::Spent => return Err(Spent),
             Attempt::Busy(_) => give_way(),

@@ -2,8 +2,8 @@
 #![tactic(auto)]
 
 mod acks;
+mod asked;
 mod asks;
-mod lowest;
 
-pub use acks::{try_show, try_take};
-pub use asks::{show, take};
+pub use acks::{try_best, try_claim, try_show, try_take};
+pub use asks::{best, claim, show, take};

@@ -2,7 +2,7 @@ use Rattle.std.proofs.Common.{◌≡◌}
 use Rattle.its_types.specs.declared.machine.Part.TheVariants as part
 use Rattle.its_turns.specs.Calls.{StillAsks}
 use Rattle.its_turns.specs.Machines.{view, IsOf}
-use Rattle.redist_ack.proofs.asks.take.Given as goal
+use Rattle.redist_ack.proofs.asks.ask.Given as goal
 
 abbrev pub invariant-loop : goal.invariant-loop
 invariant-loop g l =
