@@ -132,6 +132,7 @@ module _ (P : Part → Type 0) where
       legal = m.made.legal;
       place_is = m.made.place_is;
       mine = m.made.mine;
+      room = m.made.room;
       same = ap (λ (y : View). holding y left) m.made.same;
       tries = refl;
       last = m.made.last;

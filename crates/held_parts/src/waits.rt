@@ -1,5 +1,5 @@
 //! Parts that are waited for, taken as what they are.
-ghost use Rattle.std.specs.Prelude.{◌≡◌, ◌<◌};
+ghost use Rattle.std.specs.Prelude.{◌≡◌, ◌<◌, None};
 ghost use Rattle.its_types.specs.declared.machine.Part.TheVariants as part;
 ghost use Rattle.owned_parts.specs.Owned.{redistributor_of, HasLpisOf};
 ghost use Rattle.its_steps.specs.Good.{Holds};
@@ -41,7 +41,7 @@ pub fn take_memory<R: Wait>(rt: &R, machine: &Machine, pass: &mut Pass) -> Box<G
     requires of { IsOf machine.now pass.old }
     requires free { ¬ Holds part.Mem (view pass.old).held }
     ensures of { IsOf machine.now pass.new }
-    ensures takes { TakesInTime (view pass.old) part.Mem (content.Mem result.value.memory)
+    ensures takes { TakesInTime (view pass.old) part.Mem (content.Mem result.value.memory None)
         (view pass.new) }
 {
     for _ in rt.forever() {
