@@ -34,12 +34,14 @@ zero_in f from start page high is each none a low lt e =
     byte_of f.len (rows f.pages.items) i below
     ∙ none i (omega (arith, after)) below (elim (each i below place) [ inl before ↦ absurd (omega (arith, before, after)) | inr in_page ↦ omega (arith, in_page) ])
 
-pub has_in : (f : Frame) (at n : ℕ) → at + n ≤ f.len → has (window f) (f.base + at) n ≡ true
-has_in f at n fits =
+pub has_at : (f : Frame) (a n : ℕ) → f.base ≤ a → a + n ≤ f.base + f.len → has (window f) a n ≡ true
+has_at f a n above fits =
     let long : length (window f).bytes ≡ f.len = length-bytes f.len (rows f.pages.items) in
-    let above : f.base ≤ f.base + at = omega arith in
-    let below : f.base + at + n ≤ f.base + length (window f).bytes = omega (arith, fits, long) in
+    let below : a + n ≤ f.base + length (window f).bytes = omega (arith, fits, long) in
     grind (arith, above, below)
+
+pub has_in : (f : Frame) (at n : ℕ) → at + n ≤ f.len → has (window f) (f.base + at) n ≡ true
+has_in f at n fits = has_at f (f.base + at) n (omega arith) (omega (arith, fits))
 
 -- ---- one window after another
 
