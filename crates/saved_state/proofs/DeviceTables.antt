@@ -3,7 +3,7 @@ use Rattle.std.proofs.Common.{◌≡◌, ℕ, zero, suc, ◌+◌, ◌-◌, ◌*�
 use Rattle.std.proofs.Common.{is_some, refl, sym, subst, ap, ◌∙◌, inl, inr, arith, ◌↔◌}
 use Rattle.std.specs.Prelude.{◌&&◌, IsSome, slice_get}
 use Rattle.std.specs.Option.{option_map}
-use Rattle.std.specs.List.{AllByRecursion, flat_map}
+use Rattle.std.specs.List.{AllByRecursion}
 use Rattle.std.specs.FinMap.{entries, entries_sorted, get-entries}
 use Rattle.std.proofs.lemmas.Bool.{ltb-true, cases_Bool, cases_eq}
 use Rattle.std.proofs.lemmas.Nat.{pow-add, pow_pos}
@@ -31,7 +31,7 @@ use Rattle.saved_state.proofs.Tests.{tested, AllPlaced, at_place}
 use Rattle.saved_state.proofs.Written.{inside_part}
 use Rattle.saved_state.proofs.Apart.{read_stays}
 use Rattle.saved_state.proofs.Keyed.{found_listed}
-use Rattle.saved_state.proofs.Found.{IsFound, all_by_place, of_flat, translator_found}
+use Rattle.saved_state.proofs.Found.{IsFound, all_by_place, translator_found}
 use Rattle.saved_state.proofs.Chains.{IsChain, chain_of}
 use Rattle.saved_state.proofs.DevicePlaces.{IsPage, page_flat, page_two}
 use Rattle.saved_state.proofs.Devices.{Fits, IsStored, devices_are, devices_clear}

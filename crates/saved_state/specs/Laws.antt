@@ -1,5 +1,5 @@
 -- What is claimed of a state that was saved: a restore reads it back.
-use Rattle.std.specs.Prelude.{◌≡◌, ◌⊎◌, ◌<◌, ◌≤◌, ℕ, ◌+◌, true, false, List, [], ◌∷◌, length, map, slice_get, Some, ◌↔◌}
+use Rattle.std.specs.Prelude.{◌≡◌, ◌⊎◌, ◌<◌, ◌≤◌, ℕ, ◌+◌, true, false, List, length, map, slice_get, Some, ◌↔◌}
 use Rattle.guest_windows.specs.Windows.{read_at, number_at}
 use Rattle.gits_regs.specs.Registers as regs
 use Rattle.gits_regs.specs.Registers.{Registers, masked, read_32, read_64}

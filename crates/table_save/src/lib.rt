@@ -17,4 +17,4 @@ mod room;
 mod saving;
 mod words;
 
-pub use saving::{savable, save, saved_memory, write_tables};
+pub use saving::{savable, save, saved_memory};

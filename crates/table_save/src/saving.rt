@@ -66,9 +66,8 @@ fn savable_in(
     requires parts { AreAllInHand layout.now.shape redists.now }
     requires sound { IsSound (state_of layout.now regs.now maps.now.maps memory.now redists.now) }
     requires room { length (entries maps.now.maps.devices) ≤ room.old.spare }
-    ensures answer { result
+    ensures { result
         ≡ spec.savable (state_of layout.now regs.now maps.now.maps memory.now redists.now) }
-    ensures room { room.new ≡ room.old }
 {
     room.areas.clear();
     add_tables(&mut room.areas, 0, regs, maps, memory);
@@ -146,9 +145,9 @@ pub fn save(
     Ok(())
 }
 
-/// Writes what a save writes into a memory that is as the state's. It checks nothing. Out of memory,
-/// a part of it is written.
-pub fn write_tables(
+// Writes what a save writes into a memory that is as the state's. It checks nothing. Out of memory,
+// a part of it is written.
+fn write_tables(
     regs: &Regs,
     maps: &Maps,
     redists: &Redists,

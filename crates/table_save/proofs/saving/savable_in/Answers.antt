@@ -11,16 +11,16 @@ use Rattle.table_save.proofs.saving.savable_in.Goals as goal
 pub add_tables-requires-clause-devices : goal.add_tables-requires-clause-devices
 add_tables-requires-clause-devices c = tables_low c.args.layout.now c.args.regs.now c.args.maps.now.maps c.args.memory.now c.args.redists.now c.requires.sound
 
-pub returns-in_err-all_inside-clause-answer : goal.returns-in_err-all_inside-clause-answer
-returns-in_err-all_inside-clause-answer c =
+pub returns-in_err-all_inside : goal.returns-in_err-all_inside
+returns-in_err-all_inside c =
     let p = err_from_is_err_and c.from_residual.result c.from_residual.ensures.1 in
     let tables = c.add_tables.ensures.items ∙ ap (λ ts. ts ++ tables_in 0 c.args.memory.now c.args.regs.now c.args.maps.now.maps) c.clear.ensures.items in
     let met = ap (λ ts. outside_fault (find (is_outside c.args.memory.now) ts)) (sym (c.as_slice.ensures ∙ tables)) ∙ sym c.all_inside.ensures
     ∙ c.in_err-all_inside.was ∙ ap Err (sym p.2) in
     p.1 ∙ sym (when_outside c.args.layout.now c.args.regs.now c.args.maps.now.maps c.args.memory.now c.args.redists.now p.0 met)
 
-pub returns-in_err-all_placed-clause-answer : goal.returns-in_err-all_placed-clause-answer
-returns-in_err-all_placed-clause-answer c =
+pub returns-in_err-all_placed : goal.returns-in_err-all_placed
+returns-in_err-all_placed c =
     let p = err_from_is_err_and c.from_residual-in_err-all_placed.result c.from_residual-in_err-all_placed.ensures.1 in
     let tables = c.add_tables.ensures.items ∙ ap (λ ts. ts ++ tables_in 0 c.args.memory.now c.args.regs.now c.args.maps.now.maps) c.clear.ensures.items in
     let inside = ap (λ ts. outside_fault (find (is_outside c.args.memory.now) ts)) (sym (c.as_slice.ensures ∙ tables)) ∙ sym c.all_inside.ensures
@@ -32,8 +32,8 @@ pub add_others-requires-clause-low : goal.add_others-requires-clause-low
 add_others-requires-clause-low c = redistributors_low c.args.layout.now c.args.regs.now c.args.maps.now.maps c.args.memory.now c.args.redists.now
     c.requires.sound
 
-pub returns-clause-answer : goal.returns-clause-answer
-returns-clause-answer c =
+pub returns : goal.returns
+returns c =
     let tables = c.add_tables.ensures.items ∙ ap (λ ts. ts ++ tables_in 0 c.args.memory.now c.args.regs.now c.args.maps.now.maps) c.clear.ensures.items in
     let inside = ap (λ ts. outside_fault (find (is_outside c.args.memory.now) ts)) (sym (c.as_slice.ensures ∙ tables)) ∙ sym c.all_inside.ensures
     ∙ c.in_ok-all_inside.was in
