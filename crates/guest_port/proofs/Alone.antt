@@ -1,5 +1,5 @@
 -- Guest memory alone is enough.
-use Rattle.std.proofs.Common.{◌≡◌, ◌<◌, ℕ, true, false, cond, ◌||◌, List, [], ◌∷◌, length, Option, Some, None, refl, ◌∙◌}
+use Rattle.std.proofs.Common.{◌≡◌, ◌<◌, ℕ, true, false, cond, ◌||◌, List, [], ◌∷◌, length, Option, Some, None, refl, ap, ◌∙◌}
 use Rattle.std.specs.Prelude.{is_some, unwrap_or}
 use Rattle.std.specs.Option.{option_map}
 use Rattle.guest_windows.specs.Windows.{Window, has, put, inside, write_at}
@@ -12,9 +12,9 @@ use Rattle.its_plain.specs.declared.call.Reply.TheVariants as reply
 use Rattle.its_steps.specs.Parts.{HasVcpus, Setup}
 use Rattle.its_steps.specs.World.{out}
 use Rattle.its_steps.specs.declared.change.ShardChange.TheVariants.{Keep}
-use Rattle.its_steps.specs.Contents.{Mem, Held}
+use Rattle.its_steps.specs.Contents.{Content, Mem, Held}
 use Rattle.its_steps.proofs.Ports.{pokes, peeks}
-use Rattle.its_steps.specs.Calls.{staying, MayLeave, peeked_in}
+use Rattle.its_steps.specs.Calls.{staying, MayLeave, peeked_in, poked_content}
 
 -- ---- the reply of a write
 
@@ -48,15 +48,23 @@ module _ (memory : List Window) (a : ℕ) (bytes : List ℕ) where
 
 -- ---- commits
 
+-- memory of a machine that has no other
 abbrev pub one : List Window → List Held
-one memory = out part.Mem (Mem memory) ∷ []
+one memory = out part.Mem (Mem memory None) ∷ []
+
+left_is : (memory : List Window) (address : ℕ) (bytes : List ℕ) (o : Option (List Window)) → poked_content memory None address bytes o
+    ≡ Mem (unwrap_or o memory) None
+left_is memory address bytes None = refl
+left_is memory address bytes (Some now) = refl
 
 module _ (s : Setup) (addr : Addr) (memory : List Window) (vcpus : HasVcpus s) where
   pub pokes_now : (bytes : List ℕ) (w : Word) → w.place < s.limits.place_last
       → MayLeave s (staying w (call.Poke addr bytes) (poke_reply (write_at memory addr.0 bytes)) Keep) (one memory)
       (one (unwrap_or (write_at memory addr.0 bytes) memory))
-  pokes_now bytes w room = pokes s w addr bytes memory vcpus room
+  pokes_now bytes w room =
+      let z = pokes s w addr bytes memory None vcpus room in
+      (z.0, z.1 ∙ ap (λ (x : Content). (let l : List Held = out part.Mem x ∷ [] in l)) (left_is memory addr.0 bytes (write_at memory addr.0 bytes)))
 
   pub peeks_now : (count : ℕ) (w : Word) → w.place < s.limits.place_last
       → MayLeave s (staying w (call.Peek addr count) (peek_reply (peeked_in memory addr.0 count)) Keep) (one memory) (one memory)
-  peeks_now count w room = peeks s w addr count memory vcpus room
+  peeks_now count w room = peeks s w addr count memory None vcpus room

@@ -1,12 +1,14 @@
 //! What a write and a read of guest memory are answered, and what a write leaves.
-ghost use Rattle.std.specs.Prelude.{◌≡◌, unwrap_or};
+ghost use Rattle.std.specs.Prelude.{◌≡◌, true, OnOk, unwrap_or};
 ghost use Rattle.guest_windows.specs.Windows.{write_at};
 ghost use Rattle.its_plain.specs.Answer.{poke_reply, peek_reply};
 ghost use Rattle.its_steps.specs.Calls.{peeked_in};
 
 use guest_windows::Memory;
 use its_plain::{Bytes64, Reply};
+use its_turns::GuestMemory;
 use its_types::Addr;
+use std::alloc::AllocError;
 
 /// Whether one window has the bytes.
 pub fn poke_answer(memory: &Memory, addr: Addr, bytes: &Bytes64) -> Reply
@@ -19,11 +21,22 @@ pub fn poke_answer(memory: &Memory, addr: Addr, bytes: &Bytes64) -> Reply
     }
 }
 
-/// Writes the bytes where one window has them.
-pub fn write_bytes(memory: &mut Memory, addr: Addr, bytes: &Bytes64)
-    ensures { memory.new ≡ unwrap_or (write_at memory.old addr.0 bytes.now) memory.old }
+/// Holds the pages that a write may need.
+pub fn prepare(guest: &mut GuestMemory) -> Result<(), AllocError>
+    ensures memory { guest.new.memory ≡ guest.old.memory }
+    ensures ready { OnOk result (guest.new.spare ≡ true) }
 {
-    let _ = memory.write(addr, bytes.as_slice());
+    guest.memory.prepare(&mut guest.spare)
+}
+
+/// Writes the bytes where one window has them.
+pub fn write_bytes(guest: &mut GuestMemory, addr: Addr, bytes: &Bytes64)
+    requires { guest.old.spare ≡ true }
+    ensures { guest.new.memory
+        ≡ unwrap_or (write_at guest.old.memory addr.0 bytes.now) guest.old.memory }
+{
+    let bytes = bytes.as_slice();
+    let _ = guest.memory.write_prepared(&mut guest.spare, addr, bytes);
 }
 
 /// 1 to 64 bytes, where one window has them.

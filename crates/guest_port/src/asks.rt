@@ -2,16 +2,19 @@
 ghost use Rattle.std.specs.Prelude.{◌≡◌, []};
 ghost use Rattle.its_types.specs.declared.machine.Part.TheVariants as part;
 ghost use Rattle.its_plain.specs.declared.call.Call.TheVariants as call;
+ghost use Rattle.guest_port.specs.Pokes.{Pokes};
 ghost use Rattle.its_turns.specs.Calls.{AsksPart};
 ghost use Rattle.its_turns.specs.Machines.{view, IsOf};
 
 use crate::tries::{try_peek, try_poke};
 use its_plain::{Bytes64, Reply};
-use its_turns::{Attempt, Machine, Pass, Spent, give_way, pause};
+use its_turns::{Attempt, Machine, NotMade, Pass, Spent, give_way, pause};
 use its_types::{Addr, Gate, Placed};
+use std::alloc::AllocError;
 use std::sync::Wait;
 
-/// Writes 1 to 64 bytes, where one window of memory has them all.
+/// Writes 1 to 64 bytes, where one window of memory has them all. Takes memory for pages that
+/// nothing was written to so far.
 ///
 /// ```
 /// let bytes = Bytes64::new(&[0x01]);
@@ -25,19 +28,19 @@ pub fn poke<R: Wait, G: Gate>(
     gate: &G,
     addr: Addr,
     bytes: &Bytes64,
-) -> Result<Placed<Reply>, Spent>
+) -> Result<Placed<Reply>, NotMade>
     requires of { IsOf machine.now pass.old }
     requires free { (view pass.old).held ≡ [] }
     ensures of { IsOf machine.now pass.new }
-    ensures answer { AsksPart (view pass.old) part.Mem (call.Poke addr bytes.now) (λ r. r)
-        (view pass.new) result }
+    ensures answer { Pokes (view pass.old) addr bytes.now (view pass.new) result }
 {
     for _ in rt.forever() {
         match try_poke(machine, pass, gate, addr, bytes) {
-            Attempt::Done(placed) => return Ok(placed),
-            Attempt::Spent => return Err(Spent),
-            Attempt::Busy(_) => give_way(),
-            Attempt::Raced(_) => pause(),
+            Ok(Attempt::Done(placed)) => return Ok(placed),
+            Ok(Attempt::Spent) => return Err(NotMade::Spent),
+            Ok(Attempt::Busy(_)) => give_way(),
+            Ok(Attempt::Raced(_)) => pause(),
+            Err(AllocError) => return Err(NotMade::NoMemory),
         }
     }
     unreachable!()
