@@ -1,13 +1,16 @@
 -- Each call of the script keeps the invariant.
 use Rattle.std.proofs.Common.{◌≡◌, ◌⊎◌, ℕ, ◌+◌, ◌*◌, ◌/◌, ◌%◌, ◌<◌, ◌≤◌, ◌^◌, true, not, ◌&&◌, List, [], ◌∷◌, length, map, Option, Some, None, Result, Ok, Err}
 use Rattle.std.proofs.Common.{IfOk, inl, inr, refl, sym, ap, subst, ◌∙◌, arith}
-use Rattle.std.specs.Prelude.{unwrap_or, slice_index_or}
+use Rattle.std.specs.Prelude.{slice_index_or}
+use Rattle.std.specs.Option.{option_map}
 use Rattle.std.specs.List.{AllByRecursion}
 use Rattle.std.proofs.lemmas.Bool.{cond_both, or_parts, and_parts, not-false, cases_eq, cases_lt}
 use Rattle.std.proofs.lemmas.List.{length-set}
 use Rattle.std.proofs.lemmas.Option.{same_Some}
 use Rattle.guest_windows.specs.Windows.{Window, extent, read_at, write_at}
 use Rattle.guest_windows.proofs.Laws.{extents-write_at, read_at-write_at_same, read_at-write_at_apart}
+use Rattle.dirty_log.specs.Copies.{wrote as dirtied}
+use Rattle.dirty_log.specs.declared.tracked.Tracked.{Tracked}
 use Rattle.gits_regs.specs.Registers as regs
 use Rattle.gits_regs.specs.Registers.{Registers, write_reg, is_valid, queue_place, queue_base, queue_size, size_of, is_queue_empty, advanced}
 use Rattle.its_command.specs.Commands.{decoded}
@@ -15,7 +18,7 @@ use Rattle.its_types.specs.Bits.{field}
 use Rattle.its_types.specs.declared.machine.Profile.TheVariants.{One}
 use Rattle.its_plain.specs.Plain.{Plain, Translator, no_translator, translator, regs_of, maps_of, with_regs, with_translator}
 use Rattle.its_plain.specs.Answer.{answer, left, reply_of, written, translator_written, signal_left, signal_reply, step_left, met_left, command_left, went_on}
-use Rattle.its_plain.specs.Answer.{is_idle, next_bytes}
+use Rattle.its_plain.specs.Answer.{is_idle, next_bytes, poke_left, emptied, has_same_tables}
 use Rattle.its_plain.specs.Commands.{ran}
 use Rattle.its_plain.specs.History.{after}
 use Rattle.its_plain.specs.declared.layout.Layout.{Layout}
@@ -60,7 +63,8 @@ kept_written : (n : ℕ) (u : Plain) (off size value : ℕ) → IsKept n u → I
 unfolding written
 kept_written n u off size value h is sound =
     let w = write_reg (regs_of u 0) off size value in
-    let t : Translator = translator_written (translator u 0) w in
+    let s = u.layout.shape in
+    let t : Translator = translator_written s (translator u 0) w in
     let at_0 : translator (with_translator u 0 t) 0 ≡ t = translator_set u t h.one in
     let after : IsWritten n (maps_of u 0) w = register_written n (regs_of u 0) (maps_of u 0) h.regs h.devices off size value is in record {
       sound = sound;
@@ -68,15 +72,17 @@ kept_written n u off size value h is sound =
       one = length-set u.translators 0 t ∙ h.one;
       windows = h.windows;
       regs = subst (λ (x : Translator). AreRegisters x.regs) (sym at_0) after.regs;
-      devices = subst (λ (x : Translator). AreDevices n x.maps) (sym at_0) after.devices;
+      devices = subst (λ (x : Translator). AreDevices n x.maps) (sym at_0)
+          (cond_both (s.linux && has_same_tables (regs_of u 0) w.regs) (maps_of u 0) (emptied w.change (maps_of u 0)) (AreDevices n) (λ _. h.devices)
+          (λ _. after.devices));
       queue = h.queue;
     }
 
 -- ---- commands written to the queue
 
-kept_memory : (n : ℕ) (u : Plain) (memory : List Window) → IsKept n u → map extent memory ≡ extents → IsQueue n memory
-    → IsSound (record u { memory = memory }) → IsKept n (record u { memory = memory })
-kept_memory n u memory h windows queue sound = record {
+kept_memory : (n : ℕ) (u : Plain) (memory : List Window) (track : Option Tracked) → IsKept n u → map extent memory ≡ extents → IsQueue n memory
+    → IsSound (record u { memory = memory; track = track }) → IsKept n (record u { memory = memory; track = track })
+kept_memory n u memory track h windows queue sound = record {
   sound = sound;
   layout = h.layout;
   one = h.one;
@@ -117,10 +123,10 @@ queue_written n memory now address put is wrote h k bytes low read =
 
 kept_put : (n : ℕ) (u : Plain) (address : ℕ) (bytes : List ℕ) (o : Option (List Window)) → write_at u.memory address bytes ≡ o → IsKept n u
     → IsPut n address bytes
-    → IsSound (record u { memory = unwrap_or o u.memory }) → IsKept n (record u { memory = unwrap_or o u.memory })
+    → IsSound (poke_left u address bytes o) → IsKept n (poke_left u address bytes o)
 kept_put n u address bytes None wrote h is sound = h
 kept_put n u address bytes (Some now) wrote h is sound =
-    kept_memory n u now h (extents-write_at u.memory address bytes now wrote ∙ h.windows) (queue_written n u.memory now address bytes is wrote h.queue) sound
+    kept_memory n u now (option_map (dirtied address (length bytes)) u.track) h (extents-write_at u.memory address bytes now wrote ∙ h.windows) (queue_written n u.memory now address bytes is wrote h.queue) sound
 
 -- ---- steps
 
@@ -214,11 +220,15 @@ call_kept n u (call.Step its) h given =
     at_0 (λ i. IsSound (step_left u i) → IsKept n (step_left u i)) its given (kept_step n u h) (calls_keep u (call.Step its) h.sound)
 call_kept n u (call.Take vcpu) h given = absurd given
 call_kept n u (call.Show vcpu) h given = absurd given
+call_kept n u (call.Best vcpu mask) h given = absurd given
+call_kept n u (call.Claim vcpu intid) h given = absurd given
 call_kept n u (call.Peek addr count) h given = absurd given
 call_kept n u (call.ReadReg its off size) h given = absurd given
 call_kept n u (call.ReadGicr vcpu off size) h given = absurd given
 call_kept n u (call.WriteGicr vcpu off size value) h given = absurd given
 call_kept n u call.Save h given = absurd given
+call_kept n u call.Copy h given = absurd given
+call_kept n u (call.Dma req addr bytes to) h given = absurd given
 
 -- so does a history of them, in whichever order
 pub history_kept : (n : ℕ) (u : Plain) (h : List Entry) → IsKept n u → AllByRecursion (λ (e : Entry). IsGiven n e.call) h → IsKept n (after u h)

@@ -2,7 +2,7 @@
 use Rattle.std.proofs.Common.{◌≡◌, ℕ, ◌/◌, ◌<◌, ◌≤◌, false, not, is_some, List, [], ◌∷◌, ◌++◌, append-nil, length, map, cond, None, Ok, refl, sym, ap, ◌∙◌}
 use Rattle.std.proofs.Common.{arith, lit≤}
 use Rattle.std.specs.Prelude.{find, slice_get, slice_index_or}
-use Rattle.std.specs.List.{AllByRecursion, flat_map}
+use Rattle.std.specs.List.{AllByRecursion}
 use Rattle.std.specs.FinMap.{entries}
 use Rattle.std.proofs.lemmas.Bool.{and_left}
 use Rattle.guest_windows.specs.Windows.{Window, extent}
@@ -14,7 +14,7 @@ use Rattle.its_plain.specs.Machine.{layout_of, described_in}
 use Rattle.its_plain.specs.Plain.{Plain, Translator, Redistributor, no_translator, no_redistributor, translator, regs_of, maps_of}
 use Rattle.its_plain.specs.Sound.{IsSound}
 use Rattle.its_plain.specs.Regions.{device_areas, collection_areas, itt_areas, table_areas, tables_of, areas_of, areas_from, pending_area, config_area}
-use Rattle.its_plain.specs.Regions.{config_areas, queue_area, queue_areas, is_outside, has_no_place, all_placed, none_overlap, savable}
+use Rattle.its_plain.specs.Regions.{config_areas, queue_area, queue_areas, each_areas, is_outside, has_no_place, all_placed, none_overlap, savable}
 use Rattle.its_plain.specs.Saved.{IsSavable}
 use Rattle.its_plain.specs.declared.area.Area.{Area}
 use Rattle.its_plain.specs.declared.fault.Region.TheVariants.{Config}
@@ -97,7 +97,7 @@ only_one [] e = absurd cc
 only_one (t ∷ []) e = refl
 only_one (t ∷ s ∷ ts) e = absurd (omega arith)
 
-places_all : (memory : List Window) (t : Translator) → is_indirect t.regs.baser0 ≡ false → all_placed memory (t ∷ []) ≡ Ok tt
+places_all : (memory : List Window) (t : Translator) → is_indirect t.regs.baser0 ≡ false → all_placed memory 0 (t ∷ []) ≡ Ok tt
 places_all memory t flat =
     let none : find (has_no_place t.regs memory) (entries t.maps.devices) ≡ None = find_none (has_no_place t.regs memory) (entries t.maps.devices)
     (each (entries t.maps.devices)) in
@@ -108,7 +108,7 @@ places_all memory t flat =
     each (d ∷ es) = (and_left (is_indirect t.regs.baser0) (not (is_some (page_of (level1_of t.regs memory (d.0 / 8192))))) flat, each es)
 
 abbrev fixed : Layout
-fixed = record { shape = shape; gicr = false; described = described_in tables }
+fixed = record { shape = shape; gicr = false; described = described_in tables; track = false }
 
 layout_is : layout_of description ≡ fixed
 unfolding description
@@ -134,27 +134,28 @@ config_is u layout =
 
 -- the areas of one translator and the redistributors
 tables_with : List Window → Translator → List Area
-tables_with memory t = (device_areas t.regs memory ++ collection_areas t.regs) ++ itt_areas t.maps
+tables_with memory t = (device_areas 0 t.regs memory ++ collection_areas 0 t.regs) ++ itt_areas 0 t.maps
 
 tables_are : (u : Plain) (t : Translator) → u.translators ≡ t ∷ [] → tables_of u ≡ tables_with u.memory t
 unfolding table_areas tables_with
-tables_are u t one = ap (λ ts. flat_map (table_areas u.memory) ts) one ∙ append-nil ((device_areas t.regs u.memory ++ collection_areas t.regs)
-    ++ itt_areas t.maps)
+tables_are u t one = ap (λ ts. each_areas (table_areas u.memory) 0 ts) one ∙ append-nil ((device_areas 0 t.regs u.memory ++ collection_areas 0 t.regs)
+    ++ itt_areas 0 t.maps)
 
 areas_are : (u : Plain) (t : Translator) → u.translators ≡ t ∷ [] → u.layout ≡ fixed
-    → areas_of u ≡ ((tables_with u.memory t ++ areas_from (pending_area shape) 0 u.redistributors) ++ config_at u.redistributors) ++ queue_area t.regs
+    → areas_of u ≡ ((tables_with u.memory t ++ areas_from (pending_area shape) 0 u.redistributors) ++ config_at u.redistributors) ++ queue_area 0 t.regs
 unfolding areas_of
 areas_are u t one layout =
     let rs = u.redistributors in
-    let queues : flat_map queue_areas u.translators ≡ queue_area t.regs = ap (λ ts. flat_map queue_areas ts) one ∙ append-nil (queue_area t.regs) in
-    ap (λ areas. ((areas ++ areas_from (pending_area u.layout.shape) 0 rs) ++ config_areas u) ++ flat_map queue_areas u.translators) (tables_are u t one)
-    ∙ ap (λ (l : Layout). ((tables_with u.memory t ++ areas_from (pending_area l.shape) 0 rs) ++ config_areas u) ++ flat_map queue_areas u.translators) layout
-    ∙ ap (λ areas. ((tables_with u.memory t ++ areas_from (pending_area shape) 0 rs) ++ areas) ++ flat_map queue_areas u.translators) (config_is u layout)
+    let queues : each_areas queue_areas 0 u.translators ≡ queue_area 0 t.regs = ap (λ ts. each_areas queue_areas 0 ts) one
+    ∙ append-nil (queue_area 0 t.regs) in
+    ap (λ areas. ((areas ++ areas_from (pending_area u.layout.shape) 0 rs) ++ config_areas u) ++ each_areas queue_areas 0 u.translators) (tables_are u t one)
+    ∙ ap (λ (l : Layout). ((tables_with u.memory t ++ areas_from (pending_area l.shape) 0 rs) ++ config_areas u) ++ each_areas queue_areas 0 u.translators) layout
+    ∙ ap (λ areas. ((tables_with u.memory t ++ areas_from (pending_area shape) 0 rs) ++ areas) ++ each_areas queue_areas 0 u.translators) (config_is u layout)
     ∙ ap (λ areas. ((tables_with u.memory t ++ areas_from (pending_area shape) 0 rs) ++ config_at rs) ++ areas) queues
 
 groups_are : (n : ℕ) (u : Plain) → n ≤ 63 → IsKept n u → u.layout ≡ fixed
-    → AreGroups (device_areas (regs_of u 0) u.memory) (collection_areas (regs_of u 0)) (itt_areas (maps_of u 0))
-    (areas_from (pending_area shape) 0 u.redistributors) (config_at u.redistributors) (queue_area (regs_of u 0))
+    → AreGroups (device_areas 0 (regs_of u 0) u.memory) (collection_areas 0 (regs_of u 0)) (itt_areas 0 (maps_of u 0))
+    (areas_from (pending_area shape) 0 u.redistributors) (config_at u.redistributors) (queue_area 0 (regs_of u 0))
 groups_are n u most h layout =
     let within : 0 < length u.translators = omega (arith, h.one) in
     let bits : (regs_of u 0).dev_bits ≡ 16 = (translator_sound u 0 h.sound within).dev_bits ∙ ap (λ (l : Layout). l.shape.dev_bits) layout in
@@ -177,6 +178,6 @@ savable_kept n u most h =
     let inside_all : find (is_outside u.memory) (tables_of u) ≡ None =
     ap (find (is_outside u.memory)) (tables_are u t one) ∙ find_none (is_outside u.memory) (tables_with u.memory t)
     (all_inside _ _ _ _ _ _ groups u.memory h.windows) in
-    let placed : all_placed u.memory u.translators ≡ Ok tt = ap (all_placed u.memory) one ∙ places_all u.memory t (flat t.regs.baser0 h.regs.baser0) in
+    let placed : all_placed u.memory 0 u.translators ≡ Ok tt = ap (all_placed u.memory 0) one ∙ places_all u.memory t (flat t.regs.baser0 h.regs.baser0) in
     let apart : none_overlap (areas_of u) ≡ Ok tt = ap none_overlap (areas_are u t one layout) ∙ none_shared _ (all_spread _ _ _ _ _ _ groups) in
     rw (inside_all, placed) apart

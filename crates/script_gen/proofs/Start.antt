@@ -6,19 +6,19 @@ use Rattle.std.specs.Ordering.{nat_cmp}
 use Rattle.std.specs.FinMap.{get-empty}
 use Rattle.std.proofs.lemmas.Option.{none-some}
 use Rattle.guest_windows.specs.Fields.{pairs}
-use Rattle.guest_windows.specs.Windows.{Window, are_windows, zeros, inside, read_at, extent}
+use Rattle.guest_windows.specs.Windows.{Window, zeros, inside, read_at, extent}
 use Rattle.guest_windows.proofs.Laws.{read_inside, extents_of_zeros}
 use Rattle.gits_regs.specs.Registers.{reset}
-use Rattle.gits_regs.specs.declared.values.RegValues.{RegValues}
 use Rattle.its_command.specs.Commands.{encoded, decoded}
 use Rattle.its_command.specs.declared.command.Command.TheVariants.{Unknown}
 use Rattle.its_command.proofs.Encoded.{decodes_back}
 use Rattle.its_types.specs.Maps.{no_maps}
 use Rattle.its_types.specs.Ranges.{lpi_count, pending_bytes}
 use Rattle.its_types.specs.declared.machine.Shape.{Shape}
-use Rattle.its_plain.specs.Described.{IsFirstState, StartsAt, restored_bases}
+use Rattle.its_plain.specs.Described.{IsFirstState, StartsAt, values_of, is_restored, restored_bases}
 use Rattle.its_plain.specs.Described.IsRefused.{of_description, of_restore}
-use Rattle.its_plain.specs.Machine.{made, started, tables_inside, filled, first_redistributors, layout_of, ensure, ◌>>=◌}
+use Rattle.its_plain.specs.Machine.{made, started, windows_fit, tables_inside, filled, all_frames_fit, all_new, first_redistributors, layout_of}
+use Rattle.its_plain.specs.Machine.{ensure, ◌>>=◌}
 use Rattle.its_plain.specs.Plain.{Plain, Translator, translator, no_translator}
 use Rattle.its_plain.specs.Sound.{IsSound}
 use Rattle.its_plain.specs.declared.desc.Desc.{Desc}
@@ -27,6 +27,7 @@ use Rattle.its_plain.specs.declared.desc.DescFault.TheVariants.{Windows, Config}
 use Rattle.its_plain.specs.declared.desc.Fill.{Fill}
 use Rattle.plain_soundness.proofs.First.{start_sound}
 use Rattle.plain_soundness.proofs.Translated.{if_ok_at}
+use Rattle.event_script.specs.Script.{memory_limit}
 use Rattle.script_gen.specs.Description.{description, shape, tables}
 use Rattle.script_gen.specs.Generated.{queue}
 use Rattle.script_gen.specs.Laws.{MakesMachine, IsNeverRefused}
@@ -79,8 +80,8 @@ module _ (memory : List Window) (one : map extent memory ≡ extents) where
       goes_on (ok_or (read_at memory 0x80030000 (lpi_count 16)) Config) _ _ (is_found (read_at memory 0x80030000 (lpi_count 16)) _ Config
       (read_inside memory 0x80030000 (lpi_count 16) [] config_inside)) (_, refl)
 
-windows_are : (ws : List (ℕ × ℕ)) → ws ≡ extents → are_windows ws ≡ true
-windows_are ws e = subst (λ w. are_windows w ≡ true) (sym e) refl
+windows_are : (d : Desc) → pairs d.windows ≡ extents → d.memory_limit ≡ memory_limit → windows_fit d ≡ true
+windows_are d e limit = rw (e, limit) refl
 
 -- a description of that window and those tables
 pub record IsPlainDesc (d : Desc) : Type 0 where
@@ -88,6 +89,9 @@ pub record IsPlainDesc (d : Desc) : Type 0 where
   pub shaped : d.shape ≡ shape
   pub tabled : d.tables ≡ tables
   pub unfilled : d.fills ≡ []
+  pub limited : d.memory_limit ≡ memory_limit
+  pub single : d.translators ≡ record { restore = None; frames = None } ∷ []
+  pub quiet : d.requesters ≡ []
 
 makes : (d : Desc) → IsPlainDesc d → Makes (made d)
 unfolding made
@@ -99,16 +103,18 @@ makes d h =
     let rs = redistributors_made memory one in
     let first : first_redistributors d.shape memory d.tables ≡ Ok rs.0 =
     ap (λ (s : Shape). first_redistributors s memory d.tables) h.shaped ∙ ap (first_redistributors shape memory) h.tabled ∙ rs.1 in
-    passes (are_windows (pairs d.windows)) Windows _ (windows_are (pairs d.windows) h.windows)
+    passes (windows_fit d) Windows _ (windows_are d h.windows h.limited)
     (goes_on (tables_inside d.shape memory d.tables) tt _ inside_all
     (goes_on (filled memory 0 d.fills) memory _ (ap (filled memory 0) h.unfilled)
-    (goes_on (first_redistributors d.shape memory d.tables) rs.0 _ first (started d memory rs.0, refl))))
+    (goes_on (all_frames_fit (pairs d.windows) 0 d.translators) tt _ (ap (all_frames_fit (pairs d.windows) 0) h.single)
+    (goes_on (all_new [] 0 d.requesters) tt _ (ap (all_new [] 0) h.quiet)
+    (goes_on (first_redistributors d.shape memory d.tables) rs.0 _ first (started d memory rs.0, refl))))))
 
 description_plain : IsPlainDesc description
 unfolding description
-description_plain = record { windows = refl; shaped = refl; tabled = refl; unfilled = refl }
+description_plain = record { windows = refl; shaped = refl; tabled = refl; unfilled = refl; limited = refl; single = refl; quiet = refl }
 
-starts_at : (u : Plain) → StartsAt description.restore (restored_bases description) u u
+starts_at : (u : Plain) → StartsAt (is_restored description) (values_of description) (restored_bases description) u u
 unfolding description
 starts_at u = refl
 
@@ -116,9 +122,9 @@ pub makes_machine : MakesMachine
 makes_machine =
     let m = makes description description_plain in (m.0, record { base = m.0; made_is = m.1; starts = starts_at m.0 })
 
-not_restored : (values : RegValues) → description.restore ≡ Some values → ⊥
+not_restored : is_restored description ≡ true → ⊥
 unfolding description
-not_restored values e = absurd cc
+not_restored e = absurd cc
 
 made_or_fault : (r : Result Plain DescFault) (u : Plain) (f : DescFault) → r ≡ Ok u → r ≡ Err f → ⊥
 made_or_fault (Ok v) u f e g = absurd cc
@@ -126,7 +132,7 @@ made_or_fault (Err x) u f e g = absurd cc
 
 pub never_refused : IsNeverRefused
 never_refused f (of_description _ e) = let m = makes description description_plain in made_or_fault (made description) m.0 f m.1 e
-never_refused _ (of_restore base values f e given fault) = not_restored values given
+never_refused _ (of_restore base i f e given fault) = not_restored given
 
 -- ---- its first state
 
@@ -149,17 +155,21 @@ pub record IsStart (d : Desc) (u : Plain) : Type 0 where
   pub translators : u.translators ≡ record { regs = reset d.shape.dev_bits; maps = no_maps } ∷ []
   pub memory : u.memory ≡ map zeros (pairs d.windows)
 
-made_starts : (d : Desc) → d.fills ≡ [] → IfOk (made d) (IsStart d)
+made_starts : (d : Desc) → d.fills ≡ [] → length d.translators ≡ 1 → IfOk (made d) (IsStart d)
 unfolding made
-made_starts d unfilled =
+made_starts d unfilled one =
+    let t : Translator = record { regs = reset d.shape.dev_bits; maps = no_maps } in
     let empty : List Window = map zeros (pairs d.windows) in
     let unchanged : IfOk (filled empty 0 d.fills) (λ now. now ≡ empty) = subst (λ (fills : List Fill). IfOk (filled empty 0 fills) (λ now. now ≡ empty))
     (sym unfilled) refl in
-    passed (IsStart d) (are_windows (pairs d.windows)) Windows _
+    passed (IsStart d) (windows_fit d) Windows _
     (then_ok (λ _. Unit {0}) (IsStart d) (tables_inside d.shape empty d.tables) _ (any_ok (tables_inside d.shape empty d.tables)) (λ _ _.
     then_ok (λ now. now ≡ empty) (IsStart d) (filled empty 0 d.fills) _ unchanged (λ memory same.
+    then_ok (λ _. Unit {0}) (IsStart d) (all_frames_fit (pairs d.windows) 0 d.translators) _ (any_ok (all_frames_fit (pairs d.windows) 0 d.translators))
+    (λ _ _.
+    then_ok (λ _. Unit {0}) (IsStart d) (all_new [] 0 d.requesters) _ (any_ok (all_new [] 0 d.requesters)) (λ _ _.
     then_ok (λ _. Unit {0}) (IsStart d) (first_redistributors d.shape memory d.tables) _ (any_ok (first_redistributors d.shape memory d.tables)) (λ rs _.
-    record { layout = refl; translators = refl; memory = same }))))
+    record { layout = refl; translators = ap (λ (n : ℕ). replicate n t) one; memory = same }))))))
 
 -- an empty place of the queue holds no command
 zeros_allowed : (n : ℕ) → IsAllowed n (decoded (replicate 32 0))
@@ -187,13 +197,14 @@ started_kept n d u same windows start sound =
       queue = zeros_queue n (pairs d.windows) u.memory start.memory;
     }
 
-first_is : (u base : Plain) → StartsAt description.restore (restored_bases description) base u → u ≡ base
+first_is : (u base : Plain) → StartsAt (is_restored description) (values_of description) (restored_bases description) base u → u ≡ base
 unfolding description
 first_is u base h = h
 
 pub first_kept : (n : ℕ) (u : Plain) → IsFirstState description u → IsKept n u
 first_kept n u h =
-    let start : IsStart description h.base = if_ok_at (IsStart description) (made description) h.base (made_starts description description_plain.unfilled)
+    let start : IsStart description h.base = if_ok_at (IsStart description) (made description) h.base (made_starts description description_plain.unfilled
+    (ap length description_plain.single))
     h.made_is in
     subst (IsKept n) (sym (first_is u h.base h.starts)) (started_kept n description h.base refl description_plain.windows start
     (start_sound description h.base description_is h.made_is))

@@ -41,12 +41,12 @@ one_group low high a above below = record { lie = (record { above = above; below
 -- ---- tables that registers give
 
 pub device_group : (r : Registers) (memory : List Window) → r.dev_bits ≡ 16 → IsEither 0x0107000000000200 0x8107000080000200 r.baser0
-    → IsGroup 0x80000000 0x80010000 (device_areas r memory)
+    → IsGroup 0x80000000 0x80010000 (device_areas 0 r memory)
 unfolding device_areas
 device_group r memory bits either =
     let P : ℕ → ℕ → Type 0 = λ n base. IsGroup 0x80000000 0x80010000 (cond (not (is_valid base)) []
-    (cond (is_indirect base) (level1_areas r memory) (record {
-      region = Devices;
+    (cond (is_indirect base) (level1_areas 0 r memory) (record {
+      region = Devices 0;
       base = table_base base;
       size = 65536 * min (pages base) (level1_entries n);
       is_written = true;
@@ -60,19 +60,19 @@ pub flat : (base : ℕ) → IsEither 0x0107000000000200 0x8107000080000200 base 
 flat base (inl is) = ap is_indirect is
 flat base (inr is) = ap is_indirect is
 
-pub collection_group : (r : Registers) → IsEither 0x0407000000000200 0x8407000080010200 r.baser1 → IsGroup 0x80010000 0x80020000 (collection_areas r)
+pub collection_group : (r : Registers) → IsEither 0x0407000000000200 0x8407000080010200 r.baser1 → IsGroup 0x80010000 0x80020000 (collection_areas 0 r)
 collection_group r either =
     let P : ℕ → Type 0 = λ base. IsGroup 0x80010000 0x80020000 (cond (is_valid base)
-    (record { region = Collections; base = table_base base; size = 65536 * min (pages base) 8; is_written = true } ∷ []) []) in
+    (record { region = Collections 0; base = table_base base; size = 65536 * min (pages base) 8; is_written = true } ∷ []) []) in
     elim either [
       | inl is ↦ subst P (sym is) (no_group 0x80010000 0x80020000)
       | inr is ↦ subst P (sym is) (one_group 0x80010000 0x80020000 _ (lit≤ tt) (lit≤ tt))
     ]
 
-pub queue_group : (r : Registers) → IsEither 0 0x8000000080020000 r.cbaser → IsGroup 0x80020000 0x80021000 (queue_area r)
+pub queue_group : (r : Registers) → IsEither 0 0x8000000080020000 r.cbaser → IsGroup 0x80020000 0x80021000 (queue_area 0 r)
 queue_group r either =
     let P : ℕ → Type 0 = λ base. IsGroup 0x80020000 0x80021000 (cond (is_valid base)
-    (record { region = Queue; base = field base 16 36 * 2 ^ 16; size = size_of base; is_written = false } ∷ []) []) in
+    (record { region = Queue 0; base = field base 16 36 * 2 ^ 16; size = size_of base; is_written = false } ∷ []) []) in
     elim either [
       | inl is ↦ subst P (sym is) (no_group 0x80020000 0x80021000)
       | inr is ↦ subst P (sym is) (one_group 0x80020000 0x80021000 _ (lit≤ tt) (lit≤ tt))
@@ -95,7 +95,7 @@ own_entries n i (e ∷ es) rises h = (
 abbrev itts_from : ℕ → ℕ
 itts_from i = 0x800C0000 + 0x200 * (i - 1)
 
-itt_lies : (n : ℕ) (e : ℕ × Device) → OwnEntry n e → Lies (itts_from e.0) (itts_from (e.0 + 1)) (itt_area e)
+itt_lies : (n : ℕ) (e : ℕ × Device) → OwnEntry n e → Lies (itts_from e.0) (itts_from (e.0 + 1)) (itt_area 0 e)
 itt_lies n e own =
     let size : 8 * 2 ^ e.1.bits ≡ 512 = ap (λ b. 8 * 2 ^ b) own.bits_are in
     let start = own.itt_is in
@@ -103,7 +103,7 @@ itt_lies n e own =
     record { above = omega arith; below = omega arith }
 
 itts_lie : (n i : ℕ) (es : List (ℕ × Device)) → n ≤ 63 → RisesFrom i es → AllByRecursion (OwnEntry n) es
-    → AllLie (itts_from i) 0x800C8000 (flat_map (λ d. itt_area d ∷ []) es)
+    → AllLie (itts_from i) 0x800C8000 (flat_map (λ d. itt_area 0 d ∷ []) es)
 itts_lie n i [] most rises own = tt
 itts_lie n i (e ∷ es) most rises own =
     let here = itt_lies n e own.0 in
@@ -113,21 +113,21 @@ itts_lie n i (e ∷ es) most rises own =
     let below = here.below in (
       record { above = omega arith; below = omega arith },
       all_weaker (Lies (itts_from (e.0 + 1)) 0x800C8000) (Lies (itts_from i) 0x800C8000)
-          (λ a lies. let start = lies.above in record { above = omega arith; below = lies.below }) (flat_map (λ d. itt_area d ∷ []) es)
+          (λ a lies. let start = lies.above in record { above = omega arith; below = lies.below }) (flat_map (λ d. itt_area 0 d ∷ []) es)
           (itts_lie n (e.0 + 1) es most rises.1 own.1),
     )
 
-itts_apart : (n i : ℕ) (es : List (ℕ × Device)) → n ≤ 63 → RisesFrom i es → AllByRecursion (OwnEntry n) es → AreSpread (flat_map (λ d. itt_area d ∷ []) es)
+itts_apart : (n i : ℕ) (es : List (ℕ × Device)) → n ≤ 63 → RisesFrom i es → AllByRecursion (OwnEntry n) es → AreSpread (flat_map (λ d. itt_area 0 d ∷ []) es)
 itts_apart n i [] most rises own = tt
 itts_apart n i (e ∷ es) most rises own =
     let here = itt_lies n e own.0 in
     let below = here.below in (
-      all_weaker (Lies (itts_from (e.0 + 1)) 0x800C8000) (AreApart (itt_area e)) (λ a lies. let start = lies.above in inl (omega arith))
-          (flat_map (λ d. itt_area d ∷ []) es) (itts_lie n (e.0 + 1) es most rises.1 own.1),
+      all_weaker (Lies (itts_from (e.0 + 1)) 0x800C8000) (AreApart (itt_area 0 e)) (λ a lies. let start = lies.above in inl (omega arith))
+          (flat_map (λ d. itt_area 0 d ∷ []) es) (itts_lie n (e.0 + 1) es most rises.1 own.1),
       itts_apart n (e.0 + 1) es most rises.1 own.1,
     )
 
-pub itt_group : (n : ℕ) (m : Maps) → n ≤ 63 → AreDevices n m → IsGroup 0x800C0000 0x800C8000 (itt_areas m)
+pub itt_group : (n : ℕ) (m : Maps) → n ≤ 63 → AreDevices n m → IsGroup 0x800C0000 0x800C8000 (itt_areas 0 m)
 itt_group n m most devices =
     let es = finmap.entries m.devices in
     let rises : RisesFrom 0 es = map_rises m.devices in

@@ -1,5 +1,5 @@
 -- The text of a call and its reply tells how they count.
-use Rattle.std.proofs.Common.{◌≡◌, ℕ, zero, suc, ◌+◌, ◌/◌, ◌%◌, ◌<◌, Bool, true, false, ◌&&◌, cond, eqb, List, [], ◌∷◌, ◌++◌, refl, ap, ◌∙◌, append_assoc}
+use Rattle.std.proofs.Common.{◌≡◌, ℕ, zero, suc, ◌+◌, ◌/◌, ◌%◌, ◌<◌, Bool, true, false, ◌&&◌, cond, eqb, List, [], ◌∷◌, ◌++◌, drop, refl, ap, ◌∙◌, append_assoc}
 use Rattle.std.proofs.Common.{arith}
 use Rattle.std.specs.Prelude.{codes, slice_index, nat_lt}
 use Rattle.std.specs.List.{AllByRecursion}
@@ -12,7 +12,7 @@ use Rattle.its_plain.specs.declared.call.Reply.{Reply}
 use Rattle.its_plain.specs.declared.call.Reply.TheVariants as reply
 use Rattle.its_plain.specs.declared.call.Signal.TheVariants as signal
 use Rattle.its_plain.specs.declared.call.StepReply.TheVariants as step
-use Rattle.its_history.specs.Texts.{answered_text, call_text, reply_text, signal_text, ack_text, step_text}
+use Rattle.its_history.specs.Texts.{answered_text, call_text, its_mark, hexadecimal, reply_text, signal_text, ack_text, step_text}
 use Rattle.script_gen.specs.Summary.{is_signal, is_step, is_delivered, has_run}
 
 -- ---- what is read of a text
@@ -22,12 +22,16 @@ abbrev pub behind : List ℕ → List ℕ
 behind [] = []
 behind (b ∷ bs) = cond (eqb b 62) bs (behind bs)
 
+-- without the `b` of a second translator, which has a space after it as no other first letter
+abbrev pub unmarked : List ℕ → List ℕ
+unmarked text = cond (eqb (slice_index text 1) 32) (drop 2 text) text
+
 -- `signal` has an `i` in the second place, and `step` a `t`, as no other call
 abbrev pub tells_signal : List ℕ → Bool
-tells_signal text = eqb (slice_index text 1) 105
+tells_signal text = eqb (slice_index (unmarked text) 1) 105
 
 abbrev pub tells_step : List ℕ → Bool
-tells_step text = eqb (slice_index text 1) 116
+tells_step text = eqb (slice_index (unmarked text) 1) 116
 
 -- a space, and then `delivered` or `ran`, whose first two letters no other reply has
 abbrev pub begins : ℕ → ℕ → List ℕ → Bool
@@ -83,6 +87,8 @@ delivered_told (reply.Step (step.Refused name why)) = refl
 delivered_told (reply.Step (step.QueueFault addr)) = refl
 delivered_told reply.Saved = refl
 delivered_told (reply.SaveFault fault) = refl
+delivered_told (reply.Copied pages) = refl
+delivered_told reply.NoRequester = refl
 
 ran_told : (r : Reply) → begins 114 97 (32 ∷ reply_text r) ≡ has_run r
 unfolding reply_text signal_text ack_text step_text
@@ -100,36 +106,64 @@ ran_told (reply.Step (step.Refused name why)) = refl
 ran_told (reply.Step (step.QueueFault addr)) = refl
 ran_told reply.Saved = refl
 ran_told (reply.SaveFault fault) = refl
+ran_told (reply.Copied pages) = refl
+ran_told reply.NoRequester = refl
 
 -- ---- calls
 
+-- with the mark of the first translator, and with that of the second
+by_mark : (its : ℕ) (P : List ℕ → Type 0) → P [] → P (codes "b ") → P (its_mark its)
+unfolding its_mark
+by_mark its P first second = cond_both (eqb its 0) [] (codes "b ") P (λ _. first) (λ _. second)
+
+abbrev signal_with : ℕ → ℕ → Reply → List ℕ → List ℕ
+signal_with dev ev r mark = mark ++ codes "signal " ++ decimal dev ++ codes " " ++ decimal ev ++ codes " -> " ++ reply_text r
+
+abbrev read_with : ℕ → ℕ → Reply → List ℕ → List ℕ
+read_with off size r mark = mark ++ codes "read " ++ hexadecimal off ++ codes " " ++ decimal size ++ codes " -> " ++ reply_text r
+
+abbrev write_with : ℕ → ℕ → ℕ → Reply → List ℕ → List ℕ
+write_with off size value r mark =
+    mark ++ codes "write " ++ hexadecimal off ++ codes " " ++ decimal size ++ codes " " ++ hexadecimal value ++ codes " -> " ++ reply_text r
+
+abbrev step_with : Reply → List ℕ → List ℕ
+step_with r mark = mark ++ codes "step" ++ codes " -> " ++ reply_text r
+
 signal_told : (c : Call) (r : Reply) → tells_signal (answered_text c r) ≡ is_signal c
 unfolding answered_text call_text
-signal_told (call.Signal its dev ev) r = refl
+signal_told (call.Signal its dev ev) r = by_mark its (λ m. tells_signal (signal_with dev.0 ev.0 r m) ≡ true) refl refl
 signal_told (call.Take vcpu) r = refl
 signal_told (call.Show vcpu) r = refl
+signal_told (call.Best vcpu mask) r = refl
+signal_told (call.Claim vcpu intid) r = refl
 signal_told (call.Poke addr bytes) r = refl
 signal_told (call.Peek addr count) r = refl
-signal_told (call.ReadReg its off size) r = refl
-signal_told (call.WriteReg its off size value) r = refl
+signal_told (call.ReadReg its off size) r = by_mark its (λ m. tells_signal (read_with off size r m) ≡ false) refl refl
+signal_told (call.WriteReg its off size value) r = by_mark its (λ m. tells_signal (write_with off size value r m) ≡ false) refl refl
 signal_told (call.ReadGicr vcpu off size) r = refl
 signal_told (call.WriteGicr vcpu off size value) r = refl
-signal_told (call.Step its) r = refl
+signal_told (call.Step its) r = by_mark its (λ m. tells_signal (step_with r m) ≡ false) refl refl
 signal_told call.Save r = refl
+signal_told call.Copy r = refl
+signal_told (call.Dma req addr bytes route) r = refl
 
 step_told : (c : Call) (r : Reply) → tells_step (answered_text c r) ≡ is_step c
 unfolding answered_text call_text
-step_told (call.Signal its dev ev) r = refl
+step_told (call.Signal its dev ev) r = by_mark its (λ m. tells_step (signal_with dev.0 ev.0 r m) ≡ false) refl refl
 step_told (call.Take vcpu) r = refl
 step_told (call.Show vcpu) r = refl
+step_told (call.Best vcpu mask) r = refl
+step_told (call.Claim vcpu intid) r = refl
 step_told (call.Poke addr bytes) r = refl
 step_told (call.Peek addr count) r = refl
-step_told (call.ReadReg its off size) r = refl
-step_told (call.WriteReg its off size value) r = refl
+step_told (call.ReadReg its off size) r = by_mark its (λ m. tells_step (read_with off size r m) ≡ false) refl refl
+step_told (call.WriteReg its off size value) r = by_mark its (λ m. tells_step (write_with off size value r m) ≡ false) refl refl
 step_told (call.ReadGicr vcpu off size) r = refl
 step_told (call.WriteGicr vcpu off size value) r = refl
-step_told (call.Step its) r = refl
+step_told (call.Step its) r = by_mark its (λ m. tells_step (step_with r m) ≡ true) refl refl
 step_told call.Save r = refl
+step_told call.Copy r = refl
+step_told (call.Dma req addr bytes route) r = refl
 
 behind_signal : (dev ev : ℕ) (rest : List ℕ) → behind (codes "signal " ++ decimal dev ++ codes " " ++ decimal ev ++ codes " -> " ++ rest) ≡ 32 ∷ rest
 behind_signal dev ev rest =
@@ -139,31 +173,42 @@ behind_signal dev ev rest =
 
 delivery_told : (c : Call) (r : Reply) → tells_delivered (answered_text c r) ≡ (is_signal c && is_delivered r)
 unfolding answered_text call_text
-delivery_told (call.Signal its dev ev) r = ap (begins 100 101) (behind_signal dev.0 ev.0 (reply_text r)) ∙ delivered_told r
+delivery_told (call.Signal its dev ev) r =
+    let told : begins 100 101 (32 ∷ reply_text r) ≡ is_delivered r = delivered_told r in
+    let one = ap (begins 100 101) (behind_signal dev.0 ev.0 (reply_text r)) ∙ told in
+    by_mark its (λ m. tells_delivered (signal_with dev.0 ev.0 r m) ≡ is_delivered r) one one
 delivery_told (call.Take vcpu) r = refl
 delivery_told (call.Show vcpu) r = refl
+delivery_told (call.Best vcpu mask) r = refl
+delivery_told (call.Claim vcpu intid) r = refl
 delivery_told (call.Poke addr bytes) r = refl
 delivery_told (call.Peek addr count) r = refl
-delivery_told (call.ReadReg its off size) r = refl
-delivery_told (call.WriteReg its off size value) r = refl
+delivery_told (call.ReadReg its off size) r = by_mark its (λ m. tells_delivered (read_with off size r m) ≡ false) refl refl
+delivery_told (call.WriteReg its off size value) r = by_mark its (λ m. tells_delivered (write_with off size value r m) ≡ false) refl refl
 delivery_told (call.ReadGicr vcpu off size) r = refl
 delivery_told (call.WriteGicr vcpu off size value) r = refl
-delivery_told (call.Step its) r = refl
+delivery_told (call.Step its) r = by_mark its (λ m. tells_delivered (step_with r m) ≡ false) refl refl
 delivery_told call.Save r = refl
+delivery_told call.Copy r = refl
+delivery_told (call.Dma req addr bytes route) r = refl
 
 run_told : (c : Call) (r : Reply) → tells_ran (answered_text c r) ≡ (is_step c && has_run r)
 unfolding answered_text call_text
-run_told (call.Signal its dev ev) r = refl
+run_told (call.Signal its dev ev) r = by_mark its (λ m. tells_ran (signal_with dev.0 ev.0 r m) ≡ false) refl refl
 run_told (call.Take vcpu) r = refl
 run_told (call.Show vcpu) r = refl
+run_told (call.Best vcpu mask) r = refl
+run_told (call.Claim vcpu intid) r = refl
 run_told (call.Poke addr bytes) r = refl
 run_told (call.Peek addr count) r = refl
-run_told (call.ReadReg its off size) r = refl
-run_told (call.WriteReg its off size value) r = refl
+run_told (call.ReadReg its off size) r = by_mark its (λ m. tells_ran (read_with off size r m) ≡ false) refl refl
+run_told (call.WriteReg its off size value) r = by_mark its (λ m. tells_ran (write_with off size value r m) ≡ false) refl refl
 run_told (call.ReadGicr vcpu off size) r = refl
 run_told (call.WriteGicr vcpu off size value) r = refl
-run_told (call.Step its) r = ran_told r
+run_told (call.Step its) r = by_mark its (λ m. tells_ran (step_with r m) ≡ has_run r) (ran_told r) (ran_told r)
 run_told call.Save r = refl
+run_told call.Copy r = refl
+run_told (call.Dma req addr bytes route) r = refl
 
 -- ---- all four
 

@@ -1,17 +1,18 @@
 -- The script has no more of anything than a script may have.
-use Rattle.std.proofs.Common.{◌≡◌, ℕ, ◌+◌, ◌/◌, ◌<◌, ◌≤◌, ◌^◌, Bool, true, false, ◌&&◌, List, [], ◌∷◌, ◌++◌, length, map, refl, ap, ◌∙◌, arith}
-use Rattle.std.proofs.Common.{lit<, lit≤}
-use Rattle.std.specs.Prelude.{nat_lt, nat_le}
+use Rattle.std.proofs.Common.{◌≡◌, ℕ, ◌+◌, ◌/◌, ◌<◌, ◌≤◌, ◌^◌, Bool, true, false, ◌&&◌, List, [], ◌∷◌, ◌++◌, length, map, refl, sym, ap, ◌∙◌, arith}
+use Rattle.std.proofs.Common.{Option, Some, None, lit<, lit≤}
+use Rattle.std.specs.Prelude.{nat_lt, nat_le, slice_get}
 use Rattle.std.specs.List.{AllByRecursion, range_with_len, list_all}
 use Rattle.std.proofs.lemmas.Bool.{and_from, lt-ltb, le-leb}
 use Rattle.std.proofs.lemmas.List.{length-append}
 use Rattle.std.proofs.lemmas.List.FromFn.{length-map-range_with_len}
 use Rattle.its_command.specs.Commands.{encoded}
 use Rattle.its_command.specs.declared.command.Command.{Command}
-use Rattle.its_plain.specs.Machine.{IsDescription}
+use Rattle.its_plain.specs.Machine.{IsDescription, IsSingle}
 use Rattle.its_plain.specs.Sound.{IsShape}
 use Rattle.its_plain.specs.Runs.{Thread, Phase}
 use Rattle.its_plain.specs.declared.call.Call.{Call}
+use Rattle.its_plain.specs.declared.desc.Its.{Its}
 use Rattle.event_script.specs.Limits.{are_bytes, has_bytes, is_call, is_thread, is_phase, is_leg}
 use Rattle.event_script.proofs.Bytes.{encoded_bytes}
 use Rattle.script_gen.specs.Description.{description}
@@ -109,12 +110,21 @@ shape_is = record {
 
 pub description_is : IsDescription description
 unfolding description
-description_is = record { shape = shape_is; tables = refl }
+description_is = record { shape = shape_is; tables = refl; some_translator = lit≤ tt; most_translators = lit≤ tt }
+
+no_frames : (t : Its) → slice_get description.translators 0 ≡ Some t → t.frames ≡ None
+unfolding description
+no_frames t e = ap (λ (o : Option Its). elim o [ None ↦ None | Some x ↦ x.frames ]) (sym e)
+
+single_is : IsSingle description
+unfolding description
+single_is = record { translator = refl; frames = no_frames; requesters = refl; track = refl }
 
 pub within : StaysWithinLimits
 unfolding description
 within signals threads asked = record {
   description = description_is;
+  single = single_is;
   shards = refl;
   limits = refl;
   some_windows = lit< tt;

@@ -1,16 +1,16 @@
 -- The machine of a generated script: four virtual processors, and one window of memory that has every table.
-use Rattle.std.specs.Prelude.{ℕ, [], ◌∷◌, None}
+use Rattle.std.specs.Prelude.{ℕ, false, [], ◌∷◌, None}
 use Rattle.its_types.specs.declared.ids.Addr.{Addr}
 use Rattle.its_types.specs.declared.machine.Profile.TheVariants.{One}
 use Rattle.its_types.specs.declared.machine.Shape.{Shape}
 use Rattle.its_plain.specs.declared.desc.Desc.{Desc}
 use Rattle.its_plain.specs.declared.desc.LpiTables.{LpiTables}
 use Rattle.its_plain.specs.declared.desc.LpiTables.TheVariants.{Described}
-use Rattle.event_script.specs.Script.{default_limits}
+use Rattle.event_script.specs.Script.{default_limits, memory_limit}
 
 -- DeviceIDs and LPIs of 16 bits
 abbrev pub shape : Shape
-shape = record { vcpus = 4; dev_bits = 16; lpi_bits = 16; profile = One }
+shape = record { vcpus = 4; dev_bits = 16; lpi_bits = 16; profile = One; linux = false }
 
 abbrev pub at : ℕ → Addr
 at address = record { 0 = address }
@@ -29,7 +29,10 @@ description = record {
   shards = 16;
   limits = default_limits;
   windows = window ∷ [];
+  memory_limit = memory_limit;
   tables = tables;
   fills = [];
-  restore = None;
+  translators = record { restore = None; frames = None } ∷ [];
+  requesters = [];
+  track = false;
 }

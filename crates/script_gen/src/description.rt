@@ -1,7 +1,7 @@
 ghost use Rattle.std.specs.Prelude.{◌≡◌, IfOk};
 ghost use Rattle.script_gen.specs.Description as spec;
 
-use its_plain::{Desc, LpiTables};
+use its_plain::{Desc, Its, LpiTables};
 use its_types::{Addr, Limits, Listed, Profile, Shape};
 use std::alloc::{AllocError, Global};
 
@@ -12,12 +12,18 @@ pub fn description(alloc: Global) -> Result<Desc, AllocError>
 {
     let mut windows = Listed::new(alloc);
     windows.push((Addr(0x8000_0000), 0x20_0000))?;
+    let mut translators = Listed::new(alloc);
+    translators.push(Its {
+        restore: None,
+        frames: None,
+    })?;
     Ok(Desc {
         shape: Shape {
             vcpus: 4,
             dev_bits: 16,
             lpi_bits: 16,
             profile: Profile::One,
+            linux: false,
         },
         shards: 16,
         limits: Limits {
@@ -25,9 +31,12 @@ pub fn description(alloc: Global) -> Result<Desc, AllocError>
             place_last: (1 << 40) - 1,
         },
         windows,
+        memory_limit: 64 << 20,
         tables: tables(alloc)?,
         fills: Listed::new(alloc),
-        restore: None,
+        translators,
+        requesters: Listed::new(alloc),
+        track: false,
     })
 }
 
