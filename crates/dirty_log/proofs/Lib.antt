@@ -4,3 +4,4 @@ pub mod Listed
 pub mod Marks
 pub mod Tracks
 pub mod Whole
+pub mod Copying

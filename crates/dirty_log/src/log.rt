@@ -3,9 +3,13 @@ ghost use Rattle.std.specs.List.{list_all};
 ghost use Rattle.guest_windows.specs.Windows.{in_range};
 ghost use Rattle.guest_windows.specs.Fields.{pairs};
 ghost use Rattle.dirty_log.specs.Pages as spec;
-ghost use Rattle.dirty_log.specs.Listing.{is_in, AreLow};
+ghost use Rattle.guest_windows.specs.Windows.{extent};
+ghost use Rattle.guest_windows.specs.Mixed.{mixed_windows};
+ghost use Rattle.dirty_log.specs.Copies.{copied};
+ghost use Rattle.dirty_log.specs.Listing.{is_in, is_of_dirty, AreLow};
 
 use crate::page::Page;
+use guest_windows::{Memory, WholeMemory};
 use its_types::Addr;
 use std::alloc::{AllocError, Global};
 use std::marker::Model;
@@ -82,6 +86,35 @@ impl DirtyLog {
             .iter()
             .find(|page| page.dirty && from <= page.number)
             .map(|page| page.number)
+    }
+
+    /// Copies the bytes of the dirty pages from memory.
+    pub fn copy_dirty(&self, memory: &Memory, copy: &mut WholeMemory)
+        requires { map extent copy.old ≡ map extent memory.now }
+        ensures { copy.new ≡ copied memory.now self.now copy.old }
+    {
+        copy_pages(&self.pages, memory, copy);
+    }
+}
+
+fn copy_pages(pages: &[Page], memory: &Memory, copy: &mut WholeMemory)
+    requires same { map extent copy.old ≡ map extent memory.now }
+    requires low { AreLow pages.now }
+    ensures { copy.new ≡ copied memory.now pages.now copy.old }
+{
+    for at in 0..pages.len() {
+        copy_one(pages[at], memory, copy);
+    }
+}
+
+// Copies a page if it is dirty.
+fn copy_one(page: Page, memory: &Memory, copy: &mut WholeMemory)
+    requires same { map extent copy.old ≡ map extent memory.now }
+    requires low { page.number < 2 ^ 40 }
+    ensures { copy.new ≡ mixed_windows (is_of_dirty page) memory.now copy.old }
+{
+    if page.dirty {
+        copy.copy_page(memory, page.number);
     }
 }
 
