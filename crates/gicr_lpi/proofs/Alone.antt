@@ -1,5 +1,5 @@
 -- One redistributor is enough for a read of its LPI registers, and with memory for a write.
-use Rattle.std.proofs.Common.{◌≡◌, ℕ, ◌<◌, Bool, true, false, if◌then◌else◌, List, [], ◌∷◌, length, set, refl, ap, sym, ◌∙◌, inl, inr, arith, length-set}
+use Rattle.std.proofs.Common.{◌≡◌, ℕ, ◌<◌, Bool, true, false, if◌then◌else◌, List, [], ◌∷◌, None, length, set, refl, ap, sym, ◌∙◌, inl, inr, arith, length-set}
 use Rattle.std.proofs.Common.{get_or-set_same}
 use Rattle.gicr_regs.specs.Registers.{AreLow, AreKept, written_gicr}
 use Rattle.guest_windows.specs.Windows.{Window}
@@ -52,13 +52,13 @@ module _ (s : Setup) (vcpus : HasVcpus s) (w : Word) (room : w.place < s.limits.
 
   module _ (off size : ℕ) where
     abbrev value : Reply
-    value = reply.Value (read_by s.start.layout.gicr r off size)
+    value = reply.Value (read_by s.start.layout r off size)
 
     read_answered : IsAnswered a (call.ReadGicr vcpu off size) value one
     unfolding footprint reply_of
     read_answered = record {
       covers = (inl refl, tt);
-      reply_is = ap (λ (x : Redistributor). reply.Value (read_by s.start.layout.gicr x off size))
+      reply_is = ap (λ (x : Redistributor). reply.Value (read_by s.start.layout x off size))
           (sym has_one);
     }
 
@@ -87,7 +87,7 @@ module _ (s : Setup) (vcpus : HasVcpus s) (w : Word) (room : w.place < s.limits.
     has_both : redistributor b vcpu.0 ≡ r
     has_both = get_or-set_same s.start.redistributors vcpu.0 r no_redistributor inside
 
-    not_memory : Holds (part.Redist vcpu) (out part.Mem (Mem memory) ∷ []) → ⊥
+    not_memory : Holds (part.Redist vcpu) (out part.Mem (Mem memory None) ∷ []) → ⊥
     not_memory (inl e) = cc
     not_memory (inr h) = h
 
@@ -104,14 +104,14 @@ module _ (s : Setup) (vcpus : HasVcpus s) (w : Word) (room : w.place < s.limits.
         get_or-set_same b.redistributors vcpu.0 (done (redistributor b vcpu.0)) no_redistributor long ∙ ap done has_both
     left_redist false = has_both
 
-    left_memory : (programmed : Bool) → (left_by programmed).memory ≡ memory
+    left_memory : (programmed : Bool) → (let z : Plain = left_by programmed in Mem z.memory z.track) ≡ Mem memory None
     left_memory true = refl
     left_memory false = refl
 
     write_leaves : renewal s (staying w (write_call access) reply.Ok Keep) both ≡ both_held vcpu
         (after_write s.start.layout.gicr s.start.layout.shape memory access r) memory
     unfolding left
-    write_leaves = λ d. both_held vcpu (left_redist s.start.layout.gicr d) (left_memory s.start.layout.gicr d)
+    write_leaves = λ d. out (part.Redist vcpu) (Redist (left_redist s.start.layout.gicr d)) ∷ out part.Mem (left_memory s.start.layout.gicr d) ∷ []
 
     pub may_write : MayLeave s (staying w (write_call access) reply.Ok Keep) both
         (both_held vcpu (after_write s.start.layout.gicr s.start.layout.shape memory access r) memory)

@@ -12,12 +12,13 @@ use lpi_pending::{Redist, gicr_read, gicr_write};
 
 /// What a read of `size` bytes at an offset gives. Where the guest doesn't program the tables it
 /// gives zero.
-pub fn read_from(redist: &Redist, programmed: bool, off: u32, size: u8) -> u64
+pub fn read_from(linux: bool, redist: &Redist, programmed: bool, off: u32, size: u8) -> u64
     requires low { programmed ≡ true → AreLow redist.now.bases }
-    ensures { result ≡ if programmed then registers.read_gicr redist.now.bases off size else 0 }
+    ensures { result
+        ≡ if programmed then registers.read_gicr linux redist.now.bases off size else 0 }
 {
     if programmed {
-        gicr_read(redist, off, size)
+        gicr_read(linux, redist, off, size)
     } else {
         0
     }

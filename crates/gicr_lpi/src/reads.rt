@@ -37,8 +37,9 @@ pub fn try_read_gicr<G: Gate>(
         Ok(redist) => redist,
         Err(busy) => return Attempt::Busy(busy),
     };
-    let programmed = machine.desc().tables.are_programmed();
-    let value = read_from(&redist, programmed, off, size);
+    let desc = machine.desc();
+    let programmed = desc.tables.are_programmed();
+    let value = read_from(desc.shape.linux, &redist, programmed, off, size);
     let call = Call::ReadGicr { vcpu, off, size };
     let made = try_commit(
         machine,

@@ -17,7 +17,8 @@ use std::sync::Wait;
 
 /// Writes `size` bytes, 4 or 8, at an offset of a virtual processor's LPI registers. A write that
 /// turns LPIs on or names an LPI to be read again reads guest memory too. Nothing is written where
-/// the guest doesn't program the LPI tables.
+/// the guest doesn't program the LPI tables. LPIs can be turned off where the machine is for Linux
+/// guests; what was pending is lost then.
 ///
 /// ```
 /// // GICR_CTLR, bit 0: EnableLPIs.

@@ -33,7 +33,7 @@ is_so : (m : Machine) (programmed : Bool) (desc : Desc) → layout_of desc ≡ (
 is_so m programmed desc layout is = is ∙ ap (λ (l : Layout). l.gicr) layout
 
 reads_now : (m : Machine) (vcpu : Vcpu) (r : Redistributor) (off size : ℕ) → vcpu.0 < vcpu_count (setup m) → (w : Word) → w.place < (setup m).limits.place_last
-    → MayLeave (setup m) (staying w (call.ReadGicr vcpu off size) (reply.Value (read_by (setup m).start.layout.gicr r off size)) Keep) (held_one vcpu r)
+    → MayLeave (setup m) (staying w (call.ReadGicr vcpu off size) (reply.Value (read_by (setup m).start.layout r off size)) Keep) (held_one vcpu r)
     (held_one vcpu r)
 reads_now m vcpu r off size st w room = may_read (setup m) m.laid.1 w room vcpu st r off size
 
@@ -42,7 +42,7 @@ read_from-value-requires g c = let m = c.args.machine.now in record {
   low = λ e. rw (c.deref.ensures) (low_bases (setup m) c.args.vcpu (redistributor_of c.in-Ok.redist.value)
       (subst (λ (s : Setup). HasStood s (part.Redist c.args.vcpu) (Redist (redistributor_of c.in-Ok.redist.value))) c.requires.of.1
       c.in-Ok.ensures.result.0.stood)
-      (sym (is_so m c.are_programmed-programmed.result c.desc.result.now c.desc.ensures.layout c.are_programmed-programmed.ensures) ∙ e));
+      (sym (is_so m c.are_programmed-programmed.result c.desc-desc.result.now c.desc-desc.ensures.layout c.are_programmed-programmed.ensures) ∙ e));
 }
 
 pub try_commit-made-requires-clause-may : goal.try_commit-made-requires-clause-may
@@ -51,10 +51,11 @@ try_commit-made-requires-clause-may g c =
     rw (
       c.read_from-value.ensures,
       c.deref.ensures,
-      is_so m c.are_programmed-programmed.result c.desc.result.now c.desc.ensures.layout
+      is_so m c.are_programmed-programmed.result c.desc-desc.result.now c.desc-desc.ensures.layout
           c.are_programmed-programmed.ensures,
+      c.desc-desc.ensures.shape,
     )
-    (may_here (setup m) (call.ReadGicr c.args.vcpu c.args.off c.args.size) (reply.Value (read_by (setup m).start.layout.gicr r c.args.off c.args.size)) Keep
+    (may_here (setup m) (call.ReadGicr c.args.vcpu c.args.off c.args.size) (reply.Value (read_by (setup m).start.layout r c.args.off c.args.size)) Keep
     (held_one c.args.vcpu r) (λ _. held_one c.args.vcpu r) (reads_now m c.args.vcpu r c.args.off c.args.size c.requires.vcpu) x
     (one_held v (part.Redist c.args.vcpu) (Redist r) x c.in-Ok.ensures.result.0.view c.requires.free))
 
@@ -65,15 +66,16 @@ put-requires-clause-owed g c =
       content = Redist r;
       content_is = refl;
       before = [];
-      last = owes_here (setup m) (call.ReadGicr c.args.vcpu c.args.off c.args.size) (reply.Value (read_by (setup m).start.layout.gicr r c.args.off c.args.size))
+      last = owes_here (setup m) (call.ReadGicr c.args.vcpu c.args.off c.args.size) (reply.Value (read_by (setup m).start.layout r c.args.off c.args.size))
           Keep (held_one c.args.vcpu r) (λ _. held_one c.args.vcpu r) (reads_now m c.args.vcpu r c.args.off c.args.size c.requires.vcpu) x
           (one_held v (part.Redist c.args.vcpu) (Redist r) x c.in-Ok.ensures.result.0.view c.requires.free) c.try_take_redist.ensures.of.1 c.in-Ok-made.word
           (view c.try_commit-made.new.pass)
           (rw (
             c.read_from-value.ensures,
             c.deref.ensures,
-            is_so m c.are_programmed-programmed.result c.desc.result.now c.desc.ensures.layout
+            is_so m c.are_programmed-programmed.result c.desc-desc.result.now c.desc-desc.ensures.layout
                 c.are_programmed-programmed.ensures,
+            c.desc-desc.ensures.shape,
           ) at c.in-Ok-made.ensures.result);
     }
 

@@ -1,4 +1,4 @@
-use Rattle.std.proofs.Common.{refl, sym, ◌∙◌, ap, Bool, List, [], ◌∷◌, ◌<◌, ◌≡◌, inl, inr}
+use Rattle.std.proofs.Common.{refl, sym, ◌∙◌, ap, Bool, List, [], ◌∷◌, None, ◌<◌, ◌≡◌, inl, inr}
 use Rattle.its_types.specs.declared.machine.Part.TheVariants as part
 use Rattle.its_types.specs.declared.machine.Word.{Word}
 use Rattle.guest_windows.specs.Windows.{Window}
@@ -42,10 +42,10 @@ writes_now : (m : Machine) (a : GicrAccess) (r : Redistributor) (memory : List W
     → MayLeave (setup m) (staying w (write_call a) reply.Ok Keep) (both_held a.vcpu r memory) (both_held a.vcpu (left_of m a r memory) memory)
 writes_now m a r memory st w room = may_write (setup m) m.laid.1 w room a.vcpu st r memory a.off a.size a.value
 
-two_held : (v y x : View) (a : GicrAccess) (r : Redistributor) (memory : List Window) → v.held ≡ [] → y.held ≡ out part.Mem (Mem memory) ∷ v.held
+two_held : (v y x : View) (a : GicrAccess) (r : Redistributor) (memory : List Window) → v.held ≡ [] → y.held ≡ out part.Mem (Mem memory None) ∷ v.held
     → x.held ≡ out (part.Redist a.vcpu) (Redist r) ∷ y.held → x.held ≡ both_held a.vcpu r memory
 two_held v y x a r memory bare first second = second ∙ ap (λ (l : List Held). out (part.Redist a.vcpu) (Redist r) ∷ l)
-    (first ∙ ap (λ (l : List Held). out part.Mem (Mem memory) ∷ l) bare)
+    (first ∙ ap (λ (l : List Held). out part.Mem (Mem memory None) ∷ l) bare)
 
 pub try_commit-made-requires-clause-may : goal.try_commit-made-requires-clause-may
 try_commit-made-requires-clause-may g c =
@@ -54,7 +54,7 @@ try_commit-made-requires-clause-may g c =
     let memory = c.take_memory-memory.result.value.memory in let r = redistributor_of c.take_redist-redist.result.value in
     rw (c.call.ensures) (may_here (setup m) (write_call a) reply.Ok Keep (both_held a.vcpu r memory) (λ _. both_held a.vcpu (left_of m a r memory) memory)
     (writes_now m a r memory c.requires.vcpu) x
-    (two_held v y x a r memory c.requires.free (took_held v y part.Mem (Mem memory) c.take_memory-memory.ensures.takes)
+    (two_held v y x a r memory c.requires.free (took_held v y part.Mem (Mem memory None) c.take_memory-memory.ensures.takes)
     (took_held y x (part.Redist a.vcpu) (Redist r) c.take_redist-redist.ensures.takes)))
 
 pub apply-requires-clause-low : goal.apply-requires-clause-low
@@ -79,13 +79,13 @@ put-requires-clause-owed g c =
     let m = c.args.machine.now in let v = view c.args.pass.now in let y = view c.take_memory-memory.new.pass in let x =
     view c.take_redist-redist.new.pass in let z = view c.try_commit-made.new.pass in let a = c.args.access in
     let memory = c.take_memory-memory.result.value.memory in let r = redistributor_of c.take_redist-redist.result.value in
-    let has = two_held v y x a r memory c.requires.free (took_held v y part.Mem (Mem memory) c.take_memory-memory.ensures.takes)
+    let has = two_held v y x a r memory c.requires.free (took_held v y part.Mem (Mem memory None) c.take_memory-memory.ensures.takes)
     (took_held y x (part.Redist a.vcpu) (Redist r) c.take_redist-redist.ensures.takes) in
     let so = is_so m c.are_programmed-programmed.result c.desc-desc.result.now c.desc-desc.ensures.layout c.are_programmed-programmed.ensures in
     record {
       content = Redist (redistributor_of c.match-made.redist.value);
       content_is = refl;
-      before = out part.Mem (Mem memory) ∷ [];
+      before = out part.Mem (Mem memory None) ∷ [];
       last = elim c.match-made.branch [
         | in-Ok w ↦
             let after : redistributor_of w.apply.new.redist ≡ left_of m a r memory =
@@ -102,10 +102,10 @@ put-requires-2-clause-owed g c =
     let m = c.args.machine.now in let v = view c.args.pass.now in let y = view c.take_memory-memory.new.pass in let x =
     view c.take_redist-redist.new.pass in let z = view c.try_commit-made.new.pass in let a = c.args.access in
     let memory = c.take_memory-memory.result.value.memory in let r = redistributor_of c.take_redist-redist.result.value in
-    let has = two_held v y x a r memory c.requires.free (took_held v y part.Mem (Mem memory) c.take_memory-memory.ensures.takes)
+    let has = two_held v y x a r memory c.requires.free (took_held v y part.Mem (Mem memory None) c.take_memory-memory.ensures.takes)
     (took_held y x (part.Redist a.vcpu) (Redist r) c.take_redist-redist.ensures.takes) in
     record {
-      content = Mem memory;
+      content = Mem memory None;
       content_is = refl;
       before = [];
       last = ap (λ (u : View). u.held) c.put.ensures.view ∙ elim c.match-made.branch [
@@ -120,10 +120,10 @@ returns-clause-answer g c =
     let m = c.args.machine.now in let v = view c.args.pass.now in let y = view c.take_memory-memory.new.pass in let x =
     view c.take_redist-redist.new.pass in let z = view c.try_commit-made.new.pass in let a = c.args.access in
     let memory = c.take_memory-memory.result.value.memory in let r = redistributor_of c.take_redist-redist.result.value in
-    let has = two_held v y x a r memory c.requires.free (took_held v y part.Mem (Mem memory) c.take_memory-memory.ensures.takes)
+    let has = two_held v y x a r memory c.requires.free (took_held v y part.Mem (Mem memory None) c.take_memory-memory.ensures.takes)
     (took_held y x (part.Redist a.vcpu) (Redist r) c.take_redist-redist.ensures.takes) in
     let P = IsOfWrite a.vcpu in
-    let on = took_two P v y x part.Mem (part.Redist a.vcpu) (Mem memory) (Redist r) (inl refl) (inr refl) c.take_memory-memory.ensures.takes
+    let on = took_two P v y x part.Mem (part.Redist a.vcpu) (Mem memory None) (Redist r) (inl refl) (inr refl) c.take_memory-memory.ensures.takes
     c.take_redist-redist.ensures.takes in
     let end = view c.put-2.new.pass in
     let left = held_before (held_before z.held) in
