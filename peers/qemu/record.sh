@@ -2,8 +2,8 @@
 # Records QEMU's translator at work. README.md says what for.
 #
 # usage: record.sh linux DIR [ROUNDS]             downloads a Linux and records a boot of it: DIR/linux.log
-#        record.sh hibernate DIR [small]         the same, of a Linux that writes a hibernation image and goes on
-#        record.sh kexec DIR [small]             the same, of a Linux that starts another one by kexec
+#        record.sh hibernate DIR [PROCESSORS]    the same, of a Linux that writes a hibernation image and goes on
+#        record.sh kexec DIR [PROCESSORS]        the same, of a Linux that starts another one by kexec
 #        record.sh guest DIR SEED BATCHES [OPTIONS OF generate.py]      the same with guest.c: DIR/guest.log
 #        record.sh differences DIR [CASE]         the same with differences.py
 #        record.sh play PROGRAM LOG [OPTIONS OF to_script.py]           plays a log as a script, and compares
@@ -77,11 +77,11 @@ add_second() {
     pack "$dir/second" >>"$dir/initrd.gz"
 }
 
-# A kernel's words, and `small` for two processors and one disk in place of four and all the devices.
+# A kernel's words, and a number of processors for a small machine with one disk, in place of four and all devices.
 record_linux() {
     local dir=$1 words=$2 devices
-    if [ "${3:-}" = small ]; then
-        processors=2
+    if [ -n "${3:-}" ]; then
+        processors=$3
         devices=(-device virtio-blk-pci,drive=d0,num-queues=1)
     else
         devices=(-device virtio-blk-pci,drive=d0,num-queues=4
@@ -121,7 +121,7 @@ play() {
 case "${1:-}" in
 linux) mkdir -p "$2" && record_linux "$(realpath "$2")" "rounds=${3:-1}" ;;
 hibernate) mkdir -p "$2" && record_linux "$(realpath "$2")" "rounds=0 hibernate" "${3:-}" ;;
-kexec) mkdir -p "$2" && record_linux "$(realpath "$2")" "rounds=0 kexec=$([ "${3:-}" = small ] && echo 0 || echo 1)" "${3:-}" ;;
+kexec) mkdir -p "$2" && record_linux "$(realpath "$2")" "rounds=0 kexec=$([ -n "${3:-}" ] && echo 0 || echo 1)" "${3:-}" ;;
 guest) mkdir -p "$2" && python3 "$here/generate.py" "${@:3:2}" "$2/ops" "${@:5}" && record_guest "$(realpath "$2")" ;;
 differences) mkdir -p "$2" && python3 "$here/differences.py" "$2/ops" "${@:3}" && record_guest "$(realpath "$2")" ;;
 qemu_guest) run_qemu "$2" guest 256 -kernel "$2/guest.elf" -device "loader,file=$2/ops,addr=0x48000000,force-raw=on" ;;
