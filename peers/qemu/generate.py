@@ -1,12 +1,12 @@
 #!/usr/bin/env python3
 """Writes the operations that guest.c plays: registers, tables, random commands good and bad, and acknowledgements.
 
-usage: generate.py SEED BATCHES OUT [--levels] [--registers] [--linux] [--quiet]
+usage: generate.py SEED BATCHES OUT [--levels] [--registers] [--linux] [--priorities] [--quiet]
 
 --levels uses a device table of two levels. --registers accesses registers between the commands, and turns the
 translator off and on. --linux does what is for scripts with the line `linux`: base registers are written with their
-own values, and LPIs are turned off and on. --quiet leaves out what QEMU and `its run` are known to answer differently
-(README.md), so that all else can be compared to the last reply.
+own values, and LPIs are turned off and on. --priorities gives LPIs several. --quiet leaves out what QEMU and `its run`
+are known to answer differently (README.md), so that all else can be compared to the last reply.
 """
 import argparse
 import random
@@ -29,6 +29,7 @@ class Player:
         self.ops = []
         self.next = 0
         self.quiet = quiet
+        self.priorities = False
         self.itts = 0
         self.wide = 0
         self.unmapped = {4, 8191}
@@ -63,9 +64,14 @@ class Player:
             self.op(DRAIN, cpu)
 
 
+def priority(p):
+    """A priority, which LPIs with lower numbers come before; one and the same unless several are asked for."""
+    return p.random.choice([0x20, 0x60, 0xA0, 0xA4, 0xFC]) if p.priorities else 0xA0
+
+
 def configure(p):
-    """The configuration table and the redistributors: most LPIs enabled, all of one priority."""
-    p.config = {8192 + i: 0xA0 if i % 7 == 5 else 0xA1 for i in range(64)}
+    """The configuration table and the redistributors: most LPIs enabled."""
+    p.config = {8192 + i: priority(p) | (i % 7 != 5) for i in range(64)}
     for i in range(0, 64, 8):
         word = bytes(p.config[8192 + i + k] for k in range(8))
         p.op(WRITE64, CONFIG + i, int.from_bytes(word, "little"))
@@ -216,7 +222,7 @@ def configure_again(p):
     collection alone, so an INVALL follows.
     """
     lpi = p.random.choice(LPIS)
-    p.config[lpi] = p.random.choice([0xA0, 0xA1])
+    p.config[lpi] = priority(p) | p.random.choice([0, 1])
     base = lpi & -8
     word = bytes(p.config.get(base + k, 0) for k in range(8))
     p.op(WRITE64, CONFIG + base - 8192, int.from_bytes(word, "little"))
@@ -320,10 +326,11 @@ def main():
     parser.add_argument("--levels", action="store_true")
     parser.add_argument("--registers", action="store_true")
     parser.add_argument("--linux", action="store_true")
+    parser.add_argument("--priorities", action="store_true")
     parser.add_argument("--quiet", action="store_true")
     args = parser.parse_args()
     p = Player(args.seed, args.quiet)
-    p.registers, p.levels, p.linux = args.registers, args.levels, args.linux
+    p.registers, p.levels, p.linux, p.priorities = args.registers, args.levels, args.linux, args.priorities
     configure(p)
     tables(p, args.levels)
     begin(p)

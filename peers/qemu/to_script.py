@@ -1,13 +1,15 @@
 #!/usr/bin/env python3
 """Turns a log of record.py into a script of `its run`, and a list of what QEMU answered.
 
-usage: to_script.py LOG SCRIPT ANSWERS [--title TEXT] [--linux] [--short N] [--calls N] [--legs N] [--lpis-alone]
+usage: to_script.py LOG SCRIPT ANSWERS [--title TEXT] [--linux] [--short N] [--priorities] [--calls N] [--legs N]
+                    [--lpis-alone]
 
 Line k of ANSWERS is the answer to the script's k-th call; before them stands a line `linux` where the script has one.
 --linux gives the script the line `linux`. --short leaves out reads that tell nothing new, and of the signals of an
-event that are acknowledged at once all but N. --calls ends the script after N calls. --legs cuts it by migrations into
-N legs of about the same length, so the second and later legs go on from tables that a save wrote. --lpis-alone is for
-a guest that has no other interrupts: its acknowledgement that gets none is then compared too.
+event that are acknowledged at once all but N. --priorities has `best` and `claim` for each acknowledgement in place of
+`take`, which doesn't weigh priorities as QEMU does. --calls ends the script after N calls. --legs cuts it by migrations
+into N legs of about the same length, so the second and later legs go on from tables that a save wrote. --lpis-alone is
+for a guest that has no other interrupts: its acknowledgement that gets none is then compared too.
 """
 import argparse
 import re
@@ -17,6 +19,7 @@ import fewer
 import trace
 
 UNIT = 0x10000
+OF_PROCESSORS = ("take", "best", "claim", "rwrite", "rread")
 
 
 def halves(low, offset, value):
@@ -91,9 +94,23 @@ def windows(places, most=12):
     return merged
 
 
+def by_priority(calls):
+    """The calls, with `best` and `claim` in place of `take`."""
+    changed = []
+    for text, answer, remark in calls:
+        word, *fields = text.split()
+        if word != "take":
+            changed.append((text, answer, remark))
+            continue
+        changed.append((f"best {fields[0]} 255", answer, remark))
+        if answer != "none":
+            changed.append((f"claim {fields[0]} {answer.split()[1]}", answer, remark))
+    return changed
+
+
 def description(calls, title, linux):
     lines = [f"# {line}" for line in title]
-    cpus = 1 + max([int(t.split()[1]) for t, _, _ in calls if t.split()[0] in ("take", "rwrite", "rread")] + [0])
+    cpus = 1 + max([int(t.split()[1]) for t, _, _ in calls if t.split()[0] in OF_PROCESSORS] + [0])
     lines += [f"vcpus {cpus}", "shards 16", "ids 16 16", "gicr"] + ["linux"] * linux
     lines += [f"window {base:#x} {end - base:#x}" for base, end in windows(stretches(calls))]
     return lines
@@ -127,6 +144,7 @@ def main():
     parser.add_argument("--title", default="")
     parser.add_argument("--linux", action="store_true")
     parser.add_argument("--short", type=int)
+    parser.add_argument("--priorities", action="store_true")
     parser.add_argument("--calls", type=int)
     parser.add_argument("--legs", type=int, default=1)
     parser.add_argument("--lpis-alone", action="store_true")
@@ -135,6 +153,8 @@ def main():
     calls = fewer.configuration(calls)
     if args.short is not None:
         calls = fewer.short(calls, args.short)
+    if args.priorities:
+        calls = by_priority(calls)
     if args.calls is not None:
         calls, left = calls[:args.calls], {}
     title = [line for line in re.split(r"\s*\|\s*", args.title) if line]
