@@ -313,7 +313,11 @@ fn scripts_are_read(rt: HostRuntime) -> Result<(), Fail> {
             "linux\nphase\nthread\nbest 0 255\nclaim 0 0xffffffff\nend\n",
             "1 16 16 One linux leg 2",
         ),
-        (PROGRAMMED, "linux\nend\n", "2 16 16 One linux gicr 0 0 0 leg"),
+        (
+            PROGRAMMED,
+            "linux\nend\n",
+            "2 16 16 One linux gicr 0 0 0 leg",
+        ),
         (PROGRAMMED, "end\n", "2 16 16 One gicr 0 0 0 leg"),
         (
             PROGRAMMED,

@@ -1,4 +1,4 @@
-use guest_windows::{Memory, NewError, Outside, are_windows};
+use guest_windows::{Memory, NewError, Outside, WriteError, are_windows};
 use its_types::Addr;
 use std::test::Fail;
 
@@ -12,8 +12,8 @@ fn windows_of_a_memory(rt: HostRuntime) {
         ([(Addr(0), 16), (Addr(16), 0)], false),
         ([(Addr(0), 16), (last, 16)], true),
         ([(Addr(0), 16), (last, 17)], false),
-        ([(Addr(0), 0x400_0000 - 1), (last, 1)], true),
-        ([(Addr(0), 0x400_0000), (last, 1)], false),
+        ([(Addr(0), (1 << 52) - 16), (last, 16)], true),
+        ([(Addr(0), (1 << 52) - 15), (last, 16)], false),
     ] {
         assert_eq!(rt; are_windows(&windows), want, "{windows:?}");
     }
@@ -23,7 +23,7 @@ const TWO: [(Addr, u64); 2] = [(Addr(0x8000_0000), 0x1000), (Addr(0x8000_1000), 
 
 // What memory is asked, with the answer.
 enum Act {
-    Writes(u64, &'static [u8], Result<(), Outside>),
+    Writes(u64, &'static [u8], Result<(), WriteError>),
     WritesWord(u64, u64),
     Byte(u64, Result<u8, Outside>),
     Word(u64, Result<u64, Outside>),
@@ -61,7 +61,11 @@ fn play(memory: &mut Memory, acts: &[Act]) -> usize {
 
 const WRITTEN: [Act; 6] = [
     Act::Writes(0x8000_0ffc, &[1, 2, 3, 4], Ok(())),
-    Act::Writes(0x8000_0ffc, &[9; 5], Err(Outside(Addr(0x8000_0ffc)))),
+    Act::Writes(
+        0x8000_0ffc,
+        &[9; 5],
+        Err(WriteError::Outside(Addr(0x8000_0ffc))),
+    ),
     Act::Byte(0x8000_0fff, Ok(4)),
     Act::Byte(0x8000_1020, Err(Outside(Addr(0x8000_1020)))),
     Act::WritesWord(0x8000_1018, 0x0102_0304_0506_0708),

@@ -12,6 +12,7 @@ const SHAPE: Shape = Shape {
     dev_bits: 16,
     lpi_bits: 14,
     profile: Profile::One,
+    linux: false,
 };
 
 // Words, and the place of the first that isn't zero.
@@ -54,6 +55,10 @@ enum Act {
     // An LPI's configuration byte.
     Reload(u32, u8),
     FirstEnabled(Option<u32>),
+    // The first by priority below a mask.
+    Best(u8, Option<u32>),
+    // Whether it may be claimed.
+    Claims(u32, bool),
 }
 
 // Whether that is an LPI, which is then pending or isn't any more.
@@ -96,6 +101,24 @@ fn first_enabled(pending: &Pending, config: &Config) -> Option<u32> {
     Some(first.0)
 }
 
+fn best(pending: &Pending, config: &Config, mask: u8) -> Option<u32> {
+    if pending.lpi_bits() != config.lpi_bits() {
+        return Some(0);
+    }
+    let first = pending.first_by_priority(config, mask)?;
+    Some(first.0)
+}
+
+fn claims(pending: &Pending, config: &Config, lpi: u32) -> Option<bool> {
+    if pending.lpi_bits() != config.lpi_bits() {
+        return None;
+    }
+    match pending.claimable(config, Intid(lpi)) {
+        Some(intid) => Some(intid.0 == lpi),
+        None => Some(false),
+    }
+}
+
 fn does(pending: &mut Pending, config: &mut Config, act: Act) -> bool {
     match act {
         Act::Set(lpi) => put(pending, lpi, true),
@@ -103,6 +126,8 @@ fn does(pending: &mut Pending, config: &mut Config, act: Act) -> bool {
         Act::Has(lpi, want) => has(pending, lpi) == Some(want),
         Act::Reload(lpi, byte) => reload(config, lpi, byte),
         Act::FirstEnabled(want) => first_enabled(pending, config) == want,
+        Act::Best(mask, want) => best(pending, config, mask) == want,
+        Act::Claims(lpi, want) => claims(pending, config, lpi) == Some(want),
     }
 }
 
@@ -137,6 +162,42 @@ fn pending_lpis(rt: HostRuntime) -> Result<(), Fail> {
     let mut pending = Pending::new(rt.alloc(), 14)?;
     assert_eq!(rt; play(&mut pending, &mut config, &ACTS), 12);
     assert_eq!(rt; has(&pending, 8200), Some(false));
+    Ok(())
+}
+
+// A lower number comes first, and among equal ones the lowest LPI. What isn't below the mask, isn't
+// enabled or isn't pending is none of them.
+const BY_PRIORITY: [Act; 22] = [
+    Act::Best(0xff, None),
+    Act::Set(8200),
+    Act::Set(8201),
+    Act::Set(8300),
+    Act::Set(12288),
+    Act::Set(16383),
+    Act::Best(0xff, None),
+    Act::Reload(8200, 0xa1),
+    Act::Reload(8201, 0x40),
+    Act::Reload(8300, 0x83),
+    Act::Reload(12288, 0x81),
+    Act::Reload(16383, 0x91),
+    Act::Best(0xff, Some(8300)),
+    Act::Best(0x81, Some(8300)),
+    Act::Best(0x80, None),
+    Act::Best(0, None),
+    Act::Claims(8200, true),
+    Act::Claims(8201, false),
+    Act::Claims(8202, false),
+    Act::Claims(8191, false),
+    Act::Clear(8300),
+    Act::Best(0xff, Some(12288)),
+];
+
+#[test]
+fn pending_lpis_by_priority(rt: HostRuntime) -> Result<(), Fail> {
+    let mut config = Config::zeros(rt.alloc(), 14)?;
+    let mut pending = Pending::new(rt.alloc(), 14)?;
+    assert_eq!(rt; play(&mut pending, &mut config, &BY_PRIORITY), 22);
+    assert_eq!(rt; claims(&pending, &config, 0xffff_ffff), Some(false));
     Ok(())
 }
 
@@ -251,7 +312,7 @@ fn turned_on(alloc: Global, memory: &Memory, written: Written) -> Result<TurnedO
     gicr_write(&mut redist, memory, &SHAPE, 0x78, 8, pend);
     gicr_write(&mut redist, memory, &SHAPE, 0x78, 4, half);
     gicr_write(&mut redist, memory, &SHAPE, 0x0, 4, 1);
-    let ctlr = gicr_read(&redist, 0x0, 4);
+    let ctlr = gicr_read(false, &redist, 0x0, 4);
     let pending = redist.pending.has(Intid(8200));
     Ok((ctlr, pending, redist.config.byte(Intid(8200))))
 }
@@ -268,5 +329,47 @@ fn lpis_turned_on(rt: HostRuntime) -> Result<(), Fail> {
             "{written:?}"
         );
     }
+    Ok(())
+}
+
+// On, and then off. What GICR_CTLR reads, whether LPI 8200 is pending, its configuration, and
+// GICR_PROPBASER written anew.
+fn turned_off(
+    alloc: Global,
+    memory: &Memory,
+    linux: bool,
+) -> Result<(u64, bool, u8, u64), AllocError> {
+    let shape = Shape { linux, ..SHAPE };
+    let mut redist = Redist {
+        pending: Pending::new(alloc, 14)?,
+        config: Config::zeros(alloc, 14)?,
+        bases: Bases::off(),
+    };
+    gicr_write(&mut redist, memory, &shape, 0x70, 8, 0x8003_0000);
+    gicr_write(&mut redist, memory, &shape, 0x78, 8, 0x8006_0000);
+    gicr_write(&mut redist, memory, &shape, 0x0, 4, 1);
+    gicr_write(&mut redist, memory, &shape, 0x0, 4, 0);
+    gicr_write(&mut redist, memory, &shape, 0x70, 8, 0x8004_0000);
+    Ok((
+        gicr_read(linux, &redist, 0x0, 4),
+        redist.pending.has(Intid(8200)),
+        redist.config.byte(Intid(8200)),
+        gicr_read(linux, &redist, 0x70, 8),
+    ))
+}
+
+#[test]
+fn lpis_turned_off(rt: HostRuntime) -> Result<(), Fail> {
+    let mut memory = Memory::new(rt.alloc(), &[(Addr(0x8003_0000), 0x5_0000)])?;
+    assert_eq!(rt; memory.write(Addr(0x8003_0008), &[0xa1]), Ok(()));
+    assert_eq!(rt; memory.write(Addr(0x8006_0401), &[0x01]), Ok(()));
+    assert_eq!(rt;
+        turned_off(rt.alloc(), &memory, true)?,
+        (2, false, 0, 0x8004_0780)
+    );
+    assert_eq!(rt;
+        turned_off(rt.alloc(), &memory, false)?,
+        (1, true, 0xa1, 0x8003_0000)
+    );
     Ok(())
 }
