@@ -4,6 +4,7 @@ use Rattle.std.specs.Prelude.{is_some, length}
 use Rattle.std.proofs.lemmas.Bool.{cases_lt}
 use Rattle.std.proofs.lemmas.Option.{same_Some}
 use Rattle.guest_windows.specs.Windows.{Window}
+use Rattle.dirty_log.specs.declared.tracked.Tracked.{Tracked}
 use Rattle.its_types.specs.Ranges.{is_lpi}
 use Rattle.its_plain.specs.Plain.{Plain, Translator, Redistributor, redistributor, with_redistributor}
 use Rattle.its_plain.specs.declared.layout.Layout.{Layout}
@@ -47,14 +48,22 @@ none_held : (o : Option Redist) → is_some o ≡ false → o ≡ None
 none_held None e = refl
 none_held (Some r) e = absurd cc
 
-abbrev built : Layout → List Translator → List Redistributor → List Window → Plain
-built l ts rs m = record { layout = l; translators = ts; redistributors = rs; memory = m }
+abbrev built : Layout → List Translator → List Redistributor → List Window → Option Tracked → Plain
+built l ts rs m t = record { layout = l; translators = ts; redistributors = rs; memory = m; track = t }
 
-same_state : (l k : Layout) (ts us : List Translator) (rs qs : List Redistributor) (m n : List Window) → l ≡ k → ts ≡ us → rs ≡ qs → m ≡ n
-    → built l ts rs m ≡ built k us qs n
-same_state l k ts us rs qs m n el et er em =
-    ap (λ (x : Layout). built x ts rs m) el ∙ ap (λ (x : List Translator). built k x rs m) et ∙ ap (λ (x : List Redistributor). built k us x m) er
-    ∙ ap (built k us qs) em
+same_state : (l k : Layout) (ts us : List Translator) (rs qs : List Redistributor) (m n : List Window) (s t : Option Tracked) → l ≡ k → ts ≡ us → rs ≡ qs
+    → m ≡ n → s ≡ t → built l ts rs m s ≡ built k us qs n t
+same_state l k ts us rs qs m n s t el et er em es =
+    ap (λ (x : Layout). built x ts rs m s) el ∙ ap (λ (x : List Translator). built k x rs m s) et ∙ ap (λ (x : List Redistributor). built k us x m s) er
+    ∙ ap (λ (x : List Window). built k us qs x s) em ∙ ap (built k us qs n) es
+
+-- it has no second memory
+pub no_track : (p : Parts) → IsMachine p → p.layout.track ≡ false
+no_track p m = sym m.sound.tracks
+
+tracks_none : (o : Option Tracked) → is_some o ≡ false → None ≡ o
+tracks_none None e = refl
+tracks_none (Some t) e = absurd cc
 
 module _ (old new : Parts) (w : Plain) (m : IsMachine old) (same : new.layout ≡ old.layout) (alike : AreHeldAlike new.redists old.redists)
     (parts : ArePartsOf w 0 old.layout.shape new.regs new.maps.maps new.memory new.redists) where
@@ -69,11 +78,12 @@ module _ (old new : Parts) (w : Plain) (m : IsMachine old) (same : new.layout �
       let many : length w.redistributors ≡ n = sound.vcpus ∙ ap (λ s. s.vcpus) parts.shape_is in
       ap (λ (l : Layout). state_of l new.regs new.maps.maps new.memory new.redists) same
       ∙ same_state old.layout w.layout (record { regs = new.regs; maps = new.maps.maps } ∷ []) w.translators (map redistributor_or (take n new.redists))
-      w.redistributors new.memory w.memory
+      w.redistributors new.memory w.memory None w.track
       layout
       (one_is w.translators (record { regs = new.regs; maps = new.maps.maps }) one parts.translator_is)
       (hand_is n new.redists w.redistributors (λ v lt. let q = all_held v lt in (q.0, q.1, (parts.redistributors_are v q.0 q.1).same)) many)
       (sym parts.memory_is)
+      (tracks_none w.track (sound.tracks ∙ ap (λ (l : Layout). l.track) (sym layout) ∙ no_track old m))
 
   go : old.layout ≡ w.layout → length w.translators ≡ 1 → IsSound w → GoesOn new w
   go layout one sound =

@@ -2,6 +2,7 @@ mod Lists
 mod Kept
 mod Needed
 mod Answered
+mod LongWrites
 mod Started
 mod Migrating
 mod Programmed

@@ -1,14 +1,15 @@
 -- Machines that are restored from memory, and the ones that migrations go on with.
-use Rattle.std.proofs.Common.{◌≡◌, ℕ, zero, suc, ◌≤◌, Bool, true, false, if◌then◌else◌, List, [], ◌∷◌, length, map, take, Option, Some, None, Result, Ok, Err}
+use Rattle.std.proofs.Common.{◌≡◌, ℕ, zero, suc, ◌≤◌, Bool, true, false, if◌then◌else◌, List, [], ◌∷◌, length, map, take, get_or, Option, Some, None, Result, Ok, Err}
 use Rattle.std.proofs.Common.{refl, sym, ap, subst, ◌∙◌, arith}
-use Rattle.std.specs.Prelude.{slice_get}
+use Rattle.std.specs.Prelude.{slice_get, is_some}
+use Rattle.std.specs.List.{list_any}
 use Rattle.std.specs.Result.{IsErrAnd}
 use Rattle.std.proofs.lemmas.List.{length-map}
 use Rattle.std.proofs.lemmas.Option.{same_Some}
 use Rattle.guest_windows.specs.Windows.{Window}
 use Rattle.gits_regs.specs.declared.values.RegValues.{RegValues}
 use Rattle.its_types.specs.declared.translation.Bases.{Bases}
-use Rattle.its_plain.specs.Plain.{Plain, Translator, Redistributor}
+use Rattle.its_plain.specs.Plain.{Plain, Redistributor}
 use Rattle.its_plain.specs.Sound.{IsSound}
 use Rattle.gicr_regs.specs.Registers.{AreKept, restored_bases, all_restored_bases}
 use Rattle.gicr_regs.specs.declared.values.GicrRegisters.{GicrRegisters}
@@ -21,12 +22,13 @@ use Rattle.its_plain.specs.Regions.{savable}
 use Rattle.its_plain.specs.Saved.{saved, moved}
 use Rattle.its_plain.specs.Stands.{Stands, IsFirstFault}
 use Rattle.its_plain.specs.declared.desc.Desc.{Desc}
+use Rattle.its_plain.specs.declared.desc.Its.{Its}
 use Rattle.its_plain.specs.declared.desc.DescFault.TheVariants.{Restore}
 use Rattle.its_plain.specs.declared.fault.RestoreFault.{RestoreFault}
 use Rattle.its_plain.specs.declared.make.MakeError.{MakeError}
 use Rattle.its_plain.specs.declared.make.MakeError.TheVariants as making
 use Rattle.lpi_pending.specs.InHand.{in_hand}
-use Rattle.owned_parts.specs.Owned.{AreAllInHand, redistributor_or, state_of, state_of_parts}
+use Rattle.owned_parts.specs.Owned.{AreAllInHand, redistributor_or, state_of_parts}
 use Rattle.owned_parts.specs.declared.parts.Parts.{Parts}
 use Rattle.plain_soundness.proofs.Migrated.{migrations_keep}
 use Rattle.standing_states.specs.Laws.{AreBasesOf, AreGiven, bases_to_restore}
@@ -80,7 +82,7 @@ restored_kept v = record { prop_whole = omega arith; prop_low = omega arith; id_
 -- ---- a restored machine
 
 module _ (old new : Parts) (gicr : GicrValues) (values : RegValues) (m : IsMachine old) (same : new.layout ≡ old.layout)
-    (stands : Stands old.memory values old.layout (bases_to_restore old.layout gicr) (state_of_parts new))
+    (stands : Stands old.memory (Some values ∷ []) old.layout (bases_to_restore old.layout gicr) (state_of_parts new))
     (all : AreAllInHand old.layout.shape new.redists) (none : (v : ℕ) → old.layout.shape.vcpus ≤ v → in_hand new.redists v ≡ None) where
   abbrev programmed : List Bases
   programmed = all_restored_bases old.layout.shape.vcpus gicr
@@ -104,21 +106,23 @@ module _ (old new : Parts) (gicr : GicrValues) (values : RegValues) (m : IsMachi
 
   restored_whole : IsMachine new
   restored_whole = record {
-    sound = standing_sound old.memory values old.layout (bases_to_restore old.layout gicr) (state_of_parts new) m.sound.layout are_bases m.sound.memory stands;
+    sound = standing_sound old.memory (Some values ∷ []) old.layout (bases_to_restore old.layout gicr) (state_of_parts new) m.sound.layout are_bases m.sound.memory stands;
     all_in_hand = subst (λ (l : Layout). AreAllInHand l.shape new.redists) (sym same) all;
     no_others = subst (λ (l : Layout). (v : ℕ) → l.shape.vcpus ≤ v → in_hand new.redists v ≡ None) (sym same) none;
   }
 
-  pub restored_begun : (d : Desc) → made d ≡ Ok (state_of_parts old) → d.restore ≡ Some values → bases_to_restore old.layout gicr ≡ described.restored_bases d
+  pub restored_begun : (d : Desc) → made d ≡ Ok (state_of_parts old) → described.values_of d ≡ Some values ∷ []
+      → bases_to_restore old.layout gicr ≡ described.restored_bases d
       → AreBegun d (Ok new)
   restored_begun d made_is restore_is where_is =
       let u = state_of_parts old in
-      let here : Stands old.memory values old.layout (described.restored_bases d) (state_of_parts new) =
-      subst (λ (bs : List Bases). Stands old.memory values old.layout bs (state_of_parts new)) where_is stands in (
+      let here : Stands old.memory (Some values ∷ []) old.layout (described.restored_bases d) (state_of_parts new) =
+      subst (λ (bs : List Bases). Stands old.memory (Some values ∷ []) old.layout bs (state_of_parts new)) where_is stands in (
         record {
           base = u;
           made_is = made_is;
-          starts = subst (λ (o : Option RegValues). StartsAt o (described.restored_bases d) u (state_of_parts new)) (sym restore_is) here;
+          starts = subst (λ (vs : List (Option RegValues)). StartsAt (list_any is_some vs) vs (described.restored_bases d) u (state_of_parts new))
+              (sym restore_is) here;
         },
         restored_whole,
       )
@@ -127,18 +131,26 @@ pub where_given : (d : Desc) (p : Parts) (values : GicrValues) → p.layout ≡ 
     → bases_to_restore p.layout values ≡ described.restored_bases d
 where_given d p values layout given = ap (λ (l : Layout). bases_to_restore l values) layout ∙ given_is d values given
 
-pub started_begun : (d : Desc) (p : Parts) → d.restore ≡ None → AreStarted d (Ok p) → AreBegun d (Ok p)
+-- the values that a description of one translator gives for it
+pub values_first : (ts : List Its) (other : Its) → length ts ≡ 1 → map (λ (x : Its). x.restore) ts ≡ (get_or ts 0 other).restore ∷ []
+values_first [] other e = absurd cc
+values_first (x ∷ []) other e = refl
+values_first (x ∷ y ∷ ts) other e = absurd (omega (arith, e))
+
+pub started_begun : (d : Desc) (p : Parts) → described.values_of d ≡ None ∷ [] → AreStarted d (Ok p) → AreBegun d (Ok p)
 started_begun d p none h =
     let u = state_of_parts p in (
-      record { base = u; made_is = h.made_is; starts = subst (λ (o : Option RegValues). StartsAt o (described.restored_bases d) u u) (sym none) refl },
+      record { base = u; made_is = h.made_is; starts = subst (λ (vs : List (Option RegValues)). StartsAt (list_any is_some vs) vs (described.restored_bases d) u u) (sym none) refl },
       h.whole,
     )
 
 pub restore_refused : (d : Desc) (p : Parts) (values : RegValues) (gicr : GicrValues) (f : RestoreFault) → made d ≡ Ok (state_of_parts p)
-    → d.restore ≡ Some values → bases_to_restore p.layout gicr ≡ described.restored_bases d
-    → IsFirstFault p.memory values p.layout.shape (bases_to_restore p.layout gicr) f → IsRefused d (Restore f)
+    → described.values_of d ≡ Some values ∷ [] → bases_to_restore p.layout gicr ≡ described.restored_bases d
+    → IsFirstFault p.memory (Some values ∷ []) p.layout.shape (bases_to_restore p.layout gicr) 0 f → IsRefused d (Restore 0 f)
 restore_refused d p values gicr f made_is restore_is where_is first =
-    of_restore (state_of_parts p) values f made_is restore_is (subst (λ (bs : List Bases). IsFirstFault p.memory values p.layout.shape bs f) where_is first)
+    of_restore (state_of_parts p) 0 f made_is (ap (list_any is_some) restore_is)
+    (subst (λ (vs : List (Option RegValues)). IsFirstFault p.memory vs p.layout.shape (described.restored_bases d) 0 f) (sym restore_is)
+    (subst (λ (bs : List Bases). IsFirstFault p.memory (Some values ∷ []) p.layout.shape bs 0 f) where_is first))
 
 pub start_refused : (d : Desc) (e : MakeError) → AreStarted d (Err e) → AreBegun d (Err e)
 start_refused d making.NoMemory h = tt
@@ -155,22 +167,11 @@ begun_with d (Err x) e is h = subst (λ (y : MakeError). AreBegun d (Err y)) (sy
 
 -- ---- a moved machine
 
--- what was copied, and then saved into the copy
-module _ (old : Parts) (copy memory : List Window) (values : RegValues) (gicr : GicrValues) (m : IsMachine old) (copied : copy ≡ old.memory)
-    (answered : savable (state_of old.layout old.regs old.maps.maps copy old.redists) ≡ Ok tt)
-    (written : memory ≡ saved (state_of old.layout old.regs old.maps.maps copy old.redists)) (read : values ≡ values_read old.regs)
+module _ (old : Parts) (memory : List Window) (values : RegValues) (gicr : GicrValues) (m : IsMachine old) (can : savable (state_of_parts old) ≡ Ok tt)
+    (written : memory ≡ saved (state_of_parts old)) (read : values ≡ values_read old.regs)
     (own : old.layout.gicr ≡ true → all_restored_bases old.layout.shape.vcpus gicr ≡ bases_of (state_of_parts old)) where
   abbrev u : Plain
   u = state_of_parts old
-
-  abbrev t : Translator
-  t = record { regs = old.regs; maps = old.maps.maps }
-
-  pub is_savable : savable (state_of_parts old) ≡ Ok tt
-  is_savable = subst (λ (x : List Window). savable (state_of old.layout old.regs old.maps.maps x old.redists) ≡ Ok tt) copied answered
-
-  is_saved : memory ≡ saved (state_of_parts old)
-  is_saved = subst (λ (x : List Window). memory ≡ saved (state_of old.layout old.regs old.maps.maps x old.redists)) copied written
 
   -- what is said of the memory, the values and the bases that were restored from
   there : (P : List Window → RegValues → List Bases → Type 0) → P memory values (bases_to_restore old.layout gicr) → P (saved u) (values_read old.regs)
@@ -178,16 +179,16 @@ module _ (old : Parts) (copy memory : List Window) (values : RegValues) (gicr : 
   there P h =
       subst (λ (bs : List Bases). P (saved u) (values_read old.regs) bs) (restored_where old gicr m own)
       (subst (λ (v : RegValues). P (saved u) v (bases_to_restore old.layout gicr)) read
-      (subst (λ (x : List Window). P x values (bases_to_restore old.layout gicr)) is_saved h))
+      (subst (λ (x : List Window). P x values (bases_to_restore old.layout gicr)) written h))
 
-  pub moved_goes : (new : Parts) → new.layout ≡ old.layout → Stands memory values old.layout (bases_to_restore old.layout gicr) (state_of_parts new)
+  pub moved_goes : (new : Parts) → new.layout ≡ old.layout → Stands memory (Some values ∷ []) old.layout (bases_to_restore old.layout gicr) (state_of_parts new)
       → AreAllInHand old.layout.shape new.redists
       → ((v : ℕ) → old.layout.shape.vcpus ≤ v → in_hand new.redists v ≡ None) → GoesOn new (moved (state_of_parts old))
   moved_goes new layout stands all none =
-      let here : Stands (saved u) (values_read old.regs) old.layout (bases_of u) (state_of_parts new) =
-      there (λ (x : List Window) (v : RegValues) (bs : List Bases). Stands x v old.layout bs (state_of_parts new)) stands
+      let here : Stands (saved u) (Some (values_read old.regs) ∷ []) old.layout (bases_of u) (state_of_parts new) =
+      there (λ (x : List Window) (v : RegValues) (bs : List Bases). Stands x (Some v ∷ []) old.layout bs (state_of_parts new)) stands
       in
-      let same : state_of_parts new ≡ moved u = saved_state.only_that u t (state_of_parts new) m.sound is_savable refl here in
+      let same : state_of_parts new ≡ moved u = saved_state.only_that u (state_of_parts new) m.sound can here in
       record {
         state = same;
         whole = record {
@@ -197,6 +198,6 @@ module _ (old : Parts) (copy memory : List Window) (values : RegValues) (gicr : 
         };
       }
 
-  pub no_fault : (f : RestoreFault) → IsFirstFault memory values old.layout.shape (bases_to_restore old.layout gicr) f → ⊥
-  no_fault f first = saved_state.no_offence u t f m.sound is_savable refl
-      (there (λ (x : List Window) (v : RegValues) (bs : List Bases). IsFirstFault x v old.layout.shape bs f) first)
+  pub no_fault : (f : RestoreFault) → IsFirstFault memory (Some values ∷ []) old.layout.shape (bases_to_restore old.layout gicr) 0 f → ⊥
+  no_fault f first = saved_state.no_offence u 0 f m.sound can
+      (there (λ (x : List Window) (v : RegValues) (bs : List Bases). IsFirstFault x (Some v ∷ []) old.layout.shape bs 0 f) first)

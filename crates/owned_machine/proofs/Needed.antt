@@ -10,7 +10,8 @@ use Rattle.its_types.specs.declared.machine.Profile.{Profile}
 use Rattle.its_types.specs.declared.machine.Profile.TheVariants.{One, Two}
 use Rattle.its_types.specs.declared.machine.Shape.{Shape}
 use Rattle.its_plain.specs.Parts.{target_of_event}
-use Rattle.cmd_exec.specs.Needs.{is_target, is_either, is_moved, is_needed, needs_vcpu, AreTargets}
+use Rattle.owned_parts.specs.RedistSets.{is_target}
+use Rattle.cmd_exec.specs.Needs.{is_either, is_moved, is_needed, needs_vcpu, AreTargets}
 use Rattle.cmd_exec.proofs.Sets.{needs_same}
 
 target_below : (n v : ℕ) (o : Option Vcpu) → ((x : Vcpu) → o ≡ Some x → x.0 < n) → is_target o v ≡ true → v < n

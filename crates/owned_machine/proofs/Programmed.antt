@@ -24,7 +24,7 @@ use Rattle.owned_machine.specs.Migrations.{AreRead}
 use Rattle.owned_machine.proofs.Kept.{parts_are, redist_goes, redistributor_here}
 
 -- the bases of a redistributor have kept bits alone
-bases_kept : (p : Parts) (v : ℕ) (r : Redist) → IsMachine p → p.layout.gicr ≡ true → in_hand p.redists v ≡ Some r → AreKept r.bases
+pub bases_kept : (p : Parts) (v : ℕ) (r : Redist) → IsMachine p → p.layout.gicr ≡ true → in_hand p.redists v ≡ Some r → AreKept r.bases
 bases_kept p v r m gicr is = (m.sound.redistributors v (redistributor_of r) ((parts_are p m).redistributors_are v r is).same).kept gicr
 
 pub bases_low : (p : Parts) (v : ℕ) (r : Redist) → IsMachine p → p.layout.gicr ≡ true → in_hand p.redists v ≡ Some r → AreLow r.bases

@@ -1,10 +1,12 @@
 -- The first state of a machine.
-use Rattle.std.proofs.Common.{◌≡◌, ℕ, ◌+◌, ◌<◌, ◌≤◌, true, false, List, [], ◌∷◌, length, map, replicate, take, get_or, zero, suc, Option, Some, None, Result}
+use Rattle.std.proofs.Common.{◌≡◌, ℕ, ◌+◌, ◌<◌, ◌≤◌, Bool, true, false, List, [], ◌∷◌, length, map, replicate, take, get_or, zero, suc, Option, Some, None, Result}
 use Rattle.std.proofs.Common.{Ok, Err, inl, inr, refl, sym, ap, subst, ◌∙◌, arith}
 use Rattle.std.specs.Prelude.{ok_or, is_some, slice_get, slice_set}
 use Rattle.std.proofs.lemmas.Bool.{cases_eq}
 use Rattle.std.proofs.lemmas.List.{get_or-set_same, get_or-set_other, length-map, length-replicate}
 use Rattle.guest_windows.specs.Windows.{Window, inside, read_at}
+use Rattle.guest_windows.specs.Windows.{zeros as zero_window}
+use Rattle.guest_windows.specs.Fields.{pairs}
 use Rattle.guest_windows.proofs.Laws.{is_some-read_at}
 use Rattle.gits_regs.specs.Registers.{Registers, reset}
 use Rattle.its_types.specs.Maps.{Maps, no_maps}
@@ -17,13 +19,16 @@ use Rattle.gicr_regs.specs.Redistributors.{off_redistributor}
 use Rattle.gicr_regs.specs.declared.values.GicrValues.{GicrValues}
 use Rattle.its_types.specs.Lpis.{no_bases}
 use Rattle.its_plain.specs.Machine.{made, started, layout_of, described_bases, idle_redistributor, first_redistributors, HasTablesFor, IsDescription, ◌>>=◌}
+use Rattle.its_plain.specs.Machine.{IsSingle, ensure, windows_fit, tables_inside, filled, all_frames_fit, all_new}
+use Rattle.its_plain.specs.Saved.{track_of}
+use Rattle.its_plain.specs.declared.desc.Its.{Its}
 use Rattle.its_plain.specs.declared.layout.Layout.{Layout}
 use Rattle.its_plain.specs.declared.desc.LpiTables.{LpiTables}
 use Rattle.its_plain.specs.declared.desc.LpiTables.TheVariants as tables
 use Rattle.its_plain.specs.declared.desc.LpiTables.TheVariants.{Described}
 use Rattle.its_plain.specs.declared.desc.Desc.{Desc}
 use Rattle.its_plain.specs.declared.desc.DescFault.{DescFault}
-use Rattle.its_plain.specs.declared.desc.DescFault.TheVariants.{Config}
+use Rattle.its_plain.specs.declared.desc.DescFault.TheVariants.{Config, Windows}
 use Rattle.plain_soundness.proofs.First.{start_sound}
 use Rattle.lpi_config.specs.Configurations.{Configuration, zeros}
 use Rattle.lpi_pending.specs.PendingSets.{PendingSet, none_pending}
@@ -140,10 +145,51 @@ no_config s memory config pending out =
     ap (λ (o : Option (List ℕ)). ok_or o Config >>= λ bytes. Ok (map (idle_redistributor bytes) (map (described_bases config) pending)))
     (no_read (read_at memory config.0 (lpi_count s.lpi_bits)) (is_some-read_at memory config.0 (lpi_count s.lpi_bits) ∙ out))
 
-abbrev state : Layout → Registers → Maps → List Window → List Redistributor → Plain
-state l r m memory rs = record { layout = l; translators = record { regs = r; maps = m } ∷ []; redistributors = rs; memory = memory }
+-- ---- a description of one translator
 
-module _ (d : Desc) (p : Parts) (description : IsDescription d) (filled : IsFilled d (Ok p.memory)) (has : HasConfig d.shape p.memory d.tables)
+single_frames : (taken : List (ℕ × ℕ)) (i : ℕ) (ts : List Its) → length ts ≡ 1 → ((t : Its) → slice_get ts 0 ≡ Some t → t.frames ≡ None)
+    → all_frames_fit taken i ts ≡ Ok tt
+single_frames taken i [] e none = absurd cc
+single_frames taken i (t ∷ []) e none = rw (none t refl) refl
+single_frames taken i (t ∷ q ∷ ts) e none = absurd (omega (arith, e))
+
+pub frames_are : (d : Desc) → IsSingle d → all_frames_fit (pairs d.windows) 0 d.translators ≡ Ok tt
+frames_are d single = single_frames (pairs d.windows) 0 d.translators single.translator single.frames
+
+pub requesters_are : (d : Desc) → IsSingle d → all_new [] 0 d.requesters ≡ Ok tt
+requesters_are d single = ap (all_new [] 0) single.requesters
+
+pub filled_is : (d : Desc) (empty memory : List Window) → IsSingle d → empty ≡ map zero_window (pairs d.windows) → windows_fit d ≡ true
+    → tables_inside d.shape empty d.tables ≡ Ok tt → filled empty 0 d.fills ≡ Ok memory → IsFilled d (Ok memory)
+unfolding made
+filled_is d empty memory single is fit tables fills =
+    let zeros : List Window = map zero_window (pairs d.windows) in
+    let redistributors : List Window → Result Plain DescFault = λ now. first_redistributors d.shape now d.tables >>= λ rs. Ok (started d now rs) in
+    let checked : List Window → Result Plain DescFault =
+    λ now. all_frames_fit (pairs d.windows) 0 d.translators >>= λ _. all_new [] 0 d.requesters >>= λ _. redistributors now in
+    ap (λ (b : Bool). ensure b Windows >>= λ _. tables_inside d.shape zeros d.tables >>= λ _. filled zeros 0 d.fills >>= checked) fit
+    ∙ ap (λ (m : List Window). tables_inside d.shape m d.tables >>= λ _. filled m 0 d.fills >>= checked) (sym is)
+    ∙ ap (λ (r : Result (Unit {0}) DescFault). r >>= λ _. filled empty 0 d.fills >>= checked) tables
+    ∙ ap (λ (r : Result (List Window) DescFault). r >>= checked) fills
+    ∙ ap (λ (r : Result (Unit {0}) DescFault). r >>= λ _. all_new [] 0 d.requesters >>= λ _. redistributors memory) (frames_are d single)
+    ∙ ap (λ (r : Result (Unit {0}) DescFault). r >>= λ _. redistributors memory) (requesters_are d single)
+
+-- ---- the first state
+
+abbrev state : Layout → Registers → Maps → List Window → List Redistributor → Plain
+state l r m memory rs = record { layout = l; translators = record { regs = r; maps = m } ∷ []; redistributors = rs; memory = memory; track = None }
+
+-- of so many translators, and with a second memory or none
+abbrev begun : Desc → List Window → List Redistributor → ℕ → Bool → Plain
+begun d memory rs n track = record {
+  layout = layout_of d;
+  translators = replicate n (record { regs = reset d.shape.dev_bits; maps = no_maps });
+  redistributors = rs;
+  memory = memory;
+  track = track_of track memory;
+}
+
+module _ (d : Desc) (p : Parts) (description : IsDescription d) (single : IsSingle d) (filled : IsFilled d (Ok p.memory)) (has : HasConfig d.shape p.memory d.tables)
     (first : AreFirst d.shape p.memory d.tables p.redists d.shape.vcpus) (layout_is : p.layout ≡ layout_of d) (regs_are : p.regs ≡ reset d.shape.dev_bits)
     (maps_are : p.maps.maps ≡ no_maps) where
   some : Some_first d.shape p.memory d.tables
@@ -154,7 +200,9 @@ module _ (d : Desc) (p : Parts) (description : IsDescription d) (filled : IsFill
 
   state_is : started d p.memory some.0 ≡ state_of_parts p
   state_is =
-      ap (λ (r : Registers). state (layout_of d) r no_maps p.memory some.0) (sym regs_are)
+      ap (λ (n : ℕ). begun d p.memory some.0 n d.track) single.translator
+      ∙ ap (λ (b : Bool). begun d p.memory some.0 1 b) single.track
+      ∙ ap (λ (r : Registers). state (layout_of d) r no_maps p.memory some.0) (sym regs_are)
       ∙ ap (λ (m : Maps). state (layout_of d) p.regs m p.memory some.0) (sym maps_are)
       ∙ ap (state (layout_of d) p.regs p.maps.maps p.memory) (sym redistributors_are)
       ∙ ap (λ (l : Layout). state l p.regs p.maps.maps p.memory (map redistributor_or (take l.shape.vcpus p.redists))) (sym layout_is)

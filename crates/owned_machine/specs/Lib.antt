@@ -1,4 +1,6 @@
 pub mod Whole
+pub mod Acks
+pub mod Pieces
 pub mod Making
 pub mod Start
 pub mod Migrations

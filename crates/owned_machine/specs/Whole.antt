@@ -1,6 +1,7 @@
 -- What it is to have a whole machine of one translator in hand: the parts are those of a sound state of the plain machine
 -- (IHI 0069, chapter 5), all of them, and a call goes from one such to the next.
-use Rattle.std.specs.Prelude.{◌≡◌, ℕ, ◌≤◌, Bool, true, false, not, ◌&&◌, List, Option, Some, None}
+use Rattle.std.specs.Prelude.{◌≡◌, ℕ, ◌≤◌, Bool, true, false, not, ◌&&◌, List, Option, Some, None, is_some}
+use Rattle.guest_windows.specs.Windows.{write_at}
 use Rattle.its_plain.specs.Plain.{Plain}
 use Rattle.its_plain.specs.Sound.{IsSound}
 use Rattle.its_plain.specs.Answer.{is_idle, next_bytes}
@@ -8,8 +9,9 @@ use Rattle.its_plain.specs.declared.call.Ack.{Ack}
 use Rattle.its_plain.specs.declared.call.Ack.TheVariants as ack
 use Rattle.its_plain.specs.declared.call.Call.{Call}
 use Rattle.its_plain.specs.declared.call.Call.TheVariants as call
+use Rattle.its_plain.specs.declared.call.Route.{Route}
+use Rattle.its_plain.specs.declared.call.Route.TheVariants as route
 use Rattle.its_command.specs.Commands.{decoded}
-use Rattle.its_command.specs.declared.command.Command.{Command}
 use Rattle.lpi_pending.specs.InHand.{in_hand}
 use Rattle.cmd_exec.specs.Room.{adds_to}
 use Rattle.owned_parts.specs.Owned.{state_of_parts, AreAllInHand}
@@ -39,23 +41,31 @@ met_adds u i (Some bytes) = adds_to u i (decoded bytes)
 unfoldable pub step_adds : Plain → ℕ → Bool
 step_adds u i = not (is_idle u i) && met_adds u i (next_bytes u i)
 
--- the calls that may want memory of the host: such a step, and a save
+-- one window has all the bytes
+abbrev pub pokes : Plain → ℕ → List ℕ → Bool
+pokes u address bytes = is_some (write_at u.memory address bytes)
+
+-- they are written
+abbrev pub pokes_by : Plain → ℕ → List ℕ → Route → Bool
+pokes_by u address bytes route.Poke = pokes u address bytes
+pokes_by u address bytes route.NoRequester = false
+pokes_by u address bytes route.Frame = false
+pokes_by u address bytes (route.Signal its dev ev) = false
+
+-- the calls that may want memory of the host: such a step, a write of guest memory, and a save
 abbrev pub may_want_memory : Plain → Call → Bool
 may_want_memory u (call.Step its) = step_adds u its
 may_want_memory u call.Save = true
 may_want_memory u (call.Signal its dev ev) = false
 may_want_memory u (call.Take vcpu) = false
 may_want_memory u (call.Show vcpu) = false
-may_want_memory u (call.Poke addr bytes) = false
+may_want_memory u (call.Best vcpu mask) = false
+may_want_memory u (call.Claim vcpu intid) = false
+may_want_memory u (call.Poke addr bytes) = pokes u addr.0 bytes
+may_want_memory u (call.Dma req addr bytes to) = pokes_by u addr.0 bytes to
+may_want_memory u call.Copy = false
 may_want_memory u (call.Peek addr count) = false
 may_want_memory u (call.ReadReg its off size) = false
 may_want_memory u (call.WriteReg its off size value) = false
 may_want_memory u (call.ReadGicr vcpu off size) = false
 may_want_memory u (call.WriteGicr vcpu off size value) = false
-
--- the command is the one that the translator meets next
-pub record IsMet (u : Plain) (c : Command) : Type 0 where
-  pub busy : is_idle u 0 ≡ false
-  pub bytes : List ℕ
-  pub bytes_are : next_bytes u 0 ≡ Some bytes
-  pub command : decoded bytes ≡ c

@@ -1,4 +1,4 @@
-//! Acknowledgements (IHI 0069, section 5.1.2).
+//! Acknowledgements (IHI 0069, section 5.1).
 ghost use Rattle.std.specs.Prelude.{◌≡◌, true};
 ghost use Rattle.its_types.specs.Ranges.{is_lpi};
 ghost use Rattle.its_plain.specs.Plain as plain;
@@ -6,56 +6,76 @@ ghost use Rattle.its_plain.specs.Answer as answers;
 ghost use Rattle.owned_parts.specs.Owned.{redistributor_of};
 ghost use Rattle.cmd_exec.specs.InHand.{changed, with_cleared, takes_lpi};
 ghost use Rattle.owned_parts.specs.Owned.{state_of_parts};
+ghost use Rattle.owned_machine.specs.Acks.{chosen, ack_at, left_at};
 ghost use Rattle.owned_machine.specs.Whole.{IsMachine, GoesOn, IfAcked};
+ghost use Rattle.owned_machine.specs.declared.asked.Asked.TheVariants as asks;
 
+use crate::asked::Asked;
 use its_plain::Ack;
 use its_types::{Intid, Vcpu};
 use lpi_pending::{Redist, Redists};
 use owned_parts::Parts;
 
-/// The LPI that a virtual processor would acknowledge. Nothing is pending at one that there isn't.
-pub fn show(parts: &Parts, vcpu: Vcpu) -> Ack
+/// The LPI that is asked for. Nothing is pending at a virtual processor that there isn't.
+pub fn look(parts: &Parts, vcpu: Vcpu, asked: Asked) -> Ack
     requires { IsMachine parts.now }
-    ensures ack { result
-        ≡ answers.ack_of (plain.redistributor (state_of_parts parts.now) vcpu.0)
-        (answers.lowest (plain.redistributor (state_of_parts parts.now) vcpu.0)) }
+    ensures ack { result ≡ ack_at (state_of_parts parts.now) vcpu.0 asked }
     ensures takes { IfAcked result (λ intid. takes_lpi parts.now.redists vcpu.0 intid ≡ true) }
 {
     if vcpu.0 >= parts.layout.shape.vcpus {
         return Ack::None;
     }
-    lowest(parts.redists.redist(vcpu))
+    look_in(parts.redists.redist(vcpu), asked)
 }
 
-/// A virtual processor acknowledges an LPI.
+/// A virtual processor acknowledges the lowest LPI that is pending and enabled.
 pub fn take(parts: &mut Parts, vcpu: Vcpu) -> Ack
     requires { IsMachine parts.old }
-    ensures ack { result
-        ≡ answers.ack_of (plain.redistributor (state_of_parts parts.old) vcpu.0)
-        (answers.lowest (plain.redistributor (state_of_parts parts.old) vcpu.0)) }
-    ensures left { GoesOn parts.new (plain.with_redistributor (state_of_parts parts.old) vcpu.0
-        (answers.taken (plain.redistributor (state_of_parts parts.old) vcpu.0)
-        (answers.lowest (plain.redistributor (state_of_parts parts.old) vcpu.0)))) }
+    ensures ack { result ≡ ack_at (state_of_parts parts.old) vcpu.0 asks.Lowest }
+    ensures left { GoesOn parts.new (left_at (state_of_parts parts.old) vcpu.0 asks.Lowest) }
 {
-    let ack = show(parts, vcpu);
+    let ack = look(parts, vcpu, Asked::Lowest);
     if let Ack::Some { intid, .. } = ack {
         clear_lpi(&mut parts.redists, vcpu, intid);
     }
     ack
 }
 
-// The lowest LPI that is pending and enabled, with its priority.
-fn lowest(redist: &Redist) -> Ack
+/// A virtual processor acknowledges this LPI, if it is pending and enabled.
+pub fn claim(parts: &mut Parts, vcpu: Vcpu, intid: Intid) -> Ack
+    requires { IsMachine parts.old }
+    ensures ack { result ≡ ack_at (state_of_parts parts.old) vcpu.0 (asks.This intid) }
+    ensures left { GoesOn parts.new (left_at (state_of_parts parts.old) vcpu.0 (asks.This intid)) }
+{
+    let ack = look(parts, vcpu, Asked::This(intid));
+    if let Ack::Some { intid, .. } = ack {
+        clear_lpi(&mut parts.redists, vcpu, intid);
+    }
+    ack
+}
+
+// The LPI that is asked for, with its priority.
+fn look_in(redist: &Redist, asked: Asked) -> Ack
     requires { redist.now.pending.lpi_bits ≡ redist.now.config.lpi_bits }
     ensures ack { result
         ≡ answers.ack_of (redistributor_of redist.now)
-        (answers.lowest (redistributor_of redist.now)) }
+        (chosen (redistributor_of redist.now) asked) }
     ensures lpi { IfAcked result (λ intid. is_lpi redist.now.pending.lpi_bits intid ≡ true) }
 {
-    match redist.pending.first_enabled(&redist.config) {
+    let Redist {
+        pending,
+        config,
+        ..
+    } = redist;
+    let found = match asked {
+        Asked::Lowest => pending.first_enabled(config),
+        Asked::Best(mask) => pending.first_by_priority(config, mask),
+        Asked::This(intid) => pending.claimable(config, intid),
+    };
+    match found {
         Some(intid) => Ack::Some {
             intid,
-            priority: redist.config.byte(intid) & 0xfc,
+            priority: config.byte(intid) & 0xfc,
         },
         None => Ack::None,
     }

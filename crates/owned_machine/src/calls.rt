@@ -4,7 +4,9 @@ ghost use Rattle.its_plain.specs.Answer as answers;
 ghost use Rattle.owned_parts.specs.Owned.{state_of_parts};
 ghost use Rattle.owned_machine.specs.Whole.{IsMachine, GoesOn, may_want_memory};
 
-use crate::acks::{show, take};
+use crate::acks::{claim, look, take};
+use crate::asked::Asked;
+use crate::dma::dma;
 use crate::gicr;
 use crate::memory::{peek, poke};
 use crate::registers::{read, write};
@@ -28,8 +30,10 @@ pub fn answered(parts: &mut Parts, alloc: Global, call: &Call) -> Result<Reply, 
     match *call {
         Call::Signal { its, dev, ev } => Ok(Reply::Signal(signal(parts, its, dev, ev))),
         Call::Take(vcpu) => Ok(Reply::Ack(take(parts, vcpu))),
-        Call::Show(vcpu) => Ok(Reply::Ack(show(parts, vcpu))),
-        Call::Poke { addr, bytes } => Ok(poke(parts, addr, &bytes)),
+        Call::Show(vcpu) => Ok(Reply::Ack(look(parts, vcpu, Asked::Lowest))),
+        Call::Best { vcpu, mask } => Ok(Reply::Ack(look(parts, vcpu, Asked::Best(mask)))),
+        Call::Claim { vcpu, intid } => Ok(Reply::Ack(claim(parts, vcpu, intid))),
+        Call::Poke { addr, bytes } => poke(parts, addr, &bytes),
         Call::Peek { addr, count } => Ok(peek(parts, addr, count)),
         Call::ReadReg { its, off, size } => Ok(Reply::Value(read(parts, its, off, size))),
         Call::WriteReg {
@@ -53,5 +57,12 @@ pub fn answered(parts: &mut Parts, alloc: Global, call: &Call) -> Result<Reply, 
         }
         Call::Step { its } => Ok(Reply::Step(step(parts, its)?)),
         Call::Save => save(parts, alloc),
+        Call::Copy => Ok(Reply::Copied(0)),
+        Call::Dma {
+            addr,
+            bytes,
+            route,
+            ..
+        } => dma(parts, addr, &bytes, route),
     }
 }

@@ -17,10 +17,11 @@ pub fn read(parts: &Parts, vcpu: Vcpu, off: u32, size: u8) -> u64
     if !parts.layout.gicr {
         return 0;
     }
-    if vcpu.0 >= parts.layout.shape.vcpus {
-        return read_gicr(&Bases::off(), off, size);
+    let shape = &parts.layout.shape;
+    if vcpu.0 >= shape.vcpus {
+        return read_gicr(shape.linux, &Bases::off(), off, size);
     }
-    gicr_read(parts.redists.redist(vcpu), off, size)
+    gicr_read(shape.linux, parts.redists.redist(vcpu), off, size)
 }
 
 /// Writes a register. What is written to that of a virtual processor that there isn't is dropped.

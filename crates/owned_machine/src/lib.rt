@@ -3,7 +3,9 @@
 #![tactic(auto)]
 
 mod acks;
+mod asked;
 mod calls;
+mod dma;
 mod gicr;
 mod machine;
 mod make;
@@ -13,6 +15,7 @@ mod registers;
 mod saves;
 mod signals;
 mod steps;
+mod stretches;
 
 pub use machine::Machine;
 pub use migrations::{InPlace, moved};

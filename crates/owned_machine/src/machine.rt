@@ -1,7 +1,9 @@
 use crate::calls::answered;
 use crate::migrations::{InPlace, begin, moved};
+use crate::stretches::write_stretch;
+use gicr_regs::{GicrRegisters, values_come_back, values_of};
 use its_plain::{Call, Desc, MakeError, Reply, SaveError};
-use its_types::{Intid, Vcpu};
+use its_types::{Addr, Intid, Vcpu};
 use owned_parts::Parts;
 use std::alloc::{AllocError, Global};
 use std::marker::Model;
@@ -28,12 +30,14 @@ impl Model for Machine {
 }
 
 impl Machine {
-    ghost use Rattle.std.specs.Prelude.{◌≡◌, ◌<◌, true, IfOk, OnErr, length, map};
+    ghost use Rattle.std.specs.Prelude.{◌≡◌, ◌<◌, ◌+◌, ◌^◌, true, IfOk, OnOk, OnErr, IfSome, is_some, length, map};
+    ghost use Rattle.gicr_regs.specs.Registers as spec;
     ghost use Rattle.its_plain.specs.Answer as plain;
     ghost use Rattle.its_plain.specs.Described.{IsMadeFrom};
-    ghost use Rattle.its_plain.specs.Machine.{IsDescription};
-    ghost use Rattle.its_plain.specs.Plain.{pending_of};
+    ghost use Rattle.its_plain.specs.Machine.{IsDescription, IsSingle};
+    ghost use Rattle.its_plain.specs.Plain.{pending_of, redistributor};
     ghost use Rattle.owned_machine.specs.Migrations.{Migrates};
+    ghost use Rattle.owned_machine.specs.Pieces.{written_to};
     ghost use Rattle.owned_machine.specs.Whole.{IsMachine, may_want_memory};
     ghost use Rattle.owned_parts.specs.Owned.{state_of_parts};
 
@@ -46,7 +50,8 @@ impl Machine {
     /// let reply = machine.answer(alloc, &signal)?;
     /// ```
     pub fn new(alloc: Global, desc: &Desc) -> Result<Machine, MakeError>
-        requires { IsDescription desc.now }
+        requires counts { IsDescription desc.now }
+        requires single { IsSingle desc.now }
         ensures { IsMadeFrom desc.now result }
     {
         let parts = begin(alloc, desc)?;
@@ -54,8 +59,9 @@ impl Machine {
     }
 
     /// Answers a call, and leaves the state that the plain machine's definition says. Out of
-    /// memory, which only a save can be, or a step that adds a device, an event or a collection,
-    /// the state stays as it was. A command that is refused never comes to it.
+    /// memory, which only a save can be, a write of guest memory, or a step that adds a device, an
+    /// event or a collection, the state stays as it was. A command that is refused and a write that
+    /// is answered `Outside` never come to it.
     ///
     /// ```
     /// let signal = Call::Signal { its: 0, dev: DeviceId(16), ev: EventId(3) };
@@ -71,6 +77,22 @@ impl Machine {
         ensures rare { OnErr result (may_want_memory self.old call.now ≡ true) }
     {
         answered(&mut self.parts, alloc, call)
+    }
+
+    /// Writes bytes to guest memory, which begin below 2^64 and end there: as a `Poke` does, but of
+    /// any length, all or none. A piece of 64 bytes that doesn't lie in one window is left out, if
+    /// no window has all of them.
+    pub fn write_memory(
+        &mut self,
+        alloc: Global,
+        address: Addr,
+        bytes: &[u8],
+    ) -> Result<(), AllocError>
+        requires { address.0 + length bytes.now < 2 ^ 64 }
+        ensures done { OnOk result (self.new ≡ written_to self.old address.0 bytes.now) }
+        ensures err { OnErr result (self.new ≡ self.old) }
+    {
+        write_stretch(&mut self.parts, alloc, address.0, bytes)
     }
 
     /// The parts that the machine is made of.
@@ -102,6 +124,25 @@ impl Machine {
     {
         let redist = self.parts.redists.redist(Vcpu(vcpu as u8));
         redist.pending.lpis(alloc)
+    }
+
+    /// The values that a virtual processor's LPI registers are restored from, as they are stored:
+    /// Pending Table Zero, which reads zero, is among them. None where the guest doesn't program
+    /// these registers.
+    pub fn lpi_registers(&self, vcpu: usize) -> Option<GicrRegisters>
+        requires { vcpu < length self.now.redistributors }
+        ensures programmed { is_some result ≡ self.now.layout.gicr }
+        ensures values { IfSome result (λ v. v
+            ≡ spec.values_of (redistributor self.now vcpu).bases) }
+        ensures back { IfSome result (λ v. spec.restored_bases v
+            ≡ (redistributor self.now vcpu).bases) }
+    {
+        values_come_back();
+        if !self.parts.layout.gicr {
+            return None;
+        }
+        let redist = self.parts.redists.redist(Vcpu(vcpu as u8));
+        Some(values_of(&redist.bases))
     }
 
     /// Saves into a copy of guest memory, and goes on from what that copy and the registers stand

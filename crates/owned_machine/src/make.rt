@@ -1,17 +1,17 @@
 //! The parts of the machine that a description makes.
-ghost use Rattle.std.specs.Prelude.{◌≡◌, ◌≤◌, ◌<◌, true, false, Err, IfOk, IfErr, map, length};
+ghost use Rattle.std.specs.Prelude.{◌≡◌, ◌≤◌, ◌<◌, true, false, Err, IfOk, IfErr, map, length, sum, nat_le};
 ghost use Rattle.std.specs.Bool.{OnTrue};
-ghost use Rattle.guest_windows.specs.Windows.{zeros, are_windows};
+ghost use Rattle.guest_windows.specs.Windows.{zeros};
 ghost use Rattle.guest_windows.specs.Fields.{pairs};
 ghost use Rattle.its_plain.specs.Machine as spec;
-ghost use Rattle.its_plain.specs.Machine.{IsDescription, HasTablesFor};
+ghost use Rattle.its_plain.specs.Machine.{IsDescription, IsSingle, HasTablesFor};
 ghost use Rattle.its_plain.specs.Sound.{IsShape};
 ghost use Rattle.its_plain.specs.declared.desc.DescFault.TheVariants as faults;
 ghost use Rattle.owned_machine.specs.Making.{IsWindowFault, Fills};
 ghost use Rattle.owned_machine.specs.Start.{IsFilled, HasConfig, IsFirstOf, AreFirst, AreStarted};
 
 use gits_regs::Regs;
-use guest_windows::{Memory, NewError};
+use guest_windows::{Memory, NewError, WriteError};
 use its_maps::Maps;
 use its_plain::{Desc, DescFault, Fill, LpiTables, MakeError};
 use its_types::{Addr, Bases, Shape, Vcpu};
@@ -24,7 +24,8 @@ use std::alloc::{AllocError, Global};
 /// LPIs off, where the guest programs the tables), or the first thing that is wrong with the
 /// description.
 pub fn start(alloc: Global, desc: &Desc) -> Result<Parts, MakeError>
-    requires { IsDescription desc.now }
+    requires counts { IsDescription desc.now }
+    requires single { IsSingle desc.now }
     ensures { AreStarted desc.now result }
 {
     let memory = filled(alloc, desc)?;
@@ -49,10 +50,11 @@ pub fn start(alloc: Global, desc: &Desc) -> Result<Parts, MakeError>
 // Memory with the bytes that the description puts there, if its tables lie in it.
 #[tactic(auto, unfolding(its_plain::specs::Machine::made))]
 fn filled(alloc: Global, desc: &Desc) -> Result<Memory, MakeError>
-    requires { IsDescription desc.now }
+    requires counts { IsDescription desc.now }
+    requires single { IsSingle desc.now }
     ensures { IsFilled desc.now result }
 {
-    let mut memory = memory_of(alloc, desc.windows.as_slice())?;
+    let mut memory = memory_of(alloc, desc)?;
     tables_inside(&desc.tables, &memory, &desc.shape)?;
     fill(&mut memory, desc.fills.as_slice())?;
     Ok(memory)
@@ -65,17 +67,37 @@ fn ensure(test: bool, fault: DescFault) -> Result<(), DescFault>
     if test { Ok(()) } else { Err(fault) }
 }
 
-// Memory with these windows, all bytes zero.
-fn memory_of(alloc: Global, windows: &[(Addr, u64)]) -> Result<Memory, MakeError>
+// Memory with the windows of a description, all bytes zero.
+fn memory_of(alloc: Global, desc: &Desc) -> Result<Memory, MakeError>
     ensures ok { IfOk result (λ m.
-        (m ≡ map zeros (pairs windows.now)) × (are_windows (pairs windows.now) ≡ true)) }
-    ensures err { IfErr result (IsWindowFault (are_windows (pairs windows.now))) }
+        (m ≡ map zeros (pairs desc.now.windows)) × (spec.windows_fit desc.now ≡ true)) }
+    ensures err { IfErr result (IsWindowFault (spec.windows_fit desc.now)) }
 {
+    let windows = desc.windows.as_slice();
+    if !are_at_most(windows, desc.memory_limit) {
+        return Err(MakeError::Fault(DescFault::Windows));
+    }
     match Memory::new(alloc, windows) {
         Ok(memory) => Ok(memory),
         Err(NewError::BadWindows) => Err(MakeError::Fault(DescFault::Windows)),
         Err(NewError::NoMemory) => Err(MakeError::NoMemory),
     }
+}
+
+// The windows have at most so many bytes together.
+fn are_at_most(windows: &[(Addr, u64)], limit: u64) -> bool
+    ensures { result ≡ nat_le (sum (map (λ w. w.1) (pairs windows.now))) limit }
+{
+    let mut left = limit;
+    let mut rest = windows;
+    while let [window, others @ ..] = rest {
+        if left < window.1 {
+            return false;
+        }
+        left -= window.1;
+        rest = others;
+    }
+    true
 }
 
 // The described tables lie in one window each, or the first fault.
@@ -108,12 +130,16 @@ fn pending_inside(memory: &Memory, size: u64, bases: &[Addr]) -> Result<(), Desc
 
 // Puts the bytes of a description into memory, or tells the first fill whose bytes don't lie in one
 // window.
-fn fill(memory: &mut Memory, fills: &[Fill]) -> Result<(), DescFault>
+fn fill(memory: &mut Memory, fills: &[Fill]) -> Result<(), MakeError>
     ensures { Fills memory.new result (spec.filled memory.old 0 fills.now) }
 {
     for (n, fill) in fills.iter().enumerate() {
-        if memory.write(fill.addr, fill.bytes.as_slice()).is_err() {
-            return Err(DescFault::Bytes(n as u64));
+        match memory.write(fill.addr, fill.bytes.as_slice()) {
+            Ok(()) => {}
+            Err(WriteError::Outside(_)) => {
+                return Err(MakeError::Fault(DescFault::Bytes(n as u64)));
+            }
+            Err(WriteError::NoMemory) => return Err(MakeError::NoMemory),
         }
     }
     Ok(())

@@ -1,23 +1,31 @@
 //! Guest memory, as the guest and devices write and read it.
-ghost use Rattle.std.specs.Prelude.{◌≡◌};
+ghost use Rattle.std.specs.Prelude.{◌≡◌, true, IfOk, OnErr};
 ghost use Rattle.guest_windows.specs.Windows.{write_at};
 ghost use Rattle.its_plain.specs.Answer as answers;
 ghost use Rattle.owned_parts.specs.Owned.{state_of_parts};
-ghost use Rattle.owned_machine.specs.Whole.{IsMachine, GoesOn};
+ghost use Rattle.owned_machine.specs.Whole.{IsMachine, GoesOn, pokes};
 
+use guest_windows::WriteError;
 use its_plain::{Bytes64, Reply};
 use its_types::Addr;
 use owned_parts::Parts;
+use std::alloc::AllocError;
 
-/// Writes bytes where one window has them all.
-pub fn poke(parts: &mut Parts, addr: Addr, bytes: &Bytes64) -> Reply
+/// Writes bytes where one window has them all. Out of memory, which only such a write can be,
+/// nothing is changed.
+pub fn poke(parts: &mut Parts, addr: Addr, bytes: &Bytes64) -> Result<Reply, AllocError>
     requires { IsMachine parts.old }
-    ensures reply { result ≡ answers.poke_reply (write_at parts.old.memory addr.0 bytes.now) }
-    ensures left { GoesOn parts.new (answers.poked (state_of_parts parts.old) addr.0 bytes.now) }
+    ensures reply { IfOk result (λ r.
+        r ≡ answers.poke_reply (write_at parts.old.memory addr.0 bytes.now)) }
+    ensures left { IfOk result (λ _.
+        GoesOn parts.new (answers.poked (state_of_parts parts.old) addr.0 bytes.now)) }
+    ensures err { OnErr result (parts.new ≡ parts.old) }
+    ensures inside { OnErr result (pokes (state_of_parts parts.old) addr.0 bytes.now ≡ true) }
 {
     match parts.memory.write(addr, bytes.as_slice()) {
-        Ok(()) => Reply::Ok,
-        Err(_) => Reply::Outside,
+        Ok(()) => Ok(Reply::Ok),
+        Err(WriteError::Outside(_)) => Ok(Reply::Outside),
+        Err(WriteError::NoMemory) => Err(AllocError),
     }
 }
 

@@ -1,9 +1,10 @@
 //! Restored machines, and migrations (KVM document arm-vgic-its, "ITS Restore Sequence").
-ghost use Rattle.std.specs.Prelude.{◌≡◌, true};
+ghost use Rattle.std.specs.Prelude.{◌≡◌, true, [], ◌∷◌};
 ghost use Rattle.gicr_regs.specs.Registers.{all_restored_bases};
 ghost use Rattle.saved_state.specs.Laws.{values_read, bases_of};
 ghost use Rattle.standing_states.specs.Laws.{AreGiven};
-ghost use Rattle.its_plain.specs.Machine.{IsDescription};
+ghost use Rattle.its_plain.specs.Described as described;
+ghost use Rattle.its_plain.specs.Machine.{IsDescription, IsSingle};
 ghost use Rattle.owned_parts.specs.Owned.{state_of_parts};
 ghost use Rattle.owned_machine.specs.Whole.{IsMachine};
 ghost use Rattle.owned_machine.specs.Migrations.{AreMoved, AreBegun};
@@ -20,7 +21,7 @@ use lpi_pending::Redists;
 use owned_parts::Parts;
 use std::alloc::Global;
 use table_restore::{RestoreError, restore_in};
-use table_save::save;
+use table_save::saved_memory;
 
 // The registers at reset.
 const RESET: GicrRegisters = GicrRegisters {
@@ -47,19 +48,30 @@ pub struct InPlace<'a> {
 /// The parts that a description makes, restored from memory where the description says so, or the
 /// first thing that is wrong.
 pub fn begin(alloc: Global, desc: &Desc) -> Result<Parts, MakeError>
-    requires { IsDescription desc.now }
+    requires counts { IsDescription desc.now }
+    requires single { IsSingle desc.now }
     ensures { AreBegun desc.now result }
 {
     let parts = start(alloc, desc)?;
-    let Some(values) = desc.restore else {
+    let Some(values) = values_to_restore(desc) else {
         return Ok(parts);
     };
     let given = values_given(&desc.tables);
     match restore_in(alloc, values, &given, parts.memory, &parts.layout) {
         Ok(restored) => Ok(restored),
-        Err((_, RestoreError::Fault(fault))) => { Err(MakeError::Fault(DescFault::Restore(fault))) }
+        Err((_, RestoreError::Fault(fault))) => {
+            Err(MakeError::Fault(DescFault::Restore(0, fault)))
+        }
         Err((_, RestoreError::NoMemory)) => Err(MakeError::NoMemory),
     }
+}
+
+// The values that the translator is restored with, if it is.
+fn values_to_restore(desc: &Desc) -> Option<RegValues>
+    requires { IsSingle desc.now }
+    ensures { described.values_of desc.now ≡ result ∷ [] }
+{
+    desc.translators.as_slice()[0].restore
 }
 
 // The values of the redistributors' registers that a description gives, if it does.
@@ -81,14 +93,13 @@ pub fn moved(alloc: Global, parts: &InPlace<'_>) -> Result<Parts, SaveError>
     requires { IsMachine (parts_in parts.now) }
     ensures { AreMoved (state_of_parts (parts_in parts.now)) result }
 {
-    let mut memory = parts.memory.copy(alloc)?;
-    save(
+    let memory = saved_memory(
         alloc,
         parts.regs,
         parts.maps,
         parts.redists,
         parts.layout,
-        &mut memory,
+        parts.memory,
     )?;
     let values = registers_of(parts);
     match restore_in(

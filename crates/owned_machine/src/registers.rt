@@ -27,6 +27,7 @@ pub fn write(parts: &mut Parts, its: u8, off: u32, size: u8, value: u64)
     ensures { GoesOn parts.new (answers.written (state_of_parts parts.old) its off size value) }
 {
     if its == 0 {
-        write_register(&mut parts.regs, &mut parts.maps, off, size, value);
+        let shape = &parts.layout.shape;
+        write_register(&mut parts.regs, &mut parts.maps, shape, off, size, value);
     }
 }

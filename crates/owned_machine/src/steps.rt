@@ -4,13 +4,14 @@ ghost use Rattle.its_command.specs.Commands.{op_of};
 ghost use Rattle.its_plain.specs.Commands as commands;
 ghost use Rattle.its_plain.specs.Answer as answers;
 ghost use Rattle.cmd_exec.specs.Executed as executed;
+ghost use Rattle.cmd_exec.specs.Met.{MeetsCommand};
 ghost use Rattle.cmd_exec.specs.Room.{adds_to};
 ghost use Rattle.owned_parts.specs.Owned.{state_of_parts};
-ghost use Rattle.owned_machine.specs.Whole.{IsMachine, GoesOn, IsMet, step_adds};
+ghost use Rattle.owned_machine.specs.Whole.{IsMachine, GoesOn, step_adds};
 
-use cmd_exec::{apply, make_room, plan};
-use its_command::{Command, decode};
-use its_plain::{CmdReply, StepReply};
+use cmd_exec::{Met, apply, make_room, meet, plan};
+use its_command::Command;
+use its_plain::StepReply;
 use owned_parts::Parts;
 use std::alloc::AllocError;
 
@@ -25,21 +26,19 @@ pub fn step(parts: &mut Parts, its: u8) -> Result<StepReply, AllocError>
     ensures err { OnErr result (parts.new ≡ parts.old) }
     ensures adding { OnErr result (step_adds (state_of_parts parts.old) its ≡ true) }
 {
-    if its != 0 || !parts.regs.enabled() || parts.regs.queue_is_empty() {
+    if its != 0 {
         return Ok(StepReply::Idle);
     }
-    let place = parts.regs.queue_place();
-    let mut bytes = [0; 32];
-    if parts.memory.read(place, &mut bytes).is_err() {
-        return Ok(StepReply::QueueFault(place));
+    match meet(&parts.regs, &parts.memory) {
+        Met::Still(reply) => Ok(reply),
+        Met::Command(command) => run(parts, &command),
     }
-    run(parts, &decode(&bytes))
 }
 
 // Runs or refuses the command that the translator has met.
 fn run(parts: &mut Parts, command: &Command) -> Result<StepReply, AllocError>
     requires whole { IsMachine parts.old }
-    requires met { IsMet (state_of_parts parts.old) command.now }
+    requires met { MeetsCommand parts.old.regs parts.old.memory command.now }
     ensures reply { IfOk result (λ r.
         r
         ≡ answers.command_reply (op_of command.now)
@@ -66,14 +65,5 @@ fn run(parts: &mut Parts, command: &Command) -> Result<StepReply, AllocError>
         &mut parts.redists,
         &parts.layout.shape,
     );
-    Ok(as_step(planned.reply()))
-}
-
-fn as_step(reply: CmdReply) -> StepReply
-    ensures { result ≡ executed.as_step reply }
-{
-    match reply {
-        CmdReply::Ran(op) => StepReply::Ran(op),
-        CmdReply::Refused(op, reason) => StepReply::Refused(op, reason),
-    }
+    Ok(planned.step_reply())
 }

@@ -1,8 +1,8 @@
-use Rattle.std.proofs.Common.{Result, Ok, Err, OnErr, refl, sym, ap, subst, ◌∙◌}
+use Rattle.std.proofs.Common.{Result, Ok, Err, OnErr, refl, sym, subst, ◌∙◌}
 use Rattle.its_command.specs.declared.command.Command.{Command}
 use Rattle.its_types.specs.Maps.{Maps}
 use Rattle.owned_parts.specs.Owned.{ArePartsOf, ArePartsOfSound, state_of_parts}
-use Rattle.cmd_exec.specs.Executed.{as_step, left_by}
+use Rattle.cmd_exec.specs.Executed.{left_by}
 use Rattle.cmd_exec.specs.Needs.{AreNeededInHand}
 use Rattle.owned_machine.proofs.Kept.{parts_are}
 use Rattle.owned_machine.proofs.Answered.{run_goes, needed_held}
@@ -35,7 +35,7 @@ apply-requires-clause-in_hand c =
 
 pub returns-clause-reply : goal.returns-clause-reply
 returns-clause-reply c =
-    let p = c.args.parts.now in c.as_step.ensures ∙ ap as_step c.reply.ensures ∙ c.plan-planned.ensures.reply (state_of_parts p) 0
+    let p = c.args.parts.now in c.step_reply.ensures ∙ c.plan-planned.ensures.reply (state_of_parts p) 0
     (parts_are p c.requires.whole)
 
 pub returns-clause-left : goal.returns-clause-left
