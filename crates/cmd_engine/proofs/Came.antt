@@ -90,6 +90,7 @@ module _ (y x : View) (a : Commit) (commits : Commits y a x) where
             place_is = let long = ap (λ (v : View). length v.seen) commits.view in let at = ap (λ (z : Word). z.place) expected in omega
                 (arith, long, at, read.place, length-append y.seen (e ∷ []));
             mine = ap (λ (v : View). v.mine) commits.view;
+            room = subst (λ (z : Word). z.place < y.setup.limits.place_last) (sym expected) read.room;
             same = subst (λ (z : View). z ≡ record y {
               seen = z.seen;
               mine = z.mine;
@@ -157,6 +158,7 @@ module _ (P : Part → Type 0) where
           legal = subst (λ (s : Setup). IsLegal s.start x.seen) setup_is m.legal;
           place_is = m.place_is;
           mine = m.mine ∙ (let old = ap (λ (y : View). y.mine) g.on.same in λ d. old d ++ (a.expected.place, e d) ∷ []);
+          room = subst (λ (s : Setup). a.expected.place < s.limits.place_last) setup_is m.room;
           same = m.same ∙ ap (λ (y : View). record y {
             seen = x.seen;
             mine = x.mine;
@@ -205,6 +207,7 @@ module _ (P : Part → Type 0) where
         legal = m.made.made.legal;
         place_is = m.made.made.place_is;
         mine = m.made.made.mine;
+        room = m.made.made.room;
         same = ap (λ (y : View). holding y left) m.made.made.same;
         tries = refl;
         last = m.made.made.last;
@@ -234,6 +237,9 @@ module _ (P : Part → Type 0) where
           legal = made.legal;
           place_is = made.place_is ∙ ap (λ (n : ℕ). n + 1) m.place_is;
           mine = made.mine ∙ ap (λ (p : Call × Reply × ℕ). v.mine ++ (p.2, entry v.number p.0 p.1) ∷ []) to;
+          room = subst (λ (n : ℕ). n < v.setup.limits.place_last) m.place_is made.room;
+          base = ap (λ (b : LastCommit). b.base.place) made.commit ∙ m.place_is;
+          last = ap (λ (k : Word). k.place) made.last ∙ ap (λ (n : ℕ). n + 1) m.place_is;
           same = made.same ∙ (λ d. record v {
             seen = w.seen;
             mine = w.mine;

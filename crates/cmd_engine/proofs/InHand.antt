@@ -1,5 +1,5 @@
 -- A step's command on the parts that it has in hand: what each of its calls needs, and what it tells.
-use Rattle.std.proofs.Common.{◌≡◌, ◌<◌, ℕ, Bool, true, nat_lt, List, [], ◌∷◌, Option, Some, Result, Ok, Err, refl, ap, sym, ◌∙◌, subst, arith}
+use Rattle.std.proofs.Common.{◌≡◌, ◌<◌, ℕ, Bool, true, nat_lt, List, [], ◌∷◌, Option, Some, None, Result, Ok, Err, refl, ap, sym, ◌∙◌, subst, arith}
 use Rattle.std.specs.List.{AllByRecursion}
 use Rattle.std.specs.Prelude.{is_some}
 use Rattle.std.specs.Result.{is_err, OnErr}
@@ -51,10 +51,11 @@ use Rattle.cmd_engine.specs.StepShards.{ending_as, ending_said, cached_held, Are
 use Rattle.cmd_engine.specs.StepTells.{MakesStep, WantsMemory}
 use Rattle.cmd_engine.specs.declared.step_shards.Cached.{Cached}
 use Rattle.cmd_engine.specs.declared.step_shards.Mark.{Mark}
-use Rattle.cmd_engine.proofs.InState.{AreOut, HoldsBase, HoldsRedists, parts, busy, bytes_are, parts_left, command_ready, command_ends}
+use Rattle.cmd_engine.proofs.InState.{AreOut, HoldsBase, HoldsRedists, track_is, parts, busy, bytes_are, parts_left, command_ready, command_ends}
 use Rattle.cmd_engine.proofs.Marks.{IsMark, step_commit, marked_may}
 use Rattle.cmd_engine.proofs.Running.{base_no_redist, base_no_shard, base_out, base_holds, cached_no_redist, cached_owes, cached_out, is_mark, Leaves}
 use Rattle.cmd_engine.proofs.Running.{any_leaves}
+use Rattle.cmd_engine.proofs.Tracks.{track_after}
 
 some_is : (r : Owned) (o : Option Owned) → o ≡ Some r → is_some o ≡ true
 some_is r o is = ap (λ (x : Option Owned). is_some x) is
@@ -136,7 +137,7 @@ module _ (s : Setup) (one : translator_count s ≡ 1) (t : Tables) (memory : Lis
   base = let b = base_holds t memory in record {
     maps = redists_owe redists rest 16 (part.Maps 0) (Maps (translator_of t)) (cached_owes s.shards c (base_held t memory) (part.Maps 0)
         (Maps (translator_of t)) b.maps);
-    mem = redists_owe redists rest 16 part.Mem (Mem memory) (cached_owes s.shards c (base_held t memory) part.Mem (Mem memory) b.mem);
+    mem = redists_owe redists rest 16 part.Mem (Mem memory None) (cached_owes s.shards c (base_held t memory) part.Mem (Mem memory None) b.mem);
   }
 
   maps_held : Holds (part.Maps 0) held
@@ -151,7 +152,7 @@ module _ (s : Setup) (one : translator_count s ≡ 1) (t : Tables) (memory : Lis
 
   holds : (p : Part) → IsPartOf 0 needed.set p → Holds p held
   holds (part.Maps i) is = subst (λ (k : ℕ). Holds (part.Maps k) held) (sym is) maps_held
-  holds part.Mem is = owes_holds part.Mem (Mem memory) held base.mem
+  holds part.Mem is = owes_holds part.Mem (Mem memory None) held base.mem
   holds (part.Shard i n) is = absurd is
   holds (part.Redist vcpu) is = redist_holds redists rest 16 vcpu.0 (ltb-true vcpu.0 16 (and_parts (nat_lt vcpu.0 16) _ is).0)
       (needed.hand.hand vcpu.0 ∙ and_from (is_in needed.set vcpu.0) (nat_lt vcpu.0 (vcpu_count s)) is (lt-ltb vcpu.0 (vcpu_count s) (needed.below vcpu.0 is)))
@@ -235,8 +236,9 @@ module _ (s : Setup) (one : translator_count s ≡ 1) (t : Tables) (memory : Lis
 
           base_then : renewed s a z (base_held t memory) ≡ base_held t' memory
           base_then =
+              let track : z.track ≡ None = track_after u (reply.Step (as_step said)) ∙ track_is s u w held m right out (translator_of t) memory base in
               let new : translator z 0 ≡ translator_of t' = get_or_from_slice_get z.translators 0 (translator_of t') no_translator parts_then.translator_is in
-              (λ d. record { part = part.Mem; owed = Mem (parts_then.memory_is d); out = true } ∷ record { part = part.Maps 0; owed = Maps (new d); out = true }
+              (λ d. record { part = part.Mem; owed = Mem (parts_then.memory_is d) (track d); out = true } ∷ record { part = part.Maps 0; owed = Maps (new d); out = true }
               ∷ [])
 
           shards_then : Leaves s w (reply.Step (as_step said)) z (base_held t memory) mark.stamp mark.change c c'

@@ -1,5 +1,5 @@
 -- A state that has what a step has in hand: what it is answered there, what it ends, and what it leaves.
-use Rattle.std.proofs.Common.{◌≡◌, ◌<◌, ℕ, suc, Bool, false, not, ◌||◌, cond, Option, Some, List, [], ◌∷◌, slice_get, refl, ap, sym, ◌∙◌, subst}
+use Rattle.std.proofs.Common.{◌≡◌, ◌<◌, ℕ, suc, Bool, false, not, ◌||◌, cond, Option, Some, None, List, [], ◌∷◌, slice_get, refl, ap, sym, ◌∙◌, subst}
 use Rattle.std.specs.List.{AllByRecursion}
 use Rattle.std.proofs.lemmas.Option.{get_or_from_slice_get}
 use Rattle.guest_windows.specs.Windows.{Window, read_at}
@@ -49,7 +49,7 @@ pub record AreOut (s : Setup) (held : List Held) : Type 0 where
 -- among them are the maps and memory with these values
 pub record HoldsBase (t : Translator) (memory : List Window) (held : List Held) : Type 0 where
   pub maps : Owes (part.Maps 0) (Maps t) held
-  pub mem : Owes part.Mem (Mem memory) held
+  pub mem : Owes part.Mem (Mem memory None) held
 
 -- and the redistributors in hand
 abbrev pub HoldsRedists : Setup → List (Option Owned) → List Held → Type 0
@@ -97,7 +97,10 @@ module _ (s : Setup) (u : Plain) (w : Word) (held : List Held) (machine : IsOfMa
   translator_is = get_or_from_slice_get u.translators 0 t no_translator maps_at
 
   pub memory_is : u.memory ≡ memory
-  memory_is = owes_all (Right s w u) part.Mem (Mem memory) held base.mem right
+  memory_is = (owes_all (Right s w u) part.Mem (Mem memory None) held base.mem right).0
+
+  pub track_is : u.track ≡ None
+  track_is = (owes_all (Right s w u) part.Mem (Mem memory None) held base.mem right).1
 
   shape_is : u.layout.shape ≡ s.start.layout.shape
   shape_is = ap (λ (l : Layout). l.shape) (sym machine.layout)
@@ -124,7 +127,7 @@ module _ (s : Setup) (u : Plain) (w : Word) (held : List Held) (machine : IsOfMa
     unfolding footprint reply_of
     still_answered = record {
       covers = subst (λ (ps : List Part). AllByRecursion (λ p. Holds p held) (part.Maps 0 ∷ part.Mem ∷ ps)) (sym still.needs_none)
-          (owes_holds (part.Maps 0) (Maps t) held base.maps, (owes_holds part.Mem (Mem memory) held base.mem, tt));
+          (owes_holds (part.Maps 0) (Maps t) held base.maps, (owes_holds part.Mem (Mem memory None) held base.mem, tt));
       reply_is = ap (λ (x : StepReply). reply.Step x) still.reply_is;
     }
 

@@ -1,5 +1,6 @@
 pub mod Came
 pub mod Writing
+pub mod Tracks
 pub mod InState
 pub mod Marks
 pub mod Running

@@ -26,7 +26,7 @@ use Rattle.cmd_engine.specs.StepHands.{base_held}
 use Rattle.cmd_engine.specs.StepShards.{LeavesBy}
 use Rattle.cmd_engine.specs.StepTells.{HoldsStill, MakesStep}
 use Rattle.cmd_engine.proofs.InHand.{made_step, owed_after, state_machine, state_right, same_held}
-use Rattle.cmd_engine.proofs.InState.{AreOut, HoldsBase, translator_is, memory_is, still_ready, still_ends, still_left}
+use Rattle.cmd_engine.proofs.InState.{AreOut, HoldsBase, translator_is, memory_is, track_is, still_ready, still_ends, still_left}
 use Rattle.cmd_engine.proofs.Marks.{step_commit}
 use Rattle.cmd_engine.proofs.Running.{base_out, base_holds}
 
@@ -70,7 +70,8 @@ module _ (s : Setup) (one : translator_count s ≡ 1) (r : StepReply) (v x : Vie
         ap (λ (z : Plain). renewed s a z held) same
         ∙ (let t = translator_is s u w held m right out (translator_of still.tables) still.memory base in
         let n = memory_is s u w held m right out (translator_of still.tables) still.memory base in
-        λ d. record { part = part.Mem; owed = Mem (n d); out = true } ∷ record { part = part.Maps 0; owed = Maps (t d); out = true } ∷ [])
+        let k = track_is s u w held m right out (translator_of still.tables) still.memory base in
+        λ d. record { part = part.Mem; owed = Mem (n d) (k d); out = true } ∷ record { part = part.Maps 0; owed = Maps (t d); out = true } ∷ [])
 
     pub still_held : Commits x a y → y.held ≡ v.held
     still_held commits = owed_after s x y a held (ap (λ (k : View). k.setup) looks.same ∙ own) (same_held s v x w held own still.held looks) commits

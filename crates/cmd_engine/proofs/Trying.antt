@@ -35,8 +35,8 @@ use Rattle.cmd_engine.specs.Leaving.{LeavesAs}
 use Rattle.cmd_engine.specs.StepHands.{IsOfStep}
 use Rattle.cmd_engine.specs.StepShards.{LeavesBy}
 use Rattle.cmd_engine.specs.StepTells.{WantsMemory, IsStep, IsWhy, IsWhyNot, Tried, MakesStep, LooksOnly, Runs}
-use Rattle.cmd_engine.specs.declared.step_tells.NoStep.{NoStep}
-use Rattle.cmd_engine.specs.declared.step_tells.NoStep.TheVariants as none
+use Rattle.its_turns.specs.declared.attempts.NotMade.{NotMade}
+use Rattle.its_turns.specs.declared.attempts.NotMade.TheVariants as none
 use Rattle.cmd_engine.specs.declared.step_tells.Unmade.{Unmade}
 use Rattle.cmd_engine.specs.declared.step_tells.Unmade.TheVariants as unmade
 use Rattle.cmd_engine.proofs.Marks.{step_commit}
@@ -180,11 +180,11 @@ module _ (v w x : View) (stays : Stays v w) (got : GotOnly IsOfStep v w) where
         got_then IsOfStep v w x got turns,
       )
 
-  why_same : (e : NoStep) → IsWhy w e x → IsWhy v e x
+  why_same : (e : NotMade) → IsWhy w e x → IsWhy v e x
   why_same none.Spent is = is ∙ ap (λ (k : Setup). k.limits.place_last) same_setup
   why_same none.NoMemory is = subst (λ (k : Setup). WantsMemory (after k.start x.seen)) same_setup is
 
-  pub never_again : (e : NoStep) → Stays w x → IsWhy w e x → GotOnly IsOfStep w x → Stays v x × IsWhy v e x × GotOnly IsOfStep v x
+  pub never_again : (e : NotMade) → Stays w x → IsWhy w e x → GotOnly IsOfStep w x → Stays v x × IsWhy v e x × GotOnly IsOfStep v x
   never_again e more why turns = (stays_again v w x stays more, why_same e why, got_then IsOfStep v w x got turns)
 
 pub bare_still : (v w : View) → v.held ≡ [] → Stays v w → w.held ≡ []

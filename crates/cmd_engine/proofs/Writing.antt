@@ -9,6 +9,7 @@ use Rattle.its_plain.specs.History.{after}
 use Rattle.its_plain.specs.Parts.{footprint}
 use Rattle.its_plain.specs.Plain.{Plain, Translator, translator, no_translator}
 use Rattle.its_plain.specs.declared.call.Reply.TheVariants as reply
+use Rattle.its_plain.specs.declared.layout.Layout.{Layout}
 use Rattle.its_steps.specs.Calls.{MayLeave}
 use Rattle.its_steps.specs.Contents.{Held}
 use Rattle.its_steps.specs.Endings.{Ending, Nothing, All, ending_of}
@@ -49,10 +50,10 @@ module _ (u : Plain) (t : Translator) (r : RegWrite) (has : slice_get u.translat
   ends_none on = ends_by ∙ ap (λ (b : Bool). if b then All else Nothing) on
 
   -- what it leaves of the maps
-  left_maps : 0 < length u.translators → translator (left u (write_call r) reply.Ok) 0 ≡ after_write r t
+  left_maps : 0 < length u.translators → translator (left u (write_call r) reply.Ok) 0 ≡ after_write u.layout.shape r t
   unfolding left written
   left_maps inside =
-      let done : Translator → Translator = λ x. after_write r x in
+      let done : Translator → Translator = λ x. after_write u.layout.shape r x in
       get_or-set_same u.translators 0 (done (translator u 0)) no_translator inside ∙ ap done own_maps
 
 -- ---- with the maps alone
@@ -62,7 +63,7 @@ module _ (s : Setup) (one : translator_count s ≡ 1) (vcpus : HasVcpus s) (w : 
   it = omega (arith, one)
 
   abbrev MayWrite : ℕ → Type 0
-  MayWrite stamp = MayLeave s (write_commit w stamp r change.Keep) (maps_held t) (maps_held (after_write r t))
+  MayWrite stamp = MayLeave s (write_commit w stamp r change.Keep) (maps_held t) (maps_held (after_write s.start.layout.shape r t))
 
   pub may_write : (stamp : ℕ) → IsStampOf s.limits.stamp_last t r w stamp → MayWrite stamp
   may_write stamp (inl on) = subst MayWrite (sym on.1) (writes s w 0 r.off r.size r.value t vcpus it room on.0)
@@ -110,11 +111,12 @@ module _ (s : Setup) (one : translator_count s ≡ 1) (vcpus : HasVcpus s) (w : 
     pub may_renew : MayCall s renews held
     may_renew = may.0
 
-    pub renew_owes : (new : List (Option Ways)) → AreEmptied shards new → renewal s renews held ≡ shards_held new s.shards (maps_held (after_write r t))
+    pub renew_owes : (new : List (Option Ways)) → AreEmptied shards new → renewal s renews held ≡ shards_held new s.shards (maps_held (after_write s.start.layout.shape r t))
     renew_owes new empty =
         may.1
         ∙ (shards_emptied s renews (left u (write_call r) reply.Ok) refl shards new (maps_held t) s.shards refl empty
-        ∙ ap (λ (x : Translator). shards_held new s.shards (maps_held x)) (left_maps u t r maps_had (omega (arith, it, machine.translators))))
+        ∙ ap (λ (x : Translator). shards_held new s.shards (maps_held x))
+        (left_maps u t r maps_had (omega (arith, it, machine.translators)) ∙ ap (λ (l : Layout). after_write l.shape r t) (sym machine.layout)))
 
 -- ---- what is left once it is made
 

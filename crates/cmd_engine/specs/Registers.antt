@@ -3,6 +3,7 @@ use Rattle.std.specs.Prelude.{◌≡◌, ◌⊎◌, ℕ, ◌+◌, ◌<◌, Bool,
 use Rattle.gits_regs.specs.Registers.{write_reg}
 use Rattle.its_types.specs.declared.machine.Part.{Part}
 use Rattle.its_types.specs.declared.machine.Part.TheVariants as part
+use Rattle.its_types.specs.declared.machine.Shape.{Shape}
 use Rattle.its_types.specs.declared.machine.Word.{Word}
 use Rattle.its_plain.specs.Answer.{translator_written}
 use Rattle.its_plain.specs.Plain.{Translator}
@@ -28,8 +29,8 @@ abbrev pub write_commit : Word → ℕ → RegWrite → ShardChange → Commit
 write_commit w stamp r change = record { expected = w; stamp = stamp; call = write_call r; reply = reply.Ok; change = change }
 
 -- what it leaves of the translator
-abbrev pub after_write : RegWrite → Translator → Translator
-after_write r t = translator_written t (write_reg t.regs r.off r.size r.value)
+abbrev pub after_write : Shape → RegWrite → Translator → Translator
+after_write s r t = translator_written s t (write_reg t.regs r.off r.size r.value)
 
 -- it turns the translator off
 abbrev pub turns_off : RegWrite → Translator → Bool

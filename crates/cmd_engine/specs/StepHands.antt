@@ -1,5 +1,5 @@
 -- What a step has in hand, as parts held.
-use Rattle.std.specs.Prelude.{◌≡◌, ◌<◌, ℕ, true, List, [], ◌∷◌, Option}
+use Rattle.std.specs.Prelude.{◌≡◌, ◌<◌, ℕ, true, List, [], ◌∷◌, Option, None}
 use Rattle.guest_windows.specs.Windows.{Window}
 use Rattle.its_command.specs.declared.command.Command.{Command}
 use Rattle.its_types.specs.Maps.{Maps as MapsOf}
@@ -17,9 +17,9 @@ use Rattle.held_parts.specs.Redists.{redists_held, AreOfSet}
 use Rattle.cmd_engine.specs.StepShards.{cached_held}
 use Rattle.cmd_engine.specs.declared.step_shards.Cached.{Cached}
 
--- memory, which was taken after the maps
+-- memory, which was taken after the maps, of a machine that has no other
 abbrev pub base_held : Tables → List Window → List Held
-base_held t memory = out part.Mem (Mem memory) ∷ out (part.Maps 0) (Maps (translator_of t)) ∷ []
+base_held t memory = out part.Mem (Mem memory None) ∷ out (part.Maps 0) (Maps (translator_of t)) ∷ []
 
 -- and shards and redistributors, which were taken after them
 abbrev pub step_held : Setup → Tables → List Window → Cached → List (Option Owned) → List Held

@@ -22,8 +22,8 @@ use Rattle.cmd_engine.specs.Leaving.{EndsAs}
 use Rattle.cmd_exec.specs.Met.{MeetsNone}
 use Rattle.cmd_engine.specs.StepHands.{IsOfStep, base_held}
 use Rattle.cmd_engine.specs.StepShards.{LeavesBy}
-use Rattle.cmd_engine.specs.declared.step_tells.NoStep.{NoStep}
-use Rattle.cmd_engine.specs.declared.step_tells.NoStep.TheVariants as none
+use Rattle.its_turns.specs.declared.attempts.NotMade.{NotMade}
+use Rattle.its_turns.specs.declared.attempts.NotMade.TheVariants as none
 use Rattle.cmd_engine.specs.declared.step_tells.Unmade.{Unmade}
 use Rattle.cmd_engine.specs.declared.step_tells.Unmade.TheVariants as unmade
 
@@ -41,11 +41,11 @@ abbrev pub IsStep : View → Placed StepReply → View → Type 0
 IsStep v p w = EndsAs v (call.Step 0) (reply.Step p.reply) p.place w
 
 -- why it was not
-abbrev pub IsWhy : View → NoStep → View → Type 0
+abbrev pub IsWhy : View → NotMade → View → Type 0
 IsWhy v none.Spent w = length w.seen ≡ v.setup.limits.place_last
 IsWhy v none.NoMemory w = WantsMemory (after v.setup.start w.seen)
 
-abbrev pub Steps : View → Result (Placed StepReply) NoStep → View → Type 0
+abbrev pub Steps : View → Result (Placed StepReply) NotMade → View → Type 0
 Steps v (Ok p) w = IsStep v p w × GotOnly IsOfStep v w
 Steps v (Err e) w = Stays v w × IsWhy v e w × GotOnly IsOfStep v w
 

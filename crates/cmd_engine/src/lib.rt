@@ -16,5 +16,4 @@ mod steps;
 
 pub use registers::{read_reg, try_read_reg};
 pub use registers_write::write_reg;
-pub use step_tells::NoStep;
 pub use steps::step;

@@ -12,7 +12,7 @@ use cmd_exec::write_register;
 use its_plain::{Call, Reply};
 use its_steps::{Commit, ShardChange};
 use its_turns::{Machine, Pass, Tables, commit};
-use its_types::{Gate, Placed, Point, Word};
+use its_types::{Gate, Placed, Point, Shape, Word};
 
 /// A write of `size` bytes at an offset of the control frame.
 #[derive(Clone, Copy, Debug, PartialEq, Eq)]
@@ -51,13 +51,15 @@ impl RegWrite {
         tables.regs.enabled() && !regs.enabled()
     }
 
-    /// Writes.
-    pub fn apply(self, tables: &mut Tables)
-        ensures { translator_of tables.new ≡ after_write self (translator_of tables.old) }
+    /// Writes, in a machine of this shape.
+    pub fn apply(self, tables: &mut Tables, shape: &Shape)
+        ensures { translator_of tables.new
+            ≡ after_write shape.now self (translator_of tables.old) }
     {
         write_register(
             &mut tables.regs,
             &mut tables.maps,
+            shape,
             self.off,
             self.size,
             self.value,
@@ -97,7 +99,7 @@ pub fn commit_write<G: Gate>(
     match commit(machine, pass, &made) {
         Ok(place) => {
             gate.at(pass.number(), Point::AfterCommit);
-            write.apply(tables);
+            write.apply(tables, &machine.desc().shape);
             Ok(Placed { place, reply: () })
         }
         Err(_) => Err(Missed::Again),

@@ -105,7 +105,7 @@ fn commit_renewal<G: Gate>(
     match commit(machine, pass, &made) {
         Ok(place) => {
             gate.at(pass.number(), Point::AfterCommit);
-            write.apply(tables);
+            write.apply(tables, &machine.desc().shape);
             shards.empty_all();
             Ok(Placed { place, reply: () })
         }

@@ -15,14 +15,14 @@ ghost use Rattle.cmd_engine.specs.StepTells.{Runs, TriesFrom};
 use crate::step_shards::Cached;
 use crate::step_shards_taken::{put_cached, take_cached};
 use crate::step_still::put_base;
-use crate::step_tells::{NoStep, Unmade};
+use crate::step_tells::Unmade;
 use cmd_exec::{apply, make_room, needs, plan};
 use guest_windows::Memory;
 use held_parts::{put_redists, take_redists};
 use its_command::Command;
 use its_plain::{Call, Reply, StepReply};
 use its_steps::Commit;
-use its_turns::{GuestMemory, Machine, Pass, Tables, begin, commit};
+use its_turns::{GuestMemory, Machine, NotMade, Pass, Tables, begin, commit};
 use its_types::{Gate, Placed, Point};
 use lpi_pending::Redists;
 use std::sync::Wait;
@@ -97,12 +97,12 @@ fn run_command<G: Gate>(
     ensures runs { Runs (view pass.old) result (view pass.new) }
 {
     let Ok(word) = begin(machine, pass) else {
-        return Err(Unmade::Never(NoStep::Spent));
+        return Err(Unmade::Never(NotMade::Spent));
     };
     let shape = &machine.desc().shape;
     let planned = plan(command, &tables.regs, &tables.maps, memory, redists, shape);
     if make_room(&planned, &mut tables.maps).is_err() {
-        return Err(Unmade::Never(NoStep::NoMemory));
+        return Err(Unmade::Never(NotMade::NoMemory));
     }
     let Some(mark) = cached.mark(word, machine.stamp_last(), planned.reply()) else {
         return Err(Unmade::Again);

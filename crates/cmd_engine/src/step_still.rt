@@ -6,10 +6,10 @@ ghost use Rattle.cmd_exec.specs.Met.{MeetsNone};
 ghost use Rattle.cmd_engine.specs.StepHands.{base_held};
 ghost use Rattle.cmd_engine.specs.StepTells.{HoldsStill, Runs, TriesFrom};
 
-use crate::step_tells::{NoStep, Unmade};
+use crate::step_tells::Unmade;
 use its_plain::{Call, Reply, StepReply};
 use its_steps::{Commit, ShardChange};
-use its_turns::{GuestMemory, Machine, Pass, Tables, Value, begin, commit, put};
+use its_turns::{GuestMemory, Machine, NotMade, Pass, Tables, Value, begin, commit, put};
 use its_types::{Gate, Part, Placed, Point};
 
 /// Puts the maps and memory back.
@@ -61,7 +61,7 @@ fn commit_still<G: Gate>(
     ensures runs { Runs (view pass.old) result (view pass.new) }
 {
     let Ok(word) = begin(machine, pass) else {
-        return Err(Unmade::Never(NoStep::Spent));
+        return Err(Unmade::Never(NotMade::Spent));
     };
     let made = Commit {
         expected: word,

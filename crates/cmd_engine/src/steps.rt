@@ -6,11 +6,11 @@ ghost use Rattle.cmd_engine.specs.StepTells.{Steps, Tried};
 
 use crate::step_commands::command_step;
 use crate::step_still::still_step;
-use crate::step_tells::{NoStep, Unmade};
+use crate::step_tells::Unmade;
 use cmd_exec::{Met, meet};
 use held_parts::{take_maps, take_memory};
 use its_plain::StepReply;
-use its_turns::{Machine, Pass, pause};
+use its_turns::{Machine, NotMade, Pass, pause};
 use its_types::{Gate, Placed, Point};
 use lpi_pending::Redists;
 use std::sync::Wait;
@@ -63,7 +63,7 @@ pub fn step<R: Wait, G: Gate>(
     machine: &Machine,
     pass: &mut Pass,
     gate: &G,
-) -> Result<Placed<StepReply>, NoStep>
+) -> Result<Placed<StepReply>, NotMade>
     requires of { IsOf machine.now pass.old }
     requires free { (view pass.old).held ≡ [] }
     ensures of { IsOf machine.now pass.new }

@@ -18,7 +18,7 @@ pub returns-in-Ok-clause-held : goal.returns-in-Ok-clause-held
 returns-in-Ok-clause-held g c =
     let m = c.args.machine.now in let s = setup m in let y = view c.args.pass.now in let t = translator_of c.args.tables.now in let a =
     write_commit c.args.word c.args.stamp c.args.write change.Keep in
-    rw (c.apply.ensures) (owes_now s a y (view c.commit.new.pass) (maps_held t) c.requires.of.1 c.requires.held
+    rw (c.apply.ensures, c.desc.ensures.shape) (owes_now s a y (view c.commit.new.pass) (maps_held t) c.requires.of.1 c.requires.held
     (rw (c.call.ensures) at c.in-Ok.ensures.result.1)
     ∙ (may_write s m.laid.0 m.laid.1 c.args.word (subst (λ (z : Setup). c.args.word.place < z.limits.place_last) c.requires.of.1 c.requires.read.room) t
     c.args.write c.args.stamp c.requires.stamp).1)

@@ -29,7 +29,7 @@ commit-requires-clause-may g c = let q = c.requires in let s = setup c.args.mach
     let may : MayMark s.limits.stamp_last c.args.cached.now said w mark = subst (λ (z : ℕ × CmdReply). MayMark z.0 c.args.cached.now z.1 w mark)
     (λ d. (c.stamp_last.ensures d, c.reply.ensures d)) c.in-Some.ensures in
     subst (λ (r : StepReply). MayCall s (step_commit w (reply.Step r) mark.stamp mark.change) (view c.begin.new.pass).held)
-    (sym (c.as_step-reply.ensures ∙ ap as_step c.reply-2.ensures))
+    (sym (c.step_reply-reply.ensures))
     (may_commit s c.args.machine.now.laid.0 c.args.tables.now c.args.memory.now c.args.cached.now c.args.redists.now c.args.command.now q.whole q.meets q.ends
     q.needed
     (view c.args.pass.now) (view c.begin.new.pass) w q.of.1 q.held c.in-Ok.ensures.word.0 c.desc.result.now.shape c.desc.ensures.shape said
@@ -63,7 +63,7 @@ returns-clause-held g c = let q = c.requires in let s = setup c.args.machine.now
     (record { regs = c.apply.new.regs; maps = c.apply.new.maps }) c.change.new.self c.apply.new.redists c.apply.ensures.left c.apply.ensures.hand
     c.change.ensures (view c.commit.new.pass)
     (subst (λ (r : StepReply). Commits (view c.begin.new.pass) (step_commit w (reply.Step r) mark.stamp mark.change) (view c.commit.new.pass))
-    (c.as_step-reply.ensures ∙ ap as_step c.reply-2.ensures) c.in-Ok-commit.ensures.result.1)
+    (c.step_reply-reply.ensures) c.in-Ok-commit.ensures.result.1)
 
 pub returns-clause-hand : goal.returns-clause-hand
 returns-clause-hand g c = let q = c.requires in let s = setup c.args.machine.now in let w = c.in-Ok.word in let mark = c.in-Some.mark in let said : CmdReply =
@@ -97,7 +97,7 @@ returns-clause-runs g c = let q = c.requires in let s = setup c.args.machine.now
     let looks = c.in-Ok.ensures.word.0 in
     let may : MayMark s.limits.stamp_last c.args.cached.now said w mark = subst (λ (z : ℕ × CmdReply). MayMark z.0 c.args.cached.now z.1 w mark)
     (λ d. (c.stamp_last.ensures d, c.reply.ensures d)) c.in-Some.ensures in
-    made_step (view c.args.pass.now) (view c.begin.new.pass) (view c.commit.new.pass) w c.as_step-reply.result c.in-Ok-commit.place mark.stamp mark.change s
+    made_step (view c.args.pass.now) (view c.begin.new.pass) (view c.commit.new.pass) w c.step_reply-reply.result c.in-Ok-commit.place mark.stamp mark.change s
     q.of.1 looks c.in-Ok.ensures.word.1 c.in-Ok-commit.ensures.result.0 c.in-Ok-commit.ensures.result.1
     (subst (λ (e : Ending). LeavesBy s.limits.stamp_last e w.stamp mark.stamp mark.change)
     (sym (ends_so s c.args.machine.now.laid.0 c.args.tables.now c.args.memory.now c.args.cached.now c.args.redists.now c.args.command.now q.whole q.meets q.ends
