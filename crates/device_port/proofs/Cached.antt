@@ -35,8 +35,8 @@ use Rattle.its_turns.specs.Steps.{IsBusy}
 use Rattle.its_turns.specs.Told.{Looks, IsLone, released, Commits}
 use Rattle.its_turns.specs.declared.commits.Raced.{Raced as Race}
 use Rattle.its_turns.specs.declared.turns.Busy.{Busy as Found}
-use Rattle.device_port.specs.Hands.{two_before}
-use Rattle.device_port.specs.Hits.{HitMade, HitRaced, HitsNow, delivered}
+use Rattle.device_port.specs.Hands.{two_before, delivered}
+use Rattle.device_port.specs.Hits.{HitMade, HitRaced, HitsNow}
 use Rattle.device_port.specs.Signals.{signal, shard_of, FindsLast, SignalsNow, KeepsEarly}
 use Rattle.device_port.specs.declared.hits.Now.{Now}
 use Rattle.device_port.specs.declared.hits.Now.TheVariants.{Done, Miss, Busy, Raced, Spent}

@@ -1,4 +1,5 @@
 pub mod Targets
+pub mod Handed
 pub mod Cached
 pub mod Mapped
 pub mod Sent

@@ -1,13 +1,22 @@
--- The parts that a signal has in hand, the last one got first.
-use Rattle.std.specs.Prelude.{ℕ, Option, List, [], ◌∷◌}
+-- What a signal has in hand, and the parts that it holds then, the last one got first.
+use Rattle.std.specs.Prelude.{◌≡◌, ◌<◌, ℕ, Bool, true, false, Option, List, [], ◌∷◌}
+use Rattle.its_types.specs.Lpis.{with_lpi}
+use Rattle.its_types.specs.Ranges.{is_lpi}
+use Rattle.its_types.specs.declared.ids.DeviceId.{DeviceId}
+use Rattle.its_types.specs.declared.ids.EventId.{EventId}
+use Rattle.its_types.specs.declared.ids.Target.{Target}
 use Rattle.its_types.specs.declared.ids.Vcpu.{Vcpu}
 use Rattle.its_types.specs.declared.machine.Part.TheVariants as part
 use Rattle.its_plain.specs.Plain.{Redistributor}
+use Rattle.owned_parts.specs.Owned.{redistributor_of, HasLpisOf}
+use Rattle.xlate_cache.specs.Pairs.{shard_number}
 use Rattle.xlate_cache.specs.declared.entry.Entry.{Entry as Translation}
 use Rattle.its_steps.specs.Contents.{Maps, Shard, Redist, Held}
+use Rattle.its_steps.specs.Parts.{Setup, vcpu_count}
 use Rattle.its_steps.specs.World.{out}
 use Rattle.its_turns.specs.Contents.{translator_of}
 use Rattle.its_turns.specs.declared.value.Tables.{Tables}
+use Rattle.device_port.specs.declared.hand.Hand.{Hand}
 
 -- the maps
 abbrev pub one_held : Tables → List Held
@@ -20,3 +29,24 @@ two_before n vcpu ways r before = out (part.Redist vcpu) (Redist r) ∷ out (par
 -- all three
 abbrev pub three_held : ℕ → Vcpu → Tables → List (Option Translation) → Redistributor → List Held
 three_held n vcpu t ways r = two_before n vcpu ways r (one_held t)
+
+-- those in hand, and others got before
+abbrev pub hand_held : Hand → List Held → List Held
+hand_held h before = two_before h.number h.target.vcpu h.shard (redistributor_of h.redist.value) before
+
+-- what is in hand is of this machine
+pub record IsHand (s : Setup) (h : Hand) : Type 0 where
+  pub inside : h.number < s.shards
+  pub vcpu : h.target.vcpu.0 < vcpu_count s
+  pub lpi : is_lpi s.start.layout.shape.lpi_bits h.target.intid.0 ≡ true
+  pub lpis : HasLpisOf s.start.layout.shape h.redist.value
+
+-- and of this pair
+pub record IsHandOf (s : Setup) (dev : DeviceId) (ev : EventId) (h : Hand) : Type 0 where
+  pub number_is : h.number ≡ shard_number dev.0 ev.0 s.shards
+  pub hand : IsHand s h
+
+-- a redistributor that a message was sent to: the LPI is pending, where LPIs are on
+abbrev pub delivered : Bool → Redistributor → Target → Redistributor
+delivered true r t = record r { pending = with_lpi t.intid.0 r.pending }
+delivered false r t = r

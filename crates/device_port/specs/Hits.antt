@@ -1,6 +1,5 @@
 -- The outcome of the last steps of a signal by the cache: from the commit on.
-use Rattle.std.specs.Prelude.{◌≡◌, Bool, true, false, Option, List, []}
-use Rattle.its_types.specs.Lpis.{with_lpi}
+use Rattle.std.specs.Prelude.{◌≡◌, Bool, Option, List, []}
 use Rattle.its_types.specs.declared.ids.DeviceId.{DeviceId}
 use Rattle.its_types.specs.declared.ids.EventId.{EventId}
 use Rattle.its_types.specs.declared.ids.Target.{Target}
@@ -20,11 +19,6 @@ use Rattle.device_port.specs.Hands.{two_before}
 use Rattle.device_port.specs.Signals.{signal}
 use Rattle.device_port.specs.declared.hits.Now.{Now}
 use Rattle.device_port.specs.declared.hits.Now.TheVariants as now
-
--- a redistributor that a message was sent to: the LPI is pending, where LPIs are on
-abbrev pub delivered : Bool → Redistributor → Target → Redistributor
-delivered true r t = record r { pending = with_lpi t.intid.0 r.pending }
-delivered false r t = r
 
 -- it was made, and both parts were put back
 pub record HitMade (y : View) (w : Word) (dev : DeviceId) (ev : EventId) (t : Target) (ways : List (Option Translation)) (on : Bool) (x : View) : Type 0 where

@@ -1,26 +1,22 @@
 //! The last steps of a signal by the maps, which has all turns that it needs.
-ghost use Rattle.std.specs.Prelude.{◌≡◌, ◌<◌, true, false, Ok, Err, Some};
-ghost use Rattle.its_types.specs.Ranges.{is_lpi};
+ghost use Rattle.std.specs.Prelude.{◌≡◌, true, false, Ok, Err, Some};
 ghost use Rattle.its_plain.specs.Translation.{located};
 ghost use Rattle.its_plain.specs.declared.call.Signal.TheVariants as signals;
 ghost use Rattle.its_plain.specs.declared.call.Cause.TheVariants as cause;
-ghost use Rattle.owned_parts.specs.Owned.{redistributor_of, HasLpisOf};
 ghost use Rattle.xlate_cache.specs.Pairs.{shard_number};
-ghost use Rattle.its_steps.specs.Parts.{vcpu_count};
 ghost use Rattle.its_steps.specs.declared.change.ShardChange.TheVariants as change;
 ghost use Rattle.its_turns.specs.Contents.{translator_of};
 ghost use Rattle.its_turns.specs.Machines.{setup, view, IsOf};
 ghost use Rattle.device_port.specs.Finishes.{Finishes};
-ghost use Rattle.device_port.specs.Hands.{one_held, three_held};
+ghost use Rattle.device_port.specs.Hands.{one_held, hand_held, IsHandOf};
 ghost use Rattle.device_port.specs.Signals.{FindsIfDone};
 
+use crate::hand::Hand;
 use crate::home::put_three;
 use its_plain::{Call, Cause, Reply, Signal};
 use its_steps::ShardChange;
 use its_turns::{Attempt, Machine, Pass, Tables, Value, put, try_commit};
-use its_types::{DeviceId, EventId, Gate, Part, Placed, Target};
-use lpi_pending::Redist;
-use xlate_cache::Shard;
+use its_types::{DeviceId, EventId, Gate, Part, Placed};
 
 /// The maps send it nowhere.
 pub fn drop_signal<G: Gate>(
@@ -71,30 +67,23 @@ pub fn fill_signal<G: Gate>(
     gate: &G,
     dev: DeviceId,
     ev: EventId,
-    number: u32,
-    target: Target,
     maps: Box<Tables>,
-    mut shard: Shard,
-    mut redist: Box<Redist>,
+    mut hand: Hand,
 ) -> Attempt<Signal>
     requires of { IsOf machine.now pass.old }
-    requires number { (number ≡ shard_number dev.0 ev.0 (setup machine.now).shards)
-        × (number < (setup machine.now).shards) }
-    requires held { (view pass.old).held
-        ≡ three_held (shard_number dev.0 ev.0 (setup machine.now).shards) target.vcpu maps.value
-        shard (redistributor_of redist.value) }
-    requires goes { located (translator_of maps.value) dev.0 ev.0 ≡ Ok target }
-    requires on { redist.value.bases.on ≡ true }
-    requires vcpu { target.vcpu.0 < vcpu_count (setup machine.now) }
-    requires lpi { is_lpi (setup machine.now).start.layout.shape.lpi_bits target.intid.0 ≡ true }
-    requires lpis { HasLpisOf (setup machine.now).start.layout.shape redist.value }
+    requires hand { IsHandOf (setup machine.now) dev ev hand }
+    requires held { (view pass.old).held ≡ hand_held hand (one_held maps.value) }
+    requires goes { located (translator_of maps.value) dev.0 ev.0 ≡ Ok hand.target }
+    requires on { hand.redist.value.bases.on ≡ true }
     requires looked { ((view pass.old).cache.looked.its ≡ 0) ×
         ((view pass.old).cache.looked.number ≡ shard_number dev.0 ev.0 (setup machine.now).shards) }
     ensures of { IsOf machine.now pass.new }
-    ensures answer { Finishes (view pass.old) dev ev (signals.Delivered target.vcpu target.intid)
-        (change.Fill dev ev target) (view pass.new) result }
-    ensures finds { FindsIfDone dev ev (view pass.new) (Some target) result }
+    ensures answer { Finishes (view pass.old) dev ev
+        (signals.Delivered hand.target.vcpu hand.target.intid) (change.Fill dev ev hand.target)
+        (view pass.new) result }
+    ensures finds { FindsIfDone dev ev (view pass.new) (Some hand.target) result }
 {
+    let target = hand.target;
     let signal = Signal::Delivered {
         vcpu: target.vcpu,
         intid: target.intid,
@@ -103,16 +92,16 @@ pub fn fill_signal<G: Gate>(
     let fill = ShardChange::Fill(dev, ev, target);
     match try_commit(machine, pass, gate, &call, &Reply::Signal(signal), fill) {
         Ok(word) => {
-            redist.pending.set(target.intid);
-            shard.fill(dev, ev, word.stamp, target);
-            put_three(machine, pass, number, target.vcpu, maps, shard, redist);
+            hand.redist.pending.set(target.intid);
+            hand.shard.fill(dev, ev, word.stamp, target);
+            put_three(machine, pass, maps, hand);
             Attempt::Done(Placed {
                 place: word.place,
                 reply: signal,
             })
         }
         Err(lost) => {
-            put_three(machine, pass, number, target.vcpu, maps, shard, redist);
+            put_three(machine, pass, maps, hand);
             lost.attempt()
         }
     }
@@ -125,22 +114,14 @@ pub fn off_signal<G: Gate>(
     gate: &G,
     dev: DeviceId,
     ev: EventId,
-    number: u32,
-    target: Target,
     maps: Box<Tables>,
-    shard: Shard,
-    redist: Box<Redist>,
+    hand: Hand,
 ) -> Attempt<Signal>
     requires of { IsOf machine.now pass.old }
-    requires number { (number ≡ shard_number dev.0 ev.0 (setup machine.now).shards)
-        × (number < (setup machine.now).shards) }
-    requires held { (view pass.old).held
-        ≡ three_held (shard_number dev.0 ev.0 (setup machine.now).shards) target.vcpu maps.value
-        shard (redistributor_of redist.value) }
-    requires goes { located (translator_of maps.value) dev.0 ev.0 ≡ Ok target }
-    requires off { redist.value.bases.on ≡ false }
-    requires vcpu { target.vcpu.0 < vcpu_count (setup machine.now) }
-    requires lpis { HasLpisOf (setup machine.now).start.layout.shape redist.value }
+    requires hand { IsHandOf (setup machine.now) dev ev hand }
+    requires held { (view pass.old).held ≡ hand_held hand (one_held maps.value) }
+    requires goes { located (translator_of maps.value) dev.0 ev.0 ≡ Ok hand.target }
+    requires off { hand.redist.value.bases.on ≡ false }
     ensures of { IsOf machine.now pass.new }
     ensures answer { Finishes (view pass.old) dev ev (signals.Dropped cause.LpisOff) change.Keep
         (view pass.new)
@@ -157,14 +138,14 @@ pub fn off_signal<G: Gate>(
         ShardChange::Keep,
     ) {
         Ok(word) => {
-            put_three(machine, pass, number, target.vcpu, maps, shard, redist);
+            put_three(machine, pass, maps, hand);
             Attempt::Done(Placed {
                 place: word.place,
                 reply: signal,
             })
         }
         Err(lost) => {
-            put_three(machine, pass, number, target.vcpu, maps, shard, redist);
+            put_three(machine, pass, maps, hand);
             lost.attempt()
         }
     }

@@ -3,6 +3,7 @@
 #![tactic(auto)]
 
 mod finish;
+mod hand;
 mod hits;
 mod home;
 mod maps;

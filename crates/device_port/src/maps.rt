@@ -11,6 +11,7 @@ ghost use Rattle.device_port.specs.ByMaps.{AsksMaps};
 ghost use Rattle.device_port.specs.Hands.{one_held};
 
 use crate::finish::{drop_signal, fill_signal, off_signal};
+use crate::hand::Hand;
 use its_plain::Signal;
 use its_turns::{
     Attempt, Machine, Pass, Tables, Value, put, try_take_maps, try_take_redist, try_take_shard,
@@ -79,13 +80,15 @@ fn send_signal<G: Gate>(
             return Attempt::Busy(busy);
         }
     };
-    if redist.bases.on {
-        fill_signal(
-            machine, pass, gate, dev, ev, number, target, maps, shard, redist,
-        )
+    let hand = Hand {
+        number,
+        shard,
+        target,
+        redist,
+    };
+    if hand.on() {
+        fill_signal(machine, pass, gate, dev, ev, maps, hand)
     } else {
-        off_signal(
-            machine, pass, gate, dev, ev, number, target, maps, shard, redist,
-        )
+        off_signal(machine, pass, gate, dev, ev, maps, hand)
     }
 }

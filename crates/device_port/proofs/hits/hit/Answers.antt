@@ -1,39 +1,58 @@
-use Rattle.std.proofs.Common.{refl, subst, [], ◌<◌, ℕ}
+use Rattle.std.proofs.Common.{◌≡◌, ◌<◌, ℕ, Bool, true, List, [], refl, ap, sym, ◌∙◌, subst}
+use Rattle.its_types.specs.Ranges.{is_lpi}
+use Rattle.its_types.specs.declared.ids.Target.{Target}
 use Rattle.owned_parts.specs.Owned.{redistributor_of}
+use Rattle.its_steps.specs.Parts.{vcpu_count}
 use Rattle.its_turns.specs.Machines.{setup, view}
+use Rattle.device_port.specs.Hands.{two_before, delivered}
+use Rattle.device_port.proofs.Handed.{two_by_number, number_inside}
 use Rattle.device_port.proofs.Cached.{hit_may, hit_owes, hit_made}
 use Rattle.device_port.proofs.hits.hit.Goals as goal
 
 pub commit-requires-clause-may : goal.commit-requires-clause-may
-commit-requires-clause-may g c = let m = c.args.machine.now in let s = setup m in let r = redistributor_of c.args.redist.value in
-    let sh = subst (λ (n : ℕ). n < s.shards) c.requires.number.0 c.requires.number.1 in
-    rw (c.met-signal.ensures, c.deref.ensures) (hit_may s m.laid.0 m.laid.1 c.args.dev c.args.ev c.args.target c.args.shard r c.args.word c.requires.vcpu sh
-    c.requires.room c.requires.found (view c.args.pass.now) c.requires.held r.bases.on refl)
+commit-requires-clause-may g c = let m = c.args.machine.now in let s = setup m in let h = c.args.hand in let r = redistributor_of h.redist.value in
+    let dev = c.args.dev in let ev = c.args.ev in let y = view c.args.pass.now in
+    rw (c.met-signal.ensures, c.on-on.ensures) (hit_may s m.laid.0 m.laid.1 dev ev h.target h.shard r c.args.word c.requires.hand.hand.vcpu
+    (number_inside s dev ev h c.requires.hand) c.requires.room c.requires.found y (two_by_number s dev ev h y.held c.requires.hand c.requires.held) r.bases.on refl)
+
+pub put_two-requires-clause-hand : goal.put_two-requires-clause-hand
+put_two-requires-clause-hand g c = let s = setup c.args.machine.now in let h = c.requires.hand.hand in let e = c.deliver.ensures in
+    record {
+      inside = subst (λ (n : ℕ). n < s.shards) (sym e.number) h.inside;
+      vcpu = subst (λ (t : Target). t.vcpu.0 < vcpu_count s) (sym e.target) h.vcpu;
+      lpi = subst (λ (t : Target). is_lpi s.start.layout.shape.lpi_bits t.intid.0 ≡ true) (sym e.target) h.lpi;
+      lpis = e.lpis s.start.layout.shape h.lpis;
+    }
 
 pub put_two-requires-clause-held : goal.put_two-requires-clause-held
-put_two-requires-clause-held g c = let m = c.args.machine.now in let s = setup m in let r = redistributor_of c.args.redist.value in
-    let sh = subst (λ (n : ℕ). n < s.shards) c.requires.number.0 c.requires.number.1 in (
+put_two-requires-clause-held g c = let m = c.args.machine.now in let s = setup m in let h = c.args.hand in let r = redistributor_of h.redist.value in
+    let dev = c.args.dev in let ev = c.args.ev in let y = view c.args.pass.now in let e = c.deliver.ensures in
+    let number = sym (e.number ∙ c.requires.hand.number_is) in
+    let target = sym e.target in
+    let ways = sym e.shard in
+    let left = sym (e.left ∙ ap (λ (b : Bool). delivered b r h.target) c.on-on.ensures) in (
       [],
-      rw (c.requires.number.0, c.deliver.ensures.left, c.deref.ensures, c.deref_mut.ensures.value)
-          (hit_owes s m.laid.0 m.laid.1 c.args.dev c.args.ev c.args.target c.args.shard r c.args.word c.requires.vcpu sh
-          c.requires.room c.requires.found (view c.args.pass.now) c.requires.held r.bases.on refl c.requires.of.1 (view c.commit.new.pass)
-          (rw (c.met-signal.ensures, c.deref.ensures) at c.in-Ok.ensures.result.1)),
+      hit_owes s m.laid.0 m.laid.1 dev ev h.target h.shard r c.args.word c.requires.hand.hand.vcpu (number_inside s dev ev h c.requires.hand) c.requires.room
+          c.requires.found y (two_by_number s dev ev h y.held c.requires.hand c.requires.held) r.bases.on refl c.requires.of.1 (view c.commit.new.pass)
+          (rw (c.met-signal.ensures, c.on-on.ensures) at c.in-Ok.ensures.result.1)
+          ∙ (λ d. two_before (number d) (ap (λ (t : Target). t.vcpu) target d) (ways d) (left d) []),
     )
 
 pub returns-in-Ok-clause-answer : goal.returns-in-Ok-clause-answer
-returns-in-Ok-clause-answer g c = let m = c.args.machine.now in let s = setup m in let y = view c.args.pass.now in let x = view c.commit.new.pass in
-    let sh = subst (λ (n : ℕ). n < s.shards) c.requires.number.0 c.requires.number.1 in
-    let r = redistributor_of c.args.redist.value in
-    let commits = rw (c.met-signal.ensures, c.deref.ensures) at c.in-Ok.ensures.result.1 in
-    let owes = hit_owes s m.laid.0 m.laid.1 c.args.dev c.args.ev c.args.target c.args.shard r c.args.word c.requires.vcpu sh c.requires.room c.requires.found
-    y c.requires.held r.bases.on refl c.requires.of.1 x commits in (
+returns-in-Ok-clause-answer g c = let m = c.args.machine.now in let s = setup m in let h = c.args.hand in let r = redistributor_of h.redist.value in
+    let dev = c.args.dev in let ev = c.args.ev in let y = view c.args.pass.now in let x = view c.commit.new.pass in let e = c.deliver.ensures in
+    let number = sym (e.number ∙ c.requires.hand.number_is) in
+    let target = sym e.target in
+    let ways = sym e.shard in
+    let left = sym (e.left ∙ ap (λ (b : Bool). delivered b r h.target) c.on-on.ensures) in
+    let commits = rw (c.met-signal.ensures, c.on-on.ensures) at c.in-Ok.ensures.result.1 in
+    let held = two_by_number s dev ev h y.held c.requires.hand c.requires.held in
+    let owes = hit_owes s m.laid.0 m.laid.1 dev ev h.target h.shard r c.args.word c.requires.hand.hand.vcpu (number_inside s dev ev h c.requires.hand)
+    c.requires.room c.requires.found y held r.bases.on refl c.requires.of.1 x commits in (
       r.bases.on,
-      rw (c.met-signal.ensures, c.deref.ensures) refl,
+      rw (c.met-signal.ensures, c.on-on.ensures) refl,
       c.in-Ok.ensures.result.0,
-      hit_made s m.laid.0 m.laid.1 c.args.dev c.args.ev c.args.target c.args.shard r c.args.word c.requires.vcpu sh c.requires.room c.requires.found
-          y c.requires.held r.bases.on refl c.requires.of.1 x (view c.put_two.new.pass) commits
-          (c.put_two.ensures.home [] (rw (c.requires.number.0, c.deliver.ensures.left, c.deref.ensures, c.deref_mut.ensures.value) owes)),
+      hit_made s m.laid.0 m.laid.1 dev ev h.target h.shard r c.args.word c.requires.hand.hand.vcpu (number_inside s dev ev h c.requires.hand) c.requires.room
+          c.requires.found y held r.bases.on refl c.requires.of.1 x (view c.put_two.new.pass) commits
+          (c.put_two.ensures.home [] (owes ∙ (λ d. two_before (number d) (ap (λ (t : Target). t.vcpu) target d) (ways d) (left d) []))),
     )
-
-pub put_two-requires-clause-lpis : goal.put_two-requires-clause-lpis
-put_two-requires-clause-lpis g c = c.deliver.ensures.lpis (setup c.args.machine.now).start.layout.shape (rw (c.deref_mut.ensures.value) c.requires.lpis)

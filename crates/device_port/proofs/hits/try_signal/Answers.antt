@@ -42,21 +42,16 @@ try_take_redist-requires-clause-stands g c =
     (ap (λ (y : View). y.setup) looks.same ∙ c.requires.of.1) c.in-Ok-try_take_shard.ensures.result.stood in
     (cached_target s c.shard_of-number.result c.args.dev c.args.ev w.stamp c.in-Some.target c.in-Ok-try_take_shard.shard stood (search rules)).vcpu
 
-pub hit-requires-clause-vcpu : goal.hit-requires-clause-vcpu
-hit-requires-clause-vcpu g c =
-    let m = c.args.machine.now in let s = setup m in let v = view c.args.pass.now in let v1 = view c.begin.new.pass in let w = c.in-Ok.word in let looks =
-    c.in-Ok.ensures.word.0 in let is = c.shard_of-number.ensures.number in
+pub hit-requires-clause-hand : goal.hit-requires-clause-hand
+hit-requires-clause-hand g c =
+    let m = c.args.machine.now in let s = setup m in let w = c.in-Ok.word in let looks = c.in-Ok.ensures.word.0 in
     let stood = subst (λ (z : Setup). HasStood z (part.Shard 0 c.shard_of-number.result) (Shard c.in-Ok-try_take_shard.shard))
     (ap (λ (y : View). y.setup) looks.same ∙ c.requires.of.1) c.in-Ok-try_take_shard.ensures.result.stood in
-    (cached_target s c.shard_of-number.result c.args.dev c.args.ev w.stamp c.in-Some.target c.in-Ok-try_take_shard.shard stood (search rules)).vcpu
-
-pub hit-requires-clause-lpi : goal.hit-requires-clause-lpi
-hit-requires-clause-lpi g c =
-    let m = c.args.machine.now in let s = setup m in let v = view c.args.pass.now in let v1 = view c.begin.new.pass in let w = c.in-Ok.word in let looks =
-    c.in-Ok.ensures.word.0 in let is = c.shard_of-number.ensures.number in
-    let stood = subst (λ (z : Setup). HasStood z (part.Shard 0 c.shard_of-number.result) (Shard c.in-Ok-try_take_shard.shard))
-    (ap (λ (y : View). y.setup) looks.same ∙ c.requires.of.1) c.in-Ok-try_take_shard.ensures.result.stood in
-    (cached_target s c.shard_of-number.result c.args.dev c.args.ev w.stamp c.in-Some.target c.in-Ok-try_take_shard.shard stood (search rules)).lpi
+    let target = cached_target s c.shard_of-number.result c.args.dev c.args.ev w.stamp c.in-Some.target c.in-Ok-try_take_shard.shard stood (search rules) in
+    record {
+      number_is = c.shard_of-number.ensures.number;
+      hand = record { inside = c.shard_of-number.ensures.stands.1; vcpu = target.vcpu; lpi = target.lpi; lpis = c.in-Ok-try_take_redist.ensures.result.1 };
+    }
 
 pub returns-clause-answer : goal.returns-clause-answer
 returns-clause-answer g c =

@@ -48,20 +48,24 @@ returns-in-Err-try_take_redist-clause-answer g c v bare first =
     (emptied_two b1 (view c.put-in-Err-try_take_redist.new.pass) (view c.put-in-Err-try_take_redist-2.new.pass) c.put-in-Err-try_take_redist.ensures.view
     c.put-in-Err-try_take_redist-2.ensures.view held)
 
-pub fill_signal-requires-clause-vcpu : goal.fill_signal-requires-clause-vcpu
-fill_signal-requires-clause-vcpu g c = (target_in (setup c.args.machine.now) (translator_of c.args.maps.value) c.args.dev.0 c.args.ev.0 c.args.target
-    c.requires.stood c.requires.goes).vcpu
+pub fill_signal-requires-clause-hand : goal.fill_signal-requires-clause-hand
+fill_signal-requires-clause-hand g c =
+    let target = target_in (setup c.args.machine.now) (translator_of c.args.maps.value) c.args.dev.0 c.args.ev.0 c.args.target c.requires.stood c.requires.goes in
+    record {
+      number_is = c.shard_of-number.ensures.number;
+      hand = record { inside = c.shard_of-number.ensures.stands.1; vcpu = target.vcpu; lpi = target.lpi; lpis = c.in-Ok-try_take_redist.ensures.result.1 };
+    }
 
-pub fill_signal-requires-clause-lpi : goal.fill_signal-requires-clause-lpi
-fill_signal-requires-clause-lpi g c = (target_in (setup c.args.machine.now) (translator_of c.args.maps.value) c.args.dev.0 c.args.ev.0 c.args.target
-    c.requires.stood c.requires.goes).lpi
+pub off_signal-requires-clause-hand : goal.off_signal-requires-clause-hand
+off_signal-requires-clause-hand g c =
+    let target = target_in (setup c.args.machine.now) (translator_of c.args.maps.value) c.args.dev.0 c.args.ev.0 c.args.target c.requires.stood c.requires.goes in
+    record {
+      number_is = c.shard_of-number.ensures.number;
+      hand = record { inside = c.shard_of-number.ensures.stands.1; vcpu = target.vcpu; lpi = target.lpi; lpis = c.in-Ok-try_take_redist.ensures.result.1 };
+    }
 
-pub off_signal-requires-clause-vcpu : goal.off_signal-requires-clause-vcpu
-off_signal-requires-clause-vcpu g c = (target_in (setup c.args.machine.now) (translator_of c.args.maps.value) c.args.dev.0 c.args.ev.0 c.args.target
-    c.requires.stood c.requires.goes).vcpu
-
-pub returns-then-deref-clause-answer : goal.returns-then-deref-clause-answer
-returns-then-deref-clause-answer g c v bare first =
+pub returns-then-on-clause-answer : goal.returns-then-on-clause-answer
+returns-then-on-clause-answer g c v bare first =
     let s = setup c.args.machine.now in let dev = c.args.dev in let ev = c.args.ev in let y = view c.args.pass.now in let n =
     c.shard_of-number.result in let m = Maps (translator_of c.args.maps.value) in
     let own : v.setup ≡ s = sym (ap (λ (u : View). u.setup) first) ∙ c.requires.of.1 in
@@ -76,8 +80,8 @@ returns-then-deref-clause-answer g c v bare first =
     (Delivered u c.args.target.intid) (Fill dev ev c.args.target) x c.fill_signal.result
     (λ p is l. (inr l, subst (FindsIfDone dev ev x (Some c.args.target)) is c.fill_signal.ensures.finds)) c.fill_signal.ensures.answer
 
-pub returns-else-deref-clause-answer : goal.returns-else-deref-clause-answer
-returns-else-deref-clause-answer g c v bare first =
+pub returns-else-on-clause-answer : goal.returns-else-on-clause-answer
+returns-else-on-clause-answer g c v bare first =
     let s = setup c.args.machine.now in let dev = c.args.dev in let ev = c.args.ev in let y = view c.args.pass.now in let n =
     c.shard_of-number.result in let m = Maps (translator_of c.args.maps.value) in
     let own : v.setup ≡ s = sym (ap (λ (u : View). u.setup) first) ∙ c.requires.of.1 in
