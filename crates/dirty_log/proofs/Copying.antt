@@ -1,9 +1,9 @@
 -- Dirty pages that are copied one after another.
-use Rattle.std.proofs.Common.{◌≡◌, ℕ, zero, suc, ◌+◌, ◌/◌, ◌<◌, Bool, true, false, cond, List, [], ◌∷◌, length, get_or, take, map, refl, sym, ap, ◌∙◌, arith, eqb, inl, inr}
-use Rattle.std.specs.Prelude.{◌&&◌, ◌||◌, ◌==◌}
-use Rattle.std.proofs.lemmas.Bool.{cases_Bool, eq-eqb, eqb-true}
+use Rattle.std.proofs.Common.{◌≡◌, ℕ, zero, suc, ◌+◌, ◌/◌, ◌<◌, Bool, true, false, cond, List, [], ◌∷◌, length, get_or, take, map, refl, sym, ap, ◌∙◌, arith}
+use Rattle.std.proofs.Common.{eqb}
+use Rattle.std.specs.Prelude.{◌&&◌, ◌||◌}
 use Rattle.guest_windows.specs.Windows.{Window}
-use Rattle.guest_windows.specs.Mixed.{mixed, mixed_window, mixed_windows}
+use Rattle.guest_windows.specs.Mixed.{mixed, mixed_windows}
 use Rattle.dirty_log.specs.Pages.{page, set_all}
 use Rattle.dirty_log.specs.Copies.{in_dirty, copied}
 use Rattle.dirty_log.specs.Listing.{is_of_dirty}

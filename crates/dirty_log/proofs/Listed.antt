@@ -1,5 +1,6 @@
 -- The numbers of all pages, rising.
-use Rattle.std.proofs.Common.{◌≡◌, ◌⊎◌, ℕ, zero, suc, ◌+◌, ◌*◌, ◌^◌, ◌<◌, ◌≤◌, Bool, true, false, cond, eqb, List, [], ◌∷◌, ◌++◌, map, take, length, get_or, refl, sym, ap, subst}
+use Rattle.std.proofs.Common.{◌≡◌, ◌⊎◌, ℕ, zero, suc, ◌+◌, ◌*◌, ◌^◌, ◌<◌, ◌≤◌, Bool, true, false, cond, eqb, List, [], ◌∷◌, ◌++◌, map, take, length, get_or}
+use Rattle.std.proofs.Common.{refl, sym, ap, subst}
 use Rattle.std.proofs.Common.{◌∙◌, inl, inr, arith, eq-eqb, ne_eqb}
 use Rattle.std.specs.Prelude.{◌||◌, ◌&&◌, slice_index}
 use Rattle.std.specs.List.{list_any}
@@ -46,7 +47,8 @@ not_smaller x y xs ys h same lt =
       | inr later ↦ let k = above_first y ys h x later in omega arith
     ]
 
-first_same : (x y : ℕ) (xs ys : List ℕ) → IsStrictlyIncreasing (x ∷ xs) → IsStrictlyIncreasing (y ∷ ys) → ((z : ℕ) → is_in z (x ∷ xs) ≡ is_in z (y ∷ ys)) → x ≡ y
+first_same : (x y : ℕ) (xs ys : List ℕ) → IsStrictlyIncreasing (x ∷ xs) → IsStrictlyIncreasing (y ∷ ys) → ((z : ℕ) → is_in z (x ∷ xs) ≡ is_in z (y ∷ ys))
+    → x ≡ y
 first_same x y xs ys hx hy same =
     elim (cases_lt x y) [
       | inl lt ↦ absurd (not_smaller x y xs ys hy same lt)
@@ -194,7 +196,8 @@ range_at (w ∷ ws) (suc i) d h lt = range_at ws i d (and_parts (in_range (w.0.0
 pub there_more : (ws : List (Addr × ℕ)) (i n : ℕ) (d : Addr × ℕ) → i < length ws → (is_there (pairs (take i ws)) n
     || meets (get_or ws i d).0.0 (get_or ws i d).1 n) ≡ is_there (pairs (take (i + 1) ws)) n
 there_more [] i n d lt = absurd (omega arith)
-there_more (w ∷ ws) zero n d lt = let one : suc 0 ≡ 0 + 1 = omega arith in or_false (meets w.0.0 w.1 n) ∙ ap (λ (j : ℕ). is_there (pairs (take j (w ∷ ws))) n) one
+there_more (w ∷ ws) zero n d lt = let one : suc 0 ≡ 0 + 1 = omega arith in or_false (meets w.0.0 w.1 n) ∙ ap (λ (j : ℕ). is_there (pairs (take j
+    (w ∷ ws))) n) one
   where
     or_false : (b : Bool) → b ≡ (b || false)
     or_false true = refl

@@ -103,7 +103,8 @@ byte_there (w ∷ ws) a x e =
           let here : meets w.base (length w.bytes) (page_of a) ≡ true = grind (arith, some, first, last) in
           ap (λ (b : Bool). b || is_there (map extent ws) (page_of a)) here
       | inr h ↦
-          let later : byte_at ws a ≡ Some x = sym (ap (λ (b : Bool). option_map (λ bytes. Rattle.std.specs.Prelude.slice_index bytes 0) (cond b (Some (Rattle.guest_windows.specs.Windows.piece w a 1)) (read_at ws a 1))) h) ∙ e in
+          let later : byte_at ws a ≡ Some x = sym (ap (λ (b : Bool). option_map (λ bytes. Rattle.std.specs.Prelude.slice_index bytes 0) (cond b (Some
+          (Rattle.guest_windows.specs.Windows.piece w a 1)) (read_at ws a 1))) h) ∙ e in
           ap (λ (b : Bool). meets w.base (length w.bytes) (page_of a) || b) (byte_there ws a x later) ∙ or_true (meets w.base (length w.bytes) (page_of a))
     ]
 

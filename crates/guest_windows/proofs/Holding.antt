@@ -1,5 +1,6 @@
 -- Pages that aren't held have zeros, so what lies before the first that is held is zero.
-use Rattle.std.proofs.Common.{◌≡◌, ◌⊎◌, ℕ, zero, suc, ◌+◌, ◌-◌, ◌*◌, ◌/◌, ◌%◌, ◌<◌, ◌≤◌, ◌^◌, Bool, true, false, List, [], ◌∷◌, length, get_or, take, Some, None, Option}
+use Rattle.std.proofs.Common.{◌≡◌, ◌⊎◌, ℕ, zero, suc, ◌+◌, ◌-◌, ◌*◌, ◌/◌, ◌%◌, ◌<◌, ◌≤◌, ◌^◌, Bool, true, false, List, [], ◌∷◌, length, get_or, take, Some}
+use Rattle.std.proofs.Common.{None, Option}
 use Rattle.std.proofs.Common.{inl, inr, refl, sym, ap, subst, ◌∙◌, arith}
 use Rattle.std.specs.Prelude.{◌||◌, slice_index, is_some}
 use Rattle.std.specs.List.{AllByRecursion}
@@ -8,7 +9,7 @@ use Rattle.std.proofs.lemmas.Bool.{cases_Bool}
 use Rattle.guest_windows.specs.Windows.{Window, has, inside, read_at, byte_at}
 use Rattle.guest_windows.specs.Zeros.{AreZero, AreZeroFrom, IsZeroIn}
 use Rattle.guest_windows.specs.Fields.{window, windows}
-use Rattle.guest_windows.specs.Pages.{rows, row_at, byte_in}
+use Rattle.guest_windows.specs.Pages.{rows, byte_in}
 use Rattle.guest_windows.specs.declared.frame.Frame.{Frame}
 use Rattle.guest_windows.specs.declared.page.Page.{Page}
 use Rattle.guest_windows.proofs.Laws.{is_some-read_at}
@@ -32,7 +33,11 @@ zero_in f from start page high is each none a low lt e =
     let place : f.base + i < high = omega (arith, fit.above, lt) in
     let after : start ≤ i = omega (arith, low, is) in
     byte_of f.len (rows f.pages.items) i below
-    ∙ none i (omega (arith, after)) below (elim (each i below place) [ inl before ↦ absurd (omega (arith, before, after)) | inr in_page ↦ omega (arith, in_page) ])
+    ∙ none i (omega (arith, after)) below (elim (each i below place) [
+      | inl before ↦ absurd (omega (arith, before, after))
+      | inr in_page ↦ omega
+          (arith, in_page)
+    ])
 
 pub has_at : (f : Frame) (a n : ℕ) → f.base ≤ a → a + n ≤ f.base + f.len → has (window f) a n ≡ true
 has_at f a n above fits =

@@ -1,9 +1,10 @@
 -- Windows whose pages are all held, and what a copy of a page leaves of them.
-use Rattle.std.proofs.Common.{◌≡◌, ℕ, zero, suc, ◌+◌, ◌-◌, ◌*◌, ◌/◌, ◌%◌, ◌<◌, ◌≤◌, ◌⊎◌, Bool, true, false, cond, List, [], ◌∷◌, ◌++◌, length, get_or, set, take, drop, map, replicate}
+use Rattle.std.proofs.Common.{◌≡◌, ℕ, zero, suc, ◌+◌, ◌-◌, ◌/◌, ◌<◌, ◌≤◌, ◌⊎◌, Bool, false, cond, List, [], ◌∷◌, ◌++◌, length, get_or, set, take, drop, map}
 use Rattle.std.proofs.Common.{inl, inr, refl, sym, ap, subst, ◌∙◌, arith, eqb, length-append, length-drop}
 use Rattle.std.specs.Prelude.{◌==◌}
 use Rattle.std.proofs.lemmas.Bool.{cases_eq, cases_lt, cases_Bool, eq-eqb, eqb-true, cond-true, cond-false}
-use Rattle.std.proofs.lemmas.List.{ext_get_or, length-take-le, get_or-take, get_or-drop, get_or_append_left, get_or-append_right, get_or-set_same, get_or-set_other}
+use Rattle.std.proofs.lemmas.List.{ext_get_or, length-take-le, get_or-take, get_or-drop, get_or_append_left, get_or-append_right, get_or-set_same}
+use Rattle.std.proofs.lemmas.List.{get_or-set_other}
 use Rattle.guest_windows.specs.Windows.{Window, piece, put, zeros, extent}
 use Rattle.guest_windows.specs.Mixed.{mixed, mixed_window, mixed_windows}
 use Rattle.guest_windows.specs.Fields.{window, windows, IsWhole, AllWhole}
@@ -136,7 +137,8 @@ module _ (fs : List Frame) (at : ℕ) (g : Frame) (there : at < length fs) where
       → j < at + 1 → P j d (get_or (set fs at g) j d)
   done_set P done here j d lt =
       elim (cases_eq j at) [
-        | inl is ↦ subst (λ (k : ℕ). P k d (get_or (set fs at g) k d)) (sym is) (subst (λ (f : Frame). P at d f) (sym (get_or-set_same fs at g d there)) (here d))
+        | inl is ↦ subst (λ (k : ℕ). P k d (get_or (set fs at g) k d)) (sym is) (subst (λ (f : Frame). P at d f) (sym (get_or-set_same fs at g d there))
+            (here d))
         | inr not ↦ subst (λ (f : Frame). P j d f) (sym (get_or-set_other fs at j g d not)) (done j d (omega (arith, lt, not)))
       ]
 

@@ -1,4 +1,4 @@
-use Rattle.std.proofs.Common.{◌≡◌, false, List, [], ◌<◌, length, get_or, take, map, refl, ap, ◌∙◌, arith}
+use Rattle.std.proofs.Common.{false, List, [], ◌<◌, length, get_or, take, map, refl, ap, ◌∙◌, arith}
 use Rattle.guest_windows.specs.Windows.{Window, extent}
 use Rattle.guest_windows.specs.Mixed.{mixed_windows}
 use Rattle.guest_windows.proofs.Mixed.{extents_mixed}

@@ -10,7 +10,8 @@ marked_page-requires-clause-low c =
     let xs = c.args.pages.now in
     let none : Page = record { number = 0; dirty = false } in
     let lt : l.at < length xs = omega (arith, c.loop-at-test.true) in
-    let at = ap (λ (ps : List Page). (get_or ps l.at none).number) l.invariant ∙ ap (λ (p : Page). p.number) (here (mark_one c.args.addr.0 c.args.len) xs l.at none lt) in
+    let at = ap (λ (ps : List Page). (get_or ps l.at none).number) l.invariant ∙ ap (λ (p : Page). p.number) (here
+    (mark_one c.args.addr.0 c.args.len) xs l.at none lt) in
     subst (λ (k : ℕ). k < 2 ^ 40) (sym at) (low_at xs l.at none c.requires.low lt)
 
 pub loop-at-preserved : goal.loop-at-preserved

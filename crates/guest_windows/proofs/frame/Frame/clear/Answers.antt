@@ -1,4 +1,4 @@
-use Rattle.std.proofs.Common.{◌≡◌, ◌/◌, ◌<◌, List, ℕ, ap, ◌∙◌, arith, sym, length}
+use Rattle.std.proofs.Common.{◌<◌, List, ℕ, ap, ◌∙◌, arith, sym}
 use Rattle.std.proofs.lemmas.List.{ext_get_or, length-replicate, get_or-replicate}
 use Rattle.guest_windows.specs.Pages.{rows, bytes_of}
 use Rattle.guest_windows.proofs.Sparse.{length-bytes, byte_of}

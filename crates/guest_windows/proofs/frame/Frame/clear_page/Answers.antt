@@ -1,4 +1,4 @@
-use Rattle.std.proofs.Common.{◌≡◌, ◌<◌, ◌%◌, List, ℕ, length, get_or, sym, ap, ◌∙◌, arith}
+use Rattle.std.proofs.Common.{◌<◌, ◌%◌, List, ℕ, length, get_or, sym, ap, ◌∙◌, arith}
 use Rattle.guest_windows.specs.Pages.{rows, row_at, byte_in}
 use Rattle.guest_windows.proofs.Fitting.{row-set_same, row-set_other, rows-set, row_read, still-set, length-rows}
 use Rattle.guest_windows.proofs.frame.Frame.clear_page.Goals as goal

@@ -1,4 +1,4 @@
-use Rattle.std.proofs.Common.{◌≡◌, ◌+◌, ◌-◌, ◌<◌, ◌≤◌, length, arith}
+use Rattle.std.proofs.Common.{arith}
 use Rattle.std.proofs.lemmas.List.{length-take-le}
 use Rattle.guest_windows.proofs.Fitting.{fits_frame}
 use Rattle.guest_windows.proofs.frame.Frame.copy_bytes.Goals as goal

@@ -1,5 +1,4 @@
-use Rattle.std.proofs.Common.{◌≡◌, ℕ, ◌+◌, ◌*◌, ◌/◌, ◌<◌, ◌≤◌, length, sym, ap, ◌∙◌, arith, inl, inr}
-use Rattle.guest_windows.specs.Windows.{Window}
+use Rattle.std.proofs.Common.{◌≡◌, length, sym, ◌∙◌, arith, inl, inr}
 use Rattle.guest_windows.specs.Fields.{window}
 use Rattle.guest_windows.specs.Pages.{rows}
 use Rattle.guest_windows.proofs.Sparse.{length-bytes}

@@ -1,4 +1,4 @@
-use Rattle.std.proofs.Common.{◌≡◌, ℕ, ◌<◌, ◌/◌, length, get_or, sym, ap, ◌∙◌, arith, List}
+use Rattle.std.proofs.Common.{ℕ, ◌<◌, length, get_or, sym, ap, ◌∙◌, arith, List}
 use Rattle.guest_windows.specs.Pages.{rows, row_at, byte_in}
 use Rattle.guest_windows.proofs.Fitting.{same-set, still-set, row-set_same, rows-set, row_read, length-rows}
 use Rattle.guest_windows.proofs.frame.Frame.hold_page_with.Goals as goal

@@ -1,6 +1,5 @@
-use Rattle.std.proofs.Common.{◌≡◌, ℕ, ◌+◌, ◌-◌, ◌*◌, ◌/◌, ◌<◌, ◌≤◌, length, sym, ap, ◌∙◌, arith, List, inl, inr}
+use Rattle.std.proofs.Common.{ℕ, ◌+◌, ◌-◌, ◌/◌, ◌<◌, ◌≤◌, ap, ◌∙◌, arith, List, inl, inr}
 use Rattle.std.proofs.lemmas.Bool.{cases_eq}
-use Rattle.guest_windows.specs.Fields.{window}
 use Rattle.guest_windows.specs.Pages.{rows, bytes_of}
 use Rattle.guest_windows.proofs.Sparse.{same_bytes}
 use Rattle.guest_windows.proofs.Fitting.{fits_frame}

@@ -1,4 +1,4 @@
-use Rattle.std.proofs.Common.{◌≡◌, ◌<◌, ◌/◌, length, arith, inl, inr}
+use Rattle.std.proofs.Common.{◌<◌, ◌/◌, length, arith, inl, inr}
 use Rattle.std.proofs.lemmas.Bool.{cases_lt}
 use Rattle.guest_windows.proofs.Holding.{none_in_page}
 use Rattle.guest_windows.proofs.frame.Frame.next_held.Goals as goal

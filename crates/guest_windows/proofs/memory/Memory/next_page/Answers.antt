@@ -1,4 +1,4 @@
-use Rattle.std.proofs.Common.{◌≡◌, ◌<◌, ◌^◌, subst, ap, sym, ◌∙◌}
+use Rattle.std.proofs.Common.{◌≡◌, ◌^◌, subst}
 use Rattle.std.specs.List.{AllByRecursion}
 use Rattle.guest_windows.specs.Zeros.{AreZero, AreZeroFrom, IsZeroIn}
 use Rattle.guest_windows.specs.Fields.{windows}
@@ -12,7 +12,8 @@ returns-then-first-eq0-clause-zero c =
     let p = c.first_page-first in
     let end : p.result.0.0 ≡ 2 ^ 52 = p.ensures.none c.if-first-eq0.true in
     let all : AllByRecursion (IsZeroIn from (2 ^ 52)) (windows fs) =
-    subst (λ k. AllByRecursion (IsZeroIn from k) (windows fs)) end (subst (λ gs. AllByRecursion (IsZeroIn from p.result.0.0) (windows gs)) c.deref.ensures.value p.ensures.zero) in
+    subst (λ k. AllByRecursion (IsZeroIn from k) (windows fs)) end (subst (λ gs. AllByRecursion (IsZeroIn from p.result.0.0)
+    (windows gs)) c.deref.ensures.value p.ensures.zero) in
     subst (λ ws. AreZeroFrom ws from) c.self.view_is (all_zero_from fs from all)
 
 pub returns-else-first-eq0-clause-zero : goal.returns-else-first-eq0-clause-zero

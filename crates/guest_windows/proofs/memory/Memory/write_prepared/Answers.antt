@@ -1,6 +1,6 @@
-use Rattle.std.proofs.Common.{◌≡◌, ◌<◌, Some, None, List, length, map, refl, sym, ap, ◌∙◌, arith}
-use Rattle.guest_windows.specs.Windows.{are_windows, extent}
-use Rattle.guest_windows.specs.Fields.{window, windows, place_from}
+use Rattle.std.proofs.Common.{◌≡◌, Some, None, length, refl, ap, ◌∙◌, arith}
+use Rattle.guest_windows.specs.Windows.{are_windows}
+use Rattle.guest_windows.specs.Fields.{windows, place_from}
 use Rattle.guest_windows.proofs.Places.{not_found}
 use Rattle.guest_windows.proofs.Frames.{AtFrame, at_frame}
 use Rattle.guest_windows.proofs.Laws.{extents-write_at}
