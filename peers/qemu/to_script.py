@@ -19,6 +19,7 @@ import fewer
 import trace
 
 UNIT = 0x10000
+MASK = 0xF8
 OF_PROCESSORS = ("take", "best", "claim", "rwrite", "rread")
 
 
@@ -95,14 +96,17 @@ def windows(places, most=12):
 
 
 def by_priority(calls):
-    """The calls, with `best` and `claim` in place of `take`."""
+    """The calls, with `best` and `claim` in place of `take`.
+
+    The guests write 0xFF to the priority mask, of which QEMU's processors keep the five bits that they have.
+    """
     changed = []
     for text, answer, remark in calls:
         word, *fields = text.split()
         if word != "take":
             changed.append((text, answer, remark))
             continue
-        changed.append((f"best {fields[0]} 255", answer, remark))
+        changed.append((f"best {fields[0]} {MASK}", answer, remark))
         if answer != "none":
             changed.append((f"claim {fields[0]} {answer.split()[1]}", answer, remark))
     return changed
