@@ -1,4 +1,5 @@
-ghost use Rattle.std.specs.Prelude.{map, true, false, ◌≡◌, ◌+◌, ◌-◌, ◌*◌, ◌/◌, ◌<◌, ◌≤◌, ◌||◌, ◌^◌, ℕ, IfOk, OnOk};
+ghost use Rattle.std.specs.Prelude.{map, true, false, ◌≡◌, ◌+◌, ◌-◌, ◌*◌, ◌/◌, ◌<◌, ◌≤◌, ◌||◌, ◌^◌};
+ghost use Rattle.std.specs.Prelude.{ℕ, IfOk, OnOk};
 ghost use Rattle.std.specs.List.{list_all};
 ghost use Rattle.guest_windows.specs.Windows.{in_range};
 ghost use Rattle.guest_windows.specs.Fields.{pairs};

@@ -18,7 +18,8 @@ use Rattle.event_script.specs.Description.{empty, at_start, is_ended, is_shard_c
 use Rattle.event_script.specs.Body.{has_tables, is_described}
 use Rattle.event_script.specs.Limits.{IsWithinLimits, HasRegisters, are_limits}
 use Rattle.event_script.specs.Script.{is_skipped, words_line, line, default_limits, described_tables, tables_of, translators_of, desc_of, script_from}
-use Rattle.event_script.specs.Script.{finished, at_line, ◌then◌, parts_from, script_of, default_ids, begins_report, trace_with, without_report, check_from, check_of}
+use Rattle.event_script.specs.Script.{finished, at_line, ◌then◌, parts_from, script_of, default_ids, begins_report, trace_with, without_report, check_from}
+use Rattle.event_script.specs.Script.{check_of}
 use Rattle.event_script.specs.declared.fault.Kind.{Kind}
 use Rattle.event_script.specs.declared.fault.Kind.TheVariants as kind
 use Rattle.event_script.specs.declared.fault.ScriptFault.{ScriptFault}

@@ -19,7 +19,8 @@ use its_types::Addr;
 use std::alloc::Global;
 
 impl Page {
-    ghost use Rattle.std.specs.Prelude.{◌≡◌, ◌⊎◌, ◌<◌, ◌≤◌, ℕ, true, false, [], length, slice_index};
+    ghost use Rattle.std.specs.Prelude.{◌≡◌, ◌⊎◌, ◌<◌, ◌≤◌, ℕ, true, false, [], length};
+    ghost use Rattle.std.specs.Prelude.{slice_index};
 
     /// Whether it is held. One that isn't has zeros.
     pub fn is_held(&self) -> bool
@@ -46,7 +47,8 @@ impl Page {
 }
 
 impl Frame {
-    ghost use Rattle.std.specs.Prelude.{◌≡◌, ◌≢◌, ◌⊎◌, ◌+◌, ◌-◌, ◌*◌, ◌/◌, ◌%◌, ◌<◌, ◌≤◌, ◌^◌, ℕ, true, false, replicate};
+    ghost use Rattle.std.specs.Prelude.{◌≡◌, ◌≢◌, ◌⊎◌, ◌+◌, ◌-◌, ◌*◌, ◌/◌, ◌%◌, ◌<◌, ◌≤◌, ◌^◌, ℕ};
+    ghost use Rattle.std.specs.Prelude.{true, false, replicate};
     ghost use Rattle.std.specs.Vec.{vec_len};
     ghost use Rattle.guest_windows.specs.Windows.{has, put};
     ghost use Rattle.guest_windows.specs.Zeros.{IsZeroIn};
@@ -99,7 +101,8 @@ impl Frame {
         self.pages[page as usize].forget(alloc, low as usize, high as usize);
     }
 
-    // How far the bytes before a place go in a page: to its end, where no byte of the window is left.
+    // How far the bytes before a place go in a page: to its end, where no byte of the window is
+    // left.
     fn end_in(&self, page: u64, end: u64) -> u64
         requires last { 65536 * page < end }
         requires inside { end ≤ self.now.len }
@@ -154,7 +157,8 @@ impl Frame {
 }
 
 impl Memory {
-    ghost use Rattle.std.specs.Prelude.{◌≡◌, ◌+◌, ◌<◌, ◌≤◌, ◌^◌, true, OnOk, MatchOption, IfSome, Ok, Err, replicate};
+    ghost use Rattle.std.specs.Prelude.{◌≡◌, ◌+◌, ◌<◌, ◌≤◌, ◌^◌, true, OnOk, MatchOption, IfSome};
+    ghost use Rattle.std.specs.Prelude.{Ok, Err, replicate};
     ghost use Rattle.guest_windows.specs.Windows.{inside, write_at};
     ghost use Rattle.guest_windows.specs.Zeros.{AreZero, AreZeroFrom};
 

@@ -1,5 +1,6 @@
 //! Writes that take no memory, since the pages that they may need were held before.
-ghost use Rattle.std.specs.Prelude.{◌≡◌, ◌≤◌, ◌^◌, ◌+◌, true, IfOk, OnOk, MatchOption, Ok, Err, length};
+ghost use Rattle.std.specs.Prelude.{◌≡◌, ◌≤◌, ◌^◌, ◌+◌, true, IfOk, OnOk, MatchOption, Ok, Err};
+ghost use Rattle.std.specs.Prelude.{length};
 ghost use Rattle.guest_windows.specs.Pages.{IsZeroPage};
 ghost use Rattle.guest_windows.specs.Windows.{write_at};
 
@@ -146,7 +147,8 @@ impl Page {
 }
 
 impl Memory {
-    ghost use Rattle.std.specs.Prelude.{◌≡◌, ◌≤◌, ◌^◌, ◌+◌, true, OnOk, MatchOption, Ok, Err, length};
+    ghost use Rattle.std.specs.Prelude.{◌≡◌, ◌≤◌, ◌^◌, ◌+◌, true, OnOk, MatchOption, Ok, Err};
+    ghost use Rattle.std.specs.Prelude.{length};
     ghost use Rattle.guest_windows.specs.Windows.{write_at};
 
     /// Holds the pages that a write may need.

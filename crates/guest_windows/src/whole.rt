@@ -38,7 +38,8 @@ impl Model for WholeMemory {
 }
 
 impl WholeMemory {
-    ghost use Rattle.std.specs.Prelude.{◌≡◌, ◌+◌, ◌<◌, ◌≤◌, ◌^◌, ◌/◌, ◌==◌, ℕ, true, false, map, IfOk, OnOk, IsErrOf};
+    ghost use Rattle.std.specs.Prelude.{◌≡◌, ◌+◌, ◌<◌, ◌≤◌, ◌^◌, ◌/◌, ◌==◌, ℕ, true, false, map};
+    ghost use Rattle.std.specs.Prelude.{IfOk, OnOk, IsErrOf};
     ghost use Rattle.guest_windows.specs.Windows.{are_windows, extent};
     ghost use Rattle.guest_windows.specs.Windows as spec;
     ghost use Rattle.guest_windows.specs.Mixed.{mixed_windows};
@@ -114,7 +115,8 @@ fn hold_frames(alloc: Global, frames: &mut [Frame]) -> Result<(), AllocError>
 
 fn clear_frames(frames: &mut Vec<Frame>)
     requires { AllWhole frames.old.items }
-    ensures zero { windows frames.new.items ≡ map spec.zeros (map extent (windows frames.old.items)) }
+    ensures zero { windows frames.new.items
+        ≡ map spec.zeros (map extent (windows frames.old.items)) }
     ensures whole { AllWhole frames.new.items }
 {
     for at in 0..frames.len() {
@@ -126,8 +128,8 @@ fn copy_frames(frames: &mut Vec<Frame>, from: &[Frame], page: u64)
     requires same { map extent (windows frames.old.items) ≡ map extent (windows from.now) }
     requires whole { AllWhole frames.old.items }
     requires low { page < 2 ^ 40 }
-    ensures copied { windows frames.new.items ≡ mixed_windows (λ a. a / 4096 == page) (windows from.now)
-        (windows frames.old.items) }
+    ensures copied { windows frames.new.items
+        ≡ mixed_windows (λ a. a / 4096 == page) (windows from.now) (windows frames.old.items) }
     ensures whole { AllWhole frames.new.items }
 {
     for at in 0..frames.len() {

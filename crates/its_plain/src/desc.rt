@@ -88,8 +88,8 @@ pub enum DescFault {
     /// The frames of the translator end past 2^52, or share a byte with a window or with the other
     /// frames.
     Frames(u8),
-    /// The requesters of this line, counted from 0, are none, or a device of theirs is past 2^32 - 1,
-    /// or a requester is one of an earlier line.
+    /// The requesters of this line, counted from 0, are none, or a device of theirs is past
+    /// 2^32 - 1, or a requester is one of an earlier line.
     Requesters(u64),
     /// Memory and the registers to restore of the translator stand for no state: their first fault.
     Restore(u8, RestoreFault),

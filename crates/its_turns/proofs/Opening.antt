@@ -139,7 +139,8 @@ all_listed (suc n) [] = refl
 all_listed (suc n) (x ∷ xs) = ap (λ (l : List Redistributor). redistributor_or x ∷ l) (all_listed n xs)
 
 abbrev front : Setup → TheTables → List Window → List (Option Content) → List (Option Content)
-front s t memory rest = some (Maps (record { regs = t.regs; maps = t.maps.maps })) ∷ some (Mem memory std.None) ∷ (replicate s.shards (some (Shard no_entries)) ++ rest)
+front s t memory rest = some (Maps (record { regs = t.regs; maps = t.maps.maps })) ∷ some (Mem memory std.None) ∷ (replicate s.shards (some
+    (Shard no_entries)) ++ rest)
 
 pub next_value : (s : Setup) (t : TheTables) (memory : List Window) (n v : ℕ) (xs : List (std.Option InHand)) (r : InHand) (values : List Value) (x : Value)
     → v < n → in_hand xs v ≡ std.Some r → content_of x ≡ shown (redistributor_of r)

@@ -320,7 +320,8 @@ module _ (v : View) (p : Part) where
 
 goes_stayed : (v w : View) → Stays v w → GoesOn v w.tries w
 goes_stayed v w stays = record {
-  same = stays.same ∙ (let held = sym (ap (λ (u : View). u.held) stays.same) in λ d. record v { seen = w.seen; last = w.last; held = held d; cache = w.cache; tries = w.tries });
+  same = stays.same ∙ (let held = sym (ap (λ
+      (u : View). u.held) stays.same) in λ d. record v { seen = w.seen; last = w.last; held = held d; cache = w.cache; tries = w.tries });
   longer = stays.longer;
   tries = refl;
 }

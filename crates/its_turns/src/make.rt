@@ -1,5 +1,6 @@
 //! How a machine is made.
-ghost use Rattle.std.specs.Prelude.{◌≡◌, ◌+◌, ◌^◌, ◌<◌, ◌≤◌, ◌++◌, ◌∷◌, map, replicate, length, IfOk};
+ghost use Rattle.std.specs.Prelude.{◌≡◌, ◌+◌, ◌^◌, ◌<◌, ◌≤◌, ◌++◌, ◌∷◌, map, replicate, length};
+ghost use Rattle.std.specs.Prelude.{IfOk};
 ghost use Rattle.std.specs.Prelude.{OnOk};
 ghost use Rattle.owned_parts.specs.Owned.{AreAllInHand};
 ghost use Rattle.its_plain.specs.Machine.{layout_of, IsSingle};

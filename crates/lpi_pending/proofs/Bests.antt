@@ -1,5 +1,6 @@
 -- The first by priority of the bits looked at, and of all.
-use Rattle.std.proofs.Common.{◌≡◌, ◌≢◌, ℕ, suc, zero, ◌+◌, ◌-◌, ◌*◌, ◌/◌, ◌<◌, ◌≤◌, ◌^◌, Bool, true, false, cond, List, length, get_or, Some, None, bit_and, refl}
+use Rattle.std.proofs.Common.{◌≡◌, ◌≢◌, ℕ, suc, zero, ◌+◌, ◌-◌, ◌*◌, ◌/◌, ◌<◌, ◌≤◌, ◌^◌, Bool, true, false, cond, List, length, get_or, Some, None, bit_and}
+use Rattle.std.proofs.Common.{refl}
 use Rattle.std.proofs.Common.{sym, ap, subst, ◌∙◌, inl, inr, arith}
 use Rattle.std.specs.Prelude.{◌&&◌, nat_lt, MatchOption, Option, filter}
 use Rattle.std.specs.List.{range_with_len}
@@ -258,7 +259,8 @@ one_by_priority config p mask a (suc n) x w has unmasked least before =
           let here : p a ≡ true = subst (λ (k : ℕ). p k ≡ true) e has in
           let here' : is_unmasked config mask a ≡ true = subst (λ (k : ℕ). is_unmasked config mask k ≡ true) e unmasked in
           rw (e, here, here') (ap Some (first_stays config p mask a n _ (found_is_one config p mask (a + 1) n)
-          (subst (λ (k : ℕ). (y : ℕ) → IsWithin a (suc n) y → p y ≡ true → is_unmasked config mask y ≡ true → priority_of config k ≤ priority_of config y) e least)))
+          (subst (λ (k : ℕ). (y : ℕ) → IsWithin a (suc n) y → p y ≡ true → is_unmasked config mask y ≡ true
+          → priority_of config k ≤ priority_of config y) e least)))
       | inr ne ↦
           let rest : first_by_priority config mask (those p (a + 1) n) ≡ Some x =
           one_by_priority config p mask (a + 1) n x (within-later a n x w ne) has unmasked (λ y v. least y (within-next a n y v))

@@ -1,4 +1,5 @@
-ghost use Rattle.std.specs.Prelude.{◌≡◌, ◌+◌, ◌*◌, ◌≤◌, ◌<◌, ℕ, Some, nat_lt, if◌then◌else◌, length};
+ghost use Rattle.std.specs.Prelude.{◌≡◌, ◌+◌, ◌*◌, ◌≤◌, ◌<◌, ℕ, Some, nat_lt, if◌then◌else◌};
+ghost use Rattle.std.specs.Prelude.{length};
 ghost use Rattle.its_types.specs.Lpis.{priority_of};
 ghost use Rattle.its_types.specs.Ranges.{lpi_count};
 ghost use Rattle.lpi_pending.specs.Priorities.{IsBest};

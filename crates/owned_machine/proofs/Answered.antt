@@ -1,5 +1,6 @@
 -- What each call leaves.
-use Rattle.std.proofs.Common.{◌≡◌, ℕ, zero, suc, ◌<◌, Bool, true, false, not, ◌&&◌, cond, List, [], ◌∷◌, Option, Some, None, Result, Ok, Err, IfOk, refl, sym, ap}
+use Rattle.std.proofs.Common.{◌≡◌, ℕ, zero, suc, ◌<◌, Bool, true, false, not, ◌&&◌, cond, List, [], ◌∷◌, Option, Some, None, Result, Ok, Err, IfOk, refl, sym}
+use Rattle.std.proofs.Common.{ap}
 use Rattle.std.proofs.Common.{subst, ◌∙◌, inl, inr}
 use Rattle.std.specs.Prelude.{◌⊎◌, ok_or, is_some, MatchOption, slice_index_or}
 use Rattle.guest_windows.specs.Windows.{Window, write_at}
@@ -250,10 +251,12 @@ left_of_step : (u : Plain) (c : Command) → MeetsCommand (regs_of u 0) u.memory
 unfolding left
 left_of_step u c met = step_is u c met
 
-pub run_goes : (old new : Parts) (c : Command) → IsMachine old → new.layout ≡ old.layout → MeetsCommand old.regs old.memory c → AreHeldAlike new.redists old.redists
+pub run_goes : (old new : Parts) (c : Command) → IsMachine old → new.layout ≡ old.layout → MeetsCommand old.regs old.memory c
+    → AreHeldAlike new.redists old.redists
     → ArePartsOf (left_by c (state_of_parts old) 0) 0 old.layout.shape new.regs new.maps.maps new.memory new.redists
     → GoesOn new (left_by c (state_of_parts old) 0)
-run_goes old new c m same met alike parts = goes_on old new (call.Step 0) (left_by c (state_of_parts old) 0) m same (left_of_step (state_of_parts old) c met) alike
+run_goes old new c m same met alike parts = goes_on old new (call.Step 0) (left_by c (state_of_parts old) 0) m same (left_of_step
+    (state_of_parts old) c met) alike
     parts
 
 pub needed_held : (p : Parts) (c : Command) → IsMachine p → AreNeededInHand p.layout.shape p.maps.maps c p.redists

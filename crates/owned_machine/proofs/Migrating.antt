@@ -1,5 +1,6 @@
 -- Machines that are restored from memory, and the ones that migrations go on with.
-use Rattle.std.proofs.Common.{◌≡◌, ℕ, zero, suc, ◌≤◌, Bool, true, false, if◌then◌else◌, List, [], ◌∷◌, length, map, take, get_or, Option, Some, None, Result, Ok, Err}
+use Rattle.std.proofs.Common.{◌≡◌, ℕ, zero, suc, ◌≤◌, Bool, true, false, if◌then◌else◌, List, [], ◌∷◌, length, map, take, get_or, Option, Some, None, Result}
+use Rattle.std.proofs.Common.{Ok, Err}
 use Rattle.std.proofs.Common.{refl, sym, ap, subst, ◌∙◌, arith}
 use Rattle.std.specs.Prelude.{slice_get, is_some}
 use Rattle.std.specs.List.{list_any}
@@ -106,7 +107,8 @@ module _ (old new : Parts) (gicr : GicrValues) (values : RegValues) (m : IsMachi
 
   restored_whole : IsMachine new
   restored_whole = record {
-    sound = standing_sound old.memory (Some values ∷ []) old.layout (bases_to_restore old.layout gicr) (state_of_parts new) m.sound.layout are_bases m.sound.memory stands;
+    sound = standing_sound old.memory (Some values ∷ []) old.layout (bases_to_restore old.layout gicr)
+        (state_of_parts new) m.sound.layout are_bases m.sound.memory stands;
     all_in_hand = subst (λ (l : Layout). AreAllInHand l.shape new.redists) (sym same) all;
     no_others = subst (λ (l : Layout). (v : ℕ) → l.shape.vcpus ≤ v → in_hand new.redists v ≡ None) (sym same) none;
   }
@@ -140,7 +142,12 @@ values_first (x ∷ y ∷ ts) other e = absurd (omega (arith, e))
 pub started_begun : (d : Desc) (p : Parts) → described.values_of d ≡ None ∷ [] → AreStarted d (Ok p) → AreBegun d (Ok p)
 started_begun d p none h =
     let u = state_of_parts p in (
-      record { base = u; made_is = h.made_is; starts = subst (λ (vs : List (Option RegValues)). StartsAt (list_any is_some vs) vs (described.restored_bases d) u u) (sym none) refl },
+      record {
+        base = u;
+        made_is = h.made_is;
+        starts = subst (λ (vs : List (Option RegValues)). StartsAt (list_any is_some vs) vs
+            (described.restored_bases d) u u) (sym none) refl;
+      },
       h.whole,
     )
 

@@ -1,5 +1,6 @@
 -- The first state of a machine.
-use Rattle.std.proofs.Common.{◌≡◌, ℕ, ◌+◌, ◌<◌, ◌≤◌, Bool, true, false, List, [], ◌∷◌, length, map, replicate, take, get_or, zero, suc, Option, Some, None, Result}
+use Rattle.std.proofs.Common.{◌≡◌, ℕ, ◌+◌, ◌<◌, ◌≤◌, Bool, true, false, List, [], ◌∷◌, length, map, replicate, take, get_or, zero, suc, Option, Some, None}
+use Rattle.std.proofs.Common.{Result}
 use Rattle.std.proofs.Common.{Ok, Err, inl, inr, refl, sym, ap, subst, ◌∙◌, arith}
 use Rattle.std.specs.Prelude.{ok_or, is_some, slice_get, slice_set}
 use Rattle.std.proofs.lemmas.Bool.{cases_eq}
@@ -189,7 +190,8 @@ begun d memory rs n track = record {
   track = track_of track memory;
 }
 
-module _ (d : Desc) (p : Parts) (description : IsDescription d) (single : IsSingle d) (filled : IsFilled d (Ok p.memory)) (has : HasConfig d.shape p.memory d.tables)
+module _ (d : Desc) (p : Parts) (description : IsDescription d) (single : IsSingle d) (filled : IsFilled d (Ok p.memory))
+    (has : HasConfig d.shape p.memory d.tables)
     (first : AreFirst d.shape p.memory d.tables p.redists d.shape.vcpus) (layout_is : p.layout ≡ layout_of d) (regs_are : p.regs ≡ reset d.shape.dev_bits)
     (maps_are : p.maps.maps ≡ no_maps) where
   some : Some_first d.shape p.memory d.tables

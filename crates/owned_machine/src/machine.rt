@@ -30,7 +30,8 @@ impl Model for Machine {
 }
 
 impl Machine {
-    ghost use Rattle.std.specs.Prelude.{◌≡◌, ◌<◌, ◌+◌, ◌^◌, true, IfOk, OnOk, OnErr, IfSome, is_some, length, map};
+    ghost use Rattle.std.specs.Prelude.{◌≡◌, ◌<◌, ◌+◌, ◌^◌, true, IfOk, OnOk, OnErr, IfSome};
+    ghost use Rattle.std.specs.Prelude.{is_some, length, map};
     ghost use Rattle.gicr_regs.specs.Registers as spec;
     ghost use Rattle.its_plain.specs.Answer as plain;
     ghost use Rattle.its_plain.specs.Described.{IsMadeFrom};

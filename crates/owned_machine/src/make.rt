@@ -1,5 +1,6 @@
 //! The parts of the machine that a description makes.
-ghost use Rattle.std.specs.Prelude.{◌≡◌, ◌≤◌, ◌<◌, true, false, Err, IfOk, IfErr, map, length, sum, nat_le};
+ghost use Rattle.std.specs.Prelude.{◌≡◌, ◌≤◌, ◌<◌, true, false, Err, IfOk, IfErr, map, length, sum};
+ghost use Rattle.std.specs.Prelude.{nat_le};
 ghost use Rattle.std.specs.Bool.{OnTrue};
 ghost use Rattle.guest_windows.specs.Windows.{zeros};
 ghost use Rattle.guest_windows.specs.Fields.{pairs};

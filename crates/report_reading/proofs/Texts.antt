@@ -33,7 +33,8 @@ use Rattle.event_script.specs.Limits.{are_bytes}
 use Rattle.its_history.specs.Reading.{is_printed, is_answered}
 use Rattle.its_history.specs.ReadBack.{IsSome}
 use Rattle.its_history.specs.Report.{pending_text}
-use Rattle.its_history.specs.Texts.{hexadecimal, its_mark, table_mark, call_text, op_text, cause_text, reason_text, signal_text, ack_text, step_text, region_text, save_fault_text}
+use Rattle.its_history.specs.Texts.{hexadecimal, its_mark, table_mark, call_text, op_text, cause_text, reason_text, signal_text, ack_text, step_text}
+use Rattle.its_history.specs.Texts.{region_text, save_fault_text}
 use Rattle.its_history.specs.Texts.{reply_text, answered_text}
 use Rattle.its_history.proofs.ReadAgain.{append_printed}
 use Rattle.report_reading.specs.Bytes.{GivesBytes, TellsBytes}

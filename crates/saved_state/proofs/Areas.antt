@@ -116,7 +116,8 @@ itts_alike : (i : ℕ) (m : Maps) (ds : List (ℕ × Device))
 itts_alike i m [] = refl
 itts_alike i m (d ∷ ds) = ap (λ ss. (d.1.itt.0, 8 * 2 ^ d.1.bits) ∷ ss) (itts_alike i m ds)
 
-translator_alike : (memory : List Window) (k : ℕ) (t : Translator) → AllInside memory (table_areas memory k t) → written_spans (table_areas memory k t) ≡ stretches
+translator_alike : (memory : List Window) (k : ℕ) (t : Translator) → AllInside memory (table_areas memory k t) → written_spans (table_areas memory k t)
+    ≡ stretches
     (translator_words memory t)
 unfolding table_areas translator_words
 translator_alike memory k t all =

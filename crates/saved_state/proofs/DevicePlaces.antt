@@ -114,7 +114,8 @@ same_place old r (at_entry k page i) l other j p q e =
 abbrev pub Towards : List Window → Registers → DevicePlace → DevicePlace → Option DevicePlace → Type 0
 Towards old r q p o = (s : DevicePlace) × (o ≡ Some s) × IsPlace old r s × (rank p < rank s) × (rank s ≤ rank q)
 
-pub goes_towards : (old : List Window) (r : Registers) (k page i d l other j : ℕ) → IsPlace old r (at_entry k page i) → IsPlace old r (at_entry l other j) → 0 < d
+pub goes_towards : (old : List Window) (r : Registers) (k page i d l other j : ℕ) → IsPlace old r (at_entry k page i) → IsPlace old r (at_entry l other j)
+    → 0 < d
     → 8192 * k + i + d ≤ 8192 * l + j
     → Towards old r (at_entry l other j) (at_entry k page i) (goes_to r k page (i + d))
 goes_towards old r k page i d l other j p q some most =

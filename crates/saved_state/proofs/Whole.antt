@@ -1,5 +1,6 @@
 -- Saved memory and the values of the registers stand for the state that a migration goes on from.
-use Rattle.std.proofs.Common.{◌≡◌, ℕ, zero, suc, Bool, true, false, not, nat_lt, List, [], ◌∷◌, map, drop, length, get_or, Option, Some, Result, Ok, refl, sym, subst, ap, ◌∙◌, ◌↔◌}
+use Rattle.std.proofs.Common.{◌≡◌, ℕ, zero, suc, Bool, true, false, not, nat_lt, List, [], ◌∷◌, map, drop, length, get_or, Option, Some, Result, Ok, refl}
+use Rattle.std.proofs.Common.{sym, subst, ap, ◌∙◌, ◌↔◌}
 use Rattle.std.specs.Prelude.{◌&&◌, ◌||◌, slice_get}
 use Rattle.std.specs.Result.{IsOk}
 use Rattle.std.proofs.lemmas.Bool.{and_parts, lt-ltb}

@@ -21,7 +21,8 @@ use Rattle.its_plain.specs.CollectionTables.{collection_address, collection_entr
 use Rattle.its_plain.specs.DeviceTables.{DevicePlace, at_level1, at_entry, following, word_leads, next_device}
 use Rattle.its_plain.specs.declared.fault.RestoreFault.{RestoreFault}
 use Rattle.standing_states.specs.Walked.{after_all, after}
-use Rattle.standing_states.specs.Found.{one_event, look_event, one_collection, look_collection, put_collection, AreThoseBefore, IsPlace, rank, reach, look_device}
+use Rattle.standing_states.specs.Found.{one_event, look_event, one_collection, look_collection, put_collection, AreThoseBefore, IsPlace, rank, reach}
+use Rattle.standing_states.specs.Found.{look_device}
 use Rattle.standing_states.specs.Found.{devices_from, put_found}
 use Rattle.standing_states.proofs.Walks.{goes_on, ends_here, goes_wrong, after-err}
 use Rattle.standing_states.proofs.EventsWalked.{within_is, then_ok, then_err}

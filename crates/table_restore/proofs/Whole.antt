@@ -1,5 +1,6 @@
 -- What a restore answers: the state that memory and register values stand for, or their first offence.
-use Rattle.std.proofs.Common.{Bool, false, ◌≡◌, ℕ, zero, suc, ◌<◌, ◌≤◌, List, [], ◌∷◌, length, map, take, Option, Some, None, Result, Ok, Err, refl, sym, subst, ap}
+use Rattle.std.proofs.Common.{Bool, false, ◌≡◌, ℕ, zero, suc, ◌<◌, ◌≤◌, List, [], ◌∷◌, length, map, take, Option, Some, None, Result, Ok, Err, refl, sym}
+use Rattle.std.proofs.Common.{subst, ap}
 use Rattle.std.proofs.Common.{◌∙◌, inl, inr, arith}
 use Rattle.std.specs.Prelude.{slice_get}
 use Rattle.std.specs.Result.{IsOk, IsErrAnd}
@@ -89,7 +90,8 @@ module _ (l : Layout) (memory : List Window) (values : RegValues) (bases : List 
         maps = maps_stand l.shape memory regs m (small regs (let a = shape.least_dev_bits in omega arith) (let a = shape.most_dev_bits in omega arith)) read;
       }
 
-  pub stands : (now : Layout) (regs : Registers) (m : Maps) → l.track ≡ false → now ≡ l → restored values l.shape.dev_bits ≡ Ok regs → maps_read l.shape memory regs ≡ Ok m
+  pub stands : (now : Layout) (regs : Registers) (m : Maps) → l.track ≡ false → now ≡ l → restored values l.shape.dev_bits ≡ Ok regs
+      → maps_read l.shape memory regs ≡ Ok m
       → Stands memory (Some values ∷ []) l bases (state_of now regs m memory redists)
   stands now regs m untracked copied given read =
       subst (λ (x : Layout). Stands memory (Some values ∷ []) l bases (state_of x regs m memory redists)) (sym copied) (record {

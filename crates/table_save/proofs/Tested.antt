@@ -8,7 +8,8 @@ use Rattle.its_types.specs.Maps.{Maps}
 use Rattle.its_types.specs.declared.translation.Device.{Device}
 use Rattle.its_plain.specs.Plain.{Plain, Translator}
 use Rattle.its_plain.specs.declared.area.Area.{Area}
-use Rattle.its_plain.specs.Regions.{areas_from, pending_area, ◌>>=◌, is_outside, has_no_place, all_placed, none_overlap, table_areas, queue_area, areas_of, savable}
+use Rattle.its_plain.specs.Regions.{areas_from, pending_area, ◌>>=◌, is_outside, has_no_place, all_placed, none_overlap, table_areas, queue_area, areas_of}
+use Rattle.its_plain.specs.Regions.{savable}
 use Rattle.its_plain.specs.declared.layout.Layout.{Layout}
 use Rattle.its_plain.specs.declared.fault.SaveFault.{SaveFault}
 use Rattle.its_plain.specs.declared.fault.SaveFault.TheVariants.{NoPlace}
@@ -25,7 +26,8 @@ placed_cases : (o : Option (ℕ × Device)) → placed_or o (Ok tt) ≡ unplaced
 placed_cases None = refl
 placed_cases (Some d) = refl
 
-placed_is : (memory : List Window) (t : Translator) → all_placed memory 0 (t ∷ []) ≡ unplaced_fault 0 (find (has_no_place t.regs memory) (entries t.maps.devices))
+placed_is : (memory : List Window) (t : Translator) → all_placed memory 0 (t ∷ []) ≡ unplaced_fault 0 (find (has_no_place t.regs memory)
+    (entries t.maps.devices))
 placed_is memory t = placed_cases (find (has_no_place t.regs memory) (entries t.maps.devices))
 
 module _ (l : Layout) (r : Registers) (m : Maps) (memory : List Window) (redists : List (Option Redist)) where
@@ -49,7 +51,8 @@ module _ (l : Layout) (r : Registers) (m : Maps) (memory : List Window) (redists
   all_is =
       let pending = areas_from (pending_area l.shape) 0 (redistributors_of l.shape redists) in
       let config = config_areas l (redistributors_of l.shape redists) in
-      ap (λ ts. ts ++ pending ++ config ++ (queue_area 0 r ++ [])) (append-nil tables) ∙ ap (λ q. tables ++ pending ++ config ++ q) (append-nil (queue_area 0 r))
+      ap (λ ts. ts ++ pending ++ config ++ (queue_area 0 r ++ [])) (append-nil tables) ∙ ap (λ q. tables ++ pending ++ config ++ q) (append-nil
+          (queue_area 0 r))
 
   pub savable_is : savable state ≡ (inside_test >>= λ _. placed_test >>= λ _. none_overlap all)
   unfolding savable table_areas

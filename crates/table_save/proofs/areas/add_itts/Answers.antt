@@ -6,7 +6,8 @@ use Rattle.its_plain.specs.Regions.{itt_area}
 use Rattle.table_save.specs.Areas.{itt_areas, HasLowTable}
 use Rattle.table_save.proofs.areas.add_itts.Goals as goal
 
-one_more : (its : ℕ) (old now whole : List Area) (it next : List (ℕ × Device)) (d : ℕ × Device) (a : Area) → it ≡ d ∷ next → a ≡ itt_area its d → now ≡ old ++ a ∷ []
+one_more : (its : ℕ) (old now whole : List Area) (it next : List (ℕ × Device)) (d : ℕ × Device) (a : Area) → it ≡ d ∷ next → a ≡ itt_area its d
+    → now ≡ old ++ a ∷ []
     → old ++ itt_areas its it ≡ whole → now ++ itt_areas its next ≡ whole
 one_more its old now whole it next d a steps is pushed so_far =
     ap (λ xs. xs ++ itt_areas its next) pushed ∙ append_assoc old (a ∷ []) (itt_areas its next) ∙ ap (λ b. old ++ b ∷ itt_areas its next) is
