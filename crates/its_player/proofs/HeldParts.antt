@@ -148,15 +148,15 @@ module _ (w : Shared) (at : ℕ) (x : Known) (v : View) (p : Part) (lt : at < le
       → known s x' ≡ record (known s x) { held = take k x.held.items ++ drop (suc k) x.held.items }
       → IsDone (Releases (core_of w) at v p) (core_of w) (core_of (record w { turns = with_item w.turns i 0; views = with_item w.views at x' }))
   releases i k x' index found e =
-      let y : Held = get_or x.held.items k (kept p (Mem [])) in
-      let f = position-Some (is_kept p) x.held.items k (kept p (Mem [])) found in
+      let y : Held = get_or x.held.items k (kept p (Mem [] None)) in
+      let f = position-Some (is_kept p) x.held.items k (kept p (Mem [] None)) found in
       let same : y ≡ kept p y.owed = kept_is p y f.1 in
       let views = views_put x' (take k x.held.items ++ drop (suc k) x.held.items) e in
       inl record {
         content = y.owed;
         before = take k x.held.items;
         behind = drop (suc k) x.held.items;
-        held = held_here ∙ (around x.held.items k y f.0 (any_default x.held.items k (kept p (Mem [])) (get_or x.held.items k (kept p (Mem []))) f.0)
+        held = held_here ∙ (around x.held.items k y f.0 (any_default x.held.items k (kept p (Mem [] None)) (get_or x.held.items k (kept p (Mem [] None))) f.0)
             ∙ ap (λ (z : Held). take k x.held.items ++ z ∷ drop (suc k) x.held.items) same);
         leaves = λ d. record (core_of w) { world = record (core_of w).world { turns = set w.turns.items (index.is d) 0; views = views d } };
       }

@@ -9,9 +9,9 @@ use Rattle.its_types.specs.Maps.{device_of, event_of, collection_of, is_pair}
 use Rattle.its_types.specs.declared.translation.Device.{Device}
 use Rattle.its_types.specs.declared.translation.Event.{Event}
 use Rattle.plain_machine.specs.MappedPairs.{is_among, AreMapped}
-use Rattle.its_plain.specs.Plain.{Translator}
+use Rattle.its_plain.specs.Plain.{Translator, Redistributor}
 use Rattle.its_plain.specs.Translation.{◌>>=◌, ensure, located}
-use Rattle.its_plain.specs.declared.call.Cause.TheVariants.{Disabled, NoDevice, NoEvent, NoCollection}
+use Rattle.its_plain.specs.declared.call.Cause.TheVariants.{Disabled, NoDevice, NoEvent, NoCollection, LpisOff}
 use Rattle.std.proofs.lemmas.Bool.{eqb-true}
 use Rattle.std.proofs.lemmas.Bool.Decides.{Decides-eqb, Decides-like, Decides-and, Decides-or}
 use Rattle.its_types.specs.declared.ids.DeviceId.{DeviceId}
@@ -21,16 +21,16 @@ use Rattle.its_types.specs.declared.ids.Target.{Target}
 use Rattle.its_types.specs.declared.ids.Vcpu.{Vcpu}
 use Rattle.its_types.specs.declared.machine.Part.{Part}
 use Rattle.its_types.specs.declared.machine.Part.TheVariants as part
-use Rattle.its_plain.specs.declared.call.Call.TheVariants as call
 use Rattle.its_plain.specs.declared.call.Reply.TheVariants as reply
-use Rattle.its_plain.specs.declared.call.Signal.TheVariants.{Delivered}
+use Rattle.its_plain.specs.declared.call.Signal.{Signal}
+use Rattle.its_plain.specs.declared.call.Signal.TheVariants.{Delivered, Dropped}
 use Rattle.xlate_cache.specs.Pairs.{shard_number}
 use Rattle.xlate_cache.specs.Ways.{is_of, found}
 use Rattle.xlate_cache.specs.declared.entry.Entry.{Entry as Translation}
 use Rattle.its_steps.specs.Contents.{Content, Shard, Redist, Held}
 use Rattle.its_steps.specs.Good.{Holds}
-use Rattle.its_player.specs.Held.{same_part, holds, owes_such, is_target, finds, lacks, all_out, covers}
-use Rattle.its_steps.specs.MayCall.{Owes, IsHit, IsWithout}
+use Rattle.its_player.specs.Held.{same_part, holds, owes_such, is_told, tells, target_tells, meets, lacks, all_out, covers}
+use Rattle.its_steps.specs.MayCall.{Owes, IsHit, IsWithout, message_of, met}
 use Rattle.its_steps.specs.MayCommit.{IsOut}
 use Rattle.its_steps.specs.Parts.{Setup, stamp_of}
 use Rattle.its_steps.specs.declared.commit.Commit.{Commit}
@@ -70,78 +70,108 @@ all_out_decides (x ∷ xs) = Decides-and x.out (all_out xs) (itself x.out) (all_
 
 -- ---- hits
 
-target_is : (target : Target) (o : Option Target) → is_target target o ≡ true → o ≡ Some target
-target_is target None e = absurd cc
-target_is target (Some t) e =
-    let b = both_of (eqb t.vcpu.0 target.vcpu.0) (eqb t.intid.0 target.intid.0) e in
-    let v : t.vcpu.0 ≡ target.vcpu.0 = eqb-true t.vcpu.0 target.vcpu.0 b.0 in
-    let i : t.intid.0 ≡ target.intid.0 = eqb-true t.intid.0 target.intid.0 b.1 in
-    (λ d. Some (record { vcpu = record { 0 = v d }; intid = record { 0 = i d } }))
+told_is : (signal : Signal) (target : Target) (on : Bool) → is_told signal target on ≡ true → signal ≡ met on target
+told_is (Delivered vcpu intid) target true e =
+    let b = both_of (eqb vcpu.0 target.vcpu.0) (eqb intid.0 target.intid.0) e in
+    let v : vcpu.0 ≡ target.vcpu.0 = eqb-true vcpu.0 target.vcpu.0 b.0 in
+    let i : intid.0 ≡ target.intid.0 = eqb-true intid.0 target.intid.0 b.1 in
+    (λ d. Delivered (record { 0 = v d }) (record { 0 = i d }))
+told_is (Dropped LpisOff) target false e = refl
+told_is signal target on e = absurd cc
 
-target_itself : (target : Target) → is_target target (Some target) ≡ true
-target_itself target =
+told_itself : (target : Target) (on : Bool) → is_told (met on target) target on ≡ true
+told_itself target true =
     let v = (Decides-eqb target.vcpu.0 target.vcpu.0).1 refl in
     let i = (Decides-eqb target.intid.0 target.intid.0).1 refl in
     (λ d. v d && i d)
+told_itself target false = refl
 
-finds_ways : (dev ev stamp : ℕ) (target : Target) (c : Content) → finds dev ev stamp target c ≡ true → (ways : List (Option Translation)) × (c ≡ Shard ways)
-    × (found ways dev ev stamp ≡ Some target)
-finds_ways dev ev stamp target (Shard ways) e = (ways, refl, target_is target (found ways dev ev stamp) e)
-finds_ways dev ev stamp target c e = absurd cc
+tells_redist : (signal : Signal) (target : Target) (c : Content) → tells signal target c ≡ true → (r : Redistributor) × (c ≡ Redist r)
+    × (signal ≡ met r.bases.on target)
+tells_redist signal target (Redist r) e = (r, refl, told_is signal target r.bases.on e)
+tells_redist signal target c e = absurd cc
+
+-- the shard that a pair is found in, and what its target's redistributor makes of that
+record Met (held : List Held) (dev ev stamp : ℕ) (signal : Signal) (c : Content) : Type 0 where
+  pub ways : List (Option Translation)
+  pub shard : c ≡ Shard ways
+  pub target : Target
+  pub is_found : found ways dev ev stamp ≡ Some target
+  pub redist : Redistributor
+  pub owes : Owes (part.Redist target.vcpu) (Redist redist) held
+  pub signal_is : signal ≡ met redist.bases.on target
+
+met_at : (held : List Held) (dev ev stamp : ℕ) (signal : Signal) (ways : List (Option Translation)) (o : Option Target) → found ways dev ev stamp ≡ o
+    → target_tells held signal o ≡ true → Met held dev ev stamp signal (Shard ways)
+met_at held dev ev stamp signal ways None f e = absurd cc
+met_at held dev ev stamp signal ways (Some target) f e =
+    let o = (owes_such_decides (part.Redist target.vcpu) (tells signal target) held).0 e in
+    let t = tells_redist signal target o.0 o.2 in
+    record {
+      ways = ways;
+      shard = refl;
+      target = target;
+      is_found = f;
+      redist = t.0;
+      owes = subst (λ (x : Content). Owes (part.Redist target.vcpu) x held) t.1 o.1;
+      signal_is = t.2;
+    }
+
+meets_met : (held : List Held) (dev ev stamp : ℕ) (signal : Signal) (c : Content) → meets held dev ev stamp signal c ≡ true → Met held dev ev stamp signal c
+meets_met held dev ev stamp signal (Shard ways) e = met_at held dev ev stamp signal ways (found ways dev ev stamp) refl e
+meets_met held dev ev stamp signal c e = absurd cc
 
 module _ (s : Setup) (a : Commit) (held : List Held) where
-  -- the pair's shard has this target under the stamp expected
-  abbrev pub has : ℕ → DeviceId → EventId → Target → Bool
-  has its dev ev target = owes_such (part.Shard its (shard_number dev.0 ev.0 s.shards)) (finds dev.0 ev.0 (stamp_of s a.expected its) target) held
+  -- the pair's shard has a target under the stamp expected, and that tells this
+  abbrev pub has : ℕ → DeviceId → EventId → Signal → Bool
+  has its dev ev signal = owes_such (part.Shard its (shard_number dev.0 ev.0 s.shards)) (meets held dev.0 ev.0 (stamp_of s a.expected its) signal) held
 
-  pub found_as : (its : ℕ) (dev : DeviceId) (ev : EventId) (target : Target) (shard stamp : ℕ) (b : Bool) → shard ≡ shard_number dev.0 ev.0 s.shards
-      → stamp ≡ stamp_of s a.expected its → b ≡ owes_such (part.Shard its shard) (finds dev.0 ev.0 stamp target) held → has its dev ev target ≡ b
-  found_as its dev ev target shard stamp b e f is = sym (is ∙ (λ d. owes_such (part.Shard its (e d)) (finds dev.0 ev.0 (f d) target) held))
+  pub found_as : (its : ℕ) (dev : DeviceId) (ev : EventId) (signal : Signal) (shard stamp : ℕ) (b : Bool) → shard ≡ shard_number dev.0 ev.0 s.shards
+      → stamp ≡ stamp_of s a.expected its → b ≡ owes_such (part.Shard its shard) (meets held dev.0 ev.0 stamp signal) held → has its dev ev signal ≡ b
+  found_as its dev ev signal shard stamp b e f is = sym (is ∙ (λ d. owes_such (part.Shard its (e d)) (meets held dev.0 ev.0 (f d) signal) held))
 
-  pub hit_is : (its : ℕ) (dev : DeviceId) (ev : EventId) (target : Target) → a.call ≡ call.Signal its dev ev
-      → a.reply ≡ reply.Signal (Delivered target.vcpu target.intid) → has its dev ev target ≡ true → holds (part.Redist target.vcpu) held ≡ true
-      → IsHit s a held
-  hit_is its dev ev target cis ris owes redist =
+  pub hit_is : (its : ℕ) (dev : DeviceId) (ev : EventId) (signal : Signal) → message_of a.call ≡ Some (its, (dev, ev)) → a.reply ≡ reply.Signal signal
+      → has its dev ev signal ≡ true → IsHit s a held
+  hit_is its dev ev signal mis ris owes =
       let p : Part = part.Shard its (shard_number dev.0 ev.0 s.shards) in
       let stamp : ℕ = stamp_of s a.expected its in
-      let o = (owes_such_decides p (finds dev.0 ev.0 stamp target) held).0 owes in
-      let w = finds_ways dev.0 ev.0 stamp target o.0 o.2 in
+      let o = (owes_such_decides p (meets held dev.0 ev.0 stamp signal) held).0 owes in
+      let m = meets_met held dev.0 ev.0 stamp signal o.0 o.2 in
       record {
         its = its;
         dev = dev;
         ev = ev;
-        target = target;
-        call_is = cis;
-        reply_is = ris;
-        ways = w.0;
-        owes = subst (λ (x : Content). Owes p x held) w.1 o.1;
-        is_found = w.2;
-        redist = holds_sure (part.Redist target.vcpu) held redist;
+        target = m.target;
+        message = mis;
+        ways = m.ways;
+        owes = subst (λ (x : Content). Owes p x held) m.shard o.1;
+        is_found = m.is_found;
+        redist = m.redist;
+        target_owes = m.owes;
+        reply_is = ris ∙ ap (λ (x : Signal). reply.Signal x) m.signal_is;
       }
 
-  -- a hit passes both tests
-  pub hit_tests : (its : ℕ) (dev : DeviceId) (ev : EventId) (vcpu : Vcpu) (intid : Intid) → a.call ≡ call.Signal its dev ev
-      → a.reply ≡ reply.Signal (Delivered vcpu intid) → IsHit s a held
-      → (has its dev ev (record { vcpu = vcpu; intid = intid }) ≡ true) × (holds (part.Redist vcpu) held ≡ true)
-  hit_tests its dev ev vcpu intid cis ris h =
-      let same : call.Signal h.its h.dev h.ev ≡ call.Signal its dev ev = sym h.call_is ∙ cis in
-      let gone : reply.Signal (Delivered h.target.vcpu h.target.intid) ≡ reply.Signal (Delivered vcpu intid) = sym h.reply_is ∙ ris in
-      let i : h.its ≡ its = cc in
-      let d : h.dev ≡ dev = cc in
-      let e : h.ev ≡ ev = cc in
-      let v : h.target.vcpu ≡ vcpu = cc in
-      let n : h.target.intid ≡ intid = cc in
-      let there : has h.its h.dev h.ev h.target ≡ true = (owes_such_decides (part.Shard h.its (shard_number h.dev.0 h.ev.0 s.shards))
-      (finds h.dev.0 h.ev.0 (stamp_of s a.expected h.its) h.target) held).1 (
+  -- a hit passes the test
+  pub hit_tests : (its : ℕ) (dev : DeviceId) (ev : EventId) (signal : Signal) → message_of a.call ≡ Some (its, (dev, ev)) → a.reply ≡ reply.Signal signal
+      → IsHit s a held → has its dev ev signal ≡ true
+  hit_tests its dev ev signal mis ris h =
+      let same : Some (h.its, (h.dev, h.ev)) ≡ Some (its, (dev, ev)) = sym h.message ∙ mis in
+      let gone : reply.Signal (met h.redist.bases.on h.target) ≡ reply.Signal signal = sym h.reply_is ∙ ris in
+      let message : (h.its, (h.dev, h.ev)) ≡ (its, (dev, ev)) = cc in
+      let told : met h.redist.bases.on h.target ≡ signal = cc in
+      let tells' : owes_such (part.Redist h.target.vcpu) (tells (met h.redist.bases.on h.target) h.target) held ≡ true =
+      (owes_such_decides (part.Redist h.target.vcpu) (tells (met h.redist.bases.on h.target) h.target) held).1 (
+        Redist h.redist,
+        h.target_owes,
+        told_itself h.target h.redist.bases.on,
+      ) in
+      let there : has h.its h.dev h.ev (met h.redist.bases.on h.target) ≡ true = (owes_such_decides (part.Shard h.its (shard_number h.dev.0 h.ev.0 s.shards))
+      (meets held h.dev.0 h.ev.0 (stamp_of s a.expected h.its) (met h.redist.bases.on h.target)) held).1 (
         Shard h.ways,
         h.owes,
-        ap (is_target h.target) h.is_found
-            ∙ target_itself h.target,
-      ) in (
-        subst (λ (k : ℕ × DeviceId × EventId × Target). has k.0 k.1 k.2 k.3 ≡ true) (λ x. (i x, d x, e x, record { vcpu = v x; intid = n x })) there,
-        subst
-            (λ (x : Vcpu). holds (part.Redist x) held ≡ true) v ((holds_decides (part.Redist h.target.vcpu) held).1 h.redist),
-      )
+        ap (target_tells held (met h.redist.bases.on h.target)) h.is_found ∙ tells',
+      ) in
+      subst (λ (k : (ℕ × (DeviceId × EventId)) × Signal). has k.0.0 k.0.1.0 k.0.1.1 k.1 ≡ true) (λ d. (message d, told d)) there
 
 -- ---- pairs that have left their shard
 

@@ -7,13 +7,15 @@ use Rattle.its_types.specs.declared.ids.DeviceId.{DeviceId}
 use Rattle.its_types.specs.declared.ids.EventId.{EventId}
 use Rattle.its_types.specs.declared.ids.Target.{Target}
 use Rattle.its_plain.specs.declared.call.Call.{Call}
-use Rattle.its_plain.specs.declared.call.Call.TheVariants as call
 use Rattle.its_plain.specs.declared.call.Reply.{Reply}
 use Rattle.its_plain.specs.declared.call.Reply.TheVariants as reply
-use Rattle.its_plain.specs.declared.call.Signal.TheVariants.{Delivered}
+use Rattle.its_plain.specs.declared.call.Cause.TheVariants.{LpisOff}
+use Rattle.its_plain.specs.declared.call.Signal.{Signal}
+use Rattle.its_plain.specs.declared.call.Signal.TheVariants.{Delivered, Dropped}
 use Rattle.xlate_cache.specs.Ways.{found}
 use Rattle.xlate_cache.specs.Observed.{has_entry_of}
-use Rattle.its_steps.specs.Contents.{Content, Shard, Held}
+use Rattle.its_steps.specs.Contents.{Content, Shard, Redist, Held}
+use Rattle.its_steps.specs.MayCall.{message_of}
 
 abbrev pub same_part : Part → Part → Bool
 same_part (part.Maps a) (part.Maps b) = a == b
@@ -36,14 +38,30 @@ is_kept p x = same_part x.part p && not x.out
 abbrev pub owes_such : Part → (Content → Bool) → List Held → Bool
 owes_such p test held = list_any (λ x. same_part x.part p && test x.owed) held
 
--- the cache finds the pair's target under the stamp
-abbrev pub is_target : Target → Option Target → Bool
-is_target target None = false
-is_target target (Some t) = t.vcpu.0 == target.vcpu.0 && t.intid.0 == target.intid.0
+-- the target that a shard has for a pair under a stamp
+abbrev pub target_in : ℕ → ℕ → ℕ → Content → Option Target
+target_in dev ev stamp (Shard ways) = found ways dev ev stamp
+target_in dev ev stamp c = None
 
-abbrev pub finds : ℕ → ℕ → ℕ → Target → Content → Bool
-finds dev ev stamp target (Shard ways) = is_target target (found ways dev ev stamp)
-finds dev ev stamp target c = false
+-- a message for the target is told this where LPIs are on, or off
+abbrev pub is_told : Signal → Target → Bool → Bool
+is_told (Delivered vcpu intid) target true = vcpu.0 == target.vcpu.0 && intid.0 == target.intid.0
+is_told (Dropped LpisOff) target false = true
+is_told signal target on = false
+
+-- and by a redistributor
+abbrev pub tells : Signal → Target → Content → Bool
+tells signal target (Redist r) = is_told signal target r.bases.on
+tells signal target c = false
+
+-- the target's redistributor is held, and tells this
+abbrev pub target_tells : List Held → Signal → Option Target → Bool
+target_tells held signal None = false
+target_tells held signal (Some target) = owes_such (part.Redist target.vcpu) (tells signal target) held
+
+-- that of the target that a shard has
+abbrev pub meets : List Held → ℕ → ℕ → ℕ → Signal → Content → Bool
+meets held dev ev stamp signal c = target_tells held signal (target_in dev ev stamp c)
 
 -- the shard has no entry of the pair
 abbrev pub lacks : ℕ → ℕ → Content → Bool
@@ -57,10 +75,10 @@ all_out held = list_all (λ x. x.out) held
 abbrev pub covers : List Held → List Part → Bool
 covers held parts = list_all (λ p. holds p held) parts
 
--- the call is a message, and the reply says that it went there
-pub record IsDelivery (c : Call) (r : Reply) (target : Target) : Type 0 where
+-- the call is a message, and this is its reply
+pub record IsMessage (c : Call) (r : Reply) (signal : Signal) : Type 0 where
   pub its : ℕ
   pub dev : DeviceId
   pub ev : EventId
-  pub call_is : c ≡ call.Signal its dev ev
-  pub reply_is : r ≡ reply.Signal (Delivered target.vcpu target.intid)
+  pub message : message_of c ≡ Some (its, (dev, ev))
+  pub reply_is : r ≡ reply.Signal signal

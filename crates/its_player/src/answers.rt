@@ -12,55 +12,82 @@ use crate::held::Held;
 use crate::holding::{covers, holds, same_part};
 use crate::renewals::its_of;
 use crate::shared::Shared;
-use its_plain::{Call, Cause, Reply, Signal};
+use its_plain::{Call, Cause, Reply, Route, Signal};
 use its_steps::{Commit, ShardChange};
 use its_types::{DeviceId, EventId, Part, Target};
 use plain_machine::State;
 use std::alloc::{AllocError, Global};
 use xlate_cache::shard_of;
 
-// Whether the part is held and owes a shard that has a pair's translation under a stamp, to this
-// target.
-fn finds_in(
+// The message that a call is, to a translator.
+fn message_of(call: &Call) -> Option<(u8, (DeviceId, EventId))>
+    ensures { result ≡ may.message_of call.now }
+{
+    match *call {
+        Call::Signal { its, dev, ev }
+        | Call::Dma {
+            route: Route::Signal { its, dev, ev },
+            ..
+        } => Some((its, (dev, ev))),
+        _ => None,
+    }
+}
+
+// Whether the target's redistributor is held, and tells this of a message for it.
+fn target_tells(held: &[Held], signal: Signal, target: Option<Target>) -> bool
+    ensures { result ≡ spec.target_tells held.now signal target }
+{
+    let Some(target) = target else {
+        return false;
+    };
+    tells_in(held, signal, target)
+}
+
+fn tells_in(held: &[Held], signal: Signal, target: Target) -> bool
+    ensures { result ≡ spec.owes_such (Part.Redist target.vcpu) (spec.tells signal target)
+        held.now }
+{
+    held.iter().any(|x| same_part(x.part(), Part::Redist(target.vcpu)) && x.tells(signal, target))
+}
+
+// Whether a shard is held that has a target for a pair under a stamp, and that tells this.
+fn meets_in(
     held: &[Held],
-    part: Part,
+    shard: Part,
     dev: DeviceId,
     ev: EventId,
     stamp: u32,
-    target: Target,
+    signal: Signal,
 ) -> bool
-    ensures { result ≡ spec.owes_such part (spec.finds dev.0 ev.0 stamp target) held.now }
+    ensures { result
+        ≡ spec.owes_such shard (spec.meets held.now dev.0 ev.0 stamp signal) held.now }
 {
-    held.iter().any(|x| same_part(x.part(), part) && x.finds(dev, ev, stamp, target))
+    held.iter().any(|x| {
+        same_part(x.part(), shard) && target_tells(held, signal, x.target(dev, ev, stamp))
+    })
 }
 
 impl Shared {
-    // The target that a signal hits, if its reply is that target.
-    fn hit(&self, held: &[Held], commit: &Commit) -> Option<Target>
+    // What the message is told that the call is, where it is found in the cache, if the reply is
+    // that.
+    fn hit(&self, held: &[Held], commit: &Commit) -> Option<Signal>
         requires { 1 ≤ self.now.shards }
         ensures { MatchOption result (¬ may.IsHit (setup_of self.now) commit.now held.now)
-            (λ t. may.IsHit (setup_of self.now) commit.now held.now
-            × spec.IsDelivery commit.now.call commit.now.reply t) }
+            (λ s. may.IsHit (setup_of self.now) commit.now held.now
+            × spec.IsMessage commit.now.call commit.now.reply s) }
     {
-        let Call::Signal { its, dev, ev } = commit.call else {
+        let Some((its, (dev, ev))) = message_of(&commit.call) else {
             return None;
         };
         let Reply::Signal(signal) = commit.reply else {
             return None;
         };
-        let Signal::Delivered { vcpu, intid } = signal else {
-            return None;
-        };
-        let target = Target { vcpu, intid };
         let shard = Part::Shard(its, shard_of(dev, ev, self.shards));
         let stamp = self.stamp_of(commit.expected, usize::from(its));
-        if !finds_in(held, shard, dev, ev, stamp, target) {
+        if !meets_in(held, shard, dev, ev, stamp, signal) {
             return None;
         }
-        if !holds(held, Part::Redist(vcpu)) {
-            return None;
-        }
-        Some(target)
+        Some(signal)
     }
 
     // Whether every part of the call is held, and it has this reply; and if so, what it leaves.
@@ -104,8 +131,8 @@ impl Shared {
     {
         let mut state = self.assembled(alloc, held)?;
         match self.hit(held, commit) {
-            Some(target) => {
-                state.deliver(target)?;
+            Some(signal) => {
+                state.meet(signal)?;
                 Ok(Some(state))
             }
             None => self.answered(alloc, state, held, &commit.call, &commit.reply),

@@ -3,6 +3,7 @@ ghost use Rattle.its_player.specs.Contents.{content_of};
 ghost use Rattle.its_player.specs.Held as spec;
 
 use guest_windows::Memory;
+use its_plain::{Cause, Signal};
 use its_types::{DeviceId, EventId, Target};
 use plain_machine::{RedistLists, TranslatorLists};
 use std::alloc::{AllocError, Global};
@@ -33,15 +34,22 @@ impl Content {
         }
     }
 
-    /// Whether it is a shard that has a pair's translation under a stamp, to this target.
-    pub fn finds(&self, dev: DeviceId, ev: EventId, stamp: u32, target: Target) -> bool
-        ensures { result ≡ spec.finds dev.0 ev.0 stamp target (content_of self.now) }
+    /// The target that it has for a pair under a stamp, if it is a shard.
+    pub fn target(&self, dev: DeviceId, ev: EventId, stamp: u32) -> Option<Target>
+        ensures { result ≡ spec.target_in dev.0 ev.0 stamp (content_of self.now) }
     {
         match self {
-            Content::Shard(shard) => match shard.find(dev, ev, stamp) {
-                Some(found) => found.vcpu.0 == target.vcpu.0 && found.intid.0 == target.intid.0,
-                None => false,
-            },
+            Content::Shard(shard) => shard.find(dev, ev, stamp),
+            _ => None,
+        }
+    }
+
+    /// Whether it is a redistributor that tells this of a message for a target.
+    pub fn tells(&self, signal: Signal, target: Target) -> bool
+        ensures { result ≡ spec.tells signal target (content_of self.now) }
+    {
+        match self {
+            Content::Redist(redist) => is_told(signal, target, redist.is_on()),
             _ => false,
         }
     }
@@ -54,5 +62,17 @@ impl Content {
             Content::Shard(shard) => !shard.has_entry_of(dev, ev),
             _ => false,
         }
+    }
+}
+
+fn is_told(signal: Signal, target: Target, on: bool) -> bool
+    ensures { result ≡ spec.is_told signal target on }
+{
+    match (signal, on) {
+        (Signal::Delivered { vcpu, intid }, true) => {
+            vcpu.0 == target.vcpu.0 && intid.0 == target.intid.0
+        }
+        (Signal::Dropped(Cause::LpisOff), false) => true,
+        _ => false,
     }
 }

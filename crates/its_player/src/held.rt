@@ -3,6 +3,7 @@ ghost use Rattle.its_player.specs.Contents.{content_of};
 ghost use Rattle.its_player.specs.Held as spec;
 
 use crate::content::Content;
+use its_plain::Signal;
 use its_types::{DeviceId, EventId, Part, Target};
 use std::marker::Model;
 
@@ -71,11 +72,18 @@ impl Held {
         self.out = false;
     }
 
-    /// Whether it owes a shard that has a pair's translation under a stamp, to this target.
-    pub fn finds(&self, dev: DeviceId, ev: EventId, stamp: u32, target: Target) -> bool
-        ensures { result ≡ spec.finds dev.0 ev.0 stamp target self.now.owed }
+    /// The target that the shard that it owes has for a pair under a stamp.
+    pub fn target(&self, dev: DeviceId, ev: EventId, stamp: u32) -> Option<Target>
+        ensures { result ≡ spec.target_in dev.0 ev.0 stamp self.now.owed }
     {
-        self.owed.finds(dev, ev, stamp, target)
+        self.owed.target(dev, ev, stamp)
+    }
+
+    /// Whether it owes a redistributor that tells this of a message for a target.
+    pub fn tells(&self, signal: Signal, target: Target) -> bool
+        ensures { result ≡ spec.tells signal target self.now.owed }
+    {
+        self.owed.tells(signal, target)
     }
 
     /// Whether it owes a shard that has no entry of a pair.

@@ -10,7 +10,7 @@ ghost use Rattle.its_steps.specs.World as world;
 use crate::content::Content;
 use crate::held::Held;
 use crate::shared::Shared;
-use its_plain::Call;
+use its_plain::{Call, Route};
 use its_steps::{Commit, ShardChange};
 use its_types::{Bases, DeviceId, EventId, Part, Word};
 use plain_machine::{RedistLists, State, TranslatorLists};
@@ -25,7 +25,11 @@ pub fn its_of(call: &Call) -> u8
         Call::Signal { its, .. }
         | Call::ReadReg { its, .. }
         | Call::WriteReg { its, .. }
-        | Call::Step { its } => its,
+        | Call::Step { its }
+        | Call::Dma {
+            route: Route::Signal { its, .. },
+            ..
+        } => its,
         _ => 0,
     }
 }

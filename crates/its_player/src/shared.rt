@@ -77,7 +77,8 @@ fn first_slots(
     start: &State,
     shards: u32,
 ) -> Result<Vec<Option<Content>>, AllocError>
-    ensures { IfOk result (λ v. v.items ≡ home_slots start.now shards) }
+    ensures home { IfOk result (λ v. v.items ≡ home_slots start.now shards) }
+    ensures alone { IfOk result (λ _. start.now.track ≡ std.None) }
 {
     let mut slots = Vec::new(alloc);
     add_maps(alloc, &mut slots, start.translators())?;

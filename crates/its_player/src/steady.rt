@@ -124,14 +124,12 @@ impl Shared {
                 }
                 self.keeps_pairs(alloc, its, owed, first, second)
             }
-            (Part::Redist(_), Content::Redist(first), Content::Redist(second)) => {
-                Ok(!first.is_on() || second.is_on())
-            }
             _ => Ok(true),
         }
     }
 
-    /// Whether each pair that a translator delivered is delivered as before, or has left its shard.
+    /// Whether each pair that a translator's maps sent somewhere goes there as before, or has left its
+    /// shard.
     pub fn are_steady(
         &self,
         alloc: Global,

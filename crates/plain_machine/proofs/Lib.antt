@@ -4,3 +4,4 @@ pub mod Pending
 pub mod Mapped
 pub mod MappedPairs
 mod SavedTables
+pub mod Single

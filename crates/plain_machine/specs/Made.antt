@@ -25,9 +25,10 @@ abbrev pub IsWindowFault : Bool → MakeError → Type 0
 IsWindowFault are_good (errors.Fault f) = (f ≡ fault.Windows) × (are_good ≡ false)
 IsWindowFault are_good errors.NoMemory = Unit {0}
 
-abbrev pub Fills : List Window → Result (Unit {0}) DescFault → Result (List Window) DescFault → Type 0
+abbrev pub Fills : List Window → Result (Unit {0}) MakeError → Result (List Window) DescFault → Type 0
 Fills memory (Ok done) filled = filled ≡ Ok memory
-Fills memory (Err f) filled = filled ≡ Err f
+Fills memory (Err (errors.Fault f)) filled = filled ≡ Err f
+Fills memory (Err errors.NoMemory) filled = Unit {0}
 
 abbrev pub Reads : Result (Vec ℕ) MakeError → Option (List ℕ) → Type 0
 Reads (Ok bytes) read = read ≡ Some bytes.items

@@ -3,8 +3,9 @@ use crate::refusal::CommandError;
 use crate::state::State;
 use crate::{redists, translator};
 use gits_regs::Regs;
+use guest_windows::WriteError;
 use its_command::decode;
-use its_plain::{Bytes64, Call, Reply, StepReply};
+use its_plain::{Bytes64, Call, Reply, Route, StepReply};
 use its_types::Addr;
 use std::alloc::{AllocError, Global};
 
@@ -23,13 +24,15 @@ impl State {
         Ok((self, reply))
     }
 
-    fn poke(&mut self, addr: Addr, bytes: &[u8]) -> Reply
-        ensures reply { result ≡ answers.poke_reply (write_at self.old.memory addr.0 bytes.now) }
-        ensures left { self.new ≡ answers.poked self.old addr.0 bytes.now }
+    fn poke(&mut self, addr: Addr, bytes: &[u8]) -> Result<Reply, AllocError>
+        ensures reply { IfOk result
+            (λ r. r ≡ answers.poke_reply (write_at self.old.memory addr.0 bytes.now)) }
+        ensures left { IfOk result (λ _. self.new ≡ answers.poked self.old addr.0 bytes.now) }
     {
         match self.memory.write(addr, bytes) {
-            Ok(()) => Reply::Ok,
-            Err(_) => Reply::Outside,
+            Ok(()) => Ok(Reply::Ok),
+            Err(WriteError::Outside(_)) => Ok(Reply::Outside),
+            Err(WriteError::NoMemory) => Err(AllocError),
         }
     }
 
@@ -51,7 +54,8 @@ impl State {
     fn write_reg(&mut self, its: u8, off: u32, size: u8, value: u64)
         ensures { self.new ≡ answers.written self.old its off size value }
     {
-        translator::write(&mut self.translators, its, off, size, value);
+        let shape = self.layout.shape;
+        translator::write(&mut self.translators, &shape, its, off, size, value);
     }
 
     fn advance(&mut self, its: u8)
@@ -83,6 +87,20 @@ impl State {
         Ok(reply)
     }
 
+    fn dma(&mut self, addr: Addr, bytes: &[u8], route: Route) -> Result<Reply, AllocError>
+        ensures reply { IfOk result
+            (λ r. r ≡ answers.route_reply self.old addr bytes.now route) }
+        ensures left { IfOk result (λ r. self.new ≡ answers.route_left self.old addr bytes.now route
+            r) }
+    {
+        match route {
+            Route::Signal { its, dev, ev } => Ok(Reply::Signal(self.signal(its, dev, ev)?)),
+            Route::Poke => self.poke(addr, bytes),
+            Route::NoRequester => Ok(Reply::NoRequester),
+            Route::Frame => Ok(Reply::Outside),
+        }
+    }
+
     #[tactic(auto, unfolding(its_plain::specs::Answer::reply_of, its_plain::specs::Answer::left))]
     fn replied(&mut self, alloc: Global, call: &Call) -> Result<Reply, AllocError>
         ensures reply { IfOk result (λ r. r ≡ answers.reply_of self.old call.now) }
@@ -98,7 +116,17 @@ impl State {
                 &self.redistributors,
                 u64::from(vcpu.0),
             ))),
-            Call::Poke { addr, bytes } => Ok(self.poke(addr, bytes.as_slice())),
+            Call::Best { vcpu, mask } => Ok(Reply::Ack(redists::best_at(
+                &self.redistributors,
+                u64::from(vcpu.0),
+                mask,
+            ))),
+            Call::Claim { vcpu, intid } => Ok(Reply::Ack(redists::claim_at(
+                &mut self.redistributors,
+                u64::from(vcpu.0),
+                intid.0,
+            ))),
+            Call::Poke { addr, bytes } => self.poke(addr, bytes.as_slice()),
             Call::Peek { addr, count } => Ok(self.peek(addr, count)),
             Call::ReadReg { its, off, size } => Ok(Reply::Value(self.regs(its).read(off, size))),
             Call::WriteReg {
@@ -122,6 +150,13 @@ impl State {
             }
             Call::Step { its } => Ok(Reply::Step(self.step(alloc, its)?)),
             Call::Save => self.save(alloc),
+            Call::Copy => Ok(Reply::Copied(0)),
+            Call::Dma {
+                addr,
+                bytes,
+                route,
+                ..
+            } => self.dma(addr, bytes.as_slice(), route),
         }
     }
 }

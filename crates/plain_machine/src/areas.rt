@@ -15,18 +15,23 @@ const PAGE_SIZE: u64 = 65536;
 
 /// Adds the areas of a device table.
 #[tactic(auto, unfolding(its_plain::specs::Regions::device_areas))]
-pub fn add_devices(areas: &mut Vec<Area>, regs: &Regs, memory: &Memory) -> Result<(), AllocError>
+pub fn add_devices(
+    areas: &mut Vec<Area>,
+    its: u8,
+    regs: &Regs,
+    memory: &Memory,
+) -> Result<(), AllocError>
     ensures { OnOk result
-        (areas.new.items ≡ areas.old.items ++ spec.device_areas regs.now memory.now) }
+        (areas.new.items ≡ areas.old.items ++ spec.device_areas its regs.now memory.now) }
 {
     if !regs.table_valid(0) {
         return Ok(());
     }
     if regs.indirect() {
-        return add_levels(areas, regs, memory);
+        return add_levels(areas, its, regs, memory);
     }
     areas.push(Area {
-        region: Region::Devices,
+        region: Region::Devices(its),
         base: regs.table_base(0).0,
         size: PAGE_SIZE * u64::from(regs.pages(0).min(level1_entries(regs))),
         is_written: true,
@@ -35,42 +40,47 @@ pub fn add_devices(areas: &mut Vec<Area>, regs: &Regs, memory: &Memory) -> Resul
 }
 
 // The first level, and where it is in memory its pages.
-fn add_levels(areas: &mut Vec<Area>, regs: &Regs, memory: &Memory) -> Result<(), AllocError>
+fn add_levels(
+    areas: &mut Vec<Area>,
+    its: u8,
+    regs: &Regs,
+    memory: &Memory,
+) -> Result<(), AllocError>
     ensures { OnOk result
-        (areas.new.items ≡ areas.old.items ++ spec.level1_areas regs.now memory.now) }
+        (areas.new.items ≡ areas.old.items ++ spec.level1_areas its regs.now memory.now) }
 {
     let base = regs.table_base(0);
     let size = 8 * u64::from(level1_entries(regs));
     areas.push(Area {
-        region: Region::Level1,
+        region: Region::Level1(its),
         base: base.0,
         size,
         is_written: false,
     })?;
     if memory.inside(base, size) {
-        add_pages(areas, regs, memory)?;
+        add_pages(areas, its, regs, memory)?;
     }
     Ok(())
 }
 
-fn add_pages(areas: &mut Vec<Area>, regs: &Regs, memory: &Memory) -> Result<(), AllocError>
+fn add_pages(areas: &mut Vec<Area>, its: u8, regs: &Regs, memory: &Memory) -> Result<(), AllocError>
     ensures { OnOk result (areas.new.items
-        ≡ areas.old.items ++ spec.pages_below regs.now memory.now
+        ≡ areas.old.items ++ spec.pages_below its regs.now memory.now
         (places.level1_entries regs.now.dev_bits)) }
 {
     for k in 0..level1_entries(regs) {
-        add_page(areas, k, level1(regs, memory, k))?;
+        add_page(areas, its, k, level1(regs, memory, k))?;
     }
     Ok(())
 }
 
-fn add_page(areas: &mut Vec<Area>, k: u32, entry: Level1) -> Result<(), AllocError>
-    ensures { OnOk result (areas.new.items ≡ areas.old.items ++ spec.page_area k
+fn add_page(areas: &mut Vec<Area>, its: u8, k: u32, entry: Level1) -> Result<(), AllocError>
+    ensures { OnOk result (areas.new.items ≡ areas.old.items ++ spec.page_area its k
         (places.page_of entry)) }
 {
     if let Level1::Page(base) = entry {
         areas.push(Area {
-            region: Region::Page(k),
+            region: Region::Page(its, k),
             base: base.0,
             size: PAGE_SIZE,
             is_written: true,
@@ -80,12 +90,13 @@ fn add_page(areas: &mut Vec<Area>, k: u32, entry: Level1) -> Result<(), AllocErr
 }
 
 /// Adds the area of a collection table.
-pub fn add_collections(areas: &mut Vec<Area>, regs: &Regs) -> Result<(), AllocError>
-    ensures { OnOk result (areas.new.items ≡ areas.old.items ++ spec.collection_areas regs.now) }
+pub fn add_collections(areas: &mut Vec<Area>, its: u8, regs: &Regs) -> Result<(), AllocError>
+    ensures { OnOk result
+        (areas.new.items ≡ areas.old.items ++ spec.collection_areas its regs.now) }
 {
     if regs.table_valid(1) {
         areas.push(Area {
-            region: Region::Collections,
+            region: Region::Collections(its),
             base: regs.table_base(1).0,
             size: PAGE_SIZE * u64::from(regs.pages(1).min(8)),
             is_written: true,
@@ -95,12 +106,12 @@ pub fn add_collections(areas: &mut Vec<Area>, regs: &Regs) -> Result<(), AllocEr
 }
 
 /// Adds the area of a command queue.
-pub fn add_queue(areas: &mut Vec<Area>, regs: &Regs) -> Result<(), AllocError>
-    ensures { OnOk result (areas.new.items ≡ areas.old.items ++ spec.queue_area regs.now) }
+pub fn add_queue(areas: &mut Vec<Area>, its: u8, regs: &Regs) -> Result<(), AllocError>
+    ensures { OnOk result (areas.new.items ≡ areas.old.items ++ spec.queue_area its regs.now) }
 {
     if regs.queue_valid() {
         areas.push(Area {
-            region: Region::Queue,
+            region: Region::Queue(its),
             base: regs.queue_base().0,
             size: regs.queue_size(),
             is_written: false,

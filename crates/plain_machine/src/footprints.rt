@@ -5,7 +5,7 @@ ghost use Rattle.its_plain.specs.Parts as parts;
 use crate::state::State;
 use gits_regs::Regs;
 use its_command::{Command, decode};
-use its_plain::Call;
+use its_plain::{Call, Route};
 use its_types::{DeviceId, EventId, Icid, Part, Profile, Vcpu};
 use std::alloc::{AllocError, Global};
 
@@ -33,12 +33,13 @@ impl State {
             (found.new.items ≡ found.old.items ++ parts.footprint self.now call.now) }
     {
         match *call {
-            Call::Signal { its, dev, ev } => {
-                add_part(found, Part::Maps(its))?;
-                add_redist_of(found, self.located_vcpu(its, dev, ev))
-            }
-            Call::Take(vcpu) | Call::Show(vcpu) => add_part(found, Part::Redist(vcpu)),
-            Call::Poke { .. } | Call::Peek { .. } => add_part(found, Part::Mem),
+            Call::Signal { its, dev, ev } => self.add_signal_parts(found, its, dev, ev),
+            Call::Take(vcpu)
+            | Call::Show(vcpu)
+            | Call::Best { vcpu, .. }
+            | Call::Claim { vcpu, .. } => add_part(found, Part::Redist(vcpu)),
+            Call::Poke { .. } | Call::Peek { .. } | Call::Copy => add_part(found, Part::Mem),
+            Call::Dma { route, .. } => self.add_route_parts(found, route),
             Call::ReadReg { its, .. } | Call::WriteReg { its, .. } => {
                 add_part(found, Part::Maps(its))
             }
@@ -57,6 +58,31 @@ impl State {
                 add_translators(found, self.translators.len())?;
                 add_redists(found, self.redistributors.len())
             }
+        }
+    }
+
+    fn add_signal_parts(
+        &self,
+        found: &mut Vec<Part>,
+        its: u8,
+        dev: DeviceId,
+        ev: EventId,
+    ) -> Result<(), AllocError>
+        ensures { OnOk result
+            (found.new.items ≡ found.old.items ++ parts.signal_parts self.now its dev.0 ev.0) }
+    {
+        add_part(found, Part::Maps(its))?;
+        add_redist_of(found, self.located_vcpu(its, dev, ev))
+    }
+
+    fn add_route_parts(&self, found: &mut Vec<Part>, route: Route) -> Result<(), AllocError>
+        ensures { OnOk result
+            (found.new.items ≡ found.old.items ++ parts.route_parts self.now route) }
+    {
+        match route {
+            Route::Signal { its, dev, ev } => self.add_signal_parts(found, its, dev, ev),
+            Route::Poke => add_part(found, Part::Mem),
+            Route::NoRequester | Route::Frame => Ok(()),
         }
     }
 

@@ -21,8 +21,8 @@ impl State {
             return 0;
         }
         match self.redistributors.get(usize::from(vcpu.0)) {
-            Some(redist) => redist.read_gicr(off, size),
-            None => read_gicr(&Bases::off(), off, size),
+            Some(redist) => redist.read_gicr(self.layout.shape.linux, off, size),
+            None => read_gicr(self.layout.shape.linux, &Bases::off(), off, size),
         }
     }
 
@@ -51,10 +51,10 @@ impl RedistLists {
     ghost use Rattle.gicr_regs.specs.Registers as registers;
     ghost use Rattle.its_plain.specs.Sound.{IsShape};
 
-    fn read_gicr(&self, off: u32, size: u8) -> u64
-        ensures { result ≡ registers.read_gicr self.now.bases off size }
+    fn read_gicr(&self, linux: bool, off: u32, size: u8) -> u64
+        ensures { result ≡ registers.read_gicr linux self.now.bases off size }
     {
-        read_gicr(&self.bases, off, size)
+        read_gicr(linux, &self.bases, off, size)
     }
 
     #[tactic(auto, unfolding(gicr_regs::specs::Registers::written_gicr, gicr_regs::specs::Registers::done_by))]
@@ -75,6 +75,8 @@ impl RedistLists {
             GicrWrite::Ignored => {}
             GicrWrite::SetBases(bases) => self.bases = bases,
             GicrWrite::Enable => self.enable(alloc, memory, shape)?,
+            GicrWrite::Disable if shape.linux => self.disable(alloc, shape)?,
+            GicrWrite::Disable => {}
             GicrWrite::Reread(intid) => {
                 if intid.in_range(shape.lpi_bits) {
                     self.reread(memory, intid.0);
@@ -103,6 +105,17 @@ impl RedistLists {
         }
         self.read_config(alloc, memory, shape)?;
         self.bases.on = true;
+        Ok(())
+    }
+
+    // Turns LPIs off: nothing is pending, and the configuration is all zero.
+    fn disable(&mut self, alloc: Global, shape: &Shape) -> Result<(), AllocError>
+        requires { IsShape shape.now }
+        ensures { OnOk result (self.new ≡ registers.turned_off shape.now self.old) }
+    {
+        self.config = vec![in alloc; 0; shape.lpi_count() as usize]?;
+        self.pending = Vec::new(alloc);
+        self.bases.on = false;
         Ok(())
     }
 

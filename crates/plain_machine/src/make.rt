@@ -1,9 +1,11 @@
 //! The machine that a description makes.
 ghost use Rattle.std.specs.Prelude.{◌≡◌, ◌≤◌, ◌<◌, ◌+◌, ◌^◌, true, All, IfOk, IfErr, OnOk, map};
-ghost use Rattle.std.specs.Prelude.{length, replicate};
+ghost use Rattle.std.specs.Prelude.{length, replicate, nat_le, sum, Ok, []};
+ghost use Rattle.gits_regs.specs.Registers.{reset};
+ghost use Rattle.its_types.specs.Maps.{no_maps};
 ghost use Rattle.its_types.specs.Lpis.{no_bases};
 ghost use Rattle.its_types.specs.declared.ids.Addr.{Addr as Address};
-ghost use Rattle.guest_windows.specs.Windows.{read_at, zeros, are_windows};
+ghost use Rattle.guest_windows.specs.Windows.{read_at, zeros};
 ghost use Rattle.guest_windows.specs.Fields.{pairs};
 ghost use Rattle.gicr_regs.specs.Redistributors.{off_redistributor};
 ghost use Rattle.its_plain.specs.Machine as spec;
@@ -15,7 +17,7 @@ ghost use Rattle.plain_machine.specs.Made.{AreFirst};
 use crate::redist::RedistLists;
 use crate::state::State;
 use crate::translator::TranslatorLists;
-use guest_windows::{Memory, NewError};
+use guest_windows::{Memory, NewError, WriteError};
 use its_plain::{Desc, DescFault, Fill, LpiTables, MakeError};
 use its_types::{Addr, Bases, Shape, Vcpu};
 use std::alloc::{AllocError, Global};
@@ -25,15 +27,26 @@ impl State {
     /// description.
     #[tactic(auto, unfolding(its_plain::specs::Machine::made))]
     pub fn new(alloc: Global, desc: &Desc) -> Result<State, MakeError>
-        requires { IsDescription desc.now }
+        requires description { IsDescription desc.now }
+        requires single { spec.IsSingle desc.now }
         ensures { IsMade result (spec.made desc.now) }
     {
-        let mut memory = memory_of(alloc, desc.windows.as_slice())?;
+        keeps_single(desc);
+        let mut memory = memory_of(alloc, desc)?;
         tables_inside(&desc.tables, &memory, &desc.shape)?;
         fill(&mut memory, desc.fills.as_slice())?;
         let redistributors = first_redistributors(alloc, &desc.tables, &memory, &desc.shape)?;
         started(alloc, desc, memory, redistributors)
     }
+}
+
+// What a description of one translator has, for the proof.
+fn keeps_single(desc: &Desc)
+    requires { spec.IsSingle desc.now }
+    ensures frames { spec.all_frames_fit (pairs desc.now.windows) 0 desc.now.translators ≡ Ok tt }
+    ensures requesters { spec.all_new [] 0 desc.now.requesters ≡ Ok tt }
+{
+    let _translators = &desc.translators;
 }
 
 // The fault, unless the test holds.
@@ -43,17 +56,35 @@ fn ensure(test: bool, fault: DescFault) -> Result<(), DescFault>
     if test { Ok(()) } else { Err(fault) }
 }
 
-// Memory with these windows, all bytes zero.
-fn memory_of(alloc: Global, windows: &[(Addr, u64)]) -> Result<Memory, MakeError>
+// Memory with the windows of a description, all bytes zero.
+fn memory_of(alloc: Global, desc: &Desc) -> Result<Memory, MakeError>
     ensures ok { IfOk result (λ m.
-        (m ≡ map zeros (pairs windows.now)) × (are_windows (pairs windows.now) ≡ true)) }
-    ensures err { IfErr result (IsWindowFault (are_windows (pairs windows.now))) }
+        (m ≡ map zeros (pairs desc.now.windows)) × (spec.windows_fit desc.now ≡ true)) }
+    ensures err { IfErr result (IsWindowFault (spec.windows_fit desc.now)) }
 {
+    let windows = desc.windows.as_slice();
+    if !are_within(windows, desc.memory_limit) {
+        return Err(MakeError::Fault(DescFault::Windows));
+    }
     match Memory::new(alloc, windows) {
         Ok(memory) => Ok(memory),
         Err(NewError::BadWindows) => Err(MakeError::Fault(DescFault::Windows)),
         Err(NewError::NoMemory) => Err(MakeError::NoMemory),
     }
+}
+
+// Whether windows have no more bytes together than a limit.
+fn are_within(windows: &[(Addr, u64)], limit: u64) -> bool
+    ensures { result ≡ nat_le (sum (map (λ w. w.1) (pairs windows.now))) limit }
+{
+    let mut left = limit;
+    for window in windows {
+        if window.1 > left {
+            return false;
+        }
+        left -= window.1;
+    }
+    true
 }
 
 // Each pending table lies in one window, or the first virtual processor whose table doesn't.
@@ -89,12 +120,16 @@ fn tables_inside(tables: &LpiTables, memory: &Memory, shape: &Shape) -> Result<(
 
 // Puts the bytes of a description into memory, or tells the first fill whose bytes don't lie in one
 // window.
-fn fill(memory: &mut Memory, fills: &[Fill]) -> Result<(), DescFault>
+fn fill(memory: &mut Memory, fills: &[Fill]) -> Result<(), MakeError>
     ensures { Fills memory.new result (spec.filled memory.old 0 fills.now) }
 {
     for (n, fill) in fills.iter().enumerate() {
-        if memory.write(fill.addr, fill.bytes.as_slice()).is_err() {
-            return Err(DescFault::Bytes(n as u64));
+        match memory.write(fill.addr, fill.bytes.as_slice()) {
+            Ok(()) => {}
+            Err(WriteError::Outside(_)) => {
+                return Err(MakeError::Fault(DescFault::Bytes(n as u64)));
+            }
+            Err(WriteError::NoMemory) => return Err(MakeError::NoMemory),
         }
     }
     Ok(())
@@ -177,15 +212,26 @@ fn started(
     redistributors: Vec<RedistLists>,
 ) -> Result<State, MakeError>
     requires description { IsDescription desc.now }
+    requires single { spec.IsSingle desc.now }
     requires count { length redistributors.items ≡ desc.now.shape.vcpus }
     ensures { IsStarted result (spec.started desc.now memory redistributors.items) }
 {
-    let mut translators = Vec::new(alloc);
-    translators.push(TranslatorLists::new(alloc, desc.shape.dev_bits))?;
     Ok(State {
         layout: desc.layout(alloc)?,
-        translators,
+        translators: first_translators(alloc, desc)?,
         redistributors,
         memory,
     })
+}
+
+fn first_translators(alloc: Global, desc: &Desc) -> Result<Vec<TranslatorLists>, AllocError>
+    requires { IsDescription desc.now }
+    ensures { IfOk result (λ v. v.items ≡ replicate (length desc.now.translators)
+        (record { regs = reset desc.now.shape.dev_bits; maps = no_maps })) }
+{
+    let mut translators = Vec::new(alloc);
+    for _ in 0..desc.translators.len() {
+        translators.push(TranslatorLists::new(alloc, desc.shape.dev_bits))?;
+    }
+    Ok(translators)
 }

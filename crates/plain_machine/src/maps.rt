@@ -148,10 +148,11 @@ impl MapLists {
     }
 
     /// Adds the areas of the interrupt translation tables.
-    pub fn add_itts(&self, areas: &mut Vec<Area>) -> Result<(), AllocError>
-        ensures { OnOk result (areas.new.items ≡ areas.old.items ++ regions.itt_areas self.now) }
+    pub fn add_itts(&self, its: u8, areas: &mut Vec<Area>) -> Result<(), AllocError>
+        ensures { OnOk result
+            (areas.new.items ≡ areas.old.items ++ regions.itt_areas its self.now) }
     {
-        add_itts(areas, &self.devices)
+        add_itts(areas, its, &self.devices)
     }
 
     /// The first device whose level-1 entry isn't valid.
@@ -164,10 +165,11 @@ impl MapLists {
     }
 
     /// Writes the interrupt translation tables.
-    pub fn write_itts(&self, memory: &mut Memory)
-        ensures { memory.new ≡ saved.put_tables memory.old (saved.itt_words self.now) }
+    pub fn write_itts(&self, memory: &mut Memory) -> Result<(), AllocError>
+        ensures { OnOk result
+            (memory.new ≡ saved.put_tables memory.old (saved.itt_words self.now)) }
     {
-        write_itts(memory, &self.devices, self);
+        write_itts(memory, &self.devices, self)
     }
 
     /// The entry of a device in a saved table, or zero where it isn't mapped.

@@ -3,14 +3,14 @@ use crate::redist::RedistLists;
 use crate::state::State;
 use crate::translator::TranslatorLists;
 use guest_windows::Memory;
-use its_types::{Shape, Target};
+use its_plain::Signal;
+use its_types::Shape;
 use std::alloc::AllocError;
 
 impl State {
-    ghost use Rattle.std.specs.Prelude.{◌≡◌, OnOk};
+    ghost use Rattle.std.specs.Prelude.{◌≡◌, OnOk, None};
     ghost use Rattle.its_plain.specs.Plain as plain;
     ghost use Rattle.its_plain.specs.Answer as answers;
-    ghost use Rattle.its_plain.specs.declared.call.Signal.TheVariants.{Delivered};
 
     /// How large the machine is.
     pub fn shape(&self) -> Shape
@@ -33,9 +33,10 @@ impl State {
         &self.redistributors
     }
 
-    /// Guest memory.
+    /// Guest memory, of which there is no copy.
     pub fn memory(&self) -> &Memory
-        ensures { result.now ≡ self.now.memory }
+        ensures memory { result.now ≡ self.now.memory }
+        ensures alone { self.now.track ≡ None }
     {
         &self.memory
     }
@@ -61,17 +62,19 @@ impl State {
 
     /// Puts other guest memory in.
     pub fn set_memory(&mut self, memory: Memory)
-        ensures { self.new ≡ record self.old { memory = memory } }
+        ensures { self.new ≡ record self.old { memory = memory; track = None } }
     {
         self.memory = memory;
     }
 
-    /// Makes the interrupt pending at its target, as a delivered message does. Out of memory,
-    /// nothing is said of the state.
-    pub fn deliver(&mut self, target: Target) -> Result<(), AllocError>
-        ensures { OnOk result
-            (self.new ≡ answers.signal_left self.old (Delivered target.vcpu target.intid)) }
+    /// Does what a message does that is told this: its interrupt is pending at its target, where it
+    /// was delivered. Out of memory, nothing is said of the state.
+    pub fn meet(&mut self, signal: Signal) -> Result<(), AllocError>
+        ensures { OnOk result (self.new ≡ answers.signal_left self.old signal) }
     {
-        self.set_lpi(u64::from(target.vcpu.0), target.intid)
+        match signal {
+            Signal::Delivered { vcpu, intid } => self.set_lpi(u64::from(vcpu.0), intid),
+            Signal::Dropped(_) => Ok(()),
+        }
     }
 }

@@ -61,13 +61,6 @@ impl RedistLists {
         self.bases.on
     }
 
-    /// The pending LPIs, in rising order.
-    pub fn pending(&self) -> &[u32]
-        ensures { result.now ≡ self.now.pending }
-    {
-        &self.pending
-    }
-
     /// Whether an LPI is pending.
     pub fn is_pending(&self, intid: u32) -> bool
         ensures { result ≡ lpis.is_pending intid self.now.pending }
@@ -168,15 +161,16 @@ impl RedistLists {
     }
 
     /// Writes the pending table, where LPIs are on.
-    pub(crate) fn write_pending(&self, memory: &mut Memory, shape: &Shape)
+    pub(crate) fn write_pending(&self, memory: &mut Memory, shape: &Shape) -> Result<(), AllocError>
         requires least { 14 ≤ shape.now.lpi_bits }
         requires most { shape.now.lpi_bits ≤ 20 }
-        ensures { memory.new ≡ saved.put_tables memory.old
-            (saved.pending_words shape.now self.now) }
+        ensures { OnOk result (memory.new ≡ saved.put_tables memory.old
+            (saved.pending_words shape.now self.now)) }
     {
-        if self.bases.on {
-            saved_tables::write_pending(memory, self.bases.pend.table, shape.pending_bytes(), self);
+        if !self.bases.on {
+            return Ok(());
         }
+        saved_tables::write_pending(memory, self.bases.pend.table, shape.pending_bytes(), self)
     }
 
     /// Hands the pending set out, so that nothing is pending.
@@ -196,36 +190,71 @@ impl RedistLists {
         Ok(())
     }
 
-    /// The LPI that would be acknowledged.
-    pub(crate) fn lowest(&self) -> Option<u32>
-        ensures { result ≡ plain.lowest self.now }
+    // An LPI with its priority, of which bits 1 and 0 are clear.
+    fn told(&self, lpi: Option<u32>) -> Ack
+        ensures { result ≡ plain.ack_of self.now lpi }
     {
-        first_enabled(&self.config, &self.pending)
-    }
-
-    /// The LPI that would be acknowledged, and its priority with bits 1 and 0 clear.
-    pub fn show(&self) -> Ack
-        ensures { result ≡ plain.ack_of self.now (plain.lowest self.now) }
-    {
-        match self.lowest() {
+        match lpi {
             Some(intid) => Ack::Some {
                 intid: Intid(intid),
-                priority: config_byte(&self.config, intid) & 0xfc,
+                priority: priority_of(&self.config, intid),
             },
             None => Ack::None,
         }
     }
 
-    /// Acknowledges the lowest LPI that is pending and enabled.
+    fn taken(&mut self, lpi: Option<u32>)
+        ensures { self.new ≡ plain.taken self.old lpi }
+    {
+        if let Some(intid) = lpi {
+            self.clear(intid);
+        }
+    }
+
+    /// The lowest LPI that is pending and enabled.
+    pub fn show(&self) -> Ack
+        ensures { result ≡ plain.ack_of self.now (plain.lowest self.now) }
+    {
+        self.told(first_enabled(&self.config, &self.pending))
+    }
+
+    /// Acknowledges it.
     pub fn take(&mut self) -> Ack
         ensures ack { result ≡ plain.ack_of self.old (plain.lowest self.old) }
         ensures taken { self.new ≡ plain.taken self.old (plain.lowest self.old) }
     {
-        let ack = self.show();
-        if let Ack::Some { intid, .. } = ack {
-            self.clear(intid.0);
-        }
+        let lowest = first_enabled(&self.config, &self.pending);
+        let ack = self.told(lowest);
+        self.taken(lowest);
         ack
+    }
+
+    /// The LPI that comes first by priority, of those below a mask.
+    pub fn best(&self, mask: u8) -> Ack
+        ensures { result ≡ plain.ack_of self.now (plain.best self.now mask) }
+    {
+        self.told(first_by_priority(&self.config, mask, &self.pending))
+    }
+
+    /// Acknowledges this LPI, if it is pending and enabled.
+    pub fn claim(&mut self, intid: u32) -> Ack
+        ensures ack { result ≡ plain.ack_of self.old (plain.claimed self.old intid) }
+        ensures taken { self.new ≡ plain.taken self.old (plain.claimed self.old intid) }
+    {
+        let claimed = self.claimable(intid);
+        let ack = self.told(claimed);
+        self.taken(claimed);
+        ack
+    }
+
+    fn claimable(&self, intid: u32) -> Option<u32>
+        ensures { result ≡ plain.claimed self.now intid }
+    {
+        if self.is_pending(intid) && config_byte(&self.config, intid) % 2 == 1 {
+            Some(intid)
+        } else {
+            None
+        }
     }
 
     /// Reads an LPI's configuration byte again, if LPIs are on.
@@ -286,6 +315,40 @@ fn config_byte(config: &[u8], intid: u32) -> u8
         .get(intid.saturating_sub(8192) as usize)
         .copied()
         .unwrap_or(0)
+}
+
+fn priority_of(config: &[u8], intid: u32) -> u8
+    ensures { result ≡ lpis.priority_of config.now intid }
+{
+    config_byte(config, intid) & 0xfc
+}
+
+fn is_unmasked(config: &[u8], mask: u8, intid: u32) -> bool
+    ensures { result ≡ lpis.is_unmasked config.now mask intid }
+{
+    config_byte(config, intid) % 2 == 1 && priority_of(config, intid) < mask
+}
+
+// From the last one on to the first.
+fn first_by_priority(config: &[u8], mask: u8, pending: &[u32]) -> Option<u32>
+    ensures { result ≡ lpis.first_by_priority config.now mask pending.now }
+{
+    let mut best = None;
+    for at in (0..pending.len()).rev() {
+        if is_unmasked(config, mask, pending[at]) {
+            best = Some(first_of(config, pending[at], best));
+        }
+    }
+    best
+}
+
+fn first_of(config: &[u8], intid: u32, best: Option<u32>) -> u32
+    ensures { result ≡ lpis.first_of config.now intid best }
+{
+    match best {
+        Some(other) if priority_of(config, other) < priority_of(config, intid) => other,
+        _ => intid,
+    }
 }
 
 fn first_enabled(config: &[u8], pending: &[u32]) -> Option<u32>

@@ -90,6 +90,35 @@ pub fn show_at(all: &[RedistLists], vcpu: u64) -> Ack
     }
 }
 
+/// The LPI that comes first by priority at a virtual processor, of those below a mask.
+pub fn best_at(all: &[RedistLists], vcpu: u64, mask: u8) -> Ack
+    ensures { result
+        ≡ plain.ack_of (redistributor_in all.now vcpu)
+        (plain.best (redistributor_in all.now vcpu) mask) }
+{
+    match all.get(vcpu as usize) {
+        Some(redist) => redist.best(mask),
+        None => Ack::None,
+    }
+}
+
+/// Acknowledges this LPI at a virtual processor, if it is pending and enabled.
+pub fn claim_at(all: &mut [RedistLists], vcpu: u64, intid: u32) -> Ack
+    ensures ack { result
+        ≡ plain.ack_of (redistributor_in all.old vcpu)
+        (plain.claimed (redistributor_in all.old vcpu) intid) }
+    ensures taken { all.new
+        ≡ slice_set all.old vcpu (plain.taken (redistributor_in all.old vcpu)
+        (plain.claimed (redistributor_in all.old vcpu) intid)) }
+{
+    let at = vcpu as usize;
+    if at < all.len() {
+        all[at].claim(intid)
+    } else {
+        Ack::None
+    }
+}
+
 /// Whether LPIs are on at a virtual processor.
 pub fn is_on_at(all: &[RedistLists], vcpu: u64) -> bool
     ensures { result ≡ (redistributor_in all.now vcpu).bases.on }

@@ -1,5 +1,5 @@
 //! Whether the plain machine can be saved, and the save.
-ghost use Rattle.std.specs.Prelude.{◌≡◌, ◌≤◌, ◌+◌, ◌<◌, ◌^◌, ◌++◌, OnOk, IfOk, length};
+ghost use Rattle.std.specs.Prelude.{◌≡◌, ◌≤◌, ◌++◌, OnOk, IfOk, length};
 ghost use Rattle.std.specs.List.{flat_map};
 ghost use Rattle.its_plain.specs.Answer as answers;
 ghost use Rattle.plain_machine.specs.Outcome.{IsTested};
@@ -30,7 +30,7 @@ impl State {
         let Ok(before) = self.memory.copy(alloc) else {
             return Err(AllocError);
         };
-        self.write_tables(&before);
+        self.write_tables(&before)?;
         Ok(Reply::Saved)
     }
 
@@ -73,12 +73,12 @@ impl State {
 
     // `before` is memory as it is.
     #[tactic(auto, using(crate::proofs::SavedTables::put_more), unfolding(its_plain::specs::Saved::words_of))]
-    fn write_tables(&mut self, before: &Memory)
+    fn write_tables(&mut self, before: &Memory) -> Result<(), AllocError>
         requires { before.now ≡ self.old.memory }
-        ensures { self.new ≡ record self.old { memory = saved.saved self.old } }
+        ensures { OnOk result (self.new ≡ record self.old { memory = saved.saved self.old }) }
     {
-        write_translators(&mut self.memory, before, &self.translators);
-        write_pending(&mut self.memory, &self.layout.shape, &self.redistributors);
+        write_translators(&mut self.memory, before, &self.translators)?;
+        write_pending(&mut self.memory, &self.layout.shape, &self.redistributors)
     }
 }
 
@@ -88,32 +88,36 @@ fn add_tables(
     translators: &[TranslatorLists],
     memory: &Memory,
 ) -> Result<(), AllocError>
+    requires few { length translators.now ≤ 256 }
     ensures { OnOk result (areas.new.items
-        ≡ areas.old.items ++ flat_map (regions.table_areas memory.now) translators.now) }
+        ≡ areas.old.items ++ regions.each_areas (regions.table_areas memory.now) 0
+        translators.now) }
 {
-    for translator in translators {
-        translator.add_tables(areas, memory)?;
+    for (its, translator) in translators.iter().enumerate() {
+        translator.add_tables(its as u8, areas, memory)?;
     }
     Ok(())
 }
 
 fn add_queues(areas: &mut Vec<Area>, translators: &[TranslatorLists]) -> Result<(), AllocError>
-    ensures { OnOk result
-        (areas.new.items ≡ areas.old.items ++ flat_map regions.queue_areas translators.now) }
+    requires few { length translators.now ≤ 256 }
+    ensures { OnOk result (areas.new.items
+        ≡ areas.old.items ++ regions.each_areas regions.queue_areas 0 translators.now) }
 {
-    for translator in translators {
-        areas::add_queue(areas, translator.regs())?;
+    for (its, translator) in translators.iter().enumerate() {
+        areas::add_queue(areas, its as u8, translator.regs())?;
     }
     Ok(())
 }
 
 // Each mapped device has its level-1 entry, or the first that has none.
 fn all_placed(translators: &[TranslatorLists], memory: &Memory) -> Result<(), SaveFault>
-    ensures { result ≡ regions.all_placed memory.now translators.now }
+    requires few { length translators.now ≤ 256 }
+    ensures { result ≡ regions.all_placed memory.now 0 translators.now }
 {
-    for translator in translators {
+    for (its, translator) in translators.iter().enumerate() {
         if let Some(dev) = translator.first_unplaced(memory) {
-            return Err(SaveFault::NoPlace(dev));
+            return Err(SaveFault::NoPlace(its as u8, dev));
         }
     }
     Ok(())
@@ -156,24 +160,34 @@ fn add_configurations(
 // ---- what is written
 
 #[tactic(auto, using(crate::proofs::SavedTables::put_front))]
-fn write_translators(memory: &mut Memory, before: &Memory, translators: &[TranslatorLists])
-    ensures { memory.new
+fn write_translators(
+    memory: &mut Memory,
+    before: &Memory,
+    translators: &[TranslatorLists],
+) -> Result<(), AllocError>
+    ensures { OnOk result (memory.new
         ≡ saved.put_tables memory.old
-        (flat_map (saved.translator_words before.now) translators.now) }
+        (flat_map (saved.translator_words before.now) translators.now)) }
 {
     for translator in translators {
-        translator.write_tables(memory, before);
+        translator.write_tables(memory, before)?;
     }
+    Ok(())
 }
 
 #[tactic(auto, using(crate::proofs::SavedTables::put_more))]
-fn write_pending(memory: &mut Memory, shape: &Shape, redists: &[RedistLists])
+fn write_pending(
+    memory: &mut Memory,
+    shape: &Shape,
+    redists: &[RedistLists],
+) -> Result<(), AllocError>
     requires least { 14 ≤ shape.now.lpi_bits }
     requires most { shape.now.lpi_bits ≤ 20 }
-    ensures { memory.new
-        ≡ saved.put_tables memory.old (flat_map (saved.pending_words shape.now) redists.now) }
+    ensures { OnOk result (memory.new
+        ≡ saved.put_tables memory.old (flat_map (saved.pending_words shape.now) redists.now)) }
 {
     for redist in redists {
-        redist.write_pending(memory, shape);
+        redist.write_pending(memory, shape)?;
     }
+    Ok(())
 }

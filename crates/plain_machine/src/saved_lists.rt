@@ -19,22 +19,26 @@ use its_types::{DeviceId, Vcpu};
 use std::alloc::AllocError;
 
 /// Adds the areas of the interrupt translation tables.
-pub fn add_itts(areas: &mut Vec<Area>, devices: &[(u32, MappedDevice)]) -> Result<(), AllocError>
+pub fn add_itts(
+    areas: &mut Vec<Area>,
+    its: u8,
+    devices: &[(u32, MappedDevice)],
+) -> Result<(), AllocError>
     ensures { OnOk result (areas.new.items
-        ≡ areas.old.items ++ flat_map (λ d. regions.itt_area d ∷ []) devices.now) }
+        ≡ areas.old.items ++ flat_map (λ d. regions.itt_area its d ∷ []) devices.now) }
 {
     for entry in devices {
-        areas.push(itt_area(entry))?;
+        areas.push(itt_area(its, entry))?;
     }
     Ok(())
 }
 
-fn itt_area(entry: &(u32, MappedDevice)) -> Area
-    ensures { result ≡ regions.itt_area entry.now }
+fn itt_area(its: u8, entry: &(u32, MappedDevice)) -> Area
+    ensures { result ≡ regions.itt_area its entry.now }
 {
     let device = entry.1.get();
     Area {
-        region: Region::Itt(DeviceId(entry.0)),
+        region: Region::Itt(its, DeviceId(entry.0)),
         base: device.itt.0,
         size: 8 << device.bits,
         is_written: true,
@@ -66,20 +70,25 @@ fn has_no_place(regs: &Regs, memory: &Memory, dev: u32) -> bool
 }
 
 /// Writes the interrupt translation tables.
-pub fn write_itts(memory: &mut Memory, devices: &[(u32, MappedDevice)], maps: &MapLists)
-    ensures { memory.new
+pub fn write_itts(
+    memory: &mut Memory,
+    devices: &[(u32, MappedDevice)],
+    maps: &MapLists,
+) -> Result<(), AllocError>
+    ensures { OnOk result (memory.new
         ≡ saved.put_tables memory.old (flat_map
         (λ d. record {
           base = d.1.itt.0;
           count = 2 ^ d.1.bits;
           word = saved.event_word maps.now d.0;
         } ∷ [])
-        devices.now) }
+        devices.now)) }
 {
     for entry in devices {
         let device = entry.1.get();
-        write_itt(memory, device.itt, device.bits, DeviceId(entry.0), maps);
+        write_itt(memory, device.itt, device.bits, DeviceId(entry.0), maps)?;
     }
+    Ok(())
 }
 
 /// The next device of a list.

@@ -1,6 +1,6 @@
 //! The words that a save writes (KVM document arm-vgic-its, "ITS Table ABI REV0"), each searched
 //! for in the plain lists.
-ghost use Rattle.std.specs.Prelude.{◌≡◌, ◌≤◌, ◌+◌, ◌-◌, ◌*◌, ◌/◌, ◌<◌, ◌^◌, ℕ};
+ghost use Rattle.std.specs.Prelude.{◌≡◌, ◌≤◌, ◌+◌, ◌-◌, ◌*◌, ◌/◌, ◌<◌, ◌^◌, ℕ, OnOk};
 ghost use Rattle.baser_place.specs.Places as places;
 ghost use Rattle.its_types.specs.Lpis as lpis;
 ghost use Rattle.its_plain.specs.Saved as spec;
@@ -9,115 +9,163 @@ use crate::maps::MapLists;
 use crate::redist::RedistLists;
 use baser_place::{Level1, level1, level1_entries};
 use gits_regs::Regs;
-use guest_windows::Memory;
+use guest_windows::{Memory, WriteError};
 use its_types::{Addr, DeviceId, le_u64};
+use std::alloc::AllocError;
 
 // Writes eight bytes, where one window has them.
-fn put_word(memory: &mut Memory, base: Addr, at: u32, word: u64)
+fn put_word(memory: &mut Memory, base: Addr, at: u32, word: u64) -> Result<(), AllocError>
     requires { base.0 < 2 ^ 53 }
-    ensures { memory.new ≡ spec.put_word memory.old (places.entry_address base.0 at) word }
+    ensures { OnOk result
+        (memory.new ≡ spec.put_word memory.old (places.entry_address base.0 at) word) }
 {
-    let _ = memory.write_u64(Addr(base.0 + 8 * u64::from(at)), word);
+    match memory.write_u64(Addr(base.0 + 8 * u64::from(at)), word) {
+        Ok(()) | Err(WriteError::Outside(_)) => Ok(()),
+        Err(WriteError::NoMemory) => Err(AllocError),
+    }
 }
 
 /// Writes a device table.
 #[tactic(auto, unfolding(its_plain::specs::Saved::device_words))]
-pub fn write_devices(memory: &mut Memory, before: &Memory, regs: &Regs, maps: &MapLists)
-    ensures { memory.new
+pub fn write_devices(
+    memory: &mut Memory,
+    before: &Memory,
+    regs: &Regs,
+    maps: &MapLists,
+) -> Result<(), AllocError>
+    ensures { OnOk result (memory.new
         ≡ spec.put_tables memory.old
-        (spec.device_words (record { regs = regs.now; maps = maps.now }) before.now) }
+        (spec.device_words (record { regs = regs.now; maps = maps.now }) before.now)) }
 {
     if !regs.table_valid(0) {
-        return;
+        return Ok(());
     }
     if regs.indirect() {
-        write_pages(memory, before, regs, maps);
-    } else {
-        let count = 8192 * regs.pages(0).min(level1_entries(regs));
-        write_places(memory, regs.table_base(0), 0, count, maps);
+        return write_pages(memory, before, regs, maps);
     }
+    let count = 8192 * regs.pages(0).min(level1_entries(regs));
+    write_places(memory, regs.table_base(0), 0, count, maps)
 }
 
 // Writes the pages of a device table of two levels.
 #[tactic(auto, using(crate::proofs::SavedTables::put_more))]
-fn write_pages(memory: &mut Memory, before: &Memory, regs: &Regs, maps: &MapLists)
-    ensures { memory.new
+fn write_pages(
+    memory: &mut Memory,
+    before: &Memory,
+    regs: &Regs,
+    maps: &MapLists,
+) -> Result<(), AllocError>
+    ensures { OnOk result (memory.new
         ≡ spec.put_tables memory.old
         (spec.pages_words (record { regs = regs.now; maps = maps.now }) before.now
-        (places.level1_entries regs.now.dev_bits)) }
+        (places.level1_entries regs.now.dev_bits))) }
 {
     for k in 0..level1_entries(regs) {
-        write_page(memory, k, level1(regs, before, k), 8192, maps);
+        write_page(memory, k, level1(regs, before, k), 8192, maps)?;
     }
+    Ok(())
 }
 
 // Writes the page of a level-1 entry, of so many entries.
-fn write_page(memory: &mut Memory, k: u32, entry: Level1, count: u32, maps: &MapLists)
+fn write_page(
+    memory: &mut Memory,
+    k: u32,
+    entry: Level1,
+    count: u32,
+    maps: &MapLists,
+) -> Result<(), AllocError>
     requires early { k < 128 }
     requires few { count ≤ 8192 }
     requires low { places.HasLowPage entry }
-    ensures { memory.new
-        ≡ spec.put_tables memory.old (spec.words_of_page count maps.now k (places.page_of entry)) }
+    ensures { OnOk result (memory.new
+        ≡ spec.put_tables memory.old
+        (spec.words_of_page count maps.now k (places.page_of entry))) }
 {
     match entry {
         Level1::Page(base) => write_places(memory, base, 8192 * k, count, maps),
-        Level1::Empty | Level1::Outside(_) => {}
+        Level1::Empty | Level1::Outside(_) => Ok(()),
     }
 }
 
 // Writes the entries of so many devices, from one on.
-fn write_places(memory: &mut Memory, base: Addr, first: u32, count: u32, maps: &MapLists)
+fn write_places(
+    memory: &mut Memory,
+    base: Addr,
+    first: u32,
+    count: u32,
+    maps: &MapLists,
+) -> Result<(), AllocError>
     requires low { base.0 < 2 ^ 53 }
     requires few { first + count < 2 ^ 32 }
-    ensures { memory.new
-        ≡ spec.put_words memory.old base.0 (λ i. spec.device_word maps.now (first + i)) count }
+    ensures { OnOk result (memory.new
+        ≡ spec.put_words memory.old base.0 (λ i. spec.device_word maps.now (first + i)) count) }
 {
     for at in 0..count {
-        put_word(memory, base, at, maps.device_word(DeviceId(first + at)));
+        put_word(memory, base, at, maps.device_word(DeviceId(first + at)))?;
     }
+    Ok(())
 }
 
 /// Writes a collection table.
-pub fn write_collections(memory: &mut Memory, regs: &Regs, maps: &MapLists)
-    ensures { memory.new
+pub fn write_collections(
+    memory: &mut Memory,
+    regs: &Regs,
+    maps: &MapLists,
+) -> Result<(), AllocError>
+    ensures { OnOk result (memory.new
         ≡ spec.put_tables memory.old
-        (spec.collection_words (record { regs = regs.now; maps = maps.now })) }
+        (spec.collection_words (record { regs = regs.now; maps = maps.now }))) }
 {
     if !regs.table_valid(1) {
-        return;
+        return Ok(());
     }
     let base = regs.table_base(1);
     for at in 0..8192 * regs.pages(1).min(8) {
-        put_word(memory, base, at, maps.collection_word(at));
+        put_word(memory, base, at, maps.collection_word(at))?;
     }
+    Ok(())
 }
 
 /// Writes the interrupt translation table of a device.
-pub fn write_itt(memory: &mut Memory, base: Addr, bits: u8, dev: DeviceId, maps: &MapLists)
+pub fn write_itt(
+    memory: &mut Memory,
+    base: Addr,
+    bits: u8,
+    dev: DeviceId,
+    maps: &MapLists,
+) -> Result<(), AllocError>
     requires low { base.0 < 2 ^ 53 }
     requires few { bits ≤ 16 }
-    ensures { memory.new ≡ spec.put_words memory.old base.0 (spec.event_word maps.now dev.0)
-        (2 ^ bits) }
+    ensures { OnOk result
+        (memory.new ≡ spec.put_words memory.old base.0 (spec.event_word maps.now dev.0)
+        (2 ^ bits)) }
 {
     for ev in 0..1u32 << bits {
-        put_word(memory, base, ev, maps.event_word(dev, ev));
+        put_word(memory, base, ev, maps.event_word(dev, ev))?;
     }
+    Ok(())
 }
 
 /// Writes the pending table of a redistributor, which has so many bytes, but for the 1024 that
 /// belong to no LPI.
-pub fn write_pending(memory: &mut Memory, base: Addr, bytes: u64, redist: &RedistLists)
+pub fn write_pending(
+    memory: &mut Memory,
+    base: Addr,
+    bytes: u64,
+    redist: &RedistLists,
+) -> Result<(), AllocError>
     requires low { base.0 < 2 ^ 52 }
     requires least { 1024 ≤ bytes }
     requires few { bytes ≤ 131072 }
-    ensures { memory.new
+    ensures { OnOk result (memory.new
         ≡ spec.put_words memory.old (base.0 + 1024)
-        (λ i. spec.pending_word redist.now.pending (1024 + 8 * i)) ((bytes - 1024) / 8) }
+        (λ i. spec.pending_word redist.now.pending (1024 + 8 * i)) ((bytes - 1024) / 8)) }
 {
     let first = Addr(base.0 + 1024);
     for at in 0..((bytes - 1024) / 8) as u32 {
-        put_word(memory, first, at, pending_word(redist, 1024 + 8 * at));
+        put_word(memory, first, at, pending_word(redist, 1024 + 8 * at))?;
     }
+    Ok(())
 }
 
 // Eight bytes of a pending table.

@@ -10,7 +10,7 @@ use std::alloc::{AllocError, Global};
 use std::marker::Model;
 
 /// A state of the plain machine, as a value: translators and redistributors in plain lists, and
-/// guest memory.
+/// guest memory. It has no second memory.
 #[derive(Drop)]
 pub struct State {
     pub(crate) layout: Layout,
@@ -20,6 +20,7 @@ pub struct State {
 }
 
 impl Model for State {
+    ghost use Rattle.std.specs.Prelude.{◌≤◌, length, None};
     ghost use Rattle.its_plain.specs.Plain.{Plain, plain_code};
 
     ghost Value = { Plain };
@@ -31,9 +32,9 @@ impl Model for State {
       translators = s.translators.items;
       redistributors = s.redistributors.items;
       memory = s.memory;
+      track = None;
     } };
 
-    ghost use Rattle.std.specs.Prelude.{◌≤◌, length};
     ghost use Rattle.its_plain.specs.Sound.{IsShape};
 
     ghost invariant = { λ s. IsShape s.layout.shape × (length s.redistributors.items ≤ 16)
@@ -46,21 +47,6 @@ impl State {
     ghost use Rattle.its_plain.specs.Translation as translation;
     ghost use Rattle.its_plain.specs.Answer as answers;
     ghost use Rattle.its_plain.specs.Commands as commands;
-
-    /// How many virtual processors there are.
-    pub fn vcpus(&self) -> usize
-        ensures { result ≡ length self.now.redistributors }
-    {
-        self.redistributors.len()
-    }
-
-    /// The LPIs that are pending at a virtual processor, in rising order.
-    pub fn pending(&self, vcpu: usize) -> &[u32]
-        requires { vcpu < length self.now.redistributors }
-        ensures { result.now ≡ plain.pending_of self.now vcpu }
-    {
-        self.redistributors[vcpu].pending()
-    }
 
     /// Where a device's message goes.
     #[tactic(auto, unfolding(its_plain::specs::Translation::translated, its_plain::specs::Translation::located))]

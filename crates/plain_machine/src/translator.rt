@@ -13,10 +13,10 @@ ghost use Rattle.plain_machine.specs.Slots.{maps_set, regs_set, translator_in};
 
 use crate::maps::MapLists;
 use crate::{areas, saved_tables};
-use gits_regs::{RegChange, Regs};
+use gits_regs::{RegChange, Regs, offsets};
 use guest_windows::Memory;
 use its_plain::{Area, Cause};
-use its_types::{Device, DeviceId, Event, EventId, Icid, Target, Vcpu};
+use its_types::{Device, DeviceId, Event, EventId, Icid, Shape, Target, Vcpu};
 use std::alloc::{AllocError, Global};
 use std::marker::Model;
 
@@ -84,15 +84,16 @@ impl TranslatorLists {
     #[tactic(auto, unfolding(its_plain::specs::Regions::table_areas))]
     pub(crate) fn add_tables(
         &self,
+        its: u8,
         areas: &mut Vec<Area>,
         memory: &Memory,
     ) -> Result<(), AllocError>
         ensures { OnOk result
-            (areas.new.items ≡ areas.old.items ++ regions.table_areas memory.now self.now) }
+            (areas.new.items ≡ areas.old.items ++ regions.table_areas memory.now its self.now) }
     {
-        areas::add_devices(areas, &self.regs, memory)?;
-        areas::add_collections(areas, &self.regs)?;
-        self.maps.add_itts(areas)
+        areas::add_devices(areas, its, &self.regs, memory)?;
+        areas::add_collections(areas, its, &self.regs)?;
+        self.maps.add_itts(its, areas)
     }
 
     /// The first device whose level-1 entry isn't valid.
@@ -105,21 +106,30 @@ impl TranslatorLists {
 
     /// Writes the tables. `before` is memory as it was before any table was written.
     #[tactic(auto, using(crate::proofs::SavedTables::put_more), unfolding(its_plain::specs::Saved::translator_words))]
-    pub(crate) fn write_tables(&self, memory: &mut Memory, before: &Memory)
-        ensures { memory.new ≡ saved.put_tables memory.old
-            (saved.translator_words before.now self.now) }
+    pub(crate) fn write_tables(
+        &self,
+        memory: &mut Memory,
+        before: &Memory,
+    ) -> Result<(), AllocError>
+        ensures { OnOk result (memory.new ≡ saved.put_tables memory.old
+            (saved.translator_words before.now self.now)) }
     {
-        saved_tables::write_devices(memory, before, &self.regs, &self.maps);
-        saved_tables::write_collections(memory, &self.regs, &self.maps);
-        self.maps.write_itts(memory);
+        saved_tables::write_devices(memory, before, &self.regs, &self.maps)?;
+        saved_tables::write_collections(memory, &self.regs, &self.maps)?;
+        self.maps.write_itts(memory)
     }
 
-    fn write(&mut self, off: u32, size: u8, value: u64)
+    fn write(&mut self, shape: &Shape, off: u32, size: u8, value: u64)
         ensures { self.new
-            ≡ answers.translator_written self.old
+            ≡ answers.translator_written shape.now self.old
             (registers.write_reg self.old.regs off size value) }
     {
-        match self.regs.write(off, size, value) {
+        let before = self.regs;
+        let change = self.regs.write(off, size, value);
+        if shape.linux && has_same_tables(&before, &self.regs) {
+            return;
+        }
+        match change {
             RegChange::DevicesEmptied => self.maps.empty_devices(),
             RegChange::CollectionsEmptied => self.maps.empty_collections(),
             _ => {}
@@ -178,15 +188,24 @@ impl TranslatorLists {
 
 // ---- one of several translators, where it is there
 
+// Whether both tables are the same.
+#[tactic(auto, unfolding(gits_regs::specs::Registers::read_reg, gits_regs::specs::Registers::read_64))]
+fn has_same_tables(one: &Regs, other: &Regs) -> bool
+    ensures { result ≡ answers.has_same_tables one.now other.now }
+{
+    one.read(offsets::BASER0, 8) == other.read(offsets::BASER0, 8)
+        && one.read(offsets::BASER1, 8) == other.read(offsets::BASER1, 8)
+}
+
 /// Writes `size` bytes at an offset of a translator's control frame.
-pub fn write(all: &mut [TranslatorLists], its: u8, off: u32, size: u8, value: u64)
+pub fn write(all: &mut [TranslatorLists], shape: &Shape, its: u8, off: u32, size: u8, value: u64)
     ensures { all.new
-        ≡ slice_set all.old its (answers.translator_written (translator_in all.old its)
+        ≡ slice_set all.old its (answers.translator_written shape.now (translator_in all.old its)
         (registers.write_reg (translator_in all.old its).regs off size value)) }
 {
     let at = usize::from(its);
     if at < all.len() {
-        all[at].write(off, size, value);
+        all[at].write(shape, off, size, value);
     }
 }
 

@@ -30,8 +30,8 @@ all_slots maps shards redists mem none first pushed looped all a b p l e =
     (b ∙ ap (λ (x : List (Option Content)). x ++ maps) a))) d ++ redists)
     ∙ (append_assoc (maps ++ mem ∷ []) shards redists ∙ append_assoc maps (mem ∷ []) (shards ++ redists)))
 
-pub returns : goal.returns
-returns c =
+pub returns-clause-home : goal.returns-clause-home
+returns-clause-home c =
     let short = c.loop-translator-test.false in
     let high = c.loop-translator.auto._translator-index-end in
     let count : c.loop-translator._translator-index ≡ length c.args.start.now.translators = omega (arith, ap length c.translators-translator-items.ensures) in
@@ -40,6 +40,6 @@ returns c =
     c.new-slots.result.items c.add_maps.new.slots.items c.push.new.self.items c.loop-translator.slots.items c.add_redists.new.slots.items
     c.new-slots.ensures.items
     (c.in_ok-add_maps.ensures ∙ ap (λ (l : List Translator). c.new-slots.result.items ++ map (λ t. Some (Maps t)) l) c.translators.ensures)
-    (c.in_ok-push.ensures.items ∙ ap (λ (m : List Window). c.add_maps.new.slots.items ++ Some (Mem m) ∷ []) (c.in_ok-copy.ensures ∙ c.memory.ensures))
+    (c.in_ok-push.ensures.items ∙ ap (λ (m : List Window). c.add_maps.new.slots.items ++ Some (Mem m) ∷ []) (c.in_ok-copy.ensures ∙ c.memory.ensures.memory))
     (c.loop-translator.invariant ∙ ap (λ (k : ℕ). c.push.new.self.items ++ replicate (k * c.args.shards) X) count)
     (c.in_ok-add_redists.ensures ∙ ap (λ (l : List Redistributor). c.loop-translator.slots.items ++ map (λ r. Some (Redist r)) l) c.redistributors.ensures)

@@ -1,8 +1,7 @@
 use Rattle.std.proofs.Common.{◌≡◌, ◌++◌, drop}
-use Rattle.std.specs.List.{flat_map}
 use Rattle.its_plain.specs.Regions as spec
 use Rattle.plain_machine.proofs.save.add_queues.Given as goal
 
-abbrev pub invariant-loop-translator : goal.invariant-loop-translator
-invariant-loop-translator l = l.areas.items ++ flat_map spec.queue_areas (drop l.translator-index l.translators) ≡ l.initial.areas.items
-    ++ flat_map spec.queue_areas l.translators
+abbrev pub invariant-loop-its : goal.invariant-loop-its
+invariant-loop-its l = l.areas.items ++ spec.each_areas spec.queue_areas l.its (drop l.its l.translators) ≡ l.initial.areas.items
+    ++ spec.each_areas spec.queue_areas 0 l.translators

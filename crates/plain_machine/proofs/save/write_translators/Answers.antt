@@ -13,7 +13,7 @@ loop-translator-preserved c =
     ∙ ap (λ x. x ∷ drop (suc c.loop-translator.translator-index) c.args.translators.now) (sym c.translator-item.is)
     ∙ ap (λ n. c.translator-item.result ∷ drop n c.args.translators.now) (sym (add-one c.loop-translator.translator-index))
     in
-    rw c.write_tables.ensures
+    rw c.in_ok-write_tables.ensures
     (put_front c.loop-translator.memory (translator_words c.args.before.now) c.translator-item.result
     (drop (c.loop-translator.translator-index + 1) c.args.translators.now)
     ∙ ap (λ ts. put_tables c.loop-translator.memory (flat_map (translator_words c.args.before.now) ts)) (sym split) ∙ c.loop-translator.invariant)
