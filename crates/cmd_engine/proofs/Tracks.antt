@@ -1,5 +1,5 @@
 -- A step changes no second memory, and none of its pages.
-use Rattle.std.proofs.Common.{◌≡◌, ℕ, Bool, true, false, eqb, cond, Option, Some, None, Result, Ok, Err, IfOk, List, [], refl}
+use Rattle.std.proofs.Common.{◌≡◌, ℕ, true, false, eqb, cond, Option, Some, None, Result, Ok, Err, IfOk, List, [], refl}
 use Rattle.dirty_log.specs.declared.tracked.Tracked.{Tracked}
 use Rattle.its_command.specs.Commands.{decoded}
 use Rattle.its_plain.specs.Answer.{left, step_left, met_left, command_left, is_idle, next_bytes}

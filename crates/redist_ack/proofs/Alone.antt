@@ -1,6 +1,5 @@
 -- A redistributor alone is enough.
 use Rattle.std.proofs.Common.{◌≡◌, ◌<◌, ℕ, List, [], ◌∷◌, Option, Some, None, refl}
-use Rattle.its_types.specs.declared.ids.Intid.{Intid}
 use Rattle.its_types.specs.declared.ids.Vcpu.{Vcpu}
 use Rattle.its_types.specs.declared.machine.Part.TheVariants as part
 use Rattle.its_types.specs.declared.machine.Word.{Word}

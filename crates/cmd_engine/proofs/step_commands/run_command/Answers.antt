@@ -1,4 +1,4 @@
-use Rattle.std.proofs.Common.{ℕ, ap, sym, ◌∙◌, subst}
+use Rattle.std.proofs.Common.{ℕ, sym, ◌∙◌, subst}
 use Rattle.its_plain.specs.declared.call.CmdReply.{CmdReply}
 use Rattle.its_plain.specs.declared.call.Reply.TheVariants as reply
 use Rattle.its_plain.specs.declared.call.StepReply.{StepReply}
@@ -7,7 +7,7 @@ use Rattle.its_steps.specs.MayCall.{MayCall}
 use Rattle.its_turns.specs.Machines.{setup, view}
 use Rattle.its_turns.specs.Told.{Commits}
 use Rattle.its_turns.proofs.Telling.{looks_again}
-use Rattle.cmd_exec.specs.Executed.{as_step, planned_reply}
+use Rattle.cmd_exec.specs.Executed.{planned_reply}
 use Rattle.cmd_engine.specs.StepShards.{LeavesBy, MayMark}
 use Rattle.cmd_engine.proofs.InHand.{if_err, wants, sound_in, may_commit, held_then, whole_then, set_then, ends_so, made_step}
 use Rattle.cmd_engine.proofs.Marks.{step_commit}

@@ -1,4 +1,3 @@
-use Rattle.std.proofs.Common.{◌≡◌, ◌<◌, ℕ, List, ap, ◌∙◌, subst}
 use Rattle.owned_parts.specs.Owned.{redistributor_of}
 use Rattle.its_turns.specs.Machines.{setup, view}
 use Rattle.device_port.proofs.Handed.{three_by_number, number_inside}

@@ -1,4 +1,4 @@
-use Rattle.std.proofs.Common.{arith, subst, refl, ◌<◌, ℕ}
+use Rattle.std.proofs.Common.{arith, refl}
 use Rattle.its_plain.specs.declared.call.Cause.TheVariants.{LpisOff}
 use Rattle.its_plain.specs.declared.call.Reply.TheVariants as reply
 use Rattle.its_plain.specs.declared.call.Signal.TheVariants.{Dropped}

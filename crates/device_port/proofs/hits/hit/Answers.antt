@@ -1,4 +1,4 @@
-use Rattle.std.proofs.Common.{◌≡◌, ◌<◌, ℕ, Bool, true, List, [], refl, ap, sym, ◌∙◌, subst}
+use Rattle.std.proofs.Common.{◌≡◌, ◌<◌, ℕ, Bool, true, [], refl, ap, sym, ◌∙◌, subst}
 use Rattle.its_types.specs.Ranges.{is_lpi}
 use Rattle.its_types.specs.declared.ids.Target.{Target}
 use Rattle.owned_parts.specs.Owned.{redistributor_of}

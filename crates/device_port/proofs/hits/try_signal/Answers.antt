@@ -3,7 +3,7 @@ use Rattle.its_types.specs.declared.machine.Part.TheVariants as part
 use Rattle.owned_parts.specs.Owned.{redistributor_of}
 use Rattle.its_steps.specs.Contents.{Shard}
 use Rattle.its_steps.specs.Parts.{Setup}
-use Rattle.its_steps.specs.World.{View, took}
+use Rattle.its_steps.specs.World.{View}
 use Rattle.its_turns.specs.Machines.{setup, view}
 use Rattle.its_turns.specs.Told.{HasStood}
 use Rattle.device_port.proofs.Cached.{busy_shard, missed_now, busy_redist, hit_now}

@@ -1,4 +1,4 @@
-use Rattle.std.proofs.Common.{ℕ, List, length, true, false, sym, ap, ◌∙◌}
+use Rattle.std.proofs.Common.{ℕ, List, length, sym, ap, ◌∙◌}
 use Rattle.guest_windows.specs.Windows.{inside}
 use Rattle.guest_port.proofs.Alone.{ok_is, outside_is}
 use Rattle.guest_port.proofs.answers.poke_answer.Goals as goal

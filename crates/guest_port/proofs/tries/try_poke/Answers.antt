@@ -1,4 +1,4 @@
-use Rattle.std.proofs.Common.{◌≡◌, ◌∷◌, refl, ap, ◌∙◌, [], None}
+use Rattle.std.proofs.Common.{◌≡◌, refl, ap, ◌∙◌, [], None}
 use Rattle.std.specs.Prelude.{unwrap_or}
 use Rattle.guest_windows.specs.Windows.{write_at}
 use Rattle.its_types.specs.declared.machine.Part.TheVariants as part
