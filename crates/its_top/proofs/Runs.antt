@@ -1,7 +1,8 @@
 -- What came of a leg.
-use Rattle.std.proofs.Common.{◌≡◌, ℕ, zero, suc, ◌+◌, get_or, take, ◌<◌, ◌≤◌, Bool, true, false, List, [], ◌∷◌, ◌++◌, length, map, Option, None}
-use Rattle.std.proofs.Common.{Err, refl, sym, ap, subst, ◌∙◌, arith}
-use Rattle.std.specs.Prelude.{◌&&◌, slice_index_or}
+use Rattle.std.proofs.Common.{◌≡◌, ℕ, zero, suc, ◌+◌, get_or, take, ◌<◌, ◌≤◌, Bool, true, false, List, [], ◌∷◌, ◌++◌, length, map, Option, Some, None}
+use Rattle.std.proofs.Common.{Err, refl, sym, ap, subst, ◌∙◌, arith, append-nil}
+use Rattle.std.specs.Prelude.{◌&&◌, slice_index_or, codes}
+use Rattle.std.specs.Fmt.{decimal}
 use Rattle.std.specs.List.{list_all, AllByRecursion}
 use Rattle.std.specs.String.{string_bytes}
 use Rattle.its_plain.specs.Plain.{Plain, Redistributor, no_redistributor}
@@ -14,7 +15,9 @@ use Rattle.event_script.specs.declared.script.Script.{Script}
 use Rattle.its_history.specs.Histories.{seat_of, history_lines}
 use Rattle.its_history.specs.Merged.{open_leg}
 use Rattle.its_history.specs.Report as report
+use Rattle.its_history.specs.Report.{leg_text, end_text, entry_lines, vcpu_lines_from}
 use Rattle.its_history.specs.declared.trace.End.{End}
+use Rattle.its_history.specs.declared.trace.End.TheVariants.{Migrated}
 use Rattle.its_history.specs.declared.trace.EntryLine.{EntryLine}
 use Rattle.its_history.specs.Reports.{pending_lists, thread_counts}
 use Rattle.its_top.specs.Played.{IsPlayed}
@@ -27,6 +30,23 @@ use Rattle.its_top.specs.Answered.{IsLegSpent, IsLegWhole, IsLegRefused, LegStop
 use Rattle.its_top.specs.declared.legs.Ending.{Ending}
 use Rattle.its_top.specs.declared.status.Status.{Status}
 use Rattle.its_top.specs.declared.status.Status.TheVariants as status
+
+-- ---- a leg's text, but for its last line
+
+pub text_migrated : (number : ℕ) (lines : List EntryLine) (pending : List (List ℕ))
+    → leg_text number (record { entries = lines; pending = pending; end = None }) ++ codes "migrated\n"
+    ≡ leg_text number (record { entries = lines; pending = pending; end = Some Migrated })
+unfolding leg_text end_text
+text_migrated number lines pending =
+    ap (λ (text : List ℕ). text ++ codes "migrated\n")
+    (append-nil (codes "leg " ++ decimal number ++ codes "\n" ++ entry_lines lines ++ vcpu_lines_from 0 pending))
+
+-- the text was added with that line
+pub added_migrated : (number : ℕ) (lines : List EntryLine) (pending : List (List ℕ)) (text old new : List ℕ)
+    → text ≡ report.leg_text number (record { entries = lines; pending = pending; end = None }) → new ≡ old ++ (text ++ codes "migrated\n")
+    → new ≡ old ++ report.leg_text number (record { entries = lines; pending = pending; end = Some Migrated })
+added_migrated number lines pending text old new is added =
+    added ∙ ap (λ (t : List ℕ). old ++ t) (ap (λ (t : List ℕ). t ++ codes "migrated\n") is ∙ text_migrated number lines pending)
 
 -- ---- a leg that was played from its start
 

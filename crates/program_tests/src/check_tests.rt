@@ -1,6 +1,6 @@
 //! Reports that are checked, as they were printed and spoiled, and summaries.
-use its_top::Status;
 use crate::runs::{MACHINE, MAPPED, answer, script};
+use its_top::Status;
 use std::alloc::{AllocError, Global};
 use std::str;
 use std::sync::Wait;

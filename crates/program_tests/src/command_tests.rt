@@ -1,6 +1,6 @@
 //! Registers and commands, by short runs.
-use its_top::Status;
 use crate::runs::{MACHINE, MAPPED, tells};
+use its_top::Status;
 
 #[test]
 fn registers_answer(rt: HostRuntime) {
@@ -173,6 +173,90 @@ ran inv
 lpi 8200 0xa0
 ran clear
 vcpu 0 pending 8200
+done
+",
+        ),
+        // What is mapped goes with a write of a base register, whatever is written.
+        (
+            "",
+            "write 0x0 4 0x0
+write 0x100 8 0x8107000080000200
+write 0x0 4 0x1
+signal 16 3
+end",
+            "dropped no-device
+done
+",
+        ),
+        // For a Linux guest it stays where the register's own value is written, whole or by halves.
+        (
+            "linux",
+            "write 0x0 4 0x0
+write 0x100 8 0x8107000080000200
+write 0x108 8 0x8407000080010200
+write 0x104 4 0x81070000
+write 0x0 4 0x1
+signal 16 3
+end",
+            "delivered 2 8200
+vcpu 2 pending 8200
+done
+",
+        ),
+        (
+            "linux",
+            "write 0x0 4 0x0
+write 0x108 8 0x8407000080110200
+write 0x108 8 0x8407000080010200
+write 0x0 4 0x1
+signal 16 3
+write 0x0 4 0x0
+write 0x100 8 0x8107000080100200
+write 0x0 4 0x1
+signal 16 3
+end",
+            "dropped no-collection
+dropped no-device
+done
+",
+        ),
+        // The first by priority, and one that is named.
+        (
+            "bytes 0x80030009 4140",
+            "best 2 255
+run mapti 0x10 4 8201 1
+run mapti 0x10 5 8202 1
+signal 16 3
+signal 16 4
+signal 16 5
+best 2 255
+best 2 0x40
+show 2
+claim 2 8202
+claim 2 8201
+claim 2 8201
+best 2 0xa0
+best 2 0xa1
+claim 2 0xffffffff
+claim 2 8200
+end",
+            "none
+ran mapti
+ran mapti
+delivered 2 8200
+delivered 2 8201
+delivered 2 8202
+lpi 8201 0x40
+none
+lpi 8200 0xa0
+none
+lpi 8201 0x40
+none
+none
+lpi 8200 0xa0
+none
+lpi 8200 0xa0
+vcpu 2 pending 8202
 done
 ",
         ),

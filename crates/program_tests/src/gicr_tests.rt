@@ -1,6 +1,6 @@
 //! Redistributors whose LPI registers the guest programs, by short runs.
-use its_top::Status;
 use crate::runs::{MAPPED, tells};
+use its_top::Status;
 
 /// A machine with four processors, whose LPIs are off.
 const PROGRAMMED: &str = "vcpus 4
@@ -87,6 +87,38 @@ end",
             "value 0x0
 value 0x8003000f
 value 0x1
+done
+",
+        ),
+        // For a Linux guest LPIs can be turned off.
+        (
+            "linux",
+            "rread 2 0x0 4
+rwrite 2 0x70 8 0x8003000f
+rwrite 2 0x78 8 0x4000000080060000
+rwrite 2 0x0 4 0x1
+rread 2 0x0 4
+signal 16 3
+rwrite 2 0x0 4 0x0
+take 2
+signal 16 3
+best 2 255
+rwrite 2 0x70 8 0x80030000
+rread 2 0x70 8
+rread 2 0x78 8
+rwrite 2 0x0 4 0x1
+signal 16 3
+end",
+            "value 0x2
+value 0x3
+delivered 2 8200
+none
+dropped lpis-off
+none
+value 0x80030780
+value 0x80060780
+delivered 2 8200
+vcpu 2 pending 8200
 done
 ",
         ),

@@ -1,8 +1,7 @@
 //! Scripts, machines and tables that are refused, and streams that fail.
-use its_top::its;
-use its_top::Status;
 use crate::runs::{MACHINE, MAPPED, answer, script, tells, words};
 use its_io::{MemSink, MemSource, SureSink, SureSource};
+use its_top::{Status, its, refuse};
 use its_types::Open;
 use std::alloc::Global;
 use std::sync::Wait;
@@ -98,6 +97,10 @@ fn machines_are_refused(rt: HostRuntime) {
         ),
         (
             "window 0 0x20000\nwindow 0x1ffff 1\nconfig 0\npending 0 0x10000",
+            "refused machine windows\n",
+        ),
+        (
+            "window 0 0x2000000\nwindow 0x10000000000 0x2000001\nconfig 0\npending 0 0x10000",
             "refused machine windows\n",
         ),
         (
@@ -252,5 +255,8 @@ fn long_inputs_and_other_words_are_refused(rt: HostRuntime) -> Result<(), Fail> 
         assert_eq!(rt; ended, status, "{line}");
         assert_eq!(rt; sink.bytes(), Some(text.as_bytes()), "{line}");
     }
+    let mut sink = SureSink::new(alloc, 64)?;
+    assert_eq!(rt; refuse(&mut sink, Status::Memory), Status::Memory);
+    assert_eq!(rt; sink.bytes(), Some(b"refused memory\n".as_slice()));
     Ok(())
 }

@@ -1,6 +1,6 @@
 //! Live saves, migrations and restored machines, by short runs.
-use its_top::Status;
 use crate::runs::{MACHINE, MAPPED, tells};
+use its_top::Status;
 
 #[test]
 fn tables_are_saved_and_restored(rt: HostRuntime) {
@@ -99,6 +99,36 @@ saved
 bytes 0000000000000000
 bytes 0100082000000400
 vcpu 2 pending 8200 8201
+done
+",
+        ),
+        // For a Linux guest the entry of a collection that was never mapped is passed over.
+        (
+            "linux
+word 0x80010000 0x8000ffffffff0001
+word 0x80010008 0x8000000000020001
+word 0x80010010 0x8000ffffffff2000
+word 0x80010018 0x8000000000030002
+word 0x80000080 0x8000000010018004
+word 0x800c0018 0x0001000020080001
+word 0x800c0020 0x0000000020090002
+restore 1 0x8000000080020000 0 0 0x8107000080000200 0x8407000080010200",
+            "",
+            "phase
+thread
+signal 16 3
+signal 16 4
+save
+peek 0x80010008 8
+peek 0x80010010 8
+end",
+            "delivered 2 8200
+delivered 3 8201
+saved
+bytes 0200030000000080
+bytes 0000000000000000
+vcpu 2 pending 8200
+vcpu 3 pending 8201
 done
 ",
         ),

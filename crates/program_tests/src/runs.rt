@@ -1,7 +1,6 @@
 //! The command over streams in memory, and what the tests of it share.
-use its_top::its;
-use its_top::Status;
 use its_io::{SureSink, SureSource};
+use its_top::{Status, its};
 use its_types::Open;
 use std::alloc::{AllocError, Global};
 use std::fmt::Write;

@@ -1,8 +1,7 @@
 //! Threads beside each other, and what a gate shows of them.
-use its_top::its;
-use its_top::Status;
 use crate::runs::{MACHINE, MAPPED, tells, words};
 use its_io::{SureSink, SureSource};
+use its_top::{Status, its};
 use its_types::{Gate, Open, Point};
 use std::alloc::{AllocError, Global};
 use std::sync::Wait;
