@@ -22,7 +22,8 @@ run_qemu() {
     rm -f "$dir/ram"
     truncate -s "${size}M" "$dir/ram"
     nice -n 15 python3 "$here/record.py" "$dir/$name.log" "$dir/ram" 0x40000000 -- \
-        qemu-system-aarch64 -M virt,gic-version=3,its=on,memory-backend=ram -cpu cortex-a57 -smp $processors -m "${size}M" \
+        qemu-system-aarch64 -M virt,gic-version=3,its=on,memory-backend=ram -cpu cortex-a57 \
+        -smp "$processors" -m "${size}M" \
         -object "memory-backend-file,id=ram,size=${size}M,mem-path=$dir/ram,share=on" -nographic -nodefaults \
         "${events[@]}" "$@"
     rm -f "$dir/ram"
@@ -82,11 +83,11 @@ record_linux() {
     local dir=$1 words=$2 devices
     if [ -n "${3:-}" ]; then
         processors=$3
-        devices=(-device virtio-blk-pci,drive=d0,num-queues=1)
+        devices=(-device "virtio-blk-pci,drive=d0,num-queues=1")
     else
-        devices=(-device virtio-blk-pci,drive=d0,num-queues=4
-            -drive "if=none,id=d1,file=$dir/disk1,format=raw" -device nvme,drive=d1,serial=n1
-            -netdev user,id=n0 -device virtio-net-pci,netdev=n0,romfile= -device virtio-rng-pci)
+        devices=(-device "virtio-blk-pci,drive=d0,num-queues=4"
+            -drive "if=none,id=d1,file=$dir/disk1,format=raw" -device "nvme,drive=d1,serial=n1"
+            -netdev "user,id=n0" -device "virtio-net-pci,netdev=n0,romfile=" -device virtio-rng-pci)
     fi
     [ -d "$dir/root" ] || fetch_linux "$dir"
     cp "$here/init" "$dir/root/init"
@@ -100,6 +101,13 @@ record_linux() {
         -append "console=ttyAMA0 quiet panic=-1 $words" \
         -drive "if=none,id=d0,file=$dir/disk0,format=raw" "${devices[@]}"
     tail -n 2 "$dir/console.txt"
+}
+
+# The second kernel works a round, and that of a small machine only as it starts.
+record_kexec() {
+    local rounds=1
+    [ -z "${2:-}" ] || rounds=0
+    record_linux "$1" "rounds=0 kexec=$rounds" "${2:-}"
 }
 
 record_guest() {
@@ -121,7 +129,7 @@ play() {
 case "${1:-}" in
 linux) mkdir -p "$2" && record_linux "$(realpath "$2")" "rounds=${3:-1}" ;;
 hibernate) mkdir -p "$2" && record_linux "$(realpath "$2")" "rounds=0 hibernate" "${3:-}" ;;
-kexec) mkdir -p "$2" && record_linux "$(realpath "$2")" "rounds=0 kexec=$([ -n "${3:-}" ] && echo 0 || echo 1)" "${3:-}" ;;
+kexec) mkdir -p "$2" && record_kexec "$(realpath "$2")" "${3:-}" ;;
 guest) mkdir -p "$2" && python3 "$here/generate.py" "${@:3:2}" "$2/ops" "${@:5}" && record_guest "$(realpath "$2")" ;;
 differences) mkdir -p "$2" && python3 "$here/differences.py" "$2/ops" "${@:3}" && record_guest "$(realpath "$2")" ;;
 qemu_guest) run_qemu "$2" guest 256 -kernel "$2/guest.elf" -device "loader,file=$2/ops,addr=0x48000000,force-raw=on" ;;
