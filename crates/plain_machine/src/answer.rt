@@ -87,6 +87,15 @@ impl State {
         Ok(reply)
     }
 
+    // How many pages are copied: none, since there is no second memory.
+    fn copied(&self) -> u64
+        ensures count { result ≡ answers.copy_count self.now.track }
+        ensures same { answers.copy_left self.now ≡ self.now }
+    {
+        let _memory = self.memory();
+        0
+    }
+
     fn dma(&mut self, addr: Addr, bytes: &[u8], route: Route) -> Result<Reply, AllocError>
         ensures reply { IfOk result
             (λ r. r ≡ answers.route_reply self.old addr bytes.now route) }
@@ -150,7 +159,7 @@ impl State {
             }
             Call::Step { its } => Ok(Reply::Step(self.step(alloc, its)?)),
             Call::Save => self.save(alloc),
-            Call::Copy => Ok(Reply::Copied(0)),
+            Call::Copy => Ok(Reply::Copied(self.copied())),
             Call::Dma {
                 addr,
                 bytes,
