@@ -49,6 +49,7 @@ struct its_description_in {
     uint32_t profile;     /* a MAPC of a mapped collection: 1 pending LPIs stay, 2 they move */
     uint32_t programmed;  /* 0 LPIs are on at the tables given, 1 the guest programs GICR_* */
     uint32_t restored;    /* 0 as at reset, 1 from guest memory and the registers that follow */
+    uint32_t linux_guest; /* 1 with what a Linux guest counts on (docs/FORMATS.md, `linux`), 0 not */
     uint64_t config;      /* address of the LPI configuration table, where programmed is 0 */
     uint64_t ctlr;        /* GITS_CTLR to restore, of which bit 0 counts */
     uint64_t cbaser;      /* GITS_CBASER */
@@ -58,7 +59,10 @@ struct its_description_in {
     uint64_t baser1;      /* GITS_BASER1 */
 };
 
-/* A window of guest memory: 1 to 16 of them, 64 MiB together, below 2^52, that share no byte. */
+/*
+ * A window of guest memory: 1 to 16 of them, of any length, below 2^52, that share no byte. The host's
+ * memory goes with what is written to them, in pages of 64 KiB, and not with their lengths.
+ */
 struct its_window_in {
     uint64_t base;   /* guest physical address */
     uint64_t length; /* in bytes, at least 1 */
@@ -90,7 +94,7 @@ struct its_make_fault_out {
      * `distance` entries on, past its end; 9 `collection` goes to `number`, which is no virtual
      * processor; 10 `collection` has two entries; 11 the value for the register at offset
      * `register_offset` can't stand beside the others; 12 `collection` has no place in the table;
-     * 13 a table of the redistributor of `vcpu` doesn't lie in one window.
+     * 13 a table of the redistributor of `vcpu` doesn't lie in one window. 14 and 15 aren't told yet.
      */
     uint32_t kind;
     uint32_t vcpu;
@@ -202,13 +206,25 @@ uint32_t its_write_lpi_register(struct its_handle *handle, uint32_t vcpu, uint32
                                 uint32_t size, uint64_t value);
 
 /*
+ * The values that the LPI registers of a redistributor are restored from, as `redistributors` of
+ * its_new takes them. They are those that are read, but that Pending Table Zero, which reads zero, is
+ * as it was stored. All zero where the guest doesn't program them. ITS_RANGE where there is no such
+ * virtual processor, ITS_HANDLE.
+ */
+uint32_t its_stored_lpi_registers(struct its_handle *handle, uint32_t vcpu,
+                                  struct its_redistributor_in *out);
+
+/*
  * Copies bytes of guest memory from an address on into `buffer`. ITS_OUTSIDE where not each 64 bytes
  * of them, counted from the first, lie in one window: the buffer is as it was. ITS_HANDLE.
  */
 uint32_t its_read_memory(struct its_handle *handle, uint64_t address, uint8_t *buffer,
                          size_t buffer_len);
 
-/* Copies `bytes` to guest memory from an address on, all or none. Errors as for reading. */
+/*
+ * Copies `bytes` to guest memory from an address on, all or none. ITS_NO_MEMORY, and errors as for
+ * reading.
+ */
 uint32_t its_write_memory(struct its_handle *handle, uint64_t address, const uint8_t *bytes,
                           size_t bytes_len);
 
@@ -225,6 +241,21 @@ uint32_t its_take(struct its_handle *handle, uint32_t vcpu, struct its_ack_out *
 
 /* The LPI that it would acknowledge; nothing changes. Errors as for its_take. */
 uint32_t its_show(struct its_handle *handle, uint32_t vcpu, struct its_ack_out *out);
+
+/*
+ * Of the LPIs that are pending and enabled at a virtual processor, with a priority below `mask`, the
+ * one of the least priority, and among these the lowest; nothing changes. ITS_RANGE where there is no
+ * such virtual processor or `mask` is above 255, ITS_HANDLE.
+ */
+uint32_t its_best(struct its_handle *handle, uint32_t vcpu, uint32_t mask, struct its_ack_out *out);
+
+/*
+ * A virtual processor acknowledges LPI `intid`, if it is pending and enabled there, which is then no
+ * longer pending; else `out` has intid 0, and nothing changes. It takes no memory of the host. Errors
+ * as for its_take.
+ */
+uint32_t its_claim(struct its_handle *handle, uint32_t vcpu, uint32_t intid,
+                   struct its_ack_out *out);
 
 /*
  * All LPIs that are pending at a virtual processor, enabled or not, rising: `list` gets the first of

@@ -6,7 +6,8 @@ use Rattle.std.proofs.Math.Nat.{min-le_left, min-le_right}
 use Rattle.guest_windows.specs.Windows.{Window, inside, read_at}
 use Rattle.guest_windows.proofs.Laws.{is_some-read_at, length-read_at}
 use Rattle.guest_windows.proofs.Splices.{splice, splice_same, splice_before, length-splice}
-use Rattle.its_c.specs.Pieces.{piece_count, piece_length, piece_of, AreRead}
+use Rattle.its_c.specs.Pieces.{AreRead}
+use Rattle.owned_machine.specs.Pieces.{piece_count, piece_length, piece_of}
 
 -- what holds of all before i and of i holds of all before the next
 pub below_next : {P : ℕ → Type 0} (i : ℕ) → ((k : ℕ) → k < i → P k) → P i → (k : ℕ) → k < i + 1 → P k

@@ -1,10 +1,16 @@
 -- What a machine is asked in numbers: which numbers are in their ranges, and what the plain machine answers and leaves.
-use Rattle.std.specs.Prelude.{◌≡◌, ◌<◌, ◌≤◌, List, slice_index, ℕ, Bool, ◌&&◌, ◌||◌, ◌==◌, nat_lt, length}
+use Rattle.std.specs.Prelude.{◌≡◌, ◌<◌, ◌≤◌, List, slice_index, ℕ, Bool, ◌&&◌, ◌||◌, ◌==◌, nat_lt, if◌then◌else◌, length}
 use Rattle.its_plain.specs.Plain.{Plain, redistributor, with_redistributor}
-use Rattle.its_plain.specs.Answer.{ack_of, lowest, taken, signal_reply}
+use Rattle.its_plain.specs.Answer.{ack_of, lowest, best, claimed, taken, signal_reply}
 use Rattle.its_plain.specs.Translation.{translated}
 use Rattle.its_plain.specs.declared.call.Ack.{Ack}
 use Rattle.its_plain.specs.declared.call.Signal.{Signal}
+use Rattle.gicr_regs.specs.Registers.{values_of}
+use Rattle.gicr_regs.specs.declared.values.GicrRegisters.{GicrRegisters}
+use Rattle.its_c.specs.declared.numbers.RedistributorIn.{RedistributorIn}
+
+abbrev as_given : GicrRegisters → RedistributorIn
+as_given v = record { ctlr = v.ctlr; propbaser = v.propbaser; pendbaser = v.pendbaser }
 
 -- whether the machine has a virtual processor of this number
 abbrev pub has_vcpu : Plain → ℕ → Bool
@@ -29,6 +35,26 @@ shown u vcpu = ack_of (redistributor u vcpu) (lowest (redistributor u vcpu))
 -- the state once it has
 abbrev pub acknowledged : Plain → ℕ → Plain
 acknowledged u vcpu = with_redistributor u vcpu (taken (redistributor u vcpu) (lowest (redistributor u vcpu)))
+
+-- there is such a virtual processor, and such a priority mask
+abbrev pub has_mask : Plain → ℕ → ℕ → Bool
+has_mask u vcpu mask = has_vcpu u vcpu && nat_lt mask 256
+
+-- the LPI that comes first by priority below a mask
+abbrev pub first_below : Plain → ℕ → ℕ → Ack
+first_below u vcpu mask = ack_of (redistributor u vcpu) (best (redistributor u vcpu) mask)
+
+-- an LPI, where it is pending and enabled
+abbrev pub claimed_by : Plain → ℕ → ℕ → Ack
+claimed_by u vcpu intid = ack_of (redistributor u vcpu) (claimed (redistributor u vcpu) intid)
+
+-- the state once it was acknowledged
+abbrev pub after_claim : Plain → ℕ → ℕ → Plain
+after_claim u vcpu intid = with_redistributor u vcpu (taken (redistributor u vcpu) (claimed (redistributor u vcpu) intid))
+
+-- the values that the LPI registers of a virtual processor are restored from; zeros where the guest doesn't program them
+abbrev pub stored : Plain → ℕ → RedistributorIn
+stored u vcpu = if u.layout.gicr then as_given (values_of (redistributor u vcpu).bases) else record { ctlr = 0; propbaser = 0; pendbaser = 0 }
 
 -- a list has the first of some numbers, as many as it takes
 abbrev pub HasFirst : List ℕ → List ℕ → Type 0

@@ -1,5 +1,5 @@
 -- Descriptions as they are given in numbers, and the description that they stand for.
-use Rattle.std.specs.Prelude.{ℕ, ◌-◌, Bool, ◌&&◌, ◌==◌, nat_le, nat_lt, if◌then◌else◌, List, [], ◌∷◌, take, drop, map, Option, Some, None, slice_get}
+use Rattle.std.specs.Prelude.{ℕ, ◌-◌, Bool, false, ◌&&◌, ◌==◌, nat_le, nat_lt, if◌then◌else◌, List, [], ◌∷◌, take, drop, map, Option, Some, None, slice_get}
 use Rattle.gicr_regs.specs.declared.values.GicrRegisters.{GicrRegisters}
 use Rattle.gicr_regs.specs.declared.values.GicrValues.{GicrValues}
 use Rattle.gits_regs.specs.declared.values.RegValues.{RegValues}
@@ -10,6 +10,7 @@ use Rattle.its_types.specs.declared.machine.Profile.TheVariants.{One, Two}
 use Rattle.its_types.specs.declared.machine.Shape.{Shape}
 use Rattle.its_plain.specs.declared.desc.Desc.{Desc}
 use Rattle.its_plain.specs.declared.desc.Fill.{Fill}
+use Rattle.its_plain.specs.declared.desc.Its.{Its}
 use Rattle.its_plain.specs.declared.desc.LpiTables.{LpiTables}
 use Rattle.its_plain.specs.declared.desc.LpiTables.TheVariants.{Described, Registers}
 use Rattle.its_c.specs.declared.numbers.DescriptionIn.{DescriptionIn}
@@ -26,6 +27,7 @@ between least most n = nat_le least n && nat_le n most
 abbrev pub numbers_in_range : DescriptionIn → Bool
 numbers_in_range d =
     between 1 16 d.vcpus && between 16 20 d.device_bits && between 14 20 d.lpi_bits && between 1 2 d.profile && nat_lt d.programmed 2 && nat_lt d.restored 2
+    && nat_lt d.linux_guest 2
 
 -- so many pending tables, or so many redistributors' registers, as virtual processors
 abbrev pub counts_in_range : DescriptionIn → ℕ → ℕ → Bool
@@ -83,8 +85,12 @@ values_of d = record { ctlr = d.ctlr; cbaser = d.cbaser; creadr = d.creadr; cwri
 abbrev pub restore_of : DescriptionIn → Option RegValues
 restore_of d = if d.restored == 0 then None else Some (values_of d)
 
+-- one translator, where no device writes
+abbrev pub translators_of : DescriptionIn → List Its
+translators_of d = record { restore = restore_of d; frames = None } ∷ []
+
 abbrev pub shape_of : DescriptionIn → Shape
-shape_of d = record { vcpus = d.vcpus; dev_bits = d.device_bits; lpi_bits = d.lpi_bits; profile = profile_of d.profile }
+shape_of d = record { vcpus = d.vcpus; dev_bits = d.device_bits; lpi_bits = d.lpi_bits; profile = profile_of d.profile; linux = d.linux_guest == 1 }
 
 abbrev pub limits : Limits
 limits = record { stamp_last = 16777215; place_last = 1099511627775 }
@@ -98,5 +104,8 @@ description_of d windows pending redistributors fills bytes = record {
   windows = map window_of windows;
   tables = tables_of d pending redistributors;
   fills = fills_of fills bytes;
-  restore = restore_of d;
+  memory_limit = 18446744073709551615;
+  translators = translators_of d;
+  requesters = [];
+  track = false;
 }

@@ -19,21 +19,21 @@ use Rattle.its_c.specs.declared.faults.SaveFaultOut.{SaveFaultOut}
 
 -- the kind, and which of the kind
 abbrev pub region_numbers : Region → ℕ × ℕ
-region_numbers regions.Devices = (1, 0)
-region_numbers regions.Level1 = (2, 0)
-region_numbers (regions.Page entry) = (3, entry)
-region_numbers regions.Collections = (4, 0)
-region_numbers (regions.Itt device) = (5, device.0)
+region_numbers (regions.Devices its) = (1, 0)
+region_numbers (regions.Level1 its) = (2, 0)
+region_numbers (regions.Page its entry) = (3, entry)
+region_numbers (regions.Collections its) = (4, 0)
+region_numbers (regions.Itt its device) = (5, device.0)
 region_numbers (regions.Pending vcpu) = (6, vcpu.0)
 region_numbers regions.Config = (7, 0)
 region_numbers (regions.ConfigOf vcpu) = (8, vcpu.0)
-region_numbers regions.Queue = (9, 0)
+region_numbers (regions.Queue its) = (9, 0)
 
 abbrev pub no_save_fault : SaveFaultOut
 no_save_fault = record { kind = 0; device = 0; region = 0; number = 0; other_region = 0; other_number = 0 }
 
 abbrev pub save_fault_out : SaveFault → SaveFaultOut
-save_fault_out (saves.NoPlace device) = record no_save_fault { kind = 1; device = device.0 }
+save_fault_out (saves.NoPlace its device) = record no_save_fault { kind = 1; device = device.0 }
 save_fault_out (saves.Outside region) = record no_save_fault { kind = 2; region = (region_numbers region).0; number = (region_numbers region).1 }
 save_fault_out (saves.Overlap region other) = record {
   kind = 3;
@@ -90,4 +90,6 @@ make_fault_out made.Windows = record no_make_fault { kind = 1 }
 make_fault_out made.Config = record no_make_fault { kind = 2 }
 make_fault_out (made.Pending vcpu) = record no_make_fault { kind = 3; vcpu = vcpu.0 }
 make_fault_out (made.Bytes number) = record no_make_fault { kind = 4; number = number }
-make_fault_out (made.Restore offence) = restore_fault_out offence
+make_fault_out (made.Frames its) = record no_make_fault { kind = 14; number = its }
+make_fault_out (made.Requesters number) = record no_make_fault { kind = 15; number = number }
+make_fault_out (made.Restore its offence) = restore_fault_out offence

@@ -1,22 +1,10 @@
 -- Stretches of guest memory of any length. They are read and written in pieces of 64 bytes, counted from the first byte; the
 -- last piece may be shorter. Each piece has to lie in one window.
-use Rattle.std.specs.Prelude.{◌≡◌, ◌<◌, ℕ, zero, suc, ◌+◌, ◌-◌, ◌*◌, ◌/◌, ◌^◌, true, min, List, length, take, drop, Option, Some, None, unwrap_or}
-use Rattle.guest_windows.specs.Windows.{Window, inside, read_at, write_at}
-use Rattle.its_plain.specs.Plain.{Plain}
+use Rattle.std.specs.Prelude.{◌≡◌, ◌<◌, ℕ, ◌+◌, ◌*◌, ◌^◌, true, List, length, Option, Some, None}
+use Rattle.guest_windows.specs.Windows.{Window, inside, read_at}
 use Rattle.its_plain.specs.declared.call.Reply.{Reply}
 use Rattle.its_plain.specs.declared.call.Reply.TheVariants as reply
-
--- how many pieces n bytes have
-abbrev pub piece_count : ℕ → ℕ
-piece_count n = (n + 63) / 64
-
--- how long piece i of n bytes is
-abbrev pub piece_length : ℕ → ℕ → ℕ
-piece_length n i = min 64 (n - 64 * i)
-
--- piece i of some bytes
-abbrev pub piece_of : List ℕ → ℕ → List ℕ
-piece_of bytes i = take (piece_length (length bytes) i) (drop (64 * i) bytes)
+use Rattle.owned_machine.specs.Pieces.{piece_count, piece_length, piece_of}
 
 -- the first i pieces of n bytes from an address on lie in windows
 abbrev pub AreInside : List Window → ℕ → ℕ → ℕ → Type 0
@@ -34,16 +22,6 @@ AreRead memory address bytes i = (k : ℕ) → k < i → read_at memory (address
 -- all are
 abbrev pub IsRead : List Window → ℕ → List ℕ → Type 0
 IsRead memory address bytes = AreRead memory address bytes (piece_count (length bytes))
-
--- memory with the first i pieces of the bytes from an address on
-unfoldable pub with_pieces : List Window → ℕ → List ℕ → ℕ → List Window
-with_pieces memory address bytes zero = memory
-with_pieces memory address bytes (suc i) =
-    unwrap_or (write_at (with_pieces memory address bytes i) (address + 64 * i) (piece_of bytes i)) (with_pieces memory address bytes i)
-
--- the state with all of them
-abbrev pub written_to : Plain → ℕ → List ℕ → Plain
-written_to u address bytes = record u { memory = with_pieces u.memory address bytes (piece_count (length bytes)) }
 
 -- the bytes that a reply has
 abbrev pub bytes_in : Reply → Option (List ℕ)

@@ -2,7 +2,8 @@
 use Rattle.std.specs.Prelude.{◌≡◌, ◌≢◌, ◌≤◌, ℕ, Ok, Err}
 use Rattle.its_plain.specs.Plain.{Plain}
 use Rattle.its_plain.specs.Regions.{savable}
-use Rattle.its_plain.specs.Saved.{saved, moved}
+use Rattle.its_plain.specs.Answer.{save_left}
+use Rattle.its_plain.specs.Saved.{moved}
 use Rattle.its_plain.specs.declared.fault.SaveFault.{SaveFault}
 use Rattle.its_c.specs.Codes as codes
 use Rattle.its_c.specs.Faults.{save_fault_out}
@@ -10,7 +11,7 @@ use Rattle.its_c.specs.declared.faults.SaveFaultOut.{SaveFaultOut}
 
 -- the state can be saved, and memory has the tables
 abbrev pub IsSaved : Plain → Plain → Type 0
-IsSaved u w = (savable u ≡ Ok tt) × (w ≡ record u { memory = saved u })
+IsSaved u w = (savable u ≡ Ok tt) × (w ≡ save_left u (Ok tt))
 
 -- the state can be saved, and the machine went on from what was saved
 abbrev pub IsMoved : Plain → Plain → Type 0

@@ -1,15 +1,16 @@
 //! The calls of a machine by its handle, for callers in other languages.
-ghost use Rattle.std.specs.Prelude.{◌≡◌, ◌≢◌, ◌≤◌, true, false, None, is_some, length};
+ghost use Rattle.std.specs.Prelude.{◌≡◌, ◌≤◌, ◌⊎◌, true, false, None, is_some, length};
 ghost use Rattle.gits_regs.specs.Registers.{read_reg};
 ghost use Rattle.its_plain.specs.Answer.{signal_left, written, gicr_read, gicr_written};
 ghost use Rattle.its_plain.specs.Answer.{step_reply, step_left};
-ghost use Rattle.its_plain.specs.Plain.{regs_of, pending_of};
+ghost use Rattle.its_plain.specs.Plain.{regs_of};
 ghost use Rattle.owned_machine.specs.Whole.{step_adds};
-ghost use Rattle.its_c.specs.Asked.{has_vcpu as has, is_size as is, has_register};
-ghost use Rattle.its_c.specs.Asked.{signalled, shown, acknowledged, HasFirst, SameFrom};
+ghost use Rattle.its_c.specs.Asked.{has_vcpu as has, is_size as is, has_register, signalled};
+ghost use Rattle.its_c.specs.Asked.{stored};
 ghost use Rattle.its_c.specs.Codes as codes;
 ghost use Rattle.its_c.specs.Held.{InMachine};
-ghost use Rattle.its_c.specs.Pieces.{IsStretch, IsRead, written_to};
+ghost use Rattle.its_c.specs.Pieces.{IsStretch, IsRead};
+ghost use Rattle.owned_machine.specs.Pieces.{written_to};
 ghost use Rattle.its_c.specs.Replies as replies;
 ghost use Rattle.its_c.specs.Saves.{IsSaved, IsMoved, IsUnsaved};
 
@@ -17,11 +18,13 @@ use crate::codes::HANDLE;
 use crate::commands::step;
 use crate::faults::SaveFaultOut;
 use crate::handle::Handle;
-use crate::interrupts::{show, signal, take};
+use crate::interrupts::signal;
 use crate::memory::{read_memory, write_memory};
-use crate::pending::pending;
-use crate::registers::{read_lpi_register, read_register, write_lpi_register, write_register};
-use crate::replies::{AckOut, SignalOut, StepOut};
+use crate::numbers::RedistributorIn;
+use crate::registers::{
+    read_lpi_register, read_register, stored_lpi_registers, write_lpi_register, write_register,
+};
+use crate::replies::{SignalOut, StepOut};
 use crate::saves::{migrate, save};
 use std::alloc::Global;
 
@@ -121,6 +124,31 @@ pub extern "C" fn its_write_lpi_register(
     write_lpi_register(handle.lent(), alloc, vcpu, offset, size, value)
 }
 
+/// The values that the LPI registers of a redistributor are restored from, as a new machine takes
+/// them: Pending Table Zero, which reads zero, as it is stored. All zero where the guest doesn't
+/// program them.
+#[unsafe(no_mangle)]
+pub extern "C" fn its_stored_lpi_registers(
+    handle: &mut Handle,
+    vcpu: u32,
+    out: &mut RedistributorIn,
+) -> u32
+    ensures empty { handle.old.machine ≡ None → (result ≡ codes.handle) × (out.new ≡ out.old) }
+    ensures kept { is_some handle.new.machine ≡ is_some handle.old.machine }
+    ensures code { InMachine handle.old handle.new (λ u w.
+        result ≡ codes.if_in_range (has u vcpu)) }
+    ensures told { InMachine handle.old handle.new (λ u w.
+        has u vcpu ≡ true → out.new ≡ stored u vcpu) }
+    ensures refused { InMachine handle.old handle.new (λ u w.
+        has u vcpu ≡ false → out.new ≡ out.old) }
+    ensures same { InMachine handle.old handle.new (λ u w. w ≡ u) }
+{
+    if handle.is_empty() {
+        return HANDLE;
+    }
+    stored_lpi_registers(handle.lent(), vcpu, out)
+}
+
 /// Guest memory is read into a buffer.
 #[unsafe(no_mangle)]
 pub extern "C" fn its_read_memory(
@@ -157,9 +185,13 @@ pub extern "C" fn its_write_memory(
 ) -> u32
     ensures empty { handle.old.machine ≡ None → result ≡ codes.handle }
     ensures kept { is_some handle.new.machine ≡ is_some handle.old.machine }
-    ensures done { InMachine handle.old handle.new (λ u w.
+    ensures codes { InMachine handle.old handle.new (λ u w.
         IsStretch u.memory address (length bytes.now)
-        → (result ≡ codes.done) × (w ≡ written_to u address bytes.now)) }
+        → (result ≡ codes.done) ⊎ (result ≡ codes.no_memory)) }
+    ensures done { InMachine handle.old handle.new (λ u w.
+        result ≡ codes.done → w ≡ written_to u address bytes.now) }
+    ensures no_memory { InMachine handle.old handle.new (λ u w.
+        result ≡ codes.no_memory → w ≡ u) }
     ensures outside { InMachine handle.old handle.new (λ u w.
         (IsStretch u.memory address (length bytes.now) → ⊥) → (result ≡ codes.outside) × (w ≡ u)) }
 {
@@ -190,81 +222,6 @@ pub extern "C" fn its_signal(
         return HANDLE;
     }
     signal(handle.lent(), alloc, device, event, out)
-}
-
-/// A virtual processor acknowledges an LPI, which is then no longer pending.
-#[unsafe(no_mangle)]
-pub extern "C" fn its_take(handle: &mut Handle, alloc: Global, vcpu: u32, out: &mut AckOut) -> u32
-    ensures empty { handle.old.machine ≡ None → (result ≡ codes.handle) × (out.new ≡ out.old) }
-    ensures kept { is_some handle.new.machine ≡ is_some handle.old.machine }
-    ensures code { InMachine handle.old handle.new (λ u w.
-        result ≡ codes.if_in_range (has u vcpu)) }
-    ensures told { InMachine handle.old handle.new (λ u w.
-        has u vcpu ≡ true → out.new ≡ replies.ack_out (shown u vcpu)) }
-    ensures left { InMachine handle.old handle.new (λ u w.
-        has u vcpu ≡ true → w ≡ acknowledged u vcpu) }
-    ensures refused { InMachine handle.old handle.new (λ u w.
-        has u vcpu ≡ false → (out.new ≡ out.old) × (w ≡ u)) }
-{
-    if handle.is_empty() {
-        return HANDLE;
-    }
-    take(handle.lent(), alloc, vcpu, out)
-}
-
-/// The LPI that a virtual processor would acknowledge.
-#[unsafe(no_mangle)]
-pub extern "C" fn its_show(handle: &mut Handle, alloc: Global, vcpu: u32, out: &mut AckOut) -> u32
-    ensures empty { handle.old.machine ≡ None → (result ≡ codes.handle) × (out.new ≡ out.old) }
-    ensures kept { is_some handle.new.machine ≡ is_some handle.old.machine }
-    ensures code { InMachine handle.old handle.new (λ u w.
-        result ≡ codes.if_in_range (has u vcpu)) }
-    ensures told { InMachine handle.old handle.new (λ u w.
-        has u vcpu ≡ true → out.new ≡ replies.ack_out (shown u vcpu)) }
-    ensures refused { InMachine handle.old handle.new (λ u w.
-        has u vcpu ≡ false → out.new ≡ out.old) }
-    ensures same { InMachine handle.old handle.new (λ u w. w ≡ u) }
-{
-    if handle.is_empty() {
-        return HANDLE;
-    }
-    show(handle.lent(), alloc, vcpu, out)
-}
-
-/// The LPIs that are pending at a virtual processor, rising, as many as the list takes, whose rest
-/// stays; and how many there are.
-#[unsafe(no_mangle)]
-pub extern "C" fn its_pending(
-    handle: &mut Handle,
-    alloc: Global,
-    vcpu: u32,
-    list: &mut [u32],
-    count: &mut u64,
-) -> u32
-    ensures empty { handle.old.machine ≡ None
-        → (result ≡ codes.handle) × (list.new ≡ list.old) × (count.new ≡ count.old) }
-    ensures kept { is_some handle.new.machine ≡ is_some handle.old.machine }
-    ensures range { InMachine handle.old handle.new (λ u w.
-        has u vcpu ≡ false → result ≡ codes.range) }
-    ensures told { InMachine handle.old handle.new (λ u w.
-        result ≡ codes.done → HasFirst (pending_of u vcpu) list.new) }
-    ensures rest { InMachine handle.old handle.new (λ u w.
-        result ≡ codes.done → SameFrom (length (pending_of u vcpu)) list.old list.new) }
-    ensures length { length list.new ≡ length list.old }
-    ensures count { InMachine handle.old handle.new (λ u w.
-        result ≡ codes.done → count.new ≡ length (pending_of u vcpu)) }
-    ensures only { InMachine handle.old handle.new (λ u w.
-        result ≢ codes.done → (list.new ≡ list.old) × (count.new ≡ count.old)) }
-    ensures codes { InMachine handle.old handle.new (λ u w. result ≤ codes.range) }
-    ensures not_outside { InMachine handle.old handle.new (λ u w. result ≢ codes.outside) }
-    ensures no_other { InMachine handle.old handle.new (λ u w.
-        has u vcpu ≡ true → result ≢ codes.range) }
-    ensures same { InMachine handle.old handle.new (λ u w. w ≡ u) }
-{
-    if handle.is_empty() {
-        return HANDLE;
-    }
-    pending(handle.lent(), alloc, vcpu, list, count)
 }
 
 /// The translator takes its next command.

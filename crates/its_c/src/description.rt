@@ -1,13 +1,13 @@
 //! The description that numbers stand for.
 ghost use Rattle.std.specs.Prelude.{◌≡◌, true, IfOk, length, map};
-ghost use Rattle.its_plain.specs.Machine.{IsDescription, HasTablesFor};
+ghost use Rattle.its_plain.specs.Machine.{IsDescription, IsSingle, HasTablesFor};
 ghost use Rattle.its_plain.specs.Sound.{IsShape};
 ghost use Rattle.its_c.specs.Descriptions as spec;
 
 use crate::numbers::{DescriptionIn, FillIn, RedistributorIn, WindowIn};
 use gicr_regs::{GicrRegisters, GicrValues};
 use gits_regs::RegValues;
-use its_plain::{Desc, Fill, LpiTables};
+use its_plain::{Desc, Fill, Its, LpiTables};
 use its_types::{Addr, Limits, Listed, Profile, Shape};
 use std::alloc::{AllocError, Global};
 
@@ -37,6 +37,7 @@ fn numbers_in_range(description: &DescriptionIn) -> bool
         && between(1, 2, description.profile)
         && description.programmed < 2
         && description.restored < 2
+        && description.linux_guest < 2
 }
 
 fn between(least: u32, most: u32, number: u32) -> bool
@@ -87,6 +88,7 @@ pub fn description(
         (length redistributors.now) ≡ true }
     requires lengths { spec.lengths_fit fills.now (length bytes.now) ≡ true }
     ensures described { IfOk result IsDescription }
+    ensures single { IfOk result IsSingle }
     ensures described_by { IfOk result (λ d. d
         ≡ spec.description_of numbers.now windows.now pending.now redistributors.now fills.now
         bytes.now) }
@@ -99,9 +101,12 @@ pub fn description(
             place_last: 1_099_511_627_775,
         },
         windows: Listed::from_vec(windows_of(alloc, windows)?),
+        memory_limit: u64::MAX,
         tables: tables(alloc, numbers, pending, redistributors)?,
         fills: fills_of(alloc, fills, bytes)?,
-        restore: restore(numbers),
+        translators: translators(alloc, numbers)?,
+        requesters: Listed::new(alloc),
+        track: false,
     })
 }
 
@@ -119,6 +124,7 @@ fn shape(numbers: &DescriptionIn) -> Shape
         } else {
             Profile::Two
         },
+        linux: numbers.linux_guest == 1,
     }
 }
 
@@ -218,6 +224,18 @@ fn fills_of(alloc: Global, fills: &[FillIn], bytes: &[u8]) -> Result<Listed<Fill
         rest = others;
         left = more;
     }
+    Ok(list)
+}
+
+// The one translator.
+fn translators(alloc: Global, numbers: &DescriptionIn) -> Result<Listed<Its>, AllocError>
+    ensures { IfOk result (λ list. list ≡ spec.translators_of numbers.now) }
+{
+    let mut list = Listed::new(alloc);
+    list.push(Its {
+        restore: restore(numbers),
+        frames: None,
+    })?;
     Ok(list)
 }
 

@@ -40,6 +40,8 @@ pub struct MakeFaultOut {
     /// `number`, which is no virtual processor; 10 `collection` has two entries; 11 the value for
     /// the register at `register_offset` can't stand beside the others; 12 `collection` has no
     /// place in the table; 13 a table of the redistributor of `vcpu` doesn't lie in one window.
+    ///
+    /// 14 and 15 aren't told yet: the frames of translator `number`, and requesters.
     pub kind: u32,
     /// The number of a virtual processor.
     pub vcpu: u32,
@@ -65,20 +67,20 @@ pub struct MakeFaultOut {
     pub address: u64,
 }
 
-// A region's kind, and its number among those of the kind.
+// A region's kind, and its number among those of the kind. There is one translator.
 fn region_numbers(region: Region) -> (u32, u32)
     ensures { result ≡ spec.region_numbers region }
 {
     match region {
-        Region::Devices => (1, 0),
-        Region::Level1 => (2, 0),
-        Region::Page(entry) => (3, entry),
-        Region::Collections => (4, 0),
-        Region::Itt(device) => (5, device.0),
+        Region::Devices(_) => (1, 0),
+        Region::Level1(_) => (2, 0),
+        Region::Page(_, entry) => (3, entry),
+        Region::Collections(_) => (4, 0),
+        Region::Itt(_, device) => (5, device.0),
         Region::Pending(vcpu) => (6, u32::from(vcpu.0)),
         Region::Config => (7, 0),
         Region::ConfigOf(vcpu) => (8, u32::from(vcpu.0)),
-        Region::Queue => (9, 0),
+        Region::Queue(_) => (9, 0),
     }
 }
 
@@ -95,7 +97,7 @@ pub fn save_fault_out(fault: SaveFault) -> SaveFaultOut
         other_number: 0,
     };
     match fault {
-        SaveFault::NoPlace(device) => out.device = device.0,
+        SaveFault::NoPlace(_, device) => out.device = device.0,
         SaveFault::Outside(region) => {
             out.kind = 2;
             (out.region, out.number) = region_numbers(region);
@@ -148,7 +150,17 @@ pub fn make_fault_out(fault: DescFault) -> MakeFaultOut
             number,
             ..NO_FAULT
         },
-        DescFault::Restore(offence) => restore_fault_out(offence),
+        DescFault::Frames(its) => MakeFaultOut {
+            kind: 14,
+            number: u64::from(its),
+            ..NO_FAULT
+        },
+        DescFault::Requesters(number) => MakeFaultOut {
+            kind: 15,
+            number,
+            ..NO_FAULT
+        },
+        DescFault::Restore(_, offence) => restore_fault_out(offence),
     }
 }
 

@@ -2,6 +2,7 @@
 //! that take and answer numbers and bytes.
 #![tactic(auto)]
 
+mod ack_calls;
 mod calls;
 mod codes;
 mod commands;

@@ -1,7 +1,7 @@
 //! A machine's making and end.
 ghost use Rattle.std.specs.Prelude.{◌≡◌, ◌≢◌, false, Err, None, IfOk, IfErr, is_none, length};
 ghost use Rattle.its_plain.specs.Described.{IsMadeFrom};
-ghost use Rattle.its_plain.specs.Machine.{IsDescription};
+ghost use Rattle.its_plain.specs.Machine.{IsDescription, IsSingle};
 ghost use Rattle.its_c.specs.Codes as codes;
 ghost use Rattle.its_c.specs.Descriptions.{is_in_range as in_range, description_of};
 ghost use Rattle.its_c.specs.Making.{IsMade, IsUnmade};
@@ -85,7 +85,8 @@ pub extern "C" fn its_new(
 
 // The handle of a machine on the heap.
 fn made(alloc: Global, desc: &Desc) -> Result<Handle, MakeError>
-    requires { IsDescription desc.now }
+    requires counts { IsDescription desc.now }
+    requires single { IsSingle desc.now }
     ensures made { IfOk result (λ h. IsMade desc.now h.machine) }
     ensures refused { IfErr result (λ e. IsMadeFrom desc.now (Err e)) }
 {

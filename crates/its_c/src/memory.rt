@@ -1,10 +1,12 @@
 //! Guest memory, read and written in stretches of any length.
-ghost use Rattle.std.specs.Prelude.{◌≡◌, length};
+ghost use Rattle.std.specs.Prelude.{◌≡◌, ◌⊎◌, length};
 ghost use Rattle.its_c.specs.Codes as codes;
-ghost use Rattle.its_c.specs.Pieces.{IsStretch, IsRead, written_to};
+ghost use Rattle.its_c.specs.Pieces.{IsStretch, IsRead};
+ghost use Rattle.owned_machine.specs.Pieces.{written_to};
 
-use crate::codes::{DONE, OUTSIDE};
-use crate::pieces::{is_stretch, read, write};
+use crate::codes::{DONE, NO_MEMORY, OUTSIDE};
+use crate::pieces::{is_stretch, read};
+use its_types::Addr;
 use owned_machine::Machine;
 use std::alloc::Global;
 
@@ -26,15 +28,19 @@ pub fn read_memory(machine: &mut Machine, alloc: Global, address: u64, buffer: &
 
 /// Bytes are written to guest memory: all of them, or none.
 pub fn write_memory(machine: &mut Machine, alloc: Global, address: u64, bytes: &[u8]) -> u32
-    ensures done { IsStretch machine.old.memory address (length bytes.now)
-        → (result ≡ codes.done)
-        × (machine.new ≡ written_to machine.old address bytes.now) }
+    ensures codes { IsStretch machine.old.memory address (length bytes.now)
+        → (result ≡ codes.done) ⊎ (result ≡ codes.no_memory) }
+    ensures done { result ≡ codes.done
+        → machine.new ≡ written_to machine.old address bytes.now }
+    ensures no_memory { result ≡ codes.no_memory → machine.new ≡ machine.old }
     ensures outside { (IsStretch machine.old.memory address (length bytes.now) → ⊥)
         → (result ≡ codes.outside) × (machine.new ≡ machine.old) }
 {
     if !is_stretch(machine, alloc, address, bytes.len()) {
         return OUTSIDE;
     }
-    write(machine, alloc, address, bytes);
-    DONE
+    match machine.write_memory(alloc, Addr(address), bytes) {
+        Ok(()) => DONE,
+        Err(_) => NO_MEMORY,
+    }
 }

@@ -17,6 +17,8 @@ pub struct DescriptionIn {
     pub programmed: u32,
     /// 0: the translator is at reset. 1: it is restored from guest memory and the registers below.
     pub restored: u32,
+    /// 1: the machine has what a Linux guest counts on. 0: it hasn't.
+    pub linux_guest: u32,
     /// Where the configuration table is, if the guest doesn't program it.
     pub config: u64,
     /// The registers to restore: GITS_CTLR, of which bit 0 counts.

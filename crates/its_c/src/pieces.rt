@@ -2,9 +2,9 @@
 ghost use Rattle.std.specs.Prelude.{◌≡◌, ◌<◌, ◌≤◌, ◌+◌, ◌*◌, ◌^◌, true, false, IsTrue, length};
 ghost use Rattle.guest_windows.specs.Windows.{read_at, inside};
 ghost use Rattle.guest_windows.proofs.Splices.{splice};
-ghost use Rattle.its_plain.specs.Answer.{poked};
 ghost use Rattle.its_c.specs.Pieces as spec;
 ghost use Rattle.its_c.specs.Pieces.{IsStretch, IsRead};
+ghost use Rattle.owned_machine.specs.Pieces as pieces;
 
 use its_plain::{Bytes64, Call, Reply};
 use its_types::Addr;
@@ -13,15 +13,15 @@ use std::alloc::Global;
 
 // How many pieces there are.
 fn piece_count(count: usize) -> usize
-    ensures { result ≡ spec.piece_count count }
+    ensures { result ≡ pieces.piece_count count }
 {
     count / 64 + usize::from(count % 64 != 0)
 }
 
 // How long a piece of `count` bytes is.
 fn piece_length(count: usize, i: usize) -> usize
-    requires { i < spec.piece_count count }
-    ensures length { result ≡ spec.piece_length count i }
+    requires { i < pieces.piece_count count }
+    ensures length { result ≡ pieces.piece_length count i }
     ensures some { 0 < result }
     ensures fits { result ≤ 64 }
     ensures ends { 64 * i + result ≤ count }
@@ -55,22 +55,6 @@ fn bytes_of(reply: &Reply) -> Option<Bytes64>
         Reply::Bytes(bytes) => Some(*bytes),
         _ => None,
     }
-}
-
-// Writes 1 to 64 bytes, where one window has them.
-#[tactic(auto, unfolding(its_plain::specs::Answer::reply_of, its_plain::specs::Answer::left))]
-fn poke(machine: &mut Machine, alloc: Global, address: u64, bytes: &[u8])
-    requires some { 0 < length bytes.now }
-    requires fits { length bytes.now ≤ 64 }
-    ensures { machine.new ≡ poked machine.old address bytes.now }
-{
-    let call = Call::Poke {
-        addr: Addr(address),
-        bytes: Bytes64::new(bytes),
-    };
-    let Ok(_) = machine.answer(alloc, &call) else {
-        unreachable!()
-    };
 }
 
 /// Whether so many bytes lie in guest memory.
@@ -113,23 +97,5 @@ pub fn read(machine: &mut Machine, alloc: Global, address: u64, buffer: &mut [u8
             unreachable!()
         };
         put(buffer, 64 * i, bytes.as_slice());
-    }
-}
-
-/// Writes bytes that lie in guest memory.
-#[tactic(auto, unfolding(crate::specs::Pieces::with_pieces))]
-pub fn write(machine: &mut Machine, alloc: Global, address: u64, bytes: &[u8])
-    requires { IsStretch machine.old.memory address (length bytes.now) }
-    ensures { machine.new ≡ spec.written_to machine.old address bytes.now }
-{
-    let count = bytes.len();
-    for i in 0..piece_count(count) {
-        let at = address + 64 * i as u64;
-        poke(
-            machine,
-            alloc,
-            at,
-            &bytes[64 * i..][..piece_length(count, i)],
-        );
     }
 }

@@ -3,10 +3,11 @@ ghost use Rattle.std.specs.Prelude.{◌≡◌, true, false};
 ghost use Rattle.gits_regs.specs.Registers.{read_reg};
 ghost use Rattle.its_plain.specs.Answer.{written, gicr_read, gicr_written};
 ghost use Rattle.its_plain.specs.Plain.{regs_of};
-ghost use Rattle.its_c.specs.Asked.{is_size as is, has_register};
+ghost use Rattle.its_c.specs.Asked.{is_size as is, has_vcpu as has, has_register, stored};
 ghost use Rattle.its_c.specs.Codes as codes;
 
 use crate::codes::{DONE, RANGE};
+use crate::numbers::RedistributorIn;
 use crate::ranges::{has_vcpu, is_size};
 use its_plain::{Call, Reply};
 use its_types::Vcpu;
@@ -129,6 +130,30 @@ pub fn write_lpi_register(
     };
     let Ok(_) = machine.answer(alloc, &call) else {
         unreachable!()
+    };
+    DONE
+}
+
+/// The values that the LPI registers of a redistributor are restored from.
+pub fn stored_lpi_registers(machine: &Machine, vcpu: u32, out: &mut RedistributorIn) -> u32
+    ensures code { result ≡ codes.if_in_range (has machine.now vcpu) }
+    ensures told { has machine.now vcpu ≡ true → out.new ≡ stored machine.now vcpu }
+    ensures refused { has machine.now vcpu ≡ false → out.new ≡ out.old }
+{
+    if !has_vcpu(machine, vcpu) {
+        return RANGE;
+    }
+    *out = match machine.lpi_registers(vcpu as usize) {
+        Some(values) => RedistributorIn {
+            ctlr: values.ctlr,
+            propbaser: values.propbaser,
+            pendbaser: values.pendbaser,
+        },
+        None => RedistributorIn {
+            ctlr: 0,
+            propbaser: 0,
+            pendbaser: 0,
+        },
     };
     DONE
 }

@@ -1,14 +1,15 @@
 //! Each call once, in the life of a machine: made, driven, signalled, saved, moved, freed.
+use crate::ack_calls::{its_best, its_claim, its_pending, its_show, its_take};
 use crate::calls::{
-    its_migrate, its_pending, its_read_lpi_register, its_read_memory, its_read_register, its_save,
-    its_show, its_signal, its_step, its_take, its_write_lpi_register, its_write_memory,
+    its_migrate, its_read_lpi_register, its_read_memory, its_read_register, its_save, its_signal,
+    its_step, its_stored_lpi_registers, its_write_lpi_register, its_write_memory,
     its_write_register,
 };
 use crate::codes::{DONE, HANDLE, OUTSIDE, RANGE};
 use crate::faults::{NO_FAULT, SaveFaultOut};
 use crate::handle::Handle;
 use crate::making::{its_free, its_new};
-use crate::numbers::{DescriptionIn, FillIn, WindowIn};
+use crate::numbers::{DescriptionIn, FillIn, RedistributorIn, WindowIn};
 use crate::replies::{AckOut, SignalOut, StepOut};
 use std::alloc::Global;
 
@@ -19,6 +20,7 @@ const NUMBERS: DescriptionIn = DescriptionIn {
     profile: 1,
     programmed: 0,
     restored: 0,
+    linux_guest: 0,
     config: 0x8003_0000,
     ctlr: 0,
     cbaser: 0,
@@ -159,6 +161,13 @@ fn a_life(rt: HostRuntime) {
     let mut fault = NO_SAVE_FAULT;
     assert_eq!(rt; its_save(&mut handle, alloc, &mut fault), DONE);
     assert_eq!(rt; its_migrate(&mut handle, alloc, &mut fault), DONE);
+    assert_eq!(rt; its_best(&mut handle, alloc, 1, 0xa0, &mut shown), DONE);
+    assert_eq!(rt; shown.intid, 0);
+    assert_eq!(rt; its_best(&mut handle, alloc, 1, 0xa4, &mut shown), DONE);
+    assert_eq!(rt; shown.intid, 8192);
+    assert_eq!(rt; its_best(&mut handle, alloc, 1, 256, &mut shown), RANGE);
+    assert_eq!(rt; its_claim(&mut handle, alloc, 1, 8193, &mut shown), DONE);
+    assert_eq!(rt; shown.intid, 0);
     assert_eq!(rt; taken(alloc, &mut handle, 1), (DONE, 8192, 0xa0));
     assert_eq!(rt; taken(alloc, &mut handle, 1), (DONE, 0, 0));
     assert_eq!(rt; taken(alloc, &mut handle, 2), (RANGE, 0, 0));
@@ -205,5 +214,69 @@ fn registers_and_memory(rt: HostRuntime) {
         DONE
     );
     assert_eq!(rt; bytes[129], 0x5a);
+    assert_eq!(rt; its_free(&mut handle, alloc), DONE);
+}
+
+// The guest programs the LPI registers, and has much memory.
+fn programmed(alloc: Global, handle: &mut Handle) -> u32 {
+    let numbers = DescriptionIn {
+        programmed: 1,
+        linux_guest: 1,
+        ..NUMBERS
+    };
+    let windows = [WindowIn {
+        base: 0x8000_0000,
+        length: 1 << 32,
+    }];
+    let off = RedistributorIn {
+        ctlr: 0,
+        propbaser: 0,
+        pendbaser: 0,
+    };
+    let mut fault = NO_FAULT;
+    its_new(
+        handle,
+        alloc,
+        &numbers,
+        &windows,
+        &[],
+        &[off, off],
+        &[],
+        &[],
+        &mut fault,
+    )
+}
+
+// Pending Table Zero, which reads zero, is told as it was stored.
+#[test]
+fn stored_lpi_registers(rt: HostRuntime) {
+    let alloc = rt.alloc();
+    let mut handle = Handle::empty(alloc);
+    assert_eq!(rt; programmed(alloc, &mut handle), DONE);
+    let table = 0x4000_0000_8006_0000;
+    assert_eq!(rt;
+        its_write_lpi_register(&mut handle, alloc, 1, 0x78, 8, table),
+        DONE
+    );
+    let mut value = 9;
+    assert_eq!(rt;
+        its_read_lpi_register(&mut handle, alloc, 1, 0x78, 8, &mut value),
+        DONE
+    );
+    assert_eq!(rt; value, 0x8006_0780);
+    let mut stored = RedistributorIn {
+        ctlr: 9,
+        propbaser: 9,
+        pendbaser: 9,
+    };
+    assert_eq!(rt; its_stored_lpi_registers(&mut handle, 1, &mut stored), DONE);
+    assert_eq!(rt;
+        (stored.ctlr, stored.propbaser, stored.pendbaser),
+        (0, 0, table)
+    );
+    assert_eq!(rt;
+        its_stored_lpi_registers(&mut handle, 2, &mut stored),
+        RANGE
+    );
     assert_eq!(rt; its_free(&mut handle, alloc), DONE);
 }

@@ -16,6 +16,7 @@ pub struct Description {
     pub profile: u32,
     pub programmed: u32,
     pub restored: u32,
+    pub linux_guest: u32,
     pub config: u64,
     pub ctlr: u64,
     pub cbaser: u64,

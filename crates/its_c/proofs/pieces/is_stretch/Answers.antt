@@ -1,7 +1,8 @@
 use Rattle.std.proofs.Common.{◌≡◌, ◌<◌, ◌+◌, ◌*◌, true, false, sym, ap, ◌∙◌, subst}
 use Rattle.guest_windows.specs.Windows.{inside}
 use Rattle.its_plain.specs.Plain.{Plain}
-use Rattle.its_c.specs.Pieces.{piece_length, AreInside}
+use Rattle.its_c.specs.Pieces.{AreInside}
+use Rattle.owned_machine.specs.Pieces.{piece_length}
 use Rattle.its_c.proofs.PieceSteps.{below_next, inside_by_read}
 use Rattle.its_c.proofs.pieces.is_stretch.Goals as goal
 

@@ -4,7 +4,8 @@ use Rattle.guest_windows.specs.Windows.{inside, read_at}
 use Rattle.guest_windows.proofs.Laws.{length-read_at}
 use Rattle.guest_windows.proofs.Splices.{length-splice}
 use Rattle.its_plain.specs.Plain.{Plain}
-use Rattle.its_c.specs.Pieces.{piece_length, piece_count, AreRead}
+use Rattle.its_c.specs.Pieces.{AreRead}
+use Rattle.owned_machine.specs.Pieces.{piece_length, piece_count}
 use Rattle.its_c.proofs.PieceSteps.{inside_by_read, next_read}
 use Rattle.its_c.proofs.pieces.read.Goals as goal
 
