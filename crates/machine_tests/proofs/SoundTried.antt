@@ -73,12 +73,12 @@ in_list (y ∷ xs) zero x is = omega arith
 in_list (y ∷ xs) (suc v) x is = let lt = in_list xs v x is in omega (arith, lt)
 
 module _ (l : Layout) (r : Registers) (m : Maps) (memory : List Window) (redists : List (Option Redist)) where
-  pub sound_state : IsShape l.shape → l.gicr ≡ false → length l.described ≡ l.shape.vcpus → regs.IsSound r → r.dev_bits ≡ l.shape.dev_bits → EventsHaveDevices m
+  pub sound_state : IsShape l.shape → l.gicr ≡ false → l.track ≡ false → length l.described ≡ l.shape.vcpus → regs.IsSound r → r.dev_bits ≡ l.shape.dev_bits → EventsHaveDevices m
       → AllByRecursion (IsDeviceOf r) (finmap.entries m.devices) → AllByRecursion (AreEventsOf l.shape m) (finmap.entries m.devices)
       → AllByRecursion (IsCollectionOf l.shape r) (finmap.entries m.collections)
       → AreSoundRedistributors l memory redists → AreAllInHand l.shape redists → are_windows (map extent memory) ≡ true
       → IsSound (state_of l r m memory redists)
-  sound_state shape none tables rules bits have devices events collections redistributors in_hands windows =
+  sound_state shape none untracked tables rules bits have devices events collections redistributors in_hands windows =
       let t : Translator = record { regs = r; maps = m } in
       let translator : IsTranslator l.shape t = record {
         regs = rules;
@@ -101,6 +101,8 @@ module _ (l : Layout) (r : Registers) (m : Maps) (memory : List Window) (redists
             let same : redistributor_of h.0 ≡ q = same_Some (redistributor_of h.0) q (sym (in_hand_here n v redists h.0 lt h.1) ∙ is) in
             subst (IsRedistributor l memory v) same (redistributors v h.0 lt h.1);
         memory = windows;
+        tracks = sym untracked;
+        tracked = λ t is. absurd cc;
       }
 
 -- ---- the redistributors, one after another

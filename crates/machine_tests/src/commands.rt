@@ -1,14 +1,15 @@
 ghost use Rattle.std.specs.Prelude.{◌≡◌, true};
 ghost use Rattle.its_command.specs.declared.command.Command.TheVariants as command;
 
-use cmd_exec::{PartSet, apply, make_room, needs, plan, read_register, write_register};
+use cmd_exec::{apply, make_room, needs, plan, read_register, write_register};
 use gits_regs::Regs;
 use guest_windows::{Memory, NewError};
 use its_command::{Command, Op, RdBase};
 use its_maps::Maps;
 use its_plain::{CmdReply, Reason};
-use its_types::{Addr, Device, DeviceId, Icid, Part, Profile, Shape, Vcpu};
+use its_types::{Addr, Device, DeviceId, Icid, Profile, Shape, Vcpu};
 use lpi_pending::Redists;
+use owned_parts::RedistSet;
 use std::alloc::{AllocError, Global};
 use std::process::Abort;
 use std::test::Fail;
@@ -25,6 +26,7 @@ const SHAPE: Shape = Shape {
     dev_bits: 16,
     lpi_bits: 16,
     profile: Profile::One,
+    linux: false,
 };
 
 fn mapc(icid: u16, target: u8) -> Command
@@ -50,7 +52,7 @@ fn map(maps: &mut Maps) -> Result<(), AllocError> {
 fn leaves_devices(maps: &mut Maps) -> bool {
     let mut regs = Regs::reset(16);
     let reset = read_register(&regs, 0x8, 8);
-    write_register(&mut regs, maps, 0x108, 8, MAPPED);
+    write_register(&mut regs, maps, &SHAPE, 0x108, 8, MAPPED);
     let written = read_register(&regs, 0x108, 8);
     let gone = maps.collection(Icid(1)).is_none();
     reset == 0x1ef71 && written == MAPPED && gone && maps.device(DeviceId(16)) == Some(DEVICE)
@@ -64,8 +66,36 @@ fn a_new_collection_table_unmaps_collections(rt: HostRuntime) -> Result<(), Fail
     Ok(())
 }
 
+// Whether collection 1 is mapped, once GITS_BASER1 was written twice: with this value, and with its
+// own or another. Device 16 always is.
+fn keeps_collection(maps: &mut Maps, shape: &Shape, first: u64, second: u64) -> bool {
+    let mut regs = Regs::reset(16);
+    write_register(&mut regs, maps, shape, 0x108, 8, first);
+    let Ok(()) = maps.room_for_collection() else {
+        return false;
+    };
+    maps.map_collection(Icid(1), Vcpu(2));
+    write_register(&mut regs, maps, shape, 0x108, 8, second);
+    maps.device(DeviceId(16)).is_some() && maps.collection(Icid(1)).is_some()
+}
+
+#[test]
+fn a_table_that_is_named_again(rt: HostRuntime) -> Result<(), Fail> {
+    let mut maps = Maps::new(rt.alloc());
+    map(&mut maps)?;
+    let linux = Shape {
+        linux: true,
+        ..SHAPE
+    };
+    let other = MAPPED + 0x1_0000;
+    assert!(rt; keeps_collection(&mut maps, &linux, MAPPED, MAPPED));
+    assert!(rt; !keeps_collection(&mut maps, &linux, MAPPED, other));
+    assert!(rt; !keeps_collection(&mut maps, &SHAPE, MAPPED, MAPPED));
+    Ok(())
+}
+
 // What a translator at reset needs for a command.
-fn needed(alloc: Global, command: &Command) -> PartSet {
+fn needed(alloc: Global, command: &Command) -> RedistSet {
     let regs = Regs::reset(16);
     let maps = Maps::new(alloc);
     needs(command, &regs, &maps, &SHAPE)
@@ -74,14 +104,13 @@ fn needed(alloc: Global, command: &Command) -> PartSet {
 #[test]
 fn redistributors_that_commands_need(rt: HostRuntime) {
     let all = needed(rt.alloc(), &Command::Invall { icid: Icid(0) });
-    assert!(rt; all.contains(Part::Redist(Vcpu(0))) && !all.contains(Part::Redist(Vcpu(4))));
+    assert!(rt; all.has(Vcpu(0)) && !all.has(Vcpu(4)));
     let movall = Command::Movall {
         from: RdBase::new(3),
         to: RdBase::new(1),
     };
     let set = needed(rt.alloc(), &movall);
-    assert!(rt; set.contains(Part::Redist(Vcpu(3))) && !set.contains(Part::Redist(Vcpu(2))));
-    assert!(rt; set.contains(Part::Maps(0)) && set.contains(Part::Mem));
+    assert!(rt; set.has(Vcpu(3)) && !set.has(Vcpu(2)));
     assert!(rt; set.redists().map(|vcpu| vcpu.0).eq([1, 3].iter().copied()));
 }
 

@@ -5,6 +5,10 @@
 #[cfg(test)]
 mod commands;
 #[cfg(test)]
+mod large_guests;
+#[cfg(test)]
+mod linux_guests;
+#[cfg(test)]
 mod machines_alike;
 #[cfg(test)]
 mod migrations;

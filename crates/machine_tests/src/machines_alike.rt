@@ -1,6 +1,6 @@
 //! The machine and the plain one answer alike: every refusal and every effect of each command, and
 //! the other calls.
-ghost use Rattle.its_plain.specs.Machine.{IsDescription};
+ghost use Rattle.its_plain.specs.Machine.{IsDescription, IsSingle};
 
 use crate::scripts::{Asked, CONFIG, Given, Line, desc, enabling, queueing};
 use its_command::Command;
@@ -109,14 +109,21 @@ fn agree_from(
     machine: &mut Machine,
     lines: &[Line],
 ) -> Result<usize, Fail>
-    requires { IsDescription desc.now }
+    requires counts { IsDescription desc.now }
+    requires single { IsSingle desc.now }
 {
     let state = State::new(alloc, desc)?;
     Ok(agree(alloc, machine, state, lines)?)
 }
 
-fn agree_made(alloc: Global, desc: &Desc, lines: &[Line]) -> Result<Result<usize, Fail>, MakeError>
-    requires { IsDescription desc.now }
+/// How many of the lines the described machines both answer as they say.
+pub fn agree_made(
+    alloc: Global,
+    desc: &Desc,
+    lines: &[Line],
+) -> Result<Result<usize, Fail>, MakeError>
+    requires counts { IsDescription desc.now }
+    requires single { IsSingle desc.now }
 {
     let mut machine = Machine::new(alloc, desc)?;
     Ok(agree_from(alloc, desc, &mut machine, lines))

@@ -1,8 +1,8 @@
 //! Machines that are saved, moved and restored. The words are those of the table format (KVM
 //! document arm-vgic-its, "ITS Table ABI REV0").
-ghost use Rattle.its_plain.specs.Machine.{IsDescription};
+ghost use Rattle.its_plain.specs.Machine.{IsDescription, IsSingle};
 
-use crate::scripts::{Asked, Given, Line, desc, enabling, queueing};
+use crate::scripts::{Asked, Given, Line, enabling, queueing, restored_desc};
 use gits_regs::RegValues;
 use its_plain::{
     Call, Cause, Desc, DescFault, MakeError, Reason, Region, Reply, RestoreFault, SaveError,
@@ -119,7 +119,8 @@ fn play_made(
     baser0: Option<u64>,
     acts: &[Act],
 ) -> Result<Result<usize, AllocError>, MakeError>
-    requires { IsDescription desc.now }
+    requires counts { IsDescription desc.now }
+    requires single { IsSingle desc.now }
 {
     let mut machine = Machine::new(alloc, desc)?;
     Ok(play_on(alloc, &mut machine, baser0, acts))
@@ -134,8 +135,7 @@ fn played(
     baser0: Option<u64>,
     acts: &[Act],
 ) -> Result<Result<usize, MakeError>, Fail> {
-    let mut desc = desc(alloc, Profile::One, words)?;
-    desc.restore = restore;
+    let desc = restored_desc(alloc, Profile::One, restore, words)?;
     match play_made(alloc, &desc, baser0, acts) {
         Ok(count) => Ok(Ok(count?)),
         Err(error) => Ok(Err(error)),
@@ -196,7 +196,7 @@ const FAR_IN_TWO_LEVELS: [Act; 13] = [
     Act::Asks(Line::Drops(16384, 0, Cause::NoEvent)),
     Act::Asks(Line::Drops(16383, 0, Cause::NoDevice)),
     Act::Asks(Line::Pokes(0x8000_0010, 0)),
-    Act::StaysFor(SaveFault::NoPlace(DeviceId(16384))),
+    Act::StaysFor(SaveFault::NoPlace(0, DeviceId(16384))),
     Act::Asks(Line::Drops(0, 0, Cause::NoEvent)),
     Act::Asks(Line::Drops(16384, 0, Cause::NoEvent)),
     Act::Asks(Line::Drops(16383, 0, Cause::NoDevice)),
@@ -278,7 +278,7 @@ const OVERLAPPING: [Act; 14] = [
     Act::Asks(Line::Runs(Given::Mapd(17, 5, ITT))),
     Act::Asks(Line::Delivers(16, 3, 2, 8200)),
     Act::Asks(Line::Byte(0x8003_0008, 0x40)),
-    Act::StaysFor(SaveFault::Overlap(Region::Itt(DeviceId(16)), Region::Itt(DeviceId(17)))),
+    Act::StaysFor(SaveFault::Overlap(Region::Itt(0, DeviceId(16)), Region::Itt(0, DeviceId(17)))),
     Act::Pends(2, Some(Intid(8200)), None),
     Act::Asks(Line::Peeks(0x8000_0080, 0)),
     Act::Asks(Line::Peeks(0x800c_0018, 0)),
@@ -369,6 +369,6 @@ fn a_machine_that_is_not_restored(rt: HostRuntime) -> Result<(), Fail> {
     let words = words(0x001d_0000_2008_0001);
     let done = played(rt.alloc(), &words, Some(VALUES), None, &[])?;
     let fault = RestoreFault::PastEnd(Table::Itt(DeviceId(16)), 3, 29);
-    assert_eq!(rt; done, Err(MakeError::Fault(DescFault::Restore(fault))));
+    assert_eq!(rt; done, Err(MakeError::Fault(DescFault::Restore(0, fault))));
     Ok(())
 }

@@ -1,10 +1,10 @@
-ghost use Rattle.std.specs.Prelude.{◌<◌, IfOk};
+ghost use Rattle.std.specs.Prelude.{◌≡◌, ◌<◌, false, IfOk};
 ghost use Rattle.its_plain.specs.Sound.{IsLayout};
 ghost use Rattle.owned_parts.specs.Owned.{AreAllInHand};
 
 use gicr_regs::{GicrRegisters, GicrValues};
 use gits_regs::{RegValues, Register};
-use guest_windows::{Memory, Outside};
+use guest_windows::{Memory, WriteError};
 use its_maps::LookUp;
 use its_plain::{Layout, RestoreFault, Table};
 use its_types::{
@@ -28,14 +28,17 @@ const VALUES: RegValues = RegValues {
 
 // Four virtual processors, whose LPIs are on at these tables, or whose LPI registers the guest
 // programs.
-fn layout(alloc: Global, gicr: bool) -> Result<Layout, AllocError>
-    ensures { IfOk result IsLayout }
+fn layout(alloc: Global, gicr: bool, linux: bool) -> Result<Layout, AllocError>
+    ensures layout { IfOk result IsLayout }
+    ensures track { IfOk result (λ l. l.track ≡ false) }
 {
+    let shape = Shape { linux, ..SHAPE };
     if gicr {
         return Ok(Layout {
-            shape: SHAPE,
+            shape,
             gicr,
             described: Listed::new(alloc),
+            track: false,
         });
     }
     let mut described = Listed::new(alloc);
@@ -44,13 +47,14 @@ fn layout(alloc: Global, gicr: bool) -> Result<Layout, AllocError>
     described.push(Bases::described(CONFIG, Addr(0x8006_0000)))?;
     described.push(Bases::described(CONFIG, Addr(0x8007_0000)))?;
     Ok(Layout {
-        shape: SHAPE,
+        shape,
         gicr,
         described,
+        track: false,
     })
 }
 
-fn put(memory: &mut Memory, words: &[(u64, u64)]) -> Result<(), Outside> {
+fn put(memory: &mut Memory, words: &[(u64, u64)]) -> Result<(), WriteError> {
     for &(addr, word) in words {
         memory.write_u64(Addr(addr), word)?;
     }
@@ -70,6 +74,7 @@ const SHAPE: Shape = Shape {
     dev_bits: 16,
     lpi_bits: 16,
     profile: Profile::One,
+    linux: false,
 };
 
 const OFF: GicrRegisters = GicrRegisters {
@@ -89,6 +94,7 @@ struct Case {
     words: &'static [(u64, u64)],
     // Whether the guest programs the LPI registers.
     gicr: bool,
+    linux: bool,
     redists: GicrValues,
 }
 
@@ -98,6 +104,7 @@ fn described(values: RegValues, words: &'static [(u64, u64)]) -> Case {
         values,
         words,
         gicr: false,
+        linux: false,
         redists: ALL_OFF,
     }
 }
@@ -156,7 +163,7 @@ fn restored(
 ) -> Result<Result<usize, RestoreFault>, Fail> {
     let mut memory = Memory::new(alloc, &[(Addr(0x8000_0000), 0x20_0000)])?;
     put(&mut memory, case.words)?;
-    let layout = layout(alloc, case.gicr)?;
+    let layout = layout(alloc, case.gicr, case.linux)?;
     match restore(alloc, case.values, &case.redists, &memory, &layout) {
         Ok(parts) => Ok(Ok(count_found(&parts, layout.shape, rows))),
         Err(RestoreError::Fault(fault)) => Ok(Err(fault)),
@@ -265,6 +272,28 @@ fn old_entries_are_not_read(rt: HostRuntime) -> Result<(), Fail> {
     Ok(())
 }
 
+// A collection that was named and never mapped, as KVM saves it, between two that are mapped.
+const NEVER_MAPPED: [(u64, u64); 3] = [
+    (0x8001_0000, 0x8000_0000_0002_0001),
+    (0x8001_0008, 0x8000_ffff_ffff_0002),
+    (0x8001_0010, 0x8000_0000_0003_0003),
+];
+
+#[test]
+fn a_collection_that_was_never_mapped(rt: HostRuntime) -> Result<(), Fail> {
+    let mut case = described(VALUES, &NEVER_MAPPED);
+    let fault = RestoreFault::BadTarget(Icid(2), 0xffff_ffff);
+    assert_eq!(rt; restored(rt.alloc(), &case, &[])?, Err(fault));
+    case.linux = true;
+    let rows = [
+        Found::Collection(1, Some(Vcpu(2))),
+        Found::Collection(2, None),
+        Found::Collection(3, Some(Vcpu(3))),
+    ];
+    assert_eq!(rt; restored(rt.alloc(), &case, &rows)?, Ok(3));
+    Ok(())
+}
+
 // Device 0 leads past its page, to the next level-1 entry, whose page is the same.
 #[test]
 fn one_page_of_two_entries(rt: HostRuntime) -> Result<(), Fail> {
@@ -295,6 +324,7 @@ fn registers_of_redistributors(rt: HostRuntime) -> Result<(), Fail> {
         values: VALUES,
         words: &[(0x8003_0008, 0xa1), (0x8006_0400, 0x0100)],
         gicr: true,
+        linux: false,
         redists: ALL_OFF,
     };
     case.redists.registers[2] = GicrRegisters {

@@ -21,6 +21,7 @@ const SHAPE: Shape = Shape {
     dev_bits: 16,
     lpi_bits: 16,
     profile: Profile::One,
+    linux: false,
 };
 
 const CONFIG: Addr = Addr(0x8003_0000);
@@ -37,6 +38,7 @@ fn layout(alloc: Global) -> Result<Layout, SaveError>
         shape: SHAPE,
         gicr: false,
         described,
+        track: false,
     })
 }
 
@@ -240,7 +242,7 @@ fn two_devices_with_one_table(rt: HostRuntime) -> Result<(), Fail> {
         events: &[(16, 3, 8200)],
         collections: &[(1, 2)],
     };
-    let fault = SaveFault::Overlap(Region::Itt(DeviceId(16)), Region::Itt(DeviceId(17)));
+    let fault = SaveFault::Overlap(Region::Itt(0, DeviceId(16)), Region::Itt(0, DeviceId(17)));
     let error = leaves(rt.alloc(), &case, &[]).err();
     assert_eq!(rt; error, Some(SaveError::Fault(fault)));
     Ok(())

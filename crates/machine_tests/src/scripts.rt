@@ -1,10 +1,11 @@
 //! What the tests are written in: descriptions, and lines of commands and calls.
 ghost use Rattle.std.specs.Prelude.{◌<◌, ◌≤◌, length, IfOk};
-ghost use Rattle.its_plain.specs.Machine.{IsDescription};
+ghost use Rattle.its_plain.specs.Machine.{IsDescription, IsSingle};
 
+use gits_regs::RegValues;
 use its_command::{Command, EventIdBits, IttAddr, Op, RdBase, UnknownOp, encode};
 use its_plain::{
-    Ack, Bytes64, Call, Cause, Desc, Fill, LpiTables, Reason, Reply, Signal, StepReply,
+    Ack, Bytes64, Call, Cause, Desc, Fill, Its, LpiTables, Reason, Reply, Signal, StepReply,
 };
 use its_types::{Addr, DeviceId, EventId, Icid, Intid, Limits, Listed, Profile, Shape, Vcpu};
 use owned_machine::Machine;
@@ -18,7 +19,21 @@ pub const CONFIG: Addr = Addr(0x8003_0000);
 
 /// Four virtual processors, and two MiB of memory with these words.
 pub fn desc(alloc: Global, profile: Profile, words: &[(u64, u64)]) -> Result<Desc, AllocError>
-    ensures { IfOk result IsDescription }
+    ensures counts { IfOk result IsDescription }
+    ensures single { IfOk result IsSingle }
+{
+    restored_desc(alloc, profile, None, words)
+}
+
+/// The same, restored with these values of registers, where they are given.
+pub fn restored_desc(
+    alloc: Global,
+    profile: Profile,
+    restore: Option<RegValues>,
+    words: &[(u64, u64)],
+) -> Result<Desc, AllocError>
+    ensures counts { IfOk result IsDescription }
+    ensures single { IfOk result IsSingle }
 {
     let mut windows = Listed::new(alloc);
     windows.push((Addr(0x8000_0000), 0x20_0000))?;
@@ -28,12 +43,18 @@ pub fn desc(alloc: Global, profile: Profile, words: &[(u64, u64)]) -> Result<Des
     pending.push(Addr(0x8006_0000))?;
     pending.push(Addr(0x8007_0000))?;
     let fills = fills(alloc, words)?;
+    let mut translators = Listed::new(alloc);
+    translators.push(Its {
+        restore,
+        frames: None,
+    })?;
     Ok(Desc {
         shape: Shape {
             vcpus: 4,
             dev_bits: 16,
             lpi_bits: 16,
             profile,
+            linux: false,
         },
         shards: 4,
         limits: Limits {
@@ -41,12 +62,15 @@ pub fn desc(alloc: Global, profile: Profile, words: &[(u64, u64)]) -> Result<Des
             place_last: 1_099_511_627_775,
         },
         windows,
+        memory_limit: u64::MAX,
         tables: LpiTables::Described {
             config: CONFIG,
             pending,
         },
         fills,
-        restore: None,
+        translators,
+        requesters: Listed::new(alloc),
+        track: false,
     })
 }
 
@@ -111,6 +135,15 @@ pub enum Line {
     /// The first byte there.
     Byte(u64, u8),
     Saves,
+    /// A virtual processor and a mask, and the interrupt that comes first with its priority.
+    Bests(u8, u8, Option<(u32, u8)>),
+    /// A virtual processor and an interrupt.
+    Claims(u8, u32, Option<(u32, u8)>),
+    /// The register at an offset, its size, and the value.
+    Writes(u32, u8, u64),
+    /// The same of a virtual processor's LPI registers.
+    WritesLpi(u8, u32, u8, u64),
+    ReadsLpi(u8, u32, u8, u64),
 }
 
 /// What a line asks for.
@@ -148,6 +181,29 @@ impl Line {
             Line::Pokes(addr, word) => Asked::Call(poke(addr, &word.to_le_bytes()), Reply::Ok),
             Line::Byte(addr, byte) => Asked::Call(poke(addr, &[byte]), Reply::Ok),
             Line::Saves => Asked::Call(Call::Save, Reply::Saved),
+            Line::Bests(vcpu, mask, lpi) => {
+                let vcpu = Vcpu(vcpu);
+                Asked::Call(Call::Best { vcpu, mask }, Reply::Ack(ack(lpi)))
+            }
+            Line::Claims(vcpu, intid, lpi) => {
+                let (vcpu, intid) = (Vcpu(vcpu), Intid(intid));
+                Asked::Call(Call::Claim { vcpu, intid }, Reply::Ack(ack(lpi)))
+            }
+            Line::Writes(off, size, value) => Asked::Call(write(off, size, value), Reply::Ok),
+            Line::WritesLpi(vcpu, off, size, value) => {
+                let vcpu = Vcpu(vcpu);
+                let call = Call::WriteGicr {
+                    vcpu,
+                    off,
+                    size,
+                    value,
+                };
+                Asked::Call(call, Reply::Ok)
+            }
+            Line::ReadsLpi(vcpu, off, size, value) => {
+                let vcpu = Vcpu(vcpu);
+                Asked::Call(Call::ReadGicr { vcpu, off, size }, Reply::Value(value))
+            }
         }
     }
 }

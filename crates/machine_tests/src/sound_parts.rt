@@ -40,7 +40,7 @@ pub fn are_sound(
     if !is_shape(shape) || regs.dev_bits() != shape.dev_bits {
         return false;
     }
-    if layout.gicr || layout.described.len() != shape.vcpus as usize {
+    if layout.gicr || layout.track || layout.described.len() != shape.vcpus as usize {
         return false;
     }
     if !are_devices(regs, maps) || !are_events(maps, shape) {

@@ -1,4 +1,4 @@
-use Rattle.std.proofs.Common.{ℕ, List, [], ◌∷◌, refl, ap, ◌∙◌, lit≤}
+use Rattle.std.proofs.Common.{ℕ, false, List, [], ◌∷◌, refl, ap, ◌∙◌, lit≤}
 use Rattle.gits_regs.specs.Registers.{Registers}
 use Rattle.its_types.specs.declared.machine.Profile.TheVariants.{One}
 use Rattle.its_types.specs.declared.machine.Shape.{Shape}
@@ -10,7 +10,7 @@ plan-planned-requires g c = mapc_needs_none _ _ _ c.mapc.result _ _ refl c.mapc.
 
 pub apply-requires-clause-parts : goal.apply-requires-clause-parts
 apply-requires-clause-parts g c =
-    let shape : Shape = record { vcpus = 4; dev_bits = 16; lpi_bits = 16; profile = One } in
+    let shape : Shape = record { vcpus = 4; dev_bits = 16; lpi_bits = 16; profile = One; linux = false } in
     let windows : List (ℕ × ℕ) = (0x8000_0000, 0x1000) ∷ [] in
     starts_sound shape c.reset-regs.result _ c.in_ok-memory.memory c.new-redists.result
     (record {
