@@ -1,5 +1,5 @@
 -- The state that all parts in hand stand for.
-use Rattle.std.proofs.Common.{◌≡◌, ℕ, zero, suc, ◌<◌, ◌≤◌, List, [], ◌∷◌, map, take, length, Option, Some, get_or, refl, sym, ap, ◌∙◌, arith}
+use Rattle.std.proofs.Common.{◌≡◌, ℕ, zero, suc, ◌<◌, ◌≤◌, List, [], ◌∷◌, map, take, length, Option, Some, None, get_or, refl, sym, ap, ◌∙◌, arith}
 use Rattle.std.specs.Prelude.{slice_get}
 use Rattle.std.specs.List.{AllByRecursion}
 use Rattle.std.proofs.lemmas.Option.{same_Some, slice_get_within}
@@ -76,9 +76,6 @@ module _ (s : Setup) (n : ℕ) (rs : List (Option InHand)) (are : AreFirstOf s n
 
 -- ---- states
 
-built : Layout → List Translator → List Redistributor → List Window → Plain
-built l ts rs m = record { layout = l; translators = ts; redistributors = rs; memory = m }
-
 module _ (s : Setup) (x : Whole) (are : AreFirstOf s (vcpu_count s) x.redists) where
   abbrev n : ℕ
   n = vcpu_count s
@@ -89,13 +86,14 @@ module _ (s : Setup) (x : Whole) (are : AreFirstOf s (vcpu_count s) x.redists) w
   state_is one word u m right =
       let t : Translator = translator_of x.tables.value in
       let base = out_rest (IsRight s word u) x.redists n (memory_held x.tables.value x.memory.value.memory) right in
-      let memory : x.memory.value.memory ≡ u.memory = sym base.0 in
+      let memory : x.memory.value.memory ≡ u.memory = sym base.0.0 in
+      let track : None ≡ u.track = sym base.0.1 in
       let translators : t ∷ [] ≡ u.translators = one_is u.translators t (sym m.translators ∙ one) base.1.0 in
       let many : length u.redistributors ≡ n = m.sound.vcpus ∙ ap (λ (l : Layout). l.shape.vcpus) (sym m.layout) in
       let redists : firsts n x.redists ≡ u.redistributors = firsts_are s n x.redists are u.redistributors many
       (λ v lt. out_each (IsRight s word u) x.redists n (memory_held x.tables.value x.memory.value.memory) right v lt) in
       let layout = m.layout in
-      λ d. record { layout = layout d; translators = translators d; redistributors = redists d; memory = memory d }
+      λ d. record { layout = layout d; translators = translators d; redistributors = redists d; memory = memory d; track = track d }
 
   -- they are a machine's where that is sound
   pub machine_is : IsSound (state_of_parts (parts_of s.start.layout x)) → IsMachine (parts_of s.start.layout x)

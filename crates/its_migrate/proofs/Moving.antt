@@ -1,10 +1,11 @@
 -- From the moved parts to the machine that goes on with them.
-use Rattle.std.proofs.Common.{◌≡◌, Result, Ok, Err, refl, ap, sym, ◌∙◌, subst}
+use Rattle.std.proofs.Common.{◌≡◌, List, [], ◌∷◌, map, Result, Ok, Err, refl, ap, sym, ◌∙◌, subst}
 use Rattle.std.specs.Prelude.{IfOk}
 use Rattle.its_plain.specs.History.{after}
 use Rattle.its_plain.specs.Plain.{Plain}
 use Rattle.its_plain.specs.Saved.{moved}
 use Rattle.its_plain.specs.declared.desc.Desc.{Desc}
+use Rattle.its_plain.specs.declared.desc.Its.{Its}
 use Rattle.its_plain.specs.declared.fault.SaveError.{SaveError}
 use Rattle.its_plain.specs.declared.layout.Layout.{Layout}
 use Rattle.its_plain.specs.Sound.{IsSound}
@@ -15,7 +16,7 @@ use Rattle.owned_parts.specs.declared.parts.Parts.{Parts}
 use Rattle.its_steps.specs.Parts.{Setup}
 use Rattle.its_steps.specs.World.{View, first_view}
 use Rattle.its_turns.specs.Machines.{setup, view, IsOf}
-use Rattle.its_turns.specs.Opening.{setup_from, kept_of}
+use Rattle.its_turns.specs.Opening.{setup_from, kept_its, kept_of}
 use Rattle.its_turns.specs.declared.machine.Machine.{Machine}
 use Rattle.its_turns.specs.declared.machine.Pass.{Pass}
 use Rattle.its_migrate.specs.Resting.{WentOn, resting}
@@ -49,11 +50,19 @@ module _ (s : Setup) (v w : View) (x : Whole) (taken : HasTaken s v x w) (l : La
 
 -- ---- the new machine
 
+-- what a description keeps it keeps again
+kept_twice : (ts : List Its) → map kept_its (map kept_its ts) ≡ map kept_its ts
+kept_twice [] = refl
+kept_twice (t ∷ ts) = ap (λ (rest : List Its). kept_its t ∷ rest) (kept_twice ts)
+
+kept_again : (d : Desc) → kept_of (kept_of d) ≡ kept_of d
+kept_again d = λ i. record (kept_of d) { translators = kept_twice d.translators i }
+
 module _ (m n : Machine) (r q : Pass) (p : Parts) (own : p.layout ≡ (setup m).start.layout) (are : AreMoved (resting m r) (Ok p))
     (of : IsOf n q) (made : setup n ≡ setup_from m.desc p) (desc : n.desc ≡ kept_of m.desc)
     (fresh : view q ≡ first_view (setup n)) where
   same_desc : n.desc ≡ m.desc
-  same_desc = desc ∙ (ap (λ (d : Desc). kept_of d) m.described ∙ sym m.described)
+  same_desc = desc ∙ (ap (λ (d : Desc). kept_of d) m.described ∙ (kept_again m.table.shared.key.desc.value ∙ sym m.described))
 
   same_start : (setup n).start ≡ state_of_parts p
   same_start = ap (λ (s : Setup). s.start) made

@@ -9,9 +9,13 @@ use Rattle.its_plain.specs.History.{after}
 use Rattle.its_plain.specs.declared.call.Entry.{Entry}
 use Rattle.its_plain.specs.declared.layout.Layout.{Layout}
 use Rattle.its_steps.specs.Parts.{Setup, IsOfMachine, vcpu_count}
-use Rattle.its_steps.specs.World.{View}
-use Rattle.its_turns.specs.Told.{IsLone, Looks}
+use Rattle.its_types.specs.declared.machine.Part.{Part}
+use Rattle.its_steps.specs.Contents.{Content}
+use Rattle.its_steps.specs.World.{View, loaded}
+use Rattle.its_turns.specs.Told.{IsLone, Looks, IsLastOrLater, released}
+use Rattle.its_migrate.specs.Getting.{Gets}
 use Rattle.its_migrate.specs.Resting.{Rests}
+use Rattle.its_migrate.proofs.Views.{still_word}
 
 abbrev pub lpis_in : List Intid → List ℕ
 lpis_in = map (λ i. i.0)
@@ -31,13 +35,25 @@ all_lists rs n e = ap (λ (k : ℕ). map pending_in (take k rs)) e ∙ ap (λ (q
 
 -- ---- views
 
-pub rests_looked : (v w : View) (z : Word) → IsLone v → Looks v z w → Rests v w
-rests_looked v w z alone looks =
+pub rests_looked : (v w : View) (z : Word) → IsLone v → Looks v z w → IsLastOrLater v z → Rests v w
+rests_looked v w z alone looks later =
     let seen = looks.still alone in
+    let last = still_word v z alone later in
     record {
-      same = subst (λ (y : View). y ≡ record v { last = y.last; cache = y.cache; tries = y.tries })
-          (sym (looks.same ∙ (λ d. record v { last = z; seen = seen d }))) refl;
+      same = subst (λ (y : View). y ≡ record v { cache = y.cache; tries = record v.tries { won = y.tries.won } })
+          (sym (looks.same ∙ (λ d. record v { last = last d; seen = seen d }))) refl;
     }
+
+-- a part was got, the word read, and the part put back
+pub rests_put : (v w x y : View) (p : Part) (c : Content) (z : Word) → IsLone v → Gets v p c w → Looks w z x → IsLastOrLater w z → y ≡ released x → Rests v y
+rests_put v w x y p c z lone gets looks later put =
+    let lone_here = subst IsLone (sym gets.same) lone in
+    let seen = looks.still lone_here ∙ ap (λ (u : View). u.seen) gets.same in
+    let last = still_word w z lone_here later ∙ ap (λ (u : View). u.last) gets.same in
+    let tries = gets.alone lone in
+    let back : y ≡ record v { cache = w.cache; tries = record v.tries { won = w.tries.won } } = put ∙ (ap released (looks.same ∙ ap (λ (u : View).
+    loaded u z x.seen) gets.same) ∙ (λ d. record v { last = last d; seen = seen d; cache = w.cache; tries = tries d })) in
+    record { same = subst (λ (u : View). u ≡ record v { cache = u.cache; tries = record v.tries { won = u.tries.won } }) (sym back) refl }
 
 -- there are as many redistributors as processors
 pub as_many_rest : (s : Setup) (v w : View) (z : Word) → v.setup ≡ s → IsLone v → Looks v z w → length (after s.start v.seen).redistributors ≡ vcpu_count s
@@ -57,4 +73,6 @@ module _ (v w : View) (rests : Rests v w) where
   rests_seen = ap (λ (y : View). y.seen) rests.same
 
   pub rests_more : (x : View) → Rests w x → Rests v x
-  rests_more x more = record { same = more.same ∙ ap (λ (y : View). record y { last = x.last; cache = x.cache; tries = x.tries }) rests.same }
+  rests_more x more = record {
+    same = more.same ∙ ap (λ (y : View). record y { cache = x.cache; tries = record y.tries { won = x.tries.won } }) rests.same;
+  }

@@ -1,11 +1,13 @@
 -- A save of all parts in hand.
-use Rattle.std.proofs.Common.{◌≡◌, ◌<◌, List, [], Option, Result, Ok, Err, refl, ap, sym, ◌∙◌, subst, length}
+use Rattle.std.proofs.Common.{◌≡◌, ◌<◌, List, [], Option, None, Result, Ok, Err, refl, ap, sym, ◌∙◌, subst, length}
+use Rattle.std.specs.Option.{option_map}
 use Rattle.guest_windows.specs.Windows.{Window}
 use Rattle.its_types.specs.declared.machine.Word.{Word}
 use Rattle.its_plain.specs.Answer.{save_reply, save_left}
 use Rattle.its_plain.specs.History.{after}
 use Rattle.its_plain.specs.Plain.{Plain}
 use Rattle.its_plain.specs.Regions.{savable}
+use Rattle.its_plain.specs.Saved.{saved, words_of, wrote_tables}
 use Rattle.its_plain.specs.Sound.{IsSound}
 use Rattle.its_plain.specs.declared.call.Call.TheVariants as call
 use Rattle.its_plain.specs.declared.fault.SaveFault.{SaveFault}
@@ -26,7 +28,7 @@ use Rattle.its_turns.specs.declared.attempts.Lost.TheVariants as lost
 use Rattle.its_turns.proofs.Telling.{may_here, owes_here, goes_looked, goes_emptied, stays_from, makes_from, made_emptied, placed_from, leaves_from}
 use Rattle.lpi_pending.specs.declared.redist.Redist.{Redist}
 use Rattle.its_migrate.specs.Getting.{AreFirstOf}
-use Rattle.its_migrate.specs.Saving.{IsTried, unmade_by}
+use Rattle.its_migrate.specs.Saving.{IsTried, LeavesMemory, answered, memory_or, unmade_by}
 use Rattle.its_migrate.specs.Wholes.{HasTaken, held_whole, parts_of}
 use Rattle.its_migrate.specs.declared.whole.Whole.{Whole}
 use Rattle.its_migrate.proofs.Hands.{held_is}
@@ -35,17 +37,28 @@ use Rattle.its_migrate.proofs.Moving.{taken_state}
 abbrev Answer : Type 0
 Answer = Result (Unit {0}) SaveFault
 
--- a save changes nothing but memory
-saved_is : (u : Plain) (r : Answer) → record u { memory = (save_left u r).memory } ≡ save_left u r
-saved_is u (Ok done) = refl
-saved_is u (Err fault) = refl
+-- a save changes nothing but memory, where there is no second one
+saved_is : (u : Plain) (r : Answer) → u.track ≡ None → record u { memory = (save_left u r).memory } ≡ save_left u r
+saved_is u (Ok done) none =
+    let same : u.track ≡ option_map (wrote_tables (words_of u)) u.track = none ∙ sym (ap (option_map (wrote_tables (words_of u))) none) in
+    λ d. record u { memory = saved u; track = same d }
+saved_is u (Err fault) none = refl
 
-saved_so : (u x y : Plain) (r : Answer) (memory : List Window) → x ≡ u → y ≡ u → r ≡ savable y → memory ≡ (save_left y r).memory
+saved_so : (u x y : Plain) (r : Answer) (memory : List Window) → x ≡ u → y ≡ u → x.track ≡ None → r ≡ savable y → memory ≡ (save_left y r).memory
     → record x { memory = memory } ≡ save_left u (savable u)
-saved_so u x y r memory ex ey er em =
+saved_so u x y r memory ex ey none er em =
     let r_is : r ≡ savable u = er ∙ ap (λ (z : Plain). savable z) ey in
     let m_is : memory ≡ (save_left u (savable u)).memory = em ∙ (λ d. (save_left (ey d) (r_is d)).memory) in
-    (λ d. record (ex d) { memory = m_is d }) ∙ saved_is u (savable u)
+    (λ d. record (ex d) { memory = m_is d }) ∙ saved_is u (savable u) (ap (λ (z : Plain). z.track) (sym ex) ∙ none)
+
+-- what was found before the commit is what is answered, and the memory that the save leaves
+pub answer_found : (u : Plain) (r : Result (List Window) SaveFault) → LeavesMemory u r → answered r ≡ savable u
+answer_found u (Ok memory) h = sym h.0
+answer_found u (Err fault) h = sym h
+
+pub memory_found : (u : Plain) (r : Result (List Window) SaveFault) → LeavesMemory u r → memory_or u.memory r ≡ (save_left u (answered r)).memory
+memory_found u (Ok memory) h = h.1
+memory_found u (Err fault) h = refl
 
 module _ (s : Setup) (v w : View) (x : Whole) (taken : HasTaken s v x w) (l : Layout) (same : l ≡ s.start.layout) where
   abbrev u : Plain
@@ -85,7 +98,7 @@ module _ (s : Setup) (v w : View) (x : Whole) (taken : HasTaken s v x w) (l : La
         λ d. state_of s.start.layout (tables d).value.regs (tables d).value.maps.maps memory (hands d) in
         owes_here s call.Save (save_reply r) Keep (whole_held u) (λ _. left_held) leaves w holds_all own z y made
         ∙ (ap (λ (q : Plain). whole_held q)
-        (sym (state ∙ saved_so u before (state_of_parts (parts_of l x)) r memory taken.state (taken_state s v w x taken l same) answered is))
+        (sym (state ∙ saved_so u before (state_of_parts (parts_of l x)) r memory taken.state (taken_state s v w x taken l same) refl answered is))
         ∙ sym (held_is s after_it (subst (λ (rs : List (Option Redist)). AreFirstOf s (vcpu_count s) rs) (sym hands) taken.hand)))
 
   -- ---- what the pass knows

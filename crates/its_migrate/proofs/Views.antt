@@ -1,6 +1,9 @@
 -- What a pass knows that gets parts and puts them home.
 use Rattle.std.proofs.Common.{◌≡◌, ◌⊎◌, ◌<◌, ◌+◌, ℕ, List, [], ◌∷◌, Option, Some, length, set, refl, ap, sym, ◌∙◌, subst, ⊎_elim}
+use Rattle.std.specs.Prelude.{◌≢◌}
 use Rattle.std.specs.List.{AllByRecursion}
+use mathlib.Core.Logic.{dite}
+use native.Mathlib.Decide.{ℕ_discrete}
 use mathlib.Core.List.{IsPrefix}
 use Rattle.its_types.specs.declared.machine.Part.{Part}
 use Rattle.its_types.specs.declared.machine.Part.TheVariants as part
@@ -13,12 +16,13 @@ use Rattle.its_steps.specs.Contents.{Content, Held, Redist}
 use Rattle.its_steps.specs.Good.{Holds}
 use Rattle.its_steps.specs.MayCommit.{IsRight}
 use Rattle.its_steps.specs.Parts.{Setup, IsOfMachine, translator_count, vcpu_count}
-use Rattle.its_steps.specs.World.{View, out, took, loaded}
+use Rattle.its_steps.specs.World.{View, Tries, out, took, loaded}
 use Rattle.its_turns.specs.Contents.{IsFit}
-use Rattle.its_turns.specs.Steps.{IsSameButLost, Takes}
-use Rattle.its_turns.specs.Told.{HasStood, IsLone, Looks}
+use Rattle.its_turns.specs.Steps.{IsSameButLost, Takes, IsBusy}
+use Rattle.its_turns.specs.Told.{HasStood, IsLone, Looks, IsLastOrLater}
+use Rattle.its_turns.specs.declared.turns.Busy.{Busy}
 use Rattle.its_turns.specs.declared.value.Value.{Value}
-use Rattle.its_migrate.specs.Getting.{Holding, Gets, GetsValue, AreFirstOf, HoldsNoRedist, redists_out}
+use Rattle.its_migrate.specs.Getting.{LostNone, Holding, Gets, GetsValue, AreFirstOf, HoldsNoRedist, redists_out}
 use Rattle.its_migrate.specs.Resting.{Rests}
 use Rattle.its_migrate.specs.Wholes.{HasTaken, held_whole}
 use Rattle.its_migrate.specs.declared.whole.Whole.{Whole}
@@ -27,11 +31,12 @@ use Rattle.its_migrate.proofs.Rows.{out_none, out_placed}
 
 -- ---- turns
 
-module _ (v waited w : View) (p : Part) (lost : IsSameButLost v waited) where
+module _ (v waited w : View) (p : Part) (lost : IsSameButLost v waited) (alone : IsLone v → waited ≡ v) where
   got_waited : (c : Content) → w ≡ took waited p c → Gets v p c w
   got_waited c e = record {
     same = subst (λ (z : View). z ≡ record v { held = out p c ∷ v.held; cache = z.cache; tries = z.tries })
         (sym (e ∙ ap (λ (y : View). took y p c) lost.same)) refl;
+    alone = λ lone. subst (λ (z : View). LostNone v z) (sym (e ∙ ap (λ (y : View). took y p c) (alone lone))) refl;
   }
 
   same_setup : waited.setup ≡ v.setup
@@ -46,23 +51,34 @@ module _ (v waited w : View) (p : Part) (lost : IsSameButLost v waited) where
     stood = subst (λ (s : Setup). HasStood s p t.content) same_setup t.stood;
   }
 
-pub nothing_lost : (v : View) → IsSameButLost v v
-nothing_lost v = record { same = refl }
+-- at the first try
+pub gets_at_once : (v w : View) (p : Part) (x : Value) → Takes v p x w → GetsValue v p x w
+gets_at_once v w p x = gets_value v v w p (record { same = refl }) (λ lone. refl) x
+
+-- after a try that was lost
+pub gets_waited : (v m waited w : View) (p : Part) (b : Busy) (x : Value) → IsBusy v p b m → IsSameButLost m waited → Takes waited p x w → GetsValue v p x w
+gets_waited v m waited w p b x busy lost =
+    gets_value v waited w p (record {
+      same = lost.same ∙ ap (λ (z : View). record z { tries = record z.tries { lost = waited.tries.lost; met = waited.tries.met } }) busy.view;
+    }) (λ lone. absurd (busy.out lone)) x
 
 module _ (v w : View) (held : List Held) (h : Holding v held w) where
   pub holds_so : w.held ≡ held
   holds_so = ap (λ (y : View). y.held) h.same
 
   pub lone_still : IsLone v → IsLone w
-  lone_still alone = subst IsLone (sym h.same) alone
+  lone_still lone = subst IsLone (sym h.same) lone
 
   pub holds_next : (more : List Held) (x : View) → Holding w more x → Holding v more x
-  holds_next more x k = record { same = k.same ∙ ap (λ (y : View). record y { held = more; cache = x.cache; tries = x.tries }) h.same }
+  holds_next more x k = record {
+    same = k.same ∙ ap (λ (y : View). record y { held = more; cache = x.cache; tries = x.tries }) h.same;
+    alone = λ lone. k.alone (lone_still lone) ∙ ap (λ (t : Tries). record t { won = x.tries.won }) (h.alone lone);
+  }
 
 -- one redistributor after another
 
 pub holds_first : (v : View) (rs : List (Option InHand)) → Holding v (redists_out rs 0 v.held) v
-holds_first v rs = record { same = λ d. record v { held = sym (out_none rs v.held) d } }
+holds_first v rs = record { same = λ d. record v { held = sym (out_none rs v.held) d }; alone = λ lone. refl }
 
 pub holds_more : (v w x : View) (rs : List (Option InHand)) (n : ℕ) (r : InHand) → n < length rs → Holding v (redists_out rs n v.held) w
     → Gets w (part.Redist (record { 0 = n })) (Redist (redistributor_of r)) x
@@ -89,7 +105,19 @@ both_free c d held e = subst HoldsNoRedist (sym e)
 
 -- ---- all are taken, and then the word is read
 
-module _ (s : Setup) (v w y : View) (x : Whole) (word : Word) (own : v.setup ≡ s) (h : Holding v (held_whole (vcpu_count s) x) w) (looks : Looks w word y) where
+-- words are told apart by their numbers
+same_word : (a b : Word) → (a ≢ b → ⊥) → a ≡ b
+same_word a b h =
+    dite (ℕ_discrete a.stamp b.stamp)
+    (λ e. dite (ℕ_discrete a.place b.place) (λ f. λ d. record { stamp = e d; place = f d }) (λ n. absurd (h (λ q. n (ap (λ (z : Word). z.place) q)))))
+    (λ n. absurd (h (λ q. n (ap (λ (z : Word). z.stamp) q))))
+
+-- alone, the word is the one that was read before
+pub still_word : (v : View) (word : Word) → IsLone v → IsLastOrLater v word → word ≡ v.last
+still_word v word lone later = same_word word v.last (λ apart. (later apart).1 lone)
+
+module _ (s : Setup) (v w y : View) (x : Whole) (word : Word) (own : v.setup ≡ s) (h : Holding v (held_whole (vcpu_count s) x) w) (looks : Looks w word y)
+    (later : IsLastOrLater w word) where
   abbrev hw : List Held
   hw = held_whole (vcpu_count s) x
 
@@ -98,6 +126,9 @@ module _ (s : Setup) (v w y : View) (x : Whole) (word : Word) (own : v.setup ≡
 
   here : w.setup ≡ s
   here = ap (λ (z : View). z.setup) h.same ∙ own
+
+  lone_here : IsLone v → IsLone w
+  lone_here lone = subst IsLone (sym h.same) lone
 
   pub has_taken : translator_count s ≡ 1 → AreFirstOf s (vcpu_count s) x.redists → HasTaken s v x y
   has_taken one are =
@@ -108,7 +139,9 @@ module _ (s : Setup) (v w y : View) (x : Whole) (word : Word) (own : v.setup ≡
       record {
         same = subst (λ (z : View). z ≡ record v { seen = z.seen; last = z.last; held = hw; cache = z.cache; tries = z.tries }) (sym looked) refl;
         longer = subst (λ (l : List Entry). IsPrefix l y.seen) (ap (λ (z : View). z.seen) h.same) looks.longer;
-        still = λ alone. looks.still (subst IsLone (sym h.same) alone) ∙ ap (λ (z : View). z.seen) h.same;
+        still = λ lone. looks.still (lone_here lone) ∙ ap (λ (z : View). z.seen) h.same;
+        still_last = λ lone. ap (λ (z : View). z.last) looked ∙ (still_word w word (lone_here lone) later ∙ ap (λ (z : View). z.last) h.same);
+        alone = λ lone. subst (λ (z : View). LostNone v z) (sym looked) (h.alone lone);
         machine = machine;
         hand = are;
         state = state_is s x are one word (after s.start y.seen) machine right;
@@ -116,10 +149,12 @@ module _ (s : Setup) (v w y : View) (x : Whole) (word : Word) (own : v.setup ≡
 
 -- ---- all went home
 
-module _ (v w z : View) (x : Whole) (s : Setup) (taken : HasTaken s v x w) (home : z ≡ record w { held = [] }) (alone : IsLone v) (bare : v.held ≡ []) where
+module _ (v w z : View) (x : Whole) (s : Setup) (taken : HasTaken s v x w) (home : z ≡ record w { held = [] }) (lone : IsLone v) (bare : v.held ≡ []) where
   pub rests_again : Rests v z
   rests_again =
-      let seen = taken.still alone in
-      let back : z ≡ record v { last = w.last; cache = w.cache; tries = w.tries } = home ∙ (ap (λ (y : View). record y { held = [] })
-      taken.same ∙ (λ d. record v { seen = seen d; last = w.last; held = sym bare d; cache = w.cache; tries = w.tries })) in
-      record { same = subst (λ (y : View). y ≡ record v { last = y.last; cache = y.cache; tries = y.tries }) (sym back) refl }
+      let seen = taken.still lone in
+      let last = taken.still_last lone in
+      let tries = taken.alone lone in
+      let back : z ≡ record v { cache = w.cache; tries = record v.tries { won = w.tries.won } } = home ∙ (ap (λ (y : View). record y { held = [] })
+      taken.same ∙ (λ d. record v { seen = seen d; last = last d; held = sym bare d; cache = w.cache; tries = tries d })) in
+      record { same = subst (λ (y : View). y ≡ record v { cache = y.cache; tries = record v.tries { won = y.tries.won } }) (sym back) refl }

@@ -12,12 +12,17 @@ use Rattle.its_steps.specs.Good.{Holds}
 use Rattle.its_steps.specs.Parts.{Setup}
 use Rattle.its_steps.specs.World.{View, out}
 use Rattle.its_turns.specs.Contents.{content_of, IsFit}
-use Rattle.its_turns.specs.Told.{HasStood}
+use Rattle.its_turns.specs.Told.{HasStood, IsLone}
 use Rattle.its_turns.specs.declared.value.Value.{Value}
 
--- such parts are held, and nothing else changed but the cache and the tries
+-- no try was lost
+abbrev pub LostNone : View → View → Type 0
+LostNone v w = w.tries ≡ record v.tries { won = w.tries.won }
+
+-- such parts are held, and nothing else changed but the cache and the tries, of which none was lost alone
 pub record Holding (v : View) (held : List Held) (w : View) : Type 0 where
   pub same : w ≡ record v { held = held; cache = w.cache; tries = w.tries }
+  pub alone : IsLone v → LostNone v w
 
 -- the part is held before the others
 abbrev pub Gets : View → Part → Content → View → Type 0

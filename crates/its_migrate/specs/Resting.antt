@@ -15,9 +15,9 @@ use Rattle.its_turns.specs.declared.machine.Pass.{Pass}
 abbrev pub resting : Machine → Pass → Plain
 resting m p = after (setup m).start (view p).seen
 
--- nothing that a pass knows is other than before but the word that it read last, the cache and its tries
+-- nothing that a pass knows is other than before but the cache and which turns it got
 pub record Rests (v w : View) : Type 0 where
-  pub same : w ≡ record v { last = w.last; cache = w.cache; tries = w.tries }
+  pub same : w ≡ record v { cache = w.cache; tries = record v.tries { won = w.tries.won } }
 
 -- for each virtual processor what is pending
 abbrev pub pending_at_rest : Plain → List (List ℕ)

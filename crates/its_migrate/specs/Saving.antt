@@ -1,7 +1,11 @@
 -- The outcome of a save that is made while other passes go on.
-use Rattle.std.specs.Prelude.{◌≡◌, length, Result, Ok, Err}
+use Rattle.std.specs.Prelude.{◌≡◌, length, List, Result, Ok, Err}
+use Rattle.guest_windows.specs.Windows.{Window}
 use Rattle.its_types.specs.declared.machine.Placed.{Placed}
 use Rattle.its_plain.specs.Answer.{save_reply}
+use Rattle.its_plain.specs.Plain.{Plain}
+use Rattle.its_plain.specs.Regions.{savable}
+use Rattle.its_plain.specs.Saved.{saved}
 use Rattle.its_plain.specs.declared.call.Call.TheVariants as call
 use Rattle.its_plain.specs.declared.fault.SaveFault.{SaveFault}
 use Rattle.its_steps.specs.World.{View}
@@ -13,6 +17,21 @@ use Rattle.its_migrate.specs.declared.saving.NoSave.{NoSave}
 use Rattle.its_migrate.specs.declared.saving.NoSave.TheVariants as none
 use Rattle.its_migrate.specs.declared.saving.Unmade.{Unmade}
 use Rattle.its_migrate.specs.declared.saving.Unmade.TheVariants as unmade
+
+-- guest memory as a save leaves it, where the state can be saved, or why it can't be
+abbrev pub LeavesMemory : Plain → Result (List Window) SaveFault → Type 0
+LeavesMemory u (Ok memory) = (savable u ≡ Ok tt) × (memory ≡ saved u)
+LeavesMemory u (Err fault) = savable u ≡ Err fault
+
+-- what the save answers
+abbrev pub answered : Result (List Window) SaveFault → Result (Unit {0}) SaveFault
+answered (Ok memory) = Ok tt
+answered (Err fault) = Err fault
+
+-- that memory, or else the old one
+abbrev pub memory_or : List Window → Result (List Window) SaveFault → List Window
+memory_or old (Ok memory) = memory
+memory_or old (Err fault) = old
 
 -- one call of the history, which writes no cache; or none, and nothing was written
 abbrev pub IsSaved : View → Result (Placed (Result (Unit {0}) SaveFault)) NoSave → View → Type 0

@@ -1,5 +1,5 @@
 -- What a pass knows that holds all parts but shards.
-use Rattle.std.specs.Prelude.{◌≡◌, ℕ, List, [], ◌∷◌}
+use Rattle.std.specs.Prelude.{◌≡◌, ℕ, List, [], ◌∷◌, None}
 use mathlib.Core.List.{IsPrefix}
 use Rattle.its_types.specs.declared.machine.Part.TheVariants as part
 use Rattle.its_plain.specs.History.{after}
@@ -13,7 +13,7 @@ use Rattle.its_steps.specs.World.{View, out}
 use Rattle.its_turns.specs.Contents.{translator_of}
 use Rattle.its_turns.specs.Told.{IsLone}
 use Rattle.its_turns.specs.declared.value.Tables.{Tables}
-use Rattle.its_migrate.specs.Getting.{AreFirstOf, redists_out}
+use Rattle.its_migrate.specs.Getting.{AreFirstOf, LostNone, redists_out}
 use Rattle.its_migrate.specs.declared.whole.Whole.{Whole}
 
 abbrev pub parts_of : Layout → Whole → Parts
@@ -21,7 +21,7 @@ parts_of l x = record { layout = l; regs = x.tables.value.regs; maps = x.tables.
 
 -- memory before the maps
 abbrev pub memory_held : Tables → List Window → List Held
-memory_held t memory = out part.Mem (Mem memory) ∷ out (part.Maps 0) (Maps (translator_of t)) ∷ []
+memory_held t memory = out part.Mem (Mem memory None) ∷ out (part.Maps 0) (Maps (translator_of t)) ∷ []
 
 -- n redistributors before memory and the maps
 abbrev pub held_whole : ℕ → Whole → List Held
@@ -31,8 +31,10 @@ held_whole n x = redists_out x.redists n (memory_held x.tables.value x.memory.va
 pub record HasTaken (s : Setup) (v : View) (x : Whole) (w : View) : Type 0 where
   pub same : w ≡ record v { seen = w.seen; last = w.last; held = held_whole (vcpu_count s) x; cache = w.cache; tries = w.tries }
   pub longer : IsPrefix v.seen w.seen
-  -- alone, nothing was added
+  -- alone, nothing was added, and no try was lost
   pub still : IsLone v → w.seen ≡ v.seen
+  pub still_last : IsLone v → w.last ≡ v.last
+  pub alone : IsLone v → LostNone v w
   pub machine : IsOfMachine s (after s.start w.seen)
   pub hand : AreFirstOf s (vcpu_count s) x.redists
   pub state : state_of_parts (parts_of s.start.layout x) ≡ after s.start w.seen

@@ -1,5 +1,5 @@
 //! Parts taken as what they are, by a pass that waits or by the root at rest.
-ghost use Rattle.std.specs.Prelude.{◌≡◌, ◌<◌};
+ghost use Rattle.std.specs.Prelude.{◌≡◌, ◌<◌, None};
 ghost use Rattle.its_types.specs.declared.machine.Part.TheVariants as part;
 ghost use Rattle.owned_parts.specs.Owned.{redistributor_of, HasLpisOf};
 ghost use Rattle.its_steps.specs.Contents as content;
@@ -60,7 +60,10 @@ impl<'a, R: Wait> Turns for Waiting<'a, R> {
     ghost allowed = { λ _. Unit {0} };
 
     fn turn(&self, machine: &Machine, pass: &mut Pass, part: Part) -> Value {
-        take(self.rt, machine, pass, part)
+        match try_take(machine, pass, part) {
+            Ok(value) => value,
+            Err(_) => take(self.rt, machine, pass, part),
+        }
     }
 }
 
@@ -86,7 +89,8 @@ pub fn get_memory<T: Turns>(how: &T, machine: &Machine, pass: &mut Pass) -> Box<
     requires free { ¬ Holds part.Mem (view pass.old).held }
     requires allowed { T.allowed (view pass.old) }
     ensures of { IsOf machine.now pass.new }
-    ensures gets { Gets (view pass.old) part.Mem (content.Mem result.value.memory) (view pass.new) }
+    ensures gets { Gets (view pass.old) part.Mem (content.Mem result.value.memory None)
+        (view pass.new) }
     ensures allowed { T.allowed (view pass.new) }
 {
     match how.turn(machine, pass, Part::Mem) {

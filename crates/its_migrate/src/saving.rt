@@ -1,23 +1,23 @@
 //! Saves while other passes go on (KVM document arm-vgic-its, section
 //! "KVM_DEV_ARM_ITS_SAVE_TABLES").
 ghost use Rattle.std.specs.Prelude.{◌≡◌, [], IfOk};
-ghost use Rattle.its_plain.specs.Answer.{save_reply, save_left};
-ghost use Rattle.its_plain.specs.Regions as regions;
+ghost use Rattle.its_plain.specs.Answer.{save_reply};
 ghost use Rattle.its_plain.specs.Sound.{IsSound};
 ghost use Rattle.owned_parts.specs.Owned.{AreAllInHand, state_of_parts};
 ghost use Rattle.its_turns.specs.Machines.{view, IsOf};
-ghost use Rattle.its_migrate.specs.Saving.{IsSaved, IsTried, unmade_by};
+ghost use Rattle.its_migrate.specs.Saving.{IsSaved, IsTried, LeavesMemory, answered, memory_or, unmade_by};
 ghost use Rattle.its_migrate.specs.Wholes.{parts_of};
 
 use crate::getting::Waiting;
 use crate::whole::{Whole, put_all, take_all};
-use its_plain::{Call, Layout, Reply, SaveFault};
+use guest_windows::Memory;
+use its_plain::{Call, Layout, Reply, SaveError, SaveFault};
 use its_steps::ShardChange;
 use its_turns::{Lost, Machine, Pass, pause, try_commit};
 use its_types::{Gate, Placed};
 use std::alloc::{AllocError, Global};
 use std::sync::Wait;
-use table_save::{SaveRoom, savable_in, write_tables};
+use table_save::saved_memory;
 
 /// Why no save was made.
 #[derive(Clone, Copy, Debug, PartialEq, Eq)]
@@ -93,10 +93,11 @@ fn save_once<R: Wait, G: Gate>(
 {
     let layout = machine.desc().layout(alloc)?;
     let mut whole = take_all(&Waiting { rt }, machine, pass, gate);
-    let Ok(reply) = saves(alloc, &layout, &whole) else {
+    let Ok(saved) = saves(alloc, &layout, &whole) else {
         put_all(machine, pass, whole);
         return Err(Unmade::NoMemory);
     };
+    let reply = answer_of(&saved);
     match try_commit(
         machine,
         pass,
@@ -106,7 +107,7 @@ fn save_once<R: Wait, G: Gate>(
         ShardChange::Keep,
     ) {
         Ok(word) => {
-            write(&layout, &reply, &mut whole);
+            replace(saved, &mut whole);
             put_all(machine, pass, whole);
             Ok(Placed {
                 place: word.place,
@@ -120,42 +121,50 @@ fn save_once<R: Wait, G: Gate>(
     }
 }
 
-// What a save of the parts answers. Nothing after this takes memory.
-fn saves(alloc: Global, layout: &Layout, whole: &Whole) -> Result<Result<(), SaveFault>, AllocError>
+// A copy of guest memory with the tables saved in it, or why they can't be saved. Nothing after this
+// takes memory.
+fn saves(
+    alloc: Global,
+    layout: &Layout,
+    whole: &Whole,
+) -> Result<Result<Memory, SaveFault>, AllocError>
     requires hand { AreAllInHand layout.now.shape whole.now.redists }
     requires sound { IsSound (state_of_parts (parts_of layout.now whole.now)) }
-    ensures { IfOk result (λ r. r ≡ regions.savable (state_of_parts (parts_of layout.now
-        whole.now))) }
+    ensures { IfOk result (λ r. LeavesMemory (state_of_parts (parts_of layout.now whole.now)) r) }
 {
-    let tables = &whole.tables;
-    let mut room = SaveRoom::for_maps(alloc, &tables.maps)?;
-    Ok(savable_in(
-        &tables.regs,
-        &tables.maps,
+    match saved_memory(
+        alloc,
+        &whole.tables.regs,
+        &whole.tables.maps,
         &whole.redists,
         layout,
         &whole.memory.memory,
-        &mut room,
-    ))
+    ) {
+        Ok(memory) => Ok(Ok(memory)),
+        Err(SaveError::Fault(fault)) => Ok(Err(fault)),
+        Err(SaveError::NoMemory) => Err(AllocError),
+    }
 }
 
-// Writes the tables to guest memory, where they are saved.
-fn write(layout: &Layout, saved: &Result<(), SaveFault>, whole: &mut Whole)
-    requires hand { AreAllInHand layout.now.shape whole.old.redists }
-    requires sound { IsSound (state_of_parts (parts_of layout.now whole.old)) }
+// What the save answers.
+fn answer_of(saved: &Result<Memory, SaveFault>) -> Result<(), SaveFault>
+    ensures { result ≡ answered saved.now }
+{
+    match saved {
+        Ok(_) => Ok(()),
+        Err(fault) => Err(*fault),
+    }
+}
+
+// Puts the copy in the place of guest memory, where the tables are saved in it.
+fn replace(saved: Result<Memory, SaveFault>, whole: &mut Whole)
     ensures tables { whole.new.tables ≡ whole.old.tables }
     ensures redists { whole.new.redists ≡ whole.old.redists }
-    ensures memory { whole.new.memory.value.memory ≡ (save_left (state_of_parts (parts_of layout.now
-        whole.old)) saved.now).memory }
+    ensures memory { whole.new.memory.value.memory ≡ memory_or whole.old.memory.value.memory
+        saved }
 {
-    if saved.is_ok() {
-        write_tables(
-            &whole.tables.regs,
-            &whole.tables.maps,
-            &whole.redists,
-            layout,
-            &mut whole.memory.memory,
-        );
+    if let Ok(memory) = saved {
+        whole.memory.memory = memory;
     }
 }
 

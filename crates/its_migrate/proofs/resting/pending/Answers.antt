@@ -11,7 +11,7 @@ use Rattle.its_migrate.proofs.resting.pending.Goals as goal
 pub loop-vcpu-init : goal.loop-vcpu-init
 loop-vcpu-init c = (
   c.look.ensures.of,
-  rests_looked (view c.args.root.now) (view c.look.new.pass) c.look.result c.requires.lone c.look.ensures.looks,
+  rests_looked (view c.args.root.now) (view c.look.new.pass) c.look.result c.requires.lone c.look.ensures.looks c.look.ensures.later,
   ap (λ xs. map lpis_in xs) c.new-lists.ensures,
 )
 

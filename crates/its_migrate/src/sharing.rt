@@ -1,0 +1,26 @@
+ghost use Rattle.std.specs.Prelude.{◌^◌, ◌<◌, ◌≤◌};
+ghost use Rattle.its_plain.specs.Machine.{IsDescription, IsSingle};
+ghost use Rattle.its_migrate.specs.Shared.{IsSharedFrom};
+
+use its_plain::{Desc, MakeError};
+use its_turns::{Machine, Root};
+use owned_machine::Machine as Owned;
+use std::alloc::Global;
+
+/// The machine that a description makes, restored from memory where the description says so, for
+/// threads to share, with its root; or the first thing that is wrong.
+pub fn share(alloc: Global, desc: &Desc) -> Result<(Machine, Root), MakeError>
+    requires description { IsDescription desc.now }
+    requires single { IsSingle desc.now }
+    requires some_shards { 1 ≤ desc.now.shards }
+    requires most_shards { desc.now.shards ≤ 64 }
+    requires stamps { desc.now.limits.stamp_last < 2 ^ 24 }
+    requires places { desc.now.limits.place_last < 2 ^ 40 }
+    ensures { IsSharedFrom desc.now result }
+{
+    let parts = Owned::new(alloc, desc)?.into_parts();
+    match Machine::new(alloc, desc, parts) {
+        Ok(made) => Ok(made),
+        Err(_) => Err(MakeError::NoMemory),
+    }
+}
