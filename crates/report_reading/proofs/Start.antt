@@ -73,7 +73,7 @@ starts_small true values bases base u h is = subst AllBytes (sym is.memory_is) h
 pub start_bytes : MachinesStartWithBytes
 start_bytes d u f is =
     starts_small (is_restored d) (values_of d) (bases_given d.shape.vcpus d.tables) is.base u (if_ok_at HasBytes (made d) is.base
-        (made_small d f) is.made_is) is.starts
+    (made_small d f) is.made_is) is.starts
 
 -- ---- redistributors
 

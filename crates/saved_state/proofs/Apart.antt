@@ -55,7 +55,7 @@ no_queues : (i : ℕ) (ts : List Translator) → written_spans (each_areas queue
 no_queues i [] = refl
 no_queues i (t ∷ ts) =
     written_append (queue_areas i t) (each_areas queue_areas (suc i) ts) ∙ ap (λ ss. ss ++ written_spans (each_areas queue_areas (suc i) ts))
-        (no_queue i t.regs)
+    (no_queue i t.regs)
     ∙ no_queues (suc i) ts
 
 -- ---- the areas that are written

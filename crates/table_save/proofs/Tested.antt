@@ -52,7 +52,7 @@ module _ (l : Layout) (r : Registers) (m : Maps) (memory : List Window) (redists
       let pending = areas_from (pending_area l.shape) 0 (redistributors_of l.shape redists) in
       let config = config_areas l (redistributors_of l.shape redists) in
       ap (λ ts. ts ++ pending ++ config ++ (queue_area 0 r ++ [])) (append-nil tables) ∙ ap (λ q. tables ++ pending ++ config ++ q) (append-nil
-          (queue_area 0 r))
+      (queue_area 0 r))
 
   pub savable_is : savable state ≡ (inside_test >>= λ _. placed_test >>= λ _. none_overlap all)
   unfolding savable table_areas

@@ -8,7 +8,7 @@ use Rattle.redist_ack.proofs.asks.ask.Goals as goal
 pub returns-in-Done-clause-answer : goal.returns-in-Done-clause-answer
 returns-in-Done-clause-answer g c = let x = c.in-Done.placed in
     asked_done (view c.args.pass.now) (view c.loop.pass) (part.Redist c.args.vcpu) c.loop.invariant.3 (call_of c.args.vcpu c.args.asked)
-        (reply.Ack x.reply) x.place
+    (reply.Ack x.reply) x.place
     (view c.try_ask.new.pass) c.in-Done.ensures.answer
 
 pub returns-in-Spent-clause-answer : goal.returns-in-Spent-clause-answer
