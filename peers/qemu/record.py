@@ -6,8 +6,9 @@ usage: record.py LOG RAMFILE RAMBASE -- QEMU ARGUMENTS..
 QEMU's trace comes through a pipe that holds one line: QEMU waits until each line has been read, so the bytes of
 guest memory (RAMFILE, which QEMU shares) are read here while the write of the register that made QEMU look at them
 is still under way. Lines are added: `command ADDR HEX` with the 32 bytes of each command, `mem ADDR HEX` where the
-configuration table or the first level of the device table changed, and `pending V HEX` with the bytes of each
-pending table at the end, from that of LPI 8192 on.
+configuration table or the first level of the device table changed, `mem` too with the bits of a pending table's first
+64 LPIs and last ones as LPIs are turned on with it, and `pending V HEX` with the bytes of each pending table at the
+end, from that of LPI 8192 on.
 """
 import fcntl
 import mmap
@@ -101,6 +102,15 @@ class Watch:
             ram.tell_changes(baser & 0x0000FFFFFFFF0000, 64, 8)
 
 
+    def look_at_pending(self, line, ram):
+        """Tells what a pending table has as LPIs are turned on, of the LPIs that the guests use."""
+        found = REDIST.search(line)
+        if found and int(found[2], 16) == 0 and int(found[3], 16) & 1:
+            table = self.get(int(found[1], 16), 0x78) & 0x000FFFFFFFFF0000
+            for offset in (1024, 8184):
+                ram.tell("mem", table + offset, ram.bytes(table + offset, 8))
+
+
 def lines_of(stream):
     """QEMU's lines. Some of its error messages lack their end of line, and the next event follows in the same line."""
     for line in stream:
@@ -124,6 +134,7 @@ def follow(stream, log, path, base):
             ram.tell("command", place, ram.bytes(place, 32))
         if "gicv3_redist_write" in line or "gicv3_its_translation_write" in line:
             watch.look(ram)
+        watch.look_at_pending(line, ram)
         log.write(line)
     return ram, watch
 
