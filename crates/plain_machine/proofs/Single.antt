@@ -1,5 +1,5 @@
 -- A description of one translator has frames and requesters that fit.
-use Rattle.std.proofs.Common.{◌≡◌, ℕ, List, [], ◌∷◌, length, Some, None, Ok, refl, ap, ◌∙◌, arith}
+use Rattle.std.proofs.Common.{◌≡◌, ℕ, List, [], ◌∷◌, length, None, Ok, refl, ap, ◌∙◌, arith}
 use Rattle.std.specs.Prelude.{slice_get}
 use Rattle.its_plain.specs.Machine.{IsSingle, all_frames_fit, all_new}
 use Rattle.its_plain.specs.declared.desc.Desc.{Desc}

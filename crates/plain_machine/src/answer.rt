@@ -92,7 +92,7 @@ impl State {
         ensures count { result ≡ answers.copy_count self.now.track }
         ensures same { answers.copy_left self.now ≡ self.now }
     {
-        let _memory = self.memory();
+        let _copy = self.memory();
         0
     }
 

@@ -1,4 +1,4 @@
-use Rattle.std.proofs.Common.{◌≡◌, drop, length, ◌-◌}
+use Rattle.std.proofs.Common.{◌≡◌, drop}
 use Rattle.its_types.specs.Lpis.{first_by_priority}
 use Rattle.plain_machine.proofs.redist.first_by_priority.Given as goal
 

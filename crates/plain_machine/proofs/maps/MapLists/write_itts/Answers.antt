@@ -1,4 +1,4 @@
-use Rattle.std.proofs.Common.{◌≡◌, ap, sym, ◌∙◌}
+use Rattle.std.proofs.Common.{ap, sym, ◌∙◌}
 use Rattle.std.proofs.lemmas.Result.{on_ok_weaker}
 use Rattle.plain_machine.proofs.Entries.{listed_devices}
 use Rattle.std.proofs.Common.{[], ◌∷◌, ◌^◌}

@@ -6,10 +6,10 @@ use Rattle.its_plain.specs.Answer.{copy_count}
 use Rattle.plain_machine.proofs.state.State.copied.Goals as goal
 
 pub returns-clause-count : goal.returns-clause-count
-returns-clause-count c = sym (ap copy_count c.memory.ensures.alone)
+returns-clause-count c = sym (ap copy_count c.memory-copy.ensures.alone)
 
 pub returns-clause-same : goal.returns-clause-same
 returns-clause-same c =
     let u = c.args.self.now in
-    ap (λ (t : Option Tracked). record u { track = option_map (caught_up u.memory) t }) c.memory.ensures.alone
-    ∙ ap (λ (t : Option Tracked). record u { track = t }) (sym c.memory.ensures.alone)
+    ap (λ (t : Option Tracked). record u { track = option_map (caught_up u.memory) t }) c.memory-copy.ensures.alone
+    ∙ ap (λ (t : Option Tracked). record u { track = t }) (sym c.memory-copy.ensures.alone)
