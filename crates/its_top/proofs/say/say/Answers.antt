@@ -6,11 +6,17 @@ use Rattle.event_script.specs.declared.script.Script.{Script}
 use Rattle.its_top.proofs.Saying.{run_said, so_far_said}
 use Rattle.its_top.proofs.say.say.Goals as goal
 
-pub new-requires : goal.new-requires
-new-requires g c =
+pub new-requires-clause-counts : goal.new-requires-clause-counts
+new-requires-clause-counts g c =
     let fits : IsWithinLimits c.in-Ok.script = subst (λ (r : Result Script ScriptFault). IfOk r IsWithinLimits) c.in-Ok.ensures
     (scripts_fit c.args.input.now) in
     fits.description
+
+pub new-requires-clause-single : goal.new-requires-clause-single
+new-requires-clause-single g c =
+    let fits : IsWithinLimits c.in-Ok.script = subst (λ (r : Result Script ScriptFault). IfOk r IsWithinLimits) c.in-Ok.ensures
+    (scripts_fit c.args.input.now) in
+    fits.single
 
 pub share-requires-clause-within : goal.share-requires-clause-within
 share-requires-clause-within g c = subst (λ (r : Result Script ScriptFault). IfOk r IsWithinLimits) c.in-Ok.ensures (scripts_fit c.args.input.now)
