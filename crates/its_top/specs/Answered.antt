@@ -19,8 +19,8 @@ use Rattle.its_top.specs.Legs.{HaveRun}
 use Rattle.its_history.specs.Reports.{migrated, ended, cut_leg}
 use Rattle.its_top.specs.Refusals.{spent_refusal, migration_refusal}
 use Rattle.its_top.specs.Its.{OfScript, IsReport, IsScriptRefusal, IsMachineRefusal, IsMigrationRefusal, IsSpentReport}
-use Rattle.its_top.specs.declared.its.Answer.{Answer}
-use Rattle.its_top.specs.declared.its.Answer.TheVariants.{Answered, Refused}
+use Rattle.its_top.specs.declared.command.Answer.{Answer}
+use Rattle.its_top.specs.declared.command.Answer.TheVariants.{Answered, Refused}
 use Rattle.its_steps.specs.Parts.{Setup, vcpu_count}
 use Rattle.its_turns.specs.Machines.{setup}
 use Rattle.its_top.specs.Played.{IsFresh}

@@ -3,7 +3,7 @@
 #![tactic(auto)]
 
 mod check;
-mod its;
+mod command;
 mod legs;
 mod play;
 mod refusals;
@@ -12,5 +12,5 @@ mod status;
 mod streams;
 mod summarize;
 
-pub use its::{its, refuse};
+pub use command::{its, refuse};
 pub use status::Status;

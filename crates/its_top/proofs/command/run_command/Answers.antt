@@ -3,7 +3,7 @@ use Rattle.std.specs.String.{string_bytes}
 use Rattle.its_io.specs.Count.{Rose}
 use Rattle.its_top.specs.Answered.{StopsShort}
 use Rattle.its_top.proofs.Causes.{short_causes}
-use Rattle.its_top.proofs.its.run_command.Goals as goal
+use Rattle.its_top.proofs.command.run_command.Goals as goal
 
 pub returns-clause-caused : goal.returns-clause-caused
 returns-clause-caused g c =
