@@ -3,7 +3,7 @@ ghost use Rattle.std.specs.Prelude.{IfOk};
 ghost use Rattle.its_plain.specs.Machine.{IsDescription};
 
 use its_command::{Command, encode};
-use its_plain::{Bytes64, Call, Desc, Fill, LpiTables};
+use its_plain::{Bytes64, Call, Desc, Fill, Its, LpiTables};
 use its_types::{Addr, Limits, Listed, Profile, Shape};
 use owned_machine::Machine;
 use std::alloc::{AllocError, Global};
@@ -56,12 +56,18 @@ fn desc(alloc: Global) -> Result<Desc, AllocError>
     let mut pending = Listed::new(alloc);
     pending.push(Addr(0x8004_0000))?;
     let fills: Listed<Fill> = Listed::new(alloc);
+    let mut translators = Listed::new(alloc);
+    translators.push(Its {
+        restore: None,
+        frames: None,
+    })?;
     Ok(Desc {
         shape: Shape {
             vcpus: 1,
             dev_bits: 16,
             lpi_bits: 16,
             profile: Profile::One,
+            linux: false,
         },
         shards: 4,
         limits: Limits {
@@ -69,12 +75,15 @@ fn desc(alloc: Global) -> Result<Desc, AllocError>
             place_last: 1_099_511_627_775,
         },
         windows,
+        memory_limit: u64::MAX,
         tables: LpiTables::Described {
             config: Addr(0x8003_0000),
             pending,
         },
         fills,
-        restore: None,
+        translators,
+        requesters: Listed::new(alloc),
+        track: false,
     })
 }
 

@@ -1,10 +1,10 @@
 //! A machine of four virtual processors and two MiB of memory, for threads to share.
 ghost use Rattle.std.specs.Prelude.{◌≡◌, ◌+◌, ◌^◌, ◌<◌, IfOk};
-ghost use Rattle.its_plain.specs.Machine.{IsDescription};
+ghost use Rattle.its_plain.specs.Machine.{IsDescription, IsSingle};
 ghost use Rattle.its_turns.specs.Machines.{view};
 ghost use Rattle.its_bench.specs.Ready.{IsReady, IsRoot};
 
-use its_plain::{Desc, Fill, LpiTables};
+use its_plain::{Desc, Fill, Its, LpiTables};
 use its_turns::{Machine, Pass, Root};
 use its_types::{Addr, Limits, Listed, Profile, Shape};
 use owned_machine::Machine as Owned;
@@ -22,6 +22,7 @@ const LPIS: usize = 57_344;
 pub fn desc(alloc: Global, stamp_last: u32) -> Result<Desc, AllocError>
     requires { stamp_last < 2 ^ 24 }
     ensures description { IfOk result IsDescription }
+    ensures single { IfOk result IsSingle }
     ensures shards { IfOk result (λ d. d.shards ≡ 64) }
     ensures limits { IfOk result (λ d.
         d.limits ≡ record { stamp_last = stamp_last; place_last = 1_099_511_627_775 }) }
@@ -38,12 +39,18 @@ pub fn desc(alloc: Global, stamp_last: u32) -> Result<Desc, AllocError>
         addr: CONFIG,
         bytes: Listed::from_vec(vec![in alloc; 0xa1; LPIS]?),
     })?;
+    let mut translators = Listed::new(alloc);
+    translators.push(Its {
+        restore: None,
+        frames: None,
+    })?;
     Ok(Desc {
         shape: Shape {
             vcpus: VCPUS,
             dev_bits: 16,
             lpi_bits: 16,
             profile: Profile::One,
+            linux: false,
         },
         shards: 64,
         limits: Limits {
@@ -51,12 +58,15 @@ pub fn desc(alloc: Global, stamp_last: u32) -> Result<Desc, AllocError>
             place_last: 1_099_511_627_775,
         },
         windows,
+        memory_limit: u64::MAX,
         tables: LpiTables::Described {
             config: CONFIG,
             pending,
         },
         fills,
-        restore: None,
+        translators,
+        requesters: Listed::new(alloc),
+        track: false,
     })
 }
 

@@ -1,6 +1,6 @@
 -- Passes between calls, and machines that have only begun.
 use Rattle.std.specs.Prelude.{◌≡◌, ◌<◌, ◌^◌, []}
-use Rattle.its_plain.specs.Machine.{IsDescription}
+use Rattle.its_plain.specs.Machine.{IsDescription, IsSingle}
 use Rattle.its_plain.specs.declared.desc.Desc.{Desc}
 use Rattle.its_steps.specs.Parts.{vcpu_count}
 use Rattle.its_steps.specs.World.{first_view}
@@ -22,6 +22,7 @@ pub record IsRoot (m : Machine) (p : Pass) : Type 0 where
 -- a description of a machine that threads can share
 pub record IsSmall (d : Desc) : Type 0 where
   pub description : IsDescription d
+  pub single : IsSingle d
   pub shards : d.shards ≡ 4
   pub vcpus : d.shape.vcpus ≡ 4
   pub stamps : d.limits.stamp_last < 2 ^ 24

@@ -14,7 +14,7 @@ use its_migrate::save;
 use its_plain::{Ack, Bytes64, Cause, Reason, Reply, Signal, StepReply};
 use its_turns::{Busy, Machine, Pass, Raced, Root, look};
 use its_types::{Addr, DeviceId, EventId, Gate, Intid, Open, Placed, Vcpu, Word};
-use redist_ack::{show, take};
+use redist_ack::{best, claim, show, take};
 use std::alloc::Global;
 use std::sync::Wait;
 
@@ -29,6 +29,9 @@ pub enum Ask {
     Send(u32),
     Take(u8),
     Show(u8),
+    /// The first by priority below a mask.
+    Best(u8, u8),
+    Claim(u8, u32),
     /// A write of one byte of memory.
     Poke(u64, u8),
     /// A read of so many bytes of memory.
@@ -148,6 +151,32 @@ fn shown<R: Wait>(rt: &R, machine: &Machine, pass: &mut Pass, vcpu: u8) -> Said
         return Said::Nothing;
     }
     match show(rt, machine, pass, &Open, Vcpu(vcpu)) {
+        Ok(Placed { place, reply }) => at(place, Reply::Ack(reply)),
+        Err(_) => Said::Nothing,
+    }
+}
+
+fn best_of<R: Wait>(rt: &R, machine: &Machine, pass: &mut Pass, vcpu: u8, mask: u8) -> Said
+    requires { IsReady machine.now pass.old }
+    ensures { IsReady machine.now pass.new }
+{
+    if vcpu >= machine.vcpus() {
+        return Said::Nothing;
+    }
+    match best(rt, machine, pass, &Open, Vcpu(vcpu), mask) {
+        Ok(Placed { place, reply }) => at(place, Reply::Ack(reply)),
+        Err(_) => Said::Nothing,
+    }
+}
+
+fn claimed<R: Wait>(rt: &R, machine: &Machine, pass: &mut Pass, vcpu: u8, intid: u32) -> Said
+    requires { IsReady machine.now pass.old }
+    ensures { IsReady machine.now pass.new }
+{
+    if vcpu >= machine.vcpus() {
+        return Said::Nothing;
+    }
+    match claim(rt, machine, pass, &Open, Vcpu(vcpu), Intid(intid)) {
         Ok(Placed { place, reply }) => at(place, Reply::Ack(reply)),
         Err(_) => Said::Nothing,
     }
@@ -302,6 +331,8 @@ fn asked<R: Wait>(rt: &R, alloc: Global, machine: &Machine, pass: &mut Pass, ask
         Ask::Send(ev) => send(rt, machine, pass, ev),
         Ask::Take(vcpu) => taken(rt, machine, pass, vcpu),
         Ask::Show(vcpu) => shown(rt, machine, pass, vcpu),
+        Ask::Best(vcpu, mask) => best_of(rt, machine, pass, vcpu, mask),
+        Ask::Claim(vcpu, intid) => claimed(rt, machine, pass, vcpu, intid),
         Ask::Poke(addr, byte) => poked(rt, machine, pass, addr, &Bytes64::new(&[byte])),
         Ask::Peek(addr, count) => peeked(rt, machine, pass, addr, count),
         Ask::Read(off, size) => read(rt, machine, pass, off, size),

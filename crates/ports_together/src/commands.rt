@@ -88,7 +88,7 @@ const ALL_END: [(Ask, Said); 14] = [
 
 #[test]
 fn all_translations_end(rt: HostRuntime) -> Result<(), Fail> {
-    let made = made_with(rt.alloc(), &CONFIGURED, 2, false)?;
+    let made = made_with(rt.alloc(), &CONFIGURED, 2, false, false)?;
     assert_eq!(rt; played(&rt, rt.alloc(), made, &ALL_END), 14);
     Ok(())
 }
@@ -156,6 +156,16 @@ const CONFIGURED_ANEW: [(Ask, Said); 8] = [
     (Ask::Peek(0x8006_0401, 1), Said::Byte(18, 0x01)),
 ];
 
+// The first by priority, and an acknowledgement of one LPI.
+const CLAIMED: [(Ask, Said); 6] = [
+    (Ask::Send(3), Said::Sent(9, 2, 8200)),
+    (Ask::Best(2, 0xff), Said::Lpi(10, 8200, 0xa0)),
+    (Ask::Best(2, 0xa0), Said::NoLpi(11)),
+    (Ask::Claim(2, 8201), Said::NoLpi(12)),
+    (Ask::Claim(2, 8200), Said::Lpi(13, 8200, 0xa0)),
+    (Ask::Claim(2, 8200), Said::NoLpi(14)),
+];
+
 // The translator goes off and on.
 const OFF_AND_ON: [(Ask, Said); 9] = [
     (Ask::Send(3), Said::Sent(9, 2, 8200)),
@@ -176,6 +186,7 @@ fn calls_by_the_ports(rt: HostRuntime) -> Result<(), Fail> {
         MOVED.as_slice(),
         DISCARDED.as_slice(),
         CONFIGURED_ANEW.as_slice(),
+        CLAIMED.as_slice(),
         OFF_AND_ON.as_slice(),
     ];
     for rows in tables {
@@ -211,7 +222,40 @@ const TURNED_ON: [(Ask, Said); 11] = [
 
 #[test]
 fn lpis_are_turned_on(rt: HostRuntime) -> Result<(), Fail> {
-    let made = made_with(rt.alloc(), &CONFIGURED, 16_777_215, true)?;
+    let made = made_with(rt.alloc(), &CONFIGURED, 16_777_215, true, false)?;
     assert_eq!(rt; played(&rt, rt.alloc(), made, &TURNED_ON), 11);
+    Ok(())
+}
+
+// A Linux turns them off again, and on. While they are off the cache still has the translation.
+const TURNED_OFF: [(Ask, Said); 13] = [
+    (Ask::ReadGicr(2, 0x0, 4), Said::At(9, Reply::Value(2))),
+    (
+        Ask::WriteGicr(2, 0x70, 8, 0x8003_000f),
+        Said::At(10, Reply::Ok),
+    ),
+    (
+        Ask::WriteGicr(2, 0x78, 8, 0x4000_0000_8006_0000),
+        Said::At(11, Reply::Ok),
+    ),
+    (
+        Ask::ReadGicr(2, 0x78, 8),
+        Said::At(12, Reply::Value(0x8006_0780)),
+    ),
+    (Ask::WriteGicr(2, 0x0, 4, 1), Said::At(13, Reply::Ok)),
+    (Ask::ReadGicr(2, 0x0, 4), Said::At(14, Reply::Value(3))),
+    (Ask::Send(3), Said::Sent(15, 2, 8200)),
+    (Ask::WriteGicr(2, 0x0, 4, 0), Said::At(16, Reply::Ok)),
+    (Ask::Take(2), Said::NoLpi(17)),
+    (Ask::Hit(3), Said::Dropped(18, Cause::LpisOff)),
+    (Ask::WriteGicr(2, 0x0, 4, 1), Said::At(19, Reply::Ok)),
+    (Ask::Hit(3), Said::Sent(20, 2, 8200)),
+    (Ask::Look, Said::Stamp(0, 21)),
+];
+
+#[test]
+fn lpis_are_turned_off(rt: HostRuntime) -> Result<(), Fail> {
+    let made = made_with(rt.alloc(), &CONFIGURED, 16_777_215, true, true)?;
+    assert_eq!(rt; played(&rt, rt.alloc(), made, &TURNED_OFF), 13);
     Ok(())
 }

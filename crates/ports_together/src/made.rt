@@ -9,7 +9,7 @@ ghost use Rattle.ports_together.specs.Ready.{IsSmall, IsRoot, IsAtRest, IsShared
 use crate::share;
 use gicr_regs::{GicrRegisters, GicrValues};
 use gits_regs::RegValues;
-use its_plain::{Desc, Fill, LpiTables, MakeError};
+use its_plain::{Desc, Fill, Its, LpiTables, MakeError};
 use its_turns::{Machine, Root};
 use its_types::{Addr, Limits, Listed, Profile, Shape};
 use std::alloc::{AllocError, Global};
@@ -53,6 +53,7 @@ fn described(
     words: &[(u64, u64)],
     stamp_last: u32,
     gicr: bool,
+    linux: bool,
 ) -> Result<Desc, AllocError>
     requires { stamp_last < 2 ^ 24 }
     ensures { IfOk result IsSmall }
@@ -61,12 +62,18 @@ fn described(
     windows.push((Addr(0x8000_0000), 0x20_0000))?;
     let tables = tables(alloc, gicr)?;
     let fills = fills(alloc, words)?;
+    let mut translators = Listed::new(alloc);
+    translators.push(Its {
+        restore: Some(VALUES),
+        frames: None,
+    })?;
     Ok(Desc {
         shape: Shape {
             vcpus: 4,
             dev_bits: 16,
             lpi_bits: 16,
             profile: Profile::One,
+            linux,
         },
         shards: 4,
         limits: Limits {
@@ -74,9 +81,12 @@ fn described(
             place_last: 1_099_511_627_775,
         },
         windows,
+        memory_limit: u64::MAX,
         tables,
         fills,
-        restore: Some(VALUES),
+        translators,
+        requesters: Listed::new(alloc),
+        track: false,
     })
 }
 
@@ -99,15 +109,17 @@ pub fn made(alloc: Global, words: &[(u64, u64)]) -> Result<(Machine, Root), Make
     ensures at_rest { IfOk result (λ made. IsAtRest made.0 made.1) }
     ensures shared { IfOk result (λ made. IsShared made.0 made.1) }
 {
-    made_with(alloc, words, 16_777_215, false)
+    made_with(alloc, words, 16_777_215, false, false)
 }
 
-/// The same with this as the last stamp. Its guest may program the LPI registers, which are off.
+/// The same with this as the last stamp. Its guest may program the LPI registers, which are off, and
+/// may be a Linux.
 pub fn made_with(
     alloc: Global,
     words: &[(u64, u64)],
     stamp_last: u32,
     gicr: bool,
+    linux: bool,
 ) -> Result<(Machine, Root), MakeError>
     requires { stamp_last < 2 ^ 24 }
     ensures root { IfOk result (λ made. IsRoot made.0 made.1) }
@@ -115,7 +127,7 @@ pub fn made_with(
     ensures at_rest { IfOk result (λ made. IsAtRest made.0 made.1) }
     ensures shared { IfOk result (λ made. IsShared made.0 made.1) }
 {
-    let Ok(desc) = described(alloc, words, stamp_last, gicr) else {
+    let Ok(desc) = described(alloc, words, stamp_last, gicr, linux) else {
         return Err(MakeError::NoMemory);
     };
     share(alloc, &desc)

@@ -1,5 +1,5 @@
 ghost use Rattle.std.specs.Prelude.{◌^◌, ◌<◌, ◌≤◌};
-ghost use Rattle.its_plain.specs.Machine.{IsDescription};
+ghost use Rattle.its_plain.specs.Machine.{IsDescription, IsSingle};
 ghost use Rattle.ports_together.specs.Shared.{IsSharedFrom};
 
 use its_plain::{Desc, MakeError};
@@ -11,6 +11,7 @@ use std::alloc::Global;
 /// threads to share, with its root; or the first thing that is wrong.
 pub fn share(alloc: Global, desc: &Desc) -> Result<(Machine, Root), MakeError>
     requires description { IsDescription desc.now }
+    requires single { IsSingle desc.now }
     requires some_shards { 1 ≤ desc.now.shards }
     requires most_shards { desc.now.shards ≤ 64 }
     requires stamps { desc.now.limits.stamp_last < 2 ^ 24 }

@@ -35,6 +35,10 @@ may_ask s (call.ReadGicr vcpu off size) e = ltb-true vcpu.0 (vcpu_count s) (left
 may_ask s (call.WriteGicr vcpu off size value) e = ltb-true vcpu.0 (vcpu_count s) (left_true (nat_lt vcpu.0 (vcpu_count s)) _ (left_true _ _ e))
 may_ask s (call.Step its) e = eqb-true its 0 e
 may_ask s call.Save e = tt
+may_ask s (call.Best vcpu mask) e = ltb-true vcpu.0 (vcpu_count s) e
+may_ask s (call.Claim vcpu intid) e = ltb-true vcpu.0 (vcpu_count s) e
+may_ask s call.Copy e = absurd (true≢false (sym e))
+may_ask s (call.Dma req addr bytes to) e = absurd (true≢false (sym e))
 
 module _ (s : Setup) where
   thread_runs : (calls : Thread) → is_thread (vcpu_count s) calls ≡ true → MayAskAll s calls
