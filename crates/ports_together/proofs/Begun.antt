@@ -8,9 +8,9 @@ use Rattle.its_plain.specs.declared.make.MakeError.TheVariants as errors
 use Rattle.its_turns.specs.Machines.{setup}
 use Rattle.its_turns.specs.declared.machine.Machine.{Machine}
 use Rattle.its_turns.specs.declared.machine.Pass.{Pass}
+use Rattle.its_migrate.specs.Shared.{IsFirst, IsSharedFrom}
 use Rattle.its_migrate.proofs.Fresh.{first_layout}
 use Rattle.ports_together.specs.Ready.{IsSmall, IsShared}
-use Rattle.ports_together.specs.Shared.{IsFirst, IsSharedFrom}
 
 pub if_shared : (d : Desc) (P : Machine × Pass → Type 0) (r : Result (Machine × Pass) MakeError) → IsSharedFrom d r
     → ((x : Machine × Pass) → IsFirst d x.0 x.1 → P x) → IfOk r P

@@ -1,4 +1,5 @@
-//! Machines that threads share, from a description to the parts that are left, with all ports.
+//! Tests of machines that threads share, from a description to the parts that are left, with all
+//! ports.
 #![tactic(auto)]
 
 #[cfg(test)]
@@ -17,6 +18,3 @@ mod migrations;
 mod overtaking;
 #[cfg(test)]
 mod passes;
-mod sharing;
-
-pub use sharing::share;

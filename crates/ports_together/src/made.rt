@@ -6,9 +6,9 @@ ghost use Rattle.its_plain.specs.Machine.{HasTablesFor};
 ghost use Rattle.its_turns.specs.Machines.{view};
 ghost use Rattle.ports_together.specs.Ready.{IsSmall, IsRoot, IsAtRest, IsShared};
 
-use crate::share;
 use gicr_regs::{GicrRegisters, GicrValues};
 use gits_regs::RegValues;
+use its_migrate::share;
 use its_plain::{Desc, Fill, Its, LpiTables, MakeError};
 use its_turns::{Machine, Root};
 use its_types::{Addr, Limits, Listed, Profile, Shape};
