@@ -38,7 +38,7 @@ slots_first s alone =
     map-append slot_as (map (λ t. std.Some (Maps t)) s.start.translators)
     (std.Some (Mem s.start.memory) ∷ (replicate n (std.Some (Shard no_entries)) ++ map (λ r. std.Some (Redist r)) s.start.redistributors))
     ∙ (λ d. map_maps s.start.translators d
-    ++ (some (steps.Mem s.start.memory (alone (~ d))) ∷ (map-append slot_as (replicate n (std.Some (Shard no_entries)))
+    ++ (some (steps.Mem s.start.memory (sym alone d)) ∷ (map-append slot_as (replicate n (std.Some (Shard no_entries)))
     (map (λ r. std.Some (Redist r)) s.start.redistributors) ∙ (λ e. map_shards n e ++ map_redists s.start.redistributors e)) d))
 
 pub first_shared : (s : Setup) → IsSound s.start → s.start.track ≡ std.None → (history : List Entry) (notes : List ℕ) (slots : List (std.Option Value)) (turns : List ℕ) (y : Known)
