@@ -41,7 +41,8 @@ slots_first s alone =
     ++ (some (steps.Mem s.start.memory (sym alone d)) ∷ (map-append slot_as (replicate n (std.Some (Shard no_entries)))
     (map (λ r. std.Some (Redist r)) s.start.redistributors) ∙ (λ e. map_shards n e ++ map_redists s.start.redistributors e)) d))
 
-pub first_shared : (s : Setup) → IsSound s.start → s.start.track ≡ std.None → (history : List Entry) (notes : List ℕ) (slots : List (std.Option Value)) (turns : List ℕ) (y : Known)
+pub first_shared : (s : Setup) → IsSound s.start → s.start.track ≡ std.None → (history : List Entry) (notes : List ℕ) (slots : List (std.Option Value))
+    (turns : List ℕ) (y : Known)
     (none : List Known) (seen : List Entry) (views : List Known) → history ≡ [] → notes ≡ [] → slots ≡ home_slots s.start s.shards
     → turns ≡ replicate (length slots) 0 → known s y ≡ fresh s 0 1 seen first_word → seen ≡ [] → views ≡ none ++ y ∷ [] → none ≡ []
     → record {
