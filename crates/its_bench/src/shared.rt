@@ -1,5 +1,5 @@
 //! A machine of four virtual processors and two MiB of memory, for threads to share.
-ghost use Rattle.std.specs.Prelude.{◌≡◌, ◌+◌, ◌^◌, ◌<◌, IfOk};
+ghost use Rattle.std.specs.Prelude.{◌≡◌, ◌+◌, ◌^◌, ◌<◌, [], ◌∷◌, None, IfOk};
 ghost use Rattle.its_plain.specs.Machine.{IsDescription, IsSingle};
 ghost use Rattle.its_turns.specs.Machines.{view};
 ghost use Rattle.its_bench.specs.Ready.{IsReady, IsRoot};
@@ -39,11 +39,6 @@ pub fn desc(alloc: Global, stamp_last: u32) -> Result<Desc, AllocError>
         addr: CONFIG,
         bytes: Listed::from_vec(vec![in alloc; 0xa1; LPIS]?),
     })?;
-    let mut translators = Listed::new(alloc);
-    translators.push(Its {
-        restore: None,
-        frames: None,
-    })?;
     Ok(Desc {
         shape: Shape {
             vcpus: VCPUS,
@@ -64,10 +59,22 @@ pub fn desc(alloc: Global, stamp_last: u32) -> Result<Desc, AllocError>
             pending,
         },
         fills,
-        translators,
+        translators: translator(alloc)?,
         requesters: Listed::new(alloc),
         track: false,
     })
+}
+
+// One, not restored, with no frames.
+fn translator(alloc: Global) -> Result<Listed<Its>, AllocError>
+    ensures { IfOk result (λ ts. ts ≡ record { restore = None; frames = None } ∷ []) }
+{
+    let mut translators = Listed::new(alloc);
+    translators.push(Its {
+        restore: None,
+        frames: None,
+    })?;
+    Ok(translators)
 }
 
 /// The machine, on which no call was made, with its root.
