@@ -238,7 +238,12 @@ module _ (s : Setup) (one : translator_count s ≡ 1) (t : Tables) (memory : Lis
           base_then =
               let track : z.track ≡ None = track_after u (reply.Step (as_step said)) ∙ track_is s u w held m right out (translator_of t) memory base in
               let new : translator z 0 ≡ translator_of t' = get_or_from_slice_get z.translators 0 (translator_of t') no_translator parts_then.translator_is in
-              (λ d. record { part = part.Mem; owed = Mem (parts_then.memory_is d) (track d); out = true } ∷ record { part = part.Maps 0; owed = Maps (new d); out = true }
+              (λ d. record { part = part.Mem; owed = Mem (parts_then.memory_is d) (track d); out = true } ∷ record {
+                part = part.Maps 0;
+                owed = Maps
+                    (new d);
+                out = true;
+              }
               ∷ [])
 
           shards_then : Leaves s w (reply.Step (as_step said)) z (base_held t memory) mark.stamp mark.change c c'

@@ -111,7 +111,8 @@ module _ (s : Setup) (one : translator_count s ≡ 1) (vcpus : HasVcpus s) (w : 
     pub may_renew : MayCall s renews held
     may_renew = may.0
 
-    pub renew_owes : (new : List (Option Ways)) → AreEmptied shards new → renewal s renews held ≡ shards_held new s.shards (maps_held (after_write s.start.layout.shape r t))
+    pub renew_owes : (new : List (Option Ways)) → AreEmptied shards new → renewal s renews held ≡ shards_held new s.shards (maps_held
+        (after_write s.start.layout.shape r t))
     renew_owes new empty =
         may.1
         ∙ (shards_emptied s renews (left u (write_call r) reply.Ok) refl shards new (maps_held t) s.shards refl empty

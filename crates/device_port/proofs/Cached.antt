@@ -297,6 +297,7 @@ module _ (s : Setup) (one : translator_count s ≡ 1) (vcpus : HasVcpus s) (dev 
     made = x;
     commits = commits;
     left = delivered on r target;
-    owes = hit_owes on is own x commits ∙ ap (λ (q : Setup). two_before (shard_number dev.0 ev.0 q.shards) target.vcpu ways (delivered on r target) []) (sym own);
+    owes = hit_owes on is own x commits ∙ ap (λ (q : Setup). two_before (shard_number dev.0 ev.0 q.shards) target.vcpu ways (delivered on r target) [])
+        (sym own);
     home = home;
   }

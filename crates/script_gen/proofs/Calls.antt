@@ -126,7 +126,8 @@ kept_put : (n : ℕ) (u : Plain) (address : ℕ) (bytes : List ℕ) (o : Option 
     → IsSound (poke_left u address bytes o) → IsKept n (poke_left u address bytes o)
 kept_put n u address bytes None wrote h is sound = h
 kept_put n u address bytes (Some now) wrote h is sound =
-    kept_memory n u now (option_map (dirtied address (length bytes)) u.track) h (extents-write_at u.memory address bytes now wrote ∙ h.windows) (queue_written n u.memory now address bytes is wrote h.queue) sound
+    kept_memory n u now (option_map (dirtied address (length bytes)) u.track) h (extents-write_at u.memory address bytes now wrote
+    ∙ h.windows) (queue_written n u.memory now address bytes is wrote h.queue) sound
 
 -- ---- steps
 

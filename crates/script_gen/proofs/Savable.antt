@@ -149,7 +149,8 @@ areas_are u t one layout =
     let queues : each_areas queue_areas 0 u.translators ≡ queue_area 0 t.regs = ap (λ ts. each_areas queue_areas 0 ts) one
     ∙ append-nil (queue_area 0 t.regs) in
     ap (λ areas. ((areas ++ areas_from (pending_area u.layout.shape) 0 rs) ++ config_areas u) ++ each_areas queue_areas 0 u.translators) (tables_are u t one)
-    ∙ ap (λ (l : Layout). ((tables_with u.memory t ++ areas_from (pending_area l.shape) 0 rs) ++ config_areas u) ++ each_areas queue_areas 0 u.translators) layout
+    ∙ ap (λ (l : Layout). ((tables_with u.memory t ++ areas_from
+    (pending_area l.shape) 0 rs) ++ config_areas u) ++ each_areas queue_areas 0 u.translators) layout
     ∙ ap (λ areas. ((tables_with u.memory t ++ areas_from (pending_area shape) 0 rs) ++ areas) ++ each_areas queue_areas 0 u.translators) (config_is u layout)
     ∙ ap (λ areas. ((tables_with u.memory t ++ areas_from (pending_area shape) 0 rs) ++ config_at rs) ++ areas) queues
 

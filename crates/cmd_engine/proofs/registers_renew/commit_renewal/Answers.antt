@@ -25,7 +25,8 @@ returns-in-Ok-clause-held g c =
     c.args.shards.now in
     let a = write_commit c.args.word 0 c.args.write change.Empty in
     let room = subst (λ (z : Setup). c.args.word.place < z.limits.place_last) c.requires.of.1 c.requires.read.room in
-    rw (c.apply.ensures, c.desc.ensures.shape) (owes_now s a y (view c.commit.new.pass) (shards_held shards s.shards (maps_held t)) c.requires.of.1 c.requires.held
+    rw (c.apply.ensures, c.desc.ensures.shape) (owes_now s a y (view c.commit.new.pass) (shards_held shards s.shards
+    (maps_held t)) c.requires.of.1 c.requires.held
     (rw (c.call.ensures) at c.in-Ok.ensures.result.1)
     ∙ renew_owes s m.laid.0 m.laid.1 c.args.word room t c.args.write (after y.setup.start y.seen)
     (subst (λ (z : Setup). IsOfMachine z (after y.setup.start y.seen)) c.requires.of.1 c.requires.read.machine) shards c.requires.hand

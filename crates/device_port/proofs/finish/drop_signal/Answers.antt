@@ -14,7 +14,8 @@ use Rattle.device_port.proofs.finish.drop_signal.Goals as goal
 pub try_commit-requires-clause-may : goal.try_commit-requires-clause-may
 try_commit-requires-clause-may g c = let m = c.args.machine.now in let t = c.args.maps.value in
     may_here (setup m) (signal c.args.dev c.args.ev) (reply.Signal (Dropped c.args.cause)) Keep (one_held t) (λ _. one_held t)
-    (λ w room. drops (setup m) w (signal c.args.dev c.args.ev) 0 c.args.dev c.args.ev c.args.cause (translator_of t) refl m.laid.1 (omega (arith, m.laid.0)) room c.requires.lost)
+    (λ w room. drops (setup m) w (signal c.args.dev c.args.ev) 0 c.args.dev c.args.ev c.args.cause (translator_of t) refl m.laid.1 (omega
+    (arith, m.laid.0)) room c.requires.lost)
     (view c.args.pass.now) c.requires.held
 
 pub put-requires-clause-owed : goal.put-requires-clause-owed
@@ -24,6 +25,7 @@ put-requires-clause-owed g c = let m = c.args.machine.now in let t = c.args.maps
       content_is = refl;
       before = [];
       last = owes_here (setup m) (signal c.args.dev c.args.ev) (reply.Signal (Dropped c.args.cause)) Keep (one_held t) (λ _. one_held t)
-          (λ w room. drops (setup m) w (signal c.args.dev c.args.ev) 0 c.args.dev c.args.ev c.args.cause (translator_of t) refl m.laid.1 (omega (arith, m.laid.0)) room c.requires.lost)
+          (λ w room. drops (setup m) w (signal c.args.dev c.args.ev) 0 c.args.dev c.args.ev c.args.cause (translator_of t) refl m.laid.1 (omega
+          (arith, m.laid.0)) room c.requires.lost)
           (view c.args.pass.now) c.requires.held c.requires.of.1 c.in-Ok.word (view c.try_commit.new.pass) c.in-Ok.ensures.result;
     }

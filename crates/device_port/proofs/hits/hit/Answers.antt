@@ -13,7 +13,8 @@ pub commit-requires-clause-may : goal.commit-requires-clause-may
 commit-requires-clause-may g c = let m = c.args.machine.now in let s = setup m in let h = c.args.hand in let r = redistributor_of h.redist.value in
     let dev = c.args.dev in let ev = c.args.ev in let y = view c.args.pass.now in
     rw (c.met-signal.ensures, c.on-on.ensures) (hit_may s m.laid.0 m.laid.1 dev ev h.target h.shard r c.args.word c.requires.hand.hand.vcpu
-    (number_inside s dev ev h c.requires.hand) c.requires.room c.requires.found y (two_by_number s dev ev h y.held c.requires.hand c.requires.held) r.bases.on refl)
+    (number_inside s dev ev h c.requires.hand) c.requires.room c.requires.found y
+    (two_by_number s dev ev h y.held c.requires.hand c.requires.held) r.bases.on refl)
 
 pub put_two-requires-clause-hand : goal.put_two-requires-clause-hand
 put_two-requires-clause-hand g c = let s = setup c.args.machine.now in let h = c.requires.hand.hand in let e = c.deliver.ensures in

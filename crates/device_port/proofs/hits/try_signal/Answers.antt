@@ -14,7 +14,8 @@ pub returns-in-Err-clause-answer : goal.returns-in-Err-clause-answer
 returns-in-Err-clause-answer g c =
     let m = c.args.machine.now in let s = setup m in let v = view c.args.pass.now in let v1 = view c.begin.new.pass in let w = c.in-Ok.word in let looks =
     c.in-Ok.ensures.word.0 in let is = c.shard_of-number.ensures.number in
-    (busy_shard s m.laid.0 c.args.dev c.args.ev v v1 w c.requires.of.1 c.requires.free looks c.in-Ok.ensures.word.1 c.in-Err.busy (view c.try_take_shard.new.pass)
+    (busy_shard s m.laid.0 c.args.dev c.args.ev v v1 w c.requires.of.1 c.requires.free looks c.in-Ok.ensures.word.1 c.in-Err.busy
+    (view c.try_take_shard.new.pass)
     (rw (is) at c.in-Err.ensures.result)).0
 
 pub returns-in_default-find-clause-answer : goal.returns-in_default-find-clause-answer
@@ -22,7 +23,8 @@ returns-in_default-find-clause-answer g c =
     let m = c.args.machine.now in let s = setup m in let v = view c.args.pass.now in let v1 = view c.begin.new.pass in let w = c.in-Ok.word in let looks =
     c.in-Ok.ensures.word.0 in let is = c.shard_of-number.ensures.number in
     let took = rw (is) at c.in-Ok-try_take_shard.ensures.result.view in
-    (missed_now s m.laid.0 c.args.dev c.args.ev v v1 w c.requires.of.1 c.requires.free looks c.in-Ok.ensures.word.1 (view c.try_take_shard.new.pass) c.in-Ok-try_take_shard.shard took
+    (missed_now s m.laid.0 c.args.dev c.args.ev v v1 w c.requires.of.1 c.requires.free looks c.in-Ok.ensures.word.1
+    (view c.try_take_shard.new.pass) c.in-Ok-try_take_shard.shard took
     (view c.put.new.pass) (search rules) c.put.ensures.view).0
 
 pub returns-in-Err-try_take_redist-clause-answer : goal.returns-in-Err-try_take_redist-clause-answer
@@ -30,7 +32,8 @@ returns-in-Err-try_take_redist-clause-answer g c =
     let m = c.args.machine.now in let s = setup m in let v = view c.args.pass.now in let v1 = view c.begin.new.pass in let w = c.in-Ok.word in let looks =
     c.in-Ok.ensures.word.0 in let is = c.shard_of-number.ensures.number in
     let took = rw (is) at c.in-Ok-try_take_shard.ensures.result.view in
-    (busy_redist s m.laid.0 c.args.dev c.args.ev v v1 w c.requires.of.1 c.requires.free looks c.in-Ok.ensures.word.1 (view c.try_take_shard.new.pass) c.in-Ok-try_take_shard.shard took
+    (busy_redist s m.laid.0 c.args.dev c.args.ev v v1 w c.requires.of.1 c.requires.free looks c.in-Ok.ensures.word.1
+    (view c.try_take_shard.new.pass) c.in-Ok-try_take_shard.shard took
     c.in-Some.target c.in-Err-try_take_redist.busy (view c.put-in-Err-try_take_redist.new.pass) (view c.try_take_redist.new.pass)
     (search rules) c.in-Err-try_take_redist.ensures.result c.put-in-Err-try_take_redist.ensures.view).0
 
@@ -58,6 +61,7 @@ returns-clause-answer g c =
     let m = c.args.machine.now in let s = setup m in let v = view c.args.pass.now in let v1 = view c.begin.new.pass in let w = c.in-Ok.word in let looks =
     c.in-Ok.ensures.word.0 in let is = c.shard_of-number.ensures.number in
     let took = rw (is) at c.in-Ok-try_take_shard.ensures.result.view in let r = redistributor_of c.in-Ok-try_take_redist.redist.value in
-    (hit_now s m.laid.0 c.args.dev c.args.ev v v1 w c.requires.of.1 c.requires.free looks c.in-Ok.ensures.word.1 (view c.try_take_shard.new.pass) c.in-Ok-try_take_shard.shard took
+    (hit_now s m.laid.0 c.args.dev c.args.ev v v1 w c.requires.of.1 c.requires.free looks c.in-Ok.ensures.word.1
+    (view c.try_take_shard.new.pass) c.in-Ok-try_take_shard.shard took
     (view c.try_take_redist.new.pass) c.in-Some.target r (search rules)
     c.in-Ok-try_take_redist.ensures.result.0.view (view c.hit.new.pass) c.hit.result c.hit.ensures.answer).0

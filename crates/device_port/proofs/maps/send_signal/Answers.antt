@@ -9,7 +9,8 @@ use Rattle.its_steps.specs.World.{View}
 use Rattle.its_steps.specs.declared.change.ShardChange.TheVariants.{Keep, Fill}
 use Rattle.its_turns.specs.Contents.{translator_of, held_before}
 use Rattle.its_turns.specs.Machines.{setup, view}
-use Rattle.device_port.proofs.Sent.{busy_later, finished, first_on, first_seen, first_early, second_on, second_seen, second_early, third_on, third_seen, third_early, emptied_one, emptied_two}
+use Rattle.device_port.proofs.Sent.{busy_later, finished, first_on, first_seen, first_early, second_on, second_seen, second_early, third_on, third_seen}
+use Rattle.device_port.proofs.Sent.{third_early, emptied_one, emptied_two}
 use Rattle.device_port.proofs.Targets.{target_in}
 use Rattle.device_port.specs.Signals.{shard_of, FindsIfDone}
 use Rattle.device_port.proofs.maps.send_signal.Goals as goal
@@ -22,7 +23,8 @@ returns-in-Err-clause-answer g c v bare first =
     let p_is : part.Shard 0 n ≡ shard_of v.setup dev ev = ap (λ (k : ℕ). part.Shard 0 k) c.shard_of-number.ensures.number
     ∙ ap (λ (q : Setup). shard_of q dev ev) (sym own) in
     let b1 = view c.try_take_shard.new.pass in let busy = c.in-Err.ensures.result in
-    busy_later dev ev v bare (part.Maps 0 ∷ []) (inl refl, tt) (inl refl) y (first_on v y m first) (first_seen v y m first) (first_early v y m first) (part.Shard 0 n) c.in-Err.busy b1
+    busy_later dev ev v bare (part.Maps 0 ∷ []) (inl refl, tt) (inl refl) y (first_on v y m first) (first_seen v y m first) (first_early v y m first)
+    (part.Shard 0 n) c.in-Err.busy b1
     (view c.put.new.pass) (inr (inl p_is)) busy
     (emptied_one b1 (view c.put.new.pass) c.put.ensures.view (ap (λ (u : View). held_before u.held) busy.view
     ∙ ap (λ (l : List Held). held_before l) c.requires.held))
@@ -50,7 +52,8 @@ returns-in-Err-try_take_redist-clause-answer g c v bare first =
 
 pub fill_signal-requires-clause-hand : goal.fill_signal-requires-clause-hand
 fill_signal-requires-clause-hand g c =
-    let target = target_in (setup c.args.machine.now) (translator_of c.args.maps.value) c.args.dev.0 c.args.ev.0 c.args.target c.requires.stood c.requires.goes in
+    let target = target_in (setup c.args.machine.now)
+    (translator_of c.args.maps.value) c.args.dev.0 c.args.ev.0 c.args.target c.requires.stood c.requires.goes in
     record {
       number_is = c.shard_of-number.ensures.number;
       hand = record { inside = c.shard_of-number.ensures.stands.1; vcpu = target.vcpu; lpi = target.lpi; lpis = c.in-Ok-try_take_redist.ensures.result.1 };
@@ -58,7 +61,8 @@ fill_signal-requires-clause-hand g c =
 
 pub off_signal-requires-clause-hand : goal.off_signal-requires-clause-hand
 off_signal-requires-clause-hand g c =
-    let target = target_in (setup c.args.machine.now) (translator_of c.args.maps.value) c.args.dev.0 c.args.ev.0 c.args.target c.requires.stood c.requires.goes in
+    let target = target_in (setup c.args.machine.now)
+    (translator_of c.args.maps.value) c.args.dev.0 c.args.ev.0 c.args.target c.requires.stood c.requires.goes in
     record {
       number_is = c.shard_of-number.ensures.number;
       hand = record { inside = c.shard_of-number.ensures.stands.1; vcpu = target.vcpu; lpi = target.lpi; lpis = c.in-Ok-try_take_redist.ensures.result.1 };
