@@ -3,7 +3,6 @@ use Rattle.std.proofs.Common.{◌≡◌, ℕ, List, Some, sym, ap, subst, ◌∙
 use Rattle.its_plain.specs.History.{after}
 use Rattle.its_plain.specs.Machine.{layout_of}
 use Rattle.its_plain.specs.Plain.{Plain}
-use Rattle.its_plain.specs.Regions.{savable}
 use Rattle.its_plain.specs.Runs.{Leg}
 use Rattle.its_plain.specs.Saved.{moved, IsSavable}
 use Rattle.its_plain.specs.declared.desc.Desc.{Desc}

@@ -1,5 +1,5 @@
 -- A machine is refused or has one first state, and what was read is what a source tells.
-use Rattle.std.proofs.Common.{◌≡◌, ℕ, ◌<◌, Bool, true, false, List, length, Option, Some, None, Result, Ok, Err, sym, ap, subst, ◌∙◌, arith}
+use Rattle.std.proofs.Common.{◌≡◌, ℕ, ◌<◌, Bool, true, false, List, length, Option, Some, Result, Ok, Err, sym, ap, subst, ◌∙◌, arith}
 use Rattle.gits_regs.specs.declared.values.RegValues.{RegValues}
 use Rattle.its_types.specs.declared.translation.Bases.{Bases}
 use Rattle.its_plain.specs.Described.{IsFirstState, IsRefused, StartsAt, is_restored, values_of, restored_bases}

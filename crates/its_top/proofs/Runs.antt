@@ -1,5 +1,5 @@
 -- What came of a leg.
-use Rattle.std.proofs.Common.{◌≡◌, ℕ, zero, suc, ◌+◌, get_or, take, ◌<◌, ◌≤◌, Bool, true, false, List, [], ◌∷◌, ◌++◌, length, map, Option, Some, None}
+use Rattle.std.proofs.Common.{◌≡◌, ℕ, zero, suc, get_or, take, ◌<◌, ◌≤◌, Bool, true, false, List, [], ◌∷◌, ◌++◌, length, map, Option, Some, None}
 use Rattle.std.proofs.Common.{Err, refl, sym, ap, subst, ◌∙◌, arith, append-nil}
 use Rattle.std.specs.Prelude.{◌&&◌, slice_index_or, codes}
 use Rattle.std.specs.Fmt.{decimal}
@@ -41,12 +41,20 @@ text_migrated number lines pending =
     ap (λ (text : List ℕ). text ++ codes "migrated\n")
     (append-nil (codes "leg " ++ decimal number ++ codes "\n" ++ entry_lines lines ++ vcpu_lines_from 0 pending))
 
--- the text was added with that line
-pub added_migrated : (number : ℕ) (lines : List EntryLine) (pending : List (List ℕ)) (text old new : List ℕ)
-    → text ≡ report.leg_text number (record { entries = lines; pending = pending; end = None }) → new ≡ old ++ (text ++ codes "migrated\n")
+-- the text was added to a report that was the same still
+pub added_open : (number : ℕ) (lines : List EntryLine) (pending : List (List ℕ)) (text old held new : List ℕ)
+    → text ≡ report.leg_text number (record { entries = lines; pending = pending; end = None }) → held ≡ old → new ≡ held ++ text
+    → new ≡ old ++ report.leg_text number (record { entries = lines; pending = pending; end = None })
+added_open number lines pending text old held new is same added =
+    added ∙ (ap (λ (h : List ℕ). h ++ text) same ∙ ap (λ (t : List ℕ). old ++ t) is)
+
+-- with that line
+pub added_migrated : (number : ℕ) (lines : List EntryLine) (pending : List (List ℕ)) (text old held new : List ℕ)
+    → text ≡ report.leg_text number (record { entries = lines; pending = pending; end = None }) → held ≡ old → new ≡ held ++ (text ++ codes "migrated\n")
     → new ≡ old ++ report.leg_text number (record { entries = lines; pending = pending; end = Some Migrated })
-added_migrated number lines pending text old new is added =
-    added ∙ ap (λ (t : List ℕ). old ++ t) (ap (λ (t : List ℕ). t ++ codes "migrated\n") is ∙ text_migrated number lines pending)
+added_migrated number lines pending text old held new is same added =
+    added ∙ (ap (λ (h : List ℕ). h ++ (text ++ codes "migrated\n")) same
+    ∙ ap (λ (t : List ℕ). old ++ t) (ap (λ (t : List ℕ). t ++ codes "migrated\n") is ∙ text_migrated number lines pending))
 
 -- ---- a leg that was played from its start
 
