@@ -56,7 +56,7 @@ fn tables_that_overlap(rt: HostRuntime) -> Result<(), Fail> {
     let Err((machine, root, error)) = migrate(rt.alloc(), machine, root) else {
         panic!(rt; "the machine is left");
     };
-    let fault = SaveFault::Overlap(Region::Itt(DeviceId(16)), Region::Itt(DeviceId(17)));
+    let fault = SaveFault::Overlap(Region::Itt(0, DeviceId(16)), Region::Itt(0, DeviceId(17)));
     assert_eq!(rt; error, SaveError::Fault(fault));
     let mut root = root;
     let one = is_one_pending(rt.alloc(), &machine, &mut root)?;
