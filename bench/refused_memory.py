@@ -3,8 +3,8 @@
 
 Runs a script again and again, and has the first, the second, .. request for memory fail, until a run asks for no more.
 Each run must end as a whole one does, with the same report (where the request served only to start a thread), or with
-status 5: the reports of the legs that were migrated, and the line `refused memory`. Requests for the words of the
-command line come before the command begins; where one of these is refused, the program ends with status 1 and nothing.
+status 5: the reports of the legs that were migrated, and the line `refused memory`. What was printed of reports is never
+less than where an earlier request was refused.
 
 Needs gcc for a library that the loader puts in front of the C library's.
 
@@ -76,10 +76,12 @@ def entries(report):
     return sorted(line.split(" ", 1)[-1] for line in report.splitlines())
 
 
-def is_cut(report, whole):
+def front_of(report, whole):
+    """The legs before the line `refused memory`, or None where this is no report that was cut so."""
     front, line = report[: -len("refused memory\n")], report[-len("refused memory\n") :]
     migrated = front == "" or front.endswith("migrated\n")
-    return line == "refused memory\n" and migrated and entries(front) == entries(whole[: len(front)])
+    is_cut = line == "refused memory\n" and migrated and entries(front) == entries(whole[: len(front)])
+    return front if is_cut else None
 
 
 def check(program, path, library):
@@ -88,19 +90,18 @@ def check(program, path, library):
     status, whole = run(program, script, library, 0)
     if status not in (0, 1, 6, 7, 8):
         sys.exit(f"{path}: status {status}")
-    out_of_memory = same = early = number = 0
+    out_of_memory = same = number = printed = 0
     while same < 200:
         number += 1
         ended, report = run(program, script, library, number)
-        if ended == 5 and is_cut(report, whole):
-            out_of_memory, same = out_of_memory + 1, 0
+        front = front_of(report, whole) if ended == 5 else None
+        if front is not None and len(front) >= printed:
+            out_of_memory, same, printed = out_of_memory + 1, 0, len(front)
         elif ended == status and entries(report) == entries(whole):
             same += 1
-        elif ended == 1 and report == "" and out_of_memory == 0:
-            early += 1
         else:
             sys.exit(f"{path}: request {number} refused: status {ended}, {report[-200:]!r}")
-    print(f"{path}: {early} requests before the command, {out_of_memory} refused ones ended with status 5, the last is {number - same}")
+    print(f"{path}: {out_of_memory} refused requests ended with status 5, the last is {number - same}")
 
 
 def main():
