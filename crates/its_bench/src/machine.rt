@@ -1,9 +1,10 @@
 //! A machine with two MiB of memory, and commands of its queue.
 ghost use Rattle.std.specs.Prelude.{IfOk};
-ghost use Rattle.its_plain.specs.Machine.{IsDescription};
+ghost use Rattle.its_plain.specs.Machine.{IsDescription, IsSingle};
 
+use crate::shared::translator;
 use its_command::{Command, encode};
-use its_plain::{Bytes64, Call, Desc, Fill, Its, LpiTables};
+use its_plain::{Bytes64, Call, Desc, Fill, LpiTables};
 use its_types::{Addr, Limits, Listed, Profile, Shape};
 use owned_machine::Machine;
 use std::alloc::{AllocError, Global};
@@ -49,18 +50,14 @@ pub fn enabled(alloc: Global) -> Option<Machine> {
 }
 
 fn desc(alloc: Global) -> Result<Desc, AllocError>
-    ensures { IfOk result IsDescription }
+    ensures description { IfOk result IsDescription }
+    ensures single { IfOk result IsSingle }
 {
     let mut windows = Listed::new(alloc);
     windows.push((Addr(0x8000_0000), 0x20_0000))?;
     let mut pending = Listed::new(alloc);
     pending.push(Addr(0x8004_0000))?;
     let fills: Listed<Fill> = Listed::new(alloc);
-    let mut translators = Listed::new(alloc);
-    translators.push(Its {
-        restore: None,
-        frames: None,
-    })?;
     Ok(Desc {
         shape: Shape {
             vcpus: 1,
@@ -81,7 +78,7 @@ fn desc(alloc: Global) -> Result<Desc, AllocError>
             pending,
         },
         fills,
-        translators,
+        translators: translator(alloc)?,
         requesters: Listed::new(alloc),
         track: false,
     })

@@ -65,8 +65,8 @@ pub fn desc(alloc: Global, stamp_last: u32) -> Result<Desc, AllocError>
     })
 }
 
-// One, not restored, with no frames.
-fn translator(alloc: Global) -> Result<Listed<Its>, AllocError>
+/// One translator, not restored, with no frames.
+pub fn translator(alloc: Global) -> Result<Listed<Its>, AllocError>
     ensures { IfOk result (λ ts. ts ≡ record { restore = None; frames = None } ∷ []) }
 {
     let mut translators = Listed::new(alloc);
