@@ -1,6 +1,8 @@
 //! The command `its`.
 #![tactic(auto)]
 
+ghost use Rattle.std.specs.Prelude.{◌≢◌};
+
 use its_io::{StdSink, StdSource};
 use its_top::{Status, its, refuse};
 use its_types::Open;
@@ -30,7 +32,9 @@ fn words(rt: &HostRuntime) -> io::Result<Vec<String>> {
 }
 
 /// How the command ends where its words can't be had: one isn't UTF-8, or memory ran out.
-fn status_of(error: &io::Error) -> Status {
+fn status_of(error: &io::Error) -> Status
+    ensures { result ≢ Status.WriteFault }
+{
     if error.kind() == ErrorKind::InvalidData {
         Status::WordsRefused
     } else {
