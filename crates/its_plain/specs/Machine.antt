@@ -73,13 +73,6 @@ pub record IsDescription (d : Desc) : Type 0 where
   pub some_translator : 1 ≤ length d.translators
   pub most_translators : length d.translators ≤ 2
 
--- one translator, no second memory, and no device that writes by address
-pub record IsSingle (d : Desc) : Type 0 where
-  pub translator : length d.translators ≡ 1
-  pub frames : (t : Its) → slice_get d.translators 0 ≡ Some t → t.frames ≡ None
-  pub requesters : d.requesters ≡ []
-  pub track : d.track ≡ false
-
 -- ---- checks
 
 -- each pending table lies in one window, or the first virtual processor whose table doesn't

@@ -1,3 +1,4 @@
+//! Areas of guest memory that a save looks at.
 use crate::fault::Region;
 
 /// A stretch of guest memory that a save looks at, and whether it writes it.

@@ -1,3 +1,4 @@
+//! The bytes of a write of guest memory.
 ghost use Rattle.std.specs.Prelude.{◌≡◌, ◌<◌, ◌≤◌, length};
 
 use std::marker::Model;

@@ -1,3 +1,4 @@
+//! Calls and their replies.
 use crate::bytes64::Bytes64;
 use crate::fault::SaveFault;
 use its_command::Op;

@@ -1,3 +1,4 @@
+//! What a machine is made from.
 ghost use Rattle.std.specs.Prelude.{◌≡◌, IfOk, map};
 ghost use Rattle.its_types.specs.Lpis.{described_bases};
 ghost use Rattle.its_plain.specs.Machine as spec;
@@ -8,6 +9,7 @@ use gicr_regs::{GicrValues, restored_bases};
 use gits_regs::RegValues;
 use its_types::{Addr, Bases, DeviceId, Limits, Listed, Shape, Vcpu};
 use std::alloc::{AllocError, Global};
+use thiserror::Error;
 
 /// Bytes that a description puts into guest memory.
 #[derive(Debug, Drop)]
@@ -75,23 +77,30 @@ pub struct Desc {
 }
 
 /// Why a description makes no machine: the first that applies.
-#[derive(Clone, Copy, Debug, PartialEq, Eq)]
+#[derive(Clone, Copy, Debug, PartialEq, Eq, Error)]
 pub enum DescFault {
     /// No memory can have these windows, or they have more bytes together than the limit.
+    #[error("no memory can have these windows")]
     Windows,
     /// The configuration table doesn't lie in one window.
+    #[error("the configuration table lies in no window")]
     Config,
     /// The virtual processor's pending table doesn't lie in one window.
+    #[error("the pending table of processor {0} lies in no window")]
     Pending(Vcpu),
     /// The bytes of this fill, counted from 0, don't lie in one window.
+    #[error("the bytes of fill {0} lie in no window")]
     Bytes(u64),
     /// The frames of the translator end past 2^52, or share a byte with a window or with the other
     /// frames.
+    #[error("the frames of translator {0} lie where they cannot")]
     Frames(u8),
     /// The requesters of this line, counted from 0, are none, or a device of theirs is past
     /// 2^32 - 1, or a requester is one of an earlier line.
+    #[error("line {0} of requesters has some that cannot be")]
     Requesters(u64),
     /// Memory and the registers to restore of the translator stand for no state: their first fault.
+    #[error("translator {0} is not restored: {1}")]
     Restore(u8, RestoreFault),
 }
 

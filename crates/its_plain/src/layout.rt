@@ -1,3 +1,4 @@
+//! What no call changes.
 ghost use Rattle.std.specs.Prelude.{◌≡◌, IfOk};
 
 use its_types::{Bases, Listed, Shape};

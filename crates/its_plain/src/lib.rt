@@ -10,6 +10,7 @@ mod equal;
 mod fault;
 mod layout;
 mod make;
+mod shown;
 
 pub use area::Area;
 pub use bytes64::Bytes64;

@@ -1,15 +1,19 @@
+//! Why a machine wasn't made.
 ghost use Rattle.std.specs.Prelude.{◌≡◌};
 ghost use Rattle.its_plain.specs.declared.make.MakeError.TheVariants as errors;
 
 use crate::desc::DescFault;
 use std::alloc::{AllocError, AllocFailed};
+use thiserror::Error;
 
 /// Why a machine wasn't made.
-#[derive(Clone, Copy, Debug, PartialEq, Eq)]
+#[derive(Clone, Copy, Debug, PartialEq, Eq, Error)]
 pub enum MakeError {
     /// The description makes none: the first fault.
+    #[error("{0}")]
     Fault(DescFault),
     /// The host ran out of memory.
+    #[error("out of memory")]
     NoMemory,
 }
 

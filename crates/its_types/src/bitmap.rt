@@ -1,3 +1,4 @@
+//! Bits in words of 64.
 ghost use Rattle.std.specs.Prelude.{◌≡◌, ◌≢◌, ◌*◌, ◌<◌, ℕ, ◌==◌, if◌then◌else◌, length};
 ghost use Rattle.its_types.specs.Bits as spec;
 ghost use Rattle.its_types.specs.Bitmap.{word_bit};

@@ -1,3 +1,4 @@
+//! Bits of a number.
 ghost use Rattle.std.specs.Prelude.{◌≡◌, ◌<◌, ◌^◌, nat_lt};
 ghost use Rattle.its_types.specs.Bits as spec;
 

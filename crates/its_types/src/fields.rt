@@ -1,3 +1,4 @@
+//! Numbers in bytes, least significant byte first.
 ghost use Rattle.std.specs.Prelude.{◌≡◌, ◌+◌, ◌≤◌, ◌++◌, length, take, drop};
 ghost use Rattle.byteorder.specs.Endian.{little_number, little_bytes};
 

@@ -1,3 +1,4 @@
+//! Places in a call where a test may hold it.
 /// A place in a call where a test may hold it. It answers nothing and can't fail.
 pub trait Gate {
     /// Called where the pass of this number stands at the point. A test may let it wait.

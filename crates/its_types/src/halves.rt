@@ -1,3 +1,4 @@
+//! The 32-bit halves of a 64-bit number.
 ghost use Rattle.std.specs.Prelude.{◌≡◌, ◌+◌, ◌*◌, ◌^◌};
 ghost use Rattle.its_types.specs.Halves as spec;
 

@@ -1,3 +1,4 @@
+//! Identifiers, and their ranges.
 ghost use Rattle.std.specs.Prelude.{◌≡◌, ◌↔◌, ◌<◌, ◌≤◌, ◌^◌, IsTrue};
 ghost use Rattle.its_types.specs.Ranges as spec;
 

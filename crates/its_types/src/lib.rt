@@ -10,6 +10,7 @@ mod halves;
 mod ids;
 mod listed;
 mod machine;
+mod shown;
 mod translation;
 
 pub use bitmap::{has_bit, put_bit, with_bit};

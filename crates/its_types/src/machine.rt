@@ -1,3 +1,4 @@
+//! The word, the parts and the size of a machine.
 use crate::ids::{FIRST_LPI, Vcpu};
 
 /// The word that every commit exchanges: the stamp of cached translations, and the place in the

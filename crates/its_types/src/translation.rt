@@ -1,3 +1,4 @@
+//! What devices and events are mapped to, and where LPI tables stand.
 ghost use Rattle.std.specs.Prelude.{◌≡◌};
 ghost use Rattle.its_types.specs.Lpis as spec;
 
