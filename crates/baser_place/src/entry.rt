@@ -1,3 +1,4 @@
+//! What an entry of a first-level device table says.
 use its_types::Addr;
 
 /// What an entry of a first-level device table says.

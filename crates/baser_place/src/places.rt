@@ -1,3 +1,4 @@
+//! Where devices and collections have their entries.
 ghost use Rattle.std.specs.Prelude.{◌≡◌, ◌<◌, ◌≤◌, ◌^◌};
 ghost use Rattle.std.specs.Option.{option_map};
 ghost use Rattle.gits_regs.specs.Registers as registers;

@@ -1,3 +1,4 @@
+//! Values of the LPI registers, as they are saved and restored.
 ghost use Rattle.std.specs.Prelude.{◌≡◌, ◌<◌, ◌^◌};
 ghost use Rattle.gicr_regs.specs.Registers as spec;
 

@@ -1,3 +1,4 @@
+//! Writes of the LPI registers of a redistributor (IHI 0069, section 12.11).
 ghost use Rattle.std.specs.Prelude.{◌≡◌, ◌<◌, ◌^◌};
 ghost use Rattle.gicr_regs.specs.Registers as spec;
 

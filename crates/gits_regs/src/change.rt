@@ -1,3 +1,4 @@
+//! What a write of a register changed.
 /// What a write of a register changed.
 #[derive(Clone, Copy, Debug, PartialEq, Eq)]
 pub enum RegChange {

@@ -1,3 +1,4 @@
+//! The rules that registers keep.
 ghost use Rattle.std.specs.Prelude.{◌≡◌, ◌≤◌, ℕ, IfOk};
 ghost use Rattle.gits_regs.specs.Registers.{Registers, IsSound, reset, write_reg, advanced};
 ghost use Rattle.gits_regs.specs.Registers.{restored};

@@ -1,3 +1,4 @@
+//! Which bits of a value a register keeps.
 ghost use Rattle.std.specs.Prelude.{◌≡◌};
 ghost use Rattle.gits_regs.specs.Registers as spec;
 

@@ -1,3 +1,4 @@
+//! Reads of the control frame (IHI 0069, section 12.19).
 ghost use Rattle.std.specs.Prelude.{◌≡◌, ◌<◌, ◌^◌};
 ghost use Rattle.gits_regs.specs.Registers as spec;
 

@@ -1,3 +1,4 @@
+//! The registers of a translator, and what their fields say.
 ghost use Rattle.std.specs.Prelude.{◌≡◌, ◌<◌, ◌≤◌, ◌^◌, nat_lt};
 ghost use Rattle.gits_regs.specs.Registers as spec;
 

@@ -1,3 +1,4 @@
+//! Registers from the values that were saved.
 ghost use Rattle.std.specs.Prelude.{◌≡◌, ◌≤◌};
 ghost use Rattle.gits_regs.specs.Registers as spec;
 

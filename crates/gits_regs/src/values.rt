@@ -1,3 +1,7 @@
+//! Values of registers, and which of them can be refused.
+use std::fmt;
+use thiserror::Error;
+
 /// The values of the registers that a translator is restored from.
 #[derive(Clone, Copy, Debug, PartialEq, Eq)]
 pub struct RegValues {
@@ -31,6 +35,19 @@ pub enum Register {
     Baser1,
 }
 
+impl fmt::Display for Register {
+    fn fmt<W: fmt::Write>(&self, f: &mut fmt::Formatter<W>) -> fmt::Result {
+        match self {
+            Register::Cbaser => write!(f, "GITS_CBASER"),
+            Register::Creadr => write!(f, "GITS_CREADR"),
+            Register::Cwriter => write!(f, "GITS_CWRITER"),
+            Register::Baser0 => write!(f, "GITS_BASER0"),
+            Register::Baser1 => write!(f, "GITS_BASER1"),
+        }
+    }
+}
+
 /// The first register whose value can't stand beside the others.
-#[derive(Clone, Copy, Debug, PartialEq, Eq)]
+#[derive(Clone, Copy, Debug, PartialEq, Eq, Error)]
+#[error("the value of {0} cannot stand beside the others")]
 pub struct NotValid(pub Register);

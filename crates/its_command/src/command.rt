@@ -1,3 +1,4 @@
+//! The commands of the queue.
 use crate::fields::{EventIdBits, IttAddr, RdBase, UnknownOp};
 use its_types::{DeviceId, EventId, Icid, Intid};
 

@@ -1,3 +1,4 @@
+//! Commands from their 32 bytes (IHI 0069, section 5.3).
 ghost use Rattle.std.specs.Prelude.{◌≡◌};
 ghost use Rattle.its_command.specs.Commands as spec;
 

@@ -1,3 +1,4 @@
+//! The 32 bytes of commands (IHI 0069, section 5.3).
 ghost use Rattle.std.specs.Prelude.{◌≡◌, ◌+◌, ◌*◌, ◌<◌, ◌^◌};
 ghost use Rattle.its_command.specs.Commands as spec;
 

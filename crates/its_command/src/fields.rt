@@ -1,3 +1,4 @@
+//! Fields of commands that have a width or a range of their own.
 ghost use Rattle.std.specs.Prelude.{◌≡◌, ◌<◌, ◌≤◌, ◌%◌, ◌^◌, false};
 ghost use Rattle.its_command.specs.Opcodes.{is_known};
 

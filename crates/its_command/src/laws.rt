@@ -1,3 +1,4 @@
+//! An encoding and its command are one and the same.
 ghost use Rattle.its_command.specs.Commands.{DecodesBack, IsOneCommand};
 
 /// Decoding an encoding gives the command back.

@@ -1,3 +1,4 @@
+//! Commands by name and opcode.
 ghost use Rattle.std.specs.Prelude.{◌≡◌};
 ghost use Rattle.its_command.specs.Commands.{op_of};
 

@@ -1,3 +1,4 @@
+//! Sources and sinks in memory, of which some calls fail.
 ghost use Rattle.std.specs.Prelude.{◌≤◌, ◌<◌, ◌^◌};
 ghost use Rattle.std.specs.Vec.{vec_len, vec_capacity};
 

@@ -1,3 +1,4 @@
+//! Which calls of a source or a sink fail.
 ghost use Rattle.std.specs.Prelude.{◌≡◌, IfOk};
 ghost use Rattle.its_io.specs.Script.{refuses, with_call, with_fault};
 

@@ -1,3 +1,4 @@
+//! Standard input and standard output.
 ghost use Rattle.std.specs.Prelude.{◌<◌, ◌^◌};
 
 use crate::errors::Failed;

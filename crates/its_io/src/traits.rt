@@ -1,3 +1,4 @@
+//! Where bytes come from, and where they go.
 ghost use Rattle.std.specs.Prelude.{◌≡◌, ◌<◌, ◌^◌, ℕ, List, Option, IfOk, OnErr, length};
 ghost use Rattle.its_io.specs.Bytes.{Reads, Writes};
 ghost use Rattle.its_io.specs.Count.{HasCause};

@@ -1,3 +1,4 @@
+//! A mapped device with its events.
 use crate::event_table::EventTable;
 use its_types::Device;
 

@@ -1,3 +1,4 @@
+//! The outcome of a look-up of a device and an event.
 use its_types::{Device, Event};
 
 /// What is mapped of a device and one of its events.

@@ -1,3 +1,4 @@
+//! The maps of a translator.
 ghost use Rattle.std.specs.Prelude.{◌≡◌, ◌≤◌, ℕ, None, IsSome, IfSome, OnOk, OnErr};
 ghost use Rattle.std.specs.FinMap as finmap;
 ghost use Rattle.its_types.specs.Maps.{device_of, event_of, collection_of, events_at, no_maps};

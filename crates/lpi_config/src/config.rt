@@ -1,3 +1,4 @@
+//! The LPI configuration that a redistributor has read.
 ghost use Rattle.std.specs.Prelude.{◌≡◌, ◌+◌, ◌*◌, ◌/◌, ◌<◌, ◌≤◌, ℕ, true, Some, IfOk, unwrap_or};
 ghost use Rattle.std.specs.Prelude.{length};
 ghost use Rattle.its_types.specs.Bits.{bit_of};

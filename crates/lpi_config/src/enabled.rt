@@ -1,3 +1,4 @@
+//! A bit for each LPI that is enabled.
 ghost use Rattle.std.specs.Prelude.{◌≡◌, ◌*◌, ◌<◌, ℕ, length, slice_index};
 ghost use Rattle.its_types.specs.Bits.{bit_of};
 ghost use Rattle.lpi_config.specs.Configurations.{AreEnableBits};

@@ -1,3 +1,4 @@
+//! The best of some LPIs by priority.
 ghost use Rattle.std.specs.Prelude.{◌≡◌, ◌+◌, ◌*◌, ◌≤◌, ◌<◌, ℕ, Some, nat_lt, if◌then◌else◌};
 ghost use Rattle.std.specs.Prelude.{length};
 ghost use Rattle.its_types.specs.Lpis.{priority_of};

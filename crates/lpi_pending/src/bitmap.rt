@@ -1,3 +1,4 @@
+//! A bit for each LPI, in words.
 ghost use Rattle.std.specs.Prelude.{◌≡◌, ◌+◌, ◌*◌, ◌/◌, ◌<◌, ◌≤◌, ◌^◌, ℕ, true, List, ◌||◌, IfOk};
 ghost use Rattle.std.specs.Prelude.{MatchOption, length, replicate, slice_index, slice_set, bit_or};
 ghost use Rattle.guest_windows.specs.Windows.{inside};

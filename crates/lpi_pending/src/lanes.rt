@@ -1,3 +1,4 @@
+//! The first word that isn't zero, several at a time.
 ghost use Rattle.std.specs.Prelude.{◌≡◌, position};
 ghost use Rattle.lpi_pending.specs.Summaries.{is_nonzero};
 

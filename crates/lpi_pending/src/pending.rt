@@ -1,3 +1,4 @@
+//! The pending set of a redistributor.
 ghost use Rattle.std.specs.Prelude.{◌≡◌, ◌+◌, ◌*◌, ◌<◌, ◌≤◌, ◌^◌, ◌-◌, ◌/◌, ◌%◌, ◌==◌};
 ghost use Rattle.std.specs.Prelude.{if◌then◌else◌, ℕ, true, IfOk, IfSome, All, map};
 ghost use Rattle.std.specs.Option.{option_map};
@@ -90,6 +91,7 @@ impl Pending {
         ensures rising { IsStrictlyIncreasing self.now.lpis }
         ensures in_range { All (λ x. is_lpi result x ≡ true) self.now.lpis }
     {
+        // What the fields keep is known once one of them is looked at.
         let _ = &self.bitmap;
         self.lpi_bits
     }

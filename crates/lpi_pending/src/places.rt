@@ -1,3 +1,4 @@
+//! The redistributors that are in hand.
 ghost use Rattle.std.specs.Prelude.{◌≡◌, ◌<◌, Some, None, is_some, true, length, replicate};
 ghost use Rattle.std.specs.Prelude.{slice_set};
 

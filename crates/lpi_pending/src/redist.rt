@@ -1,3 +1,4 @@
+//! What a redistributor knows of LPIs.
 use crate::pending::Pending;
 use its_types::Bases;
 use lpi_config::Config;

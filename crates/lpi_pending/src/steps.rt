@@ -1,3 +1,4 @@
+//! How many steps a search takes, where a test counts them.
 ghost use Rattle.std.specs.Prelude.{◌≡◌, ◌+◌, ◌<◌};
 
 use std::marker::Model;

@@ -1,3 +1,4 @@
+//! Collection table entries (KVM document arm-vgic-its).
 ghost use Rattle.std.specs.Prelude.{◌≡◌, ◌<◌, ◌^◌};
 
 use its_types::{Icid, bit_of, field};

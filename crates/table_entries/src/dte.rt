@@ -1,3 +1,4 @@
+//! Device table entries (KVM document arm-vgic-its).
 ghost use Rattle.std.specs.Prelude.{◌≡◌, ◌<◌, ◌≤◌, ◌%◌, ◌^◌};
 
 use its_types::{Addr, bit_of, field};

@@ -1,3 +1,4 @@
+//! Interrupt translation entries (KVM document arm-vgic-its).
 ghost use Rattle.std.specs.Prelude.{◌≡◌, ◌≤◌};
 
 use its_types::{Icid, Intid, field};

@@ -1,3 +1,4 @@
+//! Translations that are cached.
 use its_types::{DeviceId, EventId, Target};
 
 /// A translation of a pair, as it was at a stamp.

@@ -1,3 +1,4 @@
+//! Where a pair's translations are cached.
 ghost use Rattle.std.specs.Prelude.{◌≡◌, ◌≤◌, ◌*◌};
 ghost use Rattle.xlate_cache.specs.Pairs as spec;
 ghost use Rattle.xlate_cache.specs.Ways as ways;

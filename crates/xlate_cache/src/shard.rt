@@ -1,3 +1,4 @@
+//! A shard of the cache.
 ghost use Rattle.std.specs.Prelude.{◌≡◌, ◌<◌, not, IfOk, position, length};
 ghost use Rattle.std.specs.Option.{is_none};
 ghost use Rattle.xlate_cache.specs.Ways as spec;
