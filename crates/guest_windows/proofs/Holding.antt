@@ -9,30 +9,28 @@ use Rattle.std.proofs.lemmas.Bool.{cases_Bool}
 use Rattle.guest_windows.specs.Windows.{Window, has, inside, read_at, byte_at}
 use Rattle.guest_windows.specs.Zeros.{AreZero, AreZeroFrom, IsZeroIn}
 use Rattle.guest_windows.specs.Fields.{window, windows}
-use Rattle.guest_windows.specs.Pages.{rows, byte_in}
+use Rattle.guest_windows.specs.Pages.{rows, page_row, byte_in}
 use Rattle.guest_windows.specs.declared.frame.Frame.{Frame}
-use Rattle.guest_windows.specs.declared.page.Page.{Page}
 use Rattle.guest_windows.proofs.Laws.{is_some-read_at}
 use Rattle.guest_windows.proofs.Frames.{inside_is_low}
 use Rattle.guest_windows.proofs.Mixed.{byte_here, byte_later}
 use Rattle.guest_windows.proofs.Sparse.{length-bytes, byte_of}
-use Rattle.guest_windows.proofs.Fitting.{fits_frame, row_read}
+use Rattle.guest_windows.proofs.Fitting.{fits_frame}
 
 -- a page that isn't held
-pub none_in_page : (ps : List Page) (q i : ℕ) (p : Page) → q < length ps → p ≡ get_or ps q p → p.bytes.items ≡ [] → i / 65536 ≡ q → byte_in (rows ps) i ≡ 0
-none_in_page ps q i p inside was none is =
-    ap (λ (r : List ℕ). get_or r (i % 65536) 0) (ap (λ (k : ℕ). get_or (rows ps) k []) is ∙ row_read ps q p inside was ∙ none)
+pub none_in_page : (rs : List (List (List ℕ))) (page i : ℕ) → page_row rs page ≡ [] → i / 65536 ≡ page → byte_in rs i ≡ 0
+none_in_page rs page i none is = ap (λ (r : List ℕ). get_or r (i % 65536) 0) (ap (λ (k : ℕ). page_row rs k) is ∙ none)
 
 -- a window whose bytes before an address lie before those asked for, or in pages that aren't held
 pub zero_in : (f : Frame) (from start page high : ℕ) → start ≡ from - f.base → ((i : ℕ) → i < f.len → f.base + i < high → (i < start) ⊎ (i < 65536 * page))
-    → ((i : ℕ) → start / 65536 ≤ i / 65536 → i < f.len → i / 65536 < page → byte_in (rows f.pages.items) i ≡ 0) → IsZeroIn from high (window f)
+    → ((i : ℕ) → start / 65536 ≤ i / 65536 → i < f.len → i / 65536 < page → byte_in (rows f.chunks.items) i ≡ 0) → IsZeroIn from high (window f)
 zero_in f from start page high is each none a low lt e =
     let fit = fits_frame f a 1 e in
     let i : ℕ = a - f.base in
     let below : i < f.len = omega (arith, fit.above, fit.below) in
     let place : f.base + i < high = omega (arith, fit.above, lt) in
     let after : start ≤ i = omega (arith, low, is) in
-    byte_of f.len (rows f.pages.items) i below
+    byte_of f.len (rows f.chunks.items) i below
     ∙ none i (omega (arith, after)) below (elim (each i below place) [
       | inl before ↦ absurd (omega (arith, before, after))
       | inr in_page ↦ omega
@@ -41,7 +39,7 @@ zero_in f from start page high is each none a low lt e =
 
 pub has_at : (f : Frame) (a n : ℕ) → f.base ≤ a → a + n ≤ f.base + f.len → has (window f) a n ≡ true
 has_at f a n above fits =
-    let long : length (window f).bytes ≡ f.len = length-bytes f.len (rows f.pages.items) in
+    let long : length (window f).bytes ≡ f.len = length-bytes f.len (rows f.chunks.items) in
     let below : a + n ≤ f.base + length (window f).bytes = omega (arith, fits, long) in
     grind (arith, above, below)
 

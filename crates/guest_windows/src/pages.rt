@@ -8,8 +8,9 @@ ghost use Rattle.guest_windows.specs.Fields.{windows};
 ghost use Rattle.std.specs.Vec.{vec_len};
 ghost use Rattle.guest_windows.specs.Windows.{has, put};
 ghost use Rattle.guest_windows.specs.Fields.{window};
-ghost use Rattle.guest_windows.specs.Pages.{rows, byte_in};
+ghost use Rattle.guest_windows.specs.Pages.{rows, byte_in, chunk_row};
 
+use crate::chunk::{Chunk, PAGES};
 use crate::errors::Outside;
 use crate::extents::END;
 use crate::frame::Frame;
@@ -53,7 +54,7 @@ impl Frame {
     ghost use Rattle.guest_windows.specs.Windows.{has, put};
     ghost use Rattle.guest_windows.specs.Zeros.{IsZeroIn};
     ghost use Rattle.guest_windows.specs.Fields.{window};
-    ghost use Rattle.guest_windows.specs.Pages.{rows, byte_in};
+    ghost use Rattle.guest_windows.specs.Pages.{rows, byte_in, chunk_row};
 
     // Makes the bytes at an address zero, and gives back the pages that lie wholly inside.
     fn forget(&mut self, alloc: Global, addr: Addr, len: u64)
@@ -67,9 +68,9 @@ impl Frame {
     fn forget_at(&mut self, alloc: Global, start: u64, len: u64)
         requires { start + len ≤ self.old.len }
         ensures here { (i : ℕ) → start ≤ i → i < start + len
-            → byte_in (rows self.new.pages.items) i ≡ 0 }
+            → byte_in (rows self.new.chunks.items) i ≡ 0 }
         ensures others { (i : ℕ) → i < self.old.len → (i < start) ⊎ (start + len ≤ i)
-            → byte_in (rows self.new.pages.items) i ≡ byte_in (rows self.old.pages.items) i }
+            → byte_in (rows self.new.chunks.items) i ≡ byte_in (rows self.old.chunks.items) i }
         ensures base { self.new.base ≡ self.old.base }
         ensures len { self.new.len ≡ self.old.len }
     {
@@ -77,9 +78,40 @@ impl Frame {
             return;
         }
         let end = start + len;
-        for page in start / 65_536..(end - 1) / 65_536 + 1 {
-            self.forget_page(alloc, page, start, end);
+        let mut page = start / 65_536;
+        while page <= (end - 1) / 65_536 {
+            page = self.forget_from(alloc, page, start, end);
         }
+    }
+
+    // Makes the bytes zero that lie in a page, or in its chunk, if that isn't held or can be given
+    // back. Answers the next page.
+    fn forget_from(&mut self, alloc: Global, page: u64, start: u64, end: u64) -> u64
+        requires first { start < 65536 * page + 65536 }
+        requires last { 65536 * page < end }
+        requires some { start < end }
+        requires inside { end ≤ self.old.len }
+        ensures further { page < result }
+        ensures here { (i : ℕ) → page ≤ i / 65536 → i / 65536 < result → start ≤ i → i < end
+            → byte_in (rows self.new.chunks.items) i ≡ 0 }
+        ensures before { (i : ℕ) → i / 65536 < page → byte_in (rows self.new.chunks.items) i
+            ≡ byte_in (rows self.old.chunks.items) i }
+        ensures others { (i : ℕ) → i < self.old.len → (i < start) ⊎ (end ≤ i)
+            → byte_in (rows self.new.chunks.items) i ≡ byte_in (rows self.old.chunks.items) i }
+        ensures base { self.new.base ≡ self.old.base }
+        ensures len { self.new.len ≡ self.old.len }
+    {
+        let next = (page / PAGES + 1) * PAGES;
+        if !self.chunk_of(page).is_held() {
+            return next;
+        }
+        let whole = end == self.len || 65_536 * next <= end;
+        if page % PAGES == 0 && start <= 65_536 * page && whole {
+            self.chunks[(page / PAGES) as usize] = Chunk::none(alloc);
+            return next;
+        }
+        self.forget_page(alloc, page, start, end);
+        page + 1
     }
 
     // Makes the bytes zero that lie in one page.
@@ -88,17 +120,19 @@ impl Frame {
         requires last { 65536 * page < end }
         requires some { start < end }
         requires inside { end ≤ self.old.len }
+        requires held { length (chunk_row (rows self.old.chunks.items) page) ≡ 4096 }
         ensures here { (i : ℕ) → i / 65536 ≡ page → start ≤ i → i < end
-            → byte_in (rows self.new.pages.items) i ≡ 0 }
+            → byte_in (rows self.new.chunks.items) i ≡ 0 }
         ensures others { (i : ℕ) → i < self.old.len
             → (i / 65536 ≢ page) ⊎ ((i < start) ⊎ (end ≤ i))
-            → byte_in (rows self.new.pages.items) i ≡ byte_in (rows self.old.pages.items) i }
+            → byte_in (rows self.new.chunks.items) i ≡ byte_in (rows self.old.chunks.items) i }
         ensures base { self.new.base ≡ self.old.base }
         ensures len { self.new.len ≡ self.old.len }
     {
         let low = start.saturating_sub(65_536 * page);
         let high = self.end_in(page, end);
-        self.pages[page as usize].forget(alloc, low as usize, high as usize);
+        let chunk = &mut self.chunks[(page / PAGES) as usize];
+        chunk.pages[(page % PAGES) as usize].forget(alloc, low as usize, high as usize);
     }
 
     // How far the bytes before a place go in a page: to its end, where no byte of the window is
@@ -123,17 +157,37 @@ impl Frame {
     // The first page from this one on that is held, or how many the bytes lie in.
     fn next_held(&self, from: u64) -> u64
         ensures zero { (i : ℕ) → from ≤ i / 65536 → i < self.now.len → i / 65536 < result
-            → byte_in (rows self.now.pages.items) i ≡ 0 }
+            → byte_in (rows self.now.chunks.items) i ≡ 0 }
         ensures bound { 65536 * result < self.now.len + 65536 }
         ensures from { (from ≤ result) ⊎ (self.now.len ≤ 65536 * result) }
     {
         let count = self.len.div_ceil(65_536);
-        for page in from..count {
-            if self.pages[page as usize].is_held() {
+        let mut page = from;
+        while page < count {
+            let next = self.next_from(page);
+            if next == page {
                 return page;
             }
+            page = next;
         }
         count
+    }
+
+    // This page, if it is held. If not, the next, or the first of the next chunk.
+    fn next_from(&self, page: u64) -> u64
+        requires { 65536 * page < self.now.len }
+        ensures order { page ≤ result }
+        ensures zero { (i : ℕ) → page ≤ i / 65536 → i / 65536 < result
+            → byte_in (rows self.now.chunks.items) i ≡ 0 }
+    {
+        let chunk = self.chunk_of(page);
+        if !chunk.is_held() {
+            (page / PAGES + 1) * PAGES
+        } else if chunk.has_page((page % PAGES) as usize) {
+            page
+        } else {
+            page + 1
+        }
     }
 
     // Where the first page that is held goes on, from an address on, and how many bytes it has

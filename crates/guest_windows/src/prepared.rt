@@ -4,6 +4,7 @@ ghost use Rattle.std.specs.Prelude.{length};
 ghost use Rattle.guest_windows.specs.Pages.{IsZeroPage};
 ghost use Rattle.guest_windows.specs.Windows.{write_at};
 
+use crate::chunk::{Chunk, PAGES};
 use crate::errors::Outside;
 use crate::frame::Frame;
 use crate::memory::{Memory, place};
@@ -13,36 +14,78 @@ use std::alloc::{AllocError, Global};
 use std::marker::Model;
 use std::mem::replace;
 
-/// Two pages of zeros, for a write of at most 65,536 bytes. Some may be missing: it is seen as
-/// whether none is.
+// A page of zeros, and a chunk for it to lie in. Either may be missing: seen as whether none is.
 #[derive(Drop)]
-pub struct Spare {
-    first: Option<Page>,
-    last: Option<Page>,
+struct Room {
+    chunk: Option<Chunk>,
+    page: Option<Page>,
 }
 
-impl Model for Spare {
+impl Model for Room {
     ghost use Rattle.std.specs.Prelude.{Bool, ◌&&◌, is_some, IfSome};
     ghost use Rattle.guest_windows.specs.Pages.{IsZeroPage};
+    ghost use Rattle.guest_windows.specs.Chunks.{IsBlankChunk, page_rows};
 
     ghost Value = { Bool };
 
-    ghost view = { λ s. is_some s.first && is_some s.last };
+    ghost view = { λ r. is_some r.chunk && is_some r.page };
 
-    ghost invariant = { λ s. IfSome s.first (λ p. IsZeroPage p.bytes.items)
-        × IfSome s.last (λ p. IsZeroPage p.bytes.items) };
+    ghost invariant = { λ r. IfSome r.chunk (λ c. IsBlankChunk (page_rows c.pages.items))
+        × IfSome r.page (λ p. IsZeroPage p.bytes.items) };
+}
+
+impl Room {
+    ghost use Rattle.std.specs.Prelude.{◌≡◌, true, false, OnOk};
+
+    fn new() -> Room
+        ensures { result ≡ false }
+    {
+        Room {
+            chunk: None,
+            page: None,
+        }
+    }
+
+    // Holds what is missing.
+    fn fill(&mut self, alloc: Global) -> Result<(), AllocError>
+        ensures { OnOk result (self.new ≡ true) }
+    {
+        if self.chunk.is_none() {
+            self.chunk = Some(Chunk::blank(alloc)?);
+        }
+        if self.page.is_none() {
+            self.page = Some(zero_page(alloc)?);
+        }
+        Ok(())
+    }
+}
+
+/// Two pages of zeros with their chunks, for a write of at most 65,536 bytes. Some may be missing:
+/// it is seen as whether none is.
+#[derive(Drop)]
+pub struct Spare {
+    first: Room,
+    last: Room,
+}
+
+impl Model for Spare {
+    ghost use Rattle.std.specs.Prelude.{Bool, ◌&&◌};
+
+    ghost Value = { Bool };
+
+    ghost view = { λ s. s.first && s.last };
 }
 
 impl Spare {
     ghost use Rattle.std.specs.Prelude.{◌≡◌, true, false, OnOk};
 
-    /// Both are missing. Takes no memory.
+    /// All are missing. Takes no memory.
     pub fn new() -> Spare
         ensures { result ≡ false }
     {
         Spare {
-            first: None,
-            last: None,
+            first: Room::new(),
+            last: Room::new(),
         }
     }
 
@@ -50,13 +93,8 @@ impl Spare {
     fn fill(&mut self, alloc: Global) -> Result<(), AllocError>
         ensures { OnOk result (self.new ≡ true) }
     {
-        if self.first.is_none() {
-            self.first = Some(zero_page(alloc)?);
-        }
-        if self.last.is_none() {
-            self.last = Some(zero_page(alloc)?);
-        }
-        Ok(())
+        self.first.fill(alloc)?;
+        self.last.fill(alloc)
     }
 }
 
@@ -69,12 +107,14 @@ fn zero_page(alloc: Global) -> Result<Page, AllocError>
 }
 
 impl Frame {
-    ghost use Rattle.std.specs.Prelude.{◌≡◌, ◌+◌, ◌-◌, ◌/◌, ◌<◌, ◌≤◌, ◌^◌, ℕ, true, length, IfSome};
-    ghost use Rattle.std.specs.Vec.{vec_len};
+    ghost use Rattle.std.specs.Prelude.{◌≡◌, ◌+◌, ◌-◌, ◌*◌, ◌/◌, ◌<◌, ◌≤◌, ◌^◌, ℕ, true, length};
+    ghost use Rattle.std.specs.Prelude.{IfSome};
     ghost use Rattle.guest_windows.specs.Windows.{has, put};
     ghost use Rattle.guest_windows.specs.Fields.{window};
     ghost use Rattle.guest_windows.specs.Pages.{rows, row_at, AreHeld, StillHeld, SameBytes};
-    ghost use Rattle.guest_windows.specs.Pages.{IsZeroPage};
+    ghost use Rattle.guest_windows.specs.Pages.{IsZeroPage, chunk_row};
+    ghost use Rattle.guest_windows.specs.Chunks.{IsBlankChunk, page_rows};
+    ghost use Rattle.guest_windows.specs.Pages.{SamePages};
 
     // Writes the bytes at an address. Answers what is left of the spare pages.
     fn store_with(&mut self, spare: Spare, addr: Addr, bytes: &[u8]) -> Spare
@@ -95,34 +135,65 @@ impl Frame {
         requires few { len ≤ 65536 }
         requires spare { spare ≡ true }
         ensures same { window self.new ≡ window self.old }
-        ensures held { AreHeld (rows self.new.pages.items) (addr.0 - self.new.base) len }
+        ensures held { AreHeld (rows self.new.chunks.items) (addr.0 - self.new.base) len }
     {
         if len == 0 {
             return spare;
         }
         let Spare { first, last } = spare;
-        let Some(first) = first else { unreachable!() };
-        let Some(last) = last else { unreachable!() };
         let start = addr.0 - self.base;
-        let first = self.hold_page_with((start / 65_536) as usize, first);
-        let last = self.hold_page_with(((start + (len - 1)) / 65_536) as usize, last);
+        let first = self.hold_page_with(start / 65_536, first);
+        let last = self.hold_page_with((start + (len - 1)) / 65_536, last);
         Spare { first, last }
     }
 
-    // Holds a page: this one, if it isn't held. Answers it otherwise.
-    fn hold_page_with(&mut self, page: usize, fresh: Page) -> Option<Page>
-        requires inside { page < vec_len self.old.pages }
-        requires zero { IsZeroPage fresh.bytes.items }
-        ensures left { IfSome result (λ p. IsZeroPage p.bytes.items) }
-        ensures same { SameBytes (rows self.old.pages.items) (rows self.new.pages.items) }
-        ensures still { StillHeld (rows self.old.pages.items) (rows self.new.pages.items) }
+    // Holds a page and its chunk: those of this room that weren't held. Answers what is left.
+    fn hold_page_with(&mut self, page: u64, room: Room) -> Room
+        requires inside { 65536 * page < self.old.len }
+        requires room { room ≡ true }
+        ensures same { SameBytes (rows self.old.chunks.items) (rows self.new.chunks.items) }
+        ensures still { StillHeld (rows self.old.chunks.items) (rows self.new.chunks.items) }
         ensures held { (i : ℕ) → i / 65536 ≡ page
-            → length (row_at (rows self.new.pages.items) i) ≡ 65536 }
+            → length (row_at (rows self.new.chunks.items) i) ≡ 65536 }
         ensures base { self.new.base ≡ self.old.base }
         ensures len { self.new.len ≡ self.old.len }
-        ensures count { vec_len self.new.pages ≡ vec_len self.old.pages }
     {
-        self.pages[page].hold_with(fresh)
+        let Room { chunk, page: fresh } = room;
+        let Some(chunk) = chunk else { unreachable!() };
+        let Some(fresh) = fresh else { unreachable!() };
+        let chunk = self.hold_chunk_with(page, chunk);
+        let page = self.hold_in_chunk(page, fresh);
+        Room { chunk, page }
+    }
+
+    // Holds the chunk that a page lies in: this one, if it isn't held. Answers it otherwise.
+    fn hold_chunk_with(&mut self, page: u64, fresh: Chunk) -> Option<Chunk>
+        requires inside { 65536 * page < self.old.len }
+        requires blank { IsBlankChunk (page_rows fresh.pages.items) }
+        ensures left { IfSome result (λ c. IsBlankChunk (page_rows c.pages.items)) }
+        ensures same { SamePages (rows self.old.chunks.items) (rows self.new.chunks.items) }
+        ensures held { length (chunk_row (rows self.new.chunks.items) page) ≡ 4096 }
+        ensures base { self.new.base ≡ self.old.base }
+        ensures len { self.new.len ≡ self.old.len }
+    {
+        self.chunks[(page / PAGES) as usize].hold_with(fresh)
+    }
+
+    // Holds a page of a chunk that is held: this one, if it isn't held. Answers it otherwise.
+    fn hold_in_chunk(&mut self, page: u64, fresh: Page) -> Option<Page>
+        requires inside { 65536 * page < self.old.len }
+        requires chunk { length (chunk_row (rows self.old.chunks.items) page) ≡ 4096 }
+        requires zero { IsZeroPage fresh.bytes.items }
+        ensures left { IfSome result (λ p. IsZeroPage p.bytes.items) }
+        ensures same { SameBytes (rows self.old.chunks.items) (rows self.new.chunks.items) }
+        ensures still { StillHeld (rows self.old.chunks.items) (rows self.new.chunks.items) }
+        ensures held { (i : ℕ) → i / 65536 ≡ page
+            → length (row_at (rows self.new.chunks.items) i) ≡ 65536 }
+        ensures base { self.new.base ≡ self.old.base }
+        ensures len { self.new.len ≡ self.old.len }
+    {
+        let chunk = &mut self.chunks[(page / PAGES) as usize];
+        chunk.pages[(page % PAGES) as usize].hold_with(fresh)
     }
 }
 
@@ -151,14 +222,14 @@ impl Memory {
     ghost use Rattle.std.specs.Prelude.{length};
     ghost use Rattle.guest_windows.specs.Windows.{write_at};
 
-    /// Holds the pages that a write may need.
+    /// Holds the pages that a write may need, and their chunks.
     pub fn prepare(&self, spare: &mut Spare) -> Result<(), AllocError>
         ensures { OnOk result (spare.new ≡ true) }
     {
         spare.fill(self.alloc)
     }
 
-    /// Writes all the bytes, or none. Takes no memory but the spare pages.
+    /// Writes all the bytes, or none. Takes no memory but the spare pages and chunks.
     pub fn write_prepared(
         &mut self,
         spare: &mut Spare,

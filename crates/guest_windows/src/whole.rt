@@ -6,6 +6,7 @@ ghost use Rattle.guest_windows.specs.Windows as spec;
 ghost use Rattle.guest_windows.specs.Mixed.{mixed_windows};
 ghost use Rattle.guest_windows.specs.Fields.{windows, AllWhole};
 
+use crate::chunk::PAGES;
 use crate::errors::NewError;
 use crate::frame::Frame;
 use crate::memory::Memory;
@@ -138,19 +139,20 @@ fn copy_frames(frames: &mut Vec<Frame>, from: &[Frame], page: u64)
 }
 
 impl Frame {
-    ghost use Rattle.std.specs.Prelude.{◌≡◌, ◌≢◌, ◌<◌, ◌^◌, ◌/◌, ◌==◌, ◌≤◌, ℕ, true, length, OnOk};
+    ghost use Rattle.std.specs.Prelude.{◌≡◌, ◌≢◌, ◌<◌, ◌*◌, ◌^◌, ◌/◌, ◌==◌, ◌≤◌, ℕ, true, length};
+    ghost use Rattle.std.specs.Prelude.{OnOk};
     ghost use Rattle.std.specs.Vec.{vec_len};
     ghost use Rattle.guest_windows.specs.Windows.{has, piece, put, zeros};
     ghost use Rattle.guest_windows.specs.Mixed.{mixed_window};
     ghost use Rattle.guest_windows.specs.Fields.{window, IsWhole};
-    ghost use Rattle.guest_windows.specs.Pages.{rows, byte_in, StillHeld};
+    ghost use Rattle.guest_windows.specs.Pages.{rows, byte_in, page_row, StillHeld};
 
     // Holds all pages.
     fn hold_all(&mut self, alloc: Global) -> Result<(), AllocError>
         ensures same { window self.new ≡ window self.old }
         ensures whole { OnOk result (IsWhole self.new) }
     {
-        for page in 0..self.pages.len() {
+        for page in 0..self.len.div_ceil(65_536) {
             self.hold_page(alloc, page)?;
         }
         Ok(())
@@ -162,23 +164,24 @@ impl Frame {
         ensures zero { window self.new ≡ zeros (self.old.base, self.old.len) }
         ensures whole { IsWhole self.new }
     {
-        for page in 0..self.pages.len() {
+        for page in 0..self.len.div_ceil(65_536) {
             self.clear_page(page);
         }
     }
 
     // Makes the bytes of a page zero.
-    fn clear_page(&mut self, page: usize)
-        requires { page < vec_len self.old.pages }
-        ensures here { (i : ℕ) → i / 65536 ≡ page → byte_in (rows self.new.pages.items) i ≡ 0 }
+    fn clear_page(&mut self, page: u64)
+        requires inside { 65536 * page < self.old.len }
+        requires held { length (page_row (rows self.old.chunks.items) page) ≡ 65536 }
+        ensures here { (i : ℕ) → i / 65536 ≡ page → byte_in (rows self.new.chunks.items) i ≡ 0 }
         ensures others { (i : ℕ) → i / 65536 ≢ page
-            → byte_in (rows self.new.pages.items) i ≡ byte_in (rows self.old.pages.items) i }
-        ensures still { StillHeld (rows self.old.pages.items) (rows self.new.pages.items) }
+            → byte_in (rows self.new.chunks.items) i ≡ byte_in (rows self.old.chunks.items) i }
+        ensures still { StillHeld (rows self.old.chunks.items) (rows self.new.chunks.items) }
         ensures base { self.new.base ≡ self.old.base }
         ensures len { self.new.len ≡ self.old.len }
-        ensures count { vec_len self.new.pages ≡ vec_len self.old.pages }
     {
-        self.pages[page].clear();
+        let chunk = &mut self.chunks[(page / PAGES) as usize];
+        chunk.pages[(page % PAGES) as usize].clear();
     }
 
     // Copies the bytes of one page of 4,096 bytes.

@@ -1,26 +1,48 @@
-use Rattle.std.proofs.Common.{◌<◌, ◌%◌, List, ℕ, length, get_or, sym, ap, ◌∙◌, arith}
+use Rattle.std.proofs.Common.{ℕ, ◌%◌, length, get_or, sym, refl, ap, ◌∙◌, arith, List}
 use Rattle.guest_windows.specs.Pages.{rows, row_at, byte_in}
-use Rattle.guest_windows.proofs.Fitting.{row-set_same, row-set_other, rows-set, row_read, still-set, length-rows}
+use Rattle.guest_windows.proofs.Fitting.{in_hand, there_of, still-set, row-set_same, row-set_other, has_chunk, chunk_read, length-pages}
 use Rattle.guest_windows.proofs.frame.Frame.clear_page.Goals as goal
+
+pub index_mut-requires : goal.index_mut-requires
+index_mut-requires c =
+    let f = c.args.self.now in
+    let was = c.index_mut-chunk.result.now in
+    let place = there_of (rows f.chunks.items) c.args.page c.requires.held in
+    let read = chunk_read f.chunks.items c.args.page was (has_chunk f c.args.page c.requires.inside) c.index_mut-chunk.ensures.value in
+    omega (arith, place.page, ap length read, length-pages was.pages.items, was.pages.ok.0)
 
 pub returns-clause-here : goal.returns-clause-here
 returns-clause-here c i is =
-    let ps = c.args.self.now.pages.items in
-    let row : c.args.page < length (rows ps) = omega (arith, c.requires, c.args.self.now.pages.ok.0, length-rows ps) in
-    ap (λ rs. byte_in rs i) (rows-set ps c.args.page c.clear.new.self)
-    ∙ ap (λ (r : List ℕ). get_or r (i % 65536) 0) (row-set_same (rows ps) i c.args.page c.clear.new.self.bytes.items is row) ∙ c.clear.ensures.zero (i % 65536)
+    let f = c.args.self.now in
+    let q = c.args.page in
+    let rs = rows f.chunks.items in
+    let place = there_of rs q c.requires.held in
+    let chunk = c.index_mut-chunk in
+    let hand = in_hand f q chunk.result.now c.index_mut.result.now c.requires.inside place.page chunk.ensures.value c.index_mut.ensures.value in
+    let new = c.clear.new.self in
+    ap (λ ts. byte_in ts i) (hand.after _ new refl)
+    ∙ ap (λ (r : List ℕ). get_or r (i % 65536) 0) (row-set_same rs q new.bytes.items hand.there i is) ∙ c.clear.ensures.zero (i % 65536)
 
 pub returns-clause-others : goal.returns-clause-others
 returns-clause-others c i not =
-    let ps = c.args.self.now.pages.items in
-    ap (λ rs. byte_in rs i) (rows-set ps c.args.page c.clear.new.self)
-    ∙ ap (λ (r : List ℕ). get_or r (i % 65536) 0) (row-set_other (rows ps) i c.args.page c.clear.new.self.bytes.items not)
+    let f = c.args.self.now in
+    let q = c.args.page in
+    let rs = rows f.chunks.items in
+    let place = there_of rs q c.requires.held in
+    let chunk = c.index_mut-chunk in
+    let hand = in_hand f q chunk.result.now c.index_mut.result.now c.requires.inside place.page chunk.ensures.value c.index_mut.ensures.value in
+    let new = c.clear.new.self in
+    ap (λ ts. byte_in ts i) (hand.after _ new refl)
+    ∙ ap (λ (r : List ℕ). get_or r (i % 65536) 0) (row-set_other rs q new.bytes.items hand.there i not)
 
 pub returns-clause-still : goal.returns-clause-still
 returns-clause-still c i long =
-    let ps = c.args.self.now.pages.items in
-    let inside : c.args.page < length ps = omega (arith, c.requires, c.args.self.now.pages.ok.0) in
-    let row : c.args.page < length (rows ps) = omega (arith, inside, length-rows ps) in
-    let old = row_read ps c.args.page c.index_mut.result.now inside c.index_mut.ensures.value in
-    ap (λ rs. length (row_at rs i)) (rows-set ps c.args.page c.clear.new.self)
-    ∙ still-set (rows ps) c.args.page 65536 c.clear.new.self.bytes.items row (λ l. c.clear.ensures.long ∙ sym (ap length old) ∙ l) i long
+    let f = c.args.self.now in
+    let q = c.args.page in
+    let rs = rows f.chunks.items in
+    let place = there_of rs q c.requires.held in
+    let chunk = c.index_mut-chunk in
+    let hand = in_hand f q chunk.result.now c.index_mut.result.now c.requires.inside place.page chunk.ensures.value c.index_mut.ensures.value in
+    let new = c.clear.new.self in
+    ap (λ ts. length (row_at ts i)) (hand.after _ new refl)
+    ∙ still-set rs q new.bytes.items hand.there 65536 (λ l. c.clear.ensures.long ∙ sym (ap length hand.row) ∙ l) i long

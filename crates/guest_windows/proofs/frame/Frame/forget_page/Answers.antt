@@ -1,32 +1,39 @@
-use Rattle.std.proofs.Common.{ℕ, ◌-◌, ◌*◌, ◌/◌, ◌%◌, ◌<◌, ◌≤◌, List, [], length, get_or, sym, ap, ◌∙◌, arith, inl, inr}
+use Rattle.std.proofs.Common.{ℕ, ◌-◌, ◌*◌, ◌/◌, ◌%◌, ◌<◌, ◌≤◌, List, length, get_or, sym, refl, ap, ◌∙◌, arith, inl, inr}
 use Rattle.std.proofs.lemmas.Bool.{cases_eq}
-use Rattle.guest_windows.specs.Pages.{rows, byte_in}
-use Rattle.guest_windows.proofs.Fitting.{row-set_same, row-set_other, rows-set, row_read, length-rows}
+use Rattle.guest_windows.specs.Pages.{rows, chunk_row, page_row, byte_in}
+use Rattle.guest_windows.proofs.Fitting.{in_hand, row-set_same, row-set_other}
 use Rattle.guest_windows.proofs.frame.Frame.forget_page.Goals as goal
 
 pub returns-clause-here : goal.returns-clause-here
 returns-clause-here c i is low high =
-    let ps = c.args.self.now.pages.items in
+    let f = c.args.self.now in
     let q = c.args.page in
-    let inside : q < length ps = omega (arith, c.args.self.now.covers, c.requires.last, c.requires.inside, c.args.self.now.pages.ok.0) in
-    let row : q < length (rows ps) = omega (arith, inside, length-rows ps) in
+    let rs = rows f.chunks.items in
+    let inside : 65536 * q < f.len = omega (arith, c.requires.last, c.requires.inside) in
+    let in_row : q % 4096 < length (chunk_row rs q) = omega (arith, c.requires.held) in
+    let chunk = c.index_mut-chunk in
+    let hand = in_hand f q chunk.result.now c.index_mut.result.now inside in_row chunk.ensures.value c.index_mut.ensures.value in
+    let new = c.forget.new.self in
     let past : c.args.start - 65536 * q ≤ i % 65536 = omega (arith, low, is) in
-    ap (λ rs. byte_in rs i) (rows-set ps q c.forget.new.self)
-    ∙ ap (λ (r : List ℕ). get_or r (i % 65536) 0) (row-set_same (rows ps) i q c.forget.new.self.bytes.items is row)
+    ap (λ ts. byte_in ts i) (hand.after _ new refl)
+    ∙ ap (λ (r : List ℕ). get_or r (i % 65536) 0) (row-set_same rs q new.bytes.items hand.there i is)
     ∙ c.forget.ensures.here (i % 65536) (omega (arith, past, c.saturating_sub-low.ensures)) (c.end_in-high.ensures.before i is high)
 
 pub returns-clause-others : goal.returns-clause-others
 returns-clause-others c i below apart =
-    let ps = c.args.self.now.pages.items in
+    let f = c.args.self.now in
     let q = c.args.page in
-    let inside : q < length ps = omega (arith, c.args.self.now.covers, c.requires.last, c.requires.inside, c.args.self.now.pages.ok.0) in
-    let row : q < length (rows ps) = omega (arith, inside, length-rows ps) in
-    let new = c.forget.new.self.bytes.items in
-    ap (λ rs. byte_in rs i) (rows-set ps q c.forget.new.self)
+    let rs = rows f.chunks.items in
+    let inside : 65536 * q < f.len = omega (arith, c.requires.last, c.requires.inside) in
+    let in_row : q % 4096 < length (chunk_row rs q) = omega (arith, c.requires.held) in
+    let chunk = c.index_mut-chunk in
+    let hand = in_hand f q chunk.result.now c.index_mut.result.now inside in_row chunk.ensures.value c.index_mut.ensures.value in
+    let new = c.forget.new.self in
+    ap (λ ts. byte_in ts i) (hand.after _ new refl)
     ∙ elim (cases_eq (i / 65536) q) [
-      | inr not ↦ ap (λ (r : List ℕ). get_or r (i % 65536) 0) (row-set_other (rows ps) i q new not)
+      | inr not ↦ ap (λ (r : List ℕ). get_or r (i % 65536) 0) (row-set_other rs q new.bytes.items hand.there i not)
       | inl is ↦
-          ap (λ (r : List ℕ). get_or r (i % 65536) 0) (row-set_same (rows ps) i q new is row)
+          ap (λ (r : List ℕ). get_or r (i % 65536) 0) (row-set_same rs q new.bytes.items hand.there i is)
           ∙ c.forget.ensures.others (i % 65536) (elim apart [
             | inl not ↦ absurd (not is)
             | inr ends ↦ elim ends [
@@ -34,6 +41,6 @@ returns-clause-others c i below apart =
               | inr after ↦ inr (c.end_in-high.ensures.after i is after below)
             ]
           ]) (omega arith)
-          ∙ ap (λ (r : List ℕ). get_or r (i % 65536) 0) (sym (row_read ps q c.index_mut.result.now inside c.index_mut.ensures.value))
-          ∙ ap (λ (p : ℕ). get_or (get_or (rows ps) p []) (i % 65536) 0) (sym is)
+          ∙ ap (λ (r : List ℕ). get_or r (i % 65536) 0) (sym hand.row)
+          ∙ ap (λ (p : ℕ). get_or (page_row rs p) (i % 65536) 0) (sym is)
     ]

@@ -8,12 +8,12 @@ use Rattle.guest_windows.proofs.frame.Frame.hold_with.Goals as goal
 pub hold_page_with-first-requires-clause-inside : goal.hold_page_with-first-requires-clause-inside
 hold_page_with-first-requires-clause-inside c =
     let f = fits_frame c.args.self.now c.args.addr.0 c.args.len c.requires.has in
-    omega (arith, f.above, f.below, c.args.self.now.covers)
+    omega (arith, f.above, f.below, c.if-len-eq0.false)
 
 pub hold_page_with-last-requires-clause-inside : goal.hold_page_with-last-requires-clause-inside
 hold_page_with-last-requires-clause-inside c =
     let f = fits_frame c.args.self.now c.args.addr.0 c.args.len c.requires.has in
-    omega (arith, f.above, f.below, c.args.self.now.covers, c.hold_page_with-first.ensures.count)
+    omega (arith, f.above, f.below, c.if-len-eq0.false, c.hold_page_with-first.ensures.len)
 
 pub returns-clause-same : goal.returns-clause-same
 returns-clause-same c =
@@ -22,10 +22,10 @@ returns-clause-same c =
     let after = c.hold_page_with-last.new.self in
     let base = c.hold_page_with-last.ensures.base ∙ c.hold_page_with-first.ensures.base in
     let len = c.hold_page_with-last.ensures.len ∙ c.hold_page_with-first.ensures.len in
-    ap (λ (b : ℕ). record { base = b; bytes = bytes_of after.len (rows after.pages.items) }) base
-    ∙ ap (λ (n : ℕ). record { base = before.base; bytes = bytes_of n (rows after.pages.items) }) len
+    ap (λ (b : ℕ). record { base = b; bytes = bytes_of after.len (rows after.chunks.items) }) base
+    ∙ ap (λ (n : ℕ). record { base = before.base; bytes = bytes_of n (rows after.chunks.items) }) len
     ∙ ap (λ (bs : List ℕ). record { base = before.base; bytes = bs })
-    (same_bytes before.len (rows before.pages.items) (rows after.pages.items)
+    (same_bytes before.len (rows before.chunks.items) (rows after.chunks.items)
     (λ i. c.hold_page_with-last.ensures.same i ∙ c.hold_page_with-first.ensures.same i))
 
 pub returns-clause-held : goal.returns-clause-held

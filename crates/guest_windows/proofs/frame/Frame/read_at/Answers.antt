@@ -1,9 +1,9 @@
-use Rattle.std.proofs.Common.{rules, ◌≡◌, ◌+◌, ◌-◌, ◌/◌, ◌%◌, ◌<◌, ◌≤◌, ℕ, List, [], length, get_or, ap, sym, ◌∙◌, arith, inl, inr}
+use Rattle.std.proofs.Common.{rules, ◌≡◌, ◌+◌, ◌-◌, ◌/◌, ◌%◌, ◌<◌, ◌≤◌, ℕ, List, [], length, get_or, ap, ◌∙◌, arith, inl, inr}
 use borrow.Rule.Slice.PartMut.{put_mid}
 use Rattle.std.proofs.lemmas.Bool.{cases_lt}
 use Rattle.std.proofs.lemmas.List.{places}
-use Rattle.guest_windows.specs.Pages.{rows}
-use Rattle.guest_windows.proofs.Fitting.{piece_length, row_read}
+use Rattle.guest_windows.specs.Pages.{rows, page_row}
+use Rattle.guest_windows.proofs.Fitting.{piece_length}
 use Rattle.guest_windows.proofs.frame.Frame.read_at.Goals as goal
 
 pub loop-done-preserved : goal.loop-done-preserved
@@ -11,13 +11,10 @@ loop-done-preserved c =
     let done = c.loop-done.done in
     let n = c.within_page-count.result in
     let inv = c.loop-done.invariant in
-    let ps = c.args.self.now.pages.items in
+    let rs = rows c.args.self.now.chunks.items in
     let at = c.args.start + done in
-    let page = c.index.result.now in
     let fits : done + n ≤ length c.loop-done.buf = omega (arith, c.within_page-count.ensures.most, inv.within) in
     let long = c.read.ensures.length ∙ piece_length done (done + n) c.loop-done.buf fits in
-    let inside : at / 65536 < length ps = omega
-    (arith, c.args.self.now.covers, c.args.self.now.pages.ok.0, c.requires, inv.size, fits, c.within_page-count.ensures.some) in
     let after = put_mid done (done + n - done) c.loop-done.buf c.read.new.buf in
     let whole : length after ≡ length c.loop-done.buf = search (rules, places, long, fits) in
     let below : (k : ℕ) → k < done → get_or after k 0 ≡ get_or c.loop-done.buf k 0 = λ k lt. search (rules, places, lt, fits, long) in
@@ -30,8 +27,8 @@ loop-done-preserved c =
         | inl before ↦ below k before ∙ inv.read k before
         | inr past ↦
             there k lt past ∙ c.read.ensures.bytes (k - done) (omega (arith, lt, past, fits, piece_length done (done + n) c.loop-done.buf fits))
-            ∙ ap (λ (r : List ℕ). get_or r (at % 65536 + (k - done)) 0) (sym (row_read ps (at / 65536) page inside c.index.ensures))
-            ∙ ap (λ (p : ℕ). get_or (get_or (rows ps) p []) (at % 65536 + (k - done)) 0) (omega (arith, lt, past, c.within_page-count.ensures.page))
-            ∙ ap (λ (i : ℕ). get_or (get_or (rows ps) ((c.args.start + k) / 65536) []) i 0) (omega (arith, lt, past, c.within_page-count.ensures.page))
+            ∙ ap (λ (r : List (List ℕ)). get_or (get_or r (at / 65536 % 4096) []) (at % 65536 + (k - done)) 0) c.chunk_of-chunk.ensures
+            ∙ ap (λ (p : ℕ). get_or (page_row rs p) (at % 65536 + (k - done)) 0) (omega (arith, lt, past, c.within_page-count.ensures.page))
+            ∙ ap (λ (i : ℕ). get_or (page_row rs ((c.args.start + k) / 65536)) i 0) (omega (arith, lt, past, c.within_page-count.ensures.page))
       ];
     }
