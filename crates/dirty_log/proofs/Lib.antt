@@ -1,7 +1,10 @@
-pub mod Each
 pub mod Members
 pub mod Listed
 pub mod Marks
 pub mod Tracks
 pub mod Whole
 pub mod Copying
+pub mod Nexts
+pub mod Flags
+pub mod Stretched
+pub mod Paged

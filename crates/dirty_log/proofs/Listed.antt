@@ -1,5 +1,5 @@
 -- The numbers of all pages, rising.
-use Rattle.std.proofs.Common.{◌≡◌, ◌⊎◌, ℕ, zero, suc, ◌+◌, ◌*◌, ◌^◌, ◌<◌, ◌≤◌, Bool, true, false, cond, eqb, List, [], ◌∷◌, ◌++◌, map, take, length, get_or}
+use Rattle.std.proofs.Common.{◌≡◌, ◌⊎◌, ℕ, zero, suc, ◌+◌, ◌*◌, ◌^◌, ◌<◌, ◌≤◌, Bool, true, false, cond, eqb, List, [], ◌∷◌, ◌++◌, take, length, get_or}
 use Rattle.std.proofs.Common.{refl, sym, ap, subst}
 use Rattle.std.proofs.Common.{◌∙◌, inl, inr, arith, eq-eqb, ne_eqb}
 use Rattle.std.specs.Prelude.{◌||◌, ◌&&◌, slice_index}
@@ -17,8 +17,8 @@ use Rattle.std.proofs.lemmas.Bool.{and_parts}
 use Rattle.its_types.specs.declared.ids.Addr.{Addr}
 use Rattle.guest_windows.specs.Windows.{in_range}
 use Rattle.guest_windows.specs.Fields.{pairs}
-use Rattle.dirty_log.specs.Listing.{is_in, AreLow}
-use Rattle.dirty_log.specs.Pages.{meets, page, is_there, pages_end, pages_below, pages_of}
+use Rattle.dirty_log.specs.Listing.{is_in}
+use Rattle.dirty_log.specs.Pages.{meets, is_there, pages_end, pages_below, pages_of}
 use Rattle.dirty_log.proofs.Members.{page_listed, listed_there}
 
 -- ---- rising lists with the same elements
@@ -232,18 +232,6 @@ low_numbers ws h n e = there_low ws h n (listed_there (pairs ws) n e)
             let end : base + len ≤ 2 ^ 52 = grind (arith, r) in
             let low : 4096 * n < base + len = grind (arith, m) in
             omega (arith, end, low)
-
-pub page_numbers : (ns : List ℕ) → map (λ p. p.number) (map (page false) ns) ≡ ns
-page_numbers [] = refl
-page_numbers (n ∷ ns) = ap (λ (l : List ℕ). n ∷ l) (page_numbers ns)
-
-pub pages_low : (ns : List ℕ) → ((n : ℕ) → is_in n ns ≡ true → n < 2 ^ 40) → AreLow (map (page false) ns)
-pages_low [] low = tt
-pages_low (n ∷ ns) low = (low n (has_first n ns), pages_low ns (λ k is. low k (ap (λ (b : Bool). eqb n k || b) is ∙ or_t (eqb n k))))
-  where
-    or_t : (b : Bool) → (b || true) ≡ true
-    or_t true = refl
-    or_t false = refl
 
 pub take_all : {A : Type 0} (xs : List A) (i : ℕ) → i ≡ length xs → take i xs ≡ xs
 take_all [] zero e = refl

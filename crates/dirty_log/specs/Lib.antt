@@ -1,3 +1,5 @@
 pub mod Pages
 pub mod Listing
 pub mod Copies
+pub mod Bits
+pub mod Stretches

@@ -1,14 +1,10 @@
 -- Which numbers a list has.
-use Rattle.std.specs.Prelude.{◌<◌, ℕ, ◌^◌, ◌/◌, Bool, ◌==◌, ◌&&◌, List}
-use Rattle.std.specs.List.{AllByRecursion, list_any}
+use Rattle.std.specs.Prelude.{ℕ, ◌/◌, Bool, ◌==◌, ◌&&◌, List}
+use Rattle.std.specs.List.{list_any}
 use Rattle.dirty_log.specs.declared.page.Page.{Page}
 
 abbrev pub is_in : ℕ → List ℕ → Bool
 is_in n ns = list_any (λ k. k == n) ns
-
--- all pages lie below 2 ^ 52
-abbrev pub AreLow : List Page → Type 0
-AreLow pages = AllByRecursion (λ p. p.number < 2 ^ 40) pages
 
 -- an address lies in this page, which is dirty
 abbrev pub is_of_dirty : Page → ℕ → Bool

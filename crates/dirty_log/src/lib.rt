@@ -1,9 +1,12 @@
 //! Which pages of guest memory were written since they were last copied, and the copy.
 #![tactic(auto)]
 
+mod bits;
 mod laws;
 mod log;
 mod page;
+mod places;
+mod stretch;
 mod tracked;
 
 pub use laws::copies_agree;

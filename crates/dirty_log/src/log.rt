@@ -1,15 +1,17 @@
-ghost use Rattle.std.specs.Prelude.{map, true, false, ◌≡◌, ◌+◌, ◌-◌, ◌*◌, ◌/◌, ◌<◌, ◌≤◌, ◌||◌, ◌^◌};
-ghost use Rattle.std.specs.Prelude.{ℕ, IfOk, OnOk};
+//! The pages of guest memory as stretches, and which of them are dirty as marks at their places.
+ghost use Rattle.std.specs.Prelude.{map, true, false, ◌≡◌, ◌+◌, ◌<◌, ◌≤◌, ◌||◌, ◌^◌};
+ghost use Rattle.std.specs.Prelude.{ℕ, IfOk, OnOk, length};
 ghost use Rattle.std.specs.List.{list_all};
 ghost use Rattle.guest_windows.specs.Windows.{in_range};
 ghost use Rattle.guest_windows.specs.Fields.{pairs};
 ghost use Rattle.dirty_log.specs.Pages as spec;
 ghost use Rattle.guest_windows.specs.Windows.{extent};
-ghost use Rattle.guest_windows.specs.Mixed.{mixed_windows};
 ghost use Rattle.dirty_log.specs.Copies.{copied};
-ghost use Rattle.dirty_log.specs.Listing.{is_in, is_of_dirty, AreLow};
+ghost use Rattle.dirty_log.specs.Listing.{is_in};
+ghost use Rattle.dirty_log.specs.Stretches.{numbers, paged, IsLog};
 
-use crate::page::Page;
+use crate::places::Marks;
+use crate::stretch::{Stretch, mark_numbers, number_at, place_from, stretches};
 use guest_windows::{Memory, WholeMemory};
 use its_types::Addr;
 use std::alloc::{AllocError, Global};
@@ -22,21 +24,21 @@ const PAGE: u64 = 4096;
 /// sees the pages in rising order.
 #[derive(Drop)]
 pub struct DirtyLog {
-    pages: Vec<Page>,
+    stretches: Vec<Stretch>,
+    // The dirty pages, at their places.
+    marks: Marks,
 }
 
 impl Model for DirtyLog {
-    ghost use Rattle.std.specs.Prelude.{List, map};
-    ghost use Rattle.std.specs.List.Sorted.{IsStrictlyIncreasing};
-    ghost use Rattle.dirty_log.specs.Listing.{AreLow};
+    ghost use Rattle.std.specs.Prelude.{List};
+    ghost use Rattle.dirty_log.specs.Stretches.{numbers, paged, IsLog};
     ghost use Rattle.dirty_log.specs.declared.page.Page.{Page};
 
     ghost Value = { List Page };
 
-    ghost view = { λ l. l.pages.items };
+    ghost view = { λ l. paged (numbers l.stretches.items) l.marks };
 
-    ghost invariant = { λ l. IsStrictlyIncreasing (map (λ p. p.number) l.pages.items)
-        × AreLow l.pages.items };
+    ghost invariant = { λ l. IsLog l.stretches.items l.marks };
 }
 
 impl DirtyLog {
@@ -46,8 +48,12 @@ impl DirtyLog {
         ensures { IfOk result (λ l. l ≡ spec.all_pages false (pairs windows.now)) }
     {
         let numbers = all_numbers(alloc, windows)?;
-        let pages = clean_pages(alloc, &numbers)?;
-        Ok(DirtyLog { pages })
+        if numbers.len() > 1 << 40 {
+            return Err(AllocError);
+        }
+        let marks = Marks::new(alloc, numbers.len())?;
+        let stretches = stretches(alloc, &numbers)?;
+        Ok(DirtyLog { stretches, marks })
     }
 
     /// The pages of these bytes are dirty.
@@ -55,38 +61,45 @@ impl DirtyLog {
         requires { addr.0 + len < 2 ^ 64 }
         ensures { self.new ≡ spec.marked addr.0 len self.old }
     {
-        mark_each(&mut self.pages, addr, len);
+        if len == 0 {
+            return;
+        }
+        let first = addr.0 / PAGE;
+        let end = (addr.0 + (len - 1)) / PAGE + 1;
+        mark_numbers(&self.stretches, &mut self.marks, first, end);
     }
 
     /// All pages are dirty.
     pub fn mark_all(&mut self)
         ensures { self.new ≡ spec.set_all true self.old }
     {
-        set_each(&mut self.pages, true);
+        let places = self.marks.len();
+        self.marks.mark_range(0, places);
     }
 
     /// No page is dirty.
     pub fn clear(&mut self)
         ensures { self.new ≡ spec.set_all false self.old }
     {
-        set_each(&mut self.pages, false);
+        self.marks.clear();
     }
 
     /// How many pages are dirty.
     pub fn count(&self) -> u64
         ensures { result ≡ spec.dirty_count self.now }
     {
-        self.pages.iter().filter(|page| page.dirty).count() as u64
+        self.marks.count()
     }
 
     /// The first dirty page from one on, if there is one.
     pub fn next(&self, from: u64) -> Option<u64>
         ensures { result ≡ spec.next_dirty from self.now }
     {
-        self.pages
-            .iter()
-            .find(|page| page.dirty && from <= page.number)
-            .map(|page| page.number)
+        let start = place_from(&self.stretches, from, self.marks.len());
+        let Some(place) = self.marks.next(start) else {
+            return None;
+        };
+        Some(number_at(&self.stretches, place))
     }
 
     /// Copies the bytes of the dirty pages from memory.
@@ -94,109 +107,19 @@ impl DirtyLog {
         requires { map extent copy.old ≡ map extent memory.now }
         ensures { copy.new ≡ copied memory.now self.now copy.old }
     {
-        copy_pages(&self.pages, memory, copy);
+        copy_marked(&self.stretches, &self.marks, memory, copy);
     }
 }
 
-fn copy_pages(pages: &[Page], memory: &Memory, copy: &mut WholeMemory)
+fn copy_marked(stretches: &[Stretch], marks: &Marks, memory: &Memory, copy: &mut WholeMemory)
     requires same { map extent copy.old ≡ map extent memory.now }
-    requires low { AreLow pages.now }
-    ensures { copy.new ≡ copied memory.now pages.now copy.old }
+    requires log { IsLog stretches.now marks.now }
+    ensures { copy.new ≡ copied memory.now (paged (numbers stretches.now) marks.now) copy.old }
 {
-    for at in 0..pages.len() {
-        copy_one(pages[at], memory, copy);
-    }
-}
-
-// Copies a page if it is dirty.
-fn copy_one(page: Page, memory: &Memory, copy: &mut WholeMemory)
-    requires same { map extent copy.old ≡ map extent memory.now }
-    requires low { page.number < 2 ^ 40 }
-    ensures { copy.new ≡ mixed_windows (is_of_dirty page) memory.now copy.old }
-{
-    if page.dirty {
-        copy.copy_page(memory, page.number);
-    }
-}
-
-fn mark_each(pages: &mut Vec<Page>, addr: Addr, len: u64)
-    requires fits { addr.0 + len < 2 ^ 64 }
-    requires low { AreLow pages.old.items }
-    ensures { pages.new.items ≡ spec.marked addr.0 len pages.old.items }
-{
-    mark_slice(pages.as_mut_slice(), addr, len);
-}
-
-fn mark_slice(pages: &mut [Page], addr: Addr, len: u64)
-    requires fits { addr.0 + len < 2 ^ 64 }
-    requires low { AreLow pages.old }
-    ensures { pages.new ≡ spec.marked addr.0 len pages.old }
-{
-    for at in 0..pages.len() {
-        pages[at] = marked_page(pages[at], addr, len);
-    }
-}
-
-fn marked_page(page: Page, addr: Addr, len: u64) -> Page
-    requires fits { addr.0 + len < 2 ^ 64 }
-    requires low { page.number < 2 ^ 40 }
-    ensures { result ≡ spec.mark_one addr.0 len page }
-{
-    let met = meets(addr, len, page.number);
-    Page {
-        number: page.number,
-        dirty: page.dirty || met,
-    }
-}
-
-// A page has one of so many bytes from an address on.
-fn meets(addr: Addr, len: u64, number: u64) -> bool
-    requires fits { addr.0 + len < 2 ^ 64 }
-    requires low { number < 2 ^ 40 }
-    ensures { result ≡ spec.meets addr.0 len number }
-{
-    0 < len && addr.0 / PAGE <= number && PAGE * number < addr.0 + len
-}
-
-fn set_each(pages: &mut Vec<Page>, dirty: bool)
-    ensures { pages.new.items ≡ spec.set_all dirty pages.old.items }
-{
-    set_slice(pages.as_mut_slice(), dirty);
-}
-
-fn set_slice(pages: &mut [Page], dirty: bool)
-    ensures { pages.new ≡ spec.set_all dirty pages.old }
-{
-    for at in 0..pages.len() {
-        pages[at] = set_page(pages[at], dirty);
-    }
-}
-
-fn set_page(page: Page, dirty: bool) -> Page
-    ensures { result ≡ spec.set_one dirty page }
-{
-    Page {
-        number: page.number,
-        dirty,
-    }
-}
-
-// None of them dirty.
-fn clean_pages(alloc: Global, numbers: &[u64]) -> Result<Vec<Page>, AllocError>
-    ensures { IfOk result (λ v. v.items ≡ map (spec.page false) numbers.now) }
-{
-    numbers
-        .iter()
-        .map(|number| clean_page(*number))
-        .collect(alloc)
-}
-
-fn clean_page(number: u64) -> Page
-    ensures { result ≡ spec.page false number }
-{
-    Page {
-        number,
-        dirty: false,
+    let mut at = 0;
+    while let Some(place) = marks.next(at) {
+        copy.copy_page(memory, number_at(stretches, place));
+        at = place + 1;
     }
 }
 

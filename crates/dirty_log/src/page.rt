@@ -1,3 +1,4 @@
+//! A page, as contracts see it.
 /// A page of guest memory.
 #[derive(Clone, Copy, Debug, PartialEq, Eq)]
 pub struct Page {

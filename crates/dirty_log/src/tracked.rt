@@ -1,3 +1,4 @@
+//! Guest memory's copy, and which pages differ at most.
 ghost use Rattle.std.specs.Prelude.{◌≡◌, ◌+◌, ◌<◌, ◌^◌, true, false, map, IfOk, IsErrOf};
 ghost use Rattle.guest_windows.specs.Windows.{extent, are_windows};
 ghost use Rattle.guest_windows.specs.Fields.{pairs};
