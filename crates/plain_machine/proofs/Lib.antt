@@ -4,4 +4,5 @@ pub mod Pending
 pub mod Mapped
 pub mod MappedPairs
 mod SavedTables
-pub mod Single
+pub mod Memories
+pub mod Copying

@@ -4,3 +4,4 @@ pub mod MapLists
 pub mod Slots
 pub mod Outcome
 pub mod Made
+pub mod Memories

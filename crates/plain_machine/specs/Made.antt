@@ -21,6 +21,12 @@ abbrev pub IsStarted : Result Plain MakeError → Plain → Type 0
 IsStarted (Ok state) start = state ≡ start
 IsStarted (Err e) start = e ≡ errors.NoMemory
 
+-- the outcome of a check, unless memory ran out
+abbrev pub IsChecked : Result (Unit {0}) MakeError → Result (Unit {0}) DescFault → Type 0
+IsChecked (Ok done) check = check ≡ Ok done
+IsChecked (Err (errors.Fault f)) check = check ≡ Err f
+IsChecked (Err errors.NoMemory) check = Unit {0}
+
 abbrev pub IsWindowFault : Bool → MakeError → Type 0
 IsWindowFault are_good (errors.Fault f) = (f ≡ fault.Windows) × (are_good ≡ false)
 IsWindowFault are_good errors.NoMemory = Unit {0}

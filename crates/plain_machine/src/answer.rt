@@ -30,7 +30,10 @@ impl State {
         ensures left { IfOk result (λ _. self.new ≡ answers.poked self.old addr.0 bytes.now) }
     {
         match self.memory.write(addr, bytes) {
-            Ok(()) => Ok(Reply::Ok),
+            Ok(()) => {
+                self.memory.mark(addr, bytes.len() as u64);
+                Ok(Reply::Ok)
+            }
             Err(WriteError::Outside(_)) => Ok(Reply::Outside),
             Err(WriteError::NoMemory) => Err(AllocError),
         }
@@ -44,7 +47,7 @@ impl State {
         }
         let mut buffer = [0; 64];
         let bytes = &mut buffer[..usize::from(count)];
-        match self.memory.read(addr, bytes) {
+        match self.memory.guest().read(addr, bytes) {
             Ok(()) => Reply::Bytes(Bytes64::new(bytes)),
             Err(_) => Reply::Outside,
         }
@@ -74,7 +77,8 @@ impl State {
             return Ok(StepReply::Idle);
         }
         let mut bytes = [0; 32];
-        if self.memory.read(regs.queue_place(), &mut bytes).is_err() {
+        let memory = self.memory.guest();
+        if memory.read(regs.queue_place(), &mut bytes).is_err() {
             return Ok(StepReply::QueueFault(regs.queue_place()));
         }
         let command = decode(&bytes);
@@ -85,15 +89,6 @@ impl State {
         };
         self.advance(its);
         Ok(reply)
-    }
-
-    // How many pages are copied: none, since there is no second memory.
-    fn copied(&self) -> u64
-        ensures count { result ≡ answers.copy_count self.now.track }
-        ensures same { answers.copy_left self.now ≡ self.now }
-    {
-        let _copy = self.memory();
-        0
     }
 
     fn dma(&mut self, addr: Addr, bytes: &[u8], route: Route) -> Result<Reply, AllocError>
@@ -159,7 +154,7 @@ impl State {
             }
             Call::Step { its } => Ok(Reply::Step(self.step(alloc, its)?)),
             Call::Save => self.save(alloc),
-            Call::Copy => Ok(Reply::Copied(self.copied())),
+            Call::Copy => Ok(Reply::Copied(self.memory.catch_up(alloc)?)),
             Call::Dma {
                 addr,
                 bytes,

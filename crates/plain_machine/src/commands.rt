@@ -103,7 +103,7 @@ impl State {
     ) -> Result<(), CommandError>
         ensures { Runs self.old self.new result (commands.mapd self.old its dev.0 bits itt) }
     {
-        let place = device_place(&self.regs(its), &self.memory, dev);
+        let place = device_place(&self.regs(its), self.memory.guest(), dev);
         ensure(place.is_some(), Reason::DeviceRange)?;
         ensure(bits.get() <= 16, Reason::SizeRange)?;
         let device = Device {

@@ -109,7 +109,8 @@ impl State {
             return Ok(());
         }
         let mut bytes = [0; 32];
-        if self.memory.read(regs.queue_place(), &mut bytes).is_err() {
+        let memory = self.memory.guest();
+        if memory.read(regs.queue_place(), &mut bytes).is_err() {
             return Ok(());
         }
         self.add_needed(found, its, &decode(&bytes))

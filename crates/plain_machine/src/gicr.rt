@@ -39,7 +39,8 @@ impl State {
         let at = usize::from(vcpu.0);
         if self.layout.gicr && at < self.redistributors.len() {
             let redist = &mut self.redistributors[at];
-            redist.write_gicr(alloc, &self.memory, &self.layout.shape, off, size, value)?;
+            let memory = self.memory.guest();
+            redist.write_gicr(alloc, memory, &self.layout.shape, off, size, value)?;
         }
         Ok(())
     }

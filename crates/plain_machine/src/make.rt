@@ -1,6 +1,6 @@
 //! The machine that a description makes.
 ghost use Rattle.std.specs.Prelude.{◌≡◌, ◌≤◌, ◌<◌, ◌+◌, ◌^◌, true, All, IfOk, IfErr, OnOk, map};
-ghost use Rattle.std.specs.Prelude.{length, replicate, nat_le, sum, Ok, []};
+ghost use Rattle.std.specs.Prelude.{length, replicate, nat_le, sum};
 ghost use Rattle.gits_regs.specs.Registers.{reset};
 ghost use Rattle.its_types.specs.Maps.{no_maps};
 ghost use Rattle.its_types.specs.Lpis.{no_bases};
@@ -14,8 +14,10 @@ ghost use Rattle.its_plain.specs.Sound.{IsShape};
 ghost use Rattle.plain_machine.specs.Made.{IsMade, IsStarted, IsWindowFault, Fills, Reads, AreLow};
 ghost use Rattle.plain_machine.specs.Made.{AreFirst};
 
+use crate::devices_fit::{all_frames_fit, all_new};
 use crate::redist::RedistLists;
 use crate::state::State;
+use crate::tracked_memory::TrackedMemory;
 use crate::translator::TranslatorLists;
 use guest_windows::{Memory, NewError, WriteError};
 use its_plain::{Desc, DescFault, Fill, LpiTables, MakeError};
@@ -27,26 +29,17 @@ impl State {
     /// description.
     #[tactic(auto, unfolding(its_plain::specs::Machine::made))]
     pub fn new(alloc: Global, desc: &Desc) -> Result<State, MakeError>
-        requires description { IsDescription desc.now }
-        requires single { spec.IsSingle desc.now }
+        requires { IsDescription desc.now }
         ensures { IsMade result (spec.made desc.now) }
     {
-        keeps_single(desc);
         let mut memory = memory_of(alloc, desc)?;
         tables_inside(&desc.tables, &memory, &desc.shape)?;
         fill(&mut memory, desc.fills.as_slice())?;
+        all_frames_fit(alloc, desc.windows.as_slice(), desc.translators.as_slice())?;
+        all_new(alloc, desc.requesters.as_slice())?;
         let redistributors = first_redistributors(alloc, &desc.tables, &memory, &desc.shape)?;
         started(alloc, desc, memory, redistributors)
     }
-}
-
-// What a description of one translator has, for the proof.
-fn keeps_single(desc: &Desc)
-    requires { spec.IsSingle desc.now }
-    ensures frames { spec.all_frames_fit (pairs desc.now.windows) 0 desc.now.translators ≡ Ok tt }
-    ensures requesters { spec.all_new [] 0 desc.now.requesters ≡ Ok tt }
-{
-    let _translators = &desc.translators;
 }
 
 // The fault, unless the test holds.
@@ -212,7 +205,6 @@ fn started(
     redistributors: Vec<RedistLists>,
 ) -> Result<State, MakeError>
     requires description { IsDescription desc.now }
-    requires single { spec.IsSingle desc.now }
     requires count { length redistributors.items ≡ desc.now.shape.vcpus }
     ensures { IsStarted result (spec.started desc.now memory redistributors.items) }
 {
@@ -220,7 +212,7 @@ fn started(
         layout: desc.layout(alloc)?,
         translators: first_translators(alloc, desc)?,
         redistributors,
-        memory,
+        memory: TrackedMemory::new(alloc, memory, desc.track)?,
     })
 }
 

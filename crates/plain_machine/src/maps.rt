@@ -5,6 +5,7 @@ use crate::saved_lists::{
 };
 use crate::saved_words::{collection_entry, device_entry, event_entry};
 use crate::tables;
+use crate::tracked_memory::TrackedMemory;
 use gits_regs::Regs;
 use guest_windows::Memory;
 use its_plain::Area;
@@ -43,6 +44,7 @@ impl MapLists {
     ghost use Rattle.plain_machine.specs.Mapped.{HasTable};
     ghost use Rattle.its_plain.specs.Regions as regions;
     ghost use Rattle.its_plain.specs.Saved as saved;
+    ghost use Rattle.plain_machine.specs.Memories.{put_all};
 
     /// Nothing is mapped.
     pub fn new(alloc: Global) -> MapLists
@@ -165,9 +167,9 @@ impl MapLists {
     }
 
     /// Writes the interrupt translation tables.
-    pub fn write_itts(&self, memory: &mut Memory) -> Result<(), AllocError>
+    pub fn write_itts(&self, memory: &mut TrackedMemory) -> Result<(), AllocError>
         ensures { OnOk result
-            (memory.new ≡ saved.put_tables memory.old (saved.itt_words self.now)) }
+            (memory.new ≡ put_all memory.old (saved.itt_words self.now)) }
     {
         write_itts(memory, &self.devices, self)
     }

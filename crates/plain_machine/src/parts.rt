@@ -1,14 +1,14 @@
 //! A state taken apart and put together again.
 use crate::redist::RedistLists;
 use crate::state::State;
+use crate::tracked_memory::TrackedMemory;
 use crate::translator::TranslatorLists;
-use guest_windows::Memory;
 use its_plain::Signal;
 use its_types::Shape;
 use std::alloc::AllocError;
 
 impl State {
-    ghost use Rattle.std.specs.Prelude.{◌≡◌, OnOk, None};
+    ghost use Rattle.std.specs.Prelude.{◌≡◌, OnOk};
     ghost use Rattle.its_plain.specs.Plain as plain;
     ghost use Rattle.its_plain.specs.Answer as answers;
 
@@ -33,10 +33,9 @@ impl State {
         &self.redistributors
     }
 
-    /// Guest memory, of which there is no copy.
-    pub fn memory(&self) -> &Memory
-        ensures memory { result.now ≡ self.now.memory }
-        ensures alone { self.now.track ≡ None }
+    /// Guest memory, with the second one where the machine has it.
+    pub fn memory(&self) -> &TrackedMemory
+        ensures { result.now ≡ record { memory = self.now.memory; track = self.now.track } }
     {
         &self.memory
     }
@@ -60,9 +59,9 @@ impl State {
         }
     }
 
-    /// Puts other guest memory in.
-    pub fn set_memory(&mut self, memory: Memory)
-        ensures { self.new ≡ record self.old { memory = memory; track = None } }
+    /// Puts other guest memory in, with what stands beside it.
+    pub fn set_memory(&mut self, memory: TrackedMemory)
+        ensures { self.new ≡ record self.old { memory = memory.memory; track = memory.track } }
     {
         self.memory = memory;
     }

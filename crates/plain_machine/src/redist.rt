@@ -5,10 +5,12 @@ ghost use Rattle.gicr_regs.specs.Redistributors as tables;
 ghost use Rattle.its_plain.specs.Answer as plain;
 ghost use Rattle.its_plain.specs.Regions as regions;
 ghost use Rattle.its_plain.specs.Saved as saved;
+ghost use Rattle.plain_machine.specs.Memories.{put_all};
 ghost use Rattle.its_plain.specs.Commands as commands;
 
 use crate::rising_lists::{add_all_rising, add_rising, remove_number};
 use crate::saved_tables;
+use crate::tracked_memory::TrackedMemory;
 use guest_windows::Memory;
 use its_plain::{Ack, Area, Region};
 use its_types::{Addr, Bases, Intid, Shape, Vcpu};
@@ -161,10 +163,14 @@ impl RedistLists {
     }
 
     /// Writes the pending table, where LPIs are on.
-    pub(crate) fn write_pending(&self, memory: &mut Memory, shape: &Shape) -> Result<(), AllocError>
+    pub(crate) fn write_pending(
+        &self,
+        memory: &mut TrackedMemory,
+        shape: &Shape,
+    ) -> Result<(), AllocError>
         requires least { 14 ≤ shape.now.lpi_bits }
         requires most { shape.now.lpi_bits ≤ 20 }
-        ensures { OnOk result (memory.new ≡ saved.put_tables memory.old
+        ensures { OnOk result (memory.new ≡ put_all memory.old
             (saved.pending_words shape.now self.now)) }
     {
         if !self.bases.on {

@@ -1,6 +1,8 @@
 //! Whether the plain machine can be saved, and the save.
 ghost use Rattle.std.specs.Prelude.{◌≡◌, ◌≤◌, ◌++◌, OnOk, IfOk, length};
 ghost use Rattle.std.specs.List.{flat_map};
+ghost use Rattle.std.specs.Option.{option_map};
+ghost use Rattle.plain_machine.specs.Memories.{put_all};
 ghost use Rattle.its_plain.specs.Answer as answers;
 ghost use Rattle.plain_machine.specs.Outcome.{IsTested};
 ghost use Rattle.its_plain.specs.Regions as regions;
@@ -9,6 +11,7 @@ ghost use Rattle.its_plain.specs.Saved as saved;
 use crate::areas;
 use crate::redist::RedistLists;
 use crate::state::State;
+use crate::tracked_memory::TrackedMemory;
 use crate::translator::TranslatorLists;
 use guest_windows::Memory;
 use its_plain::{Area, Region, Reply, SaveError, SaveFault};
@@ -27,7 +30,7 @@ impl State {
             Err(SaveError::Fault(fault)) => return Ok(Reply::SaveFault(fault)),
             Err(SaveError::NoMemory) => return Err(AllocError),
         }
-        let Ok(before) = self.memory.copy(alloc) else {
+        let Ok(before) = self.memory.guest().copy(alloc) else {
             return Err(AllocError);
         };
         self.write_tables(&before)?;
@@ -40,11 +43,12 @@ impl State {
         ensures { IsTested result (regions.savable self.now) }
     {
         let mut areas = Vec::new(alloc);
-        add_tables(&mut areas, &self.translators, &self.memory)?;
-        if let Some(outside) = areas::first_outside(&areas, &self.memory) {
+        let memory = self.memory.guest();
+        add_tables(&mut areas, &self.translators, memory)?;
+        if let Some(outside) = areas::first_outside(&areas, memory) {
             return Err(SaveError::Fault(SaveFault::Outside(outside.region)));
         }
-        all_placed(&self.translators, &self.memory)?;
+        all_placed(&self.translators, memory)?;
         add_pending(&mut areas, &self.layout.shape, &self.redistributors)?;
         self.add_configurations(&mut areas)?;
         add_queues(&mut areas, &self.translators)?;
@@ -72,10 +76,13 @@ impl State {
     }
 
     // `before` is memory as it is.
-    #[tactic(auto, using(crate::proofs::SavedTables::put_more), unfolding(its_plain::specs::Saved::words_of))]
+    #[tactic(auto, using(crate::proofs::SavedTables::put_more, crate::proofs::SavedTables::put_both), unfolding(its_plain::specs::Saved::words_of))]
     fn write_tables(&mut self, before: &Memory) -> Result<(), AllocError>
         requires { before.now ≡ self.old.memory }
-        ensures { OnOk result (self.new ≡ record self.old { memory = saved.saved self.old }) }
+        ensures { OnOk result (self.new ≡ record self.old {
+          memory = saved.saved self.old;
+          track = option_map (saved.wrote_tables (saved.words_of self.old)) self.old.track;
+        }) }
     {
         write_translators(&mut self.memory, before, &self.translators)?;
         write_pending(&mut self.memory, &self.layout.shape, &self.redistributors)
@@ -161,12 +168,12 @@ fn add_configurations(
 
 #[tactic(auto, using(crate::proofs::SavedTables::put_front))]
 fn write_translators(
-    memory: &mut Memory,
+    memory: &mut TrackedMemory,
     before: &Memory,
     translators: &[TranslatorLists],
 ) -> Result<(), AllocError>
     ensures { OnOk result (memory.new
-        ≡ saved.put_tables memory.old
+        ≡ put_all memory.old
         (flat_map (saved.translator_words before.now) translators.now)) }
 {
     for translator in translators {
@@ -177,14 +184,14 @@ fn write_translators(
 
 #[tactic(auto, using(crate::proofs::SavedTables::put_more))]
 fn write_pending(
-    memory: &mut Memory,
+    memory: &mut TrackedMemory,
     shape: &Shape,
     redists: &[RedistLists],
 ) -> Result<(), AllocError>
     requires least { 14 ≤ shape.now.lpi_bits }
     requires most { shape.now.lpi_bits ≤ 20 }
     ensures { OnOk result (memory.new
-        ≡ saved.put_tables memory.old (flat_map (saved.pending_words shape.now) redists.now)) }
+        ≡ put_all memory.old (flat_map (saved.pending_words shape.now) redists.now)) }
 {
     for redist in redists {
         redist.write_pending(memory, shape)?;

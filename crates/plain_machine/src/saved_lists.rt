@@ -7,10 +7,12 @@ ghost use Rattle.gits_regs.specs.Registers.{is_indirect};
 ghost use Rattle.baser_place.specs.Places.{page_of, level1_of};
 ghost use Rattle.its_plain.specs.Regions as regions;
 ghost use Rattle.its_plain.specs.Saved as saved;
+ghost use Rattle.plain_machine.specs.Memories.{put_all};
 
 use crate::mapped_entries::{MappedDevice, MappedEvent};
 use crate::maps::MapLists;
 use crate::saved_tables::write_itt;
+use crate::tracked_memory::TrackedMemory;
 use baser_place::{Level1, level1};
 use gits_regs::Regs;
 use guest_windows::Memory;
@@ -71,12 +73,12 @@ fn has_no_place(regs: &Regs, memory: &Memory, dev: u32) -> bool
 
 /// Writes the interrupt translation tables.
 pub fn write_itts(
-    memory: &mut Memory,
+    memory: &mut TrackedMemory,
     devices: &[(u32, MappedDevice)],
     maps: &MapLists,
 ) -> Result<(), AllocError>
     ensures { OnOk result (memory.new
-        ≡ saved.put_tables memory.old (flat_map
+        ≡ put_all memory.old (flat_map
         (λ d. record {
           base = d.1.itt.0;
           count = 2 ^ d.1.bits;

@@ -4,9 +4,11 @@ ghost use Rattle.std.specs.Prelude.{◌≡◌, ◌≤◌, ◌+◌, ◌-◌, ◌*
 ghost use Rattle.baser_place.specs.Places as places;
 ghost use Rattle.its_types.specs.Lpis as lpis;
 ghost use Rattle.its_plain.specs.Saved as spec;
+ghost use Rattle.plain_machine.specs.Memories.{put_all, put_table};
 
 use crate::maps::MapLists;
 use crate::redist::RedistLists;
+use crate::tracked_memory::TrackedMemory;
 use baser_place::{Level1, level1, level1_entries};
 use gits_regs::Regs;
 use guest_windows::{Memory, WriteError};
@@ -14,12 +16,15 @@ use its_types::{Addr, DeviceId, le_u64};
 use std::alloc::AllocError;
 
 // Writes eight bytes, where one window has them.
-fn put_word(memory: &mut Memory, base: Addr, at: u32, word: u64) -> Result<(), AllocError>
+fn put_word(memory: &mut TrackedMemory, base: Addr, at: u32, word: u64) -> Result<(), AllocError>
     requires { base.0 < 2 ^ 53 }
-    ensures { OnOk result
-        (memory.new ≡ spec.put_word memory.old (places.entry_address base.0 at) word) }
+    ensures { OnOk result (memory.new
+        ≡ record memory.old {
+          memory = spec.put_word memory.old.memory (places.entry_address base.0 at) word;
+        }) }
 {
-    match memory.write_u64(Addr(base.0 + 8 * u64::from(at)), word) {
+    let addr = Addr(base.0 + 8 * u64::from(at));
+    match memory.write(addr, &word.to_le_bytes()) {
         Ok(()) | Err(WriteError::Outside(_)) => Ok(()),
         Err(WriteError::NoMemory) => Err(AllocError),
     }
@@ -28,13 +33,13 @@ fn put_word(memory: &mut Memory, base: Addr, at: u32, word: u64) -> Result<(), A
 /// Writes a device table.
 #[tactic(auto, unfolding(its_plain::specs::Saved::device_words))]
 pub fn write_devices(
-    memory: &mut Memory,
+    memory: &mut TrackedMemory,
     before: &Memory,
     regs: &Regs,
     maps: &MapLists,
 ) -> Result<(), AllocError>
     ensures { OnOk result (memory.new
-        ≡ spec.put_tables memory.old
+        ≡ put_all memory.old
         (spec.device_words (record { regs = regs.now; maps = maps.now }) before.now)) }
 {
     if !regs.table_valid(0) {
@@ -50,13 +55,13 @@ pub fn write_devices(
 // Writes the pages of a device table of two levels.
 #[tactic(auto, using(crate::proofs::SavedTables::put_more))]
 fn write_pages(
-    memory: &mut Memory,
+    memory: &mut TrackedMemory,
     before: &Memory,
     regs: &Regs,
     maps: &MapLists,
 ) -> Result<(), AllocError>
     ensures { OnOk result (memory.new
-        ≡ spec.put_tables memory.old
+        ≡ put_all memory.old
         (spec.pages_words (record { regs = regs.now; maps = maps.now }) before.now
         (places.level1_entries regs.now.dev_bits))) }
 {
@@ -68,7 +73,7 @@ fn write_pages(
 
 // Writes the page of a level-1 entry, of so many entries.
 fn write_page(
-    memory: &mut Memory,
+    memory: &mut TrackedMemory,
     k: u32,
     entry: Level1,
     count: u32,
@@ -78,7 +83,7 @@ fn write_page(
     requires few { count ≤ 8192 }
     requires low { places.HasLowPage entry }
     ensures { OnOk result (memory.new
-        ≡ spec.put_tables memory.old
+        ≡ put_all memory.old
         (spec.words_of_page count maps.now k (places.page_of entry))) }
 {
     match entry {
@@ -89,7 +94,7 @@ fn write_page(
 
 // Writes the entries of so many devices, from one on.
 fn write_places(
-    memory: &mut Memory,
+    memory: &mut TrackedMemory,
     base: Addr,
     first: u32,
     count: u32,
@@ -98,37 +103,44 @@ fn write_places(
     requires low { base.0 < 2 ^ 53 }
     requires few { first + count < 2 ^ 32 }
     ensures { OnOk result (memory.new
-        ≡ spec.put_words memory.old base.0 (λ i. spec.device_word maps.now (first + i)) count) }
+        ≡ put_table memory.old (record {
+          base = base.0;
+          count = count;
+          word = λ i. spec.device_word maps.now (first + i);
+        })) }
 {
     for at in 0..count {
         put_word(memory, base, at, maps.device_word(DeviceId(first + at)))?;
     }
+    memory.mark(base, 8 * u64::from(count));
     Ok(())
 }
 
 /// Writes a collection table.
 pub fn write_collections(
-    memory: &mut Memory,
+    memory: &mut TrackedMemory,
     regs: &Regs,
     maps: &MapLists,
 ) -> Result<(), AllocError>
     ensures { OnOk result (memory.new
-        ≡ spec.put_tables memory.old
+        ≡ put_all memory.old
         (spec.collection_words (record { regs = regs.now; maps = maps.now }))) }
 {
     if !regs.table_valid(1) {
         return Ok(());
     }
     let base = regs.table_base(1);
-    for at in 0..8192 * regs.pages(1).min(8) {
+    let count = 8192 * regs.pages(1).min(8);
+    for at in 0..count {
         put_word(memory, base, at, maps.collection_word(at))?;
     }
+    memory.mark(base, 8 * u64::from(count));
     Ok(())
 }
 
 /// Writes the interrupt translation table of a device.
 pub fn write_itt(
-    memory: &mut Memory,
+    memory: &mut TrackedMemory,
     base: Addr,
     bits: u8,
     dev: DeviceId,
@@ -136,20 +148,25 @@ pub fn write_itt(
 ) -> Result<(), AllocError>
     requires low { base.0 < 2 ^ 53 }
     requires few { bits ≤ 16 }
-    ensures { OnOk result
-        (memory.new ≡ spec.put_words memory.old base.0 (spec.event_word maps.now dev.0)
-        (2 ^ bits)) }
+    ensures { OnOk result (memory.new
+        ≡ put_table memory.old (record {
+          base = base.0;
+          count = 2 ^ bits;
+          word = spec.event_word maps.now dev.0;
+        })) }
 {
-    for ev in 0..1u32 << bits {
+    let count = 1u32 << bits;
+    for ev in 0..count {
         put_word(memory, base, ev, maps.event_word(dev, ev))?;
     }
+    memory.mark(base, 8 * u64::from(count));
     Ok(())
 }
 
 /// Writes the pending table of a redistributor, which has so many bytes, but for the 1024 that
 /// belong to no LPI.
 pub fn write_pending(
-    memory: &mut Memory,
+    memory: &mut TrackedMemory,
     base: Addr,
     bytes: u64,
     redist: &RedistLists,
@@ -158,13 +175,18 @@ pub fn write_pending(
     requires least { 1024 ≤ bytes }
     requires few { bytes ≤ 131072 }
     ensures { OnOk result (memory.new
-        ≡ spec.put_words memory.old (base.0 + 1024)
-        (λ i. spec.pending_word redist.now.pending (1024 + 8 * i)) ((bytes - 1024) / 8)) }
+        ≡ put_table memory.old (record {
+          base = base.0 + 1024;
+          count = (bytes - 1024) / 8;
+          word = λ i. spec.pending_word redist.now.pending (1024 + 8 * i);
+        })) }
 {
     let first = Addr(base.0 + 1024);
-    for at in 0..((bytes - 1024) / 8) as u32 {
+    let count = ((bytes - 1024) / 8) as u32;
+    for at in 0..count {
         put_word(memory, first, at, pending_word(redist, 1024 + 8 * at))?;
     }
+    memory.mark(first, 8 * u64::from(count));
     Ok(())
 }
 

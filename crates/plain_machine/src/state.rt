@@ -1,26 +1,26 @@
 //! The plain machine as a program.
 use crate::redist::RedistLists;
 use crate::redists;
+use crate::tracked_memory::TrackedMemory;
 use crate::translator::TranslatorLists;
 use gits_regs::Regs;
-use guest_windows::Memory;
 use its_plain::{Cause, Layout, Signal};
 use its_types::{DeviceId, EventId, Intid, Target};
 use std::alloc::{AllocError, Global};
 use std::marker::Model;
 
 /// A state of the plain machine, as a value: translators and redistributors in plain lists, and
-/// guest memory. It has no second memory.
+/// guest memory, with a second one where the machine has it.
 #[derive(Drop)]
 pub struct State {
     pub(crate) layout: Layout,
     pub(crate) translators: Vec<TranslatorLists>,
     pub(crate) redistributors: Vec<RedistLists>,
-    pub(crate) memory: Memory,
+    pub(crate) memory: TrackedMemory,
 }
 
 impl Model for State {
-    ghost use Rattle.std.specs.Prelude.{◌≤◌, length, None};
+    ghost use Rattle.std.specs.Prelude.{◌≤◌, length};
     ghost use Rattle.its_plain.specs.Plain.{Plain, plain_code};
 
     ghost Value = { Plain };
@@ -31,8 +31,8 @@ impl Model for State {
       layout = s.layout;
       translators = s.translators.items;
       redistributors = s.redistributors.items;
-      memory = s.memory;
-      track = None;
+      memory = s.memory.memory;
+      track = s.memory.track;
     } };
 
     ghost use Rattle.its_plain.specs.Sound.{IsShape};
@@ -138,6 +138,6 @@ impl State {
     pub(crate) fn reread(&mut self, intids: &[u32])
         ensures { self.new ≡ commands.reread intids.now self.old }
     {
-        redists::reread_each(&mut self.redistributors, &self.memory, intids);
+        redists::reread_each(&mut self.redistributors, self.memory.guest(), intids);
     }
 }

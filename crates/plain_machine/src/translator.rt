@@ -8,10 +8,12 @@ ghost use Rattle.its_plain.specs.Translation as translation;
 ghost use Rattle.its_plain.specs.Answer as answers;
 ghost use Rattle.its_plain.specs.Regions as regions;
 ghost use Rattle.its_plain.specs.Saved as saved;
+ghost use Rattle.plain_machine.specs.Memories.{put_all};
 ghost use Rattle.plain_machine.specs.Mapped.{HasTable};
 ghost use Rattle.plain_machine.specs.Slots.{maps_set, regs_set, translator_in};
 
 use crate::maps::MapLists;
+use crate::tracked_memory::TrackedMemory;
 use crate::{areas, saved_tables};
 use gits_regs::{RegChange, Regs, offsets};
 use guest_windows::Memory;
@@ -108,10 +110,10 @@ impl TranslatorLists {
     #[tactic(auto, using(crate::proofs::SavedTables::put_more), unfolding(its_plain::specs::Saved::translator_words))]
     pub(crate) fn write_tables(
         &self,
-        memory: &mut Memory,
+        memory: &mut TrackedMemory,
         before: &Memory,
     ) -> Result<(), AllocError>
-        ensures { OnOk result (memory.new ≡ saved.put_tables memory.old
+        ensures { OnOk result (memory.new ≡ put_all memory.old
             (saved.translator_words before.now self.now)) }
     {
         saved_tables::write_devices(memory, before, &self.regs, &self.maps)?;

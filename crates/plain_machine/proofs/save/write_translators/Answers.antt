@@ -1,7 +1,8 @@
 use Rattle.std.proofs.Common.{◌≡◌, ap, sym, ◌∙◌, ◌+◌, ◌∷◌, suc, drop, add-one}
 use Rattle.std.proofs.Math.Seq.{drop-cons}
 use Rattle.std.specs.List.{flat_map}
-use Rattle.its_plain.specs.Saved.{put_tables, translator_words}
+use Rattle.its_plain.specs.Saved.{translator_words}
+use Rattle.plain_machine.specs.Memories.{put_all}
 use Rattle.plain_machine.proofs.SavedTables.{put_front}
 use Rattle.plain_machine.proofs.save.write_translators.Goals as goal
 
@@ -16,4 +17,4 @@ loop-translator-preserved c =
     rw c.in_ok-write_tables.ensures
     (put_front c.loop-translator.memory (translator_words c.args.before.now) c.translator-item.result
     (drop (c.loop-translator.translator-index + 1) c.args.translators.now)
-    ∙ ap (λ ts. put_tables c.loop-translator.memory (flat_map (translator_words c.args.before.now) ts)) (sym split) ∙ c.loop-translator.invariant)
+    ∙ ap (λ ts. put_all c.loop-translator.memory (flat_map (translator_words c.args.before.now) ts)) (sym split) ∙ c.loop-translator.invariant)
