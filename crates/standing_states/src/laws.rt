@@ -1,3 +1,4 @@
+//! What memory and registers stand for.
 ghost use Rattle.standing_states.specs.Laws as laws;
 
 /// One memory and one set of register values stand for at most one state.
