@@ -32,16 +32,17 @@ map_shards : (n : ℕ) → map slot_as (replicate n (std.Some (Shard no_entries)
 map_shards zero = refl
 map_shards (suc n) = ap (λ (l : List (Option Content)). some (steps.Shard no_entries) ∷ l) (map_shards n)
 
-pub slots_first : (s : Setup) → s.start.track ≡ std.None → map slot_as (home_slots s.start s.shards) ≡ first_slots s
-slots_first s alone =
+pub slots_first : (s : Setup) → map slot_as (home_slots s.start s.shards) ≡ first_slots s
+slots_first s =
     let n : ℕ = length s.start.translators * s.shards in
     map-append slot_as (map (λ t. std.Some (Maps t)) s.start.translators)
-    (std.Some (Mem s.start.memory) ∷ (replicate n (std.Some (Shard no_entries)) ++ map (λ r. std.Some (Redist r)) s.start.redistributors))
+    (std.Some (Mem (record { memory = s.start.memory; track = s.start.track }))
+    ∷ (replicate n (std.Some (Shard no_entries)) ++ map (λ r. std.Some (Redist r)) s.start.redistributors))
     ∙ (λ d. map_maps s.start.translators d
-    ++ (some (steps.Mem s.start.memory (sym alone d)) ∷ (map-append slot_as (replicate n (std.Some (Shard no_entries)))
+    ++ (some (steps.Mem s.start.memory s.start.track) ∷ (map-append slot_as (replicate n (std.Some (Shard no_entries)))
     (map (λ r. std.Some (Redist r)) s.start.redistributors) ∙ (λ e. map_shards n e ++ map_redists s.start.redistributors e)) d))
 
-pub first_shared : (s : Setup) → IsSound s.start → s.start.track ≡ std.None → (history : List Entry) (notes : List ℕ) (slots : List (std.Option Value))
+pub first_shared : (s : Setup) → IsSound s.start → (history : List Entry) (notes : List ℕ) (slots : List (std.Option Value))
     (turns : List ℕ) (y : Known)
     (none : List Known) (seen : List Entry) (views : List Known) → history ≡ [] → notes ≡ [] → slots ≡ home_slots s.start s.shards
     → turns ≡ replicate (length slots) 0 → known s y ≡ fresh s 0 1 seen first_word → seen ≡ [] → views ≡ none ++ y ∷ [] → none ≡ []
@@ -51,8 +52,8 @@ pub first_shared : (s : Setup) → IsSound s.start → s.start.track ≡ std.Non
       world = record { word = first_word; turns = turns; slots = map slot_as slots; views = map (view_of s) views };
       notes = notes;
     } ≡ first_core s
-first_shared s sound alone history notes slots turns y none seen views no_history no_notes home free first no_seen one empty =
-    let e : map slot_as slots ≡ first_slots s = ap (map slot_as) home ∙ slots_first s alone in
+first_shared s sound history notes slots turns y none seen views no_history no_notes home free first no_seen one empty =
+    let e : map slot_as slots ≡ first_slots s = ap (map slot_as) home ∙ slots_first s in
     let long : length slots ≡ part_count s = sym (length-map slots slot_as) ∙ (ap length e ∙ slots_long s sound) in
     let t : turns ≡ replicate (part_count s) 0 = free ∙ ap (λ (k : ℕ). replicate k 0) long in
     let p : y.standing ≡ Pass = ap (λ (u : View). u.standing) first in

@@ -130,4 +130,5 @@ made c i v a owed = record c {
 abbrev pub home_slots : Plain → ℕ → List (std.Option Value)
 home_slots u shards =
     map (λ t. std.Some (Maps t)) u.translators
-    ++ (std.Some (Mem u.memory) ∷ (replicate (length u.translators * shards) (std.Some (Shard no_entries)) ++ map (λ r. std.Some (Redist r)) u.redistributors))
+    ++ (std.Some (Mem (record { memory = u.memory; track = u.track }))
+    ∷ (replicate (length u.translators * shards) (std.Some (Shard no_entries)) ++ map (λ r. std.Some (Redist r)) u.redistributors))

@@ -1,3 +1,4 @@
+//! Shards of the cache, as lists of ways.
 ghost use Rattle.std.specs.Prelude.{◌≡◌, OnOk, IfOk};
 ghost use Rattle.its_player.specs.Contents.{content_of};
 ghost use Rattle.its_player.specs.Shared.{looked_as, cache_as};

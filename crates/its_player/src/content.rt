@@ -1,11 +1,11 @@
+//! What a part contains.
 ghost use Rattle.std.specs.Prelude.{◌≡◌, IfOk};
 ghost use Rattle.its_player.specs.Contents.{content_of};
 ghost use Rattle.its_player.specs.Held as spec;
 
-use guest_windows::Memory;
 use its_plain::{Cause, Signal};
 use its_types::{DeviceId, EventId, Target};
-use plain_machine::{RedistLists, TranslatorLists};
+use plain_machine::{RedistLists, TrackedMemory, TranslatorLists};
 use std::alloc::{AllocError, Global};
 
 /// What a part contains.
@@ -13,8 +13,8 @@ use std::alloc::{AllocError, Global};
 pub enum Content {
     /// A translator's registers and maps.
     Maps(TranslatorLists),
-    /// Guest memory.
-    Mem(Memory),
+    /// Guest memory, and what stands beside it.
+    Mem(TrackedMemory),
     /// A shard of a translator's cache.
     Shard(xlate_cache::Shard),
     /// What a redistributor knows of LPIs.

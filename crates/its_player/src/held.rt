@@ -1,3 +1,4 @@
+//! A part in a pass's hands.
 ghost use Rattle.std.specs.Prelude.{◌≡◌, true, false};
 ghost use Rattle.its_player.specs.Contents.{content_of};
 ghost use Rattle.its_player.specs.Held as spec;

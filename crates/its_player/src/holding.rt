@@ -1,3 +1,4 @@
+//! Which parts a pass has.
 ghost use Rattle.std.specs.Prelude.{◌≡◌, position};
 ghost use Rattle.its_player.specs.Held as spec;
 

@@ -77,8 +77,7 @@ fn first_slots(
     start: &State,
     shards: u32,
 ) -> Result<Vec<Option<Content>>, AllocError>
-    ensures home { IfOk result (λ v. v.items ≡ home_slots start.now shards) }
-    ensures alone { IfOk result (λ _. start.now.track ≡ std.None) }
+    ensures { IfOk result (λ v. v.items ≡ home_slots start.now shards) }
 {
     let mut slots = Vec::new(alloc);
     add_maps(alloc, &mut slots, start.translators())?;

@@ -1,3 +1,4 @@
+//! What a pass knows.
 ghost use Rattle.std.specs.Prelude.{◌≡◌, ◌++◌, ◌∷◌, [], OnOk};
 ghost use Rattle.its_player.specs.Contents.{content_of};
 ghost use Rattle.its_player.specs.Shared as shared;

@@ -1,3 +1,4 @@
+//! A machine with its passes, which goes on step by step.
 ghost use Rattle.std.specs.Prelude.{◌≡◌, ◌≤◌, ℕ, IfOk, MatchOption};
 ghost use Rattle.its_plain.specs.Sound.{IsSound};
 ghost use Rattle.its_steps.specs.Steps as spec;

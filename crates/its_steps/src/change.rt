@@ -1,3 +1,4 @@
+//! What a commit does to the cache.
 use its_types::{DeviceId, EventId, Target};
 
 /// What a commit does to the shards of its call's translator.

@@ -1,3 +1,4 @@
+//! The exchange of the word that makes a call.
 use crate::change::ShardChange;
 use its_plain::{Call, Reply};
 use its_types::Word;

@@ -1,3 +1,4 @@
+//! The steps of passes.
 use crate::commit::Commit;
 use its_types::Part;
 

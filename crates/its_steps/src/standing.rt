@@ -1,3 +1,4 @@
+//! What a view is of.
 /// What a view is of.
 #[derive(Clone, Copy, Debug, PartialEq, Eq)]
 pub enum Standing {
