@@ -73,13 +73,13 @@ needs_same s m (command.Unknown opcode) v = refl
 
 -- ---- as parts
 
-abbrev IsRedist : Part → Type 0
+abbrev pub IsRedist : Part → Type 0
 IsRedist (Redist v) = Unit {0}
 IsRedist (MapsOf its) = ⊥
 IsRedist Mem = ⊥
 IsRedist (Shard its n) = ⊥
 
-abbrev AreRedists : List Part → Type 0
+abbrev pub AreRedists : List Part → Type 0
 AreRedists ps = AllByRecursion IsRedist ps
 
 target_redists : (o : Option Vcpu) → AreRedists (redist_of o)
@@ -99,7 +99,7 @@ moved_redists One o to = tt
 moved_redists Two None to = tt
 moved_redists Two (Some from) to = cond_both (eqb from.0 to) [] (redist from.0 ∷ redist to ∷ []) AreRedists (λ _. tt) (λ _. (tt, (tt, tt)))
 
-needed_redists : (s : Shape) (m : Maps) (c : Command) → AreRedists (needed (bare s m) 0 c)
+pub needed_redists : (s : Shape) (m : Maps) (c : Command) → AreRedists (needed (bare s m) 0 c)
 unfolding needed
 needed_redists s m (command.Movi dev ev icid) =
     append_redists (redist_of (target_of_event m dev.0 ev.0)) (redist_of (collection_of m icid.0)) (target_redists (target_of_event m dev.0 ev.0))
@@ -121,7 +121,7 @@ needed_redists s m (command.Sync target) = tt
 needed_redists s m (command.Unknown opcode) = tt
 
 -- no state has more to say of it than its shape and the translator's maps
-needed_is : (u : Plain) (i : ℕ) (c : Command) → needed u i c ≡ needed (bare u.layout.shape (maps_of u i)) 0 c
+pub needed_is : (u : Plain) (i : ℕ) (c : Command) → needed u i c ≡ needed (bare u.layout.shape (maps_of u i)) 0 c
 unfolding needed
 needed_is u i (command.Movi dev ev icid) = refl
 needed_is u i (command.Int dev ev) = refl

@@ -1,3 +1,4 @@
+//! Effects of commands, carried out on the parts in hand.
 ghost use Rattle.std.specs.Prelude.{◌≡◌};
 ghost use Rattle.cmd_exec.specs.Effects as effects;
 ghost use Rattle.cmd_exec.specs.Ready.{IsReady};

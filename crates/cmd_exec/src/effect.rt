@@ -1,3 +1,4 @@
+//! What a command does that isn't refused.
 use its_command::Command;
 use its_plain::{CmdReply, Reason, StepReply};
 use its_types::{Device, DeviceId, Event, EventId, Icid, Intid, Vcpu};

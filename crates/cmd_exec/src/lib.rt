@@ -1,4 +1,7 @@
 //! Commands and register accesses of a translator on parts in hand.
+//!
+//! What is executed on are the parts in hand, each an argument of its own, since a caller that
+//! shares the machine holds some of them.
 #![tactic(auto)]
 
 mod carry_out;

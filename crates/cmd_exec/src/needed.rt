@@ -1,3 +1,4 @@
+//! Which parts a step reads or changes.
 ghost use Rattle.std.specs.Prelude.{◌≡◌, ◌<◌, ◌≤◌, ℕ, true, nat_lt, IfSome};
 ghost use Rattle.its_plain.specs.Parts.{target_of_event};
 ghost use Rattle.cmd_exec.specs.Needs.{is_needed, is_either, is_moved, needs_vcpu};

@@ -1,3 +1,4 @@
+//! Registers of the translator, read and written with what follows for its maps.
 ghost use Rattle.std.specs.Prelude.{◌≡◌};
 ghost use Rattle.gits_regs.specs.Registers.{read_reg, write_reg};
 ghost use Rattle.its_plain.specs.Answer.{translator_written};

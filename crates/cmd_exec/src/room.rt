@@ -1,3 +1,4 @@
+//! Room in the maps, made before a command is carried out.
 ghost use Rattle.std.specs.Prelude.{◌≡◌, ◌≤◌, true, false, OnOk, OnErr};
 ghost use Rattle.cmd_exec.specs.Room.{adds, adds_event, HasRoomFor};
 ghost use Rattle.its_maps.specs.MapsRoom.{event_room};

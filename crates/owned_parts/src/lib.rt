@@ -1,13 +1,15 @@
-//! The parts of a machine with one translator, in hand, the state of the plain translators that
+//! The parts of a machine in hand, or where they stand, the state of the plain translators that
 //! they stand for, where they send an event, and sets of redistributors.
 #![tactic(auto)]
 
+mod in_place;
 mod parts;
 mod redist_set;
 mod redist_walk;
 mod translation;
 
-pub use parts::Parts;
+pub use in_place::{InPlace, TranslatorRef};
+pub use parts::{Parts, Translator};
 pub use redist_set::RedistSet;
 pub use redist_walk::RedistWalk;
 pub use translation::locate;

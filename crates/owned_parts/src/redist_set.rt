@@ -1,3 +1,4 @@
+//! Sets of redistributors.
 ghost use Rattle.std.specs.Prelude.{◌≡◌, ◌<◌, ◌||◌, ℕ, false, IfSome};
 ghost use Rattle.owned_parts.specs.RedistSets.{is_in, is_target, vcpus_from};
 

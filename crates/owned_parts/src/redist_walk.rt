@@ -1,3 +1,4 @@
+//! A walk through a set of redistributors.
 ghost use Rattle.std.specs.Iterator.{YieldsFirstBy, item_count};
 
 use its_types::{Vcpu, bit_of};
