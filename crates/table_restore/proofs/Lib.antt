@@ -1,4 +1,5 @@
 pub mod Steps
 pub mod PendingRead
 pub mod Restored
+pub mod Begun
 pub mod Whole

@@ -29,8 +29,8 @@ use Rattle.standing_states.proofs.EventsWalked.{within_is, then_ok, then_err}
 use Rattle.standing_states.proofs.CollectionsWalked.{next_is, one_more}
 use Rattle.standing_states.proofs.DevicesWalked.{IsSmall, devices_rise}
 use Rattle.table_restore.specs.Outcome.{fields_of, LookedDevice, Took, place_of}
-use Rattle.table_restore.specs.declared.error.RestoreError.{RestoreError}
-use Rattle.table_restore.specs.declared.error.RestoreError.TheVariants as errors
+use Rattle.table_restore.specs.declared.error.TableError.{TableError}
+use Rattle.table_restore.specs.declared.error.TableError.TheVariants as errors
 use Rattle.table_restore.specs.declared.place.DevicePlace as code
 
 -- ---- events
@@ -115,7 +115,7 @@ level1_is memory r k e f a b = subst (LeadsAs memory r k) (sym a ∙ b) (level1_
 -- ---- devices
 
 module _ (memory : List Window) (n : ℕ) (r : Registers) (s : IsSmall r) where
-  pub device_wrong : (old seen now new : Maps) (p q : DevicePlace) (error : RestoreError) → IsPlace r p → after put_found now (devices_from memory n r p)
+  pub device_wrong : (old seen now new : Maps) (p q : DevicePlace) (error : TableError) → IsPlace r p → after put_found now (devices_from memory n r p)
       ≡ after put_found old (devices_from memory n r q) → LookedDevice memory n r p now seen (Err error)
       → Took put_found old new (Err error) (devices_from memory n r q)
   device_wrong old seen now new p q (errors.Fault f) g so is =

@@ -1,5 +1,5 @@
 -- What the functions of a restore answer.
-use Rattle.std.specs.Prelude.{◌≡◌, ◌≤◌, ℕ, true, false, IsSome, length, slice_get, List, Option, Some, None, Result, Ok, Err}
+use Rattle.std.specs.Prelude.{◌≡◌, ◌<◌, ◌≤◌, ℕ, true, false, IsSome, length, slice_get, List, Option, Some, None, Result, Ok, Err}
 use Rattle.std.specs.Option.{option_map}
 use Rattle.guest_windows.specs.Windows.{Window, number_at}
 use Rattle.gits_regs.specs.Registers.{Registers}
@@ -17,18 +17,24 @@ use Rattle.its_plain.specs.DeviceTables.{next_device}
 use Rattle.its_plain.specs.declared.fault.RestoreFault.{RestoreFault}
 use Rattle.its_plain.specs.declared.fault.RestoreFault.TheVariants as fault
 use Rattle.its_plain.specs.declared.fault.RestoreFault.TheVariants.{OutsideTable, BadRedist}
+use Rattle.its_plain.specs.Plain.{Translator}
 use Rattle.its_plain.specs.Stands.{AreRedistributorsClear, RedistributorOffends, IsRedistributorIn, lacks_tables}
+use Rattle.its_plain.specs.Stands.{IsTranslatorIn, IsTranslatorFrom, IsTranslatorClear, TranslatorOffends}
 use Rattle.gits_regs.specs.declared.values.NotValid.{NotValid}
+use Rattle.gits_regs.specs.declared.values.RegValues.{RegValues}
 use Rattle.its_maps.specs.MapsRoom.{MapsRoom}
 use Rattle.its_types.specs.declared.machine.Shape.{Shape}
 use Rattle.its_types.specs.declared.translation.Bases.{Bases}
 use Rattle.lpi_pending.specs.InHand.{in_hand}
 use Rattle.lpi_pending.specs.declared.redist.Redist.{Redist}
-use Rattle.owned_parts.specs.Owned.{HasLpisOf, redistributor_of}
+use Rattle.owned_parts.specs.Owned.{HasLpisOf, redistributor_of, translator_of, translators_of}
+use Rattle.owned_parts.specs.declared.parts.Translator.{Translator as TranslatorInHand}
 use Rattle.standing_states.specs.Walked.{after}
 use Rattle.standing_states.specs.Found.{look_device, put_found}
+use Rattle.table_restore.specs.declared.error.TableError.{TableError}
+use Rattle.table_restore.specs.declared.error.TableError.TheVariants as errors
 use Rattle.table_restore.specs.declared.error.RestoreError.{RestoreError}
-use Rattle.table_restore.specs.declared.error.RestoreError.TheVariants as errors
+use Rattle.table_restore.specs.declared.error.RestoreError.TheVariants as numbered
 use Rattle.table_restore.specs.declared.place.DevicePlace.{DevicePlace}
 use Rattle.table_restore.specs.declared.place.DevicePlace.TheVariants.{Level1, Entry}
 
@@ -45,7 +51,7 @@ LookedCollection s memory r i (Ok seen) =
 LookedCollection s memory r i (Err f) = collection_check s memory r i ≡ Err f
 
 -- what was to be read is in the maps, unless memory ran out
-abbrev pub Took : {X : Type 0} → (Maps → X → Maps) → Maps → Maps → Result (Unit {0}) RestoreError → Result (List X) RestoreFault → Type 0
+abbrev pub Took : {X : Type 0} → (Maps → X → Maps) → Maps → Maps → Result (Unit {0}) TableError → Result (List X) RestoreFault → Type 0
 Took put old new (Ok done) read = after put old read ≡ Ok new
 Took put old new (Err (errors.Fault f)) read = read ≡ Err f
 Took put old new (Err errors.NoMemory) read = Unit {0}
@@ -57,7 +63,7 @@ place_of (Level1 k) = spec.at_level1 k
 place_of (Entry k page index) = spec.at_entry k page.0 index
 
 -- the maps have what the place has, and it leads there
-abbrev pub LookedDevice : List Window → ℕ → Registers → spec.DevicePlace → Maps → Maps → Result (Option DevicePlace) RestoreError → Type 0
+abbrev pub LookedDevice : List Window → ℕ → Registers → spec.DevicePlace → Maps → Maps → Result (Option DevicePlace) TableError → Type 0
 LookedDevice memory lpi_bits r p old new (Ok to) = (after put_found old (look_device memory lpi_bits r p) ≡ Ok new)
     × (next_device memory r p ≡ option_map place_of to)
 LookedDevice memory lpi_bits r p old new (Err (errors.Fault f)) = look_device memory lpi_bits r p ≡ Err f
@@ -79,7 +85,7 @@ pub record IsOffRedist (s : Shape) (b : Bases) (r : Redist) : Type 0 where
   pub lpis : HasLpisOf s r
   pub is : redistributor_of r ≡ off_redistributor s b
 
-abbrev pub RestoredRedist : Shape → List Window → ℕ → Bases → Result Redist RestoreError → Type 0
+abbrev pub RestoredRedist : Shape → List Window → ℕ → Bases → Result Redist TableError → Type 0
 RestoredRedist s memory vcpu b (Ok r) = IsRestoredRedist s memory b r × (lacks_tables s memory b ≡ false)
 RestoredRedist s memory vcpu b (Err (errors.Fault f)) = (lacks_tables s memory b ≡ true) × (f ≡ BadRedist (record { 0 = vcpu }))
 RestoredRedist s memory vcpu b (Err errors.NoMemory) = Unit {0}
@@ -91,27 +97,63 @@ pub record AreRestoredRedists (s : Shape) (memory : List Window) (bases : List B
   pub each : (vcpu : ℕ) (b : Bases) → slice_get bases vcpu ≡ Some b → (r : Redist) × (in_hand redists vcpu ≡ Some r) × IsRestoredRedist s memory b r
   pub rest : (vcpu : ℕ) → length bases ≤ vcpu → in_hand redists vcpu ≡ None
 
-abbrev pub RestoredRedists : Shape → List Window → List Bases → Result (List (Option Redist)) RestoreError → Type 0
+abbrev pub RestoredRedists : Shape → List Window → List Bases → Result (List (Option Redist)) TableError → Type 0
 RestoredRedists s memory bases (Ok redists) = AreRestoredRedists s memory bases redists
 RestoredRedists s memory bases (Err (errors.Fault f)) = (vcpu : ℕ) × RedistributorOffends s memory bases vcpu × (f ≡ BadRedist (record { 0 = vcpu }))
 RestoredRedists s memory bases (Err errors.NoMemory) = Unit {0}
 
--- ---- the whole
+-- ---- a translator
 
 abbrev pub RestoredRegs : Result Registers RestoreFault → Result Registers NotValid → Type 0
 RestoredRegs (Ok r) restored = restored ≡ Ok r
 RestoredRegs (Err f) restored = (e : NotValid) × (restored ≡ Err e) × (f ≡ fault.NotValid e.0)
 
-abbrev pub RestoredMaps : Result MapsRoom RestoreError → Result Maps RestoreFault → Type 0
+abbrev pub RestoredMaps : Result MapsRoom TableError → Result Maps RestoreFault → Type 0
 RestoredMaps (Ok m) read = read ≡ Ok m.maps
 RestoredMaps (Err (errors.Fault f)) read = read ≡ Err f
 RestoredMaps (Err errors.NoMemory) read = Unit {0}
 
--- what is said of a fault, unless the host ran out of memory
-abbrev pub WhereFault : RestoreError → (RestoreFault → Type 0) → Type 0
-WhereFault (errors.Fault f) P = P f
-WhereFault errors.NoMemory P = Unit {0}
+abbrev pub RestoredTranslator : Shape → List Window → RegValues → Result TranslatorInHand TableError → Type 0
+RestoredTranslator s memory values (Ok t) = IsTranslatorIn s memory values (translator_of t)
+RestoredTranslator s memory values (Err (errors.Fault f)) = TranslatorOffends s memory values f
+RestoredTranslator s memory values (Err errors.NoMemory) = Unit {0}
 
-abbrev pub IfFault : {X : Type 0} → Result X RestoreError → (RestoreFault → Type 0) → Type 0
+-- a fault with the number of its translator
+abbrev pub with_number : ℕ → TableError → RestoreError
+with_number i (errors.Fault f) = numbered.Fault i f
+with_number i errors.NoMemory = numbered.NoMemory
+
+-- that of number i, which is at reset where there are no values for it
+abbrev pub BegunTranslator : ℕ → Shape → List Window → Option RegValues → Result TranslatorInHand RestoreError → Type 0
+BegunTranslator i s memory v (Ok t) = IsTranslatorFrom s memory v (translator_of t)
+BegunTranslator i s memory v (Err (numbered.Fault j f)) = (values : RegValues) × (v ≡ Some values) × (j ≡ i) × TranslatorOffends s memory values f
+BegunTranslator i s memory v (Err numbered.NoMemory) = Unit {0}
+
+-- ---- all translators
+
+pub record AreTranslatorsFrom (s : Shape) (memory : List Window) (values : List (Option RegValues)) (ts : List Translator) : Type 0 where
+  pub count : length ts ≡ length values
+  pub each : (i : ℕ) (v : Option RegValues) (t : Translator) → slice_get values i ≡ Some v → slice_get ts i ≡ Some t → IsTranslatorFrom s memory v t
+
+-- the first fault of one, whose number is i
+pub record IsFirstOf (s : Shape) (memory : List Window) (values : List (Option RegValues)) (i : ℕ) (f : RestoreFault) : Type 0 where
+  pub its : RegValues
+  pub its_are : slice_get values i ≡ Some (Some its)
+  pub before : (j : ℕ) (w : RegValues) → j < i → slice_get values j ≡ Some (Some w) → IsTranslatorClear s memory w
+  pub offends : TranslatorOffends s memory its f
+
+abbrev pub BegunTranslators : Shape → List Window → List (Option RegValues) → Result (TranslatorInHand × Option TranslatorInHand) RestoreError → Type 0
+BegunTranslators s memory values (Ok p) = AreTranslatorsFrom s memory values (translators_of p.0 p.1)
+BegunTranslators s memory values (Err (numbered.Fault i f)) = IsFirstOf s memory values i f
+BegunTranslators s memory values (Err numbered.NoMemory) = Unit {0}
+
+-- ---- the whole
+
+-- what is said of a fault and its translator's number, unless the host ran out of memory
+abbrev pub WhereFault : RestoreError → (ℕ → RestoreFault → Type 0) → Type 0
+WhereFault (numbered.Fault i f) P = P i f
+WhereFault numbered.NoMemory P = Unit {0}
+
+abbrev pub IfFault : {X : Type 0} → Result X RestoreError → (ℕ → RestoreFault → Type 0) → Type 0
 IfFault (Ok x) P = Unit {0}
 IfFault (Err e) P = WhereFault e P

@@ -8,7 +8,7 @@ ghost use Rattle.standing_states.specs.Found.{put_collection, collections_from, 
 ghost use Rattle.standing_states.specs.Found.{AreThoseBefore, one_collection};
 ghost use Rattle.table_restore.specs.Outcome.{LookedCollection, Took, fields_of};
 
-use crate::error::RestoreError;
+use crate::error::TableError;
 use crate::events::within;
 use gits_regs::Regs;
 use guest_windows::Memory;
@@ -69,7 +69,7 @@ fn map_one(maps: &mut Maps, seen: Option<(Icid, Vcpu)>) -> Result<(), AllocError
     Ok(())
 }
 
-fn walk(regs: &Regs, memory: &Memory, shape: Shape, maps: &mut Maps) -> Result<(), RestoreError>
+fn walk(regs: &Regs, memory: &Memory, shape: Shape, maps: &mut Maps) -> Result<(), TableError>
     requires { maps.old.maps ≡ no_maps }
     ensures { Took put_collection maps.old.maps maps.new.maps result
         (collections_from shape memory.now regs.now 0) }
@@ -78,7 +78,7 @@ fn walk(regs: &Regs, memory: &Memory, shape: Shape, maps: &mut Maps) -> Result<(
     'places: loop {
         let (collection, next) = match look(regs, memory, shape, maps, place) {
             Ok(seen) => seen,
-            Err(fault) => return Err(RestoreError::Fault(fault)),
+            Err(fault) => return Err(TableError::Fault(fault)),
         };
         map_one(maps, collection)?;
         let Some(to) = next else {
@@ -96,7 +96,7 @@ pub fn map_collections(
     memory: &Memory,
     shape: Shape,
     maps: &mut Maps,
-) -> Result<(), RestoreError>
+) -> Result<(), TableError>
     requires { maps.old.maps ≡ no_maps }
     ensures { Took put_collection maps.old.maps maps.new.maps result
         (collections_read shape memory.now regs.now) }

@@ -10,7 +10,7 @@ ghost use Rattle.standing_states.specs.Found.{devices_read, IsPlace};
 ghost use Rattle.table_restore.specs.Outcome.{LookedDevice, LookedLevel1, Took, place_of};
 ghost use Rattle.table_restore.specs.declared.place.DevicePlace.TheVariants as place;
 
-use crate::error::RestoreError;
+use crate::error::TableError;
 use crate::events::map_events;
 use crate::place::DevicePlace;
 use baser_place::{Level1, level1, level1_entries};
@@ -92,7 +92,7 @@ fn map_device(
     maps: &mut Maps,
     dev: DeviceId,
     device: Device,
-) -> Result<(), RestoreError>
+) -> Result<(), TableError>
     requires base { device.itt.0 < 2 ^ 52 }
     requires bits { device.bits ≤ 16 }
     ensures { Took (put_event dev.0) (device_mapped maps.old.maps dev.0 device) maps.new.maps result
@@ -112,21 +112,21 @@ fn look_entry(
     k: u32,
     page: Addr,
     index: u32,
-) -> Result<Option<DevicePlace>, RestoreError>
+) -> Result<Option<DevicePlace>, TableError>
     requires { IsPlace regs.now (spec.at_entry k page.0 index) }
     ensures { LookedDevice memory.now lpi_bits regs.now (spec.at_entry k page.0 index) maps.old.maps
         maps.new.maps result }
 {
     let addr = Addr(page.0 + 8 * u64::from(index));
     let Ok(word) = memory.read_u64(addr) else {
-        return Err(RestoreError::Fault(RestoreFault::OutsideTable(addr)));
+        return Err(TableError::Fault(RestoreFault::OutsideTable(addr)));
     };
     let Some(entry) = Dte::unpack(word) else {
         return Ok(goes_to(regs, k, page, index + 1));
     };
     let dev = 8192 * k + index;
     if entry.bits > 16 {
-        return Err(RestoreError::Fault(RestoreFault::BadSize(DeviceId(dev))));
+        return Err(TableError::Fault(RestoreFault::BadSize(DeviceId(dev))));
     }
     let device = Device {
         itt: entry.itt,
@@ -136,7 +136,7 @@ fn look_entry(
     let next = u32::from(entry.next);
     if !ends_well(regs, index, next) {
         let fault = RestoreFault::PastEnd(Table::Devices, dev, next);
-        return Err(RestoreError::Fault(fault));
+        return Err(TableError::Fault(fault));
     }
     if next == 0 {
         Ok(None)
@@ -163,7 +163,7 @@ fn look(
     lpi_bits: u8,
     maps: &mut Maps,
     place: DevicePlace,
-) -> Result<Option<DevicePlace>, RestoreError>
+) -> Result<Option<DevicePlace>, TableError>
     requires { IsPlace regs.now (place_of place) }
     ensures { LookedDevice memory.now lpi_bits regs.now (place_of place) maps.old.maps maps.new.maps
         result }
@@ -176,7 +176,7 @@ fn look(
     }
 }
 
-fn walk(regs: &Regs, memory: &Memory, lpi_bits: u8, maps: &mut Maps) -> Result<(), RestoreError>
+fn walk(regs: &Regs, memory: &Memory, lpi_bits: u8, maps: &mut Maps) -> Result<(), TableError>
     ensures { Took put_found maps.old.maps maps.new.maps result
         (devices_from memory.now lpi_bits regs.now (spec.first_device regs.now)) }
 {
@@ -200,7 +200,7 @@ pub fn map_devices(
     memory: &Memory,
     lpi_bits: u8,
     maps: &mut Maps,
-) -> Result<(), RestoreError>
+) -> Result<(), TableError>
     ensures { Took put_found maps.old.maps maps.new.maps result
         (devices_read memory.now lpi_bits regs.now) }
 {

@@ -7,7 +7,7 @@ ghost use Rattle.standing_states.specs.Walked.{after_all};
 ghost use Rattle.standing_states.specs.Found.{one_event, put_event, events_read};
 ghost use Rattle.table_restore.specs.Outcome.{LookedEvent, Took};
 
-use crate::error::RestoreError;
+use crate::error::TableError;
 use guest_windows::Memory;
 use its_maps::Maps;
 use its_plain::{RestoreFault, Table};
@@ -88,7 +88,7 @@ pub fn map_events(
     maps: &mut Maps,
     dev: DeviceId,
     device: Device,
-) -> Result<(), RestoreError>
+) -> Result<(), TableError>
     requires base { device.itt.0 < 2 ^ 52 }
     requires bits { device.bits ≤ 16 }
     requires mapped { IsSome (device_of maps.old.maps dev.0) }
@@ -99,7 +99,7 @@ pub fn map_events(
     'places: loop {
         let (event, next) = match look(memory, lpi_bits, dev, device, ev) {
             Ok(seen) => seen,
-            Err(fault) => return Err(RestoreError::Fault(fault)),
+            Err(fault) => return Err(TableError::Fault(fault)),
         };
         map_one(maps, dev, ev, event)?;
         let Some(to) = next else {

@@ -1,5 +1,8 @@
 //! The state that guest memory and register values stand for, or their first fault (KVM document
 //! arm-vgic-its, "ITS Restore Sequence").
+//!
+//! Restores have up to ten clauses: what is given has to be in hand and in range, and what comes
+//! out is told of state, parts and faults.
 #![tactic(auto)]
 
 mod collections;
@@ -9,6 +12,9 @@ mod events;
 mod parts;
 mod place;
 mod redists;
+mod track;
+mod translators;
 
 pub use error::RestoreError;
-pub use parts::{restore, restore_in};
+pub use parts::{restore, restore_in, restore_two};
+pub use track::fresh_track;

@@ -1,84 +1,66 @@
-ghost use Rattle.std.specs.Prelude.{◌≡◌, ◌≤◌, ◌∷◌, [], ℕ, Some, None, false, IfOk, IfErr};
-ghost use Rattle.gits_regs.specs.Registers as registers;
-ghost use Rattle.its_plain.specs.Sound.{IsShape, IsLayout};
+//! A whole machine, restored.
+ghost use Rattle.std.specs.Prelude.{◌≡◌, ◌≤◌, ◌∷◌, [], ℕ, Some, None, IfOk, IfErr, length};
+ghost use Rattle.its_plain.specs.Sound.{IsLayout};
 ghost use Rattle.its_plain.specs.Stands.{Stands, IsFirstFault};
 ghost use Rattle.lpi_pending.specs.InHand.{in_hand};
 ghost use Rattle.owned_parts.specs.Owned.{AreAllInHand, state_of, state_of_parts};
-ghost use Rattle.standing_states.specs.Found.{maps_read};
+ghost use Rattle.owned_parts.specs.Owned.{translators_of};
 ghost use Rattle.standing_states.specs.Laws.{bases_to_restore};
-ghost use Rattle.table_restore.specs.Outcome.{RestoredRegs, RestoredMaps, IfFault, WhereFault};
+ghost use Rattle.table_restore.specs.Outcome.{IfFault, WhereFault};
 
-use crate::collections::map_collections;
-use crate::devices::map_devices;
 use crate::error::RestoreError;
 use crate::redists::redists_of;
+use crate::track::fresh_track;
+use crate::translators::begin_all;
+use dirty_log::Tracked;
 use gicr_regs::GicrValues;
-use gits_regs::{NotValid, RegValues, Regs, restore_regs};
+use gits_regs::RegValues;
 use guest_windows::Memory;
-use its_maps::Maps;
-use its_plain::{Layout, RestoreFault};
-use its_types::Shape;
+use its_plain::Layout;
 use lpi_pending::Redists;
-use owned_parts::Parts;
+use owned_parts::{Parts, Translator};
 use std::alloc::Global;
-
-// The registers that the values give.
-fn regs_of(values: RegValues, shape: Shape) -> Result<Regs, RestoreFault>
-    requires { IsShape shape }
-    ensures { RestoredRegs result (registers.restored values shape.dev_bits) }
-{
-    match restore_regs(values, shape.dev_bits) {
-        Ok(regs) => Ok(regs),
-        Err(NotValid(register)) => Err(RestoreFault::NotValid(register)),
-    }
-}
-
-// The maps that the tables have.
-fn maps_of(alloc: Global, regs: &Regs, memory: &Memory, shape: Shape) -> Result<Maps, RestoreError>
-    ensures { RestoredMaps result (maps_read shape memory.now regs.now) }
-{
-    let mut maps = Maps::new(alloc);
-    map_collections(regs, memory, shape, &mut maps)?;
-    map_devices(regs, memory, shape.lpi_bits, &mut maps)?;
-    Ok(maps)
-}
 
 // What memory and register values stand for, but for the memory itself.
 #[derive(Drop)]
 struct Found {
     layout: Layout,
-    regs: Regs,
-    maps: Maps,
+    first: Translator,
+    second: Option<Translator>,
+    track: Option<Tracked>,
     redists: Redists,
 }
 
 fn find(
     alloc: Global,
-    values: RegValues,
+    values: &[Option<RegValues>],
     gicr: &GicrValues,
     memory: &Memory,
     layout: &Layout,
 ) -> Result<Found, RestoreError>
     requires layout { IsLayout layout.now }
-    requires track { layout.now.track ≡ false }
+    requires some { 1 ≤ length values.now }
+    requires most { length values.now ≤ 2 }
     ensures stands { IfOk result (λ f.
-        Stands memory.now (Some values ∷ []) layout.now (bases_to_restore layout.now gicr.now)
-        (state_of f.layout f.regs f.maps.maps memory.now f.redists)) }
+        Stands memory.now values.now layout.now (bases_to_restore layout.now gicr.now)
+        (state_of f.layout (translators_of f.first f.second) memory.now f.track f.redists)) }
     ensures layout { IfOk result (λ f. f.layout ≡ layout.now) }
     ensures in_hand { IfOk result (λ f. AreAllInHand layout.now.shape f.redists) }
     ensures no_others { IfOk result (λ f.
         (vcpu : ℕ) → layout.now.shape.vcpus ≤ vcpu → in_hand f.redists vcpu ≡ None) }
-    ensures fault { IfFault result (λ f.
-        IsFirstFault memory.now (Some values ∷ []) layout.now.shape
-        (bases_to_restore layout.now gicr.now) 0 f) }
+    ensures fault { IfFault result (IsFirstFault memory.now values.now layout.now.shape
+        (bases_to_restore layout.now gicr.now)) }
 {
-    let redists = redists_of(alloc, memory, gicr, layout)?;
-    let regs = regs_of(values, layout.shape)?;
-    let maps = maps_of(alloc, &regs, memory, layout.shape)?;
+    let redists = match redists_of(alloc, memory, gicr, layout) {
+        Ok(redists) => redists,
+        Err(error) => return Err(error.of(0)),
+    };
+    let (first, second) = begin_all(alloc, values, memory, layout.shape)?;
     Ok(Found {
         layout: layout.copy(alloc)?,
-        regs,
-        maps,
+        first,
+        second,
+        track: fresh_track(alloc, layout.track, memory)?,
         redists,
     })
 }
@@ -87,7 +69,8 @@ fn find(
 /// LPI registers stand for, with a copy of the memory, or their first fault. A redistributor
 /// whose LPIs are on and of which a table doesn't lie in one window is a fault before all
 /// others; then come the registers, the collections, and the devices with their events. Where the
-/// layout describes the LPI tables, the values of the LPI registers aren't looked at.
+/// layout describes the LPI tables, the values of the LPI registers aren't looked at. Where the
+/// machine has a second memory, that is zero, and every page is dirty.
 pub fn restore(
     alloc: Global,
     values: RegValues,
@@ -96,7 +79,6 @@ pub fn restore(
     layout: &Layout,
 ) -> Result<Parts, RestoreError>
     requires layout { IsLayout layout.now }
-    requires track { layout.now.track ≡ false }
     ensures stands { IfOk result (λ p.
         Stands memory.now (Some values ∷ []) layout.now (bases_to_restore layout.now gicr.now)
         (state_of_parts p)) }
@@ -105,9 +87,57 @@ pub fn restore(
     ensures in_hand { IfOk result (λ p. AreAllInHand layout.now.shape p.redists) }
     ensures no_others { IfOk result (λ p.
         (vcpu : ℕ) → layout.now.shape.vcpus ≤ vcpu → in_hand p.redists vcpu ≡ None) }
-    ensures fault { IfFault result (λ f.
-        IsFirstFault memory.now (Some values ∷ []) layout.now.shape
-        (bases_to_restore layout.now gicr.now) 0 f) }
+    ensures fault { IfFault result (IsFirstFault memory.now (Some values ∷ []) layout.now.shape
+        (bases_to_restore layout.now gicr.now)) }
+{
+    restore_copy(alloc, &[Some(values)], gicr, memory, layout)
+}
+
+/// The same of two translators. The faults of the first come before those of the second.
+pub fn restore_two(
+    alloc: Global,
+    first: RegValues,
+    second: RegValues,
+    gicr: &GicrValues,
+    memory: &Memory,
+    layout: &Layout,
+) -> Result<Parts, RestoreError>
+    requires layout { IsLayout layout.now }
+    ensures stands { IfOk result (λ p.
+        Stands memory.now (Some first ∷ Some second ∷ []) layout.now
+        (bases_to_restore layout.now gicr.now) (state_of_parts p)) }
+    ensures layout { IfOk result (λ p. p.layout ≡ layout.now) }
+    ensures copy { IfOk result (λ p. p.memory ≡ memory.now) }
+    ensures in_hand { IfOk result (λ p. AreAllInHand layout.now.shape p.redists) }
+    ensures no_others { IfOk result (λ p.
+        (vcpu : ℕ) → layout.now.shape.vcpus ≤ vcpu → in_hand p.redists vcpu ≡ None) }
+    ensures fault { IfFault result (IsFirstFault memory.now (Some first ∷ Some second ∷ [])
+        layout.now.shape (bases_to_restore layout.now gicr.now)) }
+{
+    restore_copy(alloc, &[Some(first), Some(second)], gicr, memory, layout)
+}
+
+// With a copy of the memory.
+fn restore_copy(
+    alloc: Global,
+    values: &[Option<RegValues>],
+    gicr: &GicrValues,
+    memory: &Memory,
+    layout: &Layout,
+) -> Result<Parts, RestoreError>
+    requires layout { IsLayout layout.now }
+    requires some { 1 ≤ length values.now }
+    requires most { length values.now ≤ 2 }
+    ensures stands { IfOk result (λ p.
+        Stands memory.now values.now layout.now (bases_to_restore layout.now gicr.now)
+        (state_of_parts p)) }
+    ensures layout { IfOk result (λ p. p.layout ≡ layout.now) }
+    ensures copy { IfOk result (λ p. p.memory ≡ memory.now) }
+    ensures in_hand { IfOk result (λ p. AreAllInHand layout.now.shape p.redists) }
+    ensures no_others { IfOk result (λ p.
+        (vcpu : ℕ) → layout.now.shape.vcpus ≤ vcpu → in_hand p.redists vcpu ≡ None) }
+    ensures fault { IfFault result (IsFirstFault memory.now values.now layout.now.shape
+        (bases_to_restore layout.now gicr.now)) }
 {
     let memory = memory.copy(alloc)?;
     match restore_in(alloc, values, gicr, memory, layout) {
@@ -116,18 +146,21 @@ pub fn restore(
     }
 }
 
-/// The same, with the memory itself in place of a copy. With an error it comes back as it was.
+/// The machine that memory, the values of the registers of one translator or two, and those of the
+/// redistributors' LPI registers stand for, with the memory itself, or their first fault. A
+/// translator without values is at reset. With an error the memory comes back as it was.
 pub fn restore_in(
     alloc: Global,
-    values: RegValues,
+    values: &[Option<RegValues>],
     gicr: &GicrValues,
     memory: Memory,
     layout: &Layout,
 ) -> Result<Parts, (Memory, RestoreError)>
     requires layout { IsLayout layout.now }
-    requires track { layout.now.track ≡ false }
+    requires some { 1 ≤ length values.now }
+    requires most { length values.now ≤ 2 }
     ensures stands { IfOk result (λ p.
-        Stands memory (Some values ∷ []) layout.now (bases_to_restore layout.now gicr.now)
+        Stands memory values.now layout.now (bases_to_restore layout.now gicr.now)
         (state_of_parts p)) }
     ensures layout { IfOk result (λ p. p.layout ≡ layout.now) }
     ensures memory { IfOk result (λ p. p.memory ≡ memory) }
@@ -135,17 +168,17 @@ pub fn restore_in(
     ensures no_others { IfOk result (λ p.
         (vcpu : ℕ) → layout.now.shape.vcpus ≤ vcpu → in_hand p.redists vcpu ≡ None) }
     ensures fault { IfErr result (λ e.
-        WhereFault e.1 (λ f.
-        IsFirstFault memory (Some values ∷ []) layout.now.shape
-        (bases_to_restore layout.now gicr.now) 0 f)) }
+        WhereFault e.1 (IsFirstFault memory values.now layout.now.shape
+        (bases_to_restore layout.now gicr.now))) }
     ensures back { IfErr result (λ e. e.0 ≡ memory) }
 {
     match find(alloc, values, gicr, &memory, layout) {
         Ok(found) => Ok(Parts {
             layout: found.layout,
-            regs: found.regs,
-            maps: found.maps,
+            first: found.first,
+            second: found.second,
             memory,
+            track: found.track,
             redists: found.redists,
         }),
         Err(error) => Err((memory, error)),

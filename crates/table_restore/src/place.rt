@@ -1,3 +1,4 @@
+//! Places of the walk over a device table.
 use its_types::Addr;
 
 /// A place of the walk over a device table.

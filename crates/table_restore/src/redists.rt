@@ -8,7 +8,7 @@ ghost use Rattle.its_plain.specs.Stands.{ArePendingIn};
 ghost use Rattle.standing_states.specs.Laws.{bases_to_restore};
 ghost use Rattle.table_restore.specs.Outcome.{IsOffRedist, RestoredRedist, RestoredRedists};
 
-use crate::error::RestoreError;
+use crate::error::TableError;
 use gicr_regs::{GicrValues, restored_bases};
 use guest_windows::Memory;
 use its_plain::{Layout, RestoreFault};
@@ -49,16 +49,16 @@ fn on_redist(
     shape: Shape,
     vcpu: Vcpu,
     bases: Bases,
-) -> Result<Redist, RestoreError>
+) -> Result<Redist, TableError>
     requires shape { IsShape shape }
     requires on { bases.on ≡ true }
     ensures { RestoredRedist shape memory.now vcpu.0 bases result }
 {
     if !memory.inside(bases.prop.table, shape.lpi_count()) {
-        return Err(RestoreError::Fault(RestoreFault::BadRedist(vcpu)));
+        return Err(TableError::Fault(RestoreFault::BadRedist(vcpu)));
     }
     if !memory.inside(bases.pend.table, shape.pending_bytes()) {
-        return Err(RestoreError::Fault(RestoreFault::BadRedist(vcpu)));
+        return Err(TableError::Fault(RestoreFault::BadRedist(vcpu)));
     }
     let config = Config::load(alloc, memory, bases.prop.table, shape.lpi_bits)?;
     let pending = pending_of(alloc, memory, bases.pend.table, shape)?;
@@ -88,7 +88,7 @@ fn redist_of(
     shape: Shape,
     vcpu: Vcpu,
     bases: Bases,
-) -> Result<Redist, RestoreError>
+) -> Result<Redist, TableError>
     requires shape { IsShape shape }
     ensures { RestoredRedist shape memory.now vcpu.0 bases result }
 {
@@ -120,7 +120,7 @@ pub fn redists_of(
     memory: &Memory,
     gicr: &GicrValues,
     layout: &Layout,
-) -> Result<Redists, RestoreError>
+) -> Result<Redists, TableError>
     requires { IsLayout layout.now }
     ensures redists { RestoredRedists layout.now.shape memory.now
         (bases_to_restore layout.now gicr.now) result }

@@ -6,7 +6,7 @@ use Rattle.std.specs.List.{flat_map}
 use Rattle.std.specs.FinMap as finmap
 use Rattle.std.specs.FinMap.{get-entries}
 use Rattle.guest_windows.specs.Windows.{Window}
-use Rattle.gits_regs.specs.Registers.{Registers, is_valid, is_indirect, table_base}
+use Rattle.gits_regs.specs.Registers.{is_valid, is_indirect, table_base}
 use Rattle.baser_place.specs.Places.{level1_entries}
 use Rattle.its_types.specs.Maps.{Maps, device_of, event_of}
 use Rattle.its_types.specs.declared.ids.Addr.{Addr}
@@ -17,10 +17,11 @@ use Rattle.its_plain.specs.Plain.{Translator}
 use Rattle.its_plain.specs.Saved.{Words, put_words, put_tables, device_words, collection_words, pending_words, translator_words, words_of, distance}
 use Rattle.its_plain.specs.Saved.{device_after, event_after, device_entry, event_entry, page_words, device_word, event_word, itt_words, pages_words}
 use Rattle.table_save.specs.Pass.{packed_if, pack_device, pack_event, key_after, device_entry_word, event_entry_word}
-use Rattle.table_save.specs.Tables.{all_tables, ArePages, address_of, page_at, page_table, page_tables, itt_tables}
-use Rattle.its_plain.specs.declared.layout.Layout.{Layout}
-use Rattle.lpi_pending.specs.declared.redist.Redist.{Redist}
-use Rattle.owned_parts.specs.Owned.{state_of}
+use Rattle.table_save.specs.Tables.{ArePages, address_of, page_at, page_table, page_tables, itt_tables}
+use Rattle.owned_parts.specs.Owned.{state_in_place, translator_at, translators_at}
+use Rattle.owned_parts.specs.declared.in_place.TranslatorRef.{TranslatorRef}
+use Rattle.owned_parts.specs.declared.in_place.InPlace.{InPlace}
+use Rattle.table_save.specs.Fits.{words_at, second_words}
 use Rattle.table_save.specs.Areas.{redistributors_of}
 use Rattle.its_plain.specs.Regions.{device_pages}
 use Rattle.table_save.proofs.Written.{same_words, tables_append}
@@ -72,25 +73,25 @@ pages_are t memory pages (suc n) h le =
 
 -- ---- the device table
 
-pub pages_written : (t : Translator) (memory now : List Window) (pages : List (Option Addr)) → is_valid t.regs.baser0 ≡ true → is_indirect t.regs.baser0 ≡ true
-    → ArePages t.regs memory pages
-    → now ≡ put_tables memory (page_tables (finmap.entries t.maps.devices) 8192 pages (length pages)) → now ≡ put_tables memory (device_words t memory)
+pub pages_written : (t : Translator) (from memory now : List Window) (pages : List (Option Addr)) → is_valid t.regs.baser0 ≡ true → is_indirect t.regs.baser0 ≡ true
+    → ArePages t.regs from pages
+    → now ≡ put_tables memory (page_tables (finmap.entries t.maps.devices) 8192 pages (length pages)) → now ≡ put_tables memory (device_words t from)
 unfolding device_words
-pages_written t memory now pages valid indirect h wrote =
-    let two : List Words = pages_words t memory (level1_entries t.regs.dev_bits) in
+pages_written t from memory now pages valid indirect h wrote =
+    let two : List Words = pages_words t from (level1_entries t.regs.dev_bits) in
     let one : List Words = record { base = table_base t.regs.baser0; count = 8192 * device_pages t.regs; word = device_word t.maps } ∷ [] in
     let counted : page_tables (finmap.entries t.maps.devices) 8192 pages (length pages) ≡ two =
-    pages_are t memory pages (length pages) h (le_refl (length pages)) ∙ ap (pages_words t memory) h.count in
+    pages_are t from pages (length pages) h (le_refl (length pages)) ∙ ap (pages_words t from) h.count in
     wrote ∙ ap (put_tables memory) (counted ∙ sym (ap (λ b. cond (not b) [] (cond (is_indirect t.regs.baser0) two one)) valid
     ∙ ap (λ b. cond b two one) indirect))
 
-pub flat_written : (t : Translator) (memory now : List Window) (base count : ℕ) (front : List (ℕ × Device)) → is_valid t.regs.baser0 ≡ true
+pub flat_written : (t : Translator) (from memory now : List Window) (base count : ℕ) (front : List (ℕ × Device)) → is_valid t.regs.baser0 ≡ true
     → is_indirect t.regs.baser0 ≡ false
     → base ≡ table_base t.regs.baser0 → count ≡ 8192 * device_pages t.regs → front ≡ finmap.entries t.maps.devices
-    → now ≡ put_words memory base (λ i. device_entry_word front (0 + i)) count → now ≡ put_tables memory (device_words t memory)
+    → now ≡ put_words memory base (λ i. device_entry_word front (0 + i)) count → now ≡ put_tables memory (device_words t from)
 unfolding device_words
-flat_written t memory now base count front valid flat at size all wrote =
-    let two : List Words = pages_words t memory (level1_entries t.regs.dev_bits) in
+flat_written t from memory now base count front valid flat at size all wrote =
+    let two : List Words = pages_words t from (level1_entries t.regs.dev_bits) in
     let n = 8192 * device_pages t.regs in
     let one : List Words = record { base = table_base t.regs.baser0; count = n; word = device_word t.maps } ∷ [] in
     let each : (i : ℕ) → i < count → device_entry_word front (0 + i) ≡ device_word t.maps i =
@@ -101,19 +102,28 @@ flat_written t memory now base count front valid flat at size all wrote =
 
 -- ---- all tables
 
-pub all_written : (memory one two three four : List Window) (ds cs is ps : List Words) → one ≡ put_tables memory ds → two ≡ put_tables one cs
-    → three ≡ put_tables two is → four ≡ put_tables three ps
-    → four ≡ put_tables memory (ds ++ cs ++ is ++ ps)
-all_written memory one two three four ds cs is ps a b c d =
-    d ∙ ap (λ m. put_tables m ps) (c ∙ ap (λ m. put_tables m is) (b ∙ ap (λ m. put_tables m cs) a ∙ sym (tables_append memory ds cs))
-    ∙ sym (tables_append memory (ds ++ cs) is))
-    ∙ sym (tables_append memory (ds ++ cs ++ is) ps)
+pub all_written : (memory one two three : List Window) (ts us ps : List Words) → one ≡ put_tables memory ts → two ≡ put_tables one us
+    → three ≡ put_tables two ps → three ≡ put_tables memory ((ts ++ us) ++ ps)
+all_written memory one two three ts us ps a b c =
+    c ∙ ap (λ m. put_tables m ps) (b ∙ ap (λ m. put_tables m us) a)
+    ∙ sym (tables_append memory (ts ++ us) ps ∙ ap (λ m. put_tables m ps) (tables_append memory ts us))
 
-pub words_are : (l : Layout) (r : Registers) (m : Maps) (memory : List Window) (redists : List (Option Redist))
-    → all_tables memory r m (redistributors_of l.shape redists) l.shape ≡ words_of (state_of l r m memory redists)
-unfolding words_of translator_words
-words_are l r m memory redists =
-    let t : Translator = record { regs = r; maps = m } in
-    let ps = flat_map (pending_words l.shape) (redistributors_of l.shape redists) in
-    ap (λ is. device_words t memory ++ collection_words t ++ is ++ ps) (itts_are m)
-    ∙ sym (ap (λ ts. ts ++ ps) (append-nil (device_words t memory ++ collection_words t ++ itt_words m)))
+translator_is : (memory : List Window) (t : TranslatorRef) → words_at memory t ≡ translator_words memory (translator_at t)
+unfolding translator_words
+translator_is memory t =
+    let u : Translator = translator_at t in
+    ap (λ is. device_words u memory ++ collection_words u ++ is) (itts_are u.maps)
+
+translators_are : (memory : List Window) (first : TranslatorRef) (second : Option TranslatorRef) → words_at memory first ++ second_words memory second
+    ≡ flat_map (translator_words memory) (translators_at first second)
+translators_are memory first None = ap (λ ws. ws ++ []) (translator_is memory first)
+translators_are memory first (Some t) =
+    ap (λ ws. ws ++ words_at memory t) (translator_is memory first)
+    ∙ ap (λ ws. translator_words memory (translator_at first) ++ ws) (translator_is memory t ∙ sym (append-nil (translator_words memory (translator_at t))))
+
+pub words_are : (p : InPlace) → (words_at p.memory.now p.first ++ second_words p.memory.now p.second)
+    ++ flat_map (pending_words p.layout.now.shape) (redistributors_of p.layout.now.shape p.redists.now) ≡ words_of (state_in_place p)
+unfolding words_of
+words_are p =
+    ap (λ ws. ws ++ flat_map (pending_words p.layout.now.shape) (redistributors_of p.layout.now.shape p.redists.now))
+    (translators_are p.memory.now p.first p.second)

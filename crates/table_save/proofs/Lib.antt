@@ -8,3 +8,5 @@ pub mod Written
 pub mod Entries
 pub mod SoundState
 pub mod Tested
+pub mod Marked
+pub mod Listed

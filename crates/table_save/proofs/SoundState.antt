@@ -1,7 +1,7 @@
 -- What a sound state says of the parts in hand.
 use Rattle.std.proofs.Common.{◌≡◌, ℕ, zero, suc, ◌+◌, ◌-◌, ◌<◌, ◌≤◌, ◌^◌, true, false, List, [], ◌∷◌, map, take, Option, Some, None, inl, inr, refl, sym, ap}
 use Rattle.std.proofs.Common.{◌∙◌, arith}
-use Rattle.std.specs.Prelude.{◌&&◌, nat_lt, nat_le, length, slice_get}
+use Rattle.std.specs.Prelude.{◌&&◌, nat_lt, nat_le, length, slice_get, IfSome}
 use Rattle.std.specs.List.{AllByRecursion, list_all}
 use Rattle.std.specs.Ordering.{nat_cmp}
 use Rattle.std.specs.FinMap as finmap
@@ -9,18 +9,24 @@ use Rattle.std.specs.FinMap.{get-entries}
 use Rattle.std.proofs.lemmas.Bool.{and_parts, or_cases, leb-true, cases_lt}
 use Rattle.guest_windows.specs.Windows.{Window, has, inside, are_windows, in_range, share_no_byte, extent}
 use Rattle.guest_windows.proofs.Laws.{has-fits}
-use Rattle.gits_regs.specs.Registers.{Registers}
 use Rattle.gicr_regs.specs.Registers.{AreLow}
 use Rattle.its_types.specs.Ranges.{lpi_count, pending_bytes}
 use Rattle.std.proofs.Math.Pow.{pow_mono}
 use Rattle.its_types.specs.Maps.{Maps}
 use Rattle.its_types.specs.Maps.{events_at}
+use Rattle.dirty_log.specs.declared.tracked.Tracked.{Tracked}
+use Rattle.its_types.specs.declared.machine.Shape.{Shape}
+use Rattle.its_plain.specs.Plain.{Translator}
 use Rattle.its_plain.specs.Sound.{IsSound, IsTranslator}
 use Rattle.its_plain.specs.declared.layout.Layout.{Layout}
 use Rattle.lpi_pending.specs.InHand.{in_hand}
 use Rattle.lpi_pending.specs.declared.redist.Redist.{Redist}
-use Rattle.owned_parts.specs.Owned.{state_of, redistributor_of, redistributor_or}
+use Rattle.owned_parts.specs.Owned.{AreAllInHand, state_of, redistributor_of, redistributor_or, one_or_two, translator_at, translators_at}
+use Rattle.owned_parts.specs.declared.in_place.TranslatorRef.{TranslatorRef}
+use Rattle.owned_parts.specs.declared.in_place.InPlace.{InPlace}
+use Rattle.std.specs.Option.{option_map}
 use Rattle.table_save.specs.Areas.{HasLowTable, HaveLowTables}
+use Rattle.table_save.specs.Fits.{AreOfSound, FitsSave, FitsTranslator}
 use Rattle.table_save.specs.Pass.{RisesFrom, FitsDevice, FitsEvent}
 use Rattle.standing_states.proofs.EventsOf.{events_rise, find_of_device}
 use Rattle.table_save.proofs.Rises.{find_here, find_skips, rises_none, map_rises}
@@ -74,24 +80,35 @@ in_hand_here zero v (x ∷ xs) r lt is = absurd (omega arith)
 in_hand_here (suc n) zero (x ∷ xs) r lt is = ap (λ (o : Option Redist). Some (redistributor_or o)) is
 in_hand_here (suc n) (suc v) (x ∷ xs) r lt is = in_hand_here n v xs r (omega arith) is
 
-module _ (l : Layout) (r : Registers) (m : Maps) (memory : List Window) (redists : List (Option Redist)) (sound : IsSound (state_of l r m memory redists)) where
-  translator : IsTranslator l.shape (record { regs = r; maps = m })
-  translator = sound.translators 0 (record { regs = r; maps = m }) refl
+-- ---- a translator
 
-  pub devices_fit : AllByRecursion FitsDevice (finmap.entries m.devices)
-  devices_fit = each_found FitsDevice 0 (finmap.entries m.devices) (map_rises m.devices) (λ k x is.
-      let h = translator.devices k x (get-entries m.devices k ∙ is) in (h.itt_low, h.itt_whole, h.least_bits, h.most_bits))
+fits_translator : (s : Shape) (t : TranslatorRef) → IsTranslator s (translator_at t) → FitsTranslator t
+fits_translator s t sound =
+    let m : Maps = t.maps.now.maps in
+    record {
+      tables = each_found HasLowTable 0 (finmap.entries m.devices) (map_rises m.devices) (λ k x is.
+          let h = sound.devices k x (get-entries m.devices k ∙ is) in (h.itt_low, h.most_bits));
+      devices = each_found FitsDevice 0 (finmap.entries m.devices) (map_rises m.devices) (λ k x is.
+          let h = sound.devices k x (get-entries m.devices k ∙ is) in (h.itt_low, h.itt_whole, h.least_bits, h.most_bits));
+      events = λ dev. each_found FitsEvent 0 (events_at m dev) (events_rise m dev) (λ k x is.
+          let h = sound.events dev k x (get-entries m.events (dev, k) ∙ sym (find_of_device dev k (finmap.entries m.events)) ∙ is) in
+          let low = leb-true 8192 x.intid.0 (and_parts (nat_le 8192 x.intid.0) (nat_lt x.intid.0 (2 ^ s.lpi_bits)) h.lpi).0 in
+          omega (arith, low));
+    }
 
-  pub tables_low : AllByRecursion HasLowTable (finmap.entries m.devices)
-  tables_low = each_found HasLowTable 0 (finmap.entries m.devices) (map_rises m.devices) (λ k x is.
-      let h = translator.devices k x (get-entries m.devices k ∙ is) in (h.itt_low, h.most_bits))
+first_of : (first : Translator) (second : Option Translator) → slice_get (one_or_two first second) 0 ≡ Some first
+first_of first None = refl
+first_of first (Some t) = refl
 
-  pub events_fit : (dev : ℕ) → AllByRecursion FitsEvent (events_at m dev)
-  events_fit dev = each_found FitsEvent 0 (events_at m dev) (events_rise m dev) (λ k x is.
-      let h = translator.events dev k x (get-entries m.events (dev, k) ∙ sym (find_of_device dev k (finmap.entries m.events)) ∙ is) in
-      let low = leb-true 8192 x.intid.0 (and_parts (nat_le 8192 x.intid.0) (nat_lt x.intid.0 (2 ^ l.shape.lpi_bits)) h.lpi).0 in
-      omega (arith, low))
+second_fits : (s : Shape) (first : Translator) (second : Option TranslatorRef)
+    → ((t : Translator) → slice_get (one_or_two first (option_map translator_at second)) 1 ≡ Some t → IsTranslator s t) → IfSome second FitsTranslator
+second_fits s first None h = tt
+second_fits s first (Some t) h = fits_translator s t (h (translator_at t) refl)
 
+-- ---- the redistributors
+
+module _ (l : Layout) (ts : List Translator) (memory : List Window) (track : Option Tracked) (redists : List (Option Redist))
+    (sound : IsSound (state_of l ts memory track redists)) where
   pub redistributors_low : HaveLowTables l.shape redists
   redistributors_low = λ v q is lt.
       let h = sound.redistributors v (redistributor_of q) (in_hand_here l.shape.vcpus v redists q lt is) in
@@ -110,3 +127,18 @@ module _ (l : Layout) (r : Registers) (m : Maps) (memory : List Window) (redists
               | false ↦ λ none. absurd (let two : true ≡ false = sym (h.always_on none) ∙ off in cc)
             ] refl
       ] refl
+
+-- ---- all parts
+
+pub fits : (p : InPlace) → AreAllInHand p.layout.now.shape p.redists.now → AreOfSound p → FitsSave p
+fits p all h =
+    let ts = translators_at p.first p.second in
+    let l = p.layout.now in
+    record {
+      shape = h.1.layout.shape;
+      in_hand = all;
+      low = redistributors_low l ts p.memory.now h.0 p.redists.now h.1;
+      first = fits_translator l.shape p.first
+          (h.1.translators 0 (translator_at p.first) (first_of (translator_at p.first) (option_map translator_at p.second)));
+      second = second_fits l.shape (translator_at p.first) p.second (λ t is. h.1.translators 1 t is);
+    }

@@ -16,7 +16,7 @@ use Rattle.its_plain.specs.Regions as regions
 use Rattle.its_plain.specs.declared.area.Area.{Area}
 use Rattle.its_plain.specs.declared.layout.Layout.{Layout}
 use Rattle.gicr_regs.specs.Registers.{AreLow}
-use Rattle.its_plain.specs.Regions.{device_areas, collection_areas, itt_area, areas_from, queue_area}
+use Rattle.its_plain.specs.Regions.{device_areas, collection_areas, itt_area, areas_from}
 use Rattle.its_plain.specs.declared.fault.Region.TheVariants.{Pending, Config, ConfigOf}
 use Rattle.lpi_pending.specs.InHand.{in_hand}
 use Rattle.lpi_pending.specs.declared.redist.Redist.{Redist}
@@ -61,8 +61,7 @@ HaveLowTables shape redists = (vcpu : ℕ) (r : Redist) → in_hand redists vcpu
 abbrev pub tables_in : ℕ → List Window → Registers → Maps → List Area
 tables_in its memory r m = device_areas its r memory ++ collection_areas its r ++ itt_areas its (entries m.devices)
 
--- with the others after them
-abbrev pub all_areas : List Area → Layout → Registers → List (Option Redist) → List Area
-all_areas tables l r redists =
-    tables ++ areas_from (regions.pending_area l.shape) 0 (redistributors_of l.shape redists) ++ config_areas l (redistributors_of l.shape redists)
-    ++ queue_area 0 r
+-- with the others after them, of which the queues come last
+abbrev pub all_areas : List Area → Layout → List Area → List (Option Redist) → List Area
+all_areas tables l queues redists =
+    tables ++ areas_from (regions.pending_area l.shape) 0 (redistributors_of l.shape redists) ++ config_areas l (redistributors_of l.shape redists) ++ queues

@@ -1,9 +1,11 @@
 -- What the tests before a save find.
-use Rattle.std.specs.Prelude.{◌≡◌, ℕ, Option, Some, None, Result, Ok, Err, List}
+use Rattle.std.specs.Prelude.{◌≡◌, ℕ, Option, Some, None, Result, Ok, Err, List, find}
+use Rattle.std.specs.FinMap.{entries}
 use Rattle.guest_windows.specs.Windows.{Window}
 use Rattle.its_types.specs.declared.translation.Device.{Device}
 use Rattle.its_plain.specs.Plain.{Plain}
-use Rattle.its_plain.specs.Regions.{savable}
+use Rattle.its_plain.specs.Regions.{savable, has_no_place}
+use Rattle.owned_parts.specs.declared.in_place.TranslatorRef.{TranslatorRef}
 use Rattle.its_plain.specs.Saved.{saved}
 use Rattle.its_plain.specs.declared.area.Area.{Area}
 use Rattle.its_plain.specs.declared.fault.SaveFault.{SaveFault}
@@ -20,6 +22,11 @@ outside_fault (Some area) = Err (Outside area.region)
 abbrev pub unplaced_fault : ℕ → Option (ℕ × Device) → Result (Unit {0}) SaveFault
 unplaced_fault its None = Ok tt
 unplaced_fault its (Some d) = Err (NoPlace its (record { 0 = d.0 }))
+
+-- that of the second translator, if there is one
+abbrev pub second_unplaced : List Window → Option TranslatorRef → Result (Unit {0}) SaveFault
+second_unplaced memory None = Ok tt
+second_unplaced memory (Some t) = unplaced_fault 1 (find (has_no_place t.regs.now memory) (entries t.maps.now.maps.devices))
 
 -- the first area that clashes with one
 abbrev pub clash_fault : Area → Option Area → Result (Unit {0}) SaveFault

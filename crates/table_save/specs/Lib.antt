@@ -4,3 +4,5 @@ pub mod Pass
 pub mod Edges
 pub mod Rooms
 pub mod Tables
+pub mod Stretches
+pub mod Fits

@@ -8,9 +8,7 @@ use Rattle.baser_place.specs.Places.{level1_of, level1_entries, page_of}
 use Rattle.its_types.specs.declared.ids.Addr.{Addr}
 use Rattle.its_types.specs.declared.translation.Device.{Device}
 use Rattle.std.specs.FinMap.{entries}
-use Rattle.its_types.specs.declared.machine.Shape.{Shape}
-use Rattle.its_plain.specs.Plain.{Redistributor}
-use Rattle.its_plain.specs.Saved.{Words, device_words, collection_words, pending_words}
+use Rattle.its_plain.specs.Saved.{Words, device_words, collection_words}
 use Rattle.table_save.specs.Pass.{device_entry_word, event_entry_word}
 use Rattle.table_entries.specs.Words.{packed_collection}
 use Rattle.its_types.specs.Maps.{events_at}
@@ -65,9 +63,8 @@ abbrev pub collection_entry : Option (Icid × Vcpu) → ℕ
 collection_entry None = 0
 collection_entry (Some c) = packed_collection (record { vcpu_number = c.1.0; icid = c.0.0 })
 
--- ---- all of them
+-- ---- all of a translator
 
-abbrev pub all_tables : List Window → Registers → Maps → List Redistributor → Shape → List Words
-all_tables memory r m rs shape =
+abbrev pub translator_tables : List Window → Registers → Maps → List Words
+translator_tables memory r m =
     device_words (record { regs = r; maps = m }) memory ++ collection_words (record { regs = r; maps = m }) ++ itt_tables m (entries m.devices)
-    ++ flat_map (pending_words shape) rs

@@ -1,3 +1,4 @@
+//! Stretches of guest memory that a save looks at.
 use guest_windows::Memory;
 use its_plain::{Area, Region};
 use its_types::Addr;

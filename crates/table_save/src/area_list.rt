@@ -1,3 +1,4 @@
+//! Stretches in a list whose room was made beforehand.
 use crate::area::Stretch;
 use std::alloc::{AllocError, Global};
 use std::marker::Model;

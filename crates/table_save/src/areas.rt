@@ -1,6 +1,6 @@
 //! The stretches of guest memory that a save looks at.
 
-ghost use Rattle.std.specs.Prelude.{◌≡◌, ◌+◌, ◌*◌, ◌≤◌, ◌<◌, ◌^◌, length};
+ghost use Rattle.std.specs.Prelude.{◌≡◌, ◌+◌, ◌*◌, ◌≤◌, ◌<◌, ◌^◌, length, IfSome};
 ghost use Rattle.std.specs.FinMap.{entries};
 ghost use Rattle.std.specs.List.{AllByRecursion};
 ghost use Rattle.baser_place.specs.Places as places;
@@ -10,7 +10,10 @@ ghost use Rattle.its_plain.specs.Sound.{IsShape};
 ghost use Rattle.owned_parts.specs.Owned.{AreAllInHand};
 ghost use Rattle.table_save.specs.Areas.{itt_areas, redistributors_of};
 ghost use Rattle.table_save.specs.Areas.{pending_area, own_config_area, config_areas};
-ghost use Rattle.table_save.specs.Areas.{HasLowTable, HaveLowTables};
+ghost use Rattle.table_save.specs.Areas.{HasLowTable, HaveLowTables, all_areas};
+ghost use Rattle.table_save.specs.Fits.{FitsSave, FitsTranslator, all_count, device_count};
+ghost use Rattle.table_save.specs.Fits.{second_count, second_tables, second_queue, queues_of};
+ghost use Rattle.table_save.specs.Fits.{tables_at, tables_of};
 ghost use Rattle.table_save.specs.Rooms.{Appended, HasRoom};
 
 use crate::area::Stretch;
@@ -22,13 +25,47 @@ use its_maps::Maps;
 use its_plain::{Layout, Region};
 use its_types::{Bases, Device, DeviceId, Shape, Vcpu};
 use lpi_pending::Redists;
+use owned_parts::{InPlace, TranslatorRef};
 
 // A page of 64 KiB.
 const PAGE: u64 = 65536;
 
-/// Appends those of a translator's device table.
+/// Appends the areas of all translators that have to lie in one window each.
+pub fn add_tables(areas: &mut AreaList, parts: &InPlace<'_>)
+    requires fits { FitsSave parts.now }
+    requires room { HasRoom (all_count parts.now + 260) areas.old }
+    ensures { Appended (all_count parts.now + 260) (tables_of parts.now) areas.old areas.new }
+{
+    add_tables_of(areas, 0, parts.first, parts.memory);
+    add_second_tables(areas, parts.second, parts.memory);
+}
+
+fn add_second_tables(areas: &mut AreaList, second: Option<TranslatorRef<'_>>, memory: &Memory)
+    requires fits { IfSome second FitsTranslator }
+    requires room { HasRoom (second_count second + 130) areas.old }
+    ensures { Appended (second_count second.entry + 130) (second_tables memory.now second.entry)
+        areas.old areas.new }
+{
+    if let Some(translator) = second {
+        add_tables_of(areas, 1, translator, memory);
+    }
+}
+
+// Those of one translator.
+fn add_tables_of(areas: &mut AreaList, its: u8, translator: TranslatorRef<'_>, memory: &Memory)
+    requires fits { FitsTranslator translator }
+    requires room { HasRoom (device_count translator + 130) areas.old }
+    ensures { Appended (device_count translator.entry + 130)
+        (tables_at its memory.now translator.entry) areas.old areas.new }
+{
+    add_devices(areas, its, translator.regs, memory);
+    add_collections(areas, its, translator.regs);
+    add_itts(areas, its, translator.maps);
+}
+
+// Appends those of a translator's device table.
 #[tactic(auto, unfolding(its_plain::specs::Regions::device_areas))]
-pub fn add_devices(areas: &mut AreaList, its: u8, regs: &Regs, memory: &Memory)
+fn add_devices(areas: &mut AreaList, its: u8, regs: &Regs, memory: &Memory)
     requires room { HasRoom 129 areas.old }
     ensures { Appended 129 (spec.device_areas its regs.now memory.now) areas.old areas.new }
 {
@@ -80,8 +117,8 @@ fn add_page(areas: &mut AreaList, its: u8, k: u32, entry: Level1)
     }
 }
 
-/// Appends that of a translator's collection table.
-pub fn add_collections(areas: &mut AreaList, its: u8, regs: &Regs)
+// Appends that of a translator's collection table.
+fn add_collections(areas: &mut AreaList, its: u8, regs: &Regs)
     requires room { HasRoom 1 areas.old }
     ensures { Appended 1 (spec.collection_areas its regs.now) areas.old areas.new }
 {
@@ -91,8 +128,8 @@ pub fn add_collections(areas: &mut AreaList, its: u8, regs: &Regs)
     }
 }
 
-/// Appends those of a translator's interrupt translation tables, by rising DeviceID.
-pub fn add_itts(areas: &mut AreaList, its: u8, maps: &Maps)
+// Appends those of a translator's interrupt translation tables, by rising DeviceID.
+fn add_itts(areas: &mut AreaList, its: u8, maps: &Maps)
     requires room { HasRoom (length (entries maps.now.maps.devices)) areas.old }
     requires devices { AllByRecursion HasLowTable (entries maps.now.maps.devices) }
     ensures { Appended (length (entries maps.now.maps.devices))
@@ -111,8 +148,8 @@ fn itt_area(its: u8, dev: DeviceId, device: Device) -> Stretch
     Stretch::written(Region::Itt(its, dev), device.itt.0, 8 * (1 << device.bits))
 }
 
-/// Appends those of the pending tables, but for the bytes that belong to no LPI.
-pub fn add_pending(areas: &mut AreaList, redists: &Redists, shape: Shape)
+// Appends those of the pending tables, but for the bytes that belong to no LPI.
+fn add_pending(areas: &mut AreaList, redists: &Redists, shape: Shape)
     requires room { HasRoom 16 areas.old }
     requires shape { IsShape shape }
     requires in_hand { AreAllInHand shape redists.now }
@@ -139,9 +176,9 @@ fn add_pending_of(areas: &mut AreaList, vcpu: Vcpu, bases: Bases, shape: Shape)
     }
 }
 
-/// Appends that of the configuration table, which all virtual processors share; or where the guest
-/// programs the LPI registers, that of each whose LPIs are on.
-pub fn add_configs(areas: &mut AreaList, redists: &Redists, layout: &Layout)
+// Appends that of the configuration table, which all virtual processors share; or where the guest
+// programs the LPI registers, that of each whose LPIs are on.
+fn add_configs(areas: &mut AreaList, redists: &Redists, layout: &Layout)
     requires room { HasRoom 16 areas.old }
     requires shape { IsShape layout.now.shape }
     requires in_hand { AreAllInHand layout.now.shape redists.now }
@@ -184,12 +221,37 @@ fn add_own_config(areas: &mut AreaList, vcpu: Vcpu, bases: Bases, shape: Shape)
     }
 }
 
-/// Appends that of a translator's command queue.
-pub fn add_queue(areas: &mut AreaList, its: u8, regs: &Regs)
+// Appends that of a translator's command queue.
+fn add_queue(areas: &mut AreaList, its: u8, regs: &Regs)
     requires room { HasRoom 1 areas.old }
     ensures { Appended 1 (spec.queue_area its regs.now) areas.old areas.new }
 {
     if regs.queue_valid() {
         areas.push(Stretch::read_only(Region::Queue(its), regs.queue_base().0, regs.queue_size()));
     }
+}
+
+fn add_second_queue(areas: &mut AreaList, second: Option<TranslatorRef<'_>>)
+    requires room { HasRoom 1 areas.old }
+    ensures { Appended 1 (second_queue second.entry) areas.old areas.new }
+{
+    if let Some(translator) = second {
+        add_queue(areas, 1, translator.regs);
+    }
+}
+
+/// Appends the others.
+pub fn add_others(areas: &mut AreaList, parts: &InPlace<'_>)
+    requires fits { FitsSave parts.now }
+    requires room { HasRoom 34 areas.old }
+    ensures items { areas.new.items
+        ≡ all_areas areas.old.items parts.now.layout.now (queues_of parts.now)
+        parts.now.redists.now }
+    ensures few { length areas.new.items ≤ length areas.old.items + 34 }
+    ensures capacity { areas.old.capacity ≤ areas.new.capacity }
+{
+    add_pending(areas, parts.redists, parts.layout.shape);
+    add_configs(areas, parts.redists, parts.layout);
+    add_queue(areas, 0, parts.first.regs);
+    add_second_queue(areas, parts.second);
 }

@@ -1,13 +1,13 @@
 //! The device table.
 
-ghost use Rattle.std.specs.Prelude.{◌≡◌, ◌+◌, ◌*◌, ◌<◌, ◌≤◌, ◌^◌, true, length, IfSome, OnOk};
+ghost use Rattle.std.specs.Prelude.{◌≡◌, ◌+◌, ◌*◌, ◌<◌, ◌≤◌, ◌^◌, length, IfSome, OnOk};
 ghost use Rattle.std.specs.FinMap.{entries};
-ghost use Rattle.gits_regs.specs.Registers.{is_indirect};
 ghost use Rattle.its_plain.specs.Saved.{put_words, put_tables, device_words};
-ghost use Rattle.table_save.specs.Tables.{AreLowPages, ArePages, page_table, page_tables};
+ghost use Rattle.table_save.specs.Tables.{AreLowPages, page_table, page_tables};
 ghost use Rattle.std.specs.List.{AllByRecursion};
 ghost use Rattle.table_save.specs.Pass.{RisesFrom, FitsDevice, device_entry_word, PassedDevices};
 
+use crate::pages::read_pages;
 use crate::words::put_word;
 use baser_place::level1_entries;
 use gits_regs::Regs;
@@ -183,24 +183,26 @@ fn put_page(
     }
 }
 
-/// Writes the device table: a flat one, or the pages of one of two levels.
+/// Writes the device table: a flat one, or the pages of one of two levels, as its first level in
+/// the memory that is given beside says.
 #[tactic(auto, unfolding(its_plain::specs::Saved::device_words))]
 pub fn put_devices(
     memory: &mut Memory,
+    from: &Memory,
     regs: &Regs,
-    pages: &[Option<Addr>],
     maps: &Maps,
 ) -> Result<(), AllocError>
-    requires pages { is_indirect regs.now.baser0 ≡ true → ArePages regs.now memory.old pages.now }
-    requires fit { AllByRecursion FitsDevice (entries maps.now.maps.devices) }
+    requires { AllByRecursion FitsDevice (entries maps.now.maps.devices) }
     ensures { OnOk result (memory.new
         ≡ put_tables memory.old
-        (device_words (record { regs = regs.now; maps = maps.now.maps }) memory.old)) }
+        (device_words (record { regs = regs.now; maps = maps.now.maps }) from.now)) }
 {
     if !regs.table_valid(0) {
         return Ok(());
     }
     if regs.indirect() {
+        let pages = read_pages(regs, from);
+        let pages = &pages[..level1_entries(regs) as usize];
         return put_pages(memory, pages, 8192, maps);
     }
     let count = 8192 * regs.pages(0).min(level1_entries(regs));

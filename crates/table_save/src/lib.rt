@@ -1,5 +1,8 @@
-//! Saving a translator and the pending LPIs to guest memory (KVM document arm-vgic-its, ITS table
-//! ABI revision 0).
+//! Saving translators and the pending LPIs to guest memory, and the pages that a save writes (KVM
+//! document arm-vgic-its, ITS table ABI revision 0).
+//!
+//! `save` and `save_two` have a translator's registers and maps, memory, redistributors and shape
+//! as arguments of their own, as who has them in parts does.
 #![tactic(auto)]
 
 mod area;
@@ -10,11 +13,17 @@ mod collections;
 mod devices;
 mod edges;
 mod events;
+mod marks;
 mod overlap;
 mod pages;
 mod pending;
 mod room;
 mod saving;
+mod stretches;
+mod thin;
 mod words;
 
-pub use saving::{savable, save, saved_memory};
+pub use marks::mark_tables;
+pub use saving::{savable, save_in, saved_memory};
+pub use stretches::written_tables;
+pub use thin::{save, save_two};

@@ -1,3 +1,4 @@
+//! Whether stretches share bytes.
 ghost use Rattle.std.specs.Prelude.{◌≡◌, List, ◌<◌, ◌≤◌, find, length, true, false};
 ghost use Rattle.its_plain.specs.Regions as spec;
 ghost use Rattle.its_plain.specs.declared.area.Area as plain;

@@ -1,15 +1,21 @@
+//! Room for the tests before a save.
+ghost use Rattle.std.specs.Prelude.{◌≡◌, IfOk, length};
+ghost use Rattle.std.specs.FinMap.{entries};
+ghost use Rattle.table_save.specs.Fits.{second_count};
+
 use crate::area_list::AreaList;
 use crate::edges::Edges;
 use its_maps::Maps;
+use owned_parts::{InPlace, TranslatorRef};
 use std::alloc::{AllocError, Global};
 use std::marker::Model;
 
-// How many areas there are at most beside the devices' own tables: the first level of the device
-// table and its 128 pages, the collection table, a pending table and a configuration table of each
-// of 16 virtual processors, and the command queue.
-const OTHERS: usize = 163;
+// How many areas there are at most beside the devices' own tables: of each of two translators the
+// first level of the device table and its 128 pages, the collection table, and the command queue;
+// and a pending table and a configuration table of each of 16 virtual processors.
+const OTHERS: usize = 294;
 
-/// Room for the tests before a save of a translator that has so many mapped devices.
+/// Room for the tests before a save of translators that have so many mapped devices together.
 #[derive(Drop)]
 pub struct SaveRoom {
     spare: usize,
@@ -26,13 +32,13 @@ impl Model for SaveRoom {
 
     ghost view = { λ r. record { spare = r.spare } };
 
-    ghost invariant = { λ r. (r.spare + 163 ≤ r.areas.capacity) × (r.spare + 163 ≤ r.all.room)
-        × (r.spare + 163 ≤ r.written.room) };
+    ghost invariant = { λ r. (r.spare + 294 ≤ r.areas.capacity) × (r.spare + 294 ≤ r.all.room)
+        × (r.spare + 294 ≤ r.written.room) };
 }
 
 impl SaveRoom {
-    ghost use Rattle.std.specs.Prelude.{◌≡◌, IfOk, length};
-    ghost use Rattle.std.specs.FinMap.{entries};
+    ghost use Rattle.std.specs.Prelude.{◌≡◌, IfOk};
+    ghost use Rattle.table_save.specs.Fits.{all_count};
 
     /// Room for so many devices.
     pub fn new(alloc: Global, devices: usize) -> Result<SaveRoom, AllocError>
@@ -50,16 +56,37 @@ impl SaveRoom {
     }
 
     /// Room for the devices that are mapped.
-    pub fn for_maps(alloc: Global, maps: &Maps) -> Result<SaveRoom, AllocError>
-        ensures { IfOk result (λ r. r.spare ≡ length (entries maps.now.maps.devices)) }
+    pub fn for_parts(alloc: Global, parts: &InPlace<'_>) -> Result<SaveRoom, AllocError>
+        ensures { IfOk result (λ r. r.spare ≡ all_count parts.now) }
     {
-        let mut devices: usize = 0;
-        for _ in maps.devices() {
-            let Some(more) = devices.checked_add(1) else {
-                return Err(AllocError);
-            };
-            devices = more;
-        }
+        let first = count_devices(parts.first.maps)?;
+        let second = count_second(parts.second)?;
+        let Some(devices) = first.checked_add(second) else {
+            return Err(AllocError);
+        };
         SaveRoom::new(alloc, devices)
+    }
+}
+
+// How many devices a translator has mapped.
+fn count_devices(maps: &Maps) -> Result<usize, AllocError>
+    ensures { IfOk result (λ n. n ≡ length (entries maps.now.maps.devices)) }
+{
+    let mut devices: usize = 0;
+    for _ in maps.devices() {
+        let Some(more) = devices.checked_add(1) else {
+            return Err(AllocError);
+        };
+        devices = more;
+    }
+    Ok(devices)
+}
+
+fn count_second(second: Option<TranslatorRef<'_>>) -> Result<usize, AllocError>
+    ensures { IfOk result (λ n. n ≡ second_count second.entry) }
+{
+    match second {
+        Some(translator) => count_devices(translator.maps),
+        None => Ok(0),
     }
 }

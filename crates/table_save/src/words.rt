@@ -1,3 +1,4 @@
+//! Words of a table.
 ghost use Rattle.std.specs.Prelude.{◌≡◌, OnOk};
 ghost use Rattle.its_plain.specs.Saved.{put_word};
 

@@ -1,0 +1,15 @@
+use Rattle.std.proofs.Common.{◌≡◌}
+use Rattle.std.specs.FinMap.{entries}
+use Rattle.std.specs.List.{AllByRecursion}
+use Rattle.its_plain.specs.Saved.{wrote_tables}
+use Rattle.table_save.specs.Areas.{HasLowTable}
+use Rattle.table_save.specs.Tables.{itt_tables}
+use Rattle.table_save.proofs.marks.mark_itts.Given as goal
+
+abbrev pub invariant-loop-device : goal.invariant-loop-device
+invariant-loop-device l = record {
+  can_next : (goal.iterator-loop-device).can_next l.device-iterator;
+  is_finite : (goal.iterator-loop-device).is_finite l.device-iterator;
+  low : AllByRecursion HasLowTable l.device-iterator;
+  marked : wrote_tables (itt_tables l.maps.maps l.device-iterator) l.track ≡ wrote_tables (itt_tables l.maps.maps (entries l.fn.maps.maps.devices)) l.fn.track;
+}
