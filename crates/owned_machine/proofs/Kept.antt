@@ -1,6 +1,6 @@
 -- The parts of a machine are those of its state, and all of them.
 use Rattle.std.proofs.Common.{◌≡◌, ℕ, ◌<◌, ◌≤◌, true, false, List, [], ◌∷◌, map, take, Option, Some, None, inl, inr, refl, sym, ap, subst, ◌∙◌}
-use Rattle.std.specs.Prelude.{is_some, length}
+use Rattle.std.specs.Prelude.{is_some, length, slice_get}
 use Rattle.std.proofs.lemmas.Bool.{cases_lt}
 use Rattle.std.proofs.lemmas.Option.{same_Some}
 use Rattle.guest_windows.specs.Windows.{Window}
@@ -17,28 +17,30 @@ use Rattle.plain_soundness.proofs.Answers.{calls_keep}
 use Rattle.plain_footprint.proofs.OtherParts.{leaves}
 use Rattle.lpi_pending.specs.InHand.{in_hand}
 use Rattle.lpi_pending.specs.declared.redist.Redist.{Redist}
-use Rattle.owned_parts.specs.Owned.{ArePartsOf, AreAllInHand, HasLpisOf, redistributor_of, redistributor_or, state_of}
+use Rattle.owned_parts.specs.Owned.{ArePartsOf, AreRedistributorsOf, AreAllInHand, HasLpisOf, redistributor_of, redistributor_or, state_of, translator_of}
+use Rattle.owned_parts.specs.Owned.{translators_of}
+use Rattle.owned_parts.specs.declared.parts.Translator.{Translator as TranslatorInHand}
 use Rattle.owned_parts.specs.declared.parts.Parts.{Parts}
 use Rattle.cmd_exec.specs.InHand.{changed, takes_lpi}
 use Rattle.cmd_exec.proofs.InHand.{changed_held}
 use Rattle.cmd_exec.proofs.Lifted.{changed_are, redistributor_is, held_by}
 use Rattle.owned_parts.specs.Owned.{state_of_parts}
 use Rattle.owned_machine.specs.Whole.{IsMachine, GoesOn, IfAcked}
-use Rattle.owned_machine.proofs.Lists.{hand_here, hand_is, one_is}
+use Rattle.owned_machine.proofs.Lists.{hand_here, hand_is}
 
-pub parts_are : (p : Parts) → IsMachine p → ArePartsOf (state_of_parts p) 0 p.layout.shape p.regs p.maps.maps p.memory p.redists
-parts_are p m = record {
-  shape_is = refl;
-  translator_is = refl;
-  memory_is = refl;
-  redistributors_are = λ v r is. elim (cases_lt v p.layout.shape.vcpus) [
-    | inl lt ↦
-        let q = m.all_in_hand v lt in
-        let same : q.0 ≡ r = same_Some q.0 r (sym q.1 ∙ is) in
-        record { lpis = subst (HasLpisOf p.layout.shape) same q.2; same = hand_here p.layout.shape.vcpus v p.redists r lt is }
-    | inr past ↦ absurd (let no : None ≡ Some r = sym (m.no_others v past) ∙ is in cc)
-  ];
-}
+pub redists_are : (p : Parts) → IsMachine p → AreRedistributorsOf (state_of_parts p) p.redists
+redists_are p m = λ v r is. elim (cases_lt v p.layout.shape.vcpus) [
+  | inl lt ↦
+      let q = m.all_in_hand v lt in
+      let same : q.0 ≡ r = same_Some q.0 r (sym q.1 ∙ is) in
+      record { lpis = subst (HasLpisOf p.layout.shape) same q.2; same = hand_here p.layout.shape.vcpus v p.redists r lt is }
+  | inr past ↦ absurd (let no : None ≡ Some r = sym (m.no_others v past) ∙ is in cc)
+]
+
+-- with a translator by its number
+pub parts_are : (p : Parts) (i : ℕ) (t : TranslatorInHand) → IsMachine p → slice_get (state_of_parts p).translators i ≡ Some (translator_of t)
+    → ArePartsOf (state_of_parts p) i p.layout.shape t.regs t.maps.maps p.memory p.redists
+parts_are p i t m at = record { shape_is = refl; translator_is = at; memory_is = refl; redistributors_are = redists_are p m }
 
 -- the same redistributors are in hand
 abbrev pub AreHeldAlike : List (Option Redist) → List (Option Redist) → Type 0
@@ -57,37 +59,26 @@ same_state l k ts us rs qs m n s t el et er em es =
     ap (λ (x : Layout). built x ts rs m s) el ∙ ap (λ (x : List Translator). built k x rs m s) et ∙ ap (λ (x : List Redistributor). built k us x m s) er
     ∙ ap (λ (x : List Window). built k us qs x s) em ∙ ap (built k us qs n) es
 
--- it has no second memory
-pub no_track : (p : Parts) → IsMachine p → p.layout.track ≡ false
-no_track p m = sym m.sound.tracks
-
-tracks_none : (o : Option Tracked) → is_some o ≡ false → None ≡ o
-tracks_none None e = refl
-tracks_none (Some t) e = absurd cc
-
 module _ (old new : Parts) (w : Plain) (m : IsMachine old) (same : new.layout ≡ old.layout) (alike : AreHeldAlike new.redists old.redists)
-    (parts : ArePartsOf w 0 old.layout.shape new.regs new.maps.maps new.memory new.redists) where
+    (layout : old.layout ≡ w.layout) (redists : AreRedistributorsOf w new.redists) where
   all_held : (v : ℕ) → v < old.layout.shape.vcpus → (r : Redist) × (in_hand new.redists v ≡ Some r) × HasLpisOf old.layout.shape r
   all_held v lt =
       let q = held_by (in_hand new.redists v) (alike v ∙ ap (λ (o : Option Redist). is_some o) (m.all_in_hand v lt).1) in
-      (q.0, q.1, subst (λ s. HasLpisOf s q.0) parts.shape_is (parts.redistributors_are v q.0 q.1).lpis)
+      (q.0, q.1, subst (λ (l : Layout). HasLpisOf l.shape q.0) (sym layout) (redists v q.0 q.1).lpis)
 
-  state_is : old.layout ≡ w.layout → length w.translators ≡ 1 → IsSound w → state_of_parts new ≡ w
-  state_is layout one sound =
+  state_is : translators_of new.first new.second ≡ w.translators → new.memory ≡ w.memory → new.track ≡ w.track → IsSound w → state_of_parts new ≡ w
+  state_is translators memory track sound =
       let n = old.layout.shape.vcpus in
-      let many : length w.redistributors ≡ n = sound.vcpus ∙ ap (λ s. s.vcpus) parts.shape_is in
-      ap (λ (l : Layout). state_of l new.regs new.maps.maps new.memory new.redists) same
-      ∙ same_state old.layout w.layout (record { regs = new.regs; maps = new.maps.maps } ∷ []) w.translators (map redistributor_or (take n new.redists))
-      w.redistributors new.memory w.memory None w.track
-      layout
-      (one_is w.translators (record { regs = new.regs; maps = new.maps.maps }) one parts.translator_is)
-      (hand_is n new.redists w.redistributors (λ v lt. let q = all_held v lt in (q.0, q.1, (parts.redistributors_are v q.0 q.1).same)) many)
-      (sym parts.memory_is)
-      (tracks_none w.track (sound.tracks ∙ ap (λ (l : Layout). l.track) (sym layout) ∙ no_track old m))
+      let ts = translators_of new.first new.second in
+      let many : length w.redistributors ≡ n = sound.vcpus ∙ ap (λ (l : Layout). l.shape.vcpus) (sym layout) in
+      ap (λ (l : Layout). state_of l ts new.memory new.track new.redists) same
+      ∙ same_state old.layout w.layout ts w.translators (map redistributor_or (take n new.redists)) w.redistributors new.memory w.memory new.track w.track
+      layout translators
+      (hand_is n new.redists w.redistributors (λ v lt. let q = all_held v lt in (q.0, q.1, (redists v q.0 q.1).same)) many) memory track
 
-  go : old.layout ≡ w.layout → length w.translators ≡ 1 → IsSound w → GoesOn new w
-  go layout one sound =
-      let state = state_is layout one sound in
+  go : translators_of new.first new.second ≡ w.translators → new.memory ≡ w.memory → new.track ≡ w.track → IsSound w → GoesOn new w
+  go translators memory track sound =
+      let state = state_is translators memory track sound in
       record {
         state = state;
         whole = record {
@@ -98,17 +89,14 @@ module _ (old new : Parts) (w : Plain) (m : IsMachine old) (same : new.layout �
         };
       }
 
--- the state that a call leaves is gone on to, where its parts are in hand
+-- the state that a call leaves is gone on to, where it has these parts
 pub goes_on : (old new : Parts) (c : Call) (w : Plain) → IsMachine old → new.layout ≡ old.layout → (answer (state_of_parts old) c).1 ≡ w
-    → AreHeldAlike new.redists old.redists
-    → ArePartsOf w 0 old.layout.shape new.regs new.maps.maps new.memory new.redists → GoesOn new w
-goes_on old new c w m same is alike parts =
+    → AreHeldAlike new.redists old.redists → translators_of new.first new.second ≡ w.translators → new.memory ≡ w.memory → new.track ≡ w.track
+    → AreRedistributorsOf w new.redists → GoesOn new w
+goes_on old new c w m same is alike translators memory track redists =
     let u = state_of_parts old in
     let others = leaves u c (record { vcpus = m.sound.vcpus }) in
-    go old new w m same alike parts
-    (others.layout ∙ ap (λ (x : Plain). x.layout) is)
-    (sym (others.translators ∙ ap (λ (x : Plain). length x.translators) is))
-    (subst IsSound is (calls_keep u c m.sound))
+    go old new w m same alike (others.layout ∙ ap (λ (x : Plain). x.layout) is) redists translators memory track (subst IsSound is (calls_keep u c m.sound))
 
 -- nothing is changed
 pub stays : (p : Parts) (w : Plain) → IsMachine p → state_of_parts p ≡ w → GoesOn p w
@@ -121,13 +109,7 @@ pub redist_goes : (old : Parts) (c : Call) (v : ℕ) (f : Redistributor → Redi
 redist_goes old c v f m is =
     let u = state_of_parts old in
     goes_on old (record old { redists = changed v f old.redists }) c (with_redistributor u v (f (redistributor u v))) m refl is
-    (λ w. changed_held v w f old.redists)
-    (record {
-      shape_is = refl;
-      translator_is = refl;
-      memory_is = refl;
-      redistributors_are = changed_are u old.redists v f (parts_are old m).redistributors_are;
-    })
+    (λ w. changed_held v w f old.redists) refl refl refl (changed_are u old.redists v f (redists_are old m))
 
 -- ---- a redistributor in hand
 
@@ -135,10 +117,10 @@ pub held : (p : Parts) (v : ℕ) → IsMachine p → v < p.layout.shape.vcpus �
 held p v m lt = ap (λ (o : Option Redist). is_some o) (m.all_in_hand v lt).1
 
 pub lpis_of : (p : Parts) (v : ℕ) (r : Redist) → IsMachine p → in_hand p.redists v ≡ Some r → HasLpisOf p.layout.shape r
-lpis_of p v r m is = ((parts_are p m).redistributors_are v r is).lpis
+lpis_of p v r m is = (redists_are p m v r is).lpis
 
 pub redistributor_here : (p : Parts) (v : ℕ) (r : Redist) → IsMachine p → in_hand p.redists v ≡ Some r → redistributor (state_of_parts p) v ≡ redistributor_of r
-redistributor_here p v r m is = redistributor_is (state_of_parts p) p.redists v r (parts_are p m).redistributors_are is
+redistributor_here p v r m is = redistributor_is (state_of_parts p) p.redists v r (redists_are p m) is
 
 pub takes : (rs : List (Option Redist)) (v x : ℕ) (r : Redist) → in_hand rs v ≡ Some r → is_lpi r.pending.lpi_bits x ≡ true → takes_lpi rs v x ≡ true
 takes rs v x r is lpi = ap (λ (o : Option Redist). takes_lpi (o ∷ []) 0 x) is ∙ lpi

@@ -1,8 +1,14 @@
-mod Lists
-mod Kept
-mod Needed
-mod Answered
+pub mod Lists
+pub mod Kept
+pub mod Others
+mod Lines
+pub mod Needed
+pub mod Signalled
+mod Written
+mod RegisterWrites
+pub mod Stepped
 mod LongWrites
 mod Started
+mod Restored
 mod Migrating
 mod Programmed

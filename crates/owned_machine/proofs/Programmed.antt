@@ -17,15 +17,16 @@ use Rattle.saved_state.specs.Laws.{bases_of}
 use Rattle.lpi_pending.specs.InHand.{in_hand}
 use Rattle.lpi_pending.specs.declared.redist.Redist.{Redist}
 use Rattle.owned_parts.specs.Owned.{HasLpisOf, redistributor_of, state_of_parts}
+use Rattle.dirty_log.specs.declared.tracked.Tracked.{Tracked}
 use Rattle.owned_parts.specs.declared.parts.Parts.{Parts}
 use Rattle.cmd_exec.specs.InHand.{changed, redist_by}
 use Rattle.owned_machine.specs.Whole.{IsMachine, GoesOn}
 use Rattle.owned_machine.specs.Migrations.{AreRead}
-use Rattle.owned_machine.proofs.Kept.{parts_are, redist_goes, redistributor_here}
+use Rattle.owned_machine.proofs.Kept.{redists_are, redist_goes, redistributor_here}
 
 -- the bases of a redistributor have kept bits alone
 pub bases_kept : (p : Parts) (v : ℕ) (r : Redist) → IsMachine p → p.layout.gicr ≡ true → in_hand p.redists v ≡ Some r → AreKept r.bases
-bases_kept p v r m gicr is = (m.sound.redistributors v (redistributor_of r) ((parts_are p m).redistributors_are v r is).same).kept gicr
+bases_kept p v r m gicr is = (m.sound.redistributors v (redistributor_of r) (redists_are p m v r is).same).kept gicr
 
 pub bases_low : (p : Parts) (v : ℕ) (r : Redist) → IsMachine p → p.layout.gicr ≡ true → in_hand p.redists v ≡ Some r → AreLow r.bases
 bases_low p v r m gicr is = let k = bases_kept p v r m gicr is in record { prop = k.prop_low; pend = k.pend_low }
@@ -107,3 +108,12 @@ all_read p registers m read =
     ∙ read.each i d (omega (arith, lt, long))
     ∙ sym (get_or-map (λ (r : Redistributor). r.bases) u.redistributors i no_redistributor no_redistributor.bases
     (let all = m.sound.vcpus in omega (arith, lt, long, all))))
+
+-- what is read doesn't depend on the second memory
+pub read_with : (p : Parts) (t : Option Tracked) (registers : List GicrRegisters) (n : ℕ) → AreRead p registers n
+    → AreRead (record p { track = t }) registers n
+read_with p t registers n h = record { sixteen = h.sixteen; each = h.each }
+
+pub read_without : (p : Parts) (t : Option Tracked) (registers : List GicrRegisters) (n : ℕ) → AreRead (record p { track = t }) registers n
+    → AreRead p registers n
+read_without p t registers n h = record { sixteen = h.sixteen; each = h.each }

@@ -9,20 +9,18 @@ use Rattle.guest_windows.specs.Windows.{Window, inside, read_at}
 use Rattle.guest_windows.specs.Windows.{zeros as zero_window}
 use Rattle.guest_windows.specs.Fields.{pairs}
 use Rattle.guest_windows.proofs.Laws.{is_some-read_at}
-use Rattle.gits_regs.specs.Registers.{Registers, reset}
-use Rattle.its_types.specs.Maps.{Maps, no_maps}
 use Rattle.its_types.specs.Ranges.{lpi_count}
 use Rattle.its_types.specs.declared.ids.Addr.{Addr}
 use Rattle.its_types.specs.declared.machine.Shape.{Shape}
 use Rattle.its_types.specs.declared.translation.Bases.{Bases}
-use Rattle.its_plain.specs.Plain.{Plain, Redistributor}
+use Rattle.its_plain.specs.Plain.{Plain, Redistributor, Translator}
+use Rattle.dirty_log.specs.declared.tracked.Tracked.{Tracked}
 use Rattle.gicr_regs.specs.Redistributors.{off_redistributor}
 use Rattle.gicr_regs.specs.declared.values.GicrValues.{GicrValues}
 use Rattle.its_types.specs.Lpis.{no_bases}
 use Rattle.its_plain.specs.Machine.{made, started, layout_of, described_bases, idle_redistributor, first_redistributors, HasTablesFor, IsDescription, ◌>>=◌}
-use Rattle.its_plain.specs.Machine.{IsSingle, ensure, windows_fit, tables_inside, filled, all_frames_fit, all_new}
+use Rattle.its_plain.specs.Machine.{ensure, windows_fit, tables_inside, filled, all_frames_fit, all_new}
 use Rattle.its_plain.specs.Saved.{track_of}
-use Rattle.its_plain.specs.declared.desc.Its.{Its}
 use Rattle.its_plain.specs.declared.layout.Layout.{Layout}
 use Rattle.its_plain.specs.declared.desc.LpiTables.{LpiTables}
 use Rattle.its_plain.specs.declared.desc.LpiTables.TheVariants as tables
@@ -35,9 +33,12 @@ use Rattle.lpi_config.specs.Configurations.{Configuration, zeros}
 use Rattle.lpi_pending.specs.PendingSets.{PendingSet, none_pending}
 use Rattle.lpi_pending.specs.InHand.{in_hand}
 use Rattle.lpi_pending.specs.declared.redist.Redist.{Redist}
-use Rattle.owned_parts.specs.Owned.{AreAllInHand, state_of_parts, redistributor_of, redistributor_or}
+use Rattle.owned_parts.specs.Owned.{AreAllInHand, state_of_parts, redistributor_of, redistributor_or, translators_of}
 use Rattle.owned_parts.specs.declared.parts.Parts.{Parts}
-use Rattle.owned_machine.specs.Start.{HasConfig, IsFilled, IsFirstOf, AreFirst, AreStarted}
+use Rattle.owned_machine.specs.Start.{HasConfig, IsFilled, IsFirstOf, AreFirst, AreStarted, reset_translator, devices_test}
+use Rattle.its_plain.specs.declared.make.MakeError.{MakeError}
+use Rattle.its_plain.specs.declared.make.MakeError.TheVariants as making
+use Rattle.std.specs.Result.{IsErrAnd}
 use Rattle.owned_machine.proofs.Lists.{hand_is}
 
 -- ---- one redistributor more
@@ -146,24 +147,14 @@ no_config s memory config pending out =
     ap (λ (o : Option (List ℕ)). ok_or o Config >>= λ bytes. Ok (map (idle_redistributor bytes) (map (described_bases config) pending)))
     (no_read (read_at memory config.0 (lpi_count s.lpi_bits)) (is_some-read_at memory config.0 (lpi_count s.lpi_bits) ∙ out))
 
--- ---- a description of one translator
+-- ---- what is checked
 
-single_frames : (taken : List (ℕ × ℕ)) (i : ℕ) (ts : List Its) → length ts ≡ 1 → ((t : Its) → slice_get ts 0 ≡ Some t → t.frames ≡ None)
-    → all_frames_fit taken i ts ≡ Ok tt
-single_frames taken i [] e none = absurd cc
-single_frames taken i (t ∷ []) e none = rw (none t refl) refl
-single_frames taken i (t ∷ q ∷ ts) e none = absurd (omega (arith, e))
-
-pub frames_are : (d : Desc) → IsSingle d → all_frames_fit (pairs d.windows) 0 d.translators ≡ Ok tt
-frames_are d single = single_frames (pairs d.windows) 0 d.translators single.translator single.frames
-
-pub requesters_are : (d : Desc) → IsSingle d → all_new [] 0 d.requesters ≡ Ok tt
-requesters_are d single = ap (all_new [] 0) single.requesters
-
-pub filled_is : (d : Desc) (empty memory : List Window) → IsSingle d → empty ≡ map zero_window (pairs d.windows) → windows_fit d ≡ true
-    → tables_inside d.shape empty d.tables ≡ Ok tt → filled empty 0 d.fills ≡ Ok memory → IsFilled d (Ok memory)
+pub filled_is : (d : Desc) (empty memory : List Window) → empty ≡ map zero_window (pairs d.windows) → windows_fit d ≡ true
+    → tables_inside d.shape empty d.tables ≡ Ok tt → filled empty 0 d.fills ≡ Ok memory
+    → made d ≡ (all_frames_fit (pairs d.windows) 0 d.translators >>= λ _. all_new [] 0 d.requesters >>= λ _.
+    first_redistributors d.shape memory d.tables >>= λ rs. Ok (started d memory rs))
 unfolding made
-filled_is d empty memory single is fit tables fills =
+filled_is d empty memory is fit tables fills =
     let zeros : List Window = map zero_window (pairs d.windows) in
     let redistributors : List Window → Result Plain DescFault = λ now. first_redistributors d.shape now d.tables >>= λ rs. Ok (started d now rs) in
     let checked : List Window → Result Plain DescFault =
@@ -172,28 +163,41 @@ filled_is d empty memory single is fit tables fills =
     ∙ ap (λ (m : List Window). tables_inside d.shape m d.tables >>= λ _. filled m 0 d.fills >>= checked) (sym is)
     ∙ ap (λ (r : Result (Unit {0}) DescFault). r >>= λ _. filled empty 0 d.fills >>= checked) tables
     ∙ ap (λ (r : Result (List Window) DescFault). r >>= checked) fills
-    ∙ ap (λ (r : Result (Unit {0}) DescFault). r >>= λ _. all_new [] 0 d.requesters >>= λ _. redistributors memory) (frames_are d single)
-    ∙ ap (λ (r : Result (Unit {0}) DescFault). r >>= λ _. redistributors memory) (requesters_are d single)
+
+twice : {A : Type 0} (a b : Result (Unit {0}) DescFault) (rest : Result A DescFault) → (a >>= λ _. b >>= λ _. rest) ≡ ((a >>= λ _. b) >>= λ _. rest)
+twice (Ok x) b rest = refl
+twice (Err e) b rest = refl
+
+module _ (d : Desc) (memory : List Window)
+    (is : made d ≡ (all_frames_fit (pairs d.windows) 0 d.translators >>= λ _. all_new [] 0 d.requesters >>= λ _.
+    first_redistributors d.shape memory d.tables >>= λ rs. Ok (started d memory rs))) where
+  abbrev rest : Result Plain DescFault
+  rest = first_redistributors d.shape memory d.tables >>= λ rs. Ok (started d memory rs)
+
+  tested : made d ≡ (devices_test d >>= λ _. rest)
+  tested = is ∙ twice (all_frames_fit (pairs d.windows) 0 d.translators) (all_new [] 0 d.requesters) rest
+
+  pub devices_wrong : (f : DescFault) → devices_test d ≡ Err f → made d ≡ Err f
+  devices_wrong f e = tested ∙ ap (λ (r : Result (Unit {0}) DescFault). r >>= λ _. rest) e
+
+  pub all_checked : devices_test d ≡ Ok tt → IsFilled d (Ok memory)
+  all_checked e = tested ∙ ap (λ (r : Result (Unit {0}) DescFault). r >>= λ _. rest) e
+
+-- a fault that is handed on
+pub filled_with : (d : Desc) (r : Result (List Window) MakeError) (e : MakeError) (f : DescFault) → IsErrAnd r (λ (x : MakeError). x ≡ e) → e ≡ making.Fault f
+    → made d ≡ Err f → IsFilled d r
+filled_with d (Ok x) e f is same h = absurd is
+filled_with d (Err x) e f is same h = subst (λ (y : MakeError). IsFilled d (Err y)) (sym (is ∙ same)) h
 
 -- ---- the first state
 
-abbrev state : Layout → Registers → Maps → List Window → List Redistributor → Plain
-state l r m memory rs = record { layout = l; translators = record { regs = r; maps = m } ∷ []; redistributors = rs; memory = memory; track = None }
+abbrev state : Layout → List Translator → List Window → Option Tracked → List Redistributor → Plain
+state l ts memory track rs = record { layout = l; translators = ts; redistributors = rs; memory = memory; track = track }
 
--- of so many translators, and with a second memory or none
-abbrev begun : Desc → List Window → List Redistributor → ℕ → Bool → Plain
-begun d memory rs n track = record {
-  layout = layout_of d;
-  translators = replicate n (record { regs = reset d.shape.dev_bits; maps = no_maps });
-  redistributors = rs;
-  memory = memory;
-  track = track_of track memory;
-}
-
-module _ (d : Desc) (p : Parts) (description : IsDescription d) (single : IsSingle d) (filled : IsFilled d (Ok p.memory))
-    (has : HasConfig d.shape p.memory d.tables)
-    (first : AreFirst d.shape p.memory d.tables p.redists d.shape.vcpus) (layout_is : p.layout ≡ layout_of d) (regs_are : p.regs ≡ reset d.shape.dev_bits)
-    (maps_are : p.maps.maps ≡ no_maps) where
+module _ (d : Desc) (p : Parts) (description : IsDescription d) (filled : IsFilled d (Ok p.memory)) (has : HasConfig d.shape p.memory d.tables)
+    (first : AreFirst d.shape p.memory d.tables p.redists d.shape.vcpus) (layout_is : p.layout ≡ layout_of d)
+    (translators_are : translators_of p.first p.second ≡ replicate (length d.translators) (reset_translator d.shape.dev_bits))
+    (track_is : p.track ≡ track_of d.track p.memory) where
   some : Some_first d.shape p.memory d.tables
   some = some_first d.shape p.memory d.tables description.tables has
 
@@ -202,12 +206,10 @@ module _ (d : Desc) (p : Parts) (description : IsDescription d) (single : IsSing
 
   state_is : started d p.memory some.0 ≡ state_of_parts p
   state_is =
-      ap (λ (n : ℕ). begun d p.memory some.0 n d.track) single.translator
-      ∙ ap (λ (b : Bool). begun d p.memory some.0 1 b) single.track
-      ∙ ap (λ (r : Registers). state (layout_of d) r no_maps p.memory some.0) (sym regs_are)
-      ∙ ap (λ (m : Maps). state (layout_of d) p.regs m p.memory some.0) (sym maps_are)
-      ∙ ap (state (layout_of d) p.regs p.maps.maps p.memory) (sym redistributors_are)
-      ∙ ap (λ (l : Layout). state l p.regs p.maps.maps p.memory (map redistributor_or (take l.shape.vcpus p.redists))) (sym layout_is)
+      ap (λ (ts : List Translator). state (layout_of d) ts p.memory (track_of d.track p.memory) some.0) (sym translators_are)
+      ∙ ap (λ (t : Option Tracked). state (layout_of d) (translators_of p.first p.second) p.memory t some.0) (sym track_is)
+      ∙ ap (state (layout_of d) (translators_of p.first p.second) p.memory p.track) (sym redistributors_are)
+      ∙ ap (λ (l : Layout). state l (translators_of p.first p.second) p.memory p.track (map redistributor_or (take l.shape.vcpus p.redists))) (sym layout_is)
 
   pub started_are : AreStarted d (Ok p)
   started_are =

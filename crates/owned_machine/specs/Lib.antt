@@ -1,4 +1,6 @@
 pub mod Whole
+pub mod Steps
+pub mod Frames
 pub mod Acks
 pub mod Pieces
 pub mod Making

@@ -1,6 +1,8 @@
 -- Stretches of guest memory of any length. They are read and written in pieces of 64 bytes, counted from the first byte; the
 -- last piece may be shorter.
 use Rattle.std.specs.Prelude.{ℕ, zero, suc, ◌+◌, ◌-◌, ◌*◌, ◌/◌, min, if◌then◌else◌, List, length, take, drop, unwrap_or}
+use Rattle.std.specs.Option.{option_map}
+use Rattle.dirty_log.specs.Copies.{wrote}
 use Rattle.guest_windows.specs.Windows.{Window, inside, write_at}
 use Rattle.its_plain.specs.Plain.{Plain}
 
@@ -31,6 +33,9 @@ with_stretch memory address bytes =
     if inside memory address (length bytes) then with_bytes memory address bytes
     else with_pieces memory address bytes (piece_count (length bytes))
 
--- the state with all of them
+-- the state with all of them, their pages dirty
 abbrev pub written_to : Plain → ℕ → List ℕ → Plain
-written_to u address bytes = record u { memory = with_stretch u.memory address bytes }
+written_to u address bytes = record u {
+  memory = with_stretch u.memory address bytes;
+  track = option_map (wrote address (length bytes)) u.track;
+}

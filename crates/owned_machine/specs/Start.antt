@@ -1,12 +1,17 @@
 -- The outcome of making a machine: registers at reset, nothing mapped, nothing pending, and the configuration as memory has it
 -- (IHI 0069, section 5.1).
-use Rattle.std.specs.Prelude.{◌≡◌, ℕ, ◌<◌, ◌≤◌, true, List, length, slice_get, Option, Some, None, Result, Ok, Err}
+use Rattle.std.specs.Prelude.{◌≡◌, ℕ, ◌<◌, ◌≤◌, true, List, [], length, slice_get, Option, Some, None, Result, Ok, Err}
 use Rattle.guest_windows.specs.Windows.{Window, inside}
 use Rattle.its_types.specs.Ranges.{lpi_count}
 use Rattle.its_types.specs.declared.machine.Shape.{Shape}
-use Rattle.its_plain.specs.Plain.{Redistributor}
-use Rattle.its_plain.specs.Machine.{made, started, layout_of, first_redistributors, ◌>>=◌}
+use Rattle.gits_regs.specs.Registers.{reset}
+use Rattle.its_types.specs.Maps.{no_maps}
+use Rattle.its_plain.specs.Plain.{Redistributor, Translator}
+use Rattle.its_plain.specs.Machine.{made, started, layout_of, first_redistributors, ◌>>=◌, all_frames_fit, all_new}
+use Rattle.its_plain.specs.declared.desc.DescFault.{DescFault}
+use Rattle.guest_windows.specs.Fields.{pairs}
 use Rattle.its_plain.specs.declared.desc.Desc.{Desc}
+use Rattle.its_plain.specs.declared.layout.Layout.{Layout}
 use Rattle.its_plain.specs.declared.desc.LpiTables.{LpiTables}
 use Rattle.its_plain.specs.declared.desc.LpiTables.TheVariants.{Described, Registers}
 use Rattle.its_plain.specs.declared.make.MakeError.{MakeError}
@@ -23,10 +28,18 @@ IsFilled d (Ok memory) = made d ≡ (first_redistributors d.shape memory d.table
 IsFilled d (Err (errors.Fault f)) = made d ≡ Err f
 IsFilled d (Err errors.NoMemory) = Unit {0}
 
+-- the frames and the requesters of a description, or the first thing that is wrong with them
+abbrev pub devices_test : Desc → Result (Unit {0}) DescFault
+devices_test d = all_frames_fit (pairs d.windows) 0 d.translators >>= λ _. all_new [] 0 d.requesters
+
 -- the configuration table lies in memory, where one is described
 abbrev pub HasConfig : Shape → List Window → LpiTables → Type 0
 HasConfig s memory (Described config pending) = inside memory config.0 (lpi_count s.lpi_bits) ≡ true
 HasConfig s memory (Registers values) = Unit {0}
+
+-- a translator whose registers are at reset, with nothing mapped
+abbrev pub reset_translator : ℕ → Translator
+reset_translator dev_bits = record { regs = reset dev_bits; maps = no_maps }
 
 -- the redistributor in hand is one of these
 pub record IsFirst (s : Shape) (rs : List Redistributor) (vcpu : ℕ) (r : Redist) : Type 0 where
@@ -48,6 +61,10 @@ pub record AreFirstParts (d : Desc) (p : Parts) : Type 0 where
   pub made_is : made d ≡ Ok (state_of_parts p)
   pub layout : p.layout ≡ layout_of d
   pub whole : IsMachine p
+
+-- the layout and the memory are those of such parts
+abbrev pub AreOfFirst : Desc → Layout → List Window → Type 0
+AreOfFirst d layout memory = (p : Parts) × AreFirstParts d p × (p.layout ≡ layout) × (p.memory ≡ memory)
 
 -- or the first thing that is wrong with the description, unless memory ran out
 abbrev pub AreStarted : Desc → Result Parts MakeError → Type 0

@@ -1,4 +1,4 @@
--- What it is to have a whole machine of one translator in hand: the parts are those of a sound state of the plain machine
+-- What it is to have a whole machine in hand: the parts are those of a sound state of the plain machine
 -- (IHI 0069, chapter 5), all of them, and a call goes from one such to the next.
 use Rattle.std.specs.Prelude.{◌≡◌, ℕ, ◌≤◌, Bool, true, false, not, ◌&&◌, List, Option, Some, None, is_some}
 use Rattle.guest_windows.specs.Windows.{write_at}

@@ -1,3 +1,4 @@
+//! Which LPI is asked for.
 use its_types::Intid;
 
 /// Which of the LPIs of a virtual processor is asked for that are pending and enabled.

@@ -8,7 +8,7 @@ use crate::acks::{claim, look, take};
 use crate::asked::Asked;
 use crate::dma::dma;
 use crate::gicr;
-use crate::memory::{peek, poke};
+use crate::memory::{copy, peek, poke};
 use crate::registers::{read, write};
 use crate::saves::save;
 use crate::signals::signal;
@@ -57,7 +57,7 @@ pub fn answered(parts: &mut Parts, alloc: Global, call: &Call) -> Result<Reply, 
         }
         Call::Step { its } => Ok(Reply::Step(step(parts, its)?)),
         Call::Save => save(parts, alloc),
-        Call::Copy => Ok(Reply::Copied(0)),
+        Call::Copy => Ok(Reply::Copied(copy(parts))),
         Call::Dma {
             addr,
             bytes,

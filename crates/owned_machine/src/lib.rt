@@ -1,11 +1,12 @@
-//! A machine of one translator that one caller has alone, on tables that are fast. It answers every
-//! call as the plain machine does.
+//! A machine of one translator or two that one caller has alone, on tables that are fast. It
+//! answers every call as the plain machine does.
 #![tactic(auto)]
 
 mod acks;
 mod asked;
 mod calls;
 mod dma;
+mod frames;
 mod gicr;
 mod machine;
 mod make;
@@ -18,4 +19,4 @@ mod steps;
 mod stretches;
 
 pub use machine::Machine;
-pub use migrations::{InPlace, moved};
+pub use migrations::{moved, resumed};

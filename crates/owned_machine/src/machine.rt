@@ -1,14 +1,17 @@
+//! A machine that one caller has alone.
 use crate::calls::answered;
-use crate::migrations::{InPlace, begin, moved};
-use crate::stretches::write_stretch;
+use crate::migrations::{begin, moved, precopied};
+use crate::stretches::{forget_stretch, write_stretch};
 use gicr_regs::{GicrRegisters, values_come_back, values_of};
+use guest_windows::Outside;
 use its_plain::{Call, Desc, MakeError, Reply, SaveError};
 use its_types::{Addr, Intid, Vcpu};
 use owned_parts::Parts;
 use std::alloc::{AllocError, Global};
 use std::marker::Model;
 
-/// A machine of one translator, seen as the state of the plain machine that its parts stand for.
+/// A machine of one translator or two, seen as the state of the plain machine that its parts stand
+/// for.
 #[derive(Drop)]
 pub struct Machine {
     parts: Parts,
@@ -31,13 +34,14 @@ impl Model for Machine {
 
 impl Machine {
     ghost use Rattle.std.specs.Prelude.{◌≡◌, ◌<◌, ◌+◌, ◌^◌, true, IfOk, OnOk, OnErr, IfSome};
-    ghost use Rattle.std.specs.Prelude.{is_some, length, map};
+    ghost use Rattle.std.specs.Prelude.{IfErr, is_ok, is_some, length, map, replicate};
+    ghost use Rattle.guest_windows.specs.Windows.{inside};
     ghost use Rattle.gicr_regs.specs.Registers as spec;
     ghost use Rattle.its_plain.specs.Answer as plain;
     ghost use Rattle.its_plain.specs.Described.{IsMadeFrom};
-    ghost use Rattle.its_plain.specs.Machine.{IsDescription, IsSingle};
+    ghost use Rattle.its_plain.specs.Machine.{IsDescription};
     ghost use Rattle.its_plain.specs.Plain.{pending_of, redistributor};
-    ghost use Rattle.owned_machine.specs.Migrations.{Migrates};
+    ghost use Rattle.owned_machine.specs.Migrations.{Migrates, Precopies};
     ghost use Rattle.owned_machine.specs.Pieces.{written_to};
     ghost use Rattle.owned_machine.specs.Whole.{IsMachine, may_want_memory};
     ghost use Rattle.owned_parts.specs.Owned.{state_of_parts};
@@ -51,8 +55,7 @@ impl Machine {
     /// let reply = machine.answer(alloc, &signal)?;
     /// ```
     pub fn new(alloc: Global, desc: &Desc) -> Result<Machine, MakeError>
-        requires counts { IsDescription desc.now }
-        requires single { IsSingle desc.now }
+        requires { IsDescription desc.now }
         ensures { IsMadeFrom desc.now result }
     {
         let parts = begin(alloc, desc)?;
@@ -82,7 +85,8 @@ impl Machine {
 
     /// Writes bytes to guest memory, which begin below 2^64 and end there: as a `Poke` does, but of
     /// any length, all or none. A piece of 64 bytes that doesn't lie in one window is left out, if
-    /// no window has all of them.
+    /// no window has all of them; the pages of all the bytes are dirty all the same, where there is
+    /// a second memory.
     pub fn write_memory(
         &mut self,
         alloc: Global,
@@ -94,6 +98,26 @@ impl Machine {
         ensures err { OnErr result (self.new ≡ self.old) }
     {
         write_stretch(&mut self.parts, alloc, address.0, bytes)
+    }
+
+    /// Makes bytes of guest memory zero, all or none: as a write of zeros does, but that the pages
+    /// that lie wholly inside go back to the host, and that it takes no memory. `Outside` comes
+    /// where no window has all of them.
+    pub fn forget(&mut self, address: Addr, len: u64) -> Result<(), Outside>
+        ensures done { OnOk result (self.new ≡ written_to self.old address.0 (replicate len 0)) }
+        ensures outside { IfErr result (λ e. e.0 ≡ address) }
+        ensures err { OnErr result (self.new ≡ self.old) }
+        ensures where_all { is_ok result ≡ inside self.old.memory address.0 len }
+    {
+        forget_stretch(&mut self.parts, address, len)
+    }
+
+    /// The parts that the machine is made of, to be read.
+    pub fn parts(&self) -> &Parts
+        ensures whole { IsMachine result.now }
+        ensures state { state_of_parts result.now ≡ self.now }
+    {
+        &self.parts
     }
 
     /// The parts that the machine is made of.
@@ -160,15 +184,16 @@ impl Machine {
     pub fn migrate(&mut self, alloc: Global) -> Result<(), SaveError>
         ensures { Migrates result self.old self.new }
     {
-        let parts = &self.parts;
-        let in_place = InPlace {
-            layout: &parts.layout,
-            regs: &parts.regs,
-            maps: &parts.maps,
-            memory: &parts.memory,
-            redists: &parts.redists,
-        };
-        self.parts = moved(alloc, &in_place)?;
+        self.parts = moved(alloc, &self.parts.in_place())?;
         Ok(())
+    }
+
+    /// The same, where the machine has a second memory: the pages that are dirty, or that a save
+    /// would write, are copied there, and the machine goes on from that memory. It answers how many
+    /// they were.
+    pub fn precopy(&mut self, alloc: Global) -> Result<u64, SaveError>
+        ensures { Precopies result self.old self.new }
+    {
+        precopied(&mut self.parts, alloc)
     }
 }

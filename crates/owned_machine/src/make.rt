@@ -1,16 +1,20 @@
 //! The parts of the machine that a description makes.
 ghost use Rattle.std.specs.Prelude.{◌≡◌, ◌≤◌, ◌<◌, true, false, Err, IfOk, IfErr, map, length, sum};
-ghost use Rattle.std.specs.Prelude.{nat_le};
+ghost use Rattle.std.specs.Prelude.{nat_le, replicate};
 ghost use Rattle.std.specs.Bool.{OnTrue};
 ghost use Rattle.guest_windows.specs.Windows.{zeros};
 ghost use Rattle.guest_windows.specs.Fields.{pairs};
 ghost use Rattle.its_plain.specs.Machine as spec;
-ghost use Rattle.its_plain.specs.Machine.{IsDescription, IsSingle, HasTablesFor};
+ghost use Rattle.its_plain.specs.Machine.{IsDescription, HasTablesFor};
 ghost use Rattle.its_plain.specs.Sound.{IsShape};
 ghost use Rattle.its_plain.specs.declared.desc.DescFault.TheVariants as faults;
 ghost use Rattle.owned_machine.specs.Making.{IsWindowFault, Fills};
+ghost use Rattle.owned_parts.specs.Owned.{one_or_two, translator_of};
+ghost use Rattle.std.specs.Option.{option_map};
 ghost use Rattle.owned_machine.specs.Start.{IsFilled, HasConfig, IsFirstOf, AreFirst, AreStarted};
+ghost use Rattle.owned_machine.specs.Start.{reset_translator, devices_test};
 
+use crate::frames::{all_frames_fit, all_new, ensure};
 use gits_regs::Regs;
 use guest_windows::{Memory, NewError, WriteError};
 use its_maps::Maps;
@@ -18,15 +22,15 @@ use its_plain::{Desc, DescFault, Fill, LpiTables, MakeError};
 use its_types::{Addr, Bases, Shape, Vcpu};
 use lpi_config::Config;
 use lpi_pending::{Pending, Redist, Redists};
-use owned_parts::Parts;
+use owned_parts::{Parts, Translator};
 use std::alloc::{AllocError, Global};
+use table_restore::fresh_track;
 
 /// Registers at reset, nothing mapped, nothing pending, and the configuration as memory has it (or
 /// LPIs off, where the guest programs the tables), or the first thing that is wrong with the
 /// description.
 pub fn start(alloc: Global, desc: &Desc) -> Result<Parts, MakeError>
-    requires counts { IsDescription desc.now }
-    requires single { IsSingle desc.now }
+    requires { IsDescription desc.now }
     ensures { AreStarted desc.now result }
 {
     let memory = filled(alloc, desc)?;
@@ -39,33 +43,71 @@ pub fn start(alloc: Global, desc: &Desc) -> Result<Parts, MakeError>
     let Ok(layout) = desc.layout(alloc) else {
         return Err(MakeError::NoMemory);
     };
+    let Ok(track) = fresh_track(alloc, desc.track, &memory) else {
+        return Err(MakeError::NoMemory);
+    };
     Ok(Parts {
         layout,
-        regs: Regs::reset(desc.shape.dev_bits),
-        maps: Maps::new(alloc),
+        first: at_reset(alloc, desc.shape.dev_bits),
+        second: second_at_reset(
+            alloc,
+            desc.translators.as_slice().len(),
+            desc.shape.dev_bits,
+        ),
         memory,
+        track,
         redists,
     })
+}
+
+// A translator at reset, with nothing mapped.
+fn at_reset(alloc: Global, dev_bits: u8) -> Translator
+    requires least { 16 ≤ dev_bits }
+    requires most { dev_bits ≤ 20 }
+    ensures { translator_of result ≡ reset_translator dev_bits }
+{
+    Translator {
+        regs: Regs::reset(dev_bits),
+        maps: Maps::new(alloc),
+    }
+}
+
+// The second of so many translators, if there are two.
+fn second_at_reset(alloc: Global, count: usize, dev_bits: u8) -> Option<Translator>
+    requires least { 16 ≤ dev_bits }
+    requires most { dev_bits ≤ 20 }
+    requires some { 1 ≤ count }
+    requires few { count ≤ 2 }
+    ensures { one_or_two (reset_translator dev_bits) (option_map translator_of result)
+        ≡ replicate count (reset_translator dev_bits) }
+{
+    if count == 2 {
+        Some(at_reset(alloc, dev_bits))
+    } else {
+        None
+    }
 }
 
 // Memory with the bytes that the description puts there, if its tables lie in it.
 #[tactic(auto, unfolding(its_plain::specs::Machine::made))]
 fn filled(alloc: Global, desc: &Desc) -> Result<Memory, MakeError>
-    requires counts { IsDescription desc.now }
-    requires single { IsSingle desc.now }
+    requires { IsDescription desc.now }
     ensures { IsFilled desc.now result }
 {
     let mut memory = memory_of(alloc, desc)?;
     tables_inside(&desc.tables, &memory, &desc.shape)?;
     fill(&mut memory, desc.fills.as_slice())?;
+    devices_fit(desc)?;
     Ok(memory)
 }
 
-// The fault, unless the test holds.
-fn ensure(test: bool, fault: DescFault) -> Result<(), DescFault>
-    ensures { result ≡ spec.ensure test fault }
+// The frames and the requesters of a description, or the first thing that is wrong with them.
+fn devices_fit(desc: &Desc) -> Result<(), DescFault>
+    requires { IsDescription desc.now }
+    ensures { result ≡ devices_test desc.now }
 {
-    if test { Ok(()) } else { Err(fault) }
+    all_frames_fit(desc.windows.as_slice(), desc.translators.as_slice())?;
+    all_new(desc.requesters.as_slice())
 }
 
 // Memory with the windows of a description, all bytes zero.

@@ -1,25 +1,33 @@
 //! Restored machines, and migrations (KVM document arm-vgic-its, "ITS Restore Sequence").
-ghost use Rattle.std.specs.Prelude.{◌≡◌, true, [], ◌∷◌};
+ghost use Rattle.std.specs.Prelude.{◌≡◌, true, IfOk, map, is_some, Some};
+ghost use Rattle.std.specs.List.{list_any};
+ghost use Rattle.dirty_log.specs.Copies.{caught_up};
+ghost use Rattle.dirty_log.specs.Pages.{dirty_count};
+ghost use Rattle.guest_windows.specs.Windows.{extent};
 ghost use Rattle.gicr_regs.specs.Registers.{all_restored_bases};
-ghost use Rattle.saved_state.specs.Laws.{values_read, bases_of};
+ghost use Rattle.saved_state.specs.Laws as reads;
+ghost use Rattle.saved_state.specs.Laws.{bases_of, reads_of};
 ghost use Rattle.standing_states.specs.Laws.{AreGiven};
 ghost use Rattle.its_plain.specs.Described as described;
-ghost use Rattle.its_plain.specs.Machine.{IsDescription, IsSingle};
+ghost use Rattle.its_plain.specs.Machine.{IsDescription};
 ghost use Rattle.owned_parts.specs.Owned.{state_of_parts};
-ghost use Rattle.owned_machine.specs.Whole.{IsMachine};
-ghost use Rattle.owned_machine.specs.Migrations.{AreMoved, AreBegun};
+ghost use Rattle.owned_machine.specs.Whole.{IsMachine, GoesOn};
+ghost use Rattle.its_plain.specs.Saved as plain;
+ghost use Rattle.its_plain.specs.Saved.{IsSavable};
+ghost use Rattle.owned_machine.specs.Migrations.{AreMoved, AreOfMachine, AreBegun, GoesOnFrom};
 ghost use Rattle.owned_machine.specs.Placed.{parts_in};
+ghost use Rattle.owned_machine.specs.Start.{AreOfFirst};
 
 use crate::make::start;
+use crate::saves::mark_saved;
+use dirty_log::Tracked;
 use gicr_regs::{GicrRegisters, GicrValues, values_come_back, values_of};
 use gits_regs::{RegValues, Regs, offsets};
 use guest_windows::Memory;
-use its_maps::Maps;
-use its_plain::{Desc, DescFault, Layout, LpiTables, MakeError, SaveError};
+use its_plain::{Desc, DescFault, Its, Layout, LpiTables, MakeError, SaveError};
 use its_types::Vcpu;
-use lpi_pending::Redists;
-use owned_parts::Parts;
-use std::alloc::Global;
+use owned_parts::{InPlace, Parts};
+use std::alloc::{AllocError, Global};
 use table_restore::{RestoreError, restore_in};
 use table_save::saved_memory;
 
@@ -30,48 +38,74 @@ const RESET: GicrRegisters = GicrRegisters {
     pendbaser: 0,
 };
 
-/// All parts of a machine, each where it stands.
-#[derive(Clone, Copy)]
-pub struct InPlace<'a> {
-    /// What no call changes.
-    pub layout: &'a Layout,
-    /// The registers of the translator.
-    pub regs: &'a Regs,
-    /// Its devices, events and collections.
-    pub maps: &'a Maps,
-    /// Guest memory.
-    pub memory: &'a Memory,
-    /// Those of all virtual processors, in hand.
-    pub redists: &'a Redists,
-}
-
 /// The parts that a description makes, restored from memory where the description says so, or the
 /// first thing that is wrong.
 pub fn begin(alloc: Global, desc: &Desc) -> Result<Parts, MakeError>
-    requires counts { IsDescription desc.now }
-    requires single { IsSingle desc.now }
+    requires { IsDescription desc.now }
     ensures { AreBegun desc.now result }
 {
     let parts = start(alloc, desc)?;
-    let Some(values) = values_to_restore(desc) else {
-        return Ok(parts);
+    let Ok(values) = values_to_restore(alloc, desc.translators.as_slice()) else {
+        return Err(MakeError::NoMemory);
     };
+    if are_given(&values) {
+        let (layout, memory) = base_of(parts);
+        restored(alloc, desc, &values, &layout, memory)
+    } else {
+        Ok(parts)
+    }
+}
+
+// What no call changes, and guest memory.
+fn base_of(parts: Parts) -> (Layout, Memory)
+    ensures layout { result.0 ≡ parts.layout }
+    ensures memory { result.1 ≡ parts.memory }
+{
+    (parts.layout, parts.memory)
+}
+
+// What the memory of the machine at reset and these values stand for.
+fn restored(
+    alloc: Global,
+    desc: &Desc,
+    values: &[Option<RegValues>],
+    layout: &Layout,
+    memory: Memory,
+) -> Result<Parts, MakeError>
+    requires counts { IsDescription desc.now }
+    requires base { AreOfFirst desc.now layout.now memory }
+    requires values { values.now ≡ described.values_of desc.now }
+    requires given { list_any is_some values.now ≡ true }
+    ensures { AreBegun desc.now result }
+{
     let given = values_given(&desc.tables);
-    match restore_in(alloc, values, &given, parts.memory, &parts.layout) {
+    match restore_in(alloc, values, &given, memory, layout) {
         Ok(restored) => Ok(restored),
-        Err((_, RestoreError::Fault(fault))) => {
-            Err(MakeError::Fault(DescFault::Restore(0, fault)))
+        Err((_, RestoreError::Fault(its, fault))) => {
+            Err(MakeError::Fault(DescFault::Restore(its, fault)))
         }
         Err((_, RestoreError::NoMemory)) => Err(MakeError::NoMemory),
     }
 }
 
-// The values that the translator is restored with, if it is.
-fn values_to_restore(desc: &Desc) -> Option<RegValues>
-    requires { IsSingle desc.now }
-    ensures { described.values_of desc.now ≡ result ∷ [] }
+// The values that each translator is restored with, if it is.
+fn values_to_restore(
+    alloc: Global,
+    translators: &[Its],
+) -> Result<Vec<Option<RegValues>>, AllocError>
+    ensures { IfOk result (λ v. v.items ≡ map (λ t. t.restore) translators.now) }
 {
-    desc.translators.as_slice()[0].restore
+    translators
+        .iter()
+        .map(|translator| translator.restore)
+        .collect(alloc)
+}
+
+// Some translator is restored.
+fn are_given(values: &[Option<RegValues>]) -> bool
+    ensures { result ≡ list_any is_some values.now }
+{
+    values.iter().any(|value| value.is_some())
 }
 
 // The values of the redistributors' registers that a description gives, if it does.
@@ -93,32 +127,74 @@ pub fn moved(alloc: Global, parts: &InPlace<'_>) -> Result<Parts, SaveError>
     requires { IsMachine (parts_in parts.now) }
     ensures { AreMoved (state_of_parts (parts_in parts.now)) result }
 {
-    let memory = saved_memory(
-        alloc,
-        parts.regs,
-        parts.maps,
-        parts.redists,
-        parts.layout,
-        parts.memory,
-    )?;
-    let values = registers_of(parts);
-    match restore_in(
-        alloc,
-        translator_values(parts.regs),
-        &values,
-        memory,
-        parts.layout,
-    ) {
+    let memory = saved_memory(alloc, parts)?;
+    Ok(resumed(alloc, parts, memory)?)
+}
+
+/// The parts that a memory and the registers stand for, where the tables are saved in that memory.
+/// The parts given stay as they are.
+pub fn resumed(alloc: Global, parts: &InPlace<'_>, memory: Memory) -> Result<Parts, AllocError>
+    requires machine { AreOfMachine parts.now }
+    requires savable { IsSavable (state_of_parts (parts_in parts.now)) }
+    requires saved { memory ≡ plain.saved (state_of_parts (parts_in parts.now)) }
+    ensures { IfOk result (λ p. GoesOn p (plain.moved (state_of_parts (parts_in parts.now)))) }
+{
+    let values = values_read(alloc, parts)?;
+    let given = registers_of(parts);
+    match restore_in(alloc, &values, &given, memory, parts.layout) {
         Ok(restored) => Ok(restored),
-        Err((_, RestoreError::Fault(_))) => unreachable!(),
-        Err((_, RestoreError::NoMemory)) => Err(SaveError::NoMemory),
+        Err((_, RestoreError::Fault(_, _))) => unreachable!(),
+        Err((_, RestoreError::NoMemory)) => Err(AllocError),
     }
 }
 
-// What is read of the translator's registers.
+/// Goes on with the same, in the second memory where there is one, once the pages that are dirty or
+/// that a save writes are copied there; answers how many they were. Where it answers an error, the
+/// parts are as they were.
+pub fn precopied(parts: &mut Parts, alloc: Global) -> Result<u64, SaveError>
+    requires { IsMachine parts.old }
+    ensures { GoesOnFrom parts.old result parts.new }
+{
+    let mut next = moved(alloc, &parts.in_place())?;
+    mark_saved(parts);
+    let Some(track) = parts.track.take() else {
+        *parts = next;
+        return Ok(0);
+    };
+    let (memory, count) = copied_last(track, &next.memory);
+    next.memory = memory;
+    *parts = next;
+    Ok(count)
+}
+
+// The second memory, once the dirty pages are copied there, and how many they were.
+fn copied_last(track: Tracked, memory: &Memory) -> (Memory, u64)
+    requires { map extent track.copy ≡ map extent memory.now }
+    ensures memory { result.0 ≡ (caught_up memory.now track).copy }
+    ensures count { result.1 ≡ dirty_count track.log }
+{
+    let mut track = track;
+    let count = track.copy_from(memory);
+    (track.copy.into_memory(), count)
+}
+
+// What is read of the registers of each translator.
+fn values_read(alloc: Global, parts: &InPlace<'_>) -> Result<Vec<Option<RegValues>>, AllocError>
+    ensures { IfOk result (λ v.
+        v.items ≡ map (λ r. Some r) (reads_of (state_of_parts (parts_in parts.now)))) }
+{
+    let mut values = Vec::with_capacity(alloc, 2)?;
+    values.push(Some(translator_values(parts.first.regs)))?;
+    if let Some(second) = parts.second {
+        values.push(Some(translator_values(second.regs)))?;
+    }
+    Ok(values)
+}
+
+// What is read of a translator's registers.
 #[tactic(auto, unfolding(saved_state::specs::Laws::values_read, gits_regs::specs::Registers::read_reg, gits_regs::specs::Registers::read_word))]
 fn translator_values(regs: &Regs) -> RegValues
-    ensures { result ≡ values_read regs.now }
+    ensures { result ≡ reads.values_read regs.now }
 {
     RegValues {
         ctlr: regs.read(offsets::CTLR, 4),
@@ -132,7 +208,7 @@ fn translator_values(regs: &Regs) -> RegValues
 
 // The values of the redistributors' registers, where the guest programs them.
 fn registers_of(parts: &InPlace<'_>) -> GicrValues
-    requires { IsMachine (parts_in parts.now) }
+    requires { AreOfMachine parts.now }
     ensures { parts.now.layout.now.gicr ≡ true
         → all_restored_bases parts.now.layout.now.shape.vcpus result ≡ bases_of
         (state_of_parts (parts_in parts.now)) }

@@ -4,10 +4,12 @@ ghost use Rattle.its_plain.specs.Regions as regions;
 ghost use Rattle.its_plain.specs.Answer as answers;
 ghost use Rattle.owned_parts.specs.Owned.{state_of_parts};
 ghost use Rattle.owned_machine.specs.Whole.{IsMachine, GoesOn};
+ghost use Rattle.owned_machine.specs.Migrations.{marked};
 
 use its_plain::{Reply, SaveError};
 use owned_parts::Parts;
 use std::alloc::{AllocError, Global};
+use table_save::{mark_tables, saved_memory};
 
 /// Writes the tables to guest memory, or answers why not. Out of memory, nothing is written.
 pub fn save(parts: &mut Parts, alloc: Global) -> Result<Reply, AllocError>
@@ -19,16 +21,24 @@ pub fn save(parts: &mut Parts, alloc: Global) -> Result<Reply, AllocError>
         (regions.savable (state_of_parts parts.old)))) }
     ensures err { OnErr result (parts.new ≡ parts.old) }
 {
-    match table_save::save(
-        alloc,
-        &parts.regs,
-        &parts.maps,
-        &parts.redists,
-        &parts.layout,
-        &mut parts.memory,
-    ) {
-        Ok(()) => Ok(Reply::Saved),
-        Err(SaveError::Fault(fault)) => Ok(Reply::SaveFault(fault)),
-        Err(SaveError::NoMemory) => Err(AllocError),
-    }
+    let memory = match saved_memory(alloc, &parts.in_place()) {
+        Ok(memory) => memory,
+        Err(SaveError::Fault(fault)) => return Ok(Reply::SaveFault(fault)),
+        Err(SaveError::NoMemory) => return Err(AllocError),
+    };
+    mark_saved(parts);
+    parts.memory = memory;
+    Ok(Reply::Saved)
+}
+
+/// Marks the pages of the tables that a save writes, where the machine has a second memory.
+pub fn mark_saved(parts: &mut Parts)
+    requires { IsMachine parts.old }
+    ensures { parts.new ≡ marked parts.old }
+{
+    let Some(mut track) = parts.track.take() else {
+        return;
+    };
+    mark_tables(&parts.in_place(), &mut track);
+    parts.track = Some(track);
 }

@@ -2,6 +2,7 @@
 ghost use Rattle.std.specs.Prelude.{◌≡◌, true, IfOk};
 ghost use Rattle.its_plain.specs.Translation as translation;
 ghost use Rattle.its_plain.specs.Answer as plain;
+ghost use Rattle.its_plain.specs.Plain as states;
 ghost use Rattle.cmd_exec.specs.InHand.{changed, with_set, takes_lpi};
 ghost use Rattle.owned_parts.specs.Owned.{state_of_parts};
 ghost use Rattle.owned_machine.specs.Whole.{IsMachine, GoesOn};
@@ -27,21 +28,30 @@ pub fn signal(parts: &mut Parts, its: u8, dev: DeviceId, ev: EventId) -> Signal
     }
 }
 
-// The target whose LPIs are on. There is only translator 0.
+// The target whose LPIs are on.
 #[tactic(auto, unfolding(its_plain::specs::Translation::translated))]
 fn translate(parts: &Parts, its: u8, dev: DeviceId, ev: EventId) -> Result<Target, Cause>
     requires { IsMachine parts.now }
     ensures target { result ≡ translation.translated (state_of_parts parts.now) its dev.0 ev.0 }
     ensures takes { IfOk result (λ t. takes_lpi parts.now.redists t.vcpu.0 t.intid.0 ≡ true) }
 {
-    if its != 0 {
-        return Err(Cause::Disabled);
-    }
-    let target = locate(&parts.regs, &parts.maps, dev, ev)?;
+    let target = located(parts, its, dev, ev)?;
     if !parts.redists.redist(target.vcpu).bases.on {
         return Err(Cause::LpisOff);
     }
     Ok(target)
+}
+
+// Where a translator sends an event. One that there isn't is disabled.
+fn located(parts: &Parts, its: u8, dev: DeviceId, ev: EventId) -> Result<Target, Cause>
+    requires { IsMachine parts.now }
+    ensures { result
+        ≡ translation.located (states.translator (state_of_parts parts.now) its) dev.0 ev.0 }
+{
+    match parts.in_place().translator(its) {
+        Some(translator) => locate(translator.regs, translator.maps, dev, ev),
+        None => Err(Cause::Disabled),
+    }
 }
 
 #[tactic(auto, unfolding(cmd_exec::specs::InHand::changed))]

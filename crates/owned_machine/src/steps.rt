@@ -1,18 +1,24 @@
-//! Steps: a translator takes its next command (IHI 0069, section 5.3).
-ghost use Rattle.std.specs.Prelude.{◌≡◌, true, IfOk, OnErr};
+//! Steps (IHI 0069, section 5.3).
+ghost use Rattle.std.specs.Prelude.{◌≡◌, true, ℕ, IfOk, OnOk, OnErr, is_some};
 ghost use Rattle.its_command.specs.Commands.{op_of};
+ghost use Rattle.its_plain.specs.Plain as plain;
 ghost use Rattle.its_plain.specs.Commands as commands;
 ghost use Rattle.its_plain.specs.Answer as answers;
 ghost use Rattle.cmd_exec.specs.Executed as executed;
 ghost use Rattle.cmd_exec.specs.Met.{MeetsCommand};
 ghost use Rattle.cmd_exec.specs.Room.{adds_to};
-ghost use Rattle.owned_parts.specs.Owned.{state_of_parts};
+ghost use Rattle.lpi_pending.specs.InHand.{in_hand};
+ghost use Rattle.owned_parts.specs.Owned.{ArePartsOf, ArePartsOfSound, state_of_parts};
 ghost use Rattle.owned_machine.specs.Whole.{IsMachine, GoesOn, step_adds};
+ghost use Rattle.owned_machine.specs.Steps.{HoldsAll};
 
 use cmd_exec::{Met, apply, make_room, meet, plan};
+use guest_windows::Memory;
 use its_command::Command;
 use its_plain::StepReply;
-use owned_parts::Parts;
+use its_types::Shape;
+use lpi_pending::Redists;
+use owned_parts::{Parts, Translator};
 use std::alloc::AllocError;
 
 /// A step. A translator that there isn't is idle. Out of memory nothing is changed, and that comes
@@ -26,44 +32,83 @@ pub fn step(parts: &mut Parts, its: u8) -> Result<StepReply, AllocError>
     ensures err { OnErr result (parts.new ≡ parts.old) }
     ensures adding { OnErr result (step_adds (state_of_parts parts.old) its ≡ true) }
 {
-    if its != 0 {
-        return Ok(StepReply::Idle);
+    if its == 0 {
+        let shape = &parts.layout.shape;
+        return step_of(&mut parts.first, &parts.memory, &mut parts.redists, shape);
     }
-    match meet(&parts.regs, &parts.memory) {
+    if its == 1 {
+        if let Some(second) = &mut parts.second {
+            return step_of(
+                second,
+                &parts.memory,
+                &mut parts.redists,
+                &parts.layout.shape,
+            );
+        }
+    }
+    Ok(StepReply::Idle)
+}
+
+// That of one translator, by what is so of each state that has these parts.
+fn step_of(
+    translator: &mut Translator,
+    memory: &Memory,
+    redists: &mut Redists,
+    shape: &Shape,
+) -> Result<StepReply, AllocError>
+    requires parts { ArePartsOfSound shape.now translator.old.regs translator.old.maps.maps
+        memory.now redists.old }
+    requires holds { HoldsAll shape.now redists.old }
+    ensures reply { IfOk result (λ r. (u : plain.Plain) (i : ℕ) → ArePartsOf u i shape.now
+        translator.old.regs translator.old.maps.maps memory.now redists.old
+        → r ≡ answers.step_reply u i) }
+    ensures left { OnOk result ((u : plain.Plain) (i : ℕ) → ArePartsOf u i shape.now
+        translator.old.regs translator.old.maps.maps memory.now redists.old
+        → ArePartsOf (answers.step_left u i) i shape.now
+        translator.new.regs translator.new.maps.maps memory.now redists.new) }
+    ensures hand { OnOk result ((vcpu : ℕ) → is_some (in_hand redists.new vcpu)
+        ≡ is_some (in_hand redists.old vcpu)) }
+    ensures same { OnErr result (translator.new ≡ translator.old) }
+    ensures held { OnErr result (redists.new ≡ redists.old) }
+    ensures adding { OnErr result ((u : plain.Plain) (i : ℕ) → ArePartsOf u i shape.now
+        translator.old.regs translator.old.maps.maps memory.now redists.old
+        → step_adds u i ≡ true) }
+{
+    match meet(&translator.regs, memory) {
         Met::Still(reply) => Ok(reply),
-        Met::Command(command) => run(parts, &command),
+        Met::Command(command) => run(translator, memory, redists, shape, &command),
     }
 }
 
 // Runs or refuses the command that the translator has met.
-fn run(parts: &mut Parts, command: &Command) -> Result<StepReply, AllocError>
-    requires whole { IsMachine parts.old }
-    requires met { MeetsCommand parts.old.regs parts.old.memory command.now }
-    ensures reply { IfOk result (λ r.
-        r
-        ≡ answers.command_reply (op_of command.now)
-        (commands.ran (state_of_parts parts.old) 0 command.now)) }
-    ensures left { IfOk result (λ _.
-        GoesOn parts.new (executed.left_by command.now (state_of_parts parts.old) 0)) }
-    ensures err { OnErr result (parts.new ≡ parts.old) }
-    ensures adding { OnErr result (adds_to (state_of_parts parts.old) 0 command.now ≡ true) }
+fn run(
+    translator: &mut Translator,
+    memory: &Memory,
+    redists: &mut Redists,
+    shape: &Shape,
+    command: &Command,
+) -> Result<StepReply, AllocError>
+    requires parts { ArePartsOfSound shape.now translator.old.regs translator.old.maps.maps
+        memory.now redists.old }
+    requires holds { HoldsAll shape.now redists.old }
+    ensures reply { IfOk result (λ r. (u : plain.Plain) (i : ℕ) → ArePartsOf u i shape.now
+        translator.old.regs translator.old.maps.maps memory.now redists.old
+        → r ≡ answers.command_reply (op_of command.now) (commands.ran u i command.now)) }
+    ensures left { OnOk result ((u : plain.Plain) (i : ℕ) → ArePartsOf u i shape.now
+        translator.old.regs translator.old.maps.maps memory.now redists.old
+        → ArePartsOf (executed.left_by command.now u i) i shape.now
+        translator.new.regs translator.new.maps.maps memory.now redists.new) }
+    ensures hand { OnOk result ((vcpu : ℕ) → is_some (in_hand redists.new vcpu)
+        ≡ is_some (in_hand redists.old vcpu)) }
+    ensures same { OnErr result (translator.new ≡ translator.old) }
+    ensures held { OnErr result (redists.new ≡ redists.old) }
+    ensures adding { OnErr result ((u : plain.Plain) (i : ℕ) → ArePartsOf u i shape.now
+        translator.old.regs translator.old.maps.maps memory.now redists.old
+        → adds_to u i command.now ≡ true) }
 {
-    let planned = plan(
-        command,
-        &parts.regs,
-        &parts.maps,
-        &parts.memory,
-        &parts.redists,
-        &parts.layout.shape,
-    );
-    make_room(&planned, &mut parts.maps)?;
-    apply(
-        planned,
-        &mut parts.regs,
-        &mut parts.maps,
-        &parts.memory,
-        &mut parts.redists,
-        &parts.layout.shape,
-    );
+    let Translator { regs, maps } = translator;
+    let planned = plan(command, regs, maps, memory, redists, shape);
+    make_room(&planned, maps)?;
+    apply(planned, regs, maps, memory, redists, shape);
     Ok(planned.step_reply())
 }

@@ -1,16 +1,20 @@
 //! Guest memory, written in stretches of any length.
 ghost use Rattle.std.specs.Prelude.{◌≡◌, ◌<◌, ◌≤◌, ◌+◌, ◌*◌, ◌^◌, OnOk, OnErr, length};
+ghost use Rattle.std.specs.Prelude.{IfErr, is_ok, replicate};
+ghost use Rattle.guest_windows.specs.Windows.{inside};
 ghost use Rattle.owned_parts.specs.Owned.{state_of_parts};
 ghost use Rattle.owned_machine.specs.Pieces as spec;
 ghost use Rattle.owned_machine.specs.Whole.{IsMachine, GoesOn};
 
-use guest_windows::{Memory, WriteError};
+use crate::memory::mark;
+use guest_windows::{Memory, Outside, WriteError};
 use its_types::Addr;
 use owned_parts::Parts;
 use std::alloc::{AllocError, Global};
 
-/// Writes bytes of which each piece lies in one window; one that doesn't is left out. Out of memory,
-/// nothing is written: where no window has all of them, they are written to a copy first.
+/// Writes bytes of which each piece lies in one window; one that doesn't is left out. Where there is
+/// a second memory, the pages of all of them are dirty then. Out of memory, nothing is written:
+/// where no window has all of them, they are written to a copy first.
 pub fn write_stretch(
     parts: &mut Parts,
     alloc: Global,
@@ -23,12 +27,42 @@ pub fn write_stretch(
         (spec.written_to (state_of_parts parts.old) address bytes.now)) }
     ensures err { OnErr result (parts.new ≡ parts.old) }
 {
-    if parts.memory.inside(Addr(address), bytes.len() as u64) {
-        return put(&mut parts.memory, address, bytes);
+    put_all(&mut parts.memory, alloc, address, bytes)?;
+    mark(&mut parts.track, Addr(address), bytes.len() as u64);
+    Ok(())
+}
+
+/// Makes bytes zero where one window has them all, and gives back the pages that lie wholly inside.
+/// Where there is a second memory, the pages of all of them are dirty then.
+pub fn forget_stretch(parts: &mut Parts, addr: Addr, len: u64) -> Result<(), Outside>
+    requires { IsMachine parts.old }
+    ensures done { OnOk result (GoesOn parts.new
+        (spec.written_to (state_of_parts parts.old) addr.0 (replicate len 0))) }
+    ensures outside { IfErr result (λ e. e.0 ≡ addr) }
+    ensures err { OnErr result (parts.new ≡ parts.old) }
+    ensures where_all { is_ok result ≡ inside parts.old.memory addr.0 len }
+{
+    match parts.memory.forget(addr, len) {
+        Ok(()) => {
+            mark(&mut parts.track, addr, len);
+            Ok(())
+        }
+        Err(outside) => Err(outside),
     }
-    let mut memory = parts.memory.copy(alloc)?;
-    put_pieces(&mut memory, address, bytes)?;
-    parts.memory = memory;
+}
+
+fn put_all(memory: &mut Memory, alloc: Global, address: u64, bytes: &[u8]) -> Result<(), AllocError>
+    requires { address + length bytes.now < 2 ^ 64 }
+    ensures done { OnOk result (memory.new
+        ≡ spec.with_stretch memory.old address bytes.now) }
+    ensures err { OnErr result (memory.new ≡ memory.old) }
+{
+    if memory.inside(Addr(address), bytes.len() as u64) {
+        return put(memory, address, bytes);
+    }
+    let mut copy = memory.copy(alloc)?;
+    put_pieces(&mut copy, address, bytes)?;
+    *memory = copy;
     Ok(())
 }
 

@@ -6,7 +6,7 @@ use Rattle.owned_parts.specs.Owned.{state_of_parts}
 use Rattle.owned_machine.specs.Acks.{left_at}
 use Rattle.owned_machine.specs.Whole.{GoesOn, IfAcked}
 use Rattle.owned_machine.specs.declared.asked.Asked.TheVariants as asked
-use Rattle.owned_machine.proofs.Answered.{take_goes}
+use Rattle.owned_machine.proofs.Signalled.{take_goes}
 use Rattle.owned_machine.proofs.acks.take.Goals as goal
 
 pub clear_lpi-requires : goal.clear_lpi-requires

@@ -1,28 +1,16 @@
-use Rattle.owned_machine.proofs.Kept.{no_track}
-use Rattle.owned_machine.proofs.Migrating.{moved_goes, no_fault, where_fault}
-use Rattle.owned_machine.specs.Placed.{parts_in}
+use Rattle.std.proofs.Common.{◌≡◌, Ok, ap, subst, ◌∙◌}
+use Rattle.its_plain.specs.Plain.{Plain}
+use Rattle.its_plain.specs.Regions.{savable}
+use Rattle.its_plain.specs.Saved.{saved}
+use Rattle.owned_parts.specs.Owned.{track_at}
+use Rattle.owned_machine.proofs.Migrating.{in_place_is}
 use Rattle.owned_machine.proofs.migrations.moved.Goals as goal
 
-pub restore_in-requires-clause-track : goal.restore_in-requires-clause-track
-restore_in-requires-clause-track c = no_track (parts_in c.args.parts.now) c.requires
+pub resumed-requires-clause-machine : goal.resumed-requires-clause-machine
+resumed-requires-clause-machine c = (track_at c.args.parts.now, c.requires)
 
-pub unreachable-requires : goal.unreachable-requires
-unreachable-requires c =
-    let memory = c.in_ok-memory in
-    let values = c.registers_of-values in
-    let e = c.in-Err-default-Fault in
-    no_fault (parts_in c.args.parts.now) memory.memory c.translator_values.result values.result c.requires memory.ensures.0 memory.ensures.1
-    c.translator_values.ensures values.ensures e.field-0-1-0
-    (where_fault e.field-0-1 e.field-0-1-0 _ e.field-0-1-is e.ensures.fault)
+pub resumed-requires-clause-savable : goal.resumed-requires-clause-savable
+resumed-requires-clause-savable c = subst (λ (u : Plain). savable u ≡ Ok tt) (in_place_is c.args.parts.now) c.in_ok-memory.ensures.0
 
-pub returns-in-Ok : goal.returns-in-Ok
-returns-in-Ok c =
-    let p = parts_in c.args.parts.now in
-    let memory = c.in_ok-memory in
-    let values = c.registers_of-values in
-    let read = c.translator_values in
-    let e = c.in-Ok.ensures in (
-      memory.ensures.0,
-      moved_goes p memory.memory read.result values.result c.requires memory.ensures.0 memory.ensures.1 read.ensures values.ensures
-          c.in-Ok.restored e.layout e.stands e.in_hand e.no_others,
-    )
+pub resumed-requires-clause-saved : goal.resumed-requires-clause-saved
+resumed-requires-clause-saved c = c.in_ok-memory.ensures.1 ∙ ap saved (in_place_is c.args.parts.now)

@@ -1,5 +1,31 @@
-use Rattle.owned_machine.proofs.Answered.{save_goes}
+use Rattle.std.proofs.Common.{◌≡◌, Ok, subst, sym, ap, ◌∙◌, refl}
+use Rattle.its_plain.specs.Plain.{Plain}
+use Rattle.its_plain.specs.Answer.{save_reply, save_left}
+use Rattle.its_plain.specs.Regions.{savable}
+use Rattle.its_plain.specs.Saved.{saved}
+use Rattle.owned_parts.specs.Owned.{state_of_parts}
+use Rattle.owned_parts.specs.declared.parts.Parts.{Parts}
+use Rattle.owned_machine.specs.Whole.{GoesOn}
+use Rattle.owned_machine.specs.Migrations.{marked}
+use Rattle.owned_machine.proofs.Written.{save_goes}
+use Rattle.owned_machine.proofs.Migrating.{lent_sound, lent_in_hand}
 use Rattle.owned_machine.proofs.saves.save.Goals as goal
 
-pub returns-in-Ok-clause-left : goal.returns-in-Ok-clause-left
-returns-in-Ok-clause-left c = save_goes c.args.parts.now c.save.new.memory c.requires c.in-Ok.ensures.answer c.in-Ok.ensures.memory
+pub saved_memory-requires-clause-parts : goal.saved_memory-requires-clause-parts
+saved_memory-requires-clause-parts c =
+    lent_in_hand c.args.parts.now c.in_place.result c.requires c.in_place.ensures.layout c.in_place.ensures.redists
+
+pub saved_memory-requires-clause-sound : goal.saved_memory-requires-clause-sound
+saved_memory-requires-clause-sound c = lent_sound c.args.parts.now c.in_place.result c.requires c.in_place.ensures.state
+
+pub returns-clause-reply : goal.returns-clause-reply
+returns-clause-reply c =
+    sym (ap save_reply (subst (λ (u : Plain). savable u ≡ Ok tt) c.in_place.ensures.state c.in-Ok.ensures.0))
+
+pub returns-clause-left : goal.returns-clause-left
+returns-clause-left c =
+    let p = c.args.parts.now in
+    let u = state_of_parts p in
+    let can : savable u ≡ Ok tt = subst (λ (x : Plain). savable x ≡ Ok tt) c.in_place.ensures.state c.in-Ok.ensures.0 in
+    subst (λ (q : Parts). GoesOn (record q { memory = c.in-Ok.memory }) (save_left u (savable u))) (sym c.mark_saved.ensures)
+    (save_goes p c.in-Ok.memory (marked p).track c.requires can (c.in-Ok.ensures.1 ∙ ap saved c.in_place.ensures.state) refl)

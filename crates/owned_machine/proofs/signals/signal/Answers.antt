@@ -3,7 +3,7 @@ use Rattle.its_plain.specs.Commands.{lpi_set}
 use Rattle.lpi_pending.specs.declared.redist.Redist.{Redist}
 use Rattle.owned_parts.specs.Owned.{state_of_parts}
 use Rattle.owned_machine.specs.Whole.{GoesOn}
-use Rattle.owned_machine.proofs.Answered.{signal_goes}
+use Rattle.owned_machine.proofs.Signalled.{signal_goes}
 use Rattle.owned_machine.proofs.signals.signal.Goals as goal
 
 pub returns-in-Ok-clause-left : goal.returns-in-Ok-clause-left

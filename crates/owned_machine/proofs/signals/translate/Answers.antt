@@ -1,20 +1,18 @@
 use Rattle.std.proofs.Common.{sym, ap, ◌∙◌, ℕ}
 use Rattle.its_types.specs.Ranges.{is_lpi}
 use Rattle.owned_machine.proofs.Kept.{held, lpis_of, takes}
-use Rattle.owned_machine.proofs.Answered.{target_is, other_disabled}
+use Rattle.owned_machine.proofs.Signalled.{target_is}
 use Rattle.owned_machine.proofs.signals.translate.Goals as goal
-
-pub returns-then-its-ne0-clause-target : goal.returns-then-its-ne0-clause-target
-returns-then-its-ne0-clause-target c = other_disabled c.args.parts.now c.args.its c.args.dev.0 c.args.ev.0 c.if-its-ne0.true
 
 pub redist-requires : goal.redist-requires
 redist-requires c =
-    let t = target_is c.args.parts.now c.args.dev.0 c.args.ev.0 c.in_ok-target.target c.requires (sym c.locate.ensures ∙ c.in_ok-target.was) in
+    let t = target_is c.args.parts.now c.args.its c.args.dev.0 c.args.ev.0 c.in_ok-target.target c.requires
+    (sym c.located.ensures ∙ c.in_ok-target.was) in
     held c.args.parts.now c.in_ok-target.target.vcpu.0 c.requires t.0
 
 pub returns-clause-takes : goal.returns-clause-takes
 returns-clause-takes c =
     let p = c.args.parts.now in let target = c.in_ok-target.target in
-    let t = target_is p c.args.dev.0 c.args.ev.0 target c.requires (sym c.locate.ensures ∙ c.in_ok-target.was) in
+    let t = target_is p c.args.its c.args.dev.0 c.args.ev.0 target c.requires (sym c.located.ensures ∙ c.in_ok-target.was) in
     let h = lpis_of p target.vcpu.0 c.redist.result.now c.requires c.redist.ensures in
     takes p.redists target.vcpu.0 target.intid.0 c.redist.result.now c.redist.ensures (ap (λ (b : ℕ). is_lpi b target.intid.0) h.pending_bits ∙ t.1)

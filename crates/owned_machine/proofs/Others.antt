@@ -1,0 +1,72 @@
+-- What a step of one translator leaves of the others, and of the second memory.
+use Rattle.std.proofs.Common.{◌≡◌, ℕ, zero, suc, List, [], ◌∷◌, Option, Some, None, Result, Ok, Err, IfOk, refl, sym, subst}
+use Rattle.std.specs.Prelude.{slice_get, if◌then◌else◌}
+use Rattle.std.proofs.lemmas.Bool.{cond_both}
+use Rattle.std.proofs.lemmas.Option.{same_Some}
+use Rattle.dirty_log.specs.declared.tracked.Tracked.{Tracked}
+use Rattle.its_command.specs.Commands.{decoded}
+use Rattle.its_command.specs.declared.command.Command.{Command}
+use Rattle.its_types.specs.declared.machine.Part.{Part}
+use Rattle.its_types.specs.declared.machine.Part.TheVariants.{Maps as MapsOf}
+use Rattle.its_plain.specs.Plain.{Plain, maps_of}
+use Rattle.its_plain.specs.Answer.{step_left, met_left, command_left, is_idle, next_bytes}
+use Rattle.its_plain.specs.Commands.{ran, all_moved}
+use Rattle.its_plain.specs.Parts.{IsIn, footprint, needed_by}
+use Rattle.its_plain.specs.declared.call.Call.TheVariants as call
+use Rattle.its_plain.specs.declared.call.Reason.{Reason}
+use Rattle.plain_footprint.proofs.Kept.{commands_keep}
+use Rattle.cmd_exec.proofs.Sets.{IsRedist, AreRedists, needed_redists, needed_is}
+
+-- ---- parts
+
+no_maps_in : (ps : List Part) (j k : ℕ) → AreRedists ps → slice_get ps k ≡ Some (MapsOf j) → ⊥
+no_maps_in [] j k h e = absurd cc
+no_maps_in (p ∷ ps) j zero h e = subst IsRedist (same_Some p (MapsOf j) e) h.0
+no_maps_in (p ∷ ps) j (suc k) h e = no_maps_in ps j k h.1 e
+
+by_redists : (u : Plain) (i : ℕ) (o : Option (List ℕ)) → AreRedists (needed_by u i o)
+by_redists u i None = tt
+by_redists u i (Some bytes) =
+    subst AreRedists (sym (needed_is u i (decoded bytes))) (needed_redists u.layout.shape (maps_of u i) (decoded bytes))
+
+next_redists : (u : Plain) (i : ℕ) → AreRedists (if is_idle u i then [] else needed_by u i (next_bytes u i))
+next_redists u i = cond_both (is_idle u i) [] (needed_by u i (next_bytes u i)) AreRedists (λ _. tt) (λ _. by_redists u i (next_bytes u i))
+
+pub not_in_step : (u : Plain) (i j : ℕ) → (j ≡ i → ⊥) → ¬ IsIn (MapsOf j) (footprint u (call.Step i))
+unfolding footprint
+not_in_step u i j apart (zero, e) = apart (let one : Some (MapsOf i) ≡ Some (MapsOf j) = e in cc)
+not_in_step u i j apart (suc zero, e) = absurd cc
+not_in_step u i j apart (suc (suc k), e) = no_maps_in (if is_idle u i then [] else needed_by u i (next_bytes u i)) j k (next_redists u i) e
+
+-- ---- the second memory
+
+abbrev Tracks : Option Tracked → Plain → Type 0
+Tracks t u = u.track ≡ t
+
+all_moved_tracks : (u : Plain) (from to : ℕ) (t : Option Tracked) → Tracks t u → Tracks t (all_moved from to u)
+unfolding all_moved
+all_moved_tracks u from to t h = cond_both _ u _ (Tracks t) (λ _. h) (λ _. h)
+
+ran_tracks : (u : Plain) (i : ℕ) (c : Command) → IfOk (ran u i c) (Tracks u.track)
+ran_tracks u i c =
+    commands_keep (Tracks u.track) (record {
+      lpis = record {
+        set = λ v intid vcpu on h. h;
+        cleared = λ v intid vcpu h. h;
+        all_moved = λ v from to on h. all_moved_tracks v from to u.track h;
+        reread = λ v intids h. h;
+      };
+      maps = λ v j m h. h;
+    }) u i c refl
+
+left_tracks : (u : Plain) (r : Result Plain Reason) → IfOk r (Tracks u.track) → (command_left u r).track ≡ u.track
+left_tracks u (Ok w) h = h
+left_tracks u (Err e) h = refl
+
+met_tracks : (u : Plain) (i : ℕ) (o : Option (List ℕ)) → (met_left u i o).track ≡ u.track
+met_tracks u i None = refl
+met_tracks u i (Some bytes) = left_tracks u (ran u i (decoded bytes)) (ran_tracks u i (decoded bytes))
+
+pub step_track : (u : Plain) (i : ℕ) → (step_left u i).track ≡ u.track
+unfolding step_left
+step_track u i = cond_both (is_idle u i) u (met_left u i (next_bytes u i)) (λ w. w.track ≡ u.track) (λ _. refl) (λ _. met_tracks u i (next_bytes u i))

@@ -1,0 +1,16 @@
+use Rattle.std.proofs.Common.{◌≡◌, Ok, ap, subst, ◌∙◌}
+use Rattle.its_plain.specs.Plain.{Plain}
+use Rattle.its_plain.specs.Regions.{savable}
+use Rattle.its_plain.specs.Saved.{moved}
+use Rattle.owned_machine.proofs.Migrating.{lent_whole, moved_from}
+use Rattle.owned_machine.proofs.machine.Machine.migrate.Goals as goal
+
+pub moved-requires : goal.moved-requires
+moved-requires c =
+    let at = c.in_place in
+    lent_whole c.self.inside.parts at.result c.self.invariant at.ensures.state at.ensures.layout at.ensures.redists
+
+pub returns : goal.returns
+returns c =
+    let h = moved_from c.self.inside.parts c.in_place.result c.in_ok-self-inside.field-0 c.in_place.ensures.state c.in_ok-self-inside.ensures in
+    (subst (λ (u : Plain). savable u ≡ Ok tt) c.self.view_is h.0, h.1.state ∙ ap moved c.self.view_is)

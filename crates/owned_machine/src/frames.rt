@@ -1,0 +1,124 @@
+//! Where the frames of the translators stand, and which devices write by address.
+ghost use Rattle.std.specs.Prelude.{◌≡◌, ◌+◌, ◌≤◌, ◌^◌, ◌∷◌, [], length};
+ghost use Rattle.std.specs.List.{list_any};
+ghost use Rattle.guest_windows.specs.Fields.{pairs};
+ghost use Rattle.its_plain.specs.Machine as spec;
+ghost use Rattle.owned_machine.specs.Frames.{fits_beside, taken_with, place_of};
+
+use its_plain::{DescFault, Its, Requesters};
+use its_types::Addr;
+
+// How many bytes the two frames of a translator have.
+const FRAMES: u64 = 131_072;
+
+// All addresses lie below this one.
+const END: u64 = 1 << 52;
+
+/// The fault, unless the test holds.
+pub fn ensure(test: bool, fault: DescFault) -> Result<(), DescFault>
+    ensures { result ≡ spec.ensure test fault }
+{
+    if test { Ok(()) } else { Err(fault) }
+}
+
+/// The frames of each translator fit beside the windows and the frames before them, or the first
+/// whose frames don't.
+pub fn all_frames_fit(windows: &[(Addr, u64)], translators: &[Its]) -> Result<(), DescFault>
+    requires some { 1 ≤ length translators.now }
+    requires most { length translators.now ≤ 2 }
+    ensures { result ≡ spec.all_frames_fit (pairs windows.now) 0 translators.now }
+{
+    let first = translators[0].frames;
+    ensure(fit(windows, None, first), DescFault::Frames(0))?;
+    if translators.len() == 1 {
+        return Ok(());
+    }
+    ensure(
+        fit(windows, first, translators[1].frames),
+        DescFault::Frames(1),
+    )
+}
+
+// Frames fit beside the windows and those before, if there are any.
+fn fit(windows: &[(Addr, u64)], before: Option<Addr>, frames: Option<Addr>) -> bool
+    ensures { result ≡ fits_beside (taken_with before (pairs windows.now)) frames }
+{
+    match frames {
+        Some(base) => one_fits(windows, before, base),
+        None => true,
+    }
+}
+
+fn one_fits(windows: &[(Addr, u64)], before: Option<Addr>, base: Addr) -> bool
+    ensures { result ≡ spec.frames_fit (taken_with before (pairs windows.now)) base }
+{
+    base.0 <= END - FRAMES && !meets_frames(before, base) && !meets_windows(windows, base)
+}
+
+// They share a byte with the frames before.
+fn meets_frames(before: Option<Addr>, base: Addr) -> bool
+    requires { base.0 + 131072 ≤ 2 ^ 52 }
+    ensures { result ≡ list_any (spec.share (place_of base)) (taken_with before []) }
+{
+    match before {
+        Some(frames) => meets(&(frames, FRAMES), base),
+        None => false,
+    }
+}
+
+// They share a byte with a window.
+fn meets_windows(windows: &[(Addr, u64)], base: Addr) -> bool
+    requires { base.0 + 131072 ≤ 2 ^ 52 }
+    ensures { result ≡ list_any (spec.share (place_of base)) (pairs windows.now) }
+{
+    let mut rest = windows;
+    while let [window, others @ ..] = rest {
+        if meets(window, base) {
+            return true;
+        }
+        rest = others;
+    }
+    false
+}
+
+fn meets(stretch: &(Addr, u64), base: Addr) -> bool
+    requires { base.0 + 131072 ≤ 2 ^ 52 }
+    ensures { result ≡ spec.share (place_of base) (stretch.now.0.0, stretch.now.1) }
+{
+    let before_its_end = base.0 < stretch.0.0 || base.0 - stretch.0.0 < stretch.1;
+    before_its_end && stretch.0.0 < base.0 + FRAMES
+}
+
+/// There are requesters on each line, each is a device, and none is on an earlier line; or the
+/// first line of which this isn't so.
+pub fn all_new(lines: &[Requesters]) -> Result<(), DescFault>
+    ensures { result ≡ spec.all_new [] 0 lines.now }
+{
+    for (n, line) in lines.iter().enumerate() {
+        if !are_new(&lines[..n], line) {
+            return Err(DescFault::Requesters(n as u64));
+        }
+    }
+    Ok(())
+}
+
+fn are_new(before: &[Requesters], line: &Requesters) -> bool
+    ensures { result ≡ spec.are_new before.now line.now }
+{
+    line.first <= line.last
+        && line.dev.0 <= u32::MAX - (line.last - line.first)
+        && !meets_another(before, line)
+}
+
+// A requester of the line is on one of the others.
+fn meets_another(others: &[Requesters], line: &Requesters) -> bool
+    ensures { result ≡ list_any (spec.meet line.now) others.now }
+{
+    others.iter().any(|other| meet(line, other))
+}
+
+fn meet(line: &Requesters, other: &Requesters) -> bool
+    ensures { result ≡ spec.meet line.now other.now }
+{
+    line.first <= other.last && other.first <= line.last
+}
