@@ -1,0 +1,14 @@
+mod AllEvents
+mod Rereads
+mod MappedLpis
+mod PlacesOver
+mod OverRan
+mod OverStep
+mod SavedBytes
+mod Told
+mod Added
+mod Totals
+mod OfMachine
+mod Meeting
+mod Listing
+mod Leads

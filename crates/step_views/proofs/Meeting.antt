@@ -1,0 +1,147 @@
+-- What a translator meets, and what a step then reads and leaves.
+use Rattle.std.proofs.Common.{◌≡◌, ℕ, Bool, true, false, cond, List, [], ◌∷◌, Option, None, Result, Ok, Err, refl, sym, ap, subst, ◌∙◌}
+use Rattle.std.specs.Prelude.{not, ◌&&◌, is_ok, slice_get}
+use Rattle.gits_regs.specs.Registers.{Registers, queue_place}
+use Rattle.its_command.specs.declared.command.Command.{Command}
+use Rattle.its_command.specs.declared.command.Op.{Op}
+use Rattle.its_types.specs.Maps.{Maps}
+use Rattle.its_types.specs.declared.machine.Part.{Part}
+use Rattle.its_types.specs.declared.machine.Part.TheVariants.{Maps as MapsOf, Mem}
+use Rattle.its_plain.specs.Answer.{step_left, next_bytes, left, command_reply}
+use Rattle.its_plain.specs.Commands.{ran}
+use Rattle.its_plain.specs.Parts.{footprint, needed, needed_by, needed_next, redist, IsIn}
+use Rattle.its_plain.specs.Plain.{Plain, Translator, regs_of, maps_of}
+use Rattle.its_plain.specs.declared.call.Call.TheVariants as call
+use Rattle.its_plain.specs.declared.call.Reason.{Reason}
+use Rattle.its_plain.specs.declared.call.StepReply.{StepReply}
+use Rattle.its_plain.specs.declared.call.StepReply.TheVariants.{Idle, Ran, Refused, QueueFault}
+use Rattle.cmd_exec.specs.Met.{MeetsNone, MeetsCommand}
+use Rattle.cmd_exec.specs.Needs.{ArePartsOfStep}
+use Rattle.owned_parts.specs.Owned.{state_of_parts}
+use Rattle.owned_parts.specs.RedistSets.{is_in}
+use Rattle.owned_parts.specs.declared.in_place.TranslatorRef.{TranslatorRef}
+use Rattle.owned_parts.specs.declared.parts.Parts.{Parts}
+use Rattle.owned_machine.specs.Whole.{IsMachine}
+use Rattle.owned_machine.proofs.Stepped.{still_left}
+use Rattle.plain_footprint.proofs.OtherParts.{other_parts}
+use Rattle.step_views.specs.Counts.{adds_event, met_adds, maps_new, is_ran}
+use Rattle.step_views.specs.Lent.{IsNumber}
+use Rattle.step_views.specs.Reads.{reads, met_reads, command_reads, still_reads}
+use Rattle.step_views.proofs.OfMachine.{translator_is, none_idle}
+
+-- ---- of a state
+
+module _ (u : Plain) (i : ℕ) where
+  still_read : (a : StepReply) → MeetsNone (regs_of u i) u.memory a → reads u i ≡ still_reads a
+  unfolding reads
+  still_read Idle none = ap (λ (b : Bool). cond b [] ((queue_place (regs_of u i), 32) ∷ met_reads u i (next_bytes u i))) none
+  still_read (QueueFault addr) none =
+      ap (λ (b : Bool). cond b [] ((queue_place (regs_of u i), 32) ∷ met_reads u i (next_bytes u i))) none.0
+      ∙ ap (λ (o : Option (List ℕ)). (queue_place (regs_of u i), 32) ∷ met_reads u i o) none.2 ∙ ap (λ (a : ℕ). (a, 32) ∷ []) (sym none.1)
+  still_read (Ran op) none = absurd none
+  still_read (Refused op reason) none = absurd none
+
+  met_read : (c : Command) → MeetsCommand (regs_of u i) u.memory c
+      → reads u i ≡ (queue_place (regs_of u i), 32) ∷ command_reads u.layout.shape (regs_of u i) (maps_of u i) u.redistributors c
+  unfolding reads
+  met_read c met =
+      ap (λ (b : Bool). cond b [] ((queue_place (regs_of u i), 32) ∷ met_reads u i (next_bytes u i))) met.busy
+      ∙ ap (λ (o : Option (List ℕ)). (queue_place (regs_of u i), 32) ∷ met_reads u i o) met.bytes_are
+      ∙ ap (λ (x : Command). (queue_place (regs_of u i), 32) ∷ command_reads u.layout.shape (regs_of u i) (maps_of u i) u.redistributors x) met.command
+
+  still_adds : (a : StepReply) → MeetsNone (regs_of u i) u.memory a → adds_event u i ≡ false
+  unfolding adds_event
+  still_adds Idle none = ap (λ (b : Bool). not b && met_adds u i (next_bytes u i)) none
+  still_adds (QueueFault addr) none =
+      ap (λ (b : Bool). not b && met_adds u i (next_bytes u i)) none.0 ∙ ap (λ (o : Option (List ℕ)). met_adds u i o) none.2
+  still_adds (Ran op) none = absurd none
+  still_adds (Refused op reason) none = absurd none
+
+  met_adds_is : (c : Command) → MeetsCommand (regs_of u i) u.memory c → adds_event u i ≡ (is_ok (ran u i c) && maps_new (maps_of u i) c)
+  unfolding adds_event
+  met_adds_is c met =
+      ap (λ (b : Bool). not b && met_adds u i (next_bytes u i)) met.busy
+      ∙ ap (λ (o : Option (List ℕ)). met_adds u i o) met.bytes_are
+      ∙ ap (λ (x : Command). is_ok (ran u i x) && maps_new (maps_of u i) x) met.command
+
+  met_needs : (c : Command) → MeetsCommand (regs_of u i) u.memory c → needed_next u i ≡ needed u i c
+  met_needs c met =
+      ap (λ (b : Bool). cond b [] (needed_by u i (next_bytes u i))) met.busy
+      ∙ ap (λ (o : Option (List ℕ)). needed_by u i o) met.bytes_are
+      ∙ ap (λ (x : Command). needed u i x) met.command
+
+pub ran_reply : (op : Op) (r : Result Plain Reason) (a : StepReply) → a ≡ command_reply op r → is_ran a ≡ is_ok r
+ran_reply op (Ok w) a is = ap is_ran is
+ran_reply op (Err e) a is = ap is_ran is
+
+both_tests : (a b : Bool) → (a && b) ≡ (b && a)
+both_tests true true = refl
+both_tests true false = refl
+both_tests false true = refl
+both_tests false false = refl
+
+-- ---- of a translator that there isn't
+
+module _ (p : Parts) (its : ℕ) (none : slice_get (state_of_parts p).translators its ≡ None) where
+  pub stays_idle : (v : ℕ) → slice_get (step_left (state_of_parts p) its).redistributors v ≡ slice_get (state_of_parts p).redistributors v
+  stays_idle v =
+      ap (λ (w : Plain). slice_get w.redistributors v) (sym (still_left (state_of_parts p) its Idle (none_idle (state_of_parts p) its none)))
+
+  pub reads_idle : [] ≡ reads (state_of_parts p) its
+  reads_idle = sym (still_read (state_of_parts p) its Idle (none_idle (state_of_parts p) its none))
+
+  pub adds_idle : false ≡ adds_event (state_of_parts p) its
+  adds_idle = sym (still_adds (state_of_parts p) its Idle (none_idle (state_of_parts p) its none))
+
+-- ---- of a machine with a translator that is lent
+
+module _ (p : Parts) (t : TranslatorRef) (m : IsMachine p) (i : ℕ) (at : IsNumber p t i) where
+  abbrev u : Plain
+  u = state_of_parts p
+
+  same_regs : t.regs.now ≡ regs_of u i
+  same_regs = ap (λ (x : Translator). x.regs) (sym (translator_is p t m i at))
+
+  same_maps : t.maps.now.maps ≡ maps_of u i
+  same_maps = ap (λ (x : Translator). x.maps) (sym (translator_is p t m i at))
+
+  none_here : (a : StepReply) → MeetsNone t.regs.now p.memory a → MeetsNone (regs_of u i) u.memory a
+  none_here a none = subst (λ (r : Registers). MeetsNone r p.memory a) same_regs none
+
+  met_here : (c : Command) → MeetsCommand t.regs.now p.memory c → MeetsCommand (regs_of u i) u.memory c
+  met_here c met = subst (λ (r : Registers). MeetsCommand r p.memory c) same_regs met
+
+  pub reads_still : (a : StepReply) → MeetsNone t.regs.now p.memory a → still_reads a ≡ reads u i
+  reads_still a none = sym (still_read u i a (none_here a none))
+
+  pub reads_met : (c : Command) → MeetsCommand t.regs.now p.memory c
+      → (queue_place t.regs.now, 32) ∷ command_reads p.layout.shape t.regs.now t.maps.now.maps u.redistributors c ≡ reads u i
+  reads_met c met =
+      (λ d. (queue_place (same_regs d), 32) ∷ command_reads p.layout.shape (same_regs d) (same_maps d) u.redistributors c)
+      ∙ sym (met_read u i c (met_here c met))
+
+  pub adds_still : (a : StepReply) → MeetsNone t.regs.now p.memory a → false ≡ adds_event u i
+  adds_still a none = sym (still_adds u i a (none_here a none))
+
+  pub adds_met : (c : Command) → MeetsCommand t.regs.now p.memory c → (maps_new t.maps.now.maps c && is_ok (ran u i c)) ≡ adds_event u i
+  adds_met c met =
+      ap (λ (x : Maps). maps_new x c && is_ok (ran u i c)) same_maps ∙ both_tests (maps_new (maps_of u i) c) (is_ok (ran u i c))
+      ∙ sym (met_adds_is u i c (met_here c met))
+
+  -- ---- redistributors
+
+  pub stays_still : (a : StepReply) (v : ℕ) → MeetsNone t.regs.now p.memory a → slice_get (step_left u i).redistributors v ≡ slice_get u.redistributors v
+  stays_still a v none = ap (λ (w : Plain). slice_get w.redistributors v) (sym (still_left u i a (none_here a none)))
+
+  pub stays_met : (c : Command) (set v : ℕ) → MeetsCommand t.regs.now p.memory c → ArePartsOfStep p.layout.shape t.maps.now.maps c set → is_in set v ≡ false
+      → slice_get (step_left u i).redistributors v ≡ slice_get u.redistributors v
+  unfolding left footprint
+  stays_met c set v met parts out =
+      let not_there : ¬ IsIn (redist v) (footprint u (call.Step i)) =
+      λ here.
+      let listed : IsIn (redist v) (MapsOf i ∷ Mem ∷ needed u i c) =
+      subst (λ (ps : List Part). IsIn (redist v) (MapsOf i ∷ Mem ∷ ps)) (met_needs u i c (met_here c met)) here in
+      let there : is_in set v ≡ true = (parts u i refl (sym same_maps) (redist v)).0 listed in
+      absurd (let no = sym there ∙ out in cc)
+      in
+      sym (other_parts u (call.Step i) (redist v) m.sound not_there)

@@ -1,0 +1,6 @@
+pub mod Pairs
+pub mod Lent
+pub mod Reads
+pub mod Destinations
+pub mod Counts
+pub mod Laws

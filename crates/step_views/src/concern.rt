@@ -1,0 +1,39 @@
+//! Which virtual processors a step may change.
+ghost use Rattle.std.specs.Prelude.{◌≡◌, ℕ, false, slice_get};
+ghost use Rattle.its_plain.specs.Answer.{step_left};
+ghost use Rattle.owned_machine.specs.Whole.{IsMachine};
+ghost use Rattle.owned_parts.specs.Owned.{state_of_parts};
+ghost use Rattle.owned_parts.specs.RedistSets.{is_in};
+ghost use Rattle.step_views.specs.Lent.{IsNumber, IsTranslatorOf};
+
+use cmd_exec::{Met, meet, needs};
+use owned_parts::{Parts, RedistSet, TranslatorRef};
+
+/// The redistributors that the next step of a translator may change. Each other one has the same
+/// pending LPIs and the same configuration after it.
+pub fn concerned(parts: &Parts, its: u8) -> RedistSet
+    requires { IsMachine parts.now }
+    ensures { (vcpu : ℕ) → is_in result vcpu ≡ false →
+        slice_get (step_left (state_of_parts parts.now) its).redistributors vcpu
+        ≡ slice_get (state_of_parts parts.now).redistributors vcpu }
+{
+    match parts.in_place().translator(its) {
+        Some(translator) => concerned_in(parts, translator),
+        None => RedistSet::new(),
+    }
+}
+
+fn concerned_in(parts: &Parts, translator: TranslatorRef<'_>) -> RedistSet
+    requires whole { IsMachine parts.now }
+    requires there { IsTranslatorOf parts.now translator }
+    ensures { (i : ℕ) → IsNumber parts.now translator.entry i
+        → (vcpu : ℕ) → is_in result vcpu ≡ false →
+        slice_get (step_left (state_of_parts parts.now) i).redistributors vcpu
+        ≡ slice_get (state_of_parts parts.now).redistributors vcpu }
+{
+    let TranslatorRef { regs, maps } = translator;
+    match meet(regs, &parts.memory) {
+        Met::Still(_) => RedistSet::new(),
+        Met::Command(command) => needs(&command, regs, maps, &parts.layout.shape),
+    }
+}

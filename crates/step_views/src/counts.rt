@@ -1,0 +1,142 @@
+//! How many events are mapped, and whether a step adds one.
+ghost use Rattle.std.specs.Prelude.{◌≡◌, ◌+◌, ◌-◌, ◌^◌, ℕ, is_ok, length, min};
+ghost use Rattle.std.specs.FinMap.{entries};
+ghost use Rattle.cmd_exec.specs.Room as room;
+ghost use Rattle.its_maps.specs.MapsRoom.{EventsHaveDevices};
+ghost use Rattle.its_plain.specs.Commands as commands;
+ghost use Rattle.its_types.specs.Maps.{events_at};
+ghost use Rattle.owned_machine.specs.Whole.{IsMachine};
+ghost use Rattle.owned_parts.specs.Owned.{state_of_parts};
+ghost use Rattle.step_views.specs.Counts as spec;
+ghost use Rattle.step_views.specs.Lent.{IsNumber, IsTranslatorOf};
+
+use cmd_exec::{Met, meet, plan};
+use its_command::Command;
+use its_maps::{LookUp, Maps};
+use its_plain::StepReply;
+use its_types::{DeviceId, EventId};
+use owned_parts::{Parts, TranslatorRef};
+
+/// How many events a translator has mapped, counted one by one; 2^64 - 1 where they are more.
+pub fn event_count(parts: &Parts, its: u8) -> u64
+    requires { IsMachine parts.now }
+    ensures { result ≡ min (spec.event_count (state_of_parts parts.now) its) (2 ^ 64 - 1) }
+{
+    match parts.in_place().translator(its) {
+        Some(translator) => count_events(translator.maps),
+        None => 0,
+    }
+}
+
+fn count_events(maps: &Maps) -> u64
+    requires { EventsHaveDevices maps.now.maps }
+    ensures { result ≡ min (length (entries maps.now.maps.events)) (2 ^ 64 - 1) }
+{
+    let mut count = 0u64;
+    for (dev, _) in maps.devices() {
+        count = count_more(maps, dev, count);
+    }
+    count
+}
+
+// With the events of a device.
+fn count_more(maps: &Maps, dev: DeviceId, before: u64) -> u64
+    ensures { result ≡ min (before + length (events_at maps.now.maps dev.0)) (2 ^ 64 - 1) }
+{
+    let mut count = before;
+    for _ in maps.events(dev) {
+        count = count.saturating_add(1);
+    }
+    count
+}
+
+/// Whether the next step of a translator maps an event that isn't mapped: its command is a MAPTI or
+/// a MAPI, and isn't refused.
+pub fn adds_event(parts: &Parts, its: u8) -> bool
+    requires { IsMachine parts.now }
+    ensures { result ≡ spec.adds_event (state_of_parts parts.now) its }
+{
+    match parts.in_place().translator(its) {
+        Some(translator) => adds(parts, translator),
+        None => false,
+    }
+}
+
+fn adds(parts: &Parts, translator: TranslatorRef<'_>) -> bool
+    requires whole { IsMachine parts.now }
+    requires there { IsTranslatorOf parts.now translator }
+    ensures { (i : ℕ) → IsNumber parts.now translator.entry i
+        → result ≡ spec.adds_event (state_of_parts parts.now) i }
+{
+    let TranslatorRef { regs, maps } = translator;
+    match meet(regs, &parts.memory) {
+        Met::Still(_) => false,
+        Met::Command(command) => {
+            if maps_new(&command, maps) {
+                runs(parts, translator, &command)
+            } else {
+                false
+            }
+        }
+    }
+}
+
+// The command isn't refused.
+fn runs(parts: &Parts, translator: TranslatorRef<'_>, command: &Command) -> bool
+    requires whole { IsMachine parts.now }
+    requires there { IsTranslatorOf parts.now translator }
+    ensures { (i : ℕ) → IsNumber parts.now translator.entry i
+        → result ≡ is_ok (commands.ran (state_of_parts parts.now) i command.now) }
+{
+    let TranslatorRef { regs, maps } = translator;
+    let planned = plan(
+        command,
+        regs,
+        maps,
+        &parts.memory,
+        &parts.redists,
+        &parts.layout.shape,
+    );
+    is_ran(planned.step_reply())
+}
+
+fn is_ran(reply: StepReply) -> bool
+    ensures { result ≡ spec.is_ran reply }
+{
+    match reply {
+        StepReply::Ran(_) => true,
+        StepReply::Idle | StepReply::Refused(..) | StepReply::QueueFault(_) => false,
+    }
+}
+
+// It maps an event of a mapped device that isn't mapped, if it isn't refused.
+#[tactic(auto, unfolding(crate::specs::Counts::maps_new))]
+fn maps_new(command: &Command, maps: &Maps) -> bool
+    ensures { result ≡ spec.maps_new maps.now.maps command.now }
+{
+    match *command {
+        Command::Mapti { dev, ev, .. } => is_unmapped(maps, dev, ev),
+        Command::Mapi { dev, ev, .. } => is_unmapped(maps, dev, ev),
+        Command::Mapd { .. }
+        | Command::Mapc { .. }
+        | Command::Movi { .. }
+        | Command::Int { .. }
+        | Command::Clear { .. }
+        | Command::Sync { .. }
+        | Command::Inv { .. }
+        | Command::Invall { .. }
+        | Command::Movall { .. }
+        | Command::Discard { .. }
+        | Command::Unknown(_) => false,
+    }
+}
+
+/// The device is mapped, and the event isn't.
+pub fn is_unmapped(maps: &Maps, dev: DeviceId, ev: EventId) -> bool
+    ensures { result ≡ room.adds_event maps.now.maps dev.0 ev.0 }
+{
+    match maps.look_up(dev, ev) {
+        LookUp::NoEvent(_) => true,
+        LookUp::NoDevice | LookUp::Mapped(..) => false,
+    }
+}

@@ -1,0 +1,19 @@
+//! What the next step of a machine reads and may change, where an event leads, and how many events
+//! are mapped: looks at the parts of a machine, which change nothing.
+#![tactic(auto)]
+
+mod concern;
+mod counts;
+mod destination;
+mod laws;
+mod reading;
+mod seen;
+mod stretch_list;
+
+pub use concern::concerned;
+pub use counts::{adds_event, event_count};
+pub use destination::Destination;
+pub use laws::{destination_tells, saves_stay_inside, step_reads, steps_add_one};
+pub use reading::needs;
+pub use seen::event;
+pub use stretch_list::{Needs, Stretch};
