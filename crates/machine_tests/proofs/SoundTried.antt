@@ -26,6 +26,7 @@ use Rattle.lpi_pending.specs.declared.redist.Redist.{Redist}
 use Rattle.owned_parts.specs.Owned.{AreAllInHand, HasLpisOf, state_of, redistributor_of, redistributor_or}
 use Rattle.machine_tests.specs.SoundParts.{IsDeviceOf, IsEventOf, AreEventsOf, IsCollectionOf, AreSoundRedistributors}
 use Rattle.standing_states.proofs.EventsOf.{find_of_device}
+use Rattle.table_save.specs.Fits.{one}
 use Rattle.table_save.proofs.Rises.{find_here, find_skips}
 use Rattle.table_save.proofs.SoundState.{in_hand_here}
 
@@ -77,7 +78,7 @@ module _ (l : Layout) (r : Registers) (m : Maps) (memory : List Window) (redists
       → AllByRecursion (IsDeviceOf r) (finmap.entries m.devices) → AllByRecursion (AreEventsOf l.shape m) (finmap.entries m.devices)
       → AllByRecursion (IsCollectionOf l.shape r) (finmap.entries m.collections)
       → AreSoundRedistributors l memory redists → AreAllInHand l.shape redists → are_windows (map extent memory) ≡ true
-      → IsSound (state_of l r m memory redists)
+      → IsSound (state_of l (one r m) memory None redists)
   sound_state shape none untracked tables rules bits have devices events collections redistributors in_hands windows =
       let t : Translator = record { regs = r; maps = m } in
       let translator : IsTranslator l.shape t = record {

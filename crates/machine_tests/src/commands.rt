@@ -1,3 +1,4 @@
+//! Commands and registers of a machine of one caller.
 ghost use Rattle.std.specs.Prelude.{◌≡◌, true};
 ghost use Rattle.its_command.specs.declared.command.Command.TheVariants as command;
 

@@ -1,9 +1,13 @@
-//! Tests of one translator's machine: its commands, what it saves and restores, the machine whole
-//! beside the slow one of the model, and passes that race on the word.
+//! Tests of a machine: its commands, what it saves and restores, the machine whole beside the slow
+//! one of the model, what a step reads and concerns, and passes that race on the word.
 #![tactic(auto)]
 
 #[cfg(test)]
+mod both_machines;
+#[cfg(test)]
 mod commands;
+#[cfg(test)]
+mod devices_fit;
 #[cfg(test)]
 mod large_guests;
 #[cfg(test)]
@@ -12,6 +16,8 @@ mod linux_guests;
 mod machines_alike;
 #[cfg(test)]
 mod migrations;
+#[cfg(test)]
+mod pairs;
 #[cfg(test)]
 mod passes;
 #[cfg(test)]
@@ -22,3 +28,5 @@ mod saving;
 mod scripts;
 #[cfg(test)]
 mod sound_parts;
+#[cfg(test)]
+mod views;

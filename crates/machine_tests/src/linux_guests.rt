@@ -1,5 +1,5 @@
 //! What a Linux guest counts on, the LPIs that come first by priority, and a large guest.
-ghost use Rattle.its_plain.specs.Machine.{IsDescription, IsSingle};
+ghost use Rattle.its_plain.specs.Machine.{IsDescription};
 
 use crate::machines_alike::agree_made;
 use crate::scripts::{Given, Line, desc};

@@ -1,6 +1,5 @@
-//! The machine and the plain one answer alike: every refusal and every effect of each command, and
-//! the other calls.
-ghost use Rattle.its_plain.specs.Machine.{IsDescription, IsSingle};
+//! The machine and the plain one answer alike: every refusal and effect of each command, all calls.
+ghost use Rattle.its_plain.specs.Machine.{IsDescription};
 
 use crate::scripts::{Asked, CONFIG, Given, Line, desc, enabling, queueing};
 use its_command::Command;
@@ -82,8 +81,7 @@ fn take_line(
     }
 }
 
-// How many of the lines both answer as they say, up to the first that they don't. All other calls
-// come last.
+// How many of the lines both answer as they say, before one that they don't. Then all other calls.
 fn agree(
     alloc: Global,
     machine: &mut Machine,
@@ -109,8 +107,7 @@ fn agree_from(
     machine: &mut Machine,
     lines: &[Line],
 ) -> Result<usize, Fail>
-    requires counts { IsDescription desc.now }
-    requires single { IsSingle desc.now }
+    requires { IsDescription desc.now }
 {
     let state = State::new(alloc, desc)?;
     Ok(agree(alloc, machine, state, lines)?)
@@ -122,8 +119,7 @@ pub fn agree_made(
     desc: &Desc,
     lines: &[Line],
 ) -> Result<Result<usize, Fail>, MakeError>
-    requires counts { IsDescription desc.now }
-    requires single { IsSingle desc.now }
+    requires { IsDescription desc.now }
 {
     let mut machine = Machine::new(alloc, desc)?;
     Ok(agree_from(alloc, desc, &mut machine, lines))

@@ -1,6 +1,6 @@
 //! Machines that are saved, moved and restored. The words are those of the table format (KVM
 //! document arm-vgic-its, "ITS Table ABI REV0").
-ghost use Rattle.its_plain.specs.Machine.{IsDescription, IsSingle};
+ghost use Rattle.its_plain.specs.Machine.{IsDescription};
 
 use crate::scripts::{Asked, Given, Line, enabling, queueing, restored_desc};
 use gits_regs::RegValues;
@@ -119,8 +119,7 @@ fn play_made(
     baser0: Option<u64>,
     acts: &[Act],
 ) -> Result<Result<usize, AllocError>, MakeError>
-    requires counts { IsDescription desc.now }
-    requires single { IsSingle desc.now }
+    requires { IsDescription desc.now }
 {
     let mut machine = Machine::new(alloc, desc)?;
     Ok(play_on(alloc, &mut machine, baser0, acts))

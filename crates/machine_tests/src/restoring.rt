@@ -1,3 +1,4 @@
+//! Tables that are restored, and those that aren't.
 ghost use Rattle.std.specs.Prelude.{◌≡◌, ◌<◌, false, IfOk};
 ghost use Rattle.its_plain.specs.Sound.{IsLayout};
 ghost use Rattle.owned_parts.specs.Owned.{AreAllInHand};
@@ -124,11 +125,11 @@ fn is_found(parts: &Parts, shape: Shape, found: &Found) -> bool
     requires { AreAllInHand shape parts.now.redists }
 {
     match found {
-        Found::Device(dev, device) => parts.maps.device(DeviceId(*dev)) == *device,
+        Found::Device(dev, device) => parts.first.maps.device(DeviceId(*dev)) == *device,
         Found::Event(dev, ev, event) => {
-            parts.maps.look_up(DeviceId(*dev), EventId(*ev)) == *event
+            parts.first.maps.look_up(DeviceId(*dev), EventId(*ev)) == *event
         }
-        Found::Collection(icid, vcpu) => parts.maps.collection(Icid(*icid)) == *vcpu,
+        Found::Collection(icid, vcpu) => parts.first.maps.collection(Icid(*icid)) == *vcpu,
         Found::Pending(vcpu, lpi) => {
             *vcpu < shape.vcpus && first_pending(parts, shape, Vcpu(*vcpu)) == *lpi
         }
@@ -155,7 +156,7 @@ fn count_found(parts: &Parts, shape: Shape, rows: &[Found]) -> usize
     rows.len()
 }
 
-// How many of the rows are so of what is restored, or the first fault.
+// How many of the rows are so of what is restored, or the first fault, which is the translator's.
 fn restored(
     alloc: Global,
     case: &Case,
@@ -166,8 +167,8 @@ fn restored(
     let layout = layout(alloc, case.gicr, case.linux)?;
     match restore(alloc, case.values, &case.redists, &memory, &layout) {
         Ok(parts) => Ok(Ok(count_found(&parts, layout.shape, rows))),
-        Err(RestoreError::Fault(fault)) => Ok(Err(fault)),
-        Err(RestoreError::NoMemory) => Err(AllocError)?,
+        Err(RestoreError::Fault(0, fault)) => Ok(Err(fault)),
+        Err(_) => Err(AllocError)?,
     }
 }
 

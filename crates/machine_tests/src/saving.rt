@@ -1,3 +1,4 @@
+//! Tables as they are saved.
 ghost use Rattle.std.specs.Prelude.{◌≡◌, true, map, IfOk};
 ghost use Rattle.guest_windows.specs.Windows.{are_windows, extent};
 ghost use Rattle.owned_parts.specs.Owned.{AreAllInHand, HasLpisOf};
@@ -12,6 +13,7 @@ use its_types::{
 };
 use lpi_config::Config;
 use lpi_pending::{Pending, Redist, Redists};
+use owned_parts::{InPlace, TranslatorRef};
 use std::alloc::Global;
 use std::test::Fail;
 use table_save::{savable, save};
@@ -162,7 +164,15 @@ fn saved(alloc: Global, regs: &Regs, maps: &Maps) -> Result<Memory, SaveError> {
     if !are_sound(regs, maps, &memory, &redists, &layout) {
         return Err(SaveError::NoMemory);
     }
-    savable(alloc, regs, maps, &redists, &layout, &memory)?;
+    let parts = InPlace {
+        layout: &layout,
+        first: TranslatorRef { regs, maps },
+        second: None,
+        memory: &memory,
+        track: None,
+        redists: &redists,
+    };
+    savable(alloc, &parts)?;
     save(alloc, regs, maps, &redists, &layout, &mut memory)?;
     Ok(memory)
 }

@@ -1,6 +1,6 @@
 //! What the tests are written in: descriptions, and lines of commands and calls.
 ghost use Rattle.std.specs.Prelude.{◌<◌, ◌≤◌, length, IfOk};
-ghost use Rattle.its_plain.specs.Machine.{IsDescription, IsSingle};
+ghost use Rattle.its_plain.specs.Machine.{IsDescription};
 
 use gits_regs::RegValues;
 use its_command::{Command, EventIdBits, IttAddr, Op, RdBase, UnknownOp, encode};
@@ -19,8 +19,7 @@ pub const CONFIG: Addr = Addr(0x8003_0000);
 
 /// Four virtual processors, and two MiB of memory with these words.
 pub fn desc(alloc: Global, profile: Profile, words: &[(u64, u64)]) -> Result<Desc, AllocError>
-    ensures counts { IfOk result IsDescription }
-    ensures single { IfOk result IsSingle }
+    ensures { IfOk result IsDescription }
 {
     restored_desc(alloc, profile, None, words)
 }
@@ -32,8 +31,7 @@ pub fn restored_desc(
     restore: Option<RegValues>,
     words: &[(u64, u64)],
 ) -> Result<Desc, AllocError>
-    ensures counts { IfOk result IsDescription }
-    ensures single { IfOk result IsSingle }
+    ensures { IfOk result IsDescription }
 {
     let mut windows = Listed::new(alloc);
     windows.push((Addr(0x8000_0000), 0x20_0000))?;
@@ -346,8 +344,18 @@ pub fn queueing(
     machine: &mut Machine,
     command: &Command,
 ) -> Result<[Call; 2], AllocError> {
+    queueing_at(alloc, machine, 0, command)
+}
+
+/// The same of a translator by its number. That of the second begins 1 MiB further on.
+pub fn queueing_at(
+    alloc: Global,
+    machine: &mut Machine,
+    its: u8,
+    command: &Command,
+) -> Result<[Call; 2], AllocError> {
     let read = Call::ReadReg {
-        its: 0,
+        its,
         off: 0x90,
         size: 8,
     };
@@ -356,7 +364,12 @@ pub fn queueing(
         _ => 0,
     };
     Ok([
-        poke(QUEUE + place, &encode(command)),
-        write(0x88, 8, (place + 32) % 0x1000),
+        poke(QUEUE + 0x10_0000 * u64::from(its) + place, &encode(command)),
+        Call::WriteReg {
+            its,
+            off: 0x88,
+            size: 8,
+            value: (place + 32) % 0x1000,
+        },
     ])
 }

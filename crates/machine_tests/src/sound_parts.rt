@@ -1,6 +1,7 @@
-//! For tests: whether parts in hand stand for a sound state.
+//! For tests: whether parts in hand stand for a sound state, of one translator and without a second
+//! memory.
 
-ghost use Rattle.std.specs.Prelude.{◌≡◌, ℕ, ◌<◌, true, false, Some, map};
+ghost use Rattle.std.specs.Prelude.{◌≡◌, ℕ, ◌<◌, true, false, Some, None, map};
 ghost use Rattle.std.specs.Bool.{OnTrue};
 ghost use Rattle.std.specs.FinMap.{entries};
 ghost use Rattle.std.specs.List.{AllByRecursion};
@@ -13,6 +14,7 @@ ghost use Rattle.owned_parts.specs.Owned.{AreAllInHand, HasLpisOf, state_of, red
 ghost use Rattle.machine_tests.specs.SoundParts.{IsDeviceOf, IsEventOf, AreEventsOf};
 ghost use Rattle.machine_tests.specs.SoundParts.{IsCollectionOf};
 ghost use Rattle.machine_tests.specs.SoundParts.{AreSoundRedistributors};
+ghost use Rattle.table_save.specs.Fits.{one};
 
 use gits_regs::Regs;
 use guest_windows::Memory;
@@ -32,7 +34,8 @@ pub fn are_sound(
     requires windows { are_windows (map extent memory.now) ≡ true }
     requires in_hand { AreAllInHand layout.now.shape redists.now }
     ensures { OnTrue result
-        (sound.IsSound (state_of layout.now regs.now maps.now.maps memory.now redists.now)) }
+        (sound.IsSound (state_of layout.now (one regs.now maps.now.maps) memory.now None
+        redists.now)) }
 {
     regs.keeps_rules();
     let _mapped = maps.look_up(DeviceId(0), EventId(0));
