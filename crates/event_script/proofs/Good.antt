@@ -1,17 +1,20 @@
 -- What each draft keeps while lines are read.
-use Rattle.std.proofs.Common.{◌≡◌, ℕ, ◌+◌, ◌≤◌, Bool, true, false, [], length}
+use Rattle.std.proofs.Common.{◌≡◌, ℕ, ◌+◌, ◌≤◌, Bool, true, false, ◌&&◌, nat_le, List, [], length}
 use Rattle.std.proofs.Common.{Option, Some, None, refl, arith}
 use Rattle.std.specs.List.{list_all}
 use Rattle.its_types.specs.declared.machine.Limits.{Limits}
+use Rattle.its_plain.specs.declared.desc.Its.{Its}
+use Rattle.its_plain.specs.declared.desc.Requesters.{Requesters}
+use Rattle.event_script.specs.Described.{most_stamp, desc_so_far}
 use Rattle.event_script.specs.Description.{at_start, in_description, is_ended, empty}
 use Rattle.event_script.specs.Description.{is_shard_count}
-use Rattle.event_script.specs.Body.{is_described}
-use Rattle.event_script.specs.Limits.{is_thread, is_phase, is_leg, are_limits, is_fill}
+use Rattle.event_script.specs.Body.{is_described, may_move}
+use Rattle.event_script.specs.Limits.{is_thread, is_phase, is_leg, are_limits, has_frames, is_fill}
 use Rattle.event_script.specs.declared.draft.Draft.{Draft}
 use Rattle.event_script.specs.declared.draft.IdBits.{IdBits}
 use Rattle.event_script.specs.declared.draft.Stage.{Stage}
 use Rattle.event_script.specs.declared.draft.Stage.TheVariants as stage
-use Rattle.event_script.specs.declared.draft.TheConstants.{MOST_LEGS, MOST_PHASES, MOST_THREADS}
+use Rattle.event_script.specs.declared.draft.TheConstants.{MOST_LEGS, MOST_PHASES, MOST_THREADS, MOST_REQUESTERS}
 use Rattle.event_script.proofs.Steps.{IsBetween}
 
 -- ---- stages
@@ -117,43 +120,55 @@ abbrev pub given_shards : Option ℕ → Bool
 given_shards None = true
 given_shards (Some n) = is_shard_count n
 
-abbrev pub given_limits : Option Limits → Bool
-given_limits None = true
-given_limits (Some l) = are_limits l
+-- of one translator, or of two
+abbrev pub given_limits : Bool → Option Limits → Bool
+given_limits pair None = true
+given_limits pair (Some l) = are_limits l && nat_le l.stamp_last (most_stamp pair)
 
 abbrev pub given_ids : Option IdBits → Type 0
 given_ids None = Unit {0}
 given_ids (Some b) = IsBetween 16 20 b.dev × IsBetween 14 20 b.lpi
+
+-- frames and requesters, with the lines of these
+pub record HasDoors (first second : Its) (requesters : List Requesters) (lines : List ℕ) : Type 0 where
+  pub first_frames : has_frames first ≡ true
+  pub second_frames : has_frames second ≡ true
+  pub few : length requesters ≤ MOST_REQUESTERS
+  pub numbered : length lines ≡ length requesters
 
 -- what the description has so far
 pub record IsFair (d : Draft) : Type 0 where
   pub few : length d.pending ≤ 16
   pub some : at_start d.stage ≡ false → 1 ≤ length d.pending
   pub shards : given_shards d.shards ≡ true
-  pub limits : given_limits d.limits ≡ true
+  pub limits : given_limits d.pair d.limits ≡ true
   pub ids : given_ids d.ids
   pub windows : length d.windows ≤ 16
   pub fills : list_all is_fill d.fills ≡ true
   pub fill_lines : length d.fill_lines ≡ length d.fills
   pub registers : length d.registers.registers ≡ 16
+  pub doors : HasDoors d.first d.second d.requesters d.requester_lines
 
 -- no call was read
 pub record IsEarly (d : Draft) : Type 0 where
   pub legs : d.legs ≡ []
+  pub moves : d.moves ≡ []
   pub phases : d.phases ≡ []
   pub threads : d.threads ≡ []
   pub calls : d.calls ≡ []
 
 -- the calls so far
 pub record HasCalls (d : Draft) : Type 0 where
-  pub legs : list_all (is_leg (length d.pending)) d.legs ≡ true
+  pub legs : list_all (is_leg (desc_so_far d)) d.legs ≡ true
   pub leg_room : length d.legs + open_legs d.stage ≤ MOST_LEGS
   pub some_legs : is_ended d.stage ≡ true → 1 ≤ length d.legs
-  pub phases : list_all (is_phase (length d.pending)) d.phases ≡ true
+  pub moves : length d.moves + 1 ≡ length d.legs + open_legs d.stage
+  pub ways : list_all (may_move d.track) d.moves ≡ true
+  pub phases : list_all (is_phase (desc_so_far d)) d.phases ≡ true
   pub phase_room : length d.phases + open_phases d.stage ≤ MOST_PHASES
-  pub threads : list_all (is_thread (length d.pending)) d.threads ≡ true
+  pub threads : list_all (is_thread (desc_so_far d)) d.threads ≡ true
   pub thread_room : length d.threads + open_threads d.stage ≤ MOST_THREADS
-  pub calls : is_thread (length d.pending) d.calls ≡ true
+  pub calls : is_thread (desc_so_far d) d.calls ≡ true
 
 pub record IsGood (d : Draft) : Type 0 where
   pub fair : IsFair d
@@ -173,13 +188,16 @@ empty_is_good = record {
     fills = refl;
     fill_lines = refl;
     registers = refl;
+    doors = record { first_frames = refl; second_frames = refl; few = omega arith; numbered = refl };
   };
   described = λ e. absurd (cc);
-  early = λ e. record { legs = refl; phases = refl; threads = refl; calls = refl };
+  early = λ e. record { legs = refl; moves = refl; phases = refl; threads = refl; calls = refl };
   body = record {
     legs = refl;
     leg_room = omega arith;
     some_legs = λ e. absurd (cc);
+    moves = refl;
+    ways = refl;
     phases = refl;
     phase_room = omega arith;
     threads = refl;
@@ -194,6 +212,8 @@ early_calls d h e = record {
   legs = rw h.legs refl;
   leg_room = rw (h.legs, one_to_close d.stage e) (omega arith);
   some_legs = λ over. clash (not_over d.stage e) over;
+  moves = rw (h.legs, h.moves, one_to_close d.stage e) refl;
+  ways = rw h.moves refl;
   phases = rw h.phases refl;
   phase_room = rw (h.phases, none_open d.stage e) (omega arith);
   threads = rw h.threads refl;

@@ -1,25 +1,45 @@
 -- Each line of the description leaves a good draft.
-use Rattle.std.proofs.Common.{◌≡◌, ℕ, ◌-◌, ◌^◌, true, false, not, ◌&&◌, nat_lt, nat_le, nat_eq, List, [], ◌∷◌, ◌++◌, length, set, replicate}
-use Rattle.std.proofs.Common.{Option, Some, None, is_some, is_none, IfOk, ◌∙◌, refl, arith}
+use Rattle.std.proofs.Common.{◌≡◌, ℕ, ◌-◌, ◌^◌, ◌<◌, ◌≤◌, Bool, true, false, not, ◌&&◌, nat_lt, nat_le, nat_eq, List, [], ◌∷◌, ◌++◌, length, set, replicate}
+use Rattle.std.proofs.Common.{Option, Some, None, is_none, IfOk, ◌∙◌, refl, arith}
 use Rattle.std.specs.List.{list_all}
 use Rattle.std.proofs.lemmas.Bool.{ltb-true, lt-ltb}
 use Rattle.std.proofs.lemmas.List.{length-set, length-append, length-replicate}
-use Rattle.byteorder.specs.Endian.{little_bytes}
 use Rattle.its_types.specs.declared.ids.Addr.{Addr}
-use Rattle.its_plain.specs.declared.desc.Fill.{Fill}
+use Rattle.its_types.specs.declared.machine.Limits.{Limits}
 use Rattle.event_script.specs.Text.{number}
-use Rattle.event_script.specs.Fields.{arg, number_within, any_number, address, processor, bytes_within}
+use Rattle.event_script.specs.Fields.{arg, number_within, any_number, address, processor}
+use Rattle.event_script.specs.Described.{most_stamp}
 use Rattle.event_script.specs.Description.{at_start, in_description, vcpus_line, shards_line, limits_line, ids_line, profile_of, profile_line}
-use Rattle.event_script.specs.Description.{window_line, describes_tables, config_line, pending_line, gicr_line, register_values, restore_line}
-use Rattle.event_script.specs.Description.{redistributor_values, with_registers, has_registers, restores_registers, rrestore_line, bytes_line, word_fill_line}
-use Rattle.event_script.specs.Description.{is_given, is_shard_count, with_fill, linux_line}
-use Rattle.event_script.specs.Limits.{has_bytes, are_limits, is_fill}
+use Rattle.event_script.specs.Description.{window_line, describes_tables, config_line, pending_line, gicr_line, is_given, is_shard_count, linux_line}
+use Rattle.event_script.specs.Description.{track_line, allow_pair, pair_line}
+use Rattle.event_script.specs.Limits.{are_limits}
 use Rattle.event_script.specs.declared.fault.Kind.TheVariants as kind
 use Rattle.event_script.specs.declared.draft.Draft.{Draft}
 use Rattle.event_script.specs.declared.draft.Stage.TheVariants as stage
-use Rattle.event_script.proofs.Steps.{left_true, both_true, below, all_pushed, bound, bound_by, ensured, IsBetween, number_in_range, bytes_in_range}
-use Rattle.event_script.proofs.Bytes.{little_bytes_small}
-use Rattle.event_script.proofs.Good.{in_body, not_started, start_first, described_more, IsFair, IsEarly, IsGood}
+use Rattle.event_script.proofs.Steps.{left_true, both_true, below, bound, bound_by, ensured, IsBetween, number_in_range}
+use Rattle.event_script.proofs.Good.{in_body, not_started, start_first, described_more, given_limits, HasDoors, IsFair, IsEarly, IsGood}
+
+-- what was early stays so while calls are not read
+pub still_early : (d e : Draft) → IsEarly d → e.legs ≡ d.legs → e.moves ≡ d.moves → e.phases ≡ d.phases → e.threads ≡ d.threads → e.calls ≡ d.calls
+    → IsEarly e
+still_early d e h l m p t c = record { legs = l ∙ h.legs; moves = m ∙ h.moves; phases = p ∙ h.phases; threads = t ∙ h.threads; calls = c ∙ h.calls }
+
+-- what the lines so far gave is in range still, where it is the same but for registers, and for frames and requesters
+pub still_fair : (d e : Draft) → IsFair d → e.stage ≡ d.stage → e.pending ≡ d.pending → e.shards ≡ d.shards → e.pair ≡ d.pair → e.limits ≡ d.limits
+    → e.ids ≡ d.ids → e.windows ≡ d.windows → e.fills ≡ d.fills → e.fill_lines ≡ d.fill_lines
+    → length e.registers.registers ≡ length d.registers.registers → HasDoors e.first e.second e.requesters e.requester_lines → IsFair e
+still_fair d e h t p sh pr l i w f fl r doors = record {
+  few = rw p h.few;
+  some = rw (t, p) h.some;
+  shards = rw sh h.shards;
+  limits = rw (pr, l) h.limits;
+  ids = rw i h.ids;
+  windows = rw w h.windows;
+  fills = rw f h.fills;
+  fill_lines = rw (f, fl) h.fill_lines;
+  registers = r ∙ h.registers;
+  doors = doors;
+}
 
 -- ---- lines of the description
 
@@ -31,7 +51,8 @@ shards_good d fs h =
     ensured IsGood (nat_eq (length fs) 2) kind.Fields _ (λ _.
     bound IsGood (number_within 1 64 (arg fs 1)) _ (λ n.
     ensured IsGood (is_shard_count n) kind.Number _ (λ count.
-    described_more (record d { shards = Some n })
+    let e : Draft = record d { shards = Some n } in
+    described_more e
     (record {
       few = h.fair.few;
       some = h.fair.some;
@@ -42,18 +63,9 @@ shards_good d fs h =
       fills = h.fair.fills;
       fill_lines = h.fair.fill_lines;
       registers = h.fair.registers;
+      doors = h.fair.doors;
     })
-    (record {
-      legs = (h.early (not_started d.stage here)).legs;
-      phases = (h.early (not_started d.stage here)).phases;
-      threads = (h.early (not_started d.stage here)).threads;
-      calls = (h.early (not_started d.stage here)).calls;
-    })
-    (not_started d.stage here)))))
-
--- what was early stays so while calls are not read
-pub still_early : (d e : Draft) → IsEarly d → e.legs ≡ d.legs → e.phases ≡ d.phases → e.threads ≡ d.threads → e.calls ≡ d.calls → IsEarly e
-still_early d e h l p t c = record { legs = l ∙ h.legs; phases = p ∙ h.phases; threads = t ∙ h.threads; calls = c ∙ h.calls }
+    (still_early d e (h.early (not_started d.stage here)) refl refl refl refl refl) (not_started d.stage here)))))
 
 pub vcpus_good : (d : Draft) (fs : List (List ℕ)) → IsGood d → IfOk (vcpus_line d fs) IsGood
 unfolding vcpus_line
@@ -75,17 +87,25 @@ vcpus_good d fs h =
       fills = h.fair.fills;
       fill_lines = h.fair.fill_lines;
       registers = h.fair.registers;
+      doors = h.fair.doors;
     })
-    (still_early d e (h.early (start_first d.stage start)) refl refl refl refl) refl)))
+    (still_early d e (h.early (start_first d.stage start)) refl refl refl refl refl) refl)))
 
-pub limits_fit : (stamp place : ℕ) → IsBetween 1 (2 ^ 24 - 1) stamp → IsBetween 1 (2 ^ 40 - 1) place
-    → are_limits (record { stamp_last = stamp; place_last = place }) ≡ true
-limits_fit stamp place s p =
-    both_true (nat_le 1 stamp && nat_lt stamp (2 ^ 24) && nat_le 1 place) (nat_lt place (2 ^ 40))
+most_small : (pair : Bool) → most_stamp pair ≤ 2 ^ 24 - 1
+most_small true = omega arith
+most_small false = omega arith
+
+pub limits_fit : (pair : Bool) (stamp place : ℕ) → IsBetween 1 (most_stamp pair) stamp → IsBetween 1 (2 ^ 40 - 1) place
+    → given_limits pair (Some (record { stamp_last = stamp; place_last = place })) ≡ true
+limits_fit pair stamp place s p =
+    let small : stamp < 2 ^ 24 = omega (arith, s.1, most_small pair) in
+    both_true (nat_le 1 stamp && nat_lt stamp (2 ^ 24) && nat_le 1 place && nat_lt place (2 ^ 40)) (nat_le stamp (most_stamp pair))
+    (both_true (nat_le 1 stamp && nat_lt stamp (2 ^ 24) && nat_le 1 place) (nat_lt place (2 ^ 40))
     (both_true (nat_le 1 stamp && nat_lt stamp (2 ^ 24)) (nat_le 1 place)
-    (both_true (nat_le 1 stamp) (nat_lt stamp (2 ^ 24)) (below 1 stamp s.0) (lt-ltb stamp (2 ^ 24) (omega (arith, s.1))))
+    (both_true (nat_le 1 stamp) (nat_lt stamp (2 ^ 24)) (below 1 stamp s.0) (lt-ltb stamp (2 ^ 24) small))
     (below 1 place p.0))
-    (lt-ltb place (2 ^ 40) (omega (arith, p.1)))
+    (lt-ltb place (2 ^ 40) (omega (arith, p.1))))
+    (below stamp (most_stamp pair) s.1)
 
 pub limits_good : (d : Draft) (fs : List (List ℕ)) → IsGood d → IfOk (limits_line d fs) IsGood
 unfolding limits_line
@@ -93,7 +113,8 @@ limits_good d fs h =
     ensured IsGood (in_description d.stage && is_none d.limits) kind.Order _ (λ order.
     let off = not_started d.stage (left_true (in_description d.stage) (is_none d.limits) order) in
     ensured IsGood (nat_eq (length fs) 3) kind.Fields _ (λ _.
-    bound_by IsGood (number_within 1 (2 ^ 24 - 1) (arg fs 1)) (IsBetween 1 (2 ^ 24 - 1)) _ (number_in_range 1 (2 ^ 24 - 1) (arg fs 1)) (λ stamp s.
+    bound_by IsGood (number_within 1 (most_stamp d.pair) (arg fs 1)) (IsBetween 1 (most_stamp d.pair)) _
+    (number_in_range 1 (most_stamp d.pair) (arg fs 1)) (λ stamp s.
     bound_by IsGood (number_within 1 (2 ^ 40 - 1) (arg fs 2)) (IsBetween 1 (2 ^ 40 - 1)) _ (number_in_range 1 (2 ^ 40 - 1) (arg fs 2)) (λ place p.
     let e : Draft = record d { limits = Some (record { stamp_last = stamp; place_last = place }) } in
     described_more e
@@ -101,14 +122,43 @@ limits_good d fs h =
       few = h.fair.few;
       some = h.fair.some;
       shards = h.fair.shards;
-      limits = limits_fit stamp place s p;
+      limits = limits_fit d.pair stamp place s p;
       ids = h.fair.ids;
       windows = h.fair.windows;
       fills = h.fair.fills;
       fill_lines = h.fair.fill_lines;
       registers = h.fair.registers;
+      doors = h.fair.doors;
     })
-    (still_early d e (h.early off) refl refl refl refl) off))))
+    (still_early d e (h.early off) refl refl refl refl refl) off))))
+
+-- limits of two translators are limits
+pair_limits : (pair : Bool) (o : Option Limits) → given_limits pair o ≡ true → allow_pair o ≡ true → given_limits true o ≡ true
+pair_limits pair None h a = refl
+pair_limits pair (Some l) h a = both_true (are_limits l) (nat_le l.stamp_last (most_stamp true)) (left_true (are_limits l) _ h) a
+
+pub pair_good : (d : Draft) (fs : List (List ℕ)) → IsGood d → IfOk (pair_line d fs) IsGood
+unfolding pair_line
+pair_good d fs h =
+    ensured IsGood (in_description d.stage && not d.pair) kind.Order _ (λ order.
+    let off = not_started d.stage (left_true (in_description d.stage) (not d.pair) order) in
+    ensured IsGood (nat_eq (length fs) 1) kind.Fields _ (λ _.
+    ensured IsGood (allow_pair d.limits) kind.Number _ (λ allows.
+    let e : Draft = record d { pair = true } in
+    described_more e
+    (record {
+      few = h.fair.few;
+      some = h.fair.some;
+      shards = h.fair.shards;
+      limits = pair_limits d.pair d.limits h.fair.limits allows;
+      ids = h.fair.ids;
+      windows = h.fair.windows;
+      fills = h.fair.fills;
+      fill_lines = h.fair.fill_lines;
+      registers = h.fair.registers;
+      doors = h.fair.doors;
+    })
+    (still_early d e (h.early off) refl refl refl refl refl) off)))
 
 pub ids_good : (d : Draft) (fs : List (List ℕ)) → IsGood d → IfOk (ids_line d fs) IsGood
 unfolding ids_line
@@ -130,8 +180,9 @@ ids_good d fs h =
       fills = h.fair.fills;
       fill_lines = h.fair.fill_lines;
       registers = h.fair.registers;
+      doors = h.fair.doors;
     })
-    (still_early d e (h.early off) refl refl refl refl) off))))
+    (still_early d e (h.early off) refl refl refl refl refl) off))))
 
 pub profile_good : (d : Draft) (fs : List (List ℕ)) → IsGood d → IfOk (profile_line d fs) IsGood
 unfolding profile_line
@@ -141,19 +192,8 @@ profile_good d fs h =
     ensured IsGood (nat_eq (length fs) 2) kind.Fields _ (λ _.
     bound IsGood (number_within 1 2 (arg fs 1)) _ (λ n.
     let e : Draft = record d { profile = Some (profile_of n) } in
-    described_more e
-    (record {
-      few = h.fair.few;
-      some = h.fair.some;
-      shards = h.fair.shards;
-      limits = h.fair.limits;
-      ids = h.fair.ids;
-      windows = h.fair.windows;
-      fills = h.fair.fills;
-      fill_lines = h.fair.fill_lines;
-      registers = h.fair.registers;
-    })
-    (still_early d e (h.early off) refl refl refl refl) off)))
+    described_more e (still_fair d e h.fair refl refl refl refl refl refl refl refl refl refl h.fair.doors)
+    (still_early d e (h.early off) refl refl refl refl refl) off)))
 
 pub window_good : (d : Draft) (fs : List (List ℕ)) → IsGood d → IfOk (window_line d fs) IsGood
 unfolding window_line
@@ -176,8 +216,9 @@ window_good d fs h =
       fills = h.fair.fills;
       fill_lines = h.fair.fill_lines;
       registers = h.fair.registers;
+      doors = h.fair.doors;
     })
-    (still_early d e (h.early off) refl refl refl refl) off)))))
+    (still_early d e (h.early off) refl refl refl refl refl) off)))))
 
 no_body : (d : Draft) → describes_tables d ≡ true → in_body d.stage ≡ false
 no_body d e = not_started d.stage (left_true (in_description d.stage) (not d.gicr) e)
@@ -190,19 +231,8 @@ config_good d fs h =
     ensured IsGood (nat_eq (length fs) 2) kind.Fields _ (λ _.
     bound IsGood (address (arg fs 1)) _ (λ base.
     let e : Draft = record d { config = Some base } in
-    described_more e
-    (record {
-      few = h.fair.few;
-      some = h.fair.some;
-      shards = h.fair.shards;
-      limits = h.fair.limits;
-      ids = h.fair.ids;
-      windows = h.fair.windows;
-      fills = h.fair.fills;
-      fill_lines = h.fair.fill_lines;
-      registers = h.fair.registers;
-    })
-    (still_early d e (h.early off) refl refl refl refl) off)))
+    described_more e (still_fair d e h.fair refl refl refl refl refl refl refl refl refl refl h.fair.doors)
+    (still_early d e (h.early off) refl refl refl refl refl) off)))
 
 pub pending_good : (d : Draft) (fs : List (List ℕ)) → IsGood d → IfOk (pending_line d fs) IsGood
 unfolding pending_line
@@ -225,46 +255,9 @@ pending_good d fs h =
       fills = h.fair.fills;
       fill_lines = h.fair.fill_lines;
       registers = h.fair.registers;
+      doors = h.fair.doors;
     })
-    (still_early d e (h.early off) refl refl refl refl) off))))
-
-pub restore_good : (d : Draft) (fs : List (List ℕ)) → IsGood d → IfOk (restore_line d fs) IsGood
-unfolding restore_line
-restore_good d fs h =
-    ensured IsGood (in_description d.stage && is_none d.restore) kind.Order _ (λ order.
-    let off = not_started d.stage (left_true (in_description d.stage) (is_none d.restore) order) in
-    ensured IsGood (nat_eq (length fs) 7) kind.Fields _ (λ _.
-    bound IsGood (register_values fs) _ (λ values.
-    let e : Draft = record d { restore = Some values } in
-    described_more e
-    (record {
-      few = h.fair.few;
-      some = h.fair.some;
-      shards = h.fair.shards;
-      limits = h.fair.limits;
-      ids = h.fair.ids;
-      windows = h.fair.windows;
-      fills = h.fair.fills;
-      fill_lines = h.fair.fill_lines;
-      registers = h.fair.registers;
-    })
-    (still_early d e (h.early off) refl refl refl refl) off)))
-
--- which the registers of redistributors are is no matter, but how many
-same_but_registers : (d e : Draft) → IsFair d → e.stage ≡ d.stage → e.pending ≡ d.pending → e.shards ≡ d.shards
-    → e.limits ≡ d.limits → e.ids ≡ d.ids → e.windows ≡ d.windows → e.fills ≡ d.fills → e.fill_lines ≡ d.fill_lines
-    → length e.registers.registers ≡ length d.registers.registers → IsFair e
-same_but_registers d e h t p sh l i w f fl r = record {
-  few = rw p h.few;
-  some = rw (t, p) h.some;
-  shards = rw sh h.shards;
-  limits = rw l h.limits;
-  ids = rw i h.ids;
-  windows = rw w h.windows;
-  fills = rw f h.fills;
-  fill_lines = rw (f, fl) h.fill_lines;
-  registers = r ∙ h.registers;
-}
+    (still_early d e (h.early off) refl refl refl refl refl) off))))
 
 pub gicr_good : (d : Draft) (fs : List (List ℕ)) → IsGood d → IfOk (gicr_line d fs) IsGood
 unfolding gicr_line
@@ -274,7 +267,8 @@ gicr_good d fs h =
     let off = no_body d (left_true (describes_tables d) (is_none d.config) none) in
     ensured IsGood (nat_eq (length fs) 1) kind.Fields _ (λ _.
     let e : Draft = record d { gicr = true } in
-    described_more e (same_but_registers d e h.fair refl refl refl refl refl refl refl refl refl) (still_early d e (h.early off) refl refl refl refl) off))
+    described_more e (still_fair d e h.fair refl refl refl refl refl refl refl refl refl refl h.fair.doors)
+    (still_early d e (h.early off) refl refl refl refl refl) off))
 
 pub linux_good : (d : Draft) (fs : List (List ℕ)) → IsGood d → IfOk (linux_line d fs) IsGood
 unfolding linux_line
@@ -283,55 +277,15 @@ linux_good d fs h =
     let off = not_started d.stage (left_true (in_description d.stage) (not d.linux) order) in
     ensured IsGood (nat_eq (length fs) 1) kind.Fields _ (λ _.
     let e : Draft = record d { linux = true } in
-    described_more e (same_but_registers d e h.fair refl refl refl refl refl refl refl refl refl) (still_early d e (h.early off) refl refl refl refl) off))
+    described_more e (still_fair d e h.fair refl refl refl refl refl refl refl refl refl refl h.fair.doors)
+    (still_early d e (h.early off) refl refl refl refl refl) off))
 
-pub rrestore_good : (d : Draft) (fs : List (List ℕ)) → IsGood d → IfOk (rrestore_line d fs) IsGood
-unfolding rrestore_line
-rrestore_good d fs h =
-    ensured IsGood (restores_registers d && not (has_registers d.given (number (arg fs 1)))) kind.Order _ (λ order.
-    let here = left_true (restores_registers d) (not (has_registers d.given (number (arg fs 1)))) order in
-    let off = not_started d.stage (left_true (in_description d.stage) d.gicr (left_true (in_description d.stage && d.gicr) (is_some d.restore) here)) in
-    ensured IsGood (nat_eq (length fs) 5) kind.Fields _ (λ _.
-    bound IsGood (processor (length d.pending) (arg fs 1)) _ (λ vcpu.
-    bound IsGood (redistributor_values fs) _ (λ values.
-    let e : Draft = record d { registers = with_registers d.registers vcpu.0 values; given = set d.given vcpu.0 true } in
-    let count = length-set d.registers.registers vcpu.0 values in
-    described_more e (same_but_registers d e h.fair refl refl refl refl refl refl refl refl count) (still_early d e (h.early off) refl refl refl refl) off))))
-
--- with more bytes for the memory
-pub fill_good : (d : Draft) (n : ℕ) (addr : Addr) (bytes : List ℕ) → IsGood d → in_description d.stage ≡ true → has_bytes 4096 bytes ≡ true
-    → IsGood (with_fill d n addr bytes)
-fill_good d n addr bytes h here sized =
-    let off = not_started d.stage here in
-    let e : Draft = with_fill d n addr bytes in
-    let fill : Fill = record { addr = addr; bytes = bytes } in
-    described_more e
-    (record {
-      few = h.fair.few;
-      some = h.fair.some;
-      shards = h.fair.shards;
-      limits = h.fair.limits;
-      ids = h.fair.ids;
-      windows = h.fair.windows;
-      fills = all_pushed is_fill d.fills (record { addr = addr; bytes = bytes }) h.fair.fills sized;
-      fill_lines = omega (arith, h.fair.fill_lines, length-append d.fills (fill ∷ []), length-append d.fill_lines (n ∷ []));
-      registers = h.fair.registers;
-    })
-    (still_early d e (h.early off) refl refl refl refl) off
-
-pub bytes_good : (d : Draft) (n : ℕ) (fs : List (List ℕ)) → IsGood d → IfOk (bytes_line d n fs) IsGood
-unfolding bytes_line
-bytes_good d n fs h =
-    ensured IsGood (in_description d.stage) kind.Order _ (λ here.
-    ensured IsGood (nat_eq (length fs) 3) kind.Fields _ (λ _.
-    bound IsGood (address (arg fs 1)) _ (λ addr.
-    bound_by IsGood (bytes_within 4096 (arg fs 2)) (λ b. has_bytes 4096 b ≡ true) _ (bytes_in_range 4096 (arg fs 2)) (λ bytes sized.
-    fill_good d n addr bytes h here sized))))
-
-pub word_fill_good : (d : Draft) (n : ℕ) (fs : List (List ℕ)) → IsGood d → in_description d.stage ≡ true → IfOk (word_fill_line d n fs) IsGood
-unfolding word_fill_line
-word_fill_good d n fs h here =
-    ensured IsGood (nat_eq (length fs) 3) kind.Fields _ (λ _.
-    bound IsGood (address (arg fs 1)) _ (λ addr.
-    bound IsGood (any_number (arg fs 2)) _ (λ value.
-    fill_good d n addr (little_bytes 8 value) h here (little_bytes_small 8 value))))
+pub track_good : (d : Draft) (fs : List (List ℕ)) → IsGood d → IfOk (track_line d fs) IsGood
+unfolding track_line
+track_good d fs h =
+    ensured IsGood (in_description d.stage && not d.track) kind.Order _ (λ order.
+    let off = not_started d.stage (left_true (in_description d.stage) (not d.track) order) in
+    ensured IsGood (nat_eq (length fs) 1) kind.Fields _ (λ _.
+    let e : Draft = record d { track = true } in
+    described_more e (still_fair d e h.fair refl refl refl refl refl refl refl refl refl refl h.fair.doors)
+    (still_early d e (h.early off) refl refl refl refl refl) off))

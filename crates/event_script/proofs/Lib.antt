@@ -4,8 +4,12 @@ pub mod Hex
 pub mod Lines
 pub mod Reports
 pub mod Steps
+pub mod Tables
+pub mod Messages
+pub mod Reached
 pub mod Calling
 pub mod Good
 pub mod GoodDescription
+pub mod GoodDoorbells
 pub mod GoodBody
 pub mod Bounds

@@ -12,8 +12,8 @@ use Rattle.event_script.specs.Outcome.{Fails, Gives, error_at}
 use Rattle.event_script.specs.declared.fault.Kind.TheVariants as kind
 use Rattle.event_script.specs.declared.fault.LineError.{LineError}
 use Rattle.event_script.specs.declared.fault.LineError.TheVariants as errors
-use Rattle.event_script.specs.Description.{is_ended}
-use Rattle.event_script.specs.Script.{line, at_line, ◌then◌, parts_from, finished, described_tables, tables_of, desc_of, script_from, FailsAs}
+use Rattle.event_script.specs.Described.{described_tables, tables_of, desc_of}
+use Rattle.event_script.specs.Script.{line, at_line, ◌then◌, parts_from, said, finished, FailsAs}
 use Rattle.event_script.specs.declared.draft.Draft.{Draft}
 use Rattle.event_script.specs.declared.script.Script.{Script}
 
@@ -68,14 +68,13 @@ pub read_last : (n : ℕ) (d : Draft) (text : List ℕ) → parts text ≡ text 
 read_last n d text at = ap (parts_from n d) at
 
 -- the tables of the redistributors are not read
-tables_fail : (d : Draft) (shards : ℕ) (e : LineError) → is_ended d.stage ≡ true → ok_or d.shards kind.Missing ≡ Ok shards → Fails e (tables_of d)
-    → Fails e (script_from d)
-unfolding script_from desc_of described_tables
-tables_fail d shards errors.Memory over some h = tt
-tables_fail d shards (errors.Fault k) over some h = rw (over, some, h) refl
+tables_fail : (d : Draft) (shards : ℕ) (e : LineError) → ok_or d.shards kind.Missing ≡ Ok shards → Fails e (tables_of d) → Fails e (said d)
+unfolding said desc_of described_tables
+tables_fail d shards errors.Memory some h = tt
+tables_fail d shards (errors.Fault k) some h = rw (some, h) refl
 
-pub tables_failed : (d : Draft) (shards : ℕ) (e : LineError) (r : Result Script LineError) → is_ended d.stage ≡ true → ok_or d.shards kind.Missing ≡ Ok shards
-    → Fails e (tables_of d) → IsErrAnd r (λ f. f ≡ e)
-    → Gives (λ script. script) r (script_from d)
-tables_failed d shards e (Ok x) over some h is = absurd is
-tables_failed d shards e (Err f) over some h is = subst (λ (g : LineError). Fails g (script_from d)) (sym is) (tables_fail d shards e over some h)
+pub tables_failed : (d : Draft) (shards : ℕ) (e : LineError) (r : Result Script LineError) → ok_or d.shards kind.Missing ≡ Ok shards → Fails e (tables_of d)
+    → IsErrAnd r (λ f. f ≡ e)
+    → Gives (λ script. script) r (said d)
+tables_failed d shards e (Ok x) some h is = absurd is
+tables_failed d shards e (Err f) some h is = subst (λ (g : LineError). Fails g (said d)) (sym is) (tables_fail d shards e some h)

@@ -1,6 +1,5 @@
 -- The commands that a `command` line can have, from its third field on.
-use Rattle.std.specs.Prelude.{ℕ, ◌-◌, ◌%◌, ◌^◌, true, false, ◌==◌, if◌then◌else◌, List, codes, Result, Ok, Err}
-use Rattle.std.specs.Str.{bytes_eq}
+use Rattle.std.specs.Prelude.{ℕ, ◌-◌, ◌%◌, ◌^◌, true, false, ◌==◌, List, Result, Ok}
 use Rattle.its_command.specs.declared.command.Command.{Command}
 use Rattle.its_command.specs.declared.command.Command.TheVariants as command
 use Rattle.event_script.specs.Outcome.{◌>>=◌, ensure}
@@ -9,24 +8,6 @@ use Rattle.event_script.specs.declared.fault.Kind.{Kind}
 use Rattle.event_script.specs.declared.fault.Kind.TheVariants as kind
 use Rattle.event_script.specs.declared.words.CommandWord.{CommandWord}
 use Rattle.event_script.specs.declared.words.CommandWord.TheVariants as on
-
-unfoldable pub command_word_of : List ℕ → Result CommandWord Kind
-command_word_of word =
-    if bytes_eq word (codes "mapti") then Ok on.Mapti
-    else (if bytes_eq word (codes "mapi") then Ok on.Mapi
-    else (if bytes_eq word (codes "mapd") then Ok on.Mapd
-    else (if bytes_eq word (codes "unmapd") then Ok on.Unmapd
-    else (if bytes_eq word (codes "mapc") then Ok on.Mapc
-    else (if bytes_eq word (codes "unmapc") then Ok on.Unmapc
-    else (if bytes_eq word (codes "movi") then Ok on.Movi
-    else (if bytes_eq word (codes "movall") then Ok on.Movall
-    else (if bytes_eq word (codes "int") then Ok on.Int
-    else (if bytes_eq word (codes "clear") then Ok on.Clear
-    else (if bytes_eq word (codes "discard") then Ok on.Discard
-    else (if bytes_eq word (codes "inv") then Ok on.Inv
-    else (if bytes_eq word (codes "invall") then Ok on.Invall
-    else (if bytes_eq word (codes "sync") then Ok on.Sync
-    else Err kind.Fields)))))))))))))
 
 -- how many fields the line of a command has, with `command` and the address
 abbrev pub command_fields : CommandWord → ℕ

@@ -1,5 +1,5 @@
 -- The lines of a description. Each gives the draft with what it says, or the kind of its first fault.
-use Rattle.std.specs.Prelude.{ℕ, ◌-◌, ◌^◌, Bool, true, false, not, ◌&&◌, ◌||◌, ◌==◌, nat_lt, if◌then◌else◌, List, [], ◌∷◌, ◌++◌, length, replicate}
+use Rattle.std.specs.Prelude.{ℕ, ◌-◌, ◌%◌, ◌^◌, Bool, true, false, not, ◌&&◌, ◌||◌, ◌==◌, nat_lt, nat_le, if◌then◌else◌, List, [], ◌∷◌, ◌++◌, length, replicate}
 use Rattle.std.specs.Prelude.{slice_index_or, slice_set, Option, Some, None, is_some, is_none, Result, Ok}
 use Rattle.std.specs.List.{list_all}
 use Rattle.byteorder.specs.Endian.{little_bytes}
@@ -7,16 +7,20 @@ use Rattle.gicr_regs.specs.declared.values.GicrRegisters.{GicrRegisters}
 use Rattle.gicr_regs.specs.declared.values.GicrValues.{GicrValues}
 use Rattle.gits_regs.specs.declared.values.RegValues.{RegValues}
 use Rattle.its_types.specs.declared.ids.Addr.{Addr}
+use Rattle.its_types.specs.declared.machine.Limits.{Limits}
 use Rattle.its_types.specs.declared.machine.Profile.{Profile}
 use Rattle.its_types.specs.declared.machine.Profile.TheVariants.{One, Two}
 use Rattle.event_script.specs.Text.{number}
 use Rattle.event_script.specs.Outcome.{◌>>=◌, ensure}
-use Rattle.event_script.specs.Fields.{arg, number_within, any_number, address, processor, bytes_within}
+use Rattle.event_script.specs.Fields.{arg, number_within, any_number, address, device, processor, bytes_within}
+use Rattle.event_script.specs.Described.{most_stamp}
 use Rattle.event_script.specs.declared.fault.Kind.{Kind}
 use Rattle.event_script.specs.declared.fault.Kind.TheVariants as kind
+use Rattle.its_plain.specs.declared.desc.Its.{Its}
 use Rattle.event_script.specs.declared.draft.Draft.{Draft}
 use Rattle.event_script.specs.declared.draft.Stage.{Stage}
 use Rattle.event_script.specs.declared.draft.Stage.TheVariants as stage
+use Rattle.event_script.specs.declared.draft.TheConstants.{MOST_REQUESTERS}
 
 -- ---- how far a script has come
 
@@ -44,6 +48,10 @@ is_ended s = false
 abbrev pub no_registers : GicrRegisters
 no_registers = record { ctlr = 0; propbaser = 0; pendbaser = 0 }
 
+-- a translator that starts at reset, and has no frames
+abbrev pub no_its : Its
+no_its = record { restore = None; frames = None }
+
 -- nothing was read
 abbrev pub empty : Draft
 empty = record {
@@ -57,12 +65,18 @@ empty = record {
   pending = [];
   gicr = false;
   linux = false;
+  track = false;
+  pair = false;
+  first = no_its;
+  second = no_its;
+  requesters = [];
+  requester_lines = [];
   registers = record { registers = replicate 16 no_registers };
   given = replicate 16 false;
   fills = [];
   fill_lines = [];
-  restore = None;
   legs = [];
+  moves = [];
   phases = [];
   threads = [];
   calls = [];
@@ -92,7 +106,7 @@ unfoldable pub limits_line : Draft → List (List ℕ) → Result Draft Kind
 limits_line d fs = do
   _ ← ensure (in_description d.stage && is_none d.limits) kind.Order
   _ ← ensure (length fs == 3) kind.Fields
-  stamp ← number_within 1 (2 ^ 24 - 1) (arg fs 1)
+  stamp ← number_within 1 (most_stamp d.pair) (arg fs 1)
   place ← number_within 1 (2 ^ 40 - 1) (arg fs 2)
   Ok (record d { limits = Some (record { stamp_last = stamp; place_last = place }) })
 
@@ -163,6 +177,63 @@ linux_line d fs = do
   _ ← ensure (length fs == 1) kind.Fields
   Ok (record d { linux = true })
 
+-- the machine has a second memory
+unfoldable pub track_line : Draft → List (List ℕ) → Result Draft Kind
+track_line d fs = do
+  _ ← ensure (in_description d.stage && not d.track) kind.Order
+  _ ← ensure (length fs == 1) kind.Fields
+  Ok (record d { track = true })
+
+-- limits that were given leave room for the stamp of a second translator
+abbrev pub allow_pair : Option Limits → Bool
+allow_pair None = true
+allow_pair (Some l) = nat_le l.stamp_last (most_stamp true)
+
+-- the machine has a second translator
+unfoldable pub pair_line : Draft → List (List ℕ) → Result Draft Kind
+pair_line d fs = do
+  _ ← ensure (in_description d.stage && not d.pair) kind.Order
+  _ ← ensure (length fs == 1) kind.Fields
+  _ ← ensure (allow_pair d.limits) kind.Number
+  Ok (record d { pair = true })
+
+-- ---- frames and requesters
+
+-- where two frames of 64 KiB may stand
+unfoldable pub frames_base : List ℕ → Result Addr Kind
+frames_base f = do
+  base ← address f
+  _ ← ensure (base.0 % 65536 == 0) kind.Number
+  Ok base
+
+unfoldable pub its_base_line : Draft → List (List ℕ) → Result Draft Kind
+its_base_line d fs = do
+  _ ← ensure (in_description d.stage && is_none d.first.frames) kind.Order
+  _ ← ensure (length fs == 2) kind.Fields
+  base ← frames_base (arg fs 1)
+  Ok (record d { first = record d.first { frames = Some base } })
+
+-- the second translator's
+unfoldable pub b_base_line : Draft → List (List ℕ) → Result Draft Kind
+b_base_line d fs = do
+  _ ← ensure (in_description d.stage && d.pair && is_none d.second.frames) kind.Order
+  _ ← ensure (length fs == 2) kind.Fields
+  base ← frames_base (arg fs 1)
+  Ok (record d { second = record d.second { frames = Some base } })
+
+-- the n-th line: requesters, and the device that the first of them is
+unfoldable pub requester_line : Draft → ℕ → List (List ℕ) → Result Draft Kind
+requester_line d n fs = do
+  _ ← ensure (in_description d.stage) kind.Order
+  _ ← ensure (length fs == 4) kind.Fields
+  first ← number_within 0 (2 ^ 32 - 1) (arg fs 1)
+  last ← number_within 0 (2 ^ 32 - 1) (arg fs 2)
+  dev ← device (arg fs 3)
+  _ ← ensure (nat_lt (length d.requesters) MOST_REQUESTERS) kind.Many
+  Ok (record d { requesters = d.requesters ++ record { first = first; last = last; dev = dev } ∷ []; requester_lines = d.requester_lines ++ n ∷ [] })
+
+-- ---- what is restored
+
 -- the registers to restore, in the order of a line's fields
 unfoldable pub register_values : List (List ℕ) → Result RegValues Kind
 register_values fs = do
@@ -176,10 +247,18 @@ register_values fs = do
 
 unfoldable pub restore_line : Draft → List (List ℕ) → Result Draft Kind
 restore_line d fs = do
-  _ ← ensure (in_description d.stage && is_none d.restore) kind.Order
+  _ ← ensure (in_description d.stage && is_none d.first.restore) kind.Order
   _ ← ensure (length fs == 7) kind.Fields
   values ← register_values fs
-  Ok (record d { restore = Some values })
+  Ok (record d { first = record d.first { restore = Some values } })
+
+-- the second translator's
+unfoldable pub brestore_line : Draft → List (List ℕ) → Result Draft Kind
+brestore_line d fs = do
+  _ ← ensure (in_description d.stage && d.pair && is_none d.second.restore) kind.Order
+  _ ← ensure (length fs == 7) kind.Fields
+  values ← register_values fs
+  Ok (record d { second = record d.second { restore = Some values } })
 
 -- the registers of a redistributor, in the order of a line's fields
 unfoldable pub redistributor_values : List (List ℕ) → Result GicrRegisters Kind
@@ -198,9 +277,9 @@ abbrev pub has_registers : List Bool → Option ℕ → Bool
 has_registers given None = false
 has_registers given (Some vcpu) = slice_index_or given vcpu false
 
--- registers to restore are given for redistributors that the guest programs, in a machine that is restored
+-- registers to restore are given for redistributors that the guest programs, where the first translator's were given
 abbrev pub restores_registers : Draft → Bool
-restores_registers d = in_description d.stage && d.gicr && is_some d.restore
+restores_registers d = in_description d.stage && d.gicr && is_some d.first.restore
 
 unfoldable pub rrestore_line : Draft → List (List ℕ) → Result Draft Kind
 rrestore_line d fs = do
@@ -209,6 +288,8 @@ rrestore_line d fs = do
   vcpu ← processor (length d.pending) (arg fs 1)
   values ← redistributor_values fs
   Ok (record d { registers = with_registers d.registers vcpu.0 values; given = slice_set d.given vcpu.0 true })
+
+-- ---- bytes for the memory
 
 -- with bytes for the memory, from the n-th line
 abbrev pub with_fill : Draft → ℕ → Addr → List ℕ → Draft

@@ -2,8 +2,10 @@ pub mod Text
 pub mod Outcome
 pub mod Fields
 pub mod Words
+pub mod Described
 pub mod Description
 pub mod Commands
+pub mod Routes
 pub mod Calls
 pub mod Body
 pub mod Script

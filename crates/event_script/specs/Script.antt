@@ -1,29 +1,21 @@
 -- Scripts: what the bytes of one say, or its first faulty line with that line's first kind.
-use Rattle.std.specs.Prelude.{◌≡◌, ℕ, ◌+◌, ◌-◌, ◌^◌, Bool, false, ◌&&◌, ◌||◌, ◌==◌, if◌then◌else◌, List, [], ◌∷◌, length, slice_index, filter_map, codes}
+use Rattle.std.specs.Prelude.{◌≡◌, ℕ, ◌+◌, Bool, ◌&&◌, ◌||◌, ◌==◌, if◌then◌else◌, List, [], ◌∷◌, length, slice_index, codes}
 use Rattle.std.specs.Prelude.{Result, Ok}
-use Rattle.std.specs.Prelude.{Err, None}
+use Rattle.std.specs.Prelude.{Err, None, Some}
 use Rattle.std.specs.Str.{bytes_eq}
-use Rattle.std.specs.Option.{ok_or, unwrap_or}
-use Rattle.its_types.specs.declared.machine.Limits.{Limits}
-use Rattle.its_types.specs.declared.machine.Profile.TheVariants.{One}
-use Rattle.its_types.specs.declared.machine.Shape.{Shape}
-use Rattle.its_plain.specs.declared.desc.Desc.{Desc}
-use Rattle.its_plain.specs.declared.desc.Its.{Its}
-use Rattle.its_plain.specs.declared.desc.LpiTables.{LpiTables}
-use Rattle.its_plain.specs.declared.desc.LpiTables.TheVariants.{Described, Registers}
 use Rattle.event_script.specs.Text.{parts, fields, is_text}
 use Rattle.event_script.specs.Outcome.{◌>>=◌, ensure}
 use Rattle.event_script.specs.Fields.{arg}
-use Rattle.event_script.specs.Words.{keyword_of}
+use Rattle.event_script.specs.Words.{keyword_of, call_word_of}
+use Rattle.event_script.specs.Described.{desc_of}
 use Rattle.event_script.specs.Description.{empty, is_ended}
-use Rattle.event_script.specs.Body.{keyword_line}
+use Rattle.event_script.specs.Body.{keyword_line, call_word_line}
 use Rattle.event_script.specs.declared.fault.Kind.{Kind}
 use Rattle.event_script.specs.declared.fault.Kind.TheVariants as kind
 use Rattle.event_script.specs.declared.fault.ScriptFault.{ScriptFault}
 use Rattle.event_script.specs.declared.fault.ParseError.{ParseError}
 use Rattle.event_script.specs.declared.fault.ParseError.TheVariants as error
 use Rattle.event_script.specs.declared.draft.Draft.{Draft}
-use Rattle.event_script.specs.declared.draft.IdBits.{IdBits}
 use Rattle.event_script.specs.declared.script.CheckInput.{CheckInput}
 use Rattle.event_script.specs.declared.script.Script.{Script}
 
@@ -33,10 +25,14 @@ use Rattle.event_script.specs.declared.script.Script.{Script}
 abbrev pub is_skipped : List (List ℕ) → Bool
 is_skipped fs = length fs == 0 || slice_index (arg fs 0) 0 == 35
 
-unfoldable pub words_line : Draft → ℕ → List (List ℕ) → Result Draft Kind
-words_line d n fs = do
+unfoldable pub other_line : Draft → ℕ → List (List ℕ) → Result Draft Kind
+other_line d n fs = do
   k ← keyword_of (arg fs 0)
   keyword_line d n k fs
+
+-- the word of a call, or another
+unfoldable pub words_line : Draft → ℕ → List (List ℕ) → Result Draft Kind
+words_line d n fs = elim (call_word_of (arg fs 0)) [ None ↦ other_line d n fs | Some w ↦ call_word_line d n w fs ]
 
 -- the n-th line, without its line end
 unfoldable pub line : Draft → ℕ → List ℕ → Result Draft Kind
@@ -44,66 +40,19 @@ line d n text = do
   _ ← ensure (is_text text) kind.Text
   if is_skipped (fields text) then Ok d else words_line d n (fields text)
 
--- ---- what a draft says
+-- ---- the end
 
-abbrev pub default_limits : Limits
-default_limits = record { stamp_last = 2 ^ 24 - 1; place_last = 2 ^ 40 - 1 }
-
-abbrev pub default_ids : IdBits
-default_ids = record { dev = 16; lpi = 16 }
-
--- of so many virtual processors
-abbrev pub shape_of : Draft → Shape
-shape_of d = record {
-  vcpus = length d.pending;
-  dev_bits = (unwrap_or d.ids default_ids).dev;
-  lpi_bits = (unwrap_or d.ids default_ids).lpi;
-  profile = unwrap_or d.profile One;
-  linux = d.linux;
-}
-
--- the tables that the description has, where all of them are there
-unfoldable pub described_tables : Draft → Result LpiTables Kind
-described_tables d = do
-  config ← ok_or d.config kind.Missing
-  Ok (Described config (filter_map (λ table. table) d.pending))
-
--- where the LPI tables of the redistributors are
-abbrev pub tables_of : Draft → Result LpiTables Kind
-tables_of d = if d.gicr then Ok (Registers d.registers) else described_tables d
-
--- one translator, no device of which writes by address
-abbrev pub translators_of : Draft → List Its
-translators_of d = record { restore = d.restore; frames = None } ∷ []
-
--- how many bytes the windows may have together
-abbrev pub memory_limit : ℕ
-memory_limit = 67108864
-
--- the description, where all of it is there
-unfoldable pub desc_of : Draft → Result Desc Kind
-desc_of d = do
-  shards ← ok_or d.shards kind.Missing
-  tables ← tables_of d
-  Ok (record {
-    shape = shape_of d;
-    shards = shards;
-    limits = unwrap_or d.limits default_limits;
-    windows = d.windows;
-    memory_limit = memory_limit;
-    tables = tables;
-    fills = d.fills;
-    translators = translators_of d;
-    requesters = [];
-    track = false;
-  })
+-- what was said
+unfoldable pub said : Draft → Result Script Kind
+said d = do
+  desc ← desc_of d
+  Ok (record { desc = desc; fill_lines = d.fill_lines; requester_lines = d.requester_lines; legs = d.legs; moves = d.moves })
 
 -- the script of a draft that ended
 unfoldable pub script_from : Draft → Result Script Kind
 script_from d = do
   _ ← ensure (is_ended d.stage) kind.Missing
-  desc ← desc_of d
-  Ok (record { desc = desc; fill_lines = d.fill_lines; legs = d.legs })
+  said d
 
 -- what stands after the last line end is no line
 unfoldable pub finished : Draft → List ℕ → Result Script Kind

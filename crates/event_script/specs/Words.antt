@@ -1,50 +1,95 @@
--- The first words of lines.
-use Rattle.std.specs.Prelude.{ℕ, if◌then◌else◌, List, codes, Result, Ok, Err}
+-- The words that lines begin with, and those of commands.
+use Rattle.std.specs.Prelude.{ℕ, List, codes, find, Option, Result}
+use Rattle.std.specs.Option.{ok_or}
 use Rattle.std.specs.Str.{bytes_eq}
 use Rattle.event_script.specs.declared.fault.Kind.{Kind}
 use Rattle.event_script.specs.declared.fault.Kind.TheVariants as kind
 use Rattle.event_script.specs.declared.words.Keyword.{Keyword}
 use Rattle.event_script.specs.declared.words.Keyword.TheVariants as on
+use Rattle.event_script.specs.declared.words.CallWord.{CallWord}
+use Rattle.event_script.specs.declared.words.CallWord.TheVariants as call_on
+use Rattle.event_script.specs.declared.words.CommandWord.{CommandWord}
+use Rattle.event_script.specs.declared.words.CommandWord.TheVariants as command_on
+-- all words of each kind
+pub use Rattle.event_script.specs.declared.words.TheConstants.{KEYWORDS, CALL_WORDS, COMMAND_WORDS}
 
--- the words of descriptions, legs, phases and threads
-unfoldable pub outline_keyword_of : List ℕ → Result Keyword Kind
-outline_keyword_of word =
-    if bytes_eq word (codes "bytes") then Ok on.Bytes
-    else (if bytes_eq word (codes "thread") then Ok on.Thread
-    else (if bytes_eq word (codes "phase") then Ok on.Phase
-    else (if bytes_eq word (codes "vcpus") then Ok on.Vcpus
-    else (if bytes_eq word (codes "shards") then Ok on.Shards
-    else (if bytes_eq word (codes "limits") then Ok on.Limits
-    else (if bytes_eq word (codes "ids") then Ok on.Ids
-    else (if bytes_eq word (codes "profile") then Ok on.Profile
-    else (if bytes_eq word (codes "window") then Ok on.Window
-    else (if bytes_eq word (codes "config") then Ok on.Config
-    else (if bytes_eq word (codes "pending") then Ok on.Pending
-    else (if bytes_eq word (codes "restore") then Ok on.Restore
-    else (if bytes_eq word (codes "gicr") then Ok on.Gicr
-    else (if bytes_eq word (codes "rrestore") then Ok on.Rrestore
-    else (if bytes_eq word (codes "linux") then Ok on.Linux
-    else (if bytes_eq word (codes "migrate") then Ok on.Migrate
-    else (if bytes_eq word (codes "end") then Ok on.End
-    else (if bytes_eq word (codes "trace") then Ok on.Trace
-    else Err kind.Word)))))))))))))))))
+-- ---- the words of descriptions, legs, phases and threads
 
--- those and the words of calls
+unfoldable pub keyword_text : Keyword → List ℕ
+keyword_text on.Vcpus = codes "vcpus"
+keyword_text on.Shards = codes "shards"
+keyword_text on.Limits = codes "limits"
+keyword_text on.Ids = codes "ids"
+keyword_text on.Profile = codes "profile"
+keyword_text on.Window = codes "window"
+keyword_text on.Config = codes "config"
+keyword_text on.Pending = codes "pending"
+keyword_text on.Bytes = codes "bytes"
+keyword_text on.Restore = codes "restore"
+keyword_text on.Gicr = codes "gicr"
+keyword_text on.Rrestore = codes "rrestore"
+keyword_text on.Linux = codes "linux"
+keyword_text on.Track = codes "track"
+keyword_text on.Pair = codes "pair"
+keyword_text on.Brestore = codes "brestore"
+keyword_text on.ItsBase = codes "its-base"
+keyword_text on.BBase = codes "b-base"
+keyword_text on.Requester = codes "requester"
+keyword_text on.Phase = codes "phase"
+keyword_text on.Thread = codes "thread"
+keyword_text on.Migrate = codes "migrate"
+keyword_text on.Precopy = codes "precopy"
+keyword_text on.End = codes "end"
+keyword_text on.Trace = codes "trace"
+-- a call of the second translator follows
+keyword_text on.Second = codes "b"
+
+-- the keyword with a word
 unfoldable pub keyword_of : List ℕ → Result Keyword Kind
-keyword_of word =
-    if bytes_eq word (codes "signal") then Ok on.Signal
-    else (if bytes_eq word (codes "take") then Ok on.Take
-    else (if bytes_eq word (codes "show") then Ok on.Show
-    else (if bytes_eq word (codes "step") then Ok on.Step
-    else (if bytes_eq word (codes "command") then Ok on.Command
-    else (if bytes_eq word (codes "write") then Ok on.Write
-    else (if bytes_eq word (codes "read") then Ok on.Read
-    else (if bytes_eq word (codes "poke") then Ok on.Poke
-    else (if bytes_eq word (codes "peek") then Ok on.Peek
-    else (if bytes_eq word (codes "word") then Ok on.Word
-    else (if bytes_eq word (codes "save") then Ok on.Save
-    else (if bytes_eq word (codes "rread") then Ok on.Rread
-    else (if bytes_eq word (codes "rwrite") then Ok on.Rwrite
-    else (if bytes_eq word (codes "best") then Ok on.Best
-    else (if bytes_eq word (codes "claim") then Ok on.Claim
-    else outline_keyword_of word))))))))))))))
+keyword_of word = ok_or (find (λ k. bytes_eq (keyword_text k) word) KEYWORDS) kind.Word
+
+-- ---- those of calls
+
+unfoldable pub call_text : CallWord → List ℕ
+call_text call_on.Signal = codes "signal"
+call_text call_on.Take = codes "take"
+call_text call_on.Show = codes "show"
+call_text call_on.Best = codes "best"
+call_text call_on.Claim = codes "claim"
+call_text call_on.Poke = codes "poke"
+call_text call_on.Word = codes "word"
+call_text call_on.Command = codes "command"
+call_text call_on.Peek = codes "peek"
+call_text call_on.Read = codes "read"
+call_text call_on.Write = codes "write"
+call_text call_on.Rread = codes "rread"
+call_text call_on.Rwrite = codes "rwrite"
+call_text call_on.Step = codes "step"
+call_text call_on.Save = codes "save"
+call_text call_on.Copy = codes "copy"
+call_text call_on.Dma = codes "dma"
+
+-- what a line with this word calls, if it is a call's
+unfoldable pub call_word_of : List ℕ → Option CallWord
+call_word_of word = find (λ w. bytes_eq (call_text w) word) CALL_WORDS
+
+-- ---- those of commands
+
+unfoldable pub command_text : CommandWord → List ℕ
+command_text command_on.Mapd = codes "mapd"
+command_text command_on.Unmapd = codes "unmapd"
+command_text command_on.Mapc = codes "mapc"
+command_text command_on.Unmapc = codes "unmapc"
+command_text command_on.Mapti = codes "mapti"
+command_text command_on.Mapi = codes "mapi"
+command_text command_on.Movi = codes "movi"
+command_text command_on.Movall = codes "movall"
+command_text command_on.Int = codes "int"
+command_text command_on.Clear = codes "clear"
+command_text command_on.Discard = codes "discard"
+command_text command_on.Inv = codes "inv"
+command_text command_on.Invall = codes "invall"
+command_text command_on.Sync = codes "sync"
+
+unfoldable pub command_word_of : List ℕ → Result CommandWord Kind
+command_word_of word = ok_or (find (λ w. bytes_eq (command_text w) word) COMMAND_WORDS) kind.Fields

@@ -3,13 +3,11 @@ ghost use Rattle.std.specs.Prelude.{◌≡◌, [], map, OnOk};
 ghost use Rattle.event_script.specs.Outcome.{Gives};
 ghost use Rattle.event_script.specs.Body as spec;
 
-use crate::calls::{
-    best_of, claim_of, command_call_of, peek_of, poke_of, read_of, rread_of, rwrite_of, save_of,
-    show_of, signal_of, step_of, take_of, word_of, write_of,
-};
 use crate::draft::{Draft, MOST_CALLS, MOST_LEGS, MOST_PHASES, MOST_THREADS, Stage};
 use crate::fault::{Kind, LineError, ensure};
-use crate::words::Keyword;
+use crate::fields::arg;
+use crate::script::Move;
+use crate::words::{CallWord, Keyword, call_word_of};
 use its_plain::Call;
 use its_types::Listed;
 use std::alloc::{AllocError, Global};
@@ -106,16 +104,27 @@ impl Draft {
         Ok(())
     }
 
-    #[tactic(auto, unfolding(crate::specs::Body::migrate_line))]
-    fn migrate_line(&mut self, alloc: Global, fields: &[&[u8]]) -> Result<(), LineError>
-        ensures { Gives (λ _. self.new) result
-            (spec.migrate_line self.old (map (λ f. f.now) fields.now)) }
+    /// Whether the machine can be moved in this way.
+    fn may_move(&self, how: Move) -> bool
+        ensures { result ≡ spec.may_move self.now.track how }
     {
-        ensure(self.may_go_on(), Kind::Order)?;
+        match how {
+            Move::Migrate => true,
+            Move::Precopy => self.track,
+        }
+    }
+
+    #[tactic(auto, unfolding(crate::specs::Body::move_line))]
+    fn move_line(&mut self, alloc: Global, how: Move, fields: &[&[u8]]) -> Result<(), LineError>
+        ensures { Gives (λ _. self.new) result
+            (spec.move_line self.old how (map (λ f. f.now) fields.now)) }
+    {
+        ensure(self.may_go_on() && self.may_move(how), Kind::Order)?;
         ensure(self.is_whole(), Kind::Missing)?;
         ensure(fields.len() == 1, Kind::Fields)?;
         self.close_leg(alloc)?;
         ensure(self.legs.len() < MOST_LEGS, Kind::Many)?;
+        self.moves.push(how)?;
         self.stage = Stage::Leg;
         Ok(())
     }
@@ -133,35 +142,81 @@ impl Draft {
         Ok(())
     }
 
-    #[tactic(auto, unfolding(crate::specs::Body::call_line))]
-    fn call_line(&mut self, read: Result<Call, Kind>) -> Result<(), LineError>
-        ensures { Gives (λ _. self.new) result (spec.call_line self.old read) }
+    /// Whether the machine has what a call is for.
+    fn may_call(&self, word: CallWord) -> bool
+        ensures { result ≡ spec.may_call self.now word }
     {
-        ensure(self.stage == Stage::Thread, Kind::Order)?;
-        let call = read?;
+        match word {
+            CallWord::Rread | CallWord::Rwrite => self.gicr,
+            CallWord::Copy => self.track,
+            _ => true,
+        }
+    }
+
+    /// Whether a call may stand here.
+    fn takes_call(&self, word: CallWord) -> bool
+        ensures { result ≡ spec.takes_call self.now word }
+    {
+        self.stage == Stage::Thread && self.may_call(word)
+    }
+
+    /// Whether a call of the second translator may stand here.
+    fn takes_second(&self) -> bool
+        ensures { result ≡ spec.takes_second self.now }
+    {
+        self.stage == Stage::Thread && self.pair
+    }
+
+    /// Adds a call to the open thread.
+    #[tactic(auto, unfolding(crate::specs::Body::with_call))]
+    fn push_call(&mut self, call: Call) -> Result<(), LineError>
+        ensures { Gives (λ _. self.new) result (spec.with_call self.old call) }
+    {
         ensure(self.calls.len() < MOST_CALLS, Kind::Many)?;
         self.calls.push(call)?;
         Ok(())
     }
 
-    /// A call to a redistributor, whose registers are the guest's.
-    #[tactic(auto, unfolding(crate::specs::Body::gicr_call_line))]
-    fn gicr_call_line(&mut self, read: Result<Call, Kind>) -> Result<(), LineError>
-        ensures { Gives (λ _. self.new) result (spec.gicr_call_line self.old read) }
+    #[tactic(auto, unfolding(crate::specs::Body::call_line))]
+    fn call_line(&mut self, word: CallWord, fields: &[&[u8]]) -> Result<(), LineError>
+        ensures { Gives (λ _. self.new) result
+            (spec.call_line self.old word (map (λ f. f.now) fields.now)) }
     {
-        ensure(self.gicr, Kind::Order)?;
-        self.call_line(read)
+        ensure(self.takes_call(word), Kind::Order)?;
+        let call = self.call_of(0, word, fields)?;
+        self.push_call(call)
     }
 
-    #[tactic(auto, unfolding(crate::specs::Body::word_line))]
-    fn word_line(&mut self, alloc: Global, number: u64, fields: &[&[u8]]) -> Result<(), LineError>
+    /// A call of the second translator, from the line's second field on.
+    #[tactic(auto, unfolding(crate::specs::Body::second_line))]
+    fn second_line(&mut self, fields: &[&[u8]]) -> Result<(), LineError>
         ensures { Gives (λ _. self.new) result
-            (spec.word_line self.old number (map (λ f. f.now) fields.now)) }
+            (spec.second_line self.old (map (λ f. f.now) fields.now)) }
     {
-        if self.describes() {
+        ensure(self.takes_second(), Kind::Order)?;
+        ensure(fields.len() > 1, Kind::Fields)?;
+        let word = call_word_of(arg(fields, 1)).ok_or(Kind::Order)?;
+        ensure(is_translators(word), Kind::Order)?;
+        let call = self.call_of(1, word, &fields[1..])?;
+        self.push_call(call)
+    }
+
+    /// Reads the line with a number, which begins with the word of a call.
+    #[tactic(auto, unfolding(crate::specs::Body::call_word_line))]
+    pub fn call_word_line(
+        &mut self,
+        alloc: Global,
+        number: u64,
+        word: CallWord,
+        fields: &[&[u8]],
+    ) -> Result<(), LineError>
+        ensures { Gives (λ _. self.new) result
+            (spec.call_word_line self.old number word (map (λ f. f.now) fields.now)) }
+    {
+        if self.describes() && word == CallWord::Word {
             self.word_fill_line(alloc, number, fields)
         } else {
-            self.call_line(word_of(fields))
+            self.call_line(word, fields)
         }
     }
 
@@ -177,7 +232,6 @@ impl Draft {
         ensures { Gives (λ _. self.new) result
             (spec.keyword_line self.old number keyword (map (λ f. f.now) fields.now)) }
     {
-        let vcpus = self.pending.count();
         match keyword {
             Keyword::Vcpus => self.vcpus_line(alloc, fields),
             Keyword::Shards => self.shards_line(fields),
@@ -188,30 +242,33 @@ impl Draft {
             Keyword::Config => self.config_line(fields),
             Keyword::Pending => self.pending_line(fields),
             Keyword::Bytes => self.bytes_line(alloc, number, fields),
-            Keyword::Word => self.word_line(alloc, number, fields),
             Keyword::Restore => self.restore_line(fields),
             Keyword::Gicr => self.gicr_line(fields),
             Keyword::Rrestore => self.rrestore_line(fields),
             Keyword::Linux => self.linux_line(fields),
+            Keyword::Track => self.track_line(fields),
+            Keyword::Pair => self.pair_line(fields),
+            Keyword::Brestore => self.brestore_line(fields),
+            Keyword::ItsBase => self.its_base_line(fields),
+            Keyword::BBase => self.b_base_line(fields),
+            Keyword::Requester => self.requester_line(number, fields),
             Keyword::Phase => self.phase_line(alloc, fields),
             Keyword::Thread => self.thread_line(alloc, fields),
-            Keyword::Migrate => self.migrate_line(alloc, fields),
+            Keyword::Migrate => self.move_line(alloc, Move::Migrate, fields),
+            Keyword::Precopy => self.move_line(alloc, Move::Precopy, fields),
             Keyword::End => self.end_line(alloc, fields),
-            Keyword::Signal => self.call_line(signal_of(fields)),
-            Keyword::Take => self.call_line(take_of(vcpus, fields)),
-            Keyword::Show => self.call_line(show_of(vcpus, fields)),
-            Keyword::Best => self.call_line(best_of(vcpus, fields)),
-            Keyword::Claim => self.call_line(claim_of(vcpus, fields)),
-            Keyword::Poke => self.call_line(poke_of(fields)),
-            Keyword::Peek => self.call_line(peek_of(fields)),
-            Keyword::Command => self.call_line(command_call_of(fields)),
-            Keyword::Read => self.call_line(read_of(fields)),
-            Keyword::Write => self.call_line(write_of(fields)),
-            Keyword::Rread => self.gicr_call_line(rread_of(vcpus, fields)),
-            Keyword::Rwrite => self.gicr_call_line(rwrite_of(vcpus, fields)),
-            Keyword::Step => self.call_line(step_of(fields)),
-            Keyword::Save => self.call_line(save_of(fields)),
             Keyword::Trace => Err(Kind::Order.into()),
+            Keyword::Second => self.second_line(fields),
         }
+    }
+}
+
+/// Whether each translator has such calls of its own.
+fn is_translators(word: CallWord) -> bool
+    ensures { result ≡ spec.is_translators word }
+{
+    match word {
+        CallWord::Signal | CallWord::Read | CallWord::Write | CallWord::Step => true,
+        _ => false,
     }
 }

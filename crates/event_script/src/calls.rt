@@ -1,24 +1,26 @@
 //! The lines of calls.
 ghost use Rattle.std.specs.Prelude.{◌≡◌, ◌≤◌, ◌*◌, ◌-◌, ◌^◌, ◌⊎◌, IfOk, map};
 ghost use Rattle.event_script.specs.Calls as spec;
+ghost use Rattle.event_script.specs.Described.{desc_so_far};
 
 use crate::commands::{command_fields, command_of};
+use crate::draft::Draft;
 use crate::fault::{Kind, ensure};
 use crate::fields::{
     address, any_number, arg, device, event, few_bytes, interrupt, number_within, processor,
 };
-use crate::words::command_word_of;
+use crate::words::{CallWord, command_word_of};
 use its_command::encode;
 use its_plain::{Bytes64, Call};
 
-/// `signal DEVICE EVENT`
+/// `signal DEVICE EVENT`, to the translator with a number.
 #[tactic(auto, unfolding(crate::specs::Calls::signal_of))]
-pub fn signal_of(fields: &[&[u8]]) -> Result<Call, Kind>
-    ensures { result ≡ spec.signal_of (map (λ f. f.now) fields.now) }
+fn signal_of(its: u8, fields: &[&[u8]]) -> Result<Call, Kind>
+    ensures { result ≡ spec.signal_of its (map (λ f. f.now) fields.now) }
 {
     ensure(fields.len() == 3, Kind::Fields)?;
     Ok(Call::Signal {
-        its: 0,
+        its,
         dev: device(arg(fields, 1))?,
         ev: event(arg(fields, 2))?,
     })
@@ -26,7 +28,7 @@ pub fn signal_of(fields: &[&[u8]]) -> Result<Call, Kind>
 
 /// `take VCPU`
 #[tactic(auto, unfolding(crate::specs::Calls::take_of))]
-pub fn take_of(vcpus: u8, fields: &[&[u8]]) -> Result<Call, Kind>
+fn take_of(vcpus: u8, fields: &[&[u8]]) -> Result<Call, Kind>
     ensures { result ≡ spec.take_of vcpus (map (λ f. f.now) fields.now) }
 {
     ensure(fields.len() == 2, Kind::Fields)?;
@@ -35,7 +37,7 @@ pub fn take_of(vcpus: u8, fields: &[&[u8]]) -> Result<Call, Kind>
 
 /// `show VCPU`
 #[tactic(auto, unfolding(crate::specs::Calls::show_of))]
-pub fn show_of(vcpus: u8, fields: &[&[u8]]) -> Result<Call, Kind>
+fn show_of(vcpus: u8, fields: &[&[u8]]) -> Result<Call, Kind>
     ensures { result ≡ spec.show_of vcpus (map (λ f. f.now) fields.now) }
 {
     ensure(fields.len() == 2, Kind::Fields)?;
@@ -44,7 +46,7 @@ pub fn show_of(vcpus: u8, fields: &[&[u8]]) -> Result<Call, Kind>
 
 /// `best VCPU MASK`, a mask below 256.
 #[tactic(auto, unfolding(crate::specs::Calls::best_of))]
-pub fn best_of(vcpus: u8, fields: &[&[u8]]) -> Result<Call, Kind>
+fn best_of(vcpus: u8, fields: &[&[u8]]) -> Result<Call, Kind>
     ensures { result ≡ spec.best_of vcpus (map (λ f. f.now) fields.now) }
 {
     ensure(fields.len() == 3, Kind::Fields)?;
@@ -58,7 +60,7 @@ pub fn best_of(vcpus: u8, fields: &[&[u8]]) -> Result<Call, Kind>
 
 /// `claim VCPU INTID`
 #[tactic(auto, unfolding(crate::specs::Calls::claim_of))]
-pub fn claim_of(vcpus: u8, fields: &[&[u8]]) -> Result<Call, Kind>
+fn claim_of(vcpus: u8, fields: &[&[u8]]) -> Result<Call, Kind>
     ensures { result ≡ spec.claim_of vcpus (map (λ f. f.now) fields.now) }
 {
     ensure(fields.len() == 3, Kind::Fields)?;
@@ -69,7 +71,7 @@ pub fn claim_of(vcpus: u8, fields: &[&[u8]]) -> Result<Call, Kind>
 
 /// `poke ADDRESS BYTES`, of 1 to 64 bytes.
 #[tactic(auto, unfolding(crate::specs::Calls::poke_of))]
-pub fn poke_of(fields: &[&[u8]]) -> Result<Call, Kind>
+fn poke_of(fields: &[&[u8]]) -> Result<Call, Kind>
     ensures { result ≡ spec.poke_of (map (λ f. f.now) fields.now) }
 {
     ensure(fields.len() == 3, Kind::Fields)?;
@@ -81,7 +83,7 @@ pub fn poke_of(fields: &[&[u8]]) -> Result<Call, Kind>
 
 /// `word ADDRESS VALUE`: a write of 8 bytes, least significant byte first.
 #[tactic(auto, unfolding(crate::specs::Calls::word_of))]
-pub fn word_of(fields: &[&[u8]]) -> Result<Call, Kind>
+fn word_of(fields: &[&[u8]]) -> Result<Call, Kind>
     ensures { result ≡ spec.word_of (map (λ f. f.now) fields.now) }
 {
     ensure(fields.len() == 3, Kind::Fields)?;
@@ -95,7 +97,7 @@ pub fn word_of(fields: &[&[u8]]) -> Result<Call, Kind>
 
 /// `command ADDRESS NAME ..`: a write of the command's 32 bytes.
 #[tactic(auto, unfolding(crate::specs::Calls::command_call_of))]
-pub fn command_call_of(fields: &[&[u8]]) -> Result<Call, Kind>
+fn command_call_of(fields: &[&[u8]]) -> Result<Call, Kind>
     ensures { result ≡ spec.command_call_of (map (λ f. f.now) fields.now) }
 {
     let word = command_word_of(arg(fields, 2))?;
@@ -110,7 +112,7 @@ pub fn command_call_of(fields: &[&[u8]]) -> Result<Call, Kind>
 
 /// `peek ADDRESS COUNT`, of 1 to 64 bytes.
 #[tactic(auto, unfolding(crate::specs::Calls::peek_of))]
-pub fn peek_of(fields: &[&[u8]]) -> Result<Call, Kind>
+fn peek_of(fields: &[&[u8]]) -> Result<Call, Kind>
     ensures { result ≡ spec.peek_of (map (λ f. f.now) fields.now) }
 {
     ensure(fields.len() == 3, Kind::Fields)?;
@@ -147,14 +149,14 @@ fn largest(size: u8) -> u64
 
 /// `read OFFSET SIZE`, of 4 or 8 bytes.
 #[tactic(auto, unfolding(crate::specs::Calls::read_of))]
-pub fn read_of(fields: &[&[u8]]) -> Result<Call, Kind>
-    ensures { result ≡ spec.read_of (map (λ f. f.now) fields.now) }
+fn read_of(its: u8, fields: &[&[u8]]) -> Result<Call, Kind>
+    ensures { result ≡ spec.read_of its (map (λ f. f.now) fields.now) }
 {
     ensure(fields.len() == 3, Kind::Fields)?;
     let off = number_within(0, u64::from(u32::MAX), arg(fields, 1))?;
     let size = access_size(arg(fields, 2))?;
     Ok(Call::ReadReg {
-        its: 0,
+        its,
         off: off as u32,
         size,
     })
@@ -162,15 +164,15 @@ pub fn read_of(fields: &[&[u8]]) -> Result<Call, Kind>
 
 /// `write OFFSET SIZE VALUE`, of 4 or 8 bytes. The value has at most that many.
 #[tactic(auto, unfolding(crate::specs::Calls::write_of))]
-pub fn write_of(fields: &[&[u8]]) -> Result<Call, Kind>
-    ensures { result ≡ spec.write_of (map (λ f. f.now) fields.now) }
+fn write_of(its: u8, fields: &[&[u8]]) -> Result<Call, Kind>
+    ensures { result ≡ spec.write_of its (map (λ f. f.now) fields.now) }
 {
     ensure(fields.len() == 4, Kind::Fields)?;
     let off = number_within(0, u64::from(u32::MAX), arg(fields, 1))?;
     let size = access_size(arg(fields, 2))?;
     let value = number_within(0, largest(size), arg(fields, 3))?;
     Ok(Call::WriteReg {
-        its: 0,
+        its,
         off: off as u32,
         size,
         value,
@@ -179,7 +181,7 @@ pub fn write_of(fields: &[&[u8]]) -> Result<Call, Kind>
 
 /// A read of an LPI register of a processor's redistributor.
 #[tactic(auto, unfolding(crate::specs::Calls::rread_of))]
-pub fn rread_of(vcpus: u8, fields: &[&[u8]]) -> Result<Call, Kind>
+fn rread_of(vcpus: u8, fields: &[&[u8]]) -> Result<Call, Kind>
     ensures { result ≡ spec.rread_of vcpus (map (λ f. f.now) fields.now) }
 {
     ensure(fields.len() == 4, Kind::Fields)?;
@@ -195,7 +197,7 @@ pub fn rread_of(vcpus: u8, fields: &[&[u8]]) -> Result<Call, Kind>
 
 /// `rwrite VCPU OFFSET SIZE VALUE`: a write of an LPI register of a processor's redistributor.
 #[tactic(auto, unfolding(crate::specs::Calls::rwrite_of))]
-pub fn rwrite_of(vcpus: u8, fields: &[&[u8]]) -> Result<Call, Kind>
+fn rwrite_of(vcpus: u8, fields: &[&[u8]]) -> Result<Call, Kind>
     ensures { result ≡ spec.rwrite_of vcpus (map (λ f. f.now) fields.now) }
 {
     ensure(fields.len() == 5, Kind::Fields)?;
@@ -213,18 +215,75 @@ pub fn rwrite_of(vcpus: u8, fields: &[&[u8]]) -> Result<Call, Kind>
 
 /// `step`
 #[tactic(auto, unfolding(crate::specs::Calls::step_of))]
-pub fn step_of(fields: &[&[u8]]) -> Result<Call, Kind>
-    ensures { result ≡ spec.step_of (map (λ f. f.now) fields.now) }
+fn step_of(its: u8, fields: &[&[u8]]) -> Result<Call, Kind>
+    ensures { result ≡ spec.step_of its (map (λ f. f.now) fields.now) }
 {
     ensure(fields.len() == 1, Kind::Fields)?;
-    Ok(Call::Step { its: 0 })
+    Ok(Call::Step { its })
 }
 
 /// `save`
 #[tactic(auto, unfolding(crate::specs::Calls::save_of))]
-pub fn save_of(fields: &[&[u8]]) -> Result<Call, Kind>
+fn save_of(fields: &[&[u8]]) -> Result<Call, Kind>
     ensures { result ≡ spec.save_of (map (λ f. f.now) fields.now) }
 {
     ensure(fields.len() == 1, Kind::Fields)?;
     Ok(Call::Save)
+}
+
+/// `copy`
+#[tactic(auto, unfolding(crate::specs::Calls::copy_of))]
+fn copy_of(fields: &[&[u8]]) -> Result<Call, Kind>
+    ensures { result ≡ spec.copy_of (map (λ f. f.now) fields.now) }
+{
+    ensure(fields.len() == 1, Kind::Fields)?;
+    Ok(Call::Copy)
+}
+
+impl Draft {
+    /// `dma REQUESTER ADDRESS BYTES`, of 1 to 64 bytes.
+    #[tactic(auto, unfolding(crate::specs::Calls::dma_of))]
+    fn dma_of(&self, fields: &[&[u8]]) -> Result<Call, Kind>
+        ensures { result ≡ spec.dma_of (desc_so_far self.now) (map (λ f. f.now) fields.now) }
+    {
+        ensure(fields.len() == 4, Kind::Fields)?;
+        let req = number_within(0, u64::from(u32::MAX), arg(fields, 1))? as u32;
+        let addr = address(arg(fields, 2))?;
+        let bytes = few_bytes(arg(fields, 3))?;
+        Ok(Call::Dma {
+            req,
+            addr,
+            bytes,
+            route: self.route(req, addr, bytes.as_slice()),
+        })
+    }
+
+    /// The call of a line with such a word, for the translator with a number where it is a
+    /// translator's.
+    #[tactic(auto, unfolding(crate::specs::Calls::call_of))]
+    pub fn call_of(&self, its: u8, word: CallWord, fields: &[&[u8]]) -> Result<Call, Kind>
+        ensures { result
+            ≡ spec.call_of (desc_so_far self.now) its word (map (λ f. f.now) fields.now) }
+    {
+        let vcpus = self.pending.count();
+        match word {
+            CallWord::Signal => signal_of(its, fields),
+            CallWord::Take => take_of(vcpus, fields),
+            CallWord::Show => show_of(vcpus, fields),
+            CallWord::Best => best_of(vcpus, fields),
+            CallWord::Claim => claim_of(vcpus, fields),
+            CallWord::Poke => poke_of(fields),
+            CallWord::Word => word_of(fields),
+            CallWord::Command => command_call_of(fields),
+            CallWord::Peek => peek_of(fields),
+            CallWord::Read => read_of(its, fields),
+            CallWord::Write => write_of(its, fields),
+            CallWord::Rread => rread_of(vcpus, fields),
+            CallWord::Rwrite => rwrite_of(vcpus, fields),
+            CallWord::Step => step_of(its, fields),
+            CallWord::Save => save_of(fields),
+            CallWord::Copy => copy_of(fields),
+            CallWord::Dma => self.dma_of(fields),
+        }
+    }
 }

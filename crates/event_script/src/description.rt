@@ -1,18 +1,16 @@
 //! The lines of a description.
-ghost use Rattle.std.specs.Prelude.{◌≡◌, Ok, map};
+ghost use Rattle.std.specs.Prelude.{◌≡◌, map};
 ghost use Rattle.event_script.specs.Outcome.{Gives};
 ghost use Rattle.event_script.specs.Description as spec;
 ghost use Rattle.event_script.specs.Text.{number};
 
+use crate::described::most_stamp;
 use crate::draft::{Draft, IdBits, Stage};
 use crate::fault::{Kind, LineError, ensure};
-use crate::fields::{address, any_number, arg, bytes_within, number_within, processor};
+use crate::fields::{address, any_number, arg, number_within, processor};
 use crate::places::PendingTables;
 use crate::text;
-use gicr_regs::GicrRegisters;
-use gits_regs::RegValues;
-use its_plain::Fill;
-use its_types::{Limits, Listed, Profile};
+use its_types::{Limits, Profile};
 use std::alloc::Global;
 
 impl Draft {
@@ -52,7 +50,7 @@ impl Draft {
         Ok(())
     }
 
-    /// `limits STAMP PLACE`, at most once.
+    /// `limits STAMP PLACE`, at most once. Stamps of two translators are below 4096.
     #[tactic(auto, unfolding(crate::specs::Description::limits_line))]
     pub fn limits_line(&mut self, fields: &[&[u8]]) -> Result<(), LineError>
         ensures { Gives (λ _. self.new) result
@@ -61,7 +59,7 @@ impl Draft {
         let first = self.describes() && self.limits.is_none();
         ensure(first, Kind::Order)?;
         ensure(fields.len() == 3, Kind::Fields)?;
-        let stamp = number_within(1, (1 << 24) - 1, arg(fields, 1))?;
+        let stamp = number_within(1, most_stamp(self.pair), arg(fields, 1))?;
         let place = number_within(1, (1 << 40) - 1, arg(fields, 2))?;
         self.limits = Some(Limits {
             stamp_last: stamp as u32,
@@ -177,115 +175,30 @@ impl Draft {
         Ok(())
     }
 
-    /// `restore CTLR CBASER CREADR CWRITER BASER0 BASER1`, at most once.
-    #[tactic(auto, unfolding(crate::specs::Description::restore_line))]
-    pub fn restore_line(&mut self, fields: &[&[u8]]) -> Result<(), LineError>
+    /// `track`: the machine has a second memory; at most once.
+    #[tactic(auto, unfolding(crate::specs::Description::track_line))]
+    pub fn track_line(&mut self, fields: &[&[u8]]) -> Result<(), LineError>
         ensures { Gives (λ _. self.new) result
-            (spec.restore_line self.old (map (λ f. f.now) fields.now)) }
+            (spec.track_line self.old (map (λ f. f.now) fields.now)) }
     {
-        let first = self.describes() && self.restore.is_none();
-        ensure(first, Kind::Order)?;
-        ensure(fields.len() == 7, Kind::Fields)?;
-        self.restore = Some(register_values(fields)?);
+        ensure(self.describes() && !self.track, Kind::Order)?;
+        ensure(fields.len() == 1, Kind::Fields)?;
+        self.track = true;
         Ok(())
     }
 
-    /// Whether registers to restore may be given for redistributors.
-    fn restores_registers(&self) -> bool
-        ensures { result ≡ spec.restores_registers self.now }
-    {
-        self.describes() && self.gicr && self.restore.is_some()
-    }
-
-    /// `rrestore VCPU CTLR PROPBASER PENDBASER`, after `gicr` and `restore`, at most once for each
-    /// processor.
-    #[tactic(auto, unfolding(crate::specs::Description::rrestore_line))]
-    pub fn rrestore_line(&mut self, fields: &[&[u8]]) -> Result<(), LineError>
+    /// `pair`: the machine has a second translator; at most once.
+    #[tactic(auto, unfolding(crate::specs::Description::pair_line))]
+    pub fn pair_line(&mut self, fields: &[&[u8]]) -> Result<(), LineError>
         ensures { Gives (λ _. self.new) result
-            (spec.rrestore_line self.old (map (λ f. f.now) fields.now)) }
+            (spec.pair_line self.old (map (λ f. f.now) fields.now)) }
     {
-        let again = has_registers(&self.given, arg(fields, 1));
-        ensure(self.restores_registers() && !again, Kind::Order)?;
-        ensure(fields.len() == 5, Kind::Fields)?;
-        let vcpu = processor(self.pending.count(), arg(fields, 1))?;
-        let values = redistributor_values(fields)?;
-        self.registers.registers[usize::from(vcpu.0)] = values;
-        self.given[usize::from(vcpu.0)] = true;
+        ensure(self.describes() && !self.pair, Kind::Order)?;
+        ensure(fields.len() == 1, Kind::Fields)?;
+        ensure(allow_pair(self.limits), Kind::Number)?;
+        self.pair = true;
         Ok(())
     }
-
-    /// Adds bytes for the memory, from the line with a number.
-    fn add_fill(&mut self, number: u64, fill: Fill) -> Result<(), LineError>
-        ensures { Gives (λ _. self.new) result
-            (Ok (spec.with_fill self.old number fill.addr fill.bytes)) }
-    {
-        self.fills.push(fill)?;
-        self.fill_lines.push(number)?;
-        Ok(())
-    }
-
-    /// `bytes ADDRESS BYTES`, of 1 to 4096 bytes.
-    #[tactic(auto, unfolding(crate::specs::Description::bytes_line))]
-    pub fn bytes_line(
-        &mut self,
-        alloc: Global,
-        number: u64,
-        fields: &[&[u8]],
-    ) -> Result<(), LineError>
-        ensures { Gives (λ _. self.new) result
-            (spec.bytes_line self.old number (map (λ f. f.now) fields.now)) }
-    {
-        ensure(self.describes(), Kind::Order)?;
-        ensure(fields.len() == 3, Kind::Fields)?;
-        let addr = address(arg(fields, 1))?;
-        let bytes = bytes_within(alloc, 4096, arg(fields, 2))?;
-        self.add_fill(number, Fill { addr, bytes })
-    }
-
-    /// `word ADDRESS VALUE` of the description: 8 bytes, least significant byte first.
-    #[tactic(auto, unfolding(crate::specs::Description::word_fill_line))]
-    pub fn word_fill_line(
-        &mut self,
-        alloc: Global,
-        number: u64,
-        fields: &[&[u8]],
-    ) -> Result<(), LineError>
-        ensures { Gives (λ _. self.new) result
-            (spec.word_fill_line self.old number (map (λ f. f.now) fields.now)) }
-    {
-        ensure(fields.len() == 3, Kind::Fields)?;
-        let addr = address(arg(fields, 1))?;
-        let value = any_number(arg(fields, 2))?;
-        let bytes = Listed::from_vec(value.to_le_bytes().to_vec(alloc)?);
-        self.add_fill(number, Fill { addr, bytes })
-    }
-}
-
-/// The registers to restore, in the order of a line's fields.
-#[tactic(auto, unfolding(crate::specs::Description::register_values))]
-fn register_values(fields: &[&[u8]]) -> Result<RegValues, Kind>
-    ensures { result ≡ spec.register_values (map (λ f. f.now) fields.now) }
-{
-    Ok(RegValues {
-        ctlr: any_number(arg(fields, 1))?,
-        cbaser: any_number(arg(fields, 2))?,
-        creadr: any_number(arg(fields, 3))?,
-        cwriter: any_number(arg(fields, 4))?,
-        baser0: any_number(arg(fields, 5))?,
-        baser1: any_number(arg(fields, 6))?,
-    })
-}
-
-/// The registers of a redistributor, in the order of a line's fields.
-#[tactic(auto, unfolding(crate::specs::Description::redistributor_values))]
-fn redistributor_values(fields: &[&[u8]]) -> Result<GicrRegisters, Kind>
-    ensures { result ≡ spec.redistributor_values (map (λ f. f.now) fields.now) }
-{
-    Ok(GicrRegisters {
-        ctlr: any_number(arg(fields, 2))?,
-        propbaser: any_number(arg(fields, 3))?,
-        pendbaser: any_number(arg(fields, 4))?,
-    })
 }
 
 /// The profile with a number, which is 1 or 2.
@@ -321,12 +234,12 @@ fn is_given(tables: &PendingTables, field: &[u8]) -> bool
     }
 }
 
-/// Whether a field is the number of a processor whose registers were given.
-fn has_registers(given: &[bool; 16], field: &[u8]) -> bool
-    ensures { result ≡ spec.has_registers given.now (number field.now) }
+/// Whether limits that were given leave room for the stamp of a second translator.
+fn allow_pair(limits: Option<Limits>) -> bool
+    ensures { result ≡ spec.allow_pair limits }
 {
-    match text::number(field) {
-        Some(vcpu) => vcpu < 16 && given[vcpu as usize],
-        None => false,
+    match limits {
+        Some(limits) => u64::from(limits.stamp_last) <= most_stamp(true),
+        None => true,
     }
 }

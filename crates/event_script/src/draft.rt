@@ -1,9 +1,12 @@
+//! What was read so far of a script.
 use crate::places::PendingTables;
-use crate::script::{Leg, Phase, Thread};
+use crate::script::{Leg, Move, Phase, Thread};
 use gicr_regs::GicrValues;
-use gits_regs::RegValues;
-use its_plain::Fill;
+use its_plain::{Fill, Its, Requesters};
 use its_types::{Addr, Limits, Listed, Profile};
+
+/// How many lines of requesters a description may have.
+pub const MOST_REQUESTERS: usize = 64;
 
 /// How many legs a script may have.
 pub const MOST_LEGS: usize = 64;
@@ -55,6 +58,18 @@ pub struct Draft {
     pub gicr: bool,
     /// Whether the machine has what a Linux guest counts on.
     pub linux: bool,
+    /// Whether it has a second memory, and knows which pages were written.
+    pub track: bool,
+    /// Whether it has a second translator.
+    pub pair: bool,
+    /// What was said of the first translator.
+    pub first: Its,
+    /// What was said of the second, if there is one.
+    pub second: Its,
+    /// Which devices write by address.
+    pub requesters: Listed<Requesters>,
+    /// The line of each of them.
+    pub requester_lines: Listed<u64>,
     /// What the redistributors are restored with.
     pub registers: GicrValues,
     /// Whether a line gave those of each virtual processor.
@@ -63,10 +78,10 @@ pub struct Draft {
     pub fills: Listed<Fill>,
     /// The line of each of them.
     pub fill_lines: Listed<u64>,
-    /// The registers of the translator to restore.
-    pub restore: Option<RegValues>,
     /// The legs that are closed.
     pub legs: Listed<Leg>,
+    /// How each of them ended, but for the last where the script ended.
+    pub moves: Listed<Move>,
     /// The phases of the open leg that are closed.
     pub phases: Listed<Phase>,
     /// The threads of the open phase that are closed.

@@ -8,31 +8,40 @@ use std::alloc::{AllocError, AllocFailed};
 use thiserror::Error;
 
 /// What is wrong with a line: the first that applies.
-#[derive(Clone, Copy, Debug, PartialEq, Eq)]
+#[derive(Clone, Copy, Debug, PartialEq, Eq, Error)]
 pub enum Kind {
     /// The input ends in it.
+    #[error("the input ends in it")]
     Cut,
     /// A byte that doesn't print.
+    #[error("it has a byte that does not print")]
     Text,
     /// An unknown first word.
+    #[error("its first word is unknown")]
     Word,
     /// It may not stand here, or not a second time.
+    #[error("it may not stand here, or not a second time")]
     Order,
     /// A line that must stand before it is missing.
+    #[error("a line is missing that must stand before it")]
     Missing,
     /// The wrong number of fields, or an unknown command.
+    #[error("it has the wrong number of fields, or names no command")]
     Fields,
     /// A field that isn't a number in its range.
+    #[error("a field is no number in its range")]
     Number,
     /// A field that isn't bytes of a length in its range.
+    #[error("a field is no bytes of a length in its range")]
     Hex,
     /// One more than there may be.
+    #[error("it is one more than there may be")]
     Many,
 }
 
 /// The first faulty line, counted from 1, and what is wrong with it.
 #[derive(Clone, Copy, Debug, PartialEq, Eq, Error)]
-#[error("line {line} is not one of a script: {kind:?}")]
+#[error("line {line} is not one of a script: {kind}")]
 pub struct ScriptFault {
     /// Counted from 1.
     pub line: u64,
@@ -47,7 +56,7 @@ pub enum ParseError {
     #[error("{0}")]
     Fault(ScriptFault),
     /// The host ran out of memory. Nothing is said of the bytes.
-    #[error("memory ran out")]
+    #[error("out of memory")]
     NoMemory,
 }
 

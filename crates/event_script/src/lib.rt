@@ -4,18 +4,26 @@
 mod body;
 mod calls;
 mod commands;
+mod described;
 mod description;
+mod doorbells;
 mod draft;
 mod fault;
 mod fields;
+mod fills;
 mod laws;
 mod places;
 mod reading;
+mod restores;
+mod routes;
 mod script;
 mod text;
 mod words;
 
 pub use fault::{Kind, ParseError, ScriptFault};
-pub use laws::{checked_scripts_are_within_limits, scripts_are_within_limits};
+pub use laws::{
+    checked_scripts_are_within_limits, messages_have_a_translator, scripts_are_within_limits,
+    writes_are_routed_by_the_description,
+};
 pub use reading::{parse, parse_check};
-pub use script::{CheckInput, Leg, Phase, Script, Thread};
+pub use script::{CheckInput, Leg, Move, Phase, Script, Thread};

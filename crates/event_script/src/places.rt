@@ -1,3 +1,4 @@
+//! Tables that a script gives processor by processor.
 ghost use Rattle.std.specs.Prelude.{◌≡◌, [], ◌<◌, ◌≤◌, None, Some, OnOk, IfOk, length, replicate};
 ghost use Rattle.std.specs.Prelude.{slice_index_or, slice_set, filter_map, is_some, is_none};
 ghost use Rattle.std.specs.List.{list_all};

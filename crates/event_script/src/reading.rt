@@ -7,36 +7,13 @@ ghost use Rattle.event_script.specs.Script as spec;
 ghost use Rattle.event_script.specs.Text as text_of;
 ghost use Rattle.event_script.specs.Text.{parts};
 
-use crate::draft::{Draft, IdBits, Stage};
+use crate::draft::{Draft, Stage};
 use crate::fault::{Kind, LineError, ParseError, ScriptFault, ensure};
 use crate::fields::arg;
-use crate::places::PendingTables;
 use crate::script::{CheckInput, Script};
 use crate::text;
-use crate::words::keyword_of;
-use gicr_regs::{GicrRegisters, GicrValues};
-use its_plain::{Desc, Its, LpiTables};
-use its_types::{Limits, Listed, Profile, Shape};
+use crate::words::{call_word_of, keyword_of};
 use std::alloc::{AllocError, Global};
-
-/// The limits where no line gives others.
-const DEFAULT_LIMITS: Limits = Limits {
-    stamp_last: 16_777_215,
-    place_last: 1_099_511_627_775,
-};
-
-/// How many bytes the windows of a script may have together.
-const MEMORY_LIMIT: u64 = 67_108_864;
-
-/// The numbers of bits where no line gives others.
-const DEFAULT_IDS: IdBits = IdBits { dev: 16, lpi: 16 };
-
-/// The registers of a redistributor that no line gives.
-const NO_REGISTERS: GicrRegisters = GicrRegisters {
-    ctlr: 0,
-    propbaser: 0,
-    pendbaser: 0,
-};
 
 /// The script that the bytes are, or their first faulty line and what is wrong with it.
 #[tactic(auto, unfolding(crate::specs::Script::script_of))]
@@ -166,112 +143,19 @@ fn finished(alloc: Global, draft: Draft, last: &[u8]) -> Result<Script, LineErro
     script_from(alloc, draft)
 }
 
-#[tactic(auto, unfolding(crate::specs::Script::script_from, crate::specs::Script::desc_of))]
+#[tactic(auto, unfolding(crate::specs::Script::script_from))]
 fn script_from(alloc: Global, draft: Draft) -> Result<Script, LineError>
     ensures { Gives (λ script. script) result (spec.script_from draft) }
 {
     ensure(draft.is_ended(), Kind::Missing)?;
-    let shards = draft.shards.ok_or(Kind::Missing)?;
-    let tables = draft.tables(alloc)?;
-    let translators = draft.translators(alloc)?;
-    let shape = draft.shape();
-    let desc = Desc {
-        shape,
-        shards,
-        limits: draft.limits.unwrap_or(DEFAULT_LIMITS),
-        windows: draft.windows,
-        memory_limit: MEMORY_LIMIT,
-        tables,
-        fills: draft.fills,
-        translators,
-        requesters: Listed::new(alloc),
-        track: false,
-    };
-    Ok(Script {
-        desc,
-        fill_lines: draft.fill_lines,
-        legs: draft.legs,
-    })
+    draft.script(alloc)
 }
 
 impl Draft {
-    fn new(alloc: Global) -> Draft
-        ensures { result ≡ description.empty }
-    {
-        Draft {
-            stage: Stage::Start,
-            shards: None,
-            limits: None,
-            ids: None,
-            profile: None,
-            windows: Listed::new(alloc),
-            config: None,
-            pending: PendingTables::none(alloc),
-            gicr: false,
-            linux: false,
-            registers: GicrValues {
-                registers: [NO_REGISTERS; 16],
-            },
-            given: [false; 16],
-            fills: Listed::new(alloc),
-            fill_lines: Listed::new(alloc),
-            restore: None,
-            legs: Listed::new(alloc),
-            phases: Listed::new(alloc),
-            threads: Listed::new(alloc),
-            calls: Listed::new(alloc),
-        }
-    }
-
     fn is_ended(&self) -> bool
         ensures { result ≡ description.is_ended self.now.stage }
     {
         self.stage == Stage::Ended
-    }
-
-    fn shape(&self) -> Shape
-        ensures { result ≡ spec.shape_of self.now }
-    {
-        let ids = self.ids.unwrap_or(DEFAULT_IDS);
-        Shape {
-            vcpus: self.pending.count(),
-            dev_bits: ids.dev,
-            lpi_bits: ids.lpi,
-            profile: self.profile.unwrap_or(Profile::One),
-            linux: self.linux,
-        }
-    }
-
-    #[tactic(auto, unfolding(crate::specs::Script::described_tables))]
-    fn described_tables(&self, alloc: Global) -> Result<LpiTables, LineError>
-        ensures { Gives (λ tables. tables) result (spec.described_tables self.now) }
-    {
-        let config = self.config.ok_or(Kind::Missing)?;
-        let pending = self.pending.tables(alloc)?;
-        Ok(LpiTables::Described { config, pending })
-    }
-
-    /// Where the LPI tables of the redistributors are.
-    fn tables(&self, alloc: Global) -> Result<LpiTables, LineError>
-        ensures { Gives (λ tables. tables) result (spec.tables_of self.now) }
-    {
-        if self.gicr {
-            Ok(LpiTables::Registers(self.registers))
-        } else {
-            self.described_tables(alloc)
-        }
-    }
-
-    /// The one translator, no device of which writes by address.
-    fn translators(&self, alloc: Global) -> Result<Listed<Its>, AllocError>
-        ensures { IfOk result (λ translators. translators ≡ spec.translators_of self.now) }
-    {
-        let mut translators = Listed::new(alloc);
-        translators.push(Its {
-            restore: self.restore,
-            frames: None,
-        })?;
-        Ok(translators)
     }
 
     /// Whether it is a line `trace` after the script. The list is for its fields.
@@ -314,6 +198,18 @@ impl Draft {
     fn words_line(&mut self, alloc: Global, number: u64, fields: &[&[u8]]) -> Result<(), LineError>
         ensures { Gives (λ _. self.new) result
             (spec.words_line self.old number (map (λ f. f.now) fields.now)) }
+    {
+        match call_word_of(arg(fields, 0)) {
+            Some(word) => self.call_word_line(alloc, number, word, fields),
+            None => self.other_line(alloc, number, fields),
+        }
+    }
+
+    /// A line that is no call's.
+    #[tactic(auto, unfolding(crate::specs::Script::other_line))]
+    fn other_line(&mut self, alloc: Global, number: u64, fields: &[&[u8]]) -> Result<(), LineError>
+        ensures { Gives (λ _. self.new) result
+            (spec.other_line self.old number (map (λ f. f.now) fields.now)) }
     {
         let keyword = keyword_of(arg(fields, 0))?;
         self.keyword_line(alloc, number, keyword, fields)

@@ -1,3 +1,4 @@
+//! What a script says.
 use its_plain::{Call, Desc};
 use its_types::Listed;
 
@@ -10,6 +11,16 @@ pub type Phase = Listed<Thread>;
 /// Phases, of which each begins when the one before is over.
 pub type Leg = Listed<Phase>;
 
+/// How a leg ends after which another comes.
+#[derive(Clone, Copy, Debug, PartialEq, Eq)]
+pub enum Move {
+    /// The machine is saved, and restored from the memory that it had.
+    Migrate,
+    /// It is saved into its second memory, after the last dirty pages went there, and restored from
+    /// that.
+    Precopy,
+}
+
 /// What a script says.
 #[derive(Debug, Drop)]
 pub struct Script {
@@ -17,8 +28,12 @@ pub struct Script {
     pub desc: Desc,
     /// The line of each fill of the description, counted from 1.
     pub fill_lines: Listed<u64>,
+    /// The line of each range of requesters, counted from 1.
+    pub requester_lines: Listed<u64>,
     /// A migration stands between each two.
     pub legs: Listed<Leg>,
+    /// How each leg but the last ends.
+    pub moves: Listed<Move>,
 }
 
 /// A script, and the report that follows it.

@@ -1,11 +1,12 @@
 //! The words that lines begin with, and those of commands.
-ghost use Rattle.std.specs.Prelude.{◌≡◌};
+ghost use Rattle.std.specs.Prelude.{◌≡◌, find};
+ghost use Rattle.std.specs.Option.{option_map};
+ghost use Rattle.std.specs.Str.{bytes_eq};
 ghost use Rattle.event_script.specs.Words as spec;
-ghost use Rattle.event_script.specs.Commands as commands;
 
 use crate::fault::Kind;
 
-/// The first word of a line.
+/// The first word of a line that is no call's.
 #[derive(Clone, Copy, Debug, PartialEq, Eq)]
 pub enum Keyword {
     Vcpus,
@@ -17,31 +18,98 @@ pub enum Keyword {
     Config,
     Pending,
     Bytes,
-    Word,
     Restore,
     Gicr,
     Rrestore,
     Linux,
+    Track,
+    Pair,
+    Brestore,
+    ItsBase,
+    BBase,
+    Requester,
     Phase,
     Thread,
     Migrate,
+    Precopy,
     End,
+    Trace,
+    /// A call of the second translator follows.
+    Second,
+}
+
+/// All of them.
+pub const KEYWORDS: [Keyword; 26] = [
+    Keyword::Second,
+    Keyword::Bytes,
+    Keyword::Thread,
+    Keyword::Phase,
+    Keyword::Vcpus,
+    Keyword::Shards,
+    Keyword::Limits,
+    Keyword::Ids,
+    Keyword::Profile,
+    Keyword::Window,
+    Keyword::Config,
+    Keyword::Pending,
+    Keyword::Restore,
+    Keyword::Gicr,
+    Keyword::Rrestore,
+    Keyword::Linux,
+    Keyword::Track,
+    Keyword::Pair,
+    Keyword::Brestore,
+    Keyword::ItsBase,
+    Keyword::BBase,
+    Keyword::Requester,
+    Keyword::Migrate,
+    Keyword::Precopy,
+    Keyword::End,
+    Keyword::Trace,
+];
+
+/// The first word of a call's line. `Word` is a description's too.
+#[derive(Clone, Copy, Debug, PartialEq, Eq)]
+pub enum CallWord {
     Signal,
     Take,
     Show,
     Best,
     Claim,
     Poke,
-    Peek,
+    Word,
     Command,
+    Peek,
     Read,
     Write,
     Rread,
     Rwrite,
     Step,
     Save,
-    Trace,
+    Copy,
+    Dma,
 }
+
+/// All of them.
+pub const CALL_WORDS: [CallWord; 17] = [
+    CallWord::Signal,
+    CallWord::Take,
+    CallWord::Show,
+    CallWord::Step,
+    CallWord::Command,
+    CallWord::Write,
+    CallWord::Read,
+    CallWord::Poke,
+    CallWord::Peek,
+    CallWord::Word,
+    CallWord::Save,
+    CallWord::Rread,
+    CallWord::Rwrite,
+    CallWord::Best,
+    CallWord::Claim,
+    CallWord::Copy,
+    CallWord::Dma,
+];
 
 /// The word of a command.
 #[derive(Clone, Copy, Debug, PartialEq, Eq)]
@@ -62,126 +130,184 @@ pub enum CommandWord {
     Sync,
 }
 
-/// The first word of a line; those of calls are tried first.
+/// All of them.
+pub const COMMAND_WORDS: [CommandWord; 14] = [
+    CommandWord::Mapti,
+    CommandWord::Mapi,
+    CommandWord::Mapd,
+    CommandWord::Unmapd,
+    CommandWord::Mapc,
+    CommandWord::Unmapc,
+    CommandWord::Movi,
+    CommandWord::Movall,
+    CommandWord::Int,
+    CommandWord::Clear,
+    CommandWord::Discard,
+    CommandWord::Inv,
+    CommandWord::Invall,
+    CommandWord::Sync,
+];
+
+impl Keyword {
+    /// What the line begins with.
+    #[tactic(auto, unfolding(crate::specs::Words::keyword_text))]
+    fn text(self) -> &'static str
+        ensures { result.now ≡ spec.keyword_text self }
+    {
+        match self {
+            Keyword::Vcpus => "vcpus",
+            Keyword::Shards => "shards",
+            Keyword::Limits => "limits",
+            Keyword::Ids => "ids",
+            Keyword::Profile => "profile",
+            Keyword::Window => "window",
+            Keyword::Config => "config",
+            Keyword::Pending => "pending",
+            Keyword::Bytes => "bytes",
+            Keyword::Restore => "restore",
+            Keyword::Gicr => "gicr",
+            Keyword::Rrestore => "rrestore",
+            Keyword::Linux => "linux",
+            Keyword::Track => "track",
+            Keyword::Pair => "pair",
+            Keyword::Brestore => "brestore",
+            Keyword::ItsBase => "its-base",
+            Keyword::BBase => "b-base",
+            Keyword::Requester => "requester",
+            Keyword::Phase => "phase",
+            Keyword::Thread => "thread",
+            Keyword::Migrate => "migrate",
+            Keyword::Precopy => "precopy",
+            Keyword::End => "end",
+            Keyword::Trace => "trace",
+            Keyword::Second => "b",
+        }
+    }
+
+    fn is(self, word: &[u8]) -> bool
+        ensures { result ≡ bytes_eq (spec.keyword_text self) word.now }
+    {
+        self.text().as_bytes() == word
+    }
+}
+
+impl CallWord {
+    /// What the line begins with.
+    #[tactic(auto, unfolding(crate::specs::Words::call_text))]
+    fn text(self) -> &'static str
+        ensures { result.now ≡ spec.call_text self }
+    {
+        match self {
+            CallWord::Signal => "signal",
+            CallWord::Take => "take",
+            CallWord::Show => "show",
+            CallWord::Best => "best",
+            CallWord::Claim => "claim",
+            CallWord::Poke => "poke",
+            CallWord::Word => "word",
+            CallWord::Command => "command",
+            CallWord::Peek => "peek",
+            CallWord::Read => "read",
+            CallWord::Write => "write",
+            CallWord::Rread => "rread",
+            CallWord::Rwrite => "rwrite",
+            CallWord::Step => "step",
+            CallWord::Save => "save",
+            CallWord::Copy => "copy",
+            CallWord::Dma => "dma",
+        }
+    }
+
+    fn is(self, word: &[u8]) -> bool
+        ensures { result ≡ bytes_eq (spec.call_text self) word.now }
+    {
+        self.text().as_bytes() == word
+    }
+}
+
+impl CommandWord {
+    /// What stands after the address.
+    #[tactic(auto, unfolding(crate::specs::Words::command_text))]
+    fn text(self) -> &'static str
+        ensures { result.now ≡ spec.command_text self }
+    {
+        match self {
+            CommandWord::Mapd => "mapd",
+            CommandWord::Unmapd => "unmapd",
+            CommandWord::Mapc => "mapc",
+            CommandWord::Unmapc => "unmapc",
+            CommandWord::Mapti => "mapti",
+            CommandWord::Mapi => "mapi",
+            CommandWord::Movi => "movi",
+            CommandWord::Movall => "movall",
+            CommandWord::Int => "int",
+            CommandWord::Clear => "clear",
+            CommandWord::Discard => "discard",
+            CommandWord::Inv => "inv",
+            CommandWord::Invall => "invall",
+            CommandWord::Sync => "sync",
+        }
+    }
+
+    fn is(self, word: &[u8]) -> bool
+        ensures { result ≡ bytes_eq (spec.command_text self) word.now }
+    {
+        self.text().as_bytes() == word
+    }
+}
+
+/// The keyword of a line that begins with a word, which is no call's.
 #[tactic(auto, unfolding(crate::specs::Words::keyword_of))]
 pub fn keyword_of(word: &[u8]) -> Result<Keyword, Kind>
     ensures { result ≡ spec.keyword_of word.now }
 {
-    if word == b"signal".as_slice() {
-        Ok(Keyword::Signal)
-    } else if word == b"take".as_slice() {
-        Ok(Keyword::Take)
-    } else if word == b"show".as_slice() {
-        Ok(Keyword::Show)
-    } else if word == b"step".as_slice() {
-        Ok(Keyword::Step)
-    } else if word == b"command".as_slice() {
-        Ok(Keyword::Command)
-    } else if word == b"write".as_slice() {
-        Ok(Keyword::Write)
-    } else if word == b"read".as_slice() {
-        Ok(Keyword::Read)
-    } else if word == b"poke".as_slice() {
-        Ok(Keyword::Poke)
-    } else if word == b"peek".as_slice() {
-        Ok(Keyword::Peek)
-    } else if word == b"word".as_slice() {
-        Ok(Keyword::Word)
-    } else if word == b"save".as_slice() {
-        Ok(Keyword::Save)
-    } else if word == b"rread".as_slice() {
-        Ok(Keyword::Rread)
-    } else if word == b"rwrite".as_slice() {
-        Ok(Keyword::Rwrite)
-    } else if word == b"best".as_slice() {
-        Ok(Keyword::Best)
-    } else if word == b"claim".as_slice() {
-        Ok(Keyword::Claim)
-    } else {
-        outline_keyword_of(word)
+    match find_keyword(word) {
+        Some(keyword) => Ok(*keyword),
+        None => Err(Kind::Word),
     }
 }
 
-/// The first word of a line that is no call's.
-#[tactic(auto, unfolding(crate::specs::Words::outline_keyword_of))]
-fn outline_keyword_of(word: &[u8]) -> Result<Keyword, Kind>
-    ensures { result ≡ spec.outline_keyword_of word.now }
+fn find_keyword(word: &[u8]) -> Option<&Keyword>
+    ensures { option_map (λ k. k.now) result
+        ≡ find (λ k. bytes_eq (spec.keyword_text k) word.now) spec.KEYWORDS }
 {
-    if word == b"bytes".as_slice() {
-        Ok(Keyword::Bytes)
-    } else if word == b"thread".as_slice() {
-        Ok(Keyword::Thread)
-    } else if word == b"phase".as_slice() {
-        Ok(Keyword::Phase)
-    } else if word == b"vcpus".as_slice() {
-        Ok(Keyword::Vcpus)
-    } else if word == b"shards".as_slice() {
-        Ok(Keyword::Shards)
-    } else if word == b"limits".as_slice() {
-        Ok(Keyword::Limits)
-    } else if word == b"ids".as_slice() {
-        Ok(Keyword::Ids)
-    } else if word == b"profile".as_slice() {
-        Ok(Keyword::Profile)
-    } else if word == b"window".as_slice() {
-        Ok(Keyword::Window)
-    } else if word == b"config".as_slice() {
-        Ok(Keyword::Config)
-    } else if word == b"pending".as_slice() {
-        Ok(Keyword::Pending)
-    } else if word == b"restore".as_slice() {
-        Ok(Keyword::Restore)
-    } else if word == b"gicr".as_slice() {
-        Ok(Keyword::Gicr)
-    } else if word == b"rrestore".as_slice() {
-        Ok(Keyword::Rrestore)
-    } else if word == b"linux".as_slice() {
-        Ok(Keyword::Linux)
-    } else if word == b"migrate".as_slice() {
-        Ok(Keyword::Migrate)
-    } else if word == b"end".as_slice() {
-        Ok(Keyword::End)
-    } else if word == b"trace".as_slice() {
-        Ok(Keyword::Trace)
-    } else {
-        Err(Kind::Word)
+    KEYWORDS.iter().find(|keyword| keyword.is(word))
+}
+
+/// The word that a call's line begins with.
+#[tactic(auto, unfolding(crate::specs::Words::call_word_of))]
+pub fn call_word_of(word: &[u8]) -> Option<CallWord>
+    ensures { result ≡ spec.call_word_of word.now }
+{
+    match find_call_word(word) {
+        Some(call_word) => Some(*call_word),
+        None => None,
     }
+}
+
+fn find_call_word(word: &[u8]) -> Option<&CallWord>
+    ensures { option_map (λ w. w.now) result
+        ≡ find (λ w. bytes_eq (spec.call_text w) word.now) spec.CALL_WORDS }
+{
+    CALL_WORDS.iter().find(|call_word| call_word.is(word))
 }
 
 /// The word of a command.
-#[tactic(auto, unfolding(crate::specs::Commands::command_word_of))]
+#[tactic(auto, unfolding(crate::specs::Words::command_word_of))]
 pub fn command_word_of(word: &[u8]) -> Result<CommandWord, Kind>
-    ensures { result ≡ commands.command_word_of word.now }
+    ensures { result ≡ spec.command_word_of word.now }
 {
-    if word == b"mapti".as_slice() {
-        Ok(CommandWord::Mapti)
-    } else if word == b"mapi".as_slice() {
-        Ok(CommandWord::Mapi)
-    } else if word == b"mapd".as_slice() {
-        Ok(CommandWord::Mapd)
-    } else if word == b"unmapd".as_slice() {
-        Ok(CommandWord::Unmapd)
-    } else if word == b"mapc".as_slice() {
-        Ok(CommandWord::Mapc)
-    } else if word == b"unmapc".as_slice() {
-        Ok(CommandWord::Unmapc)
-    } else if word == b"movi".as_slice() {
-        Ok(CommandWord::Movi)
-    } else if word == b"movall".as_slice() {
-        Ok(CommandWord::Movall)
-    } else if word == b"int".as_slice() {
-        Ok(CommandWord::Int)
-    } else if word == b"clear".as_slice() {
-        Ok(CommandWord::Clear)
-    } else if word == b"discard".as_slice() {
-        Ok(CommandWord::Discard)
-    } else if word == b"inv".as_slice() {
-        Ok(CommandWord::Inv)
-    } else if word == b"invall".as_slice() {
-        Ok(CommandWord::Invall)
-    } else if word == b"sync".as_slice() {
-        Ok(CommandWord::Sync)
-    } else {
-        Err(Kind::Fields)
+    match find_command_word(word) {
+        Some(command_word) => Ok(*command_word),
+        None => Err(Kind::Fields),
     }
+}
+
+fn find_command_word(word: &[u8]) -> Option<&CommandWord>
+    ensures { option_map (λ w. w.now) result
+        ≡ find (λ w. bytes_eq (spec.command_text w) word.now) spec.COMMAND_WORDS }
+{
+    COMMAND_WORDS
+        .iter()
+        .find(|command_word| command_word.is(word))
 }

@@ -2,7 +2,7 @@
 use Rattle.std.proofs.Common.{◌≡◌, ℕ, List, ◌∷◌, ◌++◌, append_assoc}
 use Rattle.std.specs.Prelude.{codes}
 use Rattle.std.specs.Fmt.{decimal}
-use Rattle.its_history.specs.Report.{told_text, line_text, entry_lines, vcpu_text, vcpu_lines_from, end_text, leg_text}
+use Rattle.its_history.specs.Report.{told_text, line_text, entry_lines, vcpu_text, vcpu_lines_from, end_line, leg_text}
 use Rattle.its_history.specs.declared.trace.EntryLine.{EntryLine}
 use Rattle.its_history.specs.declared.trace.Leg.{Leg}
 
@@ -20,7 +20,7 @@ vcpu_flat vcpu pending = simp append_assoc
 
 pub leg_flat : (number : ℕ) (leg : Leg) (later : List ℕ)
     → leg_text number leg ++ later ≡ (codes "leg " ++ decimal number)
-    ++ (10 ∷ (entry_lines leg.entries ++ (vcpu_lines_from 0 leg.pending ++ (end_text leg.end ++ later))))
+    ++ (10 ∷ (entry_lines leg.entries ++ (vcpu_lines_from 0 leg.pending ++ (end_line leg.end ++ later))))
 unfolding leg_text
 leg_flat number leg later = simp append_assoc
 

@@ -1,5 +1,5 @@
 -- What is read prints as it was.
-use Rattle.std.proofs.Common.{◌≡◌, ℕ, zero, suc, ◌+◌, Bool, true, false, List, [], ◌∷◌, ◌++◌, length, Option, Some, None, Result, Ok, Err, refl, sym, ap}
+use Rattle.std.proofs.Common.{◌≡◌, ℕ, zero, suc, ◌+◌, Bool, true, false, List, [], ◌∷◌, ◌++◌, length, drop, Option, Some, None, Result, Ok, Err, refl, sym, ap}
 use Rattle.std.proofs.Common.{subst, ◌∙◌, append_assoc, append-nil, arith}
 use Rattle.std.specs.Prelude.{codes, if◌then◌else◌, nat_lt}
 use Rattle.std.specs.Option.{ok_or}
@@ -8,14 +8,14 @@ use Rattle.std.specs.List.{join_with_byte}
 use Rattle.std.specs.Fmt.{decimal}
 use Rattle.std.proofs.lemmas.Bool.{eqb-true}
 use Rattle.std.proofs.lemmas.List.Splits.{join_with_byte-slice_split}
-use Rattle.its_history.specs.Report.{told_text, line_text, entry_lines, vcpu_text, vcpu_lines_from, end_text, leg_text, legs_from, report_text}
-use Rattle.its_history.specs.Reading.{◌>>=◌, only, is_printed, after, cut_at, pending_in, head_in, end_in, end_word, told_in, entry_in, LinesLeft, lines_left}
-use Rattle.its_history.specs.Reading.{next_of, next_line, said, read, ◌then◌, entry_then, entries_from, pending_from, leg_from, end_of, is_over, parts}
-use Rattle.its_history.specs.Reading.{trace_of}
+use Rattle.its_history.specs.Report.{told_text, line_text, entry_lines, vcpu_text, vcpu_lines_from, end_text, end_line, leg_text, legs_from, report_text}
+use Rattle.its_history.specs.Reading.{◌>>=◌, only, is_printed, after, cut_at, pending_in, head_in, word_in, pages_in, told_in, entry_in, LinesLeft, lines_left}
+use Rattle.its_history.specs.Reading.{next_of, next_line, said, read, ◌then◌, entry_then, entries_from, pending_from, Move, end_from, leg_from, move_after}
+use Rattle.its_history.specs.Reading.{is_over, parts, trace_of}
 use Rattle.its_history.specs.Reading as reading
-use Rattle.its_history.specs.ReadBack.{ArePlaced, HasLegShape, HasShape, ReadReportsPrint}
+use Rattle.its_history.specs.ReadBack.{ArePlaced, EndsBefore, HasLegShape, HasShape, ReadReportsPrint}
 use Rattle.its_history.specs.declared.trace.End.{End}
-use Rattle.its_history.specs.declared.trace.End.TheVariants.{Migrated, Done}
+use Rattle.its_history.specs.declared.trace.End.TheVariants.{Migrated, Copied, Done}
 use Rattle.its_history.specs.declared.trace.EntryLine.{EntryLine}
 use Rattle.its_history.specs.declared.trace.Leg.{Leg}
 use Rattle.its_history.proofs.Flat.{told_flat, line_flat, vcpu_flat, leg_flat, line_on}
@@ -108,10 +108,12 @@ head_line_is number line x is =
     after_is (codes "leg ") line a.x a.first ∙ ap (λ (y : List ℕ). codes "leg " ++ y)
     (same_text a.x (decimal number) (only_some (bytes_eq a.x (decimal number)) tt x a.second).0)
 
-end_line_is : (end : End) (line : List ℕ) (x : Unit {0}) → end_in end line ≡ Some x → line ++ line_end ≡ end_text (Some end)
-unfolding end_text
-end_line_is Migrated line x is = ap (λ (y : List ℕ). y ++ line_end) (same_text line (codes "migrated") (only_some (bytes_eq line (codes "migrated")) tt x is).0)
-end_line_is Done line x is = ap (λ (y : List ℕ). y ++ line_end) (same_text line (codes "done") (only_some (bytes_eq line (codes "done")) tt x is).0)
+pages_line_is : (line pages : List ℕ) → pages_in line ≡ Some pages → line ≡ codes "migrated copied " ++ pages
+unfolding pages_in
+pages_line_is line pages is =
+    let a = bound (after (codes "migrated copied ") line) (λ x. only (nat_lt 0 (length x)) x) pages is in
+    let d = only_some (nat_lt 0 (length a.x)) a.x pages a.second in
+    after_is (codes "migrated copied ") line a.x a.first ∙ ap (λ (x : List ℕ). codes "migrated copied " ++ x) d.1
 
 -- ---- the lines of a leg
 
@@ -163,52 +165,81 @@ pending_print vcpu (suc count) here r e =
 
 -- ---- legs
 
+-- the last line of a leg that this follows
+abbrev EndPrints : Move → LinesLeft → End × LinesLeft → Type 0
+EndPrints move here r = (text_of here ≡ end_line (Some r.0) ++ text_of r.1) × EndsBefore move (Some r.0)
+
+-- how it is read, what it tells, and the line that says so
+end_told : {A : Type 0} (move : Move) (f : List ℕ → Option A) (here : LinesLeft) (told : A → End) (r : End × LinesLeft)
+    → (read f here then λ p. (let made : Result (End × LinesLeft) ℕ = Ok (told p.0, p.1) in made)) ≡ Ok r
+    → ((line : List ℕ) (x : A) → f line ≡ Some x → line ≡ end_text (told x)) → ((x : A) → EndsBefore move (Some (told x))) → EndPrints move here r
+end_told move f here told r e prints ends =
+    let a = then_ok (read f here) (λ p. (let made : Result (End × LinesLeft) ℕ = Ok (told p.0, p.1) in made)) r e in
+    let same : (told a.x.0, a.x.1) ≡ r = cc in
+    let said = read_is f here a.x.0 a.x.1 a.first in
+    subst (EndPrints move here) same (
+      said.text ∙ ap (λ (t : List ℕ). t ++ 10 ∷ text_of a.x.1) (prints said.line a.x.0 said.says) ∙ sym (line_on (end_text (told a.x.0)) (text_of a.x.1)),
+      ends a.x.0,
+    )
+
+end_prints : (move : Move) (here : LinesLeft) (r : End × LinesLeft) → end_from move here ≡ Ok r → EndPrints move here r
+unfolding end_text
+end_prints None here r e =
+    end_told None (word_in (codes "done")) here (λ _. Done) r e
+    (λ line x is. same_text line (codes "done") (only_some (bytes_eq line (codes "done")) tt x is).0) (λ _. refl)
+end_prints (Some false) here r e =
+    end_told (Some false) (word_in (codes "migrated")) here (λ _. Migrated) r e
+    (λ line x is. same_text line (codes "migrated") (only_some (bytes_eq line (codes "migrated")) tt x is).0) (λ _. refl)
+end_prints (Some true) here r e = end_told (Some true) pages_in here (λ pages. Copied pages) r e pages_line_is (λ pages. (pages, refl))
+
 abbrev made_leg : List EntryLine → List (List ℕ) → End → Leg
 made_leg entries pending end = record { entries = entries; pending = pending; end = Some end }
 
-pub record LegPrints (vcpus number : ℕ) (end : End) (here : LinesLeft) (r : Leg × LinesLeft) : Type 0 where
+pub record LegPrints (vcpus number : ℕ) (move : Move) (here : LinesLeft) (r : Leg × LinesLeft) : Type 0 where
   pub text : text_of here ≡ leg_text number r.0 ++ text_of r.1
-  pub shape : HasLegShape vcpus end r.0
+  pub shape : HasLegShape vcpus move r.0
 
-leg_prints : (vcpus number : ℕ) (end : End) (here : LinesLeft) (r : Leg × LinesLeft) → leg_from vcpus number end here ≡ Ok r → LegPrints vcpus number end here r
+leg_prints : (vcpus number : ℕ) (move : Move) (here : LinesLeft) (r : Leg × LinesLeft) → leg_from vcpus number move here ≡ Ok r
+    → LegPrints vcpus number move here r
 unfolding leg_from
-leg_prints vcpus number end here r e =
+leg_prints vcpus number move here r e =
     let a = then_ok (read (head_in number) here) (λ h. let es = entries_from 0 h.1.number h.1.parts in pending_from 0 vcpus es.1 then λ ps.
-    read (end_in end) ps.1 then λ e.
-    (let made : Result (Leg × LinesLeft) ℕ = Ok (made_leg es.0 ps.0 end, e.1) in made)) r e in
+    end_from move ps.1 then λ e.
+    (let made : Result (Leg × LinesLeft) ℕ = Ok (made_leg es.0 ps.0 e.0, e.1) in made)) r e in
     let es = entries_from 0 a.x.1.number a.x.1.parts in
-    let b = then_ok (pending_from 0 vcpus es.1) (λ ps. read (end_in end) ps.1 then λ e.
-    (let made : Result (Leg × LinesLeft) ℕ = Ok (made_leg es.0 ps.0 end, e.1) in made)) r a.second in
-    let d = then_ok (read (end_in end) b.x.1) (λ e. (let made : Result (Leg × LinesLeft) ℕ = Ok (made_leg es.0 b.x.0 end, e.1) in made)) r b.second in
-    let same : (made_leg es.0 b.x.0 end, d.x.1) ≡ r = cc in
+    let b = then_ok (pending_from 0 vcpus es.1) (λ ps. end_from move ps.1 then λ e.
+    (let made : Result (Leg × LinesLeft) ℕ = Ok (made_leg es.0 ps.0 e.0, e.1) in made)) r a.second in
+    let d = then_ok (end_from move b.x.1) (λ e. (let made : Result (Leg × LinesLeft) ℕ = Ok (made_leg es.0 b.x.0 e.0, e.1) in made)) r b.second in
+    let same : (made_leg es.0 b.x.0 d.x.0, d.x.1) ≡ r = cc in
     let head = read_is (head_in number) here a.x.0 a.x.1 a.first in
     let entries = entries_print 0 a.x.1.number a.x.1.parts in
     let pending = pending_print 0 vcpus es.1 b.x b.first in
-    let last = read_is (end_in end) b.x.1 d.x.0 d.x.1 d.first in
-    subst (λ (p : Leg × LinesLeft). LegPrints vcpus number end here p) same (record {
+    let last = end_prints move b.x.1 d.x d.first in
+    subst (λ (p : Leg × LinesLeft). LegPrints vcpus number move here p) same (record {
       text = head.text ∙ ap (λ (t : List ℕ). t ++ 10 ∷ text_of a.x.1) (head_line_is number head.line a.x.0 head.says)
           ∙ ap (λ (t : List ℕ). (codes "leg " ++ decimal number) ++ 10 ∷ t) (entries.0 ∙ ap (λ (t : List ℕ). entry_lines es.0 ++ t)
-          (pending.0 ∙ ap (λ (t : List ℕ). vcpu_lines_from 0 b.x.0 ++ t) (last.text ∙ sym (line_on last.line (text_of d.x.1))
-          ∙ ap (λ (t : List ℕ). t ++ text_of d.x.1) (end_line_is end last.line d.x.0 last.says))))
-          ∙ sym (leg_flat number (made_leg es.0 b.x.0 end) (text_of d.x.1));
-      shape = record { placed = entries.1; pending = pending.1; end_is = refl };
+          (pending.0 ∙ ap (λ (t : List ℕ). vcpu_lines_from 0 b.x.0 ++ t) last.0))
+          ∙ sym (leg_flat number (made_leg es.0 b.x.0 d.x.0) (text_of d.x.1));
+      shape = record { placed = entries.1; pending = pending.1; ends = last.1 };
     })
 
-abbrev LegsPrint : ℕ → ℕ → ℕ → LinesLeft → List Leg × LinesLeft → Type 0
-LegsPrint vcpus number count here r = (text_of here ≡ legs_from number r.0 ++ text_of r.1) × HasShape vcpus count r.0
+abbrev LegsPrint : ℕ → ℕ → ℕ → List Bool → LinesLeft → List Leg × LinesLeft → Type 0
+LegsPrint vcpus number count copies here r = (text_of here ≡ legs_from number r.0 ++ text_of r.1) × HasShape vcpus count copies r.0
 
-legs_print : (vcpus number count : ℕ) (here : LinesLeft) (r : List Leg × LinesLeft) → reading.legs_from vcpus number count here ≡ Ok r
-    → LegsPrint vcpus number count here r
-legs_print vcpus number zero here r e = (let same : ([], here) ≡ r = cc in subst (LegsPrint vcpus number 0 here) same (refl, tt))
-legs_print vcpus number (suc later) here r e =
-    let a = then_ok (leg_from vcpus number (end_of later) here) (λ p. reading.legs_from vcpus (number + 1) later p.1 then λ q.
+legs_print : (vcpus number count : ℕ) (copies : List Bool) (here : LinesLeft) (r : List Leg × LinesLeft)
+    → reading.legs_from vcpus number count copies here ≡ Ok r → LegsPrint vcpus number count copies here r
+legs_print vcpus number zero copies here r e = (let same : ([], here) ≡ r = cc in subst (LegsPrint vcpus number 0 copies here) same (refl, tt))
+legs_print vcpus number (suc later) copies here r e =
+    let move = move_after later copies in
+    let a = then_ok (leg_from vcpus number move here) (λ p. reading.legs_from vcpus (number + 1) later (drop 1 copies) p.1 then λ q.
     (let made : Result (List Leg × LinesLeft) ℕ = Ok (p.0 ∷ q.0, q.1) in made)) r e in
-    let b = then_ok (reading.legs_from vcpus (number + 1) later a.x.1) (λ q. (let made : Result (List Leg × LinesLeft) ℕ = Ok (a.x.0 ∷ q.0, q.1) in made)) r
+    let b = then_ok (reading.legs_from vcpus (number + 1) later (drop 1 copies) a.x.1) (λ q.
+    (let made : Result (List Leg × LinesLeft) ℕ = Ok (a.x.0 ∷ q.0, q.1) in made)) r
     a.second in
     let same : (a.x.0 ∷ b.x.0, b.x.1) ≡ r = cc in
-    let leg = leg_prints vcpus number (end_of later) here a.x a.first in
-    let more = legs_print vcpus (number + 1) later a.x.1 b.x b.first in
-    subst (LegsPrint vcpus number (suc later) here) same (
+    let leg = leg_prints vcpus number move here a.x a.first in
+    let more = legs_print vcpus (number + 1) later (drop 1 copies) a.x.1 b.x b.first in
+    subst (LegsPrint vcpus number (suc later) copies here) same (
       leg.text ∙ ap (λ (t : List ℕ). leg_text number a.x.0 ++ t) more.0 ∙ sym (append_assoc (leg_text number a.x.0) (legs_from (number + 1) b.x.0)
           (text_of b.x.1)),
       (leg.shape, more.1),
@@ -229,14 +260,14 @@ over_by told ls l false o e = absurd cc
 
 pub reports_print : ReadReportsPrint
 unfolding trace_of
-reports_print legs vcpus text told e =
+reports_print legs copies vcpus text told e =
     let here = lines_left 1 (parts text) in
-    let a = then_ok (reading.legs_from vcpus 1 legs here) (λ p. (let r : Result (List Leg) ℕ = if is_over p.1.parts then Ok p.0 else Err p.1.number in r)) told
-    e in
+    let a = then_ok (reading.legs_from vcpus 1 legs copies here) (λ p.
+    (let r : Result (List Leg) ℕ = if is_over p.1.parts then Ok p.0 else Err p.1.number in r)) told e in
     let over = over_by told a.x.0 a.x.1 (is_over a.x.1.parts) refl a.second in
-    let p = legs_print vcpus 1 legs here a.x a.first in
+    let p = legs_print vcpus 1 legs copies here a.x a.first in
     record {
-      shape = subst (λ (ls : List Leg). HasShape vcpus legs ls) over.1 p.1;
+      shape = subst (λ (ls : List Leg). HasShape vcpus legs copies ls) over.1 p.1;
       same = ap report_text (sym over.1) ∙ sym (append-nil (report_text a.x.0)) ∙ ap (λ (t : List ℕ). report_text a.x.0 ++ t)
           (sym (nothing_left a.x.1.parts over.0)) ∙ sym p.0 ∙ join_with_byte-slice_split 10 text;
     }

@@ -1,6 +1,6 @@
 -- What is printed is read as it is.
-use Rattle.std.proofs.Common.{◌≡◌, ◌≢◌, ℕ, zero, suc, ◌+◌, ◌^◌, ◌<◌, ◌≤◌, true, false, List, [], ◌∷◌, ◌++◌, length, take, drop, Option, Some, None, Result, Ok}
-use Rattle.std.proofs.Common.{Err, refl, sym, ap, subst, ◌∙◌, append_assoc, append-nil, eq-eqb, ne_eqb, arith}
+use Rattle.std.proofs.Common.{◌≡◌, ◌≢◌, ℕ, zero, suc, ◌+◌, ◌^◌, ◌<◌, ◌≤◌, Bool, true, false, List, [], ◌∷◌, ◌++◌, length, take, drop, Option, Some, None}
+use Rattle.std.proofs.Common.{Result, Ok, Err, refl, sym, ap, subst, ◌∙◌, append_assoc, append-nil, eq-eqb, ne_eqb, arith}
 use Rattle.std.specs.Prelude.{codes, if◌then◌else◌, ◌==◌, ◌&&◌, nat_lt, nat_le}
 use Rattle.std.specs.List.{position_or_len, All, AllByRecursion}
 use Rattle.std.specs.Str.{bytes_eq}
@@ -14,14 +14,15 @@ use Rattle.std.proofs.lemmas.List.{length-append}
 use Rattle.std.proofs.lemmas.List.Elements.{All-nil, All-cons}
 use Rattle.std.proofs.lemmas.List.Folds.{list_all-append}
 use Rattle.std.proofs.lemmas.List.Splits.{slice_split_at}
-use Rattle.its_history.specs.Report.{told_text, line_text, entry_lines, vcpu_text, vcpu_lines_from, end_text, leg_text, legs_from, report_text}
-use Rattle.its_history.specs.Reading.{◌>>=◌, only, is_printed, is_answered, after, cut, cut_at, small_number, pending_in, head_in, end_in, end_word}
+use Rattle.its_history.specs.Report.{told_text, line_text, entry_lines, vcpu_text, vcpu_lines_from, end_text, end_line, leg_text, legs_from, report_text}
+use Rattle.its_history.specs.Reading.{◌>>=◌, only, is_printed, is_answered, after, cut, cut_at, small_number, pending_in, head_in, word_in}
 use Rattle.its_history.specs.Reading.{entry_with, told_in, entry_in, LinesLeft, lines_left, next_of, next_line, said, read, ◌then◌, entries_from, pending_from}
-use Rattle.its_history.specs.Reading.{leg_from, end_of, is_over, parts, trace_of}
+use Rattle.its_history.specs.Reading.{pages_in, Move, end_from, leg_from, move_after, is_over, parts, trace_of}
 use Rattle.its_history.specs.Reading as reading
-use Rattle.its_history.specs.ReadBack.{ArePlaced, HasLegShape, HasShape, IsReadable, IsSome, IsLegReadable, PrintedReportsAreRead}
+use Rattle.its_history.specs.ReadBack.{ArePlaced, EndsBefore, HasLegShape, HasShape, IsReadable, IsSome, IsEndReadable, IsLegReadable}
+use Rattle.its_history.specs.ReadBack.{PrintedReportsAreRead}
 use Rattle.its_history.specs.declared.trace.End.{End}
-use Rattle.its_history.specs.declared.trace.End.TheVariants.{Migrated, Done}
+use Rattle.its_history.specs.declared.trace.End.TheVariants.{Migrated, Copied, Done}
 use Rattle.its_history.specs.declared.trace.EntryLine.{EntryLine}
 use Rattle.its_history.specs.declared.trace.Leg.{Leg}
 use Rattle.its_history.proofs.Flat.{told_flat, line_flat, vcpu_flat, leg_flat, line_on}
@@ -238,91 +239,138 @@ head_on number =
 head_printed : (number : ℕ) → number < 2 ^ 64 → is_printed (head_text number) ≡ true
 head_printed number small = append_printed (codes "leg ") (decimal number) refl (decimal_printed number small)
 
-end_on : (end : End) (n : ℕ) (rest : List ℕ) → read (end_in end) (lines_of n (end_text (Some end) ++ rest)) ≡ Ok (tt, lines_of (n + 1) rest)
+pages_on : (pages : List ℕ) → 0 < length pages → pages_in (codes "migrated copied " ++ pages) ≡ Some pages
+unfolding pages_in
+pages_on pages some =
+    let there : nat_lt 0 (length pages) ≡ true = lt-ltb 0 (length pages) some in
+    rw (after_on (codes "migrated copied ") pages) (rw there refl)
+
+end_printed : (end : End) → IsEndReadable (Some end) → is_printed (end_text end) ≡ true
 unfolding end_text
-end_on Migrated n rest = read_on (end_in Migrated) tt n (codes "migrated") rest refl refl
-end_on Done n rest = read_on (end_in Done) tt n (codes "done") rest refl refl
+end_printed Migrated can = refl
+end_printed (Copied pages) can = append_printed (codes "migrated copied ") pages refl can.printed
+end_printed Done can = refl
+
+-- how a leg ended that this follows, and that it is read so
+pub record IsEndAgain (move : Move) (end : Option End) (rest : List ℕ) : Type 0 where
+  pub told : End
+  pub is : end ≡ Some told
+  pub read_is : (n : ℕ) → end_from move (lines_of n (end_line (Some told) ++ rest)) ≡ Ok (told, lines_of (n + 1) rest)
+
+end_read : {A : Type 0} (f : List ℕ → Option A) (x : A) (told : A → End) (n : ℕ) (rest : List ℕ) → IsEndReadable (Some (told x))
+    → f (end_text (told x)) ≡ Some x
+    → (read f (lines_of n (end_line (Some (told x)) ++ rest)) then λ p. (let made : Result (End × LinesLeft) ℕ = Ok (told p.0, p.1) in made))
+    ≡ Ok (told x, lines_of (n + 1) rest)
+end_read {A = A} f x told n rest can says =
+    let one : read f (lines_of n (end_line (Some (told x)) ++ rest)) ≡ Ok (x, lines_of (n + 1) rest) =
+    ap (λ t. read f (lines_of n t)) (line_on (end_text (told x)) rest) ∙ read_on f x n (end_text (told x)) rest (end_printed (told x) can) says in
+    ap (λ (r : Result (A × LinesLeft) ℕ). r then λ p. (let made : Result (End × LinesLeft) ℕ = Ok (told p.0, p.1) in made)) one
+
+end_again : (move : Move) (end : Option End) (rest : List ℕ) → EndsBefore move end → IsEndReadable end → IsEndAgain move end rest
+unfolding end_text
+end_again None end rest is can = record { told = Done; is = is; read_is = λ n. end_read (word_in (codes "done")) tt (λ _. Done) n rest tt refl }
+end_again (Some false) end rest is can = record {
+  told = Migrated;
+  is = is;
+  read_is = λ n. end_read (word_in (codes "migrated")) tt (λ _. Migrated) n rest tt refl;
+}
+end_again (Some true) end rest is can =
+    let some : IsSome is.0 = subst IsEndReadable is.1 can in record {
+      told = Copied is.0;
+      is = is.1;
+      read_is = λ n. end_read pages_in is.0 (λ pages. Copied pages) n rest some (pages_on is.0 some.some);
+    }
 
 -- where the lines of virtual processors and of the end begin there is no entry
 abbrev ends_with : List (List ℕ) → End → List ℕ → List ℕ
-ends_with ps end rest = vcpu_lines_from 0 ps ++ (end_text (Some end) ++ rest)
+ends_with ps end rest = vcpu_lines_from 0 ps ++ (end_line (Some end) ++ rest)
 
-end_stops : (place m : ℕ) (end : End) (rest : List ℕ) → place < 2 ^ 64 → said (entry_in place) (lines_of m (end_text (Some end) ++ rest)) ≡ None
+end_high : (end : End) → IsHigh (end_text end)
 unfolding end_text
-end_stops place m Migrated rest small = stops place m (codes "migrated") rest small refl (omega arith)
-end_stops place m Done rest small = stops place m (codes "done") rest small refl (omega arith)
+end_high Migrated = omega arith
+end_high (Copied pages) = omega arith
+end_high Done = omega arith
 
-tail_stops : (place m : ℕ) (ps : List (List ℕ)) (end : End) (rest : List ℕ) → place < 2 ^ 64 → AllByRecursion IsSome ps
+end_stops : (place m : ℕ) (end : End) (rest : List ℕ) → place < 2 ^ 64 → IsEndReadable (Some end)
+    → said (entry_in place) (lines_of m (end_line (Some end) ++ rest)) ≡ None
+end_stops place m end rest small can =
+    ap (λ t. said (entry_in place) (lines_of m t)) (line_on (end_text end) rest)
+    ∙ stops place m (end_text end) rest small (end_printed end can) (end_high end)
+
+tail_stops : (place m : ℕ) (ps : List (List ℕ)) (end : End) (rest : List ℕ) → place < 2 ^ 64 → AllByRecursion IsSome ps → IsEndReadable (Some end)
     → said (entry_in place) (lines_of m (ends_with ps end rest)) ≡ None
-tail_stops place m [] end rest small all = end_stops place m end rest small
-tail_stops place m (p ∷ ps) end rest small all =
-    let later = vcpu_lines_from 1 ps ++ (end_text (Some end) ++ rest) in
+tail_stops place m [] end rest small all can = end_stops place m end rest small can
+tail_stops place m (p ∷ ps) end rest small all can =
+    let later = vcpu_lines_from 1 ps ++ (end_line (Some end) ++ rest) in
     let text : ends_with (p ∷ ps) end rest ≡ vcpu_text 0 p ++ 10 ∷ later = append_assoc (vcpu_text 0 p ++ codes "\n") (vcpu_lines_from 1 ps)
-    (end_text (Some end) ++ rest) ∙ line_on (vcpu_text 0 p) later in
+    (end_line (Some end) ++ rest) ∙ line_on (vcpu_text 0 p) later in
     let high : IsHigh (vcpu_text 0 p) = subst IsHigh (sym (vcpu_flat 0 p)) (omega arith) in
     ap (λ t. said (entry_in place) (lines_of m t)) text ∙ stops place m (vcpu_text 0 p) later small (vcpu_printed 0 p (omega arith) all.0.printed) high
 
 abbrev made_leg : List EntryLine → List (List ℕ) → End → Leg
 made_leg entries pending end = record { entries = entries; pending = pending; end = Some end }
 
-pub record IsLegAgain (vcpus number n : ℕ) (end : End) (leg : Leg) (rest : List ℕ) : Type 0 where
+pub record IsLegAgain (vcpus number n : ℕ) (move : Move) (leg : Leg) (rest : List ℕ) : Type 0 where
   pub last : ℕ
-  pub leg_is : leg_from vcpus number end (lines_of n (leg_text number leg ++ rest)) ≡ Ok (leg, lines_of last rest)
+  pub leg_is : leg_from vcpus number move (lines_of n (leg_text number leg ++ rest)) ≡ Ok (leg, lines_of last rest)
 
-made_again : (vcpus number n : ℕ) (end : End) (es : List EntryLine) (ps : List (List ℕ)) (rest : List ℕ) → number < 2 ^ 64 → vcpus < 2 ^ 32 → length ps ≡ vcpus
-    → ArePlaced 0 es
-    → IsLegReadable (made_leg es ps end) → IsLegAgain vcpus number n end (made_leg es ps end) rest
+made_again : (vcpus number n : ℕ) (move : Move) (end : End) (es : List EntryLine) (ps : List (List ℕ)) (rest : List ℕ) → number < 2 ^ 64 → vcpus < 2 ^ 32
+    → length ps ≡ vcpus → ArePlaced 0 es → ((m : ℕ) → end_from move (lines_of m (end_line (Some end) ++ rest)) ≡ Ok (end, lines_of (m + 1) rest))
+    → IsLegReadable (made_leg es ps end) → IsLegAgain vcpus number n move (made_leg es ps end) rest
 unfolding leg_from
-made_again vcpus number n end es ps rest few small count placed can =
+made_again vcpus number n move end es ps rest few small count placed ends can =
     let tail = ends_with ps end rest in
     let head = read_on (head_in number) tt n (head_text number) (entry_lines es ++ tail) (head_printed number few) (head_on number) in
     let entries = entries_again 0 (n + 1) es tail placed can.entries
-    (λ m. tail_stops (0 + length es) m ps end rest (let c : length es < 2 ^ 64 = can.count in omega (arith, c)) can.pending) in
-    let pending : ArePending 0 entries.number ps (end_text (Some end) ++ rest) = pending_again 0 entries.number ps (end_text (Some end) ++ rest)
+    (λ m. tail_stops (0 + length es) m ps end rest (let c : length es < 2 ^ 64 = can.count in omega (arith, c)) can.pending can.end) in
+    let pending : ArePending 0 entries.number ps (end_line (Some end) ++ rest) = pending_again 0 entries.number ps (end_line (Some end) ++ rest)
     (omega (arith, count, small)) can.pending in
-    let lists : pending_from 0 vcpus (lines_of entries.number tail) ≡ Ok (ps, lines_of pending.number (end_text (Some end) ++ rest)) =
+    let lists : pending_from 0 vcpus (lines_of entries.number tail) ≡ Ok (ps, lines_of pending.number (end_line (Some end) ++ rest)) =
     ap (λ k. pending_from 0 k (lines_of entries.number tail)) (sym count) ∙ pending.pending in
-    let last = end_on end pending.number rest in
+    let last = ends pending.number in
     record {
       last = pending.number + 1;
       leg_is = rw (leg_flat number (made_leg es ps end) rest) (rw head (rw entries.entries (rw lists (rw last refl))));
     }
 
-leg_again : (vcpus number n : ℕ) (end : End) (leg : Leg) (rest : List ℕ) → number < 2 ^ 64 → vcpus < 2 ^ 32 → HasLegShape vcpus end leg → IsLegReadable leg
-    → IsLegAgain vcpus number n end leg rest
-leg_again vcpus number n end leg rest few small shape can =
-    let same : made_leg leg.entries leg.pending end ≡ leg = ap (λ e. (let l : Leg = record { entries = leg.entries; pending = leg.pending; end = e } in l))
-    (sym shape.end_is) in
-    subst (λ (l : Leg). IsLegAgain vcpus number n end l rest) same
-    (made_again vcpus number n end leg.entries leg.pending rest few small shape.pending shape.placed (subst IsLegReadable (sym same) can))
+leg_again : (vcpus number n : ℕ) (move : Move) (leg : Leg) (rest : List ℕ) → number < 2 ^ 64 → vcpus < 2 ^ 32 → HasLegShape vcpus move leg
+    → IsLegReadable leg → IsLegAgain vcpus number n move leg rest
+leg_again vcpus number n move leg rest few small shape can =
+    let one = end_again move leg.end rest shape.ends can.end in
+    let same : made_leg leg.entries leg.pending one.told ≡ leg = ap (λ e. (let l : Leg = record { entries = leg.entries; pending = leg.pending; end = e } in l))
+    (sym one.is) in
+    subst (λ (l : Leg). IsLegAgain vcpus number n move l rest) same
+    (made_again vcpus number n move one.told leg.entries leg.pending rest few small shape.pending shape.placed one.read_is (subst IsLegReadable (sym same) can))
 
-pub record AreLegsAgain (vcpus number n count : ℕ) (told : List Leg) (rest : List ℕ) : Type 0 where
+pub record AreLegsAgain (vcpus number n count : ℕ) (copies : List Bool) (told : List Leg) (rest : List ℕ) : Type 0 where
   pub last : ℕ
-  pub legs_are : reading.legs_from vcpus number count (lines_of n (legs_from number told ++ rest)) ≡ Ok (told, lines_of last rest)
+  pub legs_are : reading.legs_from vcpus number count copies (lines_of n (legs_from number told ++ rest)) ≡ Ok (told, lines_of last rest)
 
-legs_again : (vcpus number n count : ℕ) (told : List Leg) (rest : List ℕ) → number + count < 2 ^ 64 → vcpus < 2 ^ 32 → HasShape vcpus count told
-    → AllByRecursion IsLegReadable told → AreLegsAgain vcpus number n count told rest
-legs_again vcpus number n zero [] rest few small shape can = record { last = n; legs_are = refl }
-legs_again vcpus number n zero (leg ∷ told) rest few small shape can = absurd shape
-legs_again vcpus number n (suc later) [] rest few small shape can = absurd shape
-legs_again vcpus number n (suc later) (leg ∷ told) rest few small shape can =
+legs_again : (vcpus number n count : ℕ) (copies : List Bool) (told : List Leg) (rest : List ℕ) → number + count < 2 ^ 64 → vcpus < 2 ^ 32
+    → HasShape vcpus count copies told → AllByRecursion IsLegReadable told → AreLegsAgain vcpus number n count copies told rest
+legs_again vcpus number n zero copies [] rest few small shape can = record { last = n; legs_are = refl }
+legs_again vcpus number n zero copies (leg ∷ told) rest few small shape can = absurd shape
+legs_again vcpus number n (suc later) copies [] rest few small shape can = absurd shape
+legs_again vcpus number n (suc later) copies (leg ∷ told) rest few small shape can =
     let others = legs_from (number + 1) told ++ rest in
-    let one = leg_again vcpus number n (end_of later) leg others (omega arith) small shape.0 can.0 in
-    let more = legs_again vcpus (number + 1) one.last later told rest (omega arith) small shape.1 can.1 in
+    let one = leg_again vcpus number n (move_after later copies) leg others (omega arith) small shape.0 can.0 in
+    let more = legs_again vcpus (number + 1) one.last later (drop 1 copies) told rest (omega arith) small shape.1 can.1 in
     record {
       last = more.last;
-      legs_are = ap (λ t. reading.legs_from vcpus number (suc later) (lines_of n t)) (append_assoc (leg_text number leg) (legs_from (number + 1) told) rest)
-          ∙ ap (λ (r : Result (Leg × LinesLeft) ℕ). r then λ p. reading.legs_from vcpus (number + 1) later p.1 then λ q.
+      legs_are = ap (λ t. reading.legs_from vcpus number (suc later) copies (lines_of n t))
+          (append_assoc (leg_text number leg) (legs_from (number + 1) told) rest)
+          ∙ ap (λ (r : Result (Leg × LinesLeft) ℕ). r then λ p. reading.legs_from vcpus (number + 1) later (drop 1 copies) p.1 then λ q.
           (let made : Result (List Leg × LinesLeft) ℕ = Ok (p.0 ∷ q.0, q.1) in made)) one.leg_is
           ∙ ap (λ (r : Result (List Leg × LinesLeft) ℕ). r then λ q. (let made : Result (List Leg × LinesLeft) ℕ = Ok (leg ∷ q.0, q.1) in made)) more.legs_are;
     }
 
 pub reports_again : PrintedReportsAreRead
 unfolding trace_of
-reports_again legs vcpus told few small shape can =
-    let all = legs_again vcpus 1 1 legs told [] (omega (arith, few)) small shape can in
+reports_again legs copies vcpus told few small shape can =
+    let all = legs_again vcpus 1 1 legs copies told [] (omega (arith, few)) small shape can in
     let text : report_text told ++ [] ≡ report_text told = append-nil (report_text told) in
-    ap (λ t. reading.legs_from vcpus 1 legs (lines_of 1 t) then λ p. (let r : Result (List Leg) ℕ = if is_over p.1.parts then Ok p.0 else Err p.1.number in r))
+    ap (λ t. reading.legs_from vcpus 1 legs copies (lines_of 1 t) then λ p.
+    (let r : Result (List Leg) ℕ = if is_over p.1.parts then Ok p.0 else Err p.1.number in r))
     (sym text)
     ∙ ap (λ (r : Result (List Leg × LinesLeft) ℕ). r then λ p. (let r : Result (List Leg) ℕ = if is_over p.1.parts then Ok p.0 else Err p.1.number in r))
     all.legs_are

@@ -3,7 +3,7 @@ use Rattle.std.proofs.Common.{◌≡◌, ℕ, zero, suc, ◌+◌, ◌<◌, ◌�
 use Rattle.std.proofs.Common.{sym, ap, ◌∙◌, append_assoc, append-nil, length-append, ne_eqb, arith}
 use Rattle.std.specs.Prelude.{◌==◌, nat_lt}
 use Rattle.std.specs.List.{position_or_len}
-use Rattle.std.proofs.lemmas.Bool.{ltb-true, ltb-false}
+use Rattle.std.proofs.lemmas.Bool.{ltb-true, ltb-false, eqb-true}
 use Rattle.std.proofs.lemmas.List.Sums.{fails_before_first}
 use Rattle.std.proofs.lemmas.List.Splits.{slice_split_first, slice_split_none, length-slice_split}
 use Rattle.its_history.specs.Reading.{◌>>=◌, only, is_printed, cut, cut_at, entry_in, LinesLeft, lines_left, next_of, said, parts, entry_then, entries_from}
@@ -105,6 +105,10 @@ over_found text false e some =
 -- a text that isn't empty isn't over
 pub not_over : (text : List ℕ) → 0 < length text → is_over (parts text) ≡ false
 not_over text some = over_found text (nat_lt (position_or_len ends text) (length text)) refl some
+
+pub is_over_at_end : (text : List ℕ) → (length text == 0) ≡ true → is_over (parts text) ≡ true
+is_over_at_end [] e = refl
+is_over_at_end (b ∷ bs) e = (let none : suc (length bs) ≡ 0 = eqb-true (suc (length bs)) 0 e in absurd (omega arith))
 
 pub above_zero : (n : ℕ) → (n == 0) ≡ false → 0 < n
 above_zero zero e = absurd cc

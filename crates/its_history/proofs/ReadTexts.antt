@@ -8,7 +8,8 @@ use Rattle.std.specs.Fmt.{decimal}
 use Rattle.std.proofs.lemmas.Bool.{ltb-true, eqb-true}
 use Rattle.std.proofs.lemmas.List.Folds.{list_all-append}
 use Rattle.std.proofs.lemmas.List.Sums.{passes_at_first}
-use Rattle.its_history.specs.Reading.{◌>>=◌, only, is_printed, after, cut, cut_at, small_number, is_answered, pending_in, entry_with, told_in, entry_in}
+use Rattle.its_history.specs.Reading.{◌>>=◌, only, is_printed, after, cut, cut_at, small_number, is_answered, pending_in, pages_in, entry_with, told_in}
+use Rattle.its_history.specs.Reading.{entry_in}
 use Rattle.its_history.specs.declared.trace.EntryLine.{EntryLine}
 use Rattle.its_history.proofs.ReadNumbers.{right_true, same_text}
 
@@ -88,6 +89,13 @@ pending_printed vcpu line pending e h =
     let c = bound _ _ pending b.second in
     let d = only_some (nat_lt 0 (length c.x)) c.x pending c.second in
     subst (λ (t : List ℕ). is_printed t ≡ true) d.1 (after_printed _ b.x c.x c.first (after_printed _ a.x b.x b.first (after_printed _ line a.x a.first h)))
+
+pub pages_printed : (line pages : List ℕ) → pages_in line ≡ Some pages → is_printed line ≡ true → is_printed pages ≡ true
+unfolding pages_in
+pages_printed line pages e h =
+    let a = bound _ _ pages e in
+    let d = only_some (nat_lt 0 (length a.x)) a.x pages a.second in
+    subst (λ (t : List ℕ). is_printed t ≡ true) d.1 (after_printed _ line a.x a.first h)
 
 -- the parts of an entry's line
 pub record IsEntryWith (place : ℕ) (phase thread : Option ℕ) (text : List ℕ) (entry : EntryLine) : Type 0 where

@@ -1,7 +1,7 @@
--- A report read back, of a script with so many legs on a machine with so many virtual processors: the legs that it tells, or the
--- number of its first line that isn't as it must be.
+-- A report read back, of a script with so many legs, and a list of whether pages are copied before its migrations, on a machine with so
+-- many virtual processors: the legs that it tells, or the number of its first line that isn't as it must be.
 use Rattle.std.specs.Prelude.{◌≡◌, ℕ, suc, zero, ◌+◌, ◌^◌, Bool, true, false, ◌&&◌, ◌||◌, ◌==◌, nat_lt, nat_le, nat_eq, if◌then◌else◌, List, [], ◌∷◌, length}
-use Rattle.std.specs.Prelude.{drop, take, position, codes, Option, Some, None, Result, Ok, Err}
+use Rattle.std.specs.Prelude.{get_or, drop, take, position, codes, Option, Some, None, Result, Ok, Err}
 use Rattle.std.specs.List.{slice_split, list_all, starts_with}
 use Rattle.std.specs.Option.{ok_or}
 use Rattle.std.specs.Str.{bytes_eq}
@@ -12,7 +12,7 @@ use Rattle.its_history.specs.declared.left.Lines.{Lines}
 use Rattle.its_history.specs.declared.reading.TraceError.{TraceError}
 use Rattle.its_history.specs.declared.reading.TraceError.TheVariants as error
 use Rattle.its_history.specs.declared.trace.End.{End}
-use Rattle.its_history.specs.declared.trace.End.TheVariants.{Migrated, Done}
+use Rattle.its_history.specs.declared.trace.End.TheVariants.{Migrated, Copied, Done}
 use Rattle.its_history.specs.declared.trace.EntryLine.{EntryLine}
 use Rattle.its_history.specs.declared.trace.Leg.{Leg}
 use Rattle.its_history.specs.declared.trace.Trace.{Trace}
@@ -90,12 +90,15 @@ head_in number line = do
   numbered ← after (codes "leg ") line
   only (bytes_eq numbered (decimal number)) tt
 
-abbrev pub end_word : End → List ℕ
-end_word Migrated = codes "migrated"
-end_word Done = codes "done"
+-- a line that is just a word
+abbrev pub word_in : List ℕ → List ℕ → Option (Unit {0})
+word_in word line = only (bytes_eq line word) tt
 
-abbrev pub end_in : End → List ℕ → Option (Unit {0})
-end_in end line = only (bytes_eq line (end_word end)) tt
+-- how many pages were copied before a migration, as a text
+unfoldable pub pages_in : List ℕ → Option (List ℕ)
+pages_in line = do
+  pages ← after (codes "migrated copied ") line
+  only (nat_lt 0 (length pages)) pages
 
 -- ---- lines, one after another
 
@@ -150,23 +153,33 @@ abbrev pub pending_from : ℕ → ℕ → LinesLeft → Result (List (List ℕ) 
 pending_from vcpu zero l = Ok ([], l)
 pending_from vcpu (suc count) l = read (pending_in vcpu) l then λ p. pending_from (vcpu + 1) count p.1 then λ q. Ok (p.0 ∷ q.0, q.1)
 
--- a leg that ends so
-unfoldable pub leg_from : ℕ → ℕ → End → LinesLeft → Result (Leg × LinesLeft) ℕ
-leg_from vcpus number end l =
-    read (head_in number) l then λ h. let es = entries_from 0 h.1.number h.1.parts in
-    pending_from 0 vcpus es.1 then λ ps. read (end_in end) ps.1 then λ e.
-    Ok (record { entries = es.0; pending = ps.0; end = Some end }, e.1)
+-- what follows a leg: nothing, or a migration, and whether pages are copied before it
+abbrev pub Move : Type 0
+Move = Option Bool
 
--- a migration ends each leg but the last
-abbrev pub end_of : ℕ → End
-end_of zero = Done
-end_of (suc others) = Migrated
+-- the line that ends a leg
+abbrev pub end_from : Move → LinesLeft → Result (End × LinesLeft) ℕ
+end_from None l = read (word_in (codes "done")) l then λ p. Ok (Done, p.1)
+end_from (Some false) l = read (word_in (codes "migrated")) l then λ p. Ok (Migrated, p.1)
+end_from (Some true) l = read pages_in l then λ p. Ok (Copied p.0, p.1)
+
+-- a leg that this follows
+unfoldable pub leg_from : ℕ → ℕ → Move → LinesLeft → Result (Leg × LinesLeft) ℕ
+leg_from vcpus number move l =
+    read (head_in number) l then λ h. let es = entries_from 0 h.1.number h.1.parts in
+    pending_from 0 vcpus es.1 then λ ps. end_from move ps.1 then λ e.
+    Ok (record { entries = es.0; pending = ps.0; end = Some e.0 }, e.1)
+
+-- what follows a leg before so many others
+abbrev pub move_after : ℕ → List Bool → Move
+move_after zero copies = None
+move_after (suc others) copies = Some (get_or copies 0 false)
 
 -- so many legs, from the one with a number on
-abbrev pub legs_from : ℕ → ℕ → ℕ → LinesLeft → Result (List Leg × LinesLeft) ℕ
-legs_from vcpus number zero l = Ok ([], l)
-legs_from vcpus number (suc others) l =
-    leg_from vcpus number (end_of others) l then λ p. legs_from vcpus (number + 1) others p.1 then λ q. Ok (p.0 ∷ q.0, q.1)
+abbrev pub legs_from : ℕ → ℕ → ℕ → List Bool → LinesLeft → Result (List Leg × LinesLeft) ℕ
+legs_from vcpus number zero copies l = Ok ([], l)
+legs_from vcpus number (suc others) copies l =
+    leg_from vcpus number (move_after others copies) l then λ p. legs_from vcpus (number + 1) others (drop 1 copies) p.1 then λ q. Ok (p.0 ∷ q.0, q.1)
 
 abbrev pub is_over : List (List ℕ) → Bool
 is_over [] = true
@@ -179,9 +192,9 @@ is_over (text ∷ (next ∷ rest)) = false
 abbrev pub parts : List ℕ → List (List ℕ)
 parts text = slice_split (λ b. b == 10) text
 
-unfoldable pub trace_of : ℕ → ℕ → List ℕ → Result (List Leg) ℕ
-trace_of legs vcpus text =
-    legs_from vcpus 1 legs (lines_left 1 (parts text)) then λ p. if is_over p.1.parts then Ok p.0 else Err p.1.number
+unfoldable pub trace_of : ℕ → List Bool → ℕ → List ℕ → Result (List Leg) ℕ
+trace_of legs copies vcpus text =
+    legs_from vcpus 1 legs copies (lines_left 1 (parts text)) then λ p. if is_over p.1.parts then Ok p.0 else Err p.1.number
 
 -- ---- how the program's fields show the lines that are left
 

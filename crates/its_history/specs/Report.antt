@@ -6,7 +6,7 @@ use Rattle.its_plain.specs.declared.call.Call.{Call}
 use Rattle.its_plain.specs.declared.call.Reply.{Reply}
 use Rattle.its_history.specs.Texts.{answered_text}
 use Rattle.its_history.specs.declared.trace.End.{End}
-use Rattle.its_history.specs.declared.trace.End.TheVariants.{Migrated, Done}
+use Rattle.its_history.specs.declared.trace.End.TheVariants.{Migrated, Copied, Done}
 use Rattle.its_history.specs.declared.trace.EntryLine.{EntryLine}
 use Rattle.its_history.specs.declared.trace.Leg.{Leg}
 
@@ -43,13 +43,18 @@ vcpu_lines_from vcpu (pending ∷ others) = vcpu_line vcpu pending ++ vcpu_lines
 abbrev pub entry_lines : List EntryLine → List ℕ
 entry_lines lines = flat_map (λ l. line_text l ++ codes "\n") lines
 
-unfoldable pub end_text : Option End → List ℕ
-end_text None = []
-end_text (Some Migrated) = codes "migrated\n"
-end_text (Some Done) = codes "done\n"
+-- the line that tells how a leg ended, without its end
+unfoldable pub end_text : End → List ℕ
+end_text Migrated = codes "migrated"
+end_text (Copied pages) = codes "migrated copied " ++ pages
+end_text Done = codes "done"
+
+abbrev pub end_line : Option End → List ℕ
+end_line None = []
+end_line (Some end) = end_text end ++ codes "\n"
 
 unfoldable pub leg_text : ℕ → Leg → List ℕ
-leg_text number leg = codes "leg " ++ decimal number ++ codes "\n" ++ entry_lines leg.entries ++ vcpu_lines_from 0 leg.pending ++ end_text leg.end
+leg_text number leg = codes "leg " ++ decimal number ++ codes "\n" ++ entry_lines leg.entries ++ vcpu_lines_from 0 leg.pending ++ end_line leg.end
 
 abbrev pub legs_from : ℕ → List Leg → List ℕ
 legs_from number [] = []

@@ -1,3 +1,4 @@
+//! Calls as they are printed. Those of a second translator begin with its mark.
 ghost use Rattle.std.specs.Prelude.{◌≡◌, ◌++◌, OnOk, codes};
 ghost use Rattle.std.specs.Fmt.{decimal};
 ghost use Rattle.std.specs.String.{string_bytes};

@@ -1,3 +1,4 @@
+//! What is left of a report that is read line by line.
 ghost use Rattle.std.specs.Prelude.{◌<◌, ◌+◌, ◌^◌, length};
 
 /// The lines of a text that are left.

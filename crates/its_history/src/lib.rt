@@ -19,8 +19,8 @@ pub use faults::{restore_fault_text, save_fault_text};
 pub use read_back::{printed_reports_are_read, read_reports_print};
 pub use reading::{TraceError, parse_trace};
 pub use report::{
-    answered_text, entry_text, leg_text, pending_text, reply_text, report_text, told_text,
-    vcpu_text,
+    answered_text, end_text, entry_text, leg_text, pending_text, reply_text, report_text,
+    told_text, vcpu_text,
 };
 pub use text::{Text, its_mark};
 pub use threads::{ThreadList, merge, merge_gives, merge_lines, thread_gives};

@@ -1,9 +1,8 @@
 //! What a line of a report says.
 ghost use Rattle.std.specs.Prelude.{◌≡◌, ◌<◌, ◌+◌, ◌^◌, ◌==◌, ℕ, Some, IfSome, decimal, drop};
-ghost use Rattle.std.specs.Prelude.{is_some, length, option_map, position, take};
+ghost use Rattle.std.specs.Prelude.{is_some, length, nat_lt, option_map, position, take};
 ghost use Rattle.its_history.specs.Reading as spec;
 
-use crate::trace::End;
 use itoa::Buffer;
 use std::str;
 
@@ -142,12 +141,22 @@ pub fn pending_in(line: &[u8], vcpu: u8) -> Option<&[u8]>
     ensures { option_map (λ t. t.now) result ≡ spec.pending_in vcpu line.now }
 {
     let told = after_number(after(line, b"vcpu ")?, vcpu.into())?;
-    let pending = after(told, b" pending ")?;
-    if pending.is_empty() {
-        None
-    } else {
-        Some(pending)
-    }
+    some_text(after(told, b" pending ")?)
+}
+
+/// How many pages were copied before a migration.
+#[tactic(auto, unfolding(crate::specs::Reading::pages_in))]
+pub fn pages_in(line: &[u8]) -> Option<&[u8]>
+    ensures { option_map (λ t. t.now) result ≡ spec.pages_in line.now }
+{
+    some_text(after(line, b"migrated copied ")?)
+}
+
+/// A text of one byte or more.
+fn some_text(text: &[u8]) -> Option<&[u8]>
+    ensures { option_map (λ t. t.now) result ≡ spec.only (nat_lt 0 (length text.now)) text.now }
+{
+    if text.is_empty() { None } else { Some(text) }
 }
 
 /// Whether it is the first line of the leg with a number.
@@ -161,12 +170,9 @@ pub fn is_head(line: &[u8], number: u64) -> bool
     }
 }
 
-/// Whether it says that a leg ended so.
-pub fn is_end(line: &[u8], end: End) -> bool
-    ensures { result ≡ is_some (spec.end_in end line.now) }
+/// Whether it is just a word.
+pub fn is_word(line: &[u8], word: &[u8]) -> bool
+    ensures { result ≡ is_some (spec.word_in word.now line.now) }
 {
-    match end {
-        End::Migrated => line == b"migrated".as_slice(),
-        End::Done => line == b"done".as_slice(),
-    }
+    line == word
 }

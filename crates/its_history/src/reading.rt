@@ -1,22 +1,26 @@
 //! A report read back.
-ghost use Rattle.std.specs.Prelude.{◌≡◌, ◌<◌, true, IfOk, IfSome, length, option_map};
+ghost use Rattle.std.specs.Prelude.{◌≡◌, ◌<◌, ◌+◌, ◌-◌, true, IfOk, IfSome, drop, length};
+ghost use Rattle.std.specs.Prelude.{option_map};
 ghost use Rattle.its_history.specs.Reading as spec;
 ghost use Rattle.its_history.specs.declared.reading.TraceError.TheVariants as error;
 
 use crate::left::Lines;
-use crate::lines::{cut_at, entry_in, is_end, is_head, is_printed, pending_in};
+use crate::lines::{cut_at, entry_in, is_head, is_printed, is_word, pages_in, pending_in};
 use crate::text::Text;
 use crate::trace::{End, EntryLine, Leg, Trace};
 use its_types::Listed;
 use std::alloc::{AllocError, Global};
 use std::str;
+use thiserror::Error;
 
 /// Why a text isn't read as a report.
-#[derive(Clone, Copy, Debug, PartialEq, Eq)]
+#[derive(Clone, Copy, Debug, PartialEq, Eq, Error)]
 pub enum TraceError {
     /// The line with this number, counted from 1, isn't as it must be, or isn't there.
+    #[error("line {0} is not one of this report")]
     BadLine(u64),
     /// The host ran out of memory. Nothing is said of the text.
+    #[error("out of memory")]
     NoMemory,
 }
 
@@ -28,16 +32,18 @@ impl From<AllocError> for TraceError {
     }
 }
 
-/// The trace that a report tells, of a script with so many legs on a machine with so many virtual
-/// processors, or its first line that isn't as it must be.
+/// The trace that a report tells, or its first line that isn't as it must be. The script has so
+/// many legs, the machine so many virtual processors, and `copies` says of each migration whether
+/// pages are copied before it; of one that it lacks they aren't.
 #[tactic(auto, unfolding(crate::specs::Reading::trace_of))]
 pub fn parse_trace(
     alloc: Global,
     report: &[u8],
     legs: usize,
+    copies: &[bool],
     vcpus: u8,
 ) -> Result<Trace, TraceError>
-    ensures { spec.IsReadAs result (spec.trace_of legs vcpus report.now) }
+    ensures { spec.IsReadAs result (spec.trace_of legs copies.now vcpus report.now) }
 {
     let mut lines = Lines {
         number: 1,
@@ -45,8 +51,8 @@ pub fn parse_trace(
     };
     let mut read = Listed::new(alloc);
     for earlier in 0..legs {
-        let end = end_of(legs - earlier - 1);
-        let leg = lines.leg(alloc, earlier as u64 + 1, vcpus, end)?;
+        let next = move_after(legs, earlier, copies);
+        let leg = lines.leg(alloc, earlier as u64 + 1, vcpus, next)?;
         read.push(leg)?;
     }
     if lines.rest.is_empty() {
@@ -56,11 +62,17 @@ pub fn parse_trace(
     }
 }
 
-/// How a leg ends that so many follow.
-fn end_of(later: usize) -> End
-    ensures { result ≡ spec.end_of later }
+/// What follows a leg that so many come before: a migration, unless it is the last, and whether
+/// pages are copied before it.
+fn move_after(legs: usize, earlier: usize, copies: &[bool]) -> Option<bool>
+    requires { earlier < legs }
+    ensures { result ≡ spec.move_after (legs - (earlier + 1)) (drop earlier copies.now) }
 {
-    if later == 0 { End::Done } else { End::Migrated }
+    if earlier + 1 == legs {
+        None
+    } else {
+        Some(matches!(copies.get(earlier), Some(true)))
+    }
 }
 
 /// A text of bytes that print.
@@ -171,13 +183,13 @@ impl<'a> Lines<'a> {
         }
     }
 
-    /// Takes the line that ends a leg so.
-    fn end(&mut self, end: End) -> Result<(), TraceError>
+    /// Takes a line that is just a word.
+    fn word(&mut self, word: &[u8]) -> Result<(), TraceError>
         ensures { spec.Reads (λ done. done) result (spec.left self.new)
-            (spec.read (spec.end_in end) (spec.left self.old)) }
+            (spec.read (spec.word_in word.now) (spec.left self.old)) }
     {
         match self.next() {
-            Some((line, after)) if is_end(line, end) => {
+            Some((line, after)) if is_word(line, word) => {
                 *self = after;
                 Ok(())
             }
@@ -185,16 +197,57 @@ impl<'a> Lines<'a> {
         }
     }
 
-    /// Takes the lines of the leg with a number, which ends so.
+    /// Takes the line that tells how many pages were copied before a migration.
+    fn pages(&mut self, alloc: Global) -> Result<Text, TraceError>
+        ensures { spec.Reads (λ text. text) result (spec.left self.new)
+            (spec.read spec.pages_in (spec.left self.old)) }
+    {
+        let bad = TraceError::BadLine(self.number);
+        let Some((line, after)) = self.next() else {
+            return Err(bad);
+        };
+        let Some(pages) = pages_in(line) else {
+            return Err(bad);
+        };
+        let text = copied(alloc, pages)?;
+        *self = after;
+        Ok(text)
+    }
+
+    /// Takes the line that ends a leg which this follows.
+    fn end(&mut self, alloc: Global, next: Option<bool>) -> Result<End, TraceError>
+        ensures { spec.Reads (λ end. end) result (spec.left self.new)
+            (spec.end_from next (spec.left self.old)) }
+    {
+        match next {
+            None => {
+                self.word(b"done")?;
+                Ok(End::Done)
+            }
+            Some(false) => {
+                self.word(b"migrated")?;
+                Ok(End::Migrated)
+            }
+            Some(true) => Ok(End::Copied(self.pages(alloc)?)),
+        }
+    }
+
+    /// Takes the lines of the leg with a number, which this follows.
     #[tactic(auto, unfolding(crate::specs::Reading::leg_from))]
-    fn leg(&mut self, alloc: Global, number: u64, vcpus: u8, end: End) -> Result<Leg, TraceError>
+    fn leg(
+        &mut self,
+        alloc: Global,
+        number: u64,
+        vcpus: u8,
+        next: Option<bool>,
+    ) -> Result<Leg, TraceError>
         ensures { spec.Reads (λ leg. leg) result (spec.left self.new)
-            (spec.leg_from vcpus number end (spec.left self.old)) }
+            (spec.leg_from vcpus number next (spec.left self.old)) }
     {
         self.head(number)?;
         let entries = self.entries(alloc)?;
         let pending = self.pending_lists(alloc, vcpus)?;
-        self.end(end)?;
+        let end = self.end(alloc, next)?;
         Ok(Leg {
             entries,
             pending,

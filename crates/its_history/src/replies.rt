@@ -1,3 +1,4 @@
+//! Replies as they are printed. Each name of a command, a cause and a reason stands here once.
 ghost use Rattle.std.specs.Prelude.{◌≡◌, ◌++◌, OnOk};
 ghost use Rattle.std.specs.String.{string_bytes};
 ghost use Rattle.its_history.specs.Texts.{op_text, cause_text, reason_text, signal_text, ack_text};

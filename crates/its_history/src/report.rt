@@ -1,3 +1,4 @@
+//! The texts of a report: those of lines, of legs, and of the whole.
 ghost use Rattle.std.specs.Prelude.{◌≡◌, ◌++◌, IfOk, OnOk, map};
 ghost use Rattle.std.specs.String.{string_bytes};
 ghost use Rattle.its_history.specs.Texts.{answered_text, reply_text};
@@ -54,6 +55,15 @@ pub fn vcpu_text(alloc: Global, vcpu: u64, pending: &Text) -> Result<Text, Alloc
 {
     let mut out = String::new(alloc);
     push_vcpu(&mut out, vcpu, pending)?;
+    Ok(Text::new(out))
+}
+
+/// The line that tells how a leg ended, without its end.
+pub fn end_text(alloc: Global, end: &End) -> Result<Text, AllocError>
+    ensures { IfOk result (λ line. line ≡ spec.end_text end.now) }
+{
+    let mut out = String::new(alloc);
+    push_end(&mut out, end)?;
     Ok(Text::new(out))
 }
 
@@ -141,7 +151,13 @@ fn push_leg(out: &mut String, number: u64, leg: &Leg) -> Result<(), AllocError>
     out.push_str("\n")?;
     push_lines(out, leg.entries.as_slice())?;
     push_vcpus(out, leg.pending.as_slice())?;
-    push_end(out, leg.end)
+    match &leg.end {
+        Some(end) => {
+            push_end(out, end)?;
+            out.push_str("\n")
+        }
+        None => Ok(()),
+    }
 }
 
 fn push_lines(out: &mut String, lines: &[EntryLine]) -> Result<(), AllocError>
@@ -199,12 +215,20 @@ fn push_vcpu(out: &mut String, vcpu: u64, pending: &Text) -> Result<(), AllocErr
 }
 
 #[tactic(auto, unfolding(crate::specs::Report::end_text))]
-fn push_end(out: &mut String, end: Option<End>) -> Result<(), AllocError>
-    ensures { OnOk result (string_bytes out.new ≡ string_bytes out.old ++ spec.end_text end) }
+fn push_end(out: &mut String, end: &End) -> Result<(), AllocError>
+    ensures { OnOk result (string_bytes out.new ≡ string_bytes out.old ++ spec.end_text end.now) }
 {
     match end {
-        None => Ok(()),
-        Some(End::Migrated) => out.push_str("migrated\n"),
-        Some(End::Done) => out.push_str("done\n"),
+        End::Migrated => out.push_str("migrated"),
+        End::Copied(pages) => push_both(out, "migrated copied ", pages.as_str()),
+        End::Done => out.push_str("done"),
     }
+}
+
+fn push_both(out: &mut String, first: &str, second: &str) -> Result<(), AllocError>
+    ensures { OnOk result (string_bytes out.new
+        ≡ string_bytes out.old ++ (first.now ++ second.now)) }
+{
+    out.push_str(first)?;
+    out.push_str(second)
 }

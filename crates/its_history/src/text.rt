@@ -1,3 +1,4 @@
+//! Texts that contracts see as their bytes, and the mark of a second translator.
 ghost use Rattle.std.specs.Prelude.{◌≡◌};
 ghost use Rattle.std.specs.String.{string_bytes};
 ghost use Rattle.its_history.specs.Texts as spec;

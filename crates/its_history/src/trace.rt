@@ -1,5 +1,12 @@
+//! Traces: legs of entries, of what is pending at their ends, and of how they ended.
+ghost use Rattle.std.specs.Prelude.{◌≡◌, IfOk};
+ghost use Rattle.std.specs.Fmt.{decimal};
+ghost use Rattle.its_history.specs.declared.trace.End.TheVariants as ends;
+
+use crate::numbers::push_decimal;
 use crate::text::Text;
 use its_types::Listed;
+use std::alloc::{AllocError, Global};
 
 /// An entry of a history: where it stands, which thread of which phase made the call, and the text
 /// of call and reply.
@@ -16,12 +23,25 @@ pub struct EntryLine {
 }
 
 /// How a leg ended.
-#[derive(Clone, Copy, Debug, PartialEq, Eq)]
+#[derive(Debug, Drop)]
 pub enum End {
-    /// The machine was moved, and the next leg goes on.
+    /// The machine was migrated, and the next leg goes on.
     Migrated,
+    /// The same, and pages were copied before: how many, as a report tells it.
+    Copied(Text),
     /// It was the last leg.
     Done,
+}
+
+impl End {
+    /// With a migration before which so many pages were copied.
+    pub fn copied(alloc: Global, pages: u64) -> Result<End, AllocError>
+        ensures { IfOk result (λ end. end ≡ ends.Copied (decimal pages)) }
+    {
+        let mut text = String::new(alloc);
+        push_decimal(&mut text, pages)?;
+        Ok(End::Copied(Text::new(text)))
+    }
 }
 
 /// What happened from one migration to the next.

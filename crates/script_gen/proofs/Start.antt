@@ -27,7 +27,7 @@ use Rattle.its_plain.specs.declared.desc.DescFault.TheVariants.{Windows, Config}
 use Rattle.its_plain.specs.declared.desc.Fill.{Fill}
 use Rattle.plain_soundness.proofs.First.{start_sound}
 use Rattle.plain_soundness.proofs.Translated.{if_ok_at}
-use Rattle.event_script.specs.Script.{memory_limit}
+use Rattle.event_script.specs.Described.{memory_limit}
 use Rattle.script_gen.specs.Description.{description, shape, tables}
 use Rattle.script_gen.specs.Generated.{queue}
 use Rattle.script_gen.specs.Laws.{MakesMachine, IsNeverRefused}

@@ -6,7 +6,7 @@ use Rattle.its_types.specs.declared.machine.Shape.{Shape}
 use Rattle.its_plain.specs.declared.desc.Desc.{Desc}
 use Rattle.its_plain.specs.declared.desc.LpiTables.{LpiTables}
 use Rattle.its_plain.specs.declared.desc.LpiTables.TheVariants.{Described}
-use Rattle.event_script.specs.Script.{default_limits, memory_limit}
+use Rattle.event_script.specs.Described.{default_limits, memory_limit}
 
 -- DeviceIDs and LPIs of 16 bits
 abbrev pub shape : Shape
@@ -27,7 +27,7 @@ unfoldable pub description : Desc
 description = record {
   shape = shape;
   shards = 16;
-  limits = default_limits;
+  limits = default_limits false;
   windows = window ∷ [];
   memory_limit = memory_limit;
   tables = tables;

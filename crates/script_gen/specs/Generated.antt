@@ -7,6 +7,7 @@ use Rattle.its_command.specs.declared.command.Command.{Command}
 use Rattle.its_plain.specs.declared.call.Call.{Call}
 use Rattle.its_plain.specs.declared.call.Call.TheVariants.{Signal, Poke, WriteReg, Step}
 use Rattle.its_plain.specs.Runs.{Thread, Phase, Leg}
+use Rattle.event_script.specs.declared.script.Move.TheVariants.{Migrate}
 use Rattle.event_script.specs.declared.script.Script.{Script}
 use Rattle.script_gen.specs.Description.{description, at}
 use Rattle.script_gen.specs.Commands.{setup_commands, move_commands}
@@ -70,4 +71,10 @@ abbrev pub first_leg : ℕ → ℕ → Leg
 first_leg signals threads = setup_phase threads ∷ signal_phase signals threads ∷ []
 
 abbrev pub generated : ℕ → ℕ → Script
-generated signals threads = record { desc = description; fill_lines = []; legs = first_leg signals threads ∷ [] ∷ [] }
+generated signals threads = record {
+  desc = description;
+  fill_lines = [];
+  requester_lines = [];
+  legs = first_leg signals threads ∷ [] ∷ [];
+  moves = Migrate ∷ [];
+}

@@ -1,3 +1,4 @@
+//! How the calls of a run ended.
 ghost use Rattle.std.specs.Prelude.{◌≡◌, ◌<◌, ◌^◌, length};
 ghost use Rattle.its_history.specs.Merged.{list_lines, all_lines};
 ghost use Rattle.script_gen.specs.Summary as spec;

@@ -1,3 +1,4 @@
+//! The machine that generated scripts run on.
 ghost use Rattle.std.specs.Prelude.{◌≡◌, IfOk};
 ghost use Rattle.script_gen.specs.Description as spec;
 

@@ -1,3 +1,4 @@
+//! Scripts that are generated.
 ghost use Rattle.std.specs.Prelude.{◌≡◌, ◌≤◌, IfOk, map};
 ghost use Rattle.std.specs.List.{range_with_len};
 ghost use Rattle.script_gen.specs.Laws.{IsAsked};
@@ -7,7 +8,7 @@ ghost use Rattle.event_script.specs.Limits.{IsWithinLimits};
 use crate::commands::{EVENTS, move_commands, setup_commands};
 use crate::description::description;
 use crate::queue::{push_commands, push_register_writes};
-use event_script::{Leg, Phase, Script, Thread};
+use event_script::{Leg, Move, Phase, Script, Thread};
 use its_plain::Call;
 use its_types::{DeviceId, EventId, Listed};
 use std::alloc::{AllocError, Global};
@@ -26,10 +27,14 @@ pub fn generate(alloc: Global, signals: u32, threads: u32) -> Result<Script, All
     let mut legs = Listed::new(alloc);
     legs.push(leg)?;
     legs.push(Leg::new(alloc))?;
+    let mut moves = Listed::new(alloc);
+    moves.push(Move::Migrate)?;
     Ok(Script {
         desc: description(alloc)?,
         fill_lines: Listed::new(alloc),
+        requester_lines: Listed::new(alloc),
         legs,
+        moves,
     })
 }
 

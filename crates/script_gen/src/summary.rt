@@ -1,3 +1,4 @@
+//! The summary of a generated run.
 ghost use Rattle.std.specs.Prelude.{◌≡◌, ◌+◌, ◌++◌, OnOk, IfOk};
 ghost use Rattle.std.specs.String.{string_bytes};
 ghost use Rattle.script_gen.specs.Summary as spec;

@@ -1,3 +1,4 @@
+//! Generated scripts and their summaries.
 use crate::{Counts, generate, summary_text};
 use event_script::{Phase, Script};
 use its_plain::{Bytes64, Call};
