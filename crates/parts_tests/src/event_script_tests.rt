@@ -1,3 +1,4 @@
+//! Scripts that are read, and those that aren't.
 use event_script::{Kind, Leg, ParseError, Script, ScriptFault, parse, parse_check};
 use its_plain::{Its, LpiTables};
 use std::alloc::{AllocError, Global};

@@ -1,3 +1,4 @@
+//! LPI registers.
 use gicr_regs::{GicrRegisters, GicrWrite, asked_by, read_gicr, restored_bases, values_of};
 use its_types::{Addr, Bases, Intid, Pendbaser, Propbaser};
 

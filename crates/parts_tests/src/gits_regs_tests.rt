@@ -1,3 +1,4 @@
+//! Registers of the control frame.
 use gits_regs::{RegChange, Regs};
 
 #[test]

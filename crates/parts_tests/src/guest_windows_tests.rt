@@ -1,3 +1,4 @@
+//! Guest memory.
 use guest_windows::{Memory, NewError, Outside, WriteError, are_windows};
 use its_types::Addr;
 use std::test::Fail;

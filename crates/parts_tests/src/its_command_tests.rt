@@ -1,3 +1,4 @@
+//! Commands and their bytes.
 use its_command::{Command, EventIdBits, IttAddr, decode, encode};
 use its_types::DeviceId;
 use std::test::Fail;

@@ -1,18 +1,16 @@
+//! Entries of a history, and why a save or a restore was refused, as they are printed.
 use gits_regs::Register;
 use its_command::Op;
-use its_history::{
-    End, Leg, ThreadList, TraceError, entry_text, merge, parse_trace, pending_text, report_text,
-    restore_fault_text, save_fault_text,
-};
+use its_history::{entry_text, restore_fault_text, save_fault_text};
 use its_plain::{
-    Ack, Bytes64, Call, Cause, Reason, Region, Reply, RestoreFault, SaveFault, Signal, StepReply,
-    Table,
+    Ack, Bytes64, Call, Cause, Reason, Region, Reply, RestoreFault, Route, SaveFault, Signal,
+    StepReply, Table,
 };
-use its_types::{Addr, DeviceId, EventId, Icid, Intid, Listed, Placed, Vcpu};
-use std::alloc::{AllocError, Global};
+use its_types::{Addr, DeviceId, EventId, Icid, Intid, Vcpu};
 use std::test::Fail;
 
-const SIGNAL: Call = Call::Signal {
+/// A message of event 3 of device 16.
+pub const SIGNAL: Call = Call::Signal {
     its: 0,
     dev: DeviceId(16),
     ev: EventId(3),
@@ -20,13 +18,11 @@ const SIGNAL: Call = Call::Signal {
 
 const STEP: Call = Call::Step { its: 0 };
 
-const TAKE: Call = Call::Take(Vcpu(2));
+/// An acknowledgement at virtual processor 2.
+pub const TAKE: Call = Call::Take(Vcpu(2));
 
 #[test]
-fn entries_as_they_are_printed(rt: HostRuntime) -> Result<(), Fail> {
-    let eight = Bytes64::new(&[4, 0x80, 1, 0x10, 0, 0, 0, 0x80]);
-    let off = 0x100;
-    let value = 0x8107_0000_8000_0200;
+fn entries_of_lpis(rt: HostRuntime) -> Result<(), Fail> {
     for (call, reply, want) in [
         (SIGNAL, delivered(), "7 2.1 signal 16 3 -> delivered 2 8200"),
         (
@@ -56,6 +52,19 @@ fn entries_as_they_are_printed(rt: HostRuntime) -> Result<(), Fail> {
             Reply::Ack(Ack::None),
             "7 2.1 claim 2 8200 -> none",
         ),
+    ] {
+        assert_eq!(rt;
+            entry_text(rt.alloc(), 7, 2, 1, &call, &reply)?.as_str(),
+            want
+        );
+    }
+    Ok(())
+}
+
+#[test]
+fn entries_of_memory(rt: HostRuntime) -> Result<(), Fail> {
+    let eight = Bytes64::new(&[4, 0x80, 1, 0x10, 0, 0, 0, 0x80]);
+    for (call, reply, want) in [
         (
             Call::Poke {
                 addr: Addr(0x8003_0008),
@@ -80,6 +89,21 @@ fn entries_as_they_are_printed(rt: HostRuntime) -> Result<(), Fail> {
             Reply::Bytes(eight),
             "7 2.1 peek 0x80000080 8 -> bytes 0480011000000080",
         ),
+        (Call::Copy, Reply::Copied(512), "7 2.1 copy -> copied 512"),
+    ] {
+        assert_eq!(rt;
+            entry_text(rt.alloc(), 7, 2, 1, &call, &reply)?.as_str(),
+            want
+        );
+    }
+    Ok(())
+}
+
+#[test]
+fn entries_of_registers(rt: HostRuntime) -> Result<(), Fail> {
+    let off = 0x100;
+    let value = 0x8107_0000_8000_0200;
+    for (call, reply, want) in [
         (
             Call::ReadReg {
                 its: 0,
@@ -118,6 +142,18 @@ fn entries_as_they_are_printed(rt: HostRuntime) -> Result<(), Fail> {
             Reply::Ok,
             "7 2.1 rwrite 2 0x0 4 0x1 -> ok",
         ),
+    ] {
+        assert_eq!(rt;
+            entry_text(rt.alloc(), 7, 2, 1, &call, &reply)?.as_str(),
+            want
+        );
+    }
+    Ok(())
+}
+
+#[test]
+fn entries_of_steps(rt: HostRuntime) -> Result<(), Fail> {
+    for (call, reply, want) in [
         (STEP, Reply::Step(StepReply::Idle), "7 2.1 step -> idle"),
         (
             STEP,
@@ -143,81 +179,114 @@ fn entries_as_they_are_printed(rt: HostRuntime) -> Result<(), Fail> {
     Ok(())
 }
 
-fn delivered() -> Reply {
+#[test]
+fn entries_of_a_second_translator(rt: HostRuntime) -> Result<(), Fail> {
+    let dev = DeviceId(16);
+    let ev = EventId(3);
+    let off = 0x88;
+    for (call, reply, want) in [
+        (
+            Call::Signal { its: 1, dev, ev },
+            delivered(),
+            "7 2.1 b signal 16 3 -> delivered 2 8200",
+        ),
+        (
+            Call::ReadReg {
+                its: 1,
+                off,
+                size: 4,
+            },
+            Reply::Value(0x60),
+            "7 2.1 b read 0x88 4 -> value 0x60",
+        ),
+        (
+            Call::WriteReg {
+                its: 1,
+                off,
+                size: 8,
+                value: 0x60,
+            },
+            Reply::Ok,
+            "7 2.1 b write 0x88 8 0x60 -> ok",
+        ),
+        (
+            Call::Step { its: 1 },
+            Reply::Step(StepReply::Ran(Op::Mapd)),
+            "7 2.1 b step -> ran mapd",
+        ),
+    ] {
+        assert_eq!(rt;
+            entry_text(rt.alloc(), 7, 2, 1, &call, &reply)?.as_str(),
+            want
+        );
+    }
+    Ok(())
+}
+
+#[test]
+fn entries_of_writes_by_address(rt: HostRuntime) -> Result<(), Fail> {
+    let route = Route::Signal {
+        its: 0,
+        dev: DeviceId(16),
+        ev: EventId(3),
+    };
+    for (req, addr, route, reply, want) in [
+        (
+            256,
+            0x809_0040,
+            route,
+            delivered(),
+            "7 2.1 dma 256 0x8090040 0300 -> delivered 2 8200",
+        ),
+        (
+            512,
+            0x809_0040,
+            Route::NoRequester,
+            Reply::NoRequester,
+            "7 2.1 dma 512 0x8090040 0300 -> dropped no-requester",
+        ),
+        (
+            256,
+            0x809_0042,
+            Route::Frame,
+            Reply::Outside,
+            "7 2.1 dma 256 0x8090042 0300 -> outside",
+        ),
+        (
+            u32::MAX,
+            0x8003_0008,
+            Route::Poke,
+            Reply::Ok,
+            "7 2.1 dma 4294967295 0x80030008 0300 -> ok",
+        ),
+    ] {
+        let call = Call::Dma {
+            req,
+            addr: Addr(addr),
+            bytes: Bytes64::new(&[3, 0]),
+            route,
+        };
+        assert_eq!(rt;
+            entry_text(rt.alloc(), 7, 2, 1, &call, &reply)?.as_str(),
+            want
+        );
+    }
+    Ok(())
+}
+
+/// The message went to virtual processor 2.
+pub fn delivered() -> Reply {
     Reply::Signal(Signal::Delivered {
         vcpu: Vcpu(2),
         intid: Intid(8200),
     })
 }
 
-fn lpi() -> Reply {
+/// Its interrupt.
+pub fn lpi() -> Reply {
     Reply::Ack(Ack::Some {
         intid: Intid(8200),
         priority: 0xa0,
-    })
-}
-
-fn at(place: u64, reply: Reply) -> Placed<Reply> {
-    Placed { place, reply }
-}
-
-fn lists<'a>(
-    alloc: Global,
-    signals: &'a [Call],
-    takes: &'a [Call],
-) -> Result<Vec<ThreadList<'a>>, AllocError> {
-    let mut first = Listed::new(alloc);
-    first.push(at(1, delivered()))?;
-    first.push(at(2, delivered()))?;
-    let mut second = Listed::new(alloc);
-    second.push(at(0, Reply::Ack(Ack::None)))?;
-    second.push(at(3, lpi()))?;
-    let mut lists = Vec::new(alloc);
-    lists.push(ThreadList {
-        phase: 1,
-        thread: 1,
-        calls: signals,
-        replies: first,
-    })?;
-    lists.push(ThreadList {
-        phase: 1,
-        thread: 2,
-        calls: takes,
-        replies: second,
-    })?;
-    Ok(lists)
-}
-
-#[test]
-fn report_of_two_legs(rt: HostRuntime) -> Result<(), Fail> {
-    let alloc = rt.alloc();
-    let mut trace = merge(
-        alloc,
-        &lists(alloc, &[SIGNAL, SIGNAL], &[TAKE, TAKE, TAKE])?,
-    )?;
-    trace.legs.push(last_leg(alloc)?)?;
-    let want = "leg 1
-0 1.2 take 2 -> none
-1 1.1 signal 16 3 -> delivered 2 8200
-2 1.1 signal 16 3 -> delivered 2 8200
-3 1.2 take 2 -> lpi 8200 0xa0
-leg 2
-vcpu 0 pending none
-vcpu 1 pending 8200 8201
-done
-";
-    assert_eq!(rt; report_text(alloc, &trace)?.as_str(), want);
-    Ok(())
-}
-
-fn last_leg(alloc: Global) -> Result<Leg, AllocError> {
-    let mut pending = Listed::new(alloc);
-    pending.push(pending_text(alloc, &[])?)?;
-    pending.push(pending_text(alloc, &[Intid(8200), Intid(8201)])?)?;
-    Ok(Leg {
-        entries: Listed::new(alloc),
-        pending,
-        end: Some(End::Done),
     })
 }
 
@@ -296,61 +365,6 @@ fn causes_of_refused_restores(rt: HostRuntime) -> Result<(), Fail> {
         (RestoreFault::BadRedist(Vcpu(2)), "bad-redist 2"),
     ] {
         assert_eq!(rt; restore_fault_text(alloc, &fault)?.as_str(), want);
-    }
-    Ok(())
-}
-
-const REPORT: &str = "leg 1
-0 1.1 step -> idle
-1 2.64 peek 0x0 1 -> a -> b
-vcpu 0 pending none
-migrated
-leg 2
-vcpu 0 pending 8200
-done
-";
-
-// The first line that isn't as it must be, or 0, where this part of the report is replaced so.
-fn first_bad_line(alloc: Global, part: &str, by: &str) -> Result<u64, Fail> {
-    let (front, rest) = REPORT.split_once(part).ok_or("no such part")?;
-    let text = format!(in alloc; "{front}{by}{rest}")?;
-    match parse_trace(alloc, text.as_bytes(), 2, 1) {
-        Ok(trace) => {
-            let printed = report_text(alloc, &trace)?;
-            if printed.as_str() == text.as_str() {
-                Ok(0)
-            } else {
-                Err("another report".into())
-            }
-        }
-        Err(TraceError::BadLine(line)) => Ok(line),
-        Err(TraceError::NoMemory) => Err("no memory".into()),
-    }
-}
-
-#[test]
-fn reports_are_read_back(rt: HostRuntime) -> Result<(), Fail> {
-    for (part, by, line) in [
-        ("step", "step", 0),
-        ("2.64", "0.4294967295", 0),
-        ("leg 1", "leg 2", 1),
-        ("1.1", "01.1", 2),
-        (" -> idle", "", 2),
-        ("1 2.64", "2 2.64", 3),
-        ("2.64", "4294967296.64", 3),
-        ("vcpu 0 pending none\n", "", 4),
-        ("none", "", 4),
-        ("migrated", "done", 5),
-        ("8200", "8200\t", 7),
-        ("done\n", "done", 8),
-        ("done\n", "", 8),
-        ("done\n", "done\n\n", 9),
-    ] {
-        assert_eq!(rt;
-            first_bad_line(rt.alloc(), part, by)?,
-            line,
-            "{part} by {by}"
-        );
     }
     Ok(())
 }

@@ -1,3 +1,4 @@
+//! Sources and sinks.
 use its_io::{Failed, MemSink, MemSource, Sink, Source, StdSink, StdSource, SureSink, SureSource};
 use std::collections::VecDeque;
 use std::io::{self, ErrorKind, Read, Write};

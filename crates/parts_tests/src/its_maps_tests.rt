@@ -1,3 +1,4 @@
+//! Maps of a translator.
 use its_maps::{LookUp, Maps};
 use its_types::{Addr, Device, DeviceId, Event, EventId, Icid, Intid, Vcpu};
 use std::alloc::{AllocError, Global};

@@ -1,7 +1,9 @@
 //! Tests of the parts that every machine is made of: streams, guest memory, registers, commands,
-//! table entries, maps, the cache, LPIs, scripts and reports. Each file has those of one crate.
+//! table entries, maps, the cache, LPIs, scripts and reports. Each file is of one crate.
 #![tactic(auto)]
 
+#[cfg(test)]
+mod event_script_pair_tests;
 #[cfg(test)]
 mod event_script_tests;
 #[cfg(test)]
@@ -12,6 +14,8 @@ mod gits_regs_tests;
 mod guest_windows_tests;
 #[cfg(test)]
 mod its_command_tests;
+#[cfg(test)]
+mod its_history_report_tests;
 #[cfg(test)]
 mod its_history_tests;
 #[cfg(test)]

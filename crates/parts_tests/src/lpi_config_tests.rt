@@ -1,3 +1,4 @@
+//! LPI configurations.
 ghost use Rattle.std.specs.Prelude.{◌≡◌};
 
 use guest_windows::Memory;

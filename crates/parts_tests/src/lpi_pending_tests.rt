@@ -1,3 +1,4 @@
+//! Pending sets.
 ghost use Rattle.std.specs.Prelude.{◌≡◌};
 
 use guest_windows::Memory;

@@ -1,3 +1,4 @@
+//! Entries of the tables.
 use its_types::{Addr, Icid, Intid};
 use std::test::Fail;
 use table_entries::{Cte, Dte, Ite};

@@ -1,3 +1,4 @@
+//! Shards of the cache.
 use its_types::{DeviceId, EventId, Intid, Target, Vcpu};
 use std::test::Fail;
 use xlate_cache::{Entry, Shard, shard_of};
