@@ -11,33 +11,39 @@ use Rattle.its_plain.specs.Runs.{Thread, Phase, Leg, IsOfPasses, HasCalls, IsPha
 use Rattle.its_plain.specs.declared.call.Call.{Call}
 use Rattle.its_plain.specs.declared.call.Call.TheVariants as call
 use Rattle.its_plain.specs.declared.call.Entry.{Entry}
-use Rattle.event_script.specs.Limits.{are_bytes, is_call, is_thread, is_phase, is_leg}
+use Rattle.its_plain.specs.declared.desc.Desc.{Desc}
+use Rattle.event_script.specs.Limits.{are_bytes, has_bytes, is_call, is_thread, is_phase, is_leg}
+use Rattle.event_script.specs.Routes.{said_route, same_route}
 use Rattle.event_script.specs.declared.draft.TheConstants.{MOST_PHASES, MOST_THREADS, MOST_CALLS}
 use Rattle.report_reading.specs.Bytes.{GivesBytes}
 
 -- ---- calls in range
 
-call_gives : (vcpus : ℕ) (c : Call) → is_call vcpus c ≡ true → GivesBytes c
-call_gives vcpus (call.Signal its dev ev) e = tt
-call_gives vcpus (call.Take vcpu) e = tt
-call_gives vcpus (call.Show vcpu) e = tt
-call_gives vcpus (call.Best vcpu mask) e = tt
-call_gives vcpus (call.Claim vcpu intid) e = tt
-call_gives vcpus (call.Poke addr bytes) e = (and_parts (nat_lt 0 (length bytes) && nat_le (length bytes) 64) (are_bytes bytes) e).1
-call_gives vcpus (call.Peek addr count) e = tt
-call_gives vcpus (call.ReadReg its off size) e = tt
-call_gives vcpus (call.WriteReg its off size value) e = tt
-call_gives vcpus (call.ReadGicr vcpu off size) e = tt
-call_gives vcpus (call.WriteGicr vcpu off size value) e = tt
-call_gives vcpus (call.Step its) e = tt
-call_gives vcpus call.Save e = tt
-call_gives vcpus call.Copy e = absurd cc
-call_gives vcpus (call.Dma req addr bytes route) e = absurd cc
+-- 1 to 64 of them
+some_bytes : (bytes : List ℕ) → has_bytes 64 bytes ≡ true → are_bytes bytes ≡ true
+some_bytes bytes e = (and_parts (nat_lt 0 (length bytes) && nat_le (length bytes) 64) (are_bytes bytes) e).1
 
-all_give : (vcpus : ℕ) (calls : Thread) → list_all (is_call vcpus) calls ≡ true → AllByRecursion GivesBytes calls
-all_give vcpus [] e = tt
-all_give vcpus (c ∷ calls) e =
-    let parts = and_parts (is_call vcpus c) (list_all (is_call vcpus) calls) e in (call_gives vcpus c parts.0, all_give vcpus calls parts.1)
+call_gives : (d : Desc) (c : Call) → is_call d c ≡ true → GivesBytes c
+call_gives d (call.Signal its dev ev) e = tt
+call_gives d (call.Take vcpu) e = tt
+call_gives d (call.Show vcpu) e = tt
+call_gives d (call.Best vcpu mask) e = tt
+call_gives d (call.Claim vcpu intid) e = tt
+call_gives d (call.Poke addr bytes) e = some_bytes bytes e
+call_gives d (call.Peek addr count) e = tt
+call_gives d (call.ReadReg its off size) e = tt
+call_gives d (call.WriteReg its off size value) e = tt
+call_gives d (call.ReadGicr vcpu off size) e = tt
+call_gives d (call.WriteGicr vcpu off size value) e = tt
+call_gives d (call.Step its) e = tt
+call_gives d call.Save e = tt
+call_gives d call.Copy e = tt
+call_gives d (call.Dma req addr bytes route) e = some_bytes bytes (and_parts (has_bytes 64 bytes) (same_route route (said_route d req addr.0 bytes)) e).0
+
+all_give : (d : Desc) (calls : Thread) → list_all (is_call d) calls ≡ true → AllByRecursion GivesBytes calls
+all_give d [] e = tt
+all_give d (c ∷ calls) e =
+    let parts = and_parts (is_call d c) (list_all (is_call d) calls) e in (call_gives d c parts.0, all_give d calls parts.1)
 
 -- ---- the calls of passes
 
@@ -46,18 +52,18 @@ abbrev ArePasses : ℕ → ℕ → List Entry → Type 0
 ArePasses m zero h = Unit {0}
 ArePasses m (suc count) h = (AllByRecursion GivesBytes (calls_by m h) × (length (calls_by m h) ≤ 65536)) × ArePasses (suc m) count h
 
-passes_of : (vcpus m : ℕ) (threads : Phase) (h : List Entry) → list_all (is_thread vcpus) threads ≡ true → HasCalls m threads h
+passes_of : (d : Desc) (m : ℕ) (threads : Phase) (h : List Entry) → list_all (is_thread d) threads ≡ true → HasCalls m threads h
     → ArePasses m (length threads) h
-passes_of vcpus m [] h e calls = tt
-passes_of vcpus m (t ∷ threads) h e calls =
-    let parts = and_parts (is_thread vcpus t) (list_all (is_thread vcpus) threads) e in
-    let thread = and_parts (nat_le (length t) MOST_CALLS) (list_all (is_call vcpus) t) parts.0 in
+passes_of d m [] h e calls = tt
+passes_of d m (t ∷ threads) h e calls =
+    let parts = and_parts (is_thread d t) (list_all (is_thread d) threads) e in
+    let thread = and_parts (nat_le (length t) MOST_CALLS) (list_all (is_call d) t) parts.0 in
     let few : length t ≤ MOST_CALLS = leb-true (length t) MOST_CALLS thread.0 in (
       (
-        subst (AllByRecursion GivesBytes) (sym calls.0) (all_give vcpus t thread.1),
+        subst (AllByRecursion GivesBytes) (sym calls.0) (all_give d t thread.1),
         subst (λ (cs : Thread). length cs ≤ 65536) (sym calls.0) (omega (arith, few)),
       ),
-      passes_of vcpus (suc m) threads h parts.1 calls.1,
+      passes_of d (suc m) threads h parts.1 calls.1,
     )
 
 here : (m : ℕ) (e : Entry) (h : List Entry) → e.pass ≡ m → calls_by m (e ∷ h) ≡ e.call ∷ calls_by m h
@@ -131,14 +137,14 @@ pub record AreEntries (most many : ℕ) (h : List Entry) : Type 0 where
   pub range : AllByRecursion (IsInRange most) h
   pub count : length h ≤ many
 
-phase_entries : (vcpus m most : ℕ) (threads : Phase) (h : List Entry) → is_phase vcpus threads ≡ true → m + 64 ≤ most → IsPhase m threads h
+phase_entries : (d : Desc) (m most : ℕ) (threads : Phase) (h : List Entry) → is_phase d threads ≡ true → m + 64 ≤ most → IsPhase m threads h
     → (length threads ≤ 64) × AreEntries most 4194304 h
-phase_entries vcpus m most threads h e fits p =
-    let parts = and_parts (nat_lt 0 (length threads) && nat_le (length threads) MOST_THREADS) (list_all (is_thread vcpus) threads) e in
+phase_entries d m most threads h e fits p =
+    let parts = and_parts (nat_lt 0 (length threads) && nat_le (length threads) MOST_THREADS) (list_all (is_thread d) threads) e in
     let most_threads : length threads ≤ MOST_THREADS =
     leb-true (length threads) MOST_THREADS (and_parts (nat_lt 0 (length threads)) (nat_le (length threads) MOST_THREADS) parts.0).1 in
     let few : length threads ≤ 64 = omega (arith, most_threads) in
-    let passes : ArePasses m (length threads) h = passes_of vcpus m threads h parts.1 p.calls in (
+    let passes : ArePasses m (length threads) h = passes_of d m threads h parts.1 p.calls in (
       few,
       record {
         range = phase_range m (length threads) most h (omega (arith, few)) p.only (each_gives m (length threads) h passes);
@@ -152,25 +158,25 @@ all_append : {X : Type 0} (P : X → Type 0) (xs ys : List X) → AllByRecursion
 all_append P [] ys p q = q
 all_append P (x ∷ xs) ys p q = (p.0, all_append P xs ys p.1 q)
 
-phases_entries : (vcpus m most : ℕ) (phases : Leg) (h : List Entry) → list_all (is_phase vcpus) phases ≡ true → m + 64 * length phases ≤ most
+phases_entries : (d : Desc) (m most : ℕ) (phases : Leg) (h : List Entry) → list_all (is_phase d) phases ≡ true → m + 64 * length phases ≤ most
     → ArePhases m phases h → AreEntries most (length phases * 4194304) h
-phases_entries vcpus m most [] h e fits p = subst (AreEntries most 0) (sym p) (record { range = tt; count = omega arith })
-phases_entries vcpus m most (threads ∷ phases) h e fits p =
-    let parts = and_parts (is_phase vcpus threads) (list_all (is_phase vcpus) phases) e in
-    let now = phase_entries vcpus m most threads p.0 parts.0 (omega arith) p.3 in
+phases_entries d m most [] h e fits p = subst (AreEntries most 0) (sym p) (record { range = tt; count = omega arith })
+phases_entries d m most (threads ∷ phases) h e fits p =
+    let parts = and_parts (is_phase d threads) (list_all (is_phase d) phases) e in
+    let now = phase_entries d m most threads p.0 parts.0 (omega arith) p.3 in
     let rest : AreEntries most (length phases * 4194304) p.1 =
-    phases_entries vcpus (m + length threads) most phases p.1 parts.1 (omega (arith, now.0)) p.4 in
+    phases_entries d (m + length threads) most phases p.1 parts.1 (omega (arith, now.0)) p.4 in
     subst (AreEntries most (length (threads ∷ phases) * 4194304)) (sym p.2) (record {
       range = all_append (IsInRange most) p.0 p.1 now.1.range rest.range;
       count = omega (arith, length-append p.0 p.1, now.1.count, rest.count);
     })
 
 -- 256 phases of 64 threads of 65,536 calls
-pub leg_entries : (vcpus : ℕ) (leg : Leg) (h : List Entry) → is_leg vcpus leg ≡ true → ArePhases 1 leg h
+pub leg_entries : (d : Desc) (leg : Leg) (h : List Entry) → is_leg d leg ≡ true → ArePhases 1 leg h
     → (length leg ≤ 256) × AreEntries 16385 1073741824 h
-leg_entries vcpus leg h e p =
-    let parts = and_parts (nat_le (length leg) MOST_PHASES) (list_all (is_phase vcpus) leg) e in
+leg_entries d leg h e p =
+    let parts = and_parts (nat_le (length leg) MOST_PHASES) (list_all (is_phase d) leg) e in
     let most : length leg ≤ MOST_PHASES = leb-true (length leg) MOST_PHASES parts.0 in
     let few : length leg ≤ 256 = omega (arith, most) in
-    let all = phases_entries vcpus 1 16385 leg h parts.1 (omega (arith, few)) p in
+    let all = phases_entries d 1 16385 leg h parts.1 (omega (arith, few)) p in
     (few, record { range = all.range; count = omega (arith, all.count, few) })

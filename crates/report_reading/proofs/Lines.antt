@@ -1,22 +1,26 @@
 -- The lines of a leg's history have their shape, and can be read.
-use Rattle.std.proofs.Common.{◌≡◌, ℕ, suc, ◌+◌, ◌-◌, ◌^◌, ◌<◌, ◌≤◌, nat_le, List, [], ◌∷◌, length, map, Some, refl, sym, ap, subst, ◌∙◌, arith}
+use Rattle.std.proofs.Common.{◌≡◌, ℕ, suc, ◌+◌, ◌-◌, ◌^◌, ◌<◌, ◌≤◌, Bool, true, false, nat_le, List, [], ◌∷◌, length, map, Some, refl, sym, ap}
+use Rattle.std.proofs.Common.{subst, ◌∙◌, arith}
 use Rattle.std.specs.List.{AllByRecursion}
+use Rattle.std.specs.Fmt.{decimal}
 use Rattle.std.proofs.lemmas.Bool.{cond_both}
 use Rattle.std.proofs.lemmas.List.{length-map}
 use Rattle.its_plain.specs.Plain.{Plain, Redistributor}
 use Rattle.its_plain.specs.Answer.{answer, reply_of}
 use Rattle.its_plain.specs.History.{IsLegal, after}
 use Rattle.its_plain.specs.Runs.{Leg, Phase}
+use Rattle.its_plain.specs.Saved.{moved_count}
 use Rattle.its_plain.specs.declared.call.Entry.{Entry}
 use Rattle.its_history.specs.Histories.{Seat, seat_from, seat_of, entry_line, history_lines}
 use Rattle.its_history.specs.Report.{pending_text}
-use Rattle.its_history.specs.Reports.{thread_counts, pending_lists, ended}
-use Rattle.its_history.specs.ReadBack.{ArePlaced, HasLegShape, IsReadable, IsSome, IsLegReadable}
+use Rattle.its_history.specs.Reading.{Move}
+use Rattle.its_history.specs.Reports.{thread_counts, pending_lists, ended, moved_end}
+use Rattle.its_history.specs.ReadBack.{ArePlaced, EndsBefore, HasLegShape, IsReadable, IsSome, IsEndReadable, IsLegReadable}
 use Rattle.its_history.specs.declared.trace.End.{End}
 use Rattle.report_reading.specs.Bytes.{HasBytes, TellsBytes}
 use Rattle.report_reading.proofs.Calls.{Goes, calls_go, replies_bytes}
 use Rattle.report_reading.proofs.Entries.{IsInRange, AreEntries}
-use Rattle.report_reading.proofs.Texts.{answered_prints, answered_answers, pending_is_text}
+use Rattle.report_reading.proofs.Texts.{answered_prints, answered_answers, pending_is_text, number_is_text}
 
 -- ---- seats
 
@@ -80,6 +84,16 @@ after_goes u (e ∷ h) range =
     let more = after_goes (answer u e.call).1 h range.1 in
     ((λ b. more.0 (one.0 b)), more.1 ∙ one.1)
 
+-- ---- how a leg ended that a migration follows
+
+pub moved_readable : (copied : Bool) (last : Plain) → IsEndReadable (Some (moved_end copied last))
+moved_readable false last = tt
+moved_readable true last = number_is_text (moved_count last)
+
+pub moved_ends : (copied : Bool) (last : Plain) → EndsBefore (Some copied) (Some (moved_end copied last))
+moved_ends false last = refl
+moved_ends true last = (decimal (moved_count last), refl)
+
 -- ---- legs
 
 all_pending : (lists : List (List ℕ)) → AllByRecursion IsSome (map pending_text lists)
@@ -90,19 +104,21 @@ module _ (first : Plain) (leg : Leg) (h : List Entry) (few : length leg ≤ 256)
   phases_few : length (thread_counts leg) ≤ 256
   phases_few = (let same = length-map leg (λ (threads : Phase). length threads) in omega (arith, same, few))
 
-  pub leg_readable : (end : End) → HasBytes first → IsLegal first h → IsLegReadable (ended first leg h (Some end))
-  leg_readable end bytes legal =
+  pub leg_readable : (end : End) → IsEndReadable (Some end) → HasBytes first → IsLegal first h → IsLegReadable (ended first leg h (Some end))
+  leg_readable end can bytes legal =
       let long = lines_long (seat_of (thread_counts leg)) 0 h in record {
         entries = lines_readable (thread_counts leg) phases_few first 0 h bytes legal are.range (omega (arith, are.count));
         count = omega (arith, long, are.count);
         pending = all_pending (pending_lists (after first h));
+        end = can;
       }
 
-  pub leg_shape : (vcpus : ℕ) (end : End) → length first.redistributors ≡ vcpus → HasLegShape vcpus end (ended first leg h (Some end))
-  leg_shape vcpus end count =
+  pub leg_shape : (vcpus : ℕ) (move : Move) (end : End) → EndsBefore move (Some end) → length first.redistributors ≡ vcpus
+      → HasLegShape vcpus move (ended first leg h (Some end))
+  leg_shape vcpus move end is count =
       let u : Plain = after first h in record {
         placed = placed (seat_of (thread_counts leg)) 0 h;
         pending = length-map (pending_lists u) pending_text ∙ (length-map u.redistributors (λ (r : Redistributor). r.pending)
             ∙ ((after_goes first h are.range).1 ∙ count));
-        end_is = refl;
+        ends = is;
       }

@@ -346,6 +346,10 @@ others_print : (ns : List ℕ) → Prints (flat_map (λ m. codes " " ++ decimal 
 others_print [] = refl
 others_print (n ∷ ns) = append_printed (codes " " ++ decimal n) (flat_map (λ m. codes " " ++ decimal m) ns) (dec n) (others_print ns)
 
+-- a number by itself
+pub number_is_text : (n : ℕ) → IsSome (decimal n)
+number_is_text n = record { some = dec_some n; printed = dec n }
+
 pub pending_is_text : (ns : List ℕ) → IsSome (pending_text ns)
 pending_is_text [] = record { some = omega arith; printed = refl }
 pending_is_text (n ∷ ns) =

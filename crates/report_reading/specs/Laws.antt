@@ -1,5 +1,5 @@
 -- What is claimed of the reports of runs.
-use Rattle.std.specs.Prelude.{◌≡◌, List, length, Ok}
+use Rattle.std.specs.Prelude.{◌≡◌, Bool, List, length, Ok}
 use Rattle.its_plain.specs.Plain.{Plain}
 use Rattle.its_plain.specs.Answer.{answer}
 use Rattle.its_plain.specs.Described.{IsFirstState}
@@ -32,9 +32,10 @@ MigrationsKeepBytes = (u : Plain) → HasBytes u → HasBytes (moved u)
 
 -- ---- reports
 
--- each run of a script from its machine's first state has a report that is read as it is
+-- each run of a script from its machine's first state has a report that is read as it is, before whichever migrations pages are copied
 abbrev pub RunReportsAreRead : Type 0
 RunReportsAreRead =
-    (script : Script) (first : Plain) (histories : List (List Entry)) → IsWithinLimits script → IsFirstState script.desc first
+    (script : Script) (first : Plain) (copies : List Bool) (histories : List (List Entry)) → IsWithinLimits script → IsFirstState script.desc first
     → IsRun first script.legs histories
-    → trace_of (length script.legs) script.desc.shape.vcpus (report_text (reported first script.legs histories)) ≡ Ok (reported first script.legs histories)
+    → trace_of (length script.legs) copies script.desc.shape.vcpus (report_text (reported first script.legs copies histories))
+    ≡ Ok (reported first script.legs copies histories)

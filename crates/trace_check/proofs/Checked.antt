@@ -1,6 +1,6 @@
 -- The legs of a report, one after another.
-use Rattle.std.proofs.Common.{◌≡◌, ℕ, zero, suc, ◌+◌, ◌<◌, ◌≤◌, List, [], ◌∷◌, length, drop, get_or, Some, refl, sym, ap, subst, ◌∙◌, inl, inr, arith}
-use Rattle.std.proofs.lemmas.List.{drop_more, drop_all, get_or_read, length-map, length-drop}
+use Rattle.std.proofs.Common.{◌≡◌, ℕ, zero, suc, ◌+◌, ◌<◌, ◌≤◌, Bool, List, [], ◌∷◌, length, drop, get_or, Some, refl, sym, ap, subst, ◌∙◌, inl, inr, arith}
+use Rattle.std.proofs.lemmas.List.{drop_more, drop_all, drop-drop, get_or_read, length-map, length-drop}
 use Rattle.its_plain.specs.Plain.{Plain}
 use Rattle.its_plain.specs.Answer.{answer}
 use Rattle.its_plain.specs.History.{after}
@@ -9,14 +9,15 @@ use Rattle.its_plain.specs.Runs.{Leg, IsLegRun}
 use Rattle.its_plain.specs.Saved.{IsSavable, moved, saved, reloaded}
 use Rattle.its_plain.specs.declared.call.Entry.{Entry}
 use Rattle.its_history.specs.Histories.{Seat, history_lines}
-use Rattle.its_history.specs.ReadBack.{ArePlaced, HasLegShape, HasShape}
-use Rattle.its_history.specs.Reading.{end_of}
-use Rattle.its_history.specs.Reports.{ended}
+use Rattle.its_history.specs.ReadBack.{ArePlaced, EndsBefore, HasLegShape, HasShape}
+use Rattle.its_history.specs.Reading.{Move, move_after}
+use Rattle.its_history.specs.Report.{end_text}
+use Rattle.its_history.specs.Reports.{ended, copies_first, moved_end, moved_leg}
 use Rattle.its_history.specs.declared.trace.End.{End}
-use Rattle.its_history.specs.declared.trace.End.TheVariants.{Migrated, Done}
+use Rattle.its_history.specs.declared.trace.End.TheVariants.{Done}
 use Rattle.its_history.specs.declared.trace.Leg.{Leg as LegLines}
 use Rattle.trace_check.specs.Differences.{seat, IsHere, IsAtEnd, DiffersFrom, pending_texts}
-use Rattle.trace_check.specs.Steps.{AreEntries, EntriesDiffer, IsLegRight, IsOtherPending, IsMigrated, IsFault}
+use Rattle.trace_check.specs.Steps.{AreEntries, EntriesDiffer, IsLegRight, IsOtherPending, IsMigrated, IsEndWrong}
 use Rattle.trace_check.specs.Verdicts.{IsReportOfRun, IsVerdictFrom}
 use Rattle.trace_check.specs.declared.verdict.Difference.{Difference}
 use Rattle.trace_check.specs.declared.verdict.Verdict.{Verdict}
@@ -77,74 +78,102 @@ module _ (u : Plain) (leg : Leg) (t : LegLines) where
       let pending : t.pending ≡ pending_texts (after u r.are_entries.history) = r.pending_is ∙ ap pending_texts r.are_entries.now_is in
       λ i. record { entries = r.are_entries.lines_are i; pending = pending i; end = e i }
 
-  pub cannot : (n : ℕ) (w : Plain) (d : Difference) → (r : IsLegRight u leg t.entries t.pending w) → t.end ≡ Some Migrated → IsFault n (length t.entries) w d
-      → IsAtEnd n u leg t d
-  cannot n w d r e f = record {
-    leg_is = f.leg_is;
-    end = record {
-      history = r.are_entries.history;
-      is_run = r.are_entries.is_run;
-      right = told_is w Migrated r e;
-      place = f.place_is ∙ entries_long w r.are_entries;
-      said = f.said;
-      fault = f.fault;
-      not_savable = ap savable (sym r.are_entries.now_is) ∙ f.not_savable;
-      is_fault = f.is_fault;
-    };
-  }
+  pub end_differs : (n : ℕ) (copies : List Bool) (w : Plain) (d : Difference) → (r : IsLegRight u leg t.entries t.pending w)
+      → EndsBefore (Some (copies_first copies)) t.end → IsEndWrong n (length t.entries) (copies_first copies) t.end w d → IsAtEnd n u leg copies t d
+  end_differs n copies w d r e wrong =
+      let x = wrong.line in
+      let leg_is : d.leg ≡ n = wrong.leg_is in
+      let place : d.place ≡ length t.entries = wrong.place_is in
+      let a = r.are_entries in
+      let now : w ≡ after u a.history = a.now_is in
+      let moved_now : moved_end (copies_first copies) w ≡ moved_end (copies_first copies) (after u a.history) = ap (moved_end (copies_first copies)) now in
+      let ends : EndsBefore (Some (copies_first copies)) (Some x.end) = subst (EndsBefore (Some (copies_first copies))) x.told_is e in
+      record {
+        leg_is = leg_is;
+        end = elim x.wrong [
+          | inl f ↦ inl (record {
+            history = a.history;
+            is_run = a.is_run;
+            end = x.end;
+            ends = ends;
+            right = told_is w x.end r x.told_is;
+            place = place ∙ entries_long w a;
+            said = x.said_is;
+            fault = f.fault;
+            not_savable = ap savable (sym now) ∙ f.not_savable;
+            is_fault = f.is_fault;
+          })
+          | inr o ↦ inr (record {
+            history = a.history;
+            is_run = a.is_run;
+            is_savable = subst IsSavable now o.is_savable;
+            end = x.end;
+            ends = ends;
+            right = told_is w x.end r x.told_is;
+            differs = λ same. o.differs (same ∙ sym moved_now);
+            place = place ∙ entries_long w a;
+            said = x.said_is;
+            is_line = o.is_line ∙ ap end_text moved_now;
+          })
+        ];
+      }
 
 -- ---- legs
 
-shape_long : (vcpus n : ℕ) (told : List LegLines) → HasShape vcpus n told → length told ≡ n
-shape_long vcpus zero [] s = refl
-shape_long vcpus zero (t ∷ told) s = absurd s
-shape_long vcpus (suc n) [] s = absurd s
-shape_long vcpus (suc n) (t ∷ told) s = ap suc (shape_long vcpus n told s.1)
+shape_long : (vcpus n : ℕ) (copies : List Bool) (told : List LegLines) → HasShape vcpus n copies told → length told ≡ n
+shape_long vcpus zero copies [] s = refl
+shape_long vcpus zero copies (t ∷ told) s = absurd s
+shape_long vcpus (suc n) copies [] s = absurd s
+shape_long vcpus (suc n) copies (t ∷ told) s = ap suc (shape_long vcpus n (drop 1 copies) told s.1)
 
-here_is : (n : ℕ) (u : Plain) (leg : Leg) (rest : List Leg) (t : LegLines) (told : List LegLines) (d : Difference) → IsHere n u leg t d
-    → DiffersFrom n u (leg ∷ rest) (t ∷ told) d
-here_is n u leg [] t told d h = h
-here_is n u leg (next ∷ rest) t told d h = inl h
+module _ (n : ℕ) (u : Plain) (leg : Leg) (copies : List Bool) (t : LegLines) (told : List LegLines) (d : Difference) where
+  here_is : (rest : List Leg) → IsHere n u leg t d → DiffersFrom n u (leg ∷ rest) copies (t ∷ told) d
+  here_is [] h = h
+  here_is (next ∷ rest) h = inl h
 
-end_is : (n : ℕ) (u : Plain) (leg : Leg) (rest : List Leg) (t : LegLines) (told : List LegLines) (d : Difference) → 0 < length rest → IsAtEnd n u leg t d
-    → DiffersFrom n u (leg ∷ rest) (t ∷ told) d
-end_is n u leg [] t told d some e = absurd (omega arith)
-end_is n u leg (next ∷ rest) t told d some e = inr (inl e)
+  end_is : (rest : List Leg) → 0 < length rest → IsAtEnd n u leg copies t d → DiffersFrom n u (leg ∷ rest) copies (t ∷ told) d
+  end_is [] some e = absurd (omega arith)
+  end_is (next ∷ rest) some e = inr (inl e)
 
 -- a leg is right, the state after it was moved, and so it is for the legs that follow
-module _ (n : ℕ) (u w : Plain) (leg : Leg) (t : LegLines) (h : List Entry) (run : IsLegRun u leg h) (can : IsSavable (after u h)) (now : w ≡ moved (after u h))
-    (right : t ≡ ended u leg h (Some Migrated)) where
-  goes_on : (rest : List Leg) (told : List LegLines) (v : Verdict) → 0 < length rest → IsVerdictFrom (n + 1) w rest told v
-      → IsVerdictFrom n u (leg ∷ rest) (t ∷ told) v
+module _ (n : ℕ) (u w : Plain) (leg : Leg) (copies : List Bool) (t : LegLines) (h : List Entry) (run : IsLegRun u leg h) (can : IsSavable (after u h))
+    (now : w ≡ moved (after u h)) (right : t ≡ moved_leg u leg copies h) where
+  goes_on : (rest : List Leg) (told : List LegLines) (v : Verdict) → 0 < length rest → IsVerdictFrom (n + 1) w rest (drop 1 copies) told v
+      → IsVerdictFrom n u (leg ∷ rest) copies (t ∷ told) v
   goes_on [] told v some later = absurd (omega arith)
   goes_on (next ∷ rest) told Agrees some later =
-      let moved_on : IsReportOfRun (moved (after u h)) (next ∷ rest) told = subst (λ (x : Plain). IsReportOfRun x (next ∷ rest) told) now later in
+      let moved_on : IsReportOfRun (moved (after u h)) (next ∷ rest) (drop 1 copies) told =
+      subst (λ (x : Plain). IsReportOfRun x (next ∷ rest) (drop 1 copies) told) now later in
       record {
         histories = h ∷ moved_on.histories;
         is_run = (h, moved_on.histories, refl, run, can, moved_on.is_run);
         told_is = λ i. right i ∷ moved_on.told_is i;
       }
   goes_on (next ∷ rest) told (Differs d) some later =
-      inr (inr (h, record { is_run = run; right = right; savable = can }, subst (λ (x : Plain). DiffersFrom (n + 1) x (next ∷ rest) told d) now later))
+      inr (inr (
+        h,
+        record { is_run = run; right = right; savable = can },
+        subst (λ (x : Plain). DiffersFrom (n + 1) x (next ∷ rest) (drop 1 copies) told d) now later,
+      ))
 
 -- the last leg is right
-ends : (n : ℕ) (u w : Plain) (leg : Leg) (t : LegLines) (h : List Entry) → IsLegRun u leg h → t ≡ ended u leg h (Some Done) → (v : Verdict)
-    → IsVerdictFrom (n + 1) w [] [] v → IsVerdictFrom n u (leg ∷ []) (t ∷ []) v
-ends n u w leg t h run right Agrees later = record { histories = h ∷ []; is_run = (h, refl, run); told_is = λ i. right i ∷ [] }
-ends n u w leg t h run right (Differs d) later = absurd later
+ends : (n : ℕ) (u w : Plain) (leg : Leg) (copies after_it : List Bool) (t : LegLines) (h : List Entry) → IsLegRun u leg h → t ≡ ended u leg h (Some Done)
+    → (v : Verdict) → IsVerdictFrom (n + 1) w [] after_it [] v → IsVerdictFrom n u (leg ∷ []) copies (t ∷ []) v
+ends n u w leg copies after_it t h run right Agrees later = record { histories = h ∷ []; is_run = (h, refl, run); told_is = λ i. right i ∷ [] }
+ends n u w leg copies after_it t h run right (Differs d) later = absurd later
 
 -- whatever is right of the legs from the i-th on is right of all
-pub record Checking (first : Plain) (legs : List Leg) (told : List LegLines) (i : ℕ) (u : Plain) : Type 0 where
+pub record Checking (first : Plain) (legs : List Leg) (copies : List Bool) (told : List LegLines) (i : ℕ) (u : Plain) : Type 0 where
   pub vcpus : length u.redistributors ≡ length first.redistributors
   pub long : length told ≡ length legs
-  pub shape : HasShape (length first.redistributors) (length (drop i legs)) (drop i told)
-  pub goes : (v : Verdict) → IsVerdictFrom (i + 1) u (drop i legs) (drop i told) v → IsVerdictFrom 1 first legs told v
+  pub shape : HasShape (length first.redistributors) (length (drop i legs)) (drop i copies) (drop i told)
+  pub goes : (v : Verdict) → IsVerdictFrom (i + 1) u (drop i legs) (drop i copies) (drop i told) v → IsVerdictFrom 1 first legs copies told v
 
-pub checking_none : (first : Plain) (legs : List Leg) (told : List LegLines) → HasShape (length first.redistributors) (length legs) told
-    → Checking first legs told 0 first
-checking_none first legs told shape = record {
+pub checking_none : (first : Plain) (legs : List Leg) (copies : List Bool) (told : List LegLines)
+    → HasShape (length first.redistributors) (length legs) copies told → Checking first legs copies told 0 first
+checking_none first legs copies told shape = record {
   vcpus = refl;
-  long = shape_long (length first.redistributors) (length legs) told shape;
+  long = shape_long (length first.redistributors) (length legs) copies told shape;
   shape = shape;
   goes = λ v h. h;
 }
@@ -159,8 +188,8 @@ pub record InHand (legs : List Leg) (told : List LegLines) (i : ℕ) (leg : Leg)
   pub lists_are : lists ≡ told
   pub lines_at : t ≡ get_or lists i t
 
-module _ (first : Plain) (legs : List Leg) (told : List LegLines) (i : ℕ) (u : Plain) (leg : Leg) (t : LegLines) (c : Checking first legs told i u)
-    (has : InHand legs told i leg t) where
+module _ (first : Plain) (legs : List Leg) (copies : List Bool) (told : List LegLines) (i : ℕ) (u : Plain) (leg : Leg) (t : LegLines)
+    (c : Checking first legs copies told i u) (has : InHand legs told i leg t) where
   lt : i < length legs
   lt = has.below
 
@@ -176,14 +205,24 @@ module _ (first : Plain) (legs : List Leg) (told : List LegLines) (i : ℕ) (u :
   abbrev later : List LegLines
   later = drop (i + 1) told
 
+  abbrev now_copies : List Bool
+  now_copies = drop i copies
+
   left : drop i legs ≡ leg ∷ rest
   left = drop_more legs i leg lt ∙ ap (λ l. l ∷ rest) (sym leg_at)
 
   said : drop i told ≡ t ∷ later
   said = drop_more told i t (omega (arith, lt, c.long)) ∙ ap (λ l. l ∷ later) (sym t_at)
 
-  both : HasLegShape (length first.redistributors) (end_of (length rest)) t × HasShape (length first.redistributors) (length rest) later
-  both = subst (λ (p : List Leg × List LegLines). HasShape (length first.redistributors) (length p.0) p.1) (λ j. (left j, said j)) c.shape
+  next_copies : drop 1 now_copies ≡ drop (i + 1) copies
+  next_copies = drop-drop 1 i copies
+
+  both : HasLegShape (length first.redistributors) (move_after (length rest) now_copies) t
+      × HasShape (length first.redistributors) (length rest) (drop 1 now_copies) later
+  both = subst (λ (p : List Leg × List LegLines). HasShape (length first.redistributors) (length p.0) now_copies p.1) (λ j. (left j, said j)) c.shape
+
+  later_shape : HasShape (length first.redistributors) (length rest) (drop (i + 1) copies) later
+  later_shape = subst (λ (cs : List Bool). HasShape (length first.redistributors) (length rest) cs later) next_copies both.1
 
   pub placed : ArePlaced 0 t.entries
   placed = both.0.placed
@@ -192,63 +231,71 @@ module _ (first : Plain) (legs : List Leg) (told : List LegLines) (i : ℕ) (u :
   pending_long = both.0.pending ∙ sym c.vcpus
 
   -- what is right of this leg and those after it
-  whole : (v : Verdict) → IsVerdictFrom (i + 1) u (leg ∷ rest) (t ∷ later) v → IsVerdictFrom 1 first legs told v
-  whole v h = c.goes v (subst (λ (p : List Leg × List LegLines). IsVerdictFrom (i + 1) u p.0 p.1 v) (λ j. (sym left j, sym said j)) h)
+  whole : (v : Verdict) → IsVerdictFrom (i + 1) u (leg ∷ rest) now_copies (t ∷ later) v → IsVerdictFrom 1 first legs copies told v
+  whole v h = c.goes v (subst (λ (p : List Leg × List LegLines). IsVerdictFrom (i + 1) u p.0 now_copies p.1 v) (λ j. (sym left j, sym said j)) h)
 
-  pub differs_now : (d : Difference) → IsHere (i + 1) u leg t d → IsVerdictFrom 1 first legs told (Differs d)
-  differs_now d h = whole (Differs d) (here_is (i + 1) u leg rest t later d h)
+  pub differs_now : (d : Difference) → IsHere (i + 1) u leg t d → IsVerdictFrom 1 first legs copies told (Differs d)
+  differs_now d h = whole (Differs d) (here_is (i + 1) u leg now_copies t later d rest h)
 
   rest_long : suc (length rest) + i ≡ length legs
   rest_long = omega (arith, length-drop (i + 1) legs, lt)
 
-  end_migrated : i + 1 < length legs → t.end ≡ Some Migrated
-  end_migrated more = both.0.end_is ∙ ap (λ (e : End). Some e) (after_one (length rest) (omega (arith, rest_long, more)))
+  -- the leg ends as one does before such a migration
+  pub ends_before : i + 1 < length legs → EndsBefore (Some (copies_first now_copies)) t.end
+  ends_before more = subst (λ (m : Move). EndsBefore m t.end) (after_some (length rest) (omega (arith, rest_long, more))) both.0.ends
     where
-      after_one : (n : ℕ) → 0 < n → end_of n ≡ Migrated
-      after_one zero some = absurd (omega arith)
-      after_one (suc n) some = refl
+      after_some : (n : ℕ) → 0 < n → move_after n now_copies ≡ Some (copies_first now_copies)
+      after_some zero some = absurd (omega arith)
+      after_some (suc n) some = refl
 
-  pub differs_after : (w : Plain) (d : Difference) → i + 1 < length legs → IsLegRight u leg t.entries t.pending w → IsFault (i + 1) (length t.entries) w d
-      → IsVerdictFrom 1 first legs told (Differs d)
-  differs_after w d more right fault =
-      whole (Differs d) (end_is (i + 1) u leg rest t later d (omega (arith, rest_long, more)) (cannot u leg t (i + 1) w d right (end_migrated more) fault))
+  pub differs_after : (w : Plain) (d : Difference) → i + 1 < length legs → IsLegRight u leg t.entries t.pending w
+      → IsEndWrong (i + 1) (length t.entries) (copies_first now_copies) t.end w d → IsVerdictFrom 1 first legs copies told (Differs d)
+  differs_after w d more right wrong =
+      whole (Differs d) (end_is (i + 1) u leg now_copies t later d rest (omega (arith, rest_long, more))
+      (end_differs u leg t (i + 1) now_copies w d right (ends_before more) wrong))
 
-  pub checking_more : (w x : Plain) → i + 1 < length legs → IsLegRight u leg t.entries t.pending w → IsMigrated w x → Checking first legs told (i + 1) x
+  pub checking_more : (w x : Plain) → i + 1 < length legs → IsLegRight u leg t.entries t.pending w → IsMigrated (copies_first now_copies) t.end w x
+      → Checking first legs copies told (i + 1) x
   checking_more w x more right m =
       let a = right.are_entries in
       let now : x ≡ moved (after u a.history) = m.now ∙ ap moved a.now_is in
+      let end : t.end ≡ Some (moved_end (copies_first now_copies) (after u a.history)) =
+      m.end_is ∙ ap (λ (z : Plain). Some (moved_end (copies_first now_copies) z)) a.now_is in
       record {
         vcpus = ap (λ (z : Plain). length z.redistributors) now ∙ (moved_vcpus (after u a.history) ∙ (after_vcpus u a.history ∙ c.vcpus));
         long = c.long;
-        shape = both.1;
-        goes = λ v h. whole v (goes_on (i + 1) u x leg t a.history a.is_run (subst IsSavable a.now_is m.is_savable) now
-            (told_is u leg t w Migrated right (end_migrated more)) rest later v (omega (arith, rest_long, more)) h);
+        shape = later_shape;
+        goes = λ v h. whole v (goes_on (i + 1) u x leg now_copies t a.history a.is_run (subst IsSavable a.now_is m.is_savable) now
+            (told_is u leg t w (moved_end (copies_first now_copies) (after u a.history)) right end) rest later v (omega (arith, rest_long, more))
+            (subst (λ (cs : List Bool). IsVerdictFrom (i + 1 + 1) x rest cs later v) (sym next_copies) h));
       }
 
-  pub checking_last : (w : Plain) → length legs ≤ i + 1 → IsLegRight u leg t.entries t.pending w → Checking first legs told (i + 1) w
+  pub checking_last : (w : Plain) → length legs ≤ i + 1 → IsLegRight u leg t.entries t.pending w → Checking first legs copies told (i + 1) w
   checking_last w le right =
       let a = right.are_entries in
       let none : rest ≡ [] = drop_all (i + 1) legs le in
       let gone : later ≡ [] = drop_all (i + 1) told (omega (arith, le, c.long)) in
-      let done : t.end ≡ Some Done = both.0.end_is ∙ ap (λ (l : List Leg). Some (end_of (length l))) none in
+      let done : t.end ≡ Some Done =
+      subst (λ (m : Move). EndsBefore m t.end) (ap (λ (l : List Leg). move_after (length l) now_copies) none) both.0.ends in
       record {
         vcpus = ap (λ (z : Plain). length z.redistributors) a.now_is ∙ (after_vcpus u a.history ∙ c.vcpus);
         long = c.long;
-        shape = both.1;
-        goes = λ v h. whole v (subst (λ (p : List Leg × List LegLines). IsVerdictFrom (i + 1) u (leg ∷ p.0) (t ∷ p.1) v) (λ j. (sym none j, sym gone j))
-            (ends (i + 1) u w leg t a.history a.is_run (told_is u leg t w Done right done) v
-            (subst (λ (p : List Leg × List LegLines). IsVerdictFrom (i + 1 + 1) w p.0 p.1 v) (λ j. (none j, gone j)) h)));
+        shape = later_shape;
+        goes = λ v h. whole v (subst (λ (p : List Leg × List LegLines). IsVerdictFrom (i + 1) u (leg ∷ p.0) now_copies (t ∷ p.1) v)
+            (λ j. (sym none j, sym gone j))
+            (ends (i + 1) u w leg now_copies (drop (i + 1) copies) t a.history a.is_run (told_is u leg t w Done right done) v
+            (subst (λ (p : List Leg × List LegLines). IsVerdictFrom (i + 1 + 1) w p.0 (drop (i + 1) copies) p.1 v) (λ j. (none j, gone j)) h)));
       }
 
-pub checking_all : (first : Plain) (legs : List Leg) (told : List LegLines) (i : ℕ) (u : Plain) → Checking first legs told i u → length legs ≤ i
-    → IsReportOfRun first legs told
-checking_all first legs told i u c le =
+pub checking_all : (first : Plain) (legs : List Leg) (copies : List Bool) (told : List LegLines) (i : ℕ) (u : Plain) → Checking first legs copies told i u
+    → length legs ≤ i → IsReportOfRun first legs copies told
+checking_all first legs copies told i u c le =
     let none : drop i legs ≡ [] = drop_all i legs le in
     let gone : drop i told ≡ [] = drop_all i told (omega (arith, le, c.long)) in
-    let nothing : IsReportOfRun u [] [] = record { histories = []; is_run = refl; told_is = refl } in
-    c.goes Agrees (subst (λ (p : List Leg × List LegLines). IsReportOfRun u p.0 p.1) (λ j. (sym none j, sym gone j)) nothing)
+    let nothing : IsReportOfRun u [] (drop i copies) [] = record { histories = []; is_run = refl; told_is = refl } in
+    c.goes Agrees (subst (λ (p : List Leg × List LegLines). IsReportOfRun u p.0 (drop i copies) p.1) (λ j. (sym none j, sym gone j)) nothing)
 
 -- a difference leaves no run
-pub no_run : (first : Plain) (legs : List Leg) (told : List LegLines) (d : Difference) → IsVerdictFrom 1 first legs told (Differs d)
-    → IsReportOfRun first legs told → ⊥
-no_run first legs told d h run = exact_from 1 first legs told d h run
+pub no_run : (first : Plain) (legs : List Leg) (copies : List Bool) (told : List LegLines) (d : Difference)
+    → IsVerdictFrom 1 first legs copies told (Differs d) → IsReportOfRun first legs copies told → ⊥
+no_run first legs copies told d h run = exact_from 1 first legs copies told d h run

@@ -1,6 +1,6 @@
 -- A report with a difference is that of no run.
-use Rattle.std.proofs.Common.{◌≡◌, ℕ, suc, ◌+◌, List, [], ◌∷◌, ◌++◌, length, Option, Some, Ok, Err, refl, sym, ap, subst, ◌∙◌, inl, inr, arith, append_assoc}
-use Rattle.std.proofs.Common.{append-nil}
+use Rattle.std.proofs.Common.{◌≡◌, ℕ, suc, ◌+◌, ◌⊎◌, Bool, List, [], ◌∷◌, ◌++◌, length, drop, Option, Some, Ok, Err, refl, sym, ap, subst, ◌∙◌, inl, inr, arith}
+use Rattle.std.proofs.Common.{append_assoc, append-nil}
 use Rattle.std.proofs.lemmas.List.{append_cancel_left}
 use Rattle.its_plain.specs.Plain.{Plain}
 use Rattle.its_plain.specs.Answer.{answer}
@@ -11,15 +11,15 @@ use Rattle.its_plain.specs.Saved.{IsSavable, moved}
 use Rattle.its_plain.specs.declared.call.Call.{Call}
 use Rattle.its_plain.specs.declared.call.Entry.{Entry}
 use Rattle.its_history.specs.Histories.{Seat, history_lines, entry_line}
-use Rattle.its_history.specs.Reports.{ended, reported}
+use Rattle.its_history.specs.Reports.{ended, reported, copies_first, moved_end, moved_leg}
 use Rattle.its_history.specs.Texts.{answered_text}
 use Rattle.its_history.specs.declared.trace.End.{End}
-use Rattle.its_history.specs.declared.trace.End.TheVariants.{Migrated, Done}
+use Rattle.its_history.specs.declared.trace.End.TheVariants.{Done}
 use Rattle.its_history.specs.declared.trace.EntryLine.{EntryLine}
 use Rattle.its_history.specs.declared.trace.Leg.{Leg as LegLines}
 use Rattle.trace_check.specs.Cursors.{Progress, threads_of, call_of, opened, taken, more}
-use Rattle.trace_check.specs.Differences.{seat, lines, MayFollow, EntryDiffers, EndsEarly, PendingDiffers, CannotMigrate, LinesDiffer, DiffersFrom}
-use Rattle.trace_check.specs.Differences.{pending_texts}
+use Rattle.trace_check.specs.Differences.{seat, lines, MayFollow, EntryDiffers, EndsEarly, PendingDiffers, LinesDiffer, DiffersFrom}
+use Rattle.trace_check.specs.Differences.{pending_texts, CannotMigrate, EndDiffers}
 use Rattle.trace_check.specs.Verdicts.{IsReportOfRun}
 use Rattle.trace_check.specs.declared.verdict.Difference.{Difference}
 use Rattle.trace_check.proofs.Lists.{head_is, tail_is, legal_front, legal_reply}
@@ -32,6 +32,9 @@ same_thread m n number e = (let next : suc m ≡ suc n = ap (λ (s : Seat). s.1)
 
 same_call : (c d : Call) → Some c ≡ Some d → c ≡ d
 same_call c d e = cc e
+
+same_end : (e f : End) → Some e ≡ Some f → e ≡ f
+same_end e f same = cc same
 
 module _ (first : Plain) (leg : Leg) where
   abbrev seats : ℕ → Seat
@@ -177,41 +180,57 @@ module _ (first : Plain) (leg : Leg) where
       → told ≡ ended first leg g last → g ≡ h
   same_history told h g end last hr gr he ge = run_same h g (run_part h hr) (run_part g gr) (λ i. ((sym ge ∙ he) i).entries)
 
-  pub end_exact : (told : LegLines) (d : Difference) (g : List Entry) (end : Option End) → CannotMigrate first leg told d → IsLegRun first leg g
-      → IsSavable (after first g) → told ≡ ended first leg g end → ⊥
-  end_exact told d g end w run can same =
-      let is : g ≡ w.history = same_history told w.history g (Some Migrated) end w.is_run run w.right same in
+  fault_exact : (copies : List Bool) (told : LegLines) (d : Difference) (g : List Entry) → CannotMigrate first leg copies told d → IsLegRun first leg g
+      → IsSavable (after first g) → told ≡ moved_leg first leg copies g → ⊥
+  fault_exact copies told d g w run can same =
+      let end : Option End = Some (moved_end (copies_first copies) (after first g)) in
+      let is : g ≡ w.history = same_history told w.history g (Some w.end) end w.is_run run w.right same in
       let both : Ok tt ≡ Err w.fault = sym can ∙ (ap (λ (h : List Entry). savable (after first h)) is ∙ w.not_savable) in
       absurd (cc both)
 
+  other_exact : (copies : List Bool) (told : LegLines) (d : Difference) (g : List Entry) → EndDiffers first leg copies told d → IsLegRun first leg g
+      → told ≡ moved_leg first leg copies g → ⊥
+  other_exact copies told d g w run same =
+      let ends : List Entry → End = λ h. moved_end (copies_first copies) (after first h) in
+      let is : g ≡ w.history = same_history told w.history g (Some w.end) (Some (ends g)) w.is_run run w.right same in
+      let both : Some w.end ≡ Some (ends g) = λ i. ((sym w.right ∙ same) i).end in
+      w.differs (same_end w.end (ends g) both ∙ ap ends is)
+
+  pub end_exact : (copies : List Bool) (told : LegLines) (d : Difference) (g : List Entry)
+      → CannotMigrate first leg copies told d ⊎ EndDiffers first leg copies told d → IsLegRun first leg g
+      → IsSavable (after first g) → told ≡ moved_leg first leg copies g → ⊥
+  end_exact copies told d g w run can same =
+      elim w [ inl f ↦ fault_exact copies told d g f run can same | inr o ↦ other_exact copies told d g o run same ]
+
 -- ---- legs
 
-pub exact_from : (n : ℕ) (first : Plain) (legs : List Leg) (told : List LegLines) (d : Difference) → DiffersFrom n first legs told d
-    → IsReportOfRun first legs told → ⊥
-exact_from n first [] told d w r = w
-exact_from n first (leg ∷ legs) [] d w r = absurd w
-exact_from n first (leg ∷ []) (t ∷ told) d w r =
+pub exact_from : (n : ℕ) (first : Plain) (legs : List Leg) (copies : List Bool) (told : List LegLines) (d : Difference)
+    → DiffersFrom n first legs copies told d → IsReportOfRun first legs copies told → ⊥
+exact_from n first [] copies told d w r = w
+exact_from n first (leg ∷ legs) copies [] d w r = absurd w
+exact_from n first (leg ∷ []) copies (t ∷ told) d w r =
     let run = r.is_run in
-    let one : t ∷ told ≡ ended first leg run.0 (Some Done) ∷ [] = r.told_is ∙ ap (reported first (leg ∷ [])) run.1 in
+    let one : t ∷ told ≡ ended first leg run.0 (Some Done) ∷ [] = r.told_is ∙ ap (reported first (leg ∷ []) copies) run.1 in
     lines_exact first leg t d run.0 (Some Done) w.lines run.2 (head_is one)
-exact_from n first (leg ∷ (next ∷ legs)) (t ∷ told) d w r =
+exact_from n first (leg ∷ (next ∷ legs)) copies (t ∷ told) d w r =
     let run = r.is_run in
-    let whole : t ∷ told ≡ ended first leg run.0 (Some Migrated) ∷ reported (moved (after first run.0)) (next ∷ legs) run.1 = r.told_is
-    ∙ ap (reported first (leg ∷ (next ∷ legs))) run.2 in
-    let here : t ≡ ended first leg run.0 (Some Migrated) = head_is whole in
+    let whole : t ∷ told ≡ moved_leg first leg copies run.0 ∷ reported (moved (after first run.0)) (next ∷ legs) (drop 1 copies) run.1 = r.told_is
+    ∙ ap (reported first (leg ∷ (next ∷ legs)) copies) run.2 in
+    let here : t ≡ moved_leg first leg copies run.0 = head_is whole in
+    let end : List Entry → Option End = λ h. Some (moved_end (copies_first copies) (after first h)) in
     elim w [
-      | inl h ↦ lines_exact first leg t d run.0 (Some Migrated) h.lines run.3 here
+      | inl h ↦ lines_exact first leg t d run.0 (end run.0) h.lines run.3 here
       | inr v ↦
           elim v [
-            | inl m ↦ end_exact first leg t d run.0 (Some Migrated) m.end run.3 run.4 here
+            | inl m ↦ end_exact first leg copies t d run.0 m.end run.3 run.4 here
             | inr x ↦
-                let same : run.0 ≡ x.0 = same_history first leg t x.0 run.0 (Some Migrated) (Some Migrated) x.1.is_run run.3 x.1.right here in
-                let later : IsReportOfRun (moved (after first run.0)) (next ∷ legs) told = record {
+                let same : run.0 ≡ x.0 = same_history first leg t x.0 run.0 (end x.0) (end run.0) x.1.is_run run.3 x.1.right here in
+                let later : IsReportOfRun (moved (after first run.0)) (next ∷ legs) (drop 1 copies) told = record {
                   histories = run.1;
                   is_run = run.5;
                   told_is = tail_is whole;
                 } in
-                exact_from (n + 1) (moved (after first x.0)) (next ∷ legs) told d x.2
-                (subst (λ (h : List Entry). IsReportOfRun (moved (after first h)) (next ∷ legs) told) same later)
+                exact_from (n + 1) (moved (after first x.0)) (next ∷ legs) (drop 1 copies) told d x.2
+                (subst (λ (h : List Entry). IsReportOfRun (moved (after first h)) (next ∷ legs) (drop 1 copies) told) same later)
           ]
     ]

@@ -7,5 +7,6 @@ pub mod Exact
 pub mod Counting
 pub mod Entries
 pub mod Texts
+pub mod Ends
 pub mod Redistributors
 pub mod Checked

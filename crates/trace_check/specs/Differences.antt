@@ -1,5 +1,5 @@
 -- The first line of a report that isn't that of a run: the lines before it are right, and this one isn't.
-use Rattle.std.specs.Prelude.{◌≡◌, ◌≢◌, ◌⊎◌, ℕ, ◌+◌, ◌<◌, List, [], ◌∷◌, ◌++◌, length, map, codes, Some, Err}
+use Rattle.std.specs.Prelude.{◌≡◌, ◌≢◌, ◌⊎◌, ℕ, ◌+◌, ◌<◌, Bool, List, [], ◌∷◌, ◌++◌, length, map, drop, codes, Some, Err}
 use Rattle.its_plain.specs.Plain.{Plain}
 use Rattle.its_plain.specs.History.{after}
 use Rattle.its_plain.specs.Regions.{savable}
@@ -8,10 +8,11 @@ use Rattle.its_plain.specs.Saved.{IsSavable, moved}
 use Rattle.its_plain.specs.declared.call.Entry.{Entry}
 use Rattle.its_plain.specs.declared.fault.SaveFault.{SaveFault}
 use Rattle.its_history.specs.Histories.{Seat, seat_of, history_lines}
-use Rattle.its_history.specs.Report.{told_text, vcpu_text, pending_text}
-use Rattle.its_history.specs.Reports.{thread_counts, pending_lists, ended}
+use Rattle.its_history.specs.ReadBack.{EndsBefore}
+use Rattle.its_history.specs.Report.{told_text, vcpu_text, pending_text, end_text}
+use Rattle.its_history.specs.Reports.{thread_counts, pending_lists, ended, copies_first, moved_end, moved_leg}
 use Rattle.its_history.specs.Texts.{answered_text, save_fault_text}
-use Rattle.its_history.specs.declared.trace.End.TheVariants.{Migrated}
+use Rattle.its_history.specs.declared.trace.End.{End}
 use Rattle.its_history.specs.declared.trace.EntryLine.{EntryLine}
 use Rattle.its_history.specs.declared.trace.Leg.{Leg as LegLines}
 use Rattle.trace_check.specs.declared.verdict.Difference.{Difference}
@@ -95,16 +96,33 @@ pub record PendingDiffers (first : Plain) (leg : Leg) (told : LegLines) (d : Dif
   pub said : d.said ≡ vcpu_text (length before) said_text
   pub is_line : d.is ≡ vcpu_text (length before) is_text
 
--- all lines but the last are right, but the state at the end can't be saved
-pub record CannotMigrate (first : Plain) (leg : Leg) (told : LegLines) (d : Difference) : Type 0 where
+-- ---- the last line, of a leg before another: copies tell of each migration, from the leg's on, whether pages are copied before it
+
+-- all lines but the last are right, and the last is as such a leg may end, but the state at the end can't be saved
+pub record CannotMigrate (first : Plain) (leg : Leg) (copies : List Bool) (told : LegLines) (d : Difference) : Type 0 where
   pub history : List Entry
   pub is_run : IsLegRun first leg history
-  pub right : told ≡ ended first leg history (Some Migrated)
+  pub end : End
+  pub ends : EndsBefore (Some (copies_first copies)) (Some end)
+  pub right : told ≡ ended first leg history (Some end)
   pub place : d.place ≡ length history
-  pub said : d.said ≡ codes "migrated"
+  pub said : d.said ≡ end_text end
   pub fault : SaveFault
   pub not_savable : savable (after first history) ≡ Err fault
   pub is_fault : d.is ≡ codes "save-fault " ++ save_fault_text fault
+
+-- the same, and the state can be saved, but the last line isn't that of its migration: another number of pages was copied
+pub record EndDiffers (first : Plain) (leg : Leg) (copies : List Bool) (told : LegLines) (d : Difference) : Type 0 where
+  pub history : List Entry
+  pub is_run : IsLegRun first leg history
+  pub is_savable : IsSavable (after first history)
+  pub end : End
+  pub ends : EndsBefore (Some (copies_first copies)) (Some end)
+  pub right : told ≡ ended first leg history (Some end)
+  pub differs : end ≢ moved_end (copies_first copies) (after first history)
+  pub place : d.place ≡ length history
+  pub said : d.said ≡ end_text end
+  pub is_line : d.is ≡ end_text (moved_end (copies_first copies) (after first history))
 
 -- ---- legs
 
@@ -113,9 +131,9 @@ abbrev pub LinesDiffer : Plain → Leg → LegLines → Difference → Type 0
 LinesDiffer first leg told d = EntryDiffers first leg told d ⊎ (EndsEarly first leg told d ⊎ PendingDiffers first leg told d)
 
 -- a leg before another is right, and ends with a migration
-pub record IsRightLeg (first : Plain) (leg : Leg) (told : LegLines) (h : List Entry) : Type 0 where
+pub record IsRightLeg (first : Plain) (leg : Leg) (copies : List Bool) (told : LegLines) (h : List Entry) : Type 0 where
   pub is_run : IsLegRun first leg h
-  pub right : told ≡ ended first leg h (Some Migrated)
+  pub right : told ≡ moved_leg first leg copies h
   pub savable : IsSavable (after first h)
 
 -- the difference is in this leg
@@ -123,18 +141,18 @@ pub record IsHere (n : ℕ) (first : Plain) (leg : Leg) (told : LegLines) (d : D
   pub leg_is : d.leg ≡ n
   pub lines : LinesDiffer first leg told d
 
-pub record IsAtEnd (n : ℕ) (first : Plain) (leg : Leg) (told : LegLines) (d : Difference) : Type 0 where
+pub record IsAtEnd (n : ℕ) (first : Plain) (leg : Leg) (copies : List Bool) (told : LegLines) (d : Difference) : Type 0 where
   pub leg_is : d.leg ≡ n
-  pub end : CannotMigrate first leg told d
+  pub end : CannotMigrate first leg copies told d ⊎ EndDiffers first leg copies told d
 
 -- the first difference of legs that are counted from n on
-abbrev pub DiffersFrom : ℕ → Plain → List Leg → List LegLines → Difference → Type 0
-DiffersFrom n first [] told d = ⊥
-DiffersFrom n first (leg ∷ legs) [] d = ⊥
-DiffersFrom n first (leg ∷ []) (t ∷ told) d = IsHere n first leg t d
-DiffersFrom n first (leg ∷ (next ∷ legs)) (t ∷ told) d =
-    IsHere n first leg t d ⊎ (IsAtEnd n first leg t d
-    ⊎ ((h : List Entry) × IsRightLeg first leg t h × DiffersFrom (n + 1) (moved (after first h)) (next ∷ legs) told d))
+abbrev pub DiffersFrom : ℕ → Plain → List Leg → List Bool → List LegLines → Difference → Type 0
+DiffersFrom n first [] copies told d = ⊥
+DiffersFrom n first (leg ∷ legs) copies [] d = ⊥
+DiffersFrom n first (leg ∷ []) copies (t ∷ told) d = IsHere n first leg t d
+DiffersFrom n first (leg ∷ (next ∷ legs)) copies (t ∷ told) d =
+    IsHere n first leg t d ⊎ (IsAtEnd n first leg copies t d
+    ⊎ ((h : List Entry) × IsRightLeg first leg copies t h × DiffersFrom (n + 1) (moved (after first h)) (next ∷ legs) (drop 1 copies) told d))
 
-abbrev pub IsDifference : Plain → List Leg → List LegLines → Difference → Type 0
-IsDifference first legs told d = DiffersFrom 1 first legs told d
+abbrev pub IsDifference : Plain → List Leg → List Bool → List LegLines → Difference → Type 0
+IsDifference first legs copies told d = DiffersFrom 1 first legs copies told d

@@ -1,5 +1,5 @@
 -- The outcome of the check of a line, of the entries of a leg, and of a leg.
-use Rattle.std.specs.Prelude.{◌≡◌, ◌≢◌, ◌⊎◌, ℕ, List, ◌∷◌, ◌++◌, length, codes, Some, None, Err}
+use Rattle.std.specs.Prelude.{◌≡◌, ◌≢◌, ◌⊎◌, ℕ, Bool, List, ◌∷◌, ◌++◌, length, codes, Option, Some, None, Result, Ok, Err}
 use Rattle.its_plain.specs.Plain.{Plain}
 use Rattle.its_plain.specs.Answer.{answer}
 use Rattle.its_plain.specs.History.{after}
@@ -9,8 +9,12 @@ use Rattle.its_plain.specs.Saved.{IsSavable, moved}
 use Rattle.its_plain.specs.declared.call.Call.{Call}
 use Rattle.its_plain.specs.declared.call.Entry.{Entry}
 use Rattle.its_plain.specs.declared.fault.SaveFault.{SaveFault}
-use Rattle.its_history.specs.Report.{told_text, vcpu_text}
+use Rattle.its_plain.specs.declared.fault.SaveError.{SaveError}
+use Rattle.its_plain.specs.declared.fault.SaveError.TheVariants as errors
+use Rattle.its_history.specs.Report.{told_text, vcpu_text, end_text}
+use Rattle.its_history.specs.Reports.{moved_end}
 use Rattle.its_history.specs.Texts.{answered_text, save_fault_text}
+use Rattle.its_history.specs.declared.trace.End.{End}
 use Rattle.its_history.specs.declared.trace.EntryLine.{EntryLine}
 use Rattle.its_history.specs.declared.trace.Leg.{Leg as LegLines}
 use Rattle.trace_check.specs.Cursors.{Progress, next_call, taken}
@@ -83,14 +87,38 @@ pub record EntriesDiffer (n : ℕ) (first : Plain) (leg : Leg) (entries : List E
 
 -- ---- migrations
 
-pub record IsMigrated (u w : Plain) : Type 0 where
+-- a migration, before which pages may be copied: the state moved, and how the leg ended, or why it can't be saved
+abbrev pub Moves : Bool → Result End SaveError → Plain → Plain → Type 0
+Moves copies (Ok end) u w = (savable u ≡ Ok tt) × (w ≡ moved u) × (end ≡ moved_end copies u)
+Moves copies (Err (errors.Fault f)) u w = savable u ≡ Err f
+Moves copies (Err errors.NoMemory) u w = Unit {0}
+
+-- the last line is right
+pub record IsMigrated (copies : Bool) (end : Option End) (u w : Plain) : Type 0 where
   pub is_savable : IsSavable u
   pub now : w ≡ moved u
+  pub end_is : end ≡ Some (moved_end copies u)
 
-pub record IsFault (n place : ℕ) (u : Plain) (d : Difference) : Type 0 where
-  pub leg_is : d.leg ≡ n
-  pub place_is : d.place ≡ place
-  pub said : d.said ≡ codes "migrated"
+-- the state can't be saved
+pub record IsFault (u : Plain) (is : List ℕ) : Type 0 where
   pub fault : SaveFault
   pub not_savable : savable u ≡ Err fault
-  pub is_fault : d.is ≡ codes "save-fault " ++ save_fault_text fault
+  pub is_fault : is ≡ codes "save-fault " ++ save_fault_text fault
+
+-- the last line isn't that of the migration
+pub record IsOtherEnd (copies : Bool) (end : End) (u : Plain) (is : List ℕ) : Type 0 where
+  pub is_savable : IsSavable u
+  pub differs : end ≢ moved_end copies u
+  pub is_line : is ≡ end_text (moved_end copies u)
+
+-- the last line isn't right
+pub record IsEndOther (copies : Bool) (told : Option End) (u : Plain) (said is : List ℕ) : Type 0 where
+  pub end : End
+  pub told_is : told ≡ Some end
+  pub said_is : said ≡ end_text end
+  pub wrong : IsFault u is ⊎ IsOtherEnd copies end u is
+
+pub record IsEndWrong (n place : ℕ) (copies : Bool) (told : Option End) (u : Plain) (d : Difference) : Type 0 where
+  pub leg_is : d.leg ≡ n
+  pub place_is : d.place ≡ place
+  pub line : IsEndOther copies told u d.said d.is

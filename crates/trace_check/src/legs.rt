@@ -1,15 +1,14 @@
 //! All legs of a report.
-ghost use Rattle.std.specs.Prelude.{◌≡◌, IfOk, IfSome, IfNone, length};
+ghost use Rattle.std.specs.Prelude.{IfOk, length};
 ghost use Rattle.its_history.specs.ReadBack.{HasShape};
 ghost use Rattle.trace_check.specs.Differences.{IsDifference};
-ghost use Rattle.trace_check.specs.Steps.{IsMigrated, IsFault};
-ghost use Rattle.trace_check.specs.Verdicts.{IfAgrees, IfDiffers, IsReportOfRun};
+ghost use Rattle.trace_check.specs.Verdicts.{IfAgrees, IfDiffers, IsReportOfRun, copies_of};
 
+use crate::end::{check_end, copies_at};
 use crate::leg::check_leg;
-use crate::verdict::{Difference, Verdict};
-use event_script::Leg;
-use its_history::{Text, Trace, reply_text};
-use its_plain::{Reply, SaveError};
+use crate::verdict::Verdict;
+use event_script::{Leg, Move};
+use its_history::Trace;
 use owned_machine::Machine;
 use std::alloc::{AllocError, Global};
 
@@ -20,17 +19,21 @@ pub fn check(
     alloc: Global,
     machine: Machine,
     legs: &[Leg],
+    moves: &[Move],
     trace: &Trace,
 ) -> Result<Verdict, AllocError>
-    requires { HasShape (length machine.redistributors) (length legs.now) trace.now.legs }
+    requires { HasShape (length machine.redistributors) (length legs.now) (copies_of moves.now)
+        trace.now.legs }
     ensures agrees { IfOk result (λ v.
-        IfAgrees v (IsReportOfRun machine legs.now trace.now.legs)) }
+        IfAgrees v (IsReportOfRun machine legs.now (copies_of moves.now) trace.now.legs)) }
     ensures differs { IfOk result (λ v.
-        IfDiffers v (λ d. IsDifference machine legs.now trace.now.legs d)) }
+        IfDiffers v (λ d.
+        IsDifference machine legs.now (copies_of moves.now) trace.now.legs d)) }
 
     // So `Agrees` comes exactly where the report is that of a run.
     ensures exact { IfOk result (λ v.
-        IfDiffers v (λ _. ¬ IsReportOfRun machine legs.now trace.now.legs)) }
+        IfDiffers v (λ _.
+        ¬ IsReportOfRun machine legs.now (copies_of moves.now) trace.now.legs)) }
 {
     let mut machine = machine;
     let lines = trace.legs.as_slice();
@@ -41,34 +44,11 @@ pub fn check(
             return Ok(Verdict::Differs(difference));
         }
         if index + 1 < legs.len() {
-            let place = told.entries.len() as u64;
-            if let Some(difference) = migrate(alloc, &mut machine, number, place)? {
+            let copies = copies_at(moves, index);
+            if let Some(difference) = check_end(alloc, &mut machine, number, copies, told)? {
                 return Ok(Verdict::Differs(difference));
             }
         }
     }
     Ok(Verdict::Agrees)
-}
-
-/// Migrates the machine after a leg with so many entries, or tells that it can't.
-#[tactic(auto, unfolding(its_history::specs::Texts::reply_text))]
-fn migrate(
-    alloc: Global,
-    machine: &mut Machine,
-    number: u64,
-    place: u64,
-) -> Result<Option<Difference>, AllocError>
-    ensures right { IfOk result (λ r. IfNone r (IsMigrated machine.old machine.new)) }
-    ensures wrong { IfOk result (λ r. IfSome r (λ d. IsFault number place machine.old d)) }
-{
-    match machine.migrate(alloc) {
-        Ok(()) => Ok(None),
-        Err(SaveError::NoMemory) => Err(AllocError),
-        Err(SaveError::Fault(fault)) => Ok(Some(Difference {
-            leg: number,
-            place,
-            said: Text::new(String::from_str(alloc, "migrated")?),
-            is: reply_text(alloc, &Reply::SaveFault(fault))?,
-        })),
-    }
 }

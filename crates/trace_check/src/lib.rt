@@ -2,6 +2,7 @@
 #![tactic(auto)]
 
 mod cursor;
+mod end;
 mod entry;
 mod leg;
 mod legs;

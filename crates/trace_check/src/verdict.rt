@@ -1,3 +1,4 @@
+//! The outcome of a check of a report.
 use its_history::Text;
 
 /// The outcome of a check of a report.
