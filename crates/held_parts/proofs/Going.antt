@@ -1,34 +1,69 @@
 -- What a pass knows after it tried turns, took parts, and put them home.
-use Rattle.std.proofs.Common.{◌≡◌, List, [], ◌∷◌, refl, ap, sym, ◌∙◌, subst, arith, le_refl}
+use Rattle.std.proofs.Common.{◌≡◌, ◌<◌, List, [], ◌∷◌, refl, ap, sym, ◌∙◌, subst, arith, le_refl}
 use Rattle.std.specs.List.{AllByRecursion}
 use mathlib.Core.List.{IsPrefix}
+use mathlib.Core.Option.{some}
 use Rattle.its_types.specs.declared.machine.Part.{Part}
 use Rattle.its_types.specs.declared.machine.Word.{Word}
 use Rattle.its_steps.specs.Contents.{Content, Held}
 use Rattle.its_steps.specs.Good.{Holds}
-use Rattle.its_steps.specs.World.{View, Tries, took, out, lost_to}
+use Rattle.its_steps.specs.Parts.{Setup}
+use Rattle.its_plain.specs.History.{after}
+use Rattle.its_steps.specs.MayCommit.{IsRight}
+use Rattle.its_steps.specs.World.{View, Tries, loaded, took, out, lost_to}
 use Rattle.its_steps.specs.declared.commit.Commit.{Commit}
-use Rattle.its_turns.specs.Calls.{Stays, IsPlaced, GotOnly, GoesOn, Makes, IsMade}
-use Rattle.its_turns.specs.Steps.{IsBusy, TakesPart}
-use Rattle.its_turns.specs.Told.{Looks, IsLone}
+use Rattle.its_turns.specs.Calls.{Stays, IsPlaced, GotOnly, GoesOn, HasLooked, Makes, IsLost, IsMade}
+use Rattle.its_turns.specs.Steps.{IsBusy, Takes}
+use Rattle.its_turns.specs.Told.{Looks, IsLone, HasStood}
 use Rattle.its_turns.specs.declared.turns.Busy.{Busy}
+use Rattle.its_steps.proofs.Lists.{prefix_self, prefix_through}
 use Rattle.its_turns.proofs.Telling.{goes_first, goes_looked, stays_from, lone_on, makes_from, placed_from, got_first, got_more}
-use Rattle.held_parts.specs.Taking.{Waits, TakesInTime, TakesOnly, Goes, WasMade, holding}
+use Rattle.its_turns.specs.Contents.{content_of, IsFit}
+use Rattle.its_turns.specs.declared.attempts.Lost.{Lost}
+use Rattle.its_turns.specs.declared.attempts.Lost.TheVariants as lost
+use Rattle.its_turns.specs.declared.value.Value.{Value}
+use Rattle.held_parts.specs.Taking.{LostNone, Waits, TakesInTime, TakesValue, TakesOnly, Goes, Loses, WasMade, holding}
 
 -- ---- waiting for one turn
 
 pub waits_first : (v : View) → Waits v v
-waits_first v = record { same = refl; won = refl; lost = le_refl v.tries.lost }
+waits_first v = record { same = refl; won = refl; lost = le_refl v.tries.lost; alone = λ lone. refl }
 
 pub waits_more : (v w x : View) (p : Part) (b : Busy) → Waits v w → IsBusy w p b x → Waits v x
 waits_more v w x p b before busy = subst (Waits v) (sym busy.view)
-    record { same = ap (λ (y : View). record y { tries = lost_to w.tries p b.holder }) before.same; won = before.won; lost = omega (arith, before.lost) }
+    record {
+      same = ap (λ (y : View). record y { tries = lost_to w.tries p b.holder }) before.same;
+      won = before.won;
+      lost = omega (arith, before.lost);
+      alone = λ lone. absurd (busy.out (subst IsLone (sym (before.alone lone)) lone));
+    }
 
 pub waits_free : (v w : View) (p : Part) → Waits v w → (Holds p v.held → ⊥) → Holds p w.held → ⊥
 waits_free v w p waits free holds = free (subst (Holds p) (ap (λ (y : View). y.held) waits.same) holds)
 
-pub takes_in_time : (v w x : View) (p : Part) (c : Content) → Waits v w → TakesPart w p c x → TakesInTime v p c x
-takes_in_time v w x p c waits takes = record { waited = w; waits = waits; takes = takes }
+module _ (v w x : View) (p : Part) (y : Value) (waits : Waits v w) (takes : Takes w p y x) where
+  same_setup : w.setup ≡ v.setup
+  same_setup = ap (λ (z : View). z.setup) waits.same
+
+  pub takes_value : TakesValue v p y x
+  takes_value = record {
+    content = takes.content;
+    content_is = takes.content_is;
+    fit = subst (λ (s : Setup). IsFit s y) same_setup takes.fit;
+    takes = record { waited = w; waits = waits; takes = record { view = takes.view; stood = takes.stood } };
+    stood = subst (λ (s : Setup). HasStood s p takes.content) same_setup takes.stood;
+  }
+
+-- a value of this content
+pub takes_as : (v x : View) (p : Part) (y : Value) (c : Content) → content_of y ≡ some c → TakesValue v p y x → TakesInTime v p c x
+takes_as v x p y c is t = subst (λ (d : Content). TakesInTime v p d x) (same_some t.content c (sym t.content_is ∙ is)) t.takes
+  where
+    same_some : (a b : Content) → some a ≡ some b → a ≡ b
+    same_some a b e = cc
+
+-- alone the turn was got at once
+pub took_alone : (v x : View) (p : Part) (c : Content) → TakesInTime v p c x → IsLone v → x ≡ took v p c
+took_alone v x p c t lone = t.takes.view ∙ ap (λ (y : View). took y p c) (t.waits.alone lone)
 
 pub took_held : (v x : View) (p : Part) (c : Content) → TakesInTime v p c x → x.held ≡ out p c ∷ v.held
 took_held v x p c t = ap (λ (y : View). y.held) t.takes.view ∙ ap (λ (l : List Held). out p c ∷ l) (ap (λ (y : View). y.held) t.waits.same)
@@ -47,10 +82,10 @@ module _ (P Q : Part → Type 0) (wider : (p : Part) → P p → Q p) where
   got_wider v w g = record { got = g.got; won = g.won; only = all_wider g.got g.only; lost = g.lost }
 
   pub takes_wider : (v w : View) → TakesOnly P v w → TakesOnly Q v w
-  takes_wider v w t = record { same = t.same; got = got_wider v w t.got }
+  takes_wider v w t = record { same = t.same; got = got_wider v w t.got; alone = t.alone }
 
   pub goes_wider : (v w : View) → Goes P v w → Goes Q v w
-  goes_wider v w t = record { on = t.on; got = got_wider v w t.got }
+  goes_wider v w t = record { on = t.on; got = got_wider v w t.got; still = t.still }
 
 module _ (P : Part → Type 0) where
   pub got_then : (v w x : View) → GotOnly P v w → GotOnly P w x → GotOnly P v x
@@ -63,7 +98,7 @@ module _ (P : Part → Type 0) where
   -- ---- parts that are taken
 
   pub takes_first : (v : View) → TakesOnly P v v
-  takes_first v = record { same = refl; got = got_first P v }
+  takes_first v = record { same = refl; got = got_first P v; alone = λ lone. refl }
 
   pub takes_one : (v x : View) (p : Part) (c : Content) → P p → TakesInTime v p c x → TakesOnly P v x
   takes_one v x p c is t = record {
@@ -75,18 +110,20 @@ module _ (P : Part → Type 0) where
       only = (is, tt);
       lost = let e = ap (λ (y : View). y.tries.lost) t.takes.view in omega (arith, e, t.waits.lost);
     };
+    alone = λ lone. subst (LostNone v) (sym (took_alone v x p c t lone)) refl;
   }
 
   pub takes_then : (v w x : View) → TakesOnly P v w → TakesOnly P w x → TakesOnly P v x
   takes_then v w x a b = record {
     same = b.same ∙ ap (λ (y : View). record y { held = x.held; cache = x.cache; tries = x.tries }) a.same;
     got = got_then v w x a.got b.got;
+    alone = λ lone. b.alone (subst IsLone (sym a.same) lone) ∙ ap (λ (t : Tries). record t { won = x.tries.won }) (a.alone lone);
   }
 
   -- ---- a call that goes on
 
   pub going_first : (v : View) → Goes P v v
-  going_first v = record { on = goes_first v; got = got_first P v }
+  going_first v = record { on = goes_first v; got = got_first P v; still = λ lone. refl }
 
   pub going_takes : (v w x : View) → Goes P v w → TakesOnly P w x → Goes P v x
   going_takes v w x g t = record {
@@ -97,17 +134,35 @@ module _ (P : Part → Type 0) where
       tries = refl;
     };
     got = got_then v w x g.got t.got;
+    still = λ lone. ap (λ (y : View). y.seen) t.same ∙ g.still lone;
   }
 
   pub going_looked : (v w x : View) (z : Word) → Goes P v w → Looks w z x → Goes P v x
   going_looked v w x z g looks =
       let same : x.tries ≡ w.tries = ap (λ (y : View). y.tries) looks.same in
-      record { on = subst (λ (t : Tries). GoesOn v t x) (sym same) (goes_looked v w w.tries g.on x z looks); got = got_none v w x g.got same }
+      record {
+        on = subst (λ (t : Tries). GoesOn v t x) (sym same) (goes_looked v w w.tries g.on x z looks);
+        got = got_none v w x g.got same;
+        still = λ lone. looks.still (lone_on v w w.tries g.on lone) ∙ g.still lone;
+      }
 
   pub going_home : (v w x : View) (left : List Held) → Goes P v w → x ≡ holding w left → Goes P v x
   going_home v w x left g e = subst (Goes P v) (sym e) record {
     on = record { same = ap (λ (y : View). holding y left) g.on.same; longer = g.on.longer; tries = refl };
     got = record { got = g.got.got; won = g.got.won; only = g.got.only; lost = g.got.lost };
+    still = g.still;
+  }
+
+  -- one after the other
+  pub going_then : (v w x : View) → Goes P v w → Goes P w x → Goes P v x
+  going_then v w x a b = record {
+    on = record {
+      same = b.on.same ∙ ap (λ (y : View). record y { seen = x.seen; last = x.last; held = x.held; cache = x.cache; tries = x.tries }) a.on.same;
+      longer = prefix_through v.seen w.seen x.seen a.on.longer b.on.longer;
+      tries = refl;
+    };
+    got = got_then v w x a.got b.got;
+    still = λ lone. b.still (lone_on v w w.tries a.on lone) ∙ a.still lone;
   }
 
   -- it ends without having been made
@@ -116,6 +171,47 @@ module _ (P : Part → Type 0) where
 
   pub going_lone : (v w : View) → Goes P v w → IsLone v → IsLone w
   going_lone v w g alone = lone_on v w w.tries g.on alone
+
+  -- what it read later it read, though it held nothing at first
+  pub going_read : (v w y z : View) (word : Word) → Goes P v w → v.held ≡ [] → HasLooked w word y → IsPrefix y.seen z.seen → HasLooked v word z
+  going_read v w y z word g bare has longer =
+      let a : Looks (record v { seen = w.seen; last = w.last; held = w.held; cache = w.cache; tries = w.tries }) word has.mid =
+      subst (λ (u : View). Looks u word has.mid) g.on.same has.looks in
+      record {
+        mid = loaded v word has.mid.seen;
+        looks = record {
+          same = refl;
+          longer = prefix_through v.seen w.seen has.mid.seen g.on.longer a.longer;
+          told = a.told;
+          legal = a.legal;
+          mine = a.mine;
+          place = a.place;
+          within = a.within;
+          machine = a.machine;
+          right = subst (λ (l : List Held). AllByRecursion (IsRight v.setup word (after v.setup.start has.mid.seen)) l) (sym bare) tt;
+          still = λ lone. a.still lone ∙ g.still lone;
+          others = λ root. let k = a.others root in record { given = k.given; whole = k.whole; joined = k.joined };
+        };
+        before = prefix_through has.mid.seen y.seen z.seen has.before longer;
+      }
+
+  -- so it lost, though it held nothing at first
+  module _ (v x : View) (g : Goes P v x) (bare : v.held ≡ []) where
+    own_setup : x.setup ≡ v.setup
+    own_setup = ap (λ (y : View). y.setup) g.on.same
+
+    pub going_lost : (l : Lost) (z : View) → IsLost x l z → Loses v l z
+    going_lost lost.Spent z spent = (
+      going_read v x z z z.last g bare (record { mid = z; looks = spent.0; before = prefix_self z.seen }) (prefix_self z.seen),
+      spent.0.place ∙ (spent.1 ∙ ap (λ (s : Setup). s.limits.place_last) own_setup),
+    )
+    going_lost (lost.Raced r) z raced = record {
+      room = subst (λ (s : Setup). r.expected.place < s.limits.place_last) own_setup raced.1;
+      later = raced.2;
+      read = going_read v x z z r.expected g bare raced.4 (prefix_self z.seen);
+      last = ap (λ (y : View). y.last) raced.0.same;
+      out = λ lone. raced.3 (lone_on v x x.tries g.on lone);
+    }
 
   -- ---- a call that is made
 
@@ -143,3 +239,14 @@ module _ (P : Part → Type 0) where
 
   pub made_placed : (v w : View) (a : Commit) → WasMade P v a w → w.held ≡ v.held → IsPlaced v a.call a.reply a.expected.place w
   made_placed v w a m held = placed_from v w w.tries a m.made held
+
+-- a call that lost, once parts went home
+pub loses_home : (v : View) (l : Lost) (z : View) (left : List Held) → Loses v l z → Loses v l (holding z left)
+loses_home v lost.Spent z left l = (record { mid = l.0.mid; looks = l.0.looks; before = l.0.before }, l.1)
+loses_home v (lost.Raced r) z left l = record {
+  room = l.room;
+  later = l.later;
+  read = record { mid = l.read.mid; looks = l.read.looks; before = l.read.before };
+  last = l.last;
+  out = l.out;
+}

@@ -4,3 +4,5 @@ pub mod RedistRows
 pub mod ShardRows
 pub mod RedistLoops
 pub mod ShardLoops
+pub mod Lists
+pub mod Wholes

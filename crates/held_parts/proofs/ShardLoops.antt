@@ -11,26 +11,26 @@ use Rattle.held_parts.proofs.InRows.{row_agrees, row_none, row_first}
 use Rattle.held_parts.proofs.ShardRows.{shard_above}
 
 -- the first n are in hand, taken since some parts were held
-pub record AreTaken (n : ℕ) (shards : List (Option Ways)) (before now : List Held) : Type 0 where
-  pub held : now ≡ shards_held shards n before
+pub record AreTaken (its n : ℕ) (shards : List (Option Ways)) (before now : List Held) : Type 0 where
+  pub held : now ≡ shards_held its shards n before
   pub hand : AreShards n shards
 
 none_of : (o : Option Ways) → is_some o ≡ false → o ≡ None
 none_of None e = refl
 none_of (Some ways) e = absurd cc
 
-pub none_taken : (shards : List (Option Ways)) (xs : List Held) → AreNoShards shards → AreTaken 0 shards xs xs
-none_taken shards xs none = record {
-  held = sym (row_none (shard_row shards) xs 0 refl);
+pub none_taken : (its : ℕ) (shards : List (Option Ways)) (xs : List Held) → AreNoShards shards → AreTaken its 0 shards xs xs
+none_taken its shards xs none = record {
+  held = sym (row_none (shard_row its shards) xs 0 refl);
   hand = λ k. ap (λ (o : Option Ways). is_some o) (none k)
       ∙ sym (le-ltb k 0 (omega arith));
 }
 
-module _ (n m : ℕ) (shards : List (Option Ways)) (before now : List Held) (h : AreTaken n shards before now) (next : m ≡ suc n) where
-  pub is_free : HoldsNoShard before → Holds (part.Shard 0 n) now → ⊥
-  is_free lacks holds = shard_above shards before n n (omega arith) (lacks n) (subst (Holds (part.Shard 0 n)) h.held holds)
+module _ (its n m : ℕ) (shards : List (Option Ways)) (before now : List Held) (h : AreTaken its n shards before now) (next : m ≡ suc n) where
+  pub is_free : HoldsNoShard its before → Holds (part.Shard its n) now → ⊥
+  is_free lacks holds = shard_above its shards before n n (omega arith) (lacks n) (subst (Holds (part.Shard its n)) h.held holds)
 
-  module _ (ways : Ways) (now' : List Held) (size : length shards ≡ 64) (lt : n < 64) (more : now' ≡ shard_held n ways ∷ now) where
+  module _ (ways : Ways) (now' : List Held) (size : length shards ≡ 64) (lt : n < 64) (more : now' ≡ shard_held its n ways ∷ now) where
     abbrev then : List (Option Ways)
     then = set shards n (Some ways)
 
@@ -40,12 +40,12 @@ module _ (n m : ℕ) (shards : List (Option Ways)) (before now : List Held) (h :
     others : (k : ℕ) → k ≢ n → in_place then k ≡ in_place shards k
     others k ne = get_or-set_other shards n k (Some ways) None ne
 
-    pub one_taken : AreTaken m then before now'
+    pub one_taken : AreTaken its m then before now'
     one_taken = record {
       held = more
-          ∙ (ap (λ (l : List Held). (let y : List Held = shard_held n ways ∷ l in y)) (h.held ∙ row_agrees (shard_row shards) (shard_row then) before n
-          (λ k less. ap (held_if_in k) (sym (others k (λ e. omega (arith, less, e))))))
-          ∙ sym (row_first (shard_row then) before m n (shard_held n ways) next (ap (held_if_in n) here)));
+          ∙ (ap (λ (l : List Held). (let y : List Held = shard_held its n ways ∷ l in y)) (h.held
+          ∙ row_agrees (shard_row its shards) (shard_row its then) before n (λ k less. ap (held_if_in its k) (sym (others k (λ e. omega (arith, less, e))))))
+          ∙ sym (row_first (shard_row its then) before m n (shard_held its n ways) next (ap (held_if_in its n) here)));
       hand = λ k. elim (cases_lt k n) [
         | inl below ↦ ap (λ (o : Option Ways). is_some o) (others k (λ e. omega (arith, below, e)))
             ∙ (h.hand k ∙ (lt-ltb k n below ∙ sym (lt-ltb k m (omega (arith, below, next)))))
@@ -56,9 +56,9 @@ module _ (n m : ℕ) (shards : List (Option Ways)) (before now : List Held) (h :
       ];
     }
 
-pub all_taken : (n m : ℕ) (shards : List (Option Ways)) (before now : List Held) → n ≡ m → AreTaken n shards before now → (now ≡ shards_held shards m before)
-    × AreShards m shards
-all_taken n m shards before now is h = (h.held ∙ ap (λ (k : ℕ). shards_held shards k before) is, subst (λ (k : ℕ). AreShards k shards) is h.hand)
+pub all_taken : (its n m : ℕ) (shards : List (Option Ways)) (before now : List Held) → n ≡ m → AreTaken its n shards before now
+    → (now ≡ shards_held its shards m before) × AreShards m shards
+all_taken its n m shards before now is h = (h.held ∙ ap (λ (k : ℕ). shards_held its shards k before) is, subst (λ (k : ℕ). AreShards k shards) is h.hand)
 
 -- ---- put home
 

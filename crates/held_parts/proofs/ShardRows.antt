@@ -1,5 +1,5 @@
--- Shards of translator 0 held in front of other parts.
-use Rattle.std.proofs.Common.{◌≡◌, ◌≢◌, ℕ, ◌<◌, ◌≤◌, true, List, Option, Some, None, refl, ap, sym, ◌∙◌, subst, arith}
+-- Shards of a translator held in front of other parts.
+use Rattle.std.proofs.Common.{◌≡◌, ◌≢◌, ℕ, ◌<◌, ◌≤◌, Bool, true, cond, List, Option, Some, None, refl, ap, sym, ◌∙◌, subst, arith, eq-eqb}
 use Rattle.std.proofs.lemmas.Bool.{lt-ltb}
 use Rattle.std.specs.Prelude.{is_some}
 use Rattle.std.specs.List.{AllByRecursion}
@@ -22,20 +22,20 @@ use Rattle.held_parts.proofs.InRows.{row_holds, row_owes, row_has, row_lacks, ro
 
 -- ---- what stands in the row
 
-pub record IsInPlace (shards : List (Option Ways)) (k : ℕ) (x : Held) : Type 0 where
+pub record IsInPlace (its : ℕ) (shards : List (Option Ways)) (k : ℕ) (x : Held) : Type 0 where
   pub ways : Ways
   pub there : in_place shards k ≡ Some ways
-  pub is : shard_held k ways ≡ x
+  pub is : shard_held its k ways ≡ x
 
-if_in_is : (k : ℕ) (o : Option Ways) (x : Held) → held_if_in k o ≡ Some x → (w : Ways) × (o ≡ Some w) × (shard_held k w ≡ x)
-if_in_is k None x e = absurd cc
-if_in_is k (Some w) x e = (w, refl, same (shard_held k w) x e)
+if_in_is : (its k : ℕ) (o : Option Ways) (x : Held) → held_if_in its k o ≡ Some x → (w : Ways) × (o ≡ Some w) × (shard_held its k w ≡ x)
+if_in_is its k None x e = absurd cc
+if_in_is its k (Some w) x e = (w, refl, same (shard_held its k w) x e)
   where
     same : (a b : Held) → Some a ≡ Some b → a ≡ b
     same a b d = cc
 
-pub in_row_is : (shards : List (Option Ways)) (k : ℕ) (x : Held) → shard_row shards k ≡ Some x → IsInPlace shards k x
-in_row_is shards k x e = let i = if_in_is k (in_place shards k) x e in record { ways = i.0; there = i.1; is = i.2 }
+pub in_row_is : (its : ℕ) (shards : List (Option Ways)) (k : ℕ) (x : Held) → shard_row its shards k ≡ Some x → IsInPlace its shards k x
+in_row_is its shards k x e = let i = if_in_is its k (in_place shards k) x e in record { ways = i.0; there = i.1; is = i.2 }
 
 number_of : Part → ℕ
 number_of (part.Redist v) = 0
@@ -43,106 +43,107 @@ number_of (part.Maps i) = 0
 number_of part.Mem = 0
 number_of (part.Shard i n) = n
 
-pub differ : (shards : List (Option Ways)) (j k : ℕ) (x y : Held) → j < k → shard_row shards j ≡ Some x → shard_row shards k ≡ Some y → x.part ≢ y.part
+pub differ : (its : ℕ) (shards : List (Option Ways)) (j k : ℕ) (x y : Held) → j < k → shard_row its shards j ≡ Some x → shard_row its shards k ≡ Some y → x.part
+    ≢ y.part
 unfolding number_of
-differ shards j k x y lt a b e =
-    let i = in_row_is shards j x a in let m = in_row_is shards k y b in
+differ its shards j k x y lt a b e =
+    let i = in_row_is its shards j x a in let m = in_row_is its shards k y b in
     let same : j ≡ k = ap (λ (h : Held). number_of h.part) i.is ∙ (ap number_of e ∙ ap (λ (h : Held). number_of h.part) (sym m.is)) in
     omega (arith, lt, same)
 
 -- ---- all that is held
 
-module _ (shards : List (Option Ways)) (others : List Held) where
-  pub shards_hold : (n : ℕ) (p : Part) → Holds p others → Holds p (shards_held shards n others)
-  shards_hold n p h = row_holds (shard_row shards) others n p h
+module _ (its : ℕ) (shards : List (Option Ways)) (others : List Held) where
+  pub shards_hold : (n : ℕ) (p : Part) → Holds p others → Holds p (shards_held its shards n others)
+  shards_hold n p h = row_holds (shard_row its shards) others n p h
 
-  pub shards_owe : (n : ℕ) (p : Part) (c : Content) → Owes p c others → Owes p c (shards_held shards n others)
-  shards_owe n p c h = row_owes (shard_row shards) others n p c h
+  pub shards_owe : (n : ℕ) (p : Part) (c : Content) → Owes p c others → Owes p c (shards_held its shards n others)
+  shards_owe n p c h = row_owes (shard_row its shards) others n p c h
 
-  pub shard_owed : (n k : ℕ) (ways : Ways) → k < n → in_place shards k ≡ Some ways → Owes (part.Shard 0 k) (Shard ways) (shards_held shards n others)
-  shard_owed n k ways lt is = row_has (shard_row shards) others n k (shard_held k ways) lt (ap (held_if_in k) is)
+  pub shard_owed : (n k : ℕ) (ways : Ways) → k < n → in_place shards k ≡ Some ways → Owes (part.Shard its k) (Shard ways) (shards_held its shards n others)
+  shard_owed n k ways lt is = row_has (shard_row its shards) others n k (shard_held its k ways) lt (ap (held_if_in its k) is)
 
-  some_held : (n k : ℕ) (o : Option Ways) → in_place shards k ≡ o → k < n → is_some o ≡ true → Holds (part.Shard 0 k) (shards_held shards n others)
+  some_held : (n k : ℕ) (o : Option Ways) → in_place shards k ≡ o → k < n → is_some o ≡ true → Holds (part.Shard its k) (shards_held its shards n others)
   some_held n k None is lt some = absurd cc
-  some_held n k (Some ways) is lt some = owes_holds (part.Shard 0 k) (Shard ways) (shards_held shards n others) (shard_owed n k ways lt is)
+  some_held n k (Some ways) is lt some = owes_holds (part.Shard its k) (Shard ways) (shards_held its shards n others) (shard_owed n k ways lt is)
 
   -- each that is in hand is held
-  pub shard_holds : (n k : ℕ) → k < n → is_some (in_place shards k) ≡ true → Holds (part.Shard 0 k) (shards_held shards n others)
+  pub shard_holds : (n k : ℕ) → k < n → is_some (in_place shards k) ≡ true → Holds (part.Shard its k) (shards_held its shards n others)
   shard_holds n k lt some = some_held n k (in_place shards k) refl lt some
 
   -- all the first n are
-  pub all_hold : (n : ℕ) → AreShards n shards → (k : ℕ) → k < n → Holds (part.Shard 0 k) (shards_held shards n others)
+  pub all_hold : (n : ℕ) → AreShards n shards → (k : ℕ) → k < n → Holds (part.Shard its k) (shards_held its shards n others)
   all_hold n are k lt = shard_holds n k lt (are k ∙ lt-ltb k n lt)
 
   -- a part that is no shard is held only where the others have it
-  pub shards_lack : (n : ℕ) (p : Part) → ((k : ℕ) → part.Shard 0 k ≢ p) → (Holds p others → ⊥) → Holds p (shards_held shards n others) → ⊥
-  shards_lack n p other lacks h = row_lacks (shard_row shards) others n p (λ k x lt is e. let i = in_row_is shards k x is in other k
+  pub shards_lack : (n : ℕ) (p : Part) → ((k : ℕ) → part.Shard its k ≢ p) → (Holds p others → ⊥) → Holds p (shards_held its shards n others) → ⊥
+  shards_lack n p other lacks h = row_lacks (shard_row its shards) others n p (λ k x lt is e. let i = in_row_is its shards k x is in other k
       (ap (λ (y : Held). y.part) i.is ∙ e)) lacks h
 
   -- nor is one of n on
-  pub shard_above : (n k : ℕ) → n ≤ k → (Holds (part.Shard 0 k) others → ⊥) → Holds (part.Shard 0 k) (shards_held shards n others) → ⊥
+  pub shard_above : (n k : ℕ) → n ≤ k → (Holds (part.Shard its k) others → ⊥) → Holds (part.Shard its k) (shards_held its shards n others) → ⊥
   unfolding number_of
-  shard_above n k le lacks h = row_lacks (shard_row shards) others n (part.Shard 0 k) (λ j x lt is e.
-      let i = in_row_is shards j x is in
+  shard_above n k le lacks h = row_lacks (shard_row its shards) others n (part.Shard its k) (λ j x lt is e.
+      let i = in_row_is its shards j x is in
       let same : j ≡ k = ap (λ (y : Held). number_of y.part) i.is ∙ ap number_of e in
       omega (arith, le, lt, same)) lacks h
 
-  pub shards_out : (n : ℕ) → AllByRecursion IsOut others → AllByRecursion IsOut (shards_held shards n others)
-  shards_out n all = row_all (shard_row shards) others IsOut n (λ k x lt is. let i = in_row_is shards k x is in ap (λ (y : Held). y.out) (sym i.is)) all
+  pub shards_out : (n : ℕ) → AllByRecursion IsOut others → AllByRecursion IsOut (shards_held its shards n others)
+  shards_out n all = row_all (shard_row its shards) others IsOut n (λ k x lt is. let i = in_row_is its shards k x is in ap (λ (y : Held). y.out) (sym i.is)) all
 
-  pub shards_apart : (n : ℕ) → HoldsNoShard others → Apart others → Apart (shards_held shards n others)
-  shards_apart n lacks apart = row_apart (shard_row shards) others n (differ shards) (λ k x is holds. let i = in_row_is shards k x is in lacks k
+  pub shards_apart : (n : ℕ) → HoldsNoShard its others → Apart others → Apart (shards_held its shards n others)
+  shards_apart n lacks apart = row_apart (shard_row its shards) others n (differ its shards) (λ k x is holds. let i = in_row_is its shards k x is in lacks k
       (subst (λ (y : Held). Holds y.part others) (sym i.is) holds)) apart
 
-  pub shards_stand : (s : Setup) (n : ℕ) → 0 < translator_count s → n ≤ s.shards → AllByRecursion (λ x. Stands s x.part) others
-      → AllByRecursion (λ x. Stands s x.part) (shards_held shards n others)
-  shards_stand s n it le all = row_all (shard_row shards) others (λ x. Stands s x.part) n (λ k x lt is.
-      let i = in_row_is shards k x is in subst (λ (y : Held). Stands s y.part) i.is (it, (let low : k < s.shards = omega (arith, lt, le) in low))) all
+  pub shards_stand : (s : Setup) (n : ℕ) → its < translator_count s → n ≤ s.shards → AllByRecursion (λ x. Stands s x.part) others
+      → AllByRecursion (λ x. Stands s x.part) (shards_held its shards n others)
+  shards_stand s n it le all = row_all (shard_row its shards) others (λ x. Stands s x.part) n (λ k x lt is.
+      let i = in_row_is its shards k x is in subst (λ (y : Held). Stands s y.part) i.is (it, (let low : k < s.shards = omega (arith, lt, le) in low))) all
 
   -- every state has them, and so all that is held where it has the others
-  pub shards_had : (u : Plain) (n : ℕ) → HasAll u others → HasAll u (shards_held shards n others)
-  shards_had u n all = row_all (shard_row shards) others (λ x. Has u x.part x.owed) n (λ k x lt is. let i = in_row_is shards k x is in subst
+  pub shards_had : (u : Plain) (n : ℕ) → HasAll u others → HasAll u (shards_held its shards n others)
+  shards_had u n all = row_all (shard_row its shards) others (λ x. Has u x.part x.owed) n (λ k x lt is. let i = in_row_is its shards k x is in subst
       (λ (y : Held). Has u y.part y.owed) i.is tt) all
 
-  pub shards_rest : (u : Plain) (n : ℕ) → HasAll u (shards_held shards n others) → HasAll u others
-  shards_rest u n all = (row_each (shard_row shards) others (λ x. Has u x.part x.owed) n all).1
+  pub shards_rest : (u : Plain) (n : ℕ) → HasAll u (shards_held its shards n others) → HasAll u others
+  shards_rest u n all = (row_each (shard_row its shards) others (λ x. Has u x.part x.owed) n all).1
 
 -- ---- after a commit
 
-gone_if : (k : ℕ) (o o' : Option Ways) → is_some o' ≡ is_some o → held_if_in k o ≡ None → held_if_in k o' ≡ None
-gone_if k None None same is = refl
-gone_if k None (Some r) same is = absurd cc
-gone_if k (Some q) o' same is = absurd cc
+gone_if : (its k : ℕ) (o o' : Option Ways) → is_some o' ≡ is_some o → held_if_in its k o ≡ None → held_if_in its k o' ≡ None
+gone_if its k None None same is = refl
+gone_if its k None (Some r) same is = absurd cc
+gone_if its k (Some q) o' same is = absurd cc
 
 emptied_some : (o : Option Ways) → is_some (emptied o) ≡ is_some o
 emptied_some None = refl
 emptied_some (Some ways) = refl
 
-module _ (s : Setup) (a : Commit) (z : Plain) (first : its_of a.call ≡ 0) where
+module _ (s : Setup) (a : Commit) (z : Plain) (its : ℕ) (own : its_of a.call ≡ its) where
   shards_renewed : (old new : List (Option Ways)) (others : List Held) (n : ℕ) → ((k : ℕ) → is_some (in_place new k) ≡ is_some (in_place old k))
-      → ((k : ℕ) (ways : Ways) → in_place old k ≡ Some ways → in_place new k ≡ Some (changed s (word_after a) a.call a.change 0 k ways))
-      → renewed s a z (shards_held old n others) ≡ shards_held new n (renewed s a z others)
+      → ((k : ℕ) (ways : Ways) → in_place old k ≡ Some ways → in_place new k ≡ Some (changed s (word_after a) a.call a.change its k ways))
+      → renewed s a z (shards_held its old n others) ≡ shards_held its new n (renewed s a z others)
   shards_renewed old new others n same each =
-      row_renewed s a z (shard_row old) (shard_row new) others n (λ k lt is. gone_if k (in_place old k) (in_place new k) (same k) is) (λ k x lt is.
-      let i = in_row_is old k x is in
-      subst (λ (y : Held). shard_row new k ≡ Some record y { owed = content_in s a z y.part y.owed }) i.is (ap (held_if_in k) (each k i.ways i.there)))
+      row_renewed s a z (shard_row its old) (shard_row its new) others n (λ k lt is. gone_if its k (in_place old k) (in_place new k) (same k) is) (λ k x lt is.
+      let i = in_row_is its old k x is in
+      subst (λ (y : Held). shard_row its new k ≡ Some record y { owed = content_in s a z y.part y.owed }) i.is (ap (held_if_in its k) (each k i.ways i.there)))
 
-  empties : (k : ℕ) (ways : Ways) → a.change ≡ Empty → changed s (word_after a) a.call a.change 0 k ways ≡ no_entries
+  empties : (k : ℕ) (ways : Ways) → a.change ≡ Empty → changed s (word_after a) a.call a.change its k ways ≡ no_entries
   unfolding changed
-  empties k ways is = rw (is, first) refl
+  empties k ways is = rw (is) (ap (λ (b : Bool). cond b no_entries ways) (eq-eqb its (its_of a.call) (sym own)))
 
-  keeps : (k : ℕ) (ways : Ways) → a.change ≡ Keep → changed s (word_after a) a.call a.change 0 k ways ≡ ways
+  keeps : (k : ℕ) (ways : Ways) → a.change ≡ Keep → changed s (word_after a) a.call a.change its k ways ≡ ways
   unfolding changed
   keeps k ways is = rw (is) refl
 
   -- they are emptied
   pub shards_emptied : (old new : List (Option Ways)) (others : List Held) (n : ℕ) → a.change ≡ Empty → AreEmptied old new
-      → renewed s a z (shards_held old n others) ≡ shards_held new n (renewed s a z others)
+      → renewed s a z (shards_held its old n others) ≡ shards_held its new n (renewed s a z others)
   shards_emptied old new others n is are =
       shards_renewed old new others n (λ k. ap (λ (o : Option Ways). is_some o) (are k) ∙ emptied_some (in_place old k))
       (λ k ways there. are k ∙ (ap emptied there ∙ ap (λ (w : Ways). Some w) (sym (empties k ways is))))
 
   -- or stay as they were
-  pub shards_kept : (shards : List (Option Ways)) (others : List Held) (n : ℕ) → a.change ≡ Keep → renewed s a z (shards_held shards n others)
-      ≡ shards_held shards n (renewed s a z others)
+  pub shards_kept : (shards : List (Option Ways)) (others : List Held) (n : ℕ) → a.change ≡ Keep → renewed s a z (shards_held its shards n others)
+      ≡ shards_held its shards n (renewed s a z others)
   shards_kept shards others n is = shards_renewed shards shards others n (λ k. refl) (λ k ways there. there ∙ ap (λ (w : Ways). Some w) (sym (keeps k ways is)))

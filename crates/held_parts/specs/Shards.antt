@@ -1,4 +1,4 @@
--- Shards of translator 0 that a pass holds.
+-- Shards of a translator that a pass holds.
 use Rattle.std.specs.Prelude.{◌≡◌, ℕ, nat_lt, is_some, Option, Some, None, List, slice_index_or}
 use Rattle.its_types.specs.declared.machine.Part.{Part}
 use Rattle.its_types.specs.declared.machine.Part.TheVariants as part
@@ -17,20 +17,20 @@ abbrev pub in_place : List (Option Ways) → ℕ → Option Ways
 in_place shards number = slice_index_or shards number None
 
 -- one of them, as it is held
-abbrev pub shard_held : ℕ → Ways → Held
-shard_held number ways = out (part.Shard 0 number) (Shard ways)
+abbrev pub shard_held : ℕ → ℕ → Ways → Held
+shard_held its number ways = out (part.Shard its number) (Shard ways)
 
-abbrev pub held_if_in : ℕ → Option Ways → Option Held
-held_if_in number None = None
-held_if_in number (Some ways) = Some (shard_held number ways)
+abbrev pub held_if_in : ℕ → ℕ → Option Ways → Option Held
+held_if_in its number None = None
+held_if_in its number (Some ways) = Some (shard_held its number ways)
 
 -- those in hand
-abbrev pub shard_row : List (Option Ways) → Row
-shard_row shards number = held_if_in number (in_place shards number)
+abbrev pub shard_row : ℕ → List (Option Ways) → Row
+shard_row its shards number = held_if_in its number (in_place shards number)
 
--- those in hand of the first n before other parts, the highest first
-abbrev pub shards_held : List (Option Ways) → ℕ → List Held → List Held
-shards_held shards n others = in_row (shard_row shards) n others
+-- those in hand of the translator's first n before other parts, the highest first
+abbrev pub shards_held : ℕ → List (Option Ways) → ℕ → List Held → List Held
+shards_held its shards n others = in_row (shard_row its shards) n others
 
 -- none is in hand
 abbrev pub AreNoShards : List (Option Ways) → Type 0
@@ -40,9 +40,9 @@ AreNoShards shards = (number : ℕ) → in_place shards number ≡ None
 abbrev pub AreShards : ℕ → List (Option Ways) → Type 0
 AreShards n shards = (number : ℕ) → is_some (in_place shards number) ≡ nat_lt number n
 
--- none is held
-abbrev pub HoldsNoShard : List Held → Type 0
-HoldsNoShard held = (number : ℕ) → ¬ Holds (part.Shard 0 number) held
+-- none of the translator's is held
+abbrev pub HoldsNoShard : ℕ → List Held → Type 0
+HoldsNoShard its held = (number : ℕ) → ¬ Holds (part.Shard its number) held
 
 abbrev pub emptied : Option Ways → Option Ways
 emptied None = None
@@ -52,7 +52,7 @@ emptied (Some ways) = Some no_entries
 abbrev pub AreEmptied : List (Option Ways) → List (Option Ways) → Type 0
 AreEmptied old new = (number : ℕ) → in_place new number ≡ emptied (in_place old number)
 
--- the part is a shard of translator 0
-abbrev pub IsShardOfFirst : Part → Type 0
-IsShardOfFirst (part.Shard its number) = its ≡ 0
-IsShardOfFirst p = ⊥
+-- the part is a shard of this translator
+abbrev pub IsShardOf : ℕ → Part → Type 0
+IsShardOf its (part.Shard i number) = i ≡ its
+IsShardOf its p = ⊥

@@ -7,17 +7,17 @@ ghost use Rattle.held_parts.specs.Redists.{redists_held, AreNoRedists, AreOfSet}
 ghost use Rattle.held_parts.specs.Redists.{HoldsNoRedist, IsRedistOf};
 ghost use Rattle.held_parts.specs.Taking.{TakesOnly, holding};
 
-use crate::waits::take_redist;
+use crate::getting::take_redist;
+use crate::turns::Turns;
 use its_turns::{Machine, Pass, Value, put};
 use its_types::{Part, Vcpu};
 use lpi_pending::Redists;
 use owned_parts::RedistSet;
-use std::sync::Wait;
 
-/// Waits for the turns of the redistributors of a set that the machine has, the lowest first, and
-/// puts them in their places.
-pub fn take_redists<R: Wait>(
-    rt: &R,
+/// Takes the redistributors of a set out that the machine has, the lowest first, and puts them in
+/// their places.
+pub fn take_redists<T: Turns>(
+    how: &T,
     machine: &Machine,
     pass: &mut Pass,
     set: RedistSet,
@@ -26,15 +26,17 @@ pub fn take_redists<R: Wait>(
     requires of { IsOf machine.now pass.old }
     requires empty { AreNoRedists redists.old }
     requires free { HoldsNoRedist (view pass.old).held }
+    requires allowed { T.allowed (view pass.old) }
     ensures of { IsOf machine.now pass.new }
     ensures takes { TakesOnly (IsRedistOf set) (view pass.old) (view pass.new) }
     ensures held { (view pass.new).held ≡ redists_held redists.new 16 (view pass.old).held }
     ensures hand { AreOfSet (setup machine.now) set redists.new }
+    ensures allowed { T.allowed (view pass.new) }
 {
     let vcpus = machine.vcpus();
     for vcpu in 0..16u8 {
         if is_wanted(set, vcpus, vcpu) {
-            let redist = take_redist(rt, machine, pass, Vcpu(vcpu));
+            let redist = take_redist(how, machine, pass, Vcpu(vcpu));
             redists.place(Vcpu(vcpu), redist);
         }
     }

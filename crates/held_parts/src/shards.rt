@@ -1,16 +1,17 @@
-//! All shards of translator 0, taken the first one first.
+//! All shards of a translator, taken the first one first.
 ghost use Rattle.std.specs.Prelude.{◌≡◌, ◌<◌, ℕ, List};
 ghost use Rattle.its_steps.specs.Contents.{Held};
+ghost use Rattle.its_steps.specs.Parts.{translator_count};
 ghost use Rattle.its_turns.specs.Machines.{setup, view, IsOf};
 ghost use Rattle.held_parts.specs.Shards.{shards_held, AreNoShards, AreShards, HoldsNoShard};
-ghost use Rattle.held_parts.specs.Shards.{IsShardOfFirst};
+ghost use Rattle.held_parts.specs.Shards.{IsShardOf};
 ghost use Rattle.held_parts.specs.Taking.{TakesOnly, holding};
 
-use crate::waits::take_shard;
+use crate::getting::take_shard;
+use crate::turns::Turns;
 use its_turns::{Machine, Pass, Value, put};
 use its_types::Part;
 use std::marker::Model;
-use std::sync::Wait;
 use xlate_cache::Shard;
 
 /// Places for shards 0 to 63. Each holds one, which is then in hand, or is empty.
@@ -54,6 +55,7 @@ impl Shards {
     pub fn empty_all(&mut self)
         ensures { AreEmptied self.old self.new }
     {
+        // What the fields keep is known once one of them is looked at.
         let _ = &self.places;
         for number in 0..64u32 {
             self.empty_one(number);
@@ -93,39 +95,49 @@ impl Shards {
     }
 }
 
-/// Waits for the turns of all shards, the first one first, and puts them in their places.
-pub fn take_shards<R: Wait>(rt: &R, machine: &Machine, pass: &mut Pass, shards: &mut Shards)
+/// Takes all shards of a translator out, the first one first, and puts them in their places.
+pub fn take_shards<T: Turns>(
+    how: &T,
+    machine: &Machine,
+    pass: &mut Pass,
+    its: u8,
+    shards: &mut Shards,
+)
     requires of { IsOf machine.now pass.old }
+    requires stands { its < translator_count (setup machine.now) }
     requires empty { AreNoShards shards.old }
-    requires free { HoldsNoShard (view pass.old).held }
+    requires free { HoldsNoShard its (view pass.old).held }
+    requires allowed { T.allowed (view pass.old) }
     ensures of { IsOf machine.now pass.new }
-    ensures takes { TakesOnly IsShardOfFirst (view pass.old) (view pass.new) }
-    ensures held { (view pass.new).held ≡ shards_held shards.new (setup machine.now).shards
+    ensures takes { TakesOnly (IsShardOf its) (view pass.old) (view pass.new) }
+    ensures held { (view pass.new).held ≡ shards_held its shards.new (setup machine.now).shards
         (view pass.old).held }
     ensures hand { AreShards (setup machine.now).shards shards.new }
+    ensures allowed { T.allowed (view pass.new) }
 {
     for number in 0..machine.shards() {
-        let shard = take_shard(rt, machine, pass, 0, number);
+        let shard = take_shard(how, machine, pass, its, number);
         shards.place(number, shard);
     }
 }
 
 /// Puts them back, the last one first. Their places are empty then.
-pub fn put_shards(machine: &Machine, pass: &mut Pass, shards: &mut Shards)
+pub fn put_shards(machine: &Machine, pass: &mut Pass, its: u8, shards: &mut Shards)
     requires of { IsOf machine.now pass.old }
+    requires stands { its < translator_count (setup machine.now) }
     requires hand { AreShards (setup machine.now).shards shards.old }
     requires held { (before : List Held) ×
-        ((view pass.old).held ≡ shards_held shards.old (setup machine.now).shards before) }
+        ((view pass.old).held ≡ shards_held its shards.old (setup machine.now).shards before) }
     ensures of { IsOf machine.now pass.new }
     ensures empty { AreNoShards shards.new }
     ensures home { (before : List Held) →
-        (view pass.old).held ≡ shards_held shards.old (setup machine.now).shards before →
+        (view pass.old).held ≡ shards_held its shards.old (setup machine.now).shards before →
         view pass.new ≡ holding (view pass.old) before }
 {
     let count = machine.shards();
     for k in 0..count {
         let number = count - 1 - k;
         let shard = shards.take_out(number);
-        put(machine, pass, Part::Shard(0, number), Value::Shard(shard));
+        put(machine, pass, Part::Shard(its, number), Value::Shard(shard));
     }
 }

@@ -31,9 +31,10 @@ module _ (s : Setup) (slots id : ℕ) (me : Me Value View) (passes : me.0.standi
     pub machine : IsOfMachine s (after s.start me.0.seen)
     pub right : Right s me.0.last (after s.start me.0.seen) p content
 
-  pub closes : (words : List ℕ) (xs : List Value) → Final (Seen (Kept s) id me.0) words xs → IsLone me.0 → me.0.held ≡ [] → (p : Part) (x : Value) → Stands s p
-      → get_elem? xs (8 * index_of s p) ≡ some x → IsLast p x
-  closes words xs end lone bare p x st there =
+  -- something stands there, as it is in the end
+  pub stands_last : (words : List ℕ) (xs : List Value) → Final (Seen (Kept s) id me.0) words xs → IsLone me.0 → me.0.held ≡ [] → (p : Part) → Stands s p
+      → (x : Value) × (get_elem? xs (8 * index_of s p) ≡ some x) × IsLast p x
+  stands_last words xs end lone bare p st =
       let t = end.0 in let kp = end.1.0 in let at = end.1.1 in
       let w : World = world_of s t in
       let r = reads_last s slots id me passes t kp at lone in
@@ -45,12 +46,20 @@ module _ (s : Setup) (slots id : ℕ) (me : Me Value View) (passes : me.0.standi
       (λ ne. absurd (own (turn_of s w.turns p - 1) (omega (arith, ne)))) in
       let home = kp.good.parts.home p st free in
       let hv = home_value t.homes (part_count s) k home.content (inside s p st) home.slot in
-      let same : hv.0 ≡ x = some-injective hv.0 x (sym (end.4 (8 * k) hv.0 hv.1) ∙ there) in
-      let right : Right s w.word (after s.start kp.history) p home.content = home.right in
-      record {
-        content = home.content;
-        content_is = subst (λ (y : Value). content_of y ≡ some home.content) same hv.2;
-        fit = subst (IsFit s) same (kp.fit (8 * k) hv.0 hv.1);
-        machine = of_machine s kp.good.history.sound me.0.seen;
-        right = subst (λ (y : Word × List Entry). Right s y.0 (after s.start y.1) p home.content) (λ d. (sym r.0 d, sym r.1 d)) right;
-      }
+      let right : Right s w.word (after s.start kp.history) p home.content = home.right in (
+        hv.0,
+        end.4 (8 * k) hv.0 hv.1,
+        record {
+          content = home.content;
+          content_is = hv.2;
+          fit = kp.fit (8 * k) hv.0 hv.1;
+          machine = of_machine s kp.good.history.sound me.0.seen;
+          right = subst (λ (y : Word × List Entry). Right s y.0 (after s.start y.1) p home.content) (λ d. (sym r.0 d, sym r.1 d)) right;
+        },
+      )
+
+  -- and so is what is found there
+  pub closes : (words : List ℕ) (xs : List Value) → Final (Seen (Kept s) id me.0) words xs → IsLone me.0 → me.0.held ≡ [] → (p : Part) (x : Value) → Stands s p
+      → get_elem? xs (8 * index_of s p) ≡ some x → IsLast p x
+  closes words xs end lone bare p x st there = let z = stands_last words xs end lone bare p st in
+      subst (IsLast p) (some-injective z.0 x (sym z.1 ∙ there)) z.2

@@ -1,33 +1,38 @@
 -- What stands in the slots at the end.
-use Rattle.std.proofs.Common.{◌≡◌, ℕ, zero, suc, ◌+◌, ◌<◌, List, length, replicate, Option, Some, None, Box, Global, set, get_or, slice_get, refl}
+use Rattle.std.proofs.Common.{◌≡◌, ℕ, zero, suc, ◌+◌, ◌*◌, ◌<◌, List, [], ◌∷◌, length, replicate, Option, Some, None, Box, Global, set, get_or, slice_get, refl}
 use Rattle.std.proofs.Common.{ap, sym, ◌∙◌, subst, arith, inl, inr, get_or-set_same, get_or-set_other}
+use Rattle.std.specs.Prelude.{MatchOption}
 use Rattle.std.proofs.lemmas.Bool.{cases_lt}
+use lib.ListN.{get_elem?}
 use mathlib.Core.Logic.{dite}
 use native.Mathlib.Decide.{ℕ_discrete}
 use mathlib.Core.Option.{some, some-injective, some-ne-none}
 use Rattle.its_types.specs.declared.ids.Vcpu.{Vcpu}
 use Rattle.its_types.specs.declared.machine.Part.TheVariants as part
 use Rattle.its_types.specs.declared.machine.Word.{Word}
-use Rattle.its_plain.specs.Plain.{Plain}
+use Rattle.its_plain.specs.Plain.{Plain, Translator}
 use Rattle.its_plain.specs.declared.layout.Layout.{Layout}
 use Rattle.lpi_pending.specs.InHand.{in_hand}
 use Rattle.lpi_pending.specs.declared.redist.Redist.{Redist as InHand}
-use Rattle.owned_parts.specs.Owned.{redistributor_of, HasLpisOf, IsRedistributorOf}
+use Rattle.owned_parts.specs.Owned.{redistributor_of, translator_of, translators_of, HasLpisOf, IsRedistributorOf}
+use Rattle.owned_parts.specs.declared.parts.Translator.{Translator as TranslatorInHand}
 use Rattle.its_steps.specs.Parts.{Setup, IsOfMachine, Right}
 use Rattle.its_steps.specs.Contents.{Content}
 use Rattle.its_turns.specs.declared.value.GuestMemory.{GuestMemory}
-use Rattle.its_turns.specs.declared.value.Tables.{Tables}
 use Rattle.its_turns.specs.declared.value.Value.{Value}
 use Rattle.its_turns.specs.declared.value.Value.TheVariants.{Vacant, Maps, Mem, Shard, Redist}
 use Rattle.its_turns.specs.Contents.{content_of, IsFit}
-use Rattle.its_turns.specs.Closed.{AreBelow}
+use Rattle.its_turns.specs.Closed.{AreBelow, HasTranslatorAt}
 
-abbrev pub IsMaps : Plain → Value → Type 0
-IsMaps u (Maps b) = slice_get u.translators 0 ≡ Some (record { regs = b.value.regs; maps = b.value.maps.maps })
-IsMaps u x = ⊥
+same_translator : (x y : Translator) → Some x ≡ Some y → x ≡ y
+same_translator x y e = cc
+
+abbrev pub IsMaps : Plain → ℕ → Value → Type 0
+IsMaps u its (Maps b) = slice_get u.translators its ≡ Some (translator_of b.value)
+IsMaps u its x = ⊥
 
 abbrev pub IsMem : Plain → Value → Type 0
-IsMem u (Mem b) = (u.memory ≡ b.value.memory) × (u.track ≡ None)
+IsMem u (Mem b) = (u.memory ≡ b.value.memory) × (u.track ≡ b.value.track)
 IsMem u x = ⊥
 
 abbrev pub IsRedist : Setup → Plain → ℕ → Value → Type 0
@@ -38,12 +43,12 @@ module _ (s : Setup) (word : Word) (u : Plain) where
   same_content : (c d : Content) → some c ≡ some d → d ≡ c
   same_content c d e = sym (some-injective c d e)
 
-  pub is_maps : (x : Value) (c : Content) → content_of x ≡ some c → Right s word u (part.Maps 0) c → IsMaps u x
-  is_maps Vacant c e r = absurd (some-ne-none c (sym e))
-  is_maps (Maps b) c e r = subst (Right s word u (part.Maps 0)) (same_content _ c e) r
-  is_maps (Mem b) c e r = subst (Right s word u (part.Maps 0)) (same_content _ c e) r
-  is_maps (Shard b) c e r = subst (Right s word u (part.Maps 0)) (same_content _ c e) r
-  is_maps (Redist b) c e r = subst (Right s word u (part.Maps 0)) (same_content _ c e) r
+  pub is_maps : (its : ℕ) (x : Value) (c : Content) → content_of x ≡ some c → Right s word u (part.Maps its) c → IsMaps u its x
+  is_maps its Vacant c e r = absurd (some-ne-none c (sym e))
+  is_maps its (Maps b) c e r = subst (Right s word u (part.Maps its)) (same_content _ c e) r
+  is_maps its (Mem b) c e r = subst (Right s word u (part.Maps its)) (same_content _ c e) r
+  is_maps its (Shard b) c e r = subst (Right s word u (part.Maps its)) (same_content _ c e) r
+  is_maps its (Redist b) c e r = subst (Right s word u (part.Maps its)) (same_content _ c e) r
 
   pub is_mem : (x : Value) (c : Content) → content_of x ≡ some c → Right s word u part.Mem c → IsMem u x
   is_mem Vacant c e r = absurd (some-ne-none c (sym e))
@@ -59,12 +64,37 @@ module _ (s : Setup) (word : Word) (u : Plain) where
   is_redist v (Shard b) c e f r = subst (Right s word u (part.Redist v)) (same_content _ c e) r
   is_redist v (Redist b) c e f r = (f, subst (Right s word u (part.Redist v)) (same_content _ c e) r)
 
-pub no_maps : (u : Plain) (x : Value) → IsMaps u x → ((b : Box Tables Global) → x ≡ Maps b → ⊥) → ⊥
-no_maps u Vacant i never = i
-no_maps u (Maps b) i never = never b refl
-no_maps u (Mem b) i never = i
-no_maps u (Shard b) i never = i
-no_maps u (Redist b) i never = i
+-- a translator's maps stand there
+pub maps_there : (u : Plain) (its : ℕ) (xs : List Value) (x : Value) → get_elem? xs (8 * its) ≡ some x → IsMaps u its x → HasTranslatorAt its xs
+maps_there u its xs Vacant e i = absurd i
+maps_there u its xs (Maps b) e i = (b, e)
+maps_there u its xs (Mem b) e i = absurd i
+maps_there u its xs (Shard b) e i = absurd i
+maps_there u its xs (Redist b) e i = absurd i
+
+-- and nothing else
+pub no_maps : (its : ℕ) (xs : List Value) (x : Value) → get_elem? xs (8 * its) ≡ some x → HasTranslatorAt its xs
+    → ((b : Box TranslatorInHand Global) → x ≡ Maps b → ⊥) → ⊥
+no_maps its xs x e has never = never has.0 (some-injective x (Maps has.0) (sym e ∙ has.1))
+
+-- what is so of a second translator, where there is one
+pub each_second : (P Q : TranslatorInHand → Type 0) (second : Option TranslatorInHand) (n k : ℕ) → n ≡ k → ((t : TranslatorInHand) → k ≡ 2 → P t → Q t)
+    → MatchOption second (n ≡ 1) (λ t. (n ≡ 2) × P t) → MatchOption second (k ≡ 1) (λ t. (k ≡ 2) × Q t)
+each_second P Q None n k e f x = sym e ∙ x
+each_second P Q (Some t) n k e f x = let two = sym e ∙ x.0 in (two, f t two x.1)
+
+-- one or two translators are all that the state has, where each stands there
+pub all_translators : (ts : List Translator) (first : TranslatorInHand) (second : Option TranslatorInHand) (n : ℕ) → length ts ≡ n
+    → slice_get ts 0 ≡ Some (translator_of first) → MatchOption second (n ≡ 1) (λ t. (n ≡ 2) × (slice_get ts 1 ≡ Some (translator_of t)))
+    → translators_of first second ≡ ts
+all_translators [] first None n long one two = absurd (omega (arith, long, two))
+all_translators [] first (Some t) n long one two = absurd (omega (arith, long, two.0))
+all_translators (a ∷ []) first None n long one two = ap (λ (x : Translator). (let l : List Translator = x ∷ [] in l)) (sym (same_translator a _ one))
+all_translators (a ∷ []) first (Some t) n long one two = absurd (omega (arith, long, two.0))
+all_translators (a ∷ b ∷ ts) first None n long one two = absurd (omega (arith, long, two))
+all_translators (a ∷ b ∷ []) first (Some t) n long one two =
+    let e = sym (same_translator a _ one) in let f = sym (same_translator b _ two.1) in λ d. e d ∷ f d ∷ []
+all_translators (a ∷ b ∷ c ∷ ts) first (Some t) n long one two = absurd (omega (arith, long, two.0))
 
 pub no_mem : (u : Plain) (x : Value) → IsMem u x → ((b : Box GuestMemory Global) → x ≡ Mem b → ⊥) → ⊥
 no_mem u Vacant i never = i

@@ -9,5 +9,10 @@ pub mod Ended
 pub mod Opening
 pub mod Exchanged
 pub mod Joined
+pub mod Steps
+pub mod Going
+pub mod Again
+pub mod OnePart
 pub mod Telling
+pub mod Stamps
 pub mod Described

@@ -1,30 +1,29 @@
 -- The table that a machine begins with keeps the rule.
 use Rattle.std.proofs.Common.{◌≡◌, ℕ, zero, suc, ◌+◌, ◌*◌, ◌<◌, ◌≤◌, List, [], ◌∷◌, ◌++◌, map, replicate, take, length, set, get_or, refl, ap, sym, ◌∙◌, subst}
-use Rattle.std.proofs.Common.{arith, append_assoc, get_or-set_other}
+use Rattle.std.proofs.Common.{arith, append_assoc, append-nil, get_or-set_other}
 use Rattle.std.specs.Prelude as std
 use Rattle.std.specs.List.{AllByRecursion}
 use mathlib.Core.Option.{Option, none, some, some-injective, some-ne-none}
 use lib.ListN.{get_elem?, length-map, length-replicate}
 use Rattle.atomic_table.specs.Table.{opening}
-use Rattle.guest_windows.specs.Windows.{Window}
-use Rattle.its_plain.specs.Plain.{Redistributor}
+use Rattle.its_plain.specs.Plain.{Plain, Translator, Redistributor}
 use Rattle.its_plain.specs.Sound.{IsSound}
 use Rattle.its_plain.specs.declared.desc.Desc.{Desc}
 use Rattle.lpi_pending.specs.InHand.{in_hand}
 use Rattle.lpi_pending.specs.declared.redist.Redist.{Redist as InHand}
-use Rattle.owned_parts.specs.Owned.{redistributor_of, redistributor_or}
+use Rattle.owned_parts.specs.Owned.{redistributor_of, redistributor_or, translators_of, state_of_parts}
 use Rattle.owned_parts.specs.declared.parts.Parts.{Parts}
+use Rattle.owned_parts.specs.declared.parts.Translator.{Translator as TranslatorInHand}
 use Rattle.xlate_cache.specs.Ways.{no_entries}
 use Rattle.its_steps.specs.Parts.{Setup, part_count}
 use Rattle.its_steps.specs.Contents.{Content, Maps, Mem, Shard, Redist}
 use Rattle.its_steps.specs.World.{first_word, first_view, first_slots, first_world}
 use Rattle.its_steps.specs.Good.{Good}
 use Rattle.its_steps.proofs.First.{first, slots_long}
-use Rattle.its_turns.specs.declared.value.Tables.{Tables as TheTables}
 use Rattle.its_turns.specs.declared.value.Value.{Value}
 use Rattle.its_turns.specs.declared.value.Value.TheVariants.{Vacant}
 use Rattle.its_turns.specs.Contents.{content_of, IsFit, shelved}
-use Rattle.its_turns.specs.Opening.{setup_from, AreFirst, apart, first_words}
+use Rattle.its_turns.specs.Opening.{setup_from, AreMaps, AreFirst, apart, first_words}
 use Rattle.its_turns.specs.Rule.{Kept, world_of}
 use Rattle.its_turns.specs.Words.{unpacked, spaced, turns_in, slots_in}
 
@@ -138,36 +137,62 @@ all_listed zero xs = refl
 all_listed (suc n) [] = refl
 all_listed (suc n) (x ∷ xs) = ap (λ (l : List Redistributor). redistributor_or x ∷ l) (all_listed n xs)
 
-abbrev front : Setup → TheTables → List Window → List (Option Content) → List (Option Content)
-front s t memory rest = some (Maps (record { regs = t.regs; maps = t.maps.maps })) ∷ some (Mem memory std.None) ∷ (replicate s.shards (some
-    (Shard no_entries)) ++ rest)
+-- the translators, memory and so many shards, with other parts behind
+abbrev pub front : Plain → ℕ → List (Option Content) → List (Option Content)
+front u shards rest = map (λ t. some (Maps t)) u.translators ++ (some (Mem u.memory u.track) ∷ (replicate shards (some (Shard no_entries)) ++ rest))
 
-pub next_value : (s : Setup) (t : TheTables) (memory : List Window) (n v : ℕ) (xs : List (std.Option InHand)) (r : InHand) (values : List Value) (x : Value)
-    → v < n → in_hand xs v ≡ std.Some r → content_of x ≡ shown (redistributor_of r)
-    → map content_of values ≡ front s t memory (map shown (take v (listed n xs))) → map content_of (values ++ x ∷ []) ≡ front s t memory
-    (map shown (take (v + 1) (listed n xs)))
-next_value s t memory n v xs r values x lt is shows so_far =
-    let more : suc v ≡ v + 1 = omega arith in
-    let ms : List (Option Content) = map shown (take v (listed n xs)) in
+one_shard : (n : ℕ) → replicate n (some (Shard no_entries)) ++ some (Shard no_entries) ∷ [] ≡ replicate (suc n) (some (Shard no_entries))
+one_shard zero = refl
+one_shard (suc n) = ap (λ (l : List (Option Content)). some (Shard no_entries) ∷ l) (one_shard n)
+
+-- one more behind the front
+front_more : (u : Plain) (n : ℕ) (rest : List (Option Content)) (o : Option Content) → front u n rest ++ o ∷ [] ≡ front u n (rest ++ o ∷ [])
+front_more u n rest o =
+    append_assoc (map (λ t. some (Maps t)) u.translators) (some (Mem u.memory u.track) ∷ (replicate n (some (Shard no_entries)) ++ rest)) (o ∷ [])
+    ∙ ap (λ (l : List (Option Content)). map (λ t. some (Maps t)) u.translators ++ (some (Mem u.memory u.track) ∷ l))
+    (append_assoc (replicate n (some (Shard no_entries))) rest (o ∷ []))
+
+-- memory behind the translators
+pub with_memory : (u : Plain) (values : List Value) (x : Value) → AreMaps u.translators values → content_of x ≡ some (Mem u.memory u.track)
+    → map content_of (values ++ x ∷ []) ≡ front u 0 []
+with_memory u values x are shows = contents_more values x ∙ (λ d. are.contents d ++ shows d ∷ [])
+
+pub next_shard : (u : Plain) (n : ℕ) (values : List Value) (x : Value) → content_of x ≡ some (Shard no_entries) → map content_of values ≡ front u n []
+    → map content_of (values ++ x ∷ []) ≡ front u (n + 1) []
+next_shard u n values x shows so_far =
+    let more : suc n ≡ n + 1 = omega arith in
     contents_more values x ∙ (λ d. so_far d ++ shows d ∷ [])
-    ∙ ap (λ (l : List (Option Content)). some (Maps (record { regs = t.regs; maps = t.maps.maps })) ∷ some (Mem memory std.None) ∷ l)
-    (append_assoc (replicate s.shards (some (Shard no_entries))) ms (shown (redistributor_of r) ∷ []))
-    ∙ ap (front s t memory) (sym (one_more n v xs r lt is) ∙ ap (λ (j : ℕ). map shown (take j (listed n xs))) more)
+    ∙ (front_more u n [] (some (Shard no_entries))
+    ∙ (ap (λ (l : List (Option Content)). map (λ t. some (Maps t)) u.translators ++ (some (Mem u.memory u.track) ∷ l))
+    (one_shard n ∙ ap (λ (j : ℕ). replicate j (some (Shard no_entries))) more ∙ sym (append-nil (replicate (n + 1) (some (Shard no_entries)))))))
 
-pub all_values : (d : Desc) (p : Parts) (v : ℕ) (values : List Value) → v ≡ p.layout.shape.vcpus → AllByRecursion (IsFit (setup_from d p)) values
-    → map content_of values ≡ front (setup_from d p) (record { regs = p.regs; maps = p.maps }) p.memory
-    (map shown (take v (listed p.layout.shape.vcpus p.redists))) → AreFirst (setup_from d p) values
-all_values d p v values is fit so_far =
-    let s : Setup = setup_from d p in
-    let one : s.shards ≡ 1 * s.shards = omega arith in
-    let rest : map shown (take v (listed p.layout.shape.vcpus p.redists)) ≡ map shown s.start.redistributors =
+pub next_redist : (u : Plain) (shards n v : ℕ) (xs : List (std.Option InHand)) (r : InHand) (values : List Value) (x : Value) → v < n
+    → in_hand xs v ≡ std.Some r → content_of x ≡ shown (redistributor_of r) → map content_of values ≡ front u shards (map shown (take v (listed n xs)))
+    → map content_of (values ++ x ∷ []) ≡ front u shards (map shown (take (v + 1) (listed n xs)))
+next_redist u shards n v xs r values x lt is shows so_far =
+    let more : suc v ≡ v + 1 = omega arith in
+    contents_more values x ∙ (λ d. so_far d ++ shows d ∷ [])
+    ∙ (front_more u shards (map shown (take v (listed n xs))) (shown (redistributor_of r))
+    ∙ ap (front u shards) (sym (one_more n v xs r lt is) ∙ ap (λ (j : ℕ). map shown (take j (listed n xs))) more))
+
+pub all_values : (d : Desc) (p : Parts) (shards v : ℕ) (values : List Value) → shards ≡ length (translators_of p.first p.second) * d.shards
+    → v ≡ p.layout.shape.vcpus → AllByRecursion (IsFit (setup_from d p)) values
+    → map content_of values ≡ front (state_of_parts p) shards (map shown (take v (listed p.layout.shape.vcpus p.redists))) → AreFirst (setup_from d p) values
+all_values d p shards v values count is fit so_far =
+    let u : Plain = state_of_parts p in
+    let rest : map shown (take v (listed p.layout.shape.vcpus p.redists)) ≡ map shown u.redistributors =
     ap (λ (j : ℕ). map shown (take j (listed p.layout.shape.vcpus p.redists))) is ∙ ap (map shown) (all_listed p.layout.shape.vcpus p.redists) in
-    record {
-      contents = so_far ∙ ap (front s (record { regs = p.regs; maps = p.maps }) p.memory) rest
-          ∙ ap (λ (j : ℕ). some (Maps (record { regs = p.regs; maps = p.maps.maps })) ∷ some (Mem p.memory std.None) ∷ (replicate j (some (Shard no_entries))
-          ++ map shown s.start.redistributors)) one;
-      fit = fit;
-    }
+    record { contents = so_far ∙ (λ e. front u (count e) (rest e)); fit = fit }
+
+-- as many as there are translators
+pub maps_long : (ts : List Translator) (values : List Value) → AreMaps ts values → length values ≡ length ts
+maps_long ts values are = sym (length-map values content_of) ∙ (ap (λ (l : List (Option Content)). length l) are.contents
+    ∙ length-map ts (λ t. some (Maps t)))
+
+pub most_maps : (first : TranslatorInHand) (second : std.Option TranslatorInHand) (values : List Value) (n : ℕ) → n ≡ length values
+    → AreMaps (translators_of first second) values → n ≤ 2
+most_maps first std.None values n e are = let long = maps_long (translators_of first std.None) values are in omega (arith, e, long)
+most_maps first (std.Some t) values n e are = let long = maps_long (translators_of first (std.Some t)) values are in omega (arith, e, long)
 
 -- a place that is emptied leaves the later ones
 pub later_same : (xs ys : List (std.Option InHand)) (v k : ℕ) → v + 1 ≤ k → ((j : ℕ) → v ≤ j → in_hand xs j ≡ in_hand ys j)

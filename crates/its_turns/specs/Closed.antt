@@ -1,15 +1,29 @@
 -- What is left of a machine.
-use Rattle.std.specs.Prelude.{◌≡◌, ℕ, ◌<◌, ◌≤◌, Bool, true, false, slice_index_or, Option, Some, None, List}
+use Rattle.std.specs.Prelude.{◌≡◌, ℕ, ◌*◌, ◌<◌, ◌≤◌, Bool, true, false, slice_index_or, Option, Some, None, List, Box}
+use Rattle.std.specs.Global.{Global}
+use mathlib.Core.Option.{some}
+use lib.ListN.{get_elem?}
 use Rattle.its_plain.specs.Plain.{Plain}
 use Rattle.lpi_pending.specs.InHand.{in_hand}
 use Rattle.lpi_pending.specs.declared.redist.Redist.{Redist}
-use Rattle.owned_parts.specs.Owned.{ArePartsOf, IsRedistributorOf}
+use Rattle.owned_parts.specs.Owned.{ArePartsOf, IsRedistributorOf, translators_of}
 use Rattle.owned_parts.specs.declared.parts.Parts.{Parts}
+use Rattle.owned_parts.specs.declared.parts.Translator.{Translator as TranslatorInHand}
 use Rattle.its_steps.specs.Parts.{Setup, vcpu_count}
+use Rattle.its_turns.specs.declared.value.Value.{Value}
+use Rattle.its_turns.specs.declared.value.Value.TheVariants.{Maps}
 
 -- of so many slots, of which some are filled still, just those below n were taken
 abbrev pub AreTaken : ℕ → ℕ → List Bool → Type 0
 AreTaken n count filled = ((k : ℕ) → k < n → slice_index_or filled k false ≡ false) × ((k : ℕ) → n ≤ k → k < count → slice_index_or filled k false ≡ true)
+
+-- a translator stands in the slot of its number
+abbrev pub HasTranslatorAt : ℕ → List Value → Type 0
+HasTranslatorAt its xs = (b : Box TranslatorInHand Global) × (get_elem? xs (8 * its) ≡ some (Maps b))
+
+-- and it is this one
+abbrev pub IsTranslatorAt : ℕ → List Value → TranslatorInHand → Type 0
+IsTranslatorAt its xs t = (b : Box TranslatorInHand Global) × (get_elem? xs (8 * its) ≡ some (Maps b)) × (b.value ≡ t)
 
 -- the redistributors below n are in hand, as the state has them, and no other is
 pub record AreBelow (u : Plain) (n : ℕ) (redists : List (Option Redist)) : Type 0 where
@@ -19,6 +33,7 @@ pub record AreBelow (u : Plain) (n : ℕ) (redists : List (Option Redist)) : Typ
 -- all parts of a state
 pub record AreAllParts (s : Setup) (u : Plain) (p : Parts) : Type 0 where
   pub layout : p.layout ≡ u.layout
-  pub parts : ArePartsOf u 0 s.start.layout.shape p.regs p.maps.maps p.memory p.redists
-  pub track : u.track ≡ None
+  pub translators : translators_of p.first p.second ≡ u.translators
+  pub parts : ArePartsOf u 0 s.start.layout.shape p.first.regs p.first.maps.maps p.memory p.redists
+  pub track : p.track ≡ u.track
   pub redists : AreBelow u (vcpu_count s) p.redists

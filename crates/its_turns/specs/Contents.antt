@@ -1,24 +1,17 @@
 -- What the values in slots stand for.
-use Rattle.std.specs.Prelude.{ℕ, ◌*◌, List, [], ◌∷◌, None}
+use Rattle.std.specs.Prelude.{ℕ, ◌*◌, List, [], ◌∷◌}
 use mathlib.Core.Option.{Option, none, some}
-use Rattle.its_plain.specs.Plain.{Translator}
-use Rattle.owned_parts.specs.Owned.{redistributor_of, HasLpisOf}
+use Rattle.owned_parts.specs.Owned.{redistributor_of, translator_of, HasLpisOf}
 use Rattle.its_steps.specs.Parts.{Setup, index_of}
 use Rattle.its_steps.specs.Contents.{Content, Held}
 use Rattle.its_steps.specs.Contents as content
-use Rattle.its_turns.specs.declared.value.Tables.{Tables}
 use Rattle.its_turns.specs.declared.value.Value.{Value}
 use Rattle.its_turns.specs.declared.value.Value.TheVariants.{Vacant, Maps, Mem, Shard, Redist}
 
--- registers and maps, as the plain machine has them
-abbrev pub translator_of : Tables → Translator
-translator_of t = record { regs = t.regs; maps = t.maps.maps }
-
--- a machine that runs has no second memory
 abbrev pub content_of : Value → Option Content
 content_of Vacant = none
 content_of (Maps b) = some (content.Maps (translator_of b.value))
-content_of (Mem b) = some (content.Mem b.value.memory None)
+content_of (Mem b) = some (content.Mem b.value.memory b.value.track)
 content_of (Shard s) = some (content.Shard s)
 content_of (Redist b) = some (content.Redist (redistributor_of b.value))
 

@@ -1,6 +1,7 @@
 -- A machine and its passes, as clauses speak of them.
-use Rattle.std.specs.Prelude.{◌≡◌}
-use Rattle.its_steps.specs.Parts.{Setup}
+use Rattle.std.specs.Prelude.{◌≡◌, ℕ, ◌<◌, ◌≤◌}
+use Rattle.its_types.specs.declared.machine.Word.{Word}
+use Rattle.its_steps.specs.Parts.{Setup, translator_count, stamp_of}
 use Rattle.its_steps.specs.World.{View}
 use Rattle.its_turns.specs.Rule.{setup_of}
 use Rattle.its_turns.specs.declared.machine.Machine.{Machine}
@@ -18,6 +19,10 @@ view p = p.seat.me.0
 -- the pass is one of this machine
 abbrev pub IsOf : Machine → Pass → Type 0
 IsOf m p = (p.seat.table_id ≡ m.table.shared.table_id) × ((view p).setup ≡ setup m)
+
+-- each translator's stamp in the word is at most the last one
+abbrev pub AreWithin : Setup → Word → Type 0
+AreWithin s w = (its : ℕ) → its < translator_count s → stamp_of s w its ≤ s.limits.stamp_last
 
 -- what the note knows
 abbrev pub known : Note → View

@@ -1,10 +1,13 @@
 -- The words and slots that a machine begins with.
 use Rattle.std.specs.Prelude.{◌≡◌, ℕ, ◌+◌, ◌*◌, List, [], ◌∷◌, ◌++◌, map, replicate, None}
 use Rattle.std.specs.List.{AllByRecursion}
+use mathlib.Core.Option.{some}
+use Rattle.its_plain.specs.Plain.{Translator}
 use Rattle.its_plain.specs.declared.desc.Desc.{Desc}
 use Rattle.its_plain.specs.declared.desc.Its.{Its}
 use Rattle.owned_parts.specs.Owned.{state_of_parts}
 use Rattle.owned_parts.specs.declared.parts.Parts.{Parts}
+use Rattle.its_steps.specs.Contents.{Maps}
 use Rattle.its_steps.specs.Parts.{Setup}
 use Rattle.its_steps.specs.World.{first_slots}
 use Rattle.its_turns.specs.Contents.{content_of, IsFit}
@@ -22,6 +25,11 @@ kept_its t = record t { restore = None }
 -- what a machine keeps of its description: what bytes were put into memory, and what it was restored with, is done with
 abbrev pub kept_of : Desc → Desc
 kept_of d = record d { fills = []; translators = map kept_its d.translators }
+
+-- the values of translators, in their order
+pub record AreMaps (translators : List Translator) (values : List Value) : Type 0 where
+  pub contents : map content_of values ≡ map (λ t. some (Maps t)) translators
+  pub fit : (s : Setup) → AllByRecursion (IsFit s) values
 
 -- the values of all parts, in the order of their numbers
 pub record AreFirst (s : Setup) (values : List Value) : Type 0 where

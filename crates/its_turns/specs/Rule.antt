@@ -10,12 +10,12 @@ use Rattle.its_steps.specs.World.{View, World}
 use Rattle.its_turns.specs.Contents.{IsFit}
 use Rattle.its_turns.specs.Opening.{setup_from}
 use Rattle.its_turns.specs.Words.{unpacked, turns_in, slots_in}
-use Rattle.its_turns.specs.declared.law.Plan.{Plan}
+use Rattle.its_turns.specs.declared.law.Origin.{Origin}
 use Rattle.its_turns.specs.declared.value.Value.{Value}
 
 -- what the description and the parts given make
-abbrev pub setup_of : Plan → Setup
-setup_of p = setup_from p.desc.value p.parts.value
+abbrev pub setup_of : Origin → Setup
+setup_of o = setup_from o.desc.value o.parts.value
 
 -- the world that a table shows
 abbrev pub world_of : Setup → State Value View → World

@@ -1,15 +1,16 @@
 //! What a machine tells of itself.
 use crate::machine::Machine;
 use its_plain::Desc;
-use its_types::{DeviceId, EventId};
+use its_types::{DeviceId, EventId, Word};
 use xlate_cache::shard_of;
 
 impl Machine {
-    ghost use Rattle.std.specs.Prelude.{◌≡◌, ◌<◌, ◌≤◌};
+    ghost use Rattle.std.specs.Prelude.{◌≡◌, ◌<◌, ◌≤◌, ℕ, length};
     ghost use Rattle.its_types.specs.declared.machine.Part.TheVariants as part;
     ghost use Rattle.xlate_cache.specs.Pairs.{shard_number};
-    ghost use Rattle.its_plain.specs.Machine.{layout_of, IsSingle};
-    ghost use Rattle.its_steps.specs.Parts.{Stands, vcpu_count};
+    ghost use Rattle.its_plain.specs.Machine.{layout_of};
+    ghost use Rattle.its_steps.specs.Parts.{Stands, translator_count, vcpu_count};
+    ghost use Rattle.its_steps.specs.Parts as spec;
     ghost use Rattle.its_turns.specs.Machines.{setup};
 
     /// What the machine was made from, without the bytes that were put into memory and the
@@ -20,7 +21,7 @@ impl Machine {
         ensures shards { result.now.shards ≡ (setup self.now).shards }
         ensures shape { result.now.shape ≡ (setup self.now).start.layout.shape }
         ensures layout { layout_of result.now ≡ (setup self.now).start.layout }
-        ensures single { IsSingle result.now }
+        ensures translators { length result.now.translators ≡ translator_count (setup self.now) }
     {
         &self.desc
     }
@@ -37,6 +38,43 @@ impl Machine {
         ensures { result ≡ (setup self.now).limits.stamp_last }
     {
         self.desc.limits.stamp_last
+    }
+
+    /// How many translators there are: one or two.
+    pub fn translators(&self) -> u8
+        ensures translators { result ≡ translator_count (setup self.now) }
+        ensures some { 1 ≤ result }
+        ensures most { result ≤ 2 }
+    {
+        self.translators
+    }
+
+    /// The stamp of a translator in a word.
+    pub fn stamp_of(&self, word: Word, its: u8) -> u32
+        requires its { its < translator_count (setup self.now) }
+        ensures { result ≡ spec.stamp_of (setup self.now) word its }
+    {
+        if its == 0 {
+            word.stamp >> self.first_shift
+        } else {
+            word.stamp % 4096
+        }
+    }
+
+    /// A word's stamp, where that of one translator is another and the others stay.
+    pub fn stamp_with(&self, word: Word, its: u8, stamp: u32) -> u32
+        requires its { its < translator_count (setup self.now) }
+        requires low { stamp ≤ (setup self.now).limits.stamp_last }
+        ensures { result
+            ≡ spec.stamp_with (translator_count (setup self.now)) word.stamp its stamp }
+    {
+        if self.translators == 1 {
+            stamp
+        } else if its == 0 {
+            stamp * 4096 + word.stamp % 4096
+        } else {
+            word.stamp / 4096 * 4096 + stamp
+        }
     }
 
     /// How many shards a translator's cache has: 1 to 64.
@@ -56,10 +94,11 @@ impl Machine {
         self.desc.shape.vcpus
     }
 
-    /// The shard of translator 0 that a pair's translations are in.
+    /// The number of the shard that a pair's translations are in, of each translator's cache.
     pub fn shard_of(&self, dev: DeviceId, ev: EventId) -> u32
         ensures number { result ≡ shard_number dev.0 ev.0 (setup self.now).shards }
-        ensures stands { Stands (setup self.now) (part.Shard 0 result) }
+        ensures stands { (its : ℕ) → its < translator_count (setup self.now)
+            → Stands (setup self.now) (part.Shard its result) }
     {
         shard_of(dev, ev, self.desc.shards)
     }

@@ -2,6 +2,7 @@
 use crate::commits::Raced;
 use crate::turns::Busy;
 use its_types::Placed;
+use thiserror::Error;
 
 /// A call that takes each turn at the first try or gives up.
 #[derive(Clone, Copy, Debug, PartialEq, Eq)]
@@ -17,24 +18,29 @@ pub enum Attempt<T> {
 }
 
 /// All places are used, and no call can be made any more.
-#[derive(Clone, Copy, Debug, PartialEq, Eq)]
+#[derive(Clone, Copy, Debug, PartialEq, Eq, Error)]
+#[error("all places are used")]
 pub struct Spent;
 
 /// Why a call was not made that may take memory.
-#[derive(Clone, Copy, Debug, PartialEq, Eq)]
+#[derive(Clone, Copy, Debug, PartialEq, Eq, Error)]
 pub enum NotMade {
     /// All places are used, and no call can be made any more.
+    #[error("all places are used")]
     Spent,
     /// There was no memory for it. Every part is as it was.
+    #[error("out of memory")]
     NoMemory,
 }
 
 /// Why a call was not made that has the parts that it needs.
-#[derive(Clone, Copy, Debug, PartialEq, Eq)]
+#[derive(Clone, Copy, Debug, PartialEq, Eq, Error)]
 pub enum Lost {
     /// All places are used.
+    #[error("all places are used")]
     Spent,
     /// Another call was made first.
+    #[error("{0}")]
     Raced(Raced),
 }
 

@@ -1,10 +1,10 @@
 //! How a call begins and is made.
-ghost use Rattle.std.specs.Prelude.{◌≡◌, ◌<◌, ◌≤◌, MatchResult};
+ghost use Rattle.std.specs.Prelude.{◌≡◌, ◌<◌, MatchResult};
 ghost use Rattle.its_types.specs.declared.machine.Word.{Word};
 ghost use Rattle.its_steps.specs.Calls.{staying};
 ghost use Rattle.its_steps.specs.MayCall.{MayCall};
 ghost use Rattle.its_turns.specs.Calls.{Makes, IsLost};
-ghost use Rattle.its_turns.specs.Machines.{setup, view, IsOf};
+ghost use Rattle.its_turns.specs.Machines.{setup, view, IsOf, AreWithin};
 ghost use Rattle.its_turns.specs.Told.{Looks};
 
 use crate::attempts::{Lost, Spent};
@@ -22,7 +22,7 @@ pub fn begin(machine: &Machine, pass: &mut Pass) -> Result<Word, Spent>
     ensures word { MatchResult result
         (λ w. Looks (view pass.old) w (view pass.new)
         × (w.place < (setup machine.now).limits.place_last)
-        × (w.stamp ≤ (setup machine.now).limits.stamp_last))
+        × AreWithin (setup machine.now) w)
         (λ _. (w : Word) × Looks (view pass.old) w (view pass.new)
         × (w.place ≡ (setup machine.now).limits.place_last)) }
 {

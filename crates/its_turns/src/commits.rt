@@ -1,10 +1,10 @@
 //! How a call is made: a compare-and-exchange of the word.
-ghost use Rattle.std.specs.Prelude.{◌≡◌, ◌≤◌, MatchResult};
+ghost use Rattle.std.specs.Prelude.{◌≡◌, MatchResult};
 ghost use mathlib.Core.Option.{none};
 ghost use Rattle.atomic_table.specs.Table.{step};
 ghost use Rattle.its_steps.specs.MayCall.{MayCall};
 ghost use Rattle.its_steps.specs.World.{word_after};
-ghost use Rattle.its_turns.specs.Machines.{setup, view, IsOf};
+ghost use Rattle.its_turns.specs.Machines.{setup, view, IsOf, AreWithin};
 ghost use Rattle.its_turns.specs.Steps.{IsRaced};
 ghost use Rattle.its_turns.specs.Told.{Commits, committing};
 ghost use Rattle.its_turns.specs.Words.{unpacked};
@@ -15,9 +15,11 @@ use crate::word::{pack, unpack};
 use its_steps::Commit;
 use its_types::Word;
 use std::marker::Brand;
+use thiserror::Error;
 
 /// Another call was made first.
-#[derive(Clone, Copy, Debug, PartialEq, Eq)]
+#[derive(Clone, Copy, Debug, PartialEq, Eq, Error)]
+#[error("another call was made first")]
 pub struct Raced {
     /// The word that the pass had read.
     pub expected: Word,
@@ -29,8 +31,8 @@ pub struct Raced {
 pub fn commit(machine: &Machine, pass: &mut Pass, commit: &Commit) -> Result<u64, Raced>
     requires of { IsOf machine.now pass.old }
     requires last { commit.now.expected ≡ (view pass.old).last }
-    requires low { commit.now.expected.stamp ≤ (setup machine.now).limits.stamp_last }
-    requires next { commit.now.stamp ≤ (setup machine.now).limits.stamp_last }
+    requires low { AreWithin (setup machine.now) commit.now.expected }
+    requires next { AreWithin (setup machine.now) (word_after commit.now) }
     requires may { MayCall (setup machine.now) commit.now (view pass.old).held }
     ensures of { IsOf machine.now pass.new }
     ensures result { MatchResult result

@@ -1,18 +1,18 @@
 //! What is left of a machine.
-ghost use Rattle.std.specs.Prelude.{◌≡◌, ◌+◌, ◌*◌, ◌<◌, ◌≤◌, []};
+ghost use Rattle.std.specs.Prelude.{◌≡◌, ◌+◌, ◌*◌, ◌<◌, ◌≤◌, [], None, Some, MatchOption};
 ghost use Rattle.std.specs.Slots.{slots_items, slots_filled, slots_len};
 ghost use mathlib.Core.Option.{some};
 ghost use lib.ListN.{get_elem?};
 ghost use Rattle.its_plain.specs.History.{after};
-ghost use Rattle.its_turns.specs.Closed.{AreAllParts, AreTaken};
+ghost use Rattle.its_turns.specs.Closed.{AreAllParts, AreTaken, IsTranslatorAt, HasTranslatorAt};
 ghost use Rattle.its_turns.specs.Machines.{setup, view, IsOf};
 ghost use Rattle.its_turns.specs.Told.{IsLone};
 
 use crate::machine::{Machine, Pass, Root};
-use crate::value::{GuestMemory, Tables, Value};
+use crate::value::{GuestMemory, Value};
 use atomic_table::Closed;
 use its_types::Vcpu;
-use owned_parts::Parts;
+use owned_parts::{Parts, Translator};
 use std::alloc::Global;
 
 /// The parts, as all calls leave them. No pass but the root is out, and that holds nothing. Takes
@@ -33,36 +33,80 @@ pub fn close(machine: Machine, root: Root) -> Parts
         desc,
         layout,
         places,
+        translators,
+        first_shard,
+        first_redist,
+        ..
     } = machine;
     let Pass { seat, .. } = root;
     let mut redists = places;
-    let shards = desc.shards as usize;
     let mut closed = table.close_with(seat);
-    let Value::Maps(tables) = take_part(&mut closed, 0) else {
+    let first = take_translator(&mut closed, 0);
+    let second = take_second(&mut closed, translators);
+    let Value::Mem(memory) = take_part(&mut closed, usize::from(translators)) else {
         unreachable!()
     };
-    let Value::Mem(memory) = take_part(&mut closed, 1) else {
-        unreachable!()
-    };
-    for shard in 0..shards {
-        drop(take_part(&mut closed, 2 + shard));
+    for shard in first_shard..first_redist {
+        drop(take_part(&mut closed, shard));
     }
     for vcpu in 0..desc.shape.vcpus {
-        let Value::Redist(redist) = take_part(&mut closed, 2 + shards + usize::from(vcpu)) else {
+        let Value::Redist(redist) = take_part(&mut closed, first_redist + usize::from(vcpu)) else {
             unreachable!()
         };
         redists.place(Vcpu(vcpu), redist);
     }
     closed.free();
-    let Tables { regs, maps } = Box::into_inner(tables);
-    let GuestMemory { memory, .. } = Box::into_inner(memory);
+    let GuestMemory { memory, track, .. } = Box::into_inner(memory);
     Parts {
         layout,
-        regs,
-        maps,
+        first,
+        second,
         memory,
+        track,
         redists,
     }
+}
+
+// Translator 1, of a machine with so many, if it is one of them.
+fn take_second(closed: &mut Closed<Value, Global>, translators: u8) -> Option<Translator>
+    requires some { 1 ≤ translators }
+    requires most { translators ≤ 2 }
+    requires inside { 8 * translators ≤ slots_len closed.old.slots }
+    requires front { AreTaken 8 (slots_len closed.old.slots) (slots_filled closed.old.slots) }
+    requires there { translators ≡ 2 → HasTranslatorAt 1 (slots_items closed.old.slots) }
+    ensures second { MatchOption result (translators ≡ 1)
+        (λ t. (translators ≡ 2) × IsTranslatorAt 1 (slots_items closed.old.slots) t) }
+    ensures items { slots_items closed.new.slots ≡ slots_items closed.old.slots }
+    ensures length { slots_len closed.new.slots ≡ slots_len closed.old.slots }
+    ensures words { closed.new.words ≡ closed.old.words }
+    ensures front { AreTaken (8 * translators) (slots_len closed.new.slots)
+        (slots_filled closed.new.slots) }
+{
+    if translators == 2 {
+        Some(take_translator(closed, 1))
+    } else {
+        None
+    }
+}
+
+// The translator of this number, which is the next part.
+fn take_translator(closed: &mut Closed<Value, Global>, its: usize) -> Translator
+    requires low { its < 2 }
+    requires inside { 8 * its + 8 ≤ slots_len closed.old.slots }
+    requires front { AreTaken (8 * its) (slots_len closed.old.slots)
+        (slots_filled closed.old.slots) }
+    requires there { HasTranslatorAt its (slots_items closed.old.slots) }
+    ensures translator { IsTranslatorAt its (slots_items closed.old.slots) result }
+    ensures items { slots_items closed.new.slots ≡ slots_items closed.old.slots }
+    ensures length { slots_len closed.new.slots ≡ slots_len closed.old.slots }
+    ensures words { closed.new.words ≡ closed.old.words }
+    ensures front { AreTaken (8 * its + 8) (slots_len closed.new.slots)
+        (slots_filled closed.new.slots) }
+{
+    let Value::Maps(translator) = take_part(closed, its) else {
+        unreachable!()
+    };
+    Box::into_inner(translator)
 }
 
 // The value of the next part, with the empty slots after it.

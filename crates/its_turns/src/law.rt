@@ -14,10 +14,10 @@ use owned_parts::Parts;
 use std::marker::{Brand, Model, PhantomData};
 use std::snapshot::Snapshot;
 
-/// What the table is told once.
+/// What a machine begins from. The table is told it once.
 #[derive(Drop)]
-pub struct Plan {
-    /// What the machine is made from.
+pub struct Origin {
+    /// The description that the machine is made from.
     pub desc: Snapshot<Desc>,
     /// Its parts as they begin.
     pub parts: Snapshot<Parts>,
@@ -45,10 +45,10 @@ impl Model for Known {
 /// Words, slots and views show a good world.
 pub struct Law;
 
-impl TableRule<Value, Known, Plan> for Law {
-    ghost holds = { λ plan. Kept (setup_of plan) };
+impl TableRule<Value, Known, Origin> for Law {
+    ghost holds = { λ origin. Kept (setup_of origin) };
 
-    ghost first = { λ plan. first_view (setup_of plan) };
+    ghost first = { λ origin. first_view (setup_of origin) };
 }
 
 /// A load of the word.

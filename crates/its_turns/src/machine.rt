@@ -1,7 +1,7 @@
 //! The machine and its passes.
 ghost use Rattle.std.specs.Prelude.{◌≡◌, ◌+◌, ◌*◌, ◌^◌, ◌<◌, ◌≤◌, true, [], None, replicate};
 ghost use Rattle.std.specs.Prelude.{length};
-ghost use Rattle.its_plain.specs.Machine.{layout_of, IsSingle};
+ghost use Rattle.its_plain.specs.Machine.{layout_of};
 ghost use Rattle.its_steps.specs.Parts.{part_count, translator_count, vcpu_count};
 ghost use Rattle.its_steps.specs.Parts.{HasVcpus};
 ghost use Rattle.its_steps.specs.declared.standing.Standing.TheVariants as standing;
@@ -10,7 +10,7 @@ ghost use Rattle.its_turns.specs.Opening.{kept_of};
 ghost use Rattle.its_turns.specs.Rule.{setup_of};
 ghost use Rattle.its_turns.specs.Told.{are_joined};
 
-use crate::law::{Known, Law, Plan};
+use crate::law::{Known, Law, Origin};
 use crate::value::Value;
 use atomic_table::{Seat, Table};
 use its_plain::{Desc, Layout};
@@ -21,19 +21,32 @@ use std::alloc::Global;
 /// slot.
 #[derive(Drop)]
 pub struct Machine {
-    pub(crate) table: Table<Value, Known, Plan, Law, Global>,
+    pub(crate) table: Table<Value, Known, Origin, Law, Global>,
     pub(crate) desc: Desc,
     pub(crate) layout: Layout,
     // No redistributor is in hand: they go here when the machine is closed.
     pub(crate) places: Redists,
+    // How many translators there are.
+    pub(crate) translators: u8,
+    // The number of the first shard among the parts, and that of the first redistributor.
+    pub(crate) first_shard: usize,
+    pub(crate) first_redist: usize,
+    // How far above its lowest bit the word's stamp has that of translator 0.
+    pub(crate) first_shift: u8,
     pub ghost described: { desc ≡ kept_of table.shared.key.desc.value },
-    pub ghost single: { IsSingle desc },
     pub ghost built: { (layout ≡ (setup_of table.shared.key).start.layout)
         × (layout_of desc ≡ layout) },
     pub ghost sized: { (table.shared.table_id.slots ≡ 8 * part_count (setup_of table.shared.key))
         × (16 * part_count (setup_of table.shared.key) < table.shared.table_id.words) },
-    pub ghost laid: { (translator_count (setup_of table.shared.key) ≡ 1)
+    pub ghost laid: { (translator_count (setup_of table.shared.key) ≡ length desc.translators)
         × HasVcpus (setup_of table.shared.key) },
+    pub ghost paired: { (1 ≤ translators) × (translators ≤ 2)
+        × (translators ≡ 2 → desc.limits.stamp_last < 4096) },
+    pub ghost ordered: { (translators ≡ translator_count (setup_of table.shared.key))
+        × (first_shard ≡ translators + 1)
+        × (first_redist + vcpu_count (setup_of table.shared.key)
+        ≡ part_count (setup_of table.shared.key)) × (first_redist ≤ 131) },
+    pub ghost shifted: { first_shift + 12 ≡ 12 * translators },
     pub ghost small: { (1 ≤ desc.shards) × (desc.shards ≤ 64) × (desc.shape.vcpus ≤ 16)
         × (desc.limits.place_last < 2 ^ 40) × (desc.limits.stamp_last < 2 ^ 24) },
     pub ghost bare: { places ≡ replicate 16 None },

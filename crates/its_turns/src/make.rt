@@ -2,23 +2,24 @@
 ghost use Rattle.std.specs.Prelude.{◌≡◌, ◌+◌, ◌^◌, ◌<◌, ◌≤◌, ◌++◌, ◌∷◌, map, replicate, length};
 ghost use Rattle.std.specs.Prelude.{IfOk};
 ghost use Rattle.std.specs.Prelude.{OnOk};
-ghost use Rattle.owned_parts.specs.Owned.{AreAllInHand};
-ghost use Rattle.its_plain.specs.Machine.{layout_of, IsSingle};
+ghost use Rattle.owned_parts.specs.Owned.{AreAllInHand, translators_of};
+ghost use Rattle.its_plain.specs.Machine.{layout_of};
 ghost use Rattle.its_plain.specs.Sound.{IsSound};
+ghost use Rattle.its_steps.specs.Parts.{HasStamps};
 ghost use Rattle.its_steps.specs.World.{first_view};
-ghost use Rattle.its_turns.specs.Opening.{setup_from, kept_its, kept_of, apart, AreFirst};
+ghost use Rattle.its_turns.specs.Opening.{setup_from, kept_its, kept_of, apart, AreFirst, AreMaps};
 ghost use Rattle.its_turns.specs.Machines.{setup, view, IsOf};
 ghost use Rattle.its_turns.specs.declared.value.Value.TheVariants.{Vacant};
 
-use crate::law::Plan;
+use crate::law::Origin;
 use crate::machine::{Machine, Pass, Root};
-use crate::value::{GuestMemory, Tables, Value};
+use crate::value::{GuestMemory, Value};
 use atomic_table::{Refused, Table};
 use guest_windows::Spare;
 use its_plain::{Desc, Its, LpiTables};
 use its_types::{Listed, Vcpu};
 use lpi_pending::Redists;
-use owned_parts::Parts;
+use owned_parts::{Parts, Translator};
 use std::alloc::{AllocError, Global};
 use std::snapshot::Snapshot;
 use xlate_cache::Shard;
@@ -37,7 +38,9 @@ impl Machine {
         requires vcpus { desc.now.shape.vcpus ≤ 16 }
         requires stamps { desc.now.limits.stamp_last < 2 ^ 24 }
         requires places { desc.now.limits.place_last < 2 ^ 40 }
-        requires single { IsSingle desc.now }
+        requires translators { length desc.now.translators
+            ≡ length (translators_of parts.first parts.second) }
+        requires apart { HasStamps (setup_from desc.now parts) }
         requires layout { parts.layout ≡ layout_of desc.now }
         requires hand { AreAllInHand parts.layout.shape parts.redists }
         requires sound { IsSound (setup_from desc.now parts).start }
@@ -46,23 +49,30 @@ impl Machine {
         ensures desc { IfOk result (λ r. r.0.desc ≡ kept_of desc.now) }
         ensures view { IfOk result (λ r. view r.1 ≡ first_view (setup r.0)) }
     {
-        let plan = Plan {
+        let origin = Origin {
             desc: Snapshot::of(desc),
             parts: Snapshot::of(&parts),
         };
-        let count = desc.shards as usize + 3 + usize::from(desc.shape.vcpus);
-        let words = vec![in alloc; 0; 16 * count]?;
+        let translators = desc.translators.len() as u8;
+        let first_shard = usize::from(translators) + 1;
+        let first_redist = first_shard + usize::from(translators) * desc.shards as usize;
+        let count = first_redist + usize::from(desc.shape.vcpus);
+        let words = vec![in alloc; 0; 16 * (count + 1)]?;
         let places = Redists::new();
         let kept = copy_of(alloc, desc)?;
         let layout = parts.layout.copy(alloc)?;
         let slots = spread(alloc, first_values(alloc, desc, parts)?)?;
-        match Table::new(alloc, words.as_slice(), slots, &plan) {
+        match Table::new(alloc, words.as_slice(), slots, &origin) {
             Ok((table, seat)) => Ok((
                 Machine {
                     table,
                     desc: kept,
                     layout,
                     places,
+                    translators,
+                    first_shard,
+                    first_redist,
+                    first_shift: 12 * (translators - 1),
                 },
                 Pass {
                     number: 0,
@@ -132,23 +142,41 @@ fn first_values(alloc: Global, desc: &Desc, parts: Parts) -> Result<Vec<Value>, 
 {
     let Parts {
         layout,
-        regs,
-        maps,
+        first,
+        second,
         memory,
+        track,
         mut redists,
     } = parts;
-    let mut values = Vec::new(alloc);
-    values.push(Value::Maps(Box::new(alloc, Tables { regs, maps })?))?;
+    let mut values = first_maps(alloc, first, second)?;
+    let shards = values.len() * desc.shards as usize;
     let memory = GuestMemory {
         memory,
         spare: Spare::new(),
+        track,
     };
     values.push(Value::Mem(Box::new(alloc, memory)?))?;
-    for _shard in 0..desc.shards {
+    for _shard in 0..shards {
         values.push(Value::Shard(Shard::new(alloc)?))?;
     }
     for vcpu in 0..layout.shape.vcpus {
         values.push(Value::Redist(redists.take_out(Vcpu(vcpu))))?;
+    }
+    Ok(values)
+}
+
+// The values of one or two translators.
+fn first_maps(
+    alloc: Global,
+    first: Translator,
+    second: Option<Translator>,
+) -> Result<Vec<Value>, AllocError>
+    ensures { IfOk result (λ v. AreMaps (translators_of first second) v.items) }
+{
+    let mut values = Vec::new(alloc);
+    values.push(Value::Maps(Box::new(alloc, first)?))?;
+    if let Some(second) = second {
+        values.push(Value::Maps(Box::new(alloc, second)?))?;
     }
     Ok(values)
 }

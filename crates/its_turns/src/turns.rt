@@ -19,9 +19,11 @@ use atomic_table::Seat;
 use its_types::Part;
 use std::marker::Brand;
 use std::sync::Wait;
+use thiserror::Error;
 
 /// Another pass has the turn of the part.
-#[derive(Clone, Copy, Debug, PartialEq, Eq)]
+#[derive(Clone, Copy, Debug, PartialEq, Eq, Error)]
+#[error("pass {holder} has a part that is needed")]
 pub struct Busy {
     /// Whose turn was tried.
     pub part: Part,
@@ -128,12 +130,13 @@ impl Machine {
         ensures slot { 8 * result < self.now.table.shared.table_id.slots }
         ensures low { result < 2048 }
     {
-        let shards = self.desc.shards as usize;
         match part {
             Part::Maps(its) => usize::from(its),
-            Part::Mem => 1,
-            Part::Shard(its, n) => 2 + (usize::from(its) * shards + n as usize),
-            Part::Redist(vcpu) => 2 + shards + usize::from(vcpu.0),
+            Part::Mem => usize::from(self.translators),
+            Part::Shard(its, n) => {
+                self.first_shard + usize::from(its) * self.desc.shards as usize + n as usize
+            }
+            Part::Redist(vcpu) => self.first_redist + usize::from(vcpu.0),
         }
     }
 }

@@ -1,23 +1,23 @@
 //! Parts taken as what they are.
-ghost use Rattle.std.specs.Prelude.{◌≡◌, ◌<◌, None, MatchResult};
+ghost use Rattle.std.specs.Prelude.{◌≡◌, ◌<◌, MatchResult};
 ghost use Rattle.its_types.specs.declared.machine.Part.TheVariants as part;
-ghost use Rattle.owned_parts.specs.Owned.{redistributor_of, HasLpisOf};
+ghost use Rattle.owned_parts.specs.Owned.{redistributor_of, translator_of, HasLpisOf};
 ghost use Rattle.its_steps.specs.Good.{Holds};
 ghost use Rattle.its_steps.specs.Parts.{Stands, translator_count, vcpu_count};
 ghost use Rattle.its_steps.specs.Contents as content;
-ghost use Rattle.its_turns.specs.Contents.{translator_of};
 ghost use Rattle.its_turns.specs.Machines.{setup, view, IsOf};
 ghost use Rattle.its_turns.specs.Steps.{TakesPart, IsBusy};
 
 use crate::machine::{Machine, Pass};
 use crate::turns::{Busy, try_take};
-use crate::value::{GuestMemory, Tables, Value};
+use crate::value::{GuestMemory, Value};
 use its_types::{Part, Vcpu};
 use lpi_pending::Redist;
+use owned_parts::Translator;
 use xlate_cache::Shard;
 
 /// Tries the turn of a translator's maps once, and takes registers and maps out.
-pub fn try_take_maps(machine: &Machine, pass: &mut Pass, its: u8) -> Result<Box<Tables>, Busy>
+pub fn try_take_maps(machine: &Machine, pass: &mut Pass, its: u8) -> Result<Box<Translator>, Busy>
     requires of { IsOf machine.now pass.old }
     requires stands { its < translator_count (setup machine.now) }
     requires free { ¬ Holds (part.Maps its) (view pass.old).held }
@@ -28,7 +28,7 @@ pub fn try_take_maps(machine: &Machine, pass: &mut Pass, its: u8) -> Result<Box<
         (λ b. IsBusy (view pass.old) (part.Maps its) b (view pass.new)) }
 {
     match try_take(machine, pass, Part::Maps(its)) {
-        Ok(Value::Maps(tables)) => Ok(tables),
+        Ok(Value::Maps(translator)) => Ok(translator),
         Ok(_) => unreachable!(),
         Err(busy) => Err(busy),
     }
@@ -40,7 +40,8 @@ pub fn try_take_memory(machine: &Machine, pass: &mut Pass) -> Result<Box<GuestMe
     requires free { ¬ Holds part.Mem (view pass.old).held }
     ensures of { IsOf machine.now pass.new }
     ensures result { MatchResult result
-        (λ x. TakesPart (view pass.old) part.Mem (content.Mem x.value.memory None) (view pass.new))
+        (λ x. TakesPart (view pass.old) part.Mem (content.Mem x.value.memory x.value.track)
+        (view pass.new))
         (λ b. IsBusy (view pass.old) part.Mem b (view pass.new)) }
 {
     match try_take(machine, pass, Part::Mem) {

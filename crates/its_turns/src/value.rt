@@ -1,18 +1,9 @@
 //! What the slots hold.
-use gits_regs::Regs;
+use dirty_log::Tracked;
 use guest_windows::{Memory, Spare};
-use its_maps::Maps;
 use lpi_pending::Redist;
+use owned_parts::Translator;
 use xlate_cache::Shard;
-
-/// A translator's registers and maps.
-#[derive(Drop)]
-pub struct Tables {
-    /// Its registers.
-    pub regs: Regs,
-    /// Its devices, events and collections.
-    pub maps: Maps,
-}
 
 /// Guest memory.
 #[derive(Drop)]
@@ -21,6 +12,8 @@ pub struct GuestMemory {
     pub memory: Memory,
     /// Pages for a write that may not fail.
     pub spare: Spare,
+    /// The copy of the memory and its dirty pages, if the machine has them.
+    pub track: Option<Tracked>,
 }
 
 /// The value of a part, or nothing where it is out of its slot. It takes 16 bytes.
@@ -29,7 +22,7 @@ pub enum Value {
     /// A pass has the value.
     Vacant,
     /// Of a translator.
-    Maps(Box<Tables>),
+    Maps(Box<Translator>),
     /// Of the machine.
     Mem(Box<GuestMemory>),
     /// Of a translator's cache.

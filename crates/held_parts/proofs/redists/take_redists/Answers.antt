@@ -18,6 +18,7 @@ loop-vcpu-init g c = record {
   of = c.requires.of;
   takes = takes_first (IsRedistOf c.args.set) (view c.args.pass.now);
   taken = none_taken (setup c.args.machine.now) c.args.set c.args.redists.now (view c.args.pass.now).held c.requires.empty;
+  allowed = c.requires.allowed;
 }
 
 pub take_redist-redist-requires-clause-free : goal.take_redist-redist-requires-clause-free
@@ -41,11 +42,13 @@ loop-vcpu-preserved g c = let s = setup c.args.machine.now in let l = c.loop-vcp
                 (view t.new.pass).held (sym (length-set l.redists l.vcpu (Some r)) ∙ (ap length (sym w.place.ensures.placed) ∙ w.place.ensures.size))
                 (search rules) inside t.ensures.lpis
                 (took_held (view l.pass) (view t.new.pass) (part.Redist (record { 0 = l.vcpu })) (Redist (redistributor_of r)) t.ensures.takes));
+            allowed = t.ensures.allowed;
           }
       | else-is_wanted w ↦ rw (w.pass-is, w.redists-is) record {
         of = l.invariant.of;
         takes = l.invariant.takes;
         taken = not_taken s want l.vcpu (l.vcpu + 1) l.redists before (view l.pass).held l.invariant.taken (omega arith)
             (ap (λ (n : ℕ). is_in want l.vcpu && nat_lt l.vcpu n) (sym c.vcpus-vcpus.ensures.vcpus) ∙ (sym c.is_wanted.ensures ∙ w.if-is_wanted.false));
+        allowed = l.invariant.allowed;
       }
     ]

@@ -9,4 +9,5 @@ invariant-loop-vcpu g l = record {
   of : IsOf l.machine l.pass;
   takes : TakesOnly (IsRedistOf l.set) (view l.fn.pass) (view l.pass);
   taken : AreTaken (setup l.machine) l.set l.vcpu l.redists (view l.fn.pass).held (view l.pass).held;
+  allowed : g.T.Turns.allowed (view l.pass);
 }

@@ -15,11 +15,11 @@ put-requires-clause-owed c = let old = c.args.shards.now in let before = c.requi
     n - 1 - l.k in let x = c.take_out-shard.result in record {
       content = Shard x;
       content_is = refl;
-      before = shards_held old k before;
+      before = shards_held c.args.its old k before;
       last = ap (λ (y : View). y.held)
-          (l.invariant.home before (c.requires.held.1 ∙ ap (λ (m : ℕ). shards_held old m before) (sym c.shards-count.ensures.shards)))
-          ∙ row_first (shard_row old) before (n - l.k) k (shard_held k x) (omega (arith, c.loop-k-test.true))
-          (ap (held_if_in k) (sym (l.invariant.left.below k (omega (arith, c.loop-k-test.true))) ∙ c.take_out-shard.ensures.value));
+          (l.invariant.home before (c.requires.held.1 ∙ ap (λ (m : ℕ). shards_held c.args.its old m before) (sym c.shards-count.ensures.shards)))
+          ∙ row_first (shard_row c.args.its old) before (n - l.k) k (shard_held c.args.its k x) (omega (arith, c.loop-k-test.true))
+          (ap (held_if_in c.args.its k) (sym (l.invariant.left.below k (omega (arith, c.loop-k-test.true))) ∙ c.take_out-shard.ensures.value));
     }
 
 pub loop-k-preserved : goal.loop-k-preserved
@@ -30,13 +30,14 @@ loop-k-preserved c = let l = c.loop-k in let old = c.args.shards.now in let n = 
     rw (e) record {
       of = c.put.ensures.of;
       home = λ before is. c.put.ensures.view ∙ (ap released (l.invariant.home before is)
-          ∙ ap (λ (h : List Held). holding (view c.args.pass.now) (held_before h)) (row_first (shard_row old) before (n - l.k) k (shard_held k x) next
-          (ap (held_if_in k) (sym (l.invariant.left.below k (omega (arith, next))) ∙ c.take_out-shard.ensures.value))));
+          ∙ ap (λ (h : List Held). holding (view c.args.pass.now) (held_before h)) (row_first (shard_row c.args.its old) before (n - l.k) k
+          (shard_held c.args.its k x) next (ap (held_if_in c.args.its k)
+          (sym (l.invariant.left.below k (omega (arith, next))) ∙ c.take_out-shard.ensures.value))));
       left = rw (c.take_out-shard.ensures.taken) (one_left (n - l.k) k old l.shards next l.invariant.left);
     }
 
 pub returns-clause-home : goal.returns-clause-home
 returns-clause-home c = let l = c.loop-k in let old = c.args.shards.now in λ before is.
-    l.invariant.home before (is ∙ ap (λ (m : ℕ). shards_held old m before) (sym c.shards-count.ensures.shards))
-    ∙ ap (λ (h : List Held). holding (view c.args.pass.now) h) (row_none (shard_row old) before (c.shards-count.result - l.k)
+    l.invariant.home before (is ∙ ap (λ (m : ℕ). shards_held c.args.its old m before) (sym c.shards-count.ensures.shards))
+    ∙ ap (λ (h : List Held). holding (view c.args.pass.now) h) (row_none (shard_row c.args.its old) before (c.shards-count.result - l.k)
     (omega (arith, c.loop-k-test.false)))

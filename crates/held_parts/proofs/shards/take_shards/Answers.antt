@@ -3,7 +3,7 @@ use Rattle.std.proofs.Common.{length, rules, arith, ap, sym, ◌∙◌, refl, �
 use Rattle.its_types.specs.declared.machine.Part.TheVariants as part
 use Rattle.its_steps.specs.Contents.{Shard}
 use Rattle.its_turns.specs.Machines.{view}
-use Rattle.held_parts.specs.Shards.{IsShardOfFirst}
+use Rattle.held_parts.specs.Shards.{IsShardOf}
 use Rattle.held_parts.proofs.Going.{takes_first, takes_one, takes_then, took_held}
 use Rattle.held_parts.proofs.ShardLoops.{none_taken, is_free, one_taken}
 use Rattle.held_parts.proofs.shards.take_shards.Goals as goal
@@ -11,21 +11,24 @@ use Rattle.held_parts.proofs.shards.take_shards.Goals as goal
 pub loop-number-init : goal.loop-number-init
 loop-number-init g c = record {
   of = c.requires.of;
-  takes = takes_first IsShardOfFirst (view c.args.pass.now);
-  taken = none_taken c.args.shards.now (view c.args.pass.now).held c.requires.empty;
+  takes = takes_first (IsShardOf c.args.its) (view c.args.pass.now);
+  taken = none_taken c.args.its c.args.shards.now (view c.args.pass.now).held c.requires.empty;
+  allowed = c.requires.allowed;
 }
 
 pub take_shard-shard-requires-clause-free : goal.take_shard-shard-requires-clause-free
-take_shard-shard-requires-clause-free g c = let l = c.loop-number in is_free l.number (l.number + 1) l.shards (view c.args.pass.now).held
+take_shard-shard-requires-clause-free g c = let l = c.loop-number in is_free c.args.its l.number (l.number + 1) l.shards (view c.args.pass.now).held
     (view l.pass).held l.invariant.taken (omega arith) c.requires.free
 
 pub loop-number-preserved : goal.loop-number-preserved
 loop-number-preserved g c = let l = c.loop-number in let t = c.take_shard-shard in record {
   of = t.ensures.of;
-  takes = takes_then IsShardOfFirst (view c.args.pass.now) (view l.pass) (view t.new.pass) l.invariant.takes
-      (takes_one IsShardOfFirst (view l.pass) (view t.new.pass) (part.Shard 0 l.number) (Shard t.result) refl t.ensures.takes);
+  takes = takes_then (IsShardOf c.args.its) (view c.args.pass.now) (view l.pass) (view t.new.pass) l.invariant.takes
+      (takes_one (IsShardOf c.args.its) (view l.pass) (view t.new.pass) (part.Shard c.args.its l.number) (Shard t.result) refl t.ensures.takes);
   taken = rw (c.place.ensures.placed)
-      (one_taken l.number (l.number + 1) l.shards (view c.args.pass.now).held (view l.pass).held l.invariant.taken (omega arith) t.result (view t.new.pass).held
+      (one_taken c.args.its l.number (l.number + 1) l.shards (view c.args.pass.now).held (view l.pass).held l.invariant.taken (omega arith)
+      t.result (view t.new.pass).held
       (sym (length-set l.shards l.number (Some t.result)) ∙ (ap length (sym c.place.ensures.placed) ∙ c.place.ensures.size)) (search rules)
-      (took_held (view l.pass) (view t.new.pass) (part.Shard 0 l.number) (Shard t.result) t.ensures.takes));
+      (took_held (view l.pass) (view t.new.pass) (part.Shard c.args.its l.number) (Shard t.result) t.ensures.takes));
+  allowed = t.ensures.allowed;
 }

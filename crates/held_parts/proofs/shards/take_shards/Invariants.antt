@@ -1,5 +1,5 @@
 use Rattle.its_turns.specs.Machines.{view, IsOf}
-use Rattle.held_parts.specs.Shards.{IsShardOfFirst}
+use Rattle.held_parts.specs.Shards.{IsShardOf}
 use Rattle.held_parts.specs.Taking.{TakesOnly}
 use Rattle.held_parts.proofs.ShardLoops.{AreTaken}
 use Rattle.held_parts.proofs.shards.take_shards.Given as goal
@@ -7,6 +7,7 @@ use Rattle.held_parts.proofs.shards.take_shards.Given as goal
 abbrev pub invariant-loop-number : goal.invariant-loop-number
 invariant-loop-number g l = record {
   of : IsOf l.machine l.pass;
-  takes : TakesOnly IsShardOfFirst (view l.fn.pass) (view l.pass);
-  taken : AreTaken l.number l.shards (view l.fn.pass).held (view l.pass).held;
+  takes : TakesOnly (IsShardOf l.its) (view l.fn.pass) (view l.pass);
+  taken : AreTaken l.its l.number l.shards (view l.fn.pass).held (view l.pass).held;
+  allowed : g.T.Turns.allowed (view l.pass);
 }

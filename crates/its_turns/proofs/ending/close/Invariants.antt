@@ -9,13 +9,13 @@ use Rattle.its_turns.proofs.ending.close.Given as goal
 
 abbrev pub invariant-loop-shard : goal.invariant-loop-shard
 invariant-loop-shard l =
-    AreTaken (8 * (2 + l.shard)) (slots_len l.closed.slots) (slots_filled l.closed.slots)
+    AreTaken (8 * l.shard) (slots_len l.closed.slots) (slots_filled l.closed.slots)
     × Final (Seen (Kept (setup l.fn.machine)) l.fn.root.seat.id (view l.fn.root)) (slots_items l.closed.words) (slots_items l.closed.slots)
     × (slots_len l.closed.slots ≡ l.fn.machine.table.shared.table_id.slots)
 
 abbrev pub invariant-loop-vcpu : goal.invariant-loop-vcpu
 invariant-loop-vcpu l =
-    AreTaken (8 * (2 + l.shards + l.vcpu)) (slots_len l.closed.slots) (slots_filled l.closed.slots)
+    AreTaken (8 * (l.first_redist + l.vcpu)) (slots_len l.closed.slots) (slots_filled l.closed.slots)
     × Final (Seen (Kept (setup l.fn.machine)) l.fn.root.seat.id (view l.fn.root)) (slots_items l.closed.words) (slots_items l.closed.slots)
     × (slots_len l.closed.slots ≡ l.fn.machine.table.shared.table_id.slots)
     × AreBelow (after (setup l.fn.machine).start (view l.fn.root).seen) l.vcpu l.redists

@@ -1,16 +1,17 @@
 use Rattle.std.proofs.Common.{rules, arith, ◌≡◌, ℕ, ◌+◌, ◌*◌, ◌<◌, ◌≤◌, ◌^◌, List, length, replicate, ap, sym, ◌∙◌, subst}
 use Rattle.atomic_table.specs.Table.{opening}
-use Rattle.its_plain.specs.Machine.{layout_of, IsSingle}
+use Rattle.its_plain.specs.Machine.{layout_of}
 use Rattle.its_plain.specs.declared.desc.Desc.{Desc}
 use Rattle.its_plain.specs.declared.layout.Layout.{Layout}
-use Rattle.its_steps.specs.Parts.{HasVcpus, Setup, part_count}
+use Rattle.its_steps.specs.Parts.{HasVcpus, Setup, part_count, translator_count, vcpu_count}
 use Rattle.its_steps.specs.World.{first_view}
 use Rattle.owned_parts.specs.declared.parts.Parts.{Parts}
 use Rattle.its_turns.specs.Opening.{setup_from, first_words}
 use Rattle.its_turns.specs.Rule.{Kept, setup_of}
 use Rattle.its_turns.specs.declared.value.Value.{Value}
-use Rattle.its_turns.proofs.Described.{single_kept}
+use Rattle.its_turns.proofs.Described.{kept_long}
 use Rattle.its_turns.proofs.Opening.{opens, values_long, apart_long}
+use Rattle.its_turns.proofs.Stamps.{some_count, few_shards, low_stamps}
 use Rattle.its_turns.proofs.machine.Machine.new.Goals as goal
 
 pub new-requires : goal.new-requires
@@ -18,7 +19,10 @@ new-requires c =
     let s : Setup = setup_from c.args.desc.now c.args.parts in
     let values = c.in_ok-first_values.field-0.items in
     let vcpus : c.args.parts.layout.shape.vcpus ≡ c.args.desc.now.shape.vcpus = ap (λ (l : Layout). l.shape.vcpus) c.requires.layout in
-    let count : 16 * (c.args.desc.now.shards + 3 + c.args.desc.now.shape.vcpus) ≡ 16 * (part_count s + 1) = omega (arith, vcpus) in
+    let translators : c.len-translators.result ≡ translator_count s = c.len-translators.ensures ∙ c.requires.translators in
+    let shards : c.from.result * c.args.desc.now.shards ≡ translator_count s * s.shards = ap (λ (n : ℕ). n * s.shards) (c.from.ensures ∙ translators) in
+    let count : 16 * (c.from-first_shard.result + 1 + c.from.result * c.args.desc.now.shards + c.from-2.result + 1) ≡ 16 * (part_count s + 1) =
+    omega (arith, vcpus, translators, shards, c.from-first_shard.ensures, c.from-2.ensures) in
     let ws : c.as_slice.result.now ≡ first_words (part_count s) = c.as_slice.ensures.value ∙ (search rules) ∙ ap (λ (n : ℕ). replicate n 0) count in
     let here : Kept s (opening c.as_slice.result.now c.in_ok-slots.slots.items (first_view s)) =
     subst (λ (x : List ℕ × List Value). Kept s (opening x.0 x.1 (first_view s))) (λ d. (sym ws d, sym c.in_ok-slots.ensures d))
@@ -38,16 +42,39 @@ invariant_of-result c =
     let parts : part_count (setup_of c.in-Ok.table.shared.key) ≡ part_count s = ap (λ (x : Setup). part_count x) key in
     let vcpus : c.args.parts.layout.shape.vcpus ≡ c.args.desc.now.shape.vcpus = ap (λ (l : Layout). l.shape.vcpus) c.requires.layout in
     let layout : c.in_ok-layout.layout ≡ c.args.parts.layout = c.in_ok-layout.ensures in
-    let words : length c.as_slice.result.now ≡ 16 * (c.args.desc.now.shards + 3 + c.args.desc.now.shape.vcpus) = search rules in
+    let words : length c.as_slice.result.now ≡ 16 * (c.from-first_shard.result + 1 + c.from.result * c.args.desc.now.shards + c.from-2.result + 1) =
+    search rules in
+    let translators : c.len-translators.result ≡ translator_count s = c.len-translators.ensures ∙ c.requires.translators in
+    let shards : c.from.result * c.args.desc.now.shards ≡ translator_count s * s.shards = ap (λ (n : ℕ). n * s.shards) (c.from.ensures ∙ translators) in
+    let some_number = some_count s c.requires.apart in
+    let few : translator_count s * s.shards ≤ 128 = few_shards s c.requires.apart c.requires.most_shards in
+    let counts : translator_count (setup_of c.in-Ok.table.shared.key) ≡ translator_count s = ap (λ (x : Setup). translator_count x) key in
+    let processors : vcpu_count (setup_of c.in-Ok.table.shared.key) ≡ vcpu_count s = ap (λ (x : Setup). vcpu_count x) key in
+    let before : c.from-first_shard.result ≡ translator_count s = c.from-first_shard.ensures ∙ translators in
     record {
       described = search rules;
-      single = subst IsSingle (sym c.in_ok-kept.ensures) (single_kept c.args.desc.now c.requires.single);
       built = (
         layout ∙ sym (ap (λ (x : Setup). x.start.layout) key),
         ap (λ (d : Desc). layout_of d) c.in_ok-kept.ensures ∙ sym (layout ∙ c.requires.layout),
       );
-      sized = (e.1 ∙ (long ∙ ap (λ (n : ℕ). 8 * n) (sym parts)), omega (arith, e.0, words, parts, vcpus));
-      laid = (ap (λ (x : Setup). length x.start.translators) key, subst HasVcpus (sym key) c.requires.sound.vcpus);
+      sized = (e.1 ∙ (long ∙ ap (λ (n : ℕ). 8 * n) (sym parts)), omega (arith, e.0, words, parts, vcpus, shards, before, c.from-2.ensures));
+      laid = (
+        ap (λ (x : Setup). translator_count x) key ∙ (sym c.requires.translators ∙ (sym (kept_long c.args.desc.now)
+            ∙ ap (λ (d : Desc). length d.translators) (sym c.in_ok-kept.ensures))),
+        subst HasVcpus (sym key) c.requires.sound.vcpus,
+      );
+      paired = (
+        omega (arith, translators, some_number.0),
+        omega (arith, translators, some_number.1),
+        (λ two. subst (λ (d : Desc). d.limits.stamp_last < 4096) (sym c.in_ok-kept.ensures) (low_stamps s c.requires.apart (sym translators ∙ two))),
+      );
+      ordered = (
+        translators ∙ sym counts,
+        omega (arith, c.from-first_shard.ensures),
+        omega (arith, before, shards, parts, processors),
+        omega (arith, before, shards, few, some_number.1),
+      );
+      shifted = omega (arith, translators, some_number.0);
       small = subst (λ (d : Desc). (1 ≤ d.shards) × (d.shards ≤ 64) × (d.shape.vcpus ≤ 16) × (d.limits.place_last < 2 ^ 40) × (d.limits.stamp_last < 2 ^ 24))
           (sym c.in_ok-kept.ensures)
           (c.requires.some_shards, c.requires.most_shards, c.requires.vcpus, c.requires.places, c.requires.stamps);
