@@ -1,9 +1,10 @@
-pub mod Came
-pub mod Writing
 pub mod Tracks
 pub mod InState
+pub mod Held
 pub mod Marks
-pub mod Running
-pub mod InHand
-pub mod Still
-pub mod Trying
+pub mod Came
+pub mod Reading
+pub mod Carrying
+pub mod Unmet
+pub mod Written
+pub mod Getting

@@ -49,6 +49,6 @@ step_track u i = elim (is_idle u i) as (λ b. (cond b u (met_left u i (next_byte
   | false ↦ met_track u i (next_bytes u i)
 ]
 
-pub track_after : (u : Plain) (r : Reply) → (left u (call.Step 0) r).track ≡ u.track
+pub track_after : (u : Plain) (i : ℕ) (r : Reply) → (left u (call.Step i) r).track ≡ u.track
 unfolding left
-track_after u r = step_track u 0
+track_after u i r = step_track u i

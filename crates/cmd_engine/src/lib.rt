@@ -1,19 +1,23 @@
-//! Translator 0 of a machine that threads share, as its guest drives it: the commands of its queue
+//! A translator of a machine that threads share, as its guest drives it: the commands of its queue
 //! and its control frame (IHI 0069, sections 5.3 and 12.19).
+//!
+//! A call has up to eight arguments: how it waits, the machine, the caller's pass, a gate at which
+//! a test may hold it, and what is asked.
 #![tactic(auto)]
 
+mod cached;
+mod commands;
+mod commits;
+mod endings;
+mod hands;
 mod missed;
-mod registers;
-mod registers_commit;
-mod registers_renew;
-mod registers_write;
-mod step_commands;
-mod step_shards;
-mod step_shards_taken;
-mod step_still;
-mod step_tells;
+mod reads;
 mod steps;
+mod still;
+mod taking;
+mod writes;
+mod writing;
 
-pub use registers::{read_reg, try_read_reg};
-pub use registers_write::write_reg;
-pub use steps::step;
+pub use reads::{read_at, read_reg, try_read_at, try_read_reg};
+pub use steps::{step, step_at};
+pub use writes::{write_at, write_reg};

@@ -1,10 +1,15 @@
 //! What becomes of a call that waits for its turns and is tried once.
+use its_turns::Raced;
 
-/// Why it was not made.
+/// Why it was not made. All parts are as they were.
 #[derive(Clone, Copy, Debug, PartialEq, Eq)]
-pub enum Missed {
+pub(crate) enum Missed {
     /// All places are used.
     Spent,
-    /// Another call was made first, and it may start again.
-    Again,
+    /// The next command adds a device, a collection or an event, and there was no memory for it.
+    NoMemory,
+    /// Another call was made first.
+    Raced(Raced),
+    /// The translator's stamp, which was to rise, is the last one by now.
+    Late,
 }

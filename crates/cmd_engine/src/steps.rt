@@ -1,52 +1,59 @@
-//! Steps: translator 0 takes its next command.
-ghost use Rattle.std.specs.Prelude.{◌≡◌, []};
-ghost use Rattle.its_turns.specs.Machines.{view, IsOf};
-ghost use Rattle.held_parts.specs.Redists.{AreNoRedists};
-ghost use Rattle.cmd_engine.specs.StepTells.{Steps, Tried};
+//! Steps: a translator takes its next command.
+ghost use Rattle.std.specs.Prelude.{◌≡◌, ◌<◌, []};
+ghost use Rattle.its_types.specs.declared.machine.Part.TheVariants as part;
+ghost use Rattle.its_plain.specs.declared.call.Call.TheVariants as call;
+ghost use Rattle.its_plain.specs.declared.call.Reply.TheVariants as reply;
+ghost use Rattle.owned_parts.specs.Owned.{translator_of};
+ghost use Rattle.its_steps.specs.Contents as content;
+ghost use Rattle.its_steps.specs.Parts.{translator_count};
+ghost use Rattle.its_turns.specs.Machines.{setup, view, IsOf};
+ghost use Rattle.its_turns.specs.Told.{HasStood};
+ghost use Rattle.cmd_engine.specs.Hands.{HasInHand, IsBase, IsOfStep};
+ghost use Rattle.cmd_engine.specs.Telling.{Comes, ComesFrom, Steps};
 
-use crate::step_commands::command_step;
-use crate::step_still::still_step;
-use crate::step_tells::Unmade;
+use crate::commands::make_command;
+use crate::hands::{Hands, put_back};
+use crate::missed::Missed;
+use crate::still::make_still;
+use crate::taking::take_needed;
 use cmd_exec::{Met, meet};
-use held_parts::{take_maps, take_memory};
+use held_parts::{Waiting, take_maps, take_memory};
 use its_plain::StepReply;
 use its_turns::{Machine, NotMade, Pass, pause};
 use its_types::{Gate, Placed, Point};
-use lpi_pending::Redists;
 use std::sync::Wait;
 
-// Tries a step once. No redistributor is in its place before and after.
-fn try_step<R: Wait, G: Gate>(
+/// A translator takes its next command (IHI 0069, section 5.3), and waits for the turns that it
+/// needs: its maps, memory, a pair's shard or every one, and redistributors, the lowest first. A
+/// command that ends one pair's translations drops them from their shard. One that may end all
+/// leaves the translator's next stamp, and after the last one 0 and empty shards. Takes no memory
+/// but what the maps want for a device, a collection or an event that is added. Where no step is
+/// made, every part is as it was.
+pub fn step_at<R: Wait, G: Gate>(
     rt: &R,
     machine: &Machine,
     pass: &mut Pass,
     gate: &G,
-    redists: &mut Redists,
-) -> Result<Placed<StepReply>, Unmade>
+    its: u8,
+) -> Result<Placed<StepReply>, NotMade>
     requires of { IsOf machine.now pass.old }
+    requires its { its < translator_count (setup machine.now) }
     requires free { (view pass.old).held ≡ [] }
-    requires empty { AreNoRedists redists.old }
     ensures of { IsOf machine.now pass.new }
-    ensures empty { AreNoRedists redists.new }
-    ensures tried { Tried (view pass.old) result (view pass.new) }
+    ensures answer { Steps (view pass.old) its result (view pass.new) }
 {
-    let tables = take_maps(rt, machine, pass, 0);
-    gate.at(pass.number(), Point::MapsTaken);
-    let memory = take_memory(rt, machine, pass);
-    match meet(&tables.regs, &memory.memory) {
-        Met::Still(reply) => still_step(machine, pass, gate, reply, tables, memory),
-        Met::Command(command) => command_step(
-            rt, machine, pass, gate, &command, tables, memory, redists,
-        ),
+    for _ in rt.forever() {
+        match step_once(rt, machine, pass, gate, its) {
+            Ok(placed) => return Ok(placed),
+            Err(Missed::Spent) => return Err(NotMade::Spent),
+            Err(Missed::NoMemory) => return Err(NotMade::NoMemory),
+            Err(Missed::Raced(_) | Missed::Late) => pause(),
+        }
     }
+    unreachable!()
 }
 
-/// Translator 0 takes its next command (IHI 0069, section 5.3), and waits for the turns that it
-/// needs: the maps, memory, a pair's shard or every one, and redistributors, the lowest first. A
-/// command that ends one pair's translations drops them from their shard. One that may end all
-/// leaves the next stamp, and after the last one 0 and empty shards. Takes no memory but what the
-/// maps want for a device, a collection or an event that is added. Where no step is made, every
-/// part is as it was.
+/// A step of translator 0.
 ///
 /// ```
 /// let mut refused = 0u32;
@@ -67,15 +74,61 @@ pub fn step<R: Wait, G: Gate>(
     requires of { IsOf machine.now pass.old }
     requires free { (view pass.old).held ≡ [] }
     ensures of { IsOf machine.now pass.new }
-    ensures answer { Steps (view pass.old) result (view pass.new) }
+    ensures answer { Steps (view pass.old) 0 result (view pass.new) }
 {
-    let mut redists = Redists::new();
-    for _ in rt.forever() {
-        match try_step(rt, machine, pass, gate, &mut redists) {
-            Ok(placed) => return Ok(placed),
-            Err(Unmade::Never(why)) => return Err(why),
-            Err(Unmade::Again) => pause(),
+    step_at(rt, machine, pass, gate, 0)
+}
+
+fn step_once<R: Wait, G: Gate>(
+    rt: &R,
+    machine: &Machine,
+    pass: &mut Pass,
+    gate: &G,
+    its: u8,
+) -> Result<Placed<StepReply>, Missed>
+    requires of { IsOf machine.now pass.old }
+    requires its { its < translator_count (setup machine.now) }
+    requires free { (view pass.old).held ≡ [] }
+    ensures of { IsOf machine.now pass.new }
+    ensures free { (view pass.new).held ≡ [] }
+    ensures comes { Comes (IsOfStep its) (view pass.old) (call.Step its) reply.Step
+        (view pass.new) result }
+{
+    let translator = take_maps(&Waiting { rt }, machine, pass, its);
+    gate.at(pass.number(), Point::MapsTaken);
+    let memory = take_memory(&Waiting { rt }, machine, pass);
+    let mut hands = Hands::new(its, translator, Some(memory));
+    let made = step_with(rt, machine, pass, gate, &mut hands);
+    put_back(machine, pass, hands);
+    made
+}
+
+// The maps and memory are in hand.
+fn step_with<R: Wait, G: Gate>(
+    rt: &R,
+    machine: &Machine,
+    pass: &mut Pass,
+    gate: &G,
+    hands: &mut Hands,
+) -> Result<Placed<StepReply>, Missed>
+    requires of { IsOf machine.now pass.old }
+    requires hands { HasInHand (setup machine.now) (view pass.old) hands.old }
+    requires base { IsBase hands.old }
+    requires stood { HasStood (setup machine.now) (part.Maps hands.old.its)
+        (content.Maps (translator_of hands.old.translator.value)) }
+    ensures of { IsOf machine.now pass.new }
+    ensures hands { HasInHand (setup machine.now) (view pass.new) hands.new }
+    ensures comes { ComesFrom (IsOfStep hands.old.its) (view pass.old) (call.Step hands.old.its)
+        reply.Step (view pass.new) result }
+{
+    let Some(memory) = &hands.memory else {
+        unreachable!();
+    };
+    match meet(&hands.translator.regs, &memory.memory) {
+        Met::Still(reply) => make_still(machine, pass, gate, reply, hands),
+        Met::Command(command) => {
+            take_needed(rt, machine, pass, &command, hands);
+            make_command(machine, pass, gate, &command, hands)
         }
     }
-    unreachable!()
 }

@@ -1,9 +1,7 @@
--- Signals by the cache: from what each step tells to what the call says.
+-- Messages by the cache: from what each step tells to what the call says.
 use Rattle.std.proofs.Common.{◌≡◌, ℕ, ◌+◌, ◌<◌, ◌&&◌, Bool, true, false, cond, eqb, List, [], ◌∷◌, Option, Some, None, length, refl, ap, sym}
-use Rattle.std.proofs.Common.{◌∙◌, subst, inl, inr, arith, eq-eqb}
+use Rattle.std.proofs.Common.{◌∙◌, subst, inl, inr, eq-eqb}
 use mathlib.Core.List.{IsPrefix}
-use Rattle.its_types.specs.declared.ids.DeviceId.{DeviceId}
-use Rattle.its_types.specs.declared.ids.EventId.{EventId}
 use Rattle.its_types.specs.declared.ids.Target.{Target}
 use Rattle.its_types.specs.declared.ids.Vcpu.{Vcpu}
 use Rattle.its_types.specs.declared.machine.Part.{Part}
@@ -11,6 +9,7 @@ use Rattle.its_types.specs.declared.machine.Part.TheVariants as part
 use Rattle.its_types.specs.declared.machine.Placed.{Placed}
 use Rattle.its_types.specs.declared.machine.Word.{Word}
 use Rattle.its_plain.specs.Plain.{Redistributor}
+use Rattle.its_plain.specs.declared.call.Call.{Call}
 use Rattle.its_plain.specs.declared.call.Reply.TheVariants as reply
 use Rattle.its_plain.specs.declared.call.Signal.{Signal}
 use Rattle.its_plain.specs.declared.call.Entry.{Entry}
@@ -18,12 +17,11 @@ use Rattle.xlate_cache.specs.Pairs.{shard_number}
 use Rattle.xlate_cache.specs.Ways.{found}
 use Rattle.xlate_cache.specs.declared.entry.Entry.{Entry as Translation}
 use Rattle.its_steps.proofs.Signals.{hits, hits_off}
-use Rattle.its_steps.proofs.Stamps.{one_has}
 use Rattle.its_steps.specs.MayCall.{MayCall, met}
 use Rattle.its_steps.specs.Renewal.{renewal}
 use Rattle.its_steps.specs.Calls.{staying, MayLeave}
 use Rattle.its_steps.specs.Contents.{Shard, Redist, Held, Looked}
-use Rattle.its_steps.specs.Parts.{Setup, HasVcpus, translator_count, vcpu_count, stamp_of}
+use Rattle.its_steps.specs.Parts.{Setup, HasVcpus, translator_count, vcpu_count, stamp_at, stamp_of}
 use Rattle.its_steps.specs.World.{View, Tries, took, out, lost_to, looked_in}
 use Rattle.its_steps.specs.declared.change.ShardChange.TheVariants.{Keep}
 use Rattle.its_steps.specs.declared.commit.Commit.{Commit}
@@ -37,40 +35,39 @@ use Rattle.its_turns.specs.declared.commits.Raced.{Raced as Race}
 use Rattle.its_turns.specs.declared.turns.Busy.{Busy as Found}
 use Rattle.device_port.specs.Hands.{two_before, delivered}
 use Rattle.device_port.specs.Hits.{HitMade, HitRaced, HitsNow}
-use Rattle.device_port.specs.Signals.{signal, shard_of, FindsLast, SignalsNow, KeepsEarly}
+use Rattle.device_port.specs.Messages.{Sends}
+use Rattle.device_port.specs.Signals.{shard_of, FindsLast, SignalsNow, KeepsEarly}
+use Rattle.device_port.specs.declared.message.Message.{Message}
 use Rattle.device_port.specs.declared.hits.Now.{Now}
 use Rattle.device_port.specs.declared.hits.Now.TheVariants.{Done, Miss, Busy, Raced, Spent}
 
--- the stamp of the one translator
-pub at_stamp : (s : Setup) → translator_count s ≡ 1 → (w : Word) → stamp_of s w 0 ≡ w.stamp
-at_stamp s one w = (one_has s one).0 w 0
-
 -- a shard that is held is looked at again
-pub looked_there : (vcpu : Vcpu) (r : Redistributor) (n : ℕ) (ways : List (Option Translation)) (before : List Held) (o : Looked) → o.its ≡ 0 → o.number ≡ n
-    → looked_in (two_before n vcpu ways r before) o ≡ record { its = 0; number = n; ways = ways }
-looked_there vcpu r n ways before o its number =
-    let test : (eqb 0 o.its && eqb n o.number) ≡ true = λ d. eq-eqb 0 o.its (sym its) d && eq-eqb n o.number (sym number) d in
-    ap (λ b. cond b (record { its = 0; number = n; ways = ways }) (looked_in before o)) test
+pub looked_there : (vcpu : Vcpu) (r : Redistributor) (its n : ℕ) (ways : List (Option Translation)) (before : List Held) (o : Looked) → o.its ≡ its
+    → o.number ≡ n
+    → looked_in (two_before its n vcpu ways r before) o ≡ record { its = its; number = n; ways = ways }
+looked_there vcpu r its n ways before o at number =
+    let test : (eqb its o.its && eqb n o.number) ≡ true = λ d. eq-eqb its o.its (sym at) d && eq-eqb n o.number (sym number) d in
+    ap (λ b. cond b (record { its = its; number = n; ways = ways }) (looked_in before o)) test
 
-module _ (s : Setup) (one : translator_count s ≡ 1) (dev : DeviceId) (ev : EventId) where
+module _ (s : Setup) (c : Call) (m : Message) where
   abbrev n : ℕ
-  n = shard_number dev.0 ev.0 s.shards
+  n = shard_number m.dev.0 m.ev.0 s.shards
 
   pub finds_last : (x : View) (ways : List (Option Translation)) (w : Word) (o : Option Target) → x.setup ≡ s
-      → x.cache.looked ≡ record { its = 0; number = n; ways = ways } → x.last.stamp ≡ w.stamp → found ways dev.0 ev.0 w.stamp ≡ o
-      → FindsLast dev ev x o
+      → x.cache.looked ≡ record { its = m.its; number = n; ways = ways } → x.last.stamp ≡ w.stamp
+      → found ways m.dev.0 m.ev.0 (stamp_of s w m.its) ≡ o → FindsLast m x o
   finds_last x ways w o own looked last finds = record {
     its = ap (λ (l : Looked). l.its) looked;
-    number = ap (λ (l : Looked). l.number) looked ∙ ap (λ (z : Setup). shard_number dev.0 ev.0 z.shards) (sym own);
-    finds = (λ d. found (looked d).ways dev.0 ev.0 (stamp_of (own d) x.last 0)) ∙ (ap (found ways dev.0 ev.0) (at_stamp s one x.last ∙ last) ∙ finds);
+    number = ap (λ (l : Looked). l.number) looked ∙ ap (λ (z : Setup). shard_number m.dev.0 m.ev.0 z.shards) (sym own);
+    finds = (λ d. found (looked d).ways m.dev.0 m.ev.0 (stamp_at (translator_count (own d)) (last d) m.its)) ∙ finds;
   }
 
   module _ (v v1 : View) (w : Word) (own : v.setup ≡ s) (bare : v.held ≡ []) (looks : Looks v w v1) (room : w.place < s.limits.place_last) where
     abbrev p : Part
-    p = part.Shard 0 n
+    p = part.Shard m.its n
 
-    p_is : p ≡ shard_of v.setup dev ev
-    p_is = ap (λ (z : Setup). shard_of z dev ev) (sym own)
+    p_is : p ≡ shard_of v.setup m
+    p_is = ap (λ (z : Setup). shard_of z m) (sym own)
 
     on : GoesOn v v.tries v1
     on = goes_looked v v v.tries (goes_first v) v1 w looks
@@ -80,7 +77,7 @@ module _ (s : Setup) (one : translator_count s ≡ 1) (dev : DeviceId) (ev : Eve
     room_at x same = subst (λ (k : ℕ). k < v.setup.limits.place_last) (sym (ap (λ (h : List Entry). length h) same ∙ looks.place))
         (subst (λ (z : Setup). w.place < z.limits.place_last) (sym own) room)
 
-    pub busy_shard : (b : Found) (x : View) → IsBusy v1 p b x → SignalsNow v dev ev x (Busy b) × KeepsEarly v x
+    pub busy_shard : (b : Found) (x : View) → IsBusy v1 p b x → SignalsNow v c m x (Busy b) × KeepsEarly v x
     busy_shard b x busy =
         let gone = goes_missed v v1 v.tries on x p b.holder busy.view in (
           (
@@ -103,7 +100,7 @@ module _ (s : Setup) (one : translator_count s ≡ 1) (dev : DeviceId) (ev : Eve
 
     module _ (v2 : View) (ways : List (Option Translation)) (took_is : v2 ≡ took v1 p (Shard ways)) where
       abbrev t : Tries
-      t = got_all (shard_of v.setup dev ev ∷ []) v.tries
+      t = got_all (shard_of v.setup m ∷ []) v.tries
 
       t_is : got_all (p ∷ []) v.tries ≡ t
       t_is = ap (λ (q : Part). got_all (q ∷ []) v.tries) p_is
@@ -114,7 +111,7 @@ module _ (s : Setup) (one : translator_count s ≡ 1) (dev : DeviceId) (ev : Eve
       held2 : v2.held ≡ out p (Shard ways) ∷ v.held
       held2 = ap (λ (y : View). y.held) took_is ∙ ap (λ (l : List Held). out p (Shard ways) ∷ l) (looked_held v v1 w looks)
 
-      looked2 : v2.cache.looked ≡ record { its = 0; number = n; ways = ways }
+      looked2 : v2.cache.looked ≡ record { its = m.its; number = n; ways = ways }
       looked2 = ap (λ (y : View). y.cache.looked) took_is
 
       early2 : KeepsEarly v v2
@@ -132,7 +129,8 @@ module _ (s : Setup) (one : translator_count s ≡ 1) (dev : DeviceId) (ev : Eve
       seen2 : v2.seen ≡ v1.seen
       seen2 = ap (λ (y : View). y.seen) took_is
 
-      pub missed_now : (x : View) → found ways dev.0 ev.0 w.stamp ≡ None → x ≡ released v2 → SignalsNow v dev ev x Miss × KeepsEarly v x
+      pub missed_now : (x : View) → found ways m.dev.0 m.ev.0 (stamp_of s w m.its) ≡ None → x ≡ released v2
+          → SignalsNow v c m x Miss × KeepsEarly v x
       missed_now x none home =
           let gone = goes_released v v2 t on2 x home in (
             (
@@ -145,8 +143,9 @@ module _ (s : Setup) (one : translator_count s ≡ 1) (dev : DeviceId) (ev : Eve
             record { early = ap (λ (y : View). y.cache.early) home ∙ early2.early; word = ap (λ (y : View). y.cache.early_word) home ∙ early2.word },
           )
 
-      pub busy_redist : (target : Target) (b : Found) (x y : View) → found ways dev.0 ev.0 w.stamp ≡ Some target → IsBusy v2 (part.Redist target.vcpu) b y
-          → x ≡ released y → SignalsNow v dev ev x (Busy b) × KeepsEarly v x
+      pub busy_redist : (target : Target) (b : Found) (x y : View) → found ways m.dev.0 m.ev.0 (stamp_of s w m.its) ≡ Some target
+          → IsBusy v2 (part.Redist target.vcpu) b y
+          → x ≡ released y → SignalsNow v c m x (Busy b) × KeepsEarly v x
       busy_redist target b x y finds busy home =
           let q : Part = part.Redist target.vcpu in
           let gone = goes_released v y (lost_to t q b.holder) (goes_missed v v2 t on2 y q b.holder busy.view) x home in (
@@ -173,10 +172,11 @@ module _ (s : Setup) (one : translator_count s ≡ 1) (dev : DeviceId) (ev : Eve
             },
           )
 
-      module _ (v3 : View) (target : Target) (r : Redistributor) (finds : found ways dev.0 ev.0 w.stamp ≡ Some target)
+      module _ (v3 : View) (target : Target) (r : Redistributor)
+          (finds : found ways m.dev.0 m.ev.0 (stamp_of s w m.its) ≡ Some target)
           (third : v3 ≡ took v2 (part.Redist target.vcpu) (Redist r)) where
         abbrev t3 : Tries
-        t3 = got_all (part.Redist target.vcpu ∷ shard_of v.setup dev ev ∷ []) v.tries
+        t3 = got_all (part.Redist target.vcpu ∷ shard_of v.setup m ∷ []) v.tries
 
         on3 : GoesOn v t3 v3
         on3 = goes_took v v2 t on2 v3 (part.Redist target.vcpu) (Redist r) third
@@ -187,28 +187,28 @@ module _ (s : Setup) (one : translator_count s ≡ 1) (dev : DeviceId) (ev : Eve
         last3 : v3.last ≡ w
         last3 = ap (λ (y : View). y.last) third ∙ last2
 
-        pub held3 : v3.held ≡ two_before n target.vcpu ways r []
+        pub held3 : v3.held ≡ two_before m.its n target.vcpu ways r []
         held3 = ap (λ (y : View). y.held) third ∙ (ap (λ (l : List Held). out (part.Redist target.vcpu) (Redist r) ∷ l) held2
-            ∙ ap (λ (l : List Held). two_before n target.vcpu ways r l) bare)
+            ∙ ap (λ (l : List Held). two_before m.its n target.vcpu ways r l) bare)
 
-        looked3 : v3.cache.looked ≡ record { its = 0; number = n; ways = ways }
+        looked3 : v3.cache.looked ≡ record { its = m.its; number = n; ways = ways }
         looked3 = ap (λ (y : View). y.cache.looked) third ∙ looked2
 
         early3 : KeepsEarly v v3
         early3 = record { early = ap (λ (y : View). y.cache.early) third ∙ early2.early; word = ap (λ (y : View). y.cache.early_word) third ∙ early2.word }
 
-        pub raced_now : (x : View) (c : Race) → HitRaced v3 w c x → SignalsNow v dev ev x (Raced c) × KeepsEarly v x
-        raced_now x c hit =
+        pub raced_now : (x : View) (race : Race) → HitRaced v3 w race x → SignalsNow v c m x (Raced race) × KeepsEarly v x
+        raced_now x race hit =
             let y = hit.left in
-            let gone = goes_emptied v y t3 (goes_looked v v3 t3 on3 y c.found hit.raced.looks) x hit.home in
+            let gone = goes_emptied v y t3 (goes_looked v v3 t3 on3 y race.found hit.raced.looks) x hit.home in
             let expected = subst (λ (z : Word). z.place < s.limits.place_last) (sym hit.raced.expected_is) room in (
               (
                 target,
                 record {
                   stays = stays_from v x t3 gone (ap (λ (u : View). u.held) hit.home ∙ sym bare);
                   tries = gone.tries;
-                  room = subst (λ (z : Setup). c.expected.place < z.limits.place_last) (sym own) expected;
-                  later = subst (λ (z : Word). z.place < c.found.place) (sym hit.raced.expected_is) hit.raced.later;
+                  room = subst (λ (z : Setup). race.expected.place < z.limits.place_last) (sym own) expected;
+                  later = subst (λ (z : Word). z.place < race.found.place) (sym hit.raced.expected_is) hit.raced.later;
                   read = record {
                     mid = v1;
                     looks = subst (λ (z : Word). Looks v z v1) (sym hit.raced.expected_is) looks;
@@ -227,22 +227,23 @@ module _ (s : Setup) (one : translator_count s ≡ 1) (dev : DeviceId) (ev : Eve
             )
 
         abbrev a : Bool → Commit
-        a sent = staying w (signal dev ev) (reply.Signal (met sent target)) Keep
+        a sent = staying w c (reply.Signal (met sent target)) Keep
 
-        pub done_now : (sent : Bool) (x : View) → HitMade v3 w dev ev target ways sent x
-            → SignalsNow v dev ev x (Done (record { place = w.place; reply = met sent target })) × KeepsEarly v x
+        pub done_now : (sent : Bool) (x : View) → HitMade v3 w c m target ways sent x
+            → SignalsNow v c m x (Done (record { place = w.place; reply = met sent target })) × KeepsEarly v x
         done_now sent x hit =
             let y = hit.made in
             let seen : length v3.seen ≡ w.place = ap (λ (u : View). length u.seen)
             (third ∙ ap (λ (u : View). took u (part.Redist target.vcpu) (Redist r)) took_is) ∙ looks.place in
             let makes = makes_of v3 (a sent) y hit.commits seen (subst (λ (z : Setup). w.place < z.limits.place_last) (sym own3) room) in
             let made = made_emptied v y t3 (a sent) (makes_from v v3 t3 on3 (a sent) y makes) x hit.home in
-            let owes : y.held ≡ two_before n target.vcpu ways hit.left [] = hit.owes
-            ∙ ap (λ (z : Setup). two_before (shard_number dev.0 ev.0 z.shards) target.vcpu ways hit.left []) own3 in
-            let looked : y.cache.looked ≡ record { its = 0; number = n; ways = ways } =
+            let owes : y.held ≡ two_before m.its n target.vcpu ways hit.left [] = hit.owes
+            ∙ ap (λ (z : Setup). two_before m.its (shard_number m.dev.0 m.ev.0 z.shards) target.vcpu ways hit.left []) own3 in
+            let looked : y.cache.looked ≡ record { its = m.its; number = n; ways = ways } =
             ap (λ (u : View). u.cache.looked) hit.commits.view
             ∙ (ap (λ (l : List Held). looked_in l v3.cache.looked) (sym (ap (λ (u : View). u.held) hit.commits.view) ∙ owes)
-            ∙ looked_there target.vcpu hit.left n ways [] v3.cache.looked (ap (λ (l : Looked). l.its) looked3) (ap (λ (l : Looked). l.number) looked3)) in (
+            ∙ looked_there target.vcpu hit.left m.its n ways [] v3.cache.looked (ap (λ (l : Looked). l.its) looked3)
+            (ap (λ (l : Looked). l.number) looked3)) in (
               (
                 target,
                 sent,
@@ -259,31 +260,30 @@ module _ (s : Setup) (one : translator_count s ≡ 1) (dev : DeviceId) (ev : Eve
               },
             )
 
-        pub hit_now : (x : View) (now : Now) → HitsNow v3 w dev ev target ways x now → SignalsNow v dev ev x now × KeepsEarly v x
-        hit_now x (Done p) h = let place = sym h.2 in let reply = sym h.1 in subst (λ (q : Placed Signal). SignalsNow v dev ev x (Done q) × KeepsEarly v x)
+        pub hit_now : (x : View) (now : Now) → HitsNow v3 w c m target ways x now → SignalsNow v c m x now × KeepsEarly v x
+        hit_now x (Done p) h = let place = sym h.2 in let reply = sym h.1 in subst (λ (q : Placed Signal). SignalsNow v c m x (Done q) × KeepsEarly v x)
             (λ d. record { place = place d; reply = reply d }) (done_now h.0 x h.3)
-        hit_now x (Raced c) h = raced_now x c h
+        hit_now x (Raced race) h = raced_now x race h
         hit_now x Miss h = absurd h
         hit_now x (Busy b) h = absurd h
         hit_now x Spent h = absurd h
 
 -- ---- the commit
 
-module _ (s : Setup) (one : translator_count s ≡ 1) (vcpus : HasVcpus s) (dev : DeviceId) (ev : EventId) (target : Target) (ways : List (Option Translation))
+module _ (s : Setup) (vcpus : HasVcpus s) (c : Call) (m : Message) (sends : Sends s c m) (target : Target) (ways : List (Option Translation))
     (r : Redistributor) (w : Word) (st : target.vcpu.0 < vcpu_count s)
-    (sh : shard_number dev.0 ev.0 s.shards < s.shards) (room : w.place < s.limits.place_last) (finds : found ways dev.0 ev.0 w.stamp ≡ Some target) (y : View)
-    (held : y.held ≡ two_before (shard_number dev.0 ev.0 s.shards) target.vcpu ways r []) where
+    (sh : shard_number m.dev.0 m.ev.0 s.shards < s.shards) (room : w.place < s.limits.place_last)
+    (finds : found ways m.dev.0 m.ev.0 (stamp_of s w m.its) ≡ Some target) (y : View)
+    (held : y.held ≡ two_before m.its (shard_number m.dev.0 m.ev.0 s.shards) target.vcpu ways r []) where
   abbrev hit_call : Bool → Commit
-  hit_call on = staying w (signal dev ev) (reply.Signal (met on target)) Keep
+  hit_call on = staying w c (reply.Signal (met on target)) Keep
 
   abbrev two : Redistributor → List Held
-  two x = two_before (shard_number dev.0 ev.0 s.shards) target.vcpu ways x []
+  two x = two_before m.its (shard_number m.dev.0 m.ev.0 s.shards) target.vcpu ways x []
 
   both : (on : Bool) → r.bases.on ≡ on → MayLeave s (hit_call on) (two r) (two (delivered on r target))
-  both true is = hits s w (signal dev ev) 0 dev ev target ways r refl vcpus (omega (arith, one)) st sh room
-      (ap (found ways dev.0 ev.0) (at_stamp s one w) ∙ finds) is
-  both false is = hits_off s w (signal dev ev) 0 dev ev target ways r refl vcpus (omega (arith, one)) st sh room
-      (ap (found ways dev.0 ev.0) (at_stamp s one w) ∙ finds) is
+  both true is = hits s w c m.its m.dev m.ev target ways r sends.message_is vcpus sends.stands st sh room finds is
+  both false is = hits_off s w c m.its m.dev m.ev target ways r sends.message_is vcpus sends.stands st sh room finds is
 
   pub hit_may : (on : Bool) → r.bases.on ≡ on → MayCall s (hit_call on) y.held
   hit_may on is = subst (MayCall s (hit_call on)) (sym held) (both on is).0
@@ -292,12 +292,13 @@ module _ (s : Setup) (one : translator_count s ≡ 1) (vcpus : HasVcpus s) (dev 
   hit_owes on is own x commits = ap (λ (u : View). u.held) commits.view ∙ ((λ d. renewal (own d) (hit_call on) (held d)) ∙ (both on is).1)
 
   pub hit_made : (on : Bool) → r.bases.on ≡ on → y.setup ≡ s → (x z : View) → Commits y (hit_call on) x → z ≡ record x { held = [] }
-      → HitMade y w dev ev target ways on z
+      → HitMade y w c m target ways on z
   hit_made on is own x z commits home = record {
     made = x;
     commits = commits;
     left = delivered on r target;
-    owes = hit_owes on is own x commits ∙ ap (λ (q : Setup). two_before (shard_number dev.0 ev.0 q.shards) target.vcpu ways (delivered on r target) [])
+    owes = hit_owes on is own x commits ∙ ap (λ (q : Setup). two_before m.its (shard_number m.dev.0 m.ev.0 q.shards) target.vcpu ways
+        (delivered on r target) [])
         (sym own);
     home = home;
   }

@@ -4,3 +4,4 @@ pub mod Cached
 pub mod Mapped
 pub mod Sent
 pub mod Asked
+pub mod Doorbells

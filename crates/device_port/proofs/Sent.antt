@@ -1,13 +1,12 @@
--- Signals by the maps, from the first turn on.
+-- Messages by the maps, from the first turn on.
 use Rattle.std.proofs.Common.{◌≡◌, ℕ, ◌<◌, List, [], ◌∷◌, length, refl, ap, sym, ◌∙◌, subst, inl}
 use Rattle.std.specs.List.{AllByRecursion}
-use Rattle.its_types.specs.declared.ids.DeviceId.{DeviceId}
-use Rattle.its_types.specs.declared.ids.EventId.{EventId}
 use Rattle.its_types.specs.declared.ids.Vcpu.{Vcpu}
 use Rattle.its_types.specs.declared.machine.Part.{Part}
 use Rattle.its_types.specs.declared.machine.Part.TheVariants as part
 use Rattle.its_types.specs.declared.machine.Placed.{Placed}
 use Rattle.its_types.specs.declared.machine.Word.{Word}
+use Rattle.its_plain.specs.declared.call.Call.{Call}
 use Rattle.its_plain.specs.declared.call.Reply.TheVariants as reply
 use Rattle.its_plain.specs.declared.call.Signal.{Signal}
 use Rattle.its_steps.specs.Calls.{staying}
@@ -28,13 +27,14 @@ use Rattle.its_turns.specs.declared.commits.Raced.{Raced}
 use Rattle.its_turns.specs.declared.turns.Busy.{Busy}
 use Rattle.device_port.specs.ByMaps.{EarlyIs, MapsGot, AsksMaps}
 use Rattle.device_port.specs.Finishes.{MadeAt, LostFor, Finishes}
-use Rattle.device_port.specs.Signals.{signal, IsOfSignal, Among, Sends}
+use Rattle.device_port.specs.Signals.{IsOfSignal, Among, Sent}
+use Rattle.device_port.specs.declared.message.Message.{Message}
 
-module _ (dev : DeviceId) (ev : EventId) (v : View) (bare : v.held ≡ []) where
+module _ (c : Call) (m : Message) (v : View) (bare : v.held ≡ []) where
   -- the maps' turn is another's
-  pub busy_maps : (b : Busy) (x : View) → IsBusy v (part.Maps 0) b x → AsksMaps v dev ev x (attempt.Busy b)
+  pub busy_maps : (b : Busy) (x : View) → IsBusy v (part.Maps m.its) b x → AsksMaps v c m x (attempt.Busy b)
   busy_maps b x busy =
-      let gone = goes_missed v v v.tries (goes_first v) x (part.Maps 0) b.holder busy.view in (
+      let gone = goes_missed v v v.tries (goes_first v) x (part.Maps m.its) b.holder busy.view in (
         [],
         record {
           only = tt;
@@ -51,18 +51,18 @@ module _ (dev : DeviceId) (ev : EventId) (v : View) (bare : v.held ≡ []) where
         ap (λ (u : View). u.seen) busy.view,
       )
 
-  maps_got : (got : List Part) (x : View) → AllByRecursion (IsOfSignal v.setup dev ev) got → Among (part.Maps 0) got → EarlyIs v x → MapsGot v dev ev got x
+  maps_got : (got : List Part) (x : View) → AllByRecursion (IsOfSignal v.setup m) got → Among (part.Maps m.its) got → EarlyIs v x → MapsGot v m got x
   maps_got got x only among early = record { only = only; early = λ _. early; kept = λ none. absurd (none among) }
 
   -- these turns were got, and now others are tried or the call is made
-  module _ (got : List Part) (only : AllByRecursion (IsOfSignal v.setup dev ev) got) (among : Among (part.Maps 0) got) (z : View)
+  module _ (got : List Part) (only : AllByRecursion (IsOfSignal v.setup m) got) (among : Among (part.Maps m.its) got) (z : View)
       (on : GoesOn v (got_all got v.tries) z) (seen : z.seen ≡ v.seen) (early : EarlyIs v z) where
     abbrev t : Tries
     t = got_all got v.tries
 
     -- the turn of another part is another's, and all goes home
-    pub busy_later : (p : Part) (b : Busy) (y x : View) → IsOfSignal v.setup dev ev p → IsBusy z p b y → x ≡ record y { held = [] }
-        → AsksMaps v dev ev x (attempt.Busy b)
+    pub busy_later : (p : Part) (b : Busy) (y x : View) → IsOfSignal v.setup m p → IsBusy z p b y → x ≡ record y { held = [] }
+        → AsksMaps v c m x (attempt.Busy b)
     busy_later p b y x of busy home =
         let gone = goes_emptied v y (lost_to t p b.holder) (goes_missed v z t on y p b.holder busy.view) x home in (
           got,
@@ -76,11 +76,11 @@ module _ (dev : DeviceId) (ev : EventId) (v : View) (bare : v.held ≡ []) where
             another = λ e. busy.another (e ∙ ap (λ (u : View). u.number) (sym on.same));
             out = λ alone. busy.out (lone_on v z t on alone);
           },
-          subst (IsOfSignal v.setup dev ev) (sym busy.part) of,
+          subst (IsOfSignal v.setup m) (sym busy.part) of,
           ap (λ (u : View). u.seen) home ∙ (ap (λ (u : View). u.seen) busy.view ∙ seen),
         )
 
-    spent_later : (x : View) → LostFor z lost.Spent x → AsksMaps v dev ev x attempt.Spent
+    spent_later : (x : View) → LostFor z lost.Spent x → AsksMaps v c m x attempt.Spent
     spent_later x l =
         let y = l.left in
         let gone = goes_emptied v y t (goes_looked v z t on y y.last l.loses.0) x l.home in (
@@ -96,7 +96,7 @@ module _ (dev : DeviceId) (ev : EventId) (v : View) (bare : v.held ≡ []) where
           },
         )
 
-    raced_later : (r : Raced) (x : View) → LostFor z (lost.Raced r) x → AsksMaps v dev ev x (attempt.Raced r)
+    raced_later : (r : Raced) (x : View) → LostFor z (lost.Raced r) x → AsksMaps v c m x (attempt.Raced r)
     raced_later r x l =
         let y = l.left in
         let gone = goes_emptied v y t (goes_looked v z t on y r.found l.loses.0) x l.home in (
@@ -117,10 +117,10 @@ module _ (dev : DeviceId) (ev : EventId) (v : View) (bare : v.held ≡ []) where
           },
         )
 
-    done_later : (s : Signal) (change : ShardChange) (w : Word) (x : View) → (Leaves change x → Sends dev ev s x) → MadeAt z dev ev s change w x
-        → AsksMaps v dev ev x (attempt.Done (record { place = w.place; reply = s }))
+    done_later : (s : Signal) (change : ShardChange) (w : Word) (x : View) → (Leaves change x → Sent m s x) → MadeAt z c s change w x
+        → AsksMaps v c m x (attempt.Done (record { place = w.place; reply = s }))
     done_later s change w x sends f =
-        let a : Commit = staying w (signal dev ev) (reply.Signal s) change in
+        let a : Commit = staying w c (reply.Signal s) change in
         let y = f.made in
         let made = made_emptied v y t a (makes_from v z t on a y f.makes) x f.home in (
           got,
@@ -134,10 +134,10 @@ module _ (dev : DeviceId) (ev : EventId) (v : View) (bare : v.held ≡ []) where
         )
 
     pub finished : (s : Signal) (change : ShardChange) (x : View) (at : Attempt Signal) → ((p : Placed Signal) → at ≡ attempt.Done p → Leaves change x
-        → Sends dev ev s x) → Finishes z dev ev s change x at → AsksMaps v dev ev x at
+        → Sent m s x) → Finishes z c s change x at → AsksMaps v c m x at
     finished s change x (attempt.Done p) sends f =
         let place = sym f.1.1 in let answer = sym f.0 in
-        subst (λ (q : Placed Signal). AsksMaps v dev ev x (attempt.Done q)) (λ d. record { place = place d; reply = answer d })
+        subst (λ (q : Placed Signal). AsksMaps v c m x (attempt.Done q)) (λ d. record { place = place d; reply = answer d })
         (done_later s change f.1.0 x (sends p refl) f.1.2)
     finished s change x (attempt.Busy b) sends f = absurd f
     finished s change x (attempt.Raced r) sends f = raced_later r x f
@@ -153,9 +153,9 @@ emptied_two y z x one two none = two ∙ (ap (λ (u : View). released u) one ∙
 
 -- ---- one turn after another
 
-module _ (v : View) (y : View) (c : Content) (first : y ≡ took v (part.Maps 0) c) where
-  pub first_on : GoesOn v (got_all (part.Maps 0 ∷ []) v.tries) y
-  first_on = goes_took v v v.tries (goes_first v) y (part.Maps 0) c first
+module _ (v : View) (y : View) (its : ℕ) (c : Content) (first : y ≡ took v (part.Maps its) c) where
+  pub first_on : GoesOn v (got_all (part.Maps its ∷ []) v.tries) y
+  first_on = goes_took v v v.tries (goes_first v) y (part.Maps its) c first
 
   pub first_seen : y.seen ≡ v.seen
   first_seen = ap (λ (u : View). u.seen) first
@@ -163,9 +163,9 @@ module _ (v : View) (y : View) (c : Content) (first : y ≡ took v (part.Maps 0)
   pub first_early : EarlyIs v y
   first_early = record { early = ap (λ (u : View). u.cache.early) first; word = ap (λ (u : View). u.cache.early_word) first }
 
-  module _ (n : ℕ) (z : View) (d : Content) (second : z ≡ took y (part.Shard 0 n) d) where
-    pub second_on : GoesOn v (got_all (part.Shard 0 n ∷ part.Maps 0 ∷ []) v.tries) z
-    second_on = goes_took v y (got_all (part.Maps 0 ∷ []) v.tries) first_on z (part.Shard 0 n) d second
+  module _ (n : ℕ) (z : View) (d : Content) (second : z ≡ took y (part.Shard its n) d) where
+    pub second_on : GoesOn v (got_all (part.Shard its n ∷ part.Maps its ∷ []) v.tries) z
+    second_on = goes_took v y (got_all (part.Maps its ∷ []) v.tries) first_on z (part.Shard its n) d second
 
     pub second_seen : z.seen ≡ v.seen
     second_seen = ap (λ (u : View). u.seen) second ∙ first_seen
@@ -178,8 +178,8 @@ module _ (v : View) (y : View) (c : Content) (first : y ≡ took v (part.Maps 0)
     }
 
     module _ (u : Vcpu) (x : View) (e : Content) (third : x ≡ took z (part.Redist u) e) where
-      pub third_on : GoesOn v (got_all (part.Redist u ∷ part.Shard 0 n ∷ part.Maps 0 ∷ []) v.tries) x
-      third_on = goes_took v z (got_all (part.Shard 0 n ∷ part.Maps 0 ∷ []) v.tries) second_on x (part.Redist u) e third
+      pub third_on : GoesOn v (got_all (part.Redist u ∷ part.Shard its n ∷ part.Maps its ∷ []) v.tries) x
+      third_on = goes_took v z (got_all (part.Shard its n ∷ part.Maps its ∷ []) v.tries) second_on x (part.Redist u) e third
 
       pub third_seen : x.seen ≡ v.seen
       third_seen = ap (λ (w : View). w.seen) third ∙ second_seen

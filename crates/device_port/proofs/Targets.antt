@@ -49,15 +49,15 @@ located_target u i t dev ev target sound is goes = subst (λ (r : Result Target 
     (located_targets u.layout.shape t dev ev (sound.translators i t is))
 
 -- by the maps
-pub target_in : (s : Setup) (t : Translator) (dev ev : ℕ) (target : Target) → HasStood s (part.Maps 0) (Maps t) → located t dev ev ≡ Ok target
+pub target_in : (s : Setup) (its : ℕ) (t : Translator) (dev ev : ℕ) (target : Target) → HasStood s (part.Maps its) (Maps t) → located t dev ev ≡ Ok target
     → IsTarget s.start.layout.shape target
-target_in s t dev ev target stood goes = subst (λ l. IsTarget l.shape target) (sym stood.machine.layout)
-    (located_target _ 0 t dev ev target stood.machine.sound stood.right goes)
+target_in s its t dev ev target stood goes = subst (λ l. IsTarget l.shape target) (sym stood.machine.layout)
+    (located_target _ its t dev ev target stood.machine.sound stood.right goes)
 
 -- by the cache
-pub cached_target : (s : Setup) (n : ℕ) (dev : DeviceId) (ev : EventId) (stamp : ℕ) (target : Target) (ways : List (Option Translation))
-    → HasStood s (part.Shard 0 n) (Shard ways) → found ways dev.0 ev.0 stamp ≡ Some target → IsTarget s.start.layout.shape target
-cached_target s n dev ev stamp target ways stood finds =
+pub cached_target : (s : Setup) (its n : ℕ) (dev : DeviceId) (ev : EventId) (stamp : ℕ) (target : Target) (ways : List (Option Translation))
+    → HasStood s (part.Shard its n) (Shard ways) → found ways dev.0 ev.0 stamp ≡ Some target → IsTarget s.start.layout.shape target
+cached_target s its n dev ev stamp target ways stood finds =
     let f = found_at dev ev stamp target ways finds in
     let e = stood.right.entries f.0 (entry dev ev stamp target) f.1 in
     record { vcpu = e.vcpu; lpi = e.lpi }

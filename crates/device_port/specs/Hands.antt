@@ -1,38 +1,36 @@
--- What a signal has in hand, and the parts that it holds then, the last one got first.
+-- What a message has in hand, and the parts that are held then, the last one got first.
 use Rattle.std.specs.Prelude.{◌≡◌, ◌<◌, ℕ, Bool, true, false, Option, List, [], ◌∷◌}
 use Rattle.its_types.specs.Lpis.{with_lpi}
 use Rattle.its_types.specs.Ranges.{is_lpi}
-use Rattle.its_types.specs.declared.ids.DeviceId.{DeviceId}
-use Rattle.its_types.specs.declared.ids.EventId.{EventId}
 use Rattle.its_types.specs.declared.ids.Target.{Target}
 use Rattle.its_types.specs.declared.ids.Vcpu.{Vcpu}
 use Rattle.its_types.specs.declared.machine.Part.TheVariants as part
 use Rattle.its_plain.specs.Plain.{Redistributor}
-use Rattle.owned_parts.specs.Owned.{redistributor_of, HasLpisOf}
+use Rattle.owned_parts.specs.Owned.{redistributor_of, translator_of, HasLpisOf}
+use Rattle.owned_parts.specs.declared.parts.Translator.{Translator as TranslatorInHand}
 use Rattle.xlate_cache.specs.Pairs.{shard_number}
 use Rattle.xlate_cache.specs.declared.entry.Entry.{Entry as Translation}
 use Rattle.its_steps.specs.Contents.{Maps, Shard, Redist, Held}
 use Rattle.its_steps.specs.Parts.{Setup, vcpu_count}
 use Rattle.its_steps.specs.World.{out}
-use Rattle.its_turns.specs.Contents.{translator_of}
-use Rattle.its_turns.specs.declared.value.Tables.{Tables}
 use Rattle.device_port.specs.declared.hand.Hand.{Hand}
+use Rattle.device_port.specs.declared.message.Message.{Message}
 
--- the maps
-abbrev pub one_held : Tables → List Held
-one_held t = out (part.Maps 0) (Maps (translator_of t)) ∷ []
+-- the maps of a translator
+abbrev pub one_held : ℕ → TranslatorInHand → List Held
+one_held its t = out (part.Maps its) (Maps (translator_of t)) ∷ []
 
--- a shard and a redistributor, and others got before
-abbrev pub two_before : ℕ → Vcpu → List (Option Translation) → Redistributor → List Held → List Held
-two_before n vcpu ways r before = out (part.Redist vcpu) (Redist r) ∷ out (part.Shard 0 n) (Shard ways) ∷ before
+-- a shard of it and a redistributor, and others got before
+abbrev pub two_before : ℕ → ℕ → Vcpu → List (Option Translation) → Redistributor → List Held → List Held
+two_before its n vcpu ways r before = out (part.Redist vcpu) (Redist r) ∷ out (part.Shard its n) (Shard ways) ∷ before
 
 -- all three
-abbrev pub three_held : ℕ → Vcpu → Tables → List (Option Translation) → Redistributor → List Held
-three_held n vcpu t ways r = two_before n vcpu ways r (one_held t)
+abbrev pub three_held : ℕ → ℕ → Vcpu → TranslatorInHand → List (Option Translation) → Redistributor → List Held
+three_held its n vcpu t ways r = two_before its n vcpu ways r (one_held its t)
 
 -- those in hand, and others got before
-abbrev pub hand_held : Hand → List Held → List Held
-hand_held h before = two_before h.number h.target.vcpu h.shard (redistributor_of h.redist.value) before
+abbrev pub hand_held : ℕ → Hand → List Held → List Held
+hand_held its h before = two_before its h.number h.target.vcpu h.shard (redistributor_of h.redist.value) before
 
 -- what is in hand is of this machine
 pub record IsHand (s : Setup) (h : Hand) : Type 0 where
@@ -42,8 +40,8 @@ pub record IsHand (s : Setup) (h : Hand) : Type 0 where
   pub lpis : HasLpisOf s.start.layout.shape h.redist.value
 
 -- and of this pair
-pub record IsHandOf (s : Setup) (dev : DeviceId) (ev : EventId) (h : Hand) : Type 0 where
-  pub number_is : h.number ≡ shard_number dev.0 ev.0 s.shards
+pub record IsHandOf (s : Setup) (m : Message) (h : Hand) : Type 0 where
+  pub number_is : h.number ≡ shard_number m.dev.0 m.ev.0 s.shards
   pub hand : IsHand s h
 
 -- a redistributor that a message was sent to: the LPI is pending, where LPIs are on

@@ -1,9 +1,8 @@
 -- The outcome of the last steps of a signal by the cache: from the commit on.
 use Rattle.std.specs.Prelude.{◌≡◌, Bool, Option, List, []}
-use Rattle.its_types.specs.declared.ids.DeviceId.{DeviceId}
-use Rattle.its_types.specs.declared.ids.EventId.{EventId}
 use Rattle.its_types.specs.declared.ids.Target.{Target}
 use Rattle.its_types.specs.declared.machine.Word.{Word}
+use Rattle.its_plain.specs.declared.call.Call.{Call}
 use Rattle.its_plain.specs.declared.call.Reply.TheVariants as reply
 use Rattle.xlate_cache.specs.Pairs.{shard_number}
 use Rattle.xlate_cache.specs.declared.entry.Entry.{Entry as Translation}
@@ -16,16 +15,16 @@ use Rattle.its_turns.specs.Steps.{IsRaced}
 use Rattle.its_turns.specs.Told.{Commits}
 use Rattle.its_turns.specs.declared.commits.Raced.{Raced}
 use Rattle.device_port.specs.Hands.{two_before}
-use Rattle.device_port.specs.Signals.{signal}
+use Rattle.device_port.specs.declared.message.Message.{Message}
 use Rattle.device_port.specs.declared.hits.Now.{Now}
 use Rattle.device_port.specs.declared.hits.Now.TheVariants as now
 
 -- it was made, and both parts were put back
-pub record HitMade (y : View) (w : Word) (dev : DeviceId) (ev : EventId) (t : Target) (ways : List (Option Translation)) (on : Bool) (x : View) : Type 0 where
+pub record HitMade (y : View) (w : Word) (c : Call) (m : Message) (t : Target) (ways : List (Option Translation)) (on : Bool) (x : View) : Type 0 where
   pub made : View
-  pub commits : Commits y (staying w (signal dev ev) (reply.Signal (met on t)) Keep) made
+  pub commits : Commits y (staying w c (reply.Signal (met on t)) Keep) made
   pub left : Redistributor
-  pub owes : made.held ≡ two_before (shard_number dev.0 ev.0 y.setup.shards) t.vcpu ways left []
+  pub owes : made.held ≡ two_before m.its (shard_number m.dev.0 m.ev.0 y.setup.shards) t.vcpu ways left []
   pub home : x ≡ record made { held = [] }
 
 -- another was made first, and both parts were put back
@@ -34,7 +33,7 @@ pub record HitRaced (y : View) (w : Word) (r : Raced) (x : View) : Type 0 where
   pub raced : IsRaced y w r left
   pub home : x ≡ record left { held = [] }
 
-abbrev pub HitsNow : View → Word → DeviceId → EventId → Target → List (Option Translation) → View → Now → Type 0
-HitsNow y w dev ev t ways x (now.Done p) = (on : Bool) × (p.reply ≡ met on t) × (p.place ≡ w.place) × HitMade y w dev ev t ways on x
-HitsNow y w dev ev t ways x (now.Raced r) = HitRaced y w r x
-HitsNow y w dev ev t ways x other = ⊥
+abbrev pub HitsNow : View → Word → Call → Message → Target → List (Option Translation) → View → Now → Type 0
+HitsNow y w c m t ways x (now.Done p) = (on : Bool) × (p.reply ≡ met on t) × (p.place ≡ w.place) × HitMade y w c m t ways on x
+HitsNow y w c m t ways x (now.Raced r) = HitRaced y w r x
+HitsNow y w c m t ways x other = ⊥

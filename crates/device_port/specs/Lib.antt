@@ -1,5 +1,8 @@
+pub mod Messages
 pub mod Hands
 pub mod Signals
 pub mod Finishes
 pub mod Hits
 pub mod ByMaps
+pub mod Routes
+pub mod Dmas

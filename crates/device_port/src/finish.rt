@@ -1,59 +1,62 @@
-//! The last steps of a signal by the maps, which has all turns that it needs.
+//! The last steps of a message by the maps, which has all turns that it needs.
 ghost use Rattle.std.specs.Prelude.{◌≡◌, true, false, Ok, Err, Some};
 ghost use Rattle.its_plain.specs.Translation.{located};
 ghost use Rattle.its_plain.specs.declared.call.Signal.TheVariants as signals;
 ghost use Rattle.its_plain.specs.declared.call.Cause.TheVariants as cause;
 ghost use Rattle.xlate_cache.specs.Pairs.{shard_number};
 ghost use Rattle.its_steps.specs.declared.change.ShardChange.TheVariants as change;
-ghost use Rattle.its_turns.specs.Contents.{translator_of};
+ghost use Rattle.owned_parts.specs.Owned.{translator_of};
 ghost use Rattle.its_turns.specs.Machines.{setup, view, IsOf};
 ghost use Rattle.device_port.specs.Finishes.{Finishes};
 ghost use Rattle.device_port.specs.Hands.{one_held, hand_held, IsHandOf};
+ghost use Rattle.device_port.specs.Messages.{Sends};
 ghost use Rattle.device_port.specs.Signals.{FindsIfDone};
 
 use crate::hand::Hand;
 use crate::home::put_three;
+use crate::message::Message;
 use its_plain::{Call, Cause, Reply, Signal};
 use its_steps::ShardChange;
-use its_turns::{Attempt, Machine, Pass, Tables, Value, put, try_commit};
-use its_types::{DeviceId, EventId, Gate, Part, Placed};
+use its_turns::{Attempt, Machine, Pass, Value, put, try_commit};
+use its_types::{Gate, Part, Placed};
+use owned_parts::Translator;
 
 /// The maps send it nowhere.
 pub fn drop_signal<G: Gate>(
     machine: &Machine,
     pass: &mut Pass,
     gate: &G,
-    dev: DeviceId,
-    ev: EventId,
-    maps: Box<Tables>,
+    call: &Call,
+    message: Message,
+    maps: Box<Translator>,
     cause: Cause,
 ) -> Attempt<Signal>
     requires of { IsOf machine.now pass.old }
-    requires held { (view pass.old).held ≡ one_held maps.value }
-    requires lost { located (translator_of maps.value) dev.0 ev.0 ≡ Err cause }
+    requires sends { Sends (setup machine.now) call.now message }
+    requires held { (view pass.old).held ≡ one_held message.its maps.value }
+    requires lost { located (translator_of maps.value) message.dev.0 message.ev.0 ≡ Err cause }
     ensures of { IsOf machine.now pass.new }
-    ensures answer { Finishes (view pass.old) dev ev (signals.Dropped cause) change.Keep
+    ensures answer { Finishes (view pass.old) call.now (signals.Dropped cause) change.Keep
         (view pass.new) result }
 {
     let signal = Signal::Dropped(cause);
-    let call = Call::Signal { its: 0, dev, ev };
     match try_commit(
         machine,
         pass,
         gate,
-        &call,
+        call,
         &Reply::Signal(signal),
         ShardChange::Keep,
     ) {
         Ok(word) => {
-            put(machine, pass, Part::Maps(0), Value::Maps(maps));
+            put(machine, pass, Part::Maps(message.its), Value::Maps(maps));
             Attempt::Done(Placed {
                 place: word.place,
                 reply: signal,
             })
         }
         Err(lost) => {
-            put(machine, pass, Part::Maps(0), Value::Maps(maps));
+            put(machine, pass, Part::Maps(message.its), Value::Maps(maps));
             lost.attempt()
         }
     }
@@ -65,43 +68,47 @@ pub fn fill_signal<G: Gate>(
     machine: &Machine,
     pass: &mut Pass,
     gate: &G,
-    dev: DeviceId,
-    ev: EventId,
-    maps: Box<Tables>,
+    call: &Call,
+    message: Message,
+    maps: Box<Translator>,
     mut hand: Hand,
 ) -> Attempt<Signal>
     requires of { IsOf machine.now pass.old }
-    requires hand { IsHandOf (setup machine.now) dev ev hand }
-    requires held { (view pass.old).held ≡ hand_held hand (one_held maps.value) }
-    requires goes { located (translator_of maps.value) dev.0 ev.0 ≡ Ok hand.target }
+    requires sends { Sends (setup machine.now) call.now message }
+    requires hand { IsHandOf (setup machine.now) message hand }
+    requires held { (view pass.old).held
+        ≡ hand_held message.its hand (one_held message.its maps.value) }
+    requires goes { located (translator_of maps.value) message.dev.0 message.ev.0 ≡ Ok hand.target }
     requires on { hand.redist.value.bases.on ≡ true }
-    requires looked { ((view pass.old).cache.looked.its ≡ 0) ×
-        ((view pass.old).cache.looked.number ≡ shard_number dev.0 ev.0 (setup machine.now).shards) }
+    requires looked { ((view pass.old).cache.looked.its ≡ message.its) ×
+        ((view pass.old).cache.looked.number
+        ≡ shard_number message.dev.0 message.ev.0 (setup machine.now).shards) }
     ensures of { IsOf machine.now pass.new }
-    ensures answer { Finishes (view pass.old) dev ev
-        (signals.Delivered hand.target.vcpu hand.target.intid) (change.Fill dev ev hand.target)
+    ensures answer { Finishes (view pass.old) call.now
+        (signals.Delivered hand.target.vcpu hand.target.intid)
+        (change.Fill message.dev message.ev hand.target)
         (view pass.new) result }
-    ensures finds { FindsIfDone dev ev (view pass.new) (Some hand.target) result }
+    ensures finds { FindsIfDone message (view pass.new) (Some hand.target) result }
 {
     let target = hand.target;
     let signal = Signal::Delivered {
         vcpu: target.vcpu,
         intid: target.intid,
     };
-    let call = Call::Signal { its: 0, dev, ev };
-    let fill = ShardChange::Fill(dev, ev, target);
-    match try_commit(machine, pass, gate, &call, &Reply::Signal(signal), fill) {
+    let fill = ShardChange::Fill(message.dev, message.ev, target);
+    match try_commit(machine, pass, gate, call, &Reply::Signal(signal), fill) {
         Ok(word) => {
             hand.redist.pending.set(target.intid);
-            hand.shard.fill(dev, ev, word.stamp, target);
-            put_three(machine, pass, maps, hand);
+            let stamp = machine.stamp_of(word, message.its);
+            hand.shard.fill(message.dev, message.ev, stamp, target);
+            put_three(machine, pass, message.its, maps, hand);
             Attempt::Done(Placed {
                 place: word.place,
                 reply: signal,
             })
         }
         Err(lost) => {
-            put_three(machine, pass, maps, hand);
+            put_three(machine, pass, message.its, maps, hand);
             lost.attempt()
         }
     }
@@ -112,40 +119,41 @@ pub fn off_signal<G: Gate>(
     machine: &Machine,
     pass: &mut Pass,
     gate: &G,
-    dev: DeviceId,
-    ev: EventId,
-    maps: Box<Tables>,
+    call: &Call,
+    message: Message,
+    maps: Box<Translator>,
     hand: Hand,
 ) -> Attempt<Signal>
     requires of { IsOf machine.now pass.old }
-    requires hand { IsHandOf (setup machine.now) dev ev hand }
-    requires held { (view pass.old).held ≡ hand_held hand (one_held maps.value) }
-    requires goes { located (translator_of maps.value) dev.0 ev.0 ≡ Ok hand.target }
+    requires sends { Sends (setup machine.now) call.now message }
+    requires hand { IsHandOf (setup machine.now) message hand }
+    requires held { (view pass.old).held
+        ≡ hand_held message.its hand (one_held message.its maps.value) }
+    requires goes { located (translator_of maps.value) message.dev.0 message.ev.0 ≡ Ok hand.target }
     requires off { hand.redist.value.bases.on ≡ false }
     ensures of { IsOf machine.now pass.new }
-    ensures answer { Finishes (view pass.old) dev ev (signals.Dropped cause.LpisOff) change.Keep
+    ensures answer { Finishes (view pass.old) call.now (signals.Dropped cause.LpisOff) change.Keep
         (view pass.new)
         result }
 {
     let signal = Signal::Dropped(Cause::LpisOff);
-    let call = Call::Signal { its: 0, dev, ev };
     match try_commit(
         machine,
         pass,
         gate,
-        &call,
+        call,
         &Reply::Signal(signal),
         ShardChange::Keep,
     ) {
         Ok(word) => {
-            put_three(machine, pass, maps, hand);
+            put_three(machine, pass, message.its, maps, hand);
             Attempt::Done(Placed {
                 place: word.place,
                 reply: signal,
             })
         }
         Err(lost) => {
-            put_three(machine, pass, maps, hand);
+            put_three(machine, pass, message.its, maps, hand);
             lost.attempt()
         }
     }

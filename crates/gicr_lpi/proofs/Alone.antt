@@ -1,6 +1,8 @@
 -- One redistributor is enough for a read of its LPI registers, and with memory for a write.
-use Rattle.std.proofs.Common.{◌≡◌, ℕ, ◌<◌, Bool, true, false, if◌then◌else◌, List, [], ◌∷◌, None, length, set, refl, ap, sym, ◌∙◌, inl, inr, arith, length-set}
+use Rattle.std.proofs.Common.{◌≡◌, ℕ, ◌<◌, Bool, true, false, if◌then◌else◌, List, [], ◌∷◌, Option, length, set, refl, ap, sym, ◌∙◌, inl, inr}
+use Rattle.std.proofs.Common.{arith, length-set}
 use Rattle.std.proofs.Common.{get_or-set_same}
+use Rattle.dirty_log.specs.declared.tracked.Tracked.{Tracked}
 use Rattle.gicr_regs.specs.Registers.{AreLow, AreKept, written_gicr}
 use Rattle.guest_windows.specs.Windows.{Window}
 use Rattle.its_types.specs.declared.ids.Vcpu.{Vcpu}
@@ -35,7 +37,8 @@ low_bases s vcpu r stood programmed =
     ∙ programmed) in
     record { prop = k.prop_low; pend = k.pend_low }
 
-module _ (s : Setup) (vcpus : HasVcpus s) (w : Word) (room : w.place < s.limits.place_last) (vcpu : Vcpu) (st : vcpu.0 < vcpu_count s) (r : Redistributor) where
+module _ (s : Setup) (vcpus : HasVcpus s) (w : Word) (room : w.place < s.limits.place_last) (vcpu : Vcpu) (st : vcpu.0 < vcpu_count s)
+    (r : Redistributor) where
   inside : vcpu.0 < length s.start.redistributors
   inside = omega (arith, st, vcpus)
 
@@ -67,16 +70,20 @@ module _ (s : Setup) (vcpus : HasVcpus s) (w : Word) (room : w.place < s.limits.
     read_leaves = λ d. out (part.Redist vcpu) (Redist (has_one d)) ∷ []
 
     pub may_read : MayLeave s (staying w (call.ReadGicr vcpu off size) value Keep) one one
-    may_read = (calm_may s w (call.ReadGicr vcpu off size) value Keep one vcpus tt room ((λ h. h), tt) (st, tt) (refl, tt) (inl read_answered) tt, read_leaves)
+    may_read = (
+      calm_may s w (call.ReadGicr vcpu off size) value Keep one vcpus tt room ((λ h. h), tt) (st, tt) (refl, tt)
+          (inl read_answered) tt,
+      read_leaves,
+    )
 
   -- ---- writes
 
-  module _ (memory : List Window) (off size value : ℕ) where
+  module _ (memory : List Window) (track : Option Tracked) (off size value : ℕ) where
     abbrev access : GicrAccess
     access = record { vcpu = vcpu; off = off; size = size; value = value }
 
     abbrev both : List Held
-    both = both_held vcpu r memory
+    both = both_held vcpu r memory track
 
     abbrev b : Plain
     b = assembled s both
@@ -87,7 +94,7 @@ module _ (s : Setup) (vcpus : HasVcpus s) (w : Word) (room : w.place < s.limits.
     has_both : redistributor b vcpu.0 ≡ r
     has_both = get_or-set_same s.start.redistributors vcpu.0 r no_redistributor inside
 
-    not_memory : Holds (part.Redist vcpu) (out part.Mem (Mem memory None) ∷ []) → ⊥
+    not_memory : Holds (part.Redist vcpu) (out part.Mem (Mem memory track) ∷ []) → ⊥
     not_memory (inl e) = cc
     not_memory (inr h) = h
 
@@ -104,17 +111,17 @@ module _ (s : Setup) (vcpus : HasVcpus s) (w : Word) (room : w.place < s.limits.
         get_or-set_same b.redistributors vcpu.0 (done (redistributor b vcpu.0)) no_redistributor long ∙ ap done has_both
     left_redist false = has_both
 
-    left_memory : (programmed : Bool) → (let z : Plain = left_by programmed in Mem z.memory z.track) ≡ Mem memory None
+    left_memory : (programmed : Bool) → (let z : Plain = left_by programmed in Mem z.memory z.track) ≡ Mem memory track
     left_memory true = refl
     left_memory false = refl
 
     write_leaves : renewal s (staying w (write_call access) reply.Ok Keep) both ≡ both_held vcpu
-        (after_write s.start.layout.gicr s.start.layout.shape memory access r) memory
+        (after_write s.start.layout.gicr s.start.layout.shape memory access r) memory track
     unfolding left
     write_leaves = λ d. out (part.Redist vcpu) (Redist (left_redist s.start.layout.gicr d)) ∷ out part.Mem (left_memory s.start.layout.gicr d) ∷ []
 
     pub may_write : MayLeave s (staying w (write_call access) reply.Ok Keep) both
-        (both_held vcpu (after_write s.start.layout.gicr s.start.layout.shape memory access r) memory)
+        (both_held vcpu (after_write s.start.layout.gicr s.start.layout.shape memory access r) memory track)
     may_write = (
       calm_may s w (write_call access) reply.Ok Keep both vcpus tt room (not_memory, ((λ h. h), tt)) (st, (tt, tt)) (refl, (refl, tt))
           (inl write_answered) tt,

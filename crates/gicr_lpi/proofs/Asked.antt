@@ -1,5 +1,5 @@
 -- What a call that needs some parts comes to, from its commit to the last try.
-use Rattle.std.proofs.Common.{◌≡◌, ℕ, List, length, Err, refl, ap, ◌∙◌, subst}
+use Rattle.std.proofs.Common.{◌≡◌, ℕ, List, [], length, Err, refl, ap, sym, ◌∙◌, subst}
 use Rattle.its_types.specs.declared.machine.Part.{Part}
 use Rattle.its_types.specs.declared.machine.Word.{Word}
 use Rattle.its_plain.specs.declared.call.Call.{Call}
@@ -14,9 +14,9 @@ use Rattle.its_turns.specs.declared.attempts.Lost.{Lost}
 use Rattle.its_turns.specs.declared.attempts.Lost.TheVariants as lost
 use Rattle.its_turns.proofs.Telling.{stays_again, placed_again, leaves_from}
 use Rattle.its_steps.specs.Parts.{Setup}
-use Rattle.held_parts.specs.Taking.{TakesInTime, Goes, WasMade, holding}
+use Rattle.held_parts.specs.Taking.{TakesInTime, Goes, Loses, WasMade, holding}
 use Rattle.held_parts.proofs.Going.{takes_one, takes_then, going_first, going_takes, going_looked, going_home, going_stays, going_made, made_home, made_placed}
-use Rattle.held_parts.proofs.Going.{got_then}
+use Rattle.held_parts.proofs.Going.{got_then, going_lost, loses_home}
 use Rattle.gicr_lpi.specs.Asking.{AsksOnce}
 
 -- a part that was waited for had its content after some history of this machine
@@ -35,19 +35,22 @@ module _ (P : Part → Type 0) where
         let m : WasMade P v (staying w c r Keep) z = made_home P v y z (staying w c r Keep) left (going_made P v x y (staying w c r Keep) on makes) home in
         (made_placed P v z (staying w c r Keep) m (ap (λ (u : View). u.held) home ∙ same), leaves_from v z z.tries (staying w c r Keep) m.made refl, m.got)
 
-    still : (y z : View) (w : Word) (left : List Held) → Goes P v y → z ≡ holding y left → left ≡ v.held → StillAsks P v z
-    still y z w left g home same = let h = going_home P v y z left g home in record {
+    still : (y z : View) (left : List Held) → Goes P v y → z ≡ holding y left → left ≡ v.held → StillAsks P v z
+    still y z left g home same = let h = going_home P v y z left g home in record {
       stays = going_stays P v z h (ap (λ (u : View). u.held) home ∙ same);
       got = h.got;
     }
 
-    pub once_lost : {T : Type 0} (c : Call) (reply : T → Reply) (l : Lost) (y z : View) (left : List Held) → IsLost x l y → z ≡ holding y left → left ≡ v.held
-        → AsksOnce P v c reply z (Err l)
-    once_lost c reply lost.Spent y z left spent home same = (
-      still y z y.last left (going_looked P v x y y.last on spent.0) home same,
-      ap (λ (u : View). length u.seen) home ∙ (spent.0.place ∙ (spent.1 ∙ ap (λ (u : View). u.setup.limits.place_last) on.on.same)),
+    lost_goes : (l : Lost) (y : View) → IsLost x l y → Goes P v y
+    lost_goes lost.Spent y spent = going_looked P v x y y.last on spent.0
+    lost_goes (lost.Raced r) y raced = going_looked P v x y r.found on raced.0
+
+    pub once_lost : {T : Type 0} (c : Call) (reply : T → Reply) (l : Lost) (y z : View) (left : List Held) → v.held ≡ [] → IsLost x l y → z ≡ holding y left
+        → left ≡ v.held → AsksOnce P v c reply z (Err l)
+    once_lost c reply l y z left bare is home same = (
+      still y z left (lost_goes l y is) home same,
+      subst (Loses v l) (sym home) (loses_home v l y left (going_lost P v x on bare l y is)),
     )
-    once_lost c reply (lost.Raced r) y z left raced home same = still y z r.found left (going_looked P v x y r.found on raced.0) home same
 
   -- ---- again
 
@@ -59,6 +62,5 @@ module _ (P : Part → Type 0) where
         × Leaves Keep x × GotOnly P v x
     asked_made c r place x done = (placed_again v w x c r place asks.stays done.0, done.1, got_then P v w x asks.got done.2)
 
-    pub asked_spent : (x : View) → StillAsks P w x × (length x.seen ≡ w.setup.limits.place_last) → Stays v x × (length x.seen ≡ v.setup.limits.place_last)
-        × GotOnly P v x
-    asked_spent x spent = let s = again x spent.0 in (s.stays, spent.1 ∙ ap (λ (y : View). y.setup.limits.place_last) asks.stays.same, s.got)
+    pub asked_spent : (x : View) → StillAsks P w x × Loses w lost.Spent x → Stays v x × (length x.seen ≡ v.setup.limits.place_last) × GotOnly P v x
+    asked_spent x spent = let s = again x spent.0 in (s.stays, spent.1.1 ∙ ap (λ (y : View). y.setup.limits.place_last) asks.stays.same, s.got)

@@ -1,5 +1,6 @@
 -- Accesses of the LPI registers under turns.
-use Rattle.std.specs.Prelude.{◌≡◌, ◌⊎◌, ℕ, Bool, if◌then◌else◌, List, [], ◌∷◌, None}
+use Rattle.std.specs.Prelude.{◌≡◌, ◌⊎◌, ℕ, Bool, if◌then◌else◌, List, [], ◌∷◌, Option}
+use Rattle.dirty_log.specs.declared.tracked.Tracked.{Tracked}
 use Rattle.gicr_regs.specs.Registers.{read_gicr, written_gicr}
 use Rattle.guest_windows.specs.Windows.{Window}
 use Rattle.its_types.specs.declared.ids.Vcpu.{Vcpu}
@@ -25,9 +26,9 @@ write_call a = call.WriteGicr a.vcpu a.off a.size a.value
 abbrev pub after_write : Bool → Shape → List Window → GicrAccess → Redistributor → Redistributor
 after_write programmed shape memory a r = if programmed then written_gicr shape memory r a.off a.size a.value else r
 
--- the redistributor was taken after memory, of a machine that has no other
-abbrev pub both_held : Vcpu → Redistributor → List Window → List Held
-both_held vcpu r memory = out (part.Redist vcpu) (Redist r) ∷ out part.Mem (Mem memory None) ∷ []
+-- the redistributor was taken after memory
+abbrev pub both_held : Vcpu → Redistributor → List Window → Option Tracked → List Held
+both_held vcpu r memory track = out (part.Redist vcpu) (Redist r) ∷ out part.Mem (Mem memory track) ∷ []
 
 -- the part is memory, or the virtual processor's redistributor
 abbrev pub IsOfWrite : Vcpu → Part → Type 0

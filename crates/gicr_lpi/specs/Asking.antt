@@ -8,14 +8,13 @@ use Rattle.its_steps.specs.World.{View}
 use Rattle.its_steps.specs.declared.change.ShardChange.TheVariants.{Keep}
 use Rattle.its_turns.specs.Calls.{Stays, IsPlaced, Leaves, GotOnly, StillAsks}
 use Rattle.its_turns.specs.declared.attempts.Lost.{Lost}
-use Rattle.its_turns.specs.declared.attempts.Lost.TheVariants as lost
 use Rattle.its_turns.specs.declared.attempts.Spent.{Spent}
+use Rattle.held_parts.specs.Taking.{Loses}
 
--- tried once
+-- tried once, with why it was not made
 abbrev pub AsksOnce : {T : Type 0} → (Part → Type 0) → View → Call → (T → Reply) → View → Result (Placed T) Lost → Type 0
 AsksOnce P v call reply w (Ok x) = IsPlaced v call (reply x.reply) x.place w × Leaves Keep w × GotOnly P v w
-AsksOnce P v call reply w (Err lost.Spent) = StillAsks P v w × (length w.seen ≡ v.setup.limits.place_last)
-AsksOnce P v call reply w (Err (lost.Raced r)) = StillAsks P v w
+AsksOnce P v call reply w (Err l) = StillAsks P v w × Loses v l w
 
 -- and again until it was made
 abbrev pub AsksParts : {T : Type 0} → (Part → Type 0) → View → Call → (T → Reply) → View → Result (Placed T) Spent → Type 0

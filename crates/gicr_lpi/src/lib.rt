@@ -1,5 +1,8 @@
 //! The port of the redistributors' LPI registers, where the guest programs the LPI tables (IHI
 //! 0069, section 12.11).
+//!
+//! A call has up to eight arguments: how it waits, the machine, the caller's pass, a gate at which
+//! a test may hold it, and what is asked.
 #![tactic(auto)]
 
 mod access;

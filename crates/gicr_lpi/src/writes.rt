@@ -8,7 +8,7 @@ ghost use Rattle.gicr_lpi.specs.Accesses.{IsOfWrite, write_call};
 ghost use Rattle.gicr_lpi.specs.Asking.{AsksOnce, AsksParts};
 
 use crate::access::GicrAccess;
-use held_parts::{take_memory, take_redist};
+use held_parts::{Waiting, take_memory, take_redist};
 use its_plain::Reply;
 use its_steps::ShardChange;
 use its_turns::{Lost, Machine, Pass, Spent, Value, pause, put, try_commit};
@@ -72,8 +72,9 @@ fn write_once<R: Wait, G: Gate>(
     ensures answer { AsksOnce (IsOfWrite access.vcpu) (view pass.old) (write_call access)
         (λ _. reply.Ok) (view pass.new) result }
 {
-    let memory = take_memory(rt, machine, pass);
-    let mut redist = take_redist(rt, machine, pass, access.vcpu);
+    let how = Waiting { rt };
+    let memory = take_memory(&how, machine, pass);
+    let mut redist = take_redist(&how, machine, pass, access.vcpu);
     let desc = machine.desc();
     let programmed = desc.tables.are_programmed();
     let made = try_commit(

@@ -1,20 +1,27 @@
 -- Guest memory alone is enough.
-use Rattle.std.proofs.Common.{◌≡◌, ◌<◌, ℕ, true, false, cond, ◌||◌, List, [], ◌∷◌, length, Option, Some, None, refl, ap, ◌∙◌}
-use Rattle.std.specs.Prelude.{is_some, unwrap_or}
+use Rattle.std.proofs.Common.{◌≡◌, ◌<◌, ℕ, true, false, cond, ◌||◌, List, [], ◌∷◌, length, map, Option, Some, None, refl, ◌∙◌, subst}
+use Rattle.std.specs.Prelude.{is_some}
 use Rattle.std.specs.Option.{option_map}
-use Rattle.guest_windows.specs.Windows.{Window, has, put, inside, write_at}
+use Rattle.guest_windows.specs.Windows.{Window, extent, has, put, inside, write_at}
+use Rattle.dirty_log.specs.Copies.{caught_up}
+use Rattle.dirty_log.specs.declared.tracked.Tracked.{Tracked}
 use Rattle.its_types.specs.declared.ids.Addr.{Addr}
 use Rattle.its_types.specs.declared.machine.Part.TheVariants as part
 use Rattle.its_types.specs.declared.machine.Word.{Word}
-use Rattle.its_plain.specs.Answer.{poke_reply, peek_reply}
+use Rattle.its_plain.specs.Answer.{poke_reply, peek_reply, copy_count}
 use Rattle.its_plain.specs.declared.call.Call.TheVariants as call
 use Rattle.its_plain.specs.declared.call.Reply.TheVariants as reply
 use Rattle.its_steps.specs.Parts.{HasVcpus, Setup}
 use Rattle.its_steps.specs.World.{out}
 use Rattle.its_steps.specs.declared.change.ShardChange.TheVariants.{Keep}
-use Rattle.its_steps.specs.Contents.{Content, Mem, Held}
-use Rattle.its_steps.proofs.Ports.{pokes, peeks}
+use Rattle.its_steps.specs.Contents.{Mem, Held}
+use Rattle.its_steps.proofs.Ports.{pokes, peeks, dmas, copies}
 use Rattle.its_steps.specs.Calls.{staying, MayLeave, peeked_in, poked_content}
+use Rattle.its_turns.specs.Told.{HasStood}
+use Rattle.guest_port.specs.Copies.{HasSameWindows}
+use Rattle.guest_port.specs.Pokes.{write_of}
+use Rattle.guest_port.specs.declared.writer.Writer.{Writer}
+use Rattle.guest_port.specs.declared.writer.Writer.TheVariants.{Guest, Requester}
 
 -- ---- the reply of a write
 
@@ -48,23 +55,31 @@ module _ (memory : List Window) (a : ℕ) (bytes : List ℕ) where
 
 -- ---- commits
 
--- memory of a machine that has no other
-abbrev pub one : List Window → List Held
-one memory = out part.Mem (Mem memory None) ∷ []
+-- memory, with the copy of it if there is one
+abbrev pub one : List Window → Option Tracked → List Held
+one memory track = out part.Mem (Mem memory track) ∷ []
 
-left_is : (memory : List Window) (address : ℕ) (bytes : List ℕ) (o : Option (List Window)) → poked_content memory None address bytes o
-    ≡ Mem (unwrap_or o memory) None
-left_is memory address bytes None = refl
-left_is memory address bytes (Some now) = refl
+-- and once it was written
+abbrev pub one_written : List Window → Option Tracked → ℕ → List ℕ → List Held
+one_written memory track address bytes = out part.Mem (poked_content memory track address bytes (write_at memory address bytes)) ∷ []
 
-module _ (s : Setup) (addr : Addr) (memory : List Window) (vcpus : HasVcpus s) where
-  pub pokes_now : (bytes : List ℕ) (w : Word) → w.place < s.limits.place_last
-      → MayLeave s (staying w (call.Poke addr bytes) (poke_reply (write_at memory addr.0 bytes)) Keep) (one memory)
-      (one (unwrap_or (write_at memory addr.0 bytes) memory))
-  pokes_now bytes w room =
-      let z = pokes s w addr bytes memory None vcpus room in
-      (z.0, z.1 ∙ ap (λ (x : Content). (let l : List Held = out part.Mem x ∷ [] in l)) (left_is memory addr.0 bytes (write_at memory addr.0 bytes)))
+module _ (s : Setup) (memory : List Window) (track : Option Tracked) (vcpus : HasVcpus s) where
+  pub writes_now : (writer : Writer) (addr : Addr) (bytes : List ℕ) (w : Word) → w.place < s.limits.place_last
+      → MayLeave s (staying w (write_of writer addr bytes) (poke_reply (write_at memory addr.0 bytes)) Keep) (one memory track)
+      (one_written memory track addr.0 bytes)
+  writes_now Guest addr bytes w room = pokes s w addr bytes memory track vcpus room
+  writes_now (Requester req) addr bytes w room = dmas s w req addr bytes memory track vcpus room
 
-  pub peeks_now : (count : ℕ) (w : Word) → w.place < s.limits.place_last
-      → MayLeave s (staying w (call.Peek addr count) (peek_reply (peeked_in memory addr.0 count)) Keep) (one memory) (one memory)
-  peeks_now count w room = peeks s w addr count memory None vcpus room
+  pub peeks_now : (addr : Addr) (count : ℕ) (w : Word) → w.place < s.limits.place_last
+      → MayLeave s (staying w (call.Peek addr count) (peek_reply (peeked_in memory addr.0 count)) Keep) (one memory track) (one memory track)
+  peeks_now addr count w room = peeks s w addr count memory track vcpus room
+
+  pub copies_now : (w : Word) → w.place < s.limits.place_last
+      → MayLeave s (staying w call.Copy (reply.Copied (copy_count track)) Keep) (one memory track) (one memory (option_map (caught_up memory) track))
+  copies_now w room = copies s w memory track vcpus room
+
+-- ---- the copy's windows
+
+pub same_windows : (s : Setup) (memory : List Window) (track : Option Tracked) → HasStood s part.Mem (Mem memory track) → HasSameWindows memory track
+same_windows s memory track stood t is = subst (λ (ws : List Window). map extent t.copy ≡ map extent ws) stood.right.0
+    (stood.machine.sound.tracked t (stood.right.1 ∙ is)).windows

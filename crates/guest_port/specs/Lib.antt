@@ -1,1 +1,2 @@
 pub mod Pokes
+pub mod Copies

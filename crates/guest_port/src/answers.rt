@@ -1,9 +1,12 @@
 //! What a write and a read of guest memory are answered, and what a write leaves.
-ghost use Rattle.std.specs.Prelude.{◌≡◌, true, OnOk, unwrap_or};
+ghost use Rattle.std.specs.Prelude.{◌≡◌, true, OnOk};
 ghost use Rattle.guest_windows.specs.Windows.{write_at};
 ghost use Rattle.its_plain.specs.Answer.{poke_reply, peek_reply};
-ghost use Rattle.its_steps.specs.Calls.{peeked_in};
+ghost use Rattle.its_steps.specs.Calls.{peeked_in, poked_content};
+ghost use Rattle.its_steps.specs.Contents as content;
+ghost use Rattle.guest_port.specs.Pokes.{IsWriteReply};
 
+use crate::copies::mark;
 use guest_windows::Memory;
 use its_plain::{Bytes64, Reply};
 use its_turns::GuestMemory;
@@ -12,7 +15,8 @@ use std::alloc::AllocError;
 
 /// Whether one window has the bytes.
 pub fn poke_answer(memory: &Memory, addr: Addr, bytes: &Bytes64) -> Reply
-    ensures { result ≡ poke_reply (write_at memory.now addr.0 bytes.now) }
+    ensures answer { result ≡ poke_reply (write_at memory.now addr.0 bytes.now) }
+    ensures reply { IsWriteReply result }
 {
     if memory.inside(addr, bytes.as_slice().len() as u64) {
         Reply::Ok
@@ -24,19 +28,24 @@ pub fn poke_answer(memory: &Memory, addr: Addr, bytes: &Bytes64) -> Reply
 /// Holds the pages that a write may need.
 pub fn prepare(guest: &mut GuestMemory) -> Result<(), AllocError>
     ensures memory { guest.new.memory ≡ guest.old.memory }
+    ensures track { guest.new.track ≡ guest.old.track }
     ensures ready { OnOk result (guest.new.spare ≡ true) }
 {
     guest.memory.prepare(&mut guest.spare)
 }
 
-/// Writes the bytes where one window has them.
+/// Writes the bytes where one window has them. Their pages are dirty then.
 pub fn write_bytes(guest: &mut GuestMemory, addr: Addr, bytes: &Bytes64)
     requires { guest.old.spare ≡ true }
-    ensures { guest.new.memory
-        ≡ unwrap_or (write_at guest.old.memory addr.0 bytes.now) guest.old.memory }
+    ensures { content.Mem guest.new.memory guest.new.track
+        ≡ poked_content guest.old.memory guest.old.track addr.0 bytes.now
+        (write_at guest.old.memory addr.0 bytes.now) }
 {
     let bytes = bytes.as_slice();
-    let _ = guest.memory.write_prepared(&mut guest.spare, addr, bytes);
+    let written = guest.memory.write_prepared(&mut guest.spare, addr, bytes);
+    if written.is_ok() {
+        mark(&mut guest.track, addr, bytes.len() as u64);
+    }
 }
 
 /// 1 to 64 bytes, where one window has them.

@@ -1,12 +1,14 @@
-//! Writes and reads of guest memory that wait for its turn.
-ghost use Rattle.std.specs.Prelude.{◌≡◌, []};
+//! Writes, reads and copies of guest memory that wait for its turn.
+ghost use Rattle.std.specs.Prelude.{◌≡◌, [], IfOk};
 ghost use Rattle.its_types.specs.declared.machine.Part.TheVariants as part;
 ghost use Rattle.its_plain.specs.declared.call.Call.TheVariants as call;
-ghost use Rattle.guest_port.specs.Pokes.{Pokes};
+ghost use Rattle.its_plain.specs.declared.call.Reply.TheVariants as reply;
+ghost use Rattle.guest_port.specs.Pokes.{write_of, IsWriteReply, Pokes, Writes};
 ghost use Rattle.its_turns.specs.Calls.{AsksPart};
 ghost use Rattle.its_turns.specs.Machines.{view, IsOf};
 
-use crate::tries::{try_peek, try_poke};
+use crate::tries::{try_copy, try_peek, try_write};
+use crate::writer::Writer;
 use its_plain::{Bytes64, Reply};
 use its_turns::{Attempt, Machine, NotMade, Pass, Spent, give_way, pause};
 use its_types::{Addr, Gate, Placed};
@@ -34,8 +36,28 @@ pub fn poke<R: Wait, G: Gate>(
     ensures of { IsOf machine.now pass.new }
     ensures answer { Pokes (view pass.old) addr bytes.now (view pass.new) result }
 {
+    write(rt, machine, pass, gate, Writer::Guest, addr, bytes)
+}
+
+/// Writes as `poke` does, whoever does it.
+pub fn write<R: Wait, G: Gate>(
+    rt: &R,
+    machine: &Machine,
+    pass: &mut Pass,
+    gate: &G,
+    writer: Writer,
+    addr: Addr,
+    bytes: &Bytes64,
+) -> Result<Placed<Reply>, NotMade>
+    requires of { IsOf machine.now pass.old }
+    requires free { (view pass.old).held ≡ [] }
+    ensures of { IsOf machine.now pass.new }
+    ensures answer { Writes (view pass.old) (write_of writer addr bytes.now) (view pass.new)
+        result }
+    ensures reply { IfOk result (λ placed. IsWriteReply placed.reply) }
+{
     for _ in rt.forever() {
-        match try_poke(machine, pass, gate, addr, bytes) {
+        match try_write(machine, pass, gate, writer, addr, bytes) {
             Ok(Attempt::Done(placed)) => return Ok(placed),
             Ok(Attempt::Spent) => return Err(NotMade::Spent),
             Ok(Attempt::Busy(_)) => give_way(),
@@ -70,6 +92,35 @@ pub fn peek<R: Wait, G: Gate>(
 {
     for _ in rt.forever() {
         match try_peek(machine, pass, gate, addr, count) {
+            Attempt::Done(placed) => return Ok(placed),
+            Attempt::Spent => return Err(Spent),
+            Attempt::Busy(_) => give_way(),
+            Attempt::Raced(_) => pause(),
+        }
+    }
+    unreachable!()
+}
+
+/// Copies the pages of memory that were written since the last copy, and answers how many they
+/// were: 0 where the machine has no second memory. Takes no memory of the host.
+///
+/// ```
+/// let pages = copy(rt, machine, pass, &Open)?.reply;
+/// ```
+pub fn copy<R: Wait, G: Gate>(
+    rt: &R,
+    machine: &Machine,
+    pass: &mut Pass,
+    gate: &G,
+) -> Result<Placed<u64>, Spent>
+    requires of { IsOf machine.now pass.old }
+    requires free { (view pass.old).held ≡ [] }
+    ensures of { IsOf machine.now pass.new }
+    ensures answer { AsksPart (view pass.old) part.Mem call.Copy reply.Copied (view pass.new)
+        result }
+{
+    for _ in rt.forever() {
+        match try_copy(machine, pass, gate) {
             Attempt::Done(placed) => return Ok(placed),
             Attempt::Spent => return Err(Spent),
             Attempt::Busy(_) => give_way(),

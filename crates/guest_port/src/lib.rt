@@ -1,9 +1,16 @@
-//! The port of the guest: its memory, as the guest and its devices write and read it.
+//! The port of the guest: its memory, as the guest and its devices write and read it, and a copy of
+//! it.
+//!
+//! A call has up to eight arguments: how it waits, the machine, the caller's pass, a gate at which
+//! a test may hold it, and what is asked.
 #![tactic(auto)]
 
 mod answers;
 mod asks;
+mod copies;
 mod tries;
+mod writer;
 
-pub use asks::{peek, poke};
-pub use tries::{try_peek, try_poke};
+pub use asks::{copy, peek, poke, write};
+pub use tries::{try_copy, try_peek, try_poke, try_write};
+pub use writer::Writer;

@@ -1,11 +1,15 @@
-//! Writes and reads of guest memory that wait for nobody.
-ghost use Rattle.std.specs.Prelude.{◌≡◌, ◌∷◌, [], MatchResult};
+//! Writes, reads and copies of guest memory that wait for nobody.
+ghost use Rattle.std.specs.Prelude.{◌≡◌, ◌∷◌, [], MatchResult, IfOk};
 ghost use Rattle.its_types.specs.declared.machine.Part.TheVariants as part;
 ghost use Rattle.its_plain.specs.declared.call.Call.TheVariants as call;
+ghost use Rattle.its_plain.specs.declared.call.Reply.TheVariants as reply;
 ghost use Rattle.its_turns.specs.Calls.{TriesPart, GaveUp};
 ghost use Rattle.its_turns.specs.Machines.{view, IsOf};
+ghost use Rattle.guest_port.specs.Pokes.{write_of, IsWriteReply, IfMade};
 
 use crate::answers::{peek_answer, poke_answer, prepare, write_bytes};
+use crate::copies::{catch_up, count};
+use crate::writer::Writer;
 use its_plain::{Bytes64, Call, Reply};
 use its_steps::ShardChange;
 use its_turns::{Attempt, Machine, Pass, Value, put, try_commit, try_take_memory};
@@ -28,6 +32,26 @@ pub fn try_poke<G: Gate>(
         (λ a. TriesPart (view pass.old) part.Mem (call.Poke addr bytes.now) (λ r. r)
         (view pass.new) a) (λ _. GaveUp (view pass.old) (part.Mem ∷ []) (view pass.new)) }
 {
+    try_write(machine, pass, gate, Writer::Guest, addr, bytes)
+}
+
+/// Writes as `try_poke` does, whoever does it.
+pub fn try_write<G: Gate>(
+    machine: &Machine,
+    pass: &mut Pass,
+    gate: &G,
+    writer: Writer,
+    addr: Addr,
+    bytes: &Bytes64,
+) -> Result<Attempt<Reply>, AllocError>
+    requires of { IsOf machine.now pass.old }
+    requires free { (view pass.old).held ≡ [] }
+    ensures of { IsOf machine.now pass.new }
+    ensures answer { MatchResult result
+        (λ a. TriesPart (view pass.old) part.Mem (write_of writer addr bytes.now) (λ r. r)
+        (view pass.new) a) (λ _. GaveUp (view pass.old) (part.Mem ∷ []) (view pass.new)) }
+    ensures reply { IfOk result (IfMade IsWriteReply) }
+{
     let mut memory = match try_take_memory(machine, pass) {
         Ok(memory) => memory,
         Err(busy) => return Ok(Attempt::Busy(busy)),
@@ -37,10 +61,7 @@ pub fn try_poke<G: Gate>(
         return Err(AllocError);
     }
     let reply = poke_answer(&memory.memory, addr, bytes);
-    let call = Call::Poke {
-        addr,
-        bytes: *bytes,
-    };
+    let call = writer.call(addr, bytes);
     match try_commit(machine, pass, gate, &call, &reply, ShardChange::Keep) {
         Ok(word) => {
             write_bytes(&mut memory, addr, bytes);
@@ -83,6 +104,37 @@ pub fn try_peek<G: Gate>(
             Attempt::Done(Placed {
                 place: word.place,
                 reply,
+            })
+        }
+        Err(lost) => {
+            put(machine, pass, Part::Mem, Value::Mem(memory));
+            lost.attempt()
+        }
+    }
+}
+
+/// Copies the pages of memory that were written since the last copy, and answers how many they
+/// were: 0 where the machine has no second memory. Takes no memory of the host.
+pub fn try_copy<G: Gate>(machine: &Machine, pass: &mut Pass, gate: &G) -> Attempt<u64>
+    requires of { IsOf machine.now pass.old }
+    requires free { (view pass.old).held ≡ [] }
+    ensures of { IsOf machine.now pass.new }
+    ensures answer { TriesPart (view pass.old) part.Mem call.Copy reply.Copied (view pass.new)
+        result }
+{
+    let mut memory = match try_take_memory(machine, pass) {
+        Ok(memory) => memory,
+        Err(busy) => return Attempt::Busy(busy),
+    };
+    let pages = count(&memory.track);
+    let reply = Reply::Copied(pages);
+    match try_commit(machine, pass, gate, &Call::Copy, &reply, ShardChange::Keep) {
+        Ok(word) => {
+            catch_up(&mut memory);
+            put(machine, pass, Part::Mem, Value::Mem(memory));
+            Attempt::Done(Placed {
+                place: word.place,
+                reply: pages,
             })
         }
         Err(lost) => {

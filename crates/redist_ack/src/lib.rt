@@ -1,4 +1,7 @@
 //! The port of a virtual processor: acknowledgements of LPIs (IHI 0069, section 5.1.2).
+//!
+//! A call has up to six arguments: how it waits, the machine, the caller's pass, a gate at which a
+//! test may hold it, and what is asked.
 #![tactic(auto)]
 
 mod acks;

@@ -1,31 +1,32 @@
-use Rattle.std.proofs.Common.{arith, refl, []}
+use Rattle.std.proofs.Common.{refl, []}
 use Rattle.its_plain.specs.declared.call.Reply.TheVariants as reply
 use Rattle.its_plain.specs.declared.call.Signal.TheVariants.{Dropped}
 use Rattle.its_steps.proofs.Signals.{drops}
 use Rattle.its_steps.specs.Contents.{Maps}
 use Rattle.its_steps.specs.declared.change.ShardChange.TheVariants.{Keep}
 use Rattle.its_turns.proofs.Telling.{may_here, owes_here}
-use Rattle.its_turns.specs.Contents.{translator_of}
+use Rattle.owned_parts.specs.Owned.{translator_of}
 use Rattle.its_turns.specs.Machines.{setup, view}
 use Rattle.device_port.specs.Hands.{one_held}
-use Rattle.device_port.specs.Signals.{signal}
 use Rattle.device_port.proofs.finish.drop_signal.Goals as goal
 
 pub try_commit-requires-clause-may : goal.try_commit-requires-clause-may
-try_commit-requires-clause-may g c = let m = c.args.machine.now in let t = c.args.maps.value in
-    may_here (setup m) (signal c.args.dev c.args.ev) (reply.Signal (Dropped c.args.cause)) Keep (one_held t) (λ _. one_held t)
-    (λ w room. drops (setup m) w (signal c.args.dev c.args.ev) 0 c.args.dev c.args.ev c.args.cause (translator_of t) refl m.laid.1 (omega
-    (arith, m.laid.0)) room c.requires.lost)
+try_commit-requires-clause-may g c = let m = c.args.machine.now in let t = c.args.maps.value in let call = c.args.call.now in let message = c.args.message in
+    let its = message.its in
+    may_here (setup m) call (reply.Signal (Dropped c.args.cause)) Keep (one_held its t) (λ _. one_held its t)
+    (λ w room. drops (setup m) w call its message.dev message.ev c.args.cause (translator_of t) c.requires.sends.message_is m.laid.1
+    c.requires.sends.stands room c.requires.lost)
     (view c.args.pass.now) c.requires.held
 
 pub put-requires-clause-owed : goal.put-requires-clause-owed
-put-requires-clause-owed g c = let m = c.args.machine.now in let t = c.args.maps.value in
+put-requires-clause-owed g c = let m = c.args.machine.now in let t = c.args.maps.value in let call = c.args.call.now in let message = c.args.message in
+    let its = message.its in
     record {
       content = Maps (translator_of t);
       content_is = refl;
       before = [];
-      last = owes_here (setup m) (signal c.args.dev c.args.ev) (reply.Signal (Dropped c.args.cause)) Keep (one_held t) (λ _. one_held t)
-          (λ w room. drops (setup m) w (signal c.args.dev c.args.ev) 0 c.args.dev c.args.ev c.args.cause (translator_of t) refl m.laid.1 (omega
-          (arith, m.laid.0)) room c.requires.lost)
+      last = owes_here (setup m) call (reply.Signal (Dropped c.args.cause)) Keep (one_held its t) (λ _. one_held its t)
+          (λ w room. drops (setup m) w call its message.dev message.ev c.args.cause (translator_of t) c.requires.sends.message_is m.laid.1
+          c.requires.sends.stands room c.requires.lost)
           (view c.args.pass.now) c.requires.held c.requires.of.1 c.in-Ok.word (view c.try_commit.new.pass) c.in-Ok.ensures.result;
     }

@@ -20,5 +20,5 @@ loop-preserved g c = (
   tt,
   c.write_once.ensures.of,
   again (IsOfWrite c.args.vcpu) (view c.args.pass.now) (view c.loop.pass) c.loop.invariant.3 (view c.write_once.new.pass)
-      (rw (c.in-Err-Raced.field-0-is) at c.in-Err-Raced.ensures.answer),
+      (rw (c.in-Err-Raced.field-0-is) at c.in-Err-Raced.ensures.answer).0,
 )

@@ -1,0 +1,240 @@
+-- A step's command on what is in hand: what each of its calls needs, and what it leaves.
+use Rattle.std.proofs.Common.{◌≡◌, ◌<◌, ℕ, Bool, true, nat_lt, List, [], ◌∷◌, Option, Some, Result, Ok, Err, refl, ap, sym, ◌∙◌, subst}
+use Rattle.std.specs.List.{AllByRecursion}
+use Rattle.std.specs.Prelude.{is_some, Box}
+use Rattle.std.specs.Global.{Global}
+use Rattle.std.specs.Result.{is_err, OnErr}
+use Rattle.std.proofs.lemmas.Bool.{and_from, lt-ltb, ltb-true, and_parts}
+use Rattle.std.proofs.lemmas.Option.{get_or_from_slice_get}
+use Rattle.dirty_log.specs.declared.tracked.Tracked.{Tracked}
+use Rattle.guest_windows.specs.Windows.{Window}
+use Rattle.its_command.specs.declared.command.Command.{Command}
+use Rattle.its_types.specs.Maps.{Maps as MapsOf}
+use Rattle.its_types.specs.declared.machine.Part.{Part}
+use Rattle.its_types.specs.declared.machine.Part.TheVariants as part
+use Rattle.its_types.specs.declared.machine.Shape.{Shape}
+use Rattle.its_types.specs.declared.machine.Word.{Word}
+use Rattle.its_plain.specs.Answer.{left}
+use Rattle.its_plain.specs.History.{after}
+use Rattle.its_plain.specs.Plain.{Plain, Translator, translator, no_translator}
+use Rattle.its_plain.specs.declared.call.Call.TheVariants as call
+use Rattle.its_plain.specs.declared.call.CmdReply.{CmdReply}
+use Rattle.its_plain.specs.declared.call.CmdReply.TheVariants as answers
+use Rattle.its_plain.specs.declared.call.Reply.{Reply}
+use Rattle.its_plain.specs.declared.call.Reply.TheVariants as reply
+use Rattle.lpi_pending.specs.InHand.{in_hand}
+use Rattle.owned_parts.specs.Owned.{HasLpisOf, ArePartsOf, ArePartsOfSound, translator_of}
+use Rattle.owned_parts.specs.RedistSets.{is_in}
+use Rattle.cmd_exec.specs.Executed.{as_step, IsReplyTo, AreLeftBy}
+use Rattle.cmd_exec.specs.Met.{MeetsCommand}
+use Rattle.cmd_exec.specs.Needs.{IsPartOf}
+use Rattle.cmd_exec.specs.Room.{adds_to}
+use Rattle.its_steps.specs.Contents.{Maps, Mem, Held}
+use Rattle.its_steps.specs.Endings.{Ending, ending_in, ending_of, ending_told}
+use Rattle.its_steps.specs.Good.{Holds}
+use Rattle.its_steps.specs.MayCall.{MayCall}
+use Rattle.its_steps.specs.MayCommit.{IsRight}
+use Rattle.its_steps.specs.Parts.{Setup, HasStamps, IsOfMachine, translator_count, vcpu_count}
+use Rattle.its_steps.specs.Renewal.{renewed}
+use Rattle.its_steps.specs.States.{IsReady, MayLeaveIn}
+use Rattle.its_steps.specs.World.{View, word_after}
+use Rattle.its_steps.specs.declared.commit.Commit.{Commit}
+use Rattle.its_steps.proofs.Owed.{owes_holds}
+use Rattle.its_turns.specs.Machines.{AreWithin}
+use Rattle.its_turns.specs.Told.{Looks, Commits}
+use Rattle.its_turns.specs.declared.value.GuestMemory.{GuestMemory}
+use Rattle.held_parts.specs.Redists.{redists_held, AreOfSet}
+use Rattle.held_parts.proofs.RedistRows.{redist_holds, redists_left}
+use Rattle.cmd_engine.specs.Cached.{ending_as, ending_said, cached_held, AreWhole, commit_of, LeavesBy, MayMarkSaid, AreChanged}
+use Rattle.cmd_engine.specs.Hands.{memory_held, base_held, all_held, windows_of, HasInHand, HasNeeded}
+use Rattle.cmd_engine.specs.Telling.{WantsMemory}
+use Rattle.cmd_engine.specs.declared.cached.Cached.{Cached}
+use Rattle.cmd_engine.specs.declared.cached.Mark.{Mark}
+use Rattle.cmd_engine.specs.declared.hands.Hands.{Hands}
+use Rattle.cmd_engine.proofs.Held.{all_out, holds_maps, holds_base, holds_redists, holds_cached}
+use Rattle.cmd_engine.proofs.InState.{AreOut, HoldsBase, HoldsRedists, track_is, parts, busy, bytes_are, parts_left, command_ready, command_ends}
+use Rattle.cmd_engine.proofs.Marks.{HoldsShards, marked_may, within_after, holds_shards, Makes, stays_makes, mark_makes}
+use Rattle.cmd_engine.proofs.Reading.{state_machine, state_right, read_held, read_setup, read_within, owed_after}
+use Rattle.cmd_engine.proofs.Tracks.{track_after}
+
+pub if_err : {A E P : Type 0} (r : Result A E) → is_err r ≡ true → OnErr r P → P
+if_err (Ok a) is p = absurd cc
+if_err (Err e) is p = p
+
+-- a command that is refused ends nothing
+said_shards : (s : Setup) (its : ℕ) (c : Cached) (said : CmdReply) (m : Mark) (held : List Held) → HoldsShards s its (ending_as c) m held
+    → HoldsShards s its (ending_said c said) m held
+said_shards s its c (answers.Ran op) m held h = h
+said_shards s its c (answers.Refused op why) m held h = tt
+
+module _ (s : Setup) (stamps : HasStamps s) (v : View) (h : Hands) (has : HasInHand s v h) (b : Box GuestMemory Global) (mem : h.memory ≡ Some b)
+    (cmd : Command) (meets_at : MeetsCommand h.translator.value.regs (windows_of h.memory) cmd)
+    (ends : ending_in h.translator.value.maps.maps cmd ≡ ending_as h.cached) (needed : HasNeeded s cmd h) where
+  abbrev its : ℕ
+  its = h.its
+
+  abbrev t : Translator
+  t = translator_of h.translator.value
+
+  abbrev memory : List Window
+  memory = b.value.memory
+
+  abbrev track : Option Tracked
+  track = b.value.track
+
+  abbrev held : List Held
+  held = all_held s h
+
+  meets : MeetsCommand t.regs memory cmd
+  meets = subst (λ (m : Option (Box GuestMemory Global)). MeetsCommand t.regs (windows_of m) cmd) mem meets_at
+
+  out : AreOut s held
+  out = all_out s v h has
+
+  base : HoldsBase its t memory track held
+  base = holds_base s v h has b mem
+
+  hand : HoldsRedists s h.redists held
+  hand = holds_redists s v h has
+
+  holds : (p : Part) → IsPartOf its h.set p → Holds p held
+  holds (part.Maps i) is = subst (λ (k : ℕ). Holds (part.Maps k) held) (sym is) (holds_maps s v h has)
+  holds part.Mem is = owes_holds part.Mem (Mem memory track) held base.mem
+  holds (part.Shard i n) is = absurd is
+  holds (part.Redist vcpu) is = redist_holds h.redists (cached_held its s.shards h.cached (base_held h)) 16 vcpu.0
+      (ltb-true vcpu.0 16 (and_parts (nat_lt vcpu.0 16) _ is).0)
+      (has.redists.hand vcpu.0 ∙ and_from (is_in h.set vcpu.0) (nat_lt vcpu.0 (vcpu_count s)) is (lt-ltb vcpu.0 (vcpu_count s) (needed.below vcpu.0 is)))
+
+  -- ---- in the state that was read
+
+  module _ (x : View) (w : Word) (own : v.setup ≡ s) (looks : Looks v w x) where
+    abbrev u : Plain
+    u = after v.setup.start x.seen
+
+    m : IsOfMachine s u
+    m = state_machine s v x w held own has.held looks
+
+    right : AllByRecursion (IsRight s w u) held
+    right = state_right s v x w held own has.held looks
+
+    parts_in : ArePartsOf u its s.start.layout.shape t.regs t.maps memory h.redists
+    parts_in = parts s u w held m right out its t memory track base h.redists hand cmd meets
+
+    -- no memory
+    pub wants : (shape : Shape) → shape ≡ s.start.layout.shape → (adds : Bool) → adds ≡ true
+        → ((z : Plain) (i : ℕ) → ArePartsOf z i shape t.regs t.maps memory h.redists → adds ≡ adds_to z i cmd) → WantsMemory u its
+    wants shape same adds is alike = record {
+      busy = busy s u w held m right out its t memory track base h.redists hand cmd meets;
+      bytes = meets.bytes;
+      bytes_are = bytes_are s u w held m right out its t memory track base h.redists hand cmd meets;
+      adds = subst (λ (z : Command). adds_to u its z ≡ true) (sym meets.command)
+          (sym (alike u its (subst (λ (z : Shape). ArePartsOf u its z t.regs t.maps memory h.redists) (sym same) parts_in)) ∙ is);
+    }
+
+    -- to carry it out
+    pub sound_in : (shape : Shape) (maps : MapsOf) → shape ≡ s.start.layout.shape → maps ≡ t.maps → ArePartsOfSound shape t.regs maps memory h.redists
+    sound_in shape maps same maps_are = (
+      u,
+      its,
+      m.sound,
+      subst (λ (z : Shape × MapsOf). ArePartsOf u its z.0 t.regs z.1 memory h.redists)
+          (λ d. (sym same d, sym maps_are d)) parts_in,
+    )
+
+    module _ (shape : Shape) (same : shape ≡ s.start.layout.shape) (said : CmdReply) (replies : IsReplyTo cmd shape t.regs t.maps memory h.redists said)
+        (room : w.place < s.limits.place_last) where
+      abbrev r : Reply
+      r = reply.Step (as_step said)
+
+      replies_here : IsReplyTo cmd s.start.layout.shape t.regs t.maps memory h.redists said
+      replies_here = subst (λ (z : Shape). IsReplyTo cmd z t.regs t.maps memory h.redists said) same replies
+
+      ready : IsReady s u w (call.Step its) r held
+      ready = command_ready s u w held m right out its t memory track base h.redists hand cmd meets h.set needed.parts holds said replies_here room
+
+      told_said : (k : CmdReply) → ending_told t.maps cmd (as_step k) ≡ ending_said h.cached k
+      told_said (answers.Ran op) = ends
+      told_said (answers.Refused op why) = refl
+
+      ends_so : ending_of u (call.Step its) ≡ ending_said h.cached said
+      ends_so = command_ends s u w held m right out its t memory track base h.redists hand cmd meets h.set needed.parts holds said replies_here
+          ∙ told_said said
+
+      module _ (mark : Mark) (may : MayMarkSaid s its h.cached said w mark) where
+        abbrev a : Commit
+        a = commit_of w mark (call.Step its) r
+
+        pub leaves_so : LeavesBy s its (ending_of u (call.Step its)) w mark
+        leaves_so = subst (λ (e : Ending). LeavesBy s its e w mark) (sym ends_so) may.leaves
+
+        pub within_then : AreWithin s (word_after a)
+        within_then = within_after s stamps its has.its w (read_within s v x w own looks) (call.Step its) r (ending_said h.cached said) mark may.leaves
+
+        may_leave : MayLeaveIn s u a held
+        may_leave = marked_may s stamps u w (call.Step its) r held ready (holds_maps s v h has) mark leaves_so
+            (subst (λ (e : Ending). HoldsShards s its e mark held) (sym ends_so)
+            (said_shards s its h.cached said mark held (holds_shards s its h.cached (base_held h) held mark has.whole (holds_cached s v h has) may.every)))
+
+        pub may_commit : MayCall s a x.held
+        may_commit = subst (MayCall s a) (sym (read_held s v x w held own has.held looks)) may_leave.0
+
+        -- carried out
+        module _ (maps : MapsOf) (maps_are : maps ≡ t.maps) (k : Command) (k_is : k ≡ cmd) (h' : Hands) (its_is : h'.its ≡ its) (mem' : h'.memory ≡ h.memory)
+            (set' : h'.set ≡ h.set)
+            (leaves : AreLeftBy k shape memory (t.regs, maps, h.redists) (h'.translator.value.regs, h'.translator.value.maps.maps, h'.redists))
+            (same_hand : (n : ℕ) → is_some (in_hand h'.redists n) ≡ is_some (in_hand h.redists n)) (changes : AreChanged mark.change h.cached h'.cached) where
+          abbrev z : Plain
+          z = left u (call.Step its) r
+
+          abbrev t' : Translator
+          t' = translator_of h'.translator.value
+
+          parts_then : ArePartsOf z its s.start.layout.shape t'.regs t'.maps memory h'.redists
+          parts_then = parts_left s u w held m right out its t memory track base h.redists hand cmd meets r t'.regs t'.maps h'.redists
+              (subst (λ (y : Command × Shape × MapsOf). AreLeftBy y.0 y.1 memory (t.regs, y.2, h.redists) (t'.regs, t'.maps, h'.redists))
+              (λ d. (k_is d, same d, maps_are d)) leaves)
+
+          base_then : renewed s a z (memory_held (Some b) (record { part = part.Maps its; owed = Maps t; out = true } ∷ []))
+              ≡ memory_held (Some b) (record { part = part.Maps its; owed = Maps t'; out = true } ∷ [])
+          base_then =
+              let track_now : z.track ≡ track = track_after u its r ∙ track_is s u w held m right out its t memory track base in
+              let new : translator z its ≡ t' = get_or_from_slice_get z.translators its t' no_translator parts_then.translator_is in
+              (λ d. record { part = part.Mem; owed = Mem (parts_then.memory_is d) (track_now d); out = true } ∷ record {
+                part = part.Maps its;
+                owed = Maps
+                    (new d);
+                out = true;
+              }
+              ∷ [])
+
+          bases : renewed s a z (base_held h) ≡ base_held h'
+          bases =
+              ap (λ (o : Option (Box GuestMemory Global)). renewed s a z (memory_held o
+              (record { part = part.Maps its; owed = Maps t; out = true } ∷ []))) mem
+              ∙ (base_then ∙ (λ d. memory_held (sym (mem' ∙ mem) d) (record { part = part.Maps (sym its_is d); owed = Maps t'; out = true } ∷ [])))
+
+          makes : Makes s w (call.Step its) r z its refl (base_held h) mark h.cached h'.cached
+          makes = made_by said may
+            where
+              made_by : (k : CmdReply) → MayMarkSaid s its h.cached k w mark
+                  → Makes s w (call.Step its) r z its refl (base_held h) mark h.cached h'.cached
+              made_by (answers.Ran op) may = mark_makes s w (call.Step its) r z its refl (base_held h) h.cached h'.cached mark may.leaves may.every changes
+              made_by (answers.Refused op why) may = stays_makes s w (call.Step its) r z its refl (base_held h) h.cached h'.cached mark may.leaves changes
+
+          redists_then : AreOfSet s h'.set h'.redists
+          redists_then = subst (λ (n : ℕ). AreOfSet s n h'.redists) (sym set') record {
+            hand = λ n. same_hand n ∙ has.redists.hand n;
+            lpis = λ n q is. subst (λ (y : Shape). HasLpisOf y q) parts_then.shape_is (parts_then.redistributors_are n q is).lpis;
+          }
+
+          pub in_hand_then : (y : View) → Commits x a y → HasInHand s y h'
+          in_hand_then y commits = record {
+            held = owed_after s x y a held (read_setup s v x w held own has.held looks) (read_held s v x w held own has.held looks) commits
+                ∙ (may_leave.1
+                ∙ (redists_left s a z h.redists h'.redists (cached_held its s.shards h.cached (base_held h)) 16 same_hand parts_then.redistributors_are
+                ∙ ap (λ (l : List Held). redists_held h'.redists 16 l)
+                (makes.renews ∙ (λ d. cached_held (sym its_is d) s.shards h'.cached (bases d)))));
+            its = subst (λ (n : ℕ). n < translator_count s) (sym its_is) has.its;
+            whole = subst (λ (n : ℕ). AreWhole s n h'.cached) (sym its_is) (makes.whole has.whole);
+            redists = redists_then;
+          }

@@ -1,0 +1,92 @@
+use Rattle.std.proofs.Common.{ap, sym, ◌∙◌, refl}
+use Rattle.its_plain.specs.declared.call.Call.TheVariants as call
+use Rattle.its_plain.specs.declared.call.CmdReply.{CmdReply}
+use Rattle.its_plain.specs.declared.call.Reply.TheVariants as reply
+use Rattle.its_plain.specs.declared.call.StepReply.{StepReply}
+use Rattle.its_turns.specs.Machines.{setup, view}
+use Rattle.its_turns.proofs.Stamps.{has_stamps}
+use Rattle.cmd_exec.specs.Executed.{planned_reply}
+use Rattle.cmd_exec.specs.Room.{adds}
+use mathlib.Core.List.{IsPrefix}
+use Rattle.cmd_engine.specs.Cached.{IsAny}
+use Rattle.cmd_engine.specs.Hands.{IsOfStep}
+use Rattle.cmd_engine.proofs.Came.{came_spent, came_no_memory, came_late, came_raced, made_as}
+use Rattle.cmd_engine.proofs.Carrying.{if_err, wants, sound_in, leaves_so, within_then, may_commit, in_hand_then}
+use Rattle.cmd_engine.proofs.commands.make_command.Goals as goal
+
+pub returns-in_default-clause-comes : goal.returns-in_default-clause-comes
+returns-in_default-clause-comes g c v bare goes = let i = c.args.hands.now.its in let w = c.in_default.ensures.word in
+    came_spent (IsOfStep i) v (view c.args.pass.now) bare goes (setup c.args.machine.now) c.requires.of.1
+    (IsAny c.args.hands.now.cached × IsPrefix (view c.args.pass.now).seen (view c.begin.new.pass).seen) (view c.begin.new.pass) w.0 w.1 (call.Step i)
+    (λ (k : StepReply). reply.Step k) w.2
+
+pub returns-then-is_err-clause-comes : goal.returns-then-is_err-clause-comes
+returns-then-is_err-clause-comes g c v bare goes = let m = c.args.machine.now in let q = c.requires in let i = c.args.hands.now.its in
+    came_no_memory (IsOfStep i) v (view c.args.pass.now) bare goes (setup m) q.of.1
+    (IsAny c.args.hands.now.cached × IsPrefix (view c.args.pass.now).seen (view c.begin.new.pass).seen)
+    (view c.begin.new.pass) c.in-Ok.word c.in-Ok.ensures.word.0 (call.Step i)
+    (λ (k : StepReply). reply.Step k)
+    (wants (setup m) (has_stamps m) (view c.args.pass.now) c.args.hands.now q.hands c.in-Some.memory c.in-Some.is c.args.command.now q.meets q.ends q.needed
+    (view c.begin.new.pass) c.in-Ok.word q.of.1 c.in-Ok.ensures.word.0 c.desc.result.now.shape c.desc.ensures.shape _
+    (ap (λ t. adds t.maps.maps c.plan-planned.result) (sym c.deref_mut-translator.ensures.value)
+    ∙ if_err c.make_room.result (sym c.is_err.ensures.value ∙ c.if-is_err.true) c.make_room.ensures.growing)
+    (rw (c.deref_mut-translator.ensures.value, c.deref.ensures) at c.plan-planned.ensures.adds))
+
+pub returns-in_default-mark_of-clause-comes : goal.returns-in_default-mark_of-clause-comes
+returns-in_default-mark_of-clause-comes g c v bare goes = let i = c.args.hands.now.its in
+    came_late (IsOfStep i) v (view c.args.pass.now) bare goes (setup c.args.machine.now) c.requires.of.1
+    (IsAny c.args.hands.now.cached × IsPrefix (view c.args.pass.now).seen (view c.begin.new.pass).seen) (view c.begin.new.pass) c.in-Ok.word
+    c.in-Ok.ensures.word.0 (call.Step i) (λ (k : StepReply). reply.Step k) c.in_default-mark_of.ensures.0
+    (c.in_default-mark_of.ensures.1, c.in-Ok.ensures.word.0.longer)
+
+pub commit_marked-requires-clause-after : goal.commit_marked-requires-clause-after
+commit_marked-requires-clause-after g c = let m = c.args.machine.now in let q = c.requires in let said : CmdReply = planned_reply c.plan-planned.result in
+    within_then (setup m) (has_stamps m) (view c.args.pass.now) c.args.hands.now q.hands c.in-Some.memory c.in-Some.is c.args.command.now q.meets q.ends
+    q.needed (view c.begin.new.pass) c.in-Ok.word q.of.1 c.in-Ok.ensures.word.0 c.desc.result.now.shape c.desc.ensures.shape said
+    (rw (c.deref_mut-translator.ensures.value, c.deref.ensures) at c.plan-planned.ensures.reply) c.in-Ok.ensures.word.1 c.in-Some-mark_of.mark
+    (rw (c.reply.ensures) at c.in-Some-mark_of.ensures)
+
+pub commit_marked-requires-clause-may : goal.commit_marked-requires-clause-may
+commit_marked-requires-clause-may g c = let m = c.args.machine.now in let q = c.requires in let said : CmdReply = planned_reply c.plan-planned.result in
+    rw (c.step_reply-reply.ensures)
+    (may_commit (setup m) (has_stamps m) (view c.args.pass.now) c.args.hands.now q.hands c.in-Some.memory c.in-Some.is c.args.command.now q.meets q.ends
+    q.needed (view c.begin.new.pass) c.in-Ok.word q.of.1 c.in-Ok.ensures.word.0 c.desc.result.now.shape c.desc.ensures.shape said
+    (rw (c.deref_mut-translator.ensures.value, c.deref.ensures) at c.plan-planned.ensures.reply) c.in-Ok.ensures.word.1 c.in-Some-mark_of.mark
+    (rw (c.reply.ensures) at c.in-Some-mark_of.ensures))
+
+pub returns-in-Err-clause-comes : goal.returns-in-Err-clause-comes
+returns-in-Err-clause-comes g c v bare goes = let i = c.args.hands.now.its in
+    came_raced (IsOfStep i) v (view c.args.pass.now) bare goes (setup c.args.machine.now) c.requires.of.1
+    (IsAny c.args.hands.now.cached × IsPrefix (view c.args.pass.now).seen (view c.commit_marked.new.pass).seen) (view c.begin.new.pass) c.in-Ok.word
+    c.in-Ok.ensures.word.0 (view c.commit_marked.new.pass) c.in-Ok.ensures.word.1 (call.Step i)
+    (λ (k : StepReply). reply.Step k) c.in-Err.missed c.in-Err.ensures.result
+
+pub apply-requires-clause-parts : goal.apply-requires-clause-parts
+apply-requires-clause-parts g c = let m = c.args.machine.now in let q = c.requires in
+    rw (c.deref_mut-translator.ensures.value, c.deref.ensures)
+    (sound_in (setup m) (has_stamps m) (view c.args.pass.now) c.args.hands.now q.hands c.in-Some.memory c.in-Some.is c.args.command.now q.meets q.ends q.needed
+    (view c.begin.new.pass) c.in-Ok.word q.of.1 c.in-Ok.ensures.word.0 c.desc.result.now.shape c.make_room.new.maps.maps c.desc.ensures.shape
+    (c.make_room.ensures.maps ∙ ap (λ t. t.maps.maps) c.deref_mut-translator.ensures.value))
+
+pub returns-clause-hands : goal.returns-clause-hands
+returns-clause-hands g c = let m = c.args.machine.now in let q = c.requires in let said : CmdReply = planned_reply c.plan-planned.result in
+    in_hand_then (setup m) (has_stamps m) (view c.args.pass.now) c.args.hands.now q.hands c.in-Some.memory c.in-Some.is c.args.command.now q.meets q.ends
+    q.needed (view c.begin.new.pass) c.in-Ok.word q.of.1 c.in-Ok.ensures.word.0 c.desc.result.now.shape c.desc.ensures.shape said
+    (rw (c.deref_mut-translator.ensures.value, c.deref.ensures) at c.plan-planned.ensures.reply) c.in-Ok.ensures.word.1 c.in-Some-mark_of.mark
+    (rw (c.reply.ensures) at c.in-Some-mark_of.ensures)
+    c.make_room.new.maps.maps (c.make_room.ensures.maps ∙ ap (λ t. t.maps.maps) c.deref_mut-translator.ensures.value) c.plan-planned.result.command
+    c.plan-planned.ensures.plan.command _ refl refl refl (rw (c.deref_mut-translator.ensures.value, c.deref.ensures) at c.apply.ensures.left)
+    c.apply.ensures.hand c.change.ensures (view c.commit_marked.new.pass)
+    (rw (c.step_reply-reply.ensures) at c.in-Ok-commit_marked.ensures.result.1)
+
+pub returns-clause-comes : goal.returns-clause-comes
+returns-clause-comes g c v bare goes = let m = c.args.machine.now in let q = c.requires in let i = c.args.hands.now.its in let said : CmdReply =
+    planned_reply c.plan-planned.result in
+    made_as (IsOfStep i) v (view c.args.pass.now) bare goes (setup m) q.of.1
+    (IsAny c.args.hands.now.cached × IsPrefix (view c.args.pass.now).seen (view c.commit_marked.new.pass).seen) (view c.begin.new.pass) c.in-Ok.word
+    c.in-Ok.ensures.word.0 (view c.commit_marked.new.pass) c.in-Ok.ensures.word.1 (has_stamps m) (call.Step i) (reply.Step c.step_reply-reply.result)
+    q.hands.its c.in-Some-mark_of.mark c.in-Ok-commit_marked.ensures.result.1
+    (leaves_so (setup m) (has_stamps m) (view c.args.pass.now) c.args.hands.now q.hands c.in-Some.memory c.in-Some.is c.args.command.now q.meets q.ends
+    q.needed (view c.begin.new.pass) c.in-Ok.word q.of.1 c.in-Ok.ensures.word.0 c.desc.result.now.shape c.desc.ensures.shape said
+    (rw (c.deref_mut-translator.ensures.value, c.deref.ensures) at c.plan-planned.ensures.reply) c.in-Ok.ensures.word.1 c.in-Some-mark_of.mark
+    (rw (c.reply.ensures) at c.in-Some-mark_of.ensures)) c.in-Ok-commit_marked.place c.in-Ok-commit_marked.ensures.result.0

@@ -1,0 +1,26 @@
+use Rattle.its_types.specs.declared.machine.Part.TheVariants as part
+use Rattle.its_plain.specs.declared.call.Call.TheVariants as call
+use Rattle.its_plain.specs.declared.call.Reply.TheVariants as reply
+use Rattle.its_turns.specs.Machines.{view}
+use Rattle.its_turns.proofs.Telling.{again_raced, asked_spent, asked_done}
+use Rattle.cmd_engine.proofs.reads.read_at.Goals as goal
+
+pub returns-in-Done-clause-answer : goal.returns-in-Done-clause-answer
+returns-in-Done-clause-answer g c = let x = c.in-Done.placed in
+    asked_done (view c.args.pass.now) (view c.loop.pass) (part.Maps c.args.its) c.loop.invariant.3 (call.ReadReg c.args.its c.args.off c.args.size)
+    (reply.Value x.reply) x.place
+    (view c.try_read_at.new.pass) c.in-Done.ensures.answer
+
+pub returns-in-Spent-clause-answer : goal.returns-in-Spent-clause-answer
+returns-in-Spent-clause-answer g c = asked_spent (view c.args.pass.now) (view c.loop.pass) (part.Maps c.args.its) c.loop.invariant.3
+    (view c.try_read_at.new.pass)
+    c.in-Spent.ensures.answer
+
+pub loop-preserved : goal.loop-preserved
+loop-preserved g c = (
+  tt,
+  tt,
+  c.try_read_at.ensures.of,
+  again_raced (view c.args.pass.now) (view c.loop.pass) (part.Maps c.args.its) c.loop.invariant.3
+      c.in-Raced.field-0 (view c.try_read_at.new.pass) c.in-Raced.ensures.answer,
+)

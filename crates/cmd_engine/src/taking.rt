@@ -1,0 +1,111 @@
+//! How a call gets what it needs besides its translator's maps and memory.
+ghost use Rattle.std.specs.Prelude.{◌≡◌, ◌<◌};
+ghost use Rattle.its_types.specs.declared.machine.Part.TheVariants as part;
+ghost use Rattle.its_steps.specs.Contents as content;
+ghost use Rattle.its_steps.specs.Endings.{ending_in, All};
+ghost use Rattle.its_steps.specs.Parts.{translator_count};
+ghost use Rattle.owned_parts.specs.Owned.{translator_of};
+ghost use Rattle.its_turns.specs.Machines.{setup, view, IsOf};
+ghost use Rattle.its_turns.specs.Told.{HasStood};
+ghost use Rattle.held_parts.specs.Shards.{HoldsNoShard};
+ghost use Rattle.held_parts.specs.Taking.{Goes};
+ghost use Rattle.cmd_engine.specs.Cached.{ending_as, ending_by, cached_held, AreWhole, IsAny};
+ghost use Rattle.cmd_engine.specs.Hands.{HasInHand, HasNeeded, IsBase, IsSameButNeeded};
+ghost use Rattle.cmd_engine.specs.Hands.{IsOfTranslator, IsOfStep};
+ghost use Rattle.cmd_engine.specs.Telling.{ReadLow};
+
+use crate::cached::Cached;
+use crate::endings::{Ending, ending_of};
+use crate::hands::Hands;
+use cmd_exec::needs;
+use held_parts::{Shards, Waiting, take_redists, take_shard, take_shards};
+use its_command::Command;
+use its_turns::{Machine, Pass, look};
+use std::sync::Wait;
+
+/// Takes what a command needs: the shards that it may change, and redistributors, the lowest first.
+pub(crate) fn take_needed<R: Wait>(
+    rt: &R,
+    machine: &Machine,
+    pass: &mut Pass,
+    command: &Command,
+    hands: &mut Hands,
+)
+    requires of { IsOf machine.now pass.old }
+    requires hands { HasInHand (setup machine.now) (view pass.old) hands.old }
+    requires base { IsBase hands.old }
+    requires stood { HasStood (setup machine.now) (part.Maps hands.old.its)
+        (content.Maps (translator_of hands.old.translator.value)) }
+    ensures of { IsOf machine.now pass.new }
+    ensures hands { HasInHand (setup machine.now) (view pass.new) hands.new }
+    ensures same { IsSameButNeeded hands.old hands.new }
+    ensures ends { ending_in hands.new.translator.value.maps.maps command.now
+        ≡ ending_as hands.new.cached }
+    ensures needed { HasNeeded (setup machine.now) command.now hands.new }
+    ensures goes { Goes (IsOfStep hands.old.its) (view pass.old) (view pass.new) }
+    ensures low { IsAny hands.new.cached → ReadLow (view pass.old) hands.old.its (view pass.new) }
+{
+    let ends = ending_of(command, &hands.translator.maps);
+    hands.set = needs(
+        command,
+        &hands.translator.regs,
+        &hands.translator.maps,
+        &machine.desc().shape,
+    );
+    hands.cached = take_cached(rt, machine, pass, hands.its, ends);
+    let how = Waiting { rt };
+    take_redists(&how, machine, pass, hands.set, &mut hands.redists);
+}
+
+/// Takes the shards that a call may change: that of a pair that it ends, and every one where it may
+/// end all translations and the translator's stamp is the last one.
+pub(crate) fn take_cached<R: Wait>(
+    rt: &R,
+    machine: &Machine,
+    pass: &mut Pass,
+    its: u8,
+    ends: Ending,
+) -> Cached
+    requires of { IsOf machine.now pass.old }
+    requires its { its < translator_count (setup machine.now) }
+    requires free { HoldsNoShard its (view pass.old).held }
+    ensures of { IsOf machine.now pass.new }
+    ensures goes { Goes (IsOfTranslator its) (view pass.old) (view pass.new) }
+    ensures held { (view pass.new).held ≡ cached_held its (setup machine.now).shards result
+        (view pass.old).held }
+    ensures whole { AreWhole (setup machine.now) its result }
+    ensures ends { ending_as result ≡ ending_by ends }
+    ensures low { IsAny result → ReadLow (view pass.old) its (view pass.new) }
+{
+    match ends {
+        Ending::Nothing => Cached::Nothing,
+        Ending::Pair(dev, ev) => {
+            let number = machine.shard_of(dev, ev);
+            let how = Waiting { rt };
+            Cached::Pair(dev, ev, take_shard(&how, machine, pass, its, number))
+        }
+        Ending::All => take_any(rt, machine, pass, its),
+    }
+}
+
+// Every shard where the stamp is the last one, and none where it can rise.
+fn take_any<R: Wait>(rt: &R, machine: &Machine, pass: &mut Pass, its: u8) -> Cached
+    requires of { IsOf machine.now pass.old }
+    requires its { its < translator_count (setup machine.now) }
+    requires free { HoldsNoShard its (view pass.old).held }
+    ensures of { IsOf machine.now pass.new }
+    ensures goes { Goes (IsOfTranslator its) (view pass.old) (view pass.new) }
+    ensures held { (view pass.new).held ≡ cached_held its (setup machine.now).shards result
+        (view pass.old).held }
+    ensures whole { AreWhole (setup machine.now) its result }
+    ensures ends { ending_as result ≡ All }
+    ensures low { IsAny result → ReadLow (view pass.old) its (view pass.new) }
+{
+    let word = look(machine, pass);
+    if machine.stamp_of(word, its) < machine.stamp_last() {
+        return Cached::Any;
+    }
+    let mut shards = Shards::new();
+    take_shards(&Waiting { rt }, machine, pass, its, &mut shards);
+    Cached::Every(shards)
+}

@@ -1,0 +1,68 @@
+//! Devices' writes by address.
+ghost use Rattle.std.specs.Prelude.{◌≡◌, []};
+ghost use Rattle.its_plain.specs.Doorbells.{dma_of, route_of};
+ghost use Rattle.its_turns.specs.Machines.{view, IsOf};
+ghost use Rattle.device_port.specs.Dmas.{Dmas};
+ghost use Rattle.device_port.specs.Routes.{AreDevices};
+
+use crate::message::Message;
+use crate::nothing::tell;
+use crate::signals::send;
+use crate::told::{Dma, message_told, nothing_told, write_told};
+use dma_routes::route;
+use guest_port::{Writer, write};
+use its_plain::{Bytes64, Call, Reply, Route};
+use its_turns::{Machine, NotMade, Pass};
+use its_types::{Addr, Gate, Placed};
+use std::sync::Wait;
+
+/// Writes 1 to 64 bytes at an address as the requester of this number, and waits for the turns that
+/// the call needs. A write of a translator's doorbell is a message of the requester's device; one
+/// that meets no frame is a write of memory, which may want pages that nothing was written to so
+/// far.
+///
+/// ```
+/// let bytes = Bytes64::new(&[3, 0, 0, 0]);
+/// let rung = dma(rt, machine, pass, &Open, 0x100, Addr(0x0809_0040), &bytes)?.reply;
+/// ```
+pub fn dma<R: Wait, G: Gate>(
+    rt: &R,
+    machine: &Machine,
+    pass: &mut Pass,
+    gate: &G,
+    req: u32,
+    addr: Addr,
+    bytes: &Bytes64,
+) -> Result<Placed<Dma>, NotMade>
+    requires of { IsOf machine.now pass.old }
+    requires free { (view pass.old).held ≡ [] }
+    requires devices { AreDevices machine.now.desc.requesters }
+    ensures of { IsOf machine.now pass.new }
+    ensures answer { Dmas (view pass.old) (dma_of machine.now.desc req addr bytes.now)
+        (route_of machine.now.desc req addr.0 bytes.now) (view pass.new) result }
+{
+    let route = route(machine.desc(), req, addr, bytes);
+    let call = Call::Dma {
+        req,
+        addr,
+        bytes: *bytes,
+        route,
+    };
+    match route {
+        Route::Signal { its, dev, ev } => {
+            message_told(send(rt, machine, pass, gate, &call, Message { its, dev, ev }))
+        }
+        Route::Poke => {
+            let writer = Writer::Requester(req);
+            write_told(write(rt, machine, pass, gate, writer, addr, bytes))
+        }
+        Route::NoRequester => nothing_told(
+            tell(rt, machine, pass, gate, &call, &Reply::NoRequester),
+            Dma::NoRequester,
+        ),
+        Route::Frame => nothing_told(
+            tell(rt, machine, pass, gate, &call, &Reply::Outside),
+            Dma::Outside,
+        ),
+    }
+}
