@@ -1,7 +1,7 @@
-mod Rows
-mod Hands
-mod Views
+mod Taken
 mod Moving
 mod Pendings
 mod Savings
+mod Copying
+mod Left
 pub mod Fresh

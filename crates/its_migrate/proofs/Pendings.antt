@@ -11,11 +11,12 @@ use Rattle.its_plain.specs.declared.layout.Layout.{Layout}
 use Rattle.its_steps.specs.Parts.{Setup, IsOfMachine, vcpu_count}
 use Rattle.its_types.specs.declared.machine.Part.{Part}
 use Rattle.its_steps.specs.Contents.{Content}
-use Rattle.its_steps.specs.World.{View, loaded}
+use Rattle.its_steps.specs.World.{View, loaded, took}
 use Rattle.its_turns.specs.Told.{IsLone, Looks, IsLastOrLater, released}
-use Rattle.its_migrate.specs.Getting.{Gets}
+use Rattle.held_parts.specs.Taking.{TakesInTime}
+use Rattle.held_parts.proofs.Going.{took_alone}
+use Rattle.held_parts.proofs.Wholes.{still_word}
 use Rattle.its_migrate.specs.Resting.{Rests}
-use Rattle.its_migrate.proofs.Views.{still_word}
 
 abbrev pub lpis_in : List Intid → List ℕ
 lpis_in = map (λ i. i.0)
@@ -45,14 +46,15 @@ rests_looked v w z alone looks later =
     }
 
 -- a part was got, the word read, and the part put back
-pub rests_put : (v w x y : View) (p : Part) (c : Content) (z : Word) → IsLone v → Gets v p c w → Looks w z x → IsLastOrLater w z → y ≡ released x → Rests v y
-rests_put v w x y p c z lone gets looks later put =
-    let lone_here = subst IsLone (sym gets.same) lone in
-    let seen = looks.still lone_here ∙ ap (λ (u : View). u.seen) gets.same in
-    let last = still_word w z lone_here later ∙ ap (λ (u : View). u.last) gets.same in
-    let tries = gets.alone lone in
-    let back : y ≡ record v { cache = w.cache; tries = record v.tries { won = w.tries.won } } = put ∙ (ap released (looks.same ∙ ap (λ (u : View).
-    loaded u z x.seen) gets.same) ∙ (λ d. record v { last = last d; seen = seen d; cache = w.cache; tries = tries d })) in
+pub rests_put : (v w x y : View) (p : Part) (c : Content) (z : Word) → IsLone v → TakesInTime v p c w → Looks w z x → IsLastOrLater w z → y ≡ released x
+    → Rests v y
+rests_put v w x y p c z lone takes looks later put =
+    let here : w ≡ took v p c = took_alone v w p c takes lone in
+    let lone_here = subst IsLone (sym here) lone in
+    let seen = looks.still lone_here ∙ ap (λ (u : View). u.seen) here in
+    let last = still_word w z lone_here later ∙ ap (λ (u : View). u.last) here in
+    let back : y ≡ record v { cache = (took v p c).cache; tries = (took v p c).tries } = put ∙ (ap released (looks.same ∙ ap (λ (u : View).
+    loaded u z x.seen) here) ∙ (λ d. record v { last = last d; seen = seen d; cache = (took v p c).cache; tries = (took v p c).tries })) in
     record { same = subst (λ (u : View). u ≡ record v { cache = u.cache; tries = record v.tries { won = u.tries.won } }) (sym back) refl }
 
 -- there are as many redistributors as processors

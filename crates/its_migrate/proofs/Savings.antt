@@ -1,18 +1,17 @@
--- A save of all parts in hand.
-use Rattle.std.proofs.Common.{◌≡◌, ◌<◌, List, [], Option, None, Result, Ok, Err, refl, ap, sym, ◌∙◌, subst, length}
+-- A save while other passes go on.
+use Rattle.std.proofs.Common.{◌≡◌, ◌<◌, ◌≤◌, ℕ, List, [], Option, None, Result, Ok, Err, refl, ap, sym, ◌∙◌, subst, length}
 use Rattle.std.specs.Option.{option_map}
+use mathlib.Core.List.{IsPrefix}
 use Rattle.guest_windows.specs.Windows.{Window}
 use Rattle.its_types.specs.declared.machine.Word.{Word}
 use Rattle.its_plain.specs.Answer.{save_reply, save_left}
 use Rattle.its_plain.specs.History.{after}
 use Rattle.its_plain.specs.Plain.{Plain}
 use Rattle.its_plain.specs.Regions.{savable}
-use Rattle.its_plain.specs.Saved.{saved, words_of, wrote_tables}
-use Rattle.its_plain.specs.Sound.{IsSound}
 use Rattle.its_plain.specs.declared.call.Call.TheVariants as call
+use Rattle.its_plain.specs.declared.call.Entry.{Entry}
 use Rattle.its_plain.specs.declared.fault.SaveFault.{SaveFault}
 use Rattle.its_plain.specs.declared.layout.Layout.{Layout}
-use Rattle.owned_parts.specs.Owned.{AreAllInHand, state_of, state_of_parts}
 use Rattle.its_steps.specs.Calls.{staying, whole_held, MayLeave}
 use Rattle.its_steps.specs.Contents.{Held}
 use Rattle.its_steps.specs.MayCall.{MayCall}
@@ -20,86 +19,87 @@ use Rattle.its_steps.specs.Parts.{Setup, vcpu_count}
 use Rattle.its_steps.specs.World.{View}
 use Rattle.its_steps.specs.declared.change.ShardChange.TheVariants.{Keep}
 use Rattle.its_steps.specs.declared.commit.Commit.{Commit}
+use Rattle.its_steps.proofs.Lists.{prefix_self}
 use Rattle.its_steps.proofs.Saves.{saves}
-use Rattle.its_turns.specs.Calls.{Stays, IsPlaced, Leaves, GoesOn, Makes, IsLost, IsMade}
+use Rattle.its_turns.specs.Calls.{Stays, IsPlaced, Leaves, GoesOn, Makes, IsLost, IsMade, HasLooked}
 use Rattle.its_turns.specs.Told.{Looks}
 use Rattle.its_turns.specs.declared.attempts.Lost.{Lost}
 use Rattle.its_turns.specs.declared.attempts.Lost.TheVariants as lost
 use Rattle.its_turns.proofs.Telling.{may_here, owes_here, goes_looked, goes_emptied, stays_from, makes_from, made_emptied, placed_from, leaves_from}
+use Rattle.its_turns.proofs.Telling.{lone_on, stays_again}
+use Rattle.lpi_pending.specs.InHand.{in_hand}
 use Rattle.lpi_pending.specs.declared.redist.Redist.{Redist}
-use Rattle.its_migrate.specs.Getting.{AreFirstOf}
-use Rattle.its_migrate.specs.Saving.{IsTried, LeavesMemory, answered, memory_or, unmade_by}
-use Rattle.its_migrate.specs.Wholes.{HasTaken, held_whole, parts_of}
-use Rattle.its_migrate.specs.declared.whole.Whole.{Whole}
-use Rattle.its_migrate.proofs.Hands.{held_is}
-use Rattle.its_migrate.proofs.Moving.{taken_state}
+use Rattle.owned_parts.specs.Owned.{AreAllInHand, state_of, translators_of}
+use Rattle.held_parts.specs.Taking.{Goes, holding}
+use Rattle.held_parts.specs.Wholes.{state_of_whole, held_whole, IsWholeOf, IsNoShard, TakesWhole}
+use Rattle.held_parts.specs.declared.whole.Whole.{Whole}
+use Rattle.held_parts.proofs.Going.{going_read}
+use Rattle.held_parts.proofs.Wholes.{whole_all, held_is}
+use Rattle.its_migrate.specs.Saving.{IsTried, LeavesMemory, FoundSpent, answered, marked, memory_or, track_or, unmade_by}
+use Rattle.its_migrate.proofs.Taken.{taken_state, few_vcpus, holds_all}
 
 abbrev Answer : Type 0
 Answer = Result (Unit {0}) SaveFault
 
--- a save changes nothing but memory, where there is no second one
-saved_is : (u : Plain) (r : Answer) → u.track ≡ None → record u { memory = (save_left u r).memory } ≡ save_left u r
-saved_is u (Ok done) none =
-    let same : u.track ≡ option_map (wrote_tables (words_of u)) u.track = none ∙ sym (ap (option_map (wrote_tables (words_of u))) none) in
-    λ d. record u { memory = saved u; track = same d }
-saved_is u (Err fault) none = refl
+abbrev Found : Type 0
+Found = Result (List Window) SaveFault
 
-saved_so : (u x y : Plain) (r : Answer) (memory : List Window) → x ≡ u → y ≡ u → x.track ≡ None → r ≡ savable y → memory ≡ (save_left y r).memory
-    → record x { memory = memory } ≡ save_left u (savable u)
-saved_so u x y r memory ex ey none er em =
-    let r_is : r ≡ savable u = er ∙ ap (λ (z : Plain). savable z) ey in
-    let m_is : memory ≡ (save_left u (savable u)).memory = em ∙ (λ d. (save_left (ey d) (r_is d)).memory) in
-    (λ d. record (ex d) { memory = m_is d }) ∙ saved_is u (savable u) (ap (λ (z : Plain). z.track) (sym ex) ∙ none)
-
--- what was found before the commit is what is answered, and the memory that the save leaves
-pub answer_found : (u : Plain) (r : Result (List Window) SaveFault) → LeavesMemory u r → answered r ≡ savable u
+-- what was found before the commit is what is answered, and what the save leaves
+answer_found : (u : Plain) (r : Found) → LeavesMemory u r → answered r ≡ savable u
 answer_found u (Ok memory) h = sym h.0
 answer_found u (Err fault) h = sym h
 
-pub memory_found : (u : Plain) (r : Result (List Window) SaveFault) → LeavesMemory u r → memory_or u.memory r ≡ (save_left u (answered r)).memory
-memory_found u (Ok memory) h = h.1
-memory_found u (Err fault) h = refl
+left_found : (u : Plain) (r : Found) → LeavesMemory u r → record u { memory = memory_or u.memory r; track = track_or u r } ≡ save_left u (savable u)
+left_found u (Ok memory) h = (λ d. record u { memory = h.1 d; track = marked u }) ∙ ap (λ (a : Answer). save_left u a) (sym h.0)
+left_found u (Err fault) h = ap (λ (a : Answer). save_left u a) (sym h)
 
-module _ (s : Setup) (v w : View) (x : Whole) (taken : HasTaken s v x w) (l : Layout) (same : l ≡ s.start.layout) where
+-- the same parts but for memory
+pub record IsReplaced (u : Plain) (r : Found) (x y : Whole) : Type 0 where
+  pub first : y.first ≡ x.first
+  pub second : y.second ≡ x.second
+  pub redists : y.redists ≡ x.redists
+  pub memory : y.memory.value.memory ≡ memory_or x.memory.value.memory r
+  pub track : y.memory.value.track ≡ track_or u r
+
+module _ (s : Setup) (v w : View) (x : Whole) (taken : TakesWhole s v x w) (l : Layout) (same : l ≡ s.start.layout) where
   abbrev u : Plain
   u = after s.start w.seen
 
-  pub taken_hand : AreAllInHand l.shape x.redists
-  taken_hand = subst (λ (k : Layout). AreAllInHand k.shape x.redists) (sym same) taken.hand.first
-
-  pub taken_sound : IsSound (state_of_parts (parts_of l x))
-  taken_sound = subst IsSound (sym (taken_state s v w x taken l same)) taken.machine.sound
-
-  holds_all : w.held ≡ whole_held u
-  holds_all = ap (λ (y : View). y.held) taken.same ∙ (held_is s x taken.hand ∙ ap (λ (z : Plain). whole_held z) taken.state)
-
-  module _ (r : Answer) (answered : r ≡ savable (state_of_parts (parts_of l x))) where
-    answer_is : r ≡ savable u
-    answer_is = answered ∙ ap (λ (z : Plain). savable z) (taken_state s v w x taken l same)
+  module _ (found : Found) (finds : LeavesMemory (state_of_whole l x) found) where
+    now_found : LeavesMemory u found
+    now_found = subst (λ (z : Plain). LeavesMemory z found) (taken_state s v w x taken l same) finds
 
     abbrev left_held : List Held
     left_held = whole_held (save_left u (savable u))
 
-    leaves : (z : Word) → z.place < s.limits.place_last → MayLeave s (staying z call.Save (save_reply r) Keep) (whole_held u) left_held
-    leaves z room = subst (λ (q : Answer). MayLeave s (staying z call.Save (save_reply q) Keep) (whole_held u) left_held) (sym answer_is)
+    leaves : (z : Word) → z.place < s.limits.place_last → MayLeave s (staying z call.Save (save_reply (answered found)) Keep) (whole_held u) left_held
+    leaves z room = subst (λ (q : Answer). MayLeave s (staying z call.Save (save_reply q) Keep) (whole_held u) left_held) (sym (answer_found u found now_found))
         (saves s z u taken.machine room)
 
-    pub save_may : (z : Word) → z.place < s.limits.place_last → MayCall s (staying z call.Save (save_reply r) Keep) w.held
-    save_may = may_here s call.Save (save_reply r) Keep (whole_held u) (λ _. left_held) leaves w holds_all
+    pub save_may : (z : Word) → z.place < s.limits.place_last → MayCall s (staying z call.Save (save_reply (answered found)) Keep) w.held
+    save_may = may_here s call.Save (save_reply (answered found)) Keep (whole_held u) (λ _. left_held) leaves w (holds_all s v w x taken l same)
 
-    -- with the tables written all that is owed is in hand
-    pub save_owes : w.setup ≡ s → (z : Word) (y : View) (after_it : Whole) → after_it.tables ≡ x.tables → after_it.redists ≡ x.redists
-        → after_it.memory.value.memory ≡ (save_left (state_of_parts (parts_of l x)) r).memory → Makes w (staying z call.Save (save_reply r) Keep) y
-        → y.held ≡ held_whole (vcpu_count s) after_it
-    save_owes own z y after_it tables hands is made =
-        let memory : List Window = after_it.memory.value.memory in
-        let before : Plain = state_of_parts (parts_of s.start.layout x) in
-        let state : state_of_parts (parts_of s.start.layout after_it) ≡ record before { memory = memory } =
-        λ d. state_of s.start.layout (tables d).value.regs (tables d).value.maps.maps memory (hands d) in
-        owes_here s call.Save (save_reply r) Keep (whole_held u) (λ _. left_held) leaves w holds_all own z y made
-        ∙ (ap (λ (q : Plain). whole_held q)
-        (sym (state ∙ saved_so u before (state_of_parts (parts_of l x)) r memory taken.state (taken_state s v w x taken l same) refl answered is))
-        ∙ sym (held_is s after_it (subst (λ (rs : List (Option Redist)). AreFirstOf s (vcpu_count s) rs) (sym hands) taken.hand)))
+    -- what is in hand once the tables are written
+    module _ (y : Whole) (is : IsReplaced (state_of_whole l x) found x y) where
+      pub replaced_whole : IsWholeOf s y
+      replaced_whole = record {
+        translators = (λ d. length (translators_of (is.first d).value (option_map (λ b. b.value) (is.second d)))) ∙ taken.whole.translators;
+        all_in_hand = subst (λ (rs : List (Option Redist)). AreAllInHand s.start.layout.shape rs) (sym is.redists) taken.whole.all_in_hand;
+        no_others = subst (λ (rs : List (Option Redist)). (k : ℕ) → vcpu_count s ≤ k → in_hand rs k ≡ None) (sym is.redists) taken.whole.no_others;
+      }
+
+      replaced_state : state_of_whole s.start.layout y ≡ save_left u (savable u)
+      replaced_state =
+          let given = taken.state in
+          let there = taken_state s v w x taken l same in
+          (λ d. state_of s.start.layout (translators_of (is.first d).value (option_map (λ b. b.value) (is.second d))) (is.memory d) (is.track d) (is.redists d))
+          ∙ ((λ d. record (given d) { memory = memory_or (given d).memory found; track = track_or (there d) found }) ∙ left_found u found now_found)
+
+      -- all that is owed is in hand
+      pub save_owes : w.setup ≡ s → (z : Word) (q : View) → Makes w (staying z call.Save (save_reply (answered found)) Keep) q → q.held ≡ held_whole y
+      save_owes own z q made =
+          owes_here s call.Save (save_reply (answered found)) Keep (whole_held u) (λ _. left_held) leaves w (holds_all s v w x taken l same) own z q made
+          ∙ (ap (λ (k : Plain). whole_held k) (sym replaced_state) ∙ sym (held_is s y (whole_all s y replaced_whole) (few_vcpus s v w x taken l same)))
 
   -- ---- what the pass knows
 
@@ -111,9 +111,15 @@ module _ (s : Setup) (v w : View) (x : Whole) (taken : HasTaken s v x w) (l : La
     tries = refl;
   }
 
-  module _ (y z : View) (home : z ≡ record y { held = [] }) (bare : v.held ≡ []) where
+  goes_on : Goes IsNoShard v w
+  goes_on = record { on = goes_taken; got = taken.got; still = λ lone. (taken.still lone).0 }
+
+  module _ (y z : View) (home : z ≡ holding y []) (bare : v.held ≡ []) where
     home_held : z.held ≡ v.held
     home_held = ap (λ (q : View). q.held) home ∙ sym bare
+
+    home_seen : z.seen ≡ y.seen
+    home_seen = ap (λ (q : View). q.seen) home
 
     pub save_placed : (a : Commit) → a.stamp ≡ a.expected.stamp → Makes w a y → IsPlaced v a.call a.reply a.expected.place z × Leaves a.change z
     save_placed a stamp made =
@@ -123,13 +129,30 @@ module _ (s : Setup) (v w : View) (x : Whole) (taken : HasTaken s v x w) (l : La
     looked_stays : (n : Word) → Looks w n y → Stays v z
     looked_stays n looks = stays_from v z w.tries (goes_emptied v y w.tries (goes_looked v w w.tries goes_taken y n looks) z home) home_held
 
-    pub save_lost : (k : Lost) → IsLost w k y → IsTried v (Err (unmade_by k)) z
-    save_lost lost.Spent spent = (
-      looked_stays y.last spent.0,
-      ap (λ (q : View). length q.seen)
-          home ∙ (spent.0.place ∙ (spent.1 ∙ ap (λ (q : View). q.setup.limits.place_last) taken.same)),
-    )
-    save_lost (lost.Raced r) raced = looked_stays r.found raced.0
+    read : (n : Word) → HasLooked w n y → HasLooked v n z
+    read n has = going_read IsNoShard v w y z n goes_on bare has (subst (λ (h : List Entry). IsPrefix y.seen h) (sym home_seen) (prefix_self y.seen))
 
-  pub none_saved : (z : View) → z ≡ record w { held = [] } → v.held ≡ [] → Stays v z
+    pub save_lost : (k : Lost) → IsLost w k y → IsTried v (Err (unmade_by k)) z
+    save_lost lost.Spent spent = record {
+      stays = looked_stays y.last spent.0;
+      spent = ap (λ (h : List Entry). length h) home_seen ∙ (spent.0.place ∙ (spent.1 ∙ ap (λ (q : View). q.setup.limits.place_last) taken.same));
+    }
+    save_lost (lost.Raced r) raced = record {
+      stays = looked_stays r.found raced.0;
+      read = read r.expected raced.4;
+      room = subst (λ (q : View). r.expected.place < q.setup.limits.place_last) taken.same raced.1;
+      later = raced.2;
+      last = ap (λ (q : View). q.last) home ∙ ap (λ (q : View). q.last) raced.0.same;
+      out = λ lone. raced.3 (lone_on v w w.tries goes_taken lone);
+    }
+
+  pub none_saved : (z : View) → z ≡ holding w [] → v.held ≡ [] → Stays v z
   none_saved z home bare = stays_from v z w.tries (goes_emptied v w w.tries goes_taken z home) (ap (λ (q : View). q.held) home ∙ sym bare)
+
+-- ---- a save that is tried again
+
+pub spent_again : (v w x : View) → Stays v w → FoundSpent w x → FoundSpent v x
+spent_again v w x a b = record {
+  stays = stays_again v w x a b.stays;
+  spent = b.spent ∙ ap (λ (y : View). y.setup.limits.place_last) a.same;
+}

@@ -1,5 +1,4 @@
-pub mod Getting
-pub mod Wholes
 pub mod Resting
+pub mod Precopying
 pub mod Saving
 pub mod Shared

@@ -6,14 +6,16 @@ use Rattle.its_plain.specs.declared.make.MakeError.{MakeError}
 use Rattle.its_plain.specs.declared.make.MakeError.TheVariants as errors
 use Rattle.its_steps.specs.World.{first_view}
 use Rattle.its_turns.specs.Machines.{setup, view, IsOf}
+use Rattle.its_turns.specs.Opening.{kept_of}
 use Rattle.its_turns.specs.declared.machine.Machine.{Machine}
 use Rattle.its_turns.specs.declared.machine.Pass.{Pass}
 
--- it starts in the first state of the description, with the description's limits and shards, and the pass is its root
+-- it starts in the first state of the description, with its limits and shards, and keeps the description; the pass is its root
 pub record IsFirst (d : Desc) (m : Machine) (root : Pass) : Type 0 where
   pub start : IsFirstState d (setup m).start
   pub limits : (setup m).limits ≡ d.limits
   pub shards : (setup m).shards ≡ d.shards
+  pub desc : m.desc ≡ kept_of d
   pub of : IsOf m root
   pub view : view root ≡ first_view (setup m)
 

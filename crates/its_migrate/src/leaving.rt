@@ -1,13 +1,14 @@
 //! Migrations: one machine is left for another that goes on from what it saves (KVM document
 //! arm-vgic-its, "ITS Restore Sequence").
-ghost use Rattle.std.specs.Prelude.{◌≡◌, [], IfOk};
+ghost use Rattle.std.specs.Prelude.{◌≡◌, [], IfOk, length};
+ghost use Rattle.owned_parts.specs.Owned.{translators_of};
 ghost use Rattle.owned_machine.specs.Migrations.{AreMoved};
+ghost use Rattle.its_steps.specs.Parts.{translator_count};
 ghost use Rattle.its_turns.specs.Machines.{setup, view, IsOf};
 ghost use Rattle.its_turns.specs.Told.{IsLone};
 ghost use Rattle.its_migrate.specs.Resting.{Migrates, Rests, resting};
 
-use crate::getting::AtRest;
-use crate::whole::{put_all, take_all};
+use held_parts::{AtRest, put_whole, take_whole};
 use its_plain::SaveError;
 use its_turns::{Machine, Root};
 use its_types::Open;
@@ -55,10 +56,12 @@ fn moved_parts(alloc: Global, machine: &Machine, root: &mut Root) -> Result<Part
     ensures rests { Rests (view root.old) (view root.new) }
     ensures moved { AreMoved (resting machine.now root.old) result }
     ensures layout { IfOk result (λ p. p.layout ≡ (setup machine.now).start.layout) }
+    ensures translators { IfOk result (λ p. translator_count (setup machine.now)
+        ≡ length (translators_of p.first p.second)) }
 {
     let layout = machine.desc().layout(alloc)?;
-    let whole = take_all(&AtRest, machine, root, &Open);
+    let whole = take_whole(&AtRest, machine, root, &Open);
     let moved = moved(alloc, &whole.in_place(&layout));
-    put_all(machine, root, whole);
+    put_whole(machine, root, whole);
     moved
 }

@@ -1,15 +1,21 @@
-//! How a machine is made that threads share, its saves and migrations, and what is pending in it at
-//! rest.
+//! How a machine is made that threads share, its saves, migrations and pre-copies, and what is
+//! pending in it at rest.
+//!
+//! `share` has seven clauses: each says of one thing that passes have in common how it begins.
 #![tactic(auto)]
 
-mod getting;
+mod laws;
 mod leaving;
+mod outcome;
+mod precopying;
 mod resting;
 mod saving;
 mod sharing;
-mod whole;
 
+pub use laws::precopies_as_migrates;
 pub use leaving::migrate;
+pub use outcome::Precopy;
+pub use precopying::precopy;
 pub use resting::{PendingLists, pending};
-pub use saving::{NoSave, save};
+pub use saving::save;
 pub use sharing::share;

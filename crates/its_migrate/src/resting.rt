@@ -6,7 +6,7 @@ ghost use Rattle.its_turns.specs.Machines.{setup, view, IsOf};
 ghost use Rattle.its_turns.specs.Told.{IsLone};
 ghost use Rattle.its_migrate.specs.Resting.{Rests, resting, pending_at_rest};
 
-use crate::getting::{AtRest, get_redist};
+use held_parts::{AtRest, take_redist};
 use its_turns::{Machine, Root, Value, look, put};
 use its_types::{Intid, Listed, Part, Vcpu};
 use std::alloc::{AllocError, Global};
@@ -61,7 +61,7 @@ fn pending_at(
     ensures lpis { IfOk result (λ lpis. map (λ i. i.0) lpis ≡ pending_of (resting machine.now
         root.old) vcpu.0) }
 {
-    let redist = get_redist(&AtRest, machine, root, vcpu);
+    let redist = take_redist(&AtRest, machine, root, vcpu);
     look(machine, root);
     let lpis = redist.pending.lpis(alloc);
     put(machine, root, Part::Redist(vcpu), Value::Redist(redist));

@@ -1,38 +1,33 @@
 //! Saves while other passes go on (KVM document arm-vgic-its, section
 //! "KVM_DEV_ARM_ITS_SAVE_TABLES").
-ghost use Rattle.std.specs.Prelude.{◌≡◌, [], IfOk};
+ghost use Rattle.std.specs.Prelude.{◌≡◌, [], Some, IfOk};
 ghost use Rattle.its_plain.specs.Answer.{save_reply};
 ghost use Rattle.its_plain.specs.Sound.{IsSound};
-ghost use Rattle.owned_parts.specs.Owned.{AreAllInHand, state_of_parts};
+ghost use Rattle.owned_parts.specs.Owned.{AreAllInHand, state_of, translator_of, translator_at};
+ghost use Rattle.std.specs.Option.{option_map};
+ghost use Rattle.held_parts.specs.Wholes.{state_of_whole};
 ghost use Rattle.its_turns.specs.Machines.{view, IsOf};
-ghost use Rattle.its_migrate.specs.Saving.{IsSaved, IsTried, LeavesMemory, answered, memory_or, unmade_by};
-ghost use Rattle.its_migrate.specs.Wholes.{parts_of};
+ghost use Rattle.its_migrate.specs.Saving.{IsSaved, IsTried, LeavesMemory, answered, unmade_by};
+ghost use Rattle.its_migrate.specs.Saving.{marked, memory_or, track_or, translators_held};
 
-use crate::getting::Waiting;
-use crate::whole::{Whole, put_all, take_all};
+use dirty_log::Tracked;
 use guest_windows::Memory;
+use held_parts::{Waiting, Whole, put_whole, take_whole};
 use its_plain::{Call, Layout, Reply, SaveError, SaveFault};
 use its_steps::ShardChange;
-use its_turns::{Lost, Machine, Pass, pause, try_commit};
+use its_turns::{GuestMemory, Lost, Machine, NotMade, Pass, Raced, pause, try_commit};
 use its_types::{Gate, Placed};
+use lpi_pending::Redists;
+use owned_parts::{InPlace, Translator, TranslatorRef};
 use std::alloc::{AllocError, Global};
 use std::sync::Wait;
-use table_save::saved_memory;
+use table_save::{mark_tables, saved_memory};
 
-/// Why no save was made.
-#[derive(Clone, Copy, Debug, PartialEq, Eq)]
-pub enum NoSave {
-    /// All places are used.
-    Spent,
-    /// The host ran out of memory.
-    NoMemory,
-}
-
-// Why one try made none.
+// Why one try made no save.
 enum Unmade {
     Spent,
     NoMemory,
-    Raced,
+    Raced(Raced),
 }
 
 impl From<AllocError> for Unmade {
@@ -46,9 +41,9 @@ impl From<AllocError> for Unmade {
     }
 }
 
-/// Writes the tables and the pending LPIs to guest memory, or answers why they can't be saved: one
-/// call of the history, for which it waits until it has all parts but the shards. Where it answers
-/// an error no call was made, and memory is as it was.
+/// Writes the tables and the pending LPIs of all translators to guest memory, or answers why they
+/// can't be saved: one call of the history, for which it waits until it has all parts but the
+/// shards. Where it answers an error no call was made, and memory is as it was.
 ///
 /// ```
 /// let refused = match save(rt, alloc, machine, pass, &Open)?.reply {
@@ -62,7 +57,7 @@ pub fn save<R: Wait, G: Gate>(
     machine: &Machine,
     pass: &mut Pass,
     gate: &G,
-) -> Result<Placed<Result<(), SaveFault>>, NoSave>
+) -> Result<Placed<Result<(), SaveFault>>, NotMade>
     requires of { IsOf machine.now pass.old }
     requires free { (view pass.old).held ≡ [] }
     ensures of { IsOf machine.now pass.new }
@@ -71,9 +66,9 @@ pub fn save<R: Wait, G: Gate>(
     for _ in rt.forever() {
         match save_once(rt, alloc, machine, pass, gate) {
             Ok(placed) => return Ok(placed),
-            Err(Unmade::Spent) => return Err(NoSave::Spent),
-            Err(Unmade::NoMemory) => return Err(NoSave::NoMemory),
-            Err(Unmade::Raced) => pause(),
+            Err(Unmade::Spent) => return Err(NotMade::Spent),
+            Err(Unmade::NoMemory) => return Err(NotMade::NoMemory),
+            Err(Unmade::Raced(_)) => pause(),
         }
     }
     unreachable!()
@@ -92,9 +87,9 @@ fn save_once<R: Wait, G: Gate>(
     ensures answer { IsTried (view pass.old) result (view pass.new) }
 {
     let layout = machine.desc().layout(alloc)?;
-    let mut whole = take_all(&Waiting { rt }, machine, pass, gate);
+    let mut whole = take_whole(&Waiting { rt }, machine, pass, gate);
     let Ok(saved) = saves(alloc, &layout, &whole) else {
-        put_all(machine, pass, whole);
+        put_whole(machine, pass, whole);
         return Err(Unmade::NoMemory);
     };
     let reply = answer_of(&saved);
@@ -107,39 +102,32 @@ fn save_once<R: Wait, G: Gate>(
         ShardChange::Keep,
     ) {
         Ok(word) => {
-            replace(saved, &mut whole);
-            put_all(machine, pass, whole);
+            replace(saved, &layout, &mut whole);
+            put_whole(machine, pass, whole);
             Ok(Placed {
                 place: word.place,
                 reply,
             })
         }
         Err(lost) => {
-            put_all(machine, pass, whole);
+            put_whole(machine, pass, whole);
             Err(cause_of(lost))
         }
     }
 }
 
-// A copy of guest memory with the tables saved in it, or why they can't be saved. Nothing after this
-// takes memory.
+// A copy of guest memory with the tables saved in it, or why they can't be saved. Nothing after
+// this takes memory.
 fn saves(
     alloc: Global,
     layout: &Layout,
     whole: &Whole,
 ) -> Result<Result<Memory, SaveFault>, AllocError>
     requires hand { AreAllInHand layout.now.shape whole.now.redists }
-    requires sound { IsSound (state_of_parts (parts_of layout.now whole.now)) }
-    ensures { IfOk result (λ r. LeavesMemory (state_of_parts (parts_of layout.now whole.now)) r) }
+    requires sound { IsSound (state_of_whole layout.now whole.now) }
+    ensures { IfOk result (λ r. LeavesMemory (state_of_whole layout.now whole.now) r) }
 {
-    match saved_memory(
-        alloc,
-        &whole.tables.regs,
-        &whole.tables.maps,
-        &whole.redists,
-        layout,
-        &whole.memory.memory,
-    ) {
+    match saved_memory(alloc, &whole.in_place(layout)) {
         Ok(memory) => Ok(Ok(memory)),
         Err(SaveError::Fault(fault)) => Ok(Err(fault)),
         Err(SaveError::NoMemory) => Err(AllocError),
@@ -156,15 +144,97 @@ fn answer_of(saved: &Result<Memory, SaveFault>) -> Result<(), SaveFault>
     }
 }
 
-// Puts the copy in the place of guest memory, where the tables are saved in it.
-fn replace(saved: Result<Memory, SaveFault>, whole: &mut Whole)
-    ensures tables { whole.new.tables ≡ whole.old.tables }
+// Puts the copy in the place of guest memory, where the tables are saved in it, and marks their
+// pages.
+fn replace(saved: Result<Memory, SaveFault>, layout: &Layout, whole: &mut Whole)
+    requires hand { AreAllInHand layout.now.shape whole.old.redists }
+    requires sound { IsSound (state_of_whole layout.now whole.old) }
+    ensures first { whole.new.first ≡ whole.old.first }
+    ensures second { whole.new.second ≡ whole.old.second }
     ensures redists { whole.new.redists ≡ whole.old.redists }
-    ensures memory { whole.new.memory.value.memory ≡ memory_or whole.old.memory.value.memory
-        saved }
+    ensures memory { whole.new.memory.value.memory
+        ≡ memory_or whole.old.memory.value.memory saved }
+    ensures track { whole.new.memory.value.track
+        ≡ track_or (state_of_whole layout.now whole.old) saved }
 {
     if let Ok(memory) = saved {
+        mark_saved(layout, whole);
         whole.memory.memory = memory;
+    }
+}
+
+// Marks the pages of the tables that a save writes, where the machine has a second memory.
+fn mark_saved(layout: &Layout, whole: &mut Whole)
+    requires hand { AreAllInHand layout.now.shape whole.old.redists }
+    requires sound { IsSound (state_of_whole layout.now whole.old) }
+    ensures first { whole.new.first ≡ whole.old.first }
+    ensures second { whole.new.second ≡ whole.old.second }
+    ensures redists { whole.new.redists ≡ whole.old.redists }
+    ensures memory { whole.new.memory.value.memory ≡ whole.old.memory.value.memory }
+    ensures track { whole.new.memory.value.track ≡ marked (state_of_whole layout.now whole.old) }
+{
+    let Whole {
+        first,
+        second,
+        memory,
+        redists,
+    } = whole;
+    mark_memory(layout, first, second, memory, redists);
+}
+
+fn mark_memory(
+    layout: &Layout,
+    first: &Translator,
+    second: &Option<Box<Translator>>,
+    memory: &mut GuestMemory,
+    redists: &Redists,
+)
+    requires hand { AreAllInHand layout.now.shape redists.now }
+    requires sound { IsSound (state_of layout.now (translators_held first.now second.now)
+        memory.old.memory memory.old.track redists.now) }
+    ensures memory { memory.new.memory ≡ memory.old.memory }
+    ensures track { memory.new.track
+        ≡ marked (state_of layout.now (translators_held first.now second.now)
+        memory.old.memory memory.old.track redists.now) }
+{
+    let GuestMemory { memory, track, .. } = memory;
+    if let Some(track) = track {
+        mark_track(layout, first, second, memory, redists, track);
+    }
+}
+
+fn mark_track<'a>(
+    layout: &'a Layout,
+    first: &'a Translator,
+    second: &'a Option<Box<Translator>>,
+    memory: &'a Memory,
+    redists: &'a Redists,
+    track: &mut Tracked,
+)
+    requires hand { AreAllInHand layout.now.shape redists.now }
+    requires sound { IsSound (state_of layout.now (translators_held first.now second.now)
+        memory.now (Some track.old) redists.now) }
+    ensures { Some track.new ≡ marked (state_of layout.now
+        (translators_held first.now second.now) memory.now (Some track.old) redists.now) }
+{
+    let rest = InPlace {
+        layout,
+        first: first.in_place(),
+        second: second_in_place(second),
+        memory,
+        track: None,
+        redists,
+    };
+    mark_tables(&rest, track);
+}
+
+fn second_in_place(second: &Option<Box<Translator>>) -> Option<TranslatorRef<'_>>
+    ensures { option_map translator_at result
+        ≡ option_map translator_of (option_map (λ b. b.value) second.now) }
+{
+    match second {
+        Some(second) => Some(second.in_place()),
+        None => None,
     }
 }
 
@@ -182,6 +252,6 @@ fn cause_of(lost: Lost) -> Unmade
 {
     match lost {
         Lost::Spent => Unmade::Spent,
-        Lost::Raced(_) => Unmade::Raced,
+        Lost::Raced(raced) => Unmade::Raced(raced),
     }
 }

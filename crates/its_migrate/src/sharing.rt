@@ -1,5 +1,6 @@
-ghost use Rattle.std.specs.Prelude.{◌^◌, ◌<◌, ◌≤◌};
-ghost use Rattle.its_plain.specs.Machine.{IsDescription, IsSingle};
+//! How a machine is made that threads share.
+ghost use Rattle.std.specs.Prelude.{◌≡◌, ◌^◌, ◌<◌, ◌≤◌, length};
+ghost use Rattle.its_plain.specs.Machine.{IsDescription};
 ghost use Rattle.its_migrate.specs.Shared.{IsSharedFrom};
 
 use its_plain::{Desc, MakeError};
@@ -11,10 +12,11 @@ use std::alloc::Global;
 /// threads to share, with its root; or the first thing that is wrong.
 pub fn share(alloc: Global, desc: &Desc) -> Result<(Machine, Root), MakeError>
     requires description { IsDescription desc.now }
-    requires single { IsSingle desc.now }
     requires some_shards { 1 ≤ desc.now.shards }
     requires most_shards { desc.now.shards ≤ 64 }
     requires stamps { desc.now.limits.stamp_last < 2 ^ 24 }
+    requires stamps_of_two { length desc.now.translators ≡ 2
+        → desc.now.limits.stamp_last < 4096 }
     requires places { desc.now.limits.place_last < 2 ^ 40 }
     ensures { IsSharedFrom desc.now result }
 {

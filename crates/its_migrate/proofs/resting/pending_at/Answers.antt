@@ -7,12 +7,12 @@ use Rattle.its_migrate.proofs.resting.pending_at.Goals as goal
 
 pub returns-in_err-lpis-clause-rests : goal.returns-in_err-lpis-clause-rests
 returns-in_err-lpis-clause-rests c =
-    rests_put (view c.args.root.now) (view c.get_redist-redist.new.pass) (view c.look.new.pass) (view c.put.new.pass) (part.Redist c.args.vcpu)
-    (content.Redist (redistributor_of c.get_redist-redist.result.value)) c.look.result c.requires.lone c.get_redist-redist.ensures.gets c.look.ensures.looks
+    rests_put (view c.args.root.now) (view c.take_redist-redist.new.pass) (view c.look.new.pass) (view c.put.new.pass) (part.Redist c.args.vcpu)
+    (content.Redist (redistributor_of c.take_redist-redist.result.value)) c.look.result c.requires.lone c.take_redist-redist.ensures.takes c.look.ensures.looks
     c.look.ensures.later c.put.ensures.view
 
 pub returns-clause-rests : goal.returns-clause-rests
 returns-clause-rests c =
-    rests_put (view c.args.root.now) (view c.get_redist-redist.new.pass) (view c.look.new.pass) (view c.put.new.pass) (part.Redist c.args.vcpu)
-    (content.Redist (redistributor_of c.get_redist-redist.result.value)) c.look.result c.requires.lone c.get_redist-redist.ensures.gets c.look.ensures.looks
+    rests_put (view c.args.root.now) (view c.take_redist-redist.new.pass) (view c.look.new.pass) (view c.put.new.pass) (part.Redist c.args.vcpu)
+    (content.Redist (redistributor_of c.take_redist-redist.result.value)) c.look.result c.requires.lone c.take_redist-redist.ensures.takes c.look.ensures.looks
     c.look.ensures.later c.put.ensures.view

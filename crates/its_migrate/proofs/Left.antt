@@ -1,0 +1,120 @@
+-- The parts that are left of a machine.
+use Rattle.std.proofs.Common.{◌≡◌, ℕ, zero, suc, ◌<◌, ◌≤◌, List, [], ◌∷◌, map, take, length, Option, Some, None, Ok, refl, ap, sym, ◌∙◌, subst, arith}
+use Rattle.std.specs.Prelude.{slice_get}
+use Rattle.std.proofs.lemmas.Option.{slice_get_within}
+use Rattle.dirty_log.specs.declared.tracked.Tracked.{Tracked}
+use Rattle.its_plain.specs.Plain.{Plain, Redistributor}
+use Rattle.its_plain.specs.Regions.{savable}
+use Rattle.its_plain.specs.Saved.{moved, moved_count}
+use Rattle.its_plain.specs.Sound.{IsSound}
+use Rattle.its_plain.specs.declared.layout.Layout.{Layout}
+use Rattle.lpi_pending.specs.InHand.{in_hand}
+use Rattle.lpi_pending.specs.declared.redist.Redist.{Redist as Owned}
+use Rattle.owned_parts.specs.Owned.{AreAllInHand, redistributor_of, redistributor_or, HasLpisOf, state_of_parts}
+use Rattle.owned_machine.specs.Whole.{IsMachine, GoesOn}
+use Rattle.owned_parts.specs.declared.parts.Parts.{Parts}
+use Rattle.its_steps.specs.Parts.{Setup, IsOfMachine, vcpu_count}
+use Rattle.its_steps.specs.World.{View, first_view}
+use Rattle.its_turns.specs.Closed.{AreAllParts}
+use Rattle.its_turns.specs.Machines.{setup, view, IsOf}
+use Rattle.its_turns.specs.Opening.{setup_from, kept_of}
+use Rattle.its_turns.specs.Told.{IsLone}
+use Rattle.its_turns.specs.declared.machine.Machine.{Machine}
+use Rattle.its_turns.specs.declared.machine.Pass.{Pass}
+use Rattle.held_parts.specs.Wholes.{TakesWhole}
+use Rattle.held_parts.specs.declared.whole.Whole.{Whole}
+use Rattle.held_parts.proofs.Lists.{same_lists}
+use Rattle.its_migrate.specs.Precopying.{AreLeft, AreUnpacked, WentOnCopied, with_track}
+use Rattle.its_migrate.specs.Resting.{resting}
+use Rattle.its_migrate.proofs.Copying.{moved_memory}
+use Rattle.its_migrate.proofs.Moving.{went_on}
+use Rattle.its_migrate.proofs.Taken.{taken_hand, taken_others, rest_of_machine, taken_rest}
+
+abbrev firsts : ℕ → List (Option Owned) → List Redistributor
+firsts n rs = map redistributor_or (take n rs)
+
+here : (n v : ℕ) (rs : List (Option Owned)) (r : Owned) → v < n → in_hand rs v ≡ Some r → slice_get (firsts n rs) v ≡ Some (redistributor_of r)
+here n v [] r lt is = absurd cc
+here zero v (x ∷ xs) r lt is = absurd (omega (arith, lt))
+here (suc n) zero (x ∷ xs) r lt is = ap (λ (o : Option Owned). Some (redistributor_or o)) is
+here (suc n) (suc v) (x ∷ xs) r lt is = here n v xs r (omega (arith, lt)) is
+
+as_many : (n : ℕ) (rs : List (Option Owned)) → ((v : ℕ) → v < n → (r : Owned) × (in_hand rs v ≡ Some r)) → length (firsts n rs) ≡ n
+as_many zero [] h = refl
+as_many zero (x ∷ xs) h = refl
+as_many (suc n) [] h = let no = (h 0 (omega arith)).1 in absurd cc
+as_many (suc n) (x ∷ xs) h = ap (λ (k : ℕ). suc k) (as_many n xs (λ v lt. h (suc v) (omega (arith, lt))))
+
+module _ (s : Setup) (u : Plain) (m : IsOfMachine s u) (p : Parts) (are : AreAllParts s u p) where
+  abbrev n : ℕ
+  n = p.layout.shape.vcpus
+
+  counted : vcpu_count s ≡ n
+  counted = ap (λ (l : Layout). l.shape.vcpus) (m.layout ∙ sym are.layout)
+
+  below : (v : ℕ) → v < n → v < vcpu_count s
+  below v lt = omega (arith, lt, counted)
+
+  many : length (firsts n p.redists) ≡ n
+  many = as_many n p.redists (λ v lt. let b = are.redists.below v (below v lt) in (b.0, b.1))
+
+  redists_are : firsts n p.redists ≡ u.redistributors
+  redists_are = same_lists (firsts n p.redists) u.redistributors (many ∙ ap (λ (l : Layout). l.shape.vcpus) are.layout ∙ sym m.sound.vcpus)
+      (λ i x is.
+      let within = slice_get_within (firsts n p.redists) i x is in
+      let lt : i < n = omega (arith, within, many) in
+      let b = are.redists.below i (below i lt) in
+      b.2.same ∙ (sym (here n i p.redists b.0 lt b.1) ∙ is))
+
+  pub parts_left : AreLeft u (with_track None p)
+  parts_left = record {
+    state = λ d. record {
+      layout = are.layout d;
+      translators = are.translators d;
+      redistributors = redists_are d;
+      memory = sym are.parts.memory_is d;
+      track = None;
+    };
+    all_in_hand = λ v lt.
+        let b = are.redists.below v (below v lt) in
+        (b.0, b.1, subst (λ (l : Layout). HasLpisOf l.shape b.0) (sym are.layout) b.2.lpis);
+  }
+
+-- ---- parts that were taken out of a machine at rest
+
+module _ (m : Machine) (r : Pass) (w : View) (x : Whole) (taken : TakesWhole (setup m) (view r) x w) (lone : IsLone (view r)) (l : Layout)
+    (same : l ≡ (setup m).start.layout) (q : Parts × Option Tracked) (are : AreUnpacked l x q) where
+  abbrev whole : Parts
+  whole = with_track q.1 q.0
+
+  pub unpacked_state : state_of_parts whole ≡ resting m r
+  unpacked_state = are.state ∙ taken_rest m r w x taken lone l same
+
+  pub unpacked_machine : IsMachine whole
+  unpacked_machine = record {
+    sound = subst IsSound (sym unpacked_state) (rest_of_machine m r w x taken lone).sound;
+    all_in_hand = subst (λ (k : Layout). AreAllInHand k.shape q.0.redists) (sym are.layout)
+        (subst (λ (rs : List (Option Owned)). AreAllInHand l.shape rs) (sym are.redists) (taken_hand (setup m) (view r) w x taken l same));
+    no_others = subst (λ (k : Layout). (v : ℕ) → k.shape.vcpus ≤ v → in_hand q.0.redists v ≡ None) (sym are.layout)
+        (subst (λ (rs : List (Option Owned)). (v : ℕ) → l.shape.vcpus ≤ v → in_hand rs v ≡ None) (sym are.redists)
+        (taken_others (setup m) (view r) w x taken l same));
+  }
+
+  pub unpacked_left : AreLeft (resting m r) q.0
+  unpacked_left = record { state = λ d. record (unpacked_state d) { track = are.track d }; all_in_hand = unpacked_machine.all_in_hand }
+
+  module _ (p : Parts) (goes : GoesOn p (moved (state_of_parts whole))) where
+    pub goes_at_rest : GoesOn p (moved (resting m r))
+    goes_at_rest = subst (λ (u : Plain). GoesOn p (moved u)) unpacked_state goes
+
+  -- a machine that begins with the parts that go on
+  module _ (n : Machine) (s : Pass) (p : Parts) (count : ℕ) (can : savable (resting m r) ≡ Ok tt) (goes : GoesOn p (moved (state_of_parts whole)))
+      (counted : count ≡ moved_count (state_of_parts whole)) where
+    pub went_copied : IsOf n s → setup n ≡ setup_from m.desc p → n.desc ≡ kept_of m.desc → view s ≡ first_view (setup n) → WentOnCopied m r n s count
+    went_copied of made desc fresh =
+        let went = went_on m n r s p can (goes_at_rest p goes) of made desc fresh in
+        record {
+          went = went;
+          memory = ap (λ (u : Plain). u.memory) went.start ∙ moved_memory (resting m r);
+          count_is = counted ∙ ap (λ (u : Plain). moved_count u) unpacked_state;
+        }

@@ -1,0 +1,56 @@
+-- The outcome of a pre-copy: a migration to a machine whose memory is the second one of the machine that is left.
+use Rattle.std.specs.Prelude.{◌≡◌, ℕ, Option, None, Result, Ok, Err}
+use Rattle.dirty_log.specs.declared.tracked.Tracked.{Tracked}
+use Rattle.its_plain.specs.Plain.{Plain}
+use Rattle.its_plain.specs.Regions.{savable}
+use Rattle.its_plain.specs.Saved.{saved, moved_count}
+use Rattle.its_plain.specs.declared.layout.Layout.{Layout}
+use Rattle.owned_parts.specs.Owned.{AreAllInHand, state_of_parts}
+use Rattle.owned_parts.specs.declared.parts.Parts.{Parts}
+use Rattle.its_turns.specs.Machines.{setup, view, IsOf}
+use Rattle.its_turns.specs.declared.machine.Machine.{Machine}
+use Rattle.its_turns.specs.declared.machine.Pass.{Pass}
+use Rattle.held_parts.specs.Wholes.{state_of_whole}
+use Rattle.held_parts.specs.declared.whole.Whole.{Whole}
+use Rattle.its_migrate.specs.Resting.{Rests, WentOn, Migrates, resting}
+use Rattle.its_migrate.specs.declared.outcome.Precopy.{Precopy}
+use Rattle.its_migrate.specs.declared.outcome.Precopy.TheVariants as precopy
+
+-- ---- parts without the second memory
+
+abbrev pub untracked : Plain → Plain
+untracked u = record u { track = None }
+
+-- and with it
+abbrev pub with_track : Option Tracked → Parts → Parts
+with_track track p = record p { track = track }
+
+-- these are a state's, but for the second memory
+pub record AreLeft (u : Plain) (p : Parts) : Type 0 where
+  pub state : state_of_parts p ≡ untracked u
+  pub all_in_hand : AreAllInHand p.layout.shape p.redists
+
+-- they were held, and so was the second memory
+pub record AreUnpacked (l : Layout) (x : Whole) (r : Parts × Option Tracked) : Type 0 where
+  pub state : state_of_parts (with_track r.1 r.0) ≡ state_of_whole l x
+  pub layout : r.0.layout ≡ l
+  pub track : r.0.track ≡ None
+  pub redists : r.0.redists ≡ x.redists
+
+-- ---- pre-copies
+
+-- the next machine goes on as after a migration, in memory that has all tables; the pages were copied that were dirty, or that a save writes
+pub record WentOnCopied (m : Machine) (r : Pass) (n : Machine) (s : Pass) (count : ℕ) : Type 0 where
+  pub went : WentOn m r n s
+  pub memory : (setup n).start.memory ≡ saved (resting m r)
+  pub count_is : count ≡ moved_count (resting m r)
+
+abbrev pub Precopies : Machine → Pass → Result (Machine × Pass × ℕ) Precopy → Type 0
+Precopies m r (Ok x) = WentOnCopied m r x.0 x.1 x.2
+Precopies m r (Err (precopy.Fault n s f)) = (n ≡ m) × IsOf n s × Rests (view r) (view s) × (savable (resting m r) ≡ Err f)
+Precopies m r (Err (precopy.NoMemory p)) = AreLeft (resting m r) p
+
+-- what a migration and a pre-copy give begins alike, and so do the roots
+abbrev pub PrecopiesAsMigrates : Type 0
+PrecopiesAsMigrates = (m : Machine) (r : Pass) (x : Machine × Pass) (y : Machine × Pass × ℕ) → Migrates m r (Ok x) → Precopies m r (Ok y)
+    → (setup y.0 ≡ setup x.0) × (y.0.desc ≡ x.0.desc) × (view y.1 ≡ view x.1)

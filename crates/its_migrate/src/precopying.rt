@@ -1,0 +1,151 @@
+//! Pre-copies: migrations of machines whose memory was copied while they ran, but for the pages
+//! that are dirty still.
+ghost use Rattle.std.specs.Prelude.{◌≡◌, [], Ok, IfOk};
+ghost use Rattle.its_plain.specs.Regions.{savable};
+ghost use Rattle.its_plain.specs.Saved.{moved, moved_count};
+ghost use Rattle.its_plain.specs.Sound.{IsSound};
+ghost use Rattle.owned_parts.specs.Owned.{AreAllInHand, state_of_parts, state_in_place};
+ghost use Rattle.owned_machine.specs.Whole.{IsMachine, GoesOn};
+ghost use Rattle.its_turns.specs.Machines.{view, IsOf};
+ghost use Rattle.its_turns.specs.Told.{IsLone};
+ghost use Rattle.its_migrate.specs.Precopying.{Precopies, AreLeft, AreUnpacked, with_track};
+ghost use Rattle.its_migrate.specs.Resting.{resting};
+
+use crate::outcome::Precopy;
+use dirty_log::Tracked;
+use guest_windows::Memory;
+use held_parts::{AtRest, Whole, put_whole, take_whole};
+use its_plain::{Layout, SaveError};
+use its_turns::{GuestMemory, Machine, Root, close, look};
+use its_types::Open;
+use owned_machine::resumed;
+use owned_parts::{InPlace, Parts};
+use std::alloc::{AllocError, Global};
+use table_save::{mark_tables, savable, save_in};
+
+/// Copies the pages that are dirty, or that a save writes, to the second memory, saves there, and
+/// gives a machine that begins with what that memory and the registers stand for, its root, and how
+/// many pages were copied. The new machine has a second memory of its own, of which no page is
+/// copied. No pass but the root is out, and that holds nothing. A machine without a second memory
+/// goes on in a copy of its memory.
+///
+/// ```
+/// let (machine, root, copied) = match precopy(alloc, machine, root) {
+///     Ok((machine, root, count)) => (machine, root, Some(count)),
+///     Err(Precopy::Fault(machine, root, _)) => (machine, root, None),
+///     Err(Precopy::NoMemory(_)) => return Err(AllocError),
+/// };
+/// ```
+pub fn precopy(alloc: Global, machine: Machine, root: Root) -> Result<(Machine, Root, u64), Precopy>
+    requires of { IsOf machine root }
+    requires lone { IsLone (view root) }
+    requires free { (view root).held ≡ [] }
+    ensures { Precopies machine root result }
+{
+    let mut root = root;
+    let Ok(layout) = machine.desc().layout(alloc) else {
+        return Err(Precopy::NoMemory(closed(machine, root)));
+    };
+    let whole = take_whole(&AtRest, &machine, &mut root, &Open);
+    match savable(alloc, &whole.in_place(&layout)) {
+        Ok(()) => {}
+        Err(SaveError::Fault(fault)) => {
+            put_whole(&machine, &mut root, whole);
+            return Err(Precopy::Fault(machine, root, fault));
+        }
+        Err(SaveError::NoMemory) => {
+            let (parts, _) = unpacked(layout, whole);
+            return Err(Precopy::NoMemory(parts));
+        }
+    }
+    let (parts, track) = unpacked(layout, whole);
+    let (next, count) = match copied_parts(alloc, &parts, track) {
+        Ok(copied) => copied,
+        Err(AllocError) => return Err(Precopy::NoMemory(parts)),
+    };
+    match Machine::new(alloc, machine.desc(), next) {
+        Ok((next, root)) => Ok((next, root, count)),
+        Err(AllocError) => Err(Precopy::NoMemory(parts)),
+    }
+}
+
+// The parts of a machine whose root holds none, without its second memory. Takes no memory.
+fn closed(machine: Machine, root: Root) -> Parts
+    requires of { IsOf machine root }
+    requires lone { IsLone (view root) }
+    requires free { (view root).held ≡ [] }
+    ensures { AreLeft (resting machine root) result }
+{
+    let mut root = root;
+    look(&machine, &mut root);
+    let mut parts = close(machine, root);
+    parts.track = None;
+    parts
+}
+
+// The parts that were taken, without the second memory, and that.
+fn unpacked(layout: Layout, whole: Whole) -> (Parts, Option<Tracked>)
+    ensures { AreUnpacked layout whole result }
+{
+    let Whole {
+        first,
+        second,
+        memory,
+        redists,
+    } = whole;
+    let GuestMemory { memory, track, .. } = Box::into_inner(memory);
+    let parts = Parts {
+        layout,
+        first: Box::into_inner(first),
+        second: match second {
+            Some(second) => Some(Box::into_inner(second)),
+            None => None,
+        },
+        memory,
+        track: None,
+        redists,
+    };
+    (parts, track)
+}
+
+// The parts that go on in the second memory, or in a copy where there is none, and how many pages
+// were copied. Of them nothing is written to the memory that is left.
+fn copied_parts(
+    alloc: Global,
+    parts: &Parts,
+    track: Option<Tracked>,
+) -> Result<(Parts, u64), AllocError>
+    requires machine { IsMachine (with_track track parts.now) }
+    requires savable { savable (state_of_parts (with_track track parts.now)) ≡ Ok tt }
+    ensures next { IfOk result (λ x.
+        GoesOn x.0 (moved (state_of_parts (with_track track parts.now)))) }
+    ensures count { IfOk result (λ x.
+        x.1 ≡ moved_count (state_of_parts (with_track track parts.now))) }
+{
+    let parts = parts.in_place();
+    let (mut memory, count) = copied_memory(alloc, &parts, track)?;
+    save_in(&parts, &mut memory)?;
+    let next = resumed(alloc, &parts, memory)?;
+    Ok((next, count))
+}
+
+// Another memory that is as guest memory is: the second one, once the pages that are dirty, or that
+// a save will write, are copied there. Answers how many they were.
+fn copied_memory(
+    alloc: Global,
+    parts: &InPlace<'_>,
+    track: Option<Tracked>,
+) -> Result<(Memory, u64), AllocError>
+    requires hand { AreAllInHand parts.now.layout.now.shape parts.now.redists.now }
+    requires sound { IsSound (record (state_in_place parts.now) { track = track }) }
+    ensures memory { IfOk result (λ x. x.0 ≡ parts.now.memory.now) }
+    ensures count { IfOk result (λ x.
+        x.1 ≡ moved_count (record (state_in_place parts.now) { track = track })) }
+{
+    let Some(mut track) = track else {
+        return Ok((parts.memory.copy(alloc)?, 0));
+    };
+    mark_tables(parts, &mut track);
+    let count = track.copy_from(parts.memory);
+    Ok((track.copy.into_memory(), count))
+}
