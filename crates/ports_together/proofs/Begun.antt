@@ -9,7 +9,7 @@ use Rattle.its_turns.specs.Machines.{setup}
 use Rattle.its_turns.specs.declared.machine.Machine.{Machine}
 use Rattle.its_turns.specs.declared.machine.Pass.{Pass}
 use Rattle.its_migrate.specs.Shared.{IsFirst, IsSharedFrom}
-use Rattle.its_migrate.proofs.Fresh.{first_layout}
+use Rattle.its_migrate.proofs.Fresh.{first_layout, first_count}
 use Rattle.ports_together.specs.Ready.{IsSmall, IsShared}
 
 pub if_shared : (d : Desc) (P : Machine × Pass → Type 0) (r : Result (Machine × Pass) MakeError) → IsSharedFrom d r
@@ -22,5 +22,6 @@ pub shared : (d : Desc) → IsSmall d → (x : Machine × Pass) → IsFirst d x.
 shared d small x h = record {
   of = h.of;
   view_is = h.view;
+  translators = first_count d (setup x.0).start h.start ∙ small.single;
   vcpus = ap (λ (l : Layout). l.shape.vcpus) (first_layout d (setup x.0).start h.start) ∙ small.vcpus;
 }

@@ -74,12 +74,12 @@ pub enum Said {
     Nothing,
 }
 
-fn at(place: u64, reply: Reply) -> Said {
+pub fn at(place: u64, reply: Reply) -> Said {
     Said::At(place, reply)
 }
 
-// The same, as the reply.
-fn meant(said: Said) -> Said {
+/// The same, as the reply.
+pub fn meant(said: Said) -> Said {
     match said {
         Said::Sent(place, vcpu, intid) => at(place, sent(vcpu, intid)),
         Said::Dropped(place, cause) => at(place, Reply::Signal(Signal::Dropped(cause))),
@@ -182,7 +182,13 @@ fn claimed<R: Wait>(rt: &R, machine: &Machine, pass: &mut Pass, vcpu: u8, intid:
     }
 }
 
-fn poked<R: Wait>(rt: &R, machine: &Machine, pass: &mut Pass, addr: u64, bytes: &Bytes64) -> Said
+pub fn poked<R: Wait>(
+    rt: &R,
+    machine: &Machine,
+    pass: &mut Pass,
+    addr: u64,
+    bytes: &Bytes64,
+) -> Said
     requires { IsReady machine.now pass.old }
     ensures { IsReady machine.now pass.new }
 {
@@ -322,7 +328,7 @@ pub fn looked(machine: &Machine, pass: &mut Pass) -> Said
     Said::Stamp(stamp, place)
 }
 
-fn asked<R: Wait>(rt: &R, alloc: Global, machine: &Machine, pass: &mut Pass, ask: Ask) -> Said
+pub fn asked<R: Wait>(rt: &R, alloc: Global, machine: &Machine, pass: &mut Pass, ask: Ask) -> Said
     requires { IsReady machine.now pass.old }
     ensures { IsReady machine.now pass.new }
 {

@@ -17,4 +17,6 @@ mod migrations;
 #[cfg(test)]
 mod overtaking;
 #[cfg(test)]
+mod pairs;
+#[cfg(test)]
 mod passes;

@@ -14,8 +14,8 @@ use its_turns::{Machine, Root};
 use its_types::{Addr, Limits, Listed, Profile, Shape};
 use std::alloc::{AllocError, Global};
 
-// The translator is enabled, its queue empty, its device table flat.
-const VALUES: RegValues = RegValues {
+/// The translator is enabled, its queue empty, its device table flat.
+pub const VALUES: RegValues = RegValues {
     ctlr: 1,
     cbaser: 0x8000_0000_8002_0000,
     creadr: 0,
@@ -48,7 +48,8 @@ fn tables(alloc: Global, gicr: bool) -> Result<LpiTables, AllocError>
     Ok(LpiTables::Described { config, pending })
 }
 
-fn described(
+/// What it is made from.
+pub fn described(
     alloc: Global,
     words: &[(u64, u64)],
     stamp_last: u32,

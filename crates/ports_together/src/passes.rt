@@ -40,7 +40,7 @@ fn closed(machine: Machine, root: Root) -> Option<Vcpu>
     if root.out() != 0 {
         return None;
     }
-    close(machine, root).maps.collection(Icid(1))
+    close(machine, root).first.maps.collection(Icid(1))
 }
 
 // ---- one thread

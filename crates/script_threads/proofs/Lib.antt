@@ -6,7 +6,6 @@ pub mod Lines
 pub mod Phases
 pub mod Rooms
 pub mod Roots
-pub mod Told
 pub mod Runs
 pub mod Scripts
 pub mod Stops

@@ -2,62 +2,75 @@
 use Rattle.std.specs.Prelude.{◌≡◌, ◌<◌, length, Result, Ok, Err}
 use Rattle.std.specs.List.{AllByRecursion}
 use Rattle.its_types.specs.declared.machine.Placed.{Placed}
+use Rattle.its_plain.specs.Doorbells.{route_of}
 use Rattle.its_plain.specs.History.{after}
 use Rattle.its_plain.specs.Plain.{Plain}
 use Rattle.its_plain.specs.Runs.{Thread, Phase, Leg}
 use Rattle.its_plain.specs.declared.call.Call.{Call}
 use Rattle.its_plain.specs.declared.call.Call.TheVariants as call
 use Rattle.its_plain.specs.declared.call.Reply.{Reply}
-use Rattle.its_steps.specs.Parts.{Setup, vcpu_count}
+use Rattle.its_plain.specs.declared.call.Route.{Route}
+use Rattle.its_plain.specs.declared.call.Route.TheVariants as route
+use Rattle.its_steps.specs.Parts.{translator_count, vcpu_count}
 use Rattle.its_steps.specs.World.{View}
 use Rattle.its_turns.specs.Calls.{IsPlaced, Stays}
+use Rattle.its_turns.specs.Machines.{setup}
 use Rattle.its_turns.specs.declared.attempts.NotMade.{NotMade}
 use Rattle.its_turns.specs.declared.attempts.NotMade.TheVariants as not_made
 use Rattle.its_turns.specs.declared.attempts.Spent.{Spent as AllUsed}
-use Rattle.cmd_engine.specs.StepTells.{WantsMemory}
+use Rattle.its_turns.specs.declared.machine.Machine.{Machine}
+use Rattle.cmd_engine.specs.Telling.{WantsMemory}
+use Rattle.device_port.specs.Routes.{AreDevices}
 use Rattle.script_threads.specs.declared.stop.Stop.{Stop}
 use Rattle.script_threads.specs.declared.stop.Stop.TheVariants.{Spent, NoMemory}
 
--- the call has a port, which may be called with it
-abbrev pub MayAsk : Setup → Call → Type 0
-MayAsk s (call.Signal its dev ev) = its ≡ 0
-MayAsk s (call.Take vcpu) = vcpu.0 < vcpu_count s
-MayAsk s (call.Show vcpu) = vcpu.0 < vcpu_count s
-MayAsk s (call.Poke addr bytes) = Unit {0}
-MayAsk s (call.Peek addr count) = Unit {0}
-MayAsk s (call.ReadReg its off size) = its ≡ 0
-MayAsk s (call.WriteReg its off size value) = its ≡ 0
-MayAsk s (call.Step its) = its ≡ 0
-MayAsk s (call.ReadGicr vcpu off size) = vcpu.0 < vcpu_count s
-MayAsk s (call.WriteGicr vcpu off size value) = vcpu.0 < vcpu_count s
-MayAsk s call.Save = Unit {0}
-MayAsk s (call.Best vcpu mask) = vcpu.0 < vcpu_count s
-MayAsk s (call.Claim vcpu intid) = vcpu.0 < vcpu_count s
--- a machine that runs has no second memory, and no device writes by address
-MayAsk s call.Copy = ⊥
-MayAsk s (call.Dma req addr bytes to) = ⊥
+-- The call is one that this machine's ports may be called with: a translator's number or a virtual processor's is one of the
+-- machine's, and a device's write is what the machine's description says
+abbrev pub MayAsk : Machine → Call → Type 0
+MayAsk m (call.Signal its dev ev) = its < translator_count (setup m)
+MayAsk m (call.Take vcpu) = vcpu.0 < vcpu_count (setup m)
+MayAsk m (call.Show vcpu) = vcpu.0 < vcpu_count (setup m)
+MayAsk m (call.Poke addr bytes) = Unit {0}
+MayAsk m (call.Peek addr count) = Unit {0}
+MayAsk m (call.ReadReg its off size) = its < translator_count (setup m)
+MayAsk m (call.WriteReg its off size value) = its < translator_count (setup m)
+MayAsk m (call.Step its) = its < translator_count (setup m)
+MayAsk m (call.ReadGicr vcpu off size) = vcpu.0 < vcpu_count (setup m)
+MayAsk m (call.WriteGicr vcpu off size value) = vcpu.0 < vcpu_count (setup m)
+MayAsk m call.Save = Unit {0}
+MayAsk m (call.Best vcpu mask) = vcpu.0 < vcpu_count (setup m)
+MayAsk m (call.Claim vcpu intid) = vcpu.0 < vcpu_count (setup m)
+MayAsk m call.Copy = Unit {0}
+MayAsk m (call.Dma req addr bytes to) = AreDevices m.desc.requesters × (to ≡ route_of m.desc req addr.0 bytes)
 
-abbrev pub MayAskAll : Setup → Thread → Type 0
-MayAskAll s calls = AllByRecursion (MayAsk s) calls
+abbrev pub MayAskAll : Machine → Thread → Type 0
+MayAskAll m calls = AllByRecursion (MayAsk m) calls
 
-abbrev pub MayRun : Setup → Phase → Type 0
-MayRun s threads = AllByRecursion (MayAskAll s) threads
+abbrev pub MayRun : Machine → Phase → Type 0
+MayRun m threads = AllByRecursion (MayAskAll m) threads
 
-abbrev pub MayRunLeg : Setup → Leg → Type 0
-MayRunLeg s phases = AllByRecursion (MayRun s) phases
+abbrev pub MayRunLeg : Machine → Leg → Type 0
+MayRunLeg m phases = AllByRecursion (MayRun m) phases
+
+-- a device's write takes memory where it is one of memory
+abbrev pub WritesMemory : Route → Type 0
+WritesMemory route.Poke = Unit {0}
+WritesMemory other = ⊥
 
 -- the call takes memory before it is made, and may find none
 abbrev pub TakesMemory : Call → Type 0
 TakesMemory (call.Step its) = Unit {0}
 TakesMemory call.Save = Unit {0}
 TakesMemory (call.Poke addr bytes) = Unit {0}
+TakesMemory (call.Dma req addr bytes to) = WritesMemory to
 TakesMemory other = ⊥
 
 -- in this state the call takes memory: a step only where its command isn't refused and adds a device, a collection or an event
 abbrev pub TakesMemoryIn : Plain → Call → Type 0
-TakesMemoryIn u (call.Step its) = WantsMemory u
+TakesMemoryIn u (call.Step its) = WantsMemory u its
 TakesMemoryIn u call.Save = Unit {0}
 TakesMemoryIn u (call.Poke addr bytes) = Unit {0}
+TakesMemoryIn u (call.Dma req addr bytes to) = WritesMemory to
 TakesMemoryIn u other = ⊥
 
 -- The call was made, or nothing was: where all places are used, or where it takes memory in the state that the pass has seen
@@ -68,14 +81,17 @@ Answers v c w (Err NoMemory) = Stays v w × TakesMemoryIn (after v.setup.start w
 
 -- ---- the outcome of a port, as that of a call
 
-abbrev pub told : {T : Type 0} → (T → Reply) → Result (Placed T) AllUsed → Result (Placed Reply) Stop
-told reply (Ok x) = Ok (record { place = x.place; reply = reply x.reply })
-told reply (Err spent) = Err Spent
+-- where it was made, the reply is told as R says; else why it was not
+abbrev pub IsTold : {T E : Type 0} → (E → Stop) → (T → Reply → Type 0) → Result (Placed T) E → Result (Placed Reply) Stop → Type 0
+IsTold stop R (Ok made) (Ok told) = (told.place ≡ made.place) × R made.reply told.reply
+IsTold stop R (Err why) (Err told) = told ≡ stop why
+IsTold stop R made told = ⊥
+
+-- ---- why a port made no call
+
+abbrev pub stop_spent : AllUsed → Stop
+stop_spent spent = Spent
 
 abbrev pub stop_of : NotMade → Stop
 stop_of not_made.Spent = Spent
 stop_of not_made.NoMemory = NoMemory
-
-abbrev pub told_or : {T : Type 0} → (T → Reply) → Result (Placed T) NotMade → Result (Placed Reply) Stop
-told_or reply (Ok x) = Ok (record { place = x.place; reply = reply x.reply })
-told_or reply (Err why) = Err (stop_of why)

@@ -7,7 +7,7 @@ use Rattle.its_plain.specs.Runs.{Thread}
 use Rattle.its_plain.specs.declared.call.Entry.{Entry}
 use Rattle.its_plain.specs.declared.call.Reply.{Reply}
 use Rattle.its_steps.specs.World.{View, entry}
-use Rattle.its_turns.specs.Machines.{setup, view, IsOf}
+use Rattle.its_turns.specs.Machines.{view, IsOf}
 use Rattle.its_turns.specs.declared.machine.Machine.{Machine}
 use Rattle.script_threads.specs.Asks.{MayAskAll}
 use Rattle.script_threads.specs.Phases.{IsCutAtMemory}
@@ -48,7 +48,7 @@ pub record Doing (v : View) (calls : Thread) (k : ℕ) (done : List (Placed Repl
 pub record IsReady (m : Machine) (j : Job) : Type 0 where
   pub of : IsOf m j.pass
   pub free : (view j.pass).held ≡ []
-  pub may : MayAskAll (setup m) j.calls.now
+  pub may : MayAskAll m j.calls.now
   pub empty : j.done.items ≡ []
   pub room : length j.calls.now ≤ vec_capacity j.done
 

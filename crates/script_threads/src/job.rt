@@ -1,6 +1,6 @@
 //! What one thread of a phase has to do.
 ghost use Rattle.std.specs.Prelude.{◌≡◌, ◌≤◌, [], length, vec_capacity};
-ghost use Rattle.its_turns.specs.Machines.{setup, view, IsOf};
+ghost use Rattle.its_turns.specs.Machines.{view, IsOf};
 ghost use Rattle.script_threads.specs.Asks.{MayAskAll};
 ghost use Rattle.script_threads.specs.Jobs.{IsReady, Ran, Worked};
 
@@ -38,7 +38,7 @@ fn ask_all<R: Wait, G: Gate>(
 ) -> Option<Stop>
     requires of { IsOf machine.now pass.old }
     requires free { (view pass.old).held ≡ [] }
-    requires may { MayAskAll (setup machine.now) calls.now }
+    requires may { MayAskAll machine.now calls.now }
     requires empty { done.old.items ≡ [] }
     requires room { length calls.now ≤ vec_capacity done.old }
     ensures of { IsOf machine.now pass.new }

@@ -73,7 +73,7 @@ pub fn run_leg<'a, R: Threads + Wait + Sync, G: Gate + Sync>(
     requires fresh { (view root.old).seen ≡ [] }
     requires phases { length phases.now ≤ 256 }
     requires threads { AllByRecursion (λ threads. length threads ≤ 64) phases.now }
-    requires may { MayRunLeg (setup machine.now) phases.now }
+    requires may { MayRunLeg machine.now phases.now }
     ensures of { IsOf machine.now root.new }
     ensures leg { IfOk result (λ e.
         RanLeg (setup machine.now) phases.now e.lists.items e.stop (view root.new)) }

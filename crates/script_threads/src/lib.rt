@@ -1,4 +1,7 @@
 //! Phases of a script: its threads beside each other, on one machine that they share.
+//!
+//! `run_leg` and `run_phase` have six arguments and up to eleven clauses: beside how each ends,
+//! they say of replies, history, root and state after them what the headline needs.
 #![tactic(auto)]
 
 mod ask;

@@ -2,7 +2,7 @@
 ghost use Rattle.std.specs.Prelude.{◌≡◌, ◌+◌, ◌^◌, ◌<◌, ◌≤◌, [], None, IfOk, OnErr};
 ghost use Rattle.std.specs.Prelude.{map, length, vec_len, vec_capacity};
 ghost use Rattle.std.specs.List.{AllByRecursion};
-ghost use Rattle.its_turns.specs.Machines.{setup, view, IsOf};
+ghost use Rattle.its_turns.specs.Machines.{view, IsOf};
 ghost use Rattle.script_threads.specs.Asks.{MayRun};
 ghost use Rattle.script_threads.specs.Jobs.{AreNew, Both, HasRoom, IsFreeJob, IsReady, SeenBy};
 ghost use Rattle.script_threads.specs.Jobs.{Worked, call_list, end_of, reply_list, worst_from};
@@ -98,7 +98,7 @@ fn split_all<'a>(
     requires few { (view root.old).root.made + length threads.now < 2 ^ 32 }
     requires len { vec_len lists ≡ length threads.now }
     requires room { HasRoom threads.now lists.items }
-    requires may { MayRun (setup machine.now) threads.now }
+    requires may { MayRun machine.now threads.now }
     requires empty { jobs.old.items ≡ [] }
     requires fits { length threads.now ≤ vec_capacity jobs.old }
     ensures of { IsOf machine.now root.new }
@@ -198,7 +198,7 @@ pub fn run_phase<R: Threads + Wait + Sync, G: Gate + Sync>(
     requires of { IsOf machine.now root.old }
     requires rests { Rests (view root.old) }
     requires few { (view root.old).root.made + length threads.now < 2 ^ 32 }
-    requires may { MayRun (setup machine.now) threads.now }
+    requires may { MayRun machine.now threads.now }
     ensures of { IsOf machine.now root.new }
     ensures phase { IfOk result (λ e.
         Phased (view root.old) threads.now e.lists.items e.stop (view root.new)) }
@@ -223,7 +223,7 @@ fn run_rested<'a, R: Threads + Wait + Sync, G: Gate + Sync>(
     requires rests { Rests (view root.old) }
     requires knows { Knows (view root.old) }
     requires few { (view root.old).root.made + length threads.now < 2 ^ 32 }
-    requires may { MayRun (setup machine.now) threads.now }
+    requires may { MayRun machine.now threads.now }
     requires len { vec_len room.replies ≡ length threads.now }
     requires replies { HasRoom threads.now room.replies.items }
     requires jobs { (room.jobs.items ≡ []) × (length threads.now ≤ vec_capacity room.jobs) }

@@ -23,5 +23,5 @@ returns c =
     (c.in_ok-push-6.ensures.items ∙ ap (λ (z : Leg). z ++ c.push-4.new.self ∷ []) c.new-phases.ensures.items) in
     let both : c.push-7.new.self.items ≡ (one ∷ two ∷ three ∷ four ∷ []) ∷ (five ∷ []) ∷ [] = phases ∙ (λ d. signals d ∷ takes d ∷ []) in
     subst IsSmallLeg (sym both)
-    (small_leg _ _ one two three four five (λ s vcpus. (refl, omega (arith, vcpus))) c.in_ok-repeated.ensures c.in_ok-repeated-2.ensures
-    c.in_ok-repeated-3.ensures c.in_ok-repeated-4.ensures c.in_ok-repeated-5.ensures)
+    (small_leg _ _ one two three four five (λ m translators vcpus. (omega (arith, translators), omega (arith, vcpus))) c.in_ok-repeated.ensures
+    c.in_ok-repeated-2.ensures c.in_ok-repeated-3.ensures c.in_ok-repeated-4.ensures c.in_ok-repeated-5.ensures)

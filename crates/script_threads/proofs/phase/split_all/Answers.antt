@@ -1,7 +1,7 @@
 use Rattle.std.proofs.Common.{rules, arith, ◌≡◌, ℕ, ◌+◌, ◌<◌, ◌++◌, ◌∷◌, [], List, None, length, length-append, get_or, drop, subst, sym, ap, ◌∙◌}
 use Rattle.its_plain.specs.Runs.{Thread}
 use Rattle.its_steps.specs.World.{View}
-use Rattle.its_turns.specs.Machines.{setup, view}
+use Rattle.its_turns.specs.Machines.{view}
 use Rattle.script_threads.specs.Asks.{MayAskAll}
 use Rattle.script_threads.specs.Jobs.{IsReady, HasRoom}
 use Rattle.script_threads.specs.declared.job.Job.{Job}
@@ -24,7 +24,7 @@ loop-done-preserved c =
     let ready : IsReady m j = record {
       of = c.split-pass.ensures.of.1;
       free = ap (λ (z : View). z.held) s.4;
-      may = subst (MayAskAll (setup m)) (sym at ∙ sym c.as_slice-calls.ensures) (all_at (MayAskAll (setup m)) ts (length js) one c.requires.may below);
+      may = subst (MayAskAll m) (sym at ∙ sym c.as_slice-calls.ensures) (all_at (MayAskAll m) ts (length js) one c.requires.may below);
       empty = next.0;
       room = omega (arith, next.1, ap (λ (z : Thread). length z) c.as_slice-calls.ensures);
     } in (
