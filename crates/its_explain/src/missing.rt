@@ -1,0 +1,68 @@
+//! A line that must stand before another and doesn't.
+use crate::context::{Context, Stage};
+use crate::script_fault::Faulty;
+use std::alloc::AllocError;
+use std::fmt::Write;
+
+/// Adds which lines are missing.
+pub fn push_missing(out: &mut String, faulty: &Faulty) -> Result<(), AllocError> {
+    faulty.push_at(out, 0)?;
+    let context = &faulty.context;
+    if faulty.fields.is_empty() {
+        return push_end(out, context);
+    }
+    if context.stage == Stage::Phase {
+        return writeln!(
+            out,
+            "the phase that line {} begins has no `thread`",
+            context.opened
+        );
+    }
+    out.push_str("the description isn't whole; these are missing:\n    ")?;
+    push_description(out, context)?;
+    out.push_str("\n")
+}
+
+/// Adds what is missing where the input stops.
+fn push_end(out: &mut String, context: &Context) -> Result<(), AllocError> {
+    match context.stage {
+        Stage::Ended => out.push_str("after `end` no line `trace` comes, and no report\n"),
+        Stage::Description if context.line_of(b"vcpus").is_none() => {
+            out.push_str("the input stops here; `vcpus` has to come first, and `end` last\n")
+        }
+        _ => out.push_str("the input stops here, and `end` is missing\n"),
+    }
+}
+
+/// Adds the lines of a description that aren't there.
+fn push_description(out: &mut String, context: &Context) -> Result<(), AllocError> {
+    let mut between = "";
+    for (word, text) in [
+        (b"shards".as_slice(), "`shards N`"),
+        (b"window".as_slice(), "`window BASE LENGTH`"),
+    ] {
+        if context.line_of(word).is_none() {
+            write!(out, "{between}{text}")?;
+            between = ", ";
+        }
+    }
+    if context.line_of(b"gicr").is_some() {
+        return Ok(());
+    }
+    if context.line_of(b"config").is_none() {
+        write!(out, "{between}`config ADDR`")?;
+        between = ", ";
+    }
+    push_pending(out, context, between)
+}
+
+fn push_pending(out: &mut String, context: &Context, first: &str) -> Result<(), AllocError> {
+    let mut between = first;
+    for vcpu in 0..context.vcpus {
+        if context.line_of_processor(b"pending", Some(vcpu)).is_none() {
+            write!(out, "{between}`pending {vcpu} ADDR`")?;
+            between = ", ";
+        }
+    }
+    Ok(())
+}

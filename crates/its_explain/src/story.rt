@@ -1,0 +1,357 @@
+//! A run that is told: each line of its report, and what came of each call.
+use crate::call_lines::CallLine;
+use crate::entries::{Entry, entry_of};
+use crate::known::Known;
+use crate::left::{Left, Next, count_calls, cut};
+use crate::lines::{first_words, number};
+use crate::replies::{Taken, push_reply};
+use crate::show::{push_bytes, push_plain};
+use event_script::{Leg, Move, Script};
+use its_history::{answered_text, pending_text, save_fault_text, vcpu_text};
+use its_plain::{Call, Reply, SaveError, StepReply};
+use its_types::Addr;
+use owned_machine::Machine;
+use std::alloc::{AllocError, Global};
+use std::fmt::Write;
+
+/// How the telling of a report's line came out.
+#[derive(Clone, Copy, PartialEq, Eq)]
+pub enum Told {
+    /// The line is that of a run.
+    Right,
+    /// It isn't, and why was said.
+    Wrong,
+}
+
+/// A run, up to a line of its report.
+#[derive(Drop)]
+pub struct Story<'a> {
+    alloc: Global,
+    input: &'a [u8],
+    script: &'a Script,
+    machine: Machine,
+    known: Known,
+    /// The lines of the calls of legs that aren't begun.
+    lines: &'a [CallLine],
+    /// How many legs are begun.
+    legs: usize,
+    left: Left<'a>,
+    /// How many calls of the leg were made.
+    places: u64,
+    /// The command that the call in hand takes, if it is a step.
+    taken: Option<Taken>,
+}
+
+impl<'a> Story<'a> {
+    /// Before the first line. The machine stands in its first state.
+    pub fn new(
+        alloc: Global,
+        input: &'a [u8],
+        script: &'a Script,
+        machine: Machine,
+        lines: &'a [CallLine],
+    ) -> Story<'a> {
+        Story {
+            alloc,
+            input,
+            script,
+            machine,
+            known: Known::new(alloc),
+            lines,
+            legs: 0,
+            left: Left::none(alloc),
+            places: 0,
+            taken: None,
+        }
+    }
+
+    /// Tells a line of the report.
+    pub fn tell(&mut self, out: &mut String, line: &[u8]) -> Result<Told, AllocError> {
+        if let Some(entry) = entry_of(line) {
+            return self.tell_entry(out, line, &entry);
+        }
+        if line.starts_with(b"leg ") {
+            self.begin_leg()?;
+            push_heading(out, line)?;
+            return Ok(Told::Right);
+        }
+        if line.starts_with(b"vcpu ") {
+            return self.tell_pending(out, line);
+        }
+        if line.starts_with(b"migrated") {
+            return self.tell_move(out, line);
+        }
+        push_heading(out, line)?;
+        Ok(Told::Right)
+    }
+
+    fn begin_leg(&mut self) -> Result<(), AllocError> {
+        let legs: &'a [Leg] = self.script.legs.as_slice();
+        if let Some(leg) = legs.get(self.legs) {
+            self.left = Left::new(self.alloc, leg, self.lines)?;
+            let (_, later) = cut(self.lines, count_calls(leg));
+            self.lines = later;
+            self.legs = self.legs.saturating_add(1);
+            self.places = 0;
+        }
+        Ok(())
+    }
+
+    fn tell_entry(
+        &mut self,
+        out: &mut String,
+        line: &[u8],
+        entry: &Entry,
+    ) -> Result<Told, AllocError> {
+        let Some(next) = self.left.take(entry.phase, entry.thread) else {
+            push_difference(out, line)?;
+            out.push_str("This thread has no call left in the first phase that has calls left.\n")?;
+            return Ok(Told::Wrong);
+        };
+        self.taken = self.command_for(next.call)?;
+        let reply = self.machine.answer(self.alloc, next.call)?;
+        let text = answered_text(self.alloc, next.call, &reply)?;
+        if !says(text.as_str(), entry.text) {
+            push_difference(out, line)?;
+            return self.tell_right(out, entry, &next, &reply);
+        }
+        push_heading(out, line)?;
+        self.push_came(out, &next, &reply)?;
+        self.remember(&next, &reply)?;
+        Ok(Told::Right)
+    }
+
+    /// Adds what the line would have to say.
+    fn tell_right(
+        &self,
+        out: &mut String,
+        entry: &Entry,
+        next: &Next,
+        reply: &Reply,
+    ) -> Result<Told, AllocError> {
+        let text = answered_text(self.alloc, next.call, reply)?;
+        let place = self.places;
+        writeln!(
+            out,
+            "and a run's line is\n    {place} {}.{} {}",
+            entry.phase,
+            entry.thread,
+            text.as_str()
+        )?;
+        self.push_came(out, next, reply)?;
+        Ok(Told::Wrong)
+    }
+
+    /// Adds what came of a call.
+    fn push_came(&self, out: &mut String, next: &Next, reply: &Reply) -> Result<(), AllocError> {
+        write!(out, "        line {}: ", next.line.number)?;
+        let text = next.line.text(self.input);
+        if *reply == Reply::Ok && is_written_as(text) {
+            out.push_str("`")?;
+            push_trimmed(out, text)?;
+            return out.push_str("`\n");
+        }
+        push_reply(out, &self.known, next.call, reply, self.taken.as_ref())?;
+        out.push_str("\n")
+    }
+
+    /// Keeps what a call's line wrote or mapped.
+    fn remember(&mut self, next: &Next, reply: &Reply) -> Result<(), AllocError> {
+        self.places = self.places.saturating_add(1);
+        match next.call {
+            Call::Poke { addr, bytes } | Call::Dma { addr, bytes, .. } => {
+                if *reply == Reply::Ok {
+                    let count = bytes.as_slice().len() as u64;
+                    self.known.wrote(addr.0, count, next.line.number)?;
+                }
+                Ok(())
+            }
+            Call::Step { its } => match reply {
+                Reply::Step(StepReply::Ran(_)) => self.keep_ran(*its, next.line.number),
+                _ => Ok(()),
+            },
+            _ => Ok(()),
+        }
+    }
+
+    /// Keeps what the command in hand mapped, of the line that wrote it, or else of the step's.
+    fn keep_ran(&mut self, its: u8, step: u64) -> Result<(), AllocError> {
+        match &self.taken {
+            Some(taken) => {
+                let line = self.known.writer(taken.addr).unwrap_or(step);
+                self.known.ran(its, &taken.command(), line)
+            }
+            None => Ok(()),
+        }
+    }
+
+    /// The command that a step will take, if its bytes lie in one window.
+    fn command_for(&mut self, call: &Call) -> Result<Option<Taken>, AllocError> {
+        let Call::Step { its } = *call else {
+            return Ok(None);
+        };
+        let base = self.register(its, 0x80)? & 0x000f_ffff_ffff_f000;
+        let offset = self.register(its, 0x90)? & 0x000f_ffe0;
+        let addr = base.saturating_add(offset);
+        let peek = Call::Peek {
+            addr: Addr(addr),
+            count: 32,
+        };
+        match self.machine.answer(self.alloc, &peek)? {
+            Reply::Bytes(bytes) => Ok(command_of(addr, bytes.as_slice())),
+            _ => Ok(None),
+        }
+    }
+
+    /// What a register of a translator reads.
+    fn register(&mut self, its: u8, off: u32) -> Result<u64, AllocError> {
+        let read = Call::ReadReg { its, off, size: 8 };
+        match self.machine.answer(self.alloc, &read)? {
+            Reply::Value(value) => Ok(value),
+            _ => Ok(0),
+        }
+    }
+
+    fn tell_pending(&mut self, out: &mut String, line: &[u8]) -> Result<Told, AllocError> {
+        if let Some(number) = self.left.first_line() {
+            push_difference(out, line)?;
+            writeln!(out, "and calls of the leg are left, from line {number} on.")?;
+            return Ok(Told::Wrong);
+        }
+        let (_, processor) = first_words(line);
+        let vcpu = number(processor).unwrap_or(u64::MAX) as usize;
+        if vcpu < self.machine.vcpus() {
+            let pending = self.machine.pending(self.alloc, vcpu)?;
+            let text = pending_text(self.alloc, &pending)?;
+            let right = vcpu_text(self.alloc, vcpu as u64, &text)?;
+            if !says(right.as_str(), line) {
+                push_difference(out, line)?;
+                out.push_str("and a run's line is\n")?;
+                push_plain(out, right.as_str().as_bytes())?;
+                return Ok(Told::Wrong);
+            }
+        }
+        push_heading(out, line)?;
+        Ok(Told::Right)
+    }
+
+    fn tell_move(&mut self, out: &mut String, line: &[u8]) -> Result<Told, AllocError> {
+        match self.move_on() {
+            Ok(pages) => self.tell_pages(out, line, pages),
+            Err(SaveError::NoMemory) => Err(AllocError),
+            Err(SaveError::Fault(fault)) => {
+                push_difference(out, line)?;
+                let text = save_fault_text(self.alloc, &fault)?;
+                writeln!(out, "and the state can't be saved ({text}): {fault}.")?;
+                Ok(Told::Wrong)
+            }
+        }
+    }
+
+    /// Migrates the machine as the script says; how many pages were copied before it, if any were
+    /// to be.
+    fn move_on(&mut self) -> Result<Option<u64>, SaveError> {
+        let moves: &[Move] = self.script.moves.as_slice();
+        match moves.get(self.legs.saturating_sub(1)) {
+            Some(Move::Precopy) => Ok(Some(self.machine.precopy(self.alloc)?)),
+            _ => {
+                self.machine.migrate(self.alloc)?;
+                Ok(None)
+            }
+        }
+    }
+
+    fn tell_pages(
+        &self,
+        out: &mut String,
+        line: &[u8],
+        pages: Option<u64>,
+    ) -> Result<Told, AllocError> {
+        let mut right = String::from_str(self.alloc, "migrated")?;
+        if let Some(pages) = pages {
+            write!(right, " copied {pages}")?;
+        }
+        if !says(right.as_str(), line) {
+            push_difference(out, line)?;
+            out.push_str("and a run's line is\n")?;
+            push_plain(out, right.as_str().as_bytes())?;
+            return Ok(Told::Wrong);
+        }
+        push_heading(out, line)?;
+        out.push_str(
+            "        the tables were written to guest memory, and the next leg goes on from them\n",
+        )?;
+        Ok(Told::Right)
+    }
+
+    /// Adds why the run ended in the leg that was told last.
+    pub fn push_stop(&mut self, out: &mut String) -> Result<(), AllocError> {
+        if self.left.has_more() {
+            let last = self.script.desc.limits.place_last;
+            return writeln!(
+                out,
+                "The leg has calls left, and the `limits` line gives a leg {last} places."
+            );
+        }
+        match self.move_on() {
+            Ok(_) => Ok(()),
+            Err(SaveError::NoMemory) => Err(AllocError),
+            Err(SaveError::Fault(fault)) => {
+                writeln!(
+                    out,
+                    "After these calls the state can't be saved:\n    {fault}"
+                )
+            }
+        }
+    }
+}
+
+/// The command that bytes at an address are.
+fn command_of(addr: u64, bytes: &[u8]) -> Option<Taken> {
+    let mut buffer = [0u8; 32];
+    if bytes.len() != 32 {
+        return None;
+    }
+    buffer.copy_from_slice(bytes);
+    Some(Taken {
+        addr,
+        bytes: buffer,
+    })
+}
+
+/// Whether a line has this text.
+fn says(text: &str, line: &[u8]) -> bool {
+    text.as_bytes() == line
+}
+
+/// Whether a report tells the words of the line as a poke.
+fn is_written_as(line: &[u8]) -> bool {
+    let (first, _) = first_words(line);
+    first == b"command".as_slice() || first == b"word".as_slice()
+}
+
+/// Adds the fields of a line, with one space between them.
+fn push_trimmed(out: &mut String, line: &[u8]) -> Result<(), AllocError> {
+    let mut is_first = true;
+    for field in line.split(|b| *b == b' ') {
+        if !field.is_empty() {
+            if !is_first {
+                out.push(' ')?;
+            }
+            push_bytes(out, field)?;
+            is_first = false;
+        }
+    }
+    Ok(())
+}
+
+/// Adds a line of the report as it stands.
+fn push_heading(out: &mut String, line: &[u8]) -> Result<(), AllocError> {
+    push_bytes(out, line)?;
+    out.push_str("\n")
+}
+
+fn push_difference(out: &mut String, line: &[u8]) -> Result<(), AllocError> {
+    out.push_str("The report says\n")?;
+    push_plain(out, line)
+}
