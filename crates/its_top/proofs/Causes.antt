@@ -1,20 +1,20 @@
 -- What a status says, by what the words are and by what was read.
-use Rattle.std.proofs.Common.{◌≡◌, ◌⊎◌, ℕ, ◌<◌, ◌≤◌, List, [], ◌∷◌, ◌++◌, length, codes, Option, Some, None, Ok, Err, refl, sym, ap}
+use Rattle.std.proofs.Common.{◌≡◌, ◌⊎◌, ℕ, ◌<◌, ◌≤◌, List, [], ◌∷◌, ◌++◌, length, codes, Option, Some, None, Result, Ok, Err, refl, sym, ap}
 use Rattle.std.proofs.Common.{subst, inl, inr, arith}
 use Rattle.its_plain.specs.Described.{IsFirstState, IsRefused}
 use Rattle.its_plain.specs.Plain.{Plain}
 use Rattle.its_plain.specs.Runs.{IsPartialRun}
 use Rattle.its_plain.specs.declared.desc.DescFault.{DescFault}
-use Rattle.event_script.specs.Script.{script_of}
+use Rattle.event_script.specs.Script.{script_of, check_of}
 use Rattle.event_script.specs.declared.fault.ScriptFault.{ScriptFault}
 use Rattle.event_script.specs.declared.script.Script.{Script}
 use Rattle.its_top.specs.Legs.{AllEnd}
 use Rattle.its_words.specs.Words.{asked_of}
 use Rattle.its_words.specs.declared.words.Asked.{Asked}
-use Rattle.its_words.specs.declared.words.Asked.TheVariants.{Run, Check, Gen}
+use Rattle.its_words.specs.declared.words.Asked.TheVariants.{Run, Check, Gen, Explain, Help}
 use Rattle.its_top.specs.Checked.{CheckCauses}
 use Rattle.its_top.specs.Its.{Causes, RunCauses, WordsCauses, AskedCauses, IsScript, OfScript, IsReport, IsMigrationRefusal, IsSpentReport, IsCutShort}
-use Rattle.its_top.specs.Its.{IsDecided, IsRunDecided, AskedDecides}
+use Rattle.its_top.specs.Its.{ExplainCauses, HelpCauses, IsDecided, IsRunDecided, AskedDecides, ReadDecides}
 use Rattle.its_top.specs.Streams.{WasRead}
 use Rattle.its_top.specs.Summarized.{GenCauses}
 use Rattle.its_top.specs.Answered.{InputCauses, RunEnds, IsSoFar, StopsShort}
@@ -23,6 +23,7 @@ use Rattle.its_top.specs.declared.status.Status.TheVariants as status
 use Rattle.its_top.proofs.Enabling.{partial_lpis}
 use Rattle.its_top.proofs.Lines.{scripts_off}
 use Rattle.its_top.proofs.Checks.{check_decided}
+use Rattle.its_top.proofs.Explained.{as_run, as_check}
 use Rattle.its_top.proofs.Once.{same_ok, not_both, first_once, made_once, too_short}
 use Rattle.its_top.proofs.Migrations.{partial_run, part_of_none}
 use Rattle.its_top.proofs.Endings.{ends_well, ends_spent, ends_refused, all_end_well}
@@ -264,6 +265,28 @@ gen_end signals threads status.TooLong text h = absurd h
 gen_end signals threads status.TraceDiffers text h = absurd h
 gen_end signals threads status.BadTrace text h = absurd h
 
+help_end : (s : Status) (text : List ℕ) → HelpCauses s text → Ended s status.Ok
+help_end status.Ok text h = inl refl
+help_end status.ScriptRefused text h = absurd h
+help_end status.WordsRefused text h = absurd h
+help_end status.ReadFault text h = absurd h
+help_end status.WriteFault text h = absurd h
+help_end status.Memory text h = inr refl
+help_end status.MachineRefused text h = absurd h
+help_end status.MigrationRefused text h = absurd h
+help_end status.Spent text h = absurd h
+help_end status.TooLong text h = absurd h
+help_end status.TraceDiffers text h = absurd h
+help_end status.BadTrace text h = absurd h
+
+explain_decided : (input : List ℕ) (rose : Type 0) (s : Status) (text : List ℕ) → ¬ rose → ExplainCauses (Some input) rose s text
+    → ReadDecides (check_of input) input s
+explain_decided input rose s text calm h = go (check_of input) refl
+  where
+    go : (r : Result (Script × List (List ℕ)) ScriptFault) → check_of input ≡ r → ReadDecides r input s
+    go (Ok p) e = let c = as_check input rose s text h p e in check_decided input rose s c.0 calm c.1
+    go (Err fault) e = let c = as_run input rose s text h fault e in run_decided input rose s c.0 calm c.1
+
 pub decided : (words : List (List ℕ)) (told : Option (List ℕ)) (rose : Type 0) (s : Status) (text : List ℕ) → ¬ rose → Causes words told rose s text
     → IsDecided words told s
 decided words told rose s text calm h = go (asked_of words) h
@@ -273,6 +296,14 @@ decided words told rose s text calm h = go (asked_of words) h
     go (Some Run) h = λ input tells. run_decided input rose s text calm (subst (λ (o : Option (List ℕ)). RunCauses o rose s text) tells h)
     go (Some Check) h = λ input tells. check_decided input rose s text calm (subst (λ (o : Option (List ℕ)). CheckCauses o rose s text) tells h)
     go (Some (Gen signals threads)) h = gen_end signals threads s text h
+    go (Some Explain) h = λ input tells. explain_decided input rose s text calm
+        (subst (λ (o : Option (List ℕ)). ExplainCauses o rose s text) tells h)
+    go (Some Help) h = help_end s text h
+
+-- with the status that was printed
+pub decided_by : (words : List (List ℕ)) (told : Option (List ℕ)) (rose : Type 0) (s said : Status) (text : List ℕ) → s ≡ said → ¬ rose
+    → Causes words told rose said text → IsDecided words told s
+decided_by words told rose s said text same calm h = subst (λ (t : Status). IsDecided words told t) (sym same) (decided words told rose said text calm h)
 
 -- ---- statuses
 
@@ -301,3 +332,5 @@ no_write_fault words told rose s text h e = go (asked_of words) (subst (λ (t : 
     go (Some Run) h = h
     go (Some Check) h = h
     go (Some (Gen signals threads)) h = h
+    go (Some Explain) h = h
+    go (Some Help) h = h

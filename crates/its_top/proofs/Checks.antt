@@ -11,12 +11,13 @@ use Rattle.event_script.specs.Text.{parts}
 use Rattle.event_script.specs.declared.fault.ScriptFault.{ScriptFault}
 use Rattle.event_script.specs.declared.script.Script.{Script}
 use Rattle.its_history.specs.Reading.{trace_of, legs_from, lines_left, is_over, ◌then◌}
-use Rattle.its_history.specs.Reports.{reported}
 use Rattle.its_history.specs.declared.trace.Leg.{Leg as LegLines}
 use Rattle.trace_check.specs.Verdicts.{IsReportOfRun}
 use Rattle.report_reading.proofs.Reports.{run_reports}
+use Rattle.its_top.specs.Legs.{all_told}
 use Rattle.its_top.specs.Checked.{CheckCauses, CheckSays, ReportCauses, OfReport, IsAgreement, IsDiffering, IsBadTrace, IsNoMachine, IsCheckInput}
 use Rattle.its_top.specs.Checked.{read_report}
+use Rattle.trace_check.specs.Verdicts.{copies_of}
 use Rattle.its_top.specs.Its.{IsCheckDecided}
 use Rattle.its_top.specs.Streams.{WasRead}
 use Rattle.its_top.specs.declared.status.Status.{Status}
@@ -135,21 +136,21 @@ no_machine input rose status.BadTrace text calm h le script lines fault e none =
 -- ---- how a report stands to its script's runs
 
 abbrev Stands : Script → Plain → Result (List LegLines) ℕ → Status → Type 0
-Stands script first read status.Ok = (told : List LegLines) × (read ≡ Ok told) × IsReportOfRun first script.legs told
-Stands script first read status.TraceDiffers = (told : List LegLines) × (read ≡ Ok told) × ¬ IsReportOfRun first script.legs told
+Stands script first read status.Ok = (told : List LegLines) × (read ≡ Ok told) × IsReportOfRun first script.legs (copies_of script.moves) told
+Stands script first read status.TraceDiffers = (told : List LegLines) × (read ≡ Ok told) × ¬ IsReportOfRun first script.legs (copies_of script.moves) told
 Stands script first read status.BadTrace = (line : ℕ) × (read ≡ Err line)
 Stands script first read _ = ⊥
 
 agrees : (script : Script) (first : Plain) (report text : List ℕ) → IsAgreement script first report text
     → Stands script first (read_report script report) status.Ok
 agrees script first report text a =
-    (reported first script.legs a.histories, a.read, record { histories = a.histories; is_run = a.is_run; told_is = refl })
+    (all_told script first a.histories, a.read, record { histories = a.histories; is_run = a.is_run; told_is = refl })
 
 -- one and the same report is read the same
 same_read : (script : Script) (a b : List ℕ) → parts a ≡ parts b → read_report script a ≡ read_report script b
 unfolding trace_of
 same_read script a b same =
-    ap (λ (ps : List (List ℕ)). legs_from script.desc.shape.vcpus 1 (length script.legs) (lines_left 1 ps) then λ p.
+    ap (λ (ps : List (List ℕ)). legs_from script.desc.shape.vcpus 1 (length script.legs) (copies_of script.moves) (lines_left 1 ps) then λ p.
     if is_over p.1.parts then Ok p.0 else Err p.1.number) same
 
 same_stands : (input read : List ℕ) (s : Status) (Says : Script → Plain → List ℕ → List ℕ → Type 0) (text : List ℕ) (script : Script) (first : Plain)
@@ -210,9 +211,9 @@ is_bad script first read status.TraceDiffers line e h = not_both read h.0 line h
 is_bad script first read status.BadTrace line e h = refl
 
 is_other : (script : Script) (first : Plain) (read : Result (List LegLines) ℕ) (s : Status) (told : List LegLines) → read ≡ Ok told
-    → ¬ IsReportOfRun first script.legs told → Stands script first read s → s ≡ status.TraceDiffers
+    → ¬ IsReportOfRun first script.legs (copies_of script.moves) told → Stands script first read s → s ≡ status.TraceDiffers
 is_other script first read status.Ok told e none h =
-    absurd (none (subst (λ (ls : List LegLines). IsReportOfRun first script.legs ls) (told_once read h.0 told h.1 e) h.2))
+    absurd (none (subst (λ (ls : List LegLines). IsReportOfRun first script.legs (copies_of script.moves) ls) (told_once read h.0 told h.1 e) h.2))
 is_other script first read status.ScriptRefused told e none h = absurd h
 is_other script first read status.WordsRefused told e none h = absurd h
 is_other script first read status.ReadFault told e none h = absurd h
@@ -226,7 +227,7 @@ is_other script first read status.TraceDiffers told e none h = refl
 is_other script first read status.BadTrace told e none h = not_both read told h.0 e h.1
 
 is_well : (script : Script) (first : Plain) (read : Result (List LegLines) ℕ) (s : Status) (told : List LegLines) → read ≡ Ok told
-    → IsReportOfRun first script.legs told → Stands script first read s → s ≡ status.Ok
+    → IsReportOfRun first script.legs (copies_of script.moves) told → Stands script first read s → s ≡ status.Ok
 is_well script first read status.Ok told e run h = refl
 is_well script first read status.ScriptRefused told e run h = absurd h
 is_well script first read status.WordsRefused told e run h = absurd h
@@ -238,7 +239,7 @@ is_well script first read status.MigrationRefused told e run h = absurd h
 is_well script first read status.Spent told e run h = absurd h
 is_well script first read status.TooLong told e run h = absurd h
 is_well script first read status.TraceDiffers told e run h =
-    absurd (h.2 (subst (λ (ls : List LegLines). IsReportOfRun first script.legs ls) (told_once read told h.0 e h.1) run))
+    absurd (h.2 (subst (λ (ls : List LegLines). IsReportOfRun first script.legs (copies_of script.moves) ls) (told_once read told h.0 e h.1) run))
 is_well script first read status.BadTrace told e run h = not_both read told h.0 e h.1
 
 ended : (s expected : Status) (P : Type 0) → (P → s ≡ expected) → (s ≡ status.Memory) ⊎ P → Ended s expected
@@ -258,9 +259,10 @@ check_decided input rose s text calm h = record {
       (by_report input rose s text calm h le script first report is);
   complete = λ le script first report hs is run same.
       let within : IsWithinLimits script = subst Fits is.read (checked_scripts_fit input) in
-      let read : read_report script report ≡ Ok (reported first script.legs hs) = ap (read_report script) same
-      ∙ run_reports script first hs within is.starts run in
-      let told : IsReportOfRun first script.legs (reported first script.legs hs) = record { histories = hs; is_run = run; told_is = refl } in
-      ended s status.Ok _ (is_well script first (read_report script report) s (reported first script.legs hs) read told)
+      let read : read_report script report ≡ Ok (all_told script first hs) = ap (read_report script) same
+      ∙ run_reports script first (copies_of script.moves) hs within is.starts run in
+      let told : IsReportOfRun first script.legs (copies_of script.moves) (all_told script first hs) =
+      record { histories = hs; is_run = run; told_is = refl } in
+      ended s status.Ok _ (is_well script first (read_report script report) s (all_told script first hs) read told)
       (by_report input rose s text calm h le script first report is);
 }

@@ -1,24 +1,30 @@
 -- A line but `rrestore` leaves the registers to restore as they were, and the guest programs the LPI registers after a line `gicr`.
-use Rattle.std.proofs.Common.{◌≡◌, ℕ, ◌-◌, ◌^◌, true, not, ◌&&◌, ◌||◌, nat_lt, nat_eq, List, length, Result, Ok, Err, IfOk, refl}
+use Rattle.std.proofs.Common.{◌≡◌, ℕ, ◌-◌, ◌^◌, true, not, ◌&&◌, ◌||◌, nat_lt, nat_eq, List, length, drop, Result, Ok, Err, IfOk, refl}
 use Rattle.std.specs.Prelude.{is_none}
 use Rattle.std.specs.List.{list_all}
+use Rattle.std.specs.Option.{ok_or}
 use Rattle.its_plain.specs.declared.call.Call.{Call}
 use Rattle.event_script.specs.Text.{number}
-use Rattle.event_script.specs.Fields.{arg, number_within, any_number, address, processor, bytes_within}
+use Rattle.event_script.specs.Fields.{arg, number_within, any_number, address, device, processor, bytes_within}
 use Rattle.event_script.specs.Outcome.{ensure}
+use Rattle.event_script.specs.Words.{call_word_of}
+use Rattle.event_script.specs.Described.{desc_so_far, most_stamp}
 use Rattle.event_script.specs.Description.{at_start, in_description, in_phase, in_thread, is_shard_count, describes_tables, is_given, register_values}
 use Rattle.event_script.specs.Description.{vcpus_line, shards_line, limits_line, ids_line, profile_line, window_line, config_line, pending_line, gicr_line}
-use Rattle.event_script.specs.Description.{linux_line, restore_line, bytes_line, word_fill_line}
-use Rattle.event_script.specs.Calls.{signal_of, take_of, show_of, poke_of, word_of, command_call_of, peek_of, read_of, write_of, rread_of, rwrite_of, step_of}
-use Rattle.event_script.specs.Calls.{save_of, best_of, claim_of}
-use Rattle.event_script.specs.Body.{is_whole, may_go_on, threads_so_far, phases_so_far, legs_so_far, phase_line, thread_line, migrate_line, end_line}
-use Rattle.event_script.specs.Body.{call_line, gicr_call_line, word_line, keyword_line}
+use Rattle.event_script.specs.Description.{linux_line, track_line, allow_pair, pair_line, frames_base, its_base_line, b_base_line, requester_line}
+use Rattle.event_script.specs.Description.{restore_line, brestore_line, bytes_line, word_fill_line}
+use Rattle.event_script.specs.Calls.{call_of}
+use Rattle.event_script.specs.Body.{is_whole, may_go_on, threads_so_far, phases_so_far, legs_so_far, phase_line, thread_line, may_move, move_line, end_line}
+use Rattle.event_script.specs.Body.{may_call, with_call, call_line, is_translators, second_line, is_fill_word, call_word_line, keyword_line}
 use Rattle.event_script.specs.declared.fault.Kind.{Kind}
 use Rattle.event_script.specs.declared.fault.Kind.TheVariants as kind
+use Rattle.event_script.specs.declared.script.Move.{Move}
+use Rattle.event_script.specs.declared.script.Move.TheVariants.{Migrate, Precopy}
+use Rattle.event_script.specs.declared.words.CallWord.{CallWord}
 use Rattle.event_script.specs.declared.words.Keyword.{Keyword}
 use Rattle.event_script.specs.declared.words.Keyword.TheVariants as on
 use Rattle.event_script.specs.declared.draft.Draft.{Draft}
-use Rattle.event_script.specs.declared.draft.TheConstants.{MOST_LEGS, MOST_PHASES, MOST_THREADS, MOST_CALLS}
+use Rattle.event_script.specs.declared.draft.TheConstants.{MOST_LEGS, MOST_PHASES, MOST_THREADS, MOST_CALLS, MOST_REQUESTERS}
 use Rattle.event_script.proofs.Steps.{bound, chosen}
 
 pub record Follows (d e : Draft) : Type 0 where
@@ -55,7 +61,7 @@ module _ (d : Draft) where
   unfolding limits_line
   limits fs =
       bound F (ensure (in_description d.stage && is_none d.limits) kind.Order) _ (λ _. bound F (ensure (nat_eq (length fs) 3) kind.Fields) _ (λ _.
-      bound F (number_within 1 (2 ^ 24 - 1) (arg fs 1)) _ (λ stamp. bound F (number_within 1 (2 ^ 40 - 1) (arg fs 2)) _
+      bound F (number_within 1 (most_stamp d.pair) (arg fs 1)) _ (λ stamp. bound F (number_within 1 (2 ^ 40 - 1) (arg fs 2)) _
       (λ place. record { registers = refl; gicr = λ g. g }))))
 
   ids : (fs : List (List ℕ)) → IfOk (ids_line d fs) F
@@ -103,10 +109,50 @@ module _ (d : Draft) where
       bound F (ensure (in_description d.stage && not d.linux) kind.Order) _ (λ _.
       bound F (ensure (nat_eq (length fs) 1) kind.Fields) _ (λ _. record { registers = refl; gicr = λ g. g }))
 
+  track : (fs : List (List ℕ)) → IfOk (track_line d fs) F
+  unfolding track_line
+  track fs =
+      bound F (ensure (in_description d.stage && not d.track) kind.Order) _ (λ _.
+      bound F (ensure (nat_eq (length fs) 1) kind.Fields) _ (λ _. record { registers = refl; gicr = λ g. g }))
+
+  pair : (fs : List (List ℕ)) → IfOk (pair_line d fs) F
+  unfolding pair_line
+  pair fs =
+      bound F (ensure (in_description d.stage && not d.pair) kind.Order) _ (λ _. bound F (ensure (nat_eq (length fs) 1) kind.Fields) _ (λ _.
+      bound F (ensure (allow_pair d.limits) kind.Number) _ (λ _. record { registers = refl; gicr = λ g. g })))
+
+  its_base : (fs : List (List ℕ)) → IfOk (its_base_line d fs) F
+  unfolding its_base_line
+  its_base fs =
+      bound F (ensure (in_description d.stage && is_none d.first.frames) kind.Order) _ (λ _. bound F (ensure (nat_eq (length fs) 2) kind.Fields) _ (λ _.
+      bound F (frames_base (arg fs 1)) _ (λ base. record { registers = refl; gicr = λ g. g })))
+
+  b_base : (fs : List (List ℕ)) → IfOk (b_base_line d fs) F
+  unfolding b_base_line
+  b_base fs =
+      bound F (ensure (in_description d.stage && d.pair && is_none d.second.frames) kind.Order) _ (λ _.
+      bound F (ensure (nat_eq (length fs) 2) kind.Fields) _ (λ _.
+      bound F (frames_base (arg fs 1)) _ (λ base. record { registers = refl; gicr = λ g. g })))
+
+  requester : (n : ℕ) (fs : List (List ℕ)) → IfOk (requester_line d n fs) F
+  unfolding requester_line
+  requester n fs =
+      bound F (ensure (in_description d.stage) kind.Order) _ (λ _. bound F (ensure (nat_eq (length fs) 4) kind.Fields) _ (λ _.
+      bound F (number_within 0 (2 ^ 32 - 1) (arg fs 1)) _ (λ first. bound F (number_within 0 (2 ^ 32 - 1) (arg fs 2)) _ (λ last.
+      bound F (device (arg fs 3)) _ (λ dev. bound F (ensure (nat_lt (length d.requesters) MOST_REQUESTERS) kind.Many) _ (λ _.
+      record { registers = refl; gicr = λ g. g }))))))
+
+  brestore : (fs : List (List ℕ)) → IfOk (brestore_line d fs) F
+  unfolding brestore_line
+  brestore fs =
+      bound F (ensure (in_description d.stage && d.pair && is_none d.second.restore) kind.Order) _ (λ _.
+      bound F (ensure (nat_eq (length fs) 7) kind.Fields) _ (λ _.
+      bound F (register_values fs) _ (λ values. record { registers = refl; gicr = λ g. g })))
+
   restore : (fs : List (List ℕ)) → IfOk (restore_line d fs) F
   unfolding restore_line
   restore fs =
-      bound F (ensure (in_description d.stage && is_none d.restore) kind.Order) _ (λ _. bound F (ensure (nat_eq (length fs) 7) kind.Fields) _ (λ _.
+      bound F (ensure (in_description d.stage && is_none d.first.restore) kind.Order) _ (λ _. bound F (ensure (nat_eq (length fs) 7) kind.Fields) _ (λ _.
       bound F (register_values fs) _ (λ values. record { registers = refl; gicr = λ g. g })))
 
   bytes : (n : ℕ) (fs : List (List ℕ)) → IfOk (bytes_line d n fs) F
@@ -136,11 +182,11 @@ module _ (d : Draft) where
       bound F (ensure (in_phase d.stage || in_thread d.stage) kind.Order) _ (λ _. bound F (ensure (nat_eq (length fs) 1) kind.Fields) _ (λ _.
       bound F (ensure (nat_lt (length (threads_so_far d)) MOST_THREADS) kind.Many) _ (λ _. record { registers = refl; gicr = λ g. g })))
 
-  migrate : (fs : List (List ℕ)) → IfOk (migrate_line d fs) F
-  unfolding migrate_line
-  migrate fs =
-      bound F (ensure (may_go_on d) kind.Order) _ (λ _. bound F (ensure (is_whole d) kind.Missing) _ (λ _. bound F (ensure (nat_eq (length fs) 1) kind.Fields) _
-      (λ _.
+  move : (m : Move) (fs : List (List ℕ)) → IfOk (move_line d m fs) F
+  unfolding move_line
+  move m fs =
+      bound F (ensure (may_go_on d && may_move d.track m) kind.Order) _ (λ _. bound F (ensure (is_whole d) kind.Missing) _ (λ _.
+      bound F (ensure (nat_eq (length fs) 1) kind.Fields) _ (λ _.
       bound F (ensure (nat_lt (length (legs_so_far d)) MOST_LEGS) kind.Many) _ (λ _. record { registers = refl; gicr = λ g. g }))))
 
   end : (fs : List (List ℕ)) → IfOk (end_line d fs) F
@@ -150,19 +196,25 @@ module _ (d : Draft) where
       (λ _.
       record { registers = refl; gicr = λ g. g })))
 
-  call : (read : Result Call Kind) → IfOk (call_line d read) F
+  one_more : (c : Call) → IfOk (with_call d c) F
+  unfolding with_call
+  one_more c = bound F (ensure (nat_lt (length d.calls) MOST_CALLS) kind.Many) _ (λ _. record { registers = refl; gicr = λ g. g })
+
+  call : (w : CallWord) (fs : List (List ℕ)) → IfOk (call_line d w fs) F
   unfolding call_line
-  call read =
-      bound F (ensure (in_thread d.stage) kind.Order) _ (λ _. bound F read _ (λ c.
-      bound F (ensure (nat_lt (length d.calls) MOST_CALLS) kind.Many) _ (λ _. record { registers = refl; gicr = λ g. g })))
+  call w fs = bound F (ensure (in_thread d.stage && may_call d w) kind.Order) _ (λ _. bound F (call_of (desc_so_far d) 0 w fs) _ one_more)
 
-  gicr_call : (read : Result Call Kind) → IfOk (gicr_call_line d read) F
-  unfolding gicr_call_line
-  gicr_call read = bound F (ensure d.gicr kind.Order) _ (λ _. call read)
+  second : (fs : List (List ℕ)) → IfOk (second_line d fs) F
+  unfolding second_line
+  second fs =
+      bound F (ensure (in_thread d.stage && d.pair) kind.Order) _ (λ _. bound F (ensure (nat_lt 1 (length fs)) kind.Fields) _ (λ _.
+      bound F (ok_or (call_word_of (arg fs 1)) kind.Order) _ (λ w. bound F (ensure (is_translators w) kind.Order) _ (λ _.
+      bound F (call_of (desc_so_far d) 1 w (drop 1 fs)) _ one_more))))
 
-  word : (n : ℕ) (fs : List (List ℕ)) → IfOk (word_line d n fs) F
-  unfolding word_line
-  word n fs = chosen {A = Result Draft Kind} (λ r. IfOk r F) (in_description d.stage) _ _ (λ _. word_fill n fs) (λ _. call (word_of fs))
+  pub call_follows : (n : ℕ) (w : CallWord) (fs : List (List ℕ)) → IfOk (call_word_line d n w fs) F
+  unfolding call_word_line
+  call_follows n w fs =
+      chosen {A = Result Draft Kind} (λ r. IfOk r F) (in_description d.stage && is_fill_word w) _ _ (λ _. word_fill n fs) (λ _. call w fs)
 
   if_ok_both : (Q : Draft → Type 0) (r : Result Draft Kind) → IfOk r (λ e. F e × Q e) → IfOk r F
   if_ok_both Q (Ok e) h = h.0
@@ -179,30 +231,23 @@ module _ (d : Draft) where
   line_follows n on.Config fs other = config fs
   line_follows n on.Pending fs other = pending fs
   line_follows n on.Bytes fs other = bytes n fs
-  line_follows n on.Word fs other = word n fs
   line_follows n on.Restore fs other = restore fs
   line_follows n on.Gicr fs other = if_ok_both (λ e. e.gicr ≡ true) (gicr_line d fs) (gicr fs)
   line_follows n on.Rrestore fs other = absurd other
   line_follows n on.Linux fs other = linux fs
+  line_follows n on.Track fs other = track fs
+  line_follows n on.Pair fs other = pair fs
+  line_follows n on.Brestore fs other = brestore fs
+  line_follows n on.ItsBase fs other = its_base fs
+  line_follows n on.BBase fs other = b_base fs
+  line_follows n on.Requester fs other = requester n fs
   line_follows n on.Phase fs other = phase fs
   line_follows n on.Thread fs other = thread fs
-  line_follows n on.Migrate fs other = migrate fs
+  line_follows n on.Migrate fs other = move Migrate fs
+  line_follows n on.Precopy fs other = move Precopy fs
   line_follows n on.End fs other = end fs
-  line_follows n on.Signal fs other = call (signal_of fs)
-  line_follows n on.Take fs other = call (take_of (length d.pending) fs)
-  line_follows n on.Show fs other = call (show_of (length d.pending) fs)
-  line_follows n on.Best fs other = call (best_of (length d.pending) fs)
-  line_follows n on.Claim fs other = call (claim_of (length d.pending) fs)
-  line_follows n on.Poke fs other = call (poke_of fs)
-  line_follows n on.Peek fs other = call (peek_of fs)
-  line_follows n on.Command fs other = call (command_call_of fs)
-  line_follows n on.Read fs other = call (read_of fs)
-  line_follows n on.Write fs other = call (write_of fs)
-  line_follows n on.Rread fs other = gicr_call (rread_of (length d.pending) fs)
-  line_follows n on.Rwrite fs other = gicr_call (rwrite_of (length d.pending) fs)
-  line_follows n on.Step fs other = call (step_of fs)
-  line_follows n on.Save fs other = call (save_of fs)
   line_follows n on.Trace fs other = tt
+  line_follows n on.Second fs other = second fs
 
   pub gicr_follows : (n : ℕ) (fs : List (List ℕ)) → IfOk (keyword_line d n on.Gicr fs) (λ e. F e × (e.gicr ≡ true))
   unfolding keyword_line

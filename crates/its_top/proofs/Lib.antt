@@ -14,4 +14,5 @@ pub mod Once
 pub mod Checks
 pub mod Reports
 pub mod Summaries
+pub mod Explained
 pub mod Causes

@@ -1,8 +1,9 @@
 -- A script with a line `gicr` and no line `rrestore` restores no redistributor with LPIs on.
-use Rattle.std.proofs.Common.{◌≡◌, ◌⊎◌, ℕ, zero, suc, ◌+◌, Bool, true, false, ◌||◌, nat_eq, List, [], ◌∷◌, length, codes, replicate, if◌then◌else◌, ok_or}
-use Rattle.std.proofs.Common.{Result, Ok, Err, IfOk, inl, inr, refl, sym, ap, subst, ◌∙◌, arith}
+use Rattle.std.proofs.Common.{◌≡◌, ◌⊎◌, ℕ, zero, suc, ◌+◌, Bool, true, false, ◌||◌, nat_eq, List, [], ◌∷◌, length, codes, Option, Some, None, replicate}
+use Rattle.std.proofs.Common.{if◌then◌else◌, Result, Ok, Err, IfOk, inl, inr, refl, sym, ap, subst, ◌∙◌, arith}
 use Rattle.std.specs.Prelude.{slice_index}
 use Rattle.std.specs.List.{AllByRecursion, list_any}
+use Rattle.std.specs.Option.{ok_or}
 use Rattle.std.specs.Str.{bytes_eq}
 use Rattle.std.proofs.lemmas.Bool.{both_ways, cases_Bool, eqb-true, or_cases}
 use Rattle.std.proofs.lemmas.Slice.Eq.{bytes_eq-Decides}
@@ -14,67 +15,76 @@ use Rattle.its_plain.specs.declared.desc.LpiTables.{LpiTables}
 use Rattle.its_plain.specs.declared.desc.LpiTables.TheVariants.{Registers}
 use Rattle.event_script.specs.Text.{parts, fields, is_text}
 use Rattle.event_script.specs.Fields.{arg}
-use Rattle.event_script.specs.Words.{keyword_of, outline_keyword_of}
+use Rattle.event_script.specs.Words.{keyword_text, keyword_of, call_text, call_word_of}
 use Rattle.event_script.specs.Outcome.{ensure}
 use Rattle.event_script.specs.Description.{empty, is_ended, no_registers}
-use Rattle.event_script.specs.Body.{keyword_line}
-use Rattle.event_script.specs.Script.{is_skipped, words_line, line, described_tables, tables_of, desc_of, script_from, finished, at_line, ◌then◌, parts_from}
+use Rattle.event_script.specs.Body.{call_word_line, keyword_line}
+use Rattle.event_script.specs.Described.{described_tables, tables_of, desc_of}
+use Rattle.event_script.specs.Script.{is_skipped, other_line, words_line, line, said, script_from, finished, at_line, ◌then◌, parts_from}
 use Rattle.event_script.specs.Script.{script_of}
 use Rattle.event_script.specs.declared.fault.Kind.{Kind}
 use Rattle.event_script.specs.declared.fault.Kind.TheVariants as kind
 use Rattle.event_script.specs.declared.fault.ScriptFault.{ScriptFault}
 use Rattle.event_script.specs.declared.draft.Draft.{Draft}
 use Rattle.event_script.specs.declared.script.Script.{Script}
+use Rattle.event_script.specs.declared.words.CallWord.{CallWord}
 use Rattle.event_script.specs.declared.words.Keyword.{Keyword}
 use Rattle.event_script.specs.declared.words.Keyword.TheVariants as on
+use Rattle.event_script.proofs.Tables.{keyword_has_word}
 use Rattle.event_script.proofs.Steps.{bound, bound_by, ensured, chosen}
 use Rattle.lpi_enabling.specs.Enabling.{RestoresOff}
 use Rattle.its_top.specs.Lines.{begins_with, StartsOff}
-use Rattle.its_top.proofs.Drafts.{Follows, same, IsOther, line_follows, gicr_follows}
+use Rattle.its_top.proofs.Drafts.{Follows, same, IsOther, call_follows, line_follows, gicr_follows}
 
 -- ---- words
 
 -- another word is another keyword
-either : (test : Bool) (k : Keyword) (r : Result Keyword Kind) → IsOther k → IfOk r IsOther → IfOk (if test then Ok k else r) IsOther
-either true k r here rest = here
-either false k r here rest = rest
-
-not_here : (test : Bool) (r : Result Keyword Kind) → test ≡ false → IfOk r IsOther → IfOk (if test then Ok on.Rrestore else r) IsOther
-not_here true r e rest = absurd cc
-not_here false r e rest = rest
-
-outline_other : (word : List ℕ) → bytes_eq word (codes "rrestore") ≡ false → IfOk (outline_keyword_of word) IsOther
-unfolding outline_keyword_of
-outline_other word none =
-    either (bytes_eq word (codes "bytes")) on.Bytes _ tt (either (bytes_eq word (codes "thread")) on.Thread _ tt
-    (either (bytes_eq word (codes "phase")) on.Phase _ tt
-    (either (bytes_eq word (codes "vcpus")) on.Vcpus _ tt (either (bytes_eq word (codes "shards")) on.Shards _ tt
-    (either (bytes_eq word (codes "limits")) on.Limits _ tt
-    (either (bytes_eq word (codes "ids")) on.Ids _ tt (either (bytes_eq word (codes "profile")) on.Profile _ tt
-    (either (bytes_eq word (codes "window")) on.Window _ tt
-    (either (bytes_eq word (codes "config")) on.Config _ tt (either (bytes_eq word (codes "pending")) on.Pending _ tt
-    (either (bytes_eq word (codes "restore")) on.Restore _ tt
-    (either (bytes_eq word (codes "gicr")) on.Gicr _ tt
-    (not_here (bytes_eq word (codes "rrestore")) _ none (either (bytes_eq word (codes "linux")) on.Linux _ tt
-    (either (bytes_eq word (codes "migrate")) on.Migrate _ tt
-    (either (bytes_eq word (codes "end")) on.End _ tt (either (bytes_eq word (codes "trace")) on.Trace _ tt tt)))))))))))))))))
+other_by : (word : List ℕ) (k : Keyword) → bytes_eq word (codes "rrestore") ≡ false → bytes_eq (keyword_text k) word ≡ true → IsOther k
+unfolding keyword_text
+other_by word on.Rrestore none e =
+    let is : codes "rrestore" ≡ word = (bytes_eq-Decides (codes "rrestore") word).0 e in
+    absurd (both_ways (bytes_eq word (codes "rrestore")) none ((bytes_eq-Decides word (codes "rrestore")).1 (sym is)))
+other_by word on.Vcpus none e = tt
+other_by word on.Shards none e = tt
+other_by word on.Limits none e = tt
+other_by word on.Ids none e = tt
+other_by word on.Profile none e = tt
+other_by word on.Window none e = tt
+other_by word on.Config none e = tt
+other_by word on.Pending none e = tt
+other_by word on.Bytes none e = tt
+other_by word on.Restore none e = tt
+other_by word on.Gicr none e = tt
+other_by word on.Linux none e = tt
+other_by word on.Track none e = tt
+other_by word on.Pair none e = tt
+other_by word on.Brestore none e = tt
+other_by word on.ItsBase none e = tt
+other_by word on.BBase none e = tt
+other_by word on.Requester none e = tt
+other_by word on.Phase none e = tt
+other_by word on.Thread none e = tt
+other_by word on.Migrate none e = tt
+other_by word on.Precopy none e = tt
+other_by word on.End none e = tt
+other_by word on.Trace none e = tt
+other_by word on.Second none e = tt
 
 other : (word : List ℕ) → bytes_eq word (codes "rrestore") ≡ false → IfOk (keyword_of word) IsOther
-unfolding keyword_of
-other word none =
-    either (bytes_eq word (codes "signal")) on.Signal _ tt
-    (either (bytes_eq word (codes "take")) on.Take _ tt (either (bytes_eq word (codes "show")) on.Show _ tt
-    (either (bytes_eq word (codes "step")) on.Step _ tt (either (bytes_eq word (codes "command")) on.Command _ tt
-    (either (bytes_eq word (codes "write")) on.Write _ tt
-    (either (bytes_eq word (codes "read")) on.Read _ tt (either (bytes_eq word (codes "poke")) on.Poke _ tt (either (bytes_eq word (codes "peek")) on.Peek _ tt
-    (either (bytes_eq word (codes "word")) on.Word _ tt
-    (either (bytes_eq word (codes "save")) on.Save _ tt (either (bytes_eq word (codes "rread")) on.Rread _ tt
-    (either (bytes_eq word (codes "rwrite")) on.Rwrite _ tt (either (bytes_eq word (codes "best")) on.Best _ tt
-    (either (bytes_eq word (codes "claim")) on.Claim _ tt (outline_other word none)))))))))))))))
+other word none = weaker (keyword_of word) (keyword_has_word word) (λ k e. other_by word k none e)
+  where
+    weaker : (r : Result Keyword Kind) → IfOk r (λ k. bytes_eq (keyword_text k) word ≡ true)
+        → ((k : Keyword) → bytes_eq (keyword_text k) word ≡ true → IsOther k) → IfOk r IsOther
+    weaker (Ok k) h f = f k h
+    weaker (Err e) h f = tt
 
 gicr_keyword : keyword_of (codes "gicr") ≡ Ok on.Gicr
-unfolding keyword_of outline_keyword_of
+unfolding keyword_of keyword_text
 gicr_keyword = refl
+
+gicr_no_call : call_word_of (codes "gicr") ≡ None
+unfolding call_word_of call_text
+gicr_no_call = refl
 
 -- ---- one line
 
@@ -94,12 +104,27 @@ not_skipped [] e = absurd cc
 not_skipped (f ∷ fs) e = both_false (nat_eq (length (f ∷ fs)) 0) (nat_eq (slice_index f 0) 35) (some_fields f fs)
     (ap (λ (word : List ℕ). nat_eq (slice_index word 0) 35) e)
 
-words_programs : (d : Draft) (n : ℕ) (fs : List (List ℕ)) → arg fs 0 ≡ codes "gicr" → IfOk (words_line d n fs) (Programs d)
-unfolding words_line
-words_programs d n fs e =
+by_word : (P : Draft → Type 0) (d : Draft) (n : ℕ) (fs : List (List ℕ)) (o : Option CallWord)
+    → ((w : CallWord) → o ≡ Some w → IfOk (call_word_line d n w fs) P) → (o ≡ None → IfOk (other_line d n fs) P)
+    → IfOk (let r : Result Draft Kind = elim o [ None ↦ other_line d n fs | Some w ↦ call_word_line d n w fs ] in r) P
+by_word P d n fs None call rest = rest refl
+by_word P d n fs (Some w) call rest = call w refl
+
+no_call : {X : Type 0} (o : Option CallWord) (w : CallWord) → o ≡ None → o ≡ Some w → X
+no_call o w none some = let clash : (let r : Option CallWord = None in r) ≡ Some w = sym none ∙ some in absurd cc
+
+other_programs : (d : Draft) (n : ℕ) (fs : List (List ℕ)) → arg fs 0 ≡ codes "gicr" → IfOk (other_line d n fs) (Programs d)
+unfolding other_line
+other_programs d n fs e =
     let is : keyword_of (arg fs 0) ≡ Ok on.Gicr = ap keyword_of e ∙ gicr_keyword in
     bound_by (Programs d) (keyword_of (arg fs 0)) (λ k. k ≡ on.Gicr) _ (subst (λ (r : Result Keyword Kind). IfOk r (λ k. k ≡ on.Gicr)) (sym is) refl)
     (λ k same. subst (λ (x : Keyword). IfOk (keyword_line d n x fs) (Programs d)) (sym same) (gicr_follows d n fs))
+
+words_programs : (d : Draft) (n : ℕ) (fs : List (List ℕ)) → arg fs 0 ≡ codes "gicr" → IfOk (words_line d n fs) (Programs d)
+unfolding words_line
+words_programs d n fs e =
+    let none : call_word_of (arg fs 0) ≡ None = ap call_word_of e ∙ gicr_no_call in
+    by_word (Programs d) d n fs (call_word_of (arg fs 0)) (λ w some. no_call (call_word_of (arg fs 0)) w none some) (λ _. other_programs d n fs e)
 
 line_programs : (d : Draft) (n : ℕ) (text : List ℕ) → begins_with (codes "gicr") text ≡ true → IfOk (line d n text) (Programs d)
 unfolding line
@@ -110,9 +135,14 @@ line_programs d n text e =
     (λ skipped. absurd (both_ways (is_skipped (fields text)) (not_skipped (fields text) word) skipped))
     (λ _. words_programs d n (fields text) word))
 
+other_follows : (d : Draft) (n : ℕ) (fs : List (List ℕ)) → bytes_eq (arg fs 0) (codes "rrestore") ≡ false → IfOk (other_line d n fs) (Follows d)
+unfolding other_line
+other_follows d n fs none = bound_by (Follows d) (keyword_of (arg fs 0)) IsOther _ (other (arg fs 0) none) (λ k is. line_follows d n k fs is)
+
 words_follow : (d : Draft) (n : ℕ) (fs : List (List ℕ)) → bytes_eq (arg fs 0) (codes "rrestore") ≡ false → IfOk (words_line d n fs) (Follows d)
 unfolding words_line
-words_follow d n fs none = bound_by (Follows d) (keyword_of (arg fs 0)) IsOther _ (other (arg fs 0) none) (λ k is. line_follows d n k fs is)
+words_follow d n fs none =
+    by_word (Follows d) d n fs (call_word_of (arg fs 0)) (λ w _. call_follows d n w fs) (λ _. other_follows d n fs none)
 
 line_keeps : (d : Draft) (n : ℕ) (text : List ℕ) → begins_with (codes "rrestore") text ≡ false → IfOk (line d n text) (Follows d)
 unfolding line
@@ -139,11 +169,13 @@ desc_off d g off =
     let P : Desc → Type 0 = λ desc. RestoresOff desc.tables in
     bound P (ok_or d.shards kind.Missing) _ (λ shards. bound_by P (tables_of d) RestoresOff _ (tables_off d d.gicr g off) (λ tables is. is))
 
+said_off : (d : Draft) → d.gicr ≡ true → AreOff d.registers → IfOk (said d) IsOffScript
+unfolding said
+said_off d g off = bound_by IsOffScript (desc_of d) (λ desc. RestoresOff desc.tables) _ (desc_off d g off) (λ desc is. is)
+
 ended_off : (d : Draft) → d.gicr ≡ true → AreOff d.registers → IfOk (script_from d) IsOffScript
 unfolding script_from
-ended_off d g off =
-    bound IsOffScript (ensure (is_ended d.stage) kind.Missing) _ (λ _.
-    bound_by IsOffScript (desc_of d) (λ desc. RestoresOff desc.tables) _ (desc_off d g off) (λ desc is. is))
+ended_off d g off = bound IsOffScript (ensure (is_ended d.stage) kind.Missing) _ (λ _. said_off d g off)
 
 numbered : {A : Type 0} (P : A → Type 0) (n : ℕ) (r : Result A Kind) → IfOk r P → IfOk (at_line n r) P
 numbered P n (Ok x) h = h

@@ -1,5 +1,6 @@
 -- Legs that run one after another, with migrations between.
-use Rattle.std.proofs.Common.{◌≡◌, ℕ, suc, ◌+◌, ◌≤◌, List, [], ◌∷◌, ◌++◌, length, Some, refl, sym, ap, subst, ◌∙◌, append_assoc, inl, inr, arith}
+use Rattle.std.proofs.Common.{◌≡◌, ℕ, suc, ◌+◌, ◌≤◌, Bool, List, [], ◌∷◌, ◌++◌, length, drop, Some, refl, sym, ap, subst, ◌∙◌, append_assoc, inl, inr, arith}
+use Rattle.std.proofs.Math.Seq.{drop-nil}
 use Rattle.std.proofs.lemmas.List.{append-nil}
 use Rattle.its_plain.specs.Plain.{Plain}
 use Rattle.its_plain.specs.History.{after}
@@ -7,11 +8,11 @@ use Rattle.its_plain.specs.Saved.{moved, IsSavable}
 use Rattle.its_plain.specs.Runs.{Phase, Leg, HasFirstCalls, ArePhases, ArePartOfPhases, IsLegRun, IsPartOfLegRun, IsRun, IsPartialRun}
 use Rattle.its_plain.specs.declared.call.Entry.{Entry}
 use Rattle.its_history.specs.Report.{leg_text, legs_from, report_text}
-use Rattle.its_history.specs.declared.trace.End.TheVariants.{Migrated, Done}
+use Rattle.its_history.specs.declared.trace.End.TheVariants.{Done}
 use Rattle.its_history.specs.declared.trace.Leg.{Leg as LegLines}
 use Rattle.script_threads.specs.Legs.{call_count}
 use Rattle.its_top.specs.Legs.{HasPlaces, HaveRun}
-use Rattle.its_history.specs.Reports.{reported, migrated, ended}
+use Rattle.its_history.specs.Reports.{reported, migrated, ended, moved_leg}
 
 pub head_of : {X : Type 0} (x y : X) (xs ys : List X) → x ∷ xs ≡ y ∷ ys → x ≡ y
 head_of x y xs ys e = cc
@@ -39,21 +40,29 @@ ran_more last first (l ∷ legs) [] now leg left h r fits is can =
 ran_more last first (l ∷ legs) (g ∷ hs) now leg left h r fits is can =
     (r.0, r.1, r.2, ran_more last (moved (after first g)) legs hs now leg left h r.3 fits is can)
 
-pub migrated_more : (last : ℕ) (first : Plain) (legs : List Leg) (hs : List (List Entry)) (now : Plain) (leg : Leg) (left : List Leg) (h : List Entry)
-    → HaveRun last first legs hs now (leg ∷ left) → migrated first legs (hs ++ h ∷ []) ≡ migrated first legs hs ++ ended now leg h (Some Migrated) ∷ []
-migrated_more last first [] [] now leg left h r = not_empty leg left r.1
-migrated_more last first [] (g ∷ hs) now leg left h r = absurd r
-migrated_more last first (l ∷ legs) [] now leg left h r =
-    ap (λ (u : Plain). ended u l h (Some Migrated) ∷ []) (sym r.0) ∙ ap (λ (k : Leg). ended now k h (Some Migrated) ∷ []) (sym (head_of leg l left legs r.1))
-migrated_more last first (l ∷ legs) (g ∷ hs) now leg left h r =
-    ap (λ (ls : List LegLines). ended first l g (Some Migrated) ∷ ls) (migrated_more last (moved (after first g)) legs hs now leg left h r.3)
+drop_next : {X : Type 0} (n : ℕ) (xs : List X) → drop n (drop 1 xs) ≡ drop (suc n) xs
+drop_next n [] = drop-nil n
+drop_next n (x ∷ xs) = refl
 
-pub as_many : (last : ℕ) (first : Plain) (legs : List Leg) (hs : List (List Entry)) (now : Plain) (left : List Leg) → HaveRun last first legs hs now left
-    → length (migrated first legs hs) ≡ length hs
-as_many last first [] [] now left r = refl
-as_many last first [] (g ∷ hs) now left r = absurd r
-as_many last first (l ∷ legs) [] now left r = refl
-as_many last first (l ∷ legs) (g ∷ hs) now left r = ap suc (as_many last (moved (after first g)) legs hs now left r.3)
+module _ (last : ℕ) where
+  pub migrated_more : (first : Plain) (legs : List Leg) (copies : List Bool) (hs : List (List Entry)) (now : Plain) (leg : Leg) (left : List Leg)
+      (h : List Entry) → HaveRun last first legs hs now (leg ∷ left)
+      → migrated first legs copies (hs ++ h ∷ []) ≡ migrated first legs copies hs ++ moved_leg now leg (drop (length hs) copies) h ∷ []
+  migrated_more first [] copies [] now leg left h r = not_empty leg left r.1
+  migrated_more first [] copies (g ∷ hs) now leg left h r = absurd r
+  migrated_more first (l ∷ legs) copies [] now leg left h r =
+      ap (λ (u : Plain). moved_leg u l copies h ∷ []) (sym r.0) ∙ ap (λ (k : Leg). moved_leg now k copies h ∷ []) (sym (head_of leg l left legs r.1))
+  migrated_more first (l ∷ legs) copies (g ∷ hs) now leg left h r =
+      let later = moved (after first g) in
+      ap (λ (ls : List LegLines). moved_leg first l copies g ∷ ls) (migrated_more later legs (drop 1 copies) hs now leg left h r.3
+      ∙ ap (λ (cs : List Bool). migrated later legs (drop 1 copies) hs ++ moved_leg now leg cs h ∷ []) (drop_next (length hs) copies))
+
+  pub as_many : (first : Plain) (legs : List Leg) (copies : List Bool) (hs : List (List Entry)) (now : Plain) (left : List Leg)
+      → HaveRun last first legs hs now left → length (migrated first legs copies hs) ≡ length hs
+  as_many first [] copies [] now left r = refl
+  as_many first [] copies (g ∷ hs) now left r = absurd r
+  as_many first (l ∷ legs) copies [] now left r = refl
+  as_many first (l ∷ legs) copies (g ∷ hs) now left r = ap suc (as_many (moved (after first g)) legs (drop 1 copies) hs now left r.3)
 
 -- ---- their text
 
@@ -90,17 +99,18 @@ whole_places last first (l ∷ legs) [] now leg r fits =
     (subst (λ (k : Leg). call_count k ≤ last) (head_of leg l [] legs r.1) fits, subst (λ (ls : List Leg). HasPlaces last ls) (rest_of leg l [] legs r.1) tt)
 whole_places last first (l ∷ legs) (g ∷ hs) now leg r fits = (r.0, whole_places last (moved (after first g)) legs hs now leg r.3 fits)
 
-pub whole_report : (last : ℕ) (first : Plain) (legs : List Leg) (hs : List (List Entry)) (now : Plain) (leg : Leg) (h : List Entry)
-    → HaveRun last first legs hs now (leg ∷ []) → migrated first legs hs ++ ended now leg h (Some Done) ∷ [] ≡ reported first legs (hs ++ h ∷ [])
-whole_report last first [] [] now leg h r = not_empty leg [] r.1
-whole_report last first [] (g ∷ hs) now leg h r = absurd r
-whole_report last first (l ∷ []) [] now leg h r =
+pub whole_report : (last : ℕ) (first : Plain) (legs : List Leg) (copies : List Bool) (hs : List (List Entry)) (now : Plain) (leg : Leg) (h : List Entry)
+    → HaveRun last first legs hs now (leg ∷ [])
+    → migrated first legs copies hs ++ ended now leg h (Some Done) ∷ [] ≡ reported first legs copies (hs ++ h ∷ [])
+whole_report last first [] copies [] now leg h r = not_empty leg [] r.1
+whole_report last first [] copies (g ∷ hs) now leg h r = absurd r
+whole_report last first (l ∷ []) copies [] now leg h r =
     ap (λ (u : Plain). ended u leg h (Some Done) ∷ []) r.0 ∙ ap (λ (k : Leg). ended first k h (Some Done) ∷ []) (head_of leg l [] [] r.1)
-whole_report last first (l ∷ next ∷ legs) [] now leg h r = not_empty next legs (sym (rest_of leg l [] (next ∷ legs) r.1))
-whole_report last first (l ∷ []) (g ∷ []) now leg h r = not_empty leg [] r.3.1
-whole_report last first (l ∷ []) (g ∷ f ∷ hs) now leg h r = absurd r.3
-whole_report last first (l ∷ next ∷ legs) (g ∷ hs) now leg h r =
-    ap (λ (ls : List LegLines). ended first l g (Some Migrated) ∷ ls) (whole_report last (moved (after first g)) (next ∷ legs) hs now leg h r.3)
+whole_report last first (l ∷ next ∷ legs) copies [] now leg h r = not_empty next legs (sym (rest_of leg l [] (next ∷ legs) r.1))
+whole_report last first (l ∷ []) copies (g ∷ []) now leg h r = not_empty leg [] r.3.1
+whole_report last first (l ∷ []) copies (g ∷ f ∷ hs) now leg h r = absurd r.3
+whole_report last first (l ∷ next ∷ legs) copies (g ∷ hs) now leg h r =
+    ap (λ (ls : List LegLines). moved_leg first l copies g ∷ ls) (whole_report last (moved (after first g)) (next ∷ legs) (drop 1 copies) hs now leg h r.3)
 
 -- ---- a partial run
 

@@ -11,20 +11,26 @@ use Rattle.its_plain.specs.Regions.{savable}
 use Rattle.its_plain.specs.Runs.{Leg}
 use Rattle.its_plain.specs.declared.fault.SaveFault.{SaveFault}
 use Rattle.event_script.specs.Limits.{IsWithinLimits, is_leg}
+use Rattle.event_script.specs.declared.script.Move.{Move}
+use Rattle.event_script.specs.declared.script.Move.TheVariants.{Migrate, Precopy}
 use Rattle.event_script.specs.declared.script.Script.{Script}
 use Rattle.its_history.specs.Histories.{seat_of, history_lines}
 use Rattle.its_history.specs.Merged.{open_leg}
 use Rattle.its_history.specs.Report as report
 use Rattle.its_history.specs.Report.{leg_text, end_text, entry_lines, vcpu_lines_from}
 use Rattle.its_history.specs.declared.trace.End.{End}
-use Rattle.its_history.specs.declared.trace.End.TheVariants.{Migrated}
+use Rattle.its_history.specs.declared.trace.End.TheVariants.{Migrated, Copied}
 use Rattle.its_history.specs.declared.trace.EntryLine.{EntryLine}
-use Rattle.its_history.specs.Reports.{pending_lists, thread_counts}
+use Rattle.its_history.specs.Reports.{pending_lists, thread_counts, moved_end}
 use Rattle.its_top.specs.Played.{IsPlayed}
-use Rattle.its_steps.specs.Parts.{Setup, vcpu_count}
+use Rattle.its_steps.specs.Parts.{Setup}
+use Rattle.its_turns.specs.declared.machine.Machine.{Machine}
 use Rattle.its_plain.specs.declared.call.Entry.{Entry}
 use Rattle.script_threads.specs.Asks.{MayRunLeg}
+use Rattle.script_threads.specs.Scripts.{IsOfDesc}
 use Rattle.script_threads.proofs.Scripts.{legs_may_run_so}
+use Rattle.its_top.specs.Moves.{pages_of, move_line}
+use Rattle.trace_check.specs.Verdicts.{copies_for}
 use Rattle.its_top.specs.Refusals.{migration_refusal}
 use Rattle.its_top.specs.Answered.{IsLegSpent, IsLegWhole, IsLegRefused, LegStops, LegEnds, IsSpentEnding}
 use Rattle.its_top.specs.declared.legs.Ending.{Ending}
@@ -33,12 +39,24 @@ use Rattle.its_top.specs.declared.status.Status.TheVariants as status
 
 -- ---- a leg's text, but for its last line
 
-pub text_migrated : (number : ℕ) (lines : List EntryLine) (pending : List (List ℕ))
-    → leg_text number (record { entries = lines; pending = pending; end = None }) ++ codes "migrated\n"
-    ≡ leg_text number (record { entries = lines; pending = pending; end = Some Migrated })
+-- how it ends by the pages that are told
+abbrev pub end_by : Option ℕ → End
+end_by None = Migrated
+end_by (Some pages) = Copied (decimal pages)
+
+pub end_is : (way : Move) (u : Plain) → end_by (pages_of way u) ≡ moved_end (copies_for way) u
+end_is Migrate u = refl
+end_is Precopy u = refl
+
+text_moved : (number : ℕ) (lines : List EntryLine) (pending : List (List ℕ)) (pages : Option ℕ)
+    → leg_text number (record { entries = lines; pending = pending; end = None }) ++ move_line pages
+    ≡ leg_text number (record { entries = lines; pending = pending; end = Some (end_by pages) })
 unfolding leg_text end_text
-text_migrated number lines pending =
+text_moved number lines pending None =
     ap (λ (text : List ℕ). text ++ codes "migrated\n")
+    (append-nil (codes "leg " ++ decimal number ++ codes "\n" ++ entry_lines lines ++ vcpu_lines_from 0 pending))
+text_moved number lines pending (Some pages) =
+    ap (λ (text : List ℕ). text ++ (codes "migrated copied " ++ decimal pages ++ codes "\n"))
     (append-nil (codes "leg " ++ decimal number ++ codes "\n" ++ entry_lines lines ++ vcpu_lines_from 0 pending))
 
 -- the text was added to a report that was the same still
@@ -49,19 +67,19 @@ added_open number lines pending text old held new is same added =
     added ∙ (ap (λ (h : List ℕ). h ++ text) same ∙ ap (λ (t : List ℕ). old ++ t) is)
 
 -- with that line
-pub added_migrated : (number : ℕ) (lines : List EntryLine) (pending : List (List ℕ)) (text old held new : List ℕ)
-    → text ≡ report.leg_text number (record { entries = lines; pending = pending; end = None }) → held ≡ old → new ≡ held ++ (text ++ codes "migrated\n")
-    → new ≡ old ++ report.leg_text number (record { entries = lines; pending = pending; end = Some Migrated })
-added_migrated number lines pending text old held new is same added =
-    added ∙ (ap (λ (h : List ℕ). h ++ (text ++ codes "migrated\n")) same
-    ∙ ap (λ (t : List ℕ). old ++ t) (ap (λ (t : List ℕ). t ++ codes "migrated\n") is ∙ text_migrated number lines pending))
+pub added_moved : (number : ℕ) (lines : List EntryLine) (pending : List (List ℕ)) (text old held new : List ℕ) (pages : Option ℕ)
+    → text ≡ report.leg_text number (record { entries = lines; pending = pending; end = None }) → held ≡ old → new ≡ held ++ (text ++ move_line pages)
+    → new ≡ old ++ report.leg_text number (record { entries = lines; pending = pending; end = Some (end_by pages) })
+added_moved number lines pending text old held new pages is same added =
+    added ∙ (ap (λ (h : List ℕ). h ++ (text ++ move_line pages)) same
+    ∙ ap (λ (t : List ℕ). old ++ t) (ap (λ (t : List ℕ). t ++ move_line pages) is ∙ text_moved number lines pending pages))
 
 -- ---- a leg that was played from its start
 
 module _ (s : Setup) (leg : Leg) (number : ℕ) (lines : List EntryLine) (h : List Entry) (old new : List ℕ) where
-  pub is_whole : (now : Plain) (end : Option End) (pending : List (List ℕ)) → IsPlayed s leg lines false h → now ≡ after s.start h
+  pub is_whole : (now : Plain) (end : Plain → Option End) (pending : List (List ℕ)) → IsPlayed s leg lines false h → now ≡ after s.start h
       → pending ≡ map report.pending_text (pending_lists now)
-      → new ≡ old ++ report.leg_text number (record { entries = lines; pending = pending; end = end })
+      → new ≡ old ++ report.leg_text number (record { entries = lines; pending = pending; end = end now })
       → (w : IsLegWhole s.limits.place_last s.start leg number end old new) × (now ≡ after s.start w.history)
   is_whole now end pending played is texts added =
       let texts_are : pending ≡ map report.pending_text (pending_lists (after s.start h)) = texts ∙ ap (λ u. map report.pending_text (pending_lists u)) is in (
@@ -69,12 +87,18 @@ module _ (s : Setup) (leg : Leg) (number : ℕ) (lines : List EntryLine) (h : Li
           history = h;
           is_run = record { legal = played.legal; calls = played.whole refl };
           places = played.fits refl;
-          added = added ∙ ap (λ (ls : List EntryLine). old ++ report.leg_text number (record { entries = ls; pending = pending; end = end })) played.lines_are
+          added = added
+              ∙ ap (λ (ls : List EntryLine). old ++ report.leg_text number (record { entries = ls; pending = pending; end = end now })) played.lines_are
               ∙ ap (λ (ts : List (List ℕ)). old ++ report.leg_text number (record {
                 entries = history_lines (seat_of (thread_counts leg)) 0 h;
                 pending = ts;
-                end = end;
-              })) texts_are;
+                end = end now;
+              })) texts_are
+              ∙ ap (λ (u : Plain). old ++ report.leg_text number (record {
+                entries = history_lines (seat_of (thread_counts leg)) 0 h;
+                pending = map report.pending_text (pending_lists (after s.start h));
+                end = end u;
+              })) is;
         },
         is,
       )
@@ -100,7 +124,7 @@ spent_ends last before leg number old new line s is h = subst (λ (t : Status). 
 
 -- the state can't be saved
 pub is_refused : (last : ℕ) (before u : Plain) (leg : Leg) (number : ℕ) (old new line : List ℕ) (f : SaveFault)
-    → (w : IsLegWhole last before leg number None old new) → u ≡ after before w.history → savable u ≡ Err f → line ≡ migration_refusal number f
+    → (w : IsLegWhole last before leg number (λ v. None) old new) → u ≡ after before w.history → savable u ≡ Err f → line ≡ migration_refusal number f
     → IsLegRefused last before leg number old new line
 is_refused last before u leg number old new line f w is none line_is =
     record { whole = w; fault = f; refused = sym (ap savable is) ∙ none; line_is = line_is }
@@ -116,13 +140,13 @@ all_at f [] i x lt at e = absurd (omega (arith, lt))
 all_at f (y ∷ xs) zero x lt at e = ap f at ∙ (both (f y) (list_all f xs) e).0
 all_at f (y ∷ xs) (suc i) x lt at e = all_at f xs i x (omega (arith, lt)) at (both (f y) (list_all f xs) e).1
 
--- a leg of a script may be run on a machine with as many virtual processors
-pub leg_may : (script : Script) (i : ℕ) (leg phases : Leg) (s : Setup) → IsWithinLimits script → i < length script.legs → leg ≡ get_or script.legs i leg
-    → phases ≡ leg → vcpu_count s ≡ script.desc.shape.vcpus
-    → (length phases ≤ 256) × AllByRecursion (λ threads. length threads ≤ 64) phases × MayRunLeg s phases
-leg_may script i leg phases s within lt at is same =
-    let one : is_leg script.desc.shape.vcpus leg ≡ true = all_at (is_leg script.desc.shape.vcpus) script.legs i leg lt at within.legs in
-    legs_may_run_so s phases (ap (λ n. is_leg n phases) same ∙ ap (is_leg script.desc.shape.vcpus) is ∙ one)
+-- a leg of a script may be run on a machine of its description
+pub leg_may : (script : Script) (i : ℕ) (leg phases : Leg) (m : Machine) → IsWithinLimits script → i < length script.legs → leg ≡ get_or script.legs i leg
+    → phases ≡ leg → IsOfDesc script.desc m
+    → (length phases ≤ 256) × AllByRecursion (λ threads. length threads ≤ 64) phases × MayRunLeg m phases
+leg_may script i leg phases m within lt at is of =
+    let one : is_leg script.desc leg ≡ true = all_at (is_leg script.desc) script.legs i leg lt at within.legs in
+    legs_may_run_so script.desc m phases of (ap (is_leg script.desc) is ∙ one)
 
 -- ---- what is pending at one more virtual processor
 

@@ -8,26 +8,30 @@ use Rattle.its_plain.specs.Saved.{moved, IsSavable}
 use Rattle.its_plain.specs.Runs.{Leg, IsLegRun, IsPartOfLegRun}
 use Rattle.its_plain.specs.declared.call.Entry.{Entry}
 use Rattle.its_plain.specs.declared.fault.SaveFault.{SaveFault}
+use Rattle.event_script.specs.declared.script.Move.{Move}
 use Rattle.event_script.specs.declared.script.Script.{Script}
 use Rattle.its_history.specs.Merged.{open_leg}
 use Rattle.its_history.specs.Report.{leg_text, report_text}
 use Rattle.its_history.specs.declared.trace.End.{End}
-use Rattle.its_history.specs.declared.trace.End.TheVariants.{Migrated, Done}
+use Rattle.its_history.specs.declared.trace.End.TheVariants.{Done}
 use Rattle.its_history.specs.declared.trace.EntryLine.{EntryLine}
 use Rattle.script_threads.specs.Legs.{call_count}
-use Rattle.its_top.specs.Legs.{HaveRun}
-use Rattle.its_history.specs.Reports.{migrated, ended, cut_leg}
+use Rattle.its_top.specs.Legs.{HaveRun, first_told}
+use Rattle.its_history.specs.Reports.{ended, moved_end, cut_leg}
 use Rattle.its_top.specs.Refusals.{spent_refusal, migration_refusal}
-use Rattle.its_top.specs.Its.{OfScript, IsReport, IsScriptRefusal, IsMachineRefusal, IsMigrationRefusal, IsSpentReport}
+use Rattle.its_top.specs.Its.{OfScript, IsReport, IsScriptRefusal, IsMachineRefusal, IsMigrationRefusal, IsSpentReport, IsMigrationLine, IsSpentLine}
+use Rattle.its_words.specs.Help.{help_text}
 use Rattle.its_top.specs.declared.command.Answer.{Answer}
-use Rattle.its_top.specs.declared.command.Answer.TheVariants.{Answered, Refused}
-use Rattle.its_steps.specs.Parts.{Setup, vcpu_count}
+use Rattle.its_top.specs.declared.command.Answer.TheVariants.{Answered, Helped, Refused}
+use Rattle.its_steps.specs.Parts.{Setup}
 use Rattle.its_turns.specs.Machines.{setup}
+use Rattle.its_turns.specs.declared.machine.Machine.{Machine}
+use Rattle.trace_check.specs.Verdicts.{copies_for}
 use Rattle.its_top.specs.Played.{IsFresh}
 use Rattle.its_top.specs.declared.legs.Ending.{Ending}
 use Rattle.its_top.specs.declared.legs.Goes.{Goes}
 use Rattle.its_top.specs.declared.legs.Goes.TheVariants.{On, Ends}
-use Rattle.its_top.specs.declared.legs.Shared.{Shared}
+use Rattle.its_top.specs.declared.moves.Shared.{Shared}
 use Rattle.its_top.specs.declared.status.Status.{Status}
 use Rattle.its_top.specs.declared.status.Status.TheVariants as status
 
@@ -42,29 +46,29 @@ pub record IsLegSpent (last : ℕ) (before : Plain) (leg : Leg) (number : ℕ) (
   pub added : new ≡ old ++ leg_text number (cut_leg leg history)
   pub line_is : line ≡ spent_refusal number
 
--- all its calls were made
-pub record IsLegWhole (last : ℕ) (before : Plain) (leg : Leg) (number : ℕ) (end : Option End) (old new : List ℕ) : Type 0 where
+-- all its calls were made; the state after it says how it ended, if it is told
+pub record IsLegWhole (last : ℕ) (before : Plain) (leg : Leg) (number : ℕ) (end : Plain → Option End) (old new : List ℕ) : Type 0 where
   pub history : List Entry
   pub is_run : IsLegRun before leg history
   pub places : call_count leg ≤ last
-  pub added : new ≡ old ++ leg_text number (ended before leg history end)
+  pub added : new ≡ old ++ leg_text number (ended before leg history (end (after before history)))
 
--- and the machine was migrated
-pub record IsLegMigrated (last : ℕ) (before now : Plain) (leg : Leg) (number : ℕ) (old new : List ℕ) : Type 0 where
-  pub whole : IsLegWhole last before leg number (Some Migrated) old new
+-- and the machine was left for one that goes on
+pub record IsLegMoved (way : Move) (last : ℕ) (before now : Plain) (leg : Leg) (number : ℕ) (old new : List ℕ) : Type 0 where
+  pub whole : IsLegWhole last before leg number (λ u. Some (moved_end (copies_for way) u)) old new
   pub can : IsSavable (after before whole.history)
   pub now_is : now ≡ moved (after before whole.history)
 
 -- and the state after it can't be saved
 pub record IsLegRefused (last : ℕ) (before : Plain) (leg : Leg) (number : ℕ) (old new line : List ℕ) : Type 0 where
-  pub whole : IsLegWhole last before leg number None old new
+  pub whole : IsLegWhole last before leg number (λ u. None) old new
   pub fault : SaveFault
   pub refused : savable (after before whole.history) ≡ Err fault
   pub line_is : line ≡ migration_refusal number fault
 
 -- it was the last
 pub record IsLegDone (last : ℕ) (before : Plain) (leg : Leg) (number : ℕ) (old new line : List ℕ) : Type 0 where
-  pub whole : IsLegWhole last before leg number (Some Done) old new
+  pub whole : IsLegWhole last before leg number (λ u. Some Done) old new
   pub line_is : line ≡ []
 
 abbrev pub LegStops : ℕ → Plain → Leg → ℕ → List ℕ → List ℕ → Status → List ℕ → Type 0
@@ -73,15 +77,16 @@ LegStops last before leg number old new status.Spent line = IsLegSpent last befo
 LegStops last before leg number old new _ line = ⊥
 
 -- the machine that the next leg starts with
-pub record GoesOnWith (s : Setup) (next : Shared) : Type 0 where
+pub record GoesOnWith (m : Machine) (next : Shared) : Type 0 where
   pub fresh : IsFresh next.machine next.root
-  pub limits : (setup next.machine).limits ≡ s.limits
-  pub vcpus : vcpu_count (setup next.machine) ≡ vcpu_count s
+  pub limits : (setup next.machine).limits ≡ (setup m).limits
+  pub desc : next.machine.desc ≡ m.desc
 
 -- what comes of one that isn't the last, on a machine that was made so: the run goes on, or it ends here
-abbrev pub LegGoes : Setup → Leg → ℕ → List ℕ → List ℕ → Goes → Type 0
-LegGoes s leg number old new (On next) = GoesOnWith s next × IsLegMigrated s.limits.place_last s.start (setup next.machine).start leg number old new
-LegGoes s leg number old new (Ends e) = LegStops s.limits.place_last s.start leg number old new e.status (string_bytes e.line)
+abbrev pub LegGoes : Machine → Leg → ℕ → Move → List ℕ → List ℕ → Goes → Type 0
+LegGoes m leg number way old new (On next) = GoesOnWith m next
+    × IsLegMoved way (setup m).limits.place_last (setup m).start (setup next.machine).start leg number old new
+LegGoes m leg number way old new (Ends e) = LegStops (setup m).limits.place_last (setup m).start leg number old new e.status (string_bytes e.line)
 
 -- what comes of the last
 abbrev pub LegEnds : ℕ → Plain → Leg → ℕ → List ℕ → List ℕ → Status → List ℕ → Type 0
@@ -107,14 +112,14 @@ RunEnds script first status.MigrationRefused text = IsMigrationRefusal script fi
 RunEnds script first status.Spent text = IsSpentReport script first text
 RunEnds script first _ text = ⊥
 
--- the reports of first legs that were migrated
+-- the reports of first legs, after each of which another machine went on
 pub record IsSoFar (script : Script) (first : Plain) (report : List ℕ) : Type 0 where
   pub histories : List (List Entry)
   pub now : Plain
   pub leg : Leg
   pub later : List Leg
   pub earlier : HaveRun script.desc.limits.place_last first script.legs histories now (leg ∷ later)
-  pub same : report ≡ report_text (migrated first script.legs histories)
+  pub same : report ≡ report_text (first_told script first histories)
 
 -- ---- some bytes
 
@@ -125,6 +130,14 @@ InputCauses input status.MachineRefused text = IsMachineRefusal input text
 InputCauses input status.MigrationRefused text = OfScript IsMigrationRefusal input text
 InputCauses input status.Spent text = OfScript IsSpentReport input text
 InputCauses input _ text = ⊥
+
+-- what stands after the report is all of a refusal that has none before it, or the one line of one that has
+abbrev pub IsLastLine : Status → List ℕ → List ℕ → Type 0
+IsLastLine status.ScriptRefused report line = report ≡ []
+IsLastLine status.MachineRefused report line = report ≡ []
+IsLastLine status.MigrationRefused report line = IsMigrationLine line
+IsLastLine status.Spent report line = IsSpentLine line
+IsLastLine _ report line = Unit {0}
 
 -- memory ran out before a script's run, or in a leg
 abbrev pub StopsShort : List ℕ → List ℕ → Type 0
@@ -143,9 +156,11 @@ refusal_text _ = []
 -- a report and then the answer's line are caused so
 abbrev pub AnswerIsCaused : (Status → List ℕ → Type 0) → List ℕ → Answer → Type 0
 AnswerIsCaused causes report (Answered e) = causes e.status (report ++ string_bytes e.line)
+AnswerIsCaused causes report Helped = causes status.Ok (report ++ help_text)
 AnswerIsCaused causes report (Refused s) = causes s (report ++ refusal_text s)
 
 -- the command may end well
 abbrev pub MayEndWell : Answer → Type 0
 MayEndWell (Answered e) = Unit {0}
+MayEndWell Helped = Unit {0}
 MayEndWell (Refused s) = s ≡ status.Ok

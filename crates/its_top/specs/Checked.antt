@@ -1,5 +1,5 @@
 -- What `check` says of a script and a report.
-use Rattle.std.specs.Prelude.{◌≡◌, ◌≢◌, ℕ, ◌<◌, List, [], length, codes, Option, Result, Ok, Err, IfSome}
+use Rattle.std.specs.Prelude.{◌≡◌, ◌≢◌, ℕ, ◌<◌, List, length, codes, Option, Result, Ok, Err, IfSome}
 use Rattle.its_plain.specs.Plain.{Plain}
 use Rattle.its_plain.specs.Described.{IsFirstState, IsRefused}
 use Rattle.its_plain.specs.Runs.{IsRun}
@@ -11,11 +11,12 @@ use Rattle.event_script.specs.declared.fault.ScriptFault.{ScriptFault}
 use Rattle.event_script.specs.declared.script.Script.{Script}
 use Rattle.its_history.specs.Reading.{trace_of}
 use Rattle.its_history.specs.Report.{report_text}
-use Rattle.its_history.specs.Reports.{reported}
 use Rattle.its_history.specs.declared.trace.Leg.{Leg as LegLines}
 use Rattle.trace_check.specs.Differences.{IsDifference}
 use Rattle.trace_check.specs.Verdicts.{IsReportOfRun}
 use Rattle.trace_check.specs.declared.verdict.Difference.{Difference}
+use Rattle.trace_check.specs.Verdicts.{copies_of}
+use Rattle.its_top.specs.Legs.{all_told}
 use Rattle.its_top.specs.Refusals.{script_refusal, machine_refusal, trace_refusal, difference_text}
 use Rattle.its_top.specs.Streams.{WasRead}
 use Rattle.its_top.specs.declared.status.Status.{Status}
@@ -23,31 +24,31 @@ use Rattle.its_top.specs.declared.status.Status.TheVariants as status
 
 -- the report of a run of the script, or its first line that hasn't the shape of one
 abbrev pub read_report : Script → List ℕ → Result (List LegLines) ℕ
-read_report script report = trace_of (length script.legs) script.desc.shape.vcpus report
+read_report script report = trace_of (length script.legs) (copies_of script.moves) script.desc.shape.vcpus report
 
 -- ---- a report
 
 -- no run of the script has a report of these bytes
 abbrev pub IsOfNoRun : Script → Plain → List ℕ → Type 0
 IsOfNoRun script first report = (histories : List (List Entry)) → IsRun first script.legs histories
-    → report ≢ report_text (reported first script.legs histories)
+    → report ≢ report_text (all_told script first histories)
 
 -- it is that of a run: it reads as the legs of one, and has just the bytes that they print
 pub record IsAgreement (script : Script) (first : Plain) (report text : List ℕ) : Type 0 where
   pub histories : List (List Entry)
   pub is_run : IsRun first script.legs histories
-  pub read : read_report script report ≡ Ok (reported first script.legs histories)
-  pub same : report ≡ report_text (reported first script.legs histories)
+  pub read : read_report script report ≡ Ok (all_told script first histories)
+  pub same : report ≡ report_text (all_told script first histories)
   pub text_is : text ≡ codes "agrees\n"
 
 -- it is that of no run, but has the shape of one; this is its first line that isn't right
 pub record IsDiffering (script : Script) (first : Plain) (report text : List ℕ) : Type 0 where
   pub told : List LegLines
   pub read : read_report script report ≡ Ok told
-  pub none : ¬ IsReportOfRun first script.legs told
+  pub none : ¬ IsReportOfRun first script.legs (copies_of script.moves) told
   pub no_run : IsOfNoRun script first report
   pub difference : Difference
-  pub differs : IsDifference first script.legs told difference
+  pub differs : IsDifference first script.legs (copies_of script.moves) told difference
   pub text_is : text ≡ difference_text difference
 
 -- it is that of no run, and hasn't the shape of one; this is its first line that is at fault
@@ -89,7 +90,7 @@ pub record IsNoMachine (input text : List ℕ) : Type 0 where
   pub fault : DescFault
   pub read : check_of input ≡ Ok (script, lines)
   pub refused : IsRefused script.desc fault
-  pub same : text ≡ machine_refusal script.fill_lines [] fault
+  pub same : text ≡ machine_refusal script.fill_lines script.requester_lines fault
 
 -- what is said to bytes that were read
 abbrev pub CheckSays : List ℕ → Status → List ℕ → Type 0

@@ -5,9 +5,21 @@ use Rattle.its_plain.specs.History.{after}
 use Rattle.its_plain.specs.Saved.{moved, IsSavable}
 use Rattle.its_plain.specs.Runs.{Leg, IsLegRun}
 use Rattle.its_plain.specs.declared.call.Entry.{Entry}
+use Rattle.event_script.specs.declared.script.Script.{Script}
+use Rattle.its_history.specs.Reports.{reported, migrated}
+use Rattle.its_history.specs.declared.trace.Leg.{Leg as LegLines}
 use Rattle.script_threads.specs.Legs.{call_count}
+use Rattle.trace_check.specs.Verdicts.{copies_of}
 use Rattle.its_top.specs.declared.status.Status.{Status}
 use Rattle.its_top.specs.declared.status.Status.TheVariants as status
+
+-- what a report tells of all legs of a run
+abbrev pub all_told : Script → Plain → List (List Entry) → List LegLines
+all_told script first histories = reported first script.legs (copies_of script.moves) histories
+
+-- and of the first ones, after each of which another machine went on
+abbrev pub first_told : Script → Plain → List (List Entry) → List LegLines
+first_told script first histories = migrated first script.legs (copies_of script.moves) histories
 
 -- no leg has more calls than there are places
 abbrev pub HasPlaces : ℕ → List Leg → Type 0

@@ -1,6 +1,7 @@
 pub mod Streams
 pub mod Lines
 pub mod Legs
+pub mod Moves
 pub mod Played
 pub mod Refusals
 pub mod Checked

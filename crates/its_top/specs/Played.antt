@@ -7,15 +7,16 @@ use Rattle.its_history.specs.Histories.{seat_of, history_lines}
 use Rattle.its_history.specs.declared.trace.EntryLine.{EntryLine}
 use Rattle.event_script.specs.Limits.{IsWithinLimits}
 use Rattle.event_script.specs.declared.script.Script.{Script}
-use Rattle.its_steps.specs.Parts.{Setup, vcpu_count}
+use Rattle.its_steps.specs.Parts.{Setup}
 use Rattle.its_steps.specs.World.{first_view}
 use Rattle.its_turns.specs.Machines.{setup, view, IsOf}
 use Rattle.its_turns.specs.Told.{IsLone}
 use Rattle.its_turns.specs.declared.machine.Machine.{Machine}
 use Rattle.its_turns.specs.declared.machine.Pass.{Pass}
 use Rattle.script_threads.specs.Legs.{call_count}
+use Rattle.script_threads.specs.Scripts.{IsOfDesc}
 use Rattle.its_history.specs.Reports.{thread_counts}
-use Rattle.its_top.specs.declared.legs.Shared.{Shared}
+use Rattle.its_top.specs.declared.moves.Shared.{Shared}
 
 -- a machine with its root, and no call was made
 pub record IsFresh (m : Machine) (r : Pass) : Type 0 where
@@ -27,7 +28,7 @@ pub record IsReady (script : Script) (first : Shared) : Type 0 where
   pub within : IsWithinLimits script
   pub fresh : IsFresh first.machine first.root
   pub limits : (setup first.machine).limits ≡ script.desc.limits
-  pub vcpus : vcpu_count (setup first.machine) ≡ script.desc.shape.vcpus
+  pub desc : IsOfDesc script.desc first.machine
 
 -- no pass but the root is out, and that holds nothing
 pub record IsAtRest (m : Machine) (r : Pass) : Type 0 where

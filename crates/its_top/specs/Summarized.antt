@@ -15,7 +15,7 @@ use Rattle.script_gen.specs.Laws.{IsAsked}
 use Rattle.script_gen.specs.Summary.{counts_of, summary}
 use Rattle.script_gen.specs.declared.counts.Counts.{Counts}
 use Rattle.its_top.specs.Played.{IsFresh}
-use Rattle.its_top.specs.declared.legs.Shared.{Shared}
+use Rattle.its_top.specs.declared.moves.Shared.{Shared}
 use Rattle.its_top.specs.declared.status.Status.{Status}
 use Rattle.its_top.specs.declared.status.Status.TheVariants as status
 

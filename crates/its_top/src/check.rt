@@ -6,6 +6,7 @@ ghost use Rattle.its_plain.specs.Described.{IsFirstState};
 ghost use Rattle.its_top.specs.Checked.{CheckSays, ReportCauses};
 
 use crate::legs::Ending;
+use crate::moves::copies;
 use crate::refusals::{difference_text, machine_refusal, script_refusal, trace_refusal};
 use crate::status::Status;
 use event_script::{ParseError, Script, parse_check};
@@ -32,7 +33,7 @@ pub fn say_check(alloc: Global, input: &[u8]) -> Result<Ending, AllocError>
         Ok(machine) => machine,
         Err(MakeError::NoMemory) => return Err(AllocError),
         Err(MakeError::Fault(fault)) => {
-            let line = machine_refusal(alloc, input.script.fill_lines.as_slice(), &[], fault)?;
+            let line = machine_refusal(alloc, &input.script, fault)?;
             let status = Status::MachineRefused;
             return Ok(Ending { status, line });
         }
@@ -54,7 +55,10 @@ fn check_report(
         ReportCauses script.now machine report.now e.status (string_bytes e.line)) }
 {
     let legs = script.legs.as_slice();
-    let trace = match parse_trace(alloc, report, legs.len(), script.desc.shape.vcpus) {
+    let moves = script.moves.as_slice();
+    let copied = copies(alloc, moves)?;
+    let vcpus = script.desc.shape.vcpus;
+    let trace = match parse_trace(alloc, report, legs.len(), copied.as_slice(), vcpus) {
         Ok(trace) => trace,
         Err(TraceError::NoMemory) => return Err(AllocError),
         Err(TraceError::BadLine(number)) => {
@@ -64,7 +68,7 @@ fn check_report(
         }
     };
     read_reports_print();
-    match check(alloc, machine, legs, &trace)? {
+    match check(alloc, machine, legs, moves, &trace)? {
         Verdict::Agrees => {
             let line = String::from_str(alloc, "agrees\n")?;
             let status = Status::Ok;

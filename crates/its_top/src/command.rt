@@ -4,13 +4,14 @@ ghost use Rattle.std.specs.String.{string_bytes};
 ghost use Rattle.its_io.specs.Bytes.{Appends};
 ghost use Rattle.its_io.specs.Count.{Rose};
 ghost use Rattle.its_top.specs.Checked.{CheckCauses};
-ghost use Rattle.its_top.specs.Its.{Causes, RunCauses, Reads, IsDecided};
+ghost use Rattle.its_top.specs.Its.{Causes, RunCauses, ExplainCauses, Reads, IsDecided};
 ghost use Rattle.its_top.specs.Streams.{IsAtEnd};
 ghost use Rattle.its_top.specs.Summarized.{GenCauses};
 ghost use Rattle.its_top.specs.Answered.{AnswerIsCaused, MayEndWell, refusal_text};
 ghost use Rattle.script_gen.specs.Laws.{IsAsked};
 
 use crate::check::say_check;
+use crate::explain::explain;
 use crate::legs::Ending;
 use crate::say::say;
 use crate::status::Status;
@@ -18,7 +19,7 @@ use crate::streams::{ReadAllError, read_all, write_both};
 use crate::summarize::summarize;
 use its_io::{Failed, Sink, Source};
 use its_types::Gate;
-use its_words::{Asked, WordsError, parse_words};
+use its_words::{Asked, WordsError, help_text, parse_words};
 use std::alloc::{AllocError, Global};
 use std::sync::Wait;
 use std::thread::Threads;
@@ -31,6 +32,8 @@ const LIMIT: usize = 16_777_216;
 pub enum Answer {
     /// A status with the line after the report, if there is one.
     Answered(Ending),
+    /// What the commands are.
+    Helped,
     /// A status whose line, if it has one, is always the same.
     Refused(Status),
 }
@@ -59,7 +62,7 @@ pub fn its<R: Threads + Wait + Sync, S: Source, K: Sink, G: Gate + Sync>(
         (Rose (S.faults source.old) (S.faults source.new)) status text
         × Appends (K.held sink.old) (K.held sink.new) (take n text)) }
 
-    // Where it ends well, `run` and `check` have read the source to its end.
+    // Where it ends well, `run`, `check` and `explain` have read the source to its end.
     ensures to_the_end { result ≡ Status.Ok →
         Reads (map (λ w. string_bytes w) words.now) (S.left source.old) (S.left source.new) }
 
@@ -69,38 +72,10 @@ pub fn its<R: Threads + Wait + Sync, S: Source, K: Sink, G: Gate + Sync>(
         → ¬ Rose (K.faults sink.old) (K.faults sink.new) →
         IsDecided (map (λ w. string_bytes w) words.now) (S.left source.old) result }
 {
-    command(rt, alloc, words, source, sink, gate)
-}
-
-// The clauses of `its` on what is printed.
-fn command<R: Threads + Wait + Sync, S: Source, K: Sink, G: Gate + Sync>(
-    rt: &R,
-    alloc: Global,
-    words: &[String],
-    source: &mut S,
-    sink: &mut K,
-    gate: &G,
-) -> Status
-    // At each status but a write's fault the sink has its old bytes and then this text.
-    ensures printed { result ≢ Status.WriteFault → (text : List ℕ)
-        × Causes (map (λ w. string_bytes w) words.now) (S.left source.old)
-        (Rose (S.faults source.old) (S.faults source.new)) result text
-        × Appends (K.held sink.old) (K.held sink.new) text }
-
-    // A write's fault comes only where the sink's count rose. The sink has a prefix of a text that
-    // another status allows.
-    ensures write_fault { result ≡ Status.WriteFault → Rose (K.faults sink.old) (K.faults sink.new)
-        × ((status : Status) × (text : List ℕ) × (n : ℕ)
-        × Causes (map (λ w. string_bytes w) words.now) (S.left source.old)
-        (Rose (S.faults source.old) (S.faults source.new)) status text
-        × Appends (K.held sink.old) (K.held sink.new) (take n text)) }
-
-    ensures to_the_end { result ≡ Status.Ok →
-        Reads (map (λ w. string_bytes w) words.now) (S.left source.old) (S.left source.new) }
-{
     let mut report = String::new(alloc);
     match answer_words(rt, alloc, gate, words, source, &mut report) {
         Answer::Answered(ending) => print(sink, &report, ending.line.as_str(), ending.status),
+        Answer::Helped => print(sink, &report, help_text(), Status::Ok),
         Answer::Refused(status) => print(sink, &report, refusal(status), status),
     }
 }
@@ -125,6 +100,8 @@ fn answer_words<R: Threads + Wait + Sync, S: Source, G: Gate + Sync>(
         Ok(Asked::Run) => run_command(rt, alloc, gate, source, report),
         Ok(Asked::Check) => check_command(alloc, source),
         Ok(Asked::Gen { signals, threads }) => gen_command(rt, alloc, gate, signals, threads),
+        Ok(Asked::Explain) => explain_command(rt, alloc, gate, source),
+        Ok(Asked::Help) => Answer::Helped,
         Err(WordsError::Refused) => Answer::Refused(Status::WordsRefused),
         Err(WordsError::NoMemory) => Answer::Refused(Status::Memory),
     }
@@ -172,6 +149,30 @@ fn check_command<S: Source>(alloc: Global, source: &mut S) -> Answer
     };
     match say_check(alloc, &input) {
         Ok(checked) => Answer::Answered(checked),
+        Err(AllocError) => Answer::Refused(Status::Memory),
+    }
+}
+
+// What the source says, explained.
+fn explain_command<R: Threads + Wait + Sync, S: Source, G: Gate + Sync>(
+    rt: &R,
+    alloc: Global,
+    gate: &G,
+    source: &mut S,
+) -> Answer
+    ensures caused { AnswerIsCaused
+        (ExplainCauses (S.left source.old) (Rose (S.faults source.old) (S.faults source.new)))
+        [] result }
+    ensures to_the_end { MayEndWell result → IsAtEnd (S.left source.old) (S.left source.new) }
+{
+    let input = match read_all(alloc, source, LIMIT) {
+        Ok(input) => input,
+        Err(ReadAllError::Memory) => return Answer::Refused(Status::Memory),
+        Err(ReadAllError::Failed) => return Answer::Refused(Status::ReadFault),
+        Err(ReadAllError::TooLong) => return Answer::Refused(Status::TooLong),
+    };
+    match explain(rt, alloc, gate, &input) {
+        Ok(explained) => Answer::Answered(explained),
         Err(AllocError) => Answer::Refused(Status::Memory),
     }
 }

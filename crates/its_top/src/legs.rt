@@ -1,30 +1,29 @@
 //! A run of a script: its legs, with a migration of the machine between each two.
-ghost use Rattle.std.specs.Prelude.{◌≡◌, ◌++◌, ◌≤◌, [], None, IfOk, OnErr, OnOk, codes, length, map};
+ghost use Rattle.std.specs.Prelude.{◌≡◌, ◌++◌, ◌≤◌, [], None, IfOk, OnErr, OnOk, length, map};
 ghost use Rattle.std.specs.List.{AllByRecursion};
 ghost use Rattle.std.specs.String.{string_bytes};
 ghost use Rattle.its_turns.specs.Machines.{setup};
 ghost use Rattle.script_threads.specs.Asks.{MayRunLeg};
 ghost use Rattle.its_history.specs.Report as history;
 ghost use Rattle.its_migrate.specs.Resting.{resting};
-ghost use Rattle.its_top.specs.Answered.{RunEnds, IsSoFar, LegGoes, LegIsLast, IsSpentEnding};
+ghost use Rattle.its_top.specs.Answered.{RunEnds, IsSoFar, LegGoes, LegIsLast, IsLastLine};
+ghost use Rattle.its_top.specs.Answered.{IsSpentEnding};
+ghost use Rattle.its_top.specs.Moves.{move_line};
 ghost use Rattle.its_top.specs.Played.{IsFresh, IsAtRest, IsReady};
 ghost use Rattle.its_history.specs.Reports as spec;
 
+use crate::moves::{LINE, Left, Shared, leave, push_line};
 use crate::play::play_leg;
 use crate::refusals::{migration_refusal, spent_refusal};
 use crate::status::Status;
-use event_script::{Phase, Script};
+use event_script::{Move, Phase, Script};
 use its_history::{End, EntryLine, Leg, Text, leg_text, pending_text};
-use its_migrate::{migrate, pending};
-use its_plain::SaveError;
+use its_migrate::pending;
 use its_turns::{Machine, Root};
 use its_types::{Gate, Listed};
 use std::alloc::{AllocError, Global};
 use std::sync::Wait;
 use std::thread::Threads;
-
-/// The last line of a leg after which the machine was migrated.
-const MIGRATED: &str = "migrated\n";
 
 /// How a run ended: its status, and the line after the report, which is a refusal's or has no
 /// bytes.
@@ -36,19 +35,10 @@ pub struct Ending {
     pub line: String,
 }
 
-/// A machine that the threads of a leg share, with its root.
-#[derive(Drop)]
-pub struct Shared {
-    /// What the threads share.
-    pub machine: Machine,
-    /// The pass that each thread's is split off.
-    pub root: Root,
-}
-
 /// What came of a leg that isn't the last: the machine goes on, or the run ends.
 #[derive(Drop)]
 enum Goes {
-    /// With the machine as it was migrated.
+    /// With the machine that goes on.
     On(Shared),
     /// No later leg runs.
     Ends(Ending),
@@ -69,15 +59,19 @@ pub fn run<R: Threads + Wait + Sync, G: Gate + Sync>(
     ensures ok { IfOk result (λ e.
         RunEnds script.now (setup first.machine).start e.status
         (string_bytes report.new ++ string_bytes e.line)) }
+    ensures line { IfOk result (λ e.
+        IsLastLine e.status (string_bytes report.new) (string_bytes e.line)) }
     ensures err { OnErr result
         (IsSoFar script.now (setup first.machine).start (string_bytes report.new)) }
 {
     let legs = script.legs.as_slice();
+    let moves = script.moves.as_slice();
     let end = legs.len() - 1;
     let mut number = 1;
     let mut now = first;
     for leg in &legs[..end] {
-        match run_leg(rt, alloc, gate, now, report, leg.as_slice(), number)? {
+        let way = moves[number as usize - 1];
+        match run_leg(rt, alloc, gate, now, report, leg.as_slice(), number, way)? {
             Goes::On(next) => now = next,
             Goes::Ends(ending) => return Ok(ending),
         }
@@ -88,8 +82,8 @@ pub fn run<R: Threads + Wait + Sync, G: Gate + Sync>(
     Ok(ending)
 }
 
-/// Runs a leg and migrates the machine, or tells why the run ends here. Where memory runs out, the
-/// report is as it was.
+/// Runs a leg and leaves the machine for the next one, or tells why the run ends here. Where
+/// memory runs out, the report is as it was.
 fn run_leg<R: Threads + Wait + Sync, G: Gate + Sync>(
     rt: &R,
     alloc: Global,
@@ -98,13 +92,14 @@ fn run_leg<R: Threads + Wait + Sync, G: Gate + Sync>(
     report: &mut String,
     leg: &[Phase],
     number: u64,
+    way: Move,
 ) -> Result<Goes, AllocError>
     requires fresh { IsFresh now.machine now.root }
     requires phases { length leg.now ≤ 256 }
     requires threads { AllByRecursion (λ threads. length threads ≤ 64) leg.now }
-    requires may { MayRunLeg (setup now.machine) leg.now }
+    requires may { MayRunLeg now.machine leg.now }
     ensures ok { IfOk result (λ g.
-        LegGoes (setup now.machine) leg.now number (string_bytes report.old)
+        LegGoes now.machine leg.now number way (string_bytes report.old)
         (string_bytes report.new) g) }
     ensures err { OnErr result (string_bytes report.new ≡ string_bytes report.old) }
 {
@@ -116,18 +111,17 @@ fn run_leg<R: Threads + Wait + Sync, G: Gate + Sync>(
     }
     let texts = pending_texts(alloc, &machine, &mut root)?;
     let text = open_text(alloc, report, number, played.lines, texts)?;
-    match migrate(alloc, machine, root) {
-        Ok((machine, root)) => {
-            add_migrated(report, text)?;
-            Ok(Goes::On(Shared { machine, root }))
+    match leave(alloc, machine, root, way)? {
+        Left::On(next, pages) => {
+            add_moved(report, text, pages)?;
+            Ok(Goes::On(next))
         }
-        Err((_, _, SaveError::Fault(fault))) => {
+        Left::Refused(fault) => {
             let line = migration_refusal(alloc, number, fault)?;
             add_text(report, text)?;
             let status = Status::MigrationRefused;
             Ok(Goes::Ends(Ending { status, line }))
         }
-        Err((_, _, SaveError::NoMemory)) => Err(AllocError),
     }
 }
 
@@ -144,7 +138,7 @@ fn run_last_leg<R: Threads + Wait + Sync, G: Gate + Sync>(
     requires fresh { IsFresh now.machine now.root }
     requires phases { length leg.now ≤ 256 }
     requires threads { AllByRecursion (λ threads. length threads ≤ 64) leg.now }
-    requires may { MayRunLeg (setup now.machine) leg.now }
+    requires may { MayRunLeg now.machine leg.now }
     ensures ok { IfOk result (λ e.
         LegIsLast (setup now.machine) leg.now number (string_bytes report.old)
         (string_bytes report.new) e) }
@@ -184,7 +178,7 @@ fn end_spent(
 }
 
 /// The text of a leg but for its last line. It has room for that line, and the report for both, so
-/// that neither is lost once the machine is migrated.
+/// that neither is lost once the machine is left.
 fn open_text(
     alloc: Global,
     report: &mut String,
@@ -203,20 +197,20 @@ fn open_text(
         end: None,
     };
     let mut text = leg_text(alloc, number, &leg)?;
-    text.reserve(MIGRATED.len())?;
+    text.reserve(LINE)?;
     if !report.is_empty() {
         report.reserve(text.capacity())?;
     }
     Ok(text)
 }
 
-/// Adds the text of a leg after which the machine was migrated.
-fn add_migrated(report: &mut String, mut text: String) -> Result<(), AllocError>
+/// Adds the text of a leg after which the machine was left for another.
+fn add_moved(report: &mut String, mut text: String, pages: Option<u64>) -> Result<(), AllocError>
     ensures ok { OnOk result (string_bytes report.new
-        ≡ string_bytes report.old ++ (string_bytes text ++ codes "migrated\n")) }
+        ≡ string_bytes report.old ++ (string_bytes text ++ move_line pages)) }
     ensures err { OnErr result (string_bytes report.new ≡ string_bytes report.old) }
 {
-    text.push_str(MIGRATED)?;
+    push_line(&mut text, pages)?;
     add_text(report, text)
 }
 

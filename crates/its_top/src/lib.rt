@@ -4,7 +4,9 @@
 
 mod check;
 mod command;
+mod explain;
 mod legs;
+mod moves;
 mod play;
 mod refusals;
 mod say;

@@ -35,7 +35,7 @@ pub fn play_leg<R: Threads + Wait + Sync, G: Gate + Sync>(
     requires fresh { IsFresh machine.now root.old }
     requires phases { length leg.now ≤ 256 }
     requires threads { AllByRecursion (λ threads. length threads ≤ 64) leg.now }
-    requires may { MayRunLeg (setup machine.now) leg.now }
+    requires may { MayRunLeg machine.now leg.now }
     ensures rests { IfOk result (λ _. IsAtRest machine.now root.new) }
     ensures played { IfOk result (λ p.
         IsPlayed (setup machine.now) leg.now p.lines.items p.spent (view root.new).seen) }

@@ -4,7 +4,7 @@ ghost use Rattle.std.specs.String.{string_bytes};
 ghost use Rattle.its_history.specs.Texts as history;
 ghost use Rattle.its_top.specs.Refusals as spec;
 
-use event_script::{Kind, ScriptFault};
+use event_script::{Kind, Script, ScriptFault};
 use its_history::{its_mark, restore_fault_text, save_fault_text};
 use its_plain::{DescFault, RestoreFault, SaveFault};
 use std::alloc::{AllocError, Global};
@@ -40,19 +40,25 @@ fn kind_name(kind: Kind) -> &'static str
     }
 }
 
-/// Of a script, whose fills and whose requesters stand in these lines.
+/// Of a script, by the lines of its fills and of its requesters.
 #[tactic(auto, unfolding(crate::specs::Refusals::machine_refusal))]
 pub fn machine_refusal(
     alloc: Global,
-    fill_lines: &[u64],
-    requester_lines: &[u64],
+    script: &Script,
     fault: DescFault,
 ) -> Result<String, AllocError>
     ensures { IfOk result (λ text. string_bytes text
-        ≡ spec.machine_refusal fill_lines.now requester_lines.now fault) }
+        ≡ spec.machine_refusal script.now.fill_lines script.now.requester_lines fault) }
 {
     let mut text = String::from_str(alloc, "refused machine ")?;
-    push_cause(alloc, &mut text, fill_lines, requester_lines, fault)?;
+    let fills = script.fill_lines.as_slice();
+    push_cause(
+        alloc,
+        &mut text,
+        fills,
+        script.requester_lines.as_slice(),
+        fault,
+    )?;
     text.push_str("\n")?;
     Ok(text)
 }

@@ -1,3 +1,4 @@
+//! Exit statuses.
 /// How the command ends, as the process's exit status.
 #[derive(Clone, Copy, Debug, PartialEq, Eq)]
 pub enum Status {

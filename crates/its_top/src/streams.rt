@@ -8,15 +8,19 @@ ghost use Rattle.its_top.specs.declared.streams.ReadAllError.TheVariants.{Memory
 
 use its_io::{Failed, Sink, Source};
 use std::alloc::{AllocError, Global};
+use thiserror::Error;
 
 /// Why not all was read.
-#[derive(Clone, Copy, Debug, PartialEq, Eq)]
+#[derive(Clone, Copy, Debug, PartialEq, Eq, Error)]
 pub enum ReadAllError {
     /// The host ran out of memory.
+    #[error("out of memory")]
     Memory,
     /// A read of the source failed.
+    #[error("a read of the source failed")]
     Failed,
     /// The source has more bytes than the limit.
+    #[error("the source has more bytes than the limit")]
     TooLong,
 }
 

@@ -7,13 +7,11 @@ ghost use Rattle.script_gen.specs.Laws.{IsAsked};
 ghost use Rattle.its_top.specs.Played.{IsFresh, IsReady};
 ghost use Rattle.its_top.specs.Summarized as spec;
 
-use crate::legs::Shared;
-use crate::say::share;
+use crate::moves::Shared;
 use event_script::Script;
-use its_migrate::{migrate, pending};
+use its_migrate::{migrate, pending, share};
 use its_plain::{MakeError, SaveError};
 use its_types::{Gate, Intid, Listed};
-use owned_machine::Machine as OwnedMachine;
 use script_gen::{
     Counts, can_migrate, generate, has_room, is_never_refused, lists_tell_counts,
     lists_tell_length, summary_text,
@@ -50,13 +48,11 @@ fn begin(alloc: Global, script: &Script, signals: u32, threads: u32) -> Result<S
     ensures first { IfOk result (λ s. IsFirstState script.now.desc (setup s.machine).start) }
 {
     is_never_refused();
-    let made = match OwnedMachine::new(alloc, &script.desc) {
-        Ok(machine) => machine,
-        Err(MakeError::NoMemory) => return Err(AllocError),
+    match share(alloc, &script.desc) {
+        Ok((machine, root)) => Ok(Shared { machine, root }),
+        Err(MakeError::NoMemory) => Err(AllocError),
         Err(MakeError::Fault(_)) => unreachable!(),
-    };
-    let shared = share(alloc, script, made)?;
-    Ok(shared)
+    }
 }
 
 // Runs the leg of a script that was made, counts its calls, and migrates the machine.

@@ -13,7 +13,7 @@ use Rattle.clap.proofs.OnLiterals.{clap_on_literals}
 use Rattle.its_words.specs.Command.{its_app}
 use Rattle.its_words.specs.Words.{alone, asked_by, asked_in, asked_of, gen_by, gen_of, is_none, without_separator}
 use Rattle.its_words.specs.declared.words.Asked.{Asked}
-use Rattle.its_words.specs.declared.words.Asked.TheVariants.{Run, Check}
+use Rattle.its_words.specs.declared.words.Asked.TheVariants.{Run, Check, Explain, Help}
 use Rattle.its_words.proofs.Bare.{bare, takes_none}
 use Rattle.its_words.proofs.Generated.{gen, takes_two}
 use Rattle.its_words.proofs.WordKinds.{kind_of_word}
@@ -74,6 +74,14 @@ check_parsed : (program : Text) (rest : List Text) → parsed (program ∷ codes
 unfolding clap_on_literals
 check_parsed program rest = goes_in program (codes "check") rest refl refl ∙ bare_parsed (codes "check") Check rest
 
+explain_parsed : (program : Text) (rest : List Text) → parsed (program ∷ codes "explain" ∷ rest) ≡ alone Explain (without_separator rest)
+unfolding clap_on_literals
+explain_parsed program rest = goes_in program (codes "explain") rest refl refl ∙ bare_parsed (codes "explain") Explain rest
+
+help_parsed : (program : Text) (rest : List Text) → parsed (program ∷ codes "help" ∷ rest) ≡ alone Help (without_separator rest)
+unfolding clap_on_literals
+help_parsed program rest = goes_in program (codes "help") rest refl refl ∙ bare_parsed (codes "help") Help rest
+
 gen_parsed : (program : Text) (rest : List Text) → parsed (program ∷ codes "gen" ∷ rest) ≡ gen_of (without_separator rest)
 unfolding clap_on_literals
 gen_parsed program rest =
@@ -106,23 +114,33 @@ other_parsed program name rest other none = faulty (program ∷ name ∷ rest) (
 text_is : (a b : Text) → bytes_eq a b ≡ true → b ≡ a
 text_is a b e = sym ((bytes_eq-Decides a b).0 e)
 
-by_name : (program name : Text) (rest : List Text) (r k g d : Bool) → bytes_eq (codes "run") name ≡ r → bytes_eq (codes "check") name ≡ k
-    → bytes_eq (codes "gen") name ≡ g
-    → bytes_eq name (codes "--") ≡ d → parsed (program ∷ name ∷ rest) ≡ asked_by name (without_separator rest)
-by_name program name rest true k g d er ek eg ed =
-    subst (λ w. parsed (program ∷ w ∷ rest) ≡ asked_by w (without_separator rest)) (sym (text_is _ _ er)) (run_parsed program rest)
-by_name program name rest false true g d er ek eg ed =
-    subst (λ w. parsed (program ∷ w ∷ rest) ≡ asked_by w (without_separator rest)) (sym (text_is _ _ ek)) (check_parsed program rest)
-by_name program name rest false false true d er ek eg ed =
-    subst (λ w. parsed (program ∷ w ∷ rest) ≡ asked_by w (without_separator rest)) (sym (text_is _ _ eg)) (gen_parsed program rest)
-by_name program name rest false false false true er ek eg ed =
-    subst (λ w. parsed (program ∷ w ∷ rest) ≡ asked_by w (without_separator rest)) (sym ((bytes_eq-Decides name (codes "--")).0 ed))
-    (separator_parsed program rest)
-by_name program name rest false false false false er ek eg ed = other_parsed program name rest ed (rw (er, ek, eg) refl) ∙ rw (er, ek, eg) refl
+module _ (program name : Text) (rest : List Text) where
+  abbrev Asks : Text → Type 0
+  Asks w = parsed (program ∷ w ∷ rest) ≡ asked_by w (without_separator rest)
+
+  is_named : (w : Text) → bytes_eq w name ≡ true → Asks w → Asks name
+  is_named w e h = subst Asks (sym (text_is w name e)) h
+
+  no_command : (d : Bool) → bytes_eq name (codes "--") ≡ d → bytes_eq (codes "run") name ≡ false → bytes_eq (codes "check") name ≡ false
+      → bytes_eq (codes "gen") name ≡ false → bytes_eq (codes "explain") name ≡ false → bytes_eq (codes "help") name ≡ false → Asks name
+  no_command true ed er ek eg ex eh = subst Asks (sym ((bytes_eq-Decides name (codes "--")).0 ed)) (separator_parsed program rest)
+  no_command false ed er ek eg ex eh = other_parsed program name rest ed (rw (er, ek, eg, ex, eh) refl) ∙ rw (er, ek, eg, ex, eh) refl
+
+  by_later : (x h : Bool) → bytes_eq (codes "explain") name ≡ x → bytes_eq (codes "help") name ≡ h → bytes_eq (codes "run") name ≡ false
+      → bytes_eq (codes "check") name ≡ false → bytes_eq (codes "gen") name ≡ false → Asks name
+  by_later true h ex eh er ek eg = is_named (codes "explain") ex (explain_parsed program rest)
+  by_later false true ex eh er ek eg = is_named (codes "help") eh (help_parsed program rest)
+  by_later false false ex eh er ek eg = no_command _ refl er ek eg ex eh
+
+  by_name : (r k g : Bool) → bytes_eq (codes "run") name ≡ r → bytes_eq (codes "check") name ≡ k → bytes_eq (codes "gen") name ≡ g → Asks name
+  by_name true k g er ek eg = is_named (codes "run") er (run_parsed program rest)
+  by_name false true g er ek eg = is_named (codes "check") ek (check_parsed program rest)
+  by_name false false true er ek eg = is_named (codes "gen") eg (gen_parsed program rest)
+  by_name false false false er ek eg = by_later _ _ refl refl er ek eg
 
 -- the parser makes of words what they ask for
 pub parsed-asked_of : (words : List Text) → parsed words ≡ asked_of words
 unfolding asked_of clap_on_literals
 parsed-asked_of [] = faulty [] refl
 parsed-asked_of (program ∷ []) = faulty (program ∷ []) refl
-parsed-asked_of (program ∷ name ∷ rest) = by_name program name rest _ _ _ _ refl refl refl refl
+parsed-asked_of (program ∷ name ∷ rest) = by_name program name rest _ _ _ refl refl refl

@@ -10,11 +10,14 @@ needed_rule name = record (new_rule name) { required = true; action = Some Set }
 abbrev pub gen_app : App
 gen_app = with_rule (with_rule (new_app (codes "gen")) (needed_rule (codes "signals"))) (needed_rule (codes "threads"))
 
--- a command has to be there, and no word asks for help
+-- a command has to be there, and no word asks for the parser's own help
 abbrev pub bare_app : App
 bare_app =
     let none = new_app (codes "its") in
     record none { top = record none.top { subcommand_required = true; disable_help_flag = true; disable_help_subcommand = true } }
 
+abbrev pub running_app : App
+running_app = with_subcommand (with_subcommand (with_subcommand bare_app (new_app (codes "run")).top) (new_app (codes "check")).top) gen_app.top
+
 abbrev pub its_app : App
-its_app = with_subcommand (with_subcommand (with_subcommand bare_app (new_app (codes "run")).top) (new_app (codes "check")).top) gen_app.top
+its_app = with_subcommand (with_subcommand running_app (new_app (codes "explain")).top) (new_app (codes "help")).top

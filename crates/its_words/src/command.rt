@@ -2,14 +2,25 @@
 ghost use Rattle.std.specs.Prelude.{◌≡◌, IfOk, codes, false};
 ghost use Rattle.clap.specs.Words.{app_of, rule_of};
 ghost use Rattle.clap.specs.declared.Command.TheViews.{out-Command};
-ghost use Rattle.its_words.specs.Command.{its_app, gen_app, needed_rule};
+ghost use Rattle.its_words.specs.Command.{its_app, running_app, gen_app, needed_rule};
 
 use clap::{Arg, ArgAction, Command};
 use std::alloc::{AllocError, Global};
 
-/// `its`, with a required command and no word for help.
+/// `its`, with a required command and no word for help but the command of that name.
 pub fn its_command<'a>(alloc: Global) -> Result<Command<'a>, AllocError>
     ensures { IfOk result (λ c. app_of c ≡ its_app) }
+{
+    let explain = Command::new(alloc, "explain");
+    let help = Command::new(alloc, "help");
+    running_command(alloc)?
+        .subcommand(explain)?
+        .subcommand(help)
+}
+
+// The same with the commands alone that run or check something.
+fn running_command<'a>(alloc: Global) -> Result<Command<'a>, AllocError>
+    ensures { IfOk result (λ c. app_of c ≡ running_app) }
 {
     let run = Command::new(alloc, "run");
     let check = Command::new(alloc, "check");

@@ -2,8 +2,10 @@
 #![tactic(auto)]
 
 mod command;
+mod help;
 #[cfg(test)]
 mod tests;
 mod words;
 
-pub use words::{Asked, WordsError, parse_words, usage};
+pub use help::help_text;
+pub use words::{Asked, WordsError, parse_words};

@@ -12,6 +12,7 @@ use crate::command::its_command;
 use clap::ArgMatches;
 use clap::error::ErrorKind;
 use std::alloc::{AllocError, Global};
+use thiserror::Error;
 
 /// How many signals each thread may be asked to send.
 const MOST_SIGNALS: u32 = 20_000;
@@ -28,14 +29,20 @@ pub enum Asked {
     Check,
     /// Runs a script of so many threads with so many signals each.
     Gen { signals: u32, threads: u32 },
+    /// Says of a script, or of one with a report, what is wrong with it or what happens.
+    Explain,
+    /// Says what the commands are.
+    Help,
 }
 
 /// Why the words ask for nothing.
-#[derive(Clone, Copy, Debug, PartialEq, Eq)]
+#[derive(Clone, Copy, Debug, PartialEq, Eq, Error)]
 pub enum WordsError {
     /// They are no command.
+    #[error("the words are no command")]
     Refused,
     /// Memory ran out.
+    #[error("out of memory")]
     NoMemory,
 }
 
@@ -99,6 +106,8 @@ fn read(matches: &ArgMatches) -> Option<Asked>
     match name {
         "run" => Some(Asked::Run),
         "check" => Some(Asked::Check),
+        "explain" => Some(Asked::Explain),
+        "help" => Some(Asked::Help),
         _ => generation(matches),
     }
 }
@@ -134,13 +143,4 @@ fn begins_above_zero(text: &str) -> bool
         Some(byte) => *byte > b'0',
         None => false,
     }
-}
-
-/// How the program is used.
-pub fn usage() -> &'static str {
-    "usage: its run      runs a script, and prints its report
-       its check    checks a script followed by `trace` and its report
-       its gen N T  runs a made script: T threads (1 to 63) with N signals each (1 to 20000)
-The script of `run` and `check` comes by standard input. docs/FORMATS.md has the formats.
-"
 }

@@ -8,15 +8,10 @@ use Rattle.its_top.proofs.check.say_check.Goals as goal
 abbrev Fits : Result (Script × List (List ℕ)) ScriptFault → Type 0
 Fits r = IfOk r (λ p. IsWithinLimits p.0)
 
-pub new-requires-clause-counts : goal.new-requires-clause-counts
-new-requires-clause-counts c =
+pub new-requires : goal.new-requires
+new-requires c =
     let fits : IsWithinLimits c.in-Ok.input.script = subst Fits c.in-Ok.ensures (checked_scripts_fit c.args.input.now) in
     fits.description
-
-pub new-requires-clause-single : goal.new-requires-clause-single
-new-requires-clause-single c =
-    let fits : IsWithinLimits c.in-Ok.input.script = subst Fits c.in-Ok.ensures (checked_scripts_fit c.args.input.now) in
-    fits.single
 
 pub check_report-requires-clause-within : goal.check_report-requires-clause-within
 check_report-requires-clause-within c = subst Fits c.in-Ok.ensures (checked_scripts_fit c.args.input.now)

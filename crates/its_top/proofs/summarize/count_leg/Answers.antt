@@ -7,8 +7,8 @@ use Rattle.its_top.proofs.summarize.count_leg.Goals as goal
 pub run_leg-requires-clause-may : goal.run_leg-requires-clause-may
 run_leg-requires-clause-may g c κs met =
     let leg = c.index-as_slice-0.result in
-    (leg_may c.args.script.now 0 leg c.as_slice-leg.result.now (setup c.args.shared.machine) c.requires.made.within c.requires.made.within.some_legs
-    (c.index-as_slice-0.is ∙ ap (λ ls. get_or ls 0 leg) c.as_slice.ensures) c.as_slice-leg.ensures c.requires.ready.vcpus).2
+    (leg_may c.args.script.now 0 leg c.as_slice-leg.result.now c.args.shared.machine c.requires.made.within c.requires.made.within.some_legs
+    (c.index-as_slice-0.is ∙ ap (λ ls. get_or ls 0 leg) c.as_slice.ensures) c.as_slice-leg.ensures c.requires.ready.desc).2
 
 pub unreachable-requires-in-Err-default-default-Fault : goal.unreachable-requires-in-Err-default-default-Fault
 unreachable-requires-in-Err-default-default-Fault g c =

@@ -1,0 +1,28 @@
+-- How a leg ends that another follows.
+use Rattle.std.specs.Prelude.{◌≡◌, ℕ, List, ◌++◌, codes, Option, Some, None, Err}
+use Rattle.std.specs.Fmt.{decimal}
+use Rattle.its_plain.specs.Plain.{Plain}
+use Rattle.its_plain.specs.Regions.{savable}
+use Rattle.its_plain.specs.Saved.{moved_count}
+use Rattle.event_script.specs.declared.script.Move.{Move}
+use Rattle.event_script.specs.declared.script.Move.TheVariants.{Migrate, Precopy}
+use Rattle.its_migrate.specs.Resting.{WentOn, resting}
+use Rattle.its_turns.specs.declared.machine.Machine.{Machine}
+use Rattle.its_turns.specs.declared.machine.Pass.{Pass}
+use Rattle.its_top.specs.declared.moves.Left.{Left}
+use Rattle.its_top.specs.declared.moves.Left.TheVariants as left
+
+-- how many pages are copied before it, of a machine in this state
+abbrev pub pages_of : Move → Plain → Option ℕ
+pages_of Migrate u = None
+pages_of Precopy u = Some (moved_count u)
+
+-- what a report tells of it
+abbrev pub move_line : Option ℕ → List ℕ
+move_line None = codes "migrated\n"
+move_line (Some pages) = codes "migrated copied " ++ decimal pages ++ codes "\n"
+
+-- another machine goes on where this one could be saved, or it can't be
+abbrev pub Leaves : Machine → Pass → Move → Left → Type 0
+Leaves m r way (left.On next pages) = WentOn m r next.machine next.root × (pages ≡ pages_of way (resting m r))
+Leaves m r way (left.Refused fault) = savable (resting m r) ≡ Err fault

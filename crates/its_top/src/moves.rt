@@ -1,0 +1,83 @@
+//! How a leg ends that another follows: the machine is left for another that goes on.
+ghost use Rattle.std.specs.Prelude.{◌≡◌, ◌++◌, [], IfOk, OnOk};
+ghost use Rattle.std.specs.String.{string_bytes};
+ghost use Rattle.its_turns.specs.Machines.{view, IsOf};
+ghost use Rattle.its_turns.specs.Told.{IsLone};
+ghost use Rattle.trace_check.specs.Verdicts.{copies_for, copies_of};
+ghost use Rattle.its_top.specs.Moves.{Leaves, move_line};
+
+use event_script::Move;
+use its_migrate::{Precopy, migrate, precopy};
+use its_plain::{SaveError, SaveFault};
+use its_turns::{Machine, Root};
+use std::alloc::{AllocError, Global};
+use std::fmt::Write;
+
+/// More bytes than the line has that tells it: the longest is of a pre-copy.
+pub const LINE: usize = 48;
+
+/// A machine that the threads of a leg share, with its root.
+#[derive(Drop)]
+pub struct Shared {
+    /// What the threads share.
+    pub machine: Machine,
+    /// The pass that each thread's is split off.
+    pub root: Root,
+}
+
+/// What came of it.
+#[derive(Drop)]
+pub enum Left {
+    /// This machine goes on, and so many pages were copied before, if any were to be.
+    On(Shared, Option<u64>),
+    /// The state can't be saved.
+    Refused(SaveFault),
+}
+
+/// Leaves a machine at rest in the way that the script says.
+pub fn leave(alloc: Global, machine: Machine, root: Root, way: Move) -> Result<Left, AllocError>
+    requires of { IsOf machine root }
+    requires lone { IsLone (view root) }
+    requires free { (view root).held ≡ [] }
+    ensures { IfOk result (λ left. Leaves machine root way left) }
+{
+    match way {
+        Move::Migrate => match migrate(alloc, machine, root) {
+            Ok((machine, root)) => Ok(Left::On(Shared { machine, root }, None)),
+            Err((_, _, SaveError::Fault(fault))) => Ok(Left::Refused(fault)),
+            Err((_, _, SaveError::NoMemory)) => Err(AllocError),
+        },
+        Move::Precopy => match precopy(alloc, machine, root) {
+            Ok((machine, root, pages)) => Ok(Left::On(Shared { machine, root }, Some(pages))),
+            Err(Precopy::Fault(_, _, fault)) => Ok(Left::Refused(fault)),
+            Err(Precopy::NoMemory(_)) => Err(AllocError),
+        },
+    }
+}
+
+/// Adds the line that tells it to the text of a leg, where the copied pages are told if there are
+/// any.
+pub fn push_line(text: &mut String, pages: Option<u64>) -> Result<(), AllocError>
+    ensures { OnOk result (string_bytes text.new ≡ string_bytes text.old ++ move_line pages) }
+{
+    match pages {
+        None => text.push_str("migrated\n"),
+        Some(pages) => writeln!(text, "migrated copied {pages}"),
+    }
+}
+
+/// For each move whether pages are copied before it.
+pub fn copies(alloc: Global, moves: &[Move]) -> Result<Vec<bool>, AllocError>
+    ensures { IfOk result (λ copies. copies.items ≡ copies_of moves.now) }
+{
+    moves.iter().map(|way| copied(*way)).collect(alloc)
+}
+
+fn copied(way: Move) -> bool
+    ensures { result ≡ copies_for way }
+{
+    match way {
+        Move::Migrate => false,
+        Move::Precopy => true,
+    }
+}
