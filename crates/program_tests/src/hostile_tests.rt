@@ -15,12 +15,54 @@ fn scripts_are_refused(rt: HostRuntime) {
         ("shards 4\n", "refused script 1 order\n"),
         ("vcpus 17\n", "refused script 1 number\n"),
         ("vcpus 4 4\n", "refused script 1 fields\n"),
+        ("vcpus 4\nshards 3\n", "refused script 2 number\n"),
         ("vcpus 4\nwalk\n", "refused script 2 word\n"),
+        ("vcpus 4\nphase\n", "refused script 2 missing\n"),
         ("vcpus 4\nbytes 0x0 abc\n", "refused script 2 hex\n"),
         ("vcpus 4\nshards\t4\n", "refused script 2 text\n"),
+        ("vcpus 4\nthread\n", "refused script 2 order\n"),
     ] {
         let ended = tells(&rt, rt.alloc(), &[input], Status::ScriptRefused, line);
         assert_eq!(rt; ended, Some(true), "{input}");
+    }
+}
+
+#[test]
+fn lines_of_what_a_machine_lacks_are_refused(rt: HostRuntime) {
+    for (lines, body, text) in [
+        ("pair\npair", "", "refused script 11 order\n"),
+        ("track\ntrack", "", "refused script 11 order\n"),
+        ("b-base 0x8080000", "", "refused script 10 order\n"),
+        ("brestore 0 0 0 0 0 0", "", "refused script 10 order\n"),
+        (
+            "its-base 0x8080000\nits-base 0x8080000",
+            "",
+            "refused script 11 order\n",
+        ),
+        ("its-base 0x8080001", "", "refused script 10 number\n"),
+        ("its-base", "", "refused script 10 fields\n"),
+        ("limits 4096 10\npair", "", "refused script 11 number\n"),
+        ("pair\nlimits 4096 10", "", "refused script 11 number\n"),
+        ("requester 0 1", "", "refused script 10 fields\n"),
+        ("requester 0 4294967296 0", "", "refused script 10 number\n"),
+        ("", "copy", "refused script 12 order\n"),
+        ("", "precopy", "refused script 12 order\n"),
+        ("", "b step", "refused script 12 order\n"),
+        ("pair", "b take 2", "refused script 13 order\n"),
+        ("pair", "b walk", "refused script 13 order\n"),
+        ("pair", "b", "refused script 13 fields\n"),
+        ("pair", "b signal 16", "refused script 13 fields\n"),
+        ("", "dma 256 0x8090040", "refused script 12 fields\n"),
+        ("", "dma 256 0x8090040 0", "refused script 12 hex\n"),
+        (
+            "",
+            "dma 4294967296 0x8090040 00",
+            "refused script 12 number\n",
+        ),
+    ] {
+        let parts = [MACHINE, lines, "phase\nthread", body, "end"];
+        let ended = tells(&rt, rt.alloc(), &parts, Status::ScriptRefused, text);
+        assert_eq!(rt; ended, Some(true), "{lines} {body}");
     }
 }
 

@@ -6,11 +6,17 @@ mod check_tests;
 #[cfg(test)]
 mod command_tests;
 #[cfg(test)]
+mod copy_tests;
+#[cfg(test)]
+mod doorbell_tests;
+#[cfg(test)]
 mod gicr_tests;
 #[cfg(test)]
 mod hostile_tests;
 #[cfg(test)]
 mod migration_tests;
+#[cfg(test)]
+mod pair_tests;
 #[cfg(test)]
 mod runs;
 #[cfg(test)]
