@@ -3,15 +3,15 @@ use mathlib.Core.List.{[]}
 use Rattle.std.proofs.Common.{Some}
 use denote.RawPtr.{Ptr}
 use Rattle.std_heap.specs.declared.Global.{Global}
-use Rattle.its_plain.specs.Plain.{Plain}
+use Rattle.its_c.specs.Keeping.{Held}
 use mir.Syntax.{impl, tnil, dnil}
 use denote.Signature.{Slot, plain}
 use Rattle.std_alloc.proofs.BoxSteps.Form.{Bx, D}
 use Rattle.std_heap.specs.contracts.Global.{the_row as global_row}
 use Rattle.std_heap.specs.contracts.GlobalAllocator.TheImpl.{ghosts, dict}
 use Rattle.std_heap.proofs.Global.TheLaws as global
-use Rattle.owned_machine.specs.contracts.machine.Machine.{the_row as machine_row}
-use Rattle.owned_machine.proofs.machine.Machine.TheLaws as machine
+use Rattle.its_c.specs.contracts.kept.Kept.{the_row as machine_row}
+use Rattle.its_c.proofs.kept.Kept.TheLaws as machine
 use Rattle.its_c.specs.contracts.handle.Handle.{the_row as handle_row}
 use Rattle.its_c.specs.declared.handle.Handle.{Handle}
 use Rattle.its_c.proofs.LooseValues.{Loose}
@@ -24,10 +24,10 @@ machine_box = record {
 }
 
 -- a handle with a machine in the state u, and the box that it stands for
-abbrev pub holder : Ptr → Global → Plain → Handle
+abbrev pub holder : Ptr → Global → Held → Handle
 holder at alloc u = record { at = at; alloc = alloc; machine = Some u }
 
-abbrev pub box_of : Ptr → Global → Plain → D machine_box
+abbrev pub box_of : Ptr → Global → Held → D machine_box
 box_of at alloc u = record { ptr = at; alloc = alloc; value = u }
 
 -- a parameter that is a handle

@@ -1,12 +1,12 @@
 -- A stretch of guest memory from one piece to the next.
-use Rattle.std.proofs.Common.{◌≡◌, ◌<◌, ◌≤◌, ℕ, ◌+◌, ◌-◌, ◌*◌, Bool, List, length, take, drop, Option, Some, inl, inr, sym, ap, ◌∙◌, subst, arith}
-use Rattle.std.specs.Prelude.{is_some, nat_lt}
-use Rattle.std.proofs.lemmas.Bool.{ltb-true, ltb-false, cases_Bool}
+use Rattle.std.proofs.Common.{◌≡◌, ◌<◌, ◌≤◌, ℕ, ◌+◌, ◌-◌, ◌*◌, Bool, true, List, [], ◌∷◌, length, take, drop, Some, inl, inr, sym, ap, ◌∙◌, subst, arith}
+use Rattle.std.specs.Prelude.{nat_lt, nat_le, ◌&&◌, ◌||◌}
+use Rattle.std.proofs.lemmas.Bool.{ltb-true, ltb-false, le-leb, or_right, cases_Bool}
 use Rattle.std.proofs.Math.Nat.{min-le_left, min-le_right}
-use Rattle.guest_windows.specs.Windows.{Window, inside, read_at}
-use Rattle.guest_windows.proofs.Laws.{is_some-read_at, length-read_at}
+use Rattle.guest_windows.specs.Windows.{Window, has, inside, read_at}
+use Rattle.guest_windows.proofs.Laws.{has-fits, length-read_at}
 use Rattle.guest_windows.proofs.Splices.{splice, splice_same, splice_before, length-splice}
-use Rattle.its_c.specs.Pieces.{AreRead}
+use Rattle.its_c.specs.Pieces.{AreInside, AreRead}
 use Rattle.owned_machine.specs.Pieces.{piece_count, piece_length, piece_of}
 
 -- what holds of all before i and of i holds of all before the next
@@ -17,11 +17,27 @@ below_next {P} i before at k below =
       | inr isnt ↦ let same : i ≡ k = omega (arith, ltb-false k i isnt, below) in subst P same at
     ]
 
--- ---- one piece
+-- ---- where one window has them all
 
--- a stretch of which a read told whether there are bytes
-pub inside_by_read : (m : List Window) (a n l : ℕ) (found : Option (List ℕ)) (b : Bool) → found ≡ read_at m a l → l ≡ n → is_some found ≡ b → inside m a n ≡ b
-inside_by_read m a n l found b found_is l_is e = sym (is_some-read_at m a n) ∙ ap (λ k. is_some (read_at m a k)) (sym l_is) ∙ ap is_some (sym found_is) ∙ e
+has_part : (w : Window) (a n b l : ℕ) → a ≤ b → b + l ≤ a + n → has w a n ≡ true → has w b l ≡ true
+has_part w a n b l low high e =
+    let f = has-fits w a n e in
+    let above : w.base ≤ b = omega (arith, f.above, low) in
+    let below : b + l ≤ w.base + length w.bytes = omega (arith, f.below, high) in
+    ap (λ (x : Bool). x && nat_le (b + l) (w.base + length w.bytes)) (le-leb w.base b above) ∙ le-leb (b + l) (w.base + length w.bytes) below
+
+inside_part : (ws : List Window) (a n b l : ℕ) → a ≤ b → b + l ≤ a + n → inside ws a n ≡ true → inside ws b l ≡ true
+inside_part [] a n b l low high e = e
+inside_part (w ∷ ws) a n b l low high e =
+    elim (cases_Bool (has w a n)) [
+      | inl here ↦ ap (λ (x : Bool). x || inside ws b l) (has_part w a n b l low high here)
+      | inr there ↦ or_right (has w b l) (inside ws b l) (inside_part ws a n b l low high (ap (λ (x : Bool). x || inside ws a n) (sym there) ∙ e))
+    ]
+
+-- it has each piece
+pub all_inside : (ws : List Window) (a n : ℕ) → inside ws a n ≡ true → AreInside ws a n (piece_count n)
+all_inside ws a n e k below =
+    inside_part ws a n (a + 64 * k) (piece_length n k) (omega arith) (omega (arith, below, min-le_right 64 (n - 64 * k))) e
 
 -- ---- from one to the next
 

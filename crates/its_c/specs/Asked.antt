@@ -1,12 +1,16 @@
 -- What a machine is asked in numbers: which numbers are in their ranges, and what the plain machine answers and leaves.
-use Rattle.std.specs.Prelude.{◌≡◌, ◌<◌, ◌≤◌, List, slice_index, ℕ, Bool, ◌&&◌, ◌||◌, ◌==◌, nat_lt, if◌then◌else◌, length}
+use Rattle.std.specs.Prelude.{◌≡◌, ◌<◌, ◌≤◌, List, slice_index, ℕ, Bool, ◌&&◌, ◌||◌, ◌==◌, nat_lt, nat_le, if◌then◌else◌, length}
 use Rattle.its_plain.specs.Plain.{Plain, redistributor, with_redistributor}
-use Rattle.its_plain.specs.Answer.{ack_of, lowest, best, claimed, taken, signal_reply}
+use Rattle.its_plain.specs.Answer.{ack_of, lowest, best, claimed, taken, signal_reply, reply_of, left}
 use Rattle.its_plain.specs.Translation.{translated}
 use Rattle.its_plain.specs.declared.call.Ack.{Ack}
+use Rattle.its_plain.specs.Doorbells.{dma_of}
+use Rattle.its_plain.specs.declared.call.Call.{Call}
+use Rattle.its_plain.specs.declared.call.Reply.{Reply}
 use Rattle.its_plain.specs.declared.call.Signal.{Signal}
 use Rattle.gicr_regs.specs.Registers.{values_of}
 use Rattle.gicr_regs.specs.declared.values.GicrRegisters.{GicrRegisters}
+use Rattle.its_c.specs.Keeping.{Held}
 use Rattle.its_c.specs.declared.numbers.RedistributorIn.{RedistributorIn}
 
 abbrev as_given : GicrRegisters → RedistributorIn
@@ -63,3 +67,19 @@ HasFirst numbers list = (i : ℕ) → i < length numbers → i < length list →
 -- a list is as it was from a place on
 abbrev pub SameFrom : ℕ → List ℕ → List ℕ → Type 0
 SameFrom n before after = (i : ℕ) → n ≤ i → slice_index after i ≡ slice_index before i
+
+-- ---- writes by address
+
+-- 1 to 64 bytes are written at a time
+abbrev pub is_count : List ℕ → Bool
+is_count bytes = nat_lt 0 (length bytes) && nat_le (length bytes) 64
+
+-- what a requester's write is by the description
+abbrev pub wrote : Held → ℕ → ℕ → List ℕ → Call
+wrote h requester address bytes = dma_of h.desc requester (record { 0 = address }) bytes
+
+abbrev pub wrote_reply : Held → ℕ → ℕ → List ℕ → Reply
+wrote_reply h requester address bytes = reply_of h.machine (wrote h requester address bytes)
+
+abbrev pub wrote_left : Held → ℕ → ℕ → List ℕ → Plain
+wrote_left h requester address bytes = left h.machine (wrote h requester address bytes) (wrote_reply h requester address bytes)

@@ -28,3 +28,11 @@ handle = 5
 -- done where the numbers are in their ranges
 abbrev pub if_in_range : Bool → ℕ
 if_in_range b = if b then done else range
+
+-- as many events are mapped as may be
+abbrev pub full : ℕ
+full = 6
+
+-- done where the bytes lie in one window
+abbrev pub if_inside : Bool → ℕ
+if_inside b = if b then done else outside

@@ -13,9 +13,11 @@ use Rattle.its_plain.specs.declared.desc.Fill.{Fill}
 use Rattle.its_plain.specs.declared.desc.Its.{Its}
 use Rattle.its_plain.specs.declared.desc.LpiTables.{LpiTables}
 use Rattle.its_plain.specs.declared.desc.LpiTables.TheVariants.{Described, Registers}
+use Rattle.its_plain.specs.declared.desc.Requesters.{Requesters}
 use Rattle.its_c.specs.declared.numbers.DescriptionIn.{DescriptionIn}
 use Rattle.its_c.specs.declared.numbers.FillIn.{FillIn}
 use Rattle.its_c.specs.declared.numbers.RedistributorIn.{RedistributorIn}
+use Rattle.its_c.specs.declared.numbers.RequestersIn.{RequestersIn}
 use Rattle.its_c.specs.declared.numbers.WindowIn.{WindowIn}
 
 -- ---- ranges
@@ -27,7 +29,7 @@ between least most n = nat_le least n && nat_le n most
 abbrev pub numbers_in_range : DescriptionIn → Bool
 numbers_in_range d =
     between 1 16 d.vcpus && between 16 20 d.device_bits && between 14 20 d.lpi_bits && between 1 2 d.profile && nat_lt d.programmed 2 && nat_lt d.restored 2
-    && nat_lt d.linux_guest 2
+    && nat_lt d.linux_guest 2 && nat_lt d.has_frames 2
 
 -- so many pending tables, or so many redistributors' registers, as virtual processors
 abbrev pub counts_in_range : DescriptionIn → ℕ → ℕ → Bool
@@ -85,9 +87,16 @@ values_of d = record { ctlr = d.ctlr; cbaser = d.cbaser; creadr = d.creadr; cwri
 abbrev pub restore_of : DescriptionIn → Option RegValues
 restore_of d = if d.restored == 0 then None else Some (values_of d)
 
--- one translator, where no device writes
+-- where the frames of the translator stand, if devices write by address
+abbrev pub frames_of : DescriptionIn → Option Addr
+frames_of d = if d.has_frames == 0 then None else Some (address_of d.frames)
+
+-- one translator
 abbrev pub translators_of : DescriptionIn → List Its
-translators_of d = record { restore = restore_of d; frames = None } ∷ []
+translators_of d = record { restore = restore_of d; frames = frames_of d } ∷ []
+
+abbrev pub requesters_of : RequestersIn → Requesters
+requesters_of r = record { first = r.first; last = r.last; dev = record { 0 = r.device } }
 
 abbrev pub shape_of : DescriptionIn → Shape
 shape_of d = record { vcpus = d.vcpus; dev_bits = d.device_bits; lpi_bits = d.lpi_bits; profile = profile_of d.profile; linux = d.linux_guest == 1 }
@@ -96,8 +105,8 @@ abbrev pub limits : Limits
 limits = record { stamp_last = 16777215; place_last = 1099511627775 }
 
 -- what the numbers stand for
-abbrev pub description_of : DescriptionIn → List WindowIn → List ℕ → List RedistributorIn → List FillIn → List ℕ → Desc
-description_of d windows pending redistributors fills bytes = record {
+abbrev pub description_of : DescriptionIn → List WindowIn → List ℕ → List RedistributorIn → List RequestersIn → List FillIn → List ℕ → Desc
+description_of d windows pending redistributors requesters fills bytes = record {
   shape = shape_of d;
   shards = 1;
   limits = limits;
@@ -106,6 +115,6 @@ description_of d windows pending redistributors fills bytes = record {
   fills = fills_of fills bytes;
   memory_limit = 18446744073709551615;
   translators = translators_of d;
-  requesters = [];
+  requesters = map requesters_of requesters;
   track = false;
 }

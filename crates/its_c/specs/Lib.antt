@@ -3,9 +3,13 @@ pub mod Codes
 pub mod Descriptions
 pub mod Faults
 pub mod Held
+pub mod Insides
+pub mod Keeping
 pub mod Lending
 pub mod Making
 pub mod Owning
 pub mod Pieces
 pub mod Replies
 pub mod Saves
+pub mod Stretches
+pub mod Words

@@ -5,9 +5,9 @@ use denote.RawPtr.{Ptr, null_ptr}
 use Rattle.std_alloc.specs.Box.Ownership.{box_owns}
 use Rattle.std_heap.specs.declared.Global.{Global}
 use Rattle.std_heap.specs.contracts.GlobalAllocator.TheImpl.{ghosts}
-use Rattle.its_plain.specs.Plain.{Plain}
-use Rattle.owned_machine.specs.contracts.machine.Machine.{the_row}
+use Rattle.its_c.specs.Keeping.{Held}
+use Rattle.its_c.specs.contracts.kept.Kept.{the_row}
 
-abbrev pub held : Global → Ptr → Option Plain → Fml
+abbrev pub held : Global → Ptr → Option Held → Fml
 held alloc at None = fex (at ≡ null_ptr) (λ _. ftrue)
-held alloc at (Some u) = box_owns (ghosts.dealloc_token alloc) the_row at u
+held alloc at (Some h) = box_owns (ghosts.dealloc_token alloc) the_row at h

@@ -1,9 +1,9 @@
 -- Stretches of guest memory of any length. They are read and written in pieces of 64 bytes, counted from the first byte; the
 -- last piece may be shorter. Each piece has to lie in one window.
-use Rattle.std.specs.Prelude.{◌≡◌, ◌<◌, ℕ, ◌+◌, ◌*◌, ◌^◌, true, List, length, Option, Some, None}
+use Rattle.std.specs.Prelude.{◌≡◌, ◌≢◌, ◌<◌, ◌≤◌, ℕ, ◌+◌, ◌*◌, ◌^◌, true, List, length, Some}
 use Rattle.guest_windows.specs.Windows.{Window, inside, read_at}
-use Rattle.its_plain.specs.declared.call.Reply.{Reply}
-use Rattle.its_plain.specs.declared.call.Reply.TheVariants as reply
+use Rattle.guest_windows.specs.Zeros.{AreZero, AreZeroFrom}
+use Rattle.its_c.specs.declared.stretches.StretchOut.{StretchOut}
 use Rattle.owned_machine.specs.Pieces.{piece_count, piece_length, piece_of}
 
 -- the first i pieces of n bytes from an address on lie in windows
@@ -23,7 +23,10 @@ AreRead memory address bytes i = (k : ℕ) → k < i → read_at memory (address
 abbrev pub IsRead : List Window → ℕ → List ℕ → Type 0
 IsRead memory address bytes = AreRead memory address bytes (piece_count (length bytes))
 
--- the bytes that a reply has
-abbrev pub bytes_in : Reply → Option (List ℕ)
-bytes_in (reply.Bytes bytes) = Some bytes
-bytes_in _ = None
+-- a stretch of one window, from an address on, before which all is zero from that address on; or all is, and the stretch is none
+pub record IsNextPage (memory : List Window) (from : ℕ) (s : StretchOut) : Type 0 where
+  pub zero : s.length ≢ 0 → AreZero memory from s.address
+  pub none : s.length ≡ 0 → AreZeroFrom memory from × (s.address ≡ 0)
+  pub further : s.length ≢ 0 → from ≤ s.address
+  pub short : s.length ≤ 65536
+  pub inside : s.length ≢ 0 → inside memory s.address s.length ≡ true

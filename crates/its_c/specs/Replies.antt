@@ -1,5 +1,5 @@
 -- Replies as numbers.
-use Rattle.std.specs.Prelude.{ℕ}
+use Rattle.std.specs.Prelude.{◌≡◌, ◌⊎◌, ℕ, false, slice_get}
 use Rattle.its_command.specs.declared.command.Op.{Op}
 use Rattle.its_command.specs.declared.command.Op.TheVariants as ops
 use Rattle.its_plain.specs.declared.call.Ack.{Ack}
@@ -12,6 +12,17 @@ use Rattle.its_plain.specs.declared.call.Signal.{Signal}
 use Rattle.its_plain.specs.declared.call.Signal.TheVariants.{Delivered, Dropped}
 use Rattle.its_plain.specs.declared.call.StepReply.{StepReply}
 use Rattle.its_plain.specs.declared.call.StepReply.TheVariants as steps
+use Rattle.its_plain.specs.declared.call.Reply.{Reply}
+use Rattle.its_plain.specs.declared.call.Reply.TheVariants as replies
+use Rattle.its_plain.specs.declared.call.Route.{Route}
+use Rattle.its_plain.specs.declared.call.Route.TheVariants as route
+use Rattle.its_plain.specs.Plain.{Plain}
+use Rattle.owned_parts.specs.RedistSets.{is_in}
+use Rattle.step_views.specs.declared.destination.Destination.{Destination}
+use Rattle.step_views.specs.declared.destination.Destination.TheVariants as to
+use Rattle.its_c.specs.Codes as codes
+use Rattle.its_c.specs.declared.replies.DmaOut.{DmaOut}
+use Rattle.its_c.specs.declared.replies.EventOut.{EventOut}
 use Rattle.its_c.specs.declared.replies.SignalOut.{SignalOut}
 use Rattle.its_c.specs.declared.replies.AckOut.{AckOut}
 use Rattle.its_c.specs.declared.replies.StepOut.{StepOut}
@@ -28,6 +39,37 @@ cause_number causes.LpisOff = 5
 abbrev pub signal_out : Signal → SignalOut
 signal_out (Delivered vcpu intid) = record { cause = 0; vcpu = vcpu.0; intid = intid.0 }
 signal_out (Dropped cause) = record { cause = cause_number cause; vcpu = 0; intid = 0 }
+
+-- where an event leads: what isn't told is 0
+abbrev pub event_out : Destination → EventOut
+event_out to.NoDevice = record { cause = 2; intid = 0; collection = 0; vcpu = 0 }
+event_out to.NoEvent = record { cause = 3; intid = 0; collection = 0; vcpu = 0 }
+event_out (to.NoCollection intid icid) = record { cause = 4; intid = intid.0; collection = icid.0; vcpu = 0 }
+event_out (to.LpisOff intid icid vcpu) = record { cause = 5; intid = intid.0; collection = icid.0; vcpu = vcpu.0 }
+event_out (to.Processor intid icid vcpu) = record { cause = 0; intid = intid.0; collection = icid.0; vcpu = vcpu.0 }
+
+-- ---- writes by address
+
+abbrev pub no_signal : SignalOut
+no_signal = record { cause = 0; vcpu = 0; intid = 0 }
+
+-- of memory: whether it was written
+abbrev pub poke_outcome : Reply → ℕ
+poke_outcome replies.Ok = 0
+poke_outcome _ = 1
+
+abbrev pub dma_outcome : Route → Reply → ℕ
+dma_outcome route.Poke r = poke_outcome r
+dma_outcome route.NoRequester r = 2
+dma_outcome route.Frame r = 3
+dma_outcome (route.Signal its dev ev) r = 4
+
+abbrev pub signal_in : Reply → SignalOut
+signal_in (replies.Signal s) = signal_out s
+signal_in _ = no_signal
+
+abbrev pub dma_out : Route → Reply → DmaOut
+dma_out to r = record { outcome = dma_outcome to r; signal = signal_in r }
 
 -- ---- acknowledgements
 
@@ -66,8 +108,18 @@ reason_number reasons.NoEvent = 9
 reason_number reasons.NoCollection = 10
 reason_number reasons.LpisOff = 11
 
-abbrev pub step_out : StepReply → StepOut
-step_out steps.Idle = record { outcome = 0; op = 0; reason = 0; address = 0 }
-step_out (steps.Ran op) = record { outcome = 1; op = opcode op; reason = 0; address = 0 }
-step_out (steps.Refused op reason) = record { outcome = 2; op = opcode op; reason = reason_number reason; address = 0 }
-step_out (steps.QueueFault at) = record { outcome = 3; op = 0; reason = 0; address = at.0 }
+-- with the virtual processors that are concerned
+abbrev pub step_out : StepReply → ℕ → StepOut
+step_out steps.Idle c = record { outcome = 0; op = 0; reason = 0; address = 0; concerned = c }
+step_out (steps.Ran op) c = record { outcome = 1; op = opcode op; reason = 0; address = 0; concerned = c }
+step_out (steps.Refused op reason) c = record { outcome = 2; op = opcode op; reason = reason_number reason; address = 0; concerned = c }
+step_out (steps.QueueFault at) c = record { outcome = 3; op = 0; reason = 0; address = at.0; concerned = c }
+
+-- a virtual processor whose bit is clear is as it was
+abbrev pub UnconcernedStay : ℕ → Plain → Plain → Type 0
+UnconcernedStay concerned u w =
+    (vcpu : ℕ) → is_in concerned vcpu ≡ false → slice_get w.redistributors vcpu ≡ slice_get u.redistributors vcpu
+
+-- what a step may answer, of a handle with a machine
+abbrev pub IsStepCode : ℕ → Type 0
+IsStepCode code = (code ≡ codes.done) ⊎ ((code ≡ codes.no_memory) ⊎ (code ≡ codes.full))

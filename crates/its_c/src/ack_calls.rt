@@ -4,7 +4,7 @@ ghost use Rattle.its_plain.specs.Plain.{pending_of};
 ghost use Rattle.its_c.specs.Asked.{has_vcpu as has, has_mask, shown, acknowledged, first_below};
 ghost use Rattle.its_c.specs.Asked.{claimed_by, after_claim, HasFirst, SameFrom};
 ghost use Rattle.its_c.specs.Codes as codes;
-ghost use Rattle.its_c.specs.Held.{InMachine};
+ghost use Rattle.its_c.specs.Held.{InMachine, beside};
 ghost use Rattle.its_c.specs.Replies as replies;
 
 use crate::codes::HANDLE;
@@ -18,7 +18,7 @@ use std::alloc::Global;
 #[unsafe(no_mangle)]
 pub extern "C" fn its_take(handle: &mut Handle, alloc: Global, vcpu: u32, out: &mut AckOut) -> u32
     ensures empty { handle.old.machine ≡ None → (result ≡ codes.handle) × (out.new ≡ out.old) }
-    ensures kept { is_some handle.new.machine ≡ is_some handle.old.machine }
+    ensures kept { beside handle.new ≡ beside handle.old }
     ensures code { InMachine handle.old handle.new (λ u w.
         result ≡ codes.if_in_range (has u vcpu)) }
     ensures told { InMachine handle.old handle.new (λ u w.
@@ -38,7 +38,7 @@ pub extern "C" fn its_take(handle: &mut Handle, alloc: Global, vcpu: u32, out: &
 #[unsafe(no_mangle)]
 pub extern "C" fn its_show(handle: &mut Handle, alloc: Global, vcpu: u32, out: &mut AckOut) -> u32
     ensures empty { handle.old.machine ≡ None → (result ≡ codes.handle) × (out.new ≡ out.old) }
-    ensures kept { is_some handle.new.machine ≡ is_some handle.old.machine }
+    ensures kept { beside handle.new ≡ beside handle.old }
     ensures code { InMachine handle.old handle.new (λ u w.
         result ≡ codes.if_in_range (has u vcpu)) }
     ensures told { InMachine handle.old handle.new (λ u w.
@@ -53,8 +53,8 @@ pub extern "C" fn its_show(handle: &mut Handle, alloc: Global, vcpu: u32, out: &
     show(handle.lent(), alloc, vcpu, out)
 }
 
-/// The LPI that comes first by priority, of those that are pending and enabled and whose priority is
-/// below a mask.
+/// The LPI that comes first by priority, of those that are pending and enabled and whose priority
+/// is below a mask.
 #[unsafe(no_mangle)]
 pub extern "C" fn its_best(
     handle: &mut Handle,
@@ -64,7 +64,7 @@ pub extern "C" fn its_best(
     out: &mut AckOut,
 ) -> u32
     ensures empty { handle.old.machine ≡ None → (result ≡ codes.handle) × (out.new ≡ out.old) }
-    ensures kept { is_some handle.new.machine ≡ is_some handle.old.machine }
+    ensures kept { beside handle.new ≡ beside handle.old }
     ensures code { InMachine handle.old handle.new (λ u w.
         result ≡ codes.if_in_range (has_mask u vcpu mask)) }
     ensures told { InMachine handle.old handle.new (λ u w.
@@ -90,7 +90,7 @@ pub extern "C" fn its_claim(
     out: &mut AckOut,
 ) -> u32
     ensures empty { handle.old.machine ≡ None → (result ≡ codes.handle) × (out.new ≡ out.old) }
-    ensures kept { is_some handle.new.machine ≡ is_some handle.old.machine }
+    ensures kept { beside handle.new ≡ beside handle.old }
     ensures code { InMachine handle.old handle.new (λ u w.
         result ≡ codes.if_in_range (has u vcpu)) }
     ensures told { InMachine handle.old handle.new (λ u w.
@@ -118,7 +118,7 @@ pub extern "C" fn its_pending(
 ) -> u32
     ensures empty { handle.old.machine ≡ None
         → (result ≡ codes.handle) × (list.new ≡ list.old) × (count.new ≡ count.old) }
-    ensures kept { is_some handle.new.machine ≡ is_some handle.old.machine }
+    ensures kept { beside handle.new ≡ beside handle.old }
     ensures range { InMachine handle.old handle.new (λ u w.
         has u vcpu ≡ false → result ≡ codes.range) }
     ensures told { InMachine handle.old handle.new (λ u w.

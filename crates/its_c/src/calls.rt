@@ -1,31 +1,29 @@
-//! The calls of a machine by its handle, for callers in other languages.
-ghost use Rattle.std.specs.Prelude.{◌≡◌, ◌≤◌, ◌⊎◌, true, false, None, is_some, length};
+//! The calls of a machine by its handle, for callers in other languages: registers, and messages.
+ghost use Rattle.std.specs.Prelude.{◌≡◌, ◌≢◌, ◌⊎◌, true, false, None, length};
 ghost use Rattle.gits_regs.specs.Registers.{read_reg};
 ghost use Rattle.its_plain.specs.Answer.{signal_left, written, gicr_read, gicr_written};
-ghost use Rattle.its_plain.specs.Answer.{step_reply, step_left};
+ghost use Rattle.its_plain.specs.Doorbells.{route_of};
 ghost use Rattle.its_plain.specs.Plain.{regs_of};
-ghost use Rattle.owned_machine.specs.Whole.{step_adds};
+ghost use Rattle.owned_machine.specs.Whole.{may_want_memory};
+ghost use Rattle.step_views.specs.Destinations.{destination};
 ghost use Rattle.its_c.specs.Asked.{has_vcpu as has, is_size as is, has_register, signalled};
-ghost use Rattle.its_c.specs.Asked.{stored};
+ghost use Rattle.its_c.specs.Asked.{stored, is_count, wrote, wrote_reply, wrote_left};
+ghost use Rattle.its_c.specs.Asked.{HasFirst, SameFrom};
 ghost use Rattle.its_c.specs.Codes as codes;
-ghost use Rattle.its_c.specs.Held.{InMachine};
-ghost use Rattle.its_c.specs.Pieces.{IsStretch, IsRead};
-ghost use Rattle.owned_machine.specs.Pieces.{written_to};
+ghost use Rattle.its_c.specs.Held.{InMachine, InHeld, beside};
 ghost use Rattle.its_c.specs.Replies as replies;
-ghost use Rattle.its_c.specs.Saves.{IsSaved, IsMoved, IsUnsaved};
+ghost use Rattle.its_c.specs.Words.{has_word, word as text};
 
-use crate::codes::HANDLE;
-use crate::commands::step;
-use crate::faults::SaveFaultOut;
+use crate::codes::{DONE, HANDLE, RANGE};
 use crate::handle::Handle;
-use crate::interrupts::signal;
-use crate::memory::{read_memory, write_memory};
+use crate::interrupts;
+use crate::interrupts::{dma, signal};
 use crate::numbers::RedistributorIn;
 use crate::registers::{
     read_lpi_register, read_register, stored_lpi_registers, write_lpi_register, write_register,
 };
-use crate::replies::{SignalOut, StepOut};
-use crate::saves::{migrate, save};
+use crate::replies::{DmaOut, EventOut, SignalOut};
+use crate::words::{put_word, word};
 use std::alloc::Global;
 
 /// A read of 4 or 8 bytes of the translator's control frame (IHI 0069, section 12.19).
@@ -38,7 +36,7 @@ pub extern "C" fn its_read_register(
     out: &mut u64,
 ) -> u32
     ensures empty { handle.old.machine ≡ None → (result ≡ codes.handle) × (out.new ≡ out.old) }
-    ensures kept { is_some handle.new.machine ≡ is_some handle.old.machine }
+    ensures kept { beside handle.new ≡ beside handle.old }
     ensures code { InMachine handle.old handle.new (λ u w. result ≡ codes.if_in_range (is size)) }
     ensures told { InMachine handle.old handle.new (λ u w.
         is size ≡ true → out.new ≡ read_reg (regs_of u 0) offset size) }
@@ -61,7 +59,7 @@ pub extern "C" fn its_write_register(
     value: u64,
 ) -> u32
     ensures empty { handle.old.machine ≡ None → result ≡ codes.handle }
-    ensures kept { is_some handle.new.machine ≡ is_some handle.old.machine }
+    ensures kept { beside handle.new ≡ beside handle.old }
     ensures code { InMachine handle.old handle.new (λ u w. result ≡ codes.if_in_range (is size)) }
     ensures left { InMachine handle.old handle.new (λ u w.
         is size ≡ true → w ≡ written u 0 offset size value) }
@@ -84,7 +82,7 @@ pub extern "C" fn its_read_lpi_register(
     out: &mut u64,
 ) -> u32
     ensures empty { handle.old.machine ≡ None → (result ≡ codes.handle) × (out.new ≡ out.old) }
-    ensures kept { is_some handle.new.machine ≡ is_some handle.old.machine }
+    ensures kept { beside handle.new ≡ beside handle.old }
     ensures code { InMachine handle.old handle.new (λ u w.
         result ≡ codes.if_in_range (has_register u vcpu size)) }
     ensures told { InMachine handle.old handle.new (λ u w.
@@ -110,7 +108,7 @@ pub extern "C" fn its_write_lpi_register(
     value: u64,
 ) -> u32
     ensures empty { handle.old.machine ≡ None → result ≡ codes.handle }
-    ensures kept { is_some handle.new.machine ≡ is_some handle.old.machine }
+    ensures kept { beside handle.new ≡ beside handle.old }
     ensures code { InMachine handle.old handle.new (λ u w.
         result ≡ codes.if_in_range (has_register u vcpu size)) }
     ensures left { InMachine handle.old handle.new (λ u w.
@@ -134,7 +132,7 @@ pub extern "C" fn its_stored_lpi_registers(
     out: &mut RedistributorIn,
 ) -> u32
     ensures empty { handle.old.machine ≡ None → (result ≡ codes.handle) × (out.new ≡ out.old) }
-    ensures kept { is_some handle.new.machine ≡ is_some handle.old.machine }
+    ensures kept { beside handle.new ≡ beside handle.old }
     ensures code { InMachine handle.old handle.new (λ u w.
         result ≡ codes.if_in_range (has u vcpu)) }
     ensures told { InMachine handle.old handle.new (λ u w.
@@ -149,58 +147,6 @@ pub extern "C" fn its_stored_lpi_registers(
     stored_lpi_registers(handle.lent(), vcpu, out)
 }
 
-/// Guest memory is read into a buffer.
-#[unsafe(no_mangle)]
-pub extern "C" fn its_read_memory(
-    handle: &mut Handle,
-    alloc: Global,
-    address: u64,
-    buffer: &mut [u8],
-) -> u32
-    ensures empty { handle.old.machine ≡ None
-        → (result ≡ codes.handle) × (buffer.new ≡ buffer.old) }
-    ensures kept { is_some handle.new.machine ≡ is_some handle.old.machine }
-    ensures done { InMachine handle.old handle.new (λ u w.
-        IsStretch u.memory address (length buffer.old)
-        → (result ≡ codes.done) × IsRead u.memory address buffer.new) }
-    ensures outside { InMachine handle.old handle.new (λ u w.
-        result ≡ codes.outside → buffer.new ≡ buffer.old) }
-    ensures exactly { InMachine handle.old handle.new (λ u w.
-        (IsStretch u.memory address (length buffer.old) → ⊥) → result ≡ codes.outside) }
-    ensures same { InMachine handle.old handle.new (λ u w. w ≡ u) }
-{
-    if handle.is_empty() {
-        return HANDLE;
-    }
-    read_memory(handle.lent(), alloc, address, buffer)
-}
-
-/// Bytes are written to guest memory: all of them, or none.
-#[unsafe(no_mangle)]
-pub extern "C" fn its_write_memory(
-    handle: &mut Handle,
-    alloc: Global,
-    address: u64,
-    bytes: &[u8],
-) -> u32
-    ensures empty { handle.old.machine ≡ None → result ≡ codes.handle }
-    ensures kept { is_some handle.new.machine ≡ is_some handle.old.machine }
-    ensures codes { InMachine handle.old handle.new (λ u w.
-        IsStretch u.memory address (length bytes.now)
-        → (result ≡ codes.done) ⊎ (result ≡ codes.no_memory)) }
-    ensures done { InMachine handle.old handle.new (λ u w.
-        result ≡ codes.done → w ≡ written_to u address bytes.now) }
-    ensures no_memory { InMachine handle.old handle.new (λ u w.
-        result ≡ codes.no_memory → w ≡ u) }
-    ensures outside { InMachine handle.old handle.new (λ u w.
-        (IsStretch u.memory address (length bytes.now) → ⊥) → (result ≡ codes.outside) × (w ≡ u)) }
-{
-    if handle.is_empty() {
-        return HANDLE;
-    }
-    write_memory(handle.lent(), alloc, address, bytes)
-}
-
 /// A device's message.
 #[unsafe(no_mangle)]
 pub extern "C" fn its_signal(
@@ -211,7 +157,7 @@ pub extern "C" fn its_signal(
     out: &mut SignalOut,
 ) -> u32
     ensures empty { handle.old.machine ≡ None → (result ≡ codes.handle) × (out.new ≡ out.old) }
-    ensures kept { is_some handle.new.machine ≡ is_some handle.old.machine }
+    ensures kept { beside handle.new ≡ beside handle.old }
     ensures done { InMachine handle.old handle.new (λ u w. result ≡ codes.done) }
     ensures told { InMachine handle.old handle.new (λ u w.
         out.new ≡ replies.signal_out (signalled u device event)) }
@@ -224,54 +170,71 @@ pub extern "C" fn its_signal(
     signal(handle.lent(), alloc, device, event, out)
 }
 
-/// The translator takes its next command.
+/// A requester's write of bytes at an address: a message, a write of guest memory, or nothing.
 #[unsafe(no_mangle)]
-pub extern "C" fn its_step(handle: &mut Handle, alloc: Global, out: &mut StepOut) -> u32
+pub extern "C" fn its_dma(
+    handle: &mut Handle,
+    alloc: Global,
+    requester: u32,
+    address: u64,
+    bytes: &[u8],
+    out: &mut DmaOut,
+) -> u32
     ensures empty { handle.old.machine ≡ None → (result ≡ codes.handle) × (out.new ≡ out.old) }
-    ensures kept { is_some handle.new.machine ≡ is_some handle.old.machine }
-    ensures codes { InMachine handle.old handle.new (λ u w. result ≤ codes.no_memory) }
+    ensures kept { beside handle.new ≡ beside handle.old }
+    ensures range { InMachine handle.old handle.new (λ u w.
+        is_count bytes.now ≡ false → result ≡ codes.range) }
+    ensures codes { InMachine handle.old handle.new (λ u w. is_count bytes.now ≡ true
+        → (result ≡ codes.done) ⊎ (result ≡ codes.no_memory)) }
+    ensures told { InHeld handle.old handle.new (λ h k. result ≡ codes.done
+        → out.new ≡ replies.dma_out (route_of h.desc requester address bytes.now)
+        (wrote_reply h requester address bytes.now)) }
+    ensures left { InHeld handle.old handle.new (λ h k. result ≡ codes.done
+        → k.machine ≡ wrote_left h requester address bytes.now) }
+    ensures rare { InHeld handle.old handle.new (λ h k. result ≡ codes.no_memory
+        → may_want_memory h.machine (wrote h requester address bytes.now) ≡ true) }
+    ensures refused { InMachine handle.old handle.new (λ u w. result ≢ codes.done
+        → (out.new ≡ out.old) × (w ≡ u)) }
+{
+    if handle.is_empty() {
+        return HANDLE;
+    }
+    dma(handle.lent(), alloc, requester, address, bytes, out)
+}
+
+/// Where a signal of an event would go, by the maps.
+#[unsafe(no_mangle)]
+pub extern "C" fn its_event(handle: &mut Handle, device: u32, event: u32, out: &mut EventOut) -> u32
+    ensures empty { handle.old.machine ≡ None → (result ≡ codes.handle) × (out.new ≡ out.old) }
+    ensures kept { beside handle.new ≡ beside handle.old }
+    ensures done { InMachine handle.old handle.new (λ u w. result ≡ codes.done) }
     ensures told { InMachine handle.old handle.new (λ u w.
-        result ≡ codes.done → out.new ≡ replies.step_out (step_reply u 0)) }
-    ensures left { InMachine handle.old handle.new (λ u w.
-        result ≡ codes.done → w ≡ step_left u 0) }
-    ensures rare { InMachine handle.old handle.new (λ u w.
-        result ≡ codes.no_memory → step_adds u 0 ≡ true) }
-    ensures no_memory { InMachine handle.old handle.new (λ u w.
-        result ≡ codes.no_memory → (out.new ≡ out.old) × (w ≡ u)) }
+        out.new ≡ replies.event_out (destination u 0 device event)) }
+    ensures same { InMachine handle.old handle.new (λ u w. w ≡ u) }
 {
     if handle.is_empty() {
         return HANDLE;
     }
-    step(handle.lent(), alloc, out)
+    interrupts::event(handle.lent(), device, event, out)
 }
 
-/// The tables are written to guest memory.
+/// The word of a number: what the buffer takes of it, whose rest stays, and how long it is.
 #[unsafe(no_mangle)]
-pub extern "C" fn its_save(handle: &mut Handle, alloc: Global, fault: &mut SaveFaultOut) -> u32
-    ensures empty { handle.old.machine ≡ None → (result ≡ codes.handle) × (fault.new ≡ fault.old) }
-    ensures kept { is_some handle.new.machine ≡ is_some handle.old.machine }
-    ensures done { InMachine handle.old handle.new (λ u w. result ≡ codes.done → IsSaved u w) }
-    ensures otherwise { InMachine handle.old handle.new (λ u w.
-        IsUnsaved result u w fault.old fault.new) }
+pub extern "C" fn its_text(list: u32, number: u32, buffer: &mut [u8], count: &mut u64) -> u32
+    ensures code { result ≡ codes.if_in_range (has_word list number) }
+    ensures told { has_word list number ≡ true → HasFirst (text list number) buffer.new }
+    ensures rest { has_word list number ≡ true
+        → SameFrom (length (text list number)) buffer.old buffer.new }
+    ensures length { length buffer.new ≡ length buffer.old }
+    ensures count { has_word list number ≡ true → count.new ≡ length (text list number) }
+    ensures refused { has_word list number ≡ false
+        → (buffer.new ≡ buffer.old) × (count.new ≡ count.old) }
 {
-    if handle.is_empty() {
-        return HANDLE;
+    let word = word(list, number).as_bytes();
+    if word.is_empty() {
+        return RANGE;
     }
-    save(handle.lent(), alloc, fault)
-}
-
-/// The tables are saved into a copy of guest memory, and the machine goes on from what that copy
-/// and the registers stand for.
-#[unsafe(no_mangle)]
-pub extern "C" fn its_migrate(handle: &mut Handle, alloc: Global, fault: &mut SaveFaultOut) -> u32
-    ensures empty { handle.old.machine ≡ None → (result ≡ codes.handle) × (fault.new ≡ fault.old) }
-    ensures kept { is_some handle.new.machine ≡ is_some handle.old.machine }
-    ensures done { InMachine handle.old handle.new (λ u w. result ≡ codes.done → IsMoved u w) }
-    ensures otherwise { InMachine handle.old handle.new (λ u w.
-        IsUnsaved result u w fault.old fault.new) }
-{
-    if handle.is_empty() {
-        return HANDLE;
-    }
-    migrate(handle.lent(), alloc, fault)
+    put_word(word, buffer);
+    *count = word.len() as u64;
+    DONE
 }

@@ -18,3 +18,7 @@ pub const FAULT: u32 = 4;
 
 /// The handle has no machine; or, where one is to be made, has one already. Nothing changed.
 pub const HANDLE: u32 = 5;
+
+/// As many events are mapped as may be, or more, and the command would map another. Nothing
+/// changed.
+pub const FULL: u32 = 6;

@@ -1,34 +1,52 @@
 //! Commands: the translator takes the next of its queue (IHI 0069, section 5.3).
-ghost use Rattle.std.specs.Prelude.{◌≡◌, ◌≤◌, true};
+ghost use Rattle.std.specs.Prelude.{◌≡◌, ◌≢◌, ◌≤◌, ◌<◌, ℕ, true, false};
 ghost use Rattle.its_plain.specs.Answer as plain;
 ghost use Rattle.owned_machine.specs.Whole.{step_adds};
+ghost use Rattle.owned_parts.specs.RedistSets.{is_in};
 ghost use Rattle.its_c.specs.Codes as codes;
+ghost use Rattle.its_c.specs.Keeping.{with_machine, is_full};
 ghost use Rattle.its_c.specs.Replies as replies;
 
-use crate::codes::{DONE, NO_MEMORY};
+use crate::codes::{DONE, FULL, NO_MEMORY};
+use crate::kept::{Kept, StepError};
 use crate::replies::{StepOut, step_out};
-use its_plain::{Call, Reply};
-use owned_machine::Machine;
+use its_types::Vcpu;
+use owned_parts::RedistSet;
 use std::alloc::Global;
+use step_views::concerned;
 
 /// The translator takes its next command.
-#[tactic(auto, unfolding(its_plain::specs::Answer::reply_of, its_plain::specs::Answer::left))]
-pub fn step(machine: &mut Machine, alloc: Global, out: &mut StepOut) -> u32
-    ensures codes { result ≤ codes.no_memory }
-    ensures told { result ≡ codes.done
-        → out.new ≡ replies.step_out (plain.step_reply machine.old 0) }
+pub fn step(kept: &mut Kept, alloc: Global, out: &mut StepOut) -> u32
+    ensures told { result ≡ codes.done → out.new
+        ≡ replies.step_out (plain.step_reply kept.old.machine 0) out.new.concerned }
+    ensures unconcerned { result ≡ codes.done
+        → replies.UnconcernedStay out.new.concerned kept.old.machine kept.new.machine }
     ensures left { result ≡ codes.done
-        → machine.new ≡ plain.step_left machine.old 0 }
-    ensures rare { result ≡ codes.no_memory → step_adds machine.old 0 ≡ true }
-    ensures no_memory { result ≡ codes.no_memory
-        → (out.new ≡ out.old) × (machine.new ≡ machine.old) }
+        → kept.new ≡ with_machine kept.old (plain.step_left kept.old.machine 0) }
+    ensures full { result ≡ codes.full → is_full kept.old.limit kept.old.machine ≡ true }
+    ensures where_full { is_full kept.old.limit kept.old.machine ≡ true → result ≡ codes.full }
+    ensures rare { result ≡ codes.no_memory → step_adds kept.old.machine 0 ≡ true }
+    ensures codes { replies.IsStepCode result }
+    ensures refused { result ≢ codes.done → (out.new ≡ out.old) × (kept.new ≡ kept.old) }
 {
-    match machine.answer(alloc, &Call::Step { its: 0 }) {
-        Ok(Reply::Step(step)) => {
-            *out = step_out(step);
+    let concerned = bits_of(concerned(kept.machine().parts(), 0));
+    match kept.step(alloc) {
+        Ok(reply) => {
+            *out = step_out(reply, concerned);
             DONE
         }
-        Ok(_) => unreachable!(),
-        Err(_) => NO_MEMORY,
+        Err(StepError::Full) => FULL,
+        Err(StepError::NoMemory) => NO_MEMORY,
     }
+}
+
+// A set as a number, of which bit v is that of virtual processor v.
+fn bits_of(set: RedistSet) -> u32
+    ensures { (v : ℕ) → is_in result v ≡ is_in set v }
+{
+    let mut bits = 0u32;
+    for vcpu in 0..16u8 {
+        bits = 2 * bits + u32::from(set.has(Vcpu(15 - vcpu)));
+    }
+    bits
 }

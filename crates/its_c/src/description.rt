@@ -1,14 +1,14 @@
 //! The description that numbers stand for.
 ghost use Rattle.std.specs.Prelude.{◌≡◌, true, IfOk, length, map};
-ghost use Rattle.its_plain.specs.Machine.{IsDescription, IsSingle, HasTablesFor};
+ghost use Rattle.its_plain.specs.Machine.{IsDescription, HasTablesFor};
 ghost use Rattle.its_plain.specs.Sound.{IsShape};
 ghost use Rattle.its_c.specs.Descriptions as spec;
 
-use crate::numbers::{DescriptionIn, FillIn, RedistributorIn, WindowIn};
+use crate::numbers::{DescriptionIn, FillIn, RedistributorIn, RequestersIn, WindowIn};
 use gicr_regs::{GicrRegisters, GicrValues};
 use gits_regs::RegValues;
-use its_plain::{Desc, Fill, Its, LpiTables};
-use its_types::{Addr, Limits, Listed, Profile, Shape};
+use its_plain::{Desc, Fill, Its, LpiTables, Requesters};
+use its_types::{Addr, DeviceId, Limits, Listed, Profile, Shape};
 use std::alloc::{AllocError, Global};
 
 /// Whether all numbers are in their ranges, of so many pending tables, redistributors' registers
@@ -38,6 +38,7 @@ fn numbers_in_range(description: &DescriptionIn) -> bool
         && description.programmed < 2
         && description.restored < 2
         && description.linux_guest < 2
+        && description.has_frames < 2
 }
 
 fn between(least: u32, most: u32, number: u32) -> bool
@@ -80,6 +81,7 @@ pub fn description(
     windows: &[WindowIn],
     pending: &[u64],
     redistributors: &[RedistributorIn],
+    requesters: &[RequestersIn],
     fills: &[FillIn],
     bytes: &[u8],
 ) -> Result<Desc, AllocError>
@@ -88,10 +90,10 @@ pub fn description(
         (length redistributors.now) ≡ true }
     requires lengths { spec.lengths_fit fills.now (length bytes.now) ≡ true }
     ensures described { IfOk result IsDescription }
-    ensures single { IfOk result IsSingle }
+    ensures one { IfOk result (λ d. length d.translators ≡ 1) }
     ensures described_by { IfOk result (λ d. d
-        ≡ spec.description_of numbers.now windows.now pending.now redistributors.now fills.now
-        bytes.now) }
+        ≡ spec.description_of numbers.now windows.now pending.now redistributors.now
+        requesters.now fills.now bytes.now) }
 {
     Ok(Desc {
         shape: shape(numbers),
@@ -105,7 +107,7 @@ pub fn description(
         tables: tables(alloc, numbers, pending, redistributors)?,
         fills: fills_of(alloc, fills, bytes)?,
         translators: translators(alloc, numbers)?,
-        requesters: Listed::new(alloc),
+        requesters: Listed::from_vec(requesters_of(alloc, requesters)?),
         track: false,
     })
 }
@@ -234,9 +236,32 @@ fn translators(alloc: Global, numbers: &DescriptionIn) -> Result<Listed<Its>, Al
     let mut list = Listed::new(alloc);
     list.push(Its {
         restore: restore(numbers),
-        frames: None,
+        frames: frames(numbers),
     })?;
     Ok(list)
+}
+
+fn frames(numbers: &DescriptionIn) -> Option<Addr>
+    ensures { result ≡ spec.frames_of numbers.now }
+{
+    if numbers.has_frames == 0 {
+        None
+    } else {
+        Some(Addr(numbers.frames))
+    }
+}
+
+fn requesters_of(alloc: Global, requesters: &[RequestersIn]) -> Result<Vec<Requesters>, AllocError>
+    ensures { IfOk result (λ v. v.items ≡ map spec.requesters_of requesters.now) }
+{
+    requesters
+        .iter()
+        .map(|some| Requesters {
+            first: some.first,
+            last: some.last,
+            dev: DeviceId(some.device),
+        })
+        .collect(alloc)
 }
 
 fn restore(numbers: &DescriptionIn) -> Option<RegValues>

@@ -1,22 +1,24 @@
 //! What a caller in another language holds of a machine.
 ghost use Rattle.std.specs.Prelude.{◌≡◌, Option, Some, None, IsSome, is_none};
-ghost use Rattle.std.specs.Coded.{coded_option};
-ghost use Rattle.its_plain.specs.Plain.{Plain, plain_code};
+ghost use Rattle.std.specs.Coded.{codes};
+ghost use Rattle.its_plain.specs.Plain.{plain_code};
+ghost use Rattle.its_c.specs.Keeping.{Held};
 
+use crate::kept::Kept;
 use crate::loose::Loose;
-use owned_machine::Machine;
 use std::alloc::Global;
 use std::marker::Model;
 use std::ptr::null_mut;
 
-/// A machine on the heap, by its address, or no machine, at null. Whoever has the handle owns the
-/// machine. To drop a handle frees nothing: only one with no machine is dropped here.
+/// A machine on the heap, with what is kept beside it, by its address; or no machine, at null.
+/// Whoever has the handle owns the machine. To drop a handle frees nothing: only one with no
+/// machine is dropped here.
 #[repr(C)]
 #[derive(Drop)]
 pub struct Handle {
     pub(crate) at: *mut u8,
     pub(crate) alloc: Global,
-    pub(crate) ghost machine: { Option Plain } by { coded_option plain_code },
+    pub(crate) ghost machine: { Option Held } by { Prim.hlevel (codes, plain_code) },
 }
 
 impl Model for Handle {
@@ -44,21 +46,21 @@ impl Handle {
     }
 
     /// The handle of a machine that is on the heap.
-    pub fn of(machine: Box<Machine>) -> Handle
-        ensures { result.machine ≡ Some machine.value }
+    pub fn of(kept: Box<Kept>) -> Handle
+        ensures { result.machine ≡ Some kept.value }
     {
-        Handle::of_loose(Loose::of(machine))
+        Handle::of_loose(Loose::of(kept))
     }
 
     /// The machine as a box, which frees it when it is dropped.
-    pub fn into_box(self) -> Box<Machine>
+    pub fn into_box(self) -> Box<Kept>
         requires { IsSome self.machine }
         ensures { self.machine ≡ Some result.value }
     {
         self.into_loose().into_box()
     }
 
-    fn of_loose(loose: Loose<Machine, Global>) -> Handle
+    fn of_loose(loose: Loose<Kept, Global>) -> Handle
         ensures { result.machine ≡ Some loose.value }
     {
         let Loose { at, alloc } = loose;
@@ -68,13 +70,13 @@ impl Handle {
         }
     }
 
-    fn into_loose(self) -> Loose<Machine, Global>
+    fn into_loose(self) -> Loose<Kept, Global>
         requires { IsSome self.machine }
         ensures { self.machine ≡ Some result.value }
     {
         let Handle { at, alloc } = self;
         Loose {
-            at: at.cast::<Machine>(),
+            at: at.cast::<Kept>(),
             alloc,
         }
     }

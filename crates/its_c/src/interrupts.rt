@@ -1,61 +1,106 @@
 //! Messages of devices, and acknowledgements (IHI 0069, sections 5.1 and 5.2).
-ghost use Rattle.std.specs.Prelude.{◌≡◌, ◌≤◌, true, false, take, length};
+ghost use Rattle.std.specs.Prelude.{◌≡◌, ◌≢◌, ◌⊎◌, ◌≤◌, true, false, take, length};
 ghost use Rattle.its_plain.specs.Answer.{signal_left};
 ghost use Rattle.its_plain.specs.Plain.{pending_of};
 ghost use Rattle.its_c.specs.Asked.{has_vcpu as has, has_mask, signalled, shown, acknowledged};
 ghost use Rattle.its_c.specs.Asked.{first_below, claimed_by, after_claim};
+ghost use Rattle.its_c.specs.Asked.{is_count, wrote, wrote_reply, wrote_left};
+ghost use Rattle.its_plain.specs.Doorbells.{route_of};
+ghost use Rattle.owned_machine.specs.Whole.{may_want_memory};
+ghost use Rattle.step_views.specs.Destinations.{destination};
 ghost use Rattle.its_c.specs.Codes as codes;
+ghost use Rattle.its_c.specs.Keeping.{with_machine};
 ghost use Rattle.its_c.specs.Replies as replies;
 
-use crate::codes::{DONE, RANGE};
+use crate::codes::{DONE, NO_MEMORY, RANGE};
+use crate::kept::Kept;
 use crate::ranges::has_vcpu;
-use crate::replies::{AckOut, SignalOut, ack_out, signal_out};
-use its_plain::{Call, Reply};
-use its_types::{DeviceId, EventId, Intid, Vcpu};
-use owned_machine::Machine;
+use crate::replies::{
+    AckOut, DmaOut, EventOut, SignalOut, ack_out, dma_out, event_out, signal_out,
+};
+use its_plain::{Bytes64, Call, Reply};
+use its_types::{Addr, DeviceId, EventId, Intid, Vcpu};
 use std::alloc::Global;
 
 /// A device's message.
 #[tactic(auto, unfolding(its_plain::specs::Answer::reply_of, its_plain::specs::Answer::left))]
-pub fn signal(
-    machine: &mut Machine,
-    alloc: Global,
-    device: u32,
-    event: u32,
-    out: &mut SignalOut,
-) -> u32
+pub fn signal(kept: &mut Kept, alloc: Global, device: u32, event: u32, out: &mut SignalOut) -> u32
     ensures done { result ≡ codes.done }
-    ensures told { out.new ≡ replies.signal_out (signalled machine.old device event) }
-    ensures left { machine.new
-        ≡ signal_left machine.old (signalled machine.old device event) }
+    ensures told { out.new ≡ replies.signal_out (signalled kept.old.machine device event) }
+    ensures left { kept.new ≡ with_machine kept.old
+        (signal_left kept.old.machine (signalled kept.old.machine device event)) }
 {
     let call = Call::Signal {
         its: 0,
         dev: DeviceId(device),
         ev: EventId(event),
     };
-    let Ok(Reply::Signal(signal)) = machine.answer(alloc, &call) else {
+    let Ok(Reply::Signal(signal)) = kept.answer(alloc, &call) else {
         unreachable!()
     };
     *out = signal_out(signal);
     DONE
 }
 
-/// A virtual processor acknowledges an LPI, which is then no longer pending.
+/// A requester's write of bytes at an address.
 #[tactic(auto, unfolding(its_plain::specs::Answer::reply_of, its_plain::specs::Answer::left))]
-pub fn take(machine: &mut Machine, alloc: Global, vcpu: u32, out: &mut AckOut) -> u32
-    ensures code { result ≡ codes.if_in_range (has machine.old vcpu) }
-    ensures told { has machine.old vcpu ≡ true
-        → out.new ≡ replies.ack_out (shown machine.old vcpu) }
-    ensures left { has machine.old vcpu ≡ true
-        → machine.new ≡ acknowledged machine.old vcpu }
-    ensures refused { has machine.old vcpu ≡ false
-        → (out.new ≡ out.old) × (machine.new ≡ machine.old) }
+pub fn dma(
+    kept: &mut Kept,
+    alloc: Global,
+    requester: u32,
+    address: u64,
+    bytes: &[u8],
+    out: &mut DmaOut,
+) -> u32
+    ensures range { is_count bytes.now ≡ false → result ≡ codes.range }
+    ensures codes { is_count bytes.now ≡ true
+        → (result ≡ codes.done) ⊎ (result ≡ codes.no_memory) }
+    ensures told { result ≡ codes.done → out.new ≡ replies.dma_out
+        (route_of kept.old.desc requester address bytes.now)
+        (wrote_reply kept.old requester address bytes.now) }
+    ensures left { result ≡ codes.done → kept.new ≡ with_machine kept.old
+        (wrote_left kept.old requester address bytes.now) }
+    ensures rare { result ≡ codes.no_memory
+        → may_want_memory kept.old.machine (wrote kept.old requester address bytes.now) ≡ true }
+    ensures refused { result ≢ codes.done → (out.new ≡ out.old) × (kept.new ≡ kept.old) }
 {
-    if !has_vcpu(machine, vcpu) {
+    if bytes.is_empty() || bytes.len() > 64 {
         return RANGE;
     }
-    let Ok(Reply::Ack(ack)) = machine.answer(alloc, &Call::Take(Vcpu(vcpu as u8))) else {
+    match kept.dma(alloc, requester, Addr(address), Bytes64::new(bytes)) {
+        Ok((route, reply)) => {
+            *out = dma_out(route, reply);
+            DONE
+        }
+        Err(_) => NO_MEMORY,
+    }
+}
+
+/// Where an event leads.
+pub fn event(kept: &Kept, device: u32, event: u32, out: &mut EventOut) -> u32
+    ensures done { result ≡ codes.done }
+    ensures told { out.new ≡ replies.event_out (destination kept.now.machine 0 device event) }
+{
+    let parts = kept.machine().parts();
+    *out = event_out(step_views::event(parts, 0, DeviceId(device), EventId(event)));
+    DONE
+}
+
+/// A virtual processor acknowledges an LPI, which is then no longer pending.
+#[tactic(auto, unfolding(its_plain::specs::Answer::reply_of, its_plain::specs::Answer::left))]
+pub fn take(kept: &mut Kept, alloc: Global, vcpu: u32, out: &mut AckOut) -> u32
+    ensures code { result ≡ codes.if_in_range (has kept.old.machine vcpu) }
+    ensures told { has kept.old.machine vcpu ≡ true
+        → out.new ≡ replies.ack_out (shown kept.old.machine vcpu) }
+    ensures left { has kept.old.machine vcpu ≡ true
+        → kept.new ≡ with_machine kept.old (acknowledged kept.old.machine vcpu) }
+    ensures refused { has kept.old.machine vcpu ≡ false
+        → (out.new ≡ out.old) × (kept.new ≡ kept.old) }
+{
+    if !has_vcpu(kept.machine(), vcpu) {
+        return RANGE;
+    }
+    let Ok(Reply::Ack(ack)) = kept.answer(alloc, &Call::Take(Vcpu(vcpu as u8))) else {
         unreachable!()
     };
     *out = ack_out(ack);
@@ -64,17 +109,17 @@ pub fn take(machine: &mut Machine, alloc: Global, vcpu: u32, out: &mut AckOut) -
 
 /// The LPI that a virtual processor would acknowledge.
 #[tactic(auto, unfolding(its_plain::specs::Answer::reply_of, its_plain::specs::Answer::left))]
-pub fn show(machine: &mut Machine, alloc: Global, vcpu: u32, out: &mut AckOut) -> u32
-    ensures code { result ≡ codes.if_in_range (has machine.old vcpu) }
-    ensures told { has machine.old vcpu ≡ true
-        → out.new ≡ replies.ack_out (shown machine.old vcpu) }
-    ensures refused { has machine.old vcpu ≡ false → out.new ≡ out.old }
-    ensures same { machine.new ≡ machine.old }
+pub fn show(kept: &mut Kept, alloc: Global, vcpu: u32, out: &mut AckOut) -> u32
+    ensures code { result ≡ codes.if_in_range (has kept.old.machine vcpu) }
+    ensures told { has kept.old.machine vcpu ≡ true
+        → out.new ≡ replies.ack_out (shown kept.old.machine vcpu) }
+    ensures refused { has kept.old.machine vcpu ≡ false → out.new ≡ out.old }
+    ensures same { kept.new ≡ kept.old }
 {
-    if !has_vcpu(machine, vcpu) {
+    if !has_vcpu(kept.machine(), vcpu) {
         return RANGE;
     }
-    let Ok(Reply::Ack(ack)) = machine.answer(alloc, &Call::Show(Vcpu(vcpu as u8))) else {
+    let Ok(Reply::Ack(ack)) = kept.answer(alloc, &Call::Show(Vcpu(vcpu as u8))) else {
         unreachable!()
     };
     *out = ack_out(ack);
@@ -83,21 +128,21 @@ pub fn show(machine: &mut Machine, alloc: Global, vcpu: u32, out: &mut AckOut) -
 
 /// The LPI that comes first by priority, of those whose priority is below a mask.
 #[tactic(auto, unfolding(its_plain::specs::Answer::reply_of, its_plain::specs::Answer::left))]
-pub fn best(machine: &mut Machine, alloc: Global, vcpu: u32, mask: u32, out: &mut AckOut) -> u32
-    ensures code { result ≡ codes.if_in_range (has_mask machine.old vcpu mask) }
-    ensures told { has_mask machine.old vcpu mask ≡ true
-        → out.new ≡ replies.ack_out (first_below machine.old vcpu mask) }
-    ensures refused { has_mask machine.old vcpu mask ≡ false → out.new ≡ out.old }
-    ensures same { machine.new ≡ machine.old }
+pub fn best(kept: &mut Kept, alloc: Global, vcpu: u32, mask: u32, out: &mut AckOut) -> u32
+    ensures code { result ≡ codes.if_in_range (has_mask kept.old.machine vcpu mask) }
+    ensures told { has_mask kept.old.machine vcpu mask ≡ true
+        → out.new ≡ replies.ack_out (first_below kept.old.machine vcpu mask) }
+    ensures refused { has_mask kept.old.machine vcpu mask ≡ false → out.new ≡ out.old }
+    ensures same { kept.new ≡ kept.old }
 {
-    if !(has_vcpu(machine, vcpu) && mask < 256) {
+    if !(has_vcpu(kept.machine(), vcpu) && mask < 256) {
         return RANGE;
     }
     let call = Call::Best {
         vcpu: Vcpu(vcpu as u8),
         mask: mask as u8,
     };
-    let Ok(Reply::Ack(ack)) = machine.answer(alloc, &call) else {
+    let Ok(Reply::Ack(ack)) = kept.answer(alloc, &call) else {
         unreachable!()
     };
     *out = ack_out(ack);
@@ -107,23 +152,23 @@ pub fn best(machine: &mut Machine, alloc: Global, vcpu: u32, mask: u32, out: &mu
 /// A virtual processor acknowledges this LPI, if it is pending and enabled. Then it is no longer
 /// pending.
 #[tactic(auto, unfolding(its_plain::specs::Answer::reply_of, its_plain::specs::Answer::left))]
-pub fn claim(machine: &mut Machine, alloc: Global, vcpu: u32, intid: u32, out: &mut AckOut) -> u32
-    ensures code { result ≡ codes.if_in_range (has machine.old vcpu) }
-    ensures told { has machine.old vcpu ≡ true
-        → out.new ≡ replies.ack_out (claimed_by machine.old vcpu intid) }
-    ensures left { has machine.old vcpu ≡ true
-        → machine.new ≡ after_claim machine.old vcpu intid }
-    ensures refused { has machine.old vcpu ≡ false
-        → (out.new ≡ out.old) × (machine.new ≡ machine.old) }
+pub fn claim(kept: &mut Kept, alloc: Global, vcpu: u32, intid: u32, out: &mut AckOut) -> u32
+    ensures code { result ≡ codes.if_in_range (has kept.old.machine vcpu) }
+    ensures told { has kept.old.machine vcpu ≡ true
+        → out.new ≡ replies.ack_out (claimed_by kept.old.machine vcpu intid) }
+    ensures left { has kept.old.machine vcpu ≡ true
+        → kept.new ≡ with_machine kept.old (after_claim kept.old.machine vcpu intid) }
+    ensures refused { has kept.old.machine vcpu ≡ false
+        → (out.new ≡ out.old) × (kept.new ≡ kept.old) }
 {
-    if !has_vcpu(machine, vcpu) {
+    if !has_vcpu(kept.machine(), vcpu) {
         return RANGE;
     }
     let call = Call::Claim {
         vcpu: Vcpu(vcpu as u8),
         intid: Intid(intid),
     };
-    let Ok(Reply::Ack(ack)) = machine.answer(alloc, &call) else {
+    let Ok(Reply::Ack(ack)) = kept.answer(alloc, &call) else {
         unreachable!()
     };
     *out = ack_out(ack);

@@ -3,6 +3,8 @@
 #![tactic(auto)]
 
 mod ack_calls;
+#[cfg(test)]
+mod asked_tests;
 mod calls;
 mod codes;
 mod commands;
@@ -10,10 +12,12 @@ mod description;
 mod faults;
 mod handle;
 mod interrupts;
+mod kept;
 mod lent;
 mod loose;
 mod making;
 mod memory;
+mod memory_calls;
 mod numbers;
 mod pending;
 mod pieces;
@@ -21,10 +25,14 @@ mod ranges;
 mod registers;
 mod replies;
 mod saves;
+mod step_calls;
+mod stretches;
 #[cfg(test)]
 mod tests;
+mod words;
 
 pub use faults::{MakeFaultOut, SaveFaultOut};
 pub use handle::Handle;
-pub use numbers::{DescriptionIn, FillIn, RedistributorIn, WindowIn};
-pub use replies::{AckOut, SignalOut, StepOut};
+pub use numbers::{DescriptionIn, FillIn, RedistributorIn, RequestersIn, WindowIn};
+pub use replies::{AckOut, DmaOut, EventOut, SignalOut, StepOut};
+pub use stretches::StretchOut;

@@ -1,7 +1,7 @@
 //! A machine's making and end.
 ghost use Rattle.std.specs.Prelude.{◌≡◌, ◌≢◌, false, Err, None, IfOk, IfErr, is_none, length};
 ghost use Rattle.its_plain.specs.Described.{IsMadeFrom};
-ghost use Rattle.its_plain.specs.Machine.{IsDescription, IsSingle};
+ghost use Rattle.its_plain.specs.Machine.{IsDescription};
 ghost use Rattle.its_c.specs.Codes as codes;
 ghost use Rattle.its_c.specs.Descriptions.{is_in_range as in_range, description_of};
 ghost use Rattle.its_c.specs.Making.{IsMade, IsUnmade};
@@ -10,8 +10,11 @@ use crate::codes::{DONE, FAULT, HANDLE, NO_MEMORY, RANGE};
 use crate::description::{description, is_in_range};
 use crate::faults::{MakeFaultOut, make_fault_out};
 use crate::handle::Handle;
-use crate::numbers::{DescriptionIn, FillIn, RedistributorIn, WindowIn};
+use crate::kept::Kept;
+use crate::numbers::{DescriptionIn, FillIn, RedistributorIn, RequestersIn, WindowIn};
+use dma_routes::requesters_are_devices;
 use its_plain::{Desc, MakeError};
+use its_types::Listed;
 use owned_machine::Machine;
 use std::alloc::Global;
 use std::mem::replace;
@@ -26,6 +29,7 @@ pub extern "C" fn its_new(
     windows: &[WindowIn],
     pending: &[u64],
     redistributors: &[RedistributorIn],
+    requesters: &[RequestersIn],
     fills: &[FillIn],
     bytes: &[u8],
     fault: &mut MakeFaultOut,
@@ -40,12 +44,12 @@ pub extern "C" fn its_new(
         → in_range numbers.now (length pending.now) (length redistributors.now) fills.now
         (length bytes.now) ≡ false }
     ensures done { result ≡ codes.done
-        → IsMade (description_of numbers.now windows.now pending.now redistributors.now fills.now
-        bytes.now) handle.new.machine }
+        → IsMade (description_of numbers.now windows.now pending.now redistributors.now
+        requesters.now fills.now bytes.now) handle.new.machine }
     ensures same { result ≢ codes.done → handle.new ≡ handle.old }
     ensures unmade { IsUnmade result
-        (description_of numbers.now windows.now pending.now redistributors.now fills.now bytes.now)
-        fault.old fault.new }
+        (description_of numbers.now windows.now pending.now redistributors.now requesters.now
+        fills.now bytes.now) fault.old fault.new }
 {
     if !handle.is_empty() {
         return HANDLE;
@@ -65,12 +69,13 @@ pub extern "C" fn its_new(
         windows,
         pending,
         redistributors,
+        requesters,
         fills,
         bytes,
     ) else {
         return NO_MEMORY;
     };
-    match made(alloc, &desc) {
+    match made(alloc, desc) {
         Ok(machine) => {
             *handle = machine;
             DONE
@@ -84,14 +89,15 @@ pub extern "C" fn its_new(
 }
 
 // The handle of a machine on the heap.
-fn made(alloc: Global, desc: &Desc) -> Result<Handle, MakeError>
-    requires counts { IsDescription desc.now }
-    requires single { IsSingle desc.now }
-    ensures made { IfOk result (λ h. IsMade desc.now h.machine) }
-    ensures refused { IfErr result (λ e. IsMadeFrom desc.now (Err e)) }
+fn made(alloc: Global, mut desc: Desc) -> Result<Handle, MakeError>
+    requires description { IsDescription desc }
+    ensures made { IfOk result (λ h. IsMade desc h.machine) }
+    ensures refused { IfErr result (λ e. IsMadeFrom desc (Err e)) }
 {
-    let machine = Machine::new(alloc, desc)?;
-    Ok(Handle::of(Box::new(alloc, machine)?))
+    requesters_are_devices();
+    let machine = Machine::new(alloc, &desc)?;
+    desc.fills = Listed::new(alloc);
+    Ok(Handle::of(Box::new(alloc, Kept::new(machine, desc))?))
 }
 
 /// A machine's end. The handle has none then.

@@ -19,8 +19,12 @@ pub struct DescriptionIn {
     pub restored: u32,
     /// 1: the machine has what a Linux guest counts on. 0: it hasn't.
     pub linux_guest: u32,
+    /// 1: devices write by address, and `frames` says where. 0: they don't.
+    pub has_frames: u32,
     /// Where the configuration table is, if the guest doesn't program it.
     pub config: u64,
+    /// Where the translator's two frames of 64 KiB are, if devices write by address.
+    pub frames: u64,
     /// The registers to restore: GITS_CTLR, of which bit 0 counts.
     pub ctlr: u64,
     /// GITS_CBASER.
@@ -65,4 +69,16 @@ pub struct RedistributorIn {
     pub propbaser: u64,
     /// GICR_PENDBASER. Bit 62, Pending Table Zero, is taken as it is given.
     pub pendbaser: u64,
+}
+
+/// Which devices some requesters are.
+#[repr(C)]
+#[derive(Clone, Copy)]
+pub struct RequestersIn {
+    /// The first of them.
+    pub first: u32,
+    /// The last of them.
+    pub last: u32,
+    /// The device that the first is. Those after it are the devices after that.
+    pub device: u32,
 }

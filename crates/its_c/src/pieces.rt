@@ -1,15 +1,13 @@
-//! Guest memory in pieces of 64 bytes, which is what one call of the machine takes.
-ghost use Rattle.std.specs.Prelude.{◌≡◌, ◌<◌, ◌≤◌, ◌+◌, ◌*◌, ◌^◌, true, false, IsTrue, length};
+//! Guest memory in pieces of 64 bytes, each of which has to lie in one window.
+ghost use Rattle.std.specs.Prelude.{◌≡◌, ◌<◌, ◌≤◌, ◌+◌, ◌*◌, ◌^◌, true, false, List, ℕ, Some};
+ghost use Rattle.std.specs.Prelude.{length};
 ghost use Rattle.guest_windows.specs.Windows.{read_at, inside};
 ghost use Rattle.guest_windows.proofs.Splices.{splice};
-ghost use Rattle.its_c.specs.Pieces as spec;
-ghost use Rattle.its_c.specs.Pieces.{IsStretch, IsRead};
+ghost use Rattle.its_c.specs.Pieces.{AreInside, IsStretch, IsRead};
 ghost use Rattle.owned_machine.specs.Pieces as pieces;
 
-use its_plain::{Bytes64, Call, Reply};
+use guest_windows::Memory;
 use its_types::Addr;
-use owned_machine::Machine;
-use std::alloc::Global;
 
 // How many pieces there are.
 fn piece_count(count: usize) -> usize
@@ -29,73 +27,53 @@ fn piece_length(count: usize, i: usize) -> usize
     (count - 64 * i).min(64)
 }
 
-// Reads 1 to 64 bytes, where one window has them.
-#[tactic(auto, unfolding(its_plain::specs::Answer::reply_of, its_plain::specs::Answer::left))]
-fn peek(machine: &mut Machine, alloc: Global, address: u64, count: usize) -> Option<Bytes64>
-    requires some { 0 < count }
-    requires fits { count ≤ 64 }
-    ensures read { result ≡ read_at machine.old.memory address count }
-    ensures same { machine.new ≡ machine.old }
-{
-    let call = Call::Peek {
-        addr: Addr(address),
-        count: count as u8,
-    };
-    let Ok(reply) = machine.answer(alloc, &call) else {
-        unreachable!()
-    };
-    bytes_of(&reply)
-}
-
-// The bytes that a reply has.
-fn bytes_of(reply: &Reply) -> Option<Bytes64>
-    ensures { result ≡ spec.bytes_in reply.now }
-{
-    match reply {
-        Reply::Bytes(bytes) => Some(*bytes),
-        _ => None,
-    }
-}
-
 /// Whether so many bytes lie in guest memory.
-pub fn is_stretch(machine: &mut Machine, alloc: Global, address: u64, count: usize) -> bool
-    ensures yes { result ≡ true → IsStretch machine.old.memory address count }
-    ensures no { result ≡ false → IsStretch machine.old.memory address count → ⊥ }
-    ensures same { machine.new ≡ machine.old }
+#[tactic(auto, using(crate::proofs::PieceSteps::all_inside))]
+pub fn is_stretch(memory: &Memory, address: u64, count: usize) -> bool
+    ensures yes { result ≡ true → IsStretch memory.now address count }
+    ensures no { result ≡ false → IsStretch memory.now address count → ⊥ }
 {
     if address.checked_add(count as u64).is_none() {
         return false;
     }
+    memory.inside(Addr(address), count as u64) || are_inside(memory, address, count)
+}
+
+// Whether each piece lies in one window.
+fn are_inside(memory: &Memory, address: u64, count: usize) -> bool
+    requires { address + count < 2 ^ 64 }
+    ensures yes { result ≡ true
+        → AreInside memory.now address count (pieces.piece_count count) }
+    ensures no { result ≡ false
+        → AreInside memory.now address count (pieces.piece_count count) → ⊥ }
+{
     for i in 0..piece_count(count) {
         let at = address + 64 * i as u64;
-        if peek(machine, alloc, at, piece_length(count, i)).is_none() {
+        if !memory.inside(Addr(at), piece_length(count, i) as u64) {
             return false;
         }
     }
     true
 }
 
-// The buffer with these bytes from a place on.
-fn put(buffer: &mut [u8], at: usize, bytes: &[u8])
-    requires { at + length bytes.now ≤ length buffer.old }
-    ensures { buffer.new ≡ splice at bytes.now buffer.old }
+// Reads a piece to a place of the buffer.
+fn read_piece(memory: &Memory, address: u64, buffer: &mut [u8], at: usize, count: usize)
+    requires { at + count ≤ length buffer.old }
+    ensures { (bytes : List ℕ) → read_at memory.now address count ≡ Some bytes
+        → buffer.new ≡ splice at bytes buffer.old }
 {
-    buffer[at..at + bytes.len()].copy_from_slice(bytes);
+    let _ = memory.read(Addr(address), &mut buffer[at..at + count]);
 }
 
 /// Reads bytes that lie in guest memory.
-pub fn read(machine: &mut Machine, alloc: Global, address: u64, buffer: &mut [u8])
-    requires { IsStretch machine.old.memory address (length buffer.old) }
-    ensures read { IsRead machine.old.memory address buffer.new }
+pub fn read(memory: &Memory, address: u64, buffer: &mut [u8])
+    requires { IsStretch memory.now address (length buffer.old) }
+    ensures read { IsRead memory.now address buffer.new }
     ensures length { length buffer.new ≡ length buffer.old }
-    ensures same { machine.new ≡ machine.old }
 {
     let count = buffer.len();
     for i in 0..piece_count(count) {
         let at = address + 64 * i as u64;
-        let Some(bytes) = peek(machine, alloc, at, piece_length(count, i)) else {
-            unreachable!()
-        };
-        put(buffer, 64 * i, bytes.as_slice());
+        read_piece(memory, at, buffer, 64 * i, piece_length(count, i));
     }
 }

@@ -5,28 +5,23 @@ ghost use Rattle.its_plain.specs.Answer.{written, gicr_read, gicr_written};
 ghost use Rattle.its_plain.specs.Plain.{regs_of};
 ghost use Rattle.its_c.specs.Asked.{is_size as is, has_vcpu as has, has_register, stored};
 ghost use Rattle.its_c.specs.Codes as codes;
+ghost use Rattle.its_c.specs.Keeping.{with_machine};
 
 use crate::codes::{DONE, RANGE};
+use crate::kept::Kept;
 use crate::numbers::RedistributorIn;
 use crate::ranges::{has_vcpu, is_size};
 use its_plain::{Call, Reply};
 use its_types::Vcpu;
-use owned_machine::Machine;
 use std::alloc::Global;
 
 /// A read of 4 or 8 bytes of the translator's control frame (IHI 0069, section 12.19).
 #[tactic(auto, unfolding(its_plain::specs::Answer::reply_of, its_plain::specs::Answer::left))]
-pub fn read_register(
-    machine: &mut Machine,
-    alloc: Global,
-    offset: u32,
-    size: u32,
-    out: &mut u64,
-) -> u32
+pub fn read_register(kept: &mut Kept, alloc: Global, offset: u32, size: u32, out: &mut u64) -> u32
     ensures code { result ≡ codes.if_in_range (is size) }
-    ensures told { is size ≡ true → out.new ≡ read_reg (regs_of machine.old 0) offset size }
+    ensures told { is size ≡ true → out.new ≡ read_reg (regs_of kept.old.machine 0) offset size }
     ensures refused { is size ≡ false → out.new ≡ out.old }
-    ensures same { machine.new ≡ machine.old }
+    ensures same { kept.new ≡ kept.old }
 {
     if !is_size(size) {
         return RANGE;
@@ -36,7 +31,7 @@ pub fn read_register(
         off: offset,
         size: size as u8,
     };
-    let Ok(Reply::Value(value)) = machine.answer(alloc, &call) else {
+    let Ok(Reply::Value(value)) = kept.answer(alloc, &call) else {
         unreachable!()
     };
     *out = value;
@@ -45,17 +40,11 @@ pub fn read_register(
 
 /// A write of 4 or 8 bytes of the translator's control frame.
 #[tactic(auto, unfolding(its_plain::specs::Answer::reply_of, its_plain::specs::Answer::left))]
-pub fn write_register(
-    machine: &mut Machine,
-    alloc: Global,
-    offset: u32,
-    size: u32,
-    value: u64,
-) -> u32
+pub fn write_register(kept: &mut Kept, alloc: Global, offset: u32, size: u32, value: u64) -> u32
     ensures code { result ≡ codes.if_in_range (is size) }
     ensures left { is size ≡ true
-        → machine.new ≡ written machine.old 0 offset size value }
-    ensures refused { is size ≡ false → machine.new ≡ machine.old }
+        → kept.new ≡ with_machine kept.old (written kept.old.machine 0 offset size value) }
+    ensures refused { is size ≡ false → kept.new ≡ kept.old }
 {
     if !is_size(size) {
         return RANGE;
@@ -66,7 +55,7 @@ pub fn write_register(
         size: size as u8,
         value,
     };
-    let Ok(_) = machine.answer(alloc, &call) else {
+    let Ok(_) = kept.answer(alloc, &call) else {
         unreachable!()
     };
     DONE
@@ -75,20 +64,20 @@ pub fn write_register(
 /// A read of 4 or 8 bytes of the LPI registers of a redistributor (IHI 0069, section 12.11).
 #[tactic(auto, unfolding(its_plain::specs::Answer::reply_of, its_plain::specs::Answer::left))]
 pub fn read_lpi_register(
-    machine: &mut Machine,
+    kept: &mut Kept,
     alloc: Global,
     vcpu: u32,
     offset: u32,
     size: u32,
     out: &mut u64,
 ) -> u32
-    ensures code { result ≡ codes.if_in_range (has_register machine.old vcpu size) }
-    ensures told { has_register machine.old vcpu size ≡ true
-        → out.new ≡ gicr_read machine.old vcpu offset size }
-    ensures refused { has_register machine.old vcpu size ≡ false → out.new ≡ out.old }
-    ensures same { machine.new ≡ machine.old }
+    ensures code { result ≡ codes.if_in_range (has_register kept.old.machine vcpu size) }
+    ensures told { has_register kept.old.machine vcpu size ≡ true
+        → out.new ≡ gicr_read kept.old.machine vcpu offset size }
+    ensures refused { has_register kept.old.machine vcpu size ≡ false → out.new ≡ out.old }
+    ensures same { kept.new ≡ kept.old }
 {
-    if !(has_vcpu(machine, vcpu) && is_size(size)) {
+    if !(has_vcpu(kept.machine(), vcpu) && is_size(size)) {
         return RANGE;
     }
     let call = Call::ReadGicr {
@@ -96,7 +85,7 @@ pub fn read_lpi_register(
         off: offset,
         size: size as u8,
     };
-    let Ok(Reply::Value(value)) = machine.answer(alloc, &call) else {
+    let Ok(Reply::Value(value)) = kept.answer(alloc, &call) else {
         unreachable!()
     };
     *out = value;
@@ -106,20 +95,20 @@ pub fn read_lpi_register(
 /// A write of 4 or 8 bytes of the LPI registers of a redistributor.
 #[tactic(auto, unfolding(its_plain::specs::Answer::reply_of, its_plain::specs::Answer::left))]
 pub fn write_lpi_register(
-    machine: &mut Machine,
+    kept: &mut Kept,
     alloc: Global,
     vcpu: u32,
     offset: u32,
     size: u32,
     value: u64,
 ) -> u32
-    ensures code { result ≡ codes.if_in_range (has_register machine.old vcpu size) }
-    ensures left { has_register machine.old vcpu size ≡ true
-        → machine.new ≡ gicr_written machine.old vcpu offset size value }
-    ensures refused { has_register machine.old vcpu size ≡ false
-        → machine.new ≡ machine.old }
+    ensures code { result ≡ codes.if_in_range (has_register kept.old.machine vcpu size) }
+    ensures left { has_register kept.old.machine vcpu size ≡ true
+        → kept.new ≡ with_machine kept.old (gicr_written kept.old.machine vcpu offset size value) }
+    ensures refused { has_register kept.old.machine vcpu size ≡ false
+        → kept.new ≡ kept.old }
 {
-    if !(has_vcpu(machine, vcpu) && is_size(size)) {
+    if !(has_vcpu(kept.machine(), vcpu) && is_size(size)) {
         return RANGE;
     }
     let call = Call::WriteGicr {
@@ -128,22 +117,22 @@ pub fn write_lpi_register(
         size: size as u8,
         value,
     };
-    let Ok(_) = machine.answer(alloc, &call) else {
+    let Ok(_) = kept.answer(alloc, &call) else {
         unreachable!()
     };
     DONE
 }
 
 /// The values that the LPI registers of a redistributor are restored from.
-pub fn stored_lpi_registers(machine: &Machine, vcpu: u32, out: &mut RedistributorIn) -> u32
-    ensures code { result ≡ codes.if_in_range (has machine.now vcpu) }
-    ensures told { has machine.now vcpu ≡ true → out.new ≡ stored machine.now vcpu }
-    ensures refused { has machine.now vcpu ≡ false → out.new ≡ out.old }
+pub fn stored_lpi_registers(kept: &Kept, vcpu: u32, out: &mut RedistributorIn) -> u32
+    ensures code { result ≡ codes.if_in_range (has kept.now.machine vcpu) }
+    ensures told { has kept.now.machine vcpu ≡ true → out.new ≡ stored kept.now.machine vcpu }
+    ensures refused { has kept.now.machine vcpu ≡ false → out.new ≡ out.old }
 {
-    if !has_vcpu(machine, vcpu) {
+    if !has_vcpu(kept.machine(), vcpu) {
         return RANGE;
     }
-    *out = match machine.lpi_registers(vcpu as usize) {
+    *out = match kept.machine().lpi_registers(vcpu as usize) {
         Some(values) => RedistributorIn {
             ctlr: values.ctlr,
             propbaser: values.propbaser,

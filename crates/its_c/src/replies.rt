@@ -3,7 +3,8 @@ ghost use Rattle.std.specs.Prelude.{◌≡◌};
 ghost use Rattle.its_c.specs.Replies as spec;
 
 use its_command::Op;
-use its_plain::{Ack, Cause, Reason, Signal, StepReply};
+use its_plain::{Ack, Cause, Reason, Reply, Route, Signal, StepReply};
+use step_views::Destination;
 
 /// Where a signal went.
 #[repr(C)]
@@ -17,6 +18,31 @@ pub struct SignalOut {
     pub vcpu: u32,
     /// The interrupt; 0 where the signal went nowhere.
     pub intid: u32,
+}
+
+/// What a device's write by address was.
+#[repr(C)]
+#[derive(Clone, Copy)]
+pub struct DmaOut {
+    /// 0 guest memory was written, 1 its bytes don't lie in one window, 2 it is a message of a
+    /// requester that is no device, 3 it meets a frame and is no message, 4 it is a message.
+    pub outcome: u32,
+    /// Where the message went; all zero where it is none.
+    pub signal: SignalOut,
+}
+
+/// Where an event leads. Numbers that aren't told are 0.
+#[repr(C)]
+#[derive(Clone, Copy)]
+pub struct EventOut {
+    /// As of a signal, but never 1.
+    pub cause: u32,
+    /// The interrupt, of a mapped event.
+    pub intid: u32,
+    /// The event's collection, of a mapped event.
+    pub collection: u32,
+    /// The virtual processor that the collection goes to, where it is mapped.
+    pub vcpu: u32,
 }
 
 /// The LPI that is acknowledged.
@@ -44,6 +70,8 @@ pub struct StepOut {
     pub reason: u32,
     /// Where the command is whose bytes don't lie in one window, else 0.
     pub address: u64,
+    /// Bit v: the pending LPIs or the configuration of virtual processor v may have changed.
+    pub concerned: u32,
 }
 
 // A cause as its number.
@@ -75,6 +103,56 @@ pub fn signal_out(signal: Signal) -> SignalOut
             intid: 0,
         },
     }
+}
+
+/// Where an event leads.
+pub fn event_out(destination: Destination) -> EventOut
+    ensures { result ≡ spec.event_out destination }
+{
+    match destination {
+        Destination::NoDevice => event_numbers(2, 0, 0, 0),
+        Destination::NoEvent => event_numbers(3, 0, 0, 0),
+        Destination::NoCollection { intid, icid } => event_numbers(4, intid.0, icid.0, 0),
+        Destination::LpisOff { intid, icid, vcpu } => event_numbers(5, intid.0, icid.0, vcpu.0),
+        Destination::Processor { intid, icid, vcpu } => event_numbers(0, intid.0, icid.0, vcpu.0),
+    }
+}
+
+fn event_numbers(cause: u32, intid: u32, collection: u16, vcpu: u8) -> EventOut
+    ensures { result ≡ record {
+      cause = cause;
+      intid = intid;
+      collection = collection;
+      vcpu = vcpu;
+    } }
+{
+    EventOut {
+        cause,
+        intid,
+        collection: u32::from(collection),
+        vcpu: u32::from(vcpu),
+    }
+}
+
+/// The answer of a write by address that went so.
+pub fn dma_out(route: Route, reply: Reply) -> DmaOut
+    ensures { result ≡ spec.dma_out route reply }
+{
+    let outcome = match route {
+        Route::Poke => u32::from(!matches!(reply, Reply::Ok)),
+        Route::NoRequester => 2,
+        Route::Frame => 3,
+        Route::Signal { .. } => 4,
+    };
+    let signal = match reply {
+        Reply::Signal(signal) => signal_out(signal),
+        _ => SignalOut {
+            cause: 0,
+            vcpu: 0,
+            intid: 0,
+        },
+    };
+    DmaOut { outcome, signal }
 }
 
 /// An acknowledgement's answer.
@@ -133,9 +211,9 @@ fn reason_number(reason: Reason) -> u32
     }
 }
 
-/// A step's answer.
-pub fn step_out(step: StepReply) -> StepOut
-    ensures { result ≡ spec.step_out step }
+/// A step's answer, and whom it concerns.
+pub fn step_out(step: StepReply, concerned: u32) -> StepOut
+    ensures { result ≡ spec.step_out step concerned }
 {
     match step {
         StepReply::Idle => StepOut {
@@ -143,24 +221,28 @@ pub fn step_out(step: StepReply) -> StepOut
             op: 0,
             reason: 0,
             address: 0,
+            concerned,
         },
         StepReply::Ran(op) => StepOut {
             outcome: 1,
             op: opcode(op),
             reason: 0,
             address: 0,
+            concerned,
         },
         StepReply::Refused(op, reason) => StepOut {
             outcome: 2,
             op: opcode(op),
             reason: reason_number(reason),
             address: 0,
+            concerned,
         },
         StepReply::QueueFault(at) => StepOut {
             outcome: 3,
             op: 0,
             reason: 0,
             address: at.0,
+            concerned,
         },
     }
 }

@@ -5,17 +5,18 @@ ghost use Rattle.its_c.specs.Saves.{IsSaved, IsMoved, IsUnsaved};
 
 use crate::codes::{DONE, FAULT, NO_MEMORY};
 use crate::faults::{SaveFaultOut, save_fault_out};
+use crate::kept::Kept;
 use its_plain::{Call, Reply, SaveError};
-use owned_machine::Machine;
 use std::alloc::Global;
 
 /// The tables are written to guest memory.
 #[tactic(auto, unfolding(its_plain::specs::Answer::reply_of, its_plain::specs::Answer::left))]
-pub fn save(machine: &mut Machine, alloc: Global, fault: &mut SaveFaultOut) -> u32
-    ensures done { result ≡ codes.done → IsSaved machine.old machine.new }
-    ensures otherwise { IsUnsaved result machine.old machine.new fault.old fault.new }
+pub fn save(kept: &mut Kept, alloc: Global, fault: &mut SaveFaultOut) -> u32
+    ensures done { result ≡ codes.done → IsSaved kept.old.machine kept.new.machine }
+    ensures otherwise { IsUnsaved result kept.old.machine kept.new.machine fault.old fault.new }
+    ensures beside { (kept.new.desc ≡ kept.old.desc) × (kept.new.limit ≡ kept.old.limit) }
 {
-    match machine.answer(alloc, &Call::Save) {
+    match kept.answer(alloc, &Call::Save) {
         Ok(Reply::Saved) => DONE,
         Ok(Reply::SaveFault(found)) => {
             *fault = save_fault_out(found);
@@ -28,11 +29,12 @@ pub fn save(machine: &mut Machine, alloc: Global, fault: &mut SaveFaultOut) -> u
 
 /// The tables are saved into a copy of guest memory, and the machine goes on from what that copy
 /// and the registers stand for.
-pub fn migrate(machine: &mut Machine, alloc: Global, fault: &mut SaveFaultOut) -> u32
-    ensures done { result ≡ codes.done → IsMoved machine.old machine.new }
-    ensures otherwise { IsUnsaved result machine.old machine.new fault.old fault.new }
+pub fn migrate(kept: &mut Kept, alloc: Global, fault: &mut SaveFaultOut) -> u32
+    ensures done { result ≡ codes.done → IsMoved kept.old.machine kept.new.machine }
+    ensures otherwise { IsUnsaved result kept.old.machine kept.new.machine fault.old fault.new }
+    ensures beside { (kept.new.desc ≡ kept.old.desc) × (kept.new.limit ≡ kept.old.limit) }
 {
-    match machine.migrate(alloc) {
+    match kept.migrate(alloc) {
         Ok(()) => DONE,
         Err(SaveError::Fault(found)) => {
             *fault = save_fault_out(found);

@@ -1,19 +1,21 @@
 //! Each call once, in the life of a machine: made, driven, signalled, saved, moved, freed.
 use crate::ack_calls::{its_best, its_claim, its_pending, its_show, its_take};
 use crate::calls::{
-    its_migrate, its_read_lpi_register, its_read_memory, its_read_register, its_save, its_signal,
-    its_step, its_stored_lpi_registers, its_write_lpi_register, its_write_memory,
-    its_write_register,
+    its_read_lpi_register, its_read_register, its_signal, its_stored_lpi_registers,
+    its_write_lpi_register, its_write_register,
 };
 use crate::codes::{DONE, HANDLE, OUTSIDE, RANGE};
 use crate::faults::{NO_FAULT, SaveFaultOut};
 use crate::handle::Handle;
 use crate::making::{its_free, its_new};
+use crate::memory_calls::{its_read_memory, its_write_memory};
 use crate::numbers::{DescriptionIn, FillIn, RedistributorIn, WindowIn};
 use crate::replies::{AckOut, SignalOut, StepOut};
+use crate::step_calls::{its_migrate, its_save, its_step};
 use std::alloc::Global;
 
-const NUMBERS: DescriptionIn = DescriptionIn {
+/// A machine of two processors, whose tables are described.
+pub const NUMBERS: DescriptionIn = DescriptionIn {
     vcpus: 2,
     device_bits: 16,
     lpi_bits: 16,
@@ -21,7 +23,9 @@ const NUMBERS: DescriptionIn = DescriptionIn {
     programmed: 0,
     restored: 0,
     linux_guest: 0,
+    has_frames: 0,
     config: 0x8003_0000,
+    frames: 0,
     ctlr: 0,
     cbaser: 0,
     creadr: 0,
@@ -30,15 +34,17 @@ const NUMBERS: DescriptionIn = DescriptionIn {
     baser1: 0,
 };
 
-const WINDOWS: [WindowIn; 1] = [WindowIn {
+/// 2 MiB.
+pub const WINDOWS: [WindowIn; 1] = [WindowIn {
     base: 0x8000_0000,
     length: 0x20_0000,
 }];
 
-const PENDING: [u64; 2] = [0x8004_0000, 0x8005_0000];
+/// Its pending tables.
+pub const PENDING: [u64; 2] = [0x8004_0000, 0x8005_0000];
 
-// LPI 8192 has priority 0xa0 and is enabled.
-const FILLS: [FillIn; 1] = [FillIn {
+/// LPI 8192 has priority 0xa0 and is enabled.
+pub const FILLS: [FillIn; 1] = [FillIn {
     address: 0x8003_0000,
     length: 1,
 }];
@@ -81,14 +87,17 @@ const NO_ACK: AckOut = AckOut {
     priority: 0,
 };
 
-const NO_STEP: StepOut = StepOut {
+/// What no step tells.
+pub const NO_STEP: StepOut = StepOut {
     outcome: 9,
     op: 0,
     reason: 0,
     address: 0,
+    concerned: 0,
 };
 
-fn made(alloc: Global, handle: &mut Handle) -> u32 {
+/// A machine, and what making it answers.
+pub fn made(alloc: Global, handle: &mut Handle) -> u32 {
     let mut fault = NO_FAULT;
     its_new(
         handle,
@@ -97,14 +106,15 @@ fn made(alloc: Global, handle: &mut Handle) -> u32 {
         &WINDOWS,
         &PENDING,
         &[],
+        &[],
         &FILLS,
         &[0xa1],
         &mut fault,
     )
 }
 
-// The guest's driver. How many commands ran.
-fn drive(alloc: Global, handle: &mut Handle) -> u32 {
+/// The guest's driver. How many commands ran.
+pub fn drive(alloc: Global, handle: &mut Handle) -> u32 {
     for (offset, size, value) in &REGISTERS {
         its_write_register(handle, alloc, *offset, *size, *value);
     }
@@ -209,10 +219,7 @@ fn registers_and_memory(rt: HostRuntime) {
         OUTSIDE
     );
     bytes[129] = 0;
-    assert_eq!(rt;
-        its_read_memory(&mut handle, alloc, 0x801f_ff7e, &mut bytes),
-        DONE
-    );
+    assert_eq!(rt; its_read_memory(&mut handle, 0x801f_ff7e, &mut bytes), DONE);
     assert_eq!(rt; bytes[129], 0x5a);
     assert_eq!(rt; its_free(&mut handle, alloc), DONE);
 }
@@ -241,6 +248,7 @@ fn programmed(alloc: Global, handle: &mut Handle) -> u32 {
         &windows,
         &[],
         &[off, off],
+        &[],
         &[],
         &[],
         &mut fault,

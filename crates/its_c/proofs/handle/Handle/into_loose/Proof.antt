@@ -2,7 +2,7 @@
 use mathlib.Core.Path.{◌≡◌, refl, sym, subst}
 use Rattle.std.proofs.Common.{true, false, Option, Some, None}
 use Rattle.std.specs.Prelude.{IsSome}
-use Rattle.its_plain.specs.Plain.{Plain}
+use Rattle.its_c.specs.Keeping.{Held}
 use Rattle.its_c.specs.contracts.handle.Handle.{the_row as handle_row}
 use mathlib.Core.List.{List, [], ◌∷◌, ◌++◌}
 use seplogic.Ra.Ura.{Ura}
@@ -44,7 +44,7 @@ module _ {M : Type 1} {𝓤 : Ura M} (𝓛 : Logic 𝓤) (memory : Memory → SP
   abbrev Goal : Entry → SProp 𝓤
   Goal z = WpFn 𝓤 𝓛.H 𝓣.C 𝓣.Λ code.function (z.0.4.0 ++ []) ((walk_of 𝓛 f.ended stayed (f.clauses 𝓛 memory run)).post z)
 
-  walk : (z : Entry) (u : Plain) → z.0.3.0.machine ≡ Some u → ent 𝓤 ((walk_of 𝓛 f.ended stayed (f.clauses 𝓛 memory run)).pre z) (Goal z)
+  walk : (z : Entry) (u : Held) → z.0.3.0.machine ≡ Some u → ent 𝓤 ((walk_of 𝓛 f.ended stayed (f.clauses 𝓛 memory run)).pre z) (Goal z)
   walk z u some =
       let Post = (walk_of 𝓛 f.ended stayed (f.clauses 𝓛 memory run)).post z in
       let h = z.0.3.0 in
@@ -52,7 +52,7 @@ module _ {M : Type 1} {𝓤 : Ura M} (𝓛 : Logic 𝓤) (memory : Memory → SP
       let Out = type_at (f.signature).result tt in
       let made : Out.Denot = record { at = v.ptr; alloc = v.alloc; value = v.value } in
       qed 𝓛 ((‵ ftrue ⊛ ‵ (fsep (handle_row.own_val h z.0.4.0) ftrue)) ∷ raw (fact 𝓤 (IsSome h.machine)) ∷ []) ∵ split ! $ drop ! $ fsplit ! $
-      rewrite ! 0 (λ (m : Option Plain). ‵ (handle_row.own_val (record { at = h.at; alloc = h.alloc; machine = m }) z.0.4.0)) some refl $
+      rewrite ! 0 (λ (m : Option Held). ‵ (handle_row.own_val (record { at = h.at; alloc = h.alloc; machine = m }) z.0.4.0)) some refl $
       box_out machine_box ! v z.0.4.0 (λ b o hv in_block is_word fits.
       box_in machine_box ! v b o v.value in_block refl $
       use1 𝓛 (‵ (Out.own_val made (word machine_box hv b o ∷ []))) (id⊢ 𝓤 _) $ move ! (1 ∷ 2 ∷ []) $ drop ! $ drop ! $
@@ -69,11 +69,11 @@ module _ {M : Type 1} {𝓤 : Ura M} (𝓛 : Logic 𝓤) (memory : Memory → SP
       nothing ! $ nothing ! $ fjoin ! $ join ! $ nothing ! $ join ! $ done !))))
 
   -- there is a machine
-  walk_any : (z : Entry) (m : Option Plain) → z.0.3.0.machine ≡ m → ent 𝓤 ((walk_of 𝓛 f.ended stayed (f.clauses 𝓛 memory run)).pre z) (Goal z)
+  walk_any : (z : Entry) (m : Option Held) → z.0.3.0.machine ≡ m → ent 𝓤 ((walk_of 𝓛 f.ended stayed (f.clauses 𝓛 memory run)).pre z) (Goal z)
   walk_any z None none =
       let h = z.0.3.0 in
       qed 𝓛 ((‵ ftrue ⊛ ‵ (fsep (handle_row.own_val h z.0.4.0) ftrue)) ∷ raw (fact 𝓤 (IsSome h.machine)) ∷ []) ∵
-      move ! (1 ∷ []) $ heard ! (IsSome h.machine) (λ some. absurd (let wrong : false ≡ true = subst (λ (m : Option Plain). IsSome m) none some in cc))
+      move ! (1 ∷ []) $ heard ! (IsSome h.machine) (λ some. absurd (let wrong : false ≡ true = subst (λ (m : Option Held). IsSome m) none some in cc))
   walk_any z (Some u) some = walk z u some
 
 pub into_loose_spec : {M : Type 1} → statement M

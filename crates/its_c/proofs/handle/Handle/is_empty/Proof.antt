@@ -30,8 +30,8 @@ use Rattle.std_alloc.specs.Box.Ownership.{box_owns}
 use Rattle.std_heap.specs.declared.Global.{Global}
 use Rattle.std_heap.specs.contracts.GlobalAllocator.TheImpl.{ghosts}
 use Rattle.std_heap.proofs.GlobalToken.{dealloc_token-Testable}
-use Rattle.its_plain.specs.Plain.{Plain}
-use Rattle.owned_machine.specs.contracts.machine.Machine.{the_row as machine_row}
+use Rattle.its_c.specs.Keeping.{Held}
+use Rattle.its_c.specs.contracts.kept.Kept.{the_row as machine_row}
 use Rattle.its_c.specs.declared.handle.Handle.{Handle}
 use Rattle.its_c.specs.contracts.handle.Handle.{the_row as handle_row}
 use Rattle.its_c.proofs.handle.Handle.TheLaws.{lowers}
@@ -47,13 +47,13 @@ module _ {U : Type 1} {𝓤 : Ura U} (𝓛 : Logic 𝓤) (memory : Memory → SP
     (κ : Lft) (q : Share) (place offset : ℕ) (γ : GName) (at : Ptr) (alloc : Global) where
   open 𝓛 use {H}
 
-  abbrev holder : Option Plain → Handle
+  abbrev holder : Option Held → Handle
   holder m = record { at = at; alloc = alloc; machine = m }
 
-  abbrev self : Option Plain → MutBor Handle
+  abbrev self : Option Held → MutBor Handle
   self m = record { ref_ptr = (place, offset); ghost_name = γ; now = holder m }
 
-  abbrev entry : Option Plain → (walk_of 𝓛 f.ended stayed (f.clauses 𝓛 memory run)).Ghost
+  abbrev entry : Option Held → (walk_of 𝓛 f.ended stayed (f.clauses 𝓛 memory run)).Ghost
   entry m = (((κ, tt), (q, tt), tt, (self m, tt), (vptr place offset ∷ [], tt)), tt)
 
   -- the right to free a block, from which its pointer may be compared
@@ -64,12 +64,12 @@ module _ {U : Type 1} {𝓤 : Ura U} (𝓛 : Logic 𝓤) (memory : Memory → SP
   tested p = fact_use 𝓤 (Testable p) (dealloc_token-Testable 𝓛 alloc (bare (lone machine_row.mir)) p) (guard_i 𝓤 (Testable p) (sem 𝓛 (token p)))
 
   module _ (C : Calls 𝓤 H) (Λ : Loops 𝓤 H) where
-    abbrev Goes : Option Plain → Type 1
+    abbrev Goes : Option Held → Type 1
     Goes m =
         ent 𝓤 ((walk_of 𝓛 f.ended stayed (f.clauses 𝓛 memory run)).pre (entry m))
         (WpFn 𝓤 H C Λ code.function (vptr place offset ∷ []) ((walk_of 𝓛 f.ended stayed (f.clauses 𝓛 memory run)).post (entry m)))
 
-    walk : (m : Option Plain) → Goes m
+    walk : (m : Option Held) → Goes m
     walk None =
         let h = holder None in
         qed 𝓛 (((‵ (flft κ q) ⊛ ‵ ftrue) ⊛ ‵ ((MutRef (named 0) κ handle_row).own_val (self None) (vptr place offset ∷ [])) ⊛ ‵ ftrue) ∷ ‵ ftrue ∷ []) ∵

@@ -38,8 +38,8 @@ use Rattle.std.proofs.alloc.Shapes.{after}
 use Rattle.std.proofs.raw_atomic.Walks.{proved}
 use Rattle.std_alloc.proofs.BoxSteps.Form.{τ, word, handle as allocator}
 use Rattle.std_alloc.proofs.BoxSteps.Steps.{box_out, box_in}
-use Rattle.its_plain.specs.Plain.{Plain}
-use Rattle.owned_machine.specs.contracts.machine.Machine.{the_row as machine_row}
+use Rattle.its_c.specs.Keeping.{Held}
+use Rattle.its_c.specs.contracts.kept.Kept.{the_row as machine_row}
 use Rattle.its_c.proofs.HandleBox.{machine_box, holder, box_of}
 use Rattle.its_c.specs.Lending.{holding}
 use Rattle.its_c.specs.declared.handle.Handle.{Handle}
@@ -57,16 +57,16 @@ module _ {U : Type 1} {𝓤 : Ura U} (𝓛 : Logic 𝓤) (memory : Memory → SP
   open 𝓛 use {H, A}
 
   -- the reference to the handle, which may have a machine
-  abbrev self : Option Plain → MutBor Handle
+  abbrev self : Option Held → MutBor Handle
   self m = record { ref_ptr = (place, offset); ghost_name = γ; now = record { at = at; alloc = alloc; machine = m } }
 
-  abbrev entry : Option Plain → (walk_of 𝓛 f.ended stayed (f.clauses 𝓛 memory run)).Ghost
+  abbrev entry : Option Held → (walk_of 𝓛 f.ended stayed (f.clauses 𝓛 memory run)).Ghost
   entry m = (((κ, tt), (q, tt), tt, (self m, tt), (vptr place offset ∷ [], tt)), tt)
 
-  abbrev Post : Option Plain → Val → SProp 𝓤
+  abbrev Post : Option Held → Val → SProp 𝓤
   Post m = (walk_of 𝓛 f.ended stayed (f.clauses 𝓛 memory run)).post (entry m)
 
-  module _ (b o : ℕ) (hv : Val) (now : Plain) where
+  module _ (b o : ℕ) (hv : Val) (now : Held) where
     abbrev h : Handle
     h = holder at alloc now
 
@@ -77,7 +77,7 @@ module _ {U : Type 1} {𝓤 : Ura U} (𝓛 : Logic 𝓤) (memory : Memory → SP
         (cell_at full_share handle_row.mir (word machine_box hv b o ∷ []) place offset)
 
     -- the machine in any state and the rest make a handle again
-    back : at ≡ block_ptr b o → (u : Plain)
+    back : at ≡ block_ptr b o → (u : Held)
         → ent 𝓤 (sep 𝓤 (sem 𝓛 ((mem machine_row).own_at u b o)) (sem 𝓛 rest)) (sem 𝓛 ((mem handle_row).own_at (holding h u) place offset))
     unfolding part_of
     back in_block u =
@@ -90,19 +90,19 @@ module _ {U : Type 1} {𝓤 : Ura U} (𝓛 : Logic 𝓤) (memory : Memory → SP
         → ent 𝓤 (sep 𝓤 (sem 𝓛 ((MutRef (named 0) κ machine_row).own_val (record { ref_ptr = (b, o); ghost_name = γ'; now = now }) (vptr b o ∷ [])))
         (sep 𝓤 (A.lft κ q) (sem 𝓛 (follows handle_row machine_row γ γ' (holding h))))) (Post (Some now) (vptr b o))
     exits γ' =
-        let loan : MutBor Plain = record { ref_ptr = (b, o); ghost_name = γ'; now = now } in
+        let loan : MutBor Held = record { ref_ptr = (b, o); ghost_name = γ'; now = now } in
         qed 𝓛 (‵ ((MutRef (named 0) κ machine_row).own_val loan (vptr b o ∷ [])) ∷ ‵ (flft κ q) ∷ ‵ (follows handle_row machine_row γ γ' (holding h)) ∷ []) ∵
         suffices ! _ (ends_at 𝓛 f.ended stayed (f.clauses 𝓛 memory run) (entry (Some now)) (vptr b o) loan (tt, tt) (tt, tt)) $
         nothing ! $ nothing ! $ fjoin ! $ join ! $ nothing ! $ move ! (2 ∷ 0 ∷ []) $ join ! $ join ! $ frame ! $ says ! refl $ done !
 
   module _ (C : Calls 𝓤 H) (Λ : Loops 𝓤 H) where
-    abbrev lends : Option Plain → SProp 𝓤
+    abbrev lends : Option Held → SProp 𝓤
     lends m = WpFn 𝓤 H C Λ code.function (vptr place offset ∷ []) (Post m)
 
-    abbrev given : Option Plain → SProp 𝓤
+    abbrev given : Option Held → SProp 𝓤
     given m = on_entry 𝓛 (f.ended).signature (κ, tt) (q, tt) (self m, tt) (vptr place offset ∷ [], tt)
 
-    walk : (u : Plain) → ent 𝓤 (given (Some u)) (lends (Some u))
+    walk : (u : Held) → ent 𝓤 (given (Some u)) (lends (Some u))
     walk u =
         let h = holder at alloc u in
         qed 𝓛 ((‵ (flft κ q) ⊛ ‵ ftrue) ∷ ‵ (owns (MutRef (named 0) κ handle_row ∷ []) (self (Some u), tt) (vptr place offset ∷ [], tt)) ∷ []) ∵
@@ -128,9 +128,9 @@ module _ {U : Type 1} {𝓤 : Ura U} (𝓛 : Logic 𝓤) (memory : Memory → SP
         await ! tt $ pick ! (λ γ'. returns ! (look_at ! 0 refl) $ free_all ! refl $ keep ! (0 ∷ []) $ by ! (exits b o hv u γ')))))
 
     -- there is a machine
-    walk_any : (m : Option Plain) → ent 𝓤 (sep 𝓤 (given m) (fact 𝓤 (IsSome m))) (lends m)
+    walk_any : (m : Option Held) → ent 𝓤 (sep 𝓤 (given m) (fact 𝓤 (IsSome m))) (lends m)
     walk_any None =
-        let m : Option Plain = None in
+        let m : Option Held = None in
         qed 𝓛 (raw (given m) ∷ raw (fact 𝓤 (IsSome m)) ∷ []) ∵ move ! (1 ∷ []) $
         heard ! (IsSome m) (λ some. absurd (let wrong : false ≡ true = some in cc))
     walk_any (Some u) = via 𝓤 _ (fst∗ 𝓤 (given (Some u)) (fact 𝓤 (IsSome (Some u)))) (walk u)

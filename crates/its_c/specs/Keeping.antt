@@ -1,0 +1,47 @@
+-- What a handle has: a machine, the description that it was made from, and how many events may be mapped.
+use Rattle.std.specs.Prelude.{◌-◌, ◌^◌, ℕ, Bool, true, false, not, ◌&&◌, ◌==◌, nat_le, []}
+use Rattle.its_plain.specs.Plain.{Plain}
+use Rattle.its_plain.specs.declared.call.Call.{Call}
+use Rattle.its_plain.specs.declared.call.Call.TheVariants as call
+use Rattle.its_plain.specs.declared.desc.Desc.{Desc}
+use Rattle.step_views.specs.Counts.{event_count, adds_event}
+
+pub record Held : Type 0 where
+  pub machine : Plain
+  -- but for the bytes that it put into memory
+  pub desc : Desc
+  -- how many events may be mapped
+  pub limit : ℕ
+
+abbrev pub with_machine : Held → Plain → Held
+with_machine h u = record h { machine = u }
+
+-- what is kept of a description that a machine was made from
+abbrev pub kept_of : Desc → Desc
+kept_of d = record d { fills = [] }
+
+-- the greatest limit is none
+abbrev pub no_limit : ℕ
+no_limit = 2 ^ 64 - 1
+
+-- the next step maps an event that isn't mapped, where as many are mapped as the limit says, or more
+unfoldable pub is_full : ℕ → Plain → Bool
+is_full limit u = not (limit == no_limit) && (adds_event u 0 && nat_le limit (event_count u 0))
+
+-- a call that leaves as many events mapped, or fewer: all but a step
+abbrev pub maps_none : Call → Bool
+maps_none (call.Step its) = false
+maps_none (call.Signal its dev ev) = true
+maps_none (call.Take vcpu) = true
+maps_none (call.Show vcpu) = true
+maps_none (call.Best vcpu mask) = true
+maps_none (call.Claim vcpu intid) = true
+maps_none (call.Poke addr bytes) = true
+maps_none (call.Peek addr count) = true
+maps_none (call.ReadReg its off size) = true
+maps_none (call.WriteReg its off size value) = true
+maps_none (call.ReadGicr vcpu off size) = true
+maps_none (call.WriteGicr vcpu off size value) = true
+maps_none call.Save = true
+maps_none call.Copy = true
+maps_none (call.Dma req addr bytes to) = true

@@ -1,0 +1,145 @@
+//! The calls of the command queue and of saves, by the machine's handle.
+ghost use Rattle.std.specs.Prelude.{◌≡◌, ◌≢◌, ◌⊎◌, true, None, is_some, length};
+ghost use Rattle.its_plain.specs.Answer.{step_reply, step_left};
+ghost use Rattle.owned_machine.specs.Whole.{step_adds};
+ghost use Rattle.its_c.specs.Codes as codes;
+ghost use Rattle.its_c.specs.Held.{InMachine, InHeld, beside};
+ghost use Rattle.its_c.specs.Keeping.{is_full};
+ghost use Rattle.its_c.specs.Replies as replies;
+ghost use Rattle.its_c.specs.Saves.{IsSaved, IsMoved, IsUnsaved};
+ghost use Rattle.its_c.specs.Stretches.{needed as reads, written_tables as tables};
+ghost use Rattle.its_c.specs.Stretches.{HasFirstOf, SameRest};
+
+use crate::codes::{DONE, HANDLE};
+use crate::commands::step;
+use crate::faults::SaveFaultOut;
+use crate::handle::Handle;
+use crate::replies::StepOut;
+use crate::saves::{migrate, save};
+use crate::stretches::{StretchOut, needed, written};
+use std::alloc::Global;
+
+/// The stretches of guest memory that the next step reads: as many as the list takes, whose rest
+/// stays, and how many there are.
+#[unsafe(no_mangle)]
+pub extern "C" fn its_needs(handle: &mut Handle, list: &mut [StretchOut], count: &mut u64) -> u32
+    ensures empty { handle.old.machine ≡ None
+        → (result ≡ codes.handle) × (list.new ≡ list.old) × (count.new ≡ count.old) }
+    ensures kept { beside handle.new ≡ beside handle.old }
+    ensures done { InMachine handle.old handle.new (λ u w. result ≡ codes.done) }
+    ensures told { InMachine handle.old handle.new (λ u w. HasFirstOf (reads u) list.new) }
+    ensures rest { InMachine handle.old handle.new (λ u w.
+        SameRest (length (reads u)) list.old list.new) }
+    ensures length { length list.new ≡ length list.old }
+    ensures count { InMachine handle.old handle.new (λ u w. count.new ≡ length (reads u)) }
+    ensures same { InMachine handle.old handle.new (λ u w. w ≡ u) }
+{
+    if handle.is_empty() {
+        return HANDLE;
+    }
+    needed(handle.lent(), list, count)
+}
+
+/// The translator takes its next command.
+#[unsafe(no_mangle)]
+pub extern "C" fn its_step(handle: &mut Handle, alloc: Global, out: &mut StepOut) -> u32
+    ensures empty { handle.old.machine ≡ None → (result ≡ codes.handle) × (out.new ≡ out.old) }
+    ensures kept { beside handle.new ≡ beside handle.old }
+    ensures codes { InMachine handle.old handle.new (λ u w. replies.IsStepCode result) }
+    ensures told { InMachine handle.old handle.new (λ u w. result ≡ codes.done
+        → out.new ≡ replies.step_out (step_reply u 0) out.new.concerned) }
+    ensures unconcerned { InMachine handle.old handle.new (λ u w.
+        result ≡ codes.done → replies.UnconcernedStay out.new.concerned u w) }
+    ensures left { InMachine handle.old handle.new (λ u w.
+        result ≡ codes.done → w ≡ step_left u 0) }
+    ensures full { InHeld handle.old handle.new (λ h k.
+        result ≡ codes.full → is_full h.limit h.machine ≡ true) }
+    ensures where_full { InHeld handle.old handle.new (λ h k.
+        is_full h.limit h.machine ≡ true → result ≡ codes.full) }
+    ensures rare { InMachine handle.old handle.new (λ u w.
+        result ≡ codes.no_memory → step_adds u 0 ≡ true) }
+    ensures refused { InMachine handle.old handle.new (λ u w.
+        result ≢ codes.done → (out.new ≡ out.old) × (w ≡ u)) }
+{
+    if handle.is_empty() {
+        return HANDLE;
+    }
+    step(handle.lent(), alloc, out)
+}
+
+/// How many events may be mapped from now on.
+#[unsafe(no_mangle)]
+pub extern "C" fn its_limit(handle: &mut Handle, events: u64) -> u32
+    ensures empty { handle.old.machine ≡ None → result ≡ codes.handle }
+    ensures kept { is_some handle.new.machine ≡ is_some handle.old.machine }
+    ensures done { InMachine handle.old handle.new (λ u w. result ≡ codes.done) }
+    ensures left { InHeld handle.old handle.new (λ h k. k ≡ record h { limit = events }) }
+{
+    if handle.is_empty() {
+        return HANDLE;
+    }
+    handle.lent().set_limit(events);
+    DONE
+}
+
+/// The tables are written to guest memory.
+#[unsafe(no_mangle)]
+pub extern "C" fn its_save(handle: &mut Handle, alloc: Global, fault: &mut SaveFaultOut) -> u32
+    ensures empty { handle.old.machine ≡ None → (result ≡ codes.handle) × (fault.new ≡ fault.old) }
+    ensures kept { beside handle.new ≡ beside handle.old }
+    ensures done { InMachine handle.old handle.new (λ u w. result ≡ codes.done → IsSaved u w) }
+    ensures otherwise { InMachine handle.old handle.new (λ u w.
+        IsUnsaved result u w fault.old fault.new) }
+{
+    if handle.is_empty() {
+        return HANDLE;
+    }
+    save(handle.lent(), alloc, fault)
+}
+
+/// The tables are saved into a copy of guest memory, and the machine goes on from what that copy
+/// and the registers stand for.
+#[unsafe(no_mangle)]
+pub extern "C" fn its_migrate(handle: &mut Handle, alloc: Global, fault: &mut SaveFaultOut) -> u32
+    ensures empty { handle.old.machine ≡ None → (result ≡ codes.handle) × (fault.new ≡ fault.old) }
+    ensures kept { beside handle.new ≡ beside handle.old }
+    ensures done { InMachine handle.old handle.new (λ u w. result ≡ codes.done → IsMoved u w) }
+    ensures otherwise { InMachine handle.old handle.new (λ u w.
+        IsUnsaved result u w fault.old fault.new) }
+{
+    if handle.is_empty() {
+        return HANDLE;
+    }
+    migrate(handle.lent(), alloc, fault)
+}
+
+/// The tables that a save of this state writes: as many as the list takes, whose rest stays, and
+/// how many there are.
+#[unsafe(no_mangle)]
+pub extern "C" fn its_written(
+    handle: &mut Handle,
+    alloc: Global,
+    list: &mut [StretchOut],
+    count: &mut u64,
+) -> u32
+    ensures empty { handle.old.machine ≡ None
+        → (result ≡ codes.handle) × (list.new ≡ list.old) × (count.new ≡ count.old) }
+    ensures kept { beside handle.new ≡ beside handle.old }
+    ensures codes { InMachine handle.old handle.new (λ u w.
+        (result ≡ codes.done) ⊎ (result ≡ codes.no_memory)) }
+    ensures told { InMachine handle.old handle.new (λ u w.
+        result ≡ codes.done → HasFirstOf (tables u) list.new) }
+    ensures rest { InMachine handle.old handle.new (λ u w.
+        result ≡ codes.done → SameRest (length (tables u)) list.old list.new) }
+    ensures length { length list.new ≡ length list.old }
+    ensures count { InMachine handle.old handle.new (λ u w.
+        result ≡ codes.done → count.new ≡ length (tables u)) }
+    ensures only { InMachine handle.old handle.new (λ u w.
+        result ≢ codes.done → (list.new ≡ list.old) × (count.new ≡ count.old)) }
+    ensures same { InMachine handle.old handle.new (λ u w. w ≡ u) }
+{
+    if handle.is_empty() {
+        return HANDLE;
+    }
+    written(handle.lent(), alloc, list, count)
+}
