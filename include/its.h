@@ -11,8 +11,9 @@
  * same memory. Every number may be anything: what is out of its range is answered. Where a call
  * doesn't answer ITS_DONE it changed nothing, but for the fault that it tells with ITS_FAULT.
  *
- * Section numbers are those of Arm IHI 0069. examples/monitor/check_header.py holds this file to
- * crates/its_c/src.
+ * The numbers of an enum have the words of docs/FORMATS.md, which its_text tells. Fields have 32 or 64
+ * bits, and no enum's type. Section numbers are those of Arm IHI 0069.
+ * examples/monitor/check_header.py holds this file to crates/its_c/src.
  */
 #ifndef ITS_H
 #define ITS_H
@@ -24,13 +25,122 @@
 extern "C" {
 #endif
 
+/* Counts the changes of this file after which a caller is built anew. */
+#define ITS_VERSION 2
+
 /* What a call answers. */
-#define ITS_DONE 0      /* it was made */
-#define ITS_NO_MEMORY 1 /* the host's memory ran out: the same call may be made again */
-#define ITS_OUTSIDE 2   /* the bytes don't all lie in guest memory */
-#define ITS_RANGE 3     /* a number is out of its range */
-#define ITS_FAULT 4     /* the description or the state is at fault, as the call tells */
-#define ITS_HANDLE 5    /* the handle has no machine; at its_new: it has one already */
+enum its_answer {
+    ITS_DONE = 0,      /* it was made */
+    ITS_NO_MEMORY = 1, /* the host's memory ran out: the same call may be made again */
+    ITS_OUTSIDE = 2,   /* the bytes don't all lie in guest memory */
+    ITS_RANGE = 3,     /* a number is out of its range */
+    ITS_FAULT = 4,     /* the description or the state is at fault, as the call tells */
+    ITS_HANDLE = 5,    /* the handle has no machine; at its_new: it has one already */
+    ITS_FULL = 6       /* of its_step: as many events are mapped as its_limit allows, or more */
+};
+
+/*
+ * Why a description makes no machine. 1 to 4, 14 and 15 are of the description, the others of what is
+ * restored.
+ */
+enum its_make_fault_kind {
+    ITS_MAKE_WINDOWS = 1,            /* no memory can have the windows */
+    ITS_MAKE_CONFIG = 2,             /* the configuration table doesn't lie in one window */
+    ITS_MAKE_PENDING = 3,            /* the pending table of `vcpu` doesn't */
+    ITS_MAKE_BYTES = 4,              /* the fill `number`, from 0, doesn't */
+    ITS_MAKE_OUTSIDE_TABLE = 5,      /* the entry at `address` doesn't lie in one window */
+    ITS_MAKE_BAD_SIZE = 6,           /* `device` has more than 16 EventID bits */
+    ITS_MAKE_BAD_INTID = 7,          /* `intid` of `device` and `event` is no LPI */
+    ITS_MAKE_PAST_END = 8,           /* `entry` of `table` leads `distance` entries on, past its end */
+    ITS_MAKE_BAD_TARGET = 9,         /* `collection` goes to `number`, which is no virtual processor */
+    ITS_MAKE_DOUBLE_COLLECTION = 10, /* `collection` has two entries */
+    ITS_MAKE_NOT_VALID = 11,         /* the register at `register_offset` can't stand beside the others */
+    ITS_MAKE_BAD_COLLECTION = 12,    /* `collection` has no place in the table */
+    ITS_MAKE_BAD_REDIST = 13,        /* a table of virtual processor `vcpu` doesn't lie in one window */
+    ITS_MAKE_ITS_BASE = 14,          /* the frames end past 2^52, or share a byte with a window */
+    ITS_MAKE_REQUESTER = 15          /* element `number` of requesters, from 0: `first` is above `last`, a
+                                        device is past 2^32 - 1, or one is in an earlier element */
+};
+
+/* Why a state can't be saved. */
+enum its_save_fault_kind {
+    ITS_SAVE_NO_PLACE = 1, /* the level-1 entry of `device` isn't valid */
+    ITS_SAVE_OUTSIDE = 2,  /* `region` doesn't lie in one window */
+    ITS_SAVE_OVERLAP = 3   /* `region` and `other_region` share a byte, and one of them is written */
+};
+
+/* A stretch of guest memory that a save looks at. */
+enum its_region {
+    ITS_REGION_DEVICES = 1,     /* the flat device table */
+    ITS_REGION_LEVEL1 = 2,      /* the first level of a device table */
+    ITS_REGION_PAGE = 3,        /* the page of level-1 entry `number` */
+    ITS_REGION_COLLECTIONS = 4, /* the collection table */
+    ITS_REGION_ITT = 5,         /* the interrupt translation table of device `number` */
+    ITS_REGION_PENDING = 6,     /* the pending table of virtual processor `number` */
+    ITS_REGION_CONFIG = 7,      /* the configuration table of all */
+    ITS_REGION_CONFIG_OF = 8,   /* that of virtual processor `number` */
+    ITS_REGION_QUEUE = 9        /* the command queue */
+};
+
+/* Where a signal went, or why it went nowhere. */
+enum its_cause {
+    ITS_CAUSE_DELIVERED = 0,     /* the LPI is pending */
+    ITS_CAUSE_DISABLED = 1,      /* the translator is not enabled */
+    ITS_CAUSE_NO_DEVICE = 2,     /* the device is not mapped */
+    ITS_CAUSE_NO_EVENT = 3,      /* the event is not, or has too many bits */
+    ITS_CAUSE_NO_COLLECTION = 4, /* the event's collection is not mapped */
+    ITS_CAUSE_LPIS_OFF = 5       /* the target's LPIs are off */
+};
+
+/* Why a command was refused. */
+enum its_reason {
+    ITS_REASON_UNKNOWN_COMMAND = 1,
+    ITS_REASON_DEVICE_RANGE = 2,
+    ITS_REASON_SIZE_RANGE = 3,
+    ITS_REASON_TARGET_RANGE = 4,
+    ITS_REASON_COLLECTION_RANGE = 5,
+    ITS_REASON_NO_DEVICE = 6,
+    ITS_REASON_EVENT_RANGE = 7,
+    ITS_REASON_INTID_RANGE = 8,
+    ITS_REASON_NO_EVENT = 9,
+    ITS_REASON_NO_COLLECTION = 10,
+    ITS_REASON_LPIS_OFF = 11
+};
+
+/* What became of a step. */
+enum its_outcome {
+    ITS_OUTCOME_IDLE = 0,       /* no command, or not enabled */
+    ITS_OUTCOME_RAN = 1,        /* it had its effect */
+    ITS_OUTCOME_REFUSED = 2,    /* it had none */
+    ITS_OUTCOME_QUEUE_FAULT = 3 /* its 32 bytes don't lie in one window */
+};
+
+/* A table whose entries lead from one to the next. */
+enum its_table {
+    ITS_TABLE_DEVICES = 1, /* the device table */
+    ITS_TABLE_ITT = 2      /* the interrupt translation table of `device` */
+};
+
+/* What a device's write by address was. */
+enum its_route {
+    ITS_ROUTE_MEMORY = 0,       /* guest memory was written */
+    ITS_ROUTE_OUTSIDE = 1,      /* its bytes don't lie in one window */
+    ITS_ROUTE_NO_REQUESTER = 2, /* a message of a requester that is no device */
+    ITS_ROUTE_FRAME = 3,        /* it meets a frame, and is no message */
+    ITS_ROUTE_SIGNAL = 4        /* a message */
+};
+
+/* The lists of words that its_text has. */
+enum its_list {
+    ITS_LIST_ANSWERS = 1,
+    ITS_LIST_MAKE_FAULTS = 2,
+    ITS_LIST_SAVE_FAULTS = 3,
+    ITS_LIST_REGIONS = 4,
+    ITS_LIST_CAUSES = 5,
+    ITS_LIST_REASONS = 6,
+    ITS_LIST_OUTCOMES = 7,
+    ITS_LIST_TABLES = 8
+};
 
 /*
  * A machine, or none. Begin with ITS_NO_MACHINE, and never read, write or copy `at`: whoever has the
@@ -50,7 +160,9 @@ struct its_description_in {
     uint32_t programmed;  /* 0 LPIs are on at the tables given, 1 the guest programs GICR_* */
     uint32_t restored;    /* 0 as at reset, 1 from guest memory and the registers that follow */
     uint32_t linux_guest; /* 1 with what a Linux guest counts on (docs/FORMATS.md, `linux`), 0 not */
+    uint32_t has_frames;  /* 1 devices write by address (its_dma) and frames says where, 0 not */
     uint64_t config;      /* address of the LPI configuration table, where programmed is 0 */
+    uint64_t frames;      /* address of the translator's two frames of 64 KiB, where has_frames is 1 */
     uint64_t ctlr;        /* GITS_CTLR to restore, of which bit 0 counts */
     uint64_t cbaser;      /* GITS_CBASER */
     uint64_t creadr;      /* GITS_CREADR */
@@ -81,28 +193,25 @@ struct its_redistributor_in {
     uint64_t pendbaser; /* bit 62, Pending Table Zero, as it was stored */
 };
 
+/* Which devices some requesters are: `first` is `device`, those after it the devices after that. */
+struct its_requesters_in {
+    uint32_t first;
+    uint32_t last;
+    uint32_t device;
+};
+
 /*
  * Why a description makes no machine: the first that applies, in the order of docs/FORMATS.md
  * (sections 1 and 7). What a kind doesn't name is 0.
  */
 struct its_make_fault_out {
-    /*
-     * Of the description: 1 no memory can have the windows; 2 the configuration table doesn't lie in
-     * one window; 3 the pending table of `vcpu` doesn't; 4 the fill `number`, from 0, doesn't.
-     * Of what is restored: 5 the entry at `address` doesn't lie in one window; 6 `device` has more
-     * than 16 EventID bits; 7 `intid` of `device` and `event` is no LPI; 8 `entry` of `table` leads
-     * `distance` entries on, past its end; 9 `collection` goes to `number`, which is no virtual
-     * processor; 10 `collection` has two entries; 11 the value for the register at offset
-     * `register_offset` can't stand beside the others; 12 `collection` has no place in the table;
-     * 13 a table of the redistributor of `vcpu` doesn't lie in one window. 14 and 15 aren't told yet.
-     */
-    uint32_t kind;
+    uint32_t kind; /* of enum its_make_fault_kind */
     uint32_t vcpu;
     uint32_t device;
     uint32_t event;
     uint32_t intid;
     uint32_t collection;
-    uint32_t table; /* 1 the device table, 2 the interrupt translation table of `device` */
+    uint32_t table; /* of enum its_table */
     uint32_t entry;
     uint32_t distance;
     uint32_t register_offset;
@@ -115,19 +224,9 @@ struct its_make_fault_out {
  * What a kind doesn't name is 0.
  */
 struct its_save_fault_out {
-    /*
-     * 1 the level-1 entry of `device` isn't valid; 2 `region` doesn't lie in one window; 3 `region`
-     * and `other_region` share a byte, and one of them is written.
-     */
-    uint32_t kind;
+    uint32_t kind; /* of enum its_save_fault_kind */
     uint32_t device;
-    /*
-     * 1 the flat device table; 2 the first level of a device table; 3 the page of level-1 entry
-     * `number`; 4 the collection table; 5 the interrupt translation table of device `number`; 6 the
-     * pending table of virtual processor `number`; 7 the configuration table of all; 8 that of
-     * virtual processor `number`; 9 the command queue.
-     */
-    uint32_t region;
+    uint32_t region; /* of enum its_region */
     uint32_t number;
     uint32_t other_region;
     uint32_t other_number;
@@ -135,14 +234,23 @@ struct its_save_fault_out {
 
 /* Where a signal went. */
 struct its_signal_out {
-    /*
-     * 0: `intid` is pending at `vcpu`. Else why it went nowhere: 1 the translator is not enabled, 2
-     * the device is not mapped, 3 the event is not, 4 the event's collection is not, 5 the target's
-     * LPIs are off.
-     */
-    uint32_t cause;
+    uint32_t cause; /* of enum its_cause; where it isn't 0, the others are */
     uint32_t vcpu;
     uint32_t intid;
+};
+
+/* What a device's write by address was. */
+struct its_dma_out {
+    uint32_t outcome;             /* of enum its_route */
+    struct its_signal_out signal; /* of a message; else all zero */
+};
+
+/* Where a signal of an event would go. What isn't told is 0. */
+struct its_event_out {
+    uint32_t cause; /* of enum its_cause, but never 1: the maps are asked */
+    uint32_t intid; /* this and the collection are told from cause 4 on, and at 0 */
+    uint32_t collection;
+    uint32_t vcpu; /* at cause 5 and at 0 */
 };
 
 /* An LPI to acknowledge. */
@@ -153,30 +261,44 @@ struct its_ack_out {
 
 /* What became of a step. */
 struct its_step_out {
-    uint32_t outcome; /* 0 no command, or not enabled; 1 it ran; 2 it was refused; 3 `address` isn't
-                         that of 32 bytes in one window */
+    uint32_t outcome; /* of enum its_outcome */
     uint32_t op;      /* byte 0 of a command that ran or was refused (section 5.3) */
+    uint32_t reason;  /* of enum its_reason, of a refused command */
+    uint64_t address; /* of a command whose bytes don't lie in one window */
     /*
-     * Of a refused command: 1 unknown command, 2 DeviceID out of range, 3 size, 4 target, 5
-     * collection, 6 the device is not mapped, 7 EventID out of range, 8 INTID out of range, 9 the
-     * event is not mapped, 10 the collection is not mapped, 11 the target's LPIs are off.
+     * Bit V is set where what its_show and its_best tell of virtual processor V may have changed. Where
+     * it is clear, that processor has the pending LPIs and the configuration that it had.
      */
-    uint32_t reason;
-    uint64_t address;
+    uint32_t concerned;
 };
+
+/* A stretch of guest memory. */
+struct its_stretch_out {
+    uint64_t address;
+    uint64_t length; /* in bytes */
+};
+
+/*
+ * The word that a number of a list has (enum its_list): `buffer` gets its beginning, as many bytes as
+ * it takes, with no zero at the end, and `count` how long the word is, at most 24. ITS_RANGE where
+ * the list has no such number.
+ */
+uint32_t its_text(uint32_t list, uint32_t number, uint8_t *buffer, size_t buffer_len,
+                  uint64_t *count);
 
 /*
  * Makes a machine for a handle that has none. Guest memory is the windows, zero but for the fills.
  * `pending` has the address of each virtual processor's pending table, where `programmed` is 0;
  * `redistributors` has the registers of each, where it is 1, which count where `restored` is 1. The
  * lengths of the fills are together bytes_len. A machine that was saved comes up again with the
- * memory and the registers that it had. ITS_NO_MEMORY, ITS_RANGE, ITS_FAULT with `fault`,
- * ITS_HANDLE.
+ * memory and the registers that it had. As many events may be mapped as there are: its_limit.
+ * ITS_NO_MEMORY, ITS_RANGE, ITS_FAULT with `fault`, ITS_HANDLE.
  */
 uint32_t its_new(struct its_handle *handle, const struct its_description_in *numbers,
                  const struct its_window_in *windows, size_t windows_len, const uint64_t *pending,
                  size_t pending_len, const struct its_redistributor_in *redistributors,
-                 size_t redistributors_len, const struct its_fill_in *fills, size_t fills_len,
+                 size_t redistributors_len, const struct its_requesters_in *requesters,
+                 size_t requesters_len, const struct its_fill_in *fills, size_t fills_len,
                  const uint8_t *bytes, size_t bytes_len, struct its_make_fault_out *fault);
 
 /* Frees the machine and its memory; the handle has none then. ITS_HANDLE where it had none. */
@@ -228,9 +350,34 @@ uint32_t its_read_memory(struct its_handle *handle, uint64_t address, uint8_t *b
 uint32_t its_write_memory(struct its_handle *handle, uint64_t address, const uint8_t *bytes,
                           size_t bytes_len);
 
+/*
+ * Makes bytes zero, all or none, and gives back the pages of 64 KiB that lie wholly inside. It takes no
+ * memory of the host. ITS_OUTSIDE where no window has them all, ITS_HANDLE.
+ */
+uint32_t its_forget(struct its_handle *handle, uint64_t address, uint64_t length);
+
+/*
+ * The first page that is held, from an address on: where it is, or goes on, and how many bytes it has
+ * from there on, at most 65,536; length 0 where there is none. All bytes of guest memory from that
+ * address on and before the page are zero. ITS_HANDLE.
+ */
+uint32_t its_next_page(struct its_handle *handle, uint64_t from, struct its_stretch_out *out);
+
 /* A device's message. It takes no memory of the host. ITS_HANDLE. */
 uint32_t its_signal(struct its_handle *handle, uint32_t device, uint32_t event,
                     struct its_signal_out *out);
+
+/*
+ * A write of 1 to 64 bytes by a requester, at an address: a message, where these are two or four bytes
+ * at 65,600 after the frames; nothing, where they meet the frames otherwise; else a write of guest
+ * memory. ITS_NO_MEMORY only of such a write, ITS_RANGE at another count of bytes, ITS_HANDLE.
+ */
+uint32_t its_dma(struct its_handle *handle, uint32_t requester, uint64_t address,
+                 const uint8_t *bytes, size_t bytes_len, struct its_dma_out *out);
+
+/* Where a signal of this event would go; nothing changes. ITS_HANDLE. */
+uint32_t its_event(struct its_handle *handle, uint32_t device, uint32_t event,
+                   struct its_event_out *out);
 
 /*
  * A virtual processor acknowledges its lowest LPI that is pending and enabled, which is then no
@@ -266,16 +413,42 @@ uint32_t its_pending(struct its_handle *handle, uint32_t vcpu, uint32_t *list, s
                      uint64_t *count);
 
 /*
+ * The stretches of guest memory that the next its_step reads: none where it takes no command; else the
+ * command's 32 bytes first, and then what this command, as the machine's memory has it now, reads
+ * besides. `list` gets the first of them, as many as it takes, and `count` how many there are, at most
+ * 18. Whatever other bytes guest memory has, the step's answer is the same, and so are the registers,
+ * maps, pending LPIs and configurations that it leaves. A stretch may lie outside guest memory.
+ * ITS_HANDLE.
+ */
+uint32_t its_needs(struct its_handle *handle, struct its_stretch_out *list, size_t list_len,
+                   uint64_t *count);
+
+/*
  * The translator takes the next command of its queue (section 5.3). ITS_NO_MEMORY only of a command
- * that adds a device, an event or a collection; ITS_HANDLE.
+ * that adds a device, an event or a collection; ITS_FULL only of one that adds an event, where as many
+ * are mapped as its_limit allows: the command stays in the queue. ITS_HANDLE.
  */
 uint32_t its_step(struct its_handle *handle, struct its_step_out *out);
+
+/*
+ * How many events may be mapped from now on; UINT64_MAX, as at first, is no limit. Events that are
+ * mapped stay, also where they are more. ITS_HANDLE.
+ */
+uint32_t its_limit(struct its_handle *handle, uint64_t events);
 
 /*
  * Writes the tables to guest memory: devices, events, collections and pending LPIs, in the format of
  * KVM's ITS (ABI revision 0). ITS_NO_MEMORY, ITS_FAULT with `fault`, ITS_HANDLE.
  */
 uint32_t its_save(struct its_handle *handle, struct its_save_fault_out *fault);
+
+/*
+ * The tables that a save of this state writes: right after its_save or its_migrate these are what was
+ * written. A save changes no byte outside them. `list` gets the first of them, as many as it takes, and
+ * `count` how many there are. ITS_NO_MEMORY, ITS_HANDLE.
+ */
+uint32_t its_written(struct its_handle *handle, struct its_stretch_out *list, size_t list_len,
+                     uint64_t *count);
 
 /*
  * Saves into a copy of guest memory, and goes on from what that copy and the registers say: as

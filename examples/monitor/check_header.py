@@ -5,7 +5,8 @@ usage: check_header.py HEADER SOURCE..
 
 Prints a C file that compiles only if the header declares what the sources define: each call with the
 same types, each struct with the same fields at the same places, each code with the same value. Ends
-with 1, and names what differs, where one side has a name that the other hasn't.
+with 1, and names what differs, where one side has a name that the other hasn't. Each constant of an
+enum is held to the word that the sources have for its number.
 """
 import re
 import sys
@@ -59,6 +60,53 @@ def codes(text):
         yield "ITS_" + name, value
 
 
+# The enum of each list of words, in the order of their numbers, and what its constants begin with.
+LISTS = {
+    "answer": "ITS_",
+    "make_fault": "ITS_MAKE_",
+    "save_fault": "ITS_SAVE_",
+    "region": "ITS_REGION_",
+    "cause": "ITS_CAUSE_",
+    "reason": "ITS_REASON_",
+    "outcome": "ITS_OUTCOME_",
+    "table": "ITS_TABLE_",
+}
+
+
+def words(text):
+    """Each number of a list that has a word: the list's function, the number and the word."""
+    for function, body in re.findall(r"^fn (\w+)\(number: u32\) -> &'static str.*?\{\n    match number \{(.*?)\n    \}", text, re.S | re.M):
+        for number, word in re.findall(r'^\s*(\d+) => "([^"]+)",', body, re.M):
+            yield function, int(number), word
+
+
+def constants(header):
+    """Each constant of an enum of the header: the enum's name, the constant's, and its number."""
+    for enum, body in re.findall(r"^enum its_(\w+) \{(.*?)\n\};", header, re.M | re.S):
+        for name, number in re.findall(r"(ITS_\w+) = (\d+)", body):
+            yield enum, name, int(number)
+
+
+def differing_words(header, text):
+    """What is wrong with the enums: a number without its word, or a name that isn't made of the word."""
+    said = {(function, number): word for function, number, word in words(text)}
+    declared = {}
+    for enum, name, number in constants(header):
+        declared[enum.replace("_kind", ""), number] = name
+    for (function, number), word in said.items():
+        name = declared.get((function, number))
+        wanted = LISTS[function] + word.replace("-", "_").upper()
+        # The configuration table of one processor has the word of that of all.
+        if name not in (wanted, wanted + "_OF"):
+            yield f"enum its_{function}: {number} is {word!r}, and the header has {name}"
+    for (enum, number), name in declared.items():
+        if enum in LISTS and (enum, number) not in said:
+            yield f"enum its_{enum}: {name} has no word"
+    lists = [name for enum, name, _ in constants(header) if enum == "list"]
+    if lists != ["ITS_LIST_" + ("CAUSES" if f == "cause" else f.upper() + "S") for f in LISTS]:
+        yield "enum its_list isn't that of the lists of words"
+
+
 def main():
     header = re.sub(r"/\*.*?\*/", "", open(sys.argv[1]).read(), flags=re.S)
     text = "\n".join(open(source).read() for source in sys.argv[2:])
@@ -66,9 +114,10 @@ def main():
     declared = {
         "struct": (set(re.findall(r"^struct (\w+) \{", header, re.M)), set(found_structs)),
         "call": (set(re.findall(r"^uint32_t (\w+)\(", header, re.M)), set(found_calls)),
-        "code": (set(re.findall(r"^#define (ITS_\w+) \d", header, re.M)), set(found_codes)),
+        "code": ({name for enum, name, _ in constants(header) if enum == "answer"}, set(found_codes)),
     }
     differing = [f"{what} {name}: in one of header and sources alone" for what, (a, b) in declared.items() for name in sorted(a ^ b)]
+    differing += differing_words(header, text)
     if differing or not found_calls:
         sys.exit("\n".join(differing) or "no call was found")
     print('#include "its.h"\n#include <assert.h>')

@@ -1,6 +1,7 @@
 /*
- * A small monitor: it plays a guest's driver, a device and a virtual processor, saves the machine
- * while an LPI is pending, and brings it up again from its memory and registers.
+ * A small monitor: it plays a guest's driver, a device and a virtual processor over guest memory of its
+ * own. It copies in what a step reads, and copies out what a save wrote; saves the machine while an LPI is
+ * pending, and brings it up again from memory and registers.
  */
 #include "its.h"
 
@@ -9,7 +10,7 @@
 #include <stdlib.h>
 #include <string.h>
 
-/* Where everything is in 2 MiB of guest memory. */
+/* Where everything is in the 2 MiB of memory that the guest uses, of a window that is longer. */
 enum {
     RAM = 0x80000000,
     RAM_SIZE = 0x200000,
@@ -24,13 +25,31 @@ enum {
 
 enum { CTLR = 0x0, CBASER = 0x80, CWRITER = 0x88, CREADR = 0x90, BASER0 = 0x100, BASER1 = 0x108 };
 
-static const struct its_window_in windows[] = {{RAM, RAM_SIZE}};
+static const uint64_t FRAMES = 0x9000000000;
+static const struct its_window_in windows[] = {{RAM, 0x1000000000}};
 static const uint64_t pending[] = {PENDING_0, PENDING_1};
+static const struct its_requesters_in requesters[] = {{0x10, 0x1f, 7}};
+
+/* The guest's memory. The library has a copy of it. */
+static uint8_t ram[RAM_SIZE];
+
+/* What a call answers in words. */
+static const char *word(uint32_t list, uint32_t number)
+{
+    static char words[2][25];
+    static int next;
+    uint64_t count;
+    char *text = words[next = 1 - next];
+    memset(text, 0, 25);
+    if (its_text(list, number, (uint8_t *)text, 24, &count) != ITS_DONE)
+        return "no word";
+    return text;
+}
 
 static void made(const char *call, uint32_t answer)
 {
     if (answer != ITS_DONE) {
-        printf("%s answers %u\n", call, answer);
+        printf("%s answers %s\n", call, word(ITS_LIST_ANSWERS, answer));
         exit(1);
     }
 }
@@ -44,6 +63,8 @@ static struct its_description_in description(void)
     numbers.lpi_bits = 16;
     numbers.profile = 1;
     numbers.config = CONFIG;
+    numbers.has_frames = 1;
+    numbers.frames = FRAMES;
     return numbers;
 }
 
@@ -51,10 +72,11 @@ static struct its_description_in description(void)
 static void start(struct its_handle *its)
 {
     struct its_description_in numbers = description();
-    struct its_fill_in fill = {CONFIG, 1};
-    uint8_t byte = 0xa1;
     struct its_make_fault_out fault;
-    made("its_new", its_new(its, &numbers, windows, 1, pending, 2, NULL, 0, &fill, 1, &byte, 1, &fault));
+    struct its_fill_in fill = {CONFIG, 1};
+    ram[CONFIG - RAM] = 0xa1;
+    made("its_new", its_new(its, &numbers, windows, 1, pending, 2, NULL, 0, requesters, 1, &fill, 1, &ram[CONFIG - RAM], 1,
+                            &fault));
 }
 
 static void store(struct its_handle *its, uint32_t offset, uint32_t size, uint64_t value)
@@ -69,16 +91,69 @@ static uint64_t load(struct its_handle *its, uint32_t offset, uint32_t size)
     return value;
 }
 
+/* Whether the guest has such memory. A stretch that it hasn't is passed over: the guest chose where. */
+static int is_ram(struct its_stretch_out s)
+{
+    return s.address >= RAM && s.length <= RAM_SIZE && s.address - RAM <= RAM_SIZE - s.length;
+}
+
+static void copy_in(struct its_handle *its, struct its_stretch_out s)
+{
+    uint32_t answer;
+    if (!is_ram(s))
+        return;
+    answer = its_write_memory(its, s.address, ram + (s.address - RAM), s.length);
+    if (answer != ITS_OUTSIDE)
+        made("its_write_memory", answer);
+}
+
+/* What the next step reads: the command first, and then what this command reads besides. */
+static uint64_t copy_needed(struct its_handle *its)
+{
+    struct its_stretch_out list[18];
+    uint64_t count, i;
+    made("its_needs", its_needs(its, list, 18, &count));
+    if (count == 0)
+        return 0;
+    copy_in(its, list[0]);
+    made("its_needs", its_needs(its, list, 18, &count));
+    for (i = 1; i < count; i++)
+        copy_in(its, list[i]);
+    return count;
+}
+
 /* The words of a report of `its run`. */
 static void tell_step(const struct its_step_out *step)
 {
-    static const char *const words[] = {"mapd", "mapc", "mapti"};
-    if (step->outcome == 0)
-        printf("step -> idle\n");
-    else if (step->outcome == 1 && step->op >= 8 && step->op <= 10)
-        printf("step -> ran %s\n", words[step->op - 8]);
-    else
-        printf("step: outcome %u, command 0x%02x\n", step->outcome, step->op);
+    static const char *const names[] = {"mapd", "mapc", "mapti"};
+    printf("step -> %s", word(ITS_LIST_OUTCOMES, step->outcome));
+    if (step->outcome == ITS_OUTCOME_RAN && step->op >= 8 && step->op <= 10)
+        printf(" %s", names[step->op - 8]);
+    printf("\n");
+}
+
+/*
+ * Takes all commands that the guest wrote: at most as many as a queue has. Each answer is told apart: at
+ * ITS_NO_MEMORY the call is made again later, and at ITS_FULL the limit is raised, or the guest stopped.
+ */
+static void run(struct its_handle *its)
+{
+    struct its_step_out step;
+    int steps;
+    for (steps = 0; steps < 32768; steps++) {
+        uint64_t stretches = copy_needed(its);
+        uint32_t answer = its_step(its, &step);
+        if (answer == ITS_FULL) {
+            printf("full: one event more\n");
+            made("its_limit", its_limit(its, 1));
+            continue;
+        }
+        made("its_step", answer);
+        tell_step(&step);
+        if (step.outcome == ITS_OUTCOME_IDLE || step.outcome == ITS_OUTCOME_QUEUE_FAULT)
+            return;
+        printf("%" PRIu64 " stretches were read, processors %x are concerned\n", stretches, step.concerned);
+    }
 }
 
 /* What the guest's driver does: it sets the translator up and maps event 2 of device 7. */
@@ -89,8 +164,6 @@ static void drive(struct its_handle *its)
         {9, 0, 0x8000000000010000, 0},                                 /* MAPC 0 to processor 1 */
         {0x000000070000000a, 0x0000200000000002, 0, 0}                 /* MAPTI 7 2 to LPI 8192 */
     };
-    uint8_t bytes[96];
-    struct its_step_out step;
     int i;
 
     store(its, BASER0, 8, 0x8107000000000200 | DEVICES);
@@ -98,25 +171,25 @@ static void drive(struct its_handle *its)
     store(its, CBASER, 8, 0x8000000000000000 | QUEUE);
     store(its, CTLR, 4, 1);
     for (i = 0; i < 96; i++)
-        bytes[i] = (uint8_t)(commands[i / 32][i % 32 / 8] >> 8 * (i % 8));
-    made("its_write_memory", its_write_memory(its, QUEUE, bytes, sizeof bytes));
-    store(its, CWRITER, 8, sizeof bytes);
-    do {
-        made("its_step", its_step(its, &step));
-        tell_step(&step);
-    } while (step.outcome != 0);
+        ram[QUEUE - RAM + i] = (uint8_t)(commands[i / 32][i % 32 / 8] >> 8 * (i % 8));
+    store(its, CWRITER, 8, 96);
+    run(its);
+}
+
+static void tell_signal(uint32_t device, uint32_t event, const struct its_signal_out *signal)
+{
+    printf("signal %u %u -> ", device, event);
+    if (signal->cause == ITS_CAUSE_DELIVERED)
+        printf("delivered %u %u\n", signal->vcpu, signal->intid);
+    else
+        printf("dropped %s\n", word(ITS_LIST_CAUSES, signal->cause));
 }
 
 static void send(struct its_handle *its, uint32_t device, uint32_t event)
 {
-    static const char *const causes[] = {"", "disabled", "no-device", "no-event", "no-collection", "lpis-off"};
     struct its_signal_out signal;
     made("its_signal", its_signal(its, device, event, &signal));
-    printf("signal %u %u -> ", device, event);
-    if (signal.cause == 0)
-        printf("delivered %u %u\n", signal.vcpu, signal.intid);
-    else
-        printf("dropped %s\n", causes[signal.cause]);
+    tell_signal(device, event, &signal);
 }
 
 static void acknowledge(struct its_handle *its, uint32_t vcpu)
@@ -129,19 +202,90 @@ static void acknowledge(struct its_handle *its, uint32_t vcpu)
         printf("take %u -> lpi %u 0x%02x\n", vcpu, ack.intid, ack.priority);
 }
 
-/* Saves, and goes on in a new machine that is made from the saved one's memory and registers. */
+/* The same by priority, as a monitor does that has other interrupts too. */
+static void acknowledge_best(struct its_handle *its, uint32_t vcpu, uint32_t mask)
+{
+    struct its_ack_out shown, best, claimed;
+    made("its_show", its_show(its, vcpu, &shown));
+    made("its_best", its_best(its, vcpu, mask, &best));
+    made("its_claim", its_claim(its, vcpu, best.intid, &claimed));
+    printf("processor %u shows %u, below 0x%02x %u, claims %u\n", vcpu, shown.intid, mask, best.intid, claimed.intid);
+}
+
+static void write_by_address(struct its_handle *its, uint32_t requester, uint64_t address)
+{
+    static const uint8_t bytes[4] = {2, 0, 0, 0};
+    struct its_dma_out out;
+    made("its_dma", its_dma(its, requester, address, bytes, 4, &out));
+    printf("requester %u writes at 0x%" PRIx64 ": ", requester, address);
+    if (out.outcome == ITS_ROUTE_SIGNAL)
+        tell_signal(7, 2, &out.signal);
+    else
+        printf("route %u\n", out.outcome);
+}
+
+static void lead(struct its_handle *its, uint32_t device, uint32_t event)
+{
+    struct its_event_out out;
+    made("its_event", its_event(its, device, event, &out));
+    printf("event %u %u leads to %s: lpi %u, collection %u, processor %u\n", device, event,
+           word(ITS_LIST_CAUSES, out.cause), out.intid, out.collection, out.vcpu);
+}
+
+/* Copies out just what the save wrote. */
+static void copy_out(struct its_handle *its)
+{
+    struct its_stretch_out list[16];
+    uint64_t count, i;
+    made("its_written", its_written(its, list, 16, &count));
+    printf("a save wrote %" PRIu64 " tables\n", count);
+    for (i = 0; i < count && i < 16; i++)
+        if (is_ram(list[i]))
+            made("its_read_memory", its_read_memory(its, list[i].address, ram + (list[i].address - RAM), list[i].length));
+}
+
+/* The pages that are held. All other bytes are zero. */
+static void list_pages(struct its_handle *its)
+{
+    struct its_stretch_out page = {0, 0};
+    printf("pages:");
+    for (;;) {
+        made("its_next_page", its_next_page(its, page.address + page.length, &page));
+        if (page.length == 0)
+            break;
+        printf(" 0x%" PRIx64, page.address);
+    }
+    printf("\n");
+}
+
+/*
+ * Saves, and goes on in a new machine that is made from the guest's memory and the registers. The pages
+ * that were held are its fills. The new handle is made first, and the old one ended then: where it can't
+ * be made, the old machine goes on.
+ */
 static void move(struct its_handle *from, struct its_handle *to)
 {
     struct its_description_in numbers = description();
-    struct its_fill_in whole = {RAM, RAM_SIZE};
+    struct its_fill_in fills[32];
     struct its_save_fault_out unsaved;
     struct its_make_fault_out unmade;
-    uint8_t *memory = malloc(RAM_SIZE);
+    struct its_stretch_out page = {0, 0};
+    size_t pages = 0, size = 0;
+    uint8_t *bytes = malloc(RAM_SIZE);
 
-    if (memory == NULL)
+    if (bytes == NULL)
         exit(1);
     made("its_save", its_save(from, &unsaved));
-    made("its_read_memory", its_read_memory(from, RAM, memory, RAM_SIZE));
+    copy_out(from);
+    for (;;) {
+        made("its_next_page", its_next_page(from, page.address + page.length, &page));
+        if (page.length == 0)
+            break;
+        memcpy(bytes + size, ram + (page.address - RAM), page.length);
+        fills[pages].address = page.address;
+        fills[pages++].length = page.length;
+        size += page.length;
+    }
     numbers.restored = 1;
     numbers.ctlr = load(from, CTLR, 4);
     numbers.cbaser = load(from, CBASER, 8);
@@ -149,9 +293,9 @@ static void move(struct its_handle *from, struct its_handle *to)
     numbers.cwriter = load(from, CWRITER, 8);
     numbers.baser0 = load(from, BASER0, 8);
     numbers.baser1 = load(from, BASER1, 8);
+    made("its_new", its_new(to, &numbers, windows, 1, pending, 2, NULL, 0, requesters, 1, fills, pages, bytes, size, &unmade));
     made("its_free", its_free(from));
-    made("its_new", its_new(to, &numbers, windows, 1, pending, 2, NULL, 0, &whole, 1, memory, RAM_SIZE, &unmade));
-    free(memory);
+    free(bytes);
 }
 
 static void list_pending(struct its_handle *its, uint32_t vcpu)
@@ -165,12 +309,34 @@ static void list_pending(struct its_handle *its, uint32_t vcpu)
     printf("\n");
 }
 
+/* A machine whose guest programs GICR_*: LPIs go on at processor 0, and its registers are told. */
+static void programmed(void)
+{
+    struct its_handle its = ITS_NO_MACHINE;
+    struct its_description_in numbers = description();
+    struct its_redistributor_in off[2], stored;
+    struct its_make_fault_out fault;
+    uint64_t value;
+
+    memset(off, 0, sizeof off);
+    numbers.programmed = 1;
+    made("its_new", its_new(&its, &numbers, windows, 1, NULL, 0, off, 2, NULL, 0, NULL, 0, NULL, 0, &fault));
+    made("its_write_lpi_register", its_write_lpi_register(&its, 0, 0x70, 8, CONFIG | 15));
+    made("its_write_lpi_register", its_write_lpi_register(&its, 0, 0x78, 8, 0x4000000000000000 | PENDING_0));
+    made("its_write_lpi_register", its_write_lpi_register(&its, 0, 0x0, 4, 1));
+    made("its_read_lpi_register", its_read_lpi_register(&its, 0, 0x0, 4, &value));
+    made("its_stored_lpi_registers", its_stored_lpi_registers(&its, 0, &stored));
+    printf("GICR_CTLR 0x%" PRIx64 ", stored GICR_PENDBASER 0x%" PRIx64 "\n", value, stored.pendbaser);
+    made("its_free", its_free(&its));
+}
+
 /* Numbers that no machine has, and a handle that has none: each is answered, and nothing happens. */
 static void misuse(struct its_handle *its, struct its_handle *freed)
 {
     struct its_description_in numbers = description();
     struct its_make_fault_out fault;
     struct its_signal_out signal;
+    struct its_dma_out written;
     struct its_ack_out ack;
     uint64_t value;
     uint8_t byte = 0;
@@ -179,13 +345,17 @@ static void misuse(struct its_handle *its, struct its_handle *freed)
     printf("no such processor: %u\n", its_take(its, 256, &ack));
     printf("no such size: %u\n", its_read_register(its, CTLR, 3, &value));
     printf("no memory there: %u\n", its_write_memory(its, UINT64_MAX, &byte, 1));
+    printf("no memory to forget: %u\n", its_forget(its, 0, 1));
+    printf("no bytes: %u\n", its_dma(its, 0x10, RAM, NULL, 0, &written));
+    printf("no such word: %u\n", its_text(ITS_LIST_TABLES, 3, NULL, 0, &value));
     send(its, UINT32_MAX, UINT32_MAX);
     printf("freed handle: %u\n", its_signal(freed, 7, 2, &signal));
     printf("freed twice: %u\n", its_free(freed));
-    printf("handle in use: %u\n", its_new(its, &numbers, windows, 1, pending, 2, NULL, 0, NULL, 0, NULL, 0, &fault));
+    printf("handle in use: %u\n",
+           its_new(its, &numbers, windows, 1, pending, 2, NULL, 0, NULL, 0, NULL, 0, NULL, 0, &fault));
     numbers.config = 0;
-    printf("table outside: %u", its_new(&other, &numbers, windows, 1, pending, 2, NULL, 0, NULL, 0, NULL, 0, &fault));
-    printf(", kind %u\n", fault.kind);
+    printf("table outside: %u", its_new(&other, &numbers, windows, 1, pending, 2, NULL, 0, NULL, 0, NULL, 0, NULL, 0, &fault));
+    printf(", %s\n", word(ITS_LIST_MAKE_FAULTS, fault.kind));
 }
 
 int main(void)
@@ -195,12 +365,15 @@ int main(void)
     struct its_save_fault_out fault;
 
     start(&first);
+    made("its_limit", its_limit(&first, 0));
     drive(&first);
+    lead(&first, 7, 2);
     send(&first, 7, 2);
     acknowledge(&first, 1);
     acknowledge(&first, 1);
     send(&first, 7, 3);
     send(&first, 7, 2);
+    list_pages(&first);
     move(&first, &second);
     printf("moved\n");
     list_pending(&second, 1);
@@ -208,8 +381,16 @@ int main(void)
     send(&second, 7, 2);
     made("its_migrate", its_migrate(&second, &fault));
     acknowledge(&second, 1);
+    write_by_address(&second, 0x10, FRAMES + 0x10040);
+    write_by_address(&second, 0x20, FRAMES + 0x10040);
+    write_by_address(&second, 0x10, FRAMES);
+    acknowledge_best(&second, 1, 0xff);
+    acknowledge_best(&second, 1, 0xff);
+    made("its_forget", its_forget(&second, TRANSLATIONS, 0x10000));
+    list_pages(&second);
     misuse(&second, &first);
     made("its_free", its_free(&second));
+    programmed();
     printf("done\n");
     return 0;
 }

@@ -71,18 +71,22 @@ static void play(void)
     static const uint8_t byte = 0xa1;
     static const uint64_t commands[12] = {0x0000000700000008, 3, 0x80000000800c0000, 0, 9, 0, 0x8000000000010000, 0,
                                           0x000000070000000a, 0x0000200000000002, 0, 0};
-    struct its_description_in numbers = {2, 16, 16, 1, 0, 0, 0x80030000, 0, 0, 0, 0, 0, 0};
+    struct its_description_in numbers = {.vcpus = 2, .device_bits = 16, .lpi_bits = 16, .profile = 1, .config = 0x80030000, .has_frames = 1, .frames = 0x90000000};
+    static const struct its_requesters_in requesters[1] = {{1, 1, 7}};
     struct its_handle its = ITS_NO_MACHINE;
     struct its_make_fault_out unmade;
     struct its_save_fault_out unsaved;
+    struct its_stretch_out tables_written[8];
+    struct its_dma_out written;
     struct its_step_out step;
     struct its_signal_out signal;
     struct its_ack_out ack;
     uint32_t list[4];
-    uint64_t count;
+    uint64_t count, waiting;
     int i;
 
-    CALL(its_new(&its, &numbers, &window, 1, tables, 2, NULL, 0, &fill, 1, &byte, 1, &unmade));
+    CALL(its_new(&its, &numbers, &window, 1, tables, 2, NULL, 0, requesters, 1, &fill, 1, &byte, 1,
+                 &unmade));
     CALL(its_write_register(&its, 0x100, 8, 0x8107000080000200));
     CALL(its_write_register(&its, 0x108, 8, 0x8407000080010200));
     CALL(its_write_register(&its, 0x80, 8, 0x8000000080020000));
@@ -95,11 +99,15 @@ static void play(void)
             exit(1);
     }
     CALL(its_signal(&its, 7, 2, &signal));
-    CALL(its_pending(&its, 1, list, 4, &count));
+    CALL(its_pending(&its, 1, list, 4, &waiting));
+    CALL(its_dma(&its, 1, 0x801f0000, &byte, 1, &written));
     CALL(its_save(&its, &unsaved));
+    CALL(its_written(&its, tables_written, 8, &count));
+    if (count != 5)
+        exit(1);
     CALL(its_migrate(&its, &unsaved));
     CALL(its_take(&its, 1, &ack));
-    if (signal.cause != 0 || count != 1 || ack.intid != 8192)
+    if (signal.cause != 0 || waiting != 1 || ack.intid != 8192)
         exit(1);
     CALL(its_free(&its));
 }

@@ -4,11 +4,17 @@
 
 #include <inttypes.h>
 #include <stdio.h>
+#include <stdlib.h>
+#include <string.h>
 #include <time.h>
 
-enum { COUNT = 1000000 };
+enum { COUNT = 1000000, DEVICES = 8, EVENTS = 128, BITS = 7, MIB = 0x100000 };
+
+static const uint64_t RAM = 0x80000000, CONFIG = 0x80030000, QUEUE = 0x80020000, ITTS = 0x80100000;
+static const uint64_t TABLES[2] = {0x80040000, 0x80050000};
 
 static uint64_t sum;
+static uint32_t slot;
 
 static double now(void)
 {
@@ -28,51 +34,108 @@ static double now(void)
             double each = (now() - from) / (double)(count);                                \
             least = each < least ? each : least;                                           \
         }                                                                                  \
-        printf("%-28s %10.1f ns\n", (name), least);                                        \
+        printf("%-40s %12.1f ns\n", (name), least);                                        \
     } while (0)
+
+static void made(const char *call, uint32_t answer)
+{
+    if (answer != ITS_DONE) {
+        printf("%s answers %u\n", call, answer);
+        exit(1);
+    }
+}
+
+/* A machine of two processors, with one window from RAM on. Every LPI is enabled. */
+static void start(struct its_handle *its, uint64_t length)
+{
+    static uint8_t bytes[57344];
+    struct its_description_in numbers = {.vcpus = 2, .device_bits = 16, .lpi_bits = 16, .profile = 1, .config = CONFIG};
+    struct its_window_in window = {RAM, length};
+    struct its_fill_in fill = {CONFIG, sizeof bytes};
+    struct its_make_fault_out unmade;
+    memset(bytes, 0xa1, sizeof bytes);
+    made("its_new", its_new(its, &numbers, &window, 1, TABLES, 2, NULL, 0, NULL, 0, &fill, 1, bytes, sizeof bytes, &unmade));
+}
+
+/* Puts a command into the queue's next place, and says how far the queue is written now. */
+static void put(struct its_handle *its, uint64_t first, uint64_t second, uint64_t third)
+{
+    uint64_t words[4] = {first, second, third, 0};
+    made("its_write_memory", its_write_memory(its, QUEUE + 32 * (uint64_t)slot, (const uint8_t *)words, sizeof words));
+    slot = (slot + 1) % 128;
+    made("its_write_register", its_write_register(its, 0x88, 8, 32 * (uint64_t)slot));
+}
+
+static void run(struct its_handle *its, uint64_t first, uint64_t second, uint64_t third)
+{
+    struct its_step_out step;
+    put(its, first, second, third);
+    made("its_step", its_step(its, &step));
+    if (step.outcome != ITS_OUTCOME_RAN) {
+        printf("command 0x%02x has outcome %u\n", step.op, step.outcome);
+        exit(1);
+    }
+}
+
+/* The guest's driver: devices 0 to 7 with 128 events each, all of one collection. */
+static void drive(struct its_handle *its)
+{
+    slot = 0;
+    its_write_register(its, 0x100, 8, 0x8107000080000200);
+    its_write_register(its, 0x108, 8, 0x8407000080010200);
+    its_write_register(its, 0x80, 8, 0x8000000000000000 | QUEUE);
+    its_write_register(its, 0, 4, 1);
+    run(its, 9, 0, 0x8000000000010000);
+    for (uint64_t device = 0; device < DEVICES; device++) {
+        run(its, device << 32 | 8, BITS - 1, 0x8000000000000000 | (ITTS + 0x400 * device));
+        for (uint64_t event = 0; event < EVENTS; event++)
+            run(its, device << 32 | 0xa, (8192 + device * EVENTS + event) << 32 | event, 0);
+    }
+}
+
+static void new_and_free(uint64_t length)
+{
+    struct its_handle its = ITS_NO_MACHINE;
+    start(&its, length);
+    its_free(&its);
+}
 
 int main(void)
 {
-    static const struct its_window_in window = {0x80000000, 0x200000};
-    static const uint64_t tables[2] = {0x80040000, 0x80050000};
-    static const struct its_fill_in fill = {0x80030000, 1};
-    static const uint8_t byte = 0xa1;
-    static const uint64_t commands[16] = {0x0000000700000008, 3, 0x80000000800c0000, 0, 9, 0, 0x8000000000010000, 0,
-                                          0x000000070000000a, 0x0000200000000002, 0, 0, 0x000000070000000c, 2, 0, 0};
-    static uint8_t memory[0x200000];
-    struct its_description_in numbers = {2, 16, 16, 1, 0, 0, 0x80030000, 0, 0, 0, 0, 0, 0};
+    static uint8_t memory[2 * MIB], other[2 * MIB];
     struct its_handle its = ITS_NO_MACHINE;
-    struct its_make_fault_out unmade;
     struct its_save_fault_out unsaved;
-    struct its_step_out step;
+    struct its_stretch_out list[18];
     struct its_signal_out signal;
+    struct its_event_out event;
+    struct its_step_out step;
     struct its_ack_out ack;
-    uint64_t value;
+    uint64_t value, count;
 
-    TIME("its_new and its_free", 20, its_new(&its, &numbers, &window, 1, tables, 2, NULL, 0, &fill, 1, &byte, 1, &unmade); its_free(&its));
-    its_new(&its, &numbers, &window, 1, tables, 2, NULL, 0, &fill, 1, &byte, 1, &unmade);
-    its_write_register(&its, 0x100, 8, 0x8107000080000200);
-    its_write_register(&its, 0x108, 8, 0x8407000080010200);
-    its_write_register(&its, 0x80, 8, 0x8000000080020000);
-    its_write_register(&its, 0, 4, 1);
-    its_write_memory(&its, 0x80020000, (const uint8_t *)commands, sizeof commands);
-    its_write_register(&its, 0x88, 8, 0x60);
-    for (int i = 0; i < 3; i++)
-        its_step(&its, &step);
-    TIME("its_signal", COUNT, its_signal(&its, 7, 2, &signal); sum += signal.intid);
+    start(&its, (uint64_t)64 << 30);
+    drive(&its);
+    TIME("its_signal, pending already", COUNT, its_signal(&its, 7, 2, &signal); sum += signal.intid);
     TIME("its_signal and its_take", COUNT, its_signal(&its, 7, 2, &signal); its_take(&its, 1, &ack); sum += ack.intid);
+    TIME("its_signal, its_best and its_claim", COUNT, its_signal(&its, 7, 2, &signal); its_best(&its, 1, 255, &ack);
+         its_claim(&its, 1, ack.intid, &ack); sum += ack.intid);
+    TIME("its_event", COUNT, its_event(&its, 7, 2, &event); sum += event.intid);
     TIME("its_read_register", COUNT, its_read_register(&its, 0x90, 8, &value); sum += value);
-    TIME("its_write_memory, 32 bytes", COUNT / 10, its_write_memory(&its, 0x80020060, (const uint8_t *)&commands[12], 32));
-    its_write_register(&its, 0, 4, 0);
-    its_write_register(&its, 0x80, 8, 0x8000000080020000);
-    its_write_memory(&its, 0x80020000, (const uint8_t *)&commands[12], 32);
-    its_write_register(&its, 0, 4, 1);
-    TIME("INV: write, step, and reset", COUNT / 10, its_write_register(&its, 0x88, 8, 0x20); its_step(&its, &step); sum += step.outcome;
-         its_write_register(&its, 0x80, 8, 0x8000000080020000));
-    TIME("its_read_memory, 2 MiB", 20, its_read_memory(&its, 0x80000000, memory, sizeof memory); sum += memory[0]);
-    TIME("its_save", 20, its_save(&its, &unsaved));
-    TIME("its_migrate", 20, its_migrate(&its, &unsaved));
+    TIME("its_write_memory of 32 bytes", COUNT, its_write_memory(&its, QUEUE, memory, 32));
+    TIME("its_write_memory of 2 MiB", 20, its_write_memory(&its, RAM + 16 * MIB, memory, sizeof memory));
+    TIME("memcpy of 2 MiB", 20, memcpy(other, memory, sizeof memory); memory[i] = other[i + 1]);
+    TIME("its_read_memory of 2 MiB", 20, its_read_memory(&its, RAM + 16 * MIB, memory, sizeof memory); sum += memory[0]);
+    TIME("its_needs, nothing to take", COUNT, its_needs(&its, list, 18, &count); sum += count);
+    put(&its, (uint64_t)7 << 32 | 0xc, 2, 0);
+    TIME("its_needs, an INV", COUNT, its_needs(&its, list, 18, &count); sum += count);
+    made("its_step", its_step(&its, &step));
+    TIME("INV: its_write_memory, CWRITER, its_step", COUNT / 10, run(&its, (uint64_t)7 << 32 | 0xc, 2, 0));
+    TIME("INVALL of 1,024 events, the same", 1000, run(&its, 0xd, 0, 0));
+    TIME("its_save of 1,024 events", 100, its_save(&its, &unsaved));
+    TIME("its_written", COUNT / 100, its_written(&its, list, 18, &count); sum += count);
+    TIME("its_migrate of 1,024 events", 20, its_migrate(&its, &unsaved));
     its_free(&its);
+    TIME("its_new of 1 MiB, and its_free", 100, new_and_free(MIB));
+    TIME("its_new of 64 GiB, and its_free", 100, new_and_free((uint64_t)64 << 30));
     printf("(%" PRIu64 ")\n", sum & 1);
     return 0;
 }

@@ -1,4 +1,4 @@
-//! The declarations of include/its.h that the monitor uses, and the heap that the library calls.
+//! The declarations of include/its.h, and the heap that the library calls.
 use std::ffi::c_void;
 use std::os::raw::c_char;
 
@@ -17,7 +17,9 @@ pub struct Description {
     pub programmed: u32,
     pub restored: u32,
     pub linux_guest: u32,
+    pub has_frames: u32,
     pub config: u64,
+    pub frames: u64,
     pub ctlr: u64,
     pub cbaser: u64,
     pub creadr: u64,
@@ -42,6 +44,14 @@ pub struct Fill {
 
 #[repr(C)]
 #[derive(Clone, Copy)]
+pub struct Requesters {
+    pub first: u32,
+    pub last: u32,
+    pub device: u32,
+}
+
+#[repr(C)]
+#[derive(Clone, Copy, Debug, Default, PartialEq, Eq)]
 pub struct Redistributor {
     pub ctlr: u64,
     pub propbaser: u64,
@@ -86,6 +96,29 @@ pub struct Signal {
 
 #[repr(C)]
 #[derive(Clone, Copy, Debug, Default, PartialEq, Eq)]
+pub struct Dma {
+    pub outcome: u32,
+    pub signal: Signal,
+}
+
+#[repr(C)]
+#[derive(Clone, Copy, Debug, Default, PartialEq, Eq)]
+pub struct Event {
+    pub cause: u32,
+    pub intid: u32,
+    pub collection: u32,
+    pub vcpu: u32,
+}
+
+#[repr(C)]
+#[derive(Clone, Copy, Debug, Default, PartialEq, Eq)]
+pub struct Stretch {
+    pub address: u64,
+    pub length: u64,
+}
+
+#[repr(C)]
+#[derive(Clone, Copy, Debug, Default, PartialEq, Eq)]
 pub struct Ack {
     pub intid: u32,
     pub priority: u32,
@@ -98,9 +131,11 @@ pub struct Step {
     pub op: u32,
     pub reason: u32,
     pub address: u64,
+    pub concerned: u32,
 }
 
 extern "C" {
+    pub fn its_text(list: u32, number: u32, buffer: *mut u8, len: usize, count: *mut u64) -> u32;
     pub fn its_new(
         handle: *mut Handle,
         numbers: *const Description,
@@ -110,6 +145,8 @@ extern "C" {
         pending_len: usize,
         redistributors: *const Redistributor,
         redistributors_len: usize,
+        requesters: *const Requesters,
+        requesters_len: usize,
         fills: *const Fill,
         fills_len: usize,
         bytes: *const u8,
@@ -119,13 +156,67 @@ extern "C" {
     pub fn its_free(handle: *mut Handle) -> u32;
     pub fn its_read_register(handle: *mut Handle, offset: u32, size: u32, out: *mut u64) -> u32;
     pub fn its_write_register(handle: *mut Handle, offset: u32, size: u32, value: u64) -> u32;
+    pub fn its_read_lpi_register(
+        handle: *mut Handle,
+        vcpu: u32,
+        offset: u32,
+        size: u32,
+        out: *mut u64,
+    ) -> u32;
+    pub fn its_write_lpi_register(
+        handle: *mut Handle,
+        vcpu: u32,
+        offset: u32,
+        size: u32,
+        value: u64,
+    ) -> u32;
+    pub fn its_stored_lpi_registers(
+        handle: *mut Handle,
+        vcpu: u32,
+        out: *mut Redistributor,
+    ) -> u32;
     pub fn its_read_memory(handle: *mut Handle, address: u64, buffer: *mut u8, len: usize) -> u32;
     pub fn its_write_memory(handle: *mut Handle, address: u64, bytes: *const u8, len: usize)
         -> u32;
+    pub fn its_forget(handle: *mut Handle, address: u64, length: u64) -> u32;
+    pub fn its_next_page(handle: *mut Handle, from: u64, out: *mut Stretch) -> u32;
     pub fn its_signal(handle: *mut Handle, device: u32, event: u32, out: *mut Signal) -> u32;
+    pub fn its_dma(
+        handle: *mut Handle,
+        requester: u32,
+        address: u64,
+        bytes: *const u8,
+        len: usize,
+        out: *mut Dma,
+    ) -> u32;
+    pub fn its_event(handle: *mut Handle, device: u32, event: u32, out: *mut Event) -> u32;
     pub fn its_take(handle: *mut Handle, vcpu: u32, out: *mut Ack) -> u32;
+    pub fn its_show(handle: *mut Handle, vcpu: u32, out: *mut Ack) -> u32;
+    pub fn its_best(handle: *mut Handle, vcpu: u32, mask: u32, out: *mut Ack) -> u32;
+    pub fn its_claim(handle: *mut Handle, vcpu: u32, intid: u32, out: *mut Ack) -> u32;
+    pub fn its_pending(
+        handle: *mut Handle,
+        vcpu: u32,
+        list: *mut u32,
+        len: usize,
+        count: *mut u64,
+    ) -> u32;
+    pub fn its_needs(
+        handle: *mut Handle,
+        list: *mut Stretch,
+        len: usize,
+        count: *mut u64,
+    ) -> u32;
     pub fn its_step(handle: *mut Handle, out: *mut Step) -> u32;
+    pub fn its_limit(handle: *mut Handle, events: u64) -> u32;
     pub fn its_save(handle: *mut Handle, fault: *mut SaveFault) -> u32;
+    pub fn its_written(
+        handle: *mut Handle,
+        list: *mut Stretch,
+        len: usize,
+        count: *mut u64,
+    ) -> u32;
+    pub fn its_migrate(handle: *mut Handle, fault: *mut SaveFault) -> u32;
 
     fn malloc(size: usize) -> *mut c_void;
     fn realloc(at: *mut c_void, size: usize) -> *mut c_void;
