@@ -42,6 +42,7 @@ impl Actor {
 /// Makes calls in order, up to the first that isn't made, and answers how many were hits.
 pub fn make_all<R: Wait>(
     rt: &R,
+    alloc: Global,
     machine: &Machine,
     pass: &mut Pass,
     asks: &[Ask],
@@ -52,7 +53,7 @@ pub fn make_all<R: Wait>(
 {
     let mut hits = 0u64;
     for each in asks {
-        let Some(Made { placed, hit }) = make(rt, machine, pass, each) else {
+        let Some(Made { placed, hit }) = make(rt, alloc, machine, pass, each) else {
             return hits;
         };
         hits = hits.wrapping_add(u64::from(hit));
@@ -64,12 +65,13 @@ pub fn make_all<R: Wait>(
 }
 
 /// Makes an actor's calls.
-pub fn act<R: Wait>(rt: &R, machine: &Machine, actor: &mut Actor)
+pub fn act<R: Wait>(rt: &R, alloc: Global, machine: &Machine, actor: &mut Actor)
     requires { IsReady machine.now actor.old.pass }
     ensures { IsReady machine.now actor.new.pass }
 {
     actor.hits = make_all(
         rt,
+        alloc,
         machine,
         &mut actor.pass,
         actor.asks.as_slice(),
@@ -102,15 +104,26 @@ impl Meeting {
 }
 
 // Makes an actor's calls, once the other threads are there.
-fn meet_and_act<R: Wait>(rt: &R, machine: &Machine, actor: &mut Actor, meeting: &Meeting)
+fn meet_and_act<R: Wait>(
+    rt: &R,
+    alloc: Global,
+    machine: &Machine,
+    actor: &mut Actor,
+    meeting: &Meeting,
+)
     requires { IsReady machine.now actor.old.pass }
 {
     meeting.wait();
-    act(rt, machine, actor);
+    act(rt, alloc, machine, actor);
 }
 
 /// Has all actors make their calls, each in a thread of its own where one can be started.
-pub fn act_all<R: Threads + Wait + Sync>(rt: &R, machine: &Machine, actors: &mut [Actor])
+pub fn act_all<R: Threads + Wait + Sync>(
+    rt: &R,
+    alloc: Global,
+    machine: &Machine,
+    actors: &mut [Actor],
+)
     requires { AllByRecursion (λ a. IsReady machine.now a.pass) actors.old }
 {
     let threads = actors.len().max(1);
@@ -122,6 +135,6 @@ pub fn act_all<R: Threads + Wait + Sync>(rt: &R, machine: &Machine, actors: &mut
         rt,
         actors,
         threads,
-        &|_, actor| { meet_and_act(rt, machine, actor, &meeting) },
+        &|_, actor| { meet_and_act(rt, alloc, machine, actor, &meeting) },
     );
 }

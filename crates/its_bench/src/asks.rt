@@ -1,39 +1,87 @@
 //! Calls of a machine that threads share, by their ports.
 ghost use Rattle.its_bench.specs.Ready.{IsReady};
 
-use cmd_engine::{step, write_reg};
-use device_port::{Now, signal, try_signal};
-use guest_port::poke;
+use cmd_engine::{step_at, write_at};
+use device_port::{Now, signal_at, try_signal_at};
+use gicr_lpi::write_gicr;
+use guest_port::{copy, peek, poke};
+use its_migrate::save;
 use its_plain::{Bytes64, Call, Reply};
 use its_turns::{Machine, Pass};
 use its_types::{Addr, DeviceId, EventId, Open, Placed, Vcpu};
 use redist_ack::take;
+use std::alloc::Global;
 use std::sync::Wait;
 
 /// What a thread asks of the machine.
 #[derive(Clone, Copy)]
 pub enum Ask {
-    Signal { dev: DeviceId, ev: EventId },
+    Signal {
+        its: u8,
+        dev: DeviceId,
+        ev: EventId,
+    },
     Take(Vcpu),
-    Poke { addr: Addr, bytes: Bytes64 },
-    Write { off: u32, size: u8, value: u64 },
-    Step,
+    Poke {
+        addr: Addr,
+        bytes: Bytes64,
+    },
+    Peek {
+        addr: Addr,
+        count: u8,
+    },
+    Write {
+        its: u8,
+        off: u32,
+        size: u8,
+        value: u64,
+    },
+    WriteGicr {
+        vcpu: Vcpu,
+        off: u32,
+        size: u8,
+        value: u64,
+    },
+    Step {
+        its: u8,
+    },
+    Save,
+    Copy,
 }
 
 impl Ask {
     /// The call that it is.
     pub fn call(&self) -> Call {
         match *self {
-            Ask::Signal { dev, ev } => Call::Signal { its: 0, dev, ev },
+            Ask::Signal { its, dev, ev } => Call::Signal { its, dev, ev },
             Ask::Take(vcpu) => Call::Take(vcpu),
             Ask::Poke { addr, bytes } => Call::Poke { addr, bytes },
-            Ask::Write { off, size, value } => Call::WriteReg {
-                its: 0,
+            Ask::Peek { addr, count } => Call::Peek { addr, count },
+            Ask::Write {
+                its,
+                off,
+                size,
+                value,
+            } => Call::WriteReg {
+                its,
                 off,
                 size,
                 value,
             },
-            Ask::Step => Call::Step { its: 0 },
+            Ask::WriteGicr {
+                vcpu,
+                off,
+                size,
+                value,
+            } => Call::WriteGicr {
+                vcpu,
+                off,
+                size,
+                value,
+            },
+            Ask::Step { its } => Call::Step { its },
+            Ask::Save => Call::Save,
+            Ask::Copy => Call::Copy,
         }
     }
 }
@@ -48,16 +96,36 @@ pub struct Made {
 
 /// Makes a call, for which it waits. `None` where it wasn't made: it isn't one of this machine, or
 /// there is no place or no memory for it.
-pub fn make<R: Wait>(rt: &R, machine: &Machine, pass: &mut Pass, ask: &Ask) -> Option<Made>
+pub fn make<R: Wait>(
+    rt: &R,
+    alloc: Global,
+    machine: &Machine,
+    pass: &mut Pass,
+    ask: &Ask,
+) -> Option<Made>
     requires { IsReady machine.now pass.old }
     ensures { IsReady machine.now pass.new }
 {
     match *ask {
-        Ask::Signal { dev, ev } => send(rt, machine, pass, dev, ev),
+        Ask::Signal { its, dev, ev } => send(rt, machine, pass, its, dev, ev),
         Ask::Take(vcpu) => take_once(rt, machine, pass, vcpu),
         Ask::Poke { addr, bytes } => poke_once(rt, machine, pass, addr, &bytes),
-        Ask::Write { off, size, value } => write_once(rt, machine, pass, off, size, value),
-        Ask::Step => step_once(rt, machine, pass),
+        Ask::Peek { addr, count } => peek_once(rt, machine, pass, addr, count),
+        Ask::Write {
+            its,
+            off,
+            size,
+            value,
+        } => write_once(rt, machine, pass, its, off, size, value),
+        Ask::WriteGicr {
+            vcpu,
+            off,
+            size,
+            value,
+        } => write_gicr_once(rt, machine, pass, vcpu, off, size, value),
+        Ask::Step { its } => step_once(rt, machine, pass, its),
+        Ask::Save => save_once(rt, alloc, machine, pass),
+        Ask::Copy => copy_once(rt, machine, pass),
     }
 }
 
@@ -73,13 +141,17 @@ fn send<R: Wait>(
     rt: &R,
     machine: &Machine,
     pass: &mut Pass,
+    its: u8,
     dev: DeviceId,
     ev: EventId,
 ) -> Option<Made>
     requires { IsReady machine.now pass.old }
     ensures { IsReady machine.now pass.new }
 {
-    if let Now::Done(Placed { place, reply }) = try_signal(machine, pass, &Open, dev, ev) {
+    if its >= machine.translators() {
+        return None;
+    }
+    if let Now::Done(Placed { place, reply }) = try_signal_at(machine, pass, &Open, its, dev, ev) {
         return Some(Made {
             placed: Placed {
                 place,
@@ -88,7 +160,7 @@ fn send<R: Wait>(
             hit: true,
         });
     }
-    match signal(rt, machine, pass, &Open, dev, ev) {
+    match signal_at(rt, machine, pass, &Open, its, dev, ev) {
         Ok(Placed { place, reply }) => placed(place, Reply::Signal(reply)),
         Err(_) => None,
     }
@@ -123,10 +195,27 @@ fn poke_once<R: Wait>(
     }
 }
 
+fn peek_once<R: Wait>(
+    rt: &R,
+    machine: &Machine,
+    pass: &mut Pass,
+    addr: Addr,
+    count: u8,
+) -> Option<Made>
+    requires { IsReady machine.now pass.old }
+    ensures { IsReady machine.now pass.new }
+{
+    match peek(rt, machine, pass, &Open, addr, count) {
+        Ok(Placed { place, reply }) => placed(place, reply),
+        Err(_) => None,
+    }
+}
+
 fn write_once<R: Wait>(
     rt: &R,
     machine: &Machine,
     pass: &mut Pass,
+    its: u8,
     off: u32,
     size: u8,
     value: u64,
@@ -134,18 +223,68 @@ fn write_once<R: Wait>(
     requires { IsReady machine.now pass.old }
     ensures { IsReady machine.now pass.new }
 {
-    match write_reg(rt, machine, pass, &Open, off, size, value) {
+    if its >= machine.translators() {
+        return None;
+    }
+    match write_at(rt, machine, pass, &Open, its, off, size, value) {
         Ok(Placed { place, reply: () }) => placed(place, Reply::Ok),
         Err(_) => None,
     }
 }
 
-fn step_once<R: Wait>(rt: &R, machine: &Machine, pass: &mut Pass) -> Option<Made>
+fn write_gicr_once<R: Wait>(
+    rt: &R,
+    machine: &Machine,
+    pass: &mut Pass,
+    vcpu: Vcpu,
+    off: u32,
+    size: u8,
+    value: u64,
+) -> Option<Made>
     requires { IsReady machine.now pass.old }
     ensures { IsReady machine.now pass.new }
 {
-    match step(rt, machine, pass, &Open) {
+    if vcpu.0 >= machine.vcpus() {
+        return None;
+    }
+    match write_gicr(rt, machine, pass, &Open, vcpu, off, size, value) {
+        Ok(Placed { place, reply: () }) => placed(place, Reply::Ok),
+        Err(_) => None,
+    }
+}
+
+fn step_once<R: Wait>(rt: &R, machine: &Machine, pass: &mut Pass, its: u8) -> Option<Made>
+    requires { IsReady machine.now pass.old }
+    ensures { IsReady machine.now pass.new }
+{
+    if its >= machine.translators() {
+        return None;
+    }
+    match step_at(rt, machine, pass, &Open, its) {
         Ok(Placed { place, reply }) => placed(place, Reply::Step(reply)),
+        Err(_) => None,
+    }
+}
+
+fn save_once<R: Wait>(rt: &R, alloc: Global, machine: &Machine, pass: &mut Pass) -> Option<Made>
+    requires { IsReady machine.now pass.old }
+    ensures { IsReady machine.now pass.new }
+{
+    let Ok(Placed { place, reply }) = save(rt, alloc, machine, pass, &Open) else {
+        return None;
+    };
+    match reply {
+        Ok(()) => placed(place, Reply::Saved),
+        Err(fault) => placed(place, Reply::SaveFault(fault)),
+    }
+}
+
+fn copy_once<R: Wait>(rt: &R, machine: &Machine, pass: &mut Pass) -> Option<Made>
+    requires { IsReady machine.now pass.old }
+    ensures { IsReady machine.now pass.new }
+{
+    match copy(rt, machine, pass, &Open) {
+        Ok(Placed { place, reply }) => placed(place, Reply::Copied(reply)),
         Err(_) => None,
     }
 }

@@ -12,6 +12,9 @@ const QUEUE: u64 = 0x8002_0000;
 // 16 pages of 4 KiB.
 const QUEUE_BYTES: u64 = 0x1_0000;
 
+// How far a translator's queue and tables stand from those of the one before it.
+const APART: u64 = 0x18_0000;
+
 // The interrupt translation table of the device that has one of 512 KiB.
 const WIDE_TABLE: u64 = 0x8010_0000;
 
@@ -21,20 +24,26 @@ const TABLES: u64 = 0x800c_0000;
 /// Where the guest writes its next command.
 #[derive(Clone, Copy)]
 pub struct Queue {
+    its: u8,
     place: u64,
 }
 
 impl Queue {
-    /// An empty queue.
-    pub fn new() -> Queue {
-        Queue { place: 0 }
+    /// A translator's empty queue.
+    pub fn new(its: u8) -> Queue {
+        Queue { its, place: 0 }
+    }
+
+    /// Whose queue it is.
+    pub fn its(&self) -> u8 {
+        self.its
     }
 
     /// Writes a command into the queue. There are at most 2,047 that were not taken.
     pub fn write(&mut self, asks: &mut Vec<Ask>, command: &Command) -> Result<(), AllocError> {
         let place = self.place % QUEUE_BYTES;
         asks.push(Ask::Poke {
-            addr: Addr(QUEUE + place),
+            addr: Addr(QUEUE + APART * u64::from(self.its) + place),
             bytes: Bytes64::new(&encode(command)),
         })?;
         self.place = (place + 32) % QUEUE_BYTES;
@@ -44,6 +53,7 @@ impl Queue {
     /// Tells the translator how far the queue is written.
     pub fn tell(&self, asks: &mut Vec<Ask>) -> Result<(), AllocError> {
         asks.push(Ask::Write {
+            its: self.its,
             off: 0x88,
             size: 8,
             value: self.place,
@@ -55,14 +65,15 @@ impl Queue {
     pub fn run(&mut self, asks: &mut Vec<Ask>, command: &Command) -> Result<(), AllocError> {
         self.write(asks, command)?;
         self.tell(asks)?;
-        asks.push(Ask::Step)?;
+        asks.push(Ask::Step { its: self.its })?;
         Ok(())
     }
 }
 
-/// Turns the translator on or off.
-pub fn enable(asks: &mut Vec<Ask>, on: bool) -> Result<(), AllocError> {
+/// Turns a translator on or off.
+pub fn enable(asks: &mut Vec<Ask>, its: u8, on: bool) -> Result<(), AllocError> {
     asks.push(Ask::Write {
+        its,
         off: 0x0,
         size: 4,
         value: u64::from(on),
@@ -70,20 +81,22 @@ pub fn enable(asks: &mut Vec<Ask>, on: bool) -> Result<(), AllocError> {
     Ok(())
 }
 
-/// Gives the translator its queue and its tables of devices and collections, and turns it on.
-pub fn begin(asks: &mut Vec<Ask>) -> Result<(), AllocError> {
+/// Gives a translator its queue and its tables of devices and collections, and turns it on.
+pub fn begin(asks: &mut Vec<Ask>, its: u8) -> Result<(), AllocError> {
+    let apart = APART * u64::from(its);
     for (off, value) in [
         (0x80, 0x8000_0000_8002_000f),
         (0x100, 0x8107_0000_8000_0200),
         (0x108, 0x8407_0000_8001_0200),
     ] {
         asks.push(Ask::Write {
+            its,
             off,
             size: 8,
-            value,
+            value: value | apart,
         })?;
     }
-    enable(asks, true)
+    enable(asks, its, true)
 }
 
 /// Maps a collection to a virtual processor.
@@ -108,12 +121,12 @@ pub fn mapd_wide(dev: DeviceId, bits: u8) -> Command
     }
 }
 
-/// Maps a device with 16 events to a table of its own, which has this number.
-pub fn mapd(dev: DeviceId, table: u8) -> Command {
+/// Maps a device of a translator with 16 events to a table of its own, which has this number.
+pub fn mapd(its: u8, dev: DeviceId, table: u8) -> Command {
     Command::Mapd {
         dev,
         bits: EventIdBits::new(4),
-        itt: IttAddr::new(TABLES + 0x1000 * u64::from(table)),
+        itt: IttAddr::new(TABLES + 0x4000 * u64::from(its) + 0x1000 * u64::from(table)),
         valid: true,
     }
 }

@@ -1,8 +1,8 @@
 //! A machine with two MiB of memory, and commands of its queue.
 ghost use Rattle.std.specs.Prelude.{IfOk};
-ghost use Rattle.its_plain.specs.Machine.{IsDescription, IsSingle};
+ghost use Rattle.its_plain.specs.Machine.{IsDescription};
 
-use crate::shared::translator;
+use crate::shared::translators;
 use its_command::{Command, encode};
 use its_plain::{Bytes64, Call, Desc, Fill, LpiTables};
 use its_types::{Addr, Limits, Listed, Profile, Shape};
@@ -50,8 +50,7 @@ pub fn enabled(alloc: Global) -> Option<Machine> {
 }
 
 fn desc(alloc: Global) -> Result<Desc, AllocError>
-    ensures description { IfOk result IsDescription }
-    ensures single { IfOk result IsSingle }
+    ensures { IfOk result IsDescription }
 {
     let mut windows = Listed::new(alloc);
     windows.push((Addr(0x8000_0000), 0x20_0000))?;
@@ -78,7 +77,7 @@ fn desc(alloc: Global) -> Result<Desc, AllocError>
             pending,
         },
         fills,
-        translators: translator(alloc)?,
+        translators: translators(alloc, false)?,
         requesters: Listed::new(alloc),
         track: false,
     })

@@ -1,19 +1,21 @@
 //! Measures the calls of the machine that threads share, and those of the machine of one caller.
 //!
-//! - Without words: a few calls of each kind, and a few signals of real threads, of which each
-//!   reply is checked.
+//! - Without words: a few calls of each kind, and the trials with fewer calls.
 //! - `time COUNT [NAME]` prints how many nanoseconds a call took, of each kind or of the one named.
-//! - `stress COUNT`: so many signals of two threads while a third rewrites the maps, of which each
-//!   reply is checked.
+//! - `stress COUNT [NAME]`: so many calls of threads beside one that changes what they meet, of
+//!   which each reply is checked; all trials, or the one named.
 //! - `events COUNT`, `devices COUNT`: signals of the machine of one caller, for a clock outside
 //!   (see play).
 #![tactic(auto)]
 
 mod actors;
 mod asks;
+mod chance;
+mod copying;
 mod guest;
 mod machine;
 mod measure;
+mod memory;
 mod play;
 mod replay;
 mod shared;
@@ -21,6 +23,9 @@ mod signals;
 mod stress;
 mod tables;
 mod times;
+mod trial;
+mod trials;
+mod turning;
 
 use play::{Mapped, play};
 use std::alloc::Global;
@@ -29,8 +34,8 @@ use std::sync::Wait;
 use std::thread::Threads;
 use std::time::Clock;
 use std::{env, io};
-use stress::stress;
 use times::{ALL, time};
+use trials::{TRIALS, Trial, run_trial};
 
 // Of each kind, where no count is given.
 const FEW: u32 = 256;
@@ -71,25 +76,46 @@ fn print_counts<R: Clock + Print + AllocGlobal + Threads + Wait + Sync>(rt: &R) 
     Ok(())
 }
 
-// Signals of real threads, each reply of which is checked.
-fn check_stress<R: Print + AllocGlobal + Threads + Wait + Sync>(
+// A trial of real threads, each reply of which is checked.
+fn check_trial<R: Print + AllocGlobal + Threads + Wait + Sync>(
     rt: &R,
+    name: &str,
+    kind: Trial,
     count: u32,
     counts: bool,
 ) -> io::Result<u8> {
-    let checked = stress(rt, rt.alloc(), count)?;
+    let checked = run_trial(rt, rt.alloc(), kind, count)?;
     if let Some(place) = checked.wrong {
-        println!(rt; "stress: another reply at place {place}")?;
+        println!(rt; "{name}: another reply at place {place}")?;
         return Ok(WRONG);
     }
-    if checked.hits == 0 {
-        println!(rt; "stress: no hits")?;
+    if kind.signals() && checked.hits == 0 {
+        println!(rt; "{name}: no hits")?;
         return Ok(WRONG);
     }
     if counts {
-        println!(rt; "checked {} places, hits {}", checked.places, checked.hits)?;
+        let (places, hits) = (checked.places, checked.hits);
+        println!(rt; "{name}: checked {places} places, hits {hits}")?;
     } else {
-        println!(rt; "stress: every reply as replayed, and the cache was hit")?;
+        println!(rt; "{name}: every reply as replayed")?;
+    }
+    Ok(OK)
+}
+
+// All trials, or the one with this name, up to the first that fails.
+fn check_trials<R: Print + AllocGlobal + Threads + Wait + Sync>(
+    rt: &R,
+    count: u32,
+    counts: bool,
+    only: Option<&str>,
+) -> io::Result<u8> {
+    for (name, kind) in TRIALS {
+        if only.is_none_or(|only| only == name) {
+            let status = check_trial(rt, name, kind, count, counts)?;
+            if status != OK {
+                return Ok(status);
+            }
+        }
     }
     Ok(OK)
 }
@@ -97,7 +123,7 @@ fn check_stress<R: Print + AllocGlobal + Threads + Wait + Sync>(
 // A few calls of each kind.
 fn run_few<R: Clock + Print + AllocGlobal + Threads + Wait + Sync>(rt: &R) -> io::Result<u8> {
     print_counts(rt)?;
-    check_stress(rt, FEW_STRESS, false)
+    check_trials(rt, FEW_STRESS, false, None)
 }
 
 // Signals of the machine of one caller.
@@ -123,7 +149,7 @@ fn run<R: Clock + Print + AllocGlobal + Threads + Wait + Sync>(
             print_times(rt, count, words.get(3).map(|word| word.as_str()))?;
             Ok(OK)
         }
-        "stress" => check_stress(rt, count, true),
+        "stress" => check_trials(rt, count, true, words.get(3).map(|word| word.as_str())),
         "events" => Ok(run_alone(rt.alloc(), Mapped::Events, count)),
         "devices" => Ok(run_alone(rt.alloc(), Mapped::Devices, count)),
         _ => Ok(WORDS),

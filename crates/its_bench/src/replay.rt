@@ -1,5 +1,5 @@
 //! The calls of several threads, by place, against the machine of one caller.
-ghost use Rattle.its_plain.specs.Machine.{IsDescription, IsSingle};
+ghost use Rattle.its_plain.specs.Machine.{IsDescription};
 
 use crate::actors::Actor;
 use its_plain::{Call, Desc, Reply};
@@ -13,8 +13,7 @@ pub fn replay(
     desc: &Desc,
     actors: &[Actor],
 ) -> Result<(usize, Option<usize>), AllocError>
-    requires description { IsDescription desc.now }
-    requires single { IsSingle desc.now }
+    requires { IsDescription desc.now }
 {
     let mut entries = Vec::new(alloc);
     for actor in actors {
@@ -53,8 +52,7 @@ fn first_wrong(
     desc: &Desc,
     entries: &[Option<(Call, Reply)>],
 ) -> Result<Option<usize>, AllocError>
-    requires description { IsDescription desc.now }
-    requires single { IsSingle desc.now }
+    requires { IsDescription desc.now }
 {
     let Ok(mut machine) = Machine::new(alloc, desc) else {
         return Err(AllocError);

@@ -1,94 +1,172 @@
-//! A machine of four virtual processors and two MiB of memory, for threads to share.
-ghost use Rattle.std.specs.Prelude.{◌≡◌, ◌+◌, ◌^◌, ◌<◌, [], ◌∷◌, None, IfOk};
-ghost use Rattle.its_plain.specs.Machine.{IsDescription, IsSingle};
+//! A machine of four virtual processors, for threads to share.
+ghost use Rattle.std.specs.Prelude.{◌≡◌, ◌+◌, ◌^◌, ◌<◌, ◌≤◌, length, IfOk};
+ghost use Rattle.its_plain.specs.Machine.{IsDescription, HasTablesFor};
 ghost use Rattle.its_turns.specs.Machines.{view};
 ghost use Rattle.its_bench.specs.Ready.{IsReady, IsRoot};
 
+use gicr_regs::{GicrRegisters, GicrValues};
+use its_migrate::share;
 use its_plain::{Desc, Fill, Its, LpiTables};
 use its_turns::{Machine, Pass, Root};
 use its_types::{Addr, Limits, Listed, Profile, Shape};
-use owned_machine::Machine as Owned;
 use std::alloc::{AllocError, Global};
 
 /// How many virtual processors it has.
 pub const VCPUS: u8 = 4;
 
-// Each LPI is enabled, with priority 0xa0.
-const CONFIG: Addr = Addr(0x8003_0000);
+/// Where its memory begins.
+pub const MEMORY: u64 = 0x8000_0000;
+
+/// The byte of each LPI, which is enabled, with priority 0xa0.
+pub const CONFIG: u64 = 0x8003_0000;
+
+/// The pending table of a virtual processor: this one's, and the next one's 64 KiB further on.
+pub const PENDING: u64 = 0x8004_0000;
 
 const LPIS: usize = 57_344;
 
-/// Its description, up to the last stamp.
-pub fn desc(alloc: Global, stamp_last: u32) -> Result<Desc, AllocError>
-    requires { stamp_last < 2 ^ 24 }
+// Of 24 bits, and of 12.
+const STAMPS: u32 = 16_777_215;
+
+const STAMPS_OF_TWO: u32 = 4095;
+
+/// What a machine has.
+#[derive(Clone, Copy)]
+pub struct Kind {
+    /// The last stamp, 16,777,215 at most; of two translators 4,095.
+    pub stamp_last: u32,
+    /// Whether there are two translators.
+    pub two: bool,
+    /// Whether the guest, a Linux, programs the LPI registers, which are off at first.
+    pub programmed: bool,
+    /// Whether there is a second memory.
+    pub track: bool,
+    /// How many bytes of memory there are.
+    pub memory: u64,
+}
+
+/// One translator, and two MiB of memory.
+pub const SINGLE: Kind = Kind {
+    stamp_last: STAMPS,
+    two: false,
+    programmed: false,
+    track: false,
+    memory: 0x20_0000,
+};
+
+/// Its description.
+pub fn desc(alloc: Global, kind: Kind) -> Result<Desc, AllocError>
     ensures description { IfOk result IsDescription }
-    ensures single { IfOk result IsSingle }
     ensures shards { IfOk result (λ d. d.shards ≡ 64) }
-    ensures limits { IfOk result (λ d.
-        d.limits ≡ record { stamp_last = stamp_last; place_last = 1_099_511_627_775 }) }
+    ensures stamps { IfOk result (λ d. d.limits.stamp_last < 2 ^ 24) }
+    ensures stamps_of_two { IfOk result (λ d. length d.translators ≡ 2
+        → d.limits.stamp_last < 4096) }
+    ensures places { IfOk result (λ d. d.limits.place_last ≡ 1_099_511_627_775) }
 {
-    let mut windows = Listed::new(alloc);
-    windows.push((Addr(0x8000_0000), 0x20_0000))?;
-    let mut pending = Listed::new(alloc);
-    pending.push(Addr(0x8004_0000))?;
-    pending.push(Addr(0x8005_0000))?;
-    pending.push(Addr(0x8006_0000))?;
-    pending.push(Addr(0x8007_0000))?;
-    let mut fills = Listed::new(alloc);
-    fills.push(Fill {
-        addr: CONFIG,
-        bytes: Listed::from_vec(vec![in alloc; 0xa1; LPIS]?),
-    })?;
+    let translators = translators(alloc, kind.two)?;
+    let limits = limits(kind.stamp_last, translators.len());
     Ok(Desc {
         shape: Shape {
             vcpus: VCPUS,
             dev_bits: 16,
             lpi_bits: 16,
             profile: Profile::One,
-            linux: false,
+            linux: kind.programmed,
         },
         shards: 64,
-        limits: Limits {
-            stamp_last,
-            place_last: 1_099_511_627_775,
-        },
-        windows,
+        limits,
+        windows: windows(alloc, kind.memory)?,
         memory_limit: u64::MAX,
-        tables: LpiTables::Described {
-            config: CONFIG,
-            pending,
-        },
-        fills,
-        translators: translator(alloc)?,
+        tables: tables(alloc, kind.programmed)?,
+        fills: fills(alloc)?,
+        translators,
         requesters: Listed::new(alloc),
-        track: false,
+        track: kind.track,
     })
 }
 
-/// One translator, not restored, with no frames.
-pub fn translator(alloc: Global) -> Result<Listed<Its>, AllocError>
-    ensures { IfOk result (λ ts. ts ≡ record { restore = None; frames = None } ∷ []) }
+fn limits(stamp_last: u32, translators: usize) -> Limits
+    ensures stamps { result.stamp_last < 2 ^ 24 }
+    ensures stamps_of_two { translators ≡ 2 → result.stamp_last < 4096 }
+    ensures places { result.place_last ≡ 1_099_511_627_775 }
 {
-    let mut translators = Listed::new(alloc);
-    translators.push(Its {
+    let most = if translators == 2 {
+        STAMPS_OF_TWO
+    } else {
+        STAMPS
+    };
+    Limits {
+        stamp_last: stamp_last.min(most),
+        place_last: 1_099_511_627_775,
+    }
+}
+
+fn windows(alloc: Global, bytes: u64) -> Result<Listed<(Addr, u64)>, AllocError> {
+    let mut windows = Listed::new(alloc);
+    windows.push((Addr(MEMORY), bytes))?;
+    Ok(windows)
+}
+
+fn fills(alloc: Global) -> Result<Listed<Fill>, AllocError> {
+    let mut fills = Listed::new(alloc);
+    fills.push(Fill {
+        addr: Addr(CONFIG),
+        bytes: Listed::from_vec(vec![in alloc; 0xa1; LPIS]?),
+    })?;
+    Ok(fills)
+}
+
+const OFF: GicrRegisters = GicrRegisters {
+    ctlr: 0,
+    propbaser: 0,
+    pendbaser: 0,
+};
+
+// LPIs are on at tables of their own, or the guest programs the LPI registers.
+fn tables(alloc: Global, programmed: bool) -> Result<LpiTables, AllocError>
+    ensures { IfOk result (HasTablesFor 4) }
+{
+    if programmed {
+        return Ok(LpiTables::Registers(GicrValues {
+            registers: [OFF; 16],
+        }));
+    }
+    let mut pending = Listed::new(alloc);
+    pending.push(Addr(PENDING))?;
+    pending.push(Addr(PENDING + 0x1_0000))?;
+    pending.push(Addr(PENDING + 0x2_0000))?;
+    pending.push(Addr(PENDING + 0x3_0000))?;
+    let config = Addr(CONFIG);
+    Ok(LpiTables::Described { config, pending })
+}
+
+/// One translator or two, not restored, with no frames.
+pub fn translators(alloc: Global, two: bool) -> Result<Listed<Its>, AllocError>
+    ensures some { IfOk result (λ ts. 1 ≤ length ts) }
+    ensures most { IfOk result (λ ts. length ts ≤ 2) }
+{
+    let its = Its {
         restore: None,
         frames: None,
-    })?;
+    };
+    let mut translators = Listed::new(alloc);
+    translators.push(its)?;
+    if two {
+        translators.push(its)?;
+    }
     Ok(translators)
 }
 
 /// The machine, on which no call was made, with its root.
-pub fn shared(alloc: Global, stamp_last: u32) -> Result<(Machine, Root), AllocError>
-    requires { stamp_last < 2 ^ 24 }
+pub fn shared(alloc: Global, kind: Kind) -> Result<(Machine, Root), AllocError>
     ensures root { IfOk result (λ made. IsRoot made.0 made.1) }
     ensures made { IfOk result (λ made. (view made.1).root.made ≡ 1) }
 {
-    let desc = desc(alloc, stamp_last)?;
-    let Ok(owned) = Owned::new(alloc, &desc) else {
-        return Err(AllocError);
-    };
-    let (machine, root) = Machine::new(alloc, &desc, owned.into_parts())?;
-    Ok((machine, root))
+    let desc = desc(alloc, kind)?;
+    match share(alloc, &desc) {
+        Ok(made) => Ok(made),
+        Err(_) => Err(AllocError),
+    }
 }
 
 /// A pass that is split off the root.

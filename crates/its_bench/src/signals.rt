@@ -8,8 +8,8 @@ use crate::actors::make_all;
 use crate::asks::Ask;
 use crate::guest::{Queue, begin, mapc, mapd, mapti};
 use crate::measure::Lap;
-use crate::shared::{VCPUS, shared, split};
-use device_port::{Now, signal, try_signal};
+use crate::shared::{Kind, SINGLE, VCPUS, shared, split};
+use device_port::{Now, signal_at, try_signal, try_signal_at};
 use its_plain::Signal;
 use its_turns::{Machine, Pass, Root};
 use its_types::{DeviceId, EventId, Intid, Open, Placed, Vcpu};
@@ -25,17 +25,17 @@ pub const DEVICES: [DeviceId; 4] = [DeviceId(16), DeviceId(32), DeviceId(48), De
 
 const EVENTS: u32 = 16;
 
-/// The calls that map the devices.
-pub fn map_devices(alloc: Global) -> Result<(Vec<Ask>, Queue), AllocError> {
+/// The calls that map the devices of a translator.
+pub fn map_devices(alloc: Global, its: u8) -> Result<(Vec<Ask>, Queue), AllocError> {
     let mut asks = Vec::new(alloc);
-    let mut queue = Queue::new();
-    begin(&mut asks)?;
+    let mut queue = Queue::new(its);
+    begin(&mut asks, its)?;
     for vcpu in 0..VCPUS {
         queue.run(&mut asks, &mapc(u16::from(vcpu), Vcpu(vcpu)))?;
     }
     let mut number = 0u8;
     for dev in DEVICES {
-        map_device(&mut asks, &mut queue, dev, number % VCPUS)?;
+        map_device(&mut asks, &mut queue, its, dev, number % VCPUS)?;
         number = number.wrapping_add(1);
     }
     Ok((asks, queue))
@@ -45,12 +45,13 @@ pub fn map_devices(alloc: Global) -> Result<(Vec<Ask>, Queue), AllocError> {
 fn map_device(
     asks: &mut Vec<Ask>,
     queue: &mut Queue,
+    its: u8,
     dev: DeviceId,
     number: u8,
 ) -> Result<(), AllocError>
     requires { number < 4 }
 {
-    queue.run(asks, &mapd(dev, number))?;
+    queue.run(asks, &mapd(its, dev, number))?;
     for ev in 0..EVENTS {
         let intid = Intid(8192 + 64 * u32::from(number) + ev);
         queue.run(asks, &mapti(dev, EventId(ev), intid, u16::from(number)))?;
@@ -73,11 +74,31 @@ fn hits(machine: &Machine, pass: &mut Pass, dev: DeviceId, count: u32) -> u64
     delivered
 }
 
-/// So many signals of a device's first events in turn. Answers how many were delivered.
+// The same to a translator, none where the machine doesn't have it.
+fn hits_at(machine: &Machine, pass: &mut Pass, its: u8, dev: DeviceId, count: u32) -> u64
+    requires { IsReady machine.now pass.old }
+    ensures { IsReady machine.now pass.new }
+{
+    let mut delivered = 0u64;
+    if its >= machine.translators() {
+        return delivered;
+    }
+    for n in 0..count {
+        let ev = EventId(n % EVENTS);
+        if let Now::Done(_) = try_signal_at(machine, pass, &Open, its, dev, ev) {
+            delivered = delivered.wrapping_add(1);
+        }
+    }
+    delivered
+}
+
+/// So many signals of a device's first events in turn to a translator, none where the machine
+/// doesn't have it. Answers how many were delivered.
 pub fn signals<R: Wait>(
     rt: &R,
     machine: &Machine,
     pass: &mut Pass,
+    its: u8,
     dev: DeviceId,
     events: u32,
     count: u32,
@@ -87,13 +108,16 @@ pub fn signals<R: Wait>(
     ensures { IsReady machine.now pass.new }
 {
     let mut delivered = 0u64;
+    if its >= machine.translators() {
+        return delivered;
+    }
     for n in 0..count {
         if let Ok(
             Placed {
                 reply: Signal::Delivered { .. },
                 ..
             },
-        ) = signal(rt, machine, pass, &Open, dev, EventId(n % events))
+        ) = signal_at(rt, machine, pass, &Open, its, dev, EventId(n % events))
         {
             delivered = delivered.wrapping_add(1);
         }
@@ -101,29 +125,58 @@ pub fn signals<R: Wait>(
     delivered
 }
 
-/// A machine whose devices are mapped and in the cache, with its root and a pass.
-fn mapped<R: Wait>(rt: &R, alloc: Global) -> Result<(Machine, Root, Pass), AllocError>
+/// Maps the devices of a translator, and has them in the cache.
+fn map_cached<R: Wait>(
+    rt: &R,
+    alloc: Global,
+    machine: &Machine,
+    pass: &mut Pass,
+    its: u8,
+) -> Result<(), AllocError>
+    requires { IsReady machine.now pass.old }
+    ensures { IfOk result (λ _. IsReady machine.now pass.new) }
+{
+    let (asks, _) = map_devices(alloc, its)?;
+    let mut done = Vec::new(alloc);
+    make_all(rt, alloc, machine, pass, asks.as_slice(), &mut done);
+    for dev in DEVICES {
+        signals(rt, machine, pass, its, dev, EVENTS, EVENTS);
+    }
+    Ok(())
+}
+
+/// A machine of one translator or two, whose devices are mapped and in the cache, with its root
+/// and a pass.
+fn mapped<R: Wait>(rt: &R, alloc: Global, two: bool) -> Result<(Machine, Root, Pass), AllocError>
     ensures root { IfOk result (λ m. IsRoot m.0 m.1) }
     ensures made { IfOk result (λ m. (view m.1).root.made ≡ 2) }
     ensures pass { IfOk result (λ m. IsReady m.0 m.2) }
 {
-    let (machine, mut root) = shared(alloc, 16_777_215)?;
+    let (machine, mut root) = shared(alloc, Kind { two, ..SINGLE })?;
     let mut pass = split(&machine, &mut root);
-    let (asks, _) = map_devices(alloc)?;
-    let mut done = Vec::new(alloc);
-    make_all(rt, &machine, &mut pass, asks.as_slice(), &mut done);
-    for dev in DEVICES {
-        signals(rt, &machine, &mut pass, dev, EVENTS, EVENTS);
+    map_cached(rt, alloc, &machine, &mut pass, 0)?;
+    if two {
+        map_cached(rt, alloc, &machine, &mut pass, 1)?;
     }
     Ok((machine, root, pass))
 }
 
 /// Hits of one thread.
 pub fn time_hits<R: Clock + Wait>(rt: &R, alloc: Global, count: u32) -> io::Result<Lap> {
-    let (machine, _root, mut pass) = mapped(rt, alloc)?;
+    let (machine, _root, mut pass) = mapped(rt, alloc, false)?;
     let mut lap = Lap::new();
     let since = Instant::now(rt)?;
     let calls = hits(&machine, &mut pass, DEVICES[0], count);
+    lap.add(rt, &since, calls)?;
+    Ok(lap)
+}
+
+/// Hits of one thread, to the second of two translators.
+pub fn time_hits_of_two<R: Clock + Wait>(rt: &R, alloc: Global, count: u32) -> io::Result<Lap> {
+    let (machine, _root, mut pass) = mapped(rt, alloc, true)?;
+    let mut lap = Lap::new();
+    let since = Instant::now(rt)?;
+    let calls = hits_at(&machine, &mut pass, 1, DEVICES[0], count);
     lap.add(rt, &since, calls)?;
     Ok(lap)
 }
@@ -132,6 +185,7 @@ pub fn time_hits<R: Clock + Wait>(rt: &R, alloc: Global, count: u32) -> io::Resu
 #[derive(Drop)]
 struct Lane {
     pass: Pass,
+    its: u8,
     dev: DeviceId,
     delivered: u64,
 }
@@ -139,7 +193,15 @@ struct Lane {
 fn drive<R: Wait>(rt: &R, machine: &Machine, lane: &mut Lane, count: u32)
     requires { IsReady machine.now lane.old.pass }
 {
-    lane.delivered = signals(rt, machine, &mut lane.pass, lane.dev, EVENTS, count);
+    lane.delivered = signals(
+        rt,
+        machine,
+        &mut lane.pass,
+        lane.its,
+        lane.dev,
+        EVENTS,
+        count,
+    );
 }
 
 fn drive_all<R: Threads + Wait + Sync>(rt: &R, machine: &Machine, lanes: &mut [Lane], count: u32)
@@ -154,11 +216,13 @@ fn drive_all<R: Threads + Wait + Sync>(rt: &R, machine: &Machine, lanes: &mut [L
     );
 }
 
+// A lane for each device, to the first translator, or each to a translator of its own.
 fn lanes(
     alloc: Global,
     machine: &Machine,
     root: &mut Root,
     devices: &[DeviceId],
+    apart: bool,
 ) -> Result<Vec<Lane>, AllocError>
     requires root { IsRoot machine.now root.old }
     requires made { (view root.old).root.made ≡ 2 }
@@ -166,13 +230,16 @@ fn lanes(
     ensures { IfOk result (λ v. AllByRecursion (λ l. IsReady machine.now l.pass) v.items) }
 {
     let mut lanes = Vec::new(alloc);
+    let mut its = 0u8;
     for dev in devices {
         let pass = split(machine, root);
         lanes.push(Lane {
             pass,
+            its,
             dev: *dev,
             delivered: 0,
         })?;
+        its = its.wrapping_add(u8::from(apart));
     }
     Ok(lanes)
 }
@@ -186,11 +253,33 @@ pub fn time_signals<R: Clock + Threads + Wait + Sync>(
 ) -> io::Result<Lap>
     requires { length devices.now ≤ 64 }
 {
-    let (machine, mut root, _pass) = mapped(rt, alloc)?;
-    let mut lanes = lanes(alloc, &machine, &mut root, devices)?;
+    let (machine, mut root, _pass) = mapped(rt, alloc, false)?;
+    let mut lanes = lanes(alloc, &machine, &mut root, devices, false)?;
+    time_lanes(rt, &machine, &mut lanes, count)
+}
+
+/// Signals of two threads, each so many to a translator of its own.
+pub fn time_translators<R: Clock + Threads + Wait + Sync>(
+    rt: &R,
+    alloc: Global,
+    count: u32,
+) -> io::Result<Lap> {
+    let (machine, mut root, _pass) = mapped(rt, alloc, true)?;
+    let mut lanes = lanes(alloc, &machine, &mut root, &DEVICES[..2], true)?;
+    time_lanes(rt, &machine, &mut lanes, count)
+}
+
+fn time_lanes<R: Clock + Threads + Wait + Sync>(
+    rt: &R,
+    machine: &Machine,
+    lanes: &mut [Lane],
+    count: u32,
+) -> io::Result<Lap>
+    requires { AllByRecursion (λ l. IsReady machine.now l.pass) lanes.old }
+{
     let mut lap = Lap::new();
     let since = Instant::now(rt)?;
-    drive_all(rt, &machine, &mut lanes, count);
+    drive_all(rt, machine, lanes, count);
     let mut calls = 0u64;
     for lane in lanes.iter() {
         calls = calls.wrapping_add(lane.delivered);

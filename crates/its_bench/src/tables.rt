@@ -6,7 +6,7 @@ use crate::actors::make_all;
 use crate::asks::Ask;
 use crate::guest::{Queue, begin, enable, mapc, mapd_wide, mapti};
 use crate::measure::Lap;
-use crate::shared::{shared, split};
+use crate::shared::{SINGLE, shared, split};
 use crate::signals::signals;
 use cmd_engine::step;
 use its_migrate::{migrate, save};
@@ -41,15 +41,15 @@ fn with_device<R: Wait>(
     ensures root { IfOk result (λ m. IsRoot m.0 m.1) }
     ensures pass { IfOk result (λ m. IsReady m.0 m.2) }
 {
-    let (machine, mut root) = shared(alloc, 16_777_215)?;
+    let (machine, mut root) = shared(alloc, SINGLE)?;
     let mut pass = split(&machine, &mut root);
     let mut asks = Vec::new(alloc);
     let mut done = Vec::new(alloc);
-    let mut queue = Queue::new();
-    begin(&mut asks)?;
+    let mut queue = Queue::new(0);
+    begin(&mut asks, 0)?;
     queue.run(&mut asks, &mapc(1, TARGET))?;
     queue.run(&mut asks, &mapd_wide(DEVICE, bits))?;
-    make_all(rt, &machine, &mut pass, asks.as_slice(), &mut done);
+    make_all(rt, alloc, &machine, &mut pass, asks.as_slice(), &mut done);
     Ok((machine, root, pass, queue))
 }
 
@@ -95,7 +95,7 @@ fn map_events<R: Clock + Wait>(
         queued = queued.wrapping_add(1);
         if queued == BATCH || ev == events - 1 {
             queue.tell(&mut asks)?;
-            make_all(rt, machine, pass, asks.as_slice(), &mut done);
+            make_all(rt, alloc, machine, pass, asks.as_slice(), &mut done);
             let since = Instant::now(rt)?;
             let ran = steps(rt, machine, pass, queued);
             lap.add(rt, &since, ran)?;
@@ -207,14 +207,14 @@ pub fn time_misses<R: Clock + Wait>(rt: &R, alloc: Global, bits: u8, count: u32)
     let events = 1u32 << bits;
     let mut asks = Vec::new(alloc);
     let mut done = Vec::new(alloc);
-    enable(&mut asks, false)?;
-    enable(&mut asks, true)?;
+    enable(&mut asks, 0, false)?;
+    enable(&mut asks, 0, true)?;
     let mut lap = Lap::new();
     for _ in 0..count.div_ceil(events) {
-        make_all(rt, &machine, &mut pass, asks.as_slice(), &mut done);
+        make_all(rt, alloc, &machine, &mut pass, asks.as_slice(), &mut done);
         done.clear();
         let since = Instant::now(rt)?;
-        let delivered = signals(rt, &machine, &mut pass, DEVICE, events, events);
+        let delivered = signals(rt, &machine, &mut pass, 0, DEVICE, events, events);
         lap.add(rt, &since, delivered)?;
     }
     Ok(lap)
@@ -229,7 +229,7 @@ pub fn time_takes<R: Clock + Wait>(rt: &R, alloc: Global, bits: u8, count: u32) 
     let events = 1u32 << bits;
     let mut lap = Lap::new();
     for _ in 0..count.div_ceil(events) {
-        signals(rt, &machine, &mut pass, DEVICE, events, events);
+        signals(rt, &machine, &mut pass, 0, DEVICE, events, events);
         let since = Instant::now(rt)?;
         let taken = takes(rt, &machine, &mut pass, events);
         lap.add(rt, &since, taken)?;

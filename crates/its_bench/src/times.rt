@@ -2,7 +2,8 @@
 ghost use Rattle.std.specs.Prelude.{◌≤◌};
 
 use crate::measure::Lap;
-use crate::signals::{DEVICES, time_hits, time_signals};
+use crate::memory::{time_copies, time_pokes};
+use crate::signals::{DEVICES, time_hits, time_hits_of_two, time_signals, time_translators};
 use crate::tables::{time_migration, time_misses, time_saves, time_steps, time_takes};
 use std::alloc::Global;
 use std::io;
@@ -14,33 +15,46 @@ use std::time::Clock;
 #[derive(Clone, Copy)]
 pub enum Times {
     Hit,
+    HitOfTwo,
     Miss,
     SignalOne,
     SignalTwoDevices,
     SignalTwoOne,
     SignalFourDevices,
+    SignalTwoTranslators,
     Take,
     Step,
     Save,
     Migrate,
+    Poke,
+    PokeTrack,
+    Copy,
 }
 
 /// All of them, with their names.
-pub const ALL: [(&str, Times); 10] = [
+pub const ALL: [(&str, Times); 15] = [
     ("hit-1", Times::Hit),
+    ("hit-1-of-2", Times::HitOfTwo),
     ("miss-1", Times::Miss),
     ("signal-1", Times::SignalOne),
     ("signal-2-devices", Times::SignalTwoDevices),
     ("signal-2-one", Times::SignalTwoOne),
     ("signal-4-devices", Times::SignalFourDevices),
+    ("signal-2-translators", Times::SignalTwoTranslators),
     ("take-1", Times::Take),
     ("step", Times::Step),
     ("save", Times::Save),
     ("migrate", Times::Migrate),
+    ("poke", Times::Poke),
+    ("poke-track", Times::PokeTrack),
+    ("copy", Times::Copy),
 ];
 
 // A device has at most 65,536 events.
 const MOST_BITS: u32 = 16;
+
+// Of a hundred pages each.
+const MOST_COPIES: u32 = 1000;
 
 // How many EventID bits a device has, for so many events or somewhat fewer.
 fn event_bits(count: u32) -> u8
@@ -61,14 +75,19 @@ pub fn time<R: Clock + Threads + Wait + Sync>(
     let bits = event_bits(count);
     match times {
         Times::Hit => time_hits(rt, alloc, count),
+        Times::HitOfTwo => time_hits_of_two(rt, alloc, count),
         Times::Miss => time_misses(rt, alloc, bits.min(13), count),
         Times::SignalOne => time_signals(rt, alloc, &DEVICES[..1], count),
         Times::SignalTwoDevices => time_signals(rt, alloc, &DEVICES[..2], count),
         Times::SignalTwoOne => time_signals(rt, alloc, &[DEVICES[0], DEVICES[0]], count),
         Times::SignalFourDevices => time_signals(rt, alloc, &DEVICES, count),
+        Times::SignalTwoTranslators => time_translators(rt, alloc, count),
         Times::Take => time_takes(rt, alloc, bits.min(10), count),
         Times::Step => time_steps(rt, alloc, bits),
         Times::Save => time_saves(rt, alloc, bits, 4),
         Times::Migrate => time_migration(rt, alloc, bits),
+        Times::Poke => time_pokes(rt, alloc, false, count),
+        Times::PokeTrack => time_pokes(rt, alloc, true, count),
+        Times::Copy => time_copies(rt, alloc, count.min(MOST_COPIES)),
     }
 }
