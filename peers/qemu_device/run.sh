@@ -1,0 +1,122 @@
+#!/usr/bin/env bash
+# A QEMU with the library's ITS inside, beside its own, and a Linux on it. README.md says what for.
+#
+# usage: run.sh build DIR ARCHIVE      fetches and builds qemu-system-aarch64 and the guest; ARCHIVE is libits_c.a
+#        run.sh boot DIR library|own   boots the guest, with a shell on this terminal
+#        run.sh scenarios DIR [library|own [NAME ..]]          runs scenarios, and prints a table
+#        run.sh check DIR PROGRAM [NAME ..]        whether what the library answered in a scenario is the plain translator's
+#        run.sh speed DIR              times of both translators
+set -eu
+
+here=$(dirname "$(realpath "$0")")
+kernel=6.1.0-56-cloud-arm64
+guest_packages="linux-image-$kernel busybox-static kexec-tools libc6 zlib1g libxenmisc4.17 libxentoollog1 libxentoolcore1
+    libxencall1 libxenevtchn1 libxengnttab1 libxenforeignmemory1 libxendevicemodel1"
+modules="drivers/virtio/virtio_ring drivers/virtio/virtio drivers/virtio/virtio_pci_modern_dev
+    drivers/virtio/virtio_pci_legacy_dev drivers/virtio/virtio_pci drivers/block/virtio_blk drivers/char/hw_random/virtio-rng
+    net/core/failover drivers/net/net_failover drivers/net/virtio_net"
+features="--target-list=aarch64-softmmu --without-default-features --without-default-devices --with-devices-aarch64=its
+    --enable-tcg --enable-slirp --enable-fdt=system --enable-trace-backends=log --disable-docs --disable-werror --disable-install-blobs"
+
+# Lists of packages of this folder's own, with sources and arm64, so that those of the host stay as they are.
+lists() {
+    mkdir -p "$1/apt/lists/partial" "$1/apt/cache/archives/partial"
+    for place in "debian bookworm" "debian bookworm-updates" "debian-security bookworm-security"; do
+        echo "deb http://deb.debian.org/$place main"
+        echo "deb-src http://deb.debian.org/$place main"
+    done >"$1/apt/sources.list"
+    cat >"$1/apt/apt.conf" <<EOF
+Dir::Etc::SourceList "$1/apt/sources.list";
+Dir::Etc::SourceParts "/dev/null";
+Dir::State::Lists "$1/apt/lists";
+Dir::Cache "$1/apt/cache";
+APT::Architectures { "amd64"; "arm64"; };
+APT::Sandbox::User "";
+EOF
+    export APT_CONFIG=$1/apt/apt.conf
+    apt-get -q update
+}
+
+fetch() {
+    local package
+    lists "$1"
+    [ -d "$1/qemu" ] || (cd "$1" && apt-get -q source --download-only qemu=1:7.2+dfsg-7+deb12u18 &&
+        dpkg-source -x qemu_7.2*.dsc qemu)
+    [ -d "$1/packages" ] && return
+    mkdir "$1/packages.new"
+    (cd "$1/packages.new" && apt-get -q download $(printf '%s:arm64 ' $guest_packages))
+    for package in "$1"/packages.new/*.deb; do
+        dpkg -x "$package" "$1/packages.new"
+    done
+    mv "$1/packages.new" "$1/packages"
+}
+
+build_qemu() {
+    python3 "$here/wire.py" "$1/qemu" "$2"
+    mkdir -p "$1/build"
+    cd "$1/build"
+    [ -e build.ninja ] || ../qemu/configure $features
+    rm -f qemu-system-aarch64
+    nice ninja -j "${JOBS:-2}" qemu-system-aarch64
+    ln -sf build/qemu-system-aarch64 "$1/qemu-system-aarch64"
+}
+
+# The kernel, and what it starts from: busybox, the drivers, kexec with its libraries, and init.
+build_guest() {
+    local root=$1/root files=$1/packages module library
+    rm -rf "$root"
+    mkdir -p "$root/bin" "$root/sbin" "$root/lib" "$root/proc" "$root/sys" "$root/dev" "$root/tmp"
+    cp "$files/boot/vmlinuz-$kernel" "$1/vmlinuz"
+    cp "$files/bin/busybox" "$root/bin/"
+    ln -s busybox "$root/bin/sh"
+    for module in $modules; do
+        cp "$files/lib/modules/$kernel/kernel/$module.ko" "$root/lib/"
+        basename "$module" >>"$root/lib/modules.list"
+    done
+    cp "$files/sbin/kexec" "$root/sbin/"
+    for library in "$files"/lib/aarch64-linux-gnu/{ld-linux-aarch64.so.1,libc.so.6,libz.so.1} \
+        "$files"/usr/lib/aarch64-linux-gnu/libxen*.so.*; do
+        cp -L "$library" "$root/lib/"
+    done
+    cp "$here/init" "$root/init"
+    chmod +x "$root/init"
+    (cd "$root" && find . | LC_ALL=C sort | cpio -o -H newc --quiet | gzip -1) >"$1/initrd.gz"
+}
+
+build() {
+    fetch "$1"
+    build_guest "$1"
+    build_qemu "$1" "$2"
+}
+
+boot() {
+    [ "$2" = own ] || export ITS_LIBRARY=1
+    exec "$1/qemu-system-aarch64" -M virt,gic-version=3,its=on -cpu cortex-a57 -smp 4 -m 512 -nographic -nodefaults \
+        -serial mon:stdio -kernel "$1/vmlinuz" -initrd "$1/initrd.gz" -append "console=ttyAMA0 panic=-1" \
+        -blockdev driver=null-co,size=1073741824,read-zeroes=on,node-name=disk -device virtio-blk-pci,drive=disk,num-queues=4 \
+        -netdev user,id=net -device virtio-net-pci,netdev=net,romfile= -device virtio-rng-pci
+}
+
+# Each machine of a scenario's records, as a script and a report that `its check` holds against the plain translator.
+check() {
+    local dir=$1 program=$2 record failed=0 input
+    shift 2
+    for record in $(cd "$dir" && ls ${*:-*.record}); do
+        rm -rf "$dir/${record%.record}.scripts"
+        python3 "$here/to_script.py" "$dir/$record" "$dir/${record%.record}.scripts"
+        for input in "$dir/${record%.record}.scripts"/*.check; do
+            [ -e "$input" ] || continue
+            "$program" check <"$input" || failed=1
+        done
+    done
+    return $failed
+}
+
+case "${1:-}" in
+build) mkdir -p "$2" && build "$(realpath "$2")" "$(realpath "$3")" ;;
+boot) boot "$2" "$3" ;;
+scenarios) exec python3 "$here/scenarios.py" "$(realpath "$2")" "${@:3}" ;;
+check) check "$(realpath "$2")" "${@:3}" ;;
+speed) exec python3 "$here/speed.py" "$(realpath "$2")" "${@:3}" ;;
+*) sed -n '4,8s/^# //p' "$0" >&2 && exit 2 ;;
+esac
