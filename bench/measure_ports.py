@@ -19,20 +19,27 @@ import subprocess
 import sys
 import time
 
-# Each call with its threads, and how many calls a thread makes; of the last three, how many events there are.
+# Each call with its threads, and how many calls a thread makes; of `step`, `save` and `migrate`, how many events there are.
 CALLS = {
     "hit-1": (1, 200_000),
+    "hit-1-of-2": (1, 200_000),
     "signal-1": (1, 200_000),
     "miss-1": (1, 100_000),
     "take-1": (1, 100_000),
     "signal-2-devices": (2, 500_000),
     "signal-2-one": (2, 500_000),
+    "signal-2-translators": (2, 500_000),
     "signal-4-devices": (4, 500_000),
     "step": (1, 65_536),
     "save": (1, 65_536),
     "migrate": (1, 65_536),
+    "poke": (1, 200_000),
+    "poke-track": (1, 200_000),
+    "copy": (1, 500),
 }
 NO_PEER = ("migrate",)
+# Plain Rust has one translator and one memory: what stands beside the calls of two.
+PEER = {"hit-1-of-2": "hit-1", "signal-2-translators": "signal-2-devices", "poke-track": "poke"}
 # The least part of its threads' processors that a run uses whose threads ran beside each other.
 BESIDE = 0.75
 
@@ -84,7 +91,7 @@ def measure(name, programs, rounds, real_time):
     for _ in range(rounds):
         ours.append(run(start + [program, "time", str(count), name]))
         if name not in NO_PEER:
-            peer.append(run(start + [rust, str(count), name]))
+            peer.append(run(start + [rust, str(count), PEER.get(name, name)]))
     return name, threads, kept(ours, threads), kept(peer, threads), os.getloadavg()[0]
 
 

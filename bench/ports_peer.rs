@@ -20,6 +20,13 @@ const MEMORY: usize = 1;
 const FIRST_LPI: u32 = 8192;
 const LPIS: usize = 57_344;
 const MEMORY_BYTES: usize = 0x20_0000;
+const LARGE_BYTES: usize = 0x400_0000;
+const PAGE: usize = 4096;
+// Where words are written, how many, and how many pages are copied, each so far from the one before it.
+const WRITTEN: usize = 0x10_0000;
+const WORDS: usize = 8192;
+const PAGES: usize = 100;
+const APART: usize = 160 * PAGE;
 const QUEUE: usize = 0x2_0000;
 const QUEUE_BYTES: usize = 0x1_0000;
 const DEVICE_TABLE: usize = 0;
@@ -329,6 +336,19 @@ impl Machine {
         made
     }
 
+    // A write of eight bytes of memory.
+    #[inline(never)]
+    fn poke(&self, me: u64, at: usize, bytes: &[u8]) -> bool {
+        let Some(Slot::Memory(mut memory)) = self.take_turn(MEMORY, me) else { return false };
+        let word = self.words[0].load(SeqCst);
+        let made = self.commit(word, stamp_of(word));
+        if made {
+            memory[at..][..bytes.len()].copy_from_slice(bytes);
+        }
+        self.put(MEMORY, Slot::Memory(memory));
+        made
+    }
+
     // The commands that map events of one device to collection 0.
     fn queue(&self, me: u64, at: usize, first: u32, count: u32) {
         let Some(Slot::Memory(mut memory)) = self.take_turn(MEMORY, me) else { unreachable!() };
@@ -493,12 +513,45 @@ fn saves(bits: u32) -> (u64, Duration) {
     (4, since.elapsed())
 }
 
+fn pokes(count: u32) -> (u64, Duration) {
+    let machine = Machine::new();
+    let since = Instant::now();
+    for n in 0..count {
+        let at = WRITTEN + 8 * (n as usize % WORDS);
+        assert!(black_box(machine.poke(1, at, &u64::from(n).to_le_bytes())));
+    }
+    (u64::from(count), since.elapsed())
+}
+
+// The bytes of a hundred pages, after a word of each was written.
+fn copies(count: u32) -> (u64, Duration) {
+    let mut memory = vec![1u8; LARGE_BYTES];
+    let mut second = vec![0u8; LARGE_BYTES];
+    let mut spent = Duration::ZERO;
+    for n in 0..=count {
+        for page in 0..PAGES {
+            memory[WRITTEN + APART * page..][..8].copy_from_slice(&u64::from(n).to_le_bytes());
+        }
+        let since = Instant::now();
+        for page in 0..PAGES {
+            let at = WRITTEN + APART * page;
+            second[at..][..PAGE].copy_from_slice(&memory[at..][..PAGE]);
+        }
+        black_box(&mut second);
+        // The first one finds pages that no one has touched.
+        if n != 0 {
+            spent += since.elapsed();
+        }
+    }
+    (u64::from(count), spent)
+}
+
 fn main() {
     let words: Vec<String> = std::env::args().collect();
     let count: u32 = words.get(1).and_then(|word| word.parse().ok()).expect("usage: ports_peer COUNT [NAME]");
     let bits = count.clamp(2, 65_536).ilog2();
     let events = 1 << bits;
-    let all: [(&str, &dyn Fn() -> (u64, Duration)); 9] = [
+    let all: [(&str, &dyn Fn() -> (u64, Duration)); 11] = [
         ("hit-1", &|| hits(count)),
         ("miss-1", &|| misses(events.min(8192), count)),
         ("signal-1", &|| signals(&DEVICES[..1], count)),
@@ -508,6 +561,8 @@ fn main() {
         ("take-1", &|| takes(events.min(1024), count)),
         ("step", &|| (u64::from(events), with_events(events).1)),
         ("save", &|| saves(bits)),
+        ("poke", &|| pokes(count)),
+        ("copy", &|| copies(count.min(1000))),
     ];
     for (name, run) in all {
         if words.get(2).is_none_or(|only| only == name) {

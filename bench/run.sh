@@ -6,6 +6,7 @@
 # events       a restore of 16,384, 32,768 and 65,536 events of one device, and eight migrations
 # devices      the same of as many devices
 # overlap      the same devices, of which the last two tables overlap, and one save that is refused
+# pokes        100,000, 200,000 and 400,000 writes of guest memory; `pokes-track` with a second memory
 # map-KIND-ORDER  16,000, 32,000 and 64,000 commands that map devices, or events of one device, in an order
 #
 # The program is built by `cd crates/its_cli && rt run -- run < stdin`, which leaves it as crates/its_cli/out/its_cli.
@@ -42,6 +43,11 @@ done
 echo "mixed lines"
 for bytes in 4194304 8388608 16777216; do
     measure mixed "$bytes" make_mixed.py "$bytes"
+done
+echo "writes of memory"
+for pokes in 100000 200000 400000; do
+    measure pokes "$pokes" make_pokes.py "$pokes"
+    measure pokes-track "$pokes" make_pokes.py "$pokes" track
 done
 for kind in events devices; do
     echo "restore and eight migrations: $kind"
