@@ -1,5 +1,5 @@
 #!/usr/bin/env bash
-# Compares what a program prints for each script here with the report beside it.
+# Compares what a program prints for each script here, and in variations/, with the report beside it.
 #
 # usage: examples/compare.sh PROGRAM
 set -u
@@ -12,8 +12,10 @@ program=$(realpath "$1")
 cd "$(dirname "$0")" || exit 1
 passed=0
 failed=0
-for script in *.its; do
-    if "$program" run <"$script" | cmp - "${script%.its}.report"; then
+for script in *.its variations/*.its; do
+    report=${script%.its}.report
+    [ -f "$report" ] || report=$script.stdout
+    if "$program" run <"$script" | cmp - "$report"; then
         passed=$((passed + 1))
     else
         echo "examples/$script: the report differs"
