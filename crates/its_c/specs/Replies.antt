@@ -1,7 +1,7 @@
 -- Replies as numbers.
 use Rattle.std.specs.Prelude.{◌≡◌, ◌⊎◌, ℕ, false, slice_get}
 use Rattle.its_command.specs.declared.command.Op.{Op}
-use Rattle.its_command.specs.declared.command.Op.TheVariants as ops
+use Rattle.its_command.specs.Opcodes.{opcode}
 use Rattle.its_plain.specs.declared.call.Ack.{Ack}
 use Rattle.its_plain.specs.declared.call.Ack.TheVariants as acks
 use Rattle.its_plain.specs.declared.call.Cause.{Cause}
@@ -78,22 +78,6 @@ ack_out (acks.Some intid priority) = record { intid = intid.0; priority = priori
 ack_out acks.None = record { intid = 0; priority = 0 }
 
 -- ---- steps
-
--- byte 0 of the command (IHI 0069, section 5.3)
-abbrev pub opcode : Op → ℕ
-opcode ops.Movi = 0x01
-opcode ops.Int = 0x03
-opcode ops.Clear = 0x04
-opcode ops.Sync = 0x05
-opcode ops.Mapd = 0x08
-opcode ops.Mapc = 0x09
-opcode ops.Mapti = 0x0A
-opcode ops.Mapi = 0x0B
-opcode ops.Inv = 0x0C
-opcode ops.Invall = 0x0D
-opcode ops.Movall = 0x0E
-opcode ops.Discard = 0x0F
-opcode (ops.Unknown byte) = byte
 
 abbrev pub reason_number : Reason → ℕ
 reason_number reasons.UnknownCommand = 1

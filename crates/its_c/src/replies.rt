@@ -2,7 +2,6 @@
 ghost use Rattle.std.specs.Prelude.{◌≡◌};
 ghost use Rattle.its_c.specs.Replies as spec;
 
-use its_command::Op;
 use its_plain::{Ack, Cause, Reason, Reply, Route, Signal, StepReply};
 use step_views::Destination;
 
@@ -171,27 +170,6 @@ pub fn ack_out(ack: Ack) -> AckOut
     }
 }
 
-// A command's opcode (IHI 0069, section 5.3).
-fn opcode(op: Op) -> u32
-    ensures { result ≡ spec.opcode op }
-{
-    match op {
-        Op::Movi => 0x01,
-        Op::Int => 0x03,
-        Op::Clear => 0x04,
-        Op::Sync => 0x05,
-        Op::Mapd => 0x08,
-        Op::Mapc => 0x09,
-        Op::Mapti => 0x0a,
-        Op::Mapi => 0x0b,
-        Op::Inv => 0x0c,
-        Op::Invall => 0x0d,
-        Op::Movall => 0x0e,
-        Op::Discard => 0x0f,
-        Op::Unknown(opcode) => u32::from(opcode),
-    }
-}
-
 // A reason as its number.
 fn reason_number(reason: Reason) -> u32
     ensures { result ≡ spec.reason_number reason }
@@ -225,14 +203,14 @@ pub fn step_out(step: StepReply, concerned: u32) -> StepOut
         },
         StepReply::Ran(op) => StepOut {
             outcome: 1,
-            op: opcode(op),
+            op: u32::from(op.opcode()),
             reason: 0,
             address: 0,
             concerned,
         },
         StepReply::Refused(op, reason) => StepOut {
             outcome: 2,
-            op: opcode(op),
+            op: u32::from(op.opcode()),
             reason: reason_number(reason),
             address: 0,
             concerned,

@@ -1,5 +1,5 @@
 -- Runs of a script: legs of phases of threads of calls.
-use Rattle.std.specs.Prelude.{◌≡◌, ◌⊎◌, ℕ, suc, ◌+◌, ◌<◌, ◌≤◌, List, [], ◌∷◌, ◌++◌, length}
+use Rattle.std.specs.Prelude.{◌≡◌, ◌⊎◌, ℕ, suc, ◌+◌, ◌<◌, ◌≤◌, List, [], ◌∷◌, ◌++◌, length, sum_by}
 use Rattle.std.specs.List.{AllByRecursion}
 use mathlib.Core.List.{IsPrefix}
 use Rattle.its_plain.specs.Plain.{Plain}
@@ -16,6 +16,10 @@ Phase = List Thread
 
 abbrev pub Leg : Type 0
 Leg = List Phase
+
+-- how many calls its threads have
+abbrev pub call_count : Leg → ℕ
+call_count phases = sum_by (λ threads. sum_by (λ calls. length calls) threads) phases
 
 -- ---- the calls of threads
 

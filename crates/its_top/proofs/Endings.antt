@@ -4,10 +4,9 @@ use Rattle.its_plain.specs.Plain.{Plain}
 use Rattle.its_plain.specs.History.{after}
 use Rattle.its_plain.specs.Regions.{savable}
 use Rattle.its_plain.specs.Saved.{moved, IsSavable}
-use Rattle.its_plain.specs.Runs.{Leg, IsLegRun, IsRun}
+use Rattle.its_plain.specs.Runs.{Leg, IsLegRun, IsRun, call_count}
 use Rattle.its_plain.specs.declared.call.Entry.{Entry}
 use Rattle.its_plain.specs.declared.fault.SaveFault.{SaveFault}
-use Rattle.script_threads.specs.Legs.{call_count}
 use Rattle.its_top.specs.Legs.{HasPlaces, HaveRun, CanMigrate, AllEnd}
 use Rattle.its_top.specs.declared.status.Status.{Status}
 use Rattle.its_top.specs.declared.status.Status.TheVariants as status

@@ -5,12 +5,11 @@ use Rattle.std.proofs.lemmas.List.{append-nil}
 use Rattle.its_plain.specs.Plain.{Plain}
 use Rattle.its_plain.specs.History.{after}
 use Rattle.its_plain.specs.Saved.{moved, IsSavable}
-use Rattle.its_plain.specs.Runs.{Phase, Leg, HasFirstCalls, ArePhases, ArePartOfPhases, IsLegRun, IsPartOfLegRun, IsRun, IsPartialRun}
+use Rattle.its_plain.specs.Runs.{Phase, Leg, HasFirstCalls, ArePhases, ArePartOfPhases, IsLegRun, IsPartOfLegRun, IsRun, IsPartialRun, call_count}
 use Rattle.its_plain.specs.declared.call.Entry.{Entry}
 use Rattle.its_history.specs.Report.{leg_text, legs_from, report_text}
 use Rattle.its_history.specs.declared.trace.End.TheVariants.{Done}
 use Rattle.its_history.specs.declared.trace.Leg.{Leg as LegLines}
-use Rattle.script_threads.specs.Legs.{call_count}
 use Rattle.its_top.specs.Legs.{HasPlaces, HaveRun}
 use Rattle.its_history.specs.Reports.{reported, migrated, ended, moved_leg}
 

@@ -5,7 +5,7 @@ use Rattle.its_plain.specs.Plain.{Plain}
 use Rattle.its_plain.specs.History.{after}
 use Rattle.its_plain.specs.Regions.{savable}
 use Rattle.its_plain.specs.Saved.{moved, IsSavable}
-use Rattle.its_plain.specs.Runs.{Leg, IsLegRun, IsPartOfLegRun}
+use Rattle.its_plain.specs.Runs.{Leg, IsLegRun, IsPartOfLegRun, call_count}
 use Rattle.its_plain.specs.declared.call.Entry.{Entry}
 use Rattle.its_plain.specs.declared.fault.SaveFault.{SaveFault}
 use Rattle.event_script.specs.declared.script.Move.{Move}
@@ -15,7 +15,6 @@ use Rattle.its_history.specs.Report.{leg_text, report_text}
 use Rattle.its_history.specs.declared.trace.End.{End}
 use Rattle.its_history.specs.declared.trace.End.TheVariants.{Done}
 use Rattle.its_history.specs.declared.trace.EntryLine.{EntryLine}
-use Rattle.script_threads.specs.Legs.{call_count}
 use Rattle.its_top.specs.Legs.{HaveRun, first_told}
 use Rattle.its_history.specs.Reports.{ended, moved_end, cut_leg}
 use Rattle.its_top.specs.Refusals.{spent_refusal, migration_refusal}

@@ -4,7 +4,7 @@ use Rattle.its_plain.specs.Plain.{Plain}
 use Rattle.its_plain.specs.History.{after}
 use Rattle.its_plain.specs.Described.{IsFirstState, IsRefused}
 use Rattle.its_plain.specs.Regions.{savable}
-use Rattle.its_plain.specs.Runs.{Leg, IsRun, IsLegRun, IsPartOfLegRun, IsPartialRun}
+use Rattle.its_plain.specs.Runs.{Leg, IsRun, IsLegRun, IsPartOfLegRun, IsPartialRun, call_count}
 use Rattle.its_plain.specs.declared.call.Entry.{Entry}
 use Rattle.its_plain.specs.declared.desc.DescFault.{DescFault}
 use Rattle.its_plain.specs.declared.fault.SaveFault.{SaveFault}
@@ -20,7 +20,6 @@ use Rattle.its_words.specs.Words.{asked_of}
 use Rattle.its_words.specs.declared.words.Asked.{Asked}
 use Rattle.its_words.specs.declared.words.Asked.TheVariants.{Run, Check, Gen, Explain, Help}
 use Rattle.its_words.specs.Help.{help_text}
-use Rattle.script_threads.specs.Legs.{call_count}
 use Rattle.its_top.specs.Legs.{HasPlaces, HaveRun, CanMigrate, AllEnd, all_told, first_told}
 use Rattle.its_history.specs.Reports.{ended, cut_leg}
 use Rattle.trace_check.specs.Verdicts.{copies_of}

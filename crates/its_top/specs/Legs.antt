@@ -3,12 +3,11 @@ use Rattle.std.specs.Prelude.{◌≡◌, ◌⊎◌, ℕ, ◌<◌, ◌≤◌, Lis
 use Rattle.its_plain.specs.Plain.{Plain}
 use Rattle.its_plain.specs.History.{after}
 use Rattle.its_plain.specs.Saved.{moved, IsSavable}
-use Rattle.its_plain.specs.Runs.{Leg, IsLegRun}
+use Rattle.its_plain.specs.Runs.{Leg, IsLegRun, call_count}
 use Rattle.its_plain.specs.declared.call.Entry.{Entry}
 use Rattle.event_script.specs.declared.script.Script.{Script}
 use Rattle.its_history.specs.Reports.{reported, migrated}
 use Rattle.its_history.specs.declared.trace.Leg.{Leg as LegLines}
-use Rattle.script_threads.specs.Legs.{call_count}
 use Rattle.trace_check.specs.Verdicts.{copies_of}
 use Rattle.its_top.specs.declared.status.Status.{Status}
 use Rattle.its_top.specs.declared.status.Status.TheVariants as status

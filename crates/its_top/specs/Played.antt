@@ -1,7 +1,7 @@
 -- A leg whose phases run on a machine that its threads share.
 use Rattle.std.specs.Prelude.{◌≡◌, ◌<◌, ◌≤◌, Bool, true, false, List, [], length}
 use Rattle.its_plain.specs.History.{IsLegal}
-use Rattle.its_plain.specs.Runs.{Leg, ArePhases, ArePartOfPhases}
+use Rattle.its_plain.specs.Runs.{Leg, ArePhases, ArePartOfPhases, call_count}
 use Rattle.its_plain.specs.declared.call.Entry.{Entry}
 use Rattle.its_history.specs.Histories.{seat_of, history_lines}
 use Rattle.its_history.specs.declared.trace.EntryLine.{EntryLine}
@@ -13,7 +13,6 @@ use Rattle.its_turns.specs.Machines.{setup, view, IsOf}
 use Rattle.its_turns.specs.Told.{IsLone}
 use Rattle.its_turns.specs.declared.machine.Machine.{Machine}
 use Rattle.its_turns.specs.declared.machine.Pass.{Pass}
-use Rattle.script_threads.specs.Legs.{call_count}
 use Rattle.script_threads.specs.Scripts.{IsOfDesc}
 use Rattle.its_history.specs.Reports.{thread_counts}
 use Rattle.its_top.specs.declared.moves.Shared.{Shared}

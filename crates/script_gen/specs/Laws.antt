@@ -1,10 +1,10 @@
 -- What a run of a generated script rests on: its machine is made, no leg has too many calls, and the machine can migrate.
-use Rattle.std.specs.Prelude.{◌<◌, ◌≤◌, ℕ, List, length, sum_by}
+use Rattle.std.specs.Prelude.{◌<◌, ◌≤◌, ℕ, List}
 use Rattle.std.specs.List.{AllByRecursion}
 use Rattle.its_plain.specs.Described.{IsFirstState, IsRefused}
 use Rattle.its_plain.specs.History.{after}
 use Rattle.its_plain.specs.Plain.{Plain}
-use Rattle.its_plain.specs.Runs.{Leg, IsLegRun}
+use Rattle.its_plain.specs.Runs.{IsLegRun, call_count}
 use Rattle.its_plain.specs.Saved.{IsSavable}
 use Rattle.its_plain.specs.declared.call.Entry.{Entry}
 use Rattle.its_plain.specs.declared.desc.DescFault.{DescFault}
@@ -30,10 +30,6 @@ IsNeverRefused = (f : DescFault) → IsRefused description f → ⊥
 -- the script has no more of anything than a script may have
 abbrev pub StaysWithinLimits : Type 0
 StaysWithinLimits = (signals threads : ℕ) → IsAsked signals threads → IsWithinLimits (generated signals threads)
-
--- how many calls the threads of a leg have
-abbrev pub call_count : Leg → ℕ
-call_count phases = sum_by (λ threads. sum_by (λ calls. length calls) threads) phases
 
 -- each leg has fewer calls than a history has places
 abbrev pub HasRoom : Type 0

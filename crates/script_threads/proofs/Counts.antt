@@ -5,11 +5,10 @@ use Rattle.std.proofs.lemmas.List.Sums.{sum_by-cons}
 use mathlib.Core.Logic.{dite}
 use native.Mathlib.Decide.{ℕ_discrete}
 use Rattle.its_types.specs.declared.machine.Placed.{Placed}
-use Rattle.its_plain.specs.Runs.{Thread, Phase, Leg, IsOfPasses}
+use Rattle.its_plain.specs.Runs.{Thread, Phase, Leg, IsOfPasses, call_count}
 use Rattle.its_plain.specs.declared.call.Entry.{Entry}
 use Rattle.its_plain.specs.declared.call.Reply.{Reply}
 use Rattle.its_history.specs.Histories.{replies_by}
-use Rattle.script_threads.specs.Legs.{call_count}
 use Rattle.script_threads.specs.Phases.{IsCut, SomeThread, calls_of, replies_of}
 use Rattle.script_threads.proofs.Threads.{HaveEntries, AreWhole}
 

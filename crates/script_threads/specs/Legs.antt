@@ -1,10 +1,10 @@
 -- What a leg does.
-use Rattle.std.specs.Prelude.{◌≡◌, ◌<◌, ◌≤◌, ℕ, zero, suc, ◌+◌, List, [], ◌∷◌, ◌++◌, map, length, sum_by, Option, Some, None, IsSome, Any}
+use Rattle.std.specs.Prelude.{◌≡◌, ◌<◌, ◌≤◌, ℕ, zero, suc, ◌+◌, List, [], ◌∷◌, ◌++◌, map, length, Option, Some, None, IsSome, Any}
 use Rattle.std.specs.List.{AllByRecursion}
 use Rattle.its_plain.specs.History.{IsLegal}
 use Rattle.its_types.specs.declared.machine.Placed.{Placed}
 use Rattle.its_plain.specs.declared.call.Reply.{Reply}
-use Rattle.its_plain.specs.Runs.{Phase, Leg, IsOfPasses, ArePhases, ArePartOfPhases}
+use Rattle.its_plain.specs.Runs.{Phase, Leg, call_count, IsOfPasses, ArePhases, ArePartOfPhases}
 use Rattle.its_history.specs.declared.threads.ThreadList.{ThreadList}
 use Rattle.its_history.specs.Histories.{seat_of, passes_lines}
 use Rattle.its_history.specs.declared.trace.EntryLine.{EntryLine}
@@ -27,10 +27,6 @@ abbrev pub threads_in : ℕ → Leg → ℕ
 threads_in zero phases = 0
 threads_in (suc k) [] = 0
 threads_in (suc k) (threads ∷ phases) = length threads + threads_in k phases
-
--- how many calls its threads have
-abbrev pub call_count : Leg → ℕ
-call_count phases = sum_by (λ threads. sum_by (λ calls. length calls) threads) phases
 
 -- the thread's first call without a reply takes memory
 abbrev pub StopsAtMemory : ThreadList → Type 0
