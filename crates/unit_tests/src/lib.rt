@@ -1,4 +1,4 @@
-//! Tests of the parts that every machine is made of: streams, guest memory, registers, commands,
+//! Tests of single crates on which every machine stands: streams, guest memory, registers, commands,
 //! table entries, maps, the cache, LPIs, scripts and reports. Each file is of one crate.
 #![tactic(auto)]
 
