@@ -6,16 +6,16 @@ ghost use Rattle.guest_windows.specs.Windows as spec;
 ghost use Rattle.guest_windows.specs.Mixed.{mixed_windows};
 ghost use Rattle.guest_windows.specs.Fields.{windows, AllWhole};
 
-use crate::chunk::PAGES;
+use crate::chunk::{Chunk, PAGES};
 use crate::errors::NewError;
-use crate::frame::Frame;
+use crate::frame::{Frame, within_page};
 use crate::memory::Memory;
 use crate::page::Page;
 use its_types::Addr;
 use std::alloc::{AllocError, Global};
 use std::marker::Model;
 
-// How many bytes are copied at once.
+// How many bytes a page has that is copied.
 const COPIED: u64 = 4096;
 
 /// Guest memory whose pages are all held. It is seen as memory is.
@@ -139,13 +139,13 @@ fn copy_frames(frames: &mut Vec<Frame>, from: &[Frame], page: u64)
 }
 
 impl Frame {
-    ghost use Rattle.std.specs.Prelude.{◌≡◌, ◌≢◌, ◌<◌, ◌*◌, ◌^◌, ◌/◌, ◌==◌, ◌≤◌, ℕ, true, length};
-    ghost use Rattle.std.specs.Prelude.{OnOk};
+    ghost use Rattle.std.specs.Prelude.{◌≡◌, ◌≢◌, ◌⊎◌, ◌<◌, ◌+◌, ◌*◌, ◌^◌, ◌/◌, ◌%◌, ◌==◌, ◌≤◌};
+    ghost use Rattle.std.specs.Prelude.{ℕ, true, length, OnOk};
     ghost use Rattle.std.specs.Vec.{vec_len};
     ghost use Rattle.guest_windows.specs.Windows.{has, piece, put, zeros};
     ghost use Rattle.guest_windows.specs.Mixed.{mixed_window};
     ghost use Rattle.guest_windows.specs.Fields.{window, IsWhole};
-    ghost use Rattle.guest_windows.specs.Pages.{rows, byte_in, page_row, StillHeld};
+    ghost use Rattle.guest_windows.specs.Pages.{rows, row_at, byte_in, page_row, AreHeld, StillHeld};
 
     // Holds all pages.
     fn hold_all(&mut self, alloc: Global) -> Result<(), AllocError>
@@ -199,28 +199,85 @@ impl Frame {
         if end <= first {
             return;
         }
-        let mut bytes = [0u8; COPIED as usize];
-        self.copy_bytes(from, Addr(first), (end - first) as usize, &mut bytes);
+        self.copy_bytes(from, Addr(first), end - first);
     }
 
-    // Copies the bytes at an address, by way of the buffer.
-    fn copy_bytes(&mut self, from: &Frame, addr: Addr, len: usize, bytes: &mut [u8])
-        requires from { has (window from.now) addr.0 len ≡ true }
-        requires to { has (window self.old) addr.0 len ≡ true }
+    // Copies the bytes at an address.
+    fn copy_bytes(&mut self, from: &Frame, addr: Addr, len: u64)
+        requires base { self.old.base ≡ from.now.base }
+        requires len { self.old.len ≡ from.now.len }
+        requires has { has (window self.old) addr.0 len ≡ true }
         requires whole { IsWhole self.old }
-        requires room { len ≤ length bytes.old }
         ensures copied { window self.new ≡ put (window self.old) addr.0
             (piece (window from.now) addr.0 len) }
         ensures whole { IsWhole self.new }
     {
-        let part = &mut bytes[..len];
-        from.read(addr, part);
-        self.write(addr, part);
+        self.copy_at(from, addr.0 - self.base, len);
+    }
+
+    // Copies the bytes from a place on.
+    fn copy_at(&mut self, from: &Frame, start: u64, len: u64)
+        requires fits { start + len ≤ self.old.len }
+        requires same { self.old.len ≡ from.now.len }
+        requires held { AreHeld (rows self.old.chunks.items) start len }
+        ensures here { (i : ℕ) → start ≤ i → i < start + len
+            → byte_in (rows self.new.chunks.items) i ≡ byte_in (rows from.now.chunks.items) i }
+        ensures others { (i : ℕ) → (i < start) ⊎ (start + len ≤ i)
+            → byte_in (rows self.new.chunks.items) i ≡ byte_in (rows self.old.chunks.items) i }
+        ensures still { StillHeld (rows self.old.chunks.items) (rows self.new.chunks.items) }
+        ensures base { self.new.base ≡ self.old.base }
+        ensures len { self.new.len ≡ self.old.len }
+    {
+        let mut done = 0;
+        while done < len {
+            let at = start + done;
+            let count = within_page(at, len - done);
+            self.copy_piece(from, at, count);
+            done += count;
+        }
+    }
+
+    // Copies bytes of one page, which is held.
+    fn copy_piece(&mut self, from: &Frame, at: u64, count: u64)
+        requires inside { at + count ≤ self.old.len }
+        requires same { self.old.len ≡ from.now.len }
+        requires page { at % 65536 + count ≤ 65536 }
+        requires held { length (row_at (rows self.old.chunks.items) at) ≡ 65536 }
+        requires some { 0 < count }
+        ensures here { (i : ℕ) → at ≤ i → i < at + count
+            → byte_in (rows self.new.chunks.items) i ≡ byte_in (rows from.now.chunks.items) i }
+        ensures others { (i : ℕ) → (i < at) ⊎ (at + count ≤ i)
+            → byte_in (rows self.new.chunks.items) i ≡ byte_in (rows self.old.chunks.items) i }
+        ensures still { StillHeld (rows self.old.chunks.items) (rows self.new.chunks.items) }
+        ensures base { self.new.base ≡ self.old.base }
+        ensures len { self.new.len ≡ self.old.len }
+    {
+        let page = at / 65_536;
+        let other = from.chunk_of(page);
+        let chunk = &mut self.chunks[(page / PAGES) as usize];
+        let index = (page % PAGES) as usize;
+        chunk.pages[index].take_from(other, index, (at % 65_536) as usize, count as usize);
     }
 }
 
 impl Page {
-    ghost use Rattle.std.specs.Prelude.{◌≡◌, ℕ, length, slice_index};
+    ghost use Rattle.std.specs.Prelude.{◌≡◌, ◌⊎◌, ◌+◌, ◌<◌, ◌≤◌, ℕ, [], length, slice_index};
+    ghost use Rattle.std.specs.Prelude.{slice_index_or};
+    ghost use Rattle.guest_windows.specs.Chunks.{page_rows};
+
+    // Takes bytes of the page at a place of a chunk, from a place of it on, into its own.
+    fn take_from(&mut self, chunk: &Chunk, page: usize, from: usize, count: usize)
+        requires held { length self.old.bytes.items ≡ 65536 }
+        requires page { page < 4096 }
+        requires inside { from + count ≤ 65536 }
+        ensures size { length self.new.bytes.items ≡ 65536 }
+        ensures here { (k : ℕ) → k < count → slice_index self.new.bytes.items (from + k)
+            ≡ slice_index (slice_index_or (page_rows chunk.now.pages.items) page []) (from + k) }
+        ensures others { (i : ℕ) → (i < from) ⊎ (from + count ≤ i)
+            → slice_index self.new.bytes.items i ≡ slice_index self.old.bytes.items i }
+    {
+        chunk.read(page, from, &mut self.bytes[from..from + count]);
+    }
 
     // Makes its bytes zero. It stays held where it was.
     fn clear(&mut self)

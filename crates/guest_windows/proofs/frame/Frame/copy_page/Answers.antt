@@ -15,13 +15,8 @@ returns-then-end-first-clause-copied c =
     none_mixed c.args.page (window g) (window f) (sym c.requires.base) (also ∙ sym c.requires.len ∙ sym long)
     (λ k lt is. omega (arith, lt, long, is, c.if-end-first.true, c.max-first.ensures, c.min-end.ensures))
 
-pub copy_bytes-requires-clause-from : goal.copy_bytes-requires-clause-from
-copy_bytes-requires-clause-from c =
-    has_at c.args.from.now c.max-first.result _ (omega (arith, c.requires.base, c.max-first.ensures))
-    (omega (arith, c.requires.base, c.requires.len, c.if-end-first.false, c.max-first.ensures, c.min-end.ensures))
-
-pub copy_bytes-requires-clause-to : goal.copy_bytes-requires-clause-to
-copy_bytes-requires-clause-to c =
+pub copy_bytes-requires-clause-has : goal.copy_bytes-requires-clause-has
+copy_bytes-requires-clause-has c =
     has_at c.args.self.now c.max-first.result _ (omega (arith, c.max-first.ensures))
     (omega (arith, c.if-end-first.false, c.max-first.ensures, c.min-end.ensures))
 
