@@ -128,6 +128,7 @@ pub fn try_send<G: Gate>(
 }
 
 // The pair was found, and both parts are in hand.
+#[inline(always)]
 fn hit<G: Gate>(
     machine: &Machine,
     pass: &mut Pass,

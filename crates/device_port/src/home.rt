@@ -11,6 +11,7 @@ use its_types::Part;
 use owned_parts::Translator;
 
 /// A translator's shard, which was taken before it, and a redistributor.
+#[inline(always)]
 pub fn put_two(machine: &Machine, pass: &mut Pass, its: u8, hand: Hand)
     requires of { IsOf machine.now pass.old }
     requires its { its < translator_count (setup machine.now) }

@@ -18,6 +18,7 @@ use crate::waiting::give_way;
 use atomic_table::Seat;
 use its_types::Part;
 use std::marker::Brand;
+use std::mem::forget;
 use std::sync::Wait;
 use thiserror::Error;
 
@@ -102,6 +103,7 @@ pub fn take<R: Wait>(rt: &R, machine: &Machine, pass: &mut Pass, part: Part) -> 
 }
 
 /// Puts the value that was taken out last back, as it is owed, and gives its turn back.
+#[inline(always)]
 pub fn put(machine: &Machine, pass: &mut Pass, part: Part, value: Value)
     requires of { IsOf machine.now pass.old }
     requires stands { Stands (setup machine.now) part }
@@ -111,7 +113,10 @@ pub fn put(machine: &Machine, pass: &mut Pass, part: Part, value: Value)
     ensures view { view pass.new ≡ released (view pass.old) }
 {
     let at = machine.index(part);
-    drop(machine.table.shared.exchange(&mut pass.seat, 8 * at, value));
+    let stood = machine.table.shared.exchange(&mut pass.seat, 8 * at, value);
+    // So there is nothing to let go.
+    prove!(matches!(stood, Value::Vacant));
+    forget(stood);
     machine
         .table
         .shared

@@ -8,9 +8,9 @@ use Rattle.its_turns.proofs.Trying.{allows_release}
 use Rattle.its_turns.proofs.turns.put.Goals as goal
 
 pub store-requires : goal.store-requires
-store-requires c = let m = c.args.machine.now in let p = c.args.pass.now in let now = c.exchange.ensures.3 in let seat = c.exchange.new.seat in let o =
+store-requires c = let m = c.args.machine.now in let p = c.args.pass.now in let now = c.exchange-stood.ensures.3 in let seat = c.exchange-stood.new.seat in let o =
     c.requires.owed in let at = c.index-at.result in (
-      c.exchange.ensures.0 ∙ c.requires.of.0,
+      c.exchange-stood.ensures.0 ∙ c.requires.of.0,
       omega (arith, m.sized.0, m.sized.1, c.index-at.ensures.slot),
       allows_release (setup m) m.table.shared.table_id.slots seat.id seat.me (ap (λ (m : View × List (ℕ × Value)). m.0.standing) now ∙ p.live) c.args.part
           c.requires.stands (16 * (at + 1)) o.content c.args.value o.before
