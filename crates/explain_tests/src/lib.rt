@@ -1,0 +1,11 @@
+//! Tests of what `its explain` says of scripts, machines and reports.
+#![tactic(auto)]
+
+#[cfg(test)]
+mod explained;
+#[cfg(test)]
+mod machine_rows;
+#[cfg(test)]
+mod report_rows;
+#[cfg(test)]
+mod script_rows;
