@@ -317,3 +317,57 @@ done
         assert_eq!(rt; ended, Some(true), "{body}");
     }
 }
+
+/// A machine with one processor, DeviceIDs of 20 bits and LPIs of 20 bits. Its device table has two
+/// levels, and a page for the last devices; the last LPI is enabled.
+const WIDE: &str = "vcpus 1
+shards 4
+ids 20 20
+window 0x80000000 0x1000000
+config 0x80400000
+pending 0 0x80600000
+bytes 0x804fdfff a1
+word 0x800003f8 0x8000000080080000
+phase
+thread
+write 0x100 8 0xc107000080000200
+write 0x108 8 0x8407000080010200
+write 0x80 8 0x8000000080020000
+write 0 4 1
+";
+
+#[test]
+fn identifiers_have_20_bits(rt: HostRuntime) {
+    let body = "read 0x8 8
+run mapd 0xfffff 5 0x800c0000
+run mapc 1 0
+run mapti 0xfffff 3 1048575 1
+signal 0xfffff 3
+run mapti 0xfffff 4 1048576 1
+run mapd 0x100000 5 0x800c0100
+migrate
+phase
+thread
+peek 0x8008fff8 8
+peek 0x800c0018 8
+peek 0x8061ffff 1
+take 0
+end";
+    let end = "value 0x26f71
+ran mapd
+ran mapc
+ran mapti
+delivered 0 1048575
+refused mapti intid-range
+refused mapd device-range
+vcpu 0 pending 1048575
+migrated
+bytes 0480011000000080
+bytes 0100ffff0f000000
+bytes 80
+lpi 1048575 0xa0
+done
+";
+    let ended = tells(&rt, rt.alloc(), &[WIDE, body], Status::Ok, end);
+    assert_eq!(rt; ended, Some(true));
+}

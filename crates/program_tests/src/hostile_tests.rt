@@ -255,7 +255,7 @@ fn each_read_and_each_write_fails_in_turn(rt: HostRuntime) -> Result<(), Fail> {
 }
 
 #[test]
-fn long_inputs_and_other_words_are_refused(rt: HostRuntime) -> Result<(), Fail> {
+fn inputs_and_words_are_refused(rt: HostRuntime) -> Result<(), Fail> {
     let alloc = rt.alloc();
     let long = vec![in alloc; b'#'; 16_777_217]?;
     for (line, input, status, text) in [
@@ -272,6 +272,18 @@ fn long_inputs_and_other_words_are_refused(rt: HostRuntime) -> Result<(), Fail> 
             "refused long\n",
         ),
         (
+            "its explain",
+            b"vcpus 17\n".as_slice(),
+            Status::ScriptRefused,
+            "refused script 1 number
+    vcpus 17
+          ^
+line 1, field 2: \"17\" is out of range
+Here stands the count, 1 to 16.
+The line is `vcpus N`.
+",
+        ),
+        (
             "its walk",
             b"".as_slice(),
             Status::WordsRefused,
@@ -285,7 +297,7 @@ fn long_inputs_and_other_words_are_refused(rt: HostRuntime) -> Result<(), Fail> 
         ),
     ] {
         let mut source = SureSource::new(alloc, input)?;
-        let mut sink = SureSink::new(alloc, 64)?;
+        let mut sink = SureSink::new(alloc, 256)?;
         let ended = its(
             &rt,
             alloc,

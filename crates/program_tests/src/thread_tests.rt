@@ -92,18 +92,33 @@ impl Gate for Meeting {
     }
 }
 
-/// How the run of a script of these parts ends, and the sink with what it printed.
+/// Counts the calls that were committed.
+#[derive(Drop)]
+struct Commits {
+    count: AtomicU64,
+}
+
+impl Gate for Commits {
+    fn at(&self, _pass: u32, point: Point) {
+        if point == Point::AfterCommit {
+            self.count.fetch_add(1, Ordering::SeqCst);
+        }
+    }
+}
+
+/// How the command of a line ends, with an input of these parts, and the sink with what it printed.
 fn run<R: Threads + Wait + Sync, G: Gate + Sync>(
     rt: &R,
     alloc: Global,
     gate: &G,
+    line: &str,
     parts: &[&str],
 ) -> Result<(Status, SureSink), AllocError> {
     let mut text = String::new(alloc);
     for part in parts {
         text.push_str(part)?;
     }
-    let words = words(alloc, "its run")?;
+    let words = words(alloc, line)?;
     let mut source = SureSource::new(alloc, text.as_bytes())?;
     let mut sink = SureSink::new(alloc, 4_194_304)?;
     let status = its(rt, alloc, &words, &mut source, &mut sink, gate);
@@ -143,7 +158,7 @@ fn a_cached_signal_and_a_command_run_at_once(rt: HostRuntime) -> Result<(), Fail
             command,
             "\nwrite 0x88 8 0x80\nphase\nthread\nstep\nthread\nsignal 0x10 3\nend\n",
         ];
-        let (status, sink) = run(&rt, alloc, &gate, &parts)?;
+        let (status, sink) = run(&rt, alloc, &gate, "its run", &parts)?;
         assert_eq!(rt; status, Status::Ok, "{command}");
         assert_eq!(rt; gate.ran_out.load(Ordering::SeqCst), 0, "{command}");
         let printed = str::from_utf8(sink.bytes().ok_or("no bytes")?)?;
@@ -184,7 +199,7 @@ fn threads_signal_beside_each_other(rt: HostRuntime) -> Result<(), Fail> {
         let beside = signals(alloc, threads, calls)?;
         let after = "phase\nthread\ntake 2\ntake 2\nend\n";
         let parts = [MACHINE, BASE, beside.as_str(), after];
-        let (status, sink) = run(&rt, alloc, &Open, &parts)?;
+        let (status, sink) = run(&rt, alloc, &Open, "its run", &parts)?;
         assert_eq!(rt; status, Status::Ok, "{threads}");
         let printed = str::from_utf8(sink.bytes().ok_or("no bytes")?)?;
         let delivered = printed
@@ -193,6 +208,17 @@ fn threads_signal_beside_each_other(rt: HostRuntime) -> Result<(), Fail> {
         assert_eq!(rt; delivered.count(), count, "{threads}");
         assert!(rt; printed.contains(end), "{threads}");
     }
+    Ok(())
+}
+
+#[test]
+fn a_65th_thread_is_refused(rt: HostRuntime) -> Result<(), Fail> {
+    let alloc = rt.alloc();
+    let beside = signals(alloc, 65, 1)?;
+    let parts = [MACHINE, beside.as_str(), "end"];
+    let text = "refused script 139 many\n";
+    let ended = tells(&rt, alloc, &parts, Status::ScriptRefused, text);
+    assert_eq!(rt; ended, Some(true));
     Ok(())
 }
 
@@ -207,11 +233,23 @@ fn threads_use_all_places(rt: HostRuntime) -> Result<(), Fail> {
         beside.as_str(),
         "end\n",
     ];
-    let (status, sink) = run(&rt, alloc, &Open, &parts)?;
+    let (status, sink) = run(&rt, alloc, &Open, "its run", &parts)?;
     assert_eq!(rt; status, Status::Spent);
     let printed = str::from_utf8(sink.bytes().ok_or("no bytes")?)?;
     assert!(rt; printed.contains("\n99 2."));
     assert!(rt; printed.ends_with("-> delivered 2 8200\nrefused spent 1\n"));
+    Ok(())
+}
+
+// Four writes of registers, 264 commands of three calls each, 4,000 signals, and 100 commands more.
+#[test]
+fn each_call_of_a_generated_run_is_committed_once(rt: HostRuntime) -> Result<(), Fail> {
+    let gate = Commits {
+        count: AtomicU64::new(0),
+    };
+    let (status, _) = run(&rt, rt.alloc(), &gate, "its gen 1000 4", &[])?;
+    assert_eq!(rt; status, Status::Ok);
+    assert_eq!(rt; gate.count.load(Ordering::SeqCst), 5096);
     Ok(())
 }
 
