@@ -1,11 +1,11 @@
 -- How a device's write by address goes, where the first translator whose doorbell is written is known; and the requesters of a
 -- description that makes a machine.
-use Rattle.std.proofs.Common.{◌≡◌, ℕ, suc, ◌+◌, ◌-◌, ◌^◌, ◌<◌, Bool, true, false, cond, ◌&&◌, not, IfOk, List, [], ◌∷◌, length, map, Option, Some, None}
-use Rattle.std.proofs.Common.{Result, Ok, Err, refl, ap, sym, ◌∙◌, subst}
+use Rattle.std.proofs.Common.{◌≡◌, ℕ, suc, ◌+◌, ◌-◌, ◌^◌, ◌<◌, ◌≤◌, Bool, true, false, cond, ◌&&◌, not, IfOk, List, [], ◌∷◌, length, map, Option, Some, None}
+use Rattle.std.proofs.Common.{Result, Ok, Err, find, refl, ap, sym, ◌∙◌, subst, arith, leb-true}
 use Rattle.std.proofs.lemmas.Bool.{ltb-true}
 use Rattle.std.specs.Prelude.{nat_lt, nat_le}
 use Rattle.std.specs.List.{list_any}
-use Rattle.its_plain.specs.Doorbells.{route_of, device_of_requester, rung, meets_frames, message}
+use Rattle.its_plain.specs.Doorbells.{route_of, device_of_requester, is_among, rung, meets_frames, message}
 use Rattle.guest_windows.specs.Fields.{pairs}
 use Rattle.guest_windows.specs.Windows.{Window, zeros}
 use Rattle.its_plain.specs.Machine.{made, all_new, are_new, meet, ◌>>=◌, ensure, windows_fit, tables_inside, filled, all_frames_fit, first_redistributors}
@@ -48,6 +48,31 @@ module _ (d : Desc) (req a : ℕ) (bytes : List ℕ) where
         | None ↦ cond (list_any (meets_frames a (length bytes)) d.translators) route.Frame route.Poke
         | Some i ↦ message i bytes (device_of_requester req d.requesters)
       ]) e)
+
+-- ---- the device of a requester
+
+pub record Fits (req : ℕ) (r : Requesters) : Type 0 where
+  pub from : r.first ≤ req
+  pub device : r.dev.0 + (req - r.first) < 2 ^ 32
+
+both : (a b : Bool) → (a && b) ≡ true → (a ≡ true) × (b ≡ true)
+both true b e = (refl, e)
+both false b e = absurd cc
+
+pub found_fits : (req : ℕ) (rs : List Requesters) (r : Requesters) → AreDevices rs → find (is_among req) rs ≡ Some r → Fits req r
+found_fits req [] r all e = absurd cc
+found_fits req (x ∷ xs) r all e =
+    elim (is_among req x) as (λ (q : Bool). is_among req x ≡ q → cond q (Some x) (find (is_among req) xs) ≡ Some r → Fits req r) [
+      | true ↦ λ yes is.
+          let tests = both (nat_le x.first req) (nat_le req x.last) yes in
+          let from : x.first ≤ req = leb-true x.first req tests.0 in
+          let to : req ≤ x.last = leb-true req x.last tests.1 in
+          let low : x.dev.0 + (x.last - x.first) < 2 ^ 32 = all.0 in
+          let fits : Fits req x = record { from = from; device = omega arith } in
+          let same : x ≡ r = cc in
+          subst (Fits req) same fits
+      | false ↦ λ no is. found_fits req xs r all.1 is
+    ] refl e
 
 -- ---- the requesters of a description that makes a machine
 

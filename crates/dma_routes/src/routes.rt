@@ -10,7 +10,7 @@ ghost use Rattle.its_plain.specs.declared.call.Route.TheVariants as route;
 ghost use Rattle.dma_routes.specs.Routes.{AreDevices};
 
 use byteorder::{ByteOrder, LittleEndian};
-use its_plain::{Bytes64, Desc, Its, Requesters, Route};
+use its_plain::{Bytes64, Desc, Its, RequesterRanges, Route};
 use its_types::{Addr, DeviceId, EventId};
 
 // How many bytes the two frames of a translator have.
@@ -19,8 +19,8 @@ const FRAMES: u64 = 0x2_0000;
 // Where GITS_TRANSLATER stands in them.
 const TRANSLATER: u64 = 0x1_0040;
 
-/// What a requester's write is by a description. The requester is looked for in the description's
-/// lines one after another, of which a script has at most 64.
+/// What a requester's write is by a description. Its requester is found in time logarithmic in the
+/// description's ranges of requesters, no two of which have a number in common.
 pub fn route(desc: &Desc, req: u32, addr: Addr, bytes: &Bytes64) -> Route
     requires translators { length desc.now.translators ≤ 2 }
     requires devices { AreDevices desc.now.requesters }
@@ -30,7 +30,7 @@ pub fn route(desc: &Desc, req: u32, addr: Addr, bytes: &Bytes64) -> Route
     let count = bytes.len() as u64;
     let translators = desc.translators.as_slice();
     match rung(translators, addr, count) {
-        Some(its) => message(its, bytes, device_of(req, desc.requesters.as_slice())),
+        Some(its) => message(its, bytes, device_of(req, &desc.requesters)),
         None => no_message(translators, addr, count),
     }
 }
@@ -66,16 +66,12 @@ fn is_doorbell(frames: Addr, addr: Addr) -> bool
 }
 
 // The device that a requester is, if it is one.
-fn device_of(req: u32, ranges: &[Requesters]) -> Option<DeviceId>
+fn device_of(req: u32, ranges: &RequesterRanges) -> Option<DeviceId>
     requires { AreDevices ranges.now }
     ensures { option_map (λ dev. dev.0) result ≡ device_of_requester req ranges.now }
 {
-    for range in ranges {
-        if range.first <= req && req <= range.last {
-            return Some(DeviceId(range.dev.0 + (req - range.first)));
-        }
-    }
-    None
+    let range = ranges.find(req)?;
+    Some(DeviceId(range.dev.0 + (req - range.first)))
 }
 
 // A device's event is the number that is written.

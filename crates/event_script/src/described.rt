@@ -10,7 +10,7 @@ use crate::fault::{Kind, LineError};
 use crate::places::PendingTables;
 use crate::script::Script;
 use gicr_regs::{GicrRegisters, GicrValues};
-use its_plain::{Desc, Its, LpiTables};
+use its_plain::{Desc, Its, LpiTables, RequesterRanges};
 use its_types::{Limits, Listed, Profile, Shape};
 use std::alloc::{AllocError, Global};
 
@@ -149,7 +149,7 @@ impl Draft {
             tables,
             fills: self.fills,
             translators,
-            requesters: self.requesters,
+            requesters: RequesterRanges::from_slice(alloc, self.requesters.as_slice())?,
             track: self.track,
         };
         Ok(Script {

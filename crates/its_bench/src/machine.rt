@@ -4,7 +4,7 @@ ghost use Rattle.its_plain.specs.Machine.{IsDescription};
 
 use crate::shared::translators;
 use its_command::{Command, encode};
-use its_plain::{Bytes64, Call, Desc, Fill, LpiTables};
+use its_plain::{Bytes64, Call, Desc, Fill, LpiTables, RequesterRanges};
 use its_types::{Addr, Limits, Listed, Profile, Shape};
 use owned_machine::Machine;
 use std::alloc::{AllocError, Global};
@@ -78,7 +78,7 @@ fn desc(alloc: Global) -> Result<Desc, AllocError>
         },
         fills,
         translators: translators(alloc, false)?,
-        requesters: Listed::new(alloc),
+        requesters: RequesterRanges::none(alloc),
         track: false,
     })
 }

@@ -6,7 +6,7 @@ ghost use Rattle.its_bench.specs.Ready.{IsReady, IsRoot};
 
 use gicr_regs::{GicrRegisters, GicrValues};
 use its_migrate::share;
-use its_plain::{Desc, Fill, Its, LpiTables};
+use its_plain::{Desc, Fill, Its, LpiTables, RequesterRanges};
 use its_turns::{Machine, Pass, Root};
 use its_types::{Addr, Limits, Listed, Profile, Shape};
 use std::alloc::{AllocError, Global};
@@ -80,7 +80,7 @@ pub fn desc(alloc: Global, kind: Kind) -> Result<Desc, AllocError>
         tables: tables(alloc, kind.programmed)?,
         fills: fills(alloc)?,
         translators,
-        requesters: Listed::new(alloc),
+        requesters: RequesterRanges::none(alloc),
         track: kind.track,
     })
 }

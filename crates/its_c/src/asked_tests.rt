@@ -13,7 +13,7 @@ use crate::stretches::StretchOut;
 use crate::tests::{FILLS, NO_STEP, NUMBERS, PENDING, WINDOWS, drive, made};
 use std::alloc::Global;
 
-// A device behind the frames at 0x9000_0000, and one requester that is device 7.
+// A machine whose frames stand at 0x9000_0000, with these requesters.
 fn by_address(alloc: Global, handle: &mut Handle, requesters: &[RequestersIn]) -> (u32, u32) {
     let numbers = DescriptionIn {
         has_frames: 1,
@@ -61,7 +61,13 @@ fn writes_by_address(rt: HostRuntime) {
     };
     let codes = by_address(alloc, &mut handle, &[seventh, seventh]);
     assert_eq!(rt; codes, (FAULT, 15));
-    assert_eq!(rt; by_address(alloc, &mut handle, &[seventh]), (DONE, 0));
+    let later = RequestersIn {
+        first: 3,
+        last: 9,
+        device: 20,
+    };
+    let codes = by_address(alloc, &mut handle, &[later, seventh]);
+    assert_eq!(rt; codes, (DONE, 0));
     assert_eq!(rt; drive(alloc, &mut handle), 3);
     let rows = [
         (1, 0x9001_0040, (DONE, 4, 0, 8192)),

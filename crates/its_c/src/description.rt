@@ -7,7 +7,7 @@ ghost use Rattle.its_c.specs.Descriptions as spec;
 use crate::numbers::{DescriptionIn, FillIn, RedistributorIn, RequestersIn, WindowIn};
 use gicr_regs::{GicrRegisters, GicrValues};
 use gits_regs::RegValues;
-use its_plain::{Desc, Fill, Its, LpiTables, Requesters};
+use its_plain::{Desc, Fill, Its, LpiTables, RequesterRanges, Requesters};
 use its_types::{Addr, DeviceId, Limits, Listed, Profile, Shape};
 use std::alloc::{AllocError, Global};
 
@@ -107,7 +107,7 @@ pub fn description(
         tables: tables(alloc, numbers, pending, redistributors)?,
         fills: fills_of(alloc, fills, bytes)?,
         translators: translators(alloc, numbers)?,
-        requesters: Listed::from_vec(requesters_of(alloc, requesters)?),
+        requesters: ranges_of(alloc, requesters)?,
         track: false,
     })
 }
@@ -249,6 +249,13 @@ fn frames(numbers: &DescriptionIn) -> Option<Addr>
     } else {
         Some(Addr(numbers.frames))
     }
+}
+
+fn ranges_of(alloc: Global, requesters: &[RequestersIn]) -> Result<RequesterRanges, AllocError>
+    ensures { IfOk result (λ ranges. ranges ≡ map spec.requesters_of requesters.now) }
+{
+    let lines = requesters_of(alloc, requesters)?;
+    RequesterRanges::from_slice(alloc, &lines)
 }
 
 fn requesters_of(alloc: Global, requesters: &[RequestersIn]) -> Result<Vec<Requesters>, AllocError>

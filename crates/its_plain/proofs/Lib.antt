@@ -1,3 +1,6 @@
 pub mod Exact
 pub mod ExactReplies
 pub mod ExactCalls
+mod Counted
+mod Rising
+mod Lines

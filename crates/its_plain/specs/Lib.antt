@@ -17,3 +17,5 @@ pub mod CollectionTables
 pub mod DeviceTables
 pub mod Stands
 pub mod Described
+pub mod Rising
+pub mod Apart

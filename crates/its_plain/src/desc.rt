@@ -5,6 +5,7 @@ ghost use Rattle.its_plain.specs.Machine as spec;
 
 use crate::fault::RestoreFault;
 use crate::layout::Layout;
+use crate::requester_ranges::RequesterRanges;
 use gicr_regs::{GicrValues, restored_bases};
 use gits_regs::RegValues;
 use its_types::{Addr, Bases, DeviceId, Limits, Listed, Shape, Vcpu};
@@ -71,7 +72,7 @@ pub struct Desc {
     /// One or two.
     pub translators: Listed<Its>,
     /// Which devices write by address, in the order of their lines.
-    pub requesters: Listed<Requesters>,
+    pub requesters: RequesterRanges,
     /// Whether the machine has a second memory, and knows which pages were written.
     pub track: bool,
 }

@@ -10,6 +10,7 @@ mod equal;
 mod fault;
 mod layout;
 mod make;
+mod requester_ranges;
 mod shown;
 
 pub use area::Area;
@@ -19,3 +20,4 @@ pub use desc::{Desc, DescFault, Fill, Its, LpiTables, Requesters};
 pub use fault::{Region, RestoreFault, SaveError, SaveFault, Table};
 pub use layout::Layout;
 pub use make::MakeError;
+pub use requester_ranges::RequesterRanges;

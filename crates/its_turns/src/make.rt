@@ -16,7 +16,7 @@ use crate::machine::{Machine, Pass, Root};
 use crate::value::{GuestMemory, Value};
 use atomic_table::{Refused, Table};
 use guest_windows::Spare;
-use its_plain::{Desc, Its, LpiTables};
+use its_plain::{Desc, Its, LpiTables, RequesterRanges};
 use its_types::{Listed, Vcpu};
 use lpi_pending::Redists;
 use owned_parts::{Parts, Translator};
@@ -91,7 +91,7 @@ fn copy_of(alloc: Global, desc: &Desc) -> Result<Desc, AllocError>
     ensures { IfOk result (λ d. d ≡ kept_of desc.now) }
 {
     let windows = Vec::from_slice(alloc, desc.windows.as_slice())?;
-    let requesters = Vec::from_slice(alloc, desc.requesters.as_slice())?;
+    let requesters = RequesterRanges::from_slice(alloc, desc.requesters.as_slice())?;
     let translators = kept_translators(alloc, desc.translators.as_slice())?;
     Ok(Desc {
         shape: desc.shape,
@@ -102,7 +102,7 @@ fn copy_of(alloc: Global, desc: &Desc) -> Result<Desc, AllocError>
         tables: tables_of(alloc, &desc.tables)?,
         fills: Listed::new(alloc),
         translators: Listed::from_vec(translators),
-        requesters: Listed::from_vec(requesters),
+        requesters,
         track: desc.track,
     })
 }

@@ -4,7 +4,7 @@ ghost use Rattle.std.specs.Prelude.{IfOk};
 ghost use Rattle.its_plain.specs.Machine.{IsDescription};
 
 use crate::scripts::desc;
-use its_plain::{Desc, DescFault, Its, MakeError, Requesters};
+use its_plain::{Desc, DescFault, Its, MakeError, RequesterRanges, Requesters};
 use its_types::{Addr, DeviceId, Listed, Profile};
 use owned_machine::Machine;
 use plain_machine::State;
@@ -28,7 +28,7 @@ fn described(alloc: Global, row: &Row) -> Result<Desc, AllocError>
         frames: row.1,
     })?;
     desc.translators = translators;
-    desc.requesters = Listed::from_vec(Vec::from_slice(alloc, row.2)?);
+    desc.requesters = RequesterRanges::from_slice(alloc, row.2)?;
     Ok(desc)
 }
 
@@ -69,16 +69,29 @@ fn frames_that_fit(rt: HostRuntime) -> Result<(), Fail> {
     Ok(())
 }
 
-const APART: [Requesters; 2] = [
-    Requesters {
-        first: 256,
-        last: 511,
-        dev: DeviceId(16),
-    },
+const MANY: Requesters = Requesters {
+    first: 256,
+    last: 511,
+    dev: DeviceId(16),
+};
+
+const ONE: Requesters = Requesters {
+    first: 512,
+    last: 512,
+    dev: DeviceId(u32::MAX),
+};
+
+const APART: [Requesters; 2] = [MANY, ONE];
+
+const FALLING: [Requesters; 2] = [ONE, MANY];
+
+const THE_THIRD_MEETS: [Requesters; 3] = [
+    ONE,
+    MANY,
     Requesters {
         first: 512,
-        last: 512,
-        dev: DeviceId(u32::MAX),
+        last: 600,
+        dev: DeviceId(0),
     },
 ];
 
@@ -111,6 +124,8 @@ const PAST: [Requesters; 1] = [Requesters {
 fn requesters_that_can_be(rt: HostRuntime) -> Result<(), Fail> {
     for (lines, want) in [
         (APART.as_slice(), None),
+        (&FALLING, None),
+        (&THE_THIRD_MEETS, Some(DescFault::Requesters(2))),
         (&TWICE, Some(DescFault::Requesters(1))),
         (&NONE, Some(DescFault::Requesters(0))),
         (&PAST, Some(DescFault::Requesters(0))),

@@ -8,8 +8,8 @@ use crate::scripts::{Asked, Given, Line, desc, queueing_at};
 use gits_regs::RegValues;
 use its_command::Command;
 use its_plain::{
-    Bytes64, Call, Cause, Desc, Its, MakeError, Region, Reply, Requesters, Route, SaveError,
-    SaveFault, Signal, StepReply,
+    Bytes64, Call, Cause, Desc, Its, MakeError, Region, Reply, RequesterRanges, Requesters, Route,
+    SaveError, SaveFault, Signal, StepReply,
 };
 use its_types::{Addr, DeviceId, EventId, Intid, Listed, Profile, Vcpu};
 use owned_machine::Machine;
@@ -333,13 +333,12 @@ fn with_requesters(alloc: Global) -> Result<Desc, AllocError>
         frames: Some(FRAMES),
     })?;
     desc.translators = translators;
-    let mut requesters = Listed::new(alloc);
-    requesters.push(Requesters {
+    let requesters = Requesters {
         first: 256,
         last: 511,
         dev: DeviceId(16),
-    })?;
-    desc.requesters = requesters;
+    };
+    desc.requesters = RequesterRanges::from_slice(alloc, &[requesters])?;
     Ok(desc)
 }
 

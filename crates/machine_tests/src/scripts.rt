@@ -5,7 +5,8 @@ ghost use Rattle.its_plain.specs.Machine.{IsDescription};
 use gits_regs::RegValues;
 use its_command::{Command, EventIdBits, IttAddr, Op, RdBase, UnknownOp, encode};
 use its_plain::{
-    Ack, Bytes64, Call, Cause, Desc, Fill, Its, LpiTables, Reason, Reply, Signal, StepReply,
+    Ack, Bytes64, Call, Cause, Desc, Fill, Its, LpiTables, Reason, Reply, RequesterRanges, Signal,
+    StepReply,
 };
 use its_types::{Addr, DeviceId, EventId, Icid, Intid, Limits, Listed, Profile, Shape, Vcpu};
 use owned_machine::Machine;
@@ -67,7 +68,7 @@ pub fn restored_desc(
         },
         fills,
         translators,
-        requesters: Listed::new(alloc),
+        requesters: RequesterRanges::none(alloc),
         track: false,
     })
 }

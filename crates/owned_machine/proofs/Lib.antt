@@ -1,7 +1,6 @@
 pub mod Lists
 pub mod Kept
 pub mod Others
-mod Lines
 pub mod Needed
 pub mod Signalled
 mod Written

@@ -1,11 +1,11 @@
-//! Where the frames of the translators stand, and which devices write by address.
+//! Where the frames of the translators stand.
 ghost use Rattle.std.specs.Prelude.{◌≡◌, ◌+◌, ◌≤◌, ◌^◌, ◌∷◌, [], length};
 ghost use Rattle.std.specs.List.{list_any};
 ghost use Rattle.guest_windows.specs.Fields.{pairs};
 ghost use Rattle.its_plain.specs.Machine as spec;
 ghost use Rattle.owned_machine.specs.Frames.{fits_beside, taken_with, place_of};
 
-use its_plain::{DescFault, Its, Requesters};
+use its_plain::{DescFault, Its};
 use its_types::Addr;
 
 // How many bytes the two frames of a translator have.
@@ -87,38 +87,4 @@ fn meets(stretch: &(Addr, u64), base: Addr) -> bool
 {
     let before_its_end = base.0 < stretch.0.0 || base.0 - stretch.0.0 < stretch.1;
     before_its_end && stretch.0.0 < base.0 + FRAMES
-}
-
-/// There are requesters on each line, each is a device, and none is on an earlier line; or the
-/// first line of which this isn't so.
-pub fn all_new(lines: &[Requesters]) -> Result<(), DescFault>
-    ensures { result ≡ spec.all_new [] 0 lines.now }
-{
-    for (n, line) in lines.iter().enumerate() {
-        if !are_new(&lines[..n], line) {
-            return Err(DescFault::Requesters(n as u64));
-        }
-    }
-    Ok(())
-}
-
-fn are_new(before: &[Requesters], line: &Requesters) -> bool
-    ensures { result ≡ spec.are_new before.now line.now }
-{
-    line.first <= line.last
-        && line.dev.0 <= u32::MAX - (line.last - line.first)
-        && !meets_another(before, line)
-}
-
-// A requester of the line is on one of the others.
-fn meets_another(others: &[Requesters], line: &Requesters) -> bool
-    ensures { result ≡ list_any (spec.meet line.now) others.now }
-{
-    others.iter().any(|other| meet(line, other))
-}
-
-fn meet(line: &Requesters, other: &Requesters) -> bool
-    ensures { result ≡ spec.meet line.now other.now }
-{
-    line.first <= other.last && other.first <= line.last
 }

@@ -14,7 +14,7 @@ ghost use Rattle.std.specs.Option.{option_map};
 ghost use Rattle.owned_machine.specs.Start.{IsFilled, HasConfig, IsFirstOf, AreFirst, AreStarted};
 ghost use Rattle.owned_machine.specs.Start.{reset_translator, devices_test};
 
-use crate::frames::{all_frames_fit, all_new, ensure};
+use crate::frames::{all_frames_fit, ensure};
 use gits_regs::Regs;
 use guest_windows::{Memory, NewError, WriteError};
 use its_maps::Maps;
@@ -107,7 +107,7 @@ fn devices_fit(desc: &Desc) -> Result<(), DescFault>
     ensures { result ≡ devices_test desc.now }
 {
     all_frames_fit(desc.windows.as_slice(), desc.translators.as_slice())?;
-    all_new(desc.requesters.as_slice())
+    desc.requesters.check()
 }
 
 // Memory with the windows of a description, all bytes zero.

@@ -9,7 +9,7 @@ ghost use Rattle.ports_together.specs.Ready.{IsSmall, IsRoot, IsAtRest, IsShared
 use gicr_regs::{GicrRegisters, GicrValues};
 use gits_regs::RegValues;
 use its_migrate::share;
-use its_plain::{Desc, Fill, Its, LpiTables, MakeError};
+use its_plain::{Desc, Fill, Its, LpiTables, MakeError, RequesterRanges};
 use its_turns::{Machine, Root};
 use its_types::{Addr, Limits, Listed, Profile, Shape};
 use std::alloc::{AllocError, Global};
@@ -86,7 +86,7 @@ pub fn described(
         tables,
         fills,
         translators,
-        requesters: Listed::new(alloc),
+        requesters: RequesterRanges::none(alloc),
         track: false,
     })
 }

@@ -12,7 +12,7 @@ use device_port::{Dma, Now, dma, signal_at, try_signal_at};
 use guest_port::copy;
 use its_command::{Op, encode};
 use its_migrate::share;
-use its_plain::{Bytes64, Cause, Desc, Its, MakeError, Reply, Requesters};
+use its_plain::{Bytes64, Cause, Desc, Its, MakeError, Reply, RequesterRanges, Requesters};
 use its_turns::{Machine, Pass, Root, look};
 use its_types::{Addr, EventId, Listed, Open, Placed};
 use std::alloc::{AllocError, Global};
@@ -42,16 +42,15 @@ fn described_pair(alloc: Global) -> Result<Desc, AllocError>
         restore: None,
         frames: None,
     })?;
-    let mut requesters = Listed::new(alloc);
-    requesters.push(Requesters {
+    let requesters = Requesters {
         first: 0x100,
         last: 0x1ff,
         dev: DEVICE,
-    })?;
+    };
     let mut desc = described(alloc, &WORDS, 4095, false, false)?;
     desc.limits.stamp_last = 4095;
     desc.translators = translators;
-    desc.requesters = requesters;
+    desc.requesters = RequesterRanges::from_slice(alloc, &[requesters])?;
     desc.track = true;
     Ok(desc)
 }

@@ -2,7 +2,7 @@
 ghost use Rattle.std.specs.Prelude.{◌≡◌, IfOk};
 ghost use Rattle.script_gen.specs.Description as spec;
 
-use its_plain::{Desc, Its, LpiTables};
+use its_plain::{Desc, Its, LpiTables, RequesterRanges};
 use its_types::{Addr, Limits, Listed, Profile, Shape};
 use std::alloc::{AllocError, Global};
 
@@ -36,7 +36,7 @@ pub fn description(alloc: Global) -> Result<Desc, AllocError>
         tables: tables(alloc)?,
         fills: Listed::new(alloc),
         translators,
-        requesters: Listed::new(alloc),
+        requesters: RequesterRanges::none(alloc),
         track: false,
     })
 }

@@ -1,6 +1,6 @@
-use Rattle.std.proofs.Common.{length, sym, ◌∙◌, ap, cond}
+use Rattle.std.proofs.Common.{length, sym, ◌∙◌, cond}
 use Rattle.std.specs.List.{list_any}
-use Rattle.its_plain.specs.Doorbells.{rung, message, meets_frames, device_of_requester}
+use Rattle.its_plain.specs.Doorbells.{rung, message, meets_frames}
 use Rattle.its_plain.specs.declared.call.Route.TheVariants as route
 use Rattle.dma_routes.proofs.Doorbells.{rung_goes, no_rung_goes}
 use Rattle.dma_routes.proofs.routes.route.Goals as goal
@@ -8,7 +8,7 @@ use Rattle.dma_routes.proofs.routes.route.Goals as goal
 pub returns-in-Some : goal.returns-in-Some
 returns-in-Some c =
     let bytes = c.as_slice-bytes.ensures.bytes in let translators = c.as_slice-translators.ensures in
-    let device = c.device_of.ensures ∙ ap (device_of_requester c.args.req) c.as_slice.ensures in
+    let device = c.device_of.ensures in
     let first = (λ d. rung 0 c.args.addr.0 (length (sym bytes d)) (sym translators d)) ∙ sym c.in-Some.ensures.rung in
     record {
       route = c.message.ensures ∙ ((λ d. message c.in-Some.its (bytes d) (device d))

@@ -2,7 +2,7 @@ use Rattle.std.proofs.Common.{◌≡◌, List, [], drop, take}
 use Rattle.std.specs.List.{list_any}
 use Rattle.its_plain.specs.Machine.{all_new, meet}
 use Rattle.its_plain.specs.declared.desc.Requesters.{Requesters}
-use Rattle.owned_machine.proofs.frames.all_new.Given as goal
+use Rattle.its_plain.proofs.requester_ranges.all_new.Given as goal
 
 abbrev pub invariant-loop-n : goal.invariant-loop-n
 invariant-loop-n l = record {

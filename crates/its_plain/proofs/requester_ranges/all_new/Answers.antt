@@ -1,6 +1,6 @@
 use Rattle.std.proofs.Common.{◌∷◌, sym, ◌∙◌, add-one}
-use Rattle.owned_machine.proofs.Lines.{line_right, one_more}
-use Rattle.owned_machine.proofs.frames.all_new.Goals as goal
+use Rattle.its_plain.proofs.Lines.{line_right, one_more}
+use Rattle.its_plain.proofs.requester_ranges.all_new.Goals as goal
 
 pub loop-n-preserved : goal.loop-n-preserved
 loop-n-preserved c =
