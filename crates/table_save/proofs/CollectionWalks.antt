@@ -1,12 +1,12 @@
 -- A walk over collections, beside the places of their table.
-use Rattle.std.proofs.Common.{◌≡◌, ℕ, zero, suc, ◌+◌, List, [], ◌∷◌, drop, Option, Some, None, refl, sym, ap, ◌∙◌, add-one}
+use Rattle.std.proofs.Common.{◌≡◌, ℕ, zero, suc, ◌+◌, List, [], ◌∷◌, length, drop, Option, Some, None, refl, sym, ap, ◌∙◌, add-one, arith}
 use Rattle.std.specs.Prelude.{slice_get, MatchOption}
 use Rattle.std.specs.FinMap.{entries}
 use Rattle.its_types.specs.Maps.{Maps}
 use Rattle.its_types.specs.declared.ids.Icid.{Icid}
 use Rattle.its_types.specs.declared.ids.Vcpu.{Vcpu}
-use Rattle.table_entries.specs.Words.{packed_collection}
 use Rattle.its_plain.specs.Saved.{collection_word}
+use Rattle.its_plain.specs.Saved as saved
 use Rattle.table_save.specs.Tables.{collection_entry}
 
 -- what a walk gives, where i were taken
@@ -29,21 +29,35 @@ one_here (y ∷ es) (suc i) x rest e = let h = one_here es i x rest e in record 
 abbrev Given : List (ℕ × Vcpu) → Option (Icid × Vcpu) → List (ℕ × Vcpu) → Type 0
 Given before taken after = MatchOption taken ((before ≡ []) × (after ≡ [])) (λ x. before ≡ (x.0.0, x.1) ∷ after)
 
--- the entry as the definition has it
-abbrev entry_of : Option (ℕ × Vcpu) → ℕ
-entry_of None = 0
-entry_of (Some c) = packed_collection (record { vcpu_number = c.1.0; icid = c.0 })
+-- ---- words of the collections that are left
 
-pub record Stepped (m : Maps) (i : ℕ) (taken : Option (Icid × Vcpu)) (after : List (ℕ × Vcpu)) : Type 0 where
-  pub word : collection_entry taken ≡ collection_word m i
-  pub left : after ≡ drop (i + 1) (entries m.collections)
+none_at : {X : Type 0} (es : List X) (j : ℕ) → length es ≡ 0 → slice_get es j ≡ None
+none_at [] zero e = refl
+none_at [] (suc j) e = refl
+none_at (x ∷ es) j e = absurd (omega arith)
 
-pub stepped : (m : Maps) (i : ℕ) (before after : List (ℕ × Vcpu)) (taken : Option (Icid × Vcpu)) → before ≡ drop i (entries m.collections)
-    → Given before taken after → Stepped m i taken after
+pub get_after : {X : Type 0} (es : List X) (i k : ℕ) → slice_get (drop i es) k ≡ slice_get es (i + k)
+get_after es zero k = let e : k ≡ 0 + k = omega arith in ap (slice_get es) e
+get_after [] (suc i) k = none_at [] k refl ∙ sym (none_at [] (suc i + k) refl)
+get_after (x ∷ es) (suc i) k = get_after es i k ∙ (let e : suc (i + k) ≡ suc i + k = omega arith in ap (slice_get (x ∷ es)) e)
+
+pub word_after : (m : Maps) (i k : ℕ) (rest : List (ℕ × Vcpu)) → rest ≡ drop i (entries m.collections)
+    → saved.collection_entry (slice_get rest k) ≡ collection_word m (i + k)
 unfolding collection_word
-stepped m i before after None is given =
-    let h = none_here (entries m.collections) i (sym is ∙ given.0) in
-    record { word = ap entry_of (sym h.same); left = rw add-one (given.1 ∙ h.left) }
-stepped m i before after (Some c) is given =
-    let h = one_here (entries m.collections) i (c.0.0, c.1) after (sym is ∙ given) in
-    record { word = ap entry_of (sym h.same); left = rw add-one h.left }
+word_after m i k rest is =
+    ap (λ es. saved.collection_entry (slice_get es k)) is ∙ ap saved.collection_entry (get_after (entries m.collections) i k)
+
+-- ---- the next one, of any entries
+
+pub record Taken (es : List (ℕ × Vcpu)) (i : ℕ) (taken : Option (Icid × Vcpu)) (after : List (ℕ × Vcpu)) : Type 0 where
+  pub word : collection_entry taken ≡ saved.collection_entry (slice_get es i)
+  pub left : after ≡ drop (i + 1) es
+
+pub taken_is : (es : List (ℕ × Vcpu)) (i : ℕ) (before after : List (ℕ × Vcpu)) (taken : Option (Icid × Vcpu)) → before ≡ drop i es
+    → Given before taken after → Taken es i taken after
+taken_is es i before after None is given =
+    let h = none_here es i (sym is ∙ given.0) in
+    record { word = ap saved.collection_entry (sym h.same); left = rw add-one (given.1 ∙ h.left) }
+taken_is es i before after (Some c) is given =
+    let h = one_here es i (c.0.0, c.1) after (sym is ∙ given) in
+    record { word = ap saved.collection_entry (sym h.same); left = rw add-one h.left }

@@ -10,3 +10,5 @@ pub mod SoundState
 pub mod Tested
 pub mod Marked
 pub mod Listed
+pub mod Splits
+pub mod Blocks

@@ -108,3 +108,15 @@ module _ {X : Type 0} where
     pub shorter : (id : ℕ) (rest : List (ℕ × X)) → begins_below id rest ≡ true → length (drop 1 rest) < length rest
     shorter id [] below = absurd cc
     shorter id (e ∷ es) below = omega arith
+
+    -- no entry is mapped from a place on, below another
+
+    pub none_below : (i j : ℕ) (es : List (ℕ × X)) → RisesFrom i es → begins_below j es ≡ false → (k : ℕ) → i ≤ k → k < j → 0 ≡ entry_word pack cap es k
+    none_below i j [] r below k from lt = word_none [] k refl
+    none_below i j (e ∷ es) r below k from lt =
+        let far = ltb-false e.0 j below in
+        word_none (e ∷ es) k (find_skips k e es (λ s. omega arith) ∙ rises_none k (e.0 + 1) es r.1 (omega arith))
+
+    pub passed_over : (i j : ℕ) (es : List (ℕ × X)) → RisesFrom i es → AllByRecursion Fits es → begins_below j es ≡ false → Passed Fits pack cap j es es
+    passed_over i j [] r fit below = record { rises = tt; words = λ k le. refl; fit = fit }
+    passed_over i j (e ∷ es) r fit below = record { rises = (ltb-false e.0 j below, r.1); words = λ k le. refl; fit = fit }

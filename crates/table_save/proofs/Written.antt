@@ -1,16 +1,8 @@
 -- Words of a table, written one after another.
-use Rattle.std.proofs.Common.{◌≡◌, ℕ, zero, suc, ◌+◌, ◌*◌, ◌<◌, List, [], ◌∷◌, ◌++◌, refl, ap, ◌∙◌, arith, add-one}
+use Rattle.std.proofs.Common.{◌≡◌, ℕ, zero, suc, ◌+◌, ◌<◌, List, [], ◌∷◌, ◌++◌, refl, ap, ◌∙◌, arith}
 use Rattle.guest_windows.specs.Windows.{Window}
 use Rattle.baser_place.specs.Places.{entry_address}
 use Rattle.its_plain.specs.Saved.{Words, put_word, put_words, put_tables}
-
--- one word more
-pub word_more : (memory before now : List Window) (base i address w : ℕ) (word : ℕ → ℕ) → before ≡ put_words memory base word i
-    → now ≡ put_word before address w → address ≡ base + 8 * i → w ≡ word i
-    → now ≡ put_words memory base word (i + 1)
-word_more memory before now base i address w word so_far wrote at is =
-    rw add-one (wrote ∙ ap (λ (m : List Window). put_word m address w) so_far ∙ ap (λ (a : ℕ). put_word (put_words memory base word i) a w) at
-    ∙ ap (put_word (put_words memory base word i) (base + 8 * i)) is)
 
 -- the same words, whatever the function is behind them
 pub same_words : (memory : List Window) (base n : ℕ) (v w : ℕ → ℕ) → ((k : ℕ) → k < n → v k ≡ w k) → put_words memory base v n ≡ put_words memory base w n

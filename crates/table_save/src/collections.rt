@@ -1,13 +1,14 @@
 //! The collection table.
 
-ghost use Rattle.std.specs.Prelude.{◌≡◌, ◌<◌, ◌≤◌, ◌^◌, OnOk};
+ghost use Rattle.std.specs.Prelude.{◌≡◌, ◌<◌, ◌≤◌, ◌^◌, OnOk, drop, slice_get};
+ghost use Rattle.its_plain.specs.Saved as saved;
 ghost use Rattle.its_plain.specs.Saved.{put_words, put_tables, collection_word, collection_words};
 ghost use Rattle.table_save.specs.Tables.{collection_entry};
 
-use crate::words::put_word;
+use crate::words::{BLOCK, put_block, put_zeros};
 use gits_regs::Regs;
 use guest_windows::Memory;
-use its_maps::Maps;
+use its_maps::{CollectionWalk, Maps};
 use its_types::{Icid, Vcpu};
 use std::alloc::AllocError;
 use table_entries::Cte;
@@ -26,15 +27,44 @@ pub fn put_collections(memory: &mut Memory, regs: &Regs, maps: &Maps) -> Result<
 
 fn put_places(memory: &mut Memory, base: u64, count: u32, maps: &Maps) -> Result<(), AllocError>
     requires low { base < 2 ^ 53 }
+    requires few { count ≤ 65536 }
     ensures { OnOk result (memory.new
         ≡ put_words memory.old base (collection_word maps.now.maps) count) }
 {
     let mut walk = maps.collections();
-    for i in 0..count {
-        let word = word_of(walk.next());
-        put_word(memory, base + 8 * u64::from(i), word)?;
+    let mut done = 0;
+    while done < count {
+        let more = (count - done).min(BLOCK);
+        put_some(memory, base + 8 * u64::from(done), more, &mut walk)?;
+        done += more;
     }
     Ok(())
+}
+
+// Writes the places of a block: the next collections, and zeros after them.
+fn put_some(
+    memory: &mut Memory,
+    base: u64,
+    count: u32,
+    walk: &mut CollectionWalk<'_>,
+) -> Result<(), AllocError>
+    requires low { base < 2 ^ 54 }
+    requires some { 0 < count }
+    requires few { count ≤ 512 }
+    ensures memory { OnOk result (memory.new ≡ put_words memory.old base
+        (λ i. saved.collection_entry (slice_get walk.old i)) count) }
+    ensures rest { OnOk result (walk.new ≡ drop count walk.old) }
+{
+    let Some(first) = walk.next() else {
+        return put_zeros(memory, base, count);
+    };
+    let mut words = [0u64; BLOCK as usize];
+    let words = &mut words[..count as usize];
+    words[0] = word_of(Some(first));
+    for i in 1..words.len() {
+        words[i] = word_of(walk.next());
+    }
+    put_block(memory, base, words)
 }
 
 fn word_of(collection: Option<(Icid, Vcpu)>) -> u64

@@ -8,7 +8,7 @@ ghost use Rattle.std.specs.List.{AllByRecursion};
 ghost use Rattle.table_save.specs.Pass.{RisesFrom, FitsDevice, device_entry_word, PassedDevices};
 
 use crate::pages::read_pages;
-use crate::words::put_word;
+use crate::words::{BLOCK, put_block, put_zeros};
 use baser_place::level1_entries;
 use gits_regs::Regs;
 use guest_windows::Memory;
@@ -36,10 +36,12 @@ impl<'a> Model for DeviceFront<'a> {
 }
 
 impl<'a> DeviceFront<'a> {
-    ghost use Rattle.std.specs.Prelude.{◌≡◌, ◌+◌, ◌<◌, ◌^◌, drop};
+    ghost use Rattle.std.specs.Prelude.{◌≡◌, ◌+◌, ◌<◌, ◌≤◌, ◌^◌, ℕ, OnOk, drop, length};
+    ghost use Rattle.std.specs.Prelude.{slice_index};
     ghost use Rattle.std.specs.List.{AllByRecursion};
     ghost use Rattle.std.specs.FinMap.{entries};
     ghost use Rattle.its_plain.specs.Saved as saved;
+    ghost use Rattle.its_plain.specs.Saved.{put_words};
     ghost use Rattle.table_save.specs.Pass.{RisesFrom, FitsDevice, PassedDevices};
     ghost use Rattle.table_save.specs.Pass.{device_entry_word, begins_below, first_key, past};
 
@@ -52,9 +54,9 @@ impl<'a> DeviceFront<'a> {
         DeviceFront { first, rest }
     }
 
-    /// The word of a place, at which the devices begin at the earliest; the device there is then
-    /// written.
-    pub fn word_at(&mut self, id: u32) -> u64
+    // The word of a place, at which the devices begin at the earliest; the device there is then
+    // written.
+    fn word_at(&mut self, id: u32) -> u64
         requires rises { RisesFrom id self.old }
         requires fit { AllByRecursion FitsDevice self.old }
         ensures word { result ≡ device_entry_word self.old id }
@@ -72,6 +74,47 @@ impl<'a> DeviceFront<'a> {
             }
             _ => 0,
         }
+    }
+
+    // The words of some places, at the first of which the devices begin at the earliest.
+    fn words_at(&mut self, id: u32, words: &mut [u64])
+        requires few { id + length words.old < 2 ^ 32 }
+        requires rises { RisesFrom id self.old }
+        requires fit { AllByRecursion FitsDevice self.old }
+        ensures length { length words.new ≡ length words.old }
+        ensures words { (k : ℕ) → k < length words.old
+            → slice_index words.new k ≡ device_entry_word self.old (id + k) }
+        ensures rest { PassedDevices (id + length words.old) self.old self.new }
+    {
+        for i in 0..words.len() {
+            words[i] = self.word_at(id + i as u32);
+        }
+    }
+
+    // Writes the places of a block, at the first of which the devices begin at the earliest.
+    fn put_block(
+        &mut self,
+        memory: &mut Memory,
+        base: u64,
+        id: u32,
+        count: u32,
+    ) -> Result<(), AllocError>
+        requires low { base < 2 ^ 54 }
+        requires few { count ≤ 512 }
+        requires fits { id + count < 2 ^ 32 }
+        requires rises { RisesFrom id self.old }
+        requires fit { AllByRecursion FitsDevice self.old }
+        ensures memory { OnOk result (memory.new ≡ put_words memory.old base
+            (λ i. device_entry_word self.old (id + i)) count) }
+        ensures rest { PassedDevices (id + count) self.old self.new }
+    {
+        if !self.begins_below(id + count) {
+            return put_zeros(memory, base, count);
+        }
+        let mut words = [0u64; BLOCK as usize];
+        let words = &mut words[..count as usize];
+        self.words_at(id, words);
+        put_block(memory, base, words)
     }
 
     /// Passes over the devices before a place.
@@ -129,9 +172,11 @@ pub fn put_places(
         (λ i. device_entry_word front.old (first + i)) count) }
     ensures rest { OnOk result (PassedDevices (first + count) front.old front.new) }
 {
-    for i in 0..count {
-        let word = front.word_at(first + i);
-        put_word(memory, base + 8 * u64::from(i), word)?;
+    let mut done = 0;
+    while done < count {
+        let more = (count - done).min(BLOCK);
+        front.put_block(memory, base + 8 * u64::from(done), first + done, more)?;
+        done += more;
     }
     Ok(())
 }

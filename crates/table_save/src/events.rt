@@ -8,7 +8,7 @@ ghost use Rattle.its_plain.specs.Saved.{put_words, put_tables};
 ghost use Rattle.table_save.specs.Pass.{FitsDevice, FitsEvent, event_entry_word};
 ghost use Rattle.table_save.specs.Tables.{itt_tables};
 
-use crate::words::put_word;
+use crate::words::{BLOCK, put_block, put_zeros};
 use guest_windows::Memory;
 use its_maps::{EventWalk, Maps};
 use its_types::{Device, DeviceId, Event, EventId};
@@ -34,12 +34,13 @@ impl<'a> Model for EventFront<'a> {
 }
 
 impl<'a> EventFront<'a> {
-    ghost use Rattle.std.specs.Prelude.{◌≡◌, ◌+◌};
+    ghost use Rattle.std.specs.Prelude.{◌≡◌, ◌+◌, ◌<◌, ◌≤◌, ◌^◌, ℕ, OnOk, length, slice_index};
     ghost use Rattle.std.specs.List.{AllByRecursion};
     ghost use Rattle.its_types.specs.Maps.{events_at};
     ghost use Rattle.its_plain.specs.Saved as saved;
+    ghost use Rattle.its_plain.specs.Saved.{put_words};
     ghost use Rattle.table_save.specs.Pass.{RisesFrom, FitsEvent, event_entry_word, first_key};
-    ghost use Rattle.table_save.specs.Pass.{past};
+    ghost use Rattle.table_save.specs.Pass.{PassedEvents, begins_below, past};
 
     fn new(maps: &'a Maps, dev: DeviceId) -> EventFront<'a>
         ensures { result ≡ events_at maps.now.maps dev.0 }
@@ -71,6 +72,53 @@ impl<'a> EventFront<'a> {
         }
     }
 
+    // The words of some places, at the first of which the events begin at the earliest.
+    fn words_at(&mut self, id: u32, words: &mut [u64])
+        requires few { id + length words.old < 2 ^ 32 }
+        requires rises { RisesFrom id self.old }
+        requires fit { AllByRecursion FitsEvent self.old }
+        ensures length { length words.new ≡ length words.old }
+        ensures words { (k : ℕ) → k < length words.old
+            → slice_index words.new k ≡ event_entry_word self.old (id + k) }
+        ensures rest { PassedEvents (id + length words.old) self.old self.new }
+    {
+        for i in 0..words.len() {
+            words[i] = self.word_at(id + i as u32);
+        }
+    }
+
+    // Writes the places of a block, at the first of which the events begin at the earliest.
+    fn put_block(
+        &mut self,
+        memory: &mut Memory,
+        base: u64,
+        id: u32,
+        count: u32,
+    ) -> Result<(), AllocError>
+        requires low { base < 2 ^ 54 }
+        requires few { count ≤ 512 }
+        requires fits { id + count < 2 ^ 32 }
+        requires rises { RisesFrom id self.old }
+        requires fit { AllByRecursion FitsEvent self.old }
+        ensures memory { OnOk result (memory.new ≡ put_words memory.old base
+            (λ i. event_entry_word self.old (id + i)) count) }
+        ensures rest { PassedEvents (id + count) self.old self.new }
+    {
+        if !self.begins_below(id + count) {
+            return put_zeros(memory, base, count);
+        }
+        let mut words = [0u64; BLOCK as usize];
+        let words = &mut words[..count as usize];
+        self.words_at(id, words);
+        put_block(memory, base, words)
+    }
+
+    fn begins_below(&self, id: u32) -> bool
+        ensures { result ≡ begins_below id self.now }
+    {
+        matches!(self.first, Some((ev, _)) if ev.0 < id)
+    }
+
     // How far the first one is, at most 65535, or 0 where there is none.
     fn distance(&self, id: u32) -> u16
         requires { RisesFrom (id + 1) self.now }
@@ -96,6 +144,15 @@ pub fn put_itts(memory: &mut Memory, maps: &Maps) -> Result<(), AllocError>
     Ok(())
 }
 
+// How many places a table has.
+fn places(bits: u8) -> u32
+    requires { bits ≤ 16 }
+    ensures places { result ≡ 2 ^ bits }
+    ensures most { result ≤ 65536 }
+{
+    1 << bits
+}
+
 fn put_itt(
     memory: &mut Memory,
     maps: &Maps,
@@ -110,10 +167,12 @@ fn put_itt(
         (2 ^ device.bits)) }
 {
     let mut front = EventFront::new(maps, dev);
-    let count = 1u32 << device.bits;
-    for ev in 0..count {
-        let word = front.word_at(ev);
-        put_word(memory, device.itt.0 + 8 * u64::from(ev), word)?;
+    let count = places(device.bits);
+    let mut done = 0;
+    while done < count {
+        let more = (count - done).min(BLOCK);
+        front.put_block(memory, device.itt.0 + 8 * u64::from(done), done, more)?;
+        done += more;
     }
     Ok(())
 }

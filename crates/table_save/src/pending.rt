@@ -1,6 +1,6 @@
 //! The pending tables.
 
-ghost use Rattle.std.specs.Prelude.{◌≡◌, ◌+◌, ◌*◌, ◌<◌, ◌≤◌, ◌^◌, OnOk};
+ghost use Rattle.std.specs.Prelude.{◌≡◌, ◌+◌, ◌*◌, ◌<◌, ◌≤◌, ◌^◌, ℕ, OnOk, length, slice_index};
 ghost use Rattle.std.specs.List.{flat_map};
 ghost use Rattle.its_types.specs.Ranges.{pending_bytes};
 ghost use Rattle.its_plain.specs.Saved.{put_words, put_tables, pending_word, pending_words};
@@ -9,7 +9,7 @@ ghost use Rattle.owned_parts.specs.Owned.{AreAllInHand, HasLpisOf, redistributor
 ghost use Rattle.gicr_regs.specs.Registers.{AreLow};
 ghost use Rattle.table_save.specs.Areas.{redistributors_of, HaveLowTables};
 
-use crate::words::put_word;
+use crate::words::{BLOCK, put_block};
 use guest_windows::Memory;
 use its_types::{Shape, Vcpu, le_u64};
 use lpi_pending::{Pending, Redist, Redists};
@@ -63,11 +63,30 @@ fn put_words_of(
     ensures { OnOk result (memory.new
         ≡ put_words memory.old base (λ i. pending_word pending.now.lpis (1024 + 8 * i)) count) }
 {
-    for i in 0..count {
-        let word = word_of(pending, 1024 + 8 * i);
-        put_word(memory, base + 8 * u64::from(i), word)?;
+    let mut words = [0u64; BLOCK as usize];
+    let mut done = 0;
+    while done < count {
+        let more = (count - done).min(BLOCK);
+        let block = &mut words[..more as usize];
+        words_from(pending, done, block);
+        put_block(memory, base + 8 * u64::from(done), block)?;
+        done += more;
     }
     Ok(())
+}
+
+// The words of a block, of which the first is word `first` of those that have LPIs.
+fn words_from(pending: &Pending, first: u32, words: &mut [u64])
+    requires few { first + length words.old ≤ 16384 }
+    requires in_table { 1024 + 8 * (first + length words.old)
+        ≤ pending_bytes pending.now.lpi_bits }
+    ensures length { length words.new ≡ length words.old }
+    ensures words { (k : ℕ) → k < length words.old
+        → slice_index words.new k ≡ pending_word pending.now.lpis (1024 + 8 * (first + k)) }
+{
+    for i in 0..words.len() {
+        words[i] = word_of(pending, 1024 + 8 * (first + i as u32));
+    }
 }
 
 // Eight bytes of the table from byte `n` on.

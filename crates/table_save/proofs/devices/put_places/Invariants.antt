@@ -1,10 +1,14 @@
-use Rattle.std.proofs.Common.{◌≡◌, ◌+◌}
+use Rattle.std.proofs.Common.{◌≡◌, ◌+◌, ◌-◌, ◌≤◌}
 use Rattle.its_plain.specs.Saved.{put_words}
 use Rattle.table_save.specs.Pass.{device_entry_word, PassedDevices}
 use Rattle.table_save.proofs.devices.put_places.Given as goal
 
-abbrev pub invariant-loop-i : goal.invariant-loop-i
-invariant-loop-i l = record {
-  written : l.memory ≡ put_words l.fn.memory l.base (λ i. device_entry_word l.fn.front (l.first + i)) l.i;
-  passed : PassedDevices (l.first + l.i) l.fn.front l.front;
+abbrev pub invariant-loop-done : goal.invariant-loop-done
+invariant-loop-done l = record {
+  within : l.done ≤ l.count;
+  written : l.memory ≡ put_words l.fn.memory l.base (λ i. device_entry_word l.fn.front (l.first + i)) l.done;
+  passed : PassedDevices (l.first + l.done) l.fn.front l.front;
 }
+
+abbrev pub decreases-loop-done : goal.decreases-loop-done
+decreases-loop-done l = l.count - l.done

@@ -1,11 +1,15 @@
-use Rattle.std.proofs.Common.{◌≡◌}
+use Rattle.std.proofs.Common.{◌≡◌, ◌≤◌, ◌-◌}
 use Rattle.its_types.specs.Maps.{events_at}
 use Rattle.its_plain.specs.Saved.{put_words}
 use Rattle.table_save.specs.Pass.{event_entry_word, PassedEvents}
 use Rattle.table_save.proofs.events.put_itt.Given as goal
 
-abbrev pub invariant-loop-ev : goal.invariant-loop-ev
-invariant-loop-ev l = record {
-  written : l.memory ≡ put_words l.fn.memory l.device.itt.0 (event_entry_word (events_at l.fn.maps.maps l.fn.dev.0)) l.ev;
-  passed : PassedEvents l.ev (events_at l.fn.maps.maps l.fn.dev.0) l.front;
+abbrev pub invariant-loop-done : goal.invariant-loop-done
+invariant-loop-done l = record {
+  within : l.done ≤ l.count;
+  written : l.memory ≡ put_words l.fn.memory l.device.itt.0 (event_entry_word (events_at l.fn.maps.maps l.fn.dev.0)) l.done;
+  passed : PassedEvents l.done (events_at l.fn.maps.maps l.fn.dev.0) l.front;
 }
+
+abbrev pub decreases-loop-done : goal.decreases-loop-done
+decreases-loop-done l = l.count - l.done

@@ -1,6 +1,12 @@
-use Rattle.std.proofs.Common.{◌≡◌, ◌+◌, ◌*◌}
+use Rattle.std.proofs.Common.{◌≡◌, ◌+◌, ◌*◌, ◌-◌, ◌≤◌}
 use Rattle.its_plain.specs.Saved.{put_words, pending_word}
 use Rattle.table_save.proofs.pending.put_words_of.Given as goal
 
-abbrev pub invariant-loop-i : goal.invariant-loop-i
-invariant-loop-i l = l.memory ≡ put_words l.fn.memory l.base (λ i. pending_word l.pending.lpis (1024 + 8 * i)) l.i
+abbrev pub invariant-loop-done : goal.invariant-loop-done
+invariant-loop-done l = record {
+  within : l.done ≤ l.count;
+  written : l.memory ≡ put_words l.fn.memory l.base (λ i. pending_word l.pending.lpis (1024 + 8 * i)) l.done;
+}
+
+abbrev pub decreases-loop-done : goal.decreases-loop-done
+decreases-loop-done l = l.count - l.done

@@ -1,0 +1,40 @@
+use Rattle.std.proofs.Common.{ℕ, get_or, set, sym, ap, ◌∙◌, arith, inl, inr}
+use Rattle.std.specs.Prelude.{slice_index, slice_get}
+use Rattle.std.proofs.lemmas.Bool.{cases_eq}
+use Rattle.std.proofs.lemmas.List.{get_or-set_same, get_or-set_other, length-set}
+use Rattle.std.proofs.lemmas.Result.{on_ok_weaker}
+use Rattle.its_plain.specs.Saved.{put_words, collection_entry}
+use Rattle.table_save.proofs.CollectionWalks.{taken_is}
+use Rattle.table_save.proofs.Written.{same_words}
+use Rattle.table_save.proofs.collections.put_some.Goals as goal
+
+pub loop-i-preserved : goal.loop-i-preserved
+loop-i-preserved c =
+    let v = c.loop-i.invariant in
+    let i = c.loop-i.i in
+    let xs = c.loop-i.words in
+    let w = c.word_of-in-loop-i.result in
+    let all = c.args.walk.now in
+    let next = c.next-in-loop-i in
+    let t = taken_is all i c.loop-i.walk next.new.self next.result v.left next.ensures.steps in
+    record {
+      size = length-set xs i w ∙ v.size;
+      words = λ k lt. elim (cases_eq k i) [
+        | inl is ↦
+            ap (λ (j : ℕ). get_or (set xs i w) j 0) is ∙ get_or-set_same xs i w 0 (omega (arith, v.size)) ∙ c.word_of-in-loop-i.ensures ∙ t.word
+            ∙ ap (λ (j : ℕ). collection_entry (slice_get all j)) (sym is)
+        | inr not ↦ get_or-set_other xs i k w 0 not ∙ v.words k (omega (arith, lt, not))
+      ];
+      left = t.left;
+    }
+
+pub returns-clause-memory : goal.returns-clause-memory
+returns-clause-memory c =
+    let v = c.loop-i.invariant in
+    let xs = c.loop-i.words in
+    let memory = c.args.memory.now in
+    on_ok_weaker c.put_block.result (λ wrote.
+    wrote ∙ ap (put_words memory c.args.base (slice_index xs)) v.size
+    ∙ same_words memory c.args.base c.args.count (slice_index xs) (λ i. collection_entry (slice_get c.args.walk.now i))
+    (λ k lt. v.words k (omega (arith, lt, v.size))))
+    c.put_block.ensures
