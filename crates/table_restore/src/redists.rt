@@ -31,14 +31,7 @@ fn pending_of(
     ensures pending { IfOk result (λ p. ArePendingIn shape.lpi_bits memory.now base.0 p.lpis) }
 {
     let mut pending = Pending::new(alloc, shape.lpi_bits)?;
-    for n in 1024..shape.pending_bytes() as u32 {
-        let Ok(byte) = memory.read_u8(Addr(base.0 + u64::from(n))) else {
-            unreachable!()
-        };
-        pending.set_byte(n, byte);
-    }
-    let bits = pending.lpi_bits();
-    prove!(bits == shape.lpi_bits);
+    pending.read_table(memory, base);
     Ok(pending)
 }
 
