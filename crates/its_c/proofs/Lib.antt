@@ -4,3 +4,4 @@ pub mod PieceSteps
 pub mod Counted
 pub mod ConcernedBits
 pub mod ToldLists
+pub mod WholeReads

@@ -19,7 +19,7 @@ below_next {P} i before at k below =
 
 -- ---- where one window has them all
 
-has_part : (w : Window) (a n b l : ℕ) → a ≤ b → b + l ≤ a + n → has w a n ≡ true → has w b l ≡ true
+pub has_part : (w : Window) (a n b l : ℕ) → a ≤ b → b + l ≤ a + n → has w a n ≡ true → has w b l ≡ true
 has_part w a n b l low high e =
     let f = has-fits w a n e in
     let above : w.base ≤ b = omega (arith, f.above, low) in

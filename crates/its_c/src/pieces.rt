@@ -65,8 +65,8 @@ fn read_piece(memory: &Memory, address: u64, buffer: &mut [u8], at: usize, count
     let _ = memory.read(Addr(address), &mut buffer[at..at + count]);
 }
 
-/// Reads bytes that lie in guest memory.
-pub fn read(memory: &Memory, address: u64, buffer: &mut [u8])
+// Reads bytes piece by piece.
+fn read_pieces(memory: &Memory, address: u64, buffer: &mut [u8])
     requires { IsStretch memory.now address (length buffer.old) }
     ensures read { IsRead memory.now address buffer.new }
     ensures length { length buffer.new ≡ length buffer.old }
@@ -76,4 +76,19 @@ pub fn read(memory: &Memory, address: u64, buffer: &mut [u8])
         let at = address + 64 * i as u64;
         read_piece(memory, at, buffer, 64 * i, piece_length(count, i));
     }
+}
+
+/// Reads bytes that lie in guest memory: at once, where one window has them all.
+pub fn read(memory: &Memory, address: u64, buffer: &mut [u8])
+    requires { IsStretch memory.now address (length buffer.old) }
+    ensures read { IsRead memory.now address buffer.new }
+    ensures length { length buffer.new ≡ length buffer.old }
+{
+    if memory.inside(Addr(address), buffer.len() as u64) {
+        let Ok(()) = memory.read(Addr(address), buffer) else {
+            unreachable!()
+        };
+        return;
+    }
+    read_pieces(memory, address, buffer);
 }

@@ -1,6 +1,6 @@
 use Rattle.std.proofs.Common.{◌≡◌, length}
 use Rattle.its_c.specs.Pieces.{AreRead}
-use Rattle.its_c.proofs.pieces.read.Given as goal
+use Rattle.its_c.proofs.pieces.read_pieces.Given as goal
 
 -- the pieces so far are read
 abbrev pub invariant-loop-i : goal.invariant-loop-i
