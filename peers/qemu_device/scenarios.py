@@ -4,6 +4,7 @@
 usage: scenarios.py DIR [library|own|both [NAME ..]]
 
 Without names all are run but `stress`, which takes SECONDS_OF_STRESS, an hour where the environment doesn't say it.
+With PATIENCE in the environment each watchdog waits so many times as long: for a host with much other work.
 DIR is that of `run.sh build`. What a guest wrote, QEMU's log of guest errors and the record of the library stand in
 DIR/NAME-TRANSLATOR.*. A scenario fails where a device doesn't answer in time (the watchdog), where an interrupt isn't
 there or isn't counted any more, and where a state isn't the same before and after.
@@ -12,7 +13,7 @@ import os
 import sys
 import time
 
-from vm import Vm
+from vm import PATIENCE, Vm
 
 
 LATENCY = 5000000       # of disks of a guest that is saved, in ns, so that requests are on their way as it stops
@@ -111,7 +112,7 @@ def moved_to(vm, work, name):
     path = f"{work}/{name}.socket"
     target = Vm(work, name, vm.library, incoming=f"unix:{path}", nvme=False, latency=LATENCY)
     vm.qmp("migrate", uri=f"unix:{path}")
-    end = time.time() + 120
+    end = time.time() + 120 * PATIENCE
     while vm.qmp("query-migrate").get("status") not in ("completed", "failed"):
         need(time.time() < end, "watchdog: the migration doesn't end")
         time.sleep(0.05)
@@ -205,7 +206,8 @@ def kexec(work, name, library):
     vm = Vm(work, name, library, more=more)
     vm.ready()
     vm.run("work 0; cat /dev/vdc >/tmp/vmlinuz; cat /dev/vdd >/tmp/initrd.gz")
-    vm.run("kexec -l /tmp/vmlinuz --initrd=/tmp/initrd.gz --mem-min=0x50000000 --append='console=ttyAMA0 quiet panic=-1'")
+    words = f"console=ttyAMA0 quiet panic=-1 patience={PATIENCE}"
+    vm.run(f"kexec -l /tmp/vmlinuz --initrd=/tmp/initrd.gz --mem-min=0x50000000 --append='{words}'")
     vm.serial.sendall(b"kexec -e\n")
     vm.ready()
     said = vm.run("dmesg | grep -c 'Booted with LPIs enabled'; dmesg | grep -ci 'failed to disable LPIs'")

@@ -9,6 +9,7 @@ import time
 
 GICD_CTLR = 0x08000000
 GROUP_1 = 2
+PATIENCE = int(os.environ.get("PATIENCE", "1"))     # how many times as long each watchdog waits
 
 
 class Vm:
@@ -41,7 +42,7 @@ class Vm:
         line = [f"{work}/qemu-system-aarch64", "-M", "virt,gic-version=3,its=on", "-cpu", "cortex-a57", "-smp",
                 str(processors), "-m", str(memory), "-nodefaults", "-display", "none", "-no-reboot", "-d", "guest_errors",
                 "-D", self.base + ".log", "-kernel", f"{work}/vmlinuz", "-initrd", f"{work}/initrd.gz", "-append",
-                "console=ttyAMA0 quiet panic=-1 no_console_suspend " + words, "-chardev",
+                f"console=ttyAMA0 quiet panic=-1 no_console_suspend patience={PATIENCE} " + words, "-chardev",
                 f"socket,id=line,path={self.base}.serial,server=on,wait=off,logfile={self.base}.console", "-serial", "chardev:line", "-qmp",
                 f"unix:{self.base}.qmp,server=on,wait=off", "-qtest", f"unix:{self.base}.qtest,server=on,wait=off",
                 "-qtest-log", "/dev/null"]
@@ -122,6 +123,7 @@ class Vm:
 
     def wait(self, pattern, seconds):
         """What the guest writes before the pattern. The watchdog ends a guest that doesn't."""
+        seconds *= PATIENCE
         end = time.time() + seconds
         while True:
             self.match = re.search(pattern, self.text)

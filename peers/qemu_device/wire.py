@@ -24,6 +24,16 @@ def watched(here):
         return re.findall(r"^REAL\((its_\w+)\);", f.read(), re.M)
 
 
+def put(path, text):
+    """Writes a file that isn't so already: what is written anew is configured anew."""
+    if os.path.exists(path):
+        with open(path) as f:
+            if f.read() == text:
+                return
+    with open(path, "w") as f:
+        f.write(text)
+
+
 def main():
     tree, archive = sys.argv[1], os.path.abspath(sys.argv[2])
     here = os.path.dirname(os.path.abspath(__file__))
@@ -39,17 +49,12 @@ def main():
              "softmmu_ss.add(when: 'CONFIG_ARM_GICV3_TCG', if_true: [",
              "  files('its_device.c', 'watch.c', 'its_heap.c'), its_link])",
              "specific_ss.add(when: 'CONFIG_ARM_GICV3_TCG', if_true: files('watch_cpu.c'))"]
-    with open(os.path.join(tree, "configs", "devices", "aarch64-softmmu", "its.mak"), "w") as f:
-        f.write("".join(f"CONFIG_{it}=y\n" for it in PARTS))
+    put(os.path.join(tree, "configs", "devices", "aarch64-softmmu", "its.mak"),
+        "".join(f"CONFIG_{it}=y\n" for it in PARTS))
     build = os.path.join(intc, "meson.build")
     with open(build) as f:
         text = f.read().split(MARK)[0]
-    wired = text + "\n".join(lines) + "\n"
-    with open(build) as f:
-        if f.read() == wired:
-            return
-    with open(build, "w") as f:
-        f.write(wired)
+    put(build, text + "\n".join(lines) + "\n")
 
 
 main()
