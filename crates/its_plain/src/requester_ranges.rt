@@ -127,8 +127,8 @@ fn found_rising(ranges: &[Requesters], requester: u32) -> Option<Requesters>
 // The place of the first range that ends at a number or after it, of ranges that rise.
 fn first_ending_from(ranges: &[Requesters], number: u32) -> usize
     requires { rise_from 0 ranges.now ≡ true }
-    ensures { IsPartitionPoint (λ r. nat_lt r.last number ≡ true) (λ r. nat_lt r.last number ≡ false)
-        ranges.now result }
+    ensures { IsPartitionPoint (λ r. nat_lt r.last number ≡ true)
+        (λ r. nat_lt r.last number ≡ false) ranges.now result }
 {
     ranges.partition_point(|range| range.last < number)
 }

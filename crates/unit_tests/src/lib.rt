@@ -1,4 +1,4 @@
-//! Tests of single crates on which every machine stands: streams, guest memory, registers, commands,
+//! Tests of single crates on which machines stand: streams, guest memory, registers, commands,
 //! table entries, maps, the cache, LPIs, scripts and reports. Each file is of one crate.
 #![tactic(auto)]
 
