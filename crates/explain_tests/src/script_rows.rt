@@ -58,7 +58,7 @@ The line is `command ADDR mapd DEV BITS ITT`.
             "0x800c0010",
             "    command 0x80020000 mapd 7 4 0x800c0010
                                 ^
-line 14, field 6: \"0x800c0010\" is out of range
+line 14, field 6: \"0x800c0010\" is no multiple of 256
 Here stands a table's address, a multiple of 256, at most 0xfffffffffff00.
 The line is `command ADDR mapd DEV BITS ITT`.
 ",
@@ -88,7 +88,7 @@ The line is `write OFF SIZE VALUE`.
             "write 0x0 2 1",
             "    write 0x0 2 1
               ^
-line 13, field 3: \"2\" is out of range
+line 13, field 3: \"2\" is neither 4 nor 8
 Here stands the size of the access in bytes, 4 or 8.
 The line is `write OFF SIZE VALUE`.
 ",
@@ -98,7 +98,7 @@ The line is `write OFF SIZE VALUE`.
             "shards 3",
             "    shards 3
            ^
-line 2, field 2: \"3\" is out of range
+line 2, field 2: \"3\" is no power of 2 from 1 to 64
 Here stands 1, 2, 4, 8, 16, 32 or 64.
 The line is `shards N`.
 ",

@@ -134,15 +134,29 @@ fn push_wrong_number(
     slot: Slot,
     at: usize,
 ) -> Result<(), AllocError> {
-    if number(faulty.text(at)).is_some() {
-        out.push_str(" is out of range\nHere stands ")?;
-        push_range(out, faulty, slot, at)?;
-        out.push_str(".\n")
-    } else {
-        out.push_str(" is no number\nHere stands ")?;
-        push_range(out, faulty, slot, at)?;
-        out.push_str(".\n")?;
-        out.push_str("Numbers are decimal digits, or 0x and 1 to 16 hexadecimal digits.\n")
+    let number = number(faulty.text(at));
+    match number {
+        Some(number) => push_unfit(out, slot, number)?,
+        None => out.push_str(" is no number")?,
+    }
+    out.push_str("\nHere stands ")?;
+    push_range(out, faulty, slot, at)?;
+    out.push_str(".\n")?;
+    match number {
+        Some(_) => Ok(()),
+        None => out.push_str("Numbers are decimal digits, or 0x and 1 to 16 hexadecimal digits.\n"),
+    }
+}
+
+/// Adds why a number isn't one that the slot takes.
+fn push_unfit(out: &mut String, slot: Slot, number: u64) -> Result<(), AllocError> {
+    match slot {
+        Slot::Shards => out.push_str(" is no power of 2 from 1 to 64"),
+        Slot::Size => out.push_str(" is neither 4 nor 8"),
+        Slot::Multiple(_, of, _) if !is_multiple(number, of) => {
+            write!(out, " is no multiple of {of}")
+        }
+        _ => out.push_str(" is out of range"),
     }
 }
 
@@ -153,6 +167,7 @@ fn push_wrong_bytes(out: &mut String, field: &[u8], most: u64) -> Result<(), All
             out.push(char::from(other))?;
             out.push_str("\", no hexadecimal digit")?;
         }
+        None if field.len() == 1 => out.push_str(" has one digit, and each byte has two")?,
         None if field.len() % 2 == 1 => {
             write!(out, " has {} digits, and each byte has two", field.len())?;
         }
