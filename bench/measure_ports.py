@@ -40,6 +40,8 @@ CALLS = {
 NO_PEER = ("migrate",)
 # Plain Rust has one translator and one memory: what stands beside the calls of two.
 PEER = {"hit-1-of-2": "hit-1", "signal-2-translators": "signal-2-devices", "poke-track": "poke"}
+# Of signals by threads with a device each: the same under one mutex, and the locked instructions of a hit alone.
+BOUNDS = {"signal-1": 1, "signal-2-devices": 2, "signal-4-devices": 4}
 # The least part of its threads' processors that a run uses whose threads ran beside each other.
 BESIDE = 0.75
 
@@ -76,23 +78,27 @@ def shown(each):
     return f"{each:12.1f} ns" if each is not None else f"{'-':>15}"
 
 
-def line(name, threads, ours, peer, load):
+def line(name, threads, ours, peer, mutex, locked, load):
     ratio = f"ratio {ours / peer:5.2f}" if ours and peer else " " * 11
     rate = f"{1000 / ours:6.2f} million a second" if ours and ours < 10_000 else ""
-    return f"{name:<18}{threads} threads{shown(ours)}, plain Rust{shown(peer)}  {ratio}  {rate:<24} load {load:.1f}"
+    bounds = f"  mutex{shown(mutex)}  locked alone{shown(locked)}" if mutex or locked else ""
+    return f"{name:<18}{threads} threads{shown(ours)}, plain Rust{shown(peer)}  {ratio}  {rate:<24} load {load:.1f}{bounds}"
 
 
 def measure(name, programs, rounds, real_time):
-    """The row of a call: its name, threads, time, the time of plain Rust, and the machine's load."""
+    """The row of a call: its name, threads, time, the times of plain Rust, and the machine's load."""
     threads, count = CALLS[name]
     program, rust = programs
     start = prefix(threads, real_time)
-    ours, peer = [], []
+    ours, peer, mutex, locked = [], [], [], []
     for _ in range(rounds):
         ours.append(run(start + [program, "time", str(count), name]))
         if name not in NO_PEER:
             peer.append(run(start + [rust, str(count), PEER.get(name, name)]))
-    return name, threads, kept(ours, threads), kept(peer, threads), os.getloadavg()[0]
+        if name in BOUNDS:
+            mutex.append(run(start + [rust, str(count), f"mutex-{threads}"]))
+            locked.append(run(start + [rust, str(count), f"locked-{threads}"]))
+    return name, threads, *(kept(each, threads) for each in (ours, peer, mutex, locked)), os.getloadavg()[0]
 
 
 def main():
@@ -113,9 +119,9 @@ def main():
         rows.append(row)
     if len(words) == 3:
         with open(words[2], "w", encoding="ascii") as figures:
-            figures.write("name,threads,ns,peer_ns,load\n")
-            for name, threads, ours, peer, load in rows:
-                numbers = [f"{each:.1f}" if each is not None else "" for each in (ours, peer, load)]
+            figures.write("name,threads,ns,peer_ns,mutex_ns,locked_ns,load\n")
+            for name, threads, *measured in rows:
+                numbers = [f"{each:.1f}" if each is not None else "" for each in measured]
                 figures.write(",".join([name, str(threads), *numbers]) + "\n")
 
 

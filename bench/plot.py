@@ -32,6 +32,8 @@ BY_THREADS = {
     "a device for each thread, plain Rust": (("signal-1", "signal-2-devices", "signal-4-devices"), "peer_ns"),
     "one device": (("signal-1", "signal-2-one"), "ns"),
     "one device, plain Rust": (("signal-1", "signal-2-one"), "peer_ns"),
+    "a Mutex around a map": (("signal-1", "signal-2-devices", "signal-4-devices"), "mutex_ns"),
+    "the locked instructions of a hit alone": (("signal-1", "signal-2-devices", "signal-4-devices"), "locked_ns"),
 }
 COLOURS = ["#0b62a4", "#c44e00", "#3a7d2c", "#8a3ffc", "#b3003c", "#00707a", "#7a5a00", "#555555", "#d02090"]
 

@@ -1,6 +1,7 @@
 //! The calls that its_bench measures, in plain Rust of the same shape and without proofs: words and slots that stand
 //! 128 bytes apart, a compare-and-exchange for each turn and one of the word that orders the calls, and parts that
-//! are taken out of their slots and put back. The maps are a `HashMap`.
+//! are taken out of their slots and put back. The maps are a `HashMap`. Beside them stand signals under one `Mutex`
+//! around a map, and the locked instructions of a hit alone.
 //!
 //! Build: rustc --edition 2021 -C opt-level=3 -o ports_peer bench/ports_peer.rs
 //! usage: ports_peer COUNT [NAME]
@@ -9,6 +10,7 @@ use std::cell::UnsafeCell;
 use std::collections::HashMap;
 use std::hint::{black_box, spin_loop};
 use std::sync::atomic::{AtomicU64, Ordering::SeqCst};
+use std::sync::Mutex;
 use std::thread;
 use std::time::{Duration, Instant};
 
@@ -69,6 +71,14 @@ struct Redist {
 }
 
 impl Redist {
+    fn new() -> Redist {
+        Redist {
+            pending: vec![0; LPIS / 64],
+            summary: vec![0; LPIS / 64 / 64],
+            enabled: vec![u64::MAX; LPIS / 64],
+        }
+    }
+
     fn put(&mut self, intid: u32, on: bool) {
         let at = intid - FIRST_LPI;
         let (word, bit) = ((at / 64) as usize, 1u64 << (at % 64));
@@ -179,11 +189,7 @@ impl Machine {
                 })),
                 MEMORY => Slot::Memory(Box::new(vec![0; MEMORY_BYTES])),
                 _ if part < 2 + SHARDS => Slot::Shard(Box::new([None; 256])),
-                _ => Slot::Redist(Box::new(Redist {
-                    pending: vec![0; LPIS / 64],
-                    summary: vec![0; LPIS / 64 / 64],
-                    enabled: vec![u64::MAX; LPIS / 64],
-                })),
+                _ => Slot::Redist(Box::new(Redist::new())),
             });
             slots.extend((0..7).map(|_| Slot::Vacant));
         }
@@ -374,8 +380,9 @@ impl Machine {
     }
 }
 
+// As often as the machine that threads share (its_turns, `pause`).
 fn pause() {
-    for _ in 0..32 {
+    for _ in 0..256 {
         spin_loop();
     }
 }
@@ -420,6 +427,62 @@ fn signals(devices: &[u32], count: u32) -> (u64, Duration) {
         drive(1, devices[0]);
     });
     (devices.len() as u64 * u64::from(count), since.elapsed())
+}
+
+// Runs what each thread does so often, and tells how many calls that were and how long they took.
+fn beside(threads: usize, count: u32, call: impl Fn(usize, u32) + Sync) -> (u64, Duration) {
+    let since = Instant::now();
+    thread::scope(|scope| {
+        let call = &call;
+        for number in 1..threads {
+            scope.spawn(move || (0..count).for_each(|n| call(number, n)));
+        }
+        (0..count).for_each(|n| call(0, n));
+    });
+    (threads as u64 * u64::from(count), since.elapsed())
+}
+
+// Signals of a device for each thread, under one lock: a map, the redistributors, and the next place.
+fn under_a_mutex(threads: usize, count: u32) -> (u64, Duration) {
+    let mut events = HashMap::new();
+    for (number, dev) in DEVICES.iter().enumerate() {
+        for ev in 0..EVENTS {
+            events.insert((*dev, ev), Target { vcpu: number as u8, intid: FIRST_LPI + 64 * number as u32 + ev });
+        }
+    }
+    let redists: Vec<Redist> = (0..VCPUS).map(|_| Redist::new()).collect();
+    let machine = Mutex::new((events, redists, 0u64));
+    beside(threads, count, |number, n| {
+        let mut machine = machine.lock().unwrap();
+        let (events, redists, place) = &mut *machine;
+        let target = events[&(DEVICES[number], n % EVENTS)];
+        redists[target.vcpu as usize].put(target.intid, true);
+        *place += 1;
+        black_box(*place);
+    })
+}
+
+// What a hit does to words that other threads see, and nothing else: two turns, the word that orders the calls, and
+// both turns back. A thread's turns are its own.
+fn locked_alone(threads: usize, count: u32) -> (u64, Duration) {
+    let words: Vec<AtomicU64> = (0..16 * 9).map(|_| AtomicU64::new(0)).collect();
+    beside(threads, count, |number, _| {
+        let turns = [&words[16 * (2 * number + 1)], &words[16 * (2 * number + 2)]];
+        loop {
+            let word = words[0].load(SeqCst);
+            for turn in turns {
+                let _ = black_box(turn.compare_exchange(0, 1, SeqCst, SeqCst));
+            }
+            let made = words[0].compare_exchange(word, word + 1, SeqCst, SeqCst).is_ok();
+            for turn in turns {
+                turn.store(0, SeqCst);
+            }
+            if made {
+                return;
+            }
+            pause();
+        }
+    })
 }
 
 // A machine with so many events of one device, and how long their steps took.
@@ -551,13 +614,19 @@ fn main() {
     let count: u32 = words.get(1).and_then(|word| word.parse().ok()).expect("usage: ports_peer COUNT [NAME]");
     let bits = count.clamp(2, 65_536).ilog2();
     let events = 1 << bits;
-    let all: [(&str, &dyn Fn() -> (u64, Duration)); 11] = [
+    let all: [(&str, &dyn Fn() -> (u64, Duration)); 17] = [
         ("hit-1", &|| hits(count)),
         ("miss-1", &|| misses(events.min(8192), count)),
         ("signal-1", &|| signals(&DEVICES[..1], count)),
         ("signal-2-devices", &|| signals(&DEVICES[..2], count)),
         ("signal-2-one", &|| signals(&[DEVICES[0], DEVICES[0]], count)),
         ("signal-4-devices", &|| signals(&DEVICES, count)),
+        ("mutex-1", &|| under_a_mutex(1, count)),
+        ("mutex-2", &|| under_a_mutex(2, count)),
+        ("mutex-4", &|| under_a_mutex(4, count)),
+        ("locked-1", &|| locked_alone(1, count)),
+        ("locked-2", &|| locked_alone(2, count)),
+        ("locked-4", &|| locked_alone(4, count)),
         ("take-1", &|| takes(events.min(1024), count)),
         ("step", &|| (u64::from(events), with_events(events).1)),
         ("save", &|| saves(bits)),
