@@ -1,6 +1,10 @@
 //! What a call has in hand, and how it goes home.
-ghost use Rattle.std.specs.Prelude.{◌≡◌, [], List};
+ghost use Rattle.std.specs.Prelude.{◌≡◌, ◌∷◌, [], List};
+ghost use Rattle.its_types.specs.declared.machine.Part.TheVariants as part;
+ghost use Rattle.owned_parts.specs.Owned.{translator_of};
 ghost use Rattle.its_steps.specs.Contents.{Held};
+ghost use Rattle.its_steps.specs.Contents as content;
+ghost use Rattle.its_steps.specs.World.{out};
 ghost use Rattle.its_turns.specs.Machines.{setup, view, IsOf};
 ghost use Rattle.held_parts.specs.Taking.{holding};
 ghost use Rattle.cmd_engine.specs.Cached.{cached_held, AreWhole};
@@ -12,6 +16,7 @@ use its_turns::{GuestMemory, Machine, Pass, Value, put};
 use its_types::Part;
 use lpi_pending::Redists;
 use owned_parts::{RedistSet, Translator};
+use std::mem::replace;
 
 /// What a call of a translator has in hand.
 #[derive(Drop)]
@@ -56,38 +61,49 @@ impl Hands {
     }
 }
 
-/// Puts all of it back.
-pub(crate) fn put_back(machine: &Machine, pass: &mut Pass, hands: Hands)
+/// Puts all of it back but the maps.
+pub(crate) fn put_taken(machine: &Machine, pass: &mut Pass, hands: &mut Hands)
     requires of { IsOf machine.now pass.old }
-    requires hands { HasInHand (setup machine.now) (view pass.old) hands }
+    requires hands { HasInHand (setup machine.now) (view pass.old) hands.old }
     ensures of { IsOf machine.now pass.new }
-    ensures home { view pass.new ≡ holding (view pass.old) [] }
+    ensures its { hands.new.its ≡ hands.old.its }
+    ensures translator { hands.new.translator ≡ hands.old.translator }
+    ensures home { view pass.new ≡ holding (view pass.old)
+        (out (part.Maps hands.old.its) (content.Maps (translator_of hands.old.translator.value)) ∷ []) }
 {
-    let Hands {
-        its,
-        translator,
-        memory,
-        cached,
-        set,
-        mut redists,
-    } = hands;
-    put_redists(machine, pass, set, &mut redists);
-    put_cached(machine, pass, its, cached);
-    put_memory(machine, pass, memory);
-    put(machine, pass, Part::Maps(its), Value::Maps(translator));
+    put_redists(machine, pass, hands.set, &mut hands.redists);
+    put_cached(machine, pass, hands.its, &mut hands.cached);
+    put_memory(machine, pass, hands.memory.take());
 }
 
-fn put_cached(machine: &Machine, pass: &mut Pass, its: u8, cached: Cached)
+fn put_cached(machine: &Machine, pass: &mut Pass, its: u8, cached: &mut Cached)
     requires of { IsOf machine.now pass.old }
-    requires whole { AreWhole (setup machine.now) its cached }
+    requires whole { AreWhole (setup machine.now) its cached.old }
     requires held { (others : List Held) × ((view pass.old).held
-        ≡ cached_held its (setup machine.now).shards cached others) }
+        ≡ cached_held its (setup machine.now).shards cached.old others) }
     ensures of { IsOf machine.now pass.new }
     ensures home { (others : List Held) →
-        (view pass.old).held ≡ cached_held its (setup machine.now).shards cached others →
+        (view pass.old).held ≡ cached_held its (setup machine.now).shards cached.old others →
         view pass.new ≡ holding (view pass.old) others }
 {
     match cached {
+        Cached::Nothing | Cached::Any => {}
+        Cached::Pair(..) | Cached::Every(_) => put_some(machine, pass, its, cached),
+    }
+}
+
+// Some shard is in hand. The room of every one is taken for this call alone.
+fn put_some(machine: &Machine, pass: &mut Pass, its: u8, cached: &mut Cached)
+    requires of { IsOf machine.now pass.old }
+    requires whole { AreWhole (setup machine.now) its cached.old }
+    requires held { (others : List Held) × ((view pass.old).held
+        ≡ cached_held its (setup machine.now).shards cached.old others) }
+    ensures of { IsOf machine.now pass.new }
+    ensures home { (others : List Held) →
+        (view pass.old).held ≡ cached_held its (setup machine.now).shards cached.old others →
+        view pass.new ≡ holding (view pass.old) others }
+{
+    match replace(cached, Cached::Nothing) {
         Cached::Nothing | Cached::Any => {}
         Cached::Pair(dev, ev, shard) => {
             let number = machine.shard_of(dev, ev);

@@ -1,26 +1,29 @@
 //! Steps: a translator takes its next command.
-ghost use Rattle.std.specs.Prelude.{◌≡◌, ◌<◌, []};
+ghost use Rattle.std.specs.Prelude.{◌≡◌, ◌<◌, ◌∷◌, [], Some};
 ghost use Rattle.its_types.specs.declared.machine.Part.TheVariants as part;
 ghost use Rattle.its_plain.specs.declared.call.Call.TheVariants as call;
 ghost use Rattle.its_plain.specs.declared.call.Reply.TheVariants as reply;
 ghost use Rattle.owned_parts.specs.Owned.{translator_of};
 ghost use Rattle.its_steps.specs.Contents as content;
 ghost use Rattle.its_steps.specs.Parts.{translator_count};
+ghost use Rattle.its_steps.specs.World.{out};
 ghost use Rattle.its_turns.specs.Machines.{setup, view, IsOf};
 ghost use Rattle.its_turns.specs.Told.{HasStood};
-ghost use Rattle.cmd_engine.specs.Hands.{HasInHand, IsBase, IsOfStep};
+ghost use Rattle.cmd_engine.specs.Hands.{HasInHand, IsBase, IsOfStep, memory_held};
 ghost use Rattle.cmd_engine.specs.Telling.{Comes, ComesFrom, Steps};
 
 use crate::commands::make_command;
-use crate::hands::{Hands, put_back};
+use crate::hands::{Hands, put_taken};
 use crate::missed::Missed;
 use crate::still::make_still;
 use crate::taking::take_needed;
 use cmd_exec::{Met, meet};
 use held_parts::{Waiting, take_maps, take_memory};
 use its_plain::StepReply;
-use its_turns::{Machine, NotMade, Pass, pause};
-use its_types::{Gate, Placed, Point};
+use its_turns::{GuestMemory, Machine, NotMade, Pass, Value, pause, put};
+use its_types::{Gate, Part, Placed, Point};
+use owned_parts::Translator;
+use std::mem::forget;
 use std::sync::Wait;
 
 /// A translator takes its next command (IHI 0069, section 5.3), and waits for the turns that it
@@ -97,9 +100,43 @@ fn step_once<R: Wait, G: Gate>(
     let translator = take_maps(&Waiting { rt }, machine, pass, its);
     gate.at(pass.number(), Point::MapsTaken);
     let memory = take_memory(&Waiting { rt }, machine, pass);
+    step_held(rt, machine, pass, gate, its, translator, memory)
+}
+
+// The maps and memory are in hand, and go home in the end. What is in hand is made here, where no
+// call comes between the room for it and what it begins as: so the room is cleared once.
+fn step_held<R: Wait, G: Gate>(
+    rt: &R,
+    machine: &Machine,
+    pass: &mut Pass,
+    gate: &G,
+    its: u8,
+    translator: Box<Translator>,
+    memory: Box<GuestMemory>,
+) -> Result<Placed<StepReply>, Missed>
+    requires of { IsOf machine.now pass.old }
+    requires its { its < translator_count (setup machine.now) }
+    requires held { (view pass.old).held ≡ memory_held (Some memory)
+        (out (part.Maps its) (content.Maps (translator_of translator.value)) ∷ []) }
+    requires stood { HasStood (setup machine.now) (part.Maps its)
+        (content.Maps (translator_of translator.value)) }
+    ensures of { IsOf machine.now pass.new }
+    ensures free { (view pass.new).held ≡ [] }
+    ensures comes { ComesFrom (IsOfStep its) (view pass.old) (call.Step its) reply.Step
+        (view pass.new) result }
+{
     let mut hands = Hands::new(its, translator, Some(memory));
     let made = step_with(rt, machine, pass, gate, &mut hands);
-    put_back(machine, pass, hands);
+    put_taken(machine, pass, &mut hands);
+    let Hands {
+        its,
+        translator,
+        redists,
+        ..
+    } = hands;
+    // All its places are empty, so there is nothing to let go.
+    forget(redists);
+    put(machine, pass, Part::Maps(its), Value::Maps(translator));
     made
 }
 

@@ -2,7 +2,7 @@
 ghost use Rattle.std.specs.Prelude.{◌≡◌, ◌<◌};
 ghost use Rattle.its_types.specs.declared.machine.Part.TheVariants as part;
 ghost use Rattle.its_steps.specs.Contents as content;
-ghost use Rattle.its_steps.specs.Endings.{ending_in, All};
+ghost use Rattle.its_steps.specs.Endings.{ending_in, Pair, All};
 ghost use Rattle.its_steps.specs.Parts.{translator_count};
 ghost use Rattle.owned_parts.specs.Owned.{translator_of};
 ghost use Rattle.its_turns.specs.Machines.{setup, view, IsOf};
@@ -13,6 +13,7 @@ ghost use Rattle.cmd_engine.specs.Cached.{ending_as, ending_by, cached_held, Are
 ghost use Rattle.cmd_engine.specs.Hands.{HasInHand, HasNeeded, IsBase, IsSameButNeeded};
 ghost use Rattle.cmd_engine.specs.Hands.{IsOfTranslator, IsOfStep};
 ghost use Rattle.cmd_engine.specs.Telling.{ReadLow};
+ghost use Rattle.cmd_engine.specs.declared.cached.Cached.TheVariants as shards;
 
 use crate::cached::Cached;
 use crate::endings::{Ending, ending_of};
@@ -21,6 +22,7 @@ use cmd_exec::needs;
 use held_parts::{Shards, Waiting, take_redists, take_shard, take_shards};
 use its_command::Command;
 use its_turns::{Machine, Pass, look};
+use its_types::{DeviceId, EventId};
 use std::sync::Wait;
 
 /// Takes what a command needs: the shards that it may change, and redistributors, the lowest first.
@@ -52,7 +54,7 @@ pub(crate) fn take_needed<R: Wait>(
         &hands.translator.maps,
         &machine.desc().shape,
     );
-    hands.cached = take_cached(rt, machine, pass, hands.its, ends);
+    take_cached(rt, machine, pass, hands.its, ends, &mut hands.cached);
     let how = Waiting { rt };
     take_redists(&how, machine, pass, hands.set, &mut hands.redists);
 }
@@ -65,47 +67,74 @@ pub(crate) fn take_cached<R: Wait>(
     pass: &mut Pass,
     its: u8,
     ends: Ending,
-) -> Cached
+    cached: &mut Cached,
+)
     requires of { IsOf machine.now pass.old }
     requires its { its < translator_count (setup machine.now) }
     requires free { HoldsNoShard its (view pass.old).held }
+    requires nothing { cached.old ≡ shards.Nothing }
     ensures of { IsOf machine.now pass.new }
     ensures goes { Goes (IsOfTranslator its) (view pass.old) (view pass.new) }
-    ensures held { (view pass.new).held ≡ cached_held its (setup machine.now).shards result
+    ensures held { (view pass.new).held ≡ cached_held its (setup machine.now).shards cached.new
         (view pass.old).held }
-    ensures whole { AreWhole (setup machine.now) its result }
-    ensures ends { ending_as result ≡ ending_by ends }
-    ensures low { IsAny result → ReadLow (view pass.old) its (view pass.new) }
+    ensures whole { AreWhole (setup machine.now) its cached.new }
+    ensures ends { ending_as cached.new ≡ ending_by ends }
+    ensures low { IsAny cached.new → ReadLow (view pass.old) its (view pass.new) }
 {
+    // `Cached` has room for every shard, and most calls want none: each that does has that room in
+    // a function of its own.
     match ends {
-        Ending::Nothing => Cached::Nothing,
-        Ending::Pair(dev, ev) => {
-            let number = machine.shard_of(dev, ev);
-            let how = Waiting { rt };
-            Cached::Pair(dev, ev, take_shard(&how, machine, pass, its, number))
-        }
-        Ending::All => take_any(rt, machine, pass, its),
+        Ending::Nothing => {}
+        Ending::Pair(dev, ev) => take_pair(rt, machine, pass, its, dev, ev, cached),
+        Ending::All => take_any(rt, machine, pass, its, cached),
     }
 }
 
-// Every shard where the stamp is the last one, and none where it can rise.
-fn take_any<R: Wait>(rt: &R, machine: &Machine, pass: &mut Pass, its: u8) -> Cached
+// The shard of one pair.
+fn take_pair<R: Wait>(
+    rt: &R,
+    machine: &Machine,
+    pass: &mut Pass,
+    its: u8,
+    dev: DeviceId,
+    ev: EventId,
+    cached: &mut Cached,
+)
     requires of { IsOf machine.now pass.old }
     requires its { its < translator_count (setup machine.now) }
     requires free { HoldsNoShard its (view pass.old).held }
     ensures of { IsOf machine.now pass.new }
     ensures goes { Goes (IsOfTranslator its) (view pass.old) (view pass.new) }
-    ensures held { (view pass.new).held ≡ cached_held its (setup machine.now).shards result
+    ensures held { (view pass.new).held ≡ cached_held its (setup machine.now).shards cached.new
         (view pass.old).held }
-    ensures whole { AreWhole (setup machine.now) its result }
-    ensures ends { ending_as result ≡ All }
-    ensures low { IsAny result → ReadLow (view pass.old) its (view pass.new) }
+    ensures whole { AreWhole (setup machine.now) its cached.new }
+    ensures ends { ending_as cached.new ≡ Pair dev.0 ev.0 }
+    ensures some { ¬ IsAny cached.new }
+{
+    let number = machine.shard_of(dev, ev);
+    let shard = take_shard(&Waiting { rt }, machine, pass, its, number);
+    *cached = Cached::Pair(dev, ev, shard);
+}
+
+// Every shard where the stamp is the last one, and none where it can rise.
+fn take_any<R: Wait>(rt: &R, machine: &Machine, pass: &mut Pass, its: u8, cached: &mut Cached)
+    requires of { IsOf machine.now pass.old }
+    requires its { its < translator_count (setup machine.now) }
+    requires free { HoldsNoShard its (view pass.old).held }
+    ensures of { IsOf machine.now pass.new }
+    ensures goes { Goes (IsOfTranslator its) (view pass.old) (view pass.new) }
+    ensures held { (view pass.new).held ≡ cached_held its (setup machine.now).shards cached.new
+        (view pass.old).held }
+    ensures whole { AreWhole (setup machine.now) its cached.new }
+    ensures ends { ending_as cached.new ≡ All }
+    ensures low { IsAny cached.new → ReadLow (view pass.old) its (view pass.new) }
 {
     let word = look(machine, pass);
     if machine.stamp_of(word, its) < machine.stamp_last() {
-        return Cached::Any;
+        *cached = Cached::Any;
+        return;
     }
     let mut shards = Shards::new();
     take_shards(&Waiting { rt }, machine, pass, its, &mut shards);
-    Cached::Every(shards)
+    *cached = Cached::Every(shards);
 }

@@ -8,13 +8,14 @@ ghost use Rattle.cmd_engine.specs.Hands.{IsOfTranslator};
 ghost use Rattle.cmd_engine.specs.Registers.{write_call};
 ghost use Rattle.cmd_engine.specs.Telling.{AsksUntilMade, Comes};
 
-use crate::hands::{Hands, put_back};
+use crate::hands::{Hands, put_taken};
 use crate::missed::Missed;
 use crate::taking::take_cached;
 use crate::writing::{RegWrite, make_write};
 use held_parts::{Waiting, take_maps};
-use its_turns::{Machine, Pass, Spent, pause};
-use its_types::{Gate, Placed, Point};
+use its_turns::{Machine, Pass, Spent, Value, pause, put};
+use its_types::{Gate, Part, Placed, Point};
+use std::mem::forget;
 use std::sync::Wait;
 
 /// Writes `size` bytes, 4 or 8, at an offset of a translator's control frame. A write that turns
@@ -93,8 +94,17 @@ fn write_once<R: Wait, G: Gate>(
     gate.at(pass.number(), Point::MapsTaken);
     let ends = write.ending(&translator);
     let mut hands = Hands::new(its, translator, None);
-    hands.cached = take_cached(rt, machine, pass, its, ends);
+    take_cached(rt, machine, pass, its, ends, &mut hands.cached);
     let made = make_write(machine, pass, gate, write, &mut hands);
-    put_back(machine, pass, hands);
+    put_taken(machine, pass, &mut hands);
+    let Hands {
+        its,
+        translator,
+        redists,
+        ..
+    } = hands;
+    // All its places are empty, so there is nothing to let go.
+    forget(redists);
+    put(machine, pass, Part::Maps(its), Value::Maps(translator));
     made
 }

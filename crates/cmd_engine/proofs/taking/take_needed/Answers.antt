@@ -12,11 +12,11 @@ take_cached-requires-clause-free g c = base_free (setup c.args.machine.now) (vie
 
 pub take_redists-requires-clause-free : goal.take_redists-requires-clause-free
 take_redists-requires-clause-free g c = shards_free (setup c.args.machine.now) (view c.args.pass.now) c.args.hands.now c.requires.hands c.requires.base
-    (view c.take_cached.new.pass) c.take_cached.result c.take_cached.ensures.held
+    (view c.take_cached.new.pass) c.take_cached.new.cached c.take_cached.ensures.held
 
 pub returns-clause-hands : goal.returns-clause-hands
 returns-clause-hands g c = needed_in_hand (setup c.args.machine.now) (view c.args.pass.now) c.args.hands.now c.requires.hands c.requires.base
-    (view c.take_cached.new.pass) (view c.take_redists.new.pass) c.take_cached.result c.needs-hands.result c.take_redists.new.redists c.take_cached.ensures.held
+    (view c.take_cached.new.pass) (view c.take_redists.new.pass) c.take_cached.new.cached c.needs-hands.result c.take_redists.new.redists c.take_cached.ensures.held
     c.take_cached.ensures.whole c.take_redists.ensures.held c.take_redists.ensures.hand
 
 pub returns-clause-goes : goal.returns-clause-goes
