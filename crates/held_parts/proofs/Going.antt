@@ -54,6 +54,24 @@ module _ (v w x : View) (p : Part) (y : Value) (waits : Waits v w) (takes : Take
     stood = subst (λ (s : Setup). HasStood s p takes.content) same_setup takes.stood;
   }
 
+pub waits_then : (v w x : View) → Waits v w → Waits w x → Waits v x
+waits_then v w x a b = record {
+  same = b.same ∙ ap (λ (y : View). record y { tries = x.tries }) a.same;
+  won = b.won ∙ a.won;
+  lost = omega (arith, a.lost, b.lost);
+  alone = λ lone. b.alone (subst IsLone (sym (a.alone lone)) lone) ∙ a.alone lone;
+}
+
+-- it was waited before
+pub takes_after : (v w x : View) (p : Part) (y : Value) → Waits v w → TakesValue w p y x → TakesValue v p y x
+takes_after v w x p y waits t = let same : w.setup ≡ v.setup = ap (λ (z : View). z.setup) waits.same in record {
+  content = t.content;
+  content_is = t.content_is;
+  fit = subst (λ (s : Setup). IsFit s y) same t.fit;
+  takes = record { waited = t.takes.waited; waits = waits_then v w t.takes.waited waits t.takes.waits; takes = t.takes.takes };
+  stood = subst (λ (s : Setup). HasStood s p t.content) same t.stood;
+}
+
 -- a value of this content
 pub takes_as : (v x : View) (p : Part) (y : Value) (c : Content) → content_of y ≡ some c → TakesValue v p y x → TakesInTime v p c x
 takes_as v x p y c is t = subst (λ (d : Content). TakesInTime v p d x) (same_some t.content c (sym t.content_is ∙ is)) t.takes

@@ -1,5 +1,5 @@
 -- Redistributors taken one by one, and put home one by one.
-use Rattle.std.proofs.Common.{◌≡◌, ◌≢◌, ℕ, zero, suc, ◌<◌, ◌≤◌, Bool, true, false, ◌&&◌, nat_lt, List, [], ◌∷◌, Option, Some, None, length, set, refl, ap, sym}
+use Rattle.std.proofs.Common.{◌≡◌, ◌≢◌, ℕ, zero, suc, ◌+◌, ◌-◌, ◌<◌, ◌≤◌, Bool, true, false, ◌&&◌, nat_lt, List, [], ◌∷◌, Option, Some, None, length, set, refl, ap, sym}
 use Rattle.std.proofs.Common.{◌∙◌, subst, inl, inr, arith, get_or-set_same, get_or-set_other}
 use Rattle.std.proofs.lemmas.Bool.{cases_eq, cases_lt, le-ltb}
 use Rattle.std.specs.Prelude.{is_some}
@@ -12,7 +12,7 @@ use Rattle.its_steps.specs.Contents.{Held}
 use Rattle.its_steps.specs.Good.{Holds}
 use Rattle.its_steps.specs.Parts.{Setup, vcpu_count}
 use Rattle.held_parts.specs.Redists.{redist_held, held_if_in, redist_row, redists_held, AreNoRedists, AreOfSet, HoldsNoRedist}
-use Rattle.held_parts.proofs.InRows.{row_agrees, row_none, row_first, row_skips}
+use Rattle.held_parts.proofs.InRows.{row_agrees, row_none, row_first, row_skips, row_short}
 use Rattle.held_parts.proofs.RedistRows.{redist_above}
 
 -- of the first n those wanted are in hand, taken since some parts were held
@@ -82,15 +82,22 @@ module _ (s : Setup) (wanted : ℕ) (n m : ℕ) (redists : List (Option Owned)) 
         some_same : (a b : Owned) → Some a ≡ Some b → a ≡ b
         some_same a b e = cc
 
-pub all_taken : (s : Setup) (wanted : ℕ) (n : ℕ) (redists : List (Option Owned)) (before now : List Held) → n ≡ 16 → vcpu_count s ≤ 16
+-- those of the first n are all
+short : (n : ℕ) (redists : List (Option Owned)) (before : List Held) → n ≤ 16 → ((k : ℕ) → n ≤ k → in_hand redists k ≡ None)
+    → redists_held redists 16 before ≡ redists_held redists n before
+short n redists before few gone =
+    let e : n + (16 - n) ≡ 16 = omega (arith, few) in
+    ap (λ (k : ℕ). redists_held redists k before) (sym e) ∙ row_short (redist_row redists) before n (16 - n) (λ k le. ap (held_if_in k) (gone k le))
+
+pub all_taken : (s : Setup) (wanted : ℕ) (n : ℕ) (redists : List (Option Owned)) (before now : List Held) → n ≡ vcpu_count s → n ≤ 16
     → AreTaken s wanted n redists before now → (now ≡ redists_held redists 16 before) × AreOfSet s wanted redists
 all_taken s wanted n redists before now is few h = (
-  h.held ∙ ap (λ (k : ℕ). redists_held redists k before) is,
+  h.held ∙ sym (short n redists before few h.above),
   record {
     hand = λ k. elim (cases_lt k n) [
       | inl lt ↦ h.hand k lt
       | inr le ↦ ap (λ (o : Option Owned). is_some o) (h.above k le)
-          ∙ sym (and_right (is_in wanted k) (nat_lt k (vcpu_count s)) (le-ltb k (vcpu_count s) (omega (arith, le, is, few))))
+          ∙ sym (and_right (is_in wanted k) (nat_lt k (vcpu_count s)) (le-ltb k (vcpu_count s) (omega (arith, le, is))))
     ];
     lpis = h.lpis;
   },
@@ -111,16 +118,21 @@ not_some : (o : Option Owned) → is_some o ≡ false → o ≡ None
 not_some None e = refl
 not_some (Some r) e = absurd cc
 
-pub all_left : (s : Setup) (wanted : ℕ) (redists : List (Option Owned)) → vcpu_count s ≤ 16 → AreOfSet s wanted redists → AreLeft 16 redists redists
-all_left s wanted redists few are = record {
-  below = λ k lt. refl;
-  above = λ k le. not_some (in_hand redists k) (are.hand k ∙ and_right (is_in wanted k) (nat_lt k (vcpu_count s))
-      (le-ltb k (vcpu_count s) (omega (arith, le, few))));
-}
+-- the machine has no other
+beyond : (s : Setup) (wanted : ℕ) (redists : List (Option Owned)) → AreOfSet s wanted redists → (k : ℕ) → vcpu_count s ≤ k → in_hand redists k ≡ None
+beyond s wanted redists are k le = not_some (in_hand redists k) (are.hand k ∙ and_right (is_in wanted k) (nat_lt k (vcpu_count s))
+    (le-ltb k (vcpu_count s) le))
   where
     and_right : (a b : Bool) → b ≡ false → (a && b) ≡ false
     and_right true b e = e
     and_right false b e = refl
+
+pub all_left : (s : Setup) (wanted n : ℕ) (redists : List (Option Owned)) → n ≡ vcpu_count s → AreOfSet s wanted redists → AreLeft n redists redists
+all_left s wanted n redists is are = record { below = λ k lt. refl; above = λ k le. beyond s wanted redists are k (omega (arith, le, is)) }
+
+pub only_first : (s : Setup) (wanted n : ℕ) (redists : List (Option Owned)) (before : List Held) → n ≡ vcpu_count s → n ≤ 16 → AreOfSet s wanted redists
+    → redists_held redists 16 before ≡ redists_held redists n before
+only_first s wanted n redists before is few are = short n redists before few (λ k le. beyond s wanted redists are k (omega (arith, le, is)))
 
 module _ (n m : ℕ) (old redists : List (Option Owned)) (next : n ≡ suc m) (h : AreLeft n old redists) where
   pub one_left : AreLeft m old (set redists m None)

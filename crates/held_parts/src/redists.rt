@@ -34,7 +34,7 @@ pub fn take_redists<T: Turns>(
     ensures allowed { T.allowed (view pass.new) }
 {
     let vcpus = machine.vcpus();
-    for vcpu in 0..16u8 {
+    for vcpu in 0..vcpus {
         if is_wanted(set, vcpus, vcpu) {
             let redist = take_redist(how, machine, pass, Vcpu(vcpu));
             redists.place(Vcpu(vcpu), redist);
@@ -55,8 +55,8 @@ pub fn put_redists(machine: &Machine, pass: &mut Pass, set: RedistSet, redists: 
         view pass.new ≡ holding (view pass.old) before }
 {
     let vcpus = machine.vcpus();
-    for k in 0..16u8 {
-        let vcpu = 15 - k;
+    for k in 0..vcpus {
+        let vcpu = vcpus - 1 - k;
         if is_wanted(set, vcpus, vcpu) {
             let redist = redists.take_out(Vcpu(vcpu));
             put(

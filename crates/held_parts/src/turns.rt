@@ -55,12 +55,31 @@ impl<'a, R: Wait> Turns for Waiting<'a, R> {
     ghost allowed = { λ _. Unit {0} };
 
     fn turn(&self, machine: &Machine, pass: &mut Pass, part: Part) -> Value {
-        for _ in self.rt.forever() {
-            match try_take(machine, pass, part) {
-                Ok(value) => return value,
-                Err(_) => give_way(),
+        // It is mostly free, and then no loop is begun.
+        match try_take(machine, pass, part) {
+            Ok(value) => value,
+            Err(_) => {
+                give_way();
+                wait_for(self.rt, machine, pass, part)
             }
         }
-        unreachable!()
     }
+}
+
+// Another pass had the turn.
+#[cold]
+fn wait_for<R: Wait>(rt: &R, machine: &Machine, pass: &mut Pass, part: Part) -> Value
+    requires of { IsOf machine.now pass.old }
+    requires stands { Stands (setup machine.now) part }
+    requires free { ¬ Holds part (view pass.old).held }
+    ensures of { IsOf machine.now pass.new }
+    ensures takes { TakesValue (view pass.old) part result (view pass.new) }
+{
+    for _ in rt.forever() {
+        match try_take(machine, pass, part) {
+            Ok(value) => return value,
+            Err(_) => give_way(),
+        }
+    }
+    unreachable!()
 }

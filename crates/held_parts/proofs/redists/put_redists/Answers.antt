@@ -9,32 +9,42 @@ use Rattle.its_turns.specs.Told.{released}
 use Rattle.held_parts.specs.Redists.{redist_row, redist_held, held_if_in, redists_held}
 use Rattle.held_parts.specs.Taking.{holding}
 use Rattle.held_parts.proofs.InRows.{row_first, row_skips, row_none}
-use Rattle.held_parts.proofs.RedistLoops.{one_left, none_left, not_in_hand}
+use Rattle.held_parts.proofs.RedistLoops.{all_left, only_first, one_left, none_left, not_in_hand}
 use Rattle.held_parts.proofs.redists.put_redists.Goals as goal
 use Rattle.held_parts.proofs.redists.put_redists.Goals.{then-is_wanted, else-is_wanted}
 
 pub put-requires-clause-owed : goal.put-requires-clause-owed
-put-requires-clause-owed c = let old = c.args.redists.now in let before = c.requires.held.0 in let l = c.loop-k in let k = 15 - l.k in let r =
+put-requires-clause-owed c = let old = c.args.redists.now in let before = c.requires.held.0 in let l = c.loop-k in let n = c.vcpus-vcpus.result in let k = n - 1 - l.k in let r =
     c.take_out-redist.result.value in record {
       content = Redist (redistributor_of r);
       content_is = refl;
       before = redists_held old k before;
       last = ap (λ (y : View). y.held) (l.invariant.home before c.requires.held.1)
-          ∙ row_first (redist_row old) before (16 - l.k) k (redist_held k r) (omega (arith, c.loop-k-test.true))
+          ∙ row_first (redist_row old) before (n - l.k) k (redist_held k r) (omega (arith, c.loop-k-test.true))
           (ap (held_if_in k) (sym (l.invariant.left.below k (omega (arith, c.loop-k-test.true))) ∙ c.take_out-redist.ensures.value));
     }
 
+pub loop-k-init : goal.loop-k-init
+loop-k-init c = let s = setup c.args.machine.now in let n = c.vcpus-vcpus.result in let few = c.vcpus-vcpus.ensures.most in
+    let z : n - 0 ≡ n = omega arith in
+    rw (z) record {
+      of = c.requires.of;
+      home = λ before is. ap (λ (h : List Held). holding (view c.args.pass.now) h) (is
+          ∙ only_first s c.args.set n c.args.redists.now before c.vcpus-vcpus.ensures.vcpus few c.requires.hand);
+      left = all_left s c.args.set n c.args.redists.now c.vcpus-vcpus.ensures.vcpus c.requires.hand;
+    }
+
 pub loop-k-preserved : goal.loop-k-preserved
-loop-k-preserved c = let s = setup c.args.machine.now in let l = c.loop-k in let old = c.args.redists.now in let k = 15 - l.k in
-    let e : 16 - (l.k + 1) ≡ k = omega (arith, c.loop-k-test.true) in
-    let next : 16 - l.k ≡ suc k = omega (arith, c.loop-k-test.true) in
+loop-k-preserved c = let s = setup c.args.machine.now in let l = c.loop-k in let old = c.args.redists.now in let n = c.vcpus-vcpus.result in let k = n - 1 - l.k in
+    let e : n - (l.k + 1) ≡ k = omega (arith, c.loop-k-test.true) in
+    let next : n - l.k ≡ suc k = omega (arith, c.loop-k-test.true) in
     elim c.if-is_wanted.branch [
       | then-is_wanted w ↦ let r = w.take_out-redist.result.value in rw (w.pass-is, w.redists-is, e) record {
         of = w.put.ensures.of;
         home = λ before is. w.put.ensures.view ∙ (ap released (l.invariant.home before is)
-            ∙ ap (λ (h : List Held). holding (view c.args.pass.now) (held_before h)) (row_first (redist_row old) before (16 - l.k) k (redist_held k r) next
+            ∙ ap (λ (h : List Held). holding (view c.args.pass.now) (held_before h)) (row_first (redist_row old) before (n - l.k) k (redist_held k r) next
             (ap (held_if_in k) (sym (l.invariant.left.below k (omega (arith, next))) ∙ w.take_out-redist.ensures.value))));
-        left = rw (w.take_out-redist.ensures.taken) (one_left (16 - l.k) k old l.redists next l.invariant.left);
+        left = rw (w.take_out-redist.ensures.taken) (one_left (n - l.k) k old l.redists next l.invariant.left);
       }
       | else-is_wanted w ↦
           let out = not_in_hand s c.args.set old k c.requires.hand (ap (λ (n : ℕ). is_in c.args.set k && nat_lt k n)
@@ -42,11 +52,11 @@ loop-k-preserved c = let s = setup c.args.machine.now in let l = c.loop-k in let
           rw (w.pass-is, w.redists-is, e) record {
             of = l.invariant.of;
             home = λ before is. l.invariant.home before is ∙ ap (λ (h : List Held). holding (view c.args.pass.now) h)
-                (row_skips (redist_row old) before (16 - l.k) k next (ap (held_if_in k) out));
-            left = none_left (16 - l.k) k old l.redists next l.invariant.left out;
+                (row_skips (redist_row old) before (n - l.k) k next (ap (held_if_in k) out));
+            left = none_left (n - l.k) k old l.redists next l.invariant.left out;
           }
     ]
 
 pub returns-clause-home : goal.returns-clause-home
-returns-clause-home c = let l = c.loop-k in λ before is. l.invariant.home before is ∙ ap (λ (h : List Held). holding (view c.args.pass.now) h)
-    (row_none (redist_row c.args.redists.now) before (16 - l.k) (omega (arith, c.loop-k-test.false)))
+returns-clause-home c = let l = c.loop-k in let n = c.vcpus-vcpus.result in λ before is. l.invariant.home before is ∙ ap (λ (h : List Held). holding (view c.args.pass.now) h)
+    (row_none (redist_row c.args.redists.now) before (n - l.k) (omega (arith, c.loop-k-test.false)))

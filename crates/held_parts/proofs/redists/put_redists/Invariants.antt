@@ -10,6 +10,6 @@ abbrev pub invariant-loop-k : goal.invariant-loop-k
 invariant-loop-k l = record {
   of : IsOf l.machine l.pass;
   home : (before : List Held) → (view l.fn.pass).held ≡ redists_held l.fn.redists 16 before → view l.pass ≡ holding (view l.fn.pass)
-      (redists_held l.fn.redists (16 - l.k) before);
-  left : AreLeft (16 - l.k) l.fn.redists l.redists;
+      (redists_held l.fn.redists (l.vcpus - l.k) before);
+  left : AreLeft (l.vcpus - l.k) l.fn.redists l.redists;
 }

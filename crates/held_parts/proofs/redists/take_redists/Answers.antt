@@ -1,5 +1,5 @@
 use Rattle.std.proofs.lemmas.List.{length-set}
-use Rattle.std.proofs.Common.{length, rules, arith, ap, sym, ◌∙◌, ◌≡◌, ◌+◌, ◌&&◌, ℕ, true, nat_lt, Some}
+use Rattle.std.proofs.Common.{length, arith, ap, sym, ◌∙◌, ◌≡◌, ◌+◌, ◌&&◌, ℕ, true, nat_lt, Some}
 use Rattle.std.proofs.lemmas.Bool.{and_parts}
 use Rattle.its_types.specs.declared.machine.Part.TheVariants as part
 use Rattle.owned_parts.specs.Owned.{redistributor_of}
@@ -9,7 +9,7 @@ use Rattle.its_steps.specs.Parts.{vcpu_count}
 use Rattle.its_turns.specs.Machines.{setup, view}
 use Rattle.held_parts.specs.Redists.{IsRedistOf}
 use Rattle.held_parts.proofs.Going.{takes_first, takes_one, takes_then, took_held}
-use Rattle.held_parts.proofs.RedistLoops.{none_taken, is_free, not_taken, one_taken}
+use Rattle.held_parts.proofs.RedistLoops.{all_taken, none_taken, is_free, not_taken, one_taken}
 use Rattle.held_parts.proofs.redists.take_redists.Goals as goal
 use Rattle.held_parts.proofs.redists.take_redists.Goals.{then-is_wanted, else-is_wanted}
 
@@ -40,7 +40,7 @@ loop-vcpu-preserved g c = let s = setup c.args.machine.now in let l = c.loop-vcp
                 (and_parts (is_in want l.vcpu) (nat_lt l.vcpu (vcpu_count s)) inside).0 t.ensures.takes);
             taken = rw (w.place.ensures.placed) (one_taken s want l.vcpu (l.vcpu + 1) l.redists before (view l.pass).held l.invariant.taken (omega arith) r
                 (view t.new.pass).held (sym (length-set l.redists l.vcpu (Some r)) ∙ (ap length (sym w.place.ensures.placed) ∙ w.place.ensures.size))
-                (search rules) inside t.ensures.lpis
+                (omega (arith, c.loop-vcpu-test.true, c.vcpus-vcpus.ensures.most)) inside t.ensures.lpis
                 (took_held (view l.pass) (view t.new.pass) (part.Redist (record { 0 = l.vcpu })) (Redist (redistributor_of r)) t.ensures.takes));
             allowed = t.ensures.allowed;
           }
@@ -52,3 +52,9 @@ loop-vcpu-preserved g c = let s = setup c.args.machine.now in let l = c.loop-vcp
         allowed = l.invariant.allowed;
       }
     ]
+
+pub returns-clause-held : goal.returns-clause-held
+returns-clause-held g c = let l = c.loop-vcpu in let s = setup c.args.machine.now in let end = l.auto.vcpu-end in let past = c.loop-vcpu-test.false in
+    let are = c.vcpus-vcpus.ensures.vcpus in let most = c.vcpus-vcpus.ensures.most in
+    (all_taken s c.args.set l.vcpu l.redists (view c.args.pass.now).held (view l.pass).held (omega (arith, end, past, are)) (omega (arith, end, most))
+    l.invariant.taken).0
