@@ -79,7 +79,7 @@ def entries(report):
 def front_of(report, whole):
     """The legs before the line `refused memory`, or None where this is no report that was cut so."""
     front, line = report[: -len("refused memory\n")], report[-len("refused memory\n") :]
-    migrated = front == "" or front.endswith("migrated\n")
+    migrated = front == "" or front.splitlines()[-1].startswith("migrated")
     is_cut = line == "refused memory\n" and migrated and entries(front) == entries(whole[: len(front)])
     return front if is_cut else None
 
