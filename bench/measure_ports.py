@@ -7,7 +7,7 @@ that run one after another don't disturb each other, and are faster. With FIGURE
 file, which plot.py draws. `--real-time` runs at a real-time priority (chrt), for a machine that has other work.
 
 Build both first:
-    cd crates/its_bench && rt run && cd ../..
+    .ci/run        (or `rt run` in crates/its_bench)
     rustc --edition 2021 -C opt-level=3 -o ports_peer bench/ports_peer.rs
 
 usage: measure_ports.py ITS_BENCH PORTS_PEER [--real-time] [--rounds N] [FIGURES]

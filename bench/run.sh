@@ -9,7 +9,7 @@
 # pokes        100,000, 200,000 and 400,000 writes of guest memory; `pokes-track` with a second memory
 # map-KIND-ORDER  16,000, 32,000 and 64,000 commands that map devices, or events of one device, in an order
 #
-# The program is built by `cd crates/its_cli && rt run -- run < stdin`, which leaves it as crates/its_cli/out/its_cli.
+# The gate (.ci/run) leaves the program as crates/its_cli/out/its_cli.
 # Where a file FIGURES is named, its rows are written anew; plot.py draws them.
 #
 # The calls of the machine that threads share are measured one by one by measure_ports.py.

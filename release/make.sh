@@ -5,7 +5,7 @@
 # usage: release/make.sh GATE_LOG [FOLDER]
 #
 # GATE_LOG is what `.ci/run` printed for this commit; that it is of this commit is for the caller to know.
-# The program is what `rt run` leaves in crates/its_cli/out, the library what `rt lib` leaves in
+# The program is what the gate leaves in crates/its_cli/out, the library what `rt lib` leaves in
 # crates/its_c/out; PROGRAM and LIBRARY in the environment name other files. The version is the first of
 # CHANGELOG.md. The archive is FOLDER/bacciledru-VERSION.tar.gz, in release/out without a FOLDER.
 set -euo pipefail
