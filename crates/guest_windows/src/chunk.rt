@@ -64,7 +64,9 @@ impl Chunk {
     /// Whether a page is held.
     pub fn has_page(&self, page: usize) -> bool
         requires { page < 4096 }
-        ensures { result ≡ false → slice_index_or (page_rows self.now.pages.items) page [] ≡ [] }
+        ensures none { result ≡ false → slice_index_or (page_rows self.now.pages.items) page [] ≡ [] }
+        ensures held { result ≡ true
+            → length (slice_index_or (page_rows self.now.pages.items) page []) ≡ 65536 }
     {
         self.is_held() && self.pages[page].is_held()
     }
