@@ -69,7 +69,8 @@ pub(crate) fn put_taken(machine: &Machine, pass: &mut Pass, hands: &mut Hands)
     ensures its { hands.new.its ≡ hands.old.its }
     ensures translator { hands.new.translator ≡ hands.old.translator }
     ensures home { view pass.new ≡ holding (view pass.old)
-        (out (part.Maps hands.old.its) (content.Maps (translator_of hands.old.translator.value)) ∷ []) }
+        (out (part.Maps hands.old.its)
+        (content.Maps (translator_of hands.old.translator.value)) ∷ []) }
 {
     put_redists(machine, pass, hands.set, &mut hands.redists);
     put_cached(machine, pass, hands.its, &mut hands.cached);
