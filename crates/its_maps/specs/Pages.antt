@@ -1,6 +1,6 @@
 -- Pages of places, as the map from numbers that they show.
-use Rattle.std.specs.Prelude.{ℕ, suc, ◌*◌, ◌<◌, List, [], ◌∷◌, length, take, Option, Some, None, IsSome, slice_index_or, ◌≡◌}
-use Rattle.std.specs.List.{flat_map}
+use Rattle.std.specs.Prelude.{ℕ, suc, ◌+◌, ◌*◌, ◌<◌, ◌≤◌, List, [], ◌∷◌, length, take, Option, Some, None, IsSome, slice_index_or, ◌≡◌}
+use Rattle.std.specs.List.{flat_map, AllByRecursion}
 use Rattle.std.specs.Ordering.{nat_cmp}
 use Rattle.std.specs.FinMap as finmap
 use Rattle.std.specs.FinMap.{FinMap, from_sorted}
@@ -34,3 +34,12 @@ NumbersFit pages = (number : ℕ) → IsSome (finmap.get pages number) → numbe
 -- the same of a list of pages
 abbrev pub EachNumberFits : {P : Type 0} → List (ℕ × P) → Type 0
 EachNumberFits {P} pages = (i : ℕ) (d : ℕ × P) → i < length pages → (slice_index_or pages i d).0 * PLACES < 4294967296
+
+-- pages follow each other, and their keys are from one on
+abbrev pub FollowFrom : {P : Type 0} → ℕ → List (ℕ × P) → Type 0
+FollowFrom key [] = Unit {0}
+FollowFrom key (page ∷ pages) = (key ≤ page.0 * PLACES) × FollowFrom (page.0 * PLACES + PLACES) pages
+
+-- no entry is of an earlier key
+abbrev pub AllFrom : {V : Type 0} → ℕ → List (ℕ × V) → Type 0
+AllFrom key entries = AllByRecursion (λ e. key ≤ e.0) entries

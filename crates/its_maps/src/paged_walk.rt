@@ -15,23 +15,26 @@ pub struct PagedWalk<'a, V> {
 
 impl<'a, V> Model for PagedWalk<'a, V> {
     ghost use Rattle.std.specs.Prelude.{ℕ, ◌+◌, ◌≤◌, List, ◌++◌, length};
-    ghost use Rattle.its_maps.specs.Pages.{slots_from, paged, EachNumberFits};
+    ghost use Rattle.its_maps.specs.Pages.{slots_from, paged, EachNumberFits, FollowFrom};
 
     ghost Value = { List (ℕ × V) };
 
     ghost view = { λ w. slots_from w.key w.slots.now ++ paged w.pages.now };
 
     ghost invariant = { λ w. (w.key + length w.slots.now ≤ 4294967296)
-        × EachNumberFits w.pages.now };
+        × EachNumberFits w.pages.now
+        × FollowFrom (w.key + length w.slots.now) w.pages.now };
 }
 
 impl<'a, V> PagedWalk<'a, V> {
-    ghost use Rattle.std.specs.Prelude.{◌≡◌};
-    ghost use Rattle.its_maps.specs.Pages.{paged, EachNumberFits};
+    ghost use Rattle.std.specs.Prelude.{◌≡◌, ◌+◌, ◌<◌, ◌≤◌, ◌++◌, length};
+    ghost use Rattle.its_maps.specs.Pages.{slots_from, paged, EachNumberFits};
+    ghost use Rattle.its_maps.specs.Pages.{AllFrom, FollowFrom};
 
     /// The entries of pages by number.
     pub fn new(pages: &'a [(u32, Page<V>)]) -> Self
-        requires { EachNumberFits pages.now }
+        requires fit { EachNumberFits pages.now }
+        requires follow { FollowFrom 0 pages.now }
         ensures { result ≡ paged pages.now }
     {
         PagedWalk {
@@ -63,5 +66,22 @@ impl<'a, V> PagedWalk<'a, V> {
                 }
             }
         }
+    }
+
+    /// What is left of a page whose next place is a key's, at most so many places. Of a page whose
+    /// next place is another key's it gives none.
+    pub fn places(&mut self, key: u32, most: usize) -> &'a [Option<V>]
+        ensures walk { self.old ≡ slots_from key result.now ++ self.new }
+        ensures most { length result.now ≤ most }
+        ensures keys { key + length result.now ≤ 4294967296 }
+        ensures after { 0 < length result.now → AllFrom (key + length result.now) self.new }
+    {
+        if self.key != u64::from(key) {
+            return &[];
+        }
+        let (places, left) = self.slots.split_at(most.min(self.slots.len()));
+        self.slots = left;
+        self.key += places.len() as u64;
+        places
     }
 }

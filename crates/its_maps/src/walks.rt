@@ -68,6 +68,25 @@ impl<'a> Iterator for EventWalk<'a> {
     }
 }
 
+impl<'a> EventWalk<'a> {
+    ghost use Rattle.std.specs.Prelude.{◌≡◌, ◌+◌, ◌<◌, ◌≤◌, ◌++◌, length};
+    ghost use Rattle.its_maps.specs.Pages.{slots_from, AllFrom};
+
+    /// The next places from an EventID on, at most so many, as they lie in memory: all that the
+    /// walk has there. A walk that can't hand out places from there on gives none.
+    pub fn places(&mut self, ev: EventId, most: usize) -> &'a [Option<Event>]
+        ensures walk { self.old ≡ slots_from ev.0 result.now ++ self.new }
+        ensures most { length result.now ≤ most }
+        ensures keys { ev.0 + length result.now ≤ 4294967296 }
+        ensures after { 0 < length result.now → AllFrom (ev.0 + length result.now) self.new }
+    {
+        if !self.few.is_empty() {
+            return &[];
+        }
+        self.many.places(ev.0, most)
+    }
+}
+
 /// The mapped collections.
 #[derive(Drop)]
 pub struct CollectionWalk<'a> {

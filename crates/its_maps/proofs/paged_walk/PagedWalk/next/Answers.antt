@@ -1,7 +1,7 @@
-use Rattle.std.proofs.Common.{◌*◌, ◌<◌, ◌∙◌, subst, arith}
-use Rattle.its_maps.specs.Pages.{EachNumberFits}
+use Rattle.std.proofs.Common.{◌+◌, ◌*◌, ◌<◌, length, ◌∙◌, subst, arith}
+use Rattle.its_maps.specs.Pages.{EachNumberFits, FollowFrom}
 use Rattle.its_maps.specs.declared.page.TheConstants.{PLACES}
-use Rattle.its_maps.proofs.Walked.{page_opens, first_number, rest_numbers}
+use Rattle.its_maps.proofs.Walked.{page_opens, later_follow, first_number, rest_numbers}
 use Rattle.its_maps.proofs.paged_walk.PagedWalk.next.Goals as goal
 
 pub overflow_mul-page : goal.overflow_mul-page
@@ -24,4 +24,7 @@ loop-slot-preserved g c =
           c.slots-self-inside.ensures.length,
       omega (arith, small, c.from-self-inside.ensures, c.slots-self-inside.ensures.length),
       rest_numbers d rest each,
+      later_follow (d.0 * PLACES + PLACES) (c.from-self-inside.result + length c.slots-self-inside.result.now) rest
+          (subst (FollowFrom (c.loop-slot.self-inside.key + length c.loop-slot.self-inside.slots.now)) is inv.3).1
+          (omega (arith, c.from-self-inside.ensures, c.slots-self-inside.ensures.length)),
     )

@@ -1,5 +1,5 @@
 use Rattle.std.proofs.Common.{◌≡◌, ◌+◌, ◌*◌, ◌≤◌, ◌++◌, length}
-use Rattle.its_maps.specs.Pages.{slots_from, paged, EachNumberFits}
+use Rattle.its_maps.specs.Pages.{slots_from, paged, EachNumberFits, FollowFrom}
 use Rattle.its_maps.specs.declared.page.TheConstants.{PLACES}
 use Rattle.its_maps.proofs.paged_walk.PagedWalk.next.Given as goal
 
@@ -10,6 +10,7 @@ invariant-loop-slot g l =
     l.self-inside.slots.now ++ paged l.self-inside.pages.now)
     × (l.self-inside.key + length l.self-inside.slots.now ≤ 4294967296)
     × EachNumberFits l.self-inside.pages.now
+    × FollowFrom (l.self-inside.key + length l.self-inside.slots.now) l.self-inside.pages.now
 
 abbrev pub decreases-loop-slot : goal.decreases-loop-slot
 decreases-loop-slot g l = length l.self-inside.slots.now + (PLACES + 1) * length l.self-inside.pages.now
