@@ -12,3 +12,4 @@ pub mod Marked
 pub mod Listed
 pub mod Splits
 pub mod Blocks
+pub mod PlaceWords

@@ -1,5 +1,5 @@
 -- One rising pass over the places of a table, beside the entries that are mapped.
-use Rattle.std.specs.Prelude.{◌≡◌, ◌≤◌, ◌<◌, ◌%◌, ◌^◌, ℕ, Bool, false, nat_lt, ◌==◌, if◌then◌else◌, List, [], ◌∷◌, Option, Some, None}
+use Rattle.std.specs.Prelude.{◌≡◌, ◌≤◌, ◌<◌, ◌%◌, ◌^◌, ℕ, suc, Bool, false, nat_lt, ◌==◌, if◌then◌else◌, List, [], ◌∷◌, Option, Some, None}
 use Rattle.std.specs.List.{AllByRecursion}
 use Rattle.std.specs.Ordering.{nat_cmp}
 use Rattle.std.specs.FinMap as finmap
@@ -77,3 +77,14 @@ PassedEvents = Passed FitsEvent pack_event 65535
 abbrev pub events_with : Option (EventId × Event) → List (ℕ × Event) → List (ℕ × Event)
 events_with None rest = []
 events_with (Some e) rest = (e.0.0, e.1) ∷ rest
+
+-- the first number that has an event from one on: one of places, or else one after them
+abbrev pub first_from : ℕ → List (Option Event) → Option ℕ → Option ℕ
+first_from id [] after = after
+first_from id (None ∷ slots) after = first_from (suc id) slots after
+first_from id (Some event ∷ slots) after = Some id
+
+-- the words of places, the first of which is that of a number, before the next event after them
+abbrev pub slot_words : ℕ → List (Option Event) → Option ℕ → List ℕ
+slot_words id [] after = []
+slot_words id (slot ∷ slots) after = packed_if pack_event slot (distance 65535 id (first_from (suc id) slots after)) ∷ slot_words (suc id) slots after

@@ -1,20 +1,22 @@
 //! The interrupt translation tables.
 
-ghost use Rattle.std.specs.Prelude.{◌≡◌, ◌<◌, ◌≤◌, ◌^◌, ℕ, OnOk};
+ghost use Rattle.std.specs.Prelude.{◌≡◌, ◌+◌, ◌<◌, ◌≤◌, ◌^◌, ◌∷◌, [], ℕ, OnOk, length};
+ghost use Rattle.std.specs.Prelude.{slice_index};
 ghost use Rattle.std.specs.FinMap.{entries};
 ghost use Rattle.std.specs.List.{AllByRecursion};
 ghost use Rattle.its_types.specs.Maps.{events_at};
 ghost use Rattle.its_plain.specs.Saved.{put_words, put_tables};
-ghost use Rattle.table_save.specs.Pass.{FitsDevice, FitsEvent, event_entry_word};
+ghost use Rattle.table_save.specs.Pass.{FitsDevice, FitsEvent, event_entry_word, events_with};
+ghost use Rattle.table_save.specs.Pass.{first_key, RisesFrom, PassedEvents};
 ghost use Rattle.table_save.specs.Tables.{itt_tables};
 
+use crate::slots::{put_slots, word_of};
 use crate::words::{BLOCK, put_block, put_zeros};
 use guest_windows::Memory;
 use its_maps::{EventWalk, Maps};
 use its_types::{Device, DeviceId, Event, EventId};
 use std::alloc::AllocError;
 use std::marker::Model;
-use table_entries::Ite;
 
 /// A device's events that are not written yet, by rising EventID.
 #[derive(Drop)]
@@ -34,13 +36,13 @@ impl<'a> Model for EventFront<'a> {
 }
 
 impl<'a> EventFront<'a> {
-    ghost use Rattle.std.specs.Prelude.{◌≡◌, ◌+◌, ◌<◌, ◌≤◌, ◌^◌, ℕ, OnOk, length, slice_index};
+    ghost use Rattle.std.specs.Prelude.{◌≡◌, ◌+◌, ◌<◌, ◌≤◌, ◌^◌, ℕ, OnOk, false, length};
+    ghost use Rattle.std.specs.Prelude.{slice_index};
     ghost use Rattle.std.specs.List.{AllByRecursion};
     ghost use Rattle.its_types.specs.Maps.{events_at};
-    ghost use Rattle.its_plain.specs.Saved as saved;
     ghost use Rattle.its_plain.specs.Saved.{put_words};
-    ghost use Rattle.table_save.specs.Pass.{RisesFrom, FitsEvent, event_entry_word, first_key};
-    ghost use Rattle.table_save.specs.Pass.{PassedEvents, begins_below, past};
+    ghost use Rattle.table_save.specs.Pass.{RisesFrom, FitsEvent, event_entry_word};
+    ghost use Rattle.table_save.specs.Pass.{PassedEvents, begins_below};
 
     fn new(maps: &'a Maps, dev: DeviceId) -> EventFront<'a>
         ensures { result ≡ events_at maps.now.maps dev.0 }
@@ -50,25 +52,45 @@ impl<'a> EventFront<'a> {
         EventFront { first, rest }
     }
 
-    // The word of a place, at which the events begin at the earliest; the event there is then
-    // written.
-    fn word_at(&mut self, id: u32) -> u64
+    // The words of the next places, of which there is one at least, the first of them that at which
+    // the events begin at the earliest. It answers how many places it wrote.
+    fn next_words(&mut self, id: u32, words: &mut [u64]) -> usize
+        requires some { 0 < length words.old }
+        requires few { id + length words.old < 2 ^ 32 }
         requires rises { RisesFrom id self.old }
         requires fit { AllByRecursion FitsEvent self.old }
-        ensures word { result ≡ event_entry_word self.old id }
-        ensures rest { self.new ≡ past id self.old }
+        ensures some { 0 < result }
+        ensures most { result ≤ length words.old }
+        ensures length { length words.new ≡ length words.old }
+        ensures words { (k : ℕ) → k < result
+            → slice_index words.new k ≡ event_entry_word self.old (id + k) }
+        ensures rest { PassedEvents (id + result) self.old self.new }
     {
         match self.first {
             Some((ev, event)) if ev.0 == id => {
-                self.first = self.rest.next();
-                let entry = Ite {
-                    next: self.distance(id),
-                    intid: event.intid,
-                    icid: event.icid,
-                };
-                entry.pack()
+                let (next, count) = put_page(&mut self.rest, id, event, words);
+                self.first = next;
+                count
             }
-            _ => 0,
+            _ => {
+                let gap = self.gap(id, words.len());
+                words[..gap].fill(0);
+                gap
+            }
+        }
+    }
+
+    // How many places are before the first event, of so many at most.
+    fn gap(&self, id: u32, most: usize) -> usize
+        requires few { id + most < 2 ^ 32 }
+        requires rises { RisesFrom id self.now }
+        ensures most { result ≤ most }
+        ensures none { begins_below (id + result) self.now ≡ false }
+        ensures some { 0 < most → begins_below (id + 1) self.now ≡ false → 0 < result }
+    {
+        match self.first {
+            Some((ev, _)) => most.min((ev.0 - id) as usize),
+            None => most,
         }
     }
 
@@ -82,8 +104,9 @@ impl<'a> EventFront<'a> {
             → slice_index words.new k ≡ event_entry_word self.old (id + k) }
         ensures rest { PassedEvents (id + length words.old) self.old self.new }
     {
-        for i in 0..words.len() {
-            words[i] = self.word_at(id + i as u32);
+        let mut done = 0;
+        while done < words.len() {
+            done += self.next_words(id + done as u32, &mut words[done..]);
         }
     }
 
@@ -118,17 +141,45 @@ impl<'a> EventFront<'a> {
     {
         matches!(self.first, Some((ev, _)) if ev.0 < id)
     }
+}
 
-    // How far the first one is, at most 65535, or 0 where there is none.
-    fn distance(&self, id: u32) -> u16
-        requires { RisesFrom (id + 1) self.now }
-        ensures { result ≡ saved.distance 65535 id (first_key self.now) }
-    {
-        match self.first {
-            Some((ev, _)) => (ev.0 - id).min(65535) as u16,
-            None => 0,
-        }
-    }
+// The word of an event, and those of the places after it on its page, as far as there are words. It
+// answers the next event, and how many places it wrote.
+fn put_page(
+    rest: &mut EventWalk<'_>,
+    id: u32,
+    event: Event,
+    words: &mut [u64],
+) -> (Option<(EventId, Event)>, usize)
+    requires some { 0 < length words.old }
+    requires few { id + length words.old < 2 ^ 32 }
+    requires rises { RisesFrom (id + 1) rest.old }
+    requires fit { AllByRecursion FitsEvent ((id, event) ∷ rest.old) }
+    ensures some { 0 < result.1 }
+    ensures most { result.1 ≤ length words.old }
+    ensures length { length words.new ≡ length words.old }
+    ensures words { (k : ℕ) → k < result.1
+        → slice_index words.new k ≡ event_entry_word ((id, event) ∷ rest.old) (id + k) }
+    ensures rest { PassedEvents (id + result.1) ((id, event) ∷ rest.old)
+        (events_with result.0 rest.new) }
+{
+    let slots = rest.places(EventId(id + 1), words.len() - 1);
+    let next = rest.next();
+    let first = put_slots(
+        &mut words[1..1 + slots.len()],
+        slots,
+        id + 1,
+        event_id(next),
+    );
+    words[0] = word_of(id, event, first);
+    (next, 1 + slots.len())
+}
+
+fn event_id(entry: Option<(EventId, Event)>) -> Option<u32>
+    ensures { result ≡ first_key (events_with entry []) }
+{
+    let (ev, _) = entry?;
+    Some(ev.0)
 }
 
 /// Writes the table of each mapped device.

@@ -19,6 +19,7 @@ mod pages;
 mod pending;
 mod room;
 mod saving;
+mod slots;
 mod stretches;
 mod thin;
 mod words;
