@@ -1,5 +1,5 @@
 -- Words of a table, written one after another.
-use Rattle.std.proofs.Common.{◌≡◌, ℕ, zero, suc, ◌+◌, ◌<◌, List, [], ◌∷◌, ◌++◌, refl, ap, ◌∙◌, arith}
+use Rattle.std.proofs.Common.{◌≡◌, ℕ, zero, suc, ◌<◌, List, [], ◌∷◌, ◌++◌, refl, ap, ◌∙◌, arith}
 use Rattle.guest_windows.specs.Windows.{Window}
 use Rattle.baser_place.specs.Places.{entry_address}
 use Rattle.its_plain.specs.Saved.{Words, put_word, put_words, put_tables}

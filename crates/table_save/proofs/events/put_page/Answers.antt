@@ -1,8 +1,7 @@
-use Rattle.std.proofs.Common.{◌≡◌, ℕ, ◌+◌, ◌≤◌, ◌∷◌, ◌-◌, length, refl, subst, sym, ap, ◌∙◌, List, arith}
+use Rattle.std.proofs.Common.{◌+◌, ◌≤◌, ◌∷◌, ◌-◌, length, refl, subst, sym, ap, ◌∙◌}
 use Rattle.std.specs.Prelude.{IfSome}
-use Rattle.its_types.specs.declared.translation.Event.{Event}
 use Rattle.its_plain.specs.Saved.{distance}
-use Rattle.table_save.specs.Pass.{RisesFrom, FitsEvent, first_key, first_from, pack_event, events_with, Passed}
+use Rattle.table_save.specs.Pass.{RisesFrom, FitsEvent, first_key, first_from, pack_event, Passed}
 use Rattle.table_save.proofs.PlaceWords.{rest_rises, page_first, page_passed, page_words, taken, taken_first, words_long}
 use Rattle.table_save.proofs.events.put_page.Goals as goal
 

@@ -1,8 +1,6 @@
-use Rattle.std.proofs.Common.{◌≡◌, ℕ, ◌+◌, ◌-◌, ◌≤◌, List, length, drop, Option, sym, subst, arith}
+use Rattle.std.proofs.Common.{◌+◌, ◌-◌, ◌≤◌, sym, subst, arith}
 use Rattle.std.specs.Prelude.{IfSome}
-use Rattle.its_types.specs.declared.translation.Event.{Event}
-use Rattle.table_save.specs.Pass.{first_from}
-use Rattle.table_save.proofs.PlaceWords.{first_later, slot_fits, rest_later}
+use Rattle.table_save.proofs.PlaceWords.{slot_fits, rest_later}
 use Rattle.table_save.proofs.slots.put_slots.Goals as goal
 
 pub word_of-word-requires-clause-some : goal.word_of-word-requires-clause-some
