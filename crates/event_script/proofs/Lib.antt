@@ -13,3 +13,4 @@ pub mod GoodDescription
 pub mod GoodDoorbells
 pub mod GoodBody
 pub mod Bounds
+pub mod CallLists

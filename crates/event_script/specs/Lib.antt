@@ -1,4 +1,5 @@
 pub mod Text
+pub mod CallList
 pub mod Outcome
 pub mod Fields
 pub mod Words

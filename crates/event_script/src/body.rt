@@ -3,6 +3,7 @@ ghost use Rattle.std.specs.Prelude.{◌≡◌, [], map, OnOk};
 ghost use Rattle.event_script.specs.Outcome.{Gives};
 ghost use Rattle.event_script.specs.Body as spec;
 
+use crate::call_list::Calls;
 use crate::draft::{Draft, MOST_CALLS, MOST_LEGS, MOST_PHASES, MOST_THREADS, Stage};
 use crate::fault::{Kind, LineError, ensure};
 use crate::fields::arg;
@@ -43,7 +44,7 @@ impl Draft {
         ensures { OnOk result
             (self.new ≡ record self.old { threads = spec.threads_so_far self.old; calls = [] }) }
     {
-        let calls = mem::replace(&mut self.calls, Listed::new(alloc));
+        let calls = mem::replace(&mut self.calls, Calls::new(alloc));
         if self.stage == Stage::Thread {
             self.threads.push(calls)?;
         }

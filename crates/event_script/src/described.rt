@@ -5,6 +5,7 @@ ghost use Rattle.event_script.specs.Described as spec;
 ghost use Rattle.event_script.specs.Description as description;
 ghost use Rattle.event_script.specs.Script as script;
 
+use crate::call_list::Calls;
 use crate::draft::{Draft, IdBits, Stage};
 use crate::fault::{Kind, LineError};
 use crate::places::PendingTables;
@@ -82,7 +83,7 @@ impl Draft {
             moves: Listed::new(alloc),
             phases: Listed::new(alloc),
             threads: Listed::new(alloc),
-            calls: Listed::new(alloc),
+            calls: Calls::new(alloc),
         }
     }
 

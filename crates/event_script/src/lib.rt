@@ -2,6 +2,7 @@
 #![tactic(auto)]
 
 mod body;
+mod call_list;
 mod calls;
 mod commands;
 mod described;
@@ -20,6 +21,7 @@ mod script;
 mod text;
 mod words;
 
+pub use call_list::{CallIter, Calls};
 pub use fault::{Kind, ParseError, ScriptFault};
 pub use laws::{
     checked_scripts_are_within_limits, messages_have_a_translator, scripts_are_within_limits,

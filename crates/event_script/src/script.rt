@@ -1,9 +1,10 @@
 //! What a script says.
-use its_plain::{Call, Desc};
+use crate::call_list::Calls;
+use its_plain::Desc;
 use its_types::Listed;
 
 /// The calls of a thread.
-pub type Thread = Listed<Call>;
+pub type Thread = Calls;
 
 /// Threads that run beside each other.
 pub type Phase = Listed<Thread>;

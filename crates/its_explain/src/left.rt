@@ -1,21 +1,23 @@
 //! The calls of a leg that aren't made yet.
 use crate::call_lines::CallLine;
-use event_script::Leg;
+use event_script::{Calls, Leg};
 use its_plain::Call;
 use std::alloc::{AllocError, Global};
 
 /// The calls of a thread that aren't made yet, and their lines.
 #[derive(Clone, Copy)]
 struct ThreadLeft<'a> {
-    calls: &'a [Call],
+    calls: &'a Calls,
+    /// How many of them were made.
+    made: usize,
     lines: &'a [CallLine],
 }
 
 /// A call that is made next, and its line.
 #[derive(Clone, Copy)]
-pub struct Next<'a> {
+pub struct Next {
     /// What it asks.
-    pub call: &'a Call,
+    pub call: Call,
     /// Where it stands.
     pub line: CallLine,
 }
@@ -49,9 +51,12 @@ impl<'a> Left<'a> {
         for phase in leg.as_slice() {
             starts.push(threads.len())?;
             for thread in phase.as_slice() {
-                let calls = thread.as_slice();
-                let (own, later) = cut(rest, calls.len());
-                threads.push(ThreadLeft { calls, lines: own })?;
+                let (own, later) = cut(rest, thread.len());
+                threads.push(ThreadLeft {
+                    calls: thread,
+                    made: 0,
+                    lines: own,
+                })?;
                 rest = later;
             }
         }
@@ -64,7 +69,7 @@ impl<'a> Left<'a> {
 
     /// Takes the next call of a thread of a phase, both counted from 1, if it has one and no
     /// earlier phase has calls left.
-    pub fn take(&mut self, phase: usize, thread: usize) -> Option<Next<'a>> {
+    pub fn take(&mut self, phase: usize, thread: usize) -> Option<Next> {
         let start = *self.starts.get(phase.checked_sub(1)?)?;
         let at = start.checked_add(thread.checked_sub(1)?)?;
         if !self.reaches(start) {
@@ -86,7 +91,7 @@ impl<'a> Left<'a> {
     fn reaches(&mut self, start: usize) -> bool {
         for at in self.over..start {
             match self.threads.get(at) {
-                Some(thread) if thread.calls.is_empty() => self.over = at.saturating_add(1),
+                Some(thread) if thread.is_over() => self.over = at.saturating_add(1),
                 _ => return false,
             }
         }
@@ -101,7 +106,7 @@ impl<'a> Left<'a> {
     /// Where the first thread that has calls left goes on.
     pub fn first_line(&self) -> Option<u64> {
         for thread in &self.threads {
-            if !thread.calls.is_empty() {
+            if !thread.is_over() {
                 return Some(match thread.lines.first() {
                     Some(line) => line.number,
                     None => 0,
@@ -113,9 +118,13 @@ impl<'a> Left<'a> {
 }
 
 impl<'a> ThreadLeft<'a> {
-    fn next(&mut self) -> Option<Next<'a>> {
-        let (call, calls) = self.calls.split_first()?;
-        self.calls = calls;
+    fn is_over(&self) -> bool {
+        self.made >= self.calls.len()
+    }
+
+    fn next(&mut self) -> Option<Next> {
+        let call = self.calls.get(self.made)?;
+        self.made = self.made.saturating_add(1);
         let line = match self.lines.split_first() {
             Some((line, lines)) => {
                 self.lines = lines;

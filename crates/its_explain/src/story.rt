@@ -108,9 +108,9 @@ impl<'a> Story<'a> {
             out.push_str("This thread has no call left in the first phase that has calls left.\n")?;
             return Ok(Told::Wrong);
         };
-        self.taken = self.command_for(next.call)?;
-        let reply = self.machine.answer(self.alloc, next.call)?;
-        let text = answered_text(self.alloc, next.call, &reply)?;
+        self.taken = self.command_for(&next.call)?;
+        let reply = self.machine.answer(self.alloc, &next.call)?;
+        let text = answered_text(self.alloc, &next.call, &reply)?;
         if !says(text.as_str(), entry.text) {
             push_difference(out, line)?;
             return self.tell_right(out, entry, &next, &reply);
@@ -129,7 +129,7 @@ impl<'a> Story<'a> {
         next: &Next,
         reply: &Reply,
     ) -> Result<Told, AllocError> {
-        let text = answered_text(self.alloc, next.call, reply)?;
+        let text = answered_text(self.alloc, &next.call, reply)?;
         let place = self.places;
         writeln!(
             out,
@@ -151,14 +151,14 @@ impl<'a> Story<'a> {
             push_trimmed(out, text)?;
             return out.push_str("`\n");
         }
-        push_reply(out, &self.known, next.call, reply, self.taken.as_ref())?;
+        push_reply(out, &self.known, &next.call, reply, self.taken.as_ref())?;
         out.push_str("\n")
     }
 
     /// Keeps what a call's line wrote or mapped.
     fn remember(&mut self, next: &Next, reply: &Reply) -> Result<(), AllocError> {
         self.places = self.places.saturating_add(1);
-        match next.call {
+        match &next.call {
             Call::Poke { addr, bytes } | Call::Dma { addr, bytes, .. } => {
                 if *reply == Reply::Ok {
                     let count = bytes.as_slice().len() as u64;

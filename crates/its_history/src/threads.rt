@@ -7,7 +7,8 @@ ghost use Rattle.its_history.specs.Histories.{ThreadGives, MergeGives};
 
 use crate::report::answered_text;
 use crate::trace::{EntryLine, Leg, Trace};
-use its_plain::{Call, Reply};
+use event_script::Calls;
+use its_plain::Reply;
 use its_types::{Listed, Placed};
 use std::alloc::{AllocError, Global};
 
@@ -20,7 +21,7 @@ pub struct ThreadList<'a> {
     /// Counted from 1 in each phase.
     pub thread: u32,
     /// All calls of the thread, made or not.
-    pub calls: &'a [Call],
+    pub calls: &'a Calls,
     /// At most as many as there are calls, in their order.
     pub replies: Listed<Placed<Reply>>,
 }
@@ -83,7 +84,7 @@ fn push_list(alloc: Global, lines: &mut Vec<EntryLine>, list: &ThreadList) -> Re
             place: placed.place,
             phase: list.phase,
             thread: list.thread,
-            text: answered_text(alloc, call, &placed.reply)?,
+            text: answered_text(alloc, &call, &placed.reply)?,
         })?;
     }
     Ok(())

@@ -31,7 +31,7 @@ const TAKE: Call = Call::Take(Vcpu(2));
 fn repeated(alloc: Global, call: &Call, count: u32) -> Result<Thread, AllocError>
     ensures { IfOk result (λ calls. AllByRecursion (λ c. c ≡ call.now) calls) }
 {
-    let mut calls = Listed::new(alloc);
+    let mut calls = Thread::new(alloc);
     for _ in 0..count {
         calls.push(*call)?;
     }

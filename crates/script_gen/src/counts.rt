@@ -46,7 +46,7 @@ impl Counts {
         ensures { self.new ≡ spec.with_replies list.now.calls.now list.now.replies self.old }
     {
         for (call, placed) in list.calls.iter().zip(list.replies.as_slice()) {
-            self.add(call, &placed.reply);
+            self.add(&call, &placed.reply);
         }
     }
 

@@ -1,6 +1,5 @@
 //! Scripts that are generated.
-ghost use Rattle.std.specs.Prelude.{◌≡◌, ◌≤◌, IfOk, map};
-ghost use Rattle.std.specs.List.{range_with_len};
+ghost use Rattle.std.specs.Prelude.{◌≡◌, ◌≤◌, IfOk};
 ghost use Rattle.script_gen.specs.Laws.{IsAsked};
 ghost use Rattle.script_gen.specs.Generated as spec;
 ghost use Rattle.event_script.specs.Limits.{IsWithinLimits};
@@ -79,13 +78,11 @@ fn signal_phase(alloc: Global, signals: u32, threads: u32) -> Result<Phase, Allo
 fn signal_thread(alloc: Global, signals: u32, dev: u32) -> Result<Thread, AllocError>
     ensures { IfOk result (λ calls. calls ≡ spec.signal_thread signals dev) }
 {
-    Ok(Listed::from_vec(signal_calls(alloc, signals, dev)?))
-}
-
-fn signal_calls(alloc: Global, signals: u32, dev: u32) -> Result<Vec<Call>, AllocError>
-    ensures { IfOk result (λ v. v.items ≡ map (spec.signal_call dev) (range_with_len 0 signals)) }
-{
-    (0..signals).map(|i| signal_call(dev, i)).collect(alloc)
+    let mut calls = Thread::new(alloc);
+    for i in 0..signals {
+        calls.push(signal_call(dev, i))?;
+    }
+    Ok(calls)
 }
 
 fn signal_call(dev: u32, i: u32) -> Call

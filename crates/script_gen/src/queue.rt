@@ -2,9 +2,10 @@
 ghost use Rattle.std.specs.Prelude.{◌≡◌, ◌<◌, ◌^◌, ◌+◌, ◌++◌, OnOk, length};
 ghost use Rattle.script_gen.specs.Generated as spec;
 
+use event_script::Calls;
 use its_command::{Command, encode};
 use its_plain::{Bytes64, Call};
-use its_types::{Addr, Listed};
+use its_types::Addr;
 use std::alloc::{AllocError, Global};
 
 // Where the command queue stands, and how many commands it has room for.
@@ -34,7 +35,7 @@ fn write_call(off: u32, value: u64) -> Call
 }
 
 /// Gives the translator its tables and its queue, and enables it.
-pub fn push_register_writes(calls: &mut Listed<Call>) -> Result<(), AllocError>
+pub fn push_register_writes(calls: &mut Calls) -> Result<(), AllocError>
     ensures { OnOk result (calls.new ≡ calls.old ++ spec.register_writes) }
 {
     calls.push(write_call(GITS_BASER0, 0x8107_0000_8000_0200))?;
@@ -56,7 +57,7 @@ fn offset_of(k: u32) -> u64
 }
 
 // Writes the k-th command to the queue, announces it, and has it taken.
-fn push_command(calls: &mut Listed<Call>, k: u32, command: &Command) -> Result<(), AllocError>
+fn push_command(calls: &mut Calls, k: u32, command: &Command) -> Result<(), AllocError>
     requires { k < 2 ^ 31 }
     ensures { OnOk result (calls.new ≡ calls.old ++ spec.command_calls k command.now) }
 {
@@ -69,11 +70,7 @@ fn push_command(calls: &mut Listed<Call>, k: u32, command: &Command) -> Result<(
 }
 
 /// The same of commands one after another, of which the first is the k-th.
-pub fn push_commands(
-    calls: &mut Listed<Call>,
-    k: u32,
-    commands: &[Command],
-) -> Result<(), AllocError>
+pub fn push_commands(calls: &mut Calls, k: u32, commands: &[Command]) -> Result<(), AllocError>
     requires { k + length commands.now < 2 ^ 31 }
     ensures { OnOk result (calls.new ≡ calls.old ++ spec.queued k commands.now) }
 {

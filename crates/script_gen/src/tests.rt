@@ -16,7 +16,7 @@ fn phases(script: &Script) -> &[Phase] {
 fn call_at(script: &Script, phase: usize, thread: usize, k: usize) -> Option<Call> {
     let threads = phases(script).get(phase)?;
     let calls = threads.as_slice().get(thread)?;
-    calls.as_slice().get(k).copied()
+    calls.get(k)
 }
 
 // How many signals there are, and how many steps.
@@ -25,7 +25,7 @@ fn signals_and_steps(script: &Script) -> (usize, usize) {
     let mut steps = 0usize;
     for phase in phases(script) {
         for thread in phase.as_slice() {
-            for call in thread.as_slice() {
+            for call in thread.iter() {
                 match call {
                     Call::Signal { .. } => signals = signals.saturating_add(1),
                     Call::Step { .. } => steps = steps.saturating_add(1),

@@ -6,7 +6,8 @@ ghost use Rattle.script_threads.specs.Jobs.{IsReady, Ran, Worked};
 
 use crate::ask::call_once;
 use crate::stop::Stop;
-use its_plain::{Call, Reply};
+use event_script::Calls;
+use its_plain::Reply;
 use its_turns::{Machine, Pass};
 use its_types::{Gate, Placed};
 use std::alloc::Global;
@@ -19,7 +20,7 @@ pub struct Job<'a> {
     /// The thread's own.
     pub pass: Pass,
     /// All calls of the thread.
-    pub calls: &'a [Call],
+    pub calls: &'a Calls,
     /// The first calls' replies, each with its place.
     pub done: Vec<Placed<Reply>>,
     /// None where every call was made.
@@ -33,7 +34,7 @@ fn ask_all<R: Wait, G: Gate>(
     machine: &Machine,
     pass: &mut Pass,
     gate: &G,
-    calls: &[Call],
+    calls: &Calls,
     done: &mut Vec<Placed<Reply>>,
 ) -> Option<Stop>
     requires of { IsOf machine.now pass.old }
@@ -44,8 +45,9 @@ fn ask_all<R: Wait, G: Gate>(
     ensures of { IsOf machine.now pass.new }
     ensures ran { Ran (view pass.old) calls.now result done.new.items (view pass.new) }
 {
-    for call in calls {
-        match call_once(rt, alloc, machine, pass, gate, call) {
+    for index in 0..calls.len() {
+        let call = calls.at(index);
+        match call_once(rt, alloc, machine, pass, gate, &call) {
             Ok(placed) => {
                 if done.push(placed).is_err() {
                     unreachable!();

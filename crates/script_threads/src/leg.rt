@@ -9,7 +9,7 @@ ghost use Rattle.script_threads.specs.Legs.{RanLeg, StopsAtMemory, phase_lines};
 ghost use Rattle.script_threads.specs.Phases.{IsCutAtMemory, SomeThread};
 ghost use Rattle.script_threads.specs.Rests.{Rests};
 
-use crate::phase::{PhaseEnd, run_phase};
+use crate::phase::{PhaseEnd, run_phase, thread_at};
 use crate::stop::Stop;
 use event_script::{Phase, Thread};
 use its_history::ThreadList;
@@ -46,7 +46,7 @@ fn add_lists<'a>(
 {
     let mut thread = 0u32;
     for replies in lists {
-        let calls = threads[thread as usize].as_slice();
+        let calls = thread_at(threads, thread as usize);
         thread += 1;
         all.push(ThreadList {
             phase,

@@ -1,6 +1,6 @@
 //! The threads of a phase, beside each other.
 ghost use Rattle.std.specs.Prelude.{◌≡◌, ◌+◌, ◌^◌, ◌<◌, ◌≤◌, [], None, IfOk, OnErr};
-ghost use Rattle.std.specs.Prelude.{map, length, vec_len, vec_capacity};
+ghost use Rattle.std.specs.Prelude.{map, get_or, length, vec_len, vec_capacity};
 ghost use Rattle.std.specs.List.{AllByRecursion};
 ghost use Rattle.its_turns.specs.Machines.{view, IsOf};
 ghost use Rattle.script_threads.specs.Asks.{MayRun};
@@ -85,6 +85,14 @@ fn room_for(alloc: Global, threads: &[Thread]) -> Result<Vec<Vec<Placed<Reply>>>
     Ok(lists)
 }
 
+/// The calls of the thread at an index.
+pub fn thread_at(threads: &[Thread], index: usize) -> &Thread
+    requires { index < length threads.now }
+    ensures { result.now ≡ get_or threads.now index result.now }
+{
+    &threads[index]
+}
+
 /// Splits a pass off for each thread, in their order.
 fn split_all<'a>(
     machine: &Machine,
@@ -109,7 +117,7 @@ fn split_all<'a>(
     ensures new { AreNew (view root.old).root.made jobs.new.items }
 {
     for done in lists {
-        let calls = threads[jobs.len()].as_slice();
+        let calls = thread_at(threads, jobs.len());
         let pass = root.split(machine);
         let job = Job {
             pass,

@@ -1,8 +1,7 @@
 -- How the program's counts show which calls are left.
-use Rattle.std.proofs.Common.{◌≡◌, ◌≢◌, ℕ, zero, suc, ◌+◌, ◌-◌, ◌<◌, ◌≤◌, ltb, cond, eqb, Bool, false, not, List, [], ◌∷◌, length, take, drop, set, get_or}
-use Rattle.std.proofs.Common.{count_by, Option, Some, None, IfSome, is_some, option_map, Bor, refl, sym, ap, ◌∙◌, inl, inr, arith, lt-ltb, eq-eqb, ne_eqb}
+use Rattle.std.proofs.Common.{◌≡◌, ◌≢◌, ℕ, zero, suc, ◌+◌, ◌-◌, ◌<◌, ◌≤◌, cond, eqb, Bool, false, not, List, [], ◌∷◌, length, take, drop, set, get_or}
+use Rattle.std.proofs.Common.{count_by, Some, None, refl, sym, ap, ◌∙◌, arith, eq-eqb, ne_eqb}
 use Rattle.std.specs.Prelude.{slice_get}
-use Rattle.std.proofs.lemmas.Bool.{cases_lt, le-ltb, false≢true}
 use Rattle.std.proofs.lemmas.List.{take_all, get_or_read}
 use Rattle.std.proofs.lemmas.List.Recursion.{is_count_by}
 use Rattle.its_plain.specs.Runs.{Thread, Phase, Leg}
@@ -18,40 +17,12 @@ none_past (calls ∷ threads) [] i le = refl
 none_past (calls ∷ threads) (n ∷ ns) zero le = absurd (omega arith)
 none_past (calls ∷ threads) (n ∷ ns) (suc i) le = none_past threads ns i (omega arith)
 
-call_is : (threads : Phase) (ns : List ℕ) (i n : ℕ) (calls : Thread) → i < length threads → length ns ≡ length threads → calls ≡ get_or threads i calls
+pub call_is : (threads : Phase) (ns : List ℕ) (i n : ℕ) (calls : Thread) → i < length threads → length ns ≡ length threads → calls ≡ get_or threads i calls
     → n ≡ get_or ns i n → call_of threads ns i ≡ slice_get calls n
 call_is [] ns i n calls lt long at here = absurd (omega arith)
 call_is (x ∷ threads) [] i n calls lt long at here = absurd (omega arith)
 call_is (x ∷ threads) (m ∷ ns) zero n calls lt long at here = λ d. slice_get (sym at d) (sym here d)
 call_is (x ∷ threads) (m ∷ ns) (suc i) n calls lt long at here = call_is threads ns i n calls (omega arith) (omega arith) at here
-
-get_here : (cs : List Call) (n : ℕ) (c : Call) → n < length cs → c ≡ get_or cs n c → Some c ≡ slice_get cs n
-get_here [] n c lt at = absurd (omega arith)
-get_here (x ∷ cs) zero c lt at = ap (λ z. Some z) at
-get_here (x ∷ cs) (suc n) c lt at = get_here cs n c (omega arith) at
-
-get_past : (cs : List Call) (n : ℕ) → length cs ≤ n → None ≡ slice_get cs n
-get_past [] n le = refl
-get_past (x ∷ cs) zero le = absurd (omega arith)
-get_past (x ∷ cs) (suc n) le = get_past cs n (omega arith)
-
-get_is : (cs : List Call) (n : ℕ) (o : Option (Bor Call)) → is_some o ≡ ltb n (length cs) → IfSome o (λ x. x.now ≡ get_or cs n x.now)
-    → option_map (λ x. x.now) o ≡ slice_get cs n
-get_is cs n None e at =
-    elim (cases_lt n (length cs)) [
-      | inl lt ↦ absurd (false≢true (e ∙ lt-ltb n (length cs) lt))
-      | inr le ↦ get_past cs n le
-    ]
-get_is cs n (Some x) e at =
-    elim (cases_lt n (length cs)) [
-      | inl lt ↦ get_here cs n x.now lt at
-      | inr le ↦ absurd (false≢true (sym (e ∙ le-ltb n (length cs) le)))
-    ]
-
-pub looked_up : (threads : Phase) (ns : List ℕ) (i n : ℕ) (calls : Thread) (o : Option (Bor Call)) → i < length threads → length ns ≡ length threads
-    → calls ≡ get_or threads i calls → n ≡ get_or ns i n
-    → is_some o ≡ ltb n (length calls) → IfSome o (λ x. x.now ≡ get_or calls n x.now) → option_map (λ x. x.now) o ≡ call_of threads ns i
-looked_up threads ns i n calls o lt long at here e found = get_is calls n o e found ∙ sym (call_is threads ns i n calls lt long at here)
 
 -- ---- threads that have calls left
 

@@ -12,7 +12,7 @@ abbrev pub call_in : Cursor → ℕ → Option Call
 call_in c i = call_of (threads_of c.phases.now) c.answered.items i
 
 abbrev pub next_in : Next → ℕ × Call
-next_in n = (n.thread, n.call.now)
+next_in n = (n.thread, n.call)
 
 pub record IsCounted (c : Cursor) : Type 0 where
   pub answered : length c.answered.items ≡ length (threads_of c.phases.now)

@@ -24,11 +24,11 @@ pub struct Cursor<'a> {
 
 /// The next call of a thread.
 #[derive(Clone, Copy)]
-pub struct Next<'a> {
+pub struct Next {
     /// Counted from 0 in each phase.
     pub thread: usize,
     /// The first that isn't answered yet.
-    pub call: &'a Call,
+    pub call: Call,
 }
 
 impl<'a> Cursor<'a> {
@@ -88,17 +88,17 @@ impl<'a> Cursor<'a> {
     }
 
     /// The next call of a thread, of which the first is 0.
-    fn call_at(&self, thread: usize) -> Option<&'a Call>
+    fn call_at(&self, thread: usize) -> Option<Call>
         requires { IsCounted self.now }
-        ensures { option_map (λ c. c.now) result ≡ call_in self.now thread }
+        ensures { result ≡ call_in self.now thread }
     {
         let calls = self.threads().get(thread)?;
-        calls.as_slice().get(self.answered[thread])
+        calls.get(self.answered[thread])
     }
 
     /// The next call of a thread of a phase, both counted from 1, if it has one left and no earlier
     /// phase has calls left.
-    pub fn next_call(&self, phase: u64, thread: u64) -> Option<Next<'a>>
+    pub fn next_call(&self, phase: u64, thread: u64) -> Option<Next>
         requires { IsCounted self.now }
         ensures { option_map next_in result ≡ spec.next_call (progress self.now) phase thread }
     {
@@ -111,9 +111,9 @@ impl<'a> Cursor<'a> {
     }
 
     /// The next call of the least thread that has one left.
-    pub fn least(&self) -> Option<Next<'a>>
+    pub fn least(&self) -> Option<Next>
         requires { IsCounted self.now }
-        ensures next { IfSome result (λ n. call_in self.now n.thread ≡ Some n.call.now) }
+        ensures next { IfSome result (λ n. call_in self.now n.thread ≡ Some n.call) }
         ensures least { IfSome result (λ n. (i : ℕ) → i < n.thread → call_in self.now i ≡ None) }
         ensures fits { IfSome result (λ n. n.thread + 1 < 2 ^ 64) }
         ensures none { IfNone result ((i : ℕ) → call_in self.now i ≡ None) }

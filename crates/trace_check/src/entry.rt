@@ -35,8 +35,8 @@ pub fn check_entry(
     let Some(next) = cursor.next_call(phase, thread) else {
         return Ok(Some(nothing(alloc)?));
     };
-    let reply = machine.answer(alloc, next.call)?;
-    let text = answered_text(alloc, next.call, &reply)?;
+    let reply = machine.answer(alloc, &next.call)?;
+    let text = answered_text(alloc, &next.call, &reply)?;
     if text.as_str() != line.text.as_str() {
         let is = told_text(alloc, phase, thread, &text)?;
         return Ok(Some(is));

@@ -72,8 +72,8 @@ fn check_entries(
     let Some(next) = cursor.least() else {
         return Ok(None);
     };
-    let reply = machine.answer(alloc, next.call)?;
-    let text = answered_text(alloc, next.call, &reply)?;
+    let reply = machine.answer(alloc, &next.call)?;
+    let text = answered_text(alloc, &next.call, &reply)?;
     let thread = next.thread as u64 + 1;
     Ok(Some(Difference {
         leg: number,

@@ -165,8 +165,8 @@ fn push_calls(said: &mut String, script: &Script) -> Result<(), Fail> {
     for leg in script.legs.as_slice() {
         for phase in leg.as_slice() {
             for thread in phase.as_slice() {
-                for call in thread.as_slice() {
-                    push_call(said, call)?;
+                for call in thread.iter() {
+                    push_call(said, &call)?;
                 }
             }
         }

@@ -1,5 +1,6 @@
 //! Reports of runs: merged from the lists of threads, printed, and read back.
 use crate::its_history_tests::{SIGNAL, TAKE, delivered, lpi};
+use event_script::Calls;
 use its_history::{
     End, Leg, ThreadList, TraceError, end_text, merge, parse_trace, pending_text, report_text,
 };
@@ -12,10 +13,18 @@ fn at(place: u64, reply: Reply) -> Placed<Reply> {
     Placed { place, reply }
 }
 
+fn calls(alloc: Global, of: &[Call]) -> Result<Calls, AllocError> {
+    let mut calls = Calls::new(alloc);
+    for call in of {
+        calls.push(*call)?;
+    }
+    Ok(calls)
+}
+
 fn lists<'a>(
     alloc: Global,
-    signals: &'a [Call],
-    takes: &'a [Call],
+    signals: &'a Calls,
+    takes: &'a Calls,
 ) -> Result<Vec<ThreadList<'a>>, AllocError> {
     let mut first = Listed::new(alloc);
     first.push(at(1, delivered()))?;
@@ -42,10 +51,9 @@ fn lists<'a>(
 #[test]
 fn report_of_two_legs(rt: HostRuntime) -> Result<(), Fail> {
     let alloc = rt.alloc();
-    let mut trace = merge(
-        alloc,
-        &lists(alloc, &[SIGNAL, SIGNAL], &[TAKE, TAKE, TAKE])?,
-    )?;
+    let signals = calls(alloc, &[SIGNAL, SIGNAL])?;
+    let takes = calls(alloc, &[TAKE, TAKE, TAKE])?;
+    let mut trace = merge(alloc, &lists(alloc, &signals, &takes)?)?;
     trace.legs.push(last_leg(alloc)?)?;
     let want = "leg 1
 0 1.2 take 2 -> none

@@ -1,4 +1,4 @@
-use Rattle.std.proofs.Common.{rules, arith, ◌≡◌, ℕ, ◌+◌, ◌<◌, ◌++◌, ◌∷◌, [], List, None, length, length-append, get_or, drop, subst, sym, ap, ◌∙◌}
+use Rattle.std.proofs.Common.{rules, arith, ◌≡◌, ℕ, ◌+◌, ◌<◌, ◌++◌, ◌∷◌, [], List, None, length, length-append, get_or, drop, refl, subst, sym, ap, ◌∙◌}
 use Rattle.its_plain.specs.Runs.{Thread}
 use Rattle.its_steps.specs.World.{View}
 use Rattle.its_turns.specs.Machines.{view}
@@ -13,8 +13,8 @@ pub loop-done-preserved : goal.loop-done-preserved
 loop-done-preserved c =
     let m = c.args.machine.now in let ts = c.args.threads.now in
     let w = c.loop-done.invariant in let js = c.loop-done.jobs.items in let s = c.split-pass.ensures.views in
-    let j : Job = record { pass = c.split-pass.result; calls = c.as_slice-calls.result; done = c.in-Some.done; stop = None } in
-    let one = c.index-threads-len.result in
+    let j : Job = record { pass = c.split-pass.result; calls = c.thread_at-calls.result; done = c.in-Some.done; stop = None } in
+    let one = c.thread_at-calls.result.now in
     let pushed : c.push.new.self.items ≡ js ++ j ∷ [] = search rules in
     let below : length js < length ts = omega (arith, w.5, c.in-Some.ensures.steps.1) in
     let at : one ≡ get_or ts (length js) one = search rules in
@@ -24,16 +24,16 @@ loop-done-preserved c =
     let ready : IsReady m j = record {
       of = c.split-pass.ensures.of.1;
       free = ap (λ (z : View). z.held) s.4;
-      may = subst (MayAskAll m) (sym at ∙ sym c.as_slice-calls.ensures) (all_at (MayAskAll m) ts (length js) one c.requires.may below);
+      may = subst (MayAskAll m) (sym at) (all_at (MayAskAll m) ts (length js) one c.requires.may below);
       empty = next.0;
-      room = omega (arith, next.1, ap (λ (z : Thread). length z) c.as_slice-calls.ensures);
+      room = next.1;
     } in (
       tt,
       tt,
       c.split-pass.ensures.of.0,
       subst (λ (z : List Job). Made m ts (view c.args.root.now) z (view c.split-pass.new.self)) (sym pushed)
           (made_more m ts (view c.args.root.now) (view c.loop-done.root) s.0 (view c.split-pass.new.self) s.1 js j one w.3 c.requires.root s.2 s.3 s.4 ready
-          c.as_slice-calls.ensures at below),
+          refl at below),
       subst (λ (n : ℕ). HasRoom (drop n ts) c.next.new.self.rest.items) (sym more) next.2,
       omega (arith, more, w.5, c.in-Some.ensures.steps.1),
       omega (arith, w.6, c.push.ensures.capacity),

@@ -37,10 +37,10 @@ pub returns-clause-wrong : goal.returns-clause-wrong
 returns-clause-wrong c =
     let l = c.loop-place in let n = c.in-Some-least.next in
     let d : Difference = record { leg = c.args.number; place = length c.args.entries.now; said = c.in_ok-nothing.field-0; is = c.in_ok-told_text.field-0 } in
-    let text : c.in_ok-text.text ≡ right_text l.machine n.call.now = c.in_ok-text.ensures ∙ ap (answered_text n.call.now) c.in_ok-reply.ensures.reply in
+    let text : c.in_ok-text.text ≡ right_text l.machine n.call = c.in_ok-text.ensures ∙ ap (answered_text n.call) c.in_ok-reply.ensures.reply in
     let thread : n.thread + 1 ≡ suc n.thread = omega arith in
-    let is : c.in_ok-told_text.field-0 ≡ told_text l.cursor.number (suc n.thread) (right_text l.machine n.call.now) = c.in_ok-told_text.ensures
+    let is : c.in_ok-told_text.field-0 ≡ told_text l.cursor.number (suc n.thread) (right_text l.machine n.call) = c.in_ok-told_text.ensures
     ∙ (λ j. told_text (c.number.ensures j) (thread j) (text j)) in
-    ends_early c.args.machine.now c.args.leg.now c.args.entries.now l.place l.machine l.cursor l.invariant c.args.number n.thread n.call.now d
+    ends_early c.args.machine.now c.args.leg.now c.args.entries.now l.place l.machine l.cursor l.invariant c.args.number n.thread n.call d
     c.loop-place-test.false l.auto.place-end c.in-Some-least.ensures.next c.in-Some-least.ensures.least
     refl refl c.in_ok-nothing.ensures is

@@ -1,0 +1,6 @@
+-- The bytes were a text's.
+use Rattle.std.proofs.lemmas.Str.{IsUtf8-had}
+use Rattle.its_history.proofs.text.ShortText.as_str.Goals as goal
+
+pub unreachable-requires : goal.unreachable-requires
+unreachable-requires c = c.in-Err.ensures.cases.0 (IsUtf8-had _ c.self.invariant.2)
