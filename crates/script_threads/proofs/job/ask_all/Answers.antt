@@ -9,8 +9,12 @@ use Rattle.script_threads.proofs.Runs.{doing_none, doing_more, doing_all, doing_
 use Rattle.script_threads.proofs.job.ask_all.Goals as goal
 
 pub loop-index-init : goal.loop-index-init
-loop-index-init g c = (c.requires.of, doing_none (view c.args.pass.now) c.args.calls.now c.args.done.now.items c.requires.free c.requires.empty, c.requires.room,
-    omega arith)
+loop-index-init g c = (
+  c.requires.of,
+  doing_none (view c.args.pass.now) c.args.calls.now c.args.done.now.items c.requires.free c.requires.empty,
+  c.requires.room,
+  omega arith,
+)
 
 pub loop-index-preserved : goal.loop-index-preserved
 loop-index-preserved g c =
