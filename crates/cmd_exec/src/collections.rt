@@ -1,6 +1,7 @@
 //! The events of a collection: what happens to the LPIs of all of them.
 ghost use Rattle.std.specs.Prelude.{◌≡◌, ◌<◌, ℕ, true, List};
 ghost use Rattle.its_maps.specs.MapsRoom.{EventsHaveDevices};
+ghost use Rattle.its_maps.specs.Walks.{events_left};
 ghost use Rattle.its_plain.specs.Commands.{intids_of, all_reread_at};
 ghost use Rattle.cmd_exec.specs.InHand.{redist_by, changed_below, lpis_moved_in, CanRereadAll};
 ghost use Rattle.cmd_exec.specs.Ready.{TakesAll, CanEachReread};
@@ -26,9 +27,10 @@ pub fn move_lpis(redists: &mut Redists, maps: &Maps, icid: Icid, from: Vcpu, to:
 
 // Those of one device.
 fn move_lpis_of(redists: &mut Redists, events: EventWalk, icid: Icid, from: Vcpu, to: Vcpu)
-    requires from { TakesAll redists.old from.0 (lpis_of events icid.0) }
-    requires to { TakesAll redists.old to.0 (lpis_of events icid.0) }
-    ensures { redists.new ≡ lpis_moved_in (lpis_of events.entry icid.0) from.0 to.0 redists.old }
+    requires from { TakesAll redists.old from.0 (lpis_of (events_left events) icid.0) }
+    requires to { TakesAll redists.old to.0 (lpis_of (events_left events) icid.0) }
+    ensures { redists.new
+        ≡ lpis_moved_in (lpis_of (events_left events.entry) icid.0) from.0 to.0 redists.old }
 {
     for (_, event) in events {
         if event.icid == icid {
@@ -64,8 +66,9 @@ fn reread_all(redist: &mut Redist, memory: &Memory, maps: &Maps, icid: Icid)
 
 // Those of one device.
 fn reread_all_of(redist: &mut Redist, memory: &Memory, events: EventWalk, icid: Icid)
-    requires { CanRereadAll redist.old (lpis_of events icid.0) }
-    ensures { redist.new ≡ redist_by (all_reread_at memory.now (lpis_of events.entry icid.0))
+    requires { CanRereadAll redist.old (lpis_of (events_left events) icid.0) }
+    ensures { redist.new
+        ≡ redist_by (all_reread_at memory.now (lpis_of (events_left events.entry) icid.0))
         redist.old }
 {
     for (_, event) in events {

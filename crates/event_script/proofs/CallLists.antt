@@ -1,6 +1,6 @@
 -- What is kept of calls stays the same where more calls that have bytes are added.
-use Rattle.std.proofs.Common.{◌≡◌, ℕ, zero, suc, ◌+◌, ◌<◌, ◌≤◌, List, [], ◌∷◌, ◌++◌, length, map, get_or, Result, Ok, Err, OnErr, refl, sym, ap, subst, ◌∙◌, arith}
-use Rattle.std.proofs.lemmas.List.{length-append, map-append, get_or_append_left, get_or-map}
+use Rattle.std.proofs.Common.{◌≡◌, ℕ, ◌+◌, ◌≤◌, List, [], ◌∷◌, ◌++◌, length, Result, Ok, Err, OnErr, refl, sym, ap, ◌∙◌, arith}
+use Rattle.std.proofs.lemmas.List.{length-append, map-append, get_or_append_left}
 use Rattle.std.specs.List.{AllByRecursion}
 use mathlib.Core.List.{IsPrefix}
 use Rattle.its_plain.specs.declared.call.Call.{Call}
@@ -64,19 +64,10 @@ pub one_more_inside : (n : ℕ) (ss : List Short) (s : Short) → AllByRecursion
 one_more_inside n [] s all one = (one, tt)
 one_more_inside n (x ∷ ss) s all one = (all.0, one_more_inside n ss s all.1 one)
 
-pub at_inside : (n : ℕ) (ss : List Short) (i : ℕ) (d : Short) → AllByRecursion (IsInside n) ss → i < length ss → IsInside n (get_or ss i d)
-at_inside n [] i d all lt = absurd (omega arith)
-at_inside n (s ∷ ss) zero d all lt = all.0
-at_inside n (s ∷ ss) (suc i) d all lt = at_inside n ss i d all.1 (omega arith)
-
 -- one more call is kept so, beside those that have bytes and maybe one more
 pub one_more : (xs zs : List Call) (ss : List Short) (s : Short) (c : Call) → IsPrefix xs zs → AllByRecursion (IsInside (length xs)) ss → call_of zs s ≡ c
     → calls_of zs (ss ++ s ∷ []) ≡ calls_of xs ss ++ c ∷ []
 one_more xs zs ss s c p h is = map-append (call_of zs) ss (s ∷ []) ∙ λ i. same_calls xs zs ss p h i ++ is i ∷ []
-
-pub call_at : (xs : List Call) (ss : List Short) (i : ℕ) (s : Short) (c : Call) → i < length ss → s ≡ get_or ss i s → c ≡ call_of xs s
-    → c ≡ get_or (calls_of xs ss) i c
-call_at xs ss i s c lt at is = is ∙ ap (call_of xs) at ∙ sym (get_or-map (call_of xs) ss i s c lt)
 
 pub on_err : {A E Q : Type 0} (r : Result A E) → Q → OnErr r Q
 on_err (Ok x) q = tt

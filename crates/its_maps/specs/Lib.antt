@@ -3,6 +3,7 @@ pub mod Search
 pub mod Lending
 pub mod MapsRoom
 pub mod View
+pub mod Walks
 pub mod Pages
 pub mod EventTables
 pub mod LookUp

@@ -4,6 +4,7 @@ ghost use Rattle.std.specs.Prelude.{◌≡◌, ◌≤◌, true, false, IfSome, I
 ghost use Rattle.std.specs.Option.{option_copied};
 ghost use Rattle.std.specs.FinMap as map;
 ghost use Rattle.its_maps.specs.MapRoom.{without};
+ghost use Rattle.its_maps.specs.Walks.{events_left};
 
 use crate::paged_map::PagedMap;
 use crate::paged_walk::PagedWalk;
@@ -116,7 +117,7 @@ impl EventTable {
 
     /// The events, by rising EventID.
     pub fn walk(&self) -> EventWalk<'_>
-        ensures { result ≡ map.entries self.now.map }
+        ensures { events_left result ≡ map.entries self.now.map }
     {
         match &self.form {
             Form::Few(events) => EventWalk {

@@ -7,6 +7,7 @@ ghost use Rattle.its_types.specs.Maps.{event_unmapped, collection_mapped, collec
 ghost use Rattle.its_types.specs.Maps.{devices_emptied, collections_emptied};
 ghost use Rattle.its_maps.specs.LookUp.{looked_up};
 ghost use Rattle.its_maps.specs.MapsRoom.{event_room, EventsHaveDevices, KeysFit};
+ghost use Rattle.its_maps.specs.Walks.{events_left};
 
 use crate::device_record::DeviceRecord;
 use crate::event_table::EventTable;
@@ -255,7 +256,7 @@ impl Maps {
 
     /// The mapped events of a device, by rising EventID. A device that isn't mapped has none.
     pub fn events(&self, dev: DeviceId) -> EventWalk<'_>
-        ensures { result ≡ events_at self.now.maps dev.0 }
+        ensures { events_left result ≡ events_at self.now.maps dev.0 }
     {
         match self.devices.get(dev.0) {
             Some(record) => record.events.walk(),

@@ -4,6 +4,7 @@ ghost use Rattle.std.specs.Prelude.{◌≡◌, ◌≤◌, true, false, Some, OnO
 ghost use Rattle.std.specs.Option.{option_copied};
 ghost use Rattle.std.specs.FinMap as map;
 ghost use Rattle.its_maps.specs.MapRoom.{without};
+ghost use Rattle.its_maps.specs.Walks.{left_of_pages};
 
 use crate::page::{PLACES, Page};
 use crate::paged_walk::PagedWalk;
@@ -99,7 +100,7 @@ impl<V: Drop> PagedMap<V> {
 
     /// The keys with their values, in rising order.
     pub fn walk(&self) -> PagedWalk<'_, V>
-        ensures { result ≡ map.entries self.now.map }
+        ensures { left_of_pages result ≡ map.entries self.now.map }
     {
         PagedWalk::new(self.pages.entries())
     }

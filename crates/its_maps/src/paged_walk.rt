@@ -14,12 +14,13 @@ pub struct PagedWalk<'a, V> {
 }
 
 impl<'a, V> Model for PagedWalk<'a, V> {
-    ghost use Rattle.std.specs.Prelude.{ℕ, ◌+◌, ◌≤◌, List, ◌++◌, length};
-    ghost use Rattle.its_maps.specs.Pages.{slots_from, paged, EachNumberFits, FollowFrom};
+    ghost use Rattle.std.specs.Prelude.{◌+◌, ◌≤◌, length};
+    ghost use Rattle.its_maps.specs.Pages.{EachNumberFits, FollowFrom};
+    ghost use Rattle.its_maps.specs.Walks.{PagesLeft};
 
-    ghost Value = { List (ℕ × V) };
+    ghost Value = { PagesLeft V };
 
-    ghost view = { λ w. slots_from w.key w.slots.now ++ paged w.pages.now };
+    ghost view = { λ w. record { key = w.key; places = w.slots.now; pages = w.pages.now } };
 
     ghost invariant = { λ w. (w.key + length w.slots.now ≤ 4294967296)
         × EachNumberFits w.pages.now
@@ -27,15 +28,16 @@ impl<'a, V> Model for PagedWalk<'a, V> {
 }
 
 impl<'a, V> PagedWalk<'a, V> {
-    ghost use Rattle.std.specs.Prelude.{◌≡◌, ◌+◌, ◌<◌, ◌≤◌, ◌++◌, length};
+    ghost use Rattle.std.specs.Prelude.{◌≡◌, ◌+◌, ◌<◌, ◌≤◌, ◌++◌, length, take};
     ghost use Rattle.its_maps.specs.Pages.{slots_from, paged, EachNumberFits};
     ghost use Rattle.its_maps.specs.Pages.{AllFrom, FollowFrom};
+    ghost use Rattle.its_maps.specs.Walks.{left_of_pages};
 
     /// The entries of pages by number.
     pub fn new(pages: &'a [(u32, Page<V>)]) -> Self
         requires fit { EachNumberFits pages.now }
         requires follow { FollowFrom 0 pages.now }
-        ensures { result ≡ paged pages.now }
+        ensures { left_of_pages result ≡ paged pages.now }
     {
         PagedWalk {
             slots: &[],
@@ -46,7 +48,7 @@ impl<'a, V> PagedWalk<'a, V> {
 
     /// The next key that has a value. Places without one are passed over.
     pub fn next(&mut self) -> Option<(u32, &'a V)>
-        ensures { YieldsFirstBy (λ e. (e.0, e.1.now)) (λ w. w) self.old result self.new }
+        ensures { YieldsFirstBy (λ e. (e.0, e.1.now)) left_of_pages self.old result self.new }
     {
         loop {
             match self.slots.split_first() {
@@ -71,10 +73,13 @@ impl<'a, V> PagedWalk<'a, V> {
     /// What is left of a page whose next place is a key's, at most so many places. Of a page whose
     /// next place is another key's it gives none.
     pub fn places(&mut self, key: u32, most: usize) -> &'a [Option<V>]
-        ensures walk { self.old ≡ slots_from key result.now ++ self.new }
+        ensures walk { left_of_pages self.old
+            ≡ slots_from key result.now ++ left_of_pages self.new }
         ensures most { length result.now ≤ most }
         ensures keys { key + length result.now ≤ 4294967296 }
-        ensures after { 0 < length result.now → AllFrom (key + length result.now) self.new }
+        ensures after { 0 < length result.now
+            → AllFrom (key + length result.now) (left_of_pages self.new) }
+        ensures here { self.old.key ≡ key → result.now ≡ take most self.old.places }
     {
         if self.key != u64::from(key) {
             return &[];

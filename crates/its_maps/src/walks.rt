@@ -16,10 +16,11 @@ pub struct DeviceWalk<'a> {
 impl<'a> Model for DeviceWalk<'a> {
     ghost use Rattle.std.specs.Prelude.{ℕ, List, map};
     ghost use Rattle.its_types.specs.declared.translation.Device.{Device};
+    ghost use Rattle.its_maps.specs.Walks.{left_of_pages};
 
     ghost Value = { List (ℕ × Device) };
 
-    ghost view = { λ w. map (λ d. (d.0, d.1.device)) w.rest };
+    ghost view = { λ w. map (λ d. (d.0, d.1.device)) (left_of_pages w.rest) };
 }
 
 impl<'a> Iterator for DeviceWalk<'a> {
@@ -43,20 +44,21 @@ pub struct EventWalk<'a> {
 }
 
 impl<'a> Model for EventWalk<'a> {
-    ghost use Rattle.std.specs.Prelude.{ℕ, List, ◌++◌};
-    ghost use Rattle.its_types.specs.declared.translation.Event.{Event};
+    ghost use Rattle.its_maps.specs.Walks.{EventsLeft};
 
-    ghost Value = { List (ℕ × Event) };
+    ghost Value = { EventsLeft };
 
-    ghost view = { λ w. w.few.now ++ w.many };
+    ghost view = { λ w. record { few = w.few.now; many = w.many } };
 }
 
 impl<'a> Iterator for EventWalk<'a> {
     type Item = (EventId, Event);
 
-    ghost next_gives = { YieldsFirstBy (λ e. (e.0.0, e.1)) (λ w. w) };
+    ghost use Rattle.its_maps.specs.Walks.{events_left};
 
-    ghost remaining = { item_count (λ w. w) };
+    ghost next_gives = { YieldsFirstBy (λ e. (e.0.0, e.1)) events_left };
+
+    ghost remaining = { item_count events_left };
 
     fn next(&mut self) -> Option<(EventId, Event)> {
         if let Some(((ev, event), rest)) = self.few.split_first() {
@@ -69,16 +71,20 @@ impl<'a> Iterator for EventWalk<'a> {
 }
 
 impl<'a> EventWalk<'a> {
-    ghost use Rattle.std.specs.Prelude.{◌≡◌, ◌+◌, ◌<◌, ◌≤◌, ◌++◌, length};
+    ghost use Rattle.std.specs.Prelude.{◌≡◌, ◌+◌, ◌<◌, ◌≤◌, ◌++◌, [], length, take};
     ghost use Rattle.its_maps.specs.Pages.{slots_from, AllFrom};
+    ghost use Rattle.its_maps.specs.Walks.{events_left};
 
     /// The next places from an EventID on, at most so many, as they lie in memory: all that the
     /// walk has there. A walk that can't hand out places from there on gives none.
     pub fn places(&mut self, ev: EventId, most: usize) -> &'a [Option<Event>]
-        ensures walk { self.old ≡ slots_from ev.0 result.now ++ self.new }
+        ensures walk { events_left self.old ≡ slots_from ev.0 result.now ++ events_left self.new }
         ensures most { length result.now ≤ most }
         ensures keys { ev.0 + length result.now ≤ 4294967296 }
-        ensures after { 0 < length result.now → AllFrom (ev.0 + length result.now) self.new }
+        ensures after { 0 < length result.now
+            → AllFrom (ev.0 + length result.now) (events_left self.new) }
+        ensures here { self.old.few ≡ [] → self.old.many.key ≡ ev.0
+            → result.now ≡ take most self.old.many.places }
     {
         if !self.few.is_empty() {
             return &[];
@@ -97,12 +103,13 @@ impl<'a> Model for CollectionWalk<'a> {
     ghost use Rattle.std.specs.Prelude.{ℕ, List};
     ghost use Rattle.its_types.specs.declared.ids.Vcpu.{Vcpu};
     ghost use Rattle.its_maps.specs.MapsRoom.{EachFits};
+    ghost use Rattle.its_maps.specs.Walks.{left_of_pages};
 
     ghost Value = { List (ℕ × Vcpu) };
 
-    ghost view = { λ w. w.rest };
+    ghost view = { λ w. left_of_pages w.rest };
 
-    ghost invariant = { λ w. EachFits w.rest };
+    ghost invariant = { λ w. EachFits (left_of_pages w.rest) };
 }
 
 impl<'a> Iterator for CollectionWalk<'a> {

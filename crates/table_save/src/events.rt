@@ -5,6 +5,7 @@ ghost use Rattle.std.specs.Prelude.{slice_index};
 ghost use Rattle.std.specs.FinMap.{entries};
 ghost use Rattle.std.specs.List.{AllByRecursion};
 ghost use Rattle.its_types.specs.Maps.{events_at};
+ghost use Rattle.its_maps.specs.Walks.{events_left};
 ghost use Rattle.its_plain.specs.Saved.{put_words, put_tables};
 ghost use Rattle.table_save.specs.Pass.{FitsDevice, FitsEvent, event_entry_word, events_with};
 ghost use Rattle.table_save.specs.Pass.{first_key, RisesFrom, PassedEvents};
@@ -28,11 +29,12 @@ struct EventFront<'a> {
 impl<'a> Model for EventFront<'a> {
     ghost use Rattle.std.specs.Prelude.{ℕ, List};
     ghost use Rattle.its_types.specs.declared.translation.Event.{Event};
+    ghost use Rattle.its_maps.specs.Walks.{events_left};
     ghost use Rattle.table_save.specs.Pass.{events_with};
 
     ghost Value = { List (ℕ × Event) };
 
-    ghost view = { λ f. events_with f.first f.rest };
+    ghost view = { λ f. events_with f.first (events_left f.rest) };
 }
 
 impl<'a> EventFront<'a> {
@@ -153,15 +155,16 @@ fn put_page(
 ) -> (Option<(EventId, Event)>, usize)
     requires some { 0 < length words.old }
     requires few { id + length words.old < 2 ^ 32 }
-    requires rises { RisesFrom (id + 1) rest.old }
-    requires fit { AllByRecursion FitsEvent ((id, event) ∷ rest.old) }
+    requires rises { RisesFrom (id + 1) (events_left rest.old) }
+    requires fit { AllByRecursion FitsEvent ((id, event) ∷ events_left rest.old) }
     ensures some { 0 < result.1 }
     ensures most { result.1 ≤ length words.old }
     ensures length { length words.new ≡ length words.old }
     ensures words { (k : ℕ) → k < result.1
-        → slice_index words.new k ≡ event_entry_word ((id, event) ∷ rest.old) (id + k) }
-    ensures rest { PassedEvents (id + result.1) ((id, event) ∷ rest.old)
-        (events_with result.0 rest.new) }
+        → slice_index words.new k
+        ≡ event_entry_word ((id, event) ∷ events_left rest.old) (id + k) }
+    ensures rest { PassedEvents (id + result.1) ((id, event) ∷ events_left rest.old)
+        (events_with result.0 (events_left rest.new)) }
 {
     let slots = rest.places(EventId(id + 1), words.len() - 1);
     let next = rest.next();

@@ -1,4 +1,5 @@
 use Rattle.std.proofs.Common.{◌≡◌}
+use Rattle.its_maps.specs.Walks.{events_left}
 use Rattle.cmd_exec.specs.InHand.{lpis_moved_in}
 use Rattle.cmd_exec.specs.Ready.{TakesAll}
 use Rattle.cmd_exec.specs.Walked.{lpis_of}
@@ -6,8 +7,8 @@ use Rattle.cmd_exec.proofs.collections.move_lpis_of.Given as goal
 
 abbrev pub invariant-loop-event : goal.invariant-loop-event
 invariant-loop-event l = record {
-  rest : lpis_moved_in (lpis_of l.event-iterator l.icid.0) l.from.0 l.to.0 l.redists ≡ lpis_moved_in (lpis_of l.fn.events l.icid.0) l.from.0 l.to.0
+  rest : lpis_moved_in (lpis_of (events_left l.event-iterator) l.icid.0) l.from.0 l.to.0 l.redists ≡ lpis_moved_in (lpis_of (events_left l.fn.events) l.icid.0) l.from.0 l.to.0
       l.initial.redists;
-  from : TakesAll l.redists l.from.0 (lpis_of l.event-iterator l.icid.0);
-  to : TakesAll l.redists l.to.0 (lpis_of l.event-iterator l.icid.0);
+  from : TakesAll l.redists l.from.0 (lpis_of (events_left l.event-iterator) l.icid.0);
+  to : TakesAll l.redists l.to.0 (lpis_of (events_left l.event-iterator) l.icid.0);
 }
