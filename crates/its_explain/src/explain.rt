@@ -3,13 +3,13 @@ ghost use Rattle.its_plain.specs.Machine.{IsDescription};
 
 use crate::call_lines::call_lines;
 use crate::machine_fault::push_machine_fault;
+use crate::replayed::Replayed;
 use crate::script_fault::push_script_fault;
 use crate::story::{Story, Told};
 use crate::trace_fault::push_trace_fault;
 use event_script::{Move, ParseError, Script, parse, parse_check};
 use its_history::{TraceError, parse_trace};
 use its_plain::MakeError;
-use owned_machine::Machine;
 use std::alloc::{AllocError, Global};
 
 /// What came of the run of a script that printed this report, or of none where the script or its
@@ -17,12 +17,21 @@ use std::alloc::{AllocError, Global};
 /// sentence, and why the run ended if it isn't whole.
 pub fn explain_run(alloc: Global, input: &[u8], report: &str) -> Result<String, AllocError> {
     let mut out = String::new(alloc);
-    match parse(alloc, input) {
-        Ok(script) => push_run(alloc, &mut out, input, &script, report.as_bytes())?,
-        Err(ParseError::NoMemory) => return Err(AllocError),
-        Err(ParseError::Fault(fault)) => push_script_fault(alloc, &mut out, input, fault)?,
-    }
+    push_input(alloc, &mut out, input, report.as_bytes())?;
     Ok(out)
+}
+
+fn push_input(
+    alloc: Global,
+    out: &mut String,
+    input: &[u8],
+    report: &[u8],
+) -> Result<(), AllocError> {
+    match parse(alloc, input) {
+        Ok(script) => push_run(alloc, out, input, &script, report),
+        Err(ParseError::NoMemory) => Err(AllocError),
+        Err(ParseError::Fault(fault)) => push_script_fault(alloc, out, input, fault),
+    }
 }
 
 fn push_run(
@@ -34,19 +43,19 @@ fn push_run(
 ) -> Result<(), AllocError>
     requires { IsDescription script.now.desc }
 {
-    let machine = match Machine::new(alloc, &script.desc) {
-        Ok(machine) => machine,
-        Err(MakeError::NoMemory) => return Err(AllocError),
-        Err(MakeError::Fault(fault)) => return push_machine_fault(out, input, script, fault),
-    };
     let lines = call_lines(alloc, input)?;
-    let story = Story::new(alloc, input, script, machine, &lines);
-    push_lines(out, story, report)
+    match Replayed::new(alloc, &script.desc) {
+        Ok(machine) => {
+            let story = &mut Story::new(alloc, input, script, machine, &lines);
+            push_lines(out, story, report)
+        }
+        Err(MakeError::NoMemory) => Err(AllocError),
+        Err(MakeError::Fault(fault)) => push_machine_fault(out, input, script, fault),
+    }
 }
 
 /// Tells each line of a run's report, and why the run ended where the last one isn't `done`.
-fn push_lines(out: &mut String, story: Story, report: &[u8]) -> Result<(), AllocError> {
-    let mut story = story;
+fn push_lines(out: &mut String, story: &mut Story, report: &[u8]) -> Result<(), AllocError> {
     let mut ended = false;
     for line in report.split(|b| *b == b'\n') {
         if !line.is_empty() {
@@ -61,12 +70,16 @@ fn push_lines(out: &mut String, story: Story, report: &[u8]) -> Result<(), Alloc
 /// run, or each of its lines with a sentence.
 pub fn explain_check(alloc: Global, input: &[u8]) -> Result<String, AllocError> {
     let mut out = String::new(alloc);
-    match parse_check(alloc, input) {
-        Ok(read) => push_check(alloc, &mut out, input, &read.script, read.report)?,
-        Err(ParseError::NoMemory) => return Err(AllocError),
-        Err(ParseError::Fault(fault)) => push_script_fault(alloc, &mut out, input, fault)?,
-    }
+    push_checked(alloc, &mut out, input)?;
     Ok(out)
+}
+
+fn push_checked(alloc: Global, out: &mut String, input: &[u8]) -> Result<(), AllocError> {
+    match parse_check(alloc, input) {
+        Ok(read) => push_check(alloc, out, input, &read.script, read.report),
+        Err(ParseError::NoMemory) => Err(AllocError),
+        Err(ParseError::Fault(fault)) => push_script_fault(alloc, out, input, fault),
+    }
 }
 
 fn push_check(
@@ -78,17 +91,16 @@ fn push_check(
 ) -> Result<(), AllocError>
     requires { IsDescription script.now.desc }
 {
-    let machine = match Machine::new(alloc, &script.desc) {
-        Ok(machine) => machine,
-        Err(MakeError::NoMemory) => return Err(AllocError),
-        Err(MakeError::Fault(fault)) => return push_machine_fault(out, input, script, fault),
-    };
-    if let Some(line) = bad_line(alloc, script, report)? {
-        return push_trace_fault(out, report, line);
-    }
     let lines = call_lines(alloc, input)?;
-    let story = Story::new(alloc, input, script, machine, &lines);
-    push_report(alloc, out, story, report)
+    let bad = bad_line(alloc, script, report)?;
+    match Replayed::new(alloc, &script.desc) {
+        Ok(machine) => {
+            let story = &mut Story::new(alloc, input, script, machine, &lines);
+            push_shaped(alloc, out, story, report, bad)
+        }
+        Err(MakeError::NoMemory) => Err(AllocError),
+        Err(MakeError::Fault(fault)) => push_machine_fault(out, input, script, fault),
+    }
 }
 
 /// The first line that hasn't the shape of a report's.
@@ -105,23 +117,53 @@ fn bad_line(alloc: Global, script: &Script, report: &[u8]) -> Result<Option<u64>
     }
 }
 
-/// Tells a report up to its first line that isn't right, of which alone it tells if there is one.
-fn push_report(
+/// Tells the first line that hasn't the shape of a report's, or else the report up to its first
+/// line that isn't right, of which alone it tells if there is one.
+fn push_shaped(
     alloc: Global,
     out: &mut String,
-    story: Story,
+    story: &mut Story,
     report: &[u8],
+    bad: Option<u64>,
 ) -> Result<(), AllocError> {
-    let mut story = story;
+    if let Some(line) = bad {
+        return push_trace_fault(out, report, line);
+    }
     let mut told = String::new(alloc);
+    match tell_lines(alloc, &mut told, out, story, report)? {
+        Told::Wrong => Ok(()),
+        Told::Right => out.push_str(told.as_str()),
+    }
+}
+
+/// Tells lines of a report in `told`, up to its first that isn't right, which `out` tells.
+fn tell_lines(
+    alloc: Global,
+    told: &mut String,
+    out: &mut String,
+    story: &mut Story,
+    report: &[u8],
+) -> Result<Told, AllocError> {
     for line in report.split(|b| *b == b'\n') {
-        if !line.is_empty() {
-            let mut one = String::new(alloc);
-            match story.tell(&mut one, line)? {
-                Told::Wrong => return out.push_str(one.as_str()),
-                Told::Right => told.push_str(one.as_str())?,
-            }
+        if !line.is_empty() && tell_line(alloc, told, out, story, line)? == Told::Wrong {
+            return Ok(Told::Wrong);
         }
     }
-    out.push_str(told.as_str())
+    Ok(Told::Right)
+}
+
+fn tell_line(
+    alloc: Global,
+    told: &mut String,
+    out: &mut String,
+    story: &mut Story,
+    line: &[u8],
+) -> Result<Told, AllocError> {
+    let mut one = String::new(alloc);
+    let came = story.tell(&mut one, line)?;
+    match came {
+        Told::Wrong => out.push_str(one.as_str())?,
+        Told::Right => told.push_str(one.as_str())?,
+    }
+    Ok(came)
 }

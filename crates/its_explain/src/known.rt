@@ -3,6 +3,7 @@ use its_command::Command;
 use its_types::{DeviceId, EventId, Icid, Intid};
 use std::alloc::{AllocError, Global};
 use std::collections::BTreeMap;
+use std::marker::Model;
 
 /// A device of a translator.
 #[derive(Clone, Copy, PartialEq, Eq, PartialOrd, Ord)]
@@ -55,6 +56,12 @@ pub struct Known {
     events: BTreeMap<EventKey, MappedEvent>,
     collections: BTreeMap<CollectionKey, Mapped>,
     writers: BTreeMap<u64, u64>,
+}
+
+impl Model for Known {
+    ghost Value = { Unit {0} };
+
+    ghost view = { λ _. tt };
 }
 
 impl Known {

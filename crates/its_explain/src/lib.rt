@@ -17,6 +17,7 @@ mod many;
 mod missing;
 mod order;
 mod registers;
+mod replayed;
 mod replies;
 mod restore_fault;
 mod script_fault;

@@ -4,15 +4,16 @@ use crate::entries::{Entry, entry_of};
 use crate::known::Known;
 use crate::left::{Left, Next, count_calls, cut};
 use crate::lines::{first_words, number};
+use crate::replayed::Replayed;
 use crate::replies::{Taken, push_reply};
 use crate::show::{push_bytes, push_plain};
 use event_script::{Leg, Move, Script};
 use its_history::{answered_text, pending_text, save_fault_text, vcpu_text};
 use its_plain::{Call, Reply, SaveError, StepReply};
 use its_types::Addr;
-use owned_machine::Machine;
 use std::alloc::{AllocError, Global};
 use std::fmt::Write;
+use std::marker::Model;
 
 /// How the telling of a report's line came out.
 #[derive(Clone, Copy, PartialEq, Eq)]
@@ -29,7 +30,7 @@ pub struct Story<'a> {
     alloc: Global,
     input: &'a [u8],
     script: &'a Script,
-    machine: Machine,
+    machine: Replayed,
     known: Known,
     /// The lines of the calls of legs that aren't begun.
     lines: &'a [CallLine],
@@ -42,13 +43,19 @@ pub struct Story<'a> {
     taken: Option<Taken>,
 }
 
+impl<'a> Model for Story<'a> {
+    ghost Value = { Unit {0} };
+
+    ghost view = { λ _. tt };
+}
+
 impl<'a> Story<'a> {
     /// Before the first line. The machine stands in its first state.
     pub fn new(
         alloc: Global,
         input: &'a [u8],
         script: &'a Script,
-        machine: Machine,
+        machine: Replayed,
         lines: &'a [CallLine],
     ) -> Story<'a> {
         Story {
@@ -109,7 +116,7 @@ impl<'a> Story<'a> {
             return Ok(Told::Wrong);
         };
         self.taken = self.command_for(&next.call)?;
-        let reply = self.machine.answer(self.alloc, &next.call)?;
+        let reply = self.machine.answer(&next.call)?;
         let text = answered_text(self.alloc, &next.call, &reply)?;
         if !says(text.as_str(), entry.text) {
             push_difference(out, line)?;
@@ -197,7 +204,7 @@ impl<'a> Story<'a> {
             addr: Addr(addr),
             count: 32,
         };
-        match self.machine.answer(self.alloc, &peek)? {
+        match self.machine.answer(&peek)? {
             Reply::Bytes(bytes) => Ok(command_of(addr, bytes.as_slice())),
             _ => Ok(None),
         }
@@ -206,7 +213,7 @@ impl<'a> Story<'a> {
     /// What a register of a translator reads.
     fn register(&mut self, its: u8, off: u32) -> Result<u64, AllocError> {
         let read = Call::ReadReg { its, off, size: 8 };
-        match self.machine.answer(self.alloc, &read)? {
+        match self.machine.answer(&read)? {
             Reply::Value(value) => Ok(value),
             _ => Ok(0),
         }
@@ -220,8 +227,7 @@ impl<'a> Story<'a> {
         }
         let (_, processor) = first_words(line);
         let vcpu = number(processor).unwrap_or(u64::MAX) as usize;
-        if vcpu < self.machine.vcpus() {
-            let pending = self.machine.pending(self.alloc, vcpu)?;
+        if let Some(pending) = self.machine.pending(vcpu)? {
             let text = pending_text(self.alloc, &pending)?;
             let right = vcpu_text(self.alloc, vcpu as u64, &text)?;
             if !says(right.as_str(), line) {
@@ -253,9 +259,9 @@ impl<'a> Story<'a> {
     fn move_on(&mut self) -> Result<Option<u64>, SaveError> {
         let moves: &[Move] = self.script.moves.as_slice();
         match moves.get(self.legs.saturating_sub(1)) {
-            Some(Move::Precopy) => Ok(Some(self.machine.precopy(self.alloc)?)),
+            Some(Move::Precopy) => Ok(Some(self.machine.precopy()?)),
             _ => {
-                self.machine.migrate(self.alloc)?;
+                self.machine.migrate()?;
                 Ok(None)
             }
         }

@@ -3,7 +3,7 @@ use Rattle.event_script.proofs.Bounds.{checked_scripts_fit}
 use Rattle.event_script.specs.Limits.{IsWithinLimits}
 use Rattle.event_script.specs.declared.fault.ScriptFault.{ScriptFault}
 use Rattle.event_script.specs.declared.script.Script.{Script}
-use Rattle.its_explain.proofs.explain.explain_check.Goals as goal
+use Rattle.its_explain.proofs.explain.push_checked.Goals as goal
 
 abbrev Fits : Result (Script × List (List ℕ)) ScriptFault → Type 0
 Fits r = IfOk r (λ p. IsWithinLimits p.0)
