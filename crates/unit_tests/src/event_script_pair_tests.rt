@@ -1,167 +1,115 @@
 //! Lines of second translators, of second memories, and of devices that write by address.
-use event_script::{Kind, Move, ParseError, Script, ScriptFault, parse};
+use crate::event_script_tests::{HEAD, Told, reads};
+use event_script::{Move, Script};
 use its_plain::{Call, Route};
-use std::alloc::Global;
+use std::alloc::AllocError;
 use std::fmt::Write;
 use std::test::Fail;
 
-/// A whole description of a machine with one processor, in five lines.
-const HEAD: &str =
-    "vcpus 1\nshards 4\nwindow 0x80000000 0x200000\nconfig 0x80030000\npending 0 0x80040000\n";
+const FIRST_LINES: &str = "track/ -> 1 Order
+pair/ -> 1 Order
+brestore/ -> 1 Order
+its-base/ -> 1 Order
+b-base/ -> 1 Order
+requester/ -> 1 Order
+b/ -> 1 Order
+precopy/ -> 1 Order
+";
 
-fn fault_of(alloc: Global, text: &str) -> Option<(u64, Kind)> {
-    match parse(alloc, text.as_bytes()) {
-        Err(ParseError::Fault(ScriptFault { line, kind })) => Some((line, kind)),
-        _ => None,
-    }
-}
+const DESCRIPTIONS: &str = "track x/ -> 2 Fields
+track/track x/ -> 3 Order
+pair 2/ -> 2 Fields
+pair/pair x/ -> 3 Order
+pair/limits 4096 1/ -> 3 Number
+limits 4096 1/pair/ -> 3 Number
+limits 4096 1/pair x/ -> 3 Fields
+brestore 0 0 0 0 0 0/pair/ -> 2 Order
+pair/brestore 0 0 0 0 0/ -> 3 Fields
+pair/brestore 0 0 0 0 0 x/ -> 3 Number
+pair/brestore 0 0 0 0 0 0/brestore/ -> 4 Order
+gicr/pair/brestore 0 0 0 0 0 0/rrestore 0 0 0 0/ -> 5 Order
+its-base 0x1000/ -> 2 Number
+its-base 0 0/ -> 2 Fields
+its-base 0/its-base x/ -> 3 Order
+b-base 0/pair/ -> 2 Order
+pair/b-base 0x18000/ -> 3 Number
+pair/b-base 0/b-base x/ -> 4 Order
+requester 0 0/ -> 2 Fields
+requester 0x100000000 0 0/ -> 2 Number
+requester 0 0x100000000 0/ -> 2 Number
+requester 0 0 0x100000000/ -> 2 Number
+pair/b/ -> 3 Order
+copy/ -> 2 Order
+dma 0 0 00/ -> 2 Order
+precopy x/ -> 2 Order
+track/precopy x/ -> 3 Missing
+";
 
-#[test]
-fn faulty_descriptions(rt: HostRuntime) -> Result<(), Fail> {
-    let alloc = rt.alloc();
-    for (lines, line, kind) in [
-        ("track x\n", 2, Kind::Fields),
-        ("track\ntrack x\n", 3, Kind::Order),
-        ("pair 2\n", 2, Kind::Fields),
-        ("pair\npair x\n", 3, Kind::Order),
-        ("pair\nlimits 4096 1\n", 3, Kind::Number),
-        ("limits 4096 1\npair\n", 3, Kind::Number),
-        ("limits 4096 1\npair x\n", 3, Kind::Fields),
-        ("brestore 0 0 0 0 0 0\npair\n", 2, Kind::Order),
-        ("pair\nbrestore 0 0 0 0 0\n", 3, Kind::Fields),
-        ("pair\nbrestore 0 0 0 0 0 x\n", 3, Kind::Number),
-        ("pair\nbrestore 0 0 0 0 0 0\nbrestore\n", 4, Kind::Order),
-        (
-            "gicr\npair\nbrestore 0 0 0 0 0 0\nrrestore 0 0 0 0\n",
-            5,
-            Kind::Order,
-        ),
-        ("its-base 0x1000\n", 2, Kind::Number),
-        ("its-base 0 0\n", 2, Kind::Fields),
-        ("its-base 0\nits-base x\n", 3, Kind::Order),
-        ("b-base 0\npair\n", 2, Kind::Order),
-        ("pair\nb-base 0x18000\n", 3, Kind::Number),
-        ("pair\nb-base 0\nb-base x\n", 4, Kind::Order),
-        ("requester 0 0\n", 2, Kind::Fields),
-        ("requester 0x100000000 0 0\n", 2, Kind::Number),
-        ("requester 0 0x100000000 0\n", 2, Kind::Number),
-        ("requester 0 0 0x100000000\n", 2, Kind::Number),
-        ("pair\nb\n", 3, Kind::Order),
-        ("copy\n", 2, Kind::Order),
-        ("dma 0 0 00\n", 2, Kind::Order),
-        ("precopy x\n", 2, Kind::Order),
-        ("track\nprecopy x\n", 3, Kind::Missing),
-    ] {
-        let text = format!(in alloc; "vcpus 4\n{lines}")?;
-        assert_eq!(rt;
-            fault_of(alloc, text.as_str()),
-            Some((line, kind)),
-            "{lines}"
-        );
-    }
-    for word in [
-        "track",
-        "pair",
-        "brestore",
-        "its-base",
-        "b-base",
-        "requester",
-        "b",
-        "precopy",
-    ] {
-        let text = format!(in alloc; "{word}\n")?;
-        assert_eq!(rt;
-            fault_of(alloc, text.as_str()),
-            Some((1, Kind::Order)),
-            "{word}"
-        );
-    }
-    Ok(())
-}
+const BODIES: &str = "end/ -> 1 16777215
+pair/end/ -> 2 4095
+limits 4095 1/pair/end/ -> 2 4095
+track/phase/thread/copy/precopy/migrate/precopy/end/ \
+-> 1 16777215 copy precopy migrate precopy
+pair/phase/thread/b signal 0 0/b read 0 4/b write 0 4 0/b step/step/end/ -> 2 4095 1 1 1 1 0
+its-base 0x8080000/# a remark/requester 0x100 0x1ff 0x10/phase/thread/\
+dma 256 0x8090040 03000000/dma 257 0x8090040 03000000/dma 512 0x8090040 03000000/\
+dma 256 0x8090040 0300/dma 256 0x8090040 030000/dma 256 0x8090042 0300/dma 512 0x80030008 40/end/ \
+-> 1 16777215 8 0:16:3 0:17:3 no-requester 0:16:3 frame frame poke
+pair/b-base 0x8080000/requester 0 1 0xffffffff/requester 0 9 5/phase/thread/\
+dma 0 0x8090040 0300/dma 1 0x8090040 0300/dma 9 0x8090040 0300/dma 0 0x807ffff 0300/end/ \
+-> 2 4095 8 9 1:4294967295:3 no-requester 1:14:3 frame
+phase/thread/copy x/ -> 8 Order
+track/phase/copy/ -> 8 Order
+track/phase/thread/copy x/ -> 9 Fields
+precopy/ -> 6 Order
+track/precopy x/ -> 7 Fields
+track/phase/precopy x/ -> 8 Missing
+track/end/precopy/ -> 8 Order
+phase/thread/b/ -> 8 Order
+phase/thread/b step/ -> 8 Order
+pair/phase/b/ -> 8 Order
+pair/phase/thread/b/ -> 9 Fields
+pair/phase/thread/b walk/ -> 9 Order
+pair/phase/thread/b take 0/ -> 9 Order
+pair/phase/thread/b save x/ -> 9 Order
+pair/phase/thread/b b step/ -> 9 Order
+pair/phase/thread/b signal 16/ -> 9 Fields
+pair/phase/thread/b signal 16 x/ -> 9 Number
+pair/phase/thread/b read 0 5/ -> 9 Number
+pair/phase/thread/b write 0 4/ -> 9 Fields
+pair/phase/thread/b step x/ -> 9 Fields
+phase/thread/dma 0 0/ -> 8 Fields
+phase/thread/dma 0x100000000 0 00/ -> 8 Number
+phase/thread/dma 0 x 00/ -> 8 Number
+phase/thread/dma 0 0 0/ -> 8 Hex
+phase/requester 0 0 0/ -> 7 Order
+phase/pair/ -> 7 Order
+ + 65 requester 0 0 0/ -> 70 Many
+track/ + 64 precopy/ -> 70 Many
+";
 
-#[test]
-fn faulty_bodies(rt: HostRuntime) -> Result<(), Fail> {
-    let alloc = rt.alloc();
-    for (lines, line, kind) in [
-        ("phase\nthread\ncopy x\n", 8, Kind::Order),
-        ("track\nphase\ncopy\n", 8, Kind::Order),
-        ("track\nphase\nthread\ncopy x\n", 9, Kind::Fields),
-        ("precopy\n", 6, Kind::Order),
-        ("track\nprecopy x\n", 7, Kind::Fields),
-        ("track\nphase\nprecopy x\n", 8, Kind::Missing),
-        ("track\nend\nprecopy\n", 8, Kind::Order),
-        ("phase\nthread\nb\n", 8, Kind::Order),
-        ("phase\nthread\nb step\n", 8, Kind::Order),
-        ("pair\nphase\nb\n", 8, Kind::Order),
-        ("pair\nphase\nthread\nb\n", 9, Kind::Fields),
-        ("pair\nphase\nthread\nb walk\n", 9, Kind::Order),
-        ("pair\nphase\nthread\nb take 0\n", 9, Kind::Order),
-        ("pair\nphase\nthread\nb save x\n", 9, Kind::Order),
-        ("pair\nphase\nthread\nb b step\n", 9, Kind::Order),
-        ("pair\nphase\nthread\nb signal 16\n", 9, Kind::Fields),
-        ("pair\nphase\nthread\nb signal 16 x\n", 9, Kind::Number),
-        ("pair\nphase\nthread\nb read 0 5\n", 9, Kind::Number),
-        ("pair\nphase\nthread\nb write 0 4\n", 9, Kind::Fields),
-        ("pair\nphase\nthread\nb step x\n", 9, Kind::Fields),
-        ("phase\nthread\ndma 0 0\n", 8, Kind::Fields),
-        ("phase\nthread\ndma 0x100000000 0 00\n", 8, Kind::Number),
-        ("phase\nthread\ndma 0 x 00\n", 8, Kind::Number),
-        ("phase\nthread\ndma 0 0 0\n", 8, Kind::Hex),
-        ("phase\nrequester 0 0 0\n", 7, Kind::Order),
-        ("phase\npair\n", 7, Kind::Order),
-    ] {
-        let text = format!(in alloc; "{HEAD}{lines}")?;
-        assert_eq!(rt;
-            fault_of(alloc, text.as_str()),
-            Some((line, kind)),
-            "{lines}"
-        );
-    }
-    Ok(())
-}
-
-// The last of them is line 70, after the five or six of the description.
-#[test]
-fn limits_are_passed(rt: HostRuntime) -> Result<(), Fail> {
-    let alloc = rt.alloc();
-    for (before, lines, count) in [("", "requester 0 0 0\n", 65), ("track\n", "precopy\n", 64)] {
-        let mut text = format!(in alloc; "{HEAD}{before}")?;
-        for _ in 0..count {
-            text.push_str(lines)?;
-        }
-        assert_eq!(rt;
-            fault_of(alloc, text.as_str()),
-            Some((70, Kind::Many)),
-            "{lines}"
-        );
-    }
-    Ok(())
-}
-
-fn push_route(said: &mut String, route: Route) -> Result<(), Fail> {
+fn push_route(said: &mut String, route: Route) -> Result<(), AllocError> {
     match route {
-        Route::Signal { its, dev, ev } => write!(said, " {its}:{}:{}", dev.0, ev.0)?,
-        Route::Poke => said.push_str(" poke")?,
-        Route::NoRequester => said.push_str(" no-requester")?,
-        Route::Frame => said.push_str(" frame")?,
+        Route::Signal { its, dev, ev } => write!(said, " {its}:{}:{}", dev.0, ev.0),
+        Route::Poke => said.push_str(" poke"),
+        Route::NoRequester => said.push_str(" no-requester"),
+        Route::Frame => said.push_str(" frame"),
     }
-    Ok(())
 }
 
-fn push_call(said: &mut String, call: &Call) -> Result<(), Fail> {
+fn push_call(said: &mut String, call: &Call) -> Result<(), AllocError> {
     match call {
-        Call::Dma { route, .. } => push_route(said, *route)?,
-        Call::Copy => said.push_str(" copy")?,
+        Call::Dma { route, .. } => push_route(said, *route),
+        Call::Copy => said.push_str(" copy"),
         Call::Signal { its, .. }
         | Call::ReadReg { its, .. }
         | Call::WriteReg { its, .. }
-        | Call::Step { its } => write!(said, " {its}")?,
-        _ => said.push_str(" other")?,
+        | Call::Step { its } => write!(said, " {its}"),
+        _ => said.push_str(" other"),
     }
-    Ok(())
 }
 
-fn push_calls(said: &mut String, script: &Script) -> Result<(), Fail> {
+fn push_calls(said: &mut String, script: &Script) -> Result<(), AllocError> {
     for leg in script.legs.as_slice() {
         for phase in leg.as_slice() {
             for thread in phase.as_slice() {
@@ -174,61 +122,33 @@ fn push_calls(said: &mut String, script: &Script) -> Result<(), Fail> {
     Ok(())
 }
 
-// The numbers of translators, the last stamp, the lines of requesters, the calls, and how legs end.
-fn summary(alloc: Global, lines: &str) -> Result<String, Fail> {
-    let text = format!(in alloc; "{HEAD}{lines}end\n")?;
-    let script = parse(alloc, text.as_bytes()).ok().ok_or("refused")?;
-    let mut said = String::new(alloc);
+/// Appends the number of translators, the last stamp, the lines of requesters, the calls, and how
+/// legs end.
+pub fn push_pair(said: &mut String, script: &Script) -> Result<(), AllocError> {
     let desc = &script.desc;
-    write!(
-        said,
-        "{} {}",
-        desc.translators.len(),
-        desc.limits.stamp_last
-    )?;
+    let stamp_last = desc.limits.stamp_last;
+    write!(said, "{} {stamp_last}", desc.translators.len())?;
     for line in script.requester_lines.as_slice() {
         write!(said, " {line}")?;
     }
-    push_calls(&mut said, &script)?;
+    push_calls(said, script)?;
     for how in script.moves.as_slice() {
         said.push_str(match how {
             Move::Migrate => " migrate",
             Move::Precopy => " precopy",
         })?;
     }
-    Ok(said)
+    Ok(())
 }
 
 #[test]
 fn scripts_are_read(rt: HostRuntime) -> Result<(), Fail> {
-    let alloc = rt.alloc();
-    for (lines, said) in [
-        ("", "1 16777215"),
-        ("pair\n", "2 4095"),
-        ("limits 4095 1\npair\n", "2 4095"),
-        (
-            "track\nphase\nthread\ncopy\nprecopy\nmigrate\nprecopy\n",
-            "1 16777215 copy precopy migrate precopy",
-        ),
-        (
-            "pair\nphase\nthread\nb signal 0 0\nb read 0 4\nb write 0 4 0\nb step\nstep\n",
-            "2 4095 1 1 1 1 0",
-        ),
-        (
-            "its-base 0x8080000\n# a remark\nrequester 0x100 0x1ff 0x10\nphase\nthread\n\
-             dma 256 0x8090040 03000000\ndma 257 0x8090040 03000000\n\
-             dma 512 0x8090040 03000000\ndma 256 0x8090040 0300\ndma 256 0x8090040 030000\n\
-             dma 256 0x8090042 0300\ndma 512 0x80030008 40\n",
-            "1 16777215 8 0:16:3 0:17:3 no-requester 0:16:3 frame frame poke",
-        ),
-        (
-            "pair\nb-base 0x8080000\nrequester 0 1 0xffffffff\nrequester 0 9 5\nphase\nthread\n\
-             dma 0 0x8090040 0300\ndma 1 0x8090040 0300\ndma 9 0x8090040 0300\n\
-             dma 0 0x807ffff 0300\n",
-            "2 4095 8 9 1:4294967295:3 no-requester 1:14:3 frame",
-        ),
+    for (head, rows) in [
+        ("", FIRST_LINES),
+        ("vcpus 4/", DESCRIPTIONS),
+        (HEAD, BODIES),
     ] {
-        assert_eq!(rt; summary(alloc, lines)?.as_str(), said, "{lines}");
+        assert_eq!(rt; reads(rt.alloc(), Told::Pair, head, rows)?.as_str(), rows);
     }
     Ok(())
 }

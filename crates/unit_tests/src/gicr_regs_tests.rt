@@ -8,76 +8,110 @@ const SAVED: GicrRegisters = GicrRegisters {
     pendbaser: 0x4000_0000_8006_0000,
 };
 
+// Above each address that a base register has.
+const END: u64 = 1 << 52;
+
+// The first offset of reads, each with its size and value, where another value is read.
+fn wrong_read(linux: bool, bases: &Bases, reads: &[(u32, u8, u64)]) -> Option<u32> {
+    for (off, size, value) in reads {
+        if bases.prop.table.0 >= END || bases.pend.table.0 >= END {
+            return Some(*off);
+        }
+        if read_gicr(linux, bases, *off, *size) != *value {
+            return Some(*off);
+        }
+    }
+    None
+}
+
+// The first offset of writes, each with its size and value, where something else is asked.
+fn wrong_write(bases: &Bases, writes: &[(u32, u8, u64, GicrWrite)]) -> Option<u32> {
+    for (off, size, value, asked) in writes {
+        if bases.prop.table.0 >= END || bases.pend.table.0 >= END {
+            return Some(*off);
+        }
+        if asked_by(bases, *off, *size, *value) != *asked {
+            return Some(*off);
+        }
+    }
+    None
+}
+
+const READS: [(u32, u8, u64); 6] = [
+    (0x0, 4, 1),
+    (0x70, 8, 0x8003_000f),
+    (0x74, 4, 0),
+    (0x78, 8, 0x8006_0000),
+    (0x78, 4, 0x8006_0000),
+    (0xc0, 4, 0),
+];
+
+// For a Linux guest GICR_CTLR has bit 1, and both bases have bits 11 to 7 as Inner Shareable and
+// write-back: 0x780.
+const LINUX_READS: [(u32, u8, u64); 7] = [
+    (0x0, 4, 3),
+    (0x70, 8, 0x8003_078f),
+    (0x70, 4, 0x8003_078f),
+    (0x74, 4, 0),
+    (0x78, 8, 0x8006_0780),
+    (0x7c, 4, 0),
+    (0xa0, 8, 0),
+];
+
+const WRITES: [(u32, u8, u64, GicrWrite); 5] = [
+    (0x70, 8, 0, GicrWrite::Ignored),
+    (0xa0, 8, 8200, GicrWrite::Reread(Intid(8200))),
+    (0xb4, 4, 0, GicrWrite::RereadAll),
+    (0x0, 4, 0, GicrWrite::Disable),
+    (0x0, 4, 3, GicrWrite::Ignored),
+];
+
 #[test]
 fn values_are_kept_and_read(rt: HostRuntime) {
     let bases = restored_bases(&SAVED);
-    assert!(rt; bases.on && bases.pend.ptz);
-    let reads = [
-        (0x0, 4, 1),
-        (0x70, 8, 0x8003_000f),
-        (0x74, 4, 0),
-        (0x78, 8, 0x8006_0000),
-        (0x78, 4, 0x8006_0000),
-        (0xc0, 4, 0),
-    ];
-    for (off, size, value) in reads {
-        assert_eq!(rt; read_gicr(false, &bases, off, size), value, "at {off}");
-    }
     let values = values_of(&bases);
-    assert!(rt; values.ctlr == 1 && values.pendbaser == SAVED.pendbaser);
-    assert_eq!(rt; asked_by(&bases, 0x70, 8, 0), GicrWrite::Ignored);
-    assert_eq!(rt;
-        asked_by(&bases, 0xa0, 8, 8200),
-        GicrWrite::Reread(Intid(8200))
-    );
-    assert_eq!(rt; asked_by(&bases, 0xb4, 4, 0), GicrWrite::RereadAll);
+    assert_eq!(rt; (values.ctlr, values.pendbaser), (1, SAVED.pendbaser));
+    assert!(rt; bases.on && bases.pend.ptz);
+    let read = wrong_read(false, &bases, &READS);
+    let linux = wrong_read(true, &bases, &LINUX_READS);
+    let written = wrong_write(&bases, &WRITES);
+    assert_eq!(rt; [read, linux, written], [None; 3]);
 }
 
 #[test]
-fn writes_while_lpis_are_off(rt: HostRuntime) {
-    let mut bases = Bases::off();
-    assert_eq!(rt; asked_by(&bases, 0x0, 4, 1), GicrWrite::Enable);
-    assert_eq!(rt; asked_by(&bases, 0x0, 4, 0), GicrWrite::Ignored);
-    bases.pend = Pendbaser {
-        table: Addr(0),
-        ptz: true,
+fn lpis_are_off(rt: HostRuntime) {
+    let off = Bases::off();
+    let zeroed = Bases {
+        pend: Pendbaser {
+            table: Addr(0),
+            ptz: true,
+        },
+        ..off
     };
     let half = GicrWrite::SetBases(Bases {
         pend: Pendbaser {
             table: Addr(0x8006_0000),
             ptz: true,
         },
-        ..bases
+        ..zeroed
     });
-    assert_eq!(rt; asked_by(&bases, 0x78, 4, 0x8006_0000), half);
     let whole = GicrWrite::SetBases(Bases {
         prop: Propbaser {
             table: Addr(0x8003_0000),
             id_bits: 15,
         },
-        ..bases
+        ..zeroed
     });
-    assert_eq!(rt; asked_by(&bases, 0x70, 8, 0xfff0_0000_8003_0fef), whole);
-}
-
-// For a Linux guest GICR_CTLR has bit 1, and both bases have bits 11 to 7 as Inner Shareable and
-// write-back: 0x780.
-#[test]
-fn reads_of_a_linux_guest(rt: HostRuntime) {
-    let bases = restored_bases(&SAVED);
-    let reads = [
-        (0x0, 4, 3),
-        (0x70, 8, 0x8003_078f),
-        (0x70, 4, 0x8003_078f),
-        (0x74, 4, 0),
-        (0x78, 8, 0x8006_0780),
-        (0x7c, 4, 0),
-        (0xa0, 8, 0),
+    let turning = [
+        (0x0, 4, 1, GicrWrite::Enable),
+        (0x0, 4, 0, GicrWrite::Ignored),
     ];
-    for (off, size, value) in reads {
-        assert_eq!(rt; read_gicr(true, &bases, off, size), value, "at {off}");
-    }
-    assert_eq!(rt; read_gicr(true, &Bases::off(), 0x0, 4), 2);
-    assert_eq!(rt; asked_by(&bases, 0x0, 4, 0), GicrWrite::Disable);
-    assert_eq!(rt; asked_by(&bases, 0x0, 4, 3), GicrWrite::Ignored);
+    let setting = [
+        (0x78, 4, 0x8006_0000, half),
+        (0x70, 8, 0xfff0_0000_8003_0fef, whole),
+    ];
+    let read = wrong_read(true, &off, &[(0x0, 4, 2)]);
+    let turned = wrong_write(&off, &turning);
+    let set = wrong_write(&zeroed, &setting);
+    assert_eq!(rt; [read, turned, set], [None; 3]);
 }

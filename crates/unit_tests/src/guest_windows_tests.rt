@@ -3,21 +3,34 @@ use guest_windows::{Memory, NewError, Outside, WriteError, are_windows};
 use its_types::Addr;
 use std::test::Fail;
 
+const LAST: Addr = Addr((1 << 52) - 16);
+
+// Pairs of windows, and whether a memory may have them.
+const WINDOWS: [([(Addr, u64); 2], bool); 8] = [
+    ([(Addr(0), 16), (Addr(16), 16)], true),
+    ([(Addr(0), 17), (Addr(16), 16)], false),
+    ([(Addr(16), 16), (Addr(8), 9)], false),
+    ([(Addr(0), 16), (Addr(16), 0)], false),
+    ([(Addr(0), 16), (LAST, 16)], true),
+    ([(Addr(0), 16), (LAST, 17)], false),
+    ([(Addr(0), (1 << 52) - 16), (LAST, 16)], true),
+    ([(Addr(0), (1 << 52) - 15), (LAST, 16)], false),
+];
+
+// The first of them that is answered otherwise.
+fn wrong_windows() -> Option<usize> {
+    for (at, (windows, want)) in WINDOWS.iter().enumerate() {
+        if are_windows(windows) != *want {
+            return Some(at);
+        }
+    }
+    None
+}
+
 #[test]
 fn windows_of_a_memory(rt: HostRuntime) {
-    let last = Addr((1 << 52) - 16);
-    for (windows, want) in [
-        ([(Addr(0), 16), (Addr(16), 16)], true),
-        ([(Addr(0), 17), (Addr(16), 16)], false),
-        ([(Addr(16), 16), (Addr(8), 9)], false),
-        ([(Addr(0), 16), (Addr(16), 0)], false),
-        ([(Addr(0), 16), (last, 16)], true),
-        ([(Addr(0), 16), (last, 17)], false),
-        ([(Addr(0), (1 << 52) - 16), (last, 16)], true),
-        ([(Addr(0), (1 << 52) - 15), (last, 16)], false),
-    ] {
-        assert_eq!(rt; are_windows(&windows), want, "{windows:?}");
-    }
+    assert_eq!(rt; wrong_windows(), None);
+    assert!(rt; matches!(Memory::new(rt.alloc(), &[]), Err(NewError::BadWindows)));
 }
 
 const TWO: [(Addr, u64); 2] = [(Addr(0x8000_0000), 0x1000), (Addr(0x8000_1000), 0x20)];
@@ -35,7 +48,8 @@ enum Act {
 
 fn reads_nothing(memory: &Memory, addr: u64) -> bool {
     let mut buf = [7; 5];
-    memory.read(Addr(addr), &mut buf) == Err(Outside(Addr(addr))) && buf == [7; 5]
+    let failed = memory.read(Addr(addr), &mut buf) == Err(Outside(Addr(addr)));
+    failed && buf == [7; 5]
 }
 
 // Whether the memory does as the act says.
@@ -84,14 +98,10 @@ const COPIED: [Act; 5] = [
 #[test]
 fn bytes_are_what_was_written(rt: HostRuntime) -> Result<(), Fail> {
     let mut memory = Memory::new(rt.alloc(), &TWO)?;
-    assert_eq!(rt; play(&mut memory, &WRITTEN), 6);
+    let written = play(&mut memory, &WRITTEN);
     let mut copy = memory.copy(rt.alloc())?;
-    assert_eq!(rt; play(&mut memory, &[Act::WritesWord(0x8000_1018, 0)]), 1);
-    assert_eq!(rt; play(&mut copy, &COPIED), 5);
+    let written_again = play(&mut memory, &[Act::WritesWord(0x8000_1018, 0)]);
+    let copied = play(&mut copy, &COPIED);
+    assert_eq!(rt; [written, written_again, copied], [6, 1, 5]);
     Ok(())
-}
-
-#[test]
-fn bad_windows_are_told(rt: HostRuntime) {
-    assert!(rt; matches!(Memory::new(rt.alloc(), &[]), Err(NewError::BadWindows)));
 }

@@ -59,9 +59,10 @@ const ABC: [ReadRow; 3] = [
 fn standard_source_reads_its_reader(rt: HostRuntime) -> Result<(), Fail> {
     let mut queue = VecDeque::new(rt.alloc());
     queue.write_all(b"abc")?;
-    assert_eq!(rt; read_rows(&mut StdSource::new(queue), &ABC), 3);
+    let read = read_rows(&mut StdSource::new(queue), &ABC);
     let failed = [(2, Err(Failed), [0; 4])];
-    assert_eq!(rt; read_rows(&mut StdSource::new(Broken), &failed), 1);
+    let failed = read_rows(&mut StdSource::new(Broken), &failed);
+    assert_eq!(rt; [read, failed], [3, 1]);
     Ok(())
 }
 
@@ -69,10 +70,11 @@ fn standard_source_reads_its_reader(rt: HostRuntime) -> Result<(), Fail> {
 fn standard_sink_writes_its_writer(rt: HostRuntime) -> Result<(), Fail> {
     let mut queue = VecDeque::new(rt.alloc());
     let taken = [(b"abc".as_slice(), Ok(3)), (b"".as_slice(), Ok(0))];
-    assert_eq!(rt; write_rows(&mut StdSink::new(&mut queue), &taken), 2);
-    assert_eq!(rt; queue.pop_front(), Some(b'a'));
+    let taken = write_rows(&mut StdSink::new(&mut queue), &taken);
+    let front = queue.pop_front();
     let failed = [(b"abc".as_slice(), Err(Failed)), (b"".as_slice(), Ok(0))];
-    assert_eq!(rt; write_rows(&mut StdSink::new(Broken), &failed), 2);
+    let failed = write_rows(&mut StdSink::new(Broken), &failed);
+    assert_eq!(rt; (taken, front, failed), (2, Some(b'a'), 2));
     Ok(())
 }
 
@@ -100,19 +102,20 @@ fn sink_in_memory_fails_once_it_is_full(rt: HostRuntime) -> Result<(), Fail> {
         (b"d".as_slice(), Err(Failed)),
         (b"".as_slice(), Ok(0)),
     ];
-    assert_eq!(rt; write_rows(&mut sink, &rows), 5);
-    assert_eq!(rt; sink.bytes(), b"abc".as_slice());
+    let written = write_rows(&mut sink, &rows);
+    assert!(rt; written == 5 && sink.bytes() == b"abc".as_slice());
     Ok(())
 }
 
 #[test]
 fn sure_forms_never_fail(rt: HostRuntime) -> Result<(), Fail> {
     let mut source = SureSource::new(rt.alloc(), b"abc")?;
-    assert_eq!(rt; read_rows(&mut source, &ABC), 3);
+    let read = read_rows(&mut source, &ABC);
     let mut sink = SureSink::new(rt.alloc(), 3)?;
-    assert_eq!(rt; write_rows(&mut sink, &[(b"abc".as_slice(), Ok(3))]), 1);
-    assert_eq!(rt; sink.bytes(), Some(b"abc".as_slice()));
-    assert_eq!(rt; write_rows(&mut sink, &[(b"d".as_slice(), Ok(1))]), 1);
-    assert!(rt; sink.bytes().is_none());
+    let written = write_rows(&mut sink, &[(b"abc".as_slice(), Ok(3))]);
+    let is_held = sink.bytes() == Some(b"abc".as_slice());
+    let too_many = write_rows(&mut sink, &[(b"d".as_slice(), Ok(1))]);
+    assert_eq!(rt; [read, written, too_many], [3, 1, 1]);
+    assert!(rt; is_held && sink.bytes().is_none());
     Ok(())
 }

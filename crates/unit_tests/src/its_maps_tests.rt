@@ -14,7 +14,6 @@ const HERE: DeviceId = DeviceId(16);
 
 // What maps are asked, with the answer. An event is mapped by collection 1 and moved to 2, and a
 // collection is mapped to virtual processor 2.
-#[derive(Clone, Copy)]
 enum Act {
     MapDevice(u32),
     UnmapDevice(u32),
@@ -71,11 +70,11 @@ fn map_collection(maps: &mut Maps, icid: u16) -> Result<bool, AllocError> {
     Ok(true)
 }
 
-fn unmap(maps: &mut Maps, act: Act) -> bool {
+fn unmap(maps: &mut Maps, act: &Act) -> bool {
     match act {
-        Act::UnmapDevice(dev) => maps.unmap_device(DeviceId(dev)),
-        Act::UnmapEvent(ev) => maps.unmap_event(HERE, EventId(ev)),
-        Act::UnmapCollection(icid) => maps.unmap_collection(Icid(icid)),
+        Act::UnmapDevice(dev) => maps.unmap_device(DeviceId(*dev)),
+        Act::UnmapEvent(ev) => maps.unmap_event(HERE, EventId(*ev)),
+        Act::UnmapCollection(icid) => maps.unmap_collection(Icid(*icid)),
         Act::EmptyDevices => maps.empty_devices(),
         Act::EmptyCollections => maps.empty_collections(),
         _ => return false,
@@ -84,29 +83,45 @@ fn unmap(maps: &mut Maps, act: Act) -> bool {
 }
 
 fn are_devices(maps: &Maps, ids: &[u32]) -> bool {
-    maps.devices().map(|(dev, _)| dev.0).eq(ids.iter().copied())
+    let mut ids = ids.iter();
+    for (dev, _) in maps.devices() {
+        if ids.next() != Some(&dev.0) {
+            return false;
+        }
+    }
+    ids.next().is_none()
 }
 
 fn are_events(maps: &Maps, ids: &[u32]) -> bool {
-    let events = maps.events(HERE);
-    events.map(|(ev, _)| ev.0).eq(ids.iter().copied())
+    let mut ids = ids.iter();
+    for (ev, _) in maps.events(HERE) {
+        if ids.next() != Some(&ev.0) {
+            return false;
+        }
+    }
+    ids.next().is_none()
 }
 
 fn are_collections(maps: &Maps, ids: &[u16]) -> bool {
-    let collections = maps.collections();
-    collections.map(|(icid, _)| icid.0).eq(ids.iter().copied())
+    let mut ids = ids.iter();
+    for (icid, _) in maps.collections() {
+        if ids.next() != Some(&icid.0) {
+            return false;
+        }
+    }
+    ids.next().is_none()
 }
 
 // Whether the maps do as the act says.
-fn does(maps: &mut Maps, act: Act) -> Result<bool, AllocError> {
+fn does(maps: &mut Maps, act: &Act) -> Result<bool, AllocError> {
     match act {
-        Act::MapDevice(dev) => map_device(maps, dev),
-        Act::MapEvent(ev) => map_event(maps, ev),
-        Act::MoveEvent(ev) => Ok(move_event(maps, ev)),
-        Act::MapCollection(icid) => map_collection(maps, icid),
-        Act::Device(dev, device) => Ok(maps.device(DeviceId(dev)) == device),
-        Act::Event(ev, found) => Ok(maps.look_up(HERE, EventId(ev)) == found),
-        Act::Collection(icid, vcpu) => Ok(maps.collection(Icid(icid)) == vcpu),
+        Act::MapDevice(dev) => map_device(maps, *dev),
+        Act::MapEvent(ev) => map_event(maps, *ev),
+        Act::MoveEvent(ev) => Ok(move_event(maps, *ev)),
+        Act::MapCollection(icid) => map_collection(maps, *icid),
+        Act::Device(dev, device) => Ok(maps.device(DeviceId(*dev)) == *device),
+        Act::Event(ev, found) => Ok(maps.look_up(HERE, EventId(*ev)) == *found),
+        Act::Collection(icid, vcpu) => Ok(maps.collection(Icid(*icid)) == *vcpu),
         Act::Devices(ids) => Ok(are_devices(maps, ids)),
         Act::Events(ids) => Ok(are_events(maps, ids)),
         Act::Collections(ids) => Ok(are_collections(maps, ids)),
@@ -114,15 +129,20 @@ fn does(maps: &mut Maps, act: Act) -> Result<bool, AllocError> {
     }
 }
 
-// How many of the acts empty maps do as they say, up to the first that they don't.
-fn play(alloc: Global, acts: &[Act]) -> Result<usize, AllocError> {
-    let mut maps = Maps::new(alloc);
+// How many of the acts the maps do as they say, up to the first that they don't.
+fn played(maps: &mut Maps, acts: &[Act]) -> Result<usize, AllocError> {
     for (at, act) in acts.iter().enumerate() {
-        if !does(&mut maps, *act)? {
+        if !does(maps, act)? {
             return Ok(at);
         }
     }
     Ok(acts.len())
+}
+
+// The same of empty maps.
+fn play(alloc: Global, acts: &[Act]) -> Result<usize, AllocError> {
+    let mut maps = Maps::new(alloc);
+    played(&mut maps, acts)
 }
 
 const DEVICES: [Act; 12] = [
@@ -139,12 +159,6 @@ const DEVICES: [Act; 12] = [
     Act::EmptyDevices,
     Act::Devices(&[]),
 ];
-
-#[test]
-fn devices_far_apart_rise(rt: HostRuntime) -> Result<(), Fail> {
-    assert_eq!(rt; play(rt.alloc(), &DEVICES)?, 12);
-    Ok(())
-}
 
 const MOVED: Event = Event {
     intid: Intid(8200),
@@ -170,12 +184,6 @@ const EVENTS: [Act; 16] = [
     Act::Event(300, LookUp::NoEvent(DEVICE)),
 ];
 
-#[test]
-fn many_events_of_a_device(rt: HostRuntime) -> Result<(), Fail> {
-    assert_eq!(rt; play(rt.alloc(), &EVENTS)?, 16);
-    Ok(())
-}
-
 const COLLECTIONS: [Act; 8] = [
     Act::MapCollection(7),
     Act::MapCollection(65_535),
@@ -187,8 +195,15 @@ const COLLECTIONS: [Act; 8] = [
     Act::Collections(&[]),
 ];
 
+// Devices far apart rise, and so do many events of one device, and collections.
 #[test]
-fn collections_rise(rt: HostRuntime) -> Result<(), Fail> {
-    assert_eq!(rt; play(rt.alloc(), &COLLECTIONS)?, 8);
+fn maps_do_as_they_are_told(rt: HostRuntime) -> Result<(), Fail> {
+    let alloc = rt.alloc();
+    let played = [
+        play(alloc, &DEVICES)?,
+        play(alloc, &EVENTS)?,
+        play(alloc, &COLLECTIONS)?,
+    ];
+    assert_eq!(rt; played, [12, 16, 8]);
     Ok(())
 }

@@ -1,69 +1,34 @@
-//! Pending sets.
-ghost use Rattle.std.specs.Prelude.{◌≡◌};
-
+//! Redistributors in hand: what is pending, which LPI comes first, and registers.
 use guest_windows::Memory;
 use its_types::{Addr, Bases, Intid, Profile, Shape, Vcpu};
 use lpi_config::Config;
-use lpi_pending::{Pending, Redist, Redists, first_nonzero, gicr_read, gicr_write};
+use lpi_pending::{Pending, Redist, Redists, gicr_read, gicr_write};
 use std::alloc::{AllocError, Global};
 use std::test::Fail;
 
-const SHAPE: Shape = Shape {
-    vcpus: 1,
-    dev_bits: 16,
-    lpi_bits: 14,
-    profile: Profile::One,
-    linux: false,
-};
-
-// Words, and the place of the first that isn't zero.
-const WORDS: [(&[u64], Option<usize>); 10] = [
-    (&[], None),
-    (&[0], None),
-    (&[1 << 63], Some(0)),
-    (&[0, 0, 0], None),
-    (&[0, 0, 7], Some(2)),
-    (&[0, 0, 0, 0], None),
-    (&[0, 1 << 32, 0, 1], Some(1)),
-    (&[0, 0, 0, 1], Some(3)),
-    (&[0, 0, 0, 0, 0], None),
-    (&[0, 0, 0, 0, 2], Some(4)),
-];
-
-#[test]
-fn first_words_that_are_not_zero(rt: HostRuntime) {
-    for (words, first) in WORDS {
-        assert_eq!(rt; first_nonzero(words), first, "{words:?}");
-    }
-}
-
-#[test]
-fn a_word_before_those_that_are_not_zero(rt: HostRuntime) {
-    let mut words = [0; 14];
-    assert_eq!(rt; first_nonzero(&words), None);
-    for at in [13, 12, 11, 8, 7, 6, 5, 4, 0] {
-        words[at] = 1 << at;
-        assert_eq!(rt; first_nonzero(&words), Some(at), "at {at}");
-    }
-}
-
-// What pending LPIs with a configuration are asked, and the answer.
-#[derive(Clone, Copy)]
+// What a redistributor is told or asked, and the answer.
 enum Act {
     Set(u32),
     Clear(u32),
     Has(u32, bool),
+    // A byte of the pending table.
+    SetByte(u32, u8),
+    Byte(u32, u8),
     // An LPI's configuration byte.
     Reload(u32, u8),
+    Config(u32, u8),
     FirstEnabled(Option<u32>),
     // The first by priority below a mask.
     Best(u8, Option<u32>),
     // Whether it may be claimed.
     Claims(u32, bool),
+    // So many bytes at an offset of its registers.
+    Write(u32, u8, u64),
+    Read(u32, u8, u64),
 }
 
-// Whether that is an LPI, which is then pending or isn't any more.
-fn put(pending: &mut Pending, lpi: u32, on: bool) -> bool {
+/// Whether that is an LPI, which is then pending or isn't any more.
+pub fn put(pending: &mut Pending, lpi: u32, on: bool) -> bool {
     let intid = Intid(lpi);
     if !intid.in_range(pending.lpi_bits()) {
         return false;
@@ -85,6 +50,22 @@ fn has(pending: &Pending, lpi: u32) -> Option<bool> {
     }
 }
 
+// Whether it is a byte of the table, which then has this value.
+fn set_byte(pending: &mut Pending, n: u32, byte: u8) -> bool {
+    if pending.lpi_bits() != 14 || n < 1024 || n >= 2048 {
+        return false;
+    }
+    pending.set_byte(n, byte);
+    true
+}
+
+fn byte(pending: &Pending, n: u32) -> Option<u8> {
+    if pending.lpi_bits() != 14 || n < 1024 || n >= 2048 {
+        return None;
+    }
+    Some(pending.byte(n))
+}
+
 fn reload(config: &mut Config, lpi: u32, byte: u8) -> bool {
     let intid = Intid(lpi);
     if !intid.in_range(config.lpi_bits()) {
@@ -92,6 +73,14 @@ fn reload(config: &mut Config, lpi: u32, byte: u8) -> bool {
     }
     config.reload(intid, byte);
     true
+}
+
+fn configured(config: &Config, lpi: u32) -> Option<u8> {
+    let intid = Intid(lpi);
+    if !intid.in_range(config.lpi_bits()) {
+        return None;
+    }
+    Some(config.byte(intid))
 }
 
 fn first_enabled(pending: &Pending, config: &Config) -> Option<u32> {
@@ -120,29 +109,88 @@ fn claims(pending: &Pending, config: &Config, lpi: u32) -> Option<bool> {
     }
 }
 
-fn does(pending: &mut Pending, config: &mut Config, act: Act) -> bool {
+// Above each address that a base register has.
+const END: u64 = 1 << 52;
+
+fn write(
+    redist: &mut Redist,
+    memory: &Memory,
+    shape: &Shape,
+    off: u32,
+    size: u8,
+    value: u64,
+) -> bool {
+    let Bases { prop, pend, .. } = redist.bases;
+    if prop.table.0 >= END || pend.table.0 >= END {
+        return false;
+    }
+    let bits = shape.lpi_bits;
+    if redist.pending.lpi_bits() != bits || redist.config.lpi_bits() != bits {
+        return false;
+    }
+    gicr_write(redist, memory, shape, off, size, value);
+    true
+}
+
+fn read(redist: &Redist, linux: bool, off: u32, size: u8) -> Option<u64> {
+    let Bases { prop, pend, .. } = redist.bases;
+    if prop.table.0 >= END || pend.table.0 >= END {
+        return None;
+    }
+    Some(gicr_read(linux, redist, off, size))
+}
+
+// Whether the redistributor does as the act says.
+fn does(redist: &mut Redist, memory: &Memory, shape: &Shape, act: &Act) -> bool {
+    let Redist {
+        pending,
+        config,
+        ..
+    } = redist;
     match act {
-        Act::Set(lpi) => put(pending, lpi, true),
-        Act::Clear(lpi) => put(pending, lpi, false),
-        Act::Has(lpi, want) => has(pending, lpi) == Some(want),
-        Act::Reload(lpi, byte) => reload(config, lpi, byte),
-        Act::FirstEnabled(want) => first_enabled(pending, config) == want,
-        Act::Best(mask, want) => best(pending, config, mask) == want,
-        Act::Claims(lpi, want) => claims(pending, config, lpi) == Some(want),
+        Act::Set(lpi) => put(pending, *lpi, true),
+        Act::Clear(lpi) => put(pending, *lpi, false),
+        Act::Has(lpi, want) => has(pending, *lpi) == Some(*want),
+        Act::SetByte(n, byte) => set_byte(pending, *n, *byte),
+        Act::Byte(n, want) => byte(pending, *n) == Some(*want),
+        Act::Reload(lpi, byte) => reload(config, *lpi, *byte),
+        Act::Config(lpi, want) => configured(config, *lpi) == Some(*want),
+        Act::FirstEnabled(want) => first_enabled(pending, config) == *want,
+        Act::Best(mask, want) => best(pending, config, *mask) == *want,
+        Act::Claims(lpi, want) => claims(pending, config, *lpi) == Some(*want),
+        Act::Write(off, size, value) => write(redist, memory, shape, *off, *size, *value),
+        Act::Read(off, size, value) => read(redist, shape.linux, *off, *size) == Some(*value),
     }
 }
 
-// How many of the acts are done as they say, up to the first that isn't.
-fn play(pending: &mut Pending, config: &mut Config, acts: &[Act]) -> usize {
+// A redistributor whose LPIs are off.
+fn off(alloc: Global) -> Result<Redist, AllocError> {
+    Ok(Redist {
+        pending: Pending::new(alloc, 14)?,
+        config: Config::zeros(alloc, 14)?,
+        bases: Bases::off(),
+    })
+}
+
+// How many of the acts it does as they say, up to the first that it doesn't.
+fn play(alloc: Global, memory: &Memory, linux: bool, acts: &[Act]) -> Result<usize, AllocError> {
+    let shape = Shape {
+        vcpus: 1,
+        dev_bits: 16,
+        lpi_bits: 14,
+        profile: Profile::One,
+        linux,
+    };
+    let mut redist = off(alloc)?;
     for (at, act) in acts.iter().enumerate() {
-        if !does(pending, config, *act) {
-            return at;
+        if !does(&mut redist, memory, &shape, act) {
+            return Ok(at);
         }
     }
-    acts.len()
+    Ok(acts.len())
 }
 
-const ACTS: [Act; 12] = [
+const PENDING: &[Act] = &[
     Act::FirstEnabled(None),
     Act::Set(8200),
     Act::Set(16383),
@@ -155,20 +203,12 @@ const ACTS: [Act; 12] = [
     Act::FirstEnabled(Some(8200)),
     Act::Clear(8200),
     Act::FirstEnabled(Some(16383)),
+    Act::Has(8200, false),
 ];
-
-#[test]
-fn pending_lpis(rt: HostRuntime) -> Result<(), Fail> {
-    let mut config = Config::zeros(rt.alloc(), 14)?;
-    let mut pending = Pending::new(rt.alloc(), 14)?;
-    assert_eq!(rt; play(&mut pending, &mut config, &ACTS), 12);
-    assert_eq!(rt; has(&pending, 8200), Some(false));
-    Ok(())
-}
 
 // A lower number comes first, and among equal ones the lowest LPI. What isn't below the mask, isn't
 // enabled or isn't pending is none of them.
-const BY_PRIORITY: [Act; 22] = [
+const BY_PRIORITY: &[Act] = &[
     Act::Best(0xff, None),
     Act::Set(8200),
     Act::Set(8201),
@@ -191,186 +231,138 @@ const BY_PRIORITY: [Act; 22] = [
     Act::Claims(8191, false),
     Act::Clear(8300),
     Act::Best(0xff, Some(12288)),
+    Act::Claims(0xffff_ffff, false),
 ];
 
-#[test]
-fn pending_lpis_by_priority(rt: HostRuntime) -> Result<(), Fail> {
-    let mut config = Config::zeros(rt.alloc(), 14)?;
-    let mut pending = Pending::new(rt.alloc(), 14)?;
-    assert_eq!(rt; play(&mut pending, &mut config, &BY_PRIORITY), 22);
-    assert_eq!(rt; claims(&pending, &config, 0xffff_ffff), Some(false));
-    Ok(())
+const TABLE: &[Act] = &[
+    Act::Set(8200),
+    Act::Set(8207),
+    Act::Byte(1024, 0),
+    Act::Byte(1025, 0x81),
+    Act::SetByte(1025, 0x02),
+    Act::SetByte(2047, 0x80),
+    Act::Byte(1025, 0x02),
+    Act::Has(8201, true),
+    Act::Has(8200, false),
+    Act::Has(16383, true),
+];
+
+// Below GICR_PROPBASER is written, GICR_PENDBASER, and the lower half of that once more. Then LPIs
+// are turned on, where that can be.
+const TURNED_ON: &[Act] = &[
+    Act::Write(0x70, 8, 0x8003_0000),
+    Act::Write(0x78, 8, 0),
+    Act::Write(0x78, 4, 0x8006_0000),
+    Act::Write(0x0, 4, 1),
+    Act::Read(0x0, 4, 1),
+    Act::Has(8200, true),
+    Act::Config(8200, 0xa1),
+];
+
+const PENDING_TABLE_ZERO: &[Act] = &[
+    Act::Write(0x70, 8, 0x8003_0000),
+    Act::Write(0x78, 8, 0x4000_0000_0000_0000),
+    Act::Write(0x78, 4, 0x8006_0000),
+    Act::Write(0x0, 4, 1),
+    Act::Read(0x0, 4, 1),
+    Act::Has(8200, false),
+    Act::Config(8200, 0xa1),
+];
+
+const PENDING_TABLE_OUTSIDE: &[Act] = &[
+    Act::Write(0x70, 8, 0x8003_0000),
+    Act::Write(0x78, 8, 0xc000_0000_8000_0000),
+    Act::Write(0x78, 4, 0x8008_0000),
+    Act::Write(0x0, 4, 1),
+    Act::Read(0x0, 4, 0),
+    Act::Has(8200, false),
+    Act::Config(8200, 0),
+];
+
+const CONFIGURATIONS_OUTSIDE: &[Act] = &[
+    Act::Write(0x70, 8, 0x8007_f000),
+    Act::Write(0x78, 8, 0),
+    Act::Write(0x78, 4, 0x8006_0000),
+    Act::Write(0x0, 4, 1),
+    Act::Read(0x0, 4, 0),
+    Act::Has(8200, false),
+    Act::Config(8200, 0),
+];
+
+const OTHER_TABLES: &[Act] = &[
+    Act::Write(0x70, 8, 0x8006_0000),
+    Act::Write(0x78, 8, 0),
+    Act::Write(0x78, 4, 0x8003_0000),
+    Act::Write(0x0, 4, 1),
+    Act::Read(0x0, 4, 1),
+    Act::Has(8200, false),
+    Act::Config(8200, 0),
+];
+
+// On, and then off, where that can be.
+const TURNED_OFF: &[Act] = &[
+    Act::Write(0x70, 8, 0x8003_0000),
+    Act::Write(0x78, 8, 0x8006_0000),
+    Act::Write(0x0, 4, 1),
+    Act::Write(0x0, 4, 0),
+    Act::Write(0x70, 8, 0x8004_0000),
+    Act::Read(0x0, 4, 2),
+    Act::Has(8200, false),
+    Act::Config(8200, 0),
+    Act::Read(0x70, 8, 0x8004_0780),
+];
+
+const LEFT_ON: &[Act] = &[
+    Act::Write(0x70, 8, 0x8003_0000),
+    Act::Write(0x78, 8, 0x8006_0000),
+    Act::Write(0x0, 4, 1),
+    Act::Write(0x0, 4, 0),
+    Act::Write(0x70, 8, 0x8004_0000),
+    Act::Read(0x0, 4, 1),
+    Act::Has(8200, true),
+    Act::Config(8200, 0xa1),
+    Act::Read(0x70, 8, 0x8003_0000),
+];
+
+// LPI 8200 is enabled in one table, and pending in the other.
+fn memory(alloc: Global) -> Result<Memory, Fail> {
+    let mut memory = Memory::new(alloc, &[(Addr(0x8003_0000), 0x5_0000)])?;
+    memory.write(Addr(0x8003_0008), &[0xa1])?;
+    memory.write(Addr(0x8006_0401), &[0x01])?;
+    Ok(memory)
 }
 
-// Whether these are bytes of the pending table.
-fn are_bytes(pending: &Pending, bytes: &[(u32, u8)]) -> bool
-    requires { pending.now.lpi_bits ≡ 14 }
-{
-    for &(n, byte) in bytes {
-        if n < 1024 || n >= 2048 || pending.byte(n) != byte {
-            return false;
-        }
+#[test]
+fn redistributors_do_as_they_are_told(rt: HostRuntime) -> Result<(), Fail> {
+    let memory = memory(rt.alloc())?;
+    for (linux, acts) in [
+        (false, PENDING),
+        (false, BY_PRIORITY),
+        (false, TABLE),
+        (false, TURNED_ON),
+        (false, PENDING_TABLE_ZERO),
+        (false, PENDING_TABLE_OUTSIDE),
+        (false, CONFIGURATIONS_OUTSIDE),
+        (false, OTHER_TABLES),
+        (true, TURNED_OFF),
+        (false, LEFT_ON),
+    ] {
+        assert_eq!(rt; play(rt.alloc(), &memory, linux, acts)?, acts.len());
     }
-    true
-}
-
-#[test]
-fn bytes_of_a_pending_table(rt: HostRuntime) -> Result<(), Fail> {
-    let mut pending = Pending::new(rt.alloc(), 14)?;
-    pending.set(Intid(8200));
-    pending.set(Intid(8207));
-    assert!(rt; are_bytes(&pending, &[(1024, 0), (1025, 0x81)]));
-    pending.set_byte(1025, 0x02);
-    pending.set_byte(2047, 0x80);
-    assert!(rt; are_bytes(&pending, &[(1025, 0x02)]));
-    assert!(rt; pending.has(Intid(8201)) && !pending.has(Intid(8200)) && pending.has(Intid(16383)));
-    Ok(())
-}
-
-#[test]
-fn all_pending_lpis_are_moved(rt: HostRuntime) -> Result<(), Fail> {
-    let mut pending = Pending::new(rt.alloc(), 14)?;
-    let mut other = Pending::new(rt.alloc(), 14)?;
-    pending.set(Intid(8201));
-    pending.set(Intid(16383));
-    other.set(Intid(8200));
-    pending.move_all(&mut other);
-    assert!(rt; !pending.has(Intid(8201)) && !pending.has(Intid(16383)));
-    assert!(rt; are_bytes(&other, &[(1025, 0x03), (2047, 0x80)]));
-    assert_eq!(rt; other.lpi_bits(), 14);
-    Ok(())
-}
-
-// The list that these LPIs make where they become pending one after another.
-fn listed(alloc: Global, lpis: &[u32]) -> Result<Vec<Intid>, AllocError> {
-    let mut pending = Pending::new(alloc, 14)?;
-    for lpi in lpis {
-        put(&mut pending, *lpi, true);
-    }
-    pending.lpis(alloc)
-}
-
-#[test]
-fn lists_of_pending_lpis(rt: HostRuntime) -> Result<(), Fail> {
-    assert!(rt; listed(rt.alloc(), &[])?.is_empty());
-    let lpis = listed(rt.alloc(), &[8192, 12288, 16383, 8256, 8255, 12287])?;
-    let intids = [8192, 8255, 8256, 12287, 12288, 16383].map(Intid);
-    assert_eq!(rt; lpis.as_slice(), intids.as_slice());
     Ok(())
 }
 
 #[test]
 fn redistributors_in_hand(rt: HostRuntime) -> Result<(), Fail> {
-    let redist = Redist {
-        pending: Pending::new(rt.alloc(), 14)?,
-        config: Config::zeros(rt.alloc(), 14)?,
-        bases: Bases::off(),
-    };
-    let redist = Box::new(rt.alloc(), redist)?;
+    let redist = Box::new(rt.alloc(), off(rt.alloc())?)?;
     let mut redists = Redists::new();
     redists.place(Vcpu(15), redist);
     redists.redist_mut(Vcpu(15)).bases.on = true;
-    assert!(rt; redists.redist(Vcpu(15)).bases.on);
+    let on = redists.redist(Vcpu(15)).bases.on;
     let mut taken = redists.take_out(Vcpu(15));
     taken.bases.pend.table = Addr(0x8004_0000);
     redists.place(Vcpu(15), taken);
-    assert_eq!(rt;
-        redists.redist(Vcpu(15)).bases.pend.table,
-        Addr(0x8004_0000)
-    );
-    Ok(())
-}
-
-// GICR_PROPBASER, GICR_PENDBASER, and a write of its lower half.
-type Written = (u64, u64, u64);
-
-// With LPIs turned on where that can be: GICR_CTLR, whether LPI 8200 is pending, and its
-// configuration.
-type TurnedOn = (u64, bool, u8);
-
-const ROWS: [(Written, TurnedOn); 5] = [
-    ((0x8003_0000, 0, 0x8006_0000), (1, true, 0xa1)),
-    (
-        (0x8003_0000, 0x4000_0000_0000_0000, 0x8006_0000),
-        (1, false, 0xa1),
-    ),
-    (
-        (0x8003_0000, 0xc000_0000_8000_0000, 0x8008_0000),
-        (0, false, 0),
-    ),
-    ((0x8007_f000, 0, 0x8006_0000), (0, false, 0)),
-    ((0x8006_0000, 0, 0x8003_0000), (1, false, 0)),
-];
-
-fn turned_on(alloc: Global, memory: &Memory, written: Written) -> Result<TurnedOn, AllocError> {
-    let (prop, pend, half) = written;
-    let mut redist = Redist {
-        pending: Pending::new(alloc, 14)?,
-        config: Config::zeros(alloc, 14)?,
-        bases: Bases::off(),
-    };
-    gicr_write(&mut redist, memory, &SHAPE, 0x70, 8, prop);
-    gicr_write(&mut redist, memory, &SHAPE, 0x78, 8, pend);
-    gicr_write(&mut redist, memory, &SHAPE, 0x78, 4, half);
-    gicr_write(&mut redist, memory, &SHAPE, 0x0, 4, 1);
-    let ctlr = gicr_read(false, &redist, 0x0, 4);
-    let pending = redist.pending.has(Intid(8200));
-    Ok((ctlr, pending, redist.config.byte(Intid(8200))))
-}
-
-#[test]
-fn lpis_turned_on(rt: HostRuntime) -> Result<(), Fail> {
-    let mut memory = Memory::new(rt.alloc(), &[(Addr(0x8003_0000), 0x5_0000)])?;
-    assert_eq!(rt; memory.write(Addr(0x8003_0008), &[0xa1]), Ok(()));
-    assert_eq!(rt; memory.write(Addr(0x8006_0401), &[0x01]), Ok(()));
-    for (written, wanted) in ROWS {
-        assert_eq!(rt;
-            turned_on(rt.alloc(), &memory, written)?,
-            wanted,
-            "{written:?}"
-        );
-    }
-    Ok(())
-}
-
-// On, and then off. What GICR_CTLR reads, whether LPI 8200 is pending, its configuration, and
-// GICR_PROPBASER written anew.
-fn turned_off(
-    alloc: Global,
-    memory: &Memory,
-    linux: bool,
-) -> Result<(u64, bool, u8, u64), AllocError> {
-    let shape = Shape { linux, ..SHAPE };
-    let mut redist = Redist {
-        pending: Pending::new(alloc, 14)?,
-        config: Config::zeros(alloc, 14)?,
-        bases: Bases::off(),
-    };
-    gicr_write(&mut redist, memory, &shape, 0x70, 8, 0x8003_0000);
-    gicr_write(&mut redist, memory, &shape, 0x78, 8, 0x8006_0000);
-    gicr_write(&mut redist, memory, &shape, 0x0, 4, 1);
-    gicr_write(&mut redist, memory, &shape, 0x0, 4, 0);
-    gicr_write(&mut redist, memory, &shape, 0x70, 8, 0x8004_0000);
-    Ok((
-        gicr_read(linux, &redist, 0x0, 4),
-        redist.pending.has(Intid(8200)),
-        redist.config.byte(Intid(8200)),
-        gicr_read(linux, &redist, 0x70, 8),
-    ))
-}
-
-#[test]
-fn lpis_turned_off(rt: HostRuntime) -> Result<(), Fail> {
-    let mut memory = Memory::new(rt.alloc(), &[(Addr(0x8003_0000), 0x5_0000)])?;
-    assert_eq!(rt; memory.write(Addr(0x8003_0008), &[0xa1]), Ok(()));
-    assert_eq!(rt; memory.write(Addr(0x8006_0401), &[0x01]), Ok(()));
-    assert_eq!(rt;
-        turned_off(rt.alloc(), &memory, true)?,
-        (2, false, 0, 0x8004_0780)
-    );
-    assert_eq!(rt;
-        turned_off(rt.alloc(), &memory, false)?,
-        (1, true, 0xa1, 0x8003_0000)
-    );
+    let table = redists.redist(Vcpu(15)).bases.pend.table;
+    assert!(rt; on && table == Addr(0x8004_0000));
     Ok(())
 }
