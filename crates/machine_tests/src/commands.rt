@@ -8,19 +8,12 @@ use guest_windows::{Memory, NewError};
 use its_command::{Command, Op, RdBase};
 use its_maps::Maps;
 use its_plain::{CmdReply, Reason};
-use its_types::{Addr, Device, DeviceId, Icid, Profile, Shape, Vcpu};
+use its_types::{Addr, Icid, Profile, Shape, Vcpu};
 use lpi_pending::Redists;
 use owned_parts::RedistSet;
 use std::alloc::{AllocError, Global};
 use std::process::Abort;
 use std::test::Fail;
-
-const DEVICE: Device = Device {
-    itt: Addr(0x800c_0000),
-    bits: 5,
-};
-
-const MAPPED: u64 = 0x8407_0000_8001_0200;
 
 const SHAPE: Shape = Shape {
     vcpus: 4,
@@ -40,59 +33,19 @@ fn mapc(icid: u16, target: u8) -> Command
     }
 }
 
-// Device 16 and collection 1.
-fn map(maps: &mut Maps) -> Result<(), AllocError> {
-    maps.room_for_device()?;
-    maps.map_device(DeviceId(16), DEVICE);
-    maps.room_for_collection()?;
-    maps.map_collection(Icid(1), Vcpu(2));
-    Ok(())
-}
-
-// Whether a write of GITS_BASER1 leaves those devices alone.
-fn leaves_devices(maps: &mut Maps) -> bool {
+// What a register reads at reset, and GITS_BASER1 once it is written.
+fn registers(maps: &mut Maps) -> [u64; 2] {
     let mut regs = Regs::reset(16);
     let reset = read_register(&regs, 0x8, 8);
-    write_register(&mut regs, maps, &SHAPE, 0x108, 8, MAPPED);
-    let written = read_register(&regs, 0x108, 8);
-    let gone = maps.collection(Icid(1)).is_none();
-    reset == 0x1ef71 && written == MAPPED && gone && maps.device(DeviceId(16)) == Some(DEVICE)
+    write_register(&mut regs, maps, &SHAPE, 0x108, 8, 0x8407_0000_8001_0200);
+    [reset, read_register(&regs, 0x108, 8)]
 }
 
 #[test]
-fn a_new_collection_table_unmaps_collections(rt: HostRuntime) -> Result<(), Fail> {
+fn registers_are_read_and_written(rt: HostRuntime) {
     let mut maps = Maps::new(rt.alloc());
-    map(&mut maps)?;
-    assert!(rt; leaves_devices(&mut maps));
-    Ok(())
-}
-
-// Whether collection 1 is mapped, once GITS_BASER1 was written twice: with this value, and with its
-// own or another. Device 16 always is.
-fn keeps_collection(maps: &mut Maps, shape: &Shape, first: u64, second: u64) -> bool {
-    let mut regs = Regs::reset(16);
-    write_register(&mut regs, maps, shape, 0x108, 8, first);
-    let Ok(()) = maps.room_for_collection() else {
-        return false;
-    };
-    maps.map_collection(Icid(1), Vcpu(2));
-    write_register(&mut regs, maps, shape, 0x108, 8, second);
-    maps.device(DeviceId(16)).is_some() && maps.collection(Icid(1)).is_some()
-}
-
-#[test]
-fn a_table_that_is_named_again(rt: HostRuntime) -> Result<(), Fail> {
-    let mut maps = Maps::new(rt.alloc());
-    map(&mut maps)?;
-    let linux = Shape {
-        linux: true,
-        ..SHAPE
-    };
-    let other = MAPPED + 0x1_0000;
-    assert!(rt; keeps_collection(&mut maps, &linux, MAPPED, MAPPED));
-    assert!(rt; !keeps_collection(&mut maps, &linux, MAPPED, other));
-    assert!(rt; !keeps_collection(&mut maps, &SHAPE, MAPPED, MAPPED));
-    Ok(())
+    let read = registers(&mut maps);
+    assert_eq!(rt; read, [0x1ef71, 0x8407_0000_8001_0200]);
 }
 
 // What a translator at reset needs for a command.
@@ -102,17 +55,24 @@ fn needed(alloc: Global, command: &Command) -> RedistSet {
     needs(command, &regs, &maps, &SHAPE)
 }
 
-#[test]
-fn redistributors_that_commands_need(rt: HostRuntime) {
-    let all = needed(rt.alloc(), &Command::Invall { icid: Icid(0) });
-    assert!(rt; all.has(Vcpu(0)) && !all.has(Vcpu(4)));
+// Whether INVALL needs those of all processors, and MOVALL just two.
+fn needs_hold(alloc: Global) -> bool {
+    let all = needed(alloc, &Command::Invall { icid: Icid(0) });
     let movall = Command::Movall {
         from: RdBase::new(3),
         to: RdBase::new(1),
     };
-    let set = needed(rt.alloc(), &movall);
-    assert!(rt; set.has(Vcpu(3)) && !set.has(Vcpu(2)));
-    assert!(rt; set.redists().map(|vcpu| vcpu.0).eq([1, 3].iter().copied()));
+    let two = needed(alloc, &movall);
+    all.has(Vcpu(0))
+        && !all.has(Vcpu(4))
+        && two.has(Vcpu(3))
+        && !two.has(Vcpu(2))
+        && two.redists().map(|vcpu| vcpu.0).eq([1, 3].iter().copied())
+}
+
+#[test]
+fn redistributors_that_commands_need(rt: HostRuntime) {
+    assert!(rt; needs_hold(rt.alloc()));
 }
 
 // The reply to a MAPC of collection 1, its target once there is room and once the command is
@@ -137,12 +97,10 @@ fn run_mapc(rt: &impl Abort, alloc: Global, target: u8) -> Result<Ran, NewError>
 
 #[test]
 fn a_command_is_run_or_refused(rt: HostRuntime) -> Result<(), Fail> {
+    let found = [run_mapc(&rt, rt.alloc(), 4)?, run_mapc(&rt, rt.alloc(), 2)?];
     let refused = CmdReply::Refused(Op::Mapc, Reason::TargetRange);
-    assert_eq!(rt; run_mapc(&rt, rt.alloc(), 4)?, (refused, None, None, 32));
     let ran = CmdReply::Ran(Op::Mapc);
-    assert_eq!(rt;
-        run_mapc(&rt, rt.alloc(), 2)?,
-        (ran, None, Some(Vcpu(2)), 32)
-    );
+    let expected = [(refused, None, None, 32), (ran, None, Some(Vcpu(2)), 32)];
+    assert_eq!(rt; found, expected);
     Ok(())
 }

@@ -2,20 +2,15 @@
 ghost use Rattle.std.specs.Prelude.{IfOk};
 ghost use Rattle.its_plain.specs.Sound.{IsSound};
 
-use crate::scripts::desc;
+use crate::descriptions::{LIMITS, desc};
 use its_command::Op;
 use its_plain::{Bytes64, Call, Cause, Reply, Signal, StepReply};
 use its_player::World;
 use its_steps::{Commit, Event, Kind, ShardChange};
-use its_types::{Addr, DeviceId, EventId, Intid, Limits, Part, Profile, Target, Vcpu, Word};
+use its_types::{Addr, DeviceId, EventId, Intid, Part, Target, Vcpu, Word};
 use plain_machine::State;
 use std::alloc::{AllocError, Global};
 use std::test::Fail;
-
-const LIMITS: Limits = Limits {
-    stamp_last: 16_777_215,
-    place_last: 1_099_511_627_775,
-};
 
 // What passes do, or what is then seen. A call is made by a pass with the parts that it names.
 enum Act {
@@ -39,7 +34,7 @@ enum Act {
 fn start(alloc: Global) -> Result<State, Fail>
     ensures { IfOk result IsSound }
 {
-    let desc = desc(alloc, Profile::One, &[])?;
+    let desc = desc(alloc, None, &[])?;
     Ok(State::new(alloc, &desc)?)
 }
 

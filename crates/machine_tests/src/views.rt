@@ -1,205 +1,163 @@
 //! What a step reads and concerns, command by command; where an event leads; which tables a save
 //! writes.
+ghost use Rattle.its_plain.specs.Machine.{IsDescription};
 ghost use Rattle.owned_machine.specs.Whole.{IsMachine};
 
-use crate::scripts::{Asked, Given, Line, desc, enabling, queueing};
-use its_command::Command;
-use its_plain::Call;
+use crate::descriptions::{desc, enabling};
+use its_plain::{Call, Desc, MakeError};
 use its_types::{Addr, DeviceId, EventId, Icid, Intid, Profile, Vcpu};
 use owned_machine::Machine;
-use owned_parts::{Parts, RedistSet};
+use owned_parts::Parts;
 use std::alloc::{AllocError, Global};
-use std::test::Fail;
 use step_views::{Destination, Stretch, adds_event, concerned, event, event_count, needs};
 use table_save::written_tables;
 
-// A command, what it reads beside its own bytes, the virtual processors that it concerns, and
-// whether it adds an event.
-type Row = (Given, &'static [(u64, u64)], [bool; 4], bool);
+// A page of the device table, and the commands of the queue, 32 bytes each.
+const WORDS: [(u64, u64); 32] = [
+    (0x8008_0000, 0x8000_0000_8009_0000),
+    // MAPD 5 with 4 bits, MAPD 6 with V = 0, MAPC 1 to processor 2, INV 5 3.
+    (0x8002_0000, 0x5_0000_0008),
+    (0x8002_0008, 3),
+    (0x8002_0010, 0x8000_0000_800a_0000),
+    (0x8002_0020, 0x6_0000_0008),
+    (0x8002_0040, 9),
+    (0x8002_0050, 0x8000_0000_0002_0001),
+    (0x8002_0060, 0x5_0000_000c),
+    (0x8002_0068, 3),
+    // MAPTI 5 3 to 8199, 5 3 to 8200, and 5 4 to 70,000, each by 1.
+    (0x8002_0080, 0x5_0000_000a),
+    (0x8002_0088, 0x2007_0000_0003),
+    (0x8002_0090, 1),
+    (0x8002_00a0, 0x5_0000_000a),
+    (0x8002_00a8, 0x2008_0000_0003),
+    (0x8002_00b0, 1),
+    (0x8002_00c0, 0x5_0000_000a),
+    (0x8002_00c8, 0x1_1170_0000_0004),
+    (0x8002_00d0, 1),
+    // INT 5 3, INV 5 3, INVALL 1, INVALL 2, MOVALL from 2 to 0, SYNC 0.
+    (0x8002_00e0, 0x5_0000_0003),
+    (0x8002_00e8, 3),
+    (0x8002_0100, 0x5_0000_000c),
+    (0x8002_0108, 3),
+    (0x8002_0120, 0xd),
+    (0x8002_0130, 1),
+    (0x8002_0140, 0xd),
+    (0x8002_0150, 2),
+    (0x8002_0160, 0xe),
+    (0x8002_0170, 0x2_0000),
+    (0x8002_0180, 5),
+    // MAPC 1 with V = 0, and the same of device 5.
+    (0x8002_01a0, 9),
+    (0x8002_01b0, 1),
+    (0x8002_01c0, 0x5_0000_0008),
+];
+
+// What the next command reads beside its own bytes, so many times the same stretch; the virtual
+// processors that it concerns, and whether it adds an event. Then, once it is taken, where event 3
+// of device 5 leads, and how many events are mapped.
+type Row = (usize, (u64, u64), [bool; 4], bool, Destination, u64);
+
+const NOTHING: (u64, u64) = (0, 0);
+
+// The level-1 entry of the first devices, the configuration byte of LPI 8199, and the whole table.
+const LEVEL1: (u64, u64) = (0x8008_0000, 8);
+
+const BYTE: (u64, u64) = (0x8003_0007, 1);
+
+const TABLE: (u64, u64) = (0x8003_0000, 57_344);
 
 const NONE: [bool; 4] = [false; 4];
 
 const ALL: [bool; 4] = [true; 4];
 
-// The level-1 entry of the first devices.
-const LEVEL1: &[(u64, u64)] = &[(0x8008_0000, 8)];
+const NO_EVENT: Destination = Destination::NoEvent;
 
-// The configuration byte of LPI 8199, once for each virtual processor.
-const BYTES: &[(u64, u64)] = &[
-    (0x8003_0007, 1),
-    (0x8003_0007, 1),
-    (0x8003_0007, 1),
-    (0x8003_0007, 1),
+const NO_COLLECTION: Destination = Destination::NoCollection {
+    intid: Intid(8199),
+    icid: Icid(1),
+};
+
+const SECOND: Destination = Destination::Processor {
+    intid: Intid(8199),
+    icid: Icid(1),
+    vcpu: Vcpu(2),
+};
+
+const ROWS: [Row; 15] = [
+    (1, LEVEL1, NONE, false, NO_EVENT, 0),
+    (0, NOTHING, NONE, false, NO_EVENT, 0),
+    (0, NOTHING, NONE, false, NO_EVENT, 0),
+    (0, NOTHING, ALL, false, NO_EVENT, 0),
+    (4, BYTE, ALL, true, SECOND, 1),
+    (0, NOTHING, ALL, false, SECOND, 1),
+    (0, NOTHING, ALL, false, SECOND, 1),
+    (0, NOTHING, [false, false, true, false], false, SECOND, 1),
+    (4, BYTE, ALL, false, SECOND, 1),
+    (4, TABLE, ALL, false, SECOND, 1),
+    (0, NOTHING, ALL, false, SECOND, 1),
+    (0, NOTHING, [true, false, true, false], false, SECOND, 1),
+    (0, NOTHING, NONE, false, SECOND, 1),
+    (0, NOTHING, NONE, false, NO_COLLECTION, 1),
+    (0, NOTHING, NONE, false, Destination::NoDevice, 0),
 ];
 
-// The whole table.
-const TABLES: &[(u64, u64)] = &[
-    (0x8003_0000, 57_344),
-    (0x8003_0000, 57_344),
-    (0x8003_0000, 57_344),
-    (0x8003_0000, 57_344),
-];
-
-const ROWS: [Row; 13] = [
-    (Given::Mapd(5, 4, 0x800a_0000), LEVEL1, NONE, false),
-    (Given::Unmapd(6), &[], NONE, false),
-    (Given::Mapc(1, 2), &[], NONE, false),
-    (Given::Inv(5, 3), &[], ALL, false),
-    (Given::Mapti(5, 3, 8199, 1), BYTES, ALL, true),
-    (Given::Mapti(5, 3, 8200, 1), &[], ALL, false),
-    (Given::Mapti(5, 4, 70_000, 1), &[], ALL, false),
-    (Given::Int(5, 3), &[], [false, false, true, false], false),
-    (Given::Inv(5, 3), BYTES, ALL, false),
-    (Given::Invall(1), TABLES, ALL, false),
-    (Given::Invall(2), &[], ALL, false),
-    (Given::Movall(2, 0), &[], [true, false, true, false], false),
-    (Given::Sync(0), &[], NONE, false),
-];
-
-// The same stretches, after the command's own 32 bytes.
-fn reads_just(list: &[Stretch], expected: &[(u64, u64)]) -> bool {
+// So many times this stretch, after the command's own 32 bytes.
+fn reads_just(list: &[Stretch], count: usize, expected: (u64, u64)) -> bool {
     let Some((first, rest)) = list.split_first() else {
         return false;
     };
-    let mut same = first.length == 32 && rest.len() == expected.len();
-    for (stretch, &(address, length)) in rest.iter().zip(expected) {
-        same = same
-            && *stretch
-                == Stretch {
-                    address: Addr(address),
-                    length,
-                };
-    }
-    same
-}
-
-fn concerns_just(set: RedistSet, expected: [bool; 4]) -> bool {
-    let mut same = true;
-    for (vcpu, &is_in) in expected.iter().enumerate() {
-        same = same && set.has(Vcpu(vcpu as u8)) == is_in;
-    }
-    same
+    let stretch = Stretch {
+        address: Addr(expected.0),
+        length: expected.1,
+    };
+    first.length == 32 && rest.len() == count && rest.iter().all(|other| *other == stretch)
 }
 
 // Whether the machine's next command is seen as the row says.
 fn is_seen(parts: &Parts, row: &Row) -> bool
     requires { IsMachine parts.now }
 {
-    reads_just(needs(parts, 0).as_slice(), row.1)
-        && concerns_just(concerned(parts, 0), row.2)
+    let set = concerned(parts, 0);
+    let concerns = [
+        set.has(Vcpu(0)),
+        set.has(Vcpu(1)),
+        set.has(Vcpu(2)),
+        set.has(Vcpu(3)),
+    ];
+    reads_just(needs(parts, 0).as_slice(), row.0, row.1)
+        && concerns == row.2
         && adds_event(parts, 0) == row.3
 }
 
-fn command(given: Given) -> Option<Command> {
-    match Line::Runs(given).asked() {
-        Asked::Command(command, _) => Some(command),
-        Asked::Call(..) => None,
-    }
+fn leads(parts: &Parts, to: &Destination, count: u64) -> bool
+    requires { IsMachine parts.now }
+{
+    event(parts, 0, DeviceId(5), EventId(3)) == *to && event_count(parts, 0) == count
 }
 
-// Whether a command is seen as its row says, before a step takes it.
-fn is_taken(alloc: Global, machine: &mut Machine, row: &Row) -> Result<bool, AllocError> {
-    let Some(command) = command(row.0) else {
-        return Ok(false);
-    };
-    for call in queueing(alloc, machine, &command)? {
-        machine.answer(alloc, &call)?;
-    }
-    let seen = is_seen(machine.parts(), row);
+fn step(alloc: Global, machine: &mut Machine) -> Result<(), AllocError> {
     machine.answer(alloc, &Call::Step { its: 0 })?;
-    Ok(seen)
+    Ok(())
 }
 
-// A machine whose device table has two levels.
-fn machine(alloc: Global) -> Result<Machine, Fail> {
-    let words = [(0x8008_0000, 0x8000_0000_8009_0000)];
-    let mut machine = Machine::new(alloc, &desc(alloc, Profile::Two, &words)?)?;
-    for call in enabling(0xc107_0000_8008_0200) {
-        machine.answer(alloc, &call)?;
-    }
-    Ok(machine)
+// Whether a command is seen as its row says, before a step takes it and after.
+fn is_taken(alloc: Global, machine: &mut Machine, row: &Row) -> Result<bool, AllocError> {
+    let seen = is_seen(machine.parts(), row);
+    step(alloc, machine)?;
+    Ok(seen && leads(machine.parts(), &row.4, row.5))
 }
 
 // How many of the rows are so, before one that isn't.
-fn take_rows(alloc: Global, machine: &mut Machine, rows: &[Row]) -> Result<usize, AllocError> {
-    for (at, row) in rows.iter().enumerate() {
+fn count_taken(alloc: Global, machine: &mut Machine) -> Result<usize, AllocError> {
+    for call in &enabling(0xc107_0000_8008_0200, 0x1e0) {
+        machine.answer(alloc, call)?;
+    }
+    for (at, row) in ROWS.iter().enumerate() {
         if !is_taken(alloc, machine, row)? {
             return Ok(at);
         }
     }
-    Ok(rows.len())
-}
-
-fn count_seen(alloc: Global) -> Result<(usize, usize), Fail> {
-    let mut machine = machine(alloc)?;
-    let idle = needs(machine.parts(), 0).as_slice().len();
-    Ok((idle, take_rows(alloc, &mut machine, &ROWS)?))
-}
-
-#[test]
-fn each_command_is_seen(rt: HostRuntime) -> Result<(), Fail> {
-    let (idle, seen) = count_seen(rt.alloc())?;
-    assert_eq!(rt; idle, 0);
-    assert_eq!(rt; seen, ROWS.len());
-    Ok(())
-}
-
-// A command that is taken first, then a device and an event, where that leads, and how many events
-// are mapped.
-const LEADS: [(Given, u32, u32, Destination, u64); 5] = [
-    (Given::Sync(0), 5, 3, Destination::NoDevice, 0),
-    (
-        Given::Mapd(5, 4, 0x800a_0000),
-        5,
-        3,
-        Destination::NoEvent,
-        0,
-    ),
-    (
-        Given::Mapti(5, 3, 8199, 1),
-        5,
-        3,
-        Destination::NoCollection {
-            intid: Intid(8199),
-            icid: Icid(1),
-        },
-        1,
-    ),
-    (
-        Given::Mapc(1, 2),
-        5,
-        3,
-        Destination::Processor {
-            intid: Intid(8199),
-            icid: Icid(1),
-            vcpu: Vcpu(2),
-        },
-        1,
-    ),
-    (Given::Unmapd(5), 5, 3, Destination::NoDevice, 0),
-];
-
-fn leads(parts: &Parts, dev: u32, ev: u32, to: &Destination, count: u64) -> bool
-    requires { IsMachine parts.now }
-{
-    event(parts, 0, DeviceId(dev), EventId(ev)) == *to && event_count(parts, 0) == count
-}
-
-fn count_leads(alloc: Global) -> Result<usize, Fail> {
-    let mut machine = machine(alloc)?;
-    for (at, (given, dev, ev, to, count)) in LEADS.iter().enumerate() {
-        is_taken(alloc, &mut machine, &(*given, &[], NONE, false))?;
-        if !leads(machine.parts(), *dev, *ev, to, *count) {
-            return Ok(at);
-        }
-    }
-    Ok(LEADS.len())
-}
-
-#[test]
-fn each_event_leads_somewhere(rt: HostRuntime) -> Result<(), Fail> {
-    assert_eq!(rt; count_leads(rt.alloc())?, LEADS.len());
-    Ok(())
+    Ok(ROWS.len())
 }
 
 // A page of the device table, the collection table, and the pending tables.
@@ -217,20 +175,35 @@ fn lists_just(alloc: Global, parts: &Parts, expected: &[(Addr, u64)]) -> Result<
     requires { IsMachine parts.now }
 {
     let list = written_tables(alloc, &parts.in_place())?;
-    let mut same = list.len() == expected.len();
-    for (table, other) in list.iter().zip(expected) {
-        same = same && table.0 == other.0 && table.1 == other.1;
-    }
-    Ok(same)
+    Ok(list.as_slice() == expected)
 }
 
-fn lists_these(alloc: Global) -> Result<bool, Fail> {
-    let machine = machine(alloc)?;
-    Ok(lists_just(alloc, machine.parts(), &WRITTEN)?)
+// Whether nothing is seen before, how many of the rows are seen, and whether the tables are.
+type Seen = (bool, usize, bool);
+
+// The rows, before and after which nothing is mapped.
+fn seen(alloc: Global, machine: &mut Machine) -> Result<Seen, AllocError> {
+    let before = needs(machine.parts(), 0).as_slice().is_empty()
+        && leads(machine.parts(), &Destination::NoDevice, 0);
+    let rows = count_taken(alloc, machine)?;
+    let lists = lists_just(alloc, machine.parts(), &WRITTEN)?;
+    Ok((before, rows, lists))
+}
+
+fn seen_of_made(alloc: Global, desc: &Desc) -> Result<Result<Seen, AllocError>, MakeError>
+    requires { IsDescription desc.now }
+{
+    let mut machine = Machine::new(alloc, desc)?;
+    Ok(seen(alloc, &mut machine))
+}
+
+fn seen_of_new(alloc: Global) -> Result<Result<Seen, AllocError>, MakeError> {
+    let mut desc = desc(alloc, None, &WORDS)?;
+    desc.shape.profile = Profile::Two;
+    seen_of_made(alloc, &desc)
 }
 
 #[test]
-fn tables_that_a_save_writes(rt: HostRuntime) -> Result<(), Fail> {
-    assert!(rt; lists_these(rt.alloc())?);
-    Ok(())
+fn each_command_is_seen(rt: HostRuntime) {
+    assert_eq!(rt; seen_of_new(rt.alloc()), Ok(Ok((true, ROWS.len(), true))));
 }

@@ -180,11 +180,16 @@ done
         (
             "",
             "write 0x0 4 0x0
+write 0x108 8 0x8407000080010200
+write 0x0 4 0x1
+signal 16 3
+write 0x0 4 0x0
 write 0x100 8 0x8107000080000200
 write 0x0 4 0x1
 signal 16 3
 end",
-            "dropped no-device
+            "dropped no-collection
+dropped no-device
 done
 ",
         ),
@@ -212,6 +217,7 @@ write 0x0 4 0x1
 signal 16 3
 write 0x0 4 0x0
 write 0x100 8 0x8107000080100200
+write 0x100 8 0x8107000080000200
 write 0x0 4 0x1
 signal 16 3
 end",

@@ -26,18 +26,26 @@ done
         // A save writes the pages of its tables.
         (
             "copy
-poke 0x80030ffe 01020304
-poke 0x80030008 40
+poke 0x80030ffc 0807060504030201
+poke 0x80030008 41
 copy
 save
 copy
 precopy
+phase
+thread
+peek 0x80030ffc 8
+signal 16 3
+take 2
 end",
             "copied 512
 copied 2
 saved
 copied 41
 migrated copied 41
+bytes 0807060504030201
+delivered 2 8200
+lpi 8200 0x40
 done
 ",
         ),

@@ -111,10 +111,21 @@ fn frames_and_requesters_are_refused(rt: HostRuntime) {
         ("its-base 0x80000000", "refused machine its-base\n"),
         ("its-base 0x7ff0000", ""),
         ("its-base 0xfffffffff0000", "refused machine its-base\n"),
+        ("pair\nits-base 0x7ffe0000\nb-base 0x80200000", ""),
+        ("pair\nb-base 0xffffffffe0000", ""),
         ("pair\nb-base 0x801f0000", "refused machine b-base\n"),
         (
             "pair\nits-base 0x8080000\nb-base 0x8090000",
             "refused machine b-base\n",
+        ),
+        ("requester 256 511 16\nrequester 512 512 0xffffffff", ""),
+        (
+            "requester 512 512 0xffffffff\nrequester 256 511 16\nrequester 512 600 0",
+            "refused machine requester 12\n",
+        ),
+        (
+            "requester 256 511 16\nrequester 511 600 0",
+            "refused machine requester 11\n",
         ),
         ("requester 5 4 0", "refused machine requester 10\n"),
         ("requester 0 1 4294967295", "refused machine requester 10\n"),

@@ -100,6 +100,7 @@ rwrite 2 0x0 4 0x1
 rread 2 0x0 4
 signal 16 3
 rwrite 2 0x0 4 0x0
+rread 2 0x0 4
 take 2
 signal 16 3
 best 2 255
@@ -108,17 +109,30 @@ rread 2 0x70 8
 rread 2 0x78 8
 rwrite 2 0x0 4 0x1
 signal 16 3
+rwrite 2 0x0 4 0
+rwrite 2 0x70 8 0x8003000e
+rread 2 0x70 8
+rwrite 2 0x70 8 0x8003000f
+rwrite 2 0x78 8 0x80060000
+rwrite 2 0x0 4 1
+take 2
+signal 16 3
+take 2
 end",
             "value 0x2
 value 0x3
 delivered 2 8200
+value 0x2
 none
 dropped lpis-off
 none
 value 0x80030780
 value 0x80060780
 delivered 2 8200
-vcpu 2 pending 8200
+value 0x8003078e
+none
+delivered 2 8200
+lpi 8200 0xa0
 done
 ",
         ),
@@ -245,6 +259,14 @@ rrestore 3 1 0x80030000 0
 rrestore 1 1 0 0x80050000",
             Status::MachineRefused,
             "refused machine restore bad-redist 1
+",
+        ),
+        (
+            "restore 0 0 0 0 0 0
+rrestore 2 1 0x8003000f 0x80060000
+rrestore 3 1 0 0",
+            Status::MachineRefused,
+            "refused machine restore bad-redist 3
 ",
         ),
         (

@@ -21,3 +21,5 @@ mod pair_tests;
 mod runs;
 #[cfg(test)]
 mod thread_tests;
+#[cfg(test)]
+mod worked_tests;

@@ -9,8 +9,12 @@ fn tables_are_saved_and_restored(rt: HostRuntime) {
             "",
             "",
             "migrate
+phase
+thread
+signal 16 3
 end",
             "migrated
+dropped disabled
 done
 ",
         ),
@@ -31,6 +35,16 @@ peek 0x80010000 8
 peek 0x800c0018 8
 peek 0x80060401 1
 take 2
+take 2
+signal 16 3
+run inv 0x10 3
+poke 0x80030008 40
+show 2
+migrate
+phase
+thread
+show 2
+take 2
 end",
             "delivered 2 8200
 lpi 8200 0xa0
@@ -43,6 +57,15 @@ bytes 0100020000000080
 bytes 0100082000000000
 bytes 01
 lpi 8200 0xa0
+none
+delivered 2 8200
+ran inv
+lpi 8200 0xa0
+vcpu 2 pending 8200
+migrated
+none
+none
+vcpu 2 pending 8200
 done
 ",
         ),
@@ -57,15 +80,19 @@ phase
 thread
 peek 0x80100000 8
 peek 0x8017fff8 8
+signal 0x11 0
+signal 0x11 1
 signal 0x11 65535
 signal 0x11 65534
 end",
             "migrated
 bytes 010000200000ffff
 bytes 0100012000000000
+delivered 2 8192
+dropped no-event
 delivered 2 8193
 dropped no-event
-vcpu 2 pending 8193
+vcpu 2 pending 8192 8193
 done
 ",
         ),
@@ -86,18 +113,24 @@ signal 16 3
 signal 16 5
 signal 16 7
 signal 32 0
+peek 0x80000100 8
+peek 0x800c0028 8
 save
 peek 0x80000100 8
 peek 0x800c0018 8
+peek 0x800c0028 8
 end",
             "lpi 8200 0xa0
 delivered 2 8200
 dropped no-event
 delivered 2 8201
 dropped no-device
+bytes ff80011000000080
+bytes ffffffffffffffff
 saved
 bytes 0000000000000000
 bytes 0100082000000400
+bytes 0000000000000000
 vcpu 2 pending 8200 8201
 done
 ",
@@ -163,6 +196,12 @@ phase
 thread
 peek 0x80080000 8
 peek 0x80090000 8
+signal 0 0
+signal 16384 0
+signal 16383 0
+word 0x80000010 0
+save
+signal 0 0
 signal 16384 0
 signal 16383 0
 end",
@@ -171,6 +210,11 @@ end",
 migrated
 bytes 048001100000feff
 bytes 2480011000000080
+dropped no-event
+dropped no-event
+dropped no-device
+save-fault no-place 16384
+dropped no-event
 dropped no-event
 dropped no-device
 done
@@ -184,6 +228,7 @@ phase
 thread
 peek 0x80100000 8
 peek 0x80120000 8
+signal 0 0
 signal 16384 0
 signal 16383 0
 end",
@@ -192,6 +237,7 @@ end",
 migrated
 bytes 048001100000feff
 bytes 2480011000000080
+dropped no-event
 dropped no-event
 dropped no-device
 done
@@ -232,12 +278,27 @@ fn runs_end_early(rt: HostRuntime) {
             "",
             MAPPED,
             "run mapd 0x11 5 0x800c0000
+signal 16 3
+poke 0x80030008 40
 save
+peek 0x80000080 8
+peek 0x800c0018 8
+peek 0x80060400 8
+take 2
+signal 0x11 3
+run mapti 0x11 3 8201 1
 migrate
 end",
             Status::MigrationRefused,
             "ran mapd
+delivered 2 8200
 save-fault overlap itt 16 itt 17
+bytes 0000000000000000
+bytes 0000000000000000
+bytes 0000000000000000
+lpi 8200 0xa0
+dropped no-event
+ran mapti
 refused migration 1 overlap itt 16 itt 17
 ",
         ),

@@ -62,6 +62,38 @@ vcpu 3 pending 8200
 done
 ",
         ),
+        // Each has tables of its own, which a save writes if they lie apart.
+        (
+            "signal 16 3
+b signal 16 3
+save
+peek 0x80000080 8
+peek 0x80100080 8
+command 0x80120060 mapd 0x11 5 0x800c0000
+b write 0x88 8 0x80
+b step
+save
+command 0x80120080 unmapd 0x10
+b write 0x88 8 0xa0
+b step
+b signal 16 3
+signal 16 3
+end",
+            "delivered 2 8200
+delivered 3 8200
+saved
+bytes 0480011000000080
+bytes 2480011000000080
+ran mapd
+save-fault overlap itt 16 b-itt 17
+ran mapd
+dropped no-device
+delivered 2 8200
+vcpu 2 pending 8200
+vcpu 3 pending 8200
+done
+",
+        ),
         // The tables of both are saved, and each is restored from its own.
         (
             "b signal 16 3
@@ -157,13 +189,15 @@ done
 fn tables_of_both_must_lie_apart(rt: HostRuntime) {
     for (body, end) in [
         (
-            "command 0x80120000 mapd 0x10 5 0x800c0000
+            "b signal 16 3
+command 0x80120000 mapd 0x10 5 0x800c0000
 b write 0x88 8 0x20
 b step
 save
 migrate
 end",
-            "ran mapd
+            "dropped no-device
+ran mapd
 save-fault overlap itt 16 b-itt 16
 refused migration 1 overlap itt 16 b-itt 16
 ",
