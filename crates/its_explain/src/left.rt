@@ -3,7 +3,6 @@ use crate::call_lines::CallLine;
 use event_script::{Calls, Leg};
 use its_plain::Call;
 use std::alloc::{AllocError, Global};
-use std::marker::Model;
 
 /// The calls of a thread that aren't made yet, and their lines.
 #[derive(Clone, Copy)]
@@ -32,12 +31,6 @@ pub struct Left<'a> {
     starts: Vec<usize>,
     /// How many threads are over, as far as it is known.
     over: usize,
-}
-
-impl<'a> Model for Left<'a> {
-    ghost Value = { Unit {0} };
-
-    ghost view = { λ _. tt };
 }
 
 impl<'a> Left<'a> {

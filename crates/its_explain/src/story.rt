@@ -13,7 +13,6 @@ use its_plain::{Call, Reply, SaveError, StepReply};
 use its_types::Addr;
 use std::alloc::{AllocError, Global};
 use std::fmt::Write;
-use std::marker::Model;
 
 /// How the telling of a report's line came out.
 #[derive(Clone, Copy, PartialEq, Eq)]
@@ -41,12 +40,6 @@ pub struct Story<'a> {
     places: u64,
     /// The command that the call in hand takes, if it is a step.
     taken: Option<Taken>,
-}
-
-impl<'a> Model for Story<'a> {
-    ghost Value = { Unit {0} };
-
-    ghost view = { λ _. tt };
 }
 
 impl<'a> Story<'a> {
