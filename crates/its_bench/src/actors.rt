@@ -39,8 +39,20 @@ impl Actor {
     }
 }
 
-/// Makes calls in order, up to the first that isn't made, and answers how many were hits.
-pub fn make_all<R: Wait>(
+/// Makes calls in order, up to the first that isn't made.
+pub fn make_each<R: Wait>(rt: &R, alloc: Global, machine: &Machine, pass: &mut Pass, asks: &[Ask])
+    requires { IsReady machine.now pass.old }
+    ensures { IsReady machine.now pass.new }
+{
+    for each in asks {
+        if make(rt, alloc, machine, pass, each).is_none() {
+            return;
+        }
+    }
+}
+
+/// The same, which keeps the replies and answers how many calls were hits.
+fn make_all<R: Wait>(
     rt: &R,
     alloc: Global,
     machine: &Machine,

@@ -18,6 +18,12 @@ impl Lap {
         }
     }
 
+    /// Calls that were made since an instant.
+    pub fn since<R: Clock>(rt: &R, since: &Instant, calls: u64) -> io::Result<Lap> {
+        let spent = since.elapsed(rt)?;
+        Ok(Lap { calls, spent })
+    }
+
     /// With calls that were made since an instant.
     pub fn add<R: Clock>(&mut self, rt: &R, since: &Instant, calls: u64) -> io::Result<()> {
         self.spent = self.spent.saturating_add(since.elapsed(rt)?);

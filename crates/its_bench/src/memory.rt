@@ -2,7 +2,7 @@
 ghost use Rattle.its_bench.specs.Ready.{IsReady};
 
 use crate::measure::Lap;
-use crate::shared::{Kind, MEMORY, SINGLE, shared, split};
+use crate::shared::{Kind, MEMORY, SINGLE, with_pass};
 use guest_port::{copy, poke};
 use its_plain::{Bytes64, Reply};
 use its_turns::{Machine, Pass};
@@ -59,14 +59,22 @@ pub fn time_pokes<R: Clock + Wait>(
     track: bool,
     count: u32,
 ) -> io::Result<Lap> {
-    let (machine, mut root) = shared(alloc, Kind { track, ..SINGLE })?;
-    let mut pass = split(&machine, &mut root);
-    pokes(rt, &machine, &mut pass, WORDS);
-    let mut lap = Lap::new();
+    let (machine, _root, mut pass) = with_pass(alloc, Kind { track, ..SINGLE })?;
+    lap_of_pokes(rt, &machine, &mut pass, count)
+}
+
+fn lap_of_pokes<R: Clock + Wait>(
+    rt: &R,
+    machine: &Machine,
+    pass: &mut Pass,
+    count: u32,
+) -> io::Result<Lap>
+    requires { IsReady machine.now pass.old }
+{
+    pokes(rt, machine, pass, WORDS);
     let since = Instant::now(rt)?;
-    let made = pokes(rt, &machine, &mut pass, count);
-    lap.add(rt, &since, made)?;
-    Ok(lap)
+    let made = pokes(rt, machine, pass, count);
+    Lap::since(rt, &since, made)
 }
 
 // Writes into a hundred pages.
@@ -98,15 +106,25 @@ pub fn time_copies<R: Clock + Wait>(rt: &R, alloc: Global, count: u32) -> io::Re
         memory: LARGE,
         ..SINGLE
     };
-    let (machine, mut root) = shared(alloc, kind)?;
-    let mut pass = split(&machine, &mut root);
-    dirty(rt, &machine, &mut pass, 0);
-    copied(rt, &machine, &mut pass);
+    let (machine, _root, mut pass) = with_pass(alloc, kind)?;
+    lap_of_copies(rt, &machine, &mut pass, count)
+}
+
+// The first copy takes all pages, and isn't timed.
+fn lap_of_copies<R: Clock + Wait>(
+    rt: &R,
+    machine: &Machine,
+    pass: &mut Pass,
+    count: u32,
+) -> io::Result<Lap>
+    requires { IsReady machine.now pass.old }
+{
+    copied(rt, machine, pass);
     let mut lap = Lap::new();
     for n in 0..count {
-        dirty(rt, &machine, &mut pass, n);
+        dirty(rt, machine, pass, n);
         let since = Instant::now(rt)?;
-        let pages = copied(rt, &machine, &mut pass);
+        let pages = copied(rt, machine, pass);
         lap.add(rt, &since, u64::from(pages == u64::from(PAGES)))?;
     }
     Ok(lap)

@@ -4,11 +4,11 @@ ghost use Rattle.std.specs.List.{AllByRecursion};
 ghost use Rattle.its_turns.specs.Machines.{view};
 ghost use Rattle.its_bench.specs.Ready.{IsReady, IsRoot};
 
-use crate::actors::make_all;
+use crate::actors::make_each;
 use crate::asks::Ask;
 use crate::guest::{Queue, begin, mapc, mapd, mapti};
 use crate::measure::Lap;
-use crate::shared::{Kind, SINGLE, VCPUS, shared, split};
+use crate::shared::{Kind, SINGLE, VCPUS, split, with_pass};
 use device_port::{Now, signal_at, try_signal, try_signal_at};
 use its_plain::Signal;
 use its_turns::{Machine, Pass, Root};
@@ -125,24 +125,36 @@ pub fn signals<R: Wait>(
     delivered
 }
 
-/// Maps the devices of a translator, and has them in the cache.
-fn map_cached<R: Wait>(
-    rt: &R,
-    alloc: Global,
-    machine: &Machine,
-    pass: &mut Pass,
-    its: u8,
-) -> Result<(), AllocError>
+// The calls that map the devices of one translator, or of two.
+fn mapping(alloc: Global, two: bool) -> Result<Vec<Ask>, AllocError> {
+    let (mut asks, _) = map_devices(alloc, 0)?;
+    if two {
+        let (others, _) = map_devices(alloc, 1)?;
+        for ask in others.as_slice() {
+            asks.push(*ask)?;
+        }
+    }
+    Ok(asks)
+}
+
+// Has the events of a translator's devices in the cache.
+fn warm<R: Wait>(rt: &R, machine: &Machine, pass: &mut Pass, its: u8)
     requires { IsReady machine.now pass.old }
-    ensures { IfOk result (λ _. IsReady machine.now pass.new) }
+    ensures { IsReady machine.now pass.new }
 {
-    let (asks, _) = map_devices(alloc, its)?;
-    let mut done = Vec::new(alloc);
-    make_all(rt, alloc, machine, pass, asks.as_slice(), &mut done);
     for dev in DEVICES {
         signals(rt, machine, pass, its, dev, EVENTS, EVENTS);
     }
-    Ok(())
+}
+
+// Makes the calls that map the devices, and has these in the cache.
+fn map_cached<R: Wait>(rt: &R, alloc: Global, machine: &Machine, pass: &mut Pass, asks: &[Ask])
+    requires { IsReady machine.now pass.old }
+    ensures { IsReady machine.now pass.new }
+{
+    make_each(rt, alloc, machine, pass, asks);
+    warm(rt, machine, pass, 0);
+    warm(rt, machine, pass, 1);
 }
 
 /// A machine of one translator or two, whose devices are mapped and in the cache, with its root
@@ -152,33 +164,34 @@ fn mapped<R: Wait>(rt: &R, alloc: Global, two: bool) -> Result<(Machine, Root, P
     ensures made { IfOk result (λ m. (view m.1).root.made ≡ 2) }
     ensures pass { IfOk result (λ m. IsReady m.0 m.2) }
 {
-    let (machine, mut root) = shared(alloc, Kind { two, ..SINGLE })?;
-    let mut pass = split(&machine, &mut root);
-    map_cached(rt, alloc, &machine, &mut pass, 0)?;
-    if two {
-        map_cached(rt, alloc, &machine, &mut pass, 1)?;
-    }
+    let asks = mapping(alloc, two)?;
+    let (machine, root, mut pass) = with_pass(alloc, Kind { two, ..SINGLE })?;
+    map_cached(rt, alloc, &machine, &mut pass, asks.as_slice());
     Ok((machine, root, pass))
 }
 
-/// Hits of one thread.
-pub fn time_hits<R: Clock + Wait>(rt: &R, alloc: Global, count: u32) -> io::Result<Lap> {
-    let (machine, _root, mut pass) = mapped(rt, alloc, false)?;
-    let mut lap = Lap::new();
-    let since = Instant::now(rt)?;
-    let calls = hits(&machine, &mut pass, DEVICES[0], count);
-    lap.add(rt, &since, calls)?;
-    Ok(lap)
+/// Hits of one thread, to the only translator or to the second of two.
+pub fn time_hits<R: Clock + Wait>(rt: &R, alloc: Global, two: bool, count: u32) -> io::Result<Lap> {
+    let (machine, _root, mut pass) = mapped(rt, alloc, two)?;
+    lap_of_hits(rt, &machine, &mut pass, two, count)
 }
 
-/// Hits of one thread, to the second of two translators.
-pub fn time_hits_of_two<R: Clock + Wait>(rt: &R, alloc: Global, count: u32) -> io::Result<Lap> {
-    let (machine, _root, mut pass) = mapped(rt, alloc, true)?;
-    let mut lap = Lap::new();
+fn lap_of_hits<R: Clock>(
+    rt: &R,
+    machine: &Machine,
+    pass: &mut Pass,
+    two: bool,
+    count: u32,
+) -> io::Result<Lap>
+    requires { IsReady machine.now pass.old }
+{
     let since = Instant::now(rt)?;
-    let calls = hits_at(&machine, &mut pass, 1, DEVICES[0], count);
-    lap.add(rt, &since, calls)?;
-    Ok(lap)
+    let calls = if two {
+        hits_at(machine, pass, 1, DEVICES[0], count)
+    } else {
+        hits(machine, pass, DEVICES[0], count)
+    };
+    Lap::since(rt, &since, calls)
 }
 
 // What one of several threads has to do.
@@ -244,32 +257,39 @@ fn lanes(
     Ok(lanes)
 }
 
-/// Signals of as many threads as there are devices, each so many of one device.
+/// Signals of as many threads as there are devices, each so many of one device: to the only
+/// translator, or of two threads each to a translator of its own.
 pub fn time_signals<R: Clock + Threads + Wait + Sync>(
     rt: &R,
     alloc: Global,
     devices: &[DeviceId],
+    two: bool,
     count: u32,
 ) -> io::Result<Lap>
     requires { length devices.now ≤ 64 }
 {
-    let (machine, mut root, _pass) = mapped(rt, alloc, false)?;
-    let mut lanes = lanes(alloc, &machine, &mut root, devices, false)?;
-    time_lanes(rt, &machine, &mut lanes, count)
+    let (machine, mut root, _pass) = mapped(rt, alloc, two)?;
+    lap_of_signals(rt, alloc, &machine, &mut root, devices, two, count)
 }
 
-/// Signals of two threads, each so many to a translator of its own.
-pub fn time_translators<R: Clock + Threads + Wait + Sync>(
+fn lap_of_signals<R: Clock + Threads + Wait + Sync>(
     rt: &R,
     alloc: Global,
+    machine: &Machine,
+    root: &mut Root,
+    devices: &[DeviceId],
+    apart: bool,
     count: u32,
-) -> io::Result<Lap> {
-    let (machine, mut root, _pass) = mapped(rt, alloc, true)?;
-    let mut lanes = lanes(alloc, &machine, &mut root, &DEVICES[..2], true)?;
-    time_lanes(rt, &machine, &mut lanes, count)
+) -> io::Result<Lap>
+    requires root { IsRoot machine.now root.old }
+    requires made { (view root.old).root.made ≡ 2 }
+    requires few { length devices.now ≤ 64 }
+{
+    let mut lanes = lanes(alloc, machine, root, devices, apart)?;
+    lap_of_lanes(rt, machine, &mut lanes, count)
 }
 
-fn time_lanes<R: Clock + Threads + Wait + Sync>(
+fn lap_of_lanes<R: Clock + Threads + Wait + Sync>(
     rt: &R,
     machine: &Machine,
     lanes: &mut [Lane],
@@ -277,13 +297,11 @@ fn time_lanes<R: Clock + Threads + Wait + Sync>(
 ) -> io::Result<Lap>
     requires { AllByRecursion (λ l. IsReady machine.now l.pass) lanes.old }
 {
-    let mut lap = Lap::new();
     let since = Instant::now(rt)?;
     drive_all(rt, machine, lanes, count);
     let mut calls = 0u64;
     for lane in lanes.iter() {
         calls = calls.wrapping_add(lane.delivered);
     }
-    lap.add(rt, &since, calls)?;
-    Ok(lap)
+    Lap::since(rt, &since, calls)
 }

@@ -1,12 +1,12 @@
 //! A device with many events: signals by the maps, acknowledgements, steps, saves, migrations.
-ghost use Rattle.std.specs.Prelude.{◌≤◌, IfOk};
+ghost use Rattle.std.specs.Prelude.{◌<◌, ◌≤◌, IfOk};
 ghost use Rattle.its_bench.specs.Ready.{IsReady, IsRoot};
 
-use crate::actors::make_all;
+use crate::actors::make_each;
 use crate::asks::Ask;
 use crate::guest::{Queue, begin, enable, mapc, mapd_wide, mapti};
 use crate::measure::Lap;
-use crate::shared::{SINGLE, shared, split};
+use crate::shared::{SINGLE, with_pass};
 use crate::signals::signals;
 use cmd_engine::step;
 use its_migrate::{migrate, save};
@@ -29,8 +29,21 @@ const LPIS: u32 = 57_344;
 // The most commands that are queued at once.
 const BATCH: u32 = 1024;
 
-/// A machine with a device whose EventIDs have so many bits, and none of whose events is mapped,
-/// with its root, a pass and its queue.
+// The calls that map a device whose EventIDs have so many bits, and none of its events; and the
+// queue after them.
+fn mapping(alloc: Global, bits: u8) -> Result<(Vec<Ask>, Queue), AllocError>
+    requires least { 1 ≤ bits }
+    requires most { bits ≤ 16 }
+{
+    let mut asks = Vec::new(alloc);
+    let mut queue = Queue::new(0);
+    begin(&mut asks, 0)?;
+    queue.run(&mut asks, &mapc(1, TARGET))?;
+    queue.run(&mut asks, &mapd_wide(DEVICE, bits))?;
+    Ok((asks, queue))
+}
+
+// A machine with that device, with its root, a pass and its queue.
 fn with_device<R: Wait>(
     rt: &R,
     alloc: Global,
@@ -41,15 +54,9 @@ fn with_device<R: Wait>(
     ensures root { IfOk result (λ m. IsRoot m.0 m.1) }
     ensures pass { IfOk result (λ m. IsReady m.0 m.2) }
 {
-    let (machine, mut root) = shared(alloc, SINGLE)?;
-    let mut pass = split(&machine, &mut root);
-    let mut asks = Vec::new(alloc);
-    let mut done = Vec::new(alloc);
-    let mut queue = Queue::new(0);
-    begin(&mut asks, 0)?;
-    queue.run(&mut asks, &mapc(1, TARGET))?;
-    queue.run(&mut asks, &mapd_wide(DEVICE, bits))?;
-    make_all(rt, alloc, &machine, &mut pass, asks.as_slice(), &mut done);
+    let (asks, queue) = mapping(alloc, bits)?;
+    let (machine, root, mut pass) = with_pass(alloc, SINGLE)?;
+    make_each(rt, alloc, &machine, &mut pass, asks.as_slice());
     Ok((machine, root, pass, queue))
 }
 
@@ -79,7 +86,7 @@ fn map_events<R: Clock + Wait>(
     alloc: Global,
     machine: &Machine,
     pass: &mut Pass,
-    queue: &mut Queue,
+    mut queue: Queue,
     events: u32,
 ) -> io::Result<Lap>
     requires { IsReady machine.now pass.old }
@@ -87,7 +94,6 @@ fn map_events<R: Clock + Wait>(
 {
     let mut lap = Lap::new();
     let mut asks = Vec::new(alloc);
-    let mut done = Vec::new(alloc);
     let mut queued = 0u32;
     for ev in 0..events {
         let intid = Intid(8192 + ev % LPIS);
@@ -95,34 +101,46 @@ fn map_events<R: Clock + Wait>(
         queued = queued.wrapping_add(1);
         if queued == BATCH || ev == events - 1 {
             queue.tell(&mut asks)?;
-            make_all(rt, alloc, machine, pass, asks.as_slice(), &mut done);
-            let since = Instant::now(rt)?;
-            let ran = steps(rt, machine, pass, queued);
-            lap.add(rt, &since, ran)?;
+            make_each(rt, alloc, machine, pass, asks.as_slice());
             asks.clear();
-            done.clear();
+            add_steps(rt, machine, pass, queued, &mut lap)?;
             queued = 0;
         }
     }
     Ok(lap)
 }
 
+// Steps, so many, with the time that they took.
+fn add_steps<R: Clock + Wait>(
+    rt: &R,
+    machine: &Machine,
+    pass: &mut Pass,
+    count: u32,
+    lap: &mut Lap,
+) -> io::Result<()>
+    requires { IsReady machine.now pass.old }
+    ensures { IfOk result (λ _. IsReady machine.now pass.new) }
+{
+    let since = Instant::now(rt)?;
+    let ran = steps(rt, machine, pass, count);
+    lap.add(rt, &since, ran)
+}
+
 // A machine whose device has so many EventID bits, and as many events as these allow, with its
-// root, a pass and its queue, and how long the steps took that mapped the events.
+// root and a pass.
 fn with_events<R: Clock + Wait>(
     rt: &R,
     alloc: Global,
     bits: u8,
-) -> io::Result<(Machine, Root, Pass, Queue, Lap)>
+) -> io::Result<(Machine, Root, Pass)>
     requires least { 1 ≤ bits }
     requires most { bits ≤ 16 }
     ensures root { IfOk result (λ m. IsRoot m.0 m.1) }
     ensures pass { IfOk result (λ m. IsReady m.0 m.2) }
 {
-    let (machine, root, mut pass, mut queue) = with_device(rt, alloc, bits)?;
-    let events = 1u32 << bits;
-    let lap = map_events(rt, alloc, &machine, &mut pass, &mut queue, events)?;
-    Ok((machine, root, pass, queue, lap))
+    let (machine, root, mut pass, queue) = with_device(rt, alloc, bits)?;
+    map_events(rt, alloc, &machine, &mut pass, queue, 1 << bits)?;
+    Ok((machine, root, pass))
 }
 
 /// The steps that map as many events as so many bits allow.
@@ -130,8 +148,8 @@ pub fn time_steps<R: Clock + Wait>(rt: &R, alloc: Global, bits: u8) -> io::Resul
     requires least { 1 ≤ bits }
     requires most { bits ≤ 16 }
 {
-    let (_machine, _root, _pass, _queue, lap) = with_events(rt, alloc, bits)?;
-    Ok(lap)
+    let (machine, _root, mut pass, queue) = with_device(rt, alloc, bits)?;
+    map_events(rt, alloc, &machine, &mut pass, queue, 1 << bits)
 }
 
 /// So many saves, after one that isn't timed, with as many events mapped as so many bits allow.
@@ -139,13 +157,23 @@ pub fn time_saves<R: Clock + Wait>(rt: &R, alloc: Global, bits: u8, count: u32) 
     requires least { 1 ≤ bits }
     requires most { bits ≤ 16 }
 {
-    let (machine, _root, mut pass, _queue, _) = with_events(rt, alloc, bits)?;
-    saves(rt, alloc, &machine, &mut pass, 1);
-    let mut lap = Lap::new();
+    let (machine, _root, mut pass) = with_events(rt, alloc, bits)?;
+    lap_of_saves(rt, alloc, &machine, &mut pass, count)
+}
+
+fn lap_of_saves<R: Clock + Wait>(
+    rt: &R,
+    alloc: Global,
+    machine: &Machine,
+    pass: &mut Pass,
+    count: u32,
+) -> io::Result<Lap>
+    requires { IsReady machine.now pass.old }
+{
+    saves(rt, alloc, machine, pass, 1);
     let since = Instant::now(rt)?;
-    let saved = saves(rt, alloc, &machine, &mut pass, count);
-    lap.add(rt, &since, saved)?;
-    Ok(lap)
+    let saved = saves(rt, alloc, machine, pass, count);
+    Lap::since(rt, &since, saved)
 }
 
 // So many saves. Answers how many were made.
@@ -167,13 +195,9 @@ pub fn time_migration<R: Clock + Wait>(rt: &R, alloc: Global, bits: u8) -> io::R
     requires least { 1 ≤ bits }
     requires most { bits ≤ 16 }
 {
-    let (machine, mut root, pass, _queue, _) = with_events(rt, alloc, bits)?;
+    let (machine, mut root, pass) = with_events(rt, alloc, bits)?;
     join(&machine, &mut root, pass);
-    let mut lap = Lap::new();
-    let since = Instant::now(rt)?;
-    let calls = migrated(alloc, machine, root);
-    lap.add(rt, &since, calls)?;
-    Ok(lap)
+    lap_of_migration(rt, alloc, machine, root)
 }
 
 fn join(machine: &Machine, root: &mut Root, pass: Pass)
@@ -182,6 +206,19 @@ fn join(machine: &Machine, root: &mut Root, pass: Pass)
     ensures { IsRoot machine.now root.new }
 {
     root.join(machine, pass);
+}
+
+fn lap_of_migration<R: Clock>(
+    rt: &R,
+    alloc: Global,
+    machine: Machine,
+    root: Root,
+) -> io::Result<Lap>
+    requires { IsRoot machine root }
+{
+    let since = Instant::now(rt)?;
+    let calls = migrated(alloc, machine, root);
+    Lap::since(rt, &since, calls)
 }
 
 // How many migrations were made: one or none.
@@ -203,18 +240,29 @@ pub fn time_misses<R: Clock + Wait>(rt: &R, alloc: Global, bits: u8, count: u32)
     requires least { 1 ≤ bits }
     requires most { bits ≤ 16 }
 {
-    let (machine, _root, mut pass, _queue, _) = with_events(rt, alloc, bits)?;
-    let events = 1u32 << bits;
+    let (machine, _root, mut pass) = with_events(rt, alloc, bits)?;
+    lap_of_misses(rt, alloc, &machine, &mut pass, 1 << bits, count)
+}
+
+fn lap_of_misses<R: Clock + Wait>(
+    rt: &R,
+    alloc: Global,
+    machine: &Machine,
+    pass: &mut Pass,
+    events: u32,
+    count: u32,
+) -> io::Result<Lap>
+    requires ready { IsReady machine.now pass.old }
+    requires some { 0 < events }
+{
     let mut asks = Vec::new(alloc);
-    let mut done = Vec::new(alloc);
     enable(&mut asks, 0, false)?;
     enable(&mut asks, 0, true)?;
     let mut lap = Lap::new();
     for _ in 0..count.div_ceil(events) {
-        make_all(rt, alloc, &machine, &mut pass, asks.as_slice(), &mut done);
-        done.clear();
+        make_each(rt, alloc, machine, pass, asks.as_slice());
         let since = Instant::now(rt)?;
-        let delivered = signals(rt, &machine, &mut pass, 0, DEVICE, events, events);
+        let delivered = signals(rt, machine, pass, 0, DEVICE, events, events);
         lap.add(rt, &since, delivered)?;
     }
     Ok(lap)
@@ -225,13 +273,25 @@ pub fn time_takes<R: Clock + Wait>(rt: &R, alloc: Global, bits: u8, count: u32) 
     requires least { 1 ≤ bits }
     requires most { bits ≤ 15 }
 {
-    let (machine, _root, mut pass, _queue, _) = with_events(rt, alloc, bits)?;
-    let events = 1u32 << bits;
+    let (machine, _root, mut pass) = with_events(rt, alloc, bits)?;
+    lap_of_takes(rt, &machine, &mut pass, 1 << bits, count)
+}
+
+fn lap_of_takes<R: Clock + Wait>(
+    rt: &R,
+    machine: &Machine,
+    pass: &mut Pass,
+    events: u32,
+    count: u32,
+) -> io::Result<Lap>
+    requires ready { IsReady machine.now pass.old }
+    requires some { 0 < events }
+{
     let mut lap = Lap::new();
     for _ in 0..count.div_ceil(events) {
-        signals(rt, &machine, &mut pass, 0, DEVICE, events, events);
+        signals(rt, machine, pass, 0, DEVICE, events, events);
         let since = Instant::now(rt)?;
-        let taken = takes(rt, &machine, &mut pass, events);
+        let taken = takes(rt, machine, pass, events);
         lap.add(rt, &since, taken)?;
     }
     Ok(lap)

@@ -3,7 +3,7 @@ ghost use Rattle.std.specs.Prelude.{◌≤◌};
 
 use crate::measure::Lap;
 use crate::memory::{time_copies, time_pokes};
-use crate::signals::{DEVICES, time_hits, time_hits_of_two, time_signals, time_translators};
+use crate::signals::{DEVICES, time_hits, time_signals};
 use crate::tables::{time_migration, time_misses, time_saves, time_steps, time_takes};
 use std::alloc::Global;
 use std::io;
@@ -74,14 +74,14 @@ pub fn time<R: Clock + Threads + Wait + Sync>(
 ) -> io::Result<Lap> {
     let bits = event_bits(count);
     match times {
-        Times::Hit => time_hits(rt, alloc, count),
-        Times::HitOfTwo => time_hits_of_two(rt, alloc, count),
+        Times::Hit => time_hits(rt, alloc, false, count),
+        Times::HitOfTwo => time_hits(rt, alloc, true, count),
         Times::Miss => time_misses(rt, alloc, bits.min(13), count),
-        Times::SignalOne => time_signals(rt, alloc, &DEVICES[..1], count),
-        Times::SignalTwoDevices => time_signals(rt, alloc, &DEVICES[..2], count),
-        Times::SignalTwoOne => time_signals(rt, alloc, &[DEVICES[0], DEVICES[0]], count),
-        Times::SignalFourDevices => time_signals(rt, alloc, &DEVICES, count),
-        Times::SignalTwoTranslators => time_translators(rt, alloc, count),
+        Times::SignalOne => time_signals(rt, alloc, &DEVICES[..1], false, count),
+        Times::SignalTwoDevices => time_signals(rt, alloc, &DEVICES[..2], false, count),
+        Times::SignalTwoOne => time_signals(rt, alloc, &[DEVICES[0], DEVICES[0]], false, count),
+        Times::SignalFourDevices => time_signals(rt, alloc, &DEVICES, false, count),
+        Times::SignalTwoTranslators => time_signals(rt, alloc, &DEVICES[..2], true, count),
         Times::Take => time_takes(rt, alloc, bits.min(10), count),
         Times::Step => time_steps(rt, alloc, bits),
         Times::Save => time_saves(rt, alloc, bits, 4),

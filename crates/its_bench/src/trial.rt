@@ -55,6 +55,57 @@ fn actors(
     Ok(actors)
 }
 
+// What threads did.
+#[derive(Drop)]
+struct Done {
+    actors: Vec<Actor>,
+    // How many signals of the threads beside each other the cache alone translated.
+    hits: u64,
+}
+
+fn make_calls<R: Threads + Wait + Sync>(
+    rt: &R,
+    alloc: Global,
+    machine: &Machine,
+    root: &mut Root,
+    calls: Calls,
+) -> Result<Done, AllocError>
+    requires root { IsRoot machine.now root.old }
+    requires made { (view root.old).root.made ≡ 1 }
+    requires few { length calls.beside.items ≤ 64 }
+{
+    let Calls {
+        first,
+        beside,
+        last,
+    } = calls;
+    let mut before = Actor::new(alloc, split(machine, root), first)?;
+    let mut after = Actor::new(alloc, split(machine, root), last)?;
+    let mut actors = actors(alloc, machine, root, beside)?;
+    act(rt, alloc, machine, &mut before);
+    act_all(rt, alloc, machine, &mut actors);
+    act(rt, alloc, machine, &mut after);
+    let hits = actors
+        .iter()
+        .fold(0, |sum: u64, a| sum.wrapping_add(a.hits));
+    actors.push(before)?;
+    actors.push(after)?;
+    Ok(Done { actors, hits })
+}
+
+// Makes the calls on a new machine.
+fn run<R: Threads + Wait + Sync>(
+    rt: &R,
+    alloc: Global,
+    kind: Kind,
+    calls: Calls,
+) -> Result<Done, AllocError>
+    requires few { length calls.beside.items ≤ 64 }
+{
+    let (machine, mut root) = shared(alloc, kind)?;
+    make_calls(rt, alloc, &machine, &mut root, calls)
+}
+
 /// Makes the calls on a new machine, and checks each reply.
 pub fn trial<R: Threads + Wait + Sync>(
     rt: &R,
@@ -64,24 +115,8 @@ pub fn trial<R: Threads + Wait + Sync>(
 ) -> Result<Checked, AllocError>
     requires few { length calls.beside.items ≤ 64 }
 {
-    let Calls {
-        first,
-        beside,
-        last,
-    } = calls;
-    let (machine, mut root) = shared(alloc, kind)?;
-    let mut before = Actor::new(alloc, split(&machine, &mut root), first)?;
-    let mut after = Actor::new(alloc, split(&machine, &mut root), last)?;
-    let mut actors = actors(alloc, &machine, &mut root, beside)?;
-    act(rt, alloc, &machine, &mut before);
-    act_all(rt, alloc, &machine, &mut actors);
-    act(rt, alloc, &machine, &mut after);
-    let hits = actors
-        .iter()
-        .fold(0, |sum: u64, a| sum.wrapping_add(a.hits));
-    actors.push(before)?;
-    actors.push(after)?;
     let desc = desc(alloc, kind)?;
+    let Done { actors, hits } = run(rt, alloc, kind, calls)?;
     let (places, wrong) = replay(alloc, &desc, &actors)?;
     Ok(Checked {
         places,

@@ -1,12 +1,13 @@
 //! Commands, registers and saves, by calls of the ports: what they answer, and what they leave of
 //! the cache.
+ghost use Rattle.std.specs.Prelude.{IfOk};
 ghost use Rattle.ports_together.specs.Ready.{IsReady};
 
 use crate::asks::{Ask, Said, play};
 use crate::given::Given;
 use crate::made::{made, made_with};
 use its_command::Op;
-use its_plain::{Cause, Reason, Reply};
+use its_plain::{Cause, MakeError, Reason, Reply};
 use its_turns::{Machine, Root};
 use std::alloc::Global;
 use std::sync::Wait;
@@ -25,16 +26,53 @@ pub const MAPPED: [(Ask, Said); 3] = [
     ),
 ];
 
-// How many rows hold on a machine that was just made, after those that map event 3.
-fn played<R: Wait>(rt: &R, alloc: Global, made: (Machine, Root), rows: &[(Ask, Said)]) -> usize
-    requires { IsReady made.0 made.1 }
+// What a table of rows is played on.
+#[derive(Clone, Copy)]
+enum Kind {
+    Usual,
+    // The last stamp is 2.
+    FewStamps,
+    // The guest programs the LPI registers.
+    Programmed,
+    // It does, and is a Linux.
+    Linux,
+}
+
+fn made_of(alloc: Global, kind: Kind) -> Result<(Machine, Root), MakeError>
+    ensures { IfOk result (λ made. IsReady made.0 made.1) }
 {
-    let (machine, mut root) = made;
-    let mapped = play(rt, alloc, &machine, &mut root, &MAPPED);
-    if mapped < MAPPED.len() {
-        return mapped;
+    match kind {
+        Kind::Usual => made(alloc, &CONFIGURED),
+        Kind::FewStamps => made_with(alloc, &CONFIGURED, 2, false, false),
+        Kind::Programmed => made_with(alloc, &CONFIGURED, 16_777_215, true, false),
+        Kind::Linux => made_with(alloc, &CONFIGURED, 16_777_215, true, true),
     }
-    play(rt, alloc, &machine, &mut root, rows)
+}
+
+// How many rows hold, of those that map event 3 and of these after them.
+fn play_both<R: Wait>(
+    rt: &R,
+    alloc: Global,
+    machine: &Machine,
+    root: &mut Root,
+    rows: &[(Ask, Said)],
+) -> (usize, usize)
+    requires { IsReady machine.now root.old }
+{
+    let mapped = play(rt, alloc, machine, root, &MAPPED);
+    let after = play(rt, alloc, machine, root, rows);
+    (mapped, after)
+}
+
+// The same on a machine that is made for it.
+fn played<R: Wait>(
+    rt: &R,
+    alloc: Global,
+    kind: Kind,
+    rows: &[(Ask, Said)],
+) -> Result<(usize, usize), MakeError> {
+    let (machine, mut root) = made_of(alloc, kind)?;
+    Ok(play_both(rt, alloc, &machine, &mut root, rows))
 }
 
 // A move and then a discard of event 3. Event 4 stays in the cache.
@@ -61,13 +99,6 @@ const ONE_ENDS: [(Ask, Said); 17] = [
     (Ask::Look, Said::Stamp(0, 30)),
 ];
 
-#[test]
-fn one_translation_ends(rt: HostRuntime) -> Result<(), Fail> {
-    let made = made(rt.alloc(), &CONFIGURED)?;
-    assert_eq!(rt; played(&rt, rt.alloc(), made, &ONE_ENDS), 17);
-    Ok(())
-}
-
 // With 2 as the last stamp, three commands after which a collection has another target.
 const ALL_END: [(Ask, Said); 14] = [
     (Ask::Send(3), Said::Sent(9, 2, 8200)),
@@ -85,13 +116,6 @@ const ALL_END: [(Ask, Said); 14] = [
     (Ask::Show(2), Said::Lpi(20, 8200, 0xa0)),
     (Ask::Show(3), Said::Lpi(21, 8200, 0xa0)),
 ];
-
-#[test]
-fn all_translations_end(rt: HostRuntime) -> Result<(), Fail> {
-    let made = made_with(rt.alloc(), &CONFIGURED, 2, false, false)?;
-    assert_eq!(rt; played(&rt, rt.alloc(), made, &ALL_END), 14);
-    Ok(())
-}
 
 const SAVED: [(Ask, Said); 7] = [
     (Ask::Send(3), Said::Sent(9, 2, 8200)),
@@ -179,23 +203,6 @@ const OFF_AND_ON: [(Ask, Said); 9] = [
     (Ask::Look, Said::Stamp(1, 16)),
 ];
 
-#[test]
-fn calls_by_the_ports(rt: HostRuntime) -> Result<(), Fail> {
-    let tables = [
-        SAVED.as_slice(),
-        MOVED.as_slice(),
-        DISCARDED.as_slice(),
-        CONFIGURED_ANEW.as_slice(),
-        CLAIMED.as_slice(),
-        OFF_AND_ON.as_slice(),
-    ];
-    for rows in tables {
-        let made = made(rt.alloc(), &CONFIGURED)?;
-        assert_eq!(rt; played(&rt, rt.alloc(), made, rows), rows.len());
-    }
-    Ok(())
-}
-
 // The guest turns LPIs on at processor 2.
 const TURNED_ON: [(Ask, Said); 11] = [
     (Ask::Send(3), Said::Dropped(9, Cause::LpisOff)),
@@ -219,13 +226,6 @@ const TURNED_ON: [(Ask, Said); 11] = [
     (Ask::Hit(3), Said::Sent(17, 2, 8200)),
     (Ask::Take(2), Said::Lpi(18, 8200, 0xa0)),
 ];
-
-#[test]
-fn lpis_are_turned_on(rt: HostRuntime) -> Result<(), Fail> {
-    let made = made_with(rt.alloc(), &CONFIGURED, 16_777_215, true, false)?;
-    assert_eq!(rt; played(&rt, rt.alloc(), made, &TURNED_ON), 11);
-    Ok(())
-}
 
 // A Linux turns them off again, and on. While they are off the cache still has the translation.
 const TURNED_OFF: [(Ask, Said); 13] = [
@@ -254,8 +254,22 @@ const TURNED_OFF: [(Ask, Said); 13] = [
 ];
 
 #[test]
-fn lpis_are_turned_off(rt: HostRuntime) -> Result<(), Fail> {
-    let made = made_with(rt.alloc(), &CONFIGURED, 16_777_215, true, true)?;
-    assert_eq!(rt; played(&rt, rt.alloc(), made, &TURNED_OFF), 13);
+fn calls_by_the_ports(rt: HostRuntime) -> Result<(), Fail> {
+    let tables = [
+        (Kind::Usual, ONE_ENDS.as_slice()),
+        (Kind::FewStamps, ALL_END.as_slice()),
+        (Kind::Usual, SAVED.as_slice()),
+        (Kind::Usual, MOVED.as_slice()),
+        (Kind::Usual, DISCARDED.as_slice()),
+        (Kind::Usual, CONFIGURED_ANEW.as_slice()),
+        (Kind::Usual, CLAIMED.as_slice()),
+        (Kind::Usual, OFF_AND_ON.as_slice()),
+        (Kind::Programmed, TURNED_ON.as_slice()),
+        (Kind::Linux, TURNED_OFF.as_slice()),
+    ];
+    for (kind, rows) in tables {
+        let held = played(&rt, rt.alloc(), kind, rows)?;
+        assert_eq!(rt; held, (3, rows.len()));
+    }
     Ok(())
 }

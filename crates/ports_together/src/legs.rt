@@ -5,11 +5,14 @@ ghost use Rattle.ports_together.specs.Legs.{IsSmallLeg};
 
 use crate::made::made;
 use event_script::{Phase, Thread};
-use its_plain::{Ack, Call, Reply, Signal};
+use its_history::ThreadList;
+use its_plain::{Ack, Call, MakeError, Reply, Signal};
 use its_types::{DeviceId, EventId, Intid, Listed, Open, Placed, Vcpu};
 use script_threads::{LegEnd, run_leg};
 use std::alloc::{AllocError, Global};
+use std::sync::Wait;
 use std::test::Fail;
+use std::thread::Threads;
 
 // Device 16 with event 3, which collection 1 leads to processor 2 as LPI 8200, and that LPI's
 // configuration: enabled, of priority 0xa0.
@@ -67,28 +70,11 @@ fn count_delivered(replies: &[Placed<Reply>]) -> usize {
         .count()
 }
 
-#[test]
-fn threads_signal_beside_each_other(rt: HostRuntime) -> Result<(), Fail> {
-    let alloc = rt.alloc();
-    let (machine, root) = made(alloc, &WORDS)?;
-    let phases = leg(alloc)?;
-    let mut root = root;
-    let LegEnd { lists, stop } = run_leg(
-        &rt,
-        alloc,
-        &machine,
-        &mut root,
-        &Open,
-        phases.as_slice(),
-    )?;
-    assert_eq!(rt; stop, None);
-    let Some((acks, signals)) = lists.as_slice().split_last() else {
-        panic!(rt; "there are no lists");
+// Whether four threads had 50 signals delivered each, and the last thread took the LPI.
+fn is_whole(lists: &[ThreadList]) -> bool {
+    let Some((acks, signals)) = lists.split_last() else {
+        return false;
     };
-    assert_eq!(rt; signals.len(), 4);
-    for list in signals {
-        assert_eq!(rt; count_delivered(list.replies.as_slice()), 50);
-    }
     let first = Placed {
         place: 200,
         reply: Reply::Ack(Ack::Some {
@@ -100,6 +86,29 @@ fn threads_signal_beside_each_other(rt: HostRuntime) -> Result<(), Fail> {
         place: 201,
         reply: Reply::Ack(Ack::None),
     };
-    assert_eq!(rt; acks.replies.as_slice(), [first, second].as_slice());
+    let each = signals
+        .iter()
+        .all(|list| count_delivered(list.replies.as_slice()) == 50);
+    signals.len() == 4 && each && acks.replies.as_slice() == [first, second].as_slice()
+}
+
+// The leg on a machine that is made for it.
+fn ended<'a, R: Threads + Wait + Sync>(
+    rt: &R,
+    alloc: Global,
+    phases: &'a [Phase],
+) -> Result<LegEnd<'a>, MakeError>
+    requires { IsSmallLeg phases.now }
+{
+    let (machine, mut root) = made(alloc, &WORDS)?;
+    Ok(run_leg(rt, alloc, &machine, &mut root, &Open, phases)?)
+}
+
+#[test]
+fn threads_signal_beside_each_other(rt: HostRuntime) -> Result<(), Fail> {
+    let phases = leg(rt.alloc())?;
+    let LegEnd { lists, stop } = ended(&rt, rt.alloc(), phases.as_slice())?;
+    assert_eq!(rt; stop, None);
+    assert!(rt; is_whole(lists.as_slice()));
     Ok(())
 }

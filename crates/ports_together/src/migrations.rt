@@ -3,10 +3,11 @@ ghost use Rattle.ports_together.specs.Ready.{IsAtRest};
 
 use crate::made::made;
 use its_migrate::{migrate, pending, save};
-use its_plain::{Region, SaveError, SaveFault};
+use its_plain::{MakeError, Region, SaveError, SaveFault};
 use its_turns::{Machine, Root};
-use its_types::{DeviceId, Intid, Open, Placed};
-use std::alloc::{AllocError, Global};
+use its_types::{DeviceId, Intid, Listed, Open, Placed};
+use std::alloc::Global;
+use std::sync::Wait;
 use std::test::Fail;
 
 // Device 16 with event 3, which collection 1 leads to processor 2, where LPI 8200 is pending.
@@ -27,52 +28,60 @@ const TWO_DEVICES: [(u64, u64); 5] = [
 ];
 
 // Whether LPI 8200 is pending at processor 2, and nothing else anywhere.
-fn is_one_pending(alloc: Global, machine: &Machine, root: &mut Root) -> Result<bool, AllocError>
+fn is_one_pending(alloc: Global, machine: &Machine, root: &mut Root) -> bool
     requires { IsAtRest machine.now root.old }
 {
-    let lists = pending(alloc, machine, root)?;
-    let [first, second, third, fourth] = lists.as_slice() else {
-        return Ok(false);
+    match pending(alloc, machine, root) {
+        Ok(lists) => is_third(lists.as_slice()),
+        Err(_) => false,
+    }
+}
+
+fn is_third(lists: &[Listed<Intid>]) -> bool {
+    let [first, second, third, fourth] = lists else {
+        return false;
     };
     let one = third.as_slice() == [Intid(8200)].as_slice();
-    Ok(one && first.is_empty() && second.is_empty() && fourth.is_empty())
+    one && first.is_empty() && second.is_empty() && fourth.is_empty()
 }
 
-#[test]
-fn what_is_pending_goes_along(rt: HostRuntime) -> Result<(), Fail> {
-    let (machine, root) = made(rt.alloc(), &ONE_DEVICE)?;
-    let Ok((machine, root)) = migrate(rt.alloc(), machine, root) else {
-        panic!(rt; "the machine stays");
+// Whether that LPI is pending after a migration, which is made.
+fn moved(alloc: Global) -> Result<Option<bool>, MakeError> {
+    let (machine, root) = made(alloc, &ONE_DEVICE)?;
+    let Ok((machine, mut root)) = migrate(alloc, machine, root) else {
+        return Ok(None);
     };
-    let mut root = root;
-    let one = is_one_pending(rt.alloc(), &machine, &mut root)?;
-    assert!(rt; one);
-    Ok(())
+    Ok(Some(is_one_pending(alloc, &machine, &mut root)))
 }
 
-#[test]
-fn tables_that_overlap(rt: HostRuntime) -> Result<(), Fail> {
-    let (machine, root) = made(rt.alloc(), &TWO_DEVICES)?;
-    let Err((machine, root, error)) = migrate(rt.alloc(), machine, root) else {
-        panic!(rt; "the machine is left");
+// Why a migration isn't made, and whether that LPI is still pending.
+fn refused(alloc: Global) -> Result<Option<(SaveError, bool)>, MakeError> {
+    let (machine, root) = made(alloc, &TWO_DEVICES)?;
+    let Err((machine, mut root, error)) = migrate(alloc, machine, root) else {
+        return Ok(None);
     };
-    let fault = SaveFault::Overlap(Region::Itt(0, DeviceId(16)), Region::Itt(0, DeviceId(17)));
-    assert_eq!(rt; error, SaveError::Fault(fault));
-    let mut root = root;
-    let one = is_one_pending(rt.alloc(), &machine, &mut root)?;
-    assert!(rt; one);
-    Ok(())
+    Ok(Some((error, is_one_pending(alloc, &machine, &mut root))))
+}
+
+// What the first save of a machine is answered.
+fn saved<R: Wait>(
+    rt: &R,
+    alloc: Global,
+) -> Result<Option<Placed<Result<(), SaveFault>>>, MakeError> {
+    let (machine, mut root) = made(alloc, &ONE_DEVICE)?;
+    Ok(save(rt, alloc, &machine, &mut root, &Open).ok())
 }
 
 #[test]
-fn a_save_has_a_place(rt: HostRuntime) -> Result<(), Fail> {
-    let (machine, root) = made(rt.alloc(), &ONE_DEVICE)?;
-    let mut root = root;
-    let saved = save(&rt, rt.alloc(), &machine, &mut root, &Open);
+fn saves_and_migrations(rt: HostRuntime) -> Result<(), Fail> {
+    let alloc = rt.alloc();
+    assert_eq!(rt; moved(alloc)?, Some(true));
+    let overlap = SaveFault::Overlap(Region::Itt(0, DeviceId(16)), Region::Itt(0, DeviceId(17)));
+    assert_eq!(rt; refused(alloc)?, Some((SaveError::Fault(overlap), true)));
     let placed = Placed {
         place: 0,
         reply: Ok(()),
     };
-    assert_eq!(rt; saved, Ok(placed));
+    assert_eq!(rt; saved(&rt, alloc)?, Some(placed));
     Ok(())
 }

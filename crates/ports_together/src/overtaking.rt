@@ -9,7 +9,7 @@ use crate::commands::{CONFIGURED, MAPPED};
 use crate::given::Given;
 use crate::made::made;
 use its_command::Op;
-use its_plain::{Cause, Reply, StepReply};
+use its_plain::{Cause, MakeError, Reply, StepReply};
 use its_turns::{Machine, Pass, Raced, meet, note};
 use its_types::{Gate, Point, Word};
 use std::alloc::Global;
@@ -163,6 +163,18 @@ fn overtaken<R: Threads + Wait + Sync>(
     Some((step, signal, after))
 }
 
+// The same on a machine that is made for it.
+fn on_a_machine<R: Threads + Wait + Sync>(
+    rt: &R,
+    alloc: Global,
+    gate: &Overtaking,
+) -> Result<Option<(Said, Said, usize)>, MakeError> {
+    let (machine, mut root) = made(alloc, &CONFIGURED)?;
+    let first = split(&machine, &mut root);
+    let second = split(&machine, &mut root);
+    Ok(overtaken(rt, alloc, &machine, first, second, gate))
+}
+
 #[test]
 fn a_command_overtakes_a_signal(rt: HostRuntime) -> Result<(), Fail> {
     let gate = Overtaking {
@@ -170,11 +182,8 @@ fn a_command_overtakes_a_signal(rt: HostRuntime) -> Result<(), Fail> {
         stepped: AtomicU64::new(0),
         ran_out: AtomicU64::new(0),
     };
-    let (machine, mut root) = made(rt.alloc(), &CONFIGURED)?;
-    let first = split(&machine, &mut root);
-    let second = split(&machine, &mut root);
-    let answers = overtaken(&rt, rt.alloc(), &machine, first, second, &gate);
-    assert!(rt; answers == Some((STEPPED, RACED, 3)));
-    assert_eq!(rt; gate.ran_out.load(Ordering::SeqCst), 0);
+    let answers = on_a_machine(&rt, rt.alloc(), &gate)?;
+    let ran_out = gate.ran_out.load(Ordering::SeqCst);
+    assert!(rt; (answers, ran_out) == (Some((STEPPED, RACED, 3)), 0));
     Ok(())
 }

@@ -5,9 +5,10 @@ ghost use Rattle.ports_together.specs.Ready.{IsReady, IsRoot};
 
 use crate::asks::{Ask, DEVICE, Said, hit, joined, play, send, split, taken};
 use crate::made::made;
-use its_plain::Reply;
+use its_plain::{MakeError, Reply};
 use its_turns::{Busy, Machine, Pass, Root, Value, close, look, put, try_take_shard};
 use its_types::{EventId, Icid, Open, Part, Vcpu};
+use std::alloc::Global;
 use std::sync::Wait;
 use std::test::Fail;
 use std::thread::{Threads, join};
@@ -72,24 +73,43 @@ fn hindered(machine: &Machine, root: &mut Root, pass: &mut Pass) -> Said
     said
 }
 
-#[test]
-fn one_pass_by_hand(rt: HostRuntime) -> Result<(), Fail> {
-    let (machine, mut root) = made(rt.alloc(), &WORDS)?;
-    let mut pass = split(&machine, &mut root);
-    assert_eq!(rt; play(&rt, rt.alloc(), &machine, &mut pass, &ROWS), 8);
+const LAST: [(Ask, Said); 1] = [(Ask::Hit(3), Said::Sent(7, 2, 8200))];
+
+// How many rows hold, whether a hindered signal is told of the root, and how many rows hold after it.
+fn by_hand<R: Wait>(
+    rt: &R,
+    alloc: Global,
+    machine: &Machine,
+    root: &mut Root,
+) -> (usize, bool, usize)
+    requires root { IsRoot machine.now root.old }
+    requires made { (view root.old).root.made ≡ 1 }
+    ensures { IsRoot machine.now root.new }
+{
+    let mut pass = split(machine, root);
+    let first = play(rt, alloc, machine, &mut pass, &ROWS);
     let part = Part::Shard(0, machine.shard_of(DEVICE, EventId(3)));
     let busy = Said::Busy(Busy { part, holder: 0 });
-    assert!(rt; hindered(&machine, &mut root, &mut pass) == busy);
-    let sent = play(
-        &rt,
-        rt.alloc(),
-        &machine,
-        &mut pass,
-        &[(Ask::Hit(3), Said::Sent(7, 2, 8200))],
-    );
-    assert_eq!(rt; sent, 1);
-    joined(&machine, &mut root, pass);
-    assert_eq!(rt; closed(machine, root), Some(TARGET));
+    let is_told = hindered(machine, root, &mut pass) == busy;
+    let last = play(rt, alloc, machine, &mut pass, &LAST);
+    joined(machine, root, pass);
+    (first, is_told, last)
+}
+
+// The same on a machine that is made for it, and the collection's target in its parts.
+fn one_pass<R: Wait>(
+    rt: &R,
+    alloc: Global,
+) -> Result<((usize, bool, usize), Option<Vcpu>), MakeError> {
+    let (machine, mut root) = made(alloc, &WORDS)?;
+    let held = by_hand(rt, alloc, &machine, &mut root);
+    Ok((held, closed(machine, root)))
+}
+
+#[test]
+fn one_pass_by_hand(rt: HostRuntime) -> Result<(), Fail> {
+    let held = one_pass(&rt, rt.alloc())?;
+    assert_eq!(rt; held, ((8, true, 1), Some(TARGET)));
     Ok(())
 }
 
@@ -132,11 +152,20 @@ fn both<R: Threads + Wait + Sync>(rt: &R, machine: &Machine, root: &mut Root)
     joined(machine, root, taker);
 }
 
+// How many calls two threads made, and the collection's target in the parts that are left.
+fn after_both<R: Threads + Wait + Sync>(
+    rt: &R,
+    alloc: Global,
+) -> Result<(u64, Option<Vcpu>), MakeError> {
+    let (machine, mut root) = made(alloc, &WORDS)?;
+    both(rt, &machine, &mut root);
+    let calls = count(&machine, &mut root);
+    Ok((calls, closed(machine, root)))
+}
+
 #[test]
 fn two_threads(rt: HostRuntime) -> Result<(), Fail> {
-    let (machine, mut root) = made(rt.alloc(), &WORDS)?;
-    both(&rt, &machine, &mut root);
-    assert_eq!(rt; count(&machine, &mut root), 200);
-    assert_eq!(rt; closed(machine, root), Some(TARGET));
+    let after = after_both(&rt, rt.alloc())?;
+    assert_eq!(rt; after, (200, Some(TARGET)));
     Ok(())
 }

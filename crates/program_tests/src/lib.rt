@@ -1,4 +1,5 @@
-//! Tests of the whole program, over streams in memory and on real threads.
+//! Tests of the whole program, over streams in memory and on real threads; and of what it alone
+//! stands on: its words, and the scripts that it makes.
 #![tactic(auto)]
 
 #[cfg(test)]
@@ -9,6 +10,8 @@ mod command_tests;
 mod copy_tests;
 #[cfg(test)]
 mod doorbell_tests;
+#[cfg(test)]
+mod generated_tests;
 #[cfg(test)]
 mod gicr_tests;
 #[cfg(test)]
@@ -21,5 +24,7 @@ mod pair_tests;
 mod runs;
 #[cfg(test)]
 mod thread_tests;
+#[cfg(test)]
+mod words_tests;
 #[cfg(test)]
 mod worked_tests;

@@ -9,8 +9,6 @@ mod generator;
 mod laws;
 mod queue;
 mod summary;
-#[cfg(test)]
-mod tests;
 
 pub use counts::Counts;
 pub use generator::generate;

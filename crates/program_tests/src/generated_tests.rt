@@ -1,8 +1,8 @@
-//! Generated scripts and their summaries.
-use crate::{Counts, generate, summary_text};
+//! Scripts that the program makes, and the summary of a run.
 use event_script::{Phase, Script};
 use its_plain::{Bytes64, Call};
 use its_types::{Addr, DeviceId, EventId};
+use script_gen::{Counts, generate, summary_text};
 use std::test::Fail;
 
 fn phases(script: &Script) -> &[Phase] {
@@ -12,11 +12,11 @@ fn phases(script: &Script) -> &[Phase] {
     }
 }
 
-// The k-th call of a thread of a phase.
-fn call_at(script: &Script, phase: usize, thread: usize, k: usize) -> Option<Call> {
+// A call of the first thread of a phase, by its number from 0.
+fn call_at(script: &Script, phase: usize, number: usize) -> Option<Call> {
     let threads = phases(script).get(phase)?;
-    let calls = threads.as_slice().get(thread)?;
-    calls.get(k)
+    let calls = threads.as_slice().get(0)?;
+    calls.get(number)
 }
 
 // How many signals there are, and how many steps.
@@ -46,23 +46,15 @@ fn write_call(off: u32, size: u8, value: u64) -> Call {
     }
 }
 
-// Registers, and then MAPC of collection 0.
-fn first_calls() -> [Call; 7] {
+// MAPC of collection 0.
+fn mapc_call() -> Call {
     let mut mapc = [0; 32];
     mapc[0] = 0x09;
     mapc[23] = 0x80;
-    [
-        write_call(0x100, 8, 0x8107_0000_8000_0200),
-        write_call(0x108, 8, 0x8407_0000_8001_0200),
-        write_call(0x80, 8, 0x8000_0000_8002_0000),
-        write_call(0x0, 4, 1),
-        Call::Poke {
-            addr: Addr(0x8002_0000),
-            bytes: Bytes64::new(&mapc),
-        },
-        write_call(0x88, 8, 0x20),
-        Call::Step { its: 0 },
-    ]
+    Call::Poke {
+        addr: Addr(0x8002_0000),
+        bytes: Bytes64::new(&mapc),
+    }
 }
 
 // MAPD of device 1, the fifth command.
@@ -80,22 +72,43 @@ fn mapd_call() -> Call {
     }
 }
 
+const LAST: Call = Call::Signal {
+    its: 0,
+    dev: DeviceId(1),
+    ev: EventId(19),
+};
+
+// The phase and the number of the first call of some that isn't as it has to be.
+fn first_wrong(script: &Script) -> Option<(usize, usize)> {
+    let rows = [
+        (0, 0, Some(write_call(0x100, 8, 0x8107_0000_8000_0200))),
+        (0, 1, Some(write_call(0x108, 8, 0x8407_0000_8001_0200))),
+        (0, 2, Some(write_call(0x80, 8, 0x8000_0000_8002_0000))),
+        (0, 3, Some(write_call(0x0, 4, 1))),
+        (0, 4, Some(mapc_call())),
+        (0, 5, Some(write_call(0x88, 8, 0x20))),
+        (0, 6, Some(Call::Step { its: 0 })),
+        (0, 16, Some(mapd_call())),
+        (1, 19, Some(LAST)),
+        (1, 20, None),
+    ];
+    for (phase, number, call) in rows {
+        if call_at(script, phase, number) != call {
+            return Some((phase, number));
+        }
+    }
+    None
+}
+
 #[test]
 fn twenty_signals(rt: HostRuntime) -> Result<(), Fail> {
     let script = generate(rt.alloc(), 20, 1)?;
-    assert_eq!(rt; script.legs.len(), 2);
-    assert_eq!(rt; signals_and_steps(&script), (20, 71));
-    for (k, call) in first_calls().iter().enumerate() {
-        assert_eq!(rt; call_at(&script, 0, 0, k), Some(*call), "call {k}");
-    }
-    assert_eq!(rt; call_at(&script, 0, 0, 16), Some(mapd_call()));
-    let last = Call::Signal {
-        its: 0,
-        dev: DeviceId(1),
-        ev: EventId(19),
-    };
-    assert_eq!(rt; call_at(&script, 1, 0, 19), Some(last));
-    assert_eq!(rt; call_at(&script, 1, 0, 20), None);
+    let seen = (
+        script.legs.len(),
+        signals_and_steps(&script),
+        first_wrong(&script),
+    );
+    assert_eq!(rt; seen, (2, (20, 71), None));
     Ok(())
 }
 

@@ -1,10 +1,10 @@
 use Rattle.std.proofs.Common.{ap, sym, subst, ◌∙◌}
 use Rattle.its_steps.specs.World.{View}
 use Rattle.its_turns.specs.Told.{IsLone}
-use Rattle.ports_together.proofs.migrations.tables_that_overlap.Goals as goal
+use Rattle.ports_together.proofs.migrations.refused.Goals as goal
 
 pub is_one_pending-requires : goal.is_one_pending-requires
-is_one_pending-requires g c =
+is_one_pending-requires c =
     let before = c.in_ok-machine.ensures.at_rest in
     let stays = c.in-Err.ensures in
     record {

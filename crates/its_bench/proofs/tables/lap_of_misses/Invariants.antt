@@ -1,5 +1,5 @@
 use Rattle.its_bench.specs.Ready.{IsReady}
-use Rattle.its_bench.proofs.tables.time_takes.Given as goal
+use Rattle.its_bench.proofs.tables.lap_of_misses.Given as goal
 
 abbrev pub invariant-loop : goal.invariant-loop
 invariant-loop g l = IsReady l.machine l.pass

@@ -1,0 +1,47 @@
+//! Words, and what they ask for.
+use its_words::{Asked, WordsError, parse_words};
+use std::alloc::{AllocError, Global};
+use std::test::Fail;
+
+const REFUSED: Result<Asked, WordsError> = Err(WordsError::Refused);
+
+const ROWS: [(&str, Result<Asked, WordsError>); 15] = [
+    ("its run", Ok(Asked::Run)),
+    ("its check --", Ok(Asked::Check)),
+    (
+        "its gen 20000 63",
+        Ok(Asked::Gen {
+            signals: 20_000,
+            threads: 63,
+        }),
+    ),
+    ("its", REFUSED),
+    ("its explain", Ok(Asked::Explain)),
+    ("its -- help", REFUSED),
+    ("its help", Ok(Asked::Help)),
+    ("its help run", REFUSED),
+    ("its --help", REFUSED),
+    ("its --version", REFUSED),
+    ("its run gen", REFUSED),
+    ("its gen 1", REFUSED),
+    ("its gen 20001 1", REFUSED),
+    ("its gen 1 +4", REFUSED),
+    ("its gen 01 4", REFUSED),
+];
+
+// What the words of a line ask for.
+fn asked(alloc: Global, line: &str) -> Result<Result<Asked, WordsError>, AllocError> {
+    let mut words = Vec::new(alloc);
+    for word in line.split(' ') {
+        words.push(String::from_str(alloc, word)?)?;
+    }
+    Ok(parse_words(alloc, &words))
+}
+
+#[test]
+fn words_ask_for_commands(rt: HostRuntime) -> Result<(), Fail> {
+    for (line, expected) in ROWS {
+        assert_eq!(rt; asked(rt.alloc(), line)?, expected, "{line}");
+    }
+    Ok(())
+}
