@@ -4,6 +4,8 @@ use Rattle.std.specs.Global.{Vec}
 use Rattle.guest_windows.specs.Windows.{Window}
 use Rattle.its_types.specs.declared.ids.Addr.{Addr}
 use Rattle.its_plain.specs.Plain.{Plain, Redistributor}
+use Rattle.its_plain.specs.Machine.{started}
+use Rattle.its_plain.specs.declared.desc.Desc.{Desc}
 use Rattle.its_plain.specs.declared.desc.LpiTables.{LpiTables}
 use Rattle.its_plain.specs.declared.desc.LpiTables.TheVariants.{Described, Registers}
 use Rattle.its_plain.specs.declared.desc.DescFault.{DescFault}
@@ -15,6 +17,12 @@ abbrev pub IsMade : Result Plain MakeError → Result Plain DescFault → Type 0
 IsMade (Ok state) made = made ≡ Ok state
 IsMade (Err (errors.Fault f)) made = made ≡ Err f
 IsMade (Err errors.NoMemory) made = Unit {0}
+
+-- the redistributors with which memory makes the machine
+abbrev pub IsPrepared : Desc → List Window → Result (Vec Redistributor) MakeError → Result Plain DescFault → Type 0
+IsPrepared d memory (Ok redistributors) made = made ≡ Ok (started d memory redistributors.items)
+IsPrepared d memory (Err (errors.Fault f)) made = made ≡ Err f
+IsPrepared d memory (Err errors.NoMemory) made = Unit {0}
 
 -- the start, unless memory ran out
 abbrev pub IsStarted : Result Plain MakeError → Plain → Type 0

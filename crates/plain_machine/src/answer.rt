@@ -6,7 +6,7 @@ use gits_regs::Regs;
 use guest_windows::WriteError;
 use its_command::decode;
 use its_plain::{Bytes64, Call, Reply, Route, StepReply};
-use its_types::Addr;
+use its_types::{Addr, Vcpu};
 use std::alloc::{AllocError, Global};
 
 impl State {
@@ -14,6 +14,7 @@ impl State {
     ghost use Rattle.guest_windows.specs.Windows.{write_at};
     ghost use Rattle.its_plain.specs.Plain as plain;
     ghost use Rattle.its_plain.specs.Answer as answers;
+    ghost use Rattle.its_plain.specs.declared.call.Reply.TheVariants as reply;
 
     /// Answers a call, and gives the state that it leaves. Out of memory, the state is dropped.
     pub fn answer(mut self, alloc: Global, call: &Call) -> Result<(State, Reply), AllocError>
@@ -98,12 +99,47 @@ impl State {
             r) }
     {
         match route {
-            Route::Signal { its, dev, ev } => Ok(Reply::Signal(self.signal(its, dev, ev)?)),
+            Route::Signal { its, dev, ev } => self.signal(its, dev, ev),
             Route::Poke => self.poke(addr, bytes),
             Route::NoRequester => Ok(Reply::NoRequester),
             Route::Frame => Ok(Reply::Outside),
         }
     }
+
+    // ---- calls that can run out of memory, with their replies
+
+    fn gicr_written(
+        &mut self,
+        alloc: Global,
+        vcpu: Vcpu,
+        off: u32,
+        size: u8,
+        value: u64,
+    ) -> Result<Reply, AllocError>
+        ensures reply { IfOk result (λ r. r ≡ reply.Ok) }
+        ensures left { IfOk result
+            (λ _. self.new ≡ answers.gicr_written self.old vcpu.0 off size value) }
+    {
+        self.write_gicr(alloc, vcpu, off, size, value)?;
+        Ok(Reply::Ok)
+    }
+
+    fn stepped(&mut self, alloc: Global, its: u8) -> Result<Reply, AllocError>
+        ensures reply { IfOk result (λ r. r ≡ reply.Step (answers.step_reply self.old its)) }
+        ensures left { IfOk result (λ _. self.new ≡ answers.step_left self.old its) }
+    {
+        Ok(Reply::Step(self.step(alloc, its)?))
+    }
+
+    fn copied(&mut self, alloc: Global) -> Result<Reply, AllocError>
+        ensures reply { IfOk result
+            (λ r. r ≡ reply.Copied (answers.copy_count self.old.track)) }
+        ensures left { IfOk result (λ _. self.new ≡ answers.copy_left self.old) }
+    {
+        Ok(Reply::Copied(self.memory.catch_up(alloc)?))
+    }
+
+    // ---- all calls
 
     #[tactic(auto, unfolding(its_plain::specs::Answer::reply_of, its_plain::specs::Answer::left))]
     fn replied(&mut self, alloc: Global, call: &Call) -> Result<Reply, AllocError>
@@ -111,7 +147,7 @@ impl State {
         ensures left { IfOk result (λ r. self.new ≡ answers.left self.old call.now r) }
     {
         match *call {
-            Call::Signal { its, dev, ev } => Ok(Reply::Signal(self.signal(its, dev, ev)?)),
+            Call::Signal { its, dev, ev } => self.signal(its, dev, ev),
             Call::Take(vcpu) => Ok(Reply::Ack(redists::take_at(
                 &mut self.redistributors,
                 u64::from(vcpu.0),
@@ -148,13 +184,10 @@ impl State {
                 off,
                 size,
                 value,
-            } => {
-                self.write_gicr(alloc, vcpu, off, size, value)?;
-                Ok(Reply::Ok)
-            }
-            Call::Step { its } => Ok(Reply::Step(self.step(alloc, its)?)),
+            } => self.gicr_written(alloc, vcpu, off, size, value),
+            Call::Step { its } => self.stepped(alloc, its),
             Call::Save => self.save(alloc),
-            Call::Copy => Ok(Reply::Copied(self.memory.catch_up(alloc)?)),
+            Call::Copy => self.copied(alloc),
             Call::Dma {
                 addr,
                 bytes,

@@ -59,7 +59,7 @@ impl State {
         }
     }
 
-    fn is_on(&self, vcpu: u64) -> bool
+    pub(crate) fn is_on(&self, vcpu: u64) -> bool
         ensures { result ≡ plain.is_on self.now vcpu }
     {
         redists::is_on_at(&self.redistributors, vcpu)
@@ -67,7 +67,12 @@ impl State {
 
     // An event of a mapped device.
     #[tactic(auto, unfolding(its_plain::specs::Commands::event_at))]
-    fn mapped_event_at(&self, its: u8, dev: DeviceId, ev: EventId) -> Result<MappedEvent, Reason>
+    pub(crate) fn mapped_event_at(
+        &self,
+        its: u8,
+        dev: DeviceId,
+        ev: EventId,
+    ) -> Result<MappedEvent, Reason>
         ensures { result ≡ commands.event_at (plain.maps_of self.now its) dev.0 ev.0 }
     {
         let device = self.device(its, dev).ok_or(Reason::NoDevice)?;
@@ -85,7 +90,7 @@ impl State {
     }
 
     // The target of a collection.
-    fn target_at(&self, its: u8, icid: Icid) -> Result<Vcpu, Reason>
+    pub(crate) fn target_at(&self, its: u8, icid: Icid) -> Result<Vcpu, Reason>
         ensures { result ≡ commands.target_at (plain.maps_of self.now its) icid.0 }
     {
         self.collection(its, icid).ok_or(Reason::NoCollection)
@@ -235,23 +240,6 @@ impl State {
         Ok(())
     }
 
-    #[tactic(auto, unfolding(its_plain::specs::Commands::movi))]
-    fn movi(&mut self, its: u8, dev: DeviceId, ev: EventId, icid: Icid) -> Result<(), CommandError>
-        ensures { Runs self.old self.new result (commands.movi self.old its dev.0 ev.0 icid.0) }
-    {
-        let event = self.mapped_event_at(its, dev, ev)?.get();
-        let from = u64::from(self.target_at(its, event.icid)?.0);
-        let to = u64::from(self.target_at(its, icid)?.0);
-        ensure(self.is_on(from) && self.is_on(to), Reason::LpisOff)?;
-        let moved = Event {
-            intid: event.intid,
-            icid,
-        };
-        translator::map_event(&mut self.translators, its, dev, ev, moved)?;
-        self.move_lpi(from, to, event.intid)?;
-        Ok(())
-    }
-
     // The LPI of an event, and its target, whose LPIs are on.
     #[tactic(auto, unfolding(its_plain::specs::Commands::lpi_at))]
     fn lpi_at(&self, its: u8, dev: DeviceId, ev: EventId) -> Result<(Intid, Vcpu), Reason>
@@ -310,18 +298,6 @@ impl State {
         self.target_at(its, icid)?;
         let intids = self.intids(alloc, its, icid)?;
         self.reread(&intids);
-        Ok(())
-    }
-
-    #[tactic(auto, unfolding(its_plain::specs::Commands::movall))]
-    fn movall(&mut self, alloc: Global, from: RdBase, to: RdBase) -> Result<(), CommandError>
-        ensures { Runs self.old self.new result (commands.movall self.old from to) }
-    {
-        let (from, to) = (from.get(), to.get());
-        let vcpus = u64::from(self.layout.shape.vcpus);
-        ensure(from < vcpus && to < vcpus, Reason::TargetRange)?;
-        ensure(self.is_on(from) && self.is_on(to), Reason::LpisOff)?;
-        self.move_all(alloc, from, to)?;
         Ok(())
     }
 

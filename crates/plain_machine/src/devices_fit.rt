@@ -27,9 +27,18 @@ pub fn all_frames_fit(
     ensures { IsChecked result (spec.all_frames_fit (pairs windows.now) 0 translators.now) }
 {
     let mut taken = Vec::from_slice(alloc, windows)?;
+    take_all(&mut taken, translators)
+}
+
+// The same beside stretches that are taken, to which the frames are added.
+fn take_all(taken: &mut Vec<(Addr, u64)>, translators: &[Its]) -> Result<(), MakeError>
+    requires { length translators.now ≤ 256 }
+    ensures { IsChecked result
+        (spec.all_frames_fit (pairs taken.old.items) 0 translators.now) }
+{
     for (its, translator) in translators.iter().enumerate() {
         if let Some(base) = translator.frames {
-            if !frames_fit(&taken, base) {
+            if !frames_fit(taken, base) {
                 return Err(MakeError::Fault(DescFault::Frames(its as u8)));
             }
             taken.insert(0, (base, FRAMES))?;

@@ -1,5 +1,6 @@
 //! The parts of a machine that a call reads or changes.
 ghost use Rattle.std.specs.Prelude.{◌≡◌, ◌≤◌, ◌++◌, ◌∷◌, [], OnOk};
+ghost use Rattle.its_types.specs.declared.machine.Part.TheVariants as part;
 ghost use Rattle.its_plain.specs.Parts as parts;
 
 use crate::state::State;
@@ -10,7 +11,9 @@ use its_types::{DeviceId, EventId, Icid, Part, Profile, Vcpu};
 use std::alloc::{AllocError, Global};
 
 impl State {
-    ghost use Rattle.std.specs.Prelude.{◌≡◌, ◌++◌, [], IfOk, OnOk, nat_lt, if◌then◌else◌};
+    ghost use Rattle.std.specs.Prelude.{◌≡◌, ◌++◌, ◌∷◌, [], IfOk, OnOk, length, nat_lt};
+    ghost use Rattle.std.specs.Prelude.{if◌then◌else◌};
+    ghost use Rattle.its_types.specs.declared.machine.Part.TheVariants as part;
     ghost use Rattle.std.specs.Option.{option_map};
     ghost use Rattle.its_types.specs.Maps as maps;
     ghost use Rattle.its_plain.specs.Plain as plain;
@@ -44,21 +47,29 @@ impl State {
                 add_part(found, Part::Maps(its))
             }
             Call::ReadGicr { vcpu, .. } => add_part(found, Part::Redist(vcpu)),
-            Call::WriteGicr { vcpu, .. } => {
-                add_part(found, Part::Mem)?;
-                add_part(found, Part::Redist(vcpu))
-            }
-            Call::Step { its } => {
-                add_part(found, Part::Maps(its))?;
-                add_part(found, Part::Mem)?;
-                self.add_needed_next(found, its)
-            }
-            Call::Save => {
-                add_part(found, Part::Mem)?;
-                add_translators(found, self.translators.len())?;
-                add_redists(found, self.redistributors.len())
-            }
+            Call::WriteGicr { vcpu, .. } => add_memory_and_redist(found, vcpu),
+            Call::Step { its } => self.add_step_parts(found, its),
+            Call::Save => self.add_every_part(found),
         }
+    }
+
+    fn add_step_parts(&self, found: &mut Vec<Part>, its: u8) -> Result<(), AllocError>
+        ensures { OnOk result (found.new.items
+            ≡ found.old.items ++ part.Maps its ∷ part.Mem ∷ parts.needed_next self.now its) }
+    {
+        add_part(found, Part::Maps(its))?;
+        add_part(found, Part::Mem)?;
+        self.add_needed_next(found, its)
+    }
+
+    fn add_every_part(&self, found: &mut Vec<Part>) -> Result<(), AllocError>
+        ensures { OnOk result (found.new.items
+            ≡ found.old.items ++ part.Mem ∷ parts.translators_below (length self.now.translators)
+            ++ parts.redists_below (length self.now.redistributors)) }
+    {
+        add_part(found, Part::Mem)?;
+        add_translators(found, self.translators.len())?;
+        add_redists(found, self.redistributors.len())
     }
 
     fn add_signal_parts(
@@ -201,6 +212,14 @@ fn add_part(found: &mut Vec<Part>, part: Part) -> Result<(), AllocError>
 {
     found.push(part)?;
     Ok(())
+}
+
+fn add_memory_and_redist(found: &mut Vec<Part>, vcpu: Vcpu) -> Result<(), AllocError>
+    ensures { OnOk result
+        (found.new.items ≡ found.old.items ++ part.Mem ∷ part.Redist vcpu ∷ []) }
+{
+    add_part(found, Part::Mem)?;
+    add_part(found, Part::Redist(vcpu))
 }
 
 fn add_redist_of(found: &mut Vec<Part>, vcpu: Option<Vcpu>) -> Result<(), AllocError>

@@ -13,6 +13,7 @@ mod make;
 mod mapped_entries;
 mod mapped_pairs;
 mod maps;
+mod moving;
 mod pages;
 mod parts;
 mod redist;

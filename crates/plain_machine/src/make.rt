@@ -12,7 +12,7 @@ ghost use Rattle.its_plain.specs.Machine as spec;
 ghost use Rattle.its_plain.specs.Machine.{IsDescription};
 ghost use Rattle.its_plain.specs.Sound.{IsShape};
 ghost use Rattle.plain_machine.specs.Made.{IsMade, IsStarted, IsWindowFault, Fills, Reads, AreLow};
-ghost use Rattle.plain_machine.specs.Made.{AreFirst};
+ghost use Rattle.plain_machine.specs.Made.{AreFirst, IsPrepared};
 
 use crate::devices_fit::{all_frames_fit, all_new};
 use crate::redist::RedistLists;
@@ -33,13 +33,30 @@ impl State {
         ensures { IsMade result (spec.made desc.now) }
     {
         let mut memory = memory_of(alloc, desc)?;
-        tables_inside(&desc.tables, &memory, &desc.shape)?;
-        fill(&mut memory, desc.fills.as_slice())?;
-        all_frames_fit(alloc, desc.windows.as_slice(), desc.translators.as_slice())?;
-        all_new(alloc, desc.requesters.as_slice())?;
-        let redistributors = first_redistributors(alloc, &desc.tables, &memory, &desc.shape)?;
+        let redistributors = fill_and_read(alloc, desc, &mut memory)?;
         started(alloc, desc, memory, redistributors)
     }
+}
+
+// Puts the bytes of a description into memory that is zero, and makes the redistributors; or tells
+// the first fault.
+#[tactic(auto, unfolding(its_plain::specs::Machine::made))]
+fn fill_and_read(
+    alloc: Global,
+    desc: &Desc,
+    memory: &mut Memory,
+) -> Result<Vec<RedistLists>, MakeError>
+    requires description { IsDescription desc.now }
+    requires zero { memory.old ≡ map zeros (pairs desc.now.windows) }
+    requires fit { spec.windows_fit desc.now ≡ true }
+    ensures redistributors { IsPrepared desc.now memory.new result (spec.made desc.now) }
+    ensures count { IfOk result (λ v. length v.items ≡ desc.now.shape.vcpus) }
+{
+    tables_inside(&desc.tables, memory, &desc.shape)?;
+    fill(memory, desc.fills.as_slice())?;
+    all_frames_fit(alloc, desc.windows.as_slice(), desc.translators.as_slice())?;
+    all_new(alloc, desc.requesters.as_slice())?;
+    first_redistributors(alloc, &desc.tables, memory, &desc.shape)
 }
 
 // The fault, unless the test holds.
@@ -177,10 +194,19 @@ fn described(
 {
     let mut redistributors = Vec::new(alloc);
     for table in pending {
-        let config = Vec::from_slice(alloc, config)?;
-        redistributors.push(RedistLists::new(alloc, Bases::described(base, *table), config))?;
+        redistributors.push(idle(alloc, Bases::described(base, *table), config)?)?;
     }
     Ok(redistributors)
+}
+
+// Nothing is pending.
+fn idle(alloc: Global, bases: Bases, config: &[u8]) -> Result<RedistLists, AllocError>
+    requires config { bases.prop.table.0 < 2 ^ 52 }
+    requires pending { bases.pend.table.0 < 2 ^ 52 }
+    ensures { IfOk result (λ r. r ≡ spec.idle_redistributor config.now bases) }
+{
+    let config = Vec::from_slice(alloc, config)?;
+    Ok(RedistLists::new(alloc, bases, config))
 }
 
 // LPIs are off at each virtual processor.
@@ -191,10 +217,18 @@ fn all_off(alloc: Global, shape: &Shape) -> Result<Vec<RedistLists>, AllocError>
 {
     let mut redistributors = Vec::new(alloc);
     for _ in 0..shape.vcpus {
-        let config = vec![in alloc; 0; shape.lpi_count() as usize]?;
-        redistributors.push(RedistLists::new(alloc, Bases::off(), config))?;
+        redistributors.push(off(alloc, shape)?)?;
     }
     Ok(redistributors)
+}
+
+// LPIs are off, and the configuration is all zero.
+fn off(alloc: Global, shape: &Shape) -> Result<RedistLists, AllocError>
+    requires { IsShape shape.now }
+    ensures { IfOk result (λ r. r ≡ off_redistributor shape.now no_bases) }
+{
+    let config = vec![in alloc; 0; shape.lpi_count() as usize]?;
+    Ok(RedistLists::new(alloc, Bases::off(), config))
 }
 
 // Registers at reset, and nothing mapped.

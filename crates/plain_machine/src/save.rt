@@ -1,11 +1,13 @@
 //! Whether the plain machine can be saved, and the save.
-ghost use Rattle.std.specs.Prelude.{◌≡◌, ◌≤◌, ◌++◌, OnOk, IfOk, length};
+ghost use Rattle.std.specs.Prelude.{◌≡◌, ◌≤◌, ◌++◌, [], OnOk, IfOk, Ok, Err, MatchOption, find};
+ghost use Rattle.std.specs.Prelude.{length};
 ghost use Rattle.std.specs.List.{flat_map};
 ghost use Rattle.std.specs.Option.{option_map};
 ghost use Rattle.plain_machine.specs.Memories.{put_all};
 ghost use Rattle.its_plain.specs.Answer as answers;
 ghost use Rattle.plain_machine.specs.Outcome.{IsTested};
 ghost use Rattle.its_plain.specs.Regions as regions;
+ghost use Rattle.its_plain.specs.declared.fault.SaveFault.TheVariants as fault;
 ghost use Rattle.its_plain.specs.Saved as saved;
 
 use crate::areas;
@@ -38,22 +40,38 @@ impl State {
     }
 
     // Whether every table can be written, or the first reason why not.
-    #[tactic(auto, unfolding(its_plain::specs::Regions::savable, its_plain::specs::Regions::areas_of))]
     fn savable(&self, alloc: Global) -> Result<(), SaveError>
         ensures { IsTested result (regions.savable self.now) }
     {
         let mut areas = Vec::new(alloc);
+        self.test_areas(&mut areas)
+    }
+
+    // The same, over an empty list, to which it adds the areas.
+    #[tactic(auto, unfolding(its_plain::specs::Regions::savable, its_plain::specs::Regions::areas_of))]
+    fn test_areas(&self, areas: &mut Vec<Area>) -> Result<(), SaveError>
+        requires { areas.old.items ≡ [] }
+        ensures { IsTested result (regions.savable self.now) }
+    {
         let memory = self.memory.guest();
-        add_tables(&mut areas, &self.translators, memory)?;
-        if let Some(outside) = areas::first_outside(&areas, memory) {
-            return Err(SaveError::Fault(SaveFault::Outside(outside.region)));
-        }
+        add_tables(areas, &self.translators, memory)?;
+        all_inside(areas, memory)?;
         all_placed(&self.translators, memory)?;
-        add_pending(&mut areas, &self.layout.shape, &self.redistributors)?;
-        self.add_configurations(&mut areas)?;
-        add_queues(&mut areas, &self.translators)?;
-        areas::none_overlap(&areas)?;
+        self.add_other_areas(areas)?;
+        areas::none_overlap(areas)?;
         Ok(())
+    }
+
+    // The areas of all but the tables of translators.
+    fn add_other_areas(&self, areas: &mut Vec<Area>) -> Result<(), AllocError>
+        ensures { OnOk result (areas.new.items ≡ areas.old.items
+            ++ regions.areas_from (regions.pending_area self.now.layout.shape) 0
+            self.now.redistributors ++ regions.config_areas self.now
+            ++ regions.each_areas regions.queue_areas 0 self.now.translators) }
+    {
+        add_pending(areas, &self.layout.shape, &self.redistributors)?;
+        self.add_configurations(areas)?;
+        add_queues(areas, &self.translators)
     }
 
     fn add_configurations(&self, areas: &mut Vec<Area>) -> Result<(), AllocError>
@@ -104,6 +122,17 @@ fn add_tables(
         translator.add_tables(its as u8, areas, memory)?;
     }
     Ok(())
+}
+
+// Each area lies in one window, or the first that doesn't.
+fn all_inside(areas: &[Area], memory: &Memory) -> Result<(), SaveFault>
+    ensures { MatchOption (find (regions.is_outside memory.now) areas.now) (result ≡ Ok tt)
+        (λ a. result ≡ Err (fault.Outside a.region)) }
+{
+    match areas::first_outside(areas, memory) {
+        Some(outside) => Err(SaveFault::Outside(outside.region)),
+        None => Ok(()),
+    }
 }
 
 fn add_queues(areas: &mut Vec<Area>, translators: &[TranslatorLists]) -> Result<(), AllocError>

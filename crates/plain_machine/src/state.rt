@@ -4,7 +4,7 @@ use crate::redists;
 use crate::tracked_memory::TrackedMemory;
 use crate::translator::TranslatorLists;
 use gits_regs::Regs;
-use its_plain::{Cause, Layout, Signal};
+use its_plain::{Cause, Layout, Reply, Signal};
 use its_types::{DeviceId, EventId, Intid, Target};
 use std::alloc::{AllocError, Global};
 use std::marker::Model;
@@ -47,6 +47,7 @@ impl State {
     ghost use Rattle.its_plain.specs.Translation as translation;
     ghost use Rattle.its_plain.specs.Answer as answers;
     ghost use Rattle.its_plain.specs.Commands as commands;
+    ghost use Rattle.its_plain.specs.declared.call.Reply.TheVariants as reply;
 
     /// Where a device's message goes.
     #[tactic(auto, unfolding(its_plain::specs::Translation::translated, its_plain::specs::Translation::located))]
@@ -68,17 +69,17 @@ impl State {
         its: u8,
         dev: DeviceId,
         ev: EventId,
-    ) -> Result<Signal, AllocError>
-        ensures signal { IfOk result (λ s.
-            s ≡ answers.signal_reply (translation.translated self.old its dev.0 ev.0)) }
-        ensures left { IfOk result (λ s. self.new ≡ answers.signal_left self.old s) }
+    ) -> Result<Reply, AllocError>
+        ensures reply { IfOk result (λ r. r ≡ reply.Signal
+            (answers.signal_reply (translation.translated self.old its dev.0 ev.0))) }
+        ensures left { IfOk result (λ r. self.new ≡ answers.replied self.old r) }
     {
         match self.translate(its, dev, ev) {
             Ok(Target { vcpu, intid }) => {
                 self.set_lpi(u64::from(vcpu.0), intid)?;
-                Ok(Signal::Delivered { vcpu, intid })
+                Ok(Reply::Signal(Signal::Delivered { vcpu, intid }))
             }
-            Err(cause) => Ok(Signal::Dropped(cause)),
+            Err(cause) => Ok(Reply::Signal(Signal::Dropped(cause))),
         }
     }
 

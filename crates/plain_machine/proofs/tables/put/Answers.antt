@@ -7,5 +7,5 @@ pub returns-in-Equal-clause-ok : goal.returns-in-Equal-clause-ok
 returns-in-Equal-clause-ok g c =
     let inside : c.loop-at.at < length c.loop-at.entries.items = omega (arith, ap length c.loop-at.invariant.same, c.args.entries.now.ok.0) in
     put_again g.K.Ord.cmp c.args.key c.args.value c.loop-at.entries.items c.loop-at.at c.index.result.now c.index.ensures inside
-    (sym c.in-Equal.ensures) c.loop-at.invariant.rest
+    (sym {b = g.K.Ord.cmp c.args.key c.index.result.now.0} c.in-Equal.ensures) c.loop-at.invariant.rest
     ∙ ap (put g.K.Ord.cmp c.args.key c.args.value) c.loop-at.invariant.same
