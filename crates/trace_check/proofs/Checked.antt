@@ -1,5 +1,7 @@
 -- The legs of a report, one after another.
-use Rattle.std.proofs.Common.{◌≡◌, ℕ, zero, suc, ◌+◌, ◌<◌, ◌≤◌, Bool, List, [], ◌∷◌, length, drop, get_or, Some, refl, sym, ap, subst, ◌∙◌, inl, inr, arith}
+use Rattle.std.proofs.Common.{◌≡◌, ℕ, zero, suc, ◌+◌, ◌<◌, ◌≤◌, Bool, List, [], ◌∷◌, length, drop, get_or, Option, Some, None, Result, Ok, Err, refl, sym, ap}
+use Rattle.std.proofs.Common.{subst, ◌∙◌, inl, inr, arith, IfOk}
+use Rattle.std.proofs.lemmas.Bool.{cases_lt}
 use Rattle.std.proofs.lemmas.List.{drop_more, drop_all, drop-drop, get_or_read, length-map, length-drop}
 use Rattle.its_plain.specs.Plain.{Plain}
 use Rattle.its_plain.specs.Answer.{answer}
@@ -16,9 +18,9 @@ use Rattle.its_history.specs.Reports.{ended, copies_first, moved_end, moved_leg}
 use Rattle.its_history.specs.declared.trace.End.{End}
 use Rattle.its_history.specs.declared.trace.End.TheVariants.{Done}
 use Rattle.its_history.specs.declared.trace.Leg.{Leg as LegLines}
-use Rattle.trace_check.specs.Differences.{seat, IsHere, IsAtEnd, DiffersFrom, pending_texts}
-use Rattle.trace_check.specs.Steps.{AreEntries, EntriesDiffer, IsLegRight, IsOtherPending, IsMigrated, IsEndWrong}
-use Rattle.trace_check.specs.Verdicts.{IsReportOfRun, IsVerdictFrom}
+use Rattle.trace_check.specs.Differences.{seat, IsHere, IsAtEnd, DiffersFrom, IsDifference, pending_texts}
+use Rattle.trace_check.specs.Steps.{AreEntries, EntriesDiffer, IsLegRight, IsOtherPending, IsMigrated, IsEndWrong, IsEndRight, IsWhole, IsNotWhole}
+use Rattle.trace_check.specs.Verdicts.{IsReportOfRun, IsVerdictFrom, IfAgrees, IfDiffers}
 use Rattle.trace_check.specs.declared.verdict.Difference.{Difference}
 use Rattle.trace_check.specs.declared.verdict.Verdict.{Verdict}
 use Rattle.trace_check.specs.declared.verdict.Verdict.TheVariants.{Agrees, Differs}
@@ -118,6 +120,13 @@ module _ (u : Plain) (leg : Leg) (t : LegLines) where
         ];
       }
 
+-- ---- a leg with its last line
+
+module _ (n : ℕ) (first : Plain) (leg : Leg) (told : LegLines) where
+  pub not_here : (copies : Option Bool) (d : Difference) → IsHere n first leg told d → IsNotWhole n first leg copies told d
+  not_here None d h = h
+  not_here (Some copies) d h = inl h
+
 -- ---- legs
 
 shape_long : (vcpus n : ℕ) (copies : List Bool) (told : List LegLines) → HasShape vcpus n copies told → length told ≡ n
@@ -178,6 +187,16 @@ checking_none first legs copies told shape = record {
   goes = λ v h. h;
 }
 
+-- ---- what follows a leg before so many others
+
+pub after_some : (n : ℕ) (copies : List Bool) → 0 < n → move_after n copies ≡ Some (copies_first copies)
+after_some zero copies some = absurd (omega arith)
+after_some (suc n) copies some = refl
+
+pub after_none : (n : ℕ) (copies : List Bool) → n ≡ 0 → move_after n copies ≡ None
+after_none zero copies none = refl
+after_none (suc n) copies none = absurd (omega (arith, none))
+
 -- the leg and its lines, as the program has them in hand
 pub record InHand (legs : List Leg) (told : List LegLines) (i : ℕ) (leg : Leg) (t : LegLines) : Type 0 where
   pub below : i < length legs
@@ -234,27 +253,44 @@ module _ (first : Plain) (legs : List Leg) (copies : List Bool) (told : List Leg
   whole : (v : Verdict) → IsVerdictFrom (i + 1) u (leg ∷ rest) now_copies (t ∷ later) v → IsVerdictFrom 1 first legs copies told v
   whole v h = c.goes v (subst (λ (p : List Leg × List LegLines). IsVerdictFrom (i + 1) u p.0 now_copies p.1 v) (λ j. (sym left j, sym said j)) h)
 
-  pub differs_now : (d : Difference) → IsHere (i + 1) u leg t d → IsVerdictFrom 1 first legs copies told (Differs d)
+  differs_now : (d : Difference) → IsHere (i + 1) u leg t d → IsVerdictFrom 1 first legs copies told (Differs d)
   differs_now d h = whole (Differs d) (here_is (i + 1) u leg now_copies t later d rest h)
 
   rest_long : suc (length rest) + i ≡ length legs
   rest_long = omega (arith, length-drop (i + 1) legs, lt)
 
-  -- the leg ends as one does before such a migration
-  pub ends_before : i + 1 < length legs → EndsBefore (Some (copies_first now_copies)) t.end
-  ends_before more = subst (λ (m : Move). EndsBefore m t.end) (after_some (length rest) (omega (arith, rest_long, more))) both.0.ends
-    where
-      after_some : (n : ℕ) → 0 < n → move_after n now_copies ≡ Some (copies_first now_copies)
-      after_some zero some = absurd (omega arith)
-      after_some (suc n) some = refl
+  -- the leg ends as one does before what follows it
+  pub ends_before : EndsBefore (move_after (length rest) now_copies) t.end
+  ends_before = both.0.ends
 
-  pub differs_after : (w : Plain) (d : Difference) → i + 1 < length legs → IsLegRight u leg t.entries t.pending w
+  goes_after : i + 1 < length legs → move_after (length rest) now_copies ≡ Some (copies_first now_copies)
+  goes_after more = after_some (length rest) now_copies (omega (arith, rest_long, more))
+
+  last_after : length legs ≤ i + 1 → move_after (length rest) now_copies ≡ None
+  last_after le = after_none (length rest) now_copies (omega (arith, rest_long, le))
+
+  moves_before : i + 1 < length legs → EndsBefore (Some (copies_first now_copies)) t.end
+  moves_before more = subst (λ (m : Move). EndsBefore m t.end) (goes_after more) ends_before
+
+  differs_after : (w : Plain) (d : Difference) → i + 1 < length legs → IsLegRight u leg t.entries t.pending w
       → IsEndWrong (i + 1) (length t.entries) (copies_first now_copies) t.end w d → IsVerdictFrom 1 first legs copies told (Differs d)
   differs_after w d more right wrong =
       whole (Differs d) (end_is (i + 1) u leg now_copies t later d rest (omega (arith, rest_long, more))
-      (end_differs u leg t (i + 1) now_copies w d right (ends_before more) wrong))
+      (end_differs u leg t (i + 1) now_copies w d right (moves_before more) wrong))
 
-  pub checking_more : (w x : Plain) → i + 1 < length legs → IsLegRight u leg t.entries t.pending w → IsMigrated (copies_first now_copies) t.end w x
+  pub differs_so : (d : Difference) → IsNotWhole (i + 1) u leg (move_after (length rest) now_copies) t d → IsVerdictFrom 1 first legs copies told (Differs d)
+  differs_so d wrong =
+      let unlike = λ (m : Move). IsNotWhole (i + 1) u leg m t d in
+      elim (cases_lt (i + 1) (length legs)) [
+        | inl more ↦
+            elim (subst unlike (goes_after more) wrong) [
+              | inl here ↦ differs_now d here
+              | inr end ↦ differs_after end.last d more end.lines end.end
+            ]
+        | inr le ↦ differs_now d (subst unlike (last_after le) wrong)
+      ]
+
+  checking_more : (w x : Plain) → i + 1 < length legs → IsLegRight u leg t.entries t.pending w → IsMigrated (copies_first now_copies) t.end w x
       → Checking first legs copies told (i + 1) x
   checking_more w x more right m =
       let a = right.are_entries in
@@ -270,7 +306,7 @@ module _ (first : Plain) (legs : List Leg) (copies : List Bool) (told : List Leg
             (subst (λ (cs : List Bool). IsVerdictFrom (i + 1 + 1) x rest cs later v) (sym next_copies) h));
       }
 
-  pub checking_last : (w : Plain) → length legs ≤ i + 1 → IsLegRight u leg t.entries t.pending w → Checking first legs copies told (i + 1) w
+  checking_last : (w : Plain) → length legs ≤ i + 1 → IsLegRight u leg t.entries t.pending w → Checking first legs copies told (i + 1) w
   checking_last w le right =
       let a = right.are_entries in
       let none : rest ≡ [] = drop_all (i + 1) legs le in
@@ -287,6 +323,14 @@ module _ (first : Plain) (legs : List Leg) (copies : List Bool) (told : List Leg
             (subst (λ (p : List Leg × List LegLines). IsVerdictFrom (i + 1 + 1) w p.0 (drop (i + 1) copies) p.1 v) (λ j. (none j, gone j)) h)));
       }
 
+  pub checking_next : (x : Plain) → IsWhole u leg (move_after (length rest) now_copies) t x → Checking first legs copies told (i + 1) x
+  checking_next x right =
+      let ends = λ (m : Move). IsEndRight m t.end right.last x in
+      elim (cases_lt (i + 1) (length legs)) [
+        | inl more ↦ checking_more right.last x more right.lines (subst ends (goes_after more) right.end)
+        | inr le ↦ subst (Checking first legs copies told (i + 1)) (sym (subst ends (last_after le) right.end)) (checking_last right.last le right.lines)
+      ]
+
 pub checking_all : (first : Plain) (legs : List Leg) (copies : List Bool) (told : List LegLines) (i : ℕ) (u : Plain) → Checking first legs copies told i u
     → length legs ≤ i → IsReportOfRun first legs copies told
 checking_all first legs copies told i u c le =
@@ -295,7 +339,24 @@ checking_all first legs copies told i u c le =
     let nothing : IsReportOfRun u [] (drop i copies) [] = record { histories = []; is_run = refl; told_is = refl } in
     c.goes Agrees (subst (λ (p : List Leg × List LegLines). IsReportOfRun u p.0 (drop i copies) p.1) (λ j. (sym none j, sym gone j)) nothing)
 
--- a difference leaves no run
-pub no_run : (first : Plain) (legs : List Leg) (copies : List Bool) (told : List LegLines) (d : Difference)
-    → IsVerdictFrom 1 first legs copies told (Differs d) → IsReportOfRun first legs copies told → ⊥
-no_run first legs copies told d h run = exact_from 1 first legs copies told d h run
+-- ---- what the verdict says
+
+module _ {E : Type 0} (first : Plain) (legs : List Leg) (copies : List Bool) (told : List LegLines) where
+  pub agrees_of : (r : Result Verdict E) → IfOk r (λ v. IsVerdictFrom 1 first legs copies told v)
+      → IfOk r (λ v. IfAgrees v (IsReportOfRun first legs copies told))
+  agrees_of (Ok Agrees) h = h
+  agrees_of (Ok (Differs d)) h = tt
+  agrees_of (Err e) h = tt
+
+  pub differs_of : (r : Result Verdict E) → IfOk r (λ v. IsVerdictFrom 1 first legs copies told v)
+      → IfOk r (λ v. IfDiffers v (λ d. IsDifference first legs copies told d))
+  differs_of (Ok Agrees) h = tt
+  differs_of (Ok (Differs d)) h = h
+  differs_of (Err e) h = tt
+
+  -- a difference leaves no run
+  pub exact_of : (r : Result Verdict E) → IfOk r (λ v. IsVerdictFrom 1 first legs copies told v)
+      → IfOk r (λ v. IfDiffers v (λ _. ¬ IsReportOfRun first legs copies told))
+  exact_of (Ok Agrees) h = tt
+  exact_of (Ok (Differs d)) h = λ run. exact_from 1 first legs copies told d h run
+  exact_of (Err e) h = tt

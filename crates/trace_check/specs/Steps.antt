@@ -18,7 +18,7 @@ use Rattle.its_history.specs.declared.trace.End.{End}
 use Rattle.its_history.specs.declared.trace.EntryLine.{EntryLine}
 use Rattle.its_history.specs.declared.trace.Leg.{Leg as LegLines}
 use Rattle.trace_check.specs.Cursors.{Progress, next_call, taken}
-use Rattle.trace_check.specs.Differences.{lines, pending_texts, EntryDiffers, EndsEarly}
+use Rattle.trace_check.specs.Differences.{lines, pending_texts, EntryDiffers, EndsEarly, IsHere}
 use Rattle.trace_check.specs.declared.verdict.Difference.{Difference}
 
 -- ---- one entry
@@ -122,3 +122,25 @@ pub record IsEndWrong (n place : ℕ) (copies : Bool) (told : Option End) (u : P
   pub leg_is : d.leg ≡ n
   pub place_is : d.place ≡ place
   pub line : IsEndOther copies told u d.said d.is
+
+-- ---- a leg with its last line; where another follows, whether pages are copied before the migration between them
+
+-- the last line is right, and this is the state that goes on
+abbrev pub IsEndRight : Option Bool → Option End → Plain → Plain → Type 0
+IsEndRight None told u w = w ≡ u
+IsEndRight (Some copies) told u w = IsMigrated copies told u w
+
+pub record IsWhole (first : Plain) (leg : Leg) (copies : Option Bool) (told : LegLines) (now : Plain) : Type 0 where
+  pub last : Plain
+  pub lines : IsLegRight first leg told.entries told.pending last
+  pub end : IsEndRight copies told.end last now
+
+-- the lines before the last are right, and the last isn't
+pub record IsLastWrong (n : ℕ) (first : Plain) (leg : Leg) (copies : Bool) (told : LegLines) (d : Difference) : Type 0 where
+  pub last : Plain
+  pub lines : IsLegRight first leg told.entries told.pending last
+  pub end : IsEndWrong n (length told.entries) copies told.end last d
+
+abbrev pub IsNotWhole : ℕ → Plain → Leg → Option Bool → LegLines → Difference → Type 0
+IsNotWhole n first leg None told d = IsHere n first leg told d
+IsNotWhole n first leg (Some copies) told d = IsHere n first leg told d ⊎ IsLastWrong n first leg copies told d
