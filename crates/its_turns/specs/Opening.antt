@@ -41,5 +41,9 @@ abbrev pub apart : List Value → List Value
 apart [] = []
 apart (x ∷ xs) = x ∷ (replicate 7 Vacant ++ apart xs)
 
+-- the values of all parts, each with its empty slots
+abbrev pub AreSlots : Setup → List Value → Type 0
+AreSlots s slots = (values : List Value) × AreFirst s values × (slots ≡ apart values)
+
 abbrev pub first_words : ℕ → List ℕ
 first_words parts = replicate (16 * (parts + 1)) 0

@@ -1,5 +1,5 @@
 //! How a machine is made.
-ghost use Rattle.std.specs.Prelude.{◌≡◌, ◌+◌, ◌^◌, ◌<◌, ◌≤◌, ◌++◌, ◌∷◌, map, replicate, length};
+ghost use Rattle.std.specs.Prelude.{◌≡◌, ◌+◌, ◌^◌, ◌<◌, ◌≤◌, ◌++◌, ◌∷◌, [], map, replicate, length};
 ghost use Rattle.std.specs.Prelude.{IfOk};
 ghost use Rattle.std.specs.Prelude.{OnOk};
 ghost use Rattle.owned_parts.specs.Owned.{AreAllInHand, translators_of};
@@ -8,15 +8,18 @@ ghost use Rattle.its_plain.specs.Sound.{IsSound};
 ghost use Rattle.its_steps.specs.Parts.{HasStamps};
 ghost use Rattle.its_steps.specs.World.{first_view};
 ghost use Rattle.its_turns.specs.Opening.{setup_from, kept_its, kept_of, apart, AreFirst, AreMaps};
+ghost use Rattle.its_turns.specs.Opening.{AreSlots};
+ghost use Rattle.its_turns.specs.Rule.{Kept, setup_of};
+ghost use Rattle.atomic_table.specs.Table.{opening};
 ghost use Rattle.its_turns.specs.Machines.{setup, view, IsOf};
 ghost use Rattle.its_turns.specs.declared.value.Value.TheVariants.{Vacant};
 
-use crate::law::Origin;
+use crate::law::{Known, Law, Origin};
 use crate::machine::{Machine, Pass, Root};
 use crate::value::{GuestMemory, Value};
-use atomic_table::{Refused, Table};
+use atomic_table::{Seat, Table};
 use guest_windows::Spare;
-use its_plain::{Desc, Its, LpiTables, RequesterRanges};
+use its_plain::{Desc, Its, Layout, LpiTables, RequesterRanges};
 use its_types::{Listed, Vcpu};
 use lpi_pending::Redists;
 use owned_parts::{Parts, Translator};
@@ -56,33 +59,77 @@ impl Machine {
         let translators = desc.translators.len() as u8;
         let first_shard = usize::from(translators) + 1;
         let first_redist = first_shard + usize::from(translators) * desc.shards as usize;
-        let count = first_redist + usize::from(desc.shape.vcpus);
-        let words = vec![in alloc; 0; 16 * (count + 1)]?;
-        let places = Redists::new();
-        let kept = copy_of(alloc, desc)?;
-        let layout = parts.layout.copy(alloc)?;
-        let slots = spread(alloc, first_values(alloc, desc, parts)?)?;
-        match Table::new(alloc, words.as_slice(), slots, &origin) {
-            Ok((table, seat)) => Ok((
-                Machine {
-                    table,
-                    desc: kept,
-                    layout,
-                    places,
-                    translators,
-                    first_shard,
-                    first_redist,
-                    first_shift: 12 * (translators - 1),
-                },
-                Pass {
-                    number: 0,
-                    made: 1,
-                    out: 0,
-                    seat,
-                },
-            )),
-            Err(Refused { slots: _ }) => Err(AllocError),
-        }
+        let words = 16 * (first_redist + usize::from(desc.shape.vcpus) + 1);
+        let frame = Frame::of(alloc, desc, &parts.layout, words)?;
+        let slots = slots_of(alloc, desc, parts)?;
+        let (table, seat) = table_of(alloc, frame.words.as_slice(), slots, &origin)?;
+        Ok((
+            Machine {
+                table,
+                desc: frame.desc,
+                layout: frame.layout,
+                places: Redists::new(),
+                translators,
+                first_shard,
+                first_redist,
+                first_shift: 12 * (translators - 1),
+            },
+            Pass {
+                number: 0,
+                made: 1,
+                out: 0,
+                seat,
+            },
+        ))
+    }
+}
+
+// What a machine keeps beside its table, and the words that the table begins with.
+#[derive(Drop)]
+struct Frame {
+    words: Vec<u64>,
+    desc: Desc,
+    layout: Layout,
+}
+
+impl Frame {
+    // With so many words, which are all 0.
+    fn of(alloc: Global, desc: &Desc, layout: &Layout, words: usize) -> Result<Frame, AllocError>
+        ensures words { IfOk result (λ f. f.words.items ≡ replicate words 0) }
+        ensures count { IfOk result (λ f. length f.words.items ≡ words) }
+        ensures desc { IfOk result (λ f. f.desc ≡ kept_of desc.now) }
+        ensures layout { IfOk result (λ f. f.layout ≡ layout.now) }
+    {
+        let words = vec![in alloc; 0; words]?;
+        let desc = copy_of(alloc, desc)?;
+        let layout = layout.copy(alloc)?;
+        Ok(Frame {
+            words,
+            desc,
+            layout,
+        })
+    }
+}
+
+// A table with these words and values, and its first seat.
+fn table_of(
+    alloc: Global,
+    words: &[u64],
+    slots: Vec<Value>,
+    origin: &Origin,
+) -> Result<(Table<Value, Known, Origin, Law, Global>, Seat<Value, Known>), AllocError>
+    requires { Kept (setup_of origin.now)
+        (opening words.now slots.items (first_view (setup_of origin.now))) }
+    ensures words { IfOk result (λ t. t.0.shared.table_id.words ≡ length words.now) }
+    ensures slots { IfOk result (λ t. t.0.shared.table_id.slots ≡ length slots.items) }
+    ensures key { IfOk result (λ t. t.0.shared.key ≡ origin.now) }
+    ensures table { IfOk result (λ t. t.1.table_id ≡ t.0.shared.table_id) }
+    ensures seat { IfOk result (λ t. t.1.id ≡ 0) }
+    ensures view { IfOk result (λ t. t.1.me ≡ (first_view (setup_of origin.now), [])) }
+{
+    match Table::new(alloc, words, slots, origin) {
+        Ok(made) => Ok(made),
+        Err(_) => Err(AllocError),
     }
 }
 
@@ -132,6 +179,17 @@ fn tables_of(alloc: Global, tables: &LpiTables) -> Result<LpiTables, AllocError>
         }
         LpiTables::Registers(values) => Ok(LpiTables::Registers(*values)),
     }
+}
+
+// The values of all parts, each in its slot.
+fn slots_of(alloc: Global, desc: &Desc, parts: Parts) -> Result<Vec<Value>, AllocError>
+    requires vcpus { parts.layout.shape.vcpus ≤ 16 }
+    requires hand { AreAllInHand parts.layout.shape parts.redists }
+    ensures { IfOk result (λ v. AreSlots (setup_from desc.now parts) v.items) }
+{
+    let values = first_values(alloc, desc, parts)?;
+    let slots = spread(alloc, values)?;
+    Ok(slots)
 }
 
 // The values of all parts.
