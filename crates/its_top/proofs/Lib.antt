@@ -4,8 +4,8 @@ pub mod Lines
 pub mod Saying
 pub mod Sharing
 pub mod Playing
-pub mod Runs
 pub mod Moving
+pub mod Runs
 pub mod Migrations
 pub mod Enabling
 pub mod Scripts
@@ -13,6 +13,7 @@ pub mod Endings
 pub mod Once
 pub mod Checks
 pub mod Reports
+pub mod Checking
 pub mod Summaries
 pub mod Explained
 pub mod Causes

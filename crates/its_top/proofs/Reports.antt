@@ -1,5 +1,5 @@
 -- A report that was read, and what a check of it came to.
-use Rattle.std.proofs.Common.{◌≡◌, ℕ, Bool, List, length, Result, Ok, Err, codes, sym, ap, subst, ◌∙◌}
+use Rattle.std.proofs.Common.{◌≡◌, ℕ, List, length, Ok, Err, codes, sym, ap, subst, ◌∙◌}
 use Rattle.its_plain.specs.Described.{IsFirstState}
 use Rattle.its_plain.specs.Plain.{Plain}
 use Rattle.its_plain.specs.Runs.{Leg, IsRun}
@@ -11,51 +11,43 @@ use Rattle.event_script.specs.Limits.{IsWithinLimits}
 use Rattle.event_script.specs.declared.script.Move.{Move}
 use Rattle.event_script.specs.declared.script.Script.{Script}
 use Rattle.its_history.specs.ReadBack.{HasShape, ReadReportsPrint}
-use Rattle.its_history.specs.Reading.{trace_of}
 use Rattle.its_history.specs.Report.{report_text}
 use Rattle.its_history.specs.declared.trace.Leg.{Leg as LegLines}
 use Rattle.trace_check.specs.Differences.{IsDifference}
-use Rattle.trace_check.specs.Verdicts.{IsReportOfRun}
+use Rattle.trace_check.specs.Verdicts.{IsReportOfRun, IfAgrees, IfDiffers}
 use Rattle.trace_check.specs.declared.verdict.Difference.{Difference}
+use Rattle.trace_check.specs.declared.verdict.Verdict.{Verdict}
+use Rattle.trace_check.specs.declared.verdict.Verdict.TheVariants.{Agrees, Differs}
 use Rattle.report_reading.proofs.Reports.{run_reports}
 use Rattle.its_top.specs.Legs.{all_told}
-use Rattle.its_top.specs.Checked.{IsAgreement, IsBadTrace, IsDiffering, read_report}
+use Rattle.its_top.specs.Checked.{IsAgreement, IsBadTrace, IsDiffering, ReportCauses, read_report}
+use Rattle.its_top.specs.Compared.{TraceSays, VerdictSays}
+use Rattle.its_top.specs.declared.status.Status.{Status}
+use Rattle.its_top.specs.declared.status.Status.TheVariants as status
 use Rattle.trace_check.specs.Verdicts.{copies_of}
 use Rattle.its_top.specs.Refusals.{difference_text, trace_refusal}
 use Rattle.its_top.proofs.Once.{same_ok, not_both}
 
-module _ (script : Script) (first : Plain) (report : List ℕ) (legs : List Leg) (moves : List Move) (copies : List Bool) (n : ℕ) (same : legs ≡ script.legs)
-    (moved : moves ≡ script.moves) (so : copies ≡ copies_of moves) (count : n ≡ length legs) where
-  abbrev Read : Result (List LegLines) ℕ → Type 0
-  Read r = trace_of n copies script.desc.shape.vcpus report ≡ r
-
-  read_is : (r : Result (List LegLines) ℕ) → Read r → read_report script report ≡ r
-  read_is r e =
-      (λ i. trace_of (sym (count ∙ ap length same) i) (sym (so ∙ ap copies_of moved) i) script.desc.shape.vcpus report) ∙ e
-
+module _ (script : Script) (first : Plain) (report : List ℕ) where
   -- a check may be made of it
-  pub has_shape : (told : List LegLines) → IsFirstState script.desc first → IsSound first → ReadReportsPrint → Read (Ok told)
-      → HasShape (length first.redistributors) (length legs) (copies_of moves) told
+  pub has_shape : (told : List LegLines) → IsFirstState script.desc first → IsSound first → ReadReportsPrint → read_report script report ≡ Ok told
+      → HasShape (length first.redistributors) (length script.legs) (copies_of script.moves) told
   has_shape told starts sound laws read =
-      let shape : HasShape script.desc.shape.vcpus n copies told = (laws n copies script.desc.shape.vcpus report told read).shape in
+      let shape : HasShape script.desc.shape.vcpus (length script.legs) (copies_of script.moves) told =
+      (laws (length script.legs) (copies_of script.moves) script.desc.shape.vcpus report told read).shape in
       let vcpus : length first.redistributors ≡ script.desc.shape.vcpus = sound.vcpus ∙ ap (λ (l : Layout). l.shape.vcpus)
       (first_layout script.desc first starts) in
-      subst (λ (z : ℕ × List Bool). HasShape (length first.redistributors) z.0 z.1 told) (λ i. (count i, so i))
-      (subst (λ (v : ℕ). HasShape v n copies told) (sym vcpus) shape)
+      subst (λ (v : ℕ). HasShape v (length script.legs) (copies_of script.moves) told) (sym vcpus) shape
 
-  pub agrees : (told : List LegLines) (text : List ℕ) → ReadReportsPrint → Read (Ok told) → IsReportOfRun first legs (copies_of moves) told
-      → text ≡ codes "agrees\n" → IsAgreement script first report text
-  agrees told text laws read run is =
-      let here : IsReportOfRun first script.legs (copies_of script.moves) told =
-      subst (λ (z : List Leg × List Move). IsReportOfRun first z.0 (copies_of z.1) told)
-      (λ i. (same i, moved i)) run in
-      record {
-        histories = here.histories;
-        is_run = here.is_run;
-        read = read_is (Ok told) read ∙ ap (λ (ls : List LegLines). Ok ls) here.told_is;
-        same = sym (laws n copies script.desc.shape.vcpus report told read).same ∙ ap report_text here.told_is;
-        text_is = is;
-      }
+  agrees : (told : List LegLines) (text : List ℕ) → ReadReportsPrint → read_report script report ≡ Ok told
+      → IsReportOfRun first script.legs (copies_of script.moves) told → text ≡ codes "agrees\n" → IsAgreement script first report text
+  agrees told text laws read run is = record {
+    histories = run.histories;
+    is_run = run.is_run;
+    read = read ∙ ap (λ (ls : List LegLines). Ok ls) run.told_is;
+    same = sym (laws (length script.legs) (copies_of script.moves) script.desc.shape.vcpus report told read).same ∙ ap report_text run.told_is;
+    text_is = is;
+  }
 
   -- what was read of the report of a run is that report
   module _ (within : IsWithinLimits script) (starts : IsFirstState script.desc first) where
@@ -63,32 +55,64 @@ module _ (script : Script) (first : Plain) (report : List ℕ) (legs : List Leg)
         → read_report script report ≡ Ok (all_told script first hs)
     read_of_run hs run is = ap (read_report script) is ∙ run_reports script first (copies_of script.moves) hs within starts run
 
-    pub differs : (told : List LegLines) (d : Difference) (text : List ℕ) → Read (Ok told) → IsDifference first legs (copies_of moves) told d
-        → ¬ IsReportOfRun first legs (copies_of moves) told → text ≡ difference_text d → IsDiffering script first report text
-    differs told d text read there none is =
-        let here : read_report script report ≡ Ok told = read_is (Ok told) read in
-        let not_run : ¬ IsReportOfRun first script.legs (copies_of script.moves) told =
-        subst (λ (z : List Leg × List Move). ¬ IsReportOfRun first z.0 (copies_of z.1) told) (λ i. (same i, moved i)) none in
-        record {
-          told = told;
-          read = here;
-          none = not_run;
-          no_run = λ hs run e. not_run (record {
-            histories = hs;
-            is_run = run;
-            told_is = same_ok (read_report script report) told (all_told script first hs) here (read_of_run hs run e);
-          });
-          difference = d;
-          differs = subst (λ (z : List Leg × List Move). IsDifference first z.0 (copies_of z.1) told d) (λ i. (same i, moved i)) there;
-          text_is = is;
-        }
+    differs : (told : List LegLines) (d : Difference) (text : List ℕ) → read_report script report ≡ Ok told
+        → IsDifference first script.legs (copies_of script.moves) told d → ¬ IsReportOfRun first script.legs (copies_of script.moves) told
+        → text ≡ difference_text d → IsDiffering script first report text
+    differs told d text read there none is = record {
+      told = told;
+      read = read;
+      none = none;
+      no_run = λ hs run e. none (record {
+        histories = hs;
+        is_run = run;
+        told_is = same_ok (read_report script report) told (all_told script first hs) read (read_of_run hs run e);
+      });
+      difference = d;
+      differs = there;
+      text_is = is;
+    }
 
-    pub is_bad : (line : ℕ) (text : List ℕ) → Read (Err line) → text ≡ trace_refusal line → IsBadTrace script first report text
-    is_bad line text read is =
-        let here : read_report script report ≡ Err line = read_is (Err line) read in
-        record {
-          line = line;
-          read = here;
-          no_run = λ hs run e. not_both (read_report script report) (all_told script first hs) line (read_of_run hs run e) here;
-          text_is = is;
-        }
+    pub trace_said : (told : List LegLines) → ReadReportsPrint → read_report script report ≡ Ok told → (s : Status) (text : List ℕ)
+        → TraceSays script first told s text → ReportCauses script first report s text
+    trace_said told laws read status.Ok text is = agrees told text laws read is.0 is.1
+    trace_said told laws read status.ScriptRefused text is = absurd is
+    trace_said told laws read status.WordsRefused text is = absurd is
+    trace_said told laws read status.ReadFault text is = absurd is
+    trace_said told laws read status.WriteFault text is = absurd is
+    trace_said told laws read status.Memory text is = absurd is
+    trace_said told laws read status.MachineRefused text is = absurd is
+    trace_said told laws read status.MigrationRefused text is = absurd is
+    trace_said told laws read status.Spent text is = absurd is
+    trace_said told laws read status.TooLong text is = absurd is
+    trace_said told laws read status.TraceDiffers text is = differs told is.0 text read is.1 is.2 is.3
+    trace_said told laws read status.BadTrace text is = absurd is
+
+    pub is_bad : (line : ℕ) (text : List ℕ) → read_report script report ≡ Err line → text ≡ trace_refusal line → IsBadTrace script first report text
+    is_bad line text read is = record {
+      line = line;
+      read = read;
+      no_run = λ hs run e. not_both (read_report script report) (all_told script first hs) line (read_of_run hs run e) read;
+      text_is = is;
+    }
+
+-- ---- what a comparison came to
+
+verdict_of : (script : Script) (first : Plain) (told : List LegLines) (v : Verdict) (s : Status) (text : List ℕ)
+    → IfAgrees v (IsReportOfRun first script.legs (copies_of script.moves) told)
+    → IfDiffers v (λ d. IsDifference first script.legs (copies_of script.moves) told d)
+    → IfDiffers v (λ _. ¬ IsReportOfRun first script.legs (copies_of script.moves) told) → VerdictSays v s text → TraceSays script first told s text
+verdict_of script first told Agrees s text run there none is =
+    subst (λ (t : Status). TraceSays script first told t text) (sym is.0) (run, is.1)
+verdict_of script first told (Differs d) s text run there none is =
+    subst (λ (t : Status). TraceSays script first told t text) (sym is.0) (d, there, none, is.1)
+
+pub verdict_said : (script : Script) (first : Plain) (legs : List Leg) (moves : List Move) (told : List LegLines) (v : Verdict) (s : Status) (text : List ℕ)
+    → legs ≡ script.legs → moves ≡ script.moves → IfAgrees v (IsReportOfRun first legs (copies_of moves) told)
+    → IfDiffers v (λ d. IsDifference first legs (copies_of moves) told d) → IfDiffers v (λ _. ¬ IsReportOfRun first legs (copies_of moves) told)
+    → VerdictSays v s text → TraceSays script first told s text
+verdict_said script first legs moves told v s text same moved run there none =
+    let at : (legs, moves) ≡ (script.legs, script.moves) = λ i. (same i, moved i) in
+    verdict_of script first told v s text
+    (subst (λ (z : List Leg × List Move). IfAgrees v (IsReportOfRun first z.0 (copies_of z.1) told)) at run)
+    (subst (λ (z : List Leg × List Move). IfDiffers v (λ d. IsDifference first z.0 (copies_of z.1) told d)) at there)
+    (subst (λ (z : List Leg × List Move). IfDiffers v (λ _. ¬ IsReportOfRun first z.0 (copies_of z.1) told)) at none)

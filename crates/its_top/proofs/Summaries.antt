@@ -6,6 +6,7 @@ use Rattle.its_plain.specs.Described.{IsFirstState}
 use Rattle.its_plain.specs.History.{after}
 use Rattle.its_plain.specs.Regions.{savable}
 use Rattle.its_plain.specs.Runs.{Leg, ArePhases, IsLegRun}
+use Rattle.its_plain.specs.declared.call.Entry.{Entry}
 use Rattle.its_plain.specs.declared.fault.SaveFault.{SaveFault}
 use Rattle.event_script.specs.declared.script.Script.{Script}
 use Rattle.its_history.specs.declared.threads.ThreadList.{ThreadList}
@@ -26,17 +27,17 @@ pub first_of : (signals threads : ℕ) (script : Script) (leg phases : Leg) → 
     → phases ≡ first_leg signals threads
 first_of signals threads script leg phases same at is = is ∙ at ∙ ap (λ (s : Script). get_or s.legs 0 leg) same
 
-module _ (signals threads : ℕ) (script : Script) (made : IsMade signals threads script) (s : Setup) (leg : Leg) (lists : List ThreadList) (w : View)
-    (same : leg ≡ first_leg signals threads) where
-  leg_run : RanLeg s leg lists None w → IsLegRun s.start (first_leg signals threads) w.seen
-  leg_run ran = record { legal = ran.legal; calls = subst (λ (l : Leg). ArePhases 1 l w.seen) same (ran.whole refl) }
+pub leg_run : (signals threads : ℕ) (s : Setup) (leg : Leg) (lists : List ThreadList) (w : View) → leg ≡ first_leg signals threads
+    → RanLeg s leg lists None w → IsLegRun s.start (first_leg signals threads) w.seen
+leg_run signals threads s leg lists w same ran =
+    record { legal = ran.legal; calls = subst (λ (l : Leg). ArePhases 1 l w.seen) same (ran.whole refl) }
 
-  -- the state can be saved
-  pub can_be_saved : {X : Type 0} (f : SaveFault) → CanMigrate → IsFirstState script.desc s.start → RanLeg s leg lists None w
-      → savable (after s.start w.seen) ≡ Err f → X
-  can_be_saved f can starts ran refused =
-      not_savable (after s.start w.seen) f refused
-      (can signals threads made.asked s.start w.seen (subst (λ (t : Script). IsFirstState t.desc s.start) made.same starts) (leg_run ran))
+-- the state after it can be saved
+pub can_be_saved : {X : Type 0} (signals threads : ℕ) (script : Script) (made : IsMade signals threads script) (s : Setup) (h : List Entry) (f : SaveFault)
+    → CanMigrate → IsFirstState script.desc s.start → IsLegRun s.start (first_leg signals threads) h → savable (after s.start h) ≡ Err f → X
+can_be_saved signals threads script made s h f can starts run refused =
+    not_savable (after s.start h) f refused
+    (can signals threads made.asked s.start h (subst (λ (t : Script). IsFirstState t.desc s.start) made.same starts) run)
 
 -- ---- what is pending
 

@@ -2,11 +2,13 @@
 use Rattle.std.specs.Prelude.{◌≡◌, ◌⊎◌, ℕ, ◌<◌, ◌≤◌, List, [], ◌∷◌, ◌++◌, length, codes, Option, Some, None, Err}
 use Rattle.std.specs.String.{string_bytes}
 use Rattle.its_plain.specs.Plain.{Plain}
+use Rattle.its_plain.specs.Described.{IsFirstState, IsRefused}
 use Rattle.its_plain.specs.History.{after}
 use Rattle.its_plain.specs.Regions.{savable}
 use Rattle.its_plain.specs.Saved.{moved, IsSavable}
 use Rattle.its_plain.specs.Runs.{Leg, IsLegRun, IsPartOfLegRun, call_count}
 use Rattle.its_plain.specs.declared.call.Entry.{Entry}
+use Rattle.its_plain.specs.declared.desc.DescFault.{DescFault}
 use Rattle.its_plain.specs.declared.fault.SaveFault.{SaveFault}
 use Rattle.event_script.specs.declared.script.Move.{Move}
 use Rattle.event_script.specs.declared.script.Script.{Script}
@@ -17,7 +19,7 @@ use Rattle.its_history.specs.declared.trace.End.TheVariants.{Done}
 use Rattle.its_history.specs.declared.trace.EntryLine.{EntryLine}
 use Rattle.its_top.specs.Legs.{HaveRun, first_told}
 use Rattle.its_history.specs.Reports.{ended, moved_end, cut_leg}
-use Rattle.its_top.specs.Refusals.{spent_refusal, migration_refusal}
+use Rattle.its_top.specs.Refusals.{machine_refusal, spent_refusal, migration_refusal}
 use Rattle.its_top.specs.Its.{OfScript, IsReport, IsScriptRefusal, IsMachineRefusal, IsMigrationRefusal, IsSpentReport, IsMigrationLine, IsSpentLine}
 use Rattle.its_words.specs.Help.{help_text}
 use Rattle.its_top.specs.declared.command.Answer.{Answer}
@@ -119,6 +121,30 @@ pub record IsSoFar (script : Script) (first : Plain) (report : List ℕ) : Type 
   pub later : List Leg
   pub earlier : HaveRun script.desc.limits.place_last first script.legs histories now (leg ∷ later)
   pub same : report ≡ report_text (first_told script first histories)
+
+-- something is said of it from its first state
+pub record FromFirst (Says : Script → Plain → List ℕ → Type 0) (script : Script) (text : List ℕ) : Type 0 where
+  pub first : Plain
+  pub starts : IsFirstState script.desc first
+  pub says : Says script first text
+
+-- its description makes no machine
+pub record MakesNone (script : Script) (text : List ℕ) : Type 0 where
+  pub fault : DescFault
+  pub refused : IsRefused script.desc fault
+  pub same : text ≡ machine_refusal script.fill_lines script.requester_lines fault
+
+-- what it is answered
+abbrev pub ScriptCauses : Script → Status → List ℕ → Type 0
+ScriptCauses script status.Ok text = FromFirst IsReport script text
+ScriptCauses script status.MachineRefused text = MakesNone script text
+ScriptCauses script status.MigrationRefused text = FromFirst IsMigrationRefusal script text
+ScriptCauses script status.Spent text = FromFirst IsSpentReport script text
+ScriptCauses script _ text = ⊥
+
+-- memory ran out before its run, or in a leg
+abbrev pub ScriptStopsShort : Script → List ℕ → Type 0
+ScriptStopsShort script report = (report ≡ []) ⊎ FromFirst IsSoFar script report
 
 -- ---- some bytes
 

@@ -8,3 +8,5 @@ pub mod Checked
 pub mod Summarized
 pub mod Its
 pub mod Answered
+pub mod Opened
+pub mod Compared

@@ -1,16 +1,20 @@
 //! What is said to a script and a report: whether it is that of a run.
-ghost use Rattle.std.specs.Prelude.{IfOk};
+ghost use Rattle.std.specs.Prelude.{IfOk, length};
 ghost use Rattle.std.specs.String.{string_bytes};
 ghost use Rattle.event_script.specs.Limits.{IsWithinLimits};
 ghost use Rattle.its_plain.specs.Described.{IsFirstState};
-ghost use Rattle.its_top.specs.Checked.{CheckSays, ReportCauses};
+ghost use Rattle.its_history.specs.ReadBack.{HasShape};
+ghost use Rattle.its_history.specs.Reading.{IsReadAs};
+ghost use Rattle.trace_check.specs.Verdicts.{copies_of};
+ghost use Rattle.its_top.specs.Checked.{CheckSays, ReportCauses, read_report};
+ghost use Rattle.its_top.specs.Compared.{ReportSays, TraceSays, VerdictSays};
 
 use crate::legs::Ending;
 use crate::moves::copies;
 use crate::refusals::{difference_text, machine_refusal, script_refusal, trace_refusal};
 use crate::status::Status;
 use event_script::{ParseError, Script, parse_check};
-use its_history::{TraceError, parse_trace, read_reports_print};
+use its_history::{Trace, TraceError, parse_trace, read_reports_print};
 use its_plain::MakeError;
 use owned_machine::Machine;
 use std::alloc::{AllocError, Global};
@@ -29,16 +33,26 @@ pub fn say_check(alloc: Global, input: &[u8]) -> Result<Ending, AllocError>
             return Ok(Ending { status, line });
         }
     };
-    let machine = match Machine::new(alloc, &input.script.desc) {
+    let ending = check_script(alloc, &input.script, input.report)?;
+    Ok(ending)
+}
+
+/// Checks a report of a script.
+fn check_script(alloc: Global, script: &Script, report: &[u8]) -> Result<Ending, AllocError>
+    requires { IsWithinLimits script.now }
+    ensures { IfOk result (λ e.
+        ReportSays script.now report.now e.status (string_bytes e.line)) }
+{
+    let machine = match Machine::new(alloc, &script.desc) {
         Ok(machine) => machine,
         Err(MakeError::NoMemory) => return Err(AllocError),
         Err(MakeError::Fault(fault)) => {
-            let line = machine_refusal(alloc, &input.script, fault)?;
+            let line = machine_refusal(alloc, script, fault)?;
             let status = Status::MachineRefused;
             return Ok(Ending { status, line });
         }
     };
-    let ending = check_report(alloc, machine, &input.script, input.report)?;
+    let ending = check_report(alloc, machine, script, report)?;
     Ok(ending)
 }
 
@@ -54,28 +68,66 @@ fn check_report(
     ensures { IfOk result (λ e.
         ReportCauses script.now machine report.now e.status (string_bytes e.line)) }
 {
-    let legs = script.legs.as_slice();
-    let moves = script.moves.as_slice();
-    let copied = copies(alloc, moves)?;
-    let vcpus = script.desc.shape.vcpus;
-    let trace = match parse_trace(alloc, report, legs.len(), copied.as_slice(), vcpus) {
-        Ok(trace) => trace,
-        Err(TraceError::NoMemory) => return Err(AllocError),
+    match read_trace(alloc, script, report) {
+        Ok(trace) => {
+            read_reports_print();
+            let ending = compare(alloc, machine, script, &trace)?;
+            Ok(ending)
+        }
+        Err(TraceError::NoMemory) => Err(AllocError),
         Err(TraceError::BadLine(number)) => {
             let line = trace_refusal(alloc, number)?;
             let status = Status::BadTrace;
-            return Ok(Ending { status, line });
+            Ok(Ending { status, line })
         }
-    };
-    read_reports_print();
-    match check(alloc, machine, legs, moves, &trace)? {
+    }
+}
+
+/// Reads a report of a script.
+fn read_trace(alloc: Global, script: &Script, report: &[u8]) -> Result<Trace, TraceError>
+    ensures { IsReadAs result (read_report script.now report.now) }
+{
+    let legs = script.legs.as_slice().len();
+    let copied = copies(alloc, script.moves.as_slice())?;
+    parse_trace(
+        alloc,
+        report,
+        legs,
+        copied.as_slice(),
+        script.desc.shape.vcpus,
+    )
+}
+
+/// Compares a report that was read with what a run's would be.
+fn compare(
+    alloc: Global,
+    machine: Machine,
+    script: &Script,
+    trace: &Trace,
+) -> Result<Ending, AllocError>
+    requires { HasShape (length machine.redistributors) (length script.now.legs)
+        (copies_of script.now.moves) trace.now.legs }
+    ensures { IfOk result (λ e.
+        TraceSays script.now machine trace.now.legs e.status (string_bytes e.line)) }
+{
+    let legs = script.legs.as_slice();
+    let moves = script.moves.as_slice();
+    let verdict = check(alloc, machine, legs, moves, trace)?;
+    let ending = verdict_ending(alloc, &verdict)?;
+    Ok(ending)
+}
+
+fn verdict_ending(alloc: Global, verdict: &Verdict) -> Result<Ending, AllocError>
+    ensures { IfOk result (λ e. VerdictSays verdict.now e.status (string_bytes e.line)) }
+{
+    match verdict {
         Verdict::Agrees => {
             let line = String::from_str(alloc, "agrees\n")?;
             let status = Status::Ok;
             Ok(Ending { status, line })
         }
         Verdict::Differs(difference) => {
-            let line = difference_text(alloc, &difference)?;
+            let line = difference_text(alloc, difference)?;
             let status = Status::TraceDiffers;
             Ok(Ending { status, line })
         }

@@ -8,6 +8,7 @@ ghost use Rattle.its_history.specs.Report as history;
 ghost use Rattle.its_migrate.specs.Resting.{resting};
 ghost use Rattle.its_top.specs.Answered.{RunEnds, IsSoFar, LegGoes, LegIsLast, IsLastLine};
 ghost use Rattle.its_top.specs.Answered.{IsSpentEnding};
+ghost use Rattle.its_top.specs.Opened.{LegOpens, LegIsLeft, IsRefusedEnding, IsDoneEnding};
 ghost use Rattle.its_top.specs.Moves.{move_line};
 ghost use Rattle.its_top.specs.Played.{IsFresh, IsAtRest, IsReady};
 ghost use Rattle.its_history.specs.Reports as spec;
@@ -17,8 +18,9 @@ use crate::play::play_leg;
 use crate::refusals::{migration_refusal, spent_refusal};
 use crate::status::Status;
 use event_script::{Move, Phase, Script};
-use its_history::{End, EntryLine, Leg, Text, leg_text, pending_text};
+use its_history::{EntryLine, Leg, Text, leg_text, pending_text};
 use its_migrate::pending;
+use its_plain::SaveFault;
 use its_turns::{Machine, Root};
 use its_types::{Gate, Listed};
 use std::alloc::{AllocError, Global};
@@ -42,6 +44,15 @@ enum Goes {
     On(Shared),
     /// No later leg runs.
     Ends(Ending),
+}
+
+/// What came of the calls of a leg.
+#[derive(Drop)]
+enum Opened {
+    /// All were made, and the leg's text has all but its last line.
+    Whole(String),
+    /// One had no place left, and the report tells those that were made.
+    Spent(Ending),
 }
 
 /// Runs a script, and adds the legs' reports. Where memory runs out, these are of the legs that
@@ -78,7 +89,16 @@ pub fn run<R: Threads + Wait + Sync, G: Gate + Sync>(
         number += 1;
     }
     let leg = legs[end].as_slice();
-    let ending = run_last_leg(rt, alloc, gate, now, report, leg, number)?;
+    let ending = run_last_leg(
+        rt,
+        alloc,
+        gate,
+        &now.machine,
+        &mut now.root,
+        report,
+        leg,
+        number,
+    )?;
     Ok(ending)
 }
 
@@ -104,23 +124,40 @@ fn run_leg<R: Threads + Wait + Sync, G: Gate + Sync>(
     ensures err { OnErr result (string_bytes report.new ≡ string_bytes report.old) }
 {
     let Shared { machine, mut root } = now;
-    let played = play_leg(rt, alloc, gate, &machine, &mut root, leg)?;
-    if played.spent {
-        let ending = end_spent(alloc, report, number, played.lines)?;
-        return Ok(Goes::Ends(ending));
+    match open_leg(rt, alloc, gate, &machine, &mut root, report, leg, number)? {
+        Opened::Whole(text) => {
+            let goes = leave_leg(alloc, machine, root, report, text, number, way)?;
+            Ok(goes)
+        }
+        Opened::Spent(ending) => Ok(Goes::Ends(ending)),
     }
-    let texts = pending_texts(alloc, &machine, &mut root)?;
-    let text = open_text(alloc, report, number, played.lines, texts)?;
+}
+
+/// Leaves the machine of a leg whose text is told but for its last line, or tells why it can't be
+/// left. Where memory runs out, the report is as it was.
+fn leave_leg(
+    alloc: Global,
+    machine: Machine,
+    root: Root,
+    report: &mut String,
+    text: String,
+    number: u64,
+    way: Move,
+) -> Result<Goes, AllocError>
+    requires rests { IsAtRest machine root }
+    ensures ok { IfOk result (λ g.
+        LegIsLeft machine root way number (string_bytes text) (string_bytes report.old)
+        (string_bytes report.new) g) }
+    ensures err { OnErr result (string_bytes report.new ≡ string_bytes report.old) }
+{
     match leave(alloc, machine, root, way)? {
         Left::On(next, pages) => {
             add_moved(report, text, pages)?;
             Ok(Goes::On(next))
         }
         Left::Refused(fault) => {
-            let line = migration_refusal(alloc, number, fault)?;
-            add_text(report, text)?;
-            let status = Status::MigrationRefused;
-            Ok(Goes::Ends(Ending { status, line }))
+            let ending = end_refused(alloc, report, text, number, fault)?;
+            Ok(Goes::Ends(ending))
         }
     }
 }
@@ -130,32 +167,60 @@ fn run_last_leg<R: Threads + Wait + Sync, G: Gate + Sync>(
     rt: &R,
     alloc: Global,
     gate: &G,
-    now: Shared,
+    machine: &Machine,
+    root: &mut Root,
     report: &mut String,
     leg: &[Phase],
     number: u64,
 ) -> Result<Ending, AllocError>
-    requires fresh { IsFresh now.machine now.root }
+    requires fresh { IsFresh machine.now root.old }
     requires phases { length leg.now ≤ 256 }
     requires threads { AllByRecursion (λ threads. length threads ≤ 64) leg.now }
-    requires may { MayRunLeg now.machine leg.now }
+    requires may { MayRunLeg machine.now leg.now }
     ensures ok { IfOk result (λ e.
-        LegIsLast (setup now.machine) leg.now number (string_bytes report.old)
+        LegIsLast (setup machine.now) leg.now number (string_bytes report.old)
         (string_bytes report.new) e) }
     ensures err { OnErr result (string_bytes report.new ≡ string_bytes report.old) }
 {
-    let Shared { machine, mut root } = now;
-    let played = play_leg(rt, alloc, gate, &machine, &mut root, leg)?;
+    match open_leg(rt, alloc, gate, machine, root, report, leg, number)? {
+        Opened::Whole(text) => {
+            let ending = end_done(alloc, report, text)?;
+            Ok(ending)
+        }
+        Opened::Spent(ending) => Ok(ending),
+    }
+}
+
+/// Runs the calls of a leg, and tells them and what is then pending, in a text or, where a call had
+/// no place left, in the report.
+fn open_leg<R: Threads + Wait + Sync, G: Gate + Sync>(
+    rt: &R,
+    alloc: Global,
+    gate: &G,
+    machine: &Machine,
+    root: &mut Root,
+    report: &mut String,
+    leg: &[Phase],
+    number: u64,
+) -> Result<Opened, AllocError>
+    requires fresh { IsFresh machine.now root.old }
+    requires phases { length leg.now ≤ 256 }
+    requires threads { AllByRecursion (λ threads. length threads ≤ 64) leg.now }
+    requires may { MayRunLeg machine.now leg.now }
+    ensures rests { IfOk result (λ _. IsAtRest machine.now root.new) }
+    ensures ok { IfOk result (λ o.
+        LegOpens (setup machine.now) (resting machine.now root.new) leg.now number
+        (string_bytes report.old) (string_bytes report.new) o) }
+    ensures err { OnErr result (string_bytes report.new ≡ string_bytes report.old) }
+{
+    let played = play_leg(rt, alloc, gate, machine, root, leg)?;
     if played.spent {
         let ending = end_spent(alloc, report, number, played.lines)?;
-        return Ok(ending);
+        return Ok(Opened::Spent(ending));
     }
-    let texts = pending_texts(alloc, &machine, &mut root)?;
-    add_leg(alloc, report, number, played.lines, texts, Some(End::Done))?;
-    Ok(Ending {
-        status: Status::Ok,
-        line: String::new(alloc),
-    })
+    let texts = pending_texts(alloc, machine, root)?;
+    let text = open_text(alloc, report, number, played.lines, texts)?;
+    Ok(Opened::Whole(text))
 }
 
 /// Adds the entries of a leg that had no place left.
@@ -170,10 +235,49 @@ fn end_spent(
     ensures err { OnErr result (string_bytes report.new ≡ string_bytes report.old) }
 {
     let line = spent_refusal(alloc, number)?;
-    add_leg(alloc, report, number, lines, Listed::new(alloc), None)?;
+    let leg = Leg {
+        entries: Listed::from_vec(lines),
+        pending: Listed::new(alloc),
+        end: None,
+    };
+    let text = leg_text(alloc, number, &leg)?;
+    add_text(report, text)?;
     Ok(Ending {
         status: Status::Spent,
         line,
+    })
+}
+
+/// Adds the text of a leg after which the state can't be saved.
+fn end_refused(
+    alloc: Global,
+    report: &mut String,
+    text: String,
+    number: u64,
+    fault: SaveFault,
+) -> Result<Ending, AllocError>
+    ensures ok { IfOk result (λ e.
+        IsRefusedEnding number fault (string_bytes text) (string_bytes report.old)
+        (string_bytes report.new) e) }
+    ensures err { OnErr result (string_bytes report.new ≡ string_bytes report.old) }
+{
+    let line = migration_refusal(alloc, number, fault)?;
+    add_text(report, text)?;
+    let status = Status::MigrationRefused;
+    Ok(Ending { status, line })
+}
+
+/// Adds the text of the last leg.
+fn end_done(alloc: Global, report: &mut String, mut text: String) -> Result<Ending, AllocError>
+    ensures ok { IfOk result (λ e.
+        IsDoneEnding (string_bytes text) (string_bytes report.old) (string_bytes report.new) e) }
+    ensures err { OnErr result (string_bytes report.new ≡ string_bytes report.old) }
+{
+    text.push_str("done\n")?;
+    add_text(report, text)?;
+    Ok(Ending {
+        status: Status::Ok,
+        line: String::new(alloc),
     })
 }
 
@@ -225,30 +329,6 @@ fn add_text(report: &mut String, text: String) -> Result<(), AllocError>
         return Ok(());
     }
     report.push_str(text.as_str())
-}
-
-/// Adds a leg.
-fn add_leg(
-    alloc: Global,
-    report: &mut String,
-    number: u64,
-    lines: Vec<EntryLine>,
-    pending: Listed<Text>,
-    end: Option<End>,
-) -> Result<(), AllocError>
-    ensures ok { IfOk result (λ _.
-        string_bytes report.new
-        ≡ string_bytes report.old ++ history.leg_text number
-        (record { entries = lines.items; pending = pending; end = end })) }
-    ensures err { OnErr result (string_bytes report.new ≡ string_bytes report.old) }
-{
-    let leg = Leg {
-        entries: Listed::from_vec(lines),
-        pending,
-        end,
-    };
-    let text = leg_text(alloc, number, &leg)?;
-    add_text(report, text)
 }
 
 /// What is pending at each virtual processor of a machine at rest.

@@ -4,7 +4,7 @@ ghost use Rattle.std.specs.String.{string_bytes};
 ghost use Rattle.its_turns.specs.Machines.{view, IsOf};
 ghost use Rattle.its_turns.specs.Told.{IsLone};
 ghost use Rattle.trace_check.specs.Verdicts.{copies_for, copies_of};
-ghost use Rattle.its_top.specs.Moves.{Leaves, move_line};
+ghost use Rattle.its_top.specs.Moves.{Leaves, IsLeftFor, move_line, precopy_error};
 
 use event_script::Move;
 use its_migrate::{Precopy, migrate, precopy};
@@ -42,16 +42,52 @@ pub fn leave(alloc: Global, machine: Machine, root: Root, way: Move) -> Result<L
     ensures { IfOk result (λ left. Leaves machine root way left) }
 {
     match way {
-        Move::Migrate => match migrate(alloc, machine, root) {
-            Ok((machine, root)) => Ok(Left::On(Shared { machine, root }, None)),
-            Err((_, _, SaveError::Fault(fault))) => Ok(Left::Refused(fault)),
-            Err((_, _, SaveError::NoMemory)) => Err(AllocError),
-        },
-        Move::Precopy => match precopy(alloc, machine, root) {
-            Ok((machine, root, pages)) => Ok(Left::On(Shared { machine, root }, Some(pages))),
-            Err(Precopy::Fault(_, _, fault)) => Ok(Left::Refused(fault)),
-            Err(Precopy::NoMemory(_)) => Err(AllocError),
-        },
+        Move::Migrate => leave_now(alloc, machine, root),
+        Move::Precopy => leave_copied(alloc, machine, root),
+    }
+}
+
+/// Leaves it with no page copied before.
+fn leave_now(alloc: Global, machine: Machine, root: Root) -> Result<Left, AllocError>
+    requires of { IsOf machine root }
+    requires lone { IsLone (view root) }
+    requires free { (view root).held ≡ [] }
+    ensures { IfOk result (λ left. Leaves machine root Move.Migrate left) }
+{
+    match migrate(alloc, machine, root) {
+        Ok((machine, root)) => Ok(Left::On(Shared { machine, root }, None)),
+        Err(kept) => left_for(kept.2),
+    }
+}
+
+/// Leaves it once its pages were copied.
+fn leave_copied(alloc: Global, machine: Machine, root: Root) -> Result<Left, AllocError>
+    requires of { IsOf machine root }
+    requires lone { IsLone (view root) }
+    requires free { (view root).held ≡ [] }
+    ensures { IfOk result (λ left. Leaves machine root Move.Precopy left) }
+{
+    match precopy(alloc, machine, root) {
+        Ok((machine, root, pages)) => Ok(Left::On(Shared { machine, root }, Some(pages))),
+        Err(error) => left_for(error_of(&error)),
+    }
+}
+
+fn left_for(error: SaveError) -> Result<Left, AllocError>
+    ensures { IfOk result (λ left. IsLeftFor error left) }
+{
+    match error {
+        SaveError::Fault(fault) => Ok(Left::Refused(fault)),
+        SaveError::NoMemory => Err(AllocError),
+    }
+}
+
+fn error_of(error: &Precopy) -> SaveError
+    ensures { result ≡ precopy_error error.now }
+{
+    match error {
+        Precopy::Fault(_, _, fault) => SaveError::Fault(*fault),
+        Precopy::NoMemory(_) => SaveError::NoMemory,
     }
 }
 

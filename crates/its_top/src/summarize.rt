@@ -1,16 +1,21 @@
 //! A run of a script that is made for it, and how its calls ended.
-ghost use Rattle.std.specs.Prelude.{◌≡◌, IfOk, length, map};
+ghost use Rattle.std.specs.Prelude.{◌≡◌, ◌≢◌, IfOk, length, map};
 ghost use Rattle.std.specs.String.{string_bytes};
 ghost use Rattle.its_plain.specs.Described.{IsFirstState};
-ghost use Rattle.its_turns.specs.Machines.{setup};
+ghost use Rattle.its_plain.specs.Runs.{IsLegRun};
+ghost use Rattle.its_turns.specs.Machines.{setup, view};
+ghost use Rattle.script_gen.specs.Generated.{first_leg};
+ghost use Rattle.script_gen.specs.Summary.{counts_of};
+ghost use Rattle.script_threads.specs.Scripts.{IsOfDesc};
 ghost use Rattle.script_gen.specs.Laws.{IsAsked};
-ghost use Rattle.its_top.specs.Played.{IsFresh, IsReady};
+ghost use Rattle.its_top.specs.Played.{IsFresh, IsAtRest, IsReady};
 ghost use Rattle.its_top.specs.Summarized as spec;
 
 use crate::moves::Shared;
 use event_script::Script;
 use its_migrate::{migrate, pending, share};
-use its_plain::{MakeError, SaveError};
+use its_plain::{MakeError, SaveError, SaveFault};
+use its_turns::{Machine, Root};
 use its_types::{Gate, Intid, Listed};
 use script_gen::{
     Counts, can_migrate, generate, has_room, is_never_refused, lists_tell_counts,
@@ -72,8 +77,49 @@ fn count_leg<R: Threads + Wait + Sync, G: Gate + Sync>(
         (λ r. spec.IsCounted signals threads (setup shared.machine).start r.0 r.1) }
 {
     let Shared { machine, mut root } = shared;
+    let counts = count_calls(
+        rt, alloc, gate, script, &machine, &mut root, signals, threads,
+    )?;
+    can_migrate();
+    match migrate(alloc, machine, root) {
+        Ok((machine, root)) => Ok((counts, Shared { machine, root })),
+        Err(kept) => Err(only_memory(kept.2)),
+    }
+}
+
+// The error of a migration of a state that can be saved.
+fn only_memory(error: SaveError) -> AllocError
+    requires { (fault : SaveFault) → error ≢ SaveError.Fault fault }
+{
+    match error {
+        SaveError::NoMemory => AllocError,
+        SaveError::Fault(_) => unreachable!(),
+    }
+}
+
+// Runs the leg of a script that was made, and counts its calls.
+fn count_calls<R: Threads + Wait + Sync, G: Gate + Sync>(
+    rt: &R,
+    alloc: Global,
+    gate: &G,
+    script: &Script,
+    machine: &Machine,
+    root: &mut Root,
+    signals: u32,
+    threads: u32,
+) -> Result<Counts, AllocError>
+    requires made { spec.IsMade signals threads script.now }
+    requires fresh { IsFresh machine.now root.old }
+    requires limits { (setup machine.now).limits ≡ script.now.desc.limits }
+    requires desc { IsOfDesc script.now.desc machine.now }
+    requires first { IsFirstState script.now.desc (setup machine.now).start }
+    ensures rests { IfOk result (λ _. IsAtRest machine.now root.new) }
+    ensures run { IfOk result (λ _.
+        IsLegRun (setup machine.now).start (first_leg signals threads) (view root.new).seen) }
+    ensures counts { IfOk result (λ counts. counts ≡ counts_of (view root.new).seen) }
+{
     let leg = script.legs.as_slice()[0].as_slice();
-    let end = run_leg(rt, alloc, &machine, &mut root, gate, leg)?;
+    let end = run_leg(rt, alloc, machine, root, gate, leg)?;
     has_room();
     match end.stop {
         None => {}
@@ -82,13 +128,7 @@ fn count_leg<R: Threads + Wait + Sync, G: Gate + Sync>(
     }
     lists_tell_length();
     lists_tell_counts();
-    let counts = Counts::of(end.lists.as_slice());
-    can_migrate();
-    match migrate(alloc, machine, root) {
-        Ok((machine, root)) => Ok((counts, Shared { machine, root })),
-        Err((_, _, SaveError::NoMemory)) => Err(AllocError),
-        Err((_, _, SaveError::Fault(_))) => unreachable!(),
-    }
+    Ok(Counts::of(end.lists.as_slice()))
 }
 
 // How many LPIs are pending at each virtual processor of a machine that no call was made on.
