@@ -1,17 +1,22 @@
 -- The parts that are left of a machine.
-use Rattle.std.proofs.Common.{◌≡◌, ℕ, zero, suc, ◌<◌, ◌≤◌, List, [], ◌∷◌, map, take, length, Option, Some, None, Ok, refl, ap, sym, ◌∙◌, subst, arith}
+use Rattle.std.proofs.Common.{◌≡◌, ℕ, zero, suc, ◌<◌, ◌≤◌, List, [], ◌∷◌, map, take, length, Option, Some, None, Ok, Err, refl, ap, sym, ◌∙◌, subst, arith}
 use Rattle.std.specs.Prelude.{slice_get}
 use Rattle.std.proofs.lemmas.Option.{slice_get_within}
 use Rattle.dirty_log.specs.declared.tracked.Tracked.{Tracked}
+use Rattle.its_plain.specs.History.{after}
 use Rattle.its_plain.specs.Plain.{Plain, Redistributor}
 use Rattle.its_plain.specs.Regions.{savable}
 use Rattle.its_plain.specs.Saved.{moved, moved_count}
 use Rattle.its_plain.specs.Sound.{IsSound}
+use Rattle.its_plain.specs.declared.call.Entry.{Entry}
+use Rattle.its_plain.specs.declared.fault.SaveError.{SaveError}
+use Rattle.its_plain.specs.declared.fault.SaveError.TheVariants as errors
 use Rattle.its_plain.specs.declared.layout.Layout.{Layout}
 use Rattle.lpi_pending.specs.InHand.{in_hand}
 use Rattle.lpi_pending.specs.declared.redist.Redist.{Redist as Owned}
 use Rattle.owned_parts.specs.Owned.{AreAllInHand, redistributor_of, redistributor_or, HasLpisOf, state_of_parts}
 use Rattle.owned_machine.specs.Whole.{IsMachine, GoesOn}
+use Rattle.table_save.specs.Checked.{Answers}
 use Rattle.owned_parts.specs.declared.parts.Parts.{Parts}
 use Rattle.its_steps.specs.Parts.{Setup, IsOfMachine, vcpu_count}
 use Rattle.its_steps.specs.World.{View, first_view}
@@ -24,10 +29,12 @@ use Rattle.its_turns.specs.declared.machine.Pass.{Pass}
 use Rattle.held_parts.specs.Wholes.{TakesWhole}
 use Rattle.held_parts.specs.declared.whole.Whole.{Whole}
 use Rattle.held_parts.proofs.Lists.{same_lists}
-use Rattle.its_migrate.specs.Precopying.{AreLeft, AreUnpacked, WentOnCopied, with_track}
-use Rattle.its_migrate.specs.Resting.{resting}
+use Rattle.its_migrate.specs.Precopying.{AreLeft, AreTaken, AreUnpacked, IsLeftFor, Precopies, WentOnCopied, with_track}
+use Rattle.its_migrate.specs.Resting.{IsCause, Rests, resting}
+use Rattle.its_migrate.specs.declared.outcome.Precopy.{Precopy}
 use Rattle.its_migrate.proofs.Copying.{moved_memory}
 use Rattle.its_migrate.proofs.Moving.{went_on}
+use Rattle.its_migrate.proofs.Pendings.{rests_seen}
 use Rattle.its_migrate.proofs.Taken.{taken_hand, taken_others, rest_of_machine, taken_rest}
 
 abbrev firsts : ℕ → List (Option Owned) → List Redistributor
@@ -100,21 +107,42 @@ module _ (m : Machine) (r : Pass) (w : View) (x : Whole) (taken : TakesWhole (se
         (taken_others (setup m) (view r) w x taken l same));
   }
 
-  pub unpacked_left : AreLeft (resting m r) q.0
-  unpacked_left = record { state = λ d. record (unpacked_state d) { track = are.track d }; all_in_hand = unpacked_machine.all_in_hand }
+  pub unpacked_taken : savable (resting m r) ≡ Ok tt → AreTaken (setup m) q
+  unpacked_taken can = record {
+    machine = unpacked_machine;
+    of = subst (λ (u : Plain). IsOfMachine (setup m) u) (sym unpacked_state) (rest_of_machine m r w x taken lone);
+    savable = ap (λ (u : Plain). savable u) unpacked_state ∙ can;
+    track = are.track;
+  }
 
-  module _ (p : Parts) (goes : GoesOn p (moved (state_of_parts whole))) where
-    pub goes_at_rest : GoesOn p (moved (resting m r))
-    goes_at_rest = subst (λ (u : Plain). GoesOn p (moved u)) unpacked_state goes
+-- why a state can't be saved, why an equal one can't
+pub cause_at : (u w : Plain) → u ≡ w → (e : SaveError) → Answers (Err e) (savable u) → IsCause w e
+cause_at u w same (errors.Fault f) is = sym (ap (λ (x : Plain). savable x) same) ∙ is
+cause_at u w same errors.NoMemory is = tt
+
+-- ---- parts that were taken of a machine at rest
+
+module _ (m : Machine) (r : Pass) (q : Parts × Option Tracked) (are : AreTaken (setup m) q) (same : state_of_parts (with_track q.1 q.0) ≡ resting m r) where
+  pub taken_left : AreLeft (resting m r) q.0
+  taken_left = record { state = λ d. record (same d) { track = are.track d }; all_in_hand = are.machine.all_in_hand }
 
   -- a machine that begins with the parts that go on
-  module _ (n : Machine) (s : Pass) (p : Parts) (count : ℕ) (can : savable (resting m r) ≡ Ok tt) (goes : GoesOn p (moved (state_of_parts whole)))
-      (counted : count ≡ moved_count (state_of_parts whole)) where
+  module _ (n : Machine) (s : Pass) (p : Parts) (count : ℕ) (goes : GoesOn p (moved (state_of_parts (with_track q.1 q.0))))
+      (counted : count ≡ moved_count (state_of_parts (with_track q.1 q.0))) where
     pub went_copied : IsOf n s → setup n ≡ setup_from m.desc p → n.desc ≡ kept_of m.desc → view s ≡ first_view (setup n) → WentOnCopied m r n s count
     went_copied of made desc fresh =
-        let went = went_on m n r s p can (goes_at_rest p goes) of made desc fresh in
+        let can = sym (ap (λ (u : Plain). savable u) same) ∙ are.savable in
+        let went = went_on m n r s p can (subst (λ (u : Plain). GoesOn p (moved u)) same goes) of made desc fresh in
         record {
           went = went;
           memory = ap (λ (u : Plain). u.memory) went.start ∙ moved_memory (resting m r);
-          count_is = counted ∙ ap (λ (u : Plain). moved_count u) unpacked_state;
+          count_is = counted ∙ ap (λ (u : Plain). moved_count u) same;
         }
+
+-- a machine at rest comes back, or its parts
+pub left_for : (m : Machine) (r s : Pass) (e : SaveError) (x : Precopy) → IsOf m s → Rests (view r) (view s) → IsCause (resting m r) e → IsLeftFor m s e x
+    → Precopies m r (Err x)
+left_for m r s (errors.Fault f) x of rests cause left = subst (λ (y : Precopy). Precopies m r (Err y)) (sym left) (refl, of, rests, cause)
+left_for m r s errors.NoMemory x of rests cause left =
+    subst (λ (y : Precopy). Precopies m r (Err y)) (sym left.1)
+    (subst (λ (h : List Entry). AreLeft (after (setup m).start h) left.0) (rests_seen (view r) (view s) rests) left.2)

@@ -4,9 +4,13 @@ use Rattle.dirty_log.specs.declared.tracked.Tracked.{Tracked}
 use Rattle.its_plain.specs.Plain.{Plain}
 use Rattle.its_plain.specs.Regions.{savable}
 use Rattle.its_plain.specs.Saved.{saved, moved_count}
+use Rattle.its_plain.specs.declared.fault.SaveError.{SaveError}
+use Rattle.its_plain.specs.declared.fault.SaveError.TheVariants as errors
 use Rattle.its_plain.specs.declared.layout.Layout.{Layout}
 use Rattle.owned_parts.specs.Owned.{AreAllInHand, state_of_parts}
 use Rattle.owned_parts.specs.declared.parts.Parts.{Parts}
+use Rattle.owned_machine.specs.Whole.{IsMachine}
+use Rattle.its_steps.specs.Parts.{Setup, IsOfMachine}
 use Rattle.its_turns.specs.Machines.{setup, view, IsOf}
 use Rattle.its_turns.specs.declared.machine.Machine.{Machine}
 use Rattle.its_turns.specs.declared.machine.Pass.{Pass}
@@ -37,6 +41,13 @@ pub record AreUnpacked (l : Layout) (x : Whole) (r : Parts × Option Tracked) : 
   pub track : r.0.track ≡ None
   pub redists : r.0.redists ≡ x.redists
 
+-- they are of a machine with this setup, and can be saved with that memory
+pub record AreTaken (s : Setup) (r : Parts × Option Tracked) : Type 0 where
+  pub machine : IsMachine (with_track r.1 r.0)
+  pub of : IsOfMachine s (state_of_parts (with_track r.1 r.0))
+  pub savable : savable (state_of_parts (with_track r.1 r.0)) ≡ Ok tt
+  pub track : r.0.track ≡ None
+
 -- ---- pre-copies
 
 -- the next machine goes on as after a migration, in memory that has all tables; the pages were copied that were dirty, or that a save writes
@@ -49,6 +60,11 @@ abbrev pub Precopies : Machine → Pass → Result (Machine × Pass × ℕ) Prec
 Precopies m r (Ok x) = WentOnCopied m r x.0 x.1 x.2
 Precopies m r (Err (precopy.Fault n s f)) = (n ≡ m) × IsOf n s × Rests (view r) (view s) × (savable (resting m r) ≡ Err f)
 Precopies m r (Err (precopy.NoMemory p)) = AreLeft (resting m r) p
+
+-- what is left of a machine that couldn't be saved
+abbrev pub IsLeftFor : Machine → Pass → SaveError → Precopy → Type 0
+IsLeftFor m r (errors.Fault f) x = x ≡ precopy.Fault m r f
+IsLeftFor m r errors.NoMemory x = (p : Parts) × (x ≡ precopy.NoMemory p) × AreLeft (resting m r) p
 
 -- what a migration and a pre-copy give begins alike, and so do the roots
 abbrev pub PrecopiesAsMigrates : Type 0

@@ -1,15 +1,17 @@
 //! Pre-copies: migrations of machines whose memory was copied while they ran, but for the pages
 //! that are dirty still.
-ghost use Rattle.std.specs.Prelude.{◌≡◌, [], Ok, IfOk};
+ghost use Rattle.std.specs.Prelude.{◌≡◌, [], Ok, IfOk, OnErr, MatchResult};
 ghost use Rattle.its_plain.specs.Regions.{savable};
 ghost use Rattle.its_plain.specs.Saved.{moved, moved_count};
 ghost use Rattle.its_plain.specs.Sound.{IsSound};
 ghost use Rattle.owned_parts.specs.Owned.{AreAllInHand, state_of_parts, state_in_place};
 ghost use Rattle.owned_machine.specs.Whole.{IsMachine, GoesOn};
-ghost use Rattle.its_turns.specs.Machines.{view, IsOf};
+ghost use Rattle.its_turns.specs.Machines.{setup, view, IsOf};
 ghost use Rattle.its_turns.specs.Told.{IsLone};
-ghost use Rattle.its_migrate.specs.Precopying.{Precopies, AreLeft, AreUnpacked, with_track};
-ghost use Rattle.its_migrate.specs.Resting.{resting};
+ghost use Rattle.its_turns.specs.declared.machine.Pass.{Pass};
+ghost use Rattle.its_migrate.specs.Precopying.{Precopies, WentOnCopied, AreLeft, AreTaken};
+ghost use Rattle.its_migrate.specs.Precopying.{AreUnpacked, IsLeftFor, with_track};
+ghost use Rattle.its_migrate.specs.Resting.{Rests, IsCause, resting};
 
 use crate::outcome::Precopy;
 use dirty_log::Tracked;
@@ -43,29 +45,50 @@ pub fn precopy(alloc: Global, machine: Machine, root: Root) -> Result<(Machine, 
     ensures { Precopies machine root result }
 {
     let mut root = root;
-    let Ok(layout) = machine.desc().layout(alloc) else {
-        return Err(Precopy::NoMemory(closed(machine, root)));
-    };
-    let whole = take_whole(&AtRest, &machine, &mut root, &Open);
+    match savable_parts(alloc, &machine, &mut root) {
+        Ok((parts, track)) => next_machine(alloc, &machine, parts, track),
+        Err(error) => Err(left(machine, root, error)),
+    }
+}
+
+// The parts of a machine that can be saved, without its second memory, and that. Else all of them
+// stay in the machine.
+fn savable_parts(
+    alloc: Global,
+    machine: &Machine,
+    root: &mut Root,
+) -> Result<(Parts, Option<Tracked>), SaveError>
+    requires of { IsOf machine.now root.old }
+    requires lone { IsLone (view root.old) }
+    requires free { (view root.old).held ≡ [] }
+    ensures of { IsOf machine.now root.new }
+    ensures taken { IfOk result (AreTaken (setup machine.now)) }
+    ensures state { IfOk result (λ x.
+        state_of_parts (with_track x.1 x.0) ≡ resting machine.now root.old) }
+    ensures rests { OnErr result (Rests (view root.old) (view root.new)) }
+    ensures cause { MatchResult result (λ _. Unit {0}) (IsCause (resting machine.now root.old)) }
+{
+    let layout = machine.desc().layout(alloc)?;
+    let whole = take_whole(&AtRest, machine, root, &Open);
     match savable(alloc, &whole.in_place(&layout)) {
-        Ok(()) => {}
-        Err(SaveError::Fault(fault)) => {
-            put_whole(&machine, &mut root, whole);
-            return Err(Precopy::Fault(machine, root, fault));
-        }
-        Err(SaveError::NoMemory) => {
-            let (parts, _) = unpacked(layout, whole);
-            return Err(Precopy::NoMemory(parts));
+        Ok(()) => Ok(unpacked(layout, whole)),
+        Err(error) => {
+            put_whole(machine, root, whole);
+            Err(error)
         }
     }
-    let (parts, track) = unpacked(layout, whole);
-    let (next, count) = match copied_parts(alloc, &parts, track) {
-        Ok(copied) => copied,
-        Err(AllocError) => return Err(Precopy::NoMemory(parts)),
-    };
-    match Machine::new(alloc, machine.desc(), next) {
-        Ok((next, root)) => Ok((next, root, count)),
-        Err(AllocError) => Err(Precopy::NoMemory(parts)),
+}
+
+// What is left of a machine that couldn't be saved.
+fn left(machine: Machine, root: Root, error: SaveError) -> Precopy
+    requires of { IsOf machine root }
+    requires lone { IsLone (view root) }
+    requires free { (view root).held ≡ [] }
+    ensures { IsLeftFor machine root error result }
+{
+    match error {
+        SaveError::Fault(fault) => Precopy::Fault(machine, root, fault),
+        SaveError::NoMemory => Precopy::NoMemory(closed(machine, root)),
     }
 }
 
@@ -106,6 +129,41 @@ fn unpacked(layout: Layout, whole: Whole) -> (Parts, Option<Tracked>)
         redists,
     };
     (parts, track)
+}
+
+// The machine that goes on from parts that were taken, or these parts.
+fn next_machine(
+    alloc: Global,
+    machine: &Machine,
+    parts: Parts,
+    track: Option<Tracked>,
+) -> Result<(Machine, Root, u64), Precopy>
+    requires { AreTaken (setup machine.now) (parts, track) }
+    ensures { (r : Pass) → state_of_parts (with_track track parts) ≡ resting machine.now r →
+        Precopies machine.now r result }
+{
+    match machine_from(alloc, machine, &parts, track) {
+        Ok(next) => {
+            drop(parts);
+            Ok(next)
+        }
+        Err(AllocError) => Err(Precopy::NoMemory(parts)),
+    }
+}
+
+fn machine_from(
+    alloc: Global,
+    machine: &Machine,
+    parts: &Parts,
+    track: Option<Tracked>,
+) -> Result<(Machine, Root, u64), AllocError>
+    requires { AreTaken (setup machine.now) (parts.now, track) }
+    ensures { (r : Pass) → state_of_parts (with_track track parts.now) ≡ resting machine.now r →
+        IfOk result (λ x. WentOnCopied machine.now r x.0 x.1 x.2) }
+{
+    let (next, count) = copied_parts(alloc, parts, track)?;
+    let (next, root) = Machine::new(alloc, machine.desc(), next)?;
+    Ok((next, root, count))
 }
 
 // The parts that go on in the second memory, or in a copy where there is none, and how many pages
