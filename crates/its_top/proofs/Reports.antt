@@ -1,5 +1,5 @@
 -- A report that was read, and what a check of it came to.
-use Rattle.std.proofs.Common.{◌≡◌, ℕ, List, length, Ok, Err, codes, sym, ap, subst, ◌∙◌}
+use Rattle.std.proofs.Common.{◌≡◌, ℕ, List, length, Result, Ok, Err, IfOk, codes, sym, ap, subst, ◌∙◌}
 use Rattle.its_plain.specs.Described.{IsFirstState}
 use Rattle.its_plain.specs.Plain.{Plain}
 use Rattle.its_plain.specs.Runs.{Leg, IsRun}
@@ -10,7 +10,11 @@ use Rattle.its_migrate.proofs.Fresh.{first_layout}
 use Rattle.event_script.specs.Limits.{IsWithinLimits}
 use Rattle.event_script.specs.declared.script.Move.{Move}
 use Rattle.event_script.specs.declared.script.Script.{Script}
+use Rattle.std.specs.String.{string_bytes}
 use Rattle.its_history.specs.ReadBack.{HasShape, ReadReportsPrint}
+use Rattle.its_history.specs.Reading.{IsReadAs}
+use Rattle.its_history.specs.declared.reading.TraceError.{TraceError}
+use Rattle.its_history.specs.declared.reading.TraceError.TheVariants as trace
 use Rattle.its_history.specs.Report.{report_text}
 use Rattle.its_history.specs.declared.trace.Leg.{Leg as LegLines}
 use Rattle.trace_check.specs.Differences.{IsDifference}
@@ -21,7 +25,8 @@ use Rattle.trace_check.specs.declared.verdict.Verdict.TheVariants.{Agrees, Diffe
 use Rattle.report_reading.proofs.Reports.{run_reports}
 use Rattle.its_top.specs.Legs.{all_told}
 use Rattle.its_top.specs.Checked.{IsAgreement, IsBadTrace, IsDiffering, ReportCauses, read_report}
-use Rattle.its_top.specs.Compared.{TraceSays, VerdictSays}
+use Rattle.its_top.specs.Compared.{IsBadEnding, TraceSays, VerdictSays}
+use Rattle.its_top.specs.declared.legs.Ending.{Ending}
 use Rattle.its_top.specs.declared.status.Status.{Status}
 use Rattle.its_top.specs.declared.status.Status.TheVariants as status
 use Rattle.trace_check.specs.Verdicts.{copies_of}
@@ -87,13 +92,22 @@ module _ (script : Script) (first : Plain) (report : List ℕ) where
     trace_said told laws read status.TraceDiffers text is = differs told is.0 text read is.1 is.2 is.3
     trace_said told laws read status.BadTrace text is = absurd is
 
-    pub is_bad : (line : ℕ) (text : List ℕ) → read_report script report ≡ Err line → text ≡ trace_refusal line → IsBadTrace script first report text
+    is_bad : (line : ℕ) (text : List ℕ) → read_report script report ≡ Err line → text ≡ trace_refusal line → IsBadTrace script first report text
     is_bad line text read is = record {
       line = line;
       read = read;
       no_run = λ hs run e. not_both (read_report script report) (all_told script first hs) line (read_of_run hs run e) read;
       text_is = is;
     }
+
+    -- it wasn't read
+    pub bad_said : {E : Type 0} (error : TraceError) (result : Result Ending E) → IsReadAs (Err error) (read_report script report)
+        → IfOk result (λ e. IsBadEnding error e.status (string_bytes e.line))
+        → IfOk result (λ e. ReportCauses script first report e.status (string_bytes e.line))
+    bad_said (trace.BadLine line) (Ok e) read is =
+        subst (λ (s : Status). ReportCauses script first report s (string_bytes e.line)) (sym is.0) (is_bad line (string_bytes e.line) read is.1)
+    bad_said trace.NoMemory (Ok e) read is = absurd is
+    bad_said error (Err x) read is = tt
 
 -- ---- what a comparison came to
 

@@ -2,6 +2,8 @@
 use Rattle.std.specs.Prelude.{◌≡◌, ℕ, List, codes}
 use Rattle.its_plain.specs.Plain.{Plain}
 use Rattle.event_script.specs.declared.script.Script.{Script}
+use Rattle.its_history.specs.declared.reading.TraceError.{TraceError}
+use Rattle.its_history.specs.declared.reading.TraceError.TheVariants as trace
 use Rattle.its_history.specs.declared.trace.Leg.{Leg as LegLines}
 use Rattle.trace_check.specs.Differences.{IsDifference}
 use Rattle.trace_check.specs.Verdicts.{IsReportOfRun, copies_of}
@@ -10,7 +12,7 @@ use Rattle.trace_check.specs.declared.verdict.Verdict.{Verdict}
 use Rattle.trace_check.specs.declared.verdict.Verdict.TheVariants.{Agrees, Differs}
 use Rattle.its_top.specs.Answered.{FromFirst, MakesNone}
 use Rattle.its_top.specs.Checked.{IsAgreement, IsDiffering, IsBadTrace}
-use Rattle.its_top.specs.Refusals.{difference_text}
+use Rattle.its_top.specs.Refusals.{difference_text, trace_refusal}
 use Rattle.its_top.specs.declared.status.Status.{Status}
 use Rattle.its_top.specs.declared.status.Status.TheVariants as status
 
@@ -18,6 +20,11 @@ use Rattle.its_top.specs.declared.status.Status.TheVariants as status
 abbrev pub VerdictSays : Verdict → Status → List ℕ → Type 0
 VerdictSays Agrees s text = (s ≡ status.Ok) × (text ≡ codes "agrees\n")
 VerdictSays (Differs d) s text = (s ≡ status.TraceDiffers) × (text ≡ difference_text d)
+
+-- where it wasn't read, which memory running out doesn't tell
+abbrev pub IsBadEnding : TraceError → Status → List ℕ → Type 0
+IsBadEnding (trace.BadLine number) s text = (s ≡ status.BadTrace) × (text ≡ trace_refusal number)
+IsBadEnding trace.NoMemory s text = ⊥
 
 -- where it was read so
 abbrev pub TraceSays : Script → Plain → List LegLines → Status → List ℕ → Type 0

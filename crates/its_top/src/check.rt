@@ -7,7 +7,7 @@ ghost use Rattle.its_history.specs.ReadBack.{HasShape};
 ghost use Rattle.its_history.specs.Reading.{IsReadAs};
 ghost use Rattle.trace_check.specs.Verdicts.{copies_of};
 ghost use Rattle.its_top.specs.Checked.{CheckSays, ReportCauses, read_report};
-ghost use Rattle.its_top.specs.Compared.{ReportSays, TraceSays, VerdictSays};
+ghost use Rattle.its_top.specs.Compared.{IsBadEnding, ReportSays, TraceSays, VerdictSays};
 
 use crate::legs::Ending;
 use crate::moves::copies;
@@ -74,8 +74,20 @@ fn check_report(
             let ending = compare(alloc, machine, script, &trace)?;
             Ok(ending)
         }
-        Err(TraceError::NoMemory) => Err(AllocError),
-        Err(TraceError::BadLine(number)) => {
+        Err(error) => {
+            drop(machine);
+            bad_trace(alloc, error)
+        }
+    }
+}
+
+/// Tells why what follows a script is no report.
+fn bad_trace(alloc: Global, error: TraceError) -> Result<Ending, AllocError>
+    ensures { IfOk result (λ e. IsBadEnding error e.status (string_bytes e.line)) }
+{
+    match error {
+        TraceError::NoMemory => Err(AllocError),
+        TraceError::BadLine(number) => {
             let line = trace_refusal(alloc, number)?;
             let status = Status::BadTrace;
             Ok(Ending { status, line })

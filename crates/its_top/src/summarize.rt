@@ -39,11 +39,25 @@ pub fn summarize<R: Threads + Wait + Sync, G: Gate + Sync>(
     ensures { IfOk result (λ text. spec.IsSummary signals threads (string_bytes text)) }
 {
     let script = generate(alloc, signals, threads)?;
-    let first = begin(alloc, &script, signals, threads)?;
-    let (counts, moved) = count_leg(rt, alloc, gate, &script, first, signals, threads)?;
+    summarize_script(rt, alloc, gate, &script, signals, threads)
+}
+
+// The same of a script that was made.
+fn summarize_script<R: Threads + Wait + Sync, G: Gate + Sync>(
+    rt: &R,
+    alloc: Global,
+    gate: &G,
+    script: &Script,
+    signals: u32,
+    threads: u32,
+) -> Result<String, AllocError>
+    requires { spec.IsMade signals threads script.now }
+    ensures { IfOk result (λ text. spec.IsSummary signals threads (string_bytes text)) }
+{
+    let first = begin(alloc, script, signals, threads)?;
+    let (counts, moved) = count_leg(rt, alloc, gate, script, first, signals, threads)?;
     let pending = count_pending(alloc, moved)?;
-    let text = summary_text(alloc, &counts, &pending)?;
-    Ok(text)
+    summary_text(alloc, &counts, &pending)
 }
 
 // The machine of a script that was made, for its threads to share.
