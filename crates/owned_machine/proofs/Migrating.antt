@@ -2,7 +2,7 @@
 use Rattle.std.proofs.Common.{◌≡◌, ℕ, ◌≤◌, true, List, length, map, Option, Some, None, Result}
 use Rattle.std.proofs.Common.{Ok, Err}
 use Rattle.std.proofs.Common.{refl, sym, ap, subst, ◌∙◌, arith}
-use Rattle.std.specs.Prelude.{nat_lt, nat_le, ◌&&◌}
+use Rattle.std.specs.Prelude.{nat_lt, nat_le, ◌&&◌, IfSome}
 use Rattle.std.specs.Option.{option_map}
 use Rattle.std.specs.List.{list_all}
 use Rattle.std.proofs.lemmas.Bool.{and_parts}
@@ -11,7 +11,7 @@ use Rattle.dirty_log.specs.Pages.{dirty_count}
 use Rattle.dirty_log.specs.declared.tracked.Tracked.{Tracked}
 use Rattle.dirty_log.proofs.Whole.{copy_is}
 use Rattle.plain_soundness.proofs.Answers.{calls_keep}
-use Rattle.its_plain.specs.Answer.{left, reply_of, save_left}
+use Rattle.its_plain.specs.Answer.{copy_count, left, reply_of, save_left}
 use Rattle.its_plain.specs.declared.call.Call.TheVariants as call
 use Rattle.lpi_pending.specs.declared.redist.Redist.{Redist}
 use Rattle.owned_parts.specs.declared.in_place.TranslatorRef.{TranslatorRef}
@@ -38,7 +38,7 @@ use Rattle.plain_soundness.proofs.Migrated.{migrations_keep}
 use Rattle.standing_states.specs.Laws.{bases_to_restore}
 use Rattle.saved_state.specs.Laws.{values_read, reads_of, bases_of}
 use Rattle.saved_state.proofs.Restored as saved_state
-use Rattle.owned_machine.specs.Migrations.{AreMoved, GoesOnFrom, marked}
+use Rattle.owned_machine.specs.Migrations.{AreMoved, GoesOnFrom, marked, memory_after}
 use Rattle.its_plain.specs.declared.fault.SaveError.{SaveError}
 use Rattle.its_plain.specs.declared.fault.SaveError.TheVariants as saving
 use Rattle.table_save.specs.Fits.{AreOfSound}
@@ -201,7 +201,7 @@ mapped_none (Some x) f e = absurd cc
 -- the parts with their pages marked, of which the second memory was taken
 module _ (old next after : Parts) (taken : Option Tracked) (m : IsMachine old) (can : savable (state_of_parts old) ≡ Ok tt)
     (goes : GoesOn next (moved (state_of_parts old))) (marks : after ≡ marked old) (value : taken ≡ after.track) where
-  pub plain_goes : taken ≡ None → GoesOnFrom old (Ok 0) next
+  plain_goes : taken ≡ None → GoesOnFrom old (Ok 0) next
   plain_goes none =
       let is : old.track ≡ None = mapped_none old.track (wrote_tables (words_of (state_of_parts old))) (sym (value ∙ ap (λ (q : Parts). q.track) marks) ∙ none) in
       (none_counted old is, can, goes)
@@ -210,17 +210,28 @@ module _ (old next after : Parts) (taken : Option Tracked) (m : IsMachine old) (
     origin : (x : Tracked) × (old.track ≡ Some x) × (wrote_tables (words_of (state_of_parts old)) x ≡ track)
     origin = mapped_some old.track (wrote_tables (words_of (state_of_parts old))) track (sym (value ∙ ap (λ (q : Parts). q.track) marks) ∙ some)
 
-    pub precopy_windows : map extent track.copy ≡ map extent next.memory
-    precopy_windows =
+    copy_windows : map extent track.copy ≡ map extent next.memory
+    copy_windows =
         subst (λ (x : Tracked). map extent x.copy ≡ map extent next.memory) origin.2 (copies_there old next origin.0 m can goes origin.1)
 
-    pub precopy_goes : (copy : List Window) (count : ℕ) → copy ≡ (caught_up next.memory track).copy → count ≡ dirty_count track.log
+    copy_goes : (copy : List Window) (count : ℕ) → copy ≡ (caught_up next.memory track).copy → count ≡ dirty_count track.log
         → GoesOnFrom old (Ok count) (record next { memory = copy })
-    precopy_goes copy count copied counted = (
+    copy_goes copy count copied counted = (
       counted ∙ ap (λ (x : Tracked). dirty_count x.log) (sym origin.2) ∙ count_is old next origin.0 m can goes origin.1,
       can,
       copy_goes_on old next origin.0 m can goes origin.1 copy (copied ∙ ap (λ (x : Tracked). (caught_up next.memory x).copy) (sym origin.2)),
     )
+
+  pub precopy_windows : (second : Option Tracked) → taken ≡ second → IfSome second (λ t. map extent t.copy ≡ map extent next.memory)
+  precopy_windows None is = tt
+  precopy_windows (Some t) is = copy_windows t is
+
+  pub precopy_goes : (second : Option Tracked) → taken ≡ second → (memory : List Window) (count : ℕ) → memory ≡ memory_after next.memory second
+      → count ≡ copy_count second → GoesOnFrom old (Ok count) (record next { memory = memory })
+  precopy_goes None is memory count left counted =
+      subst (λ (x : List Window). GoesOnFrom old (Ok count) (record next { memory = x })) (sym left)
+      (subst (λ (k : ℕ). GoesOnFrom old (Ok k) next) (sym counted) (plain_goes is))
+  precopy_goes (Some t) is memory count left counted = copy_goes t is memory count left counted
 
 -- the moved state is that of the parts where they stand
 pub moved_from : (p : Parts) (i : InPlace) (next : Parts) → state_in_place i ≡ state_of_parts p → AreMoved (state_of_parts (parts_in i)) (Ok next)

@@ -1,13 +1,15 @@
 -- The outcome of migrations (KVM document arm-vgic-its, "ITS Restore Sequence"): the machine goes on from what its saved memory
 -- and its registers stand for, or stays as it is.
-use Rattle.std.specs.Prelude.{◌≡◌, ◌<◌, ℕ, List, length, get_or, Option, Result, Ok, Err}
+use Rattle.std.specs.Prelude.{◌≡◌, ◌<◌, ℕ, List, length, get_or, Option, Some, None, Result, Ok, Err}
 use Rattle.gicr_regs.specs.Registers.{restored_bases}
 use Rattle.gicr_regs.specs.declared.values.GicrRegisters.{GicrRegisters}
 use Rattle.its_plain.specs.Described.{IsFirstState, IsRefused}
 use Rattle.its_plain.specs.Plain.{Plain, redistributor}
 use Rattle.its_plain.specs.Regions.{savable}
 use Rattle.std.specs.Option.{option_map}
+use Rattle.dirty_log.specs.Copies.{caught_up}
 use Rattle.dirty_log.specs.declared.tracked.Tracked.{Tracked}
+use Rattle.guest_windows.specs.Windows.{Window}
 use Rattle.its_plain.specs.Saved.{moved, moved_count, words_of, wrote_tables}
 use Rattle.its_plain.specs.declared.desc.Desc.{Desc}
 use Rattle.its_plain.specs.declared.fault.SaveError.{SaveError}
@@ -51,6 +53,11 @@ abbrev pub GoesOnFrom : Parts → Result ℕ SaveError → Parts → Type 0
 GoesOnFrom p (Ok count) q = (count ≡ moved_count (state_of_parts p)) × (savable (state_of_parts p) ≡ Ok tt) × GoesOn q (moved (state_of_parts p))
 GoesOnFrom p (Err (errors.Fault f)) q = (savable (state_of_parts p) ≡ Err f) × (q ≡ p)
 GoesOnFrom p (Err errors.NoMemory) q = q ≡ p
+
+-- guest memory after a pre-copy: the second one with its last pages, where there is one
+abbrev pub memory_after : List Window → Option Tracked → List Window
+memory_after memory None = memory
+memory_after memory (Some t) = (caught_up memory t).copy
 
 -- the parts of the first state, restored where the description says so, or the first thing that is wrong
 abbrev pub AreBegun : Desc → Result Parts MakeError → Type 0

@@ -1,6 +1,6 @@
 //! A machine that one caller has alone.
 use crate::calls::answered;
-use crate::migrations::{begin, moved, precopied};
+use crate::migrations::{begin, go_on, moved, precopied};
 use crate::stretches::{forget_stretch, write_stretch};
 use gicr_regs::{GicrRegisters, values_come_back, values_of};
 use guest_windows::Outside;
@@ -184,7 +184,8 @@ impl Machine {
     pub fn migrate(&mut self, alloc: Global) -> Result<(), SaveError>
         ensures { Migrates result self.old self.new }
     {
-        self.parts = moved(alloc, &self.parts.in_place())?;
+        let next = moved(alloc, &self.parts.in_place())?;
+        go_on(&mut self.parts, next);
         Ok(())
     }
 

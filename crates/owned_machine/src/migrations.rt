@@ -1,5 +1,8 @@
 //! Restored machines, and migrations (KVM document arm-vgic-its, "ITS Restore Sequence").
-ghost use Rattle.std.specs.Prelude.{◌≡◌, true, IfOk, map, is_some, Some};
+//!
+//! Where parts are let go, that is by a call of `drop`: what a function lets go by itself, at the
+//! end of a block or by an assignment, is proved there anew, piece by piece.
+ghost use Rattle.std.specs.Prelude.{◌≡◌, true, IfOk, IfSome, map, is_some, Some};
 ghost use Rattle.std.specs.List.{list_any};
 ghost use Rattle.dirty_log.specs.Copies.{caught_up};
 ghost use Rattle.dirty_log.specs.Pages.{dirty_count};
@@ -8,6 +11,7 @@ ghost use Rattle.gicr_regs.specs.Registers.{all_restored_bases};
 ghost use Rattle.saved_state.specs.Laws as reads;
 ghost use Rattle.saved_state.specs.Laws.{bases_of, reads_of};
 ghost use Rattle.standing_states.specs.Laws.{AreGiven};
+ghost use Rattle.its_plain.specs.Answer.{copy_count};
 ghost use Rattle.its_plain.specs.Described as described;
 ghost use Rattle.its_plain.specs.Machine.{IsDescription};
 ghost use Rattle.owned_parts.specs.Owned.{state_of_parts};
@@ -15,6 +19,7 @@ ghost use Rattle.owned_machine.specs.Whole.{IsMachine, GoesOn};
 ghost use Rattle.its_plain.specs.Saved as plain;
 ghost use Rattle.its_plain.specs.Saved.{IsSavable};
 ghost use Rattle.owned_machine.specs.Migrations.{AreMoved, AreOfMachine, AreBegun, GoesOnFrom};
+ghost use Rattle.owned_machine.specs.Migrations.{memory_after};
 ghost use Rattle.owned_machine.specs.Placed.{parts_in};
 ghost use Rattle.owned_machine.specs.Start.{AreOfFirst};
 
@@ -28,6 +33,7 @@ use its_plain::{Desc, DescFault, Its, Layout, LpiTables, MakeError, SaveError};
 use its_types::Vcpu;
 use owned_parts::{InPlace, Parts};
 use std::alloc::{AllocError, Global};
+use std::mem::replace;
 use table_restore::{RestoreError, restore_in};
 use table_save::saved_memory;
 
@@ -46,6 +52,7 @@ pub fn begin(alloc: Global, desc: &Desc) -> Result<Parts, MakeError>
 {
     let parts = start(alloc, desc)?;
     let Ok(values) = values_to_restore(alloc, desc.translators.as_slice()) else {
+        drop(parts);
         return Err(MakeError::NoMemory);
     };
     if are_given(&values) {
@@ -61,7 +68,16 @@ fn base_of(parts: Parts) -> (Layout, Memory)
     ensures layout { result.0 ≡ parts.layout }
     ensures memory { result.1 ≡ parts.memory }
 {
-    (parts.layout, parts.memory)
+    let Parts {
+        layout,
+        memory,
+        first,
+        second,
+        track,
+        redists,
+    } = parts;
+    drop((first, second, track, redists));
+    (layout, memory)
 }
 
 // What the memory of the machine at reset and these values stand for.
@@ -157,14 +173,31 @@ pub fn precopied(parts: &mut Parts, alloc: Global) -> Result<u64, SaveError>
 {
     let mut next = moved(alloc, &parts.in_place())?;
     mark_saved(parts);
-    let Some(track) = parts.track.take() else {
-        *parts = next;
-        return Ok(0);
-    };
-    let (memory, count) = copied_last(track, &next.memory);
-    next.memory = memory;
-    *parts = next;
+    let count = go_on_in_copy(parts.track.take(), &mut next.memory);
+    go_on(parts, next);
     Ok(count)
+}
+
+/// The parts of a machine from now on.
+pub fn go_on(parts: &mut Parts, next: Parts)
+    ensures { parts.new ≡ next }
+{
+    drop(replace(parts, next));
+}
+
+// Makes the second memory, where there is one, the memory, once the dirty pages are copied there,
+// and answers how many they were.
+fn go_on_in_copy(second: Option<Tracked>, memory: &mut Memory) -> u64
+    requires { IfSome second (λ t. map extent t.copy ≡ map extent memory.old) }
+    ensures memory { memory.new ≡ memory_after memory.old second }
+    ensures count { result ≡ copy_count second }
+{
+    let Some(track) = second else {
+        return 0;
+    };
+    let (copy, count) = copied_last(track, memory);
+    *memory = copy;
+    count
 }
 
 // The second memory, once the dirty pages are copied there, and how many they were.

@@ -2,6 +2,7 @@ use Rattle.std.proofs.Common.{◌≡◌, Ok, ap, subst, ◌∙◌}
 use Rattle.its_plain.specs.Plain.{Plain}
 use Rattle.its_plain.specs.Regions.{savable}
 use Rattle.its_plain.specs.Saved.{moved}
+use Rattle.owned_parts.specs.Owned.{state_of_parts}
 use Rattle.owned_machine.proofs.Migrating.{lent_whole, moved_from}
 use Rattle.owned_machine.proofs.machine.Machine.migrate.Goals as goal
 
@@ -12,5 +13,8 @@ moved-requires c =
 
 pub returns : goal.returns
 returns c =
-    let h = moved_from c.self.inside.parts c.in_place.result c.in_ok-self-inside.field-0 c.in_place.ensures.state c.in_ok-self-inside.ensures in
-    (subst (λ (u : Plain). savable u ≡ Ok tt) c.self.view_is h.0, h.1.state ∙ ap moved c.self.view_is)
+    let next = c.in_ok-next.next in
+    let h = moved_from c.self.inside.parts c.in_place.result next c.in_place.ensures.state c.in_ok-next.ensures in (
+      subst (λ (u : Plain). savable u ≡ Ok tt) c.self.view_is h.0,
+      ap state_of_parts c.go_on.ensures ∙ h.1.state ∙ ap moved c.self.view_is,
+    )
