@@ -15,7 +15,7 @@ use Rattle.dirty_log.specs.declared.tracked.Tracked.{Tracked}
 use Rattle.lpi_pending.specs.InHand.{in_hand}
 use Rattle.lpi_pending.specs.declared.redist.Redist.{Redist}
 use Rattle.owned_parts.specs.Owned.{AreAllInHand, state_of, redistributor_of, redistributor_or}
-use Rattle.table_restore.specs.Outcome.{AreRestoredRedists, RestoredRedists, AreTranslatorsFrom, BegunTranslators, WhereFault, with_number}
+use Rattle.table_restore.specs.Outcome.{AreRestoredRedists, RestoredRedists, AreTranslatorsFrom, BegunTranslators, IsFirstOf, WhereFault, with_number}
 use Rattle.table_restore.specs.declared.error.RestoreError.{RestoreError}
 use Rattle.table_restore.specs.declared.error.RestoreError.TheVariants as numbered
 use Rattle.table_restore.specs.declared.error.TableError.{TableError}
@@ -83,9 +83,15 @@ module _ (l : Layout) (memory : List Window) (values : List (Option RegValues)) 
 
   -- ---- the first fault
 
-  pub translator_fault : (e : RestoreError) → BegunTranslators l.shape memory values (Err e) → WhereFault e (IsFirstFault memory values l.shape bases)
+  pub translator_fault : (e : RestoreError) → WhereFault e (IsFirstOf l.shape memory values) → WhereFault e (IsFirstFault memory values l.shape bases)
   translator_fault numbered.NoMemory h = tt
   translator_fault (numbered.Fault i f) h = of_translator i h.its f all.clear h.before h.its_are h.offends
+
+-- that of the translators
+pub first_of : (s : Shape) (memory : List Window) (values : List (Option RegValues)) (e : RestoreError) → BegunTranslators s memory values (Err e)
+    → WhereFault e (IsFirstOf s memory values)
+first_of s memory values numbered.NoMemory h = tt
+first_of s memory values (numbered.Fault i f) h = h
 
 pub redist_fault : (s : Shape) (memory : List Window) (values : List (Option RegValues)) (bases : List Bases) (e : TableError) (r : RestoreError)
     → r ≡ with_number 0 e → RestoredRedists s memory bases (Err e) → WhereFault r (IsFirstFault memory values s bases)

@@ -1,12 +1,13 @@
 //! A whole machine, restored.
 ghost use Rattle.std.specs.Prelude.{◌≡◌, ◌≤◌, ◌∷◌, [], ℕ, Some, None, IfOk, IfErr, length};
+ghost use Rattle.its_plain.specs.Saved.{track_of};
 ghost use Rattle.its_plain.specs.Sound.{IsLayout};
 ghost use Rattle.its_plain.specs.Stands.{Stands, IsFirstFault};
 ghost use Rattle.lpi_pending.specs.InHand.{in_hand};
 ghost use Rattle.owned_parts.specs.Owned.{AreAllInHand, state_of, state_of_parts};
 ghost use Rattle.owned_parts.specs.Owned.{translators_of};
 ghost use Rattle.standing_states.specs.Laws.{bases_to_restore};
-ghost use Rattle.table_restore.specs.Outcome.{IfFault, WhereFault};
+ghost use Rattle.table_restore.specs.Outcome.{AreTranslatorsFrom, IsFirstOf, IfFault, WhereFault};
 
 use crate::error::RestoreError;
 use crate::redists::redists_of;
@@ -19,16 +20,65 @@ use guest_windows::Memory;
 use its_plain::Layout;
 use lpi_pending::Redists;
 use owned_parts::{Parts, Translator};
-use std::alloc::Global;
+use std::alloc::{AllocError, Global};
 
-// What memory and register values stand for, but for the memory itself.
+// What memory and register values stand for, but for the memory itself and the redistributors.
+#[derive(Drop)]
+struct Begun {
+    layout: Layout,
+    translators: (Translator, Option<Translator>),
+    track: Option<Tracked>,
+}
+
+// The same with the redistributors.
 #[derive(Drop)]
 struct Found {
-    layout: Layout,
-    first: Translator,
-    second: Option<Translator>,
-    track: Option<Tracked>,
+    begun: Begun,
     redists: Redists,
+}
+
+// A copy of the layout, and a second memory where it says so.
+fn layout_and_track(
+    alloc: Global,
+    memory: &Memory,
+    layout: &Layout,
+) -> Result<(Layout, Option<Tracked>), AllocError>
+    ensures layout { IfOk result (λ p. p.0 ≡ layout.now) }
+    ensures track { IfOk result (λ p. p.1 ≡ track_of layout.now.track memory.now) }
+{
+    let copied = layout.copy(alloc)?;
+    let track = fresh_track(alloc, layout.track, memory)?;
+    Ok((copied, track))
+}
+
+// The call of `drop` is for the proof: what a function lets go by itself, at the end of a block, is
+// proved there anew, piece by piece.
+fn begin(
+    alloc: Global,
+    values: &[Option<RegValues>],
+    memory: &Memory,
+    layout: &Layout,
+) -> Result<Begun, RestoreError>
+    requires layout { IsLayout layout.now }
+    requires some { 1 ≤ length values.now }
+    requires most { length values.now ≤ 2 }
+    ensures layout { IfOk result (λ b. b.layout ≡ layout.now) }
+    ensures track { IfOk result (λ b. b.track ≡ track_of layout.now.track memory.now) }
+    ensures translators { IfOk result (λ b.
+        AreTranslatorsFrom layout.now.shape memory.now values.now
+        (translators_of b.translators.0 b.translators.1)) }
+    ensures fault { IfFault result (IsFirstOf layout.now.shape memory.now values.now) }
+{
+    let translators = begin_all(alloc, values, memory, layout.shape)?;
+    let Ok((layout, track)) = layout_and_track(alloc, memory, layout) else {
+        drop(translators);
+        return Err(RestoreError::NoMemory);
+    };
+    Ok(Begun {
+        layout,
+        translators,
+        track,
+    })
 }
 
 fn find(
@@ -43,8 +93,9 @@ fn find(
     requires most { length values.now ≤ 2 }
     ensures stands { IfOk result (λ f.
         Stands memory.now values.now layout.now (bases_to_restore layout.now gicr.now)
-        (state_of f.layout (translators_of f.first f.second) memory.now f.track f.redists)) }
-    ensures layout { IfOk result (λ f. f.layout ≡ layout.now) }
+        (state_of f.begun.layout (translators_of f.begun.translators.0 f.begun.translators.1)
+        memory.now f.begun.track f.redists)) }
+    ensures layout { IfOk result (λ f. f.begun.layout ≡ layout.now) }
     ensures in_hand { IfOk result (λ f. AreAllInHand layout.now.shape f.redists) }
     ensures no_others { IfOk result (λ f.
         (vcpu : ℕ) → layout.now.shape.vcpus ≤ vcpu → in_hand f.redists vcpu ≡ None) }
@@ -55,14 +106,8 @@ fn find(
         Ok(redists) => redists,
         Err(error) => return Err(error.of(0)),
     };
-    let (first, second) = begin_all(alloc, values, memory, layout.shape)?;
-    Ok(Found {
-        layout: layout.copy(alloc)?,
-        first,
-        second,
-        track: fresh_track(alloc, layout.track, memory)?,
-        redists,
-    })
+    let begun = begin(alloc, values, memory, layout)?;
+    Ok(Found { begun, redists })
 }
 
 /// The machine that memory, the values of a translator's registers and those of the redistributors'
@@ -174,11 +219,11 @@ pub fn restore_in(
 {
     match find(alloc, values, gicr, &memory, layout) {
         Ok(found) => Ok(Parts {
-            layout: found.layout,
-            first: found.first,
-            second: found.second,
+            layout: found.begun.layout,
+            first: found.begun.translators.0,
+            second: found.begun.translators.1,
             memory,
-            track: found.track,
+            track: found.begun.track,
             redists: found.redists,
         }),
         Err(error) => Err((memory, error)),

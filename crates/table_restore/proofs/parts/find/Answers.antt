@@ -12,21 +12,22 @@ returns-in-Err-clause-fault c =
     redist_fault l.shape c.args.memory.now c.args.values.now (bases_to_restore l c.args.gicr.now) c.in-Err.error c.of.result c.of.ensures
     c.in-Err.ensures.redists
 
-pub returns-in_err-first-clause-fault : goal.returns-in_err-first-clause-fault
-returns-in_err-first-clause-fault c =
+pub returns-in_err-begun-clause-fault : goal.returns-in_err-begun-clause-fault
+returns-in_err-begun-clause-fault c =
     let l = c.args.layout.now in
     let bases = bases_to_restore l c.args.gicr.now in
-    handed (λ r. IfFault r (IsFirstFault c.args.memory.now c.args.values.now l.shape bases)) c.from_residual.result c.in_err-first.field-0.0
+    handed (λ r. IfFault r (IsFirstFault c.args.memory.now c.args.values.now l.shape bases)) c.from_residual.result c.in_err-begun.field-0.0
     c.from_residual.ensures.1
     (translator_fault l c.args.memory.now c.args.values.now bases c.requires.layout.shape c.in-Ok.ensures.many c.in-Ok.redists c.in-Ok.ensures.redists
-    c.in_err-first.field-0.0 c.in_err-first.ensures)
+    c.in_err-begun.field-0.0 c.in_err-begun.ensures.fault)
 
 pub returns-clause-stands : goal.returns-clause-stands
 returns-clause-stands c =
     let l = c.args.layout.now in
+    let b = c.in_ok-begun.begun in
+    let e = c.in_ok-begun.ensures in
     stands l c.args.memory.now c.args.values.now (bases_to_restore l c.args.gicr.now) c.requires.layout.shape c.in-Ok.ensures.many c.in-Ok.redists
-    c.in-Ok.ensures.redists c.in_ok-copy.field-0 (translators_of c.in_ok-first.first c.in_ok-first.second) c.in_ok-fresh_track.field-0 c.in_ok-copy.ensures
-    c.in_ok-fresh_track.ensures c.in_ok-first.ensures
+    c.in-Ok.ensures.redists b.layout (translators_of b.translators.0 b.translators.1) b.track e.layout e.track e.translators
 
 pub returns-clause-in_hand : goal.returns-clause-in_hand
 returns-clause-in_hand c =
