@@ -178,6 +178,7 @@ impl Kept {
     pub fn forget(&mut self, address: Addr, len: u64) -> Result<(), Outside>
         ensures done { OnOk result (self.new ≡ with_machine self.old
             (written_to self.old.machine address.0 (replicate len 0))) }
+        ensures outside { IfErr result (λ e. e.0 ≡ address) }
         ensures err { OnErr result (self.new ≡ self.old) }
         ensures where_all { is_ok result ≡ inside self.old.machine.memory address.0 len }
     {
