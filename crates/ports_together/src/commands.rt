@@ -72,7 +72,9 @@ fn played<R: Wait>(
     rows: &[(Ask, Said)],
 ) -> Result<(usize, usize), MakeError> {
     let (machine, mut root) = made_of(alloc, kind)?;
-    Ok(play_both(rt, alloc, &machine, &mut root, rows))
+    let held = play_both(rt, alloc, &machine, &mut root, rows);
+    drop((machine, root));
+    Ok(held)
 }
 
 // A move and then a discard of event 3. Event 4 stays in the cache.

@@ -1,12 +1,14 @@
 //! Four threads that signal beside each other, and one that acknowledges after them.
-ghost use Rattle.std.specs.Prelude.{◌≡◌, IfOk};
+ghost use Rattle.std.specs.Prelude.{◌≡◌, IfOk, length};
 ghost use Rattle.std.specs.List.{AllByRecursion};
 ghost use Rattle.ports_together.specs.Legs.{IsSmallLeg};
+ghost use Rattle.ports_together.specs.Ready.{IsShared};
 
 use crate::made::made;
 use event_script::{Phase, Thread};
 use its_history::ThreadList;
 use its_plain::{Ack, Call, MakeError, Reply, Signal};
+use its_turns::{Machine, Root};
 use its_types::{DeviceId, EventId, Intid, Listed, Open, Placed, Vcpu};
 use script_threads::{LegEnd, run_leg};
 use std::alloc::{AllocError, Global};
@@ -41,20 +43,26 @@ fn repeated(alloc: Global, call: &Call, count: u32) -> Result<Thread, AllocError
     Ok(calls)
 }
 
+// So many threads that each make a call so often.
+fn beside(alloc: Global, threads: u32, call: &Call, count: u32) -> Result<Phase, AllocError>
+    ensures threads { IfOk result (λ phase. length phase ≡ threads) }
+    ensures calls { IfOk result (λ phase.
+        AllByRecursion (λ calls. AllByRecursion (λ c. c ≡ call.now) calls) phase) }
+{
+    let mut phase = Listed::new(alloc);
+    for _ in 0..threads {
+        phase.push(repeated(alloc, call, count)?)?;
+    }
+    Ok(phase)
+}
+
 // Four threads of 50 signals, and then one thread of two acknowledgements.
 fn leg(alloc: Global) -> Result<Vec<Phase>, AllocError>
     ensures { IfOk result (λ phases. IsSmallLeg phases.items) }
 {
-    let mut first = Listed::new(alloc);
-    first.push(repeated(alloc, &SIGNAL, 50)?)?;
-    first.push(repeated(alloc, &SIGNAL, 50)?)?;
-    first.push(repeated(alloc, &SIGNAL, 50)?)?;
-    first.push(repeated(alloc, &SIGNAL, 50)?)?;
-    let mut second = Listed::new(alloc);
-    second.push(repeated(alloc, &TAKE, 2)?)?;
     let mut phases = Vec::new(alloc);
-    phases.push(first)?;
-    phases.push(second)?;
+    phases.push(beside(alloc, 4, &SIGNAL, 50)?)?;
+    phases.push(beside(alloc, 1, &TAKE, 2)?)?;
     Ok(phases)
 }
 
@@ -92,7 +100,21 @@ fn is_whole(lists: &[ThreadList]) -> bool {
     signals.len() == 4 && each && acks.replies.as_slice() == [first, second].as_slice()
 }
 
-// The leg on a machine that is made for it.
+// The leg on this machine.
+fn ran<'a, R: Threads + Wait + Sync>(
+    rt: &R,
+    alloc: Global,
+    machine: &Machine,
+    root: &mut Root,
+    phases: &'a [Phase],
+) -> Result<LegEnd<'a>, MakeError>
+    requires shared { IsShared machine.now root.old }
+    requires leg { IsSmallLeg phases.now }
+{
+    Ok(run_leg(rt, alloc, machine, root, &Open, phases)?)
+}
+
+// The same on a machine that is made for it.
 fn ended<'a, R: Threads + Wait + Sync>(
     rt: &R,
     alloc: Global,
@@ -101,7 +123,9 @@ fn ended<'a, R: Threads + Wait + Sync>(
     requires { IsSmallLeg phases.now }
 {
     let (machine, mut root) = made(alloc, &WORDS)?;
-    Ok(run_leg(rt, alloc, &machine, &mut root, &Open, phases)?)
+    let end = ran(rt, alloc, &machine, &mut root, phases);
+    drop((machine, root));
+    end
 }
 
 #[test]

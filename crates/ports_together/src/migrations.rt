@@ -45,22 +45,37 @@ fn is_third(lists: &[Listed<Intid>]) -> bool {
     one && first.is_empty() && second.is_empty() && fourth.is_empty()
 }
 
+// The same of a machine that is done with.
+fn is_one_left(alloc: Global, machine: Machine, mut root: Root) -> bool
+    requires { IsAtRest machine root }
+{
+    let is_pending = is_one_pending(alloc, &machine, &mut root);
+    drop((machine, root));
+    is_pending
+}
+
 // Whether that LPI is pending after a migration, which is made.
 fn moved(alloc: Global) -> Result<Option<bool>, MakeError> {
     let (machine, root) = made(alloc, &ONE_DEVICE)?;
-    let Ok((machine, mut root)) = migrate(alloc, machine, root) else {
-        return Ok(None);
-    };
-    Ok(Some(is_one_pending(alloc, &machine, &mut root)))
+    match migrate(alloc, machine, root) {
+        Ok((machine, root)) => Ok(Some(is_one_left(alloc, machine, root))),
+        Err(kept) => {
+            drop(kept);
+            Ok(None)
+        }
+    }
 }
 
 // Why a migration isn't made, and whether that LPI is still pending.
 fn refused(alloc: Global) -> Result<Option<(SaveError, bool)>, MakeError> {
     let (machine, root) = made(alloc, &TWO_DEVICES)?;
-    let Err((machine, mut root, error)) = migrate(alloc, machine, root) else {
-        return Ok(None);
-    };
-    Ok(Some((error, is_one_pending(alloc, &machine, &mut root))))
+    match migrate(alloc, machine, root) {
+        Ok(next) => {
+            drop(next);
+            Ok(None)
+        }
+        Err((machine, root, error)) => Ok(Some((error, is_one_left(alloc, machine, root)))),
+    }
 }
 
 // What the first save of a machine is answered.
@@ -69,7 +84,9 @@ fn saved<R: Wait>(
     alloc: Global,
 ) -> Result<Option<Placed<Result<(), SaveFault>>>, MakeError> {
     let (machine, mut root) = made(alloc, &ONE_DEVICE)?;
-    Ok(save(rt, alloc, &machine, &mut root, &Open).ok())
+    let saved = save(rt, alloc, &machine, &mut root, &Open).ok();
+    drop((machine, root));
+    Ok(saved)
 }
 
 #[test]

@@ -172,7 +172,9 @@ fn on_a_machine<R: Threads + Wait + Sync>(
     let (machine, mut root) = made(alloc, &CONFIGURED)?;
     let first = split(&machine, &mut root);
     let second = split(&machine, &mut root);
-    Ok(overtaken(rt, alloc, &machine, first, second, gate))
+    let answers = overtaken(rt, alloc, &machine, first, second, gate);
+    drop((machine, root));
+    Ok(answers)
 }
 
 #[test]

@@ -251,19 +251,34 @@ fn play<R: Wait>(
     rows.len()
 }
 
-// How many of the rows hold on the machine as it was made, and the translators' stamps then.
-fn played<R: Wait>(rt: &R, alloc: Global, rows: &[(Ask, Said)]) -> Option<(usize, u32, u32)> {
-    let Ok((machine, mut root)) = made_pair(alloc) else {
-        return None;
-    };
-    let count = play(rt, alloc, &machine, &mut root, rows);
-    let word = look(&machine, &mut root);
+// How many of the rows hold, and the translators' stamps then.
+fn counted<R: Wait>(
+    rt: &R,
+    alloc: Global,
+    machine: &Machine,
+    root: &mut Root,
+    rows: &[(Ask, Said)],
+) -> Option<(usize, u32, u32)>
+    requires { IsRoot machine.now root.old }
+{
+    let count = play(rt, alloc, machine, root, rows);
+    let word = look(machine, root);
     if machine.translators() != 2 {
         return None;
     }
     let first = machine.stamp_of(word, 0);
     let second = machine.stamp_of(word, 1);
     Some((count, first, second))
+}
+
+// The same on a machine that is made for it.
+fn played<R: Wait>(rt: &R, alloc: Global, rows: &[(Ask, Said)]) -> Option<(usize, u32, u32)> {
+    let Ok((machine, mut root)) = made_pair(alloc) else {
+        return None;
+    };
+    let held = counted(rt, alloc, &machine, &mut root, rows);
+    drop((machine, root));
+    held
 }
 
 // The second translator leads event 3 to processor 3, and unmaps device 16.

@@ -39,9 +39,13 @@ fn closed(machine: Machine, root: Root) -> Option<Vcpu>
     requires { IsRoot machine root }
 {
     if root.out() != 0 {
+        drop((machine, root));
         return None;
     }
-    close(machine, root).first.maps.collection(Icid(1))
+    let parts = close(machine, root);
+    let target = parts.first.maps.collection(Icid(1));
+    drop(parts);
+    target
 }
 
 // ---- one thread
