@@ -39,14 +39,21 @@ const ENABLING: [Call; 4] = [
     },
 ];
 
-/// An enabled machine. `None` where there is no memory for it.
-pub fn enabled(alloc: Global) -> Option<Machine> {
-    let desc = desc(alloc).ok()?;
-    let mut machine = Machine::new(alloc, &desc).ok()?;
-    for call in &ENABLING {
-        machine.answer(alloc, call).ok()?;
+/// The machine, on which no call was made.
+pub fn new_machine(alloc: Global) -> Result<Machine, AllocError> {
+    let desc = desc(alloc)?;
+    match Machine::new(alloc, &desc) {
+        Ok(machine) => Ok(machine),
+        Err(_) => Err(AllocError),
     }
-    Some(machine)
+}
+
+/// Turns it on.
+pub fn enable(alloc: Global, machine: &mut Machine) -> Result<(), AllocError> {
+    for call in &ENABLING {
+        machine.answer(alloc, call)?;
+    }
+    Ok(())
 }
 
 fn desc(alloc: Global) -> Result<Desc, AllocError>

@@ -27,6 +27,7 @@ mod trial;
 mod trials;
 mod turning;
 
+use measure::Lap;
 use play::{Mapped, play};
 use std::alloc::Global;
 use std::process::ExitCode;
@@ -51,7 +52,13 @@ const WORDS: u8 = 2;
 
 const MEMORY: u8 = 5;
 
-// Prints what calls took, of each kind or of the one with this name.
+// Prints what a call took.
+fn print_time<R: Print>(rt: &R, name: &str, lap: &Lap) -> io::Result<()> {
+    let tenths = lap.tenths();
+    println!(rt; "{name} {}.{} ns", tenths / 10, tenths % 10)
+}
+
+// Makes calls of each kind or of the one with this name, and prints what they took.
 fn print_times<R: Clock + Print + AllocGlobal + Threads + Wait + Sync>(
     rt: &R,
     count: u32,
@@ -60,18 +67,21 @@ fn print_times<R: Clock + Print + AllocGlobal + Threads + Wait + Sync>(
     for (name, times) in ALL {
         if only.is_none_or(|only| only == name) {
             let lap = time(rt, rt.alloc(), times, count)?;
-            let tenths = lap.tenths();
-            println!(rt; "{name} {}.{} ns", tenths / 10, tenths % 10)?;
+            print_time(rt, name, &lap)?;
         }
     }
     Ok(())
+}
+
+fn print_count<R: Print>(rt: &R, name: &str, calls: u64) -> io::Result<()> {
+    println!(rt; "{name}: {calls} calls")
 }
 
 // Makes a few calls of each kind, and prints how many.
 fn print_counts<R: Clock + Print + AllocGlobal + Threads + Wait + Sync>(rt: &R) -> io::Result<()> {
     for (name, times) in ALL {
         let lap = time(rt, rt.alloc(), times, FEW)?;
-        println!(rt; "{name}: {} calls", lap.calls)?;
+        print_count(rt, name, lap.calls)?;
     }
     Ok(())
 }
@@ -156,11 +166,17 @@ fn run<R: Clock + Print + AllocGlobal + Threads + Wait + Sync>(
     }
 }
 
-fn main(rt: HostRuntime) -> io::Result<ExitCode> {
+// The words of the command line.
+fn words(rt: &HostRuntime) -> io::Result<Vec<String>> {
     let mut words = Vec::new(rt.alloc());
-    for word in env::args(&rt)? {
+    for word in env::args(rt)? {
         words.push(word)?;
     }
+    Ok(words)
+}
+
+fn main(rt: HostRuntime) -> io::Result<ExitCode> {
+    let words = words(&rt)?;
     let status = run(&rt, &words)?;
     Ok(ExitCode::from(status))
 }

@@ -2,12 +2,11 @@
 ghost use Rattle.its_bench.specs.Ready.{IsReady};
 
 use crate::measure::Lap;
-use crate::shared::{Kind, MEMORY, SINGLE, with_pass};
+use crate::shared::MEMORY;
 use guest_port::{copy, poke};
 use its_plain::{Bytes64, Reply};
 use its_turns::{Machine, Pass};
 use its_types::{Addr, Open, Placed};
-use std::alloc::Global;
 use std::io;
 use std::sync::Wait;
 use std::time::{Clock, Instant};
@@ -18,8 +17,8 @@ const WRITTEN: u64 = MEMORY + 0x10_0000;
 // How many words are written in turn: those of 16 pages.
 const WORDS: u32 = 8192;
 
-// 64 MiB.
-const LARGE: u64 = 0x400_0000;
+/// How many bytes of memory copies want: 64 MiB.
+pub const LARGE: u64 = 0x400_0000;
 
 // How many pages are written before each copy, and how many bytes stand between them.
 const PAGES: u32 = 100;
@@ -51,19 +50,8 @@ fn pokes<R: Wait>(rt: &R, machine: &Machine, pass: &mut Pass, count: u32) -> u64
     made
 }
 
-/// So many writes of eight bytes, after some that aren't timed, where there is a second memory or
-/// none.
+/// So many writes of eight bytes, after some that aren't timed.
 pub fn time_pokes<R: Clock + Wait>(
-    rt: &R,
-    alloc: Global,
-    track: bool,
-    count: u32,
-) -> io::Result<Lap> {
-    let (machine, _root, mut pass) = with_pass(alloc, Kind { track, ..SINGLE })?;
-    lap_of_pokes(rt, &machine, &mut pass, count)
-}
-
-fn lap_of_pokes<R: Clock + Wait>(
     rt: &R,
     machine: &Machine,
     pass: &mut Pass,
@@ -99,19 +87,9 @@ fn copied<R: Wait>(rt: &R, machine: &Machine, pass: &mut Pass) -> u64
     }
 }
 
-/// So many copies of a hundred pages of 64 MiB, each after they were written.
-pub fn time_copies<R: Clock + Wait>(rt: &R, alloc: Global, count: u32) -> io::Result<Lap> {
-    let kind = Kind {
-        track: true,
-        memory: LARGE,
-        ..SINGLE
-    };
-    let (machine, _root, mut pass) = with_pass(alloc, kind)?;
-    lap_of_copies(rt, &machine, &mut pass, count)
-}
-
-// The first copy takes all pages, and isn't timed.
-fn lap_of_copies<R: Clock + Wait>(
+/// So many copies of a hundred pages of 64 MiB, each after they were written. The first copy takes
+/// all pages, and isn't timed.
+pub fn time_copies<R: Clock + Wait>(
     rt: &R,
     machine: &Machine,
     pass: &mut Pass,

@@ -1,5 +1,5 @@
 //! Maps, and then signals.
-use crate::machine::{enabled, take};
+use crate::machine::{enable, new_machine, take};
 use its_command::{Command, EventIdBits, IttAddr, RdBase};
 use its_plain::{Call, Reply, Signal};
 use its_types::{DeviceId, EventId, Icid, Intid};
@@ -37,10 +37,18 @@ impl Mapped {
 
 /// How many of so many signals are delivered.
 pub fn play(alloc: Global, mapped: Mapped, count: u32) -> Result<u32, AllocError> {
-    let Some(mut machine) = enabled(alloc) else {
-        return Err(AllocError);
-    };
-    map(alloc, &mut machine, mapped)?;
+    let mut machine = new_machine(alloc)?;
+    delivered(alloc, &mut machine, mapped, count)
+}
+
+fn delivered(
+    alloc: Global,
+    machine: &mut Machine,
+    mapped: Mapped,
+    count: u32,
+) -> Result<u32, AllocError> {
+    enable(alloc, machine)?;
+    map(alloc, machine, mapped)?;
     let mut delivered: u32 = 0;
     let mut number: u32 = 1;
     for _ in 0..count {

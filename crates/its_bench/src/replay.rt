@@ -57,6 +57,14 @@ fn first_wrong(
     let Ok(mut machine) = Machine::new(alloc, desc) else {
         return Err(AllocError);
     };
+    first_other(alloc, &mut machine, entries)
+}
+
+fn first_other(
+    alloc: Global,
+    machine: &mut Machine,
+    entries: &[Option<(Call, Reply)>],
+) -> Result<Option<usize>, AllocError> {
     for (place, entry) in entries.iter().enumerate() {
         let Some((call, reply)) = entry else {
             return Ok(Some(place));

@@ -169,17 +169,6 @@ pub fn shared(alloc: Global, kind: Kind) -> Result<(Machine, Root), AllocError>
     }
 }
 
-/// The same, with a pass.
-pub fn with_pass(alloc: Global, kind: Kind) -> Result<(Machine, Root, Pass), AllocError>
-    ensures root { IfOk result (λ made. IsRoot made.0 made.1) }
-    ensures made { IfOk result (λ made. (view made.1).root.made ≡ 2) }
-    ensures pass { IfOk result (λ made. IsReady made.0 made.2) }
-{
-    let (machine, mut root) = shared(alloc, kind)?;
-    let pass = split(&machine, &mut root);
-    Ok((machine, root, pass))
-}
-
 /// A pass that is split off the root.
 pub fn split(machine: &Machine, root: &mut Root) -> Pass
     requires root { IsRoot machine.now root.old }

@@ -8,7 +8,7 @@ use crate::actors::make_each;
 use crate::asks::Ask;
 use crate::guest::{Queue, begin, mapc, mapd, mapti};
 use crate::measure::Lap;
-use crate::shared::{Kind, SINGLE, VCPUS, split, with_pass};
+use crate::shared::{VCPUS, split};
 use device_port::{Now, signal_at, try_signal, try_signal_at};
 use its_plain::Signal;
 use its_turns::{Machine, Pass, Root};
@@ -21,7 +21,13 @@ use std::{io, thread};
 
 /// The devices: each has 16 events, which go to a virtual processor of its own, and whose
 /// translations stand in 16 shards that no other device has.
-pub const DEVICES: [DeviceId; 4] = [DeviceId(16), DeviceId(32), DeviceId(48), DeviceId(64)];
+pub const DEVICES: [DeviceId; 4] = [FIRST, SECOND, DeviceId(48), DeviceId(64)];
+
+/// The first of them.
+pub const FIRST: DeviceId = DeviceId(16);
+
+/// The second of them.
+pub const SECOND: DeviceId = DeviceId(32);
 
 const EVENTS: u32 = 16;
 
@@ -147,33 +153,37 @@ fn warm<R: Wait>(rt: &R, machine: &Machine, pass: &mut Pass, its: u8)
     }
 }
 
-// Makes the calls that map the devices, and has these in the cache.
-fn map_cached<R: Wait>(rt: &R, alloc: Global, machine: &Machine, pass: &mut Pass, asks: &[Ask])
+// Maps the devices of one translator, or of two, and has these in the cache.
+fn map_cached<R: Wait>(
+    rt: &R,
+    alloc: Global,
+    machine: &Machine,
+    pass: &mut Pass,
+    two: bool,
+) -> Result<(), AllocError>
     requires { IsReady machine.now pass.old }
-    ensures { IsReady machine.now pass.new }
-{
-    make_each(rt, alloc, machine, pass, asks);
-    warm(rt, machine, pass, 0);
-    warm(rt, machine, pass, 1);
-}
-
-/// A machine of one translator or two, whose devices are mapped and in the cache, with its root
-/// and a pass.
-fn mapped<R: Wait>(rt: &R, alloc: Global, two: bool) -> Result<(Machine, Root, Pass), AllocError>
-    ensures root { IfOk result (λ m. IsRoot m.0 m.1) }
-    ensures made { IfOk result (λ m. (view m.1).root.made ≡ 2) }
-    ensures pass { IfOk result (λ m. IsReady m.0 m.2) }
+    ensures { IfOk result (λ _. IsReady machine.now pass.new) }
 {
     let asks = mapping(alloc, two)?;
-    let (machine, root, mut pass) = with_pass(alloc, Kind { two, ..SINGLE })?;
-    map_cached(rt, alloc, &machine, &mut pass, asks.as_slice());
-    Ok((machine, root, pass))
+    make_each(rt, alloc, machine, pass, asks.as_slice());
+    warm(rt, machine, pass, 0);
+    warm(rt, machine, pass, 1);
+    Ok(())
 }
 
 /// Hits of one thread, to the only translator or to the second of two.
-pub fn time_hits<R: Clock + Wait>(rt: &R, alloc: Global, two: bool, count: u32) -> io::Result<Lap> {
-    let (machine, _root, mut pass) = mapped(rt, alloc, two)?;
-    lap_of_hits(rt, &machine, &mut pass, two, count)
+pub fn time_hits<R: Clock + Wait>(
+    rt: &R,
+    alloc: Global,
+    machine: &Machine,
+    pass: &mut Pass,
+    two: bool,
+    count: u32,
+) -> io::Result<Lap>
+    requires { IsReady machine.now pass.old }
+{
+    map_cached(rt, alloc, machine, pass, two)?;
+    lap_of_hits(rt, machine, pass, two, count)
 }
 
 fn lap_of_hits<R: Clock>(
@@ -262,30 +272,20 @@ fn lanes(
 pub fn time_signals<R: Clock + Threads + Wait + Sync>(
     rt: &R,
     alloc: Global,
+    machine: &Machine,
+    root: &mut Root,
+    pass: &mut Pass,
     devices: &[DeviceId],
     two: bool,
     count: u32,
 ) -> io::Result<Lap>
-    requires { length devices.now ≤ 64 }
-{
-    let (machine, mut root, _pass) = mapped(rt, alloc, two)?;
-    lap_of_signals(rt, alloc, &machine, &mut root, devices, two, count)
-}
-
-fn lap_of_signals<R: Clock + Threads + Wait + Sync>(
-    rt: &R,
-    alloc: Global,
-    machine: &Machine,
-    root: &mut Root,
-    devices: &[DeviceId],
-    apart: bool,
-    count: u32,
-) -> io::Result<Lap>
     requires root { IsRoot machine.now root.old }
     requires made { (view root.old).root.made ≡ 2 }
+    requires pass { IsReady machine.now pass.old }
     requires few { length devices.now ≤ 64 }
 {
-    let mut lanes = lanes(alloc, machine, root, devices, apart)?;
+    map_cached(rt, alloc, machine, pass, two)?;
+    let mut lanes = lanes(alloc, machine, root, devices, two)?;
     lap_of_lanes(rt, machine, &mut lanes, count)
 }
 

@@ -91,31 +91,60 @@ fn single(alloc: Global, signals: u32) -> Result<Calls, AllocError>
     })
 }
 
-// Commands of both translators in turn, while two threads signal to each.
-fn of_two(alloc: Global, signals: u32) -> Result<Calls, AllocError>
-    ensures { IfOk result (λ c. length c.beside.items ≡ 5) }
+// The calls that map the devices of both translators, and the queues after them.
+fn map_both(alloc: Global) -> Result<(Vec<Ask>, Queue, Queue), AllocError> {
+    let (mut asks, first) = map_devices(alloc, 0)?;
+    let (others, second) = map_devices(alloc, 1)?;
+    for ask in others.as_slice() {
+        asks.push(*ask)?;
+    }
+    Ok((asks, first, second))
+}
+
+// Commands of both translators in turn, so many of each.
+fn rewriting_both(
+    alloc: Global,
+    chance: &mut Chance,
+    first: &mut Queue,
+    second: &mut Queue,
+    count: u32,
+) -> Result<Vec<Ask>, AllocError> {
+    let mut asks = Vec::new(alloc);
+    for n in 0..count {
+        rewrite(&mut asks, chance, first, n)?;
+        rewrite(&mut asks, chance, second, n)?;
+    }
+    Ok(asks)
+}
+
+// Two threads that signal to each translator, and one with its commands.
+fn beside_two(
+    alloc: Global,
+    first: &mut Queue,
+    second: &mut Queue,
+    signals: u32,
+) -> Result<Vec<Vec<Ask>>, AllocError>
+    ensures { IfOk result (λ v. length v.items ≡ 5) }
 {
     let mut chance = Chance::new(2);
-    let (mut first, mut queue) = map_devices(alloc, 0)?;
-    let (others, mut second) = map_devices(alloc, 1)?;
-    for ask in others.as_slice() {
-        first.push(*ask)?;
-    }
     let quarter = signals / 4;
     let mut beside = Vec::new(alloc);
     beside.push(chance.signals(alloc, 0, quarter)?)?;
     beside.push(chance.signals(alloc, 0, quarter)?)?;
     beside.push(chance.signals(alloc, 1, quarter)?)?;
     beside.push(chance.signals(alloc, 1, quarter)?)?;
-    let mut commands = Vec::new(alloc);
-    for n in 0..signals / 16 {
-        rewrite(&mut commands, &mut chance, &mut queue, n)?;
-        rewrite(&mut commands, &mut chance, &mut second, n)?;
-    }
-    beside.push(commands)?;
+    beside.push(rewriting_both(alloc, &mut chance, first, second, signals / 16)?)?;
+    Ok(beside)
+}
+
+// Commands of both translators, while two threads signal to each.
+fn of_two(alloc: Global, signals: u32) -> Result<Calls, AllocError>
+    ensures { IfOk result (λ c. length c.beside.items ≡ 5) }
+{
+    let (first, mut queue, mut second) = map_both(alloc)?;
     Ok(Calls {
         first,
-        beside,
+        beside: beside_two(alloc, &mut queue, &mut second, signals)?,
         last: showing(alloc, true)?,
     })
 }

@@ -1,12 +1,13 @@
 //! A device with many events: signals by the maps, acknowledgements, steps, saves, migrations.
-ghost use Rattle.std.specs.Prelude.{◌<◌, ◌≤◌, IfOk};
+ghost use Rattle.std.specs.Prelude.{◌^◌, ◌<◌, ◌≤◌};
+ghost use Rattle.its_turns.specs.Machines.{view};
 ghost use Rattle.its_bench.specs.Ready.{IsReady, IsRoot};
 
 use crate::actors::make_each;
 use crate::asks::Ask;
 use crate::guest::{Queue, begin, enable, mapc, mapd_wide, mapti};
 use crate::measure::Lap;
-use crate::shared::{SINGLE, with_pass};
+use crate::shared::{SINGLE, shared, split};
 use crate::signals::signals;
 use cmd_engine::step;
 use its_migrate::{migrate, save};
@@ -43,21 +44,22 @@ fn mapping(alloc: Global, bits: u8) -> Result<(Vec<Ask>, Queue), AllocError>
     Ok((asks, queue))
 }
 
-// A machine with that device, with its root, a pass and its queue.
-fn with_device<R: Wait>(
+// Maps that device, and answers the queue after it.
+fn map_device<R: Wait>(
     rt: &R,
     alloc: Global,
+    machine: &Machine,
+    pass: &mut Pass,
     bits: u8,
-) -> Result<(Machine, Root, Pass, Queue), AllocError>
+) -> Result<Queue, AllocError>
+    requires ready { IsReady machine.now pass.old }
     requires least { 1 ≤ bits }
     requires most { bits ≤ 16 }
-    ensures root { IfOk result (λ m. IsRoot m.0 m.1) }
-    ensures pass { IfOk result (λ m. IsReady m.0 m.2) }
+    ensures { IsReady machine.now pass.new }
 {
     let (asks, queue) = mapping(alloc, bits)?;
-    let (machine, root, mut pass) = with_pass(alloc, SINGLE)?;
-    make_each(rt, alloc, &machine, &mut pass, asks.as_slice());
-    Ok((machine, root, pass, queue))
+    make_each(rt, alloc, machine, pass, asks.as_slice());
+    Ok(queue)
 }
 
 // Steps, so many. Answers how many commands ran.
@@ -90,7 +92,7 @@ fn map_events<R: Clock + Wait>(
     events: u32,
 ) -> io::Result<Lap>
     requires { IsReady machine.now pass.old }
-    ensures { IfOk result (λ _. IsReady machine.now pass.new) }
+    ensures { IsReady machine.now pass.new }
 {
     let mut lap = Lap::new();
     let mut asks = Vec::new(alloc);
@@ -119,46 +121,46 @@ fn add_steps<R: Clock + Wait>(
     lap: &mut Lap,
 ) -> io::Result<()>
     requires { IsReady machine.now pass.old }
-    ensures { IfOk result (λ _. IsReady machine.now pass.new) }
+    ensures { IsReady machine.now pass.new }
 {
     let since = Instant::now(rt)?;
     let ran = steps(rt, machine, pass, count);
     lap.add(rt, &since, ran)
 }
 
-// A machine whose device has so many EventID bits, and as many events as these allow, with its
-// root and a pass.
-fn with_events<R: Clock + Wait>(
+/// Maps a device with so many EventID bits and as many events as these allow, and answers how long
+/// the steps took that mapped the events.
+pub fn time_steps<R: Clock + Wait>(
     rt: &R,
     alloc: Global,
+    machine: &Machine,
+    pass: &mut Pass,
     bits: u8,
-) -> io::Result<(Machine, Root, Pass)>
+) -> io::Result<Lap>
+    requires ready { IsReady machine.now pass.old }
     requires least { 1 ≤ bits }
     requires most { bits ≤ 16 }
-    ensures root { IfOk result (λ m. IsRoot m.0 m.1) }
-    ensures pass { IfOk result (λ m. IsReady m.0 m.2) }
+    ensures { IsReady machine.now pass.new }
 {
-    let (machine, root, mut pass, queue) = with_device(rt, alloc, bits)?;
-    map_events(rt, alloc, &machine, &mut pass, queue, 1 << bits)?;
-    Ok((machine, root, pass))
-}
-
-/// The steps that map as many events as so many bits allow.
-pub fn time_steps<R: Clock + Wait>(rt: &R, alloc: Global, bits: u8) -> io::Result<Lap>
-    requires least { 1 ≤ bits }
-    requires most { bits ≤ 16 }
-{
-    let (machine, _root, mut pass, queue) = with_device(rt, alloc, bits)?;
-    map_events(rt, alloc, &machine, &mut pass, queue, 1 << bits)
+    let queue = map_device(rt, alloc, machine, pass, bits)?;
+    map_events(rt, alloc, machine, pass, queue, 1 << bits)
 }
 
 /// So many saves, after one that isn't timed, with as many events mapped as so many bits allow.
-pub fn time_saves<R: Clock + Wait>(rt: &R, alloc: Global, bits: u8, count: u32) -> io::Result<Lap>
+pub fn time_saves<R: Clock + Wait>(
+    rt: &R,
+    alloc: Global,
+    machine: &Machine,
+    pass: &mut Pass,
+    bits: u8,
+    count: u32,
+) -> io::Result<Lap>
+    requires ready { IsReady machine.now pass.old }
     requires least { 1 ≤ bits }
     requires most { bits ≤ 16 }
 {
-    let (machine, _root, mut pass) = with_events(rt, alloc, bits)?;
-    lap_of_saves(rt, alloc, &machine, &mut pass, count)
+    time_steps(rt, alloc, machine, pass, bits)?;
+    lap_of_saves(rt, alloc, machine, pass, count)
 }
 
 fn lap_of_saves<R: Clock + Wait>(
@@ -190,35 +192,37 @@ fn saves<R: Wait>(rt: &R, alloc: Global, machine: &Machine, pass: &mut Pass, cou
     saved
 }
 
-/// A migration, with as many events mapped as so many bits allow.
+/// A migration, with as many events mapped as so many bits allow. It is made on a machine of its
+/// own, also where not all are mapped, and then isn't told.
 pub fn time_migration<R: Clock + Wait>(rt: &R, alloc: Global, bits: u8) -> io::Result<Lap>
     requires least { 1 ≤ bits }
     requires most { bits ≤ 16 }
 {
-    let (machine, mut root, pass) = with_events(rt, alloc, bits)?;
-    join(&machine, &mut root, pass);
-    lap_of_migration(rt, alloc, machine, root)
+    let (machine, mut root) = shared(alloc, SINGLE)?;
+    let since = mapped_at(rt, alloc, &machine, &mut root, bits);
+    let calls = migrated(alloc, machine, root);
+    Lap::since(rt, &since?, calls)
 }
 
-fn join(machine: &Machine, root: &mut Root, pass: Pass)
-    requires root { IsRoot machine.now root.old }
-    requires pass { IsReady machine.now pass }
-    ensures { IsRoot machine.now root.new }
-{
-    root.join(machine, pass);
-}
-
-fn lap_of_migration<R: Clock>(
+// Maps as many events as so many bits allow, by a pass that is joined, and answers when it was.
+fn mapped_at<R: Clock + Wait>(
     rt: &R,
     alloc: Global,
-    machine: Machine,
-    root: Root,
-) -> io::Result<Lap>
-    requires { IsRoot machine root }
+    machine: &Machine,
+    root: &mut Root,
+    bits: u8,
+) -> io::Result<Instant>
+    requires root { IsRoot machine.now root.old }
+    requires few { (view root.old).root.made < 2 ^ 32 }
+    requires least { 1 ≤ bits }
+    requires most { bits ≤ 16 }
+    ensures { IsRoot machine.now root.new }
 {
-    let since = Instant::now(rt)?;
-    let calls = migrated(alloc, machine, root);
-    Lap::since(rt, &since, calls)
+    let mut pass = split(machine, root);
+    let mapped = time_steps(rt, alloc, machine, &mut pass, bits);
+    root.join(machine, pass);
+    mapped?;
+    Instant::now(rt)
 }
 
 // How many migrations were made: one or none.
@@ -228,20 +232,25 @@ fn migrated(alloc: Global, machine: Machine, root: Root) -> u64
     if root.out() != 0 {
         return 0;
     }
-    match migrate(alloc, machine, root) {
-        Ok(_) => 1,
-        Err(_) => 0,
-    }
+    u64::from(migrate(alloc, machine, root).is_ok())
 }
 
 /// Signals by the maps: every event in turn, and again each time the translator was turned off and
 /// on, so that no translation is current. At least so many.
-pub fn time_misses<R: Clock + Wait>(rt: &R, alloc: Global, bits: u8, count: u32) -> io::Result<Lap>
+pub fn time_misses<R: Clock + Wait>(
+    rt: &R,
+    alloc: Global,
+    machine: &Machine,
+    pass: &mut Pass,
+    bits: u8,
+    count: u32,
+) -> io::Result<Lap>
+    requires ready { IsReady machine.now pass.old }
     requires least { 1 ≤ bits }
     requires most { bits ≤ 16 }
 {
-    let (machine, _root, mut pass) = with_events(rt, alloc, bits)?;
-    lap_of_misses(rt, alloc, &machine, &mut pass, 1 << bits, count)
+    time_steps(rt, alloc, machine, pass, bits)?;
+    lap_of_misses(rt, alloc, machine, pass, 1 << bits, count)
 }
 
 fn lap_of_misses<R: Clock + Wait>(
@@ -269,12 +278,20 @@ fn lap_of_misses<R: Clock + Wait>(
 }
 
 /// Acknowledgements of all events' LPIs, each time they were signalled. At least so many.
-pub fn time_takes<R: Clock + Wait>(rt: &R, alloc: Global, bits: u8, count: u32) -> io::Result<Lap>
+pub fn time_takes<R: Clock + Wait>(
+    rt: &R,
+    alloc: Global,
+    machine: &Machine,
+    pass: &mut Pass,
+    bits: u8,
+    count: u32,
+) -> io::Result<Lap>
+    requires ready { IsReady machine.now pass.old }
     requires least { 1 ≤ bits }
     requires most { bits ≤ 15 }
 {
-    let (machine, _root, mut pass) = with_events(rt, alloc, bits)?;
-    lap_of_takes(rt, &machine, &mut pass, 1 << bits, count)
+    time_steps(rt, alloc, machine, pass, bits)?;
+    lap_of_takes(rt, machine, pass, 1 << bits, count)
 }
 
 fn lap_of_takes<R: Clock + Wait>(

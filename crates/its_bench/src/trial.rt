@@ -36,7 +36,22 @@ pub struct Checked {
     pub wrong: Option<usize>,
 }
 
-// A thread for each list of calls, with a pass of its own.
+// The lists of the calls: those that are made first, those that are made last, and the others.
+fn lists(calls: Calls) -> Result<Vec<Vec<Ask>>, AllocError>
+    requires few { length calls.beside.items ≤ 64 }
+    ensures few { IfOk result (λ v. length v.items ≤ 66) }
+{
+    let Calls {
+        first,
+        mut beside,
+        last,
+    } = calls;
+    beside.insert(0, last)?;
+    beside.insert(0, first)?;
+    Ok(beside)
+}
+
+// An actor for each list of calls, with a pass of its own.
 fn actors(
     alloc: Global,
     machine: &Machine,
@@ -44,8 +59,8 @@ fn actors(
     lists: Vec<Vec<Ask>>,
 ) -> Result<Vec<Actor>, AllocError>
     requires root { IsRoot machine.now root.old }
-    requires made { (view root.old).root.made ≡ 3 }
-    requires few { length lists.items ≤ 64 }
+    requires made { (view root.old).root.made ≡ 1 }
+    requires few { length lists.items ≤ 66 }
     ensures { IfOk result (λ v. AllByRecursion (λ a. IsReady machine.now a.pass) v.items) }
 {
     let mut actors = Vec::new(alloc);
@@ -53,6 +68,36 @@ fn actors(
         actors.push(Actor::new(alloc, split(machine, root), asks)?)?;
     }
     Ok(actors)
+}
+
+// Has the first actor make its calls, then all but the second beside each other, and last the
+// second. Answers how many signals of the others the cache alone translated.
+fn act_in_turn<R: Threads + Wait + Sync>(
+    rt: &R,
+    alloc: Global,
+    machine: &Machine,
+    actors: &mut [Actor],
+) -> u64
+    requires { AllByRecursion (λ a. IsReady machine.now a.pass) actors.old }
+{
+    let Some((before, others)) = actors.split_first_mut() else {
+        return 0;
+    };
+    let Some((after, beside)) = others.split_first_mut() else {
+        return 0;
+    };
+    act(rt, alloc, machine, before);
+    act_all(rt, alloc, machine, beside);
+    act(rt, alloc, machine, after);
+    hits(beside)
+}
+
+fn hits(actors: &[Actor]) -> u64 {
+    let mut hits = 0u64;
+    for actor in actors {
+        hits = hits.wrapping_add(actor.hits);
+    }
+    hits
 }
 
 // What threads did.
@@ -68,28 +113,14 @@ fn make_calls<R: Threads + Wait + Sync>(
     alloc: Global,
     machine: &Machine,
     root: &mut Root,
-    calls: Calls,
+    lists: Vec<Vec<Ask>>,
 ) -> Result<Done, AllocError>
     requires root { IsRoot machine.now root.old }
     requires made { (view root.old).root.made ≡ 1 }
-    requires few { length calls.beside.items ≤ 64 }
+    requires few { length lists.items ≤ 66 }
 {
-    let Calls {
-        first,
-        beside,
-        last,
-    } = calls;
-    let mut before = Actor::new(alloc, split(machine, root), first)?;
-    let mut after = Actor::new(alloc, split(machine, root), last)?;
-    let mut actors = actors(alloc, machine, root, beside)?;
-    act(rt, alloc, machine, &mut before);
-    act_all(rt, alloc, machine, &mut actors);
-    act(rt, alloc, machine, &mut after);
-    let hits = actors
-        .iter()
-        .fold(0, |sum: u64, a| sum.wrapping_add(a.hits));
-    actors.push(before)?;
-    actors.push(after)?;
+    let mut actors = actors(alloc, machine, root, lists)?;
+    let hits = act_in_turn(rt, alloc, machine, &mut actors);
     Ok(Done { actors, hits })
 }
 
@@ -98,12 +129,23 @@ fn run<R: Threads + Wait + Sync>(
     rt: &R,
     alloc: Global,
     kind: Kind,
-    calls: Calls,
+    lists: Vec<Vec<Ask>>,
 ) -> Result<Done, AllocError>
-    requires few { length calls.beside.items ≤ 64 }
+    requires few { length lists.items ≤ 66 }
 {
     let (machine, mut root) = shared(alloc, kind)?;
-    make_calls(rt, alloc, &machine, &mut root, calls)
+    make_calls(rt, alloc, &machine, &mut root, lists)
+}
+
+// What the machine of one caller says of what threads did.
+fn compared(alloc: Global, kind: Kind, done: &Done) -> Result<Checked, AllocError> {
+    let desc = desc(alloc, kind)?;
+    let (places, wrong) = replay(alloc, &desc, &done.actors)?;
+    Ok(Checked {
+        places,
+        hits: done.hits,
+        wrong,
+    })
 }
 
 /// Makes the calls on a new machine, and checks each reply.
@@ -115,12 +157,6 @@ pub fn trial<R: Threads + Wait + Sync>(
 ) -> Result<Checked, AllocError>
     requires few { length calls.beside.items ≤ 64 }
 {
-    let desc = desc(alloc, kind)?;
-    let Done { actors, hits } = run(rt, alloc, kind, calls)?;
-    let (places, wrong) = replay(alloc, &desc, &actors)?;
-    Ok(Checked {
-        places,
-        hits,
-        wrong,
-    })
+    let done = run(rt, alloc, kind, lists(calls)?)?;
+    compared(alloc, kind, &done)
 }

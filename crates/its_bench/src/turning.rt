@@ -68,26 +68,43 @@ fn turning(alloc: Global, turns: u32) -> Result<Vec<Ask>, AllocError> {
     Ok(asks)
 }
 
-fn calls(alloc: Global, signals: u32) -> Result<Calls, AllocError>
-    ensures { IfOk result (λ c. length c.beside.items ≡ 3) }
-{
-    let mut first = Vec::new(alloc);
-    begin(&mut first)?;
-    let (mapping, _) = map_devices(alloc, 0)?;
-    for ask in mapping.as_slice() {
-        first.push(*ask)?;
+// Gives the processors their tables, and maps the devices.
+fn mapping(alloc: Global) -> Result<Vec<Ask>, AllocError> {
+    let mut asks = Vec::new(alloc);
+    begin(&mut asks)?;
+    let (others, _) = map_devices(alloc, 0)?;
+    for ask in others.as_slice() {
+        asks.push(*ask)?;
     }
+    Ok(asks)
+}
+
+// Two threads that signal, and one that turns LPIs off and on.
+fn beside(alloc: Global, signals: u32) -> Result<Vec<Vec<Ask>>, AllocError>
+    ensures { IfOk result (λ v. length v.items ≡ 3) }
+{
     let half = signals / 2;
     let mut beside = Vec::new(alloc);
     beside.push(sending(alloc, half)?)?;
     beside.push(sending(alloc, signals - half)?)?;
     beside.push(turning(alloc, signals / SIGNALS_A_TURN)?)?;
-    let mut last = Vec::new(alloc);
-    take_all(&mut last, 33)?;
+    Ok(beside)
+}
+
+// What is pending at each virtual processor.
+fn taking(alloc: Global) -> Result<Vec<Ask>, AllocError> {
+    let mut asks = Vec::new(alloc);
+    take_all(&mut asks, 33)?;
+    Ok(asks)
+}
+
+fn calls(alloc: Global, signals: u32) -> Result<Calls, AllocError>
+    ensures { IfOk result (λ c. length c.beside.items ≡ 3) }
+{
     Ok(Calls {
-        first,
-        beside,
-        last,
+        first: mapping(alloc)?,
+        beside: beside(alloc, signals)?,
+        last: taking(alloc)?,
     })
 }
 
