@@ -8,7 +8,9 @@ use Rattle.its_types.specs.declared.machine.Shape.{Shape}
 use Rattle.its_types.specs.declared.translation.Bases.{Bases}
 use Rattle.its_types.specs.declared.translation.Propbaser.{Propbaser}
 use Rattle.its_types.specs.declared.translation.Pendbaser.{Pendbaser}
-use Rattle.gicr_regs.specs.Redistributors.{Redistributor, has_tables, off_redistributor, pending_in, config_in, reread_at, reloaded}
+use Rattle.gicr_regs.specs.Redistributors.{Redistributor, ConfState, conf_of, with_conf, has_tables, off_redistributor, pending_in, config_in, reread_at}
+unfoldable use Rattle.gicr_regs.specs.Redistributors.{conf_reread_at}
+use Rattle.gicr_regs.specs.Redistributors.{reloaded, conf_reloaded}
 use Rattle.gicr_regs.specs.declared.values.GicrRegisters.{GicrRegisters}
 use Rattle.gicr_regs.specs.declared.values.GicrValues.{GicrValues}
 use Rattle.gicr_regs.specs.declared.write.GicrWrite.{GicrWrite}
@@ -33,9 +35,10 @@ propbaser_value p = p.table.0 + p.id_bits
 abbrev pub pendbaser_value : Pendbaser → ℕ
 pendbaser_value p = p.table.0
 
--- What a read has where LPIs can be turned off: bit 1 of GICR_CTLR, which says so, and in both bases bits 11 to 7, Inner Shareable and write-back
+-- What a read has for a Linux guest: in GICR_CTLR bit 1 (CES), since LPIs can be turned off, and bit 2 (IR), since GICR_INVLPIR and GICR_INVALLR are
+-- there; and in both bases bits 11 to 7, Inner Shareable and write-back
 abbrev pub shown_ctlr : Bool → ℕ
-shown_ctlr linux = if linux then 0x2 else 0
+shown_ctlr linux = if linux then 0x6 else 0
 
 abbrev pub shown_base : Bool → ℕ
 shown_base linux = if linux then 0x780 else 0
@@ -126,17 +129,45 @@ Sets P writes.RereadAll = Unit {0}
 
 -- ---- what a write does
 
+-- it turns LPIs on or off, so it changes what is pending too
+abbrev pub changes_pending : GicrWrite → Bool
+changes_pending writes.Enable = true
+changes_pending writes.Disable = true
+changes_pending writes.Ignored = false
+changes_pending (writes.SetBases b) = false
+changes_pending (writes.Reread intid) = false
+changes_pending writes.RereadAll = false
+
+-- it reads the redistributor's tables
+abbrev pub reads_tables : GicrWrite → Bool
+reads_tables writes.Enable = true
+reads_tables (writes.Reread intid) = true
+reads_tables writes.RereadAll = true
+reads_tables writes.Ignored = false
+reads_tables (writes.SetBases b) = false
+reads_tables writes.Disable = false
+
 -- LPIs are on: the configuration is read, and the pending bits where Pending Table Zero isn't set
 unfoldable pub turned_on : Shape → List Window → Redistributor → Redistributor
 turned_on s memory r = record {
   bases = record r.bases { on = true };
   pending = if r.bases.pend.ptz then r.pending else pending_in s.lpi_bits memory r.bases.pend.table.0;
-  config = config_in s memory r;
+  accepts = true;
+  config = config_in s memory (conf_of r);
 }
 
 -- LPIs are off: none is pending, and the bases stay and can be written
 abbrev pub turned_off : Shape → Redistributor → Redistributor
 turned_off s r = off_redistributor s (record r.bases { on = false })
+
+-- what a write does that changes nothing of what is pending
+unfoldable pub conf_done_by : Shape → List Window → GicrWrite → ConfState → ConfState
+conf_done_by s memory (writes.SetBases b) c = record c { bases = b }
+conf_done_by s memory (writes.Reread intid) c = if is_lpi s.lpi_bits intid.0 then conf_reread_at memory intid.0 c else c
+conf_done_by s memory writes.RereadAll c = conf_reloaded s memory c
+conf_done_by s memory writes.Ignored c = c
+conf_done_by s memory writes.Enable c = c
+conf_done_by s memory writes.Disable c = c
 
 unfoldable pub done_by : Shape → List Window → GicrWrite → Redistributor → Redistributor
 done_by s memory writes.Ignored r = r
@@ -175,6 +206,16 @@ WritesKeepBits = (b : Bases) (off size value : ℕ) → AreKept b → Sets AreKe
 -- so do values that are restored
 abbrev pub RestoresKeepBits : Type 0
 RestoresKeepBits = (v : GicrRegisters) → AreKept (restored_bases v)
+
+-- a write that turns LPIs neither on nor off changes the registers and the configuration alone, and goes by them alone
+abbrev pub WritesSplit : Type 0
+WritesSplit = (s : Shape) (memory : List Window) (w : GicrWrite) (r : Redistributor) → changes_pending w ≡ false
+    → done_by s memory w r ≡ with_conf (conf_done_by s memory w (conf_of r)) r
+
+-- one that doesn't read the tables does the same whatever memory has
+abbrev pub WritesLookAway : Type 0
+WritesLookAway = (s : Shape) (memory other : List Window) (w : GicrWrite) (r : Redistributor) → reads_tables w ≡ false
+    → done_by s memory w r ≡ done_by s other w r
 
 -- registers with kept bits come back from the values that a restore takes
 abbrev pub ValuesComeBack : Type 0

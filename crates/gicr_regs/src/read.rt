@@ -7,7 +7,8 @@ use its_types::{Bases, Pendbaser, Propbaser, high_half, low_half};
 
 /// A read of `size` bytes at an offset of the LPI registers: of 8 bytes a base, of 4 GICR_CTLR or
 /// half of a base. Everything else reads zero, as Pending Table Zero does. With `linux` GICR_CTLR
-/// says that LPIs can be turned off, and both bases have the attributes that Linux looks at.
+/// says that LPIs can be turned off and that GICR_INVLPIR and GICR_INVALLR are there, and both bases
+/// have the attributes that Linux looks at.
 #[tactic(auto, unfolding(crate::specs::Registers::read_gicr))]
 pub fn read_gicr(linux: bool, bases: &Bases, off: u32, size: u8) -> u64
     requires { spec.AreLow bases.now }
@@ -47,12 +48,12 @@ fn read_64(linux: bool, bases: &Bases, off: u32) -> u64
     }
 }
 
-// Bit 1 of GICR_CTLR: LPIs can be turned off.
+// Bits 1 and 2 of GICR_CTLR: LPIs can be turned off, and single ones read again.
 fn shown_ctlr(linux: bool) -> u32
     ensures shown { result ≡ spec.shown_ctlr linux }
-    ensures low { result ≤ 2 }
+    ensures low { result ≤ 6 }
 {
-    if linux { 0x2 } else { 0 }
+    if linux { 0x6 } else { 0 }
 }
 
 // Bits 11 to 7 of both bases: Inner Shareable and write-back.

@@ -3,8 +3,8 @@ use Rattle.std.specs.Prelude.{ℕ, ◌^◌, Bool, ◌&&◌, ◌==◌, nat_lt, na
 use Rattle.std.specs.Prelude.{filter}
 use Rattle.std.specs.Option.{ok_or}
 use Rattle.std.specs.FinMap.{entries}
-pub use Rattle.gicr_regs.specs.Redistributors.{all_reread_at}
-unfoldable pub use Rattle.gicr_regs.specs.Redistributors.{reread_at}
+pub use Rattle.gicr_regs.specs.Redistributors.{reread_at, all_reread_at, conf_all_reread_at}
+unfoldable pub use Rattle.gicr_regs.specs.Redistributors.{conf_reread_at}
 use Rattle.gits_regs.specs.Registers.{collection_places}
 use Rattle.baser_place.specs.Places.{device_place}
 use Rattle.its_command.specs.declared.command.Command.{Command}

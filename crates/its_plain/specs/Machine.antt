@@ -126,7 +126,7 @@ filled memory n (f ∷ fills) = ok_or (write_at memory f.addr.0 f.bytes) (Bytes 
 
 -- nothing is pending
 abbrev pub idle_redistributor : List ℕ → Bases → Redistributor
-idle_redistributor config bases = record { bases = bases; pending = []; config = config }
+idle_redistributor config bases = record { bases = bases; pending = []; accepts = bases.on; config = config }
 
 -- nothing pending, and the configuration as memory has it; or LPIs off, where the guest programs the tables
 abbrev pub first_redistributors : Shape → List Window → LpiTables → Result (List Redistributor) DescFault

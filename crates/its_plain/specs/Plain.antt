@@ -10,6 +10,7 @@ use Rattle.its_types.specs.Maps.{Maps, no_maps, maps_code}
 use Rattle.its_types.specs.Lpis.{bases_code}
 pub use Rattle.its_types.specs.Lpis.{no_bases}
 pub use Rattle.gicr_regs.specs.Redistributors.{Redistributor, redistributor_code, no_redistributor}
+pub use Rattle.gicr_regs.specs.Redistributors.{ConfState, PendState, conf_of, pend_of, with_conf, with_pend, joined}
 pub use Rattle.its_plain.specs.declared.layout.Layout.{Layout}
 use Rattle.its_types.specs.declared.machine.Shape.{Shape}
 use Rattle.its_types.specs.declared.machine.Profile.{Profile}
@@ -53,7 +54,7 @@ pending_of u vcpu = (redistributor u vcpu).pending
 
 -- whether a virtual processor's LPIs are on
 abbrev pub is_on : Plain → ℕ → Bool
-is_on u vcpu = (redistributor u vcpu).bases.on
+is_on u vcpu = (redistributor u vcpu).accepts
 
 abbrev pub with_translator : Plain → ℕ → Translator → Plain
 with_translator u i t = record u { translators = slice_set u.translators i t }

@@ -77,6 +77,8 @@ pub record IsRedistributor (l : Layout) (memory : List Window) (vcpu : ℕ) (r :
   pub rising : IsStrictlyIncreasing r.pending
   pub lpis : AllByRecursion (λ intid. is_lpi l.shape.lpi_bits intid ≡ true) r.pending
   pub config : length r.config ≡ lpi_count l.shape.lpi_bits
+  -- LPIs are taken where they are on
+  pub accepts : r.accepts ≡ r.bases.on
   pub tables : r.bases.on ≡ true → HasTables l.shape memory r.bases
   pub off_pending : r.bases.on ≡ false → r.pending ≡ []
   pub off_config : r.bases.on ≡ false → r.config ≡ replicate (lpi_count l.shape.lpi_bits) 0

@@ -48,6 +48,7 @@ pub record ArePendingIn (lpi_bits : ℕ) (memory : List Window) (base : ℕ) (pe
 -- what memory says of a redistributor with these bases
 pub record IsRedistributorIn (s : Shape) (memory : List Window) (b : Bases) (r : Redistributor) : Type 0 where
   pub bases : r.bases ≡ b
+  pub accepts : r.accepts ≡ b.on
   pub config : b.on ≡ true → read_at memory b.prop.table.0 (lpi_count s.lpi_bits) ≡ Some r.config
   pub pending : b.on ≡ true → ArePendingIn s.lpi_bits memory b.pend.table.0 r.pending
   pub off_config : b.on ≡ false → r.config ≡ replicate (lpi_count s.lpi_bits) 0

@@ -29,8 +29,11 @@ pub enum Part {
     Mem,
     /// A shard of a translator's cache.
     Shard(u8, u32),
-    /// The redistributor of a virtual processor.
-    Redist(Vcpu),
+    /// The LPI registers of a virtual processor's redistributor, and the configuration that it has
+    /// read.
+    Conf(Vcpu),
+    /// Its pending LPIs, and whether its LPIs are on.
+    Pend(Vcpu),
 }
 
 /// A reply with its place in the history, counted from 0.
