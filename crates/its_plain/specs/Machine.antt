@@ -1,6 +1,6 @@
 -- The machine that a description makes, or why it makes none.
 use Rattle.std.specs.Prelude.{◌≡◌, ◌≤◌, ℕ, suc, ◌+◌, ◌-◌, ◌^◌, length, replicate, slice_get, sum, Bool, true, false, not, ◌&&◌, nat_lt, nat_le}
-use Rattle.std.specs.Prelude.{if◌then◌else◌, List, [], ◌∷◌, map, Some, None, Result, Ok, Err}
+use Rattle.std.specs.Prelude.{if◌then◌else◌, List, [], ◌∷◌, ◌++◌, map, Some, None, Result, Ok, Err}
 use Rattle.std.specs.List.{list_any}
 use Rattle.std.specs.Option.{ok_or}
 use Rattle.guest_windows.specs.Windows.{Window, are_windows, zeros, inside, read_at, write_at}
@@ -97,12 +97,18 @@ share v w = nat_lt v.0 (w.0 + w.1) && nat_lt w.0 (v.0 + v.1)
 abbrev pub frames_fit : List (ℕ × ℕ) → Addr → Bool
 frames_fit taken base = nat_le (base.0 + frames_size) (2 ^ 52) && not (list_any (share (base.0, frames_size)) taken)
 
--- each translator's frames fit beside the windows and the frames before them, or the first whose frames don't
+-- the frames of those that have some
+abbrev pub frames_of : List Its → List (ℕ × ℕ)
+frames_of [] = []
+frames_of (t ∷ ts) = elim t.frames [ None ↦ frames_of ts | Some base ↦ (base.0, frames_size) ∷ frames_of ts ]
+
+-- each translator's frames fit beside the windows and the frames of the others, or the first whose frames don't: those after it are looked at, since those
+-- before it were looked at beside it
 abbrev pub all_frames_fit : List (ℕ × ℕ) → ℕ → List Its → Result (Unit {0}) DescFault
-all_frames_fit taken i [] = Ok tt
-all_frames_fit taken i (t ∷ ts) = elim t.frames [
-  | None ↦ all_frames_fit taken (suc i) ts
-  | Some base ↦ if frames_fit taken base then all_frames_fit ((base.0, frames_size) ∷ taken) (suc i) ts else Err (Frames i)
+all_frames_fit windows i [] = Ok tt
+all_frames_fit windows i (t ∷ ts) = elim t.frames [
+  | None ↦ all_frames_fit windows (suc i) ts
+  | Some base ↦ if frames_fit (frames_of ts ++ windows) base then all_frames_fit windows (suc i) ts else Err (Frames i)
 ]
 
 -- a number of both
