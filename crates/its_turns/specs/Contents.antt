@@ -1,7 +1,8 @@
 -- What the values in slots stand for.
 use Rattle.std.specs.Prelude.{ℕ, ◌*◌, List, [], ◌∷◌}
 use mathlib.Core.Option.{Option, none, some}
-use Rattle.lpi_pending.specs.InHand.{conf_state, pend_state, HasLpisOfConf, HasLpisOfPend}
+use Rattle.lpi_config.specs.Conf.{conf_state}
+use Rattle.lpi_pending.specs.InHand.{pend_state, HasLpisOfConf, HasLpisOfPend}
 use Rattle.owned_parts.specs.Owned.{translator_of}
 use Rattle.its_steps.specs.Parts.{Setup, index_of}
 use Rattle.its_steps.specs.Contents.{Content, Held}

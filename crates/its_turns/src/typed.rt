@@ -1,7 +1,8 @@
 //! Parts taken as what they are.
 ghost use Rattle.std.specs.Prelude.{◌≡◌, ◌<◌, MatchResult};
 ghost use Rattle.its_types.specs.declared.machine.Part.TheVariants as part;
-ghost use Rattle.lpi_pending.specs.InHand.{conf_state, pend_state, HasLpisOfConf, HasLpisOfPend};
+ghost use Rattle.lpi_config.specs.Conf.{conf_state};
+ghost use Rattle.lpi_pending.specs.InHand.{pend_state, HasLpisOfConf, HasLpisOfPend};
 ghost use Rattle.owned_parts.specs.Owned.{translator_of};
 ghost use Rattle.its_steps.specs.Good.{Holds};
 ghost use Rattle.its_steps.specs.Parts.{Stands, translator_count, vcpu_count};
