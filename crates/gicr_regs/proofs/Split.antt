@@ -4,7 +4,7 @@ use Rattle.guest_windows.specs.Windows.{Window}
 use Rattle.its_types.specs.Ranges.{is_lpi}
 use Rattle.its_types.specs.declared.machine.Shape.{Shape}
 use Rattle.gicr_regs.specs.Redistributors.{Redistributor, ConfState, conf_of, with_conf, reread_at, conf_reread_at}
-use Rattle.gicr_regs.specs.Registers.{WritesSplit, WritesLookAway, changes_pending, reads_tables, done_by, conf_done_by}
+use Rattle.gicr_regs.specs.Registers.{WritesSplit, WritesLookAway, reads_tables, done_by, conf_done_by}
 use Rattle.gicr_regs.specs.declared.write.GicrWrite.{GicrWrite}
 use Rattle.gicr_regs.specs.declared.write.GicrWrite.TheVariants as writes
 

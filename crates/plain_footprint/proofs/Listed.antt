@@ -1,12 +1,14 @@
 -- Elements of lists: what a write changes, and which parts a list names.
 use Rattle.std.proofs.Common.{◌≡◌, ◌≢◌, ◌⊎◌, ℕ, zero, suc, ◌<◌, ◌≤◌, List, [], ◌∷◌, ◌++◌, get_or, set, slice_get, Option, Some, None, refl, ap, sym, subst}
-use Rattle.std.proofs.Common.{arith, inl, inr}
+use Rattle.std.proofs.Common.{arith, inl, inr, Bool, true, if◌then◌else◌}
 use Rattle.std.specs.Option.{option_map}
 use Rattle.std.proofs.lemmas.Bool.{cases_lt}
+use Rattle.gicr_regs.specs.Registers.{changes_pending, reads_tables}
+use Rattle.gicr_regs.specs.declared.write.GicrWrite.{GicrWrite}
 use Rattle.its_types.specs.declared.ids.Vcpu.{Vcpu}
 use Rattle.its_types.specs.declared.machine.Part.{Part}
-use Rattle.its_types.specs.declared.machine.Part.TheVariants.{Maps as MapsOf, Conf, Pend}
-use Rattle.its_plain.specs.Parts.{IsIn, conf, pend, pend_at, confs_below, pends_below, translators_below}
+use Rattle.its_types.specs.declared.machine.Part.TheVariants.{Maps as MapsOf, Mem, Conf, Pend}
+use Rattle.its_plain.specs.Parts.{IsIn, conf, pend, pend_at, confs_below, pends_below, translators_below, write_parts}
 
 -- a write changes no other element
 pub set_else : {A : Type 0} (xs : List A) (i j : ℕ) (y : A) → j ≢ i → slice_get (set xs i y) j ≡ slice_get xs j
@@ -129,6 +131,18 @@ conf_in_both v = in_head (Conf v) (Pend v ∷ [])
 
 pub pend_in_both : (v : Vcpu) → IsIn (Pend v) (Conf v ∷ Pend v ∷ [])
 pend_in_both v = in_tail (Pend v) (Conf v) (Pend v ∷ []) (in_head (Pend v) [])
+
+-- where a write reads tables, memory is among its parts
+pub mem_in_write : (v : Vcpu) (w : GicrWrite) → reads_tables w ≡ true → IsIn Mem (write_parts v w)
+mem_in_write v w e =
+    in_left Mem (if reads_tables w then Mem ∷ [] else []) (if changes_pending w then Pend v ∷ [] else [])
+    (subst (λ (b : Bool). IsIn Mem (if b then Mem ∷ [] else [])) (sym e) (in_head Mem []))
+
+-- where a write turns LPIs on or off, what is pending is among its parts
+pub pend_in_write : (v : Vcpu) (w : GicrWrite) → changes_pending w ≡ true → IsIn (Pend v) (write_parts v w)
+pend_in_write v w e =
+    in_right (Pend v) (if reads_tables w then Mem ∷ [] else []) (if changes_pending w then Pend v ∷ [] else [])
+    (subst (λ (b : Bool). IsIn (Pend v) (if b then Pend v ∷ [] else [])) (sym e) (in_head (Pend v) []))
 
 -- who is not among the first n has no lower number
 pub not_below : (n v : ℕ) → ¬ IsIn (conf v) (confs_below n) → n ≤ v

@@ -1,7 +1,7 @@
 -- A call changes no part outside its footprint.
-use Rattle.std.proofs.Common.{◌≡◌, ℕ, ◌≤◌, Bool, true, false, List, [], ◌∷◌, ◌++◌, length, Option, Some, None, Result, Ok, Err, sym, subst}
+use Rattle.std.proofs.Common.{◌≡◌, ℕ, ◌≤◌, Bool, true, false, List, [], ◌∷◌, ◌++◌, length, Option, Some, None, Result, Ok, Err, sym, subst, ⊎_elim}
 use Rattle.std.proofs.Common.{if◌then◌else◌}
-use Rattle.std.proofs.lemmas.Bool.{both_ways, cond_both}
+use Rattle.std.proofs.lemmas.Bool.{cases_Bool, cond_both}
 use Rattle.std.proofs.lemmas.Option.{slice_get_past}
 use Rattle.guest_windows.specs.Windows.{Window, write_at}
 use Rattle.dirty_log.specs.Copies.{wrote, caught_up}
@@ -12,7 +12,7 @@ use Rattle.its_types.specs.Lpis.{with_lpi}
 use Rattle.its_types.specs.declared.ids.Target.{Target}
 use Rattle.its_types.specs.declared.machine.Part.{Part}
 use Rattle.its_types.specs.declared.machine.Part.TheVariants.{Maps as MapsOf, Mem, Conf, Pend}
-use Rattle.gicr_regs.specs.Registers.{asked_by, changes_pending, reads_tables, conf_done_by, done_by, written_gicr}
+use Rattle.gicr_regs.specs.Registers.{asked_by, changes_pending, conf_done_by, done_by, written_gicr}
 use Rattle.gicr_regs.specs.declared.write.GicrWrite.{GicrWrite}
 use Rattle.gicr_regs.proofs.Split.{split}
 use Rattle.its_plain.specs.Plain.{Plain, Redistributor, translator, redistributor, regs_of, pending_of, is_on, conf_of, with_redistributor}
@@ -29,8 +29,8 @@ use Rattle.its_plain.specs.declared.call.Route.TheVariants as route
 use Rattle.its_plain.specs.Regions.{savable}
 use Rattle.its_plain.specs.Saved.{saved, words_of, wrote_tables}
 use Rattle.its_plain.specs.declared.fault.SaveFault.{SaveFault}
-use Rattle.its_plain.specs.Parts.{footprint}
-use Rattle.its_plain.specs.Parts.{SamePart, IsIn, every_conf, translators_below, confs_below, pends_below, needed, redistributor_parts, route_parts, write_parts}
+use Rattle.its_plain.specs.Parts.{write_parts, footprint}
+use Rattle.its_plain.specs.Parts.{SamePart, IsIn, every_conf, translators_below, confs_below, pends_below, needed, redistributor_parts, route_parts}
 use Rattle.its_plain.specs.declared.call.Call.{Call}
 use Rattle.its_plain.specs.declared.call.Call.TheVariants as call
 use Rattle.its_plain.specs.declared.call.Cause.{Cause}
@@ -38,7 +38,7 @@ use Rattle.its_plain.specs.declared.call.Cause.TheVariants.{LpisOff}
 use Rattle.its_plain.specs.declared.call.Reason.{Reason}
 use Rattle.plain_footprint.specs.Laws.{HasRedistributors, LeavesOthers}
 use Rattle.plain_footprint.proofs.Footprints.{parts_of_signal, parts_of_step}
-use Rattle.plain_footprint.proofs.Listed.{in_head, in_tail, in_right, conf_in_both, pend_in_both, not_below}
+use Rattle.plain_footprint.proofs.Listed.{in_head, in_tail, conf_in_both, pend_in_both, pend_in_write, not_below}
 use Rattle.plain_footprint.proofs.Stays.{Stay, HasAll, stay, stay_translator, stay_redist, stay_conf, stay_pend, stay_memory}
 use Rattle.plain_footprint.proofs.StaysRan.{Kept, ran_stays}
 
@@ -120,15 +120,10 @@ route_stays u addr bytes route.Frame = stay u []
 
 -- what is taken is pending no more
 taken_stays : (u : Plain) (v : Vcpu) (o : Option ℕ) → Stay u (redistributor_parts v) (with_redistributor u v.0 (taken (redistributor u v.0) o))
-taken_stays u v o = stay_redist u u (redistributor_parts v) v.0 (taken (redistributor u v.0) o) (conf_in_both v) (pend_in_both v) (stay u (redistributor_parts v))
+taken_stays u v o = stay_redist u u (redistributor_parts v) v.0 (taken (redistributor u v.0) o) (conf_in_both v) (pend_in_both v)
+    (stay u (redistributor_parts v))
 
 -- ---- the LPI registers of redistributors
-
--- where a write turns LPIs on or off, what is pending is among its parts
-pub pend_in_write : (v : Vcpu) (w : GicrWrite) → changes_pending w ≡ true → IsIn (Pend v) (write_parts v w)
-pend_in_write v w e =
-    in_right (Pend v) (if reads_tables w then Mem ∷ [] else []) (if changes_pending w then Pend v ∷ [] else [])
-    (subst (λ (b : Bool). IsIn (Pend v) (if b then Pend v ∷ [] else [])) (sym e) (in_head (Pend v) []))
 
 done_stays : (u : Plain) (v : Vcpu) (w : GicrWrite)
     → Stay u (Conf v ∷ write_parts v w) (with_redistributor u v.0 (done_by u.layout.shape u.memory w (redistributor u v.0)))
@@ -136,10 +131,13 @@ done_stays u v w =
     let ps : List Part = Conf v ∷ write_parts v w in
     let r : Redistributor = redistributor u v.0 in
     let here : IsIn (Conf v) ps = in_head (Conf v) (write_parts v w) in
-    both_ways (changes_pending w)
-    (λ turns. stay_redist u u ps v.0 (done_by u.layout.shape u.memory w r) here (in_tail (Pend v) (Conf v) (write_parts v w) (pend_in_write v w turns)) (stay u ps))
-    (λ keeps. subst (λ (x : Redistributor). Stay u ps (with_redistributor u v.0 x)) (sym (split u.layout.shape u.memory w r keeps))
+    ⊎_elim
+    (λ (turns : changes_pending w ≡ true).
+    stay_redist u u ps v.0 (done_by u.layout.shape u.memory w r) here (in_tail (Pend v) (Conf v) (write_parts v w) (pend_in_write v w turns)) (stay u ps))
+    (λ (keeps : changes_pending w ≡ false).
+    subst (λ (x : Redistributor). Stay u ps (with_redistributor u v.0 x)) (sym (split u.layout.shape u.memory w r keeps))
     (stay_conf u u ps v.0 (conf_done_by u.layout.shape u.memory w (conf_of r)) here (stay u ps)))
+    (cases_Bool (changes_pending w))
 
 -- ---- all calls
 

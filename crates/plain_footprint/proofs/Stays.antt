@@ -1,5 +1,5 @@
 -- States that differ from one in some parts alone.
-use Rattle.std.proofs.Common.{◌≡◌, ℕ, Bool, true, false, List, length, length-set, map, slice_get, Option, None, refl, ap, sym, ◌∙◌, subst, if◌then◌else◌}
+use Rattle.std.proofs.Common.{◌≡◌, ℕ, Bool, true, false, List, length, length-set, map, slice_get, Option, Some, None, refl, ap, sym, ◌∙◌, subst, if◌then◌else◌}
 use Rattle.std.specs.Option.{option_map}
 use Rattle.std.proofs.lemmas.Option.{slice_get-map}
 use Rattle.guest_windows.specs.Windows.{Window}
@@ -126,7 +126,7 @@ HasAll u ps = (v : Vcpu) → ¬ IsIn (Conf v) ps → slice_get u.redistributors 
 abbrev pub each_conf : (ConfState → ConfState) → Plain → Plain
 each_conf f w = record w { redistributors = map (λ r. with_conf (f (conf_of r)) r) w.redistributors }
 
-same_pend : (f : ConfState → ConfState) (o : Option Redistributor)
+pub same_pend : (f : ConfState → ConfState) (o : Option Redistributor)
     → option_map pend_of o ≡ option_map pend_of (option_map (λ r. with_conf (f (conf_of r)) r) o)
 same_pend f None = refl
 same_pend f (Some r) = refl

@@ -16,7 +16,7 @@ use Rattle.its_types.specs.declared.machine.Part.TheVariants.{Maps as MapsOf, Pe
 use Rattle.its_types.specs.declared.machine.Profile.{Profile}
 use Rattle.its_types.specs.declared.machine.Profile.TheVariants.{One, Two}
 use Rattle.its_types.specs.declared.translation.Event.{Event}
-use Rattle.its_plain.specs.Plain.{Plain, translator, redistributor, regs_of, maps_of, pending_of, is_on, with_maps, with_pending}
+use Rattle.its_plain.specs.Plain.{Plain, translator, regs_of, maps_of, pending_of, is_on, with_maps, with_pending}
 use Rattle.its_plain.specs.Commands.{◌>>=◌, ensure, lpi_set, lpi_cleared, lpi_moved, lpis_moved, all_moved, conf_all_reread_at, reread, event_at, target_at}
 use Rattle.its_plain.specs.Commands.{intids_of, mapd, unmapd, followed, followed_in, mapc, unmapc, mapti, movi, lpi_at, int, clear, cleared_at, discard, inv}
 use Rattle.its_plain.specs.Commands.{invall, movall, ran}
@@ -114,8 +114,8 @@ module _ (u : Plain) (ps : List Part) (i : ℕ) (here : IsIn (MapsOf i) ps) wher
 
   invall_stays : (icid : ℕ) → HasAll u ps → Kept u ps (invall u i icid)
   unfolding invall
-  invall_stays icid all = kept_then u ps (target_at (maps_of u i) icid) _ (λ _ _. stay_confs u u ps (conf_all_reread_at u.memory (intids_of (maps_of u i) icid)) all
-      (stay u ps))
+  invall_stays icid all = kept_then u ps (target_at (maps_of u i) icid) _
+      (λ _ _. stay_confs u u ps (conf_all_reread_at u.memory (intids_of (maps_of u i) icid)) all (stay u ps))
 
   -- ---- devices and collections
 
