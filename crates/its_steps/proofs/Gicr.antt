@@ -81,6 +81,9 @@ module _ (s : Setup) (last : Word) (vcpu : Vcpu) (off size value : ℕ) (vcpus :
     unfolding left
     left_is = ap (λ (b : Bool). if b then z else a) (ap (λ l. l.gicr) same ∙ gicr)
 
+    pub memory_is : Mem ((left a k reply.Ok).memory) ((left a k reply.Ok).track) ≡ Mem a.memory a.track
+    memory_is = ap (λ (x : Plain). Mem x.memory x.track) left_is
+
     pub wrote : redistributor (left a k reply.Ok) vcpu.0 ≡ after r
     wrote =
         let there : vcpu.0 < length a.redistributors = omega (arith, inside, long) in
@@ -98,6 +101,7 @@ module _ (s : Setup) (last : Word) (vcpu : Vcpu) (off size value : ℕ) (vcpus :
       );
       reply_is = refl;
     }
+
   abbrev shape : Shape
   shape = s.start.layout.shape
 
@@ -113,6 +117,11 @@ module _ (s : Setup) (last : Word) (vcpu : Vcpu) (off size value : ℕ) (vcpus :
       → conf_of (written_gicr shape memory r off size value) ≡ conf_done_by shape memory (asked (conf_of r)) (conf_of r)
   unfolding written_gicr
   conf_after memory r none = ap (λ (x : Redistributor). conf_of x) (split shape memory (asked (conf_of r)) r none)
+
+  write_looks_away : (c : ConfState) (p : PendState) → reads_tables (asked c) ≡ false
+      → written_gicr shape s.start.memory (joined c p) off size value ≡ done_by shape [] (asked c) (joined c p)
+  unfolding written_gicr
+  write_looks_away c p looks_at_none = looks_away shape s.start.memory [] (asked c) (joined c p) looks_at_none
 
   -- ---- the configuration alone, or with memory
 
@@ -154,14 +163,12 @@ module _ (s : Setup) (last : Word) (vcpu : Vcpu) (off size value : ℕ) (vcpus :
         may two ((λ h. no_mem h), ((λ h. h), tt)) (st, (tt, tt)) (refl, (refl, tt))
             (answered two one_long refl own one_has (inl refl) (λ e. inr (inl refl))
             (λ e. not_both (Holds (part.Pend vcpu) two) (changes_pending (asked c)) none e)),
-        (λ d. out (part.Conf vcpu) (Conf (conf_is d)) ∷ out part.Mem (Mem ((z_is d).memory) ((z_is d).track)) ∷ []),
+        (λ d. out (part.Conf vcpu) (Conf (conf_is d)) ∷ out part.Mem (memory_is two one_long refl own one_has d) ∷ []),
       )
         where
           no_mem : Holds (part.Conf vcpu) mem → ⊥
           no_mem (inl e) = cc
           no_mem (inr h) = h
-
-          z_is = left_is two one_long refl own one_has
 
           conf_is : conf_of (redistributor (left (assembled s two) k reply.Ok) vcpu.0) ≡ conf_done_by shape memory (asked c) c
           conf_is = ap (λ (x : Redistributor). conf_of x) (wrote two one_long refl own one_has) ∙ conf_after memory own none
@@ -180,12 +187,9 @@ module _ (s : Setup) (last : Word) (vcpu : Vcpu) (off size value : ℕ) (vcpus :
       (λ d. parts_held vcpu (all_is d) []),
     )
       where
-        done_is : written_gicr shape s.start.memory (joined c p) off size value ≡ done_by shape [] (asked c) (joined c p)
-        unfolding written_gicr
-        done_is = looks_away shape s.start.memory [] (asked c) (joined c p) looks_at_none
-
         all_is : redistributor (left (assembled s both) k reply.Ok) vcpu.0 ≡ done_by shape [] (asked c) (joined c p)
-        all_is = wrote both (both_long s.start vcpu inside c p) refl (joined c p) (has_both s.start vcpu inside c p) ∙ done_is
+        all_is = wrote both (both_long s.start vcpu inside c p) refl (joined c p) (has_both s.start vcpu inside c p)
+            ∙ write_looks_away c p looks_at_none
 
     module _ (memory : List Window) (track : Option Tracked) where
       abbrev mem_last : List Held
@@ -197,12 +201,15 @@ module _ (s : Setup) (last : Word) (vcpu : Vcpu) (off size value : ℕ) (vcpus :
       abbrev base : Plain
       base = assembled s mem_last
 
+      all_is : redistributor (left (assembled s three) k reply.Ok) vcpu.0 ≡ written_gicr shape memory (joined c p) off size value
+      all_is = wrote three (both_long base vcpu inside c p) refl (joined c p) (has_both base vcpu inside c p)
+
       three_may : MayWrite three (parts_held vcpu (written_gicr shape memory (joined c p) off size value) mem_last)
       three_may = (
         may three (both_apart vcpu c p mem_last (λ h. no_pend h) (λ h. no_conf h) ((λ h. h), tt)) (st, (st, (tt, tt))) (refl, (refl, (refl, tt)))
             (answered three (both_long base vcpu inside c p) refl (joined c p) (has_both base vcpu inside c p) (inr (inl refl)) (λ e. inr (inr (inl refl)))
             (λ e. inl refl)),
-        (λ d. parts_held vcpu (all_is d) (out part.Mem (Mem ((z_is d).memory) ((z_is d).track)) ∷ [])),
+        (λ d. parts_held vcpu (all_is d) (out part.Mem (memory_is three (both_long base vcpu inside c p) refl (joined c p) (has_both base vcpu inside c p) d) ∷ [])),
       )
         where
           no_pend : Holds (part.Pend vcpu) mem_last → ⊥
@@ -212,10 +219,6 @@ module _ (s : Setup) (last : Word) (vcpu : Vcpu) (off size value : ℕ) (vcpus :
           no_conf : Holds (part.Conf vcpu) mem_last → ⊥
           no_conf (inl e) = cc
           no_conf (inr h) = h
-
-          z_is = left_is three (both_long base vcpu inside c p) refl (joined c p) (has_both base vcpu inside c p)
-
-          all_is = wrote three (both_long base vcpu inside c p) refl (joined c p) (has_both base vcpu inside c p)
 
 pub confs : ConfMayCommit
 confs s last vcpu off size value c vcpus st room gicr reads_none none = alone_may s last vcpu off size value vcpus st room gicr c none reads_none

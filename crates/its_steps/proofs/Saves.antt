@@ -74,12 +74,12 @@ module _ (part_at : ℕ → Part) (content_at : ℕ → Content) where
 
 -- a list of parts that is one longer each time
 module _ (P : Part → Type 0) (part_at : ℕ → Part) (below : ℕ → List Part) (none : below 0 ≡ []) (more : (n : ℕ) → below (suc n) ≡ below n ++ part_at n ∷ [])
-    where
-  pub each_below : (n : ℕ) → ((i : ℕ) → i < n → P (part_at i)) → AllByRecursion P (below n)
-  each_below zero f = subst (AllByRecursion P) (sym none) tt
-  each_below (suc n) f =
-      subst (AllByRecursion P) (sym (more n))
-      (all_snoc P (below n) (part_at n) (each_below n (λ i lt. f i (omega (arith, lt)))) (f n (omega arith)))
+  where
+    pub each_below : (n : ℕ) → ((i : ℕ) → i < n → P (part_at i)) → AllByRecursion P (below n)
+    each_below zero f = subst (AllByRecursion P) (sym none) tt
+    each_below (suc n) f =
+        subst (AllByRecursion P) (sym (more n))
+        (all_snoc P (below n) (part_at n) (each_below n (λ i lt. f i (omega (arith, lt)))) (f n (omega arith)))
 
 all_append : (P : Part → Type 0) (xs ys : List Part) → AllByRecursion P xs → AllByRecursion P ys → AllByRecursion P (xs ++ ys)
 all_append P [] ys ps qs = qs
@@ -148,22 +148,22 @@ module _ (u : Plain) where
       (row_apart conf conf_content number_of (λ i. refl) rs with_mem no_conf
       (no_mem, row_apart maps_at map_content number_of (λ i. refl) ts [] (λ i h. h) tt))
 
+  abbrev IsHeld : Part → Type 0
+  IsHeld p = Holds p (whole_held u)
+
   -- each part of the call is held
   pub whole_covers : Covers u call.Save (whole_held u)
   unfolding footprint
   whole_covers = (
     up part.Mem (inl refl),
-    all_append Held_ (translators_below ts) (confs_below rs ++ pends_below rs)
-        (each_below Held_ maps_at translators_below refl (λ n. refl) ts (λ i lt. up (maps_at i) (inr (row_there maps_at map_content ts [] i lt))))
-        (all_append Held_ (confs_below rs) (pends_below rs)
-        (each_below Held_ conf confs_below refl (λ n. refl) rs
-        (λ i lt. row_rest pend pend_content rs with_confs (conf i) (row_there conf conf_content rs with_mem i lt)))
-        (each_below Held_ pend pends_below refl (λ n. refl) rs (row_there pend pend_content rs with_confs))),
+    all_append IsHeld (translators_below ts ++ confs_below rs) (pends_below rs)
+        (all_append IsHeld (translators_below ts) (confs_below rs)
+        (each_below IsHeld maps_at translators_below refl (λ n. refl) ts (λ i lt. up (maps_at i) (inr (row_there maps_at map_content ts [] i lt))))
+        (each_below IsHeld conf confs_below refl (λ n. refl) rs
+        (λ i lt. row_rest pend pend_content rs with_confs (conf i) (row_there conf conf_content rs with_mem i lt))))
+        (each_below IsHeld pend pends_below refl (λ n. refl) rs (row_there pend pend_content rs with_confs)),
   )
     where
-      abbrev Held_ : Part → Type 0
-      Held_ p = Holds p (whole_held u)
-
       up : (p : Part) → Holds p with_mem → Holds p (whole_held u)
       up p h = row_rest pend pend_content rs with_confs p (row_rest conf conf_content rs with_mem p h)
 
@@ -175,6 +175,9 @@ same_count : (u : Plain) (r : Result (Unit {0}) SaveFault) → let z : Plain = s
 same_count u (Ok done) = (refl, refl)
 same_count u (Err fault) = (refl, refl)
 
+abbrev redists_of : Plain → ℕ → List Held → List Held
+redists_of z n rest = pends_held z n (confs_held z n rest)
+
 whole_renewed : (s : Setup) (a : Commit) (u : Plain) (r : Result (Unit {0}) SaveFault) → renewed s a (save_left u r) (whole_held u) ≡ whole_held (save_left u r)
 whole_renewed s a u r =
     let z : Plain = save_left u r in
@@ -184,9 +187,6 @@ whole_renewed s a u r =
     row_renewed pend (pend_content u) s a z (pend_content z) (λ i. refl) (length u.redistributors) (with_confs u)
     ∙ (ap (pends_held z (length u.redistributors)) (row_renewed conf (conf_content u) s a z (conf_content z) (λ i. refl) (length u.redistributors) (with_mem u))
     ∙ (λ d. redists_of z (k.1 d) (out part.Mem (Mem z.memory z.track) ∷ (maps_now ∙ ap (maps_held z) k.0) d)))
-  where
-    abbrev redists_of : Plain → ℕ → List Held → List Held
-    redists_of z n rest = pends_held z n (confs_held z n rest)
 
 module _ (s : Setup) (u : Plain) (m : IsOfMachine s u) where
   vcpus : length u.redistributors ≡ vcpu_count s
