@@ -15,10 +15,12 @@ use Rattle.its_types.specs.declared.ids.EventId.{EventId}
 use Rattle.its_types.specs.declared.ids.Target.{Target}
 use Rattle.its_types.specs.declared.ids.Intid.{Intid}
 use Rattle.its_types.specs.declared.ids.Vcpu.{Vcpu}
+use Rattle.its_types.specs.declared.machine.Part.{Part}
 use Rattle.its_types.specs.declared.machine.Part.TheVariants as part
 use Rattle.its_types.specs.declared.machine.Shape.{Shape}
 use Rattle.its_types.specs.declared.machine.Word.{Word}
 use Rattle.its_plain.specs.Answer.{ack_of, lowest, best, claimed, taken, poke_reply, peek_reply, translator_written, save_reply, save_left, copy_count, left}
+use Rattle.its_plain.specs.Parts.{conf, pend}
 use Rattle.its_plain.specs.Plain.{Plain, Translator, Redistributor, ConfState, PendState, conf_of, pend_of, joined, translator, redistributor}
 use Rattle.its_plain.specs.Regions.{savable}
 use Rattle.its_plain.specs.Translation.{located}
@@ -285,20 +287,22 @@ OffMayCommit = (s : Setup) (last : Word) (c : Call) (its : ℕ) (dev : DeviceId)
 
 -- ---- saves
 
--- of a state the maps of n translators, the last one got first
-abbrev pub maps_held : Plain → ℕ → List Held
-maps_held u zero = []
-maps_held u (suc n) = out (part.Maps n) (Maps (translator u n)) ∷ maps_held u n
+-- n parts of a kind before other parts, the last one got first
+abbrev pub each_held : (ℕ → Part) → (ℕ → Content) → ℕ → List Held → List Held
+each_held p c zero rest = rest
+each_held p c (suc n) rest = out (p n) (c n) ∷ each_held p c n rest
 
--- and the configurations of n redistributors before other parts
+-- of a state the maps of n translators
+abbrev pub maps_held : Plain → ℕ → List Held
+maps_held u n = each_held (λ i. part.Maps i) (λ i. Maps (translator u i)) n []
+
+-- and the configurations of n redistributors
 abbrev pub confs_held : Plain → ℕ → List Held → List Held
-confs_held u zero rest = rest
-confs_held u (suc n) rest = out (part.Conf (record { 0 = n })) (Conf (conf_of (redistributor u n))) ∷ confs_held u n rest
+confs_held u n rest = each_held conf (λ i. Conf (conf_of (redistributor u i))) n rest
 
 -- and what is pending at n of them
 abbrev pub pends_held : Plain → ℕ → List Held → List Held
-pends_held u zero rest = rest
-pends_held u (suc n) rest = out (part.Pend (record { 0 = n })) (Pend (pend_of (redistributor u n))) ∷ pends_held u n rest
+pends_held u n rest = each_held pend (λ i. Pend (pend_of (redistributor u i))) n rest
 
 -- both of all, the configurations got first
 abbrev pub redists_held : Plain → List Held → List Held
