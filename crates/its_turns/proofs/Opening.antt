@@ -157,7 +157,7 @@ next_listed u shards others shown v values x shows so_far =
     contents_more values x ∙ (λ d. so_far d ++ shows d ∷ [])
     ∙ (front_more u shards (others ++ listed) (shown v)
     ∙ ap (front u shards) (append_assoc others listed (shown v ∷ []) ∙ ap (λ (l : List (Option Content)). others ++ l)
-    (sym (map-range_with_len_more shown 0 v v refl))))
+    (sym (map-range_with_len_more shown 0 v v (omega arith)))))
 
 -- the configuration of a virtual processor
 abbrev pub conf_shown : RedistParts → ℕ → Option Content
