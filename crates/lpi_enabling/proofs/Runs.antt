@@ -23,6 +23,8 @@ silent_state : (u : Plain) (earlier : List (List Entry)) (before : List Entry) �
 silent_state u [] before s = silent_history u before s
 silent_state u (h ∷ hs) before s = silent_state (moved (after u h)) hs before (silent_moved (after u h) (silent_history u h s))
 
+-- ---- LPIs are taken where they are on, before each entry too
+
 taking_history : (u : Plain) (h : List Entry) → AllTake u → AllTake (after u h)
 taking_history u [] t = t
 taking_history u (e ∷ h) t = taking_history (answer u e.call).1 h (λ v. (taken_where_on u v (t v)).1 e.call)
@@ -59,7 +61,10 @@ on_in_state u v (h ∷ hs) before t on =
 turned_on : (u : Plain) (v : ℕ) (earlier : List (List Entry)) (before : List Entry) → AllOff u → is_on (state_after u earlier before) v ≡ true
     → TurnsOnInLegs u v (earlier ++ before ∷ [])
 turned_on u v earlier before off on =
-    elim (on_in_state u v earlier before (λ k. (off k).none_taken ∙ sym (off k).off) on) [ inl was ↦ absurd (both_ways (is_on u v) (off v).none_taken was.0) | inr turns ↦ turns ]
+    elim (on_in_state u v earlier before (λ k. (off k).none_taken ∙ sym (off k).off) on) [
+      | inl was ↦ absurd (both_ways (is_on u v) (off v).none_taken was.0)
+      | inr turns ↦ turns
+    ]
 
 -- ---- legal legs
 
