@@ -1,4 +1,5 @@
 pub mod Steps
+pub mod Placed
 pub mod Restored
 pub mod Begun
 pub mod Whole

@@ -1,7 +1,9 @@
 -- What a restore answers: the state that memory and register values stand for, or their first fault.
-use Rattle.std.proofs.Common.{◌≡◌, ℕ, zero, suc, ◌<◌, ◌≤◌, List, [], ◌∷◌, length, map, take, Option, Some, None, Err, refl, sym}
+use Rattle.std.proofs.Common.{◌≡◌, ℕ, zero, suc, ◌+◌, ◌<◌, ◌≤◌, List, [], ◌∷◌, length, map, Option, Some, None, Err, refl, sym}
 use Rattle.std.proofs.Common.{subst, ap, ◌∙◌, arith}
 use Rattle.std.specs.Prelude.{slice_get}
+use Rattle.std.specs.List.{range_with_len}
+use Rattle.std.proofs.lemmas.List.FromFn.{length-map-range_with_len}
 use Rattle.guest_windows.specs.Windows.{Window}
 use Rattle.gits_regs.specs.declared.values.RegValues.{RegValues}
 use Rattle.its_types.specs.declared.translation.Bases.{Bases}
@@ -12,10 +14,13 @@ use Rattle.its_plain.specs.Saved.{track_of}
 use Rattle.its_plain.specs.declared.layout.Layout.{Layout}
 use Rattle.its_plain.specs.Stands.{Stands, IsFirstFault, of_redistributor, of_translator, IsRedistributorIn}
 use Rattle.dirty_log.specs.declared.tracked.Tracked.{Tracked}
-use Rattle.lpi_pending.specs.InHand.{in_hand}
-use Rattle.lpi_pending.specs.declared.redist.Redist.{Redist}
-use Rattle.owned_parts.specs.Owned.{AreAllInHand, state_of, redistributor_of, redistributor_or}
-use Rattle.table_restore.specs.Outcome.{AreRestoredRedists, RestoredRedists, AreTranslatorsFrom, BegunTranslators, IsFirstOf, WhereFault, with_number}
+use Rattle.lpi_config.specs.declared.conf.Conf.{Conf}
+use Rattle.lpi_pending.specs.InHand.{RedistParts, pend_in, redistributor_of}
+use Rattle.lpi_pending.specs.declared.pend.Pend.{Pend}
+use Rattle.owned_parts.specs.Owned.{AreAllInHand, state_of, conf_or, pend_or, redistributor_in, redistributors_in}
+use Rattle.gicr_regs.specs.Redistributors.{joined}
+use Rattle.table_restore.specs.Outcome.{AreInHandAt, AreNotInHand, AreRestoredRedists, RestoredRedists, AreTranslatorsFrom, BegunTranslators, IsFirstOf}
+use Rattle.table_restore.specs.Outcome.{WhereFault, with_number}
 use Rattle.table_restore.specs.declared.error.RestoreError.{RestoreError}
 use Rattle.table_restore.specs.declared.error.RestoreError.TheVariants as numbered
 use Rattle.table_restore.specs.declared.error.TableError.{TableError}
@@ -23,17 +28,18 @@ use Rattle.table_restore.specs.declared.error.TableError.TheVariants as errors
 
 -- ---- redistributors
 
-taken : (redists : List (Option Redist)) (n v : ℕ) (x : Redist) → v < n → in_hand redists v ≡ Some x → slice_get (map redistributor_or (take n redists)) v
-    ≡ Some (redistributor_of x)
-taken [] n v x lt e = absurd cc
-taken (o ∷ os) zero v x lt e = absurd (omega arith)
-taken (o ∷ os) (suc n) zero x lt e = ap (λ p. Some (redistributor_or p)) e
-taken (o ∷ os) (suc n) (suc v) x lt e = taken os n v x (omega arith) e
+numbered : {X : Type 0} (f : ℕ → X) (from n v : ℕ) → v < n → slice_get (map f (range_with_len from n)) v ≡ Some (f (from + v))
+numbered f from zero v lt = absurd (omega arith)
+numbered f from (suc n) zero lt = let e : from ≡ from + 0 = omega arith in ap (λ (k : ℕ). Some (f k)) e
+numbered f from (suc n) (suc v) lt = let e : from + 1 + v ≡ from + suc v = omega arith in numbered f (from + 1) n v (omega arith) ∙ ap (λ (k : ℕ). Some (f k)) e
 
-length_taken : (redists : List (Option Redist)) (n : ℕ) → n ≤ length redists → length (map redistributor_or (take n redists)) ≡ n
-length_taken redists zero le = refl
-length_taken [] (suc n) le = absurd (omega arith)
-length_taken (o ∷ os) (suc n) le = ap suc (length_taken os n (omega arith))
+-- what is in hand is what the state has
+pub at_place : (redists : RedistParts) (n v : ℕ) (c : Conf) (p : Pend) → v < n → AreInHandAt redists v c p
+    → slice_get (redistributors_in n redists) v ≡ Some (redistributor_of c p)
+at_place redists n v c p lt h =
+    numbered (redistributor_in redists) 0 n v lt
+    ∙ ap (λ (o : Option Conf). Some (joined (conf_or o) (pend_or (pend_in redists v)))) h.conf
+    ∙ ap (λ (o : Option Pend). Some (joined (conf_or (Some c)) (pend_or o))) h.pend
 
 in_list : {X : Type 0} (xs : List X) (i : ℕ) (x : X) → slice_get xs i ≡ Some x → i < length xs
 in_list [] i x e = absurd cc
@@ -48,15 +54,15 @@ there_is (x ∷ xs) (suc i) lt = there_is xs i (omega arith)
 -- ---- the whole
 
 module _ (l : Layout) (memory : List Window) (values : List (Option RegValues)) (bases : List Bases) (shape : IsShape l.shape)
-    (as_many : length bases ≡ l.shape.vcpus) (redists : List (Option Redist)) (all : AreRestoredRedists l.shape memory bases redists) where
-  each_stands : (v : ℕ) (b : Bases) (r : Redistributor) → slice_get bases v ≡ Some b → slice_get (map redistributor_or (take l.shape.vcpus redists)) v ≡ Some r
+    (as_many : length bases ≡ l.shape.vcpus) (redists : RedistParts) (all : AreRestoredRedists l.shape memory bases redists) where
+  each_stands : (v : ℕ) (b : Bases) (r : Redistributor) → slice_get bases v ≡ Some b → slice_get (redistributors_in l.shape.vcpus redists) v ≡ Some r
       → IsRedistributorIn l.shape memory b r
   each_stands v b r eb er =
       let w = all.each v b eb in
       let lt : v < l.shape.vcpus = subst (λ (n : ℕ). v < n) as_many (in_list bases v b eb) in
-      let same : Some (redistributor_of w.0) ≡ Some r = sym (taken redists l.shape.vcpus v w.0 lt w.1) ∙ er in
-      let is : redistributor_of w.0 ≡ r = cc in
-      subst (IsRedistributorIn l.shape memory b) is w.2.stands
+      let same : Some (redistributor_of w.0 w.1) ≡ Some r = sym (at_place redists l.shape.vcpus v w.0 w.1 lt w.2) ∙ er in
+      let is : redistributor_of w.0 w.1 ≡ r = cc in
+      subst (IsRedistributorIn l.shape memory b) is w.3.stands
 
   pub stands : (now : Layout) (ts : List Translator) (track : Option Tracked) → now ≡ l → track ≡ track_of l.track memory
       → AreTranslatorsFrom l.shape memory values ts → Stands memory values l bases (state_of now ts memory track redists)
@@ -68,7 +74,7 @@ module _ (l : Layout) (memory : List Window) (values : List (Option RegValues)) 
         track_is = fresh;
         count = begun.count;
         translators = begun.each;
-        vcpus = length_taken redists l.shape.vcpus (let a = shape.most_vcpus in let b = all.places in omega arith) ∙ sym as_many;
+        vcpus = length-map-range_with_len (redistributor_in redists) 0 l.shape.vcpus ∙ sym as_many;
         redistributors = each_stands;
       })
 
@@ -76,9 +82,9 @@ module _ (l : Layout) (memory : List Window) (values : List (Option RegValues)) 
   all_in_hand v lt =
       let w = there_is bases v (subst (λ (n : ℕ). v < n) (sym as_many) lt) in
       let h = all.each v w.0 w.1 in
-      (h.0, h.1, h.2.lpis)
+      ((h.0, h.2.conf, h.3.conf_lpis), (h.1, h.2.pend, h.3.pend_lpis))
 
-  pub no_others : (v : ℕ) → l.shape.vcpus ≤ v → in_hand redists v ≡ None
+  pub no_others : (v : ℕ) → l.shape.vcpus ≤ v → AreNotInHand redists v
   no_others v le = all.rest v (subst (λ (n : ℕ). n ≤ v) (sym as_many) le)
 
   -- ---- the first fault
