@@ -11,8 +11,9 @@ use Rattle.its_plain.specs.Stands.{lacks_tables, IsRedistributorIn}
 use Rattle.lpi_config.specs.declared.conf.Conf.{Conf}
 use Rattle.lpi_pending.specs.InHand.{RedistParts, set_conf, set_pend}
 use Rattle.lpi_pending.specs.declared.pend.Pend.{Pend}
-use Rattle.table_restore.specs.Outcome.{IsOffRedist, IsRestoredRedist, AreInHandAt, AreNotInHand, AreRestoredRedists}
-use Rattle.table_restore.proofs.Placed.{placed_here, still_there, still_empty}
+use Rattle.owned_parts.specs.Places.{AreInHandAt, AreNotInHand}
+use Rattle.owned_parts.proofs.Places.{placed_here, still_there, still_empty}
+use Rattle.table_restore.specs.Outcome.{IsOffRedist, IsRestoredRedist, AreRestoredRedists}
 
 -- the redistributors below n are in hand, and no other
 pub record AreRestoredBelow (s : Shape) (memory : List Window) (bases : List Bases) (redists : RedistParts) (n : ℕ) : Type 0 where

@@ -2,8 +2,6 @@
 use Rattle.std.proofs.Common.{◌≡◌, ℕ, zero, suc, ◌+◌, ◌<◌, ◌≤◌, List, [], ◌∷◌, length, map, Option, Some, None, Err, refl, sym}
 use Rattle.std.proofs.Common.{subst, ap, ◌∙◌, arith}
 use Rattle.std.specs.Prelude.{slice_get}
-use Rattle.std.specs.List.{range_with_len}
-use Rattle.std.proofs.lemmas.List.FromFn.{length-map-range_with_len}
 use Rattle.guest_windows.specs.Windows.{Window}
 use Rattle.gits_regs.specs.declared.values.RegValues.{RegValues}
 use Rattle.its_types.specs.declared.translation.Bases.{Bases}
@@ -14,32 +12,18 @@ use Rattle.its_plain.specs.Saved.{track_of}
 use Rattle.its_plain.specs.declared.layout.Layout.{Layout}
 use Rattle.its_plain.specs.Stands.{Stands, IsFirstFault, of_redistributor, of_translator, IsRedistributorIn}
 use Rattle.dirty_log.specs.declared.tracked.Tracked.{Tracked}
-use Rattle.lpi_config.specs.declared.conf.Conf.{Conf}
-use Rattle.lpi_pending.specs.InHand.{RedistParts, pend_in, redistributor_of}
-use Rattle.lpi_pending.specs.declared.pend.Pend.{Pend}
-use Rattle.owned_parts.specs.Owned.{AreAllInHand, state_of, conf_or, pend_or, redistributor_in, redistributors_in}
-use Rattle.gicr_regs.specs.Redistributors.{joined}
-use Rattle.table_restore.specs.Outcome.{AreInHandAt, AreNotInHand, AreRestoredRedists, RestoredRedists, AreTranslatorsFrom, BegunTranslators, IsFirstOf}
+use Rattle.lpi_pending.specs.InHand.{RedistParts, redistributor_of}
+use Rattle.owned_parts.specs.Owned.{AreAllInHand, state_of, redistributors_in}
+use Rattle.owned_parts.specs.Places.{AreNotInHand}
+use Rattle.owned_parts.proofs.Places.{at_place, many_places}
+use Rattle.table_restore.specs.Outcome.{AreRestoredRedists, RestoredRedists, AreTranslatorsFrom, BegunTranslators, IsFirstOf}
 use Rattle.table_restore.specs.Outcome.{WhereFault, with_number}
 use Rattle.table_restore.specs.declared.error.RestoreError.{RestoreError}
 use Rattle.table_restore.specs.declared.error.RestoreError.TheVariants as numbered
 use Rattle.table_restore.specs.declared.error.TableError.{TableError}
 use Rattle.table_restore.specs.declared.error.TableError.TheVariants as errors
 
--- ---- redistributors
-
-numbered : {X : Type 0} (f : ℕ → X) (from n v : ℕ) → v < n → slice_get (map f (range_with_len from n)) v ≡ Some (f (from + v))
-numbered f from zero v lt = absurd (omega arith)
-numbered f from (suc n) zero lt = let e : from ≡ from + 0 = omega arith in ap (λ (k : ℕ). Some (f k)) e
-numbered f from (suc n) (suc v) lt = let e : from + 1 + v ≡ from + suc v = omega arith in numbered f (from + 1) n v (omega arith) ∙ ap (λ (k : ℕ). Some (f k)) e
-
--- what is in hand is what the state has
-pub at_place : (redists : RedistParts) (n v : ℕ) (c : Conf) (p : Pend) → v < n → AreInHandAt redists v c p
-    → slice_get (redistributors_in n redists) v ≡ Some (redistributor_of c p)
-at_place redists n v c p lt h =
-    numbered (redistributor_in redists) 0 n v lt
-    ∙ ap (λ (o : Option Conf). Some (joined (conf_or o) (pend_or (pend_in redists v)))) h.conf
-    ∙ ap (λ (o : Option Pend). Some (joined (conf_or (Some c)) (pend_or o))) h.pend
+-- ---- places of a list
 
 in_list : {X : Type 0} (xs : List X) (i : ℕ) (x : X) → slice_get xs i ≡ Some x → i < length xs
 in_list [] i x e = absurd cc
@@ -74,7 +58,7 @@ module _ (l : Layout) (memory : List Window) (values : List (Option RegValues)) 
         track_is = fresh;
         count = begun.count;
         translators = begun.each;
-        vcpus = length-map-range_with_len (redistributor_in redists) 0 l.shape.vcpus ∙ sym as_many;
+        vcpus = many_places redists l.shape.vcpus ∙ sym as_many;
         redistributors = each_stands;
       })
 

@@ -26,9 +26,10 @@ use Rattle.its_maps.specs.MapsRoom.{MapsRoom}
 use Rattle.its_types.specs.declared.machine.Shape.{Shape}
 use Rattle.its_types.specs.declared.translation.Bases.{Bases}
 use Rattle.lpi_config.specs.declared.conf.Conf.{Conf}
-use Rattle.lpi_pending.specs.InHand.{RedistParts, conf_in, pend_in, HasLpisOfConf, HasLpisOfPend, redistributor_of}
+use Rattle.lpi_pending.specs.InHand.{RedistParts, HasLpisOfConf, HasLpisOfPend, redistributor_of}
 use Rattle.lpi_pending.specs.declared.pend.Pend.{Pend}
 use Rattle.owned_parts.specs.Owned.{translator_of, translators_of}
+use Rattle.owned_parts.specs.Places.{AreInHandAt, AreNotInHand}
 use Rattle.owned_parts.specs.declared.parts.Translator.{Translator as TranslatorInHand}
 use Rattle.standing_states.specs.Walked.{after}
 use Rattle.standing_states.specs.Found.{look_device, put_found}
@@ -92,16 +93,6 @@ abbrev pub RestoredRedist : Shape → List Window → ℕ → Bases → Result (
 RestoredRedist s memory vcpu b (Ok r) = IsRestoredRedist s memory b r.0 r.1 × (lacks_tables s memory b ≡ false)
 RestoredRedist s memory vcpu b (Err (errors.Fault f)) = (lacks_tables s memory b ≡ true) × (f ≡ BadRedist (record { 0 = vcpu }))
 RestoredRedist s memory vcpu b (Err errors.NoMemory) = Unit {0}
-
--- both parts of the virtual processor's redistributor are in hand, and are these
-pub record AreInHandAt (redists : RedistParts) (vcpu : ℕ) (c : Conf) (p : Pend) : Type 0 where
-  pub conf : conf_in redists vcpu ≡ Some c
-  pub pend : pend_in redists vcpu ≡ Some p
-
--- neither is in hand
-pub record AreNotInHand (redists : RedistParts) (vcpu : ℕ) : Type 0 where
-  pub conf : conf_in redists vcpu ≡ None
-  pub pend : pend_in redists vcpu ≡ None
 
 -- each redistributor with bases is in hand, and no other
 pub record AreRestoredRedists (s : Shape) (memory : List Window) (bases : List Bases) (redists : RedistParts) : Type 0 where

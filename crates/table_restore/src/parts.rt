@@ -5,9 +5,9 @@ ghost use Rattle.its_plain.specs.Sound.{IsLayout};
 ghost use Rattle.its_plain.specs.Stands.{Stands, IsFirstFault};
 ghost use Rattle.owned_parts.specs.Owned.{AreAllInHand, state_of, state_of_parts};
 ghost use Rattle.owned_parts.specs.Owned.{translators_of};
+ghost use Rattle.owned_parts.specs.Places.{AreNotInHand};
 ghost use Rattle.standing_states.specs.Laws.{bases_to_restore};
-ghost use Rattle.table_restore.specs.Outcome.{AreTranslatorsFrom, AreNotInHand};
-ghost use Rattle.table_restore.specs.Outcome.{IsFirstOf, IfFault, WhereFault};
+ghost use Rattle.table_restore.specs.Outcome.{AreTranslatorsFrom, IsFirstOf, IfFault, WhereFault};
 
 use crate::error::RestoreError;
 use crate::redists::redists_of;
