@@ -1,5 +1,5 @@
 -- The places of redistributors, and what the state has of those that are in hand.
-use Rattle.std.proofs.Common.{◌≡◌, ℕ, zero, suc, ◌+◌, ◌<◌, List, [], ◌∷◌, map, drop, Option, Some, None, ap, ◌∙◌, arith, zero-add}
+use Rattle.std.proofs.Common.{◌≡◌, ℕ, zero, suc, ◌+◌, ◌<◌, ◌≤◌, List, [], ◌∷◌, map, drop, Option, Some, None, refl, ap, ◌∙◌, arith, zero-add}
 use Rattle.std.proofs.lemmas.List.{get_or-set_same, get_or-set_other}
 use Rattle.std.proofs.lemmas.List.FromFn.{length-map-range_with_len}
 use Rattle.std.proofs.lemmas.Option.{same_Some}
@@ -38,6 +38,16 @@ drop_there : {X : Type 0} (xs : List X) (v : ℕ) (x : X) → slice_get xs v ≡
 drop_there [] v x e = absurd cc
 drop_there {X} (y ∷ ys) zero x e = ap (λ (z : X). z ∷ ys) (same_Some y x e)
 drop_there (y ∷ ys) (suc v) x e = drop_there ys v x e
+
+drop_all : {X : Type 0} (xs : List X) (v : ℕ) → length xs ≤ v → drop v xs ≡ []
+drop_all [] zero le = refl
+drop_all [] (suc v) le = refl
+drop_all (x ∷ xs) zero le = absurd (omega arith)
+drop_all (x ∷ xs) (suc v) le = drop_all xs v (omega arith)
+
+-- none comes after the last
+pub none_left : (redists : RedistParts) (n v : ℕ) → n ≤ v → drop v (redistributors_in n redists) ≡ []
+none_left redists n v le = drop_all (redistributors_in n redists) v (let many = many_places redists n in omega (arith, many, le))
 
 -- it comes before those after it
 pub drop_to_place : (redists : RedistParts) (n v : ℕ) (c : Conf) (p : Pend) → v < n → AreInHandAt redists v c p
