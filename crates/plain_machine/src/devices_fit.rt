@@ -23,7 +23,7 @@ pub fn all_frames_fit(windows: &[(Addr, u64)], translators: &[Its]) -> Result<()
     ensures { result ≡ spec.all_frames_fit (pairs windows.now) 0 translators.now }
 {
     let mut rest = translators;
-    let mut its = 0;
+    let mut its: usize = 0;
     while let [translator, later @ ..] = rest {
         if let Some(base) = translator.frames {
             if !frames_fit(windows, later, base) {

@@ -270,11 +270,7 @@ fn add_pend_at(found: &mut Vec<Part>, vcpu: Option<Vcpu>) -> Result<(), AllocErr
 }
 
 // Memory where tables are read, and what is pending where LPIs are turned on or off.
-fn add_parts_of_write(
-    found: &mut Vec<Part>,
-    vcpu: Vcpu,
-    write: GicrWrite,
-) -> Result<(), AllocError>
+fn add_parts_of_write(found: &mut Vec<Part>, vcpu: Vcpu, write: GicrWrite) -> Result<(), AllocError>
     ensures { OnOk result (found.new.items ≡ found.old.items ++ parts.write_parts vcpu write) }
 {
     match write {
