@@ -5,7 +5,7 @@ use Rattle.its_steps.specs.Contents.{Conf}
 use Rattle.its_turns.specs.Machines.{setup, view}
 use Rattle.gicr_lpi.proofs.Asked.{took_stood}
 use Rattle.gicr_lpi.proofs.Lows.{low_bases}
-use Rattle.gicr_lpi.proofs.Taking.{goes_conf, conf_asked, conf_home, goes_again}
+use Rattle.gicr_lpi.proofs.Needs.{goes_conf, conf_asked, conf_home, goes_again}
 use Rattle.gicr_lpi.proofs.taking.take_registers.Goals as goal
 
 pub reads_tables-requires : goal.reads_tables-requires

@@ -4,7 +4,7 @@ use Rattle.its_steps.specs.Contents.{Conf}
 use Rattle.its_turns.specs.Machines.{setup, view}
 use Rattle.gicr_lpi.proofs.Asked.{took_stood}
 use Rattle.gicr_lpi.proofs.Lows.{low_bases}
-use Rattle.gicr_lpi.proofs.Taking.{goes_both}
+use Rattle.gicr_lpi.proofs.Needs.{goes_both}
 use Rattle.gicr_lpi.proofs.taking.take_with_memory.Goals as goal
 
 pub returns-clause-goes : goal.returns-clause-goes
