@@ -52,11 +52,7 @@ changed_below (suc n) f xs = changed_at n f (changed_below n f xs)
 unfoldable pub pend_changed : ℕ → (PendState → PendState) → RedistParts → RedistParts
 pend_changed vcpu f redists = record redists { pends = changed_at vcpu (pend_by f) redists.pends }
 
--- the configuration of a virtual processor
-unfoldable pub conf_changed : ℕ → (ConfState → ConfState) → RedistParts → RedistParts
-conf_changed vcpu f redists = record redists { confs = changed_at vcpu (conf_by f) redists.confs }
-
--- those of the first n virtual processors
+-- the configurations of the first n virtual processors
 unfoldable pub confs_changed : ℕ → (ConfState → ConfState) → RedistParts → RedistParts
 confs_changed n f redists = record redists { confs = changed_below n (conf_by f) redists.confs }
 
