@@ -1,22 +1,50 @@
 //! The LPI registers of a redistributor, and what their writes make it read (IHI 0069, section
 //! 12.11).
-ghost use Rattle.std.specs.Prelude.{◌≡◌, if◌then◌else◌};
-ghost use Rattle.gicr_regs.specs.Registers.{AreLow};
+ghost use Rattle.std.specs.Prelude.{◌≡◌, false, List, if◌then◌else◌};
+ghost use Rattle.gicr_regs.specs.Registers.{AreLow, Sets};
 ghost use Rattle.gicr_regs.specs.Registers as spec;
-ghost use Rattle.lpi_pending.specs.InHand.{redistributor_of, HasLpisOf};
+ghost use Rattle.guest_windows.specs.Windows.{Window};
+ghost use Rattle.its_types.specs.declared.machine.Shape.{Shape};
+ghost use Rattle.lpi_config.specs.Conf.{conf_state};
+ghost use Rattle.lpi_pending.specs.InHand.{redistributor_of, HasLpisOfConf, HasLpisOfPend};
 
-use crate::redist::Redist;
+use crate::pend::Pend;
 use gicr_regs::{GicrWrite, asked_by, read_gicr};
 use guest_windows::Memory;
 use its_types::{Addr, Bases, FIRST_LPI, Intid, Shape};
+use lpi_config::Conf;
 
 /// A read of `size` bytes at an offset of a redistributor's LPI registers: of 8 bytes a base, of 4
 /// GICR_CTLR or half of a base. Everything else reads zero, as Pending Table Zero does.
-pub fn gicr_read(linux: bool, redist: &Redist, off: u32, size: u8) -> u64
-    requires { AreLow redist.now.bases }
-    ensures { result ≡ spec.read_gicr linux redist.now.bases off size }
+pub fn gicr_read(linux: bool, conf: &Conf, off: u32, size: u8) -> u64
+    requires { AreLow conf.now.bases }
+    ensures { result ≡ spec.read_gicr linux conf.now.bases off size }
 {
-    read_gicr(linux, &redist.bases, off, size)
+    read_gicr(linux, &conf.bases, off, size)
+}
+
+/// Whether a write of `size` bytes at an offset asks to turn LPIs on or off, so that it changes
+/// what is pending too.
+pub fn changes_pending(conf: &Conf, off: u32, size: u8, value: u64) -> bool
+    requires { AreLow conf.now.bases }
+    ensures { result ≡ spec.changes_pending (spec.asked_by conf.now.bases off size value) }
+{
+    match asked_by(&conf.bases, off, size, value) {
+        GicrWrite::Enable | GicrWrite::Disable => true,
+        GicrWrite::Ignored | GicrWrite::SetBases(_) | GicrWrite::Reread(_) | GicrWrite::RereadAll =>
+            false,
+    }
+}
+
+/// Whether it asks to read the redistributor's tables, so that it needs guest memory.
+pub fn reads_tables(conf: &Conf, off: u32, size: u8, value: u64) -> bool
+    requires { AreLow conf.now.bases }
+    ensures { result ≡ spec.reads_tables (spec.asked_by conf.now.bases off size value) }
+{
+    match asked_by(&conf.bases, off, size, value) {
+        GicrWrite::Enable | GicrWrite::Reread(_) | GicrWrite::RereadAll => true,
+        GicrWrite::Ignored | GicrWrite::SetBases(_) | GicrWrite::Disable => false,
+    }
 }
 
 /// A write of `size` bytes at an offset of a redistributor's LPI registers: what it asks for
@@ -24,98 +52,181 @@ pub fn gicr_read(linux: bool, redist: &Redist, off: u32, size: u8) -> u64
 /// unless Pending Table Zero is set.
 #[tactic(auto, unfolding(gicr_regs::specs::Registers::written_gicr, gicr_regs::specs::Registers::done_by))]
 pub fn gicr_write(
-    redist: &mut Redist,
+    conf: &mut Conf,
+    pend: &mut Pend,
     memory: &Memory,
     shape: &Shape,
     off: u32,
     size: u8,
     value: u64,
 )
-    requires low { AreLow redist.old.bases }
-    requires lpis { HasLpisOf shape.now redist.old }
-    ensures written { redistributor_of redist.new
-        ≡ spec.written_gicr shape.now memory.now (redistributor_of redist.old) off size value }
-    ensures low { AreLow redist.new.bases }
-    ensures lpis { HasLpisOf shape.now redist.new }
+    requires low { AreLow conf.old.bases }
+    requires conf_lpis { HasLpisOfConf shape.now conf.old }
+    requires pend_lpis { HasLpisOfPend shape.now pend.old }
+    ensures written { redistributor_of conf.new pend.new ≡ spec.written_gicr shape.now memory.now
+        (redistributor_of conf.old pend.old) off size value }
+    ensures low { AreLow conf.new.bases }
+    ensures conf_lpis { HasLpisOfConf shape.now conf.new }
+    ensures pend_lpis { HasLpisOfPend shape.now pend.new }
 {
-    match asked_by(&redist.bases, off, size, value) {
+    match asked_by(&conf.bases, off, size, value) {
         GicrWrite::Ignored => {}
-        GicrWrite::SetBases(bases) => redist.bases = bases,
-        GicrWrite::Enable => turn_on(redist, memory, shape),
-        GicrWrite::Disable => turn_off(redist, shape),
-        GicrWrite::Reread(intid) => reread(redist, memory, shape, intid),
-        GicrWrite::RereadAll => reload(redist, memory, shape),
+        GicrWrite::SetBases(bases) => conf.bases = bases,
+        GicrWrite::Enable => turn_on(conf, pend, memory, shape),
+        GicrWrite::Disable => turn_off(conf, pend, shape),
+        GicrWrite::Reread(intid) => reread(conf, memory, shape, intid),
+        GicrWrite::RereadAll => reload(conf, memory, shape),
+    }
+}
+
+/// The same, where the write doesn't ask to read a table: it needs no memory.
+#[tactic(auto, unfolding(gicr_regs::specs::Registers::written_gicr, gicr_regs::specs::Registers::done_by))]
+pub fn turn_off_write(
+    conf: &mut Conf,
+    pend: &mut Pend,
+    shape: &Shape,
+    off: u32,
+    size: u8,
+    value: u64,
+)
+    requires low { AreLow conf.old.bases }
+    requires conf_lpis { HasLpisOfConf shape.now conf.old }
+    requires pend_lpis { HasLpisOfPend shape.now pend.old }
+    requires no_table { spec.reads_tables (spec.asked_by conf.old.bases off size value) ≡ false }
+    ensures written { (memory : List Window)
+        → redistributor_of conf.new pend.new ≡ spec.written_gicr shape.now memory
+        (redistributor_of conf.old pend.old) off size value }
+    ensures low { AreLow conf.new.bases }
+    ensures conf_lpis { HasLpisOfConf shape.now conf.new }
+    ensures pend_lpis { HasLpisOfPend shape.now pend.new }
+{
+    match asked_by(&conf.bases, off, size, value) {
+        GicrWrite::Ignored => {}
+        GicrWrite::SetBases(bases) => conf.bases = bases,
+        GicrWrite::Disable => turn_off(conf, pend, shape),
+        GicrWrite::Enable | GicrWrite::Reread(_) | GicrWrite::RereadAll => unreachable!(),
+    }
+}
+
+/// The same, where the write asks to turn LPIs neither on nor off: it needs nothing of what is
+/// pending.
+#[tactic(auto, unfolding(gicr_regs::specs::Registers::conf_done_by))]
+pub fn conf_write(conf: &mut Conf, memory: &Memory, shape: &Shape, off: u32, size: u8, value: u64)
+    requires low { AreLow conf.old.bases }
+    requires lpis { HasLpisOfConf shape.now conf.old }
+    requires not_pending { spec.changes_pending (spec.asked_by conf.old.bases off size value) ≡ false }
+    ensures written { conf_state conf.new ≡ spec.conf_done_by shape.now memory.now
+        (spec.asked_by conf.old.bases off size value) (conf_state conf.old) }
+    ensures low { AreLow conf.new.bases }
+    ensures lpis { HasLpisOfConf shape.now conf.new }
+{
+    match asked_by(&conf.bases, off, size, value) {
+        GicrWrite::Ignored => {}
+        GicrWrite::SetBases(bases) => conf.bases = bases,
+        GicrWrite::Reread(intid) => reread(conf, memory, shape, intid),
+        GicrWrite::RereadAll => reload(conf, memory, shape),
+        GicrWrite::Enable | GicrWrite::Disable => unreachable!(),
+    }
+}
+
+/// The same, where it doesn't ask to read a table either: it needs no memory.
+#[tactic(auto, unfolding(gicr_regs::specs::Registers::conf_done_by))]
+pub fn conf_set(conf: &mut Conf, off: u32, size: u8, value: u64)
+    requires low { AreLow conf.old.bases }
+    requires not_pending { spec.changes_pending (spec.asked_by conf.old.bases off size value) ≡ false }
+    requires no_table { spec.reads_tables (spec.asked_by conf.old.bases off size value) ≡ false }
+    ensures written { (shape : Shape) (memory : List Window)
+        → conf_state conf.new ≡ spec.conf_done_by shape memory
+        (spec.asked_by conf.old.bases off size value) (conf_state conf.old) }
+    ensures low { AreLow conf.new.bases }
+    ensures config { conf.new.config ≡ conf.old.config }
+{
+    match asked_by(&conf.bases, off, size, value) {
+        GicrWrite::Ignored => {}
+        GicrWrite::SetBases(bases) => conf.bases = bases,
+        GicrWrite::Enable | GicrWrite::Disable | GicrWrite::Reread(_) | GicrWrite::RereadAll =>
+            unreachable!(),
     }
 }
 
 // LPIs are on from now on, where both tables lie in memory.
 #[tactic(auto, unfolding(gicr_regs::specs::Registers::done_by, gicr_regs::specs::Registers::turned_on))]
-fn turn_on(redist: &mut Redist, memory: &Memory, shape: &Shape)
-    requires { HasLpisOf shape.now redist.old }
-    ensures done { redistributor_of redist.new
-        ≡ spec.done_by shape.now memory.now GicrWrite.Enable (redistributor_of redist.old) }
-    ensures low { AreLow redist.old.bases → AreLow redist.new.bases }
-    ensures lpis { HasLpisOf shape.now redist.new }
+fn turn_on(conf: &mut Conf, pend: &mut Pend, memory: &Memory, shape: &Shape)
+    requires conf_lpis { HasLpisOfConf shape.now conf.old }
+    requires pend_lpis { HasLpisOfPend shape.now pend.old }
+    ensures done { redistributor_of conf.new pend.new ≡ spec.done_by shape.now memory.now
+        GicrWrite.Enable (redistributor_of conf.old pend.old) }
+    ensures low { AreLow conf.old.bases → AreLow conf.new.bases }
+    ensures conf_lpis { HasLpisOfConf shape.now conf.new }
+    ensures pend_lpis { HasLpisOfPend shape.now pend.new }
 {
-    let Bases { prop, pend, .. } = redist.bases;
-    let lpi_bits = redist.pending.lpi_bits();
+    let Bases {
+        prop,
+        pend: table,
+        ..
+    } = conf.bases;
+    let lpi_bits = pend.pending.lpi_bits();
     prove!(lpi_bits == shape.lpi_bits);
     if memory.inside(prop.table, shape.lpi_count())
-        && memory.inside(pend.table, shape.pending_bytes())
+        && memory.inside(table.table, shape.pending_bytes())
     {
-        redist.config.read_table(memory, prop.table);
-        if !pend.ptz {
-            redist.pending.read_table(memory, pend.table);
+        conf.config.read_table(memory, prop.table);
+        if !table.ptz {
+            pend.pending.read_table(memory, table.table);
         }
-        redist.bases.on = true;
+        conf.bases.on = true;
+        pend.accepts = true;
     }
 }
 
 // LPIs are off from now on, where the machine lets them.
-fn turn_off(redist: &mut Redist, shape: &Shape)
-    requires { HasLpisOf shape.now redist.old }
-    ensures done { redistributor_of redist.new ≡ (if shape.now.linux
-        then spec.turned_off shape.now (redistributor_of redist.old)
-        else redistributor_of redist.old) }
-    ensures low { AreLow redist.old.bases → AreLow redist.new.bases }
-    ensures lpis { HasLpisOf shape.now redist.new }
+fn turn_off(conf: &mut Conf, pend: &mut Pend, shape: &Shape)
+    requires conf_lpis { HasLpisOfConf shape.now conf.old }
+    requires pend_lpis { HasLpisOfPend shape.now pend.old }
+    ensures done { redistributor_of conf.new pend.new ≡ (if shape.now.linux
+        then spec.turned_off shape.now (redistributor_of conf.old pend.old)
+        else redistributor_of conf.old pend.old) }
+    ensures low { AreLow conf.old.bases → AreLow conf.new.bases }
+    ensures conf_lpis { HasLpisOfConf shape.now conf.new }
+    ensures pend_lpis { HasLpisOfPend shape.now pend.new }
 {
     if shape.linux {
-        redist.config.clear();
-        redist.pending.clear_all();
-        redist.bases.on = false;
+        conf.config.clear();
+        conf.bases.on = false;
+        pend.pending.clear_all();
+        pend.accepts = false;
     }
 }
 
 // Reads the configuration of an LPI again, where LPIs are on.
-#[tactic(auto, unfolding(gicr_regs::specs::Registers::done_by, gicr_regs::specs::Redistributors::reread_at))]
-fn reread(redist: &mut Redist, memory: &Memory, shape: &Shape, intid: Intid)
-    requires low { AreLow redist.old.bases }
-    requires lpis { HasLpisOf shape.now redist.old }
-    ensures done { redistributor_of redist.new
-        ≡ spec.done_by shape.now memory.now (GicrWrite.Reread intid) (redistributor_of redist.old) }
-    ensures bases { redist.new.bases ≡ redist.old.bases }
-    ensures lpis { HasLpisOf shape.now redist.new }
+#[tactic(auto, unfolding(gicr_regs::specs::Registers::conf_done_by, gicr_regs::specs::Redistributors::conf_reread_at))]
+fn reread(conf: &mut Conf, memory: &Memory, shape: &Shape, intid: Intid)
+    requires low { AreLow conf.old.bases }
+    requires lpis { HasLpisOfConf shape.now conf.old }
+    ensures done { conf_state conf.new ≡ spec.conf_done_by shape.now memory.now
+        (GicrWrite.Reread intid) (conf_state conf.old) }
+    ensures bases { conf.new.bases ≡ conf.old.bases }
+    ensures lpis { HasLpisOfConf shape.now conf.new }
 {
-    if !intid.in_range(shape.lpi_bits) || !redist.bases.on {
+    if !intid.in_range(shape.lpi_bits) || !conf.bases.on {
         return;
     }
     let place = u64::from(intid.0 - FIRST_LPI);
-    if let Ok(byte) = memory.read_u8(Addr(redist.bases.prop.table.0 + place)) {
-        redist.config.reload(intid, byte);
+    if let Ok(byte) = memory.read_u8(Addr(conf.bases.prop.table.0 + place)) {
+        conf.config.reload(intid, byte);
     }
 }
 
 // Reads that of all LPIs again.
-#[tactic(auto, unfolding(gicr_regs::specs::Registers::done_by, gicr_regs::specs::Redistributors::reloaded))]
-fn reload(redist: &mut Redist, memory: &Memory, shape: &Shape)
-    requires { HasLpisOf shape.now redist.old }
-    ensures done { redistributor_of redist.new
-        ≡ spec.done_by shape.now memory.now GicrWrite.RereadAll (redistributor_of redist.old) }
-    ensures bases { redist.new.bases ≡ redist.old.bases }
-    ensures lpis { HasLpisOf shape.now redist.new }
+#[tactic(auto, unfolding(gicr_regs::specs::Registers::conf_done_by))]
+fn reload(conf: &mut Conf, memory: &Memory, shape: &Shape)
+    requires { HasLpisOfConf shape.now conf.old }
+    ensures done { conf_state conf.new ≡ spec.conf_done_by shape.now memory.now GicrWrite.RereadAll
+        (conf_state conf.old) }
+    ensures bases { conf.new.bases ≡ conf.old.bases }
+    ensures lpis { HasLpisOfConf shape.now conf.new }
 {
-    if redist.bases.on {
-        redist.config.read_table(memory, redist.bases.prop.table);
+    if conf.bases.on {
+        conf.config.read_table(memory, conf.bases.prop.table);
     }
 }

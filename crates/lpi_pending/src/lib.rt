@@ -5,14 +5,16 @@ mod best;
 mod bitmap;
 mod gicr;
 mod lanes;
+mod pend;
 mod pending;
 mod places;
-mod redist;
 mod steps;
 
-pub use gicr::{gicr_read, gicr_write};
+pub use gicr::{
+    changes_pending, conf_set, conf_write, gicr_read, gicr_write, reads_tables, turn_off_write,
+};
 pub use lanes::first_nonzero;
+pub use pend::Pend;
 pub use pending::Pending;
 pub use places::Redists;
-pub use redist::Redist;
 pub use steps::Steps;

@@ -1,118 +1,201 @@
-//! The redistributors that are in hand.
+//! The redistributors that are in hand, each in two parts.
 ghost use Rattle.std.specs.Prelude.{◌≡◌, ◌<◌, Some, None, is_some, true, length, replicate};
 ghost use Rattle.std.specs.Prelude.{slice_set};
 
-use crate::redist::Redist;
+use crate::pend::Pend;
 use its_types::Vcpu;
+use lpi_config::Conf;
 use std::marker::Model;
 
-// A redistributor in hand.
+// A configuration in hand.
 #[derive(Drop)]
-struct Held {
-    redist: Box<Redist>,
+struct HeldConf {
+    conf: Box<Conf>,
 }
 
-impl Model for Held {
-    ghost use Rattle.lpi_pending.specs.declared.redist.Redist.{Redist};
-    ghost use Rattle.lpi_pending.specs.InHand.{redist_code};
+impl Model for HeldConf {
+    ghost use Rattle.lpi_config.specs.declared.conf.Conf.{Conf};
+    ghost use Rattle.lpi_pending.specs.InHand.{held_conf_code};
 
-    ghost Value = { Redist };
+    ghost Value = { Conf };
 
-    ghost coded = { redist_code };
+    ghost coded = { held_conf_code };
 
-    ghost view = { λ h. h.redist.value };
+    ghost view = { λ h. h.conf.value };
 }
 
-impl Held {
+impl HeldConf {
     ghost use Rattle.std.specs.Prelude.{◌≡◌};
     ghost use Rattle.std.specs.Borrow.{sem};
-    ghost use Rattle.lpi_pending.specs.Lending.{LendsHeld};
+    ghost use Rattle.lpi_pending.specs.Lending.{LendsHeldConf};
 
-    fn lend(&mut self) -> &mut Redist
-        ensures* writes_back { sem 𝓛 (LendsHeld self.entry result) }
+    fn lend(&mut self) -> &mut Conf
+        ensures* writes_back { sem 𝓛 (LendsHeldConf self.entry result) }
         ensures value { self.old ≡ result.now }
     {
-        &mut self.redist
+        &mut self.conf
     }
 }
 
-/// Places for the redistributors of virtual processors 0 to 15. Each holds one, which is then in
-/// hand, or is empty.
+// What is pending, in hand.
+#[derive(Drop)]
+struct HeldPend {
+    pend: Box<Pend>,
+}
+
+impl Model for HeldPend {
+    ghost use Rattle.lpi_pending.specs.declared.pend.Pend.{Pend};
+    ghost use Rattle.lpi_pending.specs.InHand.{held_pend_code};
+
+    ghost Value = { Pend };
+
+    ghost coded = { held_pend_code };
+
+    ghost view = { λ h. h.pend.value };
+}
+
+impl HeldPend {
+    ghost use Rattle.std.specs.Prelude.{◌≡◌};
+    ghost use Rattle.std.specs.Borrow.{sem};
+    ghost use Rattle.lpi_pending.specs.Lending.{LendsHeldPend};
+
+    fn lend(&mut self) -> &mut Pend
+        ensures* writes_back { sem 𝓛 (LendsHeldPend self.entry result) }
+        ensures value { self.old ≡ result.now }
+    {
+        &mut self.pend
+    }
+}
+
+/// Places for the redistributors of virtual processors 0 to 15, of each for both parts. A place
+/// holds one part, which is then in hand, or is empty.
 #[derive(Drop)]
 pub struct Redists {
-    places: [Option<Held>; 16],
+    confs: [Option<HeldConf>; 16],
+    pends: [Option<HeldPend>; 16],
 }
 
 impl Model for Redists {
-    ghost use Rattle.std.specs.Prelude.{◌≡◌, List, Option, length};
-    ghost use Rattle.lpi_pending.specs.declared.redist.Redist.{Redist};
+    ghost use Rattle.std.specs.Prelude.{◌≡◌, length};
+    ghost use Rattle.lpi_pending.specs.InHand.{RedistParts, redist_parts_code};
 
-    ghost Value = { List (Option Redist) };
+    ghost Value = { RedistParts };
 
-    ghost view = { λ r. r.places };
+    ghost coded = { redist_parts_code };
 
-    ghost invariant = { λ r. length r.places ≡ 16 };
+    ghost view = { λ r. record { confs = r.confs; pends = r.pends } };
+
+    ghost invariant = { λ r. (length r.confs ≡ 16) × (length r.pends ≡ 16) };
 }
 
 impl Redists {
     ghost use Rattle.std.specs.Prelude.{◌≡◌, ◌<◌, Some, None, is_some, true, length};
-    ghost use Rattle.std.specs.Prelude.{replicate, slice_set};
     ghost use Rattle.std.specs.Borrow.{sem};
-    ghost use Rattle.lpi_pending.specs.InHand.{in_hand};
-    ghost use Rattle.lpi_pending.specs.Lending.{LendsInHand};
+    ghost use Rattle.lpi_pending.specs.InHand.{conf_in, pend_in, set_conf, set_pend, no_redists};
+    ghost use Rattle.lpi_pending.specs.Lending.{LendsConf, LendsPend};
 
-    /// Sixteen empty places.
+    /// Sixteen empty places of each.
     pub fn new() -> Redists
-        ensures { result ≡ replicate 16 None }
+        ensures { result ≡ no_redists }
     {
         Redists {
-            places: [
+            confs: [
+                None, None, None, None, None, None, None, None, None, None, None, None, None, None,
+                None, None,
+            ],
+            pends: [
                 None, None, None, None, None, None, None, None, None, None, None, None, None, None,
                 None, None,
             ],
         }
     }
 
-    /// Puts a redistributor into its empty place.
-    pub fn place(&mut self, vcpu: Vcpu, redist: Box<Redist>)
+    /// Puts a configuration into its empty place.
+    pub fn place_conf(&mut self, vcpu: Vcpu, conf: Box<Conf>)
         requires in_range { vcpu.0 < 16 }
-        requires empty { in_hand self.old vcpu.0 ≡ None }
-        ensures placed { self.new ≡ slice_set self.old vcpu.0 (Some redist.value) }
-        ensures size { length self.new ≡ 16 }
+        requires empty { conf_in self.old vcpu.0 ≡ None }
+        ensures placed { self.new ≡ set_conf self.old vcpu.0 (Some conf.value) }
+        ensures confs { length self.new.confs ≡ 16 }
+        ensures pends { length self.new.pends ≡ 16 }
     {
-        self.places[vcpu.0 as usize] = Some(Held { redist });
+        self.confs[vcpu.0 as usize] = Some(HeldConf { conf });
     }
 
-    /// Takes a redistributor that is in hand, and leaves its place empty.
-    pub fn take_out(&mut self, vcpu: Vcpu) -> Box<Redist>
-        requires { is_some (in_hand self.old vcpu.0) ≡ true }
-        ensures value { in_hand self.old vcpu.0 ≡ Some result.value }
-        ensures taken { self.new ≡ slice_set self.old vcpu.0 None }
+    /// Puts what is pending into its empty place.
+    pub fn place_pend(&mut self, vcpu: Vcpu, pend: Box<Pend>)
+        requires in_range { vcpu.0 < 16 }
+        requires empty { pend_in self.old vcpu.0 ≡ None }
+        ensures placed { self.new ≡ set_pend self.old vcpu.0 (Some pend.value) }
+        ensures confs { length self.new.confs ≡ 16 }
+        ensures pends { length self.new.pends ≡ 16 }
     {
-        match self.places[vcpu.0 as usize].take() {
-            Some(Held { redist }) => redist,
+        self.pends[vcpu.0 as usize] = Some(HeldPend { pend });
+    }
+
+    /// Takes a configuration that is in hand, and leaves its place empty.
+    pub fn take_conf(&mut self, vcpu: Vcpu) -> Box<Conf>
+        requires { is_some (conf_in self.old vcpu.0) ≡ true }
+        ensures value { conf_in self.old vcpu.0 ≡ Some result.value }
+        ensures taken { self.new ≡ set_conf self.old vcpu.0 None }
+    {
+        match self.confs[vcpu.0 as usize].take() {
+            Some(HeldConf { conf }) => conf,
             None => unreachable!(),
         }
     }
 
-    /// A redistributor that is in hand.
-    pub fn redist(&self, vcpu: Vcpu) -> &Redist
-        requires { is_some (in_hand self.now vcpu.0) ≡ true }
-        ensures { in_hand self.now vcpu.0 ≡ Some result.now }
+    /// Takes what is pending and in hand, and leaves its place empty.
+    pub fn take_pend(&mut self, vcpu: Vcpu) -> Box<Pend>
+        requires { is_some (pend_in self.old vcpu.0) ≡ true }
+        ensures value { pend_in self.old vcpu.0 ≡ Some result.value }
+        ensures taken { self.new ≡ set_pend self.old vcpu.0 None }
     {
-        match &self.places[vcpu.0 as usize] {
-            Some(held) => &held.redist,
+        match self.pends[vcpu.0 as usize].take() {
+            Some(HeldPend { pend }) => pend,
             None => unreachable!(),
         }
     }
 
-    /// A redistributor that is in hand, to be changed.
-    pub fn redist_mut(&mut self, vcpu: Vcpu) -> &mut Redist
-        requires { is_some (in_hand self.old vcpu.0) ≡ true }
-        ensures* writes_back { sem 𝓛 (LendsInHand self.entry vcpu.0 result) }
-        ensures value { in_hand self.old vcpu.0 ≡ Some result.now }
+    /// A configuration that is in hand.
+    pub fn conf(&self, vcpu: Vcpu) -> &Conf
+        requires { is_some (conf_in self.now vcpu.0) ≡ true }
+        ensures { conf_in self.now vcpu.0 ≡ Some result.now }
     {
-        let place = &mut self.places[vcpu.0 as usize];
+        match &self.confs[vcpu.0 as usize] {
+            Some(held) => &held.conf,
+            None => unreachable!(),
+        }
+    }
+
+    /// What is pending, and in hand.
+    pub fn pend(&self, vcpu: Vcpu) -> &Pend
+        requires { is_some (pend_in self.now vcpu.0) ≡ true }
+        ensures { pend_in self.now vcpu.0 ≡ Some result.now }
+    {
+        match &self.pends[vcpu.0 as usize] {
+            Some(held) => &held.pend,
+            None => unreachable!(),
+        }
+    }
+
+    /// A configuration that is in hand, to be changed.
+    pub fn conf_mut(&mut self, vcpu: Vcpu) -> &mut Conf
+        requires { is_some (conf_in self.old vcpu.0) ≡ true }
+        ensures* writes_back { sem 𝓛 (LendsConf self.entry vcpu.0 result) }
+        ensures value { conf_in self.old vcpu.0 ≡ Some result.now }
+    {
+        let place = &mut self.confs[vcpu.0 as usize];
+        let held = place.as_mut().unwrap();
+        held.lend()
+    }
+
+    /// What is pending, and in hand, to be changed.
+    pub fn pend_mut(&mut self, vcpu: Vcpu) -> &mut Pend
+        requires { is_some (pend_in self.old vcpu.0) ≡ true }
+        ensures* writes_back { sem 𝓛 (LendsPend self.entry vcpu.0 result) }
+        ensures value { pend_in self.old vcpu.0 ≡ Some result.now }
+    {
+        let place = &mut self.pends[vcpu.0 as usize];
         let held = place.as_mut().unwrap();
         held.lend()
     }
