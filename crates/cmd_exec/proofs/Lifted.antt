@@ -1,5 +1,5 @@
 -- The parts in hand after an effect are those of the state that the plain machine goes on in.
-use Rattle.std.proofs.Common.{◌≡◌, ℕ, zero, suc, ◌<◌, Bool, true, false, cond, eqb, List, [], ◌∷◌, map, set, Option, Some, None, inl, inr, refl, sym, ap}
+use Rattle.std.proofs.Common.{◌≡◌, ℕ, ◌<◌, Bool, true, false, cond, eqb, List, [], ◌∷◌, map, set, Option, Some, None, inl, inr, refl, sym, ap}
 use Rattle.std.proofs.Common.{subst, ◌∙◌, arith}
 use Rattle.std.specs.Prelude.{is_some, slice_get}
 use Rattle.std.specs.Option.{option_map}
@@ -85,10 +85,10 @@ pub changed_are : (u : Plain) (rs : RedistParts) (v : ℕ) (f : PendState → Pe
 unfolding pend_changed
 changed_are u rs v f h = (confs, pends)
   where
-    abbrev now : Redistributor
+    now : Redistributor
     now = with_pend (f (pend_of (redistributor u v))) (redistributor u v)
 
-    abbrev u' : Plain
+    u' : Plain
     u' = with_redistributor u v now
 
     confs : (w : ℕ) (c : Conf) → conf_in rs w ≡ Some c → IsConfOf u' w c
@@ -139,7 +139,7 @@ pub below_are : (u : Plain) (rs : RedistParts) (n : ℕ) (f : ConfState → Conf
 unfolding confs_changed
 below_are u rs n f below h = (confs, pends)
   where
-    abbrev u' : Plain
+    u' : Plain
     u' = record u { redistributors = map (conf_through f) u.redistributors }
 
     pends : (v : ℕ) (p : Pend) → pend_in rs v ≡ Some p → IsPendOf u' v p
@@ -256,12 +256,12 @@ module _ (i : ℕ) (s : Shape) (r : Registers) (memory : List Window) where
       let emptied : Plain = with_pending u from [] in
       let taken : RedistParts = pend_changed from with_none rs in
       let once : Are emptied m taken = one_are u m rs from with_none h in
-      let filled : Are (with_redistributor emptied to (with_all lpis (redistributor emptied to))) m (pend_changed to (with_all lpis) taken) =
+      let filled : Are (with_pending emptied to (with_lpis lpis (pending_of emptied to))) m (pend_changed to (with_all lpis) taken) =
       one_are emptied m taken to (with_all lpis) once in
       by_test (eqb from to) (with_pending emptied to (with_lpis (pending_of u from) (pending_of u to))) (pend_changed to (with_all lpis) taken)
       (λ (off : eqb from to ≡ false).
       let other : to ≡ from → ⊥ = λ (e : to ≡ from). eqb-false from to off (sym e) in
-      let there : redistributor emptied to ≡ redistributor u to = get_or-set_other u.redistributors from to (with_none (redistributor u from)) no_redistributor
+      let there : redistributor emptied to ≡ redistributor u to = get_or-set_other u.redistributors from to (record (redistributor u from) { pending = [] }) no_redistributor
       other in
       let same : with_lpis lpis (pending_of emptied to) ≡ with_lpis (pending_of u from) (pending_of u to) =
       ap (λ (x : Redistributor). with_lpis lpis x.pending) there ∙ ap (λ (xs : List ℕ). with_lpis xs (pending_of u to))

@@ -1,6 +1,6 @@
 -- What is promised of a command (IHI 0069, section 5.3) that is executed on parts in hand: in each state that has them, its outcome is what the plain machine
 -- says.
-use Rattle.std.specs.Prelude.{◌≡◌, ℕ, List, Option, Result, Ok, Err}
+use Rattle.std.specs.Prelude.{◌≡◌, ℕ, List, Result, Ok, Err}
 use Rattle.guest_windows.specs.Windows.{Window}
 use Rattle.gits_regs.specs.Registers.{Registers}
 use Rattle.its_command.specs.Commands.{op_of}

@@ -7,7 +7,7 @@ use Rattle.its_types.specs.Ranges.{is_lpi}
 use Rattle.its_plain.specs.Plain.{ConfState, PendState}
 use Rattle.lpi_config.specs.Conf.{conf_state}
 use Rattle.lpi_config.specs.declared.conf.Conf.{Conf}
-use Rattle.lpi_pending.specs.InHand.{RedistParts, conf_in, pend_in, pend_state}
+use Rattle.lpi_pending.specs.InHand.{RedistParts, pend_in, pend_state}
 use Rattle.lpi_pending.specs.declared.pend.Pend.{Pend}
 
 -- ---- one part

@@ -1,5 +1,5 @@
 -- What a command adds to the maps (IHI 0069, section 5.2), and what room that needs.
-use Rattle.std.specs.Prelude.{◌≡◌, ◌≤◌, ℕ, Bool, true, false, not, ◌&&◌, is_some, is_ok, List, Option, Result, Ok, Err, IfOk}
+use Rattle.std.specs.Prelude.{◌≡◌, ◌≤◌, ℕ, Bool, true, false, not, ◌&&◌, is_some, is_ok, List, Result, Ok, Err, IfOk}
 use Rattle.guest_windows.specs.Windows.{Window}
 use Rattle.gits_regs.specs.Registers.{Registers}
 use Rattle.its_command.specs.declared.command.Command.{Command}

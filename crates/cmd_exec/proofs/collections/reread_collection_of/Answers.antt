@@ -31,3 +31,10 @@ loop-event-preserved-then-eq c =
           ∙ ap (λ (xs : List ℕ). confs_changed n (conf_all_reread_at memory xs) rs) (sym is) ∙ c.loop-event.invariant.rest;
       each = each_more n memory (x ∷ []) rest rs now c.reread_each.ensures (subst (CanEachReread n rs) is c.loop-event.invariant.each);
     }
+
+pub returns : goal.returns
+returns c =
+    let memory = c.args.memory.now in let icid = c.args.icid.0 in let n = c.args.vcpus in
+    let done : [] ≡ lpis_of (events_left c.loop-event.event-iterator) icid = ap (λ (es : List (ℕ × Event)). lpis_of es icid) (sym c.in-None.ensures.steps.0) in
+    sym (read_none n memory c.loop-event.redists)
+    ∙ ap (λ (xs : List ℕ). confs_changed n (conf_all_reread_at memory xs) c.loop-event.redists) done ∙ c.loop-event.invariant.rest

@@ -1,4 +1,4 @@
-use Rattle.std.proofs.Common.{List, Option, Result, IfOk, sym, ap, subst, ◌∙◌}
+use Rattle.std.proofs.Common.{Result, IfOk, sym, ap, subst, ◌∙◌}
 use Rattle.std.specs.Prelude.{is_some}
 use Rattle.gits_regs.specs.Registers.{Registers, advanced}
 use Rattle.its_types.specs.Maps.{Maps}
