@@ -1,4 +1,5 @@
 pub mod Opened
+pub mod Places
 pub mod InHand
 pub mod Targets
 pub mod Walks

@@ -1,137 +1,155 @@
--- Redistributors held in front of other parts.
+-- Parts of redistributors held in front of other parts: of one kind, which `as_held` says, each with a number.
 use Rattle.std.proofs.Common.{◌≡◌, ◌≢◌, ℕ, ◌<◌, ◌≤◌, true, ◌&&◌, nat_lt, List, Option, Some, None, refl, ap, sym, ◌∙◌}
 use Rattle.std.proofs.Common.{subst, arith}
 use Rattle.std.proofs.lemmas.Bool.{and_parts, ltb-true}
-use Rattle.std.proofs.lemmas.Option.{get_or_from_slice_get}
 use Rattle.std.specs.Prelude.{is_some}
 use Rattle.std.specs.List.{AllByRecursion}
 use Rattle.its_types.specs.declared.machine.Part.{Part}
 use Rattle.its_types.specs.declared.machine.Part.TheVariants as part
-use Rattle.its_plain.specs.Plain.{Plain, Redistributor, redistributor, no_redistributor}
-use Rattle.lpi_pending.specs.InHand.{in_hand}
-use Rattle.lpi_pending.specs.declared.redist.Redist.{Redist as Owned}
-use Rattle.owned_parts.specs.Owned.{redistributor_of, AreRedistributorsOf}
-use Rattle.owned_parts.specs.RedistSets.{is_in}
-use Rattle.its_steps.specs.Contents.{Content, Held, Redist}
+use Rattle.its_plain.specs.Parts.{conf, pend}
+use Rattle.its_plain.specs.Plain.{Plain}
+use Rattle.lpi_config.specs.declared.conf.Conf.{Conf as ConfInHand}
+use Rattle.lpi_pending.specs.declared.pend.Pend.{Pend as PendInHand}
+use Rattle.its_steps.specs.Contents.{Content, Held}
 use Rattle.its_steps.specs.Good.{Holds, Apart}
 use Rattle.its_steps.specs.MayCall.{Owes}
 use Rattle.its_steps.specs.MayCommit.{IsOut}
 use Rattle.its_steps.specs.Parts.{Setup, Stands, vcpu_count}
 use Rattle.its_steps.specs.Renewal.{renewed, content_in}
-use Rattle.its_steps.specs.World.{out}
 use Rattle.its_steps.specs.declared.commit.Commit.{Commit}
 use Rattle.its_steps.proofs.Owed.{owes_holds}
-use Rattle.held_parts.specs.Redists.{redist_held, held_if_in, redist_row, redists_held, AreOfSet, HoldsNoRedist}
+use Rattle.owned_parts.specs.RedistSets.{is_in}
+use Rattle.held_parts.specs.Rows.{in_row}
+use Rattle.held_parts.specs.Redists.{at_place, held_if_in, row_of, conf_held, pend_held, AreWanted}
 use Rattle.held_parts.proofs.InRows.{row_holds, row_owes, row_has, row_lacks, row_all, row_apart, row_renewed}
 
--- ---- what stands in the row
-
-pub record IsInHand (redists : List (Option Owned)) (k : ℕ) (x : Held) : Type 0 where
-  pub redist : Owned
-  pub there : in_hand redists k ≡ Some redist
-  pub is : redist_held k redist ≡ x
-
-if_in_is : (k : ℕ) (o : Option Owned) (x : Held) → held_if_in k o ≡ Some x → (r : Owned) × (o ≡ Some r) × (redist_held k r ≡ x)
-if_in_is k None x e = absurd cc
-if_in_is k (Some r) x e = (r, refl, same (redist_held k r) x e)
-  where
-    same : (a b : Held) → Some a ≡ Some b → a ≡ b
-    same a b d = cc
-
-pub in_row_is : (redists : List (Option Owned)) (k : ℕ) (x : Held) → redist_row redists k ≡ Some x → IsInHand redists k x
-in_row_is redists k x e = let i = if_in_is k (in_hand redists k) x e in record { redist = i.0; there = i.1; is = i.2 }
+-- each is out of its slot, has a part of its own, and stands where there is such a processor
+pub record IsKind (T : Type 0) (as_held : ℕ → T → Held) (part_at : ℕ → Part) : Type 0 where
+  pub part_is : (k : ℕ) (x : T) → (as_held k x).part ≡ part_at k
+  pub is_out : (k : ℕ) (x : T) → IsOut (as_held k x)
+  pub differ : (j k : ℕ) → part_at j ≡ part_at k → j ≡ k
+  pub stands : (s : Setup) (k : ℕ) → k < vcpu_count s → Stands s (part_at k)
 
 number_of : Part → ℕ
-number_of (part.Redist v) = v.0
+number_of (part.Conf v) = v.0
+number_of (part.Pend v) = v.0
 number_of (part.Maps i) = 0
 number_of part.Mem = 0
 number_of (part.Shard i n) = 0
 
-pub differ : (redists : List (Option Owned)) (j k : ℕ) (x y : Held) → j < k → redist_row redists j ≡ Some x → redist_row redists k ≡ Some y → x.part ≢ y.part
+pub conf_kind : IsKind ConfInHand conf_held conf
 unfolding number_of
-differ redists j k x y lt a b e =
-    let i = in_row_is redists j x a in let m = in_row_is redists k y b in
-    let same : j ≡ k = ap (λ (h : Held). number_of h.part) i.is ∙ (ap number_of e ∙ ap (λ (h : Held). number_of h.part) (sym m.is)) in
-    omega (arith, lt, same)
+conf_kind = record { part_is = λ k x. refl; is_out = λ k x. refl; differ = λ j k e. ap number_of e; stands = λ s k lt. lt }
 
-some_is : (r : Owned) (o : Option Owned) → o ≡ Some r → is_some o ≡ true
-some_is r o is = ap (λ (x : Option Owned). is_some x) is
+pub pend_kind : IsKind PendInHand pend_held pend
+unfolding number_of
+pend_kind = record { part_is = λ k x. refl; is_out = λ k x. refl; differ = λ j k e. ap number_of e; stands = λ s k lt. lt }
 
--- ---- all that is held
+module _ {T : Type 0} (as_held : ℕ → T → Held) where
+  -- ---- what stands in the row
 
-module _ (redists : List (Option Owned)) (others : List Held) where
-  pub redists_hold : (n : ℕ) (p : Part) → Holds p others → Holds p (redists_held redists n others)
-  redists_hold n p h = row_holds (redist_row redists) others n p h
+  pub record IsInHand (places : List (Option T)) (k : ℕ) (x : Held) : Type 0 where
+    pub one : T
+    pub there : at_place places k ≡ Some one
+    pub is : as_held k one ≡ x
 
-  pub redists_owe : (n : ℕ) (p : Part) (c : Content) → Owes p c others → Owes p c (redists_held redists n others)
-  redists_owe n p c h = row_owes (redist_row redists) others n p c h
+  if_in_is : (k : ℕ) (o : Option T) (x : Held) → held_if_in as_held k o ≡ Some x → (r : T) × (o ≡ Some r) × (as_held k r ≡ x)
+  if_in_is k None x e = absurd cc
+  if_in_is k (Some r) x e = (r, refl, same (as_held k r) x e)
+    where
+      same : (a b : Held) → Some a ≡ Some b → a ≡ b
+      same a b d = cc
 
-  pub redist_owed : (n k : ℕ) (r : Owned) → k < n → in_hand redists k ≡ Some r → Owes (part.Redist (record { 0 = k })) (Redist (redistributor_of r))
-      (redists_held redists n others)
-  redist_owed n k r lt is = row_has (redist_row redists) others n k (redist_held k r) lt (ap (held_if_in k) is)
+  pub in_row_is : (places : List (Option T)) (k : ℕ) (x : Held) → row_of as_held places k ≡ Some x → IsInHand places k x
+  in_row_is places k x e = let i = if_in_is k (at_place places k) x e in record { one = i.0; there = i.1; is = i.2 }
 
-  some_held : (n k : ℕ) (o : Option Owned) → in_hand redists k ≡ o → k < n → is_some o ≡ true → Holds (part.Redist (record { 0 = k }))
-      (redists_held redists n others)
-  some_held n k None is lt some = absurd cc
-  some_held n k (Some r) is lt some = owes_holds (part.Redist (record { 0 = k })) (Redist (redistributor_of r)) (redists_held redists n others)
-      (redist_owed n k r lt is)
+  some_is : (r : T) (o : Option T) → o ≡ Some r → is_some o ≡ true
+  some_is r o is = ap (λ (x : Option T). is_some x) is
 
-  -- each that is in hand is held
-  pub redist_holds : (n k : ℕ) → k < n → is_some (in_hand redists k) ≡ true → Holds (part.Redist (record { 0 = k })) (redists_held redists n others)
-  redist_holds n k lt some = some_held n k (in_hand redists k) refl lt some
+  module _ (part_at : ℕ → Part) (kind : IsKind T as_held part_at) where
+    own_part : (places : List (Option T)) (k : ℕ) (x : Held) → IsInHand places k x → x.part ≡ part_at k
+    own_part places k x i = ap (λ (h : Held). h.part) (sym i.is) ∙ kind.part_is k i.one
 
-  -- one of n on is held only where the others have it
-  pub redist_above : (n k : ℕ) → n ≤ k → (Holds (part.Redist (record { 0 = k })) others → ⊥) → Holds (part.Redist (record { 0 = k }))
-      (redists_held redists n others) → ⊥
-  unfolding number_of
-  redist_above n k le lacks h = row_lacks (redist_row redists) others n (part.Redist (record { 0 = k })) (λ j x lt is e.
-      let i = in_row_is redists j x is in
-      let same : j ≡ k = ap (λ (y : Held). number_of y.part) i.is ∙ ap number_of e in
-      omega (arith, le, lt, same)) lacks h
+    pub differ : (places : List (Option T)) (j k : ℕ) (x y : Held) → j < k → row_of as_held places j ≡ Some x → row_of as_held places k ≡ Some y
+        → x.part ≢ y.part
+    differ places j k x y lt a b e =
+        let same : j ≡ k = kind.differ j k (sym (own_part places j x (in_row_is places j x a)) ∙ (e ∙ own_part places k y (in_row_is places k y b))) in
+        omega (arith, lt, same)
 
-  pub redists_out : (n : ℕ) → AllByRecursion IsOut others → AllByRecursion IsOut (redists_held redists n others)
-  redists_out n all = row_all (redist_row redists) others IsOut n (λ k x lt is. let i = in_row_is redists k x is in ap (λ (y : Held). y.out) (sym i.is)) all
+    -- ---- all that is held
 
-  pub redists_apart : (n : ℕ) → HoldsNoRedist others → Apart others → Apart (redists_held redists n others)
-  redists_apart n lacks apart =
-      row_apart (redist_row redists) others n (differ redists) (λ k x is holds. let i = in_row_is redists k x is in lacks (record { 0 = k })
-      (subst (λ (y : Held). Holds y.part others) (sym i.is) holds)) apart
+    module _ (places : List (Option T)) (others : List Held) where
+      abbrev all : ℕ → List Held
+      all n = in_row (row_of as_held places) n others
 
-  pub redists_stand : (s : Setup) (set : ℕ) (n : ℕ) → AreOfSet s set redists → AllByRecursion (λ x. Stands s x.part) others
-      → AllByRecursion (λ x. Stands s x.part) (redists_held redists n others)
-  redists_stand s set n are all = row_all (redist_row redists) others (λ x. Stands s x.part) n (λ k x lt is.
-      let i = in_row_is redists k x is in
-      let some : (is_in set k && nat_lt k (vcpu_count s)) ≡ true = sym (are.hand k) ∙ some_is i.redist (in_hand redists k) i.there in
-      subst (λ (y : Held). Stands s y.part) i.is (ltb-true k (vcpu_count s) (and_parts (is_in set k) (nat_lt k (vcpu_count s)) some).1)) all
+      pub parts_hold : (n : ℕ) (p : Part) → Holds p others → Holds p (all n)
+      parts_hold n p h = row_holds (row_of as_held places) others n p h
 
--- ---- after a commit
+      pub parts_owe : (n : ℕ) (p : Part) (c : Content) → Owes p c others → Owes p c (all n)
+      parts_owe n p c h = row_owes (row_of as_held places) others n p c h
 
-gone_if : (k : ℕ) (o o' : Option Owned) → is_some o' ≡ is_some o → held_if_in k o ≡ None → held_if_in k o' ≡ None
-gone_if k None None same is = refl
-gone_if k None (Some r) same is = absurd cc
-gone_if k (Some q) o' same is = absurd cc
+      pub part_owed : (n k : ℕ) (r : T) → k < n → at_place places k ≡ Some r → Owes (part_at k) (as_held k r).owed (all n)
+      part_owed n k r lt is = subst (λ (p : Part). Owes p (as_held k r).owed (all n)) (kind.part_is k r)
+          (row_has (row_of as_held places) others n k (as_held k r) lt (ap (held_if_in as_held k) is))
 
-new_if : (k : ℕ) (o' : Option Owned) (c : Redistributor) → is_some o' ≡ true → ((r : Owned) → o' ≡ Some r → c ≡ redistributor_of r)
-    → held_if_in k o' ≡ Some (out (part.Redist (record { 0 = k })) (Redist c))
-new_if k None c same each = absurd cc
-new_if k (Some r) c same each = ap (λ (y : Redistributor). Some (out (part.Redist (record { 0 = k })) (Redist y))) (sym (each r refl))
+      some_held : (n k : ℕ) (o : Option T) → at_place places k ≡ o → k < n → is_some o ≡ true → Holds (part_at k) (all n)
+      some_held n k None is lt some = absurd cc
+      some_held n k (Some r) is lt some = owes_holds (part_at k) (as_held k r).owed (all n) (part_owed n k r lt is)
 
--- the same redistributors are in hand, and are those of the state that it leaves
-pub redists_renewed : (s : Setup) (a : Commit) (z : Plain) (redists redists' : List (Option Owned)) (others : List Held) (n : ℕ)
-    → ((k : ℕ) → is_some (in_hand redists' k) ≡ is_some (in_hand redists k))
-    → ((k : ℕ) (r : Owned) → in_hand redists' k ≡ Some r → redistributor z k ≡ redistributor_of r) → renewed s a z (redists_held redists n others)
-    ≡ redists_held redists' n (renewed s a z others)
-redists_renewed s a z redists redists' others n same each =
-    row_renewed s a z (redist_row redists) (redist_row redists') others n (λ k lt is. gone_if k (in_hand redists k) (in_hand redists' k) (same k) is)
-    (λ k x lt is.
-    let i = in_row_is redists k x is in
-    subst (λ (y : Held). redist_row redists' k ≡ Some record y { owed = content_in s a z y.part y.owed }) i.is
-    (new_if k (in_hand redists' k) (redistributor z k) (same k ∙ some_is i.redist (in_hand redists k) i.there) (each k)))
+      -- each that is in hand is held
+      pub part_holds : (n k : ℕ) → k < n → is_some (at_place places k) ≡ true → Holds (part_at k) (all n)
+      part_holds n k lt some = some_held n k (at_place places k) refl lt some
 
--- where the state is one that has them
-pub redists_left : (s : Setup) (a : Commit) (z : Plain) (redists redists' : List (Option Owned)) (others : List Held) (n : ℕ)
-    → ((k : ℕ) → is_some (in_hand redists' k) ≡ is_some (in_hand redists k))
-    → AreRedistributorsOf z redists' → renewed s a z (redists_held redists n others) ≡ redists_held redists' n (renewed s a z others)
-redists_left s a z redists redists' others n same are =
-    redists_renewed s a z redists redists' others n same (λ k r is. get_or_from_slice_get z.redistributors k (redistributor_of r) no_redistributor
-    (are k r is).same)
+      -- a part of another kind is held only where the others have it
+      pub parts_lack : (n : ℕ) (p : Part) → ((k : ℕ) → part_at k ≢ p) → (Holds p others → ⊥) → Holds p (all n) → ⊥
+      parts_lack n p other lacks h = row_lacks (row_of as_held places) others n p (λ k x lt is e. other k
+          (sym (own_part places k x (in_row_is places k x is)) ∙ e)) lacks h
+
+      -- nor is one of n on
+      pub part_above : (n k : ℕ) → n ≤ k → (Holds (part_at k) others → ⊥) → Holds (part_at k) (all n) → ⊥
+      part_above n k le lacks h = row_lacks (row_of as_held places) others n (part_at k) (λ j x lt is e.
+          let same : j ≡ k = kind.differ j k (sym (own_part places j x (in_row_is places j x is)) ∙ e) in
+          omega (arith, le, lt, same)) lacks h
+
+      pub parts_out : (n : ℕ) → AllByRecursion IsOut others → AllByRecursion IsOut (all n)
+      parts_out n each = row_all (row_of as_held places) others IsOut n
+          (λ k x lt is. let i = in_row_is places k x is in subst IsOut i.is (kind.is_out k i.one)) each
+
+      pub parts_apart : (n : ℕ) → ((k : ℕ) → ¬ Holds (part_at k) others) → Apart others → Apart (all n)
+      parts_apart n lacks apart =
+          row_apart (row_of as_held places) others n (differ places) (λ k x is holds.
+          lacks k (subst (λ (p : Part). Holds p others) (own_part places k x (in_row_is places k x is)) holds)) apart
+
+      pub parts_stand : (has_lpis : T → Type 0) (s : Setup) (set : ℕ) (n : ℕ) → AreWanted T has_lpis s set places
+          → AllByRecursion (λ x. Stands s x.part) others → AllByRecursion (λ x. Stands s x.part) (all n)
+      parts_stand has_lpis s set n are each = row_all (row_of as_held places) others (λ x. Stands s x.part) n (λ k x lt is.
+          let i = in_row_is places k x is in
+          let some : (is_in set k && nat_lt k (vcpu_count s)) ≡ true = sym (are.hand k) ∙ some_is i.one (at_place places k) i.there in
+          subst (Stands s) (sym (own_part places k x i))
+          (kind.stands s k (ltb-true k (vcpu_count s) (and_parts (is_in set k) (nat_lt k (vcpu_count s)) some).1))) each
+
+  -- ---- after a commit
+
+  gone_if : (k : ℕ) (o o' : Option T) → is_some o' ≡ is_some o → held_if_in as_held k o ≡ None → held_if_in as_held k o' ≡ None
+  gone_if k None None same is = refl
+  gone_if k None (Some r) same is = absurd cc
+  gone_if k (Some q) o' same is = absurd cc
+
+  new_if : (k : ℕ) (o' : Option T) (x : Held) → is_some o' ≡ true → ((r : T) → o' ≡ Some r → x ≡ as_held k r) → held_if_in as_held k o' ≡ Some x
+  new_if k None x same each = absurd cc
+  new_if k (Some r) x same each = ap (λ (y : Held). Some y) (sym (each r refl))
+
+  -- the same parts are in hand, and are those of the state that it leaves
+  pub parts_renewed : (s : Setup) (a : Commit) (z : Plain) (places places' : List (Option T)) (others : List Held) (n : ℕ)
+      → ((k : ℕ) → is_some (at_place places' k) ≡ is_some (at_place places k))
+      → ((k : ℕ) (q r : T) → at_place places' k ≡ Some r
+      → record (as_held k q) { owed = content_in s a z (as_held k q).part (as_held k q).owed } ≡ as_held k r)
+      → renewed s a z (in_row (row_of as_held places) n others) ≡ in_row (row_of as_held places') n (renewed s a z others)
+  parts_renewed s a z places places' others n same each =
+      row_renewed s a z (row_of as_held places) (row_of as_held places') others n
+      (λ k lt is. gone_if k (at_place places k) (at_place places' k) (same k) is)
+      (λ k x lt is.
+      let i = in_row_is places k x is in
+      subst (λ (y : Held). row_of as_held places' k ≡ Some record y { owed = content_in s a z y.part y.owed }) i.is
+      (new_if k (at_place places' k) (record (as_held k i.one) { owed = content_in s a z (as_held k i.one).part (as_held k i.one).owed })
+      (same k ∙ some_is i.one (at_place places k) i.there) (each k i.one)))

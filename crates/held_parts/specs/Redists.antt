@@ -1,50 +1,84 @@
--- Redistributors that a pass holds.
-use Rattle.std.specs.Prelude.{◌≡◌, ◌&&◌, ℕ, true, nat_lt, Option, Some, None, is_some, List}
+-- Parts of redistributors that a pass holds: configurations, and what is pending.
+use Rattle.std.specs.Prelude.{◌≡◌, ◌&&◌, ℕ, true, nat_lt, Option, Some, None, is_some, List, slice_index_or}
 use Rattle.its_types.specs.declared.ids.Vcpu.{Vcpu}
 use Rattle.its_types.specs.declared.machine.Part.{Part}
 use Rattle.its_types.specs.declared.machine.Part.TheVariants as part
-use Rattle.lpi_pending.specs.InHand.{in_hand}
-use Rattle.lpi_pending.specs.declared.redist.Redist.{Redist as Owned}
-use Rattle.owned_parts.specs.Owned.{redistributor_of, HasLpisOf}
+use Rattle.lpi_config.specs.Conf.{conf_state}
+use Rattle.lpi_config.specs.declared.conf.Conf.{Conf as ConfInHand}
+use Rattle.lpi_pending.specs.InHand.{RedistParts, pend_state, HasLpisOfConf, HasLpisOfPend}
+use Rattle.lpi_pending.specs.declared.pend.Pend.{Pend as PendInHand}
 use Rattle.owned_parts.specs.RedistSets.{is_in}
-use Rattle.its_steps.specs.Contents.{Held, Redist}
+use Rattle.its_plain.specs.Parts.{conf, pend}
+use Rattle.its_steps.specs.Contents.{Held, Conf, Pend}
 use Rattle.its_steps.specs.Good.{Holds}
 use Rattle.its_steps.specs.Parts.{Setup, vcpu_count}
 use Rattle.its_steps.specs.World.{out}
 use Rattle.held_parts.specs.Rows.{Row, in_row}
 
--- one of them, as it is held
-abbrev pub redist_held : ℕ → Owned → Held
-redist_held vcpu r = out (part.Redist (record { 0 = vcpu })) (Redist (redistributor_of r))
+-- ---- of one kind: `as_held` says how the one of a virtual processor is held
 
-abbrev pub held_if_in : ℕ → Option Owned → Option Held
-held_if_in vcpu None = None
-held_if_in vcpu (Some r) = Some (redist_held vcpu r)
+-- the one at a place, if it is in hand
+abbrev pub at_place : {T : Type 0} → List (Option T) → ℕ → Option T
+at_place places vcpu = slice_index_or places vcpu None
+
+abbrev pub held_if_in : {T : Type 0} → (ℕ → T → Held) → ℕ → Option T → Option Held
+held_if_in as_held vcpu None = None
+held_if_in as_held vcpu (Some x) = Some (as_held vcpu x)
 
 -- those in hand
-abbrev pub redist_row : List (Option Owned) → Row
-redist_row redists vcpu = held_if_in vcpu (in_hand redists vcpu)
-
--- those in hand of the first n before other parts, the highest first
-abbrev pub redists_held : List (Option Owned) → ℕ → List Held → List Held
-redists_held redists n others = in_row (redist_row redists) n others
+abbrev pub row_of : {T : Type 0} → (ℕ → T → Held) → List (Option T) → Row
+row_of as_held places vcpu = held_if_in as_held vcpu (at_place places vcpu)
 
 -- none is in hand
-abbrev pub AreNoRedists : List (Option Owned) → Type 0
-AreNoRedists redists = (vcpu : ℕ) → in_hand redists vcpu ≡ None
-
--- none is held
-abbrev pub HoldsNoRedist : List Held → Type 0
-HoldsNoRedist held = (vcpu : Vcpu) → ¬ Holds (part.Redist vcpu) held
-
--- ---- of a set
+abbrev pub AreNone : {T : Type 0} → List (Option T) → Type 0
+AreNone places = (vcpu : ℕ) → at_place places vcpu ≡ None
 
 -- those of the set that the machine has are in hand, and no other; they have the machine's LPIs
-pub record AreOfSet (s : Setup) (set : ℕ) (redists : List (Option Owned)) : Type 0 where
-  pub hand : (vcpu : ℕ) → is_some (in_hand redists vcpu) ≡ (is_in set vcpu && nat_lt vcpu (vcpu_count s))
-  pub lpis : (vcpu : ℕ) (r : Owned) → in_hand redists vcpu ≡ Some r → HasLpisOf s.start.layout.shape r
+pub record AreWanted (T : Type 0) (has_lpis : T → Type 0) (s : Setup) (set : ℕ) (places : List (Option T)) : Type 0 where
+  pub hand : (vcpu : ℕ) → is_some (at_place places vcpu) ≡ (is_in set vcpu && nat_lt vcpu (vcpu_count s))
+  pub lpis : (vcpu : ℕ) (x : T) → at_place places vcpu ≡ Some x → has_lpis x
 
--- the part is a redistributor of the set
-abbrev pub IsRedistOf : ℕ → Part → Type 0
-IsRedistOf set (part.Redist vcpu) = is_in set vcpu.0 ≡ true
-IsRedistOf set p = ⊥
+-- ---- configurations
+
+abbrev pub conf_held : ℕ → ConfInHand → Held
+conf_held vcpu c = out (conf vcpu) (Conf (conf_state c))
+
+-- those in hand of the first n before other parts, the highest first
+abbrev pub confs_held : RedistParts → ℕ → List Held → List Held
+confs_held redists n others = in_row (row_of conf_held redists.confs) n others
+
+abbrev pub AreNoConfs : RedistParts → Type 0
+AreNoConfs redists = AreNone redists.confs
+
+abbrev pub AreConfsOfSet : Setup → ℕ → RedistParts → Type 0
+AreConfsOfSet s set redists = AreWanted ConfInHand (HasLpisOfConf s.start.layout.shape) s set redists.confs
+
+-- none is held
+abbrev pub HoldsNoConf : List Held → Type 0
+HoldsNoConf held = (vcpu : Vcpu) → ¬ Holds (part.Conf vcpu) held
+
+-- the part is the configuration of one of the set
+abbrev pub IsConfIn : ℕ → Part → Type 0
+IsConfIn set (part.Conf vcpu) = is_in set vcpu.0 ≡ true
+IsConfIn set p = ⊥
+
+-- ---- what is pending
+
+abbrev pub pend_held : ℕ → PendInHand → Held
+pend_held vcpu p = out (pend vcpu) (Pend (pend_state p))
+
+abbrev pub pends_held : RedistParts → ℕ → List Held → List Held
+pends_held redists n others = in_row (row_of pend_held redists.pends) n others
+
+abbrev pub AreNoPends : RedistParts → Type 0
+AreNoPends redists = AreNone redists.pends
+
+abbrev pub ArePendsOfSet : Setup → ℕ → RedistParts → Type 0
+ArePendsOfSet s set redists = AreWanted PendInHand (HasLpisOfPend s.start.layout.shape) s set redists.pends
+
+abbrev pub HoldsNoPend : List Held → Type 0
+HoldsNoPend held = (vcpu : Vcpu) → ¬ Holds (part.Pend vcpu) held
+
+abbrev pub IsPendIn : ℕ → Part → Type 0
+IsPendIn set (part.Pend vcpu) = is_in set vcpu.0 ≡ true
+IsPendIn set p = ⊥

@@ -7,7 +7,7 @@ use Rattle.its_types.specs.declared.machine.Part.TheVariants as part
 use Rattle.its_plain.specs.History.{after}
 use Rattle.its_plain.specs.Plain.{Plain, Translator}
 use Rattle.its_plain.specs.declared.layout.Layout.{Layout}
-use Rattle.lpi_pending.specs.InHand.{in_hand}
+use Rattle.lpi_pending.specs.InHand.{conf_in, pend_in}
 use Rattle.owned_parts.specs.Owned.{AreAllInHand, translator_of, translators_of, state_of}
 use Rattle.owned_parts.specs.declared.parts.Translator.{Translator as InHand}
 use Rattle.its_steps.specs.Contents.{Maps, Mem, Held}
@@ -15,7 +15,7 @@ use Rattle.its_steps.specs.Parts.{Setup, IsOfMachine, translator_count, vcpu_cou
 use Rattle.its_steps.specs.World.{View, out}
 use Rattle.its_turns.specs.Calls.{GotOnly}
 use Rattle.its_turns.specs.Told.{IsLone}
-use Rattle.held_parts.specs.Redists.{redists_held}
+use Rattle.held_parts.specs.Redists.{confs_held, pends_held}
 use Rattle.held_parts.specs.Taking.{LostNone}
 use Rattle.held_parts.specs.declared.whole.Whole.{Whole}
 
@@ -31,11 +31,11 @@ translators_in x = translators_of x.first.value (second_of x)
 abbrev pub state_of_whole : Layout → Whole → Plain
 state_of_whole l x = state_of l (translators_in x) x.memory.value.memory x.memory.value.track x.redists
 
--- these are all that a machine has: its translators, and the redistributors of its virtual processors
+-- these are all that a machine has: its translators, and both parts of the redistributors of its virtual processors
 pub record IsWholeOf (s : Setup) (x : Whole) : Type 0 where
   pub translators : length (translators_in x) ≡ translator_count s
   pub all_in_hand : AreAllInHand s.start.layout.shape x.redists
-  pub no_others : (vcpu : ℕ) → vcpu_count s ≤ vcpu → in_hand x.redists vcpu ≡ None
+  pub no_others : (vcpu : ℕ) → vcpu_count s ≤ vcpu → (conf_in x.redists vcpu ≡ None) × (pend_in x.redists vcpu ≡ None)
 
 -- ---- as they are held
 
@@ -49,8 +49,8 @@ second_held (Some t) others = maps_held 1 t ∷ others
 
 -- each was got after the one that follows it here
 abbrev pub held_whole : Whole → List Held
-held_whole x = redists_held x.redists 16 (out part.Mem (Mem x.memory.value.memory x.memory.value.track) ∷ second_held (second_of x)
-    (maps_held 0 x.first.value ∷ []))
+held_whole x = pends_held x.redists 16 (confs_held x.redists 16 (out part.Mem (Mem x.memory.value.memory x.memory.value.track) ∷ second_held (second_of x)
+    (maps_held 0 x.first.value ∷ [])))
 
 -- it is not a shard
 abbrev pub IsNoShard : Part → Type 0

@@ -1,7 +1,9 @@
 //! Parts taken as what they are.
 ghost use Rattle.std.specs.Prelude.{◌≡◌, ◌<◌};
 ghost use Rattle.its_types.specs.declared.machine.Part.TheVariants as part;
-ghost use Rattle.owned_parts.specs.Owned.{translator_of, redistributor_of, HasLpisOf};
+ghost use Rattle.lpi_config.specs.Conf.{conf_state};
+ghost use Rattle.lpi_pending.specs.InHand.{pend_state, HasLpisOfConf, HasLpisOfPend};
+ghost use Rattle.owned_parts.specs.Owned.{translator_of};
 ghost use Rattle.its_steps.specs.Good.{Holds};
 ghost use Rattle.its_steps.specs.Parts.{Stands, translator_count, vcpu_count};
 ghost use Rattle.its_steps.specs.Contents as content;
@@ -11,7 +13,8 @@ ghost use Rattle.held_parts.specs.Taking.{TakesInTime};
 use crate::turns::Turns;
 use its_turns::{GuestMemory, Machine, Pass, Value};
 use its_types::{Part, Vcpu};
-use lpi_pending::Redist;
+use lpi_config::Conf;
+use lpi_pending::Pend;
 use owned_parts::Translator;
 use xlate_cache::Shard;
 
@@ -71,20 +74,38 @@ pub fn take_shard<T: Turns>(
     }
 }
 
-/// Takes a redistributor out.
-pub fn take_redist<T: Turns>(how: &T, machine: &Machine, pass: &mut Pass, vcpu: Vcpu) -> Box<Redist>
+/// Takes the configuration of a redistributor out, with its LPI registers.
+pub fn take_conf<T: Turns>(how: &T, machine: &Machine, pass: &mut Pass, vcpu: Vcpu) -> Box<Conf>
     requires of { IsOf machine.now pass.old }
     requires stands { vcpu.0 < vcpu_count (setup machine.now) }
-    requires free { ¬ Holds (part.Redist vcpu) (view pass.old).held }
+    requires free { ¬ Holds (part.Conf vcpu) (view pass.old).held }
     requires allowed { T.allowed (view pass.old) }
     ensures of { IsOf machine.now pass.new }
-    ensures takes { TakesInTime (view pass.old) (part.Redist vcpu)
-        (content.Redist (redistributor_of result.value)) (view pass.new) }
-    ensures lpis { HasLpisOf (setup machine.now).start.layout.shape result.value }
+    ensures takes { TakesInTime (view pass.old) (part.Conf vcpu)
+        (content.Conf (conf_state result.value)) (view pass.new) }
+    ensures lpis { HasLpisOfConf (setup machine.now).start.layout.shape result.value }
     ensures allowed { T.allowed (view pass.new) }
 {
-    match how.turn(machine, pass, Part::Redist(vcpu)) {
-        Value::Redist(redist) => redist,
+    match how.turn(machine, pass, Part::Conf(vcpu)) {
+        Value::Conf(conf) => conf,
+        _ => unreachable!(),
+    }
+}
+
+/// Takes what is pending at a redistributor out.
+pub fn take_pend<T: Turns>(how: &T, machine: &Machine, pass: &mut Pass, vcpu: Vcpu) -> Box<Pend>
+    requires of { IsOf machine.now pass.old }
+    requires stands { vcpu.0 < vcpu_count (setup machine.now) }
+    requires free { ¬ Holds (part.Pend vcpu) (view pass.old).held }
+    requires allowed { T.allowed (view pass.old) }
+    ensures of { IsOf machine.now pass.new }
+    ensures takes { TakesInTime (view pass.old) (part.Pend vcpu)
+        (content.Pend (pend_state result.value)) (view pass.new) }
+    ensures lpis { HasLpisOfPend (setup machine.now).start.layout.shape result.value }
+    ensures allowed { T.allowed (view pass.new) }
+{
+    match how.turn(machine, pass, Part::Pend(vcpu)) {
+        Value::Pend(pend) => pend,
         _ => unreachable!(),
     }
 }

@@ -1,18 +1,22 @@
-//! Several parts that a pass holds at once: shards, redistributors, or all parts but shards, taken
-//! in the order of their numbers, and put back in the opposite order.
+//! Several parts that a pass holds at once: shards, parts of redistributors, or all parts but
+//! shards, taken in the order of their numbers, and put back in the opposite order.
 //!
 //! Contracts have up to ten clauses here: what a pass must not hold and what is allowed before, and
 //! the same of what it holds and may do afterwards.
 #![tactic(auto)]
 
+mod confs;
 mod getting;
-mod redists;
+mod pends;
 mod shards;
 mod turns;
+mod wanted;
 mod whole;
 
-pub use getting::{take_maps, take_memory, take_redist, take_shard};
-pub use redists::{put_redists, take_redists};
+pub use confs::{put_confs, take_confs};
+pub use getting::{take_conf, take_maps, take_memory, take_pend, take_shard};
+pub use pends::{put_pends, take_pends};
 pub use shards::{Shards, put_shards, take_shards};
 pub use turns::{AtRest, Turns, Waiting};
+pub use wanted::all_of;
 pub use whole::{Whole, put_whole, take_whole};

@@ -1,8 +1,7 @@
 //! All parts of a machine but the shards of its caches, in the hands of one pass.
-ghost use Rattle.std.specs.Prelude.{◌≡◌, ◌≤◌, [], ℕ, List, nat_lt, ◌==◌, is_some};
+ghost use Rattle.std.specs.Prelude.{◌≡◌, ◌≤◌, [], List, ◌==◌, is_some};
 ghost use Rattle.std.specs.Option.{option_map};
 ghost use Rattle.its_types.specs.declared.machine.Part.TheVariants as part;
-ghost use Rattle.owned_parts.specs.RedistSets.{is_in};
 ghost use Rattle.its_steps.specs.Contents.{Held};
 ghost use Rattle.its_steps.specs.Good.{Holds};
 ghost use Rattle.its_steps.specs.Parts.{translator_count};
@@ -11,17 +10,19 @@ ghost use Rattle.held_parts.specs.Taking.{TakesOnly, holding};
 ghost use Rattle.held_parts.specs.Wholes.{IsWholeOf, IsNoShard, TakesWhole};
 ghost use Rattle.held_parts.specs.Wholes.{held_whole, second_held};
 
+use crate::confs::{put_confs, take_confs};
 use crate::getting::{take_maps, take_memory};
-use crate::redists::{put_redists, take_redists};
+use crate::pends::{put_pends, take_pends};
 use crate::turns::Turns;
+use crate::wanted::all_of;
 use its_plain::Layout;
 use its_turns::{GuestMemory, Machine, Pass, Value, look, put};
-use its_types::{Gate, Part, Point, Vcpu};
+use its_types::{Gate, Part, Point};
 use lpi_pending::Redists;
-use owned_parts::{InPlace, RedistSet, Translator};
+use owned_parts::{InPlace, Translator};
 
-/// The registers and maps of all translators, guest memory, and the redistributors of all virtual
-/// processors.
+/// The registers and maps of all translators, guest memory, and of the redistributors of all
+/// virtual processors the configurations and what is pending.
 #[derive(Drop)]
 pub struct Whole {
     /// Translator 0.
@@ -60,9 +61,9 @@ impl Whole {
     }
 }
 
-/// Takes all of them out: the maps of the first translator and then of the second, memory, and the
-/// redistributors, lowest first. The pass held nothing. Then it loads the word, so that it has seen
-/// the history that they stand for.
+/// Takes all of them out: the maps of the first translator and then of the second, memory, the
+/// configurations of the redistributors, lowest first, and what is pending there, lowest first. The
+/// pass held nothing. Then it loads the word, so that it has seen the history that they stand for.
 pub fn take_whole<T: Turns, G: Gate>(how: &T, machine: &Machine, pass: &mut Pass, gate: &G) -> Whole
     requires of { IsOf machine.now pass.old }
     requires free { (view pass.old).held ≡ [] }
@@ -75,7 +76,9 @@ pub fn take_whole<T: Turns, G: Gate>(how: &T, machine: &Machine, pass: &mut Pass
     let second = take_second(how, machine, pass);
     gate.at(pass.number(), Point::MapsTaken);
     let memory = take_memory(how, machine, pass);
-    take_redists(how, machine, pass, all_of(machine.vcpus()), &mut redists);
+    let all = all_of(machine.vcpus());
+    take_confs(how, machine, pass, all, &mut redists);
+    take_pends(how, machine, pass, all, &mut redists);
     look(machine, pass);
     Whole {
         first,
@@ -117,7 +120,9 @@ pub fn put_whole(machine: &Machine, pass: &mut Pass, whole: Whole)
         memory,
         mut redists,
     } = whole;
-    put_redists(machine, pass, all_of(machine.vcpus()), &mut redists);
+    let all = all_of(machine.vcpus());
+    put_pends(machine, pass, all, &mut redists);
+    put_confs(machine, pass, all, &mut redists);
     put(machine, pass, Part::Mem, Value::Mem(memory));
     put_second(machine, pass, second);
     put(machine, pass, Part::Maps(0), Value::Maps(first));
@@ -136,16 +141,4 @@ fn put_second(machine: &Machine, pass: &mut Pass, second: Option<Box<Translator>
     if let Some(second) = second {
         put(machine, pass, Part::Maps(1), Value::Maps(second));
     }
-}
-
-// The redistributors of all virtual processors.
-fn all_of(vcpus: u8) -> RedistSet
-    requires { vcpus ≤ 16 }
-    ensures { (v : ℕ) → is_in result v ≡ nat_lt v vcpus }
-{
-    let mut all = RedistSet::new();
-    for vcpu in 0..vcpus {
-        all = all.with(Some(Vcpu(vcpu)));
-    }
-    all
 }

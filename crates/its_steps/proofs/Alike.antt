@@ -8,7 +8,7 @@ use Rattle.its_types.specs.declared.machine.Part.TheVariants as part
 use Rattle.its_plain.specs.Answer.{answer, left, signal_left, reply_of}
 use Rattle.its_plain.specs.Commands.{lpi_set}
 use Rattle.its_plain.specs.Parts.{AgreesOn, IsIn, SamePart, footprint}
-use Rattle.its_plain.specs.Plain.{Plain, pending_of, redistributor}
+use Rattle.its_plain.specs.Plain.{Plain, pending_of, is_on}
 use Rattle.its_plain.specs.declared.layout.Layout.{Layout}
 use Rattle.its_plain.specs.declared.call.Call.{Call}
 use Rattle.its_plain.specs.declared.call.Reply.{Reply}
@@ -17,8 +17,8 @@ use Rattle.plain_footprint.proofs.Decided.{decides}
 use Rattle.plain_footprint.proofs.Listed.{in_head}
 use Rattle.plain_footprint.proofs.OtherParts.{leaves}
 use Rattle.plain_footprint.proofs.SameParts.{same_parts}
-use Rattle.plain_footprint.proofs.Stays.{stay, stay_redist}
-use Rattle.its_steps.specs.Contents.{Redist, Held, parts_of}
+use Rattle.plain_footprint.proofs.Stays.{stay, stay_pend}
+use Rattle.its_steps.specs.Contents.{Pend, Held, parts_of}
 use Rattle.its_steps.specs.Good.{Holds}
 use Rattle.its_steps.specs.MayCall.{Covers, IsAnswered, IsHit, met}
 use Rattle.its_steps.specs.Parts.{Setup, HasVcpus, Stands}
@@ -35,10 +35,10 @@ sent target z = lpi_set target.intid.0 target.vcpu.0 z
 
 -- what a hit leaves
 pub hit_leaves : (s : Setup) (a : Commit) (held : List Held) (hit : IsHit s a held) (z : Plain)
-    → signal_left z (met hit.redist.bases.on hit.target) ≡ left z a.call a.reply
+    → signal_left z (met hit.pend.accepts hit.target) ≡ left z a.call a.reply
 hit_leaves s a held hit z =
     let m = is_message a.call hit.its hit.dev hit.ev hit.message in
-    sym (m.leaves z (met hit.redist.bases.on hit.target)) ∙ (λ d. left z a.call (sym hit.reply_is d))
+    sym (m.leaves z (met hit.pend.accepts hit.target)) ∙ (λ d. left z a.call (sym hit.reply_is d))
 
 module _ (s : Setup) (vcpus : HasVcpus s) (held : List Held) (stands : AllByRecursion (λ x. Stands s x.part) held) (x y : Plain) (sx : IsSized s x)
     (sy : IsSized s y) (agree : (p : Part) → Holds p held → SamePart x y p) where
@@ -89,17 +89,17 @@ module _ (s : Setup) (vcpus : HasVcpus s) (held : List Held) (stands : AllByRecu
 
   -- ---- a hit
 
-  module _ (target : Target) (redist : Holds (part.Redist target.vcpu) held) where
+  module _ (target : Target) (pend : Holds (part.Pend target.vcpu) held) where
     sent_same : (p : Part) → Holds p held → SamePart (sent target x) (sent target y) p
-    sent_same p owns = (agree_set (parts_of held) x y target.intid.0 target.vcpu.0 (holds_in (part.Redist target.vcpu) held redist)
+    sent_same p owns = (agree_set (parts_of held) x y target.intid.0 target.vcpu.0 (holds_in (part.Pend target.vcpu) held pend)
         (agrees (parts_of held) (λ q at. in_holds q held at))).parts p (holds_in p held owns)
 
     pub sent_others : (p : Part) → ¬ Holds p held → SamePart y (sent target y) p
     sent_others p lacks =
-        (stay_redist y y (part.Redist target.vcpu ∷ []) target.vcpu.0
-        (record (redistributor y target.vcpu.0) { pending = with_lpi target.intid.0 (pending_of y target.vcpu.0) }) (in_head (part.Redist target.vcpu) [])
-        (stay y (part.Redist target.vcpu ∷ []))).parts p
-        (λ at. lacks (all_in (λ q. Holds q held) (part.Redist target.vcpu ∷ []) p at (redist, tt)))
+        (stay_pend y y (part.Pend target.vcpu ∷ []) target.vcpu.0
+        (record { pending = with_lpi target.intid.0 (pending_of y target.vcpu.0); accepts = is_on y target.vcpu.0 }) (in_head (part.Pend target.vcpu) [])
+        (stay y (part.Pend target.vcpu ∷ []))).parts p
+        (λ at. lacks (all_in (λ q. Holds q held) (part.Pend target.vcpu ∷ []) p at (pend, tt)))
 
     met_same : (on : Bool) (p : Part) → Holds p held → SamePart (signal_left x (met on target)) (signal_left y (met on target)) p
     met_same true p owns = sent_same p owns
@@ -107,8 +107,8 @@ module _ (s : Setup) (vcpus : HasVcpus s) (held : List Held) (stands : AllByRecu
 
     pub met_others : (on : Bool) (p : Part) → ¬ Holds p held → SamePart y (signal_left y (met on target)) p
     met_others true p lacks = sent_others p lacks
-    met_others false p lacks = (stay y (part.Redist target.vcpu ∷ [])).parts p (λ at. lacks
-        (all_in (λ q. Holds q held) (part.Redist target.vcpu ∷ []) p at (redist, tt)))
+    met_others false p lacks = (stay y (part.Pend target.vcpu ∷ [])).parts p (λ at. lacks
+        (all_in (λ q. Holds q held) (part.Pend target.vcpu ∷ []) p at (pend, tt)))
 
   -- ---- either
 
@@ -119,4 +119,4 @@ module _ (s : Setup) (vcpus : HasVcpus s) (held : List Held) (stands : AllByRecu
       subst (λ (r : Reply × Reply). SamePart (left x a.call r.0) (left y a.call r.1) p)
       (λ d. (sym t.reply_is d, sym (t.reply_is ∙ same_reply a.call t.covers) d)) (answered_same a.call t.covers p owns))
       (λ (t : IsHit s a held). subst (λ (z : Plain × Plain). SamePart z.0 z.1 p) (λ d. (hit_leaves s a held t x d, hit_leaves s a held t y d))
-      (met_same t.target (owes_holds (part.Redist t.target.vcpu) (Redist t.redist) held t.target_owes) t.redist.bases.on p owns)) one
+      (met_same t.target (owes_holds (part.Pend t.target.vcpu) (Pend t.pend) held t.target_owes) t.pend.accepts p owns)) one

@@ -1,7 +1,8 @@
 -- The state that the parts held stand for agrees with the machine's on them.
-use Rattle.std.proofs.Common.{◌≡◌, ◌≢◌, ◌⊎◌, ℕ, zero, suc, ◌<◌, List, [], ◌∷◌, length, set, slice_get, Some, refl, ap, sym, ◌∙◌, subst, inl, inr, ⊎_elim}
+use Rattle.std.proofs.Common.{◌≡◌, ◌≢◌, ◌⊎◌, ℕ, zero, suc, ◌<◌, List, [], ◌∷◌, length, set, slice_get, Option, Some, refl, ap, sym, ◌∙◌, subst, inl, inr, ⊎_elim}
 use Rattle.std.proofs.Common.{arith, length-set}
 use Rattle.std.specs.List.{AllByRecursion}
+use Rattle.std.specs.Option.{option_map}
 use Rattle.std.proofs.lemmas.Option.{same_Some}
 use mathlib.Core.Logic.{dite}
 use native.Mathlib.Decide.{ℕ_discrete}
@@ -9,11 +10,11 @@ use Rattle.its_types.specs.declared.machine.Part.{Part}
 use Rattle.its_types.specs.declared.machine.Part.TheVariants as part
 use Rattle.its_types.specs.declared.machine.Word.{Word}
 use Rattle.its_plain.specs.Parts.{SamePart, IsIn}
-use Rattle.its_plain.specs.Plain.{Plain}
+use Rattle.its_plain.specs.Plain.{Plain, Redistributor, conf_of, pend_of, with_conf, with_pend, redistributor}
 use Rattle.its_plain.specs.declared.layout.Layout.{Layout}
 use Rattle.plain_footprint.proofs.Listed.{in_head, in_tail}
-use Rattle.plain_footprint.proofs.Stays.{Stay, stay, stay_translator, stay_redist, stay_memory}
-use Rattle.its_steps.specs.Contents.{Content, Maps, Mem, Shard, Redist, Held, parts_of}
+use Rattle.plain_footprint.proofs.Stays.{Stay, stay, stay_translator, stay_conf, stay_pend, stay_memory}
+use Rattle.its_steps.specs.Contents.{Content, Maps, Mem, Shard, Conf, Pend, Held, parts_of}
 use Rattle.its_steps.specs.Good.{Holds, Apart}
 use Rattle.its_steps.specs.Facts.{AssembledHas}
 use Rattle.its_steps.specs.MayCall.{Owes}
@@ -29,13 +30,15 @@ pub same_back : (u w : Plain) (p : Part) → SamePart u w p → SamePart w u p
 same_back u w (part.Maps its) e = sym e
 same_back u w part.Mem e = (sym e.0, sym e.1)
 same_back u w (part.Shard its n) e = tt
-same_back u w (part.Redist vcpu) e = sym e
+same_back u w (part.Conf vcpu) e = sym e
+same_back u w (part.Pend vcpu) e = sym e
 
 pub same_through : (u w x : Plain) (p : Part) → SamePart u w p → SamePart w x p → SamePart u x p
 same_through u w x (part.Maps its) e f = e ∙ f
 same_through u w x part.Mem e f = (e.0 ∙ f.0, e.1 ∙ f.1)
 same_through u w x (part.Shard its n) e f = tt
-same_through u w x (part.Redist vcpu) e f = e ∙ f
+same_through u w x (part.Conf vcpu) e f = e ∙ f
+same_through u w x (part.Pend vcpu) e f = e ∙ f
 
 -- ---- lists of parts
 
@@ -90,11 +93,14 @@ is_put part.Mem (Mem memory track) b = record {
       (part.Mem ∷ []));
   long = refl;
 }
-is_put (part.Redist vcpu) (Redist r) b =
-    record {
-      stays = stay_redist b b (part.Redist vcpu ∷ []) vcpu.0 r (in_head (part.Redist vcpu) []) (stay b (part.Redist vcpu ∷ []));
-      long = length-set b.redistributors vcpu.0 r;
-    }
+is_put (part.Conf vcpu) (Conf c) b = record {
+  stays = stay_conf b b (part.Conf vcpu ∷ []) vcpu.0 c (in_head (part.Conf vcpu) []) (stay b (part.Conf vcpu ∷ []));
+  long = length-set b.redistributors vcpu.0 (with_conf c (redistributor b vcpu.0));
+}
+is_put (part.Pend vcpu) (Pend q) b = record {
+  stays = stay_pend b b (part.Pend vcpu ∷ []) vcpu.0 q (in_head (part.Pend vcpu) []) (stay b (part.Pend vcpu ∷ []));
+  long = length-set b.redistributors vcpu.0 (with_pend q (redistributor b vcpu.0));
+}
 is_put p c b = no_part b p
 
 pub get_set_here : {A : Type 0} (xs : List A) (i : ℕ) (y : A) → i < length xs → slice_get (set xs i y) i ≡ Some y
@@ -108,7 +114,12 @@ has_here : (s : Setup) (p : Part) (c : Content) (b : Plain) → length b.transla
 has_here s (part.Maps its) (Maps t) b ts rs st suits = get_set_here b.translators its t (omega (arith, st, ts))
 has_here s part.Mem (Mem x y) b ts rs st suits = (refl, refl)
 has_here s (part.Shard its n) (Shard x) b ts rs st suits = tt
-has_here s (part.Redist vcpu) (Redist x) b ts rs st suits = get_set_here b.redistributors vcpu.0 x (omega (arith, st, rs))
+has_here s (part.Conf vcpu) (Conf x) b ts rs st suits =
+    ap (λ (o : Option Redistributor). option_map conf_of o)
+    (get_set_here b.redistributors vcpu.0 (with_conf x (redistributor b vcpu.0)) (omega (arith, st, rs)))
+has_here s (part.Pend vcpu) (Pend x) b ts rs st suits =
+    ap (λ (o : Option Redistributor). option_map pend_of o)
+    (get_set_here b.redistributors vcpu.0 (with_pend x (redistributor b vcpu.0)) (omega (arith, st, rs)))
 has_here s p c b ts rs st suits = absurd suits
 
 -- two states that have the same in a part
@@ -116,7 +127,8 @@ both_have : (u w : Plain) (p : Part) (c : Content) → Has u p c → Has w p c �
 both_have u w (part.Maps its) (Maps t) a b = a ∙ sym b
 both_have u w part.Mem (Mem x y) a b = (a.0 ∙ sym b.0, a.1 ∙ sym b.1)
 both_have u w (part.Shard its n) c a b = tt
-both_have u w (part.Redist vcpu) (Redist r) a b = a ∙ sym b
+both_have u w (part.Conf vcpu) (Conf c) a b = a ∙ sym b
+both_have u w (part.Pend vcpu) (Pend q) a b = a ∙ sym b
 both_have u w p c a b = absurd a
 
 -- what is had suits its part
@@ -124,7 +136,8 @@ pub has_suits : (u : Plain) (p : Part) (c : Content) → Has u p c → Suits p c
 has_suits u (part.Maps its) (Maps t) h = tt
 has_suits u part.Mem (Mem x y) h = tt
 has_suits u (part.Shard its n) (Shard x) h = tt
-has_suits u (part.Redist vcpu) (Redist r) h = tt
+has_suits u (part.Conf vcpu) (Conf c) h = tt
+has_suits u (part.Pend vcpu) (Pend q) h = tt
 has_suits u p c h = absurd h
 
 -- the same part has what it had
@@ -132,7 +145,8 @@ same_has : (u w : Plain) (p : Part) (c : Content) → SamePart u w p → Has u p
 same_has u w (part.Maps its) (Maps t) e h = sym e ∙ h
 same_has u w part.Mem (Mem x y) e h = (sym e.0 ∙ h.0, sym e.1 ∙ h.1)
 same_has u w (part.Shard its n) (Shard x) e h = tt
-same_has u w (part.Redist vcpu) (Redist r) e h = sym e ∙ h
+same_has u w (part.Conf vcpu) (Conf c) e h = sym e ∙ h
+same_has u w (part.Pend vcpu) (Pend q) e h = sym e ∙ h
 same_has u w p c e h = absurd h
 
 pub not_only : (q p : Part) → ¬ (q ≡ p) → ¬ IsIn p (q ∷ [])
@@ -205,7 +219,8 @@ right_has : (s : Setup) (word : Word) (u : Plain) (p : Part) (c : Content) → R
 right_has s word u (part.Maps its) (Maps t) r = r
 right_has s word u part.Mem (Mem x y) r = r
 right_has s word u (part.Shard its n) (Shard ways) r = tt
-right_has s word u (part.Redist vcpu) (Redist x) r = r
+right_has s word u (part.Conf vcpu) (Conf x) r = r
+right_has s word u (part.Pend vcpu) (Pend x) r = r
 right_has s word u p c r = absurd r
 
 pub right_had : RightIsHad

@@ -14,11 +14,12 @@ use Rattle.its_types.specs.declared.machine.Part.{Part}
 use Rattle.its_types.specs.declared.machine.Part.TheVariants as part
 use Rattle.its_types.specs.declared.machine.Word.{Word}
 use Rattle.its_plain.specs.Answer.{left, answer}
-use Rattle.its_plain.specs.Plain.{Plain, Translator, Redistributor, translator, redistributor, no_translator, no_redistributor, is_on}
+use Rattle.its_plain.specs.Parts.{conf, pend}
+use Rattle.its_plain.specs.Plain.{Plain, Translator, PendState, translator, redistributor, no_translator, no_redistributor, conf_of, pend_of, is_on}
 use Rattle.its_plain.specs.declared.layout.Layout.{Layout}
 use Rattle.its_plain.specs.Translation.{located, translated}
 use Rattle.its_plain.specs.declared.call.Call.{Call}
-use Rattle.plain_footprint.proofs.Listed.{same_or}
+use Rattle.plain_footprint.proofs.Listed.{same_or, seen_or}
 use Rattle.plain_soundness.proofs.States.{IsLpi}
 use Rattle.plain_soundness.proofs.Translated.{if_ok_at, goes_to_lpi}
 use Rattle.xlate_cache.specs.Pairs.{shard_number}
@@ -85,8 +86,11 @@ module _ (s : Setup) (a : Commit) (held : List Held) (may : MayCall s a held) (u
   pub translator_held : (its : ℕ) → Holds (part.Maps its) held → translator before its ≡ translator u' its
   translator_held its h = same_or before.translators u'.translators its no_translator (d.held_same (part.Maps its) h)
 
-  pub redist_held : (v : ℕ) → Holds (part.Redist (record { 0 = v })) held → redistributor before v ≡ redistributor u' v
-  redist_held v h = same_or before.redistributors u'.redistributors v no_redistributor (d.held_same (part.Redist (record { 0 = v })) h)
+  pub conf_held : (v : ℕ) → Holds (conf v) held → conf_of (redistributor before v) ≡ conf_of (redistributor u' v)
+  conf_held v h = seen_or conf_of before.redistributors u'.redistributors v no_redistributor (d.held_same (conf v) h)
+
+  pub pend_held : (v : ℕ) → Holds (pend v) held → pend_of (redistributor before v) ≡ pend_of (redistributor u' v)
+  pend_held v h = seen_or pend_of before.redistributors u'.redistributors v no_redistributor (d.held_same (pend v) h)
 
   translator_other : (its : ℕ) → ¬ Holds (part.Maps its) held → translator u its ≡ translator u' its
   translator_other its n = same_or u.translators u'.translators its no_translator (d.others_same (part.Maps its) n)
@@ -120,7 +124,7 @@ module _ (s : Setup) (a : Commit) (held : List Held) (may : MayCall s a held) (u
       let x = translated_is before (its_of c) dev.0 ev.0 t f.agrees in
       let sent : located (translator u' (its_of c)) dev.0 ev.0 ≡ Ok t =
       subst (λ (z : Translator). located z dev.0 ev.0 ≡ Ok t) (translator_held (its_of c) f.maps) x.0 in
-      let on : is_on u' t.vcpu.0 ≡ true = ap (λ (y : Redistributor). y.bases.on) (sym (redist_held t.vcpu.0 f.redist)) ∙ x.1 in
+      let on : is_on u' t.vcpu.0 ≡ true = ap (λ (y : PendState). y.accepts) (sym (pend_held t.vcpu.0 f.pend)) ∙ x.1 in
       let good = if_ok_at (λ (z : Target). IsLpi u' z.intid.0 × (is_on u' z.vcpu.0 ≡ true)) (translated u' (its_of c) dev.0 ev.0) t
       (goes_to_lpi u' (its_of c) dev.0 ev.0 m'.sound) (translated_from u' (its_of c) dev.0 ev.0 t sent on) in
       record {

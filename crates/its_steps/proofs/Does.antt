@@ -1,14 +1,13 @@
 -- What a call does to the machine, where a pass may commit it.
 use Rattle.std.proofs.Common.{◌≡◌, ◌⊎◌, ℕ, Bool, true, false, List, [], ◌∷◌, Ok, Result, refl, ap, sym, ◌∙◌, subst, ⊎_elim}
 use Rattle.std.specs.List.{AllByRecursion}
-use Rattle.std.proofs.lemmas.Option.{get_or_from_slice_get}
 use Rattle.its_types.specs.declared.machine.Part.{Part}
 use Rattle.its_types.specs.declared.machine.Part.TheVariants as part
 use Rattle.its_types.specs.declared.machine.Word.{Word}
 use Rattle.its_types.specs.declared.ids.Target.{Target}
 use Rattle.its_plain.specs.Answer.{answer, left, reply_of, signal_reply}
 use Rattle.its_plain.specs.Parts.{SamePart}
-use Rattle.its_plain.specs.Plain.{Plain, Redistributor, translator, no_redistributor, is_on}
+use Rattle.its_plain.specs.Plain.{Plain, PendState, pend_of, translator, no_redistributor, is_on}
 use Rattle.its_plain.specs.Translation.{located, translated}
 use Rattle.its_plain.specs.declared.call.Cause.{Cause}
 use Rattle.its_plain.specs.declared.call.Reply.{Reply}
@@ -16,7 +15,7 @@ use Rattle.its_plain.specs.declared.call.Reply.TheVariants as reply
 use Rattle.its_plain.specs.declared.call.Signal.{Signal}
 use Rattle.xlate_cache.specs.Pairs.{shard_number}
 use Rattle.xlate_cache.specs.Ways.{entry}
-use Rattle.its_steps.specs.Contents.{Content, Shard, Redist, Held}
+use Rattle.its_steps.specs.Contents.{Content, Shard, Pend, Held}
 use Rattle.its_steps.specs.Good.{Holds, Apart}
 use Rattle.its_steps.specs.MayCall.{Owes, IsAnswered, IsHit, met}
 use Rattle.its_steps.specs.MayCommit.{IsRight}
@@ -27,6 +26,7 @@ use Rattle.its_steps.proofs.Messages.{is_message}
 use Rattle.its_steps.proofs.Alike.{hit_leaves, met_others, same_reply, others_same, left_same}
 use Rattle.its_steps.proofs.Assembled.{machine_sized, machine_vcpus, is_assembled, agree_held, right_had}
 use Rattle.its_steps.proofs.Found.{found_at}
+use Rattle.its_steps.proofs.Lists.{seen_at}
 use Rattle.its_steps.proofs.Owed.{owes_holds}
 use Rattle.its_steps.proofs.Translations.{reached}
 
@@ -56,8 +56,8 @@ module _ (s : Setup) (a : Commit) (held : List Held) (stands : AllByRecursion (�
   met_as true target = refl
   met_as false target = refl
 
-  -- the translation found is current, so it is where the maps send the pair; and the redistributor says whether the target's LPIs are on
-  hit_is : (hit : IsHit s a held) → signal_reply (translated u hit.its hit.dev.0 hit.ev.0) ≡ met hit.redist.bases.on hit.target
+  -- the translation found is current, so it is where the maps send the pair; and what is pending at the target says whether its LPIs are on
+  hit_is : (hit : IsHit s a held) → signal_reply (translated u hit.its hit.dev.0 hit.ev.0) ≡ met hit.pend.accepts hit.target
   unfolding translated
   hit_is hit =
       let stamp : ℕ = stamp_of s a.expected hit.its in
@@ -65,11 +65,11 @@ module _ (s : Setup) (a : Commit) (held : List Held) (stands : AllByRecursion (�
       let sent : located (translator u hit.its) hit.dev.0 hit.ev.0 ≡ Ok hit.target =
       ((owes_right s a.expected u (part.Shard hit.its (shard_number hit.dev.0 hit.ev.0 s.shards)) (Shard hit.ways) held hit.owes right).entries at.0
       (entry hit.dev hit.ev stamp hit.target) at.1).current refl in
-      let has = owes_right s a.expected u (part.Redist hit.target.vcpu) (Redist hit.redist) held hit.target_owes right in
-      let on : is_on u hit.target.vcpu.0 ≡ hit.redist.bases.on =
-      ap (λ (r : Redistributor). r.bases.on) (get_or_from_slice_get u.redistributors hit.target.vcpu.0 hit.redist no_redistributor has) in
+      let has = owes_right s a.expected u (part.Pend hit.target.vcpu) (Pend hit.pend) held hit.target_owes right in
+      let on : is_on u hit.target.vcpu.0 ≡ hit.pend.accepts =
+      ap (λ (p : PendState). p.accepts) (seen_at pend_of u.redistributors hit.target.vcpu.0 no_redistributor hit.pend has) in
       ap (λ (x : Result Target Cause). signal_reply (reached x (λ t. is_on u t.vcpu.0))) sent
-      ∙ ap (λ (b : Bool). signal_reply (reached (Ok hit.target) (λ _. b))) on ∙ met_as hit.redist.bases.on hit.target
+      ∙ ap (λ (b : Bool). signal_reply (reached (Ok hit.target) (λ _. b))) on ∙ met_as hit.pend.accepts hit.target
 
   replied : IsAnswered b a.call a.reply held ⊎ IsHit s a held → a.reply ≡ reply_of u a.call
   unfolding reply_of
@@ -86,7 +86,7 @@ module _ (s : Setup) (a : Commit) (held : List Held) (stands : AllByRecursion (�
       (λ (t : IsHit s a held).
       subst (λ (z : Plain). SamePart u z p) (hit_leaves s a held t u ∙ ap (left u a.call) (replied one))
       (met_others s (machine_vcpus s u m) held stands b u (is_assembled s held) (machine_sized s u m) agree t.target
-      (owes_holds (part.Redist t.target.vcpu) (Redist t.redist) held t.target_owes) t.redist.bases.on p lacks)) one
+      (owes_holds (part.Pend t.target.vcpu) (Pend t.pend) held t.target_owes) t.pend.accepts p lacks)) one
 
   pub does : IsAnswered b a.call a.reply held ⊎ IsHit s a held → Does s a held u
   does one = record {

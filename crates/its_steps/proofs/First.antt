@@ -9,17 +9,18 @@ use lib.ListN.{get_elem?}
 use Rattle.atomic_table.proofs.Lists.{at_index, at_map, at_longer}
 use Rattle.its_types.specs.declared.machine.Part.{Part}
 use Rattle.its_types.specs.declared.machine.Part.TheVariants as part
-use Rattle.its_plain.specs.Plain.{translator, redistributor, no_translator, no_redistributor}
+use Rattle.its_plain.specs.Plain.{translator, redistributor, no_translator, no_redistributor, conf_of, pend_of}
 use Rattle.its_plain.specs.Sound.{IsSound}
 use Rattle.xlate_cache.specs.Ways.{no_entries}
 use Rattle.xlate_cache.specs.declared.entry.Entry.{Entry as Translation}
 use Rattle.xlate_cache.proofs.Sets.{none_at, empty_shard}
 use Rattle.its_steps.specs.Parts.{Setup, Stands, index_of, part_count, translator_count, vcpu_count}
-use Rattle.its_steps.specs.Contents.{Content, Maps, Mem, Shard, Redist}
+use Rattle.its_steps.specs.Contents.{Content, Maps, Mem, Shard, Conf, Pend}
 use Rattle.its_steps.specs.World.{RootView, View, first_word, first_view, first_slots, first_world}
 use Rattle.its_steps.specs.Good.{IsHome, IsPass, Good}
 use Rattle.its_steps.specs.Laws.{FirstIsGood}
 use Rattle.its_steps.proofs.Indexes.{row_below}
+use Rattle.its_steps.proofs.Lists.{seen_there}
 use Rattle.its_steps.proofs.Stamps.{stamp_zero}
 use Rattle.its_steps.proofs.Views.{no_pass}
 
@@ -46,8 +47,14 @@ module _ (s : Setup) (sound : IsSound s.start) where
   abbrev shards : List (Option Content)
   shards = replicate (translator_count s * s.shards) (some (Shard no_entries))
 
+  abbrev confs : List (Option Content)
+  confs = map (λ r. some (Conf (conf_of r))) s.start.redistributors
+
+  abbrev pends : List (Option Content)
+  pends = map (λ r. some (Pend (pend_of r))) s.start.redistributors
+
   abbrev redists : List (Option Content)
-  redists = map (λ r. some (Redist r)) s.start.redistributors
+  redists = confs ++ pends
 
   maps_long : length maps ≡ translator_count s
   maps_long = length-map s.start.translators (λ t. some (Maps t))
@@ -55,18 +62,30 @@ module _ (s : Setup) (sound : IsSound s.start) where
   shards_long : length shards ≡ translator_count s * s.shards
   shards_long = length-replicate {A = Option Content} (translator_count s * s.shards) (some (Shard no_entries))
 
-  redists_long : length redists ≡ vcpu_count s
-  redists_long = length-map s.start.redistributors (λ r. some (Redist r)) ∙ sound.vcpus
+  confs_long : length confs ≡ vcpu_count s
+  confs_long = length-map s.start.redistributors (λ r. some (Conf (conf_of r))) ∙ sound.vcpus
+
+  pends_long : length pends ≡ vcpu_count s
+  pends_long = length-map s.start.redistributors (λ r. some (Pend (pend_of r))) ∙ sound.vcpus
 
   pub slots_long : length (first_slots s) ≡ part_count s
   slots_long = omega (
     arith,
     length-append maps (some (Mem s.start.memory s.start.track) ∷ (shards ++ redists)),
     length-append shards redists,
+    length-append confs pends,
     maps_long,
     shards_long,
-    redists_long,
+    confs_long,
+    pends_long,
   )
+
+  past_shards : (k : ℕ) (x : Option Content) → get_elem? redists k ≡ some x
+      → get_elem? (first_slots s) (translator_count s + 1 + translator_count s * s.shards + k) ≡ some x
+  past_shards k x there =
+      past maps (some (Mem s.start.memory s.start.track) ∷ (shards ++ redists)) (translator_count s + 1 + translator_count s * s.shards + k)
+      (suc (translator_count s * s.shards + k)) x (omega (arith, maps_long))
+      (past shards redists (translator_count s * s.shards + k) k x (omega (arith, shards_long)) there)
 
   first_home : (p : Part) → Stands s p → IsHome s first_word s.start (first_slots s) p
   first_home (part.Maps its) st = record {
@@ -89,16 +108,27 @@ module _ (s : Setup) (sound : IsSound s.start) where
         (some (Shard no_entries)) (row_below (translator_count s) s.shards its n st.0 st.1)));
     right = record { shard = empty_shard; entries = λ i e there. absurd (nothing s its n e i there) };
   }
-  first_home (part.Redist vcpu) st =
+  first_home (part.Conf vcpu) st =
       let inside : vcpu.0 < length s.start.redistributors = omega (arith, st, sound.vcpus) in
       record {
-        content = Redist (redistributor s.start vcpu.0);
-        slot = past maps (some (Mem s.start.memory s.start.track) ∷ (shards ++ redists)) (translator_count s + 1 + translator_count s * s.shards + vcpu.0)
-            (suc (translator_count s * s.shards + vcpu.0)) (some (Redist (redistributor s.start vcpu.0))) (omega (arith, maps_long))
-            (past shards redists (translator_count s * s.shards + vcpu.0) vcpu.0 (some (Redist (redistributor s.start vcpu.0))) (omega (arith, shards_long))
-            (at_map (λ r. some (Redist r)) s.start.redistributors vcpu.0 (redistributor s.start vcpu.0)
+        content = Conf (conf_of (redistributor s.start vcpu.0));
+        slot = past_shards vcpu.0 (some (Conf (conf_of (redistributor s.start vcpu.0))))
+            (at_longer confs pends vcpu.0 (some (Conf (conf_of (redistributor s.start vcpu.0))))
+            (at_map (λ r. some (Conf (conf_of r))) s.start.redistributors vcpu.0 (redistributor s.start vcpu.0)
             (some_at s.start.redistributors vcpu.0 no_redistributor inside)));
-        right = slice_get-get_or s.start.redistributors vcpu.0 no_redistributor inside;
+        right = seen_there conf_of s.start.redistributors vcpu.0 no_redistributor inside;
+      }
+  first_home (part.Pend vcpu) st =
+      let inside : vcpu.0 < length s.start.redistributors = omega (arith, st, sound.vcpus) in
+      let flat : translator_count s + 1 + translator_count s * s.shards + vcpu_count s + vcpu.0
+      ≡ translator_count s + 1 + translator_count s * s.shards + (vcpu_count s + vcpu.0) = omega arith in
+      record {
+        content = Pend (pend_of (redistributor s.start vcpu.0));
+        slot = ap (get_elem? (first_slots s)) flat ∙ past_shards (vcpu_count s + vcpu.0) (some (Pend (pend_of (redistributor s.start vcpu.0))))
+            (past confs pends (vcpu_count s + vcpu.0) vcpu.0 (some (Pend (pend_of (redistributor s.start vcpu.0)))) (omega (arith, confs_long))
+            (at_map (λ r. some (Pend (pend_of r))) s.start.redistributors vcpu.0 (redistributor s.start vcpu.0)
+            (some_at s.start.redistributors vcpu.0 no_redistributor inside)));
+        right = seen_there pend_of s.start.redistributors vcpu.0 no_redistributor inside;
       }
 
   -- no turn is taken

@@ -6,9 +6,9 @@ use Rattle.its_types.specs.declared.machine.Part.{Part}
 use Rattle.its_types.specs.declared.machine.Part.TheVariants as part
 use Rattle.its_types.specs.declared.machine.Word.{Word}
 use Rattle.its_plain.specs.Answer.{left, answer}
-use Rattle.its_plain.specs.Plain.{Plain, Translator, Redistributor, no_translator, no_redistributor}
+use Rattle.its_plain.specs.Plain.{Plain, Translator, ConfState, PendState, no_translator, no_redistributor, conf_of, pend_of}
 use Rattle.its_steps.specs.Parts.{Setup, Stands, IsOfMachine, translator_count, stamp_of, Right}
-use Rattle.its_steps.specs.Contents.{Content, Maps, Mem, Shard, Redist, Held}
+use Rattle.its_steps.specs.Contents.{Content, Maps, Mem, Shard, Conf, Pend, Held}
 use Rattle.its_steps.specs.Good.{Holds}
 use Rattle.its_steps.specs.MayCommit.{IsRight, Answers}
 use Rattle.its_steps.specs.MayCall.{Owes, StampStays, StampRises, StampRenews, MayCall}
@@ -16,8 +16,9 @@ use Rattle.its_steps.specs.Laws.{HoldersMayCommit}
 use Rattle.its_steps.specs.Renewal.{assembled, content_in, renewal}
 use Rattle.its_steps.specs.World.{word_after}
 use Rattle.its_steps.specs.declared.commit.Commit.{Commit}
-use Rattle.its_steps.proofs.Caches.{d, m', vcpus, translator_held, redist_held, cache_held, cache_other}
+use Rattle.its_steps.proofs.Caches.{d, m', vcpus, translator_held, conf_held, pend_held, cache_held, cache_other}
 use Rattle.its_steps.proofs.Does.{Does}
+use Rattle.its_steps.proofs.Lists.{seen_there}
 use Rattle.its_steps.proofs.Owed.{owes_holds, same_renewed, all_renewed}
 
 module _ (s : Setup) (a : Commit) (held : List Held) (may : MayCall s a held) (u : Plain) (m : IsOfMachine s u)
@@ -42,9 +43,12 @@ module _ (s : Setup) (a : Commit) (held : List Held) (may : MayCall s a held) (u
       let inside : its < length u'.translators = omega (arith, st, after_is.translators) in
       slice_get-get_or u'.translators its no_translator inside ∙ ap (λ (t : Translator). Some t) (sym (translator_held s a held may u m right its h))
   owed_right part.Mem x st h o is = let same = does_so.held_same part.Mem h in (sym same.0, sym same.1)
-  owed_right (part.Redist vcpu) x st h o is =
+  owed_right (part.Conf vcpu) x st h o is =
       let inside : vcpu.0 < length u'.redistributors = omega (arith, st, vcpus s a held may u m right u' after_is) in
-      slice_get-get_or u'.redistributors vcpu.0 no_redistributor inside ∙ ap (λ (t : Redistributor). Some t) (sym (redist_held s a held may u m right vcpu.0 h))
+      seen_there conf_of u'.redistributors vcpu.0 no_redistributor inside ∙ ap (λ (c : ConfState). Some c) (sym (conf_held s a held may u m right vcpu.0 h))
+  owed_right (part.Pend vcpu) x st h o is =
+      let inside : vcpu.0 < length u'.redistributors = omega (arith, st, vcpus s a held may u m right u' after_is) in
+      seen_there pend_of u'.redistributors vcpu.0 no_redistributor inside ∙ ap (λ (q : PendState). Some q) (sym (pend_held s a held may u m right vcpu.0 h))
   owed_right (part.Shard its n) (Shard ways) st h o is = cache_held s a held may u m right its n ways st.0 o is
   owed_right (part.Shard its n) x st h o is = absurd is
 
@@ -52,7 +56,8 @@ module _ (s : Setup) (a : Commit) (held : List Held) (may : MayCall s a held) (u
   other_right (part.Maps its) (Maps x) st n is = sym (does_so.others_same (part.Maps its) n) ∙ is
   other_right part.Mem (Mem x y) st n is = let same = does_so.others_same part.Mem n in (sym same.0 ∙ is.0, sym same.1 ∙ is.1)
   other_right (part.Shard its k) (Shard ways) st n is = cache_other s a held may u m right its k ways st.0 st.1 n is
-  other_right (part.Redist vcpu) (Redist x) st n is = sym (does_so.others_same (part.Redist vcpu) n) ∙ is
+  other_right (part.Conf vcpu) (Conf x) st n is = sym (does_so.others_same (part.Conf vcpu) n) ∙ is
+  other_right (part.Pend vcpu) (Pend x) st n is = sym (does_so.others_same (part.Pend vcpu) n) ∙ is
   other_right p x st n is = absurd is
 
   answers : Answers s a held (renewal s a held) u

@@ -21,17 +21,20 @@ pub index_below : (s : Setup) (p : Part) → Stands s p → index_of s p < part_
 index_below s (part.Maps its) st = omega (arith, st)
 index_below s part.Mem st = omega arith
 index_below s (part.Shard its n) st = let r = row_below (translator_count s) s.shards its n st.0 st.1 in omega (arith, r)
-index_below s (part.Redist vcpu) st = omega (arith, st)
+index_below s (part.Conf vcpu) st = omega (arith, st)
+index_below s (part.Pend vcpu) st = omega (arith, st)
 
 pub index_injective : (s : Setup) (p q : Part) → Stands s p → Stands s q → index_of s p ≡ index_of s q → p ≡ q
 index_injective s (part.Maps i) (part.Maps j) a b e = ap (λ (k : ℕ). part.Maps k) e
 index_injective s (part.Maps i) part.Mem a b e = absurd (omega (arith, a, e))
 index_injective s (part.Maps i) (part.Shard j m) a b e = absurd (omega (arith, a, e))
-index_injective s (part.Maps i) (part.Redist v) a b e = absurd (omega (arith, a, e))
+index_injective s (part.Maps i) (part.Conf v) a b e = absurd (omega (arith, a, e))
+index_injective s (part.Maps i) (part.Pend v) a b e = absurd (omega (arith, a, e))
 index_injective s part.Mem (part.Maps j) a b e = absurd (omega (arith, b, e))
 index_injective s part.Mem part.Mem a b e = refl
 index_injective s part.Mem (part.Shard j m) a b e = absurd (omega (arith, e))
-index_injective s part.Mem (part.Redist v) a b e = absurd (omega (arith, e))
+index_injective s part.Mem (part.Conf v) a b e = absurd (omega (arith, e))
+index_injective s part.Mem (part.Pend v) a b e = absurd (omega (arith, e))
 index_injective s (part.Shard i n) (part.Maps j) a b e = absurd (omega (arith, b, e))
 index_injective s (part.Shard i n) part.Mem a b e = absurd (omega (arith, e))
 index_injective s (part.Shard i n) (part.Shard j m) a b e =
@@ -39,8 +42,15 @@ index_injective s (part.Shard i n) (part.Shard j m) a b e =
     let row : i ≡ j = row_is s.shards i j n m a.1 b.1 flat in
     let place : n ≡ m = omega (arith, flat, ap (λ (k : ℕ). k * s.shards) row) in
     (λ d. part.Shard (row d) (place d))
-index_injective s (part.Shard i n) (part.Redist v) a b e = let r = row_below (translator_count s) s.shards i n a.0 a.1 in absurd (omega (arith, r, e))
-index_injective s (part.Redist v) (part.Maps j) a b e = absurd (omega (arith, b, e))
-index_injective s (part.Redist v) part.Mem a b e = absurd (omega (arith, e))
-index_injective s (part.Redist v) (part.Shard j m) a b e = let r = row_below (translator_count s) s.shards j m b.0 b.1 in absurd (omega (arith, r, e))
-index_injective s (part.Redist v) (part.Redist x) a b e = let same : v.0 ≡ x.0 = omega (arith, e) in (λ d. part.Redist (record { 0 = same d }))
+index_injective s (part.Shard i n) (part.Conf v) a b e = let r = row_below (translator_count s) s.shards i n a.0 a.1 in absurd (omega (arith, r, e))
+index_injective s (part.Shard i n) (part.Pend v) a b e = let r = row_below (translator_count s) s.shards i n a.0 a.1 in absurd (omega (arith, r, e))
+index_injective s (part.Conf v) (part.Maps j) a b e = absurd (omega (arith, b, e))
+index_injective s (part.Conf v) part.Mem a b e = absurd (omega (arith, e))
+index_injective s (part.Conf v) (part.Shard j m) a b e = let r = row_below (translator_count s) s.shards j m b.0 b.1 in absurd (omega (arith, r, e))
+index_injective s (part.Conf v) (part.Conf x) a b e = let same : v.0 ≡ x.0 = omega (arith, e) in (λ d. part.Conf (record { 0 = same d }))
+index_injective s (part.Conf v) (part.Pend x) a b e = absurd (omega (arith, a, e))
+index_injective s (part.Pend v) (part.Maps j) a b e = absurd (omega (arith, b, e))
+index_injective s (part.Pend v) part.Mem a b e = absurd (omega (arith, e))
+index_injective s (part.Pend v) (part.Shard j m) a b e = let r = row_below (translator_count s) s.shards j m b.0 b.1 in absurd (omega (arith, r, e))
+index_injective s (part.Pend v) (part.Conf x) a b e = absurd (omega (arith, b, e))
+index_injective s (part.Pend v) (part.Pend x) a b e = let same : v.0 ≡ x.0 = omega (arith, e) in (λ d. part.Pend (record { 0 = same d }))

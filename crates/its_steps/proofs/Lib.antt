@@ -28,6 +28,7 @@ pub mod Told
 pub mod Calm
 pub mod States
 pub mod Stamping
+pub mod PutIn
 pub mod Ports
 pub mod Gicr
 pub mod Signals

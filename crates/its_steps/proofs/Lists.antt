@@ -1,8 +1,10 @@
 -- Lists, their beginnings, and histories that are one entry longer.
 use Rattle.std.proofs.Common.{◌≡◌, ◌≢◌, ◌⊎◌, ℕ, zero, suc, ◌+◌, ◌<◌, ◌≤◌, eqb, cond, Bool, true, false, List, [], ◌∷◌, ◌++◌, length, refl, ap, sym, ◌∙◌}
-use Rattle.std.proofs.Common.{subst}
+use Rattle.std.proofs.Common.{subst, get_or, slice_get, Option, Some}
 use Rattle.std.proofs.Common.{inl, inr, ⊎_elim, arith, append_assoc, append-nil, length-append, eq-eqb, ne_eqb}
 use Rattle.std.specs.List.{AllByRecursion}
+use Rattle.std.specs.Option.{option_map}
+use Rattle.std.proofs.lemmas.Option.{same_Some, slice_get-get_or}
 use mathlib.Core.Option.{some, some-injective, some-ne-none}
 use mathlib.Core.List.{IsPrefix}
 use lib.ListN.{get_elem?}
@@ -44,6 +46,15 @@ at_end [] a b zero e = inr (refl, some-injective a b e)
 at_end [] a b (suc j) e = absurd (some-ne-none b (sym e))
 at_end (x ∷ xs) a b zero e = inl e
 at_end (x ∷ xs) a b (suc j) e = ⊎_elim (λ (t : get_elem? xs j ≡ some b). inl t) (λ (t : (j ≡ length xs) × (a ≡ b)). inr (ap suc t.0, t.1)) (at_end xs a b j e)
+
+-- what is seen of an element that is there
+pub seen_at : {A B : Type 0} (f : A → B) (xs : List A) (i : ℕ) (d : A) (y : B) → option_map f (slice_get xs i) ≡ Some y → f (get_or xs i d) ≡ y
+seen_at f [] i d y e = absurd cc
+seen_at f (x ∷ xs) zero d y e = same_Some (f x) y e
+seen_at f (x ∷ xs) (suc i) d y e = seen_at f xs i d y e
+
+pub seen_there : {A B : Type 0} (f : A → B) (xs : List A) (i : ℕ) (d : A) → i < length xs → option_map f (slice_get xs i) ≡ Some (f (get_or xs i d))
+seen_there {A = A} f xs i d lt = ap (λ (o : Option A). option_map f o) (slice_get-get_or xs i d lt)
 
 -- ---- what holds of all elements
 

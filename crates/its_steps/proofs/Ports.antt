@@ -1,5 +1,5 @@
 -- Calls that need one redistributor, memory, or one translator's maps.
-use Rattle.std.proofs.Common.{◌≡◌, ℕ, Bool, false, ◌+◌, ◌<◌, if◌then◌else◌, List, [], ◌∷◌, length, set, Option, Some, None, refl, ap, sym, ◌∙◌, inl, arith}
+use Rattle.std.proofs.Common.{◌≡◌, ℕ, Bool, false, ◌+◌, ◌<◌, if◌then◌else◌, List, [], ◌∷◌, length, set, Option, Some, None, refl, ap, sym, ◌∙◌, inl, inr, arith}
 use Rattle.std.proofs.Common.{length-set}
 use Rattle.std.proofs.Common.{get_or-set_same}
 use Rattle.guest_windows.specs.Windows.{Window, write_at}
@@ -15,15 +15,16 @@ use Rattle.its_types.specs.declared.machine.Word.{Word}
 use Rattle.its_plain.specs.Answer.{ack_of, lowest, best, claimed, taken, poke_reply, peek_reply, written, translator_written, poke_left, poked, copy_count}
 use Rattle.its_plain.specs.Answer.{reply_of, left}
 use Rattle.its_plain.specs.Parts.{footprint}
-use Rattle.its_plain.specs.Plain.{Plain, Translator, Redistributor, translator, redistributor, with_redistributor, no_translator, no_redistributor}
+use Rattle.its_plain.specs.Plain.{Plain, Translator, Redistributor, ConfState, PendState, conf_of, pend_of, joined, translator, redistributor}
+use Rattle.its_plain.specs.Plain.{with_redistributor, no_translator, no_redistributor}
 use Rattle.its_plain.specs.declared.call.Call.{Call}
 use Rattle.its_plain.specs.declared.call.Call.TheVariants as call
 use Rattle.its_plain.specs.declared.call.Reply.{Reply}
 use Rattle.its_plain.specs.declared.call.Reply.TheVariants as reply
-use Rattle.its_steps.specs.Calls.{staying, stamping, IsCalm, turns_off, poked_content, peeked_in, DmaMayCommit, NothingMayCommit, CopyMayCommit}
+use Rattle.its_steps.specs.Calls.{staying, stamping, redistributor_held, IsCalm, turns_off, poked_content, peeked_in, DmaMayCommit, NothingMayCommit, CopyMayCommit}
 use Rattle.its_steps.specs.Calls.{TakeMayCommit, ShowMayCommit, BestMayCommit, ClaimMayCommit, PokeMayCommit, PeekMayCommit, ReadMayCommit}
 use Rattle.its_steps.specs.Calls.{WriteMayCommit, WriteMayRise}
-use Rattle.its_steps.specs.Contents.{Content, Maps, Mem, Redist, Held}
+use Rattle.its_steps.specs.Contents.{Content, Maps, Mem, Held}
 use Rattle.its_steps.specs.Endings.{Nothing, All, ending_of}
 use Rattle.its_steps.specs.MayCall.{IsAnswered, MayCall}
 use Rattle.its_steps.specs.Parts.{Setup, HasVcpus, Stands, translator_count, vcpu_count, stamp_of}
@@ -32,6 +33,7 @@ use Rattle.its_steps.specs.World.{out}
 use Rattle.its_steps.specs.declared.change.ShardChange.TheVariants as change
 use Rattle.its_steps.proofs.Assembled.{assembled_has}
 use Rattle.its_steps.proofs.Calm.{calm_may}
+use Rattle.its_steps.proofs.PutIn.{has_both, both_long, both_apart}
 use Rattle.its_steps.proofs.Stamping.{IsEnough, nothing_may, all_may}
 
 -- one part is held
@@ -56,19 +58,31 @@ module _ (s : Setup) (last : Word) (vcpus : HasVcpus s) (room : last.place < s.l
 
 -- ---- one redistributor
 
-module _ (s : Setup) (last : Word) (vcpu : Vcpu) (r : Redistributor) (vcpus : HasVcpus s) (st : vcpu.0 < vcpu_count s)
+module _ (s : Setup) (last : Word) (vcpu : Vcpu) (c : ConfState) (p : PendState) (vcpus : HasVcpus s) (st : vcpu.0 < vcpu_count s)
     (room : last.place < s.limits.place_last) where
   abbrev held : List Held
-  held = out (part.Redist vcpu) (Redist r) ∷ []
+  held = redistributor_held vcpu c p []
 
   abbrev a : Plain
   a = assembled s held
 
+  abbrev r : Redistributor
+  r = joined c p
+
   inside : vcpu.0 < length s.start.redistributors
   inside = omega (arith, st, vcpus)
 
-  has_one : redistributor a vcpu.0 ≡ r
-  has_one = get_or-set_same s.start.redistributors vcpu.0 r no_redistributor inside
+  has : redistributor a vcpu.0 ≡ r
+  has = has_both s.start vcpu inside c p
+
+  -- a calm call that needs no more may be committed
+  both_may : (k : Call) (x : Reply) → IsCalm k → IsAnswered a k x held → MayCall s (staying last k x change.Keep) held
+  both_may k x calm answered = calm_may s last k x change.Keep held vcpus calm room (both_apart vcpu c p [] (λ h. h) (λ h. h) tt) (st, (st, tt))
+      (refl, (refl, tt)) (inl answered) tt
+
+  -- both parts as they are
+  stay_both : redistributor_held vcpu (conf_of (redistributor a vcpu.0)) (pend_of (redistributor a vcpu.0)) [] ≡ held
+  stay_both = λ d. redistributor_held vcpu (conf_of (has d)) (pend_of (has d)) []
 
   -- what is told of an LPI that is picked there, and what is left once it is taken
   module _ (pick : Redistributor → Option ℕ) where
@@ -76,73 +90,83 @@ module _ (s : Setup) (last : Word) (vcpu : Vcpu) (r : Redistributor) (vcpus : Ha
     ack = reply.Ack (ack_of r (pick r))
 
     acked : ack ≡ reply.Ack (ack_of (redistributor a vcpu.0) (pick (redistributor a vcpu.0)))
-    acked = ap (λ (x : Redistributor). reply.Ack (ack_of x (pick x))) (sym has_one)
+    acked = ap (λ (x : Redistributor). reply.Ack (ack_of x (pick x))) (sym has)
 
-    took : redistributor (with_redistributor a vcpu.0 (taken (redistributor a vcpu.0) (pick (redistributor a vcpu.0)))) vcpu.0 ≡ taken r (pick r)
+    abbrev after : Redistributor → Redistributor
+    after x = taken x (pick x)
+
+    abbrev z : Plain
+    z = with_redistributor a vcpu.0 (after (redistributor a vcpu.0))
+
+    took : redistributor z vcpu.0 ≡ after r
     took =
-        let after : Redistributor → Redistributor = λ x. taken x (pick x) in
-        let long : vcpu.0 < length (set s.start.redistributors vcpu.0 r) = omega (arith, inside, length-set s.start.redistributors vcpu.0 r) in
-        get_or-set_same a.redistributors vcpu.0 (after (redistributor a vcpu.0)) no_redistributor long ∙ ap after has_one
+        let long : vcpu.0 < length a.redistributors = omega (arith, inside, both_long s.start vcpu inside c p) in
+        get_or-set_same a.redistributors vcpu.0 (after (redistributor a vcpu.0)) no_redistributor long ∙ ap after has
+
+    conf_stays : (o : Option ℕ) → conf_of (taken r o) ≡ c
+    conf_stays None = refl
+    conf_stays (Some intid) = refl
+
+    leaves : redistributor_held vcpu (conf_of (redistributor z vcpu.0)) (pend_of (redistributor z vcpu.0)) [] ≡ redistributor_held vcpu c (pend_of (after r)) []
+    leaves = λ d. redistributor_held vcpu ((ap (λ (x : Redistributor). conf_of x) took ∙ conf_stays (pick r)) d) (pend_of (took d)) []
 
   take_answered : IsAnswered a (call.Take vcpu) (ack lowest) held
   unfolding footprint reply_of
-  take_answered = record { covers = (inl refl, tt); reply_is = acked lowest }
+  take_answered = record { covers = (inr (inl refl), (inl refl, tt)); reply_is = acked lowest }
 
-  take_leaves : renewal s (staying last (call.Take vcpu) (ack lowest) change.Keep) held ≡ out (part.Redist vcpu) (Redist (taken r (lowest r))) ∷ []
+  take_leaves : renewal s (staying last (call.Take vcpu) (ack lowest) change.Keep) held ≡ redistributor_held vcpu c (pend_of (taken r (lowest r))) []
   unfolding left
-  take_leaves = λ d. out (part.Redist vcpu) (Redist (took lowest d)) ∷ []
+  take_leaves = leaves lowest
 
   show_answered : IsAnswered a (call.Show vcpu) (ack lowest) held
   unfolding footprint reply_of
-  show_answered = record { covers = (inl refl, tt); reply_is = acked lowest }
+  show_answered = record { covers = (inr (inl refl), (inl refl, tt)); reply_is = acked lowest }
 
   show_leaves : renewal s (staying last (call.Show vcpu) (ack lowest) change.Keep) held ≡ held
   unfolding left
-  show_leaves = λ d. out (part.Redist vcpu) (Redist (has_one d)) ∷ []
+  show_leaves = stay_both
 
   best_answered : (mask : ℕ) → IsAnswered a (call.Best vcpu mask) (ack (λ x. best x mask)) held
   unfolding footprint reply_of
-  best_answered mask = record { covers = (inl refl, tt); reply_is = acked (λ x. best x mask) }
+  best_answered mask = record { covers = (inr (inl refl), (inl refl, tt)); reply_is = acked (λ x. best x mask) }
 
   best_leaves : (mask : ℕ) → renewal s (staying last (call.Best vcpu mask) (ack (λ x. best x mask)) change.Keep) held ≡ held
   unfolding left
-  best_leaves mask = λ d. out (part.Redist vcpu) (Redist (has_one d)) ∷ []
+  best_leaves mask = stay_both
 
   claim_answered : (intid : Intid) → IsAnswered a (call.Claim vcpu intid) (ack (λ x. claimed x intid.0)) held
   unfolding footprint reply_of
-  claim_answered intid = record { covers = (inl refl, tt); reply_is = acked (λ x. claimed x intid.0) }
+  claim_answered intid = record { covers = (inr (inl refl), (inl refl, tt)); reply_is = acked (λ x. claimed x intid.0) }
 
   claim_leaves : (intid : Intid) → renewal s (staying last (call.Claim vcpu intid) (ack (λ x. claimed x intid.0)) change.Keep) held
-      ≡ out (part.Redist vcpu) (Redist (taken r (claimed r intid.0))) ∷ []
+      ≡ redistributor_held vcpu c (pend_of (taken r (claimed r intid.0))) []
   unfolding left
-  claim_leaves intid = λ d. out (part.Redist vcpu) (Redist (took (λ x. claimed x intid.0) d)) ∷ []
+  claim_leaves intid = leaves (λ x. claimed x intid.0)
 
 pub takes : TakeMayCommit
-takes s last vcpu r vcpus st room = (
-  one_may s last vcpus room (part.Redist vcpu) (Redist r) st (call.Take vcpu) (reply.Ack (ack_of r (lowest r))) tt
-      (take_answered s last vcpu r vcpus st room),
-  take_leaves s last vcpu r vcpus st room,
+takes s last vcpu c p vcpus st room = (
+  both_may s last vcpu c p vcpus st room (call.Take vcpu) (ack s last vcpu c p vcpus st room lowest) tt (take_answered s last vcpu c p vcpus st room),
+  take_leaves s last vcpu c p vcpus st room,
 )
 
 pub shows : ShowMayCommit
-shows s last vcpu r vcpus st room = (
-  one_may s last vcpus room (part.Redist vcpu) (Redist r) st (call.Show vcpu) (reply.Ack (ack_of r (lowest r))) tt
-      (show_answered s last vcpu r vcpus st room),
-  show_leaves s last vcpu r vcpus st room,
+shows s last vcpu c p vcpus st room = (
+  both_may s last vcpu c p vcpus st room (call.Show vcpu) (ack s last vcpu c p vcpus st room lowest) tt (show_answered s last vcpu c p vcpus st room),
+  show_leaves s last vcpu c p vcpus st room,
 )
 
 pub bests : BestMayCommit
-bests s last vcpu mask r vcpus st room = (
-  one_may s last vcpus room (part.Redist vcpu) (Redist r) st (call.Best vcpu mask) (reply.Ack (ack_of r (best r mask))) tt
-      (best_answered s last vcpu r vcpus st room mask),
-  best_leaves s last vcpu r vcpus st room mask,
+bests s last vcpu mask c p vcpus st room = (
+  both_may s last vcpu c p vcpus st room (call.Best vcpu mask) (ack s last vcpu c p vcpus st room (λ x. best x mask)) tt
+      (best_answered s last vcpu c p vcpus st room mask),
+  best_leaves s last vcpu c p vcpus st room mask,
 )
 
 pub claims : ClaimMayCommit
-claims s last vcpu intid r vcpus st room = (
-  one_may s last vcpus room (part.Redist vcpu) (Redist r) st (call.Claim vcpu intid) (reply.Ack (ack_of r (claimed r intid.0))) tt
-      (claim_answered s last vcpu r vcpus st room intid),
-  claim_leaves s last vcpu r vcpus st room intid,
+claims s last vcpu intid c p vcpus st room = (
+  both_may s last vcpu c p vcpus st room (call.Claim vcpu intid) (ack s last vcpu c p vcpus st room (λ x. claimed x intid.0)) tt
+      (claim_answered s last vcpu c p vcpus st room intid),
+  claim_leaves s last vcpu c p vcpus st room intid,
 )
 
 -- ---- memory

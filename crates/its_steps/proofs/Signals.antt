@@ -11,8 +11,8 @@ use Rattle.its_types.specs.declared.ids.Target.{Target}
 use Rattle.its_types.specs.declared.machine.Part.TheVariants as part
 use Rattle.its_types.specs.declared.machine.Word.{Word}
 use Rattle.its_plain.specs.Answer.{signal_reply, reply_of, left}
-use Rattle.its_plain.specs.Parts.{redist_of}
-use Rattle.its_plain.specs.Plain.{Plain, Translator, Redistributor, translator, redistributor, is_on, no_translator, no_redistributor}
+use Rattle.its_plain.specs.Parts.{pend_at}
+use Rattle.its_plain.specs.Plain.{Plain, Translator, PendState, translator, redistributor, is_on, pend_of, with_pend, no_translator}
 use Rattle.its_plain.specs.Translation.{located, translated, ◌>>=◌, ensure}
 use Rattle.its_plain.specs.declared.call.Call.{Call}
 use Rattle.its_plain.specs.declared.call.Cause.{Cause}
@@ -24,7 +24,7 @@ use Rattle.xlate_cache.specs.Pairs.{shard_number}
 use Rattle.xlate_cache.specs.Ways.{entry, filled, found}
 use Rattle.xlate_cache.specs.declared.entry.Entry.{Entry as Translation}
 use Rattle.its_steps.specs.Calls.{staying, MayLeave, HitMayCommit, HitOffMayCommit, FillMayCommit, DropMayCommit, OffMayCommit}
-use Rattle.its_steps.specs.Contents.{Maps, Shard, Redist, Held}
+use Rattle.its_steps.specs.Contents.{Maps, Shard, Pend, Held}
 use Rattle.its_steps.specs.Good.{Holds, Apart}
 use Rattle.its_steps.specs.MayCall.{MayCall, Covers, IsAnswered, MayFill, message_of, met}
 use Rattle.its_steps.specs.Parts.{Setup, HasVcpus, translator_count, vcpu_count, stamp_of}
@@ -33,16 +33,17 @@ use Rattle.its_steps.specs.World.{out, word_after}
 use Rattle.its_steps.specs.declared.change.ShardChange.TheVariants as change
 use Rattle.its_steps.specs.declared.commit.Commit.{Commit}
 use Rattle.its_steps.proofs.Calm.{calm_may}
+use Rattle.its_steps.proofs.PutIn.{put_pend}
 use Rattle.its_steps.proofs.Messages.{IsMessage, is_message}
 use Rattle.its_types.specs.declared.machine.Part.{Part}
 
--- on to the redistributor
+-- on to the target
 abbrev sends : Bool → Result Target Cause → Result Target Cause
 sends on x = x >>= (λ t. ensure on LpisOff >>= (λ _. Ok t))
 
--- a redistributor that a delivery leaves
-abbrev with_sent : Target → Redistributor → Redistributor
-with_sent target r = record r { pending = with_lpi target.intid.0 r.pending }
+-- what a delivery leaves pending
+abbrev with_sent : Target → PendState → PendState
+with_sent target p = record p { pending = with_lpi target.intid.0 p.pending }
 
 module _ (s : Setup) (last : Word) (c : Call) (its : ℕ) (dev : DeviceId) (ev : EventId) (message : message_of c ≡ Some (its, (dev, ev))) (vcpus : HasVcpus s)
     (it : its < translator_count s) (room : last.place < s.limits.place_last) where
@@ -52,50 +53,51 @@ module _ (s : Setup) (last : Word) (c : Call) (its : ℕ) (dev : DeviceId) (ev :
   abbrev n : ℕ
   n = shard_number dev.0 ev.0 s.shards
 
-  -- ---- a redistributor in front of other parts
+  -- ---- what is pending at the target before other parts
 
-  module _ (target : Target) (r : Redistributor) (st : target.vcpu.0 < vcpu_count s) (rest : List Held) where
+  module _ (target : Target) (p : PendState) (st : target.vcpu.0 < vcpu_count s) (rest : List Held) where
     abbrev front : List Held
-    front = out (part.Redist target.vcpu) (Redist r) ∷ rest
+    front = out (part.Pend target.vcpu) (Pend p) ∷ rest
 
     abbrev sent : Reply
     sent = reply.Signal (Delivered target.vcpu target.intid)
 
     module _ (long : target.vcpu.0 < length (assembled s rest).redistributors) where
-      pub here_redist : redistributor (assembled s front) target.vcpu.0 ≡ r
-      here_redist = get_or-set_same (assembled s rest).redistributors target.vcpu.0 r no_redistributor long
+      pub here_pend : pend_of (redistributor (assembled s front) target.vcpu.0) ≡ p
+      here_pend = put_pend (assembled s rest) target.vcpu.0 p long
 
-      pub sent_redist : redistributor (left (assembled s front) c sent) target.vcpu.0 ≡ with_sent target r
-      sent_redist =
+      pub sent_pend : pend_of (redistributor (left (assembled s front) c sent) target.vcpu.0) ≡ with_sent target p
+      sent_pend =
           let a : Plain = assembled s front in
-          let still : target.vcpu.0 < length a.redistributors = omega (arith, long, length-set (assembled s rest).redistributors target.vcpu.0 r) in
-          ap (λ (z : Plain). redistributor z target.vcpu.0) (is.leaves a (Delivered target.vcpu target.intid))
-          ∙ get_or-set_same a.redistributors target.vcpu.0 (with_sent target (redistributor a target.vcpu.0)) no_redistributor still
-          ∙ ap (with_sent target) here_redist
+          let still : target.vcpu.0 < length a.redistributors =
+          omega (arith, long, length-set (assembled s rest).redistributors target.vcpu.0 (with_pend p (redistributor (assembled s rest) target.vcpu.0))) in
+          ap (λ (z : Plain). pend_of (redistributor z target.vcpu.0)) (is.leaves a (Delivered target.vcpu target.intid))
+          ∙ put_pend a target.vcpu.0 (with_sent target (pend_of (redistributor a target.vcpu.0))) still
+          ∙ ap (with_sent target) here_pend
 
   -- ---- hits
 
-  module _ (target : Target) (ways : List (Option Translation)) (r : Redistributor) (st : target.vcpu.0 < vcpu_count s) (sh : n < s.shards)
+  module _ (target : Target) (ways : List (Option Translation)) (p : PendState) (st : target.vcpu.0 < vcpu_count s) (sh : n < s.shards)
       (has : found ways dev.0 ev.0 (stamp_of s last its) ≡ Some target) where
     abbrev shard : List Held
     shard = out (part.Shard its n) (Shard ways) ∷ []
 
     abbrev two : List Held
-    two = out (part.Redist target.vcpu) (Redist r) ∷ shard
+    two = out (part.Pend target.vcpu) (Pend p) ∷ shard
 
     two_apart : Apart two
     two_apart = ((λ h. no_shard h), ((λ h. h), tt))
       where
-        no_shard : Holds (part.Redist target.vcpu) shard → ⊥
+        no_shard : Holds (part.Pend target.vcpu) shard → ⊥
         no_shard (inl e) = cc
         no_shard (inr h) = h
 
-    hit_leaves : renewal s (staying last c (sent target r st shard) change.Keep) two ≡ out (part.Redist target.vcpu) (Redist (with_sent target r)) ∷ shard
+    hit_leaves : renewal s (staying last c (sent target p st shard) change.Keep) two ≡ out (part.Pend target.vcpu) (Pend (with_sent target p)) ∷ shard
     unfolding changed
-    hit_leaves = λ d. out (part.Redist target.vcpu) (Redist (sent_redist target r st shard (omega (arith, st, vcpus)) d)) ∷ shard
+    hit_leaves = λ d. out (part.Pend target.vcpu) (Pend (sent_pend target p st shard (omega (arith, st, vcpus)) d)) ∷ shard
 
-    hit_may : r.bases.on ≡ true → MayCall s (staying last c (sent target r st shard) change.Keep) two
-    hit_may on = calm_may s last c (sent target r st shard) change.Keep two vcpus is.calm room two_apart (st, ((it, sh), tt)) (refl, (refl, tt))
+    hit_may : p.accepts ≡ true → MayCall s (staying last c (sent target p st shard) change.Keep) two
+    hit_may on = calm_may s last c (sent target p st shard) change.Keep two vcpus is.calm room two_apart (st, ((it, sh), tt)) (refl, (refl, tt))
         (inr record {
           its = its;
           dev = dev;
@@ -105,7 +107,7 @@ module _ (s : Setup) (last : Word) (c : Call) (its : ℕ) (dev : DeviceId) (ev :
           ways = ways;
           owes = inr (inl (refl, refl));
           is_found = has;
-          redist = r;
+          pend = p;
           target_owes = inl (refl, refl);
           reply_is = ap (λ (b : Bool). reply.Signal (met b target)) (sym on);
         }) tt
@@ -113,7 +115,7 @@ module _ (s : Setup) (last : Word) (c : Call) (its : ℕ) (dev : DeviceId) (ev :
     abbrev dropped : Reply
     dropped = reply.Signal (Dropped LpisOff)
 
-    hit_off_may : r.bases.on ≡ false → MayCall s (staying last c dropped change.Keep) two
+    hit_off_may : p.accepts ≡ false → MayCall s (staying last c dropped change.Keep) two
     hit_off_may off = calm_may s last c dropped change.Keep two vcpus is.calm room two_apart (st, ((it, sh), tt)) (refl, (refl, tt))
         (inr record {
           its = its;
@@ -124,7 +126,7 @@ module _ (s : Setup) (last : Word) (c : Call) (its : ℕ) (dev : DeviceId) (ev :
           ways = ways;
           owes = inr (inl (refl, refl));
           is_found = has;
-          redist = r;
+          pend = p;
           target_owes = inl (refl, refl);
           reply_is = ap (λ (b : Bool). reply.Signal (met b target)) (sym off);
         }) tt
@@ -135,7 +137,7 @@ module _ (s : Setup) (last : Word) (c : Call) (its : ℕ) (dev : DeviceId) (ev :
         let a : Plain = assembled s two in
         let long : target.vcpu.0 < length (assembled s shard).redistributors = omega (arith, st, vcpus) in
         let same : left a c dropped ≡ a = is.leaves a (Dropped LpisOff) in
-        λ d. out (part.Redist target.vcpu) (Redist ((ap (λ (y : Plain). redistributor y target.vcpu.0) same ∙ here_redist target r st shard long) d)) ∷ shard
+        λ d. out (part.Pend target.vcpu) (Pend ((ap (λ (y : Plain). pend_of (redistributor y target.vcpu.0)) same ∙ here_pend target p st shard long) d)) ∷ shard
 
   -- ---- by the maps
 
@@ -163,10 +165,10 @@ module _ (s : Setup) (last : Word) (c : Call) (its : ℕ) (dev : DeviceId) (ev :
     answers_as u x e = ap (λ (y : Result Target Cause). reply.Signal (signal_reply y)) (sym e) ∙ sym (is.replies u)
 
     covers_as : (u : Plain) (held : List Held) (x : Result Target Cause) → located (translator u its) dev.0 ev.0 ≡ x → Holds (part.Maps its) held
-        → AllByRecursion (λ p. Holds p held) (redist_of (option_map (λ t. t.vcpu) (result_ok x))) → Covers u c held
-    covers_as u held x e maps redists =
+        → AllByRecursion (λ p. Holds p held) (pend_at (option_map (λ t. t.vcpu) (result_ok x))) → Covers u c held
+    covers_as u held x e maps pends =
         subst (λ (ps : List Part). AllByRecursion (λ p. Holds p held) ps) (sym (is.parts u))
-        (maps, subst (λ (y : Result Target Cause). AllByRecursion (λ p. Holds p held) (redist_of (option_map (λ t. t.vcpu) (result_ok y)))) (sym e) redists)
+        (maps, subst (λ (y : Result Target Cause). AllByRecursion (λ p. Holds p held) (pend_at (option_map (λ t. t.vcpu) (result_ok y)))) (sym e) pends)
 
     abbrev maps : List Held
     maps = out (part.Maps its) (Maps t) ∷ []
@@ -190,15 +192,15 @@ module _ (s : Setup) (last : Word) (c : Call) (its : ℕ) (dev : DeviceId) (ev :
         drop_leaves,
       )
 
-    -- ---- sent to a redistributor
+    -- ---- sent to a target
 
-    module _ (target : Target) (r : Redistributor) (st : target.vcpu.0 < vcpu_count s) (goes : located t dev.0 ev.0 ≡ Ok target)
+    module _ (target : Target) (p : PendState) (st : target.vcpu.0 < vcpu_count s) (goes : located t dev.0 ev.0 ≡ Ok target)
         (ways : List (Option Translation)) (sh : n < s.shards) where
       abbrev behind : List Held
       behind = out (part.Shard its n) (Shard ways) ∷ maps
 
       abbrev three : List Held
-      three = out (part.Redist target.vcpu) (Redist r) ∷ behind
+      three = out (part.Pend target.vcpu) (Pend p) ∷ behind
 
       abbrev a : Plain
       a = assembled s three
@@ -207,21 +209,21 @@ module _ (s : Setup) (last : Word) (c : Call) (its : ℕ) (dev : DeviceId) (ev :
       long = omega (arith, st, vcpus)
 
       three_apart : Apart three
-      three_apart = ((λ h. no_redist h), ((λ h. no_shard h), ((λ h. h), tt)))
+      three_apart = ((λ h. no_pend h), ((λ h. no_shard h), ((λ h. h), tt)))
         where
           no_shard : Holds (part.Shard its n) maps → ⊥
           no_shard (inl e) = cc
           no_shard (inr h) = h
 
-          no_redist : Holds (part.Redist target.vcpu) behind → ⊥
-          no_redist (inl e) = cc
-          no_redist (inr (inl e)) = cc
-          no_redist (inr (inr h)) = h
+          no_pend : Holds (part.Pend target.vcpu) behind → ⊥
+          no_pend (inl e) = cc
+          no_pend (inr (inl e)) = cc
+          no_pend (inr (inr h)) = h
 
-      goes_on : (on : Bool) (x : Result Target Cause) → r.bases.on ≡ on → sends on (Ok target) ≡ x → IsAnswered a c (reply.Signal (signal_reply x)) three
+      goes_on : (on : Bool) (x : Result Target Cause) → p.accepts ≡ on → sends on (Ok target) ≡ x → IsAnswered a c (reply.Signal (signal_reply x)) three
       goes_on on x e sent_as = record {
         covers = covers_as a three (Ok target) (goes_where a (Ok target) here_maps goes) (inr (inr (inl refl))) (inl refl, tt);
-        reply_is = answers_as a x (goes_to a target on here_maps goes (ap (λ (y : Redistributor). y.bases.on) (here_redist target r st behind long) ∙ e)
+        reply_is = answers_as a x (goes_to a target on here_maps goes (ap (λ (y : PendState). y.accepts) (here_pend target p st behind long) ∙ e)
             ∙ sent_as);
       }
 
@@ -230,10 +232,10 @@ module _ (s : Setup) (last : Word) (c : Call) (its : ℕ) (dev : DeviceId) (ev :
       off_leaves =
           let z : Plain = left a c (reply.Signal (Dropped LpisOff)) in
           let same : z ≡ a = is.leaves a (Dropped LpisOff) in
-          λ d. out (part.Redist target.vcpu) (Redist ((ap (λ (y : Plain). redistributor y target.vcpu.0) same ∙ here_redist target r st behind long) d))
+          λ d. out (part.Pend target.vcpu) (Pend ((ap (λ (y : Plain). pend_of (redistributor y target.vcpu.0)) same ∙ here_pend target p st behind long) d))
           ∷ out (part.Shard its n) (Shard ways) ∷ out (part.Maps its) (Maps ((ap (λ (y : Plain). translator y its) same ∙ here_maps) d)) ∷ []
 
-      pub off_may : r.bases.on ≡ false → MayLeave s (staying last c (reply.Signal (Dropped LpisOff)) change.Keep) three three
+      pub off_may : p.accepts ≡ false → MayLeave s (staying last c (reply.Signal (Dropped LpisOff)) change.Keep) three three
       off_may off = (
         calm_may s last c (reply.Signal (Dropped LpisOff)) change.Keep three vcpus is.calm room three_apart (st, ((it, sh), (it, tt)))
             (refl, (refl, (refl, tt))) (inl (goes_on false (Err LpisOff) off refl)) tt,
@@ -241,19 +243,19 @@ module _ (s : Setup) (last : Word) (c : Call) (its : ℕ) (dev : DeviceId) (ev :
       )
 
       abbrev fill : Commit
-      fill = staying last c (sent target r st behind) (change.Fill dev ev target)
+      fill = staying last c (sent target p st behind) (change.Fill dev ev target)
 
-      maps_after : translator (left a c (sent target r st behind)) its ≡ t
+      maps_after : translator (left a c (sent target p st behind)) its ≡ t
       maps_after = ap (λ (z : Plain). translator z its) (is.leaves a (Delivered target.vcpu target.intid)) ∙ here_maps
 
-      may_fill : r.bases.on ≡ true → MayFill s c (left a c (sent target r st behind)) three dev ev target
+      may_fill : p.accepts ≡ true → MayFill s c (left a c (sent target p st behind)) three dev ev target
       may_fill on = record {
         maps = subst (λ (i : ℕ). Holds (part.Maps i) three) (sym is.its_is) (inr (inr (inl refl)));
         shard = subst (λ (i : ℕ). Holds (part.Shard i n) three) (sym is.its_is) (inr (inl refl));
-        redist = inl refl;
-        agrees = ap (λ (i : ℕ). translated (left a c (sent target r st behind)) i dev.0 ev.0) is.its_is
-            ∙ goes_to (left a c (sent target r st behind)) target true maps_after goes
-            (ap (λ (x : Redistributor). x.bases.on) (sent_redist target r st behind long) ∙ on);
+        pend = inl refl;
+        agrees = ap (λ (i : ℕ). translated (left a c (sent target p st behind)) i dev.0 ev.0) is.its_is
+            ∙ goes_to (left a c (sent target p st behind)) target true maps_after goes
+            (ap (λ (x : PendState). x.accepts) (sent_pend target p st behind long) ∙ on);
       }
 
       its_own : (eqb its (its_of c) && eqb n n) ≡ true
@@ -266,30 +268,30 @@ module _ (s : Setup) (last : Word) (c : Call) (its : ℕ) (dev : DeviceId) (ev :
       unfolding changed
       shard_after = ap (λ (b : Bool). cond b full ways) its_own
 
-      fill_leaves : renewal s fill three ≡ out (part.Redist target.vcpu) (Redist (with_sent target r)) ∷ out (part.Shard its n) (Shard full) ∷ maps
-      fill_leaves = λ d. out (part.Redist target.vcpu) (Redist (sent_redist target r st behind long d)) ∷ out (part.Shard its n) (Shard (shard_after d)) ∷ out
+      fill_leaves : renewal s fill three ≡ out (part.Pend target.vcpu) (Pend (with_sent target p)) ∷ out (part.Shard its n) (Shard full) ∷ maps
+      fill_leaves = λ d. out (part.Pend target.vcpu) (Pend (sent_pend target p st behind long d)) ∷ out (part.Shard its n) (Shard (shard_after d)) ∷ out
           (part.Maps its) (Maps (maps_after d)) ∷ []
 
-      pub fill_may : r.bases.on ≡ true → MayCall s fill three
-      fill_may on = calm_may s last c (sent target r st behind) (change.Fill dev ev target) three vcpus is.calm room three_apart (st, ((it, sh), (it, tt)))
+      pub fill_may : p.accepts ≡ true → MayCall s fill three
+      fill_may on = calm_may s last c (sent target p st behind) (change.Fill dev ev target) three vcpus is.calm room three_apart (st, ((it, sh), (it, tt)))
           (refl, (refl, (refl, tt))) (inl (goes_on true (Ok target) on refl)) (may_fill on)
 
 pub hits : HitMayCommit
-hits s last c its dev ev target ways r message vcpus it st sh room has on =
-    (hit_may s last c its dev ev message vcpus it room target ways r st sh has on, hit_leaves s last c its dev ev message vcpus it room target ways r st sh has)
+hits s last c its dev ev target ways p message vcpus it st sh room has on =
+    (hit_may s last c its dev ev message vcpus it room target ways p st sh has on, hit_leaves s last c its dev ev message vcpus it room target ways p st sh has)
 
 pub hits_off : HitOffMayCommit
-hits_off s last c its dev ev target ways r message vcpus it st sh room has off = (
-  hit_off_may s last c its dev ev message vcpus it room target ways r st sh has off,
-  hit_off_leaves s last c its dev ev message vcpus it room target ways r st sh has,
+hits_off s last c its dev ev target ways p message vcpus it st sh room has off = (
+  hit_off_may s last c its dev ev message vcpus it room target ways p st sh has off,
+  hit_off_leaves s last c its dev ev message vcpus it room target ways p st sh has,
 )
 
 pub fills : FillMayCommit
-fills s last c its dev ev target t ways r message vcpus it st sh room goes on =
-    (fill_may s last c its dev ev message vcpus it room t target r st goes ways sh on, fill_leaves s last c its dev ev message vcpus it room t target r st goes ways sh)
+fills s last c its dev ev target t ways p message vcpus it st sh room goes on =
+    (fill_may s last c its dev ev message vcpus it room t target p st goes ways sh on, fill_leaves s last c its dev ev message vcpus it room t target p st goes ways sh)
 
 pub drops : DropMayCommit
 drops s last c its dev ev cause t message vcpus it room lost = drop_may s last c its dev ev message vcpus it room t cause lost
 
 pub offs : OffMayCommit
-offs s last c its dev ev target t ways r message vcpus it st sh room goes off = off_may s last c its dev ev message vcpus it room t target r st goes ways sh off
+offs s last c its dev ev target t ways p message vcpus it st sh room goes off = off_may s last c its dev ev message vcpus it room t target p st goes ways sh off

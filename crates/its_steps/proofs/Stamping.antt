@@ -84,7 +84,8 @@ fills_one s a u (part.Shard i n) (Shard ways) empty = λ own k e is.
     (subst (λ (y : ℕ × ShardChange). get_or (changed s (word_after a) a.call y.1 y.0 n ways) k None ≡ Some e) (λ d. (own d, empty d)) is))
 fills_one s a u (part.Maps i) x empty = tt
 fills_one s a u part.Mem x empty = tt
-fills_one s a u (part.Redist vcpu) x empty = tt
+fills_one s a u (part.Conf vcpu) x empty = tt
+fills_one s a u (part.Pend vcpu) x empty = tt
 fills_one s a u (part.Shard i n) x empty = tt
 
 fills_all : (s : Setup) (a : Commit) (u : Plain) (xs : List Held) → a.change ≡ change.Empty

@@ -4,10 +4,10 @@ use Rattle.its_types.specs.declared.machine.Part.{Part}
 use Rattle.its_types.specs.declared.machine.Part.TheVariants as part
 use Rattle.its_plain.specs.Answer.{left}
 use Rattle.its_plain.specs.Parts.{SamePart}
-use Rattle.its_plain.specs.Plain.{Plain, Translator, Redistributor, no_translator, no_redistributor}
+use Rattle.its_plain.specs.Plain.{Plain, Translator, ConfState, PendState, no_translator, no_redistributor, conf_of, pend_of}
 use Rattle.its_plain.specs.Translation.{located}
-use Rattle.plain_footprint.proofs.Listed.{same_or}
-use Rattle.its_steps.specs.Contents.{Content, Maps, Mem, Shard, Redist, Held}
+use Rattle.plain_footprint.proofs.Listed.{same_or, seen_or}
+use Rattle.its_steps.specs.Contents.{Content, Maps, Mem, Shard, Conf, Pend, Held}
 use Rattle.its_steps.specs.Good.{Holds}
 use Rattle.its_steps.specs.MayCall.{IsAnswered, IsHit, MayChange, MayStamp, MayCallIn}
 use Rattle.its_steps.specs.Parts.{Setup, HasAll, IsOfMachine}
@@ -24,7 +24,8 @@ use Rattle.its_steps.proofs.Translations.{translated_is, translated_from}
 content_as : (s : Setup) (a : Commit) (z z' : Plain) (p : Part) (x : Content) → SamePart z z' p → content_in s a z p x ≡ content_in s a z' p x
 content_as s a z z' (part.Maps its) x e = ap (λ (t : Translator). Maps t) (same_or z.translators z'.translators its no_translator e)
 content_as s a z z' part.Mem x e = λ d. Mem (e.0 d) (e.1 d)
-content_as s a z z' (part.Redist vcpu) x e = ap (λ (r : Redistributor). Redist r) (same_or z.redistributors z'.redistributors vcpu.0 no_redistributor e)
+content_as s a z z' (part.Conf vcpu) x e = ap (λ (c : ConfState). Conf c) (seen_or conf_of z.redistributors z'.redistributors vcpu.0 no_redistributor e)
+content_as s a z z' (part.Pend vcpu) x e = ap (λ (q : PendState). Pend q) (seen_or pend_of z.redistributors z'.redistributors vcpu.0 no_redistributor e)
 content_as s a z z' (part.Shard its n) (Shard ways) e = refl
 content_as s a z z' (part.Shard its n) x e = refl
 
@@ -60,12 +61,12 @@ module _ (s : Setup) (u : Plain) (a : Commit) (held : List Held) (m : IsOfMachin
       record {
         maps = f.maps;
         shard = f.shard;
-        redist = f.redist;
+        pend = f.pend;
         agrees = translated_from z' i dev.0 ev.0 target
             (subst (λ (x : Translator). located x dev.0 ev.0 ≡ Ok target) (same_or z.translators z'.translators i no_translator (same (part.Maps i) f.maps))
             t.0)
-            (ap (λ (x : Redistributor). x.bases.on)
-            (sym (same_or z.redistributors z'.redistributors target.vcpu.0 no_redistributor (same (part.Redist target.vcpu) f.redist))) ∙ t.1);
+            (ap (λ (q : PendState). q.accepts)
+            (sym (seen_or pend_of z.redistributors z'.redistributors target.vcpu.0 no_redistributor (same (part.Pend target.vcpu) f.pend))) ∙ t.1);
       }
   changes (change.Drop dev ev) f = f
   changes ch f = tt

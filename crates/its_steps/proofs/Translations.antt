@@ -37,6 +37,6 @@ pub on_within : (u : Plain) (v : ℕ) → is_on u v ≡ true → v < length u.re
 on_within u v on =
     elim (cases_lt v (length u.redistributors)) [
       | inl within ↦ within
-      | inr past ↦ let none = ap (λ (r : Redistributor). r.bases.on) (get_or_past u.redistributors v no_redistributor past) in absurd
+      | inr past ↦ let none = ap (λ (r : Redistributor). r.accepts) (get_or_past u.redistributors v no_redistributor past) in absurd
           (both_ways (is_on u v) none on)
     ]

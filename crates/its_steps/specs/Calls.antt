@@ -6,7 +6,7 @@ use Rattle.dirty_log.specs.Copies.{wrote, caught_up}
 use Rattle.dirty_log.specs.declared.tracked.Tracked.{Tracked}
 use Rattle.std.specs.List.{AllByRecursion}
 use Rattle.guest_windows.specs.Windows.{Window, read_at, write_at}
-use Rattle.gicr_regs.specs.Registers.{written_gicr, turned_off}
+use Rattle.gicr_regs.specs.Registers.{asked_by, changes_pending, reads_tables, conf_done_by, done_by, written_gicr, turned_off}
 use Rattle.gits_regs.specs.Registers.{read_reg, write_reg}
 use Rattle.its_types.specs.Lpis.{with_lpi}
 use Rattle.its_types.specs.declared.ids.Addr.{Addr}
@@ -15,11 +15,13 @@ use Rattle.its_types.specs.declared.ids.EventId.{EventId}
 use Rattle.its_types.specs.declared.ids.Target.{Target}
 use Rattle.its_types.specs.declared.ids.Intid.{Intid}
 use Rattle.its_types.specs.declared.ids.Vcpu.{Vcpu}
+use Rattle.its_types.specs.declared.machine.Part.{Part}
 use Rattle.its_types.specs.declared.machine.Part.TheVariants as part
 use Rattle.its_types.specs.declared.machine.Shape.{Shape}
 use Rattle.its_types.specs.declared.machine.Word.{Word}
 use Rattle.its_plain.specs.Answer.{ack_of, lowest, best, claimed, taken, poke_reply, peek_reply, translator_written, save_reply, save_left, copy_count, left}
-use Rattle.its_plain.specs.Plain.{Plain, Translator, Redistributor, translator, redistributor}
+use Rattle.its_plain.specs.Parts.{conf, pend}
+use Rattle.its_plain.specs.Plain.{Plain, Translator, Redistributor, ConfState, PendState, conf_of, pend_of, joined, translator, redistributor}
 use Rattle.its_plain.specs.Regions.{savable}
 use Rattle.its_plain.specs.Translation.{located}
 use Rattle.its_plain.specs.declared.call.Call.{Call}
@@ -33,7 +35,7 @@ use Rattle.its_plain.specs.declared.call.Signal.TheVariants.{Delivered, Dropped}
 use Rattle.xlate_cache.specs.Pairs.{shard_number}
 use Rattle.xlate_cache.specs.Ways.{entry, filled, found}
 use Rattle.xlate_cache.specs.declared.entry.Entry.{Entry as Translation}
-use Rattle.its_steps.specs.Contents.{Content, Maps, Mem, Shard, Redist, Held}
+use Rattle.its_steps.specs.Contents.{Content, Maps, Mem, Shard, Conf, Pend, Held}
 use Rattle.its_steps.specs.Good.{Apart}
 use Rattle.its_steps.specs.MayCall.{message_of, AreSteady, IsAnswered, IsHit, MayChange, MayCall}
 use Rattle.its_steps.specs.MayCommit.{IsOut}
@@ -84,38 +86,74 @@ CalmCallsMayCommit = (s : Setup) (last : Word) (c : Call) (r : Reply) (ch : Shar
 
 -- ---- redistributors
 
--- a redistributor alone is enough for an acknowledgement
+-- both parts of one, of which what is pending was got last
+abbrev pub redistributor_held : Vcpu → ConfState → PendState → List Held → List Held
+redistributor_held vcpu c p rest = out (part.Pend vcpu) (Pend p) ∷ out (part.Conf vcpu) (Conf c) ∷ rest
+
+-- those of a redistributor
+abbrev pub parts_held : Vcpu → Redistributor → List Held → List Held
+parts_held vcpu r rest = redistributor_held vcpu (conf_of r) (pend_of r) rest
+
+-- a redistributor alone is enough for an acknowledgement, which changes only what is pending
 abbrev pub TakeMayCommit : Type 0
-TakeMayCommit = (s : Setup) (last : Word) (vcpu : Vcpu) (r : Redistributor) → HasVcpus s → vcpu.0 < vcpu_count s → last.place < s.limits.place_last
-    → MayLeave s (staying last (call.Take vcpu) (reply.Ack (ack_of r (lowest r))) change.Keep) (out (part.Redist vcpu) (Redist r) ∷ [])
-    (out (part.Redist vcpu) (Redist (taken r (lowest r))) ∷ [])
+TakeMayCommit = (s : Setup) (last : Word) (vcpu : Vcpu) (c : ConfState) (p : PendState) → HasVcpus s → vcpu.0 < vcpu_count s
+    → last.place < s.limits.place_last → let r : Redistributor = joined c p in
+    MayLeave s (staying last (call.Take vcpu) (reply.Ack (ack_of r (lowest r))) change.Keep) (redistributor_held vcpu c p [])
+    (redistributor_held vcpu c (pend_of (taken r (lowest r))) [])
 
 -- and to show what would be acknowledged
 abbrev pub ShowMayCommit : Type 0
-ShowMayCommit = (s : Setup) (last : Word) (vcpu : Vcpu) (r : Redistributor) → HasVcpus s → vcpu.0 < vcpu_count s → last.place < s.limits.place_last
-    → let held : List Held = out (part.Redist vcpu) (Redist r) ∷ [] in MayLeave s (staying last (call.Show vcpu) (reply.Ack (ack_of r (lowest r))) change.Keep)
-    held held
+ShowMayCommit = (s : Setup) (last : Word) (vcpu : Vcpu) (c : ConfState) (p : PendState) → HasVcpus s → vcpu.0 < vcpu_count s
+    → last.place < s.limits.place_last → let r : Redistributor = joined c p in
+    let held : List Held = redistributor_held vcpu c p [] in
+    MayLeave s (staying last (call.Show vcpu) (reply.Ack (ack_of r (lowest r))) change.Keep) held held
 
 -- and to show the first by priority
 abbrev pub BestMayCommit : Type 0
-BestMayCommit = (s : Setup) (last : Word) (vcpu : Vcpu) (mask : ℕ) (r : Redistributor) → HasVcpus s → vcpu.0 < vcpu_count s
-    → last.place < s.limits.place_last → let held : List Held = out (part.Redist vcpu) (Redist r) ∷ [] in
+BestMayCommit = (s : Setup) (last : Word) (vcpu : Vcpu) (mask : ℕ) (c : ConfState) (p : PendState) → HasVcpus s → vcpu.0 < vcpu_count s
+    → last.place < s.limits.place_last → let r : Redistributor = joined c p in
+    let held : List Held = redistributor_held vcpu c p [] in
     MayLeave s (staying last (call.Best vcpu mask) (reply.Ack (ack_of r (best r mask))) change.Keep) held held
 
 -- and for an acknowledgement of one LPI
 abbrev pub ClaimMayCommit : Type 0
-ClaimMayCommit = (s : Setup) (last : Word) (vcpu : Vcpu) (intid : Intid) (r : Redistributor) → HasVcpus s → vcpu.0 < vcpu_count s
-    → last.place < s.limits.place_last
-    → MayLeave s (staying last (call.Claim vcpu intid) (reply.Ack (ack_of r (claimed r intid.0))) change.Keep) (out (part.Redist vcpu) (Redist r) ∷ [])
-    (out (part.Redist vcpu) (Redist (taken r (claimed r intid.0))) ∷ [])
+ClaimMayCommit = (s : Setup) (last : Word) (vcpu : Vcpu) (intid : Intid) (c : ConfState) (p : PendState) → HasVcpus s → vcpu.0 < vcpu_count s
+    → last.place < s.limits.place_last → let r : Redistributor = joined c p in
+    MayLeave s (staying last (call.Claim vcpu intid) (reply.Ack (ack_of r (claimed r intid.0))) change.Keep) (redistributor_held vcpu c p [])
+    (redistributor_held vcpu c (pend_of (taken r (claimed r intid.0))) [])
 
--- with memory, it is enough for a write of its registers, whatever that does to LPIs: the stamp stays and no shard is held
-abbrev pub GicrMayCommit : Type 0
-GicrMayCommit = (s : Setup) (last : Word) (vcpu : Vcpu) (off size value : ℕ) (r : Redistributor) (memory : List Window) (track : Option Tracked) → HasVcpus s
-    → vcpu.0 < vcpu_count s → last.place < s.limits.place_last → s.start.layout.gicr ≡ true
+-- ---- writes of a redistributor's LPI registers, whatever they do to LPIs: the stamp stays and no shard is held
+
+-- the configuration alone is enough for one that neither reads tables nor turns LPIs on or off
+abbrev pub ConfMayCommit : Type 0
+ConfMayCommit = (s : Setup) (last : Word) (vcpu : Vcpu) (off size value : ℕ) (c : ConfState) → HasVcpus s → vcpu.0 < vcpu_count s
+    → last.place < s.limits.place_last → s.start.layout.gicr ≡ true → reads_tables (asked_by c.bases off size value) ≡ false
+    → changes_pending (asked_by c.bases off size value) ≡ false
+    → MayLeave s (staying last (call.WriteGicr vcpu off size value) reply.Ok change.Keep) (out (part.Conf vcpu) (Conf c) ∷ [])
+    (out (part.Conf vcpu) (Conf (conf_done_by s.start.layout.shape [] (asked_by c.bases off size value) c)) ∷ [])
+
+-- with memory, for one that turns LPIs neither on nor off
+abbrev pub RereadMayCommit : Type 0
+RereadMayCommit = (s : Setup) (last : Word) (vcpu : Vcpu) (off size value : ℕ) (c : ConfState) (memory : List Window) (track : Option Tracked) → HasVcpus s
+    → vcpu.0 < vcpu_count s → last.place < s.limits.place_last → s.start.layout.gicr ≡ true → changes_pending (asked_by c.bases off size value) ≡ false
     → let mem : Held = out part.Mem (Mem memory track) in
-    MayLeave s (staying last (call.WriteGicr vcpu off size value) reply.Ok change.Keep) (out (part.Redist vcpu) (Redist r) ∷ mem ∷ [])
-    (out (part.Redist vcpu) (Redist (written_gicr s.start.layout.shape memory r off size value)) ∷ mem ∷ [])
+    MayLeave s (staying last (call.WriteGicr vcpu off size value) reply.Ok change.Keep) (out (part.Conf vcpu) (Conf c) ∷ mem ∷ [])
+    (out (part.Conf vcpu) (Conf (conf_done_by s.start.layout.shape memory (asked_by c.bases off size value) c)) ∷ mem ∷ [])
+
+-- both parts, for one that doesn't read tables, as to turn LPIs off
+abbrev pub TurnOffMayCommit : Type 0
+TurnOffMayCommit = (s : Setup) (last : Word) (vcpu : Vcpu) (off size value : ℕ) (c : ConfState) (p : PendState) → HasVcpus s → vcpu.0 < vcpu_count s
+    → last.place < s.limits.place_last → s.start.layout.gicr ≡ true → reads_tables (asked_by c.bases off size value) ≡ false
+    → MayLeave s (staying last (call.WriteGicr vcpu off size value) reply.Ok change.Keep) (redistributor_held vcpu c p [])
+    (parts_held vcpu (done_by s.start.layout.shape [] (asked_by c.bases off size value) (joined c p)) [])
+
+-- both parts with memory, for any
+abbrev pub GicrMayCommit : Type 0
+GicrMayCommit = (s : Setup) (last : Word) (vcpu : Vcpu) (off size value : ℕ) (c : ConfState) (p : PendState) (memory : List Window) (track : Option Tracked)
+    → HasVcpus s → vcpu.0 < vcpu_count s → last.place < s.limits.place_last → s.start.layout.gicr ≡ true
+    → let mem : Held = out part.Mem (Mem memory track) in
+    MayLeave s (staying last (call.WriteGicr vcpu off size value) reply.Ok change.Keep) (redistributor_held vcpu c p (mem ∷ []))
+    (parts_held vcpu (written_gicr s.start.layout.shape memory (joined c p) off size value) (mem ∷ []))
 
 -- the write of 0 to GICR_CTLR turns LPIs off that are on, where the layout lets it
 abbrev pub WriteTurnsOff : Type 0
@@ -193,38 +231,38 @@ WriteMayRise = (s : Setup) (last : Word) (its off size value : ℕ) (t : Transla
 
 -- ---- messages: signals, and writes by address that are such
 
--- a signal that is found in its pair's shard needs that and the target's redistributor, whose LPIs are on
+-- a signal that is found in its pair's shard needs that and what is pending at the target, where LPIs are on
 abbrev pub HitMayCommit : Type 0
 HitMayCommit = (s : Setup) (last : Word) (c : Call) (its : ℕ) (dev : DeviceId) (ev : EventId) (target : Target) (ways : List (Option Translation))
-    (r : Redistributor)
+    (p : PendState)
     → message_of c ≡ Some (its, (dev, ev)) → HasVcpus s → its < translator_count s → target.vcpu.0 < vcpu_count s
     → shard_number dev.0 ev.0 s.shards < s.shards → last.place < s.limits.place_last → found ways dev.0 ev.0 (stamp_of s last its) ≡ Some target
-    → r.bases.on ≡ true
+    → p.accepts ≡ true
     → let shard : Held = out (part.Shard its (shard_number dev.0 ev.0 s.shards)) (Shard ways) in
     MayLeave s (staying last c (reply.Signal (Delivered target.vcpu target.intid)) change.Keep)
-    (out (part.Redist target.vcpu) (Redist r) ∷ shard ∷ []) (out (part.Redist target.vcpu) (Redist (record r { pending = with_lpi target.intid.0 r.pending }))
+    (out (part.Pend target.vcpu) (Pend p) ∷ shard ∷ []) (out (part.Pend target.vcpu) (Pend (record p { pending = with_lpi target.intid.0 p.pending }))
     ∷ shard ∷ [])
 
--- also where its LPIs are off: it is dropped
+-- also where they are off: it is dropped
 abbrev pub HitOffMayCommit : Type 0
 HitOffMayCommit = (s : Setup) (last : Word) (c : Call) (its : ℕ) (dev : DeviceId) (ev : EventId) (target : Target) (ways : List (Option Translation))
-    (r : Redistributor)
+    (p : PendState)
     → message_of c ≡ Some (its, (dev, ev)) → HasVcpus s → its < translator_count s → target.vcpu.0 < vcpu_count s
     → shard_number dev.0 ev.0 s.shards < s.shards → last.place < s.limits.place_last → found ways dev.0 ev.0 (stamp_of s last its) ≡ Some target
-    → r.bases.on ≡ false
-    → let held : List Held = out (part.Redist target.vcpu) (Redist r) ∷ out (part.Shard its (shard_number dev.0 ev.0 s.shards)) (Shard ways) ∷ [] in
+    → p.accepts ≡ false
+    → let held : List Held = out (part.Pend target.vcpu) (Pend p) ∷ out (part.Shard its (shard_number dev.0 ev.0 s.shards)) (Shard ways) ∷ [] in
     MayLeave s (staying last c (reply.Signal (Dropped LpisOff)) change.Keep) held held
 
--- one that the maps send to a redistributor whose LPIs are on needs the maps too, and may fill its pair's shard
+-- one that the maps send somewhere where LPIs are on needs the maps too, and may fill its pair's shard
 abbrev pub FillMayCommit : Type 0
 FillMayCommit = (s : Setup) (last : Word) (c : Call) (its : ℕ) (dev : DeviceId) (ev : EventId) (target : Target) (t : Translator) (ways : List
     (Option Translation))
-    (r : Redistributor) → message_of c ≡ Some (its, (dev, ev)) → HasVcpus s → its < translator_count s → target.vcpu.0 < vcpu_count s
-    → shard_number dev.0 ev.0 s.shards < s.shards → last.place < s.limits.place_last → located t dev.0 ev.0 ≡ Ok target → r.bases.on ≡ true
+    (p : PendState) → message_of c ≡ Some (its, (dev, ev)) → HasVcpus s → its < translator_count s → target.vcpu.0 < vcpu_count s
+    → shard_number dev.0 ev.0 s.shards < s.shards → last.place < s.limits.place_last → located t dev.0 ev.0 ≡ Ok target → p.accepts ≡ true
     → let n : ℕ = shard_number dev.0 ev.0 s.shards in
     MayLeave s (staying last c (reply.Signal (Delivered target.vcpu target.intid)) (change.Fill dev ev target))
-    (out (part.Redist target.vcpu) (Redist r) ∷ out (part.Shard its n) (Shard ways) ∷ out (part.Maps its) (Maps t) ∷ [])
-    (out (part.Redist target.vcpu) (Redist (record r { pending = with_lpi target.intid.0 r.pending })) ∷ out (part.Shard its n)
+    (out (part.Pend target.vcpu) (Pend p) ∷ out (part.Shard its n) (Shard ways) ∷ out (part.Maps its) (Maps t) ∷ [])
+    (out (part.Pend target.vcpu) (Pend (record p { pending = with_lpi target.intid.0 p.pending })) ∷ out (part.Shard its n)
     (Shard (filled ways (entry dev ev (stamp_of s last its) target))) ∷ out (part.Maps its) (Maps t) ∷ [])
 
 -- one that the maps send nowhere needs the maps alone
@@ -237,31 +275,42 @@ DropMayCommit = (s : Setup) (last : Word) (c : Call) (its : ℕ) (dev : DeviceId
     → let held : List Held = out (part.Maps its) (Maps t) ∷ [] in MayLeave s (staying last c (reply.Signal (Dropped cause)) change.Keep)
     held held
 
--- one whose target's LPIs are off needs that redistributor too; the pair's shard was taken before that was seen, and stays as it was
+-- one whose target's LPIs are off needs what is pending there too; the pair's shard was taken before that was seen, and stays as it was
 abbrev pub OffMayCommit : Type 0
 OffMayCommit = (s : Setup) (last : Word) (c : Call) (its : ℕ) (dev : DeviceId) (ev : EventId) (target : Target) (t : Translator) (ways : List
     (Option Translation))
-    (r : Redistributor) → message_of c ≡ Some (its, (dev, ev)) → HasVcpus s → its < translator_count s → target.vcpu.0 < vcpu_count s
-    → shard_number dev.0 ev.0 s.shards < s.shards → last.place < s.limits.place_last → located t dev.0 ev.0 ≡ Ok target → r.bases.on ≡ false
-    → let held : List Held = out (part.Redist target.vcpu) (Redist r) ∷ out (part.Shard its (shard_number dev.0 ev.0 s.shards)) (Shard ways) ∷ out
+    (p : PendState) → message_of c ≡ Some (its, (dev, ev)) → HasVcpus s → its < translator_count s → target.vcpu.0 < vcpu_count s
+    → shard_number dev.0 ev.0 s.shards < s.shards → last.place < s.limits.place_last → located t dev.0 ev.0 ≡ Ok target → p.accepts ≡ false
+    → let held : List Held = out (part.Pend target.vcpu) (Pend p) ∷ out (part.Shard its (shard_number dev.0 ev.0 s.shards)) (Shard ways) ∷ out
     (part.Maps its) (Maps t) ∷ [] in
     MayLeave s (staying last c (reply.Signal (Dropped LpisOff)) change.Keep) held held
 
 -- ---- saves
 
--- of a state the maps of n translators, the last one got first
-abbrev pub maps_held : Plain → ℕ → List Held
-maps_held u zero = []
-maps_held u (suc n) = out (part.Maps n) (Maps (translator u n)) ∷ maps_held u n
+-- n parts of a kind before other parts, the last one got first
+abbrev pub each_held : (ℕ → Part) → (ℕ → Content) → ℕ → List Held → List Held
+each_held p c zero rest = rest
+each_held p c (suc n) rest = out (p n) (c n) ∷ each_held p c n rest
 
--- and n redistributors before other parts
-abbrev pub redists_held : Plain → ℕ → List Held → List Held
-redists_held u zero rest = rest
-redists_held u (suc n) rest = out (part.Redist (record { 0 = n })) (Redist (redistributor u n)) ∷ redists_held u n rest
+-- of a state the maps of n translators
+abbrev pub maps_held : Plain → ℕ → List Held
+maps_held u n = each_held (λ i. part.Maps i) (λ i. Maps (translator u i)) n []
+
+-- and the configurations of n redistributors
+abbrev pub confs_held : Plain → ℕ → List Held → List Held
+confs_held u n rest = each_held conf (λ i. Conf (conf_of (redistributor u i))) n rest
+
+-- and what is pending at n of them
+abbrev pub pends_held : Plain → ℕ → List Held → List Held
+pends_held u n rest = each_held pend (λ i. Pend (pend_of (redistributor u i))) n rest
+
+-- both of all, the configurations got first
+abbrev pub redists_held : Plain → List Held → List Held
+redists_held u rest = pends_held u (length u.redistributors) (confs_held u (length u.redistributors) rest)
 
 -- all maps of a state, its memory, and all redistributors, each got after the one that follows it here
 abbrev pub whole_held : Plain → List Held
-whole_held u = redists_held u (length u.redistributors) (out part.Mem (Mem u.memory u.track) ∷ maps_held u (length u.translators))
+whole_held u = redists_held u (out part.Mem (Mem u.memory u.track) ∷ maps_held u (length u.translators))
 
 -- a save needs all but the shards
 abbrev pub SaveMayCommit : Type 0

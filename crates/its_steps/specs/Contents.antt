@@ -3,7 +3,7 @@ use Rattle.std.specs.Prelude.{ℕ, Bool, Option, List, map}
 use Rattle.guest_windows.specs.Windows.{Window}
 use Rattle.dirty_log.specs.declared.tracked.Tracked.{Tracked}
 use Rattle.its_types.specs.declared.machine.Part.{Part}
-use Rattle.its_plain.specs.Plain.{Translator, Redistributor}
+use Rattle.its_plain.specs.Plain.{Translator, ConfState, PendState}
 use Rattle.xlate_cache.specs.declared.entry.Entry.{Entry as Translation}
 
 pub data Content : Type 0 where
@@ -13,8 +13,10 @@ pub data Content : Type 0 where
   Mem : List Window → Option Tracked → Content
   -- the ways of a shard of a translator's cache
   Shard : List (Option Translation) → Content
-  -- what a redistributor knows of LPIs
-  Redist : Redistributor → Content
+  -- a redistributor's LPI registers, with its copy of the configuration
+  Conf : ConfState → Content
+  -- its pending LPIs, and whether it takes LPIs
+  Pend : PendState → Content
 
 -- a part whose turn a pass has
 pub record Held : Type 0 where

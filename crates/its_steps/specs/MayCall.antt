@@ -9,7 +9,7 @@ use Rattle.its_types.specs.declared.machine.Part.TheVariants as part
 use Rattle.its_types.specs.declared.machine.Word.{Word}
 use Rattle.its_plain.specs.Answer.{reply_of, left}
 use Rattle.its_plain.specs.Parts.{footprint}
-use Rattle.its_plain.specs.Plain.{Plain, Redistributor}
+use Rattle.its_plain.specs.Plain.{Plain, PendState}
 use Rattle.its_plain.specs.Translation.{located, translated}
 use Rattle.its_plain.specs.declared.call.Call.{Call}
 use Rattle.its_plain.specs.declared.call.Call.TheVariants as call
@@ -23,7 +23,7 @@ use Rattle.its_plain.specs.declared.call.Signal.TheVariants.{Delivered, Dropped}
 use Rattle.xlate_cache.specs.Pairs.{shard_number}
 use Rattle.xlate_cache.specs.Ways.{is_of, entry, found}
 use Rattle.xlate_cache.specs.declared.entry.Entry.{Entry as Translation}
-use Rattle.its_steps.specs.Contents.{Content, Maps, Shard, Redist, Held}
+use Rattle.its_steps.specs.Contents.{Content, Maps, Shard, Pend, Held}
 use Rattle.its_steps.specs.Good.{Holds, Apart}
 use Rattle.its_steps.specs.MayCommit.{IsOut}
 use Rattle.its_steps.specs.Parts.{Setup, Stands, translator_count, stamp_of}
@@ -64,8 +64,8 @@ abbrev pub met : Bool → Target → Signal
 met true target = Delivered target.vcpu target.intid
 met false target = Dropped LpisOff
 
--- A signal that is found in the cache: its pair's shard has the translation under the stamp expected, and the target's redistributor is held, which says
--- whether its LPIs are on. No maps need be
+-- A signal that is found in the cache: its pair's shard has the translation under the stamp expected, and what is pending at the target's redistributor is
+-- held, which says whether it takes LPIs. Neither maps nor configurations need be
 pub record IsHit (s : Setup) (a : Commit) (held : List Held) : Type 0 where
   pub its : ℕ
   pub dev : DeviceId
@@ -75,16 +75,16 @@ pub record IsHit (s : Setup) (a : Commit) (held : List Held) : Type 0 where
   pub ways : List (Option Translation)
   pub owes : Owes (part.Shard its (shard_number dev.0 ev.0 s.shards)) (Shard ways) held
   pub is_found : found ways dev.0 ev.0 (stamp_of s a.expected its) ≡ Some target
-  pub redist : Redistributor
-  pub target_owes : Owes (part.Redist target.vcpu) (Redist redist) held
-  pub reply_is : a.reply ≡ reply.Signal (met redist.bases.on target)
+  pub pend : PendState
+  pub target_owes : Owes (part.Pend target.vcpu) (Pend pend) held
+  pub reply_is : a.reply ≡ reply.Signal (met pend.accepts target)
 
 -- ---- the change of the shards, where the call leaves this state
 
 pub record MayFill (s : Setup) (call : Call) (after : Plain) (held : List Held) (dev : DeviceId) (ev : EventId) (target : Target) : Type 0 where
   pub maps : Holds (part.Maps (its_of call)) held
   pub shard : Holds (shard_of s call dev ev) held
-  pub redist : Holds (part.Redist target.vcpu) held
+  pub pend : Holds (part.Pend target.vcpu) held
   pub agrees : translated after (its_of call) dev.0 ev.0 ≡ Ok target
 
 abbrev pub MayChange : Setup → Call → ShardChange → Plain → List Held → Type 0

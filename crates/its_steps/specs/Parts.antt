@@ -2,18 +2,19 @@
 use Rattle.std.specs.Prelude.{◌≡◌, ◌⊎◌, ℕ, ◌+◌, ◌*◌, ◌/◌, ◌%◌, ◌<◌, ◌≤◌, true, ◌==◌, if◌then◌else◌, List, length, slice_get, slice_index_or, Option, Some}
 use Rattle.std.specs.Prelude.{None, Ok}
 use Rattle.std.specs.List.{AllByRecursion}
+use Rattle.std.specs.Option.{option_map}
 use Rattle.its_types.specs.Ranges.{is_lpi}
 use Rattle.its_types.specs.declared.machine.Limits.{Limits}
 use Rattle.its_types.specs.declared.machine.Part.{Part}
 use Rattle.its_types.specs.declared.machine.Part.TheVariants as part
 use Rattle.its_types.specs.declared.machine.Word.{Word}
-use Rattle.its_plain.specs.Plain.{Plain, translator}
+use Rattle.its_plain.specs.Plain.{Plain, conf_of, pend_of, translator}
 use Rattle.its_plain.specs.Sound.{IsSound}
 use Rattle.its_plain.specs.Translation.{located}
 use Rattle.xlate_cache.specs.Pairs.{shard_number}
 use Rattle.xlate_cache.specs.Ways.{IsShard}
 use Rattle.xlate_cache.specs.declared.entry.Entry.{Entry as Translation}
-use Rattle.its_steps.specs.Contents.{Content, Maps, Mem, Shard, Redist, Held}
+use Rattle.its_steps.specs.Contents.{Content, Maps, Mem, Shard, Conf, Pend, Held}
 
 -- what no step changes: the first state, the limits, and how many shards each translator's cache has
 pub record Setup : Type 0 where
@@ -44,17 +45,20 @@ abbrev pub Stands : Setup → Part → Type 0
 Stands s (part.Maps its) = its < translator_count s
 Stands s part.Mem = Unit {0}
 Stands s (part.Shard its n) = (its < translator_count s) × (n < s.shards)
-Stands s (part.Redist vcpu) = vcpu.0 < vcpu_count s
+Stands s (part.Conf vcpu) = vcpu.0 < vcpu_count s
+Stands s (part.Pend vcpu) = vcpu.0 < vcpu_count s
 
--- The number of a part's turn and of its slot: each translator's maps, guest memory, the shards of one translator after another, the redistributors
+-- The number of a part's turn and of its slot: each translator's maps, guest memory, the shards of one translator after another, the configurations of all
+-- redistributors, and what is pending at each
 abbrev pub index_of : Setup → Part → ℕ
 index_of s (part.Maps its) = its
 index_of s part.Mem = translator_count s
 index_of s (part.Shard its n) = translator_count s + 1 + (its * s.shards + n)
-index_of s (part.Redist vcpu) = translator_count s + 1 + translator_count s * s.shards + vcpu.0
+index_of s (part.Conf vcpu) = translator_count s + 1 + translator_count s * s.shards + vcpu.0
+index_of s (part.Pend vcpu) = translator_count s + 1 + translator_count s * s.shards + vcpu_count s + vcpu.0
 
 abbrev pub part_count : Setup → ℕ
-part_count s = translator_count s + 1 + translator_count s * s.shards + vcpu_count s
+part_count s = translator_count s + 1 + translator_count s * s.shards + vcpu_count s + vcpu_count s
 
 -- ---- stamps
 
@@ -95,7 +99,8 @@ abbrev pub Right : Setup → Word → Plain → Part → Content → Type 0
 Right s word u (part.Maps its) (Maps t) = slice_get u.translators its ≡ Some t
 Right s word u part.Mem (Mem memory track) = (u.memory ≡ memory) × (u.track ≡ track)
 Right s word u (part.Shard its n) (Shard ways) = IsCache s word u its n ways
-Right s word u (part.Redist vcpu) (Redist r) = slice_get u.redistributors vcpu.0 ≡ Some r
+Right s word u (part.Conf vcpu) (Conf c) = option_map conf_of (slice_get u.redistributors vcpu.0) ≡ Some c
+Right s word u (part.Pend vcpu) (Pend p) = option_map pend_of (slice_get u.redistributors vcpu.0) ≡ Some p
 Right s word u p c = ⊥
 
 -- The state has this in the part. Of a shard it has nothing
@@ -103,7 +108,8 @@ abbrev pub Has : Plain → Part → Content → Type 0
 Has u (part.Maps its) (Maps t) = slice_get u.translators its ≡ Some t
 Has u part.Mem (Mem memory track) = (u.memory ≡ memory) × (u.track ≡ track)
 Has u (part.Shard its n) (Shard ways) = Unit {0}
-Has u (part.Redist vcpu) (Redist r) = slice_get u.redistributors vcpu.0 ≡ Some r
+Has u (part.Conf vcpu) (Conf c) = option_map conf_of (slice_get u.redistributors vcpu.0) ≡ Some c
+Has u (part.Pend vcpu) (Pend p) = option_map pend_of (slice_get u.redistributors vcpu.0) ≡ Some p
 Has u p c = ⊥
 
 -- it has all that is held, as it is owed
@@ -115,5 +121,6 @@ abbrev pub Suits : Part → Content → Type 0
 Suits (part.Maps its) (Maps t) = Unit {0}
 Suits part.Mem (Mem memory track) = Unit {0}
 Suits (part.Shard its n) (Shard ways) = Unit {0}
-Suits (part.Redist vcpu) (Redist r) = Unit {0}
+Suits (part.Conf vcpu) (Conf c) = Unit {0}
+Suits (part.Pend vcpu) (Pend p) = Unit {0}
 Suits p c = ⊥

@@ -6,7 +6,7 @@ use Rattle.its_types.specs.declared.machine.Part.{Part}
 use Rattle.its_types.specs.declared.machine.Part.TheVariants as part
 use Rattle.its_types.specs.declared.machine.Word.{Word}
 use Rattle.its_plain.specs.Answer.{left}
-use Rattle.its_plain.specs.Plain.{Plain, translator, redistributor, with_translator, with_redistributor}
+use Rattle.its_plain.specs.Plain.{Plain, conf_of, pend_of, with_conf, with_pend, translator, redistributor, with_translator, with_redistributor}
 use Rattle.its_plain.specs.declared.call.Call.{Call}
 use Rattle.its_plain.specs.declared.call.Call.TheVariants as call
 use Rattle.its_plain.specs.declared.call.Route.{Route}
@@ -14,7 +14,7 @@ use Rattle.its_plain.specs.declared.call.Route.TheVariants as route
 use Rattle.xlate_cache.specs.Pairs.{shard_number}
 use Rattle.xlate_cache.specs.Ways.{entry, filled, dropped, no_entries}
 use Rattle.xlate_cache.specs.declared.entry.Entry.{Entry as Translation}
-use Rattle.its_steps.specs.Contents.{Content, Maps, Mem, Shard, Redist, Held}
+use Rattle.its_steps.specs.Contents.{Content, Maps, Mem, Shard, Conf, Pend, Held}
 use Rattle.its_steps.specs.Parts.{Setup, stamp_of}
 use Rattle.its_steps.specs.World.{word_after}
 use Rattle.its_steps.specs.declared.change.ShardChange.{ShardChange}
@@ -26,7 +26,8 @@ use Rattle.its_steps.specs.declared.commit.Commit.{Commit}
 abbrev pub with_part : Part → Content → Plain → Plain
 with_part (part.Maps its) (Maps t) u = with_translator u its t
 with_part part.Mem (Mem memory track) u = record u { memory = memory; track = track }
-with_part (part.Redist vcpu) (Redist r) u = with_redistributor u vcpu.0 r
+with_part (part.Conf vcpu) (Conf c) u = with_redistributor u vcpu.0 (with_conf c (redistributor u vcpu.0))
+with_part (part.Pend vcpu) (Pend p) u = with_redistributor u vcpu.0 (with_pend p (redistributor u vcpu.0))
 with_part p c u = u
 
 -- the first state, but with what the parts held owe
@@ -70,7 +71,8 @@ changed s to call change.Empty its n ways = if its == its_of call then no_entrie
 abbrev pub content_in : Setup → Commit → Plain → Part → Content → Content
 content_in s a after (part.Maps its) c = Maps (translator after its)
 content_in s a after part.Mem c = Mem after.memory after.track
-content_in s a after (part.Redist vcpu) c = Redist (redistributor after vcpu.0)
+content_in s a after (part.Conf vcpu) c = Conf (conf_of (redistributor after vcpu.0))
+content_in s a after (part.Pend vcpu) c = Pend (pend_of (redistributor after vcpu.0))
 content_in s a after (part.Shard its n) (Shard ways) = Shard (changed s (word_after a) a.call a.change its n ways)
 content_in s a after (part.Shard its n) c = c
 

@@ -5,11 +5,12 @@ use Rattle.its_types.specs.declared.machine.Part.{Part}
 use Rattle.its_types.specs.declared.machine.Part.TheVariants as part
 use Rattle.its_types.specs.declared.machine.Word.{Word}
 use Rattle.its_types.specs.declared.machine.Profile.TheVariants.{One}
+use Rattle.its_plain.specs.Plain.{conf_of, pend_of}
 use Rattle.its_plain.specs.declared.call.Call.{Call}
 use Rattle.its_plain.specs.declared.call.Entry.{Entry}
 use Rattle.its_plain.specs.declared.call.Reply.{Reply}
 use Rattle.xlate_cache.specs.Ways.{no_entries}
-use Rattle.its_steps.specs.Contents.{Content, Maps, Mem, Shard, Redist, Held, Looked}
+use Rattle.its_steps.specs.Contents.{Content, Maps, Mem, Shard, Conf, Pend, Held, Looked}
 use Rattle.its_steps.specs.Parts.{Setup, translator_count, part_count}
 use Rattle.its_steps.specs.declared.change.ShardChange.{ShardChange}
 use Rattle.its_steps.specs.declared.change.ShardChange.TheVariants.{Keep}
@@ -124,8 +125,8 @@ first_view s = fresh s 0 1 [] first_word
 abbrev pub first_slots : Setup → List (Option Content)
 first_slots s =
     map (λ t. some (Maps t)) s.start.translators
-    ++ (some (Mem s.start.memory s.start.track) ∷ (replicate (translator_count s * s.shards) (some (Shard no_entries)) ++ map (λ r. some
-    (Redist r)) s.start.redistributors))
+    ++ (some (Mem s.start.memory s.start.track) ∷ (replicate (translator_count s * s.shards) (some (Shard no_entries))
+    ++ (map (λ r. some (Conf (conf_of r))) s.start.redistributors ++ map (λ r. some (Pend (pend_of r))) s.start.redistributors)))
 
 abbrev pub first_world : Setup → World
 first_world s = record { word = first_word; turns = replicate (part_count s) 0; slots = first_slots s; views = first_view s ∷ [] }

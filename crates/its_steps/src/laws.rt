@@ -122,6 +122,9 @@ pub fn ports_may_commit()
     ensures dma { calls.DmaMayCommit }
     ensures nothing { calls.NothingMayCommit }
     ensures copy { calls.CopyMayCommit }
+    ensures conf { calls.ConfMayCommit }
+    ensures reread { calls.RereadMayCommit }
+    ensures turn_off { calls.TurnOffMayCommit }
     ensures gicr { calls.GicrMayCommit }
     ensures off { calls.WriteTurnsOff }
     ensures read { calls.ReadMayCommit }

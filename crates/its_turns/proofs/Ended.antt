@@ -2,6 +2,7 @@
 use Rattle.std.proofs.Common.{◌≡◌, ℕ, zero, suc, ◌+◌, ◌*◌, ◌<◌, List, [], ◌∷◌, length, replicate, Option, Some, None, Box, Global, set, get_or, slice_get, refl}
 use Rattle.std.proofs.Common.{ap, sym, ◌∙◌, subst, arith, inl, inr, get_or-set_same, get_or-set_other}
 use Rattle.std.specs.Prelude.{MatchOption}
+use Rattle.std.specs.Option.{option_map}
 use Rattle.std.proofs.lemmas.Bool.{cases_lt}
 use lib.ListN.{get_elem?}
 use mathlib.Core.Logic.{dite}
@@ -10,19 +11,21 @@ use mathlib.Core.Option.{some, some-injective, some-ne-none}
 use Rattle.its_types.specs.declared.ids.Vcpu.{Vcpu}
 use Rattle.its_types.specs.declared.machine.Part.TheVariants as part
 use Rattle.its_types.specs.declared.machine.Word.{Word}
-use Rattle.its_plain.specs.Plain.{Plain, Translator}
+use Rattle.its_plain.specs.Plain.{Plain, Translator, conf_of, pend_of}
 use Rattle.its_plain.specs.declared.layout.Layout.{Layout}
-use Rattle.lpi_pending.specs.InHand.{in_hand}
-use Rattle.lpi_pending.specs.declared.redist.Redist.{Redist as InHand}
-use Rattle.owned_parts.specs.Owned.{redistributor_of, translator_of, translators_of, HasLpisOf, IsRedistributorOf}
+use Rattle.lpi_config.specs.Conf.{conf_state}
+use Rattle.lpi_pending.specs.InHand.{pend_state, HasLpisOfConf, HasLpisOfPend}
+use Rattle.owned_parts.specs.Owned.{translator_of, translators_of, IsConfOf, IsPendOf}
 use Rattle.owned_parts.specs.declared.parts.Translator.{Translator as TranslatorInHand}
+use Rattle.lpi_config.specs.declared.conf.Conf.{Conf as ConfInHand}
+use Rattle.lpi_pending.specs.declared.pend.Pend.{Pend as PendInHand}
 use Rattle.its_steps.specs.Parts.{Setup, IsOfMachine, Right}
 use Rattle.its_steps.specs.Contents.{Content}
 use Rattle.its_turns.specs.declared.value.GuestMemory.{GuestMemory}
 use Rattle.its_turns.specs.declared.value.Value.{Value}
-use Rattle.its_turns.specs.declared.value.Value.TheVariants.{Vacant, Maps, Mem, Shard, Redist}
+use Rattle.its_turns.specs.declared.value.Value.TheVariants.{Vacant, Maps, Mem, Shard, Conf, Pend}
 use Rattle.its_turns.specs.Contents.{content_of, IsFit}
-use Rattle.its_turns.specs.Closed.{AreBelow, HasTranslatorAt}
+use Rattle.its_turns.specs.Closed.{AreBelow, HasTranslatorAt, HasConfAt, HasPendAt}
 
 same_translator : (x y : Translator) → Some x ≡ Some y → x ≡ y
 same_translator x y e = cc
@@ -35,9 +38,13 @@ abbrev pub IsMem : Plain → Value → Type 0
 IsMem u (Mem b) = (u.memory ≡ b.value.memory) × (u.track ≡ b.value.track)
 IsMem u x = ⊥
 
-abbrev pub IsRedist : Setup → Plain → ℕ → Value → Type 0
-IsRedist s u v (Redist b) = HasLpisOf s.start.layout.shape b.value × (slice_get u.redistributors v ≡ Some (redistributor_of b.value))
-IsRedist s u v x = ⊥
+abbrev pub IsConf : Setup → Plain → ℕ → Value → Type 0
+IsConf s u v (Conf b) = HasLpisOfConf s.start.layout.shape b.value × (option_map conf_of (slice_get u.redistributors v) ≡ Some (conf_state b.value))
+IsConf s u v x = ⊥
+
+abbrev pub IsPend : Setup → Plain → ℕ → Value → Type 0
+IsPend s u v (Pend b) = HasLpisOfPend s.start.layout.shape b.value × (option_map pend_of (slice_get u.redistributors v) ≡ Some (pend_state b.value))
+IsPend s u v x = ⊥
 
 module _ (s : Setup) (word : Word) (u : Plain) where
   same_content : (c d : Content) → some c ≡ some d → d ≡ c
@@ -48,21 +55,32 @@ module _ (s : Setup) (word : Word) (u : Plain) where
   is_maps its (Maps b) c e r = subst (Right s word u (part.Maps its)) (same_content _ c e) r
   is_maps its (Mem b) c e r = subst (Right s word u (part.Maps its)) (same_content _ c e) r
   is_maps its (Shard b) c e r = subst (Right s word u (part.Maps its)) (same_content _ c e) r
-  is_maps its (Redist b) c e r = subst (Right s word u (part.Maps its)) (same_content _ c e) r
+  is_maps its (Conf b) c e r = subst (Right s word u (part.Maps its)) (same_content _ c e) r
+  is_maps its (Pend b) c e r = subst (Right s word u (part.Maps its)) (same_content _ c e) r
 
   pub is_mem : (x : Value) (c : Content) → content_of x ≡ some c → Right s word u part.Mem c → IsMem u x
   is_mem Vacant c e r = absurd (some-ne-none c (sym e))
   is_mem (Maps b) c e r = subst (Right s word u part.Mem) (same_content _ c e) r
   is_mem (Mem b) c e r = subst (Right s word u part.Mem) (same_content _ c e) r
   is_mem (Shard b) c e r = subst (Right s word u part.Mem) (same_content _ c e) r
-  is_mem (Redist b) c e r = subst (Right s word u part.Mem) (same_content _ c e) r
+  is_mem (Conf b) c e r = subst (Right s word u part.Mem) (same_content _ c e) r
+  is_mem (Pend b) c e r = subst (Right s word u part.Mem) (same_content _ c e) r
 
-  pub is_redist : (v : Vcpu) (x : Value) (c : Content) → content_of x ≡ some c → IsFit s x → Right s word u (part.Redist v) c → IsRedist s u v.0 x
-  is_redist v Vacant c e f r = absurd (some-ne-none c (sym e))
-  is_redist v (Maps b) c e f r = subst (Right s word u (part.Redist v)) (same_content _ c e) r
-  is_redist v (Mem b) c e f r = subst (Right s word u (part.Redist v)) (same_content _ c e) r
-  is_redist v (Shard b) c e f r = subst (Right s word u (part.Redist v)) (same_content _ c e) r
-  is_redist v (Redist b) c e f r = (f, subst (Right s word u (part.Redist v)) (same_content _ c e) r)
+  pub is_conf : (v : Vcpu) (x : Value) (c : Content) → content_of x ≡ some c → IsFit s x → Right s word u (part.Conf v) c → IsConf s u v.0 x
+  is_conf v Vacant c e f r = absurd (some-ne-none c (sym e))
+  is_conf v (Maps b) c e f r = subst (Right s word u (part.Conf v)) (same_content _ c e) r
+  is_conf v (Mem b) c e f r = subst (Right s word u (part.Conf v)) (same_content _ c e) r
+  is_conf v (Shard b) c e f r = subst (Right s word u (part.Conf v)) (same_content _ c e) r
+  is_conf v (Conf b) c e f r = (f, subst (Right s word u (part.Conf v)) (same_content _ c e) r)
+  is_conf v (Pend b) c e f r = subst (Right s word u (part.Conf v)) (same_content _ c e) r
+
+  pub is_pend : (v : Vcpu) (x : Value) (c : Content) → content_of x ≡ some c → IsFit s x → Right s word u (part.Pend v) c → IsPend s u v.0 x
+  is_pend v Vacant c e f r = absurd (some-ne-none c (sym e))
+  is_pend v (Maps b) c e f r = subst (Right s word u (part.Pend v)) (same_content _ c e) r
+  is_pend v (Mem b) c e f r = subst (Right s word u (part.Pend v)) (same_content _ c e) r
+  is_pend v (Shard b) c e f r = subst (Right s word u (part.Pend v)) (same_content _ c e) r
+  is_pend v (Conf b) c e f r = subst (Right s word u (part.Pend v)) (same_content _ c e) r
+  is_pend v (Pend b) c e f r = (f, subst (Right s word u (part.Pend v)) (same_content _ c e) r)
 
 -- a translator's maps stand there
 pub maps_there : (u : Plain) (its : ℕ) (xs : List Value) (x : Value) → get_elem? xs (8 * its) ≡ some x → IsMaps u its x → HasTranslatorAt its xs
@@ -70,12 +88,37 @@ maps_there u its xs Vacant e i = absurd i
 maps_there u its xs (Maps b) e i = (b, e)
 maps_there u its xs (Mem b) e i = absurd i
 maps_there u its xs (Shard b) e i = absurd i
-maps_there u its xs (Redist b) e i = absurd i
+maps_there u its xs (Conf b) e i = absurd i
+maps_there u its xs (Pend b) e i = absurd i
+
+pub conf_there : (s : Setup) (u : Plain) (v at : ℕ) (xs : List Value) (x : Value) → get_elem? xs (8 * at) ≡ some x → IsConf s u v x → HasConfAt at xs
+conf_there s u v at xs Vacant e i = absurd i
+conf_there s u v at xs (Maps b) e i = absurd i
+conf_there s u v at xs (Mem b) e i = absurd i
+conf_there s u v at xs (Shard b) e i = absurd i
+conf_there s u v at xs (Conf b) e i = (b, e)
+conf_there s u v at xs (Pend b) e i = absurd i
+
+pub pend_there : (s : Setup) (u : Plain) (v at : ℕ) (xs : List Value) (x : Value) → get_elem? xs (8 * at) ≡ some x → IsPend s u v x → HasPendAt at xs
+pend_there s u v at xs Vacant e i = absurd i
+pend_there s u v at xs (Maps b) e i = absurd i
+pend_there s u v at xs (Mem b) e i = absurd i
+pend_there s u v at xs (Shard b) e i = absurd i
+pend_there s u v at xs (Conf b) e i = absurd i
+pend_there s u v at xs (Pend b) e i = (b, e)
 
 -- and nothing else
 pub no_maps : (its : ℕ) (xs : List Value) (x : Value) → get_elem? xs (8 * its) ≡ some x → HasTranslatorAt its xs
     → ((b : Box TranslatorInHand Global) → x ≡ Maps b → ⊥) → ⊥
 no_maps its xs x e has never = never has.0 (some-injective x (Maps has.0) (sym e ∙ has.1))
+
+pub no_conf : (at : ℕ) (xs : List Value) (x : Value) → get_elem? xs (8 * at) ≡ some x → HasConfAt at xs
+    → ((b : Box ConfInHand Global) → x ≡ Conf b → ⊥) → ⊥
+no_conf at xs x e has never = never has.0 (some-injective x (Conf has.0) (sym e ∙ has.1))
+
+pub no_pend : (at : ℕ) (xs : List Value) (x : Value) → get_elem? xs (8 * at) ≡ some x → HasPendAt at xs
+    → ((b : Box PendInHand Global) → x ≡ Pend b → ⊥) → ⊥
+no_pend at xs x e has never = never has.0 (some-injective x (Pend has.0) (sym e ∙ has.1))
 
 -- what is so of a second translator, where there is one
 pub each_second : (P Q : TranslatorInHand → Type 0) (second : Option TranslatorInHand) (n k : ℕ) → n ≡ k → ((t : TranslatorInHand) → k ≡ 2 → P t → Q t)
@@ -101,43 +144,47 @@ no_mem u Vacant i never = i
 no_mem u (Maps b) i never = i
 no_mem u (Mem b) i never = never b refl
 no_mem u (Shard b) i never = i
-no_mem u (Redist b) i never = i
+no_mem u (Conf b) i never = i
+no_mem u (Pend b) i never = i
 
-pub no_redist : (s : Setup) (u : Plain) (v : ℕ) (x : Value) → IsRedist s u v x → ((b : Box InHand Global) → x ≡ Redist b → ⊥) → ⊥
-no_redist s u v Vacant i never = i
-no_redist s u v (Maps b) i never = i
-no_redist s u v (Mem b) i never = i
-no_redist s u v (Shard b) i never = i
-no_redist s u v (Redist b) i never = never b refl
+-- ---- the parts of redistributors, in their places
 
-pub one_more_below : (s : Setup) (u : Plain) (v : ℕ) (xs : List (Option InHand)) (r : InHand) → IsOfMachine s u → v < length xs → AreBelow u v xs
-    → HasLpisOf s.start.layout.shape r → slice_get u.redistributors v ≡ Some (redistributor_of r) → AreBelow u (v + 1) (set xs v (Some r))
-one_more_below s u v xs r m inside are lpis same = record {
-  below = λ k lt. dite (ℕ_discrete k v)
-      (λ e. subst (λ (j : ℕ). (x : InHand) × (in_hand (set xs v (Some r)) j ≡ Some x) × IsRedistributorOf u j x) (sym e)
-      (r, get_or-set_same xs v (Some r) None inside, record { lpis = subst (λ (l : Layout). HasLpisOf l.shape r) m.layout lpis; same = same }))
-      (λ ne. let b = are.below k (omega (arith, lt, ne)) in (b.0, get_or-set_other xs v k (Some r) None ne ∙ b.1, b.2));
-  others = λ k le. get_or-set_other xs v k (Some r) None (λ e. absurd (omega arith)) ∙ are.others k (omega arith);
-}
+module _ {T : Type 0} (is : ℕ → T → Type 0) where
+  pub one_more_below : (v : ℕ) (xs : List (Option T)) (x : T) → v < length xs → AreBelow T is v xs → is v x → AreBelow T is (v + 1) (set xs v (Some x))
+  one_more_below v xs x inside are this = record {
+    below = λ k lt. dite (ℕ_discrete k v)
+        (λ e. subst (λ (j : ℕ). (y : T) × (get_or (set xs v (Some x)) j None ≡ Some y) × is j y) (sym e) (x, get_or-set_same xs v (Some x) None inside, this))
+        (λ ne. let b = are.below k (omega (arith, lt, ne)) in (b.0, get_or-set_other xs v k (Some x) None ne ∙ b.1, b.2));
+    others = λ k le. get_or-set_other xs v k (Some x) None (λ e. absurd (omega arith)) ∙ are.others k (omega arith);
+  }
 
-same_some : (x y : InHand) → Some x ≡ Some y → x ≡ y
-same_some x y e = cc
+  same_some : (x y : T) → Some x ≡ Some y → x ≡ y
+  same_some x y e = cc
 
-none_some : (x : InHand) → None ≡ Some x → ⊥
-none_some x e = cc
+  none_some : (x : T) → None ≡ Some x → ⊥
+  none_some x e = cc
 
--- whatever is in hand is as the state has it
-pub each_of : (u : Plain) (n : ℕ) (xs : List (Option InHand)) → AreBelow u n xs → (v : ℕ) (r : InHand) → in_hand xs v ≡ Some r → IsRedistributorOf u v r
-each_of u n xs are v r at = elim (cases_lt v n) [
-  | inl lt ↦ let b = are.below v lt in subst (IsRedistributorOf u v) (same_some b.0 r (sym b.1 ∙ at)) b.2
-  | inr le ↦ absurd (none_some r (sym (are.others v le) ∙ at))
-]
+  -- whatever is in hand is as the state has it
+  pub each_of : (n : ℕ) (xs : List (Option T)) → AreBelow T is n xs → (v : ℕ) (x : T) → get_or xs v None ≡ Some x → is v x
+  each_of n xs are v x at = elim (cases_lt v n) [
+    | inl lt ↦ let b = are.below v lt in subst (is v) (same_some b.0 x (sym b.1 ∙ at)) b.2
+    | inr le ↦ absurd (none_some x (sym (are.others v le) ∙ at))
+  ]
 
--- nothing is in hand at first
-nothing_at : (n k : ℕ) → get_or {A = Option InHand} (replicate n None) k None ≡ None
-nothing_at zero k = refl
-nothing_at (suc n) zero = refl
-nothing_at (suc n) (suc k) = nothing_at n k
+  -- nothing is in hand at first
+  nothing_at : (n k : ℕ) → get_or {A = Option T} (replicate n None) k None ≡ None
+  nothing_at zero k = refl
+  nothing_at (suc n) zero = refl
+  nothing_at (suc n) (suc k) = nothing_at n k
 
-pub none_below : (u : Plain) (xs : List (Option InHand)) → xs ≡ replicate 16 None → AreBelow u 0 xs
-none_below u xs e = record { below = λ k lt. absurd (omega arith); others = λ k le. ap (λ (ys : List (Option InHand)). in_hand ys k) e ∙ nothing_at 16 k }
+  pub none_below : (xs : List (Option T)) → xs ≡ replicate 16 None → AreBelow T is 0 xs
+  none_below xs e = record { below = λ k lt. absurd (omega arith); others = λ k le. ap (λ (ys : List (Option T)). get_or ys k None) e ∙ nothing_at 16 k }
+
+-- a configuration that a state of the machine has
+pub conf_is : (s : Setup) (u : Plain) (v : ℕ) (c : ConfInHand) → IsOfMachine s u → HasLpisOfConf s.start.layout.shape c
+    → option_map conf_of (slice_get u.redistributors v) ≡ Some (conf_state c) → IsConfOf u v c
+conf_is s u v c m lpis same = record { lpis = subst (λ (l : Layout). HasLpisOfConf l.shape c) m.layout lpis; same = same }
+
+pub pend_is : (s : Setup) (u : Plain) (v : ℕ) (p : PendInHand) → IsOfMachine s u → HasLpisOfPend s.start.layout.shape p
+    → option_map pend_of (slice_get u.redistributors v) ≡ Some (pend_state p) → IsPendOf u v p
+pend_is s u v p m lpis same = record { lpis = subst (λ (l : Layout). HasLpisOfPend l.shape p) m.layout lpis; same = same }

@@ -2,21 +2,22 @@
 use Rattle.std.proofs.Common.{◌≡◌, ℕ, zero, suc, ◌+◌, ◌*◌, ◌<◌, ◌≤◌, List, [], ◌∷◌, ◌++◌, map, replicate, take, length, set, get_or, refl, ap, sym, ◌∙◌, subst}
 use Rattle.std.proofs.Common.{arith, append_assoc, append-nil, get_or-set_other}
 use Rattle.std.specs.Prelude as std
-use Rattle.std.specs.List.{AllByRecursion}
+use Rattle.std.specs.List.{AllByRecursion, range_with_len}
+use Rattle.std.proofs.lemmas.List.FromFn.{map-range_with_len_more}
+use mathlib.Core.List.{map-map}
 use mathlib.Core.Option.{Option, none, some, some-injective, some-ne-none}
 use lib.ListN.{get_elem?, length-map, length-replicate}
 use Rattle.atomic_table.specs.Table.{opening}
-use Rattle.its_plain.specs.Plain.{Plain, Translator, Redistributor}
+use Rattle.its_plain.specs.Plain.{Plain, Translator, conf_of, pend_of}
 use Rattle.its_plain.specs.Sound.{IsSound}
 use Rattle.its_plain.specs.declared.desc.Desc.{Desc}
-use Rattle.lpi_pending.specs.InHand.{in_hand}
-use Rattle.lpi_pending.specs.declared.redist.Redist.{Redist as InHand}
-use Rattle.owned_parts.specs.Owned.{redistributor_of, redistributor_or, translators_of, state_of_parts}
+use Rattle.lpi_pending.specs.InHand.{RedistParts, conf_in, pend_in}
+use Rattle.owned_parts.specs.Owned.{conf_or, pend_or, redistributor_in, translators_of, state_of_parts}
 use Rattle.owned_parts.specs.declared.parts.Parts.{Parts}
 use Rattle.owned_parts.specs.declared.parts.Translator.{Translator as TranslatorInHand}
 use Rattle.xlate_cache.specs.Ways.{no_entries}
 use Rattle.its_steps.specs.Parts.{Setup, part_count}
-use Rattle.its_steps.specs.Contents.{Content, Maps, Mem, Shard, Redist}
+use Rattle.its_steps.specs.Contents.{Content, Maps, Mem, Shard, Conf, Pend}
 use Rattle.its_steps.specs.World.{first_word, first_view, first_slots, first_world}
 use Rattle.its_steps.specs.Good.{Good}
 use Rattle.its_steps.proofs.First.{first, slots_long}
@@ -118,25 +119,6 @@ contents_more : (xs : List Value) (x : Value) → map content_of (xs ++ x ∷ []
 contents_more [] x = refl
 contents_more (y ∷ ys) x = ap (λ (l : List (Option Content)). content_of y ∷ l) (contents_more ys x)
 
-abbrev shown : Redistributor → Option Content
-shown r = some (Redist r)
-
--- the redistributors of the first n places
-abbrev listed : ℕ → List (std.Option InHand) → List Redistributor
-listed n xs = map redistributor_or (take n xs)
-
-one_more : (n v : ℕ) (xs : List (std.Option InHand)) (r : InHand) → v < n → in_hand xs v ≡ std.Some r → map shown (take (suc v) (listed n xs)) ≡ map shown
-    (take v (listed n xs)) ++ shown (redistributor_of r) ∷ []
-one_more n v [] r lt is = absurd cc
-one_more zero v (x ∷ xs) r lt is = absurd (omega arith)
-one_more (suc n) zero (x ∷ xs) r lt is = ap (λ (o : std.Option InHand). (let l : List (Option Content) = shown (redistributor_or o) ∷ [] in l)) is
-one_more (suc n) (suc v) (x ∷ xs) r lt is = ap (λ (l : List (Option Content)). shown (redistributor_or x) ∷ l) (one_more n v xs r (omega arith) is)
-
-all_listed : (n : ℕ) (xs : List (std.Option InHand)) → take n (listed n xs) ≡ listed n xs
-all_listed zero xs = refl
-all_listed (suc n) [] = refl
-all_listed (suc n) (x ∷ xs) = ap (λ (l : List Redistributor). redistributor_or x ∷ l) (all_listed n xs)
-
 -- the translators, memory and so many shards, with other parts behind
 abbrev pub front : Plain → ℕ → List (Option Content) → List (Option Content)
 front u shards rest = map (λ t. some (Maps t)) u.translators ++ (some (Mem u.memory u.track) ∷ (replicate shards (some (Shard no_entries)) ++ rest))
@@ -166,23 +148,38 @@ next_shard u n values x shows so_far =
     ∙ (ap (λ (l : List (Option Content)). map (λ t. some (Maps t)) u.translators ++ (some (Mem u.memory u.track) ∷ l))
     (one_shard n ∙ ap (λ (j : ℕ). replicate j (some (Shard no_entries))) more ∙ sym (append-nil (replicate (n + 1) (some (Shard no_entries)))))))
 
-pub next_redist : (u : Plain) (shards n v : ℕ) (xs : List (std.Option InHand)) (r : InHand) (values : List Value) (x : Value) → v < n
-    → in_hand xs v ≡ std.Some r → content_of x ≡ shown (redistributor_of r) → map content_of values ≡ front u shards (map shown (take v (listed n xs)))
-    → map content_of (values ++ x ∷ []) ≡ front u shards (map shown (take (v + 1) (listed n xs)))
-next_redist u shards n v xs r values x lt is shows so_far =
-    let more : suc v ≡ v + 1 = omega arith in
+-- one more of those that a function of the number tells, after others
+pub next_listed : (u : Plain) (shards : ℕ) (others : List (Option Content)) (shown : ℕ → Option Content) (v : ℕ) (values : List Value) (x : Value)
+    → content_of x ≡ shown v → map content_of values ≡ front u shards (others ++ map shown (range_with_len 0 v))
+    → map content_of (values ++ x ∷ []) ≡ front u shards (others ++ map shown (range_with_len 0 (v + 1)))
+next_listed u shards others shown v values x shows so_far =
+    let listed : List (Option Content) = map shown (range_with_len 0 v) in
     contents_more values x ∙ (λ d. so_far d ++ shows d ∷ [])
-    ∙ (front_more u shards (map shown (take v (listed n xs))) (shown (redistributor_of r))
-    ∙ ap (front u shards) (sym (one_more n v xs r lt is) ∙ ap (λ (j : ℕ). map shown (take j (listed n xs))) more))
+    ∙ (front_more u shards (others ++ listed) (shown v)
+    ∙ ap (front u shards) (append_assoc others listed (shown v ∷ []) ∙ ap (λ (l : List (Option Content)). others ++ l)
+    (sym (map-range_with_len_more shown 0 v v (omega arith)))))
 
-pub all_values : (d : Desc) (p : Parts) (shards v : ℕ) (values : List Value) → shards ≡ length (translators_of p.first p.second) * d.shards
-    → v ≡ p.layout.shape.vcpus → AllByRecursion (IsFit (setup_from d p)) values
-    → map content_of values ≡ front (state_of_parts p) shards (map shown (take v (listed p.layout.shape.vcpus p.redists))) → AreFirst (setup_from d p) values
-all_values d p shards v values count is fit so_far =
+-- the configuration of a virtual processor
+abbrev pub conf_shown : RedistParts → ℕ → Option Content
+conf_shown redists v = some (Conf (conf_or (conf_in redists v)))
+
+-- what is pending at it
+abbrev pub pend_shown : RedistParts → ℕ → Option Content
+pend_shown redists v = some (Pend (pend_or (pend_in redists v)))
+
+pub all_values : (d : Desc) (p : Parts) (shards n v : ℕ) (values : List Value) → shards ≡ length (translators_of p.first p.second) * d.shards
+    → n ≡ p.layout.shape.vcpus → v ≡ p.layout.shape.vcpus → AllByRecursion (IsFit (setup_from d p)) values
+    → map content_of values ≡ front (state_of_parts p) shards (map (conf_shown p.redists) (range_with_len 0 n) ++ map (pend_shown p.redists) (range_with_len 0 v))
+    → AreFirst (setup_from d p) values
+all_values d p shards n v values count all is fit so_far =
     let u : Plain = state_of_parts p in
-    let rest : map shown (take v (listed p.layout.shape.vcpus p.redists)) ≡ map shown u.redistributors =
-    ap (λ (j : ℕ). map shown (take j (listed p.layout.shape.vcpus p.redists))) is ∙ ap (map shown) (all_listed p.layout.shape.vcpus p.redists) in
-    record { contents = so_far ∙ (λ e. front u (count e) (rest e)); fit = fit }
+    let confs : map (conf_shown p.redists) (range_with_len 0 n) ≡ map (λ r. some (Conf (conf_of r))) u.redistributors =
+    ap (λ (j : ℕ). map (conf_shown p.redists) (range_with_len 0 j)) all
+    ∙ sym (map-map (λ r. some (Conf (conf_of r))) (redistributor_in p.redists) (range_with_len 0 p.layout.shape.vcpus)) in
+    let pends : map (pend_shown p.redists) (range_with_len 0 v) ≡ map (λ r. some (Pend (pend_of r))) u.redistributors =
+    ap (λ (j : ℕ). map (pend_shown p.redists) (range_with_len 0 j)) is
+    ∙ sym (map-map (λ r. some (Pend (pend_of r))) (redistributor_in p.redists) (range_with_len 0 p.layout.shape.vcpus)) in
+    record { contents = so_far ∙ (λ e. front u (count e) (confs e ++ pends e)); fit = fit }
 
 -- as many as there are translators
 pub maps_long : (ts : List Translator) (values : List Value) → AreMaps ts values → length values ≡ length ts
@@ -195,9 +192,9 @@ most_maps first std.None values n e are = let long = maps_long (translators_of f
 most_maps first (std.Some t) values n e are = let long = maps_long (translators_of first (std.Some t)) values are in omega (arith, e, long)
 
 -- a place that is emptied leaves the later ones
-pub later_same : (xs ys : List (std.Option InHand)) (v k : ℕ) → v + 1 ≤ k → ((j : ℕ) → v ≤ j → in_hand xs j ≡ in_hand ys j)
-    → in_hand (set xs v std.None) k ≡ in_hand ys k
+pub later_same : {T : Type 0} (xs ys : List (std.Option T)) (v k : ℕ) → v + 1 ≤ k → ((j : ℕ) → v ≤ j → get_or xs j std.None ≡ get_or ys j std.None)
+    → get_or (set xs v std.None) k std.None ≡ get_or ys k std.None
 later_same xs ys v k le same = get_or-set_other xs v k std.None std.None (λ e. absurd (omega arith)) ∙ same k (omega arith)
 
-pub same_some : (x y : InHand) → std.Some x ≡ std.Some y → x ≡ y
+pub same_some : {T : Type 0} (x y : T) → std.Some x ≡ std.Some y → x ≡ y
 same_some x y e = cc

@@ -1,5 +1,5 @@
 -- What a call of a port says of its pass.
-use Rattle.std.specs.Prelude.{◌≡◌, ◌≢◌, ◌<◌, ◌≤◌, ℕ, ◌+◌, List, [], ◌∷◌, ◌++◌, length, Result, Ok, Err}
+use Rattle.std.specs.Prelude.{◌≡◌, ◌≢◌, ◌⊎◌, ◌<◌, ◌≤◌, ℕ, ◌+◌, List, [], ◌∷◌, ◌++◌, length, Result, Ok, Err}
 use Rattle.std.specs.List.{AllByRecursion}
 use mathlib.Core.List.{IsPrefix}
 use Rattle.its_types.specs.declared.machine.Part.{Part}
@@ -115,6 +115,23 @@ TriesPart v p call reply w attempt.Spent = WasSpent v (p ∷ []) w
 abbrev pub AsksPart : {T : Type 0} → View → Part → Call → (T → Reply) → View → Result (Placed T) Spent → Type 0
 AsksPart v p call reply w (Ok x) = IsPlaced v call (reply x.reply) x.place w × Leaves Keep w × GotOnly (λ q. q ≡ p) v w
 AsksPart v p call reply w (Err spent) = Stays v w × (length w.seen ≡ v.setup.limits.place_last) × GotOnly (λ q. q ≡ p) v w
+
+-- ---- calls that need two parts, the first one got first
+
+-- tried once
+abbrev pub TriesBoth : {T : Type 0} → View → Part → Part → Call → (T → Reply) → View → Attempt T → Type 0
+TriesBoth v p q call reply w (attempt.Done x) = IsPlaced v call (reply x.reply) x.place w × Leaves Keep w × (w.tries ≡ got_all (q ∷ p ∷ []) v.tries)
+TriesBoth v p q call reply w (attempt.Busy b) = ((b.part ≡ p) × WasBusy v [] b w) ⊎ ((b.part ≡ q) × WasBusy v (p ∷ []) b w)
+TriesBoth v p q call reply w (attempt.Raced r) = WasRaced v (q ∷ p ∷ []) r w
+TriesBoth v p q call reply w attempt.Spent = WasSpent v (q ∷ p ∷ []) w
+
+abbrev pub IsEither : Part → Part → Part → Type 0
+IsEither p q x = (x ≡ p) ⊎ (x ≡ q)
+
+-- and again until it was made
+abbrev pub AsksBoth : {T : Type 0} → View → Part → Part → Call → (T → Reply) → View → Result (Placed T) Spent → Type 0
+AsksBoth v p q call reply w (Ok x) = IsPlaced v call (reply x.reply) x.place w × Leaves Keep w × GotOnly (IsEither p q) v w
+AsksBoth v p q call reply w (Err spent) = Stays v w × (length w.seen ≡ v.setup.limits.place_last) × GotOnly (IsEither p q) v w
 
 abbrev pub attempt_of : {T : Type 0} → Lost → Attempt T
 attempt_of lost.Spent = attempt.Spent

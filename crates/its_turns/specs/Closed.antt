@@ -4,14 +4,14 @@ use Rattle.std.specs.Global.{Global}
 use mathlib.Core.Option.{some}
 use lib.ListN.{get_elem?}
 use Rattle.its_plain.specs.Plain.{Plain}
-use Rattle.lpi_pending.specs.InHand.{in_hand}
-use Rattle.lpi_pending.specs.declared.redist.Redist.{Redist}
-use Rattle.owned_parts.specs.Owned.{ArePartsOf, IsRedistributorOf, translators_of}
+use Rattle.lpi_config.specs.declared.conf.Conf.{Conf}
+use Rattle.lpi_pending.specs.declared.pend.Pend.{Pend}
+use Rattle.owned_parts.specs.Owned.{ArePartsOf, IsConfOf, IsPendOf, translators_of}
 use Rattle.owned_parts.specs.declared.parts.Parts.{Parts}
 use Rattle.owned_parts.specs.declared.parts.Translator.{Translator as TranslatorInHand}
 use Rattle.its_steps.specs.Parts.{Setup, vcpu_count}
 use Rattle.its_turns.specs.declared.value.Value.{Value}
-use Rattle.its_turns.specs.declared.value.Value.TheVariants.{Maps}
+use Rattle.its_turns.specs.declared.value.Value.TheVariants.{Maps, Conf as ConfOf, Pend as PendOf}
 
 -- of so many slots, of which some are filled still, just those below n were taken
 abbrev pub AreTaken : ℕ → ℕ → List Bool → Type 0
@@ -25,10 +25,18 @@ HasTranslatorAt its xs = (b : Box TranslatorInHand Global) × (get_elem? xs (8 *
 abbrev pub IsTranslatorAt : ℕ → List Value → TranslatorInHand → Type 0
 IsTranslatorAt its xs t = (b : Box TranslatorInHand Global) × (get_elem? xs (8 * its) ≡ some (Maps b)) × (b.value ≡ t)
 
--- the redistributors below n are in hand, as the state has them, and no other is
-pub record AreBelow (u : Plain) (n : ℕ) (redists : List (Option Redist)) : Type 0 where
-  pub below : (vcpu : ℕ) → vcpu < n → (r : Redist) × (in_hand redists vcpu ≡ Some r) × IsRedistributorOf u vcpu r
-  pub others : (vcpu : ℕ) → n ≤ vcpu → in_hand redists vcpu ≡ None
+-- a configuration stands in the slot of the part of this number
+abbrev pub HasConfAt : ℕ → List Value → Type 0
+HasConfAt part xs = (b : Box Conf Global) × (get_elem? xs (8 * part) ≡ some (ConfOf b))
+
+-- what is pending stands there
+abbrev pub HasPendAt : ℕ → List Value → Type 0
+HasPendAt part xs = (b : Box Pend Global) × (get_elem? xs (8 * part) ≡ some (PendOf b))
+
+-- those below n are in their places, each as it is said of it, and no other is
+pub record AreBelow (T : Type 0) (is : ℕ → T → Type 0) (n : ℕ) (places : List (Option T)) : Type 0 where
+  pub below : (vcpu : ℕ) → vcpu < n → (x : T) × (slice_index_or places vcpu None ≡ Some x) × is vcpu x
+  pub others : (vcpu : ℕ) → n ≤ vcpu → slice_index_or places vcpu None ≡ None
 
 -- all parts of a state
 pub record AreAllParts (s : Setup) (u : Plain) (p : Parts) : Type 0 where
@@ -36,4 +44,5 @@ pub record AreAllParts (s : Setup) (u : Plain) (p : Parts) : Type 0 where
   pub translators : translators_of p.first p.second ≡ u.translators
   pub parts : ArePartsOf u 0 s.start.layout.shape p.first.regs p.first.maps.maps p.memory p.redists
   pub track : p.track ≡ u.track
-  pub redists : AreBelow u (vcpu_count s) p.redists
+  pub confs : AreBelow Conf (IsConfOf u) (vcpu_count s) p.redists.confs
+  pub pends : AreBelow Pend (IsPendOf u) (vcpu_count s) p.redists.pends

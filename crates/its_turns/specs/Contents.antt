@@ -1,23 +1,27 @@
 -- What the values in slots stand for.
 use Rattle.std.specs.Prelude.{ℕ, ◌*◌, List, [], ◌∷◌}
 use mathlib.Core.Option.{Option, none, some}
-use Rattle.owned_parts.specs.Owned.{redistributor_of, translator_of, HasLpisOf}
+use Rattle.lpi_config.specs.Conf.{conf_state}
+use Rattle.lpi_pending.specs.InHand.{pend_state, HasLpisOfConf, HasLpisOfPend}
+use Rattle.owned_parts.specs.Owned.{translator_of}
 use Rattle.its_steps.specs.Parts.{Setup, index_of}
 use Rattle.its_steps.specs.Contents.{Content, Held}
 use Rattle.its_steps.specs.Contents as content
 use Rattle.its_turns.specs.declared.value.Value.{Value}
-use Rattle.its_turns.specs.declared.value.Value.TheVariants.{Vacant, Maps, Mem, Shard, Redist}
+use Rattle.its_turns.specs.declared.value.Value.TheVariants.{Vacant, Maps, Mem, Shard, Conf, Pend}
 
 abbrev pub content_of : Value → Option Content
 content_of Vacant = none
 content_of (Maps b) = some (content.Maps (translator_of b.value))
 content_of (Mem b) = some (content.Mem b.value.memory b.value.track)
 content_of (Shard s) = some (content.Shard s)
-content_of (Redist b) = some (content.Redist (redistributor_of b.value))
+content_of (Conf b) = some (content.Conf (conf_state b.value))
+content_of (Pend b) = some (content.Pend (pend_state b.value))
 
--- a redistributor has as many LPIs as the machine
+-- a part of a redistributor has as many LPIs as the machine
 abbrev pub IsFit : Setup → Value → Type 0
-IsFit s (Redist b) = HasLpisOf s.start.layout.shape b.value
+IsFit s (Conf b) = HasLpisOfConf s.start.layout.shape b.value
+IsFit s (Pend b) = HasLpisOfPend s.start.layout.shape b.value
 IsFit s x = Unit {0}
 
 -- in a slot, or out of it

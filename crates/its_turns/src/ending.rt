@@ -5,6 +5,8 @@ ghost use mathlib.Core.Option.{some};
 ghost use lib.ListN.{get_elem?};
 ghost use Rattle.its_plain.specs.History.{after};
 ghost use Rattle.its_turns.specs.Closed.{AreAllParts, AreTaken, IsTranslatorAt, HasTranslatorAt};
+ghost use Rattle.its_turns.specs.Closed.{HasConfAt, HasPendAt};
+ghost use Rattle.its_turns.specs.declared.value.Value.TheVariants as values;
 ghost use Rattle.its_turns.specs.Machines.{setup, view, IsOf};
 ghost use Rattle.its_turns.specs.Told.{IsLone};
 
@@ -12,6 +14,8 @@ use crate::machine::{Machine, Pass, Root};
 use crate::value::{GuestMemory, Value};
 use atomic_table::Closed;
 use its_types::Vcpu;
+use lpi_config::Conf;
+use lpi_pending::Pend;
 use owned_parts::{Parts, Translator};
 use std::alloc::Global;
 
@@ -35,7 +39,8 @@ pub fn close(machine: Machine, root: Root) -> Parts
         places,
         translators,
         first_shard,
-        first_redist,
+        first_conf,
+        first_pend,
         ..
     } = machine;
     let Pass { seat, .. } = root;
@@ -46,14 +51,16 @@ pub fn close(machine: Machine, root: Root) -> Parts
     let Value::Mem(memory) = take_part(&mut closed, usize::from(translators)) else {
         unreachable!()
     };
-    for shard in first_shard..first_redist {
+    for shard in first_shard..first_conf {
         drop(take_part(&mut closed, shard));
     }
     for vcpu in 0..desc.shape.vcpus {
-        let Value::Redist(redist) = take_part(&mut closed, first_redist + usize::from(vcpu)) else {
-            unreachable!()
-        };
-        redists.place(Vcpu(vcpu), redist);
+        let conf = take_conf(&mut closed, first_conf + usize::from(vcpu));
+        redists.place_conf(Vcpu(vcpu), conf);
+    }
+    for vcpu in 0..desc.shape.vcpus {
+        let pend = take_pend(&mut closed, first_pend + usize::from(vcpu));
+        redists.place_pend(Vcpu(vcpu), pend);
     }
     closed.free();
     let GuestMemory { memory, track, .. } = Box::into_inner(memory);
@@ -107,6 +114,48 @@ fn take_translator(closed: &mut Closed<Value, Global>, its: usize) -> Translator
         unreachable!()
     };
     Box::into_inner(translator)
+}
+
+// The configuration that is the next part.
+fn take_conf(closed: &mut Closed<Value, Global>, part: usize) -> Box<Conf>
+    requires low { part < 2048 }
+    requires inside { 8 * part + 8 ≤ slots_len closed.old.slots }
+    requires front { AreTaken (8 * part) (slots_len closed.old.slots)
+        (slots_filled closed.old.slots) }
+    requires there { HasConfAt part (slots_items closed.old.slots) }
+    ensures conf { get_elem? (slots_items closed.old.slots) (8 * part)
+        ≡ some (values.Conf result) }
+    ensures items { slots_items closed.new.slots ≡ slots_items closed.old.slots }
+    ensures length { slots_len closed.new.slots ≡ slots_len closed.old.slots }
+    ensures words { closed.new.words ≡ closed.old.words }
+    ensures front { AreTaken (8 * part + 8) (slots_len closed.new.slots)
+        (slots_filled closed.new.slots) }
+{
+    let Value::Conf(conf) = take_part(closed, part) else {
+        unreachable!()
+    };
+    conf
+}
+
+// What is pending, as the next part.
+fn take_pend(closed: &mut Closed<Value, Global>, part: usize) -> Box<Pend>
+    requires low { part < 2048 }
+    requires inside { 8 * part + 8 ≤ slots_len closed.old.slots }
+    requires front { AreTaken (8 * part) (slots_len closed.old.slots)
+        (slots_filled closed.old.slots) }
+    requires there { HasPendAt part (slots_items closed.old.slots) }
+    ensures pend { get_elem? (slots_items closed.old.slots) (8 * part)
+        ≡ some (values.Pend result) }
+    ensures items { slots_items closed.new.slots ≡ slots_items closed.old.slots }
+    ensures length { slots_len closed.new.slots ≡ slots_len closed.old.slots }
+    ensures words { closed.new.words ≡ closed.old.words }
+    ensures front { AreTaken (8 * part + 8) (slots_len closed.new.slots)
+        (slots_filled closed.new.slots) }
+{
+    let Value::Pend(pend) = take_part(closed, part) else {
+        unreachable!()
+    };
+    pend
 }
 
 // The value of the next part, with the empty slots after it.

@@ -31,11 +31,12 @@ pub struct Known {
 impl Model for Known {
     ghost use Rattle.its_steps.specs.World.{View};
     ghost use Rattle.std.specs.Coded.{codes};
-    ghost use Rattle.its_plain.specs.Plain.{plain_code, translator_code, redistributor_code};
+    ghost use Rattle.its_plain.specs.Plain.{plain_code, translator_code};
+    ghost use Rattle.gicr_regs.specs.Redistributors.{conf_code, pend_code};
 
     ghost Value = { View };
 
-    ghost coded = { Prim.hlevel (codes, plain_code, translator_code, redistributor_code) };
+    ghost coded = { Prim.hlevel (codes, plain_code, translator_code, conf_code, pend_code) };
 
     ghost use Rattle.its_steps.specs.World.{spent};
 

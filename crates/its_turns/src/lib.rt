@@ -31,6 +31,6 @@ pub use loads::look;
 pub use machine::{Machine, Note, Pass, Root};
 pub use passes::{meet, note};
 pub use turns::{Busy, put, take, try_take};
-pub use typed::{try_take_maps, try_take_memory, try_take_redist, try_take_shard};
+pub use typed::{try_take_conf, try_take_maps, try_take_memory, try_take_pend, try_take_shard};
 pub use value::{GuestMemory, Value};
 pub use waiting::{give_way, pause};

@@ -24,13 +24,15 @@ pub struct Machine {
     pub(crate) table: Table<Value, Known, Origin, Law, Global>,
     pub(crate) desc: Desc,
     pub(crate) layout: Layout,
-    // No redistributor is in hand: they go here when the machine is closed.
+    // No part of a redistributor is in hand: they go here when the machine is closed.
     pub(crate) places: Redists,
     // How many translators there are.
     pub(crate) translators: u8,
-    // The number of the first shard among the parts, and that of the first redistributor.
+    // The number of the first shard among the parts, that of the first configuration, and that of
+    // what is pending first.
     pub(crate) first_shard: usize,
-    pub(crate) first_redist: usize,
+    pub(crate) first_conf: usize,
+    pub(crate) first_pend: usize,
     // How far above its lowest bit the word's stamp has that of translator 0.
     pub(crate) first_shift: u8,
     pub ghost described: { desc ≡ kept_of table.shared.key.desc.value },
@@ -44,12 +46,13 @@ pub struct Machine {
         × (translators ≡ 2 → desc.limits.stamp_last < 4096) },
     pub ghost ordered: { (translators ≡ translator_count (setup_of table.shared.key))
         × (first_shard ≡ translators + 1)
-        × (first_redist + vcpu_count (setup_of table.shared.key)
-        ≡ part_count (setup_of table.shared.key)) × (first_redist ≤ 131) },
+        × (first_conf + vcpu_count (setup_of table.shared.key) ≡ first_pend)
+        × (first_pend + vcpu_count (setup_of table.shared.key)
+        ≡ part_count (setup_of table.shared.key)) × (first_conf ≤ 131) },
     pub ghost shifted: { first_shift + 12 ≡ 12 * translators },
     pub ghost small: { (1 ≤ desc.shards) × (desc.shards ≤ 64) × (desc.shape.vcpus ≤ 16)
         × (desc.limits.place_last < 2 ^ 40) × (desc.limits.stamp_last < 2 ^ 24) },
-    pub ghost bare: { places ≡ replicate 16 None },
+    pub ghost bare: { (places.confs ≡ replicate 16 None) × (places.pends ≡ replicate 16 None) },
 }
 
 /// The token with which one thread makes calls. The root is the pass numbered 0.

@@ -58,8 +58,9 @@ impl Machine {
         };
         let translators = desc.translators.len() as u8;
         let first_shard = usize::from(translators) + 1;
-        let first_redist = first_shard + usize::from(translators) * desc.shards as usize;
-        let words = 16 * (first_redist + usize::from(desc.shape.vcpus) + 1);
+        let first_conf = first_shard + usize::from(translators) * desc.shards as usize;
+        let first_pend = first_conf + usize::from(desc.shape.vcpus);
+        let words = 16 * (first_pend + usize::from(desc.shape.vcpus) + 1);
         let frame = Frame::of(alloc, desc, &parts.layout, words)?;
         let slots = slots_of(alloc, desc, parts)?;
         let (table, seat) = table_of(alloc, frame.words.as_slice(), slots, &origin)?;
@@ -71,7 +72,8 @@ impl Machine {
                 places: Redists::new(),
                 translators,
                 first_shard,
-                first_redist,
+                first_conf,
+                first_pend,
                 first_shift: 12 * (translators - 1),
             },
             Pass {
@@ -218,7 +220,10 @@ fn first_values(alloc: Global, desc: &Desc, parts: Parts) -> Result<Vec<Value>, 
         values.push(Value::Shard(Shard::new(alloc)?))?;
     }
     for vcpu in 0..layout.shape.vcpus {
-        values.push(Value::Redist(redists.take_out(Vcpu(vcpu))))?;
+        values.push(Value::Conf(redists.take_conf(Vcpu(vcpu))))?;
+    }
+    for vcpu in 0..layout.shape.vcpus {
+        values.push(Value::Pend(redists.take_pend(Vcpu(vcpu))))?;
     }
     Ok(values)
 }

@@ -141,7 +141,8 @@ impl Machine {
             Part::Shard(its, n) => {
                 self.first_shard + usize::from(its) * self.desc.shards as usize + n as usize
             }
-            Part::Redist(vcpu) => self.first_redist + usize::from(vcpu.0),
+            Part::Conf(vcpu) => self.first_conf + usize::from(vcpu.0),
+            Part::Pend(vcpu) => self.first_pend + usize::from(vcpu.0),
         }
     }
 }

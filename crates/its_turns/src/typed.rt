@@ -1,7 +1,9 @@
 //! Parts taken as what they are.
 ghost use Rattle.std.specs.Prelude.{◌≡◌, ◌<◌, MatchResult};
 ghost use Rattle.its_types.specs.declared.machine.Part.TheVariants as part;
-ghost use Rattle.owned_parts.specs.Owned.{redistributor_of, translator_of, HasLpisOf};
+ghost use Rattle.lpi_config.specs.Conf.{conf_state};
+ghost use Rattle.lpi_pending.specs.InHand.{pend_state, HasLpisOfConf, HasLpisOfPend};
+ghost use Rattle.owned_parts.specs.Owned.{translator_of};
 ghost use Rattle.its_steps.specs.Good.{Holds};
 ghost use Rattle.its_steps.specs.Parts.{Stands, translator_count, vcpu_count};
 ghost use Rattle.its_steps.specs.Contents as content;
@@ -12,7 +14,8 @@ use crate::machine::{Machine, Pass};
 use crate::turns::{Busy, try_take};
 use crate::value::{GuestMemory, Value};
 use its_types::{Part, Vcpu};
-use lpi_pending::Redist;
+use lpi_config::Conf;
+use lpi_pending::Pend;
 use owned_parts::Translator;
 use xlate_cache::Shard;
 
@@ -73,20 +76,37 @@ pub fn try_take_shard(
     }
 }
 
-/// Tries the turn of a redistributor once, and takes it out.
-pub fn try_take_redist(machine: &Machine, pass: &mut Pass, vcpu: Vcpu) -> Result<Box<Redist>, Busy>
+/// Tries the turn of a redistributor's configuration once, and takes it out with its LPI registers.
+pub fn try_take_conf(machine: &Machine, pass: &mut Pass, vcpu: Vcpu) -> Result<Box<Conf>, Busy>
     requires of { IsOf machine.now pass.old }
     requires stands { vcpu.0 < vcpu_count (setup machine.now) }
-    requires free { ¬ Holds (part.Redist vcpu) (view pass.old).held }
+    requires free { ¬ Holds (part.Conf vcpu) (view pass.old).held }
     ensures of { IsOf machine.now pass.new }
     ensures result { MatchResult result
-        (λ x. TakesPart (view pass.old) (part.Redist vcpu)
-        (content.Redist (redistributor_of x.value)) (view pass.new)
-        × HasLpisOf (setup machine.now).start.layout.shape x.value)
-        (λ b. IsBusy (view pass.old) (part.Redist vcpu) b (view pass.new)) }
+        (λ x. TakesPart (view pass.old) (part.Conf vcpu) (content.Conf (conf_state x.value))
+        (view pass.new) × HasLpisOfConf (setup machine.now).start.layout.shape x.value)
+        (λ b. IsBusy (view pass.old) (part.Conf vcpu) b (view pass.new)) }
 {
-    match try_take(machine, pass, Part::Redist(vcpu)) {
-        Ok(Value::Redist(redist)) => Ok(redist),
+    match try_take(machine, pass, Part::Conf(vcpu)) {
+        Ok(Value::Conf(conf)) => Ok(conf),
+        Ok(_) => unreachable!(),
+        Err(busy) => Err(busy),
+    }
+}
+
+/// Tries the turn of what is pending at a redistributor once, and takes it out.
+pub fn try_take_pend(machine: &Machine, pass: &mut Pass, vcpu: Vcpu) -> Result<Box<Pend>, Busy>
+    requires of { IsOf machine.now pass.old }
+    requires stands { vcpu.0 < vcpu_count (setup machine.now) }
+    requires free { ¬ Holds (part.Pend vcpu) (view pass.old).held }
+    ensures of { IsOf machine.now pass.new }
+    ensures result { MatchResult result
+        (λ x. TakesPart (view pass.old) (part.Pend vcpu) (content.Pend (pend_state x.value))
+        (view pass.new) × HasLpisOfPend (setup machine.now).start.layout.shape x.value)
+        (λ b. IsBusy (view pass.old) (part.Pend vcpu) b (view pass.new)) }
+{
+    match try_take(machine, pass, Part::Pend(vcpu)) {
+        Ok(Value::Pend(pend)) => Ok(pend),
         Ok(_) => unreachable!(),
         Err(busy) => Err(busy),
     }

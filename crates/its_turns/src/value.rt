@@ -1,7 +1,8 @@
 //! What the slots hold.
 use dirty_log::Tracked;
 use guest_windows::{Memory, Spare};
-use lpi_pending::Redist;
+use lpi_config::Conf;
+use lpi_pending::Pend;
 use owned_parts::Translator;
 use xlate_cache::Shard;
 
@@ -27,6 +28,8 @@ pub enum Value {
     Mem(Box<GuestMemory>),
     /// Of a translator's cache.
     Shard(Shard),
-    /// Of a virtual processor.
-    Redist(Box<Redist>),
+    /// The configuration of a virtual processor.
+    Conf(Box<Conf>),
+    /// What is pending at it.
+    Pend(Box<Pend>),
 }

@@ -6,6 +6,7 @@ use Rattle.std.specs.Prelude.{◌⊎◌}
 use Rattle.std.proofs.lemmas.Bool.{both_ways, cases_Bool, cases_lt, cond_both, true_from_ne_false}
 use Rattle.gicr_regs.specs.Redistributors.{reloaded}
 use Rattle.gicr_regs.specs.Registers.{written_gicr}
+use Rattle.gicr_regs.specs.Registers.{turned_off as turned_off_of}
 use Rattle.guest_windows.specs.Windows.{Window, write_at}
 use Rattle.its_types.specs.Lpis.{first_enabled, first_by_priority, claimable, priority_of, is_pending}
 use Rattle.its_types.specs.declared.ids.Addr.{Addr}
@@ -33,8 +34,8 @@ use Rattle.its_plain.specs.declared.call.Cause.TheVariants.{LpisOff}
 use Rattle.its_plain.specs.declared.call.Reason.{Reason}
 use Rattle.its_plain.specs.declared.call.Reply.TheVariants as reply
 use Rattle.its_plain.specs.declared.fault.SaveFault.{SaveFault}
-use Rattle.lpi_enabling.specs.Enabling.{WritesEnableLpis, Disables, TurnsOn, TellsLpi}
-use Rattle.lpi_enabling.specs.Laws.{LpisStayOn, LpisAreTurnedOff, OnlyAWriteTurnsOn, MigrationsKeepOn}
+use Rattle.lpi_enabling.specs.Enabling.{WritesEnableLpis, Disables, TurnsOn, TakesWhereOn, TellsLpi}
+use Rattle.lpi_enabling.specs.Laws.{LpisStayOn, LpisAreTurnedOff, LpisAreTakenWhereOn, OnlyAWriteTurnsOn, MigrationsKeepOn}
 use Rattle.lpi_enabling.proofs.Kept.{Keeps, kept, kept_without, AllKeep, all_kept, at_set, at_map, set_kept, reloaded_kept}
 use Rattle.lpi_enabling.proofs.Commands.{ran_kept}
 use Rattle.lpi_enabling.proofs.Writes.{Goes, goes, goes_by, IsEnabling, IsDisabling, written_goes, written_off}
@@ -152,22 +153,39 @@ calls_go u (call.Dma req addr bytes to) = calls_keep u (call.Dma req addr bytes 
 pub stay_on : LpisStayOn
 stay_on u v c on none = ⊎_elim (λ x. x) (λ q. absurd (none q)) ((calls_go u c v).stays on)
 
-off_there : (u : Plain) (v k : ℕ) (r : Redistributor) → k ≡ v → r.bases.on ≡ false → is_on (with_redistributor u k r) v ≡ false
-off_there u v k r e off =
-    subst (λ (n : ℕ). is_on (with_redistributor u k r) n ≡ false) e
-    (elim (cases_lt k (length u.redistributors)) [
-      | inl within ↦ ap (λ (x : Redistributor). x.bases.on) (get_or-set_same u.redistributors k r no_redistributor within) ∙ off
-      | inr past ↦ ap (λ (x : Redistributor). x.bases.on) (get_or_past (set u.redistributors k r) k no_redistributor
-          (let size = length-set u.redistributors k r in omega (arith, size, past)))
-    ])
+module _ (seen : Redistributor → Bool) (none : seen no_redistributor ≡ false) where
+  off_there : (u : Plain) (v k : ℕ) (r : Redistributor) → k ≡ v → seen r ≡ false → seen (redistributor (with_redistributor u k r) v) ≡ false
+  off_there u v k r e off =
+      subst (λ (n : ℕ). seen (redistributor (with_redistributor u k r) n) ≡ false) e
+      (elim (cases_lt k (length u.redistributors)) [
+        | inl within ↦ ap seen (get_or-set_same u.redistributors k r no_redistributor within) ∙ off
+        | inr past ↦ ap seen (get_or_past (set u.redistributors k r) k no_redistributor
+            (let size = length-set u.redistributors k r in omega (arith, size, past))) ∙ none
+      ])
+
+  off_after : (u : Plain) (v : ℕ) (c : Call) → Disables u v c → ((r : Redistributor) → seen (turned_off_of u.layout.shape r) ≡ false)
+      → ((redistributor u v).bases.on ≡ false → seen (redistributor u v) ≡ false) → seen (redistributor (answer u c).1 v) ≡ false
+  unfolding left
+  off_after u v (call.WriteGicr vcpu off size value) d turned was =
+      let x : Redistributor = written_gicr u.layout.shape u.memory (redistributor u vcpu.0) off size value in
+      let here : (redistributor u vcpu.0).bases.on ≡ false → seen (redistributor u vcpu.0) ≡ false =
+      subst (λ (n : ℕ). (redistributor u n).bases.on ≡ false → seen (redistributor u n) ≡ false) (sym d.2.0) was in
+      ap (λ (b : Bool). seen (redistributor (if b then with_redistributor u vcpu.0 x else u) v)) d.0
+      ∙ off_there u v vcpu.0 x d.2.0
+      (written_off seen u.layout.shape u.memory (redistributor u vcpu.0) off size value d.1 (d.2.1, d.2.2, d.2.3) (turned (redistributor u vcpu.0)) here)
+  off_after u v c d turned was = absurd d.2
 
 pub turned_off : LpisAreTurnedOff
-unfolding left
-turned_off u v (call.WriteGicr vcpu off size value) d =
-    let x : Redistributor = written_gicr u.layout.shape u.memory (redistributor u vcpu.0) off size value in
-    ap (λ (b : Bool). is_on (if b then with_redistributor u vcpu.0 x else u) v) d.0
-    ∙ off_there u v vcpu.0 x d.2.0 (written_off u.layout.shape u.memory (redistributor u vcpu.0) off size value d.1 (d.2.1, d.2.2, d.2.3))
-turned_off u v c d = absurd d.2
+turned_off u v c d = (
+  off_after (λ r. r.bases.on) refl u v c d (λ _. refl) (λ off. off),
+  λ same. off_after (λ r. r.accepts) refl u v c d (λ _. refl) (λ off. same ∙ off),
+)
+
+pub taken_where_on : LpisAreTakenWhereOn
+taken_where_on u v same = (
+  (goes (Unit {0}) (Unit {0}) (redistributor u v) (redistributor (moved u) v) (migrated_kept u v)).taking same,
+  λ c. (calls_go u c v).taking same,
+)
 
 pub only_a_write : OnlyAWriteTurnsOn
 only_a_write u v c off on = record { write = (calls_go u c v).turned off on; off_before = off; on_after = on }
@@ -179,6 +197,10 @@ migrations_keep u v = (migrated_kept u v).on
 
 abbrev pub Silent : Plain → Type 0
 Silent u = (v : ℕ) → is_on u v ≡ false → pending_of u v ≡ []
+
+-- and LPIs are taken where they are on
+abbrev pub AllTake : Plain → Type 0
+AllTake u = (v : ℕ) → TakesWhereOn (redistributor u v)
 
 pub silent_after : (u : Plain) (c : Call) → Silent u → Silent (answer u c).1
 silent_after u c h v off = (calls_go u c v).none (h v) off

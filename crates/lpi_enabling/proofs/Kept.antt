@@ -2,7 +2,7 @@
 use Rattle.std.proofs.Common.{◌≡◌, ℕ, zero, suc, ◌+◌, ◌-◌, true, false, eqb, List, [], ◌∷◌, map, get_or, set, Option, Some, None, refl, ap, ◌∙◌}
 use Rattle.std.proofs.lemmas.Bool.{both_ways, cond_both}
 use Rattle.guest_windows.specs.Windows.{Window, byte_at}
-use Rattle.gicr_regs.specs.Redistributors.{reread_byte, reread_at, all_reread_at, reloaded, config_in}
+use Rattle.gicr_regs.specs.Redistributors.{conf_of, with_conf, conf_with_byte, conf_reread_at, reread_at, all_reread_at, reloaded, config_in}
 use Rattle.its_types.specs.Lpis.{with_lpi, with_lpis, without_lpi}
 use Rattle.its_types.specs.declared.machine.Shape.{Shape}
 use Rattle.its_plain.specs.Plain.{Plain, Redistributor, redistributor, no_redistributor, pending_of, is_on, with_pending}
@@ -29,31 +29,33 @@ at_map R f (x ∷ xs) (suc k) d each none = at_map R f xs k d each none
 -- ---- redistributors
 
 pub record Keeps (r s : Redistributor) : Type 0 where
-  pub on : s.bases.on ≡ r.bases.on
-  pub none : r.bases.on ≡ false → r.pending ≡ [] → s.pending ≡ []
+  pub on : s.accepts ≡ r.accepts
+  pub bases : s.bases.on ≡ r.bases.on
+  pub none : r.accepts ≡ false → r.pending ≡ [] → s.pending ≡ []
 
 pub kept : (r : Redistributor) → Keeps r r
-kept r = record { on = refl; none = λ _ e. e }
+kept r = record { on = refl; bases = refl; none = λ _ e. e }
 
 -- whatever is pending where they are on
-pub kept_on : (r : Redistributor) (pending : List ℕ) → r.bases.on ≡ true → Keeps r (record r { pending = pending })
-kept_on r pending on = record { on = refl; none = λ off _. absurd (both_ways r.bases.on off on) }
+pub kept_on : (r : Redistributor) (pending : List ℕ) → r.accepts ≡ true → Keeps r (record r { pending = pending })
+kept_on r pending on = record { on = refl; bases = refl; none = λ off _. absurd (both_ways r.accepts off on) }
 
 -- one LPI less
 pub kept_without : (r : Redistributor) (intid : ℕ) → Keeps r (record r { pending = without_lpi intid r.pending })
-kept_without r intid = record { on = refl; none = λ _ e. ap (without_lpi intid) e }
+kept_without r intid = record { on = refl; bases = refl; none = λ _ e. ap (without_lpi intid) e }
 
 kept_then : (r s t : Redistributor) → Keeps r s → Keeps s t → Keeps r t
-kept_then r s t a b = record { on = b.on ∙ a.on; none = λ off e. b.none (a.on ∙ off) (a.none off e) }
+kept_then r s t a b = record { on = b.on ∙ a.on; bases = b.bases ∙ a.bases; none = λ off e. b.none (a.on ∙ off) (a.none off e) }
 
-byte_kept : (intid : ℕ) (r : Redistributor) (byte : Option ℕ) → Keeps r (reread_byte intid r byte)
+byte_kept : (intid : ℕ) (r : Redistributor) (byte : Option ℕ) → Keeps r (with_conf (conf_with_byte intid (conf_of r) byte) r)
 byte_kept intid r None = kept r
-byte_kept intid r (Some byte) = record { on = refl; none = λ _ e. e }
+byte_kept intid r (Some byte) = record { on = refl; bases = refl; none = λ _ e. e }
 
 pub reread_kept : (memory : List Window) (intid : ℕ) (r : Redistributor) → Keeps r (reread_at memory intid r)
-unfolding reread_at
+unfolding conf_reread_at
 reread_kept memory intid r =
-    cond_both r.bases.on (reread_byte intid r (byte_at memory (r.bases.prop.table.0 + (intid - 8192)))) r (Keeps r)
+    cond_both r.bases.on (conf_with_byte intid (conf_of r) (byte_at memory (r.bases.prop.table.0 + (intid - 8192)))) (conf_of r)
+    (λ c. Keeps r (with_conf c r))
     (λ _. byte_kept intid r (byte_at memory (r.bases.prop.table.0 + (intid - 8192)))) (λ _. kept r)
 
 all_reread_kept : (memory : List Window) (intids : List ℕ) (r : Redistributor) → Keeps r (all_reread_at memory intids r)
@@ -63,8 +65,9 @@ all_reread_kept memory (intid ∷ intids) r =
     (all_reread_kept memory intids (reread_at memory intid r))
 
 pub reloaded_kept : (s : Shape) (memory : List Window) (r : Redistributor) → Keeps r (reloaded s memory r)
-reloaded_kept s memory r = cond_both r.bases.on (record r { config = config_in s memory r }) r (Keeps r) (λ _. record { on = refl; none = λ _ e. e })
-    (λ _. kept r)
+reloaded_kept s memory r =
+    cond_both r.bases.on (record (conf_of r) { config = config_in s memory (conf_of r) }) (conf_of r) (λ c. Keeps r (with_conf c r))
+    (λ _. record { on = refl; bases = refl; none = λ _ e. e }) (λ _. kept r)
 
 -- ---- states
 
@@ -92,7 +95,7 @@ pub all_moved_kept : (u : Plain) (from to : ℕ) → is_on u to ≡ true → All
 unfolding all_moved
 all_moved_kept u from to on =
     let emptied : Plain = with_pending u from [] in
-    let empty : AllKeep u emptied = pending_kept u from [] (record { on = refl; none = λ _ _. refl }) in
+    let empty : AllKeep u emptied = pending_kept u from [] (record { on = refl; bases = refl; none = λ _ _. refl }) in
     let all : List ℕ = with_lpis (pending_of u from) (pending_of u to) in
     cond_both (eqb from to) u (with_pending emptied to all) (AllKeep u) (λ _. all_kept u)
     (λ _. all_kept_then u emptied (with_pending emptied to all) empty

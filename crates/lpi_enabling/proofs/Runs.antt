@@ -11,7 +11,7 @@ use Rattle.its_plain.specs.declared.call.Entry.{Entry}
 use Rattle.its_plain.specs.declared.call.Reply.{Reply}
 use Rattle.lpi_enabling.specs.Enabling.{AllOff, NoneDisables, NoneDisablesInLegs, TurnsOnIn, TurnsOnInLegs, state_after, TellsLpi, FollowEnabling}
 use Rattle.lpi_enabling.specs.Laws.{RunsFollowEnabling, PartialRunsFollowEnabling}
-use Rattle.lpi_enabling.proofs.Calls.{Silent, silent_after, silent_moved, on_after, turned_off, migrations_keep, tells_on, pending_on}
+use Rattle.lpi_enabling.proofs.Calls.{Silent, AllTake, silent_after, silent_moved, on_after, turned_off, taken_where_on, migrations_keep, tells_on, pending_on}
 
 -- ---- the state before an entry
 
@@ -23,26 +23,35 @@ silent_state : (u : Plain) (earlier : List (List Entry)) (before : List Entry) �
 silent_state u [] before s = silent_history u before s
 silent_state u (h ∷ hs) before s = silent_state (moved (after u h)) hs before (silent_moved (after u h) (silent_history u h s))
 
+-- ---- LPIs are taken where they are on, before each entry too
+
+taking_history : (u : Plain) (h : List Entry) → AllTake u → AllTake (after u h)
+taking_history u [] t = t
+taking_history u (e ∷ h) t = taking_history (answer u e.call).1 h (λ v. (taken_where_on u v (t v)).1 e.call)
+
+taking_moved : (u : Plain) (h : List Entry) → AllTake u → AllTake (moved (after u h))
+taking_moved u h t v = (taken_where_on (after u h) v (taking_history u h t v)).0
+
 -- ---- what is on was on, or was turned on
 
-on_after_history : (u : Plain) (v : ℕ) (h : List Entry) → is_on (after u h) v ≡ true
+on_after_history : (u : Plain) (v : ℕ) (h : List Entry) → AllTake u → is_on (after u h) v ≡ true
     → ((is_on u v ≡ true) × NoneDisables u v h) ⊎ TurnsOnIn u v h
-on_after_history u v [] on = inl (on, tt)
-on_after_history u v (e ∷ h) on =
-    elim (on_after_history (answer u e.call).1 v h on) [
+on_after_history u v [] t on = inl (on, tt)
+on_after_history u v (e ∷ h) t on =
+    elim (on_after_history (answer u e.call).1 v h (λ k. (taken_where_on u k (t k)).1 e.call) on) [
       | inl there ↦ elim (on_after u v e.call there.0) [
-        | inl was ↦ inl (was, ((λ d. both_ways (is_on (answer u e.call).1 v) (turned_off u v e.call d) there.0), there.1))
+        | inl was ↦ inl (was, ((λ d. both_ways (is_on (answer u e.call).1 v) ((turned_off u v e.call d).1 (t v)) there.0), there.1))
         | inr turns ↦ inr (inl (turns, there.1))
       ]
       | inr turns ↦ inr (inr turns)
     ]
 
-on_in_state : (u : Plain) (v : ℕ) (earlier : List (List Entry)) (before : List Entry) → is_on (state_after u earlier before) v ≡ true
+on_in_state : (u : Plain) (v : ℕ) (earlier : List (List Entry)) (before : List Entry) → AllTake u → is_on (state_after u earlier before) v ≡ true
     → ((is_on u v ≡ true) × NoneDisablesInLegs u v (earlier ++ before ∷ [])) ⊎ TurnsOnInLegs u v (earlier ++ before ∷ [])
-on_in_state u v [] before on = elim (on_after_history u v before on) [ inl was ↦ inl (was.0, (was.1, tt)) | inr turns ↦ inr (inl (turns, tt)) ]
-on_in_state u v (h ∷ hs) before on =
-    elim (on_in_state (moved (after u h)) v hs before on) [
-      | inl there ↦ elim (on_after_history u v h (sym (migrations_keep (after u h) v) ∙ there.0)) [
+on_in_state u v [] before t on = elim (on_after_history u v before t on) [ inl was ↦ inl (was.0, (was.1, tt)) | inr turns ↦ inr (inl (turns, tt)) ]
+on_in_state u v (h ∷ hs) before t on =
+    elim (on_in_state (moved (after u h)) v hs before (taking_moved u h t) on) [
+      | inl there ↦ elim (on_after_history u v h t (sym (migrations_keep (after u h) v) ∙ there.0)) [
         | inl was ↦ inl (was.0, (was.1, there.1))
         | inr turns ↦ inr (inl (turns, there.1))
       ]
@@ -52,7 +61,10 @@ on_in_state u v (h ∷ hs) before on =
 turned_on : (u : Plain) (v : ℕ) (earlier : List (List Entry)) (before : List Entry) → AllOff u → is_on (state_after u earlier before) v ≡ true
     → TurnsOnInLegs u v (earlier ++ before ∷ [])
 turned_on u v earlier before off on =
-    elim (on_in_state u v earlier before on) [ inl was ↦ absurd (both_ways (is_on u v) (off v).off was.0) | inr turns ↦ turns ]
+    elim (on_in_state u v earlier before (λ k. (off k).none_taken ∙ sym (off k).off) on) [
+      | inl was ↦ absurd (both_ways (is_on u v) (off v).none_taken was.0)
+      | inr turns ↦ turns
+    ]
 
 -- ---- legal legs
 

@@ -31,7 +31,7 @@ use Rattle.lpi_enabling.specs.Enabling.{IsOff, AllOff, RestoresOff}
 use Rattle.lpi_enabling.specs.Laws.{MachinesStartOff}
 
 none_off : IsOff no_redistributor
-none_off = record { off = refl; none_pending = refl }
+none_off = record { off = refl; none_taken = refl; none_pending = refl }
 
 -- ---- not restored
 
@@ -57,7 +57,7 @@ replicate_off (suc n) r h (suc k) = replicate_off n r h k
 
 first_off : (s : Shape) (memory : List Window) (t : LpiTables) → RestoresOff t → IfOk (first_redistributors s memory t) AreOff
 first_off s memory (Described config pending) h = absurd h
-first_off s memory (Registers values) h = replicate_off s.vcpus (off_redistributor s no_bases) (record { off = refl; none_pending = refl })
+first_off s memory (Registers values) h = replicate_off s.vcpus (off_redistributor s no_bases) (record { off = refl; none_taken = refl; none_pending = refl })
 
 made_off : (d : Desc) → RestoresOff d.tables → IfOk (made d) AllOff
 unfolding made
@@ -94,7 +94,7 @@ standing_off memory values l bases u off h v =
           let there = slice_get-get_or bases v no_bases low in
           let is = h.redistributors v b (redistributor u v) there (slice_get-get_or u.redistributors v no_redistributor within) in
           let was : b.on ≡ false = off v b there in
-          record { off = ap (λ (x : Bases). x.on) is.bases ∙ was; none_pending = is.off_pending was }
+          record { off = ap (λ (x : Bases). x.on) is.bases ∙ was; none_taken = is.accepts ∙ was; none_pending = is.off_pending was }
       | inr past ↦ subst IsOff (sym (get_or_past u.redistributors v no_redistributor past)) none_off
     ]
 

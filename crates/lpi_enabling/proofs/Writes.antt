@@ -12,21 +12,24 @@ use Rattle.gicr_regs.specs.Registers.{asked_by, asked_by_64, asked_by_word, done
 use Rattle.its_types.specs.Halves.{low_half}
 use Rattle.gicr_regs.specs.declared.write.GicrWrite.{GicrWrite}
 use Rattle.gicr_regs.specs.declared.write.GicrWrite.TheVariants as writes
+use Rattle.lpi_enabling.specs.Enabling.{TakesWhereOn}
 use Rattle.lpi_enabling.proofs.Kept.{Keeps, kept, reread_kept, reloaded_kept}
 
 -- ---- what a call may do to a redistributor
 
 -- LPIs are turned on only where P holds and off only where Q does, and none is pending while they are off, if none was
 pub record Goes (P Q : Type 0) (r s : Redistributor) : Type 0 where
-  pub stays : r.bases.on ≡ true → (s.bases.on ≡ true) ⊎ Q
-  pub turned : r.bases.on ≡ false → s.bases.on ≡ true → P
-  pub none : (r.bases.on ≡ false → r.pending ≡ []) → s.bases.on ≡ false → s.pending ≡ []
+  pub stays : r.accepts ≡ true → (s.accepts ≡ true) ⊎ Q
+  pub turned : r.accepts ≡ false → s.accepts ≡ true → P
+  pub none : (r.accepts ≡ false → r.pending ≡ []) → s.accepts ≡ false → s.pending ≡ []
+  pub taking : TakesWhereOn r → TakesWhereOn s
 
 pub goes : (P Q : Type 0) (r s : Redistributor) → Keeps r s → Goes P Q r s
 goes P Q r s k = record {
   stays = λ on. inl (k.on ∙ on);
-  turned = λ off on. absurd (both_ways r.bases.on off (sym k.on ∙ on));
-  none = λ h off. let was : r.bases.on ≡ false = sym k.on ∙ off in k.none was (h was);
+  turned = λ off on. absurd (both_ways r.accepts off (sym k.on ∙ on));
+  none = λ h off. let was : r.accepts ≡ false = sym k.on ∙ off in k.none was (h was);
+  taking = λ e. k.on ∙ e ∙ sym k.bases;
 }
 
 pub goes_by : (P Q A B : Type 0) (r s : Redistributor) → (P → A) → (Q → B) → Goes P Q r s → Goes A B r s
@@ -34,6 +37,7 @@ goes_by P Q A B r s f e g = record {
   stays = λ on. ⊎_elim (λ x. inl x) (λ q. inr (e q)) (g.stays on);
   turned = λ off on. f (g.turned off on);
   none = g.none;
+  taking = g.taking;
 }
 
 -- ---- what a write asks for
@@ -98,16 +102,17 @@ module _ (s : Shape) (memory : List Window) (P Q : Type 0) where
   unfolding done_by turned_on
   done r writes.Ignored a = goes P Off r r (kept r)
   done r (writes.SetBases c) a = record {
-    stays = λ on. absurd (both_ways r.bases.on a.0 on);
-    turned = λ _ on. absurd (both_ways c.on a.1 on);
-    none = λ h _. h a.0;
+    stays = λ on. inl on;
+    turned = λ off on. absurd (both_ways r.accepts off on);
+    none = λ h off. h off;
+    taking = λ e. e ∙ a.0 ∙ sym a.1;
   }
   done r writes.Enable a =
       cond_both (has_tables s memory r.bases) (turned_on s memory r) r (Goes P Off r)
-      (λ _. record { stays = λ _. inl refl; turned = λ _ _. a; none = λ _ off. absurd cc }) (λ _. goes P Off r r (kept r))
+      (λ _. record { stays = λ _. inl refl; turned = λ _ _. a; none = λ _ off. absurd cc; taking = λ _. refl }) (λ _. goes P Off r r (kept r))
   done r writes.Disable a =
       cond_both s.linux (turned_off s r) r (Goes P Off r)
-      (λ may. record { stays = λ _. inr (may, a); turned = λ _ on. absurd cc; none = λ _ _. refl }) (λ _. goes P Off r r (kept r))
+      (λ may. record { stays = λ _. inr (may, a); turned = λ _ on. absurd cc; none = λ _ _. refl; taking = λ _. refl }) (λ _. goes P Off r r (kept r))
   done r (writes.Reread intid) a =
       cond_both (is_lpi s.lpi_bits intid.0) (reread_at memory intid.0 r) r (Goes P Off r)
       (λ _. goes P Off r (reread_at memory intid.0 r) (reread_kept memory intid.0 r)) (λ _. goes P Off r r (kept r))
@@ -119,18 +124,19 @@ unfolding written_gicr
 written_goes s memory r off size value = done s memory (IsEnabling off size value) (IsDisabling off size value) r (asked_by r.bases off size value)
     (asked r.bases off size value)
 
--- with 0 written, where the machine lets it, they are off
-pub written_off : (s : Shape) (memory : List Window) (r : Redistributor) (off size value : ℕ) → s.linux ≡ true → IsDisabling off size value
-    → (written_gicr s memory r off size value).bases.on ≡ false
+-- with 0 written, where the machine lets it, they are off: what is seen of that was so where they were off, and is so of what is turned off
+pub written_off : (seen : Redistributor → Bool) (s : Shape) (memory : List Window) (r : Redistributor) (off size value : ℕ) → s.linux ≡ true
+    → IsDisabling off size value → seen (turned_off s r) ≡ false → (r.bases.on ≡ false → seen r ≡ false)
+    → seen (written_gicr s memory r off size value) ≡ false
 unfolding written_gicr asked_by asked_by_word done_by
-written_off s memory r off size value may d =
+written_off seen s memory r off size value may d turned was =
     let low : bit_of (low_half value) 0 ≡ false = lowest_bit value ∙ d.2 in
-    ap (λ (o : ℕ). (written_gicr s memory r o size value).bases.on) d.0
-    ∙ (ap (λ (n : ℕ). (written_gicr s memory r 0 n value).bases.on) d.1
-    ∙ (ap (λ (b : Bool). (done_by s memory (if b then (if r.bases.on then writes.Ignored else writes.Enable)
-    else (if r.bases.on then writes.Disable else writes.Ignored)) r).bases.on) low
+    ap (λ (o : ℕ). seen (written_gicr s memory r o size value)) d.0
+    ∙ (ap (λ (n : ℕ). seen (written_gicr s memory r 0 n value)) d.1
+    ∙ (ap (λ (b : Bool). seen (done_by s memory (if b then (if r.bases.on then writes.Ignored else writes.Enable)
+    else (if r.bases.on then writes.Disable else writes.Ignored)) r)) low
     ∙ at r.bases.on refl))
   where
-    at : (b : Bool) → r.bases.on ≡ b → (done_by s memory (if b then writes.Disable else writes.Ignored) r).bases.on ≡ false
-    at true is = ap (λ (t : Bool). (if t then turned_off s r else r).bases.on) may
-    at false is = is
+    at : (b : Bool) → r.bases.on ≡ b → seen (done_by s memory (if b then writes.Disable else writes.Ignored) r) ≡ false
+    at true is = ap (λ (t : Bool). seen (if t then turned_off s r else r)) may ∙ turned
+    at false is = was is

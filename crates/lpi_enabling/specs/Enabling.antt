@@ -20,9 +20,14 @@ use Rattle.its_plain.specs.declared.desc.LpiTables.TheVariants.{Described, Regis
 
 -- ---- states
 
--- LPIs are off, and none is pending
+-- it takes LPIs where they are on, as in every sound state
+abbrev pub TakesWhereOn : Redistributor → Type 0
+TakesWhereOn r = r.accepts ≡ r.bases.on
+
+-- LPIs are off: none is taken, and none is pending
 pub record IsOff (r : Redistributor) : Type 0 where
   pub off : r.bases.on ≡ false
+  pub none_taken : r.accepts ≡ false
   pub none_pending : r.pending ≡ []
 
 -- so it is of every virtual processor

@@ -1,6 +1,6 @@
 -- What is claimed of LPIs that are turned on.
 use Rattle.std.specs.Prelude.{◌≡◌, ℕ, true, false, List}
-use Rattle.its_plain.specs.Plain.{Plain, is_on}
+use Rattle.its_plain.specs.Plain.{Plain, redistributor, is_on}
 use Rattle.its_plain.specs.Answer.{answer}
 use Rattle.its_plain.specs.Described.{IsFirstState}
 use Rattle.its_plain.specs.Runs.{Leg, IsRun, IsPartialRun}
@@ -8,7 +8,7 @@ use Rattle.its_plain.specs.Saved.{moved}
 use Rattle.its_plain.specs.declared.call.Call.{Call}
 use Rattle.its_plain.specs.declared.call.Entry.{Entry}
 use Rattle.its_plain.specs.declared.desc.Desc.{Desc}
-use Rattle.lpi_enabling.specs.Enabling.{AllOff, RestoresOff, TurnsOn, Disables, FollowEnabling}
+use Rattle.lpi_enabling.specs.Enabling.{TakesWhereOn, AllOff, RestoresOff, TurnsOn, Disables, FollowEnabling}
 
 -- ---- one call, and a migration
 
@@ -16,9 +16,17 @@ use Rattle.lpi_enabling.specs.Enabling.{AllOff, RestoresOff, TurnsOn, Disables, 
 abbrev pub LpisStayOn : Type 0
 LpisStayOn = (u : Plain) (vcpu : ℕ) (c : Call) → is_on u vcpu ≡ true → ¬ Disables u vcpu c → is_on (answer u c).1 vcpu ≡ true
 
--- after that they are off
+-- after that they are off, and none is taken of what takes LPIs where they are on
 abbrev pub LpisAreTurnedOff : Type 0
-LpisAreTurnedOff = (u : Plain) (vcpu : ℕ) (c : Call) → Disables u vcpu c → is_on (answer u c).1 vcpu ≡ false
+LpisAreTurnedOff =
+    (u : Plain) (vcpu : ℕ) (c : Call) → Disables u vcpu c
+    → ((redistributor (answer u c).1 vcpu).bases.on ≡ false) × (TakesWhereOn (redistributor u vcpu) → is_on (answer u c).1 vcpu ≡ false)
+
+-- and every call and every migration leaves it so
+abbrev pub LpisAreTakenWhereOn : Type 0
+LpisAreTakenWhereOn =
+    (u : Plain) (vcpu : ℕ) → TakesWhereOn (redistributor u vcpu)
+    → TakesWhereOn (redistributor (moved u) vcpu) × ((c : Call) → TakesWhereOn (redistributor (answer u c).1 vcpu))
 
 -- where they are off before a call and on after it, it wrote 1 to the processor's GICR_CTLR.EnableLPIs
 abbrev pub OnlyAWriteTurnsOn : Type 0

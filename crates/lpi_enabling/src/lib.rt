@@ -5,10 +5,11 @@
 ghost use Rattle.lpi_enabling.specs.Laws as laws;
 
 /// No call turns LPIs off but a write of 0 to GICR_CTLR.EnableLPIs, where the machine lets it; that
-/// does.
+/// does. LPIs are taken where they are on, from then on too.
 pub fn lpis_stay_on()
     ensures stay { laws.LpisStayOn }
     ensures off { laws.LpisAreTurnedOff }
+    ensures taken { laws.LpisAreTakenWhereOn }
 {}
 
 /// LPIs are turned on by a write of 1 to the virtual processor's GICR_CTLR.EnableLPIs alone.

@@ -1,6 +1,6 @@
 -- A call's footprint decides what is answered, and what is left in it.
 use Rattle.std.proofs.Common.{◌≡◌, ℕ, Bool, true, false, not, ◌||◌, ◌&&◌, nat_lt, nat_le, List, [], ◌∷◌, ◌++◌, length, Option, Some, None, Result, Ok, Err}
-use Rattle.std.proofs.Common.{refl, ap, subst, if◌then◌else◌, ◌∙◌}
+use Rattle.std.proofs.Common.{slice_get, refl, ap, subst, if◌then◌else◌}
 use Rattle.std.specs.Option.{option_map}
 use Rattle.std.specs.Result.{result_ok}
 use Rattle.guest_windows.specs.Windows.{Window, read_at, write_at}
@@ -12,10 +12,12 @@ use Rattle.its_command.specs.Commands.{decoded, op_of}
 use Rattle.its_command.specs.declared.command.Op.{Op}
 use Rattle.its_types.specs.declared.ids.Target.{Target}
 use Rattle.its_types.specs.declared.machine.Part.{Part}
-use Rattle.its_types.specs.declared.machine.Part.TheVariants.{Maps as MapsOf, Mem, Redist}
-use Rattle.gicr_regs.specs.Registers.{read_gicr, written_gicr}
+use Rattle.its_types.specs.declared.machine.Part.TheVariants.{Maps as MapsOf, Mem, Conf, Pend}
+use Rattle.gicr_regs.specs.Registers.{asked_by, read_gicr, written_gicr}
+use Rattle.gicr_regs.specs.declared.write.GicrWrite.{GicrWrite}
+use Rattle.its_types.specs.declared.ids.Vcpu.{Vcpu}
 use Rattle.its_plain.specs.declared.layout.Layout.{Layout}
-use Rattle.its_plain.specs.Plain.{Plain, Translator, Redistributor, translator, redistributor, regs_of, is_on, with_redistributor}
+use Rattle.its_plain.specs.Plain.{Plain, Translator, Redistributor, PendState, translator, redistributor, regs_of, is_on, conf_of, pend_of, joined}
 use Rattle.its_plain.specs.Translation.{◌>>=◌, ensure, located, translated}
 use Rattle.its_plain.specs.Commands.{ran}
 use Rattle.its_plain.specs.Answer.{signal_reply, signal_left, ack_of, lowest, best, claimed, taken, poke_reply, peek_reply, translator_written, written}
@@ -25,7 +27,8 @@ use Rattle.its_plain.specs.Answer.{answer, poke_left, poked, copy_count, copy_le
 use Rattle.its_plain.specs.declared.call.Route.{Route}
 use Rattle.its_plain.specs.declared.call.Route.TheVariants as route
 use Rattle.its_plain.specs.Regions.{savable}
-use Rattle.its_plain.specs.Parts.{SamePart, IsIn, AgreesOn, redist, redist_of, translators_below, redists_below, needed, route_parts, footprint}
+use Rattle.its_plain.specs.Parts.{SamePart, IsIn, AgreesOn, conf, pend, pend_at, translators_below, confs_below, pends_below, redistributor_parts, needed}
+use Rattle.its_plain.specs.Parts.{route_parts, write_parts, footprint}
 use Rattle.its_plain.specs.declared.call.Call.{Call}
 use Rattle.its_plain.specs.declared.call.Call.TheVariants as call
 use Rattle.its_plain.specs.declared.call.Cause.{Cause}
@@ -36,11 +39,13 @@ use Rattle.its_plain.specs.declared.call.Signal.{Signal}
 use Rattle.its_plain.specs.declared.call.StepReply.{StepReply}
 use Rattle.its_plain.specs.declared.call.StepReply.TheVariants.{Idle, QueueFault}
 use Rattle.plain_footprint.proofs.Footprints.{parts_of_signal, parts_of_step, needed_at}
-use Rattle.plain_footprint.proofs.Listed.{same_or, in_head, in_tail, in_left, in_right, redist_below, translator_below}
+use Rattle.plain_footprint.proofs.Listed.{same_or, in_head, in_tail, in_left, in_right, conf_in_both, pend_in_both, conf_below}
+use Rattle.plain_footprint.proofs.Listed.{pend_below, translator_below}
 use Rattle.plain_footprint.proofs.Stays.{same_part}
 use Rattle.std.proofs.lemmas.List.{same_lists}
-use Rattle.plain_footprint.proofs.Alike.{translator_same, redist_same, agree_translator, agree_redist, agree_memory, agree_set}
+use Rattle.plain_footprint.proofs.Alike.{translator_same, conf_same, pend_same, redist_same, agree_translator, agree_redist, agree_memory, agree_set}
 use Rattle.plain_footprint.proofs.AlikeRan.{Alike, ran_alike}
+use Rattle.plain_footprint.proofs.Writes.{done_at, done_alike}
 
 -- the same answer, and the same left in the parts
 abbrev Decided : {R : Type 0} → List Part → R → R → Plain → Plain → Type 0
@@ -63,11 +68,11 @@ module _ (u w : Plain) (its : ℕ) where
   abbrev sent : Target → Bool → Signal
   sent t on = signal_reply (ensure on LpisOff >>= λ _. Ok t)
 
-  sent_decided : (t : Target) (on on' : Bool) → on ≡ on' → AgreesOn u w (MapsOf its ∷ Redist t.vcpu ∷ [])
-      → Decided (MapsOf its ∷ Redist t.vcpu ∷ []) (sent t on) (sent t on') (signal_left u (sent t on)) (signal_left w (sent t on'))
+  sent_decided : (t : Target) (on on' : Bool) → on ≡ on' → AgreesOn u w (MapsOf its ∷ Pend t.vcpu ∷ [])
+      → Decided (MapsOf its ∷ Pend t.vcpu ∷ []) (sent t on) (sent t on') (signal_left u (sent t on)) (signal_left w (sent t on'))
   sent_decided t true true e a =
-      let after = agree_set (MapsOf its ∷ Redist t.vcpu ∷ []) u w t.intid.0 t.vcpu.0 (in_tail (Redist t.vcpu) (MapsOf its) (Redist t.vcpu ∷ [])
-      (in_head (Redist t.vcpu) [])) a in
+      let after = agree_set (MapsOf its ∷ Pend t.vcpu ∷ []) u w t.intid.0 t.vcpu.0 (in_tail (Pend t.vcpu) (MapsOf its) (Pend t.vcpu ∷ [])
+      (in_head (Pend t.vcpu) [])) a in
       (refl, after.parts)
   sent_decided t true false e a = absurd cc
   sent_decided t false true e a = absurd cc
@@ -76,10 +81,10 @@ module _ (u w : Plain) (its : ℕ) where
   found_decided : (found : Result Target Cause) → AgreesOn u w (parts_of_signal its found)
       → Decided (parts_of_signal its found) (signalled u found) (signalled w found) (signal_left u (signalled u found)) (signal_left w (signalled w found))
   found_decided (Ok t) a =
-      let listed : IsIn (Redist t.vcpu) (MapsOf its ∷ Redist t.vcpu ∷ []) = in_tail (Redist t.vcpu) (MapsOf its) (Redist t.vcpu ∷ [])
-      (in_head (Redist t.vcpu) []) in
+      let listed : IsIn (Pend t.vcpu) (MapsOf its ∷ Pend t.vcpu ∷ []) = in_tail (Pend t.vcpu) (MapsOf its) (Pend t.vcpu ∷ [])
+      (in_head (Pend t.vcpu) []) in
       sent_decided t (is_on u t.vcpu.0) (is_on w t.vcpu.0)
-      (ap (λ (r : Redistributor). r.bases.on) (redist_same u w (MapsOf its ∷ Redist t.vcpu ∷ []) t.vcpu.0 listed a)) a
+      (ap (λ (p : PendState). p.accepts) (pend_same u w (MapsOf its ∷ Pend t.vcpu ∷ []) t.vcpu.0 listed a)) a
   found_decided (Err cause) a = (refl, a.parts)
 
   signal_decided : (dev ev : ℕ) → AgreesOn u w (parts_of_signal its (located (translator u its) dev ev))
@@ -88,7 +93,7 @@ module _ (u w : Plain) (its : ℕ) where
   unfolding translated
   signal_decided dev ev a =
       let ps : List Part = parts_of_signal its (located (translator u its) dev ev) in
-      let here : IsIn (MapsOf its) ps = in_head (MapsOf its) (redist_of (option_map (λ t. t.vcpu) (result_ok (located (translator u its) dev ev)))) in
+      let here : IsIn (MapsOf its) ps = in_head (MapsOf its) (pend_at (option_map (λ t. t.vcpu) (result_ok (located (translator u its) dev ev)))) in
       subst (λ (t : Translator). Decided ps (signalled u (located (translator u its) dev ev)) (signalled w (located t dev ev))
       (signal_left u (signalled u (located (translator u its) dev ev))) (signal_left w (signalled w (located t dev ev))))
       (translator_same u w ps its here a) (found_decided (located (translator u its) dev ev) a)
@@ -155,20 +160,35 @@ module _ (u w : Plain) (i : ℕ) where
 
 -- ---- saves
 
+-- a redistributor is its two parts
+both_seen : (o p : Option Redistributor) → option_map conf_of o ≡ option_map conf_of p → option_map pend_of o ≡ option_map pend_of p → o ≡ p
+both_seen None None e f = refl
+both_seen None (Some r) e f = absurd cc
+both_seen (Some r) None e f = absurd cc
+both_seen (Some r) (Some s) e f =
+    let c : conf_of r ≡ conf_of s = cc in
+    let q : pend_of r ≡ pend_of s = cc in
+    (λ d. Some (joined (c d) (q d)))
+
 -- two states that have every part in common are the same
 whole : (u w : Plain) → AgreesOn u w (footprint u call.Save) → u ≡ w
 unfolding footprint
 whole u w a =
     let ts : List Part = translators_below (length u.translators) in
-    let rs : List Part = redists_below (length u.redistributors) in
+    let cs : List Part = confs_below (length u.redistributors) in
+    let qs : List Part = pends_below (length u.redistributors) in
+    let fs : List Part = ts ++ cs in
     let translators : u.translators ≡ w.translators =
     same_lists u.translators w.translators a.translators
     (λ i d low. same_or u.translators w.translators i d
-    (a.parts (MapsOf i) (in_tail (MapsOf i) Mem (ts ++ rs) (in_left (MapsOf i) ts rs (translator_below (length u.translators) i low))))) in
+    (a.parts (MapsOf i) (in_tail (MapsOf i) Mem (fs ++ qs)
+    (in_left (MapsOf i) fs qs (in_left (MapsOf i) ts cs (translator_below (length u.translators) i low)))))) in
     let redistributors : u.redistributors ≡ w.redistributors =
     same_lists u.redistributors w.redistributors a.redistributors (λ v d low. same_or u.redistributors w.redistributors v d
-    (a.parts (redist v) (in_tail (redist v) Mem (ts ++ rs) (in_right (redist v) ts rs (redist_below (length u.redistributors) v low))))) in
-    let both = a.parts Mem (in_head Mem (ts ++ rs)) in
+    (both_seen (slice_get u.redistributors v) (slice_get w.redistributors v)
+    (a.parts (conf v) (in_tail (conf v) Mem (fs ++ qs) (in_left (conf v) fs qs (in_right (conf v) ts cs (conf_below (length u.redistributors) v low)))))
+    (a.parts (pend v) (in_tail (pend v) Mem (fs ++ qs) (in_right (pend v) fs qs (pend_below (length u.redistributors) v low)))))) in
+    let both = a.parts Mem (in_head Mem (fs ++ qs)) in
     λ d. record { layout = a.layout d; translators = translators d; redistributors = redistributors d; memory = both.0 d; track = both.1 d }
 
 save_decided : (u w : Plain) → u ≡ w → Decided (footprint u call.Save) (save_reply (savable u)) (save_reply (savable w)) (save_left u (savable u))
@@ -217,27 +237,32 @@ route_decided u w addr bytes route.Poke a = poke_decided u w addr.0 bytes a
 route_decided u w addr bytes route.NoRequester a = (refl, a.parts)
 route_decided u w addr bytes route.Frame a = (refl, a.parts)
 
+-- ---- redistributors
+
+both_same : (u w : Plain) (v : Vcpu) → AgreesOn u w (redistributor_parts v) → redistributor u v.0 ≡ redistributor w v.0
+both_same u w v a = redist_same u w (redistributor_parts v) v.0 (conf_in_both v) (pend_in_both v) a
+
 -- ---- all calls
 
 pub decides : (u w : Plain) (c : Call) → AgreesOn u w (footprint u c) → (reply_of u c ≡ reply_of w c)
     × ((p : Part) → IsIn p (footprint u c) → SamePart (answer u c).1 (answer w c).1 p)
-unfolding footprint reply_of left written
+unfolding footprint reply_of left written written_gicr
 decides u w (call.Signal its dev ev) a = let d = signal_decided u w its dev.0 ev.0 a in (ap (λ (s : Signal). reply.Signal s) d.0, d.1)
 decides u w (call.Take vcpu) a =
-    let same : redistributor u vcpu.0 ≡ redistributor w vcpu.0 = redist_same u w (Redist vcpu ∷ []) vcpu.0 (in_head (Redist vcpu) []) a in
-    let after = agree_redist u w (Redist vcpu ∷ []) vcpu.0 (taken (redistributor u vcpu.0) (lowest (redistributor u vcpu.0)))
+    let same : redistributor u vcpu.0 ≡ redistributor w vcpu.0 = both_same u w vcpu a in
+    let after = agree_redist u w (redistributor_parts vcpu) vcpu.0 (taken (redistributor u vcpu.0) (lowest (redistributor u vcpu.0)))
     (taken (redistributor w vcpu.0) (lowest (redistributor w vcpu.0)))
     (ap (λ (r : Redistributor). taken r (lowest r)) same) a in
     (ap (λ (r : Redistributor). reply.Ack (ack_of r (lowest r))) same, after.parts)
 decides u w (call.Show vcpu) a =
-    let same : redistributor u vcpu.0 ≡ redistributor w vcpu.0 = redist_same u w (Redist vcpu ∷ []) vcpu.0 (in_head (Redist vcpu) []) a in
+    let same : redistributor u vcpu.0 ≡ redistributor w vcpu.0 = both_same u w vcpu a in
     (ap (λ (r : Redistributor). reply.Ack (ack_of r (lowest r))) same, a.parts)
 decides u w (call.Best vcpu mask) a =
-    let same : redistributor u vcpu.0 ≡ redistributor w vcpu.0 = redist_same u w (Redist vcpu ∷ []) vcpu.0 (in_head (Redist vcpu) []) a in
+    let same : redistributor u vcpu.0 ≡ redistributor w vcpu.0 = both_same u w vcpu a in
     (ap (λ (r : Redistributor). reply.Ack (ack_of r (best r mask))) same, a.parts)
 decides u w (call.Claim vcpu intid) a =
-    let same : redistributor u vcpu.0 ≡ redistributor w vcpu.0 = redist_same u w (Redist vcpu ∷ []) vcpu.0 (in_head (Redist vcpu) []) a in
-    let after = agree_redist u w (Redist vcpu ∷ []) vcpu.0 (taken (redistributor u vcpu.0) (claimed (redistributor u vcpu.0) intid.0))
+    let same : redistributor u vcpu.0 ≡ redistributor w vcpu.0 = both_same u w vcpu a in
+    let after = agree_redist u w (redistributor_parts vcpu) vcpu.0 (taken (redistributor u vcpu.0) (claimed (redistributor u vcpu.0) intid.0))
     (taken (redistributor w vcpu.0) (claimed (redistributor w vcpu.0) intid.0))
     (ap (λ (r : Redistributor). taken r (claimed r intid.0)) same) a in
     (ap (λ (r : Redistributor). reply.Ack (ack_of r (claimed r intid.0))) same, after.parts)
@@ -255,25 +280,20 @@ decides u w (call.WriteReg its off size value) a =
     (λ d. translator_written (a.layout d).shape (same d) (write_reg (same d).regs off size value)) a in
     (refl, after.parts)
 decides u w (call.ReadGicr vcpu off size) a =
-    let same : redistributor u vcpu.0 ≡ redistributor w vcpu.0 = redist_same u w (Redist vcpu ∷ []) vcpu.0 (in_head (Redist vcpu) []) a in (
-      ap (λ (r : Redistributor). reply.Value (if u.layout.gicr then read_gicr u.layout.shape.linux r.bases off size else 0)) same
-          ∙ ap (λ (l : Layout). reply.Value (if l.gicr then read_gicr l.shape.linux (redistributor w vcpu.0).bases off size else 0)) a.layout,
-      a.parts,
-    )
+    let same : conf_of (redistributor u vcpu.0) ≡ conf_of (redistributor w vcpu.0) = conf_same u w (Conf vcpu ∷ []) vcpu.0 (in_head (Conf vcpu) []) a in
+    ((λ d. reply.Value (if (a.layout d).gicr then read_gicr (a.layout d).shape.linux (same d).bases off size else 0)), a.parts)
 decides u w (call.WriteGicr vcpu off size value) a =
-    let ps : List Part = Mem ∷ Redist vcpu ∷ [] in
-    let same : redistributor u vcpu.0 ≡ redistributor w vcpu.0 = redist_same u w ps vcpu.0
-    (in_tail (Redist vcpu) Mem (Redist vcpu ∷ []) (in_head (Redist vcpu) [])) a in
-    let memory : u.memory ≡ w.memory = (a.parts Mem (in_head Mem (Redist vcpu ∷ []))).0 in
-    let after : (v : Plain) → Redistributor = λ v. written_gicr v.layout.shape v.memory (redistributor v vcpu.0) off size value in
-    let new : after u ≡ after w =
-    ap (λ (l : Layout). written_gicr l.shape u.memory (redistributor u vcpu.0) off size value) a.layout
-    ∙ ap (λ (m : List Window). written_gicr w.layout.shape m (redistributor u vcpu.0) off size value) memory
-    ∙ ap (λ (r : Redistributor). written_gicr w.layout.shape w.memory r off size value) same in (
+    let asked : GicrWrite = asked_by (redistributor u vcpu.0).bases off size value in
+    let ps : List Part = Conf vcpu ∷ write_parts vcpu asked in
+    let same : conf_of (redistributor u vcpu.0) ≡ conf_of (redistributor w vcpu.0) =
+    conf_same u w ps vcpu.0 (in_head (Conf vcpu) (write_parts vcpu asked)) a in
+    let other : asked ≡ asked_by (redistributor w vcpu.0).bases off size value = (λ d. asked_by (same d).bases off size value) in (
       refl,
-      alike_if u.layout.gicr w.layout.gicr ps (with_redistributor u vcpu.0 (after u)) (with_redistributor w vcpu.0 (after w)) u w
+      alike_if u.layout.gicr w.layout.gicr ps (done_at u vcpu asked) (done_at w vcpu (asked_by (redistributor w vcpu.0).bases off size value)) u w
           (ap (λ (l : Layout). l.gicr) a.layout)
-          (agree_redist u w ps vcpu.0 (after u) (after w) new a).parts a.parts,
+          (subst (λ (x : GicrWrite). (p : Part) → IsIn p ps → SamePart (done_at u vcpu asked) (done_at w vcpu x) p) other
+          (done_alike u w vcpu asked a).parts)
+          a.parts,
     )
 decides u w (call.Step its) a = let d = step_decided u w its a in (ap (λ (s : StepReply). reply.Step s) d.0, d.1)
 decides u w call.Save a = save_decided u w (whole u w a)

@@ -7,12 +7,12 @@ use Rattle.its_types.specs.declared.ids.Target.{Target}
 use Rattle.its_types.specs.declared.machine.Part.{Part}
 use Rattle.its_types.specs.declared.machine.Part.TheVariants.{Maps as MapsOf, Mem}
 use Rattle.its_plain.specs.Plain.{Plain}
-use Rattle.its_plain.specs.Parts.{redist_of, needed}
+use Rattle.its_plain.specs.Parts.{pend_at, needed}
 use Rattle.its_plain.specs.declared.call.Cause.{Cause}
 
 -- where a translator's maps send the event
 abbrev pub parts_of_signal : ℕ → Result Target Cause → List Part
-parts_of_signal its found = MapsOf its ∷ redist_of (option_map (λ t. t.vcpu) (result_ok found))
+parts_of_signal its found = MapsOf its ∷ pend_at (option_map (λ t. t.vcpu) (result_ok found))
 
 -- the bytes of the next command
 abbrev pub needed_at : Plain → ℕ → Option (List ℕ) → List Part

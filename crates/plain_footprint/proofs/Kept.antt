@@ -45,7 +45,7 @@ with_ok Q P (Err e) f q h = tt
 -- ---- pending sets leave LPIs on or off
 
 on_set : (rs : List Redistributor) (v k : ℕ) (pending : List ℕ)
-    → (get_or (set rs v (record (get_or rs v no_redistributor) { pending = pending })) k no_redistributor).bases.on ≡ (get_or rs k no_redistributor).bases.on
+    → (get_or (set rs v (record (get_or rs v no_redistributor) { pending = pending })) k no_redistributor).accepts ≡ (get_or rs k no_redistributor).accepts
 on_set [] v k pending = refl
 on_set (r ∷ rs) zero zero pending = refl
 on_set (r ∷ rs) zero (suc k) pending = refl

@@ -6,6 +6,7 @@ pub mod Footprints
 pub mod OtherParts
 pub mod Alike
 pub mod AlikeRan
+pub mod Writes
 pub mod Decided
 pub mod SameParts
 pub mod Refused

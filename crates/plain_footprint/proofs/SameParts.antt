@@ -9,31 +9,32 @@ use Rattle.its_command.specs.declared.command.Command.{Command}
 use Rattle.its_command.specs.declared.command.Command.TheVariants as command
 use Rattle.its_types.specs.Maps.{Maps, collection_of}
 use Rattle.its_types.specs.declared.machine.Part.{Part}
-use Rattle.its_types.specs.declared.machine.Part.TheVariants.{Maps as MapsOf, Mem}
-use Rattle.its_plain.specs.Plain.{Plain, Translator, translator, maps_of}
+use Rattle.its_types.specs.declared.machine.Part.TheVariants.{Maps as MapsOf, Mem, Conf}
+use Rattle.gicr_regs.specs.Registers.{asked_by}
+use Rattle.its_plain.specs.Plain.{Plain, Translator, ConfState, translator, redistributor, maps_of}
 use Rattle.its_plain.specs.declared.layout.Layout.{Layout}
 use Rattle.its_plain.specs.Translation.{located}
 use Rattle.its_plain.specs.Answer.{is_idle, next_bytes}
-use Rattle.its_plain.specs.Parts.{AgreesOn, translators_below, redists_below, redist_of, target_of_event, moved_targets, both_targets, needed, signal_parts}
-use Rattle.its_plain.specs.Parts.{route_parts, footprint}
+use Rattle.its_plain.specs.Parts.{AgreesOn, translators_below, confs_below, pends_below, pend_at, target_of_event, moved_targets, both_targets, needed}
+use Rattle.its_plain.specs.Parts.{signal_parts, route_parts, write_parts, footprint}
 use Rattle.its_plain.specs.declared.call.Call.{Call}
 use Rattle.its_plain.specs.declared.call.Call.TheVariants as call
 use Rattle.its_plain.specs.declared.call.Route.{Route}
 use Rattle.its_plain.specs.declared.call.Route.TheVariants as route
 use Rattle.plain_footprint.proofs.Footprints.{needed_at}
-use Rattle.plain_footprint.proofs.Alike.{translator_same}
+use Rattle.plain_footprint.proofs.Alike.{translator_same, conf_same}
 use Rattle.plain_footprint.proofs.Listed.{in_head, in_tail}
 
 module _ (u w : Plain) (i : ℕ) (layout : u.layout ≡ w.layout) (maps : maps_of u i ≡ maps_of w i) where
-  every : redists_below u.layout.shape.vcpus ≡ redists_below w.layout.shape.vcpus
-  every = ap (λ (l : Layout). redists_below l.shape.vcpus) layout
+  every : confs_below u.layout.shape.vcpus ≡ confs_below w.layout.shape.vcpus
+  every = ap (λ (l : Layout). confs_below l.shape.vcpus) layout
 
-  targeted : (dev ev : ℕ) → redist_of (target_of_event (maps_of u i) dev ev) ≡ redist_of (target_of_event (maps_of w i) dev ev)
-  targeted dev ev = ap (λ (m : Maps). redist_of (target_of_event m dev ev)) maps
+  targeted : (dev ev : ℕ) → pend_at (target_of_event (maps_of u i) dev ev) ≡ pend_at (target_of_event (maps_of w i) dev ev)
+  targeted dev ev = ap (λ (m : Maps). pend_at (target_of_event m dev ev)) maps
 
   needed_alike : (c : Command) → needed u i c ≡ needed w i c
   unfolding needed
-  needed_alike (command.Movi dev ev icid) = ap (λ (m : Maps). redist_of (target_of_event m dev.0 ev.0) ++ redist_of (collection_of m icid.0)) maps
+  needed_alike (command.Movi dev ev icid) = ap (λ (m : Maps). pend_at (target_of_event m dev.0 ev.0) ++ pend_at (collection_of m icid.0)) maps
   needed_alike (command.Int dev ev) = targeted dev.0 ev.0
   needed_alike (command.Clear dev ev) = targeted dev.0 ev.0
   needed_alike (command.Discard dev ev) = targeted dev.0 ev.0
@@ -54,8 +55,8 @@ module _ (u w : Plain) (i : ℕ) (layout : u.layout ≡ w.layout) (maps : maps_o
 
 signal_alike : (u w : Plain) (its dev ev : ℕ) → AgreesOn u w (signal_parts u its dev ev) → signal_parts u its dev ev ≡ signal_parts w its dev ev
 signal_alike u w its dev ev a =
-    let ps : List Part = redist_of (option_map (λ t. t.vcpu) (result_ok (located (translator u its) dev ev))) in
-    ap (λ (t : Translator). MapsOf its ∷ redist_of (option_map (λ t. t.vcpu) (result_ok (located t dev ev))))
+    let ps : List Part = pend_at (option_map (λ t. t.vcpu) (result_ok (located (translator u its) dev ev))) in
+    ap (λ (t : Translator). MapsOf its ∷ pend_at (option_map (λ t. t.vcpu) (result_ok (located t dev ev))))
     (translator_same u w (MapsOf its ∷ ps) its (in_head (MapsOf its) ps) a)
 
 route_alike : (u w : Plain) (to : Route) → AgreesOn u w (route_parts u to) → route_parts u to ≡ route_parts w to
@@ -76,7 +77,10 @@ same_parts u w (call.Peek addr count) a = refl
 same_parts u w (call.ReadReg its off size) a = refl
 same_parts u w (call.WriteReg its off size value) a = refl
 same_parts u w (call.ReadGicr vcpu off size) a = refl
-same_parts u w (call.WriteGicr vcpu off size value) a = refl
+same_parts u w (call.WriteGicr vcpu off size value) a =
+    let rest : List Part = write_parts vcpu (asked_by (redistributor u vcpu.0).bases off size value) in
+    ap (λ (c : ConfState). Conf vcpu ∷ write_parts vcpu (asked_by c.bases off size value))
+    (conf_same u w (Conf vcpu ∷ rest) vcpu.0 (in_head (Conf vcpu) rest) a)
 same_parts u w (call.Step its) a =
     let rest : List Part = (if is_idle u its then [] else needed_at u its (next_bytes u its)) in
     let ps : List Part = Mem ∷ rest in
@@ -89,4 +93,4 @@ same_parts u w (call.Step its) a =
     (λ d. MapsOf its ∷ Mem ∷ (if idle d then [] else more d))
 same_parts u w call.Copy a = refl
 same_parts u w (call.Dma req addr bytes to) a = route_alike u w to a
-same_parts u w call.Save a = (λ d. Mem ∷ translators_below (a.translators d) ++ redists_below (a.redistributors d))
+same_parts u w call.Save a = (λ d. Mem ∷ translators_below (a.translators d) ++ confs_below (a.redistributors d) ++ pends_below (a.redistributors d))

@@ -1,5 +1,5 @@
 -- Writes of the LPI registers of a redistributor.
-use Rattle.std.proofs.Common.{◌≡◌, ℕ, zero, suc, ◌+◌, ◌<◌, ◌≤◌, ◌^◌, Bool, true, false, ◌||◌, ◌==◌, if◌then◌else◌, List, refl, subst, ◌∙◌, arith}
+use Rattle.std.proofs.Common.{◌≡◌, ℕ, zero, suc, ◌+◌, ◌<◌, ◌≤◌, ◌^◌, Bool, true, false, ◌||◌, ◌==◌, if◌then◌else◌, List, refl, sym, subst, ◌∙◌, arith}
 use Rattle.std.proofs.Math.Nat.{pow-le-pow_right}
 use Rattle.std.specs.List.{range_with_len, AllByRecursion}
 use Rattle.std.specs.List.Sorted.{IsStrictlyIncreasing}
@@ -93,6 +93,7 @@ module _ (l : Layout) (memory : List Window) (v : ℕ) (programmed : l.gicr ≡ 
     rising = h.rising;
     lpis = h.lpis;
     config = h.config;
+    accepts = h.accepts ∙ off.0 ∙ sym off.1;
     tables = λ on. absurd (both_ways b.on off.1 on);
     off_pending = λ _. h.off_pending off.0;
     off_config = λ _. h.off_config off.0;
@@ -119,6 +120,7 @@ module _ (l : Layout) (memory : List Window) (v : ℕ) (programmed : l.gicr ≡ 
         lpis = set.all;
         config = config_read r.config (lpi_count l.shape.lpi_bits) (read_at memory r.bases.prop.table.0 (lpi_count l.shape.lpi_bits)) h.config
             (length-read_at memory r.bases.prop.table.0 (lpi_count l.shape.lpi_bits));
+        accepts = refl;
         tables = λ _. record { config = tables.0; pending = tables.1 };
         off_pending = λ off. absurd cc;
         off_config = λ off. absurd cc;
@@ -138,6 +140,7 @@ module _ (l : Layout) (memory : List Window) (v : ℕ) (programmed : l.gicr ≡ 
     rising = (no_set (λ _. Unit {0})).rising;
     lpis = tt;
     config = length-replicate (lpi_count l.shape.lpi_bits) 0;
+    accepts = refl;
     tables = λ on. absurd cc;
     off_pending = λ _. refl;
     off_config = λ _. refl;

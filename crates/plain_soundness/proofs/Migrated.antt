@@ -15,7 +15,7 @@ use Rattle.dirty_log.specs.declared.tracked.Tracked.{Tracked}
 use Rattle.dirty_log.proofs.Tracks.{marked_keeps, untouched_is}
 use Rattle.baser_place.specs.Places.{entry_address}
 use Rattle.its_types.specs.Ranges.{lpi_count}
-use Rattle.its_plain.specs.Plain.{Plain, Redistributor}
+use Rattle.its_plain.specs.Plain.{Plain, Redistributor, conf_of, with_conf}
 use Rattle.its_plain.specs.declared.layout.Layout.{Layout}
 use Rattle.its_plain.specs.Sound.{IsSound, IsRedistributor}
 use Rattle.its_plain.specs.Answer.{save_left, left}
@@ -83,10 +83,11 @@ pub reloaded_sound : (l : Layout) (memory : List Window) (v : ℕ) (r : Redistri
 reloaded_sound l memory v r h =
     let n : ℕ = lpi_count l.shape.lpi_bits in
     let read : Option (List ℕ) = read_at memory r.bases.prop.table.0 n in
-    cond_both r.bases.on (record r { config = unwrap_or read r.config }) r (IsRedistributor l memory v) (λ on. record {
+    cond_both r.bases.on (record (conf_of r) { config = unwrap_or read r.config }) (conf_of r) (λ c. IsRedistributor l memory v (with_conf c r)) (λ on. record {
       rising = h.rising;
       lpis = h.lpis;
       config = config_read r.config n read h.config (length-read_at memory r.bases.prop.table.0 n);
+      accepts = h.accepts;
       tables = h.tables;
       off_pending = h.off_pending;
       off_config = λ off. absurd (both_ways r.bases.on off on);

@@ -3,16 +3,12 @@ use Rattle.std.proofs.Common.{◌≡◌, ℕ, ◌+◌, ◌-◌, true, List, [], 
 use Rattle.std.proofs.lemmas.Bool.{both_ways, cond_both}
 use Rattle.guest_windows.specs.Windows.{Window, byte_at}
 use Rattle.its_types.specs.Lpis.{with_config_byte}
-use Rattle.its_plain.specs.Plain.{Plain, Redistributor}
+use Rattle.gicr_regs.specs.Redistributors.{conf_with_byte}
+use Rattle.its_plain.specs.Plain.{Plain, Redistributor, conf_of, with_conf}
 use Rattle.its_plain.specs.declared.layout.Layout.{Layout}
 use Rattle.its_plain.specs.Sound.{IsSound, IsRedistributor}
-use Rattle.its_plain.specs.Commands.{reread, reread_at, all_reread_at}
+use Rattle.its_plain.specs.Commands.{reread, reread_at, all_reread_at, conf_reread_at}
 use Rattle.plain_soundness.proofs.States.{redistributors_mapped}
-
--- with the byte that was read
-abbrev with_read : ℕ → Redistributor → Option ℕ → Redistributor
-with_read intid r None = r
-with_read intid r (Some byte) = record r { config = with_config_byte r.config intid byte }
 
 module _ (l : Layout) (memory : List Window) (v : ℕ) where
   -- another byte, where LPIs are on
@@ -22,6 +18,7 @@ module _ (l : Layout) (memory : List Window) (v : ℕ) where
     rising = h.rising;
     lpis = h.lpis;
     config = length-set r.config (intid - 8192) byte ∙ h.config;
+    accepts = h.accepts;
     tables = h.tables;
     off_pending = h.off_pending;
     off_config = λ off. absurd (both_ways r.bases.on off on);
@@ -31,14 +28,15 @@ module _ (l : Layout) (memory : List Window) (v : ℕ) where
   }
 
   read_sound : (r : Redistributor) (intid : ℕ) (read : Option ℕ) → r.bases.on ≡ true → IsRedistributor l memory v r
-      → IsRedistributor l memory v (with_read intid r read)
+      → IsRedistributor l memory v (with_conf (conf_with_byte intid (conf_of r) read) r)
   read_sound r intid None on h = h
   read_sound r intid (Some byte) on h = byte_replaced r intid byte on h
 
   pub reread_at_sound : (r : Redistributor) (intid : ℕ) → IsRedistributor l memory v r → IsRedistributor l memory v (reread_at memory intid r)
-  unfolding reread_at
+  unfolding conf_reread_at
   reread_at_sound r intid h =
-      cond_both r.bases.on _ r (IsRedistributor l memory v) (λ on. read_sound r intid (byte_at memory (r.bases.prop.table.0 + (intid - 8192))) on h) (λ _. h)
+      cond_both r.bases.on _ (conf_of r) (λ c. IsRedistributor l memory v (with_conf c r))
+      (λ on. read_sound r intid (byte_at memory (r.bases.prop.table.0 + (intid - 8192))) on h) (λ _. h)
 
   all_reread_at_sound : (intids : List ℕ) (r : Redistributor) → IsRedistributor l memory v r → IsRedistributor l memory v (all_reread_at memory intids r)
   all_reread_at_sound [] r h = h

@@ -120,7 +120,7 @@ pending_set u v h =
 pub none_pending : (u : Plain) (v : ℕ) → IsSound u → is_on u v ≡ false → pending_of u v ≡ []
 none_pending u v h off =
     elim (cases_lt v (length u.redistributors)) [
-      | inl within ↦ (redistributor_sound u v h within).off_pending off
+      | inl within ↦ let r = redistributor_sound u v h within in r.off_pending (sym r.accepts ∙ off)
       | inr past ↦ ap (λ (r : Redistributor). r.pending) (get_or_past u.redistributors v no_redistributor past)
     ]
 
@@ -132,8 +132,9 @@ pending_replaced u v pending h set none =
       rising = set.rising;
       lpis = set.all;
       config = r.config;
+      accepts = r.accepts;
       tables = r.tables;
-      off_pending = none;
+      off_pending = λ off. none (r.accepts ∙ off);
       off_config = r.off_config;
       kept = r.kept;
       described = r.described;
@@ -143,7 +144,7 @@ pending_replaced u v pending h set none =
 -- a pending set says nothing of where LPIs are on
 pub same_on : (u : Plain) (v w : ℕ) (pending : List ℕ) → is_on (with_pending u v pending) w ≡ is_on u w
 same_on u v w pending =
-    same_after_set (λ (r : Redistributor). r.bases.on) u.redistributors v w (record (redistributor u v) { pending = pending }) no_redistributor refl
+    same_after_set (λ (r : Redistributor). r.accepts) u.redistributors v w (record (redistributor u v) { pending = pending }) no_redistributor refl
 
 -- ---- memory
 
@@ -159,6 +160,7 @@ redistributor_kept l now before v r same h = record {
   rising = h.rising;
   lpis = h.lpis;
   config = h.config;
+  accepts = h.accepts;
   tables = λ on. tables_kept l.shape now before r.bases same (h.tables on);
   off_pending = h.off_pending;
   off_config = h.off_config;

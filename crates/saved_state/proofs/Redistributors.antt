@@ -13,7 +13,8 @@ use Rattle.baser_place.specs.Places.{entry_address}
 use Rattle.its_types.specs.Bits.{bit_of}
 use Rattle.its_types.specs.Lpis.{is_pending, pending_byte}
 use Rattle.its_types.specs.Ranges.{is_lpi, lpi_count, pending_bytes}
-use Rattle.its_plain.specs.Plain.{Plain, Redistributor}
+use Rattle.gicr_regs.specs.Redistributors.{config_in}
+use Rattle.its_plain.specs.Plain.{Plain, Redistributor, conf_of, with_conf}
 use Rattle.its_plain.specs.Sound.{IsSound, IsRedistributor}
 use Rattle.its_plain.specs.Saved.{words_of, saved, pending_word, reloaded, moved, IsSavable}
 use Rattle.its_plain.specs.Stands.{is_set, ArePendingIn, IsRedistributorIn}
@@ -112,6 +113,7 @@ module _ (u : Plain) (v : ℕ) (r : Redistributor) (sound : IsSound u) (savable 
       (record r { config = unwrap_or (read_at (saved u) r.bases.prop.table.0 (lpi_count u.layout.shape.lpi_bits)) r.config })
   when_on on = record {
     bases = refl;
+    accepts = fits.accepts;
     config = λ _.
         some_is (read_at (saved u) r.bases.prop.table.0 (lpi_count u.layout.shape.lpi_bits)) r.config
         (is_some-read_at (saved u) r.bases.prop.table.0 (lpi_count u.layout.shape.lpi_bits) ∙ saved_inside u r.bases.prop.table.0
@@ -124,6 +126,7 @@ module _ (u : Plain) (v : ℕ) (r : Redistributor) (sound : IsSound u) (savable 
   when_off : r.bases.on ≡ false → IsRedistributorIn u.layout.shape (saved u) r.bases r
   when_off off = record {
     bases = refl;
+    accepts = fits.accepts;
     config = λ on. absurd (let two : true ≡ false = sym on ∙ off in cc);
     pending = λ on. absurd (let two : true ≡ false = sym on ∙ off in cc);
     off_config = λ _. fits.off_config off;
@@ -132,8 +135,8 @@ module _ (u : Plain) (v : ℕ) (r : Redistributor) (sound : IsSound u) (savable 
 
   stands : IsRedistributorIn u.layout.shape (saved u) r.bases (reloaded u.layout.shape (saved u) r)
   stands =
-      cond_both r.bases.on (record r { config = unwrap_or (read_at (saved u) r.bases.prop.table.0 (lpi_count u.layout.shape.lpi_bits)) r.config }) r
-      (IsRedistributorIn u.layout.shape (saved u) r.bases) when_on when_off
+      cond_both r.bases.on (record (conf_of r) { config = config_in u.layout.shape (saved u) (conf_of r) }) (conf_of r)
+      (λ c. IsRedistributorIn u.layout.shape (saved u) r.bases (with_conf c r)) when_on when_off
 
 pub redistributors_stand : RedistributorsStand
 redistributors_stand u v r sound savable at = stands u v r sound savable at

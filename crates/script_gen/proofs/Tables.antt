@@ -148,7 +148,7 @@ bases_listed (r ∷ rs) (b ∷ bs) count h =
 
 -- no more than that is asked for
 abbrev idle : Bases → Redistributor
-idle b = record { bases = b; pending = []; config = [] }
+idle b = record { bases = b; pending = []; accepts = b.on; config = [] }
 
 pending_by_bases : (v : ℕ) (rs : List Redistributor)
     → areas_from (pending_area shape) v rs ≡ areas_from (pending_area shape) v (map idle (map (λ r. r.bases) rs))

@@ -102,16 +102,17 @@ redistributors_alike : (s : Shape) (memory : List Window) (b : Bases) (q r : Red
     → q ≡ r
 redistributors_alike s memory b q r x y =
     let bases : q.bases ≡ r.bases = x.bases ∙ sym y.bases in
+    let accepts : q.accepts ≡ r.accepts = x.accepts ∙ sym y.accepts in
     elim b.on as (λ t. b.on ≡ t → q ≡ r) [
       | true ↦ λ on.
           let config : q.config ≡ r.config = (let two : Some q.config ≡ Some r.config = sym (x.config on) ∙ y.config on in cc) in
           let pending : q.pending ≡ r.pending = same_set q.pending r.pending (x.pending on).rising (y.pending on).rising
           (λ z. (x.pending on).are z ∙ sym ((y.pending on).are z)) in
-          λ i. record { bases = bases i; pending = pending i; config = config i }
+          λ i. record { bases = bases i; pending = pending i; accepts = accepts i; config = config i }
       | false ↦ λ off.
           let config : q.config ≡ r.config = x.off_config off ∙ sym (y.off_config off) in
           let pending : q.pending ≡ r.pending = x.off_pending off ∙ sym (y.off_pending off) in
-          λ i. record { bases = bases i; pending = pending i; config = config i }
+          λ i. record { bases = bases i; pending = pending i; accepts = accepts i; config = config i }
     ] refl
 
 -- ---- maps

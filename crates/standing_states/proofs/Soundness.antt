@@ -258,6 +258,7 @@ redistributor_sound l memory bases v b r kept clear at a =
         | true ↦ λ on. length-read_at memory b.prop.table.0 (lpi_count l.shape.lpi_bits) r.config (a.config on)
         | false ↦ λ off. ap length (a.off_config off) ∙ length-replicate (lpi_count l.shape.lpi_bits) 0
       ] refl;
+      accepts = a.accepts ∙ sym on_is;
       tables = λ on. subst (HasTables l.shape memory) (sym a.bases) (has_tables l.shape memory b (clear v b at) (sym on_is ∙ on));
       off_pending = λ off. a.off_pending (sym on_is ∙ off);
       off_config = λ off. a.off_config (sym on_is ∙ off);

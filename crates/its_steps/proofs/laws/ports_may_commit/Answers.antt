@@ -1,5 +1,5 @@
 use Rattle.its_steps.proofs.Ports.{takes, shows, bests, claims, pokes, peeks, dmas, nothings, copies, reads, writes, rises}
-use Rattle.its_steps.proofs.Gicr.{gicrs, turns_off}
+use Rattle.its_steps.proofs.Gicr.{confs, rereads, turn_offs, gicrs, turns_off}
 use Rattle.its_steps.proofs.Saves.{saves}
 use Rattle.its_steps.proofs.laws.ports_may_commit.Goals as goal
 
@@ -14,6 +14,9 @@ returns c = record {
   dma = dmas;
   nothing = nothings;
   copy = copies;
+  conf = confs;
+  reread = rereads;
+  turn_off = turn_offs;
   gicr = gicrs;
   off = turns_off;
   read = reads;

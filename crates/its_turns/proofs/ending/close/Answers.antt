@@ -3,20 +3,23 @@ use Rattle.std.specs.Slots.{slots_items, slots_filled, slots_len}
 use mathlib.Core.Option.{some}
 use lib.ListN.{get_elem?}
 use Rattle.atomic_table.specs.Table.{Final, Seen}
+use Rattle.its_types.specs.declared.ids.Vcpu.{Vcpu}
 use Rattle.its_types.specs.declared.machine.Part.TheVariants as part
+use Rattle.lpi_config.specs.declared.conf.Conf.{Conf as ConfInHand}
+use Rattle.lpi_pending.specs.declared.pend.Pend.{Pend as PendInHand}
 use Rattle.its_plain.specs.History.{after}
 use Rattle.its_plain.specs.declared.layout.Layout.{Layout}
 use Rattle.its_steps.specs.Parts.{index_of, translator_count, vcpu_count}
-use Rattle.owned_parts.specs.Owned.{translator_of}
+use Rattle.owned_parts.specs.Owned.{translator_of, IsConfOf, IsPendOf}
 use Rattle.owned_parts.specs.declared.parts.Translator.{Translator as TranslatorInHand}
 use Rattle.its_turns.specs.Closed.{AreTaken, AreBelow, HasTranslatorAt, IsTranslatorAt}
 use Rattle.its_turns.specs.declared.value.Value.{Value}
-use Rattle.its_turns.specs.declared.value.Value.TheVariants.{Maps}
+use Rattle.its_turns.specs.declared.value.Value.TheVariants.{Maps, Conf as ConfValue, Pend as PendValue}
 use Rattle.its_turns.specs.Machines.{setup, view}
 use Rattle.its_turns.specs.Rule.{Kept}
 use Rattle.its_turns.proofs.Closing.{closes, stands_last}
-use Rattle.its_turns.proofs.Ended.{is_maps, is_mem, is_redist, maps_there, no_mem, no_redist, one_more_below, none_below, each_of, each_second}
-use Rattle.its_turns.proofs.Ended.{all_translators, IsMem, IsRedist}
+use Rattle.its_turns.proofs.Ended.{is_maps, is_mem, is_conf, is_pend, maps_there, conf_there, pend_there, no_mem, one_more_below, none_below, each_of}
+use Rattle.its_turns.proofs.Ended.{each_second, all_translators, conf_is, pend_is, IsMem}
 use Rattle.its_turns.proofs.Stamps.{some_count, has_stamps}
 use Rattle.its_turns.proofs.ending.close.Goals as goal
 
@@ -43,18 +46,6 @@ unreachable-requires c = let m = c.args.machine in let p = c.args.root in let s 
     c.take_part.result tt there in
     no_mem u c.take_part.result (is_mem s (view p).last u c.take_part.result l.content l.content_is l.right) c.in_default.not-Mem
 
-pub unreachable-requires-in_default-take_part : goal.unreachable-requires-in_default-take_part
-unreachable-requires-in_default-take_part c = let m = c.args.machine in let p = c.args.root in let s = setup m in let l = c.loop-vcpu in let u =
-    after s.start (view p).seen in
-    let vcpus : m.desc.shape.vcpus ≡ vcpu_count s = ap (λ (l : Layout). l.shape.vcpus) m.built.1 ∙ ap (λ (l : Layout). l.shape.vcpus) m.built.0 in
-    let z = closes s m.table.shared.table_id.slots p.seat.id p.seat.me p.live _ _ l.invariant.1 c.requires.lone c.requires.free
-    (part.Redist (record { 0 = l.vcpu })) c.take_part-in-loop-vcpu.result (omega (arith, c.loop-vcpu-test.true, vcpus))
-    (let same : 8 * (m.first_redist + c.from-in-loop-vcpu.result) ≡ 8 * index_of s (part.Redist (record { 0 = l.vcpu })) =
-    omega (arith, m.ordered.2, c.from-in-loop-vcpu.ensures) in
-    ap (get_elem? (slots_items l.closed.slots)) (sym same) ∙ c.take_part-in-loop-vcpu.ensures.value) in
-    let r = is_redist s (view p).last u (record { 0 = l.vcpu }) c.take_part-in-loop-vcpu.result z.content z.content_is z.fit z.right in
-    no_redist s u l.vcpu c.take_part-in-loop-vcpu.result r c.in_default-take_part.not-Redist
-
 pub loop-shard-init : goal.loop-shard-init
 loop-shard-init c = let m = c.args.machine in let p = c.args.root in let s = setup m in
     let t0 = c.take_translator-first in let t1 = c.take_second-second in let t2 = c.take_part in let closed = c.close_with-closed.ensures in
@@ -77,36 +68,89 @@ loop-shard-preserved c = let p = c.args.root in let s = setup c.args.machine in 
     )
 
 pub loop-vcpu-init : goal.loop-vcpu-init
-loop-vcpu-init c = let m = c.args.machine in let p = c.args.root in let s = setup m in let l = c.loop-shard in
-    let all : 8 * l.shard ≡ 8 * (m.first_redist + 0) = omega (arith, l.auto.shard-end, c.loop-shard-test.false) in (
+loop-vcpu-init c = let m = c.args.machine in let p = c.args.root in let s = setup m in let l = c.loop-shard in let u = after s.start (view p).seen in
+    let all : 8 * l.shard ≡ 8 * (m.first_conf + 0) = omega (arith, l.auto.shard-end, c.loop-shard-test.false) in (
       subst (λ (n : ℕ). AreTaken n (slots_len l.closed.slots) (slots_filled l.closed.slots)) all l.invariant.0,
       l.invariant.1,
       l.invariant.2,
-      none_below (after s.start (view p).seen) m.places m.bare,
+      none_below (IsConfOf u) m.places.confs m.bare.0,
+      none_below (IsPendOf u) m.places.pends m.bare.1,
     )
+
+pub take_conf-conf-requires-clause-there : goal.take_conf-conf-requires-clause-there
+take_conf-conf-requires-clause-there c = let m = c.args.machine in let p = c.args.root in let s = setup m in let l = c.loop-vcpu in let u = after s.start (view p).seen in
+    let vcpus : m.desc.shape.vcpus ≡ vcpu_count s = ap (λ (l : Layout). l.shape.vcpus) m.built.1 ∙ ap (λ (l : Layout). l.shape.vcpus) m.built.0 in
+    let v : Vcpu = record { 0 = l.vcpu } in
+    let z = stands_last s m.table.shared.table_id.slots p.seat.id p.seat.me p.live _ _ l.invariant.1 c.requires.lone c.requires.free (part.Conf v)
+    (omega (arith, c.loop-vcpu-test.true, vcpus)) in
+    let same : index_of s (part.Conf v) ≡ m.first_conf + c.from-in-loop-vcpu.result = omega (arith, m.ordered.2, m.ordered.3, c.from-in-loop-vcpu.ensures) in
+    conf_there s u l.vcpu (m.first_conf + c.from-in-loop-vcpu.result) (slots_items l.closed.slots) z.0 (ap (λ (n : ℕ). get_elem? (slots_items l.closed.slots) (8 * n)) (sym same) ∙ z.1)
+    (is_conf s (view p).last u v z.0 z.2.content z.2.content_is z.2.fit z.2.right)
 
 pub loop-vcpu-preserved : goal.loop-vcpu-preserved
 loop-vcpu-preserved c = let m = c.args.machine in let p = c.args.root in let s = setup m in let l = c.loop-vcpu in let u = after s.start (view p).seen in
     let vcpus : m.desc.shape.vcpus ≡ vcpu_count s = ap (λ (l : Layout). l.shape.vcpus) m.built.1 ∙ ap (λ (l : Layout). l.shape.vcpus) m.built.0 in
-    let z = closes s m.table.shared.table_id.slots p.seat.id p.seat.me p.live _ _ l.invariant.1 c.requires.lone c.requires.free
-    (part.Redist (record { 0 = l.vcpu })) c.take_part-in-loop-vcpu.result (omega (arith, c.loop-vcpu-test.true, vcpus))
-    (let same : 8 * (m.first_redist + c.from-in-loop-vcpu.result) ≡ 8 * index_of s (part.Redist (record { 0 = l.vcpu })) =
-    omega (arith, m.ordered.2, c.from-in-loop-vcpu.ensures) in
-    ap (get_elem? (slots_items l.closed.slots)) (sym same) ∙ c.take_part-in-loop-vcpu.ensures.value) in
-    let r = is_redist s (view p).last u (record { 0 = l.vcpu }) c.take_part-in-loop-vcpu.result z.content z.content_is z.fit z.right in
-    let both = subst (IsRedist s u l.vcpu) c.in-Redist.is r in
-    let words = ap (λ w. slots_items w) (sym c.take_part-in-loop-vcpu.ensures.words) in
-    let items = sym c.take_part-in-loop-vcpu.ensures.items in
-    let next : 8 * (m.first_redist + c.from-in-loop-vcpu.result) + 8 ≡ 8 * (m.first_redist + (l.vcpu + 1)) = omega (arith, c.from-in-loop-vcpu.ensures) in (
-      subst (λ (n : ℕ). AreTaken n (slots_len c.take_part-in-loop-vcpu.new.closed.slots) (slots_filled c.take_part-in-loop-vcpu.new.closed.slots)) next
-          c.take_part-in-loop-vcpu.ensures.front,
+    let v : Vcpu = record { 0 = l.vcpu } in
+    let t = c.take_conf-conf in
+    let same : m.first_conf + c.from-in-loop-vcpu.result ≡ index_of s (part.Conf v) = omega (arith, m.ordered.2, m.ordered.3, c.from-in-loop-vcpu.ensures) in
+    let z = closes s m.table.shared.table_id.slots p.seat.id p.seat.me p.live _ _ l.invariant.1 c.requires.lone c.requires.free (part.Conf v)
+    (ConfValue t.result) (omega (arith, c.loop-vcpu-test.true, vcpus)) (ap (λ (n : ℕ). get_elem? (slots_items l.closed.slots) (8 * n)) (sym same) ∙ t.ensures.conf) in
+    let both = is_conf s (view p).last u v (ConfValue t.result) z.content z.content_is z.fit z.right in
+    let words = ap (λ w. slots_items w) (sym t.ensures.words) in
+    let items = sym t.ensures.items in
+    let next : 8 * (m.first_conf + c.from-in-loop-vcpu.result) + 8 ≡ 8 * (m.first_conf + (l.vcpu + 1)) = omega (arith, c.from-in-loop-vcpu.ensures) in (
+      subst (λ (n : ℕ). AreTaken n (slots_len t.new.closed.slots) (slots_filled t.new.closed.slots)) next t.ensures.front,
       subst (λ (x : List ℕ × List Value). Final (Seen (Kept s) p.seat.id (view p)) x.0 x.1) (λ d. (words d, items d)) l.invariant.1,
-      search rules,
-      rw (c.place.ensures.placed) (one_more_below s u l.vcpu l.redists c.in-Redist.redist.value z.machine (search rules) l.invariant.3 both.0 both.1),
+      t.ensures.length ∙ l.invariant.2,
+      rw (c.place_conf.ensures.placed) (one_more_below (IsConfOf u) l.vcpu l.redists.confs t.result.value (search rules) l.invariant.3
+          (conf_is s u l.vcpu t.result.value z.machine both.0 both.1)),
+      rw (c.place_conf.ensures.placed) l.invariant.4,
+    )
+
+pub loop-vcpu-2-init : goal.loop-vcpu-2-init
+loop-vcpu-2-init c = let m = c.args.machine in let p = c.args.root in let s = setup m in let l = c.loop-vcpu in let u = after s.start (view p).seen in
+    let vcpus : m.desc.shape.vcpus ≡ vcpu_count s = ap (λ (l : Layout). l.shape.vcpus) m.built.1 ∙ ap (λ (l : Layout). l.shape.vcpus) m.built.0 in
+    let count : l.vcpu ≡ vcpu_count s = omega (arith, l.auto.vcpu-end, c.loop-vcpu-test.false, vcpus) in
+    let all : 8 * (m.first_conf + l.vcpu) ≡ 8 * (m.first_pend + 0) = omega (arith, count, m.ordered.2) in (
+      subst (λ (n : ℕ). AreTaken n (slots_len l.closed.slots) (slots_filled l.closed.slots)) all l.invariant.0,
+      l.invariant.1,
+      l.invariant.2,
+      subst (λ (n : ℕ). AreBelow ConfInHand (IsConfOf u) n l.redists.confs) count l.invariant.3,
+      l.invariant.4,
+    )
+
+pub take_pend-pend-requires-clause-there : goal.take_pend-pend-requires-clause-there
+take_pend-pend-requires-clause-there c = let m = c.args.machine in let p = c.args.root in let s = setup m in let l = c.loop-vcpu-2 in let u = after s.start (view p).seen in
+    let vcpus : m.desc.shape.vcpus ≡ vcpu_count s = ap (λ (l : Layout). l.shape.vcpus) m.built.1 ∙ ap (λ (l : Layout). l.shape.vcpus) m.built.0 in
+    let v : Vcpu = record { 0 = l.vcpu } in
+    let z = stands_last s m.table.shared.table_id.slots p.seat.id p.seat.me p.live _ _ l.invariant.1 c.requires.lone c.requires.free (part.Pend v)
+    (omega (arith, c.loop-vcpu-2-test.true, vcpus)) in
+    let same : index_of s (part.Pend v) ≡ m.first_pend + c.from-in-loop-vcpu-2.result = omega (arith, m.ordered.2, m.ordered.3, c.from-in-loop-vcpu-2.ensures) in
+    pend_there s u l.vcpu (m.first_pend + c.from-in-loop-vcpu-2.result) (slots_items l.closed.slots) z.0 (ap (λ (n : ℕ). get_elem? (slots_items l.closed.slots) (8 * n)) (sym same) ∙ z.1)
+    (is_pend s (view p).last u v z.0 z.2.content z.2.content_is z.2.fit z.2.right)
+
+pub loop-vcpu-2-preserved : goal.loop-vcpu-2-preserved
+loop-vcpu-2-preserved c = let m = c.args.machine in let p = c.args.root in let s = setup m in let l = c.loop-vcpu-2 in let u = after s.start (view p).seen in
+    let vcpus : m.desc.shape.vcpus ≡ vcpu_count s = ap (λ (l : Layout). l.shape.vcpus) m.built.1 ∙ ap (λ (l : Layout). l.shape.vcpus) m.built.0 in
+    let v : Vcpu = record { 0 = l.vcpu } in
+    let t = c.take_pend-pend in
+    let same : m.first_pend + c.from-in-loop-vcpu-2.result ≡ index_of s (part.Pend v) = omega (arith, m.ordered.2, m.ordered.3, c.from-in-loop-vcpu-2.ensures) in
+    let z = closes s m.table.shared.table_id.slots p.seat.id p.seat.me p.live _ _ l.invariant.1 c.requires.lone c.requires.free (part.Pend v)
+    (PendValue t.result) (omega (arith, c.loop-vcpu-2-test.true, vcpus)) (ap (λ (n : ℕ). get_elem? (slots_items l.closed.slots) (8 * n)) (sym same) ∙ t.ensures.pend) in
+    let both = is_pend s (view p).last u v (PendValue t.result) z.content z.content_is z.fit z.right in
+    let words = ap (λ w. slots_items w) (sym t.ensures.words) in
+    let items = sym t.ensures.items in
+    let next : 8 * (m.first_pend + c.from-in-loop-vcpu-2.result) + 8 ≡ 8 * (m.first_pend + (l.vcpu + 1)) = omega (arith, c.from-in-loop-vcpu-2.ensures) in (
+      subst (λ (n : ℕ). AreTaken n (slots_len t.new.closed.slots) (slots_filled t.new.closed.slots)) next t.ensures.front,
+      subst (λ (x : List ℕ × List Value). Final (Seen (Kept s) p.seat.id (view p)) x.0 x.1) (λ d. (words d, items d)) l.invariant.1,
+      t.ensures.length ∙ l.invariant.2,
+      rw (c.place_pend.ensures.placed) l.invariant.3,
+      rw (c.place_pend.ensures.placed) (one_more_below (IsPendOf u) l.vcpu l.redists.pends t.result.value (search rules) l.invariant.4
+          (pend_is s u l.vcpu t.result.value z.machine both.0 both.1)),
     )
 
 pub returns : goal.returns
-returns c = let m = c.args.machine in let p = c.args.root in let s = setup m in let l = c.loop-vcpu in let u = after s.start (view p).seen in
+returns c = let m = c.args.machine in let p = c.args.root in let s = setup m in let l = c.loop-vcpu-2 in let u = after s.start (view p).seen in
     let items = sym (c.take_second-second.ensures.items ∙ c.take_translator-first.ensures.items) in
     let some_number = some_count s (has_stamps m) in
     let x = c.take_translator-first.ensures.translator in
@@ -124,7 +168,7 @@ returns c = let m = c.args.machine in let p = c.args.root in let s = setup m in 
     let b = closes s m.table.shared.table_id.slots p.seat.id p.seat.me p.live _ _ c.close_with-closed.ensures.values.2 c.requires.lone c.requires.free part.Mem
     c.take_part.result tt there in
     let vcpus : m.desc.shape.vcpus ≡ vcpu_count s = ap (λ (l : Layout). l.shape.vcpus) m.built.1 ∙ ap (λ (l : Layout). l.shape.vcpus) m.built.0 in
-    let count : l.vcpu ≡ vcpu_count s = omega (arith, l.auto.vcpu-end, c.loop-vcpu-test.false, vcpus) in
+    let count : l.vcpu ≡ vcpu_count s = omega (arith, l.auto.vcpu-end, c.loop-vcpu-2-test.false, vcpus) in
     let memory = subst (IsMem u) c.in-Mem.is (is_mem s (view p).last u c.take_part.result b.content b.content_is b.right) in
     record {
       layout = m.built.0 ∙ b.machine.layout;
@@ -136,8 +180,9 @@ returns c = let m = c.args.machine in let p = c.args.root in let s = setup m in 
         shape_is = ap (λ (x : Layout). x.shape) (sym b.machine.layout);
         translator_is = first;
         memory_is = rw (c.into_inner-memory.ensures) memory.0;
-        redistributors_are = each_of u l.vcpu l.redists l.invariant.3;
+        redistributors_are = (each_of (IsConfOf u) (vcpu_count s) l.redists.confs l.invariant.3, each_of (IsPendOf u) l.vcpu l.redists.pends l.invariant.4);
       };
       track = rw (c.into_inner-memory.ensures) (sym memory.1);
-      redists = subst (λ (n : ℕ). AreBelow u n l.redists) count l.invariant.3;
+      confs = l.invariant.3;
+      pends = subst (λ (n : ℕ). AreBelow PendInHand (IsPendOf u) n l.redists.pends) count l.invariant.4;
     }

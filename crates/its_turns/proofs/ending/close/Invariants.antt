@@ -2,6 +2,10 @@ use Rattle.std.proofs.Common.{◌≡◌, ◌+◌, ◌*◌}
 use Rattle.std.specs.Slots.{slots_filled, slots_items, slots_len}
 use Rattle.atomic_table.specs.Table.{Final, Seen}
 use Rattle.its_plain.specs.History.{after}
+use Rattle.its_steps.specs.Parts.{vcpu_count}
+use Rattle.lpi_config.specs.declared.conf.Conf.{Conf}
+use Rattle.lpi_pending.specs.declared.pend.Pend.{Pend}
+use Rattle.owned_parts.specs.Owned.{IsConfOf, IsPendOf}
 use Rattle.its_turns.specs.Closed.{AreTaken, AreBelow}
 use Rattle.its_turns.specs.Machines.{setup, view}
 use Rattle.its_turns.specs.Rule.{Kept}
@@ -15,7 +19,16 @@ invariant-loop-shard l =
 
 abbrev pub invariant-loop-vcpu : goal.invariant-loop-vcpu
 invariant-loop-vcpu l =
-    AreTaken (8 * (l.first_redist + l.vcpu)) (slots_len l.closed.slots) (slots_filled l.closed.slots)
+    AreTaken (8 * (l.first_conf + l.vcpu)) (slots_len l.closed.slots) (slots_filled l.closed.slots)
     × Final (Seen (Kept (setup l.fn.machine)) l.fn.root.seat.id (view l.fn.root)) (slots_items l.closed.words) (slots_items l.closed.slots)
     × (slots_len l.closed.slots ≡ l.fn.machine.table.shared.table_id.slots)
-    × AreBelow (after (setup l.fn.machine).start (view l.fn.root).seen) l.vcpu l.redists
+    × AreBelow Conf (IsConfOf (after (setup l.fn.machine).start (view l.fn.root).seen)) l.vcpu l.redists.confs
+    × AreBelow Pend (IsPendOf (after (setup l.fn.machine).start (view l.fn.root).seen)) 0 l.redists.pends
+
+abbrev pub invariant-loop-vcpu-2 : goal.invariant-loop-vcpu-2
+invariant-loop-vcpu-2 l =
+    AreTaken (8 * (l.first_pend + l.vcpu)) (slots_len l.closed.slots) (slots_filled l.closed.slots)
+    × Final (Seen (Kept (setup l.fn.machine)) l.fn.root.seat.id (view l.fn.root)) (slots_items l.closed.words) (slots_items l.closed.slots)
+    × (slots_len l.closed.slots ≡ l.fn.machine.table.shared.table_id.slots)
+    × AreBelow Conf (IsConfOf (after (setup l.fn.machine).start (view l.fn.root).seen)) (vcpu_count (setup l.fn.machine)) l.redists.confs
+    × AreBelow Pend (IsPendOf (after (setup l.fn.machine).start (view l.fn.root).seen)) l.vcpu l.redists.pends

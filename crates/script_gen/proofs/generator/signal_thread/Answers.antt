@@ -1,5 +1,5 @@
 -- One call after another, from 0 on.
-use Rattle.std.proofs.Common.{◌++◌, map, ap, ◌∙◌}
+use Rattle.std.proofs.Common.{map}
 use Rattle.std.specs.List.{range_with_len}
 use Rattle.script_gen.specs.Generated as spec
 use Rattle.script_gen.proofs.Lists.{items_more}

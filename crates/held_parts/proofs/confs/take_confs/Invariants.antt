@@ -1,0 +1,17 @@
+use Rattle.std.proofs.Common.{◌≡◌}
+use Rattle.lpi_pending.specs.InHand.{HasLpisOfConf}
+use Rattle.its_turns.specs.Machines.{setup, view, IsOf}
+use Rattle.held_parts.specs.Redists.{conf_held, IsConfIn}
+use Rattle.held_parts.specs.Taking.{TakesOnly}
+use Rattle.held_parts.proofs.RedistLoops.{AreTaken}
+use Rattle.held_parts.proofs.confs.take_confs.Given as goal
+
+abbrev pub invariant-loop-vcpu : goal.invariant-loop-vcpu
+invariant-loop-vcpu g l = record {
+  of : IsOf l.machine l.pass;
+  takes : TakesOnly (IsConfIn l.set) (view l.fn.pass) (view l.pass);
+  taken : AreTaken conf_held (HasLpisOfConf (setup l.machine).start.layout.shape) (setup l.machine) l.set l.vcpu l.redists.confs
+      (view l.fn.pass).held (view l.pass).held;
+  pends : l.redists.pends ≡ l.fn.redists.pends;
+  allowed : g.T.Turns.allowed (view l.pass);
+}

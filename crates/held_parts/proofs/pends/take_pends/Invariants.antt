@@ -1,0 +1,17 @@
+use Rattle.std.proofs.Common.{◌≡◌}
+use Rattle.lpi_pending.specs.InHand.{HasLpisOfPend}
+use Rattle.its_turns.specs.Machines.{setup, view, IsOf}
+use Rattle.held_parts.specs.Redists.{pend_held, IsPendIn}
+use Rattle.held_parts.specs.Taking.{TakesOnly}
+use Rattle.held_parts.proofs.RedistLoops.{AreTaken}
+use Rattle.held_parts.proofs.pends.take_pends.Given as goal
+
+abbrev pub invariant-loop-vcpu : goal.invariant-loop-vcpu
+invariant-loop-vcpu g l = record {
+  of : IsOf l.machine l.pass;
+  takes : TakesOnly (IsPendIn l.set) (view l.fn.pass) (view l.pass);
+  taken : AreTaken pend_held (HasLpisOfPend (setup l.machine).start.layout.shape) (setup l.machine) l.set l.vcpu l.redists.pends
+      (view l.fn.pass).held (view l.pass).held;
+  confs : l.redists.confs ≡ l.fn.redists.confs;
+  allowed : g.T.Turns.allowed (view l.pass);
+}

@@ -1,0 +1,67 @@
+//! Configurations of redistributors, taken the lowest first.
+ghost use Rattle.std.specs.Prelude.{◌≡◌, List};
+ghost use Rattle.its_steps.specs.Contents.{Held};
+ghost use Rattle.its_turns.specs.Machines.{setup, view, IsOf};
+ghost use Rattle.held_parts.specs.Redists.{confs_held, AreNoConfs, AreConfsOfSet};
+ghost use Rattle.held_parts.specs.Redists.{HoldsNoConf, IsConfIn};
+ghost use Rattle.held_parts.specs.Taking.{TakesOnly, holding};
+
+use crate::getting::take_conf;
+use crate::turns::Turns;
+use crate::wanted::is_wanted;
+use its_turns::{Machine, Pass, Value, put};
+use its_types::{Part, Vcpu};
+use lpi_pending::Redists;
+use owned_parts::RedistSet;
+
+/// Takes the configurations of a set out that the machine has, the lowest first, and puts them in
+/// their places.
+pub fn take_confs<T: Turns>(
+    how: &T,
+    machine: &Machine,
+    pass: &mut Pass,
+    set: RedistSet,
+    redists: &mut Redists,
+)
+    requires of { IsOf machine.now pass.old }
+    requires empty { AreNoConfs redists.old }
+    requires free { HoldsNoConf (view pass.old).held }
+    requires allowed { T.allowed (view pass.old) }
+    ensures of { IsOf machine.now pass.new }
+    ensures takes { TakesOnly (IsConfIn set) (view pass.old) (view pass.new) }
+    ensures held { (view pass.new).held ≡ confs_held redists.new 16 (view pass.old).held }
+    ensures hand { AreConfsOfSet (setup machine.now) set redists.new }
+    ensures pends { redists.new.pends ≡ redists.old.pends }
+    ensures allowed { T.allowed (view pass.new) }
+{
+    let vcpus = machine.vcpus();
+    for vcpu in 0..vcpus {
+        if is_wanted(set, vcpus, vcpu) {
+            let conf = take_conf(how, machine, pass, Vcpu(vcpu));
+            redists.place_conf(Vcpu(vcpu), conf);
+        }
+    }
+}
+
+/// Puts them back, the highest first. Their places are empty then.
+pub fn put_confs(machine: &Machine, pass: &mut Pass, set: RedistSet, redists: &mut Redists)
+    requires of { IsOf machine.now pass.old }
+    requires hand { AreConfsOfSet (setup machine.now) set redists.old }
+    requires held { (before : List Held) ×
+        ((view pass.old).held ≡ confs_held redists.old 16 before) }
+    ensures of { IsOf machine.now pass.new }
+    ensures empty { AreNoConfs redists.new }
+    ensures pends { redists.new.pends ≡ redists.old.pends }
+    ensures home { (before : List Held) →
+        (view pass.old).held ≡ confs_held redists.old 16 before →
+        view pass.new ≡ holding (view pass.old) before }
+{
+    let vcpus = machine.vcpus();
+    for k in 0..vcpus {
+        let vcpu = vcpus - 1 - k;
+        if is_wanted(set, vcpus, vcpu) {
+            let conf = redists.take_conf(Vcpu(vcpu));
+            put(machine, pass, Part::Conf(Vcpu(vcpu)), Value::Conf(conf));
+        }
+    }
+}
