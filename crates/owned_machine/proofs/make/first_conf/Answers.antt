@@ -2,9 +2,10 @@ use Rattle.std.proofs.Common.{◌≡◌, ◌<◌, ℕ, List, length, get_or, sym
 use Rattle.its_types.specs.declared.ids.Addr.{Addr}
 use Rattle.its_plain.specs.Machine.{HasTablesFor, described_bases}
 use Rattle.its_plain.specs.declared.desc.LpiTables.{LpiTables}
-use Rattle.owned_machine.specs.Start.{IsFirstOf}
+use Rattle.lpi_config.specs.declared.conf.Conf.{Conf}
+use Rattle.owned_machine.specs.Start.{IsFirstOf, idle_pend}
 use Rattle.owned_machine.proofs.Started.{described_first, off_first}
-use Rattle.owned_machine.proofs.make.first_redist.Goals as goal
+use Rattle.owned_machine.proofs.make.first_conf.Goals as goal
 
 pub returns-in_ok-load-in-Described : goal.returns-in_ok-load-in-Described
 returns-in_ok-load-in-Described c =
@@ -21,22 +22,14 @@ returns-in_ok-load-in-Described c =
     ∙ ap (λ (k : ℕ). described_bases config (get_or pending k z)) c.from.ensures
     in
     let loaded = c.in_ok-load-in-Described in
-    subst (λ (t : LpiTables). IsFirstOf s memory t v (record {
-      pending = c.in_ok-pending_lpis.pending_lpis;
-      config = loaded.field-0;
-      bases = c.described.result;
-    })) (sym c.in-Described.is)
-    (described_first s memory config pending v z c.in_ok-pending_lpis.pending_lpis loaded.field-0 c.described.result lt c.in_ok-pending_lpis.ensures
-    loaded.ensures.bits loaded.ensures.bytes is)
+    let conf : Conf = record { config = loaded.field-0; bases = c.described.result } in
+    subst (λ (t : LpiTables). IsFirstOf s memory t v conf (idle_pend s conf)) (sym c.in-Described.is)
+    (described_first s memory config pending v z loaded.field-0 c.described.result lt loaded.ensures.bits loaded.ensures.bytes is)
 
 pub returns-in_ok-zeros-in-Registers : goal.returns-in_ok-zeros-in-Registers
 returns-in_ok-zeros-in-Registers c =
     let s = c.args.shape.now in
     let zeros = c.in_ok-zeros-in-Registers in
-    subst (λ (t : LpiTables). IsFirstOf s c.args.memory.now t c.args.vcpu (record {
-      pending = c.in_ok-pending_lpis.pending_lpis;
-      config = zeros.field-0;
-      bases = c.off.result;
-    })) (sym c.in-Registers.is)
-    (off_first s c.args.memory.now c.in-Registers.field-0 c.args.vcpu c.in_ok-pending_lpis.pending_lpis zeros.field-0 c.off.result c.requires.vcpu
-    c.in_ok-pending_lpis.ensures zeros.ensures c.off.ensures)
+    let conf : Conf = record { config = zeros.field-0; bases = c.off.result } in
+    subst (λ (t : LpiTables). IsFirstOf s c.args.memory.now t c.args.vcpu conf (idle_pend s conf)) (sym c.in-Registers.is)
+    (off_first s c.args.memory.now c.in-Registers.field-0 c.args.vcpu zeros.field-0 c.off.result c.requires.vcpu zeros.ensures c.off.ensures)
