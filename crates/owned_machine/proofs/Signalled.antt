@@ -11,7 +11,7 @@ use Rattle.its_types.specs.declared.ids.Intid.{Intid}
 use Rattle.its_types.specs.declared.ids.Target.{Target}
 use Rattle.its_types.specs.declared.ids.Vcpu.{Vcpu}
 use Rattle.its_types.specs.declared.machine.Shape.{Shape}
-use Rattle.its_plain.specs.Plain.{Translator, Redistributor, no_translator, translator, redistributor, with_redistributor}
+use Rattle.its_plain.specs.Plain.{Plain, Translator, Redistributor, no_translator, translator, redistributor, with_redistributor, is_on}
 use Rattle.its_plain.specs.Sound.{IsTranslator}
 use Rattle.its_plain.specs.Translation.{translated, located, ensure, ◌>>=◌}
 use Rattle.its_plain.specs.Commands.{lpi_set}
@@ -21,7 +21,7 @@ use Rattle.its_plain.specs.declared.call.Ack.TheVariants as ack
 use Rattle.its_plain.specs.declared.call.Call.{Call}
 use Rattle.its_plain.specs.declared.call.Call.TheVariants as call
 use Rattle.its_plain.specs.declared.call.Cause.{Cause}
-use Rattle.its_plain.specs.declared.call.Cause.TheVariants.{Disabled, NoDevice, NoEvent, NoCollection}
+use Rattle.its_plain.specs.declared.call.Cause.TheVariants.{Disabled, NoDevice, NoEvent, NoCollection, LpisOff}
 use Rattle.owned_parts.specs.declared.parts.Parts.{Parts}
 use Rattle.cmd_exec.specs.InHand.{pend_changed, with_set, with_cleared}
 use Rattle.owned_parts.specs.Owned.{state_of_parts}
@@ -70,6 +70,18 @@ target_is p i dev ev t m e =
           let is : located x dev ev ≡ Ok t = ap (λ (y : Translator). located y dev ev) (sym (found_at ts i x no_translator there)) ∙ e in
           subst (λ (r : Result Target Cause). IfOk r (IsTarget s)) is (goes_to s x dev ev (m.sound.translators i x there))
     ] refl
+
+-- where it goes, if LPIs are on there
+module _ (u : Plain) (i dev ev : ℕ) (t : Target) (e : located (translator u i) dev ev ≡ Ok t) where
+  by_target : translated u i dev ev ≡ (ensure (is_on u t.vcpu.0) LpisOff >>= λ _. Ok t)
+  unfolding translated
+  by_target = ap (λ (r : Result Target Cause). r >>= λ (x : Target). ensure (is_on u x.vcpu.0) LpisOff >>= λ _. Ok x) e
+
+  pub when_on : is_on u t.vcpu.0 ≡ true → Ok t ≡ translated u i dev ev
+  when_on on = sym (by_target ∙ ap (λ (b : Bool). ensure b LpisOff >>= λ _. Ok t) on)
+
+  pub when_off : is_on u t.vcpu.0 ≡ false → Err LpisOff ≡ translated u i dev ev
+  when_off off = sym (by_target ∙ ap (λ (b : Bool). ensure b LpisOff >>= λ _. Ok t) off)
 
 -- a translator that there isn't is disabled
 pub none_located : (p : Parts) (i dev ev : ℕ) → slice_get (state_of_parts p).translators i ≡ None

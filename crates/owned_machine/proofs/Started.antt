@@ -1,5 +1,5 @@
 -- The first state of a machine.
-use Rattle.std.proofs.Common.{◌≡◌, ℕ, ◌+◌, ◌<◌, ◌≤◌, Bool, true, false, List, [], ◌∷◌, length, map, replicate, take, get_or, zero, suc, Option, Some, None}
+use Rattle.std.proofs.Common.{◌≡◌, ℕ, ◌+◌, ◌<◌, ◌≤◌, Bool, true, false, List, [], ◌∷◌, length, map, replicate, get_or, zero, suc, Option, Some, None}
 use Rattle.std.proofs.Common.{Result}
 use Rattle.std.proofs.Common.{Ok, Err, inl, inr, refl, sym, ap, subst, ◌∙◌, arith}
 use Rattle.std.specs.Prelude.{ok_or, is_some, slice_get}
@@ -33,7 +33,7 @@ use Rattle.lpi_config.specs.Configurations.{Configuration, zeros}
 use Rattle.lpi_config.specs.declared.conf.Conf.{Conf}
 use Rattle.lpi_pending.specs.InHand.{RedistParts, redistributor_of, set_conf, set_pend}
 use Rattle.lpi_pending.specs.declared.pend.Pend.{Pend}
-use Rattle.owned_parts.specs.Owned.{AreAllInHand, state_of_parts, redistributor_in, redistributors_in, translators_of}
+use Rattle.owned_parts.specs.Owned.{AreAllInHand, state_of_parts, redistributors_in, translators_of}
 use Rattle.owned_parts.specs.Places.{AreInHandAt, AreNotInHand}
 use Rattle.owned_parts.proofs.Places.{redistributor_at, placed_here, still_there, still_empty}
 use Rattle.owned_parts.specs.declared.parts.Parts.{Parts}

@@ -35,6 +35,14 @@ pub fn write(parts: &mut Parts, vcpu: Vcpu, off: u32, size: u8, value: u64)
     }
     let mut conf = parts.redists.take_conf(vcpu);
     let pend = parts.redists.pend_mut(vcpu);
-    gicr_write(&mut conf, pend, &parts.memory, &parts.layout.shape, off, size, value);
+    gicr_write(
+        &mut conf,
+        pend,
+        &parts.memory,
+        &parts.layout.shape,
+        off,
+        size,
+        value,
+    );
     parts.redists.place_conf(vcpu, conf);
 }
