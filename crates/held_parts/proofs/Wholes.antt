@@ -282,7 +282,7 @@ pends_free o first c redists before held e f =
     let none : HoldsNoPend before = subst HoldsNoPend (sym e) (no_pend o first c) in
     subst HoldsNoPend (sym f) (λ vcpu. parts_lack conf_held conf conf_kind redists.confs before 16 (part.Pend vcpu) (λ k e. cc) (none vcpu))
 
-none_in : {T : Type 0} (n v : ℕ) → at_place {T} (replicate n None) v ≡ None
+none_in : {T : Type 0} (n v : ℕ) → at_place {T = T} (replicate n None) v ≡ None
 none_in zero v = refl
 none_in (suc n) zero = refl
 none_in (suc n) (suc v) = none_in n v

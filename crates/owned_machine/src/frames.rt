@@ -21,7 +21,7 @@ pub fn ensure(test: bool, fault: DescFault) -> Result<(), DescFault>
     if test { Ok(()) } else { Err(fault) }
 }
 
-/// The frames of each translator fit beside the windows and the frames before them, or the first
+/// The frames of each translator fit beside the windows and the frames of the other, or the first
 /// whose frames don't.
 pub fn all_frames_fit(windows: &[(Addr, u64)], translators: &[Its]) -> Result<(), DescFault>
     requires some { 1 ≤ length translators.now }
@@ -29,38 +29,36 @@ pub fn all_frames_fit(windows: &[(Addr, u64)], translators: &[Its]) -> Result<()
     ensures { result ≡ spec.all_frames_fit (pairs windows.now) 0 translators.now }
 {
     let first = translators[0].frames;
-    ensure(fit(windows, None, first), DescFault::Frames(0))?;
     if translators.len() == 1 {
-        return Ok(());
+        return ensure(fit(windows, None, first), DescFault::Frames(0));
     }
-    ensure(
-        fit(windows, first, translators[1].frames),
-        DescFault::Frames(1),
-    )
+    let second = translators[1].frames;
+    ensure(fit(windows, second, first), DescFault::Frames(0))?;
+    ensure(fit(windows, None, second), DescFault::Frames(1))
 }
 
-// Frames fit beside the windows and those before, if there are any.
-fn fit(windows: &[(Addr, u64)], before: Option<Addr>, frames: Option<Addr>) -> bool
-    ensures { result ≡ fits_beside (taken_with before (pairs windows.now)) frames }
+// Frames fit beside the windows and those after, if there are any.
+fn fit(windows: &[(Addr, u64)], after: Option<Addr>, frames: Option<Addr>) -> bool
+    ensures { result ≡ fits_beside (taken_with after (pairs windows.now)) frames }
 {
     match frames {
-        Some(base) => one_fits(windows, before, base),
+        Some(base) => one_fits(windows, after, base),
         None => true,
     }
 }
 
-fn one_fits(windows: &[(Addr, u64)], before: Option<Addr>, base: Addr) -> bool
-    ensures { result ≡ spec.frames_fit (taken_with before (pairs windows.now)) base }
+fn one_fits(windows: &[(Addr, u64)], after: Option<Addr>, base: Addr) -> bool
+    ensures { result ≡ spec.frames_fit (taken_with after (pairs windows.now)) base }
 {
-    base.0 <= END - FRAMES && !meets_frames(before, base) && !meets_windows(windows, base)
+    base.0 <= END - FRAMES && !meets_frames(after, base) && !meets_windows(windows, base)
 }
 
-// They share a byte with the frames before.
-fn meets_frames(before: Option<Addr>, base: Addr) -> bool
+// They share a byte with the frames after.
+fn meets_frames(after: Option<Addr>, base: Addr) -> bool
     requires { base.0 + 131072 ≤ 2 ^ 52 }
-    ensures { result ≡ list_any (spec.share (place_of base)) (taken_with before []) }
+    ensures { result ≡ list_any (spec.share (place_of base)) (taken_with after []) }
 {
-    match before {
+    match after {
         Some(frames) => meets(&(frames, FRAMES), base),
         None => false,
     }

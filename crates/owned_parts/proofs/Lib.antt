@@ -1,1 +1,2 @@
 pub mod RedistSets
+pub mod Places

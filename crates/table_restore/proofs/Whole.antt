@@ -1,6 +1,6 @@
 -- What a restore answers: the state that memory and register values stand for, or their first fault.
-use Rattle.std.proofs.Common.{◌≡◌, ℕ, zero, suc, ◌<◌, ◌≤◌, List, [], ◌∷◌, length, map, take, Option, Some, None, Err, refl, sym}
-use Rattle.std.proofs.Common.{subst, ap, ◌∙◌, arith}
+use Rattle.std.proofs.Common.{◌≡◌, ℕ, zero, suc, ◌<◌, ◌≤◌, List, [], ◌∷◌, length, Option, Some, Err, refl, sym}
+use Rattle.std.proofs.Common.{subst, ◌∙◌, arith}
 use Rattle.std.specs.Prelude.{slice_get}
 use Rattle.guest_windows.specs.Windows.{Window}
 use Rattle.gits_regs.specs.declared.values.RegValues.{RegValues}
@@ -12,28 +12,18 @@ use Rattle.its_plain.specs.Saved.{track_of}
 use Rattle.its_plain.specs.declared.layout.Layout.{Layout}
 use Rattle.its_plain.specs.Stands.{Stands, IsFirstFault, of_redistributor, of_translator, IsRedistributorIn}
 use Rattle.dirty_log.specs.declared.tracked.Tracked.{Tracked}
-use Rattle.lpi_pending.specs.InHand.{in_hand}
-use Rattle.lpi_pending.specs.declared.redist.Redist.{Redist}
-use Rattle.owned_parts.specs.Owned.{AreAllInHand, state_of, redistributor_of, redistributor_or}
-use Rattle.table_restore.specs.Outcome.{AreRestoredRedists, RestoredRedists, AreTranslatorsFrom, BegunTranslators, IsFirstOf, WhereFault, with_number}
+use Rattle.lpi_pending.specs.InHand.{RedistParts, redistributor_of}
+use Rattle.owned_parts.specs.Owned.{AreAllInHand, state_of, redistributors_in}
+use Rattle.owned_parts.specs.Places.{AreNotInHand}
+use Rattle.owned_parts.proofs.Places.{at_place, many_places}
+use Rattle.table_restore.specs.Outcome.{AreRestoredRedists, RestoredRedists, AreTranslatorsFrom, BegunTranslators, IsFirstOf}
+use Rattle.table_restore.specs.Outcome.{WhereFault, with_number}
 use Rattle.table_restore.specs.declared.error.RestoreError.{RestoreError}
 use Rattle.table_restore.specs.declared.error.RestoreError.TheVariants as numbered
 use Rattle.table_restore.specs.declared.error.TableError.{TableError}
 use Rattle.table_restore.specs.declared.error.TableError.TheVariants as errors
 
--- ---- redistributors
-
-taken : (redists : List (Option Redist)) (n v : ℕ) (x : Redist) → v < n → in_hand redists v ≡ Some x → slice_get (map redistributor_or (take n redists)) v
-    ≡ Some (redistributor_of x)
-taken [] n v x lt e = absurd cc
-taken (o ∷ os) zero v x lt e = absurd (omega arith)
-taken (o ∷ os) (suc n) zero x lt e = ap (λ p. Some (redistributor_or p)) e
-taken (o ∷ os) (suc n) (suc v) x lt e = taken os n v x (omega arith) e
-
-length_taken : (redists : List (Option Redist)) (n : ℕ) → n ≤ length redists → length (map redistributor_or (take n redists)) ≡ n
-length_taken redists zero le = refl
-length_taken [] (suc n) le = absurd (omega arith)
-length_taken (o ∷ os) (suc n) le = ap suc (length_taken os n (omega arith))
+-- ---- places of a list
 
 in_list : {X : Type 0} (xs : List X) (i : ℕ) (x : X) → slice_get xs i ≡ Some x → i < length xs
 in_list [] i x e = absurd cc
@@ -48,15 +38,15 @@ there_is (x ∷ xs) (suc i) lt = there_is xs i (omega arith)
 -- ---- the whole
 
 module _ (l : Layout) (memory : List Window) (values : List (Option RegValues)) (bases : List Bases) (shape : IsShape l.shape)
-    (as_many : length bases ≡ l.shape.vcpus) (redists : List (Option Redist)) (all : AreRestoredRedists l.shape memory bases redists) where
-  each_stands : (v : ℕ) (b : Bases) (r : Redistributor) → slice_get bases v ≡ Some b → slice_get (map redistributor_or (take l.shape.vcpus redists)) v ≡ Some r
+    (as_many : length bases ≡ l.shape.vcpus) (redists : RedistParts) (all : AreRestoredRedists l.shape memory bases redists) where
+  each_stands : (v : ℕ) (b : Bases) (r : Redistributor) → slice_get bases v ≡ Some b → slice_get (redistributors_in l.shape.vcpus redists) v ≡ Some r
       → IsRedistributorIn l.shape memory b r
   each_stands v b r eb er =
       let w = all.each v b eb in
       let lt : v < l.shape.vcpus = subst (λ (n : ℕ). v < n) as_many (in_list bases v b eb) in
-      let same : Some (redistributor_of w.0) ≡ Some r = sym (taken redists l.shape.vcpus v w.0 lt w.1) ∙ er in
-      let is : redistributor_of w.0 ≡ r = cc in
-      subst (IsRedistributorIn l.shape memory b) is w.2.stands
+      let same : Some (redistributor_of w.0 w.1) ≡ Some r = sym (at_place redists l.shape.vcpus v w.0 w.1 lt w.2) ∙ er in
+      let is : redistributor_of w.0 w.1 ≡ r = cc in
+      subst (IsRedistributorIn l.shape memory b) is w.3.stands
 
   pub stands : (now : Layout) (ts : List Translator) (track : Option Tracked) → now ≡ l → track ≡ track_of l.track memory
       → AreTranslatorsFrom l.shape memory values ts → Stands memory values l bases (state_of now ts memory track redists)
@@ -68,7 +58,7 @@ module _ (l : Layout) (memory : List Window) (values : List (Option RegValues)) 
         track_is = fresh;
         count = begun.count;
         translators = begun.each;
-        vcpus = length_taken redists l.shape.vcpus (let a = shape.most_vcpus in let b = all.places in omega arith) ∙ sym as_many;
+        vcpus = many_places redists l.shape.vcpus ∙ sym as_many;
         redistributors = each_stands;
       })
 
@@ -76,9 +66,9 @@ module _ (l : Layout) (memory : List Window) (values : List (Option RegValues)) 
   all_in_hand v lt =
       let w = there_is bases v (subst (λ (n : ℕ). v < n) (sym as_many) lt) in
       let h = all.each v w.0 w.1 in
-      (h.0, h.1, h.2.lpis)
+      ((h.0, h.2.conf, h.3.conf_lpis), (h.1, h.2.pend, h.3.pend_lpis))
 
-  pub no_others : (v : ℕ) → l.shape.vcpus ≤ v → in_hand redists v ≡ None
+  pub no_others : (v : ℕ) → l.shape.vcpus ≤ v → AreNotInHand redists v
   no_others v le = all.rest v (subst (λ (n : ℕ). n ≤ v) (sym as_many) le)
 
   -- ---- the first fault

@@ -25,9 +25,11 @@ use Rattle.gits_regs.specs.declared.values.RegValues.{RegValues}
 use Rattle.its_maps.specs.MapsRoom.{MapsRoom}
 use Rattle.its_types.specs.declared.machine.Shape.{Shape}
 use Rattle.its_types.specs.declared.translation.Bases.{Bases}
-use Rattle.lpi_pending.specs.InHand.{in_hand}
-use Rattle.lpi_pending.specs.declared.redist.Redist.{Redist}
-use Rattle.owned_parts.specs.Owned.{HasLpisOf, redistributor_of, translator_of, translators_of}
+use Rattle.lpi_config.specs.declared.conf.Conf.{Conf}
+use Rattle.lpi_pending.specs.InHand.{RedistParts, HasLpisOfConf, HasLpisOfPend, redistributor_of}
+use Rattle.lpi_pending.specs.declared.pend.Pend.{Pend}
+use Rattle.owned_parts.specs.Owned.{translator_of, translators_of}
+use Rattle.owned_parts.specs.Places.{AreInHandAt, AreNotInHand}
 use Rattle.owned_parts.specs.declared.parts.Translator.{Translator as TranslatorInHand}
 use Rattle.standing_states.specs.Walked.{after}
 use Rattle.standing_states.specs.Found.{look_device, put_found}
@@ -75,29 +77,30 @@ LookedLevel1 memory r k (Err f) = (number_at memory (level1_address r k) ≡ Non
 
 -- ---- redistributors
 
--- a redistributor in hand is the one that memory has
-pub record IsRestoredRedist (s : Shape) (memory : List Window) (b : Bases) (r : Redist) : Type 0 where
-  pub lpis : HasLpisOf s r
-  pub stands : IsRedistributorIn s memory b (redistributor_of r)
+-- the parts of a redistributor in hand are those that memory has
+pub record IsRestoredRedist (s : Shape) (memory : List Window) (b : Bases) (c : Conf) (p : Pend) : Type 0 where
+  pub conf_lpis : HasLpisOfConf s c
+  pub pend_lpis : HasLpisOfPend s p
+  pub stands : IsRedistributorIn s memory b (redistributor_of c p)
 
 -- one whose LPIs are off has none pending, and a configuration of zeros
-pub record IsOffRedist (s : Shape) (b : Bases) (r : Redist) : Type 0 where
-  pub lpis : HasLpisOf s r
-  pub is : redistributor_of r ≡ off_redistributor s b
+pub record IsOffRedist (s : Shape) (b : Bases) (c : Conf) (p : Pend) : Type 0 where
+  pub conf_lpis : HasLpisOfConf s c
+  pub pend_lpis : HasLpisOfPend s p
+  pub is : redistributor_of c p ≡ off_redistributor s b
 
-abbrev pub RestoredRedist : Shape → List Window → ℕ → Bases → Result Redist TableError → Type 0
-RestoredRedist s memory vcpu b (Ok r) = IsRestoredRedist s memory b r × (lacks_tables s memory b ≡ false)
+abbrev pub RestoredRedist : Shape → List Window → ℕ → Bases → Result (Conf × Pend) TableError → Type 0
+RestoredRedist s memory vcpu b (Ok r) = IsRestoredRedist s memory b r.0 r.1 × (lacks_tables s memory b ≡ false)
 RestoredRedist s memory vcpu b (Err (errors.Fault f)) = (lacks_tables s memory b ≡ true) × (f ≡ BadRedist (record { 0 = vcpu }))
 RestoredRedist s memory vcpu b (Err errors.NoMemory) = Unit {0}
 
 -- each redistributor with bases is in hand, and no other
-pub record AreRestoredRedists (s : Shape) (memory : List Window) (bases : List Bases) (redists : List (Option Redist)) : Type 0 where
+pub record AreRestoredRedists (s : Shape) (memory : List Window) (bases : List Bases) (redists : RedistParts) : Type 0 where
   pub clear : AreRedistributorsClear s memory bases
-  pub places : length redists ≡ 16
-  pub each : (vcpu : ℕ) (b : Bases) → slice_get bases vcpu ≡ Some b → (r : Redist) × (in_hand redists vcpu ≡ Some r) × IsRestoredRedist s memory b r
-  pub rest : (vcpu : ℕ) → length bases ≤ vcpu → in_hand redists vcpu ≡ None
+  pub each : (vcpu : ℕ) (b : Bases) → slice_get bases vcpu ≡ Some b → (c : Conf) × (p : Pend) × AreInHandAt redists vcpu c p × IsRestoredRedist s memory b c p
+  pub rest : (vcpu : ℕ) → length bases ≤ vcpu → AreNotInHand redists vcpu
 
-abbrev pub RestoredRedists : Shape → List Window → List Bases → Result (List (Option Redist)) TableError → Type 0
+abbrev pub RestoredRedists : Shape → List Window → List Bases → Result RedistParts TableError → Type 0
 RestoredRedists s memory bases (Ok redists) = AreRestoredRedists s memory bases redists
 RestoredRedists s memory bases (Err (errors.Fault f)) = (vcpu : ℕ) × RedistributorOffends s memory bases vcpu × (f ≡ BadRedist (record { 0 = vcpu }))
 RestoredRedists s memory bases (Err errors.NoMemory) = Unit {0}

@@ -1,11 +1,11 @@
 //! A whole machine, restored.
-ghost use Rattle.std.specs.Prelude.{◌≡◌, ◌≤◌, ◌∷◌, [], ℕ, Some, None, IfOk, IfErr, length};
+ghost use Rattle.std.specs.Prelude.{◌≡◌, ◌≤◌, ◌∷◌, [], ℕ, Some, IfOk, IfErr, length};
 ghost use Rattle.its_plain.specs.Saved.{track_of};
 ghost use Rattle.its_plain.specs.Sound.{IsLayout};
 ghost use Rattle.its_plain.specs.Stands.{Stands, IsFirstFault};
-ghost use Rattle.lpi_pending.specs.InHand.{in_hand};
 ghost use Rattle.owned_parts.specs.Owned.{AreAllInHand, state_of, state_of_parts};
 ghost use Rattle.owned_parts.specs.Owned.{translators_of};
+ghost use Rattle.owned_parts.specs.Places.{AreNotInHand};
 ghost use Rattle.standing_states.specs.Laws.{bases_to_restore};
 ghost use Rattle.table_restore.specs.Outcome.{AreTranslatorsFrom, IsFirstOf, IfFault, WhereFault};
 
@@ -98,7 +98,7 @@ fn find(
     ensures layout { IfOk result (λ f. f.begun.layout ≡ layout.now) }
     ensures in_hand { IfOk result (λ f. AreAllInHand layout.now.shape f.redists) }
     ensures no_others { IfOk result (λ f.
-        (vcpu : ℕ) → layout.now.shape.vcpus ≤ vcpu → in_hand f.redists vcpu ≡ None) }
+        (vcpu : ℕ) → layout.now.shape.vcpus ≤ vcpu → AreNotInHand f.redists vcpu) }
     ensures fault { IfFault result (IsFirstFault memory.now values.now layout.now.shape
         (bases_to_restore layout.now gicr.now)) }
 {
@@ -131,7 +131,7 @@ pub fn restore(
     ensures copy { IfOk result (λ p. p.memory ≡ memory.now) }
     ensures in_hand { IfOk result (λ p. AreAllInHand layout.now.shape p.redists) }
     ensures no_others { IfOk result (λ p.
-        (vcpu : ℕ) → layout.now.shape.vcpus ≤ vcpu → in_hand p.redists vcpu ≡ None) }
+        (vcpu : ℕ) → layout.now.shape.vcpus ≤ vcpu → AreNotInHand p.redists vcpu) }
     ensures fault { IfFault result (IsFirstFault memory.now (Some values ∷ []) layout.now.shape
         (bases_to_restore layout.now gicr.now)) }
 {
@@ -155,7 +155,7 @@ pub fn restore_two(
     ensures copy { IfOk result (λ p. p.memory ≡ memory.now) }
     ensures in_hand { IfOk result (λ p. AreAllInHand layout.now.shape p.redists) }
     ensures no_others { IfOk result (λ p.
-        (vcpu : ℕ) → layout.now.shape.vcpus ≤ vcpu → in_hand p.redists vcpu ≡ None) }
+        (vcpu : ℕ) → layout.now.shape.vcpus ≤ vcpu → AreNotInHand p.redists vcpu) }
     ensures fault { IfFault result (IsFirstFault memory.now (Some first ∷ Some second ∷ [])
         layout.now.shape (bases_to_restore layout.now gicr.now)) }
 {
@@ -180,7 +180,7 @@ fn restore_copy(
     ensures copy { IfOk result (λ p. p.memory ≡ memory.now) }
     ensures in_hand { IfOk result (λ p. AreAllInHand layout.now.shape p.redists) }
     ensures no_others { IfOk result (λ p.
-        (vcpu : ℕ) → layout.now.shape.vcpus ≤ vcpu → in_hand p.redists vcpu ≡ None) }
+        (vcpu : ℕ) → layout.now.shape.vcpus ≤ vcpu → AreNotInHand p.redists vcpu) }
     ensures fault { IfFault result (IsFirstFault memory.now values.now layout.now.shape
         (bases_to_restore layout.now gicr.now)) }
 {
@@ -211,7 +211,7 @@ pub fn restore_in(
     ensures memory { IfOk result (λ p. p.memory ≡ memory) }
     ensures in_hand { IfOk result (λ p. AreAllInHand layout.now.shape p.redists) }
     ensures no_others { IfOk result (λ p.
-        (vcpu : ℕ) → layout.now.shape.vcpus ≤ vcpu → in_hand p.redists vcpu ≡ None) }
+        (vcpu : ℕ) → layout.now.shape.vcpus ≤ vcpu → AreNotInHand p.redists vcpu) }
     ensures fault { IfErr result (λ e.
         WhereFault e.1 (IsFirstFault memory values.now layout.now.shape
         (bases_to_restore layout.now gicr.now))) }

@@ -13,8 +13,8 @@ use gicr_regs::{GicrValues, restored_bases};
 use guest_windows::Memory;
 use its_plain::{Layout, RestoreFault};
 use its_types::{Addr, Bases, Shape, Vcpu};
-use lpi_config::Config;
-use lpi_pending::{Pending, Redist, Redists};
+use lpi_config::{Conf, Config};
+use lpi_pending::{Pend, Pending, Redists};
 use std::alloc::{AllocError, Global};
 
 // The LPIs that a pending table has.
@@ -35,14 +35,14 @@ fn pending_of(
     Ok(pending)
 }
 
-// A virtual processor's redistributor, whose LPIs are on at its tables.
+// The two parts of a virtual processor's redistributor, whose LPIs are on at its tables.
 fn on_redist(
     alloc: Global,
     memory: &Memory,
     shape: Shape,
     vcpu: Vcpu,
     bases: Bases,
-) -> Result<Redist, TableError>
+) -> Result<(Conf, Pend), TableError>
     requires shape { IsShape shape }
     requires on { bases.on ≡ true }
     ensures { RestoredRedist shape memory.now vcpu.0 bases result }
@@ -55,24 +55,20 @@ fn on_redist(
     }
     let config = Config::load(alloc, memory, bases.prop.table, shape.lpi_bits)?;
     let pending = pending_of(alloc, memory, bases.pend.table, shape)?;
-    Ok(Redist {
-        pending,
-        config,
-        bases,
-    })
+    let accepts = bases.on;
+    Ok((Conf { config, bases }, Pend { pending, accepts }))
 }
 
 // One whose LPIs are off: its tables aren't read.
-fn off_redist(alloc: Global, shape: Shape, bases: Bases) -> Result<Redist, AllocError>
+fn off_redist(alloc: Global, shape: Shape, bases: Bases) -> Result<(Conf, Pend), AllocError>
     requires shape { IsShape shape }
     requires off { bases.on ≡ false }
-    ensures { IfOk result (IsOffRedist shape bases) }
+    ensures { IfOk result (λ r. IsOffRedist shape bases r.0 r.1) }
 {
-    Ok(Redist {
-        pending: Pending::new(alloc, shape.lpi_bits)?,
-        config: Config::zeros(alloc, shape.lpi_bits)?,
-        bases,
-    })
+    let accepts = bases.on;
+    let config = Config::zeros(alloc, shape.lpi_bits)?;
+    let pending = Pending::new(alloc, shape.lpi_bits)?;
+    Ok((Conf { config, bases }, Pend { pending, accepts }))
 }
 
 fn redist_of(
@@ -81,7 +77,7 @@ fn redist_of(
     shape: Shape,
     vcpu: Vcpu,
     bases: Bases,
-) -> Result<Redist, TableError>
+) -> Result<(Conf, Pend), TableError>
     requires shape { IsShape shape }
     ensures { RestoredRedist shape memory.now vcpu.0 bases result }
 {
@@ -124,8 +120,9 @@ pub fn redists_of(
     let mut redists = Redists::new();
     for vcpu in 0..shape.vcpus {
         let bases = bases_of(gicr, layout, vcpu);
-        let redist = redist_of(alloc, memory, shape, Vcpu(vcpu), bases)?;
-        redists.place(Vcpu(vcpu), Box::new(alloc, redist)?);
+        let (conf, pend) = redist_of(alloc, memory, shape, Vcpu(vcpu), bases)?;
+        redists.place_conf(Vcpu(vcpu), Box::new(alloc, conf)?);
+        redists.place_pend(Vcpu(vcpu), Box::new(alloc, pend)?);
     }
     Ok(redists)
 }

@@ -15,13 +15,14 @@ use Rattle.its_types.specs.declared.translation.Device.{Device}
 use Rattle.its_plain.specs.Plain.{Translator, Redistributor}
 use Rattle.its_plain.specs.Regions.{device_pages}
 use Rattle.its_plain.specs.Saved.{Words, device_words, pages_words, page_words, pending_words, device_word}
-use Rattle.lpi_pending.specs.InHand.{in_hand}
-use Rattle.lpi_pending.specs.declared.redist.Redist.{Redist}
-use Rattle.owned_parts.specs.Owned.{redistributor_of}
+use Rattle.lpi_config.specs.declared.conf.Conf.{Conf}
+use Rattle.lpi_pending.specs.InHand.{RedistParts, redistributor_of}
+use Rattle.lpi_pending.specs.declared.pend.Pend.{Pend}
+use Rattle.owned_parts.specs.Places.{AreInHandAt}
+use Rattle.owned_parts.proofs.Places.{drop_to_place}
 use Rattle.table_save.specs.Areas.{redistributors_of}
 use Rattle.table_save.specs.Stretches.{stretch_of, stretches_of}
 use Rattle.table_save.specs.Tables.{itt_tables}
-use Rattle.table_save.proofs.Redistributors.{drop_in_hand}
 
 -- one stretch more
 pub one_listed : (list now : List (Addr × ℕ)) (a : Addr) (n : ℕ) → now ≡ list ++ (a, n) ∷ [] → pairs now ≡ pairs list ++ (a.0, n) ∷ []
@@ -59,17 +60,17 @@ itt_listed m before now whole it next d steps more so_far =
     ∙ ap (λ (ds : List (ℕ × Device)). before ++ stretches_of (itt_tables m ds)) (sym steps) ∙ so_far
 
 -- one redistributor's table more
-pub table_listed : (shape : Shape) (v : ℕ) (redists : List (Option Redist)) (r : Redist) (before now whole : List (ℕ × ℕ)) → v < shape.vcpus
-    → in_hand redists v ≡ Some r → now ≡ before ++ stretches_of (pending_words shape (redistributor_of r))
+pub table_listed : (shape : Shape) (v : ℕ) (redists : RedistParts) (c : Conf) (p : Pend) (before now whole : List (ℕ × ℕ)) → v < shape.vcpus
+    → AreInHandAt redists v c p → now ≡ before ++ stretches_of (pending_words shape (redistributor_of c p))
     → before ++ stretches_of (flat_map (pending_words shape) (drop v (redistributors_of shape redists))) ≡ whole
     → now ++ stretches_of (flat_map (pending_words shape) (drop (v + 1) (redistributors_of shape redists))) ≡ whole
-table_listed shape v redists r before now whole lt is more so_far =
+table_listed shape v redists c p before now whole lt is more so_far =
     let rs = redistributors_of shape redists in
-    let here : List Words = pending_words shape (redistributor_of r) in
+    let here : List Words = pending_words shape (redistributor_of c p) in
     let rest : List Words = flat_map (pending_words shape) (drop (suc v) rs) in
     rw add-one (ap (λ (xs : List (ℕ × ℕ)). xs ++ stretches_of rest) more ∙ append_assoc before (stretches_of here) (stretches_of rest)
     ∙ ap (λ (xs : List (ℕ × ℕ)). before ++ xs) (sym (map-append stretch_of here rest))
-    ∙ ap (λ (ds : List Redistributor). before ++ stretches_of (flat_map (pending_words shape) ds)) (sym (drop_in_hand shape.vcpus v redists r lt is)) ∙ so_far)
+    ∙ ap (λ (ds : List Redistributor). before ++ stretches_of (flat_map (pending_words shape) ds)) (sym (drop_to_place redists shape.vcpus v c p lt is)) ∙ so_far)
 
 -- ---- the device table
 

@@ -10,11 +10,12 @@ use Rattle.its_types.specs.declared.machine.Shape.{Shape}
 use Rattle.its_plain.specs.Plain.{Translator, Redistributor}
 use Rattle.its_plain.specs.Regions.{device_pages}
 use Rattle.its_plain.specs.Saved.{Words, wrote_tables, device_words, pages_words, page_words, pending_words, device_word}
-use Rattle.lpi_pending.specs.InHand.{in_hand}
-use Rattle.lpi_pending.specs.declared.redist.Redist.{Redist}
-use Rattle.owned_parts.specs.Owned.{redistributor_of}
+use Rattle.lpi_config.specs.declared.conf.Conf.{Conf}
+use Rattle.lpi_pending.specs.InHand.{RedistParts, redistributor_of}
+use Rattle.lpi_pending.specs.declared.pend.Pend.{Pend}
+use Rattle.owned_parts.specs.Places.{AreInHandAt}
+use Rattle.owned_parts.proofs.Places.{drop_to_place}
 use Rattle.table_save.specs.Areas.{redistributors_of}
-use Rattle.table_save.proofs.Redistributors.{drop_in_hand}
 
 -- tables after tables
 pub marked_append : (ts us : List Words) (t : Tracked) → wrote_tables (ts ++ us) t ≡ wrote_tables us (wrote_tables ts t)
@@ -29,16 +30,16 @@ page_marked t memory k first before now so_far marks =
     rw add-one (marks ∙ ap (wrote_tables last) so_far ∙ sym (marked_append (pages_words t memory k) last first))
 
 -- one redistributor's table more
-pub table_marked : (shape : Shape) (v : ℕ) (redists : List (Option Redist)) (r : Redist) (before now whole : Tracked) → v < shape.vcpus
-    → in_hand redists v ≡ Some r → now ≡ wrote_tables (pending_words shape (redistributor_of r)) before
+pub table_marked : (shape : Shape) (v : ℕ) (redists : RedistParts) (c : Conf) (p : Pend) (before now whole : Tracked) → v < shape.vcpus
+    → AreInHandAt redists v c p → now ≡ wrote_tables (pending_words shape (redistributor_of c p)) before
     → wrote_tables (flat_map (pending_words shape) (drop v (redistributors_of shape redists))) before ≡ whole
     → wrote_tables (flat_map (pending_words shape) (drop (v + 1) (redistributors_of shape redists))) now ≡ whole
-table_marked shape v redists r before now whole lt is marks so_far =
+table_marked shape v redists c p before now whole lt is marks so_far =
     let rs = redistributors_of shape redists in
-    let here : List Words = pending_words shape (redistributor_of r) in
+    let here : List Words = pending_words shape (redistributor_of c p) in
     let rest : List Words = flat_map (pending_words shape) (drop (suc v) rs) in
     rw add-one (ap (wrote_tables rest) marks ∙ sym (marked_append here rest before)
-    ∙ ap (λ (ds : List Redistributor). wrote_tables (flat_map (pending_words shape) ds) before) (sym (drop_in_hand shape.vcpus v redists r lt is)) ∙ so_far)
+    ∙ ap (λ (ds : List Redistributor). wrote_tables (flat_map (pending_words shape) ds) before) (sym (drop_to_place redists shape.vcpus v c p lt is)) ∙ so_far)
 
 -- ---- the device table
 

@@ -16,12 +16,13 @@ use Rattle.its_types.specs.Maps.{Maps}
 use Rattle.its_types.specs.Maps.{events_at}
 use Rattle.dirty_log.specs.declared.tracked.Tracked.{Tracked}
 use Rattle.its_types.specs.declared.machine.Shape.{Shape}
-use Rattle.its_plain.specs.Plain.{Translator}
-use Rattle.its_plain.specs.Sound.{IsSound, IsTranslator}
+use Rattle.its_plain.specs.Plain.{Translator, joined}
+use Rattle.its_plain.specs.Sound.{IsSound, IsRedistributor, IsTranslator}
 use Rattle.its_plain.specs.declared.layout.Layout.{Layout}
-use Rattle.lpi_pending.specs.InHand.{in_hand}
-use Rattle.lpi_pending.specs.declared.redist.Redist.{Redist}
-use Rattle.owned_parts.specs.Owned.{AreAllInHand, state_of, redistributor_of, redistributor_or, one_or_two, translator_at, translators_at}
+use Rattle.lpi_config.specs.declared.conf.Conf.{Conf}
+use Rattle.lpi_pending.specs.InHand.{RedistParts, pend_in}
+use Rattle.owned_parts.specs.Owned.{AreAllInHand, state_of, conf_or, pend_or, redistributor_in, one_or_two, translator_at, translators_at}
+use Rattle.owned_parts.proofs.Places.{place_is}
 use Rattle.owned_parts.specs.declared.in_place.TranslatorRef.{TranslatorRef}
 use Rattle.owned_parts.specs.declared.in_place.InPlace.{InPlace}
 use Rattle.std.specs.Option.{option_map}
@@ -71,15 +72,6 @@ some_bytes bits least =
     let part : 2 ^ 11 ≤ 2 ^ (bits - 3) = pow_mono {i = 11} {j = bits - 3} (omega arith) in
     (omega arith, omega arith)
 
--- ---- the parts
-
-pub in_hand_here : (n v : ℕ) (redists : List (Option Redist)) (r : Redist) → v < n → in_hand redists v ≡ Some r
-    → slice_get (map redistributor_or (take n redists)) v ≡ Some (redistributor_of r)
-in_hand_here n v [] r lt is = absurd cc
-in_hand_here zero v (x ∷ xs) r lt is = absurd (omega arith)
-in_hand_here (suc n) zero (x ∷ xs) r lt is = ap (λ (o : Option Redist). Some (redistributor_or o)) is
-in_hand_here (suc n) (suc v) (x ∷ xs) r lt is = in_hand_here n v xs r (omega arith) is
-
 -- ---- a translator
 
 fits_translator : (s : Shape) (t : TranslatorRef) → IsTranslator s (translator_at t) → FitsTranslator t
@@ -107,11 +99,13 @@ second_fits s first (Some t) h = fits_translator s t (h (translator_at t) refl)
 
 -- ---- the redistributors
 
-module _ (l : Layout) (ts : List Translator) (memory : List Window) (track : Option Tracked) (redists : List (Option Redist))
+module _ (l : Layout) (ts : List Translator) (memory : List Window) (track : Option Tracked) (redists : RedistParts)
     (sound : IsSound (state_of l ts memory track redists)) where
   pub redistributors_low : HaveLowTables l.shape redists
   redistributors_low = λ v q is lt.
-      let h = sound.redistributors v (redistributor_of q) (in_hand_here l.shape.vcpus v redists q lt is) in
+      let h : IsRedistributor l memory v (joined (conf_or (Some q)) (pend_or (pend_in redists v))) =
+      subst (λ (o : Option Conf). IsRedistributor l memory v (joined (conf_or o) (pend_or (pend_in redists v)))) is
+      (sound.redistributors v (redistributor_in redists v) (place_is redists l.shape.vcpus v lt)) in
       let windows = are_in_range (map extent memory) sound.memory in
       let least = sound.layout.shape.least_lpi_bits in
       elim q.bases.on as (λ b. q.bases.on ≡ b → AreLow q.bases) [

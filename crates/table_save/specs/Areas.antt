@@ -1,5 +1,5 @@
 -- The areas that a save looks at, each kind from what decides it.
-use Rattle.std.specs.Prelude.{◌≡◌, ℕ, ◌+◌, ◌-◌, ◌^◌, ◌<◌, ◌≤◌, true, false, if◌then◌else◌, List, [], ◌∷◌, ◌++◌, map, take, Option, Some}
+use Rattle.std.specs.Prelude.{◌≡◌, ℕ, ◌+◌, ◌-◌, ◌^◌, ◌<◌, ◌≤◌, true, false, if◌then◌else◌, List, [], ◌∷◌, ◌++◌, Some}
 use Rattle.std.specs.Prelude.{slice_index_or}
 use Rattle.std.specs.List.{flat_map}
 use Rattle.guest_windows.specs.Windows.{Window}
@@ -18,17 +18,17 @@ use Rattle.its_plain.specs.declared.layout.Layout.{Layout}
 use Rattle.gicr_regs.specs.Registers.{AreLow}
 use Rattle.its_plain.specs.Regions.{device_areas, collection_areas, itt_area, areas_from}
 use Rattle.its_plain.specs.declared.fault.Region.TheVariants.{Pending, Config, ConfigOf}
-use Rattle.lpi_pending.specs.InHand.{in_hand}
-use Rattle.lpi_pending.specs.declared.redist.Redist.{Redist}
-use Rattle.owned_parts.specs.Owned.{redistributor_or}
+use Rattle.lpi_config.specs.declared.conf.Conf.{Conf}
+use Rattle.lpi_pending.specs.InHand.{RedistParts, conf_in}
+use Rattle.owned_parts.specs.Owned.{redistributors_in}
 
 -- the interrupt translation tables of some devices of a translator
 abbrev pub itt_areas : ℕ → List (ℕ × Device) → List Area
 itt_areas its devices = flat_map (λ d. itt_area its d ∷ []) devices
 
 -- the redistributors in hand, as the plain machine has them
-abbrev pub redistributors_of : Shape → List (Option Redist) → List Redistributor
-redistributors_of shape redists = map redistributor_or (take shape.vcpus redists)
+abbrev pub redistributors_of : Shape → RedistParts → List Redistributor
+redistributors_of shape redists = redistributors_in shape.vcpus redists
 
 -- a pending table but for the bytes that belong to no LPI, where LPIs are on
 abbrev pub pending_area : Shape → Vcpu → Bases → List Area
@@ -52,8 +52,8 @@ config_areas l rs =
 abbrev pub HasLowTable : ℕ × Device → Type 0
 HasLowTable d = (d.1.itt.0 < 2 ^ 52) × (d.1.bits ≤ 16)
 
-abbrev pub HaveLowTables : Shape → List (Option Redist) → Type 0
-HaveLowTables shape redists = (vcpu : ℕ) (r : Redist) → in_hand redists vcpu ≡ Some r → vcpu < shape.vcpus → AreLow r.bases
+abbrev pub HaveLowTables : Shape → RedistParts → Type 0
+HaveLowTables shape redists = (vcpu : ℕ) (c : Conf) → conf_in redists vcpu ≡ Some c → vcpu < shape.vcpus → AreLow c.bases
 
 -- ---- all of them
 
@@ -62,6 +62,6 @@ abbrev pub tables_in : ℕ → List Window → Registers → Maps → List Area
 tables_in its memory r m = device_areas its r memory ++ collection_areas its r ++ itt_areas its (entries m.devices)
 
 -- with the others after them, of which the queues come last
-abbrev pub all_areas : List Area → Layout → List Area → List (Option Redist) → List Area
+abbrev pub all_areas : List Area → Layout → List Area → RedistParts → List Area
 all_areas tables l queues redists =
     tables ++ areas_from (regions.pending_area l.shape) 0 (redistributors_of l.shape redists) ++ config_areas l (redistributors_of l.shape redists) ++ queues

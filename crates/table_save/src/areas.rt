@@ -158,8 +158,8 @@ fn add_pending(areas: &mut AreaList, redists: &Redists, shape: Shape)
         (redistributors_of shape redists.now)) areas.old areas.new }
 {
     for vcpu in 0..shape.vcpus {
-        let redist = redists.redist(Vcpu(vcpu));
-        add_pending_of(areas, Vcpu(vcpu), redist.bases, shape);
+        let conf = redists.conf(Vcpu(vcpu));
+        add_pending_of(areas, Vcpu(vcpu), conf.bases, shape);
     }
 }
 
@@ -191,7 +191,7 @@ fn add_configs(areas: &mut AreaList, redists: &Redists, layout: &Layout)
         add_own_configs(areas, redists, shape);
         return;
     }
-    let table = redists.redist(Vcpu(0)).bases.prop.table;
+    let table = redists.conf(Vcpu(0)).bases.prop.table;
     areas.push(Stretch::read_only(Region::Config, table.0, shape.lpi_count()));
 }
 
@@ -204,8 +204,8 @@ fn add_own_configs(areas: &mut AreaList, redists: &Redists, shape: Shape)
         (redistributors_of shape redists.now)) areas.old areas.new }
 {
     for vcpu in 0..shape.vcpus {
-        let redist = redists.redist(Vcpu(vcpu));
-        add_own_config(areas, Vcpu(vcpu), redist.bases, shape);
+        let conf = redists.conf(Vcpu(vcpu));
+        add_own_config(areas, Vcpu(vcpu), conf.bases, shape);
     }
 }
 

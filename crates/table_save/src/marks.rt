@@ -10,8 +10,8 @@ ghost use Rattle.its_plain.specs.Saved as saved;
 ghost use Rattle.its_plain.specs.Saved.{wrote_tables, pending_words, words_of};
 ghost use Rattle.its_plain.specs.Sound.{IsShape};
 ghost use Rattle.its_types.specs.Maps as plain;
-ghost use Rattle.lpi_pending.specs.InHand.{redistributor_of};
-ghost use Rattle.owned_parts.specs.Owned.{AreAllInHand, state_in_place};
+ghost use Rattle.its_plain.specs.Plain.{PendState, joined};
+ghost use Rattle.owned_parts.specs.Owned.{AreAllInHand, conf_state, state_in_place};
 ghost use Rattle.table_save.specs.Areas.{redistributors_of, HasLowTable, HaveLowTables};
 ghost use Rattle.table_save.specs.Fits.{AreOfSound, FitsSave, FitsTranslator};
 ghost use Rattle.table_save.specs.Fits.{words_at, second_words};
@@ -23,7 +23,8 @@ use gits_regs::Regs;
 use guest_windows::Memory;
 use its_maps::Maps;
 use its_types::{Addr, Shape, Vcpu};
-use lpi_pending::{Redist, Redists};
+use lpi_config::Conf;
+use lpi_pending::Redists;
 use owned_parts::{InPlace, TranslatorRef};
 
 /// Marks the pages of the tables that a save of the parts writes. The second memory may be lent
@@ -143,19 +144,19 @@ fn mark_pending(track: &mut Tracked, redists: &Redists, shape: Shape)
         (redistributors_of shape redists.now)) track.old }
 {
     for vcpu in 0..shape.vcpus {
-        mark_table(track, redists.redist(Vcpu(vcpu)), shape);
+        mark_table(track, redists.conf(Vcpu(vcpu)), shape);
     }
 }
 
 // That of a redistributor whose LPIs are on.
-fn mark_table(track: &mut Tracked, redist: &Redist, shape: Shape)
+fn mark_table(track: &mut Tracked, conf: &Conf, shape: Shape)
     requires shape { IsShape shape }
-    requires low { AreLow redist.now.bases }
-    ensures { track.new ≡ wrote_tables (pending_words shape (redistributor_of redist.now))
-        track.old }
+    requires low { AreLow conf.now.bases }
+    ensures { (p : PendState) → track.new
+        ≡ wrote_tables (pending_words shape (joined (conf_state conf.now) p)) track.old }
 {
-    if redist.bases.on {
+    if conf.bases.on {
         let size = 8 * ((shape.pending_bytes() - 1024) / 8);
-        track.mark(Addr(redist.bases.pend.table.0 + 1024), size);
+        track.mark(Addr(conf.bases.pend.table.0 + 1024), size);
     }
 }

@@ -5,14 +5,15 @@ ghost use Rattle.std.specs.List.{flat_map};
 ghost use Rattle.its_types.specs.Ranges.{pending_bytes};
 ghost use Rattle.its_plain.specs.Saved.{put_words, put_tables, pending_word, pending_words};
 ghost use Rattle.its_plain.specs.Sound.{IsShape};
-ghost use Rattle.owned_parts.specs.Owned.{AreAllInHand, HasLpisOf, redistributor_of};
+ghost use Rattle.owned_parts.specs.Owned.{AreAllInHand, HasLpisOfPend, redistributor_of};
 ghost use Rattle.gicr_regs.specs.Registers.{AreLow};
 ghost use Rattle.table_save.specs.Areas.{redistributors_of, HaveLowTables};
 
 use crate::words::{BLOCK, put_block};
 use guest_windows::Memory;
 use its_types::{Shape, Vcpu, le_u64};
-use lpi_pending::{Pending, Redist, Redists};
+use lpi_config::Conf;
+use lpi_pending::{Pend, Pending, Redists};
 use std::alloc::AllocError;
 
 /// Writes the pending tables, but for the bytes that belong to no LPI.
@@ -25,28 +26,33 @@ pub fn put_pending(memory: &mut Memory, redists: &Redists, shape: Shape) -> Resu
         (flat_map (pending_words shape) (redistributors_of shape redists.now))) }
 {
     for vcpu in 0..shape.vcpus {
-        put_table(memory, redists.redist(Vcpu(vcpu)), shape)?;
+        put_table(memory, redists.conf(Vcpu(vcpu)), redists.pend(Vcpu(vcpu)), shape)?;
     }
     Ok(())
 }
 
 // Writes a redistributor's table, where its LPIs are on.
-fn put_table(memory: &mut Memory, redist: &Redist, shape: Shape) -> Result<(), AllocError>
+fn put_table(
+    memory: &mut Memory,
+    conf: &Conf,
+    pend: &Pend,
+    shape: Shape,
+) -> Result<(), AllocError>
     requires shape { IsShape shape }
-    requires lpis { HasLpisOf shape redist.now }
-    requires low { AreLow redist.now.bases }
+    requires lpis { HasLpisOfPend shape pend.now }
+    requires low { AreLow conf.now.bases }
     ensures { OnOk result (memory.new ≡ put_tables memory.old
-        (pending_words shape (redistributor_of redist.now))) }
+        (pending_words shape (redistributor_of conf.now pend.now))) }
 {
-    if !redist.bases.on {
+    if !conf.bases.on {
         return Ok(());
     }
     let count = (shape.pending_bytes() - 1024) / 8;
     put_words_of(
         memory,
-        redist.bases.pend.table.0 + 1024,
+        conf.bases.pend.table.0 + 1024,
         count as u32,
-        &redist.pending,
+        &pend.pending,
     )
 }
 

@@ -11,8 +11,8 @@ ghost use Rattle.its_plain.specs.Saved as saved;
 ghost use Rattle.its_plain.specs.Saved.{pending_words, words_of};
 ghost use Rattle.its_plain.specs.Sound.{IsShape};
 ghost use Rattle.its_types.specs.Maps as plain;
-ghost use Rattle.lpi_pending.specs.InHand.{redistributor_of};
-ghost use Rattle.owned_parts.specs.Owned.{AreAllInHand, state_in_place};
+ghost use Rattle.its_plain.specs.Plain.{PendState, joined};
+ghost use Rattle.owned_parts.specs.Owned.{AreAllInHand, conf_state, state_in_place};
 ghost use Rattle.table_save.specs.Areas.{redistributors_of, HasLowTable, HaveLowTables};
 ghost use Rattle.table_save.specs.Fits.{AreOfSound, FitsSave, FitsTranslator};
 ghost use Rattle.table_save.specs.Fits.{words_at, second_words};
@@ -24,7 +24,8 @@ use gits_regs::Regs;
 use guest_windows::Memory;
 use its_maps::Maps;
 use its_types::{Addr, Shape, Vcpu};
-use lpi_pending::{Redist, Redists};
+use lpi_config::Conf;
+use lpi_pending::Redists;
 use owned_parts::{InPlace, TranslatorRef};
 use std::alloc::{AllocError, Global};
 
@@ -168,23 +169,23 @@ fn list_pending(
         (redistributors_of shape redists.now))) }
 {
     for vcpu in 0..shape.vcpus {
-        list_table(list, redists.redist(Vcpu(vcpu)), shape)?;
+        list_table(list, redists.conf(Vcpu(vcpu)), shape)?;
     }
     Ok(())
 }
 
 // That of a redistributor whose LPIs are on.
-fn list_table(list: &mut Vec<(Addr, u64)>, redist: &Redist, shape: Shape) -> Result<(), AllocError>
+fn list_table(list: &mut Vec<(Addr, u64)>, conf: &Conf, shape: Shape) -> Result<(), AllocError>
     requires shape { IsShape shape }
-    requires low { AreLow redist.now.bases }
-    ensures { OnOk result (pairs list.new.items ≡ pairs list.old.items
-        ++ stretches_of (pending_words shape (redistributor_of redist.now))) }
+    requires low { AreLow conf.now.bases }
+    ensures { OnOk result ((p : PendState) → pairs list.new.items ≡ pairs list.old.items
+        ++ stretches_of (pending_words shape (joined (conf_state conf.now) p))) }
 {
-    if !redist.bases.on {
+    if !conf.bases.on {
         return Ok(());
     }
     let size = 8 * ((shape.pending_bytes() - 1024) / 8);
-    add(list, Addr(redist.bases.pend.table.0 + 1024), size)
+    add(list, Addr(conf.bases.pend.table.0 + 1024), size)
 }
 
 fn add(list: &mut Vec<(Addr, u64)>, base: Addr, len: u64) -> Result<(), AllocError>

@@ -15,10 +15,13 @@ returns-clause-many c = let some = c.requires.shape.some_vcpus in c.loop-vcpu.in
 
 pub loop-vcpu-preserved : goal.loop-vcpu-preserved
 loop-vcpu-preserved c =
-    let l = c.args.layout.now in let before = c.loop-vcpu.invariant in let redist = c.in_ok-redist in
+    let l = c.args.layout.now in let before = c.loop-vcpu.invariant in let found = c.in_ok-conf in
+    let conf = rw c.in_ok-new.ensures.ok at c.place_conf.ensures.placed in
+    let pend = rw c.in_ok-new-2.ensures.ok at c.place_pend.ensures.placed in
     record {
-      below = one_more l.shape c.args.memory.now (bases_to_restore l c.args.gicr.now) c.loop-vcpu.redists c.place.new.self c.loop-vcpu.vcpu
-          c.bases_of-bases.result redist.redist c.bases_of-bases.ensures.bases (rw c.in_ok-new.ensures.ok at c.place.ensures.placed)
-          (omega (arith, c.requires.shape.most_vcpus, c.loop-vcpu-test.true)) redist.ensures.1 redist.ensures.0 c.place.ensures.size before.below;
+      below = one_more l.shape c.args.memory.now (bases_to_restore l c.args.gicr.now) c.loop-vcpu.redists c.place_pend.new.self c.loop-vcpu.vcpu
+          c.bases_of-bases.result (found.conf, found.pend) c.bases_of-bases.ensures.bases (rw conf at pend)
+          (omega (arith, c.requires.shape.most_vcpus, c.loop-vcpu-test.true)) found.ensures.1 found.ensures.0 c.place_pend.ensures.confs
+          c.place_pend.ensures.pends before.below;
       many = λ some. c.bases_of-bases.ensures.many;
     }

@@ -4,16 +4,17 @@ use Rattle.its_plain.specs.Regions.{pending_area}
 use Rattle.table_save.proofs.Redistributors.{area_more}
 use Rattle.table_save.proofs.areas.add_pending.Goals as goal
 
-pub redist-redist-requires : goal.redist-redist-requires
-redist-redist-requires c = ap is_some (c.requires.in_hand c.loop-vcpu.vcpu c.loop-vcpu-test.true).1
+pub conf-conf-requires : goal.conf-conf-requires
+conf-conf-requires c = ap is_some (c.requires.in_hand c.loop-vcpu.vcpu c.loop-vcpu-test.true).0.1
 
 pub loop-vcpu-preserved : goal.loop-vcpu-preserved
 loop-vcpu-preserved c =
     let v = c.loop-vcpu.invariant in
     let more = c.add_pending_of.ensures in
+    let pend = (c.requires.in_hand c.loop-vcpu.vcpu c.loop-vcpu-test.true).1 in
     record {
-      items = area_more (pending_area c.args.shape) c.args.shape c.loop-vcpu.vcpu c.args.redists.now c.redist-redist.result.now c.loop-vcpu.areas.items
-          c.add_pending_of.new.areas.items _ c.loop-vcpu-test.true c.redist-redist.ensures more.items v.items;
+      items = area_more (pending_area c.args.shape) c.args.shape c.loop-vcpu.vcpu c.args.redists.now c.conf-conf.result.now pend.0 c.loop-vcpu.areas.items
+          c.add_pending_of.new.areas.items _ c.loop-vcpu-test.true (record { conf = c.conf-conf.ensures; pend = pend.1 }) more.items v.items;
       few = omega (arith, more.few, v.few);
       capacity = omega (arith, more.capacity, v.capacity);
     }
