@@ -4,7 +4,7 @@ use Rattle.its_types.specs.Lpis.{without_lpi}
 use Rattle.its_types.specs.Ranges.{is_lpi}
 use Rattle.its_types.specs.declared.ids.Vcpu.{Vcpu}
 use Rattle.its_plain.specs.Answer.{lowest, best, claimed, taken}
-use Rattle.its_plain.specs.Plain.{Redistributor}
+use Rattle.its_plain.specs.Plain.{Redistributor, PendState}
 use Rattle.its_plain.specs.declared.call.Ack.{Ack}
 use Rattle.its_plain.specs.declared.call.Ack.TheVariants as ack
 use Rattle.its_plain.specs.declared.call.Call.{Call}
@@ -32,9 +32,9 @@ left_by r (asked.Best mask) = r
 left_by r (asked.Claim intid) = taken r (claimed r intid.0)
 
 -- the LPI of an answer is pending no more
-abbrev pub acknowledged : Redistributor → Ack → Redistributor
-acknowledged r ack.None = r
-acknowledged r (ack.Some intid priority) = record r { pending = without_lpi intid.0 r.pending }
+abbrev pub acknowledged : PendState → Ack → PendState
+acknowledged p ack.None = p
+acknowledged p (ack.Some intid priority) = record p { pending = without_lpi intid.0 p.pending }
 
 -- the LPI is one of so many bits, if there is one
 abbrev pub IsInRange : ℕ → Ack → Type 0

@@ -1,18 +1,17 @@
 //! Acknowledgements that wait for nobody.
 ghost use Rattle.std.specs.Prelude.{◌≡◌, ◌<◌, []};
-ghost use Rattle.its_types.specs.declared.machine.Part.TheVariants as part;
 ghost use Rattle.its_plain.specs.declared.call.Call.TheVariants as call;
-ghost use Rattle.its_plain.specs.declared.call.Reply.TheVariants as reply;
 ghost use Rattle.its_steps.specs.Parts.{vcpu_count};
-ghost use Rattle.its_turns.specs.Calls.{TriesPart};
 ghost use Rattle.its_turns.specs.Machines.{setup, view, IsOf};
+ghost use Rattle.redist_ack.specs.Both.{TriesAck};
 ghost use Rattle.redist_ack.specs.Offers.{call_of};
 
 use crate::asked::Asked;
+use crate::both::{put_both, try_take_both};
 use its_plain::{Ack, Reply};
 use its_steps::ShardChange;
-use its_turns::{Attempt, Machine, Pass, Value, put, try_commit, try_take_redist};
-use its_types::{Gate, Intid, Part, Placed, Vcpu};
+use its_turns::{Attempt, Machine, Pass, try_commit};
+use its_types::{Gate, Intid, Placed, Vcpu};
 
 /// Acknowledges the lowest LPI that is pending and enabled at a virtual processor.
 pub fn try_take<G: Gate>(machine: &Machine, pass: &mut Pass, gate: &G, vcpu: Vcpu) -> Attempt<Ack>
@@ -20,8 +19,7 @@ pub fn try_take<G: Gate>(machine: &Machine, pass: &mut Pass, gate: &G, vcpu: Vcp
     requires free { (view pass.old).held ≡ [] }
     requires vcpu { vcpu.0 < vcpu_count (setup machine.now) }
     ensures of { IsOf machine.now pass.new }
-    ensures answer { TriesPart (view pass.old) (part.Redist vcpu) (call.Take vcpu) reply.Ack
-        (view pass.new)
+    ensures answer { TriesAck (view pass.old) vcpu (call.Take vcpu) (view pass.new)
         result }
 {
     try_ask(machine, pass, gate, vcpu, Asked::Take)
@@ -33,8 +31,7 @@ pub fn try_show<G: Gate>(machine: &Machine, pass: &mut Pass, gate: &G, vcpu: Vcp
     requires free { (view pass.old).held ≡ [] }
     requires vcpu { vcpu.0 < vcpu_count (setup machine.now) }
     ensures of { IsOf machine.now pass.new }
-    ensures answer { TriesPart (view pass.old) (part.Redist vcpu) (call.Show vcpu) reply.Ack
-        (view pass.new)
+    ensures answer { TriesAck (view pass.old) vcpu (call.Show vcpu) (view pass.new)
         result }
 {
     try_ask(machine, pass, gate, vcpu, Asked::Show)
@@ -53,8 +50,7 @@ pub fn try_best<G: Gate>(
     requires free { (view pass.old).held ≡ [] }
     requires vcpu { vcpu.0 < vcpu_count (setup machine.now) }
     ensures of { IsOf machine.now pass.new }
-    ensures answer { TriesPart (view pass.old) (part.Redist vcpu) (call.Best vcpu mask) reply.Ack
-        (view pass.new)
+    ensures answer { TriesAck (view pass.old) vcpu (call.Best vcpu mask) (view pass.new)
         result }
 {
     try_ask(machine, pass, gate, vcpu, Asked::Best(mask))
@@ -72,8 +68,7 @@ pub fn try_claim<G: Gate>(
     requires free { (view pass.old).held ≡ [] }
     requires vcpu { vcpu.0 < vcpu_count (setup machine.now) }
     ensures of { IsOf machine.now pass.new }
-    ensures answer { TriesPart (view pass.old) (part.Redist vcpu) (call.Claim vcpu intid) reply.Ack
-        (view pass.new)
+    ensures answer { TriesAck (view pass.old) vcpu (call.Claim vcpu intid) (view pass.new)
         result }
 {
     try_ask(machine, pass, gate, vcpu, Asked::Claim(intid))
@@ -91,15 +86,14 @@ pub fn try_ask<G: Gate>(
     requires free { (view pass.old).held ≡ [] }
     requires vcpu { vcpu.0 < vcpu_count (setup machine.now) }
     ensures of { IsOf machine.now pass.new }
-    ensures answer { TriesPart (view pass.old) (part.Redist vcpu) (call_of vcpu asked) reply.Ack
-        (view pass.new)
+    ensures answer { TriesAck (view pass.old) vcpu (call_of vcpu asked) (view pass.new)
         result }
 {
-    let mut redist = match try_take_redist(machine, pass, vcpu) {
-        Ok(redist) => redist,
+    let (conf, mut pend) = match try_take_both(machine, pass, vcpu) {
+        Ok(both) => both,
         Err(busy) => return Attempt::Busy(busy),
     };
-    let ack = asked.answer(&redist);
+    let ack = asked.answer(&conf, &pend);
     let call = asked.call(vcpu);
     match try_commit(
         machine,
@@ -110,15 +104,15 @@ pub fn try_ask<G: Gate>(
         ShardChange::Keep,
     ) {
         Ok(word) => {
-            asked.apply(&mut redist, ack);
-            put(machine, pass, Part::Redist(vcpu), Value::Redist(redist));
+            asked.apply(&mut pend, ack);
+            put_both(machine, pass, vcpu, conf, pend);
             Attempt::Done(Placed {
                 place: word.place,
                 reply: ack,
             })
         }
         Err(lost) => {
-            put(machine, pass, Part::Redist(vcpu), Value::Redist(redist));
+            put_both(machine, pass, vcpu, conf, pend);
             lost.attempt()
         }
     }

@@ -1,12 +1,12 @@
 //! What is asked of a redistributor, and what it answers.
 ghost use Rattle.std.specs.Prelude.{◌≡◌};
-ghost use Rattle.its_types.specs.declared.machine.Shape.{Shape};
-ghost use Rattle.owned_parts.specs.Owned.{redistributor_of, HasLpisOf};
+ghost use Rattle.lpi_pending.specs.InHand.{pend_state};
 ghost use Rattle.redist_ack.specs.Offers.{acknowledged, IsInRange};
 
 use its_plain::{Ack, Call};
 use its_types::{Intid, Vcpu};
-use lpi_pending::Redist;
+use lpi_config::Conf;
+use lpi_pending::Pend;
 
 /// An acknowledgement, or a look at what one would be.
 #[derive(Clone, Copy)]
@@ -25,10 +25,10 @@ impl Asked {
     ghost use Rattle.std.specs.Prelude.{◌≡◌, true, IfSome};
     ghost use Rattle.std.specs.Option.{option_map};
     ghost use Rattle.its_plain.specs.Answer.{ack_of};
+    ghost use Rattle.its_plain.specs.Plain.{ConfState, joined, pend_of};
     ghost use Rattle.its_types.specs.Ranges.{is_lpi};
-    ghost use Rattle.its_types.specs.declared.machine.Shape.{Shape};
+    ghost use Rattle.lpi_pending.specs.InHand.{pend_state, redistributor_of};
     ghost use Rattle.lpi_pending.specs.PendingSets.{as_intid};
-    ghost use Rattle.owned_parts.specs.Owned.{redistributor_of, HasLpisOf};
     ghost use Rattle.redist_ack.specs.Offers.{call_of, chosen, left_by, IsInRange};
 
     /// The call of the history.
@@ -44,57 +44,57 @@ impl Asked {
     }
 
     // The LPI that it is about, if there is one.
-    fn choose(self, redist: &Redist) -> Option<Intid>
-        requires { redist.now.pending.lpi_bits ≡ redist.now.config.lpi_bits }
+    fn choose(self, conf: &Conf, pend: &Pend) -> Option<Intid>
+        requires { pend.now.pending.lpi_bits ≡ conf.now.config.lpi_bits }
         ensures chosen { result
-            ≡ option_map as_intid (chosen (redistributor_of redist.now) self) }
+            ≡ option_map as_intid (chosen (redistributor_of conf.now pend.now) self) }
         ensures in_range { IfSome result
-            (λ intid. is_lpi redist.now.pending.lpi_bits intid.0 ≡ true) }
+            (λ intid. is_lpi pend.now.pending.lpi_bits intid.0 ≡ true) }
     {
         match self {
-            Asked::Take | Asked::Show => redist.pending.first_enabled(&redist.config),
-            Asked::Best(mask) => redist.pending.first_by_priority(&redist.config, mask),
-            Asked::Claim(intid) => redist.pending.claimable(&redist.config, intid),
+            Asked::Take | Asked::Show => pend.pending.first_enabled(&conf.config),
+            Asked::Best(mask) => pend.pending.first_by_priority(&conf.config, mask),
+            Asked::Claim(intid) => pend.pending.claimable(&conf.config, intid),
         }
     }
 
     /// The LPI with its priority, of which bits 1 and 0 are clear.
-    pub fn answer(self, redist: &Redist) -> Ack
-        requires { redist.now.pending.lpi_bits ≡ redist.now.config.lpi_bits }
-        ensures answer { result ≡ ack_of (redistributor_of redist.now)
-            (chosen (redistributor_of redist.now) self) }
-        ensures in_range { IsInRange redist.now.pending.lpi_bits result }
+    pub fn answer(self, conf: &Conf, pend: &Pend) -> Ack
+        requires { pend.now.pending.lpi_bits ≡ conf.now.config.lpi_bits }
+        ensures answer { let r = redistributor_of conf.now pend.now in
+            result ≡ ack_of r (chosen r self) }
+        ensures in_range { IsInRange pend.now.pending.lpi_bits result }
     {
-        match self.choose(redist) {
+        match self.choose(conf, pend) {
             Some(intid) => Ack::Some {
                 intid,
-                priority: redist.config.byte(intid) & 0xfc,
+                priority: conf.config.byte(intid) & 0xfc,
             },
             None => Ack::None,
         }
     }
 
-    /// The LPI that was acknowledged is pending no more. One that was shown stays.
-    pub fn apply(self, redist: &mut Redist, answer: Ack)
-        requires answer { answer ≡ ack_of (redistributor_of redist.old)
-            (chosen (redistributor_of redist.old) self) }
-        requires in_range { IsInRange redist.old.pending.lpi_bits answer }
-        ensures left { redistributor_of redist.new
-            ≡ left_by (redistributor_of redist.old) self }
-        ensures lpis { (s : Shape) → HasLpisOf s redist.old → HasLpisOf s redist.new }
+    /// The LPI that was acknowledged is pending no more, by whichever configuration it was chosen.
+    /// One that was shown stays.
+    pub fn apply(self, pend: &mut Pend, answer: Ack)
+        requires { IsInRange pend.old.pending.lpi_bits answer }
+        ensures left { (c : ConfState) → answer ≡ ack_of (joined c (pend_state pend.old))
+            (chosen (joined c (pend_state pend.old)) self)
+            → pend_state pend.new ≡ pend_of (left_by (joined c (pend_state pend.old)) self) }
+        ensures lpis { pend.new.pending.lpi_bits ≡ pend.old.pending.lpi_bits }
     {
         if let Asked::Take | Asked::Claim(_) = self {
-            acknowledge(redist, answer);
+            acknowledge(pend, answer);
         }
     }
 }
 
-fn acknowledge(redist: &mut Redist, answer: Ack)
-    requires { IsInRange redist.old.pending.lpi_bits answer }
-    ensures left { redistributor_of redist.new ≡ acknowledged (redistributor_of redist.old) answer }
-    ensures lpis { (s : Shape) → HasLpisOf s redist.old → HasLpisOf s redist.new }
+fn acknowledge(pend: &mut Pend, answer: Ack)
+    requires { IsInRange pend.old.pending.lpi_bits answer }
+    ensures left { pend_state pend.new ≡ acknowledged (pend_state pend.old) answer }
+    ensures lpis { pend.new.pending.lpi_bits ≡ pend.old.pending.lpi_bits }
 {
     if let Ack::Some { intid, .. } = answer {
-        redist.pending.clear(intid);
+        pend.pending.clear(intid);
     }
 }

@@ -1,11 +1,9 @@
 //! Acknowledgements that wait for their redistributor.
 ghost use Rattle.std.specs.Prelude.{◌≡◌, ◌<◌, []};
-ghost use Rattle.its_types.specs.declared.machine.Part.TheVariants as part;
 ghost use Rattle.its_plain.specs.declared.call.Call.TheVariants as call;
-ghost use Rattle.its_plain.specs.declared.call.Reply.TheVariants as reply;
 ghost use Rattle.its_steps.specs.Parts.{vcpu_count};
-ghost use Rattle.its_turns.specs.Calls.{AsksPart};
 ghost use Rattle.its_turns.specs.Machines.{setup, view, IsOf};
+ghost use Rattle.redist_ack.specs.Both.{AsksAck};
 ghost use Rattle.redist_ack.specs.Offers.{call_of};
 
 use crate::acks::try_ask;
@@ -34,8 +32,7 @@ pub fn take<R: Wait, G: Gate>(
     requires free { (view pass.old).held ≡ [] }
     requires vcpu { vcpu.0 < vcpu_count (setup machine.now) }
     ensures of { IsOf machine.now pass.new }
-    ensures answer { AsksPart (view pass.old) (part.Redist vcpu) (call.Take vcpu) reply.Ack
-        (view pass.new)
+    ensures answer { AsksAck (view pass.old) vcpu (call.Take vcpu) (view pass.new)
         result }
 {
     ask(rt, machine, pass, gate, vcpu, Asked::Take)
@@ -57,8 +54,7 @@ pub fn show<R: Wait, G: Gate>(
     requires free { (view pass.old).held ≡ [] }
     requires vcpu { vcpu.0 < vcpu_count (setup machine.now) }
     ensures of { IsOf machine.now pass.new }
-    ensures answer { AsksPart (view pass.old) (part.Redist vcpu) (call.Show vcpu) reply.Ack
-        (view pass.new)
+    ensures answer { AsksAck (view pass.old) vcpu (call.Show vcpu) (view pass.new)
         result }
 {
     ask(rt, machine, pass, gate, vcpu, Asked::Show)
@@ -82,8 +78,7 @@ pub fn best<R: Wait, G: Gate>(
     requires free { (view pass.old).held ≡ [] }
     requires vcpu { vcpu.0 < vcpu_count (setup machine.now) }
     ensures of { IsOf machine.now pass.new }
-    ensures answer { AsksPart (view pass.old) (part.Redist vcpu) (call.Best vcpu mask) reply.Ack
-        (view pass.new)
+    ensures answer { AsksAck (view pass.old) vcpu (call.Best vcpu mask) (view pass.new)
         result }
 {
     ask(rt, machine, pass, gate, vcpu, Asked::Best(mask))
@@ -108,8 +103,7 @@ pub fn claim<R: Wait, G: Gate>(
     requires free { (view pass.old).held ≡ [] }
     requires vcpu { vcpu.0 < vcpu_count (setup machine.now) }
     ensures of { IsOf machine.now pass.new }
-    ensures answer { AsksPart (view pass.old) (part.Redist vcpu) (call.Claim vcpu intid) reply.Ack
-        (view pass.new)
+    ensures answer { AsksAck (view pass.old) vcpu (call.Claim vcpu intid) (view pass.new)
         result }
 {
     ask(rt, machine, pass, gate, vcpu, Asked::Claim(intid))
@@ -128,8 +122,7 @@ fn ask<R: Wait, G: Gate>(
     requires free { (view pass.old).held ≡ [] }
     requires vcpu { vcpu.0 < vcpu_count (setup machine.now) }
     ensures of { IsOf machine.now pass.new }
-    ensures answer { AsksPart (view pass.old) (part.Redist vcpu) (call_of vcpu asked) reply.Ack
-        (view pass.new)
+    ensures answer { AsksAck (view pass.old) vcpu (call_of vcpu asked) (view pass.new)
         result }
 {
     for _ in rt.forever() {

@@ -7,6 +7,7 @@
 mod acks;
 mod asked;
 mod asks;
+mod both;
 
 pub use acks::{try_best, try_claim, try_show, try_take};
 pub use asks::{best, claim, show, take};
