@@ -110,7 +110,7 @@ fn lpis_are_off(rt: HostRuntime) {
         (0x78, 4, 0x8006_0000, half),
         (0x70, 8, 0xfff0_0000_8003_0fef, whole),
     ];
-    let read = wrong_read(true, &off, &[(0x0, 4, 2)]);
+    let read = wrong_read(true, &off, &[(0x0, 4, 6)]);
     let turned = wrong_write(&off, &turning);
     let set = wrong_write(&zeroed, &setting);
     assert_eq!(rt; [read, turned, set], [None; 3]);

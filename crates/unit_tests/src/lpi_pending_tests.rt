@@ -2,9 +2,10 @@
 use guest_windows::Memory;
 use its_types::{Addr, Bases, Intid, Profile, Shape, Vcpu};
 use lpi_config::{Conf, Config};
-use lpi_pending::{Pend, Pending, Redists};
-use lpi_pending::{changes_pending, conf_set, conf_write, reads_tables};
-use lpi_pending::{gicr_read, gicr_write, turn_off_write};
+use lpi_pending::{
+    Pend, Pending, Redists, changes_pending, conf_set, conf_write, gicr_read, gicr_write,
+    reads_tables, turn_off_write,
+};
 use std::alloc::{AllocError, Global};
 use std::test::Fail;
 
@@ -126,7 +127,11 @@ fn write(
     size: u8,
     value: u64,
 ) -> bool {
-    let Bases { prop, pend: table, .. } = conf.bases;
+    let Bases {
+        prop,
+        pend: table,
+        ..
+    } = conf.bases;
     if prop.table.0 >= END || table.table.0 >= END {
         return false;
     }
