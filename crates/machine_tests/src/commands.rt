@@ -69,7 +69,11 @@ fn needs_hold(alloc: Global) -> bool {
         && two.confs == RedistSet::new()
         && two.pends.has(Vcpu(3))
         && !two.pends.has(Vcpu(2))
-        && two.pends.redists().map(|vcpu| vcpu.0).eq([1, 3].iter().copied())
+        && two
+            .pends
+            .redists()
+            .map(|vcpu| vcpu.0)
+            .eq([1, 3].iter().copied())
 }
 
 #[test]
