@@ -116,7 +116,11 @@ fn frames_and_requesters_are_refused(rt: HostRuntime) {
         ("pair\nb-base 0x801f0000", "refused machine b-base\n"),
         (
             "pair\nits-base 0x8080000\nb-base 0x8090000",
-            "refused machine b-base\n",
+            "refused machine its-base\n",
+        ),
+        (
+            "pair\nb-base 0x8090000\nits-base 0x8080000",
+            "refused machine its-base\n",
         ),
         ("requester 256 511 16\nrequester 512 512 0xffffffff", ""),
         (

@@ -119,10 +119,10 @@ take 2
 signal 16 3
 take 2
 end",
-            "value 0x2
-value 0x3
+            "value 0x6
+value 0x7
 delivered 2 8200
-value 0x2
+value 0x6
 none
 dropped lpis-off
 none
