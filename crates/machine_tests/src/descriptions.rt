@@ -71,7 +71,6 @@ pub fn desc(
         translators: Listed::from_vec(Vec::from_slice(alloc, &[translator])?),
         requesters: RequesterRanges::none(alloc),
         track: false,
-        from_kvm: false,
     })
 }
 
