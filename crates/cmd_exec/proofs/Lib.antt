@@ -13,4 +13,4 @@ mod Adding
 pub mod Executed
 pub mod Sets
 pub mod Start
-mod Below
+pub mod Below
