@@ -95,16 +95,24 @@ pub fn act<R: Wait>(rt: &R, alloc: Global, machine: &Machine, actor: &mut Actor)
 // can't be started.
 const LOOKS: u32 = 100_000;
 
-// Where threads meet before they begin.
+/// Where threads meet before they begin.
 #[derive(Drop)]
-struct Meeting {
+pub struct Meeting {
     threads: u64,
     arrived: AtomicU64,
 }
 
 impl Meeting {
-    // Waits until all threads have come here, or long enough.
-    fn wait(&self) {
+    /// Of so many threads.
+    pub fn new(threads: u64) -> Meeting {
+        Meeting {
+            threads,
+            arrived: AtomicU64::new(0),
+        }
+    }
+
+    /// Waits until all threads have come here, or long enough.
+    pub fn wait(&self) {
         self.arrived.fetch_add(1, Ordering::SeqCst);
         for _ in 0..LOOKS {
             if self.arrived.load(Ordering::SeqCst) >= self.threads {
@@ -139,10 +147,7 @@ pub fn act_all<R: Threads + Wait + Sync>(
     requires { AllByRecursion (λ a. IsReady machine.now a.pass) actors.old }
 {
     let threads = actors.len().max(1);
-    let meeting = Meeting {
-        threads: threads as u64,
-        arrived: AtomicU64::new(0),
-    };
+    let meeting = Meeting::new(threads as u64);
     thread::for_each_mut(
         rt,
         actors,

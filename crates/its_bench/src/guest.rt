@@ -5,12 +5,18 @@ use crate::asks::Ask;
 use its_command::{Command, EventIdBits, IttAddr, RdBase, encode};
 use its_plain::Bytes64;
 use its_types::{Addr, DeviceId, EventId, Icid, Intid, Vcpu};
-use std::alloc::AllocError;
+use std::alloc::{AllocError, Global};
 
 const QUEUE: u64 = 0x8002_0000;
 
 // 16 pages of 4 KiB.
 const QUEUE_BYTES: u64 = 0x1_0000;
+
+// How many commands there is room for.
+const QUEUE_PLACES: u32 = 2048;
+
+// How often the translator is told in one round of the queue, as at most 2,047 commands wait.
+const QUARTERS: u32 = 4;
 
 // How far a translator's queue and tables stand from those of the one before it.
 const APART: u64 = 0x18_0000;
@@ -67,6 +73,62 @@ impl Queue {
         self.tell(asks)?;
         asks.push(Ask::Step { its: self.its })?;
         Ok(())
+    }
+}
+
+impl Queue {
+    /// Has the translator carry this command out over and over.
+    pub fn rounds(mut self, alloc: Global, command: &Command) -> Result<Rounds, AllocError> {
+        let mut before = Vec::new(alloc);
+        let mut calls = Vec::new(alloc);
+        self.fill(&mut before, command)?;
+        self.go_round(&mut calls)?;
+        Ok(Rounds { before, calls })
+    }
+
+    // Writes the command into each place.
+    fn fill(&mut self, asks: &mut Vec<Ask>, command: &Command) -> Result<(), AllocError> {
+        for _ in 0..QUEUE_PLACES {
+            self.write(asks, command)?;
+        }
+        Ok(())
+    }
+
+    // Has the translator carry out what is in each place.
+    fn go_round(&mut self, asks: &mut Vec<Ask>) -> Result<(), AllocError> {
+        for _ in 0..QUARTERS {
+            self.place = (self.place % QUEUE_BYTES + QUEUE_BYTES / 4) % QUEUE_BYTES;
+            self.tell(asks)?;
+            for _ in 0..QUEUE_PLACES / QUARTERS {
+                asks.push(Ask::Step { its: self.its })?;
+            }
+        }
+        Ok(())
+    }
+}
+
+/// Calls that a thread makes over and over.
+#[derive(Drop)]
+pub struct Rounds {
+    /// What is called once before them.
+    pub before: Vec<Ask>,
+    pub calls: Vec<Ask>,
+}
+
+impl Rounds {
+    /// No calls.
+    pub fn none(alloc: Global) -> Rounds {
+        Rounds {
+            before: Vec::new(alloc),
+            calls: Vec::new(alloc),
+        }
+    }
+
+    /// One call.
+    pub fn of(alloc: Global, call: Ask) -> Result<Rounds, AllocError> {
+        let mut rounds = Rounds::none(alloc);
+        rounds.calls.push(call)?;
+        Ok(rounds)
     }
 }
 

@@ -2,6 +2,8 @@
 //!
 //! - Without words: a few calls of each kind, and the trials with fewer calls.
 //! - `time COUNT [NAME]` prints how many nanoseconds a call took, of each kind or of the one named.
+//! - `beside COUNT [NAME]` prints how long so many signals took beside a thread that makes other
+//!   calls all the time: the middle one, the 99th and the 99.9th of a hundred, and the longest.
 //! - `stress COUNT [NAME]`: so many calls of threads beside one that changes what they meet, of
 //!   which each reply is checked; all trials, or the one named.
 //! - `events COUNT`, `devices COUNT`: signals of the machine of one caller, for a clock outside
@@ -10,9 +12,11 @@
 
 mod actors;
 mod asks;
+mod beside;
 mod chance;
 mod copying;
 mod guest;
+mod latencies;
 mod machine;
 mod measure;
 mod memory;
@@ -27,6 +31,8 @@ mod trial;
 mod trials;
 mod turning;
 
+use beside::{BESIDE, time_beside};
+use latencies::Latencies;
 use measure::Lap;
 use play::{Mapped, play};
 use std::alloc::Global;
@@ -73,6 +79,30 @@ fn print_times<R: Clock + Print + AllocGlobal + Threads + Wait + Sync>(
     Ok(())
 }
 
+// Prints what signals took, of those in rising order.
+fn print_latencies<R: Print>(rt: &R, name: &str, latencies: &Latencies) -> io::Result<()> {
+    let (half, most) = (latencies.at(500), latencies.most());
+    let (nearly, all) = (latencies.at(990), latencies.at(999));
+    println!(rt; "{name} p50 {half} p99 {nearly} p99.9 {all} most {most} ns")
+}
+
+// Sends signals beside a thread of each kind or of the one with this name, and prints what they
+// took.
+fn print_beside<R: Clock + Print + AllocGlobal + Threads + Wait + Sync>(
+    rt: &R,
+    count: u32,
+    only: Option<&str>,
+) -> io::Result<()> {
+    for (name, beside) in BESIDE {
+        if only.is_none_or(|only| only == name) {
+            let mut latencies = time_beside(rt, rt.alloc(), beside, count)?;
+            latencies.sort();
+            print_latencies(rt, name, &latencies)?;
+        }
+    }
+    Ok(())
+}
+
 fn print_count<R: Print>(rt: &R, name: &str, calls: u64) -> io::Result<()> {
     println!(rt; "{name}: {calls} calls")
 }
@@ -82,6 +112,10 @@ fn print_counts<R: Clock + Print + AllocGlobal + Threads + Wait + Sync>(rt: &R) 
     for (name, times) in ALL {
         let lap = time(rt, rt.alloc(), times, FEW)?;
         print_count(rt, name, lap.calls)?;
+    }
+    for (name, beside) in BESIDE {
+        let latencies = time_beside(rt, rt.alloc(), beside, FEW)?;
+        print_count(rt, name, latencies.count() as u64)?;
     }
     Ok(())
 }
@@ -157,6 +191,10 @@ fn run<R: Clock + Print + AllocGlobal + Threads + Wait + Sync>(
     match word.as_str() {
         "time" => {
             print_times(rt, count, words.get(3).map(|word| word.as_str()))?;
+            Ok(OK)
+        }
+        "beside" => {
+            print_beside(rt, count, words.get(3).map(|word| word.as_str()))?;
             Ok(OK)
         }
         "stress" => check_trials(rt, count, true, words.get(3).map(|word| word.as_str())),

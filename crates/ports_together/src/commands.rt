@@ -231,7 +231,7 @@ const TURNED_ON: [(Ask, Said); 11] = [
 
 // A Linux turns them off again, and on. While they are off the cache still has the translation.
 const TURNED_OFF: [(Ask, Said); 13] = [
-    (Ask::ReadGicr(2, 0x0, 4), Said::At(9, Reply::Value(2))),
+    (Ask::ReadGicr(2, 0x0, 4), Said::At(9, Reply::Value(6))),
     (
         Ask::WriteGicr(2, 0x70, 8, 0x8003_000f),
         Said::At(10, Reply::Ok),
@@ -245,7 +245,7 @@ const TURNED_OFF: [(Ask, Said); 13] = [
         Said::At(12, Reply::Value(0x8006_0780)),
     ),
     (Ask::WriteGicr(2, 0x0, 4, 1), Said::At(13, Reply::Ok)),
-    (Ask::ReadGicr(2, 0x0, 4), Said::At(14, Reply::Value(3))),
+    (Ask::ReadGicr(2, 0x0, 4), Said::At(14, Reply::Value(7))),
     (Ask::Send(3), Said::Sent(15, 2, 8200)),
     (Ask::WriteGicr(2, 0x0, 4, 0), Said::At(16, Reply::Ok)),
     (Ask::Take(2), Said::NoLpi(17)),

@@ -4,9 +4,14 @@ ghost use Rattle.its_turns.specs.Machines.{view};
 ghost use Rattle.ports_together.specs.Ready.{IsReady, IsRoot};
 
 use crate::asks::{Ask, DEVICE, Said, hit, joined, play, send, split, taken};
+use crate::given::Given;
 use crate::made::made;
+use its_command::Op;
 use its_plain::{MakeError, Reply};
-use its_turns::{Busy, Machine, Pass, Root, Value, close, look, put, try_take_shard};
+use its_turns::{
+    Busy, Machine, Pass, Root, Value, close, look, put, try_take_conf, try_take_pend,
+    try_take_shard,
+};
 use its_types::{EventId, Icid, Open, Part, Vcpu};
 use std::alloc::Global;
 use std::sync::Wait;
@@ -114,6 +119,104 @@ fn one_pass<R: Wait>(
 fn one_pass_by_hand(rt: HostRuntime) -> Result<(), Fail> {
     let held = one_pass(&rt, rt.alloc())?;
     assert_eq!(rt; held, ((8, true, 1), Some(TARGET)));
+    Ok(())
+}
+
+// ---- one part of a redistributor alone
+
+const CACHED: [(Ask, Said); 1] = [(Ask::Send(3), Said::Sent(0, 2, 8200))];
+
+const CONFIGURED: [(Ask, Said); 1] = [(Ask::Run(0, Given::Inv(3)), Said::Ran(3, Op::Inv))];
+
+const SIGNALLED: [(Ask, Said); 1] = [(Ask::Hit(3), Said::Sent(4, 2, 8200))];
+
+// While the root has what is pending at the target: how many rows hold that read a configuration
+// again, and what a signal is answered.
+fn beside_pending<R: Wait>(
+    rt: &R,
+    alloc: Global,
+    machine: &Machine,
+    root: &mut Root,
+    pass: &mut Pass,
+) -> (usize, Said)
+    requires root { IsRoot machine.now root.old }
+    requires pass { IsReady machine.now pass.old }
+    ensures root { IsRoot machine.now root.new }
+    ensures pass { IsReady machine.now pass.new }
+{
+    if TARGET.0 >= machine.vcpus() {
+        return (0, Said::Nothing);
+    }
+    let Ok(pend) = try_take_pend(machine, root, TARGET) else {
+        return (0, Said::Nothing);
+    };
+    let configured = play(rt, alloc, machine, pass, &CONFIGURED);
+    let said = hit(machine, pass, &Open, 3);
+    put(machine, root, Part::Pend(TARGET), Value::Pend(pend));
+    (configured, said)
+}
+
+// While it has the configuration there: how many rows hold that signal.
+fn beside_configuration<R: Wait>(
+    rt: &R,
+    alloc: Global,
+    machine: &Machine,
+    root: &mut Root,
+    pass: &mut Pass,
+) -> usize
+    requires root { IsRoot machine.now root.old }
+    requires pass { IsReady machine.now pass.old }
+    ensures root { IsRoot machine.now root.new }
+    ensures pass { IsReady machine.now pass.new }
+{
+    if TARGET.0 >= machine.vcpus() {
+        return 0;
+    }
+    let Ok(conf) = try_take_conf(machine, root, TARGET) else {
+        return 0;
+    };
+    let signalled = play(rt, alloc, machine, pass, &SIGNALLED);
+    put(machine, root, Part::Conf(TARGET), Value::Conf(conf));
+    signalled
+}
+
+// How many rows hold of each table, and whether a hindered signal is told of the root.
+fn by_parts<R: Wait>(
+    rt: &R,
+    alloc: Global,
+    machine: &Machine,
+    root: &mut Root,
+) -> (usize, usize, bool, usize)
+    requires root { IsRoot machine.now root.old }
+    requires made { (view root.old).root.made ≡ 1 }
+    ensures { IsRoot machine.now root.new }
+{
+    let mut pass = split(machine, root);
+    let cached = play(rt, alloc, machine, &mut pass, &CACHED);
+    let (configured, said) = beside_pending(rt, alloc, machine, root, &mut pass);
+    let busy = Said::Busy(Busy {
+        part: Part::Pend(TARGET),
+        holder: 0,
+    });
+    let signalled = beside_configuration(rt, alloc, machine, root, &mut pass);
+    joined(machine, root, pass);
+    (cached, configured, said == busy, signalled)
+}
+
+// The same on a machine that is made for it, and the collection's target in its parts.
+fn two_parts<R: Wait>(
+    rt: &R,
+    alloc: Global,
+) -> Result<((usize, usize, bool, usize), Option<Vcpu>), MakeError> {
+    let (machine, mut root) = made(alloc, &WORDS)?;
+    let held = by_parts(rt, alloc, &machine, &mut root);
+    Ok((held, closed(machine, root)))
+}
+
+#[test]
+fn configurations_and_signals_apart(rt: HostRuntime) -> Result<(), Fail> {
+    let held = two_parts(&rt, rt.alloc())?;
+    assert_eq!(rt; held, ((1, 1, true, 1), Some(TARGET)));
     Ok(())
 }
 
