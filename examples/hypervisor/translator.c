@@ -1,0 +1,216 @@
+/*
+ * The library: the guest's ITS, and the LPI side of its redistributors. All of it is called under the
+ * lock. docs/LIBRARY.md says what is called at which trap, and which bytes are copied.
+ */
+#include "hypervisor.h"
+
+enum {
+    NEEDS = 18,
+    COMMANDS = 32768, /* as many as the longest queue has */
+    MAPD = 0x8,
+    MAPTI = 0xA,
+    MAPI = 0xB,
+    CTLR = 0x0,
+    CWRITER = 0x88,
+    PROPBASER = 0x70,
+    PENDBASER = 0x78,
+    INVLPIR = 0xA0,
+    INVALLR = 0xB0,
+    LPI_BITS = 16,
+    CONFIG_LENGTH = (1 << LPI_BITS) - FIRST_LPI, /* a byte for each LPI */
+    PENDING_FROM = FIRST_LPI / 8,                /* a bit for each interrupt */
+    PENDING_LENGTH = (1 << LPI_BITS) / 8 - PENDING_FROM,
+    TOLD = 16, /* so many messages and acknowledgements are printed */
+};
+#define ADDRESS 0x000FFFFFFFFFF000u /* of GICR_PROPBASER and GICR_PENDBASER */
+
+static struct its_handle its = ITS_NO_MACHINE;
+static uint32_t told;
+
+/* A word's text, until the next call. */
+static const char *word(uint32_t list, uint32_t number)
+{
+    static char text[25];
+    uint64_t length = 0;
+
+    its_text(list, number, (uint8_t *)text, 24, &length);
+    text[length] = 0;
+    return text;
+}
+
+static void must(const char *call, uint32_t answer)
+{
+    if (answer != ITS_DONE)
+        stop(call, answer);
+}
+
+void translator_start(void)
+{
+    const struct its_description_in numbers = {.vcpus = vcpus_count,
+                                               .device_bits = 16,
+                                               .lpi_bits = LPI_BITS,
+                                               .profile = 1,
+                                               .programmed = 1,
+                                               .linux_guest = 1};
+    const struct its_window_in window = {RAM, RAM_LENGTH};
+    const struct its_redistributor_in redistributors[MOST_PROCESSORS] = {{0, 0, 0}};
+    struct its_make_fault_out fault;
+
+    must("its_new", its_new(&its, &numbers, &window, 1, NULL, 0, redistributors, vcpus_count, NULL, 0, NULL, 0,
+                            NULL, 0, &fault));
+    must("its_limit", its_limit(&its, 4096));
+}
+
+/* What the guest has there goes into the library's copy; an address outside its RAM is passed over. */
+static void copy_in(uint64_t address, uint64_t length)
+{
+    if (is_guest_ram(address, length))
+        must("its_write_memory", its_write_memory(&its, address, (const uint8_t *)address, length));
+}
+
+static uint32_t all_processors(void)
+{
+    return (1u << vcpus_count) - 1;
+}
+
+/* A command that maps: the machine's own ITS has to bring these messages. */
+static void follow(const uint64_t *command, uint32_t op)
+{
+    uint32_t device = (uint32_t)(command[0] >> 32);
+
+    if (op == MAPD && command[2] >> 63)
+        physical_device(device);
+    else if (op == MAPTI || op == MAPI)
+        physical_event(device, (uint32_t)command[1]);
+}
+
+/* One command: what it reads is copied in, as the guest has it now, and it is taken. */
+static bool step(void)
+{
+    struct its_stretch_out needs[NEEDS];
+    struct its_step_out out;
+    uint64_t count = 0, command[4] = {0};
+    uint32_t answer;
+
+    must("its_needs", its_needs(&its, needs, NEEDS, &count));
+    if (count == 0)
+        return false;
+    copy_in(needs[0].address, needs[0].length);
+    must("its_needs", its_needs(&its, needs, NEEDS, &count));
+    for (uint64_t i = 1; i < count; i++)
+        copy_in(needs[i].address, needs[i].length);
+    its_read_memory(&its, needs[0].address, (uint8_t *)command, sizeof command);
+    answer = its_step(&its, &out);
+    if (answer == ITS_FULL || answer == ITS_NO_MEMORY)
+        return false; /* the command stays, and the next trap tries it again */
+    must("its_step", answer);
+    if (out.outcome == ITS_OUTCOME_RAN) {
+        counts.commands++;
+        follow(command, out.op);
+    } else if (out.outcome == ITS_OUTCOME_REFUSED) {
+        counts.refused++;
+        print("hypervisor: command 0x%x refused: %s\n", (uint64_t)out.op, word(ITS_LIST_REASONS, out.reason));
+    }
+    return out.outcome == ITS_OUTCOME_RAN || out.outcome == ITS_OUTCOME_REFUSED;
+}
+
+/* The queue as far as it was written. A processor that is gathered asks anew as it enters the guest. */
+static void take_commands(void)
+{
+    gather(all_processors());
+    for (int i = 0; i < COMMANDS && step(); i++)
+        ;
+}
+
+/* A device's message, or the guest's own write of GITS_TRANSLATER. */
+void message(uint32_t device, uint32_t event)
+{
+    struct its_event_out where;
+    struct its_signal_out out;
+
+    must("its_event", its_event(&its, device, event, &where));
+    if (where.cause == ITS_CAUSE_DELIVERED)
+        gather(1u << where.vcpu);
+    must("its_signal", its_signal(&its, device, event, &out));
+    counts.messages++;
+    counts.delivered += out.cause == ITS_CAUSE_DELIVERED;
+    if (told < TOLD) {
+        told++;
+        print("hypervisor: device 0x%x event %u -> %s %u %u\n", (uint64_t)device, (uint64_t)event,
+              word(ITS_LIST_CAUSES, out.cause), (uint64_t)out.vcpu, (uint64_t)out.intid);
+    }
+}
+
+/* The LPI that comes first at a virtual processor, whose mask is weighed by its own interface. */
+struct its_ack_out best(struct vcpu *vcpu)
+{
+    struct its_ack_out first;
+
+    must("its_best", its_best(&its, vcpu->number, 0xFF, &first));
+    return first;
+}
+
+/* The guest has acknowledged an LPI that it was shown. */
+void claim(struct vcpu *vcpu, uint32_t intid)
+{
+    struct its_ack_out taken;
+
+    must("its_claim", its_claim(&its, vcpu->number, intid, &taken));
+    if (taken.intid != intid)
+        stop("an LPI was acknowledged that wasn't pending:", intid);
+    counts.claimed++;
+    if (told < TOLD) {
+        told++;
+        print("hypervisor: processor %u acknowledged %u\n", (uint64_t)vcpu->number, (uint64_t)intid);
+    }
+}
+
+static void control_access(uint32_t offset, struct access *access)
+{
+    if (!access->is_write) {
+        must("its_read_register", its_read_register(&its, offset, access->size, &access->value));
+        return;
+    }
+    must("its_write_register", its_write_register(&its, offset, access->size, access->value));
+    if (offset == CTLR || (offset & ~7u) == CWRITER)
+        take_commands();
+}
+
+/* Both frames. What is no register of 4 or 8 bytes reads zero. */
+void translator_access(struct access *access)
+{
+    uint32_t offset = (uint32_t)(access->address - ITS_CONTROL);
+
+    if (offset == FRAME + 0x40 && access->is_write)
+        message(PROCESSORS_DEVICE, (uint32_t)access->value);
+    else if (offset < FRAME && access->size >= 4)
+        control_access(offset, access);
+}
+
+/* The tables that the library reads as LPIs are turned on, or are read again. */
+static void copy_tables(uint32_t number, bool is_pending)
+{
+    uint64_t table = 0;
+
+    must("its_read_lpi_register", its_read_lpi_register(&its, number, PROPBASER, 8, &table));
+    copy_in(table & ADDRESS, CONFIG_LENGTH);
+    must("its_read_lpi_register", its_read_lpi_register(&its, number, PENDBASER, 8, &table));
+    if (is_pending)
+        copy_in((table & ADDRESS) + PENDING_FROM, PENDING_LENGTH);
+}
+
+void lpi_register_access(uint32_t number, uint32_t offset, struct access *access)
+{
+    if (access->size < 4)
+        return;
+    if (!access->is_write) {
+        must("its_read_lpi_register",
+             its_read_lpi_register(&its, number, offset, access->size, &access->value));
+        return;
+    }
+    gather(1u << number);
+    if (offset == CTLR || offset == INVLPIR || offset == INVALLR)
+        copy_tables(number, offset == CTLR && access->value & 1);
+    must("its_write_lpi_register",
+         its_write_lpi_register(&its, number, offset, access->size, access->value));
+}

@@ -1,0 +1,55 @@
+/*
+ * One lock, under which the hypervisor works and the library is called: one call at a time.
+ *
+ * A list register is a copy of what the library says, and while its virtual processor is in the guest
+ * the copy alone knows what was acknowledged. So whoever makes a call that may change what is pending
+ * at a processor first gathers it: it leaves the guest, what it acknowledged is told to the library,
+ * and as it enters again it asks anew.
+ */
+#include "hypervisor.h"
+
+static uint32_t next_ticket, served;
+
+void take_lock(void)
+{
+    uint32_t mine = __atomic_fetch_add(&next_ticket, 1, __ATOMIC_RELAXED);
+
+    while (__atomic_load_n(&served, __ATOMIC_ACQUIRE) != mine)
+        ;
+}
+
+void give_lock(void)
+{
+    __atomic_store_n(&served, served + 1, __ATOMIC_RELEASE);
+}
+
+static bool is_in_guest(const struct vcpu *vcpu)
+{
+    return __atomic_load_n(&vcpu->in_guest, __ATOMIC_ACQUIRE);
+}
+
+/* The processor leaves the guest soon, if it is there. */
+void kick(struct vcpu *vcpu)
+{
+    if (is_in_guest(vcpu)) {
+        counts.kicks++;
+        BARRIER();
+        WRITE("S3_0_C12_C11_5", 1u << vcpu->number); /* ICC_SGI1R_EL1: interrupt 0 */
+        BARRIER();
+    }
+}
+
+/* When this returns each processor whose bit is set is out of the guest, and its lists are folded. */
+void gather(uint32_t which)
+{
+    for (uint32_t i = 0; i < vcpus_count; i++)
+        if (which >> i & 1)
+            kick(&vcpus[i]);
+    for (uint32_t i = 0; i < vcpus_count; i++) {
+        if (!(which >> i & 1))
+            continue;
+        while (is_in_guest(&vcpus[i]))
+            ;
+        lists_fold(&vcpus[i]);
+    }
+}
