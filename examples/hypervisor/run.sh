@@ -15,6 +15,39 @@ plain="-std=gnu11 -O2 -Wall -Wextra -Werror -ffreestanding -fno-builtin -fno-tre
     -Wl,-z,noexecstack -Wl,-z,max-page-size=4096 -Wl,--no-warn-rwx-segments"
 sources="entry.S main.c world.c traps.c stage2.c lists.c gic.c physical_its.c translator.c psci.c heap.c console.c"
 
+# Lists of packages of this folder's own, with those for arm64, so that those of the host stay as they are.
+lists() {
+    mkdir -p "$1/apt/lists/partial" "$1/apt/cache/archives/partial"
+    for place in "debian bookworm" "debian-security bookworm-security"; do
+        echo "deb http://deb.debian.org/$place main"
+    done >"$1/apt/sources.list"
+    cat >"$1/apt/apt.conf" <<CONF
+Dir::Etc::SourceList "$1/apt/sources.list";
+Dir::Etc::SourceParts "/dev/null";
+Dir::State::Lists "$1/apt/lists";
+Dir::Cache "$1/apt/cache";
+APT::Architecture "arm64";
+APT::Architectures { "arm64"; };
+APT::Sandbox::User "";
+CONF
+    export APT_CONFIG=$1/apt/apt.conf
+    apt-get -q update
+}
+
+# The kernel that linux-image-cloud-arm64 stands for, and busybox.
+fetch() {
+    local kernel package
+    lists "$1"
+    kernel=$(apt-cache depends linux-image-cloud-arm64 | sed -n 's/.*Depends: \(linux-image-[^ :]*\).*/\1/p' | head -n 1)
+    rm -rf "$1/packages"
+    mkdir "$1/packages"
+    (cd "$1/packages" && apt-get -q download "$kernel:arm64" busybox-static:arm64)
+    for package in "$1"/packages/*.deb; do
+        dpkg -x "$package" "$1/packages"
+    done
+    echo "$kernel"
+}
+
 build() {
     mkdir -p "$1"
     (cd "$here" && $compiler $plain -I../../include $sources "$2" -T image.ld -o "$1/hypervisor.elf")
@@ -37,9 +70,49 @@ first() {
         tr -d '\r' | tee "$1/first.log" | diff - "$here/expected.txt" && echo "first guest: as expected"
 }
 
+# What Linux starts from: busybox, the drivers and init.
+initramfs() {
+    local root=$1/root modules module
+    modules=$(echo "$1"/packages/lib/modules/*/kernel)
+    rm -rf "$root"
+    mkdir -p "$root/bin" "$root/lib" "$root/proc" "$root/sys" "$root/dev"
+    cp "$1/packages/bin/busybox" "$root/bin/"
+    ln -s busybox "$root/bin/sh"
+    for module in drivers/virtio/virtio_ring drivers/virtio/virtio drivers/virtio/virtio_pci_modern_dev \
+        drivers/virtio/virtio_pci_legacy_dev drivers/virtio/virtio_pci drivers/block/virtio_blk \
+        drivers/char/hw_random/virtio-rng net/core/failover drivers/net/net_failover drivers/net/virtio_net; do
+        cp "$modules/$module.ko" "$root/lib/"
+        basename "$module" >>"$root/lib/modules.list"
+    done
+    cp "$here/guest/init" "$root/init"
+    chmod +x "$root/init"
+    (cd "$root" && find . | LC_ALL=C sort | cpio -o -H newc --quiet | gzip -1) >"$1/initrd.gz"
+}
+
+# The guest's device tree is that of the same machine without a hypervisor, with the guest's memory: QEMU makes it.
+linux() {
+    local dir=$1 kernel processors=${PROCESSORS:-1}
+    shift
+    kernel=$(echo "$dir"/packages/boot/vmlinuz-*)
+    initramfs "$dir"
+    qemu-system-aarch64 -M "virt,gic-version=3,highmem=off,dumpdtb=$dir/guest.dtb" -cpu cortex-a57 -m 768 -smp "$processors" \
+        -nographic -nodefaults -kernel "$kernel" -initrd "$dir/initrd.gz" -append "console=ttyAMA0 panic=-1 $*" 2>/dev/null
+    truncate -s 64M "$dir/disk"
+    timeout "${PATIENCE:-300}" "$0" machine "$dir" -smp "$processors" \
+        -device "loader,file=$kernel,addr=0x40200000,force-raw=on" \
+        -device "loader,file=$dir/guest.dtb,addr=0x47000000,force-raw=on" \
+        -device "loader,file=$dir/initrd.gz,addr=0x48000000,force-raw=on" \
+        -drive "if=none,id=disk,file=$dir/disk,format=raw" -device virtio-blk-pci,drive=disk \
+        -netdev user,id=net -device virtio-net-pci,netdev=net,romfile= -device virtio-rng-pci |
+        tr -d '\r' | tee "$dir/linux.log"
+    grep -q '^guest: the end' "$dir/linux.log"
+}
+
 case "${1:-}" in
+fetch) mkdir -p "$2" && fetch "$(realpath "$2")" ;;
 build) mkdir -p "$2" && build "$(realpath "$2")" "$(realpath "$3")" ;;
 run) first "$(realpath "$2")" ;;
+linux) linux "$(realpath "$2")" "${@:3}" ;;
 machine) machine "${@:2}" ;;
 *) sed -n '4,7s/^# //p' "$0" >&2 && exit 2 ;;
 esac
