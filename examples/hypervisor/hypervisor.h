@@ -40,7 +40,6 @@ struct vcpu {
     unsigned __int128 q[32];
 
     uint32_t number;
-    bool is_on;
     bool in_guest;           /* written under the lock, but for false as it leaves the guest */
     uint64_t lists[LISTS];   /* its list registers, while it is out of the guest */
     uint64_t lists_control;  /* ICH_HCR_EL2, as it enters */

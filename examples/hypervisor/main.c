@@ -51,9 +51,7 @@ void main(void)
     translator_start();
     gic_start_processor(0);
     physical_its_start();
-    print("hypervisor: at EL%u, %u processors, %u bytes of heap for the translator\n", READ("CurrentEL") >> 2,
-          (uint64_t)vcpus_count, (uint64_t)heap_used);
-    vcpus[0].is_on = true;
+    print("hypervisor: at EL%u, processors %u\n", READ("CurrentEL") >> 2, (uint64_t)vcpus_count);
     vcpus[0].pc = GUEST_ENTRY;
     vcpus[0].x[0] = GUEST_TREE;
     enter(&vcpus[0]);

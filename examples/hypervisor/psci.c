@@ -8,6 +8,7 @@ enum {
     SYSTEM_OFF = 0x84000008,
     SYSTEM_RESET = 0x84000009,
     FEATURES = 0x8400000A,
+    OFF = 1, /* what AFFINITY_INFO answers */
 };
 #define CPU_ON 0xC4000003u
 #define AFFINITY_INFO 0xC4000004u
@@ -24,15 +25,20 @@ void tell_counts(void)
     print("hypervisor: %u bytes of heap\n", (uint64_t)heap_used);
 }
 
+/* A processor that is off has an empty interface, and begins with the guest's two words. */
 static uint64_t turn_on(uint64_t affinity, uint64_t entry, uint64_t context)
 {
     struct vcpu *vcpu = &vcpus[affinity];
 
     if (affinity >= vcpus_count)
         return INVALID;
-    if (vcpu->is_on)
+    if (smc(AFFINITY_INFO, affinity, 0, 0) != OFF)
         return ALREADY_ON;
-    vcpu->is_on = true;
+    for (int i = 0; i < LISTS; i++)
+        vcpu->lists[i] = 0;
+    for (int i = 0; i < 32; i++)
+        vcpu->hardware[i] = 0;
+    vcpu->sgis = 0;
     vcpu->pc = entry;
     vcpu->x[0] = context;
     return smc(CPU_ON, affinity, (uint64_t)secondary_start, (uint64_t)vcpu);
@@ -62,10 +68,9 @@ void power_call(struct vcpu *vcpu)
         x[0] = turn_on(x[1], x[2], x[3]);
         break;
     case AFFINITY_INFO:
-        x[0] = x[1] < vcpus_count ? !vcpus[x[1]].is_on : INVALID;
+        x[0] = x[1] < vcpus_count ? smc(AFFINITY_INFO, x[1], 0, 0) : INVALID;
         break;
     case CPU_OFF:
-        vcpu->is_on = false;
         give_lock();
         smc(CPU_OFF, 0, 0, 0);
         stop("a processor stays on", vcpu->number);

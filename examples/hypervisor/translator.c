@@ -101,8 +101,10 @@ static bool step(void)
         copy_in(needs[i].address, needs[i].length);
     its_read_memory(&its, needs[0].address, (uint8_t *)command, sizeof command);
     answer = its_step(&its, &out);
-    if (answer == ITS_FULL || answer == ITS_NO_MEMORY)
-        return false; /* the command stays, and the next trap tries it again */
+    if (answer == ITS_FULL || answer == ITS_NO_MEMORY) {
+        print("hypervisor: a command stays in the queue: %s\n", word(ITS_LIST_ANSWERS, answer));
+        return false; /* the next write of GITS_CWRITER tries it again */
+    }
     must("its_step", answer);
     if (out.outcome == ITS_OUTCOME_RAN) {
         counts.commands++;
