@@ -61,13 +61,13 @@ build() {
 machine() {
     local dir=$1
     shift
-    nice -n 10 qemu-system-aarch64 -M virt,virtualization=on,gic-version=3,highmem=off -cpu cortex-a57 -m 1024 \
+    nice -n 10 qemu-system-aarch64 -accel "tcg,thread=${THREADS:-single}" -M virt,virtualization=on,gic-version=3,highmem=off -cpu cortex-a57 -m 1024 \
         -nographic -nodefaults -serial stdio -no-reboot -kernel "$dir/hypervisor.elf" "$@"
 }
 
 first() {
     timeout "${PATIENCE:-60}" "$0" machine "$1" -smp 1 -device "loader,file=$1/first.bin,addr=0x40200000,force-raw=on" |
-        tr -d '\r' | tee "$1/first.log"
+        stdbuf -oL tr -d '\r' | tee "$1/first.log"
     grep -v 'bytes of heap' "$1/first.log" | diff - "$here/expected.txt" && echo "first guest: as expected"
 }
 
@@ -105,7 +105,7 @@ linux() {
         -device "loader,file=$dir/initrd.gz,addr=0x48000000,force-raw=on" \
         -drive "if=none,id=disk,file=$dir/disk,format=raw" -device virtio-blk-pci,drive=disk \
         -netdev user,id=net -device virtio-net-pci,netdev=net,romfile= -device virtio-rng-pci |
-        tr -d '\r' | tee "$dir/linux.log"
+        stdbuf -oL tr -d '\r' | tee "$dir/linux.log"
     grep -q '^guest: the end' "$dir/linux.log"
 }
 

@@ -10,12 +10,18 @@
 
 static uint32_t next_ticket, served;
 
+/* A QEMU with one thread for all processors goes on to the next one here. */
+static void wait_a_little(void)
+{
+    __asm__ volatile("yield" : : : "memory");
+}
+
 void take_lock(void)
 {
     uint32_t mine = __atomic_fetch_add(&next_ticket, 1, __ATOMIC_RELAXED);
 
     while (__atomic_load_n(&served, __ATOMIC_ACQUIRE) != mine)
-        ;
+        wait_a_little();
 }
 
 void give_lock(void)
@@ -49,7 +55,7 @@ void gather(uint32_t which)
         if (!(which >> i & 1))
             continue;
         while (is_in_guest(&vcpus[i]))
-            ;
+            wait_a_little();
         lists_fold(&vcpus[i]);
     }
 }
