@@ -89,6 +89,7 @@ void take_lock(void);
 void give_lock(void);
 void kick(struct vcpu *vcpu);
 void gather(uint32_t which);
+void kick_all(uint32_t which);
 
 /* lists.c */
 void lists_reset(void);

@@ -61,16 +61,25 @@ void translator_start(void)
     must("its_limit", its_limit(&its, 4096));
 }
 
-/* What the guest has there goes into the library's copy; an address outside its RAM is passed over. */
-static void copy_in(uint64_t address, uint64_t length)
+/*
+ * What the guest has there goes into the library's copy; an address outside its RAM is passed over.
+ * Ends with false where there is no memory.
+ */
+static bool copy_in(uint64_t address, uint64_t length)
 {
+    uint32_t answer = ITS_DONE;
+
     if (is_guest_ram(address, length))
-        must("its_write_memory", its_write_memory(&its, address, (const uint8_t *)address, length));
+        answer = its_write_memory(&its, address, (const uint8_t *)address, length);
+    if (answer != ITS_NO_MEMORY)
+        must("its_write_memory", answer);
+    return answer == ITS_DONE;
 }
 
-static uint32_t all_processors(void)
+/* Nothing that was copied in is read again: so the copy stays small, whatever the guest does. */
+static void forget(void)
 {
-    return (1u << vcpus_count) - 1;
+    must("its_forget", its_forget(&its, RAM, RAM_LENGTH));
 }
 
 /* A command that maps: the machine's own ITS has to bring these messages. */
@@ -84,28 +93,39 @@ static void follow(const uint64_t *command, uint32_t op)
         physical_event(device, (uint32_t)command[1]);
 }
 
-/* One command: what it reads is copied in, as the guest has it now, and it is taken. */
-static bool step(void)
+/* What the next command reads, as the guest has it now. Ends with false where there is none, or no memory. */
+static bool copy_command(uint64_t *command)
 {
     struct its_stretch_out needs[NEEDS];
-    struct its_step_out out;
-    uint64_t count = 0, command[4] = {0};
-    uint32_t answer;
+    uint64_t count = 0;
 
     must("its_needs", its_needs(&its, needs, NEEDS, &count));
-    if (count == 0)
+    if (count == 0 || !copy_in(needs[0].address, needs[0].length))
         return false;
-    copy_in(needs[0].address, needs[0].length);
     must("its_needs", its_needs(&its, needs, NEEDS, &count));
     for (uint64_t i = 1; i < count; i++)
-        copy_in(needs[i].address, needs[i].length);
-    its_read_memory(&its, needs[0].address, (uint8_t *)command, sizeof command);
+        if (!copy_in(needs[i].address, needs[i].length))
+            return false;
+    its_read_memory(&its, needs[0].address, (uint8_t *)command, 32);
+    return true;
+}
+
+/* Takes one command. Where there is no room it stays, and the next write of GITS_CWRITER tries again. */
+static bool step(uint32_t *concerned)
+{
+    uint64_t command[4] = {0};
+    struct its_step_out out;
+    uint32_t answer;
+
+    if (!copy_command(command))
+        return false;
     answer = its_step(&its, &out);
     if (answer == ITS_FULL || answer == ITS_NO_MEMORY) {
         print("hypervisor: a command stays in the queue: %s\n", word(ITS_LIST_ANSWERS, answer));
-        return false; /* the next write of GITS_CWRITER tries it again */
+        return false;
     }
     must("its_step", answer);
+    *concerned |= out.concerned;
     if (out.outcome == ITS_OUTCOME_RAN) {
         counts.commands++;
         follow(command, out.op);
@@ -116,12 +136,16 @@ static bool step(void)
     return out.outcome == ITS_OUTCOME_RAN || out.outcome == ITS_OUTCOME_REFUSED;
 }
 
-/* The queue as far as it was written. A processor that is gathered asks anew as it enters the guest. */
+/* The queue as far as it was written, and no further for a guest that fills it without an end. */
 static void take_commands(void)
 {
-    gather(all_processors());
-    for (int i = 0; i < COMMANDS && step(); i++)
+    uint32_t concerned = 0;
+
+    gather(~0u);
+    for (int i = 0; i < COMMANDS && step(&concerned); i++)
         ;
+    kick_all(concerned);
+    forget();
 }
 
 /* A device's message, or the guest's own write of GITS_TRANSLATER. */
@@ -134,6 +158,8 @@ void message(uint32_t device, uint32_t event)
     if (where.cause == ITS_CAUSE_DELIVERED)
         gather(1u << where.vcpu);
     must("its_signal", its_signal(&its, device, event, &out));
+    if (out.cause == ITS_CAUSE_DELIVERED)
+        kick(&vcpus[out.vcpu]);
     counts.messages++;
     counts.delivered += out.cause == ITS_CAUSE_DELIVERED;
     if (told < TOLD) {
@@ -195,10 +221,11 @@ static void copy_tables(uint32_t number, bool is_pending)
     uint64_t table = 0;
 
     must("its_read_lpi_register", its_read_lpi_register(&its, number, PROPBASER, 8, &table));
-    copy_in(table & ADDRESS, CONFIG_LENGTH);
+    if (!copy_in(table & ADDRESS, CONFIG_LENGTH))
+        stop("no memory for the guest's tables at", table);
     must("its_read_lpi_register", its_read_lpi_register(&its, number, PENDBASER, 8, &table));
-    if (is_pending)
-        copy_in((table & ADDRESS) + PENDING_FROM, PENDING_LENGTH);
+    if (is_pending && !copy_in((table & ADDRESS) + PENDING_FROM, PENDING_LENGTH))
+        stop("no memory for the guest's tables at", table);
 }
 
 void lpi_register_access(uint32_t number, uint32_t offset, struct access *access)
@@ -215,4 +242,6 @@ void lpi_register_access(uint32_t number, uint32_t offset, struct access *access
         copy_tables(number, offset == CTLR && access->value & 1);
     must("its_write_lpi_register",
          its_write_lpi_register(&its, number, offset, access->size, access->value));
+    kick(&vcpus[number]);
+    forget();
 }

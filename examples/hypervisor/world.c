@@ -1,10 +1,11 @@
 /*
  * One lock, under which the hypervisor works and the library is called: one call at a time.
  *
- * A list register is a copy of what the library says, and while its virtual processor is in the guest
- * the copy alone knows what was acknowledged. So whoever makes a call that may change what is pending
- * at a processor first gathers it: it leaves the guest, what it acknowledged is told to the library,
- * and as it enters again it asks anew.
+ * A list register that has an LPI is a copy of what the library says, and while its virtual processor
+ * is in the guest the copy alone knows whether it was acknowledged. So whoever makes a call that may
+ * change what is pending at a processor first gathers it, if it is shown an LPI: it leaves the guest,
+ * and what it acknowledged is told to the library. One that is shown none is kicked afterwards. Either
+ * asks the library anew as it enters.
  */
 #include "hypervisor.h"
 
@@ -45,17 +46,25 @@ void kick(struct vcpu *vcpu)
     }
 }
 
-/* When this returns each processor whose bit is set is out of the guest, and its lists are folded. */
+/* When this returns the library knows what each processor whose bit is set has acknowledged. */
 void gather(uint32_t which)
 {
     for (uint32_t i = 0; i < vcpus_count; i++)
-        if (which >> i & 1)
+        if (which >> i & 1 && vcpus[i].shown)
             kick(&vcpus[i]);
     for (uint32_t i = 0; i < vcpus_count; i++) {
-        if (!(which >> i & 1))
+        if (!(which >> i & 1) || !vcpus[i].shown)
             continue;
         while (is_in_guest(&vcpus[i]))
             wait_a_little();
         lists_fold(&vcpus[i]);
     }
+}
+
+/* Each processor whose bit is set asks the library again. */
+void kick_all(uint32_t which)
+{
+    for (uint32_t i = 0; i < vcpus_count; i++)
+        if (which >> i & 1)
+            kick(&vcpus[i]);
 }
