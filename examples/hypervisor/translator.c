@@ -204,12 +204,12 @@ static void control_access(uint32_t offset, struct access *access)
         take_commands();
 }
 
-/* Both frames. What is no register of 4 or 8 bytes reads zero. */
+/* Both frames. A message has 2 or 4 bytes, a register 4 or 8; what is neither reads zero. */
 void translator_access(struct access *access)
 {
     uint32_t offset = (uint32_t)(access->address - ITS_CONTROL);
 
-    if (offset == FRAME + 0x40 && access->is_write)
+    if (offset == FRAME + 0x40 && access->is_write && (access->size == 2 || access->size == 4))
         message(PROCESSORS_DEVICE, (uint32_t)access->value);
     else if (offset < FRAME && access->size >= 4)
         control_access(offset, access);
