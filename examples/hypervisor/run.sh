@@ -4,6 +4,7 @@
 # usage: run.sh fetch DIR            fetches a Linux of Debian for arm64, for `linux`
 #        run.sh build DIR ARCHIVE    builds the hypervisor and the first guest; ARCHIVE is libits_c.a for aarch64
 #        run.sh run DIR              runs the first guest, and compares what it prints with expected.txt
+#        run.sh hostile DIR [SEED]   runs a guest that means no good
 #        run.sh linux DIR [WORDS]    runs Linux; WORDS are added to the kernel's command line
 set -eu
 
@@ -51,10 +52,15 @@ fetch() {
 build() {
     mkdir -p "$1"
     (cd "$here" && $compiler $plain -I../../include $sources "$2" -T image.ld -o "$1/hypervisor.elf")
-    (cd "$here/guest" && $compiler $plain -mgeneral-regs-only -mstrict-align start.S first.c \
-        -T first.ld -o "$1/first.elf")
-    $objcopy -O binary "$1/first.elf" "$1/first.bin"
+    guest "$1" first
     ${SIZE:-aarch64-linux-gnu-size} "$1/hypervisor.elf" "$1/first.elf"
+}
+
+# A guest of one C file: DIR, its name, more flags.
+guest() {
+    local to=$1/$2
+    (cd "$here/guest" && $compiler $plain -mgeneral-regs-only -mstrict-align ${3:-} start.S "$2.c" -T guest.ld -o "$to.elf")
+    $objcopy -O binary "$to.elf" "$to.bin"
 }
 
 # The machine, with the hypervisor in it. The guest's RAM begins at 0x40000000, and 256 MiB are the hypervisor's.
@@ -70,6 +76,16 @@ first() {
         stdbuf -oL tr -d '\r' | tee "$1/first.log"
     grep -v 'bytes of heap' "$1/first.log" | diff - "$here/expected.txt" # how many is the library's affair
     echo "first guest: as expected"
+}
+
+hostile() {
+    guest "$1" hostile "-DSEED=$2"
+    timeout "${PATIENCE:-300}" "$0" machine "$1" -smp 1 -device "loader,file=$1/hostile.bin,addr=0x40200000,force-raw=on" |
+        stdbuf -oL tr -d '\r' | tee "$1/hostile.log"
+    local took
+    took=$(sed -n 's/^guest: took \([0-9]*\) interrupts/\1/p' "$1/hostile.log")
+    grep -q " $took LPIs acknowledged" "$1/hostile.log" # as many as the library was told of
+    echo "hostile guest: its hypervisor goes on"
 }
 
 # What Linux starts from: busybox, the drivers and init.
@@ -119,7 +135,8 @@ case "${1:-}" in
 fetch) mkdir -p "$2" && fetch "$(realpath "$2")" ;;
 build) mkdir -p "$2" && build "$(realpath "$2")" "$(realpath "$3")" ;;
 run) first "$(realpath "$2")" ;;
+hostile) hostile "$(realpath "$2")" "${3:-1}" ;;
 linux) linux "$(realpath "$2")" "${@:3}" ;;
 machine) machine "${@:2}" ;;
-*) sed -n '4,7s/^# //p' "$0" >&2 && exit 2 ;;
+*) sed -n '4,8s/^# //p' "$0" >&2 && exit 2 ;;
 esac

@@ -20,7 +20,7 @@ enum {
     CONFIG_LENGTH = (1 << LPI_BITS) - FIRST_LPI, /* a byte for each LPI */
     PENDING_FROM = FIRST_LPI / 8,                /* a bit for each interrupt */
     PENDING_LENGTH = (1 << LPI_BITS) / 8 - PENDING_FROM,
-    TOLD = 16, /* so many messages and acknowledgements are printed */
+    TOLD = 16, /* so many messages and acknowledgements are printed, and so many refusals */
 };
 #define ADDRESS 0x000FFFFFFFFFF000u /* of GICR_PROPBASER and GICR_PENDBASER */
 
@@ -130,8 +130,8 @@ static bool step(uint32_t *concerned)
         counts.commands++;
         follow(command, out.op);
     } else if (out.outcome == ITS_OUTCOME_REFUSED) {
-        counts.refused++;
-        print("hypervisor: command 0x%x refused: %s\n", (uint64_t)out.op, word(ITS_LIST_REASONS, out.reason));
+        if (counts.refused++ < TOLD)
+            print("hypervisor: command 0x%x refused: %s\n", (uint64_t)out.op, word(ITS_LIST_REASONS, out.reason));
     }
     return out.outcome == ITS_OUTCOME_RAN || out.outcome == ITS_OUTCOME_REFUSED;
 }

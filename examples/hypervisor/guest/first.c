@@ -3,48 +3,18 @@
  * by writes of GITS_TRANSLATER, and takes the interrupts. The hypervisor knows its writes as those of
  * device 0xffff.
  */
-#include <stdint.h>
-
-#define READ(name) ({ uint64_t v_; __asm__ volatile("mrs %0, " name : "=r"(v_)); v_; })
-#define WRITE(name, value) __asm__ volatile("msr " name ", %0; isb" : : "r"((uint64_t)(value)) : "memory")
-#define AT4(address) (*(volatile uint32_t *)(uintptr_t)(address))
-#define AT8(address) (*(volatile uint64_t *)(uintptr_t)(address))
+#include "guest.h"
 
 enum {
-    DISTRIBUTOR = 0x08000000,
-    ITS = 0x08080000,
-    TRANSLATER = ITS + 0x10040,
-    REDISTRIBUTOR = 0x080A0000,
-    UART = 0x09000000,
     CONFIG = 0x42000000, /* tables of the guest, in its zero memory */
     PENDING = 0x42010000,
     DEVICES = 0x42020000,
     COLLECTIONS = 0x42030000,
     QUEUE = 0x42040000,
     TRANSLATIONS = 0x42050000,
-    DEVICE = 0xFFFF,
-    LPI = 8200, /* of event 1; those of 2 and 3 follow */
 };
-#define VALID (1ull << 63)
 
 static volatile uint32_t taken;
-
-static void text(const char *s)
-{
-    while (*s)
-        AT4(UART) = (unsigned char)*s++;
-}
-
-static void number(uint32_t n)
-{
-    char digits[11] = "";
-    int at = 10;
-
-    do
-        digits[--at] = (char)('0' + n % 10);
-    while (n /= 10);
-    text(&digits[at]);
-}
 
 static void command(uint64_t a, uint64_t b, uint64_t c)
 {
@@ -73,13 +43,10 @@ static void lpis_on(void)
 
     for (int i = 0; i < 3; i++)
         *(volatile uint8_t *)(uintptr_t)(CONFIG + LPI - 8192 + i) = configuration[i];
-    AT4(DISTRIBUTOR) = 1 << 4 | 1 << 1;
     AT8(REDISTRIBUTOR + 0x70) = CONFIG | 15;
     AT8(REDISTRIBUTOR + 0x78) = PENDING | 1ull << 62;
     AT4(REDISTRIBUTOR) = 1;
-    WRITE("S3_0_C12_C12_5", 7);  /* ICC_SRE_EL1 */
-    WRITE("S3_0_C4_C6_0", 0xF0); /* ICC_PMR_EL1 */
-    WRITE("S3_0_C12_C12_7", 1);  /* ICC_IGRPEN1_EL1 */
+    interface_on(0xF0);
 }
 
 static void map_events(void)
