@@ -59,7 +59,8 @@ build() {
 # A guest of one C file: DIR, its name, more flags.
 guest() {
     local to=$1/$2
-    (cd "$here/guest" && $compiler $plain -mgeneral-regs-only -mstrict-align ${3:-} start.S "$2.c" -T guest.ld -o "$to.elf")
+    (cd "$here/guest" && $compiler $plain -mgeneral-regs-only -mstrict-align ${3:-} start.S "$2.c" -T guest.ld \
+        -o "$to.elf")
     $objcopy -O binary "$to.elf" "$to.bin"
 }
 
@@ -68,7 +69,8 @@ machine() {
     local dir=$1
     shift
     exec nice -n 10 qemu-system-aarch64 -M virt,virtualization=on,gic-version=3,highmem=off -cpu cortex-a57 -m 1024 \
-        -accel "tcg,thread=${THREADS:-single}" -nographic -nodefaults -serial stdio -no-reboot -kernel "$dir/hypervisor.elf" "$@"
+        -accel "tcg,thread=${THREADS:-single}" -nographic -nodefaults -serial stdio -no-reboot \
+        -kernel "$dir/hypervisor.elf" "$@"
 }
 
 first() {
@@ -112,6 +114,7 @@ linux() {
     local dir=$1 kernel processors=${PROCESSORS:-1}
     shift
     kernel=$(echo "$dir"/packages/boot/vmlinuz-*)
+    [ -f "$kernel" ] || { echo "there is no $kernel: run.sh fetch $dir" >&2 && exit 1; }
     initramfs "$dir"
     qemu-system-aarch64 -M "virt,gic-version=3,highmem=off,dumpdtb=$dir/guest.dtb" -cpu cortex-a57 -m 768 \
         -smp "$processors" -nographic -nodefaults -kernel "$kernel" -initrd "$dir/initrd.gz" \
@@ -124,7 +127,8 @@ linux() {
         -drive "if=none,id=disk,file=$dir/disk,format=raw" -device virtio-blk-pci,drive=disk \
         -netdev user,id=net -device virtio-net-pci,netdev=net,romfile= -device virtio-rng-pci |
         stdbuf -oL tr -d '\r' | tee "$dir/linux.log"
-    if grep -qE '^guest: (HANGS|no )|^hypervisor: stopped' "$dir/linux.log" || ! grep -q '^guest: the end' "$dir/linux.log"; then
+    if grep -qE '^guest: (HANGS|no )|^hypervisor: stopped' "$dir/linux.log" ||
+        ! grep -q '^guest: the end' "$dir/linux.log"; then
         echo "Linux: FAILED"
         return 1
     fi

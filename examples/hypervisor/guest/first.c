@@ -32,7 +32,8 @@ void interrupted(void)
     uint32_t intid = (uint32_t)READ("S3_0_C12_C12_0"); /* ICC_IAR1_EL1 */
 
     __asm__ volatile("dsb sy; isb");
-    text("guest: took LPI "), number(intid), text(" of priority "), number((uint32_t)READ("S3_0_C12_C11_3")), text("\r\n");
+    text("guest: took LPI "), number(intid);
+    text(" of priority "), number((uint32_t)READ("S3_0_C12_C11_3")), text("\r\n"); /* ICC_RPR_EL1 */
     WRITE("S3_0_C12_C12_1", intid); /* ICC_EOIR1_EL1 */
     taken++;
 }
