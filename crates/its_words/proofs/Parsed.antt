@@ -8,7 +8,7 @@ use Rattle.clap.specs.declared.error.ErrorKind.{ErrorKind}
 use Rattle.clap.specs.declared.error.ErrorKind.TheVariants.{OutOfMemory}
 use Rattle.clap.proofs.OnLiterals.{clap_on_literals}
 use Rattle.its_words.specs.Command.{its_app}
-use Rattle.its_words.specs.Words.{IsMatched, asked_in, asked_of, command_of, is_none, is_taken, option_of, or_else_asked}
+use Rattle.its_words.specs.Words.{IsMatched, asked_in, asked_of, command_of, is_none, is_taken, option_of}
 use Rattle.its_words.proofs.Commands.{parsed, parsed-command_of}
 use Rattle.its_words.specs.declared.words.Asked.{Asked}
 
