@@ -3,7 +3,7 @@
 
 usage: materials.py KIT TO CRATE=FILE..    KIT is the kit's folder, TO gets NAME/LICENSE*, FILE is what CRATE was built as
 
-A line for each crate that is linked: its name, whose it is, the files that it is in, and the SHA-256 of the sources
+A line for each crate that a file stands on, of which the linker keeps what is reached: its name, whose it is, the files that it is in, and the SHA-256 of the sources
 in its src/ (of the lines that sha256sum prints for them, by their paths). It runs at the top of a clone.
 """
 import hashlib
@@ -23,7 +23,7 @@ for line in open("crates.txt", encoding="utf-8"):
 def below(name):
     """The crates that one names."""
     if name in uses:
-        return uses[name] + ["core" if name == "its_c" else "std"]
+        return uses[name] + ["std"]
     with open(f"{kit}/rlibs/{name}.rlib/format", encoding="utf-8") as form:
         return re.findall(r"^dep (\w+)$", form.read(), re.M)
 

@@ -77,7 +77,7 @@ def header_page():
     first, *others = [it for it in comment(re.match(r"/\*(.*?)\*/", header, re.S)[1]) if not it.startswith("SPDX")]
     types = header[header.index("/* Counts the changes") :]
     types = types[: types.rindex("/*", 0, types.index("\nuint32_t its_"))]
-    text = head("ITS.H", 3) + f"its.h \\- {roff(first.removesuffix('.'))}\n"
+    text = head("ITS.H", 3) + f"its.h \\- {roff(first[0].lower() + first[1:].removesuffix('.'))}\n"
     text += '.SH SYNOPSIS\n.B #include <its.h>\n.PP\nLink with libits_c.a and with three functions of a heap, as examples/monitor/heap.c has them.\n'
     text += ".SH DESCRIPTION\n" + "\n.PP\n".join(roff(it) for it in others) + "\n.SH CALLS\n"
     for said, call in calls:
@@ -95,8 +95,12 @@ def readme():
         elif only[1] == target:
             lines.append(only[2])
     section = re.search(r"\n## Limits\n\n(.*?)\n\n## ", read("README.md"), re.S)[1]
+    section = re.sub(r"^\| room \|.*\n?", "", section, flags=re.M).strip()  # what the repository takes
     text = "\n".join(lines).replace("@limits@", section)
     text = re.sub(r"@(\w+)@", lambda it: values[it[1]], text)
+    links = re.findall(r"\]\(([^)#]*)", text)
+    missing = [it for it in links if not os.path.exists(f"{folder}/{it}")]
+    assert not missing, f"README.md has links to what isn't there: {missing}"
     return text
 
 
