@@ -96,8 +96,8 @@ mkdir -p "$folder"
 
 checked_library "$library_x86_64" "Advanced Micro Devices X86-64"
 name=bacciledru-$version-x86_64
+install -D -m 755 "$program" "$work/$name/its"
 filled "$work/$name" x86_64 "$library_x86_64" "gcc, libc6-dev and man-db" its_cli=its its_c=libits_c.a
-install -m 755 "$program" "$work/$name/its"
 (cd "$kit_folder/c" && sha256sum libos_c.a liblibc_c.a) |
     while read -r sum file; do printf '%-18s%-12s%-18s%s\n' "$file" kit its "$sum"; done >>"$work/$name/MATERIALS"
 readelf -d "$program" | sed -nE 's/.*\(NEEDED\).*\[(.*)\].*/\1/p' |
@@ -106,7 +106,7 @@ packed "$name"
 
 checked_library "$library_aarch64" AArch64
 name=bacciledru-$version-aarch64
+copied "$work/$name" examples/hypervisor
 filled "$work/$name" aarch64 "$library_aarch64" \
     "gcc-aarch64-linux-gnu, libc6-dev-arm64-cross, qemu-user-static and man-db" its_c=libits_c.a
-copied "$work/$name" examples/hypervisor
 packed "$name"
