@@ -57,7 +57,7 @@ command_of _ = None
 
 -- ---- options
 
--- an option asks what the command asks that has its name
+-- an option asks what the command of its name asks
 abbrev pub asked_by_option : Text → Option Asked
 asked_by_option word =
     if bytes_eq word (codes "--help") then Some Help
