@@ -1,5 +1,5 @@
 -- What a parse says of words.
-use Rattle.std.proofs.Common.{◌≡◌, ◌∙◌, true, false, List, [], ◌∷◌, cond, Option, None, Result, Ok, Err, IsErrAnd, refl, sym, ap, ap₂, subst, inl, inr}
+use Rattle.std.proofs.Common.{◌≡◌, ◌∙◌, true, false, List, [], ◌∷◌, cond, Option, Some, None, Result, Ok, Err, IsErrAnd, refl, sym, ap, ap₂, subst, inl, inr}
 use Rattle.clap.specs.Words.{App, HasKind, HasMatchesOf, IsAmong, Kinds, Text, fault_of, is_simple, is_simple_and_free, kind_of, subcommand_of}
 use Rattle.clap.specs.Words.{subcommand_rows_of}
 use Rattle.clap.specs.declared.ArgMatches.{ArgMatches}
@@ -49,13 +49,19 @@ commands : (words : List Text) (m : ArgMatches) (o : Option Asked) → IsMatched
 unfolding is_taken parsed
 commands words m o h e = sym (parsed-command_of words) ∙ ap₂ (λ b s. cond b (asked_in s) None) h.taken (sym h.rows) ∙ sym e
 
+pub option_asks : (words : List Text) (asked : Asked) → option_of words ≡ Some asked → asked_of words ≡ Some asked
+unfolding asked_of
+option_asks words asked e = rw e refl
+
 -- where no option stands alone
 
 pub asks_none : (words : List Text) → option_of words ≡ None → is_taken words ≡ false → asked_of words ≡ None
+unfolding asked_of
 asks_none words no-option e = rw no-option (commands_none words e)
 
 pub asks : (words : List Text) (m : ArgMatches) (o : Option Asked) → option_of words ≡ None → IsMatched words m → o ≡ asked_in (subcommand_rows_of m)
     → asked_of words ≡ o
+unfolding asked_of
 asks words m o no-option h e = rw no-option (commands words m o h e)
 
 pub same_error : {T E : Type 0} (r : Result T E) (f g : E) → IsErrAnd r (λ y. y ≡ f) → r ≡ Err g → f ≡ g

@@ -76,7 +76,7 @@ or_else_asked None other = other
 
 -- ---- all words
 
-abbrev pub asked_of : List Text → Option Asked
+unfoldable pub asked_of : List Text → Option Asked
 asked_of words = or_else_asked (option_of words) (command_of words)
 
 -- ---- the parser

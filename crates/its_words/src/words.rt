@@ -5,7 +5,7 @@ ghost use Rattle.std.specs.String.{string_bytes};
 ghost use Rattle.clap.specs.Words.{first_value, found_of, subcommand_of, subcommand_rows_of, takes};
 ghost use Rattle.its_words.specs.Command.{its_app};
 ghost use Rattle.its_words.specs.Words as spec;
-ghost use Rattle.its_words.specs.Words.{asked_in, asked_of, command_of, gen_by, is_taken, number_of};
+ghost use Rattle.its_words.specs.Words.{asked_in, asked_of, gen_by, is_taken, number_of};
 ghost use Rattle.its_words.specs.Words.{option_of, or_else_asked, IsInRange, IsMatched};
 ghost use Rattle.its_words.specs.declared.words.WordsError.TheVariants.{NoMemory};
 

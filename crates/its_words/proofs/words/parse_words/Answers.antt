@@ -1,6 +1,9 @@
 use Rattle.std.proofs.Common.{◌∙◌, Err, ap, sym}
-use Rattle.its_words.proofs.Parsed.{asks, asks_none, same_error}
+use Rattle.its_words.proofs.Parsed.{asks, asks_none, option_asks, same_error}
 use Rattle.its_words.proofs.words.parse_words.Goals as goal
+
+pub returns-in-Some-clause-ok : goal.returns-in-Some-clause-ok
+returns-in-Some-clause-ok c = option_asks _ c.in-Some.asked (sym c.option.ensures.value ∙ c.in-Some.is)
 
 pub returns-in_err-matches-clause-refused : goal.returns-in_err-matches-clause-refused
 returns-in_err-matches-clause-refused c = λ e.
