@@ -14,6 +14,8 @@
  * The numbers of an enum have the words of docs/FORMATS.md, which its_text tells. Fields have 32 or 64
  * bits, and no enum's type. Section numbers are those of Arm IHI 0069.
  * examples/monitor/check_header.py holds this file to crates/its_c/src.
+ *
+ * SPDX-License-Identifier: MIT OR Apache-2.0
  */
 #ifndef ITS_H
 #define ITS_H

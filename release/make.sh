@@ -1,15 +1,17 @@
 #!/usr/bin/env bash
-# Packs a release into one archive: the program, the library with its header, the gate's log, the
-# licence and the changes, and the checksums of all. The same files make the same archive, byte for byte.
+# Packs a release into two archives, for x86_64 and for aarch64. Each has the library with its header, the
+# monitors, pages, examples, manual pages, what it was made from, and the checksums of all; that for x86_64
+# has the program too. The same files make the same archives, byte for byte.
 #
-# usage: release/make.sh GATE_LOG [FOLDER]
+# usage: release/make.sh GATE_LOG LIBRARY_AARCH64 [FOLDER]
 #
-# GATE_LOG is what `.ci/run` printed for this commit; that it is of this commit is for the caller to know.
-# The program is what the gate leaves in crates/its_cli/out, the library what `rt lib` leaves in
-# crates/its_c/out; PROGRAM and LIBRARY in the environment name other files. The version is the first of
-# CHANGELOG.md. The archive is FOLDER/bacciledru-VERSION.tar.gz, in release/out without a FOLDER.
+# GATE_LOG is what `.ci/run` printed for this commit, and LIBRARY_AARCH64 the libits_c.a that
+# `rt lib --target aarch64-unknown-linux-gnu` made of it; that they are of this commit is for the caller to
+# know. The program is what the gate leaves in crates/its_cli/out, the library for x86_64 what `rt lib` leaves
+# in crates/its_c/out; PROGRAM and LIBRARY in the environment name other files. The version is the first of
+# CHANGELOG.md. The archives are FOLDER/bacciledru-VERSION-PROCESSOR.tar.gz, in release/out without a FOLDER.
 set -euo pipefail
-export LC_ALL=C
+export LC_ALL=C TZ=UTC
 umask 022
 
 fail() {
@@ -17,17 +19,18 @@ fail() {
     exit 1
 }
 
-if [ $# -lt 1 ] || [ $# -gt 2 ]; then
-    echo "usage: release/make.sh GATE_LOG [FOLDER]" >&2
+if [ $# -lt 2 ] || [ $# -gt 3 ]; then
+    echo "usage: release/make.sh GATE_LOG LIBRARY_AARCH64 [FOLDER]" >&2
     exit 2
 fi
 log=$(realpath "$1")
-folder=$(realpath -m "${2:-$(dirname "$0")/out}")
+library_aarch64=$(realpath -m "$2")
+folder=$(realpath -m "${3:-$(dirname "$0")/out}")
 program=$(realpath -m "${PROGRAM:-$(dirname "$0")/../crates/its_cli/out/its_cli}")
-library=$(realpath -m "${LIBRARY:-$(dirname "$0")/../crates/its_c/out/libits_c.a}")
+library_x86_64=$(realpath -m "${LIBRARY:-$(dirname "$0")/../crates/its_c/out/libits_c.a}")
 cd "$(dirname "$0")/.."
 
-for file in "$log" "$program" "$library"; do
+for file in "$log" "$program" "$library_x86_64" "$library_aarch64"; do
     [ -f "$file" ] || fail "there is no $file"
 done
 [ -z "$(git status --porcelain)" ] || fail "the clone has changes that aren't committed"
@@ -35,25 +38,75 @@ verdict=$(grep -E '[0-9]+ passed, [0-9]+ failed' "$log" | tail -n 1) || fail "$l
 [[ $verdict =~ (^|[^0-9])[1-9][0-9]*\ passed,\ 0\ failed ]] || fail "the gate failed: $verdict"
 version=$(sed -n 's/^## \([0-9][0-9]*\.[0-9][0-9]*\.[0-9][0-9]*\).*/\1/p' CHANGELOG.md | head -n 1)
 [ -n "$version" ] || fail "CHANGELOG.md has no version"
+kit=$(rt version)
+kit_folder=$(dirname "$(rt doc)")
+commit=$(git rev-parse HEAD)
+said=$("$program" version | head -n 2)
+[ "$said" = "its $version (Bacciledru)
+for $kit" ] || fail "the program says of itself: $said"
 
-name=bacciledru-$version
 work=$(mktemp -d)
 trap 'rm -rf "$work"' EXIT
-mkdir "$work/$name"
-install -m 755 "$program" "$work/$name/its"
-install -m 644 "$library" "$work/$name/libits_c.a"
-install -m 644 "$log" "$work/$name/gate.log"
-install -m 644 include/its.h LICENSE CHANGELOG.md "$work/$name/"
-cat >"$work/$name/ABOUT" <<END
-Bacciledru $version
-commit $(git rev-parse HEAD)
-proved with $(rt version)
-gate: $verdict
-END
-(cd "$work/$name" && sha256sum -- * >../SHA256SUMS && mv ../SHA256SUMS .)
+
+# The library of a processor is for it, and calls nothing but what it may.
+checked_library() {
+    readelf -h "$1" | grep -q "Machine: *$2\$" || fail "$1 isn't for $2"
+    examples/monitor/check_symbols.sh "$1" include/its.h >&2 || fail "$1 isn't what a monitor is told of it"
+}
+
+# Copies files of the repository to their places in a folder.
+copied() {
+    local to=$1 file
+    shift
+    git ls-files -- "$@" | while read -r file; do
+        install -D -m "$(git ls-files -s -- "$file" | cut -c4-6)" "$file" "$to/$file"
+    done
+}
+
+# What both archives have: the folder, the processor, the library, what is linked as `materials.py` takes it.
+filled() {
+    local to=$1 processor=$2 library=$3 packages=$4
+    shift 4
+    mkdir -p "$to"
+    install -m 644 "$library" "$to/libits_c.a"
+    install -m 644 "$log" "$to/gate.log"
+    copied "$to" include/its.h LICENSE-MIT LICENSE-APACHE CHANGELOG.md examples/README.md examples/compare.sh \
+        'examples/*.its' 'examples/*.report' examples/variations examples/monitor \
+        docs/LIBRARY.md docs/FORMATS.md docs/TUTORIAL.md docs/GLOSSARY.md docs/PROMISES.md docs/PEERS.md
+    (cd "$to/examples/monitor" && rm README.md run.sh check_header.py)
+    printf 'bacciledru %s\nprocessor %s\ncommit %s\nkit %s\ngate %s\n' \
+        "$version" "$processor" "$commit" "$kit" "$verdict" >"$to/VERSION"
+    python3 release/materials.py "$kit_folder" "$to/licenses" "$@" >"$to/MATERIALS"
+    python3 release/pages.py "$to" "$processor" "version=$version" "target=$processor" "packages=$packages" \
+        "kit=$kit" "commit=$commit" "date=$(git log -1 --format=%cd --date=format-local:%Y-%m-%d)"
+}
+
+# Packs a folder of the work, with its checksums.
+packed() {
+    local name=$1
+    (cd "$work/$name" && find . -type f -printf '%P\n' | sort | xargs -d '\n' sha256sum -- >../SHA256SUMS && mv ../SHA256SUMS .)
+    chmod -R u=rwX,go=rX "$work/$name"
+    tar --format=ustar --sort=name --owner=0 --group=0 --numeric-owner --mtime="@$(git log -1 --format=%ct)" \
+        -C "$work" -cf "$work/archive.tar" "$name"
+    gzip -9n <"$work/archive.tar" >"$folder/$name.tar.gz"
+    (cd "$folder" && sha256sum "$name.tar.gz")
+}
 
 mkdir -p "$folder"
-tar --format=ustar --sort=name --owner=0 --group=0 --numeric-owner --mtime="@$(git log -1 --format=%ct)" \
-    -C "$work" -cf "$work/archive.tar" "$name"
-gzip -9n <"$work/archive.tar" >"$folder/$name.tar.gz"
-(cd "$folder" && sha256sum "$name.tar.gz")
+
+checked_library "$library_x86_64" "Advanced Micro Devices X86-64"
+name=bacciledru-$version-x86_64
+install -D -m 755 "$program" "$work/$name/its"
+filled "$work/$name" x86_64 "$library_x86_64" "gcc, libc6-dev and man-db" its_cli=its its_c=libits_c.a
+(cd "$kit_folder/c" && sha256sum libos_c.a liblibc_c.a) |
+    while read -r sum file; do printf '%-18s%-12s%-18s%s\n' "$file" kit its "$sum"; done >>"$work/$name/MATERIALS"
+readelf -d "$program" | sed -nE 's/.*\(NEEDED\).*\[(.*)\].*/\1/p' |
+    while read -r file; do printf '%-18s%-12s%-18s%s\n' "$file" system its "found as it starts"; done >>"$work/$name/MATERIALS"
+packed "$name"
+
+checked_library "$library_aarch64" AArch64
+name=bacciledru-$version-aarch64
+copied "$work/$name" examples/hypervisor
+filled "$work/$name" aarch64 "$library_aarch64" \
+    "gcc-aarch64-linux-gnu, libc6-dev-arm64-cross, qemu-user-static and man-db" its_c=libits_c.a
+packed "$name"

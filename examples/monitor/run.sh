@@ -1,15 +1,34 @@
 #!/usr/bin/env bash
-# Builds and runs the monitors over crates/its_c/out/libits_c.a, and compares what they print.
-# The library is built first: cd crates/its_c && rt lib
+# Builds and runs the monitors over the library, and compares what they print.
 #
-# usage: examples/monitor/run.sh [times]
+# usage: examples/monitor/run.sh [times]       x86-64, over crates/its_c/out/libits_c.a; times also tells how long calls take
+#        examples/monitor/run.sh arm ARCHIVE   aarch64, over that libits_c.a, under qemu-user
+#
+# The library is built first: cd crates/its_c && rt lib [--target aarch64-unknown-linux-gnu]
 set -u
 
-cd "$(dirname "$0")" || exit 1
-compiler=${CC:-gcc}
-library=$(realpath ../../crates/its_c/out)
-if [ ! -f "$library/libits_c.a" ]; then
-    echo "crates/its_c/out/libits_c.a isn't there: build it by 'rt lib' in crates/its_c"
+here=$(dirname "$(realpath "$0")")
+if [ "${1:-}" = arm ]; then
+    [ $# -eq 2 ] || { sed -n '4,5s/^# //p' "$0" >&2 && exit 2; }
+    compiler=${CC:-aarch64-linux-gnu-gcc} static=-static
+    archive=$(realpath -m "$2")
+    runner=${RUNNER:-qemu-aarch64-static}
+    target=aarch64-unknown-linux-gnu
+    export CARGO_TARGET_AARCH64_UNKNOWN_LINUX_GNU_LINKER=$compiler
+    export CARGO_TARGET_AARCH64_UNKNOWN_LINUX_GNU_RUSTFLAGS="-C target-feature=+crt-static"
+    if ! command -v "$runner" >/dev/null; then
+        echo "$runner isn't there: nothing for aarch64 can run"
+        exit 1
+    fi
+else
+    compiler=${CC:-gcc} static=
+    archive=$(realpath -m "$here/../../crates/its_c/out/libits_c.a")
+    runner=
+    target=x86_64-unknown-linux-gnu
+fi
+cd "$here" || exit 1
+if [ ! -f "$archive" ]; then
+    echo "$archive isn't there: build it by 'rt lib' in crates/its_c"
     exit 1
 fi
 program=../../crates/its_cli/out/its_cli
@@ -36,7 +55,7 @@ replies() {
 build() {
     local program=$1
     shift
-    "$compiler" -std=c11 -Wall -Wextra -Werror -O2 -I../../include "$@" "$library/libits_c.a" -o "$work/$program"
+    "$compiler" -std=c11 -Wall -Wextra -Werror -O2 $static -I../../include "$@" "$archive" -o "$work/$program"
 }
 
 if command -v "$compiler" >/dev/null; then
@@ -47,15 +66,19 @@ if command -v "$compiler" >/dev/null; then
     else
         echo "python3 isn't there: the header is not compared with the sources"
     fi
-    build monitor monitor.c heap.c && "$work/monitor" | diff - expected.txt
+    ./check_symbols.sh "$archive" ../../include/its.h
+    tell "what the archive calls and has" $?
+    build monitor monitor.c heap.c && $runner "$work/monitor" | diff - expected.txt
     tell "monitor in C" "$((PIPESTATUS[0] | PIPESTATUS[1]))"
-    if [ -x "$program" ]; then
+    if [ -n "$runner" ]; then
+        : # what its run replies doesn't go with the processor, and is compared on x86-64
+    elif [ -x "$program" ]; then
         replies <expected.txt >"$work/said" && "$program" run <monitor.its | replies | diff - "$work/said"
         tell "what its run replies to the same calls" $?
     else
         echo "crates/its_cli/out/its_cli isn't there: the monitor's replies are not compared with those of its run"
     fi
-    build refusals refusals.c && "$work/refusals"
+    build refusals refusals.c && $runner "$work/refusals"
     tell "each allocation refused in turn" $?
     if [ "${1:-}" = times ]; then
         build times times.c heap.c && "$work/times"
@@ -65,11 +88,15 @@ else
     echo "$compiler isn't there: the monitor in C is left out"
 fi
 
-if command -v cargo >/dev/null; then
-    ITS_C_LIB=$library CARGO_TARGET_DIR=$work/rust cargo build --quiet --release --offline --manifest-path rust/Cargo.toml &&
-        "$work/rust/release/monitor" | diff - expected_rust.txt
-    tell "monitor in Rust" "$((PIPESTATUS[0] | PIPESTATUS[1]))"
-else
+if ! command -v cargo >/dev/null; then
     echo "cargo isn't there: the monitor in Rust is left out"
+elif [ ! -d "$(rustc --print target-libdir --target "$target")" ]; then
+    echo "rustc has no standard library for $target: the monitor in Rust is left out"
+else
+    mkdir "$work/library" && cp "$archive" "$work/library/libits_c.a"
+    ITS_C_LIB=$work/library CARGO_TARGET_DIR=$work/rust \
+        cargo build --quiet --release --offline --target "$target" --manifest-path rust/Cargo.toml &&
+        $runner "$work/rust/$target/release/monitor" | diff - expected_rust.txt
+    tell "monitor in Rust" "$((PIPESTATUS[0] | PIPESTATUS[1]))"
 fi
 exit "$failed"

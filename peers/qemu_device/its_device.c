@@ -10,7 +10,7 @@
  * QEMU makes every call here with its big lock held, which is the lock of the handle. Guest memory
  * is read and written within the same call that goes to the library.
  *
- * SPDX-License-Identifier: Apache-2.0 OR GPL-2.0-or-later
+ * SPDX-License-Identifier: MIT OR Apache-2.0
  */
 #include "qemu/osdep.h"
 #include "qemu/error-report.h"

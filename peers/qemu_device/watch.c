@@ -7,7 +7,7 @@
  *                  to_script.py makes a script and a report of it
  * ITS_TIMES=FILE   how long signals, commands and acknowledgements take, of both translators
  *
- * SPDX-License-Identifier: Apache-2.0 OR GPL-2.0-or-later
+ * SPDX-License-Identifier: MIT OR Apache-2.0
  */
 #include "qemu/osdep.h"
 #include "qemu/cutils.h"

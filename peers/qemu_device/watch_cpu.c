@@ -2,7 +2,7 @@
  * The times of acknowledgements, of both translators: a processor's read of ICC_IAR1_EL1 that gets an
  * LPI (watch.c). QEMU compiles this file for the target, as it does the processors' interface.
  *
- * SPDX-License-Identifier: Apache-2.0 OR GPL-2.0-or-later
+ * SPDX-License-Identifier: MIT OR Apache-2.0
  */
 #include "qemu/osdep.h"
 #include "qemu/timer.h"

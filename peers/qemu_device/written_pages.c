@@ -6,7 +6,7 @@
  * before QEMU waits for its processors, as later QEMUs do for these pages (since 9.0).
  * QEMU compiles this file for the target, as it does the TLB.
  *
- * SPDX-License-Identifier: Apache-2.0 OR GPL-2.0-or-later
+ * SPDX-License-Identifier: MIT OR Apache-2.0
  */
 #include "qemu/osdep.h"
 #include "cpu.h"

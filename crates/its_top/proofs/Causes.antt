@@ -9,12 +9,13 @@ use Rattle.event_script.specs.Script.{script_of, check_of}
 use Rattle.event_script.specs.declared.fault.ScriptFault.{ScriptFault}
 use Rattle.event_script.specs.declared.script.Script.{Script}
 use Rattle.its_top.specs.Legs.{AllEnd}
+use Rattle.its_words.specs.Help.{help_text, version_text}
 use Rattle.its_words.specs.Words.{asked_of}
 use Rattle.its_words.specs.declared.words.Asked.{Asked}
-use Rattle.its_words.specs.declared.words.Asked.TheVariants.{Run, Check, Gen, Explain, Help}
+use Rattle.its_words.specs.declared.words.Asked.TheVariants.{Run, Check, Gen, Explain, Help, Version}
 use Rattle.its_top.specs.Checked.{CheckCauses}
 use Rattle.its_top.specs.Its.{Causes, RunCauses, WordsCauses, AskedCauses, IsScript, OfScript, IsReport, IsMigrationRefusal, IsSpentReport, IsCutShort}
-use Rattle.its_top.specs.Its.{ExplainCauses, HelpCauses, IsDecided, IsRunDecided, AskedDecides, ReadDecides}
+use Rattle.its_top.specs.Its.{ExplainCauses, IsDecided, IsRunDecided, AskedDecides, ReadDecides, TextCauses}
 use Rattle.its_top.specs.Streams.{WasRead}
 use Rattle.its_top.specs.Summarized.{GenCauses}
 use Rattle.its_top.specs.Answered.{InputCauses, RunEnds, IsSoFar, StopsShort}
@@ -265,19 +266,19 @@ gen_end signals threads status.TooLong text h = absurd h
 gen_end signals threads status.TraceDiffers text h = absurd h
 gen_end signals threads status.BadTrace text h = absurd h
 
-help_end : (s : Status) (text : List ℕ) → HelpCauses s text → Ended s status.Ok
-help_end status.Ok text h = inl refl
-help_end status.ScriptRefused text h = absurd h
-help_end status.WordsRefused text h = absurd h
-help_end status.ReadFault text h = absurd h
-help_end status.WriteFault text h = absurd h
-help_end status.Memory text h = inr refl
-help_end status.MachineRefused text h = absurd h
-help_end status.MigrationRefused text h = absurd h
-help_end status.Spent text h = absurd h
-help_end status.TooLong text h = absurd h
-help_end status.TraceDiffers text h = absurd h
-help_end status.BadTrace text h = absurd h
+text_end : (same : List ℕ) (s : Status) (text : List ℕ) → TextCauses same s text → Ended s status.Ok
+text_end same status.Ok text h = inl refl
+text_end same status.ScriptRefused text h = absurd h
+text_end same status.WordsRefused text h = absurd h
+text_end same status.ReadFault text h = absurd h
+text_end same status.WriteFault text h = absurd h
+text_end same status.Memory text h = inr refl
+text_end same status.MachineRefused text h = absurd h
+text_end same status.MigrationRefused text h = absurd h
+text_end same status.Spent text h = absurd h
+text_end same status.TooLong text h = absurd h
+text_end same status.TraceDiffers text h = absurd h
+text_end same status.BadTrace text h = absurd h
 
 explain_decided : (input : List ℕ) (rose : Type 0) (s : Status) (text : List ℕ) → ¬ rose → ExplainCauses (Some input) rose s text
     → ReadDecides (check_of input) input s
@@ -298,7 +299,8 @@ decided words told rose s text calm h = go (asked_of words) h
     go (Some (Gen signals threads)) h = gen_end signals threads s text h
     go (Some Explain) h = λ input tells. explain_decided input rose s text calm
         (subst (λ (o : Option (List ℕ)). ExplainCauses o rose s text) tells h)
-    go (Some Help) h = help_end s text h
+    go (Some Help) h = text_end help_text s text h
+    go (Some Version) h = text_end version_text s text h
 
 -- with the status that was printed
 pub decided_by : (words : List (List ℕ)) (told : Option (List ℕ)) (rose : Type 0) (s said : Status) (text : List ℕ) → s ≡ said → ¬ rose
@@ -334,3 +336,4 @@ no_write_fault words told rose s text h e = go (asked_of words) (subst (λ (t : 
     go (Some (Gen signals threads)) h = h
     go (Some Explain) h = h
     go (Some Help) h = h
+    go (Some Version) h = h

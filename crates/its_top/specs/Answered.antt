@@ -21,9 +21,9 @@ use Rattle.its_top.specs.Legs.{HaveRun, first_told}
 use Rattle.its_history.specs.Reports.{ended, moved_end, cut_leg}
 use Rattle.its_top.specs.Refusals.{machine_refusal, spent_refusal, migration_refusal}
 use Rattle.its_top.specs.Its.{OfScript, IsReport, IsScriptRefusal, IsMachineRefusal, IsMigrationRefusal, IsSpentReport, IsMigrationLine, IsSpentLine}
-use Rattle.its_words.specs.Help.{help_text}
+use Rattle.its_words.specs.Help.{help_text, version_text}
 use Rattle.its_top.specs.declared.command.Answer.{Answer}
-use Rattle.its_top.specs.declared.command.Answer.TheVariants.{Answered, Helped, Refused}
+use Rattle.its_top.specs.declared.command.Answer.TheVariants.{Answered, Helped, Refused, Versioned}
 use Rattle.its_steps.specs.Parts.{Setup}
 use Rattle.its_turns.specs.Machines.{setup}
 use Rattle.its_turns.specs.declared.machine.Machine.{Machine}
@@ -182,10 +182,12 @@ refusal_text _ = []
 abbrev pub AnswerIsCaused : (Status → List ℕ → Type 0) → List ℕ → Answer → Type 0
 AnswerIsCaused causes report (Answered e) = causes e.status (report ++ string_bytes e.line)
 AnswerIsCaused causes report Helped = causes status.Ok (report ++ help_text)
+AnswerIsCaused causes report Versioned = causes status.Ok (report ++ version_text)
 AnswerIsCaused causes report (Refused s) = causes s (report ++ refusal_text s)
 
 -- the command may end well
 abbrev pub MayEndWell : Answer → Type 0
 MayEndWell (Answered e) = Unit {0}
 MayEndWell Helped = Unit {0}
+MayEndWell Versioned = Unit {0}
 MayEndWell (Refused s) = s ≡ status.Ok

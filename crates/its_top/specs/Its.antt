@@ -18,8 +18,8 @@ use Rattle.its_top.specs.Lines.{StartsOff}
 use Rattle.its_history.specs.declared.trace.Leg.{Leg as LegLines}
 use Rattle.its_words.specs.Words.{asked_of}
 use Rattle.its_words.specs.declared.words.Asked.{Asked}
-use Rattle.its_words.specs.declared.words.Asked.TheVariants.{Run, Check, Gen, Explain, Help}
-use Rattle.its_words.specs.Help.{help_text}
+use Rattle.its_words.specs.declared.words.Asked.TheVariants.{Run, Check, Gen, Explain, Help, Version}
+use Rattle.its_words.specs.Help.{help_text, version_text}
 use Rattle.its_top.specs.Legs.{HasPlaces, HaveRun, CanMigrate, AllEnd, all_told, first_told}
 use Rattle.its_history.specs.Reports.{ended, cut_leg}
 use Rattle.trace_check.specs.Verdicts.{copies_of}
@@ -185,12 +185,13 @@ ExplainCauses told rose status.Memory text = text ≡ codes "refused memory\n"
 ExplainCauses told rose status.TooLong text = IfSome told (λ all. 16777216 < length all) × (text ≡ codes "refused long\n")
 ExplainCauses told rose s text = (input : List ℕ) × (WasRead told input × ExplainSays input s text)
 
--- ---- help
+-- ---- help and version
 
-abbrev pub HelpCauses : Status → List ℕ → Type 0
-HelpCauses status.Ok text = text ≡ help_text
-HelpCauses status.Memory text = text ≡ codes "refused memory\n"
-HelpCauses _ text = ⊥
+-- a text that is always the same is printed
+abbrev pub TextCauses : List ℕ → Status → List ℕ → Type 0
+TextCauses same status.Ok text = text ≡ same
+TextCauses same status.Memory text = text ≡ codes "refused memory\n"
+TextCauses same _ text = ⊥
 
 -- ---- words
 
@@ -206,7 +207,8 @@ AskedCauses (Some Run) told rose s text = RunCauses told rose s text
 AskedCauses (Some Check) told rose s text = CheckCauses told rose s text
 AskedCauses (Some (Gen signals threads)) told rose s text = GenCauses signals threads s text
 AskedCauses (Some Explain) told rose s text = ExplainCauses told rose s text
-AskedCauses (Some Help) told rose s text = HelpCauses s text
+AskedCauses (Some Help) told rose s text = TextCauses help_text s text
+AskedCauses (Some Version) told rose s text = TextCauses version_text s text
 
 -- what each status says of the words, of what the source tells and of its count of faults, and the text that is printed
 abbrev pub Causes : List (List ℕ) → Option (List ℕ) → Type 0 → Status → List ℕ → Type 0
@@ -220,7 +222,7 @@ AskedReads (Some Check) before now = IsAtEnd before now
 AskedReads (Some Explain) before now = IsAtEnd before now
 AskedReads _ before now = now ≡ before
 
--- `run`, `check` and `explain` read the source to its end, `gen` and `help` read nothing
+-- `run`, `check` and `explain` read the source to its end, the others read nothing
 abbrev pub Reads : List (List ℕ) → Option (List ℕ) → Option (List ℕ) → Type 0
 Reads words before now = AskedReads (asked_of words) before now
 
@@ -271,6 +273,7 @@ AskedDecides (Some Check) told s = (input : List ℕ) → told ≡ Some input �
 AskedDecides (Some (Gen signals threads)) told s = Ends s status.Ok
 AskedDecides (Some Explain) told s = (input : List ℕ) → told ≡ Some input → ReadDecides (check_of input) input s
 AskedDecides (Some Help) told s = Ends s status.Ok
+AskedDecides (Some Version) told s = Ends s status.Ok
 
 -- what the status is where every byte came and went
 abbrev pub IsDecided : List (List ℕ) → Option (List ℕ) → Status → Type 0

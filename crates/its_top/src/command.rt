@@ -19,7 +19,7 @@ use crate::streams::{ReadAllError, read_all, write_both};
 use crate::summarize::summarize;
 use its_io::{Failed, Sink, Source};
 use its_types::Gate;
-use its_words::{Asked, WordsError, help_text, parse_words};
+use its_words::{Asked, WordsError, help_text, parse_words, version_text};
 use std::alloc::{AllocError, Global};
 use std::sync::Wait;
 use std::thread::Threads;
@@ -34,6 +34,8 @@ pub enum Answer {
     Answered(Ending),
     /// What the commands are.
     Helped,
+    /// Which version this is.
+    Versioned,
     /// A status whose line, if it has one, is always the same.
     Refused(Status),
 }
@@ -76,6 +78,7 @@ pub fn its<R: Threads + Wait + Sync, S: Source, K: Sink, G: Gate + Sync>(
     match answer_words(rt, alloc, gate, words, source, &mut report) {
         Answer::Answered(ending) => print(sink, &report, ending.line.as_str(), ending.status),
         Answer::Helped => print(sink, &report, help_text(), Status::Ok),
+        Answer::Versioned => print(sink, &report, version_text(), Status::Ok),
         Answer::Refused(status) => print(sink, &report, refusal(status), status),
     }
 }
@@ -102,6 +105,7 @@ fn answer_words<R: Threads + Wait + Sync, S: Source, G: Gate + Sync>(
         Ok(Asked::Gen { signals, threads }) => gen_command(rt, alloc, gate, signals, threads),
         Ok(Asked::Explain) => explain_command(rt, alloc, gate, source),
         Ok(Asked::Help) => Answer::Helped,
+        Ok(Asked::Version) => Answer::Versioned,
         Err(WordsError::Refused) => Answer::Refused(Status::WordsRefused),
         Err(WordsError::NoMemory) => Answer::Refused(Status::Memory),
     }

@@ -5,4 +5,5 @@ pub mod Turns
 pub mod Bare
 pub mod Generated
 pub mod Commands
+pub mod Options
 pub mod Parsed

@@ -1,5 +1,5 @@
 -- What a parse says of words.
-use Rattle.std.proofs.Common.{◌≡◌, ◌∙◌, true, false, List, [], ◌∷◌, cond, Option, None, Result, Ok, Err, IsErrAnd, refl, sym, ap, ap₂, subst, inl, inr}
+use Rattle.std.proofs.Common.{◌≡◌, ◌∙◌, true, false, List, [], ◌∷◌, cond, Option, Some, None, Result, Ok, Err, IsErrAnd, refl, sym, ap, ap₂, subst, inl, inr}
 use Rattle.clap.specs.Words.{App, HasKind, HasMatchesOf, IsAmong, Kinds, Text, fault_of, is_simple, is_simple_and_free, kind_of, subcommand_of}
 use Rattle.clap.specs.Words.{subcommand_rows_of}
 use Rattle.clap.specs.declared.ArgMatches.{ArgMatches}
@@ -8,8 +8,8 @@ use Rattle.clap.specs.declared.error.ErrorKind.{ErrorKind}
 use Rattle.clap.specs.declared.error.ErrorKind.TheVariants.{OutOfMemory}
 use Rattle.clap.proofs.OnLiterals.{clap_on_literals}
 use Rattle.its_words.specs.Command.{its_app}
-use Rattle.its_words.specs.Words.{IsMatched, asked_in, asked_of, is_none, is_taken}
-use Rattle.its_words.proofs.Commands.{parsed, parsed-asked_of}
+use Rattle.its_words.specs.Words.{IsMatched, asked_in, asked_of, command_of, is_none, is_taken, option_of}
+use Rattle.its_words.proofs.Commands.{parsed, parsed-command_of}
 use Rattle.its_words.specs.declared.words.Asked.{Asked}
 
 free : is_simple_and_free its_app ≡ true
@@ -41,13 +41,28 @@ not_taken a words e same has other =
     let here : HasKind (fault_of its_app words) e = subst (λ x. is_simple_and_free x ≡ true → HasKind (fault_of x words) e) same has free in
     elim here [ inl memory ↦ absurd (other memory) | inr among ↦ some_kind (fault_of its_app words) (kind_of e) among ]
 
-pub asks_none : (words : List Text) → is_taken words ≡ false → asked_of words ≡ None
+commands_none : (words : List Text) → is_taken words ≡ false → command_of words ≡ None
 unfolding is_taken parsed
-asks_none words e = sym (parsed-asked_of words) ∙ ap (λ b. cond b (asked_in (subcommand_of its_app words)) None) e
+commands_none words e = sym (parsed-command_of words) ∙ ap (λ b. cond b (asked_in (subcommand_of its_app words)) None) e
 
-pub asks : (words : List Text) (m : ArgMatches) (o : Option Asked) → IsMatched words m → o ≡ asked_in (subcommand_rows_of m) → asked_of words ≡ o
+commands : (words : List Text) (m : ArgMatches) (o : Option Asked) → IsMatched words m → o ≡ asked_in (subcommand_rows_of m) → command_of words ≡ o
 unfolding is_taken parsed
-asks words m o h e = sym (parsed-asked_of words) ∙ ap₂ (λ b s. cond b (asked_in s) None) h.taken (sym h.rows) ∙ sym e
+commands words m o h e = sym (parsed-command_of words) ∙ ap₂ (λ b s. cond b (asked_in s) None) h.taken (sym h.rows) ∙ sym e
+
+pub option_asks : (words : List Text) (asked : Asked) → option_of words ≡ Some asked → asked_of words ≡ Some asked
+unfolding asked_of
+option_asks words asked e = rw e refl
+
+-- where no option stands alone
+
+pub asks_none : (words : List Text) → option_of words ≡ None → is_taken words ≡ false → asked_of words ≡ None
+unfolding asked_of
+asks_none words no-option e = rw no-option (commands_none words e)
+
+pub asks : (words : List Text) (m : ArgMatches) (o : Option Asked) → option_of words ≡ None → IsMatched words m → o ≡ asked_in (subcommand_rows_of m)
+    → asked_of words ≡ o
+unfolding asked_of
+asks words m o no-option h e = rw no-option (commands words m o h e)
 
 pub same_error : {T E : Type 0} (r : Result T E) (f g : E) → IsErrAnd r (λ y. y ≡ f) → r ≡ Err g → f ≡ g
 same_error (Ok x) f g h e = absurd h

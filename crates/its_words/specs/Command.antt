@@ -20,4 +20,5 @@ abbrev pub running_app : App
 running_app = with_subcommand (with_subcommand (with_subcommand bare_app (new_app (codes "run")).top) (new_app (codes "check")).top) gen_app.top
 
 abbrev pub its_app : App
-its_app = with_subcommand (with_subcommand running_app (new_app (codes "explain")).top) (new_app (codes "help")).top
+its_app =
+    with_subcommand (with_subcommand (with_subcommand running_app (new_app (codes "explain")).top) (new_app (codes "help")).top) (new_app (codes "version")).top

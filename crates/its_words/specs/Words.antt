@@ -7,7 +7,7 @@ use Rattle.clap.specs.Words.{Row, Text, fault_of, first_of, subcommand_of, subco
 use Rattle.clap.specs.declared.ArgMatches.{ArgMatches}
 use Rattle.its_words.specs.Command.{its_app}
 use Rattle.its_words.specs.declared.words.Asked.{Asked}
-use Rattle.its_words.specs.declared.words.Asked.TheVariants.{Run, Check, Gen, Explain, Help}
+use Rattle.its_words.specs.declared.words.Asked.TheVariants.{Run, Check, Gen, Explain, Help, Version}
 
 -- ---- numbers
 
@@ -42,17 +42,42 @@ asked_by name words =
     else (if bytes_eq (codes "check") name then alone Check words
     else (if bytes_eq (codes "gen") name then gen_of words
     else (if bytes_eq (codes "explain") name then alone Explain words
-    else (if bytes_eq (codes "help") name then alone Help words else None))))
+    else (if bytes_eq (codes "help") name then alone Help words
+    else (if bytes_eq (codes "version") name then alone Version words else None)))))
 
 -- the words without the first `--`, after which no word names an option
 abbrev pub without_separator : List Text → List Text
 without_separator [] = []
 without_separator (word ∷ words) = if bytes_eq word (codes "--") then words else word ∷ without_separator words
 
--- the first word is the program's name
+-- what a command asks for; the first word is the program's name
+unfoldable pub command_of : List Text → Option Asked
+command_of (program ∷ name ∷ words) = asked_by name (without_separator words)
+command_of _ = None
+
+-- ---- options
+
+-- an option asks what the command of its name asks
+abbrev pub asked_by_option : Text → Option Asked
+asked_by_option word =
+    if bytes_eq word (codes "--help") then Some Help
+    else (if bytes_eq word (codes "-h") then Some Help
+    else (if bytes_eq word (codes "--version") then Some Version
+    else (if bytes_eq word (codes "-V") then Some Version else None)))
+
+-- where it stands alone
+unfoldable pub option_of : List Text → Option Asked
+option_of (program ∷ word ∷ []) = asked_by_option word
+option_of _ = None
+
+abbrev pub or_else_asked : Option Asked → Option Asked → Option Asked
+or_else_asked (Some asked) other = Some asked
+or_else_asked None other = other
+
+-- ---- all words
+
 unfoldable pub asked_of : List Text → Option Asked
-asked_of (program ∷ name ∷ words) = asked_by name (without_separator words)
-asked_of _ = None
+asked_of words = or_else_asked (option_of words) (command_of words)
 
 -- ---- the parser
 
@@ -68,7 +93,8 @@ asked_in (Some (name, rows)) =
     else (if bytes_eq name (codes "check") then Some Check
     else (if bytes_eq name (codes "explain") then Some Explain
     else (if bytes_eq name (codes "help") then Some Help
-    else gen_by (first_of (codes "signals") rows) (first_of (codes "threads") rows))))
+    else (if bytes_eq name (codes "version") then Some Version
+    else gen_by (first_of (codes "signals") rows) (first_of (codes "threads") rows)))))
 
 -- the parser finds no fault with the words
 unfoldable pub is_taken : List Text → Bool
@@ -86,3 +112,4 @@ IsInRange Check = Unit {0}
 IsInRange (Gen n t) = (1 ≤ n) × (n ≤ 20000) × (1 ≤ t) × (t ≤ 63)
 IsInRange Explain = Unit {0}
 IsInRange Help = Unit {0}
+IsInRange Version = Unit {0}

@@ -7,15 +7,17 @@ ghost use Rattle.its_words.specs.Command.{its_app, running_app, gen_app, needed_
 use clap::{Arg, ArgAction, Command};
 use std::alloc::{AllocError, Global};
 
-/// `its`, with a required command and no word for help but the command of that name.
+/// `its`, with a required command, and none of the parser's own options.
 pub fn its_command<'a>(alloc: Global) -> Result<Command<'a>, AllocError>
     ensures { IfOk result (λ c. app_of c ≡ its_app) }
 {
     let explain = Command::new(alloc, "explain");
     let help = Command::new(alloc, "help");
+    let version = Command::new(alloc, "version");
     running_command(alloc)?
         .subcommand(explain)?
-        .subcommand(help)
+        .subcommand(help)?
+        .subcommand(version)
 }
 
 // The same with the commands alone that run or check something.

@@ -5,5 +5,5 @@ mod command;
 mod help;
 mod words;
 
-pub use help::help_text;
+pub use help::{help_text, version_text};
 pub use words::{Asked, WordsError, parse_words};

@@ -4,8 +4,9 @@ ghost use Rattle.std.specs.Prelude.{nat_lt, slice_index};
 ghost use Rattle.std.specs.String.{string_bytes};
 ghost use Rattle.clap.specs.Words.{first_value, found_of, subcommand_of, subcommand_rows_of, takes};
 ghost use Rattle.its_words.specs.Command.{its_app};
-ghost use Rattle.its_words.specs.Words.{asked_in, asked_of, gen_by, is_taken, number_of, IsInRange};
-ghost use Rattle.its_words.specs.Words.{IsMatched};
+ghost use Rattle.its_words.specs.Words as spec;
+ghost use Rattle.its_words.specs.Words.{asked_in, asked_of, gen_by, is_taken, number_of};
+ghost use Rattle.its_words.specs.Words.{option_of, or_else_asked, IsInRange, IsMatched};
 ghost use Rattle.its_words.specs.declared.words.WordsError.TheVariants.{NoMemory};
 
 use crate::command::its_command;
@@ -33,6 +34,8 @@ pub enum Asked {
     Explain,
     /// Says what the commands are.
     Help,
+    /// Says which version this is.
+    Version,
 }
 
 /// Why the words ask for nothing.
@@ -61,18 +64,45 @@ pub fn parse_words(alloc: Global, words: &[String]) -> Result<Asked, WordsError>
         asked_of (map (λ w. string_bytes w) words.now) ≡ None }
     ensures range { IfOk result IsInRange }
 
-    // What the parser's own matches of the words give. It is refused only where the parser doesn't
-    // take the words, or a number is out of form.
+    // What an option that stands alone gives, and else the parser's own matches of the words. It is
+    // refused only where the parser doesn't take the words, or a number is out of form.
     ensures matches { IfOk result (λ a.
-        asked_in (subcommand_of its_app (map (λ w. string_bytes w) words.now)) ≡ Some a) }
+        or_else_asked (option_of (map (λ w. string_bytes w) words.now))
+        (asked_in (subcommand_of its_app (map (λ w. string_bytes w) words.now))) ≡ Some a) }
     ensures not_taken { result ≡ Err WordsError.Refused →
         takes its_app (map (λ w. string_bytes w) words.now) ≡ true →
         asked_in (subcommand_of its_app (map (λ w. string_bytes w) words.now)) ≡ None }
 {
+    if let Some(asked) = option(words) {
+        return Ok(asked);
+    }
     let matches = matches_of(alloc, words)?;
     match read(&matches) {
         Some(asked) => Ok(asked),
         None => Err(WordsError::Refused),
+    }
+}
+
+// What an option asks for, where it stands alone.
+fn option(words: &[String]) -> Option<Asked>
+    ensures value { result ≡ option_of (map (λ w. string_bytes w) words.now) }
+    ensures range { IfSome result IsInRange }
+{
+    match words {
+        [_, word] => asked_by_option(word.as_str()),
+        _ => None,
+    }
+}
+
+// What a word asks for that may be an option.
+fn asked_by_option(word: &str) -> Option<Asked>
+    ensures value { result ≡ spec.asked_by_option word.now }
+    ensures range { IfSome result IsInRange }
+{
+    match word {
+        "--help" | "-h" => Some(Asked::Help),
+        "--version" | "-V" => Some(Asked::Version),
+        _ => None,
     }
 }
 
@@ -108,6 +138,7 @@ fn read(matches: &ArgMatches) -> Option<Asked>
         "check" => Some(Asked::Check),
         "explain" => Some(Asked::Explain),
         "help" => Some(Asked::Help),
+        "version" => Some(Asked::Version),
         _ => generation(matches),
     }
 }

@@ -5,7 +5,7 @@ use std::test::Fail;
 
 const REFUSED: Result<Asked, WordsError> = Err(WordsError::Refused);
 
-const ROWS: [(&str, Result<Asked, WordsError>); 15] = [
+const ROWS: [(&str, Result<Asked, WordsError>); 21] = [
     ("its run", Ok(Asked::Run)),
     ("its check --", Ok(Asked::Check)),
     (
@@ -20,8 +20,14 @@ const ROWS: [(&str, Result<Asked, WordsError>); 15] = [
     ("its -- help", REFUSED),
     ("its help", Ok(Asked::Help)),
     ("its help run", REFUSED),
-    ("its --help", REFUSED),
-    ("its --version", REFUSED),
+    ("its --help", Ok(Asked::Help)),
+    ("its -h", Ok(Asked::Help)),
+    ("its version", Ok(Asked::Version)),
+    ("its --version", Ok(Asked::Version)),
+    ("its -V", Ok(Asked::Version)),
+    ("its --version 1", REFUSED),
+    ("its run --help", REFUSED),
+    ("its -v", REFUSED),
     ("its run gen", REFUSED),
     ("its gen 1", REFUSED),
     ("its gen 20001 1", REFUSED),

@@ -81,8 +81,7 @@ fn drive(its: &mut Its, ram: &mut Ram) -> Result<(), Error<()>> {
     ram.0[0x2_0000..0x2_0000 + bytes.len()].copy_from_slice(&bytes);
     its.store(0x88, 8, bytes.len() as u64)?;
     its.limit(0)?;
-    loop {
-        let Some(command) = its.needs()?.first().copied() else { return Ok(()) };
+    while let Some(command) = its.needs()?.first().copied() {
         ram.copy_in(its, &[command])?;
         let needs = its.needs()?;
         ram.copy_in(its, &needs[1..])?;
@@ -92,6 +91,7 @@ fn drive(its: &mut Its, ram: &mut Ram) -> Result<(), Error<()>> {
             Err(error) => return Err(error),
         }
     }
+    Ok(())
 }
 
 /// What a save and the registers have of a machine.
@@ -124,7 +124,8 @@ fn saved(its: &mut Its, ram: &mut Ram) -> Result<Saved, Error<()>> {
 /// A machine whose guest programs the LPI registers.
 fn programmed() -> Result<(u64, Redistributor), Error<()>> {
     let numbers = Description { programmed: 1, ..numbers() };
-    let tables = Tables::Programmed(&[Redistributor::default(); 2]);
+    let registers = [Redistributor::default(); 2];
+    let tables = Tables::Programmed(&registers);
     let from = Made { tables, ..made(&numbers, &[], &[]) };
     let mut its = Its::new(&from).expect("a machine");
     its.store_lpi(0, 0x70, 8, CONFIG | 15)?;
