@@ -24,9 +24,7 @@ use Rattle.its_plain.specs.declared.call.Reply.{Reply}
 use Rattle.its_plain.specs.declared.call.Reply.TheVariants as reply
 use Rattle.its_plain.specs.Parts.{conf, pend}
 use Rattle.its_plain.specs.Plain.{ConfState, PendState}
-use Rattle.lpi_config.specs.declared.conf.Conf.{Conf as ConfInHand}
-use Rattle.lpi_pending.specs.InHand.{RedistParts, conf_in, pend_in, HasLpisOfConf, HasLpisOfPend}
-use Rattle.lpi_pending.specs.declared.pend.Pend.{Pend as PendInHand}
+use Rattle.lpi_pending.specs.InHand.{conf_in, pend_in, HasLpisOfConf, HasLpisOfPend}
 use Rattle.owned_parts.specs.Owned.{ArePartsOf, ArePartsOfSound, translator_of}
 use Rattle.cmd_exec.proofs.Lifted.{conf_is, pend_is}
 use Rattle.owned_parts.specs.RedistSets.{is_in}

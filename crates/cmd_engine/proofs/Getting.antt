@@ -20,7 +20,7 @@ use Rattle.its_steps.specs.Parts.{Setup, translator_count, vcpu_count, stamp_of}
 use Rattle.its_steps.specs.World.{View, out}
 use Rattle.its_turns.specs.Told.{HasStood, Looks}
 use Rattle.its_turns.specs.declared.value.GuestMemory.{GuestMemory}
-use Rattle.held_parts.specs.Redists.{confs_held, pends_held, at_place, AreNone, AreWanted, AreNoConfs, AreNoPends, AreConfsOfSet, ArePendsOfSet}
+use Rattle.held_parts.specs.Redists.{confs_held, pends_held, AreNone, AreWanted, AreNoConfs, AreNoPends, AreConfsOfSet, ArePendsOfSet}
 use Rattle.held_parts.specs.Redists.{HoldsNoConf, HoldsNoPend, IsConfIn, IsPendIn}
 use Rattle.held_parts.specs.Shards.{IsShardOf}
 use Rattle.held_parts.specs.Taking.{TakesInTime, TakesOnly, Goes}

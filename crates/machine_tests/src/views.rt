@@ -52,18 +52,27 @@ const WORDS: [(u64, u64); 32] = [
     (0x8002_01c0, 0x5_0000_0008),
 ];
 
-// The stretch that the next command reads beside its own bytes, if it reads one; the virtual
-// processors that it concerns, and whether it adds an event. Then, once it is taken, where event 3
-// of device 5 leads, and how many events are mapped.
-type Row = (Option<(u64, u64)>, [bool; 4], bool, Destination, u64);
+// What the next command reads beside its own bytes; the virtual processors that it concerns, and
+// whether it adds an event. Then, once it is taken, where event 3 of device 5 leads, and how many
+// events are mapped.
+type Row = (Option<Stretch>, [bool; 4], bool, Destination, u64);
 
-// The level-1 entry of the first devices.
-const LEVEL1: Option<(u64, u64)> = Some((0x8008_0000, 8));
+// The level-1 entry of the first devices, the configuration byte of LPI 8199, and the whole table,
+// which all processors share.
+const LEVEL1: Option<Stretch> = Some(Stretch {
+    address: Addr(0x8008_0000),
+    length: 8,
+});
 
-// The configuration byte of LPI 8199, and the whole table: the four processors share them.
-const BYTE: Option<(u64, u64)> = Some((0x8003_0007, 1));
+const BYTE: Option<Stretch> = Some(Stretch {
+    address: Addr(0x8003_0007),
+    length: 1,
+});
 
-const TABLE: Option<(u64, u64)> = Some((0x8003_0000, 57_344));
+const TABLE: Option<Stretch> = Some(Stretch {
+    address: Addr(0x8003_0000),
+    length: 57_344,
+});
 
 const NONE: [bool; 4] = [false; 4];
 
@@ -100,19 +109,12 @@ const ROWS: [Row; 15] = [
     (None, NONE, false, Destination::NoDevice, 0),
 ];
 
-// The command's own 32 bytes, and then this stretch, if it is one.
-fn reads_just(list: &[Stretch], expected: Option<(u64, u64)>) -> bool {
+// Just this stretch, or none, after the command's own 32 bytes.
+fn reads_just(list: &[Stretch], expected: Option<Stretch>) -> bool {
     let Some((first, rest)) = list.split_first() else {
         return false;
     };
-    let rest_is = match expected {
-        Some((address, length)) => {
-            let address = Addr(address);
-            rest == [Stretch { address, length }].as_slice()
-        }
-        None => rest.is_empty(),
-    };
-    first.length == 32 && rest_is
+    first.length == 32 && rest.first().copied() == expected && rest.len() <= 1
 }
 
 // Whether the machine's next command is seen as the row says.

@@ -1,5 +1,5 @@
 -- What the redistributors in hand read of their tables, one after another, each stretch told once.
-use Rattle.std.proofs.Common.{◌≡◌, ℕ, suc, ◌+◌, ◌<◌, Bool, true, false, ◌&&◌, eqb, cond, List, [], ◌∷◌, ◌++◌, drop, Some, inl, inr, refl, sym, ap, subst, ◌∙◌, add-one}
+use Rattle.std.proofs.Common.{◌≡◌, ℕ, suc, ◌+◌, ◌<◌, Bool, true, false, ◌&&◌, ◌||◌, eqb, map, cond, List, [], ◌∷◌, ◌++◌, drop, Some, inl, inr, refl, sym, ap, subst, ◌∙◌, add-one}
 use Rattle.std.proofs.lemmas.Bool.{and_parts, or_cases, eqb-true}
 use Rattle.std.specs.List.{AllByRecursion, flat_map, list_any}
 use Rattle.its_types.specs.declared.machine.Shape.{Shape}
@@ -10,13 +10,19 @@ use Rattle.lpi_pending.specs.InHand.{RedistParts, conf_in}
 use Rattle.owned_parts.specs.Owned.{HasPend}
 use Rattle.owned_parts.proofs.Places.{drop_to_place}
 use Rattle.table_save.specs.Areas.{redistributors_of}
-use Rattle.step_views.specs.Pairs.{is_same, is_told, with_stretch, all_told}
+use Rattle.step_views.specs.declared.stretch_list.Stretch.{Stretch}
+use Rattle.step_views.specs.Pairs.{pair_of, is_same, is_told, with_stretch, all_told}
 
 -- ---- lists of stretches
 
 pub told_more : (told xs ys : List (ℕ × ℕ)) → all_told told (xs ++ ys) ≡ all_told (all_told told xs) ys
 told_more told [] ys = refl
 told_more told (x ∷ xs) ys = told_more (with_stretch told x) xs ys
+
+-- a stretch that has these numbers is listed
+pub any_pairs : (s : ℕ × ℕ) (xs : List Stretch) → list_any (λ x. is_same s (pair_of x)) xs ≡ is_told s (map pair_of xs)
+any_pairs s [] = refl
+any_pairs s (x ∷ xs) = ap (λ (b : Bool). is_same s (pair_of x) || b) (any_pairs s xs)
 
 module _ (P : ℕ × ℕ → Type 0) where
   all_first : (xs ys : List (ℕ × ℕ)) → AllByRecursion P (xs ++ ys) → AllByRecursion P xs

@@ -1,5 +1,6 @@
 //! A short list of stretches of guest memory.
 ghost use Rattle.std.specs.Prelude.{◌≡◌};
+ghost use Rattle.std.specs.List.{list_any};
 ghost use Rattle.step_views.specs.Pairs as spec;
 ghost use Rattle.step_views.specs.Pairs.{pair_of};
 
@@ -69,7 +70,7 @@ impl Needs {
     fn has(&self, stretch: &Stretch) -> bool
         ensures { result ≡ is_told (pair_of stretch.now) self.now }
     {
-        self.as_slice().iter().any(|other| is_same(stretch, other))
+        is_listed(self.as_slice(), stretch)
     }
 
     fn add(&mut self, stretch: Stretch)
@@ -87,6 +88,13 @@ impl Needs {
     {
         &self.list[..self.count]
     }
+}
+
+fn is_listed(list: &[Stretch], stretch: &Stretch) -> bool
+    ensures { result
+        ≡ list_any (λ other. spec.is_same (pair_of stretch.now) (pair_of other)) list.now }
+{
+    list.iter().any(|other| is_same(stretch, other))
 }
 
 fn is_same(stretch: &Stretch, other: &Stretch) -> bool
