@@ -18,8 +18,9 @@ impl Latencies {
 
     /// And of one call more.
     pub fn push(&mut self, spent: Duration) -> Result<(), AllocError> {
-        self.nanoseconds
-            .push(u64::try_from(spent.as_nanos()).unwrap_or(u64::MAX))
+        let nanoseconds = u64::try_from(spent.as_nanos()).unwrap_or(u64::MAX);
+        self.nanoseconds.push(nanoseconds)?;
+        Ok(())
     }
 
     /// How many calls there are.
