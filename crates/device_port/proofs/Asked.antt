@@ -56,7 +56,7 @@ is_maps : (its : ℕ) (q : Part) → (q ≡ part.Maps its) ⊎ (q ≢ part.Maps 
 is_maps its (part.Maps i) = dite (ℕ_discrete i its) (λ e. inl (ap (λ (k : ℕ). part.Maps k) e)) (λ ne. inr (λ e. ne (cc)))
 is_maps its part.Mem = inr (λ e. cc)
 is_maps its (part.Shard i n) = inr (λ e. cc)
-is_maps its (part.Redist u) = inr (λ e. cc)
+is_maps its (part.Pend u) = inr (λ e. cc)
 
 maps_among : (its : ℕ) (xs : List Part) → Among (part.Maps its) xs ⊎ (¬ Among (part.Maps its) xs)
 maps_among its [] = inr (λ none. none)
@@ -70,7 +70,7 @@ shard_only : (its i n : ℕ) → ¬ Among (part.Maps its) (part.Shard i n ∷ []
 shard_only its i n (inl e) = cc
 shard_only its i n (inr none) = none
 
-two_only : (u : Vcpu) (its i n : ℕ) → ¬ Among (part.Maps its) (part.Redist u ∷ part.Shard i n ∷ [])
+two_only : (u : Vcpu) (its i n : ℕ) → ¬ Among (part.Maps its) (part.Pend u ∷ part.Shard i n ∷ [])
 two_only u its i n (inl e) = cc
 two_only u its i n (inr a) = shard_only its i n a
 
@@ -181,7 +181,7 @@ module _ (c : Call) (m : Message) (v w : View) (early : KeepsEarly v w) where
     kept = λ _. early;
   }
 
-  two_got : (u : Vcpu) → SignalGot v m (part.Redist u ∷ shard_of v.setup m ∷ []) w
+  two_got : (u : Vcpu) → SignalGot v m (part.Pend u ∷ shard_of v.setup m ∷ []) w
   two_got u = record {
     only = (inr (inr (u, refl)), (inr (inl refl), tt));
     shard = λ a. absurd (two_only u m.its m.its _ a);
@@ -195,7 +195,7 @@ module _ (c : Call) (m : Message) (v w : View) (early : KeepsEarly v w) where
 
   pub done_then : (p : Placed Signal) → SignalsNow v c m w (now.Done p) → SignalsOnce v c m w (attempt.Done p)
   done_then p a = let t = a.0 in (
-    part.Redist t.vcpu ∷ shard_of v.setup m ∷ [],
+    part.Pend t.vcpu ∷ shard_of v.setup m ∷ [],
     two_got t.vcpu,
     a.3,
     subst (λ (s : Signal). Sent m s w) (sym a.2) (sends_met t a.1 a.4 a.6),
@@ -207,7 +207,7 @@ module _ (c : Call) (m : Message) (v w : View) (early : KeepsEarly v w) where
   busy_then b (room, inr a) = (shard_of v.setup m ∷ [], shard_got, a.2, inr (inr (a.0.vcpu, a.1)), room)
 
   pub raced_then : (r : Raced) → SignalsNow v c m w (now.Raced r) → SignalsOnce v c m w (attempt.Raced r)
-  raced_then r a = (part.Redist a.0.vcpu ∷ shard_of v.setup m ∷ [], two_got a.0.vcpu, a.1)
+  raced_then r a = (part.Pend a.0.vcpu ∷ shard_of v.setup m ∷ [], two_got a.0.vcpu, a.1)
 
   pub spent_then : SignalsNow v c m w now.Spent → SignalsOnce v c m w attempt.Spent
   spent_then a = ([], none_got, a)

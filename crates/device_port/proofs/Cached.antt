@@ -8,7 +8,7 @@ use Rattle.its_types.specs.declared.machine.Part.{Part}
 use Rattle.its_types.specs.declared.machine.Part.TheVariants as part
 use Rattle.its_types.specs.declared.machine.Placed.{Placed}
 use Rattle.its_types.specs.declared.machine.Word.{Word}
-use Rattle.its_plain.specs.Plain.{Redistributor}
+use Rattle.its_plain.specs.Plain.{PendState}
 use Rattle.its_plain.specs.declared.call.Call.{Call}
 use Rattle.its_plain.specs.declared.call.Reply.TheVariants as reply
 use Rattle.its_plain.specs.declared.call.Signal.{Signal}
@@ -20,7 +20,7 @@ use Rattle.its_steps.proofs.Signals.{hits, hits_off}
 use Rattle.its_steps.specs.MayCall.{MayCall, met}
 use Rattle.its_steps.specs.Renewal.{renewal}
 use Rattle.its_steps.specs.Calls.{staying, MayLeave}
-use Rattle.its_steps.specs.Contents.{Shard, Redist, Held, Looked}
+use Rattle.its_steps.specs.Contents.{Shard, Pend, Held, Looked}
 use Rattle.its_steps.specs.Parts.{Setup, HasVcpus, translator_count, vcpu_count, stamp_at, stamp_of}
 use Rattle.its_steps.specs.World.{View, Tries, took, out, lost_to, looked_in}
 use Rattle.its_steps.specs.declared.change.ShardChange.TheVariants.{Keep}
@@ -42,7 +42,7 @@ use Rattle.device_port.specs.declared.hits.Now.{Now}
 use Rattle.device_port.specs.declared.hits.Now.TheVariants.{Done, Miss, Busy, Raced, Spent}
 
 -- a shard that is held is looked at again
-pub looked_there : (vcpu : Vcpu) (r : Redistributor) (its n : ℕ) (ways : List (Option Translation)) (before : List Held) (o : Looked) → o.its ≡ its
+pub looked_there : (vcpu : Vcpu) (r : PendState) (its n : ℕ) (ways : List (Option Translation)) (before : List Held) (o : Looked) → o.its ≡ its
     → o.number ≡ n
     → looked_in (two_before its n vcpu ways r before) o ≡ record { its = its; number = n; ways = ways }
 looked_there vcpu r its n ways before o at number =
@@ -143,11 +143,11 @@ module _ (s : Setup) (c : Call) (m : Message) where
             record { early = ap (λ (y : View). y.cache.early) home ∙ early2.early; word = ap (λ (y : View). y.cache.early_word) home ∙ early2.word },
           )
 
-      pub busy_redist : (target : Target) (b : Found) (x y : View) → found ways m.dev.0 m.ev.0 (stamp_of s w m.its) ≡ Some target
-          → IsBusy v2 (part.Redist target.vcpu) b y
+      pub busy_pend : (target : Target) (b : Found) (x y : View) → found ways m.dev.0 m.ev.0 (stamp_of s w m.its) ≡ Some target
+          → IsBusy v2 (part.Pend target.vcpu) b y
           → x ≡ released y → SignalsNow v c m x (Busy b) × KeepsEarly v x
-      busy_redist target b x y finds busy home =
-          let q : Part = part.Redist target.vcpu in
+      busy_pend target b x y finds busy home =
+          let q : Part = part.Pend target.vcpu in
           let gone = goes_released v y (lost_to t q b.holder) (goes_missed v v2 t on2 y q b.holder busy.view) x home in (
             (
               room_at x (ap (λ (u : View). u.seen) home ∙ (ap (λ (u : View). u.seen) busy.view ∙ seen2)),
@@ -172,14 +172,14 @@ module _ (s : Setup) (c : Call) (m : Message) where
             },
           )
 
-      module _ (v3 : View) (target : Target) (r : Redistributor)
+      module _ (v3 : View) (target : Target) (r : PendState)
           (finds : found ways m.dev.0 m.ev.0 (stamp_of s w m.its) ≡ Some target)
-          (third : v3 ≡ took v2 (part.Redist target.vcpu) (Redist r)) where
+          (third : v3 ≡ took v2 (part.Pend target.vcpu) (Pend r)) where
         abbrev t3 : Tries
-        t3 = got_all (part.Redist target.vcpu ∷ shard_of v.setup m ∷ []) v.tries
+        t3 = got_all (part.Pend target.vcpu ∷ shard_of v.setup m ∷ []) v.tries
 
         on3 : GoesOn v t3 v3
-        on3 = goes_took v v2 t on2 v3 (part.Redist target.vcpu) (Redist r) third
+        on3 = goes_took v v2 t on2 v3 (part.Pend target.vcpu) (Pend r) third
 
         own3 : v3.setup ≡ s
         own3 = ap (λ (y : View). y.setup) on3.same ∙ own
@@ -188,7 +188,7 @@ module _ (s : Setup) (c : Call) (m : Message) where
         last3 = ap (λ (y : View). y.last) third ∙ last2
 
         pub held3 : v3.held ≡ two_before m.its n target.vcpu ways r []
-        held3 = ap (λ (y : View). y.held) third ∙ (ap (λ (l : List Held). out (part.Redist target.vcpu) (Redist r) ∷ l) held2
+        held3 = ap (λ (y : View). y.held) third ∙ (ap (λ (l : List Held). out (part.Pend target.vcpu) (Pend r) ∷ l) held2
             ∙ ap (λ (l : List Held). two_before m.its n target.vcpu ways r l) bare)
 
         looked3 : v3.cache.looked ≡ record { its = m.its; number = n; ways = ways }
@@ -234,7 +234,7 @@ module _ (s : Setup) (c : Call) (m : Message) where
         done_now sent x hit =
             let y = hit.made in
             let seen : length v3.seen ≡ w.place = ap (λ (u : View). length u.seen)
-            (third ∙ ap (λ (u : View). took u (part.Redist target.vcpu) (Redist r)) took_is) ∙ looks.place in
+            (third ∙ ap (λ (u : View). took u (part.Pend target.vcpu) (Pend r)) took_is) ∙ looks.place in
             let makes = makes_of v3 (a sent) y hit.commits seen (subst (λ (z : Setup). w.place < z.limits.place_last) (sym own3) room) in
             let made = made_emptied v y t3 (a sent) (makes_from v v3 t3 on3 (a sent) y makes) x hit.home in
             let owes : y.held ≡ two_before m.its n target.vcpu ways hit.left [] = hit.owes
@@ -271,27 +271,27 @@ module _ (s : Setup) (c : Call) (m : Message) where
 -- ---- the commit
 
 module _ (s : Setup) (vcpus : HasVcpus s) (c : Call) (m : Message) (sends : Sends s c m) (target : Target) (ways : List (Option Translation))
-    (r : Redistributor) (w : Word) (st : target.vcpu.0 < vcpu_count s)
+    (r : PendState) (w : Word) (st : target.vcpu.0 < vcpu_count s)
     (sh : shard_number m.dev.0 m.ev.0 s.shards < s.shards) (room : w.place < s.limits.place_last)
     (finds : found ways m.dev.0 m.ev.0 (stamp_of s w m.its) ≡ Some target) (y : View)
     (held : y.held ≡ two_before m.its (shard_number m.dev.0 m.ev.0 s.shards) target.vcpu ways r []) where
   abbrev hit_call : Bool → Commit
   hit_call on = staying w c (reply.Signal (met on target)) Keep
 
-  abbrev two : Redistributor → List Held
+  abbrev two : PendState → List Held
   two x = two_before m.its (shard_number m.dev.0 m.ev.0 s.shards) target.vcpu ways x []
 
-  both : (on : Bool) → r.bases.on ≡ on → MayLeave s (hit_call on) (two r) (two (delivered on r target))
+  both : (on : Bool) → r.accepts ≡ on → MayLeave s (hit_call on) (two r) (two (delivered on r target))
   both true is = hits s w c m.its m.dev m.ev target ways r sends.message_is vcpus sends.stands st sh room finds is
   both false is = hits_off s w c m.its m.dev m.ev target ways r sends.message_is vcpus sends.stands st sh room finds is
 
-  pub hit_may : (on : Bool) → r.bases.on ≡ on → MayCall s (hit_call on) y.held
+  pub hit_may : (on : Bool) → r.accepts ≡ on → MayCall s (hit_call on) y.held
   hit_may on is = subst (MayCall s (hit_call on)) (sym held) (both on is).0
 
-  pub hit_owes : (on : Bool) → r.bases.on ≡ on → y.setup ≡ s → (x : View) → Commits y (hit_call on) x → x.held ≡ two (delivered on r target)
+  pub hit_owes : (on : Bool) → r.accepts ≡ on → y.setup ≡ s → (x : View) → Commits y (hit_call on) x → x.held ≡ two (delivered on r target)
   hit_owes on is own x commits = ap (λ (u : View). u.held) commits.view ∙ ((λ d. renewal (own d) (hit_call on) (held d)) ∙ (both on is).1)
 
-  pub hit_made : (on : Bool) → r.bases.on ≡ on → y.setup ≡ s → (x z : View) → Commits y (hit_call on) x → z ≡ record x { held = [] }
+  pub hit_made : (on : Bool) → r.accepts ≡ on → y.setup ≡ s → (x z : View) → Commits y (hit_call on) x → z ≡ record x { held = [] }
       → HitMade y w c m target ways on z
   hit_made on is own x z commits home = record {
     made = x;

@@ -3,7 +3,7 @@ use Rattle.std.proofs.Common.{◌≡◌, ℕ, ◌<◌, true, List, [], Option, S
 use Rattle.its_types.specs.Lpis.{with_lpi}
 use Rattle.its_types.specs.declared.ids.Target.{Target}
 use Rattle.its_types.specs.declared.machine.Word.{Word}
-use Rattle.its_plain.specs.Plain.{Redistributor}
+use Rattle.its_plain.specs.Plain.{PendState}
 use Rattle.its_plain.specs.Translation.{located}
 use Rattle.its_plain.specs.declared.call.Call.{Call}
 use Rattle.its_plain.specs.declared.call.Reply.TheVariants as reply
@@ -30,13 +30,13 @@ use Rattle.device_port.specs.Signals.{FindsLast}
 use Rattle.device_port.specs.declared.message.Message.{Message}
 
 module _ (s : Setup) (vcpus : HasVcpus s) (c : Call) (m : Message) (sends : Sends s c m) (target : Target) (t : Translator)
-    (ways : List (Option Translation)) (r : Redistributor) (st : target.vcpu.0 < vcpu_count s)
-    (sh : shard_number m.dev.0 m.ev.0 s.shards < s.shards) (goes : located (translator_of t) m.dev.0 m.ev.0 ≡ Ok target) (on : r.bases.on ≡ true) (y : View)
+    (ways : List (Option Translation)) (r : PendState) (st : target.vcpu.0 < vcpu_count s)
+    (sh : shard_number m.dev.0 m.ev.0 s.shards < s.shards) (goes : located (translator_of t) m.dev.0 m.ev.0 ≡ Ok target) (on : r.accepts ≡ true) (y : View)
     (held : y.held ≡ three_held m.its (shard_number m.dev.0 m.ev.0 s.shards) target.vcpu t ways r) where
   abbrev n : ℕ
   n = shard_number m.dev.0 m.ev.0 s.shards
 
-  abbrev after : Redistributor
+  abbrev after : PendState
   after = record r { pending = with_lpi target.intid.0 r.pending }
 
   abbrev three : List Held

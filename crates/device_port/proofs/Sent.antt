@@ -177,9 +177,9 @@ module _ (v : View) (y : View) (its : ℕ) (c : Content) (first : y ≡ took v (
           ∙ first_early.word;
     }
 
-    module _ (u : Vcpu) (x : View) (e : Content) (third : x ≡ took z (part.Redist u) e) where
-      pub third_on : GoesOn v (got_all (part.Redist u ∷ part.Shard its n ∷ part.Maps its ∷ []) v.tries) x
-      third_on = goes_took v z (got_all (part.Shard its n ∷ part.Maps its ∷ []) v.tries) second_on x (part.Redist u) e third
+    module _ (u : Vcpu) (x : View) (e : Content) (third : x ≡ took z (part.Pend u) e) where
+      pub third_on : GoesOn v (got_all (part.Pend u ∷ part.Shard its n ∷ part.Maps its ∷ []) v.tries) x
+      third_on = goes_took v z (got_all (part.Shard its n ∷ part.Maps its ∷ []) v.tries) second_on x (part.Pend u) e third
 
       pub third_seen : x.seen ≡ v.seen
       third_seen = ap (λ (w : View). w.seen) third ∙ second_seen

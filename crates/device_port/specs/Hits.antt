@@ -8,7 +8,7 @@ use Rattle.xlate_cache.specs.Pairs.{shard_number}
 use Rattle.xlate_cache.specs.declared.entry.Entry.{Entry as Translation}
 use Rattle.its_steps.specs.Calls.{staying}
 use Rattle.its_steps.specs.MayCall.{met}
-use Rattle.its_plain.specs.Plain.{Redistributor}
+use Rattle.its_plain.specs.Plain.{PendState}
 use Rattle.its_steps.specs.World.{View}
 use Rattle.its_steps.specs.declared.change.ShardChange.TheVariants.{Keep}
 use Rattle.its_turns.specs.Steps.{IsRaced}
@@ -23,7 +23,7 @@ use Rattle.device_port.specs.declared.hits.Now.TheVariants as now
 pub record HitMade (y : View) (w : Word) (c : Call) (m : Message) (t : Target) (ways : List (Option Translation)) (on : Bool) (x : View) : Type 0 where
   pub made : View
   pub commits : Commits y (staying w c (reply.Signal (met on t)) Keep) made
-  pub left : Redistributor
+  pub left : PendState
   pub owes : made.held ≡ two_before m.its (shard_number m.dev.0 m.ev.0 y.setup.shards) t.vcpu ways left []
   pub home : x ≡ record made { held = [] }
 

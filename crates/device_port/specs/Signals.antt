@@ -46,12 +46,12 @@ FindsLast m w target = Finds w.setup m w.cache.looked w.last target
 abbrev pub SignalsNow : View → Call → Message → View → Now → Type 0
 SignalsNow v c m w (Done p) = (t : Target) × (on : Bool) × (p.reply ≡ met on t) × IsPlaced v c (reply.Signal p.reply) p.place w
     × Leaves change.Keep w
-    × (w.tries ≡ got_all (part.Redist t.vcpu ∷ shard_of v.setup m ∷ []) v.tries) × FindsLast m w (Some t)
+    × (w.tries ≡ got_all (part.Pend t.vcpu ∷ shard_of v.setup m ∷ []) v.tries) × FindsLast m w (Some t)
 SignalsNow v c m w Miss = Stays v w × (w.tries ≡ got_all (shard_of v.setup m ∷ []) v.tries) × (length w.seen < v.setup.limits.place_last)
     × FindsLast m w None
 SignalsNow v c m w (Busy b) = (length w.seen < v.setup.limits.place_last) × (((b.part ≡ shard_of v.setup m) × WasBusy v [] b w)
-    ⊎ ((t : Target) × (b.part ≡ part.Redist t.vcpu) × WasBusy v (shard_of v.setup m ∷ []) b w × FindsLast m w (Some t)))
-SignalsNow v c m w (Raced r) = (t : Target) × WasRaced v (part.Redist t.vcpu ∷ shard_of v.setup m ∷ []) r w
+    ⊎ ((t : Target) × (b.part ≡ part.Pend t.vcpu) × WasBusy v (shard_of v.setup m ∷ []) b w × FindsLast m w (Some t)))
+SignalsNow v c m w (Raced r) = (t : Target) × WasRaced v (part.Pend t.vcpu ∷ shard_of v.setup m ∷ []) r w
 SignalsNow v c m w Spent = WasSpent v [] w
 
 -- the maps were not got: what had been looked at by then is as it was
@@ -61,9 +61,9 @@ pub record KeepsEarly (v w : View) : Type 0 where
 
 -- ---- by the cache or the maps
 
--- the turns that a signal may get: the maps, the pair's shard, redistributors
+-- the turns that a signal may get: the maps, the pair's shard, what is pending at a processor
 abbrev pub IsOfSignal : Setup → Message → Part → Type 0
-IsOfSignal s m p = (p ≡ part.Maps m.its) ⊎ ((p ≡ shard_of s m) ⊎ ((u : Vcpu) × (p ≡ part.Redist u)))
+IsOfSignal s m p = (p ≡ part.Maps m.its) ⊎ ((p ≡ shard_of s m) ⊎ ((u : Vcpu) × (p ≡ part.Pend u)))
 
 abbrev pub Among : Part → List Part → Type 0
 Among p [] = ⊥

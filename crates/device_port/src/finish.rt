@@ -62,8 +62,8 @@ pub fn drop_signal<G: Gate>(
     }
 }
 
-/// The maps send it to a redistributor whose LPIs are on: the LPI is pending there, and the pair's
-/// translation is in its shard.
+/// The maps send it where LPIs are on: the LPI is pending there, and the pair's translation is in
+/// its shard.
 pub fn fill_signal<G: Gate>(
     machine: &Machine,
     pass: &mut Pass,
@@ -79,7 +79,7 @@ pub fn fill_signal<G: Gate>(
     requires held { (view pass.old).held
         ≡ hand_held message.its hand (one_held message.its maps.value) }
     requires goes { located (translator_of maps.value) message.dev.0 message.ev.0 ≡ Ok hand.target }
-    requires on { hand.redist.value.bases.on ≡ true }
+    requires on { hand.pend.value.accepts ≡ true }
     requires looked { ((view pass.old).cache.looked.its ≡ message.its) ×
         ((view pass.old).cache.looked.number
         ≡ shard_number message.dev.0 message.ev.0 (setup machine.now).shards) }
@@ -98,7 +98,7 @@ pub fn fill_signal<G: Gate>(
     let fill = ShardChange::Fill(message.dev, message.ev, target);
     match try_commit(machine, pass, gate, call, &Reply::Signal(signal), fill) {
         Ok(word) => {
-            hand.redist.pending.set(target.intid);
+            hand.pend.pending.set(target.intid);
             let stamp = machine.stamp_of(word, message.its);
             hand.shard.fill(message.dev, message.ev, stamp, target);
             put_three(machine, pass, message.its, maps, hand);
@@ -114,7 +114,7 @@ pub fn fill_signal<G: Gate>(
     }
 }
 
-/// The maps send it to a redistributor whose LPIs are off.
+/// The maps send it where LPIs are off.
 pub fn off_signal<G: Gate>(
     machine: &Machine,
     pass: &mut Pass,
@@ -130,7 +130,7 @@ pub fn off_signal<G: Gate>(
     requires held { (view pass.old).held
         ≡ hand_held message.its hand (one_held message.its maps.value) }
     requires goes { located (translator_of maps.value) message.dev.0 message.ev.0 ≡ Ok hand.target }
-    requires off { hand.redist.value.bases.on ≡ false }
+    requires off { hand.pend.value.accepts ≡ false }
     ensures of { IsOf machine.now pass.new }
     ensures answer { Finishes (view pass.old) call.now (signals.Dropped cause.LpisOff) change.Keep
         (view pass.new)

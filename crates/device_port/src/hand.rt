@@ -1,10 +1,10 @@
-//! What a signal has in hand beside the maps: the pair's shard, and the target's redistributor.
+//! What a signal has in hand beside the maps: the pair's shard, and what is pending at the target.
 ghost use Rattle.std.specs.Prelude.{◌≡◌};
 ghost use Rattle.its_steps.specs.MayCall as spec;
 
 use its_plain::{Cause, Signal};
 use its_types::Target;
-use lpi_pending::Redist;
+use lpi_pending::Pend;
 use xlate_cache::Shard;
 
 /// Both, taken out of their slots.
@@ -16,37 +16,37 @@ pub struct Hand {
     pub shard: Shard,
     /// Where the message goes.
     pub target: Target,
-    /// The redistributor there.
-    pub redist: Box<Redist>,
+    /// What is pending there, and whether LPIs are on.
+    pub pend: Box<Pend>,
 }
 
 impl Hand {
     ghost use Rattle.std.specs.Prelude.{◌≡◌, true};
     ghost use Rattle.its_types.specs.Ranges.{is_lpi};
     ghost use Rattle.its_types.specs.declared.machine.Shape.{Shape};
-    ghost use Rattle.owned_parts.specs.Owned.{redistributor_of, HasLpisOf};
+    ghost use Rattle.owned_parts.specs.Owned.{pend_state, HasLpisOfPend};
     ghost use Rattle.device_port.specs.Hands.{delivered};
 
     /// Whether LPIs are on at the target.
     pub fn on(&self) -> bool
-        ensures { result ≡ self.now.redist.value.bases.on }
+        ensures { result ≡ self.now.pend.value.accepts }
     {
-        self.redist.bases.on
+        self.pend.accepts
     }
 
     /// The LPI is pending, where LPIs are on.
     pub fn deliver(&mut self, on: bool)
-        requires { is_lpi self.old.redist.value.pending.lpi_bits self.old.target.intid.0 ≡ true }
+        requires { is_lpi self.old.pend.value.pending.lpi_bits self.old.target.intid.0 ≡ true }
         ensures number { self.new.number ≡ self.old.number }
         ensures target { self.new.target ≡ self.old.target }
         ensures shard { self.new.shard ≡ self.old.shard }
-        ensures left { redistributor_of self.new.redist.value
-            ≡ delivered on (redistributor_of self.old.redist.value) self.old.target }
-        ensures lpis { (s : Shape) → HasLpisOf s self.old.redist.value
-            → HasLpisOf s self.new.redist.value }
+        ensures left { pend_state self.new.pend.value
+            ≡ delivered on (pend_state self.old.pend.value) self.old.target }
+        ensures lpis { (s : Shape) → HasLpisOfPend s self.old.pend.value
+            → HasLpisOfPend s self.new.pend.value }
     {
         if on {
-            self.redist.pending.set(self.target.intid);
+            self.pend.pending.set(self.target.intid);
         }
     }
 }

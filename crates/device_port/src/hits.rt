@@ -15,7 +15,7 @@ use crate::message::Message;
 use its_plain::{Call, Reply, Signal};
 use its_steps::{Commit, ShardChange};
 use its_turns::{
-    Busy, Machine, Pass, Raced, Value, begin, commit, put, try_take_redist, try_take_shard,
+    Busy, Machine, Pass, Raced, Value, begin, commit, put, try_take_pend, try_take_shard,
 };
 use its_types::{DeviceId, EventId, Gate, Part, Placed, Point, Word};
 
@@ -26,7 +26,7 @@ pub enum Now {
     Done(Placed<Signal>),
     /// The pair has no translation in the cache that is current.
     Miss,
-    /// Another pass has the turn of the pair's shard, or of the target's redistributor.
+    /// Another pass has the turn of the pair's shard, or of what is pending at the target.
     Busy(Busy),
     /// Another call was made first.
     Raced(Raced),
@@ -59,8 +59,8 @@ pub fn try_signal<G: Gate>(
     try_signal_at(machine, pass, gate, 0, dev, ev)
 }
 
-/// Signals to a translator by the cache. Tries the turns of the pair's shard and of the target's
-/// redistributor once, and no other.
+/// Signals to a translator by the cache. Tries the turns of the pair's shard and of what is pending
+/// at the target once, and no other.
 pub fn try_signal_at<G: Gate>(
     machine: &Machine,
     pass: &mut Pass,
@@ -111,8 +111,8 @@ pub fn try_send<G: Gate>(
         put(machine, pass, Part::Shard(its, number), Value::Shard(shard));
         return Now::Miss;
     };
-    let redist = match try_take_redist(machine, pass, target.vcpu) {
-        Ok(redist) => redist,
+    let pend = match try_take_pend(machine, pass, target.vcpu) {
+        Ok(pend) => pend,
         Err(busy) => {
             put(machine, pass, Part::Shard(its, number), Value::Shard(shard));
             return Now::Busy(busy);
@@ -122,7 +122,7 @@ pub fn try_send<G: Gate>(
         number,
         shard,
         target,
-        redist,
+        pend,
     };
     hit(machine, pass, gate, call, message, word, hand)
 }

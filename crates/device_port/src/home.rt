@@ -10,7 +10,7 @@ use its_turns::{Machine, Pass, Value, put};
 use its_types::Part;
 use owned_parts::Translator;
 
-/// A translator's shard, which was taken before it, and a redistributor.
+/// A translator's shard, and what is pending at a target, which was taken after it.
 #[inline(always)]
 pub fn put_two(machine: &Machine, pass: &mut Pass, its: u8, hand: Hand)
     requires of { IsOf machine.now pass.old }
@@ -25,18 +25,18 @@ pub fn put_two(machine: &Machine, pass: &mut Pass, its: u8, hand: Hand)
         number,
         shard,
         target,
-        redist,
+        pend,
     } = hand;
     put(
         machine,
         pass,
-        Part::Redist(target.vcpu),
-        Value::Redist(redist),
+        Part::Pend(target.vcpu),
+        Value::Pend(pend),
     );
     put(machine, pass, Part::Shard(its, number), Value::Shard(shard));
 }
 
-/// A translator's maps, which were taken before them, its shard and a redistributor.
+/// A translator's maps, which were taken before them, its shard, and what is pending at a target.
 pub fn put_three(machine: &Machine, pass: &mut Pass, its: u8, maps: Box<Translator>, hand: Hand)
     requires of { IsOf machine.now pass.old }
     requires its { its < translator_count (setup machine.now) }

@@ -16,7 +16,7 @@ use crate::hand::Hand;
 use crate::message::Message;
 use its_plain::{Call, Signal};
 use its_turns::{
-    Attempt, Machine, Pass, Value, put, try_take_maps, try_take_redist, try_take_shard,
+    Attempt, Machine, Pass, Value, put, try_take_maps, try_take_pend, try_take_shard,
 };
 use its_types::{Gate, Part, Point, Target};
 use owned_parts::{Translator, locate};
@@ -78,8 +78,8 @@ fn send_on<G: Gate>(
             return Attempt::Busy(busy);
         }
     };
-    let redist = match try_take_redist(machine, pass, target.vcpu) {
-        Ok(redist) => redist,
+    let pend = match try_take_pend(machine, pass, target.vcpu) {
+        Ok(pend) => pend,
         Err(busy) => {
             put(machine, pass, Part::Shard(its, number), Value::Shard(shard));
             put(machine, pass, Part::Maps(its), Value::Maps(maps));
@@ -90,7 +90,7 @@ fn send_on<G: Gate>(
         number,
         shard,
         target,
-        redist,
+        pend,
     };
     if hand.on() {
         fill_signal(machine, pass, gate, call, message, maps, hand)

@@ -1,73 +1,94 @@
--- One redistributor is enough for a read of its LPI registers, and with memory for a write.
-use Rattle.std.proofs.Common.{◌≡◌, ℕ, ◌<◌, Bool, true, false, if◌then◌else◌, List, [], ◌∷◌, Option, length, set, refl, ap, sym, ◌∙◌, inl, inr}
-use Rattle.std.proofs.Common.{arith, length-set}
-use Rattle.std.proofs.Common.{get_or-set_same}
+-- A configuration is enough for a read of the LPI registers, and with what a write asks for it is enough for that.
+use Rattle.std.proofs.Common.{◌≡◌, ℕ, ◌<◌, ◌++◌, Bool, true, false, if◌then◌else◌, List, [], ◌∷◌, Option, Some, None, length, refl, ap, sym, ◌∙◌, subst, inl, inr}
+use Rattle.std.proofs.Common.{arith}
+use Rattle.std.specs.List.{AllByRecursion}
+use Rattle.std.specs.Prelude.{is_some}
 use Rattle.dirty_log.specs.declared.tracked.Tracked.{Tracked}
-use Rattle.gicr_regs.specs.Registers.{AreLow, AreKept, written_gicr}
+use Rattle.gicr_regs.specs.Registers.{asked_by, reads_tables, changes_pending, written_gicr}
+use Rattle.gicr_regs.specs.declared.write.GicrWrite.{GicrWrite}
 use Rattle.guest_windows.specs.Windows.{Window}
 use Rattle.its_types.specs.declared.ids.Vcpu.{Vcpu}
+use Rattle.its_types.specs.declared.machine.Part.{Part}
 use Rattle.its_types.specs.declared.machine.Part.TheVariants as part
 use Rattle.its_types.specs.declared.machine.Word.{Word}
 use Rattle.its_plain.specs.Answer.{reply_of, left}
-use Rattle.its_plain.specs.History.{after}
-use Rattle.its_plain.specs.Parts.{footprint}
-use Rattle.its_plain.specs.Plain.{Plain, Redistributor, redistributor, no_redistributor, with_redistributor}
+use Rattle.its_plain.specs.Parts.{footprint, write_parts}
+use Rattle.its_plain.specs.Plain.{Plain, Redistributor, ConfState, PendState, conf_of, redistributor, with_redistributor}
 use Rattle.its_plain.specs.declared.call.Call.TheVariants as call
 use Rattle.its_plain.specs.declared.call.Reply.{Reply}
 use Rattle.its_plain.specs.declared.call.Reply.TheVariants as reply
-use Rattle.its_plain.specs.declared.layout.Layout.{Layout}
-use Rattle.its_steps.specs.Calls.{staying, MayLeave}
-use Rattle.its_steps.specs.Contents.{Held, Mem, Redist}
-use Rattle.its_steps.specs.Good.{Holds}
-use Rattle.its_steps.specs.MayCall.{IsAnswered}
-use Rattle.its_steps.specs.Parts.{Setup, HasVcpus, vcpu_count}
+use Rattle.its_steps.specs.Calls.{staying, redistributor_held, parts_held, MayLeave}
+use Rattle.its_steps.specs.Contents.{Held, Mem, Conf, Pend}
+use Rattle.its_steps.specs.Good.{Holds, Apart}
+use Rattle.its_steps.specs.MayCall.{IsAnswered, MayCall}
+use Rattle.its_steps.specs.MayCommit.{IsOut}
+use Rattle.its_steps.specs.Parts.{Setup, HasVcpus, Stands, vcpu_count}
 use Rattle.its_steps.specs.Renewal.{assembled, renewal}
 use Rattle.its_steps.specs.World.{out}
 use Rattle.its_steps.specs.declared.change.ShardChange.TheVariants.{Keep}
 use Rattle.its_steps.proofs.Calm.{calm_may}
-use Rattle.its_turns.specs.Told.{HasStood}
-use Rattle.gicr_lpi.specs.Accesses.{read_by, write_call, after_write, both_held}
+use Rattle.its_steps.proofs.Gicr.{confs, rereads, turn_offs, gicrs}
+use Rattle.its_steps.proofs.PutIn.{put_conf, has_both, both_apart}
+use Rattle.gicr_lpi.specs.Accesses.{read_by, write_call, asked}
+use Rattle.gicr_lpi.specs.Hands.{HandState, HasEnough, held_of, memory_before, done_to, after_write}
 use Rattle.gicr_lpi.specs.declared.access.GicrAccess.{GicrAccess}
 
--- a redistributor that some history leaves has low bases, where the guest programs them
-pub low_bases : (s : Setup) (vcpu : Vcpu) (r : Redistributor) → HasStood s (part.Redist vcpu) (Redist r) → s.start.layout.gicr ≡ true → AreLow r.bases
-low_bases s vcpu r stood programmed =
-    let u : Plain = after s.start stood.history in
-    let k : AreKept r.bases = (stood.machine.sound.redistributors vcpu.0 r stood.right).kept (ap (λ (l : Layout). l.gicr) (sym stood.machine.layout)
-    ∙ programmed) in
-    record { prop = k.prop_low; pend = k.pend_low }
+not_both : (A : Type 0) (b : Bool) → b ≡ false → b ≡ true → A
+not_both A true e f = cc
+not_both A false e f = cc
 
-module _ (s : Setup) (vcpus : HasVcpus s) (w : Word) (room : w.place < s.limits.place_last) (vcpu : Vcpu) (st : vcpu.0 < vcpu_count s)
-    (r : Redistributor) where
+-- what is asked for and there is not, is not asked for
+is_not : {A : Type 0} (b : Bool) (o : Option A) → o ≡ None → (b ≡ true → is_some o ≡ true) → b ≡ false
+is_not true None e h = sym (h refl)
+is_not true (Some x) e h = cc
+is_not false o e h = refl
+
+-- ---- the parts that a write needs
+
+needs : (held : List Held) (p : Part) (b : Bool) → (b ≡ true → Holds p held) → AllByRecursion (λ q. Holds q held) (if b then p ∷ [] else [])
+needs held p true h = (h refl, tt)
+needs held p false h = tt
+
+both_needs : (held : List Held) (xs ys : List Part) → AllByRecursion (λ q. Holds q held) xs → AllByRecursion (λ q. Holds q held) ys
+    → AllByRecursion (λ q. Holds q held) (xs ++ ys)
+both_needs held [] ys a b = b
+both_needs held (x ∷ xs) ys a b = (a.0, both_needs held xs ys a.1 b)
+
+all_needs : (held : List Held) (vcpu : Vcpu) (w : GicrWrite) → (reads_tables w ≡ true → Holds part.Mem held)
+    → (changes_pending w ≡ true → Holds (part.Pend vcpu) held) → AllByRecursion (λ q. Holds q held) (write_parts vcpu w)
+all_needs held vcpu w mem pend = both_needs held (if reads_tables w then part.Mem ∷ [] else []) (if changes_pending w then part.Pend vcpu ∷ [] else [])
+    (needs held part.Mem (reads_tables w) mem) (needs held (part.Pend vcpu) (changes_pending w) pend)
+
+module _ (s : Setup) (vcpus : HasVcpus s) (w : Word) (room : w.place < s.limits.place_last) (vcpu : Vcpu) (st : vcpu.0 < vcpu_count s) where
   inside : vcpu.0 < length s.start.redistributors
   inside = omega (arith, st, vcpus)
 
   -- ---- reads
 
-  abbrev one : List Held
-  one = out (part.Redist vcpu) (Redist r) ∷ []
+  module _ (c : ConfState) (off size : ℕ) where
+    abbrev one : List Held
+    one = out (part.Conf vcpu) (Conf c) ∷ []
 
-  abbrev a : Plain
-  a = assembled s one
+    abbrev a : Plain
+    a = assembled s one
 
-  has_one : redistributor a vcpu.0 ≡ r
-  has_one = get_or-set_same s.start.redistributors vcpu.0 r no_redistributor inside
+    has_one : conf_of (redistributor a vcpu.0) ≡ c
+    has_one = put_conf s.start vcpu.0 c inside
 
-  module _ (off size : ℕ) where
     abbrev value : Reply
-    value = reply.Value (read_by s.start.layout r off size)
+    value = reply.Value (read_by s.start.layout c off size)
 
     read_answered : IsAnswered a (call.ReadGicr vcpu off size) value one
     unfolding footprint reply_of
     read_answered = record {
       covers = (inl refl, tt);
-      reply_is = ap (λ (x : Redistributor). reply.Value (read_by s.start.layout x off size))
+      reply_is = ap (λ (x : ConfState). reply.Value (read_by s.start.layout x off size))
           (sym has_one);
     }
 
     read_leaves : renewal s (staying w (call.ReadGicr vcpu off size) value Keep) one ≡ one
     unfolding left
-    read_leaves = λ d. out (part.Redist vcpu) (Redist (has_one d)) ∷ []
+    read_leaves = λ d. out (part.Conf vcpu) (Conf (has_one d)) ∷ []
 
     pub may_read : MayLeave s (staying w (call.ReadGicr vcpu off size) value Keep) one one
     may_read = (
@@ -78,52 +99,130 @@ module _ (s : Setup) (vcpus : HasVcpus s) (w : Word) (room : w.place < s.limits.
 
   -- ---- writes
 
-  module _ (memory : List Window) (track : Option Tracked) (off size value : ℕ) where
+  module _ (off size value : ℕ) where
     abbrev access : GicrAccess
     access = record { vcpu = vcpu; off = off; size = size; value = value }
 
-    abbrev both : List Held
-    both = both_held vcpu r memory track
+    abbrev MayWrite : List Held → List Held → Type 0
+    MayWrite held owed = MayLeave s (staying w (write_call access) reply.Ok Keep) held owed
 
-    abbrev b : Plain
-    b = assembled s both
+    -- where the guest programs the tables
+    programmed : (m : Option (List Window × Option Tracked)) (c : ConfState) (p : Option PendState)
+        → (let g : HandState = record { memory = m; conf = c; pend = p } in HasEnough access g → s.start.layout.gicr ≡ true
+        → MayWrite (held_of vcpu g) (held_of vcpu (done_to s.start.layout.shape access g p)))
+    unfolding written_gicr
+    programmed None c None enough gicr = confs s w vcpu off size value c vcpus st room gicr
+        (is_not (reads_tables (asked access c)) None refl enough.memory) (is_not (changes_pending (asked access c)) None refl enough.pend)
+    programmed (Some x) c None enough gicr = rereads s w vcpu off size value c x.0 x.1 vcpus st room gicr
+        (is_not (changes_pending (asked access c)) None refl enough.pend)
+    programmed None c (Some p) enough gicr = turn_offs s w vcpu off size value c p vcpus st room gicr
+        (is_not (reads_tables (asked access c)) None refl enough.memory)
+    programmed (Some x) c (Some p) enough gicr = gicrs s w vcpu off size value c p x.0 x.1 vcpus st room gicr
 
-    abbrev done : Redistributor → Redistributor
-    done x = written_gicr s.start.layout.shape memory x off size value
+    -- ---- where it doesn't, nothing is written
 
-    has_both : redistributor b vcpu.0 ≡ r
-    has_both = get_or-set_same s.start.redistributors vcpu.0 r no_redistributor inside
+    module _ (gicr : s.start.layout.gicr ≡ false) where
+      module _ (held : List Held) (same : (assembled s held).layout ≡ s.start.layout) (c : ConfState)
+          (has : conf_of (redistributor (assembled s held) vcpu.0) ≡ c) where
+        abbrev b : Plain
+        b = assembled s held
 
-    not_memory : Holds (part.Redist vcpu) (out part.Mem (Mem memory track) ∷ []) → ⊥
-    not_memory (inl e) = cc
-    not_memory (inr h) = h
+        left_is : left b (write_call access) reply.Ok ≡ b
+        unfolding left
+        left_is = ap (λ (x : Bool). if x then with_redistributor b vcpu.0
+            (written_gicr b.layout.shape b.memory (redistributor b vcpu.0) off size value) else b) (ap (λ l. l.gicr) same ∙ gicr)
 
-    write_answered : IsAnswered b (write_call access) reply.Ok both
-    unfolding footprint reply_of
-    write_answered = record { covers = (inr (inl refl), (inl refl, tt)); reply_is = refl }
+        redist_is : redistributor (left b (write_call access) reply.Ok) vcpu.0 ≡ redistributor b vcpu.0
+        redist_is = ap (λ (x : Plain). redistributor x vcpu.0) left_is
 
-    abbrev left_by : Bool → Plain
-    left_by programmed = if programmed then with_redistributor b vcpu.0 (done (redistributor b vcpu.0)) else b
+        conf_is : conf_of (redistributor (left b (write_call access) reply.Ok) vcpu.0) ≡ c
+        conf_is = ap (λ (r : Redistributor). conf_of r) redist_is ∙ has
 
-    left_redist : (programmed : Bool) → redistributor (left_by programmed) vcpu.0 ≡ after_write programmed s.start.layout.shape memory access r
-    left_redist true =
-        let long : vcpu.0 < length (set s.start.redistributors vcpu.0 r) = omega (arith, inside, length-set s.start.redistributors vcpu.0 r) in
-        get_or-set_same b.redistributors vcpu.0 (done (redistributor b vcpu.0)) no_redistributor long ∙ ap done has_both
-    left_redist false = has_both
+        memory_is : Mem ((left b (write_call access) reply.Ok).memory) ((left b (write_call access) reply.Ok).track) ≡ Mem b.memory b.track
+        memory_is = ap (λ (x : Plain). Mem x.memory x.track) left_is
 
-    left_memory : (programmed : Bool) → (let z : Plain = left_by programmed in Mem z.memory z.track) ≡ Mem memory track
-    left_memory true = refl
-    left_memory false = refl
+        answered : Holds (part.Conf vcpu) held → (reads_tables (asked access c) ≡ true → Holds part.Mem held)
+            → (changes_pending (asked access c) ≡ true → Holds (part.Pend vcpu) held) → IsAnswered b (write_call access) reply.Ok held
+        unfolding footprint reply_of
+        answered conf mem pend = record {
+          covers = (
+            conf,
+            subst (λ (x : ConfState). AllByRecursion (λ q. Holds q held) (write_parts vcpu (asked_by x.bases off size value))) (sym has)
+                (all_needs held vcpu (asked access c) mem pend),
+          );
+          reply_is = refl;
+        }
 
-    write_leaves : renewal s (staying w (write_call access) reply.Ok Keep) both ≡ both_held vcpu
-        (after_write s.start.layout.gicr s.start.layout.shape memory access r) memory track
-    unfolding left
-    write_leaves = λ d. out (part.Redist vcpu) (Redist (left_redist s.start.layout.gicr d)) ∷ out part.Mem (left_memory s.start.layout.gicr d) ∷ []
+        may : Apart held → AllByRecursion (λ x. Stands s x.part) held → AllByRecursion IsOut held → IsAnswered b (write_call access) reply.Ok held
+            → MayCall s (staying w (write_call access) reply.Ok Keep) held
+        may apart stands outs is = calm_may s w (write_call access) reply.Ok Keep held vcpus tt room apart stands outs (inl is) tt
 
-    pub may_write : MayLeave s (staying w (write_call access) reply.Ok Keep) both
-        (both_held vcpu (after_write s.start.layout.gicr s.start.layout.shape memory access r) memory track)
-    may_write = (
-      calm_may s w (write_call access) reply.Ok Keep both vcpus tt room (not_memory, ((λ h. h), tt)) (st, (tt, tt)) (refl, (refl, tt))
-          (inl write_answered) tt,
-      write_leaves,
-    )
+      module _ (c : ConfState) where
+        -- the configuration alone
+        alone : reads_tables (asked access c) ≡ false → changes_pending (asked access c) ≡ false → MayWrite (out (part.Conf vcpu) (Conf c) ∷ [])
+            (out (part.Conf vcpu) (Conf c) ∷ [])
+        alone none steady = let held : List Held = out (part.Conf vcpu) (Conf c) ∷ [] in let has = put_conf s.start vcpu.0 c inside in (
+          may held refl c has ((λ h. h), tt) (st, tt) (refl, tt)
+              (answered held refl c has (inl refl) (not_both (Holds part.Mem held) (reads_tables (asked access c)) none)
+              (not_both (Holds (part.Pend vcpu) held) (changes_pending (asked access c)) steady)),
+          (λ d. out (part.Conf vcpu) (Conf (conf_is held refl c has d)) ∷ []),
+        )
+
+        module _ (memory : List Window) (track : Option Tracked) where
+          abbrev mem : List Held
+          mem = out part.Mem (Mem memory track) ∷ []
+
+          no_pend : Holds (part.Pend vcpu) mem → ⊥
+          no_pend (inl e) = cc
+          no_pend (inr h) = h
+
+          no_conf : Holds (part.Conf vcpu) mem → ⊥
+          no_conf (inl e) = cc
+          no_conf (inr h) = h
+
+          -- with memory
+          with_memory : changes_pending (asked access c) ≡ false → MayWrite (out (part.Conf vcpu) (Conf c) ∷ mem) (out (part.Conf vcpu) (Conf c) ∷ mem)
+          with_memory steady = let held : List Held = out (part.Conf vcpu) (Conf c) ∷ mem in let has = put_conf (assembled s mem) vcpu.0 c inside in (
+            may held refl c has (no_conf, ((λ h. h), tt)) (st, (tt, tt)) (refl, (refl, tt))
+                (answered held refl c has (inl refl) (λ e. inr (inl refl))
+                (not_both (Holds (part.Pend vcpu) held) (changes_pending (asked access c)) steady)),
+            (λ d. out (part.Conf vcpu) (Conf (conf_is held refl c has d)) ∷ out part.Mem (memory_is held refl c has d) ∷ []),
+          )
+
+          -- with all that a write can ask for
+          with_all : (p : PendState) → MayWrite (redistributor_held vcpu c p mem) (redistributor_held vcpu c p mem)
+          with_all p = let held : List Held = redistributor_held vcpu c p mem in let both = has_both (assembled s mem) vcpu inside c p in
+              let has = ap (λ (r : Redistributor). conf_of r) both in (
+                may held refl c has (both_apart vcpu c p mem no_pend no_conf ((λ h. h), tt)) (st, (st, (tt, tt))) (refl, (refl, (refl, tt)))
+                    (answered held refl c has (inr (inl refl)) (λ e. inr (inr (inl refl))) (λ e. inl refl)),
+                (λ d. parts_held vcpu ((redist_is held refl c has ∙ both) d) (out part.Mem (memory_is held refl c has d) ∷ [])),
+              )
+
+        -- with what is pending
+        with_pend : (p : PendState) → reads_tables (asked access c) ≡ false → MayWrite (redistributor_held vcpu c p []) (redistributor_held vcpu c p [])
+        with_pend p none = let held : List Held = redistributor_held vcpu c p [] in let both = has_both s.start vcpu inside c p in
+            let has = ap (λ (r : Redistributor). conf_of r) both in (
+              may held refl c has (both_apart vcpu c p [] (λ h. h) (λ h. h) tt) (st, (st, tt)) (refl, (refl, tt))
+                  (answered held refl c has (inr (inl refl)) (not_both (Holds part.Mem held) (reads_tables (asked access c)) none) (λ e. inl refl)),
+              (λ d. parts_held vcpu ((redist_is held refl c has ∙ both) d) []),
+            )
+
+      -- all of them
+      unprogrammed : (m : Option (List Window × Option Tracked)) (c : ConfState) (p : Option PendState)
+          → (let g : HandState = record { memory = m; conf = c; pend = p } in HasEnough access g → MayWrite (held_of vcpu g) (held_of vcpu g))
+      unprogrammed None c None enough = alone c (is_not (reads_tables (asked access c)) None refl enough.memory)
+          (is_not (changes_pending (asked access c)) None refl enough.pend)
+      unprogrammed (Some x) c None enough = with_memory c x.0 x.1 (is_not (changes_pending (asked access c)) None refl enough.pend)
+      unprogrammed None c (Some p) enough = with_pend c p (is_not (reads_tables (asked access c)) None refl enough.memory)
+      unprogrammed (Some x) c (Some p) enough = with_all c x.0 x.1 p
+
+    -- ---- either
+
+    either_way : (h : HandState) → HasEnough access h → (b : Bool) → s.start.layout.gicr ≡ b
+        → MayWrite (held_of vcpu h) (held_of vcpu (after_write b s.start.layout.shape access h))
+    either_way h enough true gicr = programmed h.memory h.conf h.pend enough gicr
+    either_way h enough false gicr = unprogrammed gicr h.memory h.conf h.pend enough
+
+    pub may_write : (h : HandState) → HasEnough access h
+        → MayWrite (held_of vcpu h) (held_of vcpu (after_write s.start.layout.gicr s.start.layout.shape access h))
+    may_write h enough = either_way h enough s.start.layout.gicr refl

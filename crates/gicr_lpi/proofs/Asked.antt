@@ -1,6 +1,7 @@
 -- What a call that needs some parts comes to, from its commit to the last try.
-use Rattle.std.proofs.Common.{◌≡◌, ℕ, List, [], length, Err, refl, ap, sym, ◌∙◌, subst}
+use Rattle.std.proofs.Common.{◌≡◌, ℕ, List, [], length, Result, Ok, Err, refl, ap, sym, ◌∙◌, subst}
 use Rattle.its_types.specs.declared.machine.Part.{Part}
+use Rattle.its_types.specs.declared.machine.Placed.{Placed}
 use Rattle.its_types.specs.declared.machine.Word.{Word}
 use Rattle.its_plain.specs.declared.call.Call.{Call}
 use Rattle.its_plain.specs.declared.call.Reply.{Reply}
@@ -17,17 +18,13 @@ use Rattle.its_steps.specs.Parts.{Setup}
 use Rattle.held_parts.specs.Taking.{TakesInTime, Goes, Loses, WasMade, holding}
 use Rattle.held_parts.proofs.Going.{takes_one, takes_then, going_first, going_takes, going_looked, going_home, going_stays, going_made, made_home, made_placed}
 use Rattle.held_parts.proofs.Going.{got_then, going_lost, loses_home}
-use Rattle.gicr_lpi.specs.Asking.{AsksOnce}
+use Rattle.gicr_lpi.specs.Asking.{Ends, AsksOnce}
 
 -- a part that was waited for had its content after some history of this machine
 pub took_stood : (s : Setup) (v x : View) (p : Part) (c : Content) → v.setup ≡ s → TakesInTime v p c x → HasStood s p c
 took_stood s v x p c own t = subst (λ (z : Setup). HasStood z p c) (ap (λ (y : View). y.setup) t.waits.same ∙ own) t.takes.stood
 
 module _ (P : Part → Type 0) where
-  -- two parts were taken
-  pub took_two : (v w x : View) (p q : Part) (c d : Content) → P p → P q → TakesInTime v p c w → TakesInTime w q d x → Goes P v x
-  took_two v w x p q c d is_p is_q a b = going_takes P v v x (going_first P v) (takes_then P v w x (takes_one P v w p c is_p a) (takes_one P w x q d is_q b))
-
   module _ (v x : View) (on : Goes P v x) where
     pub once_made : (c : Call) (r : Reply) (w : Word) (y z : View) (left : List Held) → Makes x (staying w c r Keep) y → z ≡ holding y left → left ≡ v.held
         → IsPlaced v c r w.place z × Leaves Keep z × GotOnly P v z
@@ -51,6 +48,13 @@ module _ (P : Part → Type 0) where
       still y z left (lost_goes l y is) home same,
       subst (Loses v l) (sym home) (loses_home v l y left (going_lost P v x on bare l y is)),
     )
+
+    -- what was in hand was put back
+    pub ended : {T : Type 0} (c : Call) (reply : T → Reply) → v.held ≡ [] → (z : View) (r : Result (Placed T) Lost) → Ends x c reply z r → AsksOnce P v c reply z r
+    ended {T} c reply bare z (Ok y) e =
+        let made = once_made c (reply y.reply) e.0 e.1 z [] e.3 e.4 (sym bare) in
+        (subst (λ (k : ℕ). IsPlaced v c (reply y.reply) k z) (sym e.2) made.0, made.1, made.2)
+    ended c reply bare z (Err l) e = once_lost c reply l e.0 z [] bare e.1 e.2 (sym bare)
 
   -- ---- again
 

@@ -1,2 +1,3 @@
+pub mod Lows
 pub mod Alone
 pub mod Asked

@@ -2,23 +2,21 @@
 ghost use Rattle.std.specs.Prelude.{◌≡◌, true, if◌then◌else◌};
 ghost use Rattle.gicr_regs.specs.Registers as registers;
 ghost use Rattle.gicr_regs.specs.Registers.{AreLow};
-ghost use Rattle.owned_parts.specs.Owned.{redistributor_of, HasLpisOf};
-ghost use Rattle.gicr_lpi.specs.Accesses.{after_write, write_call};
 
-use guest_windows::Memory;
 use its_plain::Call;
-use its_types::{Shape, Vcpu};
-use lpi_pending::{Redist, gicr_read, gicr_write};
+use its_types::Vcpu;
+use lpi_config::Conf;
+use lpi_pending::{changes_pending, gicr_read, reads_tables};
 
 /// What a read of `size` bytes at an offset gives. Where the guest doesn't program the tables it
 /// gives zero.
-pub fn read_from(linux: bool, redist: &Redist, programmed: bool, off: u32, size: u8) -> u64
-    requires low { programmed ≡ true → AreLow redist.now.bases }
+pub fn read_from(linux: bool, conf: &Conf, programmed: bool, off: u32, size: u8) -> u64
+    requires low { programmed ≡ true → AreLow conf.now.bases }
     ensures { result
-        ≡ if programmed then registers.read_gicr linux redist.now.bases off size else 0 }
+        ≡ if programmed then registers.read_gicr linux conf.now.bases off size else 0 }
 {
     if programmed {
-        gicr_read(linux, redist, off, size)
+        gicr_read(linux, conf, off, size)
     } else {
         0
     }
@@ -38,10 +36,11 @@ pub struct GicrAccess {
 }
 
 impl GicrAccess {
-    ghost use Rattle.std.specs.Prelude.{◌≡◌, true};
+    ghost use Rattle.std.specs.Prelude.{◌≡◌};
+    ghost use Rattle.gicr_regs.specs.Registers as registers;
     ghost use Rattle.gicr_regs.specs.Registers.{AreLow};
-    ghost use Rattle.owned_parts.specs.Owned.{redistributor_of, HasLpisOf};
-    ghost use Rattle.gicr_lpi.specs.Accesses.{after_write, write_call};
+    ghost use Rattle.owned_parts.specs.Owned.{conf_state};
+    ghost use Rattle.gicr_lpi.specs.Accesses.{asked, write_call};
 
     /// The write as a call of the history.
     pub fn call(self) -> Call
@@ -55,16 +54,19 @@ impl GicrAccess {
         }
     }
 
-    /// Writes, where the guest programs the tables.
-    pub fn apply(self, redist: &mut Redist, memory: &Memory, shape: &Shape, programmed: bool)
-        requires low { programmed ≡ true → AreLow redist.old.bases }
-        requires lpis { HasLpisOf shape.now redist.old }
-        ensures after { redistributor_of redist.new
-            ≡ after_write programmed shape.now memory.now self (redistributor_of redist.old) }
-        ensures lpis { HasLpisOf shape.now redist.new }
+    /// Whether the write asks to read the redistributor's tables, so that it needs memory.
+    pub fn reads_tables(self, conf: &Conf) -> bool
+        requires { AreLow conf.now.bases }
+        ensures { result ≡ registers.reads_tables (asked self (conf_state conf.now)) }
     {
-        if programmed {
-            gicr_write(redist, memory, shape, self.off, self.size, self.value);
-        }
+        reads_tables(conf, self.off, self.size, self.value)
+    }
+
+    /// Whether it asks to turn LPIs on or off, so that it needs what is pending.
+    pub fn changes_pending(self, conf: &Conf) -> bool
+        requires { AreLow conf.now.bases }
+        ensures { result ≡ registers.changes_pending (asked self (conf_state conf.now)) }
+    {
+        changes_pending(conf, self.off, self.size, self.value)
     }
 }

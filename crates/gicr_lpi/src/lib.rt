@@ -6,7 +6,9 @@
 #![tactic(auto)]
 
 mod access;
+mod hand;
 mod reads;
+mod taking;
 mod writes;
 
 pub use reads::{read_gicr, try_read_gicr};

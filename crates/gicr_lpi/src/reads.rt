@@ -11,7 +11,7 @@ use crate::access::read_from;
 use its_plain::{Call, Reply};
 use its_steps::ShardChange;
 use its_turns::{
-    Attempt, Machine, Pass, Spent, Value, give_way, pause, put, try_commit, try_take_redist,
+    Attempt, Machine, Pass, Spent, Value, give_way, pause, put, try_commit, try_take_conf,
 };
 use its_types::{Gate, Part, Placed, Vcpu};
 use std::sync::Wait;
@@ -30,16 +30,16 @@ pub fn try_read_gicr<G: Gate>(
     requires free { (view pass.old).held ≡ [] }
     requires vcpu { vcpu.0 < vcpu_count (setup machine.now) }
     ensures of { IsOf machine.now pass.new }
-    ensures answer { TriesPart (view pass.old) (part.Redist vcpu) (call.ReadGicr vcpu off size)
+    ensures answer { TriesPart (view pass.old) (part.Conf vcpu) (call.ReadGicr vcpu off size)
         reply.Value (view pass.new) result }
 {
-    let redist = match try_take_redist(machine, pass, vcpu) {
-        Ok(redist) => redist,
+    let conf = match try_take_conf(machine, pass, vcpu) {
+        Ok(conf) => conf,
         Err(busy) => return Attempt::Busy(busy),
     };
     let desc = machine.desc();
     let programmed = desc.tables.are_programmed();
-    let value = read_from(desc.shape.linux, &redist, programmed, off, size);
+    let value = read_from(desc.shape.linux, &conf, programmed, off, size);
     let call = Call::ReadGicr { vcpu, off, size };
     let made = try_commit(
         machine,
@@ -51,14 +51,14 @@ pub fn try_read_gicr<G: Gate>(
     );
     match made {
         Ok(word) => {
-            put(machine, pass, Part::Redist(vcpu), Value::Redist(redist));
+            put(machine, pass, Part::Conf(vcpu), Value::Conf(conf));
             Attempt::Done(Placed {
                 place: word.place,
                 reply: value,
             })
         }
         Err(lost) => {
-            put(machine, pass, Part::Redist(vcpu), Value::Redist(redist));
+            put(machine, pass, Part::Conf(vcpu), Value::Conf(conf));
             lost.attempt()
         }
     }
@@ -84,7 +84,7 @@ pub fn read_gicr<R: Wait, G: Gate>(
     requires free { (view pass.old).held ≡ [] }
     requires vcpu { vcpu.0 < vcpu_count (setup machine.now) }
     ensures of { IsOf machine.now pass.new }
-    ensures answer { AsksPart (view pass.old) (part.Redist vcpu) (call.ReadGicr vcpu off size)
+    ensures answer { AsksPart (view pass.old) (part.Conf vcpu) (call.ReadGicr vcpu off size)
         reply.Value (view pass.new) result }
 {
     for _ in rt.forever() {

@@ -4,21 +4,25 @@ ghost use Rattle.its_plain.specs.declared.call.Call.TheVariants as call;
 ghost use Rattle.its_plain.specs.declared.call.Reply.TheVariants as reply;
 ghost use Rattle.its_steps.specs.Parts.{vcpu_count};
 ghost use Rattle.its_turns.specs.Machines.{setup, view, IsOf};
+ghost use Rattle.gicr_lpi.specs.Accesses as spec;
 ghost use Rattle.gicr_lpi.specs.Accesses.{IsOfWrite, write_call};
-ghost use Rattle.gicr_lpi.specs.Asking.{AsksOnce, AsksParts};
+ghost use Rattle.gicr_lpi.specs.Asking.{Ends, AsksOnce, AsksParts};
+ghost use Rattle.gicr_lpi.specs.Hands.{state_of, held_of, HasEnough, IsHand};
 
 use crate::access::GicrAccess;
-use held_parts::{Waiting, take_memory, take_redist};
+use crate::hand::{Hand, put_hand};
+use crate::taking::take_hand;
 use its_plain::Reply;
 use its_steps::ShardChange;
-use its_turns::{Lost, Machine, Pass, Spent, Value, pause, put, try_commit};
-use its_types::{Gate, Part, Placed, Vcpu};
+use its_turns::{Lost, Machine, Pass, Spent, pause, try_commit};
+use its_types::{Gate, Placed, Vcpu};
 use std::sync::Wait;
 
 /// Writes `size` bytes, 4 or 8, at an offset of a virtual processor's LPI registers. A write that
-/// turns LPIs on or names an LPI to be read again reads guest memory too. Nothing is written where
-/// the guest doesn't program the LPI tables. LPIs can be turned off where the machine is for Linux
-/// guests; what was pending is lost then.
+/// turns LPIs on or names LPIs to be read again reads guest memory too, and then its turn is taken;
+/// one that turns LPIs on or off takes what is pending. Nothing is written where the guest doesn't
+/// program the LPI tables. LPIs can be turned off where the machine is for Linux guests; what was
+/// pending is lost then.
 ///
 /// ```
 /// // GICR_CTLR, bit 0: EnableLPIs.
@@ -38,8 +42,9 @@ pub fn write_gicr<R: Wait, G: Gate>(
     requires free { (view pass.old).held ≡ [] }
     requires vcpu { vcpu.0 < vcpu_count (setup machine.now) }
     ensures of { IsOf machine.now pass.new }
-    ensures answer { AsksParts (IsOfWrite vcpu) (view pass.old)
-        (call.WriteGicr vcpu off size value) (λ _. reply.Ok) (view pass.new) result }
+    ensures answer { AsksParts (IsOfWrite (setup machine.now) (spec.access vcpu off size value))
+        (view pass.old) (call.WriteGicr vcpu off size value) (λ _. reply.Ok) (view pass.new)
+        result }
 {
     let access = GicrAccess {
         vcpu,
@@ -57,7 +62,7 @@ pub fn write_gicr<R: Wait, G: Gate>(
     unreachable!()
 }
 
-// Waits for memory and the redistributor, and tries once to make the write.
+// Waits for what the write needs, and tries once to make it.
 fn write_once<R: Wait, G: Gate>(
     rt: &R,
     machine: &Machine,
@@ -69,38 +74,50 @@ fn write_once<R: Wait, G: Gate>(
     requires free { (view pass.old).held ≡ [] }
     requires vcpu { access.vcpu.0 < vcpu_count (setup machine.now) }
     ensures of { IsOf machine.now pass.new }
-    ensures answer { AsksOnce (IsOfWrite access.vcpu) (view pass.old) (write_call access)
-        (λ _. reply.Ok) (view pass.new) result }
+    ensures answer { AsksOnce (IsOfWrite (setup machine.now) access) (view pass.old)
+        (write_call access) (λ _. reply.Ok) (view pass.new) result }
 {
-    let how = Waiting { rt };
-    let memory = take_memory(&how, machine, pass);
-    let mut redist = take_redist(&how, machine, pass, access.vcpu);
-    let desc = machine.desc();
-    let programmed = desc.tables.are_programmed();
-    let made = try_commit(
+    let hand = take_hand(rt, machine, pass, access);
+    write_with(machine, pass, gate, access, hand)
+}
+
+// The write has what it needs in hand.
+fn write_with<G: Gate>(
+    machine: &Machine,
+    pass: &mut Pass,
+    gate: &G,
+    access: GicrAccess,
+    hand: Hand,
+) -> Result<Placed<()>, Lost>
+    requires of { IsOf machine.now pass.old }
+    requires vcpu { access.vcpu.0 < vcpu_count (setup machine.now) }
+    requires held { (view pass.old).held ≡ held_of access.vcpu (state_of hand) }
+    requires enough { HasEnough access (state_of hand) }
+    requires hand { IsHand (setup machine.now).start.layout.shape hand }
+    ensures of { IsOf machine.now pass.new }
+    ensures answer { Ends (view pass.old) (write_call access) (λ _. reply.Ok) (view pass.new)
+        result }
+{
+    match try_commit(
         machine,
         pass,
         gate,
         &access.call(),
         &Reply::Ok,
         ShardChange::Keep,
-    );
-    let result = match made {
+    ) {
         Ok(word) => {
-            access.apply(&mut redist, &memory.memory, &desc.shape, programmed);
+            let desc = machine.desc();
+            let hand = hand.written(access, &desc.shape, desc.tables.are_programmed());
+            put_hand(machine, pass, access.vcpu, hand);
             Ok(Placed {
                 place: word.place,
                 reply: (),
             })
         }
-        Err(lost) => Err(lost),
-    };
-    put(
-        machine,
-        pass,
-        Part::Redist(access.vcpu),
-        Value::Redist(redist),
-    );
-    put(machine, pass, Part::Mem, Value::Mem(memory));
-    result
+        Err(lost) => {
+            put_hand(machine, pass, access.vcpu, hand);
+            Err(lost)
+        }
+    }
 }

@@ -38,7 +38,8 @@ pub in_row_is : (its : ℕ) (shards : List (Option Ways)) (k : ℕ) (x : Held) �
 in_row_is its shards k x e = let i = if_in_is its k (in_place shards k) x e in record { ways = i.0; there = i.1; is = i.2 }
 
 number_of : Part → ℕ
-number_of (part.Redist v) = 0
+number_of (part.Conf v) = 0
+number_of (part.Pend v) = 0
 number_of (part.Maps i) = 0
 number_of part.Mem = 0
 number_of (part.Shard i n) = n

@@ -1,5 +1,5 @@
 -- All parts of a machine but shards: the state that they stand for, and as they are held.
-use Rattle.std.proofs.Common.{◌≡◌, ◌≢◌, ◌⊎◌, ℕ, zero, suc, ◌+◌, ◌<◌, ◌≤◌, true, false, ◌&&◌, nat_lt, List, [], ◌∷◌, map, take, length, replicate}
+use Rattle.std.proofs.Common.{◌≡◌, ◌≢◌, ◌⊎◌, ℕ, zero, suc, ◌+◌, ◌<◌, ◌≤◌, true, false, ◌&&◌, nat_lt, List, [], ◌∷◌, length, replicate}
 use Rattle.std.proofs.Common.{Option, Some, None}
 use Rattle.std.proofs.Common.{get_or, ◌-◌, refl, sym, ap, ◌∙◌, subst, inl, inr, arith}
 use Rattle.std.specs.Prelude.{slice_get, is_some, ◌==◌, Box}
@@ -7,7 +7,8 @@ use Rattle.std.specs.Global.{Global}
 use Rattle.std.specs.List.{AllByRecursion}
 use Rattle.std.specs.Option.{option_map}
 use Rattle.std.proofs.lemmas.Bool.{cases_lt, and_from, lt-ltb, le-ltb, eq-eqb}
-use Rattle.std.proofs.lemmas.Option.{same_Some, slice_get_within}
+use Rattle.std.proofs.lemmas.List.FromFn.{length-map-range_with_len, get_or-map-range_with_len}
+use Rattle.std.proofs.lemmas.Option.{same_Some, slice_get_within, slice_get-get_or}
 use mathlib.Core.Logic.{dite}
 use mathlib.Core.List.{IsPrefix}
 use native.Mathlib.Decide.{ℕ_discrete}
@@ -18,107 +19,114 @@ use Rattle.its_plain.specs.History.{after}
 use Rattle.its_plain.specs.Plain.{Plain, Translator, Redistributor, redistributor, no_redistributor}
 use Rattle.its_plain.specs.declared.call.Entry.{Entry}
 use Rattle.its_plain.specs.declared.layout.Layout.{Layout}
-use Rattle.lpi_pending.specs.InHand.{in_hand}
-use Rattle.lpi_pending.specs.declared.redist.Redist.{Redist as Owned}
-use Rattle.owned_parts.specs.Owned.{redistributor_of, redistributor_or, translator_of, translators_of, HasLpisOf}
+use Rattle.its_plain.specs.Plain.{ConfState, PendState, conf_of, pend_of, joined}
+use Rattle.its_plain.specs.Parts.{conf, pend}
+use Rattle.lpi_config.specs.declared.conf.Conf.{Conf as ConfInHand}
+use Rattle.lpi_pending.specs.InHand.{RedistParts, conf_in, pend_in, no_redists}
+use Rattle.lpi_pending.specs.declared.pend.Pend.{Pend as PendInHand}
+use Rattle.owned_parts.specs.Owned.{conf_or, pend_or, redistributor_in, redistributors_in, translator_of, translators_of, HasLpisOfConf, HasLpisOfPend}
 use Rattle.owned_parts.specs.RedistSets.{is_in}
 use Rattle.owned_parts.specs.declared.parts.Translator.{Translator as InHand}
 use Rattle.its_steps.specs.Calls as calls
-use Rattle.its_steps.specs.Contents.{Content, Held, Mem, Redist}
+use Rattle.its_steps.specs.Contents.{Content, Held, Mem, Conf, Pend}
 use Rattle.its_steps.specs.Good.{Holds}
 use Rattle.its_steps.specs.MayCommit.{IsRight}
 use Rattle.its_steps.specs.Parts.{Setup, HasStamps, IsOfMachine, translator_count, vcpu_count}
 use Rattle.its_steps.specs.World.{View, out, loaded}
 use Rattle.its_turns.specs.Told.{IsLone, Looks, IsLastOrLater}
-use Rattle.held_parts.specs.Redists.{held_if_in, redist_row, redists_held, AreNoRedists, AreOfSet, HoldsNoRedist, IsRedistOf}
+use Rattle.held_parts.specs.Redists.{at_place, held_if_in, row_of, AreWanted, conf_held, confs_held, AreNoConfs, HoldsNoConf, IsConfIn}
+use Rattle.held_parts.specs.Redists.{pend_held, pends_held, AreNoPends, HoldsNoPend, IsPendIn}
 use Rattle.held_parts.specs.Taking.{LostNone, TakesOnly}
 use Rattle.held_parts.specs.Wholes.{second_of, translators_in, state_of_whole, IsWholeOf, maps_held, second_held, held_whole, IsNoShard, TakesWhole}
 use Rattle.held_parts.specs.declared.whole.Whole.{Whole}
 use Rattle.held_parts.proofs.Going.{got_none}
 use Rattle.held_parts.proofs.InRows.{row_each, row_short, row_first, row_none}
+use Rattle.held_parts.proofs.RedistRows.{conf_kind, parts_lack}
 use Rattle.held_parts.proofs.Lists.{same_lists, one_is, two_are, got_at}
 
 -- ---- all redistributors in hand
 
-abbrev firsts : ℕ → List (Option Owned) → List Redistributor
-firsts n rs = map redistributor_or (take n rs)
+-- those of all virtual processors, of one kind
+pub record AllOf (T : Type 0) (has_lpis : T → Type 0) (s : Setup) (places : List (Option T)) : Type 0 where
+  pub first : (v : ℕ) → v < vcpu_count s → (x : T) × (at_place places v ≡ Some x) × has_lpis x
+  pub others : (v : ℕ) → vcpu_count s ≤ v → at_place places v ≡ None
 
-here : (n v : ℕ) (rs : List (Option Owned)) (r : Owned) → v < n → in_hand rs v ≡ Some r → slice_get (firsts n rs) v ≡ Some (redistributor_of r)
-here n v [] r lt is = absurd cc
-here zero v (x ∷ xs) r lt is = absurd (omega (arith, lt))
-here (suc n) zero (x ∷ xs) r lt is = ap (λ (o : Option Owned). Some (redistributor_or o)) is
-here (suc n) (suc v) (x ∷ xs) r lt is = here n v xs r (omega (arith, lt)) is
+-- they are those of the set with all
+module _ {T : Type 0} (has_lpis : T → Type 0) (s : Setup) (set : ℕ) (all : (v : ℕ) → is_in set v ≡ nat_lt v (vcpu_count s)) (places : List (Option T)) where
+  there : (o : Option T) → is_some o ≡ true → (x : T) × (o ≡ Some x)
+  there None is = absurd cc
+  there (Some x) is = (x, refl)
 
-as_many : (n : ℕ) (rs : List (Option Owned)) → ((v : ℕ) → v < n → (r : Owned) × (in_hand rs v ≡ Some r)) → length (firsts n rs) ≡ n
-as_many zero [] h = refl
-as_many zero (x ∷ xs) h = refl
-as_many (suc n) [] h = let no = (h 0 (omega arith)).1 in absurd cc
-as_many (suc n) (x ∷ xs) h = ap (λ (k : ℕ). suc k) (as_many n xs (λ v lt. h (suc v) (omega (arith, lt))))
+  not_there : (o : Option T) → is_some o ≡ false → o ≡ None
+  not_there None is = refl
+  not_there (Some x) is = absurd cc
 
--- those of all virtual processors are those of the set with all
-pub record AreAll (s : Setup) (rs : List (Option Owned)) : Type 0 where
-  pub first : (v : ℕ) → v < vcpu_count s → (r : Owned) × (in_hand rs v ≡ Some r) × HasLpisOf s.start.layout.shape r
-  pub others : (v : ℕ) → vcpu_count s ≤ v → in_hand rs v ≡ None
-
-there : (o : Option Owned) → is_some o ≡ true → (r : Owned) × (o ≡ Some r)
-there None is = absurd cc
-there (Some r) is = (r, refl)
-
-not_there : (o : Option Owned) → is_some o ≡ false → o ≡ None
-not_there None is = refl
-not_there (Some r) is = absurd cc
-
-module _ (s : Setup) (set : ℕ) (all : (v : ℕ) → is_in set v ≡ nat_lt v (vcpu_count s)) (rs : List (Option Owned)) where
-  pub set_is_all : AreOfSet s set rs → AreAll s rs
+  pub set_is_all : AreWanted T has_lpis s set places → AllOf T has_lpis s places
   set_is_all are = record {
     first = λ v lt.
         let is = lt-ltb v (vcpu_count s) lt in
-        let r = there (in_hand rs v) (are.hand v ∙ and_from (is_in set v) (nat_lt v (vcpu_count s)) (all v ∙ is) is) in (r.0, r.1, are.lpis v r.0 r.1);
+        let r = there (at_place places v) (are.hand v ∙ and_from (is_in set v) (nat_lt v (vcpu_count s)) (all v ∙ is) is) in (r.0, r.1, are.lpis v r.0 r.1);
     others = λ v le.
         let no = le-ltb v (vcpu_count s) le in
-        not_there (in_hand rs v) (are.hand v ∙ (λ d. (all v ∙ no) d && no d));
+        not_there (at_place places v) (are.hand v ∙ (λ d. (all v ∙ no) d && no d));
   }
 
-  hand_is : AreAll s rs → (v : ℕ) → is_some (in_hand rs v) ≡ (is_in set v && nat_lt v (vcpu_count s))
+  hand_is : AllOf T has_lpis s places → (v : ℕ) → is_some (at_place places v) ≡ (is_in set v && nat_lt v (vcpu_count s))
   hand_is are v = elim (cases_lt v (vcpu_count s)) [
-    | inl lt ↦ let is = lt-ltb v (vcpu_count s) lt in ap (λ (o : Option Owned). is_some o) (are.first v lt).1
+    | inl lt ↦ let is = lt-ltb v (vcpu_count s) lt in ap (λ (o : Option T). is_some o) (are.first v lt).1
         ∙ sym (and_from (is_in set v) (nat_lt v (vcpu_count s)) (all v ∙ is) is)
-    | inr le ↦ let no = le-ltb v (vcpu_count s) le in ap (λ (o : Option Owned). is_some o) (are.others v le) ∙ sym (λ d. (all v ∙ no) d && no d)
+    | inr le ↦ let no = le-ltb v (vcpu_count s) le in ap (λ (o : Option T). is_some o) (are.others v le) ∙ sym (λ d. (all v ∙ no) d && no d)
   ]
 
-  lpis_are : AreAll s rs → (v : ℕ) (r : Owned) → in_hand rs v ≡ Some r → HasLpisOf s.start.layout.shape r
-  lpis_are are v r is = elim (cases_lt v (vcpu_count s)) [
-    | inl lt ↦ let a = are.first v lt in subst (λ (q : Owned). HasLpisOf s.start.layout.shape q) (same_Some a.0 r (sym a.1 ∙ is)) a.2
-    | inr le ↦ absurd (none_some r (sym (are.others v le) ∙ is))
+  lpis_are : AllOf T has_lpis s places → (v : ℕ) (x : T) → at_place places v ≡ Some x → has_lpis x
+  lpis_are are v x is = elim (cases_lt v (vcpu_count s)) [
+    | inl lt ↦ let a = are.first v lt in subst has_lpis (same_Some a.0 x (sym a.1 ∙ is)) a.2
+    | inr le ↦ absurd (none_some x (sym (are.others v le) ∙ is))
   ]
     where
-      none_some : (r : Owned) → None ≡ Some r → ⊥
-      none_some r e = cc
+      none_some : (x : T) → None ≡ Some x → ⊥
+      none_some x e = cc
 
-  pub all_is_set : AreAll s rs → AreOfSet s set rs
+  pub all_is_set : AllOf T has_lpis s places → AreWanted T has_lpis s set places
   all_is_set are = record { hand = hand_is are; lpis = lpis_are are }
 
-module _ (s : Setup) (rs : List (Option Owned)) (are : AreAll s rs) where
+abbrev pub AllConfs : Setup → RedistParts → Type 0
+AllConfs s rs = AllOf ConfInHand (HasLpisOfConf s.start.layout.shape) s rs.confs
+
+abbrev pub AllPends : Setup → RedistParts → Type 0
+AllPends s rs = AllOf PendInHand (HasLpisOfPend s.start.layout.shape) s rs.pends
+
+-- a redistributor that has both
+pub both_parts : (o : Option Redistributor) (c : ConfState) (p : PendState) → option_map conf_of o ≡ Some c → option_map pend_of o ≡ Some p → o ≡ Some (joined c p)
+both_parts None c p e f = absurd cc
+both_parts (Some r) c p e f = let a = same_Some (conf_of r) c e in let b = same_Some (pend_of r) p f in λ d. Some (joined (a d) (b d))
+
+module _ (s : Setup) (rs : RedistParts) (confs : AllConfs s rs) (pends : AllPends s rs) where
   abbrev n : ℕ
   n = vcpu_count s
 
-  firsts_length : length (firsts n rs) ≡ n
-  firsts_length = as_many n rs (λ v lt. let a = are.first v lt in (a.0, a.1))
+  firsts_length : length (redistributors_in n rs) ≡ n
+  firsts_length = length-map-range_with_len (redistributor_in rs) 0 n
 
-  firsts_at : (v : ℕ) → v < n → slice_get (firsts n rs) v ≡ Some (redistributor_or (in_hand rs v))
-  firsts_at v lt = let a = are.first v lt in here n v rs a.0 lt a.1 ∙ ap (λ (o : Option Owned). Some (redistributor_or o)) (sym a.1)
+  firsts_at : (v : ℕ) → v < n → slice_get (redistributors_in n rs) v ≡ Some (redistributor_in rs v)
+  firsts_at v lt = slice_get-get_or (redistributors_in n rs) v no_redistributor (omega (arith, lt, firsts_length))
+      ∙ ap (λ (r : Redistributor). Some r) (get_or-map-range_with_len (redistributor_in rs) 0 n v v no_redistributor lt (omega arith))
 
-  firsts_are : (each : List Redistributor) → length each ≡ n → ((v : ℕ) → v < n → slice_get each v ≡ Some (redistributor_or (in_hand rs v)))
-      → firsts n rs ≡ each
-  firsts_are each many same = same_lists (firsts n rs) each (firsts_length ∙ sym many) (λ i x is.
-      let within = slice_get_within (firsts n rs) i x is in
+  pub firsts_are : (each : List Redistributor) → length each ≡ n → ((v : ℕ) → v < n → slice_get each v ≡ Some (redistributor_in rs v))
+      → redistributors_in n rs ≡ each
+  firsts_are each many same = same_lists (redistributors_in n rs) each (firsts_length ∙ sym many) (λ i x is.
+      let within = slice_get_within (redistributors_in n rs) i x is in
       let lt : i < n = omega (arith, within, firsts_length) in
       same i lt ∙ (sym (firsts_at i lt) ∙ is))
 
   -- one of them as it is held
-  row_at : (v : ℕ) → v < n → redist_row rs v ≡ Some (out (part.Redist (record { 0 = v })) (Redist (redistributor_or (in_hand rs v))))
-  row_at v lt = let a = are.first v lt in ap (held_if_in v) a.1
-      ∙ ap (λ (o : Option Owned). Some (out (part.Redist (record { 0 = v })) (Redist (redistributor_or o)))) (sym a.1)
+  conf_at : (v : ℕ) → v < n → row_of conf_held rs.confs v ≡ Some (out (conf v) (Conf (conf_or (conf_in rs v))))
+  conf_at v lt = let a = confs.first v lt in ap (held_if_in conf_held v) a.1
+      ∙ ap (λ (o : Option ConfInHand). Some (out (conf v) (Conf (conf_or o)))) (sym a.1)
+
+  pend_at : (v : ℕ) → v < n → row_of pend_held rs.pends v ≡ Some (out (pend v) (Pend (pend_or (pend_in rs v))))
+  pend_at v lt = let a = pends.first v lt in ap (held_if_in pend_held v) a.1
+      ∙ ap (λ (o : Option PendInHand). Some (out (pend v) (Pend (pend_or o)))) (sym a.1)
 
 -- ---- one or two translators
 
@@ -158,47 +166,71 @@ mem_held x = out part.Mem (Mem x.memory.value.memory x.memory.value.track)
 abbrev rest_held : Whole → List Held
 rest_held x = mem_held x ∷ second_held (second_of x) (maps_held 0 x.first.value ∷ [])
 
-module _ (s : Setup) (x : Whole) (are : AreAll s x.redists) (few : vcpu_count s ≤ 16) where
+module _ (s : Setup) (x : Whole) (confs : AllConfs s x.redists) (pends : AllPends s x.redists) (few : vcpu_count s ≤ 16) where
+  abbrev rs : RedistParts
+  rs = x.redists
+
   -- what is held is right in a state, so it is that state's
   pub state_is : length (translators_in x) ≡ translator_count s → (word : Word) (u : Plain) → IsOfMachine s u → AllByRecursion (IsRight s word u) (held_whole x)
       → state_of_whole s.start.layout x ≡ u
   state_is count word u m right =
-      let each = row_each (redist_row x.redists) (rest_held x) (IsRight s word u) 16 right in
+      let upper = row_each (row_of pend_held rs.pends) (confs_held rs 16 (rest_held x)) (IsRight s word u) 16 right in
+      let each = row_each (row_of conf_held rs.confs) (rest_held x) (IsRight s word u) 16 upper.1 in
       let memory : x.memory.value.memory ≡ u.memory = sym each.1.0.0 in
       let track : x.memory.value.track ≡ u.track = sym each.1.0.1 in
       let translators = translators_are (second_of x) x.first.value s word u (count ∙ m.translators) each.1.1 in
       let many : length u.redistributors ≡ vcpu_count s = m.sound.vcpus ∙ ap (λ (l : Layout). l.shape.vcpus) (sym m.layout) in
-      let redists : firsts (vcpu_count s) x.redists ≡ u.redistributors = firsts_are s x.redists are u.redistributors many
-      (λ v lt. each.0 v (out (part.Redist (record { 0 = v })) (Redist (redistributor_or (in_hand x.redists v)))) (omega (arith, lt, few))
-      (row_at s x.redists are v lt)) in
+      let redists : redistributors_in (vcpu_count s) rs ≡ u.redistributors = firsts_are s rs confs pends u.redistributors many
+      (λ v lt. both_parts (slice_get u.redistributors v) (conf_or (conf_in rs v)) (pend_or (pend_in rs v))
+      (each.0 v (out (conf v) (Conf (conf_or (conf_in rs v)))) (omega (arith, lt, few)) (conf_at s rs confs pends v lt))
+      (upper.0 v (out (pend v) (Pend (pend_or (pend_in rs v)))) (omega (arith, lt, few)) (pend_at s rs confs pends v lt))) in
       let layout = m.layout in
       λ d. record { layout = layout d; translators = translators d; redistributors = redists d; memory = memory d; track = track d }
 
   -- what is held is all that the state has
-  redists_are : (u : Plain) → firsts (vcpu_count s) x.redists ≡ u.redistributors → (k : ℕ) (rest : List Held) → k ≤ vcpu_count s
-      → redists_held x.redists k rest ≡ calls.redists_held u k rest
-  redists_are u same zero rest le = row_none (redist_row x.redists) rest 0 refl
-  redists_are u same (suc k) rest le =
-      let lt : k < vcpu_count s = omega (arith, le) in
-      let now : redistributor u k ≡ redistributor_or (in_hand x.redists k) = ap (λ (l : List Redistributor). get_or l k no_redistributor) (sym same)
-      ∙ got_at (firsts (vcpu_count s) x.redists) k no_redistributor (redistributor_or (in_hand x.redists k)) (firsts_at s x.redists are k lt) in
-      let others = redists_are u same k rest (omega (arith, le)) in
-      row_first (redist_row x.redists) rest (suc k) k (out (part.Redist (record { 0 = k })) (Redist (redistributor_or (in_hand x.redists k)))) refl
-      (row_at s x.redists are k lt)
-      ∙ (λ d. out (part.Redist (record { 0 = k })) (Redist (sym now d)) ∷ others d)
+  one_now : (u : Plain) → redistributors_in (vcpu_count s) rs ≡ u.redistributors → (k : ℕ) → k < vcpu_count s → redistributor u k ≡ redistributor_in rs k
+  one_now u same k lt = ap (λ (l : List Redistributor). get_or l k no_redistributor) (sym same)
+      ∙ got_at (redistributors_in (vcpu_count s) rs) k no_redistributor (redistributor_in rs k) (firsts_at s rs confs pends k lt)
 
-  short : (rest : List Held) → redists_held x.redists 16 rest ≡ redists_held x.redists (vcpu_count s) rest
-  short rest = let e : vcpu_count s + (16 - vcpu_count s) ≡ 16 = omega (arith, few) in
-      ap (λ (k : ℕ). redists_held x.redists k rest) (sym e)
-      ∙ row_short (redist_row x.redists) rest (vcpu_count s) (16 - vcpu_count s) (λ k le. ap (held_if_in k) (are.others k le))
+  confs_are : (u : Plain) → redistributors_in (vcpu_count s) rs ≡ u.redistributors → (k : ℕ) (rest : List Held) → k ≤ vcpu_count s
+      → confs_held rs k rest ≡ calls.confs_held u k rest
+  confs_are u same zero rest le = row_none (row_of conf_held rs.confs) rest 0 refl
+  confs_are u same (suc k) rest le =
+      let lt : k < vcpu_count s = omega (arith, le) in
+      let now = one_now u same k lt in
+      let others = confs_are u same k rest (omega (arith, le)) in
+      row_first (row_of conf_held rs.confs) rest (suc k) k (out (conf k) (Conf (conf_or (conf_in rs k)))) refl (conf_at s rs confs pends k lt)
+      ∙ (λ d. out (conf k) (Conf (conf_of (sym now d))) ∷ others d)
+
+  pends_are : (u : Plain) → redistributors_in (vcpu_count s) rs ≡ u.redistributors → (k : ℕ) (rest : List Held) → k ≤ vcpu_count s
+      → pends_held rs k rest ≡ calls.pends_held u k rest
+  pends_are u same zero rest le = row_none (row_of pend_held rs.pends) rest 0 refl
+  pends_are u same (suc k) rest le =
+      let lt : k < vcpu_count s = omega (arith, le) in
+      let now = one_now u same k lt in
+      let others = pends_are u same k rest (omega (arith, le)) in
+      row_first (row_of pend_held rs.pends) rest (suc k) k (out (pend k) (Pend (pend_or (pend_in rs k)))) refl (pend_at s rs confs pends k lt)
+      ∙ (λ d. out (pend k) (Pend (pend_of (sym now d))) ∷ others d)
+
+  all_of_them : vcpu_count s + (16 - vcpu_count s) ≡ 16
+  all_of_them = omega (arith, few)
+
+  short_confs : (rest : List Held) → confs_held rs 16 rest ≡ confs_held rs (vcpu_count s) rest
+  short_confs rest = ap (λ (k : ℕ). confs_held rs k rest) (sym all_of_them)
+      ∙ row_short (row_of conf_held rs.confs) rest (vcpu_count s) (16 - vcpu_count s) (λ k le. ap (held_if_in conf_held k) (confs.others k le))
+
+  short_pends : (rest : List Held) → pends_held rs 16 rest ≡ pends_held rs (vcpu_count s) rest
+  short_pends rest = ap (λ (k : ℕ). pends_held rs k rest) (sym all_of_them)
+      ∙ row_short (row_of pend_held rs.pends) rest (vcpu_count s) (16 - vcpu_count s) (λ k le. ap (held_if_in pend_held k) (pends.others k le))
 
   pub held_is : held_whole x ≡ calls.whole_held (state_of_whole s.start.layout x)
   held_is =
       let u : Plain = state_of_whole s.start.layout x in
-      short (rest_held x)
-      ∙ (redists_are u refl (vcpu_count s) (rest_held x) (omega arith)
-      ∙ (λ d. calls.redists_held u (sym (firsts_length s x.redists are) d)
-      (mem_held x ∷ maps_are (second_of x) x.first.value u refl d)))
+      let long : vcpu_count s ≡ length u.redistributors = sym (firsts_length s rs confs pends) in
+      short_pends (confs_held rs 16 (rest_held x))
+      ∙ (pends_are u refl (vcpu_count s) (confs_held rs 16 (rest_held x)) (omega arith)
+      ∙ (ap (calls.pends_held u (vcpu_count s)) (short_confs (rest_held x) ∙ confs_are u refl (vcpu_count s) (rest_held x) (omega arith))
+      ∙ (λ d. calls.pends_held u (long d) (calls.confs_held u (long d) (mem_held x ∷ maps_are (second_of x) x.first.value u refl d)))))
 
 -- ---- a pass that took all of them
 
@@ -222,32 +254,59 @@ maps_free (Some t) first (inr (inr h)) = h
 pub memory_free : (o : Option InHand) (first : InHand) (held : List Held) → held ≡ second_held o (maps_held 0 first ∷ []) → ¬ Holds part.Mem held
 memory_free o first held e = subst (λ (h : List Held). ¬ Holds part.Mem h) (sym e) (maps_free o first)
 
-all_free : (o : Option InHand) (first : InHand) (c : Content) → HoldsNoRedist (out part.Mem c ∷ second_held o (maps_held 0 first ∷ []))
-all_free o first c vcpu (inl e) = cc
-all_free None first c vcpu (inr (inl e)) = cc
-all_free None first c vcpu (inr (inr h)) = h
-all_free (Some t) first c vcpu (inr (inl e)) = cc
-all_free (Some t) first c vcpu (inr (inr (inl e))) = cc
-all_free (Some t) first c vcpu (inr (inr (inr h))) = h
+-- neither maps nor memory are of a redistributor
+no_conf : (o : Option InHand) (first : InHand) (c : Content) → HoldsNoConf (out part.Mem c ∷ second_held o (maps_held 0 first ∷ []))
+no_conf o first c vcpu (inl e) = cc
+no_conf None first c vcpu (inr (inl e)) = cc
+no_conf None first c vcpu (inr (inr h)) = h
+no_conf (Some t) first c vcpu (inr (inl e)) = cc
+no_conf (Some t) first c vcpu (inr (inr (inl e))) = cc
+no_conf (Some t) first c vcpu (inr (inr (inr h))) = h
 
-pub redists_free : (o : Option InHand) (first : InHand) (c : Content) (held : List Held) → held ≡ out part.Mem c ∷ second_held o (maps_held 0 first ∷ [])
-    → HoldsNoRedist held
-redists_free o first c held e = subst HoldsNoRedist (sym e) (all_free o first c)
+no_pend : (o : Option InHand) (first : InHand) (c : Content) → HoldsNoPend (out part.Mem c ∷ second_held o (maps_held 0 first ∷ []))
+no_pend o first c vcpu (inl e) = cc
+no_pend None first c vcpu (inr (inl e)) = cc
+no_pend None first c vcpu (inr (inr h)) = h
+no_pend (Some t) first c vcpu (inr (inl e)) = cc
+no_pend (Some t) first c vcpu (inr (inr (inl e))) = cc
+no_pend (Some t) first c vcpu (inr (inr (inr h))) = h
 
-none_in : (n v : ℕ) → in_hand (replicate n None) v ≡ None
+pub confs_free : (o : Option InHand) (first : InHand) (c : Content) (held : List Held) → held ≡ out part.Mem c ∷ second_held o (maps_held 0 first ∷ [])
+    → HoldsNoConf held
+confs_free o first c held e = subst HoldsNoConf (sym e) (no_conf o first c)
+
+-- nor is a configuration what is pending
+pub pends_free : (o : Option InHand) (first : InHand) (c : Content) (redists : RedistParts) (before held : List Held)
+    → before ≡ out part.Mem c ∷ second_held o (maps_held 0 first ∷ []) → held ≡ confs_held redists 16 before → HoldsNoPend held
+pends_free o first c redists before held e f =
+    let none : HoldsNoPend before = subst HoldsNoPend (sym e) (no_pend o first c) in
+    subst HoldsNoPend (sym f) (λ vcpu. parts_lack conf_held conf conf_kind redists.confs before 16 (part.Pend vcpu) (λ k e. cc) (none vcpu))
+
+none_in : {T : Type 0} (n v : ℕ) → at_place {T} (replicate n None) v ≡ None
 none_in zero v = refl
 none_in (suc n) zero = refl
 none_in (suc n) (suc v) = none_in n v
 
 -- sixteen empty places
-pub none_at_first : (redists : List (Option Owned)) → redists ≡ replicate 16 None → AreNoRedists redists
-none_at_first redists is v = ap (λ (l : List (Option Owned)). in_hand l v) is ∙ none_in 16 v
+pub no_confs_at_first : (redists : RedistParts) → redists ≡ no_redists → AreNoConfs redists
+no_confs_at_first redists is v = ap (λ (r : RedistParts). at_place r.confs v) is ∙ none_in 16 v
 
-pub redist_no_shard : (set : ℕ) (p : Part) → IsRedistOf set p → IsNoShard p
-redist_no_shard set (part.Redist v) is = tt
-redist_no_shard set (part.Maps i) is = absurd is
-redist_no_shard set part.Mem is = absurd is
-redist_no_shard set (part.Shard its n) is = absurd is
+pub no_pends_at_first : (redists : RedistParts) → redists ≡ no_redists → AreNoPends redists
+no_pends_at_first redists is v = ap (λ (r : RedistParts). at_place r.pends v) is ∙ none_in 16 v
+
+pub conf_no_shard : (set : ℕ) (p : Part) → IsConfIn set p → IsNoShard p
+conf_no_shard set (part.Conf v) is = tt
+conf_no_shard set (part.Pend v) is = absurd is
+conf_no_shard set (part.Maps i) is = absurd is
+conf_no_shard set part.Mem is = absurd is
+conf_no_shard set (part.Shard its n) is = absurd is
+
+pub pend_no_shard : (set : ℕ) (p : Part) → IsPendIn set p → IsNoShard p
+pend_no_shard set (part.Pend v) is = tt
+pend_no_shard set (part.Conf v) is = absurd is
+pend_no_shard set (part.Maps i) is = absurd is
+pend_no_shard set part.Mem is = absurd is
+pend_no_shard set (part.Shard its n) is = absurd is
 
 -- words are told apart by their numbers
 same_word : (a b : Word) → (a ≢ b → ⊥) → a ≡ b
@@ -268,19 +327,23 @@ mapped : (o : Option (Box InHand Global)) → is_some (option_map (λ (b : Box I
 mapped None = refl
 mapped (Some b) = refl
 
-pub is_whole : (s : Setup) (x : Whole) → HasStamps s → AreAll s x.redists → is_some x.second ≡ (translator_count s == 2) → IsWholeOf s x
-is_whole s x stamps are count = record {
+pub is_whole : (s : Setup) (x : Whole) → HasStamps s → AllConfs s x.redists → AllPends s x.redists → is_some x.second ≡ (translator_count s == 2)
+    → IsWholeOf s x
+is_whole s x stamps confs pends count = record {
   translators = has_count (second_of x) x.first.value (translator_count s) (one_or_two s stamps) (mapped x.second ∙ count);
-  all_in_hand = are.first;
-  no_others = are.others;
+  all_in_hand = λ v lt. (confs.first v lt, pends.first v lt);
+  no_others = λ v le. (confs.others v le, pends.others v le);
 }
 
 -- there is a second translator where there are two
 pub whole_second : (s : Setup) (x : Whole) → IsWholeOf s x → is_some x.second ≡ (translator_count s == 2)
 whole_second s x is = sym (mapped x.second) ∙ second_is (second_of x) x.first.value (translator_count s) is.translators
 
-pub whole_all : (s : Setup) (x : Whole) → IsWholeOf s x → AreAll s x.redists
-whole_all s x is = record { first = is.all_in_hand; others = is.no_others }
+pub whole_confs : (s : Setup) (x : Whole) → IsWholeOf s x → AllConfs s x.redists
+whole_confs s x is = record { first = λ v lt. (is.all_in_hand v lt).0; others = λ v le. (is.no_others v le).0 }
+
+pub whole_pends : (s : Setup) (x : Whole) → IsWholeOf s x → AllPends s x.redists
+whole_pends s x is = record { first = λ v lt. (is.all_in_hand v lt).1; others = λ v le. (is.no_others v le).1 }
 
 module _ (s : Setup) (v w y : View) (x : Whole) (word : Word) (own : v.setup ≡ s) (few : vcpu_count s ≤ 16) (takes : TakesOnly IsNoShard v w)
     (held : w.held ≡ held_whole x) (looks : Looks w word y) (later : IsLastOrLater w word) (is : IsWholeOf s x) where
@@ -313,5 +376,5 @@ module _ (s : Setup) (v w y : View) (x : Whole) (word : Word) (own : v.setup ≡
     alone = λ lone. subst (λ (z : View). LostNone v z) (sym looked) (takes.alone lone);
     machine = machine;
     whole = is;
-    state = state_is s x (whole_all s x is) few is.translators word (after s.start y.seen) machine right;
+    state = state_is s x (whole_confs s x is) (whole_pends s x is) few is.translators word (after s.start y.seen) machine right;
   }

@@ -1,10 +1,9 @@
 -- The parts that are left of a machine.
-use Rattle.std.proofs.Common.{◌≡◌, ℕ, zero, suc, ◌<◌, ◌≤◌, List, [], ◌∷◌, map, take, length, Option, Some, None, Ok, Err, refl, ap, sym, ◌∙◌, subst, arith}
+use Rattle.std.proofs.Common.{◌≡◌, ℕ, zero, suc, ◌<◌, ◌≤◌, List, length, Option, Some, None, Ok, Err, refl, ap, sym, ◌∙◌, subst, arith}
 use Rattle.std.specs.Prelude.{slice_get}
-use Rattle.std.proofs.lemmas.Option.{slice_get_within}
 use Rattle.dirty_log.specs.declared.tracked.Tracked.{Tracked}
 use Rattle.its_plain.specs.History.{after}
-use Rattle.its_plain.specs.Plain.{Plain, Redistributor}
+use Rattle.its_plain.specs.Plain.{Plain}
 use Rattle.its_plain.specs.Regions.{savable}
 use Rattle.its_plain.specs.Saved.{moved, moved_count}
 use Rattle.its_plain.specs.Sound.{IsSound}
@@ -12,9 +11,10 @@ use Rattle.its_plain.specs.declared.call.Entry.{Entry}
 use Rattle.its_plain.specs.declared.fault.SaveError.{SaveError}
 use Rattle.its_plain.specs.declared.fault.SaveError.TheVariants as errors
 use Rattle.its_plain.specs.declared.layout.Layout.{Layout}
-use Rattle.lpi_pending.specs.InHand.{in_hand}
-use Rattle.lpi_pending.specs.declared.redist.Redist.{Redist as Owned}
-use Rattle.owned_parts.specs.Owned.{AreAllInHand, redistributor_of, redistributor_or, HasLpisOf, state_of_parts}
+use Rattle.lpi_config.specs.declared.conf.Conf.{Conf as ConfInHand}
+use Rattle.lpi_pending.specs.InHand.{RedistParts, conf_in, pend_in}
+use Rattle.lpi_pending.specs.declared.pend.Pend.{Pend as PendInHand}
+use Rattle.owned_parts.specs.Owned.{AreAllInHand, HasLpisOfConf, HasLpisOfPend, conf_or, pend_or, redistributors_in, state_of_parts}
 use Rattle.owned_machine.specs.Whole.{IsMachine, GoesOn}
 use Rattle.table_save.specs.Checked.{Answers}
 use Rattle.owned_parts.specs.declared.parts.Parts.{Parts}
@@ -28,29 +28,14 @@ use Rattle.its_turns.specs.declared.machine.Machine.{Machine}
 use Rattle.its_turns.specs.declared.machine.Pass.{Pass}
 use Rattle.held_parts.specs.Wholes.{TakesWhole}
 use Rattle.held_parts.specs.declared.whole.Whole.{Whole}
-use Rattle.held_parts.proofs.Lists.{same_lists}
+use Rattle.held_parts.proofs.Wholes.{AllConfs, AllPends, both_parts, firsts_are}
 use Rattle.its_migrate.specs.Precopying.{AreLeft, AreTaken, AreUnpacked, IsLeftFor, Precopies, WentOnCopied, with_track}
 use Rattle.its_migrate.specs.Resting.{IsCause, Rests, resting}
 use Rattle.its_migrate.specs.declared.outcome.Precopy.{Precopy}
 use Rattle.its_migrate.proofs.Copying.{moved_memory}
 use Rattle.its_migrate.proofs.Moving.{went_on}
 use Rattle.its_migrate.proofs.Pendings.{rests_seen}
-use Rattle.its_migrate.proofs.Taken.{taken_hand, taken_others, rest_of_machine, taken_rest}
-
-abbrev firsts : ℕ → List (Option Owned) → List Redistributor
-firsts n rs = map redistributor_or (take n rs)
-
-here : (n v : ℕ) (rs : List (Option Owned)) (r : Owned) → v < n → in_hand rs v ≡ Some r → slice_get (firsts n rs) v ≡ Some (redistributor_of r)
-here n v [] r lt is = absurd cc
-here zero v (x ∷ xs) r lt is = absurd (omega (arith, lt))
-here (suc n) zero (x ∷ xs) r lt is = ap (λ (o : Option Owned). Some (redistributor_or o)) is
-here (suc n) (suc v) (x ∷ xs) r lt is = here n v xs r (omega (arith, lt)) is
-
-as_many : (n : ℕ) (rs : List (Option Owned)) → ((v : ℕ) → v < n → (r : Owned) × (in_hand rs v ≡ Some r)) → length (firsts n rs) ≡ n
-as_many zero [] h = refl
-as_many zero (x ∷ xs) h = refl
-as_many (suc n) [] h = let no = (h 0 (omega arith)).1 in absurd cc
-as_many (suc n) (x ∷ xs) h = ap (λ (k : ℕ). suc k) (as_many n xs (λ v lt. h (suc v) (omega (arith, lt))))
+use Rattle.its_migrate.proofs.Taken.{HasNoOthers, taken_hand, taken_others, rest_of_machine, taken_rest}
 
 module _ (s : Setup) (u : Plain) (m : IsOfMachine s u) (p : Parts) (are : AreAllParts s u p) where
   abbrev n : ℕ
@@ -62,16 +47,31 @@ module _ (s : Setup) (u : Plain) (m : IsOfMachine s u) (p : Parts) (are : AreAll
   below : (v : ℕ) → v < n → v < vcpu_count s
   below v lt = omega (arith, lt, counted)
 
-  many : length (firsts n p.redists) ≡ n
-  many = as_many n p.redists (λ v lt. let b = are.redists.below v (below v lt) in (b.0, b.1))
+  -- what is in hand has the machine's LPIs, and the places above are empty
+  confs_left : AllConfs s p.redists
+  confs_left = record {
+    first = λ v lt.
+        let b = are.confs.below v lt in
+        (b.0, b.1, subst (λ (l : Layout). HasLpisOfConf l.shape b.0) (sym m.layout) b.2.lpis);
+    others = are.confs.others;
+  }
 
-  redists_are : firsts n p.redists ≡ u.redistributors
-  redists_are = same_lists (firsts n p.redists) u.redistributors (many ∙ ap (λ (l : Layout). l.shape.vcpus) are.layout ∙ sym m.sound.vcpus)
-      (λ i x is.
-      let within = slice_get_within (firsts n p.redists) i x is in
-      let lt : i < n = omega (arith, within, many) in
-      let b = are.redists.below i (below i lt) in
-      b.2.same ∙ (sym (here n i p.redists b.0 lt b.1) ∙ is))
+  pends_left : AllPends s p.redists
+  pends_left = record {
+    first = λ v lt.
+        let b = are.pends.below v lt in
+        (b.0, b.1, subst (λ (l : Layout). HasLpisOfPend l.shape b.0) (sym m.layout) b.2.lpis);
+    others = are.pends.others;
+  }
+
+  redists_are : redistributors_in n p.redists ≡ u.redistributors
+  redists_are = subst (λ (k : ℕ). redistributors_in k p.redists ≡ u.redistributors) counted
+      (firsts_are s p.redists confs_left pends_left u.redistributors (m.sound.vcpus ∙ ap (λ (l : Layout). l.shape.vcpus) (sym m.layout))
+      (λ v lt.
+      let c = are.confs.below v lt in let d = are.pends.below v lt in
+      let conf = c.2.same ∙ ap (λ (o : Option ConfInHand). Some (conf_or o)) (sym c.1) in
+      let pend = d.2.same ∙ ap (λ (o : Option PendInHand). Some (pend_or o)) (sym d.1) in
+      both_parts (slice_get u.redistributors v) (conf_or (conf_in p.redists v)) (pend_or (pend_in p.redists v)) conf pend))
 
   pub parts_left : AreLeft u (with_track None p)
   parts_left = record {
@@ -83,8 +83,10 @@ module _ (s : Setup) (u : Plain) (m : IsOfMachine s u) (p : Parts) (are : AreAll
       track = None;
     };
     all_in_hand = λ v lt.
-        let b = are.redists.below v (below v lt) in
-        (b.0, b.1, subst (λ (l : Layout). HasLpisOf l.shape b.0) (sym are.layout) b.2.lpis);
+        let c = are.confs.below v (below v lt) in let d = are.pends.below v (below v lt) in (
+          (c.0, c.1, subst (λ (l : Layout). HasLpisOfConf l.shape c.0) (sym are.layout) c.2.lpis),
+          (d.0, d.1, subst (λ (l : Layout). HasLpisOfPend l.shape d.0) (sym are.layout) d.2.lpis),
+        );
   }
 
 -- ---- parts that were taken out of a machine at rest
@@ -101,10 +103,9 @@ module _ (m : Machine) (r : Pass) (w : View) (x : Whole) (taken : TakesWhole (se
   unpacked_machine = record {
     sound = subst IsSound (sym unpacked_state) (rest_of_machine m r w x taken lone).sound;
     all_in_hand = subst (λ (k : Layout). AreAllInHand k.shape q.0.redists) (sym are.layout)
-        (subst (λ (rs : List (Option Owned)). AreAllInHand l.shape rs) (sym are.redists) (taken_hand (setup m) (view r) w x taken l same));
-    no_others = subst (λ (k : Layout). (v : ℕ) → k.shape.vcpus ≤ v → in_hand q.0.redists v ≡ None) (sym are.layout)
-        (subst (λ (rs : List (Option Owned)). (v : ℕ) → l.shape.vcpus ≤ v → in_hand rs v ≡ None) (sym are.redists)
-        (taken_others (setup m) (view r) w x taken l same));
+        (subst (λ (rs : RedistParts). AreAllInHand l.shape rs) (sym are.redists) (taken_hand (setup m) (view r) w x taken l same));
+    no_others = subst (λ (k : Layout). HasNoOthers k q.0.redists) (sym are.layout)
+        (subst (HasNoOthers l) (sym are.redists) (taken_others (setup m) (view r) w x taken l same));
   }
 
   pub unpacked_taken : savable (resting m r) ≡ Ok tt → AreTaken (setup m) q

@@ -6,7 +6,7 @@ use Rattle.its_plain.specs.Plain.{Plain}
 use Rattle.its_plain.specs.declared.call.Entry.{Entry}
 use Rattle.its_plain.specs.Sound.{IsSound}
 use Rattle.its_plain.specs.declared.layout.Layout.{Layout}
-use Rattle.lpi_pending.specs.InHand.{in_hand}
+use Rattle.lpi_pending.specs.InHand.{RedistParts, conf_in, pend_in}
 use Rattle.owned_parts.specs.Owned.{AreAllInHand, translator_of, translator_at, one_or_two, state_of_parts, state_in_place}
 use Rattle.dirty_log.specs.declared.tracked.Tracked.{Tracked}
 use Rattle.owned_parts.specs.declared.parts.Parts.{Parts}
@@ -21,11 +21,10 @@ use Rattle.its_turns.specs.Machines.{setup, view}
 use Rattle.its_turns.specs.Told.{IsLone}
 use Rattle.its_turns.specs.declared.machine.Machine.{Machine}
 use Rattle.its_turns.specs.declared.machine.Pass.{Pass}
-use Rattle.lpi_pending.specs.declared.redist.Redist.{Redist}
 use Rattle.held_parts.specs.Taking.{holding}
 use Rattle.held_parts.specs.Wholes.{state_of_whole, TakesWhole}
 use Rattle.held_parts.specs.declared.whole.Whole.{Whole}
-use Rattle.held_parts.proofs.Wholes.{whole_all, held_is}
+use Rattle.held_parts.proofs.Wholes.{whole_confs, whole_pends, held_is}
 use Rattle.its_migrate.specs.Resting.{Rests, resting}
 
 -- ---- where parts stand
@@ -38,8 +37,12 @@ second_in (Some t) = refl
 pub state_in : (i : InPlace) → state_of_parts (parts_in i) ≡ state_in_place i
 state_in i = λ d. record (state_in_place i) { translators = one_or_two (translator_at i.first) (second_in i.second d) }
 
+-- no part is in hand of a redistributor that the machine doesn't have
+abbrev pub HasNoOthers : Layout → RedistParts → Type 0
+HasNoOthers l rs = (v : ℕ) → l.shape.vcpus ≤ v → (conf_in rs v ≡ None) × (pend_in rs v ≡ None)
+
 pub machine_in : (i : InPlace) (u : Plain) → state_in_place i ≡ u → IsSound u → AreAllInHand i.layout.now.shape i.redists.now
-    → ((v : ℕ) → i.layout.now.shape.vcpus ≤ v → in_hand i.redists.now v ≡ None) → IsMachine (parts_in i)
+    → HasNoOthers i.layout.now i.redists.now → IsMachine (parts_in i)
 machine_in i u same sound all none = record { sound = subst IsSound (sym (state_in i ∙ same)) sound; all_in_hand = all; no_others = none }
 
 -- with a second memory
@@ -48,16 +51,15 @@ pub machine_with : (i : InPlace) (p : Parts) (t : Option Tracked) → state_in_p
 machine_with i p t state layout redists m = record {
   sound = subst (λ (u : Plain). IsSound (record u { track = t })) (sym (state_in i ∙ state)) m.sound;
   all_in_hand = subst (λ (k : Layout). AreAllInHand k.shape i.redists.now) (sym layout)
-      (subst (λ (rs : List (Option Redist)). AreAllInHand p.layout.shape rs) (sym redists) m.all_in_hand);
-  no_others = subst (λ (k : Layout). (v : ℕ) → k.shape.vcpus ≤ v → in_hand i.redists.now v ≡ None) (sym layout)
-      (subst (λ (rs : List (Option Redist)). (v : ℕ) → p.layout.shape.vcpus ≤ v → in_hand rs v ≡ None) (sym redists) m.no_others);
+      (subst (λ (rs : RedistParts). AreAllInHand p.layout.shape rs) (sym redists) m.all_in_hand);
+  no_others = subst (λ (k : Layout). HasNoOthers k i.redists.now) (sym layout) (subst (HasNoOthers p.layout) (sym redists) m.no_others);
 }
 
 -- of the parts lent all redistributors are in hand
-pub lent_hand : (i : InPlace) (l : Layout) (rs : List (Option Redist)) → i.layout.now ≡ l → i.redists.now ≡ rs → AreAllInHand l.shape rs
+pub lent_hand : (i : InPlace) (l : Layout) (rs : RedistParts) → i.layout.now ≡ l → i.redists.now ≡ rs → AreAllInHand l.shape rs
     → AreAllInHand i.layout.now.shape i.redists.now
 lent_hand i l rs layout redists all =
-    subst (λ (k : Layout). AreAllInHand k.shape i.redists.now) (sym layout) (subst (λ (xs : List (Option Redist)). AreAllInHand l.shape xs) (sym redists) all)
+    subst (λ (k : Layout). AreAllInHand k.shape i.redists.now) (sym layout) (subst (λ (xs : RedistParts). AreAllInHand l.shape xs) (sym redists) all)
 
 -- ---- all parts
 
@@ -74,24 +76,23 @@ module _ (s : Setup) (v w : View) (x : Whole) (taken : TakesWhole s v x w) (l : 
   pub taken_hand : AreAllInHand l.shape x.redists
   taken_hand = subst (λ (k : Layout). AreAllInHand k.shape x.redists) (sym same) taken.whole.all_in_hand
 
-  pub taken_others : (v : ℕ) → l.shape.vcpus ≤ v → in_hand x.redists v ≡ None
-  taken_others = subst (λ (k : Layout). (v : ℕ) → k.shape.vcpus ≤ v → in_hand x.redists v ≡ None) (sym same) taken.whole.no_others
+  pub taken_others : HasNoOthers l x.redists
+  taken_others = subst (λ (k : Layout). HasNoOthers k x.redists) (sym same) taken.whole.no_others
 
   pub few_vcpus : vcpu_count s ≤ 16
   few_vcpus = let e = ap (λ (k : Layout). k.shape.vcpus) taken.machine.layout in omega (arith, e, taken.machine.sound.layout.shape.most_vcpus)
 
   pub holds_all : w.held ≡ whole_held u
   holds_all = ap (λ (y : View). y.held) taken.same
-      ∙ (held_is s x (whole_all s x taken.whole) few_vcpus ∙ ap (λ (z : Plain). whole_held z) taken.state)
+      ∙ (held_is s x (whole_confs s x taken.whole) (whole_pends s x taken.whole) few_vcpus ∙ ap (λ (z : Plain). whole_held z) taken.state)
 
 -- where they stand they are a machine's
 pub taken_machine : (s : Setup) (v w : View) (x : Whole) → TakesWhole s v x w → (i : InPlace) → i.layout.now ≡ s.start.layout
     → state_in_place i ≡ state_of_whole i.layout.now x → i.redists.now ≡ x.redists → IsMachine (parts_in i)
 taken_machine s v w x taken i same state redists =
     machine_in i (after s.start w.seen) (state ∙ taken_state s v w x taken i.layout.now same) taken.machine.sound
-    (subst (λ (rs : List (Option Redist)). AreAllInHand i.layout.now.shape rs) (sym redists) (taken_hand s v w x taken i.layout.now same))
-    (subst (λ (rs : List (Option Redist)). (v : ℕ) → i.layout.now.shape.vcpus ≤ v → in_hand rs v ≡ None) (sym redists)
-    (taken_others s v w x taken i.layout.now same))
+    (subst (λ (rs : RedistParts). AreAllInHand i.layout.now.shape rs) (sym redists) (taken_hand s v w x taken i.layout.now same))
+    (subst (HasNoOthers i.layout.now) (sym redists) (taken_others s v w x taken i.layout.now same))
 
 -- ---- all went home
 

@@ -6,7 +6,7 @@ ghost use Rattle.its_turns.specs.Machines.{setup, view, IsOf};
 ghost use Rattle.its_turns.specs.Told.{IsLone};
 ghost use Rattle.its_migrate.specs.Resting.{Rests, resting, pending_at_rest};
 
-use held_parts::{AtRest, take_redist};
+use held_parts::{AtRest, take_pend};
 use its_turns::{Machine, Root, Value, look, put};
 use its_types::{Intid, Listed, Part, Vcpu};
 use std::alloc::{AllocError, Global};
@@ -61,9 +61,9 @@ fn pending_at(
     ensures lpis { IfOk result (λ lpis. map (λ i. i.0) lpis ≡ pending_of (resting machine.now
         root.old) vcpu.0) }
 {
-    let redist = take_redist(&AtRest, machine, root, vcpu);
+    let pend = take_pend(&AtRest, machine, root, vcpu);
     look(machine, root);
-    let lpis = redist.pending.lpis(alloc);
-    put(machine, root, Part::Redist(vcpu), Value::Redist(redist));
+    let lpis = pend.pending.lpis(alloc);
+    put(machine, root, Part::Pend(vcpu), Value::Pend(pend));
     Ok(Listed::from_vec(lpis?))
 }

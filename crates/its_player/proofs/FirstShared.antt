@@ -4,13 +4,13 @@ use Rattle.std.specs.Prelude as std
 use Rattle.std.proofs.lemmas.List.{map-append, length-map}
 use mathlib.Core.Option.{Option, some}
 use Rattle.xlate_cache.specs.Ways.{no_entries}
-use Rattle.its_plain.specs.Plain.{Translator, Redistributor}
+use Rattle.its_plain.specs.Plain.{Translator, Redistributor, conf_of, pend_of}
 use Rattle.its_plain.specs.Sound.{IsSound}
 use Rattle.its_plain.specs.declared.call.Entry.{Entry}
 use Rattle.its_steps.specs.Contents.{Content}
 use Rattle.its_steps.specs.Contents as steps
 use Rattle.its_player.specs.declared.content.Content.{Content as Value}
-use Rattle.its_player.specs.declared.content.Content.TheVariants.{Maps, Mem, Shard, Redist}
+use Rattle.its_player.specs.declared.content.Content.TheVariants.{Maps, Mem, Shard, Conf, Pend}
 use Rattle.its_steps.specs.Parts.{Setup, part_count}
 use Rattle.its_player.specs.Shared.{known, view_of, slot_as, home_slots}
 use Rattle.its_steps.specs.Steps.{first_core}
@@ -24,9 +24,13 @@ map_maps : (xs : List Translator) → map slot_as (map (λ t. std.Some (Maps t))
 map_maps [] = refl
 map_maps (x ∷ xs) = ap (λ (l : List (Option Content)). some (steps.Maps x) ∷ l) (map_maps xs)
 
-map_redists : (xs : List Redistributor) → map slot_as (map (λ r. std.Some (Redist r)) xs) ≡ map (λ r. some (steps.Redist r)) xs
-map_redists [] = refl
-map_redists (x ∷ xs) = ap (λ (l : List (Option Content)). some (steps.Redist x) ∷ l) (map_redists xs)
+map_confs : (xs : List Redistributor) → map slot_as (map (λ r. std.Some (Conf (conf_of r))) xs) ≡ map (λ r. some (steps.Conf (conf_of r))) xs
+map_confs [] = refl
+map_confs (x ∷ xs) = ap (λ (l : List (Option Content)). some (steps.Conf (conf_of x)) ∷ l) (map_confs xs)
+
+map_pends : (xs : List Redistributor) → map slot_as (map (λ r. std.Some (Pend (pend_of r))) xs) ≡ map (λ r. some (steps.Pend (pend_of r))) xs
+map_pends [] = refl
+map_pends (x ∷ xs) = ap (λ (l : List (Option Content)). some (steps.Pend (pend_of x)) ∷ l) (map_pends xs)
 
 map_shards : (n : ℕ) → map slot_as (replicate n (std.Some (Shard no_entries))) ≡ replicate n (some (steps.Shard no_entries))
 map_shards zero = refl
@@ -35,12 +39,15 @@ map_shards (suc n) = ap (λ (l : List (Option Content)). some (steps.Shard no_en
 pub slots_first : (s : Setup) → map slot_as (home_slots s.start s.shards) ≡ first_slots s
 slots_first s =
     let n : ℕ = length s.start.translators * s.shards in
+    let confs : List (std.Option Value) = map (λ r. std.Some (Conf (conf_of r))) s.start.redistributors in
+    let pends : List (std.Option Value) = map (λ r. std.Some (Pend (pend_of r))) s.start.redistributors in
     map-append slot_as (map (λ t. std.Some (Maps t)) s.start.translators)
     (std.Some (Mem (record { memory = s.start.memory; track = s.start.track }))
-    ∷ (replicate n (std.Some (Shard no_entries)) ++ map (λ r. std.Some (Redist r)) s.start.redistributors))
+    ∷ (replicate n (std.Some (Shard no_entries)) ++ (confs ++ pends)))
     ∙ (λ d. map_maps s.start.translators d
     ++ (some (steps.Mem s.start.memory s.start.track) ∷ (map-append slot_as (replicate n (std.Some (Shard no_entries)))
-    (map (λ r. std.Some (Redist r)) s.start.redistributors) ∙ (λ e. map_shards n e ++ map_redists s.start.redistributors e)) d))
+    (confs ++ pends) ∙ (λ e. map_shards n e ++ (map-append slot_as confs pends
+    ∙ (λ k. map_confs s.start.redistributors k ++ map_pends s.start.redistributors k)) e)) d))
 
 pub first_shared : (s : Setup) → IsSound s.start → (history : List Entry) (notes : List ℕ) (slots : List (std.Option Value))
     (turns : List ℕ) (y : Known)

@@ -9,7 +9,7 @@ use Rattle.its_types.specs.Maps.{device_of, event_of, collection_of, is_pair}
 use Rattle.its_types.specs.declared.translation.Device.{Device}
 use Rattle.its_types.specs.declared.translation.Event.{Event}
 use Rattle.plain_machine.specs.MappedPairs.{is_among, AreMapped}
-use Rattle.its_plain.specs.Plain.{Translator, Redistributor}
+use Rattle.its_plain.specs.Plain.{Translator, PendState}
 use Rattle.its_plain.specs.Translation.{◌>>=◌, ensure, located}
 use Rattle.its_plain.specs.declared.call.Cause.TheVariants.{Disabled, NoDevice, NoEvent, NoCollection, LpisOff}
 use Rattle.std.proofs.lemmas.Bool.{eqb-true}
@@ -27,7 +27,7 @@ use Rattle.its_plain.specs.declared.call.Signal.TheVariants.{Delivered, Dropped}
 use Rattle.xlate_cache.specs.Pairs.{shard_number}
 use Rattle.xlate_cache.specs.Ways.{is_of, found}
 use Rattle.xlate_cache.specs.declared.entry.Entry.{Entry as Translation}
-use Rattle.its_steps.specs.Contents.{Content, Shard, Redist, Held}
+use Rattle.its_steps.specs.Contents.{Content, Shard, Pend, Held}
 use Rattle.its_steps.specs.Good.{Holds}
 use Rattle.its_player.specs.Held.{same_part, holds, owes_such, is_told, tells, target_tells, meets, lacks, all_out, covers}
 use Rattle.its_steps.specs.MayCall.{Owes, IsHit, IsWithout, message_of, met}
@@ -86,34 +86,34 @@ told_itself target true =
     (λ d. v d && i d)
 told_itself target false = refl
 
-tells_redist : (signal : Signal) (target : Target) (c : Content) → tells signal target c ≡ true → (r : Redistributor) × (c ≡ Redist r)
-    × (signal ≡ met r.bases.on target)
-tells_redist signal target (Redist r) e = (r, refl, told_is signal target r.bases.on e)
-tells_redist signal target c e = absurd cc
+tells_pend : (signal : Signal) (target : Target) (c : Content) → tells signal target c ≡ true → (p : PendState) × (c ≡ Pend p)
+    × (signal ≡ met p.accepts target)
+tells_pend signal target (Pend p) e = (p, refl, told_is signal target p.accepts e)
+tells_pend signal target c e = absurd cc
 
--- the shard that a pair is found in, and what its target's redistributor makes of that
+-- the shard that a pair is found in, and what is made of that by what is pending at its target
 record Met (held : List Held) (dev ev stamp : ℕ) (signal : Signal) (c : Content) : Type 0 where
   pub ways : List (Option Translation)
   pub shard : c ≡ Shard ways
   pub target : Target
   pub is_found : found ways dev ev stamp ≡ Some target
-  pub redist : Redistributor
-  pub owes : Owes (part.Redist target.vcpu) (Redist redist) held
-  pub signal_is : signal ≡ met redist.bases.on target
+  pub pend : PendState
+  pub owes : Owes (part.Pend target.vcpu) (Pend pend) held
+  pub signal_is : signal ≡ met pend.accepts target
 
 met_at : (held : List Held) (dev ev stamp : ℕ) (signal : Signal) (ways : List (Option Translation)) (o : Option Target) → found ways dev ev stamp ≡ o
     → target_tells held signal o ≡ true → Met held dev ev stamp signal (Shard ways)
 met_at held dev ev stamp signal ways None f e = absurd cc
 met_at held dev ev stamp signal ways (Some target) f e =
-    let o = (owes_such_decides (part.Redist target.vcpu) (tells signal target) held).0 e in
-    let t = tells_redist signal target o.0 o.2 in
+    let o = (owes_such_decides (part.Pend target.vcpu) (tells signal target) held).0 e in
+    let t = tells_pend signal target o.0 o.2 in
     record {
       ways = ways;
       shard = refl;
       target = target;
       is_found = f;
-      redist = t.0;
-      owes = subst (λ (x : Content). Owes (part.Redist target.vcpu) x held) t.1 o.1;
+      pend = t.0;
+      owes = subst (λ (x : Content). Owes (part.Pend target.vcpu) x held) t.1 o.1;
       signal_is = t.2;
     }
 
@@ -146,7 +146,7 @@ module _ (s : Setup) (a : Commit) (held : List Held) where
         ways = m.ways;
         owes = subst (λ (x : Content). Owes p x held) m.shard o.1;
         is_found = m.is_found;
-        redist = m.redist;
+        pend = m.pend;
         target_owes = m.owes;
         reply_is = ris ∙ ap (λ (x : Signal). reply.Signal x) m.signal_is;
       }
@@ -156,20 +156,20 @@ module _ (s : Setup) (a : Commit) (held : List Held) where
       → IsHit s a held → has its dev ev signal ≡ true
   hit_tests its dev ev signal mis ris h =
       let same : Some (h.its, (h.dev, h.ev)) ≡ Some (its, (dev, ev)) = sym h.message ∙ mis in
-      let gone : reply.Signal (met h.redist.bases.on h.target) ≡ reply.Signal signal = sym h.reply_is ∙ ris in
+      let gone : reply.Signal (met h.pend.accepts h.target) ≡ reply.Signal signal = sym h.reply_is ∙ ris in
       let message : (h.its, (h.dev, h.ev)) ≡ (its, (dev, ev)) = cc in
-      let told : met h.redist.bases.on h.target ≡ signal = cc in
-      let tells' : owes_such (part.Redist h.target.vcpu) (tells (met h.redist.bases.on h.target) h.target) held ≡ true =
-      (owes_such_decides (part.Redist h.target.vcpu) (tells (met h.redist.bases.on h.target) h.target) held).1 (
-        Redist h.redist,
+      let told : met h.pend.accepts h.target ≡ signal = cc in
+      let tells' : owes_such (part.Pend h.target.vcpu) (tells (met h.pend.accepts h.target) h.target) held ≡ true =
+      (owes_such_decides (part.Pend h.target.vcpu) (tells (met h.pend.accepts h.target) h.target) held).1 (
+        Pend h.pend,
         h.target_owes,
-        told_itself h.target h.redist.bases.on,
+        told_itself h.target h.pend.accepts,
       ) in
-      let there : has h.its h.dev h.ev (met h.redist.bases.on h.target) ≡ true = (owes_such_decides (part.Shard h.its (shard_number h.dev.0 h.ev.0 s.shards))
-      (meets held h.dev.0 h.ev.0 (stamp_of s a.expected h.its) (met h.redist.bases.on h.target)) held).1 (
+      let there : has h.its h.dev h.ev (met h.pend.accepts h.target) ≡ true = (owes_such_decides (part.Shard h.its (shard_number h.dev.0 h.ev.0 s.shards))
+      (meets held h.dev.0 h.ev.0 (stamp_of s a.expected h.its) (met h.pend.accepts h.target)) held).1 (
         Shard h.ways,
         h.owes,
-        ap (target_tells held (met h.redist.bases.on h.target)) h.is_found ∙ tells',
+        ap (target_tells held (met h.pend.accepts h.target)) h.is_found ∙ tells',
       ) in
       subst (λ (k : (ℕ × (DeviceId × EventId)) × Signal). has k.0.0 k.0.1.0 k.0.1.1 k.1 ≡ true) (λ d. (message d, told d)) there
 

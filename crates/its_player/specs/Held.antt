@@ -14,14 +14,15 @@ use Rattle.its_plain.specs.declared.call.Signal.{Signal}
 use Rattle.its_plain.specs.declared.call.Signal.TheVariants.{Delivered, Dropped}
 use Rattle.xlate_cache.specs.Ways.{found}
 use Rattle.xlate_cache.specs.Observed.{has_entry_of}
-use Rattle.its_steps.specs.Contents.{Content, Shard, Redist, Held}
+use Rattle.its_steps.specs.Contents.{Content, Shard, Pend, Held}
 use Rattle.its_steps.specs.MayCall.{message_of}
 
 abbrev pub same_part : Part → Part → Bool
 same_part (part.Maps a) (part.Maps b) = a == b
 same_part part.Mem part.Mem = true
 same_part (part.Shard a n) (part.Shard b m) = a == b && n == m
-same_part (part.Redist a) (part.Redist b) = a.0 == b.0
+same_part (part.Conf a) (part.Conf b) = a.0 == b.0
+same_part (part.Pend a) (part.Pend b) = a.0 == b.0
 same_part p q = false
 
 abbrev pub holds : Part → List Held → Bool
@@ -49,15 +50,15 @@ is_told (Delivered vcpu intid) target true = vcpu.0 == target.vcpu.0 && intid.0 
 is_told (Dropped LpisOff) target false = true
 is_told signal target on = false
 
--- and by a redistributor
+-- and by what is pending at a redistributor
 abbrev pub tells : Signal → Target → Content → Bool
-tells signal target (Redist r) = is_told signal target r.bases.on
+tells signal target (Pend p) = is_told signal target p.accepts
 tells signal target c = false
 
--- the target's redistributor is held, and tells this
+-- what is pending at the target is held, and tells this
 abbrev pub target_tells : List Held → Signal → Option Target → Bool
 target_tells held signal None = false
-target_tells held signal (Some target) = owes_such (part.Redist target.vcpu) (tells signal target) held
+target_tells held signal (Some target) = owes_such (part.Pend target.vcpu) (tells signal target) held
 
 -- that of the target that a shard has
 abbrev pub meets : List Held → ℕ → ℕ → ℕ → Signal → Content → Bool

@@ -4,7 +4,7 @@ use Rattle.std.specs.Prelude as std
 use mathlib.Core.Option.{Option, none, some}
 use lib.ListN.{get_elem?}
 use Rattle.its_types.specs.declared.machine.Part.{Part}
-use Rattle.its_plain.specs.Plain.{Plain}
+use Rattle.its_plain.specs.Plain.{Plain, conf_of, pend_of}
 use Rattle.xlate_cache.specs.Ways.{no_entries}
 use Rattle.its_steps.specs.Contents.{Content, Held}
 use Rattle.its_steps.specs.Contents as steps
@@ -20,7 +20,7 @@ use Rattle.its_player.specs.Contents.{content_of}
 use Rattle.its_player.specs.declared.cache.Cache.{Cache}
 use Rattle.its_player.specs.declared.cache.Looked.{Looked}
 use Rattle.its_player.specs.declared.content.Content.{Content as Value}
-use Rattle.its_player.specs.declared.content.Content.TheVariants.{Maps, Mem, Shard, Redist}
+use Rattle.its_player.specs.declared.content.Content.TheVariants.{Maps, Mem, Shard, Conf, Pend}
 use Rattle.its_player.specs.declared.shared.Shared.{Shared}
 use Rattle.its_player.specs.declared.view.View.{View as Known}
 
@@ -131,4 +131,5 @@ abbrev pub home_slots : Plain → ℕ → List (std.Option Value)
 home_slots u shards =
     map (λ t. std.Some (Maps t)) u.translators
     ++ (std.Some (Mem (record { memory = u.memory; track = u.track }))
-    ∷ (replicate (length u.translators * shards) (std.Some (Shard no_entries)) ++ map (λ r. std.Some (Redist r)) u.redistributors))
+    ∷ (replicate (length u.translators * shards) (std.Some (Shard no_entries))
+    ++ (map (λ r. std.Some (Conf (conf_of r))) u.redistributors ++ map (λ r. std.Some (Pend (pend_of r))) u.redistributors)))

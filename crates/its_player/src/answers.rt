@@ -33,7 +33,7 @@ fn message_of(call: &Call) -> Option<(u8, (DeviceId, EventId))>
     }
 }
 
-// Whether the target's redistributor is held, and tells this of a message for it.
+// Whether what is pending at the target is held, and tells this of a message for it.
 fn target_tells(held: &[Held], signal: Signal, target: Option<Target>) -> bool
     ensures { result ≡ spec.target_tells held.now signal target }
 {
@@ -44,10 +44,10 @@ fn target_tells(held: &[Held], signal: Signal, target: Option<Target>) -> bool
 }
 
 fn tells_in(held: &[Held], signal: Signal, target: Target) -> bool
-    ensures { result ≡ spec.owes_such (Part.Redist target.vcpu) (spec.tells signal target)
+    ensures { result ≡ spec.owes_such (Part.Pend target.vcpu) (spec.tells signal target)
         held.now }
 {
-    held.iter().any(|x| same_part(x.part(), Part::Redist(target.vcpu)) && x.tells(signal, target))
+    held.iter().any(|x| same_part(x.part(), Part::Pend(target.vcpu)) && x.tells(signal, target))
 }
 
 // Whether a shard is held that has a target for a pair under a stamp, and that tells this.
@@ -179,7 +179,7 @@ impl Shared {
         if !holds(held, Part::Shard(its, shard_of(dev, ev, self.shards))) {
             return false;
         }
-        if !holds(held, Part::Redist(target.vcpu)) {
+        if !holds(held, Part::Pend(target.vcpu)) {
             return false;
         }
         goes_to(after, its, dev, ev, target)
@@ -206,7 +206,7 @@ fn translate(state: &State, its: u8, dev: DeviceId, ev: EventId) -> Result<Targe
     };
     let target = translator.locate(dev, ev)?;
     match state.redistributors().get(usize::from(target.vcpu.0)) {
-        Some(redistributor) if redistributor.is_on() => Ok(target),
+        Some(redistributor) if redistributor.accepts() => Ok(target),
         _ => Err(Cause::LpisOff),
     }
 }

@@ -5,7 +5,7 @@ ghost use Rattle.its_player.specs.Held as spec;
 
 use its_plain::{Cause, Signal};
 use its_types::{DeviceId, EventId, Target};
-use plain_machine::{RedistLists, TrackedMemory, TranslatorLists};
+use plain_machine::{ConfLists, PendLists, TrackedMemory, TranslatorLists};
 use std::alloc::{AllocError, Global};
 
 /// What a part contains.
@@ -17,8 +17,10 @@ pub enum Content {
     Mem(TrackedMemory),
     /// A shard of a translator's cache.
     Shard(xlate_cache::Shard),
-    /// What a redistributor knows of LPIs.
-    Redist(RedistLists),
+    /// A redistributor's LPI registers, with its copy of the configuration.
+    Conf(ConfLists),
+    /// Its pending LPIs, and whether it takes LPIs.
+    Pend(PendLists),
 }
 
 impl Content {
@@ -30,7 +32,8 @@ impl Content {
             Content::Maps(translator) => Ok(Content::Maps(translator.copy(alloc)?)),
             Content::Mem(memory) => Ok(Content::Mem(memory.copy(alloc)?)),
             Content::Shard(shard) => Ok(Content::Shard(shard.copy(alloc)?)),
-            Content::Redist(redist) => Ok(Content::Redist(redist.copy(alloc)?)),
+            Content::Conf(conf) => Ok(Content::Conf(conf.copy(alloc)?)),
+            Content::Pend(pend) => Ok(Content::Pend(pend.copy(alloc)?)),
         }
     }
 
@@ -44,12 +47,12 @@ impl Content {
         }
     }
 
-    /// Whether it is a redistributor that tells this of a message for a target.
+    /// Whether it is what is pending at a redistributor that tells this of a message for a target.
     pub fn tells(&self, signal: Signal, target: Target) -> bool
         ensures { result ≡ spec.tells signal target (content_of self.now) }
     {
         match self {
-            Content::Redist(redist) => is_told(signal, target, redist.is_on()),
+            Content::Pend(pend) => is_told(signal, target, pend.accepts()),
             _ => false,
         }
     }

@@ -19,11 +19,12 @@ pub struct Held {
 impl Model for Held {
     ghost use Rattle.its_steps.specs.Contents as steps;
     ghost use Rattle.std.specs.Coded.{codes};
-    ghost use Rattle.its_plain.specs.Plain.{translator_code, redistributor_code};
+    ghost use Rattle.gicr_regs.specs.Redistributors.{conf_code, pend_code};
+    ghost use Rattle.its_plain.specs.Plain.{translator_code};
 
     ghost Value = { steps.Held };
 
-    ghost coded = { Prim.hlevel (codes, translator_code, redistributor_code) };
+    ghost coded = { Prim.hlevel (codes, translator_code, conf_code, pend_code) };
 
     ghost use Rattle.its_player.specs.Contents.{content_of};
 
@@ -80,7 +81,8 @@ impl Held {
         self.owed.target(dev, ev, stamp)
     }
 
-    /// Whether it owes a redistributor that tells this of a message for a target.
+    /// Whether it owes what is pending at a redistributor that tells this of a message for a
+    /// target.
     pub fn tells(&self, signal: Signal, target: Target) -> bool
         ensures { result ≡ spec.tells signal target self.now.owed }
     {

@@ -13,7 +13,8 @@ pub fn same_part(a: Part, b: Part) -> bool
         (Part::Maps(its), Part::Maps(other)) => its == other,
         (Part::Mem, Part::Mem) => true,
         (Part::Shard(its, n), Part::Shard(other, m)) => its == other && n == m,
-        (Part::Redist(vcpu), Part::Redist(other)) => vcpu.0 == other.0,
+        (Part::Conf(vcpu), Part::Conf(other)) => vcpu.0 == other.0,
+        (Part::Pend(vcpu), Part::Pend(other)) => vcpu.0 == other.0,
         _ => false,
     }
 }

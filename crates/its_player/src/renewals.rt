@@ -12,8 +12,8 @@ use crate::held::Held;
 use crate::shared::Shared;
 use its_plain::{Call, Route};
 use its_steps::{Commit, ShardChange};
-use its_types::{Bases, DeviceId, EventId, Part, Word};
-use plain_machine::{RedistLists, State, TranslatorLists};
+use its_types::{DeviceId, EventId, Part, Word};
+use plain_machine::{ConfLists, PendLists, State, TranslatorLists};
 use std::alloc::{AllocError, Global};
 use xlate_cache::{Shard, shard_of};
 
@@ -43,8 +43,11 @@ fn put_in(alloc: Global, state: &mut State, part: Part, content: &Content) -> Re
             state.set_translator(usize::from(its), translator.copy(alloc)?);
         }
         (Part::Mem, Content::Mem(memory)) => state.set_memory(memory.copy(alloc)?),
-        (Part::Redist(vcpu), Content::Redist(redist)) => {
-            state.set_redistributor(usize::from(vcpu.0), redist.copy(alloc)?);
+        (Part::Conf(vcpu), Content::Conf(conf)) => {
+            state.set_conf(usize::from(vcpu.0), conf.copy(alloc)?);
+        }
+        (Part::Pend(vcpu), Content::Pend(pend)) => {
+            state.set_pend(usize::from(vcpu.0), pend.copy(alloc)?);
         }
         _ => {}
     }
@@ -115,11 +118,8 @@ impl Shared {
         match part {
             Part::Maps(its) => Ok(Content::Maps(translator_of(alloc, after, usize::from(its))?)),
             Part::Mem => Ok(Content::Mem(after.memory().copy(alloc)?)),
-            Part::Redist(vcpu) => Ok(Content::Redist(redistributor_of(
-                alloc,
-                after,
-                usize::from(vcpu.0),
-            )?)),
+            Part::Conf(vcpu) => Ok(Content::Conf(conf_of(alloc, after, usize::from(vcpu.0))?)),
+            Part::Pend(vcpu) => Ok(Content::Pend(pend_of(alloc, after, usize::from(vcpu.0))?)),
             Part::Shard(its, number) => {
                 let mut content = before.copy(alloc)?;
                 if let Content::Shard(shard) = &mut content {
@@ -187,11 +187,20 @@ fn translator_of(alloc: Global, state: &State, its: usize) -> Result<TranslatorL
     }
 }
 
-fn redistributor_of(alloc: Global, state: &State, vcpu: usize) -> Result<RedistLists, AllocError>
-    ensures { IfOk result (λ r. r ≡ plain.redistributor state.now vcpu) }
+fn conf_of(alloc: Global, state: &State, vcpu: usize) -> Result<ConfLists, AllocError>
+    ensures { IfOk result (λ c. c ≡ plain.conf_of (plain.redistributor state.now vcpu)) }
 {
     match state.redistributors().get(vcpu) {
-        Some(redist) => Ok(redist.copy(alloc)?),
-        None => Ok(RedistLists::new(alloc, Bases::off(), Vec::new(alloc))),
+        Some(redist) => Ok(redist.conf(alloc)?),
+        None => Ok(ConfLists::none(alloc)),
+    }
+}
+
+fn pend_of(alloc: Global, state: &State, vcpu: usize) -> Result<PendLists, AllocError>
+    ensures { IfOk result (λ p. p ≡ plain.pend_of (plain.redistributor state.now vcpu)) }
+{
+    match state.redistributors().get(vcpu) {
+        Some(redist) => Ok(redist.pend(alloc)?),
+        None => Ok(PendLists::none(alloc)),
     }
 }

@@ -2,6 +2,7 @@
 ghost use Rattle.std.specs.Prelude.{◌≡◌, ◌++◌, ◌∷◌, OnOk, IfOk, map, replicate};
 ghost use Rattle.std.specs.Prelude as std;
 ghost use Rattle.xlate_cache.specs.Ways.{no_entries};
+ghost use Rattle.its_plain.specs.Plain.{conf_of, pend_of};
 ghost use Rattle.its_plain.specs.Sound.{IsSound};
 ghost use Rattle.its_player.specs.Shared.{core_of, home_slots};
 ghost use Rattle.its_steps.specs.Steps.{first_core};
@@ -85,7 +86,8 @@ fn first_slots(
     for _translator in start.translators() {
         add_shards(alloc, &mut slots, shards)?;
     }
-    add_redists(alloc, &mut slots, start.redistributors())?;
+    add_confs(alloc, &mut slots, start.redistributors())?;
+    add_pends(alloc, &mut slots, start.redistributors())?;
     Ok(slots)
 }
 
@@ -117,16 +119,30 @@ fn add_shards(
     Ok(())
 }
 
-fn add_redists(
+fn add_confs(
     alloc: Global,
     slots: &mut Vec<Option<Content>>,
     redists: &[RedistLists],
 ) -> Result<(), AllocError>
-    ensures { OnOk result
-        (slots.new.items ≡ slots.old.items ++ map (λ r. std.Some (Content.Redist r)) redists.now) }
+    ensures { OnOk result (slots.new.items
+        ≡ slots.old.items ++ map (λ r. std.Some (Content.Conf (conf_of r))) redists.now) }
 {
     for redist in redists {
-        slots.push(Some(Content::Redist(redist.copy(alloc)?)))?;
+        slots.push(Some(Content::Conf(redist.conf(alloc)?)))?;
+    }
+    Ok(())
+}
+
+fn add_pends(
+    alloc: Global,
+    slots: &mut Vec<Option<Content>>,
+    redists: &[RedistLists],
+) -> Result<(), AllocError>
+    ensures { OnOk result (slots.new.items
+        ≡ slots.old.items ++ map (λ r. std.Some (Content.Pend (pend_of r))) redists.now) }
+{
+    for redist in redists {
+        slots.push(Some(Content::Pend(redist.pend(alloc)?)))?;
     }
     Ok(())
 }

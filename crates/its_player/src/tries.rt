@@ -27,8 +27,11 @@ impl Shared {
             Part::Shard(its, number) if usize::from(its) < translators && number < self.shards => {
                 Some(translators + 1 + (usize::from(its) * shards + number as usize))
             }
-            Part::Redist(vcpu) if usize::from(vcpu.0) < vcpus => {
+            Part::Conf(vcpu) if usize::from(vcpu.0) < vcpus => {
                 Some(translators + 1 + translators * shards + usize::from(vcpu.0))
+            }
+            Part::Pend(vcpu) if usize::from(vcpu.0) < vcpus => {
+                Some(translators + 1 + translators * shards + vcpus + usize::from(vcpu.0))
             }
             _ => None,
         }

@@ -23,11 +23,12 @@ pub struct World {
 impl Model for World {
     ghost use Rattle.its_steps.specs.Steps.{Core, IsGoodCore};
     ghost use Rattle.std.specs.Coded.{codes};
-    ghost use Rattle.its_plain.specs.Plain.{plain_code, translator_code, redistributor_code};
+    ghost use Rattle.gicr_regs.specs.Redistributors.{conf_code, pend_code};
+    ghost use Rattle.its_plain.specs.Plain.{plain_code, translator_code};
 
     ghost Value = { Core };
 
-    ghost coded = { Prim.hlevel (codes, plain_code, translator_code, redistributor_code) };
+    ghost coded = { Prim.hlevel (codes, plain_code, translator_code, conf_code, pend_code) };
 
     ghost use Rattle.std.specs.Prelude.{◌≤◌};
     ghost use Rattle.its_player.specs.Shared.{core_of};

@@ -15,7 +15,7 @@ use Rattle.its_types.specs.declared.machine.Shape.{Shape}
 use Rattle.its_types.specs.declared.machine.Word.{Word}
 use Rattle.its_plain.specs.Answer.{reply_of, left}
 use Rattle.its_plain.specs.Parts.{footprint, write_parts}
-use Rattle.its_plain.specs.Plain.{Plain, Redistributor, ConfState, PendState, conf_of, pend_of, with_conf, joined, redistributor, no_redistributor}
+use Rattle.its_plain.specs.Plain.{Plain, Redistributor, ConfState, PendState, conf_of, with_conf, joined, redistributor, no_redistributor}
 use Rattle.its_plain.specs.Plain.{with_redistributor}
 use Rattle.its_plain.specs.declared.call.Call.{Call}
 use Rattle.its_plain.specs.declared.call.Call.TheVariants as call
@@ -27,7 +27,7 @@ use Rattle.its_steps.specs.Good.{Holds, Apart}
 use Rattle.its_steps.specs.MayCall.{IsAnswered, MayCall}
 use Rattle.its_steps.specs.MayCommit.{IsOut}
 use Rattle.its_steps.specs.Parts.{Setup, HasVcpus, Stands, vcpu_count}
-use Rattle.its_steps.specs.Renewal.{assembled, renewal}
+use Rattle.its_steps.specs.Renewal.{assembled}
 use Rattle.its_steps.specs.World.{out}
 use Rattle.its_steps.specs.declared.change.ShardChange.TheVariants as change
 use Rattle.its_steps.proofs.Calm.{calm_may}

@@ -1,5 +1,5 @@
 -- A redistributor's parts, put into a state: each is there, and the other is what it was.
-use Rattle.std.proofs.Common.{◌≡◌, ℕ, ◌<◌, List, [], ◌∷◌, length, ap, ◌∙◌, inl, inr, arith, length-set, get_or-set_same}
+use Rattle.std.proofs.Common.{◌≡◌, ℕ, ◌<◌, List, ◌∷◌, length, ap, ◌∙◌, inl, inr, arith, length-set, get_or-set_same}
 use Rattle.its_types.specs.declared.ids.Vcpu.{Vcpu}
 use Rattle.its_types.specs.declared.machine.Part.TheVariants as part
 use Rattle.its_plain.specs.Plain.{Plain, Redistributor, ConfState, PendState, conf_of, pend_of, with_conf, with_pend, joined, redistributor, no_redistributor}

@@ -61,6 +61,7 @@ impl RedistLists {
         Ok(RedistLists {
             bases: self.bases,
             pending: Vec::from_slice(alloc, &self.pending)?,
+            accepts: self.accepts,
             config: Vec::from_slice(alloc, &self.config)?,
         })
     }

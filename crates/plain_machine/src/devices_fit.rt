@@ -1,5 +1,5 @@
 //! Where the frames of the translators stand, and which devices write by address.
-ghost use Rattle.std.specs.Prelude.{◌≡◌, ◌≤◌, ◌+◌, ◌^◌, [], length};
+ghost use Rattle.std.specs.Prelude.{◌≡◌, ◌≤◌, ◌+◌, ◌^◌, ◌++◌, [], length};
 ghost use Rattle.std.specs.List.{list_any};
 ghost use Rattle.guest_windows.specs.Fields.{pairs};
 ghost use Rattle.its_plain.specs.Machine as spec;
@@ -16,42 +16,50 @@ const FRAMES: u64 = 131_072;
 // All addresses lie below this one.
 const END: u64 = 1 << 52;
 
-/// Each translator's frames fit beside the windows and the frames before them, or the first whose
+/// Each translator's frames fit beside the windows and the frames of the others, or the first whose
 /// frames don't.
-pub fn all_frames_fit(
-    alloc: Global,
-    windows: &[(Addr, u64)],
-    translators: &[Its],
-) -> Result<(), MakeError>
+pub fn all_frames_fit(windows: &[(Addr, u64)], translators: &[Its]) -> Result<(), DescFault>
     requires { length translators.now ≤ 256 }
-    ensures { IsChecked result (spec.all_frames_fit (pairs windows.now) 0 translators.now) }
+    ensures { result ≡ spec.all_frames_fit (pairs windows.now) 0 translators.now }
 {
-    let mut taken = Vec::from_slice(alloc, windows)?;
-    take_all(&mut taken, translators)
-}
-
-// The same beside stretches that are taken, to which the frames are added.
-fn take_all(taken: &mut Vec<(Addr, u64)>, translators: &[Its]) -> Result<(), MakeError>
-    requires { length translators.now ≤ 256 }
-    ensures { IsChecked result
-        (spec.all_frames_fit (pairs taken.old.items) 0 translators.now) }
-{
-    for (its, translator) in translators.iter().enumerate() {
+    let mut rest = translators;
+    let mut its: usize = 0;
+    while let [translator, later @ ..] = rest {
         if let Some(base) = translator.frames {
-            if !frames_fit(taken, base) {
-                return Err(MakeError::Fault(DescFault::Frames(its as u8)));
+            if !frames_fit(windows, later, base) {
+                return Err(DescFault::Frames(its as u8));
             }
-            taken.insert(0, (base, FRAMES))?;
         }
+        rest = later;
+        its += 1;
     }
     Ok(())
 }
 
-// Frames lie below 2^52, and share no byte with one of the stretches.
-fn frames_fit(taken: &[(Addr, u64)], base: Addr) -> bool
-    ensures { result ≡ spec.frames_fit (pairs taken.now) base }
+// Frames lie below 2^52, and share no byte with one of the windows or with the frames of the
+// translators after them.
+fn frames_fit(windows: &[(Addr, u64)], later: &[Its], base: Addr) -> bool
+    ensures { result
+        ≡ spec.frames_fit (spec.frames_of later.now ++ pairs windows.now) base }
 {
-    base.0 <= END - FRAMES && !shares_any(taken, base)
+    base.0 <= END - FRAMES && !(shares_frames(later, base) || shares_any(windows, base))
+}
+
+// They share a byte with the frames of one of the translators.
+fn shares_frames(translators: &[Its], base: Addr) -> bool
+    ensures { result
+        ≡ list_any (spec.share (base.0, frames_size)) (spec.frames_of translators.now) }
+{
+    let mut rest = translators;
+    while let [translator, others @ ..] = rest {
+        if let Some(other) = translator.frames {
+            if share(base, other, FRAMES) {
+                return true;
+            }
+        }
+        rest = others;
+    }
+    false
 }
 
 // They share a byte with one of them.

@@ -4,10 +4,11 @@ ghost use Rattle.its_types.specs.declared.machine.Part.TheVariants as part;
 ghost use Rattle.its_plain.specs.Parts as parts;
 
 use crate::state::State;
+use gicr_regs::{GicrWrite, asked_by};
 use gits_regs::Regs;
 use its_command::{Command, decode};
 use its_plain::{Call, Route};
-use its_types::{DeviceId, EventId, Icid, Part, Profile, Vcpu};
+use its_types::{Bases, DeviceId, EventId, Icid, Part, Profile, Vcpu};
 use std::alloc::{AllocError, Global};
 
 impl State {
@@ -16,6 +17,7 @@ impl State {
     ghost use Rattle.its_types.specs.declared.machine.Part.TheVariants as part;
     ghost use Rattle.std.specs.Option.{option_map};
     ghost use Rattle.its_types.specs.Maps as maps;
+    ghost use Rattle.gicr_regs.specs.Registers as registers;
     ghost use Rattle.its_plain.specs.Plain as plain;
     ghost use Rattle.its_plain.specs.Parts as parts;
     ghost use Rattle.its_plain.specs.Translation as translation;
@@ -40,14 +42,19 @@ impl State {
             Call::Take(vcpu)
             | Call::Show(vcpu)
             | Call::Best { vcpu, .. }
-            | Call::Claim { vcpu, .. } => add_part(found, Part::Redist(vcpu)),
+            | Call::Claim { vcpu, .. } => add_redistributor(found, vcpu),
             Call::Poke { .. } | Call::Peek { .. } | Call::Copy => add_part(found, Part::Mem),
             Call::Dma { route, .. } => self.add_route_parts(found, route),
             Call::ReadReg { its, .. } | Call::WriteReg { its, .. } => {
                 add_part(found, Part::Maps(its))
             }
-            Call::ReadGicr { vcpu, .. } => add_part(found, Part::Redist(vcpu)),
-            Call::WriteGicr { vcpu, .. } => add_memory_and_redist(found, vcpu),
+            Call::ReadGicr { vcpu, .. } => add_part(found, Part::Conf(vcpu)),
+            Call::WriteGicr {
+                vcpu,
+                off,
+                size,
+                value,
+            } => self.add_write_parts(found, vcpu, off, size, value),
             Call::Step { its } => self.add_step_parts(found, its),
             Call::Save => self.add_every_part(found),
         }
@@ -65,11 +72,41 @@ impl State {
     fn add_every_part(&self, found: &mut Vec<Part>) -> Result<(), AllocError>
         ensures { OnOk result (found.new.items
             ≡ found.old.items ++ part.Mem ∷ parts.translators_below (length self.now.translators)
-            ++ parts.redists_below (length self.now.redistributors)) }
+            ++ parts.confs_below (length self.now.redistributors)
+            ++ parts.pends_below (length self.now.redistributors)) }
     {
         add_part(found, Part::Mem)?;
         add_translators(found, self.translators.len())?;
-        add_redists(found, self.redistributors.len())
+        add_confs(found, self.redistributors.len())?;
+        add_pends(found, self.redistributors.len())
+    }
+
+    // Those of a write of a redistributor's LPI registers, by what it asks for.
+    fn add_write_parts(
+        &self,
+        found: &mut Vec<Part>,
+        vcpu: Vcpu,
+        off: u32,
+        size: u8,
+        value: u64,
+    ) -> Result<(), AllocError>
+        ensures { OnOk result (found.new.items
+            ≡ found.old.items ++ part.Conf vcpu ∷ parts.write_parts vcpu
+            (registers.asked_by (plain.redistributor self.now vcpu.0).bases off size value)) }
+    {
+        add_part(found, Part::Conf(vcpu))?;
+        add_parts_of_write(found, vcpu, asked_by(&self.bases(vcpu), off, size, value))
+    }
+
+    // The LPI registers of a virtual processor's redistributor, or those of none.
+    fn bases(&self, vcpu: Vcpu) -> Bases
+        ensures bases { result ≡ (plain.redistributor self.now vcpu.0).bases }
+        ensures low { registers.AreLow result }
+    {
+        match self.redistributors.get(usize::from(vcpu.0)) {
+            Some(redist) => redist.bases,
+            None => Bases::off(),
+        }
     }
 
     fn add_signal_parts(
@@ -83,7 +120,7 @@ impl State {
             (found.new.items ≡ found.old.items ++ parts.signal_parts self.now its dev.0 ev.0) }
     {
         add_part(found, Part::Maps(its))?;
-        add_redist_of(found, self.located_vcpu(its, dev, ev))
+        add_pend_at(found, self.located_vcpu(its, dev, ev))
     }
 
     fn add_route_parts(&self, found: &mut Vec<Part>, route: Route) -> Result<(), AllocError>
@@ -139,11 +176,11 @@ impl State {
     {
         match *command {
             Command::Movi { dev, ev, icid } => {
-                add_redist_of(found, self.target_of_event(its, dev, ev))?;
-                add_redist_of(found, self.collection(its, icid))
+                add_pend_at(found, self.target_of_event(its, dev, ev))?;
+                add_pend_at(found, self.collection(its, icid))
             }
             Command::Int { dev, ev } | Command::Clear { dev, ev } | Command::Discard { dev, ev } =>
-                { add_redist_of(found, self.target_of_event(its, dev, ev)) }
+                { add_pend_at(found, self.target_of_event(its, dev, ev)) }
             Command::Mapc {
                 icid,
                 target,
@@ -153,7 +190,7 @@ impl State {
             Command::Mapti { .. }
             | Command::Mapi { .. }
             | Command::Inv { .. }
-            | Command::Invall { .. } => add_redists(found, usize::from(self.layout.shape.vcpus)),
+            | Command::Invall { .. } => add_confs(found, usize::from(self.layout.shape.vcpus)),
             Command::Mapc { .. }
             | Command::Mapd { .. }
             | Command::Sync { .. }
@@ -200,8 +237,8 @@ impl State {
         if from >= vcpus || to >= vcpus {
             return Ok(());
         }
-        add_part(found, Part::Redist(Vcpu(from as u8)))?;
-        add_part(found, Part::Redist(Vcpu(to as u8)))
+        add_part(found, Part::Pend(Vcpu(from as u8)))?;
+        add_part(found, Part::Pend(Vcpu(to as u8)))
     }
 }
 
@@ -214,20 +251,36 @@ fn add_part(found: &mut Vec<Part>, part: Part) -> Result<(), AllocError>
     Ok(())
 }
 
-fn add_memory_and_redist(found: &mut Vec<Part>, vcpu: Vcpu) -> Result<(), AllocError>
+// Both parts of a redistributor.
+fn add_redistributor(found: &mut Vec<Part>, vcpu: Vcpu) -> Result<(), AllocError>
     ensures { OnOk result
-        (found.new.items ≡ found.old.items ++ part.Mem ∷ part.Redist vcpu ∷ []) }
+        (found.new.items ≡ found.old.items ++ parts.redistributor_parts vcpu) }
 {
-    add_part(found, Part::Mem)?;
-    add_part(found, Part::Redist(vcpu))
+    add_part(found, Part::Conf(vcpu))?;
+    add_part(found, Part::Pend(vcpu))
 }
 
-fn add_redist_of(found: &mut Vec<Part>, vcpu: Option<Vcpu>) -> Result<(), AllocError>
-    ensures { OnOk result (found.new.items ≡ found.old.items ++ parts.redist_of vcpu) }
+fn add_pend_at(found: &mut Vec<Part>, vcpu: Option<Vcpu>) -> Result<(), AllocError>
+    ensures { OnOk result (found.new.items ≡ found.old.items ++ parts.pend_at vcpu) }
 {
     match vcpu {
-        Some(vcpu) => add_part(found, Part::Redist(vcpu)),
+        Some(vcpu) => add_part(found, Part::Pend(vcpu)),
         None => Ok(()),
+    }
+}
+
+// Memory where tables are read, and what is pending where LPIs are turned on or off.
+fn add_parts_of_write(found: &mut Vec<Part>, vcpu: Vcpu, write: GicrWrite) -> Result<(), AllocError>
+    ensures { OnOk result (found.new.items ≡ found.old.items ++ parts.write_parts vcpu write) }
+{
+    match write {
+        GicrWrite::Enable => {
+            add_part(found, Part::Mem)?;
+            add_part(found, Part::Pend(vcpu))
+        }
+        GicrWrite::Disable => add_part(found, Part::Pend(vcpu)),
+        GicrWrite::Reread(_) | GicrWrite::RereadAll => add_part(found, Part::Mem),
+        GicrWrite::Ignored | GicrWrite::SetBases(_) => Ok(()),
     }
 }
 
@@ -243,8 +296,8 @@ fn add_moved_targets(
 {
     match (profile, before) {
         (Profile::Two, Some(from)) if from.0 != to.0 => {
-            add_part(found, Part::Redist(from))?;
-            add_part(found, Part::Redist(to))
+            add_part(found, Part::Pend(from))?;
+            add_part(found, Part::Pend(to))
         }
         _ => Ok(()),
     }
@@ -260,12 +313,22 @@ fn add_translators(found: &mut Vec<Part>, count: usize) -> Result<(), AllocError
     Ok(())
 }
 
-fn add_redists(found: &mut Vec<Part>, count: usize) -> Result<(), AllocError>
+fn add_confs(found: &mut Vec<Part>, count: usize) -> Result<(), AllocError>
     requires { count ≤ 256 }
-    ensures { OnOk result (found.new.items ≡ found.old.items ++ parts.redists_below count) }
+    ensures { OnOk result (found.new.items ≡ found.old.items ++ parts.confs_below count) }
 {
     for vcpu in 0..count {
-        add_part(found, Part::Redist(Vcpu(vcpu as u8)))?;
+        add_part(found, Part::Conf(Vcpu(vcpu as u8)))?;
+    }
+    Ok(())
+}
+
+fn add_pends(found: &mut Vec<Part>, count: usize) -> Result<(), AllocError>
+    requires { count ≤ 256 }
+    ensures { OnOk result (found.new.items ≡ found.old.items ++ parts.pends_below count) }
+{
+    for vcpu in 0..count {
+        add_part(found, Part::Pend(Vcpu(vcpu as u8)))?;
     }
     Ok(())
 }

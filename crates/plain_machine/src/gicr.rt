@@ -106,6 +106,7 @@ impl RedistLists {
         }
         self.read_config(alloc, memory, shape)?;
         self.bases.on = true;
+        self.accepts = true;
         Ok(())
     }
 
@@ -117,6 +118,7 @@ impl RedistLists {
         self.config = vec![in alloc; 0; shape.lpi_count() as usize]?;
         self.pending = Vec::new(alloc);
         self.bases.on = false;
+        self.accepts = false;
         Ok(())
     }
 

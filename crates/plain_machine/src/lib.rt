@@ -17,6 +17,7 @@ mod moving;
 mod pages;
 mod parts;
 mod redist;
+mod redist_parts;
 mod redists;
 mod refusal;
 mod rising_lists;
@@ -31,6 +32,7 @@ mod tracked_memory;
 mod translator;
 
 pub use redist::RedistLists;
+pub use redist_parts::{ConfLists, PendLists};
 pub use state::State;
 pub use tracked_memory::TrackedMemory;
 pub use translator::TranslatorLists;

@@ -54,7 +54,7 @@ fn fill_and_read(
 {
     tables_inside(&desc.tables, memory, &desc.shape)?;
     fill(memory, desc.fills.as_slice())?;
-    all_frames_fit(alloc, desc.windows.as_slice(), desc.translators.as_slice())?;
+    all_frames_fit(desc.windows.as_slice(), desc.translators.as_slice())?;
     all_new(alloc, desc.requesters.as_slice())?;
     first_redistributors(alloc, &desc.tables, memory, &desc.shape)
 }

@@ -1,5 +1,6 @@
 //! A state taken apart and put together again.
 use crate::redist::RedistLists;
+use crate::redist_parts::{ConfLists, PendLists};
 use crate::state::State;
 use crate::tracked_memory::TrackedMemory;
 use crate::translator::TranslatorLists;
@@ -49,13 +50,25 @@ impl State {
         }
     }
 
-    /// Puts another redistributor at a virtual processor. Where there is no such processor nothing
-    /// changes.
-    pub fn set_redistributor(&mut self, vcpu: usize, redistributor: RedistLists)
-        ensures { self.new ≡ plain.with_redistributor self.old vcpu redistributor }
+    /// Puts other LPI registers in at a virtual processor, with the configuration. Where there is
+    /// no such processor nothing changes.
+    pub fn set_conf(&mut self, vcpu: usize, conf: ConfLists)
+        ensures { self.new ≡ plain.with_redistributor self.old vcpu
+            (plain.with_conf conf (plain.redistributor self.old vcpu)) }
     {
         if vcpu < self.redistributors.len() {
-            self.redistributors[vcpu] = redistributor;
+            self.redistributors[vcpu].set_conf(conf);
+        }
+    }
+
+    /// Puts another pending set in at a virtual processor. Where there is no such processor nothing
+    /// changes.
+    pub fn set_pend(&mut self, vcpu: usize, pend: PendLists)
+        ensures { self.new ≡ plain.with_redistributor self.old vcpu
+            (plain.with_pend pend (plain.redistributor self.old vcpu)) }
+    {
+        if vcpu < self.redistributors.len() {
+            self.redistributors[vcpu].set_pend(pend);
         }
     }
 

@@ -22,6 +22,7 @@ use std::marker::Model;
 pub struct RedistLists {
     pub(crate) bases: Bases,
     pub(crate) pending: Vec<u32>,
+    pub(crate) accepts: bool,
     pub(crate) config: Vec<u8>,
 }
 
@@ -36,6 +37,7 @@ impl Model for RedistLists {
     ghost view = { λ r. record {
       bases = r.bases;
       pending = r.pending.items;
+      accepts = r.accepts;
       config = r.config.items;
     } };
 
@@ -43,24 +45,30 @@ impl Model for RedistLists {
 }
 
 impl RedistLists {
-    /// Nothing is pending.
+    /// Nothing is pending, and LPIs are taken where they are on.
     pub fn new(alloc: Global, bases: Bases, config: Vec<u8>) -> RedistLists
         requires config { bases.prop.table.0 < 2 ^ 52 }
         requires pending { bases.pend.table.0 < 2 ^ 52 }
-        ensures { result ≡ record { bases = bases; pending = []; config = config.items } }
+        ensures { result ≡ record {
+          bases = bases;
+          pending = [];
+          accepts = bases.on;
+          config = config.items;
+        } }
     {
         RedistLists {
             bases,
             pending: Vec::new(alloc),
+            accepts: bases.on,
             config,
         }
     }
 
-    /// Whether LPIs are on (IHI 0069, section 12.11, GICR_CTLR.EnableLPIs).
-    pub fn is_on(&self) -> bool
-        ensures { result ≡ self.now.bases.on }
+    /// Whether it takes LPIs: whether they are on (IHI 0069, section 12.11, GICR_CTLR.EnableLPIs).
+    pub fn accepts(&self) -> bool
+        ensures { result ≡ self.now.accepts }
     {
-        self.bases.on
+        self.accepts
     }
 
     /// Whether an LPI is pending.
@@ -264,7 +272,7 @@ impl RedistLists {
     }
 
     /// Reads an LPI's configuration byte again, if LPIs are on.
-    #[tactic(auto, unfolding(gicr_regs::specs::Redistributors::reread_at))]
+    #[tactic(auto, unfolding(gicr_regs::specs::Redistributors::conf_reread_at))]
     pub(crate) fn reread(&mut self, memory: &Memory, intid: u32)
         ensures { self.new ≡ commands.reread_at memory.now intid self.old }
     {
@@ -287,7 +295,7 @@ impl RedistLists {
         requires least { 14 ≤ shape.now.lpi_bits }
         requires most { shape.now.lpi_bits ≤ 20 }
         ensures { OnOk result (self.new
-            ≡ record self.old { config = tables.config_in shape.now memory.now self.old }) }
+            ≡ record self.old { config = tables.config_in shape.now memory.now (tables.conf_of self.old) }) }
     {
         let mut bytes = vec![in alloc; 0; shape.lpi_count() as usize]?;
         if memory.read(self.bases.prop.table, &mut bytes).is_ok() {

@@ -121,10 +121,10 @@ pub fn claim_at(all: &mut [RedistLists], vcpu: u64, intid: u32) -> Ack
 
 /// Whether LPIs are on at a virtual processor.
 pub fn is_on_at(all: &[RedistLists], vcpu: u64) -> bool
-    ensures { result ≡ (redistributor_in all.now vcpu).bases.on }
+    ensures { result ≡ (redistributor_in all.now vcpu).accepts }
 {
     match all.get(vcpu as usize) {
-        Some(redist) => redist.is_on(),
+        Some(redist) => redist.accepts(),
         None => false,
     }
 }

@@ -6,14 +6,14 @@ use Rattle.device_port.proofs.Handed.{three_by_number, number_inside}
 use Rattle.its_steps.proofs.Signals.{offs}
 use Rattle.its_steps.specs.declared.change.ShardChange.TheVariants.{Keep}
 use Rattle.its_turns.proofs.Telling.{may_here, owes_here}
-use Rattle.owned_parts.specs.Owned.{redistributor_of, translator_of}
+use Rattle.owned_parts.specs.Owned.{pend_state, translator_of}
 use Rattle.its_turns.specs.Machines.{setup, view}
 use Rattle.device_port.specs.Hands.{three_held}
 use Rattle.device_port.proofs.finish.off_signal.Goals as goal
 
 pub try_commit-requires-clause-may : goal.try_commit-requires-clause-may
 try_commit-requires-clause-may g c = let m = c.args.machine.now in let s = setup m in let t = c.args.maps.value in let h = c.args.hand in let r =
-    redistributor_of h.redist.value in let call = c.args.call.now in let message = c.args.message in let its = message.its in let dev = message.dev in
+    pend_state h.pend.value in let call = c.args.call.now in let message = c.args.message in let its = message.its in let dev = message.dev in
     let ev = message.ev in let y = view c.args.pass.now in
     let held = three_held its (shard_number dev.0 ev.0 s.shards) h.target.vcpu t h.shard r in
     may_here s call (reply.Signal (Dropped LpisOff)) Keep held (λ _. held)
@@ -24,7 +24,7 @@ try_commit-requires-clause-may g c = let m = c.args.machine.now in let s = setup
 
 pub put_three-requires-clause-held : goal.put_three-requires-clause-held
 put_three-requires-clause-held g c = let m = c.args.machine.now in let s = setup m in let t = c.args.maps.value in let h = c.args.hand in let r =
-    redistributor_of h.redist.value in let call = c.args.call.now in let message = c.args.message in let its = message.its in let dev = message.dev in
+    pend_state h.pend.value in let call = c.args.call.now in let message = c.args.message in let its = message.its in let dev = message.dev in
     let ev = message.ev in let y = view c.args.pass.now in
     let held = three_held its (shard_number dev.0 ev.0 s.shards) h.target.vcpu t h.shard r in
     rw (c.requires.hand.number_is) (owes_here s call (reply.Signal (Dropped LpisOff)) Keep held (λ _. held)

@@ -1,12 +1,12 @@
 use Rattle.std.proofs.Common.{rules, ◌∙◌, ap, subst}
 use Rattle.its_types.specs.declared.machine.Part.TheVariants as part
-use Rattle.owned_parts.specs.Owned.{redistributor_of}
+use Rattle.owned_parts.specs.Owned.{pend_state}
 use Rattle.its_steps.specs.Contents.{Shard}
 use Rattle.its_steps.specs.Parts.{Setup, stamp_of}
 use Rattle.its_steps.specs.World.{View}
 use Rattle.its_turns.specs.Machines.{setup, view}
 use Rattle.its_turns.specs.Told.{HasStood}
-use Rattle.device_port.proofs.Cached.{busy_shard, missed_now, busy_redist, hit_now}
+use Rattle.device_port.proofs.Cached.{busy_shard, missed_now, busy_pend, hit_now}
 use Rattle.device_port.proofs.Targets.{cached_target}
 use Rattle.device_port.proofs.hits.try_send.Goals as goal
 
@@ -27,18 +27,18 @@ returns-in_default-find-clause-answer g c =
     (view c.try_take_shard.new.pass) c.in-Ok-try_take_shard.shard took
     (view c.put.new.pass) (search rules) c.put.ensures.view).0
 
-pub returns-in-Err-try_take_redist-clause-answer : goal.returns-in-Err-try_take_redist-clause-answer
-returns-in-Err-try_take_redist-clause-answer g c =
+pub returns-in-Err-try_take_pend-clause-answer : goal.returns-in-Err-try_take_pend-clause-answer
+returns-in-Err-try_take_pend-clause-answer g c =
     let m = c.args.machine.now in let s = setup m in let v = view c.args.pass.now in let v1 = view c.begin.new.pass in let w = c.in-Ok.word in let looks =
     c.in-Ok.ensures.word.0 in let is = c.shard_of-number.ensures.number in
     let took = rw (is) at c.in-Ok-try_take_shard.ensures.result.view in
-    (busy_redist s c.args.call.now c.args.message v v1 w c.requires.of.1 c.requires.free looks c.in-Ok.ensures.word.1
+    (busy_pend s c.args.call.now c.args.message v v1 w c.requires.of.1 c.requires.free looks c.in-Ok.ensures.word.1
     (view c.try_take_shard.new.pass) c.in-Ok-try_take_shard.shard took
-    c.in-Some.target c.in-Err-try_take_redist.busy (view c.put-in-Err-try_take_redist.new.pass) (view c.try_take_redist.new.pass)
-    (search rules) c.in-Err-try_take_redist.ensures.result c.put-in-Err-try_take_redist.ensures.view).0
+    c.in-Some.target c.in-Err-try_take_pend.busy (view c.put-in-Err-try_take_pend.new.pass) (view c.try_take_pend.new.pass)
+    (search rules) c.in-Err-try_take_pend.ensures.result c.put-in-Err-try_take_pend.ensures.view).0
 
-pub try_take_redist-requires-clause-stands : goal.try_take_redist-requires-clause-stands
-try_take_redist-requires-clause-stands g c =
+pub try_take_pend-requires-clause-stands : goal.try_take_pend-requires-clause-stands
+try_take_pend-requires-clause-stands g c =
     let m = c.args.machine.now in let s = setup m in let v = view c.args.pass.now in let v1 = view c.begin.new.pass in let w = c.in-Ok.word in let looks =
     c.in-Ok.ensures.word.0 in let is = c.shard_of-number.ensures.number in
     let stood = subst (λ (z : Setup). HasStood z (part.Shard c.args.message.its c.shard_of-number.result) (Shard c.in-Ok-try_take_shard.shard))
@@ -61,7 +61,7 @@ hit-requires-clause-hand g c =
         vcpu = target.vcpu;
         lpi = target.lpi;
         lpis =
-            c.in-Ok-try_take_redist.ensures.result.1;
+            c.in-Ok-try_take_pend.ensures.result.1;
       };
     }
 
@@ -69,8 +69,8 @@ pub returns-clause-answer : goal.returns-clause-answer
 returns-clause-answer g c =
     let m = c.args.machine.now in let s = setup m in let v = view c.args.pass.now in let v1 = view c.begin.new.pass in let w = c.in-Ok.word in let looks =
     c.in-Ok.ensures.word.0 in let is = c.shard_of-number.ensures.number in
-    let took = rw (is) at c.in-Ok-try_take_shard.ensures.result.view in let r = redistributor_of c.in-Ok-try_take_redist.redist.value in
+    let took = rw (is) at c.in-Ok-try_take_shard.ensures.result.view in let r = pend_state c.in-Ok-try_take_pend.pend.value in
     (hit_now s c.args.call.now c.args.message v v1 w c.requires.of.1 c.requires.free looks c.in-Ok.ensures.word.1
     (view c.try_take_shard.new.pass) c.in-Ok-try_take_shard.shard took
-    (view c.try_take_redist.new.pass) c.in-Some.target r (search rules)
-    c.in-Ok-try_take_redist.ensures.result.0.view (view c.hit.new.pass) c.hit.result c.hit.ensures.answer).0
+    (view c.try_take_pend.new.pass) c.in-Some.target r (search rules)
+    c.in-Ok-try_take_pend.ensures.result.0.view (view c.hit.new.pass) c.hit.result c.hit.ensures.answer).0

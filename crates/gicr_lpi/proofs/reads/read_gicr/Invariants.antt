@@ -6,5 +6,5 @@ use Rattle.gicr_lpi.proofs.reads.read_gicr.Given as goal
 
 abbrev pub invariant-loop : goal.invariant-loop
 invariant-loop g l =
-    (goal.iterator-loop g).can_next l.iterator' × (goal.iterator-loop g).is_finite l.iterator' × IsOf l.machine l.pass × StillAsks (λ p. p ≡ part.Redist l.vcpu)
+    (goal.iterator-loop g).can_next l.iterator' × (goal.iterator-loop g).is_finite l.iterator' × IsOf l.machine l.pass × StillAsks (λ p. p ≡ part.Conf l.vcpu)
     (view l.fn.pass) (view l.pass)

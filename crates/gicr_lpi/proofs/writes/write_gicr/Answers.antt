@@ -1,17 +1,17 @@
 use Rattle.its_plain.specs.declared.call.Call.TheVariants as call
 use Rattle.its_plain.specs.declared.call.Reply.TheVariants as reply
-use Rattle.its_turns.specs.Machines.{view}
-use Rattle.gicr_lpi.specs.Accesses.{IsOfWrite}
+use Rattle.its_turns.specs.Machines.{setup, view}
+use Rattle.gicr_lpi.specs.Accesses.{access, IsOfWrite}
 use Rattle.gicr_lpi.proofs.Asked.{again, asked_made, asked_spent}
 use Rattle.gicr_lpi.proofs.writes.write_gicr.Goals as goal
 
 pub returns-in-Ok-clause-answer : goal.returns-in-Ok-clause-answer
 returns-in-Ok-clause-answer g c = let x = c.in-Ok.placed in
-    asked_made (IsOfWrite c.args.vcpu) (view c.args.pass.now) (view c.loop.pass) c.loop.invariant.3
+    asked_made (IsOfWrite (setup c.args.machine.now) (access c.args.vcpu c.args.off c.args.size c.args.value)) (view c.args.pass.now) (view c.loop.pass) c.loop.invariant.3
     (call.WriteGicr c.args.vcpu c.args.off c.args.size c.args.value) reply.Ok x.place (view c.write_once.new.pass) c.in-Ok.ensures.answer
 
 pub returns-in-Err-Spent-clause-answer : goal.returns-in-Err-Spent-clause-answer
-returns-in-Err-Spent-clause-answer g c = asked_spent (IsOfWrite c.args.vcpu) (view c.args.pass.now) (view c.loop.pass) c.loop.invariant.3
+returns-in-Err-Spent-clause-answer g c = asked_spent (IsOfWrite (setup c.args.machine.now) (access c.args.vcpu c.args.off c.args.size c.args.value)) (view c.args.pass.now) (view c.loop.pass) c.loop.invariant.3
     (view c.write_once.new.pass) (rw (c.in-Err-Spent.field-0-is) at c.in-Err-Spent.ensures.answer)
 
 pub loop-preserved : goal.loop-preserved
@@ -19,6 +19,6 @@ loop-preserved g c = (
   tt,
   tt,
   c.write_once.ensures.of,
-  again (IsOfWrite c.args.vcpu) (view c.args.pass.now) (view c.loop.pass) c.loop.invariant.3 (view c.write_once.new.pass)
+  again (IsOfWrite (setup c.args.machine.now) (access c.args.vcpu c.args.off c.args.size c.args.value)) (view c.args.pass.now) (view c.loop.pass) c.loop.invariant.3 (view c.write_once.new.pass)
       (rw (c.in-Err-Raced.field-0-is) at c.in-Err-Raced.ensures.answer).0,
 )

@@ -1,8 +1,15 @@
 use Rattle.std.proofs.Common.{ap, ◌∙◌, nat_lt}
+use Rattle.lpi_pending.specs.InHand.{HasLpisOfConf, HasLpisOfPend}
 use Rattle.its_turns.specs.Machines.{setup}
-use Rattle.held_parts.proofs.Wholes.{all_is_set, whole_all}
+use Rattle.held_parts.proofs.Wholes.{all_is_set, whole_confs, whole_pends}
 use Rattle.held_parts.proofs.whole.put_whole.Goals as goal
 
-pub put_redists-requires-clause-hand : goal.put_redists-requires-clause-hand
-put_redists-requires-clause-hand c = let s = setup c.args.machine.now in let x = c.args.whole in
-    all_is_set s c.all_of.result (λ n. c.all_of.ensures n ∙ ap (nat_lt n) c.vcpus.ensures.vcpus) x.redists (whole_all s x c.requires.whole)
+pub put_pends-requires-clause-hand : goal.put_pends-requires-clause-hand
+put_pends-requires-clause-hand c = let s = setup c.args.machine.now in let x = c.args.whole in
+    all_is_set (HasLpisOfPend s.start.layout.shape) s c.all_of-all.result (λ n. c.all_of-all.ensures n ∙ ap (nat_lt n) c.vcpus.ensures.vcpus) x.redists.pends
+    (whole_pends s x c.requires.whole)
+
+pub put_confs-requires-clause-hand : goal.put_confs-requires-clause-hand
+put_confs-requires-clause-hand c = let s = setup c.args.machine.now in let x = c.args.whole in
+    rw (c.put_pends.ensures.confs) (all_is_set (HasLpisOfConf s.start.layout.shape) s c.all_of-all.result
+    (λ n. c.all_of-all.ensures n ∙ ap (nat_lt n) c.vcpus.ensures.vcpus) x.redists.confs (whole_confs s x c.requires.whole))

@@ -26,7 +26,7 @@ returns-then-not-holds-2 c =
 
 pub returns-then-not-holds-3 : goal.returns-then-not-holds-3
 returns-then-not-holds-3 c =
-    ((λ e. absurd cc), (λ f. absurd (holds_not (part.Redist c.args.target.vcpu) c.args.held.now (sym c.holds-3.ensures ∙ c.if-not-holds-3.true) f.redist)))
+    ((λ e. absurd cc), (λ f. absurd (holds_not (part.Pend c.args.target.vcpu) c.args.held.now (sym c.holds-3.ensures ∙ c.if-not-holds-3.true) f.pend)))
 
 pub returns : goal.returns
 returns c =
@@ -37,7 +37,7 @@ returns c =
             (sym c.holds.ensures ∙ c.if-not-holds.false));
         shard = subst (λ (p : Part). Holds p c.args.held.now) same (holds_sure (part.Shard c.its_of-its.result c.shard_of.result) c.args.held.now
             (sym c.holds-2.ensures ∙ c.if-not-holds-2.false));
-        redist = holds_sure (part.Redist c.args.target.vcpu) c.args.held.now (sym c.holds-3.ensures ∙ c.if-not-holds-3.false);
+        pend = holds_sure (part.Pend c.args.target.vcpu) c.args.held.now (sym c.holds-3.ensures ∙ c.if-not-holds-3.false);
         agrees = ap (λ (n : ℕ). translated c.args.after.now n c.args.dev.0 c.args.ev.0) (sym c.its_of-its.ensures) ∙ c.goes_to.ensures.0 e;
       }),
       (λ f. c.goes_to.ensures.1 (ap (λ (n : ℕ). translated c.args.after.now n c.args.dev.0 c.args.ev.0) c.its_of-its.ensures ∙ f.agrees)),

@@ -5,6 +5,7 @@ use Rattle.its_plain.specs.declared.desc.Desc.{Desc}
 use Rattle.its_plain.specs.declared.layout.Layout.{Layout}
 use Rattle.its_steps.specs.Parts.{HasVcpus, Setup, part_count, translator_count, vcpu_count}
 use Rattle.its_steps.specs.World.{first_view}
+use Rattle.lpi_pending.specs.InHand.{RedistParts}
 use Rattle.owned_parts.specs.declared.parts.Parts.{Parts}
 use Rattle.its_turns.specs.Opening.{setup_from, first_words}
 use Rattle.its_turns.specs.Rule.{Kept, setup_of}
@@ -21,8 +22,8 @@ table_of-requires c =
     let vcpus : c.args.parts.layout.shape.vcpus ≡ c.args.desc.now.shape.vcpus = ap (λ (l : Layout). l.shape.vcpus) c.requires.layout in
     let translators : c.len-translators.result ≡ translator_count s = c.len-translators.ensures ∙ c.requires.translators in
     let shards : c.from.result * c.args.desc.now.shards ≡ translator_count s * s.shards = ap (λ (n : ℕ). n * s.shards) (c.from.ensures ∙ translators) in
-    let count : 16 * (c.from-first_shard.result + 1 + c.from.result * c.args.desc.now.shards + c.from-2.result + 1) ≡ 16 * (part_count s + 1) =
-    omega (arith, vcpus, translators, shards, c.from-first_shard.ensures, c.from-2.ensures) in
+    let count : 16 * (c.from-first_shard.result + 1 + c.from.result * c.args.desc.now.shards + c.from-2.result + c.from-3.result + 1) ≡ 16 * (part_count s + 1) =
+    omega (arith, vcpus, translators, shards, c.from-first_shard.ensures, c.from-2.ensures, c.from-3.ensures) in
     let ws : c.as_slice.result.now ≡ first_words (part_count s) = c.as_slice.ensures.value ∙ c.in_ok-frame.ensures.words ∙ ap (λ (n : ℕ). replicate n 0) count in
     let here : Kept s (opening c.as_slice.result.now c.in_ok-slots.slots.items (first_view s)) =
     subst (λ (x : List ℕ × List Value). Kept s (opening x.0 x.1 (first_view s))) (λ d. (sym ws d, sym slots.2 d))
@@ -42,7 +43,7 @@ invariant_of-result c =
     let parts : part_count (setup_of c.in_ok-table.table.shared.key) ≡ part_count s = ap (λ (x : Setup). part_count x) key in
     let vcpus : c.args.parts.layout.shape.vcpus ≡ c.args.desc.now.shape.vcpus = ap (λ (l : Layout). l.shape.vcpus) c.requires.layout in
     let layout : c.in_ok-frame.frame.layout ≡ c.args.parts.layout = c.in_ok-frame.ensures.layout in
-    let words : length c.as_slice.result.now ≡ 16 * (c.from-first_shard.result + 1 + c.from.result * c.args.desc.now.shards + c.from-2.result + 1) =
+    let words : length c.as_slice.result.now ≡ 16 * (c.from-first_shard.result + 1 + c.from.result * c.args.desc.now.shards + c.from-2.result + c.from-3.result + 1) =
     ap length c.as_slice.ensures.value ∙ c.in_ok-frame.ensures.count in
     let translators : c.len-translators.result ≡ translator_count s = c.len-translators.ensures ∙ c.requires.translators in
     let shards : c.from.result * c.args.desc.now.shards ≡ translator_count s * s.shards = ap (λ (n : ℕ). n * s.shards) (c.from.ensures ∙ translators) in
@@ -57,7 +58,7 @@ invariant_of-result c =
         layout ∙ sym (ap (λ (x : Setup). x.start.layout) key),
         ap (λ (d : Desc). layout_of d) c.in_ok-frame.ensures.desc ∙ sym (layout ∙ c.requires.layout),
       );
-      sized = (e.slots ∙ (long ∙ ap (λ (n : ℕ). 8 * n) (sym parts)), omega (arith, e.words, words, parts, vcpus, shards, before, c.from-2.ensures));
+      sized = (e.slots ∙ (long ∙ ap (λ (n : ℕ). 8 * n) (sym parts)), omega (arith, e.words, words, parts, vcpus, shards, before, c.from-2.ensures, c.from-3.ensures));
       laid = (
         ap (λ (x : Setup). translator_count x) key ∙ (sym c.requires.translators ∙ (sym (kept_long c.args.desc.now)
             ∙ ap (λ (d : Desc). length d.translators) (sym c.in_ok-frame.ensures.desc))),
@@ -71,12 +72,13 @@ invariant_of-result c =
       ordered = (
         translators ∙ sym counts,
         omega (arith, c.from-first_shard.ensures),
-        omega (arith, before, shards, parts, processors),
+        omega (arith, vcpus, processors, c.from-2.ensures),
+        omega (arith, before, shards, parts, processors, vcpus, c.from-2.ensures),
         omega (arith, before, shards, few, some_number.1),
       );
       shifted = omega (arith, translators, some_number.0);
       small = subst (λ (d : Desc). (1 ≤ d.shards) × (d.shards ≤ 64) × (d.shape.vcpus ≤ 16) × (d.limits.place_last < 2 ^ 40) × (d.limits.stamp_last < 2 ^ 24))
           (sym c.in_ok-frame.ensures.desc)
           (c.requires.some_shards, c.requires.most_shards, c.requires.vcpus, c.requires.places, c.requires.stamps);
-      bare = c.new.ensures;
+      bare = (ap (λ (r : RedistParts). r.confs) c.new.ensures, ap (λ (r : RedistParts). r.pends) c.new.ensures);
     }
