@@ -1,20 +1,22 @@
 -- What each change of the maps does to what is counted.
-use Rattle.std.proofs.Common.{◌≡◌, ℕ, ◌+◌, ◌-◌, ◌≤◌, Bool, true, false, cond, not, ◌&&◌, ◌==◌, eqb, List, [], ◌∷◌, length, filter, map, Some, None, Option, IfSome}
+use Rattle.std.proofs.Common.{◌≡◌, ℕ, ◌+◌, ◌≤◌, Bool, true, false, cond, not, ◌&&◌, ◌==◌, List, [], ◌∷◌, length, filter, map, Some, None, Option, IfSome}
 use Rattle.std.proofs.Common.{is_some, sum_by, nat_lt, refl, sym, ap, ◌∙◌, subst, arith}
+use mir.Val.{bool_byte}
+use mathlib.Core.Bool.{false≢true}
 use Rattle.std.specs.Ordering.{nat_cmp, eq_by_cmp}
 use Rattle.std.specs.Cmp.{nat_cmp_total, unsigned_tied, nat_eq_equiv}
 use Rattle.std.specs.FinMap as finmap
-use Rattle.std.specs.FinMap.{FinMap, nat_cmp-IsAntisymmetric}
+use Rattle.std.specs.FinMap.{nat_cmp-IsAntisymmetric}
 use Rattle.std.proofs.lemmas.Bool.{ltb-false, eq-eqb}
 use Rattle.std.proofs.lemmas.List.Sums.{sum_by-cons, length-filter}
 use Rattle.std.proofs.lemmas.List.Filters.{sum_by-filter_both}
 use Rattle.its_types.specs.Maps.{Maps, pair_cmp, is_pair, device_of, event_of, events_but, events_at, no_maps, device_mapped, device_unmapped, event_mapped}
-use Rattle.its_types.specs.Maps.{event_unmapped, collections_emptied, devices_emptied}
+use Rattle.its_types.specs.Maps.{event_unmapped, devices_emptied}
 use Rattle.its_types.specs.declared.ids.Icid.{Icid}
 use Rattle.its_types.specs.declared.translation.Device.{Device}
 use Rattle.its_types.specs.declared.translation.Event.{Event}
 use Rattle.its_types.proofs.PairOrder.{pair_total, pair_same, pair_tied}
-use Rattle.its_maps.specs.Counts.{device_count, event_count, events_of, is_of}
+use Rattle.its_maps.specs.Counts.{events_of, is_of}
 use Rattle.its_maps.specs.Tallies.{TallyView, counted, one_of, one_of_event, one_if, count_of, AreCounted}
 use Rattle.its_maps.proofs.Weights.{weight, of_entry, entries-empty, entries-retain, weight-insert, weight-without, weight-there}
 
@@ -46,6 +48,15 @@ one_there (Some d) = 1
 one_is : (o : Option Device) → of_entry (λ d. 1) o ≡ one_there o
 one_is None = refl
 one_is (Some d) = refl
+
+-- whether it was there, as a number
+pub one_more : (o : Option Device) (b : Bool) → b ≡ is_some o → bool_byte (not b) + one_there o ≡ 1
+one_more None b is = ap (λ t. bool_byte (not t) + 0) is
+one_more (Some d) b is = ap (λ t. bool_byte (not t) + 1) is
+
+pub one_less : (o : Option Device) (b : Bool) → b ≡ is_some o → bool_byte b ≡ one_there o
+one_less None b is = ap (λ t. bool_byte t) is
+one_less (Some d) b is = ap (λ t. bool_byte t) is
 
 -- ---- keys
 
@@ -131,6 +142,12 @@ module _ (m : Maps) (n : ℕ) (t : TallyView) (are : AreCounted m n t) where
   }
 
   module _ (dev : ℕ) where
+    -- a device that is there is counted
+    pub device_there_counted : one_there (device_of m dev) ≤ n
+    device_there_counted =
+        let a = weight-without nat_cmp_total (λ (x : Device). 1) dev nat_cmp-IsAntisymmetric m.devices (λ k. not (k == dev)) (device_not dev) in
+        let b = ones (finmap.entries m.devices) in let c = one_is (device_of m dev) in let d = are.devices_are in omega (arith, a, b, c, d)
+
     -- without the device's events
     module _ (t' : TallyView) (each : (icid : ℕ) → counted t' icid + count_of icid (events_at m dev) ≡ counted t icid)
         (total : t'.total + length (events_at m dev) ≡ t.total) where
@@ -183,6 +200,16 @@ module _ (m : Maps) (n : ℕ) (t : TallyView) (are : AreCounted m n t) where
             let b = of_own (event_of m dev ev) icid in let c = ap (λ x. one_of_event x icid) is in
             let d = are.each icid in let g = each icid in omega (arith, a, b, c, d, g);
       }
+
+      -- another collection's, where it was there
+      pub event_moved_counted : (o : Option Event) (icid : Icid) (m' : Maps) (t' : TallyView) → o ≡ event_of m dev ev → is_some (event_of m dev ev) ≡ true
+          → IfSome (event_of m dev ev) (λ e. m' ≡ event_mapped m dev ev (record e { icid = icid }))
+          → ((c : ℕ) → counted t' c + one_of_event o c ≡ counted t c + one_of icid.0 c) → t'.total + one_if o ≡ t.total + 1 → AreCounted m' n t'
+      event_moved_counted None icid m' t' is some moved each total = absurd (false≢true (ap is_some is ∙ some))
+      event_moved_counted (Some e) icid m' t' is some moved each total =
+          let same : m' ≡ event_mapped m dev ev (record e { icid = icid }) = subst (λ x. IfSome x (λ y. m' ≡ event_mapped m dev ev (record y { icid = icid })))
+          (sym is) moved in
+          subst (λ x. AreCounted x n t') (sym same) (event_put_counted (Some e) (record e { icid = icid }) t' is each total)
 
       pub event_taken_counted : (o : Option Event) (t' : TallyView) → o ≡ event_of m dev ev
           → ((icid : ℕ) → counted t' icid + one_of_event o icid ≡ counted t icid) → t'.total + one_if o ≡ t.total → AreCounted (event_unmapped m dev ev) n t'

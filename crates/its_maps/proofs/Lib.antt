@@ -16,3 +16,4 @@ mod Keys
 mod Tallied
 mod Weights
 mod Counted
+mod RoomBoth

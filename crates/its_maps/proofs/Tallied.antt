@@ -1,11 +1,11 @@
 -- A tally of events by collection: what a search finds in it, and what stays true of it.
-use Rattle.std.proofs.Common.{◌≡◌, ℕ, zero, suc, ◌+◌, ◌-◌, ◌<◌, ◌≤◌, ◌^◌, min, Bool, true, cond, nat_lt, nat_le, List, [], ◌∷◌, ◌++◌, length, take, drop, get_or}
+use Rattle.std.proofs.Common.{◌≡◌, ℕ, zero, suc, ◌+◌, ◌-◌, ◌<◌, ◌≤◌, ◌^◌, min, true, cond, nat_lt, nat_le, List, [], ◌∷◌, length, get_or}
 use Rattle.std.proofs.Common.{set, sum_by, refl, sym, ap, ◌∙◌, subst, arith, inl, inr}
 use Rattle.std.specs.List.{AllByRecursion, insert, remove}
 use Rattle.std.proofs.lemmas.Bool.{cases_lt, and_parts, ltb-true, leb-true, eq-eqb, ne_eqb}
 use Rattle.std.proofs.lemmas.List.Sums.{sum_by-cons, sum_by-set, sum_by-insert, sum_by-remove}
-use Rattle.its_maps.specs.Search.{Rises, IsAt, IsGapFor}
-use Rattle.its_maps.specs.Tallies.{TallyView, counted, share, one_of, all_icids, has_room, IsCount, IsTally}
+use Rattle.its_maps.specs.Search.{IsAt, IsGapFor}
+use Rattle.its_maps.specs.Tallies.{share, all_icids, has_room, IsCount, IsTally}
 use Rattle.its_maps.proofs.Keys.{few_keys}
 use Rattle.its_maps.proofs.Shown.{rises_set, rises_insert, rises_remove}
 

@@ -1,11 +1,11 @@
 -- A count of events for each collection that has one.
-use Rattle.std.specs.Prelude.{◌≡◌, ◌<◌, ◌≤◌, ℕ, ◌+◌, ◌^◌, min, Bool, ◌&&◌, ◌==◌, nat_lt, nat_le, if◌then◌else◌, List, ◌∷◌, Option, Some, None, sum_by, refl}
+use Rattle.std.specs.Prelude.{◌≡◌, ◌<◌, ◌≤◌, ℕ, ◌+◌, ◌^◌, min, Bool, ◌&&◌, ◌==◌, nat_lt, nat_le, if◌then◌else◌, List, Option, Some, None, sum_by, refl}
 use Rattle.std.specs.List.{AllByRecursion}
 use Rattle.std.specs.FinMap as finmap
 use Rattle.std.specs.Coded.{Coded, code_by, coded×, coded_list, coded_ℕ, coded_bool}
 use Rattle.its_types.specs.Maps.{Maps}
 use Rattle.its_types.specs.declared.translation.Event.{Event}
-use Rattle.its_maps.specs.Counts.{device_count, event_count, is_of}
+use Rattle.its_maps.specs.Counts.{device_count, event_count}
 use Rattle.its_maps.specs.MapsRoom.{Room}
 use Rattle.its_maps.specs.Search.{Rises}
 

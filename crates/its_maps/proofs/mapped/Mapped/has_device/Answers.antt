@@ -1,5 +1,4 @@
-use Rattle.std.proofs.Common.{◌≤◌, is_some, length, sym, ap, ◌∙◌, subst}
-use Rattle.std.specs.FinMap as finmap
+use Rattle.std.proofs.Common.{◌≤◌, is_some, sym, ap, ◌∙◌, subst}
 use Rattle.its_types.specs.Maps.{device_of}
 use Rattle.its_maps.specs.Counts.{device_count}
 use Rattle.its_maps.specs.declared.device_record.DeviceRecord.{DeviceRecord}

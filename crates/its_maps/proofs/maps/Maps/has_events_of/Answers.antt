@@ -1,4 +1,4 @@
-use Rattle.std.proofs.Common.{◌≡◌, false, nat_lt, length, sym, ap, ◌∙◌}
+use Rattle.std.proofs.Common.{nat_lt, length, sym, ap, ◌∙◌}
 use Rattle.its_maps.specs.Counts.{events_of}
 use Rattle.its_maps.proofs.Counted.{events_counted, no_entries}
 use Rattle.its_maps.proofs.maps.Maps.has_events_of.Goals as goal

@@ -1,7 +1,6 @@
-use Rattle.std.proofs.Common.{◌≡◌, ◌+◌, ◌<◌, ◌≤◌, min, true, ap, ◌∙◌, sym, subst, arith}
-use Rattle.std.specs.List.{insert}
+use Rattle.std.proofs.Common.{◌≡◌, true, ap, ◌∙◌, arith}
 use Rattle.its_maps.specs.Search.{IsAt, IsGapFor}
-use Rattle.its_maps.specs.Tallies.{IsTally, has_room, all_icids}
+use Rattle.its_maps.specs.Tallies.{has_room}
 use Rattle.its_maps.proofs.Tallied.{room_is, raised, has_place, put_in}
 use Rattle.its_maps.proofs.tally.Tally.add.Goals as goal
 

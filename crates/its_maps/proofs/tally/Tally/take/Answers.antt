@@ -1,6 +1,6 @@
-use Rattle.std.proofs.Common.{◌≡◌, ◌≤◌, ◌-◌, ℕ, true, List, Result, Ok, Err, IfOk, IfErr, IsOk, sum_by, refl, sym, ap, ◌∙◌, subst, arith}
+use Rattle.std.proofs.Common.{◌≤◌, ℕ, List, Result, Ok, Err, IfErr, IsOk, sum_by, refl, sym, subst, arith}
 use Rattle.its_maps.specs.Search.{IsAt, IsGapFor}
-use Rattle.its_maps.specs.Tallies.{counted, share, IsTally}
+use Rattle.its_maps.specs.Tallies.{counted, share}
 use Rattle.its_maps.proofs.Tallied.{none_at_gap, in_total, count_some, lowered, taken_out}
 use Rattle.its_maps.proofs.tally.Tally.take.Goals as goal
 
