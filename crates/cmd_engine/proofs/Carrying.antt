@@ -22,14 +22,19 @@ use Rattle.its_plain.specs.declared.call.CmdReply.{CmdReply}
 use Rattle.its_plain.specs.declared.call.CmdReply.TheVariants as answers
 use Rattle.its_plain.specs.declared.call.Reply.{Reply}
 use Rattle.its_plain.specs.declared.call.Reply.TheVariants as reply
-use Rattle.lpi_pending.specs.InHand.{in_hand}
-use Rattle.owned_parts.specs.Owned.{HasLpisOf, ArePartsOf, ArePartsOfSound, translator_of}
+use Rattle.its_plain.specs.Parts.{conf, pend}
+use Rattle.its_plain.specs.Plain.{ConfState, PendState}
+use Rattle.lpi_config.specs.declared.conf.Conf.{Conf as ConfInHand}
+use Rattle.lpi_pending.specs.InHand.{RedistParts, conf_in, pend_in, HasLpisOfConf, HasLpisOfPend}
+use Rattle.lpi_pending.specs.declared.pend.Pend.{Pend as PendInHand}
+use Rattle.owned_parts.specs.Owned.{ArePartsOf, ArePartsOfSound, translator_of}
+use Rattle.cmd_exec.proofs.Lifted.{conf_is, pend_is}
 use Rattle.owned_parts.specs.RedistSets.{is_in}
 use Rattle.cmd_exec.specs.Executed.{as_step, IsReplyTo, AreLeftBy}
 use Rattle.cmd_exec.specs.Met.{MeetsCommand}
 use Rattle.cmd_exec.specs.Needs.{IsPartOf}
 use Rattle.cmd_exec.specs.Room.{adds_to}
-use Rattle.its_steps.specs.Contents.{Maps, Mem, Held}
+use Rattle.its_steps.specs.Contents.{Maps, Mem, Conf, Pend, Held}
 use Rattle.its_steps.specs.Endings.{Ending, ending_in, ending_of, ending_told}
 use Rattle.its_steps.specs.Good.{Holds}
 use Rattle.its_steps.specs.MayCall.{MayCall}
@@ -43,15 +48,18 @@ use Rattle.its_steps.proofs.Owed.{owes_holds}
 use Rattle.its_turns.specs.Machines.{AreWithin}
 use Rattle.its_turns.specs.Told.{Looks, Commits}
 use Rattle.its_turns.specs.declared.value.GuestMemory.{GuestMemory}
-use Rattle.held_parts.specs.Redists.{redists_held, AreOfSet}
-use Rattle.held_parts.proofs.RedistRows.{redist_holds, redists_left}
+use Rattle.held_parts.specs.Rows.{in_row}
+use Rattle.cmd_exec.specs.declared.needed.Needed.{Needed}
+use Rattle.held_parts.specs.Redists.{row_of, conf_held, pend_held, confs_held, AreConfsOfSet, ArePendsOfSet}
+use Rattle.held_parts.proofs.RedistRows.{conf_kind, pend_kind, part_holds, parts_renewed}
+use Rattle.its_steps.specs.World.{out as out_of}
 use Rattle.cmd_engine.specs.Cached.{ending_as, ending_said, cached_held, AreWhole, commit_of, LeavesBy, MayMarkSaid, AreChanged}
-use Rattle.cmd_engine.specs.Hands.{memory_held, base_held, all_held, windows_of, HasInHand, HasNeeded}
+use Rattle.cmd_engine.specs.Hands.{memory_held, base_held, redists_held, all_held, windows_of, HasInHand, HasNeeded}
 use Rattle.cmd_engine.specs.Telling.{WantsMemory}
 use Rattle.cmd_engine.specs.declared.cached.Cached.{Cached}
 use Rattle.cmd_engine.specs.declared.cached.Mark.{Mark}
 use Rattle.cmd_engine.specs.declared.hands.Hands.{Hands}
-use Rattle.cmd_engine.proofs.Held.{all_out, holds_maps, holds_base, holds_redists, holds_cached}
+use Rattle.cmd_engine.proofs.Held.{all_out, holds_maps, holds_base, holds_redists, holds_read, holds_cached}
 use Rattle.cmd_engine.proofs.InState.{AreOut, HoldsBase, HoldsRedists, track_is, parts, busy, bytes_are, parts_left, command_ready, command_ends}
 use Rattle.cmd_engine.proofs.Marks.{HoldsShards, marked_may, within_after, holds_shards, Makes, stays_makes, mark_makes}
 use Rattle.cmd_engine.proofs.Reading.{state_machine, state_right, read_held, read_setup, read_within, owed_after}
@@ -85,6 +93,9 @@ module _ (s : Setup) (stamps : HasStamps s) (v : View) (h : Hands) (has : HasInH
   abbrev held : List Held
   held = all_held s h
 
+  abbrev rest : List Held
+  rest = cached_held its s.shards h.cached (base_held h)
+
   meets : MeetsCommand t.regs memory cmd
   meets = subst (λ (m : Option (Box GuestMemory Global)). MeetsCommand t.regs (windows_of m) cmd) mem meets_at
 
@@ -97,13 +108,18 @@ module _ (s : Setup) (stamps : HasStamps s) (v : View) (h : Hands) (has : HasInH
   hand : HoldsRedists s h.redists held
   hand = holds_redists s v h has
 
-  holds : (p : Part) → IsPartOf its h.set p → Holds p held
+  holds : (p : Part) → IsPartOf its h.needed p → Holds p held
   holds (part.Maps i) is = subst (λ (k : ℕ). Holds (part.Maps k) held) (sym is) (holds_maps s v h has)
   holds part.Mem is = owes_holds part.Mem (Mem memory track) held base.mem
   holds (part.Shard i n) is = absurd is
-  holds (part.Redist vcpu) is = redist_holds h.redists (cached_held its s.shards h.cached (base_held h)) 16 vcpu.0
-      (ltb-true vcpu.0 16 (and_parts (nat_lt vcpu.0 16) _ is).0)
-      (has.redists.hand vcpu.0 ∙ and_from (is_in h.set vcpu.0) (nat_lt vcpu.0 (vcpu_count s)) is (lt-ltb vcpu.0 (vcpu_count s) (needed.below vcpu.0 is)))
+  holds (part.Conf vcpu) is = holds_read s v h has (conf vcpu.0)
+      (part_holds conf_held conf conf_kind h.redists.confs rest 16 vcpu.0 (ltb-true vcpu.0 16 (and_parts (nat_lt vcpu.0 16) _ is).0)
+      (has.confs.hand vcpu.0
+      ∙ and_from (is_in h.needed.confs vcpu.0) (nat_lt vcpu.0 (vcpu_count s)) is (lt-ltb vcpu.0 (vcpu_count s) (needed.confs_below vcpu.0 is))))
+  holds (part.Pend vcpu) is =
+      part_holds pend_held pend pend_kind h.redists.pends (confs_held h.redists 16 rest) 16 vcpu.0 (ltb-true vcpu.0 16 (and_parts (nat_lt vcpu.0 16) _ is).0)
+      (has.pends.hand vcpu.0
+      ∙ and_from (is_in h.needed.pends vcpu.0) (nat_lt vcpu.0 (vcpu_count s)) is (lt-ltb vcpu.0 (vcpu_count s) (needed.pends_below vcpu.0 is)))
 
   -- ---- in the state that was read
 
@@ -150,14 +166,14 @@ module _ (s : Setup) (stamps : HasStamps s) (v : View) (h : Hands) (has : HasInH
       replies_here = subst (λ (z : Shape). IsReplyTo cmd z t.regs t.maps memory h.redists said) same replies
 
       ready : IsReady s u w (call.Step its) r held
-      ready = command_ready s u w held m right out its t memory track base h.redists hand cmd meets h.set needed.parts holds said replies_here room
+      ready = command_ready s u w held m right out its t memory track base h.redists hand cmd meets h.needed needed.parts holds said replies_here room
 
       told_said : (k : CmdReply) → ending_told t.maps cmd (as_step k) ≡ ending_said h.cached k
       told_said (answers.Ran op) = ends
       told_said (answers.Refused op why) = refl
 
       ends_so : ending_of u (call.Step its) ≡ ending_said h.cached said
-      ends_so = command_ends s u w held m right out its t memory track base h.redists hand cmd meets h.set needed.parts holds said replies_here
+      ends_so = command_ends s u w held m right out its t memory track base h.redists hand cmd meets h.needed needed.parts holds said replies_here
           ∙ told_said said
 
       module _ (mark : Mark) (may : MayMarkSaid s its h.cached said w mark) where
@@ -180,9 +196,10 @@ module _ (s : Setup) (stamps : HasStamps s) (v : View) (h : Hands) (has : HasInH
 
         -- carried out
         module _ (maps : MapsOf) (maps_are : maps ≡ t.maps) (k : Command) (k_is : k ≡ cmd) (h' : Hands) (its_is : h'.its ≡ its) (mem' : h'.memory ≡ h.memory)
-            (set' : h'.set ≡ h.set)
+            (needed' : h'.needed ≡ h.needed)
             (leaves : AreLeftBy k shape memory (t.regs, maps, h.redists) (h'.translator.value.regs, h'.translator.value.maps.maps, h'.redists))
-            (same_hand : (n : ℕ) → is_some (in_hand h'.redists n) ≡ is_some (in_hand h.redists n)) (changes : AreChanged mark.change h.cached h'.cached) where
+            (same_confs : (n : ℕ) → is_some (conf_in h'.redists n) ≡ is_some (conf_in h.redists n))
+            (same_pends : (n : ℕ) → is_some (pend_in h'.redists n) ≡ is_some (pend_in h.redists n)) (changes : AreChanged mark.change h.cached h'.cached) where
           abbrev z : Plain
           z = left u (call.Step its) r
 
@@ -221,20 +238,36 @@ module _ (s : Setup) (stamps : HasStamps s) (v : View) (h : Hands) (has : HasInH
               made_by (answers.Ran op) may = mark_makes s w (call.Step its) r z its refl (base_held h) h.cached h'.cached mark may.leaves may.every changes
               made_by (answers.Refused op why) may = stays_makes s w (call.Step its) r z its refl (base_held h) h.cached h'.cached mark may.leaves changes
 
-          redists_then : AreOfSet s h'.set h'.redists
-          redists_then = subst (λ (n : ℕ). AreOfSet s n h'.redists) (sym set') record {
-            hand = λ n. same_hand n ∙ has.redists.hand n;
-            lpis = λ n q is. subst (λ (y : Shape). HasLpisOf y q) parts_then.shape_is (parts_then.redistributors_are n q is).lpis;
+          confs_then : AreConfsOfSet s h'.needed.confs h'.redists
+          confs_then = subst (λ (n : Needed). AreConfsOfSet s n.confs h'.redists) (sym needed') record {
+            hand = λ n. same_confs n ∙ has.confs.hand n;
+            lpis = λ n q is. subst (λ (y : Shape). HasLpisOfConf y q) parts_then.shape_is (parts_then.redistributors_are.0 n q is).lpis;
           }
+
+          pends_then : ArePendsOfSet s h'.needed.pends h'.redists
+          pends_then = subst (λ (n : Needed). ArePendsOfSet s n.pends h'.redists) (sym needed') record {
+            hand = λ n. same_pends n ∙ has.pends.hand n;
+            lpis = λ n q is. subst (λ (y : Shape). HasLpisOfPend y q) parts_then.shape_is (parts_then.redistributors_are.1 n q is).lpis;
+          }
+
+          -- the parts of redistributors are those of the state that is left
+          redists_then : renewed s a z (redists_held h.redists rest) ≡ redists_held h'.redists (renewed s a z rest)
+          redists_then =
+              parts_renewed pend_held s a z h.redists.pends h'.redists.pends (confs_held h.redists 16 rest) 16 same_pends
+              (λ k q r at. ap (λ (y : PendState). out_of (pend k) (Pend y)) (pend_is z h'.redists k r parts_then.redistributors_are at))
+              ∙ ap (λ (l : List Held). in_row (row_of pend_held h'.redists.pends) 16 l)
+              (parts_renewed conf_held s a z h.redists.confs h'.redists.confs rest 16 same_confs
+              (λ k q r at. ap (λ (y : ConfState). out_of (conf k) (Conf y)) (conf_is z h'.redists k r parts_then.redistributors_are at)))
 
           pub in_hand_then : (y : View) → Commits x a y → HasInHand s y h'
           in_hand_then y commits = record {
             held = owed_after s x y a held (read_setup s v x w held own has.held looks) (read_held s v x w held own has.held looks) commits
                 ∙ (may_leave.1
-                ∙ (redists_left s a z h.redists h'.redists (cached_held its s.shards h.cached (base_held h)) 16 same_hand parts_then.redistributors_are
-                ∙ ap (λ (l : List Held). redists_held h'.redists 16 l)
+                ∙ (redists_then
+                ∙ ap (λ (l : List Held). redists_held h'.redists l)
                 (makes.renews ∙ (λ d. cached_held (sym its_is d) s.shards h'.cached (bases d)))));
             its = subst (λ (n : ℕ). n < translator_count s) (sym its_is) has.its;
             whole = subst (λ (n : ℕ). AreWhole s n h'.cached) (sym its_is) (makes.whole has.whole);
-            redists = redists_then;
+            confs = confs_then;
+            pends = pends_then;
           }

@@ -7,18 +7,21 @@ use Rattle.its_types.specs.declared.machine.Part.TheVariants as part
 use Rattle.its_types.specs.declared.machine.Shape.{Shape}
 use Rattle.its_types.specs.declared.machine.Word.{Word}
 use Rattle.its_plain.specs.declared.layout.Layout.{Layout}
-use Rattle.lpi_pending.specs.declared.redist.Redist.{Redist as Owned}
+use Rattle.lpi_config.specs.declared.conf.Conf.{Conf as ConfInHand}
+use Rattle.lpi_pending.specs.InHand.{RedistParts, HasLpisOfConf, HasLpisOfPend}
+use Rattle.cmd_exec.specs.declared.needed.Needed.{Needed}
 use Rattle.owned_parts.specs.Owned.{translator_of}
 use Rattle.owned_parts.specs.RedistSets.{is_in}
 use Rattle.owned_parts.specs.declared.parts.Translator.{Translator as InHand}
 use Rattle.cmd_exec.specs.Needs.{AreTargets}
-use Rattle.its_steps.specs.Contents.{Content, Maps}
+use Rattle.its_steps.specs.Contents.{Content, Maps, Held}
 use Rattle.its_steps.specs.Good.{Holds}
 use Rattle.its_steps.specs.Parts.{Setup, translator_count, vcpu_count, stamp_of}
 use Rattle.its_steps.specs.World.{View, out}
 use Rattle.its_turns.specs.Told.{HasStood, Looks}
 use Rattle.its_turns.specs.declared.value.GuestMemory.{GuestMemory}
-use Rattle.held_parts.specs.Redists.{redists_held, AreNoRedists, AreOfSet, HoldsNoRedist, IsRedistOf}
+use Rattle.held_parts.specs.Redists.{confs_held, pends_held, at_place, AreNone, AreWanted, AreNoConfs, AreNoPends, AreConfsOfSet, ArePendsOfSet}
+use Rattle.held_parts.specs.Redists.{HoldsNoConf, HoldsNoPend, IsConfIn, IsPendIn}
 use Rattle.held_parts.specs.Shards.{IsShardOf}
 use Rattle.held_parts.specs.Taking.{TakesInTime, TakesOnly, Goes}
 use Rattle.held_parts.proofs.Going.{takes_wider, takes_one, going_first, going_takes, going_looked, goes_wider}
@@ -29,7 +32,7 @@ use Rattle.its_steps.proofs.Lists.{prefix_self}
 use Rattle.cmd_engine.specs.Telling.{ReadLow}
 use Rattle.cmd_engine.specs.declared.cached.Cached.{Cached}
 use Rattle.cmd_engine.specs.declared.hands.Hands.{Hands}
-use Rattle.cmd_engine.proofs.Held.{base_no_redist, base_no_shard, cached_no_redist, none_held}
+use Rattle.cmd_engine.proofs.Held.{base_no_conf, base_no_pend, base_no_shard, cached_no_conf, cached_no_pend, confs_no_pend, none_held}
 
 -- ---- whose turns are got
 
@@ -37,19 +40,29 @@ shard_is_own : (its : ℕ) (p : Part) → IsShardOf its p → IsOfTranslator its
 shard_is_own its (part.Shard i n) is = is
 shard_is_own its (part.Maps i) is = absurd is
 shard_is_own its part.Mem is = absurd is
-shard_is_own its (part.Redist v) is = absurd is
+shard_is_own its (part.Conf v) is = absurd is
+shard_is_own its (part.Pend v) is = absurd is
 
 own_of_step : (its : ℕ) (p : Part) → IsOfTranslator its p → IsOfStep its p
 own_of_step its (part.Shard i n) is = is
 own_of_step its (part.Maps i) is = is
 own_of_step its part.Mem is = absurd is
-own_of_step its (part.Redist v) is = absurd is
+own_of_step its (part.Conf v) is = absurd is
+own_of_step its (part.Pend v) is = absurd is
 
-redist_of_step : (its set : ℕ) (p : Part) → IsRedistOf set p → IsOfStep its p
-redist_of_step its set (part.Redist v) is = tt
-redist_of_step its set (part.Maps i) is = absurd is
-redist_of_step its set part.Mem is = absurd is
-redist_of_step its set (part.Shard i n) is = absurd is
+conf_of_step : (its set : ℕ) (p : Part) → IsConfIn set p → IsOfStep its p
+conf_of_step its set (part.Conf v) is = tt
+conf_of_step its set (part.Pend v) is = absurd is
+conf_of_step its set (part.Maps i) is = absurd is
+conf_of_step its set part.Mem is = absurd is
+conf_of_step its set (part.Shard i n) is = absurd is
+
+pend_of_step : (its set : ℕ) (p : Part) → IsPendIn set p → IsOfStep its p
+pend_of_step its set (part.Pend v) is = tt
+pend_of_step its set (part.Conf v) is = absurd is
+pend_of_step its set (part.Maps i) is = absurd is
+pend_of_step its set part.Mem is = absurd is
+pend_of_step its set (part.Shard i n) is = absurd is
 
 pub goes_one : (P : Part → Type 0) (v x : View) (p : Part) (c : Content) → P p → TakesInTime v p c x → Goes P v x
 goes_one P v x p c is t = going_takes P v v x (going_first P v) (takes_one P v x p c is t)
@@ -59,38 +72,45 @@ goes_shards its v x y w looks takes = going_takes (IsOfTranslator its) v x y
     (going_looked (IsOfTranslator its) v v x w (going_first (IsOfTranslator its) v) looks)
     (takes_wider (IsShardOf its) (IsOfTranslator its) (shard_is_own its) x y takes)
 
--- first shards, and then redistributors
-pub goes_needed : (its set : ℕ) (v x y : View) → Goes (IsOfTranslator its) v x → TakesOnly (IsRedistOf set) x y → Goes (IsOfStep its) v y
-goes_needed its set v x y goes takes = going_takes (IsOfStep its) v x y (goes_wider (IsOfTranslator its) (IsOfStep its) (own_of_step its) v x goes)
-    (takes_wider (IsRedistOf set) (IsOfStep its) (redist_of_step its set) x y takes)
+-- first shards, then configurations, then what is pending
+pub goes_needed : (its : ℕ) (n : Needed) (v x y z : View) → Goes (IsOfTranslator its) v x → TakesOnly (IsConfIn n.confs) x y → TakesOnly (IsPendIn n.pends) y z
+    → Goes (IsOfStep its) v z
+goes_needed its n v x y z goes confs pends =
+    going_takes (IsOfStep its) v y z
+    (going_takes (IsOfStep its) v x y (goes_wider (IsOfTranslator its) (IsOfStep its) (own_of_step its) v x goes)
+    (takes_wider (IsConfIn n.confs) (IsOfStep its) (conf_of_step its n.confs) x y confs))
+    (takes_wider (IsPendIn n.pends) (IsOfStep its) (pend_of_step its n.pends) y z pends)
 
 -- ---- what is in hand
 
 abbrev Memory : Type 0
 Memory = Option (Box GuestMemory Global)
 
-no_set : (s : Setup) (set : ℕ) (redists : List (Option Owned)) → ((v : ℕ) → is_in set v ≡ false) → AreNoRedists redists → AreOfSet s set redists
-no_set s set redists none lack = record {
-  hand = λ v. ap (λ (o : Option Owned). is_some o) (lack v) ∙ sym (ap (λ (b : Bool). b && nat_lt v (vcpu_count s)) (none v));
-  lpis = λ v r is. absurd (no_some r (sym (lack v) ∙ is));
+no_set : {T : Type 0} (has_lpis : T → Type 0) (s : Setup) (set : ℕ) (places : List (Option T)) → ((v : ℕ) → is_in set v ≡ false) → AreNone places
+    → AreWanted T has_lpis s set places
+no_set {T} has_lpis s set places none lack = record {
+  hand = λ v. ap (λ (o : Option T). is_some o) (lack v) ∙ sym (ap (λ (b : Bool). b && nat_lt v (vcpu_count s)) (none v));
+  lpis = λ v x is. absurd (no_some x (sym (lack v) ∙ is));
 }
   where
-    no_some : (r : Owned) → None ≡ Some r → ⊥
-    no_some r e = cc
+    no_some : (x : T) → None ≡ Some x → ⊥
+    no_some x e = cc
 
 -- the translator's maps, maybe memory, and some of its shards
 pub own_in_hand : (s : Setup) (x : View) (h : Hands) (its : ℕ) (t : Box InHand Global) (m : Memory) (c : Cached) → h.its ≡ its → h.translator ≡ t
     → h.memory ≡ m
-    → h.cached ≡ c → AreNoRedists h.redists → ((v : ℕ) → is_in h.set v ≡ false) → its < translator_count s → AreWhole s its c
+    → h.cached ≡ c → AreNoConfs h.redists → AreNoPends h.redists → ((v : ℕ) → is_in h.needed.confs v ≡ false) → ((v : ℕ) → is_in h.needed.pends v ≡ false)
+    → its < translator_count s → AreWhole s its c
     → x.held ≡ cached_held its s.shards c (memory_held m (out (part.Maps its) (Maps (translator_of t.value)) ∷ [])) → HasInHand s x h
-own_in_hand s x h its t m c its_is t_is m_is c_is none lack lt whole held = record {
+own_in_hand s x h its t m c its_is t_is m_is c_is no_confs no_pends no_conf no_pend lt whole held = record {
   held = held
       ∙ ((λ d. cached_held (sym its_is d) s.shards (sym c_is d) (memory_held (sym m_is d)
       (out (part.Maps (sym its_is d)) (Maps (translator_of (sym t_is d).value)) ∷ [])))
-      ∙ sym (none_held h.redists (cached_held h.its s.shards h.cached (base_held h)) none));
+      ∙ sym (none_held h.redists (cached_held h.its s.shards h.cached (base_held h)) no_confs no_pends));
   its = subst (λ (n : ℕ). n < translator_count s) (sym its_is) lt;
   whole = subst (λ (p : ℕ × Cached). AreWhole s p.0 p.1) (λ d. (sym its_is d, sym c_is d)) whole;
-  redists = no_set s h.set h.redists lack none;
+  confs = no_set (HasLpisOfConf s.start.layout.shape) s h.needed.confs h.redists.confs no_conf no_confs;
+  pends = no_set (HasLpisOfPend s.start.layout.shape) s h.needed.pends h.redists.pends no_pend no_pends;
 }
 
 -- ---- what a command needs is taken
@@ -98,25 +118,38 @@ own_in_hand s x h its t m c its_is t_is m_is c_is none lack lt whole held = reco
 module _ (s : Setup) (v : View) (h : Hands) (has : HasInHand s v h) (base : IsBase h) where
   -- only maps and memory are held
   pub base_only : v.held ≡ base_held h
-  base_only = has.held ∙ (none_held h.redists (cached_held h.its s.shards h.cached (base_held h)) base.bare.redists
+  base_only = has.held ∙ (none_held h.redists (cached_held h.its s.shards h.cached (base_held h)) base.bare.confs base.bare.pends
       ∙ ap (λ (c : Cached). cached_held h.its s.shards c (base_held h)) base.bare.cached_is)
 
   pub base_free : (number : ℕ) → Holds (part.Shard h.its number) v.held → ⊥
   base_free number holds = base_no_shard h.its h.its (translator_of h.translator.value) h.memory number
       (subst (Holds (part.Shard h.its number)) base_only holds)
 
-  -- and shards of the translator
-  pub shards_free : (x : View) (c : Cached) → x.held ≡ cached_held h.its s.shards c v.held → HoldsNoRedist x.held
-  shards_free x c held = subst HoldsNoRedist (sym (held ∙ ap (cached_held h.its s.shards c) base_only))
-      (cached_no_redist h.its s.shards c (base_held h) (base_no_redist h.its (translator_of h.translator.value) h.memory))
+  -- and shards of the translator, and then configurations
+  pub confs_free : (x : View) (c : Cached) → x.held ≡ cached_held h.its s.shards c v.held → HoldsNoConf x.held
+  confs_free x c held = subst HoldsNoConf (sym (held ∙ ap (cached_held h.its s.shards c) base_only))
+      (cached_no_conf h.its s.shards c (base_held h) (base_no_conf h.its (translator_of h.translator.value) h.memory))
 
-  pub needed_in_hand : (x y : View) (c : Cached) (set : ℕ) (redists : List (Option Owned)) → x.held ≡ cached_held h.its s.shards c v.held → AreWhole s h.its c
-      → y.held ≡ redists_held redists 16 x.held → AreOfSet s set redists → HasInHand s y (record h { cached = c; set = set; redists = redists })
-  needed_in_hand x y c set redists held whole more are = record {
-    held = more ∙ ap (redists_held redists 16) (held ∙ ap (cached_held h.its s.shards c) base_only);
+  pub pends_free : (x y : View) (c : Cached) (redists : RedistParts) → x.held ≡ cached_held h.its s.shards c v.held → y.held ≡ confs_held redists 16 x.held
+      → HoldsNoPend y.held
+  pends_free x y c redists held more = subst HoldsNoPend (sym (more ∙ ap (confs_held redists 16) (held ∙ ap (cached_held h.its s.shards c) base_only)))
+      (confs_no_pend redists (cached_held h.its s.shards c (base_held h))
+      (cached_no_pend h.its s.shards c (base_held h) (base_no_pend h.its (translator_of h.translator.value) h.memory)))
+
+  -- what is pending has no place among configurations
+  confs_stay : (some all : RedistParts) (others : List Held) → all.confs ≡ some.confs → confs_held some 16 others ≡ confs_held all 16 others
+  confs_stay some all others same = ap (λ (cs : List (Option ConfInHand)). confs_held (record all { confs = cs }) 16 others) (sym same)
+
+  pub needed_in_hand : (x y z : View) (c : Cached) (n : Needed) (some all : RedistParts) → x.held ≡ cached_held h.its s.shards c v.held → AreWhole s h.its c
+      → y.held ≡ confs_held some 16 x.held → AreConfsOfSet s n.confs some → z.held ≡ pends_held all 16 y.held → ArePendsOfSet s n.pends all
+      → all.confs ≡ some.confs → HasInHand s z (record h { cached = c; needed = n; redists = all })
+  needed_in_hand x y z c n some all held whole read confs more pends same = record {
+    held = more ∙ ap (pends_held all 16) (read ∙ confs_stay some all x.held same
+        ∙ ap (confs_held all 16) (held ∙ ap (cached_held h.its s.shards c) base_only));
     its = has.its;
     whole = whole;
-    redists = are;
+    confs = subst (λ (cs : List (Option ConfInHand)). AreWanted ConfInHand (HasLpisOfConf s.start.layout.shape) s n.confs cs) (sym same) confs;
+    pends = pends;
   }
 
 -- the maps taken send collections to virtual processors that there are

@@ -6,8 +6,10 @@ use Rattle.std.proofs.lemmas.Bool.{and_parts, ltb-true}
 use Rattle.its_types.specs.declared.machine.Part.{Part}
 use Rattle.its_types.specs.declared.machine.Part.TheVariants as part
 use Rattle.its_plain.specs.Plain.{Translator}
-use Rattle.lpi_pending.specs.InHand.{in_hand}
-use Rattle.lpi_pending.specs.declared.redist.Redist.{Redist as Owned}
+use Rattle.its_plain.specs.Parts.{conf, pend}
+use Rattle.lpi_config.specs.declared.conf.Conf.{Conf as ConfInHand}
+use Rattle.lpi_pending.specs.InHand.{RedistParts, HasLpisOfConf, HasLpisOfPend}
+use Rattle.lpi_pending.specs.declared.pend.Pend.{Pend as PendInHand}
 use Rattle.owned_parts.specs.Owned.{translator_of}
 use Rattle.owned_parts.specs.RedistSets.{is_in}
 use Rattle.xlate_cache.specs.Pairs.{shard_number}
@@ -18,13 +20,15 @@ use Rattle.its_steps.specs.Parts.{Setup, translator_count, vcpu_count}
 use Rattle.its_steps.specs.World.{View, out}
 use Rattle.its_steps.proofs.Owed.{owes_holds}
 use Rattle.its_turns.specs.declared.value.GuestMemory.{GuestMemory}
-use Rattle.held_parts.specs.Redists.{redist_row, held_if_in, redists_held, AreNoRedists, HoldsNoRedist}
+use Rattle.held_parts.specs.Redists.{at_place, row_of, held_if_in, conf_held, pend_held, confs_held, AreNone, AreWanted, AreNoConfs, AreNoPends}
+use Rattle.held_parts.specs.Redists.{HoldsNoConf, HoldsNoPend}
+use Rattle.held_parts.specs.Rows.{in_row}
 use Rattle.held_parts.specs.Shards.{Ways, shard_held, HoldsNoShard}
 use Rattle.held_parts.proofs.InRows.{row_short, row_none}
-use Rattle.held_parts.proofs.RedistRows.{redists_hold, redists_owe, redist_owed, redists_out, redists_apart, redists_stand}
+use Rattle.held_parts.proofs.RedistRows.{conf_kind, pend_kind, parts_hold, parts_owe, part_owed, parts_lack, parts_out, parts_apart, parts_stand}
 use Rattle.held_parts.proofs.ShardRows.{shards_owe, shards_lack, shards_out, shards_apart, shards_stand}
 use Rattle.cmd_engine.specs.Cached.{cached_held, AreWhole}
-use Rattle.cmd_engine.specs.Hands.{memory_held, base_held, all_held, HasInHand}
+use Rattle.cmd_engine.specs.Hands.{memory_held, base_held, redists_held, all_held, HasInHand}
 use Rattle.cmd_engine.specs.declared.cached.Cached.{Cached}
 use Rattle.cmd_engine.specs.declared.cached.Cached.TheVariants as cached
 use Rattle.cmd_engine.specs.declared.hands.Hands.{Hands}
@@ -42,12 +46,19 @@ no_mem : (its : ℕ) (t : Translator) → Holds part.Mem (maps_only its t) → �
 no_mem its t (inl e) = cc
 no_mem its t (inr h) = h
 
-pub base_no_redist : (its : ℕ) (t : Translator) (m : Memory) → HoldsNoRedist (memory_held m (maps_only its t))
-base_no_redist its t None v (inl e) = cc
-base_no_redist its t None v (inr h) = h
-base_no_redist its t (Some b) v (inl e) = cc
-base_no_redist its t (Some b) v (inr (inl e)) = cc
-base_no_redist its t (Some b) v (inr (inr h)) = h
+pub base_no_conf : (its : ℕ) (t : Translator) (m : Memory) → HoldsNoConf (memory_held m (maps_only its t))
+base_no_conf its t None v (inl e) = cc
+base_no_conf its t None v (inr h) = h
+base_no_conf its t (Some b) v (inl e) = cc
+base_no_conf its t (Some b) v (inr (inl e)) = cc
+base_no_conf its t (Some b) v (inr (inr h)) = h
+
+pub base_no_pend : (its : ℕ) (t : Translator) (m : Memory) → HoldsNoPend (memory_held m (maps_only its t))
+base_no_pend its t None v (inl e) = cc
+base_no_pend its t None v (inr h) = h
+base_no_pend its t (Some b) v (inl e) = cc
+base_no_pend its t (Some b) v (inr (inl e)) = cc
+base_no_pend its t (Some b) v (inr (inr h)) = h
 
 pub base_no_shard : (i its : ℕ) (t : Translator) (m : Memory) → HoldsNoShard i (memory_held m (maps_only its t))
 base_no_shard i its t None n (inl e) = cc
@@ -66,15 +77,25 @@ base_maps its t (Some b) = inr (inl (refl, refl))
 
 -- ---- shards
 
-shard_free : (its n : ℕ) (ways : Ways) (others : List Held) → HoldsNoRedist others → HoldsNoRedist (shard_held its n ways ∷ others)
-shard_free its n ways others lacks v (inl e) = cc
-shard_free its n ways others lacks v (inr h) = lacks v h
+conf_free : (its n : ℕ) (ways : Ways) (others : List Held) → HoldsNoConf others → HoldsNoConf (shard_held its n ways ∷ others)
+conf_free its n ways others lacks v (inl e) = cc
+conf_free its n ways others lacks v (inr h) = lacks v h
 
-pub cached_no_redist : (its n : ℕ) (c : Cached) (others : List Held) → HoldsNoRedist others → HoldsNoRedist (cached_held its n c others)
-cached_no_redist its n cached.Nothing others lacks = lacks
-cached_no_redist its n (cached.Pair dev ev ways) others lacks = shard_free its (shard_number dev.0 ev.0 n) ways others lacks
-cached_no_redist its n cached.Any others lacks = lacks
-cached_no_redist its n (cached.Every shards) others lacks = λ v. shards_lack its shards others n (part.Redist v) (λ k e. cc) (lacks v)
+pub cached_no_conf : (its n : ℕ) (c : Cached) (others : List Held) → HoldsNoConf others → HoldsNoConf (cached_held its n c others)
+cached_no_conf its n cached.Nothing others lacks = lacks
+cached_no_conf its n (cached.Pair dev ev ways) others lacks = conf_free its (shard_number dev.0 ev.0 n) ways others lacks
+cached_no_conf its n cached.Any others lacks = lacks
+cached_no_conf its n (cached.Every shards) others lacks = λ v. shards_lack its shards others n (part.Conf v) (λ k e. cc) (lacks v)
+
+pend_free : (its n : ℕ) (ways : Ways) (others : List Held) → HoldsNoPend others → HoldsNoPend (shard_held its n ways ∷ others)
+pend_free its n ways others lacks v (inl e) = cc
+pend_free its n ways others lacks v (inr h) = lacks v h
+
+pub cached_no_pend : (its n : ℕ) (c : Cached) (others : List Held) → HoldsNoPend others → HoldsNoPend (cached_held its n c others)
+cached_no_pend its n cached.Nothing others lacks = lacks
+cached_no_pend its n (cached.Pair dev ev ways) others lacks = pend_free its (shard_number dev.0 ev.0 n) ways others lacks
+cached_no_pend its n cached.Any others lacks = lacks
+cached_no_pend its n (cached.Every shards) others lacks = λ v. shards_lack its shards others n (part.Pend v) (λ k e. cc) (lacks v)
 
 cached_owes : (its n : ℕ) (c : Cached) (others : List Held) (p : Part) (x : Content) → Owes p x others → Owes p x (cached_held its n c others)
 cached_owes its n cached.Nothing others p x o = o
@@ -97,14 +118,28 @@ cached_out s its (cached.Every shards) others whole lacks o = record {
   out = shards_out its shards others s.shards o.out;
 }
 
--- ---- redistributors
+-- ---- parts of redistributors
 
-some_is : (r : Owned) (o : Option Owned) → o ≡ Some r → is_some o ≡ true
-some_is r o is = ap (λ (x : Option Owned). is_some x) is
+module _ {T : Type 0} (as_held : ℕ → T → Held) (places : List (Option T)) where
+  none_in : (others : List Held) → AreNone places → in_row (row_of as_held places) 16 others ≡ others
+  none_in others none = row_short (row_of as_held places) others 0 16 (λ k le. ap (held_if_in as_held k) (none k)) ∙ row_none (row_of as_held places) others 0 refl
+
+  some_is : (x : T) (o : Option T) → o ≡ Some x → is_some o ≡ true
+  some_is x o is = ap (λ (y : Option T). is_some y) is
+
+  pub few : (has_lpis : T → Type 0) (s : Setup) (set : ℕ) → AreWanted T has_lpis s set places → (k : ℕ) (x : T) → at_place places k ≡ Some x → k < 16
+  few has_lpis s set are k x is =
+      let both = and_parts (is_in set k) (nat_lt k (vcpu_count s)) (sym (are.hand k) ∙ some_is x (at_place places k) is) in
+      ltb-true k 16 (and_parts (nat_lt k 16) _ both.0).0
 
 -- none
-pub none_held : (redists : List (Option Owned)) (others : List Held) → AreNoRedists redists → redists_held redists 16 others ≡ others
-none_held redists others none = row_short (redist_row redists) others 0 16 (λ k le. ap (held_if_in k) (none k)) ∙ row_none (redist_row redists) others 0 refl
+pub none_held : (redists : RedistParts) (others : List Held) → AreNoConfs redists → AreNoPends redists → redists_held redists others ≡ others
+none_held redists others no_confs no_pends =
+    none_in pend_held redists.pends (confs_held redists 16 others) no_pends ∙ none_in conf_held redists.confs others no_confs
+
+-- what is pending is not held before it is taken
+pub confs_no_pend : (redists : RedistParts) (others : List Held) → HoldsNoPend others → HoldsNoPend (confs_held redists 16 others)
+confs_no_pend redists others lacks v = parts_lack conf_held conf conf_kind redists.confs others 16 (part.Pend v) (λ k e. cc) (lacks v)
 
 -- ---- all of it
 
@@ -112,25 +147,47 @@ module _ (s : Setup) (v : View) (h : Hands) (has : HasInHand s v h) where
   abbrev t : Translator
   t = translator_of h.translator.value
 
+  abbrev cs : List (Option ConfInHand)
+  cs = h.redists.confs
+
+  abbrev ps : List (Option PendInHand)
+  ps = h.redists.pends
+
   abbrev rest : List Held
   rest = cached_held h.its s.shards h.cached (base_held h)
 
-  lacks : HoldsNoRedist rest
-  lacks = cached_no_redist h.its s.shards h.cached (base_held h) (base_no_redist h.its t h.memory)
+  -- without what is pending
+  abbrev read : List Held
+  read = confs_held h.redists 16 rest
+
+  no_conf : HoldsNoConf rest
+  no_conf = cached_no_conf h.its s.shards h.cached (base_held h) (base_no_conf h.its t h.memory)
+
+  no_pend : HoldsNoPend read
+  no_pend = confs_no_pend h.redists rest (cached_no_pend h.its s.shards h.cached (base_held h) (base_no_pend h.its t h.memory))
 
   rest_out : AreOut s rest
   rest_out = cached_out s h.its h.cached (base_held h) has.whole (base_no_shard h.its h.its t h.memory) (base_out s h.its t h.memory has.its)
 
-  pub all_out : AreOut s (all_held s h)
-  all_out = record {
-    stands = redists_stand h.redists rest s h.set 16 has.redists rest_out.stands;
-    apart = redists_apart h.redists rest 16 lacks rest_out.apart;
-    out = redists_out h.redists rest 16 rest_out.out;
+  read_out : AreOut s read
+  read_out = record {
+    stands = parts_stand conf_held conf conf_kind cs rest (HasLpisOfConf s.start.layout.shape) s h.needed.confs 16 has.confs rest_out.stands;
+    apart = parts_apart conf_held conf conf_kind cs rest 16 (λ k. no_conf (record { 0 = k })) rest_out.apart;
+    out = parts_out conf_held conf conf_kind cs rest 16 rest_out.out;
   }
 
+  pub all_out : AreOut s (all_held s h)
+  all_out = record {
+    stands = parts_stand pend_held pend pend_kind ps read (HasLpisOfPend s.start.layout.shape) s h.needed.pends 16 has.pends read_out.stands;
+    apart = parts_apart pend_held pend pend_kind ps read 16 (λ k. no_pend (record { 0 = k })) read_out.apart;
+    out = parts_out pend_held pend pend_kind ps read 16 read_out.out;
+  }
+
+  all_owe : (p : Part) (x : Content) → Owes p x rest → Owes p x (all_held s h)
+  all_owe p x o = parts_owe pend_held pend pend_kind ps read 16 p x (parts_owe conf_held conf conf_kind cs rest 16 p x o)
+
   pub owes_maps : Owes (part.Maps h.its) (Maps t) (all_held s h)
-  owes_maps = redists_owe h.redists rest 16 (part.Maps h.its) (Maps t) (cached_owes h.its s.shards h.cached (base_held h) (part.Maps h.its) (Maps t)
-      (base_maps h.its t h.memory))
+  owes_maps = all_owe (part.Maps h.its) (Maps t) (cached_owes h.its s.shards h.cached (base_held h) (part.Maps h.its) (Maps t) (base_maps h.its t h.memory))
 
   pub holds_maps : Holds (part.Maps h.its) (all_held s h)
   holds_maps = owes_holds (part.Maps h.its) (Maps t) (all_held s h) owes_maps
@@ -142,17 +199,29 @@ module _ (s : Setup) (v : View) (h : Hands) (has : HasInHand s v h) where
   pub holds_base : (b : Box GuestMemory Global) → h.memory ≡ Some b → HoldsBase h.its t b.value.memory b.value.track (all_held s h)
   holds_base b is = record {
     maps = owes_maps;
-    mem = redists_owe h.redists rest 16 part.Mem (Mem b.value.memory b.value.track) (cached_owes h.its s.shards h.cached (base_held h) part.Mem
+    mem = all_owe part.Mem (Mem b.value.memory b.value.track) (cached_owes h.its s.shards h.cached (base_held h) part.Mem
         (Mem b.value.memory b.value.track) (mem_in h.memory b is));
   }
 
-  few : (k : ℕ) (r : Owned) → in_hand h.redists k ≡ Some r → k < 16
-  few k r is = let both = and_parts (is_in h.set k) (nat_lt k (vcpu_count s)) (sym (has.redists.hand k) ∙ some_is r (in_hand h.redists k) is) in
-      ltb-true k 16 (and_parts (nat_lt k 16) _ both.0).0
-
   pub holds_redists : HoldsRedists s h.redists (all_held s h)
-  holds_redists vcpu r is = (has.redists.lpis vcpu.0 r is, redist_owed h.redists rest 16 vcpu.0 r (few vcpu.0 r is) is)
+  holds_redists = record {
+    confs = λ vcpu c is. (
+      has.confs.lpis vcpu.0 c is,
+      parts_owe pend_held pend pend_kind ps read 16 (conf vcpu.0) (conf_held vcpu.0 c).owed
+          (part_owed conf_held conf conf_kind cs rest 16 vcpu.0 c
+          (few conf_held cs (HasLpisOfConf s.start.layout.shape) s h.needed.confs has.confs vcpu.0 c is) is),
+    );
+    pends = λ vcpu p is. (
+      has.pends.lpis vcpu.0 p is,
+      part_owed pend_held pend pend_kind ps read 16 vcpu.0 p
+          (few pend_held ps (HasLpisOfPend s.start.layout.shape) s h.needed.pends has.pends vcpu.0 p is) is,
+    );
+  }
 
-  -- what its shards hold, all of it holds
+  -- what configurations and all else hold, all of it holds
+  pub holds_read : (p : Part) → Holds p read → Holds p (all_held s h)
+  holds_read p held = parts_hold pend_held pend pend_kind ps read 16 p held
+
+  -- so it does what its shards hold
   pub holds_cached : (p : Part) → Holds p rest → Holds p (all_held s h)
-  holds_cached p held = redists_hold h.redists rest 16 p held
+  holds_cached p held = holds_read p (parts_hold conf_held conf conf_kind cs rest 16 p held)

@@ -24,12 +24,15 @@ use Rattle.its_plain.specs.declared.call.Reply.{Reply}
 use Rattle.its_plain.specs.declared.call.Reply.TheVariants as reply
 use Rattle.its_plain.specs.declared.call.StepReply.{StepReply}
 use Rattle.its_plain.specs.declared.call.StepReply.TheVariants.{Idle, Ran, Refused, QueueFault}
-use Rattle.lpi_pending.specs.InHand.{in_hand}
-use Rattle.lpi_pending.specs.declared.redist.Redist.{Redist as Owned}
-use Rattle.owned_parts.specs.Owned.{redistributor_of, HasLpisOf, ArePartsOf, ArePartsOfSound}
+use Rattle.lpi_config.specs.Conf.{conf_state}
+use Rattle.lpi_config.specs.declared.conf.Conf.{Conf as ConfInHand}
+use Rattle.lpi_pending.specs.InHand.{RedistParts, conf_in, pend_in, pend_state, HasLpisOfConf, HasLpisOfPend}
+use Rattle.lpi_pending.specs.declared.pend.Pend.{Pend as PendInHand}
+use Rattle.owned_parts.specs.Owned.{ArePartsOf, ArePartsOfSound}
 use Rattle.cmd_exec.specs.Executed.{as_step, IsReplyTo, left_by, AreLeftBy}
 use Rattle.cmd_exec.specs.Needs.{IsPartOf, ArePartsOfStep}
-use Rattle.its_steps.specs.Contents.{Maps, Mem, Redist, Held}
+use Rattle.cmd_exec.specs.declared.needed.Needed.{Needed}
+use Rattle.its_steps.specs.Contents.{Maps, Mem, Conf, Pend, Held}
 use Rattle.its_steps.specs.Endings.{Nothing, ending_of, ending_met, ending_told}
 use Rattle.its_steps.specs.Good.{Holds, Apart}
 use Rattle.its_steps.specs.MayCall.{Owes, IsAnswered}
@@ -52,10 +55,12 @@ pub record HoldsBase (its : ℕ) (t : Translator) (memory : List Window) (track 
   pub maps : Owes (part.Maps its) (Maps t) held
   pub mem : Owes part.Mem (Mem memory track) held
 
--- and the redistributors in hand
-abbrev pub HoldsRedists : Setup → List (Option Owned) → List Held → Type 0
-HoldsRedists s redists held = (vcpu : Vcpu) (r : Owned) → in_hand redists vcpu.0 ≡ Some r → HasLpisOf s.start.layout.shape r
-    × Owes (part.Redist vcpu) (Redist (redistributor_of r)) held
+-- and the parts of redistributors in hand
+pub record HoldsRedists (s : Setup) (redists : RedistParts) (held : List Held) : Type 0 where
+  pub confs : (vcpu : Vcpu) (c : ConfInHand) → conf_in redists vcpu.0 ≡ Some c → HasLpisOfConf s.start.layout.shape c
+      × Owes (part.Conf vcpu) (Conf (conf_state c)) held
+  pub pends : (vcpu : Vcpu) (p : PendInHand) → pend_in redists vcpu.0 ≡ Some p → HasLpisOfPend s.start.layout.shape p
+      × Owes (part.Pend vcpu) (Pend (pend_state p)) held
 
 from_each : (P : Part → Type 0) (ps : List Part) → ((p : Part) → IsIn p ps → P p) → AllByRecursion P ps
 from_each P [] f = tt
@@ -143,17 +148,23 @@ module _ (s : Setup) (u : Plain) (w : Word) (held : List Held) (machine : IsOfMa
     unfolding left
     still_left = still.left_is
 
-  -- a command is met, and its redistributors are in hand
-  module _ (redists : List (Option Owned)) (hand : HoldsRedists s redists held) (c : Command) (meets : MeetsCommand t.regs memory c) where
+  -- a command is met, and the parts of redistributors that it needs are in hand
+  module _ (redists : RedistParts) (hand : HoldsRedists s redists held) (c : Command) (meets : MeetsCommand t.regs memory c) where
     pub parts : ArePartsOf u its s.start.layout.shape t.regs t.maps memory redists
     parts = record {
       shape_is = shape_is;
       translator_is = maps_at;
       memory_is = memory_is;
-      redistributors_are = λ vcpu r at. record {
-        lpis = subst (λ (x : Shape). HasLpisOf x r) (sym shape_is) (hand (record { 0 = vcpu }) r at).0;
-        same = owes_all (Right s w u) (part.Redist (record { 0 = vcpu })) (Redist (redistributor_of r)) held (hand (record { 0 = vcpu }) r at).1 right;
-      };
+      redistributors_are = (
+        λ vcpu c at. record {
+          lpis = subst (λ (x : Shape). HasLpisOfConf x c) (sym shape_is) (hand.confs (record { 0 = vcpu }) c at).0;
+          same = owes_all (Right s w u) (part.Conf (record { 0 = vcpu })) (Conf (conf_state c)) held (hand.confs (record { 0 = vcpu }) c at).1 right;
+        },
+        λ vcpu p at. record {
+          lpis = subst (λ (x : Shape). HasLpisOfPend x p) (sym shape_is) (hand.pends (record { 0 = vcpu }) p at).0;
+          same = owes_all (Right s w u) (part.Pend (record { 0 = vcpu })) (Pend (pend_state p)) held (hand.pends (record { 0 = vcpu }) p at).1 right;
+        },
+      );
     }
 
     pub sound_parts : ArePartsOfSound s.start.layout.shape t.regs t.maps memory redists
@@ -171,14 +182,14 @@ module _ (s : Setup) (u : Plain) (w : Word) (held : List Held) (machine : IsOfMa
         ∙ (ap (met_left u its) (sym bytes_are) ∙ ap (λ (b : Bool). cond b u (met_left u its (next_bytes u its))) (sym busy))
 
     -- the parts that are left are those of the state that the step leaves
-    pub parts_left : (r : Reply) (regs' : Registers) (maps' : MapsOf) (redists' : List (Option Owned)) → AreLeftBy c s.start.layout.shape memory
+    pub parts_left : (r : Reply) (regs' : Registers) (maps' : MapsOf) (redists' : RedistParts) → AreLeftBy c s.start.layout.shape memory
         (t.regs, t.maps, redists) (regs', maps', redists')
         → ArePartsOf (left u (call.Step its) r) its s.start.layout.shape regs' maps' memory redists'
     unfolding left
     parts_left r regs' maps' redists' leaves = subst (λ (x : Plain). ArePartsOf x its s.start.layout.shape regs' maps' memory redists') left_is
         (leaves u its parts)
 
-    module _ (set : ℕ) (needs : ArePartsOfStep s.start.layout.shape t.maps c set) (has : (p : Part) → IsPartOf its set p → Holds p held) (said : CmdReply)
+    module _ (n : Needed) (needs : ArePartsOfStep s.start.layout.shape t.maps c n) (has : (p : Part) → IsPartOf its n p → Holds p held) (said : CmdReply)
         (replies : IsReplyTo c s.start.layout.shape t.regs t.maps memory redists said) where
       needs_is : needed_next u its ≡ needed u its c
       needs_is = rw (busy, bytes_are, meets.command) refl

@@ -6,10 +6,11 @@ use Rattle.its_types.specs.declared.machine.Part.{Part}
 use Rattle.its_types.specs.declared.machine.Part.TheVariants as part
 use Rattle.its_types.specs.declared.machine.Word.{Word}
 use Rattle.its_plain.specs.History.{after}
-use Rattle.its_plain.specs.Plain.{Plain, Translator, Redistributor, no_translator, no_redistributor}
+use Rattle.its_plain.specs.Plain.{Plain, Translator, ConfState, PendState, conf_of, pend_of, no_translator, no_redistributor}
+use Rattle.cmd_exec.proofs.Places.{viewed}
 use Rattle.its_plain.specs.declared.call.Call.{Call}
 use Rattle.its_plain.specs.declared.call.Reply.{Reply}
-use Rattle.its_steps.specs.Contents.{Content, Maps, Mem, Shard, Redist, Held}
+use Rattle.its_steps.specs.Contents.{Content, Maps, Mem, Shard, Conf, Pend, Held}
 use Rattle.its_steps.specs.MayCommit.{IsRight}
 use Rattle.its_steps.specs.Parts.{Setup, IsOfMachine, Right}
 use Rattle.its_steps.specs.Renewal.{renewed, renewal, changed, content_in}
@@ -25,7 +26,7 @@ use Rattle.cmd_engine.specs.declared.hands.Hands.{Hands}
 
 -- it is in hand still
 pub still_in_hand : (s : Setup) (v w : View) (h : Hands) → HasInHand s v h → w.held ≡ v.held → HasInHand s w h
-still_in_hand s v w h has same = record { held = same ∙ has.held; its = has.its; whole = has.whole; redists = has.redists }
+still_in_hand s v w h has same = record { held = same ∙ has.held; its = has.its; whole = has.whole; confs = has.confs; pends = has.pends }
 
 -- what is owed after a commit
 pub owed_after : (s : Setup) (x z : View) (a : Commit) (held : List Held) → x.setup ≡ s → x.held ≡ held → Commits x a z → z.held ≡ renewal s a held
@@ -66,19 +67,28 @@ module _ (s : Setup) (w : Word) (u : Plain) (c : Call) (r : Reply) where
   content_same (part.Maps i) (Maps t) is = ap (λ (y : Translator). Maps y) (get_or_from_slice_get u.translators i t no_translator is)
   content_same (part.Maps i) (Mem memory track) is = absurd is
   content_same (part.Maps i) (Shard ways) is = absurd is
-  content_same (part.Maps i) (Redist q) is = absurd is
+  content_same (part.Maps i) (Conf q) is = absurd is
+  content_same (part.Maps i) (Pend q) is = absurd is
   content_same part.Mem (Mem memory track) is = λ d. Mem (is.0 d) (is.1 d)
   content_same part.Mem (Maps t) is = absurd is
   content_same part.Mem (Shard ways) is = absurd is
-  content_same part.Mem (Redist q) is = absurd is
+  content_same part.Mem (Conf q) is = absurd is
+  content_same part.Mem (Pend q) is = absurd is
   content_same (part.Shard i n) (Shard ways) is = ap (λ l. Shard l) (shard_same i n ways)
   content_same (part.Shard i n) (Maps t) is = absurd is
   content_same (part.Shard i n) (Mem memory track) is = absurd is
-  content_same (part.Shard i n) (Redist q) is = absurd is
-  content_same (part.Redist vcpu) (Redist q) is = ap (λ (y : Redistributor). Redist y) (get_or_from_slice_get u.redistributors vcpu.0 q no_redistributor is)
-  content_same (part.Redist vcpu) (Maps t) is = absurd is
-  content_same (part.Redist vcpu) (Mem memory track) is = absurd is
-  content_same (part.Redist vcpu) (Shard ways) is = absurd is
+  content_same (part.Shard i n) (Conf q) is = absurd is
+  content_same (part.Shard i n) (Pend q) is = absurd is
+  content_same (part.Conf vcpu) (Conf q) is = ap (λ (y : ConfState). Conf y) (viewed conf_of u.redistributors vcpu.0 no_redistributor q is)
+  content_same (part.Conf vcpu) (Maps t) is = absurd is
+  content_same (part.Conf vcpu) (Mem memory track) is = absurd is
+  content_same (part.Conf vcpu) (Shard ways) is = absurd is
+  content_same (part.Conf vcpu) (Pend q) is = absurd is
+  content_same (part.Pend vcpu) (Pend q) is = ap (λ (y : PendState). Pend y) (viewed pend_of u.redistributors vcpu.0 no_redistributor q is)
+  content_same (part.Pend vcpu) (Maps t) is = absurd is
+  content_same (part.Pend vcpu) (Mem memory track) is = absurd is
+  content_same (part.Pend vcpu) (Shard ways) is = absurd is
+  content_same (part.Pend vcpu) (Conf q) is = absurd is
 
   pub renewed_same : (held : List Held) → AllByRecursion (IsRight s w u) held → renewed s a u held ≡ held
   renewed_same [] all = refl

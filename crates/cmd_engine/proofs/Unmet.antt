@@ -99,5 +99,6 @@ module _ (s : Setup) (stamps : HasStamps s) (v : View) (h : Hands) (has : HasInH
         ∙ renewed_same s w u (call.Step its) r held right));
     its = has.its;
     whole = has.whole;
-    redists = has.redists;
+    confs = has.confs;
+    pends = has.pends;
   }

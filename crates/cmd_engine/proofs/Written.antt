@@ -29,10 +29,11 @@ use Rattle.its_steps.proofs.Owed.{owes_all}
 use Rattle.its_turns.specs.Machines.{AreWithin}
 use Rattle.its_turns.specs.Told.{Looks, Commits}
 use Rattle.its_turns.specs.declared.value.GuestMemory.{GuestMemory}
-use Rattle.lpi_pending.specs.declared.redist.Redist.{Redist as Owned}
-use Rattle.held_parts.specs.Redists.{redists_held, AreOfSet}
+use Rattle.lpi_pending.specs.InHand.{RedistParts}
+use Rattle.cmd_exec.specs.declared.needed.Needed.{Needed}
+use Rattle.held_parts.specs.Redists.{AreConfsOfSet, ArePendsOfSet}
 use Rattle.cmd_engine.specs.Cached.{ending_as, cached_held, AreWhole, commit_of, LeavesBy, MayMark, AreChanged}
-use Rattle.cmd_engine.specs.Hands.{memory_held, base_held, all_held, HasInHand, IsOwn}
+use Rattle.cmd_engine.specs.Hands.{memory_held, base_held, all_held, HasInHand, IsOwn, redists_held}
 use Rattle.cmd_engine.specs.Registers.{write_call, after_write, turns_off, write_ending}
 use Rattle.cmd_engine.specs.declared.cached.Mark.{Mark}
 use Rattle.cmd_engine.specs.declared.hands.Hands.{Hands}
@@ -125,7 +126,7 @@ module _ (s : Setup) (stamps : HasStamps s) (v : View) (h : Hands) (has : HasInH
     write_may = subst (MayCall s a) (sym (read_held s v x w held own has.held looks)) may_leave.0
 
     -- written
-    module _ (shape : Shape) (same : shape ≡ s.start.layout.shape) (h' : Hands) (its_is : h'.its ≡ its) (mem' : h'.memory ≡ h.memory) (set' : h'.set ≡ h.set)
+    module _ (shape : Shape) (same : shape ≡ s.start.layout.shape) (h' : Hands) (its_is : h'.its ≡ its) (mem' : h'.memory ≡ h.memory) (needed' : h'.needed ≡ h.needed)
         (redists' : h'.redists ≡ h.redists) (wrote : translator_of h'.translator.value ≡ after_write shape r t)
         (changes : AreChanged mark.change h.cached h'.cached) where
       abbrev z : Plain
@@ -151,12 +152,13 @@ module _ (s : Setup) (stamps : HasStamps s) (v : View) (h : Hands) (has : HasInH
       in_hand_written y commits = record {
         held = owed_after s x y a held (read_setup s v x w held own has.held looks) (read_held s v x w held own has.held looks) commits
             ∙ (may_leave.1
-            ∙ (ap (renewed s a z) (none_held h.redists rest alone.redists)
+            ∙ (ap (renewed s a z) (none_held h.redists rest alone.confs alone.pends)
             ∙ (makes.renews
             ∙ ((λ d. cached_held (sym its_is d) s.shards h'.cached (bases d))
-            ∙ (sym (none_held h.redists (cached_held h'.its s.shards h'.cached (base_held h')) alone.redists)
-            ∙ ap (λ l. redists_held l 16 (cached_held h'.its s.shards h'.cached (base_held h'))) (sym redists'))))));
+            ∙ (sym (none_held h.redists (cached_held h'.its s.shards h'.cached (base_held h')) alone.confs alone.pends)
+            ∙ ap (λ l. redists_held l (cached_held h'.its s.shards h'.cached (base_held h'))) (sym redists'))))));
         its = subst (λ (n : ℕ). n < translator_count s) (sym its_is) has.its;
         whole = subst (λ (n : ℕ). AreWhole s n h'.cached) (sym its_is) (makes.whole has.whole);
-        redists = subst (λ (q : ℕ × List (Option Owned)). AreOfSet s q.0 q.1) (λ d. (sym set' d, sym redists' d)) has.redists;
+        confs = subst (λ (q : Needed × RedistParts). AreConfsOfSet s q.0.confs q.1) (λ d. (sym needed' d, sym redists' d)) has.confs;
+        pends = subst (λ (q : Needed × RedistParts). ArePendsOfSet s q.0.pends q.1) (λ d. (sym needed' d, sym redists' d)) has.pends;
       }

@@ -5,14 +5,15 @@ use Rattle.guest_windows.specs.Windows.{Window}
 use Rattle.its_command.specs.declared.command.Command.{Command}
 use Rattle.its_types.specs.declared.machine.Part.{Part}
 use Rattle.its_types.specs.declared.machine.Part.TheVariants as part
-use Rattle.cmd_exec.specs.Needs.{is_needed, ArePartsOfStep}
+use Rattle.cmd_exec.specs.Needs.{needs_conf, needs_pend, ArePartsOfStep}
+use Rattle.lpi_pending.specs.InHand.{RedistParts}
 use Rattle.owned_parts.specs.Owned.{translator_of}
 use Rattle.owned_parts.specs.RedistSets.{is_in}
 use Rattle.its_steps.specs.Contents.{Maps, Mem, Held}
 use Rattle.its_steps.specs.Parts.{Setup, translator_count, vcpu_count}
 use Rattle.its_steps.specs.World.{View, out}
 use Rattle.its_turns.specs.declared.value.GuestMemory.{GuestMemory}
-use Rattle.held_parts.specs.Redists.{redists_held, AreNoRedists, AreOfSet}
+use Rattle.held_parts.specs.Redists.{confs_held, pends_held, AreNoConfs, AreNoPends, AreConfsOfSet, ArePendsOfSet}
 use Rattle.cmd_engine.specs.Cached.{cached_held, AreWhole}
 use Rattle.cmd_engine.specs.declared.cached.Cached.TheVariants as cached
 use Rattle.cmd_engine.specs.declared.hands.Hands.{Hands}
@@ -27,16 +28,21 @@ memory_held (Some b) others = out part.Mem (Mem b.value.memory b.value.track) �
 abbrev pub base_held : Hands → List Held
 base_held h = memory_held h.memory (out (part.Maps h.its) (Maps (translator_of h.translator.value)) ∷ [])
 
--- each was got after the one that follows it here: shards after memory and the maps, and redistributors after these
+-- parts of redistributors before other parts
+abbrev pub redists_held : RedistParts → List Held → List Held
+redists_held redists others = pends_held redists 16 (confs_held redists 16 others)
+
+-- each was got after the one that follows it here: shards after memory and the maps, configurations after these, and what is pending in the end
 abbrev pub all_held : Setup → Hands → List Held
-all_held s h = redists_held h.redists 16 (cached_held h.its s.shards h.cached (base_held h))
+all_held s h = redists_held h.redists (cached_held h.its s.shards h.cached (base_held h))
 
 -- a pass holds all of it, and nothing else
 pub record HasInHand (s : Setup) (v : View) (h : Hands) : Type 0 where
   pub held : v.held ≡ all_held s h
   pub its : h.its < translator_count s
   pub whole : AreWhole s h.its h.cached
-  pub redists : AreOfSet s h.set h.redists
+  pub confs : AreConfsOfSet s h.needed.confs h.redists
+  pub pends : ArePendsOfSet s h.needed.pends h.redists
 
 -- guest memory, if it is in hand
 abbrev pub windows_of : Option (Box GuestMemory Global) → List Window
@@ -45,32 +51,36 @@ windows_of (Some b) = b.value.memory
 
 -- ---- what is in hand for a call
 
--- no shard and no redistributor
+-- no shard, and nothing of a redistributor
 pub record IsBare (h : Hands) : Type 0 where
   pub cached_is : h.cached ≡ cached.Nothing
-  pub redists : AreNoRedists h.redists
+  pub confs : AreNoConfs h.redists
+  pub pends : AreNoPends h.redists
 
 -- the translator's maps and shards alone
 pub record IsOwn (h : Hands) : Type 0 where
   pub memory : h.memory ≡ None
-  pub redists : AreNoRedists h.redists
+  pub confs : AreNoConfs h.redists
+  pub pends : AreNoPends h.redists
 
--- no shard and no redistributor, but guest memory
+-- no shard, and nothing of a redistributor, but guest memory
 pub record IsBase (h : Hands) : Type 0 where
   pub memory : is_some h.memory ≡ true
   pub bare : IsBare h
 
--- shards and redistributors were taken
+-- shards and parts of redistributors were taken
 pub record IsSameButNeeded (old new : Hands) : Type 0 where
   pub its : new.its ≡ old.its
   pub translator : new.translator ≡ old.translator
   pub memory : new.memory ≡ old.memory
 
--- the redistributors in hand are those that the command reads or changes
+-- the parts of redistributors in hand are those that the command reads or changes
 pub record HasNeeded (s : Setup) (c : Command) (h : Hands) : Type 0 where
-  pub parts : ArePartsOfStep s.start.layout.shape h.translator.value.maps.maps c h.set
-  pub needed : (vcpu : ℕ) → is_in h.set vcpu ≡ is_needed s.start.layout.shape h.translator.value.maps.maps c vcpu
-  pub below : (vcpu : ℕ) → is_in h.set vcpu ≡ true → vcpu < vcpu_count s
+  pub parts : ArePartsOfStep s.start.layout.shape h.translator.value.maps.maps c h.needed
+  pub confs : (vcpu : ℕ) → is_in h.needed.confs vcpu ≡ needs_conf s.start.layout.shape h.translator.value.maps.maps c vcpu
+  pub pends : (vcpu : ℕ) → is_in h.needed.pends vcpu ≡ needs_pend s.start.layout.shape h.translator.value.maps.maps c vcpu
+  pub confs_below : (vcpu : ℕ) → is_in h.needed.confs vcpu ≡ true → vcpu < vcpu_count s
+  pub pends_below : (vcpu : ℕ) → is_in h.needed.pends vcpu ≡ true → vcpu < vcpu_count s
 
 -- ---- the parts whose turns a call may get
 
@@ -80,9 +90,10 @@ IsOfTranslator its (part.Maps i) = i ≡ its
 IsOfTranslator its (part.Shard i number) = i ≡ its
 IsOfTranslator its p = ⊥
 
--- of a step: memory and redistributors too
+-- of a step: memory and parts of redistributors too
 abbrev pub IsOfStep : ℕ → Part → Type 0
 IsOfStep its (part.Maps i) = i ≡ its
 IsOfStep its part.Mem = Unit {0}
 IsOfStep its (part.Shard i number) = i ≡ its
-IsOfStep its (part.Redist vcpu) = Unit {0}
+IsOfStep its (part.Conf vcpu) = Unit {0}
+IsOfStep its (part.Pend vcpu) = Unit {0}

@@ -11,7 +11,8 @@ ghost use Rattle.cmd_engine.specs.Cached.{cached_held, AreWhole};
 ghost use Rattle.cmd_engine.specs.Hands.{HasInHand, memory_held};
 
 use crate::cached::Cached;
-use held_parts::{put_redists, put_shards};
+use cmd_exec::Needed;
+use held_parts::{put_confs, put_pends, put_shards};
 use its_turns::{GuestMemory, Machine, Pass, Value, put};
 use its_types::Part;
 use lpi_pending::Redists;
@@ -29,33 +30,38 @@ pub(crate) struct Hands {
     pub memory: Option<Box<GuestMemory>>,
     /// Shards of its cache.
     pub cached: Cached,
-    /// The redistributors that are wanted: those of them that the machine has are in hand.
-    pub set: RedistSet,
-    /// These redistributors.
+    /// The parts of redistributors that are wanted: those of them that the machine has are in hand.
+    pub needed: Needed,
+    /// These parts.
     pub redists: Redists,
 }
 
 impl Hands {
     ghost use Rattle.std.specs.Prelude.{◌≡◌, ℕ, false};
     ghost use Rattle.owned_parts.specs.RedistSets.{is_in};
-    ghost use Rattle.held_parts.specs.Redists.{AreNoRedists};
+    ghost use Rattle.held_parts.specs.Redists.{AreNoConfs, AreNoPends};
     ghost use Rattle.cmd_engine.specs.declared.cached.Cached.TheVariants as cached;
 
-    /// No shard and no redistributor.
+    /// No shard, and nothing of a redistributor.
     pub fn new(its: u8, translator: Box<Translator>, memory: Option<Box<GuestMemory>>) -> Hands
         ensures its { result.its ≡ its }
         ensures translator { result.translator ≡ translator }
         ensures memory { result.memory ≡ memory }
         ensures cached { result.cached ≡ cached.Nothing }
-        ensures set { (v : ℕ) → is_in result.set v ≡ false }
-        ensures redists { AreNoRedists result.redists }
+        ensures needs_no_conf { (v : ℕ) → is_in result.needed.confs v ≡ false }
+        ensures needs_no_pend { (v : ℕ) → is_in result.needed.pends v ≡ false }
+        ensures confs { AreNoConfs result.redists }
+        ensures pends { AreNoPends result.redists }
     {
         Hands {
             its,
             translator,
             memory,
             cached: Cached::Nothing,
-            set: RedistSet::new(),
+            needed: Needed {
+                confs: RedistSet::new(),
+                pends: RedistSet::new(),
+            },
             redists: Redists::new(),
         }
     }
@@ -72,7 +78,8 @@ pub(crate) fn put_taken(machine: &Machine, pass: &mut Pass, hands: &mut Hands)
         (out (part.Maps hands.old.its)
         (content.Maps (translator_of hands.old.translator.value)) ∷ []) }
 {
-    put_redists(machine, pass, hands.set, &mut hands.redists);
+    put_pends(machine, pass, hands.needed.pends, &mut hands.redists);
+    put_confs(machine, pass, hands.needed.confs, &mut hands.redists);
     put_cached(machine, pass, hands.its, &mut hands.cached);
     put_memory(machine, pass, hands.memory.take());
 }

@@ -27,11 +27,11 @@ use std::mem::forget;
 use std::sync::Wait;
 
 /// A translator takes its next command (IHI 0069, section 5.3), and waits for the turns that it
-/// needs: its maps, memory, a pair's shard or every one, and redistributors, the lowest first. A
-/// command that ends one pair's translations drops them from their shard. One that may end all
-/// leaves the translator's next stamp, and after the last one 0 and empty shards. Takes no memory
-/// but what the maps want for a device, a collection or an event that is added. Where no step is
-/// made, every part is as it was.
+/// needs: its maps, memory, a pair's shard or every one, and then either the configurations of all
+/// virtual processors or what is pending at some, the lowest first. A command that ends one pair's
+/// translations drops them from their shard. One that may end all leaves the translator's next
+/// stamp, and after the last one 0 and empty shards. Takes no memory but what the maps want for a
+/// device, a collection or an event that is added. Where no step is made, every part is as it was.
 pub fn step_at<R: Wait, G: Gate>(
     rt: &R,
     machine: &Machine,

@@ -19,13 +19,14 @@ use crate::cached::Cached;
 use crate::endings::{Ending, ending_of};
 use crate::hands::Hands;
 use cmd_exec::needs;
-use held_parts::{Shards, Waiting, take_redists, take_shard, take_shards};
+use held_parts::{Shards, Waiting, take_confs, take_pends, take_shard, take_shards};
 use its_command::Command;
 use its_turns::{Machine, Pass, look};
 use its_types::{DeviceId, EventId};
 use std::sync::Wait;
 
-/// Takes what a command needs: the shards that it may change, and redistributors, the lowest first.
+/// Takes what a command needs: the shards that it may change, then configurations, then what is
+/// pending, of both the lowest first.
 pub(crate) fn take_needed<R: Wait>(
     rt: &R,
     machine: &Machine,
@@ -48,7 +49,7 @@ pub(crate) fn take_needed<R: Wait>(
     ensures low { IsAny hands.new.cached → ReadLow (view pass.old) hands.old.its (view pass.new) }
 {
     let ends = ending_of(command, &hands.translator.maps);
-    hands.set = needs(
+    hands.needed = needs(
         command,
         &hands.translator.regs,
         &hands.translator.maps,
@@ -56,7 +57,8 @@ pub(crate) fn take_needed<R: Wait>(
     );
     take_cached(rt, machine, pass, hands.its, ends, &mut hands.cached);
     let how = Waiting { rt };
-    take_redists(&how, machine, pass, hands.set, &mut hands.redists);
+    take_confs(&how, machine, pass, hands.needed.confs, &mut hands.redists);
+    take_pends(&how, machine, pass, hands.needed.pends, &mut hands.redists);
 }
 
 /// Takes the shards that a call may change: that of a pair that it ends, and every one where it may

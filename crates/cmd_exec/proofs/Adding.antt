@@ -22,7 +22,7 @@ use Rattle.its_plain.specs.Commands.{event_at}
 use Rattle.its_plain.specs.declared.call.Reason.{Reason}
 use Rattle.its_plain.specs.declared.call.Reason.TheVariants.{DeviceRange, SizeRange, TargetRange, CollectionRange, NoDevice, EventRange, IntidRange}
 use Rattle.its_plain.specs.declared.call.Reason.TheVariants.{NoCollection, LpisOff}
-use Rattle.lpi_pending.specs.declared.redist.Redist.{Redist}
+use Rattle.lpi_pending.specs.InHand.{RedistParts}
 use Rattle.cmd_exec.specs.declared.effect.Effect.{Effect}
 use Rattle.cmd_exec.specs.declared.effect.Effect.TheVariants as effect
 use Rattle.cmd_exec.specs.InHand.{is_on_in}
@@ -31,7 +31,7 @@ use Rattle.cmd_exec.specs.Effects.{targeted, moved, added}
 use Rattle.cmd_exec.specs.Room.{grows, adds_event, effect_adds}
 use Rattle.cmd_exec.proofs.Steps.{passed, found, ran}
 
-module _ (s : Shape) (r : Registers) (m : Maps) (memory : List Window) (rs : List (Option Redist)) where
+module _ (s : Shape) (r : Registers) (m : Maps) (memory : List Window) (rs : RedistParts) where
   abbrev Is : Bool → Effect → Type 0
   Is b e = effect_adds m e ≡ b
 

@@ -1,4 +1,4 @@
--- The redistributors that a command needs are those of virtual processors that there are.
+-- What a command reads or changes of what is pending is that of virtual processors that there are.
 use Rattle.std.proofs.Common.{◌≡◌, ℕ, ◌<◌, Bool, true, false, ◌&&◌, ◌||◌, eqb, nat_lt, Option, Some, None, subst, refl}
 use Rattle.std.proofs.lemmas.Bool.{ltb-true, eqb-true, and_parts, both_ways}
 use Rattle.its_command.specs.declared.command.Command.{Command}
@@ -11,7 +11,7 @@ use Rattle.its_types.specs.declared.machine.Shape.{Shape}
 use Rattle.its_types.specs.declared.translation.Event.{Event}
 use Rattle.its_plain.specs.Parts.{target_of_event}
 use Rattle.owned_parts.specs.RedistSets.{is_target}
-use Rattle.cmd_exec.specs.Needs.{AreTargets, is_either, is_moved, needs_vcpu}
+use Rattle.cmd_exec.specs.Needs.{AreTargets, is_either, is_moved, is_concerned}
 
 or_else : (a b : Bool) (P : Type 0) → (a ≡ true → P) → (b ≡ true → P) → (a || b) ≡ true → P
 or_else true b P f g h = f refl
@@ -44,23 +44,27 @@ module _ (s : Shape) (m : Maps) (targets : AreTargets s m) where
   moved Two None to v below high is = absurd (both_ways false refl is)
   moved Two (Some from) to v below high is = either from.0 to v (below from refl) high (and_parts _ _ is).1
 
-  pub needs_below : (c : Command) (v : ℕ) → needs_vcpu s m c v ≡ true → v < s.vcpus
-  unfolding needs_vcpu
-  needs_below (command.Movi dev ev icid) v is = or_else _ _ (v < s.vcpus) (of_event dev.0 ev.0 v) (of_collection icid.0 v) is
-  needs_below (command.Int dev ev) v is = of_event dev.0 ev.0 v is
-  needs_below (command.Clear dev ev) v is = of_event dev.0 ev.0 v is
-  needs_below (command.Discard dev ev) v is = of_event dev.0 ev.0 v is
-  needs_below (command.Mapc icid to valid) v is =
+  pub concerned_below : (c : Command) (v : ℕ) → is_concerned s m c v ≡ true → v < s.vcpus
+  unfolding is_concerned
+  concerned_below (command.Movi dev ev icid) v is = or_else _ _ (v < s.vcpus) (of_event dev.0 ev.0 v) (of_collection icid.0 v) is
+  concerned_below (command.Int dev ev) v is = of_event dev.0 ev.0 v is
+  concerned_below (command.Clear dev ev) v is = of_event dev.0 ev.0 v is
+  concerned_below (command.Discard dev ev) v is = of_event dev.0 ev.0 v is
+  concerned_below (command.Mapc icid to valid) v is =
       let parts = and_parts (valid && nat_lt to s.vcpus) (is_moved s.profile (collection_of m icid.0) to v) is in
       moved s.profile (collection_of m icid.0) to v (λ t at. targets icid.0 t at) (ltb-true to s.vcpus (and_parts valid (nat_lt to s.vcpus) parts.0).1) parts.1
-  needs_below (command.Movall from to) v is =
+  concerned_below (command.Movall from to) v is =
       let parts = and_parts (nat_lt from s.vcpus && nat_lt to s.vcpus) (is_either from to v) is in
       let both = and_parts (nat_lt from s.vcpus) (nat_lt to s.vcpus) parts.0 in
       either from to v (ltb-true from s.vcpus both.0) (ltb-true to s.vcpus both.1) parts.1
-  needs_below (command.Mapti dev ev intid icid) v is = ltb-true v s.vcpus is
-  needs_below (command.Mapi dev ev icid) v is = ltb-true v s.vcpus is
-  needs_below (command.Inv dev ev) v is = ltb-true v s.vcpus is
-  needs_below (command.Invall icid) v is = ltb-true v s.vcpus is
-  needs_below (command.Mapd dev bits itt valid) v is = absurd (both_ways false refl is)
-  needs_below (command.Sync to) v is = absurd (both_ways false refl is)
-  needs_below (command.Unknown opcode) v is = absurd (both_ways false refl is)
+  concerned_below (command.Mapti dev ev intid icid) v is = absurd (both_ways false refl is)
+  concerned_below (command.Mapi dev ev icid) v is = absurd (both_ways false refl is)
+  concerned_below (command.Inv dev ev) v is = absurd (both_ways false refl is)
+  concerned_below (command.Invall icid) v is = absurd (both_ways false refl is)
+  concerned_below (command.Mapd dev bits itt valid) v is = absurd (both_ways false refl is)
+  concerned_below (command.Sync to) v is = absurd (both_ways false refl is)
+  concerned_below (command.Unknown opcode) v is = absurd (both_ways false refl is)
+
+-- so are the configurations
+pub confs_below : (n : ℕ) (b : Bool) (v : ℕ) → (b && nat_lt v n) ≡ true → v < n
+confs_below n b v is = ltb-true v n (and_parts b (nat_lt v n) is).1

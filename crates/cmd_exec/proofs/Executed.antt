@@ -1,6 +1,6 @@
 -- What a command comes to on parts in hand, from its plan.
 use Rattle.std.proofs.Common.{◌≡◌, ℕ, Bool, ◌&&◌, eqb, List, [], ◌∷◌, Option, Some, None, Result, Ok, Err, IfOk, refl, sym, ap, subst, ◌∙◌}
-use Rattle.std.specs.Prelude.{is_some, is_ok}
+use Rattle.std.specs.Prelude.{is_some, is_ok, slice_index_or}
 use Rattle.std.proofs.lemmas.Bool.{cond_both}
 use Rattle.guest_windows.specs.Windows.{Window}
 use Rattle.gits_regs.specs.Registers.{Registers, advanced}
@@ -11,23 +11,24 @@ use Rattle.its_types.specs.Lpis.{is_pending}
 use Rattle.its_types.specs.declared.machine.Shape.{Shape}
 use Rattle.its_types.specs.declared.ids.Vcpu.{Vcpu}
 use Rattle.its_maps.specs.MapsRoom.{MapsRoom}
-use Rattle.its_plain.specs.Plain.{Plain, regs_of, maps_of}
-use Rattle.its_plain.specs.Commands.{ran, intids_of, all_reread_at}
+use Rattle.its_plain.specs.Plain.{Plain, ConfState, PendState, regs_of, maps_of}
+use Rattle.lpi_config.specs.declared.conf.Conf.{Conf}
+use Rattle.lpi_pending.specs.declared.pend.Pend.{Pend}
+use Rattle.its_plain.specs.Commands.{ran, intids_of, conf_all_reread_at}
 use Rattle.its_plain.specs.Answer.{command_reply, command_left, went_on}
 use Rattle.its_plain.specs.declared.call.Reason.{Reason}
-use Rattle.lpi_pending.specs.InHand.{in_hand}
-use Rattle.lpi_pending.specs.declared.redist.Redist.{Redist}
+use Rattle.lpi_pending.specs.InHand.{RedistParts, conf_in, pend_in}
 use Rattle.owned_parts.specs.Owned.{ArePartsOf, ArePartsOfSound}
 use Rattle.cmd_exec.specs.declared.effect.Effect.{Effect}
 use Rattle.cmd_exec.specs.declared.effect.Effect.TheVariants as effect
-use Rattle.cmd_exec.specs.InHand.{changed, with_set, with_cleared, with_none, with_all, lpis_in, lpi_moved_in, lpis_moved_in, all_moved_in}
+use Rattle.cmd_exec.specs.InHand.{pend_changed, confs_changed, with_set, with_cleared, with_none, with_all, lpis_in, lpi_moved_in, lpis_moved_in, all_moved_in}
 use Rattle.cmd_exec.specs.Effects.{planned, maps_after, redists_after, cleared_in}
 use Rattle.cmd_exec.specs.Executed.{IsPlanOf, IsReplyTo, AreLeftBy, planned_reply, outcome_reply, as_step}
 use Rattle.cmd_exec.specs.Needs.{AreNeededInHand}
 use Rattle.cmd_exec.specs.Ready.{IsReady}
 use Rattle.cmd_exec.specs.Room.{HasRoom, AddsAlike, grows, outcome_adds, effect_adds}
 use Rattle.cmd_exec.specs.declared.effect.Planned.{Planned}
-use Rattle.cmd_exec.proofs.InHand.{changed_held, below_held}
+use Rattle.cmd_exec.proofs.InHand.{pend_held, pend_keeps, confs_held, confs_keep}
 use Rattle.cmd_exec.proofs.Steps.{by}
 use Rattle.cmd_exec.proofs.Lifted.{left, regs_are, maps_are, parts_left, went_on_are}
 use Rattle.cmd_exec.proofs.PlainPlan.{planned_same}
@@ -35,52 +36,73 @@ use Rattle.cmd_exec.proofs.Readied.{planned_ready}
 use Rattle.cmd_exec.proofs.Adding.{planned_adds}
 use Rattle.cmd_exec.proofs.Workable.{workable}
 
-abbrev Hand : Type 0
-Hand = List (Option Redist)
-
 -- ---- who is in hand
 
-moved_held : (x from to v : ℕ) (rs : Hand) → is_some (in_hand (lpi_moved_in x from to rs) v) ≡ is_some (in_hand rs v)
-moved_held x from to v rs =
-    cond_both (is_pending x (lpis_in rs from)) (changed to (with_set x) (changed from (with_cleared x) rs)) rs
-    (λ (now : Hand). is_some (in_hand now v) ≡ is_some (in_hand rs v))
-    (λ _. changed_held to v (with_set x) (changed from (with_cleared x) rs) ∙ changed_held from v (with_cleared x) rs) (λ _. refl)
+-- the same parts are, whatever was changed in them
+pub record AreHeldAlike (now rs : RedistParts) : Type 0 where
+  pub confs : (v : ℕ) → is_some (conf_in now v) ≡ is_some (conf_in rs v)
+  pub pends : (v : ℕ) → is_some (pend_in now v) ≡ is_some (pend_in rs v)
 
-lpis_held : (xs : List ℕ) (from to v : ℕ) (rs : Hand) → is_some (in_hand (lpis_moved_in xs from to rs) v) ≡ is_some (in_hand rs v)
-lpis_held [] from to v rs = refl
-lpis_held (x ∷ xs) from to v rs = lpis_held xs from to v (lpi_moved_in x from to rs) ∙ moved_held x from to v rs
+alike : (rs : RedistParts) → AreHeldAlike rs rs
+alike rs = record { confs = λ v. refl; pends = λ v. refl }
 
-all_held : (from to v : ℕ) (rs : Hand) → is_some (in_hand (all_moved_in from to rs) v) ≡ is_some (in_hand rs v)
-all_held from to v rs =
-    cond_both (eqb from to) rs (changed to (with_all (lpis_in rs from)) (changed from with_none rs))
-    (λ (now : Hand). is_some (in_hand now v) ≡ is_some (in_hand rs v))
-    (λ _. refl) (λ _. changed_held to v (with_all (lpis_in rs from)) (changed from with_none rs) ∙ changed_held from v with_none rs)
+alike_by : (rs now then : RedistParts) → AreHeldAlike then now → AreHeldAlike now rs → AreHeldAlike then rs
+alike_by rs now then g h = record { confs = λ v. g.confs v ∙ h.confs v; pends = λ v. g.pends v ∙ h.pends v }
 
-cleared_held : (x : ℕ) (o : Option Vcpu) (v : ℕ) (rs : Hand) → is_some (in_hand (cleared_in x o rs) v) ≡ is_some (in_hand rs v)
-cleared_held x None v rs = refl
-cleared_held x (Some w) v rs = changed_held w.0 v (with_cleared x) rs
+pend_alike : (v : ℕ) (f : PendState → PendState) (rs : RedistParts) → AreHeldAlike (pend_changed v f rs) rs
+pend_alike v f rs = record {
+  confs = λ w. ap (λ (xs : List (Option Conf)). is_some (slice_index_or xs w None)) (pend_keeps v f rs);
+  pends = λ w. pend_held v w f rs;
+}
 
-pub after_held : (s : Shape) (m : Maps) (memory : List Window) (e : Effect) (rs : Hand) (v : ℕ) → is_some (in_hand (redists_after s m memory e rs) v) ≡ is_some
-    (in_hand rs v)
+confs_alike : (n : ℕ) (f : ConfState → ConfState) (rs : RedistParts) → AreHeldAlike (confs_changed n f rs) rs
+confs_alike n f rs = record {
+  confs = λ w. confs_held n w f rs;
+  pends = λ w. ap (λ (xs : List (Option Pend)). is_some (slice_index_or xs w None)) (confs_keep n f rs);
+}
+
+moved_alike : (x from to : ℕ) (rs : RedistParts) → AreHeldAlike (lpi_moved_in x from to rs) rs
+moved_alike x from to rs =
+    let once = pend_changed from (with_cleared x) rs in
+    cond_both (is_pending x (lpis_in rs from)) (pend_changed to (with_set x) once) rs (λ (now : RedistParts). AreHeldAlike now rs)
+    (λ _. alike_by rs once (pend_changed to (with_set x) once) (pend_alike to (with_set x) once) (pend_alike from (with_cleared x) rs)) (λ _. alike rs)
+
+lpis_alike : (xs : List ℕ) (from to : ℕ) (rs : RedistParts) → AreHeldAlike (lpis_moved_in xs from to rs) rs
+lpis_alike [] from to rs = alike rs
+lpis_alike (x ∷ xs) from to rs =
+    alike_by rs (lpi_moved_in x from to rs) (lpis_moved_in (x ∷ xs) from to rs) (lpis_alike xs from to (lpi_moved_in x from to rs)) (moved_alike x from to rs)
+
+all_alike : (from to : ℕ) (rs : RedistParts) → AreHeldAlike (all_moved_in from to rs) rs
+all_alike from to rs =
+    let once = pend_changed from with_none rs in
+    let f = with_all (lpis_in rs from) in
+    cond_both (eqb from to) rs (pend_changed to f once) (λ (now : RedistParts). AreHeldAlike now rs) (λ _. alike rs)
+    (λ _. alike_by rs once (pend_changed to f once) (pend_alike to f once) (pend_alike from with_none rs))
+
+cleared_alike : (x : ℕ) (o : Option Vcpu) (rs : RedistParts) → AreHeldAlike (cleared_in x o rs) rs
+cleared_alike x None rs = alike rs
+cleared_alike x (Some w) rs = pend_alike w.0 (with_cleared x) rs
+
+pub after_alike : (s : Shape) (m : Maps) (memory : List Window) (e : Effect) (rs : RedistParts) → AreHeldAlike (redists_after s m memory e rs) rs
 unfolding redists_after
-after_held s m memory effect.Nothing rs v = refl
-after_held s m memory (effect.MapDevice dev device) rs v = refl
-after_held s m memory (effect.UnmapDevice dev) rs v = refl
-after_held s m memory (effect.MapCollection icid vcpu) rs v = refl
-after_held s m memory (effect.MoveCollection icid from to) rs v = lpis_held (intids_of m icid.0) from.0 to.0 v rs
-after_held s m memory (effect.UnmapCollection icid) rs v = refl
-after_held s m memory (effect.MapEvent dev ev event) rs v = below_held s.vcpus v (all_reread_at memory (event.intid.0 ∷ [])) rs
-after_held s m memory (effect.MoveEvent dev ev intid icid from to) rs v = moved_held intid.0 from.0 to.0 v rs
-after_held s m memory (effect.UnmapEvent dev ev intid target) rs v = cleared_held intid.0 target v rs
-after_held s m memory (effect.SetLpi intid vcpu) rs v = changed_held vcpu.0 v (with_set intid.0) rs
-after_held s m memory (effect.ClearLpi intid vcpu) rs v = changed_held vcpu.0 v (with_cleared intid.0) rs
-after_held s m memory (effect.Reread intid) rs v = below_held s.vcpus v (all_reread_at memory (intid.0 ∷ [])) rs
-after_held s m memory (effect.RereadCollection icid) rs v = below_held s.vcpus v (all_reread_at memory (intids_of m icid.0)) rs
-after_held s m memory (effect.MoveAll from to) rs v = all_held from.0 to.0 v rs
+after_alike s m memory effect.Nothing rs = alike rs
+after_alike s m memory (effect.MapDevice dev device) rs = alike rs
+after_alike s m memory (effect.UnmapDevice dev) rs = alike rs
+after_alike s m memory (effect.MapCollection icid vcpu) rs = alike rs
+after_alike s m memory (effect.MoveCollection icid from to) rs = lpis_alike (intids_of m icid.0) from.0 to.0 rs
+after_alike s m memory (effect.UnmapCollection icid) rs = alike rs
+after_alike s m memory (effect.MapEvent dev ev event) rs = confs_alike s.vcpus (conf_all_reread_at memory (event.intid.0 ∷ [])) rs
+after_alike s m memory (effect.MoveEvent dev ev intid icid from to) rs = moved_alike intid.0 from.0 to.0 rs
+after_alike s m memory (effect.UnmapEvent dev ev intid target) rs = cleared_alike intid.0 target rs
+after_alike s m memory (effect.SetLpi intid vcpu) rs = pend_alike vcpu.0 (with_set intid.0) rs
+after_alike s m memory (effect.ClearLpi intid vcpu) rs = pend_alike vcpu.0 (with_cleared intid.0) rs
+after_alike s m memory (effect.Reread intid) rs = confs_alike s.vcpus (conf_all_reread_at memory (intid.0 ∷ [])) rs
+after_alike s m memory (effect.RereadCollection icid) rs = confs_alike s.vcpus (conf_all_reread_at memory (intids_of m icid.0)) rs
+after_alike s m memory (effect.MoveAll from to) rs = all_alike from.0 to.0 rs
 
 -- ---- the plan
 
-module _ (s : Shape) (r : Registers) (mr : MapsRoom) (memory : List Window) (rs : Hand) (c : Command) (needed : AreNeededInHand s mr.maps c rs) where
+module _ (s : Shape) (r : Registers) (mr : MapsRoom) (memory : List Window) (rs : RedistParts) (c : Command) (needed : AreNeededInHand s mr.maps c rs) where
   abbrev m : Maps
   m = mr.maps
 

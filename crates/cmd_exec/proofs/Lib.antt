@@ -1,4 +1,5 @@
 pub mod Opened
+pub mod Places
 pub mod InHand
 pub mod Targets
 pub mod Walks
@@ -12,4 +13,4 @@ mod Adding
 pub mod Executed
 pub mod Sets
 pub mod Start
-mod Below
+pub mod Below

@@ -1,5 +1,5 @@
 -- A command comes to the same on the parts in hand and in the state that they are of.
-use Rattle.std.proofs.Common.{◌≡◌, ℕ, ◌^◌, ◌<◌, Bool, true, false, ◌&&◌, cond, eqb, nat_lt, nat_le, List, [], ◌∷◌, Option, Some, None, Result, Ok, refl, ap}
+use Rattle.std.proofs.Common.{◌≡◌, ℕ, ◌^◌, ◌<◌, Bool, true, false, ◌&&◌, cond, eqb, nat_lt, nat_le, [], ◌∷◌, Option, Some, None, Result, Ok, refl, ap}
 use Rattle.std.proofs.Common.{subst, ◌∙◌}
 use Rattle.std.specs.Prelude.{is_some}
 use Rattle.std.proofs.lemmas.Bool.{ltb-true, and_parts, both_ways}
@@ -23,8 +23,7 @@ use Rattle.its_plain.specs.Commands.{◌>>=◌, event_at, intids_of, lpis_moved,
 use Rattle.its_plain.specs.declared.call.Reason.{Reason}
 use Rattle.its_plain.specs.declared.call.Reason.TheVariants.{DeviceRange, SizeRange, TargetRange, CollectionRange, NoDevice, EventRange, IntidRange}
 use Rattle.its_plain.specs.declared.call.Reason.TheVariants.{NoCollection, LpisOff}
-use Rattle.lpi_pending.specs.InHand.{in_hand}
-use Rattle.lpi_pending.specs.declared.redist.Redist.{Redist}
+use Rattle.lpi_pending.specs.InHand.{RedistParts, pend_in}
 use Rattle.owned_parts.specs.Owned.{AreRedistributorsOf}
 use Rattle.cmd_exec.specs.declared.effect.Effect.{Effect}
 use Rattle.cmd_exec.specs.declared.effect.Effect.TheVariants as effect
@@ -37,10 +36,10 @@ use Rattle.cmd_exec.proofs.Steps.{by, test_same, test_when, option_same, result_
 use Rattle.cmd_exec.proofs.Lifted.{left, on_same}
 use Rattle.cmd_exec.proofs.Targets.{movi_old, movi_new, int_target, clear_target, mapc_targets, movall_targets}
 
-target_held : (rs : List (Option Redist)) (o : Option Vcpu) (v : Vcpu) → o ≡ Some v → IsTargetInHand rs o → is_some (in_hand rs v.0) ≡ true
+target_held : (rs : RedistParts) (o : Option Vcpu) (v : Vcpu) → o ≡ Some v → IsTargetInHand rs o → is_some (pend_in rs v.0) ≡ true
 target_held rs o v e h = subst (IsTargetInHand rs) e h
 
-module _ (u : Plain) (i : ℕ) (rs : List (Option Redist)) (are : AreRedistributorsOf u rs) where
+module _ (u : Plain) (i : ℕ) (rs : RedistParts) (are : AreRedistributorsOf u rs) where
   abbrev m : Maps
   m = maps_of u i
 
@@ -53,7 +52,7 @@ module _ (u : Plain) (i : ℕ) (rs : List (Option Redist)) (are : AreRedistribut
   abbrev Same : Result Plain Reason → Result Effect Reason → Type 0
   Same a b = a ≡ by end b
 
-  both_same : (v w : ℕ) → is_some (in_hand rs v) ≡ true → is_some (in_hand rs w) ≡ true → (is_on u v && is_on u w) ≡ (is_on_in rs v && is_on_in rs w)
+  both_same : (v w : ℕ) → is_some (pend_in rs v) ≡ true → is_some (pend_in rs w) ≡ true → (is_on u v && is_on u w) ≡ (is_on_in rs v && is_on_in rs w)
   both_same v w hv hw = ap (λ (b : Bool). b && is_on u w) (on_same u rs v are hv) ∙ ap (λ (b : Bool). is_on_in rs v && b) (on_same u rs w are hw)
 
   -- ---- devices and collections
@@ -81,7 +80,7 @@ module _ (u : Plain) (i : ℕ) (rs : List (Option Redist)) (are : AreRedistribut
       by_on true false e = absurd (both_ways true e refl)
       by_on false true e = absurd (both_ways false refl e)
 
-      by_same : (t : Bool) → (t ≡ false → (is_some (in_hand rs from.0) ≡ true) × (is_some (in_hand rs to.0) ≡ true))
+      by_same : (t : Bool) → (t ≡ false → (is_some (pend_in rs from.0) ≡ true) × (is_some (pend_in rs to.0) ≡ true))
           → with_collection (cond t u (plain.followed u i icid.0 from.0 to.0)) i icid.0 to.0 ≡ end
           (cond t (effect.MapCollection icid to) (moved rs icid from to))
       by_same true g = refl

@@ -35,11 +35,12 @@ use Rattle.its_plain.specs.Commands.{◌>>=◌, event_at, intids_of}
 use Rattle.its_plain.specs.declared.call.Reason.{Reason}
 use Rattle.its_plain.specs.declared.call.Reason.TheVariants.{DeviceRange, SizeRange, TargetRange, CollectionRange, NoDevice, EventRange, IntidRange}
 use Rattle.its_plain.specs.declared.call.Reason.TheVariants.{NoCollection, LpisOff}
-use Rattle.lpi_pending.specs.InHand.{in_hand}
-use Rattle.lpi_pending.specs.declared.redist.Redist.{Redist}
+use Rattle.lpi_config.specs.declared.conf.Conf.{Conf}
+use Rattle.lpi_pending.specs.InHand.{RedistParts, conf_in, pend_in}
+use Rattle.lpi_pending.specs.declared.pend.Pend.{Pend}
 use Rattle.cmd_exec.specs.declared.effect.Effect.{Effect}
 use Rattle.cmd_exec.specs.declared.effect.Effect.TheVariants as effect
-use Rattle.cmd_exec.specs.InHand.{is_on_in, takes_lpi, CanRereadAll}
+use Rattle.cmd_exec.specs.InHand.{is_on_in, has_lpi, takes_lpi, CanRereadAll}
 use Rattle.cmd_exec.specs.Effects as parts
 use Rattle.cmd_exec.specs.Effects.{targeted, moved, added}
 use Rattle.cmd_exec.specs.Needs.{AreNeededInHand}
@@ -100,7 +101,7 @@ each_picked P icid (x ∷ xs) h = by_test (each_picked P icid xs h.1) (eqb x.1.i
     by_test rest true = (h.0, rest)
     by_test rest false = rest
 
-module _ (s : Shape) (mr : MapsRoom) (rs : List (Option Redist)) (can : IsWorkable s mr.maps rs) where
+module _ (s : Shape) (mr : MapsRoom) (rs : RedistParts) (can : IsWorkable s mr.maps rs) where
   abbrev m : Maps
   m = mr.maps
 
@@ -112,14 +113,14 @@ module _ (s : Shape) (mr : MapsRoom) (rs : List (Option Redist)) (can : IsWorkab
       each_picked IsLpi icid (entries m.events) (each_event (λ e. IsLpi e.intid.0) (entries m.events) (entries_sorted m.events)
       (λ q e is. can.events q.0 q.1 e (get-entries m.events q ∙ is)))
 
-  -- ---- redistributors in hand
+  -- ---- parts in hand
 
-  takes : (v x : ℕ) → is_some (in_hand rs v) ≡ true → IsLpi x → takes_lpi rs v x ≡ true
+  takes : (v x : ℕ) → is_some (pend_in rs v) ≡ true → IsLpi x → takes_lpi rs v x ≡ true
   takes v x held lpi =
-      let r = held_by (in_hand rs v) held in
-      ap (λ (o : Option Redist). takes_lpi (o ∷ []) 0 x) r.1 ∙ ap (λ (n : ℕ). is_lpi n x) (can.lpis v r.0 r.1).pending_bits ∙ lpi
+      let p = held_by (pend_in rs v) held in
+      ap (has_lpi x) p.1 ∙ ap (λ (n : ℕ). is_lpi n x) (can.pends v p.0 p.1) ∙ lpi
 
-  takes_all : (v : ℕ) (xs : List ℕ) → is_some (in_hand rs v) ≡ true → AllByRecursion IsLpi xs → TakesAll rs v xs
+  takes_all : (v : ℕ) (xs : List ℕ) → is_some (pend_in rs v) ≡ true → AllByRecursion IsLpi xs → TakesAll rs v xs
   takes_all v [] held lpis = tt
   takes_all v (x ∷ xs) held lpis = (takes v x held lpis.0, takes_all v xs held lpis.1)
 
@@ -127,18 +128,14 @@ module _ (s : Shape) (mr : MapsRoom) (rs : List (Option Redist)) (can : IsWorkab
   takes_target None x held lpi = tt
   takes_target (Some v) x held lpi = takes v.0 x held lpi
 
-  can_all : (v : ℕ) (r : Redist) (xs : List ℕ) → in_hand rs v ≡ Some r → AllByRecursion IsLpi xs → CanRereadAll r xs
-  can_all v r [] is lpis = tt
-  can_all v r (x ∷ xs) is lpis = (
-    record { lpi = ap (λ (n : ℕ). is_lpi n x) (can.lpis v r is).config_bits ∙ lpis.0; low = can.low v r is },
-    can_all v r xs is
-        lpis.1,
-  )
+  can_all : (v : ℕ) (c : Conf) (xs : List ℕ) → conf_in rs v ≡ Some c → AllByRecursion IsLpi xs → CanRereadAll c xs
+  can_all v c [] is lpis = tt
+  can_all v c (x ∷ xs) is lpis = (record { lpi = ap (λ (n : ℕ). is_lpi n x) (can.confs v c is) ∙ lpis.0; low = can.low v c is }, can_all v c xs is lpis.1)
 
-  can_each : (xs : List ℕ) → ((v : ℕ) → v < s.vcpus → is_some (in_hand rs v) ≡ true) → AllByRecursion IsLpi xs → CanEachReread s.vcpus rs xs
+  can_each : (xs : List ℕ) → ((v : ℕ) → v < s.vcpus → is_some (conf_in rs v) ≡ true) → AllByRecursion IsLpi xs → CanEachReread s.vcpus rs xs
   can_each xs held lpis = λ v lt.
-      let r = held_by (in_hand rs v) (held v lt) in
-      subst (λ (o : Option Redist). HeldCanReread o xs) (sym r.1) (can_all v r.0 xs r.1 lpis)
+      let c = held_by (conf_in rs v) (held v lt) in
+      subst (λ (o : Option Conf). HeldCanReread o xs) (sym c.1) (can_all v c.0 xs c.1 lpis)
 
   -- ---- commands
 
@@ -174,7 +171,7 @@ module _ (s : Shape) (mr : MapsRoom) (rs : List (Option Redist)) (can : IsWorkab
       some_there : (v : Vcpu) (q : Option Vcpu) → q ≡ Some v → q ≡ None → ⊥
       some_there v q a b = cc
 
-      by_on : (from : Vcpu) → collection_of m icid.0 ≡ Some from → (b : Bool) → (is_some (in_hand rs from.0) ≡ true) × (is_some (in_hand rs to.0) ≡ true)
+      by_on : (from : Vcpu) → collection_of m icid.0 ≡ Some from → (b : Bool) → (is_some (pend_in rs from.0) ≡ true) × (is_some (pend_in rs to.0) ≡ true)
           → CanBeHad (cond b (effect.MoveCollection icid from to) (effect.MapCollection icid to))
       by_on from there true h = λ _. (
         (λ none. absurd (some_there from (collection_of m icid.0) there none)),
@@ -185,7 +182,7 @@ module _ (s : Shape) (mr : MapsRoom) (rs : List (Option Redist)) (can : IsWorkab
       by_on from there false h = mapped to
 
       by_same : (from : Vcpu) → collection_of m icid.0 ≡ Some from → (t : Bool)
-          → (t ≡ false → (is_some (in_hand rs from.0) ≡ true) × (is_some (in_hand rs to.0) ≡ true))
+          → (t ≡ false → (is_some (pend_in rs from.0) ≡ true) × (is_some (pend_in rs to.0) ≡ true))
           → CanBeHad (cond t (effect.MapCollection icid to) (moved rs icid from to))
       by_same from there true g = mapped to
       by_same from there false g = by_on from there (is_on_in rs from.0 && is_on_in rs to.0) (g refl)
@@ -211,7 +208,7 @@ module _ (s : Shape) (mr : MapsRoom) (rs : List (Option Redist)) (can : IsWorkab
       (λ _ room. (mapped, (λ none. room (ap (λ (b : Bool). b && not (is_some (event_of m dev.0 ev.0))) mapped ∙ not_there (event_of m dev.0 ev.0) none)), each))
 
   mapti_ready : (r : Registers) (dev : DeviceId) (ev : EventId) (intid : Intid) (icid : Icid)
-      → ((v : ℕ) → v < s.vcpus → is_some (in_hand rs v) ≡ true) → Readies (parts.mapti s r m dev ev intid icid)
+      → ((v : ℕ) → v < s.vcpus → is_some (conf_in rs v) ≡ true) → Readies (parts.mapti s r m dev ev intid icid)
   unfolding parts.mapti
   mapti_ready r dev ev intid icid held =
       found CanBeHad (device_of m dev.0) NoDevice _ (λ device is.
@@ -266,19 +263,19 @@ module _ (s : Shape) (mr : MapsRoom) (rs : List (Option Redist)) (can : IsWorkab
       takes_target (collection_of m event.icid.0) event.intid.0 (subst (IsTargetInHand rs) (target_is m dev.0 ev.0 event at) target)
       (can.events dev.0 ev.0 event (event_is m dev.0 ev.0 event at)))
 
-  inv_ready : (dev : DeviceId) (ev : EventId) → ((v : ℕ) → v < s.vcpus → is_some (in_hand rs v) ≡ true) → Readies (parts.inv m dev ev)
+  inv_ready : (dev : DeviceId) (ev : EventId) → ((v : ℕ) → v < s.vcpus → is_some (conf_in rs v) ≡ true) → Readies (parts.inv m dev ev)
   unfolding parts.inv IsReady
   inv_ready dev ev held =
       ran CanBeHad (event_at m dev.0 ev.0) _
       (λ event at _. can_each (event.intid.0 ∷ []) held (can.events dev.0 ev.0 event (event_is m dev.0 ev.0 event at), tt))
 
-  invall_ready : (icid : Icid) → ((v : ℕ) → v < s.vcpus → is_some (in_hand rs v) ≡ true) → Readies (parts.invall m icid)
+  invall_ready : (icid : Icid) → ((v : ℕ) → v < s.vcpus → is_some (conf_in rs v) ≡ true) → Readies (parts.invall m icid)
   unfolding parts.invall IsReady
   invall_ready icid held =
       found CanBeHad (collection_of m icid.0) NoCollection _ (λ _ _ _. (can.devices, can_each (intids_of m icid.0) held (lpis_of_collection icid.0)))
 
-  same_lpis : (a b : Option Redist) (x y : Redist) → a ≡ Some x → b ≡ Some y → x.pending.lpi_bits ≡ y.pending.lpi_bits → HaveSameLpis a b
-  same_lpis a b x y ax bx same = subst (λ (o : Option Redist). HaveSameLpis o b) (sym ax) (subst (HaveSameLpis (Some x)) (sym bx) same)
+  same_lpis : (a b : Option Pend) (x y : Pend) → a ≡ Some x → b ≡ Some y → x.pending.lpi_bits ≡ y.pending.lpi_bits → HaveSameLpis a b
+  same_lpis a b x y ax bx same = subst (λ (o : Option Pend). HaveSameLpis o b) (sym ax) (subst (HaveSameLpis (Some x)) (sym bx) same)
 
   movall_ready : (from to : ℕ) → (from < s.vcpus → to < s.vcpus → AreBothInHand rs from to) → Readies (parts.movall s rs from to)
   unfolding parts.movall IsReady
@@ -288,10 +285,10 @@ module _ (s : Shape) (mr : MapsRoom) (rs : List (Option Redist)) (can : IsWorkab
       let both = and_parts (nat_lt from s.vcpus) (nat_lt to s.vcpus) below in
       let lt = ltb-true from s.vcpus both.0 in
       let held = h lt (ltb-true to s.vcpus both.1) in
-      let x = held_by (in_hand rs from) held.0 in
-      let y = held_by (in_hand rs to) held.1 in
+      let x = held_by (pend_in rs from) held.0 in
+      let y = held_by (pend_in rs to) held.1 in
       let small : from < 16 = omega (arith, lt, can.vcpus) in
-      (small, same_lpis (in_hand rs from) (in_hand rs to) x.0 y.0 x.1 y.1 ((can.lpis from x.0 x.1).pending_bits ∙ sym (can.lpis to y.0 y.1).pending_bits))))
+      (small, same_lpis (pend_in rs from) (pend_in rs to) x.0 y.0 x.1 y.1 (can.pends from x.0 x.1 ∙ sym (can.pends to y.0 y.1)))))
 
   -- ---- all commands
 

@@ -1,8 +1,8 @@
 -- The parts that a translator starts with are those of a sound state.
-use Rattle.std.proofs.Common.{◌≡◌, ℕ, zero, suc, true, false, cond, nat_lt, List, [], ◌∷◌, map, replicate, Option, Some, None, refl, sym, ap, subst, ◌∙◌}
+use Rattle.std.proofs.Common.{◌≡◌, ℕ, zero, suc, Bool, true, false, false, cond, nat_lt, List, [], ◌∷◌, map, replicate, Option, Some, None, refl, sym, ap, subst, ◌∙◌}
 use Rattle.std.proofs.Common.{arith, lit<}
 use Rattle.std.proofs.lemmas.List.{length-replicate}
-use Rattle.std.specs.Prelude.{slice_get}
+use Rattle.std.specs.Prelude.{slice_get, slice_index_or}
 use Rattle.std.specs.FinMap.{get-empty}
 use Rattle.std.specs.Ordering.{nat_cmp}
 use Rattle.std.proofs.lemmas.Option.{same_Some}
@@ -16,8 +16,7 @@ use Rattle.its_types.specs.declared.machine.Shape.{Shape}
 use Rattle.its_types.specs.declared.ids.Vcpu.{Vcpu}
 use Rattle.its_plain.specs.Plain.{Plain, Translator, Redistributor, no_bases}
 use Rattle.its_plain.specs.Sound.{IsSound, IsShape, IsTranslator, IsRedistributor}
-use Rattle.lpi_pending.specs.InHand.{in_hand}
-use Rattle.lpi_pending.specs.declared.redist.Redist.{Redist}
+use Rattle.lpi_pending.specs.InHand.{RedistParts, no_redists, conf_in, pend_in}
 use Rattle.owned_parts.specs.Owned.{ArePartsOfSound}
 use Rattle.its_command.specs.declared.command.Command.{Command}
 use Rattle.its_command.specs.declared.command.Command.TheVariants as command
@@ -26,7 +25,7 @@ use Rattle.its_types.specs.declared.machine.Part.{Part}
 use Rattle.its_types.specs.declared.machine.Profile.{Profile}
 use Rattle.its_types.specs.declared.machine.Profile.TheVariants.{One}
 use Rattle.its_plain.specs.Parts.{moved_targets, needed}
-use Rattle.cmd_exec.specs.Needs.{bare, has_redist, AreNeededInHand, AreTargets}
+use Rattle.cmd_exec.specs.Needs.{bare, is_conf, is_pend, has_some, AreNeededInHand, AreTargets}
 
 pub no_targets : (s : Shape) (m : Maps) → m ≡ no_maps → AreTargets s m
 no_targets s m is = λ icid vcpu e.
@@ -47,7 +46,7 @@ good_windows windows memory is good = ap (λ (ws : List Window). are_windows (ma
 -- ---- a state in which nothing is mapped and all LPIs are off
 
 abbrev off : Shape → Redistributor
-off s = record { bases = no_bases; pending = []; config = replicate (lpi_count s.lpi_bits) 0 }
+off s = record { bases = no_bases; pending = []; accepts = false; config = replicate (lpi_count s.lpi_bits) 0 }
 
 abbrev first : Shape → Registers → List Window → Plain
 first s r memory = record {
@@ -63,10 +62,10 @@ from_replicate zero x y v e = absurd cc
 from_replicate (suc n) x y zero e = same_Some x y e
 from_replicate (suc n) x y (suc v) e = from_replicate n x y v e
 
-none_held : (n v : ℕ) (r : Redist) → in_hand (replicate n None) v ≡ Some r → ⊥
-none_held zero v r e = cc
-none_held (suc n) zero r e = cc
-none_held (suc n) (suc v) r e = none_held n v r e
+none_held : {X : Type 0} (n v : ℕ) (x : X) → slice_index_or (replicate n None) v None ≡ Some x → ⊥
+none_held zero v x e = cc
+none_held (suc n) zero x e = cc
+none_held (suc n) (suc v) x e = none_held n v x e
 
 nothing : {A : Type 0} (o : Option A) (x : A) → o ≡ None → o ≡ Some x → ⊥
 nothing o x a b = cc
@@ -76,6 +75,7 @@ off_sound s r memory v = record {
   rising = λ k within. absurd (omega (arith, within));
   lpis = tt;
   config = length-replicate (lpi_count s.lpi_bits) 0;
+  accepts = refl;
   tables = λ on. absurd (both_ways false refl on);
   off_pending = λ _. refl;
   off_config = λ _. refl;
@@ -110,9 +110,9 @@ first_sound s r memory shape sound bits windows = record {
   tracked = λ t e. absurd cc;
 }
 
-pub starts_sound : (s : Shape) (r : Registers) (m : Maps) (memory : List Window) (rs : List (Option Redist)) → IsShape s → regs.IsSound r
+pub starts_sound : (s : Shape) (r : Registers) (m : Maps) (memory : List Window) (rs : RedistParts) → IsShape s → regs.IsSound r
     → r.dev_bits ≡ s.dev_bits
-    → are_windows (map extent memory) ≡ true → m ≡ no_maps → rs ≡ replicate 16 None → ArePartsOfSound s r m memory rs
+    → are_windows (map extent memory) ≡ true → m ≡ no_maps → rs ≡ no_redists → ArePartsOfSound s r m memory rs
 starts_sound s r m memory rs shape sound bits windows maps_is rs_is =
     let some : Maps → Option Translator = λ (x : Maps). Some (record { regs = r; maps = x }) in (
       first s r memory,
@@ -122,17 +122,23 @@ starts_sound s r m memory rs shape sound bits windows maps_is rs_is =
         shape_is = refl;
         translator_is = ap some (sym maps_is);
         memory_is = refl;
-        redistributors_are = λ v x e. absurd (none_held 16 v x (sym (ap (λ (xs : List (Option Redist)). in_hand xs v) rs_is) ∙ e));
+        redistributors_are = (
+          λ v x e. absurd (none_held 16 v x (sym (ap (λ (xs : RedistParts). conf_in xs v) rs_is) ∙ e)),
+          λ v x e. absurd (none_held 16 v x (sym (ap (λ (xs : RedistParts). pend_in xs v) rs_is) ∙ e)),
+        );
       },
     )
 
--- in profile 1 a MAPC needs no redistributor
-pub mapc_needs_none : (s : Shape) (m : Maps) (rs : List (Option Redist)) (c : Command) (icid : Icid) (target : ℕ) → s.profile ≡ One
+-- in profile 1 a MAPC needs no part of a redistributor
+pub mapc_needs_none : (s : Shape) (m : Maps) (rs : RedistParts) (c : Command) (icid : Icid) (target : ℕ) → s.profile ≡ One
     → c ≡ command.Mapc icid target true → AreNeededInHand s m c rs
 unfolding needed
 mapc_needs_none s m rs c icid target one is =
-    subst (λ (x : Command). AreNeededInHand s m x rs) (sym is) (λ v e.
-    let none : has_redist v (needed (bare s m) 0 (command.Mapc icid target true)) ≡ false =
-    ap (λ (p : Profile). has_redist v (cond (nat_lt target s.vcpus) (moved_targets p (collection_of m icid.0) target) [])) one
-    ∙ cond_both (nat_lt target s.vcpus) [] [] (λ (ps : List Part). has_redist v ps ≡ false) (λ _. refl) (λ _. refl) in
-    absurd (both_ways (has_redist v (needed (bare s m) 0 (command.Mapc icid target true))) none e))
+    subst (λ (x : Command). AreNeededInHand s m x rs) (sym is) (record { confs = λ v e. absurd (none (is_conf v) e); pends = λ v e. absurd (none (is_pend v) e) })
+  where
+    none : (test : Part → Bool) → has_some test (needed (bare s m) 0 (command.Mapc icid target true)) ≡ true → ⊥
+    none test e =
+        let has : has_some test (needed (bare s m) 0 (command.Mapc icid target true)) ≡ false =
+        ap (λ (p : Profile). has_some test (cond (nat_lt target s.vcpus) (moved_targets p (collection_of m icid.0) target) [])) one
+        ∙ cond_both (nat_lt target s.vcpus) [] [] (λ (ps : List Part). has_some test ps ≡ false) (λ _. refl) (λ _. refl) in
+        both_ways (has_some test (needed (bare s m) 0 (command.Mapc icid target true))) has e

@@ -1,4 +1,4 @@
--- What is in hand where the redistributors that a command reads or changes are.
+-- What is in hand where the parts of redistributors that a command reads or changes are.
 use Rattle.std.proofs.Common.{◌≡◌, ℕ, zero, suc, ◌<◌, Bool, true, false, cond, ◌&&◌, ◌||◌, eqb, ltb, nat_lt, inl, inr, arith, List, [], ◌∷◌, ◌++◌, Option}
 use Rattle.std.proofs.Common.{Some, None, refl, ap, ◌∙◌, sym, subst}
 use Rattle.std.specs.Prelude.{is_some}
@@ -14,59 +14,59 @@ use Rattle.its_types.specs.declared.machine.Part.{Part}
 use Rattle.its_types.specs.declared.machine.Profile.{Profile}
 use Rattle.its_types.specs.declared.machine.Profile.TheVariants.{One, Two}
 use Rattle.its_types.specs.declared.machine.Shape.{Shape}
-use Rattle.its_plain.specs.Parts.{redist, redist_of, target_of_event, moved_targets, redists_below, needed}
-use Rattle.lpi_pending.specs.InHand.{in_hand}
-use Rattle.lpi_pending.specs.declared.redist.Redist.{Redist}
-use Rattle.cmd_exec.specs.Needs.{is_redist, has_redist, AreNeededInHand}
+use Rattle.its_plain.specs.Parts.{conf, pend, pend_at, target_of_event, moved_targets, confs_below, needed}
+use Rattle.lpi_pending.specs.InHand.{RedistParts, conf_in, pend_in}
+use Rattle.cmd_exec.specs.Needs.{is_conf, is_pend, has_some, AreNeededInHand}
 use Rattle.cmd_exec.specs.Ready.{IsTargetInHand, AreBothInHand, AreTargetsInHand}
 
 -- ---- lists of parts
 
-abbrev IsHeld : List (Option Redist) → ℕ → Type 0
-IsHeld rs v = is_some (in_hand rs v) ≡ true
+abbrev IsHeld : RedistParts → ℕ → Type 0
+IsHeld rs v = is_some (pend_in rs v) ≡ true
 
-abbrev AreHeld : List (Option Redist) → List Part → Type 0
-AreHeld rs ps = (v : ℕ) → has_redist v ps ≡ true → IsHeld rs v
+abbrev AreHeld : RedistParts → List Part → Type 0
+AreHeld rs ps = (v : ℕ) → has_some (is_pend v) ps ≡ true → IsHeld rs v
 
-first_held : (rs : List (Option Redist)) (v : ℕ) (ps : List Part) → AreHeld rs (redist v ∷ ps) → IsHeld rs v
-first_held rs v ps h = h v (or_left (eqb v v) (has_redist v ps) (eq-eqb v v refl))
+first_held : (rs : RedistParts) (v : ℕ) (ps : List Part) → AreHeld rs (pend v ∷ ps) → IsHeld rs v
+first_held rs v ps h = h v (or_left (eqb v v) (has_some (is_pend v) ps) (eq-eqb v v refl))
 
-rest_held : (rs : List (Option Redist)) (v : ℕ) (ps : List Part) → AreHeld rs (redist v ∷ ps) → AreHeld rs ps
-rest_held rs v ps h = λ w e. h w (or_right (eqb v w) (has_redist w ps) e)
+rest_held : (rs : RedistParts) (v : ℕ) (ps : List Part) → AreHeld rs (pend v ∷ ps) → AreHeld rs ps
+rest_held rs v ps h = λ w e. h w (or_right (eqb v w) (has_some (is_pend w) ps) e)
 
-target_held : (rs : List (Option Redist)) (o : Option Vcpu) (ps : List Part) → AreHeld rs (redist_of o ++ ps) → IsTargetInHand rs o
+target_held : (rs : RedistParts) (o : Option Vcpu) (ps : List Part) → AreHeld rs (pend_at o ++ ps) → IsTargetInHand rs o
 target_held rs None ps h = tt
 target_held rs (Some v) ps h = first_held rs v.0 ps h
 
-after_target : (rs : List (Option Redist)) (o : Option Vcpu) (ps : List Part) → AreHeld rs (redist_of o ++ ps) → AreHeld rs ps
+after_target : (rs : RedistParts) (o : Option Vcpu) (ps : List Part) → AreHeld rs (pend_at o ++ ps) → AreHeld rs ps
 after_target rs None ps h = h
 after_target rs (Some v) ps h = rest_held rs v.0 ps h
 
-only_target : (rs : List (Option Redist)) (o : Option Vcpu) → AreHeld rs (redist_of o) → IsTargetInHand rs o
+only_target : (rs : RedistParts) (o : Option Vcpu) → AreHeld rs (pend_at o) → IsTargetInHand rs o
 only_target rs None h = tt
 only_target rs (Some v) h = first_held rs v.0 [] h
 
-both_held : (rs : List (Option Redist)) (v w : ℕ) → AreHeld rs (redist v ∷ redist w ∷ []) → AreBothInHand rs v w
-both_held rs v w h = (first_held rs v (redist w ∷ []) h, first_held rs w [] (rest_held rs v (redist w ∷ []) h))
+both_held : (rs : RedistParts) (v w : ℕ) → AreHeld rs (pend v ∷ pend w ∷ []) → AreBothInHand rs v w
+both_held rs v w h = (first_held rs v (pend w ∷ []) h, first_held rs w [] (rest_held rs v (pend w ∷ []) h))
 
-moved_held : (p : Profile) (rs : List (Option Redist)) (o : Option Vcpu) (to : ℕ) → AreHeld rs (moved_targets p o to) → AreTargetsInHand rs p o to
+moved_held : (p : Profile) (rs : RedistParts) (o : Option Vcpu) (to : ℕ) → AreHeld rs (moved_targets p o to) → AreTargetsInHand rs p o to
 moved_held One rs o to h = tt
 moved_held Two rs None to h = tt
 moved_held Two rs (Some from) to h = λ other.
-    both_held rs from.0 to (subst (AreHeld rs) (cond-false (eqb from.0 to) [] (redist from.0 ∷ redist to ∷ []) other) h)
+    both_held rs from.0 to (subst (AreHeld rs) (cond-false (eqb from.0 to) [] (pend from.0 ∷ pend to ∷ []) other) h)
 
-pub has_append : (v : ℕ) (ps qs : List Part) → has_redist v (ps ++ qs) ≡ (has_redist v ps || has_redist v qs)
-has_append v [] qs = refl
-has_append v (p ∷ ps) qs = ap (λ (b : Bool). is_redist v p || b) (has_append v ps qs) ∙ sym (or_assoc (is_redist v p) (has_redist v ps) (has_redist v qs))
+pub has_append : (test : Part → Bool) (ps qs : List Part) → has_some test (ps ++ qs) ≡ (has_some test ps || has_some test qs)
+has_append test [] qs = refl
+has_append test (p ∷ ps) qs =
+    ap (λ (b : Bool). test p || b) (has_append test ps qs) ∙ sym (or_assoc (test p) (has_some test ps) (has_some test qs))
   where
     or_assoc : (a b c : Bool) → (a || b || c) ≡ (a || (b || c))
     or_assoc true b c = refl
     or_assoc false b c = refl
 
-pub has_below : (n v : ℕ) → has_redist v (redists_below n) ≡ nat_lt v n
+pub has_below : (n v : ℕ) → has_some (is_conf v) (confs_below n) ≡ nat_lt v n
 has_below zero v = sym (le-ltb v 0 (omega arith))
 has_below (suc n) v =
-    has_append v (redists_below n) (redist n ∷ []) ∙ ap (λ (b : Bool). b || (eqb n v || false)) (has_below n v) ∙ last
+    has_append (is_conf v) (confs_below n) (conf n ∷ []) ∙ ap (λ (b : Bool). b || (eqb n v || false)) (has_below n v) ∙ last
   where
     last : (ltb v n || (eqb n v || false)) ≡ ltb v (suc n)
     last =
@@ -79,61 +79,64 @@ has_below (suc n) v =
               ∙ sym (le-ltb v (suc n) (omega (arith, above)))
         ]
 
-below_held : (n v : ℕ) (rs : List (Option Redist)) → v < n → AreHeld rs (redists_below n) → IsHeld rs v
-below_held n v rs lt h = h v (has_below n v ∙ lt-ltb v n lt)
+abbrev AreRead : RedistParts → List Part → Type 0
+AreRead rs ps = (v : ℕ) → has_some (is_conf v) ps ≡ true → is_some (conf_in rs v) ≡ true
+
+below_read : (n v : ℕ) (rs : RedistParts) → v < n → AreRead rs (confs_below n) → is_some (conf_in rs v) ≡ true
+below_read n v rs lt h = h v (has_below n v ∙ lt-ltb v n lt)
 
 -- ---- commands
 
-module _ (s : Shape) (m : Maps) (rs : List (Option Redist)) where
+module _ (s : Shape) (m : Maps) (rs : RedistParts) where
   pub movi_old : (dev : DeviceId) (ev : EventId) (icid : Icid) → AreNeededInHand s m (command.Movi dev ev icid) rs
       → IsTargetInHand rs (target_of_event m dev.0 ev.0)
   unfolding needed
-  movi_old dev ev icid h = target_held rs (target_of_event m dev.0 ev.0) (redist_of (collection_of m icid.0)) h
+  movi_old dev ev icid h = target_held rs (target_of_event m dev.0 ev.0) (pend_at (collection_of m icid.0)) h.pends
 
   pub movi_new : (dev : DeviceId) (ev : EventId) (icid : Icid) → AreNeededInHand s m (command.Movi dev ev icid) rs → IsTargetInHand rs (collection_of m icid.0)
   unfolding needed
-  movi_new dev ev icid h = only_target rs (collection_of m icid.0) (after_target rs (target_of_event m dev.0 ev.0) (redist_of (collection_of m icid.0)) h)
+  movi_new dev ev icid h = only_target rs (collection_of m icid.0) (after_target rs (target_of_event m dev.0 ev.0) (pend_at (collection_of m icid.0)) h.pends)
 
   pub int_target : (dev : DeviceId) (ev : EventId) → AreNeededInHand s m (command.Int dev ev) rs → IsTargetInHand rs (target_of_event m dev.0 ev.0)
   unfolding needed
-  int_target dev ev h = only_target rs (target_of_event m dev.0 ev.0) h
+  int_target dev ev h = only_target rs (target_of_event m dev.0 ev.0) h.pends
 
   pub clear_target : (dev : DeviceId) (ev : EventId) → AreNeededInHand s m (command.Clear dev ev) rs → IsTargetInHand rs (target_of_event m dev.0 ev.0)
   unfolding needed
-  clear_target dev ev h = only_target rs (target_of_event m dev.0 ev.0) h
+  clear_target dev ev h = only_target rs (target_of_event m dev.0 ev.0) h.pends
 
   pub discard_target : (dev : DeviceId) (ev : EventId) → AreNeededInHand s m (command.Discard dev ev) rs → IsTargetInHand rs (target_of_event m dev.0 ev.0)
   unfolding needed
-  discard_target dev ev h = only_target rs (target_of_event m dev.0 ev.0) h
+  discard_target dev ev h = only_target rs (target_of_event m dev.0 ev.0) h.pends
 
   pub mapc_targets : (icid : Icid) (target : ℕ) → AreNeededInHand s m (command.Mapc icid target true) rs → target < s.vcpus
       → AreTargetsInHand rs s.profile (collection_of m icid.0) target
   unfolding needed
   mapc_targets icid target h lt =
       moved_held s.profile rs (collection_of m icid.0) target
-      (subst (AreHeld rs) (cond-true (nat_lt target s.vcpus) (moved_targets s.profile (collection_of m icid.0) target) [] (lt-ltb target s.vcpus lt)) h)
+      (subst (AreHeld rs) (cond-true (nat_lt target s.vcpus) (moved_targets s.profile (collection_of m icid.0) target) [] (lt-ltb target s.vcpus lt)) h.pends)
 
   pub movall_targets : (from to : ℕ) → AreNeededInHand s m (command.Movall from to) rs → from < s.vcpus → to < s.vcpus → AreBothInHand rs from to
   unfolding needed
   movall_targets from to h lt lt' =
       both_held rs from to
-      (subst (λ (a : Bool). AreHeld rs (cond a (redist from ∷ redist to ∷ []) [])) (ap (λ (a : Bool). a && nat_lt to s.vcpus) (lt-ltb from s.vcpus lt)
-      ∙ lt-ltb to s.vcpus lt') h)
+      (subst (λ (a : Bool). AreHeld rs (cond a (pend from ∷ pend to ∷ []) [])) (ap (λ (a : Bool). a && nat_lt to s.vcpus) (lt-ltb from s.vcpus lt)
+      ∙ lt-ltb to s.vcpus lt') h.pends)
 
-  -- each of them is
+  -- each configuration is
   pub mapti_each : (dev : DeviceId) (ev : EventId) (intid : Intid) (icid : Icid) → AreNeededInHand s m (command.Mapti dev ev intid icid) rs → (v : ℕ)
-      → v < s.vcpus → IsHeld rs v
+      → v < s.vcpus → is_some (conf_in rs v) ≡ true
   unfolding needed
-  mapti_each dev ev intid icid h v lt = below_held s.vcpus v rs lt h
+  mapti_each dev ev intid icid h v lt = below_read s.vcpus v rs lt h.confs
 
-  pub mapi_each : (dev : DeviceId) (ev : EventId) (icid : Icid) → AreNeededInHand s m (command.Mapi dev ev icid) rs → (v : ℕ) → v < s.vcpus → IsHeld rs v
+  pub mapi_each : (dev : DeviceId) (ev : EventId) (icid : Icid) → AreNeededInHand s m (command.Mapi dev ev icid) rs → (v : ℕ) → v < s.vcpus → is_some (conf_in rs v) ≡ true
   unfolding needed
-  mapi_each dev ev icid h v lt = below_held s.vcpus v rs lt h
+  mapi_each dev ev icid h v lt = below_read s.vcpus v rs lt h.confs
 
-  pub inv_each : (dev : DeviceId) (ev : EventId) → AreNeededInHand s m (command.Inv dev ev) rs → (v : ℕ) → v < s.vcpus → IsHeld rs v
+  pub inv_each : (dev : DeviceId) (ev : EventId) → AreNeededInHand s m (command.Inv dev ev) rs → (v : ℕ) → v < s.vcpus → is_some (conf_in rs v) ≡ true
   unfolding needed
-  inv_each dev ev h v lt = below_held s.vcpus v rs lt h
+  inv_each dev ev h v lt = below_read s.vcpus v rs lt h.confs
 
-  pub invall_each : (icid : Icid) → AreNeededInHand s m (command.Invall icid) rs → (v : ℕ) → v < s.vcpus → IsHeld rs v
+  pub invall_each : (icid : Icid) → AreNeededInHand s m (command.Invall icid) rs → (v : ℕ) → v < s.vcpus → is_some (conf_in rs v) ≡ true
   unfolding needed
-  invall_each icid h v lt = below_held s.vcpus v rs lt h
+  invall_each icid h v lt = below_read s.vcpus v rs lt h.confs

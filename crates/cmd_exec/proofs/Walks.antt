@@ -6,14 +6,16 @@ use Rattle.its_types.specs.Lpis.{is_pending}
 use Rattle.its_types.specs.Ranges.{is_lpi}
 use Rattle.its_types.specs.declared.translation.Bases.{Bases}
 use Rattle.its_types.specs.declared.translation.Event.{Event}
-use Rattle.its_plain.specs.Plain.{Redistributor}
-use Rattle.its_plain.specs.Commands.{reread_at, all_reread_at}
-use Rattle.lpi_pending.specs.declared.redist.Redist.{Redist}
-use Rattle.owned_parts.specs.Owned.{redistributor_of}
-use Rattle.cmd_exec.specs.InHand.{redist_as, redist_by, changed, with_set, with_cleared, lpis_in, lpi_moved_in, lpis_moved_in, takes_lpi, CanRereadAll}
-use Rattle.cmd_exec.specs.Ready.{TakesAll}
+use Rattle.std.specs.Option.{option_map}
+use Rattle.its_plain.specs.Plain.{ConfState}
+use Rattle.its_plain.specs.Commands.{conf_reread_at, conf_all_reread_at}
+use Rattle.lpi_config.specs.Conf.{conf_state}
+use Rattle.lpi_config.specs.declared.conf.Conf.{Conf}
+use Rattle.lpi_pending.specs.InHand.{RedistParts, conf_in}
+use Rattle.cmd_exec.specs.InHand.{conf_by, pend_changed, confs_changed, with_set, with_cleared, lpis_in, lpi_moved_in, lpis_moved_in, takes_lpi, CanRereadAll}
+use Rattle.cmd_exec.specs.Ready.{TakesAll, HeldCanReread, CanEachReread}
 use Rattle.cmd_exec.specs.Walked.{lpis_of}
-use Rattle.cmd_exec.proofs.InHand.{changed_takes}
+use Rattle.cmd_exec.proofs.InHand.{pend_takes, conf_here, confs_twice, confs_none}
 use Rattle.cmd_exec.proofs.Opened.{with_read}
 
 -- ---- an event of the collection comes first
@@ -26,88 +28,105 @@ lpis_first k e events icid same = ap (map (λ (x : ℕ × Event). x.1.intid.0))
 
 -- ---- rereading
 
-bases_read : (memory : List Window) (intid : ℕ) (r : Redistributor) → (reread_at memory intid r).bases ≡ r.bases
-unfolding reread_at
-bases_read memory intid r = cond_both r.bases.on _ r (λ (x : Redistributor). x.bases ≡ r.bases)
-    (λ _. by_byte (byte_at memory (r.bases.prop.table.0 + (intid - 8192)))) (λ _. refl)
+bases_read : (memory : List Window) (intid : ℕ) (c : ConfState) → (conf_reread_at memory intid c).bases ≡ c.bases
+unfolding conf_reread_at
+bases_read memory intid c = cond_both c.bases.on _ c (λ (x : ConfState). x.bases ≡ c.bases)
+    (λ _. by_byte (byte_at memory (c.bases.prop.table.0 + (intid - 8192)))) (λ _. refl)
   where
-    by_byte : (o : Option ℕ) → (with_read intid r o).bases ≡ r.bases
+    by_byte : (o : Option ℕ) → (with_read intid c o).bases ≡ c.bases
     by_byte None = refl
     by_byte (Some byte) = refl
 
-pub bases_all_read : (memory : List Window) (intids : List ℕ) (r : Redistributor) → (all_reread_at memory intids r).bases ≡ r.bases
-bases_all_read memory [] r = refl
-bases_all_read memory (x ∷ xs) r = bases_all_read memory xs (reread_at memory x r) ∙ bases_read memory x r
+bases_all_read : (memory : List Window) (intids : List ℕ) (c : ConfState) → (conf_all_reread_at memory intids c).bases ≡ c.bases
+bases_all_read memory [] c = refl
+bases_all_read memory (x ∷ xs) c = bases_all_read memory xs (conf_reread_at memory x c) ∙ bases_read memory x c
 
-can_kept : (xs : List ℕ) (r r' : Redist) → r'.config.lpi_bits ≡ r.config.lpi_bits → r'.bases ≡ r.bases → CanRereadAll r xs → CanRereadAll r' xs
-can_kept [] r r' bits bases h = tt
-can_kept (x ∷ xs) r r' bits bases h = (
+can_kept : (xs : List ℕ) (c c' : Conf) → c'.config.lpi_bits ≡ c.config.lpi_bits → c'.bases ≡ c.bases → CanRereadAll c xs → CanRereadAll c' xs
+can_kept [] c c' bits bases h = tt
+can_kept (x ∷ xs) c c' bits bases h = (
   record {
     lpi = ap (λ (n : ℕ). is_lpi n x) bits ∙ h.0.lpi;
     low = subst (λ (b : Bases). b.on ≡ true → b.prop.table.0 ≤ 2 ^ 52) (sym bases) h.0.low;
   },
-  can_kept xs r r' bits bases h.1,
+  can_kept xs c c' bits bases h.1,
 )
 
-read_append : (memory : List Window) (xs ys : List ℕ) (r : Redistributor) → all_reread_at memory (xs ++ ys) r ≡ all_reread_at memory ys
-    (all_reread_at memory xs r)
-read_append memory [] ys r = refl
-read_append memory (x ∷ xs) ys r = read_append memory xs ys (reread_at memory x r)
+read_append : (memory : List Window) (xs ys : List ℕ) (c : ConfState) → conf_all_reread_at memory ys (conf_all_reread_at memory xs c)
+    ≡ conf_all_reread_at memory (xs ++ ys) c
+read_append memory [] ys c = refl
+read_append memory (x ∷ xs) ys c = read_append memory xs ys (conf_reread_at memory x c)
 
-can_rest : (r : Redist) (xs ys : List ℕ) → CanRereadAll r (xs ++ ys) → CanRereadAll r ys
-can_rest r [] ys h = h
-can_rest r (x ∷ xs) ys h = can_rest r xs ys h.1
+can_rest : (c : Conf) (xs ys : List ℕ) → CanRereadAll c (xs ++ ys) → CanRereadAll c ys
+can_rest c [] ys h = h
+can_rest c (x ∷ xs) ys h = can_rest c xs ys h.1
 
-pub can_first : (r : Redist) (xs ys : List ℕ) → CanRereadAll r (xs ++ ys) → CanRereadAll r xs
-can_first r [] ys h = tt
-can_first r (x ∷ xs) ys h = (h.0, can_first r xs ys h.1)
+can_first : (c : Conf) (xs ys : List ℕ) → CanRereadAll c (xs ++ ys) → CanRereadAll c xs
+can_first c [] ys h = tt
+can_first c (x ∷ xs) ys h = (h.0, can_first c xs ys h.1)
 
--- some are read, and the rest can be
-pub read_some : (memory : List Window) (xs ys : List ℕ) (r r' : Redist) → r' ≡ redist_by (all_reread_at memory xs) r → redist_by (all_reread_at memory ys) r'
-    ≡ redist_by (all_reread_at memory (xs ++ ys)) r
-read_some memory xs ys r r' is =
-    ap (redist_by (all_reread_at memory ys)) is ∙ ap (redist_as r) (sym (read_append memory xs ys (redistributor_of r)))
+-- each reads some, and can read the rest
+pub read_some : (n : ℕ) (memory : List Window) (xs ys : List ℕ) (rs now : RedistParts) → now ≡ confs_changed n (conf_all_reread_at memory xs) rs
+    → confs_changed n (conf_all_reread_at memory ys) now ≡ confs_changed n (conf_all_reread_at memory (xs ++ ys)) rs
+read_some n memory xs ys rs now is =
+    ap (confs_changed n (conf_all_reread_at memory ys)) is
+    ∙ confs_twice n (conf_all_reread_at memory xs) (conf_all_reread_at memory ys) (conf_all_reread_at memory (xs ++ ys)) rs (read_append memory xs ys)
 
-pub can_more : (memory : List Window) (xs ys : List ℕ) (r r' : Redist) → r' ≡ redist_by (all_reread_at memory xs) r → CanRereadAll r (xs ++ ys)
-    → CanRereadAll r' ys
-can_more memory xs ys r r' is h =
-    can_kept ys r r' (ap (λ (x : Redist). x.config.lpi_bits) is) (ap (λ (x : Redist). x.bases) is ∙ bases_all_read memory xs (redistributor_of r))
-    (can_rest r xs ys h)
+pub read_none : (n : ℕ) (memory : List Window) (rs : RedistParts) → confs_changed n (conf_all_reread_at memory []) rs ≡ rs
+read_none n memory rs = confs_none n (conf_all_reread_at memory []) rs (λ _. refl)
+
+pub each_first : (n : ℕ) (rs : RedistParts) (xs ys : List ℕ) → CanEachReread n rs (xs ++ ys) → CanEachReread n rs xs
+each_first n rs xs ys h = λ v within. by_held (conf_in rs v) (h v within)
+  where
+    by_held : (o : Option Conf) → HeldCanReread o (xs ++ ys) → HeldCanReread o xs
+    by_held None can = absurd can
+    by_held (Some c) can = can_first c xs ys can
+
+pub each_more : (n : ℕ) (memory : List Window) (xs ys : List ℕ) (rs now : RedistParts) → now ≡ confs_changed n (conf_all_reread_at memory xs) rs
+    → CanEachReread n rs (xs ++ ys) → CanEachReread n now ys
+each_more n memory xs ys rs now is h = λ v within.
+    subst (λ (o : Option Conf). HeldCanReread o ys)
+    (sym (ap (λ (x : RedistParts). conf_in x v) is ∙ conf_here n v (conf_all_reread_at memory xs) rs within))
+    (by_held (conf_in rs v) (h v within))
+  where
+    by_held : (o : Option Conf) → HeldCanReread o (xs ++ ys) → HeldCanReread (option_map (conf_by (conf_all_reread_at memory xs)) o) ys
+    by_held None can = absurd can
+    by_held (Some c) can =
+        can_kept ys c (conf_by (conf_all_reread_at memory xs) c) refl (bases_all_read memory xs (conf_state c)) (can_rest c xs ys can)
 
 -- ---- LPIs that move
 
-pub moved_takes : (x from to v y : ℕ) (rs : List (Option Redist)) → takes_lpi (lpi_moved_in x from to rs) v y ≡ takes_lpi rs v y
+pub moved_takes : (x from to v y : ℕ) (rs : RedistParts) → takes_lpi (lpi_moved_in x from to rs) v y ≡ takes_lpi rs v y
 moved_takes x from to v y rs =
-    cond_both (is_pending x (lpis_in rs from)) (changed to (with_set x) (changed from (with_cleared x) rs)) rs
-    (λ (xs : List (Option Redist)). takes_lpi xs v y ≡ takes_lpi rs v y)
-    (λ _. changed_takes to v y (with_set x) (changed from (with_cleared x) rs) ∙ changed_takes from v y (with_cleared x) rs) (λ _. refl)
+    cond_both (is_pending x (lpis_in rs from)) (pend_changed to (with_set x) (pend_changed from (with_cleared x) rs)) rs
+    (λ (xs : RedistParts). takes_lpi xs v y ≡ takes_lpi rs v y)
+    (λ _. pend_takes to v y (with_set x) (pend_changed from (with_cleared x) rs) ∙ pend_takes from v y (with_cleared x) rs) (λ _. refl)
 
-all_moved_takes : (xs : List ℕ) (from to v y : ℕ) (rs : List (Option Redist)) → takes_lpi (lpis_moved_in xs from to rs) v y ≡ takes_lpi rs v y
+all_moved_takes : (xs : List ℕ) (from to v y : ℕ) (rs : RedistParts) → takes_lpi (lpis_moved_in xs from to rs) v y ≡ takes_lpi rs v y
 all_moved_takes [] from to v y rs = refl
 all_moved_takes (x ∷ xs) from to v y rs = all_moved_takes xs from to v y (lpi_moved_in x from to rs) ∙ moved_takes x from to v y rs
 
-pub takes_kept : (ys : List ℕ) (v : ℕ) (rs now : List (Option Redist)) → ((y : ℕ) → takes_lpi now v y ≡ takes_lpi rs v y) → TakesAll rs v ys → TakesAll now v ys
+pub takes_kept : (ys : List ℕ) (v : ℕ) (rs now : RedistParts) → ((y : ℕ) → takes_lpi now v y ≡ takes_lpi rs v y) → TakesAll rs v ys → TakesAll now v ys
 takes_kept [] v rs now same h = tt
 takes_kept (y ∷ ys) v rs now same h = (same y ∙ h.0, takes_kept ys v rs now same h.1)
 
-takes_rest : (rs : List (Option Redist)) (v : ℕ) (xs ys : List ℕ) → TakesAll rs v (xs ++ ys) → TakesAll rs v ys
+takes_rest : (rs : RedistParts) (v : ℕ) (xs ys : List ℕ) → TakesAll rs v (xs ++ ys) → TakesAll rs v ys
 takes_rest rs v [] ys h = h
 takes_rest rs v (x ∷ xs) ys h = takes_rest rs v xs ys h.1
 
-pub takes_first : (rs : List (Option Redist)) (v : ℕ) (xs ys : List ℕ) → TakesAll rs v (xs ++ ys) → TakesAll rs v xs
+pub takes_first : (rs : RedistParts) (v : ℕ) (xs ys : List ℕ) → TakesAll rs v (xs ++ ys) → TakesAll rs v xs
 takes_first rs v [] ys h = tt
 takes_first rs v (x ∷ xs) ys h = (h.0, takes_first rs v xs ys h.1)
 
-moved_append : (xs ys : List ℕ) (from to : ℕ) (rs : List (Option Redist)) → lpis_moved_in (xs ++ ys) from to rs ≡ lpis_moved_in ys from to
+moved_append : (xs ys : List ℕ) (from to : ℕ) (rs : RedistParts) → lpis_moved_in (xs ++ ys) from to rs ≡ lpis_moved_in ys from to
     (lpis_moved_in xs from to rs)
 moved_append [] ys from to rs = refl
 moved_append (x ∷ xs) ys from to rs = moved_append xs ys from to (lpi_moved_in x from to rs)
 
-pub moved_some : (xs ys : List ℕ) (from to : ℕ) (rs now : List (Option Redist)) → now ≡ lpis_moved_in xs from to rs
+pub moved_some : (xs ys : List ℕ) (from to : ℕ) (rs now : RedistParts) → now ≡ lpis_moved_in xs from to rs
     → lpis_moved_in ys from to now ≡ lpis_moved_in (xs ++ ys) from to rs
 moved_some xs ys from to rs now is = ap (lpis_moved_in ys from to) is ∙ sym (moved_append xs ys from to rs)
 
-pub takes_more : (xs ys : List ℕ) (from to v : ℕ) (rs now : List (Option Redist)) → now ≡ lpis_moved_in xs from to rs → TakesAll rs v (xs ++ ys)
+pub takes_more : (xs ys : List ℕ) (from to v : ℕ) (rs now : RedistParts) → now ≡ lpis_moved_in xs from to rs → TakesAll rs v (xs ++ ys)
     → TakesAll now v ys
 takes_more xs ys from to v rs now is h =
-    takes_kept ys v rs now (λ y. ap (λ (zs : List (Option Redist)). takes_lpi zs v y) is ∙ all_moved_takes xs from to v y rs) (takes_rest rs v xs ys h)
+    takes_kept ys v rs now (λ y. ap (λ (zs : RedistParts). takes_lpi zs v y) is ∙ all_moved_takes xs from to v y rs) (takes_rest rs v xs ys h)

@@ -18,14 +18,14 @@ use Rattle.its_types.specs.declared.machine.Profile.{Profile}
 use Rattle.its_types.specs.declared.machine.Profile.TheVariants.{One, Two}
 use Rattle.its_types.specs.declared.machine.Shape.{Shape}
 use Rattle.its_types.specs.declared.translation.Event.{Event}
-use Rattle.its_plain.specs.Commands.{◌>>=◌, ensure, event_at, target_at, intids_of, all_reread_at}
+use Rattle.its_plain.specs.Commands.{◌>>=◌, ensure, event_at, target_at, intids_of, conf_all_reread_at}
 use Rattle.its_plain.specs.declared.call.Reason.{Reason}
 use Rattle.its_plain.specs.declared.call.Reason.TheVariants.{UnknownCommand, DeviceRange, SizeRange, TargetRange, CollectionRange, NoDevice, EventRange}
 use Rattle.its_plain.specs.declared.call.Reason.TheVariants.{IntidRange, LpisOff}
-use Rattle.lpi_pending.specs.declared.redist.Redist.{Redist}
+use Rattle.lpi_pending.specs.InHand.{RedistParts}
 use Rattle.cmd_exec.specs.declared.effect.Effect.{Effect}
 use Rattle.cmd_exec.specs.declared.effect.Effect.TheVariants as effect
-use Rattle.cmd_exec.specs.InHand.{changed, changed_below, is_on_in, with_set, with_cleared, lpi_moved_in, lpis_moved_in, all_moved_in}
+use Rattle.cmd_exec.specs.InHand.{pend_changed, confs_changed, is_on_in, with_set, with_cleared, lpi_moved_in, lpis_moved_in, all_moved_in}
 
 -- ---- devices and collections
 
@@ -41,16 +41,16 @@ unmapd s dev = do
   Ok (effect.UnmapDevice dev)
 
 -- the pending LPIs of the collection's events go with it, where the LPIs of both targets are on
-abbrev pub moved : List (Option Redist) → Icid → Vcpu → Vcpu → Effect
+abbrev pub moved : RedistParts → Icid → Vcpu → Vcpu → Effect
 moved redists icid from to = if is_on_in redists from.0 && is_on_in redists to.0 then effect.MoveCollection icid from to else effect.MapCollection icid to
 
 -- in profile 2 they do, where a mapped collection gets another target
-abbrev pub targeted : Profile → List (Option Redist) → Icid → Option Vcpu → Vcpu → Effect
+abbrev pub targeted : Profile → RedistParts → Icid → Option Vcpu → Vcpu → Effect
 targeted One redists icid before to = effect.MapCollection icid to
 targeted Two redists icid None to = effect.MapCollection icid to
 targeted Two redists icid (Some from) to = if from.0 == to.0 then effect.MapCollection icid to else moved redists icid from to
 
-unfoldable pub mapc : Shape → Registers → Maps → List (Option Redist) → Icid → ℕ → Result Effect Reason
+unfoldable pub mapc : Shape → Registers → Maps → RedistParts → Icid → ℕ → Result Effect Reason
 mapc s r m redists icid target = do
   _ ← ensure (nat_lt target s.vcpus) TargetRange
   _ ← ensure (nat_lt icid.0 (collection_places r)) CollectionRange
@@ -70,7 +70,7 @@ mapti s r m dev ev intid icid = do
   _ ← ensure (nat_lt icid.0 (collection_places r)) CollectionRange
   Ok (added m dev ev (record { intid = intid; icid = icid }))
 
-unfoldable pub movi : Maps → List (Option Redist) → DeviceId → EventId → Icid → Result Effect Reason
+unfoldable pub movi : Maps → RedistParts → DeviceId → EventId → Icid → Result Effect Reason
 movi m redists dev ev icid = do
   event ← event_at m dev.0 ev.0
   from ← target_at m event.icid.0
@@ -79,19 +79,19 @@ movi m redists dev ev icid = do
   Ok (effect.MoveEvent dev ev event.intid icid from to)
 
 -- the LPI of an event, and its target, whose LPIs are on
-unfoldable pub lpi_at : Maps → List (Option Redist) → DeviceId → EventId → Result (Intid × Vcpu) Reason
+unfoldable pub lpi_at : Maps → RedistParts → DeviceId → EventId → Result (Intid × Vcpu) Reason
 lpi_at m redists dev ev = do
   event ← event_at m dev.0 ev.0
   vcpu ← target_at m event.icid.0
   _ ← ensure (is_on_in redists vcpu.0) LpisOff
   Ok (event.intid, vcpu)
 
-unfoldable pub int : Maps → List (Option Redist) → DeviceId → EventId → Result Effect Reason
+unfoldable pub int : Maps → RedistParts → DeviceId → EventId → Result Effect Reason
 int m redists dev ev = do
   lpi ← lpi_at m redists dev ev
   Ok (effect.SetLpi lpi.0 lpi.1)
 
-unfoldable pub clear : Maps → List (Option Redist) → DeviceId → EventId → Result Effect Reason
+unfoldable pub clear : Maps → RedistParts → DeviceId → EventId → Result Effect Reason
 clear m redists dev ev = do
   lpi ← lpi_at m redists dev ev
   Ok (effect.ClearLpi lpi.0 lpi.1)
@@ -111,7 +111,7 @@ invall m icid = do
   _ ← target_at m icid.0
   Ok (effect.RereadCollection icid)
 
-unfoldable pub movall : Shape → List (Option Redist) → ℕ → ℕ → Result Effect Reason
+unfoldable pub movall : Shape → RedistParts → ℕ → ℕ → Result Effect Reason
 movall s redists from to = do
   _ ← ensure (nat_lt from s.vcpus && nat_lt to s.vcpus) TargetRange
   _ ← ensure (is_on_in redists from && is_on_in redists to) LpisOff
@@ -119,7 +119,7 @@ movall s redists from to = do
 
 -- ---- all commands
 
-unfoldable pub planned : Shape → Registers → Maps → List Window → List (Option Redist) → Command → Result Effect Reason
+unfoldable pub planned : Shape → Registers → Maps → List Window → RedistParts → Command → Result Effect Reason
 planned s r m memory redists (command.Movi dev ev icid) = movi m redists dev ev icid
 planned s r m memory redists (command.Int dev ev) = int m redists dev ev
 planned s r m memory redists (command.Clear dev ev) = clear m redists dev ev
@@ -152,19 +152,19 @@ maps_after (effect.Reread intid) m = m
 maps_after (effect.RereadCollection icid) m = m
 maps_after (effect.MoveAll from to) m = m
 
-abbrev pub cleared_in : ℕ → Option Vcpu → List (Option Redist) → List (Option Redist)
+abbrev pub cleared_in : ℕ → Option Vcpu → RedistParts → RedistParts
 cleared_in intid None redists = redists
-cleared_in intid (Some vcpu) redists = changed vcpu.0 (with_cleared intid) redists
+cleared_in intid (Some vcpu) redists = pend_changed vcpu.0 (with_cleared intid) redists
 
-unfoldable pub redists_after : Shape → Maps → List Window → Effect → List (Option Redist) → List (Option Redist)
+unfoldable pub redists_after : Shape → Maps → List Window → Effect → RedistParts → RedistParts
 redists_after s m memory (effect.MoveCollection icid from to) redists = lpis_moved_in (intids_of m icid.0) from.0 to.0 redists
-redists_after s m memory (effect.MapEvent dev ev event) redists = changed_below s.vcpus (all_reread_at memory (event.intid.0 ∷ [])) redists
+redists_after s m memory (effect.MapEvent dev ev event) redists = confs_changed s.vcpus (conf_all_reread_at memory (event.intid.0 ∷ [])) redists
 redists_after s m memory (effect.MoveEvent dev ev intid icid from to) redists = lpi_moved_in intid.0 from.0 to.0 redists
 redists_after s m memory (effect.UnmapEvent dev ev intid target) redists = cleared_in intid.0 target redists
-redists_after s m memory (effect.SetLpi intid vcpu) redists = changed vcpu.0 (with_set intid.0) redists
-redists_after s m memory (effect.ClearLpi intid vcpu) redists = changed vcpu.0 (with_cleared intid.0) redists
-redists_after s m memory (effect.Reread intid) redists = changed_below s.vcpus (all_reread_at memory (intid.0 ∷ [])) redists
-redists_after s m memory (effect.RereadCollection icid) redists = changed_below s.vcpus (all_reread_at memory (intids_of m icid.0)) redists
+redists_after s m memory (effect.SetLpi intid vcpu) redists = pend_changed vcpu.0 (with_set intid.0) redists
+redists_after s m memory (effect.ClearLpi intid vcpu) redists = pend_changed vcpu.0 (with_cleared intid.0) redists
+redists_after s m memory (effect.Reread intid) redists = confs_changed s.vcpus (conf_all_reread_at memory (intid.0 ∷ [])) redists
+redists_after s m memory (effect.RereadCollection icid) redists = confs_changed s.vcpus (conf_all_reread_at memory (intids_of m icid.0)) redists
 redists_after s m memory (effect.MoveAll from to) redists = all_moved_in from.0 to.0 redists
 redists_after s m memory effect.Nothing redists = redists
 redists_after s m memory (effect.MapDevice dev device) redists = redists

@@ -7,50 +7,51 @@ use Rattle.its_types.specs.declared.machine.Profile.TheVariants.{One, Two}
 use Rattle.its_types.specs.declared.machine.Shape.{Shape}
 use Rattle.its_maps.specs.MapsRoom.{MapsRoom, event_room, EventsHaveDevices}
 use Rattle.its_plain.specs.Commands.{intids_of}
-use Rattle.lpi_pending.specs.InHand.{in_hand}
-use Rattle.lpi_pending.specs.declared.redist.Redist.{Redist}
+use Rattle.lpi_config.specs.declared.conf.Conf.{Conf}
+use Rattle.lpi_pending.specs.InHand.{RedistParts, conf_in, pend_in}
+use Rattle.lpi_pending.specs.declared.pend.Pend.{Pend}
 use Rattle.cmd_exec.specs.declared.effect.Effect.{Effect}
 use Rattle.cmd_exec.specs.declared.effect.Effect.TheVariants as effect
 use Rattle.cmd_exec.specs.InHand.{takes_lpi, CanRereadAll}
 
--- the redistributor of each virtual processor is in hand, and can reread these LPIs
-abbrev pub HeldCanReread : Option Redist → List ℕ → Type 0
+-- the configuration of each virtual processor is in hand, and can read these LPIs again
+abbrev pub HeldCanReread : Option Conf → List ℕ → Type 0
 HeldCanReread None intids = ⊥
-HeldCanReread (Some r) intids = CanRereadAll r intids
+HeldCanReread (Some c) intids = CanRereadAll c intids
 
-abbrev pub CanEachReread : ℕ → List (Option Redist) → List ℕ → Type 0
-CanEachReread vcpus redists intids = (v : ℕ) → v < vcpus → HeldCanReread (in_hand redists v) intids
+abbrev pub CanEachReread : ℕ → RedistParts → List ℕ → Type 0
+CanEachReread vcpus redists intids = (v : ℕ) → v < vcpus → HeldCanReread (conf_in redists v) intids
 
--- that of the target is, if there is one
-abbrev pub IsTargetInHand : List (Option Redist) → Option Vcpu → Type 0
+-- what is pending at the target is, if there is one
+abbrev pub IsTargetInHand : RedistParts → Option Vcpu → Type 0
 IsTargetInHand redists None = Unit {0}
-IsTargetInHand redists (Some vcpu) = is_some (in_hand redists vcpu.0) ≡ true
+IsTargetInHand redists (Some vcpu) = is_some (pend_in redists vcpu.0) ≡ true
 
-abbrev pub AreBothInHand : List (Option Redist) → ℕ → ℕ → Type 0
-AreBothInHand redists from to = (is_some (in_hand redists from) ≡ true) × (is_some (in_hand redists to) ≡ true)
+abbrev pub AreBothInHand : RedistParts → ℕ → ℕ → Type 0
+AreBothInHand redists from to = (is_some (pend_in redists from) ≡ true) × (is_some (pend_in redists to) ≡ true)
 
--- those of both targets are, where a collection gets another one
-abbrev pub AreTargetsInHand : List (Option Redist) → Profile → Option Vcpu → ℕ → Type 0
+-- that of both targets is, where a collection gets another one
+abbrev pub AreTargetsInHand : RedistParts → Profile → Option Vcpu → ℕ → Type 0
 AreTargetsInHand redists One before to = Unit {0}
 AreTargetsInHand redists Two None to = Unit {0}
 AreTargetsInHand redists Two (Some from) to = (from.0 == to) ≡ false → AreBothInHand redists from.0 to
 
 -- it takes each of these LPIs
-abbrev pub TakesAll : List (Option Redist) → ℕ → List ℕ → Type 0
+abbrev pub TakesAll : RedistParts → ℕ → List ℕ → Type 0
 TakesAll redists vcpu [] = Unit {0}
 TakesAll redists vcpu (intid ∷ intids) = (takes_lpi redists vcpu intid ≡ true) × TakesAll redists vcpu intids
 
-abbrev pub TakesIfMapped : List (Option Redist) → Option Vcpu → ℕ → Type 0
+abbrev pub TakesIfMapped : RedistParts → Option Vcpu → ℕ → Type 0
 TakesIfMapped redists None intid = Unit {0}
 TakesIfMapped redists (Some vcpu) intid = takes_lpi redists vcpu.0 intid ≡ true
 
 -- both are in hand, and have the same LPIs
-abbrev pub HaveSameLpis : Option Redist → Option Redist → Type 0
+abbrev pub HaveSameLpis : Option Pend → Option Pend → Type 0
 HaveSameLpis (Some a) (Some b) = a.pending.lpi_bits ≡ b.pending.lpi_bits
 HaveSameLpis None b = ⊥
 HaveSameLpis (Some a) None = ⊥
 
-unfoldable pub IsReady : Shape → MapsRoom → List (Option Redist) → Effect → Type 0
+unfoldable pub IsReady : Shape → MapsRoom → RedistParts → Effect → Type 0
 IsReady s m redists (effect.MapDevice dev device) = device_of m.maps dev.0 ≡ None → 1 ≤ m.room.devices
 IsReady s m redists (effect.MapCollection icid vcpu) = collection_of m.maps icid.0 ≡ None → 1 ≤ m.room.collections
 IsReady s m redists (effect.MoveCollection icid from to) =
@@ -66,7 +67,7 @@ IsReady s m redists (effect.SetLpi intid vcpu) = takes_lpi redists vcpu.0 intid.
 IsReady s m redists (effect.ClearLpi intid vcpu) = takes_lpi redists vcpu.0 intid.0 ≡ true
 IsReady s m redists (effect.Reread intid) = CanEachReread s.vcpus redists (intid.0 ∷ [])
 IsReady s m redists (effect.RereadCollection icid) = EventsHaveDevices m.maps × CanEachReread s.vcpus redists (intids_of m.maps icid.0)
-IsReady s m redists (effect.MoveAll from to) = (from.0 < 16) × HaveSameLpis (in_hand redists from.0) (in_hand redists to.0)
+IsReady s m redists (effect.MoveAll from to) = (from.0 < 16) × HaveSameLpis (pend_in redists from.0) (pend_in redists to.0)
 IsReady s m redists effect.Nothing = Unit {0}
 IsReady s m redists (effect.UnmapDevice dev) = Unit {0}
 IsReady s m redists (effect.UnmapCollection icid) = Unit {0}

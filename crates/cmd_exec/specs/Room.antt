@@ -1,5 +1,5 @@
 -- What a command adds to the maps (IHI 0069, section 5.2), and what room that needs.
-use Rattle.std.specs.Prelude.{◌≡◌, ◌≤◌, ℕ, Bool, true, false, not, ◌&&◌, is_some, is_ok, List, Option, Result, Ok, Err, IfOk}
+use Rattle.std.specs.Prelude.{◌≡◌, ◌≤◌, ℕ, Bool, true, false, not, ◌&&◌, is_some, is_ok, List, Result, Ok, Err, IfOk}
 use Rattle.guest_windows.specs.Windows.{Window}
 use Rattle.gits_regs.specs.Registers.{Registers}
 use Rattle.its_command.specs.declared.command.Command.{Command}
@@ -10,7 +10,7 @@ use Rattle.its_maps.specs.MapsRoom.{MapsRoom, event_room}
 use Rattle.its_plain.specs.Plain.{Plain, maps_of}
 use Rattle.its_plain.specs.Commands.{ran}
 use Rattle.its_plain.specs.declared.call.Reason.{Reason}
-use Rattle.lpi_pending.specs.declared.redist.Redist.{Redist}
+use Rattle.lpi_pending.specs.InHand.{RedistParts}
 use Rattle.owned_parts.specs.Owned.{ArePartsOf}
 use Rattle.cmd_exec.specs.declared.effect.Effect.{Effect}
 use Rattle.cmd_exec.specs.declared.effect.Effect.TheVariants as effect
@@ -95,5 +95,5 @@ abbrev pub HasRoomFor : MapsRoom → Planned → Type 0
 HasRoomFor m p = IfOk p.outcome (HasRoom m)
 
 -- it adds something just where the command does in each state that has these parts
-abbrev pub AddsAlike : Command → Shape → Registers → Maps → List Window → List (Option Redist) → Planned → Type 0
+abbrev pub AddsAlike : Command → Shape → Registers → Maps → List Window → RedistParts → Planned → Type 0
 AddsAlike c s r m memory redists p = (u : Plain) (i : ℕ) → ArePartsOf u i s r m memory redists → adds m p ≡ adds_to u i c

@@ -2,16 +2,16 @@
 ghost use Rattle.std.specs.Prelude.{◌≡◌, ◌<◌, ℕ, true, List};
 ghost use Rattle.its_maps.specs.MapsRoom.{EventsHaveDevices};
 ghost use Rattle.its_maps.specs.Walks.{events_left};
-ghost use Rattle.its_plain.specs.Commands.{intids_of, all_reread_at};
-ghost use Rattle.cmd_exec.specs.InHand.{redist_by, changed_below, lpis_moved_in, CanRereadAll};
+ghost use Rattle.its_plain.specs.Commands.{intids_of, conf_all_reread_at};
+ghost use Rattle.cmd_exec.specs.InHand.{confs_changed, lpis_moved_in};
 ghost use Rattle.cmd_exec.specs.Ready.{TakesAll, CanEachReread};
 ghost use Rattle.cmd_exec.specs.Walked.{lpis_of};
 
-use crate::lpis::{move_lpi, reread};
+use crate::lpis::{move_lpi, reread_each};
 use guest_windows::Memory;
 use its_maps::{EventWalk, Maps};
 use its_types::{Icid, Vcpu};
-use lpi_pending::{Redist, Redists};
+use lpi_pending::Redists;
 
 /// The pending LPIs of its events go from one virtual processor to another.
 pub fn move_lpis(redists: &mut Redists, maps: &Maps, icid: Icid, from: Vcpu, to: Vcpu)
@@ -40,40 +40,35 @@ fn move_lpis_of(redists: &mut Redists, events: EventWalk, icid: Icid, from: Vcpu
 }
 
 /// Each of the first virtual processors reads the configuration of the LPIs of its events again.
+/// The maps are walked once, however many virtual processors there are.
 pub fn reread_collection(redists: &mut Redists, vcpus: u8, memory: &Memory, maps: &Maps, icid: Icid)
     requires devices { EventsHaveDevices maps.now.maps }
     requires each { CanEachReread vcpus redists.old (intids_of maps.now.maps icid.0) }
     ensures { redists.new
-        ≡ changed_below vcpus (all_reread_at memory.now (intids_of maps.now.maps icid.0))
+        ≡ confs_changed vcpus (conf_all_reread_at memory.now (intids_of maps.now.maps icid.0))
         redists.old }
 {
-    for vcpu in 0..vcpus {
-        let redist = redists.redist_mut(Vcpu(vcpu));
-        reread_all(redist, memory, maps, icid);
-    }
-}
-
-fn reread_all(redist: &mut Redist, memory: &Memory, maps: &Maps, icid: Icid)
-    requires devices { EventsHaveDevices maps.now.maps }
-    requires can { CanRereadAll redist.old (intids_of maps.now.maps icid.0) }
-    ensures { redist.new
-        ≡ redist_by (all_reread_at memory.now (intids_of maps.now.maps icid.0)) redist.old }
-{
     for (dev, _) in maps.devices() {
-        reread_all_of(redist, memory, maps.events(dev), icid);
+        reread_collection_of(redists, vcpus, memory, maps.events(dev), icid);
     }
 }
 
 // Those of one device.
-fn reread_all_of(redist: &mut Redist, memory: &Memory, events: EventWalk, icid: Icid)
-    requires { CanRereadAll redist.old (lpis_of (events_left events) icid.0) }
-    ensures { redist.new
-        ≡ redist_by (all_reread_at memory.now (lpis_of (events_left events.entry) icid.0))
-        redist.old }
+fn reread_collection_of(
+    redists: &mut Redists,
+    vcpus: u8,
+    memory: &Memory,
+    events: EventWalk,
+    icid: Icid,
+)
+    requires { CanEachReread vcpus redists.old (lpis_of (events_left events) icid.0) }
+    ensures { redists.new
+        ≡ confs_changed vcpus
+        (conf_all_reread_at memory.now (lpis_of (events_left events.entry) icid.0)) redists.old }
 {
     for (_, event) in events {
         if event.icid == icid {
-            reread(redist, memory, event.intid);
+            reread_each(redists, vcpus, memory, event.intid);
         }
     }
 }

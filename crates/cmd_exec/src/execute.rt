@@ -1,6 +1,6 @@
 //! Planning a command, and carrying the plan out.
 ghost use Rattle.std.specs.Prelude.{◌≡◌, ℕ, is_some};
-ghost use Rattle.lpi_pending.specs.InHand.{in_hand};
+ghost use Rattle.lpi_pending.specs.InHand.{conf_in, pend_in};
 ghost use Rattle.owned_parts.specs.Owned.{ArePartsOfSound};
 ghost use Rattle.cmd_exec.specs.Needs.{AreNeededInHand};
 ghost use Rattle.cmd_exec.specs.Room.{HasRoomFor, AddsAlike};
@@ -16,8 +16,8 @@ use its_maps::Maps;
 use its_types::Shape;
 use lpi_pending::Redists;
 
-/// The outcome of a command (IHI 0069, section 5.3). Nothing is changed. The redistributors that
-/// `needs` names are in hand. The reply is that of every state that has these parts.
+/// The outcome of a command (IHI 0069, section 5.3). Nothing is changed. The parts of
+/// redistributors that `needs` names are in hand. The reply is that of every state that has these parts.
 pub fn plan(
     command: &Command,
     regs: &Regs,
@@ -66,8 +66,10 @@ pub fn apply(
     ensures left { AreLeftBy planned.command shape.now memory.now
         (regs.old, maps.old.maps, redists.old)
         (regs.new, maps.new.maps, redists.new) }
-    ensures hand { (vcpu : ℕ) → is_some (in_hand redists.new vcpu) ≡ is_some
-        (in_hand redists.old vcpu) }
+    ensures confs { (vcpu : ℕ) → is_some (conf_in redists.new vcpu) ≡ is_some
+        (conf_in redists.old vcpu) }
+    ensures pends { (vcpu : ℕ) → is_some (pend_in redists.new vcpu) ≡ is_some
+        (pend_in redists.old vcpu) }
 {
     regs.advance();
     if let Ok(effect) = planned.outcome {

@@ -18,6 +18,6 @@ mod room;
 pub use effect::Planned;
 pub use execute::{apply, plan};
 pub use met::{Met, meet};
-pub use needed::needs;
+pub use needed::{Needed, needs};
 pub use registers::{read_register, write_register};
 pub use room::make_room;

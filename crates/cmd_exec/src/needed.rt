@@ -1,7 +1,8 @@
 //! Which parts a step reads or changes.
-ghost use Rattle.std.specs.Prelude.{◌≡◌, ◌<◌, ◌≤◌, ℕ, true, nat_lt, IfSome};
+ghost use Rattle.std.specs.Prelude.{◌≡◌, ◌<◌, ◌≤◌, ◌&&◌, ℕ, true, nat_lt, IfSome};
 ghost use Rattle.its_plain.specs.Parts.{target_of_event};
-ghost use Rattle.cmd_exec.specs.Needs.{is_needed, is_either, is_moved, needs_vcpu};
+ghost use Rattle.cmd_exec.specs.Needs.{needs_conf, needs_pend, reads_confs, is_concerned};
+ghost use Rattle.cmd_exec.specs.Needs.{is_either, is_moved};
 ghost use Rattle.cmd_exec.specs.Needs.{AreTargets, ArePartsOfStep};
 ghost use Rattle.owned_parts.specs.RedistSets.{is_in};
 
@@ -11,24 +12,61 @@ use its_maps::{LookUp, Maps};
 use its_types::{DeviceId, EventId, Profile, Shape, Vcpu};
 use owned_parts::RedistSet;
 
-/// The parts that a step which meets a command reads or changes: its translator's maps and guest
-/// memory always, and these redistributors. They don't depend on the registers.
-pub fn needs(command: &Command, _regs: &Regs, maps: &Maps, shape: &Shape) -> RedistSet
-    requires vcpus { shape.now.vcpus ≤ 16 }
-    requires targets { AreTargets shape.now maps.now.maps }
-    ensures redists { (vcpu : ℕ) → is_in result vcpu ≡ is_needed shape.now maps.now.maps command.now
-        vcpu }
-    ensures below { (vcpu : ℕ) → is_in result vcpu ≡ true → vcpu < shape.now.vcpus }
-    ensures parts { ArePartsOfStep shape.now maps.now.maps command.now result }
-{
-    redists_of(command, maps, shape)
+/// The parts of redistributors that a command reads or changes.
+#[derive(Clone, Copy, Debug, PartialEq, Eq)]
+pub struct Needed {
+    /// The virtual processors whose configurations it does: all, or none.
+    pub confs: RedistSet,
+    /// Those where it does what is pending.
+    pub pends: RedistSet,
 }
 
-#[tactic(auto, unfolding(crate::specs::Needs::needs_vcpu))]
-fn redists_of(command: &Command, maps: &Maps, shape: &Shape) -> RedistSet
+/// The parts that a step which meets a command reads or changes: its translator's maps and guest
+/// memory always, and these of redistributors. They don't depend on the registers.
+pub fn needs(command: &Command, _regs: &Regs, maps: &Maps, shape: &Shape) -> Needed
     requires vcpus { shape.now.vcpus ≤ 16 }
     requires targets { AreTargets shape.now maps.now.maps }
-    ensures { (vcpu : ℕ) → is_in result vcpu ≡ needs_vcpu shape.now maps.now.maps command.now vcpu }
+    ensures confs { (vcpu : ℕ) → is_in result.confs vcpu
+        ≡ needs_conf shape.now maps.now.maps command.now vcpu }
+    ensures pends { (vcpu : ℕ) → is_in result.pends vcpu
+        ≡ needs_pend shape.now maps.now.maps command.now vcpu }
+    ensures confs_below { (vcpu : ℕ) → is_in result.confs vcpu ≡ true → vcpu < shape.now.vcpus }
+    ensures pends_below { (vcpu : ℕ) → is_in result.pends vcpu ≡ true → vcpu < shape.now.vcpus }
+    ensures parts { ArePartsOfStep shape.now maps.now.maps command.now result }
+{
+    Needed {
+        confs: confs_of(command, shape.vcpus),
+        pends: pends_of(command, maps, shape),
+    }
+}
+
+fn confs_of(command: &Command, vcpus: u8) -> RedistSet
+    requires { vcpus ≤ 16 }
+    ensures { (vcpu : ℕ) → is_in result vcpu ≡ (reads_confs command.now && nat_lt vcpu vcpus) }
+{
+    match *command {
+        Command::Mapti { .. } => every(vcpus),
+        Command::Mapi { .. } => every(vcpus),
+        Command::Inv { .. } => every(vcpus),
+        Command::Invall { .. } => every(vcpus),
+        Command::Mapd { .. }
+        | Command::Mapc { .. }
+        | Command::Movi { .. }
+        | Command::Int { .. }
+        | Command::Clear { .. }
+        | Command::Sync { .. }
+        | Command::Movall { .. }
+        | Command::Discard { .. }
+        | Command::Unknown(_) => RedistSet::new(),
+    }
+}
+
+#[tactic(auto, unfolding(crate::specs::Needs::is_concerned))]
+fn pends_of(command: &Command, maps: &Maps, shape: &Shape) -> RedistSet
+    requires vcpus { shape.now.vcpus ≤ 16 }
+    requires targets { AreTargets shape.now maps.now.maps }
+    ensures { (vcpu : ℕ) → is_in result vcpu
+        ≡ is_concerned shape.now maps.now.maps command.now vcpu }
 {
     let vcpus = u64::from(shape.vcpus);
     match *command {
@@ -58,11 +96,13 @@ fn redists_of(command: &Command, maps: &Maps, shape: &Shape) -> RedistSet
                 RedistSet::new()
             }
         }
-        Command::Mapti { .. } => every(shape.vcpus),
-        Command::Mapi { .. } => every(shape.vcpus),
-        Command::Inv { .. } => every(shape.vcpus),
-        Command::Invall { .. } => every(shape.vcpus),
-        Command::Mapd { .. } | Command::Sync { .. } | Command::Unknown(_) => RedistSet::new(),
+        Command::Mapd { .. }
+        | Command::Mapti { .. }
+        | Command::Mapi { .. }
+        | Command::Sync { .. }
+        | Command::Inv { .. }
+        | Command::Invall { .. }
+        | Command::Unknown(_) => RedistSet::new(),
     }
 }
 

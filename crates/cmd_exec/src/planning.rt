@@ -2,7 +2,7 @@
 ghost use Rattle.std.specs.Prelude.{◌≡◌, ◌<◌, true, is_some, IfOk};
 ghost use Rattle.its_types.specs.Maps as maps;
 ghost use Rattle.its_plain.specs.Commands as commands;
-ghost use Rattle.lpi_pending.specs.InHand.{in_hand};
+ghost use Rattle.lpi_pending.specs.InHand.{pend_in};
 ghost use Rattle.cmd_exec.specs.InHand.{is_on_in};
 ghost use Rattle.cmd_exec.specs.Effects as effects;
 ghost use Rattle.cmd_exec.specs.Needs.{AreNeededInHand};
@@ -45,10 +45,10 @@ fn ensure(test: bool, reason: Reason) -> Result<(), Reason>
 
 impl<'a> InHand<'a> {
     fn is_on(&self, vcpu: Vcpu) -> bool
-        requires { is_some (in_hand self.now.redists.now vcpu.0) ≡ true }
+        requires { is_some (pend_in self.now.redists.now vcpu.0) ≡ true }
         ensures { result ≡ is_on_in self.now.redists.now vcpu.0 }
     {
-        self.redists.redist(vcpu).bases.on
+        self.redists.pend(vcpu).accepts
     }
 
     // A device and an event of it, where they are mapped.

@@ -2,7 +2,6 @@
 use Rattle.std.proofs.Common.{◌≡◌, ℕ, ◌<◌, ◌++◌, Bool, true, false, if◌then◌else◌, List, [], ◌∷◌, Option, Some, None, length, refl, ap, sym, ◌∙◌, subst, inl, inr}
 use Rattle.std.proofs.Common.{arith}
 use Rattle.std.specs.List.{AllByRecursion}
-use Rattle.std.specs.Prelude.{is_some}
 use Rattle.dirty_log.specs.declared.tracked.Tracked.{Tracked}
 use Rattle.gicr_regs.specs.Registers.{asked_by, reads_tables, changes_pending, written_gicr}
 use Rattle.gicr_regs.specs.declared.write.GicrWrite.{GicrWrite}
@@ -37,11 +36,10 @@ not_both : (A : Type 0) (b : Bool) → b ≡ false → b ≡ true → A
 not_both A true e f = cc
 not_both A false e f = cc
 
--- what is asked for and there is not, is not asked for
-is_not : {A : Type 0} (b : Bool) (o : Option A) → o ≡ None → (b ≡ true → is_some o ≡ true) → b ≡ false
-is_not true None e h = sym (h refl)
-is_not true (Some x) e h = cc
-is_not false o e h = refl
+-- what there is not is not asked for
+is_not : (b : Bool) → (b ≡ true → false ≡ true) → b ≡ false
+is_not true h = sym (h refl)
+is_not false h = refl
 
 -- ---- the parts that a write needs
 
@@ -112,11 +110,11 @@ module _ (s : Setup) (vcpus : HasVcpus s) (w : Word) (room : w.place < s.limits.
         → MayWrite (held_of vcpu g) (held_of vcpu (done_to s.start.layout.shape access g p)))
     unfolding written_gicr
     programmed None c None enough gicr = confs s w vcpu off size value c vcpus st room gicr
-        (is_not (reads_tables (asked access c)) None refl enough.memory) (is_not (changes_pending (asked access c)) None refl enough.pend)
+        (is_not (reads_tables (asked access c)) enough.memory) (is_not (changes_pending (asked access c)) enough.pend)
     programmed (Some x) c None enough gicr = rereads s w vcpu off size value c x.0 x.1 vcpus st room gicr
-        (is_not (changes_pending (asked access c)) None refl enough.pend)
+        (is_not (changes_pending (asked access c)) enough.pend)
     programmed None c (Some p) enough gicr = turn_offs s w vcpu off size value c p vcpus st room gicr
-        (is_not (reads_tables (asked access c)) None refl enough.memory)
+        (is_not (reads_tables (asked access c)) enough.memory)
     programmed (Some x) c (Some p) enough gicr = gicrs s w vcpu off size value c p x.0 x.1 vcpus st room gicr
 
     -- ---- where it doesn't, nothing is written
@@ -210,10 +208,10 @@ module _ (s : Setup) (vcpus : HasVcpus s) (w : Word) (room : w.place < s.limits.
       -- all of them
       unprogrammed : (m : Option (List Window × Option Tracked)) (c : ConfState) (p : Option PendState)
           → (let g : HandState = record { memory = m; conf = c; pend = p } in HasEnough access g → MayWrite (held_of vcpu g) (held_of vcpu g))
-      unprogrammed None c None enough = alone c (is_not (reads_tables (asked access c)) None refl enough.memory)
-          (is_not (changes_pending (asked access c)) None refl enough.pend)
-      unprogrammed (Some x) c None enough = with_memory c x.0 x.1 (is_not (changes_pending (asked access c)) None refl enough.pend)
-      unprogrammed None c (Some p) enough = with_pend c p (is_not (reads_tables (asked access c)) None refl enough.memory)
+      unprogrammed None c None enough = alone c (is_not (reads_tables (asked access c)) enough.memory)
+          (is_not (changes_pending (asked access c)) enough.pend)
+      unprogrammed (Some x) c None enough = with_memory c x.0 x.1 (is_not (changes_pending (asked access c)) enough.pend)
+      unprogrammed None c (Some p) enough = with_pend c p (is_not (reads_tables (asked access c)) enough.memory)
       unprogrammed (Some x) c (Some p) enough = with_all c x.0 x.1 p
 
     -- ---- either

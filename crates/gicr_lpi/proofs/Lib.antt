@@ -1,3 +1,4 @@
 pub mod Lows
 pub mod Alone
 pub mod Asked
+pub mod Needs

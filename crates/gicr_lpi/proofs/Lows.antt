@@ -9,7 +9,7 @@ use Rattle.std.specs.Option.{option_map}
 use Rattle.std.specs.Prelude.{slice_get}
 use Rattle.gicr_regs.specs.Registers.{AreLow, AreKept}
 use Rattle.guest_windows.specs.Windows.{Window, extent, in_range, are_windows, has, inside}
-use Rattle.guest_windows.proofs.Fitting.{Fits, has-fits}
+use Rattle.guest_windows.proofs.Laws.{Fits, has-fits}
 use Rattle.its_types.specs.Ranges.{lpi_count, pending_bytes}
 use Rattle.its_types.specs.declared.ids.Vcpu.{Vcpu}
 use Rattle.its_types.specs.declared.machine.Part.TheVariants as part

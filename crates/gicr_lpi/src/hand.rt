@@ -64,7 +64,8 @@ impl Hand {
     }
 }
 
-// Of what is asked there is memory, where tables are read.
+// There is memory, where the write asks to read tables.
+#[tactic(auto, unfolding(gicr_regs::specs::Registers::written_gicr))]
 fn write_both(
     conf: &mut Conf,
     pend: &mut Pend,
@@ -93,7 +94,7 @@ fn write_both(
     }
 }
 
-// So is there, and the write turns LPIs neither on nor off.
+// So there is, and the write turns LPIs neither on nor off.
 fn write_conf(
     conf: &mut Conf,
     memory: &Option<Box<GuestMemory>>,

@@ -8,7 +8,7 @@ ghost use Rattle.its_turns.specs.Machines.{setup, view, IsOf};
 ghost use Rattle.its_turns.specs.Told.{HasStood};
 ghost use Rattle.owned_parts.specs.Owned.{conf_state};
 ghost use Rattle.held_parts.specs.Taking.{Goes};
-ghost use Rattle.gicr_lpi.specs.Accesses.{asked, IsOfWrite};
+ghost use Rattle.gicr_lpi.specs.Accesses.{asked, IsOfWrite, WasAsked};
 ghost use Rattle.gicr_lpi.specs.Hands.{state_of, held_of, HasEnough, IsHand};
 
 use crate::access::GicrAccess;
@@ -37,8 +37,8 @@ pub fn take_hand<R: Wait>(rt: &R, machine: &Machine, pass: &mut Pass, access: Gi
     hand
 }
 
-// The configuration, with memory where it says that tables are to be read. Memory is taken before
-// it, so it is put back first, and may be another when it is taken again.
+// The configuration, with memory where it says that tables are to be read. It is put back first
+// then, since memory is taken before it.
 fn take_registers<R: Wait>(
     rt: &R,
     machine: &Machine,
@@ -59,16 +59,40 @@ fn take_registers<R: Wait>(
     ensures none { result.pend ≡ None }
     ensures hand { IsHand (setup machine.now).start.layout.shape result }
 {
-    let how = Waiting { rt };
-    let conf = take_conf(&how, machine, pass, access.vcpu);
-    if !access.reads_tables(&conf) {
-        return Hand {
-            memory: None,
-            conf,
-            pend: None,
-        };
+    let conf = take_conf(&Waiting { rt }, machine, pass, access.vcpu);
+    if access.reads_tables(&conf) {
+        put(machine, pass, Part::Conf(access.vcpu), Value::Conf(conf));
+        return take_with_memory(rt, machine, pass, access);
     }
-    put(machine, pass, Part::Conf(access.vcpu), Value::Conf(conf));
+    Hand {
+        memory: None,
+        conf,
+        pend: None,
+    }
+}
+
+// Memory, and then the configuration, which may be another by now.
+fn take_with_memory<R: Wait>(
+    rt: &R,
+    machine: &Machine,
+    pass: &mut Pass,
+    access: GicrAccess,
+) -> Hand
+    requires of { IsOf machine.now pass.old }
+    requires free { (view pass.old).held ≡ [] }
+    requires vcpu { access.vcpu.0 < vcpu_count (setup machine.now) }
+    requires asked { WasAsked (setup machine.now) access registers.reads_tables }
+    ensures of { IsOf machine.now pass.new }
+    ensures goes { Goes (IsOfWrite (setup machine.now) access) (view pass.old)
+        (view pass.new) }
+    ensures held { (view pass.new).held ≡ held_of access.vcpu (state_of result) }
+    ensures memory { is_some result.memory ≡ true }
+    ensures stood { HasStood (setup machine.now) (part.Conf access.vcpu)
+        (content.Conf (conf_state result.conf.value)) }
+    ensures none { result.pend ≡ None }
+    ensures hand { IsHand (setup machine.now).start.layout.shape result }
+{
+    let how = Waiting { rt };
     let memory = take_memory(&how, machine, pass);
     let conf = take_conf(&how, machine, pass, access.vcpu);
     Hand {

@@ -16,9 +16,7 @@ use Rattle.std.proofs.lemmas.Bool.{eqb-true}
 use Rattle.std.proofs.lemmas.Bool.Decides.{Decides-eqb, Decides-like, Decides-and, Decides-or}
 use Rattle.its_types.specs.declared.ids.DeviceId.{DeviceId}
 use Rattle.its_types.specs.declared.ids.EventId.{EventId}
-use Rattle.its_types.specs.declared.ids.Intid.{Intid}
 use Rattle.its_types.specs.declared.ids.Target.{Target}
-use Rattle.its_types.specs.declared.ids.Vcpu.{Vcpu}
 use Rattle.its_types.specs.declared.machine.Part.{Part}
 use Rattle.its_types.specs.declared.machine.Part.TheVariants as part
 use Rattle.its_plain.specs.declared.call.Reply.TheVariants as reply

@@ -2,7 +2,7 @@
 ghost use Rattle.std.specs.Prelude.{◌≡◌, true};
 ghost use Rattle.its_command.specs.declared.command.Command.TheVariants as command;
 
-use cmd_exec::{apply, make_room, needs, plan, read_register, write_register};
+use cmd_exec::{Needed, apply, make_room, needs, plan, read_register, write_register};
 use gits_regs::Regs;
 use guest_windows::{Memory, NewError};
 use its_command::{Command, Op, RdBase};
@@ -49,13 +49,13 @@ fn registers_are_read_and_written(rt: HostRuntime) {
 }
 
 // What a translator at reset needs for a command.
-fn needed(alloc: Global, command: &Command) -> RedistSet {
+fn needed(alloc: Global, command: &Command) -> Needed {
     let regs = Regs::reset(16);
     let maps = Maps::new(alloc);
     needs(command, &regs, &maps, &SHAPE)
 }
 
-// Whether INVALL needs those of all processors, and MOVALL just two.
+// Whether INVALL needs the configurations of all processors, and MOVALL what is pending at just two.
 fn needs_hold(alloc: Global) -> bool {
     let all = needed(alloc, &Command::Invall { icid: Icid(0) });
     let movall = Command::Movall {
@@ -63,11 +63,17 @@ fn needs_hold(alloc: Global) -> bool {
         to: RdBase::new(1),
     };
     let two = needed(alloc, &movall);
-    all.has(Vcpu(0))
-        && !all.has(Vcpu(4))
-        && two.has(Vcpu(3))
-        && !two.has(Vcpu(2))
-        && two.redists().map(|vcpu| vcpu.0).eq([1, 3].iter().copied())
+    all.pends == RedistSet::new()
+        && all.confs.has(Vcpu(0))
+        && !all.confs.has(Vcpu(4))
+        && two.confs == RedistSet::new()
+        && two.pends.has(Vcpu(3))
+        && !two.pends.has(Vcpu(2))
+        && two
+            .pends
+            .redists()
+            .map(|vcpu| vcpu.0)
+            .eq([1, 3].iter().copied())
 }
 
 #[test]

@@ -193,12 +193,13 @@ const FIRST: Option<MakeError> = Some(MakeError::Fault(DescFault::Frames(0)));
 
 const SECOND: Option<MakeError> = Some(MakeError::Fault(DescFault::Frames(1)));
 
-// Frames of both translators. The window begins at 0x8000_0000, and has 2 MiB.
+// Frames of both translators. The window begins at 0x8000_0000, and has 2 MiB. Where both meet, the
+// first are told.
 const FRAMES: [((u64, u64), Option<MakeError>); 6] = [
     ((0x7ffe_0000, 0x8020_0000), None),
     ((0x7ffe_0001, 0x8020_0000), FIRST),
     ((0x7ffe_0000, 0x801f_ffff), SECOND),
-    ((0x0808_0000, 0x0809_ffff), SECOND),
+    ((0x0808_0000, 0x0809_ffff), FIRST),
     ((0x0808_0000, 0xf_ffff_fffe_0000), None),
     ((0xf_ffff_fffe_0001, 0x0808_0000), FIRST),
 ];

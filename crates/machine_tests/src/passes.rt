@@ -189,14 +189,14 @@ const MAPS: Part = Part::Maps(0);
 const ALL: [Part; 6] = [
     MAPS,
     Part::Mem,
-    Part::Redist(Vcpu(0)),
-    Part::Redist(Vcpu(1)),
-    Part::Redist(Vcpu(2)),
-    Part::Redist(Vcpu(3)),
+    Part::Conf(Vcpu(0)),
+    Part::Conf(Vcpu(1)),
+    Part::Conf(Vcpu(2)),
+    Part::Conf(Vcpu(3)),
 ];
 
 // What a signal takes that the cache has.
-const CACHED: [Part; 2] = [Part::Shard(0, 3), Part::Redist(Vcpu(2))];
+const CACHED: [Part; 2] = [Part::Shard(0, 3), Part::Pend(Vcpu(2))];
 
 const MAPD: [u8; 32] = [
     8, 0, 0, 0, 16, 0, 0, 0, 4, 0, 0, 0, 0, 0, 0, 0, 0, 0, 12, 128, 0, 0, 0, 128, 0, 0, 0, 0, 0, 0,
@@ -254,7 +254,7 @@ const PREPARED: [Act; 14] = [
     Act::Run(1, &ALL, 0, Op::Mapti),
     Act::Signal(
         2,
-        &[MAPS, Part::Shard(0, 3), Part::Redist(Vcpu(2))],
+        &[MAPS, Part::Shard(0, 3), Part::Pend(Vcpu(2))],
         0,
         DELIVERED,
         FILL,
@@ -299,6 +299,22 @@ const OVERTAKEN: [Act; 11] = [
 #[test]
 fn a_signal_is_overtaken(rt: HostRuntime) -> Result<(), Fail> {
     assert_eq!(rt; play(rt.alloc(), &OVERTAKEN)?, 11);
+    Ok(())
+}
+
+// While one pass holds all that a command reads of configurations, another makes a signal.
+const BESIDE: [Act; 6] = [
+    Act::Take(3, &ALL),
+    Act::Signal(4, &CACHED, 0, DELIVERED, ShardChange::Keep),
+    Act::IsAt(0, 15),
+    Act::Give(3, &ALL),
+    Act::Run(3, &[MAPS, Part::Mem], 1, Op::Mapd),
+    Act::IsAt(1, 16),
+];
+
+#[test]
+fn a_signal_goes_on_beside_configurations_that_are_held(rt: HostRuntime) -> Result<(), Fail> {
+    assert_eq!(rt; play(rt.alloc(), &BESIDE)?, 6);
     Ok(())
 }
 

@@ -1,7 +1,6 @@
 pub mod Lists
 pub mod Kept
 pub mod Others
-pub mod Needed
 pub mod Signalled
 mod Written
 mod RegisterWrites

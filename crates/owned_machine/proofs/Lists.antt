@@ -1,27 +1,13 @@
 -- Lists of redistributors in hand, and of translators.
-use Rattle.std.proofs.Common.{◌≡◌, ℕ, zero, suc, ◌<◌, List, [], ◌∷◌, map, take, Option, Some, None, inl, inr, refl, sym, ap, ◌∙◌, arith}
+use Rattle.std.proofs.Common.{◌≡◌, ℕ, zero, suc, ◌<◌, List, [], ◌∷◌, Option, Some, None, inl, inr, refl, sym, ap, ◌∙◌, arith}
 use Rattle.std.specs.Prelude.{length, slice_get, slice_set, slice_index_or}
 use Rattle.std.proofs.lemmas.Bool.{cases_eq}
 use Rattle.std.proofs.lemmas.Option.{same_Some, slice_get_within}
-use Rattle.its_plain.specs.Plain.{Redistributor, Translator}
-use Rattle.lpi_pending.specs.InHand.{in_hand}
-use Rattle.lpi_pending.specs.declared.redist.Redist.{Redist}
-use Rattle.owned_parts.specs.Owned.{redistributor_of, redistributor_or, one_or_two}
-
-pub hand_here : (n v : ℕ) (rs : List (Option Redist)) (r : Redist) → v < n → in_hand rs v ≡ Some r → slice_get (map redistributor_or (take n rs)) v ≡ Some
-    (redistributor_of r)
-hand_here n v [] r lt is = absurd cc
-hand_here zero v (x ∷ xs) r lt is = absurd (omega arith)
-hand_here (suc n) zero (x ∷ xs) r lt is = ap (λ (o : Option Redist). Some (redistributor_or o)) is
-hand_here (suc n) (suc v) (x ∷ xs) r lt is = hand_here n v xs r (omega arith) is
-
--- all n are in hand, so there are n
-pub hand_length : (n : ℕ) (rs : List (Option Redist)) → ((v : ℕ) → v < n → (r : Redist) × (in_hand rs v ≡ Some r)) → length (map redistributor_or (take n rs))
-    ≡ n
-hand_length zero [] h = refl
-hand_length zero (x ∷ xs) h = refl
-hand_length (suc n) [] h = let no = (h 0 (omega arith)).1 in absurd cc
-hand_length (suc n) (x ∷ xs) h = ap (λ (k : ℕ). suc k) (hand_length n xs (λ v lt. h (suc v) (omega arith)))
+use Rattle.std.specs.Option.{option_map}
+use Rattle.its_plain.specs.Plain.{Redistributor, Translator, ConfState, PendState, conf_of, pend_of, joined}
+use Rattle.lpi_pending.specs.InHand.{RedistParts}
+use Rattle.owned_parts.specs.Owned.{redistributor_in, redistributors_in, one_or_two}
+use Rattle.owned_parts.proofs.Places.{place_is, many_places}
 
 -- lists of one length with the same elements
 pub same_lists : {X : Type 0} (xs ys : List X) → length xs ≡ length ys → ((i : ℕ) (x : X) → slice_get xs i ≡ Some x → slice_get ys i ≡ Some x) → xs ≡ ys
@@ -34,16 +20,19 @@ same_lists {X} (x ∷ xs) (y ∷ ys) e h =
     ap (λ (z : X). z ∷ xs) (sym first) ∙ ap (λ (zs : List X). y ∷ zs) rest
 
 -- the list of those in hand is the one that has each of them
-pub hand_is : (n : ℕ) (rs : List (Option Redist)) (all : List Redistributor)
-    → ((v : ℕ) → v < n → (r : Redist) × (in_hand rs v ≡ Some r) × (slice_get all v ≡ Some (redistributor_of r))) → length all ≡ n
-    → map redistributor_or (take n rs) ≡ all
+pub hand_is : (n : ℕ) (rs : RedistParts) (all : List Redistributor) → ((v : ℕ) → v < n → slice_get all v ≡ Some (redistributor_in rs v)) → length all ≡ n
+    → redistributors_in n rs ≡ all
 hand_is n rs all h e =
-    let long : length (map redistributor_or (take n rs)) ≡ n = hand_length n rs (λ v lt. let q = h v lt in (q.0, q.1)) in
-    same_lists (map redistributor_or (take n rs)) all (long ∙ sym e) (λ i x is.
-    let lt : i < n = let within = slice_get_within (map redistributor_or (take n rs)) i x is in omega (arith, within, long) in
-    let q = h i lt in
-    let same : redistributor_of q.0 ≡ x = same_Some (redistributor_of q.0) x (sym (hand_here n i rs q.0 lt q.1) ∙ is) in
-    q.2 ∙ ap (λ (y : Redistributor). Some y) same)
+    let long : length (redistributors_in n rs) ≡ n = many_places rs n in
+    same_lists (redistributors_in n rs) all (long ∙ sym e) (λ i x is.
+    let lt : i < n = let within = slice_get_within (redistributors_in n rs) i x is in omega (arith, within, long) in
+    h i lt ∙ sym (place_is rs n i lt) ∙ is)
+
+-- a redistributor that shows these two parts has them
+pub both_there : (o : Option Redistributor) (c : ConfState) (p : PendState) → option_map conf_of o ≡ Some c → option_map pend_of o ≡ Some p → o ≡ Some (joined c p)
+both_there None c p e f = absurd cc
+both_there (Some r) c p e f =
+    ap (λ (x : ConfState). Some (joined x (pend_of r))) (same_Some (conf_of r) c e) ∙ ap (λ (x : PendState). Some (joined c x)) (same_Some (pend_of r) p f)
 
 -- ---- one or two translators
 

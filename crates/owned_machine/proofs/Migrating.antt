@@ -13,7 +13,7 @@ use Rattle.dirty_log.proofs.Whole.{copy_is}
 use Rattle.plain_soundness.proofs.Answers.{calls_keep}
 use Rattle.its_plain.specs.Answer.{copy_count, left, reply_of, save_left}
 use Rattle.its_plain.specs.declared.call.Call.TheVariants as call
-use Rattle.lpi_pending.specs.declared.redist.Redist.{Redist}
+use Rattle.lpi_pending.specs.InHand.{RedistParts}
 use Rattle.owned_parts.specs.declared.in_place.TranslatorRef.{TranslatorRef}
 use Rattle.owned_parts.specs.declared.in_place.InPlace.{InPlace}
 use Rattle.owned_machine.specs.Placed.{parts_in, translator_in}
@@ -31,7 +31,7 @@ use Rattle.its_plain.specs.Regions.{savable, areas_of}
 use Rattle.its_plain.specs.Saved.{saved, moved, moved_count, words_of, wrote_tables}
 use Rattle.its_plain.specs.Stands.{Stands, IsFirstFault}
 use Rattle.its_plain.specs.declared.fault.RestoreFault.{RestoreFault}
-use Rattle.lpi_pending.specs.InHand.{in_hand}
+use Rattle.owned_parts.specs.Places.{AreNotInHand}
 use Rattle.owned_parts.specs.Owned.{AreAllInHand, state_of, state_of_parts, state_in_place, translators_of, translators_at, track_at, translator_of, one_or_two}
 use Rattle.owned_parts.specs.declared.parts.Parts.{Parts}
 use Rattle.plain_soundness.proofs.Migrated.{migrations_keep}
@@ -61,9 +61,9 @@ pub lent_whole : (p : Parts) (i : InPlace) → IsMachine p → state_in_place i 
 lent_whole p i m state layout redists = record {
   sound = subst IsSound (sym state ∙ in_place_is i) m.sound;
   all_in_hand = subst (λ (l : Layout). AreAllInHand l.shape i.redists.now) (sym layout)
-      (subst (λ (rs : List (Option Redist)). AreAllInHand p.layout.shape rs) (sym redists) m.all_in_hand);
-  no_others = subst (λ (l : Layout). (v : ℕ) → l.shape.vcpus ≤ v → in_hand i.redists.now v ≡ None) (sym layout)
-      (subst (λ (rs : List (Option Redist)). (v : ℕ) → p.layout.shape.vcpus ≤ v → in_hand rs v ≡ None) (sym redists) m.no_others);
+      (subst (λ (rs : RedistParts). AreAllInHand p.layout.shape rs) (sym redists) m.all_in_hand);
+  no_others = subst (λ (l : Layout). (v : ℕ) → l.shape.vcpus ≤ v → AreNotInHand i.redists.now v) (sym layout)
+      (subst (λ (rs : RedistParts). (v : ℕ) → p.layout.shape.vcpus ≤ v → AreNotInHand rs v) (sym redists) m.no_others);
 }
 
 -- ---- a moved machine
@@ -84,7 +84,7 @@ module _ (old : Parts) (memory : List Window) (values : List (Option RegValues))
 
   pub moved_goes : (new : Parts) → new.layout ≡ old.layout → Stands memory values old.layout (bases_to_restore old.layout gicr) (state_of_parts new)
       → AreAllInHand old.layout.shape new.redists
-      → ((v : ℕ) → old.layout.shape.vcpus ≤ v → in_hand new.redists v ≡ None) → GoesOn new (moved (state_of_parts old))
+      → ((v : ℕ) → old.layout.shape.vcpus ≤ v → AreNotInHand new.redists v) → GoesOn new (moved (state_of_parts old))
   moved_goes new layout stands all none =
       let here : Stands (saved u) (map Some (reads_of u)) old.layout (bases_of u) (state_of_parts new) =
       there (λ (x : List Window) (v : List (Option RegValues)) (bs : List Bases). Stands x v old.layout bs (state_of_parts new)) stands
@@ -95,7 +95,7 @@ module _ (old : Parts) (memory : List Window) (values : List (Option RegValues))
         whole = record {
           sound = subst IsSound (sym same) (migrations_keep u m.sound);
           all_in_hand = subst (λ (l : Layout). AreAllInHand l.shape new.redists) (sym layout) all;
-          no_others = subst (λ (l : Layout). (v : ℕ) → l.shape.vcpus ≤ v → in_hand new.redists v ≡ None) (sym layout) none;
+          no_others = subst (λ (l : Layout). (v : ℕ) → l.shape.vcpus ≤ v → AreNotInHand new.redists v) (sym layout) none;
         };
       }
 
@@ -162,7 +162,7 @@ pub lent_in_hand : (p : Parts) (i : InPlace) → IsMachine p → i.layout.now �
     → AreAllInHand i.layout.now.shape i.redists.now
 lent_in_hand p i m layout redists =
     subst (λ (l : Layout). AreAllInHand l.shape i.redists.now) (sym layout)
-    (subst (λ (rs : List (Option Redist)). AreAllInHand p.layout.shape rs) (sym redists) m.all_in_hand)
+    (subst (λ (rs : RedistParts). AreAllInHand p.layout.shape rs) (sym redists) m.all_in_hand)
 
 -- without the second memory
 pub rest_sound : (p : Parts) (i : InPlace) → IsMachine p → state_in_place i ≡ record (state_of_parts p) { track = None } → AreOfSound i

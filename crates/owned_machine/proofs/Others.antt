@@ -1,5 +1,5 @@
 -- What a step of one translator leaves of the others, and of the second memory.
-use Rattle.std.proofs.Common.{◌≡◌, ℕ, zero, suc, List, [], ◌∷◌, Option, Some, None, Result, Ok, Err, IfOk, refl, sym, subst}
+use Rattle.std.proofs.Common.{◌≡◌, ℕ, zero, suc, Bool, true, false, List, [], ◌∷◌, Option, Some, None, Result, Ok, Err, IfOk, refl, sym, subst}
 use Rattle.std.specs.Prelude.{slice_get, if◌then◌else◌}
 use Rattle.std.proofs.lemmas.Bool.{cond_both}
 use Rattle.std.proofs.lemmas.Option.{same_Some}
@@ -15,28 +15,40 @@ use Rattle.its_plain.specs.Parts.{IsIn, footprint, needed_by}
 use Rattle.its_plain.specs.declared.call.Call.TheVariants as call
 use Rattle.its_plain.specs.declared.call.Reason.{Reason}
 use Rattle.plain_footprint.proofs.Kept.{commands_keep}
-use Rattle.cmd_exec.proofs.Sets.{IsRedist, AreRedists, needed_redists, needed_is}
+use Rattle.cmd_exec.specs.Needs.{reads_confs}
+use Rattle.cmd_exec.proofs.Sets.{IsOfKind, AreOfKind, needed_kind, needed_is}
 
 -- ---- parts
 
-no_maps_in : (ps : List Part) (j k : ℕ) → AreRedists ps → slice_get ps k ≡ Some (MapsOf j) → ⊥
-no_maps_in [] j k h e = absurd cc
-no_maps_in (p ∷ ps) j zero h e = subst IsRedist (same_Some p (MapsOf j) e) h.0
-no_maps_in (p ∷ ps) j (suc k) h e = no_maps_in ps j k h.1 e
+-- configurations and what is pending are no maps
+no_maps : (b : Bool) (j : ℕ) → IsOfKind b (MapsOf j) → ⊥
+no_maps true j h = h
+no_maps false j h = h
 
-by_redists : (u : Plain) (i : ℕ) (o : Option (List ℕ)) → AreRedists (needed_by u i o)
-by_redists u i None = tt
+-- all are configurations, or all are what is pending
+abbrev AreOfRedists : List Part → Type 0
+AreOfRedists ps = (b : Bool) × AreOfKind b ps
+
+no_maps_of : (b : Bool) (ps : List Part) (j k : ℕ) → AreOfKind b ps → slice_get ps k ≡ Some (MapsOf j) → ⊥
+no_maps_of b [] j k h e = absurd cc
+no_maps_of b (p ∷ ps) j zero h e = no_maps b j (subst (IsOfKind b) (same_Some p (MapsOf j) e) h.0)
+no_maps_of b (p ∷ ps) j (suc k) h e = no_maps_of b ps j k h.1 e
+
+by_redists : (u : Plain) (i : ℕ) (o : Option (List ℕ)) → AreOfRedists (needed_by u i o)
+by_redists u i None = (true, tt)
 by_redists u i (Some bytes) =
-    subst AreRedists (sym (needed_is u i (decoded bytes))) (needed_redists u.layout.shape (maps_of u i) (decoded bytes))
+    let c = decoded bytes in
+    (reads_confs c, subst (AreOfKind (reads_confs c)) (sym (needed_is u i c)) (needed_kind u.layout.shape (maps_of u i) c))
 
-next_redists : (u : Plain) (i : ℕ) → AreRedists (if is_idle u i then [] else needed_by u i (next_bytes u i))
-next_redists u i = cond_both (is_idle u i) [] (needed_by u i (next_bytes u i)) AreRedists (λ _. tt) (λ _. by_redists u i (next_bytes u i))
+next_redists : (u : Plain) (i : ℕ) → AreOfRedists (if is_idle u i then [] else needed_by u i (next_bytes u i))
+next_redists u i = cond_both (is_idle u i) [] (needed_by u i (next_bytes u i)) AreOfRedists (λ _. (true, tt)) (λ _. by_redists u i (next_bytes u i))
 
 pub not_in_step : (u : Plain) (i j : ℕ) → (j ≡ i → ⊥) → ¬ IsIn (MapsOf j) (footprint u (call.Step i))
 unfolding footprint
 not_in_step u i j apart (zero, e) = apart (let one : Some (MapsOf i) ≡ Some (MapsOf j) = e in cc)
 not_in_step u i j apart (suc zero, e) = absurd cc
-not_in_step u i j apart (suc (suc k), e) = no_maps_in (if is_idle u i then [] else needed_by u i (next_bytes u i)) j k (next_redists u i) e
+not_in_step u i j apart (suc (suc k), e) =
+    let h = next_redists u i in no_maps_of h.0 (if is_idle u i then [] else needed_by u i (next_bytes u i)) j k h.1 e
 
 -- ---- the second memory
 

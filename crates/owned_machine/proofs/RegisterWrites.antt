@@ -13,7 +13,7 @@ use Rattle.owned_parts.specs.declared.parts.Parts.{Parts}
 use Rattle.owned_parts.specs.Owned.{state_of_parts}
 use Rattle.owned_machine.specs.Whole.{IsMachine, GoesOn}
 use Rattle.owned_machine.proofs.Lists.{first_there, first_set, found_at, not_set}
-use Rattle.owned_machine.proofs.Kept.{redists_are, goes_on, stays}
+use Rattle.owned_machine.proofs.Kept.{redists_are, same_redists, same_held, goes_on, stays}
 use Rattle.std.specs.Option.{option_map}
 use Rattle.owned_parts.specs.Owned.{one_or_two, translator_of, translators_of}
 use Rattle.owned_parts.specs.declared.parts.Translator.{Translator as TranslatorInHand}
@@ -34,8 +34,8 @@ first_written p its off size value t m first is =
     let all : one_or_two (translator_of t) o ≡ slice_set u.translators 0 (g (translator u 0)) =
     ap (λ (x : Translator). one_or_two x o) is ∙ sym (first_set f (g f) o) ∙ ap (λ (x : Translator). slice_set u.translators 0 (g x)) (sym here) in
     subst (λ (i : ℕ). GoesOn (record p { first = t }) (written u i off size value)) (sym first)
-    (goes_on p (record p { first = t }) (call.WriteReg 0 off size value) (written u 0 off size value) m refl refl (λ v. refl) all refl refl
-    (λ v r at. let h = redists_are p m v r at in record { lpis = h.lpis; same = h.same }))
+    (goes_on p (record p { first = t }) (call.WriteReg 0 off size value) (written u 0 off size value) m refl refl (same_held p.redists) all refl
+    refl (same_redists u (written u 0 off size value) p.redists refl refl (redists_are p m)))
 
 pub second_written : (p : Parts) (its off size value : ℕ) (s t : TranslatorInHand) → IsMachine p → its ≡ 1 → p.second ≡ Some s
     → translator_of t ≡ translator_written p.layout.shape (translator_of s) (write_reg s.regs off size value)
@@ -51,8 +51,8 @@ second_written p its off size value s t m second there is =
     ap (λ (x : Translator). one_or_two f (Some x)) is ∙ ap (λ (x : Translator). slice_set (one_or_two f (Some (translator_of s))) 1 (g x)) (sym here)
     ∙ ap (λ (ts : List Translator). slice_set ts 1 (g (translator u 1))) (sym two) in
     subst (λ (i : ℕ). GoesOn (record p { second = Some t }) (written u i off size value)) (sym second)
-    (goes_on p (record p { second = Some t }) (call.WriteReg 1 off size value) (written u 1 off size value) m refl refl (λ v. refl) all refl refl
-    (λ v r at. let h = redists_are p m v r at in record { lpis = h.lpis; same = h.same }))
+    (goes_on p (record p { second = Some t }) (call.WriteReg 1 off size value) (written u 1 off size value) m refl refl (same_held p.redists) all
+    refl refl (same_redists u (written u 1 off size value) p.redists refl refl (redists_are p m)))
 
 pub none_written : (p : Parts) (its off size value : ℕ) → IsMachine p → slice_get (state_of_parts p).translators its ≡ None
     → GoesOn p (written (state_of_parts p) its off size value)

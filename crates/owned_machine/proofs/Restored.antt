@@ -1,5 +1,5 @@
 -- Machines that are restored from memory.
-use Rattle.std.proofs.Common.{◌≡◌, ℕ, zero, suc, ◌≤◌, Bool, true, false, if◌then◌else◌, List, [], ◌∷◌, length, map, take, Option, Some, None, Result}
+use Rattle.std.proofs.Common.{◌≡◌, ℕ, zero, suc, ◌≤◌, Bool, true, false, if◌then◌else◌, List, [], ◌∷◌, length, map, take, Option, Some, Result}
 use Rattle.std.proofs.Common.{Ok, Err}
 use Rattle.std.proofs.Common.{refl, sym, ap, subst, ◌∙◌, arith}
 use Rattle.std.specs.Prelude.{slice_get, is_some}
@@ -25,8 +25,9 @@ use Rattle.its_plain.specs.declared.desc.DescFault.TheVariants.{Restore}
 use Rattle.its_plain.specs.declared.fault.RestoreFault.{RestoreFault}
 use Rattle.its_plain.specs.declared.make.MakeError.{MakeError}
 use Rattle.its_plain.specs.declared.make.MakeError.TheVariants as making
-use Rattle.lpi_pending.specs.InHand.{in_hand}
-use Rattle.owned_parts.specs.Owned.{AreAllInHand, redistributor_or, state_of_parts}
+use Rattle.owned_parts.specs.Owned.{AreAllInHand, redistributors_in, state_of_parts}
+use Rattle.owned_parts.specs.Places.{AreNotInHand}
+use Rattle.owned_parts.proofs.Places.{many_places}
 use Rattle.owned_parts.specs.declared.parts.Parts.{Parts}
 use Rattle.standing_states.specs.Laws.{AreBasesOf, AreGiven, bases_to_restore}
 use Rattle.standing_states.proofs.Lent.{given_is}
@@ -40,7 +41,7 @@ use Rattle.owned_machine.specs.Start.{AreStarted, AreOfFirst}
 use Rattle.its_plain.specs.Sound.{IsLayout}
 use Rattle.owned_machine.specs.Whole.{IsMachine}
 use Rattle.std.proofs.lemmas.Bool.{cond_both}
-use Rattle.owned_machine.proofs.Lists.{same_lists, hand_length}
+use Rattle.owned_machine.proofs.Lists.{same_lists}
 
 -- ---- where the tables of the redistributors are
 
@@ -80,7 +81,7 @@ restored_kept v = record { prop_whole = omega arith; prop_low = omega arith; id_
 
 module _ (old new : Parts) (gicr : GicrValues) (values : List (Option RegValues)) (m : IsMachine old) (same : new.layout ≡ old.layout)
     (stands : Stands old.memory values old.layout (bases_to_restore old.layout gicr) (state_of_parts new))
-    (all : AreAllInHand old.layout.shape new.redists) (none : (v : ℕ) → old.layout.shape.vcpus ≤ v → in_hand new.redists v ≡ None) where
+    (all : AreAllInHand old.layout.shape new.redists) (none : (v : ℕ) → old.layout.shape.vcpus ≤ v → AreNotInHand new.redists v) where
   abbrev programmed : List Bases
   programmed = all_restored_bases old.layout.shape.vcpus gicr
 
@@ -91,8 +92,8 @@ module _ (old new : Parts) (gicr : GicrValues) (values : List (Option RegValues)
   are_bases = record {
     as_many =
         sym stands.vcpus
-        ∙ ap (λ (l : Layout). length (map redistributor_or (take l.shape.vcpus new.redists))) same
-        ∙ hand_length old.layout.shape.vcpus new.redists (λ v lt. let q = all v lt in (q.0, q.1));
+        ∙ ap (λ (l : Layout). length (redistributors_in l.shape.vcpus new.redists)) same
+        ∙ many_places new.redists old.layout.shape.vcpus;
     kept = λ on i b is.
         let at = map_at restored_bases (take old.layout.shape.vcpus gicr.registers) i b (ap (λ (t : Bool). slice_get (chosen t) i) (sym on) ∙ is) in
         subst AreKept at.2 (restored_kept at.0);
@@ -105,7 +106,7 @@ module _ (old new : Parts) (gicr : GicrValues) (values : List (Option RegValues)
   restored_whole = record {
     sound = standing_sound old.memory values old.layout (bases_to_restore old.layout gicr) (state_of_parts new) m.sound.layout are_bases m.sound.memory stands;
     all_in_hand = subst (λ (l : Layout). AreAllInHand l.shape new.redists) (sym same) all;
-    no_others = subst (λ (l : Layout). (v : ℕ) → l.shape.vcpus ≤ v → in_hand new.redists v ≡ None) (sym same) none;
+    no_others = subst (λ (l : Layout). (v : ℕ) → l.shape.vcpus ≤ v → AreNotInHand new.redists v) (sym same) none;
   }
 
   pub restored_begun : (d : Desc) → made d ≡ Ok (state_of_parts old) → values ≡ described.values_of d → list_any is_some values ≡ true
@@ -179,12 +180,12 @@ module _ (d : Desc) (layout : Layout) (memory : List Window) (base : AreOfFirst 
   of_base P h = subst (λ (l : Layout). P l base.0.memory) (sym base.2) (subst (P layout) (sym base.3) h)
 
   pub begun_there : (new : Parts) → new.layout ≡ layout → Stands memory values layout (bases_to_restore layout gicr) (state_of_parts new)
-      → AreAllInHand layout.shape new.redists → ((v : ℕ) → layout.shape.vcpus ≤ v → in_hand new.redists v ≡ None) → AreBegun d (Ok new)
+      → AreAllInHand layout.shape new.redists → ((v : ℕ) → layout.shape.vcpus ≤ v → AreNotInHand new.redists v) → AreBegun d (Ok new)
   begun_there new same stands all none =
       restored_begun base.0 new gicr values base.1.whole (same ∙ sym base.2)
       (of_base (λ (l : Layout) (x : List Window). Stands x values l (bases_to_restore l gicr) (state_of_parts new)) stands)
       (of_base (λ (l : Layout) (x : List Window). AreAllInHand l.shape new.redists) all)
-      (of_base (λ (l : Layout) (x : List Window). (v : ℕ) → l.shape.vcpus ≤ v → in_hand new.redists v ≡ None) none) d base.1.made_is values_are some
+      (of_base (λ (l : Layout) (x : List Window). (v : ℕ) → l.shape.vcpus ≤ v → AreNotInHand new.redists v) none) d base.1.made_is values_are some
       (where_given d base.0 gicr base.1.layout given)
 
   pub refused_there : (i : ℕ) (f : RestoreFault) → IsFirstFault memory values layout.shape (bases_to_restore layout gicr) i f → IsRefused d (Restore i f)

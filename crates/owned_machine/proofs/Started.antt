@@ -1,10 +1,10 @@
 -- The first state of a machine.
-use Rattle.std.proofs.Common.{◌≡◌, ℕ, ◌+◌, ◌<◌, ◌≤◌, Bool, true, false, List, [], ◌∷◌, length, map, replicate, take, get_or, zero, suc, Option, Some, None}
+use Rattle.std.proofs.Common.{◌≡◌, ℕ, ◌+◌, ◌<◌, ◌≤◌, Bool, true, false, List, [], ◌∷◌, length, map, replicate, get_or, zero, suc, Option, Some, None}
 use Rattle.std.proofs.Common.{Result}
 use Rattle.std.proofs.Common.{Ok, Err, inl, inr, refl, sym, ap, subst, ◌∙◌, arith}
-use Rattle.std.specs.Prelude.{ok_or, is_some, slice_get, slice_set}
+use Rattle.std.specs.Prelude.{ok_or, is_some, slice_get}
 use Rattle.std.proofs.lemmas.Bool.{cases_eq}
-use Rattle.std.proofs.lemmas.List.{get_or-set_same, get_or-set_other, length-map, length-replicate}
+use Rattle.std.proofs.lemmas.List.{length-map, length-replicate}
 use Rattle.guest_windows.specs.Windows.{Window, inside, read_at}
 use Rattle.guest_windows.specs.Windows.{zeros as zero_window}
 use Rattle.guest_windows.specs.Fields.{pairs}
@@ -30,12 +30,14 @@ use Rattle.its_plain.specs.declared.desc.DescFault.{DescFault}
 use Rattle.its_plain.specs.declared.desc.DescFault.TheVariants.{Config, Windows}
 use Rattle.plain_soundness.proofs.First.{start_sound}
 use Rattle.lpi_config.specs.Configurations.{Configuration, zeros}
-use Rattle.lpi_pending.specs.PendingSets.{PendingSet, none_pending}
-use Rattle.lpi_pending.specs.InHand.{in_hand}
-use Rattle.lpi_pending.specs.declared.redist.Redist.{Redist}
-use Rattle.owned_parts.specs.Owned.{AreAllInHand, state_of_parts, redistributor_of, redistributor_or, translators_of}
+use Rattle.lpi_config.specs.declared.conf.Conf.{Conf}
+use Rattle.lpi_pending.specs.InHand.{RedistParts, redistributor_of, set_conf, set_pend}
+use Rattle.lpi_pending.specs.declared.pend.Pend.{Pend}
+use Rattle.owned_parts.specs.Owned.{AreAllInHand, state_of_parts, redistributors_in, translators_of}
+use Rattle.owned_parts.specs.Places.{AreInHandAt, AreNotInHand}
+use Rattle.owned_parts.proofs.Places.{redistributor_at, placed_here, still_there, still_empty}
 use Rattle.owned_parts.specs.declared.parts.Parts.{Parts}
-use Rattle.owned_machine.specs.Start.{HasConfig, IsFilled, IsFirstOf, AreFirst, AreStarted, reset_translator, devices_test}
+use Rattle.owned_machine.specs.Start.{HasConfig, IsFilled, IsFirstOf, AreFirst, AreStarted, reset_translator, devices_test, idle_pend}
 use Rattle.its_plain.specs.declared.make.MakeError.{MakeError}
 use Rattle.its_plain.specs.declared.make.MakeError.TheVariants as making
 use Rattle.std.specs.Result.{IsErrAnd}
@@ -54,62 +56,68 @@ off_at zero i x lt = absurd (omega arith)
 off_at (suc n) zero x lt = refl
 off_at (suc n) (suc i) x lt = off_at n i x (omega arith)
 
-abbrev built : PendingSet → Configuration → Bases → Redist
-built p c b = record { pending = p; config = c; bases = b }
+abbrev built : Configuration → Bases → Conf
+built c b = record { config = c; bases = b }
+
+-- with nothing pending
+abbrev idle : Shape → Configuration → Bases → Redistributor
+idle s c b = redistributor_of (built c b) (idle_pend s (built c b))
 
 same_ok : {A : Type 0} (x y : A) → ◌≡◌ {A = Result A DescFault} (Ok x) (Ok y) → x ≡ y
 same_ok x y e = cc
 
-pub described_first : (s : Shape) (memory : List Window) (config : Addr) (pending : List Addr) (v : ℕ) (z : Addr) (p : PendingSet) (c : Configuration)
-    (b : Bases) → v < length pending → p ≡ none_pending s.lpi_bits → c.lpi_bits ≡ s.lpi_bits
-    → read_at memory config.0 (lpi_count s.lpi_bits) ≡ Some c.bytes → b ≡ described_bases config (get_or pending v z)
-    → IsFirstOf s memory (Described config pending) v (built p c b)
-described_first s memory config pending v z p c b lt none bits read is rs first =
+pub described_first : (s : Shape) (memory : List Window) (config : Addr) (pending : List Addr) (v : ℕ) (z : Addr) (c : Configuration) (b : Bases)
+    → v < length pending → c.lpi_bits ≡ s.lpi_bits → read_at memory config.0 (lpi_count s.lpi_bits) ≡ Some c.bytes
+    → b ≡ described_bases config (get_or pending v z) → IsFirstOf s memory (Described config pending) v (built c b) (idle_pend s (built c b))
+described_first s memory config pending v z c b lt bits read is rs first =
     let these : List Redistributor = map (idle_redistributor c.bytes) (map (described_bases config) pending) in
     let same : these ≡ rs =
     same_ok these rs (sym (ap (λ (o : Option (List ℕ)). ok_or o Config >>= λ bytes. Ok (map (idle_redistributor bytes) (map (described_bases config) pending)))
     read) ∙ first) in
     record {
-      lpis = record { pending_bits = ap (λ (x : PendingSet). x.lpi_bits) none; config_bits = bits };
+      conf_lpis = bits;
+      pend_lpis = refl;
       same =
           ap (λ (xs : List Redistributor). slice_get xs v) (sym same)
           ∙ idle_at c.bytes config pending v z lt
-          ∙ ap (λ (x : Bases). Some (idle_redistributor c.bytes x)) (sym is)
-          ∙ ap (λ (x : PendingSet). Some (redistributor_of (built x c b))) (sym none);
+          ∙ ap (λ (x : Bases). Some (idle_redistributor c.bytes x)) (sym is);
     }
 
-pub off_first : (s : Shape) (memory : List Window) (values : GicrValues) (v : ℕ) (p : PendingSet) (c : Configuration) (b : Bases) → v < s.vcpus
-    → p ≡ none_pending s.lpi_bits → c ≡ zeros s.lpi_bits
-    → b ≡ no_bases → IsFirstOf s memory (tables.Registers values) v (built p c b)
-off_first s memory values v p c b lt none blank is rs first =
+pub off_first : (s : Shape) (memory : List Window) (values : GicrValues) (v : ℕ) (c : Configuration) (b : Bases) → v < s.vcpus → c ≡ zeros s.lpi_bits
+    → b ≡ no_bases → IsFirstOf s memory (tables.Registers values) v (built c b) (idle_pend s (built c b))
+off_first s memory values v c b lt blank is rs first =
     let these : List Redistributor = replicate s.vcpus (off_redistributor s no_bases) in
     let same : these ≡ rs = same_ok these rs first in
     record {
-      lpis = record { pending_bits = ap (λ (x : PendingSet). x.lpi_bits) none; config_bits = ap (λ (x : Configuration). x.lpi_bits) blank };
+      conf_lpis = ap (λ (x : Configuration). x.lpi_bits) blank;
+      pend_lpis = refl;
       same =
           ap (λ (xs : List Redistributor). slice_get xs v) (sym same)
           ∙ off_at s.vcpus v (off_redistributor s no_bases) lt
-          ∙ ap (λ (x : Bases). Some (off_redistributor s x)) (sym is)
-          ∙ ap (λ (x : Configuration). Some (redistributor_of (built (none_pending s.lpi_bits) x b))) (sym blank)
-          ∙ ap (λ (x : PendingSet). Some (redistributor_of (built x c b))) (sym none);
+          ∙ ap (λ (x : Bases). Some (idle s (zeros s.lpi_bits) x)) (sym is)
+          ∙ ap (λ (x : Configuration). Some (idle s x b)) (sym blank);
     }
 
-module _ (s : Shape) (memory : List Window) (t : LpiTables) (redists now : List (Option Redist)) (n : ℕ) (r : Redist)
-    (got : now ≡ slice_set redists n (Some r)) where
-  here : n < length redists → in_hand now n ≡ Some r
-  here lt = ap (λ (xs : List (Option Redist)). in_hand xs n) got ∙ get_or-set_same redists n (Some r) None lt
-
-  others : (v : ℕ) → (v ≡ n → ⊥) → in_hand now v ≡ in_hand redists v
-  others v apart = ap (λ (xs : List (Option Redist)). in_hand xs v) got ∙ get_or-set_other redists n v (Some r) None apart
-
-  pub one_more : n < 16 → IsFirstOf s memory t n r → length now ≡ 16 → AreFirst s memory t redists n → AreFirst s memory t now (n + 1)
-  one_more small is size before = record {
-    places = size;
+module _ (s : Shape) (memory : List Window) (t : LpiTables) (redists now : RedistParts) (n : ℕ) (r : Conf × Pend)
+    (got : now ≡ set_pend (set_conf redists n (Some r.0)) n (Some r.1)) where
+  pub one_more : n < 16 → IsFirstOf s memory t n r.0 r.1 → length now.confs ≡ 16 → length now.pends ≡ 16 → AreFirst s memory t redists n
+      → AreFirst s memory t now (n + 1)
+  one_more small is confs pends before = record {
+    confs = confs;
+    pends = pends;
     each = λ v lt. elim (cases_eq v n) [
-      | inl same ↦ (r, ap (in_hand now) same ∙ here (let full = before.places in omega arith), subst (λ (k : ℕ). IsFirstOf s memory t k r) (sym same) is)
-      | inr apart ↦ let w = before.each v (omega (arith, apart)) in (w.0, others v apart ∙ w.1, w.2)
+      | inl same ↦ (
+        r.0,
+        r.1,
+        subst (λ (k : ℕ). AreInHandAt now k r.0 r.1) (sym same)
+            (placed_here redists now n r.0 r.1 got (let full = before.confs in omega (arith, full, small)) (let full = before.pends in omega (arith, full, small))),
+        subst (λ (k : ℕ). IsFirstOf s memory t k r.0 r.1) (sym same) is,
+      )
+      | inr apart ↦
+          let w = before.each v (omega (arith, apart)) in
+          (w.0, w.1, still_there redists now n r.0 r.1 got v w.0 w.1 apart w.2, w.3)
     ];
-    rest = λ v le. others v (λ same. absurd (omega arith)) ∙ before.rest v (omega arith);
+    rest = λ v le. still_empty redists now n r.0 r.1 got v (λ same. absurd (omega arith)) (before.rest v (omega arith));
   }
 
 -- ---- the whole
@@ -201,15 +209,18 @@ module _ (d : Desc) (p : Parts) (description : IsDescription d) (filled : IsFill
   some : Some_first d.shape p.memory d.tables
   some = some_first d.shape p.memory d.tables description.tables has
 
-  redistributors_are : map redistributor_or (take d.shape.vcpus p.redists) ≡ some.0
-  redistributors_are = hand_is d.shape.vcpus p.redists some.0 (λ v lt. let q = first.each v lt in (q.0, q.1, (q.2 some.0 some.1).same)) some.2
+  redistributors_are : redistributors_in d.shape.vcpus p.redists ≡ some.0
+  redistributors_are =
+      hand_is d.shape.vcpus p.redists some.0 (λ v lt.
+      let q = first.each v lt in
+      (q.3 some.0 some.1).same ∙ ap (λ (r : Redistributor). Some r) (sym (redistributor_at p.redists v q.0 q.1 q.2))) some.2
 
   state_is : started d p.memory some.0 ≡ state_of_parts p
   state_is =
       ap (λ (ts : List Translator). state (layout_of d) ts p.memory (track_of d.track p.memory) some.0) (sym translators_are)
       ∙ ap (λ (t : Option Tracked). state (layout_of d) (translators_of p.first p.second) p.memory t some.0) (sym track_is)
       ∙ ap (state (layout_of d) (translators_of p.first p.second) p.memory p.track) (sym redistributors_are)
-      ∙ ap (λ (l : Layout). state l (translators_of p.first p.second) p.memory p.track (map redistributor_or (take l.shape.vcpus p.redists))) (sym layout_is)
+      ∙ ap (λ (l : Layout). state l (translators_of p.first p.second) p.memory p.track (redistributors_in l.shape.vcpus p.redists)) (sym layout_is)
 
   pub started_are : AreStarted d (Ok p)
   started_are =
@@ -221,8 +232,11 @@ module _ (d : Desc) (p : Parts) (description : IsDescription d) (filled : IsFill
         whole = record {
           sound = start_sound d (state_of_parts p) description is;
           all_in_hand = subst (λ (l : Layout). AreAllInHand l.shape p.redists) (sym layout_is)
-              (λ v lt. let q = first.each v lt in (q.0, q.1, (q.2 some.0 some.1).lpis));
-          no_others = subst (λ (l : Layout). (v : ℕ) → l.shape.vcpus ≤ v → in_hand p.redists v ≡ None) (sym layout_is) first.rest;
+              (λ v lt.
+              let q = first.each v lt in
+              let is = q.3 some.0 some.1 in
+              ((q.0, q.2.conf, is.conf_lpis), (q.1, q.2.pend, is.pend_lpis)));
+          no_others = subst (λ (l : Layout). (v : ℕ) → l.shape.vcpus ≤ v → AreNotInHand p.redists v) (sym layout_is) first.rest;
         };
       }
 

@@ -20,21 +20,22 @@ use Rattle.owned_parts.specs.declared.parts.Parts.{Parts}
 use Rattle.cmd_exec.specs.Executed.{left_by}
 use Rattle.cmd_exec.specs.Met.{MeetsCommand, MeetsNone}
 use Rattle.cmd_exec.specs.Room.{adds_to}
-use Rattle.cmd_exec.specs.Needs.{AreNeededInHand}
+use Rattle.cmd_exec.specs.Needs.{AreNeededInHand, AreTargets, reads_confs}
+use Rattle.cmd_exec.proofs.Below.{concerned_below, confs_below}
+use Rattle.cmd_exec.proofs.Sets.{confs_same, pends_same}
 use Rattle.owned_parts.specs.Owned.{state_of_parts}
 use Rattle.owned_machine.specs.Whole.{IsMachine, GoesOn, step_adds, met_adds}
 use Rattle.owned_machine.proofs.Lists.{first_there, first_else, second_else, first_long, found_at, not_found, replaced}
-use Rattle.owned_machine.proofs.Kept.{AreHeldAlike, goes_on, stays, held}
+use Rattle.owned_machine.proofs.Kept.{AreHeldAlike, goes_on, stays, conf_there, pend_there}
 use Rattle.owned_machine.proofs.Others.{not_in_step, step_track}
 use Rattle.owned_machine.specs.Steps.{HoldsAll}
 use Rattle.plain_footprint.proofs.OtherParts.{leaves}
 use Rattle.its_types.specs.declared.machine.Part.TheVariants.{Maps as MapsOf}
 use Rattle.std.specs.Option.{option_map}
 use Rattle.gits_regs.specs.Registers.{is_queue_empty}
-use Rattle.lpi_pending.specs.declared.redist.Redist.{Redist}
+use Rattle.lpi_pending.specs.InHand.{RedistParts}
 use Rattle.owned_parts.specs.Owned.{ArePartsOfSound, one_or_two, translator_of, translators_of}
 use Rattle.owned_parts.specs.declared.parts.Translator.{Translator as TranslatorInHand}
-use Rattle.owned_machine.proofs.Needed.{is_needed_below}
 
 module _ (u : Plain) (i : ℕ) (r : Registers) (memory : List Window) (is : regs_of u i ≡ r) (there : u.memory ≡ memory) where
   meets_none : (a : StepReply) → MeetsNone r memory a → MeetsNone (regs_of u i) u.memory a
@@ -84,7 +85,7 @@ met_adds_is u i c met =
     ∙ ap (λ (x : Command). adds_to u i x) met.command
 
 -- by what is so of each state with these parts
-module _ (u : Plain) (i : ℕ) (s : Shape) (r : Registers) (m : Maps) (memory : List Window) (redists : List (Option Redist))
+module _ (u : Plain) (i : ℕ) (s : Shape) (r : Registers) (m : Maps) (memory : List Window) (redists : RedistParts)
     (parts : ArePartsOf u i s r m memory redists) where
   regs_here : regs_of u i ≡ r
   regs_here = ap (λ (t : Translator). t.regs) (found_at u.translators i (record { regs = r; maps = m }) no_translator parts.translator_is)
@@ -99,7 +100,7 @@ module _ (u : Plain) (i : ℕ) (s : Shape) (r : Registers) (m : Maps) (memory : 
   pub replies_met : (c : Command) → MeetsCommand r memory c → command_reply (op_of c) (ran u i c) ≡ step_reply u i
   replies_met c met = met_is u i c (meets_it u i r memory regs_here parts.memory_is c met)
 
-  pub leaves_met : (c : Command) (r' : Registers) (m' : Maps) (redists' : List (Option Redist)) → MeetsCommand r memory c
+  pub leaves_met : (c : Command) (r' : Registers) (m' : Maps) (redists' : RedistParts) → MeetsCommand r memory c
       → ArePartsOf (left_by c u i) i s r' m' memory redists' → ArePartsOf (step_left u i) i s r' m' memory redists'
   leaves_met c r' m' redists' met h =
       subst (λ (w : Plain). ArePartsOf w i s r' m' memory redists') (sym (step_is u i c (meets_it u i r memory regs_here parts.memory_is c met))) h
@@ -125,7 +126,7 @@ step_goes old new i t m same memory track alike here long else parts =
     (λ k apart. others.parts (MapsOf k) (not_in_step u i k apart)))
     (memory ∙ sym parts.memory_is) (track ∙ sym (step_track u i)) parts.redistributors_are
 
-pub first_steps : (p : Parts) (its : ℕ) (t : TranslatorInHand) (redists : List (Option Redist)) → IsMachine p → its ≡ 0 → AreHeldAlike redists p.redists
+pub first_steps : (p : Parts) (its : ℕ) (t : TranslatorInHand) (redists : RedistParts) → IsMachine p → its ≡ 0 → AreHeldAlike redists p.redists
     → ArePartsOf (step_left (state_of_parts p) 0) 0 p.layout.shape t.regs t.maps.maps p.memory redists
     → GoesOn (record p { first = t; redists = redists }) (step_left (state_of_parts p) its)
 first_steps p its t redists m first alike parts =
@@ -135,7 +136,7 @@ first_steps p its t redists m first alike parts =
     (step_goes p (record p { first = t; redists = redists }) 0 t m refl refl refl alike (first_there (translator_of t) o)
     (first_long f (translator_of t) o) (λ k apart. first_else f (translator_of t) o k apart) parts)
 
-pub second_steps : (p : Parts) (its : ℕ) (s t : TranslatorInHand) (redists : List (Option Redist)) → IsMachine p → its ≡ 1 → p.second ≡ Some s
+pub second_steps : (p : Parts) (its : ℕ) (s t : TranslatorInHand) (redists : RedistParts) → IsMachine p → its ≡ 1 → p.second ≡ Some s
     → AreHeldAlike redists p.redists
     → ArePartsOf (step_left (state_of_parts p) 1) 1 p.layout.shape t.regs t.maps.maps p.memory redists
     → GoesOn (record p { second = Some t; redists = redists }) (step_left (state_of_parts p) its)
@@ -157,13 +158,16 @@ none_steps p its m none =
     ap (λ (t : Translator). not t.regs.enabled || is_queue_empty t.regs) (not_found u.translators its no_translator none) in
     (still_reply u its Idle idle, stays p (step_left u its) m (still_left u its Idle idle))
 
--- the redistributors that a command needs are in hand
-pub needed_held : (s : Shape) (r : Registers) (m : Maps) (memory : List Window) (redists : List (Option Redist)) (c : Command)
+-- the parts of redistributors that a command needs are in hand
+pub needed_held : (s : Shape) (r : Registers) (m : Maps) (memory : List Window) (redists : RedistParts) (c : Command)
     → ArePartsOfSound s r m memory redists → HoldsAll s redists → AreNeededInHand s m c redists
-needed_held s r m memory redists c (u, i, sound, parts) holds = λ v e.
+needed_held s r m memory redists c (u, i, sound, parts) holds =
     let t = sound.translators i (record { regs = r; maps = m }) parts.translator_is in
-    holds v (is_needed_below s m c v (λ icid vcpu is.
-    subst (λ (x : Shape). vcpu.0 < x.vcpus) parts.shape_is (t.collections icid vcpu is).target) e)
+    let targets : AreTargets s m = λ icid vcpu is. subst (λ (x : Shape). vcpu.0 < x.vcpus) parts.shape_is (t.collections icid vcpu is).target in
+    record {
+      confs = λ v e. (holds v (confs_below s.vcpus (reads_confs c) v (confs_same s m c v ∙ e))).0;
+      pends = λ v e. (holds v (concerned_below s m targets c v (pends_same s m c v ∙ e))).1;
+    }
 
 pub holds_all : (p : Parts) → IsMachine p → HoldsAll p.layout.shape p.redists
-holds_all p m = λ v lt. held p v m lt
+holds_all p m = λ v lt. (conf_there p v m lt, pend_there p v m lt)

@@ -16,7 +16,7 @@ use Rattle.its_plain.specs.declared.call.Call.TheVariants as call
 use Rattle.owned_parts.specs.declared.parts.Parts.{Parts}
 use Rattle.owned_parts.specs.Owned.{state_of_parts}
 use Rattle.owned_machine.specs.Whole.{IsMachine, GoesOn}
-use Rattle.owned_machine.proofs.Kept.{redists_are, goes_on, stays}
+use Rattle.owned_machine.proofs.Kept.{redists_are, same_redists, same_held, goes_on, stays}
 use Rattle.dirty_log.specs.Copies.{wrote, caught_up}
 use Rattle.dirty_log.specs.declared.tracked.Tracked.{Tracked}
 use Rattle.std.specs.Option.{option_map}
@@ -50,8 +50,9 @@ memory_goes : (p : Parts) (c : Call) (memory : List Window) (track : Option Trac
     → (answer (state_of_parts p) c).1 ≡ record (state_of_parts p) { memory = memory; track = track }
     → GoesOn (record p { memory = memory; track = track }) (record (state_of_parts p) { memory = memory; track = track })
 memory_goes p c memory track m is =
-    goes_on p (record p { memory = memory; track = track }) c (record (state_of_parts p) { memory = memory; track = track }) m refl is (λ v. refl) refl refl refl
-    (λ v r at. let h = redists_are p m v r at in record { lpis = h.lpis; same = h.same })
+    goes_on p (record p { memory = memory; track = track }) c (record (state_of_parts p) { memory = memory; track = track }) m refl is (same_held p.redists)
+    refl refl refl
+    (same_redists (state_of_parts p) (record (state_of_parts p) { memory = memory; track = track }) p.redists refl refl (redists_are p m))
 
 pub poke_goes : (p : Parts) (addr : Addr) (bytes : List ℕ) (memory : List Window) (track : Option Tracked) → IsMachine p
     → write_at p.memory addr.0 bytes ≡ Some memory → track ≡ option_map (wrote addr.0 (length bytes)) p.track

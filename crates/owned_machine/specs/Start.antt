@@ -1,6 +1,6 @@
 -- The outcome of making a machine: registers at reset, nothing mapped, nothing pending, and the configuration as memory has it
 -- (IHI 0069, section 5.1).
-use Rattle.std.specs.Prelude.{◌≡◌, ℕ, ◌<◌, ◌≤◌, true, List, [], length, slice_get, Option, Some, None, Result, Ok, Err}
+use Rattle.std.specs.Prelude.{◌≡◌, ℕ, ◌<◌, ◌≤◌, true, List, [], length, slice_get, Some, Result, Ok, Err}
 use Rattle.guest_windows.specs.Windows.{Window, inside}
 use Rattle.its_types.specs.Ranges.{lpi_count}
 use Rattle.its_types.specs.declared.machine.Shape.{Shape}
@@ -16,9 +16,12 @@ use Rattle.its_plain.specs.declared.desc.LpiTables.{LpiTables}
 use Rattle.its_plain.specs.declared.desc.LpiTables.TheVariants.{Described, Registers}
 use Rattle.its_plain.specs.declared.make.MakeError.{MakeError}
 use Rattle.its_plain.specs.declared.make.MakeError.TheVariants as errors
-use Rattle.lpi_pending.specs.InHand.{in_hand}
-use Rattle.lpi_pending.specs.declared.redist.Redist.{Redist}
-use Rattle.owned_parts.specs.Owned.{HasLpisOf, redistributor_of, state_of_parts}
+use Rattle.lpi_config.specs.declared.conf.Conf.{Conf}
+use Rattle.lpi_pending.specs.InHand.{RedistParts, HasLpisOfConf, HasLpisOfPend, redistributor_of}
+use Rattle.lpi_pending.specs.PendingSets.{none_pending}
+use Rattle.lpi_pending.specs.declared.pend.Pend.{Pend}
+use Rattle.owned_parts.specs.Owned.{state_of_parts}
+use Rattle.owned_parts.specs.Places.{AreInHandAt, AreNotInHand}
 use Rattle.owned_parts.specs.declared.parts.Parts.{Parts}
 use Rattle.owned_machine.specs.Whole.{IsMachine}
 
@@ -41,20 +44,26 @@ HasConfig s memory (Registers values) = Unit {0}
 abbrev pub reset_translator : ℕ → Translator
 reset_translator dev_bits = record { regs = reset dev_bits; maps = no_maps }
 
--- the redistributor in hand is one of these
-pub record IsFirst (s : Shape) (rs : List Redistributor) (vcpu : ℕ) (r : Redist) : Type 0 where
-  pub lpis : HasLpisOf s r
-  pub same : slice_get rs vcpu ≡ Some (redistributor_of r)
+-- the parts of a redistributor in hand are those of one of these
+pub record IsFirst (s : Shape) (rs : List Redistributor) (vcpu : ℕ) (c : Conf) (p : Pend) : Type 0 where
+  pub conf_lpis : HasLpisOfConf s c
+  pub pend_lpis : HasLpisOfPend s p
+  pub same : slice_get rs vcpu ≡ Some (redistributor_of c p)
 
 -- whatever these are that the tables make
-abbrev pub IsFirstOf : Shape → List Window → LpiTables → ℕ → Redist → Type 0
-IsFirstOf s memory t vcpu r = (rs : List Redistributor) → first_redistributors s memory t ≡ Ok rs → IsFirst s rs vcpu r
+abbrev pub IsFirstOf : Shape → List Window → LpiTables → ℕ → Conf → Pend → Type 0
+IsFirstOf s memory t vcpu c p = (rs : List Redistributor) → first_redistributors s memory t ≡ Ok rs → IsFirst s rs vcpu c p
+
+-- nothing is pending, and LPIs are taken where they are on
+abbrev pub idle_pend : Shape → Conf → Pend
+idle_pend s c = record { pending = none_pending s.lpi_bits; accepts = c.bases.on }
 
 -- those of the first n virtual processors are in hand, and no other
-pub record AreFirst (s : Shape) (memory : List Window) (t : LpiTables) (redists : List (Option Redist)) (n : ℕ) : Type 0 where
-  pub places : length redists ≡ 16
-  pub each : (vcpu : ℕ) → vcpu < n → (r : Redist) × (in_hand redists vcpu ≡ Some r) × IsFirstOf s memory t vcpu r
-  pub rest : (vcpu : ℕ) → n ≤ vcpu → in_hand redists vcpu ≡ None
+pub record AreFirst (s : Shape) (memory : List Window) (t : LpiTables) (redists : RedistParts) (n : ℕ) : Type 0 where
+  pub confs : length redists.confs ≡ 16
+  pub pends : length redists.pends ≡ 16
+  pub each : (vcpu : ℕ) → vcpu < n → (c : Conf) × (p : Pend) × AreInHandAt redists vcpu c p × IsFirstOf s memory t vcpu c p
+  pub rest : (vcpu : ℕ) → n ≤ vcpu → AreNotInHand redists vcpu
 
 -- the parts of the first state
 pub record AreFirstParts (d : Desc) (p : Parts) : Type 0 where

@@ -12,16 +12,16 @@ use Rattle.its_plain.specs.declared.call.Call.TheVariants as call
 use Rattle.its_plain.specs.declared.call.Route.{Route}
 use Rattle.its_plain.specs.declared.call.Route.TheVariants as route
 use Rattle.its_command.specs.Commands.{decoded}
-use Rattle.lpi_pending.specs.InHand.{in_hand}
 use Rattle.cmd_exec.specs.Room.{adds_to}
 use Rattle.owned_parts.specs.Owned.{state_of_parts, AreAllInHand}
+pub use Rattle.owned_parts.specs.Places.{AreNotInHand}
 use Rattle.owned_parts.specs.declared.parts.Parts.{Parts}
 
--- they are sound, and just the redistributors of the virtual processors are in hand
+-- they are sound, and just the redistributors of the virtual processors are in hand, each in both parts
 pub record IsMachine (p : Parts) : Type 0 where
   pub sound : IsSound (state_of_parts p)
   pub all_in_hand : AreAllInHand p.layout.shape p.redists
-  pub no_others : (vcpu : ℕ) → p.layout.shape.vcpus ≤ vcpu → in_hand p.redists vcpu ≡ None
+  pub no_others : (vcpu : ℕ) → p.layout.shape.vcpus ≤ vcpu → AreNotInHand p.redists vcpu
 
 -- the parts after a state of the plain machine was gone on to
 pub record GoesOn (p : Parts) (u : Plain) : Type 0 where

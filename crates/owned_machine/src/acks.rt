@@ -4,7 +4,7 @@ ghost use Rattle.its_types.specs.Ranges.{is_lpi};
 ghost use Rattle.its_plain.specs.Plain as plain;
 ghost use Rattle.its_plain.specs.Answer as answers;
 ghost use Rattle.owned_parts.specs.Owned.{redistributor_of};
-ghost use Rattle.cmd_exec.specs.InHand.{changed, with_cleared, takes_lpi};
+ghost use Rattle.cmd_exec.specs.InHand.{pend_changed, with_cleared, takes_lpi};
 ghost use Rattle.owned_parts.specs.Owned.{state_of_parts};
 ghost use Rattle.owned_machine.specs.Acks.{chosen, ack_at, left_at};
 ghost use Rattle.owned_machine.specs.Whole.{IsMachine, GoesOn, IfAcked};
@@ -13,7 +13,8 @@ ghost use Rattle.owned_machine.specs.declared.asked.Asked.TheVariants as asks;
 use crate::asked::Asked;
 use its_plain::Ack;
 use its_types::{Intid, Vcpu};
-use lpi_pending::{Redist, Redists};
+use lpi_config::Conf;
+use lpi_pending::{Pend, Redists};
 use owned_parts::Parts;
 
 /// The LPI that is asked for. Nothing is pending at a virtual processor that there isn't.
@@ -25,7 +26,8 @@ pub fn look(parts: &Parts, vcpu: Vcpu, asked: Asked) -> Ack
     if vcpu.0 >= parts.layout.shape.vcpus {
         return Ack::None;
     }
-    look_in(parts.redists.redist(vcpu), asked)
+    let redists = &parts.redists;
+    look_in(redists.conf(vcpu), redists.pend(vcpu), asked)
 }
 
 /// A virtual processor acknowledges the lowest LPI that is pending and enabled.
@@ -55,18 +57,15 @@ pub fn claim(parts: &mut Parts, vcpu: Vcpu, intid: Intid) -> Ack
 }
 
 // The LPI that is asked for, with its priority.
-fn look_in(redist: &Redist, asked: Asked) -> Ack
-    requires { redist.now.pending.lpi_bits ≡ redist.now.config.lpi_bits }
+fn look_in(conf: &Conf, pend: &Pend, asked: Asked) -> Ack
+    requires { pend.now.pending.lpi_bits ≡ conf.now.config.lpi_bits }
     ensures ack { result
-        ≡ answers.ack_of (redistributor_of redist.now)
-        (chosen (redistributor_of redist.now) asked) }
-    ensures lpi { IfAcked result (λ intid. is_lpi redist.now.pending.lpi_bits intid ≡ true) }
+        ≡ answers.ack_of (redistributor_of conf.now pend.now)
+        (chosen (redistributor_of conf.now pend.now) asked) }
+    ensures lpi { IfAcked result (λ intid. is_lpi pend.now.pending.lpi_bits intid ≡ true) }
 {
-    let Redist {
-        pending,
-        config,
-        ..
-    } = redist;
+    let Conf { config, .. } = conf;
+    let Pend { pending, .. } = pend;
     let found = match asked {
         Asked::Lowest => pending.first_enabled(config),
         Asked::Best(mask) => pending.first_by_priority(config, mask),
@@ -81,11 +80,11 @@ fn look_in(redist: &Redist, asked: Asked) -> Ack
     }
 }
 
-#[tactic(auto, unfolding(cmd_exec::specs::InHand::changed))]
+#[tactic(auto, unfolding(cmd_exec::specs::InHand::pend_changed))]
 fn clear_lpi(redists: &mut Redists, vcpu: Vcpu, intid: Intid)
     requires { takes_lpi redists.old vcpu.0 intid.0 ≡ true }
-    ensures { redists.new ≡ changed vcpu.0 (with_cleared intid.0) redists.old }
+    ensures { redists.new ≡ pend_changed vcpu.0 (with_cleared intid.0) redists.old }
 {
-    let redist = redists.redist_mut(vcpu);
-    redist.pending.clear(intid);
+    let pend = redists.pend_mut(vcpu);
+    pend.pending.clear(intid);
 }

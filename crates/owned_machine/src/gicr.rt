@@ -21,7 +21,7 @@ pub fn read(parts: &Parts, vcpu: Vcpu, off: u32, size: u8) -> u64
     if vcpu.0 >= shape.vcpus {
         return read_gicr(shape.linux, &Bases::off(), off, size);
     }
-    gicr_read(shape.linux, parts.redists.redist(vcpu), off, size)
+    gicr_read(shape.linux, parts.redists.conf(vcpu), off, size)
 }
 
 /// Writes a register. What is written to that of a virtual processor that there isn't is dropped.
@@ -33,6 +33,16 @@ pub fn write(parts: &mut Parts, vcpu: Vcpu, off: u32, size: u8, value: u64)
     if !parts.layout.gicr || vcpu.0 >= parts.layout.shape.vcpus {
         return;
     }
-    let redist = parts.redists.redist_mut(vcpu);
-    gicr_write(redist, &parts.memory, &parts.layout.shape, off, size, value);
+    let mut conf = parts.redists.take_conf(vcpu);
+    let pend = parts.redists.pend_mut(vcpu);
+    gicr_write(
+        &mut conf,
+        pend,
+        &parts.memory,
+        &parts.layout.shape,
+        off,
+        size,
+        value,
+    );
+    parts.redists.place_conf(vcpu, conf);
 }

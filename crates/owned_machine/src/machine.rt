@@ -147,8 +147,8 @@ impl Machine {
         requires { vcpu < length self.now.redistributors }
         ensures { IfOk result (λ lpis. map (λ i. i.0) lpis.items ≡ pending_of self.now vcpu) }
     {
-        let redist = self.parts.redists.redist(Vcpu(vcpu as u8));
-        redist.pending.lpis(alloc)
+        let pend = self.parts.redists.pend(Vcpu(vcpu as u8));
+        pend.pending.lpis(alloc)
     }
 
     /// The values that a virtual processor's LPI registers are restored from, as they are stored:
@@ -166,8 +166,8 @@ impl Machine {
         if !self.parts.layout.gicr {
             return None;
         }
-        let redist = self.parts.redists.redist(Vcpu(vcpu as u8));
-        Some(values_of(&redist.bases))
+        let conf = self.parts.redists.conf(Vcpu(vcpu as u8));
+        Some(values_of(&conf.bases))
     }
 
     /// Saves into a copy of guest memory, and goes on from what that copy and the registers stand

@@ -12,7 +12,7 @@ ghost use Rattle.owned_machine.specs.Making.{IsWindowFault, Fills};
 ghost use Rattle.owned_parts.specs.Owned.{one_or_two, translator_of};
 ghost use Rattle.std.specs.Option.{option_map};
 ghost use Rattle.owned_machine.specs.Start.{IsFilled, HasConfig, IsFirstOf, AreFirst, AreStarted};
-ghost use Rattle.owned_machine.specs.Start.{reset_translator, devices_test};
+ghost use Rattle.owned_machine.specs.Start.{reset_translator, devices_test, idle_pend};
 
 use crate::frames::{all_frames_fit, ensure};
 use gits_regs::Regs;
@@ -20,8 +20,8 @@ use guest_windows::{Memory, NewError, WriteError};
 use its_maps::Maps;
 use its_plain::{Desc, DescFault, Fill, LpiTables, MakeError};
 use its_types::{Addr, Bases, Shape, Vcpu};
-use lpi_config::Config;
-use lpi_pending::{Pending, Redist, Redists};
+use lpi_config::{Conf, Config};
+use lpi_pending::{Pend, Pending, Redists};
 use owned_parts::{Parts, Translator};
 use std::alloc::{AllocError, Global};
 use table_restore::fresh_track;
@@ -216,35 +216,54 @@ fn redists_of(
 {
     let mut redists = Redists::new();
     for vcpu in 0..shape.vcpus {
-        let redist = first_redist(alloc, tables, memory, shape, vcpu)?;
-        redists.place(Vcpu(vcpu), Box::new(alloc, redist)?);
+        let (conf, pend) = first_redist(alloc, tables, memory, shape, vcpu)?;
+        redists.place_conf(Vcpu(vcpu), Box::new(alloc, conf)?);
+        redists.place_pend(Vcpu(vcpu), Box::new(alloc, pend)?);
     }
     Ok(redists)
 }
 
-// That of one virtual processor.
+// The two parts of that of one virtual processor.
 fn first_redist(
     alloc: Global,
     tables: &LpiTables,
     memory: &Memory,
     shape: &Shape,
     vcpu: u8,
-) -> Result<Redist, AllocError>
+) -> Result<(Conf, Pend), AllocError>
     requires shape { IsShape shape.now }
     requires tables { HasTablesFor shape.now.vcpus tables.now }
     requires config { HasConfig shape.now memory.now tables.now }
     requires vcpu { vcpu < shape.now.vcpus }
-    ensures { IfOk result (IsFirstOf shape.now memory.now tables.now vcpu) }
+    ensures { IfOk result (λ r. IsFirstOf shape.now memory.now tables.now vcpu r.0 r.1) }
 {
-    let pending_lpis = Pending::new(alloc, shape.lpi_bits)?;
+    let conf = first_conf(alloc, tables, memory, shape, vcpu)?;
+    let pending = Pending::new(alloc, shape.lpi_bits)?;
+    let accepts = conf.bases.on;
+    Ok((conf, Pend { pending, accepts }))
+}
+
+// What it has read of its tables.
+fn first_conf(
+    alloc: Global,
+    tables: &LpiTables,
+    memory: &Memory,
+    shape: &Shape,
+    vcpu: u8,
+) -> Result<Conf, AllocError>
+    requires shape { IsShape shape.now }
+    requires tables { HasTablesFor shape.now.vcpus tables.now }
+    requires config { HasConfig shape.now memory.now tables.now }
+    requires vcpu { vcpu < shape.now.vcpus }
+    ensures { IfOk result (λ c.
+        IsFirstOf shape.now memory.now tables.now vcpu c (idle_pend shape.now c)) }
+{
     match tables {
-        LpiTables::Described { config, pending } => Ok(Redist {
-            pending: pending_lpis,
+        LpiTables::Described { config, pending } => Ok(Conf {
             config: Config::load(alloc, memory, *config, shape.lpi_bits)?,
             bases: Bases::described(*config, pending.as_slice()[usize::from(vcpu)]),
         }),
-        LpiTables::Registers(_) => Ok(Redist {
-            pending: pending_lpis,
+        LpiTables::Registers(_) => Ok(Conf {
             config: Config::zeros(alloc, shape.lpi_bits)?,
             bases: Bases::off(),
         }),

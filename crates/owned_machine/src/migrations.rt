@@ -250,8 +250,8 @@ fn registers_of(parts: &InPlace<'_>) -> GicrValues
     let mut registers = [RESET; 16];
     if parts.layout.gicr {
         for vcpu in 0..parts.layout.shape.vcpus {
-            let redist = parts.redists.redist(Vcpu(vcpu));
-            registers[usize::from(vcpu)] = values_of(&redist.bases);
+            let conf = parts.redists.conf(Vcpu(vcpu));
+            registers[usize::from(vcpu)] = values_of(&conf.bases);
         }
     }
     GicrValues { registers }

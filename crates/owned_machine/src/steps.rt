@@ -7,7 +7,7 @@ ghost use Rattle.its_plain.specs.Answer as answers;
 ghost use Rattle.cmd_exec.specs.Executed as executed;
 ghost use Rattle.cmd_exec.specs.Met.{MeetsCommand};
 ghost use Rattle.cmd_exec.specs.Room.{adds_to};
-ghost use Rattle.lpi_pending.specs.InHand.{in_hand};
+ghost use Rattle.lpi_pending.specs.InHand.{conf_in, pend_in};
 ghost use Rattle.owned_parts.specs.Owned.{ArePartsOf, ArePartsOfSound, state_of_parts};
 ghost use Rattle.owned_machine.specs.Whole.{IsMachine, GoesOn, step_adds};
 ghost use Rattle.owned_machine.specs.Steps.{HoldsAll};
@@ -66,8 +66,10 @@ fn step_of(
         translator.old.regs translator.old.maps.maps memory.now redists.old
         → ArePartsOf (answers.step_left u i) i shape.now
         translator.new.regs translator.new.maps.maps memory.now redists.new) }
-    ensures hand { OnOk result ((vcpu : ℕ) → is_some (in_hand redists.new vcpu)
-        ≡ is_some (in_hand redists.old vcpu)) }
+    ensures confs { OnOk result ((vcpu : ℕ) → is_some (conf_in redists.new vcpu)
+        ≡ is_some (conf_in redists.old vcpu)) }
+    ensures pends { OnOk result ((vcpu : ℕ) → is_some (pend_in redists.new vcpu)
+        ≡ is_some (pend_in redists.old vcpu)) }
     ensures same { OnErr result (translator.new ≡ translator.old) }
     ensures held { OnErr result (redists.new ≡ redists.old) }
     ensures adding { OnErr result ((u : plain.Plain) (i : ℕ) → ArePartsOf u i shape.now
@@ -98,8 +100,10 @@ fn run(
         translator.old.regs translator.old.maps.maps memory.now redists.old
         → ArePartsOf (executed.left_by command.now u i) i shape.now
         translator.new.regs translator.new.maps.maps memory.now redists.new) }
-    ensures hand { OnOk result ((vcpu : ℕ) → is_some (in_hand redists.new vcpu)
-        ≡ is_some (in_hand redists.old vcpu)) }
+    ensures confs { OnOk result ((vcpu : ℕ) → is_some (conf_in redists.new vcpu)
+        ≡ is_some (conf_in redists.old vcpu)) }
+    ensures pends { OnOk result ((vcpu : ℕ) → is_some (pend_in redists.new vcpu)
+        ≡ is_some (pend_in redists.old vcpu)) }
     ensures same { OnErr result (translator.new ≡ translator.old) }
     ensures held { OnErr result (redists.new ≡ redists.old) }
     ensures adding { OnErr result ((u : plain.Plain) (i : ℕ) → ArePartsOf u i shape.now

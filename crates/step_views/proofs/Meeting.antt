@@ -1,6 +1,7 @@
 -- What a translator meets, and what a step then reads and leaves.
-use Rattle.std.proofs.Common.{◌≡◌, ℕ, Bool, true, false, cond, List, [], ◌∷◌, Option, None, Result, Ok, Err, refl, sym, ap, subst, ◌∙◌}
-use Rattle.std.specs.Prelude.{not, ◌&&◌, is_ok, slice_get}
+use Rattle.std.proofs.Common.{◌≡◌, ℕ, Bool, true, false, cond, List, [], ◌∷◌, Option, Some, None, Result, Ok, Err, refl, sym, ap, subst, ◌∙◌}
+use Rattle.std.specs.Prelude.{not, ◌&&◌, ◌||◌, is_ok, slice_get}
+use Rattle.std.proofs.lemmas.Option.{same_Some}
 use Rattle.gits_regs.specs.Registers.{Registers, queue_place}
 use Rattle.its_command.specs.declared.command.Command.{Command}
 use Rattle.its_command.specs.declared.command.Op.{Op}
@@ -9,14 +10,16 @@ use Rattle.its_types.specs.declared.machine.Part.{Part}
 use Rattle.its_types.specs.declared.machine.Part.TheVariants.{Maps as MapsOf, Mem}
 use Rattle.its_plain.specs.Answer.{step_left, next_bytes, left, command_reply}
 use Rattle.its_plain.specs.Commands.{ran}
-use Rattle.its_plain.specs.Parts.{footprint, needed, needed_by, needed_next, redist, IsIn}
-use Rattle.its_plain.specs.Plain.{Plain, Translator, regs_of, maps_of}
+use Rattle.its_plain.specs.Parts.{footprint, needed, needed_by, needed_next, conf, pend, IsIn}
+use Rattle.std.specs.Option.{option_map}
+use Rattle.its_plain.specs.Plain.{Plain, Translator, Redistributor, conf_of, pend_of, joined, regs_of, maps_of}
 use Rattle.its_plain.specs.declared.call.Call.TheVariants as call
 use Rattle.its_plain.specs.declared.call.Reason.{Reason}
 use Rattle.its_plain.specs.declared.call.StepReply.{StepReply}
 use Rattle.its_plain.specs.declared.call.StepReply.TheVariants.{Idle, Ran, Refused, QueueFault}
 use Rattle.cmd_exec.specs.Met.{MeetsNone, MeetsCommand}
-use Rattle.cmd_exec.specs.Needs.{ArePartsOfStep}
+use Rattle.cmd_exec.specs.Needs.{IsPartOf, ArePartsOfStep}
+use Rattle.cmd_exec.specs.declared.needed.Needed.{Needed}
 use Rattle.owned_parts.specs.Owned.{state_of_parts}
 use Rattle.owned_parts.specs.RedistSets.{is_in}
 use Rattle.owned_parts.specs.declared.in_place.TranslatorRef.{TranslatorRef}
@@ -26,6 +29,7 @@ use Rattle.owned_machine.proofs.Stepped.{still_left}
 use Rattle.plain_footprint.proofs.OtherParts.{other_parts}
 use Rattle.step_views.specs.Counts.{adds_event, met_adds, maps_new, is_ran}
 use Rattle.step_views.specs.Lent.{IsNumber}
+use Rattle.step_views.specs.Pairs.{all_told}
 use Rattle.step_views.specs.Reads.{reads, met_reads, command_reads, still_reads}
 use Rattle.step_views.proofs.OfMachine.{translator_is, none_idle}
 
@@ -34,20 +38,21 @@ use Rattle.step_views.proofs.OfMachine.{translator_is, none_idle}
 module _ (u : Plain) (i : ℕ) where
   still_read : (a : StepReply) → MeetsNone (regs_of u i) u.memory a → reads u i ≡ still_reads a
   unfolding reads
-  still_read Idle none = ap (λ (b : Bool). cond b [] ((queue_place (regs_of u i), 32) ∷ met_reads u i (next_bytes u i))) none
+  still_read Idle none = ap (λ (b : Bool). cond b [] (all_told ((queue_place (regs_of u i), 32) ∷ []) (met_reads u i (next_bytes u i)))) none
   still_read (QueueFault addr) none =
-      ap (λ (b : Bool). cond b [] ((queue_place (regs_of u i), 32) ∷ met_reads u i (next_bytes u i))) none.0
-      ∙ ap (λ (o : Option (List ℕ)). (queue_place (regs_of u i), 32) ∷ met_reads u i o) none.2 ∙ ap (λ (a : ℕ). (a, 32) ∷ []) (sym none.1)
+      ap (λ (b : Bool). cond b [] (all_told ((queue_place (regs_of u i), 32) ∷ []) (met_reads u i (next_bytes u i)))) none.0
+      ∙ ap (λ (o : Option (List ℕ)). all_told ((queue_place (regs_of u i), 32) ∷ []) (met_reads u i o)) none.2 ∙ ap (λ (a : ℕ). (a, 32) ∷ []) (sym none.1)
   still_read (Ran op) none = absurd none
   still_read (Refused op reason) none = absurd none
 
   met_read : (c : Command) → MeetsCommand (regs_of u i) u.memory c
-      → reads u i ≡ (queue_place (regs_of u i), 32) ∷ command_reads u.layout.shape (regs_of u i) (maps_of u i) u.redistributors c
+      → reads u i ≡ all_told ((queue_place (regs_of u i), 32) ∷ []) (command_reads u.layout.shape (regs_of u i) (maps_of u i) u.redistributors c)
   unfolding reads
   met_read c met =
-      ap (λ (b : Bool). cond b [] ((queue_place (regs_of u i), 32) ∷ met_reads u i (next_bytes u i))) met.busy
-      ∙ ap (λ (o : Option (List ℕ)). (queue_place (regs_of u i), 32) ∷ met_reads u i o) met.bytes_are
-      ∙ ap (λ (x : Command). (queue_place (regs_of u i), 32) ∷ command_reads u.layout.shape (regs_of u i) (maps_of u i) u.redistributors x) met.command
+      ap (λ (b : Bool). cond b [] (all_told ((queue_place (regs_of u i), 32) ∷ []) (met_reads u i (next_bytes u i)))) met.busy
+      ∙ ap (λ (o : Option (List ℕ)). all_told ((queue_place (regs_of u i), 32) ∷ []) (met_reads u i o)) met.bytes_are
+      ∙ ap (λ (x : Command). all_told ((queue_place (regs_of u i), 32) ∷ [])
+      (command_reads u.layout.shape (regs_of u i) (maps_of u i) u.redistributors x)) met.command
 
   still_adds : (a : StepReply) → MeetsNone (regs_of u i) u.memory a → adds_event u i ≡ false
   unfolding adds_event
@@ -93,6 +98,19 @@ module _ (p : Parts) (its : ℕ) (none : slice_get (state_of_parts p).translator
   pub adds_idle : false ≡ adds_event (state_of_parts p) its
   adds_idle = sym (still_adds (state_of_parts p) its Idle (none_idle (state_of_parts p) its none))
 
+pub neither : (a b : Bool) → (a || b) ≡ false → (a ≡ false) × (b ≡ false)
+neither true b e = absurd cc
+neither false b e = (refl, e)
+
+-- ---- of a redistributor
+
+-- it is the same where both parts are
+same_both : (o o' : Option Redistributor) → option_map conf_of o ≡ option_map conf_of o' → option_map pend_of o ≡ option_map pend_of o' → o ≡ o'
+same_both None None c p = refl
+same_both None (Some r) c p = absurd cc
+same_both (Some r) None c p = absurd cc
+same_both (Some r) (Some q) c p = λ d. Some (joined (same_Some (conf_of r) (conf_of q) c d) (same_Some (pend_of r) (pend_of q) p d))
+
 -- ---- of a machine with a translator that is lent
 
 module _ (p : Parts) (t : TranslatorRef) (m : IsMachine p) (i : ℕ) (at : IsNumber p t i) where
@@ -115,9 +133,9 @@ module _ (p : Parts) (t : TranslatorRef) (m : IsMachine p) (i : ℕ) (at : IsNum
   reads_still a none = sym (still_read u i a (none_here a none))
 
   pub reads_met : (c : Command) → MeetsCommand t.regs.now p.memory c
-      → (queue_place t.regs.now, 32) ∷ command_reads p.layout.shape t.regs.now t.maps.now.maps u.redistributors c ≡ reads u i
+      → all_told ((queue_place t.regs.now, 32) ∷ []) (command_reads p.layout.shape t.regs.now t.maps.now.maps u.redistributors c) ≡ reads u i
   reads_met c met =
-      (λ d. (queue_place (same_regs d), 32) ∷ command_reads p.layout.shape (same_regs d) (same_maps d) u.redistributors c)
+      (λ d. all_told ((queue_place (same_regs d), 32) ∷ []) (command_reads p.layout.shape (same_regs d) (same_maps d) u.redistributors c))
       ∙ sym (met_read u i c (met_here c met))
 
   pub adds_still : (a : StepReply) → MeetsNone t.regs.now p.memory a → false ≡ adds_event u i
@@ -133,15 +151,20 @@ module _ (p : Parts) (t : TranslatorRef) (m : IsMachine p) (i : ℕ) (at : IsNum
   pub stays_still : (a : StepReply) (v : ℕ) → MeetsNone t.regs.now p.memory a → slice_get (step_left u i).redistributors v ≡ slice_get u.redistributors v
   stays_still a v none = ap (λ (w : Plain). slice_get w.redistributors v) (sym (still_left u i a (none_here a none)))
 
-  pub stays_met : (c : Command) (set v : ℕ) → MeetsCommand t.regs.now p.memory c → ArePartsOfStep p.layout.shape t.maps.now.maps c set → is_in set v ≡ false
+  -- both parts of the redistributor of a virtual processor that the step doesn't concern
+  pub stays_met : (c : Command) (n : Needed) (v : ℕ) → MeetsCommand t.regs.now p.memory c → ArePartsOfStep p.layout.shape t.maps.now.maps c n
+      → is_in n.confs v ≡ false → is_in n.pends v ≡ false
       → slice_get (step_left u i).redistributors v ≡ slice_get u.redistributors v
   unfolding left footprint
-  stays_met c set v met parts out =
-      let not_there : ¬ IsIn (redist v) (footprint u (call.Step i)) =
-      λ here.
-      let listed : IsIn (redist v) (MapsOf i ∷ Mem ∷ needed u i c) =
-      subst (λ (ps : List Part). IsIn (redist v) (MapsOf i ∷ Mem ∷ ps)) (met_needs u i c (met_here c met)) here in
-      let there : is_in set v ≡ true = (parts u i refl (sym same_maps) (redist v)).0 listed in
-      absurd (let no = sym there ∙ out in cc)
-      in
-      sym (other_parts u (call.Step i) (redist v) m.sound not_there)
+  stays_met c n v met parts no_conf no_pend =
+      sym (same_both (slice_get u.redistributors v) (slice_get (step_left u i).redistributors v)
+      (other_parts u (call.Step i) (conf v) m.sound (λ here. out (conf v) no_conf (is_part (conf v) here)))
+      (other_parts u (call.Step i) (pend v) m.sound (λ here. out (pend v) no_pend (is_part (pend v) here))))
+    where
+      is_part : (q : Part) → IsIn q (footprint u (call.Step i)) → IsPartOf i n q
+      is_part q here =
+          (parts u i refl (sym same_maps) q).0
+          (subst (λ (ps : List Part). IsIn q (MapsOf i ∷ Mem ∷ ps)) (met_needs u i c (met_here c met)) here)
+
+      out : (q : Part) {b : Bool} → b ≡ false → b ≡ true → ⊥
+      out q no yes = absurd (let none = sym yes ∙ no in cc)

@@ -16,6 +16,8 @@ use Rattle.its_plain.specs.declared.call.StepReply.TheVariants.{Idle}
 use Rattle.step_views.specs.Laws.{HasSameBytes, over, StepReads}
 use Rattle.step_views.specs.Reads.{reads, met_reads}
 use Rattle.step_views.proofs.OverRan.{lifted, ran_over}
+use Rattle.step_views.proofs.Listing.{told_before, told_all}
+use Rattle.step_views.specs.Pairs.{all_told}
 
 module _ (memory : List Window) (track : Option Tracked) (u : Plain) (i : ℕ) where
   reply_lifted : (op : Op) (r : Result Plain Reason) → command_reply op (lifted memory track r) ≡ command_reply op r
@@ -51,11 +53,14 @@ module _ (memory : List Window) (track : Option Tracked) (u : Plain) (i : ℕ) w
     step_same h =
         let w : Plain = over memory track u in
         elim (is_idle u i) as (λ b. AllByRecursion (HasSameBytes u.memory memory)
-        (cond b [] ((queue_place (regs_of u i), 32) ∷ met_reads u i (next_bytes u i)))
+        (cond b [] (all_told ((queue_place (regs_of u i), 32) ∷ []) (met_reads u i (next_bytes u i))))
         → (cond b Idle (met_reply w i (next_bytes w i)) ≡ cond b Idle (met_reply u i (next_bytes u i)))
         × (cond b w (met_left w i (next_bytes w i)) ≡ over memory track (cond b u (met_left u i (next_bytes u i))))) [
           | true ↦ λ none. (refl, refl)
-          | false ↦ read_same
+          | false ↦ λ same.
+              let first : List (ℕ × ℕ) = (queue_place (regs_of u i), 32) ∷ [] in
+              let more = met_reads u i (next_bytes u i) in
+              read_same ((told_before (HasSameBytes u.memory memory) first more same).0, told_all (HasSameBytes u.memory memory) first more same)
         ] h
 
 pub reads_decide : StepReads

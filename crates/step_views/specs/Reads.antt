@@ -14,7 +14,8 @@ use Rattle.cmd_exec.specs.Room.{adds_event}
 use Rattle.its_plain.specs.Answer.{is_idle, next_bytes}
 use Rattle.its_plain.specs.declared.call.StepReply.{StepReply}
 use Rattle.its_plain.specs.declared.call.StepReply.TheVariants.{Idle, Ran, Refused, QueueFault}
-use Rattle.its_plain.specs.Plain.{Plain, Redistributor, regs_of, maps_of}
+use Rattle.its_plain.specs.Plain.{Plain, Redistributor, ConfState, conf_of, regs_of, maps_of}
+use Rattle.step_views.specs.Pairs.{all_told}
 
 -- ---- the device table
 
@@ -23,21 +24,21 @@ abbrev pub level1_reads : Registers → ℕ → List (ℕ × ℕ)
 level1_reads r dev =
     if (is_valid r.baser0 && is_indirect r.baser0) && is_device_id r.dev_bits dev then (level1_address r (dev / 8192), 8) ∷ [] else []
 
--- ---- configurations
+-- ---- configurations; those that processors share are read for each of them
 
 -- the byte of an LPI, of a redistributor whose LPIs are on
-abbrev pub byte_read : ℕ → Redistributor → List (ℕ × ℕ)
-byte_read intid r = if r.bases.on then (r.bases.prop.table.0 + (intid - first_lpi), 1) ∷ [] else []
+abbrev pub byte_read : ℕ → ConfState → List (ℕ × ℕ)
+byte_read intid c = if c.bases.on then (c.bases.prop.table.0 + (intid - first_lpi), 1) ∷ [] else []
 
 abbrev pub byte_reads : ℕ → List Redistributor → List (ℕ × ℕ)
-byte_reads intid rs = flat_map (byte_read intid) rs
+byte_reads intid rs = flat_map (λ r. byte_read intid (conf_of r)) rs
 
 -- its whole table
-abbrev pub table_read : Shape → Redistributor → List (ℕ × ℕ)
-table_read s r = if r.bases.on then (r.bases.prop.table.0, lpi_count s.lpi_bits) ∷ [] else []
+abbrev pub table_read : Shape → ConfState → List (ℕ × ℕ)
+table_read s c = if c.bases.on then (c.bases.prop.table.0, lpi_count s.lpi_bits) ∷ [] else []
 
 abbrev pub table_reads : Shape → List Redistributor → List (ℕ × ℕ)
-table_reads s rs = flat_map (table_read s) rs
+table_reads s rs = flat_map (λ r. table_read s (conf_of r)) rs
 
 abbrev pub event_reads : Option Event → List Redistributor → List (ℕ × ℕ)
 event_reads None rs = []
@@ -76,6 +77,6 @@ still_reads Idle = []
 still_reads (Ran op) = []
 still_reads (Refused op reason) = []
 
--- none where there is no command to take; else the command's 32 bytes, and then what it reads besides
+-- none where there is no command to take; else the command's 32 bytes, and then what it reads besides, each stretch once
 unfoldable pub reads : Plain → ℕ → List (ℕ × ℕ)
-reads u i = if is_idle u i then [] else (queue_place (regs_of u i), 32) ∷ met_reads u i (next_bytes u i)
+reads u i = if is_idle u i then [] else all_told ((queue_place (regs_of u i), 32) ∷ []) (met_reads u i (next_bytes u i))

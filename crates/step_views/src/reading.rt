@@ -1,16 +1,17 @@
 //! The stretches of guest memory that a step reads.
-ghost use Rattle.std.specs.Prelude.{◌≡◌, ◌++◌, ◌+◌, ◌≤◌, ◌<◌, ◌&&◌, ◌^◌, ℕ, length};
+ghost use Rattle.std.specs.Prelude.{◌≡◌, ◌+◌, ◌≤◌, ◌<◌, ◌&&◌, ◌^◌, ℕ, length};
 ghost use Rattle.std.specs.Prelude.{if◌then◌else◌, []};
 ghost use Rattle.cmd_exec.specs.Room as room;
 ghost use Rattle.gicr_regs.specs.Registers.{AreLow};
 ghost use Rattle.its_plain.specs.Sound.{IsShape};
 ghost use Rattle.its_types.specs.Maps as plain;
 ghost use Rattle.its_types.specs.Ranges as ranges;
-ghost use Rattle.lpi_pending.specs.InHand.{redistributor_of};
+ghost use Rattle.lpi_config.specs.Conf.{conf_state};
 ghost use Rattle.owned_machine.specs.Whole.{IsMachine};
 ghost use Rattle.owned_parts.specs.Owned.{AreAllInHand, state_of_parts};
 ghost use Rattle.table_save.specs.Areas.{redistributors_of, HaveLowTables};
 ghost use Rattle.step_views.specs.Lent.{IsNumber};
+ghost use Rattle.step_views.specs.Pairs.{all_told};
 ghost use Rattle.step_views.specs.Reads as spec;
 
 use crate::counts::is_unmapped;
@@ -21,12 +22,13 @@ use its_command::Command;
 use its_maps::{LookUp, Maps};
 use its_plain::StepReply;
 use its_types::{Addr, DeviceId, Event, EventId, FIRST_LPI, Icid, Intid, Shape, Vcpu};
-use lpi_pending::{Redist, Redists};
+use lpi_config::Conf;
+use lpi_pending::Redists;
 use owned_parts::{Parts, TranslatorRef};
 
 /// The stretches of guest memory that the next step of a translator reads: none where it has no
 /// command to take; else the command's 32 bytes, and what the command reads besides, as memory has
-/// it now.
+/// it now. Each is told once, also where several virtual processors read it.
 pub fn needs(parts: &Parts, its: u8) -> Needs
     requires { IsMachine parts.now }
     ensures { result ≡ spec.reads (state_of_parts parts.now) its }
@@ -71,8 +73,8 @@ fn needs_still(reply: StepReply) -> Needs
 fn add_command(needs: &mut Needs, command: &Command, regs: &Regs, maps: &Maps, parts: &Parts)
     requires whole { IsMachine parts.now }
     requires room { length needs.old ≤ 1 }
-    ensures { needs.new ≡ needs.old ++ spec.command_reads parts.now.layout.shape regs.now
-        maps.now.maps (state_of_parts parts.now).redistributors command.now }
+    ensures { needs.new ≡ all_told needs.old (spec.command_reads parts.now.layout.shape regs.now
+        maps.now.maps (state_of_parts parts.now).redistributors command.now) }
 {
     let shape = parts.layout.shape;
     match *command {
@@ -111,8 +113,8 @@ fn add_command(needs: &mut Needs, command: &Command, regs: &Regs, maps: &Maps, p
 // The entry of the first level of a device table of two, where a device is mapped.
 fn add_level1(needs: &mut Needs, regs: &Regs, dev: DeviceId, valid: bool)
     requires { length needs.old ≤ 1 }
-    ensures { needs.new ≡ needs.old
-        ++ (if valid then spec.level1_reads regs.now dev.0 else []) }
+    ensures { needs.new ≡ all_told needs.old
+        (if valid then spec.level1_reads regs.now dev.0 else []) }
 {
     if valid && regs.table_valid(0) && regs.indirect() && dev.in_range(regs.dev_bits()) {
         let entry = u64::from(dev.0 / 8192);
@@ -137,30 +139,30 @@ fn mapped_event(maps: &Maps, dev: DeviceId, ev: EventId) -> Option<Event>
     }
 }
 
-// The byte of an LPI at each redistributor whose LPIs are on.
+// The byte of an LPI, of each redistributor whose LPIs are on. A table that several share is told
+// once.
 fn add_bytes(needs: &mut Needs, redists: &Redists, shape: Shape, intid: Intid)
     requires shape { IsShape shape }
     requires in_hand { AreAllInHand shape redists.now }
     requires low { HaveLowTables shape redists.now }
     requires room { length needs.old ≤ 1 }
-    ensures { needs.new ≡ needs.old
-        ++ spec.byte_reads intid.0 (redistributors_of shape redists.now) }
+    ensures { needs.new ≡ all_told needs.old
+        (spec.byte_reads intid.0 (redistributors_of shape redists.now)) }
 {
     for vcpu in 0..shape.vcpus {
-        add_byte(needs, redists.redist(Vcpu(vcpu)), intid);
+        add_byte(needs, redists.conf(Vcpu(vcpu)), intid);
     }
 }
 
-fn add_byte(needs: &mut Needs, redist: &Redist, intid: Intid)
-    requires low { AreLow redist.now.bases }
+fn add_byte(needs: &mut Needs, conf: &Conf, intid: Intid)
+    requires low { AreLow conf.now.bases }
     requires room { length needs.old < 18 }
-    ensures more { needs.new ≡ needs.old
-        ++ spec.byte_read intid.0 (redistributor_of redist.now) }
+    ensures more { needs.new ≡ all_told needs.old (spec.byte_read intid.0 (conf_state conf.now)) }
     ensures few { length needs.new ≤ length needs.old + 1 }
 {
-    if redist.bases.on {
+    if conf.bases.on {
         let place = u64::from(intid.0.saturating_sub(FIRST_LPI));
-        needs.push(Addr(redist.bases.prop.table.0 + place), 1);
+        needs.push(Addr(conf.bases.prop.table.0 + place), 1);
     }
 }
 
@@ -169,22 +171,22 @@ fn add_tables(needs: &mut Needs, redists: &Redists, shape: Shape)
     requires shape { IsShape shape }
     requires in_hand { AreAllInHand shape redists.now }
     requires room { length needs.old ≤ 1 }
-    ensures { needs.new ≡ needs.old
-        ++ spec.table_reads shape (redistributors_of shape redists.now) }
+    ensures { needs.new ≡ all_told needs.old
+        (spec.table_reads shape (redistributors_of shape redists.now)) }
 {
     let count = shape.vcpus;
     for vcpu in 0..count {
-        add_table(needs, redists.redist(Vcpu(vcpu)), shape);
+        add_table(needs, redists.conf(Vcpu(vcpu)), shape);
     }
 }
 
-fn add_table(needs: &mut Needs, redist: &Redist, shape: Shape)
+fn add_table(needs: &mut Needs, conf: &Conf, shape: Shape)
     requires shape { IsShape shape }
     requires room { length needs.old < 18 }
-    ensures more { needs.new ≡ needs.old ++ spec.table_read shape (redistributor_of redist.now) }
+    ensures more { needs.new ≡ all_told needs.old (spec.table_read shape (conf_state conf.now)) }
     ensures few { length needs.new ≤ length needs.old + 1 }
 {
-    if redist.bases.on {
-        needs.push(redist.bases.prop.table, shape.lpi_count());
+    if conf.bases.on {
+        needs.push(conf.bases.prop.table, shape.lpi_count());
     }
 }

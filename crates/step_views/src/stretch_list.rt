@@ -1,4 +1,8 @@
 //! A short list of stretches of guest memory.
+ghost use Rattle.std.specs.Prelude.{◌≡◌};
+ghost use Rattle.step_views.specs.Pairs as spec;
+ghost use Rattle.step_views.specs.Pairs.{pair_of};
+
 use its_types::Addr;
 use std::marker::Model;
 
@@ -11,8 +15,8 @@ pub struct Stretch {
     pub length: u64,
 }
 
-/// The stretches that a step reads, at most 18. It is seen as the list of their addresses and
-/// lengths.
+/// The stretches that a step reads, at most 18, each once. It is seen as the list of their
+/// addresses and lengths.
 #[derive(Drop)]
 pub struct Needs {
     list: [Stretch; 18],
@@ -32,7 +36,7 @@ impl Model for Needs {
 
 impl Needs {
     ghost use Rattle.std.specs.Prelude.{◌≡◌, ◌<◌, ◌≤◌, ◌++◌, ◌∷◌, [], length, map};
-    ghost use Rattle.step_views.specs.Pairs.{pair_of};
+    ghost use Rattle.step_views.specs.Pairs.{pair_of, is_told, with_stretch};
 
     /// None.
     pub fn new() -> Needs
@@ -48,15 +52,31 @@ impl Needs {
         }
     }
 
-    /// One stretch more.
+    /// One stretch more, unless it is there.
     pub fn push(&mut self, address: Addr, len: u64)
         requires { length self.old < 18 }
-        ensures { self.new ≡ self.old ++ (address.0, len) ∷ [] }
+        ensures { self.new ≡ with_stretch self.old (address.0, len) }
     {
-        self.list[self.count] = Stretch {
+        let stretch = Stretch {
             address,
             length: len,
         };
+        if !self.has(&stretch) {
+            self.add(stretch);
+        }
+    }
+
+    fn has(&self, stretch: &Stretch) -> bool
+        ensures { result ≡ is_told (pair_of stretch.now) self.now }
+    {
+        self.as_slice().iter().any(|other| is_same(stretch, other))
+    }
+
+    fn add(&mut self, stretch: Stretch)
+        requires { length self.old < 18 }
+        ensures { self.new ≡ self.old ++ pair_of stretch ∷ [] }
+    {
+        self.list[self.count] = stretch;
         self.count += 1;
     }
 
@@ -67,4 +87,10 @@ impl Needs {
     {
         &self.list[..self.count]
     }
+}
+
+fn is_same(stretch: &Stretch, other: &Stretch) -> bool
+    ensures { result ≡ spec.is_same (pair_of stretch.now) (pair_of other.now) }
+{
+    stretch.address.0 == other.address.0 && stretch.length == other.length
 }

@@ -1,7 +1,7 @@
 -- Stretches that are listed table after table.
-use Rattle.std.proofs.Common.{◌≡◌, ℕ, suc, ◌+◌, ◌*◌, ◌^◌, ◌<◌, true, false, cond, not, List, [], ◌∷◌, ◌++◌, drop, Option, Some, sym, ap}
+use Rattle.std.proofs.Common.{◌≡◌, ℕ, suc, ◌+◌, ◌*◌, ◌^◌, ◌<◌, ◌≤◌, true, false, cond, not, List, [], ◌∷◌, ◌++◌, drop, sym, ap}
 use Rattle.std.proofs.Common.{◌∙◌, add-one}
-use Rattle.std.proofs.Common.{append_assoc}
+use Rattle.std.proofs.Common.{append-nil, append_assoc}
 use Rattle.std.proofs.lemmas.List.{map-append}
 use Rattle.std.specs.List.{flat_map}
 use Rattle.guest_windows.specs.Fields.{pairs}
@@ -19,7 +19,7 @@ use Rattle.lpi_config.specs.declared.conf.Conf.{Conf}
 use Rattle.lpi_pending.specs.InHand.{RedistParts, redistributor_of}
 use Rattle.lpi_pending.specs.declared.pend.Pend.{Pend}
 use Rattle.owned_parts.specs.Places.{AreInHandAt}
-use Rattle.owned_parts.proofs.Places.{drop_to_place}
+use Rattle.owned_parts.proofs.Places.{drop_to_place, none_left}
 use Rattle.table_save.specs.Areas.{redistributors_of}
 use Rattle.table_save.specs.Stretches.{stretch_of, stretches_of}
 use Rattle.table_save.specs.Tables.{itt_tables}
@@ -71,6 +71,13 @@ table_listed shape v redists c p before now whole lt is more so_far =
     rw add-one (ap (λ (xs : List (ℕ × ℕ)). xs ++ stretches_of rest) more ∙ append_assoc before (stretches_of here) (stretches_of rest)
     ∙ ap (λ (xs : List (ℕ × ℕ)). before ++ xs) (sym (map-append stretch_of here rest))
     ∙ ap (λ (ds : List Redistributor). before ++ stretches_of (flat_map (pending_words shape) ds)) (sym (drop_to_place redists shape.vcpus v c p lt is)) ∙ so_far)
+
+-- no redistributor's table is left
+pub tables_listed : (shape : Shape) (v : ℕ) (redists : RedistParts) (now whole : List (ℕ × ℕ)) → shape.vcpus ≤ v
+    → now ++ stretches_of (flat_map (pending_words shape) (drop v (redistributors_of shape redists))) ≡ whole → now ≡ whole
+tables_listed shape v redists now whole le so_far =
+    sym (append-nil now) ∙ ap (λ (ds : List Redistributor). now ++ stretches_of (flat_map (pending_words shape) ds)) (sym (none_left redists shape.vcpus v le))
+    ∙ so_far
 
 -- ---- the device table
 

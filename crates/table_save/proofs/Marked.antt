@@ -1,5 +1,5 @@
 -- Pages that are marked table after table.
-use Rattle.std.proofs.Common.{◌≡◌, ℕ, suc, ◌+◌, ◌*◌, ◌<◌, true, false, cond, not, List, [], ◌∷◌, ◌++◌, drop, Option, Some, refl, sym, ap, ◌∙◌, add-one}
+use Rattle.std.proofs.Common.{◌≡◌, ℕ, suc, ◌+◌, ◌*◌, ◌<◌, ◌≤◌, true, false, cond, not, List, [], ◌∷◌, ◌++◌, drop, refl, sym, ap, ◌∙◌, add-one}
 use Rattle.std.specs.List.{flat_map}
 use Rattle.dirty_log.specs.Copies.{wrote}
 use Rattle.dirty_log.specs.declared.tracked.Tracked.{Tracked}
@@ -14,7 +14,7 @@ use Rattle.lpi_config.specs.declared.conf.Conf.{Conf}
 use Rattle.lpi_pending.specs.InHand.{RedistParts, redistributor_of}
 use Rattle.lpi_pending.specs.declared.pend.Pend.{Pend}
 use Rattle.owned_parts.specs.Places.{AreInHandAt}
-use Rattle.owned_parts.proofs.Places.{drop_to_place}
+use Rattle.owned_parts.proofs.Places.{drop_to_place, none_left}
 use Rattle.table_save.specs.Areas.{redistributors_of}
 
 -- tables after tables
@@ -40,6 +40,12 @@ table_marked shape v redists c p before now whole lt is marks so_far =
     let rest : List Words = flat_map (pending_words shape) (drop (suc v) rs) in
     rw add-one (ap (wrote_tables rest) marks ∙ sym (marked_append here rest before)
     ∙ ap (λ (ds : List Redistributor). wrote_tables (flat_map (pending_words shape) ds) before) (sym (drop_to_place redists shape.vcpus v c p lt is)) ∙ so_far)
+
+-- no redistributor's table is left
+pub tables_marked : (shape : Shape) (v : ℕ) (redists : RedistParts) (now whole : Tracked) → shape.vcpus ≤ v
+    → wrote_tables (flat_map (pending_words shape) (drop v (redistributors_of shape redists))) now ≡ whole → now ≡ whole
+tables_marked shape v redists now whole le so_far =
+    sym (ap (λ (ds : List Redistributor). wrote_tables (flat_map (pending_words shape) ds) now) (none_left redists shape.vcpus v le)) ∙ so_far
 
 -- ---- the device table
 

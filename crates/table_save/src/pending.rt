@@ -26,18 +26,18 @@ pub fn put_pending(memory: &mut Memory, redists: &Redists, shape: Shape) -> Resu
         (flat_map (pending_words shape) (redistributors_of shape redists.now))) }
 {
     for vcpu in 0..shape.vcpus {
-        put_table(memory, redists.conf(Vcpu(vcpu)), redists.pend(Vcpu(vcpu)), shape)?;
+        put_table(
+            memory,
+            redists.conf(Vcpu(vcpu)),
+            redists.pend(Vcpu(vcpu)),
+            shape,
+        )?;
     }
     Ok(())
 }
 
 // Writes a redistributor's table, where its LPIs are on.
-fn put_table(
-    memory: &mut Memory,
-    conf: &Conf,
-    pend: &Pend,
-    shape: Shape,
-) -> Result<(), AllocError>
+fn put_table(memory: &mut Memory, conf: &Conf, pend: &Pend, shape: Shape) -> Result<(), AllocError>
     requires shape { IsShape shape }
     requires lpis { HasLpisOfPend shape pend.now }
     requires low { AreLow conf.now.bases }

@@ -46,10 +46,10 @@ const READS: [(u32, u8, u64); 6] = [
     (0xc0, 4, 0),
 ];
 
-// For a Linux guest GICR_CTLR has bit 1, and both bases have bits 11 to 7 as Inner Shareable and
-// write-back: 0x780.
+// For a Linux guest GICR_CTLR has bits 1 and 2, and both bases have bits 11 to 7 as Inner Shareable
+// and write-back: 0x780.
 const LINUX_READS: [(u32, u8, u64); 7] = [
-    (0x0, 4, 3),
+    (0x0, 4, 7),
     (0x70, 8, 0x8003_078f),
     (0x70, 4, 0x8003_078f),
     (0x74, 4, 0),
@@ -110,7 +110,7 @@ fn lpis_are_off(rt: HostRuntime) {
         (0x78, 4, 0x8006_0000, half),
         (0x70, 8, 0xfff0_0000_8003_0fef, whole),
     ];
-    let read = wrong_read(true, &off, &[(0x0, 4, 2)]);
+    let read = wrong_read(true, &off, &[(0x0, 4, 6)]);
     let turned = wrong_write(&off, &turning);
     let set = wrong_write(&zeroed, &setting);
     assert_eq!(rt; [read, turned, set], [None; 3]);

@@ -1,8 +1,11 @@
 //! Redistributors in hand: what is pending, which LPI comes first, and registers.
 use guest_windows::Memory;
 use its_types::{Addr, Bases, Intid, Profile, Shape, Vcpu};
-use lpi_config::Config;
-use lpi_pending::{Pending, Redist, Redists, gicr_read, gicr_write};
+use lpi_config::{Conf, Config};
+use lpi_pending::{
+    Pend, Pending, Redists, changes_pending, conf_set, conf_write, gicr_read, gicr_write,
+    reads_tables, turn_off_write,
+};
 use std::alloc::{AllocError, Global};
 use std::test::Fail;
 
@@ -25,6 +28,8 @@ enum Act {
     // So many bytes at an offset of its registers.
     Write(u32, u8, u64),
     Read(u32, u8, u64),
+    // Whether it takes LPIs.
+    Accepts(bool),
 }
 
 /// Whether that is an LPI, which is then pending or isn't any more.
@@ -112,41 +117,55 @@ fn claims(pending: &Pending, config: &Config, lpi: u32) -> Option<bool> {
 // Above each address that a base register has.
 const END: u64 = 1 << 52;
 
+// With no more than the write needs of the redistributor and of memory.
 fn write(
-    redist: &mut Redist,
+    conf: &mut Conf,
+    pend: &mut Pend,
     memory: &Memory,
     shape: &Shape,
     off: u32,
     size: u8,
     value: u64,
 ) -> bool {
-    let Bases { prop, pend, .. } = redist.bases;
-    if prop.table.0 >= END || pend.table.0 >= END {
+    let Bases {
+        prop,
+        pend: table,
+        ..
+    } = conf.bases;
+    if prop.table.0 >= END || table.table.0 >= END {
         return false;
     }
     let bits = shape.lpi_bits;
-    if redist.pending.lpi_bits() != bits || redist.config.lpi_bits() != bits {
+    if pend.pending.lpi_bits() != bits || conf.config.lpi_bits() != bits {
         return false;
     }
-    gicr_write(redist, memory, shape, off, size, value);
+    let reads = reads_tables(conf, off, size, value);
+    if changes_pending(conf, off, size, value) {
+        if reads {
+            gicr_write(conf, pend, memory, shape, off, size, value);
+        } else {
+            turn_off_write(conf, pend, shape, off, size, value);
+        }
+    } else if reads {
+        conf_write(conf, memory, shape, off, size, value);
+    } else {
+        conf_set(conf, off, size, value);
+    }
     true
 }
 
-fn read(redist: &Redist, linux: bool, off: u32, size: u8) -> Option<u64> {
-    let Bases { prop, pend, .. } = redist.bases;
+fn read(conf: &Conf, linux: bool, off: u32, size: u8) -> Option<u64> {
+    let Bases { prop, pend, .. } = conf.bases;
     if prop.table.0 >= END || pend.table.0 >= END {
         return None;
     }
-    Some(gicr_read(linux, redist, off, size))
+    Some(gicr_read(linux, conf, off, size))
 }
 
 // Whether the redistributor does as the act says.
-fn does(redist: &mut Redist, memory: &Memory, shape: &Shape, act: &Act) -> bool {
-    let Redist {
-        pending,
-        config,
-        ..
-    } = redist;
+fn does(conf: &mut Conf, pend: &mut Pend, memory: &Memory, shape: &Shape, act: &Act) -> bool {
+    let pending = &mut pend.pending;
+    let config = &mut conf.config;
     match act {
         Act::Set(lpi) => put(pending, *lpi, true),
         Act::Clear(lpi) => put(pending, *lpi, false),
@@ -158,18 +177,23 @@ fn does(redist: &mut Redist, memory: &Memory, shape: &Shape, act: &Act) -> bool 
         Act::FirstEnabled(want) => first_enabled(pending, config) == *want,
         Act::Best(mask, want) => best(pending, config, *mask) == *want,
         Act::Claims(lpi, want) => claims(pending, config, *lpi) == Some(*want),
-        Act::Write(off, size, value) => write(redist, memory, shape, *off, *size, *value),
-        Act::Read(off, size, value) => read(redist, shape.linux, *off, *size) == Some(*value),
+        Act::Write(off, size, value) => write(conf, pend, memory, shape, *off, *size, *value),
+        Act::Read(off, size, value) => read(conf, shape.linux, *off, *size) == Some(*value),
+        Act::Accepts(want) => pend.accepts == *want,
     }
 }
 
 // A redistributor whose LPIs are off.
-fn off(alloc: Global) -> Result<Redist, AllocError> {
-    Ok(Redist {
-        pending: Pending::new(alloc, 14)?,
+fn off(alloc: Global) -> Result<(Conf, Pend), AllocError> {
+    let conf = Conf {
         config: Config::zeros(alloc, 14)?,
         bases: Bases::off(),
-    })
+    };
+    let pend = Pend {
+        pending: Pending::new(alloc, 14)?,
+        accepts: false,
+    };
+    Ok((conf, pend))
 }
 
 // How many of the acts it does as they say, up to the first that it doesn't.
@@ -181,9 +205,9 @@ fn play(alloc: Global, memory: &Memory, linux: bool, acts: &[Act]) -> Result<usi
         profile: Profile::One,
         linux,
     };
-    let mut redist = off(alloc)?;
+    let (mut conf, mut pend) = off(alloc)?;
     for (at, act) in acts.iter().enumerate() {
-        if !does(&mut redist, memory, &shape, act) {
+        if !does(&mut conf, &mut pend, memory, &shape, act) {
             return Ok(at);
         }
     }
@@ -253,8 +277,10 @@ const TURNED_ON: &[Act] = &[
     Act::Write(0x70, 8, 0x8003_0000),
     Act::Write(0x78, 8, 0),
     Act::Write(0x78, 4, 0x8006_0000),
+    Act::Accepts(false),
     Act::Write(0x0, 4, 1),
     Act::Read(0x0, 4, 1),
+    Act::Accepts(true),
     Act::Has(8200, true),
     Act::Config(8200, 0xa1),
 ];
@@ -275,6 +301,7 @@ const PENDING_TABLE_OUTSIDE: &[Act] = &[
     Act::Write(0x78, 4, 0x8008_0000),
     Act::Write(0x0, 4, 1),
     Act::Read(0x0, 4, 0),
+    Act::Accepts(false),
     Act::Has(8200, false),
     Act::Config(8200, 0),
 ];
@@ -306,7 +333,8 @@ const TURNED_OFF: &[Act] = &[
     Act::Write(0x0, 4, 1),
     Act::Write(0x0, 4, 0),
     Act::Write(0x70, 8, 0x8004_0000),
-    Act::Read(0x0, 4, 2),
+    Act::Read(0x0, 4, 6),
+    Act::Accepts(false),
     Act::Has(8200, false),
     Act::Config(8200, 0),
     Act::Read(0x70, 8, 0x8004_0780),
@@ -322,6 +350,20 @@ const LEFT_ON: &[Act] = &[
     Act::Has(8200, true),
     Act::Config(8200, 0xa1),
     Act::Read(0x70, 8, 0x8003_0000),
+];
+
+// An LPI's byte is read again, and then those of all.
+const READ_AGAIN: &[Act] = &[
+    Act::Write(0x70, 8, 0x8003_0000),
+    Act::Write(0x78, 8, 0x8006_0000),
+    Act::Write(0x0, 4, 1),
+    Act::Reload(8200, 0),
+    Act::Reload(8201, 0xff),
+    Act::Write(0xa0, 8, 8200),
+    Act::Config(8200, 0xa1),
+    Act::Config(8201, 0xff),
+    Act::Write(0xb0, 8, 0),
+    Act::Config(8201, 0),
 ];
 
 // LPI 8200 is enabled in one table, and pending in the other.
@@ -346,6 +388,7 @@ fn redistributors_do_as_they_are_told(rt: HostRuntime) -> Result<(), Fail> {
         (false, OTHER_TABLES),
         (true, TURNED_OFF),
         (false, LEFT_ON),
+        (false, READ_AGAIN),
     ] {
         assert_eq!(rt; play(rt.alloc(), &memory, linux, acts)?, acts.len());
     }
@@ -354,15 +397,19 @@ fn redistributors_do_as_they_are_told(rt: HostRuntime) -> Result<(), Fail> {
 
 #[test]
 fn redistributors_in_hand(rt: HostRuntime) -> Result<(), Fail> {
-    let redist = Box::new(rt.alloc(), off(rt.alloc())?)?;
+    let (conf, pend) = off(rt.alloc())?;
     let mut redists = Redists::new();
-    redists.place(Vcpu(15), redist);
-    redists.redist_mut(Vcpu(15)).bases.on = true;
-    let on = redists.redist(Vcpu(15)).bases.on;
-    let mut taken = redists.take_out(Vcpu(15));
-    taken.bases.pend.table = Addr(0x8004_0000);
-    redists.place(Vcpu(15), taken);
-    let table = redists.redist(Vcpu(15)).bases.pend.table;
+    redists.place_conf(Vcpu(15), Box::new(rt.alloc(), conf)?);
+    redists.place_pend(Vcpu(15), Box::new(rt.alloc(), pend)?);
+    redists.conf_mut(Vcpu(15)).bases.on = true;
+    redists.pend_mut(Vcpu(15)).accepts = true;
+    let on = redists.conf(Vcpu(15)).bases.on && redists.pend(Vcpu(15)).accepts;
+    let mut conf = redists.take_conf(Vcpu(15));
+    conf.bases.pend.table = Addr(0x8004_0000);
+    let pend = redists.take_pend(Vcpu(15));
+    redists.place_conf(Vcpu(15), conf);
+    redists.place_pend(Vcpu(15), pend);
+    let table = redists.conf(Vcpu(15)).bases.pend.table;
     assert!(rt; on && table == Addr(0x8004_0000));
     Ok(())
 }

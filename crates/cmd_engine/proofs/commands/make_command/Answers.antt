@@ -76,7 +76,7 @@ returns-clause-hands g c = let m = c.args.machine.now in let q = c.requires in l
     (rw (c.reply.ensures) at c.in-Some-mark_of.ensures)
     c.make_room.new.maps.maps (c.make_room.ensures.maps ∙ ap (λ t. t.maps.maps) c.deref_mut-translator.ensures.value) c.plan-planned.result.command
     c.plan-planned.ensures.plan.command _ refl refl refl (rw (c.deref_mut-translator.ensures.value, c.deref.ensures) at c.apply.ensures.left)
-    c.apply.ensures.hand c.change.ensures (view c.commit_marked.new.pass)
+    c.apply.ensures.confs c.apply.ensures.pends c.change.ensures (view c.commit_marked.new.pass)
     (rw (c.step_reply-reply.ensures) at c.in-Ok-commit_marked.ensures.result.1)
 
 pub returns-clause-comes : goal.returns-clause-comes

@@ -16,7 +16,7 @@ pub step_with-made-requires-clause-hands : goal.step_with-made-requires-clause-h
 step_with-made-requires-clause-hands g c =
     let e = c.new-hands.ensures in
     own_in_hand (setup c.args.machine.now) (view c.args.pass.now) _ c.args.its c.args.translator (Some c.args.memory) cached.Nothing
-    e.its e.translator e.memory e.cached e.redists e.set c.requires.its tt c.requires.held
+    e.its e.translator e.memory e.cached e.confs e.pends e.needs_no_conf e.needs_no_pend c.requires.its tt c.requires.held
 
 pub step_with-made-requires-clause-stood : goal.step_with-made-requires-clause-stood
 step_with-made-requires-clause-stood g c = let e = c.new-hands.ensures in rw (e.its, e.translator) c.requires.stood

@@ -23,7 +23,7 @@ make_write-made-requires-clause-hands g c =
     let t = c.take_maps-translator.result in let e = c.new-hands.ensures in
     let first = took_held v y (part.Maps i) (Maps (translator_of t.value)) c.take_maps-translator.ensures.takes
     ∙ ap (λ (l : List Held). out (part.Maps i) (Maps (translator_of t.value)) ∷ l) c.requires.free in
-    own_in_hand s (view c.take_cached.new.pass) _ i t None c.take_cached.new.cached e.its e.translator e.memory refl e.redists e.set c.requires.its
+    own_in_hand s (view c.take_cached.new.pass) _ i t None c.take_cached.new.cached e.its e.translator e.memory refl e.confs e.pends e.needs_no_conf e.needs_no_pend c.requires.its
     c.take_cached.ensures.whole (c.take_cached.ensures.held ∙ ap (cached_held i s.shards c.take_cached.new.cached) first)
 
 pub returns-clause-comes : goal.returns-clause-comes

@@ -63,7 +63,7 @@ pub put-requires-clause-owed : goal.put-requires-clause-owed
 put-requires-clause-owed g c =
     let m = c.args.machine.now in let v = view c.args.pass.now in let x = view c.try_take_conf.new.pass in let r = conf_state c.in-Ok.conf.value in
     record {
-      content = Redist r;
+      content = Conf r;
       content_is = refl;
       before = [];
       last = owes_here (setup m) (call.ReadGicr c.args.vcpu c.args.off c.args.size) (reply.Value (read_by (setup m).start.layout r c.args.off c.args.size))

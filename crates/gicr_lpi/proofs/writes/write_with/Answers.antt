@@ -24,8 +24,8 @@ try_commit-requires-clause-may g c =
     (λ _. held_of a.vcpu (after_write s.start.layout.gicr s.start.layout.shape a h))
     (λ w room. may_write s m.laid.1 w room a.vcpu c.requires.vcpu a.off a.size a.value h c.requires.enough) (view c.args.pass.now) c.requires.held)
 
-pub put_hand-in-Ok-requires-clause-held : goal.put_hand-in-Ok-requires-clause-held
-put_hand-in-Ok-requires-clause-held g c =
+pub put_hand-requires-clause-held : goal.put_hand-requires-clause-held
+put_hand-requires-clause-held g c =
     let m = c.args.machine.now in let s = setup m in let a = c.args.access in let h = state_of c.args.hand in
     let so = is_so m c.are_programmed.result c.desc-desc.result.now c.desc-desc.ensures.layout c.are_programmed.ensures in
     let left : state_of c.written-hand.result ≡ after_write s.start.layout.gicr s.start.layout.shape a h =

@@ -1,9 +1,10 @@
-use Rattle.std.proofs.Common.{◌≡◌, ◌≤◌, ◌∷◌, List, ap, sym, ◌∙◌, subst, arith, nat_lt}
+use Rattle.std.proofs.Common.{◌≡◌, ◌≤◌, ℕ, ◌∷◌, List, ap, sym, ◌∙◌, subst, arith, nat_lt}
 use Rattle.std.specs.Option.{option_map}
 use Rattle.its_types.specs.declared.machine.Part.TheVariants as part
 use Rattle.lpi_config.specs.declared.conf.Conf.{Conf as ConfInHand}
 use Rattle.lpi_pending.specs.InHand.{HasLpisOfConf, HasLpisOfPend}
 use Rattle.owned_parts.specs.Owned.{translator_of}
+use Rattle.owned_parts.specs.RedistSets.{is_in}
 use Rattle.its_steps.specs.Contents.{Held, Maps, Mem}
 use Rattle.its_steps.specs.Parts.{vcpu_count}
 use Rattle.its_steps.specs.World.{out}
@@ -72,7 +73,7 @@ returns-clause-takes g c =
     ∙ ap (λ (l : List Held). mem ∷ l) (c.take_second-second.ensures.held ∙ ap (second_held (second_of x)) first) in
     let confs : c.take_confs.new.redists.confs ≡ x.redists.confs = sym c.take_pends.ensures.confs in
     let fourth = c.take_confs.ensures.held ∙ (λ d. in_row (row_of conf_held (confs d)) 16 (third d)) in
-    let all = λ n. c.all_of-all.ensures n ∙ ap (nat_lt n) c.vcpus.ensures.vcpus in
+    let all : (n : ℕ) → is_in set n ≡ nat_lt n (vcpu_count s) = λ n. c.all_of-all.ensures n ∙ ap (nat_lt n) c.vcpus.ensures.vcpus in
     let of_all = set_is_all (HasLpisOfConf s.start.layout.shape) s set all c.take_confs.new.redists.confs c.take_confs.ensures.hand in
     takes_whole s v v5 (view c.look.new.pass) x c.look.result c.requires.of.1 few five
     (c.take_pends.ensures.held ∙ ap (pends_held x.redists 16) fourth)

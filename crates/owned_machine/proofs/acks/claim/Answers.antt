@@ -1,6 +1,6 @@
-use Rattle.std.proofs.Common.{sym, subst, ◌∙◌, ◌≡◌, List, Option, true}
+use Rattle.std.proofs.Common.{sym, subst, ◌∙◌, ◌≡◌, true}
 use Rattle.its_plain.specs.declared.call.Ack.{Ack}
-use Rattle.lpi_pending.specs.declared.redist.Redist.{Redist}
+use Rattle.lpi_pending.specs.InHand.{RedistParts}
 use Rattle.cmd_exec.specs.InHand.{takes_lpi}
 use Rattle.owned_parts.specs.Owned.{state_of_parts}
 use Rattle.owned_machine.specs.Acks.{left_at}
@@ -16,6 +16,6 @@ clear_lpi-requires c = subst (λ (a : Ack). IfAcked a (λ intid. takes_lpi c.arg
 pub returns-in-Some-clause-left : goal.returns-in-Some-clause-left
 returns-in-Some-clause-left c =
     let p = c.args.parts.now in
-    subst (λ (rs : List (Option Redist)). GoesOn (record p { redists = rs }) (left_at (state_of_parts p) c.args.vcpu.0 (asked.This c.args.intid)))
+    subst (λ (rs : RedistParts). GoesOn (record p { redists = rs }) (left_at (state_of_parts p) c.args.vcpu.0 (asked.This c.args.intid)))
     (sym c.clear_lpi.ensures)
     (claim_goes p c.args.vcpu c.args.intid c.in-Some.intid _ c.requires (sym c.look-ack.ensures.ack ∙ c.in-Some.is))

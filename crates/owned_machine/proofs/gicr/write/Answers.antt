@@ -1,21 +1,45 @@
-use Rattle.owned_machine.proofs.Kept.{held, lpis_of}
-use Rattle.owned_machine.proofs.Programmed.{bases_low, gicr_goes}
+use Rattle.std.proofs.Common.{◌≡◌, ℕ, Option, Some, None, refl, sym, ap, ◌∙◌}
+use Rattle.std.specs.Prelude.{is_some}
+use Rattle.lpi_pending.specs.InHand.{RedistParts, pend_in, set_conf}
+use Rattle.owned_machine.proofs.Kept.{conf_there, pend_there, conf_lpis, pend_lpis}
+use Rattle.owned_machine.proofs.Programmed.{bases_low, gicr_left}
 use Rattle.owned_machine.proofs.gicr.write.Goals as goal
 
-pub redist_mut-redist-requires : goal.redist_mut-redist-requires
-redist_mut-redist-requires c = held c.args.parts.now c.args.vcpu.0 c.requires c.if-vcpu-parts.false
+pub take_conf-conf-requires : goal.take_conf-conf-requires
+take_conf-conf-requires c = conf_there c.args.parts.now c.args.vcpu.0 c.requires c.if-vcpu-parts.false
+
+same_part : {X : Type 0} {o : Option X} {x y : X} → o ≡ Some x → y ≡ x → o ≡ Some y
+same_part {X} {o} {x} {y} is same = is ∙ ap (λ (z : X). Some z) (sym same)
+
+-- what is pending stays where the configuration is taken
+pend_still : (old : RedistParts) {taken : RedistParts} (v : ℕ) → taken ≡ set_conf old v None → pend_in old v ≡ pend_in taken v
+pend_still old v took = sym (ap (λ (r : RedistParts). pend_in r v) took)
+
+pub pend_mut-pend-requires : goal.pend_mut-pend-requires
+pend_mut-pend-requires c =
+    ap (λ (r : RedistParts). is_some (pend_in r c.args.vcpu.0)) c.take_conf-conf.ensures.taken
+    ∙ pend_there c.args.parts.now c.args.vcpu.0 c.requires c.if-vcpu-parts.false
 
 pub gicr_write-requires-clause-low : goal.gicr_write-requires-clause-low
-gicr_write-requires-clause-low c = bases_low c.args.parts.now c.args.vcpu.0 c.redist_mut-redist.result.now c.requires c.if-not-parts.false
-    c.redist_mut-redist.ensures.value
+gicr_write-requires-clause-low c =
+    bases_low c.args.parts.now c.args.vcpu.0 c.deref_mut.result.now c.requires c.if-not-parts.false
+    (same_part c.take_conf-conf.ensures.value c.deref_mut.ensures.value)
 
-pub gicr_write-requires-clause-lpis : goal.gicr_write-requires-clause-lpis
-gicr_write-requires-clause-lpis c = lpis_of c.args.parts.now c.args.vcpu.0 c.redist_mut-redist.result.now c.requires c.redist_mut-redist.ensures.value
+pub gicr_write-requires-clause-conf_lpis : goal.gicr_write-requires-clause-conf_lpis
+gicr_write-requires-clause-conf_lpis c =
+    conf_lpis c.args.parts.now c.args.vcpu.0 c.deref_mut.result.now c.requires (same_part c.take_conf-conf.ensures.value c.deref_mut.ensures.value)
+
+pub gicr_write-requires-clause-pend_lpis : goal.gicr_write-requires-clause-pend_lpis
+gicr_write-requires-clause-pend_lpis c =
+    pend_lpis c.args.parts.now c.args.vcpu.0 c.pend_mut-pend.result.now c.requires
+    (pend_still c.args.parts.now.redists c.args.vcpu.0 c.take_conf-conf.ensures.taken ∙ c.pend_mut-pend.ensures.value)
 
 pub returns : goal.returns
 returns c =
-    let p = c.args.parts.now in
-    let old = c.redist_mut-redist.result.now in
-    let is = c.redist_mut-redist.ensures.value in
-    gicr_goes p c.args.vcpu.0 old c.gicr_write.new.redist c.args.off c.args.size c.args.value c.requires c.if-not-parts.false is
-    (lpis_of p c.args.vcpu.0 old c.requires is) c.gicr_write.ensures.lpis c.gicr_write.ensures.written
+    gicr_left c.args.parts.now c.args.vcpu.0 c.deref_mut.result.now c.gicr_write.new.conf c.pend_mut-pend.result.now c.gicr_write.new.pend c.args.off
+    c.args.size c.args.value c.requires c.if-not-parts.false
+    (record {
+      conf = same_part c.take_conf-conf.ensures.value c.deref_mut.ensures.value;
+      pend = pend_still c.args.parts.now.redists c.args.vcpu.0 c.take_conf-conf.ensures.taken ∙ c.pend_mut-pend.ensures.value;
+    }) c.gicr_write.ensures.conf_lpis c.gicr_write.ensures.pend_lpis c.gicr_write.ensures.written c.take_conf-conf.new.self _ c.place_conf.new.self
+    c.take_conf-conf.ensures.taken refl c.place_conf.ensures.placed

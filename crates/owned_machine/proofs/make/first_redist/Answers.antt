@@ -1,42 +1,10 @@
-use Rattle.std.proofs.Common.{◌≡◌, ◌<◌, ℕ, List, length, get_or, sym, ap, subst, ◌∙◌}
-use Rattle.its_types.specs.declared.ids.Addr.{Addr}
-use Rattle.its_plain.specs.Machine.{HasTablesFor, described_bases}
-use Rattle.its_plain.specs.declared.desc.LpiTables.{LpiTables}
+use Rattle.std.proofs.Common.{sym, subst}
+use Rattle.lpi_pending.specs.PendingSets.{PendingSet}
 use Rattle.owned_machine.specs.Start.{IsFirstOf}
-use Rattle.owned_machine.proofs.Started.{described_first, off_first}
 use Rattle.owned_machine.proofs.make.first_redist.Goals as goal
 
-pub returns-in_ok-load-in-Described : goal.returns-in_ok-load-in-Described
-returns-in_ok-load-in-Described c =
-    let s = c.args.shape.now in
-    let memory = c.args.memory.now in
-    let v : ℕ = c.args.vcpu in
-    let z : Addr = record { 0 = 0 } in
-    let config = c.in-Described.config in
-    let pending = c.in-Described.pending in
-    let many : length pending ≡ s.vcpus = subst (λ (t : LpiTables). HasTablesFor s.vcpus t) c.in-Described.is c.requires.tables in
-    let lt : v < length pending = subst (λ (n : ℕ). v < n) (sym many) c.requires.vcpu in
-    let is : c.described.result ≡ described_bases config (get_or pending v z) =
-    c.described.ensures ∙ ap (λ (xs : List Addr). described_bases config (get_or xs c.from.result z)) c.as_slice.ensures
-    ∙ ap (λ (k : ℕ). described_bases config (get_or pending k z)) c.from.ensures
-    in
-    let loaded = c.in_ok-load-in-Described in
-    subst (λ (t : LpiTables). IsFirstOf s memory t v (record {
-      pending = c.in_ok-pending_lpis.pending_lpis;
-      config = loaded.field-0;
-      bases = c.described.result;
-    })) (sym c.in-Described.is)
-    (described_first s memory config pending v z c.in_ok-pending_lpis.pending_lpis loaded.field-0 c.described.result lt c.in_ok-pending_lpis.ensures
-    loaded.ensures.bits loaded.ensures.bytes is)
-
-pub returns-in_ok-zeros-in-Registers : goal.returns-in_ok-zeros-in-Registers
-returns-in_ok-zeros-in-Registers c =
-    let s = c.args.shape.now in
-    let zeros = c.in_ok-zeros-in-Registers in
-    subst (λ (t : LpiTables). IsFirstOf s c.args.memory.now t c.args.vcpu (record {
-      pending = c.in_ok-pending_lpis.pending_lpis;
-      config = zeros.field-0;
-      bases = c.off.result;
-    })) (sym c.in-Registers.is)
-    (off_first s c.args.memory.now c.in-Registers.field-0 c.args.vcpu c.in_ok-pending_lpis.pending_lpis zeros.field-0 c.off.result c.requires.vcpu
-    c.in_ok-pending_lpis.ensures zeros.ensures c.off.ensures)
+pub returns : goal.returns
+returns c =
+    let conf = c.in_ok-conf.conf in
+    subst (λ (x : PendingSet). IsFirstOf c.args.shape.now c.args.memory.now c.args.tables.now c.args.vcpu conf
+    (record { pending = x; accepts = conf.bases.on })) (sym c.in_ok-pending.ensures) c.in_ok-conf.ensures

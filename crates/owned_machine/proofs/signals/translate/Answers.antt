@@ -1,18 +1,34 @@
 use Rattle.std.proofs.Common.{sym, ap, ◌∙◌, ℕ}
 use Rattle.its_types.specs.Ranges.{is_lpi}
-use Rattle.owned_machine.proofs.Kept.{held, lpis_of, takes}
-use Rattle.owned_machine.proofs.Signalled.{target_is}
+use Rattle.its_plain.specs.Plain.{PendState}
+use Rattle.owned_parts.specs.Owned.{state_of_parts}
+use Rattle.owned_machine.proofs.Kept.{pend_there, pend_lpis, pend_here, takes}
+use Rattle.owned_machine.proofs.Signalled.{target_is, when_on, when_off}
 use Rattle.owned_machine.proofs.signals.translate.Goals as goal
 
-pub redist-requires : goal.redist-requires
-redist-requires c =
+pub pend-requires : goal.pend-requires
+pend-requires c =
     let t = target_is c.args.parts.now c.args.its c.args.dev.0 c.args.ev.0 c.in_ok-target.target c.requires
     (sym c.located.ensures ∙ c.in_ok-target.was) in
-    held c.args.parts.now c.in_ok-target.target.vcpu.0 c.requires t.0
+    pend_there c.args.parts.now c.in_ok-target.target.vcpu.0 c.requires t.0
 
 pub returns-clause-takes : goal.returns-clause-takes
 returns-clause-takes c =
     let p = c.args.parts.now in let target = c.in_ok-target.target in
     let t = target_is p c.args.its c.args.dev.0 c.args.ev.0 target c.requires (sym c.located.ensures ∙ c.in_ok-target.was) in
-    let h = lpis_of p target.vcpu.0 c.redist.result.now c.requires c.redist.ensures in
-    takes p.redists target.vcpu.0 target.intid.0 c.redist.result.now c.redist.ensures (ap (λ (b : ℕ). is_lpi b target.intid.0) h.pending_bits ∙ t.1)
+    let bits = pend_lpis p target.vcpu.0 c.pend.result.now c.requires c.pend.ensures in
+    takes p.redists target.vcpu.0 target.intid.0 c.pend.result.now c.pend.ensures (ap (λ (b : ℕ). is_lpi b target.intid.0) bits ∙ t.1)
+
+pub returns-then-not-pend-clause-target : goal.returns-then-not-pend-clause-target
+returns-then-not-pend-clause-target c =
+    let p = c.args.parts.now in let t = c.in_ok-target.target in
+    let here = pend_here p t.vcpu.0 c.pend.result.now c.requires c.pend.ensures in
+    when_off (state_of_parts p) c.args.its c.args.dev.0 c.args.ev.0 t (sym c.located.ensures ∙ c.in_ok-target.was)
+    (ap (λ (x : PendState). x.accepts) here ∙ c.if-not-pend.true)
+
+pub returns-clause-target : goal.returns-clause-target
+returns-clause-target c =
+    let p = c.args.parts.now in let t = c.in_ok-target.target in
+    let here = pend_here p t.vcpu.0 c.pend.result.now c.requires c.pend.ensures in
+    when_on (state_of_parts p) c.args.its c.args.dev.0 c.args.ev.0 t (sym c.located.ensures ∙ c.in_ok-target.was)
+    (ap (λ (x : PendState). x.accepts) here ∙ c.if-not-pend.false)

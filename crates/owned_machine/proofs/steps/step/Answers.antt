@@ -9,9 +9,9 @@ use Rattle.owned_machine.proofs.Lists.{first_there, second_there}
 use Rattle.owned_machine.proofs.Stepped.{first_steps, second_steps, holds_all}
 use Rattle.owned_machine.proofs.steps.step.Goals as goal
 
-both_ok : {A E : Type 0} (P Q R : Type 0) (r : Result A E) → (P → Q → R) → OnOk r P → OnOk r Q → IfOk r (λ _. R)
-both_ok P Q R (Ok x) f p q = f p q
-both_ok P Q R (Err e) f p q = tt
+all_ok : {A E : Type 0} (P Q S R : Type 0) (r : Result A E) → (P → Q → S → R) → OnOk r P → OnOk r Q → OnOk r S → IfOk r (λ _. R)
+all_ok P Q S R (Ok x) f p q s = f p q s
+all_ok P Q S R (Err e) f p q s = tt
 
 pub step_of-requires-clause-parts : goal.step_of-requires-clause-parts
 step_of-requires-clause-parts c =
@@ -31,9 +31,9 @@ pub returns-then-its-eq0-clause-left : goal.returns-then-its-eq0-clause-left
 returns-then-its-eq0-clause-left c =
     let p = c.args.parts.now in
     let parts = parts_are p 0 p.first c.requires (first_there (translator_of p.first) (option_map translator_of p.second)) in
-    both_ok _ _ _ c.step_of.result
-    (λ h hand. first_steps p c.args.its c.step_of.new.translator c.step_of.new.redists c.requires c.if-its-eq0.true hand (h (state_of_parts p) 0 parts))
-    c.step_of.ensures.left c.step_of.ensures.hand
+    all_ok _ _ _ _ c.step_of.result
+    (λ h confs pends. first_steps p c.args.its c.step_of.new.translator c.step_of.new.redists c.requires c.if-its-eq0.true
+    (record { confs = confs; pends = pends }) (h (state_of_parts p) 0 parts)) c.step_of.ensures.left c.step_of.ensures.confs c.step_of.ensures.pends
 
 pub returns-then-its-eq0-clause-adding : goal.returns-then-its-eq0-clause-adding
 returns-then-its-eq0-clause-adding c =
@@ -70,9 +70,10 @@ returns-in-Some-clause-left c =
     let s = c.in-Some.second in
     let parts = parts_are p 1 s c.requires
     (second_there (translator_of p.first) (translator_of s) (option_map translator_of p.second) (ap (option_map translator_of) c.in-Some.is)) in
-    both_ok _ _ _ c.step_of-in-Some.result
-    (λ h hand. second_steps p c.args.its s c.step_of-in-Some.new.translator c.step_of-in-Some.new.redists c.requires c.if-its-eq1.true c.in-Some.is hand
-    (h (state_of_parts p) 1 parts)) c.step_of-in-Some.ensures.left c.step_of-in-Some.ensures.hand
+    all_ok _ _ _ _ c.step_of-in-Some.result
+    (λ h confs pends. second_steps p c.args.its s c.step_of-in-Some.new.translator c.step_of-in-Some.new.redists c.requires c.if-its-eq1.true c.in-Some.is
+    (record { confs = confs; pends = pends }) (h (state_of_parts p) 1 parts)) c.step_of-in-Some.ensures.left c.step_of-in-Some.ensures.confs
+    c.step_of-in-Some.ensures.pends
 
 pub returns-in-Some-clause-adding : goal.returns-in-Some-clause-adding
 returns-in-Some-clause-adding c =

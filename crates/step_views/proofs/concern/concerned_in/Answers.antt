@@ -1,4 +1,5 @@
-use Rattle.step_views.proofs.Meeting.{stays_still, stays_met}
+use Rattle.std.proofs.Common.{sym, ◌∙◌}
+use Rattle.step_views.proofs.Meeting.{neither, stays_still, stays_met}
 use Rattle.step_views.proofs.OfMachine.{targets}
 use Rattle.step_views.proofs.concern.concerned_in.Goals as goal
 
@@ -11,5 +12,7 @@ returns-in-Still c =
 
 pub returns-in-Command : goal.returns-in-Command
 returns-in-Command c =
-    λ i at vcpu out. stays_met c.args.parts.now c.args.translator c.requires.whole i at c.in-Command.command c.needs.result vcpu c.in-Command.ensures
-    c.needs.ensures.parts out
+    λ i at vcpu out.
+    let both = neither _ _ (sym (c.of_both.ensures vcpu) ∙ out) in
+    stays_met c.args.parts.now c.args.translator c.requires.whole i at c.in-Command.command c.needs.result vcpu c.in-Command.ensures c.needs.ensures.parts
+    both.0 both.1

@@ -1,7 +1,7 @@
 use Rattle.std.proofs.Common.{ap, arith}
 use Rattle.std.specs.Prelude.{is_some}
 use Rattle.its_plain.specs.Regions.{pending_area}
-use Rattle.table_save.proofs.Redistributors.{area_more}
+use Rattle.table_save.proofs.Redistributors.{area_more, areas_done}
 use Rattle.table_save.proofs.areas.add_pending.Goals as goal
 
 pub conf-conf-requires : goal.conf-conf-requires
@@ -17,4 +17,15 @@ loop-vcpu-preserved c =
           c.add_pending_of.new.areas.items _ c.loop-vcpu-test.true (record { conf = c.conf-conf.ensures; pend = pend.1 }) more.items v.items;
       few = omega (arith, more.few, v.few);
       capacity = omega (arith, more.capacity, v.capacity);
+    }
+
+pub returns : goal.returns
+returns c =
+    let v = c.loop-vcpu.invariant in
+    let most = c.requires.shape.most_vcpus in
+    record {
+      items = areas_done (pending_area c.args.shape) c.args.shape c.loop-vcpu.vcpu c.args.redists.now c.loop-vcpu.areas.items _ (omega (arith, c.loop-vcpu-test.false))
+          v.items;
+      few = omega (arith, v.few, most, c.loop-vcpu.auto.vcpu-end);
+      capacity = v.capacity;
     }

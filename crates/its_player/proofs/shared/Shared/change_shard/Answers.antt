@@ -1,4 +1,4 @@
-use Rattle.std.proofs.Common.{◌≡◌, true, cond, ap, sym, ◌∙◌}
+use Rattle.std.proofs.Common.{◌≡◌, cond, ap, sym, ◌∙◌}
 use Rattle.xlate_cache.specs.Ways.{entry, filled}
 use Rattle.its_steps.specs.Parts.{stamp_of}
 use Rattle.its_steps.specs.Renewal.{changed}
