@@ -1,5 +1,5 @@
 -- What the redistributors in hand read of their tables, one after another, each stretch told once.
-use Rattle.std.proofs.Common.{◌≡◌, ℕ, suc, ◌+◌, ◌<◌, Bool, true, false, ◌&&◌, ◌||◌, eqb, map, cond, List, [], ◌∷◌, ◌++◌, drop, Some, inl, inr, refl, sym, ap, subst, ◌∙◌, add-one}
+use Rattle.std.proofs.Common.{◌≡◌, ℕ, suc, ◌+◌, ◌<◌, ◌≤◌, Bool, true, false, ◌&&◌, ◌||◌, eqb, map, cond, List, [], ◌∷◌, ◌++◌, drop, Some, inl, inr, refl, sym, ap, subst, ◌∙◌, add-one}
 use Rattle.std.proofs.lemmas.Bool.{and_parts, or_cases, eqb-true}
 use Rattle.std.specs.List.{AllByRecursion, flat_map, list_any}
 use Rattle.its_types.specs.declared.machine.Shape.{Shape}
@@ -8,7 +8,7 @@ use Rattle.lpi_config.specs.Conf.{conf_state}
 use Rattle.lpi_config.specs.declared.conf.Conf.{Conf}
 use Rattle.lpi_pending.specs.InHand.{RedistParts, conf_in}
 use Rattle.owned_parts.specs.Owned.{HasPend}
-use Rattle.owned_parts.proofs.Places.{drop_to_place}
+use Rattle.owned_parts.proofs.Places.{drop_to_place, none_left}
 use Rattle.table_save.specs.Areas.{redistributors_of}
 use Rattle.step_views.specs.declared.stretch_list.Stretch.{Stretch}
 use Rattle.step_views.specs.Pairs.{pair_of, is_same, is_told, with_stretch, all_told}
@@ -74,6 +74,12 @@ read_more read shape v redists c before now whole lt is pend more so_far =
     rw add-one (ap (λ (xs : List (ℕ × ℕ)). all_told xs rest) more ∙ sym (told_more before here rest)
     ∙ ap (λ (ds : List Redistributor). all_told before (all ds))
     (sym (drop_to_place redists shape.vcpus v c pend.0 lt (record { conf = is; pend = pend.1 }))) ∙ so_far)
+
+-- no redistributor is left
+pub read_done : (read : ConfState → List (ℕ × ℕ)) (shape : Shape) (v : ℕ) (redists : RedistParts) (now whole : List (ℕ × ℕ)) → shape.vcpus ≤ v
+    → all_told now (flat_map (λ r. read (conf_of r)) (drop v (redistributors_of shape redists))) ≡ whole → now ≡ whole
+read_done read shape v redists now whole le so_far =
+    sym (ap (λ (ds : List Redistributor). all_told now (flat_map (λ (r : Redistributor). read (conf_of r)) ds)) (none_left redists shape.vcpus v le)) ∙ so_far
 
 -- the command's own bytes, and then the others
 pub read_first : (none one whole rest : List (ℕ × ℕ)) (a b : ℕ) → none ≡ [] → one ≡ with_stretch none (a, 32) → a ≡ b → whole ≡ all_told one rest

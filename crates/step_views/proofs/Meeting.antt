@@ -1,6 +1,7 @@
 -- What a translator meets, and what a step then reads and leaves.
 use Rattle.std.proofs.Common.{◌≡◌, ℕ, Bool, true, false, cond, List, [], ◌∷◌, Option, Some, None, Result, Ok, Err, refl, sym, ap, subst, ◌∙◌}
 use Rattle.std.specs.Prelude.{not, ◌&&◌, ◌||◌, is_ok, slice_get}
+use Rattle.std.proofs.lemmas.Bool.{both_ways}
 use Rattle.std.proofs.lemmas.Option.{same_Some}
 use Rattle.gits_regs.specs.Registers.{Registers, queue_place}
 use Rattle.its_command.specs.declared.command.Command.{Command}
@@ -158,13 +159,10 @@ module _ (p : Parts) (t : TranslatorRef) (m : IsMachine p) (i : ℕ) (at : IsNum
   unfolding left footprint
   stays_met c n v met parts no_conf no_pend =
       sym (same_both (slice_get u.redistributors v) (slice_get (step_left u i).redistributors v)
-      (other_parts u (call.Step i) (conf v) m.sound (λ here. out (conf v) no_conf (is_part (conf v) here)))
-      (other_parts u (call.Step i) (pend v) m.sound (λ here. out (pend v) no_pend (is_part (pend v) here))))
+      (other_parts u (call.Step i) (conf v) m.sound (λ here. both_ways (is_in n.confs v) no_conf (is_part (conf v) here)))
+      (other_parts u (call.Step i) (pend v) m.sound (λ here. both_ways (is_in n.pends v) no_pend (is_part (pend v) here))))
     where
       is_part : (q : Part) → IsIn q (footprint u (call.Step i)) → IsPartOf i n q
       is_part q here =
           (parts u i refl (sym same_maps) q).0
           (subst (λ (ps : List Part). IsIn q (MapsOf i ∷ Mem ∷ ps)) (met_needs u i c (met_here c met)) here)
-
-      out : (q : Part) {b : Bool} → b ≡ false → b ≡ true → ⊥
-      out q no yes = absurd (let none = sym yes ∙ no in cc)

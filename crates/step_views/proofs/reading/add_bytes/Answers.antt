@@ -1,7 +1,7 @@
 use Rattle.std.proofs.Common.{ap, arith}
 use Rattle.std.specs.Prelude.{is_some}
 use Rattle.step_views.specs.Reads.{byte_read}
-use Rattle.step_views.proofs.Listing.{read_more}
+use Rattle.step_views.proofs.Listing.{read_more, read_done}
 use Rattle.step_views.proofs.reading.add_bytes.Goals as goal
 
 pub conf-requires : goal.conf-requires
@@ -15,3 +15,8 @@ loop-vcpu-preserved c =
           c.add_byte.new.needs _ c.loop-vcpu-test.true c.conf.ensures (c.requires.in_hand c.loop-vcpu.vcpu c.loop-vcpu-test.true).1 c.add_byte.ensures.more v.listed;
       few = omega (arith, c.add_byte.ensures.few, v.few);
     }
+
+pub returns : goal.returns
+returns c =
+    read_done (byte_read c.args.intid.0) c.args.shape c.loop-vcpu.vcpu c.args.redists.now c.loop-vcpu.needs _ (omega (arith, c.loop-vcpu-test.false))
+    c.loop-vcpu.invariant.listed
