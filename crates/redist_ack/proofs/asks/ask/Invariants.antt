@@ -1,4 +1,3 @@
-use Rattle.std.proofs.Common.{◌≡◌}
 use Rattle.its_types.specs.declared.machine.Part.TheVariants as part
 use Rattle.its_turns.specs.Calls.{StillAsks, IsEither}
 use Rattle.its_turns.specs.Machines.{view, IsOf}
