@@ -55,21 +55,27 @@ fn needed(alloc: Global, command: &Command) -> Needed {
     needs(command, &regs, &maps, &SHAPE)
 }
 
-// Whether INVALL needs the configurations of all processors, and MOVALL what is pending at just two.
+fn are(set: RedistSet, vcpus: &[u8]) -> bool {
+    set.redists().map(|vcpu| vcpu.0).eq(vcpus.iter().copied())
+}
+
+// Whether INVALL needs the configurations of all processors, and MOVALL what is pending at just
+// two; neither needs more.
 fn needs_hold(alloc: Global) -> bool {
-    let all = needed(alloc, &Command::Invall { icid: Icid(0) });
+    let invall = needed(alloc, &Command::Invall { icid: Icid(0) });
     let movall = Command::Movall {
         from: RdBase::new(3),
         to: RdBase::new(1),
     };
-    let two = needed(alloc, &movall);
-    all.pends == RedistSet::new()
-        && all.confs.has(Vcpu(0))
-        && !all.confs.has(Vcpu(4))
-        && two.confs == RedistSet::new()
-        && two.pends.has(Vcpu(3))
-        && !two.pends.has(Vcpu(2))
-        && two.pends.redists().map(|vcpu| vcpu.0).eq([1, 3].iter().copied())
+    let moved = needed(alloc, &movall);
+    invall.confs.has(Vcpu(0))
+        && !invall.confs.has(Vcpu(4))
+        && moved.pends.has(Vcpu(3))
+        && !moved.pends.has(Vcpu(2))
+        && are(invall.confs, &[0, 1, 2, 3])
+        && are(invall.pends, &[])
+        && are(moved.confs, &[])
+        && are(moved.pends, &[1, 3])
 }
 
 #[test]

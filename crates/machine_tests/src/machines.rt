@@ -193,8 +193,7 @@ const FIRST: Option<MakeError> = Some(MakeError::Fault(DescFault::Frames(0)));
 
 const SECOND: Option<MakeError> = Some(MakeError::Fault(DescFault::Frames(1)));
 
-// Frames of both translators. The window begins at 0x8000_0000, and has 2 MiB. Where both meet, the
-// first are told.
+// Frames of both translators, of which the first is told where they meet. The window begins at 0x8000_0000, and has 2 MiB.
 const FRAMES: [((u64, u64), Option<MakeError>); 6] = [
     ((0x7ffe_0000, 0x8020_0000), None),
     ((0x7ffe_0001, 0x8020_0000), FIRST),

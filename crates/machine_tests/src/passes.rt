@@ -186,7 +186,8 @@ fn play(alloc: Global, acts: &[Act]) -> Result<usize, Fail> {
 
 const MAPS: Part = Part::Maps(0);
 
-const ALL: [Part; 6] = [
+// What MAPTI takes.
+const MAPPING: [Part; 6] = [
     MAPS,
     Part::Mem,
     Part::Conf(Vcpu(0)),
@@ -195,8 +196,18 @@ const ALL: [Part; 6] = [
     Part::Conf(Vcpu(3)),
 ];
 
+const PENDING: [Part; 4] = [
+    Part::Pend(Vcpu(0)),
+    Part::Pend(Vcpu(1)),
+    Part::Pend(Vcpu(2)),
+    Part::Pend(Vcpu(3)),
+];
+
 // What a signal takes that the cache has.
 const CACHED: [Part; 2] = [Part::Shard(0, 3), Part::Pend(Vcpu(2))];
+
+// The same, with the other part of the redistributor.
+const MISTAKEN: [Part; 2] = [Part::Shard(0, 3), Part::Conf(Vcpu(2))];
 
 const MAPD: [u8; 32] = [
     8, 0, 0, 0, 16, 0, 0, 0, 4, 0, 0, 0, 0, 0, 0, 0, 0, 0, 12, 128, 0, 0, 0, 128, 0, 0, 0, 0, 0, 0,
@@ -239,8 +250,8 @@ const FILL: ShardChange = ShardChange::Fill(
     },
 );
 
-// The calls of places 0 to 13.
-const PREPARED: [Act; 14] = [
+// The calls of places 0 to 13. MAPTI runs while another pass has all that is pending.
+const PREPARED: [Act; 16] = [
     Act::Write(1, 0x100, 8, 0x8107_0000_8000_0200),
     Act::Write(1, 0x108, 8, 0x8407_0000_8001_0200),
     Act::Write(1, 0x80, 8, 0x8000_0000_8002_0000),
@@ -251,7 +262,9 @@ const PREPARED: [Act; 14] = [
     Act::Write(1, 0x88, 8, 0x60),
     Act::Run(1, &[MAPS, Part::Mem], 0, Op::Mapd),
     Act::Run(1, &[MAPS, Part::Mem], 0, Op::Mapc),
-    Act::Run(1, &ALL, 0, Op::Mapti),
+    Act::Take(2, &PENDING),
+    Act::Run(1, &MAPPING, 0, Op::Mapti),
+    Act::Give(2, &PENDING),
     Act::Signal(
         2,
         &[MAPS, Part::Shard(0, 3), Part::Pend(Vcpu(2))],
@@ -302,27 +315,13 @@ fn a_signal_is_overtaken(rt: HostRuntime) -> Result<(), Fail> {
     Ok(())
 }
 
-// While one pass holds all that a command reads of configurations, another makes a signal.
-const BESIDE: [Act; 6] = [
-    Act::Take(3, &ALL),
-    Act::Signal(4, &CACHED, 0, DELIVERED, ShardChange::Keep),
-    Act::IsAt(0, 15),
-    Act::Give(3, &ALL),
-    Act::Run(3, &[MAPS, Part::Mem], 1, Op::Mapd),
-    Act::IsAt(1, 16),
-];
-
-#[test]
-fn a_signal_goes_on_beside_configurations_that_are_held(rt: HostRuntime) -> Result<(), Fail> {
-    assert_eq!(rt; play(rt.alloc(), &BESIDE)?, 6);
-    Ok(())
-}
-
 // Without the maps no other reply is allowed, and with another's part no commit.
-const NOT_ALLOWED: [Act; 6] = [
+const NOT_ALLOWED: [Act; 8] = [
     Act::Signal(4, &[Part::Mem], 0, DELIVERED, ShardChange::Keep),
     Act::IsAt(0, 14),
     Act::Signal(4, &[MAPS], 0, DROPPED, ShardChange::Keep),
+    Act::IsAt(0, 14),
+    Act::Signal(4, &MISTAKEN, 0, DELIVERED, ShardChange::Keep),
     Act::IsAt(0, 14),
     Act::Step(9, Kind::Load),
     Act::Last(9, None),
@@ -330,6 +329,6 @@ const NOT_ALLOWED: [Act; 6] = [
 
 #[test]
 fn what_is_not_allowed_changes_nothing(rt: HostRuntime) -> Result<(), Fail> {
-    assert_eq!(rt; play(rt.alloc(), &NOT_ALLOWED)?, 6);
+    assert_eq!(rt; play(rt.alloc(), &NOT_ALLOWED)?, 8);
     Ok(())
 }

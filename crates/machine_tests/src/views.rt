@@ -52,19 +52,27 @@ const WORDS: [(u64, u64); 32] = [
     (0x8002_01c0, 0x5_0000_0008),
 ];
 
-// What the next command reads beside its own bytes, so many times the same stretch; the virtual
-// processors that it concerns, and whether it adds an event. Then, once it is taken, where event 3
-// of device 5 leads, and how many events are mapped.
-type Row = (usize, (u64, u64), [bool; 4], bool, Destination, u64);
+// What the next command reads beside its own bytes; the virtual processors that it concerns, and
+// whether it adds an event. Then, once it is taken, where event 3 of device 5 leads, and how many
+// events are mapped.
+type Row = (Option<Stretch>, [bool; 4], bool, Destination, u64);
 
-const NOTHING: (u64, u64) = (0, 0);
+// The level-1 entry of the first devices, the configuration byte of LPI 8199, and the whole table,
+// which all processors share.
+const LEVEL1: Option<Stretch> = Some(Stretch {
+    address: Addr(0x8008_0000),
+    length: 8,
+});
 
-// The level-1 entry of the first devices, the configuration byte of LPI 8199, and the whole table.
-const LEVEL1: (u64, u64) = (0x8008_0000, 8);
+const BYTE: Option<Stretch> = Some(Stretch {
+    address: Addr(0x8003_0007),
+    length: 1,
+});
 
-const BYTE: (u64, u64) = (0x8003_0007, 1);
-
-const TABLE: (u64, u64) = (0x8003_0000, 57_344);
+const TABLE: Option<Stretch> = Some(Stretch {
+    address: Addr(0x8003_0000),
+    length: 57_344,
+});
 
 const NONE: [bool; 4] = [false; 4];
 
@@ -84,33 +92,29 @@ const SECOND: Destination = Destination::Processor {
 };
 
 const ROWS: [Row; 15] = [
-    (1, LEVEL1, NONE, false, NO_EVENT, 0),
-    (0, NOTHING, NONE, false, NO_EVENT, 0),
-    (0, NOTHING, NONE, false, NO_EVENT, 0),
-    (0, NOTHING, ALL, false, NO_EVENT, 0),
-    (4, BYTE, ALL, true, SECOND, 1),
-    (0, NOTHING, ALL, false, SECOND, 1),
-    (0, NOTHING, ALL, false, SECOND, 1),
-    (0, NOTHING, [false, false, true, false], false, SECOND, 1),
-    (4, BYTE, ALL, false, SECOND, 1),
-    (4, TABLE, ALL, false, SECOND, 1),
-    (0, NOTHING, ALL, false, SECOND, 1),
-    (0, NOTHING, [true, false, true, false], false, SECOND, 1),
-    (0, NOTHING, NONE, false, SECOND, 1),
-    (0, NOTHING, NONE, false, NO_COLLECTION, 1),
-    (0, NOTHING, NONE, false, Destination::NoDevice, 0),
+    (LEVEL1, NONE, false, NO_EVENT, 0),
+    (None, NONE, false, NO_EVENT, 0),
+    (None, NONE, false, NO_EVENT, 0),
+    (None, ALL, false, NO_EVENT, 0),
+    (BYTE, ALL, true, SECOND, 1),
+    (None, ALL, false, SECOND, 1),
+    (None, ALL, false, SECOND, 1),
+    (None, [false, false, true, false], false, SECOND, 1),
+    (BYTE, ALL, false, SECOND, 1),
+    (TABLE, ALL, false, SECOND, 1),
+    (None, ALL, false, SECOND, 1),
+    (None, [true, false, true, false], false, SECOND, 1),
+    (None, NONE, false, SECOND, 1),
+    (None, NONE, false, NO_COLLECTION, 1),
+    (None, NONE, false, Destination::NoDevice, 0),
 ];
 
-// So many times this stretch, after the command's own 32 bytes.
-fn reads_just(list: &[Stretch], count: usize, expected: (u64, u64)) -> bool {
+// Just this stretch, or none, after the command's own 32 bytes.
+fn reads_just(list: &[Stretch], expected: Option<Stretch>) -> bool {
     let Some((first, rest)) = list.split_first() else {
         return false;
     };
-    let stretch = Stretch {
-        address: Addr(expected.0),
-        length: expected.1,
-    };
-    first.length == 32 && rest.len() == count && rest.iter().all(|other| *other == stretch)
+    first.length == 32 && rest.first().copied() == expected && rest.len() <= 1
 }
 
 // Whether the machine's next command is seen as the row says.
@@ -124,9 +128,9 @@ fn is_seen(parts: &Parts, row: &Row) -> bool
         set.has(Vcpu(2)),
         set.has(Vcpu(3)),
     ];
-    reads_just(needs(parts, 0).as_slice(), row.0, row.1)
-        && concerns == row.2
-        && adds_event(parts, 0) == row.3
+    reads_just(needs(parts, 0).as_slice(), row.0)
+        && concerns == row.1
+        && adds_event(parts, 0) == row.2
 }
 
 fn leads(parts: &Parts, to: &Destination, count: u64) -> bool
@@ -144,7 +148,7 @@ fn step(alloc: Global, machine: &mut Machine) -> Result<(), AllocError> {
 fn is_taken(alloc: Global, machine: &mut Machine, row: &Row) -> Result<bool, AllocError> {
     let seen = is_seen(machine.parts(), row);
     step(alloc, machine)?;
-    Ok(seen && leads(machine.parts(), &row.4, row.5))
+    Ok(seen && leads(machine.parts(), &row.3, row.4))
 }
 
 // How many of the rows are so, before one that isn't.

@@ -25,6 +25,8 @@ mod its_maps_tests;
 #[cfg(test)]
 mod lpi_config_tests;
 #[cfg(test)]
+mod lpi_pending_acts;
+#[cfg(test)]
 mod lpi_pending_set_tests;
 #[cfg(test)]
 mod lpi_pending_tests;

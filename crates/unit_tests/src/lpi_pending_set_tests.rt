@@ -1,5 +1,5 @@
 //! Pending sets: their words, and LPIs that are moved or listed.
-use crate::lpi_pending_tests::put;
+use crate::lpi_pending_acts::put;
 use its_types::Intid;
 use lpi_pending::{Pending, first_nonzero};
 use std::alloc::{AllocError, Global};

@@ -1,218 +1,10 @@
 //! Redistributors in hand: what is pending, which LPI comes first, and registers.
+use crate::lpi_pending_acts::{Act, Redistributor, off, play};
 use guest_windows::Memory;
-use its_types::{Addr, Bases, Intid, Profile, Shape, Vcpu};
-use lpi_config::{Conf, Config};
-use lpi_pending::{
-    Pend, Pending, Redists, changes_pending, conf_set, conf_write, gicr_read, gicr_write,
-    reads_tables, turn_off_write,
-};
-use std::alloc::{AllocError, Global};
+use its_types::{Addr, Vcpu};
+use lpi_pending::Redists;
+use std::alloc::Global;
 use std::test::Fail;
-
-// What a redistributor is told or asked, and the answer.
-enum Act {
-    Set(u32),
-    Clear(u32),
-    Has(u32, bool),
-    // A byte of the pending table.
-    SetByte(u32, u8),
-    Byte(u32, u8),
-    // An LPI's configuration byte.
-    Reload(u32, u8),
-    Config(u32, u8),
-    FirstEnabled(Option<u32>),
-    // The first by priority below a mask.
-    Best(u8, Option<u32>),
-    // Whether it may be claimed.
-    Claims(u32, bool),
-    // So many bytes at an offset of its registers.
-    Write(u32, u8, u64),
-    Read(u32, u8, u64),
-    // Whether it takes LPIs.
-    Accepts(bool),
-}
-
-/// Whether that is an LPI, which is then pending or isn't any more.
-pub fn put(pending: &mut Pending, lpi: u32, on: bool) -> bool {
-    let intid = Intid(lpi);
-    if !intid.in_range(pending.lpi_bits()) {
-        return false;
-    }
-    if on {
-        pending.set(intid);
-    } else {
-        pending.clear(intid);
-    }
-    true
-}
-
-fn has(pending: &Pending, lpi: u32) -> Option<bool> {
-    let intid = Intid(lpi);
-    if intid.in_range(pending.lpi_bits()) {
-        Some(pending.has(intid))
-    } else {
-        None
-    }
-}
-
-// Whether it is a byte of the table, which then has this value.
-fn set_byte(pending: &mut Pending, n: u32, byte: u8) -> bool {
-    if pending.lpi_bits() != 14 || n < 1024 || n >= 2048 {
-        return false;
-    }
-    pending.set_byte(n, byte);
-    true
-}
-
-fn byte(pending: &Pending, n: u32) -> Option<u8> {
-    if pending.lpi_bits() != 14 || n < 1024 || n >= 2048 {
-        return None;
-    }
-    Some(pending.byte(n))
-}
-
-fn reload(config: &mut Config, lpi: u32, byte: u8) -> bool {
-    let intid = Intid(lpi);
-    if !intid.in_range(config.lpi_bits()) {
-        return false;
-    }
-    config.reload(intid, byte);
-    true
-}
-
-fn configured(config: &Config, lpi: u32) -> Option<u8> {
-    let intid = Intid(lpi);
-    if !intid.in_range(config.lpi_bits()) {
-        return None;
-    }
-    Some(config.byte(intid))
-}
-
-fn first_enabled(pending: &Pending, config: &Config) -> Option<u32> {
-    if pending.lpi_bits() != config.lpi_bits() {
-        return Some(0);
-    }
-    let first = pending.first_enabled(config)?;
-    Some(first.0)
-}
-
-fn best(pending: &Pending, config: &Config, mask: u8) -> Option<u32> {
-    if pending.lpi_bits() != config.lpi_bits() {
-        return Some(0);
-    }
-    let first = pending.first_by_priority(config, mask)?;
-    Some(first.0)
-}
-
-fn claims(pending: &Pending, config: &Config, lpi: u32) -> Option<bool> {
-    if pending.lpi_bits() != config.lpi_bits() {
-        return None;
-    }
-    match pending.claimable(config, Intid(lpi)) {
-        Some(intid) => Some(intid.0 == lpi),
-        None => Some(false),
-    }
-}
-
-// Above each address that a base register has.
-const END: u64 = 1 << 52;
-
-// With no more than the write needs of the redistributor and of memory.
-fn write(
-    conf: &mut Conf,
-    pend: &mut Pend,
-    memory: &Memory,
-    shape: &Shape,
-    off: u32,
-    size: u8,
-    value: u64,
-) -> bool {
-    let Bases {
-        prop,
-        pend: table,
-        ..
-    } = conf.bases;
-    if prop.table.0 >= END || table.table.0 >= END {
-        return false;
-    }
-    let bits = shape.lpi_bits;
-    if pend.pending.lpi_bits() != bits || conf.config.lpi_bits() != bits {
-        return false;
-    }
-    let reads = reads_tables(conf, off, size, value);
-    if changes_pending(conf, off, size, value) {
-        if reads {
-            gicr_write(conf, pend, memory, shape, off, size, value);
-        } else {
-            turn_off_write(conf, pend, shape, off, size, value);
-        }
-    } else if reads {
-        conf_write(conf, memory, shape, off, size, value);
-    } else {
-        conf_set(conf, off, size, value);
-    }
-    true
-}
-
-fn read(conf: &Conf, linux: bool, off: u32, size: u8) -> Option<u64> {
-    let Bases { prop, pend, .. } = conf.bases;
-    if prop.table.0 >= END || pend.table.0 >= END {
-        return None;
-    }
-    Some(gicr_read(linux, conf, off, size))
-}
-
-// Whether the redistributor does as the act says.
-fn does(conf: &mut Conf, pend: &mut Pend, memory: &Memory, shape: &Shape, act: &Act) -> bool {
-    let pending = &mut pend.pending;
-    let config = &mut conf.config;
-    match act {
-        Act::Set(lpi) => put(pending, *lpi, true),
-        Act::Clear(lpi) => put(pending, *lpi, false),
-        Act::Has(lpi, want) => has(pending, *lpi) == Some(*want),
-        Act::SetByte(n, byte) => set_byte(pending, *n, *byte),
-        Act::Byte(n, want) => byte(pending, *n) == Some(*want),
-        Act::Reload(lpi, byte) => reload(config, *lpi, *byte),
-        Act::Config(lpi, want) => configured(config, *lpi) == Some(*want),
-        Act::FirstEnabled(want) => first_enabled(pending, config) == *want,
-        Act::Best(mask, want) => best(pending, config, *mask) == *want,
-        Act::Claims(lpi, want) => claims(pending, config, *lpi) == Some(*want),
-        Act::Write(off, size, value) => write(conf, pend, memory, shape, *off, *size, *value),
-        Act::Read(off, size, value) => read(conf, shape.linux, *off, *size) == Some(*value),
-        Act::Accepts(want) => pend.accepts == *want,
-    }
-}
-
-// A redistributor whose LPIs are off.
-fn off(alloc: Global) -> Result<(Conf, Pend), AllocError> {
-    let conf = Conf {
-        config: Config::zeros(alloc, 14)?,
-        bases: Bases::off(),
-    };
-    let pend = Pend {
-        pending: Pending::new(alloc, 14)?,
-        accepts: false,
-    };
-    Ok((conf, pend))
-}
-
-// How many of the acts it does as they say, up to the first that it doesn't.
-fn play(alloc: Global, memory: &Memory, linux: bool, acts: &[Act]) -> Result<usize, AllocError> {
-    let shape = Shape {
-        vcpus: 1,
-        dev_bits: 16,
-        lpi_bits: 14,
-        profile: Profile::One,
-        linux,
-    };
-    let (mut conf, mut pend) = off(alloc)?;
-    for (at, act) in acts.iter().enumerate() {
-        if !does(&mut conf, &mut pend, memory, &shape, act) {
-            return Ok(at);
-        }
-    }
-    Ok(acts.len())
-}
 
 const PENDING: &[Act] = &[
     Act::FirstEnabled(None),
@@ -330,7 +122,9 @@ const OTHER_TABLES: &[Act] = &[
 const TURNED_OFF: &[Act] = &[
     Act::Write(0x70, 8, 0x8003_0000),
     Act::Write(0x78, 8, 0x8006_0000),
+    Act::Read(0x0, 4, 6),
     Act::Write(0x0, 4, 1),
+    Act::Read(0x0, 4, 7),
     Act::Write(0x0, 4, 0),
     Act::Write(0x70, 8, 0x8004_0000),
     Act::Read(0x0, 4, 6),
@@ -347,23 +141,30 @@ const LEFT_ON: &[Act] = &[
     Act::Write(0x0, 4, 0),
     Act::Write(0x70, 8, 0x8004_0000),
     Act::Read(0x0, 4, 1),
+    Act::Accepts(true),
     Act::Has(8200, true),
     Act::Config(8200, 0xa1),
     Act::Read(0x70, 8, 0x8003_0000),
 ];
 
-// An LPI's byte is read again, and then those of all.
+// GICR_INVLPIR and GICR_INVALLR read the configuration again, where LPIs are on.
 const READ_AGAIN: &[Act] = &[
     Act::Write(0x70, 8, 0x8003_0000),
     Act::Write(0x78, 8, 0x8006_0000),
+    Act::Reload(8200, 0x41),
+    Act::Write(0xa0, 8, 8200),
+    Act::Write(0xb0, 8, 0),
+    Act::Config(8200, 0x41),
     Act::Write(0x0, 4, 1),
-    Act::Reload(8200, 0),
-    Act::Reload(8201, 0xff),
+    Act::Reload(8200, 0x41),
+    Act::Reload(8201, 0x41),
     Act::Write(0xa0, 8, 8200),
     Act::Config(8200, 0xa1),
-    Act::Config(8201, 0xff),
-    Act::Write(0xb0, 8, 0),
+    Act::Config(8201, 0x41),
+    Act::Write(0xb0, 4, 0),
     Act::Config(8201, 0),
+    Act::Has(8200, true),
+    Act::Accepts(true),
 ];
 
 // LPI 8200 is enabled in one table, and pending in the other.
@@ -389,6 +190,7 @@ fn redistributors_do_as_they_are_told(rt: HostRuntime) -> Result<(), Fail> {
         (true, TURNED_OFF),
         (false, LEFT_ON),
         (false, READ_AGAIN),
+        (true, READ_AGAIN),
     ] {
         assert_eq!(rt; play(rt.alloc(), &memory, linux, acts)?, acts.len());
     }
@@ -397,19 +199,23 @@ fn redistributors_do_as_they_are_told(rt: HostRuntime) -> Result<(), Fail> {
 
 #[test]
 fn redistributors_in_hand(rt: HostRuntime) -> Result<(), Fail> {
-    let (conf, pend) = off(rt.alloc())?;
+    let Redistributor { conf, pend } = off(rt.alloc())?;
+    let conf = Box::new(rt.alloc(), conf)?;
+    let pend = Box::new(rt.alloc(), pend)?;
     let mut redists = Redists::new();
-    redists.place_conf(Vcpu(15), Box::new(rt.alloc(), conf)?);
-    redists.place_pend(Vcpu(15), Box::new(rt.alloc(), pend)?);
+    redists.place_conf(Vcpu(15), conf);
+    redists.place_pend(Vcpu(15), pend);
     redists.conf_mut(Vcpu(15)).bases.on = true;
     redists.pend_mut(Vcpu(15)).accepts = true;
     let on = redists.conf(Vcpu(15)).bases.on && redists.pend(Vcpu(15)).accepts;
     let mut conf = redists.take_conf(Vcpu(15));
     conf.bases.pend.table = Addr(0x8004_0000);
-    let pend = redists.take_pend(Vcpu(15));
     redists.place_conf(Vcpu(15), conf);
+    let mut pend = redists.take_pend(Vcpu(15));
+    pend.accepts = false;
     redists.place_pend(Vcpu(15), pend);
     let table = redists.conf(Vcpu(15)).bases.pend.table;
-    assert!(rt; on && table == Addr(0x8004_0000));
+    let accepts = redists.pend(Vcpu(15)).accepts;
+    assert!(rt; on && table == Addr(0x8004_0000) && !accepts);
     Ok(())
 }
