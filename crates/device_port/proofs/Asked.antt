@@ -56,6 +56,7 @@ is_maps : (its : ℕ) (q : Part) → (q ≡ part.Maps its) ⊎ (q ≢ part.Maps 
 is_maps its (part.Maps i) = dite (ℕ_discrete i its) (λ e. inl (ap (λ (k : ℕ). part.Maps k) e)) (λ ne. inr (λ e. ne (cc)))
 is_maps its part.Mem = inr (λ e. cc)
 is_maps its (part.Shard i n) = inr (λ e. cc)
+is_maps its (part.Conf u) = inr (λ e. cc)
 is_maps its (part.Pend u) = inr (λ e. cc)
 
 maps_among : (its : ℕ) (xs : List Part) → Among (part.Maps its) xs ⊎ (¬ Among (part.Maps its) xs)

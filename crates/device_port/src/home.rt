@@ -27,12 +27,7 @@ pub fn put_two(machine: &Machine, pass: &mut Pass, its: u8, hand: Hand)
         target,
         pend,
     } = hand;
-    put(
-        machine,
-        pass,
-        Part::Pend(target.vcpu),
-        Value::Pend(pend),
-    );
+    put(machine, pass, Part::Pend(target.vcpu), Value::Pend(pend));
     put(machine, pass, Part::Shard(its, number), Value::Shard(shard));
 }
 

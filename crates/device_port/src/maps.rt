@@ -15,9 +15,7 @@ use crate::finish::{drop_signal, fill_signal, off_signal};
 use crate::hand::Hand;
 use crate::message::Message;
 use its_plain::{Call, Signal};
-use its_turns::{
-    Attempt, Machine, Pass, Value, put, try_take_maps, try_take_pend, try_take_shard,
-};
+use its_turns::{Attempt, Machine, Pass, Value, put, try_take_maps, try_take_pend, try_take_shard};
 use its_types::{Gate, Part, Point, Target};
 use owned_parts::{Translator, locate};
 

@@ -86,7 +86,10 @@ fn write_both(
     ensures pend_lpis { HasLpisOfPend shape.now pend.new }
 {
     let GicrAccess {
-        off, size, value, ..
+        off,
+        size,
+        value,
+        ..
     } = access;
     match memory {
         Some(memory) => gicr_write(conf, pend, &memory.memory, shape, off, size, value),
@@ -95,12 +98,7 @@ fn write_both(
 }
 
 // So there is, and the write turns LPIs neither on nor off.
-fn write_conf(
-    conf: &mut Conf,
-    memory: &Option<Box<GuestMemory>>,
-    shape: &Shape,
-    access: GicrAccess,
-)
+fn write_conf(conf: &mut Conf, memory: &Option<Box<GuestMemory>>, shape: &Shape, access: GicrAccess)
     requires low { AreLow conf.old.bases }
     requires lpis { HasLpisOfConf shape.now conf.old }
     requires enough { registers.reads_tables (asked access (conf_state conf.old)) ≡ true
@@ -114,7 +112,10 @@ fn write_conf(
     ensures lpis { HasLpisOfConf shape.now conf.new }
 {
     let GicrAccess {
-        off, size, value, ..
+        off,
+        size,
+        value,
+        ..
     } = access;
     match memory {
         Some(memory) => conf_write(conf, &memory.memory, shape, off, size, value),

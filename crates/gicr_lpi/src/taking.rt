@@ -39,12 +39,7 @@ pub fn take_hand<R: Wait>(rt: &R, machine: &Machine, pass: &mut Pass, access: Gi
 
 // The configuration, with memory where it says that tables are to be read. It is put back first
 // then, since memory is taken before it.
-fn take_registers<R: Wait>(
-    rt: &R,
-    machine: &Machine,
-    pass: &mut Pass,
-    access: GicrAccess,
-) -> Hand
+fn take_registers<R: Wait>(rt: &R, machine: &Machine, pass: &mut Pass, access: GicrAccess) -> Hand
     requires of { IsOf machine.now pass.old }
     requires free { (view pass.old).held ≡ [] }
     requires vcpu { access.vcpu.0 < vcpu_count (setup machine.now) }
@@ -72,12 +67,7 @@ fn take_registers<R: Wait>(
 }
 
 // Memory, and then the configuration, which may be another by now.
-fn take_with_memory<R: Wait>(
-    rt: &R,
-    machine: &Machine,
-    pass: &mut Pass,
-    access: GicrAccess,
-) -> Hand
+fn take_with_memory<R: Wait>(rt: &R, machine: &Machine, pass: &mut Pass, access: GicrAccess) -> Hand
     requires of { IsOf machine.now pass.old }
     requires free { (view pass.old).held ≡ [] }
     requires vcpu { access.vcpu.0 < vcpu_count (setup machine.now) }

@@ -332,7 +332,7 @@ pub is_whole : (s : Setup) (x : Whole) → HasStamps s → AllConfs s x.redists 
 is_whole s x stamps confs pends count = record {
   translators = has_count (second_of x) x.first.value (translator_count s) (one_or_two s stamps) (mapped x.second ∙ count);
   all_in_hand = λ v lt. (confs.first v lt, pends.first v lt);
-  no_others = λ v le. (confs.others v le, pends.others v le);
+  no_others = λ v le. record { conf = confs.others v le; pend = pends.others v le };
 }
 
 -- there is a second translator where there are two
@@ -340,10 +340,10 @@ pub whole_second : (s : Setup) (x : Whole) → IsWholeOf s x → is_some x.secon
 whole_second s x is = sym (mapped x.second) ∙ second_is (second_of x) x.first.value (translator_count s) is.translators
 
 pub whole_confs : (s : Setup) (x : Whole) → IsWholeOf s x → AllConfs s x.redists
-whole_confs s x is = record { first = λ v lt. (is.all_in_hand v lt).0; others = λ v le. (is.no_others v le).0 }
+whole_confs s x is = record { first = λ v lt. (is.all_in_hand v lt).0; others = λ v le. (is.no_others v le).conf }
 
 pub whole_pends : (s : Setup) (x : Whole) → IsWholeOf s x → AllPends s x.redists
-whole_pends s x is = record { first = λ v lt. (is.all_in_hand v lt).1; others = λ v le. (is.no_others v le).1 }
+whole_pends s x is = record { first = λ v lt. (is.all_in_hand v lt).1; others = λ v le. (is.no_others v le).pend }
 
 module _ (s : Setup) (v w y : View) (x : Whole) (word : Word) (own : v.setup ≡ s) (few : vcpu_count s ≤ 16) (takes : TakesOnly IsNoShard v w)
     (held : w.held ≡ held_whole x) (looks : Looks w word y) (later : IsLastOrLater w word) (is : IsWholeOf s x) where

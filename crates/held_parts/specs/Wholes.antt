@@ -7,8 +7,8 @@ use Rattle.its_types.specs.declared.machine.Part.TheVariants as part
 use Rattle.its_plain.specs.History.{after}
 use Rattle.its_plain.specs.Plain.{Plain, Translator}
 use Rattle.its_plain.specs.declared.layout.Layout.{Layout}
-use Rattle.lpi_pending.specs.InHand.{conf_in, pend_in}
 use Rattle.owned_parts.specs.Owned.{AreAllInHand, translator_of, translators_of, state_of}
+use Rattle.owned_parts.specs.Places.{AreNotInHand}
 use Rattle.owned_parts.specs.declared.parts.Translator.{Translator as InHand}
 use Rattle.its_steps.specs.Contents.{Maps, Mem, Held}
 use Rattle.its_steps.specs.Parts.{Setup, IsOfMachine, translator_count, vcpu_count}
@@ -35,7 +35,7 @@ state_of_whole l x = state_of l (translators_in x) x.memory.value.memory x.memor
 pub record IsWholeOf (s : Setup) (x : Whole) : Type 0 where
   pub translators : length (translators_in x) ≡ translator_count s
   pub all_in_hand : AreAllInHand s.start.layout.shape x.redists
-  pub no_others : (vcpu : ℕ) → vcpu_count s ≤ vcpu → (conf_in x.redists vcpu ≡ None) × (pend_in x.redists vcpu ≡ None)
+  pub no_others : (vcpu : ℕ) → vcpu_count s ≤ vcpu → AreNotInHand x.redists vcpu
 
 -- ---- as they are held
 

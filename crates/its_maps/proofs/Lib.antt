@@ -12,3 +12,8 @@ mod Slots
 mod Paged
 mod Walked
 mod Refilled
+mod Keys
+mod Tallied
+mod Weights
+mod Counted
+mod RoomBoth

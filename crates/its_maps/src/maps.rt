@@ -1,63 +1,56 @@
 //! The maps of a translator.
-ghost use Rattle.std.specs.Prelude.{◌≡◌, ◌≤◌, ℕ, None, IsSome, IfSome, OnOk, OnErr};
+ghost use Rattle.std.specs.Prelude.{◌≡◌, ◌<◌, ◌≤◌, ℕ, None, [], IsSome, IfSome, OnOk, OnErr};
+ghost use Rattle.std.specs.Prelude.{false, length, nat_lt};
 ghost use Rattle.std.specs.FinMap as finmap;
 ghost use Rattle.its_types.specs.Maps.{device_of, event_of, collection_of, events_at, no_maps};
 ghost use Rattle.its_types.specs.Maps.{device_mapped, device_unmapped, event_mapped};
 ghost use Rattle.its_types.specs.Maps.{event_unmapped, collection_mapped, collection_unmapped};
 ghost use Rattle.its_types.specs.Maps.{devices_emptied, collections_emptied};
+ghost use Rattle.its_maps.specs.Counts as counts;
 ghost use Rattle.its_maps.specs.LookUp.{looked_up};
 ghost use Rattle.its_maps.specs.MapsRoom.{event_room, EventsHaveDevices, KeysFit};
 ghost use Rattle.its_maps.specs.Walks.{events_left};
 
-use crate::device_record::DeviceRecord;
-use crate::event_table::EventTable;
 use crate::look_up::LookUp;
-use crate::paged_map::PagedMap;
-use crate::paged_walk::PagedWalk;
-use crate::reserve::Reserve;
+use crate::mapped::Mapped;
+use crate::tally::Tally;
 use crate::walks::{CollectionWalk, DeviceWalk, EventWalk};
 use its_types::{Device, DeviceId, Event, EventId, Icid, Vcpu};
 use std::alloc::{AllocError, Global};
 use std::marker::Model;
 
-/// The devices, events and collections of a translator (IHI 0069, section 5.2). Each event's device
-/// is mapped.
+/// The devices, events and collections of a translator (IHI 0069, section 5.2), and how many there
+/// are. Each event's device is mapped.
 ///
 /// A look-up, a map or an unmap costs about the same however much is mapped and in whatever order:
 /// a key has its place in a page of such places, which is there while one of its keys is mapped.
-/// The few events of a device are one vector.
+/// The few events of a device are one vector. The events of each collection that has some are
+/// counted in one vector by ICID: where the first event of a collection is mapped or its last one
+/// unmapped, the counts of greater ICIDs shift by one place.
 ///
 /// The three calls that make room take memory, and no other call does. After such a call that
 /// succeeded, one map call of its kind finds the page and the place that it may need.
 #[derive(Drop)]
 pub struct Maps {
-    devices: PagedMap<DeviceRecord>,
-    collections: PagedMap<Vcpu>,
-    device_page: Reserve<DeviceRecord>,
-    event_page: Reserve<Event>,
-    collection_page: Reserve<Vcpu>,
-    alloc: Global,
+    mapped: Mapped,
+    devices: u64,
+    tally: Tally,
 }
 
 impl Model for Maps {
-    ghost use Rattle.its_maps.specs.MapsRoom.{MapsRoom, maps_room_code, KeysFit};
+    ghost use Rattle.its_maps.specs.MapsRoom.{MapsRoom, maps_room_code};
+    ghost use Rattle.its_maps.specs.Tallies.{room_with, AreCounted};
 
     ghost Value = { MapsRoom };
 
     ghost coded = { maps_room_code };
 
-    ghost use Rattle.its_maps.specs.View.{shown, room_of, event_room_in};
-
     ghost view = { λ m. record {
-      maps = shown m.devices.map m.collections.map;
-      room = record {
-        devices = room_of m.device_page m.devices.spare;
-        events = event_room_in m.event_page m.devices.map;
-        collections = room_of m.collection_page m.collections.spare;
-      };
+      maps = m.mapped.maps;
+      room = room_with m.tally.room m.mapped.room;
     } };
 
-    ghost invariant = { λ m. KeysFit m.collections.map };
+    ghost invariant = { λ m. AreCounted m.mapped.maps m.devices m.tally };
 }
 
 impl Maps {
@@ -66,12 +59,9 @@ impl Maps {
         ensures { result.maps ≡ no_maps }
     {
         Maps {
-            devices: PagedMap::new(alloc),
-            collections: PagedMap::new(alloc),
-            device_page: Reserve::empty(),
-            event_page: Reserve::empty(),
-            collection_page: Reserve::empty(),
-            alloc,
+            mapped: Mapped::new(alloc),
+            devices: 0,
+            tally: Tally::new(alloc),
         }
     }
 
@@ -83,11 +73,10 @@ impl Maps {
         ensures others { self.new.room ≡ record self.old.room { devices = self.new.room.devices } }
         ensures err { OnErr result (self.new ≡ self.old) }
     {
-        self.devices.make_room()?;
-        self.device_page.fill(self.alloc)
+        self.mapped.room_for_device()
     }
 
-    /// Makes room for one event more of a mapped device.
+    /// Makes room for one event more of a mapped device, and for its count.
     pub fn room_for_event(&mut self, dev: DeviceId) -> Result<(), AllocError>
         requires { IsSome (device_of self.old.maps dev.0) }
         ensures maps { self.new.maps ≡ self.old.maps }
@@ -96,9 +85,8 @@ impl Maps {
         ensures others { self.new.room ≡ record self.old.room { events = self.new.room.events } }
         ensures err { OnErr result (self.new ≡ self.old) }
     {
-        let record = self.devices.get_mut(dev.0);
-        record.events.make_room(self.alloc)?;
-        self.event_page.fill(self.alloc)
+        self.mapped.room_for_event(dev)?;
+        self.tally.make_room()
     }
 
     /// Makes room for one collection more.
@@ -112,8 +100,7 @@ impl Maps {
         } }
         ensures err { OnErr result (self.new ≡ self.old) }
     {
-        self.collections.make_room()?;
-        self.collection_page.fill(self.alloc)
+        self.mapped.room_for_collection()
     }
 
     /// Maps a device, which then has no event.
@@ -122,11 +109,10 @@ impl Maps {
         ensures maps { self.new.maps ≡ device_mapped self.old.maps dev.0 device }
         ensures room { self.new.room.collections ≡ self.old.room.collections }
     {
-        let record = DeviceRecord {
-            device,
-            events: EventTable::new(self.alloc),
-        };
-        self.devices.insert(dev.0, record, &mut self.device_page);
+        let is_new = !self.mapped.has_device(dev);
+        self.tally.take_all(self.mapped.events(dev));
+        self.mapped.map_device(dev, device);
+        self.devices += u64::from(is_new);
     }
 
     /// Maps an event of a mapped device.
@@ -137,8 +123,9 @@ impl Maps {
         ensures maps { self.new.maps ≡ event_mapped self.old.maps dev.0 ev.0 event }
         ensures room { self.new.room ≡ record self.old.room { events = self.new.room.events } }
     {
-        let record = self.devices.get_mut(dev.0);
-        record.events.insert(ev.0, event, &mut self.event_page);
+        let before = self.mapped.event(dev, ev);
+        self.tally.replace(before, event.icid);
+        self.mapped.map_event(dev, ev, event);
     }
 
     /// Maps a collection to a virtual processor.
@@ -150,9 +137,7 @@ impl Maps {
               self.new.room.collections;
         } }
     {
-        let Icid(number) = icid;
-        self.collections
-            .insert(u32::from(number), vcpu, &mut self.collection_page);
+        self.mapped.map_collection(icid, vcpu);
     }
 
     /// Unmaps a device, if it is mapped, with its events.
@@ -160,7 +145,10 @@ impl Maps {
         ensures maps { self.new.maps ≡ device_unmapped self.old.maps dev.0 }
         ensures room { self.new.room.collections ≡ self.old.room.collections }
     {
-        self.devices.remove(dev.0);
+        let is_there = self.mapped.has_device(dev);
+        self.tally.take_all(self.mapped.events(dev));
+        self.mapped.unmap_device(dev);
+        self.devices -= u64::from(is_there);
     }
 
     /// Unmaps an event, if it is mapped.
@@ -168,10 +156,9 @@ impl Maps {
         ensures maps { self.new.maps ≡ event_unmapped self.old.maps dev.0 ev.0 }
         ensures room { self.new.room ≡ record self.old.room { events = self.new.room.events } }
     {
-        if self.devices.contains(dev.0) {
-            let record = self.devices.get_mut(dev.0);
-            record.events.remove(ev.0);
-        }
+        let before = self.mapped.event(dev, ev);
+        self.tally.take_event(before);
+        self.mapped.unmap_event(dev, ev);
     }
 
     /// Gives a mapped event another collection, and leaves its INTID.
@@ -182,8 +169,9 @@ impl Maps {
             ≡ event_mapped self.old.maps dev.0 ev.0 (record event { icid = icid })) }
         ensures room { self.new.room ≡ record self.old.room { events = self.new.room.events } }
     {
-        let record = self.devices.get_mut(dev.0);
-        record.events.move_to(ev.0, icid);
+        let before = self.mapped.event(dev, ev);
+        self.tally.replace(before, icid);
+        self.mapped.move_event(dev, ev, icid);
     }
 
     /// Unmaps a collection, if it is mapped.
@@ -194,7 +182,7 @@ impl Maps {
               self.new.room.collections;
         } }
     {
-        self.collections.remove(u32::from(icid.0));
+        self.mapped.unmap_collection(icid);
     }
 
     /// Unmaps all devices with their events.
@@ -202,7 +190,9 @@ impl Maps {
         ensures maps { self.new.maps ≡ devices_emptied self.old.maps }
         ensures room { self.new.room.collections ≡ self.old.room.collections }
     {
-        self.devices.clear();
+        self.mapped.empty_devices();
+        self.tally.clear();
+        self.devices = 0;
     }
 
     /// Unmaps all collections.
@@ -213,15 +203,36 @@ impl Maps {
               self.new.room.collections;
         } }
     {
-        self.collections.clear();
+        self.mapped.empty_collections();
+    }
+
+    /// How many devices are mapped.
+    pub fn device_count(&self) -> u64
+        ensures { result ≡ counts.device_count self.now.maps }
+    {
+        self.devices
+    }
+
+    /// How many events are mapped, of all devices.
+    pub fn event_count(&self) -> u64
+        ensures { result ≡ counts.event_count self.now.maps }
+    {
+        self.tally.total()
+    }
+
+    /// Whether some mapped event is of a collection. The collection needn't be mapped.
+    pub fn has_events_of(&self, icid: Icid) -> bool
+        ensures has { result ≡ nat_lt 0 (length (counts.events_of self.now.maps icid.0)) }
+        ensures none { result ≡ false → counts.events_of self.now.maps icid.0 ≡ [] }
+    {
+        self.tally.has(icid)
     }
 
     /// What a device is mapped to, if it is.
     pub fn device(&self, dev: DeviceId) -> Option<Device>
         ensures { result ≡ device_of self.now.maps dev.0 }
     {
-        let record = self.devices.get(dev.0)?;
-        Some(record.device)
+        self.mapped.device(dev)
     }
 
     /// What is mapped of a device and one of its events, found in one search of the devices.
@@ -229,42 +240,28 @@ impl Maps {
         ensures found { result ≡ looked_up self.now.maps dev.0 ev.0 }
         ensures mapped { EventsHaveDevices self.now.maps }
     {
-        match self.devices.get(dev.0) {
-            None => LookUp::NoDevice,
-            Some(record) => match record.events.get(ev.0) {
-                None => LookUp::NoEvent(record.device),
-                Some(event) => LookUp::Mapped(record.device, *event),
-            },
-        }
+        self.mapped.look_up(dev, ev)
     }
 
     /// The virtual processor that a mapped collection goes to.
     pub fn collection(&self, icid: Icid) -> Option<Vcpu>
         ensures { result ≡ collection_of self.now.maps icid.0 }
     {
-        self.collections.get(u32::from(icid.0)).copied()
+        self.mapped.collection(icid)
     }
 
     /// The mapped devices, by rising DeviceID.
     pub fn devices(&self) -> DeviceWalk<'_>
         ensures { result ≡ finmap.entries self.now.maps.devices }
     {
-        DeviceWalk {
-            rest: self.devices.walk(),
-        }
+        self.mapped.devices()
     }
 
     /// The mapped events of a device, by rising EventID. A device that isn't mapped has none.
     pub fn events(&self, dev: DeviceId) -> EventWalk<'_>
         ensures { events_left result ≡ events_at self.now.maps dev.0 }
     {
-        match self.devices.get(dev.0) {
-            Some(record) => record.events.walk(),
-            None => EventWalk {
-                few: &[],
-                many: PagedWalk::new(&[]),
-            },
-        }
+        self.mapped.events(dev)
     }
 
     /// The mapped collections, by rising ICID.
@@ -272,8 +269,6 @@ impl Maps {
         ensures collections { result ≡ finmap.entries self.now.maps.collections }
         ensures fits { KeysFit self.now.maps.collections }
     {
-        CollectionWalk {
-            rest: self.collections.walk(),
-        }
+        self.mapped.collections()
     }
 }

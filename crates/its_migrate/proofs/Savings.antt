@@ -27,14 +27,14 @@ use Rattle.its_turns.specs.declared.attempts.Lost.{Lost}
 use Rattle.its_turns.specs.declared.attempts.Lost.TheVariants as lost
 use Rattle.its_turns.proofs.Telling.{may_here, owes_here, goes_looked, goes_emptied, stays_from, makes_from, made_emptied, placed_from, leaves_from}
 use Rattle.its_turns.proofs.Telling.{lone_on, stays_again}
-use Rattle.lpi_pending.specs.InHand.{in_hand}
-use Rattle.lpi_pending.specs.declared.redist.Redist.{Redist}
+use Rattle.lpi_pending.specs.InHand.{RedistParts}
 use Rattle.owned_parts.specs.Owned.{AreAllInHand, state_of, translators_of}
+use Rattle.owned_parts.specs.Places.{AreNotInHand}
 use Rattle.held_parts.specs.Taking.{Goes, holding}
 use Rattle.held_parts.specs.Wholes.{state_of_whole, held_whole, IsWholeOf, IsNoShard, TakesWhole}
 use Rattle.held_parts.specs.declared.whole.Whole.{Whole}
 use Rattle.held_parts.proofs.Going.{going_read}
-use Rattle.held_parts.proofs.Wholes.{whole_all, held_is}
+use Rattle.held_parts.proofs.Wholes.{whole_confs, whole_pends, held_is}
 use Rattle.its_migrate.specs.Saving.{IsTried, LeavesMemory, FoundSpent, answered, marked, memory_or, track_or, unmade_by}
 use Rattle.its_migrate.proofs.Taken.{taken_state, few_vcpus, holds_all}
 
@@ -84,8 +84,8 @@ module _ (s : Setup) (v w : View) (x : Whole) (taken : TakesWhole s v x w) (l : 
       pub replaced_whole : IsWholeOf s y
       replaced_whole = record {
         translators = (λ d. length (translators_of (is.first d).value (option_map (λ b. b.value) (is.second d)))) ∙ taken.whole.translators;
-        all_in_hand = subst (λ (rs : List (Option Redist)). AreAllInHand s.start.layout.shape rs) (sym is.redists) taken.whole.all_in_hand;
-        no_others = subst (λ (rs : List (Option Redist)). (k : ℕ) → vcpu_count s ≤ k → in_hand rs k ≡ None) (sym is.redists) taken.whole.no_others;
+        all_in_hand = subst (λ (rs : RedistParts). AreAllInHand s.start.layout.shape rs) (sym is.redists) taken.whole.all_in_hand;
+        no_others = subst (λ (rs : RedistParts). (k : ℕ) → vcpu_count s ≤ k → AreNotInHand rs k) (sym is.redists) taken.whole.no_others;
       }
 
       replaced_state : state_of_whole s.start.layout y ≡ save_left u (savable u)
@@ -99,7 +99,8 @@ module _ (s : Setup) (v w : View) (x : Whole) (taken : TakesWhole s v x w) (l : 
       pub save_owes : w.setup ≡ s → (z : Word) (q : View) → Makes w (staying z call.Save (save_reply (answered found)) Keep) q → q.held ≡ held_whole y
       save_owes own z q made =
           owes_here s call.Save (save_reply (answered found)) Keep (whole_held u) (λ _. left_held) leaves w (holds_all s v w x taken l same) own z q made
-          ∙ (ap (λ (k : Plain). whole_held k) (sym replaced_state) ∙ sym (held_is s y (whole_all s y replaced_whole) (few_vcpus s v w x taken l same)))
+          ∙ (ap (λ (k : Plain). whole_held k) (sym replaced_state) ∙ sym (held_is s y (whole_confs s y replaced_whole) (whole_pends s y replaced_whole)
+          (few_vcpus s v w x taken l same)))
 
   -- ---- what the pass knows
 

@@ -6,14 +6,14 @@ use Rattle.its_plain.specs.Plain.{Plain}
 use Rattle.its_plain.specs.declared.call.Entry.{Entry}
 use Rattle.its_plain.specs.Sound.{IsSound}
 use Rattle.its_plain.specs.declared.layout.Layout.{Layout}
-use Rattle.lpi_pending.specs.InHand.{RedistParts, conf_in, pend_in}
+use Rattle.lpi_pending.specs.InHand.{RedistParts}
 use Rattle.owned_parts.specs.Owned.{AreAllInHand, translator_of, translator_at, one_or_two, state_of_parts, state_in_place}
 use Rattle.dirty_log.specs.declared.tracked.Tracked.{Tracked}
 use Rattle.owned_parts.specs.declared.parts.Parts.{Parts}
 use Rattle.owned_parts.specs.declared.in_place.InPlace.{InPlace}
 use Rattle.owned_parts.specs.declared.in_place.TranslatorRef.{TranslatorRef}
 use Rattle.owned_machine.specs.Placed.{parts_in, translator_in}
-use Rattle.owned_machine.specs.Whole.{IsMachine}
+use Rattle.owned_machine.specs.Whole.{IsMachine, AreNotInHand}
 use Rattle.its_steps.specs.Calls.{whole_held}
 use Rattle.its_steps.specs.Parts.{Setup, IsOfMachine, vcpu_count}
 use Rattle.its_steps.specs.World.{View}
@@ -39,7 +39,7 @@ state_in i = λ d. record (state_in_place i) { translators = one_or_two (transla
 
 -- no part is in hand of a redistributor that the machine doesn't have
 abbrev pub HasNoOthers : Layout → RedistParts → Type 0
-HasNoOthers l rs = (v : ℕ) → l.shape.vcpus ≤ v → (conf_in rs v ≡ None) × (pend_in rs v ≡ None)
+HasNoOthers l rs = (v : ℕ) → l.shape.vcpus ≤ v → AreNotInHand rs v
 
 pub machine_in : (i : InPlace) (u : Plain) → state_in_place i ≡ u → IsSound u → AreAllInHand i.layout.now.shape i.redists.now
     → HasNoOthers i.layout.now i.redists.now → IsMachine (parts_in i)

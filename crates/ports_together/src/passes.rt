@@ -6,7 +6,9 @@ ghost use Rattle.ports_together.specs.Ready.{IsReady, IsRoot};
 use crate::asks::{Ask, DEVICE, Said, hit, joined, play, send, split, taken};
 use crate::made::made;
 use its_plain::{MakeError, Reply};
-use its_turns::{Busy, Machine, Pass, Root, Value, close, look, put, try_take_shard};
+use its_turns::{
+    Busy, Machine, Pass, Root, Value, close, look, put, try_take_conf, try_take_shard,
+};
 use its_types::{EventId, Icid, Open, Part, Vcpu};
 use std::alloc::Global;
 use std::sync::Wait;
@@ -77,15 +79,37 @@ fn hindered(machine: &Machine, root: &mut Root, pass: &mut Pass) -> Said
     said
 }
 
-const LAST: [(Ask, Said); 1] = [(Ask::Hit(3), Said::Sent(7, 2, 8200))];
+// What it is answered while the root has the target's configuration, of which a signal needs
+// nothing.
+fn unhindered(machine: &Machine, root: &mut Root, pass: &mut Pass) -> Said
+    requires root { IsRoot machine.now root.old }
+    requires pass { IsReady machine.now pass.old }
+    ensures root { IsRoot machine.now root.new }
+    ensures pass { IsReady machine.now pass.new }
+{
+    if TARGET.0 >= machine.vcpus() {
+        return Said::Nothing;
+    }
+    let Ok(conf) = try_take_conf(machine, root, TARGET) else {
+        return Said::Nothing;
+    };
+    let said = hit(machine, pass, &Open, 3);
+    put(machine, root, Part::Conf(TARGET), Value::Conf(conf));
+    said
+}
 
-// How many rows hold, whether a hindered signal is told of the root, and how many rows hold after it.
+const SENT: Said = Said::Sent(7, 2, 8200);
+
+const LAST: [(Ask, Said); 1] = [(Ask::Hit(3), Said::Sent(8, 2, 8200))];
+
+// How many rows hold, whether a hindered signal is told of the root, whether another is sent, and
+// how many rows hold after it.
 fn by_hand<R: Wait>(
     rt: &R,
     alloc: Global,
     machine: &Machine,
     root: &mut Root,
-) -> (usize, bool, usize)
+) -> (usize, bool, bool, usize)
     requires root { IsRoot machine.now root.old }
     requires made { (view root.old).root.made ≡ 1 }
     ensures { IsRoot machine.now root.new }
@@ -95,16 +119,17 @@ fn by_hand<R: Wait>(
     let part = Part::Shard(0, machine.shard_of(DEVICE, EventId(3)));
     let busy = Said::Busy(Busy { part, holder: 0 });
     let is_told = hindered(machine, root, &mut pass) == busy;
+    let is_sent = unhindered(machine, root, &mut pass) == SENT;
     let last = play(rt, alloc, machine, &mut pass, &LAST);
     joined(machine, root, pass);
-    (first, is_told, last)
+    (first, is_told, is_sent, last)
 }
 
 // The same on a machine that is made for it, and the collection's target in its parts.
 fn one_pass<R: Wait>(
     rt: &R,
     alloc: Global,
-) -> Result<((usize, bool, usize), Option<Vcpu>), MakeError> {
+) -> Result<((usize, bool, bool, usize), Option<Vcpu>), MakeError> {
     let (machine, mut root) = made(alloc, &WORDS)?;
     let held = by_hand(rt, alloc, &machine, &mut root);
     Ok((held, closed(machine, root)))
@@ -113,7 +138,7 @@ fn one_pass<R: Wait>(
 #[test]
 fn one_pass_by_hand(rt: HostRuntime) -> Result<(), Fail> {
     let held = one_pass(&rt, rt.alloc())?;
-    assert_eq!(rt; held, ((8, true, 1), Some(TARGET)));
+    assert_eq!(rt; held, ((8, true, true, 1), Some(TARGET)));
     Ok(())
 }
 

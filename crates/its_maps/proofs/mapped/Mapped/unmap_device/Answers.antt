@@ -1,0 +1,11 @@
+use Rattle.std.proofs.Common.{ap, ◌∙◌}
+use Rattle.its_types.specs.Maps.{device_unmapped}
+use Rattle.its_maps.specs.View.{shown}
+use Rattle.its_maps.proofs.Calls.{after_unmap_device}
+use Rattle.its_maps.proofs.mapped.Mapped.unmap_device.Goals as goal
+
+pub returns-clause-maps : goal.returns-clause-maps
+returns-clause-maps c =
+    ap (λ d. shown d c.self.inside.collections.map) c.remove.ensures
+    ∙ after_unmap_device c.self.inside.devices.map c.self.inside.collections.map c.args.dev.0
+    ∙ ap (λ m. device_unmapped m.maps c.args.dev.0) c.self.view_is
