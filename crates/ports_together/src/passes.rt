@@ -9,7 +9,8 @@ use crate::made::made;
 use its_command::Op;
 use its_plain::{MakeError, Reply};
 use its_turns::{
-    Busy, Machine, Pass, Root, Value, close, look, put, try_take_conf, try_take_shard,
+    Busy, Machine, Pass, Root, Value, close, look, put, try_take_conf, try_take_pend,
+    try_take_shard,
 };
 use its_types::{EventId, Icid, Open, Part, Vcpu};
 use std::alloc::Global;
