@@ -12,8 +12,3 @@ mod Slots
 mod Paged
 mod Walked
 mod Refilled
-mod Keys
-mod Tallied
-mod Weights
-mod Counted
-mod RoomBoth

@@ -9,7 +9,6 @@ use Rattle.std.specs.FinMap as finmap
 use Rattle.std.specs.FinMap.{FinMap, entries_sorted, get-entries, get-insert, get-retain_keys, get-empty, same_map, nat_cmp-IsAntisymmetric}
 use Rattle.std.proofs.lemmas.Bool.{cases_eq, eqb-true, eq-eqb, ne_eqb}
 use Rattle.std.proofs.lemmas.List.{get_or-set_same, get_or-set_other, get_or_default}
-use Rattle.its_maps.specs.MapRoom.{AreBelow}
 use Rattle.its_maps.specs.Pages.{paged_map, IsBlank, NumbersFit, EachNumberFits}
 use Rattle.its_maps.proofs.Shown.{alike}
 use Rattle.its_maps.proofs.Places.{find_at}
@@ -155,13 +154,3 @@ module _ {P : Type 0} where
       let key = (get_or es i d).0 in
       fit key (ap is_some (get-entries m key ∙ find_at key es i d (entries_sorted m)
       (record { in_range = lt; has_key = λ e. ap (λ (x : ℕ × P). x.0) (get_or_default es i e d lt) })))
-
--- a key is below the end of its page
-pub keys_below : {V : Type 0} (m : FinMap nat_cmp (List (Option V))) → NumbersFit m → AreBelow 4294967296 (paged_map m)
-keys_below {V} m fit key some =
-    let page : IsSome (finmap.get m (key / PLACES)) = at (finmap.get m (key / PLACES)) (ap is_some (sym (get-paged m key)) ∙ some) in
-    let low = fit (key / PLACES) page in omega (arith, low)
-  where
-    at : (o : Option (List (Option V))) → is_some (option_and_then (slot key) o) ≡ true → is_some o ≡ true
-    at None h = h
-    at (Some p) h = refl

@@ -7,5 +7,3 @@ pub mod Walks
 pub mod Pages
 pub mod EventTables
 pub mod LookUp
-pub mod Counts
-pub mod Tallies

@@ -4,14 +4,12 @@
 mod device_record;
 mod event_table;
 mod look_up;
-mod mapped;
 mod maps;
 mod page;
 mod paged_map;
 mod paged_walk;
 mod reserve;
 mod sorted_map;
-mod tally;
 mod walks;
 
 pub use look_up::LookUp;

@@ -1,56 +1,63 @@
 //! The maps of a translator.
-ghost use Rattle.std.specs.Prelude.{◌≡◌, ◌<◌, ◌≤◌, ℕ, None, [], IsSome, IfSome, OnOk, OnErr};
-ghost use Rattle.std.specs.Prelude.{false, length, nat_lt};
+ghost use Rattle.std.specs.Prelude.{◌≡◌, ◌≤◌, ℕ, None, IsSome, IfSome, OnOk, OnErr};
 ghost use Rattle.std.specs.FinMap as finmap;
 ghost use Rattle.its_types.specs.Maps.{device_of, event_of, collection_of, events_at, no_maps};
 ghost use Rattle.its_types.specs.Maps.{device_mapped, device_unmapped, event_mapped};
 ghost use Rattle.its_types.specs.Maps.{event_unmapped, collection_mapped, collection_unmapped};
 ghost use Rattle.its_types.specs.Maps.{devices_emptied, collections_emptied};
-ghost use Rattle.its_maps.specs.Counts as counts;
 ghost use Rattle.its_maps.specs.LookUp.{looked_up};
 ghost use Rattle.its_maps.specs.MapsRoom.{event_room, EventsHaveDevices, KeysFit};
 ghost use Rattle.its_maps.specs.Walks.{events_left};
 
+use crate::device_record::DeviceRecord;
+use crate::event_table::EventTable;
 use crate::look_up::LookUp;
-use crate::mapped::Mapped;
-use crate::tally::Tally;
+use crate::paged_map::PagedMap;
+use crate::paged_walk::PagedWalk;
+use crate::reserve::Reserve;
 use crate::walks::{CollectionWalk, DeviceWalk, EventWalk};
 use its_types::{Device, DeviceId, Event, EventId, Icid, Vcpu};
 use std::alloc::{AllocError, Global};
 use std::marker::Model;
 
-/// The devices, events and collections of a translator (IHI 0069, section 5.2), and how many there
-/// are. Each event's device is mapped.
+/// The devices, events and collections of a translator (IHI 0069, section 5.2). Each event's device
+/// is mapped.
 ///
 /// A look-up, a map or an unmap costs about the same however much is mapped and in whatever order:
 /// a key has its place in a page of such places, which is there while one of its keys is mapped.
-/// The few events of a device are one vector. The events of each collection that has some are
-/// counted in one vector by ICID: where the first event of a collection is mapped or its last one
-/// unmapped, the counts of greater ICIDs shift by one place.
+/// The few events of a device are one vector.
 ///
 /// The three calls that make room take memory, and no other call does. After such a call that
 /// succeeded, one map call of its kind finds the page and the place that it may need.
 #[derive(Drop)]
 pub struct Maps {
-    mapped: Mapped,
-    devices: u64,
-    tally: Tally,
+    devices: PagedMap<DeviceRecord>,
+    collections: PagedMap<Vcpu>,
+    device_page: Reserve<DeviceRecord>,
+    event_page: Reserve<Event>,
+    collection_page: Reserve<Vcpu>,
+    alloc: Global,
 }
 
 impl Model for Maps {
-    ghost use Rattle.its_maps.specs.MapsRoom.{MapsRoom, maps_room_code};
-    ghost use Rattle.its_maps.specs.Tallies.{room_with, AreCounted};
+    ghost use Rattle.its_maps.specs.MapsRoom.{MapsRoom, maps_room_code, KeysFit};
 
     ghost Value = { MapsRoom };
 
     ghost coded = { maps_room_code };
 
+    ghost use Rattle.its_maps.specs.View.{shown, room_of, event_room_in};
+
     ghost view = { λ m. record {
-      maps = m.mapped.maps;
-      room = room_with m.tally.room m.mapped.room;
+      maps = shown m.devices.map m.collections.map;
+      room = record {
+        devices = room_of m.device_page m.devices.spare;
+        events = event_room_in m.event_page m.devices.map;
+        collections = room_of m.collection_page m.collections.spare;
+      };
     } };
 
-    ghost invariant = { λ m. AreCounted m.mapped.maps m.devices m.tally };
+    ghost invariant = { λ m. KeysFit m.collections.map };
 }
 
 impl Maps {
@@ -59,9 +66,12 @@ impl Maps {
         ensures { result.maps ≡ no_maps }
     {
         Maps {
-            mapped: Mapped::new(alloc),
-            devices: 0,
-            tally: Tally::new(alloc),
+            devices: PagedMap::new(alloc),
+            collections: PagedMap::new(alloc),
+            device_page: Reserve::empty(),
+            event_page: Reserve::empty(),
+            collection_page: Reserve::empty(),
+            alloc,
         }
     }
 
@@ -73,10 +83,11 @@ impl Maps {
         ensures others { self.new.room ≡ record self.old.room { devices = self.new.room.devices } }
         ensures err { OnErr result (self.new ≡ self.old) }
     {
-        self.mapped.room_for_device()
+        self.devices.make_room()?;
+        self.device_page.fill(self.alloc)
     }
 
-    /// Makes room for one event more of a mapped device, and for its count.
+    /// Makes room for one event more of a mapped device.
     pub fn room_for_event(&mut self, dev: DeviceId) -> Result<(), AllocError>
         requires { IsSome (device_of self.old.maps dev.0) }
         ensures maps { self.new.maps ≡ self.old.maps }
@@ -85,8 +96,9 @@ impl Maps {
         ensures others { self.new.room ≡ record self.old.room { events = self.new.room.events } }
         ensures err { OnErr result (self.new ≡ self.old) }
     {
-        self.mapped.room_for_event(dev)?;
-        self.tally.make_room()
+        let record = self.devices.get_mut(dev.0);
+        record.events.make_room(self.alloc)?;
+        self.event_page.fill(self.alloc)
     }
 
     /// Makes room for one collection more.
@@ -100,7 +112,8 @@ impl Maps {
         } }
         ensures err { OnErr result (self.new ≡ self.old) }
     {
-        self.mapped.room_for_collection()
+        self.collections.make_room()?;
+        self.collection_page.fill(self.alloc)
     }
 
     /// Maps a device, which then has no event.
@@ -109,10 +122,11 @@ impl Maps {
         ensures maps { self.new.maps ≡ device_mapped self.old.maps dev.0 device }
         ensures room { self.new.room.collections ≡ self.old.room.collections }
     {
-        let is_new = !self.mapped.has_device(dev);
-        self.tally.take_all(self.mapped.events(dev));
-        self.mapped.map_device(dev, device);
-        self.devices += u64::from(is_new);
+        let record = DeviceRecord {
+            device,
+            events: EventTable::new(self.alloc),
+        };
+        self.devices.insert(dev.0, record, &mut self.device_page);
     }
 
     /// Maps an event of a mapped device.
@@ -123,9 +137,8 @@ impl Maps {
         ensures maps { self.new.maps ≡ event_mapped self.old.maps dev.0 ev.0 event }
         ensures room { self.new.room ≡ record self.old.room { events = self.new.room.events } }
     {
-        let before = self.mapped.event(dev, ev);
-        self.tally.replace(before, event.icid);
-        self.mapped.map_event(dev, ev, event);
+        let record = self.devices.get_mut(dev.0);
+        record.events.insert(ev.0, event, &mut self.event_page);
     }
 
     /// Maps a collection to a virtual processor.
@@ -137,7 +150,9 @@ impl Maps {
               self.new.room.collections;
         } }
     {
-        self.mapped.map_collection(icid, vcpu);
+        let Icid(number) = icid;
+        self.collections
+            .insert(u32::from(number), vcpu, &mut self.collection_page);
     }
 
     /// Unmaps a device, if it is mapped, with its events.
@@ -145,10 +160,7 @@ impl Maps {
         ensures maps { self.new.maps ≡ device_unmapped self.old.maps dev.0 }
         ensures room { self.new.room.collections ≡ self.old.room.collections }
     {
-        let is_there = self.mapped.has_device(dev);
-        self.tally.take_all(self.mapped.events(dev));
-        self.mapped.unmap_device(dev);
-        self.devices -= u64::from(is_there);
+        self.devices.remove(dev.0);
     }
 
     /// Unmaps an event, if it is mapped.
@@ -156,9 +168,10 @@ impl Maps {
         ensures maps { self.new.maps ≡ event_unmapped self.old.maps dev.0 ev.0 }
         ensures room { self.new.room ≡ record self.old.room { events = self.new.room.events } }
     {
-        let before = self.mapped.event(dev, ev);
-        self.tally.take_event(before);
-        self.mapped.unmap_event(dev, ev);
+        if self.devices.contains(dev.0) {
+            let record = self.devices.get_mut(dev.0);
+            record.events.remove(ev.0);
+        }
     }
 
     /// Gives a mapped event another collection, and leaves its INTID.
@@ -169,9 +182,8 @@ impl Maps {
             ≡ event_mapped self.old.maps dev.0 ev.0 (record event { icid = icid })) }
         ensures room { self.new.room ≡ record self.old.room { events = self.new.room.events } }
     {
-        let before = self.mapped.event(dev, ev);
-        self.tally.replace(before, icid);
-        self.mapped.move_event(dev, ev, icid);
+        let record = self.devices.get_mut(dev.0);
+        record.events.move_to(ev.0, icid);
     }
 
     /// Unmaps a collection, if it is mapped.
@@ -182,7 +194,7 @@ impl Maps {
               self.new.room.collections;
         } }
     {
-        self.mapped.unmap_collection(icid);
+        self.collections.remove(u32::from(icid.0));
     }
 
     /// Unmaps all devices with their events.
@@ -190,9 +202,7 @@ impl Maps {
         ensures maps { self.new.maps ≡ devices_emptied self.old.maps }
         ensures room { self.new.room.collections ≡ self.old.room.collections }
     {
-        self.mapped.empty_devices();
-        self.tally.clear();
-        self.devices = 0;
+        self.devices.clear();
     }
 
     /// Unmaps all collections.
@@ -203,36 +213,15 @@ impl Maps {
               self.new.room.collections;
         } }
     {
-        self.mapped.empty_collections();
-    }
-
-    /// How many devices are mapped.
-    pub fn device_count(&self) -> u64
-        ensures { result ≡ counts.device_count self.now.maps }
-    {
-        self.devices
-    }
-
-    /// How many events are mapped, of all devices.
-    pub fn event_count(&self) -> u64
-        ensures { result ≡ counts.event_count self.now.maps }
-    {
-        self.tally.total()
-    }
-
-    /// Whether some mapped event is of a collection. The collection needn't be mapped.
-    pub fn has_events_of(&self, icid: Icid) -> bool
-        ensures has { result ≡ nat_lt 0 (length (counts.events_of self.now.maps icid.0)) }
-        ensures none { result ≡ false → counts.events_of self.now.maps icid.0 ≡ [] }
-    {
-        self.tally.has(icid)
+        self.collections.clear();
     }
 
     /// What a device is mapped to, if it is.
     pub fn device(&self, dev: DeviceId) -> Option<Device>
         ensures { result ≡ device_of self.now.maps dev.0 }
     {
-        self.mapped.device(dev)
+        let record = self.devices.get(dev.0)?;
+        Some(record.device)
     }
 
     /// What is mapped of a device and one of its events, found in one search of the devices.
@@ -240,28 +229,42 @@ impl Maps {
         ensures found { result ≡ looked_up self.now.maps dev.0 ev.0 }
         ensures mapped { EventsHaveDevices self.now.maps }
     {
-        self.mapped.look_up(dev, ev)
+        match self.devices.get(dev.0) {
+            None => LookUp::NoDevice,
+            Some(record) => match record.events.get(ev.0) {
+                None => LookUp::NoEvent(record.device),
+                Some(event) => LookUp::Mapped(record.device, *event),
+            },
+        }
     }
 
     /// The virtual processor that a mapped collection goes to.
     pub fn collection(&self, icid: Icid) -> Option<Vcpu>
         ensures { result ≡ collection_of self.now.maps icid.0 }
     {
-        self.mapped.collection(icid)
+        self.collections.get(u32::from(icid.0)).copied()
     }
 
     /// The mapped devices, by rising DeviceID.
     pub fn devices(&self) -> DeviceWalk<'_>
         ensures { result ≡ finmap.entries self.now.maps.devices }
     {
-        self.mapped.devices()
+        DeviceWalk {
+            rest: self.devices.walk(),
+        }
     }
 
     /// The mapped events of a device, by rising EventID. A device that isn't mapped has none.
     pub fn events(&self, dev: DeviceId) -> EventWalk<'_>
         ensures { events_left result ≡ events_at self.now.maps dev.0 }
     {
-        self.mapped.events(dev)
+        match self.devices.get(dev.0) {
+            Some(record) => record.events.walk(),
+            None => EventWalk {
+                few: &[],
+                many: PagedWalk::new(&[]),
+            },
+        }
     }
 
     /// The mapped collections, by rising ICID.
@@ -269,6 +272,8 @@ impl Maps {
         ensures collections { result ≡ finmap.entries self.now.maps.collections }
         ensures fits { KeysFit self.now.maps.collections }
     {
-        self.mapped.collections()
+        CollectionWalk {
+            rest: self.collections.walk(),
+        }
     }
 }

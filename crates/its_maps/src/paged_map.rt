@@ -3,7 +3,7 @@
 ghost use Rattle.std.specs.Prelude.{◌≡◌, ◌≤◌, true, false, Some, OnOk, OnErr};
 ghost use Rattle.std.specs.Option.{option_copied};
 ghost use Rattle.std.specs.FinMap as map;
-ghost use Rattle.its_maps.specs.MapRoom.{without, AreBelow};
+ghost use Rattle.its_maps.specs.MapRoom.{without};
 ghost use Rattle.its_maps.specs.Walks.{left_of_pages};
 
 use crate::page::{PLACES, Page};
@@ -61,14 +61,6 @@ impl<V: Drop> PagedMap<V> {
     {
         let page = self.pages.get(key / PLACES)?;
         page.get((key % PLACES) as usize)
-    }
-
-    /// Each key has 32 bits.
-    pub fn keys_fit(&self)
-        ensures { AreBelow 4294967296 self.now.map }
-    {
-        // What the fields keep is known once one of them is looked at.
-        let _ = &self.pages;
     }
 
     /// Whether a key has a value.

@@ -7,12 +7,12 @@ use crate::asks::{Ask, DEVICE, Said, hit, joined, play, send, split, taken};
 use crate::given::Given;
 use crate::made::made;
 use its_command::Op;
-use its_plain::{MakeError, Reply};
+use its_plain::{MakeError, Reply, Signal};
 use its_turns::{
     Busy, Machine, Pass, Root, Value, close, look, put, try_take_conf, try_take_pend,
     try_take_shard,
 };
-use its_types::{EventId, Icid, Open, Part, Vcpu};
+use its_types::{EventId, Icid, Intid, Open, Part, Vcpu};
 use std::alloc::Global;
 use std::sync::Wait;
 use std::test::Fail;
@@ -101,7 +101,13 @@ fn unhindered(machine: &Machine, root: &mut Root, pass: &mut Pass) -> Said
     said
 }
 
-const SENT: Said = Said::Sent(7, 2, 8200);
+const SENT: Said = Said::At(
+    7,
+    Reply::Signal(Signal::Delivered {
+        vcpu: TARGET,
+        intid: Intid(8200),
+    }),
+);
 
 const LAST: [(Ask, Said); 1] = [(Ask::Hit(3), Said::Sent(8, 2, 8200))];
 

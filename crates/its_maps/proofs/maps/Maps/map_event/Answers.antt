@@ -1,28 +1,32 @@
-use Rattle.std.proofs.Common.{◌≤◌, sym, ap, ◌∙◌, subst}
-use Rattle.its_types.specs.Maps.{event_of}
+use Rattle.std.proofs.Common.{◌≤◌, is_some, refl, sym, ap, ◌∙◌, subst}
+use Rattle.its_types.specs.Maps.{device_of, event_of, event_mapped}
 use Rattle.its_maps.specs.MapsRoom.{event_room}
-use Rattle.its_maps.specs.Tallies.{AreCounted}
-use Rattle.its_maps.proofs.Counted.{event_is_counted, event_put_counted}
-use Rattle.its_maps.proofs.RoomBoth.{both_have_room}
+use Rattle.its_maps.proofs.Calls.{has_device, no_event, after_map_event}
+use Rattle.its_maps.proofs.Rooms.{has_room, room_here}
 use Rattle.its_maps.proofs.maps.Maps.map_event.Goals as goal
 
-pub replace-requires-clause-room : goal.replace-requires-clause-room
-replace-requires-clause-room c = λ none.
-    let absent = ap (λ m. event_of m.maps c.args.dev.0 c.args.ev.0) (sym c.self.view_is) ∙ (sym c.event-before.ensures ∙ none) in
-    (both_have_room c.self.inside.tally.room c.self.inside.mapped.room c.args.dev.0
-    (subst (λ m. 1 ≤ event_room m.room c.args.dev.0) (sym c.self.view_is) (c.requires.room absent))).0
+pub get_mut-record-requires : goal.get_mut-record-requires
+get_mut-record-requires c = sym (has_device c.self.inside.devices.map c.args.dev.0) ∙ ap (λ m. is_some (device_of m.maps c.args.dev.0)) c.self.view_is
+    ∙ c.requires.mapped
 
-pub replace-requires-clause-counted : goal.replace-requires-clause-counted
-replace-requires-clause-counted c = event_is_counted c.self.inside.mapped.maps c.self.inside.devices c.self.inside.tally c.self.invariant c.args.dev.0
-    c.args.ev.0 c.event-before.result c.event-before.ensures
+pub insert-requires-clause-spare : goal.insert-requires-clause-spare
+insert-requires-clause-spare c = λ absent.
+    let none = ap (λ m. event_of m.maps c.args.dev.0 c.args.ev.0) (sym c.self.view_is) ∙ no_event c.self.inside.devices.map c.args.dev.0
+    c.get_mut-record.result.now c.get_mut-record.ensures.value c.args.ev.0 absent in
+    let room = ap (λ m. event_room m.room c.args.dev.0) (sym c.self.view_is) ∙ room_here c.self.inside.devices.map c.args.dev.0 c.self.inside.event_page
+    c.get_mut-record.result.now c.get_mut-record.ensures.value in
+    (has_room _ _ (subst (λ n. 1 ≤ n) room (c.requires.room none))).1
 
-pub map_event-requires-clause-room : goal.map_event-requires-clause-room
-map_event-requires-clause-room c = λ none.
-    let absent = ap (λ m. event_of m.maps c.args.dev.0 c.args.ev.0) (sym c.self.view_is) ∙ none in
-    (both_have_room c.self.inside.tally.room c.self.inside.mapped.room c.args.dev.0
-    (subst (λ m. 1 ≤ event_room m.room c.args.dev.0) (sym c.self.view_is) (c.requires.room absent))).1
+pub insert-requires-clause-reserve : goal.insert-requires-clause-reserve
+insert-requires-clause-reserve c = λ absent.
+    let none = ap (λ m. event_of m.maps c.args.dev.0 c.args.ev.0) (sym c.self.view_is) ∙ no_event c.self.inside.devices.map c.args.dev.0
+    c.get_mut-record.result.now c.get_mut-record.ensures.value c.args.ev.0 absent in
+    let room = ap (λ m. event_room m.room c.args.dev.0) (sym c.self.view_is) ∙ room_here c.self.inside.devices.map c.args.dev.0 c.self.inside.event_page
+    c.get_mut-record.result.now c.get_mut-record.ensures.value in
+    (has_room _ _ (subst (λ n. 1 ≤ n) room (c.requires.room none))).0
 
-pub invariant_of-self : goal.invariant_of-self
-invariant_of-self c = subst (λ m. AreCounted m c.self.inside.devices c.replace.new.self) (sym c.map_event.ensures.maps)
-    (event_put_counted c.self.inside.mapped.maps c.self.inside.devices c.self.inside.tally c.self.invariant c.args.dev.0 c.args.ev.0 c.event-before.result
-    c.args.event c.replace.new.self c.event-before.ensures c.replace.ensures.counts c.replace.ensures.total)
+pub returns-clause-maps : goal.returns-clause-maps
+returns-clause-maps c =
+    after_map_event c.self.inside.devices.map c.self.inside.collections.map c.args.dev.0 c.get_mut-record.result.now c.get_mut-record.ensures.value
+    (record { device = c.get_mut-record.result.now.device; events = c.insert.new.self }) refl c.args.ev.0 c.args.event c.insert.ensures
+    ∙ ap (λ m. event_mapped m.maps c.args.dev.0 c.args.ev.0 c.args.event) c.self.view_is

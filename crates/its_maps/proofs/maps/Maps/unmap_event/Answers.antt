@@ -1,13 +1,15 @@
-use Rattle.std.proofs.Common.{sym, subst}
-use Rattle.its_maps.specs.Tallies.{AreCounted}
-use Rattle.its_maps.proofs.Counted.{event_is_counted, event_taken_counted}
+use Rattle.std.proofs.Common.{◌≡◌, refl, sym, ap, ◌∙◌, subst}
+use Rattle.its_types.specs.Maps.{event_unmapped}
+use Rattle.its_maps.proofs.Calls.{after_unmap_event, after_unmap_nothing}
 use Rattle.its_maps.proofs.maps.Maps.unmap_event.Goals as goal
 
-pub take_event-requires : goal.take_event-requires
-take_event-requires c = event_is_counted c.self.inside.mapped.maps c.self.inside.devices c.self.inside.tally c.self.invariant c.args.dev.0 c.args.ev.0
-    c.event-before.result c.event-before.ensures
+pub returns-then-contains-clause-maps : goal.returns-then-contains-clause-maps
+returns-then-contains-clause-maps c =
+    after_unmap_event c.self.inside.devices.map c.self.inside.collections.map c.args.dev.0 c.get_mut-record.result.now c.get_mut-record.ensures.value
+    (record { device = c.get_mut-record.result.now.device; events = c.remove.new.self }) refl c.args.ev.0 c.remove.ensures
+    ∙ ap (λ m. event_unmapped m.maps c.args.dev.0 c.args.ev.0) c.self.view_is
 
-pub invariant_of-self : goal.invariant_of-self
-invariant_of-self c = subst (λ m. AreCounted m c.self.inside.devices c.take_event.new.self) (sym c.unmap_event.ensures.maps)
-    (event_taken_counted c.self.inside.mapped.maps c.self.inside.devices c.self.inside.tally c.self.invariant c.args.dev.0 c.args.ev.0 c.event-before.result
-    c.take_event.new.self c.event-before.ensures c.take_event.ensures.counts c.take_event.ensures.total)
+pub returns-else-contains-clause-maps : goal.returns-else-contains-clause-maps
+returns-else-contains-clause-maps c =
+    subst (λ m. m.maps ≡ event_unmapped m.maps c.args.dev.0 c.args.ev.0) c.self.view_is
+    (after_unmap_nothing c.self.inside.devices.map c.self.inside.collections.map c.args.dev.0 (sym c.if-contains.ensures) c.args.ev.0)
