@@ -221,12 +221,18 @@ int ask(int v, int what, uint64_t address, uint64_t value, uint64_t *result)
 	return failed;
 }
 
-/* KVM moves a pending LPI to its new processor as the old one next leaves the guest, so each goes in first. */
+int visit(int but)
+{
+	uint64_t none;
+	int failed = 0;
+	for (int v = 0; v < processors && !failed; v++)
+		if (v != but) failed = ask(v, NOTHING, 0, 0, &none);
+	return failed;
+}
+
 int acknowledge(int v, uint64_t *intid)
 {
-	int failed = 0;
-	for (int other = 0; other < processors && !failed; other++)
-		if (other != v) failed = ask(other, NOTHING, 0, 0, intid);
+	int failed = visit(v);
 	return failed ? failed : ask(v, ACKNOWLEDGE, 0, 0, intid);
 }
 

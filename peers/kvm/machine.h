@@ -32,6 +32,9 @@ int signal_event(uint32_t device, uint32_t event);
 
 /* One thing done by a processor, and what came of it. */
 int ask(int processor, int what, uint64_t address, uint64_t value, uint64_t *result);
+/* Each processor but one goes in and out. KVM looks then at what is pending there: it forgets what no longer is, and
+ * hands on what has another processor by now. */
+int visit(int but);
 /* The INTID that a processor acknowledges, after each other one was inside once. */
 int acknowledge(int processor, uint64_t *intid);
 

@@ -8,7 +8,7 @@
  *   W offset value      a register of the translator written by userspace; G offset: read
  *   r v offset value    the same of a redistributor of processor v, 32 bits; g v offset: read
  *   w v size address value      a write by the inner guest on processor v; l v size address: a read
- *   S device event      a signal; A v: an acknowledgement by the inner guest
+ *   S device event      a signal; A v: an acknowledgement by the inner guest; N: each processor goes in and out once
  *   V, X, Q             tables saved, tables restored, pending tables saved
  *   B v low high        the INTIDs from low to high whose bit is set in the pending table of processor v
  */
@@ -124,6 +124,7 @@ static void play_line(char *line)
 		failed = acknowledge(field[0], &value);
 		answer("A", failed, value);
 		break;
+	case 'N': visit(-1); break;
 	case 'V': printf("V %d\n", save_tables()); break;
 	case 'X': printf("X %d\n", restore_tables()); break;
 	case 'Q': printf("Q %d\n", save_pending()); break;
