@@ -29,8 +29,8 @@ def archive(folder, operations, out):
                            check=True)
 
 
-def play(folder, kernel, scripts, seconds=1200):
-    """KVM's answers to each script, and what the console said besides; a script that a crash cut has fewer answers."""
+def boot(folder, kernel, scripts, seconds):
+    """One boot: the kernel's name, the answers of the scripts that it began, and what the console said besides."""
     operations = "\n".join(line for script in scripts for line in script.operations) + "\n"
     with tempfile.TemporaryDirectory() as work:
         archive(folder, operations, f"{work}/initrd")
@@ -41,7 +41,18 @@ def play(folder, kernel, scripts, seconds=1200):
             version, told, trouble = answers.read_answers(file.read())
     if ended.returncode:
         trouble.append(f"QEMU ended with status {ended.returncode}")
-    return version, told + [[]] * (len(scripts) - len(told)), trouble
+    return version, told, trouble
+
+
+def play(folder, kernel, scripts, seconds=1200):
+    """KVM's answers to each script. Where a kernel crashes in a script, which then has too few, the others go on in
+    another boot."""
+    version, told, trouble = "", [], []
+    while len(told) < len(scripts):
+        version, more, said = boot(folder, kernel, scripts[len(told):], seconds)
+        told += more or [[]]
+        trouble += said
+    return version, told, trouble
 
 
 def run_its(program, text, word="run"):

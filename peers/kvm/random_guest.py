@@ -20,7 +20,8 @@ class Device:
 
 
 class Guest:
-    def __init__(self, title, seed, shape, sharing=True):
+    def __init__(self, title, seed, shape, sharing=True, careful=True):
+        self.careful = careful      # it steers around the differences
         self.sharing = sharing      # two events may have one LPI; KVM 7.3 refuses the second
         self.random = random.Random(seed)
         self.shape = shape
@@ -131,6 +132,8 @@ class Guest:
         """Nothing of these events is pending. KVM keeps or drops what is pending as an event goes, the standard the
         other; so before an event goes, or its target's LPIs, nothing is pending. KVM also keeps an LPI that was pending,
         with its processor, until that one is next inside."""
+        if not self.careful:
+            return
         for device, event in events:
             self.script.queue("clear", device, event)
             if self.script.waiting >= self.shape.places - 1:
@@ -199,7 +202,8 @@ class Guest:
         else:
             intid, event, name = self.random.choice(self.shape.lpis), self.random.randrange(1 << self.devices[d].bits), "mapti"
         shared = {self.devices[x].events[y][1] for x, y in self.users(intid)}
-        if shared and not self.sharing or shared - {icid} or any(user in self.lost for user in self.users(intid)):
+        lost = any(user in self.lost for user in self.users(intid))
+        if self.careful and (shared and not self.sharing or shared - {icid} or lost):
             return
         self.map_event(d, event, intid, icid, name)
 
@@ -207,7 +211,7 @@ class Guest:
         """All events of an LPI move together. KVM moves an event also from and to a processor whose LPIs are off."""
         intid, old = self.devices[d].events[event]
         ends = [self.target(old), self.target(icid)]
-        if None not in ends and not all(self.on[v] for v in ends):
+        if self.careful and None not in ends and not all(self.on[v] for v in ends):
             return
         for device, one in self.users(intid):
             self.script.queue("movi", device, one, icid)
@@ -217,11 +221,11 @@ class Guest:
 
     def move_all(self, source, target):
         """After MOVALL the collections go along: until then KVM sends to the new processor, and here to the old one."""
-        if not (self.on[source] and self.on[target]):
+        if self.careful and not (self.on[source] and self.on[target]):
             return
         self.settle()
         self.script.queue("movall", source, target)
-        for icid in [icid for icid, v in self.collections.items() if v == source]:
+        for icid in [icid for icid, v in self.collections.items() if v == source and self.careful]:
             self.script.queue("mapc", icid, target)
             self.collections[icid] = target
         self.kick()
@@ -230,9 +234,11 @@ class Guest:
         """KVM keeps what is pending, and refuses where the collection isn't mapped."""
         intid, icid = self.devices[d].events[event]
         if self.target(icid) is None:
-            return
+            if self.careful:
+                return
         self.clear([(d, event)])
         self.run("discard", d, event)
+        self.lost.discard((d, event))
         del self.devices[d].events[event]
 
     def change_configuration(self):
@@ -302,6 +308,17 @@ class Guest:
             found.append((device.itt + 8 * start, 8 * count))
         return found
 
+    def go_on(self, script):
+        """In another script, whose machine is restored from what this one saved."""
+        self.script = script
+        self.forget_pending()
+
+    def find_collections(self):
+        """No event is left that lost its collection."""
+        for d in {d for d, e in self.lost}:
+            self.map_device(d)
+        self.settle()
+
     def look(self, forget=True):
         """A save, and what it wrote. KVM writes no entry for an event that lost its collection."""
         self.settle()
@@ -317,6 +334,8 @@ class Guest:
     def forget_pending(self, wanted=lambda v: True):
         """Zeros in pending tables. KVM's save leaves old bits there, writes also where a processor's LPIs are off, and
         takes a bit from there as an event is mapped."""
+        if not self.careful:
+            return
         for v in filter(wanted, range(self.shape.processors)):
             self.script.zero(layout.pending_table(v) + self.shape.lpis[0] // 8, len(self.shape.lpis) // 8)
 
@@ -331,7 +350,7 @@ class Guest:
     def migrate(self):
         """Both are saved, and go on from that. No event may have lost its collection: KVM saves no entry for it."""
         self.settle()
-        if self.lost:
+        if self.lost or not self.careful:
             return
         self.forget_pending()
         self.look(forget=False)

@@ -11,18 +11,21 @@ MASK = 0xF8     # what a processor of QEMU keeps of the priority mask 0xFF
 
 
 class Script:
-    def __init__(self, title, shape):
+    def __init__(self, title, shape, image=None, from_kvm=False):
         self.title = title
         self.shape = shape
         self.operations = [f"T {title}", f"M {shape.processors:x}"]
         self.body = ["phase", "thread"]
-        self.restored = ()      # lines of the description beside those of the shape
+        self.restored = image.description(from_kvm) if image else ()
         self.checks = []
         self.answers = 0
         self.calls = 0
         self.place = 0
         self.waiting = 0
-        self.commands = 0
+        if image:
+            self.operations += image.pokes()
+            self.place = dict(image.registers)[layout.CWRITER] // 32
+            self.restart(image.registers, image.redistributors, False)
 
     # What one side alone is told.
 
@@ -102,7 +105,6 @@ class Script:
     def advance(self):
         self.place = (self.place + 1) % self.shape.places
         self.waiting += 1
-        self.commands += 1
 
     def kick(self, guest=None):
         """The queue's end is told, and all that waits in it runs."""
@@ -151,6 +153,10 @@ class Script:
         peeks = [(at, self.call(f"peek {at:#x} {min(64, start + length - at)}"))
                  for start, length in stretches for at in range(start, start + length, 64)]
         return answers, peeks
+
+    def dump(self):
+        """All words of KVM's memory; the number of the answer."""
+        return self.operate(f"D {layout.RAM:x} {layout.RAM_LENGTH:x}", True)
 
     def migrate(self):
         """Both go on from what they saved; everything was saved before, so KVM's side saves nothing here."""
