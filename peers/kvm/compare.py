@@ -6,6 +6,7 @@ import tables
 
 QUIESCENT = "GITS_CTLR.Quiescent: here 0 while enabled"
 IR = "GICR_CTLR.IR: KVM reads 1"
+ONE_PROPBASER = "GICR_PROPBASER: KVM has one for all processors"
 DESIGNER = "GITS_PIDR2: the designer's bits"
 IDENTIFICATION = "ID registers: here zero"
 
@@ -68,6 +69,8 @@ def named_register(file, offset, theirs, ours):
         return DESIGNER
     if file == "GITS" and 0xFFD0 <= offset <= 0xFFFC and offset != layout.PIDR2 and ours == 0:
         return IDENTIFICATION
+    if file == "GICR" and offset == layout.PROPBASER and ours == layout.ATTRIBUTES:
+        return ONE_PROPBASER
     if file == "GICR" and offset == layout.GICR_CTLR and theirs ^ ours == 4 and theirs & 4:
         return IR
     return None

@@ -7,6 +7,8 @@ other, and what compare.py needs besides. A call may stand as a function of KVM'
 import layout
 from commands import encoded, spelled
 
+# What KVM's ABI restores, in its order.
+RESTORED = (layout.CBASER, layout.CREADR, layout.CWRITER, layout.BASER0, layout.BASER1, layout.CTLR)
 MASK = 0xF8     # what a processor of QEMU keeps of the priority mask 0xFF
 
 
@@ -150,13 +152,33 @@ class Script:
     def see_words(self, stretches):
         """What stands in stretches of tables: the numbers of KVM's dumps, and of the peeks with their addresses."""
         answers = [self.operate(f"D {start:x} {length:x}", True) for start, length in stretches]
-        peeks = [(at, self.call(f"peek {at:#x} {min(64, start + length - at)}"))
-                 for start, length in stretches for at in range(start, start + length, 64)]
-        return answers, peeks
+        return answers, self.peeks(stretches)
 
-    def dump(self):
-        """All words of KVM's memory; the number of the answer."""
-        return self.operate(f"D {layout.RAM:x} {layout.RAM_LENGTH:x}", True)
+    def see_machine(self):
+        """All that a migration of KVM takes along: the numbers of the answers (image.from_kvm)."""
+        dump = self.operate(f"D {layout.RAM:x} {layout.RAM_LENGTH:x}", True)
+        own = [(offset, self.operate(f"G {offset:x}", True)) for offset in RESTORED]
+        return dump, own, [[self.operate(f"g {v:x} {offset:x}", True) for offset in (0x70, 0x74, 0x78, 0x7C, 0)]
+                           for v in range(self.shape.processors)]
+
+    def see_here(self, stretches):
+        """The same of the other side: the numbers of the calls (image.from_report)."""
+        own = [(offset, self.call(f"read {offset:#x} {layout.SIZES.get(offset, 8)}")) for offset in RESTORED]
+        theirs = [[self.call(f"rread {v} {offset:#x} {size}") for offset, size in ((0x70, 8), (0x78, 8), (0, 4))]
+                  for v in range(self.shape.processors)]
+        return self.peeks(stretches), own, theirs
+
+    def peeks(self, stretches):
+        return [(at, self.call(f"peek {at:#x} {min(64, start + length - at)}"))
+                for start, length in stretches for at in range(start, start + length, 64)]
+
+    def see_pending_alone(self):
+        """What KVM has pending, whatever older bits its memory has: the numbers of the answers, by processor."""
+        low, high = self.shape.lpis[0], self.shape.lpis[-1]
+        for v in range(self.shape.processors):
+            self.operate(f"Z {layout.pending_table(v) + low // 8:x} {(high - low) // 8 + 1:x}")
+        self.operate("Q", True)
+        return [self.operate(f"B {v:x} {low:x} {high:x}", True) for v in range(self.shape.processors)]
 
     def migrate(self):
         """Both go on from what they saved; everything was saved before, so KVM's side saves nothing here."""

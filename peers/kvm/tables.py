@@ -42,17 +42,13 @@ def collection_differences(theirs, ours):
 
 
 class Maps:
-    """What saved tables map: devices with their events, and collections."""
+    """What saved tables map, as a restore walks through them: devices with their events, and collections."""
 
     def __init__(self, words, shape):
         self.collections = dict(collections(words))
-        self.devices = {}
-        self.tables = {}
-        for device, address in places(shape):
-            if words.get(address, 0) >> 63:
-                itt, bits = device_fields(words[address])
-                self.tables[device] = itt, bits
-                self.devices[device] = events(words, itt, bits)
+        self.tables = {device: device_fields(words[address]) for device, address in devices(words, shape)}
+        self.entries = dict(devices(words, shape))
+        self.devices = {device: events(words, *table) for device, table in self.tables.items()}
 
     def target(self, icid):
         """The processor of a collection, or None."""
@@ -60,20 +56,46 @@ class Maps:
         return None if target == layout.UNMAPPED else target
 
     def all_events(self):
-        """Each mapped event: device, event, INTID, ICID."""
+        """Each mapped event, in the order of the walk: device, event, INTID, ICID."""
         return [(device, event, intid, icid) for device in sorted(self.devices)
                 for event, (intid, icid) in sorted(self.devices[device].items())]
 
+    def one_target(self, intid):
+        """The processor that KVM's restore gives an LPI: that of its first event."""
+        return next((self.target(icid) for d, e, lpi, icid in self.all_events() if lpi == intid), None)
 
-def places(shape):
-    """Each DeviceID that has an entry, with its address; in two levels those of the pages that are there."""
-    if not shape.levels:
-        return [(device, shape.device_entry(device)) for device in range(layout.PER_PAGE * shape.device_pages)]
-    return [(layout.PER_PAGE * k + i, page + 8 * i) for k, page in sorted(shape.level1().items())
-            for i in range(layout.PER_PAGE)]
+
+def walk(words, base, count, valid, next_of):
+    """The entries that a walk reaches from the first place on, by index, and whether an entry ended it."""
+    found, index = [], 0
+    while index < count:
+        word = words.get(base + 8 * index, 0)
+        if not valid(word):
+            index += 1
+            continue
+        found.append(index)
+        if not next_of(word):
+            return found, True
+        index += next_of(word)
+    return found, False
+
+
+def devices(words, shape):
+    """Each mapped device with the address of its entry."""
+    def next_of(word):
+        return word >> 49 & 0x3FFF
+    found = []
+    pages = sorted(shape.level1().items()) if shape.levels else [(0, layout.DEVICES)]
+    for k, page in pages:
+        count = layout.PER_PAGE * (1 if shape.levels else shape.device_pages)
+        reached, ended = walk(words, page, count, lambda word: word >> 63, next_of)
+        found += [(layout.PER_PAGE * k + index, page + 8 * index) for index in reached]
+        if ended:
+            break
+    return found
 
 
 def events(words, itt, bits):
     """The events of one table."""
-    return {event: event_fields(words[itt + 8 * event]) for event in range(1 << bits)
-            if event_fields(words.get(itt + 8 * event, 0))[0]}
+    reached, _ = walk(words, itt, 1 << bits, lambda word: event_fields(word)[0], lambda word: word >> 48)
+    return {event: event_fields(words[itt + 8 * event]) for event in reached}
