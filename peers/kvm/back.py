@@ -6,12 +6,11 @@ usage: back.py DIR PROGRAM [--kernel VERSION ..] [--seeds FIRST COUNT] [--steps 
 """
 import boot
 import image
-import layout
 import steps
 from compare import Comparison, Tally
 from play import arguments, shares, some_shape, tell
 from random_guest import Guest
-from rounds import Restored, pending_stretches, run_here
+from rounds import Restored, everything, run_here
 from script import Script
 
 REFUSED = "a collection that an event names and that isn't mapped has no entry here: KVM's restore answers EINVAL"
@@ -38,17 +37,6 @@ class Missing:
         return self
 
 
-def everything(guest):
-    """Where the guest's memory isn't zero."""
-    shape = guest.shape
-    found = [(layout.DEVICES, 64)] if shape.levels else []
-    found += [(shape.device_entry(d), 8) for d in [*guest.identifiers, guest.wide]]
-    found += [(layout.ITTS + layout.ITT_LENGTH * i, 256) for i in range(guest.tables)]
-    found += [(layout.WIDE_ITTS + layout.WIDE_LENGTH * i + 8 * shape.lpis[0], 8 * len(shape.lpis))
-              for i in range(guest.wide_tables)]
-    return found + [(layout.COLLECTIONS, 128), (layout.CONFIG, len(shape.lpis)), *pending_stretches(shape)]
-
-
 def refused(seed, kept):
     """Where a collection has no entry: that KVM refuses the tables as they are."""
     script = Script(f"refused-{seed}", kept.shape, kept)
@@ -71,26 +59,37 @@ def read_back(program, one, answers, seed, tally, keep):
                 tally.differ(script, f"pending at {v}: {found.pending(v)}, of {one.image.counts(v)}")
 
 
+def compare(given, seed, one, answers):
+    """The tally of one machine that KVM restored and saved again."""
+    tally = Tally()
+    report = run_here(given.program, one.script, answers, tally, given.keep)
+    if report:
+        tally.add(Comparison(one.script, answers, report).run())
+        if len(answers) == one.script.answers:
+            one.compare(answers, report, tally)
+            read_back(given.program, one, answers, seed, tally, given.keep)
+    return tally
+
+
 def restore_there(given, version, kernel, seeds, tally):
-    kept = {seed: save_here(seed, given.steps, version, given.program, tally) for seed in seeds}
-    lacking = [refused(seed, one) for seed, one in kept.items() if one and one.named_unmapped()]
-    whole = {seed: one.with_unmapped() for seed, one in kept.items() if one}
-    restored = {seed: Restored(Script(f"back-{seed}", one.shape, one), one, True) for seed, one in whole.items()}
-    scripts = lacking + [one.script for one in restored.values()]
-    told, answers, trouble = boot.play(given.folder, kernel, scripts)
+    saved = boot.several(lambda seed: (seed, save_here(seed, given.steps, version, given.program, tally)),
+                         [(seed,) for seed in seeds])
+    kept = {seed: one for seed, one in saved if one}
+    lacking = [refused(seed, one) for seed, one in kept.items() if one.named_unmapped()]
+    restored = {}
+    for seed, one in kept.items():
+        whole = one.with_unmapped()
+        restored[seed] = Restored(Script(f"back-{seed}", one.shape, whole), whole, True)
+    told, answers, trouble = boot.play(given.folder, kernel, lacking + [one.script for one in restored.values()])
     for script, answer in zip(lacking, answers):
         if answer and answer[0].number == 22:
             tally.named[REFUSED] += 1
         else:
             tally.differ(script, "KVM restores it without an entry")
-    for (seed, one), answer in zip(restored.items(), answers[len(lacking):]):
-        report = run_here(given.program, one.script, answer, tally, given.keep)
-        if report:
-            tally.add(Comparison(one.script, answer, report).run())
-            if len(answer) == one.script.answers:
-                one.compare(answer, report, tally)
-                read_back(given.program, one, answer, seed, tally, given.keep)
-    tell(f"{version}: {told}: {len(whole)} saved here, {len(lacking)} of them without an entry that KVM wants", tally, trouble)
+    pieces = [(given, seed, one, answer) for (seed, one), answer in zip(restored.items(), answers[len(lacking):])]
+    for one in boot.several(compare, pieces):
+        tally.add(one)
+    tell(f"{version}: {told}: {len(kept)} saved here, {len(lacking)} of them without an entry that KVM wants", tally, trouble)
 
 
 def main():

@@ -1,4 +1,5 @@
 """Boots kernels with an init that plays operations, and runs `its`."""
+import concurrent.futures
 import os
 import shutil
 import subprocess
@@ -53,6 +54,12 @@ def play(folder, kernel, scripts, seconds=1200):
         told += more or [[]]
         trouble += said
     return version, told, trouble
+
+
+def several(work, items):
+    """The results of some pieces of work, a few at a time: each runs a program that takes one processor."""
+    with concurrent.futures.ThreadPoolExecutor(int(os.environ.get("JOBS", "4"))) as pool:
+        return list(pool.map(lambda item: work(*item), items))
 
 
 def run_its(program, text, word="run"):

@@ -1,10 +1,10 @@
 """Where everything stands in the memory of the machine, and what sizes a script has."""
 
-RAM, RAM_LENGTH = 0x80000000, 0x1000000
-DEVICES, COLLECTIONS, QUEUE = 0x80000000, 0x80080000, 0x80100000
-CONFIG, PENDING, PAGES = 0x80110000, 0x80120000, 0x80300000
-ITTS, ITT_LENGTH = 0x80400000, 0x1000
-WIDE_ITTS, WIDE_LENGTH = 0x80800000, 0x40000
+RAM, RAM_LENGTH = 0x80000000, 0x240000
+DEVICES, COLLECTIONS, QUEUE = 0x80000000, 0x80040000, 0x800C0000
+CONFIG, PENDING, PAGES = 0x800D0000, 0x800E0000, 0x80160000
+ITTS, ITT_LENGTH, ITT_COUNT = 0x80190000, 0x100, 512
+WIDE_ITTS, WIDE_LENGTH, WIDE_COUNT = 0x801C0000, 0x20000, 4
 
 CTLR, IIDR, TYPER, CBASER, CWRITER, CREADR, BASER0, BASER1, PIDR2 = 0, 4, 8, 0x80, 0x88, 0x90, 0x100, 0x108, 0xFFE8
 GICR_CTLR, PROPBASER, PENDBASER, INVLPIR, INVALLR = 0, 0x70, 0x78, 0xA0, 0xB0
@@ -57,8 +57,8 @@ class Shape:
         return pending_table(processor) | ATTRIBUTES | (1 << 62 if zero else 0)
 
     def level1(self):
-        """The pages that the first level of the device table names, by their index there; index 2 has none."""
-        return {k: PAGES + 0x10000 * k for k in range(8) if k != 2} if self.levels else {}
+        """The pages that the first level of the device table names, by their index there; the others have none."""
+        return {k: PAGES + 0x10000 * i for i, k in enumerate((0, 1, 7))} if self.levels else {}
 
     def device_entry(self, device):
         """The address of a device's entry, or None where it has no place."""

@@ -4,7 +4,7 @@
 #include <stdint.h>
 
 #define MEMORY 0x80000000ull
-#define MEMORY_LENGTH 0x1000000ull
+#define MEMORY_LENGTH 0x240000ull
 #define ITS_FRAME 0x08080000ull
 #define REDISTRIBUTORS 0x080A0000ull
 #define REDISTRIBUTOR_STRIDE 0x20000ull

@@ -17,8 +17,8 @@ from random_guest import Guest
 def some_shape(seed):
     """Sizes by the seed: processors, levels, pages, bits of LPIs."""
     pick = random.Random(seed * 7 + 1).choice
-    return Shape(processors=pick([1, 2, 4, 4, 8]), levels=pick([False, True]), device_pages=pick([1, 2, 4]),
-                 collection_pages=pick([1, 2, 8]), queue_pages=pick([1, 1, 2, 4]), lpi_bits=pick([16, 16, 15, 14]))
+    return Shape(processors=pick([1, 2, 4, 4, 8]), levels=pick([False, True]), device_pages=pick([1, 1, 2, 4]),
+                 collection_pages=pick([1, 1, 1, 2, 8]), queue_pages=pick([1, 1, 2, 4]), lpi_bits=pick([16, 16, 15, 14]))
 
 
 def shares(version):
@@ -82,8 +82,8 @@ def main():
         told, answers, trouble = boot.play(given.folder, kernel, scripts)
         middle = time.time()
         tally = Tally()
-        for script, answer in zip(scripts, answers):
-            tally.add(compare(script, answer, given.program, given.keep))
+        for one in boot.several(lambda *pair: compare(*pair, given.program, given.keep), zip(scripts, answers)):
+            tally.add(one)
         tell(f"{version}: {told}: {len(scripts)} scripts, KVM {middle - begun:.0f} s, its {time.time() - middle:.0f} s",
              tally, trouble)
         failed = failed or bool(tally.others or trouble)

@@ -9,7 +9,7 @@ import layout
 from script import Script
 
 SIZES = [1, 2, 3, 3, 4, 5]
-IDLE_BITS = 14      # of the device whose events are INTIDs, for MAPI
+WIDE_BITS = 14      # of the device whose events are INTIDs, for MAPI
 
 
 class Device:
@@ -114,7 +114,7 @@ class Guest:
     def run(self, name, *values):
         """A command, alone or with others that wait."""
         self.script.queue(name, *values)
-        if self.script.waiting >= self.shape.places - 1 or self.chance(0.8):
+        if self.script.waiting >= self.shape.places - 1 or self.chance(0.6):
             self.kick()
 
     def kick(self):
@@ -143,14 +143,15 @@ class Guest:
             self.script.operate("N")
 
     def map_device(self, d):
-        bits = IDLE_BITS if d == self.wide else self.random.choice(SIZES)
-        if d == self.wide:
-            itt = layout.WIDE_ITTS + layout.WIDE_LENGTH * (self.wide_tables % 32)
-            self.wide_tables += 1
-        else:
-            itt = layout.ITTS + layout.ITT_LENGTH * (self.tables % 1024)
-            self.tables += 1
         self.forget_device(d)
+        bits = WIDE_BITS if d == self.wide else self.random.choice(SIZES)
+        if d == self.wide:
+            itt = layout.WIDE_ITTS + layout.WIDE_LENGTH * (self.wide_tables % layout.WIDE_COUNT)
+            self.wide_tables += 1
+            self.script.zero(itt + 8 * self.shape.lpis[0], 8 * len(self.shape.lpis))
+        else:
+            itt = layout.ITTS + layout.ITT_LENGTH * (self.tables % layout.ITT_COUNT)
+            self.tables += 1
         self.run("mapd", d, bits, itt)
         self.devices[d] = Device(bits, itt)
 

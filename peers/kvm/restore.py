@@ -33,6 +33,17 @@ def restore_both(saved, answers, seed, from_kvm):
     return Restored(Script(f"restored-{seed}", script.shape, kept, from_kvm), kept)
 
 
+def compare(restored, answers, given):
+    """The tally of one machine that both restored."""
+    tally = Tally()
+    report = run_here(given.program, restored.script, answers, tally, given.keep)
+    if report:
+        tally.add(Comparison(restored.script, answers, report).run())
+        if len(answers) == restored.script.answers:
+            restored.compare(answers, report, tally, given.from_kvm)
+    return tally
+
+
 def main():
     parser = arguments(__doc__.splitlines()[0])
     parser.add_argument("--from-kvm", action="store_true", help="the scripts have the line from-kvm")
@@ -46,12 +57,8 @@ def main():
         whole = [one for one in restored if one]
         _, answers, more = boot.play(given.folder, kernel, [one.script for one in whole])
         tally = Tally()
-        for one, answer in zip(whole, answers):
-            report = run_here(given.program, one.script, answer, tally, given.keep)
-            if report:
-                tally.add(Comparison(one.script, answer, report).run())
-                if len(answer) == one.script.answers:
-                    one.compare(answer, report, tally, given.from_kvm)
+        for one in boot.several(lambda *pair: compare(*pair, given), zip(whole, answers)):
+            tally.add(one)
         tell(f"{version}: {told}: {len(saved)} saved, {len(whole)} restored", tally, trouble + more)
         failed = failed or bool(tally.others)
     return failed

@@ -17,6 +17,17 @@ def pending_stretches(shape):
     return [(layout.pending_table(v) + shape.lpis[0] // 8, len(shape.lpis) // 8) for v in range(shape.processors)]
 
 
+def everything(guest):
+    """Where the guest's memory isn't zero."""
+    shape = guest.shape
+    found = [(layout.DEVICES, 64)] if shape.levels else []
+    found += [(shape.device_entry(d), 8) for d in [*guest.identifiers, guest.wide]]
+    found += [(layout.ITTS + layout.ITT_LENGTH * i, layout.ITT_LENGTH) for i in range(min(guest.tables, layout.ITT_COUNT))]
+    found += [(layout.WIDE_ITTS + layout.WIDE_LENGTH * i + 8 * shape.lpis[0], 8 * len(shape.lpis))
+              for i in range(min(guest.wide_tables, layout.WIDE_COUNT))]
+    return found + [(layout.COLLECTIONS, 128), (layout.CONFIG, len(shape.lpis)), *pending_stretches(shape)]
+
+
 class Restored:
     """A machine that was saved on one side and is restored on both: `script` has what both are asked then.
 
