@@ -423,6 +423,18 @@ def one_configuration():
 
 
 @case
+def one_propbaser():
+    """GICR_PROPBASER written at one processor: KVM has one for all, and reads configurations there"""
+    s = Small("one_propbaser", on=3)
+    s.redistributor_write(3, layout.PROPBASER, 0)
+    s.redistributor_read(0, layout.PROPBASER)
+    s.event()
+    s.signal(16, 3)
+    s.see_tables()
+    return s
+
+
+@case
 def stale_pending():
     """A pending bit that an earlier save wrote at the old processor: KVM leaves it there, and doesn't count it"""
     s = Small("stale_pending")

@@ -185,11 +185,14 @@ class Script:
         self.body += ["migrate", "phase", "thread"]
 
     def restart(self, registers, redistributors, keep=True):
-        """KVM's side goes on in a new machine with the old memory, by the order that its ABI wants."""
+        """KVM's side goes on in a new machine with the old memory, by the order that its ABI wants. KVM has one PROPBASER,
+        so one that was never written isn't written there either: it would stand in place of the others."""
         if keep:
             self.operate(f"K {self.shape.processors:x}")
         for v, values in enumerate(redistributors):
             for offset, value in zip((layout.PROPBASER, layout.PENDBASER, layout.GICR_CTLR), values):
+                if offset == layout.PROPBASER and value & ~layout.ATTRIBUTES == 0:
+                    continue
                 for half in range(0, 4 if offset == layout.GICR_CTLR else 8, 4):
                     self.operate(f"r {v:x} {offset + half:x} {value >> 8 * half & 0xFFFFFFFF:x}")
         for offset, value in registers[:-1]:
