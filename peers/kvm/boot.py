@@ -1,0 +1,68 @@
+"""Boots kernels with an init that plays operations, and runs `its`."""
+import concurrent.futures
+import os
+import shutil
+import subprocess
+import tempfile
+
+import answers
+
+QEMU = ["qemu-system-aarch64", "-M", "virt,gic-version=3,virtualization=on", "-cpu", "cortex-a72", "-smp", "1",
+        "-m", "512", "-icount", "shift=1,sleep=off", "-display", "none", "-monitor", "none", "-nic", "none",
+        "-no-reboot"]
+WORDS = "quiet loglevel=4 console=ttyAMA0 rdinit=/init nokaslr panic=-1"
+
+
+def kernels(folder, wanted=()):
+    """The paths of the kernels that were fetched, by version."""
+    there = sorted(os.listdir(f"{folder}/kernels"), key=lambda name: [int(part) for part in name.split(".")])
+    return [(name, f"{folder}/kernels/{name}") for name in there if not wanted or name in wanted]
+
+
+def archive(folder, operations, out):
+    """The first file system: init, and what it plays."""
+    with tempfile.TemporaryDirectory() as root:
+        shutil.copy(f"{folder}/init", f"{root}/init")
+        with open(f"{root}/operations", "w") as file:
+            file.write(operations)
+        with open(out, "wb") as file:
+            subprocess.run(["cpio", "-o", "-H", "newc", "--quiet"], cwd=root, input=b"init\noperations\n", stdout=file,
+                           check=True)
+
+
+def boot(folder, kernel, scripts, seconds):
+    """One boot: the kernel's name, the answers of the scripts that it began, and what the console said besides."""
+    operations = "\n".join(line for script in scripts for line in script.operations) + "\n"
+    with tempfile.TemporaryDirectory() as work:
+        archive(folder, operations, f"{work}/initrd")
+        command = ["nice", "-n", "10", "timeout", str(seconds), *QEMU, "-kernel", kernel, "-initrd", f"{work}/initrd",
+                   "-append", WORDS, "-serial", f"file:{work}/console"]
+        ended = subprocess.run(command, stdout=subprocess.DEVNULL, stderr=subprocess.DEVNULL)
+        with open(f"{work}/console", errors="replace") as file:
+            version, told, trouble = answers.read_answers(file.read())
+    if ended.returncode:
+        trouble.append(f"QEMU ended with status {ended.returncode}")
+    return version, told, trouble
+
+
+def play(folder, kernel, scripts, seconds=1200):
+    """KVM's answers to each script. Where a kernel crashes in a script, which then has too few, the others go on in
+    another boot."""
+    version, told, trouble = "", [], []
+    while len(told) < len(scripts):
+        version, more, said = boot(folder, kernel, scripts[len(told):], seconds)
+        told += more or [[]]
+        trouble += said
+    return version, told, trouble
+
+
+def several(work, items):
+    """The results of some pieces of work, a few at a time: each runs a program that takes one processor."""
+    with concurrent.futures.ThreadPoolExecutor(int(os.environ.get("JOBS", "4"))) as pool:
+        return list(pool.map(lambda item: work(*item), items))
+
+
+def run_its(program, text, word="run"):
+    """What `its` prints, and its status."""
+    ended = subprocess.run(["nice", "-n", "10", program, word], input=text.encode(), stdout=subprocess.PIPE)
+    return ended.stdout.decode(), ended.returncode
