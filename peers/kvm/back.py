@@ -89,7 +89,8 @@ def restore_there(given, version, kernel, seeds, tally):
     pieces = [(given, seed, one, answer) for (seed, one), answer in zip(restored.items(), answers[len(lacking):])]
     for one in boot.several(compare, pieces):
         tally.add(one)
-    tell(f"{version}: {told}: {len(kept)} saved here, {len(lacking)} of them without an entry that KVM wants", tally, trouble)
+    tell(f"{version}: {told}: {len(kept)} saved here, {len(lacking)} of them without an entry that KVM wants", tally,
+         trouble)
 
 
 def main():
