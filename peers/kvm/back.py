@@ -17,7 +17,7 @@ REFUSED = "a collection that an event names and that isn't mapped has no entry h
 
 
 def save_here(seed, count, version, program, tally):
-    """What `its` saves after random steps that steer around nothing but what this kernel can't restore."""
+    """What `its` saves after random steps that steer around nothing."""
     guest = Guest(f"saved-{seed}", seed, some_shape(seed), shares(version), careful=False)
     guest.start()
     steps.play(guest, count)
