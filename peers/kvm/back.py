@@ -17,7 +17,7 @@ REFUSED = "a collection that an event names and that isn't mapped has no entry h
 
 
 def save_here(seed, count, version, program, tally):
-    """What `its` saves after random steps that steer around nothing but what this kernel can't restore."""
+    """What `its` saves after random steps that steer around nothing."""
     guest = Guest(f"saved-{seed}", seed, some_shape(seed), shares(version), careful=False)
     guest.start()
     steps.play(guest, count)
@@ -89,7 +89,8 @@ def restore_there(given, version, kernel, seeds, tally):
     pieces = [(given, seed, one, answer) for (seed, one), answer in zip(restored.items(), answers[len(lacking):])]
     for one in boot.several(compare, pieces):
         tally.add(one)
-    tell(f"{version}: {told}: {len(kept)} saved here, {len(lacking)} of them without an entry that KVM wants", tally, trouble)
+    tell(f"{version}: {told}: {len(kept)} saved here, {len(lacking)} of them without an entry that KVM wants", tally,
+         trouble)
 
 
 def main():

@@ -1,5 +1,5 @@
 #!/usr/bin/env python3
-"""Runs each case of cases.py on each kernel and on `its`, and tells where the answers differ.
+"""Runs each case of cases.py and more_cases.py on each kernel and on `its`, and tells where the answers differ.
 
 usage: differences.py DIR PROGRAM [--kernel VERSION ..] [--case NAME ..] [--all]
 
@@ -8,6 +8,7 @@ A line of a case is a call here, KVM's answer, and `its`'s; --all tells the call
 import argparse
 
 import boot
+import more_cases  # noqa: F401: it adds its cases
 import tables
 from cases import CASES
 from compare import Report
@@ -20,7 +21,6 @@ class Rows:
         self.answers = answers
         self.report = report
         self.rows = []
-        self.seen = {"processor": 0}
         for kind, *check in script.checks:
             getattr(self, kind)(*check)
 
@@ -34,7 +34,8 @@ class Rows:
     def signal(self, answer, call):
         number, reply = self.answers[answer].number, self.report.replies[call]
         told = {1: "delivered", 0: "dropped", -16: "dropped: off"}.get(number, number)
-        agrees = reply.startswith("delivered") == (number == 1) and (reply.endswith(("disabled", "lpis-off")) == (number == -16))
+        off = reply.endswith(("disabled", "lpis-off"))
+        agrees = reply.startswith("delivered") == (number == 1) and off == (number == -16)
         self.row(self.report.calls[call], told, reply, agrees)
 
     def register(self, answer, call, file, offset):

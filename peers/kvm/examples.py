@@ -10,13 +10,14 @@ import argparse
 import boot
 import image
 import layout
-from cases import Small
+import steps
 from compare import Comparison, Tally
 from layout import Shape
-from play import steps, tell
+from play import tell
 from random_guest import Guest
 from rounds import Restored, run_here
 from script import Script
+from small import Small
 
 
 def random_script():

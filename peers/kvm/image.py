@@ -18,7 +18,8 @@ class Image:
         order = (layout.CTLR, layout.CBASER, layout.CREADR, layout.CWRITER, layout.BASER0, layout.BASER1)
         lines = ["restore " + " ".join(f"{values[offset]:#x}" for offset in order)]
         lines += ["from-kvm"] if from_kvm else []
-        lines += [f"rrestore {v} {ctlr} {prop:#x} {pend:#x}" for v, (prop, pend, ctlr) in enumerate(self.redistributors)]
+        lines += [f"rrestore {v} {ctlr} {prop:#x} {pend:#x}"
+                  for v, (prop, pend, ctlr) in enumerate(self.redistributors)]
         return lines + [f"word {address:#x} {word:#x}" for address, word in sorted(self.words.items())]
 
     def pokes(self):

@@ -78,7 +78,8 @@ class Guest:
             script.poke(layout.DEVICES + 8 * k, (layout.VALID | page).to_bytes(8, "little"))
         script.poke(layout.CONFIG, bytes(self.some_configuration() for _ in shape.lpis))
         for v in range(shape.processors):
-            script.redistributor_write(v, layout.PENDBASER, shape.pendbaser(v))     # KVM maps no event to one without
+            # KVM maps no event to a processor without a pending table.
+            script.redistributor_write(v, layout.PENDBASER, shape.pendbaser(v))
             if v == 0 or self.chance(0.8):
                 self.turn_on(v)
         script.write(layout.CBASER, shape.cbaser, self.some_guest())
@@ -178,7 +179,8 @@ class Guest:
         self.run("mapc", icid, v)
         self.collections[icid] = v
         if old not in (None, v) and not self.on[v]:
-            self.run("unmapc", 4001)    # KVM's cache of translations sends to the processor all the same until it is emptied
+            # Until KVM's cache of translations is emptied, it sends to the processor all the same.
+            self.run("unmapc", 4001)
 
     def unmap_collection(self, icid):
         """What is pending stays so in both, but a CLEAR of it is refused here alone: nothing is."""
@@ -201,7 +203,8 @@ class Guest:
             intid = self.random.choice(self.shape.lpis)
             event, name = intid, "mapi"
         else:
-            intid, event, name = self.random.choice(self.shape.lpis), self.random.randrange(1 << self.devices[d].bits), "mapti"
+            intid, name = self.random.choice(self.shape.lpis), "mapti"
+            event = self.random.randrange(1 << self.devices[d].bits)
         shared = {self.devices[x].events[y][1] for x, y in self.users(intid)}
         lost = any(user in self.lost for user in self.users(intid))
         if self.careful and (shared and not self.sharing or shared - {icid} or lost):
@@ -276,7 +279,7 @@ class Guest:
         self.on[v] = False
 
     def rebase(self):
-        """The bases are written with their own values, or as not valid and then anew, both: KVM unmaps at the latter."""
+        """The bases are written with their own values, or both as not valid and then anew, where KVM unmaps too."""
         self.settle()
         again = self.chance(0.5)
         if not again:

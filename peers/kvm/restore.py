@@ -14,7 +14,7 @@ from script import Script
 
 
 def save_there(seed, count, version):
-    """A guest that steers around nothing but a second event of an LPI where KVM refuses it; and what KVM is asked then."""
+    """A guest that steers around nothing, and what is seen then."""
     guest = Guest(f"saved-{seed}", seed, some_shape(seed), shares(version), careful=False)
     guest.start()
     steps.play(guest, count)

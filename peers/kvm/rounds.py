@@ -47,14 +47,16 @@ class Restored:
         self.collections = script.peeks([(layout.COLLECTIONS, 128)])
         self.bits = script.peeks(pending_stretches(script.shape))
         self.signals = []
-        for device, event, intid, icid in image.maps.all_events():
-            self.signal_alone(device, event, intid, icid)
+        for device, event, intid, _ in image.maps.all_events():
+            self.signal_alone(device, event, intid)
 
-    def signal_alone(self, device, event, intid, icid):
+    def signal_alone(self, device, event, intid):
         """A signal of an event whose LPI isn't pending, and what KVM then has pending."""
-        self.script.command("clear", device, event)
-        self.script.signal(device, event)
-        self.signals.append((intid, icid, self.script.calls - 1, self.script.see_pending_alone()))
+        script = self.script
+        script.command("clear", device, event)
+        first = self.image.maps.first_event(intid) == (device, event)
+        answer, call = script.signal(device, event, "signal" if first else "signal_of_second")
+        self.signals.append((intid, answer, call, script.see_pending_alone()))
 
     def compare(self, answers, report, tally, from_kvm=False):
         self.compare_tables(report, tally)
@@ -118,9 +120,9 @@ class Restored:
         target = self.image.maps.one_target(intid)
         return [] if target is None else [target]
 
-    def compare_signal(self, answers, report, tally, intid, icid, call, pending):
+    def compare_signal(self, answers, report, tally, intid, signal, call, pending):
         reply = report.replies[call].split()
-        if reply[0] != "delivered":
+        if reply[0] != "delivered" or answers[signal].number != 1:
             return
         where = [v for v, answer in enumerate(pending) if intid in answers[answer].numbers]
         if where == [int(reply[1])] and intid == int(reply[2]):

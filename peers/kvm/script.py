@@ -122,8 +122,11 @@ class Script:
         self.queue(name, *values)
         self.kick()
 
-    def signal(self, device, event):
-        self.check("signal", self.operate(f"S {device:x} {event:x}", True), self.call(f"signal {device} {event}"))
+    def signal(self, device, event, kind="signal"):
+        """The numbers of the answer and of the call."""
+        answer, call = self.operate(f"S {device:x} {event:x}", True), self.call(f"signal {device} {event}")
+        self.check(kind, answer, call)
+        return answer, call
 
     def acknowledge(self, v):
         answer = self.operate(f"A {v:x}", True)

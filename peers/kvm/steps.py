@@ -127,8 +127,10 @@ def bad_write(guest):
     """A write that has no effect: a register that can't be written now, or an offset past the queue."""
     v = guest.random.randrange(guest.shape.processors)
     past = 4096 * guest.shape.queue_pages + 32
-    offset, value = guest.random.choice([(layout.CWRITER, past), (layout.CREADR, 64), (layout.TYPER, 5), (0x40, 7)] +
-                                        ([(layout.CBASER, 0), (layout.BASER0, 0), (layout.BASER1, 0)] if guest.enabled else []))
+    choices = [(layout.CWRITER, past), (layout.CREADR, 64), (layout.TYPER, 5), (0x40, 7)]
+    if guest.enabled:
+        choices += [(layout.CBASER, 0), (layout.BASER0, 0), (layout.BASER1, 0)]
+    offset, value = guest.random.choice(choices)
     guest.script.write(offset, value, v, 8)
     for one in (layout.CWRITER, layout.CREADR, layout.CBASER, layout.BASER0):
         guest.script.read(one)

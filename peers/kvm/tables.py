@@ -60,9 +60,14 @@ class Maps:
         return [(device, event, intid, icid) for device in sorted(self.devices)
                 for event, (intid, icid) in sorted(self.devices[device].items())]
 
+    def first_event(self, intid):
+        """The first event of an LPI, or None."""
+        return next(((d, e) for d, e, lpi, icid in self.all_events() if lpi == intid), None)
+
     def one_target(self, intid):
         """The processor that KVM's restore gives an LPI: that of its first event."""
-        return next((self.target(icid) for d, e, lpi, icid in self.all_events() if lpi == intid), None)
+        first = self.first_event(intid)
+        return first and self.target(self.devices[first[0]][first[1]][1])
 
 
 def walk(words, base, count, valid, next_of):
