@@ -115,7 +115,7 @@ fn needs_and_limits(rt: HostRuntime) {
     assert_eq!(rt; its_limit(&mut handle, 0), DONE);
     assert_eq!(rt; drive(alloc, &mut handle), 2);
     let command = (0x8002_0040, 32);
-    assert_eq!(rt; needed(&mut handle), (DONE, 3, [command, (0x8003_0000, 1)]));
+    assert_eq!(rt; needed(&mut handle), (DONE, 2, [command, (0x8003_0000, 1)]));
     let mut step = NO_STEP;
     assert_eq!(rt; its_step(&mut handle, alloc, &mut step), FULL);
     assert_eq!(rt; (step.outcome, step.concerned), (9, 0));
