@@ -32,7 +32,7 @@ EOF
 
 # The newest kernel of each line that the suites' linux-image-cloud-arm64 depend on.
 newest() {
-    apt-cache show linux-image-cloud-arm64 | sed -n 's/^Depends: \(linux-image-[^ ,]*\).*/\1/p' | sort -uV |
+    apt-cache show linux-image-cloud-arm64 | sed -n 's/^Depends:.*\(linux-image-[0-9][^ ,]*\).*/\1/p' | sort -uV |
         awk -F'[-.+]' '{ last[$3 "." $4] = $0 } END { for (line in last) print last[line] }' | sort -V
 }
 
