@@ -27,6 +27,7 @@ REDIST_BITS = {
 
 
 LINUX_BASE = 0x780      # what PROPBASER and PENDBASER read besides, with `linux`
+LINUX_CTLR = ("GICR_CTLR: IR with `linux`", 0x4)
 
 
 def named_value(call, theirs, ours, linux):
@@ -38,7 +39,9 @@ def named_value(call, theirs, ours, linux):
         name, bits = ITS_BITS.get(offset, BASER_BITS if 0x100 <= offset < 0x110 and not low >> 63 else ("", 0))
     else:
         name, bits = REDIST_BITS.get(offset, ("", 0))
-        if linux and (offset == 0 or high & 0xF80 != LINUX_BASE):
+        if linux and offset == 0:
+            name, bits = LINUX_CTLR
+        elif linux and high & 0xF80 != LINUX_BASE:
             name = ""
     return name if (low ^ high) & ~bits == 0 else ""
 
