@@ -166,8 +166,8 @@ impl Frame {
         Room { chunk, page }
     }
 
-    // Holds the chunk that a page lies in: this one, if it isn't held. Answers it otherwise.
-    fn hold_chunk_with(&mut self, page: u64, fresh: Chunk) -> Option<Chunk>
+    /// Holds the chunk that a page lies in: this one, if it isn't held. Answers it otherwise.
+    pub(crate) fn hold_chunk_with(&mut self, page: u64, fresh: Chunk) -> Option<Chunk>
         requires inside { 65536 * page < self.old.len }
         requires blank { IsBlankChunk (page_rows fresh.pages.items) }
         ensures left { IfSome result (λ c. IsBlankChunk (page_rows c.pages.items)) }

@@ -1,0 +1,128 @@
+//! Memory with the pages of a draft laid over it.
+ghost use Rattle.std.specs.Prelude.{◌≡◌};
+ghost use Rattle.guest_windows.specs.Fields.{windows};
+ghost use Rattle.guest_windows.specs.Drafts.{own_of, own_page, laid_from};
+
+use crate::chunk::{CHUNK, PAGES};
+use crate::draft::Draft;
+use crate::draft_chunk::DraftChunk;
+use crate::frame::Frame;
+use crate::memory::Memory;
+use crate::page::Page;
+
+impl Frame {
+    ghost use Rattle.std.specs.Prelude.{◌≡◌, ◌≢◌, ◌*◌, ◌/◌, ◌%◌, ◌<◌, ◌≤◌, ◌^◌, ℕ};
+    ghost use Rattle.std.specs.Prelude.{true, false, length, slice_index_or, None};
+    ghost use Rattle.std.specs.Vec.{vec_len};
+    ghost use Rattle.guest_windows.specs.Fields.{window};
+    ghost use Rattle.guest_windows.specs.Pages.{rows, byte_in, chunk_row, page_row};
+    ghost use Rattle.guest_windows.specs.Drafts.{own_page, own_rows, row_of, byte_over};
+    ghost use Rattle.guest_windows.specs.Drafts.{laid_window};
+
+    // Whether the chunk with this number has a byte of it.
+    fn reaches(&self, number: u64) -> bool
+        ensures inside { result ≡ true → 268435456 * number < self.now.len }
+        ensures outside { result ≡ false → self.now.len ≤ 268435456 * number }
+    {
+        number <= self.len / CHUNK && number * CHUNK < self.len
+    }
+
+    // Takes the pages of a chunk in the place of its own.
+    fn adopt(&mut self, chunk: DraftChunk)
+        ensures { window self.new ≡ laid_window (own_page chunk chunk.window) (window self.old) }
+    {
+        if !self.reaches(chunk.at) {
+            return;
+        }
+        let first = chunk.at * PAGES;
+        let _ = self.hold_chunk_with(first, chunk.room);
+        self.adopt_pages(first, chunk.pages);
+    }
+
+    // Takes the pages of a chunk that is held in the place of its own.
+    fn adopt_pages(&mut self, first: u64, pages: Vec<Option<Page>>)
+        requires inside { 65536 * first < self.old.len }
+        requires whole { first % 4096 ≡ 0 }
+        requires count { vec_len pages ≡ 4096 }
+        requires held { length (chunk_row (rows self.old.chunks.items) first) ≡ 4096 }
+        ensures here { (i : ℕ) → i < self.old.len → i / 65536 / 4096 ≡ first / 4096
+            → byte_in (rows self.new.chunks.items) i
+            ≡ byte_over (slice_index_or (own_rows pages.items) (i / 65536 % 4096) None)
+            (i % 65536) (byte_in (rows self.old.chunks.items) i) }
+        ensures others { (i : ℕ) → i / 65536 / 4096 ≢ first / 4096
+            → byte_in (rows self.new.chunks.items) i ≡ byte_in (rows self.old.chunks.items) i }
+        ensures base { self.new.base ≡ self.old.base }
+        ensures len { self.new.len ≡ self.old.len }
+    {
+        let mut pages = pages;
+        while let Some(page) = pages.pop() {
+            self.adopt_page(first + pages.len() as u64, page);
+        }
+    }
+
+    // Takes a page of a chunk that is held in the place of its own, if there is one.
+    fn adopt_page(&mut self, page: u64, fresh: Option<Page>)
+        requires low { page < 2 ^ 40 }
+        requires held { length (chunk_row (rows self.old.chunks.items) page) ≡ 4096 }
+        ensures here { (i : ℕ) → i < self.old.len → i / 65536 ≡ page
+            → byte_in (rows self.new.chunks.items) i
+            ≡ byte_over (row_of fresh) (i % 65536) (byte_in (rows self.old.chunks.items) i) }
+        ensures others { (i : ℕ) → i / 65536 ≢ page
+            → byte_in (rows self.new.chunks.items) i ≡ byte_in (rows self.old.chunks.items) i }
+        ensures chunk { length (chunk_row (rows self.new.chunks.items) page) ≡ 4096 }
+        ensures base { self.new.base ≡ self.old.base }
+        ensures len { self.new.len ≡ self.old.len }
+    {
+        if let Some(fresh) = fresh
+            && 65_536 * page < self.len
+        {
+            self.replace_page(page, fresh);
+        }
+    }
+
+    // Puts a page in the place of another of a chunk that is held.
+    fn replace_page(&mut self, page: u64, fresh: Page)
+        requires inside { 65536 * page < self.old.len }
+        requires held { length (chunk_row (rows self.old.chunks.items) page) ≡ 4096 }
+        ensures here { page_row (rows self.new.chunks.items) page ≡ fresh.bytes.items }
+        ensures others { (p : ℕ) → p ≢ page → page_row (rows self.new.chunks.items) p
+            ≡ page_row (rows self.old.chunks.items) p }
+        ensures chunk { length (chunk_row (rows self.new.chunks.items) page) ≡ 4096 }
+        ensures base { self.new.base ≡ self.old.base }
+        ensures len { self.new.len ≡ self.old.len }
+    {
+        let chunk = &mut self.chunks[(page / PAGES) as usize];
+        chunk.pages[(page % PAGES) as usize] = fresh;
+    }
+}
+
+impl Memory {
+    ghost use Rattle.std.specs.Prelude.{◌≡◌};
+    ghost use Rattle.guest_windows.specs.Drafts.{laid};
+
+    /// Lays the pages of a draft over it. Takes no memory.
+    pub fn adopt(&mut self, draft: Draft)
+        ensures { self.new ≡ laid draft self.old }
+    {
+        adopt_chunks(&mut self.frames, draft.chunks);
+    }
+}
+
+fn adopt_chunks(frames: &mut Vec<Frame>, chunks: Vec<DraftChunk>)
+    ensures { windows frames.new.items
+        ≡ laid_from (own_of chunks.items) 0 (windows frames.old.items) }
+{
+    let mut chunks = chunks;
+    while let Some(chunk) = chunks.pop() {
+        adopt_chunk(frames, chunk);
+    }
+}
+
+fn adopt_chunk(frames: &mut Vec<Frame>, chunk: DraftChunk)
+    ensures { windows frames.new.items ≡ laid_from (own_page chunk) 0 (windows frames.old.items) }
+{
+    let at = chunk.window;
+    if at < frames.len() {
+        frames[at].adopt(chunk);
+    }
+}
