@@ -12,3 +12,6 @@ mod Slots
 mod Paged
 mod Walked
 mod Refilled
+mod Totals
+mod Tallied
+mod Counted

@@ -1,6 +1,6 @@
 -- What there is room for.
-use Rattle.std.proofs.Common.{◌≡◌, ℕ, ◌≤◌, Bool, true, false, cond, Some, None, Option, Result, Ok, Err, OnOk, OnErr, unwrap_or, refl, sym, ap, ◌∙◌, subst}
-use Rattle.std.proofs.Common.{arith}
+use Rattle.std.proofs.Common.{◌≡◌, ℕ, ◌≤◌, Bool, true, false, cond, ◌&&◌, Some, None, Option, Result, Ok, Err, OnOk, OnErr, refl, sym, ap, ◌∙◌, subst}
+use Rattle.std.proofs.Common.{unwrap_or, arith}
 use Rattle.std.specs.Option.{option_map}
 use Rattle.std.specs.Ordering.{nat_cmp, eq_by_cmp}
 use Rattle.std.specs.Cmp.{nat_cmp_total, unsigned_tied}
@@ -15,6 +15,15 @@ use Rattle.its_maps.proofs.Values.{get-values_by, values_by-insert, insert_same}
 pub has_room : (reserve : Bool) (spare : ℕ) → 1 ≤ room_of reserve spare → (reserve ≡ true) × (1 ≤ spare)
 has_room true spare h = (refl, omega (arith, h))
 has_room false spare h = absurd (omega (arith, h))
+
+-- the reserve is of two parts
+pub first_there : (a b : Bool) (spare : ℕ) → 1 ≤ room_of (a && b) spare → a ≡ true
+first_there true b spare h = refl
+first_there false b spare h = absurd (omega (arith, h))
+
+pub second_there : (a b : Bool) (spare : ℕ) → 1 ≤ room_of (a && b) spare → b ≡ true
+second_there true b spare h = (has_room b spare h).0
+second_there false b spare h = absurd (omega (arith, h))
 
 pub gives_room : (spare : ℕ) → 1 ≤ spare → 1 ≤ room_of true spare
 gives_room spare h = omega arith

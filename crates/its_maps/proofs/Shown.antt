@@ -29,7 +29,7 @@ module _ {V : Type 0} where
       same_entries_map _ _ (entries-from_sorted nat_cmp (put nat_cmp k v es) (is_sorted-put nat_cmp nat_cmp_total k v es h)
       ∙ sym (entries-insert nat_cmp_total (from_sorted es) k v ∙ ap (put nat_cmp k v) (entries-from_sorted nat_cmp es h)))
 
-  from_where : (es : List (ℕ × V)) (p : ℕ → Bool) → Rises es → from_sorted {R = nat_cmp} (where_key nat_cmp p es) ≡ map.retain_keys (from_sorted es) p
+  pub from_where : (es : List (ℕ × V)) (p : ℕ → Bool) → Rises es → from_sorted {R = nat_cmp} (where_key nat_cmp p es) ≡ map.retain_keys (from_sorted es) p
   from_where es p h =
       same_map nat_cmp_total nat_cmp-IsAntisymmetric _ _ (λ q.
       get-from_sorted nat_cmp (where_key nat_cmp p es) q (is_sorted-where_key nat_cmp p es h)

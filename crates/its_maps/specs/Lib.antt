@@ -7,3 +7,5 @@ pub mod Walks
 pub mod Pages
 pub mod EventTables
 pub mod LookUp
+pub mod Counting
+pub mod NextNamed

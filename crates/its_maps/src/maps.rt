@@ -1,14 +1,19 @@
 //! The maps of a translator.
-ghost use Rattle.std.specs.Prelude.{◌≡◌, ◌≤◌, ℕ, None, IsSome, IfSome, OnOk, OnErr};
+ghost use Rattle.std.specs.Prelude.{◌≡◌, ◌≤◌, ◌<◌, ◌&&◌, ℕ, true, false, None, IsSome, IfSome, OnOk};
+ghost use Rattle.std.specs.Prelude.{OnErr, length};
 ghost use Rattle.std.specs.FinMap as finmap;
 ghost use Rattle.its_types.specs.Maps.{device_of, event_of, collection_of, events_at, no_maps};
 ghost use Rattle.its_types.specs.Maps.{device_mapped, device_unmapped, event_mapped};
 ghost use Rattle.its_types.specs.Maps.{event_unmapped, collection_mapped, collection_unmapped};
 ghost use Rattle.its_types.specs.Maps.{devices_emptied, collections_emptied};
+ghost use Rattle.its_maps.specs.Counting.{has_events, named, IsTally, counts_another, AreCounted};
 ghost use Rattle.its_maps.specs.LookUp.{looked_up};
+ghost use Rattle.its_maps.specs.MapRoom.{without};
+ghost use Rattle.its_maps.specs.NextNamed.{end_of};
 ghost use Rattle.its_maps.specs.MapsRoom.{event_room, EventsHaveDevices, KeysFit};
 ghost use Rattle.its_maps.specs.Walks.{events_left};
 
+use crate::counts::Counts;
 use crate::device_record::DeviceRecord;
 use crate::event_table::EventTable;
 use crate::look_up::LookUp;
@@ -25,10 +30,12 @@ use std::marker::Model;
 ///
 /// A look-up, a map or an unmap costs about the same however much is mapped and in whatever order:
 /// a key has its place in a page of such places, which is there while one of its keys is mapped.
-/// The few events of a device are one vector.
+/// The few events of a device are one vector. Unmapping a device costs with its events, each of
+/// which is counted no more.
 ///
 /// The three calls that make room take memory, and no other call does. After such a call that
-/// succeeded, one map call of its kind finds the page and the place that it may need.
+/// succeeded, one map call of its kind finds the page and the place that it may need. There is room
+/// for no more than 2^32 - 1 devices and 2^64 - 2 events.
 #[derive(Drop)]
 pub struct Maps {
     devices: PagedMap<DeviceRecord>,
@@ -36,6 +43,7 @@ pub struct Maps {
     device_page: Reserve<DeviceRecord>,
     event_page: Reserve<Event>,
     collection_page: Reserve<Vcpu>,
+    counts: Counts,
     alloc: Global,
 }
 
@@ -46,18 +54,20 @@ impl Model for Maps {
 
     ghost coded = { maps_room_code };
 
+    ghost use Rattle.std.specs.Prelude.{◌&&◌};
+    ghost use Rattle.its_maps.specs.Counting.{counts_device, counts_another, AreCounted};
     ghost use Rattle.its_maps.specs.View.{shown, room_of, event_room_in};
 
     ghost view = { λ m. record {
       maps = shown m.devices.map m.collections.map;
       room = record {
-        devices = room_of m.device_page m.devices.spare;
-        events = event_room_in m.event_page m.devices.map;
+        devices = room_of (m.device_page && counts_device m.counts) m.devices.spare;
+        events = event_room_in (m.event_page && counts_another m.counts) m.devices.map;
         collections = room_of m.collection_page m.collections.spare;
       };
     } };
 
-    ghost invariant = { λ m. KeysFit m.collections.map };
+    ghost invariant = { λ m. KeysFit m.collections.map × AreCounted m.counts m.devices.map };
 }
 
 impl Maps {
@@ -71,6 +81,7 @@ impl Maps {
             device_page: Reserve::empty(),
             event_page: Reserve::empty(),
             collection_page: Reserve::empty(),
+            counts: Counts::new(alloc),
             alloc,
         }
     }
@@ -83,6 +94,9 @@ impl Maps {
         ensures others { self.new.room ≡ record self.old.room { devices = self.new.room.devices } }
         ensures err { OnErr result (self.new ≡ self.old) }
     {
+        if self.counts.devices == u32::MAX {
+            return Err(AllocError);
+        }
         self.devices.make_room()?;
         self.device_page.fill(self.alloc)
     }
@@ -98,7 +112,7 @@ impl Maps {
     {
         let record = self.devices.get_mut(dev.0);
         record.events.make_room(self.alloc)?;
-        self.event_page.fill(self.alloc)
+        fill_for_event(&mut self.counts, &mut self.event_page, self.alloc)
     }
 
     /// Makes room for one collection more.
@@ -126,6 +140,8 @@ impl Maps {
             device,
             events: EventTable::new(self.alloc),
         };
+        leave_device(&mut self.counts, &self.devices, dev);
+        self.counts.devices += 1;
         self.devices.insert(dev.0, record, &mut self.device_page);
     }
 
@@ -138,6 +154,9 @@ impl Maps {
         ensures room { self.new.room ≡ record self.old.room { events = self.new.room.events } }
     {
         let record = self.devices.get_mut(dev.0);
+        let before = record.events.get(ev.0).copied();
+        self.counts.leave(before);
+        self.counts.enter(event.icid);
         record.events.insert(ev.0, event, &mut self.event_page);
     }
 
@@ -160,6 +179,7 @@ impl Maps {
         ensures maps { self.new.maps ≡ device_unmapped self.old.maps dev.0 }
         ensures room { self.new.room.collections ≡ self.old.room.collections }
     {
+        leave_device(&mut self.counts, &self.devices, dev);
         self.devices.remove(dev.0);
     }
 
@@ -170,6 +190,8 @@ impl Maps {
     {
         if self.devices.contains(dev.0) {
             let record = self.devices.get_mut(dev.0);
+            let gone = record.events.get(ev.0).copied();
+            self.counts.leave(gone);
             record.events.remove(ev.0);
         }
     }
@@ -183,6 +205,9 @@ impl Maps {
         ensures room { self.new.room ≡ record self.old.room { events = self.new.room.events } }
     {
         let record = self.devices.get_mut(dev.0);
+        let before = record.events.get(ev.0).copied();
+        self.counts.leave(before);
+        self.counts.enter(icid);
         record.events.move_to(ev.0, icid);
     }
 
@@ -203,6 +228,7 @@ impl Maps {
         ensures room { self.new.room.collections ≡ self.old.room.collections }
     {
         self.devices.clear();
+        self.counts = Counts::new(self.alloc);
     }
 
     /// Unmaps all collections.
@@ -245,6 +271,38 @@ impl Maps {
         self.collections.get(u32::from(icid.0)).copied()
     }
 
+    /// How many devices are mapped. Nothing is walked.
+    pub fn device_count(&self) -> u32
+        ensures { result ≡ length (finmap.entries self.now.maps.devices) }
+    {
+        self.counts.devices
+    }
+
+    /// How many events are mapped. Nothing is walked.
+    pub fn event_count(&self) -> u64
+        ensures { result ≡ length (finmap.entries self.now.maps.events) }
+    {
+        self.counts.events
+    }
+
+    /// Whether a mapped event names a collection, mapped or not. It costs the same however many
+    /// events there are.
+    pub fn has_events_of(&self, icid: Icid) -> bool
+        ensures { result ≡ has_events self.now.maps icid.0 }
+    {
+        self.counts.tally.has(icid)
+    }
+
+    /// The first collection from an ICID on, mapped or not, that a mapped event names.
+    pub fn next_named(&self, from: u32) -> Option<Icid>
+        ensures here { IfSome result (λ icid.
+            (from ≤ icid.0) × (has_events self.now.maps icid.0 ≡ true)) }
+        ensures before { (n : ℕ) → from ≤ n → n < end_of result
+            → has_events self.now.maps n ≡ false }
+    {
+        self.counts.tally.next(from)
+    }
+
     /// The mapped devices, by rising DeviceID.
     pub fn devices(&self) -> DeviceWalk<'_>
         ensures { result ≡ finmap.entries self.now.maps.devices }
@@ -275,5 +333,37 @@ impl Maps {
         CollectionWalk {
             rest: self.collections.walk(),
         }
+    }
+}
+
+// What an event's place needs besides room in its device: a page, and room in the counts.
+fn fill_for_event(
+    counts: &mut Counts,
+    page: &mut Reserve<Event>,
+    alloc: Global,
+) -> Result<(), AllocError>
+    requires { IsTally counts.old.tally }
+    ensures devices { counts.new.devices ≡ counts.old.devices }
+    ensures events { counts.new.events ≡ counts.old.events }
+    ensures tally { IsTally counts.new.tally }
+    ensures named { (icid : ℕ) → icid < 65536
+        → named counts.new.tally icid ≡ named counts.old.tally icid }
+    ensures ok { OnOk result ((page.new && counts_another counts.new) ≡ true) }
+    ensures err { OnErr result
+        ((page.new && counts_another counts.new) ≡ (page.old && counts_another counts.old)) }
+    ensures lacking { OnErr result ((page.old && counts_another counts.old) ≡ false) }
+{
+    counts.make_room(alloc)?;
+    page.fill(alloc)
+}
+
+// Counts a device, if it is mapped, and its events no more.
+fn leave_device(counts: &mut Counts, devices: &PagedMap<DeviceRecord>, dev: DeviceId)
+    requires { AreCounted counts.old devices.now.map }
+    ensures { AreCounted counts.new (without devices.now.map dev.0) }
+{
+    if let Some(record) = devices.get(dev.0) {
+        counts.devices -= 1;
+        counts.leave_all(record.events.walk());
     }
 }
