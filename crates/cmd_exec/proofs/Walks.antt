@@ -1,5 +1,8 @@
 -- The LPIs of a collection, device by device and event by event.
-use Rattle.std.proofs.Common.{◌≡◌, ℕ, ◌+◌, ◌-◌, ◌^◌, ◌≤◌, true, eqb, List, [], ◌∷◌, ◌++◌, map, filter, Option, Some, None, refl, sym, ap, subst, ◌∙◌}
+use Rattle.std.proofs.Common.{◌≡◌, ℕ, ◌+◌, ◌-◌, ◌^◌, ◌≤◌, Bool, true, false, ◌||◌, cond, eqb, List, [], ◌∷◌, ◌++◌, map, filter, Option, Some, None, refl, sym, ap, subst, ◌∙◌}
+use mathlib.Core.Bool.{false≢true}
+use Rattle.std.specs.List.{list_any}
+use Rattle.std.specs.FinMap.{entries}
 use Rattle.std.proofs.lemmas.Bool.{cond-true, cond_both}
 use Rattle.guest_windows.specs.Windows.{Window, byte_at}
 use Rattle.its_types.specs.Lpis.{is_pending}
@@ -8,7 +11,9 @@ use Rattle.its_types.specs.declared.translation.Bases.{Bases}
 use Rattle.its_types.specs.declared.translation.Event.{Event}
 use Rattle.std.specs.Option.{option_map}
 use Rattle.its_plain.specs.Plain.{ConfState}
-use Rattle.its_plain.specs.Commands.{conf_reread_at, conf_all_reread_at}
+use Rattle.its_types.specs.Maps.{Maps}
+use Rattle.its_maps.specs.Counting.{has_events}
+use Rattle.its_plain.specs.Commands.{intids_of, conf_reread_at, conf_all_reread_at}
 use Rattle.lpi_config.specs.Conf.{conf_state}
 use Rattle.lpi_config.specs.declared.conf.Conf.{Conf}
 use Rattle.lpi_pending.specs.InHand.{RedistParts, conf_in}
@@ -25,6 +30,20 @@ pub lpis_first : (k : ℕ) (e : Event) (events : List (ℕ × Event)) (icid : �
 lpis_first k e events icid same = ap (map (λ (x : ℕ × Event). x.1.intid.0))
     (cond-true (eqb e.icid.0 icid) ((k, e) ∷ filter (λ (x : ℕ × Event). eqb x.1.icid.0 icid) events) (filter (λ (x : ℕ × Event). eqb x.1.icid.0 icid) events)
     same)
+
+-- ---- a collection without events
+
+none_passes : {X : Type 0} (p : X → Bool) (xs : List X) → list_any p xs ≡ false → filter p xs ≡ []
+none_passes p [] none = refl
+none_passes p (x ∷ xs) none = at (p x) none (none_passes p xs)
+  where
+    at : (t : Bool) → (t || list_any p xs) ≡ false → (list_any p xs ≡ false → filter p xs ≡ []) → cond t (x ∷ filter p xs) (filter p xs) ≡ []
+    at true some rest = absurd (false≢true (sym some))
+    at false none rest = rest none
+
+pub no_intids : (m : Maps) (icid : ℕ) → has_events m icid ≡ false → intids_of m icid ≡ []
+no_intids m icid none =
+    ap (map (λ (e : (ℕ × ℕ) × Event). e.1.intid.0)) (none_passes (λ (e : (ℕ × ℕ) × Event). eqb e.1.icid.0 icid) (entries m.events) none)
 
 -- ---- rereading
 

@@ -13,13 +13,17 @@ use its_maps::{EventWalk, Maps};
 use its_types::{Icid, Vcpu};
 use lpi_pending::Redists;
 
-/// The pending LPIs of its events go from one virtual processor to another.
+/// The pending LPIs of its events go from one virtual processor to another. The maps are walked
+/// only where it has events.
 pub fn move_lpis(redists: &mut Redists, maps: &Maps, icid: Icid, from: Vcpu, to: Vcpu)
     requires devices { EventsHaveDevices maps.now.maps }
     requires from { TakesAll redists.old from.0 (intids_of maps.now.maps icid.0) }
     requires to { TakesAll redists.old to.0 (intids_of maps.now.maps icid.0) }
     ensures { redists.new ≡ lpis_moved_in (intids_of maps.now.maps icid.0) from.0 to.0 redists.old }
 {
+    if !maps.has_events_of(icid) {
+        return;
+    }
     for (dev, _) in maps.devices() {
         move_lpis_of(redists, maps.events(dev), icid, from, to);
     }
@@ -40,7 +44,8 @@ fn move_lpis_of(redists: &mut Redists, events: EventWalk, icid: Icid, from: Vcpu
 }
 
 /// Each of the first virtual processors reads the configuration of the LPIs of its events again.
-/// The maps are walked once, however many virtual processors there are.
+/// The maps are walked once, however many virtual processors there are, and only where the
+/// collection has events.
 pub fn reread_collection(redists: &mut Redists, vcpus: u8, memory: &Memory, maps: &Maps, icid: Icid)
     requires devices { EventsHaveDevices maps.now.maps }
     requires each { CanEachReread vcpus redists.old (intids_of maps.now.maps icid.0) }
@@ -48,6 +53,9 @@ pub fn reread_collection(redists: &mut Redists, vcpus: u8, memory: &Memory, maps
         ≡ confs_changed vcpus (conf_all_reread_at memory.now (intids_of maps.now.maps icid.0))
         redists.old }
 {
+    if !maps.has_events_of(icid) {
+        return;
+    }
     for (dev, _) in maps.devices() {
         reread_collection_of(redists, vcpus, memory, maps.events(dev), icid);
     }

@@ -6,7 +6,7 @@ use Rattle.its_types.specs.Maps.{events_at}
 use Rattle.cmd_exec.specs.InHand.{lpis_moved_in}
 use Rattle.cmd_exec.specs.Ready.{TakesAll}
 use Rattle.cmd_exec.specs.Walked.{lpis_of, lpis_of_all}
-use Rattle.cmd_exec.proofs.Walks.{moved_some, takes_first, takes_more}
+use Rattle.cmd_exec.proofs.Walks.{no_intids, moved_some, takes_first, takes_more}
 use Rattle.cmd_exec.proofs.Order.{intids_are}
 use Rattle.cmd_exec.proofs.collections.move_lpis.Goals as goal
 
@@ -58,3 +58,9 @@ returns c =
     let done : [] ≡ lpis_of_all m c.loop-dev.dev-iterator icid = ap (λ (ds : List (ℕ × Device)). lpis_of_all m ds icid) (sym c.in-None.ensures.steps.0) in
     ap (λ (xs : List ℕ). lpis_moved_in xs from to c.loop-dev.redists) done ∙ c.loop-dev.invariant.rest
     ∙ ap (λ (xs : List ℕ). lpis_moved_in xs from to c.args.redists.now) (sym (intids_are m icid c.requires.devices))
+
+-- it has no events
+pub returns-then-not-has_events_of : goal.returns-then-not-has_events_of
+returns-then-not-has_events_of c =
+    ap (λ (xs : List ℕ). lpis_moved_in xs c.args.from.0 c.args.to.0 c.args.redists.now) (sym (no_intids c.args.maps.now.maps c.args.icid.0
+    (sym c.has_events_of.ensures ∙ c.if-not-has_events_of.true)))

@@ -7,7 +7,7 @@ use Rattle.its_plain.specs.Commands.{conf_all_reread_at}
 use Rattle.cmd_exec.specs.InHand.{confs_changed}
 use Rattle.cmd_exec.specs.Ready.{CanEachReread}
 use Rattle.cmd_exec.specs.Walked.{lpis_of, lpis_of_all}
-use Rattle.cmd_exec.proofs.Walks.{read_some, read_none, each_first, each_more}
+use Rattle.cmd_exec.proofs.Walks.{no_intids, read_some, read_none, each_first, each_more}
 use Rattle.cmd_exec.proofs.Order.{intids_are}
 use Rattle.cmd_exec.proofs.collections.reread_collection.Goals as goal
 
@@ -51,3 +51,10 @@ returns c =
     sym (read_none n memory c.loop-dev.redists)
     ∙ ap (λ (xs : List ℕ). confs_changed n (conf_all_reread_at memory xs) c.loop-dev.redists) done ∙ c.loop-dev.invariant.rest
     ∙ ap (λ (xs : List ℕ). confs_changed n (conf_all_reread_at memory xs) c.args.redists.now) (sym (intids_are m icid c.requires.devices))
+
+-- it has no events
+pub returns-then-not-has_events_of : goal.returns-then-not-has_events_of
+returns-then-not-has_events_of c =
+    sym (read_none c.args.vcpus c.args.memory.now c.args.redists.now)
+    ∙ ap (λ (xs : List ℕ). confs_changed c.args.vcpus (conf_all_reread_at c.args.memory.now xs) c.args.redists.now) (sym (no_intids c.args.maps.now.maps
+    c.args.icid.0 (sym c.has_events_of.ensures ∙ c.if-not-has_events_of.true)))
