@@ -4,3 +4,4 @@ pub mod ExactCalls
 mod Counted
 mod Rising
 mod Lines
+pub mod NamedCollections

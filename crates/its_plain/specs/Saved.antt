@@ -4,14 +4,15 @@ use Rattle.std.specs.Prelude.{Option}
 use Rattle.std.specs.Prelude.{Some, None, unwrap_or, slice_get, Ok}
 use Rattle.std.specs.Option.{option_map}
 use Rattle.std.specs.List.{flat_map}
-use Rattle.std.specs.FinMap.{entries, keys}
+use Rattle.std.specs.FinMap.{FinMap, entries, keys, insert, contains_key}
+use Rattle.std.specs.Ordering.{nat_cmp}
 use Rattle.byteorder.specs.Endian.{little_number, little_bytes}
 use Rattle.guest_windows.specs.Windows.{Window, write_at, extent}
 use Rattle.dirty_log.specs.Copies.{untouched, wrote}
 use Rattle.dirty_log.specs.Pages.{dirty_count}
 use Rattle.dirty_log.specs.declared.tracked.Tracked.{Tracked}
 pub use Rattle.gicr_regs.specs.Redistributors.{reloaded}
-use Rattle.gits_regs.specs.Registers.{is_valid, is_indirect, table_base}
+use Rattle.gits_regs.specs.Registers.{Registers, is_valid, is_indirect, table_base, collection_places}
 use Rattle.baser_place.specs.Places.{level1_entries, level1_of, page_of, entry_address}
 use Rattle.table_entries.specs.Words.{packed_device, packed_collection, packed_event}
 use Rattle.its_types.specs.Lpis.{pending_byte}
@@ -69,13 +70,32 @@ device_entry dev (Some d) next = packed_device (record { next = distance 16383 d
 unfoldable pub device_word : Maps → ℕ → ℕ
 device_word m dev = device_entry dev (device_of m dev) (device_after m dev)
 
+-- no processor has this number: it stands in the entry of a collection that events name and that isn't mapped
+abbrev pub never_mapped : Vcpu
+never_mapped = record { 0 = 0xFFFFFFFF }
+
+-- a collection that has no entry yet, and a place in the table
+abbrev pub is_awaited : Registers → FinMap nat_cmp Vcpu → ℕ → Bool
+is_awaited r collections icid = nat_lt icid (collection_places r) && not (contains_key collections icid)
+
+-- collections, and beside them those that events name
+abbrev pub with_named : Registers → FinMap nat_cmp Vcpu → List ((ℕ × ℕ) × Event) → FinMap nat_cmp Vcpu
+with_named r collections [] = collections
+with_named r collections (e ∷ es) =
+    let rest : FinMap nat_cmp Vcpu = with_named r collections es in
+    if is_awaited r rest e.1.icid.0 then insert rest e.1.icid.0 never_mapped else rest
+
+-- the collections that have entries: the mapped ones, and, where the shape says so, those that mapped events name
+unfoldable pub saved_collections : Shape → Translator → FinMap nat_cmp Vcpu
+saved_collections s t = if s.linux then with_named t.regs t.maps.collections (entries t.maps.events) else t.maps.collections
+
 abbrev pub collection_entry : Option (ℕ × Vcpu) → ℕ
 collection_entry None = 0
 collection_entry (Some c) = packed_collection (record { vcpu_number = c.1.0; icid = c.0 })
 
 -- the collections in rising order, then zeros
-unfoldable pub collection_word : Maps → ℕ → ℕ
-collection_word m i = collection_entry (slice_get (entries m.collections) i)
+unfoldable pub collection_word : Shape → Translator → ℕ → ℕ
+collection_word s t i = collection_entry (slice_get (entries (saved_collections s t)) i)
 
 -- the next mapped event of a device
 abbrev pub event_after : Maps → ℕ → ℕ → Option ℕ
@@ -116,16 +136,16 @@ device_words t memory =
     else (if is_indirect t.regs.baser0 then pages_words t memory (level1_entries t.regs.dev_bits)
     else record { base = table_base t.regs.baser0; count = 8192 * device_pages t.regs; word = device_word t.maps } ∷ [])
 
-abbrev pub collection_words : Translator → List Words
-collection_words t =
-    if is_valid t.regs.baser1 then record { base = table_base t.regs.baser1; count = 8192 * collection_pages t.regs; word = collection_word t.maps } ∷ []
+abbrev pub collection_words : Shape → Translator → List Words
+collection_words s t =
+    if is_valid t.regs.baser1 then record { base = table_base t.regs.baser1; count = 8192 * collection_pages t.regs; word = collection_word s t } ∷ []
     else []
 
 abbrev pub itt_words : Maps → List Words
 itt_words m = flat_map (λ d. record { base = d.1.itt.0; count = 2 ^ d.1.bits; word = event_word m d.0 } ∷ []) (entries m.devices)
 
-unfoldable pub translator_words : List Window → Translator → List Words
-translator_words memory t = device_words t memory ++ collection_words t ++ itt_words t.maps
+unfoldable pub translator_words : Shape → List Window → Translator → List Words
+translator_words s memory t = device_words t memory ++ collection_words s t ++ itt_words t.maps
 
 -- a pending table but for the 1024 bytes that belong to no LPI, of each redistributor whose LPIs are on
 abbrev pub pending_words : Shape → Redistributor → List Words
@@ -138,7 +158,7 @@ pending_words s r =
     else []
 
 unfoldable pub words_of : Plain → List Words
-words_of u = flat_map (translator_words u.memory) u.translators ++ flat_map (pending_words u.layout.shape) u.redistributors
+words_of u = flat_map (translator_words u.layout.shape u.memory) u.translators ++ flat_map (pending_words u.layout.shape) u.redistributors
 
 -- memory with every entry of every table that is written, and no other byte changed
 abbrev pub saved : Plain → List Window

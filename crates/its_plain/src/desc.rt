@@ -73,6 +73,9 @@ pub struct Desc {
     pub translators: Listed<Its>,
     /// Which devices write by address, in the order of their lines.
     pub requesters: RequesterRanges,
+    /// Whether KVM saved what is restored. It leaves bits in pending tables where LPIs were before
+    /// they moved, so a bit counts only where an event leads its LPI to that virtual processor.
+    pub from_kvm: bool,
     /// Whether the machine has a second memory, and knows which pages were written.
     pub track: bool,
 }

@@ -3,6 +3,10 @@ ghost use Rattle.std.specs.Prelude.{◌≡◌, ◌<◌, ◌^◌};
 
 use its_types::{Icid, bit_of, field};
 
+/// What stands for a processor in the entry of a collection that events name and that isn't mapped:
+/// KVM writes such entries, and asks for them where it restores.
+pub const NEVER_MAPPED: u32 = 0xFFFF_FFFF;
+
 /// A collection table entry that is valid.
 #[derive(Clone, Copy, Debug, PartialEq, Eq)]
 pub struct Cte {

@@ -6,6 +6,6 @@ mod cte;
 mod dte;
 mod ite;
 
-pub use cte::Cte;
+pub use cte::{Cte, NEVER_MAPPED};
 pub use dte::Dte;
 pub use ite::Ite;
