@@ -1,5 +1,5 @@
 -- The first state of a machine whose LPI registers the guest programs, unless it is restored with LPIs on.
-use Rattle.std.proofs.Common.{◌≡◌, ℕ, zero, suc, ◌<◌, Bool, true, false, List, [], ◌∷◌, length, map, replicate, take, get_or, Option, Some, Result, Ok, Err}
+use Rattle.std.proofs.Common.{◌≡◌, ℕ, zero, suc, ◌<◌, Bool, true, false, List, [], ◌∷◌, length, map, replicate, take, filter, get_or, Option, Some, Result, Ok, Err}
 use Rattle.std.proofs.Common.{IfOk}
 use Rattle.std.proofs.Common.{inl, inr, refl, sym, ap, subst, ◌∙◌}
 use Rattle.std.specs.Prelude.{slice_get}
@@ -17,8 +17,8 @@ use Rattle.its_types.specs.Bits.{bit_of}
 use Rattle.its_types.specs.Lpis.{no_bases}
 use Rattle.its_types.specs.declared.machine.Shape.{Shape}
 use Rattle.its_types.specs.declared.translation.Bases.{Bases}
-use Rattle.its_plain.specs.Plain.{Plain, Redistributor, redistributor, no_redistributor}
-use Rattle.its_plain.specs.Described.{StartsAt, is_restored, values_of}
+use Rattle.its_plain.specs.Plain.{Plain, Translator, Redistributor, redistributor, no_redistributor}
+use Rattle.its_plain.specs.Described.{StartsAt, is_restored, values_of, is_led_to, led_to, without_stale, kept_of}
 use Rattle.its_plain.specs.Machine.{windows_fit, made, ensure, ◌>>=◌, tables_inside, filled, all_frames_fit, all_new, first_redistributors, bases_given}
 use Rattle.its_plain.specs.Stands.{Stands}
 use Rattle.its_plain.specs.declared.desc.Desc.{Desc}
@@ -104,6 +104,21 @@ starts_off : (restored : Bool) (values : List (Option RegValues)) (vcpus : ℕ) 
 starts_off false values vcpus t base u h off is = subst AllOff (sym is) off
 starts_off true values vcpus t base u h off is = standing_off base.memory values base.layout (bases_given vcpus t) u (bases_off vcpus t h) is
 
+-- ---- without the bits that no event leads to
+
+led_off : (ts : List Translator) (vcpu : ℕ) (rs : List Redistributor) → AreOff rs → AreOff (led_to ts vcpu rs)
+led_off ts vcpu [] h k = none_off
+led_off ts vcpu (r ∷ rs) h zero =
+    let was = h 0 in record { off = was.off; none_taken = was.none_taken; none_pending = ap (filter (is_led_to ts vcpu)) was.none_pending }
+led_off ts vcpu (r ∷ rs) h (suc k) = led_off ts (suc vcpu) rs (λ j. h (suc j)) k
+
+kept_off : (from_kvm : Bool) (u : Plain) → AllOff u → AllOff (kept_of from_kvm u)
+unfolding without_stale
+kept_off true u h = led_off u.translators 0 u.redistributors h
+kept_off false u h = h
+
 pub start_off : MachinesStartOff
-start_off d u is h = starts_off (is_restored d) (values_of d) d.shape.vcpus d.tables is.base u h (if_ok_at AllOff (made d) is.base
-    (made_off d h) is.made_is) is.starts
+start_off d u is h =
+    let read : AllOff is.read =
+    starts_off (is_restored d) (values_of d) d.shape.vcpus d.tables is.base is.read h (if_ok_at AllOff (made d) is.base (made_off d h) is.made_is) is.starts in
+    subst AllOff (sym is.kept) (kept_off d.from_kvm is.read read)

@@ -12,3 +12,4 @@ pub mod Answers
 pub mod First
 pub mod Migrated
 pub mod Gicr
+pub mod Stale

@@ -1,5 +1,6 @@
 -- What is claimed of the plain machine: every call leaves a sound state sound, and a description makes a sound state.
-use Rattle.std.specs.Prelude.{◌≡◌, ℕ, ◌%◌, ◌^◌, ◌<◌, ◌≤◌, true, List, Ok, IfOk}
+use Rattle.std.specs.Prelude.{◌≡◌, ℕ, ◌%◌, ◌^◌, ◌<◌, ◌≤◌, true, ◌&&◌, List, Ok, IfOk}
+use Rattle.its_types.specs.Lpis.{is_pending}
 use Rattle.its_types.specs.declared.ids.Addr.{Addr}
 use Rattle.its_types.specs.declared.ids.DeviceId.{DeviceId}
 use Rattle.its_types.specs.declared.ids.EventId.{EventId}
@@ -7,9 +8,10 @@ use Rattle.its_types.specs.declared.ids.Intid.{Intid}
 use Rattle.its_types.specs.declared.ids.Vcpu.{Vcpu}
 use Rattle.its_command.specs.Commands.{IsWithinBits}
 use Rattle.its_command.specs.declared.command.Command.{Command}
-use Rattle.its_plain.specs.Plain.{Plain, regs_of}
+use Rattle.its_plain.specs.Plain.{Plain, regs_of, pending_of}
 use Rattle.its_plain.specs.Sound.{IsSound}
 use Rattle.its_plain.specs.Answer.{answer}
+use Rattle.its_plain.specs.Described.{is_led_to, without_stale}
 use Rattle.its_plain.specs.History.{after}
 use Rattle.its_plain.specs.declared.call.Entry.{Entry}
 use Rattle.its_plain.specs.Saved.{moved}
@@ -135,3 +137,13 @@ MigrationsKeepSound = (u : Plain) → IsSound u → IsSound (moved u)
 
 abbrev pub MachinesStartSound : Type 0
 MachinesStartSound = (d : Desc) (u : Plain) → IsDescription d → made d ≡ Ok u → IsSound u
+
+-- where it is restored from what KVM saved, just the bits go that no event leads to
+abbrev pub StaleBitsGo : Type 0
+StaleBitsGo =
+    (u : Plain) (vcpu intid : ℕ)
+    → is_pending intid (pending_of (without_stale u) vcpu) ≡ is_led_to u.translators vcpu intid && is_pending intid (pending_of u vcpu)
+
+-- and it stays sound
+abbrev pub StaleBitsGoSound : Type 0
+StaleBitsGoSound = (u : Plain) → IsSound u → IsSound (without_stale u)

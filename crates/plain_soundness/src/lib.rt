@@ -18,4 +18,6 @@ pub use commands::{
     mapti_keeps_soundness, movall_keeps_soundness, movi_keeps_soundness, unmapc_keeps_soundness,
     unmapd_keeps_soundness,
 };
-pub use start::{machines_start_sound, migrations_keep_soundness};
+pub use start::{
+    machines_start_sound, migrations_keep_soundness, stale_bits_go, stale_bits_go_soundly,
+};

@@ -10,3 +10,13 @@ pub fn machines_start_sound()
 pub fn migrations_keep_soundness()
     ensures { laws.MigrationsKeepSound }
 {}
+
+/// Where KVM saved what is restored, an LPI stays pending just where an event leads it.
+pub fn stale_bits_go()
+    ensures { laws.StaleBitsGo }
+{}
+
+/// A state from which pending bits go that no event leads to is as sound as before.
+pub fn stale_bits_go_soundly()
+    ensures { laws.StaleBitsGoSound }
+{}

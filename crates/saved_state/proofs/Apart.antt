@@ -68,7 +68,7 @@ all_alike u least inside =
     let pending = areas_from (pending_area s) 0 u.redistributors in
     let configs = config_areas u in
     let queues = each_areas queue_areas 0 u.translators in
-    let ts = flat_map (translator_words u.memory) u.translators in
+    let ts = flat_map (translator_words s u.memory) u.translators in
     let ps = flat_map (pending_words s) u.redistributors in
     written_append (tables ++ pending ++ configs) queues
     ∙ ap (λ ss. written_spans (tables ++ pending ++ configs) ++ ss) (no_queues 0 u.translators)
@@ -77,7 +77,7 @@ all_alike u least inside =
     ∙ ap (λ ss. written_spans (tables ++ pending) ++ ss) (no_configs u)
     ∙ append-nil (written_spans (tables ++ pending))
     ∙ written_append tables pending
-    ∙ ap (λ ss. ss ++ written_spans pending) (translators_alike u.memory 0 u.translators inside)
+    ∙ ap (λ ss. ss ++ written_spans pending) (translators_alike s u.memory 0 u.translators inside)
     ∙ ap (λ ss. stretches ts ++ ss) (redistributors_alike s 0 u.redistributors least)
     ∙ sym (map-append stretch ts ps)
 
@@ -124,11 +124,11 @@ all_inside u sound inside =
     let s = u.layout.shape in
     let least = sound.layout.shape.least_lpi_bits in
     let pending = areas_from (pending_area s) 0 u.redistributors in
-    let ts = flat_map (translator_words u.memory) u.translators in
+    let ts = flat_map (translator_words s u.memory) u.translators in
     let ps = flat_map (pending_words s) u.redistributors in
     subst (AllByRecursion (IsIn u.memory)) (sym (map-append stretch ts ps))
     (all_both (IsIn u.memory) (stretches ts) (stretches ps)
-    (subst (AllByRecursion (IsIn u.memory)) (translators_alike u.memory 0 u.translators inside) (spans_inside u.memory (tables_of u) inside))
+    (subst (AllByRecursion (IsIn u.memory)) (translators_alike s u.memory 0 u.translators inside) (spans_inside u.memory (tables_of u) inside))
     (subst (AllByRecursion (IsIn u.memory)) (redistributors_alike s 0 u.redistributors least)
     (spans_inside u.memory pending (pending_inside u.memory s 0 u.redistributors least (λ k r at on. (sound.redistributors k r at).tables on)))))
 

@@ -101,11 +101,11 @@ devices_alike k t memory =
       | false ↦ λ all. refl
     ]
 
-collections_alike : (i : ℕ) (t : Translator) → written_spans (collection_areas i t.regs) ≡ stretches (collection_words t)
-collections_alike i t =
+collections_alike : (s : Shape) (i : ℕ) (t : Translator) → written_spans (collection_areas i t.regs) ≡ stretches (collection_words s t)
+collections_alike s i t =
     elim (is_valid t.regs.baser1) as (λ v.
     written_spans (cond v (record { region = Collections i; base = table_base t.regs.baser1; size = 65536 * collection_pages t.regs; is_written = true } ∷ []) [])
-    ≡ stretches (cond v (record { base = table_base t.regs.baser1; count = 8192 * collection_pages t.regs; word = collection_word t.maps } ∷ []) [])) [
+    ≡ stretches (cond v (record { base = table_base t.regs.baser1; count = 8192 * collection_pages t.regs; word = collection_word s t } ∷ []) [])) [
       | true ↦ ap (λ (n : ℕ). (table_base t.regs.baser1, n) ∷ []) (flat_size (collection_pages t.regs))
       | false ↦ refl
     ]
@@ -116,28 +116,28 @@ itts_alike : (i : ℕ) (m : Maps) (ds : List (ℕ × Device))
 itts_alike i m [] = refl
 itts_alike i m (d ∷ ds) = ap (λ ss. (d.1.itt.0, 8 * 2 ^ d.1.bits) ∷ ss) (itts_alike i m ds)
 
-translator_alike : (memory : List Window) (k : ℕ) (t : Translator) → AllInside memory (table_areas memory k t) → written_spans (table_areas memory k t)
+translator_alike : (s : Shape) (memory : List Window) (k : ℕ) (t : Translator) → AllInside memory (table_areas memory k t) → written_spans (table_areas memory k t)
     ≡ stretches
-    (translator_words memory t)
+    (translator_words s memory t)
 unfolding table_areas translator_words
-translator_alike memory k t all =
+translator_alike s memory k t all =
     let d = device_areas k t.regs memory in
     let c = collection_areas k t.regs in
     let i = itt_areas k t.maps in
     let front = all_left (λ a. inside memory a.base a.size ≡ true) (d ++ c) i all in
-    both_alike (d ++ c) i (device_words t memory ++ collection_words t) (itt_words t.maps)
-    (both_alike d c (device_words t memory) (collection_words t) (devices_alike k t memory (all_left (λ a. inside memory a.base a.size ≡ true) d c front))
-    (collections_alike k t))
+    both_alike (d ++ c) i (device_words t memory ++ collection_words s t) (itt_words t.maps)
+    (both_alike d c (device_words t memory) (collection_words s t) (devices_alike k t memory (all_left (λ a. inside memory a.base a.size ≡ true) d c front))
+    (collections_alike s k t))
     (itts_alike k t.maps (entries t.maps.devices))
 
-pub translators_alike : (memory : List Window) (k : ℕ) (ts : List Translator) → AllInside memory (each_areas (table_areas memory) k ts)
-    → written_spans (each_areas (table_areas memory) k ts) ≡ stretches (flat_map (translator_words memory) ts)
-translators_alike memory k [] all = refl
-translators_alike memory k (t ∷ ts) all =
+pub translators_alike : (s : Shape) (memory : List Window) (k : ℕ) (ts : List Translator) → AllInside memory (each_areas (table_areas memory) k ts)
+    → written_spans (each_areas (table_areas memory) k ts) ≡ stretches (flat_map (translator_words s memory) ts)
+translators_alike s memory k [] all = refl
+translators_alike s memory k (t ∷ ts) all =
     let P : Area → Type 0 = λ a. inside memory a.base a.size ≡ true in
-    both_alike (table_areas memory k t) (each_areas (table_areas memory) (suc k) ts) (translator_words memory t) (flat_map (translator_words memory) ts)
-    (translator_alike memory k t (all_left P (table_areas memory k t) (each_areas (table_areas memory) (suc k) ts) all))
-    (translators_alike memory (suc k) ts (all_right P (table_areas memory k t) (each_areas (table_areas memory) (suc k) ts) all))
+    both_alike (table_areas memory k t) (each_areas (table_areas memory) (suc k) ts) (translator_words s memory t) (flat_map (translator_words s memory) ts)
+    (translator_alike s memory k t (all_left P (table_areas memory k t) (each_areas (table_areas memory) (suc k) ts) all))
+    (translators_alike s memory (suc k) ts (all_right P (table_areas memory k t) (each_areas (table_areas memory) (suc k) ts) all))
 
 -- ---- redistributors
 

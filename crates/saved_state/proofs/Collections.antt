@@ -1,9 +1,11 @@
--- A collection table that was saved holds just the collections that are mapped.
-use Rattle.std.proofs.Common.{◌≡◌, ℕ, zero, suc, ◌+◌, ◌*◌, ◌^◌, ◌<◌, ◌≤◌, Bool, true, false, not, cond, nat_lt, List, Option, Some, None, Ok, refl, sym, subst}
-use Rattle.std.proofs.Common.{ap, ◌∙◌, arith, ◌↔◌, add-one}
+-- A collection table that was saved holds just the collections that are mapped: other entries don't count.
+use Rattle.std.proofs.Common.{◌≡◌, ℕ, zero, suc, ◌+◌, ◌*◌, ◌^◌, ◌<◌, ◌≤◌, Bool, true, false, not, cond, eqb, nat_lt, List, Option, Some, None, Ok, refl, sym}
+use Rattle.std.proofs.Common.{subst, ap, ◌∙◌, inl, inr, arith, ◌↔◌, add-one}
 use Rattle.std.specs.Prelude.{◌||◌, ◌&&◌, slice_get}
 use Rattle.std.specs.Option.{option_and_then, option_map, ok_or}
-use Rattle.std.specs.FinMap.{entries, entries_sorted, get-entries}
+use Rattle.std.specs.Ordering.{nat_cmp}
+use Rattle.std.specs.FinMap.{entries, entries_sorted, is_sorted}
+use lib.Dec.{T}
 use Rattle.std.proofs.lemmas.Bool.{eq-eqb, ne_eqb, lt-ltb, ltb-true}
 use Rattle.std.proofs.lemmas.Option.{same_Some}
 use Rattle.its_types.specs.Bits.{field, bit_of}
@@ -11,17 +13,21 @@ use Rattle.guest_windows.specs.Windows.{Window, number_at}
 use Rattle.gits_regs.specs.Registers.{Registers, is_valid, collection_places}
 use Rattle.table_entries.specs.Fields.{CollectionFields}
 use Rattle.table_entries.specs.Words.{packed_collection, unpacked_collection}
-use Rattle.its_types.specs.Maps.{Maps, collection_of}
+use Rattle.its_types.specs.Maps.{collection_of}
 use Rattle.its_types.specs.declared.ids.Vcpu.{Vcpu}
 use Rattle.its_types.specs.declared.machine.Shape.{Shape}
+use Rattle.its_plain.specs.Plain.{Translator}
+use Rattle.its_plain.specs.Sound.{IsTranslator}
 use Rattle.its_plain.specs.Walks.{within, ensure, ◌>>=◌}
 use Rattle.its_plain.specs.CollectionTables.{collection_address, collection_entry, collection_leads, next_collection, counted, is_of, stands_before}
 use Rattle.its_plain.specs.CollectionTables.{collection_entry_check, collection_check, CollectionReached, AreCollectionsClear, HasCollection}
 use Rattle.its_plain.specs.declared.fault.RestoreFault.{RestoreFault}
 use Rattle.its_plain.specs.declared.fault.RestoreFault.TheVariants.{OutsideTable}
 use Rattle.its_plain.specs.Saved as saved
-use Rattle.its_plain.specs.Saved.{collection_word}
-use Rattle.saved_state.proofs.Keyed.{listed_found, found_listed, rising, place_low, taken_before}
+use Rattle.its_plain.specs.Saved.{never_mapped, saved_collections, collection_word}
+use Rattle.saved_state.specs.Laws.{HasEntryOf}
+use Rattle.saved_state.proofs.Keyed.{rising, place_low, taken_before}
+use Rattle.saved_state.proofs.Entered.{IsEntered, entered, target_low, has_place, is_mapped}
 use Rattle.saved_state.proofs.Paths.{further, at_start, stays_good}
 
 -- ---- an entry
@@ -58,40 +64,57 @@ within_is n i q e =
     ] refl e
 
 -- an entry whose processor is below 16 counts
-all_count : (s : Shape) (o : Option (ℕ × Vcpu)) → ((c : ℕ × Vcpu) → o ≡ Some c → c.1.0 < 16) → counted s (seen o) ≡ seen o
-all_count s None low = refl
-all_count s (Some c) low =
-    let small = low c refl in
+one_counts : (s : Shape) (c : ℕ × Vcpu) → c.1.0 < 16 → counted s (Some (fields_of c)) ≡ Some (fields_of c)
+one_counts s c low =
     ap (λ (b : Bool). cond (s.linux && b) None (Some (fields_of c))) (ne_eqb c.1.0 0xFFFFFFFF (λ e. omega arith))
     ∙ (elim s.linux as (λ b. cond (b && false) None (Some (fields_of c)) ≡ Some (fields_of c)) [ true ↦ refl | false ↦ refl ])
 
--- what is asked of a collection that is mapped
-pub record Stands (vcpus places : ℕ) (c : ℕ × Vcpu) : Type 0 where
-  pub icid : c.0 < 65536
-  pub in_table : c.0 < places
-  pub target : c.1.0 < vcpus
+-- and one of a collection that was never mapped doesn't, where the shape has such entries
+never_counts : (s : Shape) (c : ℕ × Vcpu) → s.linux ≡ true → c.1 ≡ never_mapped → counted s (Some (fields_of c)) ≡ None
+never_counts s c linux never =
+    ap (λ (b : Bool). cond (b && eqb c.1.0 0xFFFFFFFF) None (Some (fields_of c))) linux
+    ∙ ap (λ (b : Bool). cond b None (Some (fields_of c))) (eq-eqb c.1.0 0xFFFFFFFF (ap (λ (v : Vcpu). v.0) never))
 
-module _ (s : Shape) (memory : List Window) (r : Registers) (m : Maps) (valid : is_valid r.baser1 ≡ true) (few : s.vcpus ≤ 16)
-    (found : (i : ℕ) → i < collection_places r → number_at memory (collection_address r i) ≡ Some (collection_word m i))
-    (stand : (i : ℕ) (c : ℕ × Vcpu) → slice_get (entries m.collections) i ≡ Some c → Stands s.vcpus (collection_places r) c) where
+-- what counts of an entry is the entry
+counted_is : (s : Shape) (c : ℕ × Vcpu) (f : CollectionFields) → counted s (Some (fields_of c)) ≡ Some f → fields_of c ≡ f
+counted_is s c f =
+    elim (s.linux && eqb c.1.0 0xFFFFFFFF) as (λ b. cond b None (Some (fields_of c)) ≡ Some f → fields_of c ≡ f) [
+      | true ↦ λ e. absurd cc
+      | false ↦ λ e. same_Some (fields_of c) f e
+    ]
+
+module _ (s : Shape) (memory : List Window) (t : Translator) (sound : IsTranslator s t) (valid : is_valid t.regs.baser1 ≡ true) (few : s.vcpus ≤ 16)
+    (found : (i : ℕ) → i < collection_places t.regs → number_at memory (collection_address t.regs i) ≡ Some (collection_word s t i)) where
+  abbrev r : Registers
+  r = t.regs
+
   abbrev es : List (ℕ × Vcpu)
-  es = entries m.collections
+  es = entries (saved_collections s t)
+
+  rises : T (is_sorted nat_cmp es)
+  rises = entries_sorted (saved_collections s t)
+
+  stand : (i : ℕ) (c : ℕ × Vcpu) → slice_get es i ≡ Some c → IsEntered s r c
+  stand = entered s t sound
+
+  -- each is packed whole
+  fits : (i : ℕ) (c : ℕ × Vcpu) → slice_get es i ≡ Some c → (c.1.0 < 2 ^ 36) × (c.0 < 2 ^ 16)
+  fits i c at =
+      let w = stand i c at in
+      let place = w.in_table in
+      (target_low s r c few w, omega arith)
 
   some_places : 0 < collection_places r
   some_places = omega arith
 
-  word_is : (i : ℕ) → unpacked_collection (collection_word m i) ≡ seen (slice_get es i)
+  word_is : (i : ℕ) → unpacked_collection (collection_word s t i) ≡ seen (slice_get es i)
   unfolding collection_word
-  word_is i = entry_is (slice_get es i) (λ c at. let w = stand i c at in let icid = w.icid in let target = w.target in (omega arith, omega arith))
+  word_is i = entry_is (slice_get es i) (fits i)
 
-  -- a mapped collection is one that counts: its processor is no 0xFFFFFFFF
-  counts : (i : ℕ) → counted s (seen (slice_get es i)) ≡ seen (slice_get es i)
-  counts i = all_count s (slice_get es i) (λ c at. let w = stand i c at in let target = w.target in omega arith)
+  counted_word : (i : ℕ) → counted s (unpacked_collection (collection_word s t i)) ≡ counted s (seen (slice_get es i))
+  counted_word i = ap (counted s) (word_is i)
 
-  counted_word : (i : ℕ) → counted s (unpacked_collection (collection_word m i)) ≡ seen (slice_get es i)
-  counted_word i = ap (counted s) (word_is i) ∙ counts i
-
-  entry_at : (i : ℕ) → i < collection_places r → collection_entry s memory r i ≡ seen (slice_get es i)
+  entry_at : (i : ℕ) → i < collection_places r → collection_entry s memory r i ≡ counted s (seen (slice_get es i))
   entry_at i lt = ap (option_and_then (λ word. counted s (unpacked_collection word))) (found i lt) ∙ counted_word i
 
   next_at : (i : ℕ) → i < collection_places r → next_collection memory r i ≡ collection_leads r i (seen (slice_get es i))
@@ -112,7 +135,7 @@ module _ (s : Shape) (memory : List Window) (r : Registers) (m : Maps) (valid : 
   reached_taken zero c at = at_start (next_collection memory r) 0
   reached_taken (suc i) c at =
       let before = taken_before es i (suc i) c (omega arith) at in
-      let low = place_low es (entries_sorted m.collections) (suc i) c at in
+      let low = place_low es rises (suc i) c at in
       let in_table = (stand (suc i) c at).in_table in
       further (next_collection memory r) 0 i (suc i) (reached_taken i before.0 before.1)
       (next_at i (omega arith) ∙ ap (λ (o : Option (ℕ × Vcpu)). collection_leads r i (seen o)) before.1 ∙ ap (within (collection_places r)) (add-one i)
@@ -128,22 +151,34 @@ module _ (s : Shape) (memory : List Window) (r : Registers) (m : Maps) (valid : 
       ∙ ap (λ (b : Bool). b || stands_before s memory r n icid) (other (slice_get es n) (λ d at. apart n d (omega arith) at))
       ∙ none_before n icid (omega arith) (λ j d lt at. apart j d (omega arith) at)
     where
-      other : (o : Option (ℕ × Vcpu)) → ((d : ℕ × Vcpu) → o ≡ Some d → d.0 ≡ icid → ⊥) → is_of icid (seen o) ≡ false
+      other : (o : Option (ℕ × Vcpu)) → ((d : ℕ × Vcpu) → o ≡ Some d → d.0 ≡ icid → ⊥) → is_of icid (counted s (seen o)) ≡ false
       other None ne = refl
-      other (Some d) ne = ne_eqb d.0 icid (ne d refl)
+      other (Some d) ne =
+          elim (s.linux && eqb d.1.0 0xFFFFFFFF) as (λ b. is_of icid (cond b None (Some (fields_of d))) ≡ false) [
+            | true ↦ refl
+            | false ↦ ne_eqb d.0 icid (ne d refl)
+          ]
 
   all_tests : (a b d : Bool) (f g h : RestoreFault) → a ≡ true → b ≡ true → d ≡ false → (ensure a f >>= λ _. ensure b g >>= λ _. ensure (not d) h) ≡ Ok tt
   all_tests a b d f g h pa pb pd =
       ap (λ (x : Bool). ensure x f >>= λ _. ensure b g >>= λ _. ensure (not d) h) pa ∙ ap (λ (x : Bool). ensure x g >>= λ _. ensure (not d) h) pb
       ∙ ap (λ (x : Bool). ensure (not x) h) pd
 
-  check_at : (i : ℕ) (o : Option (ℕ × Vcpu)) → i < collection_places r → slice_get es i ≡ o → collection_entry_check s memory r i (seen o) ≡ Ok tt
+  mapped_check : (i : ℕ) (c : ℕ × Vcpu) → i < collection_places r → slice_get es i ≡ Some c → c.1.0 < s.vcpus
+      → collection_entry_check s memory r i (Some (fields_of c)) ≡ Ok tt
+  mapped_check i c lt at target =
+      all_tests (nat_lt c.0 (collection_places r)) (nat_lt c.1.0 s.vcpus) (stands_before s memory r i c.0) _ _ _
+      (lt-ltb c.0 (collection_places r) (stand i c at).in_table) (lt-ltb c.1.0 s.vcpus target)
+      (none_before i c.0 (omega arith) (λ j d below there same. let up = rising es rises j i d c below there at in omega arith))
+
+  check_at : (i : ℕ) (o : Option (ℕ × Vcpu)) → i < collection_places r → slice_get es i ≡ o
+      → collection_entry_check s memory r i (counted s (seen o)) ≡ Ok tt
   check_at i None lt at = refl
   check_at i (Some c) lt at =
-      let w = stand i c at in
-      all_tests (nat_lt c.0 (collection_places r)) (nat_lt c.1.0 s.vcpus) (stands_before s memory r i c.0) _ _ _
-      (lt-ltb c.0 (collection_places r) w.in_table) (lt-ltb c.1.0 s.vcpus w.target)
-      (none_before i c.0 (omega arith) (λ j d below there same. let up = rising es (entries_sorted m.collections) j i d c below there at in omega arith))
+      elim (stand i c at).target [
+        | inl target ↦ ap (collection_entry_check s memory r i) (one_counts s c (omega (arith, target, few))) ∙ mapped_check i c lt at target
+        | inr never ↦ ap (collection_entry_check s memory r i) (never_counts s c never.0 never.1)
+      ]
 
   clear_at : (i : ℕ) → i < collection_places r → collection_check s memory r i ≡ Ok tt
   clear_at i lt =
@@ -155,22 +190,51 @@ module _ (s : Shape) (memory : List Window) (r : Registers) (m : Maps) (valid : 
   pub collections_clear : AreCollectionsClear s memory r
   collections_clear is i h = clear_at i (reached_low i h)
 
+  -- an entry stands at its place, whichever its processor
+  pub entry_stands : (i icid : ℕ) (v : Vcpu) → slice_get es i ≡ Some (icid, v) → HasEntryOf memory r icid
+  entry_stands i icid v at =
+      let low = place_low es rises i (icid, v) at in
+      let in_table = (stand i (icid, v) at).in_table in
+      record {
+        place = i;
+        reached = reached_taken i (icid, v) at;
+        fields = record { vcpu_number = v.0; icid = icid };
+        valid = ap (option_and_then unpacked_collection) (found i (omega arith)) ∙ word_is i ∙ ap seen at;
+        is_of = refl;
+      }
+
   -- ---- content
 
-  seen_some : (o : Option (ℕ × Vcpu)) (icid : ℕ) (v : Vcpu) → seen o ≡ Some (record { vcpu_number = v.0; icid = icid }) → o ≡ Some (icid, v)
-  seen_some None icid v e = absurd cc
-  seen_some (Some c) icid v e =
-      let same : fields_of c ≡ record { vcpu_number = v.0; icid = icid } = same_Some (fields_of c) (record { vcpu_number = v.0; icid = icid }) e in
-      ap (λ (f : CollectionFields). Some (f.icid, record { 0 = f.vcpu_number })) same
+  -- an entry that counts has a processor
+  has_processor : (i : ℕ) (c : ℕ × Vcpu) (f : CollectionFields) → slice_get es i ≡ Some c → counted s (Some (fields_of c)) ≡ Some f → c.1 ≡ never_mapped → ⊥
+  has_processor i c f at counts never =
+      elim (stand i c at).target [
+        | inl target ↦ let number : c.1.0 ≡ 0xFFFFFFFF = ap (λ (v : Vcpu). v.0) never in omega (arith, target, few, number)
+        | inr both ↦ let none = sym (never_counts s c both.0 both.1) ∙ counts in absurd cc
+      ]
 
-  pub collections_are : (icid : ℕ) (v : Vcpu) → (collection_of m icid ≡ Some v) ↔ HasCollection s memory r icid v
+  mapped_at : (i : ℕ) (o : Option (ℕ × Vcpu)) (icid : ℕ) (v : Vcpu) → slice_get es i ≡ o
+      → counted s (seen o) ≡ Some (record { vcpu_number = v.0; icid = icid }) → collection_of t.maps icid ≡ Some v
+  mapped_at i None icid v at e = absurd cc
+  mapped_at i (Some c) icid v at e =
+      let same : fields_of c ≡ record { vcpu_number = v.0; icid = icid } = counted_is s c (record { vcpu_number = v.0; icid = icid }) e in
+      let there : c ≡ (icid, v) = ap (λ (f : CollectionFields). (f.icid, record { 0 = f.vcpu_number })) same in
+      is_mapped s t i icid v (at ∙ ap (λ (x : ℕ × Vcpu). Some x) there)
+      (λ never. has_processor i c (record { vcpu_number = v.0; icid = icid }) at e (ap (λ (x : ℕ × Vcpu). x.1) there ∙ never))
+
+  pub collections_are : (icid : ℕ) (v : Vcpu) → (collection_of t.maps icid ≡ Some v) ↔ HasCollection s memory r icid v
   collections_are icid v = (
     λ e.
-        let at = found_listed es icid v (sym (get-entries m.collections icid) ∙ e) in
-        let low = place_low es (entries_sorted m.collections) at.0 (icid, v) at.1 in
-        let in_table = (stand at.0 (icid, v) at.1).in_table in
-        (valid, at.0, reached_taken at.0 (icid, v) at.1, entry_at at.0 (omega arith) ∙ ap seen at.1),
-    λ h.
-        let at = seen_some (slice_get es h.1) icid v (sym (entry_at h.1 (reached_low h.1 h.2)) ∙ h.3) in
-        get-entries m.collections icid ∙ listed_found es (entries_sorted m.collections) h.1 (icid, v) at,
+        let at = has_place s t icid v e in
+        let h = sound.collections icid v e in
+        let low = place_low es rises at.0 (icid, v) at.1 in
+        let in_table = h.in_table in
+        let target = h.target in (
+          valid,
+          at.0,
+          reached_taken at.0 (icid, v) at.1,
+          entry_at at.0 (omega arith) ∙ ap (λ (o : Option (ℕ × Vcpu)). counted s (seen o)) at.1
+              ∙ one_counts s (icid, v) (omega (arith, target, few)),
+        ),
+    λ h. mapped_at h.1 (slice_get es h.1) icid v refl (sym (entry_at h.1 (reached_low h.1 h.2)) ∙ h.3),
   )

@@ -150,7 +150,8 @@ module _ (u : Plain) (k : ℕ) (t : Translator) (sound : IsSound u) (savable : I
   unfolding translator_words
   words_there =
       let all = translator_found u k t sound savable at in
-      all_left (IsFound (saved u)) (device_words t u.memory) (collection_words t) (all_left (IsFound (saved u)) (device_words t u.memory ++ collection_words t)
+      let collections = collection_words u.layout.shape t in
+      all_left (IsFound (saved u)) (device_words t u.memory) collections (all_left (IsFound (saved u)) (device_words t u.memory ++ collections)
       (itt_words t.maps) all)
 
   stays : is_valid t.regs.baser0 ≡ true → is_indirect t.regs.baser0 ≡ true → StaysRead u (level1_area (k + 0) t.regs)

@@ -34,11 +34,11 @@ all_found : (u : Plain) → IsSound u → IsSavable u → AllByRecursion (IsFoun
 all_found u sound savable = all_by_place (IsFound (saved u)) (words_of u) (λ k t at i lt. words_back u k i t sound savable at lt)
 
 pub translator_found : (u : Plain) (k : ℕ) (t : Translator) → IsSound u → IsSavable u → slice_get u.translators k ≡ Some t → AllByRecursion (IsFound (saved u))
-    (translator_words u.memory t)
+    (translator_words u.layout.shape u.memory t)
 unfolding words_of
 translator_found u k t sound savable at =
-    of_flat (IsFound (saved u)) (translator_words u.memory) u.translators
-    (all_left (IsFound (saved u)) (flat_map (translator_words u.memory) u.translators) (flat_map (pending_words u.layout.shape) u.redistributors)
+    of_flat (IsFound (saved u)) (translator_words u.layout.shape u.memory) u.translators
+    (all_left (IsFound (saved u)) (flat_map (translator_words u.layout.shape u.memory) u.translators) (flat_map (pending_words u.layout.shape) u.redistributors)
     (all_found u sound savable)) k t at
 
 pub pending_found : (u : Plain) (k : ℕ) (r : Redistributor) → IsSound u → IsSavable u → slice_get u.redistributors k ≡ Some r
@@ -46,5 +46,5 @@ pub pending_found : (u : Plain) (k : ℕ) (r : Redistributor) → IsSound u → 
 unfolding words_of
 pending_found u k r sound savable at =
     of_flat (HasBytes (saved u)) (pending_words u.layout.shape) u.redistributors
-    (all_right (HasBytes (saved u)) (flat_map (translator_words u.memory) u.translators) (flat_map (pending_words u.layout.shape) u.redistributors)
+    (all_right (HasBytes (saved u)) (flat_map (translator_words u.layout.shape u.memory) u.translators) (flat_map (pending_words u.layout.shape) u.redistributors)
     (all_by_place (HasBytes (saved u)) (words_of u) (λ j t there i lt. bytes_back u j i t sound savable there lt))) k r at

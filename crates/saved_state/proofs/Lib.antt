@@ -2,6 +2,7 @@ pub mod Written
 pub mod Tests
 pub mod Areas
 pub mod Keyed
+pub mod Entered
 pub mod Small
 pub mod Apart
 pub mod Paths

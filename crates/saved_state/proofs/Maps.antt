@@ -1,14 +1,15 @@
 -- The tables of a translator, as saved memory has them.
-use Rattle.std.proofs.Common.{◌≡◌, ℕ, ◌*◌, ◌^◌, ◌<◌, Bool, true, cond, List, [], ◌∷◌, ◌++◌, Some, sym, subst, ◌∙◌, ◌↔◌, arith}
+use Rattle.std.proofs.Common.{◌≡◌, ℕ, ◌*◌, ◌^◌, ◌<◌, Bool, true, cond, List, [], ◌∷◌, ◌++◌, Some, sym, subst, ◌∙◌, ◌↔◌}
 use Rattle.std.specs.Prelude.{slice_get}
 use Rattle.std.specs.List.{AllByRecursion}
-use Rattle.std.specs.FinMap.{entries, entries_sorted, get-entries}
+use Rattle.std.specs.FinMap.{entries, get-entries}
 use Rattle.gits_regs.specs.Registers.{is_valid, table_base, collection_places}
 use Rattle.guest_windows.specs.Windows.{Window, number_at}
 use Rattle.std.proofs.lemmas.Option.{same_Some}
 use Rattle.std.proofs.lemmas.Nat.{pow_pos}
 use Rattle.baser_place.specs.Places.{entry_address}
 use Rattle.its_types.specs.Maps.{Maps, device_of, event_of, collection_of}
+use Rattle.its_types.specs.declared.machine.Shape.{Shape}
 use Rattle.its_types.specs.declared.translation.Device.{Device}
 use Rattle.its_types.specs.declared.translation.Event.{Event}
 use Rattle.its_plain.specs.EventTables.{itt_of, IsIttClear, HasEvent}
@@ -20,56 +21,58 @@ use Rattle.its_plain.specs.CollectionTables.{collection_address, HasCollection, 
 use Rattle.its_plain.specs.Saved.{saved, translator_words, device_words, collection_words, itt_words, collection_word, event_word, event_after, IsSavable}
 use Rattle.its_types.specs.Maps.{events_at}
 use Rattle.standing_states.proofs.EventsOf.{events_rise, find_of_device, after_of_device}
-use Rattle.saved_state.specs.Laws.{CollectionsStand, EventsStand}
+use Rattle.saved_state.specs.Laws.{CollectionsStand, NamedCollectionsStand, EventsStand}
 use Rattle.saved_state.proofs.Chains.{IsChain, chain_of}
 use Rattle.saved_state.proofs.Events.{Fits, itt_clear, events_are}
 use Rattle.saved_state.proofs.Small as small
 use Rattle.saved_state.proofs.Areas.{all_left, all_right}
-use Rattle.saved_state.proofs.Keyed.{listed_found, found_listed}
+use Rattle.saved_state.proofs.Keyed.{found_listed}
 use Rattle.saved_state.proofs.Found.{IsFound, of_flat, translator_found}
-use Rattle.saved_state.proofs.Collections.{Stands, collections_clear, collections_are}
+use Rattle.saved_state.proofs.Collections.{entry_stands, collections_clear, collections_are}
+use Rattle.saved_state.proofs.Entered.{named_place}
 
 -- ---- which tables are there
 
-collections_found : (memory : List Window) (t : Translator) → is_valid t.regs.baser1 ≡ true → AllByRecursion (IsFound memory) (collection_words t)
-    → (i : ℕ) → i < collection_places t.regs → number_at memory (collection_address t.regs i) ≡ Some (collection_word t.maps i)
-collections_found memory t valid all =
+collections_found : (s : Shape) (memory : List Window) (t : Translator) → is_valid t.regs.baser1 ≡ true → AllByRecursion (IsFound memory) (collection_words s t)
+    → (i : ℕ) → i < collection_places t.regs → number_at memory (collection_address t.regs i) ≡ Some (collection_word s t i)
+collections_found s memory t valid all =
     let here = subst (λ (v : Bool). AllByRecursion (IsFound memory)
-    (cond v (record { base = table_base t.regs.baser1; count = 8192 * collection_pages t.regs; word = collection_word t.maps } ∷ []) [])) valid all in
+    (cond v (record { base = table_base t.regs.baser1; count = 8192 * collection_pages t.regs; word = collection_word s t } ∷ []) [])) valid all in
     here.0
 
 module _ (u : Plain) (k : ℕ) (t : Translator) (sound : IsSound u) (savable : IsSavable u) (at : slice_get u.translators k ≡ Some t) where
   fits : IsTranslator u.layout.shape t
   fits = sound.translators k t at
 
-  in_memory : AllByRecursion (IsFound (saved u)) (collection_words t)
+  in_memory : AllByRecursion (IsFound (saved u)) (collection_words u.layout.shape t)
   unfolding translator_words
   in_memory =
       let all = translator_found u k t sound savable at in
-      all_right (IsFound (saved u)) (device_words t u.memory) (collection_words t) (all_left (IsFound (saved u)) (device_words t u.memory ++ collection_words t)
+      let collections = collection_words u.layout.shape t in
+      all_right (IsFound (saved u)) (device_words t u.memory) collections (all_left (IsFound (saved u)) (device_words t u.memory ++ collections)
       (itt_words t.maps) all)
-
-  stand : (i : ℕ) (c : ℕ × Vcpu) → slice_get (entries t.maps.collections) i ≡ Some c → Stands u.layout.shape.vcpus (collection_places t.regs) c
-  stand i c is =
-      let h = fits.collections c.0 c.1 (get-entries t.maps.collections c.0 ∙ listed_found (entries t.maps.collections) (entries_sorted t.maps.collections) i c
-      is) in
-      let low = h.in_table in
-      record { icid = omega arith; in_table = h.in_table; target = h.target }
 
   clear : AreCollectionsClear u.layout.shape (saved u) t.regs
   clear valid =
-      collections_clear u.layout.shape (saved u) t.regs t.maps valid sound.layout.shape.most_vcpus (collections_found (saved u) t valid in_memory) stand
-      valid
+      collections_clear u.layout.shape (saved u) t fits valid sound.layout.shape.most_vcpus
+      (collections_found u.layout.shape (saved u) t valid in_memory) valid
 
   are : (icid : ℕ) (v : Vcpu) → (collection_of t.maps icid ≡ Some v) ↔ HasCollection u.layout.shape (saved u) t.regs icid v
   are icid v =
       let both : is_valid t.regs.baser1 ≡ true → (collection_of t.maps icid ≡ Some v) ↔ HasCollection u.layout.shape (saved u) t.regs icid v =
-      λ valid. collections_are u.layout.shape (saved u) t.regs t.maps valid sound.layout.shape.most_vcpus (collections_found (saved u) t valid in_memory)
-      stand icid v in
+      λ valid. collections_are u.layout.shape (saved u) t fits valid sound.layout.shape.most_vcpus
+      (collections_found u.layout.shape (saved u) t valid in_memory) icid v in
       (λ e. (both (fits.collections icid v e).table).0 e, λ h. (both h.0).1 h)
 
 pub collections_stand : CollectionsStand
 collections_stand u k t sound savable at = record { clear = clear u k t sound savable at; are = are u k t sound savable at }
+
+pub named_stand : NamedCollectionsStand
+named_stand u k t dev ev e sound savable at linux valid is low =
+    let s = u.layout.shape in
+    let there = named_place s t dev ev e linux low is in
+    entry_stands s (saved u) t (fits u k t sound savable at) valid sound.layout.shape.most_vcpus
+    (collections_found s (saved u) t valid (in_memory u k t sound savable at)) there.1 e.icid.0 there.0 there.2
 
 -- ---- interrupt translation tables
 
@@ -91,7 +94,7 @@ module _ (u : Plain) (k : ℕ) (t : Translator) (sound : IsSound u) (savable : I
   unfolding translator_words
   itts_in_memory =
       let all = translator_found u k t sound savable at in
-      all_right (IsFound (saved u)) (device_words t u.memory ++ collection_words t) (itt_words t.maps) all
+      all_right (IsFound (saved u)) (device_words t u.memory ++ collection_words u.layout.shape t) (itt_words t.maps) all
 
   events_fit : (ev : ℕ) (e : Event) → event_of t.maps dev ev ≡ Some e → Fits u.layout.shape.lpi_bits (itt_of dev d) ev e
   events_fit ev e there =

@@ -1,9 +1,9 @@
 -- What a save writes of a sound state are words of 64 bits.
 use Rattle.std.proofs.Common.{◌≡◌, ℕ, zero, suc, ◌+◌, ◌-◌, ◌*◌, ◌/◌, ◌^◌, ◌<◌, ◌≤◌, Bool, true, false, not, cond, nat_lt, nat_le, List, [], ◌∷◌, ◌++◌, Option}
-use Rattle.std.proofs.Common.{Some, None, refl, ◌∙◌, arith}
+use Rattle.std.proofs.Common.{Some, None, refl, arith}
 use Rattle.std.specs.Prelude.{slice_get}
 use Rattle.std.specs.List.{AllByRecursion, flat_map}
-use Rattle.std.specs.FinMap.{entries, entries_sorted, get-entries}
+use Rattle.std.specs.FinMap.{entries}
 use Rattle.std.proofs.lemmas.Bool.{and_parts, ltb-true}
 use Rattle.std.proofs.Math.Pow.{pow_mono}
 use Rattle.byteorder.specs.Endian.{little_number}
@@ -21,11 +21,11 @@ use Rattle.its_types.specs.declared.translation.Event.{Event}
 use Rattle.its_plain.specs.Plain.{Plain, Translator, Redistributor}
 use Rattle.its_plain.specs.Sound.{IsShape, IsSound, IsTranslator}
 use Rattle.its_plain.specs.Regions.{device_pages, collection_pages}
-use Rattle.its_plain.specs.Saved.{Words, distance, device_after, device_entry, device_word, collection_entry, collection_word, event_after, event_entry}
-use Rattle.its_plain.specs.Saved.{event_word, pending_word, page_words, pages_words, device_words, collection_words, itt_words, translator_words}
+use Rattle.its_plain.specs.Saved.{Words, distance, device_after, device_entry, device_word, saved_collections, collection_entry, collection_word, event_after}
+use Rattle.its_plain.specs.Saved.{event_entry, event_word, pending_word, page_words, pages_words, device_words, collection_words, itt_words, translator_words}
 use Rattle.its_plain.specs.Saved.{pending_words, words_of}
 use Rattle.saved_state.proofs.Areas.{all_both}
-use Rattle.saved_state.proofs.Keyed.{listed_found}
+use Rattle.saved_state.proofs.Entered.{entered, target_low}
 
 -- ---- entries
 
@@ -61,15 +61,16 @@ event_small m dev ev fits = event_entry_small ev (event_of m dev ev) (event_afte
 
 pub record FitsCollection (c : ℕ × Vcpu) : Type 0 where
   pub icid : c.0 < 65536
-  pub target : c.1.0 < 16
+  pub target : c.1.0 < 2 ^ 36
 
 collection_entry_small : (o : Option (ℕ × Vcpu)) → ((c : ℕ × Vcpu) → o ≡ Some c → FitsCollection c) → collection_entry o < 2 ^ 64
 collection_entry_small None fits = omega arith
 collection_entry_small (Some c) fits = let f = fits c refl in let icid = f.icid in let target = f.target in omega arith
 
-collection_small : (m : Maps) (i : ℕ) → ((c : ℕ × Vcpu) → slice_get (entries m.collections) i ≡ Some c → FitsCollection c) → collection_word m i < 2 ^ 64
+collection_small : (s : Shape) (t : Translator) (i : ℕ)
+    → ((c : ℕ × Vcpu) → slice_get (entries (saved_collections s t)) i ≡ Some c → FitsCollection c) → collection_word s t i < 2 ^ 64
 unfolding collection_word
-collection_small m i fits = collection_entry_small (slice_get (entries m.collections) i) fits
+collection_small s t i fits = collection_entry_small (slice_get (entries (saved_collections s t)) i) fits
 
 -- ---- pending bits
 
@@ -117,12 +118,11 @@ module _ (s : Shape) (shape : IsShape s) (t : Translator) (sound : IsTranslator 
       let all : 2 ^ s.lpi_bits ≤ 2 ^ 20 = pow_mono {i = s.lpi_bits} {j = 20} most in
       record { intid = omega arith; icid = h.icid }
 
-  pub collections_fit : (i : ℕ) (c : ℕ × Vcpu) → slice_get (entries t.maps.collections) i ≡ Some c → FitsCollection c
+  pub collections_fit : (i : ℕ) (c : ℕ × Vcpu) → slice_get (entries (saved_collections s t)) i ≡ Some c → FitsCollection c
   collections_fit i c at =
-      let found = listed_found (entries t.maps.collections) (entries_sorted t.maps.collections) i c at in
-      let h = sound.collections c.0 c.1 (get-entries t.maps.collections c.0 ∙ found) in
-      let place = h.in_table in let target = h.target in let most = shape.most_vcpus in
-      record { icid = omega arith; target = omega arith }
+      let h = entered s t sound i c at in
+      let place = h.in_table in
+      record { icid = omega arith; target = target_low s t.regs c shape.most_vcpus h }
 
   page_small : (k : ℕ) (o : Option ℕ) → AllByRecursion AreSmall (page_words t.maps k o)
   page_small k None = tt
@@ -148,11 +148,11 @@ module _ (s : Shape) (shape : IsShape s) (t : Translator) (sound : IsTranslator 
         | false ↦ tt
       ]
 
-  collections_small : AllByRecursion AreSmall (collection_words t)
+  collections_small : AllByRecursion AreSmall (collection_words s t)
   collections_small =
       elim (is_valid t.regs.baser1) as (λ v. AllByRecursion AreSmall
-      (cond v (record { base = table_base t.regs.baser1; count = 8192 * collection_pages t.regs; word = collection_word t.maps } ∷ []) [])) [
-        | true ↦ ((λ i. collection_small t.maps i (collections_fit i)), tt)
+      (cond v (record { base = table_base t.regs.baser1; count = 8192 * collection_pages t.regs; word = collection_word s t } ∷ []) [])) [
+        | true ↦ ((λ i. collection_small s t i (collections_fit i)), tt)
         | false ↦ tt
       ]
 
@@ -161,18 +161,18 @@ module _ (s : Shape) (shape : IsShape s) (t : Translator) (sound : IsTranslator 
   itts_small [] = tt
   itts_small (d ∷ ds) = ((λ i. event_small t.maps d.0 i (events_fit d.0 i)), itts_small ds)
 
-  pub translator_small : (memory : List Window) → AllByRecursion AreSmall (translator_words memory t)
+  pub translator_small : (memory : List Window) → AllByRecursion AreSmall (translator_words s memory t)
   unfolding translator_words
   translator_small memory =
-      all_both AreSmall (device_words t memory ++ collection_words t) (itt_words t.maps)
-      (all_both AreSmall (device_words t memory) (collection_words t) (devices_small memory) collections_small) (itts_small (entries t.maps.devices))
+      all_both AreSmall (device_words t memory ++ collection_words s t) (itt_words t.maps)
+      (all_both AreSmall (device_words t memory) (collection_words s t) (devices_small memory) collections_small) (itts_small (entries t.maps.devices))
 
 translators_small : (s : Shape) → IsShape s → (memory : List Window) (ts : List Translator)
     → ((i : ℕ) (t : Translator) → slice_get ts i ≡ Some t → IsTranslator s t)
-    → AllByRecursion AreSmall (flat_map (translator_words memory) ts)
+    → AllByRecursion AreSmall (flat_map (translator_words s memory) ts)
 translators_small s shape memory [] sound = tt
 translators_small s shape memory (t ∷ ts) sound =
-    all_both AreSmall (translator_words memory t) (flat_map (translator_words memory) ts) (translator_small s shape t (sound 0 t refl) memory)
+    all_both AreSmall (translator_words s memory t) (flat_map (translator_words s memory) ts) (translator_small s shape t (sound 0 t refl) memory)
     (translators_small s shape memory ts (λ i x at. sound (suc i) x at))
 
 redistributors_small : (s : Shape) (rs : List Redistributor) → AllByRecursion AreSmall (flat_map (pending_words s) rs)
@@ -193,5 +193,5 @@ redistributors_small s (r ∷ rs) =
 pub all_small : (u : Plain) → IsSound u → AllByRecursion AreSmall (words_of u)
 unfolding words_of
 all_small u sound =
-    all_both AreSmall (flat_map (translator_words u.memory) u.translators) (flat_map (pending_words u.layout.shape) u.redistributors)
+    all_both AreSmall (flat_map (translator_words u.layout.shape u.memory) u.translators) (flat_map (pending_words u.layout.shape) u.redistributors)
     (translators_small u.layout.shape sound.layout.shape u.memory u.translators sound.translators) (redistributors_small u.layout.shape u.redistributors)

@@ -1,11 +1,14 @@
 -- What is claimed of a state that was saved: a restore reads it back.
 use Rattle.std.specs.Prelude.{◌≡◌, ◌⊎◌, ◌<◌, ◌≤◌, ℕ, ◌+◌, true, false, List, length, map, slice_get, Some, ◌↔◌}
-use Rattle.guest_windows.specs.Windows.{read_at, number_at}
+use Rattle.std.specs.Option.{option_and_then}
+use Rattle.guest_windows.specs.Windows.{Window, read_at, number_at}
 use Rattle.gits_regs.specs.Registers as regs
-use Rattle.gits_regs.specs.Registers.{Registers, masked, read_32, read_64}
+use Rattle.gits_regs.specs.Registers.{Registers, is_valid, collection_places, masked, read_32, read_64}
 use Rattle.gits_regs.specs.declared.values.RegValues.{RegValues}
 use Rattle.its_types.specs.declared.translation.Bases.{Bases}
 use Rattle.baser_place.specs.Places.{entry_address}
+use Rattle.table_entries.specs.Fields.{CollectionFields}
+use Rattle.table_entries.specs.Words.{unpacked_collection}
 use Rattle.its_types.specs.Maps.{device_of, event_of, collection_of}
 use Rattle.its_types.specs.declared.ids.Vcpu.{Vcpu}
 use Rattle.its_types.specs.declared.translation.Device.{Device}
@@ -13,7 +16,7 @@ use Rattle.its_types.specs.declared.translation.Event.{Event}
 use Rattle.its_plain.specs.EventTables.{itt_of, IsIttClear, HasEvent}
 use Rattle.its_plain.specs.DeviceTables.{AreDevicesClear, HasDevice}
 use Rattle.its_plain.specs.Plain.{Plain, Translator, Redistributor, redistributor, regs_of, maps_of, pending_of, is_on}
-use Rattle.its_plain.specs.CollectionTables.{AreCollectionsClear, HasCollection}
+use Rattle.its_plain.specs.CollectionTables.{collection_address, CollectionReached, AreCollectionsClear, HasCollection}
 use Rattle.its_plain.specs.Sound.{IsSound}
 use Rattle.its_plain.specs.declared.area.Area.{Area}
 use Rattle.its_plain.specs.Regions.{areas_of}
@@ -53,6 +56,21 @@ pub record AreCollectionsSaved (u : Plain) (t : Translator) : Type 0 where
 
 abbrev pub CollectionsStand : Type 0
 CollectionsStand = (u : Plain) (k : ℕ) (t : Translator) → IsSound u → IsSavable u → slice_get u.translators k ≡ Some t → AreCollectionsSaved u t
+
+-- an entry of the collection stands at a place that a restore reaches, whether or not it counts
+pub record HasEntryOf (memory : List Window) (r : Registers) (icid : ℕ) : Type 0 where
+  pub place : ℕ
+  pub reached : CollectionReached memory r place
+  pub fields : CollectionFields
+  pub valid : option_and_then unpacked_collection (number_at memory (collection_address r place)) ≡ Some fields
+  pub is_of : fields.icid ≡ icid
+
+-- so it does, with `linux`, of each event's collection of which the table has a place: KVM refuses tables in which one has no entry
+abbrev pub NamedCollectionsStand : Type 0
+NamedCollectionsStand =
+    (u : Plain) (k : ℕ) (t : Translator) (dev ev : ℕ) (e : Event) → IsSound u → IsSavable u → slice_get u.translators k ≡ Some t
+    → u.layout.shape.linux ≡ true → is_valid t.regs.baser1 ≡ true → event_of t.maps dev ev ≡ Some e → e.icid.0 < collection_places t.regs
+    → HasEntryOf (saved u) t.regs e.icid.0
 
 -- ---- redistributors
 

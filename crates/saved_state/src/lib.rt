@@ -10,4 +10,6 @@ pub use state::{
     moved_is_equal, no_offence_is_first, only_that_state_stands, read_values_mask,
     saved_reads_stand, saved_stands,
 };
-pub use tables::{collections_stand, devices_stand, events_stand, redistributors_stand};
+pub use tables::{
+    collections_stand, devices_stand, events_stand, named_collections_stand, redistributors_stand,
+};

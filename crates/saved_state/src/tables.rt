@@ -7,6 +7,12 @@ pub fn collections_stand()
     ensures { laws.CollectionsStand }
 {}
 
+/// For Linux, each event's collection has an entry where the table has a place of its number, also
+/// if it isn't mapped.
+pub fn named_collections_stand()
+    ensures { laws.NamedCollectionsStand }
+{}
+
 /// A pending table holds the LPIs that are pending, where LPIs are on, and the configuration is the
 /// one that is read again.
 pub fn redistributors_stand()
