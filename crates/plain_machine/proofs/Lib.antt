@@ -1,5 +1,6 @@
 pub mod Rising
 pub mod Entries
+pub mod CollectionEntries
 pub mod Pending
 pub mod Mapped
 pub mod MappedPairs

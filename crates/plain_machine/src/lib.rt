@@ -4,6 +4,7 @@
 
 mod answer;
 mod areas;
+mod collection_entries;
 mod commands;
 mod copies;
 mod devices_fit;

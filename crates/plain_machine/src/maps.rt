@@ -1,15 +1,14 @@
 //! The maps of a translator as plain lists.
+use crate::collection_entries::{EntryTarget, collection_entries};
 use crate::mapped_entries::{MappedDevice, MappedEvent};
-use crate::saved_lists::{
-    add_itts, collection_at, device_after, event_after, first_unplaced, write_itts,
-};
-use crate::saved_words::{collection_entry, device_entry, event_entry};
+use crate::saved_lists::{add_itts, device_after, event_after, first_unplaced, write_itts};
+use crate::saved_words::{device_entry, event_entry};
 use crate::tables;
 use crate::tracked_memory::TrackedMemory;
 use gits_regs::Regs;
 use guest_windows::Memory;
 use its_plain::Area;
-use its_types::{Device, DeviceId, Event, EventId, Icid, Vcpu};
+use its_types::{Device, DeviceId, Event, EventId, Icid, Shape, Vcpu};
 use std::alloc::{AllocError, Global};
 use std::marker::Model;
 
@@ -202,11 +201,20 @@ impl MapLists {
         event_after(&self.events, dev, ev)
     }
 
-    /// An entry of a saved collection table: the collections in rising order, then zeros.
-    #[tactic(auto, unfolding(its_plain::specs::Saved::collection_word))]
-    pub fn collection_word(&self, at: u32) -> u64
-        ensures { result ≡ saved.collection_word self.now at }
+    /// The collections that have entries in a saved table, in rising order.
+    pub fn collection_entries(
+        &self,
+        alloc: Global,
+        shape: &Shape,
+        regs: &Regs,
+    ) -> Result<Vec<(u16, EntryTarget)>, AllocError>
+        ensures { IfOk result (λ v.
+            v.items
+            ≡ entries (saved.saved_collections shape.now (record {
+              regs = regs.now;
+              maps = self.now;
+            }))) }
     {
-        collection_entry(collection_at(&self.collections, at as usize))
+        collection_entries(alloc, shape.linux, regs, &self.collections, &self.events)
     }
 }

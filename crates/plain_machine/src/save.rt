@@ -35,7 +35,7 @@ impl State {
         let Ok(before) = self.memory.guest().copy(alloc) else {
             return Err(AllocError);
         };
-        self.write_tables(&before)?;
+        self.write_tables(alloc, &before)?;
         Ok(Reply::Saved)
     }
 
@@ -95,15 +95,16 @@ impl State {
 
     // `before` is memory as it is.
     #[tactic(auto, using(crate::proofs::SavedTables::put_more, crate::proofs::SavedTables::put_both), unfolding(its_plain::specs::Saved::words_of))]
-    fn write_tables(&mut self, before: &Memory) -> Result<(), AllocError>
+    fn write_tables(&mut self, alloc: Global, before: &Memory) -> Result<(), AllocError>
         requires { before.now ≡ self.old.memory }
         ensures { OnOk result (self.new ≡ record self.old {
           memory = saved.saved self.old;
           track = option_map (saved.wrote_tables (saved.words_of self.old)) self.old.track;
         }) }
     {
-        write_translators(&mut self.memory, before, &self.translators)?;
-        write_pending(&mut self.memory, &self.layout.shape, &self.redistributors)
+        let shape = &self.layout.shape;
+        write_translators(alloc, &mut self.memory, shape, before, &self.translators)?;
+        write_pending(&mut self.memory, shape, &self.redistributors)
     }
 }
 
@@ -197,16 +198,18 @@ fn add_configurations(
 
 #[tactic(auto, using(crate::proofs::SavedTables::put_front))]
 fn write_translators(
+    alloc: Global,
     memory: &mut TrackedMemory,
+    shape: &Shape,
     before: &Memory,
     translators: &[TranslatorLists],
 ) -> Result<(), AllocError>
     ensures { OnOk result (memory.new
         ≡ put_all memory.old
-        (flat_map (saved.translator_words before.now) translators.now)) }
+        (flat_map (saved.translator_words shape.now before.now) translators.now)) }
 {
     for translator in translators {
-        translator.write_tables(memory, before)?;
+        translator.write_tables(alloc, memory, shape, before)?;
     }
     Ok(())
 }

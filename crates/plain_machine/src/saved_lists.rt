@@ -1,6 +1,6 @@
 //! What a save asks of plain lists of devices and events.
 ghost use Rattle.std.specs.Prelude.{◌≡◌, ◌≤◌, ◌<◌, ◌+◌, ◌*◌, ◌/◌, ◌^◌, ◌++◌, ◌&&◌, ◌==◌, ◌∷◌, []};
-ghost use Rattle.std.specs.Prelude.{not, is_some, nat_lt, OnOk, find, map, slice_get};
+ghost use Rattle.std.specs.Prelude.{not, is_some, nat_lt, OnOk, find, map};
 ghost use Rattle.std.specs.Option.{option_map};
 ghost use Rattle.std.specs.List.{flat_map};
 ghost use Rattle.gits_regs.specs.Registers.{is_indirect};
@@ -17,7 +17,7 @@ use baser_place::{Level1, level1};
 use gits_regs::Regs;
 use guest_windows::Memory;
 use its_plain::{Area, Region};
-use its_types::{DeviceId, Vcpu};
+use its_types::DeviceId;
 use std::alloc::AllocError;
 
 /// Adds the areas of the interrupt translation tables.
@@ -120,11 +120,4 @@ fn key_after(events: &[((u32, u32), MappedEvent)], dev: DeviceId, ev: u32) -> Op
         .iter()
         .map(|entry| entry.0)
         .find(|key| key.0 == dev.0 && ev < key.1)
-}
-
-/// The collection at a place of a list, if there is one.
-pub fn collection_at(collections: &[(u16, Vcpu)], at: usize) -> Option<(u16, Vcpu)>
-    ensures { result ≡ slice_get collections.now at }
-{
-    collections.get(at).copied()
 }

@@ -5,15 +5,17 @@ ghost use Rattle.baser_place.specs.Places as places;
 ghost use Rattle.its_types.specs.Lpis as lpis;
 ghost use Rattle.its_plain.specs.Saved as spec;
 ghost use Rattle.plain_machine.specs.Memories.{put_all, put_table};
+ghost use Rattle.plain_machine.specs.CollectionEntries as entries;
 
+use crate::collection_entries::{EntryTarget, entry_word};
 use crate::maps::MapLists;
 use crate::redist::RedistLists;
 use crate::tracked_memory::TrackedMemory;
 use baser_place::{Level1, level1, level1_entries};
 use gits_regs::Regs;
 use guest_windows::{Memory, WriteError};
-use its_types::{Addr, DeviceId, le_u64};
-use std::alloc::AllocError;
+use its_types::{Addr, DeviceId, Shape, le_u64};
+use std::alloc::{AllocError, Global};
 
 // Writes eight bytes, where one window has them.
 fn put_word(memory: &mut TrackedMemory, base: Addr, at: u32, word: u64) -> Result<(), AllocError>
@@ -117,22 +119,43 @@ fn write_places(
 }
 
 /// Writes a collection table.
+#[tactic(auto, unfolding(its_plain::specs::Saved::collection_word))]
 pub fn write_collections(
+    alloc: Global,
     memory: &mut TrackedMemory,
+    shape: &Shape,
     regs: &Regs,
     maps: &MapLists,
 ) -> Result<(), AllocError>
     ensures { OnOk result (memory.new
         ≡ put_all memory.old
-        (spec.collection_words (record { regs = regs.now; maps = maps.now }))) }
+        (spec.collection_words shape.now (record { regs = regs.now; maps = maps.now }))) }
 {
     if !regs.table_valid(1) {
         return Ok(());
     }
-    let base = regs.table_base(1);
-    let count = 8192 * regs.pages(1).min(8);
+    let collections = maps.collection_entries(alloc, shape, regs)?;
+    let count = regs.collection_places();
+    write_entries(memory, regs.table_base(1), count, &collections)
+}
+
+// Writes so many entries: those of collections, and then zeros.
+fn write_entries(
+    memory: &mut TrackedMemory,
+    base: Addr,
+    count: u32,
+    collections: &[(u16, EntryTarget)],
+) -> Result<(), AllocError>
+    requires low { base.0 < 2 ^ 53 }
+    ensures { OnOk result (memory.new
+        ≡ put_table memory.old (record {
+          base = base.0;
+          count = count;
+          word = entries.entry_word collections.now;
+        })) }
+{
     for at in 0..count {
-        put_word(memory, base, at, maps.collection_word(at))?;
+        put_word(memory, base, at, entry_word(collections, at as usize))?;
     }
     memory.mark(base, 8 * u64::from(count));
     Ok(())

@@ -2,8 +2,9 @@
 ghost use Rattle.std.specs.Prelude.{◌≡◌, ◌≤◌};
 ghost use Rattle.its_plain.specs.Saved as spec;
 
+use crate::collection_entries::EntryTarget;
 use crate::mapped_entries::{MappedDevice, MappedEvent};
-use its_types::{Device, Event, Icid, Vcpu};
+use its_types::{Device, Event, Icid};
 use table_entries::{Cte, Dte, Ite};
 
 // How far the next one is, at most the cap; 0 where there is none.
@@ -46,12 +47,12 @@ pub fn event_entry(ev: u32, event: Option<MappedEvent>, next: Option<u32>) -> u6
 }
 
 /// The entry of a collection.
-pub fn collection_entry(collection: Option<(u16, Vcpu)>) -> u64
+pub fn collection_entry(collection: Option<(u16, EntryTarget)>) -> u64
     ensures { result ≡ spec.collection_entry collection }
 {
     match collection {
-        Some((icid, vcpu)) => Cte {
-            vcpu_number: u64::from(vcpu.0),
+        Some((icid, target)) => Cte {
+            vcpu_number: target.number(),
             icid: Icid(icid),
         }
         .pack(),

@@ -110,14 +110,16 @@ impl TranslatorLists {
     #[tactic(auto, using(crate::proofs::SavedTables::put_more), unfolding(its_plain::specs::Saved::translator_words))]
     pub(crate) fn write_tables(
         &self,
+        alloc: Global,
         memory: &mut TrackedMemory,
+        shape: &Shape,
         before: &Memory,
     ) -> Result<(), AllocError>
         ensures { OnOk result (memory.new ≡ put_all memory.old
-            (saved.translator_words before.now self.now)) }
+            (saved.translator_words shape.now before.now self.now)) }
     {
         saved_tables::write_devices(memory, before, &self.regs, &self.maps)?;
-        saved_tables::write_collections(memory, &self.regs, &self.maps)?;
+        saved_tables::write_collections(alloc, memory, shape, &self.regs, &self.maps)?;
         self.maps.write_itts(memory)
     }
 

@@ -15,6 +15,6 @@ loop-translator-preserved c =
     ∙ ap (λ n. c.translator-item.result ∷ drop n c.args.translators.now) (sym (add-one c.loop-translator.translator-index))
     in
     rw c.in_ok-write_tables.ensures
-    (put_front c.loop-translator.memory (translator_words c.args.before.now) c.translator-item.result
+    (put_front c.loop-translator.memory (translator_words c.args.shape.now c.args.before.now) c.translator-item.result
     (drop (c.loop-translator.translator-index + 1) c.args.translators.now)
-    ∙ ap (λ ts. put_all c.loop-translator.memory (flat_map (translator_words c.args.before.now) ts)) (sym split) ∙ c.loop-translator.invariant)
+    ∙ ap (λ ts. put_all c.loop-translator.memory (flat_map (translator_words c.args.shape.now c.args.before.now) ts)) (sym split) ∙ c.loop-translator.invariant)

@@ -1,6 +1,0 @@
-use Rattle.std.proofs.Common.{◌≡◌}
-use Rattle.its_plain.specs.Saved as spec
-use Rattle.plain_machine.proofs.saved_tables.write_collections.Given as goal
-
-abbrev pub invariant-loop-at : goal.invariant-loop-at
-invariant-loop-at l = l.memory ≡ record l.initial.memory { memory = spec.put_words l.initial.memory.memory l.base.0 (spec.collection_word l.maps) l.at }
