@@ -90,14 +90,8 @@ zeros_are n memory now base apart e =
 
 -- ---- what a write that succeeded left
 
-pub write_gives :
+pub draft_gives :
     {E : Type 0} (o : Option (List Window)) (r : Result (Unit {0}) E) (e f : E) (old new : List Window) (x : Unit {0})
-    → MatchOption o ((r ≡ Err e) × (new ≡ old)) (λ m. ((r ≡ Ok tt) × (new ≡ m)) ⊎ ((r ≡ Err f) × (new ≡ old))) → r ≡ Ok x → o ≡ Some new
-write_gives None r e f old new x m ok = absurd (let failed = m.0 in cc)
-write_gives (Some now) r e f old new x m ok = elim m [ inl p ↦ ap Some (sym p.1) | inr p ↦ absurd (let failed = p.0 in cc) ]
-
-pub forget_gives :
-    {E : Type 0} (o : Option (List Window)) (r : Result (Unit {0}) E) (e : E) (old new : List Window) (x : Unit {0})
-    → MatchOption o ((r ≡ Err e) × (new ≡ old)) (λ m. (r ≡ Ok tt) × (new ≡ m)) → r ≡ Ok x → o ≡ Some new
-forget_gives None r e old new x m ok = absurd (let failed = m.0 in cc)
-forget_gives (Some now) r e old new x m ok = ap Some (sym m.1)
+    → MatchOption o ((r ≡ Err e) × (new ≡ old)) (λ m. ((r ≡ Ok tt) × (new ≡ m)) ⊎ (r ≡ Err f)) → r ≡ Ok x → o ≡ Some new
+draft_gives None r e f old new x m ok = absurd (let failed = m.0 in cc)
+draft_gives (Some now) r e f old new x m ok = elim m [ inl p ↦ ap Some (sym p.1) | inr failed ↦ absurd (cc) ]

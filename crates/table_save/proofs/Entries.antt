@@ -14,6 +14,7 @@ use Rattle.its_types.specs.declared.translation.Device.{Device}
 use Rattle.its_types.specs.declared.translation.Event.{Event}
 use Rattle.its_types.specs.Maps.{events_at}
 use Rattle.its_plain.specs.Plain.{Translator}
+use Rattle.its_types.specs.declared.machine.Shape.{Shape}
 use Rattle.its_plain.specs.Saved.{Words, put_words, put_tables, device_words, collection_words, pending_words, translator_words, words_of, distance}
 use Rattle.its_plain.specs.Saved.{device_after, event_after, device_entry, event_entry, page_words, device_word, event_word, itt_words, pages_words}
 use Rattle.table_save.specs.Pass.{packed_if, pack_device, pack_event, key_after, device_entry_word, event_entry_word}
@@ -108,22 +109,23 @@ all_written memory one two three ts us ps a b c =
     c ∙ ap (λ m. put_tables m ps) (b ∙ ap (λ m. put_tables m us) a)
     ∙ sym (tables_append memory (ts ++ us) ps ∙ ap (λ m. put_tables m ps) (tables_append memory ts us))
 
-translator_is : (memory : List Window) (t : TranslatorRef) → words_at memory t ≡ translator_words memory (translator_at t)
+translator_is : (s : Shape) (memory : List Window) (t : TranslatorRef) → words_at s memory t ≡ translator_words s memory (translator_at t)
 unfolding translator_words
-translator_is memory t =
+translator_is s memory t =
     let u : Translator = translator_at t in
-    ap (λ is. device_words u memory ++ collection_words u ++ is) (itts_are u.maps)
+    ap (λ is. device_words u memory ++ collection_words s u ++ is) (itts_are u.maps)
 
-translators_are : (memory : List Window) (first : TranslatorRef) (second : Option TranslatorRef) → words_at memory first ++ second_words memory second
-    ≡ flat_map (translator_words memory) (translators_at first second)
-translators_are memory first None = ap (λ ws. ws ++ []) (translator_is memory first)
-translators_are memory first (Some t) =
-    ap (λ ws. ws ++ words_at memory t) (translator_is memory first)
-    ∙ ap (λ ws. translator_words memory (translator_at first) ++ ws) (translator_is memory t ∙ sym (append-nil (translator_words memory (translator_at t))))
+translators_are : (s : Shape) (memory : List Window) (first : TranslatorRef) (second : Option TranslatorRef) → words_at s memory first ++ second_words s memory second
+    ≡ flat_map (translator_words s memory) (translators_at first second)
+translators_are s memory first None = ap (λ ws. ws ++ []) (translator_is s memory first)
+translators_are s memory first (Some t) =
+    ap (λ ws. ws ++ words_at s memory t) (translator_is s memory first)
+    ∙ ap (λ ws. translator_words s memory (translator_at first) ++ ws)
+    (translator_is s memory t ∙ sym (append-nil (translator_words s memory (translator_at t))))
 
-pub words_are : (p : InPlace) → (words_at p.memory.now p.first ++ second_words p.memory.now p.second)
+pub words_are : (p : InPlace) → (words_at p.layout.now.shape p.memory.now p.first ++ second_words p.layout.now.shape p.memory.now p.second)
     ++ flat_map (pending_words p.layout.now.shape) (redistributors_of p.layout.now.shape p.redists.now) ≡ words_of (state_in_place p)
 unfolding words_of
 words_are p =
     ap (λ ws. ws ++ flat_map (pending_words p.layout.now.shape) (redistributors_of p.layout.now.shape p.redists.now))
-    (translators_are p.memory.now p.first p.second)
+    (translators_are p.layout.now.shape p.memory.now p.first p.second)

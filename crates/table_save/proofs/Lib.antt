@@ -13,3 +13,4 @@ pub mod Listed
 pub mod Splits
 pub mod Blocks
 pub mod PlaceWords
+pub mod EntriesLeft

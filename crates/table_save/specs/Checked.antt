@@ -2,6 +2,7 @@
 use Rattle.std.specs.Prelude.{◌≡◌, ℕ, Option, Some, None, Result, Ok, Err, List, find}
 use Rattle.std.specs.FinMap.{entries}
 use Rattle.guest_windows.specs.Windows.{Window}
+use Rattle.guest_windows.specs.Drafts.{Laid, laid}
 use Rattle.its_types.specs.declared.translation.Device.{Device}
 use Rattle.its_plain.specs.Plain.{Plain}
 use Rattle.its_plain.specs.Regions.{savable, has_no_place}
@@ -39,9 +40,9 @@ Answers (Ok done) tested = tested ≡ Ok tt
 Answers (Err (errors.Fault f)) tested = tested ≡ Err f
 Answers (Err errors.NoMemory) tested = Unit {0}
 
--- memory once all is written, where the state can be saved
-abbrev pub Saves : Plain → Result (List Window) SaveError → Type 0
-Saves u (Ok memory) = (savable u ≡ Ok tt) × (memory ≡ saved u)
+-- memory with these pages laid over it has all written, where the state can be saved
+abbrev pub Saves : Plain → Result (List Laid) SaveError → Type 0
+Saves u (Ok pages) = (savable u ≡ Ok tt) × (laid pages u.memory ≡ saved u)
 Saves u (Err (errors.Fault f)) = savable u ≡ Err f
 Saves u (Err errors.NoMemory) = Unit {0}
 

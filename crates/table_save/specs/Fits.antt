@@ -5,6 +5,7 @@ use Rattle.std.specs.FinMap.{entries}
 use Rattle.dirty_log.specs.declared.tracked.Tracked.{Tracked}
 use Rattle.guest_windows.specs.Windows.{Window}
 use Rattle.its_types.specs.Maps.{Maps, events_at}
+use Rattle.its_types.specs.declared.machine.Shape.{Shape}
 use Rattle.its_plain.specs.Plain.{Translator}
 use Rattle.gits_regs.specs.Registers.{Registers}
 use Rattle.its_plain.specs.Sound.{IsShape, IsSound}
@@ -68,12 +69,12 @@ second_queue (Some t) = queue_area 1 t.regs.now
 abbrev pub queues_of : InPlace → List Area
 queues_of p = queue_area 0 p.first.regs.now ++ second_queue p.second
 
-abbrev pub words_at : List Window → TranslatorRef → List Words
-words_at memory t = translator_tables memory t.regs.now t.maps.now.maps
+abbrev pub words_at : Shape → List Window → TranslatorRef → List Words
+words_at s memory t = translator_tables s memory t.regs.now t.maps.now.maps
 
-abbrev pub second_words : List Window → Option TranslatorRef → List Words
-second_words memory None = []
-second_words memory (Some t) = words_at memory t
+abbrev pub second_words : Shape → List Window → Option TranslatorRef → List Words
+second_words s memory None = []
+second_words s memory (Some t) = words_at s memory t
 
 -- one translator
 abbrev pub one : Registers → Maps → List Translator

@@ -2,6 +2,7 @@ pub mod Areas
 pub mod Checked
 pub mod Pass
 pub mod Edges
+pub mod EntriesLeft
 pub mod Rooms
 pub mod Tables
 pub mod Stretches

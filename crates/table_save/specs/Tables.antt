@@ -14,7 +14,7 @@ use Rattle.table_entries.specs.Words.{packed_collection}
 use Rattle.its_types.specs.Maps.{events_at}
 use Rattle.its_types.specs.Maps.{Maps}
 use Rattle.its_types.specs.declared.ids.Icid.{Icid}
-use Rattle.its_types.specs.declared.ids.Vcpu.{Vcpu}
+use Rattle.its_types.specs.declared.machine.Shape.{Shape}
 
 -- ---- a device table of two levels
 
@@ -59,12 +59,13 @@ itt_tables m devices = flat_map (λ d. record { base = d.1.itt.0; count = 2 ^ d.
 
 -- ---- collections
 
-abbrev pub collection_entry : Option (Icid × Vcpu) → ℕ
+-- of a collection and the number of its processor, if there is one
+abbrev pub collection_entry : Option (Icid × ℕ) → ℕ
 collection_entry None = 0
-collection_entry (Some c) = packed_collection (record { vcpu_number = c.1.0; icid = c.0.0 })
+collection_entry (Some c) = packed_collection (record { vcpu_number = c.1; icid = c.0.0 })
 
 -- ---- all of a translator
 
-abbrev pub translator_tables : List Window → Registers → Maps → List Words
-translator_tables memory r m =
-    device_words (record { regs = r; maps = m }) memory ++ collection_words (record { regs = r; maps = m }) ++ itt_tables m (entries m.devices)
+abbrev pub translator_tables : Shape → List Window → Registers → Maps → List Words
+translator_tables s memory r m =
+    device_words (record { regs = r; maps = m }) memory ++ collection_words s (record { regs = r; maps = m }) ++ itt_tables m (entries m.devices)

@@ -1,41 +1,64 @@
 //! The collection table.
 
-ghost use Rattle.std.specs.Prelude.{◌≡◌, ◌<◌, ◌≤◌, ◌^◌, OnOk, drop, slice_get};
+ghost use Rattle.std.specs.Prelude.{◌≡◌, ◌<◌, ◌≤◌, ◌^◌, ℕ, List, OnOk, drop, slice_get};
+ghost use Rattle.guest_windows.specs.Drafts.{laid};
 ghost use Rattle.its_plain.specs.Saved as saved;
-ghost use Rattle.its_plain.specs.Saved.{put_words, put_tables, collection_word, collection_words};
+ghost use Rattle.its_plain.specs.Saved.{put_words, put_tables, collection_words};
+ghost use Rattle.its_types.specs.declared.ids.Vcpu.{Vcpu};
+ghost use Rattle.table_save.specs.EntriesLeft.{Leaves};
 ghost use Rattle.table_save.specs.Tables.{collection_entry};
 
+use crate::entry_front::EntryFront;
 use crate::words::{BLOCK, put_block, put_zeros};
 use gits_regs::Regs;
-use guest_windows::Memory;
-use its_maps::{CollectionWalk, Maps};
-use its_types::{Icid, Vcpu};
+use guest_windows::{Draft, Memory};
+use its_maps::Maps;
+use its_types::{Icid, Shape};
 use std::alloc::AllocError;
 use table_entries::Cte;
 
-/// Writes the collections by rising ICID, and zeros after them.
-pub fn put_collections(memory: &mut Memory, regs: &Regs, maps: &Maps) -> Result<(), AllocError>
-    ensures { OnOk result (memory.new
-        ≡ put_tables memory.old
-        (collection_words (record { regs = regs.now; maps = maps.now.maps }))) }
+/// Writes the collections that have entries by rising ICID, and zeros after them.
+#[tactic(auto, unfolding(its_plain::specs::Saved::collection_word))]
+pub fn put_collections(
+    draft: &mut Draft,
+    under: &Memory,
+    shape: Shape,
+    regs: &Regs,
+    maps: &Maps,
+) -> Result<(), AllocError>
+    ensures { OnOk result (laid draft.new under.now
+        ≡ put_tables (laid draft.old under.now)
+        (collection_words shape (record { regs = regs.now; maps = maps.now.maps }))) }
 {
     if !regs.table_valid(1) {
         return Ok(());
     }
-    put_places(memory, regs.table_base(1).0, regs.collection_places(), maps)
+    let mut front = EntryFront::new(shape, regs, maps);
+    put_places(
+        draft,
+        under,
+        regs.table_base(1).0,
+        regs.collection_places(),
+        &mut front,
+    )
 }
 
-fn put_places(memory: &mut Memory, base: u64, count: u32, maps: &Maps) -> Result<(), AllocError>
+fn put_places(
+    draft: &mut Draft,
+    under: &Memory,
+    base: u64,
+    count: u32,
+    front: &mut EntryFront<'_>,
+) -> Result<(), AllocError>
     requires low { base < 2 ^ 53 }
     requires few { count ≤ 65536 }
-    ensures { OnOk result (memory.new
-        ≡ put_words memory.old base (collection_word maps.now.maps) count) }
+    ensures { (es : List (ℕ × Vcpu)) → Leaves front.old es → OnOk result (laid draft.new under.now
+        ≡ put_words (laid draft.old under.now) base (λ i. saved.collection_entry (slice_get es i)) count) }
 {
-    let mut walk = maps.collections();
     let mut done = 0;
     while done < count {
         let more = (count - done).min(BLOCK);
-        put_some(memory, base + 8 * u64::from(done), more, &mut walk)?;
+        put_some(draft, under, base + 8 * u64::from(done), more, front)?;
         done += more;
     }
     Ok(())
@@ -43,37 +66,39 @@ fn put_places(memory: &mut Memory, base: u64, count: u32, maps: &Maps) -> Result
 
 // Writes the places of a block: the next collections, and zeros after them.
 fn put_some(
-    memory: &mut Memory,
+    draft: &mut Draft,
+    under: &Memory,
     base: u64,
     count: u32,
-    walk: &mut CollectionWalk<'_>,
+    front: &mut EntryFront<'_>,
 ) -> Result<(), AllocError>
     requires low { base < 2 ^ 54 }
     requires some { 0 < count }
     requires few { count ≤ 512 }
-    ensures memory { OnOk result (memory.new ≡ put_words memory.old base
-        (λ i. saved.collection_entry (slice_get walk.old i)) count) }
-    ensures rest { OnOk result (walk.new ≡ drop count walk.old) }
+    ensures memory { (es : List (ℕ × Vcpu)) → Leaves front.old es → OnOk result (laid draft.new under.now
+        ≡ put_words (laid draft.old under.now) base (λ i. saved.collection_entry (slice_get es i)) count) }
+    ensures rest { (es : List (ℕ × Vcpu)) → Leaves front.old es
+        → OnOk result (Leaves front.new (drop count es)) }
 {
-    let Some(first) = walk.next() else {
-        return put_zeros(memory, base, count);
+    let Some(first) = front.next() else {
+        return put_zeros(draft, under, base, count);
     };
     let mut words = [0u64; BLOCK as usize];
     let words = &mut words[..count as usize];
     words[0] = word_of(Some(first));
     for i in 1..words.len() {
-        words[i] = word_of(walk.next());
+        words[i] = word_of(front.next());
     }
-    put_block(memory, base, words)
+    put_block(draft, under, base, words)
 }
 
-fn word_of(collection: Option<(Icid, Vcpu)>) -> u64
+fn word_of(collection: Option<(Icid, u32)>) -> u64
     ensures { result ≡ collection_entry collection }
 {
     match collection {
         Some((icid, vcpu)) => {
             let entry = Cte {
-                vcpu_number: u64::from(vcpu.0),
+                vcpu_number: u64::from(vcpu),
                 icid,
             };
             entry.pack()

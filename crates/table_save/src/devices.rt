@@ -1,5 +1,6 @@
 //! The device table.
 
+ghost use Rattle.guest_windows.specs.Drafts.{laid};
 ghost use Rattle.std.specs.Prelude.{◌≡◌, ◌+◌, ◌*◌, ◌<◌, ◌≤◌, ◌^◌, length, IfSome, OnOk};
 ghost use Rattle.std.specs.FinMap.{entries};
 ghost use Rattle.its_plain.specs.Saved.{put_words, put_tables, device_words};
@@ -11,7 +12,7 @@ use crate::pages::read_pages;
 use crate::words::{BLOCK, put_block, put_zeros};
 use baser_place::level1_entries;
 use gits_regs::Regs;
-use guest_windows::Memory;
+use guest_windows::{Draft, Memory};
 use its_maps::{DeviceWalk, Maps};
 use its_types::{Addr, Device, DeviceId};
 use std::alloc::AllocError;
@@ -36,6 +37,7 @@ impl<'a> Model for DeviceFront<'a> {
 }
 
 impl<'a> DeviceFront<'a> {
+    ghost use Rattle.guest_windows.specs.Drafts.{laid};
     ghost use Rattle.std.specs.Prelude.{◌≡◌, ◌+◌, ◌<◌, ◌≤◌, ◌^◌, ℕ, OnOk, drop, length};
     ghost use Rattle.std.specs.Prelude.{slice_index};
     ghost use Rattle.std.specs.List.{AllByRecursion};
@@ -94,7 +96,8 @@ impl<'a> DeviceFront<'a> {
     // Writes the places of a block, at the first of which the devices begin at the earliest.
     fn put_block(
         &mut self,
-        memory: &mut Memory,
+        draft: &mut Draft,
+        under: &Memory,
         base: u64,
         id: u32,
         count: u32,
@@ -104,17 +107,18 @@ impl<'a> DeviceFront<'a> {
         requires fits { id + count < 2 ^ 32 }
         requires rises { RisesFrom id self.old }
         requires fit { AllByRecursion FitsDevice self.old }
-        ensures memory { OnOk result (memory.new ≡ put_words memory.old base
+        ensures memory { OnOk result (laid draft.new under.now
+            ≡ put_words (laid draft.old under.now) base
             (λ i. device_entry_word self.old (id + i)) count) }
         ensures rest { PassedDevices (id + count) self.old self.new }
     {
         if !self.begins_below(id + count) {
-            return put_zeros(memory, base, count);
+            return put_zeros(draft, under, base, count);
         }
         let mut words = [0u64; BLOCK as usize];
         let words = &mut words[..count as usize];
         self.words_at(id, words);
-        put_block(memory, base, words)
+        put_block(draft, under, base, words)
     }
 
     /// Passes over the devices before a place.
@@ -158,7 +162,8 @@ impl<'a> DeviceFront<'a> {
 /// Writes so many places of a device table, of which the first is that of a DeviceID and stands at
 /// an address.
 pub fn put_places(
-    memory: &mut Memory,
+    draft: &mut Draft,
+    under: &Memory,
     base: u64,
     first: u32,
     count: u32,
@@ -168,14 +173,15 @@ pub fn put_places(
     requires few { first + count < 2 ^ 32 }
     requires rises { RisesFrom first front.old }
     requires fit { AllByRecursion FitsDevice front.old }
-    ensures memory { OnOk result (memory.new ≡ put_words memory.old base
+    ensures memory { OnOk result (laid draft.new under.now
+        ≡ put_words (laid draft.old under.now) base
         (λ i. device_entry_word front.old (first + i)) count) }
     ensures rest { OnOk result (PassedDevices (first + count) front.old front.new) }
 {
     let mut done = 0;
     while done < count {
         let more = (count - done).min(BLOCK);
-        front.put_block(memory, base + 8 * u64::from(done), first + done, more)?;
+        front.put_block(draft, under, base + 8 * u64::from(done), first + done, more)?;
         done += more;
     }
     Ok(())
@@ -183,7 +189,8 @@ pub fn put_places(
 
 /// Writes the pages of a device table of two levels, which have so many places each.
 pub fn put_pages(
-    memory: &mut Memory,
+    draft: &mut Draft,
+    under: &Memory,
     pages: &[Option<Addr>],
     per_page: u32,
     maps: &Maps,
@@ -192,20 +199,28 @@ pub fn put_pages(
     requires short { per_page ≤ 8192 }
     requires low { AreLowPages pages.now }
     requires fit { AllByRecursion FitsDevice (entries maps.now.maps.devices) }
-    ensures { OnOk result (memory.new
-        ≡ put_tables memory.old
+    ensures { OnOk result (laid draft.new under.now
+        ≡ put_tables (laid draft.old under.now)
         (page_tables (entries maps.now.maps.devices) per_page pages.now (length pages.now))) }
 {
     let mut front = DeviceFront::new(maps);
     for (k, page) in pages.iter().enumerate() {
-        put_page(memory, *page, per_page * k as u32, per_page, &mut front)?;
+        put_page(
+            draft,
+            under,
+            *page,
+            per_page * k as u32,
+            per_page,
+            &mut front,
+        )?;
     }
     Ok(())
 }
 
 // Writes a page, if there is one, and passes over its places.
 fn put_page(
-    memory: &mut Memory,
+    draft: &mut Draft,
+    under: &Memory,
     page: Option<Addr>,
     first: u32,
     count: u32,
@@ -215,12 +230,12 @@ fn put_page(
     requires low { IfSome page (λ a. a.0 < 2 ^ 52) }
     requires rises { RisesFrom first front.old }
     requires fit { AllByRecursion FitsDevice front.old }
-    ensures memory { OnOk result (memory.new
-        ≡ put_tables memory.old (page_table front.old first count page)) }
+    ensures memory { OnOk result (laid draft.new under.now
+        ≡ put_tables (laid draft.old under.now) (page_table front.old first count page)) }
     ensures rest { OnOk result (PassedDevices (first + count) front.old front.new) }
 {
     match page {
-        Some(base) => put_places(memory, base.0, first, count, front),
+        Some(base) => put_places(draft, under, base.0, first, count, front),
         None => {
             front.skip_below(first + count);
             Ok(())
@@ -229,28 +244,28 @@ fn put_page(
 }
 
 /// Writes the device table: a flat one, or the pages of one of two levels, as its first level in
-/// the memory that is given beside says.
+/// the memory under the draft says.
 #[tactic(auto, unfolding(its_plain::specs::Saved::device_words))]
 pub fn put_devices(
-    memory: &mut Memory,
-    from: &Memory,
+    draft: &mut Draft,
+    under: &Memory,
     regs: &Regs,
     maps: &Maps,
 ) -> Result<(), AllocError>
     requires { AllByRecursion FitsDevice (entries maps.now.maps.devices) }
-    ensures { OnOk result (memory.new
-        ≡ put_tables memory.old
-        (device_words (record { regs = regs.now; maps = maps.now.maps }) from.now)) }
+    ensures { OnOk result (laid draft.new under.now
+        ≡ put_tables (laid draft.old under.now)
+        (device_words (record { regs = regs.now; maps = maps.now.maps }) under.now)) }
 {
     if !regs.table_valid(0) {
         return Ok(());
     }
     if regs.indirect() {
-        let pages = read_pages(regs, from);
+        let pages = read_pages(regs, under);
         let pages = &pages[..level1_entries(regs) as usize];
-        return put_pages(memory, pages, 8192, maps);
+        return put_pages(draft, under, pages, 8192, maps);
     }
     let count = 8192 * regs.pages(0).min(level1_entries(regs));
     let mut front = DeviceFront::new(maps);
-    put_places(memory, regs.table_base(0).0, 0, count, &mut front)
+    put_places(draft, under, regs.table_base(0).0, 0, count, &mut front)
 }

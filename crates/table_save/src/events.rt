@@ -1,5 +1,6 @@
 //! The interrupt translation tables.
 
+ghost use Rattle.guest_windows.specs.Drafts.{laid};
 ghost use Rattle.std.specs.Prelude.{◌≡◌, ◌+◌, ◌<◌, ◌≤◌, ◌^◌, ◌∷◌, [], ℕ, OnOk, length};
 ghost use Rattle.std.specs.Prelude.{slice_index};
 ghost use Rattle.std.specs.FinMap.{entries};
@@ -13,7 +14,7 @@ ghost use Rattle.table_save.specs.Tables.{itt_tables};
 
 use crate::slots::{put_slots, word_of};
 use crate::words::{BLOCK, put_block, put_zeros};
-use guest_windows::Memory;
+use guest_windows::{Draft, Memory};
 use its_maps::{EventWalk, Maps};
 use its_types::{Device, DeviceId, Event, EventId};
 use std::alloc::AllocError;
@@ -38,6 +39,7 @@ impl<'a> Model for EventFront<'a> {
 }
 
 impl<'a> EventFront<'a> {
+    ghost use Rattle.guest_windows.specs.Drafts.{laid};
     ghost use Rattle.std.specs.Prelude.{◌≡◌, ◌+◌, ◌<◌, ◌≤◌, ◌^◌, ℕ, OnOk, false, length};
     ghost use Rattle.std.specs.Prelude.{slice_index};
     ghost use Rattle.std.specs.List.{AllByRecursion};
@@ -115,7 +117,8 @@ impl<'a> EventFront<'a> {
     // Writes the places of a block, at the first of which the events begin at the earliest.
     fn put_block(
         &mut self,
-        memory: &mut Memory,
+        draft: &mut Draft,
+        under: &Memory,
         base: u64,
         id: u32,
         count: u32,
@@ -125,17 +128,18 @@ impl<'a> EventFront<'a> {
         requires fits { id + count < 2 ^ 32 }
         requires rises { RisesFrom id self.old }
         requires fit { AllByRecursion FitsEvent self.old }
-        ensures memory { OnOk result (memory.new ≡ put_words memory.old base
+        ensures memory { OnOk result (laid draft.new under.now
+            ≡ put_words (laid draft.old under.now) base
             (λ i. event_entry_word self.old (id + i)) count) }
         ensures rest { PassedEvents (id + count) self.old self.new }
     {
         if !self.begins_below(id + count) {
-            return put_zeros(memory, base, count);
+            return put_zeros(draft, under, base, count);
         }
         let mut words = [0u64; BLOCK as usize];
         let words = &mut words[..count as usize];
         self.words_at(id, words);
-        put_block(memory, base, words)
+        put_block(draft, under, base, words)
     }
 
     fn begins_below(&self, id: u32) -> bool
@@ -186,14 +190,15 @@ fn event_id(entry: Option<(EventId, Event)>) -> Option<u32>
 }
 
 /// Writes the table of each mapped device.
-pub fn put_itts(memory: &mut Memory, maps: &Maps) -> Result<(), AllocError>
+pub fn put_itts(draft: &mut Draft, under: &Memory, maps: &Maps) -> Result<(), AllocError>
     requires devices { AllByRecursion FitsDevice (entries maps.now.maps.devices) }
     requires events { (dev : ℕ) → AllByRecursion FitsEvent (events_at maps.now.maps dev) }
-    ensures { OnOk result (memory.new
-        ≡ put_tables memory.old (itt_tables maps.now.maps (entries maps.now.maps.devices))) }
+    ensures { OnOk result (laid draft.new under.now
+        ≡ put_tables (laid draft.old under.now)
+        (itt_tables maps.now.maps (entries maps.now.maps.devices))) }
 {
     for (dev, device) in maps.devices() {
-        put_itt(memory, maps, dev, device)?;
+        put_itt(draft, under, maps, dev, device)?;
     }
     Ok(())
 }
@@ -208,7 +213,8 @@ fn places(bits: u8) -> u32
 }
 
 fn put_itt(
-    memory: &mut Memory,
+    draft: &mut Draft,
+    under: &Memory,
     maps: &Maps,
     dev: DeviceId,
     device: Device,
@@ -216,16 +222,16 @@ fn put_itt(
     requires low { device.itt.0 < 2 ^ 52 }
     requires few { device.bits ≤ 16 }
     requires events { AllByRecursion FitsEvent (events_at maps.now.maps dev.0) }
-    ensures { OnOk result (memory.new
-        ≡ put_words memory.old device.itt.0 (event_entry_word (events_at maps.now.maps dev.0))
-        (2 ^ device.bits)) }
+    ensures { OnOk result (laid draft.new under.now
+        ≡ put_words (laid draft.old under.now) device.itt.0
+        (event_entry_word (events_at maps.now.maps dev.0)) (2 ^ device.bits)) }
 {
     let mut front = EventFront::new(maps, dev);
     let count = places(device.bits);
     let mut done = 0;
     while done < count {
         let more = (count - done).min(BLOCK);
-        front.put_block(memory, device.itt.0 + 8 * u64::from(done), done, more)?;
+        front.put_block(draft, under, device.itt.0 + 8 * u64::from(done), done, more)?;
         done += more;
     }
     Ok(())

@@ -12,6 +12,8 @@ mod checks;
 mod collections;
 mod devices;
 mod edges;
+mod entry_front;
+mod entry_steps;
 mod events;
 mod marks;
 mod overlap;
@@ -25,6 +27,6 @@ mod thin;
 mod words;
 
 pub use marks::mark_tables;
-pub use saving::{savable, save_in, saved_memory};
+pub use saving::{savable, save_in, saved_pages};
 pub use stretches::written_tables;
 pub use thin::{save, save_two};

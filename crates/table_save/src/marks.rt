@@ -10,6 +10,7 @@ ghost use Rattle.its_plain.specs.Saved as saved;
 ghost use Rattle.its_plain.specs.Saved.{wrote_tables, pending_words, words_of};
 ghost use Rattle.its_plain.specs.Sound.{IsShape};
 ghost use Rattle.its_types.specs.Maps as plain;
+ghost use Rattle.its_types.specs.declared.machine.Shape as shapes;
 ghost use Rattle.its_plain.specs.Plain.{PendState, joined};
 ghost use Rattle.owned_parts.specs.Owned.{AreAllInHand, conf_state, state_in_place};
 ghost use Rattle.table_save.specs.Areas.{redistributors_of, HasLowTable, HaveLowTables};
@@ -39,8 +40,9 @@ pub fn mark_tables(parts: &InPlace<'_>, track: &mut Tracked)
 
 fn mark_all(parts: &InPlace<'_>, track: &mut Tracked)
     requires { FitsSave parts.now }
-    ensures { track.new ≡ wrote_tables ((words_at parts.now.memory.now parts.now.first
-        ++ second_words parts.now.memory.now parts.now.second)
+    ensures { track.new ≡ wrote_tables ((words_at parts.now.layout.now.shape parts.now.memory.now parts.now.first
+        ++ second_words parts.now.layout.now.shape parts.now.memory.now
+        parts.now.second)
         ++ flat_map (pending_words parts.now.layout.now.shape)
         (redistributors_of parts.now.layout.now.shape parts.now.redists.now)) track.old }
 {
@@ -51,7 +53,8 @@ fn mark_all(parts: &InPlace<'_>, track: &mut Tracked)
 
 fn mark_second(track: &mut Tracked, from: &Memory, second: Option<TranslatorRef<'_>>)
     requires { IfSome second FitsTranslator }
-    ensures { track.new ≡ wrote_tables (second_words from.now second.entry) track.old }
+    ensures { (s : shapes.Shape) →
+        track.new ≡ wrote_tables (second_words s from.now second.entry) track.old }
 {
     if let Some(translator) = second {
         mark_translator(track, from, translator);
@@ -61,7 +64,8 @@ fn mark_second(track: &mut Tracked, from: &Memory, second: Option<TranslatorRef<
 // Those of one translator.
 fn mark_translator(track: &mut Tracked, from: &Memory, translator: TranslatorRef<'_>)
     requires { FitsTranslator translator }
-    ensures { track.new ≡ wrote_tables (words_at from.now translator.entry) track.old }
+    ensures { (s : shapes.Shape) →
+        track.new ≡ wrote_tables (words_at s from.now translator.entry) track.old }
 {
     let TranslatorRef { regs, maps } = translator;
     mark_devices(track, from, regs);
@@ -108,8 +112,8 @@ fn mark_page(track: &mut Tracked, entry: Level1)
 }
 
 fn mark_collections(track: &mut Tracked, regs: &Regs)
-    ensures { (m : plain.Maps) → track.new ≡ wrote_tables
-        (saved.collection_words (record { regs = regs.now; maps = m })) track.old }
+    ensures { (s : shapes.Shape) (m : plain.Maps) → track.new ≡ wrote_tables
+        (saved.collection_words s (record { regs = regs.now; maps = m })) track.old }
 {
     if regs.table_valid(1) {
         let pages = regs.pages(1).min(8);

@@ -1,5 +1,6 @@
 //! The pending tables.
 
+ghost use Rattle.guest_windows.specs.Drafts.{laid};
 ghost use Rattle.std.specs.Prelude.{◌≡◌, ◌+◌, ◌*◌, ◌<◌, ◌≤◌, ◌^◌, ℕ, OnOk, length, slice_index};
 ghost use Rattle.std.specs.List.{flat_map};
 ghost use Rattle.its_types.specs.Ranges.{pending_bytes};
@@ -10,24 +11,30 @@ ghost use Rattle.gicr_regs.specs.Registers.{AreLow};
 ghost use Rattle.table_save.specs.Areas.{redistributors_of, HaveLowTables};
 
 use crate::words::{BLOCK, put_block};
-use guest_windows::Memory;
+use guest_windows::{Draft, Memory};
 use its_types::{Shape, Vcpu, le_u64};
 use lpi_config::Conf;
 use lpi_pending::{Pend, Pending, Redists};
 use std::alloc::AllocError;
 
 /// Writes the pending tables, but for the bytes that belong to no LPI.
-pub fn put_pending(memory: &mut Memory, redists: &Redists, shape: Shape) -> Result<(), AllocError>
+pub fn put_pending(
+    draft: &mut Draft,
+    under: &Memory,
+    redists: &Redists,
+    shape: Shape,
+) -> Result<(), AllocError>
     requires shape { IsShape shape }
     requires in_hand { AreAllInHand shape redists.now }
     requires low { HaveLowTables shape redists.now }
-    ensures { OnOk result (memory.new
-        ≡ put_tables memory.old
+    ensures { OnOk result (laid draft.new under.now
+        ≡ put_tables (laid draft.old under.now)
         (flat_map (pending_words shape) (redistributors_of shape redists.now))) }
 {
     for vcpu in 0..shape.vcpus {
         put_table(
-            memory,
+            draft,
+            under,
             redists.conf(Vcpu(vcpu)),
             redists.pend(Vcpu(vcpu)),
             shape,
@@ -37,11 +44,17 @@ pub fn put_pending(memory: &mut Memory, redists: &Redists, shape: Shape) -> Resu
 }
 
 // Writes a redistributor's table, where its LPIs are on.
-fn put_table(memory: &mut Memory, conf: &Conf, pend: &Pend, shape: Shape) -> Result<(), AllocError>
+fn put_table(
+    draft: &mut Draft,
+    under: &Memory,
+    conf: &Conf,
+    pend: &Pend,
+    shape: Shape,
+) -> Result<(), AllocError>
     requires shape { IsShape shape }
     requires lpis { HasLpisOfPend shape pend.now }
     requires low { AreLow conf.now.bases }
-    ensures { OnOk result (memory.new ≡ put_tables memory.old
+    ensures { OnOk result (laid draft.new under.now ≡ put_tables (laid draft.old under.now)
         (pending_words shape (redistributor_of conf.now pend.now))) }
 {
     if !conf.bases.on {
@@ -49,7 +62,8 @@ fn put_table(memory: &mut Memory, conf: &Conf, pend: &Pend, shape: Shape) -> Res
     }
     let count = (shape.pending_bytes() - 1024) / 8;
     put_words_of(
-        memory,
+        draft,
+        under,
         conf.bases.pend.table.0 + 1024,
         count as u32,
         &pend.pending,
@@ -58,7 +72,8 @@ fn put_table(memory: &mut Memory, conf: &Conf, pend: &Pend, shape: Shape) -> Res
 
 // Writes so many words, of which the first has the bits of the first LPIs.
 fn put_words_of(
-    memory: &mut Memory,
+    draft: &mut Draft,
+    under: &Memory,
     base: u64,
     count: u32,
     pending: &Pending,
@@ -66,8 +81,9 @@ fn put_words_of(
     requires low { base < 2 ^ 53 }
     requires few { count ≤ 16384 }
     requires in_table { 1024 + 8 * count ≤ pending_bytes pending.now.lpi_bits }
-    ensures { OnOk result (memory.new
-        ≡ put_words memory.old base (λ i. pending_word pending.now.lpis (1024 + 8 * i)) count) }
+    ensures { OnOk result (laid draft.new under.now
+        ≡ put_words (laid draft.old under.now) base
+        (λ i. pending_word pending.now.lpis (1024 + 8 * i)) count) }
 {
     let mut words = [0u64; BLOCK as usize];
     let mut done = 0;
@@ -75,7 +91,7 @@ fn put_words_of(
         let more = (count - done).min(BLOCK);
         let block = &mut words[..more as usize];
         words_from(pending, done, block);
-        put_block(memory, base + 8 * u64::from(done), block)?;
+        put_block(draft, under, base + 8 * u64::from(done), block)?;
         done += more;
     }
     Ok(())

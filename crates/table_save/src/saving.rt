@@ -1,5 +1,6 @@
 //! The whole of a save.
 
+ghost use Rattle.guest_windows.specs.Drafts.{laid};
 ghost use Rattle.std.specs.Prelude.{◌≡◌, ◌++◌, ◌≤◌, ◌∷◌, [], OnOk, IfSome, Option, None};
 ghost use Rattle.std.specs.List.{flat_map};
 ghost use Rattle.dirty_log.specs.declared.tracked.Tracked.{Tracked};
@@ -20,8 +21,9 @@ use crate::events::put_itts;
 use crate::overlap::none_overlap;
 use crate::pending::put_pending;
 use crate::room::SaveRoom;
-use guest_windows::Memory;
+use guest_windows::{Draft, Memory};
 use its_plain::{SaveError, SaveFault};
+use its_types::Shape;
 use owned_parts::{InPlace, TranslatorRef};
 use std::alloc::{AllocError, Global};
 
@@ -50,71 +52,75 @@ fn savable_in(parts: &InPlace<'_>, room: &mut SaveRoom) -> Result<(), SaveFault>
     none_overlap(room.areas.as_slice(), &mut room.all, &mut room.written)
 }
 
-/// Guest memory with the tables saved in it, as a memory of its own: every entry of every table,
-/// unused ones as zeros, and the pending bits. Or why they can't be saved.
-pub fn saved_memory(alloc: Global, parts: &InPlace<'_>) -> Result<Memory, SaveError>
+/// The pages of guest memory with the tables saved in them, to be laid over it: every entry of
+/// every table, unused ones as zeros, and the pending bits. Or why they can't be saved.
+pub fn saved_pages(alloc: Global, parts: &InPlace<'_>) -> Result<Draft, SaveError>
     requires parts { AreAllInHand parts.now.layout.now.shape parts.now.redists.now }
     requires sound { AreOfSound parts.now }
     ensures { Saves (state_in_place parts.now) result }
 {
     savable(alloc, parts)?;
-    let mut copy = parts.memory.copy(alloc)?;
-    save_in(parts, &mut copy)?;
-    Ok(copy)
+    let mut draft = Draft::new(alloc);
+    save_in(parts, &mut draft)?;
+    Ok(draft)
 }
 
-/// Writes what a save writes into a memory that is as theirs. It checks nothing. Out of memory, a
-/// part of it is written.
-pub fn save_in(parts: &InPlace<'_>, memory: &mut Memory) -> Result<(), AllocError>
+/// Writes what a save writes into a draft over their memory that is as it. It checks nothing. Out
+/// of memory, a part of it is written.
+pub fn save_in(parts: &InPlace<'_>, draft: &mut Draft) -> Result<(), AllocError>
     requires parts { AreAllInHand parts.now.layout.now.shape parts.now.redists.now }
     requires sound { AreOfSound parts.now }
-    requires same { memory.old ≡ parts.now.memory.now }
-    ensures { OnOk result (memory.new ≡ saved (state_in_place parts.now)) }
+    requires same { laid draft.old parts.now.memory.now ≡ parts.now.memory.now }
+    ensures { OnOk result (laid draft.new parts.now.memory.now ≡ saved (state_in_place parts.now)) }
 {
-    put_all(parts, memory)
+    put_all(parts, draft)
 }
 
 // Writes all tables.
-fn put_all(parts: &InPlace<'_>, memory: &mut Memory) -> Result<(), AllocError>
+fn put_all(parts: &InPlace<'_>, draft: &mut Draft) -> Result<(), AllocError>
     requires fits { FitsSave parts.now }
-    ensures { OnOk result (memory.new ≡ put_tables memory.old
-        ((words_at parts.now.memory.now parts.now.first
-        ++ second_words parts.now.memory.now parts.now.second)
+    ensures { OnOk result (laid draft.new parts.now.memory.now
+        ≡ put_tables (laid draft.old parts.now.memory.now)
+        ((words_at parts.now.layout.now.shape parts.now.memory.now parts.now.first
+        ++ second_words parts.now.layout.now.shape parts.now.memory.now
+        parts.now.second)
         ++ flat_map (pending_words parts.now.layout.now.shape)
         (redistributors_of parts.now.layout.now.shape parts.now.redists.now))) }
 {
-    put_translator(memory, parts.memory, parts.first)?;
-    put_second(memory, parts.memory, parts.second)?;
-    put_pending(memory, parts.redists, parts.layout.shape)
+    put_translator(draft, parts.memory, parts.layout.shape, parts.first)?;
+    put_second(draft, parts.memory, parts.layout.shape, parts.second)?;
+    put_pending(draft, parts.memory, parts.redists, parts.layout.shape)
 }
 
 fn put_second(
-    memory: &mut Memory,
-    from: &Memory,
+    draft: &mut Draft,
+    under: &Memory,
+    shape: Shape,
     second: Option<TranslatorRef<'_>>,
 ) -> Result<(), AllocError>
     requires { IfSome second FitsTranslator }
-    ensures { OnOk result (memory.new
-        ≡ put_tables memory.old (second_words from.now second.entry)) }
+    ensures { OnOk result (laid draft.new under.now
+        ≡ put_tables (laid draft.old under.now) (second_words shape under.now second.entry)) }
 {
     match second {
-        Some(translator) => put_translator(memory, from, translator),
+        Some(translator) => put_translator(draft, under, shape, translator),
         None => Ok(()),
     }
 }
 
 // Writes the tables of one translator.
 fn put_translator(
-    memory: &mut Memory,
-    from: &Memory,
+    draft: &mut Draft,
+    under: &Memory,
+    shape: Shape,
     translator: TranslatorRef<'_>,
 ) -> Result<(), AllocError>
     requires { FitsTranslator translator }
-    ensures { OnOk result (memory.new
-        ≡ put_tables memory.old (words_at from.now translator.entry)) }
+    ensures { OnOk result (laid draft.new under.now
+        ≡ put_tables (laid draft.old under.now) (words_at shape under.now translator.entry)) }
 {
     let TranslatorRef { regs, maps } = translator;
-    put_devices(memory, from, regs, maps)?;
-    put_collections(memory, regs, maps)?;
-    put_itts(memory, maps)
+    put_devices(draft, under, regs, maps)?;
+    put_collections(draft, under, shape, regs, maps)?;
+    put_itts(draft, under, maps)
 }

@@ -11,6 +11,7 @@ ghost use Rattle.its_plain.specs.Saved as saved;
 ghost use Rattle.its_plain.specs.Saved.{pending_words, words_of};
 ghost use Rattle.its_plain.specs.Sound.{IsShape};
 ghost use Rattle.its_types.specs.Maps as plain;
+ghost use Rattle.its_types.specs.declared.machine.Shape as shapes;
 ghost use Rattle.its_plain.specs.Plain.{PendState, joined};
 ghost use Rattle.owned_parts.specs.Owned.{AreAllInHand, conf_state, state_in_place};
 ghost use Rattle.table_save.specs.Areas.{redistributors_of, HasLowTable, HaveLowTables};
@@ -46,8 +47,9 @@ pub fn written_tables(alloc: Global, parts: &InPlace<'_>) -> Result<Vec<(Addr, u
 fn list_all(list: &mut Vec<(Addr, u64)>, parts: &InPlace<'_>) -> Result<(), AllocError>
     requires { FitsSave parts.now }
     ensures { OnOk result (pairs list.new.items ≡ pairs list.old.items
-        ++ stretches_of ((words_at parts.now.memory.now parts.now.first
-        ++ second_words parts.now.memory.now parts.now.second)
+        ++ stretches_of ((words_at parts.now.layout.now.shape parts.now.memory.now parts.now.first
+        ++ second_words parts.now.layout.now.shape parts.now.memory.now
+        parts.now.second)
         ++ flat_map (pending_words parts.now.layout.now.shape)
         (redistributors_of parts.now.layout.now.shape parts.now.redists.now))) }
 {
@@ -62,8 +64,8 @@ fn list_second(
     second: Option<TranslatorRef<'_>>,
 ) -> Result<(), AllocError>
     requires { IfSome second FitsTranslator }
-    ensures { OnOk result (pairs list.new.items ≡ pairs list.old.items
-        ++ stretches_of (second_words from.now second.entry)) }
+    ensures { OnOk result ((s : shapes.Shape) → pairs list.new.items ≡ pairs list.old.items
+        ++ stretches_of (second_words s from.now second.entry)) }
 {
     match second {
         Some(translator) => list_translator(list, from, translator),
@@ -78,8 +80,8 @@ fn list_translator(
     translator: TranslatorRef<'_>,
 ) -> Result<(), AllocError>
     requires { FitsTranslator translator }
-    ensures { OnOk result (pairs list.new.items ≡ pairs list.old.items
-        ++ stretches_of (words_at from.now translator.entry)) }
+    ensures { OnOk result ((s : shapes.Shape) → pairs list.new.items ≡ pairs list.old.items
+        ++ stretches_of (words_at s from.now translator.entry)) }
 {
     let TranslatorRef { regs, maps } = translator;
     list_devices(list, from, regs)?;
@@ -126,8 +128,8 @@ fn list_page(list: &mut Vec<(Addr, u64)>, entry: Level1) -> Result<(), AllocErro
 }
 
 fn list_collections(list: &mut Vec<(Addr, u64)>, regs: &Regs) -> Result<(), AllocError>
-    ensures { OnOk result ((m : plain.Maps) → pairs list.new.items ≡ pairs list.old.items
-        ++ stretches_of (saved.collection_words (record { regs = regs.now; maps = m }))) }
+    ensures { OnOk result ((s : shapes.Shape) (m : plain.Maps) → pairs list.new.items
+        ≡ pairs list.old.items ++ stretches_of (saved.collection_words s (record { regs = regs.now; maps = m }))) }
 {
     if !regs.table_valid(1) {
         return Ok(());

@@ -7,9 +7,9 @@ ghost use Rattle.owned_parts.specs.Owned.{AreAllInHand, state_of, translator_at,
 ghost use Rattle.table_save.specs.Fits.{one};
 ghost use Rattle.table_save.specs.Checked.{Answers, Leaves, Saves};
 
-use crate::saving::saved_memory;
+use crate::saving::saved_pages;
 use gits_regs::Regs;
-use guest_windows::Memory;
+use guest_windows::{Draft, Memory};
 use its_maps::Maps;
 use its_plain::{Layout, SaveError};
 use lpi_pending::Redists;
@@ -36,7 +36,7 @@ pub fn save<'a>(
 {
     let first = TranslatorRef { regs, maps };
     let saved = saved_of(alloc, first, None, redists, layout, memory)?;
-    *memory = saved;
+    memory.adopt(saved);
     Ok(())
 }
 
@@ -60,11 +60,11 @@ pub fn save_two<'a>(
         redists.now)) }
 {
     let saved = saved_of(alloc, first, Some(second), redists, layout, memory)?;
-    *memory = saved;
+    memory.adopt(saved);
     Ok(())
 }
 
-// Guest memory with the tables saved in it.
+// The pages with the tables saved in them.
 fn saved_of<'a>(
     alloc: Global,
     first: TranslatorRef<'a>,
@@ -72,7 +72,7 @@ fn saved_of<'a>(
     redists: &'a Redists,
     layout: &'a Layout,
     memory: &'a Memory,
-) -> Result<Memory, SaveError>
+) -> Result<Draft, SaveError>
     requires parts { AreAllInHand layout.now.shape redists.now }
     requires sound { IsSound (state_of layout.now (translators_at first second) memory.now None
         redists.now) }
@@ -87,5 +87,5 @@ fn saved_of<'a>(
         track: None,
         redists,
     };
-    saved_memory(alloc, &parts)
+    saved_pages(alloc, &parts)
 }

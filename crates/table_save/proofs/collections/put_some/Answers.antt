@@ -1,10 +1,13 @@
-use Rattle.std.proofs.Common.{ℕ, get_or, set, sym, ap, ◌∙◌, arith, inl, inr}
+use Rattle.std.proofs.Common.{◌≡◌, ℕ, List, get_or, set, drop, sym, subst, ap, ◌∙◌, arith, inl, inr}
 use Rattle.std.specs.Prelude.{slice_index, slice_get}
 use Rattle.std.proofs.lemmas.Bool.{cases_eq}
 use Rattle.std.proofs.lemmas.List.{get_or-set_same, get_or-set_other, length-set}
 use Rattle.std.proofs.lemmas.Result.{on_ok_weaker}
+use Rattle.guest_windows.specs.Drafts.{laid}
+use Rattle.its_types.specs.declared.ids.Vcpu.{Vcpu}
 use Rattle.its_plain.specs.Saved.{put_words, collection_entry}
-use Rattle.table_save.proofs.CollectionWalks.{taken_is}
+use Rattle.table_save.specs.EntriesLeft.{Leaves}
+use Rattle.table_save.proofs.CollectionWalks.{stepped}
 use Rattle.table_save.proofs.Written.{same_words}
 use Rattle.table_save.proofs.collections.put_some.Goals as goal
 
@@ -14,27 +17,26 @@ loop-i-preserved c =
     let i = c.loop-i.i in
     let xs = c.loop-i.words in
     let w = c.word_of-in-loop-i.result in
-    let all = c.args.walk.now in
     let next = c.next-in-loop-i in
-    let t = taken_is all i c.loop-i.walk next.new.self next.result v.left next.ensures.steps in
     record {
       size = length-set xs i w ∙ v.size;
-      words = λ k lt. elim (cases_eq k i) [
+      words = λ es h k lt. elim (cases_eq k i) [
         | inl is ↦
+            let t = stepped es i next.result next.new.self (next.ensures (drop i es) (v.left es h)) in
             ap (λ (j : ℕ). get_or (set xs i w) j 0) is ∙ get_or-set_same xs i w 0 (omega (arith, v.size)) ∙ c.word_of-in-loop-i.ensures ∙ t.word
-            ∙ ap (λ (j : ℕ). collection_entry (slice_get all j)) (sym is)
-        | inr not ↦ get_or-set_other xs i k w 0 not ∙ v.words k (omega (arith, lt, not))
+            ∙ ap (λ (j : ℕ). collection_entry (slice_get es j)) (sym is)
+        | inr not ↦ get_or-set_other xs i k w 0 not ∙ v.words es h k (omega (arith, lt, not))
       ];
-      left = t.left;
+      left = λ es h. (stepped es i next.result next.new.self (next.ensures (drop i es) (v.left es h))).left;
     }
 
 pub returns-clause-memory : goal.returns-clause-memory
-returns-clause-memory c =
+returns-clause-memory c es h =
     let v = c.loop-i.invariant in
     let xs = c.loop-i.words in
-    let memory = c.args.memory.now in
+    let memory = laid c.args.draft.now c.args.under.now in
     on_ok_weaker c.put_block.result (λ wrote.
     wrote ∙ ap (put_words memory c.args.base (slice_index xs)) v.size
-    ∙ same_words memory c.args.base c.args.count (slice_index xs) (λ i. collection_entry (slice_get c.args.walk.now i))
-    (λ k lt. v.words k (omega (arith, lt, v.size))))
+    ∙ same_words memory c.args.base c.args.count (slice_index xs) (λ i. collection_entry (slice_get es i))
+    (λ k lt. v.words es h k (omega (arith, lt, v.size))))
     c.put_block.ensures

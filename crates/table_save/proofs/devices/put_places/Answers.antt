@@ -1,5 +1,6 @@
 use Rattle.std.proofs.Common.{◌≡◌, ℕ, ◌+◌, refl, ap, ◌∙◌, arith, subst}
 use Rattle.its_plain.specs.Saved.{put_words}
+use Rattle.guest_windows.specs.Drafts.{laid}
 use Rattle.table_save.specs.Pass.{FitsDevice, pack_device, device_entry_word, PassedDevices, RisesFrom}
 use Rattle.table_save.proofs.Blocks.{block_more}
 use Rattle.table_save.proofs.Rises.{passed_none, passed_then}
@@ -27,7 +28,8 @@ loop-done-preserved c =
     let next : first + done + more ≡ first + (done + more) = omega arith in
     record {
       within = omega (arith, v.within, c.min-more.ensures);
-      written = block_more c.args.memory.now c.loop-done.memory c.put_block.new.memory c.args.base done more _ (λ i. device_entry_word all (first + i))
+      written = block_more (laid c.args.draft.now c.args.under.now) (laid c.loop-done.draft c.args.under.now)
+          (laid c.put_block.new.draft c.args.under.now) c.args.base done more _ (λ i. device_entry_word all (first + i))
           (λ i. device_entry_word rest (first + done + i)) v.written c.in_ok-put_block.ensures.memory
           (λ k lt. v.passed.words (first + done + k) (omega arith) ∙ ap (device_entry_word all) (place k))
           (omega (arith, c.from.ensures));
@@ -40,7 +42,7 @@ pub returns-clause-memory : goal.returns-clause-memory
 returns-clause-memory c =
     let v = c.loop-done.invariant in
     let all : c.loop-done.done ≡ c.args.count = omega (arith, v.within, c.loop-done-test.false) in
-    v.written ∙ ap (put_words c.args.memory.now c.args.base (λ i. device_entry_word c.args.front.now (c.args.first + i))) all
+    v.written ∙ ap (put_words (laid c.args.draft.now c.args.under.now) c.args.base (λ i. device_entry_word c.args.front.now (c.args.first + i))) all
 
 pub returns-clause-rest : goal.returns-clause-rest
 returns-clause-rest c =

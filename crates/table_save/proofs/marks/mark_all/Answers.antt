@@ -8,6 +8,6 @@ use Rattle.table_save.proofs.marks.mark_all.Goals as goal
 pub returns : goal.returns
 returns c =
     let p = c.args.parts.now in
-    all_marked c.args.track.now c.mark_translator.new.track c.mark_second.new.track c.mark_pending.new.track (words_at p.memory.now p.first)
-    (second_words p.memory.now p.second) (flat_map (pending_words p.layout.now.shape) (redistributors_of p.layout.now.shape p.redists.now))
-    c.mark_translator.ensures c.mark_second.ensures c.mark_pending.ensures
+    all_marked c.args.track.now c.mark_translator.new.track c.mark_second.new.track c.mark_pending.new.track (words_at p.layout.now.shape p.memory.now p.first)
+    (second_words p.layout.now.shape p.memory.now p.second) (flat_map (pending_words p.layout.now.shape) (redistributors_of p.layout.now.shape p.redists.now))
+    (c.mark_translator.ensures p.layout.now.shape) (c.mark_second.ensures p.layout.now.shape) c.mark_pending.ensures

@@ -14,7 +14,7 @@ put_all-requires c = record { fits = fits c.args.parts.now c.requires.parts c.re
 pub returns : goal.returns
 returns c =
     let p = c.args.parts.now in
-    let words = (words_at p.memory.now p.first ++ second_words p.memory.now p.second)
+    let words = (words_at p.layout.now.shape p.memory.now p.first ++ second_words p.layout.now.shape p.memory.now p.second)
     ++ flat_map (pending_words p.layout.now.shape) (redistributors_of p.layout.now.shape p.redists.now) in
     on_ok_weaker c.put_all.result (λ written. written ∙ ap (λ m. put_tables m words) c.requires.same ∙ ap (put_tables p.memory.now) (words_are p))
     c.put_all.ensures

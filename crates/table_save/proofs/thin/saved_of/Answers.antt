@@ -1,5 +1,5 @@
 use Rattle.std.proofs.Common.{None}
 use Rattle.table_save.proofs.thin.saved_of.Goals as goal
 
-pub saved_memory-requires-clause-sound : goal.saved_memory-requires-clause-sound
-saved_memory-requires-clause-sound c = (None, c.requires.sound)
+pub saved_pages-requires-clause-sound : goal.saved_pages-requires-clause-sound
+saved_pages-requires-clause-sound c = (None, c.requires.sound)

@@ -4,6 +4,7 @@ use Rattle.std.proofs.lemmas.Result.{on_ok_weaker}
 use Rattle.guest_windows.specs.Windows.{Window}
 use Rattle.its_types.specs.declared.translation.Device.{Device}
 use Rattle.its_plain.specs.Saved.{put_words}
+use Rattle.guest_windows.specs.Drafts.{laid}
 use Rattle.table_save.specs.Pass.{begins_below, FitsDevice, PassedDevices, pack_device, device_entry_word}
 use Rattle.table_save.proofs.Rises.{none_below, passed_over}
 use Rattle.table_save.proofs.Written.{same_words}
@@ -21,7 +22,7 @@ returns-then-not-begins_below-clause-memory c =
     let front = c.args.self.now in
     let far : begins_below (c.args.id + c.args.count) front ≡ false = cc in
     on_ok_weaker c.put_zeros.result (λ wrote.
-    wrote ∙ same_words c.args.memory.now c.args.base c.args.count (λ _. 0) (λ i. device_entry_word front (c.args.id + i))
+    wrote ∙ same_words (laid c.args.draft.now c.args.under.now) c.args.base c.args.count (λ _. 0) (λ i. device_entry_word front (c.args.id + i))
     (λ k lt. none_below FitsDevice pack_device 16383 c.args.id (c.args.id + c.args.count) front c.requires.rises far (c.args.id + k)
     (omega arith) (omega arith)))
     c.put_zeros.ensures
@@ -37,7 +38,7 @@ returns-clause-memory c =
     let xs = c.words_at.new.words in
     let long : length xs ≡ c.args.count = rw c.words_at.ensures.length (search rules) in
     on_ok_weaker c.put_block.result (λ wrote.
-    counted c.args.memory.now c.put_block.new.memory c.args.base c.args.id c.args.count xs c.args.self.now long
+    counted (laid c.args.draft.now c.args.under.now) (laid c.put_block.new.draft c.args.under.now) c.args.base c.args.id c.args.count xs c.args.self.now long
     (λ k lt. c.words_at.ensures.words k (omega (arith, lt, long, c.words_at.ensures.length))) wrote)
     c.put_block.ensures
 
