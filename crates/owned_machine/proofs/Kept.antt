@@ -125,7 +125,7 @@ module _ (old new : Parts) (w : Plain) (m : IsMachine old) (same : new.layout �
       ∙ same_state old.layout w.layout ts w.translators (redistributors_in n new.redists) w.redistributors new.memory w.memory new.track w.track
       layout translators (hand_is n new.redists w.redistributors there many) memory track
 
-  go : translators_of new.first new.second ≡ w.translators → new.memory ≡ w.memory → new.track ≡ w.track → IsSound w → GoesOn new w
+  pub go : translators_of new.first new.second ≡ w.translators → new.memory ≡ w.memory → new.track ≡ w.track → IsSound w → GoesOn new w
   go translators memory track sound =
       let state = state_is translators memory track sound in
       record {

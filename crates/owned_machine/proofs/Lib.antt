@@ -10,3 +10,9 @@ mod Started
 mod Restored
 mod Migrating
 mod Programmed
+pub mod AllEvents
+mod Chosen
+mod Led
+mod Walking
+mod Unstale
+mod Put

@@ -15,7 +15,7 @@ use Rattle.gicr_regs.specs.Registers.{AreKept, restored_bases, all_restored_base
 use Rattle.gicr_regs.specs.declared.values.GicrRegisters.{GicrRegisters}
 use Rattle.gicr_regs.specs.declared.values.GicrValues.{GicrValues}
 use Rattle.its_plain.specs.Described as described
-use Rattle.its_plain.specs.Described.{IsRefused, of_description, of_restore, StartsAt}
+use Rattle.its_plain.specs.Described.{IsFirstState, IsRefused, of_description, of_restore, StartsAt, kept_of, without_stale}
 use Rattle.its_plain.specs.Machine.{made, layout_of, IsDescription}
 use Rattle.its_plain.specs.declared.layout.Layout.{Layout}
 use Rattle.its_plain.specs.Stands.{Stands, IsFirstFault}
@@ -36,7 +36,7 @@ use Rattle.table_restore.specs.declared.error.RestoreError.{RestoreError}
 use Rattle.table_restore.specs.declared.error.RestoreError.TheVariants as errors
 use Rattle.standing_states.proofs.Soundness.{standing_sound}
 use Rattle.saved_state.specs.Laws.{bases_of}
-use Rattle.owned_machine.specs.Migrations.{AreBegun}
+use Rattle.owned_machine.specs.Migrations.{AreMade, AreBegun}
 use Rattle.owned_machine.specs.Start.{AreStarted, AreOfFirst}
 use Rattle.its_plain.specs.Sound.{IsLayout}
 use Rattle.owned_machine.specs.Whole.{IsMachine}
@@ -109,9 +109,9 @@ module _ (old new : Parts) (gicr : GicrValues) (values : List (Option RegValues)
     no_others = subst (λ (l : Layout). (v : ℕ) → l.shape.vcpus ≤ v → AreNotInHand new.redists v) (sym same) none;
   }
 
-  pub restored_begun : (d : Desc) → made d ≡ Ok (state_of_parts old) → values ≡ described.values_of d → list_any is_some values ≡ true
-      → bases_to_restore old.layout gicr ≡ described.restored_bases d → AreBegun d (Ok new)
-  restored_begun d made_is values_are some where_is =
+  pub restored_made : (d : Desc) → made d ≡ Ok (state_of_parts old) → values ≡ described.values_of d → list_any is_some values ≡ true
+      → bases_to_restore old.layout gicr ≡ described.restored_bases d → AreMade d (Ok new)
+  restored_made d made_is values_are some where_is =
       let u = state_of_parts old in
       let here : Stands old.memory (described.values_of d) old.layout (described.restored_bases d) (state_of_parts new) =
       subst (λ (vs : List (Option RegValues)). Stands old.memory vs old.layout (described.restored_bases d) (state_of_parts new)) values_are
@@ -129,9 +129,9 @@ pub where_given : (d : Desc) (p : Parts) (values : GicrValues) → p.layout ≡ 
     → bases_to_restore p.layout values ≡ described.restored_bases d
 where_given d p values layout given = ap (λ (l : Layout). bases_to_restore l values) layout ∙ given_is d values given
 
-pub started_begun : (d : Desc) (p : Parts) (values : List (Option RegValues)) → values ≡ described.values_of d → list_any is_some values ≡ false
-    → AreStarted d (Ok p) → AreBegun d (Ok p)
-started_begun d p values values_are none h =
+pub started_made : (d : Desc) (p : Parts) (values : List (Option RegValues)) → values ≡ described.values_of d → list_any is_some values ≡ false
+    → AreStarted d (Ok p) → AreMade d (Ok p)
+started_made d p values values_are none h =
     let u = state_of_parts p in (
       record {
         base = u;
@@ -151,7 +151,7 @@ restore_refused d p values gicr i f made_is values_are some where_is first =
     (subst (λ (vs : List (Option RegValues)). IsFirstFault p.memory vs p.layout.shape (described.restored_bases d) i f) values_are
     (subst (λ (bs : List Bases). IsFirstFault p.memory values p.layout.shape bs i f) where_is first))
 
-pub start_refused : (d : Desc) (e : MakeError) → AreStarted d (Err e) → AreBegun d (Err e)
+pub start_refused : (d : Desc) (e : MakeError) → AreStarted d (Err e) → AreMade d (Err e)
 start_refused d making.NoMemory h = tt
 start_refused d (making.Fault f) h = of_description f h
 
@@ -160,9 +160,9 @@ pub where_fault : (e : RestoreError) (i : ℕ) (f : RestoreFault) (P : ℕ → R
 where_fault e i f P is h = subst (λ (x : RestoreError). WhereFault x P) is h
 
 -- an error that is handed on
-pub begun_with : (d : Desc) (r : Result Parts MakeError) (e : MakeError) → IsErrAnd r (λ (x : MakeError). x ≡ e) → AreStarted d (Err e) → AreBegun d r
-begun_with d (Ok x) e is h = absurd is
-begun_with d (Err x) e is h = subst (λ (y : MakeError). AreBegun d (Err y)) (sym is) (start_refused d e h)
+pub made_with : (d : Desc) (r : Result Parts MakeError) (e : MakeError) → IsErrAnd r (λ (x : MakeError). x ≡ e) → AreStarted d (Err e) → AreMade d r
+made_with d (Ok x) e is h = absurd is
+made_with d (Err x) e is h = subst (λ (y : MakeError). AreMade d (Err y)) (sym is) (start_refused d e h)
 
 -- how many values a description gives
 pub many_values : (d : Desc) (values : List (Option RegValues)) → IsDescription d → values ≡ described.values_of d
@@ -179,10 +179,10 @@ module _ (d : Desc) (layout : Layout) (memory : List Window) (base : AreOfFirst 
   of_base : (P : Layout → List Window → Type 0) → P layout memory → P base.0.layout base.0.memory
   of_base P h = subst (λ (l : Layout). P l base.0.memory) (sym base.2) (subst (P layout) (sym base.3) h)
 
-  pub begun_there : (new : Parts) → new.layout ≡ layout → Stands memory values layout (bases_to_restore layout gicr) (state_of_parts new)
-      → AreAllInHand layout.shape new.redists → ((v : ℕ) → layout.shape.vcpus ≤ v → AreNotInHand new.redists v) → AreBegun d (Ok new)
-  begun_there new same stands all none =
-      restored_begun base.0 new gicr values base.1.whole (same ∙ sym base.2)
+  pub made_there : (new : Parts) → new.layout ≡ layout → Stands memory values layout (bases_to_restore layout gicr) (state_of_parts new)
+      → AreAllInHand layout.shape new.redists → ((v : ℕ) → layout.shape.vcpus ≤ v → AreNotInHand new.redists v) → AreMade d (Ok new)
+  made_there new same stands all none =
+      restored_made base.0 new gicr values base.1.whole (same ∙ sym base.2)
       (of_base (λ (l : Layout) (x : List Window). Stands x values l (bases_to_restore l gicr) (state_of_parts new)) stands)
       (of_base (λ (l : Layout) (x : List Window). AreAllInHand l.shape new.redists) all)
       (of_base (λ (l : Layout) (x : List Window). (v : ℕ) → l.shape.vcpus ≤ v → AreNotInHand new.redists v) none) d base.1.made_is values_are some
@@ -195,3 +195,13 @@ module _ (d : Desc) (layout : Layout) (memory : List Window) (base : AreOfFirst 
 
   pub layout_there : IsLayout layout
   layout_there = subst IsLayout base.2 base.1.whole.sound.layout
+
+-- ---- with stale bits left out, where KVM saved the tables
+
+pub begun_refused : (d : Desc) (r : Result Parts MakeError) (e : MakeError) → IsErrAnd r (λ (x : MakeError). x ≡ e) → AreMade d (Err e) → AreBegun d r
+begun_refused d (Ok x) e is h = absurd is
+begun_refused d (Err x) e is h = subst (λ (y : MakeError). AreBegun d (Err y)) (sym is) (same_refusal d e h)
+  where
+    same_refusal : (d : Desc) (e : MakeError) → AreMade d (Err e) → AreBegun d (Err e)
+    same_refusal d making.NoMemory h = tt
+    same_refusal d (making.Fault f) h = h

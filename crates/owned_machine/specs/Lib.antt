@@ -7,3 +7,4 @@ pub mod Making
 pub mod Start
 pub mod Migrations
 pub mod Placed
+pub mod Stale

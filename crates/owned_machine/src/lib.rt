@@ -15,6 +15,7 @@ mod migrations;
 mod registers;
 mod saves;
 mod signals;
+mod stale;
 mod steps;
 mod stretches;
 

@@ -18,13 +18,15 @@ ghost use Rattle.owned_parts.specs.Owned.{state_of_parts};
 ghost use Rattle.owned_machine.specs.Whole.{IsMachine, GoesOn};
 ghost use Rattle.its_plain.specs.Saved as plain;
 ghost use Rattle.its_plain.specs.Saved.{IsSavable};
-ghost use Rattle.owned_machine.specs.Migrations.{AreMoved, AreOfMachine, AreBegun, GoesOnFrom};
-ghost use Rattle.owned_machine.specs.Migrations.{memory_after};
+ghost use Rattle.owned_machine.specs.Migrations.{AreBegun, AreMade, AreMoved, AreOfMachine};
+ghost use Rattle.owned_machine.specs.Migrations.{GoesOnFrom, IsFresh};
+ghost use Rattle.owned_machine.specs.Migrations.{IsSavedCopy, memory_after};
 ghost use Rattle.owned_machine.specs.Placed.{parts_in};
 ghost use Rattle.owned_machine.specs.Start.{AreOfFirst};
 
 use crate::make::start;
 use crate::saves::mark_saved;
+use crate::stale::drop_stale;
 use dirty_log::Tracked;
 use gicr_regs::{GicrRegisters, GicrValues, values_come_back, values_of};
 use gits_regs::{RegValues, Regs, offsets};
@@ -35,7 +37,7 @@ use owned_parts::{InPlace, Parts};
 use std::alloc::{AllocError, Global};
 use std::mem::replace;
 use table_restore::{RestoreError, restore_in};
-use table_save::saved_memory;
+use table_save::saved_pages;
 
 // The registers at reset.
 const RESET: GicrRegisters = GicrRegisters {
@@ -45,10 +47,39 @@ const RESET: GicrRegisters = GicrRegisters {
 };
 
 /// The parts that a description makes, restored from memory where the description says so, or the
-/// first thing that is wrong.
+/// first thing that is wrong. Of tables that KVM saved, the pending bits that no event leads to are
+/// left out.
 pub fn begin(alloc: Global, desc: &Desc) -> Result<Parts, MakeError>
     requires { IsDescription desc.now }
     ensures { AreBegun desc.now result }
+{
+    let parts = read(alloc, desc)?;
+    if desc.from_kvm {
+        fresh(alloc, parts)
+    } else {
+        Ok(parts)
+    }
+}
+
+// The parts without pending bits that no event leads to.
+fn fresh(alloc: Global, parts: Parts) -> Result<Parts, MakeError>
+    requires { IsMachine parts }
+    ensures { IsFresh (state_of_parts parts) result }
+{
+    let mut parts = parts;
+    match drop_stale(&mut parts, alloc) {
+        Ok(()) => Ok(parts),
+        Err(_) => {
+            drop(parts);
+            Err(MakeError::NoMemory)
+        }
+    }
+}
+
+// The parts that a description makes, with each pending bit that memory has.
+fn read(alloc: Global, desc: &Desc) -> Result<Parts, MakeError>
+    requires { IsDescription desc.now }
+    ensures { AreMade desc.now result }
 {
     let parts = start(alloc, desc)?;
     let Ok(values) = values_to_restore(alloc, desc.translators.as_slice()) else {
@@ -92,7 +123,7 @@ fn restored(
     requires base { AreOfFirst desc.now layout.now memory }
     requires values { values.now ≡ described.values_of desc.now }
     requires given { list_any is_some values.now ≡ true }
-    ensures { AreBegun desc.now result }
+    ensures { AreMade desc.now result }
 {
     let given = values_given(&desc.tables);
     match restore_in(alloc, values, &given, memory, layout) {
@@ -143,8 +174,19 @@ pub fn moved(alloc: Global, parts: &InPlace<'_>) -> Result<Parts, SaveError>
     requires { IsMachine (parts_in parts.now) }
     ensures { AreMoved (state_of_parts (parts_in parts.now)) result }
 {
-    let memory = saved_memory(alloc, parts)?;
+    let memory = saved_copy(alloc, parts)?;
     Ok(resumed(alloc, parts, memory)?)
+}
+
+// A copy of memory, once the tables are saved into it.
+fn saved_copy(alloc: Global, parts: &InPlace<'_>) -> Result<Memory, SaveError>
+    requires { IsMachine (parts_in parts.now) }
+    ensures { IsSavedCopy (state_of_parts (parts_in parts.now)) result }
+{
+    let pages = saved_pages(alloc, parts)?;
+    let mut memory = parts.memory.copy(alloc)?;
+    memory.adopt(pages);
+    Ok(memory)
 }
 
 /// The parts that a memory and the registers stand for, where the tables are saved in that memory.

@@ -9,7 +9,7 @@ ghost use Rattle.owned_machine.specs.Migrations.{marked};
 use its_plain::{Reply, SaveError};
 use owned_parts::Parts;
 use std::alloc::{AllocError, Global};
-use table_save::{mark_tables, saved_memory};
+use table_save::{mark_tables, saved_pages};
 
 /// Writes the tables to guest memory, or answers why not. Out of memory, nothing is written.
 pub fn save(parts: &mut Parts, alloc: Global) -> Result<Reply, AllocError>
@@ -21,13 +21,13 @@ pub fn save(parts: &mut Parts, alloc: Global) -> Result<Reply, AllocError>
         (regions.savable (state_of_parts parts.old)))) }
     ensures err { OnErr result (parts.new ≡ parts.old) }
 {
-    let memory = match saved_memory(alloc, &parts.in_place()) {
-        Ok(memory) => memory,
+    let pages = match saved_pages(alloc, &parts.in_place()) {
+        Ok(pages) => pages,
         Err(SaveError::Fault(fault)) => return Ok(Reply::SaveFault(fault)),
         Err(SaveError::NoMemory) => return Err(AllocError),
     };
     mark_saved(parts);
-    parts.memory = memory;
+    parts.memory.adopt(pages);
     Ok(Reply::Saved)
 }
 

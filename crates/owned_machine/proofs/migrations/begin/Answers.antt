@@ -1,10 +1,8 @@
-use Rattle.std.proofs.Common.{sym}
-use Rattle.owned_machine.proofs.Restored.{begun_with}
+use Rattle.owned_machine.proofs.Restored.{begun_refused}
 use Rattle.owned_machine.proofs.migrations.begin.Goals as goal
 
-pub returns-in_err-parts : goal.returns-in_err-parts
-returns-in_err-parts c = begun_with c.args.desc.now c.from_residual.result c.in_err-parts.field-0.0 c.from_residual.ensures.1 c.in_err-parts.ensures
+pub fresh-requires : goal.fresh-requires
+fresh-requires c = c.in_ok-parts.ensures.1
 
-pub restored-requires-clause-base : goal.restored-requires-clause-base
-restored-requires-clause-base c =
-    (c.in_ok-parts.parts, c.in_ok-parts.ensures, sym c.base_of-layout.ensures.layout, sym c.base_of-layout.ensures.memory)
+pub returns-in_err-parts : goal.returns-in_err-parts
+returns-in_err-parts c = begun_refused c.args.desc.now c.from_residual.result c.in_err-parts.field-0.0 c.from_residual.ensures.1 c.in_err-parts.ensures

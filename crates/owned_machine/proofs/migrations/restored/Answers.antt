@@ -1,4 +1,4 @@
-use Rattle.owned_machine.proofs.Restored.{begun_there, refused_there, layout_there, where_fault, many_values}
+use Rattle.owned_machine.proofs.Restored.{made_there, refused_there, layout_there, where_fault, many_values}
 use Rattle.owned_machine.proofs.migrations.restored.Goals as goal
 
 pub restore_in-requires-clause-layout : goal.restore_in-requires-clause-layout
@@ -16,7 +16,7 @@ pub returns-in-Ok : goal.returns-in-Ok
 returns-in-Ok c =
     let e = c.in-Ok.ensures in
     let given = c.values_given-given in
-    begun_there c.args.desc.now c.args.layout.now c.args.memory c.requires.base c.args.values.now given.result c.requires.values c.requires.given given.ensures
+    made_there c.args.desc.now c.args.layout.now c.args.memory c.requires.base c.args.values.now given.result c.requires.values c.requires.given given.ensures
     c.in-Ok.restored e.layout e.stands e.in_hand e.no_others
 
 pub returns-in-Err-default-Fault : goal.returns-in-Err-default-Fault
