@@ -1,4 +1,3 @@
-mod AllEvents
 mod Rereads
 mod MappedLpis
 mod PlacesOver
@@ -7,7 +6,6 @@ mod OverStep
 mod SavedBytes
 mod Told
 mod Added
-mod Totals
 mod OfMachine
 mod Meeting
 mod Listing

@@ -12,7 +12,7 @@ use Rattle.its_plain.specs.Plain.{Plain, Translator, no_translator, maps_of}
 use Rattle.its_plain.specs.Sound.{IsSound}
 use Rattle.plain_soundness.proofs.Lists.{all_filter}
 use Rattle.owned_machine.proofs.Lists.{found_at, not_found}
-use Rattle.step_views.proofs.AllEvents.{all_entries}
+use Rattle.owned_machine.proofs.AllEvents.{all_entries}
 
 all_map : {X Y : Type 0} (Q : Y → Type 0) (f : X → Y) (xs : List X) → AllByRecursion (λ x. Q (f x)) xs → AllByRecursion Q (map f xs)
 all_map Q f [] h = tt

@@ -61,15 +61,6 @@ module _ (p : Parts) (t : TranslatorRef) (m : IsMachine p) where
   needed h c =
       needed_held p.layout.shape t.regs.now t.maps.now.maps p.memory p.redists c (state_of_parts p, h.0, m.sound, parts_of h.0 h.1) (holds_all p m)
 
-  pub have_devices : IsTranslatorOf p t → EventsHaveDevices t.maps.now.maps
-  have_devices h = λ dev ev some. by dev ev (event_of t.maps.now.maps dev ev) refl some
-    where
-      by : (dev ev : ℕ) (o : Option Event) → event_of t.maps.now.maps dev ev ≡ o → IsSome o → IsSome (device_of t.maps.now.maps dev)
-      by dev ev None is some = absurd cc
-      by dev ev (Some e) is some =
-          let there = (sound h.0 h.1).events dev ev e is in
-          subst (λ (o : Option Device). IsSome o) (sym there.device_is) refl
-
   pub counted_there : (i : ℕ) → IsNumber p t i → length (entries t.maps.now.maps.events) ≡ event_count (state_of_parts p) i
   counted_there i at = ap (λ (x : Translator). length (entries x.maps.events)) (sym (translator_is i at))
 

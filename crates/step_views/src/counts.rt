@@ -1,10 +1,7 @@
 //! How many events are mapped, and whether a step adds one.
-ghost use Rattle.std.specs.Prelude.{◌≡◌, ◌+◌, ◌-◌, ◌^◌, ℕ, is_ok, length, min};
-ghost use Rattle.std.specs.FinMap.{entries};
+ghost use Rattle.std.specs.Prelude.{◌≡◌, ℕ, is_ok};
 ghost use Rattle.cmd_exec.specs.Room as room;
-ghost use Rattle.its_maps.specs.MapsRoom.{EventsHaveDevices};
 ghost use Rattle.its_plain.specs.Commands as commands;
-ghost use Rattle.its_types.specs.Maps.{events_at};
 ghost use Rattle.owned_machine.specs.Whole.{IsMachine};
 ghost use Rattle.owned_parts.specs.Owned.{state_of_parts};
 ghost use Rattle.step_views.specs.Counts as spec;
@@ -17,37 +14,15 @@ use its_plain::StepReply;
 use its_types::{DeviceId, EventId};
 use owned_parts::{Parts, TranslatorRef};
 
-/// How many events a translator has mapped, counted one by one; 2^64 - 1 where they are more.
+/// How many events a translator has mapped. None is looked at.
 pub fn event_count(parts: &Parts, its: u8) -> u64
     requires { IsMachine parts.now }
-    ensures { result ≡ min (spec.event_count (state_of_parts parts.now) its) (2 ^ 64 - 1) }
+    ensures { result ≡ spec.event_count (state_of_parts parts.now) its }
 {
     match parts.in_place().translator(its) {
-        Some(translator) => count_events(translator.maps),
+        Some(translator) => translator.maps.event_count(),
         None => 0,
     }
-}
-
-fn count_events(maps: &Maps) -> u64
-    requires { EventsHaveDevices maps.now.maps }
-    ensures { result ≡ min (length (entries maps.now.maps.events)) (2 ^ 64 - 1) }
-{
-    let mut count = 0u64;
-    for (dev, _) in maps.devices() {
-        count = count_more(maps, dev, count);
-    }
-    count
-}
-
-// With the events of a device.
-fn count_more(maps: &Maps, dev: DeviceId, before: u64) -> u64
-    ensures { result ≡ min (before + length (events_at maps.now.maps dev.0)) (2 ^ 64 - 1) }
-{
-    let mut count = before;
-    for _ in maps.events(dev) {
-        count = count.saturating_add(1);
-    }
-    count
 }
 
 /// Whether the next step of a translator maps an event that isn't mapped: its command is a MAPTI or

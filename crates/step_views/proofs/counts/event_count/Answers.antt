@@ -1,22 +1,14 @@
-use Rattle.std.proofs.Common.{ap, sym, ◌∙◌, min, ℕ}
-use Rattle.step_views.proofs.OfMachine.{lent_number, lent_none, have_devices, counted_there, none_counted}
+use Rattle.std.proofs.Common.{sym, ◌∙◌}
+use Rattle.step_views.proofs.OfMachine.{lent_number, lent_none, counted_there, none_counted}
 use Rattle.step_views.proofs.counts.event_count.Goals as goal
-
-pub count_events-requires : goal.count_events-requires
-count_events-requires c =
-    have_devices c.args.parts.now c.in-Some.translator c.requires (
-      c.args.its,
-      lent_number c.args.parts.now c.in_place.result c.args.its c.translator.result c.in_place.ensures.state c.translator.ensures c.in-Some.translator
-          c.in-Some.is,
-    )
 
 pub returns-in-Some : goal.returns-in-Some
 returns-in-Some c =
     let at = lent_number c.args.parts.now c.in_place.result c.args.its c.translator.result c.in_place.ensures.state c.translator.ensures c.in-Some.translator
     c.in-Some.is in
-    c.count_events.ensures ∙ ap (λ (n : ℕ). min n 18446744073709551615) (counted_there c.args.parts.now c.in-Some.translator c.requires c.args.its at)
+    c.event_count.ensures ∙ counted_there c.args.parts.now c.in-Some.translator c.requires c.args.its at
 
 pub returns-in-None : goal.returns-in-None
 returns-in-None c =
     let none = lent_none c.args.parts.now c.in_place.result c.args.its c.translator.result c.in_place.ensures.state c.translator.ensures c.in-None.is in
-    ap (λ (n : ℕ). min n 18446744073709551615) (sym (none_counted c.args.parts.now c.args.its none))
+    sym (none_counted c.args.parts.now c.args.its none)
