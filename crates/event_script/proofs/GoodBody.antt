@@ -32,7 +32,7 @@ use Rattle.event_script.proofs.Steps.{left_true, right_true, both_true, below, a
 use Rattle.event_script.proofs.Calling.{IsCall, HasIts, call_is}
 use Rattle.event_script.proofs.Good.{in_body, open_legs, open_phases, open_threads, clash, HasDoors, IsFair, HasCalls, IsGood}
 use Rattle.event_script.proofs.GoodDescription.{shards_good, vcpus_good, limits_good, ids_good, profile_good, window_good, config_good, pending_good}
-use Rattle.event_script.proofs.GoodDescription.{gicr_good, linux_good, track_good, pair_good, still_fair}
+use Rattle.event_script.proofs.GoodDescription.{gicr_good, linux_good, track_good, pair_good, from_kvm_good, still_fair}
 use Rattle.event_script.proofs.GoodDoorbells.{restore_good, brestore_good, rrestore_good, its_base_good, b_base_good, requester_good}
 use Rattle.event_script.proofs.GoodDoorbells.{bytes_good, word_fill_good}
 
@@ -328,6 +328,7 @@ keyword_good d n on.Bytes fs h = bytes_good d n fs h
 keyword_good d n on.Restore fs h = restore_good d fs h
 keyword_good d n on.Gicr fs h = gicr_good d fs h
 keyword_good d n on.Rrestore fs h = rrestore_good d fs h
+keyword_good d n on.FromKvm fs h = from_kvm_good d fs h
 keyword_good d n on.Linux fs h = linux_good d fs h
 keyword_good d n on.Track fs h = track_good d fs h
 keyword_good d n on.Pair fs h = pair_good d fs h

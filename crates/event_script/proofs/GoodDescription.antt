@@ -1,6 +1,6 @@
 -- Each line of the description leaves a good draft.
 use Rattle.std.proofs.Common.{◌≡◌, ℕ, ◌-◌, ◌^◌, ◌<◌, ◌≤◌, Bool, true, false, not, ◌&&◌, nat_lt, nat_le, nat_eq, List, [], ◌∷◌, ◌++◌, length, set, replicate}
-use Rattle.std.proofs.Common.{Option, Some, None, is_none, IfOk, ◌∙◌, refl, arith}
+use Rattle.std.proofs.Common.{Option, Some, None, is_none, is_some, IfOk, ◌∙◌, refl, arith}
 use Rattle.std.specs.List.{list_all}
 use Rattle.std.proofs.lemmas.Bool.{ltb-true, lt-ltb}
 use Rattle.std.proofs.lemmas.List.{length-set, length-append, length-replicate}
@@ -11,7 +11,7 @@ use Rattle.event_script.specs.Fields.{arg, number_within, any_number, address, p
 use Rattle.event_script.specs.Described.{most_stamp}
 use Rattle.event_script.specs.Description.{at_start, in_description, vcpus_line, shards_line, limits_line, ids_line, profile_of, profile_line}
 use Rattle.event_script.specs.Description.{window_line, describes_tables, config_line, pending_line, gicr_line, is_given, is_shard_count, linux_line}
-use Rattle.event_script.specs.Description.{track_line, allow_pair, pair_line}
+use Rattle.event_script.specs.Description.{track_line, allow_pair, pair_line, from_kvm_line}
 use Rattle.event_script.specs.Limits.{are_limits}
 use Rattle.event_script.specs.declared.fault.Kind.TheVariants as kind
 use Rattle.event_script.specs.declared.draft.Draft.{Draft}
@@ -287,5 +287,16 @@ track_good d fs h =
     let off = not_started d.stage (left_true (in_description d.stage) (not d.track) order) in
     ensured IsGood (nat_eq (length fs) 1) kind.Fields _ (λ _.
     let e : Draft = record d { track = true } in
+    described_more e (still_fair d e h.fair refl refl refl refl refl refl refl refl refl refl h.fair.doors)
+    (still_early d e (h.early off) refl refl refl refl refl) off))
+
+pub from_kvm_good : (d : Draft) (fs : List (List ℕ)) → IsGood d → IfOk (from_kvm_line d fs) IsGood
+unfolding from_kvm_line
+from_kvm_good d fs h =
+    ensured IsGood (in_description d.stage && is_some d.first.restore && not d.from_kvm) kind.Order _ (λ order.
+    let first = left_true (in_description d.stage && is_some d.first.restore) (not d.from_kvm) order in
+    let off = not_started d.stage (left_true (in_description d.stage) (is_some d.first.restore) first) in
+    ensured IsGood (nat_eq (length fs) 1) kind.Fields _ (λ _.
+    let e : Draft = record d { from_kvm = true } in
     described_more e (still_fair d e h.fair refl refl refl refl refl refl refl refl refl refl h.fair.doors)
     (still_early d e (h.early off) refl refl refl refl refl) off))

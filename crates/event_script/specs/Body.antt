@@ -9,7 +9,7 @@ use Rattle.event_script.specs.Words.{call_word_of}
 use Rattle.event_script.specs.Described.{desc_so_far}
 use Rattle.event_script.specs.Description.{at_start, in_description, in_phase, in_thread, is_ended, vcpus_line, shards_line, limits_line, ids_line}
 use Rattle.event_script.specs.Description.{profile_line, window_line, config_line, pending_line, gicr_line, restore_line, rrestore_line, bytes_line}
-use Rattle.event_script.specs.Description.{word_fill_line, linux_line, track_line, pair_line, brestore_line, its_base_line, b_base_line, requester_line}
+use Rattle.event_script.specs.Description.{from_kvm_line, word_fill_line, linux_line, track_line, pair_line, brestore_line, its_base_line, b_base_line, requester_line}
 use Rattle.event_script.specs.Calls.{call_of}
 use Rattle.event_script.specs.declared.fault.Kind.{Kind}
 use Rattle.event_script.specs.declared.fault.Kind.TheVariants as kind
@@ -159,6 +159,7 @@ keyword_line d n on.Bytes fs = bytes_line d n fs
 keyword_line d n on.Restore fs = restore_line d fs
 keyword_line d n on.Gicr fs = gicr_line d fs
 keyword_line d n on.Rrestore fs = rrestore_line d fs
+keyword_line d n on.FromKvm fs = from_kvm_line d fs
 keyword_line d n on.Linux fs = linux_line d fs
 keyword_line d n on.Track fs = track_line d fs
 keyword_line d n on.Pair fs = pair_line d fs

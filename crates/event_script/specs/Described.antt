@@ -65,6 +65,7 @@ desc_with d shards tables = record {
   fills = d.fills;
   translators = translators_of d;
   requesters = d.requesters;
+  from_kvm = d.from_kvm;
   track = d.track;
 }
 

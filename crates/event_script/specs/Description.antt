@@ -71,6 +71,7 @@ empty = record {
   second = no_its;
   requesters = [];
   requester_lines = [];
+  from_kvm = false;
   registers = record { registers = replicate 16 no_registers };
   given = replicate 16 false;
   fills = [];
@@ -288,6 +289,13 @@ rrestore_line d fs = do
   vcpu ← processor (length d.pending) (arg fs 1)
   values ← redistributor_values fs
   Ok (record d { registers = with_registers d.registers vcpu.0 values; given = slice_set d.given vcpu.0 true })
+
+-- KVM saved what is restored
+unfoldable pub from_kvm_line : Draft → List (List ℕ) → Result Draft Kind
+from_kvm_line d fs = do
+  _ ← ensure (in_description d.stage && is_some d.first.restore && not d.from_kvm) kind.Order
+  _ ← ensure (length fs == 1) kind.Fields
+  Ok (record d { from_kvm = true })
 
 -- ---- bytes for the memory
 

@@ -246,6 +246,7 @@ impl Draft {
             Keyword::Restore => self.restore_line(fields),
             Keyword::Gicr => self.gicr_line(fields),
             Keyword::Rrestore => self.rrestore_line(fields),
+            Keyword::FromKvm => self.from_kvm_line(fields),
             Keyword::Linux => self.linux_line(fields),
             Keyword::Track => self.track_line(fields),
             Keyword::Pair => self.pair_line(fields),

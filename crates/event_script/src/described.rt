@@ -73,6 +73,7 @@ impl Draft {
             second: NO_ITS,
             requesters: Listed::new(alloc),
             requester_lines: Listed::new(alloc),
+            from_kvm: false,
             registers: GicrValues {
                 registers: [NO_REGISTERS; 16],
             },
@@ -151,6 +152,7 @@ impl Draft {
             fills: self.fills,
             translators,
             requesters: RequesterRanges::from_slice(alloc, self.requesters.as_slice())?,
+            from_kvm: self.from_kvm,
             track: self.track,
         };
         Ok(Script {

@@ -70,6 +70,8 @@ pub struct Draft {
     pub requesters: Listed<Requesters>,
     /// The line of each of them.
     pub requester_lines: Listed<u64>,
+    /// Whether KVM saved what is restored.
+    pub from_kvm: bool,
     /// What the redistributors are restored with.
     pub registers: GicrValues,
     /// Whether a line gave those of each virtual processor.

@@ -61,6 +61,19 @@ impl Draft {
         self.given[usize::from(vcpu.0)] = true;
         Ok(())
     }
+
+    /// `from-kvm`: KVM saved what is restored; after `restore`, at most once.
+    #[tactic(auto, unfolding(crate::specs::Description::from_kvm_line))]
+    pub fn from_kvm_line(&mut self, fields: &[&[u8]]) -> Result<(), LineError>
+        ensures { Gives (λ _. self.new) result
+            (spec.from_kvm_line self.old (map (λ f. f.now) fields.now)) }
+    {
+        let restored = self.describes() && self.first.restore.is_some();
+        ensure(restored && !self.from_kvm, Kind::Order)?;
+        ensure(fields.len() == 1, Kind::Fields)?;
+        self.from_kvm = true;
+        Ok(())
+    }
 }
 
 /// The registers to restore, in the order of a line's fields.

@@ -21,6 +21,7 @@ pub enum Keyword {
     Restore,
     Gicr,
     Rrestore,
+    FromKvm,
     Linux,
     Track,
     Pair,
@@ -39,7 +40,7 @@ pub enum Keyword {
 }
 
 /// All of them.
-pub const KEYWORDS: [Keyword; 26] = [
+pub const KEYWORDS: [Keyword; 27] = [
     Keyword::Second,
     Keyword::Bytes,
     Keyword::Thread,
@@ -55,6 +56,7 @@ pub const KEYWORDS: [Keyword; 26] = [
     Keyword::Restore,
     Keyword::Gicr,
     Keyword::Rrestore,
+    Keyword::FromKvm,
     Keyword::Linux,
     Keyword::Track,
     Keyword::Pair,
@@ -167,6 +169,7 @@ impl Keyword {
             Keyword::Restore => "restore",
             Keyword::Gicr => "gicr",
             Keyword::Rrestore => "rrestore",
+            Keyword::FromKvm => "from-kvm",
             Keyword::Linux => "linux",
             Keyword::Track => "track",
             Keyword::Pair => "pair",

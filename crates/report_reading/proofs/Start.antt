@@ -1,6 +1,6 @@
 -- The first state of a machine: what is in memory, and how many redistributors there are.
-use Rattle.std.proofs.Common.{◌≡◌, ℕ, ◌+◌, ◌≤◌, Bool, true, false, List, [], ◌∷◌, length, map, take, Option, Some, None, Result, Ok, Err, IfOk, sym, subst, ◌∙◌}
-use Rattle.std.proofs.Common.{arith}
+use Rattle.std.proofs.Common.{◌≡◌, ℕ, suc, ◌+◌, ◌≤◌, Bool, true, false, List, [], ◌∷◌, length, map, take, Option, Some, None, Result, Ok, Err, IfOk, refl, sym}
+use Rattle.std.proofs.Common.{subst, ap, ◌∙◌, arith}
 use Rattle.std.specs.Prelude.{IfSome, ok_or}
 use Rattle.std.proofs.lemmas.List.{length-map, length-replicate, length-take-le}
 use Rattle.guest_windows.specs.Windows.{Window, zeros, read_at, write_at}
@@ -12,8 +12,8 @@ use Rattle.its_types.specs.Lpis.{no_bases, described_bases}
 use Rattle.its_types.specs.Ranges.{lpi_count}
 use Rattle.its_types.specs.declared.machine.Shape.{Shape}
 use Rattle.its_types.specs.declared.translation.Bases.{Bases}
-use Rattle.its_plain.specs.Plain.{Plain, Redistributor}
-use Rattle.its_plain.specs.Described.{IsFirstState, StartsAt, values_of, is_restored}
+use Rattle.its_plain.specs.Plain.{Plain, Translator, Redistributor}
+use Rattle.its_plain.specs.Described.{IsFirstState, StartsAt, values_of, is_restored, led_to, without_stale, kept_of}
 use Rattle.its_plain.specs.Machine.{made, ensure, ◌>>=◌, windows_fit, tables_inside, filled, all_frames_fit, all_new, first_redistributors}
 use Rattle.its_plain.specs.Machine.{idle_redistributor, bases_given, HasTablesFor}
 use Rattle.its_plain.specs.declared.desc.Desc.{Desc}
@@ -70,10 +70,18 @@ starts_small : (restored : Bool) (values : List (Option RegValues)) (bases : Lis
 starts_small false values bases base u h is = subst HasBytes (sym is) h
 starts_small true values bases base u h is = subst AllBytes (sym is.memory_is) h
 
+-- a bit that no event leads to is no byte of memory
+kept_small : (from_kvm : Bool) (u : Plain) → HasBytes u → HasBytes (kept_of from_kvm u)
+unfolding without_stale
+kept_small true u h = h
+kept_small false u h = h
+
 pub start_bytes : MachinesStartWithBytes
 start_bytes d u f is =
-    starts_small (is_restored d) (values_of d) (bases_given d.shape.vcpus d.tables) is.base u (if_ok_at HasBytes (made d) is.base
-    (made_small d f) is.made_is) is.starts
+    let read : HasBytes is.read =
+    starts_small (is_restored d) (values_of d) (bases_given d.shape.vcpus d.tables) is.base is.read (if_ok_at HasBytes (made d) is.base
+    (made_small d f) is.made_is) is.starts in
+    subst HasBytes (sym is.kept) (kept_small d.from_kvm is.read read)
 
 -- ---- redistributors
 
@@ -111,8 +119,19 @@ starts_count : (restored : Bool) (values : List (Option RegValues)) (vcpus : ℕ
 starts_count false values vcpus t base u few h r made is = subst (HasAll vcpus) (sym is) made
 starts_count true values vcpus t base u few h r made is = is.vcpus ∙ given_count vcpus t few h r
 
+led_count : (ts : List Translator) (vcpu : ℕ) (rs : List Redistributor) → length (led_to ts vcpu rs) ≡ length rs
+led_count ts vcpu [] = refl
+led_count ts vcpu (r ∷ rs) = ap (λ (n : ℕ). suc n) (led_count ts (suc vcpu) rs)
+
+kept_count : (n : ℕ) (from_kvm : Bool) (u : Plain) → HasAll n u → HasAll n (kept_of from_kvm u)
+unfolding without_stale
+kept_count n true u h = led_count u.translators 0 u.redistributors ∙ h
+kept_count n false u h = h
+
 pub start_count : (d : Desc) (u : Plain) → d.shape.vcpus ≤ 16 → HasTablesFor d.shape.vcpus d.tables → HasRegisters d.tables → IsFirstState d u
     → length u.redistributors ≡ d.shape.vcpus
 start_count d u few h r is =
-    starts_count (is_restored d) (values_of d) d.shape.vcpus d.tables is.base u few h r
-    (if_ok_at (HasAll d.shape.vcpus) (made d) is.base (made_count d h) is.made_is) is.starts
+    let read : HasAll d.shape.vcpus is.read =
+    starts_count (is_restored d) (values_of d) d.shape.vcpus d.tables is.base is.read few h r
+    (if_ok_at (HasAll d.shape.vcpus) (made d) is.base (made_count d h) is.made_is) is.starts in
+    subst (HasAll d.shape.vcpus) (sym is.kept) (kept_count d.shape.vcpus d.from_kvm is.read read)

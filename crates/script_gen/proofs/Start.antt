@@ -15,7 +15,7 @@ use Rattle.its_command.proofs.Encoded.{decodes_back}
 use Rattle.its_types.specs.Maps.{no_maps}
 use Rattle.its_types.specs.Ranges.{lpi_count, pending_bytes}
 use Rattle.its_types.specs.declared.machine.Shape.{Shape}
-use Rattle.its_plain.specs.Described.{IsFirstState, StartsAt, values_of, is_restored, restored_bases}
+use Rattle.its_plain.specs.Described.{IsFirstState, kept_of, StartsAt, values_of, is_restored, restored_bases}
 use Rattle.its_plain.specs.Described.IsRefused.{of_description, of_restore}
 use Rattle.its_plain.specs.Machine.{made, started, windows_fit, tables_inside, filled, all_frames_fit, all_new, first_redistributors, layout_of}
 use Rattle.its_plain.specs.Machine.{ensure, ◌>>=◌}
@@ -118,9 +118,22 @@ starts_at : (u : Plain) → StartsAt (is_restored description) (values_of descri
 unfolding description
 starts_at u = refl
 
+kept_here : (u : Plain) → u ≡ kept_of description.from_kvm u
+unfolding description
+kept_here u = refl
+
 pub makes_machine : MakesMachine
 makes_machine =
-    let m = makes description description_plain in (m.0, record { base = m.0; made_is = m.1; starts = starts_at m.0 })
+    let m = makes description description_plain in (
+      m.0,
+      record {
+        base = m.0;
+        made_is = m.1;
+        read = m.0;
+        starts = starts_at m.0;
+        kept = kept_here m.0;
+      },
+    )
 
 not_restored : is_restored description ≡ true → ⊥
 unfolding description
@@ -197,14 +210,15 @@ started_kept n d u same windows start sound =
       queue = zeros_queue n (pairs d.windows) u.memory start.memory;
     }
 
-first_is : (u base : Plain) → StartsAt (is_restored description) (values_of description) (restored_bases description) base u → u ≡ base
+first_is : (u read base : Plain) → StartsAt (is_restored description) (values_of description) (restored_bases description) base read
+    → u ≡ kept_of description.from_kvm read → u ≡ base
 unfolding description
-first_is u base h = h
+first_is u read base h kept = kept ∙ h
 
 pub first_kept : (n : ℕ) (u : Plain) → IsFirstState description u → IsKept n u
 first_kept n u h =
     let start : IsStart description h.base = if_ok_at (IsStart description) (made description) h.base (made_starts description description_plain.unfilled
     (ap length description_plain.single))
     h.made_is in
-    subst (IsKept n) (sym (first_is u h.base h.starts)) (started_kept n description h.base refl description_plain.windows start
+    subst (IsKept n) (sym (first_is u h.read h.base h.starts h.kept)) (started_kept n description h.base refl description_plain.windows start
     (start_sound description h.base description_is h.made_is))

@@ -34,5 +34,6 @@ description = record {
   fills = [];
   translators = record { restore = None; frames = None } ∷ [];
   requesters = [];
+  from_kvm = false;
   track = false;
 }

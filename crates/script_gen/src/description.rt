@@ -37,6 +37,7 @@ pub fn description(alloc: Global) -> Result<Desc, AllocError>
         fills: Listed::new(alloc),
         translators,
         requesters: RequesterRanges::none(alloc),
+        from_kvm: false,
         track: false,
     })
 }
