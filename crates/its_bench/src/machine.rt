@@ -86,6 +86,7 @@ fn desc(alloc: Global) -> Result<Desc, AllocError>
         fills,
         translators: translators(alloc, false)?,
         requesters: RequesterRanges::none(alloc),
+        from_kvm: false,
         track: false,
     })
 }

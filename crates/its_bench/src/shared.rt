@@ -81,6 +81,7 @@ pub fn desc(alloc: Global, kind: Kind) -> Result<Desc, AllocError>
         fills: fills(alloc)?,
         translators,
         requesters: RequesterRanges::none(alloc),
+        from_kvm: false,
         track: kind.track,
     })
 }

@@ -12,9 +12,9 @@ use Rattle.guest_windows.specs.Windows.{zeros}
 use Rattle.guest_windows.specs.Fields.{pairs}
 use Rattle.gits_regs.specs.declared.values.RegValues.{RegValues}
 use Rattle.its_types.specs.declared.translation.Bases.{Bases}
-use Rattle.its_plain.specs.Described.{IsFirstState, StartsAt, is_restored, values_of, restored_bases}
+use Rattle.its_plain.specs.Described.{IsFirstState, StartsAt, is_restored, values_of, restored_bases, kept_of, without_stale}
 use Rattle.its_plain.specs.Machine.{made, layout_of, windows_fit, ensure, tables_inside, filled, all_frames_fit, all_new, first_redistributors, ◌>>=◌}
-use Rattle.its_plain.specs.Plain.{Plain}
+use Rattle.its_plain.specs.Plain.{Plain, Translator}
 use Rattle.its_plain.specs.declared.desc.Desc.{Desc}
 use Rattle.its_plain.specs.declared.desc.DescFault.{DescFault}
 use Rattle.its_plain.specs.declared.desc.DescFault.TheVariants.{Windows}
@@ -46,9 +46,17 @@ starts_layout : (b : Bool) (values : List (Option RegValues)) (bases : List Base
 starts_layout false values bases base u is = ap (λ (x : Plain). x.layout) is
 starts_layout true values bases base u is = is.layout_is
 
+-- also without stale pending bits
+kept_layout : (b : Bool) (u : Plain) → (kept_of b u).layout ≡ u.layout
+unfolding without_stale
+kept_layout true u = refl
+kept_layout false u = refl
+
 pub first_layout : (d : Desc) (u : Plain) → IsFirstState d u → u.layout ≡ layout_of d
-first_layout d u first = starts_layout (is_restored d) (values_of d) (restored_bases d) first.base u first.starts ∙ subst
-    (λ (r : Result Plain DescFault). IfOk r (HasLayoutOf d)) first.made_is (made_layout d)
+first_layout d u first =
+    ap (λ (x : Plain). x.layout) first.kept ∙ kept_layout d.from_kvm first.read
+    ∙ starts_layout (is_restored d) (values_of d) (restored_bases d) first.base first.read first.starts
+    ∙ subst (λ (r : Result Plain DescFault). IfOk r (HasLayoutOf d)) first.made_is (made_layout d)
 
 -- ---- and as many translators
 
@@ -70,12 +78,20 @@ starts_count : (b : Bool) (values : List (Option RegValues)) (bases : List Bases
 starts_count false values bases base u is many = ap (λ (x : Plain). length x.translators) is ∙ many
 starts_count true values bases base u is many = is.count
 
+kept_translators : (b : Bool) (u : Plain) → (kept_of b u).translators ≡ u.translators
+unfolding without_stale
+kept_translators true u = refl
+kept_translators false u = refl
+
 pub first_count : (d : Desc) (u : Plain) → IsFirstState d u → length u.translators ≡ length d.translators
 first_count d u first =
     let many : length (values_of d) ≡ length d.translators = length-map d.translators (λ (t : Its). t.restore) in
     let base : length first.base.translators ≡ length d.translators = subst
     (λ (r : Result Plain DescFault). IfOk r (HasCountOf d)) first.made_is (made_count d) in
-    starts_count (is_restored d) (values_of d) (restored_bases d) first.base u first.starts (base ∙ sym many) ∙ many
+    ap (λ (x : Plain). length x.translators) first.kept
+    ∙ ap (λ (ts : List Translator). length ts) (kept_translators d.from_kvm first.read)
+    ∙ starts_count (is_restored d) (values_of d) (restored_bases d) first.base first.read first.starts (base ∙ sym many)
+    ∙ many
 
 pub first_stamps : (d : Desc) (p : Parts) → 1 ≤ length d.translators → length d.translators ≤ 2 → length (translators_of p.first p.second)
     ≡ length d.translators

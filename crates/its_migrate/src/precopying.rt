@@ -15,7 +15,7 @@ ghost use Rattle.its_migrate.specs.Resting.{Rests, IsCause, resting};
 
 use crate::outcome::Precopy;
 use dirty_log::Tracked;
-use guest_windows::Memory;
+use guest_windows::{Draft, Memory};
 use held_parts::{AtRest, Whole, put_whole, take_whole};
 use its_plain::{Layout, SaveError};
 use its_turns::{GuestMemory, Machine, Root, close, look};
@@ -181,8 +181,10 @@ fn copied_parts(
         x.1 ≡ moved_count (state_of_parts (with_track track parts.now))) }
 {
     let parts = parts.in_place();
+    let mut pages = Draft::new(alloc);
+    save_in(&parts, &mut pages)?;
     let (mut memory, count) = copied_memory(alloc, &parts, track)?;
-    save_in(&parts, &mut memory)?;
+    memory.adopt(pages);
     let next = resumed(alloc, &parts, memory)?;
     Ok((next, count))
 }

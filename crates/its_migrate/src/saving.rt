@@ -1,45 +1,32 @@
 //! Saves while other passes go on (KVM document arm-vgic-its, section
 //! "KVM_DEV_ARM_ITS_SAVE_TABLES").
-ghost use Rattle.std.specs.Prelude.{◌≡◌, [], Some, IfOk};
+ghost use Rattle.std.specs.Prelude.{◌≡◌, ◌<◌, [], Some, IfOk};
 ghost use Rattle.its_plain.specs.Answer.{save_reply};
 ghost use Rattle.its_plain.specs.Sound.{IsSound};
 ghost use Rattle.owned_parts.specs.Owned.{AreAllInHand, state_of, translator_of, translator_at};
 ghost use Rattle.std.specs.Option.{option_map};
 ghost use Rattle.held_parts.specs.Wholes.{state_of_whole};
-ghost use Rattle.its_turns.specs.Machines.{view, IsOf};
-ghost use Rattle.its_migrate.specs.Saving.{IsSaved, IsTried, LeavesMemory, answered, unmade_by};
+ghost use Rattle.its_types.specs.declared.machine.Word.{Word};
+ghost use Rattle.its_plain.specs.declared.call.Call.TheVariants as call;
+ghost use Rattle.its_steps.specs.Calls.{staying};
+ghost use Rattle.its_steps.specs.MayCall.{MayCall};
+ghost use Rattle.its_steps.specs.declared.change.ShardChange.TheVariants.{Keep};
+ghost use Rattle.its_turns.specs.Machines.{setup, view, IsOf};
+ghost use Rattle.its_migrate.specs.Saving.{IsSaved, Commits, LeavesMemory, answered};
 ghost use Rattle.its_migrate.specs.Saving.{marked, memory_or, track_or, translators_held};
 
 use dirty_log::Tracked;
-use guest_windows::Memory;
+use guest_windows::{Draft, Memory};
 use held_parts::{Waiting, Whole, put_whole, take_whole};
 use its_plain::{Call, Layout, Reply, SaveError, SaveFault};
 use its_steps::ShardChange;
-use its_turns::{GuestMemory, Lost, Machine, NotMade, Pass, Raced, pause, try_commit};
-use its_types::{Gate, Placed};
+use its_turns::{GuestMemory, Lost, Machine, NotMade, Pass, Spent, pause, try_commit};
+use its_types::{Gate, Placed, Word};
 use lpi_pending::Redists;
 use owned_parts::{InPlace, Translator, TranslatorRef};
 use std::alloc::{AllocError, Global};
 use std::sync::Wait;
-use table_save::{mark_tables, saved_memory};
-
-// Why one try made no save.
-enum Unmade {
-    Spent,
-    NoMemory,
-    Raced(Raced),
-}
-
-impl From<AllocError> for Unmade {
-    ghost use Rattle.std.specs.Prelude.{◌≡◌};
-    ghost use Rattle.its_migrate.specs.declared.saving.Unmade.TheVariants as unmade;
-
-    ghost from_gives = { λ _ e. e ≡ unmade.NoMemory };
-
-    fn from(_: AllocError) -> Self {
-        Unmade::NoMemory
-    }
-}
+use table_save::{mark_tables, saved_pages};
 
 /// Writes the tables and the pending LPIs of all translators to guest memory, or answers why they
 /// can't be saved: one call of the history, for which it waits until it has all parts but the
@@ -63,79 +50,77 @@ pub fn save<R: Wait, G: Gate>(
     ensures of { IsOf machine.now pass.new }
     ensures answer { IsSaved (view pass.old) result (view pass.new) }
 {
-    for _ in rt.forever() {
-        match save_once(rt, alloc, machine, pass, gate) {
-            Ok(placed) => return Ok(placed),
-            Err(Unmade::Spent) => return Err(NotMade::Spent),
-            Err(Unmade::NoMemory) => return Err(NotMade::NoMemory),
-            Err(Unmade::Raced(_)) => pause(),
-        }
-    }
-    unreachable!()
-}
-
-fn save_once<R: Wait, G: Gate>(
-    rt: &R,
-    alloc: Global,
-    machine: &Machine,
-    pass: &mut Pass,
-    gate: &G,
-) -> Result<Placed<Result<(), SaveFault>>, Unmade>
-    requires of { IsOf machine.now pass.old }
-    requires free { (view pass.old).held ≡ [] }
-    ensures of { IsOf machine.now pass.new }
-    ensures answer { IsTried (view pass.old) result (view pass.new) }
-{
-    let layout = machine.desc().layout(alloc)?;
+    let layout = match machine.desc().layout(alloc) {
+        Ok(layout) => layout,
+        Err(_) => return Err(NotMade::NoMemory),
+    };
     let mut whole = take_whole(&Waiting { rt }, machine, pass, gate);
     let Ok(saved) = saves(alloc, &layout, &whole) else {
         put_whole(machine, pass, whole);
-        return Err(Unmade::NoMemory);
+        return Err(NotMade::NoMemory);
     };
     let reply = answer_of(&saved);
-    match try_commit(
-        machine,
-        pass,
-        gate,
-        &Call::Save,
-        &reply_to(&reply),
-        ShardChange::Keep,
-    ) {
+    match commit_save(rt, machine, pass, gate, &reply_to(&reply)) {
         Ok(word) => {
-            replace(saved, &layout, &mut whole);
+            adopt(saved, &layout, &mut whole);
             put_whole(machine, pass, whole);
             Ok(Placed {
                 place: word.place,
                 reply,
             })
         }
-        Err(lost) => {
+        Err(Spent) => {
             put_whole(machine, pass, whole);
-            Err(cause_of(lost))
+            Err(NotMade::Spent)
         }
     }
 }
 
-// A copy of guest memory with the tables saved in it, or why they can't be saved. Nothing after
-// this takes memory.
+// Makes the call, whose reply no other call can change while all parts are held. Where another was
+// made first, it tries again. Answers the word that it found.
+fn commit_save<R: Wait, G: Gate>(
+    rt: &R,
+    machine: &Machine,
+    pass: &mut Pass,
+    gate: &G,
+    reply: &Reply,
+) -> Result<Word, Spent>
+    requires of { IsOf machine.now pass.old }
+    requires may { (w : Word) → w.place < (setup machine.now).limits.place_last
+        → MayCall (setup machine.now) (staying w call.Save reply.now Keep) (view pass.old).held }
+    ensures of { IsOf machine.now pass.new }
+    ensures result { Commits (view pass.old) reply.now result (view pass.new) }
+{
+    for _ in rt.forever() {
+        match try_commit(machine, pass, gate, &Call::Save, reply, ShardChange::Keep) {
+            Ok(word) => return Ok(word),
+            Err(Lost::Spent) => return Err(Spent),
+            Err(Lost::Raced(_)) => pause(),
+        }
+    }
+    unreachable!()
+}
+
+// The pages of guest memory with the tables saved in them, or why they can't be saved. Nothing
+// after this takes memory.
 fn saves(
     alloc: Global,
     layout: &Layout,
     whole: &Whole,
-) -> Result<Result<Memory, SaveFault>, AllocError>
+) -> Result<Result<Draft, SaveFault>, AllocError>
     requires hand { AreAllInHand layout.now.shape whole.now.redists }
     requires sound { IsSound (state_of_whole layout.now whole.now) }
     ensures { IfOk result (λ r. LeavesMemory (state_of_whole layout.now whole.now) r) }
 {
-    match saved_memory(alloc, &whole.in_place(layout)) {
-        Ok(memory) => Ok(Ok(memory)),
+    match saved_pages(alloc, &whole.in_place(layout)) {
+        Ok(pages) => Ok(Ok(pages)),
         Err(SaveError::Fault(fault)) => Ok(Err(fault)),
         Err(SaveError::NoMemory) => Err(AllocError),
     }
 }
 
 // What the save answers.
-fn answer_of(saved: &Result<Memory, SaveFault>) -> Result<(), SaveFault>
+fn answer_of(saved: &Result<Draft, SaveFault>) -> Result<(), SaveFault>
     ensures { result ≡ answered saved.now }
 {
     match saved {
@@ -144,9 +129,9 @@ fn answer_of(saved: &Result<Memory, SaveFault>) -> Result<(), SaveFault>
     }
 }
 
-// Puts the copy in the place of guest memory, where the tables are saved in it, and marks their
-// pages.
-fn replace(saved: Result<Memory, SaveFault>, layout: &Layout, whole: &mut Whole)
+// Lays the pages over guest memory, where the tables can be saved, and marks those that the tables
+// lie in. Takes no memory.
+fn adopt(saved: Result<Draft, SaveFault>, layout: &Layout, whole: &mut Whole)
     requires hand { AreAllInHand layout.now.shape whole.old.redists }
     requires sound { IsSound (state_of_whole layout.now whole.old) }
     ensures first { whole.new.first ≡ whole.old.first }
@@ -157,9 +142,9 @@ fn replace(saved: Result<Memory, SaveFault>, layout: &Layout, whole: &mut Whole)
     ensures track { whole.new.memory.value.track
         ≡ track_or (state_of_whole layout.now whole.old) saved }
 {
-    if let Ok(memory) = saved {
+    if let Ok(pages) = saved {
         mark_saved(layout, whole);
-        whole.memory.memory = memory;
+        whole.memory.memory.adopt(pages);
     }
 }
 
@@ -244,14 +229,5 @@ fn reply_to(saved: &Result<(), SaveFault>) -> Reply
     match saved {
         Ok(()) => Reply::Saved,
         Err(fault) => Reply::SaveFault(*fault),
-    }
-}
-
-fn cause_of(lost: Lost) -> Unmade
-    ensures { result ≡ unmade_by lost }
-{
-    match lost {
-        Lost::Spent => Unmade::Spent,
-        Lost::Raced(raced) => Unmade::Raced(raced),
     }
 }

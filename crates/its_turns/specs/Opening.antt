@@ -1,5 +1,5 @@
 -- The words and slots that a machine begins with.
-use Rattle.std.specs.Prelude.{◌≡◌, ℕ, ◌+◌, ◌*◌, List, [], ◌∷◌, ◌++◌, map, replicate, None}
+use Rattle.std.specs.Prelude.{◌≡◌, ℕ, ◌+◌, ◌*◌, List, [], ◌∷◌, ◌++◌, map, replicate, None, false}
 use Rattle.std.specs.List.{AllByRecursion}
 use mathlib.Core.Option.{some}
 use Rattle.its_plain.specs.Plain.{Translator}
@@ -24,7 +24,7 @@ kept_its t = record t { restore = None }
 
 -- what a machine keeps of its description: what bytes were put into memory, and what it was restored with, is done with
 abbrev pub kept_of : Desc → Desc
-kept_of d = record d { fills = []; translators = map kept_its d.translators }
+kept_of d = record d { fills = []; translators = map kept_its d.translators; from_kvm = false }
 
 -- the values of translators, in their order
 pub record AreMaps (translators : List Translator) (values : List Value) : Type 0 where

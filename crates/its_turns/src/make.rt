@@ -152,6 +152,7 @@ fn copy_of(alloc: Global, desc: &Desc) -> Result<Desc, AllocError>
         fills: Listed::new(alloc),
         translators: Listed::from_vec(translators),
         requesters,
+        from_kvm: false,
         track: desc.track,
     })
 }

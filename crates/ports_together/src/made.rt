@@ -87,6 +87,7 @@ pub fn described(
         fills,
         translators,
         requesters: RequesterRanges::none(alloc),
+        from_kvm: false,
         track: false,
     })
 }

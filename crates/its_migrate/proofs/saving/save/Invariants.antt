@@ -1,7 +1,0 @@
-use Rattle.its_turns.specs.Calls.{Stays}
-use Rattle.its_turns.specs.Machines.{view, IsOf}
-use Rattle.its_migrate.proofs.saving.save.Given as goal
-
-abbrev pub invariant-loop : goal.invariant-loop
-invariant-loop g l =
-    (goal.iterator-loop g).can_next l.iterator' × (goal.iterator-loop g).is_finite l.iterator' × IsOf l.machine l.pass × Stays (view l.fn.pass) (view l.pass)
