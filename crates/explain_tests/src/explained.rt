@@ -72,6 +72,29 @@ pub fn is_told_so(alloc: Global, script: &str, report: &str, told: &str) -> Opti
     Some(said.as_str() == told)
 }
 
+/// Whether this is told of calls that stand for the acknowledgement, with these entries, after what
+/// is told of the calls before.
+pub fn is_told_after(
+    alloc: Global,
+    calls: &str,
+    entries: &str,
+    before: &str,
+    told: &str,
+) -> Option<bool> {
+    let script = changed(alloc, SCRIPT, "take 1\n", calls)?;
+    let report = ended(alloc, REPORT, entries)?;
+    let right = ended(alloc, before, told)?;
+    is_told_so(alloc, script.as_str(), report.as_str(), right.as_str())
+}
+
+/// A text whose part from the acknowledgement on is another.
+fn ended(alloc: Global, text: &str, end: &str) -> Option<String> {
+    let (before, _) = text.split_once("\n12 2.1 ")?;
+    let mut ended = String::from_str(alloc, before).ok()?;
+    ended.push_str(end).ok()?;
+    Some(ended)
+}
+
 /// Whether a check of the script and of its report, in which `new` stands for `old`, is explained
 /// so.
 pub fn is_checked_so(alloc: Global, old: &str, new: &str, explained: &str) -> Option<bool> {

@@ -2,9 +2,13 @@
 #![tactic(auto)]
 
 #[cfg(test)]
+mod command_rows;
+#[cfg(test)]
 mod explained;
 #[cfg(test)]
 mod machine_rows;
+#[cfg(test)]
+mod register_rows;
 #[cfg(test)]
 mod report_rows;
 #[cfg(test)]

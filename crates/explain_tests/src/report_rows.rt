@@ -55,11 +55,34 @@ and a run's line is
             "13 2.1",
             "Line 14 of the report is
     13 2.1 take 1 -> lpi 8192 0xa0
-A report has for each leg, in this order, and each line with its line end:
-    leg N                               its number, from 1
-    PLACE PHASE.THREAD CALL -> REPLY    for each call; places rise by one from 0
-    vcpu V pending INTIDS               for each processor from 0 on, or `none`
-    migrated                            (`migrated copied N` after `precopy`); `done` at the end
+Its place is 13, and places rise by one: the next is 12.
+Here stands `12 PHASE.THREAD CALL -> REPLY`, or after the leg's last call
+`vcpu 0 pending INTIDS`, with `none` for no INTID.
+",
+        ),
+        (
+            "12 2.1",
+            "12 21",
+            "Line 14 of the report is
+    12 21 take 1 -> lpi 8192 0xa0
+After its place stands PHASE.THREAD, each counted from 1.
+Here stands `12 PHASE.THREAD CALL -> REPLY`, or after the leg's last call
+`vcpu 0 pending INTIDS`, with `none` for no INTID.
+",
+        ),
+        (
+            "vcpu 1 pending none\n",
+            "",
+            "Line 16 of the report is
+    done
+Here stands `vcpu 1 pending INTIDS`, with `none` for no INTID.
+",
+        ),
+        (
+            "done\n",
+            "",
+            "Line 17 of the report isn't there, or has no bytes.
+Here stands `done`, after the script's last leg.
 ",
         ),
     ] {
@@ -69,15 +92,15 @@ A report has for each leg, in this order, and each line with its line end:
 }
 
 /// The report, with what came of each call.
-const TOLD: &str = "leg 1
+pub const TOLD: &str = "leg 1
 0 1.1 write 0x100 8 0x8107000080000200 -> ok
-        line 10: GITS_BASER0, where the device table stands
+        line 10: GITS_BASER0: the device table at 0x80000000 has 1 x 64 KiB, valid
 1 1.1 write 0x108 8 0x8407000080010200 -> ok
-        line 11: GITS_BASER1, where the collection table stands
+        line 11: GITS_BASER1: the collection table at 0x80010000 has 1 x 64 KiB, valid
 2 1.1 write 0x80 8 0x8000000080020000 -> ok
-        line 12: GITS_CBASER, where the command queue stands
+        line 12: GITS_CBASER: the queue at 0x80020000 has 0x1000 bytes, valid
 3 1.1 write 0x0 4 0x1 -> ok
-        line 13: GITS_CTLR, whose bit 0 enables the translator
+        line 13: GITS_CTLR: the translator is enabled
 4 1.1 poke 0x80020000 0800000007000000030000000000000000000c80000000800000000000000000 -> ok
         line 14: `command 0x80020000 mapd 7 4 0x800c0000`
 5 1.1 poke 0x80020020 0900000000000000000000000000000000000100000000800000000000000000 -> ok
@@ -85,7 +108,7 @@ const TOLD: &str = "leg 1
 6 1.1 poke 0x80020040 0a00000007000000020000000020000000000000000000000000000000000000 -> ok
         line 16: `command 0x80020040 mapti 7 2 8192 0`
 7 1.1 write 0x88 8 0x60 -> ok
-        line 17: GITS_CWRITER, up to where the queue has commands
+        line 17: GITS_CWRITER: commands stand up to offset 0x60 of the queue
 8 1.1 step -> ran mapd
         line 18: by line 14 device 7 is mapped, with 4 EventID bits and its table at 0x800c0000
 9 1.1 step -> ran mapc
@@ -138,7 +161,7 @@ fn the_end_of_a_run_is_told(rt: HostRuntime) {
 0 1.1 signal 7 2 -> dropped disabled
         line 9: the translator isn't enabled: bit 0 of GITS_CTLR is 0 (section 12.19.6)
 1 1.1 take 0 -> none
-        line 10: no LPI is both pending and enabled at processor 0 (section 5.1)
+        line 10: no LPI is pending at processor 0 (section 5.1)
 2 1.1 peek 0x801fffff 2 -> outside
         line 11: the bytes don't all lie in one window
 The leg has calls left, and the `limits` line gives a leg 3 places.

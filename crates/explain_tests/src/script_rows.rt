@@ -198,7 +198,8 @@ line 13: \"mapd\" begins no line
 It is the word of a command, which stands after `command ADDR`.
 Lines of the description begin with
     vcpus, shards, limits, ids, profile, window, config, pending, gicr, linux, pair,
-    track, its-base, b-base, requester, bytes, word, restore, brestore, rrestore
+    track, its-base, b-base, requester, bytes, word, restore, brestore, rrestore,
+    from-kvm
 those of the body with
     phase, thread, migrate, precopy, end
 calls with
@@ -243,6 +244,41 @@ line 25: the input ends here, and each line ends with LF (byte 0x0A)
             "    take 1
     ^
 line 26: nothing follows the `end` of line 25 but a line `trace` and a report, or remarks
+",
+        ),
+        (
+            "end\n",
+            "end\nleg 1\n",
+            "    leg 1
+    ^
+line 26: a report begins here, and the line `trace` has to stand before it
+",
+        ),
+        (
+            "vcpus 2\n",
+            "leg 1\n",
+            "    leg 1
+    ^
+line 1: this begins a report, as `its run` prints it, and a script was expected
+A report is read after its script and a line `trace`, by `its check` or here.
+",
+        ),
+        (
+            "step\nstep\nstep\n",
+            "step 1\ntake 2\nstep\nshards 4\nstep 1\n",
+            "    step 1
+         ^
+line 18: \"1\" is a field too many; the line is `step`
+
+    take 2
+         ^
+line 19, field 2: \"2\" is out of range
+Here stands a virtual processor; they are 0 and 1.
+The line is `take V`.
+
+    shards 4
+    ^
+line 21: `shards` describes the machine, and stands before the first `phase` or `migrate`
 ",
         ),
     ] {

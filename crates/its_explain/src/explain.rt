@@ -2,6 +2,7 @@
 ghost use Rattle.its_plain.specs.Machine.{IsDescription};
 
 use crate::call_lines::call_lines;
+use crate::faults::push_script_faults;
 use crate::machine_fault::push_machine_fault;
 use crate::replayed::Replayed;
 use crate::script_fault::push_script_fault;
@@ -30,7 +31,7 @@ fn push_input(
     match parse(alloc, input) {
         Ok(script) => push_run(alloc, out, input, &script, report),
         Err(ParseError::NoMemory) => Err(AllocError),
-        Err(ParseError::Fault(fault)) => push_script_fault(alloc, out, input, fault),
+        Err(ParseError::Fault(fault)) => push_script_faults(alloc, out, input, fault),
     }
 }
 
@@ -46,7 +47,7 @@ fn push_run(
     let lines = call_lines(alloc, input)?;
     match Replayed::new(alloc, &script.desc) {
         Ok(machine) => {
-            let story = &mut Story::new(alloc, input, script, machine, &lines);
+            let story = &mut Story::new(alloc, input, script, machine, &lines)?;
             push_lines(out, story, report)
         }
         Err(MakeError::NoMemory) => Err(AllocError),
@@ -95,8 +96,8 @@ fn push_check(
     let bad = bad_line(alloc, script, report)?;
     match Replayed::new(alloc, &script.desc) {
         Ok(machine) => {
-            let story = &mut Story::new(alloc, input, script, machine, &lines);
-            push_shaped(alloc, out, story, report, bad)
+            let story = &mut Story::new(alloc, input, script, machine, &lines)?;
+            push_shaped(alloc, out, script, story, report, bad)
         }
         Err(MakeError::NoMemory) => Err(AllocError),
         Err(MakeError::Fault(fault)) => push_machine_fault(out, input, script, fault),
@@ -122,12 +123,13 @@ fn bad_line(alloc: Global, script: &Script, report: &[u8]) -> Result<Option<u64>
 fn push_shaped(
     alloc: Global,
     out: &mut String,
+    script: &Script,
     story: &mut Story,
     report: &[u8],
     bad: Option<u64>,
 ) -> Result<(), AllocError> {
     if let Some(line) = bad {
-        return push_trace_fault(out, report, line);
+        return push_trace_fault(out, script, report, line);
     }
     let mut told = String::new(alloc);
     match tell_lines(alloc, &mut told, out, story, report)? {

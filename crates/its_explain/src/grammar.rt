@@ -31,7 +31,7 @@ pub struct Form {
 }
 
 /// The first words of a description's lines.
-pub const DESCRIPTION: [&str; 20] = [
+pub const DESCRIPTION: [&str; 21] = [
     "vcpus",
     "shards",
     "limits",
@@ -52,6 +52,7 @@ pub const DESCRIPTION: [&str; 20] = [
     "restore",
     "brestore",
     "rrestore",
+    "from-kvm",
 ];
 
 /// The first words of lines that begin and end parts of the body.
@@ -110,6 +111,7 @@ pub fn line_form(word: &str) -> Option<Form> {
         "linux" => Some(written("linux", &[])),
         "pair" => Some(written("pair", &[])),
         "track" => Some(written("track", &[])),
+        "from-kvm" => Some(written("from-kvm", &[])),
         _ => described_form(word),
     }
 }

@@ -2,21 +2,28 @@
 //! what may stand there, or each call with a sentence.
 #![tactic(auto)]
 
+mod acks;
+mod book;
 mod call_lines;
 mod commands;
 mod context;
 mod entries;
+mod event_commands;
 mod explain;
+mod facts;
+mod faults;
 mod fields_fault;
 mod grammar;
-mod known;
 mod left;
 mod lines;
+mod looks;
 mod machine_fault;
 mod many;
 mod missing;
 mod order;
-mod registers;
+mod refused;
+mod register_values;
+mod register_writes;
 mod replayed;
 mod replies;
 mod restore_fault;
@@ -24,8 +31,11 @@ mod script_fault;
 mod show;
 mod signals;
 mod slot_fault;
+mod sources;
 mod story;
 mod trace_fault;
+mod views;
+mod watch;
 mod windows;
 
 pub use explain::{explain_check, explain_run};

@@ -2,7 +2,7 @@
 use crate::context::{Context, Stage};
 use crate::grammar::{CALLS, DESCRIPTION, STRUCTURE};
 use crate::lines::{number, word};
-use crate::script_fault::Faulty;
+use crate::script_fault::{Faulty, push_report};
 use crate::show::push_quoted;
 use std::alloc::AllocError;
 use std::fmt::Write;
@@ -14,6 +14,9 @@ pub fn push_order(out: &mut String, faulty: &Faulty) -> Result<(), AllocError> {
     faulty.push_at(out, 0)?;
     if name == "trace" {
         return push_trace(out, context);
+    }
+    if faulty.begins_report() {
+        return push_report(out, faulty);
     }
     match context.stage {
         Stage::Ended => writeln!(
@@ -83,7 +86,7 @@ fn push_needs(out: &mut String, context: &Context, name: &str) -> Result<(), All
         "rrestore" if context.line_of(b"gicr").is_none() => {
             out.push_str("`rrestore` needs a line `gicr` before it\n")
         }
-        "rrestore" => out.push_str("`rrestore` needs a line `restore` before it\n"),
+        "rrestore" | "from-kvm" => writeln!(out, "`{name}` needs a line `restore` before it"),
         "config" | "pending" => push_with_gicr(out, context, name),
         "gicr" => out.push_str("`gicr` doesn't go with `config` and `pending` lines\n"),
         _ => writeln!(out, "`{name}` may not stand here"),

@@ -1,10 +1,14 @@
-//! The machine on which the calls of a report are made again. Nothing is promised of what an
-//! explanation says of them, so contracts here say nothing of what the machine answers.
+//! The machine on which the calls of a report are made again, and what is looked up in it. Its
+//! value says nothing here: what a look at it is worth stands at the calls of views.rt.
 ghost use Rattle.its_plain.specs.Machine.{IsDescription};
 
+use crate::views::{bases_seen, idle_seen, lpi_seen, pair_seen, rule_seen, waiting_seen};
+use call_facts::{IdleCause, LpiState, PairState, Waiting, WriteRule};
+use guest_windows::Memory;
 use its_plain::{Call, Desc, MakeError, Reply, SaveError};
-use its_types::Intid;
+use its_types::{Bases, DeviceId, EventId, Intid, Shape, Target, Vcpu};
 use owned_machine::Machine;
+use owned_parts::TranslatorRef;
 use std::alloc::{AllocError, Global};
 use std::marker::Model;
 
@@ -44,6 +48,14 @@ impl Replayed {
         }
     }
 
+    /// How many LPIs are pending at a virtual processor.
+    pub fn count_pending(&self, vcpu: usize) -> Result<usize, AllocError> {
+        match self.pending(vcpu)? {
+            Some(lpis) => Ok(lpis.len()),
+            None => Ok(0),
+        }
+    }
+
     /// Goes on from what was saved.
     pub fn migrate(&mut self) -> Result<(), SaveError> {
         self.machine.migrate(self.alloc)
@@ -52,5 +64,77 @@ impl Replayed {
     /// The same in the second memory; how many pages were copied at last.
     pub fn precopy(&mut self) -> Result<u64, SaveError> {
         self.machine.precopy(self.alloc)
+    }
+
+    /// How large the machine is.
+    pub fn shape(&self) -> Shape {
+        self.machine.parts().layout.shape
+    }
+
+    /// A translator, if there is one of this number.
+    pub fn translator(&self, its: u8) -> Option<TranslatorRef<'_>> {
+        self.machine.parts().in_place().translator(its)
+    }
+
+    /// Guest memory.
+    pub fn memory(&self) -> &Memory {
+        &self.machine.parts().memory
+    }
+
+    /// What the maps say of a device and one of its events.
+    pub fn pair(&self, its: u8, dev: DeviceId, ev: EventId) -> PairState {
+        pair_seen(self.machine.parts(), its, dev, ev)
+    }
+
+    /// How an LPI stands where it goes, if it goes anywhere.
+    pub fn lpi(&self, spot: Option<Target>) -> Option<LpiState> {
+        let Target { vcpu, intid } = spot?;
+        lpi_seen(self.machine.parts(), vcpu, intid)
+    }
+
+    /// What waits at a virtual processor.
+    pub fn waiting(&self, vcpu: Vcpu) -> Result<Waiting, AllocError> {
+        waiting_seen(self.alloc, self.machine.parts(), vcpu)
+    }
+
+    /// The LPI registers of a virtual processor, if there is one.
+    pub fn bases(&self, vcpu: Vcpu) -> Option<Bases> {
+        bases_seen(self.machine.parts(), vcpu)
+    }
+
+    /// Why a translator takes no command, if it takes none.
+    pub fn idle(&self, its: u8) -> Option<IdleCause> {
+        idle_seen(self.machine.parts(), its)
+    }
+
+    /// What becomes of a write of a translator's registers.
+    pub fn rule(&self, its: u8, off: u32, size: u8, value: u64) -> Option<WriteRule> {
+        rule_seen(self.machine.parts(), its, off, size, value)
+    }
+
+    /// What the 64-bit register of a translator reads that has an offset, or the 32-bit one.
+    pub fn register(&self, its: u8, off: u32) -> u64 {
+        match self.translator(its) {
+            Some(translator) => read_whole(translator, off),
+            None => 0,
+        }
+    }
+
+    /// The same of the LPI registers of a virtual processor.
+    pub fn lpi_register(&mut self, vcpu: Vcpu, off: u32) -> Result<u64, AllocError> {
+        let (off, size) = if off < 4 { (0, 4) } else { (off & !7, 8) };
+        let read = Call::ReadGicr { vcpu, off, size };
+        match self.machine.answer(self.alloc, &read)? {
+            Reply::Value(value) => Ok(value),
+            _ => Ok(0),
+        }
+    }
+}
+
+fn read_whole(translator: TranslatorRef<'_>, off: u32) -> u64 {
+    let regs = translator.regs;
+    match off {
+        0x0 | 0x4 | 0xffe8 => regs.read(off, 4),
+        _ => regs.read(off & !7, 8),
     }
 }

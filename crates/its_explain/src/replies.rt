@@ -1,169 +1,89 @@
 //! What came of a call, in a sentence.
-use crate::commands::{push_effect, reason_rule};
-use crate::known::Known;
-use crate::registers::{redistributor_register, translator_register};
-use crate::signals::{Message, push_signal};
-use its_command::{Command, decode};
-use its_plain::{Ack, Call, Reply, Route, StepReply};
-use its_types::Vcpu;
+use crate::acks::push_ack;
+use crate::commands::push_effect;
+use crate::facts::Fact;
+use crate::refused::push_reason;
+use crate::register_values::{push_lpi_value, push_translator_value};
+use crate::register_writes::{Access, push_lpi_write, push_write};
+use crate::signals::push_signal;
+use crate::sources::{Sources, push_count};
+use call_facts::IdleCause;
+use its_plain::{Call, Reply, Route, StepReply};
 use std::alloc::AllocError;
 use std::fmt::Write;
 
-/// The command that a step took.
-#[derive(Clone, Copy)]
-pub struct Taken {
-    /// Where it stands.
-    pub addr: u64,
-    /// What stands there.
-    pub bytes: [u8; 32],
-}
-
-impl Taken {
-    /// What it is.
-    pub fn command(&self) -> Command {
-        decode(&self.bytes)
-    }
-}
-
-/// Adds what came of a call. A step took this command, if it took one.
+/// Adds what came of a call.
 pub fn push_reply(
     out: &mut String,
-    known: &Known,
+    sources: &Sources,
     call: &Call,
     reply: &Reply,
-    taken: Option<&Taken>,
 ) -> Result<(), AllocError> {
     match *reply {
-        Reply::Signal(signal) => match message_of(call) {
-            Some(message) => push_signal(out, known, message, signal),
-            None => Ok(()),
-        },
-        Reply::Ack(ack) => push_ack(out, call, ack),
-        Reply::Step(step) => push_step(out, known, step, taken),
+        Reply::Signal(signal) => push_signal(out, sources, signal),
+        Reply::Ack(ack) => push_ack(out, sources, call, ack),
+        Reply::Step(step) => push_step(out, sources, step),
         Reply::Outside => push_outside(out, call),
         Reply::SaveFault(fault) => write!(
             out,
             "{fault}, so nothing is written (KVM, arm-vgic-its: the tables of a save)"
         ),
         Reply::Saved => out.push_str("all tables are written to guest memory"),
-        Reply::Copied(pages) => write!(
-            out,
-            "{pages} pages that were written go to the second memory"
-        ),
+        Reply::Copied(pages) => {
+            push_count(out, pages, "page")?;
+            out.push_str(" written since the last copy, copied to the second memory")
+        }
         Reply::NoRequester => out.push_str("no `requester` line has this requester"),
-        Reply::Ok | Reply::Bytes(_) | Reply::Value(_) => push_access(out, call),
+        Reply::Ok | Reply::Bytes(_) | Reply::Value(_) => push_access(out, sources, call),
     }
 }
 
-/// The message that a call is.
-fn message_of(call: &Call) -> Option<Message> {
-    match *call {
-        Call::Signal { its, dev, ev } => Some(Message { its, dev, ev }),
-        Call::Dma {
-            route: Route::Signal { its, dev, ev },
-            ..
-        } => Some(Message { its, dev, ev }),
-        _ => None,
-    }
-}
-
-fn push_ack(out: &mut String, call: &Call, ack: Ack) -> Result<(), AllocError> {
-    match *call {
-        Call::Take(vcpu) => push_lowest(out, vcpu, ack, true),
-        Call::Show(vcpu) => push_lowest(out, vcpu, ack, false),
-        Call::Best { vcpu, mask } => match ack {
-            Ack::Some { .. } => write!(
-                out,
-                "the first by priority at processor {vcpu}, of those below 0x{mask:x}"
-            ),
-            Ack::None => write!(
-                out,
-                "no LPI below 0x{mask:x} is pending and enabled at processor {vcpu}"
-            ),
-        },
-        Call::Claim { vcpu, intid } => match ack {
-            Ack::Some { .. } => write!(
-                out,
-                "it was pending and enabled at processor {vcpu}, and isn't any more"
-            ),
-            Ack::None => write!(
-                out,
-                "LPI {intid} isn't both pending and enabled at processor {vcpu}"
-            ),
-        },
-        _ => Ok(()),
-    }
-}
-
-fn push_lowest(out: &mut String, vcpu: Vcpu, ack: Ack, taken: bool) -> Result<(), AllocError> {
-    match ack {
-        Ack::Some { .. } => {
-            write!(
-                out,
-                "the lowest that is pending and enabled at processor {vcpu}"
-            )?;
-            if taken {
-                out.push_str(", and not pending any more")?;
-            }
-            Ok(())
-        }
-        Ack::None => write!(
-            out,
-            "no LPI is both pending and enabled at processor {vcpu} (section 5.1)"
-        ),
-    }
-}
-
-fn push_step(
-    out: &mut String,
-    known: &Known,
-    step: StepReply,
-    taken: Option<&Taken>,
-) -> Result<(), AllocError> {
+fn push_step(out: &mut String, sources: &Sources, step: StepReply) -> Result<(), AllocError> {
     match step {
-        StepReply::Idle => {
-            out.push_str("the translator isn't enabled, or its queue has no command")
-        }
+        StepReply::Idle => push_idle(out, sources),
         StepReply::QueueFault(addr) => write!(
             out,
             "the 32 bytes of the next command, at 0x{:x}, don't lie in one window",
             addr.0
         ),
-        StepReply::Ran(_) => push_ran(out, known, taken),
+        StepReply::Ran(_) => push_ran(out, sources),
         StepReply::Refused(_, reason) => {
-            push_refused(out, known, taken)?;
-            out.push_str(reason_rule(reason))
+            let Some(taken) = sources.taken else {
+                return Ok(());
+            };
+            match sources.book.writer(taken.addr.0) {
+                Some(line) => write!(out, "not done, of line {line}: ")?,
+                None => write!(out, "not done, of 0x{:x}: ", taken.addr.0)?,
+            }
+            push_reason(out, sources, taken, reason)
         }
     }
 }
 
-fn push_ran(out: &mut String, known: &Known, taken: Option<&Taken>) -> Result<(), AllocError> {
-    match taken {
-        Some(taken) => {
-            push_source(out, known, taken.addr)?;
-            push_effect(out, &taken.command())
-        }
-        None => Ok(()),
-    }
-}
-
-/// Adds which line wrote a refused command.
-fn push_refused(out: &mut String, known: &Known, taken: Option<&Taken>) -> Result<(), AllocError> {
-    let Some(taken) = taken else {
+fn push_idle(out: &mut String, sources: &Sources) -> Result<(), AllocError> {
+    let Fact::Idle(cause, place) = sources.fact else {
         return Ok(());
     };
-    match known.writer(taken.addr) {
-        Some(line) => write!(out, "not done, of line {line}: "),
-        None => write!(out, "not done, of 0x{:x}: ", taken.addr),
+    match cause {
+        Some(IdleCause::NotEnabled) => {
+            out.push_str("the translator isn't enabled: bit 0 of GITS_CTLR is 0 (section 12.19.6)")
+        }
+        _ => write!(
+            out,
+            "the queue is empty: CREADR and CWRITER are both 0x{place:x}"
+        ),
     }
 }
 
-/// Adds which line wrote the command at an address.
-fn push_source(out: &mut String, known: &Known, addr: u64) -> Result<(), AllocError> {
-    match known.writer(addr) {
-        Some(line) => write!(out, "by line {line} "),
-        None => write!(out, "by the command at 0x{addr:x} "),
+fn push_ran(out: &mut String, sources: &Sources) -> Result<(), AllocError> {
+    let Some(taken) = sources.taken else {
+        return Ok(());
+    };
+    match sources.book.writer(taken.addr.0) {
+        Some(line) => write!(out, "by line {line} ")?,
+        None => write!(out, "by the command at 0x{:x} ", taken.addr.0)?,
     }
+    push_effect(out, sources, &taken.command)
 }
 
 fn push_outside(out: &mut String, call: &Call) -> Result<(), AllocError> {
@@ -178,24 +98,47 @@ fn push_outside(out: &mut String, call: &Call) -> Result<(), AllocError> {
     }
 }
 
-fn push_access(out: &mut String, call: &Call) -> Result<(), AllocError> {
+fn push_access(out: &mut String, sources: &Sources, call: &Call) -> Result<(), AllocError> {
     match *call {
-        Call::Poke { addr, bytes } | Call::Dma { addr, bytes, .. } => write!(
-            out,
-            "{} bytes of guest memory are written from 0x{:x} on",
-            bytes.as_slice().len(),
-            addr.0
-        ),
-        Call::Peek { addr, count } => write!(
-            out,
-            "{count} bytes of guest memory, from 0x{:x} on",
-            addr.0
-        ),
-        Call::ReadReg { off, .. } | Call::WriteReg { off, .. } => {
-            out.push_str(translator_register(off))
+        Call::Poke { addr, bytes } | Call::Dma { addr, bytes, .. } => {
+            push_count(out, bytes.as_slice().len() as u64, "byte")?;
+            write!(out, " of guest memory, written from 0x{:x} on", addr.0)
         }
-        Call::ReadGicr { off, .. } | Call::WriteGicr { off, .. } => {
-            out.push_str(redistributor_register(off))
+        Call::Peek { addr, count } => {
+            push_count(out, u64::from(count), "byte")?;
+            write!(out, " of guest memory, from 0x{:x} on", addr.0)
+        }
+        _ => push_register(out, sources, call),
+    }
+}
+
+fn push_register(out: &mut String, sources: &Sources, call: &Call) -> Result<(), AllocError> {
+    match (*call, sources.fact) {
+        (Call::ReadReg { off, .. }, Fact::Read(value)) => push_translator_value(out, off, value),
+        (Call::ReadGicr { off, .. }, Fact::Read(value)) => push_lpi_value(out, off, value),
+        (
+            Call::WriteReg {
+                its,
+                off,
+                size,
+                value,
+            },
+            Fact::Written(fact),
+        ) => {
+            let access = Access { off, size, value };
+            push_write(out, sources.machine, its, access, &fact)
+        }
+        (
+            Call::WriteGicr {
+                off,
+                size,
+                value,
+                ..
+            },
+            Fact::LpiWritten(fact),
+        ) => {
+            let access = Access { off, size, value };
+            push_lpi_write(out, sources.machine, access, &fact)
         }
         _ => Ok(()),
     }

@@ -1,5 +1,5 @@
 //! Why a script was refused, for people.
-use crate::context::Context;
+use crate::context::{Context, Stage};
 use crate::fields_fault::push_fields;
 use crate::grammar::{CALLS, COMMANDS, DESCRIPTION, STRUCTURE};
 use crate::lines::{Field, fields_of, line_at, text_at, word};
@@ -78,6 +78,11 @@ impl<'a> Faulty<'a> {
         )
     }
 
+    /// Whether it is the first line of a report.
+    pub fn begins_report(&self) -> bool {
+        self.text(0) == b"leg".as_slice() && self.text(1) == b"1".as_slice()
+    }
+
     fn push_column(&self, out: &mut String, column: usize) -> Result<(), AllocError> {
         push_marked(out, self.line, column)?;
         write!(out, "line {}: ", self.number)
@@ -119,10 +124,22 @@ fn push_byte(out: &mut String, byte: u8) -> Result<(), AllocError> {
 
 fn push_word(out: &mut String, faulty: &Faulty) -> Result<(), AllocError> {
     faulty.push_at(out, 0)?;
+    if faulty.begins_report() {
+        return push_report(out, faulty);
+    }
     push_quoted(out, faulty.text(0))?;
     out.push_str(" begins no line\n")?;
     push_hint(out, word(faulty.text(0)))?;
     push_first_words(out)
+}
+
+/// Adds where a report belongs.
+pub fn push_report(out: &mut String, faulty: &Faulty) -> Result<(), AllocError> {
+    if faulty.context.stage == Stage::Ended {
+        return out.push_str("a report begins here, and the line `trace` has to stand before it\n");
+    }
+    out.push_str("this begins a report, as `its run` prints it, and a script was expected\n")?;
+    out.push_str("A report is read after its script and a line `trace`, by `its check` or here.\n")
 }
 
 /// Adds where a word belongs that begins no line.

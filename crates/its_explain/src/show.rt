@@ -2,8 +2,11 @@
 use std::alloc::AllocError;
 use std::fmt::Write;
 
+/// How many columns a line that is printed has at most.
+const COLUMNS: usize = 100;
+
 /// How many bytes of a line are shown.
-const WIDTH: usize = 100;
+const WIDTH: usize = 94;
 
 /// How many bytes of a word are shown.
 const WORD: usize = 40;
@@ -61,11 +64,69 @@ pub fn push_marked(out: &mut String, line: &[u8], column: usize) -> Result<(), A
     out.push_str("^\n")
 }
 
-/// Adds a line.
+/// Adds a line, in as many as it takes.
 pub fn push_plain(out: &mut String, line: &[u8]) -> Result<(), AllocError> {
     out.push_str("    ")?;
-    push_first(out, line, 2 * WIDTH)?;
+    push_folded(out, line, 4, 4)
+}
+
+/// Adds a line of a report, in as many as it takes.
+pub fn push_heading(out: &mut String, line: &[u8]) -> Result<(), AllocError> {
+    push_folded(out, line, 0, 4)
+}
+
+/// Adds words from a column on, with line ends where a line would be too long; each line that goes
+/// on is indented.
+pub fn push_folded(
+    out: &mut String,
+    text: &[u8],
+    from: usize,
+    indent: usize,
+) -> Result<(), AllocError> {
+    let mut column = from;
+    let mut is_first = true;
+    for word in text.split(|b| *b == b' ') {
+        if !is_first {
+            let end = column.saturating_add(word.len());
+            if end >= COLUMNS && column > indent {
+                column = push_line_end(out, indent)?;
+            } else {
+                out.push(' ')?;
+                column = column.saturating_add(1);
+            }
+        }
+        column = push_word(out, word, column, indent)?;
+        is_first = false;
+    }
     out.push_str("\n")
+}
+
+/// Ends a line, and begins the next one at a column.
+fn push_line_end(out: &mut String, indent: usize) -> Result<usize, AllocError> {
+    out.push_str("\n")?;
+    for _ in 0..indent {
+        out.push(' ')?;
+    }
+    Ok(indent)
+}
+
+/// Adds a word at a column, and says at which column it ends. One that is longer than a line is
+/// cut.
+fn push_word(
+    out: &mut String,
+    word: &[u8],
+    from: usize,
+    indent: usize,
+) -> Result<usize, AllocError> {
+    let mut column = from;
+    for piece in word.chunks(1) {
+        if column >= COLUMNS {
+            column = push_line_end(out, indent)?;
+        }
+        push_bytes(out, piece)?;
+        column = column.saturating_add(1);
+    }
+    Ok(column)
 }
 
 /// Adds names on lines of their own, with commas between them.
@@ -76,7 +137,7 @@ pub fn push_names(out: &mut String, names: &[&str]) -> Result<(), AllocError> {
         write!(out, "{between}{name}")?;
         column = column.saturating_add(name.len()).saturating_add(2);
         between = ", ";
-        if column > WIDTH - 25 {
+        if column > COLUMNS - 25 {
             column = 0;
             between = ",\n    ";
         }

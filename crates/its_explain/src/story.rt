@@ -1,16 +1,18 @@
 //! A run that is told: each line of its report, and what came of each call.
+use crate::book::Book;
 use crate::call_lines::CallLine;
 use crate::entries::{Entry, entry_of};
-use crate::known::Known;
+use crate::facts::{Fact, Taken};
 use crate::left::{Left, Next, count_calls, cut};
 use crate::lines::{first_words, number};
 use crate::replayed::Replayed;
-use crate::replies::{Taken, push_reply};
-use crate::show::{push_bytes, push_plain};
+use crate::replies::push_reply;
+use crate::show::{push_bytes, push_folded, push_heading, push_plain};
+use crate::sources::Sources;
+use crate::watch::Watch;
 use event_script::{Leg, Move, Script};
 use its_history::{answered_text, pending_text, save_fault_text, vcpu_text};
-use its_plain::{Call, Reply, SaveError, StepReply};
-use its_types::Addr;
+use its_plain::{Call, Reply, SaveError};
 use std::alloc::{AllocError, Global};
 use std::fmt::Write;
 
@@ -30,7 +32,7 @@ pub struct Story<'a> {
     input: &'a [u8],
     script: &'a Script,
     machine: Replayed,
-    known: Known,
+    book: Book,
     /// The lines of the calls of legs that aren't begun.
     lines: &'a [CallLine],
     /// How many legs are begun.
@@ -38,8 +40,15 @@ pub struct Story<'a> {
     left: Left<'a>,
     /// How many calls of the leg were made.
     places: u64,
-    /// The command that the call in hand takes, if it is a step.
-    taken: Option<Taken>,
+}
+
+/// What a call that was made came to.
+#[derive(Clone, Copy)]
+struct Made {
+    /// What it was answered.
+    reply: Reply,
+    /// What came of it.
+    fact: Fact,
 }
 
 impl<'a> Story<'a> {
@@ -50,19 +59,18 @@ impl<'a> Story<'a> {
         script: &'a Script,
         machine: Replayed,
         lines: &'a [CallLine],
-    ) -> Story<'a> {
-        Story {
+    ) -> Result<Story<'a>, AllocError> {
+        Ok(Story {
             alloc,
             input,
             script,
             machine,
-            known: Known::new(alloc),
+            book: Book::of_script(alloc, script)?,
             lines,
             legs: 0,
             left: Left::none(alloc),
             places: 0,
-            taken: None,
-        }
+        })
     }
 
     /// Tells a line of the report.
@@ -108,107 +116,106 @@ impl<'a> Story<'a> {
             out.push_str("This thread has no call left in the first phase that has calls left.\n")?;
             return Ok(Told::Wrong);
         };
-        self.taken = self.command_for(&next.call)?;
+        let taken = self.command_for(&next.call);
+        let taken = taken.as_ref();
+        let watch = Watch::before(self.alloc, &self.machine, &next.call, taken)?;
+        let look = self.machine.look(&next.call, taken)?;
         let reply = self.machine.answer(&next.call)?;
-        let text = answered_text(self.alloc, &next.call, &reply)?;
-        if !says(text.as_str(), entry.text) {
-            push_difference(out, line)?;
-            return self.tell_right(out, entry, &next, &reply);
-        }
-        push_heading(out, line)?;
-        self.push_came(out, &next, &reply)?;
-        self.remember(&next, &reply)?;
-        Ok(Told::Right)
+        let fact = self.machine.fact(&look)?;
+        let made = Made { reply, fact };
+        let told = self.tell_made(out, line, entry, &next, taken, &made)?;
+        self.remember(&next, taken, &made, &watch)?;
+        Ok(told)
     }
 
-    /// Adds what the line would have to say.
-    fn tell_right(
+    /// Tells what came of a call, or what the line would have to say.
+    fn tell_made(
         &self,
         out: &mut String,
+        line: &[u8],
         entry: &Entry,
         next: &Next,
-        reply: &Reply,
+        taken: Option<&Taken>,
+        made: &Made,
     ) -> Result<Told, AllocError> {
-        let text = answered_text(self.alloc, &next.call, reply)?;
+        let text = answered_text(self.alloc, &next.call, &made.reply)?;
+        if says(text.as_str(), entry.text) {
+            push_heading(out, line)?;
+            self.push_came(out, next, taken, made)?;
+            return Ok(Told::Right);
+        }
+        push_difference(out, line)?;
+        out.push_str("and a run's line is\n")?;
         let place = self.places;
-        writeln!(
-            out,
-            "and a run's line is\n    {place} {}.{} {}",
-            entry.phase,
-            entry.thread,
-            text.as_str()
-        )?;
-        self.push_came(out, next, reply)?;
+        let (phase, thread) = (entry.phase, entry.thread);
+        let right = format!(in self.alloc; "{place} {phase}.{thread} {}", text.as_str())?;
+        push_plain(out, right.as_str().as_bytes())?;
+        self.push_came(out, next, taken, made)?;
         Ok(Told::Wrong)
     }
 
     /// Adds what came of a call.
-    fn push_came(&self, out: &mut String, next: &Next, reply: &Reply) -> Result<(), AllocError> {
-        write!(out, "        line {}: ", next.line.number)?;
+    fn push_came(
+        &self,
+        out: &mut String,
+        next: &Next,
+        taken: Option<&Taken>,
+        made: &Made,
+    ) -> Result<(), AllocError> {
+        let mut said = String::new(self.alloc);
+        let number = next.line.number;
+        write!(&mut said, "line {number}: ")?;
         let text = next.line.text(self.input);
-        if *reply == Reply::Ok && is_written_as(text) {
-            out.push_str("`")?;
-            push_trimmed(out, text)?;
-            return out.push_str("`\n");
+        if made.reply == Reply::Ok && is_written_as(text) {
+            said.push_str("`")?;
+            push_trimmed(&mut said, text)?;
+            said.push_str("`")?;
+        } else {
+            let sources = Sources {
+                book: &self.book,
+                machine: &self.machine,
+                fact: made.fact,
+                taken,
+            };
+            push_reply(&mut said, &sources, &next.call, &made.reply)?;
         }
-        push_reply(out, &self.known, &next.call, reply, self.taken.as_ref())?;
-        out.push_str("\n")
+        out.push_str("        ")?;
+        push_folded(out, said.as_str().as_bytes(), 8, 8)
     }
 
-    /// Keeps what a call's line wrote or mapped.
-    fn remember(&mut self, next: &Next, reply: &Reply) -> Result<(), AllocError> {
+    /// Keeps what a call's line wrote, and what it changed.
+    fn remember(
+        &mut self,
+        next: &Next,
+        taken: Option<&Taken>,
+        made: &Made,
+        watch: &Watch,
+    ) -> Result<(), AllocError> {
         self.places = self.places.saturating_add(1);
+        let line = next.line.number;
+        let keys = watch.changes(self.alloc, &self.machine)?;
+        let changer = match taken {
+            Some(taken) => self.book.writer(taken.addr.0).unwrap_or(line),
+            None => line,
+        };
+        self.book.changed(watch.its, &keys, changer)?;
         match &next.call {
             Call::Poke { addr, bytes } | Call::Dma { addr, bytes, .. } => {
-                if *reply == Reply::Ok {
+                if made.reply == Reply::Ok {
                     let count = bytes.as_slice().len() as u64;
-                    self.known.wrote(addr.0, count, next.line.number)?;
+                    self.book.wrote(addr.0, count, line)?;
                 }
                 Ok(())
             }
-            Call::Step { its } => match reply {
-                Reply::Step(StepReply::Ran(_)) => self.keep_ran(*its, next.line.number),
-                _ => Ok(()),
-            },
             _ => Ok(()),
         }
     }
 
-    /// Keeps what the command in hand mapped, of the line that wrote it, or else of the step's.
-    fn keep_ran(&mut self, its: u8, step: u64) -> Result<(), AllocError> {
-        match &self.taken {
-            Some(taken) => {
-                let line = self.known.writer(taken.addr).unwrap_or(step);
-                self.known.ran(its, &taken.command(), line)
-            }
-            None => Ok(()),
-        }
-    }
-
-    /// The command that a step will take, if its bytes lie in one window.
-    fn command_for(&mut self, call: &Call) -> Result<Option<Taken>, AllocError> {
-        let Call::Step { its } = *call else {
-            return Ok(None);
-        };
-        let base = self.register(its, 0x80)? & 0x000f_ffff_ffff_f000;
-        let offset = self.register(its, 0x90)? & 0x000f_ffe0;
-        let addr = base.saturating_add(offset);
-        let peek = Call::Peek {
-            addr: Addr(addr),
-            count: 32,
-        };
-        match self.machine.answer(&peek)? {
-            Reply::Bytes(bytes) => Ok(command_of(addr, bytes.as_slice())),
-            _ => Ok(None),
-        }
-    }
-
-    /// What a register of a translator reads.
-    fn register(&mut self, its: u8, off: u32) -> Result<u64, AllocError> {
-        let read = Call::ReadReg { its, off, size: 8 };
-        match self.machine.answer(&read)? {
-            Reply::Value(value) => Ok(value),
-            _ => Ok(0),
+    /// The command that a call will take, if it is a step that takes one.
+    fn command_for(&self, call: &Call) -> Option<Taken> {
+        match *call {
+            Call::Step { its } => self.machine.next_command(its),
+            _ => None,
         }
     }
 
@@ -305,19 +312,6 @@ impl<'a> Story<'a> {
     }
 }
 
-/// The command that bytes at an address are.
-fn command_of(addr: u64, bytes: &[u8]) -> Option<Taken> {
-    let mut buffer = [0u8; 32];
-    if bytes.len() != 32 {
-        return None;
-    }
-    buffer.copy_from_slice(bytes);
-    Some(Taken {
-        addr,
-        bytes: buffer,
-    })
-}
-
 /// Whether a line has this text.
 fn says(text: &str, line: &[u8]) -> bool {
     text.as_bytes() == line
@@ -342,12 +336,6 @@ fn push_trimmed(out: &mut String, line: &[u8]) -> Result<(), AllocError> {
         }
     }
     Ok(())
-}
-
-/// Adds a line of the report as it stands.
-fn push_heading(out: &mut String, line: &[u8]) -> Result<(), AllocError> {
-    push_bytes(out, line)?;
-    out.push_str("\n")
 }
 
 fn push_difference(out: &mut String, line: &[u8]) -> Result<(), AllocError> {

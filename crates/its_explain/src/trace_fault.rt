@@ -1,11 +1,43 @@
 //! Why a text isn't read as a report, for people.
-use crate::lines::line_at;
+use crate::entries::entry_of;
+use crate::lines::{first_words, line_at, number};
 use crate::show::push_plain;
+use event_script::{Move, Script};
 use std::alloc::AllocError;
 use std::fmt::Write;
 
-/// Adds the first line that hasn't the shape of a report's, and what stands in a report.
-pub fn push_trace_fault(out: &mut String, report: &[u8], line: u64) -> Result<(), AllocError> {
+/// What stands next in a report.
+#[derive(Clone, Copy, PartialEq, Eq)]
+enum Next {
+    /// The line that begins a leg.
+    Leg,
+    /// The entry of this place, or the first `vcpu` line.
+    Entry(u64),
+    /// The line of this processor.
+    Vcpu(u64),
+    /// How the leg ends.
+    End,
+    /// Nothing.
+    Nothing,
+}
+
+/// A place between two lines of a report.
+#[derive(Clone, Copy)]
+struct Place<'a> {
+    script: &'a Script,
+    /// How many legs are over.
+    legs: usize,
+    next: Next,
+}
+
+/// Adds the first line that hasn't the shape of a report's, and what stands there in a report.
+pub fn push_trace_fault(
+    out: &mut String,
+    script: &Script,
+    report: &[u8],
+    line: u64,
+) -> Result<(), AllocError> {
+    let place = place_before(script, report, line);
     let text = line_at(report, line);
     if text.is_empty() {
         writeln!(
@@ -15,14 +47,137 @@ pub fn push_trace_fault(out: &mut String, report: &[u8], line: u64) -> Result<()
     } else {
         writeln!(out, "Line {line} of the report is")?;
         push_plain(out, text)?;
+        push_broken(out, place.next, text)?;
+        push_open_end(out, report, line)?;
     }
-    out.push_str(SHAPE)
+    place.push_expected(out)
 }
 
-/// The lines of a report.
-const SHAPE: &str = "A report has for each leg, in this order, and each line with its line end:
-    leg N                               its number, from 1
-    PLACE PHASE.THREAD CALL -> REPLY    for each call; places rise by one from 0
-    vcpu V pending INTIDS               for each processor from 0 on, or `none`
-    migrated                            (`migrated copied N` after `precopy`); `done` at the end
-";
+/// The place before a line, where all lines before it are right.
+fn place_before<'a>(script: &'a Script, report: &[u8], line: u64) -> Place<'a> {
+    let mut place = Place {
+        script,
+        legs: 0,
+        next: Next::Leg,
+    };
+    let mut at = 1u64;
+    for text in report.split(|b| *b == b'\n') {
+        if at == line {
+            break;
+        }
+        place.next = place.after(text);
+        if place.next == Next::Leg || place.next == Next::Nothing {
+            place.legs = place.legs.saturating_add(1);
+        }
+        at = at.saturating_add(1);
+    }
+    place
+}
+
+impl<'a> Place<'a> {
+    /// What stands after a line that is right.
+    fn after(&self, line: &[u8]) -> Next {
+        match self.next {
+            Next::Leg => Next::Entry(0),
+            Next::Entry(_) if line.starts_with(b"vcpu ") => self.after_vcpu(0),
+            Next::Entry(place) => Next::Entry(place.saturating_add(1)),
+            Next::Vcpu(vcpu) => self.after_vcpu(vcpu),
+            Next::End if self.is_last() => Next::Nothing,
+            Next::End => Next::Leg,
+            Next::Nothing => Next::Nothing,
+        }
+    }
+
+    fn after_vcpu(&self, vcpu: u64) -> Next {
+        let next = vcpu.saturating_add(1);
+        if next < u64::from(self.script.desc.shape.vcpus) {
+            Next::Vcpu(next)
+        } else {
+            Next::End
+        }
+    }
+
+    /// Whether the leg is the last.
+    fn is_last(&self) -> bool {
+        self.legs.saturating_add(1) >= self.script.legs.len()
+    }
+
+    /// Adds what stands here.
+    fn push_expected(&self, out: &mut String) -> Result<(), AllocError> {
+        let leg = self.legs.saturating_add(1);
+        match self.next {
+            Next::Leg => writeln!(out, "Here stands `leg {leg}`."),
+            Next::Entry(place) => {
+                writeln!(
+                    out,
+                    "Here stands `{place} PHASE.THREAD CALL -> REPLY`, or after the leg's last call"
+                )?;
+                out.push_str("`vcpu 0 pending INTIDS`, with `none` for no INTID.\n")
+            }
+            Next::Vcpu(vcpu) => writeln!(
+                out,
+                "Here stands `vcpu {vcpu} pending INTIDS`, with `none` for no INTID."
+            ),
+            Next::End => self.push_end(out),
+            Next::Nothing => out.push_str("Nothing stands after `done`.\n"),
+        }
+    }
+
+    fn push_end(&self, out: &mut String) -> Result<(), AllocError> {
+        if self.is_last() {
+            return out.push_str("Here stands `done`, after the script's last leg.\n");
+        }
+        let moves: &[Move] = self.script.moves.as_slice();
+        match moves.get(self.legs) {
+            Some(Move::Precopy) => {
+                out.push_str("Here stands `migrated copied N`, for the script's `precopy`.\n")
+            }
+            _ => out.push_str("Here stands `migrated`, for the script's `migrate`.\n"),
+        }
+    }
+}
+
+/// Adds what is wrong with a line where an entry may stand.
+fn push_broken(out: &mut String, next: Next, line: &[u8]) -> Result<(), AllocError> {
+    let Next::Entry(place) = next else {
+        return Ok(());
+    };
+    let (first, _) = first_words(line);
+    match number(first) {
+        Some(told) if told != place => {
+            writeln!(
+                out,
+                "Its place is {told}, and places rise by one: the next is {place}."
+            )
+        }
+        Some(_) if entry_of(line).is_none() => {
+            out.push_str("After its place stands PHASE.THREAD, each counted from 1.\n")
+        }
+        Some(_) if !has_arrow(line) => out.push_str("It has no ` -> ` with a reply.\n"),
+        _ => Ok(()),
+    }
+}
+
+fn has_arrow(line: &[u8]) -> bool {
+    for word in line.split(|b| *b == b' ') {
+        if word == b"->".as_slice() {
+            return true;
+        }
+    }
+    false
+}
+
+/// Adds that a line hasn't its end, where it is the last and hasn't.
+fn push_open_end(out: &mut String, report: &[u8], line: u64) -> Result<(), AllocError> {
+    let mut ends = 0u64;
+    for byte in report {
+        if *byte == b'\n' {
+            ends = ends.saturating_add(1);
+        }
+    }
+    if ends < line {
+        out.push_str("It has no line end (LF, byte 0x0A).\n")
+    } else {
+        Ok(())
+    }
+}

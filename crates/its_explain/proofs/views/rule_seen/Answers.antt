@@ -1,0 +1,21 @@
+use Rattle.std.proofs.Common.{Some, sym, ap, ◌∙◌}
+use Rattle.std.specs.Option.{option_map}
+use Rattle.call_facts.specs.Writes.{rule}
+use Rattle.call_facts.specs.declared.writes.WriteRule.{WriteRule}
+use Rattle.its_plain.specs.Plain.{Translator}
+use Rattle.its_explain.proofs.Lent.{lent_number, lent_none}
+use Rattle.its_explain.proofs.views.rule_seen.Goals as goal
+
+pub returns-in-Some : goal.returns-in-Some
+returns-in-Some c =
+    ap (λ (r : WriteRule). Some r) c.write_rule.ensures.rule
+    ∙ sym
+    (ap (option_map (λ (t : Translator). rule t.regs c.args.off c.args.size c.args.value))
+    (lent_number c.args.parts.now c.in_place.result c.args.its c.translator.result c.in_place.ensures.state c.translator.ensures c.in-Some.translator
+    c.in-Some.is))
+
+pub returns-in-None : goal.returns-in-None
+returns-in-None c =
+    sym
+    (ap (option_map (λ (t : Translator). rule t.regs c.args.off c.args.size c.args.value))
+    (lent_none c.args.parts.now c.in_place.result c.args.its c.translator.result c.in_place.ensures.state c.translator.ensures c.in-None.is))
