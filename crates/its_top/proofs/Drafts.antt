@@ -1,6 +1,6 @@
 -- A line but `rrestore` leaves the registers to restore as they were, and the guest programs the LPI registers after a line `gicr`.
 use Rattle.std.proofs.Common.{◌≡◌, ℕ, ◌-◌, ◌^◌, true, not, ◌&&◌, ◌||◌, nat_lt, nat_eq, List, length, drop, Result, Ok, Err, IfOk, refl}
-use Rattle.std.specs.Prelude.{is_none}
+use Rattle.std.specs.Prelude.{is_none, is_some}
 use Rattle.std.specs.List.{list_all}
 use Rattle.std.specs.Option.{ok_or}
 use Rattle.its_plain.specs.declared.call.Call.{Call}
@@ -11,7 +11,7 @@ use Rattle.event_script.specs.Words.{call_word_of}
 use Rattle.event_script.specs.Described.{desc_so_far, most_stamp}
 use Rattle.event_script.specs.Description.{at_start, in_description, in_phase, in_thread, is_shard_count, describes_tables, is_given, register_values}
 use Rattle.event_script.specs.Description.{vcpus_line, shards_line, limits_line, ids_line, profile_line, window_line, config_line, pending_line, gicr_line}
-use Rattle.event_script.specs.Description.{linux_line, track_line, allow_pair, pair_line, frames_base, its_base_line, b_base_line, requester_line}
+use Rattle.event_script.specs.Description.{from_kvm_line, linux_line, track_line, allow_pair, pair_line, frames_base, its_base_line, b_base_line, requester_line}
 use Rattle.event_script.specs.Description.{restore_line, brestore_line, bytes_line, word_fill_line}
 use Rattle.event_script.specs.Calls.{call_of}
 use Rattle.event_script.specs.Body.{is_whole, may_go_on, threads_so_far, phases_so_far, legs_so_far, phase_line, thread_line, may_move, move_line, end_line}
@@ -113,6 +113,12 @@ module _ (d : Draft) where
   unfolding track_line
   track fs =
       bound F (ensure (in_description d.stage && not d.track) kind.Order) _ (λ _.
+      bound F (ensure (nat_eq (length fs) 1) kind.Fields) _ (λ _. record { registers = refl; gicr = λ g. g }))
+
+  from_kvm : (fs : List (List ℕ)) → IfOk (from_kvm_line d fs) F
+  unfolding from_kvm_line
+  from_kvm fs =
+      bound F (ensure (in_description d.stage && is_some d.first.restore && not d.from_kvm) kind.Order) _ (λ _.
       bound F (ensure (nat_eq (length fs) 1) kind.Fields) _ (λ _. record { registers = refl; gicr = λ g. g }))
 
   pair : (fs : List (List ℕ)) → IfOk (pair_line d fs) F
@@ -234,6 +240,7 @@ module _ (d : Draft) where
   line_follows n on.Restore fs other = restore fs
   line_follows n on.Gicr fs other = if_ok_both (λ e. e.gicr ≡ true) (gicr_line d fs) (gicr fs)
   line_follows n on.Rrestore fs other = absurd other
+  line_follows n on.FromKvm fs other = from_kvm fs
   line_follows n on.Linux fs other = linux fs
   line_follows n on.Track fs other = track fs
   line_follows n on.Pair fs other = pair fs

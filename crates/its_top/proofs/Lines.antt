@@ -55,6 +55,7 @@ other_by word on.Pending none e = tt
 other_by word on.Bytes none e = tt
 other_by word on.Restore none e = tt
 other_by word on.Gicr none e = tt
+other_by word on.FromKvm none e = tt
 other_by word on.Linux none e = tt
 other_by word on.Track none e = tt
 other_by word on.Pair none e = tt

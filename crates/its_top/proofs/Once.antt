@@ -2,7 +2,7 @@
 use Rattle.std.proofs.Common.{◌≡◌, ℕ, ◌<◌, Bool, true, false, List, length, Option, Some, Result, Ok, Err, sym, ap, subst, ◌∙◌, arith}
 use Rattle.gits_regs.specs.declared.values.RegValues.{RegValues}
 use Rattle.its_types.specs.declared.translation.Bases.{Bases}
-use Rattle.its_plain.specs.Described.{IsFirstState, IsRefused, StartsAt, is_restored, values_of, restored_bases}
+use Rattle.its_plain.specs.Described.{IsFirstState, IsRefused, StartsAt, is_restored, values_of, restored_bases, kept_of}
 use Rattle.its_plain.specs.Machine.{made}
 use Rattle.its_plain.specs.Plain.{Plain}
 use Rattle.its_plain.specs.declared.desc.Desc.{Desc}
@@ -25,8 +25,9 @@ starts_once true values bases base u v a b = stands_once base.memory values base
 pub first_once : (d : Desc) (u v : Plain) → IsFirstState d u → IsFirstState d v → u ≡ v
 first_once d u v a b =
     let same : a.base ≡ b.base = same_ok (made d) a.base b.base a.made_is b.made_is in
-    starts_once (is_restored d) (values_of d) (restored_bases d) b.base u v
-    (subst (λ (base : Plain). StartsAt (is_restored d) (values_of d) (restored_bases d) base u) same a.starts) b.starts
+    let read : a.read ≡ b.read = starts_once (is_restored d) (values_of d) (restored_bases d) b.base a.read b.read
+    (subst (λ (base : Plain). StartsAt (is_restored d) (values_of d) (restored_bases d) base a.read) same a.starts) b.starts in
+    a.kept ∙ ap (kept_of d.from_kvm) read ∙ sym b.kept
 
 pub made_once : {X : Type 0} (d : Desc) (u : Plain) (f : DescFault) → IsFirstState d u → IsRefused d f → X
 made_once d u f is (IsRefused.of_description g none) = not_both (made d) is.base g is.made_is none
@@ -34,8 +35,9 @@ made_once d u f is (IsRefused.of_restore base i g base_is restore_is offends) =
     let same : is.base ≡ base = same_ok (made d) is.base base is.made_is base_is in
     let bases = restored_bases d in
     let values = values_of d in
-    let starts : StartsAt (is_restored d) values bases base u = subst (λ (b : Plain). StartsAt (is_restored d) values bases b u) same is.starts in
-    absurd (stands_without base.memory values base.layout bases u i g (subst (λ (b : Bool). StartsAt b values bases base u) restore_is starts) offends)
+    let read = is.read in
+    let starts : StartsAt (is_restored d) values bases base read = subst (λ (b : Plain). StartsAt (is_restored d) values bases b read) same is.starts in
+    absurd (stands_without base.memory values base.layout bases read i g (subst (λ (b : Bool). StartsAt b values bases base read) restore_is starts) offends)
 
 pub too_short : {X : Type 0} (input read : List ℕ) → WasRead (Some input) read → 16777216 < length input → X
 too_short input read was lt = absurd (omega (arith, was.short, ap length was.whole, lt))
