@@ -160,7 +160,7 @@ struct its_description_in {
     uint32_t lpi_bits;    /* of the INTID of an LPI, 14 to 20 */
     uint32_t profile;     /* a MAPC of a mapped collection: 1 pending LPIs stay, 2 they move */
     uint32_t programmed;  /* 0 LPIs are on at the tables given, 1 the guest programs GICR_* */
-    uint32_t restored;    /* 0 as at reset, 1 from guest memory and the registers that follow */
+    uint32_t restored;    /* 0 as at reset, 1 from guest memory and the registers that follow, 2 so, of tables that KVM saved */
     uint32_t linux_guest; /* 1 with what a Linux guest counts on (docs/FORMATS.md, `linux`), 0 not */
     uint32_t has_frames;  /* 1 devices write by address (its_dma) and frames says where, 0 not */
     uint64_t config;      /* address of the LPI configuration table, where programmed is 0 */

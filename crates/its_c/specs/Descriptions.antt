@@ -28,7 +28,7 @@ between least most n = nat_le least n && nat_le n most
 -- each number by itself
 abbrev pub numbers_in_range : DescriptionIn → Bool
 numbers_in_range d =
-    between 1 16 d.vcpus && between 16 20 d.device_bits && between 14 20 d.lpi_bits && between 1 2 d.profile && nat_lt d.programmed 2 && nat_lt d.restored 2
+    between 1 16 d.vcpus && between 16 20 d.device_bits && between 14 20 d.lpi_bits && between 1 2 d.profile && nat_lt d.programmed 2 && nat_lt d.restored 3
     && nat_lt d.linux_guest 2 && nat_lt d.has_frames 2
 
 -- so many pending tables, or so many redistributors' registers, as virtual processors
@@ -116,5 +116,6 @@ description_of d windows pending redistributors requesters fills bytes = record 
   memory_limit = 18446744073709551615;
   translators = translators_of d;
   requesters = map requesters_of requesters;
+  from_kvm = d.restored == 2;
   track = false;
 }

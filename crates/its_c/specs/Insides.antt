@@ -1,7 +1,6 @@
 -- What is true of what a handle has.
-use Rattle.std.specs.Prelude.{◌≤◌, length, IfSome}
+use Rattle.std.specs.Prelude.{◌≤◌, length}
 use Rattle.dma_routes.specs.Routes.{AreDevices}
-use Rattle.step_views.specs.Counts.{event_count}
 use Rattle.its_c.specs.Keeping.{Held}
 use Rattle.its_c.specs.declared.kept.Kept.TheInside.{Inside}
 
@@ -11,5 +10,3 @@ held_of k = record { machine = k.machine; desc = k.desc; limit = k.limit }
 pub record IsKept (k : Inside) : Type 0 where
   pub translators : length k.desc.translators ≤ 2
   pub devices : AreDevices k.desc.requesters
-  -- no more events are mapped than are known of, where it is known
-  pub mapped : IfSome k.mapped (λ n. event_count k.machine 0 ≤ n)

@@ -36,7 +36,7 @@ fn numbers_in_range(description: &DescriptionIn) -> bool
         && between(14, 20, description.lpi_bits)
         && between(1, 2, description.profile)
         && description.programmed < 2
-        && description.restored < 2
+        && description.restored < 3
         && description.linux_guest < 2
         && description.has_frames < 2
 }
@@ -108,6 +108,7 @@ pub fn description(
         fills: fills_of(alloc, fills, bytes)?,
         translators: translators(alloc, numbers)?,
         requesters: ranges_of(alloc, requesters)?,
+        from_kvm: numbers.restored == 2,
         track: false,
     })
 }

@@ -1,10 +1,7 @@
 //! What a handle has: a machine, the description that it was made from, and how many events may be
 //! mapped.
-ghost use Rattle.std.specs.Prelude.{◌≡◌, ◌≤◌, ◌<◌, Ok, Err, IfOk, IfSome, not, is_ok, is_some};
-ghost use Rattle.std.specs.Prelude.{nat_lt};
-ghost use Rattle.its_c.specs.Keeping.{no_limit, is_full};
-ghost use Rattle.its_plain.specs.Answer.{step_left};
-ghost use Rattle.step_views.specs.Counts as counts;
+ghost use Rattle.std.specs.Prelude.{◌≡◌};
+ghost use Rattle.its_c.specs.Keeping as spec;
 
 use dma_routes::route;
 use guest_windows::Outside;
@@ -13,16 +10,14 @@ use its_types::Addr;
 use owned_machine::Machine;
 use std::alloc::{AllocError, Global};
 use std::marker::Model;
-use step_views::{adds_event, event_count, steps_add_one};
+use step_views::{adds_event, event_count};
 
-/// What a handle has. The machine isn't lent to be changed, for its events are counted.
+/// What a handle has.
 #[derive(Drop)]
 pub struct Kept {
     machine: Machine,
     desc: Desc,
     limit: u64,
-    // As many events as are mapped, or more, where it is known.
-    mapped: Option<u64>,
 }
 
 impl Model for Kept {
@@ -75,7 +70,6 @@ impl Kept {
             machine,
             desc,
             limit: u64::MAX,
-            mapped: None,
         }
     }
 
@@ -146,14 +140,11 @@ impl Kept {
         ensures where_full { is_full self.old.limit self.old.machine ≡ true → result ≡ Err Full }
         ensures no_memory { result ≡ Err NoMemory → step_adds self.old.machine 0 ≡ true }
     {
-        let Some(mapped) = mapped_then(&self.machine, self.limit, self.mapped) else {
+        if is_full(&self.machine, self.limit) {
             return Err(StepError::Full);
-        };
+        }
         match self.machine.answer(alloc, &Call::Step { its: 0 }) {
-            Ok(Reply::Step(reply)) => {
-                self.mapped = mapped;
-                Ok(reply)
-            }
+            Ok(Reply::Step(reply)) => Ok(reply),
             Ok(_) => unreachable!(),
             Err(_) => Err(StepError::NoMemory),
         }
@@ -195,39 +186,11 @@ impl Kept {
     }
 }
 
-// What is known, once the next step was made, of how many events are mapped. None where the step
-// would map another and as many are mapped as may be.
+// Whether the next step would map another event, where as many are mapped as may be. Only at the
+// limit is the command looked at.
 #[tactic(auto, unfolding(crate::specs::Keeping::is_full))]
-fn mapped_then(machine: &Machine, limit: u64, mapped: Option<u64>) -> Option<Option<u64>>
-    requires { IfSome mapped (λ n. counts.event_count machine.now 0 ≤ n) }
-    ensures known { IfSome result (λ m. IfSome m (λ n.
-        counts.event_count (step_left machine.now 0) 0 ≤ n)) }
-    ensures full { is_some result ≡ not (is_full limit machine.now) }
+fn is_full(machine: &Machine, limit: u64) -> bool
+    ensures { result ≡ spec.is_full limit machine.now }
 {
-    steps_add_one();
-    if limit == u64::MAX {
-        return Some(None);
-    }
-    if !adds_event(machine.parts(), 0) {
-        return Some(mapped);
-    }
-    let count = mapped_below(machine, limit, mapped)?;
-    Some(Some(count + 1))
-}
-
-// As many events as are mapped, or more, but fewer than the limit; none where there are not fewer.
-fn mapped_below(machine: &Machine, limit: u64, mapped: Option<u64>) -> Option<u64>
-    requires limit { limit < no_limit }
-    requires known { IfSome mapped (λ n. counts.event_count machine.now 0 ≤ n) }
-    ensures below { IfSome result (λ n. n < limit) }
-    ensures known { IfSome result (λ n. counts.event_count machine.now 0 ≤ n) }
-    ensures where_below { is_some result ≡ nat_lt (counts.event_count machine.now 0) limit }
-{
-    if let Some(count) = mapped
-        && count < limit
-    {
-        return Some(count);
-    }
-    let count = event_count(machine.parts(), 0);
-    if count < limit { Some(count) } else { None }
+    limit != u64::MAX && event_count(machine.parts(), 0) >= limit && adds_event(machine.parts(), 0)
 }

@@ -16,6 +16,8 @@ pub struct DescriptionIn {
     /// programs the LPI registers of the redistributors.
     pub programmed: u32,
     /// 0: the translator is at reset. 1: it is restored from guest memory and the registers below.
+    /// 2: so, and KVM saved the tables: a pending bit counts only where an event leads its LPI to
+    /// that virtual processor, since KVM leaves bits behind where LPIs were before they moved.
     pub restored: u32,
     /// 1: the machine has what a Linux guest counts on. 0: it hasn't.
     pub linux_guest: u32,
