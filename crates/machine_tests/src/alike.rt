@@ -12,7 +12,7 @@ use plain_machine::State;
 use std::alloc::{AllocError, Global};
 
 // Configuration bytes of LPIs 8200 to 8202, and the commands of the queue, 32 bytes each.
-const WORDS: [(u64, u64); 48] = [
+const WORDS: [(u64, u64); 51] = [
     (0x8003_0008, 0x00c1_b1a1),
     // MAPD of device 16 with 5 bits, and of device 17 with 14 bits.
     (0x8002_0000, 0x10_0000_0008),
@@ -66,12 +66,16 @@ const WORDS: [(u64, u64); 48] = [
     (0x8002_0260, 9),
     (0x8002_0270, 2),
     (0x8002_0280, 0x11_0000_0008),
+    // MAPTI 16 3 to 8200 by 5, which was never mapped.
+    (0x8002_02a0, 0x10_0000_000a),
+    (0x8002_02a8, 0x2008_0000_0003),
+    (0x8002_02b0, 5),
     // MAPD of device 18, to the table of device 16.
-    (0x8002_02a0, 0x12_0000_0008),
-    (0x8002_02b0, 0x8000_0000_800c_0000),
+    (0x8002_02c0, 0x12_0000_0008),
+    (0x8002_02d0, 0x8000_0000_800c_0000),
 ];
 
-const COMMANDS: u8 = 21;
+const COMMANDS: u8 = 22;
 
 const OFF: GicrRegisters = GicrRegisters {
     ctlr: 0,
@@ -215,7 +219,7 @@ fn at_last() -> [Call; 22] {
         peek(0x8001_0000, 64),
         peek(0x8003_0000, 65),
         Call::Copy,
-        write(0x88, 8, 0x2c0),
+        write(0x88, 8, 0x2e0),
         Call::Step { its: 0 },
         Call::Save,
         read(0, 0x90, 8),
@@ -291,7 +295,7 @@ fn play_all(alloc: Global, machine: &mut Machine, state: State) -> Result<Tally,
     for vcpu in 0..4u8 {
         state = play(alloc, machine, state, &turning_on(vcpu), &mut tally)?;
     }
-    let start = enabling(0x8107_0000_8000_0200, 0x2a0);
+    let start = enabling(0x8107_0000_8000_0200, 0x2c0);
     state = play(alloc, machine, state, &start, &mut tally)?;
     for _ in 0..COMMANDS {
         state = play(alloc, machine, state, &stepping(), &mut tally)?;
@@ -331,9 +335,9 @@ fn both_machines_answer_alike(rt: HostRuntime) {
         compared(rt.alloc(), Profile::Two),
     ];
     let expected = Ok(Ok(Tally {
-        alike: 248,
+        alike: 257,
         apart: 0,
-        ran: 19,
+        ran: 20,
     }));
     assert_eq!(rt; found, [expected, expected]);
 }

@@ -70,6 +70,7 @@ pub fn desc(
         fills: fills(alloc, words)?,
         translators: Listed::from_vec(Vec::from_slice(alloc, &[translator])?),
         requesters: RequesterRanges::none(alloc),
+        from_kvm: false,
         track: false,
     })
 }

@@ -5,6 +5,8 @@
 #[cfg(test)]
 mod alike;
 #[cfg(test)]
+mod collections;
+#[cfg(test)]
 mod commands;
 #[cfg(test)]
 mod descriptions;

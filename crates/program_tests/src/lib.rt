@@ -17,6 +17,8 @@ mod gicr_tests;
 #[cfg(test)]
 mod hostile_tests;
 #[cfg(test)]
+mod kvm_tests;
+#[cfg(test)]
 mod migration_tests;
 #[cfg(test)]
 mod pair_tests;

@@ -1,6 +1,7 @@
 //! Guest memory.
-use guest_windows::{Memory, NewError, Outside, WriteError, are_windows};
+use guest_windows::{Draft, Memory, NewError, Outside, WriteError, are_windows};
 use its_types::Addr;
+use std::alloc::Global;
 use std::test::Fail;
 
 const LAST: Addr = Addr((1 << 52) - 16);
@@ -103,5 +104,80 @@ fn bytes_are_what_was_written(rt: HostRuntime) -> Result<(), Fail> {
     let written_again = play(&mut memory, &[Act::WritesWord(0x8000_1018, 0)]);
     let copied = play(&mut copy, &COPIED);
     assert_eq!(rt; [written, written_again, copied], [6, 1, 5]);
+    Ok(())
+}
+
+// Two chunks of 256 MiB.
+const CHUNKS: [(Addr, u64); 1] = [(Addr(0x8000_0000), 0x2000_0000)];
+
+// A memory that holds its first two pages.
+fn two_pages(alloc: Global) -> Result<Memory, Fail> {
+    let mut memory = Memory::new(alloc, &CHUNKS)?;
+    memory.write(Addr(0x8000_0000), &[1; 8])?;
+    memory.write(Addr(0x8001_0000), &[2; 8])?;
+    Ok(memory)
+}
+
+// A draft over it: bytes of a page that is held and of three that aren't, one of them in the other
+// chunk, zeros where no page is, a page that is given back, and bytes outside.
+fn drafted(alloc: Global, memory: &Memory) -> Result<(Draft, bool), Fail> {
+    let mut draft = Draft::new(alloc);
+    draft.write(memory, Addr(0x8001_0004), &[3; 2])?;
+    draft.write(memory, Addr(0x8003_fffe), &[4, 5, 6, 7])?;
+    draft.write_u64(memory, Addr(0x9000_0000), 0x0102_0304_0506_0708)?;
+    draft.write(memory, Addr(0x8006_0000), &[0; 16])?;
+    draft.forget(memory, Addr(0x8000_0000), 0x1_0000)?;
+    draft.forget(memory, Addr(0x8003_ffff), 2)?;
+    let outside = draft.write(memory, Addr(0x9fff_ffff), &[8; 2]);
+    let refused = outside == Err(WriteError::Outside(Addr(0x9fff_ffff)));
+    Ok((draft, refused))
+}
+
+// The pages that a memory holds, up to four, and 0 where there are fewer.
+fn held(memory: &Memory) -> [u64; 4] {
+    let mut pages = [0; 4];
+    let mut from = Addr(0);
+    for page in &mut pages {
+        let Some((at, len)) = memory.next_page(from) else {
+            return pages;
+        };
+        *page = at.0;
+        from = Addr(at.0.saturating_add(len));
+    }
+    pages
+}
+
+const OLD: [Act; 3] = [
+    Act::Byte(0x8000_0007, Ok(1)),
+    Act::Byte(0x8001_0004, Ok(2)),
+    Act::Byte(0x8003_fffe, Ok(0)),
+];
+
+const ADOPTED: [Act; 8] = [
+    Act::Byte(0x8000_0007, Ok(0)),
+    Act::Byte(0x8001_0003, Ok(2)),
+    Act::Byte(0x8001_0004, Ok(3)),
+    Act::Byte(0x8001_0006, Ok(2)),
+    Act::Byte(0x8003_fffe, Ok(4)),
+    Act::Byte(0x8003_ffff, Ok(0)),
+    Act::Byte(0x8004_0001, Ok(7)),
+    Act::Word(0x9000_0000, Ok(0x0102_0304_0506_0708)),
+];
+
+#[test]
+fn a_draft_is_laid_over_memory(rt: HostRuntime) -> Result<(), Fail> {
+    let mut memory = two_pages(rt.alloc())?;
+    let (draft, refused) = drafted(rt.alloc(), &memory)?;
+    let before = held(&memory);
+    let old = play(&mut memory, &OLD);
+    memory.adopt(draft);
+    let adopted = play(&mut memory, &ADOPTED);
+    assert!(rt; refused);
+    assert_eq!(rt; [old, adopted], [3, 8]);
+    assert_eq!(rt; before, [0x8000_0000, 0x8001_0000, 0, 0]);
+    assert_eq!(rt;
+        held(&memory),
+        [0x8001_0000, 0x8003_0000, 0x8004_0000, 0x9000_0000]
+    );
     Ok(())
 }

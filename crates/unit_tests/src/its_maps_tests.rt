@@ -19,8 +19,11 @@ enum Act {
     UnmapDevice(u32),
     EmptyDevices,
     MapEvent(u32),
+    // So many, from 0 on.
+    MapEvents(u32),
     MoveEvent(u32),
     UnmapEvent(u32),
+    UnmapEvents(u32),
     MapCollection(u16),
     UnmapCollection(u16),
     EmptyCollections,
@@ -30,6 +33,9 @@ enum Act {
     Devices(&'static [u32]),
     Events(&'static [u32]),
     Collections(&'static [u16]),
+    // How many devices and events there are.
+    Counts(u32, u64),
+    HasEventsOf(u16, bool),
 }
 
 fn event(icid: u16) -> Event {
@@ -55,6 +61,21 @@ fn map_event(maps: &mut Maps, ev: u32) -> Result<bool, AllocError> {
     Ok(true)
 }
 
+fn map_events(maps: &mut Maps, count: u32) -> Result<bool, AllocError> {
+    for ev in 0..count {
+        if !map_event(maps, ev)? {
+            return Ok(false);
+        }
+    }
+    Ok(true)
+}
+
+fn unmap_events(maps: &mut Maps, count: u32) {
+    for ev in 0..count {
+        maps.unmap_event(HERE, EventId(ev));
+    }
+}
+
 // If the event is mapped.
 fn move_event(maps: &mut Maps, ev: u32) -> bool {
     if let LookUp::Mapped(_, _) = maps.look_up(HERE, EventId(ev)) {
@@ -74,6 +95,7 @@ fn unmap(maps: &mut Maps, act: &Act) -> bool {
     match act {
         Act::UnmapDevice(dev) => maps.unmap_device(DeviceId(*dev)),
         Act::UnmapEvent(ev) => maps.unmap_event(HERE, EventId(*ev)),
+        Act::UnmapEvents(count) => unmap_events(maps, *count),
         Act::UnmapCollection(icid) => maps.unmap_collection(Icid(*icid)),
         Act::EmptyDevices => maps.empty_devices(),
         Act::EmptyCollections => maps.empty_collections(),
@@ -112,11 +134,16 @@ fn are_collections(maps: &Maps, ids: &[u16]) -> bool {
     ids.next().is_none()
 }
 
+fn are_counted(maps: &Maps, devices: u32, events: u64) -> bool {
+    maps.device_count() == devices && maps.event_count() == events
+}
+
 // Whether the maps do as the act says.
 fn does(maps: &mut Maps, act: &Act) -> Result<bool, AllocError> {
     match act {
         Act::MapDevice(dev) => map_device(maps, *dev),
         Act::MapEvent(ev) => map_event(maps, *ev),
+        Act::MapEvents(count) => map_events(maps, *count),
         Act::MoveEvent(ev) => Ok(move_event(maps, *ev)),
         Act::MapCollection(icid) => map_collection(maps, *icid),
         Act::Device(dev, device) => Ok(maps.device(DeviceId(*dev)) == *device),
@@ -125,6 +152,8 @@ fn does(maps: &mut Maps, act: &Act) -> Result<bool, AllocError> {
         Act::Devices(ids) => Ok(are_devices(maps, ids)),
         Act::Events(ids) => Ok(are_events(maps, ids)),
         Act::Collections(ids) => Ok(are_collections(maps, ids)),
+        Act::Counts(devices, events) => Ok(are_counted(maps, *devices, *events)),
+        Act::HasEventsOf(icid, has) => Ok(maps.has_events_of(Icid(*icid)) == *has),
         other => Ok(unmap(maps, other)),
     }
 }
@@ -195,6 +224,57 @@ const COLLECTIONS: [Act; 8] = [
     Act::Collections(&[]),
 ];
 
+// An event that is mapped again counts once. A device takes its events with it.
+const COUNTS: [Act; 29] = [
+    Act::MapDevice(16),
+    Act::Counts(1, 0),
+    Act::HasEventsOf(1, false),
+    Act::MapEvent(0),
+    Act::MapEvent(5),
+    Act::MapEvent(5),
+    Act::Counts(1, 2),
+    Act::HasEventsOf(1, true),
+    Act::HasEventsOf(2, false),
+    Act::MoveEvent(5),
+    Act::HasEventsOf(1, true),
+    Act::HasEventsOf(2, true),
+    Act::UnmapEvent(0),
+    Act::HasEventsOf(1, false),
+    Act::Counts(1, 1),
+    Act::MapDevice(16),
+    Act::Counts(1, 0),
+    Act::HasEventsOf(2, false),
+    Act::MapDevice(17),
+    Act::MapEvent(3),
+    Act::Counts(2, 1),
+    Act::UnmapDevice(16),
+    Act::Counts(1, 0),
+    Act::HasEventsOf(1, false),
+    Act::MapDevice(16),
+    Act::MapEvent(0),
+    Act::EmptyDevices,
+    Act::Counts(0, 0),
+    Act::HasEventsOf(1, false),
+];
+
+const MANY: [Act; 15] = [
+    Act::MapDevice(16),
+    Act::MapEvents(600),
+    Act::Counts(1, 600),
+    Act::HasEventsOf(1, true),
+    Act::HasEventsOf(2, false),
+    Act::MoveEvent(599),
+    Act::HasEventsOf(2, true),
+    Act::HasEventsOf(65_535, false),
+    Act::UnmapEvents(599),
+    Act::Counts(1, 1),
+    Act::HasEventsOf(1, false),
+    Act::HasEventsOf(2, true),
+    Act::MapDevice(16),
+    Act::Counts(1, 0),
+    Act::HasEventsOf(2, false),
+];
+
 // Devices far apart rise, and so do many events of one device, and collections.
 #[test]
 fn maps_do_as_they_are_told(rt: HostRuntime) -> Result<(), Fail> {
@@ -205,5 +285,14 @@ fn maps_do_as_they_are_told(rt: HostRuntime) -> Result<(), Fail> {
         play(alloc, &COLLECTIONS)?,
     ];
     assert_eq!(rt; played, [12, 16, 8]);
+    Ok(())
+}
+
+// What is mapped is counted: few events, and more than a list has.
+#[test]
+fn maps_are_counted(rt: HostRuntime) -> Result<(), Fail> {
+    let alloc = rt.alloc();
+    let played = [play(alloc, &COUNTS)?, play(alloc, &MANY)?];
+    assert_eq!(rt; played, [29, 15]);
     Ok(())
 }
