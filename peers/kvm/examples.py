@@ -47,7 +47,7 @@ def restored_script(script, answers, seen):
     kept = image.from_kvm(script, answers, seen)
     kept.words = {address: word for address, word in kept.words.items()
                   if not layout.QUEUE <= address < layout.CONFIG}    # commands that have run
-    return Restored(Script("kvm_saved", script.shape, kept), kept)
+    return Restored(Script("kvm_saved", script.shape, kept, True), kept)
 
 
 def main():
