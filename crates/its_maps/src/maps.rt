@@ -1,6 +1,6 @@
 //! The maps of a translator.
-ghost use Rattle.std.specs.Prelude.{◌≡◌, ◌≤◌, ◌<◌, ◌&&◌, ℕ, true, false, None, IsSome, IfSome, OnOk};
-ghost use Rattle.std.specs.Prelude.{OnErr, length};
+ghost use Rattle.std.specs.Prelude.{◌≡◌, ◌≤◌, ◌<◌, ◌&&◌, ℕ, true, false, None, IsSome, IfSome};
+ghost use Rattle.std.specs.Prelude.{OnOk, OnErr, length};
 ghost use Rattle.std.specs.FinMap as finmap;
 ghost use Rattle.its_types.specs.Maps.{device_of, event_of, collection_of, events_at, no_maps};
 ghost use Rattle.its_types.specs.Maps.{device_mapped, device_unmapped, event_mapped};

@@ -53,7 +53,8 @@ fn put_places(
     requires low { base < 2 ^ 53 }
     requires few { count ≤ 65536 }
     ensures { (es : List (ℕ × Vcpu)) → Leaves front.old es → OnOk result (laid draft.new under.now
-        ≡ put_words (laid draft.old under.now) base (λ i. saved.collection_entry (slice_get es i)) count) }
+        ≡ put_words (laid draft.old under.now) base
+        (λ i. saved.collection_entry (slice_get es i)) count) }
 {
     let mut done = 0;
     while done < count {
@@ -75,8 +76,10 @@ fn put_some(
     requires low { base < 2 ^ 54 }
     requires some { 0 < count }
     requires few { count ≤ 512 }
-    ensures memory { (es : List (ℕ × Vcpu)) → Leaves front.old es → OnOk result (laid draft.new under.now
-        ≡ put_words (laid draft.old under.now) base (λ i. saved.collection_entry (slice_get es i)) count) }
+    ensures memory { (es : List (ℕ × Vcpu)) → Leaves front.old es
+        → OnOk result (laid draft.new under.now
+        ≡ put_words (laid draft.old under.now) base
+        (λ i. saved.collection_entry (slice_get es i)) count) }
     ensures rest { (es : List (ℕ × Vcpu)) → Leaves front.old es
         → OnOk result (Leaves front.new (drop count es)) }
 {

@@ -40,9 +40,9 @@ pub fn mark_tables(parts: &InPlace<'_>, track: &mut Tracked)
 
 fn mark_all(parts: &InPlace<'_>, track: &mut Tracked)
     requires { FitsSave parts.now }
-    ensures { track.new ≡ wrote_tables ((words_at parts.now.layout.now.shape parts.now.memory.now parts.now.first
-        ++ second_words parts.now.layout.now.shape parts.now.memory.now
-        parts.now.second)
+    ensures { track.new ≡ wrote_tables ((words_at parts.now.layout.now.shape
+        parts.now.memory.now parts.now.first
+        ++ second_words parts.now.layout.now.shape parts.now.memory.now parts.now.second)
         ++ flat_map (pending_words parts.now.layout.now.shape)
         (redistributors_of parts.now.layout.now.shape parts.now.redists.now)) track.old }
 {

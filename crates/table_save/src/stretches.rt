@@ -129,7 +129,8 @@ fn list_page(list: &mut Vec<(Addr, u64)>, entry: Level1) -> Result<(), AllocErro
 
 fn list_collections(list: &mut Vec<(Addr, u64)>, regs: &Regs) -> Result<(), AllocError>
     ensures { OnOk result ((s : shapes.Shape) (m : plain.Maps) → pairs list.new.items
-        ≡ pairs list.old.items ++ stretches_of (saved.collection_words s (record { regs = regs.now; maps = m }))) }
+        ≡ pairs list.old.items ++ stretches_of
+        (saved.collection_words s (record { regs = regs.now; maps = m }))) }
 {
     if !regs.table_valid(1) {
         return Ok(());
