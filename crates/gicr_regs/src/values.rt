@@ -2,7 +2,7 @@
 ghost use Rattle.std.specs.Prelude.{◌≡◌, ◌<◌, ◌^◌};
 ghost use Rattle.gicr_regs.specs.Registers as spec;
 
-use its_types::{Addr, Bases, Pendbaser, Propbaser, bit_of, field};
+use its_types::{Addr, Bases, Listed, Pendbaser, Propbaser, bit_of, field};
 
 /// The values of a redistributor's LPI registers, as they are saved and restored.
 #[derive(Clone, Copy, Debug, PartialEq, Eq)]
@@ -15,11 +15,11 @@ pub struct GicrRegisters {
     pub pendbaser: u64,
 }
 
-/// Those of each virtual processor, of which there are at most 16; all zero where there is none.
-#[derive(Clone, Copy, Debug, PartialEq, Eq)]
+/// Those of each virtual processor of a machine.
+#[derive(Debug, Drop)]
 pub struct GicrValues {
     /// By the number of the virtual processor.
-    pub registers: [GicrRegisters; 16],
+    pub registers: Listed<GicrRegisters>,
 }
 
 /// What GICR_PROPBASER keeps of a value.

@@ -137,7 +137,7 @@ fn told_in(told: &[u8], place: u64) -> Option<EntryText<'_>>
 
 /// What is pending at a virtual processor.
 #[tactic(auto, unfolding(crate::specs::Reading::pending_in))]
-pub fn pending_in(line: &[u8], vcpu: u8) -> Option<&[u8]>
+pub fn pending_in(line: &[u8], vcpu: u16) -> Option<&[u8]>
     ensures { option_map (λ t. t.now) result ≡ spec.pending_in vcpu line.now }
 {
     let told = after_number(after(line, b"vcpu ")?, vcpu.into())?;

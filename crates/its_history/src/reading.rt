@@ -41,7 +41,7 @@ pub fn parse_trace(
     report: &[u8],
     legs: usize,
     copies: &[bool],
-    vcpus: u8,
+    vcpus: u16,
 ) -> Result<Trace, TraceError>
     ensures { spec.IsReadAs result (spec.trace_of legs copies.now vcpus report.now) }
 {
@@ -140,7 +140,7 @@ impl<'a> Lines<'a> {
     }
 
     /// Takes the line of a virtual processor.
-    fn pending(&mut self, alloc: Global, vcpu: u8) -> Result<Text, TraceError>
+    fn pending(&mut self, alloc: Global, vcpu: u16) -> Result<Text, TraceError>
         ensures { spec.Reads (λ text. text) result (spec.left self.new)
             (spec.read (spec.pending_in vcpu) (spec.left self.old)) }
     {
@@ -157,7 +157,7 @@ impl<'a> Lines<'a> {
     }
 
     /// Takes the lines of so many virtual processors.
-    fn pending_lists(&mut self, alloc: Global, vcpus: u8) -> Result<Listed<Text>, TraceError>
+    fn pending_lists(&mut self, alloc: Global, vcpus: u16) -> Result<Listed<Text>, TraceError>
         ensures { spec.Reads (λ lists. lists) result (spec.left self.new)
             (spec.pending_from 0 vcpus (spec.left self.old)) }
     {
@@ -238,7 +238,7 @@ impl<'a> Lines<'a> {
         &mut self,
         alloc: Global,
         number: u64,
-        vcpus: u8,
+        vcpus: u16,
         next: Option<bool>,
     ) -> Result<Leg, TraceError>
         ensures { spec.Reads (λ leg. leg) result (spec.left self.new)

@@ -61,10 +61,10 @@ registers values = Registers values
 abbrev pub layout_of : Desc → Layout
 layout_of d = record { shape = d.shape; gicr = are_programmed d.tables; described = described_in d.tables; track = d.track }
 
--- each virtual processor has a pending table, unless the guest programs them
+-- each virtual processor has a pending table, or values of its LPI registers where the guest programs the tables
 abbrev pub HasTablesFor : ℕ → LpiTables → Type 0
 HasTablesFor vcpus (Described config pending) = length pending ≡ vcpus
-HasTablesFor vcpus (Registers values) = Unit {0}
+HasTablesFor vcpus (Registers values) = length values.registers ≡ vcpus
 
 -- the counts of a description are in their ranges
 pub record IsDescription (d : Desc) : Type 0 where

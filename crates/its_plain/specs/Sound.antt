@@ -9,7 +9,7 @@ use Rattle.gicr_regs.specs.Registers.{AreKept}
 use Rattle.gits_regs.specs.Registers as regs
 use Rattle.gits_regs.specs.Registers.{Registers, is_valid, is_indirect, collection_places}
 use Rattle.baser_place.specs.Places.{flat_places}
-use Rattle.its_types.specs.Ranges.{is_device_id, is_lpi, lpi_count, pending_bytes}
+use Rattle.its_types.specs.Ranges.{most_vcpus, is_device_id, is_lpi, lpi_count, pending_bytes}
 use Rattle.its_types.specs.Maps.{Maps, device_of, event_of, collection_of}
 use Rattle.its_types.specs.declared.ids.Vcpu.{Vcpu}
 use Rattle.its_types.specs.declared.machine.Shape.{Shape}
@@ -22,7 +22,7 @@ use Rattle.its_plain.specs.Plain.{Plain, Layout, Translator, Redistributor}
 
 pub record IsShape (s : Shape) : Type 0 where
   pub some_vcpus : 1 ≤ s.vcpus
-  pub most_vcpus : s.vcpus ≤ 16
+  pub most_vcpus : s.vcpus ≤ most_vcpus
   pub least_dev_bits : 16 ≤ s.dev_bits
   pub most_dev_bits : s.dev_bits ≤ 20
   pub least_lpi_bits : 14 ≤ s.lpi_bits

@@ -146,7 +146,7 @@ impl LpiTables {
     }
 
     /// Where a restore finds the tables of each of so many virtual processors.
-    pub fn bases(&self, alloc: Global, vcpus: u8) -> Result<Vec<Bases>, AllocError>
+    pub fn bases(&self, alloc: Global, vcpus: u16) -> Result<Vec<Bases>, AllocError>
         ensures { IfOk result (λ v. v.items ≡ spec.bases_given vcpus self.now) }
     {
         match self {
@@ -169,11 +169,12 @@ fn all_described(alloc: Global, config: Addr, pending: &[Addr]) -> Result<Vec<Ba
 }
 
 // The registers of the first virtual processors, as the values give them.
-fn all_restored(alloc: Global, values: &GicrValues, vcpus: u8) -> Result<Vec<Bases>, AllocError>
+fn all_restored(alloc: Global, values: &GicrValues, vcpus: u16) -> Result<Vec<Bases>, AllocError>
     ensures { IfOk result (λ v. v.items ≡ spec.bases_given vcpus (spec.registers values.now)) }
 {
     values
         .registers
+        .as_slice()
         .iter()
         .take(usize::from(vcpus))
         .map(|registers| restored_bases(registers))

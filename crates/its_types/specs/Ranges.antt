@@ -5,6 +5,10 @@ use Rattle.std.specs.Prelude.{ℕ, ◌^◌, ◌-◌, Bool, ◌&&◌, nat_lt, nat
 abbrev pub first_lpi : ℕ
 first_lpi = 8192
 
+-- how many virtual processors a machine has at most
+abbrev pub most_vcpus : ℕ
+most_vcpus = 512
+
 abbrev pub is_device_id : ℕ → ℕ → Bool
 is_device_id dev_bits id = nat_lt id (2 ^ dev_bits)
 

@@ -25,7 +25,10 @@ pub struct Icid(pub u16);
 
 /// The number of a virtual processor.
 #[derive(Clone, Copy, Debug, PartialEq, Eq, PartialOrd, Ord)]
-pub struct Vcpu(pub u8);
+pub struct Vcpu(pub u16);
+
+/// How many virtual processors a machine has at most.
+pub const MOST_VCPUS: u16 = 512;
 
 /// A guest physical address.
 #[derive(Clone, Copy, Debug, PartialEq, Eq, PartialOrd, Ord)]
@@ -77,11 +80,11 @@ impl Icid {
 }
 
 impl Vcpu {
-    /// Whether a machine can have it: there are at most 16.
+    /// Whether a machine can have it: there are at most 512.
     pub fn in_range(&self) -> bool
-        ensures { IsTrue result ↔ (self.now.0 < 16) }
+        ensures { IsTrue result ↔ (self.now.0 < spec.most_vcpus) }
     {
-        self.0 < 16
+        self.0 < MOST_VCPUS
     }
 }
 

@@ -18,7 +18,7 @@ pub use bits::{bit_of, field, fits_bits};
 pub use fields::{le_u32, le_u64, put_le_u64};
 pub use gate::{Gate, Open, Point};
 pub use halves::{high_half, join_halves, low_half};
-pub use ids::{Addr, DeviceId, EventId, FIRST_LPI, Icid, Intid, Target, Vcpu};
+pub use ids::{Addr, DeviceId, EventId, FIRST_LPI, Icid, Intid, MOST_VCPUS, Target, Vcpu};
 pub use listed::Listed;
 pub use machine::{Limits, Part, Placed, Profile, Shape, Word};
 pub use translation::{Bases, Device, Event, Pendbaser, Propbaser};

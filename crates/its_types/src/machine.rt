@@ -57,8 +57,8 @@ pub enum Profile {
 /// How large a machine is.
 #[derive(Clone, Copy, Debug, PartialEq, Eq)]
 pub struct Shape {
-    /// How many virtual processors it has, 1 to 16.
-    pub vcpus: u8,
+    /// How many virtual processors it has, 1 to 512.
+    pub vcpus: u16,
     /// How many bits a DeviceID has, 16 to 20.
     pub dev_bits: u8,
     /// How many bits the INTID of an LPI has, 14 to 20.

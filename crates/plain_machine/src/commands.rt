@@ -151,7 +151,7 @@ impl State {
             Reason::CollectionRange,
         )?;
         self.follow(alloc, its, icid, target)?;
-        translator::map_collection(&mut self.translators, its, icid, Vcpu(target as u8))?;
+        translator::map_collection(&mut self.translators, its, icid, Vcpu(target as u16))?;
         Ok(())
     }
 

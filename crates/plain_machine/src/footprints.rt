@@ -1,5 +1,6 @@
 //! The parts of a machine that a call reads or changes.
 ghost use Rattle.std.specs.Prelude.{◌≡◌, ◌≤◌, ◌++◌, ◌∷◌, [], OnOk};
+ghost use Rattle.its_types.specs.Ranges.{most_vcpus};
 ghost use Rattle.its_types.specs.declared.machine.Part.TheVariants as part;
 ghost use Rattle.its_plain.specs.Parts as parts;
 
@@ -225,7 +226,7 @@ impl State {
             return Ok(());
         }
         let before = self.collection(its, icid);
-        add_moved_targets(found, self.layout.shape.profile, before, Vcpu(to as u8))
+        add_moved_targets(found, self.layout.shape.profile, before, Vcpu(to as u16))
     }
 
     // Both, where both are virtual processors.
@@ -237,8 +238,8 @@ impl State {
         if from >= vcpus || to >= vcpus {
             return Ok(());
         }
-        add_part(found, Part::Pend(Vcpu(from as u8)))?;
-        add_part(found, Part::Pend(Vcpu(to as u8)))
+        add_part(found, Part::Pend(Vcpu(from as u16)))?;
+        add_part(found, Part::Pend(Vcpu(to as u16)))
     }
 }
 
@@ -314,21 +315,21 @@ fn add_translators(found: &mut Vec<Part>, count: usize) -> Result<(), AllocError
 }
 
 fn add_confs(found: &mut Vec<Part>, count: usize) -> Result<(), AllocError>
-    requires { count ≤ 256 }
+    requires { count ≤ most_vcpus }
     ensures { OnOk result (found.new.items ≡ found.old.items ++ parts.confs_below count) }
 {
     for vcpu in 0..count {
-        add_part(found, Part::Conf(Vcpu(vcpu as u8)))?;
+        add_part(found, Part::Conf(Vcpu(vcpu as u16)))?;
     }
     Ok(())
 }
 
 fn add_pends(found: &mut Vec<Part>, count: usize) -> Result<(), AllocError>
-    requires { count ≤ 256 }
+    requires { count ≤ most_vcpus }
     ensures { OnOk result (found.new.items ≡ found.old.items ++ parts.pends_below count) }
 {
     for vcpu in 0..count {
-        add_part(found, Part::Pend(Vcpu(vcpu as u8)))?;
+        add_part(found, Part::Pend(Vcpu(vcpu as u16)))?;
     }
     Ok(())
 }

@@ -4,6 +4,7 @@ ghost use Rattle.std.specs.Prelude.{length, replicate, nat_le, sum};
 ghost use Rattle.gits_regs.specs.Registers.{reset};
 ghost use Rattle.its_types.specs.Maps.{no_maps};
 ghost use Rattle.its_types.specs.Lpis.{no_bases};
+ghost use Rattle.its_types.specs.Ranges.{most_vcpus};
 ghost use Rattle.its_types.specs.declared.ids.Addr.{Addr as Address};
 ghost use Rattle.guest_windows.specs.Windows.{read_at, zeros};
 ghost use Rattle.guest_windows.specs.Fields.{pairs};
@@ -99,14 +100,14 @@ fn are_within(windows: &[(Addr, u64)], limit: u64) -> bool
 
 // Each pending table lies in one window, or the first virtual processor whose table doesn't.
 fn pending_inside(memory: &Memory, size: u64, bases: &[Addr]) -> Result<(), DescFault>
-    requires few { length bases.now ≤ 16 }
+    requires few { length bases.now ≤ most_vcpus }
     requires some { 0 < size }
     ensures inside { result ≡ spec.pending_inside memory.now size 0 bases.now }
     ensures low { OnOk result (All (λ (a : Address). a.0 < 2 ^ 52) bases.now) }
 {
     for (vcpu, base) in bases.iter().enumerate() {
         if !memory.inside(*base, size) {
-            return Err(DescFault::Pending(Vcpu(vcpu as u8)));
+            return Err(DescFault::Pending(Vcpu(vcpu as u16)));
         }
     }
     Ok(())

@@ -3,6 +3,7 @@ ghost use Rattle.std.specs.Prelude.{◌≡◌, ◌≤◌, ◌++◌, [], OnOk, If
 ghost use Rattle.std.specs.Prelude.{length};
 ghost use Rattle.std.specs.List.{flat_map};
 ghost use Rattle.std.specs.Option.{option_map};
+ghost use Rattle.its_types.specs.Ranges.{most_vcpus};
 ghost use Rattle.plain_machine.specs.Memories.{put_all};
 ghost use Rattle.its_plain.specs.Answer as answers;
 ghost use Rattle.plain_machine.specs.Outcome.{IsTested};
@@ -167,12 +168,12 @@ fn add_pending(
 ) -> Result<(), AllocError>
     requires least { 14 ≤ shape.now.lpi_bits }
     requires most { shape.now.lpi_bits ≤ 20 }
-    requires few { length redists.now ≤ 16 }
+    requires few { length redists.now ≤ most_vcpus }
     ensures { OnOk result (areas.new.items
         ≡ areas.old.items ++ regions.areas_from (regions.pending_area shape.now) 0 redists.now) }
 {
     for (vcpu, redist) in redists.iter().enumerate() {
-        redist.add_pending_area(areas, shape, Vcpu(vcpu as u8))?;
+        redist.add_pending_area(areas, shape, Vcpu(vcpu as u16))?;
     }
     Ok(())
 }
@@ -184,12 +185,12 @@ fn add_configurations(
 ) -> Result<(), AllocError>
     requires least { 14 ≤ shape.now.lpi_bits }
     requires most { shape.now.lpi_bits ≤ 20 }
-    requires few { length redists.now ≤ 16 }
+    requires few { length redists.now ≤ most_vcpus }
     ensures { OnOk result (areas.new.items
         ≡ areas.old.items ++ regions.areas_from (regions.config_area shape.now) 0 redists.now) }
 {
     for (vcpu, redist) in redists.iter().enumerate() {
-        redist.add_config_area(areas, shape, Vcpu(vcpu as u8))?;
+        redist.add_config_area(areas, shape, Vcpu(vcpu as u16))?;
     }
     Ok(())
 }

@@ -36,9 +36,10 @@ impl Model for State {
     } };
 
     ghost use Rattle.its_plain.specs.Sound.{IsShape};
+    ghost use Rattle.its_types.specs.Ranges.{most_vcpus};
 
-    ghost invariant = { λ s. IsShape s.layout.shape × (length s.redistributors.items ≤ 16)
-        × (length s.translators.items ≤ 256) };
+    ghost invariant = { λ s. IsShape s.layout.shape
+        × (length s.redistributors.items ≤ most_vcpus) × (length s.translators.items ≤ 256) };
 }
 
 impl State {

@@ -2,6 +2,7 @@
 use Rattle.std.proofs.Common.{◌≡◌, ℕ, ◌≤◌, Bool, true, ◌&&◌, nat_lt, nat_le, List, [], ◌∷◌, length, drop, Some, None, refl, sym, subst, ◌∙◌, arith}
 use Rattle.std.specs.List.{AllByRecursion, list_all}
 use Rattle.std.proofs.lemmas.Bool.{and_parts}
+use Rattle.its_types.specs.Ranges.{most_vcpus}
 use Rattle.its_plain.specs.Plain.{Plain}
 use Rattle.its_plain.specs.History.{after}
 use Rattle.its_plain.specs.Runs.{Leg, IsRun}
@@ -67,8 +68,8 @@ pub run_reports : RunReportsAreRead
 run_reports script first copies hs within starts run =
     let d = script.desc in
     let bytes : HasBytes first = start_bytes d first (fills_small d.fills within.fills) starts in
-    let few : d.shape.vcpus ≤ 16 = within.description.shape.most_vcpus in
-    let count = start_count d first few within.description.tables within.registers starts in
+    let few : d.shape.vcpus ≤ most_vcpus = within.description.shape.most_vcpus in
+    let count = start_count d first within.description.tables starts in
     let can = runs_can d first script.legs copies hs bytes count within.legs run in
     reports_again (length script.legs) copies d.shape.vcpus (reported first script.legs copies hs) (omega (arith, within.most_legs)) (omega (arith, few)) can.0
     can.1

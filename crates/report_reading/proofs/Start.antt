@@ -1,5 +1,5 @@
 -- The first state of a machine: what is in memory, and how many redistributors there are.
-use Rattle.std.proofs.Common.{◌≡◌, ℕ, suc, ◌+◌, ◌≤◌, Bool, true, false, List, [], ◌∷◌, length, map, take, Option, Some, None, Result, Ok, Err, IfOk, refl, sym}
+use Rattle.std.proofs.Common.{◌≡◌, ℕ, suc, ◌+◌, Bool, true, false, List, [], ◌∷◌, length, map, take, Option, Some, None, Result, Ok, Err, IfOk, refl, sym}
 use Rattle.std.proofs.Common.{subst, ap, ◌∙◌, arith}
 use Rattle.std.specs.Prelude.{IfSome, ok_or}
 use Rattle.std.proofs.lemmas.List.{length-map, length-replicate, length-take-le}
@@ -22,7 +22,6 @@ use Rattle.its_plain.specs.declared.desc.DescFault.TheVariants.{Windows, Config,
 use Rattle.its_plain.specs.declared.desc.Fill.{Fill}
 use Rattle.its_plain.specs.declared.desc.LpiTables.{LpiTables}
 use Rattle.its_plain.specs.declared.desc.LpiTables.TheVariants.{Described, Registers}
-use Rattle.event_script.specs.Limits.{HasRegisters}
 use Rattle.report_reading.specs.Bytes.{AllBytes, HasBytes, FillBytes}
 use Rattle.report_reading.specs.Laws.{MachinesStartWithBytes}
 use Rattle.report_reading.proofs.Memory.{empty_windows, written_small}
@@ -109,15 +108,15 @@ made_count d h =
     after_ok P (all_new [] 0 d.requesters) _ (λ _.
     with_ok (HasAsMany d.shape.vcpus) P (first_redistributors d.shape memory d.tables) _ (first_count d.shape memory d.tables h) (λ rs count. count))))))
 
-given_count : (vcpus : ℕ) (t : LpiTables) → vcpus ≤ 16 → HasTablesFor vcpus t → HasRegisters t → length (bases_given vcpus t) ≡ vcpus
-given_count vcpus (Described config pending) few h r = length-map pending (described_bases config) ∙ h
-given_count vcpus (Registers values) few h r =
-    length-map (take vcpus values.registers) restored_bases ∙ length-take-le vcpus values.registers (omega (arith, few, r))
+given_count : (vcpus : ℕ) (t : LpiTables) → HasTablesFor vcpus t → length (bases_given vcpus t) ≡ vcpus
+given_count vcpus (Described config pending) h = length-map pending (described_bases config) ∙ h
+given_count vcpus (Registers values) h =
+    length-map (take vcpus values.registers) restored_bases ∙ length-take-le vcpus values.registers (omega (arith, h))
 
-starts_count : (restored : Bool) (values : List (Option RegValues)) (vcpus : ℕ) (t : LpiTables) (base u : Plain) → vcpus ≤ 16 → HasTablesFor vcpus t
-    → HasRegisters t → HasAll vcpus base → StartsAt restored values (bases_given vcpus t) base u → HasAll vcpus u
-starts_count false values vcpus t base u few h r made is = subst (HasAll vcpus) (sym is) made
-starts_count true values vcpus t base u few h r made is = is.vcpus ∙ given_count vcpus t few h r
+starts_count : (restored : Bool) (values : List (Option RegValues)) (vcpus : ℕ) (t : LpiTables) (base u : Plain) → HasTablesFor vcpus t
+    → HasAll vcpus base → StartsAt restored values (bases_given vcpus t) base u → HasAll vcpus u
+starts_count false values vcpus t base u h made is = subst (HasAll vcpus) (sym is) made
+starts_count true values vcpus t base u h made is = is.vcpus ∙ given_count vcpus t h
 
 led_count : (ts : List Translator) (vcpu : ℕ) (rs : List Redistributor) → length (led_to ts vcpu rs) ≡ length rs
 led_count ts vcpu [] = refl
@@ -128,10 +127,10 @@ unfolding without_stale
 kept_count n true u h = led_count u.translators 0 u.redistributors ∙ h
 kept_count n false u h = h
 
-pub start_count : (d : Desc) (u : Plain) → d.shape.vcpus ≤ 16 → HasTablesFor d.shape.vcpus d.tables → HasRegisters d.tables → IsFirstState d u
+pub start_count : (d : Desc) (u : Plain) → HasTablesFor d.shape.vcpus d.tables → IsFirstState d u
     → length u.redistributors ≡ d.shape.vcpus
-start_count d u few h r is =
+start_count d u h is =
     let read : HasAll d.shape.vcpus is.read =
-    starts_count (is_restored d) (values_of d) d.shape.vcpus d.tables is.base is.read few h r
+    starts_count (is_restored d) (values_of d) d.shape.vcpus d.tables is.base is.read h
     (if_ok_at (HasAll d.shape.vcpus) (made d) is.base (made_count d h) is.made_is) is.starts in
     subst (HasAll d.shape.vcpus) (sym is.kept) (kept_count d.shape.vcpus d.from_kvm is.read read)

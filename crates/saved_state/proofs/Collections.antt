@@ -9,6 +9,7 @@ use lib.Dec.{T}
 use Rattle.std.proofs.lemmas.Bool.{eq-eqb, ne_eqb, lt-ltb, ltb-true}
 use Rattle.std.proofs.lemmas.Option.{same_Some}
 use Rattle.its_types.specs.Bits.{field, bit_of}
+use Rattle.its_types.specs.Ranges.{most_vcpus}
 use Rattle.guest_windows.specs.Windows.{Window, number_at}
 use Rattle.gits_regs.specs.Registers.{Registers, is_valid, collection_places}
 use Rattle.table_entries.specs.Fields.{CollectionFields}
@@ -63,8 +64,8 @@ within_is n i q e =
       | false ↦ λ ge s. absurd cc
     ] refl e
 
--- an entry whose processor is below 16 counts
-one_counts : (s : Shape) (c : ℕ × Vcpu) → c.1.0 < 16 → counted s (Some (fields_of c)) ≡ Some (fields_of c)
+-- an entry of a processor that a machine can have counts
+one_counts : (s : Shape) (c : ℕ × Vcpu) → c.1.0 < most_vcpus → counted s (Some (fields_of c)) ≡ Some (fields_of c)
 one_counts s c low =
     ap (λ (b : Bool). cond (s.linux && b) None (Some (fields_of c))) (ne_eqb c.1.0 0xFFFFFFFF (λ e. omega arith))
     ∙ (elim s.linux as (λ b. cond (b && false) None (Some (fields_of c)) ≡ Some (fields_of c)) [ true ↦ refl | false ↦ refl ])
@@ -83,7 +84,7 @@ counted_is s c f =
       | false ↦ λ e. same_Some (fields_of c) f e
     ]
 
-module _ (s : Shape) (memory : List Window) (t : Translator) (sound : IsTranslator s t) (valid : is_valid t.regs.baser1 ≡ true) (few : s.vcpus ≤ 16)
+module _ (s : Shape) (memory : List Window) (t : Translator) (sound : IsTranslator s t) (valid : is_valid t.regs.baser1 ≡ true) (few : s.vcpus ≤ most_vcpus)
     (found : (i : ℕ) → i < collection_places t.regs → number_at memory (collection_address t.regs i) ≡ Some (collection_word s t i)) where
   abbrev r : Registers
   r = t.regs

@@ -8,6 +8,7 @@ use Rattle.std.proofs.lemmas.Bool.{and_parts, eq-eqb, lt-ltb, ltb-true}
 use Rattle.std.proofs.lemmas.Option.{same_Some}
 use Rattle.gits_regs.specs.Registers.{Registers, collection_places}
 use Rattle.its_types.specs.Maps.{pair_cmp, event_of, collection_of}
+use Rattle.its_types.specs.Ranges.{most_vcpus}
 use Rattle.its_types.specs.declared.ids.Vcpu.{Vcpu}
 use Rattle.its_types.specs.declared.machine.Shape.{Shape}
 use Rattle.its_types.specs.declared.translation.Event.{Event}
@@ -23,7 +24,7 @@ pub record IsEntered (s : Shape) (r : Registers) (c : ℕ × Vcpu) : Type 0 wher
   pub target : (c.1.0 < s.vcpus) ⊎ ((s.linux ≡ true) × (c.1 ≡ never_mapped))
 
 -- it has room in an entry
-pub target_low : (s : Shape) (r : Registers) (c : ℕ × Vcpu) → s.vcpus ≤ 16 → IsEntered s r c → c.1.0 < 2 ^ 36
+pub target_low : (s : Shape) (r : Registers) (c : ℕ × Vcpu) → s.vcpus ≤ most_vcpus → IsEntered s r c → c.1.0 < 2 ^ 36
 target_low s r c few h =
     elim h.target [
       | inl target ↦ omega (arith, target, few)

@@ -1,7 +1,7 @@
 -- A restore finds the tables where a description says.
 use Rattle.std.proofs.Common.{◌≡◌, ◌≤◌, ◌<◌, ℕ, zero, suc, Bool, true, false, cond, List, [], ◌∷◌, map, length, take, get_or, Some, refl, sym, ap, ◌∙◌, arith}
 use Rattle.std.specs.Prelude.{slice_get}
-use Rattle.std.proofs.lemmas.List.{length-map, length-take}
+use Rattle.std.proofs.lemmas.List.{length-map, length-take-le}
 use Rattle.gicr_regs.specs.Registers.{all_restored_bases, restored_bases}
 use Rattle.gicr_regs.specs.declared.values.GicrRegisters.{GicrRegisters}
 use Rattle.gicr_regs.specs.declared.values.GicrValues.{GicrValues}
@@ -26,11 +26,11 @@ given_is d values given = tables_given d.shape d.track d.tables values given
 
 -- ---- there are as many as virtual processors
 
-pub as_many : (l : Layout) (values : GicrValues) → IsLayout l → length values.registers ≡ 16 → length (bases_to_restore l values) ≡ l.shape.vcpus
+pub as_many : (l : Layout) (values : GicrValues) → IsLayout l → length values.registers ≡ l.shape.vcpus → length (bases_to_restore l values) ≡ l.shape.vcpus
 as_many l values sound all =
     elim l.gicr as (λ b. l.gicr ≡ b → length (cond b (all_restored_bases l.shape.vcpus values) l.described) ≡ l.shape.vcpus) [
-      | true ↦ λ e. length-map (take l.shape.vcpus values.registers) restored_bases ∙ length-take l.shape.vcpus values.registers
-          ∙ (let most = sound.shape.most_vcpus in omega (arith, all))
+      | true ↦ λ e. length-map (take l.shape.vcpus values.registers) restored_bases
+          ∙ length-take-le l.shape.vcpus values.registers (omega (arith, all))
       | false ↦ λ e. sound.described e
     ] refl
 
