@@ -5,7 +5,7 @@ ghost use Rattle.lpi_pending.specs.InHand.{redistributor_of};
 
 use its_types::Intid;
 use lpi_config::Conf;
-use lpi_pending::{Pend, Pending};
+use lpi_pending::Pend;
 use std::alloc::{AllocError, Global};
 
 /// How an LPI stands at a redistributor.
@@ -56,14 +56,12 @@ pub fn lpi_state(conf: &Conf, pend: &Pend, intid: Intid) -> Option<LpiState>
     ensures { result ≡ spec.lpi_state pend.now.pending.lpi_bits
         (redistributor_of conf.now pend.now) intid.0 }
 {
-    let Conf { config, .. } = conf;
-    let Pend { pending, .. } = pend;
-    if !intid.in_range(pending.lpi_bits()) {
+    if !intid.in_range(pend.lpi_bits()) {
         return None;
     }
-    let byte = config.byte(intid);
+    let byte = conf.byte(intid);
     Some(LpiState {
-        pending: pending.has(intid),
+        pending: pend.has(intid),
         enabled: byte % 2 == 1,
         priority: byte & 0xfc,
     })
@@ -89,22 +87,20 @@ pub fn waiting_at(alloc: Global, conf: &Conf, pend: &Pend) -> Result<Waiting, Al
     requires { pend.now.pending.lpi_bits ≡ conf.now.config.lpi_bits }
     ensures { IfOk result (λ w. w ≡ spec.waiting (redistributor_of conf.now pend.now)) }
 {
-    let Conf { config, .. } = conf;
-    let Pend { pending, .. } = pend;
-    match pending.first_by_priority(config, 255) {
+    match pend.first_by_priority(conf, 255) {
         Some(intid) => Ok(Waiting::Enabled {
             intid,
-            priority: config.byte(intid) & 0xfc,
+            priority: conf.byte(intid) & 0xfc,
         }),
-        None => lowest(alloc, pending),
+        None => lowest(alloc, pend),
     }
 }
 
 // The lowest LPI that is pending, where none is enabled.
-fn lowest(alloc: Global, pending: &Pending) -> Result<Waiting, AllocError>
-    ensures { IfOk result (λ w. w ≡ spec.lowest pending.now.lpis) }
+fn lowest(alloc: Global, pend: &Pend) -> Result<Waiting, AllocError>
+    ensures { IfOk result (λ w. w ≡ spec.lowest pend.now.pending.lpis) }
 {
-    let lpis = pending.lpis(alloc)?;
+    let lpis = pend.lpis(alloc)?;
     match lpis.first() {
         Some(intid) => Ok(Waiting::NotEnabled(*intid)),
         None => Ok(Waiting::Nothing),

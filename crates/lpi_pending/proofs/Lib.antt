@@ -11,3 +11,6 @@ pub mod Moves
 pub mod Nexts
 pub mod Tables
 pub mod Bests
+pub mod AskedBases
+pub mod Zeros
+pub mod TurnedOn

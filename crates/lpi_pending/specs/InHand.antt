@@ -1,5 +1,5 @@
 -- Redistributors by the number of their virtual processor: of each the two parts, in hand or not.
-use Rattle.std.specs.Prelude.{◌≡◌, ℕ, Bool, List, Option, None, slice_index_or, slice_set, replicate, refl}
+use Rattle.std.specs.Prelude.{◌≡◌, ℕ, Bool, List, Option, None, slice_index_or, slice_set, length, replicate, refl}
 use Rattle.std.specs.Coded.{Coded, code_by, coded×, coded_bool, coded_list, coded_option}
 use Rattle.its_types.specs.declared.machine.Shape.{Shape}
 use Rattle.its_types.specs.declared.translation.Bases.{Bases}
@@ -7,9 +7,9 @@ use Rattle.its_types.specs.Lpis.{bases_code}
 use Rattle.gicr_regs.specs.Redistributors.{Redistributor, PendState, joined}
 use Rattle.lpi_config.specs.Conf.{conf_state}
 use Rattle.lpi_config.specs.Configurations.{Configuration, configuration_code}
-use Rattle.lpi_config.specs.declared.conf.Conf.{Conf}
+use Rattle.lpi_config.specs.Conf.{Conf}
 use Rattle.lpi_pending.specs.PendingSets.{PendingSet, pending_set_code}
-use Rattle.lpi_pending.specs.declared.pend.Pend.{Pend}
+use Rattle.lpi_pending.specs.Pend.{Pend}
 
 -- ---- one redistributor
 
@@ -48,9 +48,16 @@ set_conf r vcpu c = record r { confs = slice_set r.confs vcpu c }
 abbrev pub set_pend : RedistParts → ℕ → Option Pend → RedistParts
 set_pend r vcpu p = record r { pends = slice_set r.pends vcpu p }
 
--- sixteen places of each, all empty
-abbrev pub no_redists : RedistParts
-no_redists = record { confs = replicate 16 None; pends = replicate 16 None }
+-- places of each for so many virtual processors, all empty
+abbrev pub no_redists : ℕ → RedistParts
+no_redists n = record { confs = replicate n None; pends = replicate n None }
+
+-- every place for so many virtual processors is empty
+pub record AreEmpty (n : ℕ) (r : RedistParts) : Type 0 where
+  pub confs : (vcpu : ℕ) → conf_in r vcpu ≡ None
+  pub pends : (vcpu : ℕ) → pend_in r vcpu ≡ None
+  pub conf_room : length r.confs ≡ n
+  pub pend_room : length r.pends ≡ n
 
 -- ---- a code for each, by which models tell values apart
 

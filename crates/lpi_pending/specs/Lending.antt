@@ -1,10 +1,10 @@
 -- A part of a redistributor that is lent out of its place.
 use Rattle.std.specs.Prelude.{ℕ, Some}
 use Rattle.std.specs.Borrow.{Lends, MutBor, Fml}
-use Rattle.lpi_config.specs.declared.conf.Conf.{Conf}
+use Rattle.lpi_config.specs.Conf.{Conf}
 use Rattle.lpi_config.specs.contracts.conf.Conf.{the_row as conf_row}
 use Rattle.lpi_pending.specs.InHand.{RedistParts, set_conf, set_pend}
-use Rattle.lpi_pending.specs.declared.pend.Pend.{Pend}
+use Rattle.lpi_pending.specs.Pend.{Pend}
 use Rattle.lpi_pending.specs.contracts.pend.Pend.{the_row as pend_row}
 use Rattle.lpi_pending.specs.contracts.places.HeldConf.{the_row as held_conf_row}
 use Rattle.lpi_pending.specs.contracts.places.HeldPend.{the_row as held_pend_row}

@@ -11,7 +11,8 @@ mod places;
 mod steps;
 
 pub use gicr::{
-    changes_pending, conf_set, conf_write, gicr_read, gicr_write, reads_tables, turn_off_write,
+    LpiRoom, changes_pending, conf_set, conf_write, gicr_read, gicr_write, reads_tables, room_for,
+    turn_off_write,
 };
 pub use lanes::first_nonzero;
 pub use pend::Pend;

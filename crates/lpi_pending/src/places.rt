@@ -1,10 +1,10 @@
 //! The redistributors that are in hand, each in two parts.
-ghost use Rattle.std.specs.Prelude.{◌≡◌, ◌<◌, Some, None, is_some, true, length, replicate};
-ghost use Rattle.std.specs.Prelude.{slice_set};
+ghost use Rattle.std.specs.Prelude.{◌≡◌, ◌++◌, replicate, length};
 
 use crate::pend::Pend;
 use its_types::Vcpu;
 use lpi_config::Conf;
+use std::alloc::{AllocError, Global};
 use std::marker::Model;
 
 // A configuration in hand.
@@ -14,7 +14,7 @@ struct HeldConf {
 }
 
 impl Model for HeldConf {
-    ghost use Rattle.lpi_config.specs.declared.conf.Conf.{Conf};
+    ghost use Rattle.lpi_config.specs.Conf.{Conf};
     ghost use Rattle.lpi_pending.specs.InHand.{held_conf_code};
 
     ghost Value = { Conf };
@@ -44,7 +44,7 @@ struct HeldPend {
 }
 
 impl Model for HeldPend {
-    ghost use Rattle.lpi_pending.specs.declared.pend.Pend.{Pend};
+    ghost use Rattle.lpi_pending.specs.Pend.{Pend};
     ghost use Rattle.lpi_pending.specs.InHand.{held_pend_code};
 
     ghost Value = { Pend };
@@ -67,69 +67,61 @@ impl HeldPend {
     }
 }
 
-/// Places for the redistributors of virtual processors 0 to 15, of each for both parts. A place
+/// Places for the redistributors of a machine's virtual processors, of each for both parts. A place
 /// holds one part, which is then in hand, or is empty.
 #[derive(Drop)]
 pub struct Redists {
-    confs: [Option<HeldConf>; 16],
-    pends: [Option<HeldPend>; 16],
+    confs: Vec<Option<HeldConf>>,
+    pends: Vec<Option<HeldPend>>,
 }
 
 impl Model for Redists {
-    ghost use Rattle.std.specs.Prelude.{◌≡◌, length};
     ghost use Rattle.lpi_pending.specs.InHand.{RedistParts, redist_parts_code};
 
     ghost Value = { RedistParts };
 
     ghost coded = { redist_parts_code };
 
-    ghost view = { λ r. record { confs = r.confs; pends = r.pends } };
-
-    ghost invariant = { λ r. (length r.confs ≡ 16) × (length r.pends ≡ 16) };
+    ghost view = { λ r. record { confs = r.confs.items; pends = r.pends.items } };
 }
 
 impl Redists {
-    ghost use Rattle.std.specs.Prelude.{◌≡◌, ◌<◌, Some, None, is_some, true, length};
+    ghost use Rattle.std.specs.Prelude.{◌≡◌, ◌<◌, Some, None, IfOk, is_some, true, length};
     ghost use Rattle.std.specs.Borrow.{sem};
     ghost use Rattle.lpi_pending.specs.InHand.{conf_in, pend_in, set_conf, set_pend, no_redists};
     ghost use Rattle.lpi_pending.specs.Lending.{LendsConf, LendsPend};
 
-    /// Sixteen empty places of each.
-    pub fn new() -> Redists
-        ensures { result ≡ no_redists }
+    /// Empty places for so many virtual processors.
+    pub fn with_room(alloc: Global, vcpus: u16) -> Result<Redists, AllocError>
+        ensures { IfOk result (λ r. r ≡ no_redists vcpus) }
     {
-        Redists {
-            confs: [
-                None, None, None, None, None, None, None, None, None, None, None, None, None, None,
-                None, None,
-            ],
-            pends: [
-                None, None, None, None, None, None, None, None, None, None, None, None, None, None,
-                None, None,
-            ],
+        let mut confs = Vec::new(alloc);
+        let mut pends = Vec::new(alloc);
+        for _ in 0..vcpus {
+            confs.push(None)?;
+            pends.push(None)?;
         }
+        Ok(Redists { confs, pends })
     }
 
     /// Puts a configuration into its empty place.
     pub fn place_conf(&mut self, vcpu: Vcpu, conf: Box<Conf>)
-        requires in_range { vcpu.0 < 16 }
+        requires in_range { vcpu.0 < length self.old.confs }
         requires empty { conf_in self.old vcpu.0 ≡ None }
         ensures placed { self.new ≡ set_conf self.old vcpu.0 (Some conf.value) }
-        ensures confs { length self.new.confs ≡ 16 }
-        ensures pends { length self.new.pends ≡ 16 }
+        ensures room { length self.new.confs ≡ length self.old.confs }
     {
-        self.confs[vcpu.0 as usize] = Some(HeldConf { conf });
+        self.confs[usize::from(vcpu.0)] = Some(HeldConf { conf });
     }
 
     /// Puts what is pending into its empty place.
     pub fn place_pend(&mut self, vcpu: Vcpu, pend: Box<Pend>)
-        requires in_range { vcpu.0 < 16 }
+        requires in_range { vcpu.0 < length self.old.pends }
         requires empty { pend_in self.old vcpu.0 ≡ None }
         ensures placed { self.new ≡ set_pend self.old vcpu.0 (Some pend.value) }
-        ensures confs { length self.new.confs ≡ 16 }
-        ensures pends { length self.new.pends ≡ 16 }
+        ensures room { length self.new.pends ≡ length self.old.pends }
     {
-        self.pends[vcpu.0 as usize] = Some(HeldPend { pend });
+        self.pends[usize::from(vcpu.0)] = Some(HeldPend { pend });
     }
 
     /// Takes a configuration that is in hand, and leaves its place empty.
@@ -137,6 +129,7 @@ impl Redists {
         requires { is_some (conf_in self.old vcpu.0) ≡ true }
         ensures value { conf_in self.old vcpu.0 ≡ Some result.value }
         ensures taken { self.new ≡ set_conf self.old vcpu.0 None }
+        ensures room { length self.new.confs ≡ length self.old.confs }
     {
         match self.confs[vcpu.0 as usize].take() {
             Some(HeldConf { conf }) => conf,
@@ -149,6 +142,7 @@ impl Redists {
         requires { is_some (pend_in self.old vcpu.0) ≡ true }
         ensures value { pend_in self.old vcpu.0 ≡ Some result.value }
         ensures taken { self.new ≡ set_pend self.old vcpu.0 None }
+        ensures room { length self.new.pends ≡ length self.old.pends }
     {
         match self.pends[vcpu.0 as usize].take() {
             Some(HeldPend { pend }) => pend,
