@@ -1,6 +1,6 @@
 -- What a command comes to on parts in hand, from its plan.
 use Rattle.std.proofs.Common.{◌≡◌, ℕ, Bool, ◌&&◌, eqb, List, [], ◌∷◌, Option, Some, None, Result, Ok, Err, IfOk, refl, sym, ap, subst, ◌∙◌}
-use Rattle.std.specs.Prelude.{is_some, is_ok, slice_index_or}
+use Rattle.std.specs.Prelude.{is_some, is_ok, length, slice_index_or}
 use Rattle.std.proofs.lemmas.Bool.{cond_both}
 use Rattle.guest_windows.specs.Windows.{Window}
 use Rattle.gits_regs.specs.Registers.{Registers, advanced}
@@ -12,8 +12,8 @@ use Rattle.its_types.specs.declared.machine.Shape.{Shape}
 use Rattle.its_types.specs.declared.ids.Vcpu.{Vcpu}
 use Rattle.its_maps.specs.MapsRoom.{MapsRoom}
 use Rattle.its_plain.specs.Plain.{Plain, ConfState, PendState, regs_of, maps_of}
-use Rattle.lpi_config.specs.declared.conf.Conf.{Conf}
-use Rattle.lpi_pending.specs.declared.pend.Pend.{Pend}
+use Rattle.lpi_config.specs.Conf.{Conf}
+use Rattle.lpi_pending.specs.Pend.{Pend}
 use Rattle.its_plain.specs.Commands.{ran, intids_of, conf_all_reread_at}
 use Rattle.its_plain.specs.Answer.{command_reply, command_left, went_on}
 use Rattle.its_plain.specs.declared.call.Reason.{Reason}
@@ -28,7 +28,7 @@ use Rattle.cmd_exec.specs.Needs.{AreNeededInHand}
 use Rattle.cmd_exec.specs.Ready.{IsReady}
 use Rattle.cmd_exec.specs.Room.{HasRoom, AddsAlike, grows, outcome_adds, effect_adds}
 use Rattle.cmd_exec.specs.declared.effect.Planned.{Planned}
-use Rattle.cmd_exec.proofs.InHand.{pend_held, pend_keeps, confs_held, confs_keep}
+use Rattle.cmd_exec.proofs.InHand.{pend_held, pend_room, pend_keeps, confs_held, conf_room, confs_keep}
 use Rattle.cmd_exec.proofs.Steps.{by}
 use Rattle.cmd_exec.proofs.Lifted.{left, regs_are, maps_are, parts_left, went_on_are}
 use Rattle.cmd_exec.proofs.PlainPlan.{planned_same}
@@ -38,27 +38,34 @@ use Rattle.cmd_exec.proofs.Workable.{workable}
 
 -- ---- who is in hand
 
--- the same parts are, whatever was changed in them
+-- the same parts are, whatever was changed in them, among as many places
 pub record AreHeldAlike (now rs : RedistParts) : Type 0 where
   pub confs : (v : ℕ) → is_some (conf_in now v) ≡ is_some (conf_in rs v)
   pub pends : (v : ℕ) → is_some (pend_in now v) ≡ is_some (pend_in rs v)
+  pub room : (length now.confs ≡ length rs.confs) × (length now.pends ≡ length rs.pends)
 
 alike : (rs : RedistParts) → AreHeldAlike rs rs
-alike rs = record { confs = λ v. refl; pends = λ v. refl }
+alike rs = record { confs = λ v. refl; pends = λ v. refl; room = (refl, refl) }
 
 alike_by : (rs now then : RedistParts) → AreHeldAlike then now → AreHeldAlike now rs → AreHeldAlike then rs
-alike_by rs now then g h = record { confs = λ v. g.confs v ∙ h.confs v; pends = λ v. g.pends v ∙ h.pends v }
+alike_by rs now then g h = record {
+  confs = λ v. g.confs v ∙ h.confs v;
+  pends = λ v. g.pends v ∙ h.pends v;
+  room = (g.room.0 ∙ h.room.0, g.room.1 ∙ h.room.1);
+}
 
 pend_alike : (v : ℕ) (f : PendState → PendState) (rs : RedistParts) → AreHeldAlike (pend_changed v f rs) rs
 pend_alike v f rs = record {
   confs = λ w. ap (λ (xs : List (Option Conf)). is_some (slice_index_or xs w None)) (pend_keeps v f rs);
   pends = λ w. pend_held v w f rs;
+  room = (ap length (pend_keeps v f rs), pend_room v f rs);
 }
 
 confs_alike : (n : ℕ) (f : ConfState → ConfState) (rs : RedistParts) → AreHeldAlike (confs_changed n f rs) rs
 confs_alike n f rs = record {
   confs = λ w. confs_held n w f rs;
   pends = λ w. ap (λ (xs : List (Option Pend)). is_some (slice_index_or xs w None)) (confs_keep n f rs);
+  room = (conf_room n f rs, ap length (confs_keep n f rs));
 }
 
 moved_alike : (x from to : ℕ) (rs : RedistParts) → AreHeldAlike (lpi_moved_in x from to rs) rs

@@ -6,14 +6,14 @@ use Rattle.std.specs.Option.{option_map}
 use Rattle.std.proofs.lemmas.Bool.{cases_lt, cases_eq, cond-false, ne_eqb}
 use Rattle.std.proofs.lemmas.List.{get_or-set_same, get_or-set_other, get_or_past, set_past, set_comm, set-set, length-set, ext_get_or}
 use Rattle.its_plain.specs.Plain.{ConfState, PendState}
-use Rattle.lpi_config.specs.declared.conf.Conf.{Conf}
-use Rattle.lpi_pending.specs.InHand.{RedistParts, conf_in, pend_in, set_conf, set_pend}
-use Rattle.lpi_pending.specs.declared.pend.Pend.{Pend}
+use Rattle.lpi_config.specs.Conf.{Conf}
+use Rattle.lpi_pending.specs.InHand.{RedistParts, conf_in, pend_in, pend_state, set_conf, set_pend}
+use Rattle.lpi_pending.specs.Pend.{Pend}
 use Rattle.std.proofs.lemmas.Option.{same_Some}
 use Rattle.cmd_exec.specs.Ready.{HeldCanReread}
 use Rattle.lpi_config.specs.Conf.{conf_state}
 use Rattle.cmd_exec.specs.InHand.{CanRereadAll, conf_as, conf_by, pend_by, changed_at, changed_below, pend_changed, confs_changed, takes_lpi, has_lpi, with_none, with_all}
-use Rattle.cmd_exec.specs.InHand.{held_lpis, lpis_in, all_moved_in}
+use Rattle.cmd_exec.specs.InHand.{held_lpis, lpis_in, is_held_on, is_on_in, all_moved_in}
 
 -- ---- one place of a list was changed
 
@@ -119,11 +119,32 @@ pend_takes v w x f rs = same_changed (has_lpi x) v w (pend_by f) rs.pends same
     same None = refl
     same (Some p) = refl
 
+-- whether LPIs are on stays, where it does in what is there
+pub pend_on : (v w : ℕ) (f : PendState → PendState) (rs : RedistParts) → ((x : PendState) → (f x).accepts ≡ x.accepts)
+    → is_on_in (pend_changed v f rs) w ≡ is_on_in rs w
+unfolding pend_changed
+pend_on v w f rs same = same_changed is_held_on v w (pend_by f) rs.pends by_held
+  where
+    by_held : (o : Option Pend) → is_held_on (option_map (pend_by f) o) ≡ is_held_on o
+    by_held None = refl
+    by_held (Some p) = same (pend_state p)
+
+pub pend_room : (v : ℕ) (f : PendState → PendState) (rs : RedistParts) → length (pend_changed v f rs).pends ≡ length rs.pends
+unfolding pend_changed
+pend_room v f rs = length-set rs.pends v (option_map (pend_by f) (pend_in rs v))
+
 pub pend_keeps : (v : ℕ) (f : PendState → PendState) (rs : RedistParts) → (pend_changed v f rs).confs ≡ rs.confs
 unfolding pend_changed
 pend_keeps v f rs = refl
 
 -- ---- all pending LPIs of one were moved to another
+
+-- with the one taken out, LPIs are on at the other as before
+pub taken_on : (rs taken : RedistParts) (from to : ℕ) (t : Pend) → (from ≡ to → ⊥) → taken ≡ set_pend rs from None → pend_in taken to ≡ Some t
+    → is_on_in rs to ≡ true → t.accepts ≡ true
+taken_on rs taken from to t other taken_is has_t on =
+    let other' : to ≡ from → ⊥ = λ (e : to ≡ from). other (sym e) in
+    sym (ap is_held_on has_t) ∙ ap (λ (x : RedistParts). is_on_in x to) taken_is ∙ ap is_held_on (get_or-set_other rs.pends from to None None other') ∙ on
 
 pub moved_all : (rs taken left : RedistParts) (from to : ℕ) (s t s' t' : Pend) → (from ≡ to → ⊥) → pend_in rs from ≡ Some s → taken ≡ set_pend rs from None
     → pend_in taken to ≡ Some t → s' ≡ pend_by with_none s → t' ≡ pend_by (with_all s.pending.lpis) t
@@ -163,6 +184,10 @@ conf_there n v f rs past = below_there n v (conf_by f) rs.confs past
 pub confs_held : (n w : ℕ) (f : ConfState → ConfState) (rs : RedistParts) → is_some (conf_in (confs_changed n f rs) w) ≡ is_some (conf_in rs w)
 unfolding confs_changed
 confs_held n w f rs = below_held n w (conf_by f) rs.confs
+
+pub conf_room : (n : ℕ) (f : ConfState → ConfState) (rs : RedistParts) → length (confs_changed n f rs).confs ≡ length rs.confs
+unfolding confs_changed
+conf_room n f rs = below_length n (conf_by f) rs.confs
 
 pub confs_keep : (n : ℕ) (f : ConfState → ConfState) (rs : RedistParts) → (confs_changed n f rs).pends ≡ rs.pends
 unfolding confs_changed

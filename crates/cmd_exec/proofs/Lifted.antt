@@ -19,9 +19,9 @@ use Rattle.its_plain.specs.Commands.{lpi_set, lpi_cleared, lpi_moved, lpis_moved
 use Rattle.its_plain.specs.Answer.{went_on}
 use Rattle.its_plain.specs.Plain.{ConfState, PendState, conf_of, pend_of, with_conf, with_pend}
 use Rattle.lpi_config.specs.Conf.{conf_state}
-use Rattle.lpi_config.specs.declared.conf.Conf.{Conf}
+use Rattle.lpi_config.specs.Conf.{Conf}
 use Rattle.lpi_pending.specs.InHand.{RedistParts, conf_in, pend_in, pend_state, HasLpisOfConf, HasLpisOfPend}
-use Rattle.lpi_pending.specs.declared.pend.Pend.{Pend}
+use Rattle.lpi_pending.specs.Pend.{Pend}
 use Rattle.owned_parts.specs.Owned.{ArePartsOf, AreRedistributorsOf, IsConfOf, IsPendOf}
 use Rattle.cmd_exec.specs.declared.effect.Effect.{Effect}
 use Rattle.cmd_exec.specs.declared.effect.Effect.TheVariants as effect
@@ -311,7 +311,7 @@ module _ (i : ℕ) (s : Shape) (r : Registers) (memory : List Window) where
   parts_left u m rs (effect.ClearLpi intid vcpu) below ready h = one_are u m.maps rs vcpu.0 (with_cleared intid.0) h
   parts_left u m rs (effect.Reread intid) below ready h = reread_are u m.maps rs (intid.0 ∷ []) below h
   parts_left u m rs (effect.RereadCollection icid) below ready h = reread_are u m.maps rs (intids_of m.maps icid.0) below h
-  parts_left u m rs (effect.MoveAll from to) below ready h = all_moved_are u m.maps rs from.0 to.0 (same_held (pend_in rs from.0) (pend_in rs to.0) ready.1) h
+  parts_left u m rs (effect.MoveAll from to) below ready h = all_moved_are u m.maps rs from.0 to.0 (same_held (pend_in rs from.0) (pend_in rs to.0) ready.0) h
 
 -- ---- the next command
 

@@ -8,7 +8,7 @@ use Rattle.its_types.specs.Lpis.{with_config_byte}
 use Rattle.its_plain.specs.Plain.{ConfState}
 use Rattle.its_plain.specs.Commands.{◌>>=◌, ensure, event_at, conf_reread_at}
 use Rattle.lpi_config.specs.Conf.{conf_state}
-use Rattle.lpi_config.specs.declared.conf.Conf.{Conf}
+use Rattle.lpi_config.specs.Conf.{Conf}
 use Rattle.cmd_exec.specs.InHand.{conf_as, conf_by}
 use Rattle.its_plain.specs.declared.call.Reason.TheVariants.{NoDevice, EventRange, NoEvent}
 

@@ -1,6 +1,6 @@
 -- A command that isn't refused has an effect that can be had on the parts of a sound state.
 use Rattle.std.proofs.Common.{◌≡◌, ℕ, ◌^◌, ◌<◌, Bool, true, false, ◌&&◌, not, cond, eqb, nat_lt, nat_le, List, [], ◌∷◌, map, filter, Option, Some, None}
-use Rattle.std.proofs.Common.{Result, Ok, Err, IfOk, refl, sym, ap, subst, ◌∙◌, arith}
+use Rattle.std.proofs.Common.{Result, Ok, Err, IfOk, refl, sym, ap, subst, ◌∙◌}
 use Rattle.std.specs.Prelude.{is_some, IfSome}
 use Rattle.std.specs.List.{AllByRecursion}
 use Rattle.std.specs.Ordering.{is_lt, is_eq, eq_by_cmp}
@@ -35,9 +35,9 @@ use Rattle.its_plain.specs.Commands.{◌>>=◌, event_at, intids_of}
 use Rattle.its_plain.specs.declared.call.Reason.{Reason}
 use Rattle.its_plain.specs.declared.call.Reason.TheVariants.{DeviceRange, SizeRange, TargetRange, CollectionRange, NoDevice, EventRange, IntidRange}
 use Rattle.its_plain.specs.declared.call.Reason.TheVariants.{NoCollection, LpisOff}
-use Rattle.lpi_config.specs.declared.conf.Conf.{Conf}
+use Rattle.lpi_config.specs.Conf.{Conf}
 use Rattle.lpi_pending.specs.InHand.{RedistParts, conf_in, pend_in}
-use Rattle.lpi_pending.specs.declared.pend.Pend.{Pend}
+use Rattle.lpi_pending.specs.Pend.{Pend}
 use Rattle.cmd_exec.specs.declared.effect.Effect.{Effect}
 use Rattle.cmd_exec.specs.declared.effect.Effect.TheVariants as effect
 use Rattle.cmd_exec.specs.InHand.{is_on_in, has_lpi, takes_lpi, CanRereadAll}
@@ -171,21 +171,24 @@ module _ (s : Shape) (mr : MapsRoom) (rs : RedistParts) (can : IsWorkable s mr.m
       some_there : (v : Vcpu) (q : Option Vcpu) → q ≡ Some v → q ≡ None → ⊥
       some_there v q a b = cc
 
-      by_on : (from : Vcpu) → collection_of m icid.0 ≡ Some from → (b : Bool) → (is_some (pend_in rs from.0) ≡ true) × (is_some (pend_in rs to.0) ≡ true)
+      by_on : (from : Vcpu) → collection_of m icid.0 ≡ Some from → (b : Bool) → (b ≡ true → is_on_in rs to.0 ≡ true)
+          → (is_some (pend_in rs from.0) ≡ true) × (is_some (pend_in rs to.0) ≡ true)
           → CanBeHad (cond b (effect.MoveCollection icid from to) (effect.MapCollection icid to))
-      by_on from there true h = λ _. (
+      by_on from there true on h = λ _. (
         (λ none. absurd (some_there from (collection_of m icid.0) there none)),
         can.devices,
         takes_all from.0 (intids_of m icid.0) h.0 (lpis_of_collection icid.0),
         takes_all to.0 (intids_of m icid.0) h.1 (lpis_of_collection icid.0),
+        on refl,
       )
-      by_on from there false h = mapped to
+      by_on from there false on h = mapped to
 
       by_same : (from : Vcpu) → collection_of m icid.0 ≡ Some from → (t : Bool)
           → (t ≡ false → (is_some (pend_in rs from.0) ≡ true) × (is_some (pend_in rs to.0) ≡ true))
           → CanBeHad (cond t (effect.MapCollection icid to) (moved rs icid from to))
       by_same from there true g = mapped to
-      by_same from there false g = by_on from there (is_on_in rs from.0 && is_on_in rs to.0) (g refl)
+      by_same from there false g =
+          by_on from there (is_on_in rs from.0 && is_on_in rs to.0) (λ both. (and_parts (is_on_in rs from.0) (is_on_in rs to.0) both).1) (g refl)
 
       by_profile : (q : Profile) (o' : Option Vcpu) → collection_of m icid.0 ≡ o' → AreTargetsInHand rs q o' to.0 → CanBeHad (targeted q rs icid o' to)
       by_profile One o' there h = mapped to
@@ -224,37 +227,43 @@ module _ (s : Shape) (mr : MapsRoom) (rs : RedistParts) (can : IsWorkable s mr.m
       ran CanBeHad (event_at m dev.0 ev.0) _ (λ event at.
       found CanBeHad (collection_of m event.icid.0) NoCollection _ (λ from is_from.
       found CanBeHad (collection_of m icid.0) NoCollection _ (λ to is_to.
-      passed CanBeHad (is_on_in rs from.0 && is_on_in rs to.0) LpisOff _ (λ _ _.
+      passed CanBeHad (is_on_in rs from.0 && is_on_in rs to.0) LpisOff _ (λ on _.
       let is = event_is m dev.0 ev.0 event at in
       let lpi = can.events dev.0 ev.0 event is in (
         subst (λ (o : Option Event). IfSome o (λ e. e.intid ≡ event.intid)) (sym is) refl,
         ap is_some is,
         takes from.0 event.intid.0 (subst (IsTargetInHand rs) (target_is m dev.0 ev.0 event at ∙ is_from) old) lpi,
         takes to.0 event.intid.0 (subst (IsTargetInHand rs) is_to new) lpi,
+        (and_parts (is_on_in rs from.0) (is_on_in rs to.0) on).1,
       )))))
 
-  lpi_ready : (dev : DeviceId) (ev : EventId) → IsTargetInHand rs (target_of_event m dev.0 ev.0)
-      → IfOk (parts.lpi_at m rs dev ev) (λ lpi. takes_lpi rs lpi.1.0 lpi.0.0 ≡ true)
+  -- LPIs are on where it goes, and it is one of them
+  abbrev CanBeSet : Intid × Vcpu → Type 0
+  CanBeSet lpi = (takes_lpi rs lpi.1.0 lpi.0.0 ≡ true) × (is_on_in rs lpi.1.0 ≡ true)
+
+  lpi_ready : (dev : DeviceId) (ev : EventId) → IsTargetInHand rs (target_of_event m dev.0 ev.0) → IfOk (parts.lpi_at m rs dev ev) CanBeSet
   unfolding parts.lpi_at
   lpi_ready dev ev target =
-      let P : Intid × Vcpu → Type 0 = λ (lpi : Intid × Vcpu). takes_lpi rs lpi.1.0 lpi.0.0 ≡ true in
-      ran P (event_at m dev.0 ev.0) _ (λ event at.
-      found P (collection_of m event.icid.0) NoCollection _ (λ vcpu is.
-      passed P (is_on_in rs vcpu.0) LpisOff _ (λ _.
-      takes vcpu.0 event.intid.0 (subst (IsTargetInHand rs) (target_is m dev.0 ev.0 event at ∙ is) target)
-      (can.events dev.0 ev.0 event (event_is m dev.0 ev.0 event at)))))
+      ran CanBeSet (event_at m dev.0 ev.0) _ (λ event at.
+      found CanBeSet (collection_of m event.icid.0) NoCollection _ (λ vcpu is.
+      passed CanBeSet (is_on_in rs vcpu.0) LpisOff _ (λ on. (
+        takes vcpu.0 event.intid.0 (subst (IsTargetInHand rs) (target_is m dev.0 ev.0 event at ∙ is) target)
+            (can.events dev.0 ev.0 event (event_is m dev.0 ev.0 event at)),
+        on,
+      ))))
 
-  with_lpi : (x : Result (Intid × Vcpu) Reason) (f : Intid × Vcpu → Effect) → IfOk x (λ lpi. IsReady s mr rs (f lpi)) → Readies (x >>= λ lpi. Ok (f lpi))
-  with_lpi (Ok lpi) f h = λ _. h
-  with_lpi (Err e) f h = tt
+  with_lpi : (x : Result (Intid × Vcpu) Reason) (f : Intid × Vcpu → Effect) → IfOk x CanBeSet → ((lpi : Intid × Vcpu) → CanBeSet lpi → IsReady s mr rs (f lpi))
+      → Readies (x >>= λ lpi. Ok (f lpi))
+  with_lpi (Ok lpi) f h g = λ _. g lpi h
+  with_lpi (Err e) f h g = tt
 
   int_ready : (dev : DeviceId) (ev : EventId) → IsTargetInHand rs (target_of_event m dev.0 ev.0) → Readies (parts.int m rs dev ev)
   unfolding parts.int IsReady
-  int_ready dev ev target = with_lpi (parts.lpi_at m rs dev ev) (λ (lpi : Intid × Vcpu). effect.SetLpi lpi.0 lpi.1) (lpi_ready dev ev target)
+  int_ready dev ev target = with_lpi (parts.lpi_at m rs dev ev) (λ (lpi : Intid × Vcpu). effect.SetLpi lpi.0 lpi.1) (lpi_ready dev ev target) (λ lpi h. h)
 
   clear_ready : (dev : DeviceId) (ev : EventId) → IsTargetInHand rs (target_of_event m dev.0 ev.0) → Readies (parts.clear m rs dev ev)
   unfolding parts.clear IsReady
-  clear_ready dev ev target = with_lpi (parts.lpi_at m rs dev ev) (λ (lpi : Intid × Vcpu). effect.ClearLpi lpi.0 lpi.1) (lpi_ready dev ev target)
+  clear_ready dev ev target = with_lpi (parts.lpi_at m rs dev ev) (λ (lpi : Intid × Vcpu). effect.ClearLpi lpi.0 lpi.1) (lpi_ready dev ev target) (λ lpi h. h.0)
 
   discard_ready : (dev : DeviceId) (ev : EventId) → IsTargetInHand rs (target_of_event m dev.0 ev.0) → Readies (parts.discard m dev ev)
   unfolding parts.discard IsReady
@@ -281,14 +290,15 @@ module _ (s : Shape) (mr : MapsRoom) (rs : RedistParts) (can : IsWorkable s mr.m
   unfolding parts.movall IsReady
   movall_ready from to h =
       passed CanBeHad (nat_lt from s.vcpus && nat_lt to s.vcpus) TargetRange _ (λ below.
-      passed CanBeHad (is_on_in rs from && is_on_in rs to) LpisOff _ (λ _ _.
+      passed CanBeHad (is_on_in rs from && is_on_in rs to) LpisOff _ (λ on _.
       let both = and_parts (nat_lt from s.vcpus) (nat_lt to s.vcpus) below in
       let lt = ltb-true from s.vcpus both.0 in
       let held = h lt (ltb-true to s.vcpus both.1) in
       let x = held_by (pend_in rs from) held.0 in
-      let y = held_by (pend_in rs to) held.1 in
-      let small : from < 16 = omega (arith, lt, can.vcpus) in
-      (small, same_lpis (pend_in rs from) (pend_in rs to) x.0 y.0 x.1 y.1 (can.pends from x.0 x.1 ∙ sym (can.pends to y.0 y.1)))))
+      let y = held_by (pend_in rs to) held.1 in (
+        same_lpis (pend_in rs from) (pend_in rs to) x.0 y.0 x.1 y.1 (can.pends from x.0 x.1 ∙ sym (can.pends to y.0 y.1)),
+        (and_parts (is_on_in rs from) (is_on_in rs to) on).1,
+      )))
 
   -- ---- all commands
 

@@ -112,8 +112,8 @@ first_sound s r memory shape sound bits windows = record {
 
 pub starts_sound : (s : Shape) (r : Registers) (m : Maps) (memory : List Window) (rs : RedistParts) → IsShape s → regs.IsSound r
     → r.dev_bits ≡ s.dev_bits
-    → are_windows (map extent memory) ≡ true → m ≡ no_maps → rs ≡ no_redists → ArePartsOfSound s r m memory rs
-starts_sound s r m memory rs shape sound bits windows maps_is rs_is =
+    → are_windows (map extent memory) ≡ true → m ≡ no_maps → (n : ℕ) → rs ≡ no_redists n → ArePartsOfSound s r m memory rs
+starts_sound s r m memory rs shape sound bits windows maps_is n rs_is =
     let some : Maps → Option Translator = λ (x : Maps). Some (record { regs = r; maps = x }) in (
       first s r memory,
       0,
@@ -123,8 +123,8 @@ starts_sound s r m memory rs shape sound bits windows maps_is rs_is =
         translator_is = ap some (sym maps_is);
         memory_is = refl;
         redistributors_are = (
-          λ v x e. absurd (none_held 16 v x (sym (ap (λ (xs : RedistParts). conf_in xs v) rs_is) ∙ e)),
-          λ v x e. absurd (none_held 16 v x (sym (ap (λ (xs : RedistParts). pend_in xs v) rs_is) ∙ e)),
+          λ v x e. absurd (none_held n v x (sym (ap (λ (xs : RedistParts). conf_in xs v) rs_is) ∙ e)),
+          λ v x e. absurd (none_held n v x (sym (ap (λ (xs : RedistParts). pend_in xs v) rs_is) ∙ e)),
         );
       },
     )

@@ -15,12 +15,13 @@ use Rattle.its_types.specs.Maps.{Maps}
 use Rattle.its_maps.specs.Counting.{has_events}
 use Rattle.its_plain.specs.Commands.{intids_of, conf_reread_at, conf_all_reread_at}
 use Rattle.lpi_config.specs.Conf.{conf_state}
-use Rattle.lpi_config.specs.declared.conf.Conf.{Conf}
+use Rattle.lpi_config.specs.Conf.{Conf}
 use Rattle.lpi_pending.specs.InHand.{RedistParts, conf_in}
 use Rattle.cmd_exec.specs.InHand.{conf_by, pend_changed, confs_changed, with_set, with_cleared, lpis_in, lpi_moved_in, lpis_moved_in, takes_lpi, CanRereadAll}
+use Rattle.cmd_exec.specs.InHand.{is_on_in}
 use Rattle.cmd_exec.specs.Ready.{TakesAll, HeldCanReread, CanEachReread}
 use Rattle.cmd_exec.specs.Walked.{lpis_of}
-use Rattle.cmd_exec.proofs.InHand.{pend_takes, conf_here, confs_twice, confs_none}
+use Rattle.cmd_exec.proofs.InHand.{pend_takes, pend_on, conf_here, confs_twice, confs_none}
 use Rattle.cmd_exec.proofs.Opened.{with_read}
 
 -- ---- an event of the collection comes first
@@ -123,6 +124,20 @@ moved_takes x from to v y rs =
 all_moved_takes : (xs : List ℕ) (from to v y : ℕ) (rs : RedistParts) → takes_lpi (lpis_moved_in xs from to rs) v y ≡ takes_lpi rs v y
 all_moved_takes [] from to v y rs = refl
 all_moved_takes (x ∷ xs) from to v y rs = all_moved_takes xs from to v y (lpi_moved_in x from to rs) ∙ moved_takes x from to v y rs
+
+moved_on : (x from to v : ℕ) (rs : RedistParts) → is_on_in (lpi_moved_in x from to rs) v ≡ is_on_in rs v
+moved_on x from to v rs =
+    cond_both (is_pending x (lpis_in rs from)) (pend_changed to (with_set x) (pend_changed from (with_cleared x) rs)) rs
+    (λ (xs : RedistParts). is_on_in xs v ≡ is_on_in rs v)
+    (λ _. pend_on to v (with_set x) (pend_changed from (with_cleared x) rs) (λ _. refl) ∙ pend_on from v (with_cleared x) rs (λ _. refl)) (λ _. refl)
+
+all_moved_on : (xs : List ℕ) (from to v : ℕ) (rs : RedistParts) → is_on_in (lpis_moved_in xs from to rs) v ≡ is_on_in rs v
+all_moved_on [] from to v rs = refl
+all_moved_on (x ∷ xs) from to v rs = all_moved_on xs from to v (lpi_moved_in x from to rs) ∙ moved_on x from to v rs
+
+-- where LPIs were on they still are
+pub on_more : (xs : List ℕ) (from to v : ℕ) (rs now : RedistParts) → now ≡ lpis_moved_in xs from to rs → is_on_in rs v ≡ true → is_on_in now v ≡ true
+on_more xs from to v rs now is on = ap (λ (zs : RedistParts). is_on_in zs v) is ∙ all_moved_on xs from to v rs ∙ on
 
 pub takes_kept : (ys : List ℕ) (v : ℕ) (rs now : RedistParts) → ((y : ℕ) → takes_lpi now v y ≡ takes_lpi rs v y) → TakesAll rs v ys → TakesAll now v ys
 takes_kept [] v rs now same h = tt

@@ -16,15 +16,14 @@ use Rattle.its_types.specs.declared.translation.Bases.{Bases}
 use Rattle.its_plain.specs.Plain.{Plain, ConfState, conf_of}
 use Rattle.its_plain.specs.Sound.{IsSound, IsTranslator, IsEvent, IsRedistributor}
 use Rattle.lpi_config.specs.Conf.{conf_state}
-use Rattle.lpi_config.specs.declared.conf.Conf.{Conf}
+use Rattle.lpi_config.specs.Conf.{Conf}
 use Rattle.lpi_pending.specs.InHand.{RedistParts, conf_in, pend_in, HasLpisOfConf, HasLpisOfPend}
-use Rattle.lpi_pending.specs.declared.pend.Pend.{Pend}
+use Rattle.lpi_pending.specs.Pend.{Pend}
 use Rattle.cmd_exec.specs.Needs.{AreTargets}
 use Rattle.owned_parts.specs.Owned.{ArePartsOf, ArePartsOfSound}
 use Rattle.cmd_exec.proofs.Places.{shown_of}
 
 pub record IsWorkable (s : Shape) (m : Maps) (rs : RedistParts) : Type 0 where
-  pub vcpus : s.vcpus ≤ 16
   pub events : (dev ev : ℕ) (e : Event) → event_of m dev ev ≡ Some e → is_lpi s.lpi_bits e.intid.0 ≡ true
   pub devices : EventsHaveDevices m
   pub below : (v : ℕ) (c : Conf) → conf_in rs v ≡ Some c → v < s.vcpus
@@ -66,7 +65,6 @@ workable_by : (s : Shape) (r : Registers) (m : Maps) (memory : List Window) (rs 
 workable_by s r m memory rs u i same sound are =
     let t : IsTranslator u.layout.shape (record { regs = r; maps = m }) = sound.translators i (record { regs = r; maps = m }) are.translator_is in
     subst (λ (x : Shape). IsWorkable x m rs) same (record {
-      vcpus = sound.layout.shape.most_vcpus;
       events = λ dev ev e is. (t.events dev ev e is).lpi;
       devices = λ dev ev is.
           let e = some_event (event_of m dev ev) is in

@@ -6,9 +6,9 @@ use Rattle.its_types.specs.Lpis.{is_pending, with_lpi, with_lpis, without_lpi}
 use Rattle.its_types.specs.Ranges.{is_lpi}
 use Rattle.its_plain.specs.Plain.{ConfState, PendState}
 use Rattle.lpi_config.specs.Conf.{conf_state}
-use Rattle.lpi_config.specs.declared.conf.Conf.{Conf}
+use Rattle.lpi_config.specs.Conf.{Conf}
 use Rattle.lpi_pending.specs.InHand.{RedistParts, pend_in, pend_state}
-use Rattle.lpi_pending.specs.declared.pend.Pend.{Pend}
+use Rattle.lpi_pending.specs.Pend.{Pend}
 
 -- ---- one part
 

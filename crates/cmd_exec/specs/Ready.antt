@@ -7,12 +7,12 @@ use Rattle.its_types.specs.declared.machine.Profile.TheVariants.{One, Two}
 use Rattle.its_types.specs.declared.machine.Shape.{Shape}
 use Rattle.its_maps.specs.MapsRoom.{MapsRoom, event_room, EventsHaveDevices}
 use Rattle.its_plain.specs.Commands.{intids_of}
-use Rattle.lpi_config.specs.declared.conf.Conf.{Conf}
+use Rattle.lpi_config.specs.Conf.{Conf}
 use Rattle.lpi_pending.specs.InHand.{RedistParts, conf_in, pend_in}
-use Rattle.lpi_pending.specs.declared.pend.Pend.{Pend}
+use Rattle.lpi_pending.specs.Pend.{Pend}
 use Rattle.cmd_exec.specs.declared.effect.Effect.{Effect}
 use Rattle.cmd_exec.specs.declared.effect.Effect.TheVariants as effect
-use Rattle.cmd_exec.specs.InHand.{takes_lpi, CanRereadAll}
+use Rattle.cmd_exec.specs.InHand.{is_on_in, takes_lpi, CanRereadAll}
 
 -- the configuration of each virtual processor is in hand, and can read these LPIs again
 abbrev pub HeldCanReread : Option Conf → List ℕ → Type 0
@@ -51,23 +51,24 @@ HaveSameLpis (Some a) (Some b) = a.pending.lpi_bits ≡ b.pending.lpi_bits
 HaveSameLpis None b = ⊥
 HaveSameLpis (Some a) None = ⊥
 
+-- LPIs are on where one becomes pending
 unfoldable pub IsReady : Shape → MapsRoom → RedistParts → Effect → Type 0
 IsReady s m redists (effect.MapDevice dev device) = device_of m.maps dev.0 ≡ None → 1 ≤ m.room.devices
 IsReady s m redists (effect.MapCollection icid vcpu) = collection_of m.maps icid.0 ≡ None → 1 ≤ m.room.collections
 IsReady s m redists (effect.MoveCollection icid from to) =
     (collection_of m.maps icid.0 ≡ None → 1 ≤ m.room.collections) × EventsHaveDevices m.maps
-    × TakesAll redists from.0 (intids_of m.maps icid.0) × TakesAll redists to.0 (intids_of m.maps icid.0)
+    × TakesAll redists from.0 (intids_of m.maps icid.0) × TakesAll redists to.0 (intids_of m.maps icid.0) × (is_on_in redists to.0 ≡ true)
 IsReady s m redists (effect.MapEvent dev ev event) =
     IsSome (device_of m.maps dev.0) × (event_of m.maps dev.0 ev.0 ≡ None → 1 ≤ event_room m.room dev.0) × CanEachReread s.vcpus redists (event.intid.0 ∷ [])
 IsReady s m redists (effect.MoveEvent dev ev intid icid from to) =
     IfSome (event_of m.maps dev.0 ev.0) (λ e. e.intid ≡ intid) × IsSome (event_of m.maps dev.0 ev.0)
-    × (takes_lpi redists from.0 intid.0 ≡ true) × (takes_lpi redists to.0 intid.0 ≡ true)
+    × (takes_lpi redists from.0 intid.0 ≡ true) × (takes_lpi redists to.0 intid.0 ≡ true) × (is_on_in redists to.0 ≡ true)
 IsReady s m redists (effect.UnmapEvent dev ev intid target) = TakesIfMapped redists target intid.0
-IsReady s m redists (effect.SetLpi intid vcpu) = takes_lpi redists vcpu.0 intid.0 ≡ true
+IsReady s m redists (effect.SetLpi intid vcpu) = (takes_lpi redists vcpu.0 intid.0 ≡ true) × (is_on_in redists vcpu.0 ≡ true)
 IsReady s m redists (effect.ClearLpi intid vcpu) = takes_lpi redists vcpu.0 intid.0 ≡ true
 IsReady s m redists (effect.Reread intid) = CanEachReread s.vcpus redists (intid.0 ∷ [])
 IsReady s m redists (effect.RereadCollection icid) = EventsHaveDevices m.maps × CanEachReread s.vcpus redists (intids_of m.maps icid.0)
-IsReady s m redists (effect.MoveAll from to) = (from.0 < 16) × HaveSameLpis (pend_in redists from.0) (pend_in redists to.0)
+IsReady s m redists (effect.MoveAll from to) = HaveSameLpis (pend_in redists from.0) (pend_in redists to.0) × (is_on_in redists to.0 ≡ true)
 IsReady s m redists effect.Nothing = Unit {0}
 IsReady s m redists (effect.UnmapDevice dev) = Unit {0}
 IsReady s m redists (effect.UnmapCollection icid) = Unit {0}

@@ -3,7 +3,7 @@ ghost use Rattle.std.specs.Prelude.{◌≡◌, ◌<◌, ℕ, true, List};
 ghost use Rattle.its_maps.specs.MapsRoom.{EventsHaveDevices};
 ghost use Rattle.its_maps.specs.Walks.{events_left};
 ghost use Rattle.its_plain.specs.Commands.{intids_of, conf_all_reread_at};
-ghost use Rattle.cmd_exec.specs.InHand.{confs_changed, lpis_moved_in};
+ghost use Rattle.cmd_exec.specs.InHand.{is_on_in, confs_changed, lpis_moved_in};
 ghost use Rattle.cmd_exec.specs.Ready.{TakesAll, CanEachReread};
 ghost use Rattle.cmd_exec.specs.Walked.{lpis_of};
 
@@ -13,12 +13,13 @@ use its_maps::{EventWalk, Maps};
 use its_types::{Icid, Vcpu};
 use lpi_pending::Redists;
 
-/// The pending LPIs of its events go from one virtual processor to another. The maps are walked
-/// only where it has events.
+/// The pending LPIs of its events go from one virtual processor to another, whose LPIs are on. The
+/// maps are walked only where it has events.
 pub fn move_lpis(redists: &mut Redists, maps: &Maps, icid: Icid, from: Vcpu, to: Vcpu)
     requires devices { EventsHaveDevices maps.now.maps }
     requires from { TakesAll redists.old from.0 (intids_of maps.now.maps icid.0) }
     requires to { TakesAll redists.old to.0 (intids_of maps.now.maps icid.0) }
+    requires on { is_on_in redists.old to.0 ≡ true }
     ensures { redists.new ≡ lpis_moved_in (intids_of maps.now.maps icid.0) from.0 to.0 redists.old }
 {
     if !maps.has_events_of(icid) {
@@ -33,6 +34,7 @@ pub fn move_lpis(redists: &mut Redists, maps: &Maps, icid: Icid, from: Vcpu, to:
 fn move_lpis_of(redists: &mut Redists, events: EventWalk, icid: Icid, from: Vcpu, to: Vcpu)
     requires from { TakesAll redists.old from.0 (lpis_of (events_left events) icid.0) }
     requires to { TakesAll redists.old to.0 (lpis_of (events_left events) icid.0) }
+    requires on { is_on_in redists.old to.0 ≡ true }
     ensures { redists.new
         ≡ lpis_moved_in (lpis_of (events_left events.entry) icid.0) from.0 to.0 redists.old }
 {
@@ -46,7 +48,13 @@ fn move_lpis_of(redists: &mut Redists, events: EventWalk, icid: Icid, from: Vcpu
 /// Each of the first virtual processors reads the configuration of the LPIs of its events again.
 /// The maps are walked once, however many virtual processors there are, and only where the
 /// collection has events.
-pub fn reread_collection(redists: &mut Redists, vcpus: u8, memory: &Memory, maps: &Maps, icid: Icid)
+pub fn reread_collection(
+    redists: &mut Redists,
+    vcpus: u16,
+    memory: &Memory,
+    maps: &Maps,
+    icid: Icid,
+)
     requires devices { EventsHaveDevices maps.now.maps }
     requires each { CanEachReread vcpus redists.old (intids_of maps.now.maps icid.0) }
     ensures { redists.new
@@ -64,7 +72,7 @@ pub fn reread_collection(redists: &mut Redists, vcpus: u8, memory: &Memory, maps
 // Those of one device.
 fn reread_collection_of(
     redists: &mut Redists,
-    vcpus: u8,
+    vcpus: u16,
     memory: &Memory,
     events: EventWalk,
     icid: Icid,

@@ -1,5 +1,5 @@
 //! Planning a command, and carrying the plan out.
-ghost use Rattle.std.specs.Prelude.{◌≡◌, ℕ, is_some};
+ghost use Rattle.std.specs.Prelude.{◌≡◌, ℕ, is_some, length};
 ghost use Rattle.lpi_pending.specs.InHand.{conf_in, pend_in};
 ghost use Rattle.owned_parts.specs.Owned.{ArePartsOfSound};
 ghost use Rattle.cmd_exec.specs.Needs.{AreNeededInHand};
@@ -70,6 +70,8 @@ pub fn apply(
         (conf_in redists.old vcpu) }
     ensures pends { (vcpu : ℕ) → is_some (pend_in redists.new vcpu) ≡ is_some
         (pend_in redists.old vcpu) }
+    ensures room { (length redists.new.confs ≡ length redists.old.confs)
+        × (length redists.new.pends ≡ length redists.old.pends) }
 {
     regs.advance();
     if let Ok(effect) = planned.outcome {

@@ -1,10 +1,11 @@
 //! Which parts a step reads or changes.
-ghost use Rattle.std.specs.Prelude.{◌≡◌, ◌<◌, ◌≤◌, ◌&&◌, ℕ, true, nat_lt, IfSome};
+ghost use Rattle.std.specs.Prelude.{◌≡◌, ◌⊎◌, ◌<◌, ◌&&◌, ℕ, true, false, nat_lt, IfSome};
 ghost use Rattle.its_plain.specs.Parts.{target_of_event};
 ghost use Rattle.cmd_exec.specs.Needs.{needs_conf, needs_pend, reads_confs, is_concerned};
 ghost use Rattle.cmd_exec.specs.Needs.{is_either, is_moved};
 ghost use Rattle.cmd_exec.specs.Needs.{AreTargets, ArePartsOfStep};
 ghost use Rattle.owned_parts.specs.RedistSets.{is_in};
+ghost use Rattle.owned_parts.specs.declared.redist_set.RedistSet.TheVariants.{Nothing};
 
 use gits_regs::Regs;
 use its_command::Command;
@@ -24,7 +25,6 @@ pub struct Needed {
 /// The parts that a step which meets a command reads or changes: its translator's maps and guest
 /// memory always, and these of redistributors. They don't depend on the registers.
 pub fn needs(command: &Command, _regs: &Regs, maps: &Maps, shape: &Shape) -> Needed
-    requires vcpus { shape.now.vcpus ≤ 16 }
     requires targets { AreTargets shape.now maps.now.maps }
     ensures confs { (vcpu : ℕ) → is_in result.confs vcpu
         ≡ needs_conf shape.now maps.now.maps command.now vcpu }
@@ -32,6 +32,7 @@ pub fn needs(command: &Command, _regs: &Regs, maps: &Maps, shape: &Shape) -> Nee
         ≡ needs_pend shape.now maps.now.maps command.now vcpu }
     ensures confs_below { (vcpu : ℕ) → is_in result.confs vcpu ≡ true → vcpu < shape.now.vcpus }
     ensures pends_below { (vcpu : ℕ) → is_in result.pends vcpu ≡ true → vcpu < shape.now.vcpus }
+    ensures one_kind { (result.confs ≡ Nothing) ⊎ (result.pends ≡ Nothing) }
     ensures parts { ArePartsOfStep shape.now maps.now.maps command.now result }
 {
     Needed {
@@ -40,9 +41,10 @@ pub fn needs(command: &Command, _regs: &Regs, maps: &Maps, shape: &Shape) -> Nee
     }
 }
 
-fn confs_of(command: &Command, vcpus: u8) -> RedistSet
-    requires { vcpus ≤ 16 }
-    ensures { (vcpu : ℕ) → is_in result vcpu ≡ (reads_confs command.now && nat_lt vcpu vcpus) }
+fn confs_of(command: &Command, vcpus: u16) -> RedistSet
+    ensures members { (vcpu : ℕ) → is_in result vcpu
+        ≡ (reads_confs command.now && nat_lt vcpu vcpus) }
+    ensures none { reads_confs command.now ≡ false → result ≡ Nothing }
 {
     match *command {
         Command::Mapti { .. } => every(vcpus),
@@ -57,43 +59,43 @@ fn confs_of(command: &Command, vcpus: u8) -> RedistSet
         | Command::Sync { .. }
         | Command::Movall { .. }
         | Command::Discard { .. }
-        | Command::Unknown(_) => RedistSet::new(),
+        | Command::Unknown(_) => RedistSet::Nothing,
     }
 }
 
 #[tactic(auto, unfolding(crate::specs::Needs::is_concerned))]
 fn pends_of(command: &Command, maps: &Maps, shape: &Shape) -> RedistSet
-    requires vcpus { shape.now.vcpus ≤ 16 }
     requires targets { AreTargets shape.now maps.now.maps }
-    ensures { (vcpu : ℕ) → is_in result vcpu
+    ensures members { (vcpu : ℕ) → is_in result vcpu
         ≡ is_concerned shape.now maps.now.maps command.now vcpu }
+    ensures none { reads_confs command.now ≡ true → result ≡ Nothing }
 {
     let vcpus = u64::from(shape.vcpus);
     match *command {
         Command::Movi { dev, ev, icid } => {
             let old = target_of(maps, shape, dev, ev);
-            RedistSet::new().with(old).with(maps.collection(icid))
+            RedistSet::of_both(old, maps.collection(icid))
         }
-        Command::Int { dev, ev } => RedistSet::new().with(target_of(maps, shape, dev, ev)),
-        Command::Clear { dev, ev } => RedistSet::new().with(target_of(maps, shape, dev, ev)),
-        Command::Discard { dev, ev } => RedistSet::new().with(target_of(maps, shape, dev, ev)),
+        Command::Int { dev, ev } => RedistSet::of(target_of(maps, shape, dev, ev)),
+        Command::Clear { dev, ev } => RedistSet::of(target_of(maps, shape, dev, ev)),
+        Command::Discard { dev, ev } => RedistSet::of(target_of(maps, shape, dev, ev)),
         Command::Mapc {
             icid,
             target,
             valid,
         } => {
             if valid && target.get() < vcpus {
-                let to = Vcpu(target.get() as u8);
+                let to = Vcpu(target.get() as u16);
                 moved(shape.profile, maps.collection(icid), to)
             } else {
-                RedistSet::new()
+                RedistSet::Nothing
             }
         }
         Command::Movall { from, to } => {
             if from.get() < vcpus && to.get() < vcpus {
-                either(Vcpu(from.get() as u8), Vcpu(to.get() as u8))
+                either(Vcpu(from.get() as u16), Vcpu(to.get() as u16))
             } else {
-                RedistSet::new()
+                RedistSet::Nothing
             }
         }
         Command::Mapd { .. }
@@ -102,7 +104,7 @@ fn pends_of(command: &Command, maps: &Maps, shape: &Shape) -> RedistSet
         | Command::Sync { .. }
         | Command::Inv { .. }
         | Command::Invall { .. }
-        | Command::Unknown(_) => RedistSet::new(),
+        | Command::Unknown(_) => RedistSet::Nothing,
     }
 }
 
@@ -121,31 +123,22 @@ fn target_of(maps: &Maps, shape: &Shape, dev: DeviceId, ev: EventId) -> Option<V
 
 // The old target and the new one, where in profile 2 a mapped collection gets another.
 fn moved(profile: Profile, before: Option<Vcpu>, to: Vcpu) -> RedistSet
-    requires old { IfSome before (λ t. t.0 < 16) }
-    requires new { to.0 < 16 }
     ensures { (vcpu : ℕ) → is_in result vcpu ≡ is_moved profile before to.0 vcpu }
 {
     match before {
         Some(from) if profile == Profile::Two && from != to => either(from, to),
-        _ => RedistSet::new(),
+        _ => RedistSet::Nothing,
     }
 }
 
 fn either(from: Vcpu, to: Vcpu) -> RedistSet
-    requires from { from.0 < 16 }
-    requires to { to.0 < 16 }
     ensures { (vcpu : ℕ) → is_in result vcpu ≡ is_either from.0 to.0 vcpu }
 {
-    RedistSet::new().with(Some(from)).with(Some(to))
+    RedistSet::Two(from, to)
 }
 
-fn every(vcpus: u8) -> RedistSet
-    requires { vcpus ≤ 16 }
+fn every(vcpus: u16) -> RedistSet
     ensures { (vcpu : ℕ) → is_in result vcpu ≡ nat_lt vcpu vcpus }
 {
-    let mut set = RedistSet::new();
-    for vcpu in 0..vcpus {
-        set = set.with(Some(Vcpu(vcpu)));
-    }
-    set
+    RedistSet::First(vcpus)
 }

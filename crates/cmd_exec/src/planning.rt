@@ -48,7 +48,7 @@ impl<'a> InHand<'a> {
         requires { is_some (pend_in self.now.redists.now vcpu.0) ≡ true }
         ensures { result ≡ is_on_in self.now.redists.now vcpu.0 }
     {
-        self.redists.pend(vcpu).accepts
+        self.redists.pend(vcpu).accepts()
     }
 
     // A device and an event of it, where they are mapped.
@@ -123,7 +123,7 @@ impl<'a> InHand<'a> {
         )?;
         let placed = u32::from(icid.0) < self.regs.collection_places();
         ensure(placed, Reason::CollectionRange)?;
-        Ok(self.targeted(icid, Vcpu(target.get() as u8)))
+        Ok(self.targeted(icid, Vcpu(target.get() as u16)))
     }
 
     // In profile 2 pending LPIs go with a mapped collection to its new target.
@@ -264,7 +264,7 @@ impl<'a> InHand<'a> {
         let (from, to) = (from.get(), to.get());
         let vcpus = u64::from(self.shape.vcpus);
         ensure(from < vcpus && to < vcpus, Reason::TargetRange)?;
-        let (from, to) = (Vcpu(from as u8), Vcpu(to as u8));
+        let (from, to) = (Vcpu(from as u16), Vcpu(to as u16));
         ensure(self.is_on(from) && self.is_on(to), Reason::LpisOff)?;
         Ok(Effect::MoveAll { from, to })
     }

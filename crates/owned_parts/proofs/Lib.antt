@@ -1,2 +1,1 @@
-pub mod RedistSets
 pub mod Places

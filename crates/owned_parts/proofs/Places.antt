@@ -1,14 +1,14 @@
 -- The places of redistributors, and what the state has of those that are in hand.
-use Rattle.std.proofs.Common.{◌≡◌, ℕ, zero, suc, ◌+◌, ◌<◌, ◌≤◌, List, [], ◌∷◌, map, drop, Option, Some, None, refl, ap, ◌∙◌, arith, zero-add}
-use Rattle.std.proofs.lemmas.List.{get_or-set_same, get_or-set_other}
+use Rattle.std.proofs.Common.{◌≡◌, ℕ, zero, suc, ◌+◌, ◌<◌, ◌≤◌, List, [], ◌∷◌, map, drop, replicate, get_or, true, Option, Some, None, refl, ap, ◌∙◌, arith, zero-add}
+use Rattle.std.proofs.lemmas.List.{get_or-set_same, get_or-set_other, length-set, length-replicate}
 use Rattle.std.proofs.lemmas.List.FromFn.{length-map-range_with_len}
 use Rattle.std.proofs.lemmas.Option.{same_Some}
-use Rattle.std.specs.Prelude.{length, slice_get}
+use Rattle.std.specs.Prelude.{length, slice_get, is_some}
 use Rattle.std.specs.List.{range_with_len}
 use Rattle.its_plain.specs.Plain.{joined}
-use Rattle.lpi_config.specs.declared.conf.Conf.{Conf}
-use Rattle.lpi_pending.specs.InHand.{RedistParts, conf_in, pend_in, set_conf, set_pend, redistributor_of}
-use Rattle.lpi_pending.specs.declared.pend.Pend.{Pend}
+use Rattle.lpi_config.specs.Conf.{Conf}
+use Rattle.lpi_pending.specs.InHand.{RedistParts, conf_in, pend_in, set_conf, set_pend, redistributor_of, no_redists, AreEmpty}
+use Rattle.lpi_pending.specs.Pend.{Pend}
 use Rattle.owned_parts.specs.Owned.{conf_or, pend_or, redistributor_in, redistributors_in}
 use Rattle.owned_parts.specs.Places.{AreInHandAt, AreNotInHand}
 
@@ -54,6 +54,31 @@ pub drop_to_place : (redists : RedistParts) (n v : ℕ) (c : Conf) (p : Pend) �
     → drop v (redistributors_in n redists) ≡ redistributor_of c p ∷ drop (suc v) (redistributors_in n redists)
 drop_to_place redists n v c p lt h = drop_there (redistributors_in n redists) v (redistributor_of c p) (at_place redists n v c p lt h)
 
+-- ---- places
+
+none_there : {X : Type 0} (n v : ℕ) → ◌≡◌ {A = Option X} (get_or (replicate n None) v None) None
+none_there zero v = refl
+none_there (suc n) zero = refl
+none_there (suc n) (suc v) = none_there n v
+
+-- so many places, all empty
+pub empty_places : (n : ℕ) → AreEmpty n (no_redists n)
+empty_places n = record {
+  confs = none_there n;
+  pends = none_there n;
+  conf_room = length-replicate n None;
+  pend_room = length-replicate n None;
+}
+
+pub none_in_hand : (n v : ℕ) → AreNotInHand (no_redists n) v
+none_in_hand n v = record { conf = none_there n v; pend = none_there n v }
+
+-- what is in hand has a place
+pub has_place : {X : Type 0} (xs : List (Option X)) (v : ℕ) → is_some (get_or xs v None) ≡ true → v < length xs
+has_place [] v e = absurd cc
+has_place (x ∷ xs) zero e = omega arith
+has_place (x ∷ xs) (suc v) e = let lt = has_place xs v e in omega (arith, lt)
+
 -- ---- both parts, put into their places
 
 module _ (redists now : RedistParts) (n : ℕ) (c : Conf) (p : Pend) (got : now ≡ set_pend (set_conf redists n (Some c)) n (Some p)) where
@@ -74,3 +99,9 @@ module _ (redists now : RedistParts) (n : ℕ) (c : Conf) (p : Pend) (got : now 
 
   pub still_empty : (v : ℕ) → (v ≡ n → ⊥) → AreNotInHand redists v → AreNotInHand now v
   still_empty v apart h = record { conf = other_conf v apart ∙ h.conf; pend = other_pend v apart ∙ h.pend }
+
+  pub same_conf_room : length now.confs ≡ length redists.confs
+  same_conf_room = ap (λ r. length r.confs) got ∙ length-set redists.confs n (Some c)
+
+  pub same_pend_room : length now.pends ≡ length redists.pends
+  same_pend_room = ap (λ r. length r.pends) got ∙ length-set redists.pends n (Some p)

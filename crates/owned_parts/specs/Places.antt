@@ -1,8 +1,8 @@
 -- Whether both parts of a redistributor are in hand, or neither.
 use Rattle.std.specs.Prelude.{◌≡◌, ℕ, Some, None}
-use Rattle.lpi_config.specs.declared.conf.Conf.{Conf}
+use Rattle.lpi_config.specs.Conf.{Conf}
 use Rattle.lpi_pending.specs.InHand.{RedistParts, conf_in, pend_in}
-use Rattle.lpi_pending.specs.declared.pend.Pend.{Pend}
+use Rattle.lpi_pending.specs.Pend.{Pend}
 
 -- both parts of the virtual processor's redistributor are in hand, and are these
 pub record AreInHandAt (redists : RedistParts) (vcpu : ℕ) (c : Conf) (p : Pend) : Type 0 where

@@ -5,11 +5,9 @@
 mod in_place;
 mod parts;
 mod redist_set;
-mod redist_walk;
 mod translation;
 
 pub use in_place::{InPlace, TranslatorRef};
 pub use parts::{Parts, Translator};
 pub use redist_set::RedistSet;
-pub use redist_walk::RedistWalk;
 pub use translation::locate;

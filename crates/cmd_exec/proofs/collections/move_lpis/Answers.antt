@@ -6,7 +6,7 @@ use Rattle.its_types.specs.Maps.{events_at}
 use Rattle.cmd_exec.specs.InHand.{lpis_moved_in}
 use Rattle.cmd_exec.specs.Ready.{TakesAll}
 use Rattle.cmd_exec.specs.Walked.{lpis_of, lpis_of_all}
-use Rattle.cmd_exec.proofs.Walks.{no_intids, moved_some, takes_first, takes_more}
+use Rattle.cmd_exec.proofs.Walks.{no_intids, moved_some, on_more, takes_first, takes_more}
 use Rattle.cmd_exec.proofs.Order.{intids_are}
 use Rattle.cmd_exec.proofs.collections.move_lpis.Goals as goal
 
@@ -20,6 +20,7 @@ loop-dev-init c =
       rest = ap (λ (xs : List ℕ). lpis_moved_in xs from to rs) all;
       from = subst (TakesAll rs from) (intids_are m icid c.requires.devices ∙ sym all) c.requires.from;
       to = subst (TakesAll rs to) (intids_are m icid c.requires.devices ∙ sym all) c.requires.to;
+      on = c.requires.on;
     }
 
 pub move_lpis_of-requires-clause-from : goal.move_lpis_of-requires-clause-from
@@ -50,6 +51,7 @@ loop-dev-preserved c =
       rest = moved_some here rest from to rs now moved ∙ ap (λ (xs : List ℕ). lpis_moved_in xs from to rs) (sym is) ∙ c.loop-dev.invariant.rest;
       from = takes_more here rest from to from rs now moved (subst (TakesAll rs from) is c.loop-dev.invariant.from);
       to = takes_more here rest from to to rs now moved (subst (TakesAll rs to) is c.loop-dev.invariant.to);
+      on = on_more here from to to rs now moved c.loop-dev.invariant.on;
     }
 
 pub returns : goal.returns

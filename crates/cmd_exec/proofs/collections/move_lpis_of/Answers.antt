@@ -4,7 +4,7 @@ use Rattle.its_maps.specs.Walks.{events_left}
 use Rattle.cmd_exec.specs.InHand.{lpis_moved_in}
 use Rattle.cmd_exec.specs.Ready.{TakesAll}
 use Rattle.cmd_exec.specs.Walked.{lpis_of}
-use Rattle.cmd_exec.proofs.Walks.{lpis_first, moved_some, takes_more}
+use Rattle.cmd_exec.proofs.Walks.{lpis_first, moved_some, on_more, takes_more}
 use Rattle.cmd_exec.proofs.collections.move_lpis_of.Goals as goal
 
 pub loop-event-preserved-then-eq : goal.loop-event-preserved-then-eq
@@ -20,4 +20,5 @@ loop-event-preserved-then-eq c =
           ∙ c.loop-event.invariant.rest;
       from = takes_more (x ∷ []) rest from to from rs now c.move_lpi.ensures (subst (TakesAll rs from) is c.loop-event.invariant.from);
       to = takes_more (x ∷ []) rest from to to rs now c.move_lpi.ensures (subst (TakesAll rs to) is c.loop-event.invariant.to);
+      on = on_more (x ∷ []) from to to rs now c.move_lpi.ensures c.loop-event.invariant.on;
     }

@@ -1,5 +1,5 @@
 use Rattle.std.proofs.Common.{Result, IfOk, sym, ap, subst, ◌∙◌}
-use Rattle.std.specs.Prelude.{is_some}
+use Rattle.std.specs.Prelude.{is_some, length}
 use Rattle.gits_regs.specs.Registers.{Registers, advanced}
 use Rattle.its_types.specs.Maps.{Maps}
 use Rattle.its_plain.specs.declared.call.Reason.{Reason}
@@ -39,6 +39,12 @@ pub returns-in-Ok-clause-pends : goal.returns-in-Ok-clause-pends
 returns-in-Ok-clause-pends c = λ v.
     let s = c.args.shape.now in let m = c.args.maps.now.maps in let rs = c.args.redists.now in
     ap (λ (x : RedistParts). is_some (pend_in x v)) c.carry_out.ensures.redists ∙ (after_alike s m c.args.memory.now c.in-Ok.effect rs).pends v
+
+pub returns-in-Ok-clause-room : goal.returns-in-Ok-clause-room
+returns-in-Ok-clause-room c =
+    let s = c.args.shape.now in let m = c.args.maps.now.maps in let rs = c.args.redists.now in let now = c.carry_out.ensures.redists in
+    let same = (after_alike s m c.args.memory.now c.in-Ok.effect rs).room in
+    (ap (λ (x : RedistParts). length x.confs) now ∙ same.0, ap (λ (x : RedistParts). length x.pends) now ∙ same.1)
 
 pub returns-in_default-clause-left : goal.returns-in_default-clause-left
 returns-in_default-clause-left c =

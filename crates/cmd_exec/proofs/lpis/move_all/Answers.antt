@@ -1,8 +1,6 @@
 use Rattle.std.proofs.Common.{Some, sym, ap, ◌∙◌}
 use Rattle.std.proofs.lemmas.Bool.{eqb-false}
-use Rattle.lpi_pending.specs.PendingSets.{PendingSet}
-use Rattle.lpi_pending.specs.declared.pend.Pend.{Pend}
-use Rattle.cmd_exec.proofs.InHand.{moved_all}
+use Rattle.cmd_exec.proofs.InHand.{moved_all, taken_on}
 use Rattle.cmd_exec.proofs.lpis.move_all.Goals as goal
 
 pub returns : goal.returns
@@ -10,9 +8,13 @@ returns c =
     let from = c.args.from.0 in let to = c.args.to.0 in
     let s = c.deref_mut.result.now in
     let t = c.pend_mut-target.result.now in
-    let emptied : PendingSet → Pend = λ (p : PendingSet). record s { pending = p } in
-    let filled : PendingSet → Pend = λ (p : PendingSet). record t { pending = p } in
-    moved_all c.args.redists.now c.take_pend-source.new.self c.place_pend.new.self from to s t (emptied c.move_all.new.self) (filled c.move_all.new.to)
+    moved_all c.args.redists.now c.take_pend-source.new.self c.place_pend.new.self from to s t c.move_all.new.self c.move_all.new.to
     (eqb-false from to (sym c.if-eq.ensures))
     (c.take_pend-source.ensures.value ∙ ap Some (sym c.deref_mut.ensures.value)) c.take_pend-source.ensures.taken c.pend_mut-target.ensures.value
-    (ap emptied c.move_all.ensures.left) (ap filled c.move_all.ensures.moved) c.place_pend.ensures.placed
+    c.move_all.ensures.left c.move_all.ensures.moved c.place_pend.ensures.placed
+
+pub move_all-requires-clause-on : goal.move_all-requires-clause-on
+move_all-requires-clause-on c =
+    let from = c.args.from.0 in let to = c.args.to.0 in
+    taken_on c.args.redists.now c.take_pend-source.new.self from to c.pend_mut-target.result.now (eqb-false from to (sym c.if-eq.ensures))
+    c.take_pend-source.ensures.taken c.pend_mut-target.ensures.value c.requires.on

@@ -1,21 +1,24 @@
 use Rattle.std.proofs.Common.{◌∙◌, sym, ap}
-use Rattle.lpi_config.specs.Configurations.{Configuration}
-use Rattle.lpi_config.specs.declared.conf.Conf.{Conf}
+use Rattle.its_types.specs.declared.translation.Bases.{Bases}
 use Rattle.cmd_exec.proofs.Opened.{reread_off, reread_some, reread_none}
 use Rattle.cmd_exec.proofs.lpis.reread.Goals as goal
 
-pub returns-then-not-conf : goal.returns-then-not-conf
-returns-then-not-conf c = reread_off c.args.memory.now c.args.intid.0 c.args.conf.now c.if-not-conf.true
+pub returns-then-not-bases : goal.returns-then-not-bases
+returns-then-not-bases c =
+    let on = ap (λ (b : Bases). b.on) c.bases.ensures in
+    reread_off c.args.memory.now c.args.intid.0 c.args.conf.now (sym on ∙ c.if-not-bases.true)
 
 pub returns-in-Ok : goal.returns-in-Ok
 returns-in-Ok c =
-    let r = c.args.conf.now in
-    let same : Configuration → Conf = λ (x : Configuration). record r { config = x } in
-    ap same c.reload.ensures
-    ∙ reread_some c.args.memory.now c.args.intid.0 r _ c.from-place.result c.in-Ok.byte c.if-not-conf.false c.from-place.ensures
-    (sym c.read_u8.ensures ∙ c.in-Ok.is)
+    let on = ap (λ (b : Bases). b.on) c.bases.ensures in
+    let read = sym c.read_u8.ensures ∙ c.in-Ok.is in
+    c.reload.ensures
+    ∙ reread_some c.args.memory.now c.args.intid.0 c.args.conf.now _ c.from-place.result c.in-Ok.byte (sym on ∙ c.if-not-bases.false)
+    c.from-place.ensures (rw c.bases-2.ensures at read)
 
 pub returns-in_default : goal.returns-in_default
 returns-in_default c =
-    reread_none c.args.memory.now c.args.intid.0 c.args.conf.now _ _ c.from-place.result c.if-not-conf.false c.from-place.ensures
-    (sym c.read_u8.ensures ∙ c.in_default.is)
+    let on = ap (λ (b : Bases). b.on) c.bases.ensures in
+    let read = sym c.read_u8.ensures ∙ c.in_default.is in
+    reread_none c.args.memory.now c.args.intid.0 c.args.conf.now _ _ c.from-place.result (sym on ∙ c.if-not-bases.false) c.from-place.ensures
+    (rw c.bases-2.ensures at read)
