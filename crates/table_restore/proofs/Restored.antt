@@ -8,32 +8,43 @@ use Rattle.its_types.specs.declared.machine.Shape.{Shape}
 use Rattle.its_types.specs.declared.translation.Bases.{Bases}
 use Rattle.gicr_regs.specs.Redistributors.{has_tables}
 use Rattle.its_plain.specs.Stands.{lacks_tables, IsRedistributorIn}
-use Rattle.lpi_config.specs.declared.conf.Conf.{Conf}
-use Rattle.lpi_pending.specs.InHand.{RedistParts, set_conf, set_pend}
-use Rattle.lpi_pending.specs.declared.pend.Pend.{Pend}
+use Rattle.lpi_config.specs.Conf.{Conf}
+use Rattle.lpi_pending.specs.InHand.{RedistParts, set_conf, set_pend, no_redists}
+use Rattle.lpi_pending.specs.Pend.{Pend}
 use Rattle.owned_parts.specs.Places.{AreInHandAt, AreNotInHand}
-use Rattle.owned_parts.proofs.Places.{placed_here, still_there, still_empty}
+use Rattle.owned_parts.proofs.Places.{empty_places, none_in_hand, placed_here, still_there, still_empty, same_conf_room, same_pend_room}
 use Rattle.table_restore.specs.Outcome.{IsOffRedist, IsRestoredRedist, AreRestoredRedists}
 
 -- the redistributors below n are in hand, and no other
 pub record AreRestoredBelow (s : Shape) (memory : List Window) (bases : List Bases) (redists : RedistParts) (n : ℕ) : Type 0 where
-  pub confs : length redists.confs ≡ 16
-  pub pends : length redists.pends ≡ 16
+  pub confs : length redists.confs ≡ s.vcpus
+  pub pends : length redists.pends ≡ s.vcpus
   pub clear : (vcpu : ℕ) (b : Bases) → vcpu < n → slice_get bases vcpu ≡ Some b → lacks_tables s memory b ≡ false
   pub each : (vcpu : ℕ) (b : Bases) → vcpu < n → slice_get bases vcpu ≡ Some b
       → (c : Conf) × (p : Pend) × AreInHandAt redists vcpu c p × IsRestoredRedist s memory b c p
   pub rest : (vcpu : ℕ) → n ≤ vcpu → AreNotInHand redists vcpu
+
+pub none_below : (s : Shape) (memory : List Window) (bases : List Bases) (redists : RedistParts) → redists ≡ no_redists s.vcpus
+    → AreRestoredBelow s memory bases redists 0
+none_below s memory bases redists is =
+    subst (λ (r : RedistParts). AreRestoredBelow s memory bases r 0) (sym is) (record {
+      confs = (empty_places s.vcpus).conf_room;
+      pends = (empty_places s.vcpus).pend_room;
+      clear = λ v b lt e. absurd (omega (arith, lt));
+      each = λ v b lt e. absurd (omega (arith, lt));
+      rest = λ v le. none_in_hand s.vcpus v;
+    })
 
 module _ (s : Shape) (memory : List Window) (bases : List Bases) (redists now : RedistParts) (n : ℕ) (b : Bases) (r : Conf × Pend)
     (at : slice_get bases n ≡ Some b) (got : now ≡ set_pend (set_conf redists n (Some r.0)) n (Some r.1)) where
   same_base : (c : Bases) → slice_get bases n ≡ Some c → b ≡ c
   same_base c e = let two : Some b ≡ Some c = sym at ∙ e in cc
 
-  pub one_more : n < 16 → lacks_tables s memory b ≡ false → IsRestoredRedist s memory b r.0 r.1 → length now.confs ≡ 16 → length now.pends ≡ 16
-      → AreRestoredBelow s memory bases redists n → AreRestoredBelow s memory bases now (n + 1)
-  one_more small has is confs pends before = record {
-    confs = confs;
-    pends = pends;
+  pub one_more : n < s.vcpus → lacks_tables s memory b ≡ false → IsRestoredRedist s memory b r.0 r.1 → AreRestoredBelow s memory bases redists n
+      → AreRestoredBelow s memory bases now (n + 1)
+  one_more small has is before = record {
+    confs = same_conf_room redists now n r.0 r.1 got ∙ before.confs;
+    pends = same_pend_room redists now n r.0 r.1 got ∙ before.pends;
     clear = λ v c lt e. elim (cases_eq v n) [
       | inl same ↦ subst (λ (d : Bases). lacks_tables s memory d ≡ false) (same_base c (ap (slice_get bases) (sym same) ∙ e)) has
       | inr apart ↦ before.clear v c (omega (arith, apart)) e

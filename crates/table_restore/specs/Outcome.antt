@@ -6,6 +6,7 @@ use Rattle.gits_regs.specs.Registers.{Registers}
 use Rattle.baser_place.specs.Places.{level1_address}
 use Rattle.table_entries.specs.Fields.{CollectionFields}
 use Rattle.gicr_regs.specs.Redistributors.{off_redistributor}
+use Rattle.gicr_regs.specs.declared.values.GicrValues.{GicrValues}
 use Rattle.its_types.specs.Maps.{Maps}
 use Rattle.its_types.specs.declared.ids.Icid.{Icid}
 use Rattle.its_types.specs.declared.ids.Vcpu.{Vcpu}
@@ -18,6 +19,7 @@ use Rattle.its_plain.specs.declared.fault.RestoreFault.{RestoreFault}
 use Rattle.its_plain.specs.declared.fault.RestoreFault.TheVariants as fault
 use Rattle.its_plain.specs.declared.fault.RestoreFault.TheVariants.{OutsideTable, BadRedist}
 use Rattle.its_plain.specs.Plain.{Translator}
+use Rattle.its_plain.specs.declared.layout.Layout.{Layout}
 use Rattle.its_plain.specs.Stands.{AreRedistributorsClear, RedistributorOffends, IsRedistributorIn, lacks_tables}
 use Rattle.its_plain.specs.Stands.{IsTranslatorIn, IsTranslatorFrom, IsTranslatorClear, TranslatorOffends}
 use Rattle.gits_regs.specs.declared.values.NotValid.{NotValid}
@@ -25,9 +27,9 @@ use Rattle.gits_regs.specs.declared.values.RegValues.{RegValues}
 use Rattle.its_maps.specs.MapsRoom.{MapsRoom}
 use Rattle.its_types.specs.declared.machine.Shape.{Shape}
 use Rattle.its_types.specs.declared.translation.Bases.{Bases}
-use Rattle.lpi_config.specs.declared.conf.Conf.{Conf}
+use Rattle.lpi_config.specs.Conf.{Conf}
 use Rattle.lpi_pending.specs.InHand.{RedistParts, HasLpisOfConf, HasLpisOfPend, redistributor_of}
-use Rattle.lpi_pending.specs.declared.pend.Pend.{Pend}
+use Rattle.lpi_pending.specs.Pend.{Pend}
 use Rattle.owned_parts.specs.Owned.{translator_of, translators_of}
 use Rattle.owned_parts.specs.Places.{AreInHandAt, AreNotInHand}
 use Rattle.owned_parts.specs.declared.parts.Translator.{Translator as TranslatorInHand}
@@ -93,6 +95,10 @@ abbrev pub RestoredRedist : Shape → List Window → ℕ → Bases → Result (
 RestoredRedist s memory vcpu b (Ok r) = IsRestoredRedist s memory b r.0 r.1 × (lacks_tables s memory b ≡ false)
 RestoredRedist s memory vcpu b (Err (errors.Fault f)) = (lacks_tables s memory b ≡ true) × (f ≡ BadRedist (record { 0 = vcpu }))
 RestoredRedist s memory vcpu b (Err errors.NoMemory) = Unit {0}
+
+-- where the registers of redistributors say where their tables are, there are values for each virtual processor
+abbrev pub HasValuesFor : Layout → GicrValues → Type 0
+HasValuesFor layout values = layout.gicr ≡ true → length values.registers ≡ layout.shape.vcpus
 
 -- each redistributor with bases is in hand, and no other
 pub record AreRestoredRedists (s : Shape) (memory : List Window) (bases : List Bases) (redists : RedistParts) : Type 0 where

@@ -54,7 +54,7 @@ fn look(
     if maps.collection(icid).is_some() {
         return Err(RestoreFault::DoubleCollection(icid));
     }
-    Ok((Some((icid, Vcpu(entry.vcpu_number as u8))), next))
+    Ok((Some((icid, Vcpu(entry.vcpu_number as u16))), next))
 }
 
 // Maps the collection that a place has, if it has one.

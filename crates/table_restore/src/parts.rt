@@ -8,6 +8,7 @@ ghost use Rattle.owned_parts.specs.Owned.{translators_of};
 ghost use Rattle.owned_parts.specs.Places.{AreNotInHand};
 ghost use Rattle.standing_states.specs.Laws.{bases_to_restore};
 ghost use Rattle.table_restore.specs.Outcome.{AreTranslatorsFrom, IsFirstOf, IfFault, WhereFault};
+ghost use Rattle.table_restore.specs.Outcome.{HasValuesFor};
 
 use crate::error::RestoreError;
 use crate::redists::redists_of;
@@ -89,6 +90,7 @@ fn find(
     layout: &Layout,
 ) -> Result<Found, RestoreError>
     requires layout { IsLayout layout.now }
+    requires given { HasValuesFor layout.now gicr.now }
     requires some { 1 ≤ length values.now }
     requires most { length values.now ≤ 2 }
     ensures stands { IfOk result (λ f.
@@ -114,8 +116,8 @@ fn find(
 /// LPI registers stand for, with a copy of the memory, or their first fault. A redistributor
 /// whose LPIs are on and of which a table doesn't lie in one window is a fault before all
 /// others; then come the registers, the collections, and the devices with their events. Where the
-/// layout describes the LPI tables, the values of the LPI registers aren't looked at. Where the
-/// machine has a second memory, that is zero, and every page is dirty.
+/// layout describes the LPI tables, the values of the LPI registers aren't looked at, and there may
+/// be none. Where the machine has a second memory, that is zero, and every page is dirty.
 pub fn restore(
     alloc: Global,
     values: RegValues,
@@ -124,6 +126,7 @@ pub fn restore(
     layout: &Layout,
 ) -> Result<Parts, RestoreError>
     requires layout { IsLayout layout.now }
+    requires given { HasValuesFor layout.now gicr.now }
     ensures stands { IfOk result (λ p.
         Stands memory.now (Some values ∷ []) layout.now (bases_to_restore layout.now gicr.now)
         (state_of_parts p)) }
@@ -148,6 +151,7 @@ pub fn restore_two(
     layout: &Layout,
 ) -> Result<Parts, RestoreError>
     requires layout { IsLayout layout.now }
+    requires given { HasValuesFor layout.now gicr.now }
     ensures stands { IfOk result (λ p.
         Stands memory.now (Some first ∷ Some second ∷ []) layout.now
         (bases_to_restore layout.now gicr.now) (state_of_parts p)) }
@@ -171,6 +175,7 @@ fn restore_copy(
     layout: &Layout,
 ) -> Result<Parts, RestoreError>
     requires layout { IsLayout layout.now }
+    requires given { HasValuesFor layout.now gicr.now }
     requires some { 1 ≤ length values.now }
     requires most { length values.now ≤ 2 }
     ensures stands { IfOk result (λ p.
@@ -202,6 +207,7 @@ pub fn restore_in(
     layout: &Layout,
 ) -> Result<Parts, (Memory, RestoreError)>
     requires layout { IsLayout layout.now }
+    requires given { HasValuesFor layout.now gicr.now }
     requires some { 1 ≤ length values.now }
     requires most { length values.now ≤ 2 }
     ensures stands { IfOk result (λ p.

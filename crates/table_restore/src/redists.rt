@@ -7,6 +7,7 @@ ghost use Rattle.its_plain.specs.Sound.{IsShape, IsLayout};
 ghost use Rattle.its_plain.specs.Stands.{ArePendingIn};
 ghost use Rattle.standing_states.specs.Laws.{bases_to_restore};
 ghost use Rattle.table_restore.specs.Outcome.{IsOffRedist, RestoredRedist, RestoredRedists};
+ghost use Rattle.table_restore.specs.Outcome.{HasValuesFor};
 
 use crate::error::TableError;
 use gicr_regs::{GicrValues, restored_bases};
@@ -55,20 +56,17 @@ fn on_redist(
     }
     let config = Config::load(alloc, memory, bases.prop.table, shape.lpi_bits)?;
     let pending = pending_of(alloc, memory, bases.pend.table, shape)?;
-    let accepts = bases.on;
-    Ok((Conf { config, bases }, Pend { pending, accepts }))
+    Ok((Conf::on(alloc, config, bases), Pend::on(alloc, pending)))
 }
 
-// One whose LPIs are off: its tables aren't read.
-fn off_redist(alloc: Global, shape: Shape, bases: Bases) -> Result<(Conf, Pend), AllocError>
+// One whose LPIs are off: its tables aren't read, and it takes no memory for them.
+fn off_redist(alloc: Global, shape: Shape, bases: Bases) -> (Conf, Pend)
     requires shape { IsShape shape }
     requires off { bases.on ≡ false }
-    ensures { IfOk result (λ r. IsOffRedist shape bases r.0 r.1) }
+    ensures { IsOffRedist shape bases result.0 result.1 }
 {
-    let accepts = bases.on;
-    let config = Config::zeros(alloc, shape.lpi_bits)?;
-    let pending = Pending::new(alloc, shape.lpi_bits)?;
-    Ok((Conf { config, bases }, Pend { pending, accepts }))
+    let conf = Conf::off(alloc, shape.lpi_bits, bases);
+    (conf, Pend::off(alloc, shape.lpi_bits))
 }
 
 fn redist_of(
@@ -84,21 +82,22 @@ fn redist_of(
     if bases.on {
         on_redist(alloc, memory, shape, vcpu, bases)
     } else {
-        Ok(off_redist(alloc, shape, bases)?)
+        Ok(off_redist(alloc, shape, bases))
     }
 }
 
 // The registers with which a virtual processor's redistributor begins.
-fn bases_of(gicr: &GicrValues, layout: &Layout, vcpu: u8) -> Bases
+fn bases_of(gicr: &GicrValues, layout: &Layout, vcpu: u16) -> Bases
     requires layout { IsLayout layout.now }
+    requires values { HasValuesFor layout.now gicr.now }
     requires vcpu { vcpu < layout.now.shape.vcpus }
     ensures bases { slice_get (bases_to_restore layout.now gicr.now) vcpu ≡ Some result }
     ensures many { length (bases_to_restore layout.now gicr.now) ≡ layout.now.shape.vcpus }
 {
     if layout.gicr {
-        restored_bases(&gicr.registers[vcpu as usize])
+        restored_bases(&gicr.registers.as_slice()[usize::from(vcpu)])
     } else {
-        layout.described.as_slice()[vcpu as usize]
+        layout.described.as_slice()[usize::from(vcpu)]
     }
 }
 
@@ -110,14 +109,15 @@ pub fn redists_of(
     gicr: &GicrValues,
     layout: &Layout,
 ) -> Result<Redists, TableError>
-    requires { IsLayout layout.now }
+    requires layout { IsLayout layout.now }
+    requires values { HasValuesFor layout.now gicr.now }
     ensures redists { RestoredRedists layout.now.shape memory.now
         (bases_to_restore layout.now gicr.now) result }
     ensures many { OnOk result
         (length (bases_to_restore layout.now gicr.now) ≡ layout.now.shape.vcpus) }
 {
     let shape = layout.shape;
-    let mut redists = Redists::new();
+    let mut redists = Redists::with_room(alloc, shape.vcpus)?;
     for vcpu in 0..shape.vcpus {
         let bases = bases_of(gicr, layout, vcpu);
         let (conf, pend) = redist_of(alloc, memory, shape, Vcpu(vcpu), bases)?;

@@ -15,9 +15,9 @@ use Rattle.its_types.specs.declared.translation.Device.{Device}
 use Rattle.its_plain.specs.Plain.{Translator, Redistributor}
 use Rattle.its_plain.specs.Regions.{device_pages}
 use Rattle.its_plain.specs.Saved.{Words, device_words, pages_words, page_words, pending_words, device_word}
-use Rattle.lpi_config.specs.declared.conf.Conf.{Conf}
+use Rattle.lpi_config.specs.Conf.{Conf}
 use Rattle.lpi_pending.specs.InHand.{RedistParts, redistributor_of}
-use Rattle.lpi_pending.specs.declared.pend.Pend.{Pend}
+use Rattle.lpi_pending.specs.Pend.{Pend}
 use Rattle.owned_parts.specs.Places.{AreInHandAt}
 use Rattle.owned_parts.proofs.Places.{drop_to_place, none_left}
 use Rattle.table_save.specs.Areas.{redistributors_of}

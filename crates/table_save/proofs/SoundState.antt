@@ -19,7 +19,7 @@ use Rattle.its_types.specs.declared.machine.Shape.{Shape}
 use Rattle.its_plain.specs.Plain.{Translator, joined}
 use Rattle.its_plain.specs.Sound.{IsSound, IsRedistributor, IsTranslator}
 use Rattle.its_plain.specs.declared.layout.Layout.{Layout}
-use Rattle.lpi_config.specs.declared.conf.Conf.{Conf}
+use Rattle.lpi_config.specs.Conf.{Conf}
 use Rattle.lpi_pending.specs.InHand.{RedistParts, pend_in}
 use Rattle.owned_parts.specs.Owned.{AreAllInHand, state_of, conf_or, pend_or, redistributor_in, one_or_two, translator_at, translators_at}
 use Rattle.owned_parts.proofs.Places.{place_is}

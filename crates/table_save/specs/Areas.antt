@@ -18,7 +18,7 @@ use Rattle.its_plain.specs.declared.layout.Layout.{Layout}
 use Rattle.gicr_regs.specs.Registers.{AreLow}
 use Rattle.its_plain.specs.Regions.{device_areas, collection_areas, itt_area, areas_from}
 use Rattle.its_plain.specs.declared.fault.Region.TheVariants.{Pending, Config, ConfigOf}
-use Rattle.lpi_config.specs.declared.conf.Conf.{Conf}
+use Rattle.lpi_config.specs.Conf.{Conf}
 use Rattle.lpi_pending.specs.InHand.{RedistParts, conf_in}
 use Rattle.owned_parts.specs.Owned.{redistributors_in}
 

@@ -1,5 +1,5 @@
 -- What a save relies on of the parts that it is given.
-use Rattle.std.specs.Prelude.{ℕ, ◌+◌, List, [], ◌∷◌, ◌++◌, length, Option, Some, None, IfSome}
+use Rattle.std.specs.Prelude.{ℕ, ◌+◌, ◌*◌, List, [], ◌∷◌, ◌++◌, length, Option, Some, None, IfSome}
 use Rattle.std.specs.List.{AllByRecursion}
 use Rattle.std.specs.FinMap.{entries}
 use Rattle.dirty_log.specs.declared.tracked.Tracked.{Tracked}
@@ -50,6 +50,10 @@ second_count (Some t) = device_count t
 -- how many devices are mapped
 abbrev pub all_count : InPlace → ℕ
 all_count p = device_count p.first + second_count p.second
+
+-- how many areas there are at most: those of each of two translators, and two of each virtual processor
+abbrev pub area_count : InPlace → ℕ
+area_count p = all_count p + 262 + 2 * p.layout.now.shape.vcpus
 
 abbrev pub tables_at : ℕ → List Window → TranslatorRef → List Area
 tables_at its memory t = tables_in its memory t.regs.now t.maps.now.maps

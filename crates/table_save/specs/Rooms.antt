@@ -17,6 +17,6 @@ pub record Appended (count : ℕ) (more : List Area) (old new : AreaList) : Type
   pub few : length new.items ≤ length old.items + count
   pub capacity : old.capacity ≤ new.capacity
 
--- for how many mapped devices there is room
+-- for how many areas there is room
 pub record SaveRoom : Type 0 where
   pub spare : ℕ

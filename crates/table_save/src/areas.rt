@@ -150,16 +150,16 @@ fn itt_area(its: u8, dev: DeviceId, device: Device) -> Stretch
 
 // Appends those of the pending tables, but for the bytes that belong to no LPI.
 fn add_pending(areas: &mut AreaList, redists: &Redists, shape: Shape)
-    requires room { HasRoom 16 areas.old }
+    requires room { HasRoom shape.vcpus areas.old }
     requires shape { IsShape shape }
     requires in_hand { AreAllInHand shape redists.now }
     requires low { HaveLowTables shape redists.now }
-    ensures { Appended 16 (spec.areas_from (spec.pending_area shape) 0
+    ensures { Appended shape.vcpus (spec.areas_from (spec.pending_area shape) 0
         (redistributors_of shape redists.now)) areas.old areas.new }
 {
     for vcpu in 0..shape.vcpus {
         let conf = redists.conf(Vcpu(vcpu));
-        add_pending_of(areas, Vcpu(vcpu), conf.bases, shape);
+        add_pending_of(areas, Vcpu(vcpu), *conf.bases(), shape);
     }
 }
 
@@ -179,11 +179,11 @@ fn add_pending_of(areas: &mut AreaList, vcpu: Vcpu, bases: Bases, shape: Shape)
 // Appends that of the configuration table, which all virtual processors share; or where the guest
 // programs the LPI registers, that of each whose LPIs are on.
 fn add_configs(areas: &mut AreaList, redists: &Redists, layout: &Layout)
-    requires room { HasRoom 16 areas.old }
+    requires room { HasRoom layout.now.shape.vcpus areas.old }
     requires shape { IsShape layout.now.shape }
     requires in_hand { AreAllInHand layout.now.shape redists.now }
     requires low { HaveLowTables layout.now.shape redists.now }
-    ensures { Appended 16 (config_areas layout.now
+    ensures { Appended layout.now.shape.vcpus (config_areas layout.now
         (redistributors_of layout.now.shape redists.now)) areas.old areas.new }
 {
     let shape = layout.shape;
@@ -191,21 +191,21 @@ fn add_configs(areas: &mut AreaList, redists: &Redists, layout: &Layout)
         add_own_configs(areas, redists, shape);
         return;
     }
-    let table = redists.conf(Vcpu(0)).bases.prop.table;
+    let table = redists.conf(Vcpu(0)).bases().prop.table;
     areas.push(Stretch::read_only(Region::Config, table.0, shape.lpi_count()));
 }
 
 fn add_own_configs(areas: &mut AreaList, redists: &Redists, shape: Shape)
-    requires room { HasRoom 16 areas.old }
+    requires room { HasRoom shape.vcpus areas.old }
     requires shape { IsShape shape }
     requires in_hand { AreAllInHand shape redists.now }
     requires low { HaveLowTables shape redists.now }
-    ensures { Appended 16 (spec.areas_from (spec.config_area shape) 0
+    ensures { Appended shape.vcpus (spec.areas_from (spec.config_area shape) 0
         (redistributors_of shape redists.now)) areas.old areas.new }
 {
     for vcpu in 0..shape.vcpus {
         let conf = redists.conf(Vcpu(vcpu));
-        add_own_config(areas, Vcpu(vcpu), conf.bases, shape);
+        add_own_config(areas, Vcpu(vcpu), *conf.bases(), shape);
     }
 }
 
@@ -243,11 +243,12 @@ fn add_second_queue(areas: &mut AreaList, second: Option<TranslatorRef<'_>>)
 /// Appends the others.
 pub fn add_others(areas: &mut AreaList, parts: &InPlace<'_>)
     requires fits { FitsSave parts.now }
-    requires room { HasRoom 34 areas.old }
+    requires room { HasRoom (2 * parts.now.layout.now.shape.vcpus + 2) areas.old }
     ensures items { areas.new.items
         ≡ all_areas areas.old.items parts.now.layout.now (queues_of parts.now)
         parts.now.redists.now }
-    ensures few { length areas.new.items ≤ length areas.old.items + 34 }
+    ensures few { length areas.new.items
+        ≤ length areas.old.items + (2 * parts.now.layout.now.shape.vcpus + 2) }
     ensures capacity { areas.old.capacity ≤ areas.new.capacity }
 {
     add_pending(areas, parts.redists, parts.layout.shape);

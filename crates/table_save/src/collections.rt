@@ -1,6 +1,6 @@
 //! The collection table.
 
-ghost use Rattle.std.specs.Prelude.{◌≡◌, ◌<◌, ◌≤◌, ◌^◌, ℕ, List, OnOk, drop, slice_get};
+ghost use Rattle.std.specs.Prelude.{◌≡◌, ◌<◌, ◌≤◌, ◌^◌, ℕ, List, OnOk, IfOk, drop, slice_get};
 ghost use Rattle.guest_windows.specs.Drafts.{laid};
 ghost use Rattle.its_plain.specs.Saved as saved;
 ghost use Rattle.its_plain.specs.Saved.{put_words, put_tables, collection_words};
@@ -58,41 +58,50 @@ fn put_places(
 {
     let mut done = 0;
     while done < count {
-        let more = (count - done).min(BLOCK);
-        put_some(draft, under, base + 8 * u64::from(done), more, front)?;
-        done += more;
+        done += put_some(
+            draft,
+            under,
+            base + 8 * u64::from(done),
+            count - done,
+            front,
+        )?;
     }
     Ok(())
 }
 
-// Writes the places of a block: the next collections, and zeros after them.
+// Writes some of the next places, of which there is one at least: a block of the next collections
+// with zeros after them, or all places where no collection is left. It answers how many it wrote.
 fn put_some(
     draft: &mut Draft,
     under: &Memory,
     base: u64,
-    count: u32,
+    most: u32,
     front: &mut EntryFront<'_>,
-) -> Result<(), AllocError>
+) -> Result<u32, AllocError>
     requires low { base < 2 ^ 54 }
-    requires some { 0 < count }
-    requires few { count ≤ 512 }
+    requires some { 0 < most }
+    ensures some { IfOk result (λ n. 0 < n) }
+    ensures most { IfOk result (λ n. n ≤ most) }
     ensures memory { (es : List (ℕ × Vcpu)) → Leaves front.old es
-        → OnOk result (laid draft.new under.now
+        → IfOk result (λ n. laid draft.new under.now
         ≡ put_words (laid draft.old under.now) base
-        (λ i. saved.collection_entry (slice_get es i)) count) }
+        (λ i. saved.collection_entry (slice_get es i)) n) }
     ensures rest { (es : List (ℕ × Vcpu)) → Leaves front.old es
-        → OnOk result (Leaves front.new (drop count es)) }
+        → IfOk result (λ n. Leaves front.new (drop n es)) }
 {
     let Some(first) = front.next() else {
-        return put_zeros(draft, under, base, count);
+        put_zeros(draft, under, base, most)?;
+        return Ok(most);
     };
+    let count = most.min(BLOCK);
     let mut words = [0u64; BLOCK as usize];
     let words = &mut words[..count as usize];
     words[0] = word_of(Some(first));
     for i in 1..words.len() {
         words[i] = word_of(front.next());
     }
-    put_block(draft, under, base, words)
+    put_block(draft, under, base, words)?;
+    Ok(count)
 }
 
 fn word_of(collection: Option<(Icid, u32)>) -> u64

@@ -38,7 +38,7 @@ impl<'a> Model for DeviceFront<'a> {
 
 impl<'a> DeviceFront<'a> {
     ghost use Rattle.guest_windows.specs.Drafts.{laid};
-    ghost use Rattle.std.specs.Prelude.{◌≡◌, ◌+◌, ◌<◌, ◌≤◌, ◌^◌, ℕ, OnOk, drop, length};
+    ghost use Rattle.std.specs.Prelude.{◌≡◌, ◌+◌, ◌<◌, ◌≤◌, ◌^◌, ℕ, OnOk, drop, false, length};
     ghost use Rattle.std.specs.Prelude.{slice_index};
     ghost use Rattle.std.specs.List.{AllByRecursion};
     ghost use Rattle.std.specs.FinMap.{entries};
@@ -93,7 +93,25 @@ impl<'a> DeviceFront<'a> {
         }
     }
 
-    // Writes the places of a block, at the first of which the devices begin at the earliest.
+    // How many of the next places are written at once: those before the first device, where they
+    // are more than a block, or else a block. At the first of them the devices begin at the
+    // earliest.
+    fn span(&self, id: u32, most: u32) -> u32
+        requires some { 0 < most }
+        requires rises { RisesFrom id self.now }
+        ensures some { 0 < result }
+        ensures most { result ≤ most }
+        ensures free { 512 < result → begins_below (id + result) self.now ≡ false }
+    {
+        let gap = match self.first {
+            Some((dev, _)) => most.min(dev.0 - id),
+            None => most,
+        };
+        if gap > BLOCK { gap } else { most.min(BLOCK) }
+    }
+
+    // Writes the places of a block, or of more without a device, at the first of which the devices
+    // begin at the earliest.
     fn put_block(
         &mut self,
         draft: &mut Draft,
@@ -103,7 +121,7 @@ impl<'a> DeviceFront<'a> {
         count: u32,
     ) -> Result<(), AllocError>
         requires low { base < 2 ^ 54 }
-        requires few { count ≤ 512 }
+        requires few { 512 < count → begins_below (id + count) self.old ≡ false }
         requires fits { id + count < 2 ^ 32 }
         requires rises { RisesFrom id self.old }
         requires fit { AllByRecursion FitsDevice self.old }
@@ -180,7 +198,7 @@ pub fn put_places(
 {
     let mut done = 0;
     while done < count {
-        let more = (count - done).min(BLOCK);
+        let more = front.span(first + done, count - done);
         front.put_block(draft, under, base + 8 * u64::from(done), first + done, more)?;
         done += more;
     }

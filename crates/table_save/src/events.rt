@@ -114,7 +114,24 @@ impl<'a> EventFront<'a> {
         }
     }
 
-    // Writes the places of a block, at the first of which the events begin at the earliest.
+    // How many of the next places are written at once: those before the first event, where they are
+    // more than a block, or else a block. At the first of them the events begin at the earliest.
+    fn span(&self, id: u32, most: u32) -> u32
+        requires some { 0 < most }
+        requires rises { RisesFrom id self.now }
+        ensures some { 0 < result }
+        ensures most { result ≤ most }
+        ensures free { 512 < result → begins_below (id + result) self.now ≡ false }
+    {
+        let gap = match self.first {
+            Some((ev, _)) => most.min(ev.0 - id),
+            None => most,
+        };
+        if gap > BLOCK { gap } else { most.min(BLOCK) }
+    }
+
+    // Writes the places of a block, or of more without an event, at the first of which the events
+    // begin at the earliest.
     fn put_block(
         &mut self,
         draft: &mut Draft,
@@ -124,7 +141,7 @@ impl<'a> EventFront<'a> {
         count: u32,
     ) -> Result<(), AllocError>
         requires low { base < 2 ^ 54 }
-        requires few { count ≤ 512 }
+        requires few { 512 < count → begins_below (id + count) self.old ≡ false }
         requires fits { id + count < 2 ^ 32 }
         requires rises { RisesFrom id self.old }
         requires fit { AllByRecursion FitsEvent self.old }
@@ -230,7 +247,7 @@ fn put_itt(
     let count = places(device.bits);
     let mut done = 0;
     while done < count {
-        let more = (count - done).min(BLOCK);
+        let more = front.span(done, count - done);
         front.put_block(draft, under, device.itt.0 + 8 * u64::from(done), done, more)?;
         done += more;
     }

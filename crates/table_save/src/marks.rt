@@ -159,8 +159,8 @@ fn mark_table(track: &mut Tracked, conf: &Conf, shape: Shape)
     ensures { (p : PendState) → track.new
         ≡ wrote_tables (pending_words shape (joined (conf_state conf.now) p)) track.old }
 {
-    if conf.bases.on {
+    if conf.bases().on {
         let size = 8 * ((shape.pending_bytes() - 1024) / 8);
-        track.mark(Addr(conf.bases.pend.table.0 + 1024), size);
+        track.mark(Addr(conf.bases().pend.table.0 + 1024), size);
     }
 }

@@ -10,7 +10,7 @@ ghost use Rattle.owned_parts.specs.Owned.{AreAllInHand, HasLpisOfPend, redistrib
 ghost use Rattle.gicr_regs.specs.Registers.{AreLow};
 ghost use Rattle.table_save.specs.Areas.{redistributors_of, HaveLowTables};
 
-use crate::words::{BLOCK, put_block};
+use crate::words::{BLOCK, put_block, put_zeros};
 use guest_windows::{Draft, Memory};
 use its_types::{Shape, Vcpu, le_u64};
 use lpi_config::Conf;
@@ -57,17 +57,15 @@ fn put_table(
     ensures { OnOk result (laid draft.new under.now ≡ put_tables (laid draft.old under.now)
         (pending_words shape (redistributor_of conf.now pend.now))) }
 {
-    if !conf.bases.on {
+    if !conf.bases().on {
         return Ok(());
     }
     let count = (shape.pending_bytes() - 1024) / 8;
-    put_words_of(
-        draft,
-        under,
-        conf.bases.pend.table.0 + 1024,
-        count as u32,
-        &pend.pending,
-    )
+    let base = conf.bases().pend.table.0 + 1024;
+    match pend.pending() {
+        Some(pending) => put_words_of(draft, under, base, count as u32, pending),
+        None => put_zeros(draft, under, base, count as u32),
+    }
 }
 
 // Writes so many words, of which the first has the bits of the first LPIs.

@@ -10,12 +10,11 @@ use owned_parts::{InPlace, TranslatorRef};
 use std::alloc::{AllocError, Global};
 use std::marker::Model;
 
-// How many areas there are at most beside the devices' own tables: of each of two translators the
-// first level of the device table and its 128 pages, the collection table, and the command queue;
-// and a pending table and a configuration table of each of 16 virtual processors.
-const OTHERS: usize = 294;
+// How many areas two translators have at most beside their devices' own tables: each the first
+// level of the device table and its 128 pages, the collection table, and the command queue.
+const OF_TRANSLATORS: usize = 262;
 
-/// Room for the tests before a save of translators that have so many mapped devices together.
+/// Room for so many areas in the tests before a save.
 #[derive(Drop)]
 pub struct SaveRoom {
     spare: usize,
@@ -25,46 +24,47 @@ pub struct SaveRoom {
 }
 
 impl Model for SaveRoom {
-    ghost use Rattle.std.specs.Prelude.{◌+◌, ◌≤◌};
+    ghost use Rattle.std.specs.Prelude.{◌≤◌};
     ghost use Rattle.table_save.specs.Rooms as spec;
 
     ghost Value = { spec.SaveRoom };
 
     ghost view = { λ r. record { spare = r.spare } };
 
-    ghost invariant = { λ r. (r.spare + 294 ≤ r.areas.capacity) × (r.spare + 294 ≤ r.all.room)
-        × (r.spare + 294 ≤ r.written.room) };
+    ghost invariant = { λ r. (r.spare ≤ r.areas.capacity) × (r.spare ≤ r.all.room)
+        × (r.spare ≤ r.written.room) };
 }
 
 impl SaveRoom {
-    ghost use Rattle.std.specs.Prelude.{◌≡◌, IfOk};
-    ghost use Rattle.table_save.specs.Fits.{all_count};
+    ghost use Rattle.std.specs.Prelude.{◌≡◌, ◌+◌, ◌*◌, IfOk};
+    ghost use Rattle.table_save.specs.Fits.{area_count};
 
-    /// Room for so many devices.
-    pub fn new(alloc: Global, devices: usize) -> Result<SaveRoom, AllocError>
-        ensures { IfOk result (λ r. r.spare ≡ devices) }
+    /// Room for translators that have so many mapped devices together, and for a pending table and
+    /// a configuration table of each of so many virtual processors.
+    pub fn new(alloc: Global, devices: usize, vcpus: u16) -> Result<SaveRoom, AllocError>
+        ensures { IfOk result (λ r. r.spare ≡ devices + 262 + 2 * vcpus) }
     {
-        let Some(count) = devices.checked_add(OTHERS) else {
+        let Some(count) = devices.checked_add(OF_TRANSLATORS + 2 * usize::from(vcpus)) else {
             return Err(AllocError);
         };
         Ok(SaveRoom {
-            spare: devices,
+            spare: count,
             areas: AreaList::new(alloc, count)?,
             all: Edges::new(alloc, count)?,
             written: Edges::new(alloc, count)?,
         })
     }
 
-    /// Room for the devices that are mapped.
+    /// Room for the devices that are mapped, and for the virtual processors that there are.
     pub fn for_parts(alloc: Global, parts: &InPlace<'_>) -> Result<SaveRoom, AllocError>
-        ensures { IfOk result (λ r. r.spare ≡ all_count parts.now) }
+        ensures { IfOk result (λ r. r.spare ≡ area_count parts.now) }
     {
         let first = count_devices(parts.first.maps)?;
         let second = count_second(parts.second)?;
         let Some(devices) = first.checked_add(second) else {
             return Err(AllocError);
         };
-        SaveRoom::new(alloc, devices)
+        SaveRoom::new(alloc, devices, parts.layout.shape.vcpus)
     }
 }
 

@@ -10,7 +10,7 @@ ghost use Rattle.its_plain.specs.Sound.{IsSound};
 ghost use Rattle.owned_parts.specs.Owned.{AreAllInHand, state_of, state_in_place};
 ghost use Rattle.table_save.specs.Areas.{redistributors_of};
 ghost use Rattle.table_save.specs.Checked.{Answers, Leaves, Saves};
-ghost use Rattle.table_save.specs.Fits.{AreOfSound, FitsSave, FitsTranslator, all_count};
+ghost use Rattle.table_save.specs.Fits.{AreOfSound, FitsSave, FitsTranslator, area_count};
 ghost use Rattle.table_save.specs.Fits.{words_at, second_words};
 
 use crate::areas::{add_others, add_tables};
@@ -41,7 +41,7 @@ pub fn savable(alloc: Global, parts: &InPlace<'_>) -> Result<(), SaveError>
 // Whether the tables can be saved, found in room for them.
 fn savable_in(parts: &InPlace<'_>, room: &mut SaveRoom) -> Result<(), SaveFault>
     requires fits { FitsSave parts.now }
-    requires room { all_count parts.now ≤ room.old.spare }
+    requires room { area_count parts.now ≤ room.old.spare }
     ensures { result ≡ spec.savable (state_in_place parts.now) }
 {
     room.areas.clear();

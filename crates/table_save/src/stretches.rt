@@ -184,11 +184,11 @@ fn list_table(list: &mut Vec<(Addr, u64)>, conf: &Conf, shape: Shape) -> Result<
     ensures { OnOk result ((p : PendState) → pairs list.new.items ≡ pairs list.old.items
         ++ stretches_of (pending_words shape (joined (conf_state conf.now) p))) }
 {
-    if !conf.bases.on {
+    if !conf.bases().on {
         return Ok(());
     }
     let size = 8 * ((shape.pending_bytes() - 1024) / 8);
-    add(list, Addr(conf.bases.pend.table.0 + 1024), size)
+    add(list, Addr(conf.bases().pend.table.0 + 1024), size)
 }
 
 fn add(list: &mut Vec<(Addr, u64)>, base: Addr, len: u64) -> Result<(), AllocError>

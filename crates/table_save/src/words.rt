@@ -60,10 +60,10 @@ pub fn put_block(
     Ok(())
 }
 
-/// Writes a block of zeros, those of them that lie in one window each.
+/// Writes zeros, those of them that lie in one window each. Where all lie in one, a page that isn't
+/// held takes one step, and not one for each word.
 pub fn put_zeros(draft: &mut Draft, under: &Memory, base: u64, count: u32) -> Result<(), AllocError>
     requires low { base < 2 ^ 54 }
-    requires few { count ≤ 512 }
     ensures { OnOk result (laid draft.new under.now
         ≡ put_words (laid draft.old under.now) base (λ _. 0) count) }
 {

@@ -13,14 +13,14 @@ pub loop-done-preserved : goal.loop-done-preserved
 loop-done-preserved c =
     let v = c.loop-done.invariant in
     let done = c.loop-done.done in
-    let more = c.min-more.result in
+    let more = c.in_ok-done.field-0 in
     record {
-      within = omega (arith, v.within, c.min-more.ensures);
+      within = omega (arith, v.within, c.in_ok-done.ensures.most);
       written = λ es h. block_more (laid c.args.draft.now c.args.under.now) (laid c.loop-done.draft c.args.under.now)
           (laid c.put_some.new.draft c.args.under.now) c.args.base done more _
           (λ i. collection_entry (slice_get es i)) (λ i. collection_entry (slice_get (drop done es) i)) (v.written es h)
-          (c.in_ok-put_some.ensures.memory (drop done es) (v.left es h)) (λ k lt. ap collection_entry (get_after es done k)) (omega (arith, c.from.ensures));
-      left = λ es h. subst (Leaves c.put_some.new.front) (drop-drop more done es) (c.in_ok-put_some.ensures.rest (drop done es) (v.left es h));
+          (c.in_ok-done.ensures.memory (drop done es) (v.left es h)) (λ k lt. ap collection_entry (get_after es done k)) (omega (arith, c.from.ensures));
+      left = λ es h. subst (Leaves c.put_some.new.front) (drop-drop more done es) (c.in_ok-done.ensures.rest (drop done es) (v.left es h));
     }
 
 pub returns : goal.returns

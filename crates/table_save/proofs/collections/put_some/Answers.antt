@@ -2,7 +2,6 @@ use Rattle.std.proofs.Common.{◌≡◌, ℕ, List, get_or, set, drop, sym, subs
 use Rattle.std.specs.Prelude.{slice_index, slice_get}
 use Rattle.std.proofs.lemmas.Bool.{cases_eq}
 use Rattle.std.proofs.lemmas.List.{get_or-set_same, get_or-set_other, length-set}
-use Rattle.std.proofs.lemmas.Result.{on_ok_weaker}
 use Rattle.guest_windows.specs.Drafts.{laid}
 use Rattle.its_types.specs.declared.ids.Vcpu.{Vcpu}
 use Rattle.its_plain.specs.Saved.{put_words, collection_entry}
@@ -35,8 +34,6 @@ returns-clause-memory c es h =
     let v = c.loop-i.invariant in
     let xs = c.loop-i.words in
     let memory = laid c.args.draft.now c.args.under.now in
-    on_ok_weaker c.put_block.result (λ wrote.
-    wrote ∙ ap (put_words memory c.args.base (slice_index xs)) v.size
-    ∙ same_words memory c.args.base c.args.count (slice_index xs) (λ i. collection_entry (slice_get es i))
-    (λ k lt. v.words es h k (omega (arith, lt, v.size))))
-    c.put_block.ensures
+    c.in_ok-put_block.ensures ∙ ap (put_words memory c.args.base (slice_index xs)) v.size
+    ∙ same_words memory c.args.base c.min-count.result (slice_index xs) (λ i. collection_entry (slice_get es i))
+    (λ k lt. v.words es h k (omega (arith, lt, v.size)))

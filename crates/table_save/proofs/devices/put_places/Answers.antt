@@ -21,13 +21,13 @@ loop-done-preserved c =
     let v = c.loop-done.invariant in
     let first = c.args.first in
     let done = c.loop-done.done in
-    let more = c.min-more.result in
+    let more = c.span-more.result in
     let all = c.args.front.now in
     let rest = c.loop-done.front in
     let place : (k : ℕ) → first + done + k ≡ first + (done + k) = λ k. omega arith in
     let next : first + done + more ≡ first + (done + more) = omega arith in
     record {
-      within = omega (arith, v.within, c.min-more.ensures);
+      within = omega (arith, v.within, c.span-more.ensures.most);
       written = block_more (laid c.args.draft.now c.args.under.now) (laid c.loop-done.draft c.args.under.now)
           (laid c.put_block.new.draft c.args.under.now) c.args.base done more _ (λ i. device_entry_word all (first + i))
           (λ i. device_entry_word rest (first + done + i)) v.written c.in_ok-put_block.ensures.memory

@@ -22,10 +22,10 @@ pub loop-done-preserved : goal.loop-done-preserved
 loop-done-preserved c =
     let v = c.loop-done.invariant in
     let done = c.loop-done.done in
-    let more = c.min-more.result in
+    let more = c.span-more.result in
     let all = events_at c.args.maps.now.maps c.args.dev.0 in
     record {
-      within = omega (arith, v.within, c.min-more.ensures);
+      within = omega (arith, v.within, c.span-more.ensures.most);
       written = block_more (laid c.args.draft.now c.args.under.now) (laid c.loop-done.draft c.args.under.now)
           (laid c.put_block.new.draft c.args.under.now) c.args.device.itt.0 done more _ (event_entry_word all)
           (λ i. event_entry_word c.loop-done.front (done + i)) v.written c.in_ok-put_block.ensures.memory (λ k lt. v.passed.words (done + k) (omega arith))
