@@ -95,8 +95,9 @@ fn described(alloc: Global, profile: Profile) -> Result<Desc, AllocError>
     let mut desc = desc(alloc, None, &WORDS)?;
     desc.shape.profile = profile;
     desc.shape.linux = true;
+    let registers = vec![in alloc; OFF; usize::from(desc.shape.vcpus)]?;
     desc.tables = LpiTables::Registers(GicrValues {
-        registers: [OFF; 16],
+        registers: Listed::from_vec(registers),
     });
     desc.translators = Listed::from_vec(translators);
     desc.track = true;
@@ -105,7 +106,7 @@ fn described(alloc: Global, profile: Profile) -> Result<Desc, AllocError>
 
 // ---- calls
 
-fn write_lpi(vcpu: u8, off: u32, value: u64) -> Call {
+fn write_lpi(vcpu: u16, off: u32, value: u64) -> Call {
     Call::WriteGicr {
         vcpu: Vcpu(vcpu),
         off,
@@ -115,7 +116,7 @@ fn write_lpi(vcpu: u8, off: u32, value: u64) -> Call {
 }
 
 // Turns LPIs on at a virtual processor, and reads its registers.
-fn turning_on(vcpu: u8) -> [Call; 4] {
+fn turning_on(vcpu: u16) -> [Call; 4] {
     let table = 0x8004_0000 + 0x1_0000 * u64::from(vcpu);
     [
         write_lpi(vcpu, 0x70, 0x8003_000f),
@@ -292,7 +293,7 @@ fn play_all(alloc: Global, machine: &mut Machine, state: State) -> Result<Tally,
         ran: 0,
     };
     let mut state = state;
-    for vcpu in 0..4u8 {
+    for vcpu in 0..4 {
         state = play(alloc, machine, state, &turning_on(vcpu), &mut tally)?;
     }
     let start = enabling(0x8107_0000_8000_0200, 0x2c0);

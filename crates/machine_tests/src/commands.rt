@@ -8,7 +8,7 @@ use guest_windows::{Memory, NewError};
 use its_command::{Command, Op, RdBase};
 use its_maps::Maps;
 use its_plain::{CmdReply, Reason};
-use its_types::{Addr, Icid, Profile, Shape, Vcpu};
+use its_types::{Addr, Icid, MOST_VCPUS, Profile, Shape, Vcpu};
 use lpi_pending::Redists;
 use owned_parts::RedistSet;
 use std::alloc::{AllocError, Global};
@@ -55,8 +55,15 @@ fn needed(alloc: Global, command: &Command) -> Needed {
     needs(command, &regs, &maps, &SHAPE)
 }
 
-fn are(set: RedistSet, vcpus: &[u8]) -> bool {
-    set.redists().map(|vcpu| vcpu.0).eq(vcpus.iter().copied())
+// The lowest from 0, 2 and 4 on, and the highest below 512 and 2.
+fn walked(set: RedistSet) -> [Option<u16>; 5] {
+    [
+        set.next(0, MOST_VCPUS),
+        set.next(2, MOST_VCPUS),
+        set.next(4, MOST_VCPUS),
+        set.last(MOST_VCPUS),
+        set.last(2),
+    ]
 }
 
 // Whether INVALL needs the configurations of all processors, and MOVALL what is pending at just
@@ -72,10 +79,10 @@ fn needs_hold(alloc: Global) -> bool {
         && !invall.confs.has(Vcpu(4))
         && moved.pends.has(Vcpu(3))
         && !moved.pends.has(Vcpu(2))
-        && are(invall.confs, &[0, 1, 2, 3])
-        && are(invall.pends, &[])
-        && are(moved.confs, &[])
-        && are(moved.pends, &[1, 3])
+        && invall.pends.is_empty()
+        && moved.confs.is_empty()
+        && walked(invall.confs) == [Some(0), Some(2), None, Some(3), Some(1)]
+        && walked(moved.pends) == [Some(1), Some(3), None, Some(3), Some(1)]
 }
 
 #[test]
@@ -91,7 +98,9 @@ fn run_mapc(rt: &impl Abort, alloc: Global, target: u8) -> Result<Ran, NewError>
     let memory = Memory::new(alloc, &[(Addr(0x8000_0000), 0x1000)])?;
     let mut regs = Regs::reset(16);
     let mut maps = Maps::new(alloc);
-    let mut redists = Redists::new();
+    let Ok(mut redists) = Redists::with_room(alloc, SHAPE.vcpus) else {
+        panic!(rt; "out of memory");
+    };
     let planned = plan(&mapc(1, target), &regs, &maps, &memory, &redists, &SHAPE);
     let reply = planned.reply();
     let Ok(()) = make_room(&planned, &mut maps) else {

@@ -7,7 +7,7 @@ use gicr_regs::{GicrRegisters, GicrValues};
 use guest_windows::Memory;
 use its_maps::LookUp;
 use its_plain::{Desc, MakeError, SaveError};
-use its_types::{Addr, Device, DeviceId, Event, EventId, Icid, Intid, Vcpu};
+use its_types::{Addr, Device, DeviceId, Event, EventId, Icid, Intid, Listed, Vcpu};
 use owned_machine::Machine;
 use owned_parts::Parts;
 use std::alloc::{AllocError, Global};
@@ -67,8 +67,9 @@ fn are_found(parts: &Parts) -> bool {
 fn restores(alloc: Global, parts: &Parts) -> Result<bool, AllocError>
     requires { IsMachine parts.now }
 {
+    let registers = vec![in alloc; OFF; usize::from(parts.layout.shape.vcpus)]?;
     let off = GicrValues {
-        registers: [OFF; 16],
+        registers: Listed::from_vec(registers),
     };
     match restore(alloc, VALUES, &off, &parts.memory, &parts.layout) {
         Ok(restored) => Ok(are_found(&restored)),

@@ -9,7 +9,7 @@ use its_types::{Addr, DeviceId, EventId, Icid, Intid, Profile, Vcpu};
 use owned_machine::Machine;
 use owned_parts::Parts;
 use std::alloc::{AllocError, Global};
-use step_views::{Destination, Stretch, adds_event, concerned, event, event_count, needs};
+use step_views::{Destination, Needs, Stretch, adds_event, concerned, event, event_count, needs};
 use table_save::written_tables;
 
 // A page of the device table, and the commands of the queue, 32 bytes each.
@@ -110,11 +110,11 @@ const ROWS: [Row; 15] = [
 ];
 
 // Just this stretch, or none, after the command's own 32 bytes.
-fn reads_just(list: &[Stretch], expected: Option<Stretch>) -> bool {
-    let Some((first, rest)) = list.split_first() else {
+fn reads_just(mut needs: Needs<'_>, expected: Option<Stretch>) -> bool {
+    let Some(first) = needs.next() else {
         return false;
     };
-    first.length == 32 && rest.first().copied() == expected && rest.len() <= 1
+    first.length == 32 && needs.next() == expected && needs.next().is_none()
 }
 
 // Whether the machine's next command is seen as the row says.
@@ -128,9 +128,7 @@ fn is_seen(parts: &Parts, row: &Row) -> bool
         set.has(Vcpu(2)),
         set.has(Vcpu(3)),
     ];
-    reads_just(needs(parts, 0).as_slice(), row.0)
-        && concerns == row.1
-        && adds_event(parts, 0) == row.2
+    reads_just(needs(parts, 0), row.0) && concerns == row.1 && adds_event(parts, 0) == row.2
 }
 
 fn leads(parts: &Parts, to: &Destination, count: u64) -> bool
@@ -187,7 +185,7 @@ type Seen = (bool, usize, bool);
 
 // The rows, before and after which nothing is mapped.
 fn seen(alloc: Global, machine: &mut Machine) -> Result<Seen, AllocError> {
-    let before = needs(machine.parts(), 0).as_slice().is_empty()
+    let before = needs(machine.parts(), 0).next().is_none()
         && leads(machine.parts(), &Destination::NoDevice, 0);
     let rows = count_taken(alloc, machine)?;
     let lists = lists_just(alloc, machine.parts(), &WRITTEN)?;

@@ -16,9 +16,9 @@ use Rattle.its_plain.specs.declared.call.Ack.TheVariants as ack
 use Rattle.its_plain.specs.declared.call.Call.{Call}
 use Rattle.plain_soundness.proofs.Answers.{calls_keep}
 use Rattle.plain_footprint.proofs.OtherParts.{leaves}
-use Rattle.lpi_config.specs.declared.conf.Conf.{Conf}
+use Rattle.lpi_config.specs.Conf.{Conf}
 use Rattle.lpi_pending.specs.InHand.{RedistParts, conf_in, pend_in}
-use Rattle.lpi_pending.specs.declared.pend.Pend.{Pend}
+use Rattle.lpi_pending.specs.Pend.{Pend}
 use Rattle.owned_parts.specs.Owned.{ArePartsOf, AreRedistributorsOf, IsConfOf, IsPendOf, AreAllInHand, HasConf, HasPend, HasLpisOfConf, HasLpisOfPend}
 use Rattle.owned_parts.specs.Owned.{conf_or, pend_or, conf_state, pend_state, redistributor_of, redistributor_in, redistributors_in, state_of, state_of_parts}
 use Rattle.owned_parts.specs.Owned.{translator_of, translators_of}

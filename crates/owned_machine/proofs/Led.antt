@@ -23,7 +23,7 @@ use Rattle.its_plain.specs.Sound.{IsTranslator}
 use Rattle.its_types.specs.declared.machine.Shape.{Shape}
 use Rattle.cmd_exec.specs.InHand.{held_lpis, lpis_in}
 use Rattle.lpi_pending.specs.InHand.{pend_in}
-use Rattle.lpi_pending.specs.declared.pend.Pend.{Pend}
+use Rattle.lpi_pending.specs.Pend.{Pend}
 use Rattle.owned_parts.specs.Owned.{pend_or, redistributor_in}
 use Rattle.owned_parts.proofs.Places.{place_is}
 use Rattle.owned_machine.specs.Whole.{IsMachine}

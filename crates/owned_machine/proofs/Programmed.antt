@@ -1,29 +1,30 @@
 -- The LPI registers of redistributors, where the guest programs them.
-use Rattle.std.proofs.Common.{◌≡◌, ℕ, zero, suc, ◌+◌, ◌<◌, Bool, true, if◌then◌else◌, List, [], ◌∷◌, length, map, take, set, get_or, Option, Some, None}
+use Rattle.std.proofs.Common.{◌≡◌, ℕ, zero, suc, ◌+◌, ◌<◌, Bool, true, if◌then◌else◌, List, [], ◌∷◌, ◌++◌, length, map, take, get_or, Option, Some, None}
 use Rattle.std.proofs.Common.{inl, inr, refl, sym, ap, subst, ◌∙◌, arith}
-use Rattle.std.specs.Prelude.{is_some, slice_get, slice_index_or, slice_set}
+use Rattle.std.specs.Prelude.{◌&&◌, is_some, slice_get, slice_index_or, slice_set}
 use Rattle.std.specs.Option.{option_map}
 use Rattle.std.proofs.lemmas.Bool.{cases_eq}
-use Rattle.std.proofs.lemmas.List.{get_or-map, get_or-set_same, get_or-set_other, length-map}
+use Rattle.std.proofs.lemmas.List.{get_or-map, get_or-set_same, get_or-set_other, length-map, length-append}
 use Rattle.std.proofs.lemmas.Option.{same_Some}
-use lib.ListN.{length-set}
-use lib.Seq.{length-take-le, get_or-take, ext_get_or}
+use lib.ListN.{length-set, get_or-append}
+use lib.Seq.{length-take-le, get_or-take, get_or-append_seam, ext_get_or}
 use Rattle.its_types.specs.declared.translation.Bases.{Bases}
-use Rattle.gicr_regs.specs.Registers.{AreKept, AreLow, ValuesComeBack, restored_bases, all_restored_bases, values_of, written_gicr}
+use Rattle.gicr_regs.specs.Registers.{asked_by, AreKept, AreLow, ValuesComeBack, restored_bases, all_restored_bases, values_of, written_gicr}
 use Rattle.gicr_regs.specs.declared.values.GicrRegisters.{GicrRegisters}
 use Rattle.its_plain.specs.Plain.{Plain, Redistributor, ConfState, conf_of, pend_of, redistributor, with_redistributor, no_redistributor}
 use Rattle.its_plain.specs.Answer.{answer, left, gicr_written}
 use Rattle.its_plain.specs.declared.call.Call.TheVariants as call
 use Rattle.saved_state.specs.Laws.{bases_of}
-use Rattle.lpi_config.specs.declared.conf.Conf.{Conf}
+use Rattle.lpi_config.specs.Conf.{Conf}
 use Rattle.lpi_pending.specs.InHand.{RedistParts, conf_in, pend_in, set_conf, set_pend}
-use Rattle.lpi_pending.specs.declared.pend.Pend.{Pend}
+use Rattle.lpi_pending.specs.Pend.{Pend}
+use Rattle.lpi_pending.specs.Rooms.{is_enable}
 use Rattle.owned_parts.specs.Owned.{HasLpisOfConf, HasLpisOfPend, IsConfOf, IsPendOf, conf_state, pend_state, redistributor_of, state_of_parts}
 use Rattle.owned_parts.specs.Places.{AreInHandAt}
 use Rattle.dirty_log.specs.declared.tracked.Tracked.{Tracked}
 use Rattle.owned_parts.specs.declared.parts.Parts.{Parts}
 use Rattle.cmd_exec.proofs.Places.{set_viewed, set_get_other, shown_of}
-use Rattle.owned_machine.specs.Whole.{IsMachine, GoesOn}
+use Rattle.owned_machine.specs.Whole.{IsMachine, GoesOn, enables}
 use Rattle.owned_machine.specs.Migrations.{AreRead}
 use Rattle.owned_machine.proofs.Kept.{redists_are, goes_on, conf_here, redistributor_here}
 
@@ -159,23 +160,33 @@ module _ (p : Parts) (v : ℕ) (c c' : Conf) (q q' : Pend) (off size value : ℕ
       put ∙ ap (λ (r : RedistParts). set_conf r v (Some c')) wrote ∙ ap (λ (r : RedistParts). set_conf (set_pend r v (Some q')) v (Some c')) took in
       subst (λ (r : RedistParts). GoesOn (record p { redists = r }) (gicr_written (state_of_parts p) v off size value)) (sym is) gicr_goes
 
+-- it asks to turn LPIs on
+pub enables_is : (p : Parts) (v off size value : ℕ) (c : Conf) → IsMachine p → p.layout.gicr ≡ true → conf_in p.redists v ≡ Some c
+    → is_enable (asked_by c.bases off size value) ≡ true → enables (state_of_parts p) v off size value ≡ true
+enables_is p v off size value c m gicr is asks =
+    ap (λ (b : Bool). b && is_enable (asked_by (redistributor (state_of_parts p) v).bases off size value)) gicr
+    ∙ ap (λ (x : ConfState). is_enable (asked_by x.bases off size value)) (conf_here p v c m is)
+    ∙ asks
+
 -- ---- reads of all
 
 pub one_read : ValuesComeBack → (p : Parts) (registers : List GicrRegisters) (n : ℕ) (c : Conf) → IsMachine p → p.layout.gicr ≡ true
-    → conf_in p.redists n ≡ Some c → n < 16 → AreRead p registers n → AreRead p (set registers n (values_of c.bases)) (n + 1)
-one_read come_back p registers n c m gicr is small before =
+    → conf_in p.redists n ≡ Some c → AreRead p registers n → AreRead p (registers ++ values_of c.bases ∷ []) (n + 1)
+one_read come_back p registers n c m gicr is before =
     let u = state_of_parts p in
     let x = values_of c.bases in
     record {
-      sixteen = length-set registers n x ∙ before.sixteen;
+      many = length-append registers (x ∷ []) ∙ (let many = before.many in omega (arith, many));
       each = λ k d lt. elim (cases_eq k n) [
         | inl same ↦
-            ap (λ (j : ℕ). restored_bases (get_or (set registers n x) j d)) same
-            ∙ ap restored_bases (get_or-set_same registers n x d (let long = before.sixteen in omega (arith, long)))
+            ap (λ (j : ℕ). restored_bases (get_or (registers ++ x ∷ []) j d)) (same ∙ sym before.many)
+            ∙ ap restored_bases (get_or-append_seam registers x [] d)
             ∙ come_back c.bases (bases_kept p n c m gicr is)
             ∙ sym (ap (λ (y : ConfState). y.bases) (conf_here p n c m is))
             ∙ ap (λ (j : ℕ). (redistributor u j).bases) (sym same)
-        | inr apart ↦ ap restored_bases (get_or-set_other registers n k x d apart) ∙ before.each k d (omega (arith, apart))
+        | inr apart ↦
+            let below : k < n = omega (arith, lt, apart) in
+            ap restored_bases (get_or-append registers (x ∷ []) d k (let many = before.many in omega (arith, below, many))) ∙ before.each k d below
       ];
     }
 
@@ -187,8 +198,7 @@ all_read p registers m read =
     let d : GicrRegisters = record { ctlr = 0; propbaser = 0; pendbaser = 0 } in
     let xs : List Bases = map restored_bases (take n registers) in
     let ys : List Bases = map (λ (r : Redistributor). r.bases) u.redistributors in
-    let short : length (take n registers) ≡ n = length-take-le n registers (let long = read.sixteen in let most = m.sound.layout.shape.most_vcpus in omega
-    (arith, long, most)) in
+    let short : length (take n registers) ≡ n = length-take-le n registers (let long = read.many in omega (arith, long)) in
     let long : length xs ≡ n = length-map (take n registers) restored_bases ∙ short in
     let many : length ys ≡ n = length-map u.redistributors (λ (r : Redistributor). r.bases) ∙ m.sound.vcpus in
     ext_get_or no_redistributor.bases xs ys (long ∙ sym many) (λ i lt.
@@ -201,8 +211,8 @@ all_read p registers m read =
 -- what is read doesn't depend on the second memory
 pub read_with : (p : Parts) (t : Option Tracked) (registers : List GicrRegisters) (n : ℕ) → AreRead p registers n
     → AreRead (record p { track = t }) registers n
-read_with p t registers n h = record { sixteen = h.sixteen; each = h.each }
+read_with p t registers n h = record { many = h.many; each = h.each }
 
 pub read_without : (p : Parts) (t : Option Tracked) (registers : List GicrRegisters) (n : ℕ) → AreRead (record p { track = t }) registers n
     → AreRead p registers n
-read_without p t registers n h = record { sixteen = h.sixteen; each = h.each }
+read_without p t registers n h = record { many = h.many; each = h.each }

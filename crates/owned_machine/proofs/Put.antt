@@ -7,7 +7,7 @@ use Rattle.std.proofs.lemmas.List.{get_or-set_same, get_or-set_other, get_or_pas
 use Rattle.std.proofs.lemmas.Option.{get_or_from_slice_get}
 use Rattle.lpi_pending.specs.InHand.{RedistParts, pend_in, set_pend}
 use Rattle.lpi_pending.specs.PendingSets.{PendingSet}
-use Rattle.lpi_pending.specs.declared.pend.Pend.{Pend}
+use Rattle.lpi_pending.specs.Pend.{Pend}
 use Rattle.owned_machine.specs.Stale.{ArePut, with_pending}
 
 -- ---- the first of those that are left

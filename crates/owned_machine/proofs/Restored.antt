@@ -9,6 +9,7 @@ use Rattle.std.proofs.lemmas.List.{length-map}
 use Rattle.std.proofs.lemmas.Option.{same_Some}
 use Rattle.guest_windows.specs.Windows.{Window}
 use Rattle.gits_regs.specs.declared.values.RegValues.{RegValues}
+use Rattle.its_types.specs.declared.machine.Shape.{Shape}
 use Rattle.its_types.specs.declared.translation.Bases.{Bases}
 use Rattle.its_plain.specs.Plain.{Redistributor}
 use Rattle.gicr_regs.specs.Registers.{AreKept, restored_bases, all_restored_bases}
@@ -16,7 +17,9 @@ use Rattle.gicr_regs.specs.declared.values.GicrRegisters.{GicrRegisters}
 use Rattle.gicr_regs.specs.declared.values.GicrValues.{GicrValues}
 use Rattle.its_plain.specs.Described as described
 use Rattle.its_plain.specs.Described.{IsFirstState, IsRefused, of_description, of_restore, StartsAt, kept_of, without_stale}
-use Rattle.its_plain.specs.Machine.{made, layout_of, IsDescription}
+use Rattle.its_plain.specs.Machine.{made, layout_of, are_programmed, HasTablesFor, IsDescription}
+use Rattle.its_plain.specs.declared.desc.LpiTables.{LpiTables}
+use Rattle.its_plain.specs.declared.desc.LpiTables.TheVariants.{Described, Registers}
 use Rattle.its_plain.specs.declared.layout.Layout.{Layout}
 use Rattle.its_plain.specs.Stands.{Stands, IsFirstFault}
 use Rattle.its_plain.specs.declared.desc.Desc.{Desc}
@@ -31,7 +34,7 @@ use Rattle.owned_parts.proofs.Places.{many_places}
 use Rattle.owned_parts.specs.declared.parts.Parts.{Parts}
 use Rattle.standing_states.specs.Laws.{AreBasesOf, AreGiven, bases_to_restore}
 use Rattle.standing_states.proofs.Lent.{given_is}
-use Rattle.table_restore.specs.Outcome.{WhereFault}
+use Rattle.table_restore.specs.Outcome.{WhereFault, HasValuesFor}
 use Rattle.table_restore.specs.declared.error.RestoreError.{RestoreError}
 use Rattle.table_restore.specs.declared.error.RestoreError.TheVariants as errors
 use Rattle.standing_states.proofs.Soundness.{standing_sound}
@@ -171,6 +174,12 @@ many_values d values h is =
     let long : length values ≡ length d.translators = ap (λ (vs : List (Option RegValues)). length vs) is ∙ length-map d.translators (λ (t : Its). t.restore) in
     (let a = h.some_translator in omega (arith, long, a), let b = h.most_translators in omega (arith, long, b))
 
+-- the values that a description gives are as many as virtual processors
+given_fits : (s : Shape) (t : LpiTables) (values : GicrValues) → HasTablesFor s.vcpus t → AreGiven t values → are_programmed t ≡ true
+    → length values.registers ≡ s.vcpus
+given_fits s (Described config pending) values has given programmed = absurd cc
+given_fits s (Registers w) values has given programmed = ap (λ (v : GicrValues). length v.registers) (sym given) ∙ has
+
 -- ---- restored from the base of the first parts
 
 module _ (d : Desc) (layout : Layout) (memory : List Window) (base : AreOfFirst d layout memory) (values : List (Option RegValues)) (gicr : GicrValues)
@@ -192,6 +201,10 @@ module _ (d : Desc) (layout : Layout) (memory : List Window) (base : AreOfFirst 
   refused_there i f first =
       restore_refused d base.0 values gicr i f base.1.made_is values_are some (where_given d base.0 gicr base.1.layout given)
       (of_base (λ (l : Layout) (x : List Window). IsFirstFault x values l.shape (bases_to_restore l gicr) i f) first)
+
+  pub values_there : IsDescription d → HasValuesFor layout gicr
+  values_there description =
+      subst (λ (l : Layout). HasValuesFor l gicr) (sym base.1.layout ∙ base.2) (given_fits d.shape d.tables gicr description.tables given)
 
   pub layout_there : IsLayout layout
   layout_there = subst IsLayout base.2 base.1.whole.sound.layout

@@ -30,12 +30,12 @@ use Rattle.its_plain.specs.declared.desc.DescFault.{DescFault}
 use Rattle.its_plain.specs.declared.desc.DescFault.TheVariants.{Config, Windows}
 use Rattle.plain_soundness.proofs.First.{start_sound}
 use Rattle.lpi_config.specs.Configurations.{Configuration, zeros}
-use Rattle.lpi_config.specs.declared.conf.Conf.{Conf}
-use Rattle.lpi_pending.specs.InHand.{RedistParts, redistributor_of, set_conf, set_pend}
-use Rattle.lpi_pending.specs.declared.pend.Pend.{Pend}
+use Rattle.lpi_config.specs.Conf.{Conf}
+use Rattle.lpi_pending.specs.Pend.{Pend}
+use Rattle.lpi_pending.specs.InHand.{RedistParts, redistributor_of, set_conf, set_pend, no_redists}
 use Rattle.owned_parts.specs.Owned.{AreAllInHand, state_of_parts, redistributors_in, translators_of}
 use Rattle.owned_parts.specs.Places.{AreInHandAt, AreNotInHand}
-use Rattle.owned_parts.proofs.Places.{redistributor_at, placed_here, still_there, still_empty}
+use Rattle.owned_parts.proofs.Places.{empty_places, none_in_hand, redistributor_at, placed_here, still_there, still_empty, same_conf_room, same_pend_room}
 use Rattle.owned_parts.specs.declared.parts.Parts.{Parts}
 use Rattle.owned_machine.specs.Start.{HasConfig, IsFilled, IsFirstOf, AreFirst, AreStarted, reset_translator, devices_test, idle_pend}
 use Rattle.its_plain.specs.declared.make.MakeError.{MakeError}
@@ -98,13 +98,21 @@ off_first s memory values v c b lt blank is rs first =
           ∙ ap (λ (x : Configuration). Some (idle s x b)) (sym blank);
     }
 
+pub none_first : (s : Shape) (memory : List Window) (t : LpiTables) (redists : RedistParts) → redists ≡ no_redists s.vcpus → AreFirst s memory t redists 0
+none_first s memory t redists is =
+    subst (λ (r : RedistParts). AreFirst s memory t r 0) (sym is) (record {
+      confs = (empty_places s.vcpus).conf_room;
+      pends = (empty_places s.vcpus).pend_room;
+      each = λ v lt. absurd (omega (arith, lt));
+      rest = λ v le. none_in_hand s.vcpus v;
+    })
+
 module _ (s : Shape) (memory : List Window) (t : LpiTables) (redists now : RedistParts) (n : ℕ) (r : Conf × Pend)
     (got : now ≡ set_pend (set_conf redists n (Some r.0)) n (Some r.1)) where
-  pub one_more : n < 16 → IsFirstOf s memory t n r.0 r.1 → length now.confs ≡ 16 → length now.pends ≡ 16 → AreFirst s memory t redists n
-      → AreFirst s memory t now (n + 1)
-  one_more small is confs pends before = record {
-    confs = confs;
-    pends = pends;
+  pub one_more : n < s.vcpus → IsFirstOf s memory t n r.0 r.1 → AreFirst s memory t redists n → AreFirst s memory t now (n + 1)
+  one_more small is before = record {
+    confs = same_conf_room redists now n r.0 r.1 got ∙ before.confs;
+    pends = same_pend_room redists now n r.0 r.1 got ∙ before.pends;
     each = λ v lt. elim (cases_eq v n) [
       | inl same ↦ (
         r.0,

@@ -1,5 +1,5 @@
 -- The parts are those of the state without stale pending bits, once the sets are in their places.
-use Rattle.std.proofs.Common.{◌≡◌, ℕ, zero, suc, ◌+◌, ◌<◌, ◌≤◌, List, [], ◌∷◌, length, filter, Option, Some, None, refl, sym, ap, subst, ◌∙◌}
+use Rattle.std.proofs.Common.{◌≡◌, ℕ, zero, suc, ◌+◌, ◌<◌, ◌≤◌, false, List, [], ◌∷◌, length, filter, Option, Some, None, refl, sym, ap, subst, ◌∙◌}
 use Rattle.std.proofs.Common.{inl, inr, arith, zero-add}
 use Rattle.std.specs.Prelude.{is_some, slice_get, slice_index_or}
 use Rattle.std.specs.Option.{option_map}
@@ -7,16 +7,17 @@ use Rattle.std.proofs.lemmas.Bool.{cases_lt}
 use Rattle.std.proofs.lemmas.Option.{same_Some, get_or_from_slice_get}
 use Rattle.its_plain.specs.Described.{is_led_to, led_to, without_stale}
 use Rattle.its_plain.specs.Plain.{Translator, Redistributor, PendState, conf_of, pend_of}
-use Rattle.lpi_config.specs.declared.conf.Conf.{Conf}
-use Rattle.lpi_pending.specs.InHand.{RedistParts, conf_in, pend_in}
+use Rattle.lpi_config.specs.Conf.{Conf}
+use Rattle.lpi_pending.specs.InHand.{RedistParts, conf_in, pend_in, pend_state}
 use Rattle.lpi_pending.specs.PendingSets.{PendingSet}
-use Rattle.lpi_pending.specs.declared.pend.Pend.{Pend}
+use Rattle.lpi_pending.specs.Pend.{Pend}
 use Rattle.cmd_exec.specs.InHand.{held_lpis}
 use Rattle.owned_parts.specs.Owned.{state_of_parts, IsConfOf, IsPendOf}
 use Rattle.owned_parts.specs.declared.parts.Parts.{Parts}
+use Rattle.cmd_exec.proofs.Places.{shown_of}
 use Rattle.plain_soundness.proofs.Stale.{stale_go}
 use Rattle.owned_machine.proofs.Kept.{AreHeldAlike, go, redists_are}
-use Rattle.owned_machine.specs.Stale.{AreSetsBy, ArePut, led_in, set_by}
+use Rattle.owned_machine.specs.Stale.{AreSetsBy, ArePut, FitsPlace, Test, led_in, set_by}
 use Rattle.owned_machine.specs.Whole.{IsMachine, GoesOn}
 
 -- ---- the redistributors of the state
@@ -48,6 +49,31 @@ pend_fewer : (ts : List Translator) (v : ℕ) (o : Option Redistributor) → opt
     (option_map pend_of o)
 pend_fewer ts v None = refl
 pend_fewer ts v (Some r) = refl
+
+-- where LPIs are off nothing is pending
+none_off : (p : Parts) (v : ℕ) (q : Pend) → IsMachine p → pend_in p.redists v ≡ Some q → q.accepts ≡ false → q.pending.lpis ≡ []
+none_off p v q m is off =
+    let x = shown_of pend_of (slice_get (state_of_parts p).redistributors v) (pend_state q) ((redists_are p m).1 v q is).same in
+    let r = m.sound.redistributors v x.0 x.1 in
+    let bases_off : x.0.bases.on ≡ false = sym r.accepts ∙ ap (λ (s : PendState). s.accepts) x.2 ∙ off in
+    sym (ap (λ (s : PendState). s.pending) x.2) ∙ r.off_pending bases_off
+
+-- a set of those that are pending has its place
+pub set_fits : (p : Parts) (test : Test) (v : ℕ) (set : PendingSet) → IsMachine p → v < p.layout.shape.vcpus → set ≡ set_by p test v
+    → FitsPlace set (pend_in p.redists v)
+set_fits p test v set m lt is =
+    let x = (m.all_in_hand v lt).1 in
+    let q = x.0 in
+    let of_held : Option Pend → PendingSet = λ (o : Option Pend). record { lpi_bits = p.layout.shape.lpi_bits; lpis = filter (test v) (held_lpis o) } in
+    let of_these : List ℕ → PendingSet = λ (xs : List ℕ). record { lpi_bits = p.layout.shape.lpi_bits; lpis = xs } in
+    let of_bits : ℕ → PendingSet = λ (n : ℕ). record { lpi_bits = n; lpis = q.pending.lpis } in
+    let here : set ≡ of_held (Some q) = is ∙ ap of_held x.1 in
+    subst (FitsPlace set) (sym x.1) (
+      ap (λ (s : PendingSet). s.lpi_bits) is ∙ sym x.2,
+      λ off.
+          let none = none_off p v q m x.1 off in
+          here ∙ ap of_these (ap (λ (xs : List ℕ). filter (test v) xs) none ∙ sym none) ∙ ap of_bits (sym x.2),
+    )
 
 module _ (p : Parts) (new : RedistParts) (sets : List PendingSet) (m : IsMachine p) (by : AreSetsBy p (led_in p) sets)
     (put : ArePut p.redists sets (length sets) new) where

@@ -93,5 +93,5 @@ AreBegun d (Err made.NoMemory) = Unit {0}
 
 -- the registers of the first n redistributors are read: a restore takes their bases from them
 pub record AreRead (p : Parts) (registers : List GicrRegisters) (n : ℕ) : Type 0 where
-  pub sixteen : length registers ≡ 16
+  pub many : length registers ≡ n
   pub each : (vcpu : ℕ) (other : GicrRegisters) → vcpu < n → restored_bases (get_or registers vcpu other) ≡ (redistributor (state_of_parts p) vcpu).bases

@@ -1,6 +1,6 @@
 -- What is kept of pending bits where KVM saved them: those that events lead to. The sets of all virtual processors, as a walk over the
 -- events of each translator makes them.
-use Rattle.std.specs.Prelude.{◌≡◌, ◌<◌, ℕ, Bool, true, ◌&&◌, ◌||◌, ◌==◌, List, length, filter, slice_get, slice_index_or, Option, Some, None}
+use Rattle.std.specs.Prelude.{◌≡◌, ◌<◌, ℕ, Bool, true, false, ◌&&◌, ◌||◌, ◌==◌, List, length, filter, slice_get, slice_index_or, Option, Some, None}
 use Rattle.std.specs.List.{list_any}
 use Rattle.its_types.specs.Maps.{Maps, event_of, collection_of}
 use Rattle.its_types.specs.Ranges.{is_lpi}
@@ -11,7 +11,7 @@ use Rattle.its_maps.specs.MapsRoom.{EventsHaveDevices}
 use Rattle.its_plain.specs.Described.{is_led_to, is_target, leads_to}
 use Rattle.lpi_pending.specs.InHand.{RedistParts, pend_in}
 use Rattle.lpi_pending.specs.PendingSets.{PendingSet}
-use Rattle.lpi_pending.specs.declared.pend.Pend.{Pend}
+use Rattle.lpi_pending.specs.Pend.{Pend}
 use Rattle.cmd_exec.specs.InHand.{lpis_in}
 use Rattle.owned_parts.specs.Owned.{state_of_parts}
 use Rattle.owned_parts.specs.declared.parts.Parts.{Parts}
@@ -76,6 +76,11 @@ pub record ArePut (old : RedistParts) (sets : List PendingSet) (n : ℕ) (new : 
   pub put : (vcpu : ℕ) (p : Pend) → vcpu < n → pend_in old vcpu ≡ Some p
       → pend_in new vcpu ≡ Some (record p { pending = slice_index_or sets vcpu p.pending })
   pub rest : (vcpu : ℕ) → (vcpu < n → ⊥) → pend_in new vcpu ≡ pend_in old vcpu
+
+-- a set of as many LPIs, and where LPIs are off the same
+abbrev pub FitsPlace : PendingSet → Option Pend → Type 0
+FitsPlace set None = Unit {0}
+FitsPlace set (Some p) = (set.lpi_bits ≡ p.pending.lpi_bits) × (p.accepts ≡ false → set ≡ p.pending)
 
 -- with another set, where something is in hand
 abbrev pub with_pending : PendingSet → Option Pend → Option Pend

@@ -16,10 +16,10 @@ use Rattle.its_plain.specs.declared.desc.LpiTables.{LpiTables}
 use Rattle.its_plain.specs.declared.desc.LpiTables.TheVariants.{Described, Registers}
 use Rattle.its_plain.specs.declared.make.MakeError.{MakeError}
 use Rattle.its_plain.specs.declared.make.MakeError.TheVariants as errors
-use Rattle.lpi_config.specs.declared.conf.Conf.{Conf}
+use Rattle.lpi_config.specs.Conf.{Conf}
 use Rattle.lpi_pending.specs.InHand.{RedistParts, HasLpisOfConf, HasLpisOfPend, redistributor_of}
 use Rattle.lpi_pending.specs.PendingSets.{none_pending}
-use Rattle.lpi_pending.specs.declared.pend.Pend.{Pend}
+use Rattle.lpi_pending.specs.Pend.{Pend}
 use Rattle.owned_parts.specs.Owned.{state_of_parts}
 use Rattle.owned_parts.specs.Places.{AreInHandAt, AreNotInHand}
 use Rattle.owned_parts.specs.declared.parts.Parts.{Parts}
@@ -60,8 +60,8 @@ idle_pend s c = record { pending = none_pending s.lpi_bits; accepts = c.bases.on
 
 -- those of the first n virtual processors are in hand, and no other
 pub record AreFirst (s : Shape) (memory : List Window) (t : LpiTables) (redists : RedistParts) (n : ℕ) : Type 0 where
-  pub confs : length redists.confs ≡ 16
-  pub pends : length redists.pends ≡ 16
+  pub confs : length redists.confs ≡ s.vcpus
+  pub pends : length redists.pends ≡ s.vcpus
   pub each : (vcpu : ℕ) → vcpu < n → (c : Conf) × (p : Pend) × AreInHandAt redists vcpu c p × IsFirstOf s memory t vcpu c p
   pub rest : (vcpu : ℕ) → n ≤ vcpu → AreNotInHand redists vcpu
 

@@ -2,7 +2,7 @@
 -- (IHI 0069, chapter 5), all of them, and a call goes from one such to the next.
 use Rattle.std.specs.Prelude.{◌≡◌, ℕ, ◌≤◌, Bool, true, false, not, ◌&&◌, List, Option, Some, None, is_some}
 use Rattle.guest_windows.specs.Windows.{write_at}
-use Rattle.its_plain.specs.Plain.{Plain}
+use Rattle.its_plain.specs.Plain.{Plain, redistributor}
 use Rattle.its_plain.specs.Sound.{IsSound}
 use Rattle.its_plain.specs.Answer.{is_idle, next_bytes}
 use Rattle.its_plain.specs.declared.call.Ack.{Ack}
@@ -13,6 +13,8 @@ use Rattle.its_plain.specs.declared.call.Route.{Route}
 use Rattle.its_plain.specs.declared.call.Route.TheVariants as route
 use Rattle.its_command.specs.Commands.{decoded}
 use Rattle.cmd_exec.specs.Room.{adds_to}
+use Rattle.gicr_regs.specs.Registers.{asked_by}
+use Rattle.lpi_pending.specs.Rooms.{is_enable}
 use Rattle.owned_parts.specs.Owned.{state_of_parts, AreAllInHand}
 pub use Rattle.owned_parts.specs.Places.{AreNotInHand}
 use Rattle.owned_parts.specs.declared.parts.Parts.{Parts}
@@ -52,7 +54,11 @@ pokes_by u address bytes route.NoRequester = false
 pokes_by u address bytes route.Frame = false
 pokes_by u address bytes (route.Signal its dev ev) = false
 
--- the calls that may want memory of the host: such a step, a write of guest memory, and a save
+-- a write to the LPI registers of a virtual processor asks to turn LPIs on, where the guest programs them
+abbrev pub enables : Plain → ℕ → ℕ → ℕ → ℕ → Bool
+enables u vcpu off size value = u.layout.gicr && is_enable (asked_by (redistributor u vcpu).bases off size value)
+
+-- the calls that may want memory of the host: such a step or write, a write of guest memory, and a save
 abbrev pub may_want_memory : Plain → Call → Bool
 may_want_memory u (call.Step its) = step_adds u its
 may_want_memory u call.Save = true
@@ -68,4 +74,4 @@ may_want_memory u (call.Peek addr count) = false
 may_want_memory u (call.ReadReg its off size) = false
 may_want_memory u (call.WriteReg its off size value) = false
 may_want_memory u (call.ReadGicr vcpu off size) = false
-may_want_memory u (call.WriteGicr vcpu off size value) = false
+may_want_memory u (call.WriteGicr vcpu off size value) = enables u vcpu.0 off size value

@@ -64,17 +64,15 @@ fn look_in(conf: &Conf, pend: &Pend, asked: Asked) -> Ack
         (chosen (redistributor_of conf.now pend.now) asked) }
     ensures lpi { IfAcked result (λ intid. is_lpi pend.now.pending.lpi_bits intid ≡ true) }
 {
-    let Conf { config, .. } = conf;
-    let Pend { pending, .. } = pend;
     let found = match asked {
-        Asked::Lowest => pending.first_enabled(config),
-        Asked::Best(mask) => pending.first_by_priority(config, mask),
-        Asked::This(intid) => pending.claimable(config, intid),
+        Asked::Lowest => pend.first_enabled(conf),
+        Asked::Best(mask) => pend.first_by_priority(conf, mask),
+        Asked::This(intid) => pend.claimable(conf, intid),
     };
     match found {
         Some(intid) => Ack::Some {
             intid,
-            priority: config.byte(intid) & 0xfc,
+            priority: conf.byte(intid) & 0xfc,
         },
         None => Ack::None,
     }
@@ -86,5 +84,5 @@ fn clear_lpi(redists: &mut Redists, vcpu: Vcpu, intid: Intid)
     ensures { redists.new ≡ pend_changed vcpu.0 (with_cleared intid.0) redists.old }
 {
     let pend = redists.pend_mut(vcpu);
-    pend.pending.clear(intid);
+    pend.clear(intid);
 }

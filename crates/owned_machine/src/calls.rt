@@ -52,7 +52,7 @@ pub fn answered(parts: &mut Parts, alloc: Global, call: &Call) -> Result<Reply, 
             size,
             value,
         } => {
-            gicr::write(parts, vcpu, off, size, value);
+            gicr::write(parts, vcpu, off, size, value)?;
             Ok(Reply::Ok)
         }
         Call::Step { its } => Ok(Reply::Step(step(parts, its)?)),

@@ -1,13 +1,14 @@
 //! The LPI registers of redistributors, where the guest programs them (IHI 0069, section 12.11).
-ghost use Rattle.std.specs.Prelude.{◌≡◌};
+ghost use Rattle.std.specs.Prelude.{◌≡◌, true, OnOk, OnErr};
 ghost use Rattle.its_plain.specs.Answer as answers;
 ghost use Rattle.owned_parts.specs.Owned.{state_of_parts};
-ghost use Rattle.owned_machine.specs.Whole.{IsMachine, GoesOn};
+ghost use Rattle.owned_machine.specs.Whole.{IsMachine, GoesOn, enables};
 
 use gicr_regs::read_gicr;
 use its_types::{Bases, Vcpu};
-use lpi_pending::{gicr_read, gicr_write};
+use lpi_pending::{gicr_read, gicr_write, room_for};
 use owned_parts::Parts;
+use std::alloc::AllocError;
 
 /// Reads a register. That of a virtual processor that there isn't reads as at reset.
 pub fn read(parts: &Parts, vcpu: Vcpu, off: u32, size: u8) -> u64
@@ -25,14 +26,27 @@ pub fn read(parts: &Parts, vcpu: Vcpu, off: u32, size: u8) -> u64
 }
 
 /// Writes a register. What is written to that of a virtual processor that there isn't is dropped.
-pub fn write(parts: &mut Parts, vcpu: Vcpu, off: u32, size: u8, value: u64)
+/// Out of memory, which only a write that asks to turn LPIs on can be, nothing is changed.
+pub fn write(
+    parts: &mut Parts,
+    vcpu: Vcpu,
+    off: u32,
+    size: u8,
+    value: u64,
+) -> Result<(), AllocError>
     requires { IsMachine parts.old }
-    ensures { GoesOn parts.new
-        (answers.gicr_written (state_of_parts parts.old) vcpu.0 off size value) }
+    ensures left { OnOk result (GoesOn parts.new
+        (answers.gicr_written (state_of_parts parts.old) vcpu.0 off size value)) }
+    ensures err { OnErr result (parts.new ≡ parts.old) }
+    ensures rare { OnErr result
+        (enables (state_of_parts parts.old) vcpu.0 off size value ≡ true) }
 {
     if !parts.layout.gicr || vcpu.0 >= parts.layout.shape.vcpus {
-        return;
+        return Ok(());
     }
+    let conf = parts.redists.conf(vcpu);
+    let pend = parts.redists.pend(vcpu);
+    let room = room_for(conf, pend, off, size, value)?;
     let mut conf = parts.redists.take_conf(vcpu);
     let pend = parts.redists.pend_mut(vcpu);
     gicr_write(
@@ -43,6 +57,8 @@ pub fn write(parts: &mut Parts, vcpu: Vcpu, off: u32, size: u8, value: u64)
         off,
         size,
         value,
+        room,
     );
     parts.redists.place_conf(vcpu, conf);
+    Ok(())
 }

@@ -63,9 +63,9 @@ impl Machine {
     }
 
     /// Answers a call, and leaves the state that the plain machine's definition says. Out of
-    /// memory, which only a save can be, a write of guest memory, or a step that adds a device, an
-    /// event or a collection, the state stays as it was. A command that is refused and a write that
-    /// is answered `Outside` never come to it.
+    /// memory, which only a save can be, a write of guest memory, a step that adds a device, an
+    /// event or a collection, or a write that asks to turn LPIs on, the state stays as it was. A
+    /// command that is refused and a write that is answered `Outside` never come to it.
     ///
     /// ```
     /// let signal = Call::Signal { its: 0, dev: DeviceId(16), ev: EventId(3) };
@@ -147,8 +147,8 @@ impl Machine {
         requires { vcpu < length self.now.redistributors }
         ensures { IfOk result (λ lpis. map (λ i. i.0) lpis.items ≡ pending_of self.now vcpu) }
     {
-        let pend = self.parts.redists.pend(Vcpu(vcpu as u8));
-        pend.pending.lpis(alloc)
+        let pend = self.parts.redists.pend(Vcpu(vcpu as u16));
+        pend.lpis(alloc)
     }
 
     /// The values that a virtual processor's LPI registers are restored from, as they are stored:
@@ -166,8 +166,8 @@ impl Machine {
         if !self.parts.layout.gicr {
             return None;
         }
-        let conf = self.parts.redists.conf(Vcpu(vcpu as u8));
-        Some(values_of(&conf.bases))
+        let conf = self.parts.redists.conf(Vcpu(vcpu as u16));
+        Some(values_of(conf.bases()))
     }
 
     /// Saves into a copy of guest memory, and goes on from what that copy and the registers stand

@@ -7,8 +7,10 @@ ghost use Rattle.guest_windows.specs.Fields.{pairs};
 ghost use Rattle.its_plain.specs.Machine as spec;
 ghost use Rattle.its_plain.specs.Machine.{IsDescription, HasTablesFor};
 ghost use Rattle.its_plain.specs.Sound.{IsShape};
+ghost use Rattle.its_types.specs.Ranges.{most_vcpus};
 ghost use Rattle.its_plain.specs.declared.desc.DescFault.TheVariants as faults;
 ghost use Rattle.owned_machine.specs.Making.{IsWindowFault, Fills};
+ghost use Rattle.lpi_pending.specs.PendingSets.{none_pending};
 ghost use Rattle.owned_parts.specs.Owned.{one_or_two, translator_of};
 ghost use Rattle.std.specs.Option.{option_map};
 ghost use Rattle.owned_machine.specs.Start.{IsFilled, HasConfig, IsFirstOf, AreFirst, AreStarted};
@@ -160,12 +162,12 @@ fn tables_inside(tables: &LpiTables, memory: &Memory, shape: &Shape) -> Result<(
 
 // Each pending table lies in one window, or the first virtual processor whose table doesn't.
 fn pending_inside(memory: &Memory, size: u64, bases: &[Addr]) -> Result<(), DescFault>
-    requires { length bases.now ≤ 16 }
+    requires { length bases.now ≤ most_vcpus }
     ensures { result ≡ spec.pending_inside memory.now size 0 bases.now }
 {
     for (vcpu, base) in bases.iter().enumerate() {
         if !memory.inside(*base, size) {
-            return Err(DescFault::Pending(Vcpu(vcpu as u8)));
+            return Err(DescFault::Pending(Vcpu(vcpu as u16)));
         }
     }
     Ok(())
@@ -214,7 +216,7 @@ fn redists_of(
     ensures { IfOk result
         (λ redists. AreFirst shape.now memory.now tables.now redists shape.now.vcpus) }
 {
-    let mut redists = Redists::new();
+    let mut redists = Redists::with_room(alloc, shape.vcpus)?;
     for vcpu in 0..shape.vcpus {
         let (conf, pend) = first_redist(alloc, tables, memory, shape, vcpu)?;
         redists.place_conf(Vcpu(vcpu), Box::new(alloc, conf)?);
@@ -229,7 +231,7 @@ fn first_redist(
     tables: &LpiTables,
     memory: &Memory,
     shape: &Shape,
-    vcpu: u8,
+    vcpu: u16,
 ) -> Result<(Conf, Pend), AllocError>
     requires shape { IsShape shape.now }
     requires tables { HasTablesFor shape.now.vcpus tables.now }
@@ -238,9 +240,22 @@ fn first_redist(
     ensures { IfOk result (λ r. IsFirstOf shape.now memory.now tables.now vcpu r.0 r.1) }
 {
     let conf = first_conf(alloc, tables, memory, shape, vcpu)?;
-    let pending = Pending::new(alloc, shape.lpi_bits)?;
-    let accepts = conf.bases.on;
-    Ok((conf, Pend { pending, accepts }))
+    let pend = first_pend(alloc, conf.bases().on, shape.lpi_bits)?;
+    Ok((conf, pend))
+}
+
+// Nothing is pending.
+fn first_pend(alloc: Global, on: bool, lpi_bits: u8) -> Result<Pend, AllocError>
+    requires low { 14 ≤ lpi_bits }
+    requires high { lpi_bits ≤ 20 }
+    ensures { IfOk result
+        (λ p. p ≡ record { pending = none_pending lpi_bits; accepts = on }) }
+{
+    if !on {
+        return Ok(Pend::off(alloc, lpi_bits));
+    }
+    let pending = Pending::new(alloc, lpi_bits)?;
+    Ok(Pend::on(alloc, pending))
 }
 
 // What it has read of its tables.
@@ -249,7 +264,7 @@ fn first_conf(
     tables: &LpiTables,
     memory: &Memory,
     shape: &Shape,
-    vcpu: u8,
+    vcpu: u16,
 ) -> Result<Conf, AllocError>
     requires shape { IsShape shape.now }
     requires tables { HasTablesFor shape.now.vcpus tables.now }
@@ -259,13 +274,11 @@ fn first_conf(
         IsFirstOf shape.now memory.now tables.now vcpu c (idle_pend shape.now c)) }
 {
     match tables {
-        LpiTables::Described { config, pending } => Ok(Conf {
-            config: Config::load(alloc, memory, *config, shape.lpi_bits)?,
-            bases: Bases::described(*config, pending.as_slice()[usize::from(vcpu)]),
-        }),
-        LpiTables::Registers(_) => Ok(Conf {
-            config: Config::zeros(alloc, shape.lpi_bits)?,
-            bases: Bases::off(),
-        }),
+        LpiTables::Described { config, pending } => {
+            let bytes = Config::load(alloc, memory, *config, shape.lpi_bits)?;
+            let bases = Bases::described(*config, pending.as_slice()[usize::from(vcpu)]);
+            Ok(Conf::on(alloc, bytes, bases))
+        }
+        LpiTables::Registers(_) => Ok(Conf::off(alloc, shape.lpi_bits, Bases::off())),
     }
 }

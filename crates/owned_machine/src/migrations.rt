@@ -23,28 +23,22 @@ ghost use Rattle.owned_machine.specs.Migrations.{GoesOnFrom, IsFresh};
 ghost use Rattle.owned_machine.specs.Migrations.{IsSavedCopy, memory_after};
 ghost use Rattle.owned_machine.specs.Placed.{parts_in};
 ghost use Rattle.owned_machine.specs.Start.{AreOfFirst};
+ghost use Rattle.table_restore.specs.Outcome.{HasValuesFor};
 
 use crate::make::start;
 use crate::saves::mark_saved;
 use crate::stale::drop_stale;
 use dirty_log::Tracked;
-use gicr_regs::{GicrRegisters, GicrValues, values_come_back, values_of};
+use gicr_regs::{GicrValues, values_come_back, values_of};
 use gits_regs::{RegValues, Regs, offsets};
 use guest_windows::Memory;
 use its_plain::{Desc, DescFault, Its, Layout, LpiTables, MakeError, SaveError};
-use its_types::Vcpu;
+use its_types::{Listed, Vcpu};
 use owned_parts::{InPlace, Parts};
 use std::alloc::{AllocError, Global};
 use std::mem::replace;
 use table_restore::{RestoreError, restore_in};
 use table_save::saved_pages;
-
-// The registers at reset.
-const RESET: GicrRegisters = GicrRegisters {
-    ctlr: 0,
-    propbaser: 0,
-    pendbaser: 0,
-};
 
 /// The parts that a description makes, restored from memory where the description says so, or the
 /// first thing that is wrong. Of tables that KVM saved, the pending bits that no event leads to are
@@ -125,8 +119,11 @@ fn restored(
     requires given { list_any is_some values.now ≡ true }
     ensures { AreMade desc.now result }
 {
-    let given = values_given(&desc.tables);
-    match restore_in(alloc, values, &given, memory, layout) {
+    let none = GicrValues {
+        registers: Listed::new(alloc),
+    };
+    let given = values_given(&desc.tables, &none);
+    match restore_in(alloc, values, given, memory, layout) {
         Ok(restored) => Ok(restored),
         Err((_, RestoreError::Fault(its, fault))) => {
             Err(MakeError::Fault(DescFault::Restore(its, fault)))
@@ -156,14 +153,12 @@ fn are_given(values: &[Option<RegValues>]) -> bool
 }
 
 // The values of the redistributors' registers that a description gives, if it does.
-fn values_given(tables: &LpiTables) -> GicrValues
-    ensures { AreGiven tables.now result }
+fn values_given<'a>(tables: &'a LpiTables, none: &'a GicrValues) -> &'a GicrValues
+    ensures { AreGiven tables.now result.now }
 {
     match tables {
-        LpiTables::Described { .. } => GicrValues {
-            registers: [RESET; 16],
-        },
-        LpiTables::Registers(values) => *values,
+        LpiTables::Described { .. } => none,
+        LpiTables::Registers(values) => values,
     }
 }
 
@@ -198,7 +193,7 @@ pub fn resumed(alloc: Global, parts: &InPlace<'_>, memory: Memory) -> Result<Par
     ensures { IfOk result (λ p. GoesOn p (plain.moved (state_of_parts (parts_in parts.now)))) }
 {
     let values = values_read(alloc, parts)?;
-    let given = registers_of(parts);
+    let given = registers_of(alloc, parts)?;
     match restore_in(alloc, &values, &given, memory, parts.layout) {
         Ok(restored) => Ok(restored),
         Err((_, RestoreError::Fault(_, _))) => unreachable!(),
@@ -282,19 +277,25 @@ fn translator_values(regs: &Regs) -> RegValues
 }
 
 // The values of the redistributors' registers, where the guest programs them.
-fn registers_of(parts: &InPlace<'_>) -> GicrValues
+fn registers_of(alloc: Global, parts: &InPlace<'_>) -> Result<GicrValues, AllocError>
     requires { AreOfMachine parts.now }
-    ensures { parts.now.layout.now.gicr ≡ true
-        → all_restored_bases parts.now.layout.now.shape.vcpus result ≡ bases_of
-        (state_of_parts (parts_in parts.now)) }
+    ensures bases { IfOk result (λ values. parts.now.layout.now.gicr ≡ true
+        → all_restored_bases parts.now.layout.now.shape.vcpus values ≡ bases_of
+        (state_of_parts (parts_in parts.now))) }
+    ensures many { IfOk result (HasValuesFor parts.now.layout.now) }
 {
-    values_come_back();
-    let mut registers = [RESET; 16];
-    if parts.layout.gicr {
-        for vcpu in 0..parts.layout.shape.vcpus {
-            let conf = parts.redists.conf(Vcpu(vcpu));
-            registers[usize::from(vcpu)] = values_of(&conf.bases);
-        }
+    if !parts.layout.gicr {
+        return Ok(GicrValues {
+            registers: Listed::new(alloc),
+        });
     }
-    GicrValues { registers }
+    values_come_back();
+    let mut registers = Vec::new(alloc);
+    for vcpu in 0..parts.layout.shape.vcpus {
+        let conf = parts.redists.conf(Vcpu(vcpu));
+        registers.push(values_of(conf.bases()))?;
+    }
+    Ok(GicrValues {
+        registers: Listed::from_vec(registers),
+    })
 }

@@ -3,7 +3,7 @@ ghost use Rattle.std.specs.Prelude.{◌≡◌, true, IfOk};
 ghost use Rattle.its_plain.specs.Translation as translation;
 ghost use Rattle.its_plain.specs.Answer as plain;
 ghost use Rattle.its_plain.specs.Plain as states;
-ghost use Rattle.cmd_exec.specs.InHand.{pend_changed, with_set, takes_lpi};
+ghost use Rattle.cmd_exec.specs.InHand.{pend_changed, with_set, takes_lpi, is_on_in};
 ghost use Rattle.owned_parts.specs.Owned.{state_of_parts};
 ghost use Rattle.owned_machine.specs.Whole.{IsMachine, GoesOn};
 
@@ -34,9 +34,10 @@ fn translate(parts: &Parts, its: u8, dev: DeviceId, ev: EventId) -> Result<Targe
     requires { IsMachine parts.now }
     ensures target { result ≡ translation.translated (state_of_parts parts.now) its dev.0 ev.0 }
     ensures takes { IfOk result (λ t. takes_lpi parts.now.redists t.vcpu.0 t.intid.0 ≡ true) }
+    ensures on { IfOk result (λ t. is_on_in parts.now.redists t.vcpu.0 ≡ true) }
 {
     let target = located(parts, its, dev, ev)?;
-    if !parts.redists.pend(target.vcpu).accepts {
+    if !parts.redists.pend(target.vcpu).accepts() {
         return Err(Cause::LpisOff);
     }
     Ok(target)
@@ -56,9 +57,10 @@ fn located(parts: &Parts, its: u8, dev: DeviceId, ev: EventId) -> Result<Target,
 
 #[tactic(auto, unfolding(cmd_exec::specs::InHand::pend_changed))]
 fn set_lpi(redists: &mut Redists, vcpu: Vcpu, intid: Intid)
-    requires { takes_lpi redists.old vcpu.0 intid.0 ≡ true }
+    requires lpi { takes_lpi redists.old vcpu.0 intid.0 ≡ true }
+    requires on { is_on_in redists.old vcpu.0 ≡ true }
     ensures { redists.new ≡ pend_changed vcpu.0 (with_set intid.0) redists.old }
 {
     let pend = redists.pend_mut(vcpu);
-    pend.pending.set(intid);
+    pend.set(intid);
 }

@@ -1,13 +1,15 @@
 //! Pending bits that KVM left behind. It writes an LPI's bit in the pending table of its present
 //! target, leaves older bits in other tables as they are, and reads none of these.
 ghost use Rattle.std.specs.Prelude.{◌≡◌, ◌<◌, ◌≤◌, ℕ, true, false, OnOk, IfOk, is_some, length};
+ghost use Rattle.std.specs.Prelude.{Some, slice_get};
 ghost use Rattle.std.specs.FinMap.{entries};
 ghost use Rattle.its_plain.specs.Described.{without_stale};
 ghost use Rattle.its_types.specs.Maps.{events_at};
-ghost use Rattle.its_types.specs.Ranges.{is_lpi};
+ghost use Rattle.its_types.specs.Ranges.{is_lpi, most_vcpus};
 ghost use Rattle.lpi_pending.specs.InHand.{pend_in, set_pend};
+ghost use Rattle.lpi_pending.specs.PendingSets.{PendingSet};
 ghost use Rattle.owned_parts.specs.Owned.{state_of_parts};
-ghost use Rattle.owned_machine.specs.Stale.{AddsBy, AreSets, AreSetsBy, ArePut, LeadInside};
+ghost use Rattle.owned_machine.specs.Stale.{AddsBy, AreSets, AreSetsBy, ArePut, FitsPlace, LeadInside};
 ghost use Rattle.owned_machine.specs.Stale.{any_leads, leads, led_in, only, some_leads};
 ghost use Rattle.owned_machine.specs.Stale.{with_pending};
 ghost use Rattle.owned_machine.specs.Whole.{IsMachine, GoesOn};
@@ -115,16 +117,18 @@ fn add(sets: &mut [Pending], parts: &Parts, vcpu: Vcpu, intid: Intid)
     requires sets { AreSets parts.now sets.old }
     ensures { AddsBy parts.now (only vcpu intid.0) sets.old sets.new }
 {
-    if parts.redists.pend(vcpu).pending.has(intid) {
+    if parts.redists.pend(vcpu).has(intid) {
         sets[usize::from(vcpu.0)].set(intid);
     }
 }
 
 // The sets, in the place of those that were pending.
 fn put_sets(redists: &mut Redists, sets: Vec<Pending>)
-    requires few { length sets.items ≤ 16 }
+    requires few { length sets.items ≤ most_vcpus }
     requires held { (vcpu : ℕ) → vcpu < length sets.items
         → is_some (pend_in redists.old vcpu) ≡ true }
+    requires fit { (vcpu : ℕ) (set : PendingSet) → vcpu < length sets.items
+        → slice_get sets.items vcpu ≡ Some set → FitsPlace set (pend_in redists.old vcpu) }
     ensures { ArePut redists.old sets.items (length sets.items) redists.new }
 {
     let mut vcpu = 0;
@@ -134,11 +138,15 @@ fn put_sets(redists: &mut Redists, sets: Vec<Pending>)
     }
 }
 
+// Where LPIs are off, nothing is pending before or after.
 fn put(redists: &mut Redists, vcpu: Vcpu, pending: Pending)
-    requires { is_some (pend_in redists.old vcpu.0) ≡ true }
+    requires held { is_some (pend_in redists.old vcpu.0) ≡ true }
+    requires fits { FitsPlace pending (pend_in redists.old vcpu.0) }
     ensures { redists.new ≡ set_pend redists.old vcpu.0
         (with_pending pending (pend_in redists.old vcpu.0)) }
 {
     let pend = redists.pend_mut(vcpu);
-    pend.pending = pending;
+    if pend.accepts() {
+        pend.replace(pending);
+    }
 }

@@ -10,3 +10,8 @@ mod OfMachine
 mod Meeting
 mod Listing
 mod Leads
+mod UsedTables
+mod TableReads
+mod ToldOnce
+mod AfterCommand
+mod SortedTables

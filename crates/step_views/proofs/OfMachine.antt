@@ -1,12 +1,10 @@
 -- What a machine says of a translator that is lent.
-use Rattle.std.proofs.Common.{◌≡◌, ℕ, Option, Some, None, refl, sym, ap, subst, ◌∙◌}
-use Rattle.std.specs.Prelude.{IsSome, not, ◌||◌}
+use Rattle.std.proofs.Common.{◌≡◌, ℕ, Option, Some, None, refl, sym, ap, ◌∙◌}
+use Rattle.std.specs.Prelude.{not, ◌||◌}
 use Rattle.gits_regs.specs.Registers.{is_queue_empty}
 use Rattle.its_command.specs.declared.command.Command.{Command}
-use Rattle.its_maps.specs.MapsRoom.{EventsHaveDevices}
 use Rattle.std.specs.FinMap.{entries, len-entries, len-empty}
-use Rattle.its_types.specs.Maps.{device_of, event_of, no_maps, pair_cmp}
-use Rattle.its_types.specs.declared.translation.Device.{Device}
+use Rattle.its_types.specs.Maps.{no_maps, pair_cmp}
 use Rattle.its_types.specs.declared.translation.Event.{Event}
 use Rattle.its_plain.specs.Plain.{Plain, Translator, no_translator, translator, regs_of}
 use Rattle.its_plain.specs.Sound.{IsTranslator}

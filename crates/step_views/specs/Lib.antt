@@ -4,3 +4,5 @@ pub mod Reads
 pub mod Destinations
 pub mod Counts
 pub mod Laws
+pub mod Firsts
+pub mod ConfigReads

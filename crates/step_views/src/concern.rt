@@ -1,13 +1,13 @@
 //! Which virtual processors a step may change.
-ghost use Rattle.std.specs.Prelude.{◌≡◌, ◌||◌, ℕ, false, slice_get};
+ghost use Rattle.std.specs.Prelude.{◌≡◌, ◌⊎◌, ◌||◌, ℕ, false, slice_get};
 ghost use Rattle.its_plain.specs.Answer.{step_left};
 ghost use Rattle.owned_machine.specs.Whole.{IsMachine};
 ghost use Rattle.owned_parts.specs.Owned.{state_of_parts};
 ghost use Rattle.owned_parts.specs.RedistSets.{is_in};
+ghost use Rattle.owned_parts.specs.declared.redist_set.RedistSet.TheVariants.{Nothing};
 ghost use Rattle.step_views.specs.Lent.{IsNumber, IsTranslatorOf};
 
 use cmd_exec::{Met, Needed, meet, needs};
-use its_types::Vcpu;
 use owned_parts::{Parts, RedistSet, TranslatorRef};
 
 /// The redistributors that the next step of a translator may change. Each other one has the same
@@ -20,7 +20,7 @@ pub fn concerned(parts: &Parts, its: u8) -> RedistSet
 {
     match parts.in_place().translator(its) {
         Some(translator) => concerned_in(parts, translator),
-        None => RedistSet::new(),
+        None => RedistSet::Nothing,
     }
 }
 
@@ -34,21 +34,20 @@ fn concerned_in(parts: &Parts, translator: TranslatorRef<'_>) -> RedistSet
 {
     let TranslatorRef { regs, maps } = translator;
     match meet(regs, &parts.memory) {
-        Met::Still(_) => RedistSet::new(),
+        Met::Still(_) => RedistSet::Nothing,
         Met::Command(command) => of_both(needs(&command, regs, maps, &parts.layout.shape)),
     }
 }
 
-// The virtual processors of which either part is needed.
+// The virtual processors of which either part is needed. A command needs parts of one kind.
 fn of_both(needed: Needed) -> RedistSet
+    requires { (needed.confs ≡ Nothing) ⊎ (needed.pends ≡ Nothing) }
     ensures { (vcpu : ℕ) → is_in result vcpu
         ≡ (is_in needed.confs vcpu || is_in needed.pends vcpu) }
 {
-    let mut set = needed.confs;
-    for vcpu in 0..16 {
-        if needed.pends.has(Vcpu(vcpu)) {
-            set = set.with(Some(Vcpu(vcpu)));
-        }
+    if needed.confs == RedistSet::Nothing {
+        needed.pends
+    } else {
+        needed.confs
     }
-    set
 }

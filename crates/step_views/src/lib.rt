@@ -3,12 +3,16 @@
 #![tactic(auto)]
 
 mod concern;
+mod config_reads;
 mod counts;
 mod destination;
+mod firsts;
 mod laws;
 mod reading;
 mod seen;
-mod stretch_list;
+mod sorted_tables;
+mod stretch;
+mod walk;
 
 pub use concern::concerned;
 pub use counts::{adds_event, event_count};
@@ -16,4 +20,5 @@ pub use destination::Destination;
 pub use laws::{destination_tells, saves_stay_inside, step_reads, steps_add_one};
 pub use reading::needs;
 pub use seen::event;
-pub use stretch_list::{Needs, Stretch};
+pub use stretch::Stretch;
+pub use walk::Needs;

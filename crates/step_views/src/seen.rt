@@ -52,7 +52,7 @@ fn target(parts: &Parts, intid: Intid, icid: Icid, vcpu: Vcpu) -> Destination
     ensures { result ≡ spec.of_target (state_of_parts parts.now)
         (record { intid = intid; icid = icid }) (Some vcpu) }
 {
-    if parts.redists.pend(vcpu).accepts {
+    if parts.redists.pend(vcpu).accepts() {
         Destination::Processor { intid, icid, vcpu }
     } else {
         Destination::LpisOff { intid, icid, vcpu }

@@ -4,6 +4,7 @@ use Rattle.its_types.specs.declared.machine.Shape.{Shape}
 use Rattle.cmd_exec.proofs.Start.{no_targets}
 use Rattle.machine_tests.proofs.commands.needed.Goals as goal
 
-pub needs-requires-clause-targets : goal.needs-requires-clause-targets
-needs-requires-clause-targets c =
-    let shape : Shape = record { vcpus = 4; dev_bits = 16; lpi_bits = 16; profile = One; linux = false } in no_targets shape c.new-maps.result.maps c.new-maps.ensures
+pub needs-requires : goal.needs-requires
+needs-requires c =
+    let shape : Shape = record { vcpus = 4; dev_bits = 16; lpi_bits = 16; profile = One; linux = false } in
+    record { targets = no_targets shape c.new-maps.result.maps c.new-maps.ensures }

@@ -1,9 +1,39 @@
-use Rattle.std.proofs.Common.{◌≡◌, ℕ, Option, Some, None, refl, sym, ap, ◌∙◌}
-use Rattle.std.specs.Prelude.{is_some}
+use Rattle.std.proofs.Common.{◌≡◌, ℕ, Option, Some, None, refl, sym, ap, subst, ◌∙◌}
+use Rattle.std.specs.Prelude.{is_some, Result, Ok, Err, OnErr}
+use Rattle.std.proofs.lemmas.Option.{same_Some}
+use Rattle.gicr_regs.specs.Registers.{asked_by}
+use Rattle.gicr_regs.specs.declared.write.GicrWrite.{GicrWrite}
+use Rattle.lpi_config.specs.Conf.{Conf}
 use Rattle.lpi_pending.specs.InHand.{RedistParts, pend_in, set_conf}
+use Rattle.lpi_pending.specs.Rooms.{HasRoomFor}
 use Rattle.owned_machine.proofs.Kept.{conf_there, pend_there, conf_lpis, pend_lpis}
-use Rattle.owned_machine.proofs.Programmed.{bases_low, gicr_left}
+use Rattle.owned_machine.proofs.Programmed.{bases_low, enables_is, gicr_left}
 use Rattle.owned_machine.proofs.gicr.write.Goals as goal
+
+pub conf-conf-requires : goal.conf-conf-requires
+conf-conf-requires c = conf_there c.args.parts.now c.args.vcpu.0 c.requires c.if-vcpu-parts.false
+
+pub pend-pend-requires : goal.pend-pend-requires
+pend-pend-requires c = pend_there c.args.parts.now c.args.vcpu.0 c.requires c.if-vcpu-parts.false
+
+pub room_for-requires-clause-low : goal.room_for-requires-clause-low
+room_for-requires-clause-low c =
+    bases_low c.args.parts.now c.args.vcpu.0 c.conf-conf.result.now c.requires c.if-not-parts.false c.conf-conf.ensures
+
+pub room_for-requires-clause-same : goal.room_for-requires-clause-same
+room_for-requires-clause-same c =
+    pend_lpis c.args.parts.now c.args.vcpu.0 c.pend-pend.result.now c.requires c.pend-pend.ensures
+    ∙ sym (conf_lpis c.args.parts.now c.args.vcpu.0 c.conf-conf.result.now c.requires c.conf-conf.ensures)
+
+on_err : {T E P : Type 0} (r : Result T E) → P → OnErr r P
+on_err (Ok x) p = tt
+on_err (Err e) p = p
+
+pub returns-in_err-room-clause-rare : goal.returns-in_err-room-clause-rare
+returns-in_err-room-clause-rare c =
+    on_err c.from_residual.result
+    (enables_is c.args.parts.now c.args.vcpu.0 c.args.off c.args.size c.args.value c.conf-conf.result.now c.requires c.if-not-parts.false c.conf-conf.ensures
+    c.in_err-room.ensures.rare)
 
 pub take_conf-conf-requires : goal.take_conf-conf-requires
 take_conf-conf-requires c = conf_there c.args.parts.now c.args.vcpu.0 c.requires c.if-vcpu-parts.false
@@ -34,8 +64,18 @@ gicr_write-requires-clause-pend_lpis c =
     pend_lpis c.args.parts.now c.args.vcpu.0 c.pend_mut-pend.result.now c.requires
     (pend_still c.args.parts.now.redists c.args.vcpu.0 c.take_conf-conf.ensures.taken ∙ c.pend_mut-pend.ensures.value)
 
-pub returns : goal.returns
-returns c =
+pub gicr_write-requires-clause-room : goal.gicr_write-requires-clause-room
+gicr_write-requires-clause-room c =
+    let p = c.args.parts.now in
+    let read = c.conf-conf.result.now in
+    let asks : Conf → GicrWrite = λ (x : Conf). asked_by x.bases c.args.off c.args.size c.args.value in
+    let same : read ≡ c.deref_mut.result.now =
+    same_Some read c.deref_mut.result.now (sym c.conf-conf.ensures ∙ same_part c.take_conf-conf.ensures.value c.deref_mut.ensures.value) in
+    subst (λ (x : Conf). HasRoomFor p.layout.shape.lpi_bits (asks x) c.in_ok-room.room) same
+    (subst (λ (n : ℕ). HasRoomFor n (asks read) c.in_ok-room.room) (conf_lpis p c.args.vcpu.0 read c.requires c.conf-conf.ensures) c.in_ok-room.ensures.room)
+
+pub returns-clause-left : goal.returns-clause-left
+returns-clause-left c =
     gicr_left c.args.parts.now c.args.vcpu.0 c.deref_mut.result.now c.gicr_write.new.conf c.pend_mut-pend.result.now c.gicr_write.new.pend c.args.off
     c.args.size c.args.value c.requires c.if-not-parts.false
     (record {

@@ -12,20 +12,20 @@ unreachable-requires c =
     let t = c.requires.machine.0 in
     let u = state_of_parts (parts_in c.args.parts.now) in
     let values = c.in_ok-values in
-    let given = c.registers_of-given in
+    let given = c.in_ok-given in
     let e = c.in-Err-default-Fault in
-    no_fault (record (parts_in c.args.parts.now) { track = t }) c.args.memory c.deref.result.now given.result c.requires.machine.1
+    no_fault (record (parts_in c.args.parts.now) { track = t }) c.args.memory c.deref.result.now given.given c.requires.machine.1
     (same_savable u t ∙ c.requires.savable) (c.requires.saved ∙ sym (same_saved u t)) (c.deref.ensures.value ∙ values.ensures)
-    given.ensures e.field-0-1-0 e.field-0-1-1 (where_fault e.field-0-1 e.field-0-1-0 e.field-0-1-1 _ e.field-0-1-is e.ensures.fault)
+    given.ensures.bases e.field-0-1-0 e.field-0-1-1 (where_fault e.field-0-1 e.field-0-1-0 e.field-0-1-1 _ e.field-0-1-is e.ensures.fault)
 
 pub returns-in-Ok : goal.returns-in-Ok
 returns-in-Ok c =
     let t = c.requires.machine.0 in
     let u = state_of_parts (parts_in c.args.parts.now) in
     let values = c.in_ok-values in
-    let given = c.registers_of-given in
+    let given = c.in_ok-given in
     let e = c.in-Ok.ensures in
     subst (λ (w : Plain). GoesOn c.in-Ok.restored w) (same_moved u t)
-    (moved_goes (record (parts_in c.args.parts.now) { track = t }) c.args.memory c.deref.result.now given.result c.requires.machine.1
+    (moved_goes (record (parts_in c.args.parts.now) { track = t }) c.args.memory c.deref.result.now given.given c.requires.machine.1
     (same_savable u t ∙ c.requires.savable) (c.requires.saved ∙ sym (same_saved u t)) (c.deref.ensures.value ∙ values.ensures)
-    given.ensures c.in-Ok.restored e.layout e.stands e.in_hand e.no_others)
+    given.ensures.bases c.in-Ok.restored e.layout e.stands e.in_hand e.no_others)

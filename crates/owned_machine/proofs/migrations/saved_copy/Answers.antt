@@ -1,4 +1,4 @@
-use Rattle.std.proofs.Common.{◌≡◌, Ok, sym, ap, subst, ◌∙◌}
+use Rattle.std.proofs.Common.{◌≡◌, Ok, ap, subst, ◌∙◌}
 use Rattle.guest_windows.specs.Drafts.{laid}
 use Rattle.its_plain.specs.Plain.{Plain}
 use Rattle.its_plain.specs.Regions.{savable}

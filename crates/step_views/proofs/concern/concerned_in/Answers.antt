@@ -3,8 +3,8 @@ use Rattle.step_views.proofs.Meeting.{neither, stays_still, stays_met}
 use Rattle.step_views.proofs.OfMachine.{targets}
 use Rattle.step_views.proofs.concern.concerned_in.Goals as goal
 
-pub needs-requires-clause-targets : goal.needs-requires-clause-targets
-needs-requires-clause-targets c = targets c.args.parts.now c.args.translator c.requires.whole c.requires.there
+pub needs-requires : goal.needs-requires
+needs-requires c = record { targets = targets c.args.parts.now c.args.translator c.requires.whole c.requires.there }
 
 pub returns-in-Still : goal.returns-in-Still
 returns-in-Still c =

@@ -3,13 +3,13 @@ use Rattle.step_views.proofs.Meeting.{reads_idle}
 use Rattle.step_views.proofs.OfMachine.{lent_number, lent_none}
 use Rattle.step_views.proofs.reading.needs.Goals as goal
 
-pub returns-in-Some : goal.returns-in-Some
-returns-in-Some c =
-    c.needs_of.ensures c.args.its
+pub returns-in-Some-clause-needs : goal.returns-in-Some-clause-needs
+returns-in-Some-clause-needs c =
+    c.needs_of.ensures.needs c.args.its
     (lent_number c.args.parts.now c.in_place.result c.args.its c.translator.result c.in_place.ensures.state c.translator.ensures c.in-Some.translator
     c.in-Some.is)
 
-pub returns-in-None : goal.returns-in-None
-returns-in-None c =
-    c.new.ensures ∙ reads_idle c.args.parts.now c.args.its
+pub returns-in-None-clause-needs : goal.returns-in-None-clause-needs
+returns-in-None-clause-needs c =
+    c.none.ensures ∙ reads_idle c.args.parts.now c.args.its
     (lent_none c.args.parts.now c.in_place.result c.args.its c.translator.result c.in_place.ensures.state c.translator.ensures c.in-None.is)
