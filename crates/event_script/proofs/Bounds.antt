@@ -4,6 +4,7 @@ use Rattle.std.proofs.Common.{filter_map, Option, Some, None, is_some, ok_or, Re
 use Rattle.std.specs.List.{list_all}
 use Rattle.std.specs.Option.{unwrap_or}
 use Rattle.std.proofs.lemmas.Bool.{ltb-true}
+use Rattle.std.proofs.lemmas.List.{length-map}
 use Rattle.its_types.specs.declared.ids.Addr.{Addr}
 use Rattle.its_types.specs.declared.machine.Limits.{Limits}
 use Rattle.its_plain.specs.Doorbells.{route_of}
@@ -17,7 +18,7 @@ use Rattle.its_plain.specs.declared.desc.LpiTables.TheVariants.{Registers}
 use Rattle.event_script.specs.Text.{parts, fields, is_text}
 use Rattle.event_script.specs.Fields.{arg}
 use Rattle.event_script.specs.Words.{keyword_of, call_word_of}
-use Rattle.event_script.specs.Described.{most_stamp, default_limits, default_ids, described_tables, tables_of, desc_with, desc_of, desc_so_far}
+use Rattle.event_script.specs.Described.{most_stamp, default_limits, default_ids, described_tables, no_registers, registers_of, tables_of, desc_with, desc_of, desc_so_far}
 use Rattle.event_script.specs.Description.{empty, at_start, is_ended, is_shard_count}
 use Rattle.event_script.specs.Body.{has_tables, is_described, call_word_line}
 use Rattle.event_script.specs.Limits.{is_call, is_thread, is_phase, is_leg, has_frames, IsWithinLimits, HasRegisters, are_limits}
@@ -99,7 +100,7 @@ all_there (None ∷ tables) e = absurd (cc)
 all_there (Some table ∷ tables) e = omega (arith, all_there tables e)
 
 abbrev AreThere : Draft → LpiTables → Type 0
-AreThere d t = HasTablesFor (length d.pending) t × HasRegisters t
+AreThere d t = HasTablesFor (length d.pending) t × HasRegisters (length d.pending) t
 
 described_there : (d : Draft) → (is_some d.config && list_all is_some d.pending) ≡ true → IfOk (described_tables d) (AreThere d)
 unfolding described_tables
@@ -109,8 +110,11 @@ described_there d e =
 
 -- the guest programs the tables, or there is one for each processor
 by_choice : (d : Draft) (gicr : Bool) → IsFair d → (gicr || (is_some d.config && list_all is_some d.pending)) ≡ true
-    → IfOk (let r : Result LpiTables Kind = if gicr then Ok (Registers d.registers) else described_tables d in r) (AreThere d)
-by_choice d true fair e = (tt, fair.registers)
+    → IfOk (let r : Result LpiTables Kind = if gicr then Ok (Registers (registers_of d.registers)) else described_tables d in r) (AreThere d)
+by_choice d true fair e =
+    let count : length (registers_of d.registers).registers ≡ length d.pending =
+    length-map d.registers (λ place. unwrap_or place no_registers) ∙ fair.registers in
+    (count, count)
 by_choice d false fair e = described_there d e
 
 tables_there : (d : Draft) → IsFair d → has_tables d ≡ true → IfOk (tables_of d) (AreThere d)

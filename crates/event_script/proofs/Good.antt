@@ -2,6 +2,7 @@
 use Rattle.std.proofs.Common.{◌≡◌, ℕ, ◌+◌, ◌≤◌, Bool, true, false, ◌&&◌, nat_le, List, [], length}
 use Rattle.std.proofs.Common.{Option, Some, None, refl, arith}
 use Rattle.std.specs.List.{list_all}
+use Rattle.its_types.specs.Ranges.{most_vcpus}
 use Rattle.its_types.specs.declared.machine.Limits.{Limits}
 use Rattle.its_plain.specs.declared.desc.Its.{Its}
 use Rattle.its_plain.specs.declared.desc.Requesters.{Requesters}
@@ -138,7 +139,7 @@ pub record HasDoors (first second : Its) (requesters : List Requesters) (lines :
 
 -- what the description has so far
 pub record IsFair (d : Draft) : Type 0 where
-  pub few : length d.pending ≤ 16
+  pub few : length d.pending ≤ most_vcpus
   pub some : at_start d.stage ≡ false → 1 ≤ length d.pending
   pub shards : given_shards d.shards ≡ true
   pub limits : given_limits d.pair d.limits ≡ true
@@ -146,7 +147,7 @@ pub record IsFair (d : Draft) : Type 0 where
   pub windows : length d.windows ≤ 16
   pub fills : list_all is_fill d.fills ≡ true
   pub fill_lines : length d.fill_lines ≡ length d.fills
-  pub registers : length d.registers.registers ≡ 16
+  pub registers : length d.registers ≡ length d.pending
   pub doors : HasDoors d.first d.second d.requesters d.requester_lines
 
 -- no call was read

@@ -4,6 +4,7 @@ use Rattle.std.proofs.Common.{ok_or, Result, IfOk, refl, sym, ap, ◌∙◌, ari
 use Rattle.std.specs.List.{list_all}
 use Rattle.std.proofs.lemmas.Bool.{ltb-true, lt-ltb}
 use Rattle.std.proofs.lemmas.List.{length-append}
+use Rattle.its_types.specs.Ranges.{most_vcpus}
 use Rattle.its_plain.specs.declared.call.Call.{Call}
 use Rattle.its_plain.specs.declared.desc.Desc.{Desc}
 use Rattle.its_plain.specs.declared.desc.Its.{Its}
@@ -27,11 +28,11 @@ use Rattle.event_script.specs.declared.script.Move.TheVariants.{Migrate, Precopy
 use Rattle.event_script.specs.declared.draft.Draft.{Draft}
 use Rattle.event_script.specs.declared.draft.Stage.{Stage}
 use Rattle.event_script.specs.declared.draft.Stage.TheVariants as stage
-use Rattle.event_script.specs.declared.draft.TheConstants.{MOST_LEGS, MOST_PHASES, MOST_THREADS, MOST_CALLS}
+use Rattle.event_script.specs.declared.draft.TheConstants.{FEW_VCPUS, MOST_LEGS, MOST_PHASES, MOST_THREADS, MOST_CALLS}
 use Rattle.event_script.proofs.Steps.{left_true, right_true, both_true, below, all_pushed, bound, bound_by, ensured, chosen}
 use Rattle.event_script.proofs.Calling.{IsCall, HasIts, call_is}
 use Rattle.event_script.proofs.Good.{in_body, open_legs, open_phases, open_threads, clash, HasDoors, IsFair, HasCalls, IsGood}
-use Rattle.event_script.proofs.GoodDescription.{shards_good, vcpus_good, limits_good, ids_good, profile_good, window_good, config_good, pending_good}
+use Rattle.event_script.proofs.GoodDescription.{shards_good, count_good, limits_good, ids_good, profile_good, window_good, config_good, pending_good}
 use Rattle.event_script.proofs.GoodDescription.{gicr_good, linux_good, track_good, pair_good, from_kvm_good, still_fair}
 use Rattle.event_script.proofs.GoodDoorbells.{restore_good, brestore_good, rrestore_good, its_base_good, b_base_good, requester_good}
 use Rattle.event_script.proofs.GoodDoorbells.{bytes_good, word_fill_good}
@@ -136,7 +137,7 @@ later d e h s p sh pr l i w f fl r doors = record {
   windows = rw w h.windows;
   fills = rw f h.fills;
   fill_lines = rw (f, fl) h.fill_lines;
-  registers = rw r h.registers;
+  registers = rw (p, r) h.registers;
   doors = doors;
 }
 
@@ -316,7 +317,8 @@ call_word_good d n w fs h =
 
 pub keyword_good : (d : Draft) (n : ℕ) (k : Keyword) (fs : List (List ℕ)) → IsGood d → IfOk (keyword_line d n k fs) IsGood
 unfolding keyword_line
-keyword_good d n on.Vcpus fs h = vcpus_good d fs h
+keyword_good d n on.Vcpus fs h = count_good 1 FEW_VCPUS d fs (omega arith) (omega arith) h
+keyword_good d n on.Processors fs h = count_good (FEW_VCPUS + 1) most_vcpus d fs (omega arith) (omega arith) h
 keyword_good d n on.Shards fs h = shards_good d fs h
 keyword_good d n on.Limits fs h = limits_good d fs h
 keyword_good d n on.Ids fs h = ids_good d fs h

@@ -1,15 +1,17 @@
 -- Each line of the description leaves a good draft.
 use Rattle.std.proofs.Common.{◌≡◌, ℕ, ◌-◌, ◌^◌, ◌<◌, ◌≤◌, Bool, true, false, not, ◌&&◌, nat_lt, nat_le, nat_eq, List, [], ◌∷◌, ◌++◌, length, set, replicate}
-use Rattle.std.proofs.Common.{Option, Some, None, is_none, is_some, IfOk, ◌∙◌, refl, arith}
+use Rattle.std.proofs.Common.{Option, Some, None, is_none, is_some, IfOk, ◌∙◌, refl, sym, arith}
 use Rattle.std.specs.List.{list_all}
 use Rattle.std.proofs.lemmas.Bool.{ltb-true, lt-ltb}
 use Rattle.std.proofs.lemmas.List.{length-set, length-append, length-replicate}
+use Rattle.gicr_regs.specs.declared.values.GicrRegisters.{GicrRegisters}
+use Rattle.its_types.specs.Ranges.{most_vcpus}
 use Rattle.its_types.specs.declared.ids.Addr.{Addr}
 use Rattle.its_types.specs.declared.machine.Limits.{Limits}
 use Rattle.event_script.specs.Text.{number}
 use Rattle.event_script.specs.Fields.{arg, number_within, any_number, address, processor}
 use Rattle.event_script.specs.Described.{most_stamp}
-use Rattle.event_script.specs.Description.{at_start, in_description, vcpus_line, shards_line, limits_line, ids_line, profile_of, profile_line}
+use Rattle.event_script.specs.Description.{at_start, in_description, count_line, shards_line, limits_line, ids_line, profile_of, profile_line}
 use Rattle.event_script.specs.Description.{window_line, describes_tables, config_line, pending_line, gicr_line, is_given, is_shard_count, linux_line}
 use Rattle.event_script.specs.Description.{track_line, allow_pair, pair_line, from_kvm_line}
 use Rattle.event_script.specs.Limits.{are_limits}
@@ -27,7 +29,7 @@ still_early d e h l m p t c = record { legs = l ∙ h.legs; moves = m ∙ h.move
 -- what the lines so far gave is in range still, where it is the same but for registers, and for frames and requesters
 pub still_fair : (d e : Draft) → IsFair d → e.stage ≡ d.stage → e.pending ≡ d.pending → e.shards ≡ d.shards → e.pair ≡ d.pair → e.limits ≡ d.limits
     → e.ids ≡ d.ids → e.windows ≡ d.windows → e.fills ≡ d.fills → e.fill_lines ≡ d.fill_lines
-    → length e.registers.registers ≡ length d.registers.registers → HasDoors e.first e.second e.requesters e.requester_lines → IsFair e
+    → length e.registers ≡ length d.registers → HasDoors e.first e.second e.requesters e.requester_lines → IsFair e
 still_fair d e h t p sh pr l i w f fl r doors = record {
   few = rw p h.few;
   some = rw (t, p) h.some;
@@ -37,7 +39,7 @@ still_fair d e h t p sh pr l i w f fl r doors = record {
   windows = rw w h.windows;
   fills = rw f h.fills;
   fill_lines = rw (f, fl) h.fill_lines;
-  registers = r ∙ h.registers;
+  registers = r ∙ rw p h.registers;
   doors = doors;
 }
 
@@ -67,26 +69,27 @@ shards_good d fs h =
     })
     (still_early d e (h.early (not_started d.stage here)) refl refl refl refl refl) (not_started d.stage here)))))
 
-pub vcpus_good : (d : Draft) (fs : List (List ℕ)) → IsGood d → IfOk (vcpus_line d fs) IsGood
-unfolding vcpus_line
-vcpus_good d fs h =
+pub count_good : (least most : ℕ) (d : Draft) (fs : List (List ℕ)) → 1 ≤ least → most ≤ most_vcpus → IsGood d → IfOk (count_line least most d fs) IsGood
+unfolding count_line
+count_good least most d fs some few h =
     ensured IsGood (at_start d.stage) kind.Order _ (λ start.
     ensured IsGood (nat_eq (length fs) 2) kind.Fields _ (λ _.
-    bound_by IsGood (number_within 1 16 (arg fs 1)) (IsBetween 1 16) _ (number_in_range 1 16 (arg fs 1)) (λ n r.
-    let none : Option Addr = None in
-    let e : Draft = record d { stage = stage.Description; pending = replicate n none } in
-    let count : length (replicate n none) ≡ n = length-replicate n none in
+    bound_by IsGood (number_within least most (arg fs 1)) (IsBetween least most) _ (number_in_range least most (arg fs 1)) (λ n r.
+    let table : Option Addr = None in
+    let registers : Option GicrRegisters = None in
+    let e : Draft = record d { stage = stage.Description; pending = replicate n table; registers = replicate n registers } in
+    let count : length (replicate n table) ≡ n = length-replicate n table in
     described_more e
     (record {
-      few = rw count r.1;
-      some = λ _. rw count r.0;
+      few = omega (arith, count, r.1, few);
+      some = λ _. omega (arith, count, r.0, some);
       shards = h.fair.shards;
       limits = h.fair.limits;
       ids = h.fair.ids;
       windows = h.fair.windows;
       fills = h.fair.fills;
       fill_lines = h.fair.fill_lines;
-      registers = h.fair.registers;
+      registers = length-replicate n registers ∙ sym count;
       doors = h.fair.doors;
     })
     (still_early d e (h.early (start_first d.stage start)) refl refl refl refl refl) refl)))
@@ -254,7 +257,7 @@ pending_good d fs h =
       windows = h.fair.windows;
       fills = h.fair.fills;
       fill_lines = h.fair.fill_lines;
-      registers = h.fair.registers;
+      registers = h.fair.registers ∙ sym count;
       doors = h.fair.doors;
     })
     (still_early d e (h.early off) refl refl refl refl refl) off))))

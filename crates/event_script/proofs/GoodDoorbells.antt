@@ -10,7 +10,7 @@ use Rattle.its_plain.specs.declared.desc.Requesters.{Requesters}
 use Rattle.event_script.specs.Text.{number}
 use Rattle.event_script.specs.Fields.{arg, number_within, any_number, address, device, processor, bytes_within}
 use Rattle.event_script.specs.Description.{in_description, register_values, restore_line, brestore_line, frames_base, its_base_line, b_base_line}
-use Rattle.event_script.specs.Description.{redistributor_values, with_registers, has_registers, restores_registers, rrestore_line, bytes_line, word_fill_line}
+use Rattle.event_script.specs.Description.{redistributor_values, is_given, restores_registers, rrestore_line, bytes_line, word_fill_line}
 use Rattle.event_script.specs.Description.{with_fill, requester_line}
 use Rattle.event_script.specs.Limits.{has_bytes, is_fill}
 use Rattle.event_script.specs.declared.fault.Kind.TheVariants as kind
@@ -61,14 +61,14 @@ brestore_good d fs h =
 pub rrestore_good : (d : Draft) (fs : List (List ℕ)) → IsGood d → IfOk (rrestore_line d fs) IsGood
 unfolding rrestore_line
 rrestore_good d fs h =
-    ensured IsGood (restores_registers d && not (has_registers d.given (number (arg fs 1)))) kind.Order _ (λ order.
-    let here = left_true (restores_registers d) (not (has_registers d.given (number (arg fs 1)))) order in
+    ensured IsGood (restores_registers d && not (is_given d.registers (number (arg fs 1)))) kind.Order _ (λ order.
+    let here = left_true (restores_registers d) (not (is_given d.registers (number (arg fs 1)))) order in
     let off = not_started d.stage (left_true (in_description d.stage) d.gicr (left_true (in_description d.stage && d.gicr) (is_some d.first.restore) here)) in
     ensured IsGood (nat_eq (length fs) 5) kind.Fields _ (λ _.
-    bound IsGood (processor (length d.pending) (arg fs 1)) _ (λ vcpu.
+    bound IsGood (processor (length d.registers) (arg fs 1)) _ (λ vcpu.
     bound IsGood (redistributor_values fs) _ (λ values.
-    let e : Draft = record d { registers = with_registers d.registers vcpu.0 values; given = set d.given vcpu.0 true } in
-    let count = length-set d.registers.registers vcpu.0 values in
+    let e : Draft = record d { registers = set d.registers vcpu.0 (Some values) } in
+    let count = length-set d.registers vcpu.0 (Some values) in
     described_more e (still_fair d e h.fair refl refl refl refl refl refl refl refl refl count h.fair.doors)
     (still_early d e (h.early off) refl refl refl refl refl) off))))
 

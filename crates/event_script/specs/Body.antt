@@ -7,7 +7,7 @@ use Rattle.event_script.specs.Outcome.{◌>>=◌, ensure}
 use Rattle.event_script.specs.Fields.{arg}
 use Rattle.event_script.specs.Words.{call_word_of}
 use Rattle.event_script.specs.Described.{desc_so_far}
-use Rattle.event_script.specs.Description.{at_start, in_description, in_phase, in_thread, is_ended, vcpus_line, shards_line, limits_line, ids_line}
+use Rattle.event_script.specs.Description.{at_start, in_description, in_phase, in_thread, is_ended, vcpus_line, processors_line, shards_line, limits_line, ids_line}
 use Rattle.event_script.specs.Description.{profile_line, window_line, config_line, pending_line, gicr_line, restore_line, rrestore_line, bytes_line}
 use Rattle.event_script.specs.Description.{from_kvm_line, word_fill_line, linux_line, track_line, pair_line, brestore_line, its_base_line, b_base_line, requester_line}
 use Rattle.event_script.specs.Calls.{call_of}
@@ -148,6 +148,7 @@ call_word_line d n w fs = if in_description d.stage && is_fill_word w then word_
 -- the n-th line, with another first word
 unfoldable pub keyword_line : Draft → ℕ → Keyword → List (List ℕ) → Result Draft Kind
 keyword_line d n on.Vcpus fs = vcpus_line d fs
+keyword_line d n on.Processors fs = processors_line d fs
 keyword_line d n on.Shards fs = shards_line d fs
 keyword_line d n on.Limits fs = limits_line d fs
 keyword_line d n on.Ids fs = ids_line d fs

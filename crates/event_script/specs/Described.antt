@@ -1,6 +1,8 @@
 -- What a draft says of the machine.
-use Rattle.std.specs.Prelude.{ℕ, ◌-◌, ◌^◌, Bool, if◌then◌else◌, List, [], ◌∷◌, length, filter_map, Result, Ok}
+use Rattle.std.specs.Prelude.{ℕ, ◌-◌, ◌^◌, Bool, if◌then◌else◌, List, [], ◌∷◌, length, map, filter_map, Option, Result, Ok}
 use Rattle.std.specs.Option.{ok_or, unwrap_or}
+use Rattle.gicr_regs.specs.declared.values.GicrRegisters.{GicrRegisters}
+use Rattle.gicr_regs.specs.declared.values.GicrValues.{GicrValues}
 use Rattle.its_types.specs.declared.machine.Limits.{Limits}
 use Rattle.its_types.specs.declared.machine.Profile.TheVariants.{One}
 use Rattle.its_types.specs.declared.machine.Shape.{Shape}
@@ -49,9 +51,17 @@ described_tables d = do
   config ← ok_or d.config kind.Missing
   Ok (Described config (filter_map (λ table. table) d.pending))
 
+-- the registers of a redistributor that no line gives
+abbrev pub no_registers : GicrRegisters
+no_registers = record { ctlr = 0; propbaser = 0; pendbaser = 0 }
+
+-- those of each processor
+abbrev pub registers_of : List (Option GicrRegisters) → GicrValues
+registers_of places = record { registers = map (λ place. unwrap_or place no_registers) places }
+
 -- where the tables of the redistributors are
 abbrev pub tables_of : Draft → Result LpiTables Kind
-tables_of d = if d.gicr then Ok (Registers d.registers) else described_tables d
+tables_of d = if d.gicr then Ok (Registers (registers_of d.registers)) else described_tables d
 
 -- a machine with so many shards, and these tables
 abbrev pub desc_with : Draft → ℕ → LpiTables → Desc
@@ -78,4 +88,4 @@ desc_of d = do
 
 -- the description that a call is read by: no call depends on shards and tables
 abbrev pub desc_so_far : Draft → Desc
-desc_so_far d = desc_with d 1 (Registers d.registers)
+desc_so_far d = desc_with d 1 (Registers (registers_of d.registers))

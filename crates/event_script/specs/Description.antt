@@ -1,11 +1,11 @@
 -- The lines of a description. Each gives the draft with what it says, or the kind of its first fault.
-use Rattle.std.specs.Prelude.{ℕ, ◌-◌, ◌%◌, ◌^◌, Bool, true, false, not, ◌&&◌, ◌||◌, ◌==◌, nat_lt, nat_le, if◌then◌else◌, List, [], ◌∷◌, ◌++◌, length, replicate}
+use Rattle.std.specs.Prelude.{ℕ, ◌+◌, ◌-◌, ◌%◌, ◌^◌, Bool, true, false, not, ◌&&◌, ◌||◌, ◌==◌, nat_lt, nat_le, if◌then◌else◌, List, [], ◌∷◌, ◌++◌, length, replicate}
 use Rattle.std.specs.Prelude.{slice_index_or, slice_set, Option, Some, None, is_some, is_none, Result, Ok}
 use Rattle.std.specs.List.{list_all}
 use Rattle.byteorder.specs.Endian.{little_bytes}
 use Rattle.gicr_regs.specs.declared.values.GicrRegisters.{GicrRegisters}
-use Rattle.gicr_regs.specs.declared.values.GicrValues.{GicrValues}
 use Rattle.gits_regs.specs.declared.values.RegValues.{RegValues}
+use Rattle.its_types.specs.Ranges.{most_vcpus}
 use Rattle.its_types.specs.declared.ids.Addr.{Addr}
 use Rattle.its_types.specs.declared.machine.Limits.{Limits}
 use Rattle.its_types.specs.declared.machine.Profile.{Profile}
@@ -20,7 +20,7 @@ use Rattle.its_plain.specs.declared.desc.Its.{Its}
 use Rattle.event_script.specs.declared.draft.Draft.{Draft}
 use Rattle.event_script.specs.declared.draft.Stage.{Stage}
 use Rattle.event_script.specs.declared.draft.Stage.TheVariants as stage
-use Rattle.event_script.specs.declared.draft.TheConstants.{MOST_REQUESTERS}
+use Rattle.event_script.specs.declared.draft.TheConstants.{FEW_VCPUS, MOST_REQUESTERS}
 
 -- ---- how far a script has come
 
@@ -43,10 +43,6 @@ in_thread s = false
 abbrev pub is_ended : Stage → Bool
 is_ended stage.Ended = true
 is_ended s = false
-
--- the registers of a redistributor that no line gives
-abbrev pub no_registers : GicrRegisters
-no_registers = record { ctlr = 0; propbaser = 0; pendbaser = 0 }
 
 -- a translator that starts at reset, and has no frames
 abbrev pub no_its : Its
@@ -72,8 +68,7 @@ empty = record {
   requesters = [];
   requester_lines = [];
   from_kvm = false;
-  registers = record { registers = replicate 16 no_registers };
-  given = replicate 16 false;
+  registers = [];
   fills = [];
   fill_lines = [];
   legs = [];
@@ -85,12 +80,21 @@ empty = record {
 
 -- ---- lines
 
-unfoldable pub vcpus_line : Draft → List (List ℕ) → Result Draft Kind
-vcpus_line d fs = do
+-- the first line of a script: the machine has from so many to so many processors
+unfoldable pub count_line : ℕ → ℕ → Draft → List (List ℕ) → Result Draft Kind
+count_line least most d fs = do
   _ ← ensure (at_start d.stage) kind.Order
   _ ← ensure (length fs == 2) kind.Fields
-  n ← number_within 1 16 (arg fs 1)
-  Ok (record d { stage = stage.Description; pending = replicate n None })
+  n ← number_within least most (arg fs 1)
+  Ok (record d { stage = stage.Description; pending = replicate n None; registers = replicate n None })
+
+-- a machine of few processors
+abbrev pub vcpus_line : Draft → List (List ℕ) → Result Draft Kind
+vcpus_line d fs = count_line 1 FEW_VCPUS d fs
+
+-- a machine of more
+abbrev pub processors_line : Draft → List (List ℕ) → Result Draft Kind
+processors_line d fs = count_line (FEW_VCPUS + 1) most_vcpus d fs
 
 abbrev pub is_shard_count : ℕ → Bool
 is_shard_count n = n == 1 || n == 2 || n == 4 || n == 8 || n == 16 || n == 32 || n == 64
@@ -151,10 +155,10 @@ config_line d fs = do
   base ← address (arg fs 1)
   Ok (record d { config = Some base })
 
--- a pending table that was given already, where the number is that of a processor
-abbrev pub is_given : List (Option Addr) → Option ℕ → Bool
-is_given tables None = false
-is_given tables (Some vcpu) = is_some (slice_index_or tables vcpu None)
+-- given already of a processor, where the number is that of one
+abbrev pub is_given : {A : Type 0} → List (Option A) → Option ℕ → Bool
+is_given places None = false
+is_given places (Some vcpu) = is_some (slice_index_or places vcpu None)
 
 unfoldable pub pending_line : Draft → List (List ℕ) → Result Draft Kind
 pending_line d fs = do
@@ -269,26 +273,17 @@ redistributor_values fs = do
   pendbaser ← any_number (arg fs 4)
   Ok (record { ctlr = ctlr; propbaser = propbaser; pendbaser = pendbaser })
 
--- with the registers of a redistributor
-abbrev pub with_registers : GicrValues → ℕ → GicrRegisters → GicrValues
-with_registers values vcpu r = record { registers = slice_set values.registers vcpu r }
-
--- registers that were given already, where the number is that of a processor
-abbrev pub has_registers : List Bool → Option ℕ → Bool
-has_registers given None = false
-has_registers given (Some vcpu) = slice_index_or given vcpu false
-
 -- registers to restore are given for redistributors that the guest programs, where the first translator's were given
 abbrev pub restores_registers : Draft → Bool
 restores_registers d = in_description d.stage && d.gicr && is_some d.first.restore
 
 unfoldable pub rrestore_line : Draft → List (List ℕ) → Result Draft Kind
 rrestore_line d fs = do
-  _ ← ensure (restores_registers d && not (has_registers d.given (number (arg fs 1)))) kind.Order
+  _ ← ensure (restores_registers d && not (is_given d.registers (number (arg fs 1)))) kind.Order
   _ ← ensure (length fs == 5) kind.Fields
-  vcpu ← processor (length d.pending) (arg fs 1)
+  vcpu ← processor (length d.registers) (arg fs 1)
   values ← redistributor_values fs
-  Ok (record d { registers = with_registers d.registers vcpu.0 values; given = slice_set d.given vcpu.0 true })
+  Ok (record d { registers = slice_set d.registers vcpu.0 (Some values) })
 
 -- KVM saved what is restored
 unfoldable pub from_kvm_line : Draft → List (List ℕ) → Result Draft Kind

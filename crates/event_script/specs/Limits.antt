@@ -75,10 +75,10 @@ HasStamps d = (length d.translators ≡ 1) ⊎ ((length d.translators ≡ 2) × 
 abbrev pub has_frames : Its → Bool
 has_frames t = elim t.frames [ None ↦ true | Some base ↦ base.0 % 65536 == 0 ]
 
--- values to restore are there for 16 redistributors, where the guest programs their tables
-abbrev pub HasRegisters : LpiTables → Type 0
-HasRegisters (Described config pending) = Unit {0}
-HasRegisters (Registers values) = length values.registers ≡ 16
+-- values to restore are there for each of so many redistributors, where the guest programs their tables
+abbrev pub HasRegisters : ℕ → LpiTables → Type 0
+HasRegisters vcpus (Described config pending) = Unit {0}
+HasRegisters vcpus (Registers values) = length values.registers ≡ vcpus
 
 pub record IsWithinLimits (s : Script) : Type 0 where
   pub description : IsDescription s.desc
@@ -89,7 +89,7 @@ pub record IsWithinLimits (s : Script) : Type 0 where
   pub most_windows : length s.desc.windows ≤ 16
   pub fills : list_all is_fill s.desc.fills ≡ true
   pub fill_lines : length s.fill_lines ≡ length s.desc.fills
-  pub registers : HasRegisters s.desc.tables
+  pub registers : HasRegisters s.desc.shape.vcpus s.desc.tables
   pub frames : list_all has_frames s.desc.translators ≡ true
   pub requesters : length s.desc.requesters ≤ MOST_REQUESTERS
   pub requester_lines : length s.requester_lines ≡ length s.desc.requesters

@@ -17,6 +17,7 @@ pub use Rattle.event_script.specs.declared.words.TheConstants.{KEYWORDS, CALL_WO
 
 unfoldable pub keyword_text : Keyword → List ℕ
 keyword_text on.Vcpus = codes "vcpus"
+keyword_text on.Processors = codes "processors"
 keyword_text on.Shards = codes "shards"
 keyword_text on.Limits = codes "limits"
 keyword_text on.Ids = codes "ids"

@@ -235,6 +235,7 @@ impl Draft {
     {
         match keyword {
             Keyword::Vcpus => self.vcpus_line(alloc, fields),
+            Keyword::Processors => self.processors_line(alloc, fields),
             Keyword::Shards => self.shards_line(fields),
             Keyword::Limits => self.limits_line(fields),
             Keyword::Ids => self.ids_line(fields),

@@ -28,7 +28,7 @@ fn signal_of(its: u8, fields: &[&[u8]]) -> Result<Call, Kind>
 
 /// `take VCPU`
 #[tactic(auto, unfolding(crate::specs::Calls::take_of))]
-fn take_of(vcpus: u8, fields: &[&[u8]]) -> Result<Call, Kind>
+fn take_of(vcpus: u16, fields: &[&[u8]]) -> Result<Call, Kind>
     ensures { result ≡ spec.take_of vcpus (map (λ f. f.now) fields.now) }
 {
     ensure(fields.len() == 2, Kind::Fields)?;
@@ -37,7 +37,7 @@ fn take_of(vcpus: u8, fields: &[&[u8]]) -> Result<Call, Kind>
 
 /// `show VCPU`
 #[tactic(auto, unfolding(crate::specs::Calls::show_of))]
-fn show_of(vcpus: u8, fields: &[&[u8]]) -> Result<Call, Kind>
+fn show_of(vcpus: u16, fields: &[&[u8]]) -> Result<Call, Kind>
     ensures { result ≡ spec.show_of vcpus (map (λ f. f.now) fields.now) }
 {
     ensure(fields.len() == 2, Kind::Fields)?;
@@ -46,7 +46,7 @@ fn show_of(vcpus: u8, fields: &[&[u8]]) -> Result<Call, Kind>
 
 /// `best VCPU MASK`, a mask below 256.
 #[tactic(auto, unfolding(crate::specs::Calls::best_of))]
-fn best_of(vcpus: u8, fields: &[&[u8]]) -> Result<Call, Kind>
+fn best_of(vcpus: u16, fields: &[&[u8]]) -> Result<Call, Kind>
     ensures { result ≡ spec.best_of vcpus (map (λ f. f.now) fields.now) }
 {
     ensure(fields.len() == 3, Kind::Fields)?;
@@ -60,7 +60,7 @@ fn best_of(vcpus: u8, fields: &[&[u8]]) -> Result<Call, Kind>
 
 /// `claim VCPU INTID`
 #[tactic(auto, unfolding(crate::specs::Calls::claim_of))]
-fn claim_of(vcpus: u8, fields: &[&[u8]]) -> Result<Call, Kind>
+fn claim_of(vcpus: u16, fields: &[&[u8]]) -> Result<Call, Kind>
     ensures { result ≡ spec.claim_of vcpus (map (λ f. f.now) fields.now) }
 {
     ensure(fields.len() == 3, Kind::Fields)?;
@@ -181,7 +181,7 @@ fn write_of(its: u8, fields: &[&[u8]]) -> Result<Call, Kind>
 
 /// A read of an LPI register of a processor's redistributor.
 #[tactic(auto, unfolding(crate::specs::Calls::rread_of))]
-fn rread_of(vcpus: u8, fields: &[&[u8]]) -> Result<Call, Kind>
+fn rread_of(vcpus: u16, fields: &[&[u8]]) -> Result<Call, Kind>
     ensures { result ≡ spec.rread_of vcpus (map (λ f. f.now) fields.now) }
 {
     ensure(fields.len() == 4, Kind::Fields)?;
@@ -197,7 +197,7 @@ fn rread_of(vcpus: u8, fields: &[&[u8]]) -> Result<Call, Kind>
 
 /// `rwrite VCPU OFFSET SIZE VALUE`: a write of an LPI register of a processor's redistributor.
 #[tactic(auto, unfolding(crate::specs::Calls::rwrite_of))]
-fn rwrite_of(vcpus: u8, fields: &[&[u8]]) -> Result<Call, Kind>
+fn rwrite_of(vcpus: u16, fields: &[&[u8]]) -> Result<Call, Kind>
     ensures { result ≡ spec.rwrite_of vcpus (map (λ f. f.now) fields.now) }
 {
     ensure(fields.len() == 5, Kind::Fields)?;

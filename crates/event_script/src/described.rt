@@ -8,7 +8,7 @@ ghost use Rattle.event_script.specs.Script as script;
 use crate::call_list::Calls;
 use crate::draft::{Draft, IdBits, Stage};
 use crate::fault::{Kind, LineError};
-use crate::places::PendingTables;
+use crate::places::Places;
 use crate::script::Script;
 use gicr_regs::{GicrRegisters, GicrValues};
 use its_plain::{Desc, Its, LpiTables, RequesterRanges};
@@ -64,7 +64,7 @@ impl Draft {
             profile: None,
             windows: Listed::new(alloc),
             config: None,
-            pending: PendingTables::none(alloc),
+            pending: Places::none(alloc),
             gicr: false,
             linux: false,
             track: false,
@@ -74,10 +74,7 @@ impl Draft {
             requesters: Listed::new(alloc),
             requester_lines: Listed::new(alloc),
             from_kvm: false,
-            registers: GicrValues {
-                registers: [NO_REGISTERS; 16],
-            },
-            given: [false; 16],
+            registers: Places::none(alloc),
             fills: Listed::new(alloc),
             fill_lines: Listed::new(alloc),
             legs: Listed::new(alloc),
@@ -106,7 +103,7 @@ impl Draft {
         ensures { Gives (λ tables. tables) result (spec.described_tables self.now) }
     {
         let config = self.config.ok_or(Kind::Missing)?;
-        let pending = self.pending.tables(alloc)?;
+        let pending = self.pending.given(alloc)?;
         Ok(LpiTables::Described { config, pending })
     }
 
@@ -115,7 +112,8 @@ impl Draft {
         ensures { Gives (λ tables. tables) result (spec.tables_of self.now) }
     {
         if self.gicr {
-            Ok(LpiTables::Registers(self.registers))
+            let registers = self.registers.filled(alloc, NO_REGISTERS)?;
+            Ok(LpiTables::Registers(GicrValues { registers }))
         } else {
             self.described_tables(alloc)
         }

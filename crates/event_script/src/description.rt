@@ -1,16 +1,15 @@
 //! The lines of a description.
-ghost use Rattle.std.specs.Prelude.{◌≡◌, map};
+ghost use Rattle.std.specs.Prelude.{◌≡◌, ◌≤◌, map};
+ghost use Rattle.its_types.specs.Ranges.{most_vcpus};
 ghost use Rattle.event_script.specs.Outcome.{Gives};
 ghost use Rattle.event_script.specs.Description as spec;
-ghost use Rattle.event_script.specs.Text.{number};
 
 use crate::described::most_stamp;
-use crate::draft::{Draft, IdBits, Stage};
+use crate::draft::{Draft, FEW_VCPUS, IdBits, Stage};
 use crate::fault::{Kind, LineError, ensure};
 use crate::fields::{address, any_number, arg, number_within, processor};
-use crate::places::PendingTables;
-use crate::text;
-use its_types::{Limits, Profile};
+use crate::places::Places;
+use its_types::{Limits, MOST_VCPUS, Profile};
 use std::alloc::Global;
 
 impl Draft {
@@ -21,18 +20,42 @@ impl Draft {
         self.stage == Stage::Description
     }
 
+    /// The first line of a script, which says how many processors there are.
+    #[tactic(auto, unfolding(crate::specs::Description::count_line))]
+    fn count_line(
+        &mut self,
+        alloc: Global,
+        least: u64,
+        most: u64,
+        fields: &[&[u8]],
+    ) -> Result<(), LineError>
+        requires { most ≤ most_vcpus }
+        ensures { Gives (λ _. self.new) result
+            (spec.count_line least most self.old (map (λ f. f.now) fields.now)) }
+    {
+        ensure(self.stage == Stage::Start, Kind::Order)?;
+        ensure(fields.len() == 2, Kind::Fields)?;
+        let count = number_within(least, most, arg(fields, 1))? as u16;
+        self.pending = Places::of(alloc, count)?;
+        self.registers = Places::of(alloc, count)?;
+        self.stage = Stage::Description;
+        Ok(())
+    }
+
     /// `vcpus COUNT`, 1 to 16: the first line of a script.
-    #[tactic(auto, unfolding(crate::specs::Description::vcpus_line))]
     pub fn vcpus_line(&mut self, alloc: Global, fields: &[&[u8]]) -> Result<(), LineError>
         ensures { Gives (λ _. self.new) result
             (spec.vcpus_line self.old (map (λ f. f.now) fields.now)) }
     {
-        ensure(self.stage == Stage::Start, Kind::Order)?;
-        ensure(fields.len() == 2, Kind::Fields)?;
-        let count = number_within(1, 16, arg(fields, 1))?;
-        self.pending = PendingTables::of(alloc, count as u8)?;
-        self.stage = Stage::Description;
-        Ok(())
+        self.count_line(alloc, 1, FEW_VCPUS, fields)
+    }
+
+    /// `processors COUNT`, 17 to 512: the first line of a script, in place of `vcpus`.
+    pub fn processors_line(&mut self, alloc: Global, fields: &[&[u8]]) -> Result<(), LineError>
+        ensures { Gives (λ _. self.new) result
+            (spec.processors_line self.old (map (λ f. f.now) fields.now)) }
+    {
+        self.count_line(alloc, FEW_VCPUS + 1, u64::from(MOST_VCPUS), fields)
     }
 
     /// `shards COUNT`, a power of two from 1 to 64; at most once.
@@ -141,12 +164,12 @@ impl Draft {
         ensures { Gives (λ _. self.new) result
             (spec.pending_line self.old (map (λ f. f.now) fields.now)) }
     {
-        let again = is_given(&self.pending, arg(fields, 1));
+        let again = self.pending.is_given_at(arg(fields, 1));
         ensure(self.describes_tables() && !again, Kind::Order)?;
         ensure(fields.len() == 3, Kind::Fields)?;
         let vcpu = processor(self.pending.count(), arg(fields, 1))?;
         let table = address(arg(fields, 2))?;
-        self.pending.give(vcpu.0, table);
+        self.pending.give(vcpu, table);
         Ok(())
     }
 
@@ -222,16 +245,6 @@ fn is_shard_count(count: u64) -> bool
         || count == 16
         || count == 32
         || count == 64
-}
-
-/// Whether a field is the number of a processor whose table was given.
-fn is_given(tables: &PendingTables, field: &[u8]) -> bool
-    ensures { result ≡ spec.is_given tables.now (number field.now) }
-{
-    match text::number(field) {
-        Some(vcpu) => tables.is_given(vcpu),
-        None => false,
-    }
 }
 
 /// Whether limits that were given leave room for the stamp of a second translator.

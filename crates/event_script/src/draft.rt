@@ -1,10 +1,13 @@
 //! What was read so far of a script.
-use crate::places::PendingTables;
+use crate::places::Places;
 use crate::script::{Leg, Move, Phase, Thread};
-use gicr_regs::GicrValues;
+use gicr_regs::GicrRegisters;
 use its_plain::{Fill, Its, Requesters};
 use its_types::{Addr, Limits, Listed, Profile};
 
+/// How many processors the line `vcpus` gives a machine at most. The line `processors` gives it
+/// more.
+pub const FEW_VCPUS: u64 = 16;
 /// How many lines of requesters a description may have.
 pub const MOST_REQUESTERS: usize = 64;
 
@@ -53,7 +56,8 @@ pub struct Draft {
     pub profile: Option<Profile>,
     pub windows: Listed<(Addr, u64)>,
     pub config: Option<Addr>,
-    pub pending: PendingTables,
+    /// The pending table of each processor.
+    pub pending: Places<Addr>,
     /// Whether the guest programs the LPI registers of the redistributors.
     pub gicr: bool,
     /// Whether the machine has what a Linux guest counts on.
@@ -72,10 +76,8 @@ pub struct Draft {
     pub requester_lines: Listed<u64>,
     /// Whether KVM saved what is restored.
     pub from_kvm: bool,
-    /// What the redistributors are restored with.
-    pub registers: GicrValues,
-    /// Whether a line gave those of each virtual processor.
-    pub given: [bool; 16],
+    /// What the redistributor of each processor is restored with.
+    pub registers: Places<GicrRegisters>,
     /// What the description puts into memory, in the order of its lines.
     pub fills: Listed<Fill>,
     /// The line of each of them.

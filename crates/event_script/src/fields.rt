@@ -80,13 +80,13 @@ pub fn collection(field: &[u8]) -> Result<Icid, Kind>
 
 /// A processor of a machine that has so many.
 #[tactic(auto, unfolding(crate::specs::Fields::processor))]
-pub fn processor(vcpus: u8, field: &[u8]) -> Result<Vcpu, Kind>
+pub fn processor(vcpus: u16, field: &[u8]) -> Result<Vcpu, Kind>
     ensures value { result ≡ spec.processor vcpus field.now }
     ensures below { IfOk result (λ v. v.0 < vcpus) }
 {
     let number = any_number(field)?;
     ensure(number < u64::from(vcpus), Kind::Number)?;
-    Ok(Vcpu(number as u8))
+    Ok(Vcpu(number as u16))
 }
 
 /// From one byte to so many.

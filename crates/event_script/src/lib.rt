@@ -22,6 +22,7 @@ mod text;
 mod words;
 
 pub use call_list::{CallIter, Calls};
+pub use draft::FEW_VCPUS;
 pub use fault::{Kind, ParseError, ScriptFault};
 pub use laws::{
     checked_scripts_are_within_limits, messages_have_a_translator, scripts_are_within_limits,

@@ -1,99 +1,118 @@
-//! Tables that a script gives processor by processor.
-ghost use Rattle.std.specs.Prelude.{◌≡◌, [], ◌<◌, ◌≤◌, None, Some, OnOk, IfOk, length, replicate};
+//! What a script gives processor by processor.
+ghost use Rattle.std.specs.Prelude.{◌≡◌, [], ◌<◌, ◌≤◌, None, Some, OnOk, IfOk, length, map, replicate};
 ghost use Rattle.std.specs.Prelude.{slice_index_or, slice_set, filter_map, is_some, is_none};
 ghost use Rattle.std.specs.List.{list_all};
+ghost use Rattle.std.specs.Option.{unwrap_or};
+ghost use Rattle.its_types.specs.Ranges.{most_vcpus};
+ghost use Rattle.event_script.specs.Description as spec;
+ghost use Rattle.event_script.specs.Text.{number};
 
-use its_types::{Addr, Listed};
+use crate::text;
+use its_types::{Listed, Vcpu};
 use std::alloc::{AllocError, Global};
 use std::marker::Model;
 
-/// The pending table of each virtual processor, where it was given: a list of 1 to 16 places, or
-/// none before their number is known.
+/// A place for each virtual processor of a machine, which has what a line gave of it; or none
+/// before their number is known.
 #[derive(Debug, Drop)]
-pub struct PendingTables {
-    places: Vec<Option<Addr>>,
+pub struct Places<T> {
+    places: Vec<Option<T>>,
 }
 
-impl Model for PendingTables {
+impl<T> Model for Places<T> {
     ghost use Rattle.std.specs.Prelude.{List, Option, ◌≤◌, length};
-    ghost use Rattle.its_types.specs.declared.ids.Addr.{Addr};
+    ghost use Rattle.its_types.specs.Ranges.{most_vcpus};
 
-    ghost Value = { List (Option Addr) };
+    ghost Value = { List (Option T) };
 
-    ghost view = { λ t. t.places.items };
+    ghost view = { λ p. p.places.items };
 
-    ghost invariant = { λ t. length t.places.items ≤ 16 };
+    ghost invariant = { λ p. length p.places.items ≤ most_vcpus };
 }
 
-impl PendingTables {
+impl<T: Copy + Drop> Places<T> {
     /// Those of no processor.
-    pub fn none(alloc: Global) -> PendingTables
+    pub fn none(alloc: Global) -> Places<T>
         ensures { result ≡ [] }
     {
-        PendingTables {
+        Places {
             places: Vec::new(alloc),
         }
     }
 
-    /// Those of so many processors, none of them given.
-    pub fn of(alloc: Global, count: u8) -> Result<PendingTables, AllocError>
-        requires { count ≤ 16 }
-        ensures { IfOk result (λ tables. tables ≡ replicate count None) }
+    /// Those of so many processors, nothing given.
+    pub fn of(alloc: Global, count: u16) -> Result<Places<T>, AllocError>
+        requires { count ≤ most_vcpus }
+        ensures { IfOk result (λ places. places ≡ replicate count None) }
     {
         let mut places = Vec::new(alloc);
         for _ in 0..count {
             places.push(None)?;
         }
-        Ok(PendingTables { places })
+        Ok(Places { places })
     }
 
     /// How many processors there are.
-    pub fn count(&self) -> u8
+    pub fn count(&self) -> u16
         ensures count { result ≡ length self.now }
-        ensures few { result ≤ 16 }
+        ensures few { result ≤ most_vcpus }
     {
-        self.places.len() as u8
+        self.places.len() as u16
     }
 
-    /// Whether a processor's table was given.
-    pub fn is_given(&self, vcpu: u64) -> bool
-        ensures { result ≡ is_some (slice_index_or self.now vcpu None) }
+    /// Whether a field is the number of a processor of which something was given.
+    pub fn is_given_at(&self, field: &[u8]) -> bool
+        ensures { result ≡ spec.is_given self.now (number field.now) }
     {
-        vcpu < self.places.len() as u64 && self.places[vcpu as usize].is_some()
+        match text::number(field) {
+            Some(vcpu) => vcpu < self.places.len() as u64 && self.places[vcpu as usize].is_some(),
+            None => false,
+        }
     }
 
-    /// Sets a processor's table.
-    pub fn give(&mut self, vcpu: u8, table: Addr)
-        requires { vcpu < length self.old }
-        ensures { self.new ≡ slice_set self.old vcpu (Some table) }
+    /// Gives it of a processor.
+    pub fn give(&mut self, vcpu: Vcpu, item: T)
+        requires { vcpu.0 < length self.old }
+        ensures { self.new ≡ slice_set self.old vcpu.0 (Some item) }
     {
-        self.places[vcpu as usize] = Some(table);
+        self.places[usize::from(vcpu.0)] = Some(item);
     }
 
-    /// Whether each processor's table was given.
+    /// Whether it was given of each processor.
     pub fn all_given(&self) -> bool
         ensures { result ≡ list_all is_some self.now }
     {
         self.places.iter().all(|place| place.is_some())
     }
 
-    /// Whether no processor's table was given.
+    /// Whether it was given of no processor.
     pub fn none_given(&self) -> bool
         ensures { result ≡ list_all is_none self.now }
     {
         self.places.iter().all(|place| place.is_none())
     }
 
-    /// The tables that were given, in the processors' order.
-    pub fn tables(&self, alloc: Global) -> Result<Listed<Addr>, AllocError>
-        ensures { IfOk result (λ tables. tables ≡ filter_map (λ place. place) self.now) }
+    /// What was given, in the processors' order.
+    pub fn given(&self, alloc: Global) -> Result<Listed<T>, AllocError>
+        ensures { IfOk result (λ items. items ≡ filter_map (λ place. place) self.now) }
     {
-        let mut tables = Listed::new(alloc);
+        let mut items = Listed::new(alloc);
         for place in &self.places {
-            if let Some(table) = place {
-                tables.push(*table)?;
+            if let Some(item) = place {
+                items.push(*item)?;
             }
         }
-        Ok(tables)
+        Ok(items)
+    }
+
+    /// What was given, in the processors' order, and another value where nothing was.
+    pub fn filled(&self, alloc: Global, other: T) -> Result<Listed<T>, AllocError>
+        ensures { IfOk result (λ items. items ≡ map (λ place. unwrap_or place other) self.now) }
+    {
+        let mut items = Listed::new(alloc);
+        for place in &self.places {
+            items.push(place.unwrap_or(other))?;
+        }
+        Ok(items)
     }
 }

@@ -2,12 +2,10 @@
 ghost use Rattle.std.specs.Prelude.{◌≡◌, map};
 ghost use Rattle.event_script.specs.Outcome.{Gives};
 ghost use Rattle.event_script.specs.Description as spec;
-ghost use Rattle.event_script.specs.Text.{number};
 
 use crate::draft::Draft;
 use crate::fault::{Kind, LineError, ensure};
 use crate::fields::{any_number, arg, processor};
-use crate::text;
 use gicr_regs::GicrRegisters;
 use gits_regs::RegValues;
 
@@ -52,13 +50,12 @@ impl Draft {
         ensures { Gives (λ _. self.new) result
             (spec.rrestore_line self.old (map (λ f. f.now) fields.now)) }
     {
-        let again = has_registers(&self.given, arg(fields, 1));
+        let again = self.registers.is_given_at(arg(fields, 1));
         ensure(self.restores_registers() && !again, Kind::Order)?;
         ensure(fields.len() == 5, Kind::Fields)?;
-        let vcpu = processor(self.pending.count(), arg(fields, 1))?;
+        let vcpu = processor(self.registers.count(), arg(fields, 1))?;
         let values = redistributor_values(fields)?;
-        self.registers.registers[usize::from(vcpu.0)] = values;
-        self.given[usize::from(vcpu.0)] = true;
+        self.registers.give(vcpu, values);
         Ok(())
     }
 
@@ -101,14 +98,4 @@ fn redistributor_values(fields: &[&[u8]]) -> Result<GicrRegisters, Kind>
         propbaser: any_number(arg(fields, 3))?,
         pendbaser: any_number(arg(fields, 4))?,
     })
-}
-
-/// Whether a field is the number of a processor whose registers were given.
-fn has_registers(given: &[bool; 16], field: &[u8]) -> bool
-    ensures { result ≡ spec.has_registers given.now (number field.now) }
-{
-    match text::number(field) {
-        Some(vcpu) => vcpu < 16 && given[vcpu as usize],
-        None => false,
-    }
 }

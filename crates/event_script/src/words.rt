@@ -10,6 +10,7 @@ use crate::fault::Kind;
 #[derive(Clone, Copy, Debug, PartialEq, Eq)]
 pub enum Keyword {
     Vcpus,
+    Processors,
     Shards,
     Limits,
     Ids,
@@ -40,12 +41,13 @@ pub enum Keyword {
 }
 
 /// All of them.
-pub const KEYWORDS: [Keyword; 27] = [
+pub const KEYWORDS: [Keyword; 28] = [
     Keyword::Second,
     Keyword::Bytes,
     Keyword::Thread,
     Keyword::Phase,
     Keyword::Vcpus,
+    Keyword::Processors,
     Keyword::Shards,
     Keyword::Limits,
     Keyword::Ids,
@@ -158,6 +160,7 @@ impl Keyword {
     {
         match self {
             Keyword::Vcpus => "vcpus",
+            Keyword::Processors => "processors",
             Keyword::Shards => "shards",
             Keyword::Limits => "limits",
             Keyword::Ids => "ids",

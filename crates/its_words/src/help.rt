@@ -21,7 +21,7 @@ failed, 5 out of memory, 6 no machine, 7 a migration is refused, 8 a leg has
 more calls than places, 9 the input is too long, 10 the report is that of no
 run, 11 no report.
 
-Limits: 16 virtual processors; 16 windows of guest memory, 64 MiB together;
+Limits: 512 virtual processors; 16 windows of guest memory, 64 MiB together;
 DeviceIDs of 16 to 20 bits, EventIDs of 16; LPIs from 8192 to 2^N - 1, N from 14
 to 20; 64 legs, 256 phases of a leg, 64 threads of a phase, 65536 calls of a
 thread; 16777216 bytes of input.
@@ -38,7 +38,7 @@ pub fn version_text() -> &'static str
     "its 0.1.0 (Bacciledru)
 for rattle-kit-13f logic dac8208d650f15bf
 
-Limits: 16 virtual processors; 16 windows of guest memory, 64 MiB together;
+Limits: 512 virtual processors; 16 windows of guest memory, 64 MiB together;
 DeviceIDs of 16 to 20 bits, EventIDs of 16; LPIs from 8192 to 2^N - 1, N from 14
 to 20; 64 legs, 256 phases of a leg, 64 threads of a phase, 65536 calls of a
 thread; 16777216 bytes of input.

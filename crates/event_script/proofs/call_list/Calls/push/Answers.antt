@@ -1,7 +1,6 @@
-use Rattle.std.proofs.Common.{rules, ◌≡◌, ◌++◌, ◌∷◌, [], List, length, sym, ap, subst, ◌∙◌}
+use Rattle.std.proofs.Common.{rules, ◌≡◌, ◌++◌, ◌∷◌, [], length, sym, ap, subst, ◌∙◌}
 use Rattle.std.specs.List.{AllByRecursion}
 use Rattle.event_script.specs.CallList.{calls_of, IsInside}
-use Rattle.event_script.specs.declared.call_list.Short.{Short}
 use Rattle.event_script.proofs.CallLists.{same_calls, still_inside, one_more_inside, one_more, on_err}
 use Rattle.event_script.proofs.call_list.Calls.push.Goals as goal
 
